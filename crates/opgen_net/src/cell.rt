@@ -1,0 +1,17 @@
+/// The class of a cell, which a table of delays goes by.
+#[derive(Clone, Copy, Debug, PartialEq, Eq)]
+pub enum Class {
+    Wire,
+    Logic,
+    Add,
+    Choice,
+    Table,
+    Register,
+}
+
+/// A cell of a class over so many bits.
+#[derive(Clone, Copy, Debug, PartialEq, Eq)]
+pub struct Cell {
+    pub class: Class,
+    pub width: u32,
+}

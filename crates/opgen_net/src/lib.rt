@@ -1,0 +1,16 @@
+//! Nets of nodes, and the designs that they become.
+#![tactic(auto)]
+
+mod cell;
+mod design;
+mod expr;
+mod formula;
+mod net;
+mod node;
+
+pub use cell::{Cell, Class};
+pub use design::{Design, Dir, Driver, Port, Signal};
+pub use expr::{Expr, Op, Slice};
+pub use formula::Formula;
+pub use net::{Net, Output};
+pub use node::Node;
