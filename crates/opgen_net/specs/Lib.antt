@@ -1,3 +1,11 @@
 pub mod Tree
 pub mod Plain
 pub mod TreeCode
+pub mod Value
+pub mod Width
+pub mod Reads
+pub mod Flow
+pub mod Valid
+pub mod Run
+pub mod Sound
+pub mod Made
