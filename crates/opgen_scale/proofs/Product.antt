@@ -1,13 +1,14 @@
 -- The flow of a table of multiples, with zeros below it.
 use Rattle.std.proofs.Common.{◌≡◌, ℕ, zero, suc, ◌+◌, ◌-◌, ◌*◌, ◌^◌, ◌<◌, ◌≤◌, Bool, false, List, [], ◌∷◌, ◌++◌, map, length, length-append, get_or, refl, sym, ap, ◌∙◌, subst, arith, inl, inr}
-use Rattle.std.specs.Prelude.{ℤ, pos, negsuc, replicate, All}
+use Rattle.std.specs.Prelude.{ℤ, pos, negsuc, All}
 use Rattle.std.proofs.lemmas.List.{take_all, get_or_append_left, length-replicate}
 use Rattle.std.proofs.lemmas.List.Elements.{All-head, All-tail}
 use Rattle.std.proofs.Math.Seq.{get_or-append_seam}
 use Rattle.std.proofs.Math.Nat.{two-pow-succ, mul-le-mul_left}
+use Rattle.std.proofs.lemmas.Nat.{pow_pos}
 use Rattle.std.proofs.lemmas.Bool.{cases_lt}
 use Rattle.opgen_num.specs.Words.{nat, word}
-use Rattle.opgen_num.specs.WordLaws.{nat-word}
+use Rattle.opgen_num.specs.WordLaws.{length-word, nat-word}
 use Rattle.opgen_num.proofs.Words.{nat-below}
 use Rattle.opgen_net.specs.Value.{word_at, cut}
 use Rattle.opgen_net.specs.Flow.{Inputs, input_from, input_at}
@@ -26,13 +27,13 @@ get_or-multiples number width (suc n) i d h =
     let last = word width (number * n) in
     let size = length-multiples number width n in
     elim (cases_lt i n) [
-    | inl l ↦ get_or_append_left rows (last ∷ []) d i (omega (arith, l, size)) ∙ get_or-multiples number width n i d l
-    | inr l ↦
-      let at : i ≡ n = omega (arith, l, h) in
-      ap (λ k. get_or (rows ++ last ∷ []) k d) (at ∙ sym size)
-      ∙ get_or-append_seam rows last [] d
-      ∙ ap (λ k. word width (number * k)) (sym at)
-  ]
+      | inl l ↦ get_or_append_left rows (last ∷ []) d i (omega (arith, l, size)) ∙ get_or-multiples number width n i d l
+      | inr l ↦
+          let at : i ≡ n = omega (arith, l, h) in
+          ap (λ k. get_or (rows ++ last ∷ []) k d) (at ∙ sym size)
+          ∙ get_or-append_seam rows last [] d
+          ∙ ap (λ k. word width (number * k)) (sym at)
+    ]
 
 -- the row that a word numbers, as a number
 pub nat-row : (number width n : ℕ) (a : List Bool) → length a ≡ n → number * (2 ^ n - 1) < 2 ^ width
@@ -49,15 +50,11 @@ nat-append (x ∷ a) b =
     let doubled : 2 ^ suc (length a) * nat b ≡ 2 ^ length a * nat b + 2 ^ length a * nat b = omega (arith, ap (λ n. n * nat b) (two-pow-succ (length a))) in
     omega (arith, nat-append a b, doubled)
 
-pub nat-zeros : (z : ℕ) → nat (replicate z false) ≡ 0
-nat-zeros zero = refl
-nat-zeros (suc z) = omega (arith, nat-zeros z)
-
 -- zeros below a word
-pub nat-shifted : (z : ℕ) (w : List Bool) → nat (replicate z false ++ w) ≡ 2 ^ z * nat w
+pub nat-shifted : (z : ℕ) (w : List Bool) → nat (word z 0 ++ w) ≡ 2 ^ z * nat w
 nat-shifted z w =
-    let size : 2 ^ length (replicate z false) * nat w ≡ 2 ^ z * nat w = ap (λ k. 2 ^ k * nat w) (length-replicate z false) in
-    omega (arith, nat-append (replicate z false) w, nat-zeros z, size)
+    let size : 2 ^ length (word z 0) * nat w ≡ 2 ^ z * nat w = ap (λ k. 2 ^ k * nat w) (length-word z 0) in
+    omega (arith, nat-append (word z 0) w, nat-word z 0 (pow_pos z), size)
 
 -- all the bits of a word
 pub cut-whole : (n : ℕ) (w : List Bool) → length w ≡ n → 1 ≤ n → cut (n - 1) 0 w ≡ w
