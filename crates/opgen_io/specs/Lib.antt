@@ -1,5 +1,5 @@
+pub mod Answers
 pub mod Bytes
 pub mod Counts
-pub mod Faults
 pub mod Files
 pub mod Memory

@@ -1,8 +1,8 @@
 //! Files by name.
-ghost use Rattle.std.specs.Prelude.{◌≡◌, ◌⊎◌, ℕ, ◌<◌, ◌≤◌, List, Option, Some, None, is_some, IsSomeAnd, IfOk, OnOk, length, vec_len};
+ghost use Rattle.std.specs.Prelude.{◌≡◌, ◌⊎◌, ℕ, ◌≤◌, Option, Some, None, is_some, IfOk, OnOk, vec_len};
 ghost use Rattle.opgen_io.specs.Counts.{Rose, Stood};
-ghost use Rattle.opgen_io.specs.Faults.{FetchFails};
-ghost use Rattle.opgen_io.specs.Files.{Files, stored, SameBut};
+ghost use Rattle.opgen_io.specs.Answers.{fetched, FetchFails};
+ghost use Rattle.opgen_io.specs.Files.{Files, stored, KeepsOthers};
 
 use std::alloc::Global;
 use thiserror::Error;
@@ -72,11 +72,10 @@ pub trait Folder {
         ensures too_long_counted { result ≡ Err FetchFault.TooLong →
             Rose (longs self.old) (longs self.new) }
         ensures too_long_exceeds { (files : Files) → told self.old ≡ Some files →
-            result ≡ Err FetchFault.TooLong →
-            IsSomeAnd (files name.now) (λ bytes. most < length bytes) }
-        ensures excess_fails { (files : Files) (bytes : List ℕ) → told self.old ≡ Some files →
+            result ≡ Err FetchFault.TooLong → fetched (files name.now) most ≡ Err FetchFault.TooLong }
+        ensures excess_fails { (files : Files) → told self.old ≡ Some files →
             Stood (read_faults self.old) (read_faults self.new) →
-            files name.now ≡ Some bytes → most < length bytes →
+            fetched (files name.now) most ≡ Err FetchFault.TooLong →
             FetchFails result FetchFault.TooLong };
 
     /// Lets the name stand for the bytes, whatever it stood for. After `Failed` the name may stand for anything or be gone.
@@ -91,8 +90,7 @@ pub trait Folder {
             OnOk result (told self.new ≡ Some (stored name.now bytes.now files)) }
         ensures failed_counted { result ≡ Err StoreFault.Failed →
             Rose (write_faults self.old) (write_faults self.new) }
-        ensures failed_others { (files later : Files) →
-            told self.old ≡ Some files → told self.new ≡ Some later →
-            result ≡ Err StoreFault.Failed → SameBut name.now files later }
+        ensures failed_others { result ≡ Err StoreFault.Failed →
+            KeepsOthers name.now (told self.old) (told self.new) }
         ensures memory { result ≡ Err StoreFault.Memory → told self.new ≡ told self.old };
 }

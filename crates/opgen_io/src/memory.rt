@@ -1,10 +1,10 @@
 //! A folder and a sink in memory, some of whose calls are made to fail.
-ghost use Rattle.std.specs.Prelude.{◌≡◌, ◌⊎◌, ℕ, ◌<◌, ◌≤◌, ◌++◌, List, [], Option, Some, None, false, is_some, IsTrue, IsSome, IsSomeAnd, IfOk, OnOk, OnErr, MatchOption, MatchResult, position, length, vec_len, option_copied, option_map};
-ghost use Rattle.opgen_io.specs.Bytes.{AddsPrefix};
+ghost use Rattle.std.specs.Prelude.{◌≡◌, ◌⊎◌, ◌≢◌, ℕ, ◌<◌, ◌≤◌, ◌++◌, List, [], Option, Some, None, Ok, Err, true, false, is_some, IsTrue, IsSome, IsSomeAnd, IfOk, IfErr, OnOk, OnErr, MatchOption, MatchResult, position, length, vec_len, option_copied, option_map};
+ghost use Rattle.opgen_io.specs.Bytes.{TakesPrefix};
 ghost use Rattle.opgen_io.specs.Counts.{Rose, Stood, next_count};
-ghost use Rattle.opgen_io.specs.Faults.{FetchFails};
-ghost use Rattle.opgen_io.specs.Files.{Files, stored, SameBut};
-ghost use Rattle.opgen_io.specs.Memory.{FolderState, SinkState, files_of, is_named, found, folder_fails, sink_fails};
+ghost use Rattle.opgen_io.specs.Answers.{fetched, FetchFails, Answers};
+ghost use Rattle.opgen_io.specs.Files.{Files, stored, KeepsOthers};
+ghost use Rattle.opgen_io.specs.Memory.{FolderState, SinkState, files_of, is_named, found, folder_fails, sink_fails, called, read_failed, write_failed, after_fetch, after_store, after_put, put_failed};
 
 use crate::calls::Calls;
 use crate::counts::raise;
@@ -29,13 +29,13 @@ impl Model for MemoryFolder {
     ghost Value = { FolderState };
 
     ghost view = { λ s. record {
-        files = files_of s.files.items;
-        failing = s.calls.failing.items;
-        calls = s.calls.made;
-        read_faults = s.read_faults;
-        lacks = s.lacks;
-        longs = s.longs;
-        write_faults = s.write_faults
+      files = files_of s.files.items;
+      failing = s.calls.failing.items;
+      calls = s.calls.made;
+      read_faults = s.read_faults;
+      lacks = s.lacks;
+      longs = s.longs;
+      write_faults = s.write_faults;
     } };
 }
 
@@ -57,11 +57,7 @@ fn find<'a>(files: &'a [(String, Vec<u8>)], name: &str) -> Option<&'a Vec<u8>>
 }
 
 // Replaces the bytes of the first file of the name, or adds a file.
-fn enter(
-    files: &mut Vec<(String, Vec<u8>)>,
-    name: &str,
-    bytes: &[u8],
-) -> Result<(), AllocError>
+fn enter(files: &mut Vec<(String, Vec<u8>)>, name: &str, bytes: &[u8]) -> Result<(), AllocError>
     ensures stored { OnOk result (found (files_of files.new.items)
         ≡ stored name.now bytes.now (found (files_of files.old.items))) }
     ensures replaces { IsSome (found (files_of files.old.items) name.now) →
@@ -117,7 +113,14 @@ impl Folder for MemoryFolder {
 
     ghost write_faults = { λ s. s.write_faults };
 
-    fn fetch(&mut self, alloc: Global, name: &str, most: usize) -> Result<Vec<u8>, FetchFault> {
+    fn fetch(&mut self, alloc: Global, name: &str, most: usize) -> Result<Vec<u8>, FetchFault>
+        ensures fails { folder_fails self.old ≡ true → result ≡ Err FetchFault.Failed }
+        ensures fails_counted { folder_fails self.old ≡ true → self.new ≡ read_failed self.old }
+        ensures answers { folder_fails self.old ≡ false →
+            Answers result (fetched (found self.old.files name.now) most) }
+        ensures counted { folder_fails self.old ≡ false →
+            self.new ≡ after_fetch (fetched (found self.old.files name.now) most) self.old }
+    {
         if self.calls.next_fails() {
             raise(&mut self.read_faults);
             return Err(FetchFault::Failed);
@@ -136,7 +139,19 @@ impl Folder for MemoryFolder {
         }
     }
 
-    fn store(&mut self, name: &str, bytes: &[u8]) -> Result<(), StoreFault> {
+    fn store(&mut self, name: &str, bytes: &[u8]) -> Result<(), StoreFault>
+        ensures fails { folder_fails self.old ≡ true → result ≡ Err StoreFault.Failed }
+        ensures fails_counted { folder_fails self.old ≡ true → self.new ≡ write_failed self.old }
+        ensures only_memory { folder_fails self.old ≡ false →
+            IfErr result (λ fault. fault ≡ StoreFault.Memory) }
+        ensures stores { folder_fails self.old ≡ false →
+            OnOk result (found self.new.files ≡ stored name.now bytes.now (found self.old.files)) }
+        ensures counted { folder_fails self.old ≡ false →
+            self.new ≡ after_store self.new.files self.old }
+        ensures memory { result ≡ Err StoreFault.Memory → self.new ≡ called self.old }
+        ensures replaces { IsSome (found self.old.files name.now) →
+            length self.new.files ≡ length self.old.files }
+    {
         if self.calls.next_fails() {
             raise(&mut self.write_faults);
             return Err(StoreFault::Failed);
@@ -162,10 +177,10 @@ impl Model for MemorySink {
     ghost Value = { SinkState };
 
     ghost view = { λ s. record {
-        bytes = s.bytes.items;
-        failing = s.calls.failing.items;
-        calls = s.calls.made;
-        faults = s.faults
+      bytes = s.bytes.items;
+      failing = s.calls.failing.items;
+      calls = s.calls.made;
+      faults = s.faults;
     } };
 }
 
@@ -194,7 +209,15 @@ impl Sink for MemorySink {
 
     ghost faults = { λ s. s.faults };
 
-    fn put(&mut self, bytes: &[u8]) -> Result<(), PutFault> {
+    fn put(&mut self, bytes: &[u8]) -> Result<(), PutFault>
+        ensures fails { sink_fails self.old ≡ true → result ≡ Err PutFault.Failed }
+        ensures fails_counted { sink_fails self.old ≡ true → self.new ≡ put_failed self.old }
+        ensures only_memory { sink_fails self.old ≡ false →
+            IfErr result (λ fault. fault ≡ PutFault.Memory) }
+        ensures puts { sink_fails self.old ≡ false →
+            OnOk result (self.new ≡ after_put bytes.now self.old) }
+        ensures memory { result ≡ Err PutFault.Memory → self.new ≡ after_put [] self.old }
+    {
         if self.calls.next_fails() {
             raise(&mut self.faults);
             return Err(PutFault::Failed);

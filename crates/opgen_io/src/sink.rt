@@ -1,6 +1,6 @@
 //! Where bytes are put one after another.
 ghost use Rattle.std.specs.Prelude.{◌≡◌, ℕ, ◌≤◌, List, ◌++◌, Option, Some, is_some, OnOk};
-ghost use Rattle.opgen_io.specs.Bytes.{AddsPrefix};
+ghost use Rattle.opgen_io.specs.Bytes.{TakesPrefix};
 ghost use Rattle.opgen_io.specs.Counts.{Rose};
 
 use thiserror::Error;
@@ -30,8 +30,7 @@ pub trait Sink {
         ensures ok { (held : List ℕ) → taken self.old ≡ Some held →
             OnOk result (taken self.new ≡ Some (held ++ bytes.now)) }
         ensures failed_counted { result ≡ Err PutFault.Failed → Rose (faults self.old) (faults self.new) }
-        ensures failed_prefix { (held later : List ℕ) →
-            taken self.old ≡ Some held → taken self.new ≡ Some later →
-            result ≡ Err PutFault.Failed → AddsPrefix held bytes.now later }
+        ensures failed_prefix { result ≡ Err PutFault.Failed →
+            TakesPrefix (taken self.old) bytes.now (taken self.new) }
         ensures memory { result ≡ Err PutFault.Memory → taken self.new ≡ taken self.old };
 }
