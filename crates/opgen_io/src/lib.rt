@@ -17,3 +17,6 @@ pub use folder::{FetchFault, Folder, StoreFault};
 pub use memory::{MemoryFolder, MemorySink};
 pub use sink::{PutFault, Sink};
 pub use stdout::StdSink;
+
+#[cfg(test)]
+mod tests;
