@@ -1,36 +1,22 @@
 -- Where the underscores of a name stand, by the tests of specs/Names.antt and by the parts that the text is made of.
-use Rattle.std.proofs.Common.{◌≡◌, ℕ, List, [], ◌∷◌, ◌++◌, Bool, true, false, ◌&&◌, ◌||◌, ◌⊎◌, inl, inr, refl, ap, sym, ◌∙◌}
-use Rattle.std.proofs.lemmas.Bool.{eqb-true}
+use Rattle.std.proofs.Common.{◌≡◌, ℕ, List, [], ◌∷◌, ◌++◌, Bool, true, false, ◌&&◌, ◌||◌, ◌⊎◌, inl, inr, refl, ap, ◌∙◌}
+use Rattle.std.proofs.lemmas.Bool.{and_parts, eqb-true}
+use Rattle.std.proofs.Math.Bool.{or-true}
 use Rattle.std.specs.Str.Iter.{HasSubslice}
 use Rattle.opgen_net.specs.Names.{is_underscore, ends_with_underscore, has_double_underscore}
 
-or-true : (b : Bool) → (b || true) ≡ true
-or-true true = refl
-or-true false = refl
-
-and_parts : (a b : Bool) → (a && b) ≡ true → (a ≡ true) × (b ≡ true)
-and_parts true b h = (refl, h)
-and_parts false b h = cc
-
-or_parts : (a b : Bool) → (a || b) ≡ true → (a ≡ true) ⊎ (b ≡ true)
-or_parts true b h = inl refl
-or_parts false b h = inr h
-
--- two tests that hold together are the same
-pub same_tests : (a b : Bool) → (a ≡ true → b ≡ true) → (b ≡ true → a ≡ true) → a ≡ b
-same_tests true b f g = sym (f refl)
-same_tests false true f g = g refl
-same_tests false false f g = refl
+abbrev pub EndsInUnderscore : List ℕ → Type 0
+EndsInUnderscore name = (front : List ℕ) × (name ≡ front ++ (95 ∷ []))
 
 ends-append : (front : List ℕ) → ends_with_underscore (front ++ (95 ∷ [])) ≡ true
 ends-append [] = refl
 ends-append (c ∷ []) = refl
 ends-append (c ∷ d ∷ cs) = ends-append (d ∷ cs)
 
-pub ends_joined : (name front : List ℕ) → name ≡ front ++ (95 ∷ []) → ends_with_underscore name ≡ true
-ends_joined name front same = ap ends_with_underscore same ∙ ends-append front
+pub ends_joined : (name : List ℕ) → EndsInUnderscore name → ends_with_underscore name ≡ true
+ends_joined name (front, same) = ap ends_with_underscore same ∙ ends-append front
 
-pub ends_split : (name : List ℕ) → ends_with_underscore name ≡ true → (front : List ℕ) × (name ≡ front ++ (95 ∷ []))
+pub ends_split : (name : List ℕ) → ends_with_underscore name ≡ true → EndsInUnderscore name
 ends_split [] h = cc
 ends_split (c ∷ []) h = ([], ap (λ x. x ∷ []) (eqb-true c 95 h))
 ends_split (c ∷ d ∷ cs) h =
@@ -44,6 +30,10 @@ double-append (c ∷ d ∷ a) b = rw (double-append (d ∷ a) b) (or-true (is_un
 
 pub double_joined : (name : List ℕ) → HasSubslice name (95 ∷ 95 ∷ []) → has_double_underscore name ≡ true
 double_joined name (a, b, same) = ap has_double_underscore same ∙ double-append a b
+
+or_parts : (a b : Bool) → (a || b) ≡ true → (a ≡ true) ⊎ (b ≡ true)
+or_parts true b h = inl refl
+or_parts false b h = inr h
 
 double_here : (c d : ℕ) (cs : List ℕ) → (is_underscore c && is_underscore d) ≡ true → HasSubslice (c ∷ d ∷ cs) (95 ∷ 95 ∷ [])
 double_here c d cs h =

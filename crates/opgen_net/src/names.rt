@@ -1,6 +1,6 @@
 // Which names the VHDL subset takes.
 
-ghost use Rattle.std.specs.Prelude.{◌≡◌};
+ghost use Rattle.std.specs.Prelude.{◌≡◌, ◌≤◌, length, IsTrue};
 ghost use Rattle.std.specs.List.{list_all};
 ghost use Rattle.opgen_net.specs.Names.{is_allowed_name, is_refused, is_underscore, is_name_byte, starts_with_letter, ends_with_underscore, has_double_underscore, has_single_underscores, is_identifier};
 
@@ -178,7 +178,8 @@ fn is_identifier(name: &str) -> bool
 
 /// Whether a text is a name of the VHDL subset, written in lower case.
 pub fn is_allowed_name(name: &str) -> bool
-    ensures { result ≡ is_allowed_name name.now }
+    ensures value { result ≡ is_allowed_name name.now }
+    ensures length { IsTrue result → (1 ≤ length name.now) × (length name.now ≤ 64) }
 {
     name.len() <= MAX_NAME_LEN && is_identifier(name) && !is_refused(name)
 }

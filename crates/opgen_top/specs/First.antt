@@ -1,12 +1,11 @@
 -- Which documents the first reader takes, and what it reads of them.
-use Rattle.std.specs.Prelude.{◌≡◌, ℕ, ◌==◌, ◌^◌, ◌&&◌, ◌≤◌, ℤ, pos, negsuc, Bool, true, false, not, IsTrue, List, [], ◌∷◌, length, codes, Option, Some, None, option_and_then, if◌then◌else◌, nat_le, Result, Ok, Err}
-use Rattle.std.specs.List.{list_all, list_any}
+use Rattle.std.specs.Prelude.{◌≡◌, ℕ, ◌==◌, ◌^◌, ◌&&◌, ◌≤◌, ℤ, pos, negsuc, Bool, true, false, not, IsTrue, List, [], ◌∷◌, length, codes, Option, Some, None, IsSomeAnd, option_and_then, if◌then◌else◌, nat_le, Result, Ok, Err}
+use Rattle.std.specs.List.{list_any}
 use Rattle.std.specs.Option.{option_map_or}
 use Rattle.std.specs.Str.{bytes_eq}
 use Rattle.std.specs.Str.Lossy.{utf8_valid_len}
-use Rattle.toml.specs.Data.{Items, no_items, item, Members, no_members, member, get_member, as_integer, as_str, as_bool, as_array}
+use Rattle.toml.specs.Data.{Data, string, integer, boolean, array, Items, no_items, item, Members, no_members, member, get_member, as_integer, as_str, as_bool, as_array}
 use Rattle.toml.specs.Parse.{parse_document}
-use Rattle.opgen_net.specs.Names.{is_allowed_name}
 use Rattle.opgen_top.specs.SpecName.{is_spec_name}
 use Rattle.opgen_top.specs.declared.first.FirstFault.{FirstFault}
 use Rattle.opgen_top.specs.declared.first.FirstFault.TheVariants.{NotToml, Unsupported, Memory}
@@ -94,6 +93,29 @@ simple ms = if has_known_keys ms && has_fixed_values ms then (do
   factor ← only_whole_at (codes "coefficients") ms >>= within 1 1073741824
   Some (record { name = name; width = width; factor = factor })) else None
 
+-- a whole number of low to high
+abbrev pub IsWholeWithin : ℕ → ℕ → Option Data → Type 0
+IsWholeWithin low high (Some (integer (pos n))) = (low ≤ n) × (n ≤ high)
+IsWholeWithin low high _ = ⊥
+
+-- A simple document: the eleven keys, no other, each with what stands here, and the fields that it has.
+pub record IsSimple (ms : Members) (fields : Fields) : Type 0 where
+  pub keys : IsTrue (has_known_keys ms)
+  pub version : get_member (codes "version") ms ≡ Some (integer (pos 1))
+  pub name : get_member (codes "name") ms ≡ Some (string fields.name)
+  pub kind : get_member (codes "kind") ms ≡ Some (string (codes "scale"))
+  pub exact : get_member (codes "exact") ms ≡ Some (boolean true)
+  pub target : get_member (codes "target") ms ≡ Some (string (codes "plain"))
+  pub period : IsWholeWithin 1000 1000000 (get_member (codes "period") ms)
+  pub signed : get_member (codes "signed") ms ≡ Some (boolean false)
+  pub width : get_member (codes "width") ms ≡ Some (integer (pos fields.width))
+  pub lsb : get_member (codes "lsb") ms ≡ Some (integer (pos 0))
+  pub out_lsb : get_member (codes "out_lsb") ms ≡ Some (integer (pos 0))
+  pub coefficients : get_member (codes "coefficients") ms ≡ Some (array (item (integer (pos fields.factor)) no_items))
+  pub name_rule : IsTrue (is_spec_name fields.name)
+  pub width_range : (1 ≤ fields.width) × (fields.width ≤ 6)
+  pub factor_range : (1 ≤ fields.factor) × (fields.factor ≤ 2 ^ 30)
+
 -- the tree of the bytes: none where they are not UTF-8, or no document
 abbrev pub tree : List ℕ → Option Members
 tree bytes = if utf8_valid_len bytes == length bytes then parse_document bytes else None
@@ -106,6 +128,10 @@ or_unsupported (Some fields) = Ok fields
 abbrev pub read : Option Members → Result Fields FirstFault
 read None = Err NotToml
 read (Some ms) = or_unsupported (simple ms)
+
+-- the bytes are a simple document with these fields
+abbrev pub IsSimpleDocument : List ℕ → Fields → Type 0
+IsSimpleDocument bytes fields = IsSomeAnd (tree bytes) (λ ms. IsSimple ms fields)
 
 -- What was returned, its fields seen by view, is what reading gives, unless memory ran out.
 abbrev pub IsFaultOf : Result Fields FirstFault → FirstFault → Type 0

@@ -1,9 +1,10 @@
 // Reads simple specifications.
 
-ghost use Rattle.std.specs.Prelude.{◌≡◌, ◌≤◌, option_map, string_bytes, IfSome, MatchResult};
+ghost use Rattle.std.specs.Prelude.{◌≡◌, ◌≤◌, ◌^◌, ◌↔◌, length, option_map, string_bytes, string_len, IsTrue, IfOk, IfSome, MatchResult};
 ghost use Rattle.toml.specs.Data.{get_member};
 ghost use Rattle.toml.specs.View.{view, table_view};
-ghost use Rattle.opgen_top.specs.First.{Fields, Gives, IsNoTree, read, tree, simple, natural, whole_at, text_at, flag_at, only_whole_at, has_whole, has_text, has_flag, within, spec_name, is_known, has_known_keys, has_fixed_values};
+ghost use Rattle.opgen_net.specs.Names.{is_allowed_name};
+ghost use Rattle.opgen_top.specs.First.{Fields, Gives, IsSimpleDocument, IsNoTree, read, tree, simple, natural, whole_at, text_at, flag_at, only_whole_at, has_whole, has_text, has_flag, within, spec_name, is_known, has_known_keys, has_fixed_values};
 
 use crate::spec_name::is_spec_name;
 use std::alloc::Global;
@@ -144,13 +145,15 @@ fn has_fixed_values(table: &Table) -> bool
 
 fn within(low: u64, high: u64, n: u64) -> Option<u64>
     ensures value { result ≡ within low high n }
-    ensures bound { IfSome result (λ n. n ≤ high) }
+    ensures range { IfSome result (λ n. (low ≤ n) × (n ≤ high)) }
 {
     if low <= n && n <= high { Some(n) } else { None }
 }
 
 fn spec_name(name: &str) -> Option<&str>
-    ensures { option_map (λ name. name.now) result ≡ spec_name name.now }
+    ensures value { option_map (λ name. name.now) result ≡ spec_name name.now }
+    ensures allowed { IfSome result (λ name. IsTrue (is_allowed_name name.now)) }
+    ensures length { IfSome result (λ name. (1 ≤ length name.now) × (length name.now ≤ 32)) }
 {
     if is_spec_name(name) { Some(name) } else { None }
 }
@@ -159,7 +162,10 @@ fn spec_name(name: &str) -> Option<&str>
 #[tactic(auto, unfolding(crate::specs::First::simple))]
 fn simple(table: &Table) -> Option<(&str, u64, u64)>
     ensures value { option_map (λ p. record { name = p.0.now; width = p.1; factor = p.2 }) result ≡ simple (table_view table.now) }
-    ensures small { IfSome result (λ p. p.1 ≤ 6) }
+    ensures allowed { IfSome result (λ p. IsTrue (is_allowed_name p.0.now)) }
+    ensures length { IfSome result (λ p. (1 ≤ length p.0.now) × (length p.0.now ≤ 32)) }
+    ensures width { IfSome result (λ p. (1 ≤ p.1) × (p.1 ≤ 6)) }
+    ensures factor { IfSome result (λ p. (1 ≤ p.2) × (p.2 ≤ 2 ^ 30)) }
 {
     if !has_known_keys(table) || !has_fixed_values(table) {
         return None;
@@ -186,7 +192,12 @@ fn document(alloc: Global, bytes: &[u8]) -> Result<Table, FirstFault>
 
 /// Reads the bytes of a simple specification.
 pub fn read_first(alloc: Global, bytes: &[u8]) -> Result<First, FirstFault>
-    ensures { Gives (λ f. record { name = string_bytes f.name; width = f.width; factor = f.factor }) result (read (tree bytes.now)) }
+    ensures gives { Gives (λ f. record { name = string_bytes f.name; width = f.width; factor = f.factor }) result (read (tree bytes.now)) }
+    ensures simple { (fields : Fields) → (read (tree bytes.now) ≡ Ok fields) ↔ IsSimpleDocument bytes.now fields }
+    ensures allowed { IfOk result (λ f. IsTrue (is_allowed_name (string_bytes f.name))) }
+    ensures length { IfOk result (λ f. (1 ≤ string_len f.name) × (string_len f.name ≤ 32)) }
+    ensures width { IfOk result (λ f. (1 ≤ f.width) × (f.width ≤ 6)) }
+    ensures factor { IfOk result (λ f. (1 ≤ f.factor) × (f.factor ≤ 2 ^ 30)) }
 {
     let table = document(alloc, bytes)?;
     let Some((name, width, factor)) = simple(&table) else {

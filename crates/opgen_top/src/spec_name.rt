@@ -1,8 +1,9 @@
 // The names that a specification may have.
 
-ghost use Rattle.std.specs.Prelude.{◌≡◌};
+ghost use Rattle.std.specs.Prelude.{◌≡◌, ◌≤◌, length, IsTrue};
 ghost use Rattle.std.specs.List.{list_all};
 ghost use Rattle.std.specs.Char.{is_ascii_digit};
+ghost use Rattle.opgen_net.specs.Names.{is_allowed_name};
 ghost use Rattle.opgen_top.specs.SpecName.{is_spec_name, is_taken, is_signal_name};
 
 use opgen_net::names::is_allowed_name;
@@ -39,7 +40,9 @@ fn is_signal_name(name: &str) -> bool
 /// Whether a specification may have the name: it is a name of the VHDL subset, short enough, and
 /// none that its design gives to a port, a signal or the architecture.
 pub fn is_spec_name(name: &str) -> bool
-    ensures { result ≡ is_spec_name name.now }
+    ensures value { result ≡ is_spec_name name.now }
+    ensures allowed { IsTrue result → IsTrue (is_allowed_name name.now) }
+    ensures length { IsTrue result → (1 ≤ length name.now) × (length name.now ≤ 32) }
 {
     name.len() <= MAX_SPEC_NAME_LEN
         && is_allowed_name(name)
