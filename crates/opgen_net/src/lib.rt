@@ -5,6 +5,7 @@ mod cell;
 mod design;
 mod expr;
 mod formula;
+pub mod names;
 mod net;
 mod node;
 

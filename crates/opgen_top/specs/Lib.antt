@@ -1,0 +1,2 @@
+pub mod SpecName
+pub mod First
