@@ -1,0 +1,6 @@
+pub mod ValueLaws
+pub mod WidthLaws
+pub mod FlowLaws
+pub mod InputLaws
+pub mod FlowWidths
+pub mod FlowBefore
