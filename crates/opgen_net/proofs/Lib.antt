@@ -1,2 +1,8 @@
 pub mod Appending
 mod Underscores
+pub mod ValueLaws
+pub mod WidthLaws
+pub mod FlowLaws
+pub mod InputLaws
+pub mod FlowWidths
+pub mod FlowBefore

@@ -10,3 +10,4 @@ pub mod Run
 pub mod Sound
 pub mod Made
 pub mod Names
+pub mod Named

@@ -2,6 +2,7 @@
 #![tactic(auto)]
 
 mod cell;
+mod copy;
 mod design;
 mod expr;
 mod formula;
