@@ -1,2 +1,9 @@
 pub mod Appending
 mod Underscores
+pub mod ValueLaws
+pub mod WidthLaws
+pub mod FlowLaws
+pub mod InputLaws
+pub mod FlowWidths
+pub mod FlowBefore
+pub mod WordRuns
