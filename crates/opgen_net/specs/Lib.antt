@@ -9,3 +9,4 @@ pub mod Valid
 pub mod Run
 pub mod Sound
 pub mod Made
+pub mod Names

@@ -1,0 +1,3 @@
+pub mod ExpressionText
+pub mod DesignText
+pub mod Shaped

@@ -1,0 +1,2 @@
+//! The VHDL subset: its tokens, and the texts of designs.
+#![tactic(auto)]
