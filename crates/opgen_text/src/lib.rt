@@ -1,4 +1,4 @@
-// The VHDL subset: its tokens, and the texts of designs.
+//! The VHDL subset: its tokens, and the texts of designs.
 #![tactic(auto)]
 
 mod kind;
