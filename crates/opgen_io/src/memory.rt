@@ -50,10 +50,8 @@ fn place_of(files: &[(String, Vec<u8>)], name: &str) -> Option<usize>
 fn find<'a>(files: &'a [(String, Vec<u8>)], name: &str) -> Option<&'a Vec<u8>>
     ensures { option_map (λ bytes. bytes.now.items) result ≡ found (files_of files.now) name.now }
 {
-    match place_of(files, name) {
-        Some(place) => Some(&files[place].1),
-        None => None,
-    }
+    let place = place_of(files, name)?;
+    Some(&files[place].1)
 }
 
 // Replaces the bytes of the first file of the name, or adds a file.

@@ -61,7 +61,7 @@ fn disk_folder_keeps_files(rt: HostRuntime) -> Result<(), Fail> {
 
 #[test]
 fn disk_folder_reads_many_parts(rt: HostRuntime) -> Result<(), Fail> {
-    let name = "opgen_io_many_parts.txt";
+    let name = "opgen_io_parts.txt";
     let text = vec![in rt.alloc(); b'x'; 100_000]?;
     let mut folder = DiskFolder::new(&rt);
     folder.store(name, &text)?;
