@@ -25,9 +25,9 @@ impl<'a, R> Model for DiskFolder<'a, R> {
     ghost Value = { DiskCounts };
 
     ghost view = { λ s. record {
-        read_faults = s.read_faults;
-        longs = s.longs;
-        write_faults = s.write_faults
+      read_faults = s.read_faults;
+      longs = s.longs;
+      write_faults = s.write_faults;
     } };
 }
 

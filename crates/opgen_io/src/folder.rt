@@ -1,7 +1,7 @@
 //! Files by name.
 ghost use Rattle.std.specs.Prelude.{◌≡◌, ◌⊎◌, ℕ, ◌≤◌, Option, Some, None, is_some, IfOk, OnOk, vec_len};
-ghost use Rattle.opgen_io.specs.Counts.{Rose, Stood};
 ghost use Rattle.opgen_io.specs.Answers.{fetched, FetchFails};
+ghost use Rattle.opgen_io.specs.Counts.{Rose, Stood};
 ghost use Rattle.opgen_io.specs.Files.{Files, stored, KeepsOthers};
 
 use std::alloc::Global;

@@ -1,10 +1,8 @@
 //! A folder and a sink in memory, some of whose calls are made to fail.
-ghost use Rattle.std.specs.Prelude.{◌≡◌, ◌⊎◌, ◌≢◌, ℕ, ◌<◌, ◌≤◌, ◌++◌, List, [], Option, Some, None, Ok, Err, true, false, is_some, IsTrue, IsSome, IsSomeAnd, IfOk, IfErr, OnOk, OnErr, MatchOption, MatchResult, position, length, vec_len, option_copied, option_map};
-ghost use Rattle.opgen_io.specs.Bytes.{TakesPrefix};
-ghost use Rattle.opgen_io.specs.Counts.{Rose, Stood, next_count};
-ghost use Rattle.opgen_io.specs.Answers.{fetched, FetchFails, Answers};
-ghost use Rattle.opgen_io.specs.Files.{Files, stored, KeepsOthers};
-ghost use Rattle.opgen_io.specs.Memory.{FolderState, SinkState, files_of, is_named, found, folder_fails, sink_fails, called, read_failed, write_failed, after_fetch, after_store, after_put, put_failed};
+ghost use Rattle.std.specs.Prelude.{◌≡◌, [], Some, true, false, IsSome, IfErr, OnOk, OnErr, position, length, vec_len, option_copied, option_map};
+ghost use Rattle.opgen_io.specs.Answers.{fetched, Answers};
+ghost use Rattle.opgen_io.specs.Files.{stored};
+ghost use Rattle.opgen_io.specs.Memory.{files_of, is_named, found, folder_fails, sink_fails, called, read_failed, write_failed, after_fetch, after_store, after_put, put_failed};
 
 use crate::calls::Calls;
 use crate::counts::raise;
@@ -50,10 +48,8 @@ fn place_of(files: &[(String, Vec<u8>)], name: &str) -> Option<usize>
 fn find<'a>(files: &'a [(String, Vec<u8>)], name: &str) -> Option<&'a Vec<u8>>
     ensures { option_map (λ bytes. bytes.now.items) result ≡ found (files_of files.now) name.now }
 {
-    match place_of(files, name) {
-        Some(place) => Some(&files[place].1),
-        None => None,
-    }
+    let place = place_of(files, name)?;
+    Some(&files[place].1)
 }
 
 // Replaces the bytes of the first file of the name, or adds a file.

@@ -1,9 +1,8 @@
 use super::*;
 use crate::whole::{read_within, write_whole};
-use std::fs;
-use std::io;
 use std::io::{Error, ErrorKind, Read, Write};
 use std::test::Fail;
+use std::{fs, io};
 
 #[test]
 fn memory_folder_fails_where_asked(rt: HostRuntime) -> Result<(), Fail> {
@@ -54,19 +53,27 @@ fn disk_folder_keeps_files(rt: HostRuntime) -> Result<(), Fail> {
     assert_eq!(rt; fetched.as_slice(), b"less".as_slice());
     folder.store(name, b"")?;
     assert!(rt; folder.fetch(rt.alloc(), name, 0)?.is_empty());
-    assert_eq!(rt; folder.store("no_such_folder/a.txt", b"text"), Err(StoreFault::Failed));
+    assert_eq!(rt;
+        folder.store("no_such_folder/a.txt", b"text"),
+        Err(StoreFault::Failed)
+    );
     fs::remove_file(&rt, name)?;
     Ok(())
 }
 
 #[test]
 fn disk_folder_reads_many_parts(rt: HostRuntime) -> Result<(), Fail> {
-    let name = "opgen_io_many_parts.txt";
+    let name = "opgen_io_parts.txt";
     let text = vec![in rt.alloc(); b'x'; 100_000]?;
     let mut folder = DiskFolder::new(&rt);
     folder.store(name, &text)?;
     assert!(rt; folder.fetch(rt.alloc(), name, 100_000)? == text);
-    assert!(rt; matches!(folder.fetch(rt.alloc(), name, 99_999), Err(FetchFault::TooLong)));
+    assert!(rt;
+        matches!(
+            folder.fetch(rt.alloc(), name, 99_999),
+            Err(FetchFault::TooLong)
+        )
+    );
     fs::remove_file(&rt, name)?;
     Ok(())
 }
@@ -110,7 +117,12 @@ fn broken_files_fail(rt: HostRuntime) -> Result<(), Fail> {
     let mut file = Broken { reads: 0 };
     assert_eq!(rt; read_within(rt.alloc(), &mut file, 3)?.len(), 3);
     let mut file = Broken { reads: 0 };
-    assert!(rt; matches!(read_within(rt.alloc(), &mut file, 4), Err(FetchFault::Failed)));
+    assert!(rt;
+        matches!(
+            read_within(rt.alloc(), &mut file, 4),
+            Err(FetchFault::Failed)
+        )
+    );
     assert!(rt; write_whole(&mut file, b"").is_ok());
     assert!(rt; write_whole(&mut file, b"text").is_err());
     Ok(())

@@ -8,11 +8,7 @@ use std::io;
 use std::io::{Error, ErrorKind, Read, Write};
 
 /// Reads all that is left, or the first `room` bytes of it. A read that gives nothing is the end.
-pub fn read_within<F: Read>(
-    alloc: Global,
-    file: &mut F,
-    room: usize,
-) -> Result<Vec<u8>, FetchFault>
+pub fn read_within<F: Read>(alloc: Global, file: &mut F, room: usize) -> Result<Vec<u8>, FetchFault>
     ensures at_most { IfOk result (λ bytes. vec_len bytes ≤ room) }
     ensures whole { IfOk result (λ bytes.
         IfSome (F.remaining file.old) (λ left. bytes.items ≡ take room left)) }

@@ -19,12 +19,12 @@ within_more bytes done taken more h within bound = grind (arith, common_steps)
 pub writes-preserved : goal.writes-preserved
 writes-preserved g c = elim c.match-write.branch [
   | in-Ok w ↦ record {
-      within = within_more c.args.bytes.now c.writes.done w.in-Ok.taken c.match-write.done w.done-is c.writes.invariant.within w.in-Ok.ensures.bound;
-      appended = subst (Appends _ _) (take_more c.args.bytes.now c.writes.done w.in-Ok.taken c.match-write.done w.done-is)
-          (Appends-trans _ _ _ _ _ c.writes.invariant.appended w.in-Ok.ensures.bytes);
-    }
+    within = within_more c.args.bytes.now c.writes.done w.in-Ok.taken c.match-write.done w.done-is c.writes.invariant.within w.in-Ok.ensures.bound;
+    appended = subst (Appends _ _) (take_more c.args.bytes.now c.writes.done w.in-Ok.taken c.match-write.done w.done-is)
+        (Appends-trans _ _ _ _ _ c.writes.invariant.appended w.in-Ok.ensures.bytes);
+  }
   | in-Err+else-ne w ↦ record {
-      within = rw w.done-is c.writes.invariant.within;
-      appended = rw w.done-is (Appends-kept _ _ _ _ c.writes.invariant.appended w.in-Err.ensures.bytes);
-    }
+    within = rw w.done-is c.writes.invariant.within;
+    appended = rw w.done-is (Appends-kept _ _ _ _ c.writes.invariant.appended w.in-Err.ensures.bytes);
+  }
 ]
