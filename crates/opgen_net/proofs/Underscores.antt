@@ -31,9 +31,9 @@ double-append (c ∷ d ∷ a) b = rw (double-append (d ∷ a) b) (or-true (is_un
 pub double_joined : (name : List ℕ) → HasSubslice name (95 ∷ 95 ∷ []) → has_double_underscore name ≡ true
 double_joined name (a, b, same) = ap has_double_underscore same ∙ double-append a b
 
-or_parts : (a b : Bool) → (a || b) ≡ true → (a ≡ true) ⊎ (b ≡ true)
-or_parts true b h = inl refl
-or_parts false b h = inr h
+either_part : (a b : Bool) → (a || b) ≡ true → (a ≡ true) ⊎ (b ≡ true)
+either_part true b h = inl refl
+either_part false b h = inr h
 
 double_here : (c d : ℕ) (cs : List ℕ) → (is_underscore c && is_underscore d) ≡ true → HasSubslice (c ∷ d ∷ cs) (95 ∷ 95 ∷ [])
 double_here c d cs h =
@@ -46,7 +46,7 @@ pub double_split : (name : List ℕ) → has_double_underscore name ≡ true →
 double_split [] h = cc
 double_split (c ∷ []) h = cc
 double_split (c ∷ d ∷ cs) h =
-    elim (or_parts _ _ h) [
+    elim (either_part _ _ h) [
       | inl here ↦ double_here c d cs here
       | inr later ↦ let (a, b, same) = double_split (d ∷ cs) later in (c ∷ a, b, ap (λ xs. c ∷ xs) same)
     ]
