@@ -342,10 +342,10 @@ same_length j k m n e = cc
 pub longest : (kind other : TokenKind) (text longer rest beyond : List ℕ) → IsToken kind text rest → IsToken other longer [] → text ++ rest ≡ longer ++ beyond → length longer ≤ length text
 longest kind other text longer rest beyond t u at = elim (cases_lt (length text) (length longer)) [
   | inl below ↦
-    let more = goes_on text rest longer beyond at below in
-    let follows : IsToken kind text (more.0 ∷ more.1) = before-same_first kind text rest (more.0 ∷ more.1) (λ p. sym (ap (begins p) more.3)) t in
-    let both : longer ++ [] ≡ text ++ (more.0 ∷ more.1) = append-nil longer ∙ more.2 in
-    let lengths = same_length other kind _ _ (sym (front-of_token other longer [] u) ∙ ap front_of both ∙ front-of_token kind text (more.0 ∷ more.1) follows) in
-    omega (arith, lengths)
+      let more = goes_on text rest longer beyond at below in
+      let follows : IsToken kind text (more.0 ∷ more.1) = before-same_first kind text rest (more.0 ∷ more.1) (λ p. sym (ap (begins p) more.3)) t in
+      let both : longer ++ [] ≡ text ++ (more.0 ∷ more.1) = append-nil longer ∙ more.2 in
+      let lengths = same_length other kind _ _ (sym (front-of_token other longer [] u) ∙ ap front_of both ∙ front-of_token kind text (more.0 ∷ more.1) follows) in
+      omega (arith, lengths)
   | inr above ↦ above
 ]

@@ -17,10 +17,8 @@ pub fn one_cut()
 /// A token is the longest that starts where it stands: no token by itself (with nothing behind it)
 /// takes up more of the bytes there.
 pub fn longest_token()
-    ensures {
-        (kind other : TokenKind) (text longer rest beyond : List ℕ) → IsToken kind text rest → IsToken other longer []
-        → text ++ rest ≡ longer ++ beyond → length longer ≤ length text
-    }
+    ensures { (kind other : TokenKind) (text longer rest beyond : List ℕ) → IsToken kind text rest → IsToken other longer []
+        → text ++ rest ≡ longer ++ beyond → length longer ≤ length text }
 {}
 
 /// The tokens of a text stand in it in order, the bytes of each are its spelling, and an offset at
