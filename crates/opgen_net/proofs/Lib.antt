@@ -4,3 +4,4 @@ pub mod FlowLaws
 pub mod InputLaws
 pub mod FlowWidths
 pub mod FlowBefore
+pub mod Standing
