@@ -1,6 +1,6 @@
 -- The signals and drivers of a net without delays.
-use Rattle.std.proofs.Common.{◌≡◌, ℕ, zero, suc, ◌+◌, ◌<◌, Bool, true, false, List, [], ◌∷◌, ◌++◌, length, get_or, drop, None, refl, sym, ap, ◌∙◌, arith}
-use Rattle.std.specs.Prelude.{map, cond, not, Option, slice_index, filter}
+use Rattle.std.proofs.Common.{◌≡◌, ℕ, zero, suc, ◌+◌, ◌<◌, Bool, false, List, [], ◌∷◌, ◌++◌, length, get_or, drop, None, refl, sym, ap, ◌∙◌, arith}
+use Rattle.std.specs.Prelude.{map, not, Option, slice_index, filter}
 use Rattle.std.specs.List.{list_any}
 use Rattle.std.proofs.lemmas.Bool.{or_parts, false≢true}
 use Rattle.std.proofs.lemmas.List.{drop_more, append-nil, append_assoc}
@@ -14,6 +14,7 @@ use Rattle.opgen_net.specs.declared.design.Driver.{Driver}
 use Rattle.opgen_net.specs.Made.{signal_name, initial_of, node_signal, node_driver, each_node, output_drivers, is_register, input_port, output_port, drivers_of, design_of}
 use Rattle.opgen_net.specs.Valid.{widths}
 use Rattle.opgen_flat.specs.Combinational.{is_delay, HasNoDelay}
+use Rattle.opgen_flat.proofs.Filters.{filter-kept, filter-dropped}
 
 pub not_delay : (ns : List Node) → list_any is_delay ns ≡ false → (i : ℕ) (d : Node) → i < length ns → is_delay (get_or ns i d) ≡ false
 not_delay [] h i d l = absurd (omega (arith, l))
@@ -52,12 +53,6 @@ plain_driver ws i (Choice on one other) h = refl
 plain_driver ws i (Table address rows) h = refl
 plain_driver ws i (Delay of) h = absurd (false≢true (sym h))
 
-filter-more : (p : Driver → Bool) (k : Driver) (ks : List Driver) → p k ≡ true → filter p (k ∷ ks) ≡ k ∷ filter p ks
-filter-more p k ks h = ap (λ b. cond b (k ∷ filter p ks) (filter p ks)) h
-
-filter-less : (p : Driver → Bool) (k : Driver) (ks : List Driver) → p k ≡ false → filter p (k ∷ ks) ≡ filter p ks
-filter-less p k ks h = ap (λ b. cond b (k ∷ filter p ks) (filter p ks)) h
-
 module _ (ws : List ℕ) where
   all_plain : (i : ℕ) (ns : List Node) → list_any is_delay ns ≡ false
       → filter (λ k. not (is_register k)) (each_node (node_driver ws) i ns) ≡ each_node (node_driver ws) i ns
@@ -65,14 +60,14 @@ module _ (ws : List ℕ) where
   all_plain i (n ∷ ns) h =
       let a = or_parts (is_delay n) (list_any is_delay ns) h in
       let k = node_driver ws i n in
-      filter-more (λ k. not (is_register k)) k (each_node (node_driver ws) (i + 1) ns) (ap not (plain_driver ws i n a.0))
+      filter-kept (λ k. not (is_register k)) k (each_node (node_driver ws) (i + 1) ns) (ap not (plain_driver ws i n a.0))
       ∙ ap (λ ks. k ∷ ks) (all_plain (i + 1) ns a.1)
 
   no_registers : (i : ℕ) (ns : List Node) → list_any is_delay ns ≡ false → filter is_register (each_node (node_driver ws) i ns) ≡ []
   no_registers i [] h = refl
   no_registers i (n ∷ ns) h =
       let a = or_parts (is_delay n) (list_any is_delay ns) h in
-      filter-less is_register (node_driver ws i n) (each_node (node_driver ws) (i + 1) ns) (plain_driver ws i n a.0) ∙ no_registers (i + 1) ns a.1
+      filter-dropped is_register (node_driver ws i n) (each_node (node_driver ws) (i + 1) ns) (plain_driver ws i n a.0) ∙ no_registers (i + 1) ns a.1
 
 -- without registers the drivers stand as the nodes do
 pub plain_drivers : (net : Net) → HasNoDelay net

@@ -8,10 +8,12 @@ ghost use Rattle.opgen_net.specs.Valid.{IsValid};
 ghost use Rattle.opgen_flat.specs.Combinational.{HasNoDelay};
 
 mod drivers;
+mod laws;
 mod ports;
 mod signals;
 mod widths;
 
+pub use laws::run_follows_flow;
 use opgen_list::Text;
 use opgen_net::{Design, Net};
 use opgen_num::Memory;
