@@ -6,5 +6,4 @@ pub mod FlowLaws
 pub mod InputLaws
 pub mod FlowWidths
 pub mod FlowBefore
-pub mod WordRuns
 pub mod Standing

@@ -11,4 +11,3 @@ pub mod Sound
 pub mod Made
 pub mod Names
 pub mod Named
-pub mod WordRule

@@ -1,2 +1,3 @@
 mod Trees
 mod Simple
+pub mod Products

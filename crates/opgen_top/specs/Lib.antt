@@ -1,2 +1,4 @@
 pub mod SpecName
 pub mod First
+pub mod Command
+pub mod Generate
