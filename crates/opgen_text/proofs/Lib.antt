@@ -1,4 +1,3 @@
 pub mod FrontLemmas
 pub mod CutLemmas
 pub mod SpanLemmas
-pub mod Times3
