@@ -1,5 +1,7 @@
 -- The text of a design that multiplies by three, checked against the whole text as it is printed.
 use Rattle.std.specs.Prelude.{ℕ, ◌≡◌, ◌*◌, Bool, List, [], ◌∷◌, ◌++◌, codes, Some, None, refl}
+use Rattle.std.proofs.Common.{lit<}
+use Rattle.std.proofs.lemmas.Fmt.{decimal_digit}
 use Rattle.opgen_num.specs.Words.{word}
 use Rattle.opgen_net.specs.declared.design.Design.{Design}
 use Rattle.opgen_net.specs.declared.design.Dir.TheVariants.{In, Out}
@@ -8,7 +10,8 @@ use Rattle.opgen_net.specs.declared.design.Signal.{Signal}
 use Rattle.opgen_net.specs.declared.design.Driver.{Driver}
 use Rattle.opgen_net.specs.declared.design.Driver.TheVariants.{Assign, Table, Output}
 use Rattle.opgen_net.specs.Tree.{Tree, name, port}
-use Rattle.opgen_text.specs.DesignText.{text_of}
+use Rattle.opgen_text.specs.ExpressionText.{word_text, range_text}
+use Rattle.opgen_text.specs.DesignText.{port_text, entity_text, signal_text, row_text, other_text, driver_text, drivers_text, process_text, architecture_text, text_of}
 
 abbrev row : ℕ → List Bool × List Bool
 row x = (word 4 x, word 6 (3 * x))
@@ -63,4 +66,5 @@ pub times3-text : text_of times3 ≡
     ++ codes "    \"101101\" when others;\n"
     ++ codes "  y <= std_logic_vector(s1);\n"
     ++ codes "end architecture;\n"
-times3-text = refl
+unfolding word_text range_text port_text entity_text signal_text row_text other_text driver_text drivers_text process_text architecture_text
+times3-text = rw (decimal_digit 3 (lit< tt), decimal_digit 0 (lit< tt), decimal_digit 5 (lit< tt)) refl
