@@ -16,11 +16,11 @@ direction_text In = codes "in"
 direction_text Out = codes "out"
 
 -- a port, with the `;` that ends the port before it: the last port has none
-abbrev pub port_text : Port → List ℕ
+unfoldable pub port_text : Port → List ℕ
 port_text p = codes ";\n    " ++ p.name ++ codes " : " ++ direction_text p.dir ++ codes " std_logic_vector" ++ range_text (p.width - 1) 0
 
 -- the clock is the first port
-abbrev pub entity_text : Design → List ℕ
+unfoldable pub entity_text : Design → List ℕ
 entity_text d =
     codes "library ieee;\nuse ieee.std_logic_1164.all;\nuse ieee.numeric_std.all;\n\n"
     ++ codes "entity " ++ d.name ++ codes " is\n  port (\n    clk : in std_logic" ++ flat_map port_text d.ports ++ codes "\n  );\nend entity;\n\n"
@@ -29,22 +29,26 @@ abbrev pub initial_text : Option (List Bool) → List ℕ
 initial_text None = []
 initial_text (Some w) = codes " := " ++ word_text w
 
-abbrev pub signal_text : Signal → List ℕ
+unfoldable pub signal_text : Signal → List ℕ
 signal_text s = codes "  signal " ++ s.name ++ codes " : unsigned" ++ range_text (s.width - 1) 0 ++ initial_text s.initial ++ codes ";\n"
 
 -- a row of a table, the address after the word
-abbrev pub row_text : List Bool × List Bool → List ℕ
+unfoldable pub row_text : List Bool × List Bool → List ℕ
 row_text r = codes "    " ++ word_text r.1 ++ codes " when " ++ word_text r.0 ++ codes ",\n"
 
+-- the row of every other address
+unfoldable pub other_text : List Bool → List ℕ
+other_text w = codes "    " ++ word_text w ++ codes " when others;\n"
+
 -- the statement of a driver; that of a register stands in the process
-abbrev pub driver_text : Design → Driver → List ℕ
+unfoldable pub driver_text : Design → Driver → List ℕ
 driver_text d (Assign to e) = codes "  " ++ signal_name d to ++ codes " <= " ++ expression_text d e ++ codes ";\n"
 driver_text d (Choice to on one other) =
     codes "  " ++ signal_name d to ++ codes " <= " ++ expression_text d one
     ++ codes " when " ++ expression_text d on ++ codes " = \"1\" else " ++ expression_text d other ++ codes ";\n"
 driver_text d (Table to on rows other) =
     codes "  with " ++ expression_text d on ++ codes " select " ++ signal_name d to ++ codes " <=\n"
-    ++ flat_map row_text rows ++ codes "    " ++ word_text other ++ codes " when others;\n"
+    ++ flat_map row_text rows ++ other_text other
 driver_text d (Register to e) = codes "      " ++ signal_name d to ++ codes " <= " ++ expression_text d e ++ codes ";\n"
 driver_text d (Output place e) = codes "  " ++ port_name d place ++ codes " <= std_logic_vector(" ++ expression_text d e ++ codes ");\n"
 
@@ -55,18 +59,18 @@ is_output _ = false
 abbrev pub is_neither : Driver → Bool
 is_neither k = not (is_register k) && not (is_output k)
 
-abbrev pub drivers_text : Design → (Driver → Bool) → List ℕ
+unfoldable pub drivers_text : Design → (Driver → Bool) → List ℕ
 drivers_text d which = flat_map (driver_text d) (filter which d.drivers)
 
 -- the process of the registers, where there is one
-abbrev pub process_text : Design → List ℕ
+unfoldable pub process_text : Design → List ℕ
 process_text d =
     if list_any is_register d.drivers
     then codes "  process (clk)\n  begin\n    if rising_edge(clk) then\n" ++ drivers_text d is_register ++ codes "    end if;\n  end process;\n"
     else []
 
 -- first the drivers of signals outside the process, then the process, then the outputs
-abbrev pub architecture_text : Design → List ℕ
+unfoldable pub architecture_text : Design → List ℕ
 architecture_text d =
     codes "architecture rtl of " ++ d.name ++ codes " is\n" ++ flat_map signal_text d.signals ++ codes "begin\n"
     ++ drivers_text d is_neither ++ process_text d ++ drivers_text d is_output ++ codes "end architecture;\n"

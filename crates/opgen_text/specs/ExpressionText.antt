@@ -23,11 +23,11 @@ bits_text [] = []
 bits_text (b ∷ w) = bits_text w ++ bit_text b
 
 -- a word as a bit string
-abbrev pub word_text : List Bool → List ℕ
+unfoldable pub word_text : List Bool → List ℕ
 word_text w = codes "\"" ++ bits_text w ++ codes "\""
 
 -- the range of bits from a high one down to a low one
-abbrev pub range_text : (high low : ℕ) → List ℕ
+unfoldable pub range_text : (high low : ℕ) → List ℕ
 range_text high low = codes "(" ++ decimal high ++ codes " downto " ++ decimal low ++ codes ")"
 
 abbrev pub operator_text : Op → List ℕ

@@ -1,13 +1,12 @@
-// A library with one function.
+//! Designs written as VHDL.
 #![tactic(auto)]
 
-ghost use Rattle.std.specs.Prelude.{◌≡◌};
-ghost use Rattle.opgen_write.specs.Echo.{echo_of};
+mod architecture;
+mod entity;
+mod expression;
+mod sink;
+mod statement;
+mod write;
 
-// The `ensures` clause is the contract: what `echo` returns is `echo_of` of its argument, a definition
-// in `specs/Echo.antt`, which a caller's clause can cite too.
-pub fn echo(x: usize) -> usize
-    ensures { result ≡ echo_of x }
-{
-    x
-}
+pub use sink::VecSink;
+pub use write::{WriteFault, text, write_design};
