@@ -11,6 +11,7 @@ use Rattle.opgen_net.specs.declared.net.Net.{Net}
 use Rattle.opgen_net.specs.Value.{word_at}
 use Rattle.opgen_net.specs.Flow.{Inputs, input_at, slice_flow}
 use Rattle.opgen_net.specs.Run.{AreWords}
+use Rattle.opgen_flat.specs.Combinational.{HasNoDelay}
 use Rattle.opgen_scale.specs.Times.{multiples, IsLeastWidth, IsTimes}
 use Rattle.opgen_scale.specs.Recipe.{table_nodes, table_net, shifted_nodes, product_node}
 use Rattle.opgen_scale.proofs.Product.{get_or-multiples, nat-row, nat-shifted, cut-whole, length-input_at}
@@ -92,3 +93,7 @@ built_net number w row z n table shifted whole e1 e2 e3 place =
     e1
     ∙ ap (λ k. with_output k n row z) (e2 ∙ ap (λ k. with_nodes k row z) e3)
     ∙ ap (λ k. with_output (with_nodes (table_net number w row) row z) k row z) place
+
+pub no_delay : (number w row z : ℕ) → HasNoDelay (product_net number w row z)
+no_delay number w row zero = refl
+no_delay number w row (suc z) = refl

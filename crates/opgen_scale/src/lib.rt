@@ -2,6 +2,7 @@
 #![tactic(auto)]
 
 ghost use Rattle.std.specs.Prelude.{◌≡◌, ◌<◌, ◌≤◌, ◌*◌, ◌+◌, ◌-◌, ◌^◌, ◌%◌, ◌++◌, ◌∷◌, [], IfOk, OnOk, length, slice_index};
+ghost use Rattle.opgen_flat.specs.Combinational.{HasNoDelay};
 ghost use Rattle.opgen_net.specs.Valid.{IsValid, widths};
 ghost use Rattle.opgen_net.specs.Plain.{plain};
 ghost use Rattle.opgen_scale.specs.Times.{multiples, IsTimes};
@@ -147,6 +148,7 @@ pub fn times(alloc: Global, width: u32, factor: u64) -> Result<Net, Memory>
     requires narrow { (1 ≤ width) × (width ≤ 6) }
     requires factor { (1 ≤ factor) × (factor ≤ 2 ^ 30) }
     ensures valid { IfOk result IsValid }
+    ensures no_delay { IfOk result HasNoDelay }
     ensures times { IfOk result (IsTimes width factor) }
 {
     let rows = rows_of(width, factor);

@@ -16,16 +16,20 @@ pub record Multiplies (factor width : ℕ) (d : Design) : Type 0 where
       → (t : ℕ) (given : List (List Bool)) (v : Words) → slice_get inputs t ≡ Some given → slice_get vs t ≡ Some v
       → map nat (outputs_of d v) ≡ map (λ x. factor * nat x) given
 
--- The bytes are a simple document, the file is named after it, and the text is that of a sound design that multiplies as the document asks.
-pub record IsGenerated (bytes file text : List ℕ) : Type 0 where
-  pub fields : Fields
-  pub simple : IsSimpleDocument bytes fields
-  pub file_name : file ≡ fields.name ++ codes ".vhd"
+-- the text of a sound design of the document's name that multiplies as the document asks
+pub record IsCircuitText (fields : Fields) (text : List ℕ) : Type 0 where
   pub design : Design
   pub spelled : text ≡ text_of design
   pub name : design.name ≡ fields.name
   pub sound : IsSound design
   pub multiplies : Multiplies fields.factor fields.width design
+
+-- the bytes are a simple document, and the file, named after it, has the text of its circuit
+pub record IsGenerated (bytes file text : List ℕ) : Type 0 where
+  pub fields : Fields
+  pub simple : IsSimpleDocument bytes fields
+  pub file_name : file ≡ fields.name ++ codes ".vhd"
+  pub circuit : IsCircuitText fields text
 
 -- what stands under the name of the specification's file
 abbrev pub Stands : Option (List ℕ) → Files → (bytes : List ℕ) → Type 0
@@ -55,3 +59,7 @@ pub record IsRefused (spec : Option (List ℕ)) (files : Files) : Type 0 where
   pub bytes : List ℕ
   pub stands : Stands spec files bytes
   pub refused : (read (tree bytes) ≡ Err NotToml) ⊎ (read (tree bytes) ≡ Err Unsupported)
+
+-- what a write fault or want of memory leaves: the folder as it was, or with the whole file, or with a broken one
+abbrev pub Leaves : (spec : Option (List ℕ)) (files : Files) (after : Option Files) → Type 0
+Leaves spec files after = (after ≡ Some files) ⊎ (Generates spec files after ⊎ Breaks spec files after)

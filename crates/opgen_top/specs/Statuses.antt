@@ -15,3 +15,7 @@ pub data IsStatus : ℕ → Type 0 where
 -- the status whose line was put; or 4, where the sink counted a fault; or 5
 abbrev pub TellsOr : (status before now result : ℕ) → Type 0
 TellsOr status before now result = (result ≡ status) ⊎ (((result ≡ 4) × Rose before now) ⊎ (result ≡ 5))
+
+-- a status of a refusal: the specification, the words, the read or the length
+abbrev pub Refuses : ℕ → Type 0
+Refuses status = (status ≡ 1) ⊎ ((status ≡ 2) ⊎ ((status ≡ 3) ⊎ (status ≡ 9)))

@@ -7,7 +7,8 @@ ghost use Rattle.opgen_net.specs.Names.{is_allowed_name};
 ghost use Rattle.opgen_top.specs.First.{Fields, Gives, IsSimpleDocument, IsNoTree, read, tree, simple, natural, whole_at, text_at, flag_at, only_whole_at, has_whole, has_text, has_flag, within, spec_name, is_known, has_known_keys, has_fixed_values};
 
 use crate::spec_name::is_spec_name;
-use std::alloc::Global;
+use opgen_num::Memory;
+use std::alloc::{AllocError, Global};
 use thiserror::Error;
 use toml::{Table, Value};
 
@@ -31,6 +32,22 @@ pub enum FirstFault {
     Unsupported,
     #[error("out of memory")]
     Memory,
+}
+
+impl From<Memory> for FirstFault {
+    ghost from_gives = { λ _ fault. fault ≡ FirstFault.Memory };
+
+    fn from(_want: Memory) -> FirstFault {
+        FirstFault::Memory
+    }
+}
+
+impl From<AllocError> for FirstFault {
+    ghost from_gives = { λ _ fault. fault ≡ FirstFault.Memory };
+
+    fn from(_refused: AllocError) -> FirstFault {
+        FirstFault::Memory
+    }
 }
 
 static KEYS: [&str; 11] = [

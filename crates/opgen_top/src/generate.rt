@@ -1,14 +1,15 @@
 //! From the bytes of a specification to the file that is stored.
-ghost use Rattle.std.specs.Prelude.{◌≡◌, ◌⊎◌, ◌++◌, IfOk, codes, string_bytes, Err};
+ghost use Rattle.std.specs.Prelude.{◌≡◌, ◌≤◌, ◌^◌, IfOk, IsTrue, string_bytes, Err};
+ghost use Rattle.opgen_net.specs.Names.{is_allowed_name};
 ghost use Rattle.opgen_top.specs.First.{read, tree};
-ghost use Rattle.opgen_top.specs.Generate.{IsGenerated};
+ghost use Rattle.opgen_top.specs.Generate.{IsCircuitText, IsGenerated};
 
 use crate::first::{First, FirstFault, read_first};
 use opgen_flat::flat;
 use opgen_num::Memory;
 use opgen_scale::times;
 use opgen_write::{VecSink, write_design};
-use std::alloc::{AllocError, Global};
+use std::alloc::Global;
 
 /// A file to be stored, and the line that tells of it.
 #[derive(Drop)]
@@ -19,7 +20,11 @@ pub(crate) struct Generated {
 }
 
 /// The text of the circuit of a specification.
-fn text_of(alloc: Global, first: &First) -> Result<Vec<u8>, Memory>
+fn circuit_text(alloc: Global, first: &First) -> Result<Vec<u8>, Memory>
+    requires allowed { IsTrue (is_allowed_name (string_bytes first.now.name)) }
+    requires width { (1 ≤ first.now.width) × (first.now.width ≤ 6) }
+    requires factor { (1 ≤ first.now.factor) × (first.now.factor ≤ 2 ^ 30) }
+    ensures { IfOk result (λ text. IsCircuitText (record { name = string_bytes first.now.name; width = first.now.width; factor = first.now.factor }) text.items) }
 {
     let net = times(alloc, first.width, first.factor)?;
     let design = flat(alloc, &net, &first.name)?;
@@ -37,7 +42,7 @@ pub(crate) fn generated(alloc: Global, bytes: &[u8]) -> Result<Generated, FirstF
     ensures unsupported { result ≡ Err FirstFault.Unsupported → read (tree bytes.now) ≡ Err FirstFault.Unsupported }
 {
     let first = read_first(alloc, bytes)?;
-    let text = text_of(alloc, &first)?;
+    let text = circuit_text(alloc, &first)?;
     let name = first.name.as_str();
     let file = format!(in alloc; "{name}.vhd")?;
     let line = format!(in alloc; "wrote {file}, latency 0\n")?;

@@ -4,7 +4,8 @@ use Rattle.opgen_net.specs.Valid.{widths}
 use Rattle.opgen_scale.specs.Times.{IsTimes}
 use Rattle.opgen_scale.specs.Recipe.{table_nodes, shifted_nodes}
 use Rattle.opgen_scale.proofs.Widths.{widths-table_nodes, product_width}
-use Rattle.opgen_scale.proofs.ProductNet.{built_net, is_times}
+use Rattle.opgen_flat.specs.Combinational.{HasNoDelay}
+use Rattle.opgen_scale.proofs.ProductNet.{built_net, is_times, no_delay}
 use Rattle.opgen_scale.proofs.times.Goals as goal
 
 pub shift-requires-clause-table : goal.shift-requires-clause-table
@@ -23,6 +24,13 @@ output-requires-clause-lies c =
     ∙ ap (λ k. slice_index (widths (table_nodes rows.odd c.args.width rows.width ++ shifted_nodes rows.width rows.zeros)) k) c.in_ok-node.ensures.place
     ∙ product_width rows.odd c.args.width rows.width rows.zeros in
     (omega arith, omega (arith, wide, c.rows_of-rows.ensures.positive))
+
+pub returns-clause-no_delay : goal.returns-clause-no_delay
+returns-clause-no_delay c =
+    let rows = c.rows_of-rows.result in
+    let built = built_net rows.odd c.args.width rows.width rows.zeros c.in_ok-node.node c.in_ok-net.net c.shift.new.net c.output.new.self
+    c.in_ok-output.ensures.ok c.in_ok-node.ensures.ok c.in_ok-net.ensures.ok c.in_ok-node.ensures.place in
+    subst HasNoDelay (sym built) (no_delay rows.odd c.args.width rows.width rows.zeros)
 
 pub returns-clause-times : goal.returns-clause-times
 returns-clause-times c =
