@@ -1,6 +1,6 @@
 -- The net of a product is one that a design is made of.
 use Rattle.std.proofs.Common.{◌≡◌, ℕ, zero, suc, ◌+◌, ◌≤◌, List, [], ◌∷◌, ◌++◌, length, map, refl, sym, ap, ◌∙◌, subst, arith}
-use Rattle.std.specs.Prelude.{All, codes, IsTrue, ◌≢◌}
+use Rattle.std.specs.Prelude.{All, codes, IsTrue, ◌≢◌, slice_index}
 use Rattle.std.specs.List.{AllPairs}
 use Rattle.std.proofs.lemmas.List.Elements.{All-nil, All-cons}
 use Rattle.opgen_net.specs.declared.net.Net.{Net}
@@ -17,21 +17,21 @@ Allowed n = IsTrue (is_allowed_name n)
 
 allowed_x : Allowed (codes "x")
 unfolding refused_words
-allowed_x = tt
+allowed_x = refl
 
 allowed_y : Allowed (codes "y")
 unfolding refused_words
-allowed_y = tt
+allowed_y = refl
 
 free_x : IsFree (codes "x")
-free_x = record { no_clock = λ e. cc; no_enable = λ e. cc; no_signal = λ h. h }
+free_x = record { no_clock = λ e. cc; no_enable = λ e. cc; no_signal = λ h. cc }
 
 free_y : IsFree (codes "y")
-free_y = record { no_clock = λ e. cc; no_enable = λ e. cc; no_signal = λ h. h }
+free_y = record { no_clock = λ e. cc; no_enable = λ e. cc; no_signal = λ h. cc }
 
 differ_xy : AllPairs (λ a b. a ≢ b) (codes "x" ∷ codes "y" ∷ [])
 differ_xy zero zero d h k = absurd (omega (arith, h))
-differ_xy zero (suc zero) d h k = λ e. cc
+differ_xy zero (suc zero) d h k = λ e. let differ : 120 ≡ 121 = ap (λ name. slice_index name 0) e in absurd (omega (arith, differ))
 differ_xy zero (suc (suc j)) d h k = absurd (omega (arith, k))
 differ_xy (suc i) zero d h k = absurd (omega (arith, h))
 differ_xy (suc i) (suc j) d h k = absurd (omega (arith, h, k))

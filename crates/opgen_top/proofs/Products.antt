@@ -20,11 +20,11 @@ module _ {X Y : Type 0} (f : X → Y) (is : Dir → Bool) where
   at_ports-map : (ps : List Port) (xs : List X) → map f (at_ports is ps xs) ≡ at_ports is ps (map f xs)
   at_ports-map [] xs = refl
   at_ports-map (p ∷ ps) [] = refl
-  at_ports-map (p ∷ ps) (x ∷ xs) = put (is p.dir) (at_ports-map ps xs)
+  at_ports-map (p ∷ ps) (x ∷ xs) = put (is p.dir) (at_ports is ps xs) (at_ports is ps (map f xs)) (at_ports-map ps xs)
     where
-      put : {ys : List X} {zs : List Y} (b : Bool) → map f ys ≡ zs → map f (cond b (x ∷ ys) ys) ≡ cond b (f x ∷ zs) zs
-      put true e = ap (λ ys. f x ∷ ys) e
-      put false e = e
+      put : (b : Bool) (ys : List X) (zs : List Y) → map f ys ≡ zs → map f (cond b (x ∷ ys) ys) ≡ cond b (f x ∷ zs) zs
+      put true ys zs e = ap (λ ks. f x ∷ ks) e
+      put false ys zs e = e
 
 -- the inputs of a run have the widths of its input ports
 run_words : (d : Design) (now : List (List Bool)) (inputs : List (List (List Bool))) (vs : List Words) → RunsOn d now inputs vs → All (AreWords (input_widths d)) inputs

@@ -60,6 +60,10 @@ pub record IsRefused (spec : Option (List ℕ)) (files : Files) : Type 0 where
   pub stands : Stands spec files bytes
   pub refused : (read (tree bytes) ≡ Err NotToml) ⊎ (read (tree bytes) ≡ Err Unsupported)
 
--- what a write fault or want of memory leaves: the folder as it was, or with the whole file, or with a broken one
+-- what a store leaves: the folder as it was, or with the whole file, or with a broken one
+abbrev pub LeavesStored : (file text : List ℕ) (files : Files) (after : Option Files) → Type 0
+LeavesStored file text files after = (after ≡ Some files) ⊎ ((after ≡ Some (stored file text files)) ⊎ KeepsOthers file (Some files) after)
+
+-- what a write fault or want of memory leaves in the end: the folder as it was, or with the whole file, or with a broken one
 abbrev pub Leaves : (spec : Option (List ℕ)) (files : Files) (after : Option Files) → Type 0
 Leaves spec files after = (after ≡ Some files) ⊎ (Generates spec files after ⊎ Breaks spec files after)

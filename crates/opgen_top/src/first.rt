@@ -35,7 +35,9 @@ pub enum FirstFault {
 }
 
 impl From<Memory> for FirstFault {
-    ghost from_gives = { λ _ fault. fault ≡ FirstFault.Memory };
+    ghost use Rattle.opgen_top.specs.declared.first.FirstFault.TheVariants as faults;
+
+    ghost from_gives = { λ _ fault. fault ≡ faults.Memory };
 
     fn from(_want: Memory) -> FirstFault {
         FirstFault::Memory
@@ -43,7 +45,9 @@ impl From<Memory> for FirstFault {
 }
 
 impl From<AllocError> for FirstFault {
-    ghost from_gives = { λ _ fault. fault ≡ FirstFault.Memory };
+    ghost use Rattle.opgen_top.specs.declared.first.FirstFault.TheVariants as faults;
+
+    ghost from_gives = { λ _ fault. fault ≡ faults.Memory };
 
     fn from(_refused: AllocError) -> FirstFault {
         FirstFault::Memory

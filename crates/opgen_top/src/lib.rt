@@ -4,12 +4,12 @@
 mod command;
 mod first;
 mod generate;
-mod run;
+mod program;
 mod spec_name;
 mod status;
 
 pub use first::{First, FirstFault, read_first};
 pub use opgen_flat::flat;
 pub use opgen_write::{VecSink, WriteFault, write_design};
-pub use run::run;
+pub use program::run;
 pub use status::Status;

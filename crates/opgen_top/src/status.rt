@@ -1,7 +1,7 @@
 //! The status that the program ends with, and the line that it prints.
 ghost use Rattle.std.specs.Prelude.{◌≡◌, ◌≤◌, ◌⊎◌};
 ghost use Rattle.opgen_io.specs.Counts.{Rose};
-ghost use Rattle.opgen_top.specs.Statuses.{TellsOr};
+ghost use Rattle.opgen_top.specs.Statuses.{IsStatus, TellsOr};
 
 use opgen_io::{PutFault, Sink};
 
@@ -13,6 +13,8 @@ pub struct Status(pub u8);
 /// Prints the line, and gives the status that comes with it. Where the line is refused the status
 /// is 4 or 5.
 pub(crate) fn told<K: Sink>(status: u8, line: &str, out: &mut K) -> Status
+    requires { IsStatus status }
+    ensures listed { IsStatus result.0 }
     ensures status { TellsOr status (K.faults out.old) (K.faults out.new) result.0 }
     ensures faults_kept { K.faults out.old ≤ K.faults out.new }
 {

@@ -1,14 +1,14 @@
 //! All that the program does.
 ghost use Rattle.std.specs.Prelude.{◌≡◌, ◌⊎◌, map, None, Some, string_bytes};
 ghost use Rattle.opgen_io.specs.Counts.{Rose};
-ghost use Rattle.opgen_io.specs.Files.{Files};
+ghost use Rattle.opgen_io.specs.Files.{Files, stored};
 ghost use Rattle.opgen_top.specs.Command.{spec_file};
-ghost use Rattle.opgen_top.specs.Generate.{Generates, Breaks, IsRefused, Leaves};
+ghost use Rattle.opgen_top.specs.Generate.{Generates, IsRefused, Leaves, LeavesStored};
 ghost use Rattle.opgen_top.specs.Statuses.{IsStatus, Refuses, TellsOr};
 
 use crate::command::spec_file;
 use crate::first::FirstFault;
-use crate::generate::{Generated, generated};
+use crate::generate::{GeneratedFile, generated};
 use crate::status::{Status, told};
 use opgen_io::{FetchFault, Folder, Sink, StoreFault};
 use std::alloc::Global;
@@ -17,7 +17,15 @@ use std::alloc::Global;
 const MAX_SPEC_LEN: usize = 1_048_576;
 
 /// Stores the generated file, and prints the line that tells of it.
-fn store<F: Folder, K: Sink>(generated: &Generated, folder: &mut F, out: &mut K) -> Status {
+fn store<F: Folder, K: Sink>(generated: &GeneratedFile, folder: &mut F, out: &mut K) -> Status
+    ensures statuses { (result.0 ≡ 0) ⊎ ((result.0 ≡ 4) ⊎ (result.0 ≡ 5)) }
+    ensures stored { (files : Files) → F.told folder.old ≡ Some files → result.0 ≡ 0 →
+        F.told folder.new ≡ Some (stored (string_bytes generated.now.file) generated.now.text.items files) }
+    ensures write_fault { result.0 ≡ 4 →
+        Rose (F.write_faults folder.old) (F.write_faults folder.new) ⊎ Rose (K.faults out.old) (K.faults out.new) }
+    ensures left { (files : Files) → F.told folder.old ≡ Some files →
+        LeavesStored (string_bytes generated.now.file) generated.now.text.items files (F.told folder.new) }
+{
     match folder.store(&generated.file, &generated.text) {
         Ok(()) => told(0, &generated.line, out),
         Err(StoreFault::Failed) => Status(4),
