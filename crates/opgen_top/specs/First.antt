@@ -1,5 +1,5 @@
 -- Which documents the first reader takes, and what it reads of them.
-use Rattle.std.specs.Prelude.{◌≡◌, ℕ, ◌==◌, ◌^◌, ◌&&◌, ◌≤◌, ℤ, pos, negsuc, Bool, true, false, not, IsTrue, List, [], ◌∷◌, length, codes, Option, Some, None, IsSomeAnd, option_and_then, if◌then◌else◌, nat_le, Result, Ok, Err}
+use Rattle.std.specs.Prelude.{◌≡◌, ℕ, ◌==◌, ◌^◌, ◌&&◌, ◌≤◌, ℤ, pos, negsuc, Bool, true, false, not, IsTrue, List, [], ◌∷◌, length, codes, Option, Some, None, IsSomeAnd, option_and_then, if◌then◌else◌, nat_le, string_bytes, Result, Ok, Err}
 use Rattle.std.specs.List.{list_any}
 use Rattle.std.specs.Option.{option_map_or}
 use Rattle.std.specs.Str.{bytes_eq}
@@ -7,6 +7,7 @@ use Rattle.std.specs.Str.Lossy.{utf8_valid_len}
 use Rattle.toml.specs.Data.{Data, string, integer, boolean, array, Items, no_items, item, Members, no_members, member, get_member, as_integer, as_str, as_bool, as_array}
 use Rattle.toml.specs.Parse.{parse_document}
 use Rattle.opgen_top.specs.SpecName.{is_spec_name}
+use Rattle.opgen_top.specs.declared.first.First.{First}
 use Rattle.opgen_top.specs.declared.first.FirstFault.{FirstFault}
 use Rattle.opgen_top.specs.declared.first.FirstFault.TheVariants.{NotToml, Unsupported, Memory}
 
@@ -72,6 +73,7 @@ known_keys =
 abbrev pub is_known : List ℕ → Bool
 is_known key = list_any (λ known. bytes_eq known key) known_keys
 
+-- no key but the eleven
 abbrev pub has_known_keys : Members → Bool
 has_known_keys no_members = true
 has_known_keys (member key _ ms) = is_known key && has_known_keys ms
@@ -84,7 +86,8 @@ has_fixed_values ms =
     && has_text (codes "target") (codes "plain") ms
     && has_whole (codes "lsb") 0 ms && has_whole (codes "out_lsb") 0 ms
 
--- A simple document has the eleven keys above and no other. Seven have the values above, and of the others each is in its range.
+-- The fields of a simple document, and none of another: all eleven keys are known, seven have their one value, and
+-- each of the other four is in its range. What a simple document is, key by key, says IsSimple below.
 unfoldable pub simple : Members → Option Fields
 simple ms = if has_known_keys ms && has_fixed_values ms then (do
   name ← text_at (codes "name") ms >>= spec_name
@@ -98,7 +101,7 @@ abbrev pub IsWholeWithin : ℕ → ℕ → Option Data → Type 0
 IsWholeWithin low high (Some (integer (pos n))) = (low ≤ n) × (n ≤ high)
 IsWholeWithin low high _ = ⊥
 
--- A simple document: the eleven keys, no other, each with what stands here, and the fields that it has.
+-- A simple document with its fields: no key but the eleven, and at each of them what stands here.
 pub record IsSimple (ms : Members) (fields : Fields) : Type 0 where
   pub keys : IsTrue (has_known_keys ms)
   pub version : get_member (codes "version") ms ≡ Some (integer (pos 1))
@@ -116,7 +119,7 @@ pub record IsSimple (ms : Members) (fields : Fields) : Type 0 where
   pub width_range : (1 ≤ fields.width) × (fields.width ≤ 6)
   pub factor_range : (1 ≤ fields.factor) × (fields.factor ≤ 2 ^ 30)
 
--- the tree of the bytes: none where they are not UTF-8, or no document
+-- the tree of the bytes (TOML 1.1): none where they are not UTF-8, or no document
 abbrev pub tree : List ℕ → Option Members
 tree bytes = if utf8_valid_len bytes == length bytes then parse_document bytes else None
 
@@ -133,15 +136,15 @@ read (Some ms) = or_unsupported (simple ms)
 abbrev pub IsSimpleDocument : List ℕ → Fields → Type 0
 IsSimpleDocument bytes fields = IsSomeAnd (tree bytes) (λ ms. IsSimple ms fields)
 
--- What was returned, its fields seen by view, is what reading gives, unless memory ran out.
-abbrev pub IsFaultOf : Result Fields FirstFault → FirstFault → Type 0
-IsFaultOf read Memory = Unit {0}
-IsFaultOf read NotToml = read ≡ Err NotToml
-IsFaultOf read Unsupported = read ≡ Err Unsupported
+abbrev pub fields_of : First → Fields
+fields_of first = record { name = string_bytes first.name; width = first.width; factor = first.factor }
 
-abbrev pub Gives : {X : Type 0} → (X → Fields) → Result X FirstFault → Result Fields FirstFault → Type 0
-Gives view (Ok x) read = read ≡ Ok (view x)
-Gives view (Err fault) read = IsFaultOf read fault
+-- What was returned is what reading gives, unless memory ran out.
+abbrev pub Gives : Result First FirstFault → Result Fields FirstFault → Type 0
+Gives (Ok first) read = read ≡ Ok (fields_of first)
+Gives (Err NotToml) read = read ≡ Err NotToml
+Gives (Err Unsupported) read = read ≡ Err Unsupported
+Gives (Err Memory) read = Unit {0}
 
 -- why there is no table: memory ran out, or the bytes have no tree
 abbrev pub IsNoTree : Option Members → FirstFault → Type 0

@@ -182,7 +182,8 @@ fn spec_name(name: &str) -> Option<&str>
 // The name, the width and the factor of a simple document.
 #[tactic(auto, unfolding(crate::specs::First::simple))]
 fn simple(table: &Table) -> Option<(&str, u64, u64)>
-    ensures value { option_map (λ p. record { name = p.0.now; width = p.1; factor = p.2 }) result ≡ simple (table_view table.now) }
+    ensures value { option_map (λ p. record { name = p.0.now; width = p.1; factor = p.2 }) result
+        ≡ simple (table_view table.now) }
     ensures allowed { IfSome result (λ p. IsTrue (is_allowed_name p.0.now)) }
     ensures length { IfSome result (λ p. (1 ≤ length p.0.now) × (length p.0.now ≤ 32)) }
     ensures width { IfSome result (λ p. (1 ≤ p.1) × (p.1 ≤ 6)) }
@@ -199,7 +200,8 @@ fn simple(table: &Table) -> Option<(&str, u64, u64)>
 }
 
 fn document(alloc: Global, bytes: &[u8]) -> Result<Table, FirstFault>
-    ensures { MatchResult result (λ table. tree bytes.now ≡ Some (table_view table)) (IsNoTree (tree bytes.now)) }
+    ensures { MatchResult result (λ table. tree bytes.now ≡ Some (table_view table))
+        (IsNoTree (tree bytes.now)) }
 {
     let Ok(text) = std::str::from_utf8(bytes) else {
         return Err(FirstFault::NotToml);
@@ -211,10 +213,18 @@ fn document(alloc: Global, bytes: &[u8]) -> Result<Table, FirstFault>
     }
 }
 
-/// Reads the bytes of a simple specification.
+/// Reads the bytes of a simple specification, a TOML document.
+///
+/// Answers `NotToml` where the bytes are no text in UTF-8 or no document, and `Unsupported` where
+/// the document is not simple.
 pub fn read_first(alloc: Global, bytes: &[u8]) -> Result<First, FirstFault>
-    ensures gives { Gives (λ f. record { name = string_bytes f.name; width = f.width; factor = f.factor }) result (read (tree bytes.now)) }
-    ensures simple { (fields : Fields) → (read (tree bytes.now) ≡ Ok fields) ↔ IsSimpleDocument bytes.now fields }
+    ensures gives { Gives result (read (tree bytes.now)) }
+
+    // Reading gives fields just where the bytes are a simple document that has them.
+    ensures simple { (fields : Fields)
+        → (read (tree bytes.now) ≡ Ok fields) ↔ IsSimpleDocument bytes.now fields }
+
+    // What ports and signals of its design rest on.
     ensures allowed { IfOk result (λ f. IsTrue (is_allowed_name (string_bytes f.name))) }
     ensures length { IfOk result (λ f. (1 ≤ string_len f.name) × (string_len f.name ≤ 32)) }
     ensures width { IfOk result (λ f. (1 ≤ f.width) × (f.width ≤ 6)) }
