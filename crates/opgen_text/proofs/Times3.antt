@@ -1,15 +1,12 @@
 -- The text of a design that multiplies by three, checked against the whole text as it is printed.
-use Rattle.std.specs.Prelude.{ℕ, ◌≡◌, ◌*◌, Bool, List, [], ◌∷◌, ◌++◌, codes, Some, None, refl}
+use Rattle.std.specs.Prelude.{ℕ, ◌≡◌, ◌*◌, Bool, List, [], ◌∷◌, ◌++◌, codes, None, refl}
 use Rattle.std.proofs.Common.{lit<}
 use Rattle.std.proofs.lemmas.Fmt.{decimal_digit}
 use Rattle.opgen_num.specs.Words.{word}
 use Rattle.opgen_net.specs.declared.design.Design.{Design}
 use Rattle.opgen_net.specs.declared.design.Dir.TheVariants.{In, Out}
-use Rattle.opgen_net.specs.declared.design.Port.{Port}
-use Rattle.opgen_net.specs.declared.design.Signal.{Signal}
-use Rattle.opgen_net.specs.declared.design.Driver.{Driver}
 use Rattle.opgen_net.specs.declared.design.Driver.TheVariants.{Assign, Table, Output}
-use Rattle.opgen_net.specs.Tree.{Tree, name, port}
+use Rattle.opgen_net.specs.Tree.{name, port}
 use Rattle.opgen_text.specs.ExpressionText.{word_text, range_text}
 use Rattle.opgen_text.specs.DesignText.{port_text, entity_text, signal_text, row_text, other_text, driver_text, drivers_text, process_text, architecture_text, text_of}
 
@@ -21,12 +18,12 @@ times3 = record {
   name = codes "times3";
   ports = record { name = codes "x"; dir = In; width = 4 } ∷ record { name = codes "y"; dir = Out; width = 6 } ∷ [];
   signals =
-    record { name = codes "s0"; width = 4; initial = None }
-    ∷ record { name = codes "s1"; width = 6; initial = None } ∷ [];
+      record { name = codes "s0"; width = 4; initial = None }
+      ∷ record { name = codes "s1"; width = 6; initial = None } ∷ [];
   drivers =
-    Assign 0 (port 0)
-    ∷ Table 1 (name 0) (row 0 ∷ row 1 ∷ row 2 ∷ row 3 ∷ row 4 ∷ row 5 ∷ row 6 ∷ row 7 ∷ row 8 ∷ row 9 ∷ row 10 ∷ row 11 ∷ row 12 ∷ row 13 ∷ row 14 ∷ []) (word 6 45)
-    ∷ Output 1 (name 1) ∷ [];
+      Assign 0 (port 0)
+      ∷ Table 1 (name 0) (row 0 ∷ row 1 ∷ row 2 ∷ row 3 ∷ row 4 ∷ row 5 ∷ row 6 ∷ row 7 ∷ row 8 ∷ row 9 ∷ row 10 ∷ row 11 ∷ row 12 ∷ row 13 ∷ row 14 ∷ []) (word 6 45)
+      ∷ Output 1 (name 1) ∷ [];
 }
 
 pub times3-text : text_of times3 ≡

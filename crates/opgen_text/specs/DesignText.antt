@@ -1,5 +1,6 @@
 -- The text of a design in the VHDL subset, as bytes: an entity and its architecture `rtl` (IEEE 1076-1993, 1.1 and 1.2).
-use Rattle.std.specs.Prelude.{ℕ, ◌-◌, Bool, true, false, ◌&&◌, not, if◌then◌else◌, List, [], ◌++◌, filter, codes, decimal, Option, Some, None}
+-- Two spaces of indent a level, and a line feed after each line. Most parts are unfoldable: a proof opens the ones that it needs.
+use Rattle.std.specs.Prelude.{ℕ, ◌-◌, Bool, true, false, ◌&&◌, not, if◌then◌else◌, List, [], ◌++◌, filter, codes, Option, Some, None}
 use Rattle.std.specs.List.{flat_map, list_any}
 use Rattle.opgen_net.specs.declared.design.Design.{Design}
 use Rattle.opgen_net.specs.declared.design.Dir.{Dir}
@@ -40,7 +41,7 @@ row_text r = codes "    " ++ word_text r.1 ++ codes " when " ++ word_text r.0 ++
 unfoldable pub other_text : List Bool → List ℕ
 other_text w = codes "    " ++ word_text w ++ codes " when others;\n"
 
--- the statement of a driver; that of a register stands in the process
+-- the statement of a driver: an assignment (9.5), a conditional one (9.5.1) or a selected one (9.5.2); that of a register stands in the process (9.2)
 unfoldable pub driver_text : Design → Driver → List ℕ
 driver_text d (Assign to e) = codes "  " ++ signal_name d to ++ codes " <= " ++ expression_text d e ++ codes ";\n"
 driver_text d (Choice to on one other) =
@@ -75,5 +76,6 @@ architecture_text d =
     codes "architecture rtl of " ++ d.name ++ codes " is\n" ++ flat_map signal_text d.signals ++ codes "begin\n"
     ++ drivers_text d is_neither ++ process_text d ++ drivers_text d is_output ++ codes "end architecture;\n"
 
+-- the whole text: two use lines and the entity, then the architecture
 abbrev pub text_of : Design → List ℕ
 text_of d = entity_text d ++ architecture_text d

@@ -1,4 +1,5 @@
--- The text of an expression in the VHDL subset, as bytes (IEEE 1076-1993, 7.1).
+-- The text of an expression in the VHDL subset, as bytes (IEEE 1076-1993, 7.1 to 7.3).
+-- Words and ranges are unfoldable: a proof opens the ones that it needs.
 use Rattle.std.specs.Prelude.{ℕ, zero, suc, Bool, true, false, List, [], ◌∷◌, ◌++◌, codes, decimal, slice_get, unwrap_or, option_map}
 use Rattle.opgen_net.specs.declared.design.Design.{Design}
 use Rattle.opgen_net.specs.declared.expr.Op.{Op}
@@ -22,7 +23,7 @@ abbrev pub bits_text : List Bool → List ℕ
 bits_text [] = []
 bits_text (b ∷ w) = bits_text w ++ bit_text b
 
--- a word as a bit string
+-- a word as a bit string (13.7)
 unfoldable pub word_text : List Bool → List ℕ
 word_text w = codes "\"" ++ bits_text w ++ codes "\""
 
@@ -44,6 +45,7 @@ within zero text = text
 within (suc n) text = codes "(" ++ within n text ++ codes ")"
 
 abbrev mutual
+  -- an operand stands within one pair of parentheses or none: those that `nesting` counts, and no others
   pub expression_text : Design → Tree → List ℕ
   expression_text d (name n) = signal_name d n
   expression_text d (part n high low) = signal_name d n ++ range_text high low

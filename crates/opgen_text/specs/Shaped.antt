@@ -1,9 +1,9 @@
 -- Designs whose text is one of the VHDL subset.
-use Rattle.std.specs.Prelude.{ℕ, ◌≡◌, ◌≤◌, List, [], ◌++◌, length, filter, All, IsTrue}
+use Rattle.std.specs.Prelude.{◌≡◌, ◌≤◌, ◌++◌, length, filter, All, IsTrue}
 use Rattle.opgen_net.specs.declared.design.Design.{Design}
 use Rattle.opgen_net.specs.declared.design.Driver.{Driver}
 use Rattle.opgen_net.specs.declared.design.Driver.TheVariants.{Assign, Choice, Table, Register, Output}
-use Rattle.opgen_net.specs.Tree.{Tree, Trees, name, part, bits, port, inverse, chain, none, more}
+use Rattle.opgen_net.specs.Tree.{Tree, Trees, name, part, inverse, chain, none, more}
 use Rattle.opgen_net.specs.Width.{nesting, max_nesting}
 use Rattle.opgen_net.specs.Sound.{IsSound}
 use Rattle.opgen_net.specs.Made.{is_register}
@@ -53,7 +53,7 @@ pub record HasAllowedNames (d : Design) : Type 0 where
   pub ports : All (λ p. IsTrue (is_allowed_name p.name)) d.ports
   pub signals : All (λ s. IsTrue (is_allowed_name s.name)) d.signals
 
--- the designs whose text is VHDL
+-- the designs that are to be written: sound, under allowed names, with a port
 pub record IsWritable (d : Design) : Type 0 where
   pub sound : IsSound d
   pub names : HasAllowedNames d

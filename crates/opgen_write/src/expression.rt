@@ -106,11 +106,7 @@ pub(crate) fn put_expression(
 
 // The operand of `not`.
 #[cycle(expression)]
-fn put_after_not(
-    out: &mut String,
-    design: &Design,
-    operand: &Expr,
-) -> Result<(), AllocError>
+fn put_after_not(out: &mut String, design: &Design, operand: &Expr) -> Result<(), AllocError>
     ensures { OnOk result (string_bytes out.new ≡ string_bytes out.old ++ within (in_not (plain operand.now)) (expression_text design.now (plain operand.now))) }
 {
     match operand {
@@ -125,11 +121,7 @@ fn put_after_not(
 
 // An operand of a chain.
 #[cycle(expression)]
-fn put_operand(
-    out: &mut String,
-    design: &Design,
-    operand: &Expr,
-) -> Result<(), AllocError>
+fn put_operand(out: &mut String, design: &Design, operand: &Expr) -> Result<(), AllocError>
     ensures { OnOk result (string_bytes out.new ≡ string_bytes out.old ++ within (in_chain (plain operand.now)) (expression_text design.now (plain operand.now))) }
 {
     match operand {
@@ -143,12 +135,7 @@ fn put_operand(
 }
 
 #[cycle(expression)]
-fn put_chain(
-    out: &mut String,
-    design: &Design,
-    op: Op,
-    operands: &[Expr],
-) -> Result<(), AllocError>
+fn put_chain(out: &mut String, design: &Design, op: Op, operands: &[Expr]) -> Result<(), AllocError>
     ensures { OnOk result (string_bytes out.new ≡ string_bytes out.old ++ chain_text design.now op (plain_all operands.now)) }
 {
     match operands {

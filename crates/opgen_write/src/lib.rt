@@ -6,6 +6,8 @@ mod entity;
 mod expression;
 mod sink;
 mod statement;
+#[cfg(test)]
+mod tests;
 mod write;
 
 pub use sink::VecSink;

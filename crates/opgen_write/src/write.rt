@@ -32,11 +32,7 @@ pub fn text(alloc: Global, design: &Design) -> Result<Vec<u8>, Memory>
 }
 
 /// Writes a design: its text is made whole and then put in one call.
-pub fn write_design<K: Sink>(
-    alloc: Global,
-    design: &Design,
-    out: &mut K,
-) -> Result<(), WriteFault>
+pub fn write_design<K: Sink>(alloc: Global, design: &Design, out: &mut K) -> Result<(), WriteFault>
     ensures tells { is_some (K.taken out.new) ≡ is_some (K.taken out.old) }
     ensures faults_kept { K.faults out.old ≤ K.faults out.new }
     ensures ok { (held : List ℕ) → K.taken out.old ≡ Some held →

@@ -1,0 +1,256 @@
+use super::*;
+use opgen_io::MemorySink;
+use opgen_list::{Items, Text};
+use opgen_net::{Design, Dir, Driver, Expr, Formula, Op, Port, Signal, Slice};
+use opgen_num::Word;
+use std::alloc::{AllocError, Global};
+use std::test::Fail;
+
+const TIMES3: &str = r#"library ieee;
+use ieee.std_logic_1164.all;
+use ieee.numeric_std.all;
+
+entity times3 is
+  port (
+    clk : in std_logic;
+    x : in std_logic_vector(3 downto 0);
+    y : out std_logic_vector(5 downto 0)
+  );
+end entity;
+
+architecture rtl of times3 is
+  signal s0 : unsigned(3 downto 0);
+  signal s1 : unsigned(5 downto 0);
+begin
+  s0 <= unsigned(x);
+  with s0 select s1 <=
+    "000000" when "0000",
+    "000011" when "0001",
+    "000110" when "0010",
+    "001001" when "0011",
+    "001100" when "0100",
+    "001111" when "0101",
+    "010010" when "0110",
+    "010101" when "0111",
+    "011000" when "1000",
+    "011011" when "1001",
+    "011110" when "1010",
+    "100001" when "1011",
+    "100100" when "1100",
+    "100111" when "1101",
+    "101010" when "1110",
+    "101101" when others;
+  y <= std_logic_vector(s1);
+end architecture;
+"#;
+
+const MIXED: &str = r#"library ieee;
+use ieee.std_logic_1164.all;
+use ieee.numeric_std.all;
+
+entity mixed is
+  port (
+    clk : in std_logic;
+    a : in std_logic_vector(3 downto 0);
+    b : in std_logic_vector(0 downto 0);
+    y : out std_logic_vector(3 downto 0);
+    z : out std_logic_vector(0 downto 0)
+  );
+end entity;
+
+architecture rtl of mixed is
+  signal s0 : unsigned(3 downto 0);
+  signal s1 : unsigned(0 downto 0);
+  signal s2 : unsigned(3 downto 0);
+  signal s3 : unsigned(3 downto 0) := "0101";
+  signal s4 : unsigned(0 downto 0) := "1";
+  signal s5 : unsigned(3 downto 0);
+  signal s6 : unsigned(3 downto 0);
+begin
+  s0 <= unsigned(a);
+  s1 <= unsigned(b);
+  s2 <= s0 when s4 = "1" else s0(2 downto 0) & "0";
+  s5 <= not (s0 and (s2 or not (not s3)));
+  s6 <= (s0 + s2) - (s3 xor s5);
+  process (clk)
+  begin
+    if rising_edge(clk) then
+      s3 <= s2;
+      s4 <= not s1;
+    end if;
+  end process;
+  y <= std_logic_vector(s5);
+  z <= std_logic_vector(s6(0 downto 0));
+end architecture;
+"#;
+
+fn port(alloc: Global, name: &str, dir: Dir, width: u32) -> Result<Port, AllocError> {
+    let name = Text::from_str(alloc, name)?;
+    Ok(Port { name, dir, width })
+}
+
+fn signal(
+    alloc: Global,
+    name: &str,
+    width: u32,
+    initial: Option<Word>,
+) -> Result<Signal, AllocError> {
+    let name = Text::from_str(alloc, name)?;
+    Ok(Signal {
+        name,
+        width,
+        initial,
+    })
+}
+
+fn assign(to: usize, expr: Expr) -> Driver {
+    let expr = Formula::new(expr);
+    Driver::Assign { to, expr }
+}
+
+fn output(port: usize, expr: Expr) -> Driver {
+    let expr = Formula::new(expr);
+    Driver::Output { port, expr }
+}
+
+fn not(alloc: Global, operand: Expr) -> Result<Expr, AllocError> {
+    Ok(Expr::Not(Box::new(alloc, operand)?))
+}
+
+fn pair(alloc: Global, op: Op, left: Expr, right: Expr) -> Result<Expr, AllocError> {
+    Ok(Expr::Chain(op, vec![in alloc; left, right]?))
+}
+
+fn part(node: usize, high: u32, low: u32) -> Expr {
+    Expr::Part(Slice { node, high, low })
+}
+
+// The first fifteen rows of a table of the triples of 4 bits.
+fn triples(alloc: Global) -> Result<Vec<(Word, Word)>, AllocError> {
+    let mut rows = Vec::new(alloc);
+    for x in 0..15u8 {
+        rows.push((Word::new(x.into(), 4), Word::new((3 * x).into(), 6)))?;
+    }
+    Ok(rows)
+}
+
+fn times3(alloc: Global) -> Result<Design, AllocError> {
+    let x = port(alloc, "x", Dir::In, 4)?;
+    let y = port(alloc, "y", Dir::Out, 6)?;
+    let s0 = signal(alloc, "s0", 4, None)?;
+    let s1 = signal(alloc, "s1", 6, None)?;
+    let table = Driver::Table {
+        to: 1,
+        on: Formula::new(Expr::Name(0)),
+        rows: Items::from_vec(triples(alloc)?),
+        other: Word::new(45, 6),
+    };
+    let drivers = vec![in alloc; assign(0, Expr::Port(0)), table, output(1, Expr::Name(1))]?;
+    Ok(Design {
+        name: Text::from_str(alloc, "times3")?,
+        ports: Items::from_vec(vec![in alloc; x, y]?),
+        signals: Items::from_vec(vec![in alloc; s0, s1]?),
+        drivers: Items::from_vec(drivers),
+    })
+}
+
+fn mixed_signals(alloc: Global) -> Result<Vec<Signal>, AllocError> {
+    let mut signals = Vec::new(alloc);
+    signals.push(signal(alloc, "s0", 4, None)?)?;
+    signals.push(signal(alloc, "s1", 1, None)?)?;
+    signals.push(signal(alloc, "s2", 4, None)?)?;
+    signals.push(signal(alloc, "s3", 4, Some(Word::new(5, 4)))?)?;
+    signals.push(signal(alloc, "s4", 1, Some(Word::new(1, 1)))?)?;
+    signals.push(signal(alloc, "s5", 4, None)?)?;
+    signals.push(signal(alloc, "s6", 4, None)?)?;
+    Ok(signals)
+}
+
+fn mixed_choice(alloc: Global) -> Result<Driver, AllocError> {
+    let doubled = pair(alloc, Op::Cat, part(0, 2, 0), Expr::Bits(Word::new(0, 1)))?;
+    Ok(Driver::Choice {
+        to: 2,
+        on: Formula::new(Expr::Name(4)),
+        yes: Formula::new(Expr::Name(0)),
+        no: Formula::new(doubled),
+    })
+}
+
+fn nested(alloc: Global) -> Result<Expr, AllocError> {
+    let twice = not(alloc, not(alloc, Expr::Name(3))?)?;
+    let inner = pair(alloc, Op::Or, Expr::Name(2), twice)?;
+    not(alloc, pair(alloc, Op::And, Expr::Name(0), inner)?)
+}
+
+fn difference(alloc: Global) -> Result<Expr, AllocError> {
+    let sum = pair(alloc, Op::Plus, Expr::Name(0), Expr::Name(2))?;
+    let mix = pair(alloc, Op::Xor, Expr::Name(3), Expr::Name(5))?;
+    pair(alloc, Op::Minus, sum, mix)
+}
+
+// Outputs and registers stand before other drivers, which the text does not keep.
+fn mixed_drivers(alloc: Global) -> Result<Vec<Driver>, AllocError> {
+    let mut drivers = Vec::new(alloc);
+    drivers.push(output(2, Expr::Name(5)))?;
+    drivers.push(Driver::Register {
+        to: 3,
+        expr: Formula::new(Expr::Name(2)),
+    })?;
+    drivers.push(assign(0, Expr::Port(0)))?;
+    drivers.push(assign(1, Expr::Port(1)))?;
+    drivers.push(mixed_choice(alloc)?)?;
+    drivers.push(Driver::Register {
+        to: 4,
+        expr: Formula::new(not(alloc, Expr::Name(1))?),
+    })?;
+    drivers.push(assign(5, nested(alloc)?))?;
+    drivers.push(output(3, part(6, 0, 0)))?;
+    drivers.push(assign(6, difference(alloc)?))?;
+    Ok(drivers)
+}
+
+fn mixed(alloc: Global) -> Result<Design, AllocError> {
+    let a = port(alloc, "a", Dir::In, 4)?;
+    let b = port(alloc, "b", Dir::In, 1)?;
+    let y = port(alloc, "y", Dir::Out, 4)?;
+    let z = port(alloc, "z", Dir::Out, 1)?;
+    Ok(Design {
+        name: Text::from_str(alloc, "mixed")?,
+        ports: Items::from_vec(vec![in alloc; a, b, y, z]?),
+        signals: Items::from_vec(mixed_signals(alloc)?),
+        drivers: Items::from_vec(mixed_drivers(alloc)?),
+    })
+}
+
+#[test]
+fn writes_a_table(rt: HostRuntime) -> Result<(), Fail> {
+    let design = times3(rt.alloc())?;
+    let mut sink = VecSink::new(rt.alloc());
+    write_design(rt.alloc(), &design, &mut sink)?;
+    let bytes = sink.into_bytes();
+    assert_eq!(rt; str::from_utf8(&bytes)?, TIMES3);
+    assert!(rt; text(rt.alloc(), &design)? == bytes);
+    Ok(())
+}
+
+#[test]
+fn writes_each_kind_of_driver(rt: HostRuntime) -> Result<(), Fail> {
+    let design = mixed(rt.alloc())?;
+    let mut sink = VecSink::new(rt.alloc());
+    write_design(rt.alloc(), &design, &mut sink)?;
+    let bytes = sink.into_bytes();
+    assert_eq!(rt; str::from_utf8(&bytes)?, MIXED);
+    Ok(())
+}
+
+#[test]
+fn tells_of_a_sink_that_fails(rt: HostRuntime) -> Result<(), Fail> {
+    let design = times3(rt.alloc())?;
+    let mut sink = MemorySink::new(rt.alloc(), vec![in rt.alloc(); 0]?);
+    let written = write_design(rt.alloc(), &design, &mut sink);
+    assert_eq!(rt; written, Err(WriteFault::Failed));
+    assert!(rt; sink.bytes().is_empty());
+    write_design(rt.alloc(), &design, &mut sink)?;
+    assert_eq!(rt; sink.bytes(), TIMES3.as_bytes());
+    Ok(())
+}
