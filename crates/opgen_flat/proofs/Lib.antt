@@ -5,3 +5,8 @@ pub mod Parts
 pub mod TableWords
 pub mod PortWords
 pub mod Follows
+pub mod Origins
+pub mod SoundWidths
+pub mod SoundDrivers
+pub mod SoundNames
+pub mod Soundness

@@ -1,2 +1,3 @@
 pub mod Combinational
 pub mod Following
+pub mod Soundness

@@ -13,7 +13,7 @@ mod ports;
 mod signals;
 mod widths;
 
-pub use laws::run_follows_flow;
+pub use laws::{design_is_sound, run_follows_flow};
 use opgen_list::Text;
 use opgen_net::{Design, Net};
 use opgen_num::Memory;
