@@ -14,7 +14,7 @@ mod ports;
 mod signals;
 mod widths;
 
-pub use laws::{design_is_sound, run_follows_flow};
+pub use laws::{design_is_sound, design_runs, run_follows_flow};
 use opgen_list::Text;
 use opgen_net::{Design, Net};
 use opgen_num::Memory;
