@@ -1,3 +1,5 @@
+pub mod Appending
+mod Underscores
 pub mod ValueLaws
 pub mod WidthLaws
 pub mod FlowLaws

@@ -6,6 +6,7 @@ mod copy;
 mod design;
 mod expr;
 mod formula;
+pub mod names;
 mod net;
 mod node;
 

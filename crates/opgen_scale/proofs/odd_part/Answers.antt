@@ -1,5 +1,5 @@
 use Rattle.std.proofs.Common.{◌≡◌, ℕ, ◌%◌, ◌≤◌, ◌*◌, ◌^◌, ◌∙◌, arith}
-use Rattle.opgen_scale.proofs.Powers.{exponent_below, pow_within, half_product}
+use Rattle.opgen_scale.proofs.Powers.{exponent_below, pow_within, half_product, factor_within}
 use Rattle.opgen_scale.proofs.odd_part.Goals as goal
 
 few : (odd zeros number : ℕ) → odd * 2 ^ zeros ≡ number → 1 ≤ odd → number ≤ 2 ^ 30 → zeros ≤ 30
@@ -17,3 +17,6 @@ halves-preserved c =
 
 pub returns-clause-few : goal.returns-clause-few
 returns-clause-few c = few _ _ _ c.halves.invariant.product c.halves.invariant.positive c.requires.small
+
+pub returns-clause-small : goal.returns-clause-small
+returns-clause-small c = factor_within _ _ _ c.halves.invariant.product

@@ -1,0 +1,103 @@
+//! The files of the working directory.
+ghost use Rattle.std.specs.Prelude.{◌≡◌, ◌≤◌, None, IfOk, vec_len};
+
+use crate::counts::raise;
+use crate::whole::{read_within, write_whole};
+use crate::{FetchFault, Folder, StoreFault};
+use std::alloc::Global;
+use std::fs::File;
+use std::io;
+use std::marker::Model;
+use std::rt::Files;
+
+/// The files of the working directory, each under its path. What they hold is not told, and each failure raises a count. A missing file counts as a read fault.
+#[derive(Drop)]
+pub struct DiskFolder<'a, R> {
+    rt: &'a R,
+    read_faults: u64,
+    longs: u64,
+    write_faults: u64,
+}
+
+impl<'a, R> Model for DiskFolder<'a, R> {
+    ghost use Rattle.opgen_io.specs.Disk.{DiskCounts};
+
+    ghost Value = { DiskCounts };
+
+    ghost view = { λ s. record {
+      read_faults = s.read_faults;
+      longs = s.longs;
+      write_faults = s.write_faults;
+    } };
+}
+
+impl<'a, R: Files> DiskFolder<'a, R> {
+    /// The folder before any call.
+    pub fn new(rt: &'a R) -> DiskFolder<'a, R>
+        ensures { result ≡ record { read_faults = 0; longs = 0; write_faults = 0 } }
+    {
+        DiskFolder {
+            rt,
+            read_faults: 0,
+            longs: 0,
+            write_faults: 0,
+        }
+    }
+}
+
+// The bytes of the file, of which one more than `most` are read to find that there are more.
+fn read_file<R: Files>(
+    rt: &R,
+    alloc: Global,
+    name: &str,
+    most: usize,
+) -> Result<Vec<u8>, FetchFault>
+    ensures at_most { IfOk result (λ bytes. vec_len bytes ≤ most) }
+{
+    let Ok(mut file) = File::open(rt, name) else {
+        return Err(FetchFault::Failed);
+    };
+    let bytes = read_within(alloc, &mut file, most.saturating_add(1))?;
+    if bytes.len() > most {
+        return Err(FetchFault::TooLong);
+    }
+    Ok(bytes)
+}
+
+// Makes the file, or makes it anew, with these bytes.
+fn write_file<R: Files>(rt: &R, name: &str, bytes: &[u8]) -> io::Result<()> {
+    let mut file = File::create(rt, name)?;
+    write_whole(&mut file, bytes)
+}
+
+impl<'a, R: Files> Folder for DiskFolder<'a, R> {
+    ghost told = { λ _. None };
+
+    ghost read_faults = { λ s. s.read_faults };
+
+    ghost lacks = { λ _. 0 };
+
+    ghost longs = { λ s. s.longs };
+
+    ghost write_faults = { λ s. s.write_faults };
+
+    fn fetch(&mut self, alloc: Global, name: &str, most: usize) -> Result<Vec<u8>, FetchFault> {
+        let answer = read_file(self.rt, alloc, name, most);
+        match &answer {
+            Err(FetchFault::Failed) => raise(&mut self.read_faults),
+            Err(FetchFault::TooLong) => raise(&mut self.longs),
+            Ok(_) | Err(FetchFault::Memory) => {}
+        }
+        answer
+    }
+
+    fn store(&mut self, name: &str, bytes: &[u8]) -> Result<(), StoreFault> {
+        match write_file(self.rt, name, bytes) {
+            Ok(()) => Ok(()),
+            Err(_) => {
+                raise(&mut self.write_faults);
+                Err(StoreFault::Failed)
+            }
+        }
+    }
+}

@@ -1,0 +1,36 @@
+//! Where bytes are put one after another.
+ghost use Rattle.std.specs.Prelude.{◌≡◌, ℕ, ◌≤◌, List, ◌++◌, Option, Some, is_some, OnOk};
+ghost use Rattle.opgen_io.specs.Bytes.{TakesPrefix};
+ghost use Rattle.opgen_io.specs.Counts.{Rose};
+
+use thiserror::Error;
+
+/// Why bytes were not put.
+#[derive(Clone, Copy, Debug, PartialEq, Eq, Error)]
+pub enum PutFault {
+    #[error("the output could not be written")]
+    Failed,
+    #[error("out of memory")]
+    Memory,
+}
+
+/// Takes bytes, each put after those before it.
+pub trait Sink {
+    // All bytes that were taken, where the sink tells them.
+    ghost taken: { Self → Option (List ℕ) };
+
+    // How many puts have failed.
+    ghost faults: { Self → ℕ };
+
+    /// Takes all the bytes. After `Failed` it may have taken the first of them.
+    fn put(&mut self, bytes: &[u8]) -> Result<(), PutFault>
+        ensures tells { is_some (taken self.new) ≡ is_some (taken self.old) }
+        ensures faults_kept { faults self.old ≤ faults self.new }
+
+        ensures ok { (held : List ℕ) → taken self.old ≡ Some held →
+            OnOk result (taken self.new ≡ Some (held ++ bytes.now)) }
+        ensures failed_counted { result ≡ Err PutFault.Failed → Rose (faults self.old) (faults self.new) }
+        ensures failed_prefix { result ≡ Err PutFault.Failed →
+            TakesPrefix (taken self.old) bytes.now (taken self.new) }
+        ensures memory { result ≡ Err PutFault.Memory → taken self.new ≡ taken self.old };
+}

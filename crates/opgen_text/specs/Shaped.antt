@@ -1,0 +1,60 @@
+-- Designs whose text is one of the VHDL subset.
+use Rattle.std.specs.Prelude.{ℕ, ◌≡◌, ◌≤◌, List, [], ◌++◌, length, filter, All, IsTrue}
+use Rattle.opgen_net.specs.declared.design.Design.{Design}
+use Rattle.opgen_net.specs.declared.design.Driver.{Driver}
+use Rattle.opgen_net.specs.declared.design.Driver.TheVariants.{Assign, Choice, Table, Register, Output}
+use Rattle.opgen_net.specs.Tree.{Tree, Trees, name, part, bits, port, inverse, chain, none, more}
+use Rattle.opgen_net.specs.Width.{nesting, max_nesting}
+use Rattle.opgen_net.specs.Sound.{IsSound}
+use Rattle.opgen_net.specs.Made.{is_register}
+use Rattle.opgen_net.specs.Names.{is_allowed_name}
+use Rattle.opgen_text.specs.DesignText.{is_neither, is_output}
+
+-- a signal, or a part of one
+abbrev pub IsPart : Tree → Type 0
+IsPart (name n) = Unit {0}
+IsPart (part n high low) = Unit {0}
+IsPart _ = ⊥
+
+abbrev pub AreTwoOrMore : Trees → Type 0
+AreTwoOrMore (more t (more u ts)) = Unit {0}
+AreTwoOrMore _ = ⊥
+
+abbrev mutual
+  -- each chain in an expression has two operands or more
+  pub HasFullChains : Tree → Type 0
+  HasFullChains (inverse t) = HasFullChains t
+  HasFullChains (chain op ts) = AreTwoOrMore ts × HaveFullChains ts
+  HasFullChains _ = Unit {0}
+
+  pub HaveFullChains : Trees → Type 0
+  HaveFullChains none = Unit {0}
+  HaveFullChains (more t ts) = HasFullChains t × HaveFullChains ts
+
+-- the text of an expression has the subset's form: each operand of `not` and of a chain is one, and parentheses nest at most so deep
+pub record IsShapedExpression (e : Tree) : Type 0 where
+  pub chains : HasFullChains e
+  pub nests : nesting e ≤ max_nesting
+
+abbrev pub IsShapedDriver : Driver → Type 0
+IsShapedDriver (Assign to e) = IsShapedExpression e
+IsShapedDriver (Choice to on one other) = IsPart on × IsShapedExpression one × IsShapedExpression other
+IsShapedDriver (Table to on rows other) = IsPart on
+IsShapedDriver (Register to e) = IsShapedExpression e
+IsShapedDriver (Output place e) = IsShapedExpression e
+
+-- each driver has the subset's form, and the drivers stand in the order of the text
+pub record IsShaped (d : Design) : Type 0 where
+  pub drivers : All IsShapedDriver d.drivers
+  pub in_order : d.drivers ≡ filter is_neither d.drivers ++ filter is_register d.drivers ++ filter is_output d.drivers
+
+pub record HasAllowedNames (d : Design) : Type 0 where
+  pub entity : IsTrue (is_allowed_name d.name)
+  pub ports : All (λ p. IsTrue (is_allowed_name p.name)) d.ports
+  pub signals : All (λ s. IsTrue (is_allowed_name s.name)) d.signals
+
+-- the designs whose text is VHDL
+pub record IsWritable (d : Design) : Type 0 where
+  pub sound : IsSound d
+  pub names : HasAllowedNames d
+  pub has_port : 1 ≤ length d.ports

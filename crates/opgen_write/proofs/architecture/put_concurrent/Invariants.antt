@@ -1,0 +1,10 @@
+use Rattle.std.proofs.Common.{◌≡◌, ◌++◌, drop, filter, string_bytes}
+use Rattle.std.specs.List.{flat_map}
+use Rattle.opgen_text.specs.DesignText.{is_neither}
+use Rattle.opgen_text.specs.DesignText.{driver_text}
+use Rattle.opgen_write.proofs.architecture.put_concurrent.Given as goal
+
+abbrev pub invariant-drivers : goal.invariant-drivers
+invariant-drivers l =
+    string_bytes l.out ++ flat_map (driver_text l.design) (filter is_neither (drop l.driver-index l.driver-items))
+    ≡ string_bytes l.initial.out ++ flat_map (driver_text l.design) (filter is_neither l.driver-items)
