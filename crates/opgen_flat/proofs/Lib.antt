@@ -4,4 +4,11 @@ pub mod Combinational
 pub mod Parts
 pub mod TableWords
 pub mod PortWords
+pub mod NodeValues
 pub mod Follows
+pub mod Origins
+pub mod SoundNames
+pub mod SoundWidths
+pub mod SoundDrivers
+pub mod Soundness
+pub mod Runs

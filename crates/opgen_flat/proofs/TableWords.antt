@@ -46,3 +46,24 @@ table_word w rows on given long wide t =
           let e : length rows - 1 ≡ nat on = omega (arith, below, l) in
           t.of_none none ∙ ap (λ i. get_or rows i []) e
     ]
+
+-- and the row that the address numbers meets the equation
+pub is_table_word : (w : ℕ) (rows : List (List Bool)) (on given : List Bool) → length rows ≡ 2 ^ w → length on ≡ w
+    → given ≡ word_at rows (nat on) → IsTableWord (addressed w 0 rows) (last_row rows) on given
+is_table_word w rows on given long wide e =
+    let below : nat on < length rows = omega (arith, nat-below on, ap (λ n. 2 ^ n) wide, long) in
+    record {
+      of_row = λ k d l same.
+          let small : k + 1 < length rows = omega (arith, l, length-addressed w 0 rows) in
+          let at = get-addressed w rows k d small in
+          let number : k ≡ nat on = sym (nat-word w k (omega (arith, small, long))) ∙ ap nat (ap (λ r. r.0) (sym at) ∙ same) in
+          e ∙ ap (λ i. get_or rows i []) (sym number) ∙ ap (λ r. r.1) (sym at);
+      of_none = λ none.
+          elim (cases_lt (nat on + 1) (length rows)) [
+            | inl l ↦
+                let at = get-addressed w rows (nat on) ([], []) l in
+                let here : word w (nat on) ≡ on = ap (λ n. word n (nat on)) (sym wide) ∙ word-nat on in
+                absurd (none (nat on) ([], []) (omega (arith, l, length-addressed w 0 rows)) (ap (λ r. r.0) at ∙ here))
+            | inr l ↦ let last : nat on ≡ length rows - 1 = omega (arith, below, l) in e ∙ ap (λ i. get_or rows i []) last
+          ];
+    }

@@ -1,2 +1,4 @@
 pub mod Combinational
 pub mod Following
+pub mod Soundness
+pub mod Running

@@ -4,6 +4,7 @@
 ghost use Rattle.std.specs.Prelude.{◌≡◌, IfOk};
 ghost use Rattle.opgen_net.specs.Made.{design_of};
 ghost use Rattle.opgen_net.specs.Named.{IsNamed};
+ghost use Rattle.opgen_net.specs.Sound.{IsSound};
 ghost use Rattle.opgen_net.specs.Valid.{IsValid};
 ghost use Rattle.opgen_flat.specs.Combinational.{HasNoDelay};
 
@@ -13,7 +14,7 @@ mod ports;
 mod signals;
 mod widths;
 
-pub use laws::run_follows_flow;
+pub use laws::{design_is_sound, design_runs, run_follows_flow};
 use opgen_list::Text;
 use opgen_net::{Design, Net};
 use opgen_num::Memory;
@@ -26,6 +27,7 @@ pub fn flat(alloc: Global, net: &Net, name: &str) -> Result<Design, Memory>
     requires no_delay { HasNoDelay net.now }
     requires named { IsNamed name.now net.now }
     ensures design { IfOk result (λ d. d ≡ design_of name.now net.now) }
+    ensures sound { IfOk result IsSound }
 {
     let widths = widths::node_widths(alloc, net)?;
     let ports = ports::all_ports(alloc, net, &widths)?;

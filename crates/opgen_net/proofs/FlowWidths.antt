@@ -19,10 +19,10 @@ use Rattle.opgen_net.proofs.WidthLaws.{length-cut, value-width, width-is_width}
 use Rattle.opgen_net.proofs.FlowLaws.{lies_within, length-widths}
 use Rattle.opgen_net.proofs.InputLaws.{input-width, input_at-width}
 
-abbrev AreWidths : List ℕ → Type 0
+abbrev pub AreWidths : List ℕ → Type 0
 AreWidths ws = (i : ℕ) → i < length ws → IsWidth (slice_index ws i)
 
-slice-is_width : (ws : List ℕ) → AreWidths ws → (s : Slice) → LiesWithin ws s → IsWidth (slice_width s)
+pub slice-is_width : (ws : List ℕ) → AreWidths ws → (s : Slice) → LiesWithin ws s → IsWidth (slice_width s)
 slice-is_width ws a s h =
     let b = a s.node (lies_within ws s h) in
     (omega (arith, h.0, h.1), omega (arith, h.0, h.1, b.1))

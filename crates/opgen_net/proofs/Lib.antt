@@ -7,3 +7,4 @@ pub mod InputLaws
 pub mod FlowWidths
 pub mod FlowBefore
 pub mod Standing
+pub mod ReadLaws

@@ -1,7 +1,7 @@
 -- What the width of an expression says of it: what it reads, that it stays over longer lists, and how long its value is.
 use Rattle.std.proofs.Common.{◌≡◌, ℕ, ◌+◌, ◌-◌, ◌<◌, ◌≤◌, Bool, true, false, List, [], ◌∷◌, length, map, drop, Option, Some, None, refl, ap, ◌∙◌, subst, arith}
 use Rattle.std.specs.Prelude.{not, ◌&&◌, ◌||◌, slice_get, option_and_then, nat_le, nat_lt, nat_eq, if◌then◌else◌}
-use Rattle.std.proofs.lemmas.Bool.{ltb-true, leb-true, eqb-true, and_parts}
+use Rattle.std.proofs.lemmas.Bool.{cond-true, and_from, le-leb, ltb-true, leb-true, eqb-true, and_parts}
 use Rattle.std.proofs.lemmas.List.{length-append, length-drop, length-map, length-take-le}
 use Rattle.std.proofs.lemmas.Option.{slice_get_within}
 use Rattle.opgen_num.specs.declared.TheConstants.{MAX_WIDTH}
@@ -41,6 +41,9 @@ as_width-some x w h =
     let a = some_if (nat_le 1 x && nat_le x MAX_WIDTH) x w h in
     let b = and_parts (nat_le 1 x) (nat_le x MAX_WIDTH) a.0 in
     (a.1, (omega (arith, leb-true 1 x b.0, a.1), omega (arith, leb-true x MAX_WIDTH b.1, a.1)))
+
+pub as_width-of : (w : ℕ) → IsWidth w → as_width w ≡ Some w
+as_width-of w h = cond-true (nat_le 1 w && nat_le w MAX_WIDTH) (Some w) None (and_from (nat_le 1 w) (nat_le w MAX_WIDTH) (le-leb 1 w h.0) (le-leb w MAX_WIDTH h.1))
 
 equal_widths : (a b w : ℕ) → (if nat_eq a b then Some a else None) ≡ Some w → (a ≡ b) × (a ≡ w)
 equal_widths a b w h = let s = some_if (nat_eq a b) a w h in (eqb-true a b s.0, s.1)
