@@ -1,9 +1,11 @@
 //! Words of bits, and the limits and errors that every crate shares.
 #![tactic(auto)]
 
+mod format;
 mod memory;
 mod word;
 
+pub use format::{Format, FormatFault, Ratio};
 pub use memory::Memory;
 pub use word::Word;
 
