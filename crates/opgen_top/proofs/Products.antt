@@ -1,6 +1,6 @@
 -- The design of a net that multiplies multiplies in each of its runs.
-use Rattle.std.proofs.Common.{◌≡◌, ℕ, zero, suc, ◌+◌, ◌*◌, ◌<◌, Bool, true, false, cond, List, [], ◌∷◌, ◌++◌, length, map, Option, Some, None, refl, sym, ap, ◌∙◌, subst, arith}
-use Rattle.std.specs.Prelude.{ℤ, pos, All, codes, slice_get}
+use Rattle.std.proofs.Common.{◌≡◌, ℕ, zero, suc, ◌*◌, Bool, true, false, cond, List, [], ◌∷◌, ◌++◌, length, map, Some, refl, sym, ap, ◌∙◌, subst, arith}
+use Rattle.std.specs.Prelude.{pos, All, codes, slice_get}
 use Rattle.std.proofs.lemmas.List.Elements.{All-nil, All-cons}
 use Rattle.opgen_num.specs.Words.{nat}
 use Rattle.opgen_net.specs.declared.design.Design.{Design}
@@ -8,9 +8,9 @@ use Rattle.opgen_net.specs.declared.design.Dir.{Dir}
 use Rattle.opgen_net.specs.declared.design.Port.{Port}
 use Rattle.opgen_net.specs.declared.net.Net.{Net}
 use Rattle.opgen_net.specs.Value.{word_at}
-use Rattle.opgen_net.specs.Flow.{Inputs, input_from, input_at, slice_flow}
+use Rattle.opgen_net.specs.Flow.{Inputs, input_from, slice_flow}
 use Rattle.opgen_net.specs.Valid.{IsValid}
-use Rattle.opgen_net.specs.Run.{Words, Cycle, RunsOn, Run, AreWords, at_ports, is_in, input_widths, outputs_of}
+use Rattle.opgen_net.specs.Run.{Words, RunsOn, Run, AreWords, at_ports, is_in, input_widths, outputs_of}
 use Rattle.opgen_net.specs.Made.{input_port, output_port, design_of}
 use Rattle.opgen_flat.specs.Following.{RunFollowsFlow}
 use Rattle.opgen_scale.specs.Times.{IsTimes}

@@ -1,5 +1,5 @@
 -- What `generate` gives.
-use Rattle.std.specs.Prelude.{ℕ, ◌≡◌, ◌⊎◌, ◌*◌, Bool, List, [], ◌∷◌, ◌++◌, map, codes, slice_get, Option, Some, None, Result, Ok, Err}
+use Rattle.std.specs.Prelude.{ℕ, ◌≡◌, ◌⊎◌, ◌*◌, Bool, List, [], ◌∷◌, ◌++◌, map, codes, slice_get, Option, Some, None, Err}
 use Rattle.opgen_num.specs.Words.{nat}
 use Rattle.opgen_net.specs.declared.design.Design.{Design}
 use Rattle.opgen_net.specs.Run.{Words, Run, input_widths, outputs_of}

@@ -1,4 +1,4 @@
-use Rattle.std.proofs.Common.{◌≡◌, [], ◌++◌, Some, ap, sym, ◌∙◌, subst}
+use Rattle.std.proofs.Common.{◌≡◌, [], Some, ap, sym, ◌∙◌, subst}
 use Rattle.opgen_net.specs.Named.{IsNamed}
 use Rattle.opgen_flat.proofs.Follows.{follows}
 use Rattle.opgen_text.specs.DesignText.{text_of}
@@ -22,7 +22,7 @@ returns-in-Ok c =
       design = c.in_ok-design.design;
       spelled = text;
       name = ap (λ d. d.name) made ∙ c.deref.ensures;
-      sound = ?;
+      sound = c.in_ok-design.ensures.sound;
       multiplies =
         subst (Multiplies first.factor first.width) (sym made)
         (multiplies follows c.deref.result.now first.width first.factor net c.in_ok-net.ensures.valid c.in_ok-net.ensures.times);
