@@ -1,0 +1,41 @@
+//! The generator of fixed-point operators.
+#![tactic(auto)]
+
+use opgen_io::{DiskFolder, StdSink};
+use opgen_top::{Status, run};
+use std::alloc::Global;
+use std::env;
+use std::io::ErrorKind;
+use std::process::ExitCode;
+use std::rt::{Env, Files};
+
+/// The words after the program's name. Where they are no text there are none, which is a usage fault.
+fn words(rt: &(impl Env + Alloc<A = Global>)) -> Result<Vec<String>, Status> {
+    let mut words = Vec::new(rt.alloc());
+    let args = match env::args(rt) {
+        Ok(args) => args,
+        Err(fault) if fault.kind() == ErrorKind::OutOfMemory => return Err(Status(5)),
+        Err(_) => return Ok(words),
+    };
+    for word in args.skip(1) {
+        if words.push(word).is_err() {
+            return Err(Status(5));
+        }
+    }
+    Ok(words)
+}
+
+/// Runs the program over the files of the working directory and standard output.
+fn status(rt: &(impl Env + Files + Print + Alloc<A = Global>)) -> Status {
+    let words = match words(rt) {
+        Ok(words) => words,
+        Err(status) => return status,
+    };
+    let mut folder = DiskFolder::new(rt);
+    let mut out = StdSink::new(rt);
+    run(rt.alloc(), &words, &mut folder, &mut out)
+}
+
+fn main(rt: HostRuntime) -> ExitCode {
+    ExitCode::from(status(&rt).0)
+}

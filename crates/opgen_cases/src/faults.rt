@@ -1,0 +1,151 @@
+//! Refusals, missing files and failing calls.
+use crate::running::{generated, ran, scale};
+use std::test::Fail;
+
+const USAGE: &str = "usage: opgen COMMAND (generate, vectors, simulate, workload, check)\n";
+
+const NOT_TOML: &str = "specification: NotToml\n";
+
+const UNSUPPORTED: &str = "specification: Unsupported\n";
+
+/// A specification's name, width and coefficients that are not supported.
+static UNSUPPORTED_ROWS: [[&str; 3]; 12] = [
+    ["times3", "7", "3"],
+    ["times3", "0", "3"],
+    ["times3", "4", "0"],
+    ["times3", "4", "1073741825"],
+    ["times3", "4", "-3"],
+    ["times3", "4", "3.0"],
+    ["times3", "4", "3, 3"],
+    ["times3", "4.0", "3"],
+    ["x", "4", "3"],
+    ["s12", "4", "3"],
+    ["times__3", "4", "3"],
+    ["Times3", "4", "3"],
+];
+
+#[test]
+fn unsupported_values(rt: HostRuntime) -> Result<(), Fail> {
+    for [name, width, coefficients] in &UNSUPPORTED_ROWS {
+        let spec = scale(rt.alloc(), name, width, coefficients)?;
+        let ran = generated(rt.alloc(), &spec)?;
+        assert_eq!(rt; ran.status.0, 1);
+        assert!(rt; ran.out.bytes() == UNSUPPORTED.as_bytes());
+        assert!(rt; ran.folder.get("times3.vhd").is_none());
+    }
+    Ok(())
+}
+
+/// Whole documents, and the lines that refuse them.
+static DOCUMENTS: [(&[u8], &str); 5] = [
+    (b"", UNSUPPORTED),
+    (b"version = 2\n", UNSUPPORTED),
+    (b"x = ", NOT_TOML),
+    (b"version = 1\nversion = 1\n", NOT_TOML),
+    (b"name = \"\xff\"\n", NOT_TOML),
+];
+
+#[test]
+fn refused_documents(rt: HostRuntime) -> Result<(), Fail> {
+    for (bytes, line) in &DOCUMENTS {
+        let ran = ran(
+            rt.alloc(),
+            &["generate", "spec.toml"],
+            "spec.toml",
+            bytes,
+            &[],
+            &[],
+        )?;
+        assert_eq!(rt; ran.status.0, 1);
+        assert!(rt; ran.out.bytes() == line.as_bytes());
+    }
+    Ok(())
+}
+
+/// Words that are not taken.
+static WORDS: [&[&str]; 6] = [
+    &[],
+    &["generate"],
+    &["generate", "-spec.toml"],
+    &["generate", "spec.toml", "spec.toml"],
+    &["Generate", "spec.toml"],
+    &["simulate", "spec.toml"],
+];
+
+#[test]
+fn usage(rt: HostRuntime) -> Result<(), Fail> {
+    let spec = scale(rt.alloc(), "times3", "4", "3")?;
+    for words in &WORDS {
+        let ran = ran(rt.alloc(), words, "spec.toml", spec.as_bytes(), &[], &[])?;
+        assert_eq!(rt; ran.status.0, 2);
+        assert!(rt; ran.out.bytes() == USAGE.as_bytes());
+        assert!(rt; ran.folder.get("times3.vhd").is_none());
+    }
+    Ok(())
+}
+
+#[test]
+fn missing_and_too_long(rt: HostRuntime) -> Result<(), Fail> {
+    let spec = scale(rt.alloc(), "times3", "4", "3")?;
+    let missing = ran(
+        rt.alloc(),
+        &["generate", "spec.toml"],
+        "other.toml",
+        spec.as_bytes(),
+        &[],
+        &[],
+    )?;
+    assert_eq!(rt; missing.status.0, 3);
+    assert!(rt; missing.out.bytes() == "read fault\n".as_bytes());
+
+    // A comment fills the document up to the limit, and then one byte over it.
+    let mut bytes = Vec::from_slice(rt.alloc(), spec.as_bytes())?;
+    bytes.push(b'#')?;
+    for _ in bytes.len()..1_048_576 {
+        bytes.push(b'.')?;
+    }
+    let longest = ran(
+        rt.alloc(),
+        &["generate", "spec.toml"],
+        "spec.toml",
+        &bytes,
+        &[],
+        &[],
+    )?;
+    assert_eq!(rt; longest.status.0, 0);
+    bytes.push(b'.')?;
+    let too_long = ran(
+        rt.alloc(),
+        &["generate", "spec.toml"],
+        "spec.toml",
+        &bytes,
+        &[],
+        &[],
+    )?;
+    assert_eq!(rt; too_long.status.0, 9);
+    assert!(rt; too_long.out.bytes() == "too long\n".as_bytes());
+    assert!(rt; too_long.folder.get("times3.vhd").is_none());
+    Ok(())
+}
+
+#[test]
+fn failing_calls(rt: HostRuntime) -> Result<(), Fail> {
+    let spec = scale(rt.alloc(), "times3", "4", "3")?;
+    let words = ["generate", "spec.toml"];
+
+    let read = ran(rt.alloc(), &words, "spec.toml", spec.as_bytes(), &[0], &[])?;
+    assert_eq!(rt; read.status.0, 3);
+    assert!(rt; read.out.bytes() == "read fault\n".as_bytes());
+    assert!(rt; read.folder.get("times3.vhd").is_none());
+
+    let write = ran(rt.alloc(), &words, "spec.toml", spec.as_bytes(), &[1], &[])?;
+    assert_eq!(rt; write.status.0, 4);
+    assert!(rt; write.out.bytes().is_empty());
+    assert!(rt; write.folder.get("times3.vhd").is_none());
+
+    let line = ran(rt.alloc(), &words, "spec.toml", spec.as_bytes(), &[], &[0])?;
+    assert_eq!(rt; line.status.0, 4);
+    assert!(rt; line.out.bytes().is_empty());
+    assert!(rt; line.folder.get("times3.vhd").is_some());
+    Ok(())
+}
