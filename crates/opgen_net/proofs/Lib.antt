@@ -7,3 +7,5 @@ pub mod InputLaws
 pub mod FlowWidths
 pub mod FlowBefore
 pub mod Standing
+pub mod WordRuns
+pub mod WordLaws
