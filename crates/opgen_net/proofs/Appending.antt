@@ -1,11 +1,10 @@
 -- A node more: the widths, the flow and the validity of a net with it, by those of the net before.
-use Rattle.std.proofs.Common.{◌≡◌, ℕ, zero, suc, ◌+◌, ◌<◌, List, [], ◌∷◌, ◌++◌, length, length-append, refl, sym, ap, ◌∙◌, subst, arith}
+use Rattle.std.proofs.Common.{◌≡◌, ℕ, ◌+◌, ◌<◌, List, [], ◌∷◌, ◌++◌, length, refl, sym, ap, ◌∙◌, subst, arith}
 use Rattle.std.specs.Prelude.{ℤ, All, slice_index, slice_index_or}
 use Rattle.std.proofs.Math.ListN.{get_or-append}
 use Rattle.std.proofs.Math.Seq.{get_or-append_seam}
 use Rattle.std.proofs.lemmas.List.{append-nil, length-map, map-append}
 use Rattle.std.proofs.lemmas.List.Elements.{All-append, All-cons, All-nil}
-use Rattle.opgen_net.specs.declared.expr.Slice.{Slice}
 use Rattle.opgen_net.specs.declared.node.Node.{Node}
 use Rattle.opgen_net.specs.declared.node.Node.TheVariants.{Input, Constant, Cells, Choice, Table, Delay}
 use Rattle.opgen_net.specs.declared.net.Net.{Net}
@@ -13,6 +12,8 @@ use Rattle.opgen_net.specs.declared.net.Output.{Output}
 use Rattle.opgen_net.specs.Flow.{Stream, Inputs, stream_at, stream_of, streams_on, flow, KeepsFlow}
 use Rattle.opgen_net.specs.Valid.{node_width, widths_on, widths, LiesWithin, MayStand, AllMayStand, input_nodes, numbered, input_widths, IsValid}
 use Rattle.opgen_net.specs.Width.{IsWidth}
+use Rattle.opgen_net.proofs.FlowLaws.{length-streams_on, length-widths}
+use Rattle.opgen_net.proofs.Standing.{lies-kept}
 
 -- streams
 
@@ -20,11 +21,6 @@ pub streams_on-append : (inputs : Inputs) (ss : List Stream) (ns : List Node) (n
     → streams_on inputs ss (ns ++ n ∷ []) ≡ streams_on inputs ss ns ++ stream_of inputs (streams_on inputs ss ns) n ∷ []
 streams_on-append inputs ss [] n = refl
 streams_on-append inputs ss (m ∷ ns) n = streams_on-append inputs (ss ++ stream_of inputs ss m ∷ []) ns n
-
-pub length-streams_on : (inputs : Inputs) (ss : List Stream) (ns : List Node) → length (streams_on inputs ss ns) ≡ length ss + length ns
-length-streams_on inputs ss [] = omega arith
-length-streams_on inputs ss (n ∷ ns) =
-    omega (arith, length-streams_on inputs (ss ++ stream_of inputs ss n ∷ []) ns, length-append ss (stream_of inputs ss n ∷ []))
 
 pub stream_at-append_before : (ss : List Stream) (s : Stream) (k : ℕ) (t : ℤ) → k < length ss → stream_at (ss ++ s ∷ []) k t ≡ stream_at ss k t
 stream_at-append_before ss s k t h = ap (λ (r : Stream). r t) (get_or-append ss (s ∷ []) (λ u. []) k h)
@@ -55,15 +51,8 @@ pub widths_on-append : (ws : List ℕ) (ns : List Node) (n : Node) → widths_on
 widths_on-append ws [] n = refl
 widths_on-append ws (m ∷ ns) n = widths_on-append (ws ++ node_width ws m ∷ []) ns n
 
-pub length-widths_on : (ws : List ℕ) (ns : List Node) → length (widths_on ws ns) ≡ length ws + length ns
-length-widths_on ws [] = omega arith
-length-widths_on ws (n ∷ ns) = omega (arith, length-widths_on (ws ++ node_width ws n ∷ []) ns, length-append ws (node_width ws n ∷ []))
-
 pub widths-append : (ns : List Node) (n : Node) → widths (ns ++ n ∷ []) ≡ widths ns ++ node_width (widths ns) n ∷ []
 widths-append ns n = widths_on-append [] ns n
-
-pub length-widths : (ns : List Node) → length (widths ns) ≡ length ns
-length-widths ns = omega (arith, length-widths_on [] ns)
 
 -- the width of a node before, and that of the node itself
 pub width-append_before : (ns : List Node) (n : Node) (k : ℕ) → k < length ns → slice_index (widths (ns ++ n ∷ [])) k ≡ slice_index (widths ns) k
@@ -76,18 +65,6 @@ width-append_last ns n =
     ap (λ ws. slice_index ws (length ns)) (widths-append ns n)
     ∙ ap (λ k. slice_index (widths ns ++ node_width (widths ns) n ∷ []) k) (sym (length-widths ns))
     ∙ get_or-append_seam (widths ns) (node_width (widths ns) n) [] 0
-
--- what has bits is there
-pub within_length : (ws : List ℕ) (k n : ℕ) → n < slice_index ws k → k < length ws
-within_length [] k n h = absurd (omega (arith, h))
-within_length (w ∷ ws) zero n h = omega arith
-within_length (w ∷ ws) (suc k) n h = omega (arith, within_length ws k n h)
-
--- a slice that lies within its node lies there still
-pub lies-append : (ws : List ℕ) (w : ℕ) (s : Slice) → LiesWithin ws s → LiesWithin (ws ++ w ∷ []) s
-lies-append ws w s h =
-    let same : slice_index (ws ++ w ∷ []) s.node ≡ slice_index ws s.node = get_or-append ws (w ∷ []) 0 s.node (within_length ws s.node s.high h.1) in
-    (h.0, omega (arith, h.1, same))
 
 -- valid nets
 
@@ -113,7 +90,7 @@ numbered-append k (v ∷ ws) w =
 outputs_lie : (nodes : List Node) (n : Node) (os : List Output) → All (λ o. LiesWithin (widths nodes) o.from) os → All (λ o. LiesWithin (widths (nodes ++ n ∷ [])) o.from) os
 outputs_lie nodes n os h =
     subst (λ ws. All (λ o. LiesWithin ws o.from) os) (sym (widths-append nodes n))
-    (λ k d l. lies-append (widths nodes) (node_width (widths nodes) n) (slice_index_or os k d).from (h k d l))
+    (λ k d l. lies-kept (widths nodes) (node_width (widths nodes) n ∷ []) (slice_index_or os k d).from (h k d l))
 
 -- a node that is no input
 pub valid-append : (net : Net) (n : Node) → IsValid net → MayStand (widths net.nodes) n → input_nodes (n ∷ []) ≡ [] → IsValid (record net { nodes = net.nodes ++ n ∷ [] })

@@ -8,3 +8,5 @@ pub mod FlowWidths
 pub mod FlowBefore
 pub mod Standing
 pub mod ReadLaws
+pub mod WordRuns
+pub mod WordLaws

@@ -11,3 +11,4 @@ pub mod Sound
 pub mod Made
 pub mod Names
 pub mod Named
+pub mod WordRule

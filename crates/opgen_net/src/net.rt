@@ -1,4 +1,4 @@
-ghost use Rattle.std.specs.Prelude.{◌≡◌, ◌<◌, ◌++◌, [], ◌∷◌, length, IfOk, OnOk, OnErr};
+ghost use Rattle.std.specs.Prelude.{◌≡◌, ◌<◌, ◌++◌, [], ◌∷◌, length, slice_index, IfOk, OnOk, OnErr};
 ghost use Rattle.opgen_net.specs.Flow.{KeepsFlow};
 ghost use Rattle.opgen_net.specs.Plain.{plain};
 ghost use Rattle.opgen_net.specs.Valid.{IsValid, IsOfExpressions, FitsNodes, FitsChoice, FitsTable, LiesWithin, MayStand, input_nodes, widths};
@@ -148,6 +148,29 @@ impl Net {
         Ok(())
     }
 
+    /// The number of bits of a node's word. A delay has those of its operand, so this goes back along a chain of delays.
+    pub fn width_of(&self, node: usize) -> u32
+        requires net { IsValid self.now }
+        requires there { node < length self.now.nodes }
+        ensures { result ≡ slice_index (widths self.now.nodes) node }
+    {
+        let mut at = node;
+        loop {
+            match self.nodes.get(at) {
+                Node::Delay { of } => at = *of,
+                Node::Input { port: _, width } => return *width,
+                Node::Constant(word) => return word.width(),
+                Node::Cells {
+                    class: _,
+                    width,
+                    expr: _,
+                } => return *width,
+                Node::Choice { on: _, yes, no: _ } => return yes.high - yes.low + 1,
+                Node::Table { address: _, rows } => return rows.get(0).width(),
+            }
+        }
+    }
+
     // Appends a node that is no input.
     fn append(&mut self, node: Node) -> Result<usize, AllocError>
         requires net { IsValid self.old }
@@ -197,6 +220,7 @@ mod tests {
         assert_eq!(rt; net.delay(4)?, 5);
         net.output("y", part(5, 1, 0))?;
         assert_eq!(rt; net.outputs.len(), 1);
+        assert_eq!(rt; net.width_of(5), 2);
         Ok(())
     }
 }

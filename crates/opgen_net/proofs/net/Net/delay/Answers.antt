@@ -1,5 +1,5 @@
 use Rattle.std.proofs.Common.{arith}
-use Rattle.opgen_net.proofs.Appending.{length-widths}
+use Rattle.opgen_net.proofs.FlowLaws.{length-widths}
 use Rattle.opgen_net.proofs.net.Net.delay.Goals as goal
 
 pub append-requires-clause-stands : goal.append-requires-clause-stands
