@@ -12,6 +12,8 @@ mod drivers;
 mod laws;
 mod ports;
 mod signals;
+#[cfg(test)]
+mod tests;
 mod widths;
 
 pub use laws::{design_is_sound, design_runs, run_follows_flow};

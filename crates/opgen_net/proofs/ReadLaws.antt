@@ -1,6 +1,5 @@
 -- What holds of all that an expression reads.
-use Rattle.std.proofs.Common.{◌≡◌, ℕ, subst, sym, inl, inr}
-use Rattle.std.specs.Prelude.{◌⊎◌}
+use Rattle.std.proofs.Common.{ℕ, subst, inl, inr}
 use Rattle.opgen_net.specs.Tree.{Tree, Trees, name, part, bits, port, inverse, chain, none, more}
 use Rattle.opgen_net.specs.Reads.{AllReads, AllOperandsRead, ReadsName, SomeOperandReads}
 
