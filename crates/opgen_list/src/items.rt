@@ -1,4 +1,4 @@
-ghost use Rattle.std.specs.Prelude.{◌≡◌, ◌<◌, ◌↔◌, ◌++◌, [], ◌∷◌, length, slice_get, IsTrue, OnOk, OnErr, Some};
+ghost use Rattle.std.specs.Prelude.{◌≡◌, ◌<◌, ◌-◌, ◌↔◌, ◌++◌, [], ◌∷◌, length, slice_get, take, option_to_list, IsTrue, OnOk, OnErr, Some};
 
 use std::alloc::{AllocError, Global};
 use std::marker::Model;
@@ -70,6 +70,16 @@ impl<T> Items<T> {
     /// The allocator that the list was made with.
     pub fn allocator(&self) -> Global {
         *self.items.allocator()
+    }
+}
+
+impl<T> Items<T> {
+    /// Takes the last item off, if there is one.
+    pub fn pop(&mut self) -> Option<T>
+        ensures item { self.old ≡ self.new ++ option_to_list result }
+        ensures rest { self.new ≡ take (length self.old - 1) self.old }
+    {
+        self.items.pop()
     }
 }
 

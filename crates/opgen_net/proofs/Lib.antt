@@ -1,0 +1,11 @@
+pub mod Appending
+mod Underscores
+pub mod ValueLaws
+pub mod WidthLaws
+pub mod FlowLaws
+pub mod InputLaws
+pub mod FlowWidths
+pub mod FlowBefore
+pub mod Standing
+pub mod WordRuns
+pub mod WordLaws

@@ -15,7 +15,7 @@ before (pos zero) = negsuc 0
 before (pos (suc t)) = pos t
 before (negsuc t) = negsuc (suc t)
 
--- from cycle 0 on, a word for each input port
+-- from cycle 0 on, a word for each input port; past the list's end an input is zeros, which no run over the list reaches
 abbrev pub Inputs : Type 0
 Inputs = List (List (List Bool))
 

@@ -10,3 +10,5 @@ pub mod Run
 pub mod Sound
 pub mod Made
 pub mod Names
+pub mod Named
+pub mod WordRule

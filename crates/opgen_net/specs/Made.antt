@@ -1,5 +1,5 @@
 -- The design of a net whose nodes all stand in one cycle.
-use Rattle.std.specs.Prelude.{ℕ, zero, suc, ◌+◌, ◌-◌, ℤ, negsuc, ◌≡◌, Bool, true, false, not, ◌&&◌, if◌then◌else◌, nat_eq, List, [], ◌∷◌, ◌++◌, length, map, filter, slice_index, slice_index_or, codes, decimal, Option, Some, None}
+use Rattle.std.specs.Prelude.{ℕ, ◌+◌, ◌-◌, negsuc, Bool, true, false, not, ◌&&◌, if◌then◌else◌, nat_eq, List, [], ◌∷◌, ◌++◌, length, map, filter, slice_index, slice_index_or, codes, decimal, Option, Some, None}
 use Rattle.opgen_num.specs.Words.{word}
 use Rattle.opgen_net.specs.declared.expr.Slice.{Slice}
 use Rattle.opgen_net.specs.declared.node.Node.{Node}

@@ -1,12 +1,12 @@
 -- Sound designs: nine rules, and the first place at which a rule fails.
-use Rattle.std.specs.Prelude.{ℕ, zero, suc, ◌+◌, ◌≡◌, ◌≢◌, ◌<◌, ◌≤◌, ◌⊎◌, Bool, true, false, List, [], ◌∷◌, ◌++◌, length, map, codes, All, Contains, Option, Some, None, IfSome, IsSome, slice_get, slice_index, slice_index_or}
+use Rattle.std.specs.Prelude.{ℕ, ◌+◌, ◌≡◌, ◌≢◌, ◌<◌, ◌⊎◌, Bool, List, [], ◌++◌, length, map, codes, All, Contains, Some, IfSome, IsSome, slice_get, slice_index, slice_index_or}
 use Rattle.opgen_net.specs.declared.design.Design.{Design}
 use Rattle.opgen_net.specs.declared.design.Dir.TheVariants.{In, Out}
 use Rattle.opgen_net.specs.declared.design.Port.{Port}
 use Rattle.opgen_net.specs.declared.design.Signal.{Signal}
 use Rattle.opgen_net.specs.declared.design.Driver.{Driver}
 use Rattle.opgen_net.specs.declared.design.Driver.TheVariants.{Assign, Choice, Table, Register, Output}
-use Rattle.opgen_net.specs.Tree.{Tree, Trees, name, part, bits, port, inverse, chain, none, more}
+use Rattle.opgen_net.specs.Tree.{Tree}
 use Rattle.opgen_net.specs.Width.{IsWidth, width}
 use Rattle.opgen_net.specs.Reads.{AllReads, ReadsName}
 
@@ -85,7 +85,7 @@ WidthsAgree d (Choice to on one other) =
     HasWidth d on 1 × HasWidth d one (slice_index (signal_widths d) to) × HasWidth d other (slice_index (signal_widths d) to)
 WidthsAgree d (Table to on rows other) =
     All (λ r. HasWidth d on (length r.0) × (length r.1 ≡ slice_index (signal_widths d) to)) rows
-    × IsSome (width (signal_widths d) (port_widths d) on) × IsWidth (length other) × (length other ≡ slice_index (signal_widths d) to)
+    × IsSome (width (signal_widths d) (port_widths d) on) × (length other ≡ slice_index (signal_widths d) to)
 WidthsAgree d (Register to e) = HasWidth d e (slice_index (signal_widths d) to)
 WidthsAgree d (Output place e) = HasWidth d e (slice_index (port_widths d) place)
 
@@ -95,7 +95,7 @@ IsSignalWide s = IsWidth s.width × IfSome s.initial (λ w. length w ≡ s.width
 -- rule 4: no earlier driver drives the same, and no input port is driven
 abbrev pub IsInput : Design → Target → Type 0
 IsInput d (signal s) = ⊥
-IsInput d (port_of p) = IfSome (slice_get d.ports p) (λ q. q.dir ≡ In)
+IsInput d (port_of p) = (q : Port) × (slice_get d.ports p ≡ Some q) × (q.dir ≡ In)
 
 pub record IsOnlyDriver (d : Design) (i : ℕ) (k : Driver) : Type 0 where
   pub not_before : (j : ℕ) (m : Driver) → j < i → slice_get d.drivers j ≡ Some m → target m ≢ target k
@@ -113,20 +113,12 @@ pub data DependsOn (d : Design) : ℕ → ℕ → Type 0 where
 abbrev pub IsOffCycles : Design → Driver → Type 0
 IsOffCycles d k = (s : ℕ) → target k ≡ signal s → DependsOn d s s → ⊥
 
--- a driver that is no register reads only signals of smaller numbers than its own
-abbrev pub ReadsSmaller : (number : ℕ → ℕ) → Driver → Type 0
-ReadsSmaller number (Assign to e) = AllReads (λ r. number r < number to) (λ p. Unit {0}) e
-ReadsSmaller number (Choice to on one other) =
-    AllReads (λ r. number r < number to) (λ p. Unit {0}) on
-    × AllReads (λ r. number r < number to) (λ p. Unit {0}) one
-    × AllReads (λ r. number r < number to) (λ p. Unit {0}) other
-ReadsSmaller number (Table to on rows other) = AllReads (λ r. number r < number to) (λ p. Unit {0}) on
-ReadsSmaller number (Register to e) = Unit {0}
-ReadsSmaller number (Output place e) = Unit {0}
+-- the signals can be numbered so that each driver that is no register reads only signals of smaller numbers
+abbrev pub IsOrderedBy : (number : ℕ → ℕ) → List Driver → Type 0
+IsOrderedBy number drivers = (s r : ℕ) (k : Driver) → Contains drivers k → target k ≡ signal s → Needs r k → number r < number s
 
--- the signals can be numbered so that each driver reads only smaller numbers
 abbrev pub IsOrdered : Design → Type 0
-IsOrdered d = (number : ℕ → ℕ) × All (ReadsSmaller number) d.drivers
+IsOrdered d = (number : ℕ → ℕ) × IsOrderedBy number d.drivers
 
 -- rule 7: an output port is not read
 abbrev pub ReadsInputs : Design → Driver → Type 0

@@ -49,7 +49,7 @@ in_not (inverse t) = 1
 in_not _ = 0
 
 abbrev mutual
-  -- the most parentheses that are open at one place of an expression's text
+  -- the most parentheses round operands that are open at one place of an expression's text
   pub nesting : Tree → ℕ
   nesting (inverse t) = in_not t + nesting t
   nesting (chain op ts) = operands_nesting ts
@@ -59,6 +59,6 @@ abbrev mutual
   operands_nesting none = 0
   operands_nesting (more t ts) = max (in_chain t + nesting t) (operands_nesting ts)
 
--- the most parentheses that nest in the text of an expression
+-- so deep may the parentheses round operands nest
 abbrev pub max_nesting : ℕ
 max_nesting = 64

@@ -2,11 +2,14 @@
 #![tactic(auto)]
 
 mod cell;
+mod copy;
 mod design;
 mod expr;
 mod formula;
+pub mod names;
 mod net;
 mod node;
+mod word_bits;
 
 pub use cell::{Cell, Class};
 pub use design::{Design, Dir, Driver, Port, Signal};
@@ -14,3 +17,4 @@ pub use expr::{Expr, Op, Slice};
 pub use formula::Formula;
 pub use net::{Net, Output};
 pub use node::Node;
+pub use word_bits::WordBit;

@@ -6,7 +6,10 @@ use opgen_num::Word;
 #[derive(Drop)]
 pub enum Node {
     /// The word of an input port.
-    Input { port: usize, width: u32 },
+    Input {
+        port: usize,
+        width: u32,
+    },
     Constant(Word),
     /// An expression over the nodes before, made of cells of one class.
     Cells {
@@ -15,9 +18,18 @@ pub enum Node {
         expr: Formula,
     },
     /// `yes` where the bit of node `on` is 1, and `no` otherwise.
-    Choice { on: usize, yes: Slice, no: Slice },
+    Choice {
+        on: usize,
+        yes: Slice,
+        no: Slice,
+    },
     /// The row that the word of node `address` numbers.
-    Table { address: usize, rows: Items<Word> },
+    Table {
+        address: usize,
+        rows: Items<Word>,
+    },
     /// The word that node `of` had one cycle before.
-    Delay { of: usize },
+    Delay {
+        of: usize,
+    },
 }

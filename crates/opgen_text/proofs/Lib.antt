@@ -1,1 +1,4 @@
+pub mod FrontLemmas
+pub mod CutLemmas
+pub mod SpanLemmas
 pub mod Times3

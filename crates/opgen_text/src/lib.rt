@@ -1,2 +1,8 @@
 //! The VHDL subset: its tokens, and the texts of designs.
 #![tactic(auto)]
+
+mod kind;
+mod lexical;
+
+pub use kind::{Front, Token, TokenKind};
+pub use lexical::{longest_token, one_cut, token_spans};

@@ -1,0 +1,2 @@
+pub mod Combinational
+pub mod Following

@@ -1,0 +1,4 @@
+pub mod Powers
+pub mod Product
+pub mod Widths
+pub mod ProductNet

@@ -1,0 +1,4 @@
+mod Trees
+mod Simple
+pub mod Products
+pub mod Circuits

@@ -1,0 +1,5 @@
+pub mod SpecName
+pub mod First
+pub mod Command
+pub mod Statuses
+pub mod Generate
