@@ -23,7 +23,7 @@ abbrev pub bits_text : List Bool → List ℕ
 bits_text [] = []
 bits_text (b ∷ w) = bits_text w ++ bit_text b
 
--- a word as a bit string (13.7)
+-- a word as a bit string: a string of 0 and 1 (13.6)
 unfoldable pub word_text : List Bool → List ℕ
 word_text w = codes "\"" ++ bits_text w ++ codes "\""
 
