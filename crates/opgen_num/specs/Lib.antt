@@ -1,3 +1,5 @@
 pub mod Words
 pub mod WordLaws
 pub mod Sums
+pub mod Values
+pub mod Formats
