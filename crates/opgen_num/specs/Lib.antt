@@ -3,3 +3,4 @@ pub mod WordLaws
 pub mod Sums
 pub mod Values
 pub mod Formats
+pub mod Rounding
