@@ -48,3 +48,40 @@ fn quotient(n: i128, m: i128) -> (i128, i128)
 {
     (n.div_euclid(m), n.rem_euclid(m))
 }
+
+#[cfg(test)]
+mod tests {
+    use super::*;
+    use std::test::Fail;
+
+    #[test]
+    fn fractions(rt: HostRuntime) -> Result<(), Fail> {
+        let most = i128::MAX;
+        let least = i128::MIN;
+        assert!(rt; good_linear(7, 2, 4, false));
+        assert!(rt; !good_linear(6, 2, 4, false));
+        assert!(rt; good_linear(most, 1, most, true));
+        assert!(rt; !good_linear(most, most, most, false));
+        assert!(rt; !good_linear(least, most, 0, false));
+        assert!(rt; good_linear(least, most, -1, false));
+        assert!(rt; good_linear(least, most, -2, false));
+        assert!(rt; !good_linear(least, most, -3, false));
+        assert!(rt; !good_linear(least, most, -1, true));
+        Ok(())
+    }
+
+    #[test]
+    fn roots(rt: HostRuntime) -> Result<(), Fail> {
+        let half: u128 = 1 << 64;
+        assert!(rt; good_root(0, 0));
+        assert!(rt; !good_root(0, 1));
+        assert!(rt; !good_root(16, 3));
+        assert!(rt; good_root(16, 4));
+        assert!(rt; !good_root(16, 5));
+        assert!(rt; good_root(u128::MAX, half - 1));
+        assert!(rt; good_root(u128::MAX, half));
+        assert!(rt; !good_root(u128::MAX, half + 1));
+        assert!(rt; !good_root(u128::MAX, u128::MAX));
+        Ok(())
+    }
+}
