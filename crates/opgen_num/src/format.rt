@@ -1,3 +1,8 @@
+ghost use Rattle.std.specs.Prelude.{◌≡◌, ℕ, ◌≤◌, ◌↔◌, pos, negsuc, ◌<ℤ◌, ◌≤ℤ◌, IfOk, IfSome, IfNone};
+ghost use Rattle.opgen_num.specs.Formats.{IsWidthOf, IsLsb, is_negative, IsLeastWidth, IsTooWide};
+
+use crate::{MAX_LSB, MAX_WIDTH, bit_length};
+
 /// How a port's word is read: as an unsigned or a two's complement number, times 2 to `lsb`.
 #[derive(Clone, Copy, Debug, PartialEq, Eq)]
 pub struct Format {
@@ -20,4 +25,97 @@ pub enum FormatFault {
 pub struct Ratio {
     pub num: i128,
     pub den: i128,
+}
+
+impl Format {
+    /// The format of a sign, a width in bits and a weight of the lowest bit.
+    ///
+    /// `Width` comes before `Lsb` where both are out of range.
+    pub fn new(signed: bool, width: u32, lsb: i32) -> Result<Format, FormatFault>
+        ensures ok { IfOk result (λ f. f ≡ record { signed = signed; width = width; lsb = lsb }) }
+        ensures fits { IfOk result (λ f. IsWidthOf signed width × IsLsb lsb) }
+        ensures width { result ≡ Err FormatFault.Width ↔ (¬ IsWidthOf signed width) }
+        ensures lsb { result ≡ Err FormatFault.Lsb ↔ (IsWidthOf signed width × (¬ IsLsb lsb)) }
+    {
+        let fewest = if signed { 2 } else { 1 };
+        if width < fewest || width > MAX_WIDTH {
+            return Err(FormatFault::Width);
+        }
+        if lsb < -MAX_LSB || lsb > MAX_LSB {
+            return Err(FormatFault::Lsb);
+        }
+        Ok(Format { signed, width, lsb })
+    }
+}
+
+/// The format of least width that holds all whole numbers from `lo` to `hi`, where a signal can be so wide.
+///
+/// It is signed exactly where `lo` is below zero.
+pub fn cover(lo: i128, hi: i128, lsb: i32) -> Option<Format>
+    requires order { lo ≤ℤ hi }
+    requires lsb { IsLsb lsb }
+    ensures signed { IfSome result (λ f. f.signed ≡ is_negative lo) }
+    ensures width { IfSome result (λ f. IsLeastWidth lo hi f.width × (f.width ≤ MAX_WIDTH)) }
+    ensures lsb { IfSome result (λ f. f.lsb ≡ lsb) }
+    ensures none { IfNone result (IsTooWide lo hi) }
+{
+    let width = least_width(lo, hi);
+    if width > MAX_WIDTH {
+        return None;
+    }
+    Some(Format {
+        signed: lo < 0,
+        width,
+        lsb,
+    })
+}
+
+/// The least width that holds all whole numbers from `lo` to `hi`, in two's complement where `lo` is below zero.
+///
+/// It may exceed the width of any signal.
+pub fn least_width(lo: i128, hi: i128) -> u32
+    requires { lo ≤ℤ hi }
+    ensures { IsLeastWidth lo hi result }
+{
+    if lo < 0 {
+        (bit_length(magnitude(lo, hi)) + 1).max(2)
+    } else {
+        bit_length(hi.unsigned_abs()).max(1)
+    }
+}
+
+// The least n that is so great that all numbers from `lo` to `hi` lie from -n - 1 to n.
+fn magnitude(lo: i128, hi: i128) -> u128
+    requires negative { lo <ℤ pos 0 }
+    requires order { lo ≤ℤ hi }
+    ensures low { negsuc result ≤ℤ lo }
+    ensures high { hi ≤ℤ pos result }
+    ensures least { (n : ℕ) → negsuc n ≤ℤ lo → hi ≤ℤ pos n → result ≤ n }
+{
+    (!lo).max(hi).unsigned_abs()
+}
+
+#[cfg(test)]
+mod tests {
+    use super::*;
+    use std::test::Fail;
+
+    fn format(signed: bool, width: u32, lsb: i32) -> Option<Format> {
+        Some(Format { signed, width, lsb })
+    }
+
+    #[test]
+    fn least_formats(rt: HostRuntime) -> Result<(), Fail> {
+        let half: i128 = 1 << 63;
+        assert_eq!(rt; cover(0, 0, 0), format(false, 1, 0));
+        assert_eq!(rt; cover(-1, 0, 0), format(true, 2, 0));
+        assert_eq!(rt; cover(-half, half - 1, 64), format(true, 64, 64));
+        assert_eq!(rt; cover(-half, half, 0), None);
+        assert_eq!(rt; cover(0, 2 * half - 1, -64), format(false, 64, -64));
+        assert_eq!(rt; cover(0, 2 * half, 0), None);
+        assert_eq!(rt; cover(i128::MIN, i128::MAX, 0), None);
+        assert_eq!(rt; least_width(i128::MIN, i128::MAX), 128);
+        assert_eq!(rt; least_width(i128::MAX, i128::MAX), 127);
+        Ok(())
+    }
 }

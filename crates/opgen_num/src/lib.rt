@@ -3,10 +3,14 @@
 
 mod format;
 mod memory;
+mod number;
+mod rounding;
 mod word;
 
-pub use format::{Format, FormatFault, Ratio};
+pub use format::{Format, FormatFault, Ratio, cover, least_width};
 pub use memory::Memory;
+pub use number::bit_length;
+pub use rounding::{good_linear, good_root};
 pub use word::Word;
 
 /// The greatest width of a signal, in bits.
@@ -14,3 +18,6 @@ pub const MAX_WIDTH: u32 = 64;
 
 /// The greatest width of an input of an operator, in bits.
 pub const MAX_INPUT: u32 = 32;
+
+/// The greatest weight of a lowest bit is 2 to this power, the least 2 to its negative.
+pub const MAX_LSB: i32 = 64;

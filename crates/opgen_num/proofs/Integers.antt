@@ -1,0 +1,25 @@
+-- Products of whole numbers below and above zero, for `omega`, which takes each product as an atom.
+use Rattle.std.proofs.Common.{◌≡◌, ◌+◌, ◌*◌, ap, arith}
+use Rattle.std.specs.Prelude.{ℤ, pos, negsuc, ◌+ℤ◌, ◌*ℤ◌, ◌<ℤ◌, ◌≤ℤ◌}
+use Rattle.std.proofs.Math.Nat.{mul-le-mul_left}
+use Rattle.std.proofs.lemmas.Int.{ints, by_lt_z}
+use borrow.Author.Differences.{up, down, sum_is_lem}
+
+-- the distributive law, in the form that `products` takes: an integer z is read as `up z - down z`
+pub product-sum : (m a b : ℤ) → up (m *ℤ (a +ℤ b)) + down (m *ℤ a) + down (m *ℤ b) ≡ down (m *ℤ (a +ℤ b)) + up (m *ℤ a) + up (m *ℤ b)
+product-sum m a b =
+    let positive : up m * (up (a +ℤ b) + down a + down b) ≡ up m * (down (a +ℤ b) + up a + up b) = ap (λ n. up m * n) (sum_is_lem a b) in
+    let negative : down m * (up (a +ℤ b) + down a + down b) ≡ down m * (down (a +ℤ b) + up a + up b) = ap (λ n. down m * n) (sum_is_lem a b) in
+    omega (arith, ints)
+
+-- `omega (arith, products)` multiplies out products of sums
+pub ruleset products = (ints, product-sum)
+
+-- a factor that is not below zero keeps the order
+pub product_order : (m a b : ℤ) → pos 0 ≤ℤ m → a ≤ℤ b → (m *ℤ a) ≤ℤ (m *ℤ b)
+product_order (pos m) a b g h = omega (arith, ints, mul-le-mul_left {m = up a + down b} {n = up b + down a} m (omega (arith, ints)))
+product_order (negsuc m) a b g h = absurd (omega (arith, ints))
+
+-- and a strict order of the products is one of the other factors
+pub product_cancel : (m a b : ℤ) → pos 0 ≤ℤ m → (m *ℤ a) <ℤ (m *ℤ b) → a <ℤ b
+product_cancel m a b g h = by_lt_z a b (λ k. k) (λ k. absurd (omega (arith, ints, product_order m b a g k)))

@@ -1,0 +1,22 @@
+-- When a whole number is a good rounding of a fraction or a root: exact, or faithful, which is less than one unit away
+-- (de Dinechin and Kumm, Application-Specific Arithmetic).
+use Rattle.std.specs.Prelude.{◌≡◌, ℕ, ◌+◌, ◌-◌, ◌*◌, ◌<◌, ◌⊎◌, Bool, true, false, ℤ, pos, ◌-ℤ◌, ◌*ℤ◌, ◌<ℤ◌, unsigned_abs}
+
+abbrev pub distance : ℤ → ℤ → ℕ
+distance a b = unsigned_abs (a -ℤ b)
+
+-- y is less than one away from n / m
+abbrev pub IsWithinOne : (n m y : ℤ) → Type 0
+IsWithinOne n m y = pos (distance (m *ℤ y) n) <ℤ m
+
+-- y is n / m itself
+abbrev pub IsExact : (n m y : ℤ) → Type 0
+IsExact n m y = m *ℤ y ≡ n
+
+abbrev pub IsGoodLinear : (n m y : ℤ) (exact : Bool) → Type 0
+IsGoodLinear n m y true = IsExact n m y
+IsGoodLinear n m y false = IsWithinOne n m y
+
+-- y is less than one away from the square root of n
+abbrev pub IsGoodRoot : (n y : ℕ) → Type 0
+IsGoodRoot n y = (n < (y + 1) * (y + 1)) × ((y ≡ 0) ⊎ ((y - 1) * (y - 1) < n))

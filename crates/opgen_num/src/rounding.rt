@@ -1,0 +1,87 @@
+ghost use Rattle.std.specs.Prelude.{◌≡◌, ◌↔◌, IsTrue, pos, ◌<ℤ◌, ◌≤ℤ◌, ◌*ℤ◌, ◌+ℤ◌};
+ghost use Rattle.opgen_num.specs.Rounding.{IsExact, IsGoodLinear, IsGoodRoot, IsWithinOne};
+
+/// Whether `y` is a good rounding of `n / m`: equal to it, or else less than one away from it.
+///
+/// No product is formed, so that no value of the arguments is too great.
+pub fn good_linear(n: i128, m: i128, y: i128, exact: bool) -> bool
+    requires { pos 0 <ℤ m }
+    ensures { IsTrue result ↔ IsGoodLinear n m y exact }
+{
+    if exact {
+        is_exact(n, m, y)
+    } else {
+        is_within_one(n, m, y)
+    }
+}
+
+/// Whether `y` is less than one away from the square root of `n`.
+pub fn good_root(n: u128, y: u128) -> bool
+    ensures { IsTrue result ↔ IsGoodRoot n y }
+{
+    let root = n.isqrt();
+    y == root || (y == root + 1 && root * root < n)
+}
+
+fn is_exact(n: i128, m: i128, y: i128) -> bool
+    requires { pos 0 <ℤ m }
+    ensures { IsTrue result ↔ IsExact n m y }
+{
+    let (quotient, rest) = quotient(n, m);
+    rest == 0 && y == quotient
+}
+
+fn is_within_one(n: i128, m: i128, y: i128) -> bool
+    requires { pos 0 <ℤ m }
+    ensures { IsTrue result ↔ IsWithinOne n m y }
+{
+    let (quotient, rest) = quotient(n, m);
+    y == quotient || (rest > 0 && y == quotient + 1)
+}
+
+// The greatest whole number that is not above `n / m`, and the rest.
+fn quotient(n: i128, m: i128) -> (i128, i128)
+    requires { pos 0 <ℤ m }
+    ensures whole { ((result.0 *ℤ m) +ℤ result.1) ≡ n }
+    ensures low { pos 0 ≤ℤ result.1 }
+    ensures high { result.1 <ℤ m }
+{
+    (n.div_euclid(m), n.rem_euclid(m))
+}
+
+#[cfg(test)]
+mod tests {
+    use super::*;
+    use std::test::Fail;
+
+    #[test]
+    fn fractions(rt: HostRuntime) -> Result<(), Fail> {
+        let most = i128::MAX;
+        let least = i128::MIN;
+        assert!(rt; good_linear(7, 2, 4, false));
+        assert!(rt; !good_linear(6, 2, 4, false));
+        assert!(rt; good_linear(most, 1, most, true));
+        assert!(rt; !good_linear(most, most, most, false));
+        assert!(rt; !good_linear(least, most, 0, false));
+        assert!(rt; good_linear(least, most, -1, false));
+        assert!(rt; good_linear(least, most, -2, false));
+        assert!(rt; !good_linear(least, most, -3, false));
+        assert!(rt; !good_linear(least, most, -1, true));
+        Ok(())
+    }
+
+    #[test]
+    fn roots(rt: HostRuntime) -> Result<(), Fail> {
+        let half: u128 = 1 << 64;
+        assert!(rt; good_root(0, 0));
+        assert!(rt; !good_root(0, 1));
+        assert!(rt; !good_root(16, 3));
+        assert!(rt; good_root(16, 4));
+        assert!(rt; !good_root(16, 5));
+        assert!(rt; good_root(u128::MAX, half - 1));
+        assert!(rt; good_root(u128::MAX, half));
+        assert!(rt; !good_root(u128::MAX, half + 1));
+        assert!(rt; !good_root(u128::MAX, u128::MAX));
+        Ok(())
+    }
+}
