@@ -1,13 +1,11 @@
 -- Tests of the bytes of a text, in ASCII.
 use Rattle.std.specs.Prelude.{ℕ, ◌==◌, ◌&&◌, ◌||◌, Bool, false, not, List, [], ◌∷◌}
 use Rattle.std.specs.Char.{is_ascii_alphabetic, is_ascii_digit}
+pub use Rattle.opgen_net.specs.Names.{is_underscore, ends_with_underscore, has_double_underscore, has_single_underscores}
 
 -- space, tab, carriage return, line feed
 abbrev pub is_white : ℕ → Bool
 is_white b = b == 32 || b == 9 || b == 13 || b == 10
-
-abbrev pub is_underscore : ℕ → Bool
-is_underscore b = b == 95
 
 -- a letter of either case, a digit or an underscore
 abbrev pub is_word_byte : ℕ → Bool
@@ -38,18 +36,3 @@ is_quote b = b == 34
 abbrev pub begins : (ℕ → Bool) → List ℕ → Bool
 begins p [] = false
 begins p (b ∷ _) = p b
-
-abbrev pub ends_with_underscore : List ℕ → Bool
-ends_with_underscore [] = false
-ends_with_underscore (b ∷ []) = is_underscore b
-ends_with_underscore (_ ∷ c ∷ bs) = ends_with_underscore (c ∷ bs)
-
--- whether two underscores stand side by side
-abbrev pub has_double_underscore : List ℕ → Bool
-has_double_underscore [] = false
-has_double_underscore (_ ∷ []) = false
-has_double_underscore (b ∷ c ∷ bs) = (is_underscore b && is_underscore c) || has_double_underscore (c ∷ bs)
-
--- no underscore at the end, and no two side by side
-abbrev pub has_single_underscores : List ℕ → Bool
-has_single_underscores bs = not (ends_with_underscore bs) && not (has_double_underscore bs)
