@@ -6,6 +6,7 @@ use Rattle.opgen_net.specs.Run.{Words, Run, input_widths, outputs_of}
 use Rattle.opgen_net.specs.Sound.{IsSound}
 use Rattle.opgen_text.specs.DesignText.{text_of}
 use Rattle.opgen_io.specs.Files.{Files, stored, KeepsOthers}
+use Rattle.opgen_top.specs.Answer.{file_of}
 use Rattle.opgen_top.specs.First.{Fields, IsSimpleDocument, tree, read}
 use Rattle.opgen_top.specs.declared.first.FirstFault.TheVariants.{NotToml, Unsupported}
 
@@ -28,7 +29,7 @@ pub record IsCircuitText (fields : Fields) (text : List ℕ) : Type 0 where
 pub record IsGenerated (bytes file text : List ℕ) : Type 0 where
   pub fields : Fields
   pub simple : IsSimpleDocument bytes fields
-  pub file_name : file ≡ fields.name ++ codes ".vhd"
+  pub file_name : file ≡ file_of fields.name
   pub circuit : IsCircuitText fields text
 
 -- what stands under the name of the specification's file

@@ -14,3 +14,7 @@ TellsOr status before now result = (result ≡ status) ⊎ (((result ≡ 4) × R
 -- a status of a refusal: the specification, the words, the read or the length
 abbrev pub Refuses : ℕ → Type 0
 Refuses status = (status ≡ 1) ⊎ ((status ≡ 2) ⊎ ((status ≡ 3) ⊎ (status ≡ 9)))
+
+-- a status that comes with a line
+abbrev pub HasLine : ℕ → Type 0
+HasLine status = (status ≡ 0) ⊎ Refuses status
