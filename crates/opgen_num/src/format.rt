@@ -1,7 +1,8 @@
-ghost use Rattle.std.specs.Prelude.{◌≡◌, ℕ, ◌≤◌, ◌↔◌, pos, negsuc, ◌<ℤ◌, ◌≤ℤ◌, IfOk, IfSome, IfNone};
-ghost use Rattle.opgen_num.specs.Formats.{IsWidthOf, IsLsb, is_negative, IsLeastWidth, IsTooWide};
+ghost use Rattle.std.specs.Prelude.{◌≡◌, ℕ, ◌≤◌, length, ◌↔◌, pos, negsuc, ◌<ℤ◌, ◌≤ℤ◌, IfOk, IfSome, IfNone};
+ghost use Rattle.opgen_num.specs.Formats.{IsWidthOf, IsLsb, is_negative, IsLeastWidth, IsTooWide, Holds};
+ghost use Rattle.opgen_num.specs.Values.{int, val};
 
-use crate::{MAX_LSB, MAX_WIDTH, bit_length};
+use crate::{MAX_LSB, MAX_WIDTH, Word, bit_length};
 
 /// How a port's word is read: as an unsigned or a two's complement number, times 2 to `lsb`.
 #[derive(Clone, Copy, Debug, PartialEq, Eq)]
@@ -45,6 +46,34 @@ impl Format {
             return Err(FormatFault::Lsb);
         }
         Ok(Format { signed, width, lsb })
+    }
+
+    /// The number that a word stands for, in units of its lowest bit.
+    pub fn value(self, word: Word) -> i128
+        requires least { 1 ≤ length word }
+        requires most { length word ≤ MAX_WIDTH }
+        ensures value { result ≡ val word self }
+        ensures range { Holds self.signed (length word) result }
+    {
+        if self.signed {
+            signed_value(word)
+        } else {
+            word.bits() as i128
+        }
+    }
+}
+
+// The number of a word in two's complement.
+fn signed_value(word: Word) -> i128
+    requires { length word ≤ MAX_WIDTH }
+    ensures { result ≡ int word }
+{
+    let power: i128 = 1 << word.width();
+    let bits = word.bits() as i128;
+    if bits + bits < power {
+        bits
+    } else {
+        bits - power
     }
 }
 
