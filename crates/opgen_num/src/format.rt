@@ -1,5 +1,5 @@
 ghost use Rattle.std.specs.Prelude.{◌≡◌, ℕ, ◌≤◌, length, ◌↔◌, pos, negsuc, ◌<ℤ◌, ◌≤ℤ◌, IfOk, IfSome, IfNone};
-ghost use Rattle.opgen_num.specs.Formats.{IsWidthOf, IsLsb, is_negative, IsLeastWidth, IsTooWide, Holds};
+ghost use Rattle.opgen_num.specs.Formats.{IsWidthOf, IsLsb, is_negative, range_width, IsLeastWidth, IsTooWide, Holds};
 ghost use Rattle.opgen_num.specs.Values.{int, val};
 
 use crate::{MAX_LSB, MAX_WIDTH, Word, bit_length};
@@ -83,9 +83,8 @@ fn signed_value(word: Word) -> i128
 pub fn cover(lo: i128, hi: i128, lsb: i32) -> Option<Format>
     requires order { lo ≤ℤ hi }
     requires lsb { IsLsb lsb }
-    ensures signed { IfSome result (λ f. f.signed ≡ is_negative lo) }
+    ensures some { IfSome result (λ f. f ≡ record { signed = is_negative lo; width = range_width lo hi; lsb = lsb }) }
     ensures width { IfSome result (λ f. IsLeastWidth lo hi f.width × (f.width ≤ MAX_WIDTH)) }
-    ensures lsb { IfSome result (λ f. f.lsb ≡ lsb) }
     ensures none { IfNone result (IsTooWide lo hi) }
 {
     let width = least_width(lo, hi);
@@ -104,7 +103,8 @@ pub fn cover(lo: i128, hi: i128, lsb: i32) -> Option<Format>
 /// It may exceed the width of any signal.
 pub fn least_width(lo: i128, hi: i128) -> u32
     requires { lo ≤ℤ hi }
-    ensures { IsLeastWidth lo hi result }
+    ensures least { IsLeastWidth lo hi result }
+    ensures value { result ≡ range_width lo hi }
 {
     if lo < 0 {
         (bit_length(magnitude(lo, hi)) + 1).max(2)
