@@ -24,7 +24,7 @@ abbrev pub greatest : (signed : Bool) (width : ℕ) → ℤ
 greatest false width = pos (2 ^ width) -ℤ pos 1
 greatest true width = pos (2 ^ (width - 1)) -ℤ pos 1
 
--- a number that some word of the width stands for
+-- a number from the least to the greatest of the width
 abbrev pub Holds : (signed : Bool) (width : ℕ) → ℤ → Type 0
 Holds signed width n = (least signed width ≤ℤ n) × (n ≤ℤ greatest signed width)
 
