@@ -1,19 +1,29 @@
 -- Products of whole numbers below and above zero, for `omega`, which takes each product as an atom.
-use Rattle.std.proofs.Common.{◌≡◌, ◌+◌, ◌*◌, ap, arith}
+use Rattle.std.proofs.Common.{◌≡◌, ℕ, ◌+◌, ◌*◌, ap, arith}
 use Rattle.std.specs.Prelude.{ℤ, pos, negsuc, ◌+ℤ◌, ◌*ℤ◌, ◌<ℤ◌, ◌≤ℤ◌}
 use Rattle.std.proofs.Math.Nat.{mul-le-mul_left}
 use Rattle.std.proofs.lemmas.Int.{ints, by_lt_z}
-use borrow.Author.Differences.{up, down, sum_is_lem}
+use borrow.Author.Differences.{up, down, sum_is_lem, product_is, same_in}
 
 -- the distributive law, in the form that `products` takes: an integer z is read as `up z - down z`
-pub product-sum : (m a b : ℤ) → up (m *ℤ (a +ℤ b)) + down (m *ℤ a) + down (m *ℤ b) ≡ down (m *ℤ (a +ℤ b)) + up (m *ℤ a) + up (m *ℤ b)
-product-sum m a b =
+pub product-sum_parts : (m a b : ℤ) → up (m *ℤ (a +ℤ b)) + down (m *ℤ a) + down (m *ℤ b) ≡ down (m *ℤ (a +ℤ b)) + up (m *ℤ a) + up (m *ℤ b)
+product-sum_parts m a b =
     let positive : up m * (up (a +ℤ b) + down a + down b) ≡ up m * (down (a +ℤ b) + up a + up b) = ap (λ n. up m * n) (sum_is_lem a b) in
     let negative : down m * (up (a +ℤ b) + down a + down b) ≡ down m * (down (a +ℤ b) + up a + up b) = ap (λ n. down m * n) (sum_is_lem a b) in
     omega (arith, ints)
 
 -- `omega (arith, products)` multiplies out products of sums
-pub ruleset products = (ints, product-sum)
+pub ruleset products = (ints, product-sum_parts)
+
+pub product-sum : (m a b : ℤ) → m *ℤ (a +ℤ b) ≡ (m *ℤ a) +ℤ (m *ℤ b)
+product-sum m a b = omega (arith, products)
+
+scaled_parts : (a b : ℤ) (k : ℕ) → (up (a *ℤ b) * k ≡ (up a * up b + down a * down b) * k) × (down (a *ℤ b) * k ≡ (up a * down b + down a * up b) * k)
+scaled_parts a b k = (ap (λ n. n * k) ((product_is a b).0), ap (λ n. n * k) ((product_is a b).1))
+
+pub product_assoc : (a b c : ℤ) → (a *ℤ b) *ℤ c ≡ a *ℤ (b *ℤ c)
+product_assoc a b c =
+    same_in _ _ (omega (arith, product_is, scaled_parts a b (up c), scaled_parts a b (down c), scaled_parts b c (up a), scaled_parts b c (down a)))
 
 -- a factor that is not below zero keeps the order
 pub product_order : (m a b : ℤ) → pos 0 ≤ℤ m → a ≤ℤ b → (m *ℤ a) ≤ℤ (m *ℤ b)

@@ -1,7 +1,8 @@
-ghost use Rattle.std.specs.Prelude.{◌≡◌, ℕ, ◌≤◌, ◌↔◌, pos, negsuc, ◌<ℤ◌, ◌≤ℤ◌, IfOk, IfSome, IfNone};
-ghost use Rattle.opgen_num.specs.Formats.{IsWidthOf, IsLsb, is_negative, IsLeastWidth, IsTooWide};
+ghost use Rattle.std.specs.Prelude.{◌≡◌, ℕ, ◌≤◌, length, ◌↔◌, pos, negsuc, ◌<ℤ◌, ◌≤ℤ◌, IfOk, IfSome, IfNone};
+ghost use Rattle.opgen_num.specs.Formats.{IsWidthOf, IsLsb, is_negative, range_width, IsLeastWidth, IsTooWide, Holds};
+ghost use Rattle.opgen_num.specs.Values.{int, val};
 
-use crate::{MAX_LSB, MAX_WIDTH, bit_length};
+use crate::{MAX_LSB, MAX_WIDTH, Word, bit_length};
 
 /// How a port's word is read: as an unsigned or a two's complement number, times 2 to `lsb`.
 #[derive(Clone, Copy, Debug, PartialEq, Eq)]
@@ -46,6 +47,34 @@ impl Format {
         }
         Ok(Format { signed, width, lsb })
     }
+
+    /// The number that a word stands for, in units of its lowest bit.
+    pub fn value(self, word: Word) -> i128
+        requires least { 1 ≤ length word }
+        requires most { length word ≤ MAX_WIDTH }
+        ensures value { result ≡ val word self }
+        ensures range { Holds self.signed (length word) result }
+    {
+        if self.signed {
+            signed_value(word)
+        } else {
+            word.bits() as i128
+        }
+    }
+}
+
+// The number of a word in two's complement.
+fn signed_value(word: Word) -> i128
+    requires { length word ≤ MAX_WIDTH }
+    ensures { result ≡ int word }
+{
+    let power: i128 = 1 << word.width();
+    let bits = word.bits() as i128;
+    if bits + bits < power {
+        bits
+    } else {
+        bits - power
+    }
 }
 
 /// The format of least width that holds all whole numbers from `lo` to `hi`, where a signal can be so wide.
@@ -54,9 +83,8 @@ impl Format {
 pub fn cover(lo: i128, hi: i128, lsb: i32) -> Option<Format>
     requires order { lo ≤ℤ hi }
     requires lsb { IsLsb lsb }
-    ensures signed { IfSome result (λ f. f.signed ≡ is_negative lo) }
+    ensures some { IfSome result (λ f. f ≡ record { signed = is_negative lo; width = range_width lo hi; lsb = lsb }) }
     ensures width { IfSome result (λ f. IsLeastWidth lo hi f.width × (f.width ≤ MAX_WIDTH)) }
-    ensures lsb { IfSome result (λ f. f.lsb ≡ lsb) }
     ensures none { IfNone result (IsTooWide lo hi) }
 {
     let width = least_width(lo, hi);
@@ -75,7 +103,8 @@ pub fn cover(lo: i128, hi: i128, lsb: i32) -> Option<Format>
 /// It may exceed the width of any signal.
 pub fn least_width(lo: i128, hi: i128) -> u32
     requires { lo ≤ℤ hi }
-    ensures { IsLeastWidth lo hi result }
+    ensures least { IsLeastWidth lo hi result }
+    ensures value { result ≡ range_width lo hi }
 {
     if lo < 0 {
         (bit_length(magnitude(lo, hi)) + 1).max(2)

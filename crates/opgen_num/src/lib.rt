@@ -1,4 +1,5 @@
-//! Words of bits, and the limits and errors that every crate shares.
+//! Words of bits, the formats that read them as numbers, and what a good rounding is.
+//! Also the limits and the error that every crate shares.
 #![tactic(auto)]
 
 mod format;

@@ -3,7 +3,7 @@ ghost use Rattle.std.specs.Prelude.{ℕ, ◌<◌, ◌≤◌, ◌^◌};
 /// The number of binary digits of a whole number, none for 0.
 pub fn bit_length(n: u128) -> u32
     ensures holds { n < 2 ^ result }
-    ensures least { (length : ℕ) → n < 2 ^ length → result ≤ length }
+    ensures least { (digits : ℕ) → n < 2 ^ digits → result ≤ digits }
 {
     128 - n.leading_zeros()
 }

@@ -1,0 +1,22 @@
+use Rattle.std.proofs.Common.{◌^◌, ap, arith}
+use Rattle.std.proofs.lemmas.Int.{ints}
+use Rattle.std.proofs.lemmas.Nat.{one_shl, pow_below}
+use Rattle.opgen_num.proofs.Values.{int-low, int-high}
+use Rattle.opgen_num.proofs.Words.{nat-below}
+use Rattle.opgen_num.proofs.format.signed_value.Goals as goal
+
+pub returns-then-bits-power : goal.returns-then-bits-power
+returns-then-bits-power c =
+    let width = ap (λ n. 2 ^ n) c.width.ensures in
+    let power = one_shl c.width.result 128 (omega arith) in
+    let small = pow_below c.width.result 126 (omega arith) in
+    let below = nat-below c.args.word in
+    omega (arith, ints, int-low c.args.word (omega (arith, ints)))
+
+pub returns-else-bits-power : goal.returns-else-bits-power
+returns-else-bits-power c =
+    let width = ap (λ n. 2 ^ n) c.width.ensures in
+    let power = one_shl c.width.result 128 (omega arith) in
+    let small = pow_below c.width.result 126 (omega arith) in
+    let below = nat-below c.args.word in
+    omega (arith, ints, int-high c.args.word (omega (arith, ints)))
