@@ -1,4 +1,4 @@
-//! The worked cases, over the whole program: tests alone.
+//! The worked cases: tests over the whole program, and definitions computed on a small net.
 #![tactic(auto)]
 
 #[cfg(test)]
@@ -7,3 +7,6 @@ mod faults;
 mod generate;
 #[cfg(test)]
 mod running;
+mod worked;
+
+pub use worked::definitions_compute;

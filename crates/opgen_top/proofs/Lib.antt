@@ -2,3 +2,4 @@ mod Trees
 mod Simple
 pub mod Products
 pub mod Circuits
+pub mod Parts

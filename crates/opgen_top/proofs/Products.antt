@@ -9,10 +9,11 @@ use Rattle.opgen_net.specs.declared.design.Port.{Port}
 use Rattle.opgen_net.specs.declared.net.Net.{Net}
 use Rattle.opgen_net.specs.Value.{word_at}
 use Rattle.opgen_net.specs.Flow.{Inputs, input_from, slice_flow}
-use Rattle.opgen_net.specs.Valid.{IsValid}
+use Rattle.opgen_net.specs.Valid.{IsValid, input_widths as net_widths}
 use Rattle.opgen_net.specs.Run.{Words, RunsOn, Run, AreWords, at_ports, is_in, input_widths, outputs_of}
 use Rattle.opgen_net.specs.Made.{input_port, output_port, design_of}
 use Rattle.opgen_flat.specs.Following.{RunFollowsFlow}
+use Rattle.opgen_flat.specs.Running.{DesignRuns}
 use Rattle.opgen_scale.specs.Times.{IsTimes}
 use Rattle.opgen_top.specs.Generate.{Multiplies}
 
@@ -50,7 +51,7 @@ given_words width [] t given all h = cc
 given_words width (words ∷ later) zero given all h = let e : words ≡ given = cc in subst (AreWords (width ∷ [])) e (all 0 given (omega arith))
 given_words width (words ∷ later) (suc t) given all h = given_words width later t given (λ k d l. all (suc k) d (omega (arith, l))) h
 
-module _ (law : RunFollowsFlow) (name : List ℕ) (width factor : ℕ) (net : Net) (valid : IsValid net) (times : IsTimes width factor net) where
+module _ (law : RunFollowsFlow) (running : DesignRuns) (name : List ℕ) (width factor : ℕ) (net : Net) (valid : IsValid net) (times : IsTimes width factor net) where
   abbrev d : Design
   d = design_of name net
 
@@ -69,5 +70,10 @@ module _ (law : RunFollowsFlow) (name : List ℕ) (width factor : ℕ) (net : Ne
       ∙ ap (λ n. n ∷ []) (times.product inputs (pos t) all ∙ ap (λ w. factor * nat w) (input_in width inputs t given at))
       ∙ ap (map (λ x. factor * nat x)) (single width given (given_words width inputs t given all at))
 
-  pub multiplies : Multiplies factor width d
-  multiplies = record { input = one_input; product = product }
+  has_run : (inputs : Inputs) → All (AreWords (width ∷ [])) inputs → (vs : List Words) × Run d inputs vs
+  has_run inputs words =
+      let e : width ∷ [] ≡ net_widths net = sym (ap (map (λ i. i.1)) times.inputs) in
+      running name net valid inputs (subst (λ ws. All (AreWords ws) inputs) e words)
+
+  pub multiplies : Multiplies width factor d
+  multiplies = record { input = one_input; runs = has_run; product = product }

@@ -2,15 +2,6 @@
 use Rattle.std.specs.Prelude.{ℕ, ◌≡◌, ◌⊎◌}
 use Rattle.opgen_io.specs.Counts.{Rose}
 
--- one of the statuses that the program has
-abbrev pub IsStatus : ℕ → Type 0
-IsStatus status =
-    (status ≡ 0) ⊎ ((status ≡ 1) ⊎ ((status ≡ 2) ⊎ ((status ≡ 3) ⊎ ((status ≡ 4) ⊎ ((status ≡ 5) ⊎ (status ≡ 9))))))
-
--- the status whose line was put; or 4, where the sink counted a fault; or 5
-abbrev pub TellsOr : (status before now result : ℕ) → Type 0
-TellsOr status before now result = (result ≡ status) ⊎ (((result ≡ 4) × Rose before now) ⊎ (result ≡ 5))
-
 -- a status of a refusal: the specification, the words, the read or the length
 abbrev pub Refuses : ℕ → Type 0
 Refuses status = (status ≡ 1) ⊎ ((status ≡ 2) ⊎ ((status ≡ 3) ⊎ (status ≡ 9)))
@@ -18,3 +9,15 @@ Refuses status = (status ≡ 1) ⊎ ((status ≡ 2) ⊎ ((status ≡ 3) ⊎ (sta
 -- a status that comes with a line
 abbrev pub HasLine : ℕ → Type 0
 HasLine status = (status ≡ 0) ⊎ Refuses status
+
+-- the status of a write fault, or of want of memory
+abbrev pub IsSilent : ℕ → Type 0
+IsSilent status = (status ≡ 4) ⊎ (status ≡ 5)
+
+-- one of the statuses that the program has
+abbrev pub IsStatus : ℕ → Type 0
+IsStatus status = HasLine status ⊎ IsSilent status
+
+-- the status whose line was put; or 4, where the sink counted a fault; or 5
+abbrev pub TellsOr : (status before now result : ℕ) → Type 0
+TellsOr status before now result = (result ≡ status) ⊎ (((result ≡ 4) × Rose before now) ⊎ (result ≡ 5))

@@ -4,6 +4,7 @@
 mod command;
 mod first;
 mod generate;
+mod line;
 mod program;
 mod spec_name;
 mod status;

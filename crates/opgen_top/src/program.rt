@@ -1,45 +1,112 @@
 //! All that the program does.
-ghost use Rattle.std.specs.Prelude.{◌≡◌, ◌⊎◌, ◌++◌, ℕ, List, map, None, Some, string_bytes};
+ghost use Rattle.std.specs.Prelude.{◌≡◌, ◌⊎◌, ◌≤◌, ◌++◌, ℕ, List, map, None, Some, is_some, string_bytes, IfOk, IfErr, IsOk, IsErr, MatchResult, Ok};
+ghost use Rattle.opgen_top.specs.declared.line.Line.{Line};
 ghost use Rattle.opgen_io.specs.Bytes.{TakesPrefix};
 ghost use Rattle.opgen_io.specs.Counts.{Rose, Stood};
 ghost use Rattle.opgen_io.specs.Files.{Files, stored};
-ghost use Rattle.opgen_top.specs.Answer.{due_line, due_status, IsMissing, IsTooLong, read_fault_line, TakesPartOfLine, too_long_line, usage_line};
+ghost use Rattle.opgen_top.specs.Answer.{answer_of, due, IsMissing, IsTooLong, read_fault, too_long, usage, IsAnswer, TakesLine, TakesPartOfLine};
 ghost use Rattle.opgen_top.specs.Command.{spec_file};
 ghost use Rattle.opgen_top.specs.Generate.{Generates, IsRefused, Leaves, LeavesStored};
-ghost use Rattle.opgen_top.specs.Statuses.{IsStatus, Refuses, TellsOr};
+ghost use Rattle.opgen_top.specs.Statuses.{HasLine, IsSilent, IsStatus, Refuses, TellsOr};
 
 use crate::command::spec_file;
 use crate::first::FirstFault;
 use crate::generate::{GeneratedFile, generated};
-use crate::status::{Status, told};
-use opgen_io::{FetchFault, Folder, Sink, StoreFault};
+use crate::line::Line;
+use crate::status::Status;
+use opgen_io::{FetchFault, Folder, PutFault, Sink, StoreFault};
 use std::alloc::Global;
 
 /// The most bytes that a specification has.
 const MAX_SPEC_LEN: usize = 1_048_576;
 
-/// Stores the generated file, and prints the line that tells of it.
-fn store<F: Folder, K: Sink>(generated: &GeneratedFile, folder: &mut F, out: &mut K) -> Status
-    ensures statuses { (result.0 ≡ 0) ⊎ ((result.0 ≡ 4) ⊎ (result.0 ≡ 5)) }
-    ensures stored { (files : Files) → F.told folder.old ≡ Some files → result.0 ≡ 0 →
-        F.told folder.new ≡ Some (stored (string_bytes generated.now.file) generated.now.text.items files) }
-    ensures write_fault { result.0 ≡ 4 →
-        Rose (F.write_faults folder.old) (F.write_faults folder.new) ⊎ Rose (K.faults out.old) (K.faults out.new) }
-    ensures left { (files : Files) → F.told folder.old ≡ Some files →
-        LeavesStored (string_bytes generated.now.file) generated.now.text.items files (F.told folder.new) }
-
+/// Stores the generated file, and gives the line that tells of it; without a line, the status.
+fn store<F: Folder>(generated: GeneratedFile, folder: &mut F) -> Result<Line, Status>
+    ensures line { IfOk result (λ line. line ≡ Line.Wrote generated.line) }
+    ensures silent { IfErr result (λ status. IsSilent status.0) }
+    ensures stored { (files : Files) → F.told folder.old ≡ Some files → IsOk result →
+        F.told folder.new ≡ Some (stored (string_bytes generated.file) generated.text.items files) }
+    ensures write_fault { IfErr result (λ status. status.0 ≡ 4 → Rose (F.write_faults folder.old) (F.write_faults folder.new)) }
+    ensures left { (files : Files) → F.told folder.old ≡ Some files → IsErr result →
+        LeavesStored (string_bytes generated.file) generated.text.items files (F.told folder.new)
+        (F.write_faults folder.old) (F.write_faults folder.new) }
     ensures read_faults_same { F.read_faults folder.new ≡ F.read_faults folder.old }
-    ensures complete { Stood (F.write_faults folder.old) (F.write_faults folder.new) → Stood (K.faults out.old) (K.faults out.new) →
-        (result.0 ≡ 0) ⊎ (result.0 ≡ 5) }
-    ensures line { (held : List ℕ) → K.taken out.old ≡ Some held → result.0 ≡ 0 →
-        K.taken out.new ≡ Some (held ++ string_bytes generated.now.line) }
-    ensures part { result.0 ≡ 4 → TakesPrefix (K.taken out.old) (string_bytes generated.now.line) (K.taken out.new) }
-    ensures none { result.0 ≡ 5 → K.taken out.new ≡ K.taken out.old }
+    ensures complete { Stood (F.write_faults folder.old) (F.write_faults folder.new) → IfErr result (λ status. status.0 ≡ 5) }
 {
     match folder.store(&generated.file, &generated.text) {
-        Ok(()) => told(0, &generated.line, out),
-        Err(StoreFault::Failed) => Status(4),
-        Err(StoreFault::Memory) => Status(5),
+        Ok(()) => Ok(Line::Wrote(generated.line)),
+        Err(StoreFault::Failed) => Err(Status(4)),
+        Err(StoreFault::Memory) => Err(Status(5)),
+    }
+}
+
+/// Does what the words ask, but for printing: gives the line that is to be printed; without a line,
+/// the status.
+fn answer<F: Folder>(alloc: Global, words: &[String], folder: &mut F) -> Result<Line, Status>
+    ensures silent { IfErr result (λ status. IsSilent status.0) }
+    ensures listed { IfOk result (λ line. IsAnswer (answer_of line)) }
+    ensures generated { (files : Files) → F.told folder.old ≡ Some files →
+        (line : Line) → result ≡ Ok line → (answer_of line).status ≡ 0 →
+        Generates (spec_file (map string_bytes words.now)) files (F.told folder.new) }
+
+    ensures usage { IfOk result (λ line. (answer_of line).status ≡ 2 → spec_file (map string_bytes words.now) ≡ None) }
+    ensures usage_due { spec_file (map string_bytes words.now) ≡ None → result ≡ Ok Line.Usage }
+    ensures read_fault { IfOk result (λ line. (answer_of line).status ≡ 3 →
+        Rose (F.read_faults folder.old) (F.read_faults folder.new) ⊎ Rose (F.lacks folder.old) (F.lacks folder.new)) }
+    ensures too_long { IfOk result (λ line. (answer_of line).status ≡ 9 → Rose (F.longs folder.old) (F.longs folder.new)) }
+    ensures write_fault { IfErr result (λ status. status.0 ≡ 4 → Rose (F.write_faults folder.old) (F.write_faults folder.new)) }
+    ensures refused { (files : Files) → F.told folder.old ≡ Some files → IfOk result (λ line. (answer_of line).status ≡ 1 →
+        IsRefused (spec_file (map string_bytes words.now)) files) }
+    ensures missing { (files : Files) → F.told folder.old ≡ Some files →
+        Stood (F.read_faults folder.old) (F.read_faults folder.new) → IfOk result (λ line. (answer_of line).status ≡ 3 →
+        IsMissing (spec_file (map string_bytes words.now)) files) }
+    ensures longer { (files : Files) → F.told folder.old ≡ Some files → IfOk result (λ line. (answer_of line).status ≡ 9 →
+        IsTooLong (spec_file (map string_bytes words.now)) files) }
+
+    ensures complete { (files : Files) → F.told folder.old ≡ Some files →
+        Stood (F.read_faults folder.old) (F.read_faults folder.new) →
+        Stood (F.write_faults folder.old) (F.write_faults folder.new) →
+        MatchResult result (λ line. answer_of line ≡ due (spec_file (map string_bytes words.now)) files) (λ status. status.0 ≡ 5) }
+    ensures due { (files : Files) → F.told folder.old ≡ Some files → IfOk result (λ line. (answer_of line ≡ read_fault) ⊎
+        (answer_of line ≡ due (spec_file (map string_bytes words.now)) files)) }
+
+    ensures unchanged { IfOk result (λ line. Refuses (answer_of line).status → F.told folder.new ≡ F.told folder.old) }
+    ensures left { (files : Files) → F.told folder.old ≡ Some files → IsErr result →
+        Leaves (spec_file (map string_bytes words.now)) files (F.told folder.new)
+        (F.write_faults folder.old) (F.write_faults folder.new) }
+{
+    let Some(file) = spec_file(words) else {
+        return Ok(Line::Usage);
+    };
+    let bytes = match folder.fetch(alloc, file, MAX_SPEC_LEN) {
+        Ok(bytes) => bytes,
+        Err(FetchFault::Failed) => return Ok(Line::ReadFault),
+        Err(FetchFault::TooLong) => return Ok(Line::TooLong),
+        Err(FetchFault::Memory) => return Err(Status(5)),
+    };
+    match generated(alloc, &bytes) {
+        Ok(generated) => store(generated, folder),
+        Err(FirstFault::NotToml) => Ok(Line::NotToml),
+        Err(FirstFault::Unsupported) => Ok(Line::Unsupported),
+        Err(FirstFault::Memory) => Err(Status(5)),
+    }
+}
+
+/// Prints the line, and gives the status that comes with it; where the line is refused, 4 or 5.
+fn printed<K: Sink>(line: &Line, out: &mut K) -> Status
+    ensures status { TellsOr (answer_of line.now).status (K.faults out.old) (K.faults out.new) result.0 }
+    ensures listed { IsStatus result.0 }
+    ensures taken { (held : List ℕ) → K.taken out.old ≡ Some held →
+        IsSilent result.0 ⊎ (K.taken out.new ≡ Some (held ++ (answer_of line.now).line)) }
+    ensures part { result.0 ≡ 4 → TakesPrefix (K.taken out.old) (answer_of line.now).line (K.taken out.new) }
+    ensures silent { Stood (K.faults out.old) (K.faults out.new) → (result.0 ≡ 4 → ⊥) }
+    ensures none { result.0 ≡ 5 → K.taken out.new ≡ K.taken out.old }
+    ensures tells { is_some (K.taken out.new) ≡ is_some (K.taken out.old) }
+{
+    match out.put(line.as_str().as_bytes()) {
+        Ok(()) => Status(line.status()),
+        Err(PutFault::Failed) => Status(4),
+        Err(PutFault::Memory) => Status(5),
     }
 }
 
@@ -58,7 +125,7 @@ pub fn run<F: Folder, K: Sink>(
 
     // Each refusal has its cause.
     ensures usage { result.0 ≡ 2 → spec_file (map string_bytes words.now) ≡ None }
-    ensures usage_told { spec_file (map string_bytes words.now) ≡ None →
+    ensures usage_due { spec_file (map string_bytes words.now) ≡ None →
         TellsOr 2 (K.faults out.old) (K.faults out.new) result.0 }
     ensures read_fault { result.0 ≡ 3 →
         Rose (F.read_faults folder.old) (F.read_faults folder.new) ⊎ Rose (F.lacks folder.old) (F.lacks folder.new) }
@@ -67,7 +134,6 @@ pub fn run<F: Folder, K: Sink>(
         Rose (F.write_faults folder.old) (F.write_faults folder.new) ⊎ Rose (K.faults out.old) (K.faults out.new) }
     ensures refused { (files : Files) → F.told folder.old ≡ Some files → result.0 ≡ 1 →
         IsRefused (spec_file (map string_bytes words.now)) files }
-
     ensures missing { (files : Files) → F.told folder.old ≡ Some files →
         Stood (F.read_faults folder.old) (F.read_faults folder.new) → result.0 ≡ 3 →
         IsMissing (spec_file (map string_bytes words.now)) files }
@@ -79,46 +145,35 @@ pub fn run<F: Folder, K: Sink>(
         Stood (F.read_faults folder.old) (F.read_faults folder.new) →
         Stood (F.write_faults folder.old) (F.write_faults folder.new) →
         Stood (K.faults out.old) (K.faults out.new) →
-        (result.0 ≡ 5) ⊎ (result.0 ≡ due_status (spec_file (map string_bytes words.now)) files) }
+        (result.0 ≡ 5) ⊎ (result.0 ≡ (due (spec_file (map string_bytes words.now)) files).status) }
     ensures due { (files : Files) → F.told folder.old ≡ Some files →
-        (result.0 ≡ 3) ⊎ ((result.0 ≡ 4) ⊎ ((result.0 ≡ 5) ⊎
-            (result.0 ≡ due_status (spec_file (map string_bytes words.now)) files))) }
+        (result.0 ≡ 3) ⊎ (IsSilent result.0 ⊎ (result.0 ≡ (due (spec_file (map string_bytes words.now)) files).status)) }
 
     // What is left in the folder.
     ensures unchanged { Refuses result.0 → F.told folder.new ≡ F.told folder.old }
-    ensures left { (files : Files) → F.told folder.old ≡ Some files → (result.0 ≡ 4) ⊎ (result.0 ≡ 5) →
-        Leaves (spec_file (map string_bytes words.now)) files (F.told folder.new) }
+    ensures left { (files : Files) → F.told folder.old ≡ Some files → IsSilent result.0 →
+        Leaves (spec_file (map string_bytes words.now)) files (F.told folder.new)
+        (F.write_faults folder.old) (F.write_faults folder.new) }
 
     // What is printed, where the sink tells what it takes: one line, a part of one after 4, nothing after 5.
     ensures line_usage { (held : List ℕ) → K.taken out.old ≡ Some held → result.0 ≡ 2 →
-        K.taken out.new ≡ Some (held ++ usage_line) }
+        K.taken out.new ≡ Some (held ++ usage.line) }
     ensures line_read_fault { (held : List ℕ) → K.taken out.old ≡ Some held → result.0 ≡ 3 →
-        K.taken out.new ≡ Some (held ++ read_fault_line) }
+        K.taken out.new ≡ Some (held ++ read_fault.line) }
     ensures line_too_long { (held : List ℕ) → K.taken out.old ≡ Some held → result.0 ≡ 9 →
-        K.taken out.new ≡ Some (held ++ too_long_line) }
+        K.taken out.new ≡ Some (held ++ too_long.line) }
     ensures line { (files : Files) → F.told folder.old ≡ Some files →
         (held : List ℕ) → K.taken out.old ≡ Some held → (result.0 ≡ 0) ⊎ (result.0 ≡ 1) →
-        K.taken out.new ≡ Some (held ++ due_line (spec_file (map string_bytes words.now)) files) }
+        K.taken out.new ≡ Some (held ++ (due (spec_file (map string_bytes words.now)) files).line) }
+    ensures one_line { (held : List ℕ) → K.taken out.old ≡ Some held → HasLine result.0 →
+        TakesLine result.0 held (K.taken out.new) }
     ensures part { result.0 ≡ 4 → TakesPartOfLine (K.taken out.old) (K.taken out.new) }
+    ensures silent { Stood (K.faults out.old) (K.faults out.new) → result.0 ≡ 4 → K.taken out.new ≡ K.taken out.old }
     ensures none { result.0 ≡ 5 → K.taken out.new ≡ K.taken out.old }
+    ensures sink_tells { is_some (K.taken out.new) ≡ is_some (K.taken out.old) }
 {
-    let Some(file) = spec_file(words) else {
-        return told(
-            2,
-            "usage: opgen COMMAND (generate, vectors, simulate, workload, check)\n",
-            out,
-        );
-    };
-    let bytes = match folder.fetch(alloc, file, MAX_SPEC_LEN) {
-        Ok(bytes) => bytes,
-        Err(FetchFault::Failed) => return told(3, "read fault\n", out),
-        Err(FetchFault::TooLong) => return told(9, "too long\n", out),
-        Err(FetchFault::Memory) => return Status(5),
-    };
-    match generated(alloc, &bytes) {
-        Ok(generated) => store(&generated, folder, out),
-        Err(FirstFault::NotToml) => told(1, "specification: NotToml\n", out),
-        Err(FirstFault::Unsupported) => told(1, "specification: Unsupported\n", out),
-        Err(FirstFault::Memory) => Status(5),
+    match answer(alloc, words, folder) {
+        Ok(line) => printed(&line, out),
+        Err(status) => status,
     }
 }

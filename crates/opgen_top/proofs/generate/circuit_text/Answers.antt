@@ -1,6 +1,7 @@
 use Rattle.std.proofs.Common.{◌≡◌, [], Some, ap, sym, ◌∙◌, subst}
 use Rattle.opgen_net.specs.Named.{IsNamed}
 use Rattle.opgen_flat.proofs.Follows.{follows}
+use Rattle.opgen_flat.proofs.Runs.{design_runs}
 use Rattle.opgen_text.specs.DesignText.{text_of}
 use Rattle.opgen_top.specs.Generate.{Multiplies}
 use Rattle.opgen_top.proofs.Circuits.{named}
@@ -20,10 +21,10 @@ returns-in-Ok c =
     let taken = c.in-Ok.ensures.ok [] (ap Some c.new-text.ensures) in
     let text : c.into_bytes.result.items ≡ text_of c.in_ok-design.design = c.into_bytes.ensures ∙ cc in record {
       design = c.in_ok-design.design;
-      spelled = text;
+      written = text;
       name = ap (λ d. d.name) made ∙ c.deref.ensures;
       sound = c.in_ok-design.ensures.sound;
       multiplies =
-        subst (Multiplies first.factor first.width) (sym made)
-        (multiplies follows c.deref.result.now first.width first.factor net c.in_ok-net.ensures.valid c.in_ok-net.ensures.times);
+          subst (Multiplies first.width first.factor) (sym made)
+          (multiplies follows design_runs c.deref.result.now first.width first.factor net c.in_ok-net.ensures.valid c.in_ok-net.ensures.times);
     }

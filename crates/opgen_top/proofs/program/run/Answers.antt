@@ -1,12 +1,21 @@
-use Rattle.std.proofs.Common.{◌≡◌, Err, refl, inl, inr, rules}
-use Rattle.opgen_top.specs.Answer.{line_of_reading}
-use Rattle.opgen_top.specs.declared.first.FirstFault.TheVariants.{NotToml, Unsupported}
+use Rattle.std.proofs.Common.{◌≡◌, refl, sym, ◌∙◌, inl, inr, arith}
+use Rattle.opgen_top.specs.Answer.{answer_of, usage}
+use Rattle.opgen_top.proofs.Parts.{takes-nothing}
 use Rattle.opgen_top.proofs.program.run.Goals as goal
 
-pub returns-in-Err-NotToml-clause-part : goal.returns-in-Err-NotToml-clause-part
-returns-in-Err-NotToml-clause-part g c h =
-    (line_of_reading (Err NotToml), inr (inr (inr (Err NotToml, refl))), c.told-in-Err-NotToml.ensures.part h)
+pub returns-in-Ok-clause-generated : goal.returns-in-Ok-clause-generated
+returns-in-Ok-clause-generated g c files told h =
+    let line = c.in-Ok.line in
+    let ok : (answer_of line).status ≡ 0 =
+    elim c.printed.ensures.status [
+      | inl e ↦ sym e ∙ h
+      | inr (inl p) ↦ absurd (omega (arith, p.0, h))
+      | inr (inr e) ↦ absurd (omega (arith, e, h))
+    ] in
+    c.answer.ensures.generated files told line c.in-Ok.is ok
 
-pub returns-in-Err-Unsupported-clause-part : goal.returns-in-Err-Unsupported-clause-part
-returns-in-Err-Unsupported-clause-part g c h =
-    (line_of_reading (Err Unsupported), inr (inr (inr (Err Unsupported, refl))), c.told-in-Err-Unsupported.ensures.part h)
+pub returns-in-Err-clause-part : goal.returns-in-Err-clause-part
+returns-in-Err-clause-part g c h = (usage, inl refl, takes-nothing _ usage.line)
+
+pub returns-in-Err-clause-left : goal.returns-in-Err-clause-left
+returns-in-Err-clause-left g c files told h = c.in-Err.ensures.left files told refl

@@ -1,0 +1,47 @@
+//! The lines that the program prints.
+ghost use Rattle.std.specs.Prelude.{◌≡◌};
+
+/// The line that an answer prints. It decides the status.
+#[derive(Drop)]
+pub enum Line {
+    Usage,
+    ReadFault,
+    TooLong,
+    NotToml,
+    Unsupported,
+    /// The whole line that tells of a stored file.
+    Wrote(String),
+}
+
+impl Line {
+    ghost use Rattle.opgen_top.specs.Answer.{answer_of, IsAnswer};
+    ghost use Rattle.opgen_top.specs.Statuses.{HasLine};
+
+    /// The status that comes with the line.
+    pub fn status(&self) -> u8
+        ensures value { result ≡ (answer_of self.now).status }
+        ensures listed { HasLine result }
+    {
+        match self {
+            Line::Wrote(_) => 0,
+            Line::NotToml | Line::Unsupported => 1,
+            Line::Usage => 2,
+            Line::ReadFault => 3,
+            Line::TooLong => 9,
+        }
+    }
+
+    /// The line with its line feed.
+    pub fn as_str(&self) -> &str
+        ensures { result.now ≡ (answer_of self.now).line }
+    {
+        match self {
+            Line::Usage => "usage: opgen COMMAND (generate, vectors, simulate, workload, check)\n",
+            Line::ReadFault => "read fault\n",
+            Line::TooLong => "too long\n",
+            Line::NotToml => "specification: NotToml\n",
+            Line::Unsupported => "specification: Unsupported\n",
+            Line::Wrote(line) => line.as_str(),
+        }
+    }
+}
