@@ -1,5 +1,5 @@
 -- Powers of two.
-use Rattle.std.proofs.Common.{◌≡◌, ℕ, zero, suc, ◌+◌, ◌-◌, ◌*◌, ◌/◌, ◌%◌, ◌^◌, ◌≤◌, ap, ◌∙◌, arith, inl, inr}
+use Rattle.std.proofs.Common.{◌<◌, ◌≡◌, ℕ, zero, suc, ◌+◌, ◌-◌, ◌*◌, ◌/◌, ◌%◌, ◌^◌, ◌≤◌, ap, ◌∙◌, arith, inl, inr}
 use Rattle.std.proofs.Math.Nat.{two-pow-succ, mul-le-mul_left}
 use Rattle.std.proofs.lemmas.Nat.{pow_below, pow_pos, pow-add}
 use Rattle.std.proofs.Math.Pow.{pow_mono}
@@ -40,3 +40,23 @@ positive_product zero zeros factor width product positive wide = absurd (omega (
 positive_product (suc n) zeros factor width product positive wide =
     let two : 2 ^ 1 ≤ 2 ^ width = pow_mono wide in
     omega (arith, mul-le-mul_left (suc n) two)
+
+-- the number of bits is the least that hold the number
+pub bits_least : (n bits : ℕ) → 1 ≤ n → n < 2 ^ bits → ((length : ℕ) → n < 2 ^ length → bits ≤ length) → (1 ≤ bits) × (2 ^ (bits - 1) ≤ n)
+bits_least n zero some below least = absurd (omega (arith, some, below))
+bits_least n (suc k) some below least =
+    let e : suc k - 1 ≡ k = omega arith in (
+      omega arith,
+      elim (cases_lt n (2 ^ (suc k - 1))) [
+      | inl l ↦ let fewer = least k (omega (arith, l, ap (λ i. 2 ^ i) e)) in absurd (omega (arith, fewer))
+      | inr l ↦ l
+    ],
+    )
+
+-- the bits of the greatest product, by the number that the program makes of it
+pub product_bits : (odd zeros factor width number bits : ℕ) → odd * 2 ^ zeros ≡ factor → 1 ≤ factor → 1 ≤ width → number ≡ odd * (2 ^ width - 1)
+    → number < 2 ^ bits → ((length : ℕ) → number < 2 ^ length → bits ≤ length) → (1 ≤ bits) × (2 ^ (bits - 1) ≤ odd * (2 ^ width - 1))
+product_bits odd zeros factor width number bits product positive wide is below least =
+    let some : 1 ≤ number = omega (arith, is, positive_product odd zeros factor width product positive wide) in
+    let found = bits_least number bits some below least in
+    (found.0, omega (arith, found.1, is))

@@ -12,7 +12,7 @@ use Rattle.opgen_net.specs.Value.{word_at}
 use Rattle.opgen_net.specs.Flow.{Inputs, input_at, slice_flow}
 use Rattle.opgen_net.specs.Run.{AreWords}
 use Rattle.opgen_flat.specs.Combinational.{HasNoDelay}
-use Rattle.opgen_scale.specs.Times.{multiples, IsLeastWidth, IsTimes}
+use Rattle.opgen_scale.specs.Times.{multiples, IsBitLength, IsTimes}
 use Rattle.opgen_scale.specs.Recipe.{table_nodes, table_net, shifted_nodes, product_node}
 use Rattle.opgen_scale.proofs.Product.{get_or-multiples, nat-row, nat-shifted, cut-whole, length-input_at}
 
@@ -56,7 +56,7 @@ module _ (number w row : ℕ) (fits : number * (2 ^ w - 1) < 2 ^ row) (positive 
       ∙ ap (λ n. 2 ^ suc z * n) (nat-row number row w x size fits)
       ∙ omega arith
 
-  least-width : (z factor : ℕ) → number * 2 ^ z ≡ factor → 2 ^ (row - 1) ≤ number * (2 ^ w - 1) → IsLeastWidth (row + z) (factor * (2 ^ w - 1))
+  least-width : (z factor : ℕ) → number * 2 ^ z ≡ factor → 2 ^ (row - 1) ≤ number * (2 ^ w - 1) → IsBitLength (row + z) (factor * (2 ^ w - 1))
   least-width z factor product least =
       let whole : factor * (2 ^ w - 1) ≡ 2 ^ z * (number * (2 ^ w - 1)) = omega (arith, ap (λ n. n * (2 ^ w - 1)) product) in
       let e : row + z - 1 ≡ row - 1 + z = omega (arith, positive) in (
@@ -72,7 +72,7 @@ is_times number w row z factor fits positive product least = record {
   outputs = refl;
   output_width =
       let e : row + z ≡ row + z - 1 + 1 - 0 = omega (arith, positive) in
-      subst (λ n. IsLeastWidth n (factor * (2 ^ w - 1))) e (least-width number w row fits positive z factor product least);
+      subst (λ n. IsBitLength n (factor * (2 ^ w - 1))) e (least-width number w row fits positive z factor product least);
   product = λ inputs t words. product-flow number w row fits positive z inputs t words ∙ ap (λ n. n * nat (input_at inputs 0 w t)) product;
 }
 

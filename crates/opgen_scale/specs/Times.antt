@@ -12,15 +12,15 @@ abbrev pub multiples : (number width n : ℕ) → List (List Bool)
 multiples number width zero = []
 multiples number width (suc n) = multiples number width n ++ word width (number * n) ∷ []
 
--- the least number of bits that hold a number
-abbrev pub IsLeastWidth : (width number : ℕ) → Type 0
-IsLeastWidth width number = (number < 2 ^ width) × (2 ^ (width - 1) ≤ number)
+-- as many bits as a number has
+abbrev pub IsBitLength : (width number : ℕ) → Type 0
+IsBitLength width number = (number < 2 ^ width) × (2 ^ (width - 1) ≤ number)
 
 -- input x of a width and output y, of the least width for the greatest product; at each time y is factor times x
 pub record IsTimes (width factor : ℕ) (net : Net) : Type 0 where
   pub inputs : net.inputs ≡ (codes "x", width) ∷ []
   pub from : Slice
   pub outputs : net.outputs ≡ record { name = codes "y"; from = from } ∷ []
-  pub output_width : IsLeastWidth (slice_width from) (factor * (2 ^ width - 1))
+  pub output_width : IsBitLength (slice_width from) (factor * (2 ^ width - 1))
   pub product : (inputs : Inputs) (t : ℤ) → All (AreWords (width ∷ [])) inputs
       → nat (slice_flow net.nodes inputs from t) ≡ factor * nat (input_at inputs 0 width t)

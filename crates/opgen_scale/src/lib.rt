@@ -9,7 +9,7 @@ ghost use Rattle.opgen_scale.specs.Times.{multiples, IsTimes};
 ghost use Rattle.opgen_scale.specs.Recipe.{table_net, above_zeros, shifted_nodes, product_node};
 
 use opgen_net::{Class, Expr, Net, Op, Slice};
-use opgen_num::{Memory, Word};
+use opgen_num::{Memory, Word, bit_length};
 use std::alloc::{AllocError, Global};
 
 /// An odd number and the number of zeros below it.
@@ -37,43 +37,32 @@ fn odd_part(number: u64) -> OddPart
     OddPart { odd, zeros }
 }
 
-/// The number of bits of a number.
-fn bit_length(number: u64) -> u32
-    requires { 1 ≤ number }
-    ensures fits { number < 2 ^ result }
-    ensures least { 2 ^ (result - 1) ≤ number }
-    ensures positive { 1 ≤ result }
-    ensures small { result ≤ 64 }
-{
-    number.ilog2() + 1
-}
-
 /// How the products of an input and a factor stand in a table.
 #[derive(Clone, Copy)]
-struct Rows {
+struct TableShape {
     /// What the table multiplies by: the factor without the zeros that end it.
     odd: u64,
     zeros: u32,
     /// The least width that holds each row.
-    width: u32,
+    row_width: u32,
 }
 
-fn rows_of(width: u32, factor: u64) -> Rows
+fn table_shape(width: u32, factor: u64) -> TableShape
     requires narrow { (1 ≤ width) × (width ≤ 6) }
     requires factor { (1 ≤ factor) × (factor ≤ 2 ^ 30) }
     ensures product { result.odd * 2 ^ result.zeros ≡ factor }
     ensures small { result.odd ≤ 2 ^ 30 }
-    ensures fits { result.odd * (2 ^ width - 1) < 2 ^ result.width }
-    ensures least { 2 ^ (result.width - 1) ≤ result.odd * (2 ^ width - 1) }
-    ensures positive { 1 ≤ result.width }
-    ensures sum { result.width + result.zeros ≤ 36 }
+    ensures fits { result.odd * (2 ^ width - 1) < 2 ^ result.row_width }
+    ensures least { 2 ^ (result.row_width - 1) ≤ result.odd * (2 ^ width - 1) }
+    ensures positive { 1 ≤ result.row_width }
+    ensures sum { result.row_width + result.zeros ≤ 36 }
 {
     let OddPart { odd, zeros } = odd_part(factor);
     let greatest = odd * ((1 << width) - 1);
-    Rows {
+    TableShape {
         odd,
         zeros,
-        width: bit_length(greatest),
+        row_width: bit_length(u128::from(greatest)),
     }
 }
 
@@ -151,10 +140,10 @@ pub fn times(alloc: Global, width: u32, factor: u64) -> Result<Net, Memory>
     ensures no_delay { IfOk result HasNoDelay }
     ensures times { IfOk result (IsTimes width factor) }
 {
-    let rows = rows_of(width, factor);
-    let mut net = table_net(alloc, rows.odd, width, rows.width)?;
-    let node = shift(alloc, &mut net, rows.width, rows.zeros)?;
-    let high = rows.width + rows.zeros - 1;
+    let shape = table_shape(width, factor);
+    let mut net = table_net(alloc, shape.odd, width, shape.row_width)?;
+    let node = shift(alloc, &mut net, shape.row_width, shape.zeros)?;
+    let high = shape.row_width + shape.zeros - 1;
     net.output("y", Slice { node, high, low: 0 })?;
     Ok(net)
 }
