@@ -35,12 +35,12 @@ times3_design = record {
   name = codes "times3";
   ports = record { name = codes "x"; dir = In; width = 1 } ∷ record { name = codes "y"; dir = Out; width = 2 } ∷ [];
   signals =
-    record { name = codes "s" ++ decimal 0; width = 1; initial = None }
-    ∷ record { name = codes "s" ++ decimal 1; width = 2; initial = None } ∷ [];
+      record { name = codes "s" ++ decimal 0; width = 1; initial = None }
+      ∷ record { name = codes "s" ++ decimal 1; width = 2; initial = None } ∷ [];
   drivers =
-    Assign 0 (port 0)
-    ∷ Table 1 (name 0) ((bit_word false, zero_word) ∷ []) three_word
-    ∷ Output 1 (name 1) ∷ [];
+      Assign 0 (port 0)
+      ∷ Table 1 (name 0) ((bit_word false, zero_word) ∷ []) three_word
+      ∷ Output 1 (name 1) ∷ [];
 }
 
 -- the input is 1 in cycle 0 and 0 in cycle 1

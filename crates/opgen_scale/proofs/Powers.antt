@@ -48,9 +48,9 @@ bits_least n (suc k) some below least =
     let e : suc k - 1 ≡ k = omega arith in (
       omega arith,
       elim (cases_lt n (2 ^ (suc k - 1))) [
-      | inl l ↦ let fewer = least k (omega (arith, l, ap (λ i. 2 ^ i) e)) in absurd (omega (arith, fewer))
-      | inr l ↦ l
-    ],
+        | inl l ↦ let fewer = least k (omega (arith, l, ap (λ i. 2 ^ i) e)) in absurd (omega (arith, fewer))
+        | inr l ↦ l
+      ],
     )
 
 -- the bits of the greatest product, by the number that the program makes of it

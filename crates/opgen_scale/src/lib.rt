@@ -122,6 +122,7 @@ fn shift(alloc: Global, net: &mut Net, row_width: u32, zeros: u32) -> Result<usi
     ensures place { IfOk result (λ n. n ≡ product_node zeros) }
     ensures valid { IsValid net.new }
 {
+    // The input is node 0, and the table node 1.
     if zeros == 0 {
         return Ok(1);
     }
@@ -131,8 +132,8 @@ fn shift(alloc: Global, net: &mut Net, row_width: u32, zeros: u32) -> Result<usi
 
 /// The net that multiplies an unsigned input `x` of `width` bits by `factor`.
 ///
-/// The output `y` has the least width that holds the greatest product. The table holds the products
-/// without the zeros that end them all; these stand below its rows.
+/// The output `y` has the least width that holds the greatest product. What no clause says: the
+/// table holds the products without the zeros that end them all, which stand below its rows.
 pub fn times(alloc: Global, width: u32, factor: u64) -> Result<Net, Memory>
     requires narrow { (1 ≤ width) × (width ≤ 6) }
     requires factor { (1 ≤ factor) × (factor ≤ 2 ^ 30) }

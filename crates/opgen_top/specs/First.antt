@@ -1,4 +1,4 @@
--- Which documents the first reader takes, and what it reads of them.
+-- Which documents are simple, and what is read of them.
 use Rattle.std.specs.Prelude.{◌≡◌, ℕ, ◌==◌, ◌^◌, ◌&&◌, ◌≤◌, ℤ, pos, negsuc, Bool, true, false, not, IsTrue, List, [], ◌∷◌, length, codes, Option, Some, None, IsSomeAnd, option_and_then, if◌then◌else◌, nat_le, string_bytes, Result, Ok, Err}
 use Rattle.std.specs.List.{list_any}
 use Rattle.std.specs.Option.{option_map_or}

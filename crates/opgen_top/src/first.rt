@@ -23,7 +23,7 @@ pub struct First {
     pub factor: u64,
 }
 
-/// Why nothing is read. Each prints as its name.
+/// Why nothing is read. The first two print as the line of a refusal names them.
 #[derive(Debug, Drop, Error)]
 pub enum FirstFault {
     #[error("NotToml")]
