@@ -1,0 +1,6 @@
+mod Digits
+mod Trees
+mod Bounds
+mod Reading
+mod Fields
+mod Validity
