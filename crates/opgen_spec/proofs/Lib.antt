@@ -4,3 +4,4 @@ mod Bounds
 mod Reading
 mod Fields
 mod Validity
+pub mod Accepted

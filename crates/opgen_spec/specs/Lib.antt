@@ -7,3 +7,4 @@ pub mod Outputs
 pub mod Faults
 pub mod Ranges
 pub mod Valid
+pub mod Texts

@@ -1,4 +1,5 @@
 ghost use Rattle.std.specs.Prelude.{◌≡◌, Some};
+ghost use Rattle.opgen_spec.specs.Texts.{place_text, fault_text};
 
 use crate::key::Key;
 use std::alloc::AllocError;
@@ -36,6 +37,8 @@ struct Place {
 }
 
 impl fmt::Display for Place {
+    ghost output = { λ place. Some (place_text place) };
+
     fn fmt<W: fmt::Write>(&self, f: &mut fmt::Formatter<W>) -> fmt::Result {
         if self.line == 0 {
             write!(f, "{}", self.key)
@@ -46,6 +49,8 @@ impl fmt::Display for Place {
 }
 
 impl fmt::Display for SpecFault {
+    ghost output = { λ fault. Some (fault_text fault) };
+
     fn fmt<W: fmt::Write>(&self, f: &mut fmt::Formatter<W>) -> fmt::Result {
         match *self {
             SpecFault::NotToml => write!(f, "NotToml"),

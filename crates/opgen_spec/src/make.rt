@@ -169,11 +169,12 @@ fn lines_of(alloc: Global, items: &[Value]) -> Result<Items<DelayLine>, AllocErr
 pub(crate) fn spec_with(alloc: Global, kind: Kind, table: &Table) -> Result<Spec, AllocError>
     ensures { IfOk result (λ spec. spec ≡ spec_with kind (table_view table.now)) }
 {
+    let exact = flag_at(table, Key::Exact);
     Ok(Spec {
         version: count_at(table, Key::Version),
         name: Text::from_str(alloc, text_at(table, Key::Name))?,
         op: operator_of(alloc, kind, table)?,
-        exact: flag_at(table, Key::Exact),
+        exact,
         target: Text::from_str(alloc, text_at(table, Key::Target))?,
         period: count_at(table, Key::Period),
         delays: lines_of(alloc, items_at(table, Key::Delay))?,
