@@ -1,0 +1,7 @@
+mod Digits
+mod Trees
+mod Bounds
+mod Reading
+mod Fields
+mod Validity
+pub mod Accepted

@@ -1,0 +1,129 @@
+-- A document without a fault gives a valid specification.
+use Rattle.std.proofs.Common.{◌≡◌, ℕ, zero, suc, ◌+◌, ◌≤◌, Bool, true, false, List, [], ◌∷◌, length, Option, Some, None, is_some, option_and_then, refl, ap, arith, lit<, if◌then◌else◌}
+use Rattle.std.specs.Prelude.{ℤ, pos, negsuc, All}
+use Rattle.std.proofs.lemmas.Int.{ints}
+use Rattle.toml.specs.Data.{Data, string, integer, float, boolean, datetime, array, table, Items, no_items, item, Members}
+use Rattle.opgen_spec.specs.declared.fault.SpecFault.{SpecFault}
+use Rattle.opgen_spec.specs.declared.fault.SpecFault.TheVariants as fault
+use Rattle.opgen_spec.specs.declared.key.Key.{Key}
+use Rattle.opgen_spec.specs.declared.key.Key.TheVariants as key
+use Rattle.opgen_spec.specs.declared.key.Kind.{Kind}
+use Rattle.opgen_spec.specs.declared.key.Kind.TheVariants as kind
+use Rattle.opgen_spec.specs.declared.lines.Check.TheVariants.{Range}
+use Rattle.opgen_spec.specs.declared.spec.DelayLine.{DelayLine}
+use Rattle.opgen_spec.specs.Keys.{line_keys, is_needed}
+use Rattle.opgen_spec.specs.Document.{list_of, items_in, value_at, number_at, text_at, flag_at, items_at, count, kind_of}
+use Rattle.opgen_spec.specs.Spec.{line_of, lines_of, operator_of, spec_with}
+use Rattle.opgen_spec.specs.SpecName.{is_spec_name}
+use Rattle.opgen_spec.specs.Valid.{AgreesOnExact, IsDelayLine, IsValidSpec}
+use Rattle.opgen_spec.specs.Faults.{first_of, outside, length_outside, found, out_of_range, outside_among, is_one, among_line, among_lines, not_exact, coarse, too_wide, limit_fault}
+use Rattle.opgen_spec.proofs.Reading.{or_none}
+use Rattle.opgen_spec.proofs.Fields.{AreFine, map_none, first_none, present, needs, there_inside, inside, zero_inside, counted, operator_in}
+
+-- what a choice without a fault says of its test
+passed : (b : Bool) (f : SpecFault) → (if b then None else Some f) ≡ None → b ≡ true
+passed true f h = refl
+passed false f h = cc
+
+pub no_kind : (o : Option Kind) → (if is_some o then None else Some fault.BadKind) ≡ None → o ≡ None → ⊥
+no_kind o h e = go (is_some o) (passed (is_some o) fault.BadKind h) (ap is_some e)
+  where
+    go : (b : Bool) → b ≡ true → b ≡ false → ⊥
+    go b is is_no = cc
+
+one_counted : (n : ℤ) → is_one n ≡ true → count n ≡ 1
+one_counted (pos n) h =
+    let same : n ≡ 1 = grind arith in
+    rw same refl
+one_counted (negsuc n) h = cc
+
+agrees : (ms : Members) (one : Kind) → AgreesOnExact (flag_at ms key.Exact) (operator_of one ms)
+agrees ms kind.Scale = refl
+agrees ms kind.Fir = refl
+agrees ms kind.Multiply = tt
+agrees ms kind.Divide = refl
+agrees ms kind.Root = refl
+agrees ms kind.Mcm = tt
+
+-- every kind needs its target and its period
+common : (one : Kind) → (is_needed (Some one) key.Target ≡ true) × (is_needed (Some one) key.Period ≡ true)
+common kind.Scale = (refl, refl)
+common kind.Fir = (refl, refl)
+common kind.Multiply = (refl, refl)
+common kind.Divide = (refl, refl)
+common kind.Root = (refl, refl)
+common kind.Mcm = (refl, refl)
+
+-- delay lines
+line_ranges : (n : ℕ) (ms : Members) → outside_among line_keys n ms ≡ None → (found n ms key.Base ≡ None) × (found n ms key.PerBit ≡ None)
+unfolding line_keys
+line_ranges n ms h =
+    let f : Key → Option SpecFault = λ k. out_of_range n k (found n ms k) in (
+      map_none (fault.OutOfRange key.Base n) (found n ms key.Base) (first_none f line_keys 1 key.Class h (lit< tt)),
+      map_none (fault.OutOfRange key.PerBit n) (found n ms key.PerBit) (first_none f line_keys 2 key.Class h (lit< tt)),
+    )
+
+delay_in : (n : ℕ) (ms : Members) → outside_among line_keys n ms ≡ None → IsDelayLine (line_of ms)
+delay_in n ms h =
+    let (base, per_bit) = line_ranges n ms h in
+    let (base_least, base_most) = zero_inside (value_at ms key.Base) (pos 0) (pos 1000000) (omega (arith, ints)) (omega (arith, ints)) base in
+    let (bit_least, bit_most) = zero_inside (value_at ms key.PerBit) (pos 0) (pos 10000) (omega (arith, ints)) (omega (arith, ints)) per_bit in
+    ((counted (number_at ms key.Base) 0 1000000 base_least base_most (omega arith)).1, (counted (number_at ms key.PerBit) 0 10000 bit_least bit_most (omega arith)).1)
+
+all_more : (x : DelayLine) (xs : List DelayLine) → IsDelayLine x → All IsDelayLine xs → All IsDelayLine (x ∷ xs)
+all_more x xs first rest zero d lt = first
+all_more x xs first rest (suc k) d lt = rest k d (omega arith)
+
+delays_in : (n : ℕ) (items : Items) → among_lines Range n items ≡ None → All IsDelayLine (lines_of items)
+delays_in n no_items h = λ k d lt. absurd (omega arith)
+delays_in n (item (table ms) rest) h =
+    let (line, later) = or_none (among_line Range n (table ms)) (among_lines Range (n + 1) rest) h in
+    all_more (line_of ms) (lines_of rest) (delay_in n ms line) (delays_in (n + 1) rest later)
+delays_in n (item (string _) rest) h = delays_in (n + 1) rest h
+delays_in n (item (integer _) rest) h = delays_in (n + 1) rest h
+delays_in n (item (float _) rest) h = delays_in (n + 1) rest h
+delays_in n (item (boolean _) rest) h = delays_in (n + 1) rest h
+delays_in n (item (datetime _) rest) h = delays_in (n + 1) rest h
+delays_in n (item (array _) rest) h = delays_in (n + 1) rest h
+
+no_more_lines : (items : Items) → length (lines_of items) ≤ length (list_of items)
+no_more_lines no_items = omega arith
+no_more_lines (item (table ms) rest) = omega (arith, no_more_lines rest)
+no_more_lines (item (string _) rest) = omega (arith, no_more_lines rest)
+no_more_lines (item (integer _) rest) = omega (arith, no_more_lines rest)
+no_more_lines (item (float _) rest) = omega (arith, no_more_lines rest)
+no_more_lines (item (boolean _) rest) = omega (arith, no_more_lines rest)
+no_more_lines (item (datetime _) rest) = omega (arith, no_more_lines rest)
+no_more_lines (item (array _) rest) = omega (arith, no_more_lines rest)
+
+few_items : (o : Option Data) → option_and_then (λ _. length_outside 0 16 (items_in o)) o ≡ None → length (list_of (items_in o)) ≤ 16
+few_items None h = omega arith
+few_items (Some d) h =
+    let (_, most) = inside (pos 0) (pos 16) (pos (length (list_of (items_in (Some d))))) h in
+    omega (arith, ints)
+
+pub valid_in : (ms : Members) (one : Kind) → AreFine ms → kind_of ms ≡ Some one → limit_fault (spec_with one ms) ≡ None → IsValidSpec (spec_with one ms)
+unfolding spec_with
+valid_in ms one f e h =
+    let spec = spec_with one ms in
+    let (exact, later) = or_none (not_exact spec) (first_of (coarse spec ∷ too_wide spec ∷ [])) h in
+    let (shift, last) = or_none (coarse spec) (first_of (too_wide spec ∷ [])) later in
+    let (width, _) = or_none (too_wide spec) None last in
+    let (target, period) = common one in
+    let text = there_inside (value_at ms key.Target) (outside (pos 1) (pos 32) (pos (length (text_at ms key.Target)))) (present ms key.Target (needs ms one key.Target e target) f.needed.target) f.ranges.target in
+    let (text_least, text_most) = inside (pos 1) (pos 32) (pos (length (text_at ms key.Target))) text in
+    let time = there_inside (value_at ms key.Period) (outside (pos 1) (pos 1000000) (number_at ms key.Period)) (present ms key.Period (needs ms one key.Period e period) f.needed.period) f.ranges.period in
+    let (time_least, time_most) = inside (pos 1) (pos 1000000) (number_at ms key.Period) time in
+    record {
+      version = one_counted (number_at ms key.Version) (passed (is_one (number_at ms key.Version)) (fault.BadVersion (number_at ms key.Version)) f.version);
+      name = passed (is_spec_name (text_at ms key.Name)) fault.BadName f.name;
+      op = operator_in ms one f e;
+      agrees = agrees ms one;
+      target = (omega (arith, ints), omega (arith, ints));
+      period = counted (number_at ms key.Period) 1 1000000 time_least time_most (omega arith);
+      few_lines = omega (arith, no_more_lines (items_at ms key.Delay), few_items (value_at ms key.Delay) f.ranges.delay);
+      lines = delays_in 1 (items_at ms key.Delay) f.lines;
+      has_exact = exact;
+      fine = shift;
+      narrow = width;
+    }

@@ -1,0 +1,34 @@
+-- Valid specifications: their fields are within the ranges of their keys, and they have a net.
+use Rattle.std.specs.Prelude.{◌≡◌, ◌≤◌, Bool, IsTrue, length, All, None}
+use Rattle.opgen_spec.specs.declared.spec.Spec.{Spec}
+use Rattle.opgen_spec.specs.declared.spec.DelayLine.{DelayLine}
+use Rattle.opgen_spec.specs.declared.spec.Operator.{Operator}
+use Rattle.opgen_spec.specs.declared.spec.Operator.TheVariants.{Scale, Fir, Multiply, Divide, Root, Mcm}
+use Rattle.opgen_spec.specs.Faults.{not_exact, coarse, too_wide}
+use Rattle.opgen_spec.specs.Ranges.{IsOperator}
+use Rattle.opgen_spec.specs.SpecName.{is_spec_name}
+
+-- the operator's own mark of exact outputs, where it has one, is that of the specification
+abbrev pub AgreesOnExact : Bool → Operator → Type 0
+AgreesOnExact exact (Scale s) = s.exact ≡ exact
+AgreesOnExact exact (Fir s) = s.exact ≡ exact
+AgreesOnExact exact (Multiply p) = Unit {0}
+AgreesOnExact exact (Divide p) = p.exact ≡ exact
+AgreesOnExact exact (Root r) = r.exact ≡ exact
+AgreesOnExact exact (Mcm m) = Unit {0}
+
+abbrev pub IsDelayLine : DelayLine → Type 0
+IsDelayLine line = (line.base ≤ 1000000) × (line.per_bit ≤ 10000)
+
+pub record IsValidSpec (spec : Spec) : Type 0 where
+  pub version : spec.version ≡ 1
+  pub name : IsTrue (is_spec_name spec.name)
+  pub op : IsOperator spec.op
+  pub agrees : AgreesOnExact spec.exact spec.op
+  pub target : (1 ≤ length spec.target) × (length spec.target ≤ 32)
+  pub period : (1 ≤ spec.period) × (spec.period ≤ 1000000)
+  pub few_lines : length spec.delays ≤ 16
+  pub lines : All IsDelayLine spec.delays
+  pub has_exact : not_exact spec ≡ None
+  pub fine : coarse spec ≡ None
+  pub narrow : too_wide spec ≡ None

@@ -1,0 +1,94 @@
+ghost use Rattle.std.specs.Prelude.{◌≡◌, option_map};
+ghost use Rattle.toml.specs.View.{view, items_view, table_view};
+ghost use Rattle.opgen_spec.specs.Document.{value_at, number_at, count_at, small_at, text_at, flag_at, items_of, items_at, kind_of};
+
+use crate::key::{Key, Kind, kind_named};
+use toml::{Table, Value};
+
+/// The value at a key.
+pub(crate) fn value_at<'a>(table: &'a Table, key: Key) -> Option<&'a Value>
+    ensures { option_map (λ v. view v.now) result ≡ value_at (table_view table.now) key }
+{
+    table.get(key.name())
+}
+
+/// The whole number at a key, 0 where there is none.
+pub(crate) fn number_at(table: &Table, key: Key) -> i64
+    ensures { result ≡ number_at (table_view table.now) key }
+{
+    match value_at(table, key) {
+        Some(Value::Integer(n)) => *n,
+        _ => 0,
+    }
+}
+
+/// The number at a key as a count of 32 bits, 0 where it is none.
+pub(crate) fn count_at(table: &Table, key: Key) -> u32
+    ensures { result ≡ count_at (table_view table.now) key }
+{
+    let n = number_at(table, key);
+    if 0 <= n && n < 4_294_967_296 {
+        n as u32
+    } else {
+        0
+    }
+}
+
+/// The number at a key in 32 bits with a sign, 0 where it does not fit.
+pub(crate) fn small_at(table: &Table, key: Key) -> i32
+    ensures { result ≡ small_at (table_view table.now) key }
+{
+    let n = number_at(table, key);
+    if -2_147_483_648 <= n && n < 2_147_483_648 {
+        n as i32
+    } else {
+        0
+    }
+}
+
+/// The text at a key, empty where there is none.
+pub(crate) fn text_at<'a>(table: &'a Table, key: Key) -> &'a str
+    ensures { result.now ≡ text_at (table_view table.now) key }
+{
+    match value_at(table, key) {
+        Some(Value::String(text)) => text.as_str(),
+        _ => "",
+    }
+}
+
+/// The truth value at a key, false where there is none.
+pub(crate) fn flag_at(table: &Table, key: Key) -> bool
+    ensures { result ≡ flag_at (table_view table.now) key }
+{
+    match value_at(table, key) {
+        Some(Value::Boolean(flag)) => *flag,
+        _ => false,
+    }
+}
+
+/// The items of an array, none of another value.
+pub(crate) fn items_of(value: &Value) -> &[Value]
+    ensures { items_view result.now ≡ items_of (view value.now) }
+{
+    match value {
+        Value::Array(items) => items.as_slice(),
+        _ => &[],
+    }
+}
+
+/// The items of the array at a key, none where there is no array.
+pub(crate) fn items_at<'a>(table: &'a Table, key: Key) -> &'a [Value]
+    ensures { items_view result.now ≡ items_at (table_view table.now) key }
+{
+    match value_at(table, key) {
+        Some(value) => items_of(value),
+        None => &[],
+    }
+}
+
+/// The kind that the document names.
+pub(crate) fn kind_of(table: &Table) -> Option<Kind>
+    ensures { result ≡ kind_of (table_view table.now) }
+{
+    kind_named(text_at(table, Key::Kind))
+}

@@ -1,0 +1,86 @@
+ghost use Rattle.std.specs.Prelude.{◌≡◌, Some};
+ghost use Rattle.opgen_spec.specs.Texts.{place_text, fault_text};
+
+use crate::key::Key;
+use std::alloc::AllocError;
+use std::error::Error;
+use std::fmt;
+
+/// Why a document is no specification. `line` is 0 for a key of the document, and else the number
+/// of the delay line, from 1.
+#[derive(Clone, Copy, Debug, PartialEq, Eq, Drop)]
+pub enum SpecFault {
+    NotToml,
+    /// `at` is the place of the key among those of its table in byte order, from 0.
+    UnknownKey { line: u64, at: u64 },
+    MissingKey { key: Key, line: u64 },
+    WrongType { key: Key, line: u64 },
+    BadVersion { found: i64 },
+    BadName,
+    BadKind,
+    /// `found` is the number, or the length of a list or a text, or the number of the line whose
+    /// class is none.
+    OutOfRange { key: Key, line: u64, found: i64 },
+    /// Of the first coefficient that is not whole in units of the output's last place.
+    NotExact { index: u32 },
+    Coarse { shift: i32 },
+    /// `need` is the number of bits of the widest signal.
+    TooWide { need: u32 },
+    Memory,
+}
+
+/// A key and the number of its delay line, if it is a delay line's.
+#[derive(Clone, Copy)]
+struct Place {
+    key: Key,
+    line: u64,
+}
+
+impl fmt::Display for Place {
+    ghost output = { λ place. Some (place_text place) };
+
+    fn fmt<W: fmt::Write>(&self, f: &mut fmt::Formatter<W>) -> fmt::Result {
+        if self.line == 0 {
+            write!(f, "{}", self.key)
+        } else {
+            write!(f, "{} {}", self.key, self.line)
+        }
+    }
+}
+
+impl fmt::Display for SpecFault {
+    ghost output = { λ fault. Some (fault_text fault) };
+
+    fn fmt<W: fmt::Write>(&self, f: &mut fmt::Formatter<W>) -> fmt::Result {
+        match *self {
+            SpecFault::NotToml => write!(f, "NotToml"),
+            SpecFault::UnknownKey { line, at } => write!(f, "UnknownKey {line} {at}"),
+            SpecFault::MissingKey { key, line } => {
+                write!(f, "MissingKey {}", Place { key, line })
+            }
+            SpecFault::WrongType { key, line } => write!(f, "WrongType {}", Place { key, line }),
+            SpecFault::BadVersion { found } => write!(f, "BadVersion {found}"),
+            SpecFault::BadName => write!(f, "BadName"),
+            SpecFault::BadKind => write!(f, "BadKind"),
+            SpecFault::OutOfRange { key, line, found } => {
+                write!(f, "OutOfRange {} {found}", Place { key, line })
+            }
+            SpecFault::NotExact { index } => write!(f, "NotExact {index}"),
+            SpecFault::Coarse { shift } => write!(f, "Coarse {shift}"),
+            SpecFault::TooWide { need } => write!(f, "TooWide {need}"),
+            SpecFault::Memory => write!(f, "out of memory"),
+        }
+    }
+}
+
+impl Error for SpecFault {}
+
+impl From<AllocError> for SpecFault {
+    ghost use Rattle.opgen_spec.specs.declared.fault.SpecFault.TheVariants as faults;
+
+    ghost from_gives = { λ _ fault. fault ≡ faults.Memory };
+
+    fn from(_refused: AllocError) -> SpecFault {
+        SpecFault::Memory
+    }
+}

@@ -1,0 +1,174 @@
+ghost use Rattle.std.specs.Prelude.{◌≡◌, IfOk, IfErr, MatchResult, None, Some};
+ghost use Rattle.toml.specs.View.{table_view};
+ghost use Rattle.opgen_spec.specs.Document.{tree};
+ghost use Rattle.opgen_spec.specs.Ranges.{IsOperator};
+ghost use Rattle.opgen_spec.specs.Faults.{bad_version, bad_name, bad_kind, form_fault, value_fault, field_fault, read, Gives, IsNoTree};
+ghost use Rattle.opgen_spec.specs.Valid.{IsValidSpec};
+
+use crate::document::{kind_of, number_at, text_at};
+use crate::fault::SpecFault;
+use crate::key::Key;
+use crate::limits::limit_fault;
+use crate::lines::{Check, check_fault};
+use crate::make::spec_with;
+use crate::spec::Spec;
+use crate::spec_name::is_spec_name;
+use std::alloc::Global;
+use toml::Table;
+
+fn document(alloc: Global, bytes: &[u8]) -> Result<Table, SpecFault>
+    ensures { MatchResult result (λ table. tree bytes.now ≡ Some (table_view table))
+        (IsNoTree (tree bytes.now)) }
+{
+    let Ok(text) = std::str::from_utf8(bytes) else {
+        return Err(SpecFault::NotToml);
+    };
+    match toml::table_from_str(alloc, text) {
+        Ok(table) => Ok(table),
+        Err(fault) if fault.is_memory() => Err(SpecFault::Memory),
+        Err(_) => Err(SpecFault::NotToml),
+    }
+}
+
+fn bad_version(table: &Table) -> Option<SpecFault>
+    ensures { result ≡ bad_version (table_view table.now) }
+{
+    let found = number_at(table, Key::Version);
+    if found == 1 {
+        None
+    } else {
+        Some(SpecFault::BadVersion { found })
+    }
+}
+
+fn bad_name(table: &Table) -> Option<SpecFault>
+    ensures { result ≡ bad_name (table_view table.now) }
+{
+    if is_spec_name(text_at(table, Key::Name)) {
+        None
+    } else {
+        Some(SpecFault::BadName)
+    }
+}
+
+fn bad_kind(table: &Table) -> Option<SpecFault>
+    ensures { result ≡ bad_kind (table_view table.now) }
+{
+    if kind_of(table).is_some() {
+        None
+    } else {
+        Some(SpecFault::BadKind)
+    }
+}
+
+/// The first fault of the keys' presence and types.
+fn form_fault(table: &Table) -> Option<SpecFault>
+    ensures { result ≡ form_fault (table_view table.now) }
+{
+    if let Some(fault) = check_fault(Check::Unknown, table) {
+        return Some(fault);
+    }
+    if let Some(fault) = check_fault(Check::Missing, table) {
+        return Some(fault);
+    }
+    check_fault(Check::WrongType, table)
+}
+
+/// The first fault of the keys' values, each by itself.
+fn value_fault(table: &Table) -> Option<SpecFault>
+    ensures { result ≡ value_fault (table_view table.now) }
+{
+    if let Some(fault) = bad_version(table) {
+        return Some(fault);
+    }
+    if let Some(fault) = bad_name(table) {
+        return Some(fault);
+    }
+    if let Some(fault) = bad_kind(table) {
+        return Some(fault);
+    }
+    check_fault(Check::Range, table)
+}
+
+fn field_fault(table: &Table) -> Option<SpecFault>
+    ensures { result ≡ field_fault (table_view table.now) }
+{
+    match form_fault(table) {
+        Some(fault) => Some(fault),
+        None => value_fault(table),
+    }
+}
+
+/// Reads the bytes of a specification, a TOML document, and answers its first fault, if it has one.
+///
+/// The faults are judged in the order of their variants, and within one of them in the order of the
+/// keys, those of the document before those of its delay lines.
+pub fn read_spec(alloc: Global, bytes: &[u8]) -> Result<Spec, SpecFault>
+    ensures gives { Gives result (read (tree bytes.now)) }
+    ensures valid { IfOk result IsValidSpec }
+{
+    let table = document(alloc, bytes)?;
+    if let Some(fault) = field_fault(&table) {
+        return Err(fault);
+    }
+    let Some(kind) = kind_of(&table) else {
+        return Err(SpecFault::BadKind);
+    };
+    let spec = spec_with(alloc, kind, &table)?;
+    if let Some(fault) = limit_fault(&spec) {
+        return Err(fault);
+    }
+    Ok(spec)
+}
+
+#[cfg(test)]
+mod tests {
+    use super::*;
+    use std::test::Fail;
+
+    static SCALE: &str = "version = 1\nname = \"times3\"\nkind = \"scale\"\nexact = true\ntarget = \"plain\"\nperiod = 10000\nsigned = false\nwidth = 4\nlsb = 0\nout_lsb = 0\n";
+
+    // What follows the keys of `SCALE`, and the answer.
+    static CASES: [(&str, &str); 12] = [
+        ("coefficients = [3]", "Ok"),
+        ("coefficients = [3", "NotToml"),
+        ("", "MissingKey coefficients"),
+        ("coefficients = [3]\ncolour = 1", "UnknownKey 0 1"),
+        ("coefficients = [3.0]", "WrongType coefficients"),
+        ("coefficients = [\"0.5\"]\ndenominator = 1", "WrongType denominator"),
+        ("coefficients = [1073741825]", "OutOfRange coefficients 1073741825"),
+        ("coefficients = [1]\ndenominator = 3", "NotExact 0"),
+        (
+            "coefficients = [3]\n[[delay]]\nclass = \"add\"\nbase = 100\nper_bit = 10",
+            "Ok",
+        ),
+        (
+            "coefficients = [3]\n[[delay]]\nclass = \"wood\"\nbase = 100\nper_bit = 10",
+            "OutOfRange class 1 1",
+        ),
+        (
+            "coefficients = [3]\n[[delay]]\nclass = \"add\"\nper_bit = 10",
+            "MissingKey base 1",
+        ),
+        (
+            "coefficients = [3]\n[[delay]]\nclass = \"add\"\nbase = 0\nper_bit = 0\naa = 1",
+            "UnknownKey 1 0",
+        ),
+    ];
+
+    fn answer(rt: &HostRuntime, text: &str) -> Result<String, Fail> {
+        match read_spec(rt.alloc(), text.as_bytes()) {
+            Ok(_) => Ok(String::from_str(rt.alloc(), "Ok")?),
+            Err(fault) => Ok(format!(in rt.alloc(); "{fault}")?),
+        }
+    }
+
+    #[test]
+    fn answers_first_faults(rt: HostRuntime) -> Result<(), Fail> {
+        for (keys, line) in CASES {
+            let text = format!(in rt.alloc(); "{SCALE}{keys}")?;
+            assert_eq!(rt; answer(&rt, text.as_str())?.as_str(), line);
+        }
+        Ok(())
+    }
+}
