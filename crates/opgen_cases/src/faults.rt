@@ -4,33 +4,96 @@ use std::test::Fail;
 
 const USAGE: &str = "usage: opgen COMMAND (generate, vectors, simulate, workload, check)\n";
 
-const NOT_TOML: &str = "specification: NotToml\n";
-
-const UNSUPPORTED: &str = "specification: Unsupported\n";
-
-/// A specification's name, width and coefficients that are not supported.
-static UNSUPPORTED_ROWS: [[&str; 3]; 12] = [
-    ["times3", "7", "3"],
-    ["times3", "0", "3"],
-    ["times3", "4", "0"],
-    ["times3", "4", "1073741825"],
-    ["times3", "4", "-3"],
-    ["times3", "4", "3.0"],
-    ["times3", "4", "3, 3"],
-    ["times3", "4.0", "3"],
-    ["x", "4", "3"],
-    ["s12", "4", "3"],
-    ["times__3", "4", "3"],
-    ["Times3", "4", "3"],
+/// A specification's name, width and coefficients, what follows them, and the line that refuses it.
+static REFUSED: [(&str, &str, &str, &str, &str); 18] = [
+    ("times3", "7", "3", "", "specification: Unsupported\n"),
+    ("times3", "4", "0", "", "specification: Unsupported\n"),
+    ("times3", "4", "-3", "", "specification: Unsupported\n"),
+    (
+        "times3",
+        "4",
+        "1",
+        "denominator = 3\n",
+        "specification: NotExact 0\n",
+    ),
+    (
+        "times3",
+        "0",
+        "3",
+        "",
+        "specification: OutOfRange width 0\n",
+    ),
+    (
+        "times3",
+        "33",
+        "3",
+        "",
+        "specification: OutOfRange width 33\n",
+    ),
+    (
+        "times3",
+        "4",
+        "1073741825",
+        "",
+        "specification: OutOfRange coefficients 1073741825\n",
+    ),
+    (
+        "times3",
+        "4",
+        "3, 3",
+        "",
+        "specification: OutOfRange coefficients 2\n",
+    ),
+    (
+        "times3",
+        "4",
+        "3.0",
+        "",
+        "specification: WrongType coefficients\n",
+    ),
+    (
+        "times3",
+        "4",
+        "\"1.0000000000\"",
+        "",
+        "specification: WrongType coefficients\n",
+    ),
+    ("times3", "4.0", "3", "", "specification: WrongType width\n"),
+    ("x", "4", "3", "", "specification: BadName\n"),
+    ("s12", "4", "3", "", "specification: BadName\n"),
+    ("times__3", "4", "3", "", "specification: BadName\n"),
+    ("Times3", "4", "3", "", "specification: BadName\n"),
+    (
+        "times3",
+        "4",
+        "3",
+        "colour = 1\n",
+        "specification: UnknownKey 0 1\n",
+    ),
+    (
+        "times3",
+        "4",
+        "3",
+        "version = 1\n",
+        "specification: NotToml\n",
+    ),
+    (
+        "times3",
+        "4",
+        "3",
+        "[[delay]]\nclass = \"wood\"\nbase = 1\nper_bit = 1\n",
+        "specification: OutOfRange class 1 1\n",
+    ),
 ];
 
 #[test]
-fn unsupported_values(rt: HostRuntime) -> Result<(), Fail> {
-    for [name, width, coefficients] in &UNSUPPORTED_ROWS {
-        let spec = scale(rt.alloc(), name, width, coefficients)?;
+fn refused_values(rt: HostRuntime) -> Result<(), Fail> {
+    for (name, width, coefficients, more, line) in &REFUSED {
+        let mut spec = scale(rt.alloc(), name, width, coefficients)?;
+        spec.push_str(more)?;
         let ran = generated(rt.alloc(), &spec)?;
         assert_eq!(rt; ran.status.0, 1);
-        assert!(rt; ran.out.bytes() == UNSUPPORTED.as_bytes());
+        assert!(rt; ran.out.bytes() == line.as_bytes());
         assert!(rt; ran.folder.get("times3.vhd").is_none());
     }
     Ok(())
@@ -38,11 +101,11 @@ fn unsupported_values(rt: HostRuntime) -> Result<(), Fail> {
 
 /// Whole documents, and the lines that refuse them.
 static DOCUMENTS: [(&[u8], &str); 5] = [
-    (b"", UNSUPPORTED),
-    (b"version = 2\n", UNSUPPORTED),
-    (b"x = ", NOT_TOML),
-    (b"version = 1\nversion = 1\n", NOT_TOML),
-    (b"name = \"\xff\"\n", NOT_TOML),
+    (b"", "specification: MissingKey version\n"),
+    (b"version = 2\n", "specification: MissingKey name\n"),
+    (b"x = ", "specification: NotToml\n"),
+    (b"version = 1\nversion = 1\n", "specification: NotToml\n"),
+    (b"name = \"\xff\"\n", "specification: NotToml\n"),
 ];
 
 #[test]
@@ -147,5 +210,9 @@ fn failing_calls(rt: HostRuntime) -> Result<(), Fail> {
     assert_eq!(rt; line.status.0, 4);
     assert!(rt; line.out.bytes().is_empty());
     assert!(rt; line.folder.get("times3.vhd").is_some());
+
+    // The line is put in one call.
+    let second = ran(rt.alloc(), &words, "spec.toml", spec.as_bytes(), &[], &[1])?;
+    assert_eq!(rt; second.status.0, 0);
     Ok(())
 }

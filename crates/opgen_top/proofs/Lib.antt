@@ -1,5 +1,4 @@
-mod Trees
-mod Simple
 pub mod Products
 pub mod Circuits
 pub mod Parts
+pub mod Names

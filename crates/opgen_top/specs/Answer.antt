@@ -5,11 +5,14 @@ use Rattle.opgen_io.specs.Bytes.{TakesPrefix}
 use Rattle.opgen_io.specs.Files.{Files}
 use Rattle.opgen_io.specs.declared.folder.FetchFault.{FetchFault}
 use Rattle.opgen_io.specs.declared.folder.FetchFault.TheVariants as fetch
-use Rattle.opgen_top.specs.First.{Fields, tree, read}
-use Rattle.opgen_top.specs.declared.first.FirstFault.{FirstFault}
-use Rattle.opgen_top.specs.declared.first.FirstFault.TheVariants as fault
+use Rattle.opgen_spec.specs.Document.{tree}
+use Rattle.opgen_spec.specs.Faults.{read}
+use Rattle.opgen_spec.specs.Texts.{fault_text}
+use Rattle.opgen_spec.specs.declared.fault.SpecFault.{SpecFault}
+use Rattle.opgen_spec.specs.declared.spec.Spec.{Spec}
+use Rattle.opgen_top.specs.Built.{Multiplication, multiplication}
 use Rattle.opgen_top.specs.declared.line.Line.{Line}
-use Rattle.opgen_top.specs.declared.line.Line.TheVariants.{Usage, ReadFault, TooLong, NotToml, Unsupported, Wrote}
+use Rattle.opgen_top.specs.declared.line.Line.TheVariants.{Usage, ReadFault, TooLong, Unsupported, Refused, Wrote}
 
 -- the most bytes that a specification has
 abbrev pub most_bytes : ℕ
@@ -26,8 +29,8 @@ file_name name = name ++ codes ".vhd"
 abbrev pub wrote : (name : List ℕ) → Answer
 wrote name = record { status = 0; line = codes "wrote " ++ name ++ codes ".vhd, latency 0\n" }
 
-abbrev pub not_toml : Answer
-not_toml = record { status = 1; line = codes "specification: NotToml\n" }
+abbrev pub refused : SpecFault → Answer
+refused fault = record { status = 1; line = codes "specification: " ++ fault_text fault ++ codes "\n" }
 
 abbrev pub unsupported : Answer
 unsupported = record { status = 1; line = codes "specification: Unsupported\n" }
@@ -44,22 +47,26 @@ too_long = record { status = 9; line = codes "too long\n" }
 -- one of these answers
 abbrev pub IsAnswer : Answer → Type 0
 IsAnswer a =
-    (a ≡ usage) ⊎ ((a ≡ read_fault) ⊎ ((a ≡ too_long) ⊎ ((a ≡ not_toml) ⊎ ((a ≡ unsupported) ⊎ ((name : List ℕ) × (a ≡ wrote name))))))
+    (a ≡ usage) ⊎ ((a ≡ read_fault) ⊎ ((a ≡ too_long) ⊎ ((a ≡ unsupported)
+    ⊎ (((fault : SpecFault) × (a ≡ refused fault)) ⊎ ((name : List ℕ) × (a ≡ wrote name))))))
 
 -- the answer that a line of the program stands for
 abbrev pub answer_of : Line → Answer
 answer_of Usage = usage
 answer_of ReadFault = read_fault
 answer_of TooLong = too_long
-answer_of NotToml = not_toml
 answer_of Unsupported = unsupported
+answer_of (Refused line) = record { status = 1; line = string_bytes line }
 answer_of (Wrote line) = record { status = 0; line = string_bytes line }
 
--- by what reading the specification gives
-abbrev pub answer_of_reading : Result Fields FirstFault → Answer
-answer_of_reading (Ok fields) = wrote fields.name
-answer_of_reading (Err fault.Unsupported) = unsupported
-answer_of_reading (Err _) = not_toml
+-- by what reading the specification gives, and whether it can be generated
+abbrev pub answer_of_spec : Spec → Option Multiplication → Answer
+answer_of_spec spec None = unsupported
+answer_of_spec spec (Some m) = wrote spec.name
+
+abbrev pub answer_of_reading : Result Spec SpecFault → Answer
+answer_of_reading (Ok spec) = answer_of_spec spec (multiplication spec)
+answer_of_reading (Err fault) = refused fault
 
 -- by what fetching its file gives
 abbrev pub answer_of_fetch : Result (List ℕ) FetchFault → Answer

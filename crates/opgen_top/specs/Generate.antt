@@ -1,5 +1,5 @@
 -- What `generate` gives.
-use Rattle.std.specs.Prelude.{IsSome, ℕ, ◌≡◌, ◌⊎◌, ◌*◌, Bool, List, [], ◌∷◌, ◌++◌, map, codes, slice_get, All, Option, Some, None, Err}
+use Rattle.std.specs.Prelude.{IsSome, ℕ, ◌≡◌, ◌⊎◌, ◌*◌, Bool, List, [], ◌∷◌, ◌++◌, map, codes, slice_get, All, Option, Some, None, Ok}
 use Rattle.opgen_num.specs.Words.{nat}
 use Rattle.opgen_net.specs.declared.design.Design.{Design}
 use Rattle.opgen_net.specs.Run.{AreWords, Words, Run, input_widths, outputs_of}
@@ -7,9 +7,11 @@ use Rattle.opgen_net.specs.Sound.{IsSound}
 use Rattle.opgen_text.specs.DesignText.{text_of}
 use Rattle.opgen_io.specs.Counts.{Rose}
 use Rattle.opgen_io.specs.Files.{Files, stored, KeepsOthers}
+use Rattle.opgen_spec.specs.Document.{tree}
+use Rattle.opgen_spec.specs.Faults.{read}
+use Rattle.opgen_spec.specs.declared.spec.Spec.{Spec}
 use Rattle.opgen_top.specs.Answer.{file_name}
-use Rattle.opgen_top.specs.First.{Fields, IsSimpleDocument, tree, read}
-use Rattle.opgen_top.specs.declared.first.FirstFault.TheVariants.{NotToml, Unsupported}
+use Rattle.opgen_top.specs.Built.{Multiplication, multiplication}
 
 -- A design of one input that has a run over each list of its words, and in each of whose runs, in each cycle, the output is a number times the input.
 pub record Multiplies (width factor : ℕ) (d : Design) : Type 0 where
@@ -19,20 +21,22 @@ pub record Multiplies (width factor : ℕ) (d : Design) : Type 0 where
       → (t : ℕ) (given : List (List Bool)) (v : Words) → slice_get inputs t ≡ Some given → slice_get vs t ≡ Some v
       → map nat (outputs_of d v) ≡ map (λ x. factor * nat x) given
 
--- the text of a sound design of the document's name that multiplies as the document asks
-pub record IsCircuitText (fields : Fields) (text : List ℕ) : Type 0 where
+-- the text of a sound design of this name that multiplies
+pub record IsCircuitText (name : List ℕ) (m : Multiplication) (text : List ℕ) : Type 0 where
   pub design : Design
   pub written : text ≡ text_of design
-  pub name : design.name ≡ fields.name
+  pub called : design.name ≡ name
   pub sound : IsSound design
-  pub multiplies : Multiplies fields.width fields.factor design
+  pub multiplies : Multiplies m.width m.factor design
 
--- the bytes are a simple document, and the file, named after it, has the text of its circuit
+-- the bytes are a specification without a fault that asks for a multiplication, and the file, named after it, has the text of its circuit
 pub record IsGenerated (bytes file text : List ℕ) : Type 0 where
-  pub fields : Fields
-  pub simple : IsSimpleDocument bytes fields
-  pub file_name : file ≡ file_name fields.name
-  pub circuit : IsCircuitText fields text
+  pub spec : Spec
+  pub reads : read (tree bytes) ≡ Ok spec
+  pub asked : Multiplication
+  pub asks : multiplication spec ≡ Some asked
+  pub file_name : file ≡ file_name spec.name
+  pub circuit : IsCircuitText spec.name asked text
 
 -- what stands under the name of the specification's file
 abbrev pub Stands : Option (List ℕ) → Files → (bytes : List ℕ) → Type 0
@@ -58,11 +62,11 @@ pub record Breaks (spec : Option (List ℕ)) (files : Files) (after : Option Fil
   pub tells : IsSome after
   pub others : KeepsOthers file (Some files) after
 
--- the specification's bytes are no simple document
+-- the specification's bytes have a fault, or ask for what can't be generated
 pub record IsRefused (spec : Option (List ℕ)) (files : Files) : Type 0 where
   pub bytes : List ℕ
   pub stands : Stands spec files bytes
-  pub refused : (fields : Fields) → IsSimpleDocument bytes fields → ⊥
+  pub refused : (asked : Spec) → read (tree bytes) ≡ Ok asked → multiplication asked ≡ None
 
 -- what a store leaves: the folder as it was, or with the whole file; or, where a fault of writing was counted, with a broken one
 abbrev pub LeavesStored : (file text : List ℕ) (files : Files) (after : Option Files) (faults_before faults_after : ℕ) → Type 0

@@ -1,5 +1,4 @@
-pub mod SpecName
-pub mod First
+pub mod Built
 pub mod Command
 pub mod Statuses
 pub mod Answer

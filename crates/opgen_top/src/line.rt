@@ -7,8 +7,9 @@ pub enum Line {
     Usage,
     ReadFault,
     TooLong,
-    NotToml,
     Unsupported,
+    /// The whole line that names a fault of the specification.
+    Refused(String),
     /// The whole line that tells of a stored file.
     Wrote(String),
 }
@@ -24,7 +25,7 @@ impl Line {
     {
         match self {
             Line::Wrote(_) => 0,
-            Line::NotToml | Line::Unsupported => 1,
+            Line::Unsupported | Line::Refused(_) => 1,
             Line::Usage => 2,
             Line::ReadFault => 3,
             Line::TooLong => 9,
@@ -39,9 +40,8 @@ impl Line {
             Line::Usage => "usage: opgen COMMAND (generate, vectors, simulate, workload, check)\n",
             Line::ReadFault => "read fault\n",
             Line::TooLong => "too long\n",
-            Line::NotToml => "specification: NotToml\n",
             Line::Unsupported => "specification: Unsupported\n",
-            Line::Wrote(line) => line.as_str(),
+            Line::Refused(line) | Line::Wrote(line) => line.as_str(),
         }
     }
 }

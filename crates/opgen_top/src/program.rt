@@ -10,8 +10,7 @@ ghost use Rattle.opgen_top.specs.Generate.{Generates, IsRefused, Leaves, LeavesS
 ghost use Rattle.opgen_top.specs.Statuses.{HasLine, IsSilent, IsStatus, Refuses, TellsOr};
 
 use crate::command::spec_file;
-use crate::first::FirstFault;
-use crate::generate::{GeneratedFile, generated};
+use crate::generate::{GeneratedFile, Refusal, generated};
 use crate::line::Line;
 use crate::status::Status;
 use opgen_io::{FetchFault, Folder, PutFault, Sink, StoreFault};
@@ -86,9 +85,8 @@ fn answer<F: Folder>(alloc: Global, words: &[String], folder: &mut F) -> Result<
     };
     match generated(alloc, &bytes) {
         Ok(generated) => store(generated, folder),
-        Err(FirstFault::NotToml) => Ok(Line::NotToml),
-        Err(FirstFault::Unsupported) => Ok(Line::Unsupported),
-        Err(FirstFault::Memory) => Err(Status(5)),
+        Err(Refusal::Line(line)) => Ok(line),
+        Err(Refusal::Memory) => Err(Status(5)),
     }
 }
 

@@ -1,5 +1,4 @@
 use Rattle.std.proofs.Common.{◌≡◌, [], Some, ap, sym, ◌∙◌, subst}
-use Rattle.opgen_net.specs.Named.{IsNamed}
 use Rattle.opgen_flat.proofs.Follows.{follows}
 use Rattle.opgen_flat.proofs.Runs.{design_runs}
 use Rattle.opgen_text.specs.DesignText.{text_of}
@@ -9,22 +8,20 @@ use Rattle.opgen_top.proofs.Products.{multiplies}
 use Rattle.opgen_top.proofs.generate.circuit_text.Goals as goal
 
 pub flat-requires-clause-named : goal.flat-requires-clause-named
-flat-requires-clause-named c =
-    subst (λ name. IsNamed name c.in_ok-net.net) (sym c.deref.ensures)
-    (named _ c.requires.allowed c.args.first.now.width c.args.first.now.factor c.in_ok-net.net c.in_ok-net.ensures.times)
+flat-requires-clause-named c = named c.args.name.now c.requires.allowed c.args.asked.width c.args.asked.factor c.in_ok-net.net c.in_ok-net.ensures.times
 
 pub returns-in-Ok : goal.returns-in-Ok
 returns-in-Ok c =
-    let first = c.args.first.now in
+    let asked = c.args.asked in
     let net = c.in_ok-net.net in
     let made = c.in_ok-design.ensures.design in
     let taken = c.in-Ok.ensures.ok [] (ap Some c.new-text.ensures) in
     let text : c.into_bytes.result.items ≡ text_of c.in_ok-design.design = c.into_bytes.ensures ∙ cc in record {
       design = c.in_ok-design.design;
       written = text;
-      name = ap (λ d. d.name) made ∙ c.deref.ensures;
+      called = ap (λ d. d.name) made;
       sound = c.in_ok-design.ensures.sound;
       multiplies =
-          subst (Multiplies first.width first.factor) (sym made)
-          (multiplies follows design_runs c.deref.result.now first.width first.factor net c.in_ok-net.ensures.valid c.in_ok-net.ensures.times);
+          subst (Multiplies asked.width asked.factor) (sym made)
+          (multiplies follows design_runs c.args.name.now asked.width asked.factor net c.in_ok-net.ensures.valid c.in_ok-net.ensures.times);
     }

@@ -1,6 +1,0 @@
-use Rattle.opgen_top.specs.SpecName.{taken_names}
-use Rattle.opgen_top.proofs.spec_name.is_taken.Goals as goal
-
-pub returns : goal.returns
-unfolding taken_names
-returns c = c.contains.ensures.value
