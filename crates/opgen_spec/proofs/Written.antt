@@ -1,18 +1,20 @@
 -- A document without a fault gives the values that it writes.
-use Rattle.std.proofs.Common.{◌≡◌, ℕ, ◌<◌, ◌^◌, ◌||◌, not, Bool, true, false, length, get_or, Option, Some, None, is_some, is_none, option_and_then, find, nat_lt, refl, ap, ◌∙◌, arith, lit<, if◌then◌else◌}
+use Rattle.std.proofs.Common.{◌≡◌, sym, ℕ, ◌<◌, ◌^◌, ◌||◌, not, Bool, true, false, length, get_or, Option, Some, None, is_some, is_none, option_and_then, find, nat_lt, refl, ap, ◌∙◌, arith, lit<, if◌then◌else◌, List, [], ◌∷◌, cond}
 use Rattle.std.specs.Prelude.{ℤ, pos, negsuc, ◌≤ℤ◌, int_le, int_lt}
 use Rattle.std.specs.Option.{option_map_or}
 use Rattle.std.proofs.lemmas.Bool.{lt-ltb}
 use Rattle.std.proofs.lemmas.Int.{ints}
+use Rattle.std.proofs.lemmas.Slice.Eq.{bytes_eq-Decides}
+use Rattle.std.specs.Str.{bytes_eq}
 use Rattle.toml.specs.Data.{Data, string, integer, boolean, Members, as_integer, as_str, as_bool}
 use Rattle.opgen_spec.specs.declared.fault.SpecFault.TheVariants as fault
 use Rattle.opgen_spec.specs.declared.key.Key.{Key}
 use Rattle.opgen_spec.specs.declared.key.Key.TheVariants as key
 use Rattle.opgen_spec.specs.declared.key.Kind.{Kind}
 use Rattle.opgen_spec.specs.declared.key.Kind.TheVariants as kind
-use Rattle.opgen_spec.specs.Keys.{document_keys, is_needed}
-use Rattle.opgen_spec.specs.Document.{value_at, number_in, text_in, flag_in, number_at, flag_at, count, small, kind_of}
-use Rattle.opgen_spec.specs.Spec.{format_at, unsigned_at, operator_of, spec_with}
+use Rattle.opgen_spec.specs.Keys.{document_keys, kinds, kind_name, is_needed}
+use Rattle.opgen_spec.specs.Document.{value_at, number_in, text_in, flag_in, number_at, text_at, flag_at, count, small, kind_of}
+use Rattle.opgen_spec.specs.Spec.{format_at, unsigned_at, operator_of, kind_in, spec_with}
 use Rattle.opgen_spec.specs.Written.{IsInputAsWritten, IsOperatorAsWritten, IsAsWritten}
 use Rattle.opgen_spec.specs.Faults.{is_missing, is_wrong, outside, is_one, field_fault}
 use Rattle.opgen_spec.proofs.Fields.{AreFine, fine, nothing_wrong, find_none, map_none, present, needs, there_inside, zero_inside, inside}
@@ -165,13 +167,33 @@ operator_written ms kind.Mcm f t e = record {
 }
 
 -- every kind needs the first six keys
-first_keys : (one : Kind) → (is_needed (Some one) key.Version ≡ true) × (is_needed (Some one) key.Name ≡ true) × (is_needed (Some one) key.Exact ≡ true)
-first_keys kind.Scale = (refl, refl, refl)
-first_keys kind.Fir = (refl, refl, refl)
-first_keys kind.Multiply = (refl, refl, refl)
-first_keys kind.Divide = (refl, refl, refl)
-first_keys kind.Root = (refl, refl, refl)
-first_keys kind.Mcm = (refl, refl, refl)
+first_keys : (one : Kind) → (is_needed (Some one) key.Version ≡ true) × (is_needed (Some one) key.Name ≡ true) × (is_needed (Some one) key.Exact ≡ true) × (is_needed (Some one) key.Kind ≡ true)
+first_keys kind.Scale = (refl, refl, refl, refl)
+first_keys kind.Fir = (refl, refl, refl, refl)
+first_keys kind.Multiply = (refl, refl, refl, refl)
+first_keys kind.Divide = (refl, refl, refl, refl)
+first_keys kind.Root = (refl, refl, refl, refl)
+first_keys kind.Mcm = (refl, refl, refl, refl)
+
+-- a kind that is found by a name has that name
+kind_found : (text : List ℕ) (ks : List Kind) (one : Kind) → find (λ k. bytes_eq (kind_name k) text) ks ≡ Some one → text ≡ kind_name one
+kind_found text [] one h = cc
+kind_found text (k ∷ ks) one h = go (bytes_eq (kind_name k) text) refl (λ later. kind_found text ks one later)
+  where
+    go : (b : Bool) → bytes_eq (kind_name k) text ≡ b → (find (λ k. bytes_eq (kind_name k) text) ks ≡ Some one → text ≡ kind_name one) → text ≡ kind_name one
+    go true e later =
+        let first : Some k ≡ Some one = ap (λ b. cond b (Some k) (find (λ k. bytes_eq (kind_name k) text) ks)) (sym e) ∙ h in
+        let same : k ≡ one = cc in
+        sym ((bytes_eq-Decides (kind_name k) text).0 e) ∙ ap kind_name same
+    go false e later = later (ap (λ b. cond b (Some k) (find (λ k. bytes_eq (kind_name k) text) ks)) (sym e) ∙ h)
+
+kind_of_operator : (one : Kind) (ms : Members) → kind_in (operator_of one ms) ≡ one
+kind_of_operator kind.Scale ms = refl
+kind_of_operator kind.Fir ms = refl
+kind_of_operator kind.Multiply ms = refl
+kind_of_operator kind.Divide ms = refl
+kind_of_operator kind.Root ms = refl
+kind_of_operator kind.Mcm ms = refl
 
 one_bounds : (n : ℤ) → is_one n ≡ true → (pos 1 ≤ℤ n) × (n ≤ℤ pos 1)
 one_bounds (pos n) h =
@@ -184,13 +206,14 @@ unfolding spec_with document_keys
 written ms one h e =
     let f = fine ms h in
     let t = are_typed ms h in
-    let (version, name, exact) = first_keys one in
+    let (version, name, exact, named) = first_keys one in
     let (target, period) = common one in
     let time_there = present ms key.Period (needs ms one key.Period e period) (t.there 5 (lit< tt)) in
     let time = there_inside (value_at ms key.Period) (outside (pos 1) (pos 1000000) (number_at ms key.Period)) time_there f.ranges.period in
     record {
       version = count_written (value_at ms key.Version) 1 1 (present ms key.Version (needs ms one key.Version e version) (t.there 0 (lit< tt))) (t.typed 0 (lit< tt)) (one_bounds (number_at ms key.Version) (passed (is_one (number_at ms key.Version)) (fault.BadVersion (number_at ms key.Version)) f.version)) (omega arith);
       name = text_stands (value_at ms key.Name) (present ms key.Name (needs ms one key.Name e name) (t.there 1 (lit< tt))) (t.typed 1 (lit< tt));
+      kind_written = text_stands (value_at ms key.Kind) (present ms key.Kind (needs ms one key.Kind e named) (t.there 2 (lit< tt))) (t.typed 2 (lit< tt)) ∙ ap (λ text. Some (string text)) (kind_found (text_at ms key.Kind) kinds one e ∙ ap kind_name (sym (kind_of_operator one ms)));
       exact = flag_stands (value_at ms key.Exact) (present ms key.Exact (needs ms one key.Exact e exact) (t.there 3 (lit< tt))) (t.typed 3 (lit< tt));
       target = text_stands (value_at ms key.Target) (present ms key.Target (needs ms one key.Target e target) (t.there 4 (lit< tt))) (t.typed 4 (lit< tt));
       period = count_written (value_at ms key.Period) 1 1000000 time_there (t.typed 5 (lit< tt)) (inside (pos 1) (pos 1000000) (number_at ms key.Period) time) (omega arith);

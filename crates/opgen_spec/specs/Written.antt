@@ -13,8 +13,9 @@ use Rattle.opgen_spec.specs.declared.spec.Pair.{Pair}
 use Rattle.opgen_spec.specs.declared.spec.Single.{Single}
 use Rattle.opgen_spec.specs.declared.spec.Several.{Several}
 use Rattle.opgen_spec.specs.Document.{value_at, items_at}
+use Rattle.opgen_spec.specs.Keys.{kind_name}
 use Rattle.opgen_spec.specs.Numbers.{numerators, denominator_of}
-use Rattle.opgen_spec.specs.Spec.{lines_of}
+use Rattle.opgen_spec.specs.Spec.{kind_in, lines_of}
 
 pub record IsInputAsWritten (ms : Members) (width lsb : Key) (f : Format) : Type 0 where
   pub width_written : value_at ms width ≡ Some (integer (pos f.width))
@@ -59,6 +60,7 @@ IsOperatorAsWritten ms (Mcm m) = IsSeveralAsWritten ms m
 pub record IsAsWritten (ms : Members) (spec : Spec) : Type 0 where
   pub version : value_at ms key.Version ≡ Some (integer (pos spec.version))
   pub name : value_at ms key.Name ≡ Some (string spec.name)
+  pub kind_written : value_at ms key.Kind ≡ Some (string (kind_name (kind_in spec.op)))
   pub exact : value_at ms key.Exact ≡ Some (boolean spec.exact)
   pub target : value_at ms key.Target ≡ Some (string spec.target)
   pub period : value_at ms key.Period ≡ Some (integer (pos spec.period))
