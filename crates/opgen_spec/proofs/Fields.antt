@@ -148,6 +148,16 @@ nothing_wrong ms h =
     let (typed, _) = or_none (among_keys WrongType ms) (among_lines WrongType 1 (items_at ms key.Delay)) wrong in
     (there, typed)
 
+pub no_wrong_line : (ms : Members) → field_fault ms ≡ None → (among_lines Missing 1 (items_at ms key.Delay) ≡ None) × (among_lines WrongType 1 (items_at ms key.Delay) ≡ None)
+no_wrong_line ms h =
+    let (forms, _) = or_none (form_fault ms) (value_fault ms) h in
+    let (_, later) = or_none (check_fault Unknown ms) (first_of (check_fault Missing ms ∷ check_fault WrongType ms ∷ [])) forms in
+    let (missing, last) = or_none (check_fault Missing ms) (first_of (check_fault WrongType ms ∷ [])) later in
+    let (wrong, _) = or_none (check_fault WrongType ms) None last in
+    let (_, there) = or_none (among_keys Missing ms) (among_lines Missing 1 (items_at ms key.Delay)) missing in
+    let (_, typed) = or_none (among_keys WrongType ms) (among_lines WrongType 1 (items_at ms key.Delay)) wrong in
+    (there, typed)
+
 -- a key that is needed is there
 not_absent : (b c : Bool) → b ≡ true → (b && c) ≡ false → c ≡ false
 not_absent true c h e = e

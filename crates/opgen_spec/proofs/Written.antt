@@ -1,23 +1,28 @@
 -- A document without a fault gives the values that it writes.
-use Rattle.std.proofs.Common.{◌≡◌, sym, ℕ, ◌<◌, ◌^◌, ◌||◌, not, Bool, true, false, length, get_or, Option, Some, None, is_some, is_none, option_and_then, find, nat_lt, refl, ap, ◌∙◌, arith, lit<, if◌then◌else◌, List, [], ◌∷◌, cond}
+use Rattle.std.proofs.Common.{◌≡◌, sym, ◌&&◌, ℕ, ◌<◌, ◌^◌, ◌||◌, not, Bool, true, false, length, get_or, Option, Some, None, is_some, is_none, option_and_then, find, nat_lt, refl, ap, ◌∙◌, arith, lit<, if◌then◌else◌, List, [], ◌∷◌, cond, ◌+◌, unwrap_or}
 use Rattle.std.specs.Prelude.{ℤ, pos, negsuc, ◌≤ℤ◌, int_le, int_lt}
 use Rattle.std.specs.Option.{option_map_or}
 use Rattle.std.proofs.lemmas.Bool.{lt-ltb}
 use Rattle.std.proofs.lemmas.Int.{ints}
 use Rattle.std.proofs.lemmas.Slice.Eq.{bytes_eq-Decides}
 use Rattle.std.specs.Str.{bytes_eq}
-use Rattle.toml.specs.Data.{Data, string, integer, boolean, Members, as_integer, as_str, as_bool}
+use Rattle.toml.specs.Data.{Data, string, integer, boolean, Members, as_integer, as_str, as_bool, table, Items, no_items, item, as_array}
 use Rattle.opgen_spec.specs.declared.fault.SpecFault.TheVariants as fault
 use Rattle.opgen_spec.specs.declared.key.Key.{Key}
 use Rattle.opgen_spec.specs.declared.key.Key.TheVariants as key
 use Rattle.opgen_spec.specs.declared.key.Kind.{Kind}
 use Rattle.opgen_spec.specs.declared.key.Kind.TheVariants as kind
-use Rattle.opgen_spec.specs.Keys.{document_keys, kinds, kind_name, is_needed}
-use Rattle.opgen_spec.specs.Document.{value_at, number_in, text_in, flag_in, number_at, text_at, flag_at, count, small, kind_of}
-use Rattle.opgen_spec.specs.Spec.{format_at, unsigned_at, operator_of, kind_in, spec_with}
-use Rattle.opgen_spec.specs.Written.{IsInputAsWritten, IsOperatorAsWritten, IsAsWritten}
-use Rattle.opgen_spec.specs.Faults.{is_missing, is_wrong, outside, is_one, field_fault}
-use Rattle.opgen_spec.proofs.Fields.{AreFine, fine, nothing_wrong, find_none, map_none, present, needs, there_inside, zero_inside, inside}
+use Rattle.opgen_spec.specs.Keys.{document_keys, kinds, kind_name, is_needed, line_keys, classes, class_name, class_named}
+use Rattle.opgen_spec.specs.Document.{value_at, number_in, text_in, flag_in, number_at, text_at, flag_at, count, small, kind_of, items_of, items_in, items_at}
+use Rattle.opgen_spec.specs.Spec.{format_at, unsigned_at, operator_of, kind_in, spec_with, line_of, lines_of}
+use Rattle.opgen_spec.specs.Written.{IsInputAsWritten, IsOperatorAsWritten, IsAsWritten, IsLineAsWritten, AreLinesAsWritten}
+use Rattle.opgen_spec.specs.Faults.{missing_among, wrong_among, is_missing, is_wrong, outside, is_one, field_fault, among_line, among_lines, are_tables, class_outside, found, out_of_range, outside_among}
+use Rattle.opgen_spec.proofs.Fields.{AreFine, fine, nothing_wrong, find_none, map_none, present, needs, there_inside, zero_inside, inside, first_none, no_wrong_line}
+use Rattle.opgen_net.specs.declared.cell.Class.{Class}
+use Rattle.opgen_net.specs.declared.cell.Class.TheVariants as class
+use Rattle.opgen_spec.specs.declared.fault.SpecFault.{SpecFault}
+use Rattle.opgen_spec.specs.declared.lines.Check.TheVariants.{Missing, WrongType, Range}
+use Rattle.opgen_spec.proofs.Reading.{or_none}
 use Rattle.opgen_spec.proofs.Validity.{passed, common}
 
 number_stands : (o : Option Data) → is_none o ≡ false → option_map_or (λ d. not (is_some (as_integer d)) || false) o false ≡ false → o ≡ Some (integer (number_in o))
@@ -195,6 +200,72 @@ kind_of_operator kind.Divide ms = refl
 kind_of_operator kind.Root ms = refl
 kind_of_operator kind.Mcm ms = refl
 
+-- the same of classes
+class_found : (text : List ℕ) (cs : List Class) (one : Class) → find (λ c. bytes_eq (class_name c) text) cs ≡ Some one → text ≡ class_name one
+class_found text [] one h = cc
+class_found text (c ∷ cs) one h = go (bytes_eq (class_name c) text) refl (λ later. class_found text cs one later)
+  where
+    go : (b : Bool) → bytes_eq (class_name c) text ≡ b → (find (λ c. bytes_eq (class_name c) text) cs ≡ Some one → text ≡ class_name one) → text ≡ class_name one
+    go true e later =
+        let first : Some c ≡ Some one = ap (λ b. cond b (Some c) (find (λ c. bytes_eq (class_name c) text) cs)) (sym e) ∙ h in
+        let same : c ≡ one = cc in
+        sym ((bytes_eq-Decides (class_name c) text).0 e) ∙ ap class_name same
+    go false e later = later (ap (λ b. cond b (Some c) (find (λ c. bytes_eq (class_name c) text) cs)) (sym e) ∙ h)
+
+named_class : (n : ℕ) (text : List ℕ) → class_outside n text ≡ None → text ≡ class_name (unwrap_or (class_named text) class.Wire)
+named_class n text h = go (class_named text) refl h
+  where
+    go : (o : Option Class) → class_named text ≡ o → (if is_none o then Some (pos n) else None) ≡ None → text ≡ class_name (unwrap_or o class.Wire)
+    go (Some one) e none = class_found text classes one e
+    go None e none = cc
+
+-- delay lines
+line_needed : (named : Option Kind) → (is_needed named key.Class ≡ true) × (is_needed named key.Base ≡ true) × (is_needed named key.PerBit ≡ true)
+unfolding kinds
+line_needed (Some one) = (refl, refl, refl)
+line_needed None = (refl, refl, refl)
+
+line_written : (n : ℕ) (ms : Members) → missing_among line_keys n ms ≡ None → wrong_among line_keys n ms ≡ None → outside_among line_keys n ms ≡ None → IsLineAsWritten ms (line_of ms)
+unfolding line_keys
+line_written n ms missing wrong outside_none =
+    let f : Key → Option SpecFault = λ k. out_of_range n k (found n ms k) in
+    let none_missing = map_none (λ k. fault.MissingKey k n) (find (is_missing ms) line_keys) missing in
+    let none_wrong = map_none (λ k. fault.WrongType k n) (find (is_wrong ms) line_keys) wrong in
+    let (class_needed, base_needed, bit_needed) = line_needed (kind_of ms) in
+    let class_there = present ms key.Class class_needed (find_none (is_missing ms) line_keys 0 key.Class none_missing (lit< tt)) in
+    let base_there = present ms key.Base base_needed (find_none (is_missing ms) line_keys 1 key.Class none_missing (lit< tt)) in
+    let bit_there = present ms key.PerBit bit_needed (find_none (is_missing ms) line_keys 2 key.Class none_missing (lit< tt)) in
+    let class_typed = find_none (is_wrong ms) line_keys 0 key.Class none_wrong (lit< tt) in
+    let base_typed = find_none (is_wrong ms) line_keys 1 key.Class none_wrong (lit< tt) in
+    let bit_typed = find_none (is_wrong ms) line_keys 2 key.Class none_wrong (lit< tt) in
+    let class_range = map_none (fault.OutOfRange key.Class n) (found n ms key.Class) (first_none f line_keys 0 key.Class outside_none (lit< tt)) in
+    let base_range = map_none (fault.OutOfRange key.Base n) (found n ms key.Base) (first_none f line_keys 1 key.Class outside_none (lit< tt)) in
+    let bit_range = map_none (fault.OutOfRange key.PerBit n) (found n ms key.PerBit) (first_none f line_keys 2 key.Class outside_none (lit< tt)) in
+    let name = named_class n (text_at ms key.Class) (there_inside (value_at ms key.Class) (class_outside n (text_at ms key.Class)) class_there class_range) in
+    record {
+      class_written = text_stands (value_at ms key.Class) class_there class_typed ∙ ap (λ text. Some (string text)) name;
+      base = count_written (value_at ms key.Base) 0 1000000 base_there base_typed (zero_inside (value_at ms key.Base) (pos 0) (pos 1000000) (omega (arith, ints)) (omega (arith, ints)) base_range) (omega arith);
+      per_bit = count_written (value_at ms key.PerBit) 0 10000 bit_there bit_typed (zero_inside (value_at ms key.PerBit) (pos 0) (pos 10000) (omega (arith, ints)) (omega (arith, ints)) bit_range) (omega arith);
+    }
+
+lines_written : (n : ℕ) (items : Items) → among_lines Missing n items ≡ None → among_lines WrongType n items ≡ None → among_lines Range n items ≡ None → are_tables items ≡ true → AreLinesAsWritten items (lines_of items)
+lines_written n no_items missing wrong range tables = tt
+lines_written n (item (table ms) rest) missing wrong range tables =
+    let (missing_here, missing_later) = or_none (among_line Missing n (table ms)) (among_lines Missing (n + 1) rest) missing in
+    let (wrong_here, wrong_later) = or_none (among_line WrongType n (table ms)) (among_lines WrongType (n + 1) rest) wrong in
+    let (range_here, range_later) = or_none (among_line Range n (table ms)) (among_lines Range (n + 1) rest) range in
+    (line_written n ms missing_here wrong_here range_here, lines_written (n + 1) rest missing_later wrong_later range_later tables)
+lines_written n (item _ rest) missing wrong range tables = cc
+
+-- an array that is not of a wrong type is one of tables
+tables_typed : (o : Option Data) → option_map_or (λ d. not (are_tables (items_of d) && is_some (as_array d)) || false) o false ≡ false → are_tables (items_in o) ≡ true
+tables_typed None h = refl
+tables_typed (Some d) h = both (are_tables (items_of d)) (is_some (as_array d)) h
+  where
+    both : (a b : Bool) → (not (a && b) || false) ≡ false → a ≡ true
+    both true b h = refl
+    both false b h = cc
+
 one_bounds : (n : ℤ) → is_one n ≡ true → (pos 1 ≤ℤ n) × (n ≤ℤ pos 1)
 one_bounds (pos n) h =
     let same : n ≡ 1 = grind arith in
@@ -206,6 +277,7 @@ unfolding spec_with document_keys
 written ms one h e =
     let f = fine ms h in
     let t = are_typed ms h in
+    let (missing_lines, wrong_lines) = no_wrong_line ms h in
     let (version, name, exact, named) = first_keys one in
     let (target, period) = common one in
     let time_there = present ms key.Period (needs ms one key.Period e period) (t.there 5 (lit< tt)) in
@@ -218,5 +290,5 @@ written ms one h e =
       target = text_stands (value_at ms key.Target) (present ms key.Target (needs ms one key.Target e target) (t.there 4 (lit< tt))) (t.typed 4 (lit< tt));
       period = count_written (value_at ms key.Period) 1 1000000 time_there (t.typed 5 (lit< tt)) (inside (pos 1) (pos 1000000) (number_at ms key.Period) time) (omega arith);
       op = operator_written ms one f t e;
-      delays = refl;
+      delays = lines_written 1 (items_at ms key.Delay) missing_lines wrong_lines f.lines (tables_typed (value_at ms key.Delay) (t.typed 18 (lit< tt)));
     }

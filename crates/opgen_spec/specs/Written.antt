@@ -1,10 +1,11 @@
 -- A specification has the values that its document writes at its keys.
-use Rattle.std.specs.Prelude.{◌≡◌, pos, Some}
-use Rattle.toml.specs.Data.{string, integer, boolean, Members}
+use Rattle.std.specs.Prelude.{◌≡◌, pos, Some, List, [], ◌∷◌}
+use Rattle.toml.specs.Data.{string, integer, boolean, Members, table, Items, no_items, item}
 use Rattle.opgen_num.specs.declared.format.Format.{Format}
 use Rattle.opgen_spec.specs.declared.key.Key.{Key}
 use Rattle.opgen_spec.specs.declared.key.Key.TheVariants as key
 use Rattle.opgen_spec.specs.declared.spec.Spec.{Spec}
+use Rattle.opgen_spec.specs.declared.spec.DelayLine.{DelayLine}
 use Rattle.opgen_spec.specs.declared.spec.Operator.{Operator}
 use Rattle.opgen_spec.specs.declared.spec.Operator.TheVariants.{Scale, Fir, Multiply, Divide, Root, Mcm}
 use Rattle.opgen_spec.specs.declared.spec.Sum.{Sum}
@@ -13,9 +14,9 @@ use Rattle.opgen_spec.specs.declared.spec.Pair.{Pair}
 use Rattle.opgen_spec.specs.declared.spec.Single.{Single}
 use Rattle.opgen_spec.specs.declared.spec.Several.{Several}
 use Rattle.opgen_spec.specs.Document.{value_at, items_at}
-use Rattle.opgen_spec.specs.Keys.{kind_name}
+use Rattle.opgen_spec.specs.Keys.{kind_name, class_name}
 use Rattle.opgen_spec.specs.Numbers.{numerators, denominator_of}
-use Rattle.opgen_spec.specs.Spec.{kind_in, lines_of}
+use Rattle.opgen_spec.specs.Spec.{kind_in}
 
 pub record IsInputAsWritten (ms : Members) (width lsb : Key) (f : Format) : Type 0 where
   pub width_written : value_at ms width ≡ Some (integer (pos f.width))
@@ -57,6 +58,17 @@ IsOperatorAsWritten ms (Divide p) = IsPairAsWritten ms p
 IsOperatorAsWritten ms (Root r) = IsSingleAsWritten ms r
 IsOperatorAsWritten ms (Mcm m) = IsSeveralAsWritten ms m
 
+pub record IsLineAsWritten (ms : Members) (line : DelayLine) : Type 0 where
+  pub class_written : value_at ms key.Class ≡ Some (string (class_name line.class))
+  pub base : value_at ms key.Base ≡ Some (integer (pos line.base))
+  pub per_bit : value_at ms key.PerBit ≡ Some (integer (pos line.per_bit))
+
+-- the delay lines are the tables of the array, in order
+abbrev pub AreLinesAsWritten : Items → List DelayLine → Type 0
+AreLinesAsWritten no_items [] = Unit {0}
+AreLinesAsWritten (item (table ms) rest) (line ∷ lines) = IsLineAsWritten ms line × AreLinesAsWritten rest lines
+AreLinesAsWritten _ _ = ⊥
+
 pub record IsAsWritten (ms : Members) (spec : Spec) : Type 0 where
   pub version : value_at ms key.Version ≡ Some (integer (pos spec.version))
   pub name : value_at ms key.Name ≡ Some (string spec.name)
@@ -65,4 +77,4 @@ pub record IsAsWritten (ms : Members) (spec : Spec) : Type 0 where
   pub target : value_at ms key.Target ≡ Some (string spec.target)
   pub period : value_at ms key.Period ≡ Some (integer (pos spec.period))
   pub op : IsOperatorAsWritten ms spec.op
-  pub delays : spec.delays ≡ lines_of (items_at ms key.Delay)
+  pub delays : AreLinesAsWritten (items_at ms key.Delay) spec.delays
