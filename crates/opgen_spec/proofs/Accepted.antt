@@ -1,11 +1,9 @@
 -- What holds of a valid specification, for the crates that build its operator.
-use Rattle.std.proofs.Common.{◌≡◌, ℕ, zero, suc, ◌+◌, ◌≤◌, ◌<◌, ◌&&◌, max, Bool, true, false, not, List, length, Option, Some, None, option_map, option_and_then, refl, nat_le, nat_lt, ap, ◌∙◌, sym, arith, if◌then◌else◌}
-use Rattle.std.specs.Prelude.{ℤ, pos, neg_ℤ, ◌≤ℤ◌, IsTrue}
+use Rattle.std.proofs.Common.{◌≡◌, ℕ, zero, suc, ◌+◌, ◌≤◌, ◌&&◌, Bool, true, false, not, length, Some, None, option_and_then, refl, nat_le, nat_lt, ap, ◌∙◌, sym, arith, if◌then◌else◌}
+use Rattle.std.specs.Prelude.{pos, ◌≤ℤ◌, IsTrue}
 use Rattle.std.proofs.lemmas.Bool.{and_parts, leb-true}
 use Rattle.opgen_net.specs.Names.{is_allowed_name}
 use Rattle.opgen_num.specs.declared.TheConstants.{MAX_WIDTH}
-use Rattle.opgen_num.specs.Formats.{digit_count}
-use Rattle.opgen_spec.specs.declared.fault.SpecFault.{SpecFault}
 use Rattle.opgen_spec.specs.declared.fault.SpecFault.TheVariants as fault
 use Rattle.opgen_spec.specs.declared.spec.Spec.{Spec}
 use Rattle.opgen_spec.specs.declared.spec.Operator.TheVariants.{Scale, Fir, Multiply, Divide}
@@ -15,7 +13,7 @@ use Rattle.opgen_spec.specs.declared.spec.Pair.{Pair}
 use Rattle.opgen_spec.specs.declared.outputs.Reach.{Reach}
 use Rattle.opgen_spec.specs.Outputs.{shift, width_of, sum_places, product_places, guard_bits, places_down, places_up, product_shift, pair_shift, need}
 use Rattle.opgen_spec.specs.Faults.{outside, least_shift, over_limit}
-use Rattle.opgen_spec.specs.SpecName.{is_spec_name, is_taken, is_signal_name}
+use Rattle.opgen_spec.specs.SpecName.{is_taken, is_signal_name}
 use Rattle.opgen_spec.specs.Valid.{IsValidSpec}
 use Rattle.opgen_spec.proofs.Fields.{map_none, inside}
 

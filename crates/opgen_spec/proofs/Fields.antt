@@ -23,7 +23,7 @@ use Rattle.opgen_spec.specs.Document.{list_of, value_at, number_in, number_at, f
 use Rattle.opgen_spec.specs.Numbers.{are_digits, digits_from, are_parts, decimal_with, cut_at, unsigned_decimal, decimal_of, coefficient, places_in, places_among, numerators, are_texts, denominator_of}
 use Rattle.opgen_spec.specs.Spec.{format_at, unsigned_at, sum_of, operator_of}
 use Rattle.opgen_spec.specs.Ranges.{IsPower, IsInput, IsWithin, IsSum, IsOperator}
-use Rattle.opgen_spec.specs.Faults.{first_of, check_fault, outside, is_beyond, first_beyond, length_outside, array_outside, most_coefficients, coefficients_outside, found, out_of_range, outside_among, is_missing, missing_among, among_keys, among_lines, bad_version, bad_name, bad_kind, form_fault, value_fault, field_fault}
+use Rattle.opgen_spec.specs.Faults.{first_of, check_fault, outside, is_beyond, first_beyond, length_outside, array_outside, most_coefficients, coefficients_outside, found, out_of_range, outside_among, is_missing, missing_among, wrong_among, among_keys, among_lines, bad_version, bad_name, bad_kind, form_fault, value_fault, field_fault}
 use Rattle.opgen_spec.proofs.Reading.{or_none}
 
 pub map_none : {A B : Type 0} (f : A → B) (o : Option A) → option_map f o ≡ None → o ≡ None
@@ -31,7 +31,7 @@ map_none f (Some x) h = cc
 map_none f None h = refl
 
 -- a search that finds nothing found nothing at each place
-find_none : (p : Key → Bool) (ks : List Key) (i : ℕ) (d : Key) → find p ks ≡ None → i < length ks → p (get_or ks i d) ≡ false
+pub find_none : (p : Key → Bool) (ks : List Key) (i : ℕ) (d : Key) → find p ks ≡ None → i < length ks → p (get_or ks i d) ≡ false
 find_none p [] i d h lt = absurd (omega arith)
 find_none p (k ∷ ks) i d h lt = go (p k) refl i (λ j none below. find_none p ks j d none below) lt
   where
@@ -137,6 +137,26 @@ fine ms h =
       kind = kind;
       lines = lines;
     }
+
+pub nothing_wrong : (ms : Members) → field_fault ms ≡ None → (missing_among document_keys 0 ms ≡ None) × (wrong_among document_keys 0 ms ≡ None)
+nothing_wrong ms h =
+    let (forms, _) = or_none (form_fault ms) (value_fault ms) h in
+    let (_, later) = or_none (check_fault Unknown ms) (first_of (check_fault Missing ms ∷ check_fault WrongType ms ∷ [])) forms in
+    let (missing, last) = or_none (check_fault Missing ms) (first_of (check_fault WrongType ms ∷ [])) later in
+    let (wrong, _) = or_none (check_fault WrongType ms) None last in
+    let (there, _) = or_none (among_keys Missing ms) (among_lines Missing 1 (items_at ms key.Delay)) missing in
+    let (typed, _) = or_none (among_keys WrongType ms) (among_lines WrongType 1 (items_at ms key.Delay)) wrong in
+    (there, typed)
+
+pub no_wrong_line : (ms : Members) → field_fault ms ≡ None → (among_lines Missing 1 (items_at ms key.Delay) ≡ None) × (among_lines WrongType 1 (items_at ms key.Delay) ≡ None)
+no_wrong_line ms h =
+    let (forms, _) = or_none (form_fault ms) (value_fault ms) h in
+    let (_, later) = or_none (check_fault Unknown ms) (first_of (check_fault Missing ms ∷ check_fault WrongType ms ∷ [])) forms in
+    let (missing, last) = or_none (check_fault Missing ms) (first_of (check_fault WrongType ms ∷ [])) later in
+    let (wrong, _) = or_none (check_fault WrongType ms) None last in
+    let (_, there) = or_none (among_keys Missing ms) (among_lines Missing 1 (items_at ms key.Delay)) missing in
+    let (_, typed) = or_none (among_keys WrongType ms) (among_lines WrongType 1 (items_at ms key.Delay)) wrong in
+    (there, typed)
 
 -- a key that is needed is there
 not_absent : (b c : Bool) → b ≡ true → (b && c) ≡ false → c ≡ false

@@ -4,4 +4,5 @@ mod Bounds
 mod Reading
 mod Fields
 mod Validity
+mod Written
 pub mod Accepted

@@ -21,7 +21,7 @@ use Rattle.opgen_spec.proofs.Reading.{or_none}
 use Rattle.opgen_spec.proofs.Fields.{AreFine, map_none, first_none, present, needs, there_inside, inside, zero_inside, counted, operator_in}
 
 -- what a choice without a fault says of its test
-passed : (b : Bool) (f : SpecFault) → (if b then None else Some f) ≡ None → b ≡ true
+pub passed : (b : Bool) (f : SpecFault) → (if b then None else Some f) ≡ None → b ≡ true
 passed true f h = refl
 passed false f h = cc
 
@@ -46,7 +46,7 @@ agrees ms kind.Root = refl
 agrees ms kind.Mcm = tt
 
 -- every kind needs its target and its period
-common : (one : Kind) → (is_needed (Some one) key.Target ≡ true) × (is_needed (Some one) key.Period ≡ true)
+pub common : (one : Kind) → (is_needed (Some one) key.Target ≡ true) × (is_needed (Some one) key.Period ≡ true)
 common kind.Scale = (refl, refl)
 common kind.Fir = (refl, refl)
 common kind.Multiply = (refl, refl)

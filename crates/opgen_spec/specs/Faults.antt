@@ -3,7 +3,7 @@ use Rattle.std.specs.Prelude.{◌≡◌, ℕ, ◌+◌, ◌^◌, ◌==◌, ◌&&�
 use Rattle.std.specs.List.{list_all, position_from}
 use Rattle.std.specs.Option.{option_or, option_map_or}
 use Rattle.toml.specs.Data.{Data, string, table, Items, no_items, item, Members, as_str, as_integer, as_bool, as_array, as_table}
-use Rattle.opgen_num.specs.declared.TheConstants.{MAX_WIDTH}
+use Rattle.opgen_num.specs.declared.TheConstants.{MAX_INPUT, MAX_WIDTH}
 use Rattle.opgen_spec.specs.declared.fault.SpecFault.{SpecFault}
 use Rattle.opgen_spec.specs.declared.fault.SpecFault.TheVariants as fault
 use Rattle.opgen_spec.specs.declared.key.Key.{Key}
@@ -94,9 +94,9 @@ outside low high n = if int_le low n && int_le n high then None else Some n
 -- the bounds of a whole number, signed inputs being of two bits or more
 abbrev pub bounds : Bool → Key → Option (ℤ × ℤ)
 bounds signed key.Period = Some (pos 1, pos 1000000)
-bounds signed key.Width = Some (pos (if signed then 2 else 1), pos 32)
-bounds signed key.WidthA = Some (pos (if signed then 2 else 1), pos 32)
-bounds signed key.WidthB = Some (pos (if signed then 2 else 1), pos 32)
+bounds signed key.Width = Some (pos (if signed then 2 else 1), pos MAX_INPUT)
+bounds signed key.WidthA = Some (pos (if signed then 2 else 1), pos MAX_INPUT)
+bounds signed key.WidthB = Some (pos (if signed then 2 else 1), pos MAX_INPUT)
 bounds signed key.Lsb = Some (negsuc 31, pos 32)
 bounds signed key.LsbA = Some (negsuc 31, pos 32)
 bounds signed key.LsbB = Some (negsuc 31, pos 32)

@@ -8,3 +8,4 @@ pub mod Faults
 pub mod Ranges
 pub mod Valid
 pub mod Texts
+pub mod Written

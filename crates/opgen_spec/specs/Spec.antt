@@ -76,6 +76,15 @@ operator_of kind.Divide ms = Divide (pair_of ms)
 operator_of kind.Root ms = Root (single_of ms)
 operator_of kind.Mcm ms = Mcm (several_of ms)
 
+-- the kind of an operator
+abbrev pub kind_in : Operator → Kind
+kind_in (Scale s) = kind.Scale
+kind_in (Fir s) = kind.Fir
+kind_in (Multiply p) = kind.Multiply
+kind_in (Divide p) = kind.Divide
+kind_in (Root r) = kind.Root
+kind_in (Mcm m) = kind.Mcm
+
 abbrev pub line_of : Members → DelayLine
 line_of ms = record {
   class = unwrap_or (class_named (text_at ms key.Class)) class.Wire;

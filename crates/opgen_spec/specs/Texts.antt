@@ -1,5 +1,5 @@
 -- How a fault prints: its name, and then its fields, each after a space (32).
-use Rattle.std.specs.Prelude.{ℕ, ◌==◌, List, [], ◌∷◌, ◌++◌, codes, if◌then◌else◌}
+use Rattle.std.specs.Prelude.{ℕ, ◌==◌, List, ◌++◌, codes, if◌then◌else◌}
 use Rattle.std.specs.Fmt.{decimal, signed_decimal}
 use Rattle.opgen_spec.specs.declared.fault.Place.{Place}
 use Rattle.opgen_spec.specs.declared.fault.SpecFault.{SpecFault}

@@ -8,6 +8,7 @@ use crate::decimal::{decimal_of, numerator};
 use crate::document::{flag_at, items_at, kind_of, number_at, text_at, value_at};
 use crate::fault::SpecFault;
 use crate::key::{Key, Kind, class_named};
+use opgen_num::MAX_INPUT;
 use toml::{Table, Value};
 
 /// The greatest numerator of a coefficient, without its sign.
@@ -26,7 +27,9 @@ fn bounds(key: Key, signed: bool) -> Option<(i64, i64)>
 {
     match key {
         Key::Period => Some((1, 1_000_000)),
-        Key::Width | Key::WidthA | Key::WidthB => Some((if signed { 2 } else { 1 }, 32)),
+        Key::Width | Key::WidthA | Key::WidthB => {
+            Some((if signed { 2 } else { 1 }, i64::from(MAX_INPUT)))
+        }
         Key::Lsb | Key::LsbA | Key::LsbB | Key::OutLsb => Some((-32, 32)),
         Key::Denominator => Some((1, 1 << 30)),
         Key::Extra => Some((0, 2)),

@@ -1,9 +1,10 @@
-ghost use Rattle.std.specs.Prelude.{◌≡◌, IfOk, IfErr, MatchResult, None, Some};
+ghost use Rattle.std.specs.Prelude.{◌≡◌, IfOk, IsSomeAnd, MatchResult, Some};
 ghost use Rattle.toml.specs.View.{table_view};
 ghost use Rattle.opgen_spec.specs.Document.{tree};
 ghost use Rattle.opgen_spec.specs.Ranges.{IsOperator};
 ghost use Rattle.opgen_spec.specs.Faults.{bad_version, bad_name, bad_kind, form_fault, value_fault, field_fault, read, Gives, IsNoTree};
 ghost use Rattle.opgen_spec.specs.Valid.{IsValidSpec};
+ghost use Rattle.opgen_spec.specs.Written.{IsAsWritten};
 
 use crate::document::{kind_of, number_at, text_at};
 use crate::fault::SpecFault;
@@ -105,6 +106,7 @@ fn field_fault(table: &Table) -> Option<SpecFault>
 /// keys, those of the document before those of its delay lines.
 pub fn read_spec(alloc: Global, bytes: &[u8]) -> Result<Spec, SpecFault>
     ensures gives { Gives result (read (tree bytes.now)) }
+    ensures written { IfOk result (λ spec. IsSomeAnd (tree bytes.now) (λ ms. IsAsWritten ms spec)) }
     ensures valid { IfOk result IsValidSpec }
 {
     let table = document(alloc, bytes)?;
@@ -126,7 +128,8 @@ mod tests {
     use super::*;
     use std::test::Fail;
 
-    static SCALE: &str = "version = 1\nname = \"times3\"\nkind = \"scale\"\nexact = true\ntarget = \"plain\"\nperiod = 10000\nsigned = false\nwidth = 4\nlsb = 0\nout_lsb = 0\n";
+    static SCALE: &str =
+        "version = 1\nname = \"times3\"\nkind = \"scale\"\nexact = true\ntarget = \"plain\"\nperiod = 10000\nsigned = false\nwidth = 4\nlsb = 0\nout_lsb = 0\n";
 
     // What follows the keys of `SCALE`, and the answer.
     static CASES: [(&str, &str); 12] = [
@@ -135,8 +138,14 @@ mod tests {
         ("", "MissingKey coefficients"),
         ("coefficients = [3]\ncolour = 1", "UnknownKey 0 1"),
         ("coefficients = [3.0]", "WrongType coefficients"),
-        ("coefficients = [\"0.5\"]\ndenominator = 1", "WrongType denominator"),
-        ("coefficients = [1073741825]", "OutOfRange coefficients 1073741825"),
+        (
+            "coefficients = [\"0.5\"]\ndenominator = 1",
+            "WrongType denominator",
+        ),
+        (
+            "coefficients = [1073741825]",
+            "OutOfRange coefficients 1073741825",
+        ),
         ("coefficients = [1]\ndenominator = 3", "NotExact 0"),
         (
             "coefficients = [3]\n[[delay]]\nclass = \"add\"\nbase = 100\nper_bit = 10",

@@ -7,6 +7,7 @@ use Rattle.opgen_spec.specs.Spec.{operator_of, spec_with, spec_of}
 use Rattle.opgen_spec.proofs.Reading.{field_first, limit_first, none_first, gives_fault}
 use Rattle.opgen_spec.proofs.Fields.{fine, operator_in}
 use Rattle.opgen_spec.proofs.Validity.{no_kind, valid_in}
+use Rattle.opgen_spec.proofs.Written.{written}
 use Rattle.opgen_spec.proofs.read.read_spec.Goals as goal
 
 pub returns-in-Some-clause-gives : goal.returns-in-Some-clause-gives
@@ -48,3 +49,9 @@ returns-clause-valid c =
     let none : field_fault ms ≡ None = sym c.field_fault.ensures ∙ c.in_default.is in
     let clear : limit_fault (spec_with c.in-Some-kind_of.kind ms) ≡ None = ap limit_fault (sym c.in_ok-spec.ensures) ∙ (sym c.limit_fault.ensures ∙ c.in_default-limit_fault.is) in
     rw c.in_ok-spec.ensures (valid_in ms c.in-Some-kind_of.kind (fine ms none) (sym c.in-Some-kind_of.ensures) clear)
+
+pub returns-clause-written : goal.returns-clause-written
+returns-clause-written c =
+    let ms = table_view c.in_ok-table.table in
+    let none : field_fault ms ≡ None = sym c.field_fault.ensures ∙ c.in_default.is in
+    rw c.in_ok-table.ensures (rw c.in_ok-spec.ensures (written ms c.in-Some-kind_of.kind none (sym c.in-Some-kind_of.ensures)))
