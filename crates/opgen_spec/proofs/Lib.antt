@@ -1,3 +1,4 @@
+pub mod DigitCount
 mod Digits
 mod Trees
 mod Bounds
