@@ -1,0 +1,3 @@
+mod Residues
+pub mod Sums
+mod Columns
