@@ -228,12 +228,12 @@ module _ (net : Net) (columns : List Column) (width : ℕ) (many : length column
       let low = map (bit_under ws) (picked 0 columns) in
       let high = map (bit_under ws) (picked 1 columns) in
       let of_a : flow two_words.nodes inputs a t ≡ low =
-          after.flow inputs a t (node-there one a width w wide) ∙ first inputs t words ∙ row-word net.nodes inputs t 0 columns in
+      after.flow inputs a t (node-there one a width w wide) ∙ first inputs t words ∙ row-word net.nodes inputs t 0 columns in
       let of_b : flow two_words.nodes inputs b t ≡ high =
-          second inputs t (words-later net one later inputs words) ∙ row-word one.nodes inputs t 1 columns ∙ bits-kept net one later inputs t (picked 1 columns) (picked-there net 1 columns there) in
+      second inputs t (words-later net one later inputs words) ∙ row-word one.nodes inputs t 1 columns ∙ bits-kept net one later inputs t (picked 1 columns) (picked-there net 1 columns there) in
       let sum : Node = Cells Add width (two Plus (name a) (name b)) in
       let of_sum : flow new.nodes inputs n t ≡ sum_with false (flow two_words.nodes inputs a t) (flow two_words.nodes inputs b t) =
-          ap (λ (m : Net). flow m.nodes inputs n t) e ∙ ap (λ k. flow (two_words.nodes ++ sum ∷ []) inputs k t) p ∙ flow-append_last two_words.nodes sum inputs t in
+      ap (λ (m : Net). flow m.nodes inputs n t) e ∙ ap (λ k. flow (two_words.nodes ++ sum ∷ []) inputs k t) p ∙ flow-append_last two_words.nodes sum inputs t in
       ap nat (of_sum ∙ ap (λ v. sum_with false v (flow two_words.nodes inputs b t)) of_a ∙ ap (sum_with false low) of_b)
       ∙ sum-number width low high (long ws 0) (long ws 1)
       ∙ ap (λ k. k % 2 ^ width) (sym (two-rows ws columns full))

@@ -25,7 +25,7 @@ pub record Passed (net : Net) (carries : Column) (columns : List Column) (s : St
   pub many : length s.columns ≡ length columns
   pub sum : (inputs : Inputs) (t : ℤ) → All (AreWords (input_widths net)) inputs
       → (d : ℕ) × (columns_sum (words_at s.net.nodes inputs t) s.columns + 2 ^ length columns * d
-          ≡ columns_sum (words_at net.nodes inputs t) columns + ones (words_at net.nodes inputs t) carries)
+      ≡ columns_sum (words_at net.nodes inputs t) columns + ones (words_at net.nodes inputs t) carries)
 
 -- what the highest column carries weighs a power of two
 dropped : (columns : List Column) (d : ℕ) → (is_none columns ≡ false → d ≡ 0) → (x : ℕ) × (2 ^ suc (length columns) * x ≡ 2 * d)
@@ -57,7 +57,7 @@ passed h net carries (column ∷ columns) v g a =
     let begin : Work = start net (column ++ carries) in
     let w : Work = reduced (length (column ++ carries) - h) (is_none columns) begin in
     let r : Reduced (is_none columns) begin w =
-        all-reduced (length (column ++ carries) - h) (is_none columns) begin v (start-there net (column ++ carries) (with_carries net column carries columns a g)) in
+    all-reduced (length (column ++ carries) - h) (is_none columns) begin v (start-there net (column ++ carries) (with_carries net column carries columns a g)) in
     let s : State = pass h w.net w.carries columns in
     let others : AllThere net columns = rest_columns P column columns a in
     let ih : Passed w.net w.carries columns s = passed h w.net w.carries columns r.later.valid r.there.carries (columns_there-kept net w.net r.later columns others) in
@@ -70,8 +70,7 @@ passed h net carries (column ∷ columns) v g a =
           let x = r.sum inputs t words in
           let y = ih.sum inputs t words_w in
           let z = dropped columns x.0 x.2 in
-          let double : 2 ^ suc (length columns) * y.0 ≡ 2 ^ length columns * y.0 + 2 ^ length columns * y.0 = ap (λ n. n * y.0) (two-pow-succ (length columns)) ∙ omega arith in
-          (
+          let double : 2 ^ suc (length columns) * y.0 ≡ 2 ^ length columns * y.0 + 2 ^ length columns * y.0 = ap (λ n. n * y.0) (two-pow-succ (length columns)) ∙ omega arith in (
             y.0 + z.0,
             omega (
               arith,
@@ -120,7 +119,7 @@ pub one_column : (h : ℕ) (net : Net) (carries column : Column) (columns : List
     → pass h net carries (column ∷ columns) ≡ under w.column (pass h w.net w.carries columns)
 one_column h net carries column columns top queue w is_top is_queue e =
     let all : reduced (length (column ++ carries) - h) (is_none columns) (start net (column ++ carries)) ≡ w =
-        ap (λ q. reduced (length q - h) (is_none columns) (start net q)) (sym is_queue) ∙ ap (λ b. reduced (length queue - h) b (start net queue)) (sym is_top) ∙ e in
+    ap (λ q. reduced (length q - h) (is_none columns) (start net q)) (sym is_queue) ∙ ap (λ b. reduced (length queue - h) b (start net queue)) (sym is_top) ∙ e in
     ap (λ (v : Work). under v.column (pass h v.net v.carries columns)) all
 
 -- the columns after it stand in the net that its adders leave

@@ -104,9 +104,9 @@ module _ (net : Net) (valid : IsValid net) (sum carry : List ℕ → Tree) (take
     (carry_fits : FitsNodes (widths (with_logic net sum).nodes) 1 (carry (widths (with_logic net sum).nodes)))
     (x y : Words → Bool)
     (is_sum : (inputs : Inputs) (t : ℤ) → All (AreWords (input_widths net)) inputs
-        → value (scope_at net inputs t) (sum (widths net.nodes)) ≡ x (words_at net.nodes inputs t) ∷ [])
+    → value (scope_at net inputs t) (sum (widths net.nodes)) ≡ x (words_at net.nodes inputs t) ∷ [])
     (is_carry : (inputs : Inputs) (t : ℤ) → All (AreWords (input_widths net)) inputs
-        → value (scope_at (with_logic net sum) inputs t) (carry (widths (with_logic net sum).nodes)) ≡ y (words_at net.nodes inputs t) ∷ [])
+    → value (scope_at (with_logic net sum) inputs t) (carry (widths (with_logic net sum).nodes)) ≡ y (words_at net.nodes inputs t) ∷ [])
     (adds : (words : Words) → digit (x words) + 2 * digit (y words) ≡ ones words taken)
     (rest_there : All (IsThere (widths net.nodes)) rest) (carries_there : All (IsThere (widths net.nodes)) carries) where
   abbrev start : Work
@@ -136,8 +136,7 @@ module _ (net : Net) (valid : IsValid net) (sum carry : List ℕ → Tree) (take
     };
     sum = λ inputs t words.
         let before = words_at net.nodes inputs t in
-        let after = words_at one.nodes inputs t in
-        (
+        let after = words_at one.nodes inputs t in (
           digit (y before),
           omega (
             arith,
@@ -159,8 +158,7 @@ module _ (net : Net) (valid : IsValid net) (sum carry : List ℕ → Tree) (take
     };
     sum = λ inputs t words.
         let before = words_at net.nodes inputs t in
-        let after = words_at two.nodes inputs t in
-        (
+        let after = words_at two.nodes inputs t in (
           0,
           omega (
             arith,

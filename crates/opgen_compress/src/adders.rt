@@ -147,8 +147,8 @@ pub fn full_adder(
     if top {
         return Ok(());
     }
-    let carry = full_carry(alloc, net, a, b, c)?;
-    carries.push(logic(net, carry)?)?;
+    let majority = full_carry(alloc, net, a, b, c)?;
+    carries.push(logic(net, majority)?)?;
     Ok(())
 }
 
@@ -175,7 +175,7 @@ pub fn half_adder(
     if top {
         return Ok(());
     }
-    let carry = half_carry(alloc, net, a, b)?;
-    carries.push(logic(net, carry)?)?;
+    let both = half_carry(alloc, net, a, b)?;
+    carries.push(logic(net, both)?)?;
     Ok(())
 }

@@ -79,12 +79,14 @@ mod tests {
 
     // The expression of a node of one class, as it is printed for a reader of tests.
     fn shown(rt: &HostRuntime, net: &Net, place: usize, of: Class) -> Result<String, AllocError> {
-        match net.nodes.get(place) {
-            Node::Cells {
-                class,
-                width: _,
-                expr,
-            } if *class == of => format!(in rt.alloc(); "{:?}", expr.expr()),
+        match net.nodes.as_slice().get(place) {
+            Some(
+                Node::Cells {
+                    class,
+                    width: _,
+                    expr,
+                },
+            ) if *class == of => format!(in rt.alloc(); "{:?}", expr.expr()),
             _ => Ok(String::new(rt.alloc())),
         }
     }
@@ -93,17 +95,27 @@ mod tests {
     fn three_bits(rt: HostRuntime) -> Result<(), Fail> {
         let mut net = Net::new(rt.alloc());
         let mut heap = Heap::new(rt.alloc(), 3);
-        for name in ["a", "b", "c"] {
-            let node = net.input(name, 1)?;
-            heap.add_bit(node, 0, 0)?;
-        }
+        let a = net.input("a", 1)?;
+        let b = net.input("b", 1)?;
+        let c = net.input("c", 1)?;
+        heap.add_bit(a, 0, 0)?;
+        heap.add_bit(b, 0, 0)?;
+        heap.add_bit(c, 0, 0)?;
         assert_eq!(rt; compress(rt.alloc(), heap, &mut net)?, 7);
         assert_eq!(rt; net.nodes.len(), 8);
         let nodes = [
             (3, Class::Logic, "Chain(Xor, [Name(0), Name(1)])"),
             (4, Class::Logic, "Chain(And, [Name(0), Name(1)])"),
-            (5, Class::Wire, "Chain(Cat, [Bits(Word { bits: 0, width: 1 }), Name(4), Name(2)])"),
-            (6, Class::Wire, "Chain(Cat, [Bits(Word { bits: 0, width: 2 }), Name(3)])"),
+            (
+                5,
+                Class::Wire,
+                "Chain(Cat, [Bits(Word { bits: 0, width: 1 }), Name(4), Name(2)])",
+            ),
+            (
+                6,
+                Class::Wire,
+                "Chain(Cat, [Bits(Word { bits: 0, width: 2 }), Name(3)])",
+            ),
             (7, Class::Add, "Chain(Plus, [Name(5), Name(6)])"),
         ];
         for (place, class, text) in nodes {

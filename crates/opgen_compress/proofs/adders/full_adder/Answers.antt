@@ -39,7 +39,7 @@ logic-requires-2-clause-fits c =
     let column : c.args.column.now ≡ c.take-a.result ∷ c.take-b.result ∷ c.take-c.result ∷ c.take-c.new.self = search rules in
     let one : c.logic.new.net ≡ with_logic net (full_sum c.take-a.result c.take-b.result c.take-c.result) = c.in_ok-logic.ensures.ok ∙ ap (λ e. record net { nodes = net.nodes ++ Cells Logic 1 e ∷ [] }) c.in_ok-sum.ensures in
     let ws = widths c.logic.new.net.nodes in
-    subst (FitsNodes ws 1) (sym c.in_ok-carry.ensures) (full_carry-fits ws c.take-a.result c.take-b.result c.take-c.result (full-still_there net c.logic.new.net c.args.column.now c.take-a.result c.take-b.result c.take-c.result c.take-c.new.self c.requires.net c.requires.there.column column one))
+    subst (FitsNodes ws 1) (sym c.in_ok-majority.ensures) (full_carry-fits ws c.take-a.result c.take-b.result c.take-c.result (full-still_there net c.logic.new.net c.args.column.now c.take-a.result c.take-b.result c.take-c.result c.take-c.new.self c.requires.net c.requires.there.column column one))
 
 pub returns-clause-there : goal.returns-clause-there
 returns-clause-there c =

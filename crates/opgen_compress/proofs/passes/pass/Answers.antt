@@ -35,8 +35,7 @@ columns-preserved c =
     let there : All (IsThere (widths net.nodes)) c.append.new.self = subst (All (IsThere (widths net.nodes))) (sym queue) (with_carries net column carries rest here i.2) in
     let last : c.is_last.result ≡ is_none rest = search rules in
     let next = one_column h net carries column rest c.is_last.result c.append.new.self w last queue c.in_ok-carries.ensures.ok in
-    let more : c.push.new.self ≡ lower ++ w.column ∷ [] = c.in_ok-push.ensures.ok in
-    (
+    let more : c.push.new.self ≡ lower ++ w.column ∷ [] = c.in_ok-push.ensures.ok in (
       i.0
           ∙ ap (λ (cs : List Column). let s : State = pass h net carries cs in (record { net = s.net; columns = lower ++ s.columns })) c.first-column.ensures
           ∙ ap (λ (s : State). (record { net = s.net; columns = lower ++ s.columns })) next
@@ -56,6 +55,6 @@ returns-clause-there c =
     let none : c.columns.rest.items ≡ [] = no_columns c.columns.rest.items count in
     let vec : lower ≡ c.into_vec.result.items = search rules in
     let ok = c.columns.invariant.0
-        ∙ ap (λ (cs : List Column). let s : State = pass h net c.columns.carries cs in (record { net = s.net; columns = lower ++ s.columns })) none
-        ∙ ap (λ cs. (record { net = net; columns = cs })) (append-nil lower ∙ vec) in
+    ∙ ap (λ (cs : List Column). let s : State = pass h net c.columns.carries cs in (record { net = s.net; columns = lower ++ s.columns })) none
+    ∙ ap (λ cs. (record { net = net; columns = cs })) (append-nil lower ∙ vec) in
     subst (λ (s : State). AllThere s.net s.columns) ok law.there
