@@ -1,0 +1,7 @@
+mod Later
+mod Operands
+mod Reduced
+mod Heights
+mod Passed
+mod Ones
+mod Finished

@@ -1,0 +1,3 @@
+pub mod Adder
+pub mod Recipe
+pub mod Kept

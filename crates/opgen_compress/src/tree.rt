@@ -1,0 +1,140 @@
+ghost use Rattle.std.specs.Prelude.{◌≡◌, ◌≤◌, ◌<◌, ◌^◌, ◌++◌, Bool, length, slice_index, slice_index_or, IfOk, OnOk, []};
+ghost use Rattle.opgen_net.specs.Flow.{KeepsFlow};
+ghost use Rattle.opgen_net.specs.Valid.{IsValid, widths};
+ghost use Rattle.opgen_num.specs.Words.{word};
+ghost use Rattle.opgen_compress.specs.Recipe.{one_if, with_ones, all_columns, compressed};
+ghost use Rattle.opgen_compress.specs.Kept.{AllThere, IsSumOf};
+
+use crate::passes::lower;
+use crate::queue::Queue;
+use crate::rows::finish;
+use opgen_heap::Heap;
+use opgen_list::Items;
+use opgen_net::{Net, WordBit};
+use opgen_num::Memory;
+use std::alloc::{AllocError, Global};
+
+// A column of a heap, no bits where there is none, and 1 at its end where the constant's digit is 1.
+fn column_at(
+    alloc: Global,
+    columns: &[Items<WordBit>],
+    place: usize,
+    one: bool,
+) -> Result<Queue, AllocError>
+    ensures { IfOk result (λ q. q ≡ slice_index_or columns.now place [] ++ one_if one) }
+{
+    let mut queue = Queue::new(alloc);
+    if let Some(bits) = columns.get(place) {
+        queue.append(bits.as_slice())?;
+    }
+    if one {
+        queue.push(WordBit::One)?;
+    }
+    Ok(queue)
+}
+
+// As many columns as the heap is wide, with the bits of its constant at their ends.
+fn columns_of(alloc: Global, heap: &Heap) -> Result<Vec<Queue>, AllocError>
+    ensures all { IfOk result (λ all. all.items ≡ all_columns heap.now) }
+    ensures few { length heap.now.columns ≤ heap.now.width }
+    ensures below { heap.now.constant < 2 ^ heap.now.width }
+{
+    let columns = heap.columns();
+    let mut left = heap.constant();
+    let mut all = Vec::new(alloc);
+    'columns: for place in 0..heap.width() {
+        all.push(column_at(alloc, columns, place as usize, left % 2 == 1)?)?;
+        left /= 2;
+    }
+    Ok(all)
+}
+
+/// Adds the bits and the constant of a heap, and answers the number of a node of the heap's width that has the sum.
+///
+/// The nodes are those of a compressor tree: full and half adders bring the columns down to two bits each, over heights of which
+/// each is one and a half times the next one, and the two rows that are left are added. After want of memory the net is valid, and
+/// has some of these nodes.
+pub fn compress(alloc: Global, heap: Heap, net: &mut Net) -> Result<usize, Memory>
+    requires net { IsValid net.old }
+    requires there { AllThere net.old heap.columns }
+    ensures ok { OnOk result (net.new ≡ (compressed net.old heap).net) }
+    ensures place { IfOk result (λ n. n ≡ (compressed net.old heap).place) }
+    ensures sum { IfOk result (λ n. IsSumOf net.old heap net.new.nodes n) }
+    ensures width { IfOk result (λ n. slice_index (widths net.new.nodes) n ≡ heap.width) }
+    ensures flow { OnOk result (KeepsFlow net.old.nodes net.new.nodes) }
+    ensures valid { IsValid net.new }
+{
+    let width = heap.width();
+    let columns = columns_of(alloc, &heap)?;
+    let rows = lower(alloc, columns, net)?;
+    let answer = finish(alloc, width, &rows, net)?;
+    Ok(answer)
+}
+
+#[cfg(test)]
+mod tests {
+    use super::*;
+    use opgen_net::{Class, Node};
+    use std::test::Fail;
+
+    // The expression of a node of one class, as it is printed for a reader of tests.
+    fn shown(rt: &HostRuntime, net: &Net, place: usize, of: Class) -> Result<String, AllocError> {
+        match net.nodes.as_slice().get(place) {
+            Some(
+                Node::Cells {
+                    class,
+                    width: _,
+                    expr,
+                },
+            ) if *class == of => format!(in rt.alloc(); "{:?}", expr.expr()),
+            _ => Ok(String::new(rt.alloc())),
+        }
+    }
+
+    #[test]
+    fn three_bits(rt: HostRuntime) -> Result<(), Fail> {
+        let mut net = Net::new(rt.alloc());
+        let mut heap = Heap::new(rt.alloc(), 3);
+        let a = net.input("a", 1)?;
+        let b = net.input("b", 1)?;
+        let c = net.input("c", 1)?;
+        heap.add_bit(a, 0, 0)?;
+        heap.add_bit(b, 0, 0)?;
+        heap.add_bit(c, 0, 0)?;
+        assert_eq!(rt; compress(rt.alloc(), heap, &mut net)?, 7);
+        assert_eq!(rt; net.nodes.len(), 8);
+        let nodes = [
+            (3, Class::Logic, "Chain(Xor, [Name(0), Name(1)])"),
+            (4, Class::Logic, "Chain(And, [Name(0), Name(1)])"),
+            (
+                5,
+                Class::Wire,
+                "Chain(Cat, [Bits(Word { bits: 0, width: 1 }), Name(4), Name(2)])",
+            ),
+            (
+                6,
+                Class::Wire,
+                "Chain(Cat, [Bits(Word { bits: 0, width: 2 }), Name(3)])",
+            ),
+            (7, Class::Add, "Chain(Plus, [Name(5), Name(6)])"),
+        ];
+        for (place, class, text) in nodes {
+            assert_eq!(rt; *shown(&rt, &net, place, class)?.as_str(), *text);
+        }
+        Ok(())
+    }
+
+    #[test]
+    fn constant_alone(rt: HostRuntime) -> Result<(), Fail> {
+        let mut net = Net::new(rt.alloc());
+        let mut heap = Heap::new(rt.alloc(), 4);
+        heap.add_constant(-1);
+        assert_eq!(rt; compress(rt.alloc(), heap, &mut net)?, 0);
+        assert_eq!(rt; net.nodes.len(), 1);
+        let Node::Constant(word) = net.nodes.get(0) else {
+            panic!(rt; "a constant")
+        };
+        assert_eq!(rt; (word.bits, word.width), (15, 4));
+        Ok(())
+    }
+}

@@ -1,0 +1,4 @@
+mod Residues
+pub mod Bits
+pub mod Sums
+mod Columns
