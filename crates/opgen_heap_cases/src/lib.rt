@@ -5,3 +5,5 @@
 mod evaluation;
 #[cfg(test)]
 mod sums;
+#[cfg(test)]
+mod words;
