@@ -5,7 +5,7 @@ use Rattle.std.proofs.Math.Nat.{mul-le-mul_left, mul-le-mul_right, div-le_self}
 use Rattle.std.proofs.lemmas.Nat.{pow-add}
 use Rattle.std.proofs.lemmas.Int.{ints}
 use Rattle.opgen_num.proofs.BitLength.{power_order}
-use Rattle.opgen_spec.proofs.DigitCount.{count-holds, count-least}
+use Rattle.opgen_num.proofs.RangeWidth.{count-holds, count-least}
 use Rattle.opgen_num.specs.Formats.{digit_count, range_width}
 use Rattle.opgen_spec.specs.Outputs.{places_up, places_down, up}
 

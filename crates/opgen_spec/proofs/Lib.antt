@@ -1,4 +1,3 @@
-pub mod DigitCount
 mod Digits
 mod Trees
 mod Bounds
