@@ -1,0 +1,5 @@
+pub mod Words
+pub mod FirstLines
+pub mod Digits
+pub mod RowTexts
+pub mod Rows
