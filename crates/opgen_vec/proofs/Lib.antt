@@ -3,3 +3,4 @@ pub mod FirstLines
 pub mod Digits
 pub mod RowTexts
 pub mod Rows
+pub mod Writing

@@ -16,7 +16,7 @@ abbrev lower : List ℕ → List ℕ
 lower text = map to_ascii_lowercase text
 
 -- sixteen is four bits
-four_bits : (k : ℕ) → 16 ^ k ≡ 2 ^ (4 * k)
+pub four_bits : (k : ℕ) → 16 ^ k ≡ 2 ^ (4 * k)
 four_bits zero = refl
 four_bits (suc k) =
     let n = 4 * k in

@@ -6,10 +6,12 @@ mod hex;
 mod read;
 mod row;
 mod vectors;
+mod write;
 
 pub use fault::VecFault;
 pub use read::{read_empty_rows, read_vectors};
 pub use vectors::Vectors;
+pub use write::write_rows;
 
 /// The most rows of a file of vectors.
 pub const MAX_ROWS: u32 = 100_000;

@@ -11,3 +11,18 @@ pub struct Vectors {
     pub cells: Items<u128>,
     pub ghost whole: { columns * (length cells / columns) ≡ length cells },
 }
+
+impl Vectors {
+    ghost use Rattle.opgen_vec.specs.Writing.{row_count};
+
+    /// The number of rows, 0 where a row has no cell.
+    pub fn row_count(&self) -> usize
+        ensures { result ≡ row_count self.now.columns self.now.cells }
+    {
+        if self.columns == 0 {
+            0
+        } else {
+            self.cells.len() / self.columns as usize
+        }
+    }
+}
