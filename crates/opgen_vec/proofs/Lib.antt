@@ -4,3 +4,4 @@ pub mod Digits
 pub mod RowTexts
 pub mod Rows
 pub mod Writing
+pub mod Draws

@@ -3,3 +3,4 @@ pub mod Digits
 pub mod Reading
 pub mod Writing
 pub mod Fault
+pub mod Stimulus

@@ -1,6 +1,7 @@
 //! Files of vectors: rows of words in hexadecimal, one line for each cycle.
 #![tactic(auto)]
 
+mod draw;
 mod fault;
 mod hex;
 mod read;
@@ -8,6 +9,7 @@ mod row;
 mod vectors;
 mod write;
 
+pub use draw::stimulus;
 pub use fault::VecFault;
 pub use read::{read_empty_rows, read_vectors};
 pub use vectors::Vectors;
