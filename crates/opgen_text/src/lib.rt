@@ -3,6 +3,8 @@
 
 mod kind;
 mod lexical;
+mod place;
 
 pub use kind::{Front, Token, TokenKind};
 pub use lexical::{longest_token, one_cut, token_spans};
+pub use place::Place;
