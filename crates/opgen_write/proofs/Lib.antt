@@ -1,1 +1,3 @@
 mod Bits
+pub mod Lexing
+pub mod Words
