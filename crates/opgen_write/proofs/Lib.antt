@@ -1,3 +1,4 @@
 mod Bits
 pub mod Lexing
 pub mod Words
+pub mod Expressions
