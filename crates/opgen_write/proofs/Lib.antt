@@ -2,3 +2,5 @@ mod Bits
 pub mod Lexing
 pub mod Words
 pub mod Expressions
+pub mod Places
+pub mod Fitting
