@@ -4,3 +4,4 @@ pub mod Words
 pub mod Expressions
 pub mod Places
 pub mod Fitting
+pub mod Drivers
