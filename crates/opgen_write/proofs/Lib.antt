@@ -5,3 +5,5 @@ pub mod Expressions
 pub mod Places
 pub mod Fitting
 pub mod Drivers
+pub mod Leading
+pub mod Designs
