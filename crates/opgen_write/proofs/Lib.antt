@@ -1,1 +1,9 @@
 mod Bits
+pub mod Lexing
+pub mod Words
+pub mod Expressions
+pub mod Places
+pub mod Fitting
+pub mod Drivers
+pub mod Leading
+pub mod Designs
