@@ -1,6 +1,7 @@
 //! Operators: what a specification asks for, and what its good outputs are.
 #![tactic(auto)]
 
+mod good;
 mod outputs;
 mod ports;
 mod spec;
