@@ -5,6 +5,7 @@ use Rattle.std.proofs.lemmas.Bool.{cases_lt}
 use Rattle.std.proofs.lemmas.Option.{get_or_from_slice_get}
 use Rattle.std.proofs.lemmas.List.{length-map}
 use Rattle.opgen_num.specs.declared.format.Format.{Format}
+use Rattle.opgen_operator.specs.declared.spec.PortFormat.{PortFormat}
 use Rattle.opgen_operator.specs.declared.spec.Several.{Several}
 use Rattle.opgen_operator.specs.Exact.{exact_multiple}
 use Rattle.opgen_operator.specs.Good.{IsGoodRatio}
@@ -52,3 +53,9 @@ each_more P ts i so_far here k t below got =
     let value : get_or ts i (pos 0) ≡ t = ap (λ j. get_or ts j (pos 0)) same ∙ get_or_from_slice_get ts k t (pos 0) got in
     subst (λ (j : ℕ). P j t) same (subst (λ (u : ℤ). P i u) value here))
     (cases_lt k i)
+
+-- the format of a port that is there is its own
+pub format_at-listed : (ports : List PortFormat) (k : ℕ) (d : PortFormat) → k < length ports → (get_or ports k d).format ≡ format_at ports k
+format_at-listed [] k d h = absurd (omega arith)
+format_at-listed (p ∷ ps) zero d h = refl
+format_at-listed (p ∷ ps) (suc k) d h = format_at-listed ps k d (omega arith)
