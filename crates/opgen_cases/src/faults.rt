@@ -100,12 +100,32 @@ fn refused_values(rt: HostRuntime) -> Result<(), Fail> {
 }
 
 /// Whole documents, and the lines that refuse them.
-static DOCUMENTS: [(&[u8], &str); 5] = [
+static DOCUMENTS: [(&[u8], &str); 10] = [
     (b"", "specification: MissingKey version\n"),
     (b"version = 2\n", "specification: MissingKey name\n"),
     (b"x = ", "specification: NotToml\n"),
     (b"version = 1\nversion = 1\n", "specification: NotToml\n"),
     (b"name = \"\xff\"\n", "specification: NotToml\n"),
+    (
+        b"version = 1\nname = \"times3\"\nkind = \"scale\"\nexact = true\ntarget = \"plain\"\nsigned = false\nwidth = 4\nlsb = 0\nout_lsb = 0\ncoefficients = [3]\n",
+        "specification: MissingKey period\n",
+    ),
+    (
+        b"version = 1\nname = \"times3\"\nkind = \"scale\"\nexact = true\ntarget = \"plain\"\nperiod = 10000\nsigned = false\nwidth = 4\nlsb = 32\nout_lsb = -32\ncoefficients = [3]\n",
+        "specification: Coarse 64\n",
+    ),
+    (
+        b"version = 2\nname = \"times3\"\nkind = \"scale\"\nexact = true\ntarget = \"plain\"\nperiod = 10000\nsigned = false\nwidth = 33\nlsb = 0\nout_lsb = 0\ncoefficients = [3]\n",
+        "specification: BadVersion 2\n",
+    ),
+    (
+        b"version = 1\nname = \"times3\"\nkind = \"scale\"\nexact = true\ntarget = \"plain\"\nsigned = false\nwidth = 4\nlsb = 0\nout_lsb = 0\ncoefficients = [3]\ncolour = 1\n",
+        "specification: UnknownKey 0 1\n",
+    ),
+    (
+        b"version = 1\nname = \"product\"\nkind = \"multiply\"\nexact = true\ntarget = \"plain\"\nperiod = 1000000\nsigned = false\nwidth_a = 32\nlsb_a = 0\nwidth_b = 32\nlsb_b = 0\nout_lsb = -1\n",
+        "specification: TooWide 65\n",
+    ),
 ];
 
 #[test]
