@@ -8,6 +8,8 @@ mod faults;
 #[cfg(test)]
 mod generate;
 #[cfg(test)]
+mod good;
+#[cfg(test)]
 mod running;
 mod worked;
 

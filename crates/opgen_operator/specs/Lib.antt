@@ -3,3 +3,7 @@ pub mod Outputs
 pub mod Ports
 pub mod Ranges
 pub mod Valid
+pub mod Exact
+pub mod Good
+pub mod Judged
+pub mod Fits

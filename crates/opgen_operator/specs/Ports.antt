@@ -9,6 +9,7 @@ use Rattle.opgen_operator.specs.declared.spec.Operator.TheVariants.{Scale, Fir, 
 use Rattle.opgen_operator.specs.declared.spec.Pair.{Pair}
 use Rattle.opgen_operator.specs.declared.spec.PortFormat.{PortFormat}
 use Rattle.opgen_operator.specs.declared.spec.Product.{Product}
+use Rattle.opgen_operator.specs.declared.spec.Several.{Several}
 use Rattle.opgen_operator.specs.declared.spec.Single.{Single}
 use Rattle.opgen_operator.specs.declared.spec.Spec.{Spec}
 use Rattle.opgen_operator.specs.declared.spec.Sum.{Sum}
@@ -61,21 +62,36 @@ abbrev pub with_rest : (exact : Bool) (main rest : PortFormat) → List PortForm
 with_rest true main rest = main ∷ rest ∷ []
 with_rest false main rest = main ∷ []
 
+abbrev pub one_input : Format → List PortFormat
+one_input x = port (codes "x") x ∷ []
+
+abbrev pub two_inputs : (a b : Format) → List PortFormat
+two_inputs a b = port (codes "a") a ∷ port (codes "b") b ∷ []
+
 abbrev pub operator_inputs : Operator → List PortFormat
-operator_inputs (Scale s) = port (codes "x") s.input ∷ []
-operator_inputs (Fir s) = port (codes "x") s.input ∷ []
-operator_inputs (Multiply p) = port (codes "a") p.a ∷ port (codes "b") p.b ∷ []
-operator_inputs (Divide p) = port (codes "a") p.a ∷ port (codes "b") p.b ∷ []
-operator_inputs (Root r) = port (codes "x") r.input ∷ []
-operator_inputs (Mcm m) = port (codes "x") m.input ∷ []
+operator_inputs (Scale s) = one_input s.input
+operator_inputs (Fir s) = one_input s.input
+operator_inputs (Multiply p) = two_inputs p.a p.b
+operator_inputs (Divide p) = two_inputs p.a p.b
+operator_inputs (Root r) = one_input r.input
+operator_inputs (Mcm m) = one_input m.input
+
+abbrev pub quotient_ports : (exact : Bool) → Pair → List PortFormat
+quotient_ports exact p = with_rest exact (port (codes "q") (quotient_format p)) (port (codes "r") (remainder_format p))
+
+abbrev pub root_ports : (exact : Bool) → Single → List PortFormat
+root_ports exact r = with_rest exact (port (codes "y") (root_format r)) (port (codes "r") (rest_format r))
+
+abbrev pub multiple_ports : Several → List PortFormat
+multiple_ports m = numbered 0 (map (constant_format m.input) m.constants)
 
 abbrev pub operator_outputs : Operator → List PortFormat
 operator_outputs (Scale s) = port (codes "y") (sum_format s) ∷ []
 operator_outputs (Fir s) = port (codes "y") (sum_format s) ∷ []
 operator_outputs (Multiply p) = port (codes "y") (product_format p) ∷ []
-operator_outputs (Divide p) = with_rest p.exact (port (codes "q") (quotient_format p)) (port (codes "r") (remainder_format p))
-operator_outputs (Root r) = with_rest r.exact (port (codes "y") (root_format r)) (port (codes "r") (rest_format r))
-operator_outputs (Mcm m) = numbered 0 (map (constant_format m.input) m.constants)
+operator_outputs (Divide p) = quotient_ports p.exact p
+operator_outputs (Root r) = root_ports r.exact r
+operator_outputs (Mcm m) = multiple_ports m
 
 abbrev pub inputs_of : Spec → List PortFormat
 inputs_of spec = operator_inputs spec.op

@@ -1,13 +1,16 @@
 //! Operators: what a specification asks for, and what its good outputs are.
 #![tactic(auto)]
 
+mod good;
 mod outputs;
 mod ports;
 mod spec;
 mod spec_name;
+mod words;
 
 pub use spec::{DelayLine, Operator, Pair, PortFormat, Product, Several, Single, Spec, Sum};
 pub use spec_name::{MAX_SPEC_NAME_LEN, is_spec_name};
+pub use words::{is_cycle, is_history};
 
 /// The greatest shift of an operator: the power of two that brings its exact value into units of
 /// the output's last place.

@@ -70,7 +70,7 @@ impl Operator {
     }
 }
 
-fn sum_shift(sum: &Sum) -> i32
+pub(crate) fn sum_shift(sum: &Sum) -> i32
     requires { IsSum 256 sum.now }
     ensures value { result ≡ sum_shift sum.now }
     ensures low { negsuc 63 ≤ℤ result }
@@ -79,7 +79,7 @@ fn sum_shift(sum: &Sum) -> i32
     sum.input.lsb - sum.out_lsb
 }
 
-fn product_shift(product: &Product) -> i32
+pub(crate) fn product_shift(product: &Product) -> i32
     requires { IsProduct product.now }
     ensures value { result ≡ product_shift product.now }
     ensures low { negsuc 95 ≤ℤ result }
@@ -108,14 +108,14 @@ pub(crate) fn places_up(shift: i32) -> u32
     if shift < 0 { 0 } else { shift.unsigned_abs() }
 }
 
-fn places_down(shift: i32) -> u32
+pub(crate) fn places_down(shift: i32) -> u32
     ensures { result ≡ places_down shift }
 {
     if shift < 0 { shift.unsigned_abs() } else { 0 }
 }
 
 /// Two to a power.
-fn power(places: u32) -> u128
+pub(crate) fn power(places: u32) -> u128
     requires { places ≤ 96 }
     ensures { result ≡ 2 ^ places }
 {

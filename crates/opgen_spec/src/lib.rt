@@ -16,6 +16,6 @@ pub use fault::SpecFault;
 pub use key::{Key, Kind};
 pub use opgen_operator::{
     DelayLine, MAX_SPEC_NAME_LEN, Operator, Pair, PortFormat, Product, Several, Single, Spec, Sum,
-    is_spec_name,
+    is_cycle, is_history, is_spec_name,
 };
 pub use read::read_spec;

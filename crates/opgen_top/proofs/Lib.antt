@@ -1,4 +1,6 @@
+pub mod Serving
 pub mod Products
 pub mod Circuits
 pub mod Parts
 pub mod Names
+pub mod Dues

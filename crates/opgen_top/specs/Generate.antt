@@ -1,42 +1,54 @@
 -- What `generate` gives.
-use Rattle.std.specs.Prelude.{IsSome, ℕ, ◌≡◌, ◌⊎◌, ◌*◌, Bool, List, [], ◌∷◌, map, slice_get, All, Option, Some, None, Ok}
-use Rattle.opgen_num.specs.Words.{nat}
+use Rattle.std.specs.Prelude.{IsSome, ℕ, ◌≡◌, ◌⊎◌, List, ◌++◌, map, slice_get, All, Option, Some, None, Ok}
 use Rattle.opgen_net.specs.declared.design.Design.{Design}
-use Rattle.opgen_net.specs.Run.{AreWords, Words, Run, input_widths, outputs_of}
+use Rattle.opgen_net.specs.declared.design.Dir.{Dir}
+use Rattle.opgen_net.specs.declared.design.Dir.TheVariants.{In, Out}
+use Rattle.opgen_net.specs.declared.design.Port.{Port}
+use Rattle.opgen_net.specs.Flow.{Inputs}
+use Rattle.opgen_net.specs.Run.{AreWords, Words, Run}
+use Rattle.opgen_net.specs.Run.{outputs_of as design_outputs}
 use Rattle.opgen_net.specs.Sound.{IsSound}
 use Rattle.opgen_text.specs.DesignText.{text_of}
 use Rattle.opgen_io.specs.Counts.{Rose}
 use Rattle.opgen_io.specs.Files.{Files, stored, KeepsOthers}
 use Rattle.opgen_spec.specs.Document.{tree}
 use Rattle.opgen_spec.specs.Faults.{read}
+use Rattle.opgen_operator.specs.declared.spec.PortFormat.{PortFormat}
 use Rattle.opgen_operator.specs.declared.spec.Spec.{Spec}
+use Rattle.opgen_operator.specs.Good.{IsGood, IsInRange}
+use Rattle.opgen_operator.specs.Judged.{recent_words, output_words}
+use Rattle.opgen_operator.specs.Ports.{inputs_of, outputs_of}
 use Rattle.opgen_top.specs.Answer.{file_name}
-use Rattle.opgen_top.specs.Built.{Multiplication, multiplication}
+use Rattle.opgen_top.specs.Built.{multiplication}
 
--- A design of one input that has a run over each list of its words, and in each of whose runs, in each cycle, the output is a number times the input.
-pub record Multiplies (width factor : ℕ) (d : Design) : Type 0 where
-  pub input : input_widths d ≡ width ∷ []
-  pub runs : (inputs : List (List (List Bool))) → All (AreWords (width ∷ [])) inputs → (vs : List Words) × Run d inputs vs
-  pub product : (inputs : List (List (List Bool))) (vs : List Words) → Run d inputs vs
-      → (t : ℕ) (given : List (List Bool)) (v : Words) → slice_get inputs t ≡ Some given → slice_get vs t ≡ Some v
-      → map nat (outputs_of d v) ≡ map (λ x. factor * nat x) given
+-- a port of a design
+abbrev pub port_of : Dir → PortFormat → Port
+port_of dir p = record { name = p.name; dir = dir; width = p.format.width }
 
--- the text of a sound design of this name that multiplies
-pub record IsCircuitText (name : List ℕ) (m : Multiplication) (text : List ℕ) : Type 0 where
+-- A design serves a specification where it has its ports, has a run over each list of words of its inputs, and in each
+-- cycle of each run whose inputs are in range has good outputs.
+pub record Serves (spec : Spec) (d : Design) : Type 0 where
+  pub ports : d.ports ≡ map (port_of In) (inputs_of spec) ++ map (port_of Out) (outputs_of spec)
+  pub runs : (inputs : Inputs) → All (AreWords (map (λ p. p.format.width) (inputs_of spec))) inputs → (vs : List Words) × Run d inputs vs
+  pub good : (inputs : Inputs) (vs : List Words) → Run d inputs vs → (t : ℕ) (v : Words) → slice_get vs t ≡ Some v
+      → IsInRange spec (recent_words (inputs_of spec) inputs t)
+      → IsGood spec (recent_words (inputs_of spec) inputs t) (output_words (outputs_of spec) (design_outputs d v))
+
+-- the text of a sound design of this name that serves the specification
+pub record IsCircuitText (spec : Spec) (text : List ℕ) : Type 0 where
   pub design : Design
   pub written : text ≡ text_of design
-  pub called : design.name ≡ name
+  pub called : design.name ≡ spec.name
   pub sound : IsSound design
-  pub multiplies : Multiplies m.width m.factor design
+  pub serves : Serves spec design
 
--- the bytes are a specification without a fault that asks for a multiplication, and the file, named after it, has the text of its circuit
+-- the bytes are a specification without a fault that can be generated, and the file, named after it, has the text of its circuit
 pub record IsGenerated (bytes file text : List ℕ) : Type 0 where
   pub spec : Spec
   pub reads : read (tree bytes) ≡ Ok spec
-  pub asked : Multiplication
-  pub asks : multiplication spec ≡ Some asked
+  pub built : IsSome (multiplication spec)
   pub file_name : file ≡ file_name spec.name
-  pub circuit : IsCircuitText spec.name asked text
+  pub circuit : IsCircuitText spec text
 
 -- what stands under the name of the specification's file
 abbrev pub Stands : Option (List ℕ) → Files → (bytes : List ℕ) → Type 0

@@ -1,5 +1,5 @@
 //! From the bytes of a specification to the file that is stored.
-ghost use Rattle.std.specs.Prelude.{◌≡◌, ℕ, List, ◌≤◌, ◌^◌, IfOk, IsTrue, string_bytes, Err, Ok, None};
+ghost use Rattle.std.specs.Prelude.{◌≡◌, ℕ, List, ◌≤◌, ◌^◌, IfOk, IsTrue, string_bytes, Err, Ok, Some, None};
 ghost use Rattle.opgen_net.specs.Names.{is_allowed_name};
 ghost use Rattle.opgen_spec.specs.Document.{tree};
 ghost use Rattle.opgen_spec.specs.Faults.{read};
@@ -14,7 +14,7 @@ use crate::line::Line;
 use opgen_flat::flat;
 use opgen_num::Memory;
 use opgen_scale::times;
-use opgen_spec::{SpecFault, read_spec};
+use opgen_spec::{Spec, SpecFault, read_spec};
 use opgen_write::{VecSink, write_design};
 use std::alloc::{AllocError, Global};
 
@@ -53,15 +53,16 @@ impl From<AllocError> for Refusal {
     }
 }
 
-/// The text of the circuit of this name that multiplies.
-fn circuit_text(alloc: Global, name: &str, asked: Multiplication) -> Result<Vec<u8>, Memory>
-    requires allowed { IsTrue (is_allowed_name name.now) }
+/// The text of the circuit of a specification that asks for this multiplication.
+fn circuit_text(alloc: Global, spec: &Spec, asked: Multiplication) -> Result<Vec<u8>, Memory>
+    requires allowed { IsTrue (is_allowed_name spec.now.name) }
+    requires asked { multiplication spec.now ≡ Some (record { width = asked.width; factor = asked.factor }) }
     requires width { (1 ≤ asked.width) × (asked.width ≤ 6) }
     requires factor { (1 ≤ asked.factor) × (asked.factor ≤ 2 ^ 30) }
-    ensures { IfOk result (λ text. IsCircuitText name.now (record { width = asked.width; factor = asked.factor }) text.items) }
+    ensures { IfOk result (λ text. IsCircuitText spec.now text.items) }
 {
     let net = times(alloc, asked.width, asked.factor)?;
-    let design = flat(alloc, &net, name)?;
+    let design = flat(alloc, &net, spec.name.as_str())?;
     let mut text = VecSink::new(alloc);
     match write_design(alloc, &design, &mut text) {
         Ok(()) => Ok(text.into_bytes()),
@@ -110,7 +111,7 @@ pub(crate) fn generated(alloc: Global, bytes: &[u8]) -> Result<GeneratedFile, Re
     let name = spec.name.as_str();
     Ok(GeneratedFile {
         file: file_name(alloc, name)?,
-        text: circuit_text(alloc, name, asked)?,
+        text: circuit_text(alloc, &spec, asked)?,
         line: wrote(alloc, name)?,
     })
 }

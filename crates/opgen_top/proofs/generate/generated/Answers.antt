@@ -1,9 +1,5 @@
-use Rattle.std.proofs.Common.{sym, subst}
-use Rattle.std.specs.Prelude.{IsTrue}
-use Rattle.opgen_net.specs.Names.{is_allowed_name}
 use Rattle.opgen_top.proofs.Names.{spec_name-allowed}
 use Rattle.opgen_top.proofs.generate.generated.Goals as goal
 
 pub circuit_text-requires-clause-allowed : goal.circuit_text-requires-clause-allowed
-circuit_text-requires-clause-allowed c =
-    subst (λ name. IsTrue (is_allowed_name name)) (sym c.as_str-name.ensures) (spec_name-allowed c.in-Ok.spec.name c.in-Ok.ensures.valid.name)
+circuit_text-requires-clause-allowed c = spec_name-allowed c.in-Ok.spec.name c.in-Ok.ensures.valid.name

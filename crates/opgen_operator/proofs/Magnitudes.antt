@@ -1,0 +1,29 @@
+-- Magnitudes of products, and what fits 128 bits.
+use Rattle.std.proofs.Common.{◌≡◌, ℕ, ◌+◌, ◌-◌, ◌*◌, ◌^◌, ◌≤◌, Bool, true, false, FitsSigned, arith}
+use Rattle.std.specs.Prelude.{ℤ, pos, negsuc, ◌*ℤ◌, unsigned_abs}
+use Rattle.std.specs.Int.{w128}
+use Rattle.std.proofs.lemmas.Int.{ints}
+use Rattle.opgen_num.specs.Formats.{Holds}
+use Rattle.opgen_num.proofs.BitLength.{power_order}
+use Rattle.opgen_operator.proofs.Bounds.{products}
+
+pub unsigned_abs-product : (a b : ℤ) → unsigned_abs (a *ℤ b) ≡ unsigned_abs a * unsigned_abs b
+unsigned_abs-product (pos a) (pos b) = omega (arith, ints)
+unsigned_abs-product (pos a) (negsuc b) = omega (arith, ints)
+unsigned_abs-product (negsuc a) (pos b) = omega (arith, ints)
+unsigned_abs-product (negsuc a) (negsuc b) = omega (arith, ints)
+
+pub product_within : (a b : ℤ) (i j : ℕ) → unsigned_abs a ≤ 2 ^ i → unsigned_abs b ≤ 2 ^ j → unsigned_abs (a *ℤ b) ≤ 2 ^ (i + j)
+product_within a b i j first second = omega (arith, unsigned_abs-product a b, products (unsigned_abs a) (unsigned_abs b) i j first second)
+
+-- a number raised by some places
+pub raised_within : (n : ℤ) (i places most : ℕ) → unsigned_abs n ≤ 2 ^ i → places ≤ most → unsigned_abs (n *ℤ pos (2 ^ places)) ≤ 2 ^ (i + most)
+raised_within n i places most small few = product_within n (pos (2 ^ places)) i most small (power_order places most few)
+
+pub fits_small : (n : ℤ) → unsigned_abs n ≤ 2 ^ 126 → FitsSigned w128 n
+fits_small n h = omega (arith, ints)
+
+-- a number of a width
+pub holds_within : (signed : Bool) (width : ℕ) (n : ℤ) → width ≤ 32 → Holds signed width n → unsigned_abs n ≤ 2 ^ 32
+holds_within false width n few (low, high) = omega (arith, ints, power_order width 32 few)
+holds_within true width n few (low, high) = omega (arith, ints, power_order (width - 1) 32 (omega arith))

@@ -1,0 +1,37 @@
+use Rattle.std.proofs.Common.{◌≡◌, ◌^◌, ◌∙◌, FitsSigned, rules, arith, ap, refl, false}
+use Rattle.std.specs.Prelude.{pos, unsigned_abs}
+use Rattle.std.specs.Int.{w32, w128}
+use Rattle.std.proofs.lemmas.Int.{to_z-of_z}
+use Rattle.opgen_operator.specs.Exact.{dividend}
+use Rattle.opgen_operator.specs.Outputs.{places_up, pair_shift}
+use Rattle.opgen_operator.proofs.Magnitudes.{fits_small, unsigned_abs-product}
+use Rattle.opgen_operator.proofs.Roundings.{good-along, quotient-along}
+use Rattle.opgen_operator.proofs.good.quotient_is_good.Goals as goal
+
+pub returns-then-exact-clause-in_range : goal.returns-then-exact-clause-in_range
+returns-then-exact-clause-in_range c =
+    let fits_a : FitsSigned w128 c.args.a = fits_small _ (omega (arith, c.requires.a)) in
+    let fits_b = c.ranges.b in
+    let fits_shift : FitsSigned w32 c.pair_shift.result = search rules in
+    let fits_shifted : FitsSigned w128 c.raised-shifted.result = search rules in
+    let fits_q : FitsSigned w128 c.output-q.result = search rules in
+    let fits_r : FitsSigned w128 c.output-r.result = search rules in
+    let raised_up : c.places_up.result ≡ places_up (pair_shift c.args.pair.now) = rw c.pair_shift.ensures at simp to_z-of_z at c.places_up.ensures in
+    let shifted = rw raised_up at simp to_z-of_z at c.raised-shifted.ensures.value in
+    let n : c.unsigned_abs.result ≡ dividend c.args.pair.now c.args.a = (simp to_z-of_z at c.unsigned_abs.ensures.value) ∙ ap unsigned_abs shifted ∙ unsigned_abs-product c.args.a (pos (2 ^ places_up (pair_shift c.args.pair.now))) in
+    let b = simp to_z-of_z at c.unsigned_abs-then-exact.ensures.value in
+    let q = (simp to_z-of_z at c.unsigned_abs-then-exact-2.ensures.value) ∙ ap unsigned_abs (rw c.quotient_format.ensures at c.output-q.ensures) in
+    let r = (simp to_z-of_z at c.unsigned_abs-then-exact-3.ensures.value) ∙ ap unsigned_abs (rw c.remainder_format.ensures at c.output-r.ensures) in
+    λ _. rw c.if-exact.true (quotient-along c.is_quotient.result _ _ _ _ _ _ _ _ n b q r c.is_quotient.ensures)
+
+pub returns-else-exact-clause-in_range : goal.returns-else-exact-clause-in_range
+returns-else-exact-clause-in_range c =
+    let fits_a : FitsSigned w128 c.args.a = fits_small _ (omega (arith, c.requires.a)) in
+    let fits_b = c.ranges.b in
+    let fits_shift : FitsSigned w32 c.pair_shift.result = search rules in
+    let fits_shifted : FitsSigned w128 c.raised-shifted.result = search rules in
+    let fits_q : FitsSigned w128 c.output-q.result = search rules in
+    let raised_up : c.places_up.result ≡ places_up (pair_shift c.args.pair.now) = rw c.pair_shift.ensures at simp to_z-of_z at c.places_up.ensures in
+    let shifted = rw raised_up at simp to_z-of_z at c.raised-shifted.ensures.value in
+    let q = rw c.quotient_format.ensures at c.output-q.ensures in
+    λ _. rw c.if-exact.false (good-along c.good_linear.result false c.raised-shifted.result _ c.args.b c.args.b c.output-q.result _ shifted refl q (simp to_z-of_z at c.good_linear.ensures))

@@ -1,0 +1,35 @@
+use Rattle.std.proofs.Common.{◌≡◌, ◌^◌, ◌∙◌, FitsSigned, rules, arith, ap}
+use Rattle.std.specs.Prelude.{pos, unsigned_abs}
+use Rattle.std.specs.Int.{w32, w128}
+use Rattle.std.proofs.lemmas.Int.{to_z-of_z}
+use Rattle.opgen_operator.specs.Exact.{square}
+use Rattle.opgen_operator.specs.Outputs.{places_up, root_shift}
+use Rattle.opgen_operator.proofs.Magnitudes.{fits_small, unsigned_abs-product}
+use Rattle.opgen_operator.proofs.Roundings.{root-along, good_root-along}
+use Rattle.opgen_operator.proofs.good.root_is_good.Goals as goal
+
+pub returns-then-exact : goal.returns-then-exact
+returns-then-exact c =
+    let fits_x : FitsSigned w128 c.args.x = fits_small _ (omega (arith, c.requires.x)) in
+    let fits_shift : FitsSigned w32 c.root_shift.result = search rules in
+    let fits_raised : FitsSigned w128 c.raised.result = search rules in
+    let fits_y : FitsSigned w128 c.output.result = search rules in
+    let fits_r : FitsSigned w128 c.output-then-exact.result = search rules in
+    let raised_up : c.places_up.result ≡ places_up (root_shift c.args.single.now) = rw c.root_shift.ensures at simp to_z-of_z at c.places_up.ensures in
+    let raised = rw raised_up at simp to_z-of_z at c.raised.ensures.value in
+    let n : c.unsigned_abs-square.result ≡ square c.args.single.now c.args.x = (simp to_z-of_z at c.unsigned_abs-square.ensures.value) ∙ ap unsigned_abs raised ∙ unsigned_abs-product c.args.x (pos (2 ^ places_up (root_shift c.args.single.now))) in
+    let y = (simp to_z-of_z at c.unsigned_abs-y.ensures.value) ∙ ap unsigned_abs (rw c.root_format.ensures at c.output.ensures) in
+    let r = (simp to_z-of_z at c.unsigned_abs-r.ensures.value) ∙ ap unsigned_abs (rw c.rest_format.ensures at c.output-then-exact.ensures) in
+    rw c.if-exact.true (root-along c.is_root.result _ _ _ _ _ _ n y r c.is_root.ensures)
+
+pub returns-else-exact : goal.returns-else-exact
+returns-else-exact c =
+    let fits_x : FitsSigned w128 c.args.x = fits_small _ (omega (arith, c.requires.x)) in
+    let fits_shift : FitsSigned w32 c.root_shift.result = search rules in
+    let fits_raised : FitsSigned w128 c.raised.result = search rules in
+    let fits_y : FitsSigned w128 c.output.result = search rules in
+    let raised_up : c.places_up.result ≡ places_up (root_shift c.args.single.now) = rw c.root_shift.ensures at simp to_z-of_z at c.places_up.ensures in
+    let raised = rw raised_up at simp to_z-of_z at c.raised.ensures.value in
+    let n : c.unsigned_abs-square.result ≡ square c.args.single.now c.args.x = (simp to_z-of_z at c.unsigned_abs-square.ensures.value) ∙ ap unsigned_abs raised ∙ unsigned_abs-product c.args.x (pos (2 ^ places_up (root_shift c.args.single.now))) in
+    let y = (simp to_z-of_z at c.unsigned_abs-y.ensures.value) ∙ ap unsigned_abs (rw c.root_format.ensures at c.output.ensures) in
+    rw c.if-exact.false (good_root-along c.good_root.result _ _ _ _ n y c.good_root.ensures)

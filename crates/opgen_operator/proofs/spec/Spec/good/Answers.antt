@@ -1,0 +1,40 @@
+use Rattle.std.proofs.Common.{◌≡◌, FitsSigned, rules}
+use Rattle.std.specs.Int.{w128}
+use Rattle.std.proofs.lemmas.Int.{to_z-of_z}
+use Rattle.opgen_operator.proofs.Roundings.{zero_if}
+use Rattle.opgen_operator.proofs.spec.Spec.good.Goals as goal
+
+pub returns-in-Multiply-clause-in_range : goal.returns-in-Multiply-clause-in_range
+returns-in-Multiply-clause-in_range c =
+    let fits_a : FitsSigned w128 c.operands-a.result.0 = search rules in
+    let fits_b : FitsSigned w128 c.operands-a.result.1 = search rules in
+    let good = rw (c.operands-a.ensures.first, c.operands-a.ensures.second) at simp to_z-of_z at c.product_is_good.ensures in
+    rw c.in-Multiply.is (λ _. good)
+
+pub returns-in-Divide-clause-in_range : goal.returns-in-Divide-clause-in_range
+returns-in-Divide-clause-in_range c =
+    let fits_a : FitsSigned w128 c.operands-a-in-Divide.result.0 = search rules in
+    let fits_b : FitsSigned w128 c.operands-a-in-Divide.result.1 = search rules in
+    let agrees : c.in-Divide.pair.exact ≡ c.args.self.now.exact = rw c.in-Divide.is at c.requires.valid.agrees in
+    let good = rw (← agrees) at rw (c.operands-a-in-Divide.ensures.first, c.operands-a-in-Divide.ensures.second) at simp to_z-of_z at c.quotient_is_good.ensures.in_range in
+    rw (c.in-Divide.is, ← agrees) good
+
+pub returns-in-Divide-clause-out_of_range : goal.returns-in-Divide-clause-out_of_range
+returns-in-Divide-clause-out_of_range c =
+    let fits_a : FitsSigned w128 c.operands-a-in-Divide.result.0 = search rules in
+    let fits_b : FitsSigned w128 c.operands-a-in-Divide.result.1 = search rules in
+    let out = rw c.operands-a-in-Divide.ensures.second at simp to_z-of_z at c.quotient_is_good.ensures.out_of_range in
+    rw c.in-Divide.is (λ none. out (zero_if _ none))
+
+pub returns-in-Root-clause-in_range : goal.returns-in-Root-clause-in_range
+returns-in-Root-clause-in_range c =
+    let fits_x : FitsSigned w128 c.recent.result = search rules in
+    let agrees : c.in-Root.single.exact ≡ c.args.self.now.exact = rw c.in-Root.is at c.requires.valid.agrees in
+    let good = rw (← agrees) at rw c.recent.ensures.value at simp to_z-of_z at c.root_is_good.ensures in
+    rw (c.in-Root.is, ← agrees) (λ _. good)
+
+pub returns-in-Mcm-clause-in_range : goal.returns-in-Mcm-clause-in_range
+returns-in-Mcm-clause-in_range c =
+    let fits_x : FitsSigned w128 c.recent-x.result = search rules in
+    let good = rw c.recent-x.ensures.value at simp to_z-of_z at c.multiples_are_good.ensures in
+    rw c.in-Mcm.is (λ _. good)

@@ -1,0 +1,268 @@
+ghost use Rattle.std.specs.Prelude.{ℕ, false, ◌≡◌, ◌≢◌, ◌+◌, ◌*◌, ◌<◌, ◌≤◌, ◌^◌, ◌↔◌, ℤ, pos, negsuc, ◌*ℤ◌, ◌≤ℤ◌, length, slice_index, unsigned_abs, All, IsTrue, Some};
+ghost use Rattle.opgen_num.specs.Rounding.{IsGoodRoot, IsQuotient, IsRoot};
+ghost use Rattle.opgen_operator.specs.Exact.{weighted, exact_sum, exact_product, exact_quotient, exact_multiple, dividend, square};
+ghost use Rattle.opgen_operator.specs.Good.{IsGoodRatio, IsGoodQuotient, IsGoodSquareRoot, AreGoodMultiples, IsGood, IsInRange};
+ghost use Rattle.opgen_operator.specs.Judged.{number_of, recent_numbers, output_numbers, IsHistory, IsCycle};
+ghost use Rattle.opgen_operator.specs.Outputs.{sum_shift, product_shift, pair_shift, root_shift};
+ghost use Rattle.opgen_operator.specs.Ports.{one_input, two_inputs, sum_format, product_format, constant_format, quotient_format, remainder_format, root_format, rest_format, quotient_ports, root_ports, multiple_ports, inputs_of, outputs_of};
+ghost use Rattle.opgen_operator.specs.Ranges.{IsInput, IsWithin, IsSum, IsProduct, IsPair, IsSingle, IsSeveral};
+ghost use Rattle.opgen_operator.specs.Valid.{IsValidSpec};
+
+use crate::outputs::{
+    pair_shift, places_down, places_up, power, product_shift, root_shift, sum_shift,
+};
+use crate::ports::{
+    constant_format, product_format, quotient_format, remainder_format, rest_format, root_format,
+    sum_format,
+};
+use crate::spec::{Operator, Pair, Product, Several, Single, Spec, Sum};
+use opgen_num::{Format, Word, good_linear, good_root, is_quotient, is_root};
+
+/// The number of an input's word.
+fn input(format: Format, bits: u128) -> i128
+    requires format { IsInput format }
+    requires bits { bits < 2 ^ format.width }
+    ensures value { result ≡ number_of format bits }
+    ensures bound { unsigned_abs result ≤ 2 ^ 32 }
+    ensures unsigned { format.signed ≡ false → pos 0 ≤ℤ result }
+{
+    format.value(Word::new(bits, format.width))
+}
+
+/// The number of an output's word.
+fn output(format: Format, bits: u128) -> i128
+    requires least { 1 ≤ format.width }
+    requires most { format.width ≤ 64 }
+    requires bits { bits < 2 ^ format.width }
+    ensures { result ≡ number_of format bits }
+{
+    format.value(Word::new(bits, format.width))
+}
+
+/// The number of the only input some cycles ago, 0 before cycle 0.
+fn recent(format: Format, history: &[u128], ago: usize) -> i128
+    requires format { IsInput format }
+    requires history { IsHistory (one_input format) history.now }
+    ensures value { result ≡ recent_numbers (one_input format) history.now 0 ago }
+    ensures bound { unsigned_abs result ≤ 2 ^ 32 }
+{
+    if ago < history.len() {
+        input(format, history[history.len() - 1 - ago])
+    } else {
+        0
+    }
+}
+
+/// The numbers of two inputs in the last cycle.
+fn operands(a: Format, b: Format, history: &[u128]) -> (i128, i128)
+    requires a { IsInput a }
+    requires b { IsInput b }
+    requires history { IsHistory (two_inputs a b) history.now }
+    ensures first { result.0 ≡ recent_numbers (two_inputs a b) history.now 0 0 }
+    ensures second { result.1 ≡ recent_numbers (two_inputs a b) history.now 1 0 }
+    ensures first_bound { unsigned_abs result.0 ≤ 2 ^ 32 }
+    ensures second_bound { unsigned_abs result.1 ≤ 2 ^ 32 }
+    ensures unsigned { b.signed ≡ false → pos 0 ≤ℤ result.1 }
+{
+    let last = history.len() - 1;
+    (input(a, history[last - 1]), input(b, history[last]))
+}
+
+/// A number times two to a power.
+fn raised(n: i128, places: u32) -> i128
+    requires small { unsigned_abs n ≤ 2 ^ 70 }
+    requires few { places ≤ 48 }
+    ensures value { result ≡ n *ℤ pos (2 ^ places) }
+{
+    n * (power(places) as i128)
+}
+
+/// The last inputs, each times its coefficient.
+fn weighted(sum: &Sum, history: &[u128]) -> i128
+    requires sum { IsSum 256 sum.now }
+    requires history { IsHistory (one_input sum.now.input) history.now }
+    ensures value { result ≡ weighted sum.now.coefs (recent_numbers (one_input sum.now.input) history.now 0) }
+    ensures bound { unsigned_abs result ≤ 2 ^ 70 }
+{
+    let mut total = 0;
+    let mut ago = 0;
+    'coefs: for coef in sum.coefs.as_slice() {
+        total += product(recent(sum.input, history, ago), *coef);
+        ago += 1;
+    }
+    total
+}
+
+/// An input times a coefficient.
+fn product(n: i128, coef: i64) -> i128
+    requires input { unsigned_abs n ≤ 2 ^ 32 }
+    requires coef { unsigned_abs coef ≤ 2 ^ 30 }
+    ensures value { result ≡ n *ℤ coef }
+    ensures bound { unsigned_abs result ≤ 2 ^ 62 }
+{
+    n * i128::from(coef)
+}
+
+fn sum_is_good(exact: bool, sum: &Sum, history: &[u128], y: u128) -> bool
+    requires sum { IsSum 256 sum.now }
+    requires low { negsuc 47 ≤ℤ sum_shift sum.now }
+    requires high { sum_shift sum.now ≤ℤ pos 48 }
+    requires narrow { (sum_format sum.now).width ≤ 64 }
+    requires history { IsHistory (one_input sum.now.input) history.now }
+    requires y { y < 2 ^ (sum_format sum.now).width }
+    ensures { IsTrue result ↔ IsGoodRatio exact
+        (exact_sum sum.now (recent_numbers (one_input sum.now.input) history.now 0))
+        (number_of (sum_format sum.now) y) }
+{
+    let shift = sum_shift(sum);
+    let numerator = raised(weighted(sum, history), places_up(shift));
+    let denominator = raised(i128::from(sum.den), places_down(shift));
+    good_linear(numerator, denominator, output(sum_format(sum), y), exact)
+}
+
+fn product_is_good(exact: bool, product: &Product, a: i128, b: i128, y: u128) -> bool
+    requires product { IsProduct product.now }
+    requires low { negsuc 47 ≤ℤ product_shift product.now }
+    requires high { product_shift product.now ≤ℤ pos 48 }
+    requires narrow { (product_format product.now).width ≤ 64 }
+    requires a { unsigned_abs a ≤ 2 ^ 32 }
+    requires b { unsigned_abs b ≤ 2 ^ 32 }
+    requires y { y < 2 ^ (product_format product.now).width }
+    ensures { IsTrue result ↔ IsGoodRatio exact (exact_product product.now a b)
+        (number_of (product_format product.now) y) }
+{
+    let shift = product_shift(product);
+    let numerator = raised(a * b, places_up(shift));
+    let denominator = raised(1, places_down(shift));
+    good_linear(
+        numerator,
+        denominator,
+        output(product_format(product), y),
+        exact,
+    )
+}
+
+fn quotient_is_good(exact: bool, pair: &Pair, a: i128, b: i128, outputs: &[u128]) -> bool
+    requires pair { IsPair pair.now }
+    requires low { pos 0 ≤ℤ pair_shift pair.now }
+    requires high { pair_shift pair.now ≤ℤ pos 48 }
+    requires narrow { (quotient_format pair.now).width ≤ 64 }
+    requires a { unsigned_abs a ≤ 2 ^ 32 }
+    requires b { pos 0 ≤ℤ b }
+    requires outputs { IsCycle (quotient_ports exact pair.now) outputs.now }
+    ensures in_range { b ≢ pos 0 → (IsTrue result ↔ IsGoodQuotient exact pair.now a b
+        (output_numbers (quotient_ports exact pair.now) outputs.now 0)
+        (output_numbers (quotient_ports exact pair.now) outputs.now 1)) }
+    ensures out_of_range { b ≡ pos 0 → IsTrue result }
+{
+    if b == 0 {
+        return true;
+    }
+    let shifted = raised(a, places_up(pair_shift(pair)));
+    let q = output(quotient_format(pair), outputs[0]);
+    if exact {
+        let r = output(remainder_format(pair), outputs[1]);
+        is_quotient(
+            shifted.unsigned_abs(),
+            b.unsigned_abs(),
+            q.unsigned_abs(),
+            r.unsigned_abs(),
+        )
+    } else {
+        good_linear(shifted, b, q, false)
+    }
+}
+
+fn root_is_good(exact: bool, single: &Single, x: i128, outputs: &[u128]) -> bool
+    requires single { IsSingle single.now }
+    requires low { pos 0 ≤ℤ root_shift single.now }
+    requires high { root_shift single.now ≤ℤ pos 48 }
+    requires x { unsigned_abs x ≤ 2 ^ 32 }
+    requires outputs { IsCycle (root_ports exact single.now) outputs.now }
+    ensures { IsTrue result ↔ IsGoodSquareRoot exact single.now x
+        (output_numbers (root_ports exact single.now) outputs.now 0)
+        (output_numbers (root_ports exact single.now) outputs.now 1) }
+{
+    let square = raised(x, places_up(root_shift(single))).unsigned_abs();
+    let y = output(root_format(single), outputs[0]).unsigned_abs();
+    if exact {
+        let r = output(rest_format(single), outputs[1]).unsigned_abs();
+        is_root(square, y, r)
+    } else {
+        good_root(square, y)
+    }
+}
+
+fn multiple_is_good(exact: bool, input: Format, constant: i64, x: i128, y: u128) -> bool
+    requires input { IsInput input }
+    requires constant { IsWithin 2047 constant }
+    requires x { unsigned_abs x ≤ 2 ^ 32 }
+    requires y { y < 2 ^ (constant_format input constant).width }
+    ensures { IsTrue result ↔ IsGoodRatio exact (exact_multiple constant x)
+        (number_of (constant_format input constant) y) }
+{
+    good_linear(
+        product(x, constant),
+        1,
+        output(constant_format(input, constant), y),
+        exact,
+    )
+}
+
+fn multiples_are_good(exact: bool, several: &Several, x: i128, outputs: &[u128]) -> bool
+    requires several { IsSeveral several.now }
+    requires x { unsigned_abs x ≤ 2 ^ 32 }
+    requires outputs { IsCycle (multiple_ports several.now) outputs.now }
+    ensures { IsTrue result ↔ AreGoodMultiples exact several.now.constants x
+        (output_numbers (multiple_ports several.now) outputs.now) }
+{
+    let mut place = 0;
+    'constants: for constant in several.constants.as_slice() {
+        if !multiple_is_good(exact, several.input, *constant, x, outputs[place]) {
+            return false;
+        }
+        place += 1;
+    }
+    true
+}
+
+impl Spec {
+    /// Whether the outputs of a cycle are good, or its inputs are out of range.
+    ///
+    /// `history` has the words of all input ports in cycle 0, then those of the cycle after, and so
+    /// on up to the cycle that is judged; `outputs` has the words of that cycle's output ports.
+    pub fn good(&self, history: &[u128], outputs: &[u128]) -> bool
+        requires valid { IsValidSpec self.now }
+        requires history { IsHistory (inputs_of self.now) history.now }
+        requires outputs { IsCycle (outputs_of self.now) outputs.now }
+        ensures in_range { IsInRange self.now (recent_numbers (inputs_of self.now) history.now) →
+            (IsTrue result ↔ IsGood self.now (recent_numbers (inputs_of self.now) history.now)
+            (output_numbers (outputs_of self.now) outputs.now)) }
+        ensures out_of_range { ¬ IsInRange self.now (recent_numbers (inputs_of self.now) history.now) → IsTrue result }
+    {
+        match &self.op {
+            Operator::Scale(sum) => sum_is_good(self.exact, sum, history, outputs[0]),
+            Operator::Fir(sum) => sum_is_good(self.exact, sum, history, outputs[0]),
+            Operator::Multiply(product) => {
+                let (a, b) = operands(product.a, product.b, history);
+                product_is_good(self.exact, product, a, b, outputs[0])
+            }
+            Operator::Divide(pair) => {
+                let (a, b) = operands(pair.a, pair.b, history);
+                quotient_is_good(self.exact, pair, a, b, outputs)
+            }
+            Operator::Root(single) => {
+                root_is_good(
+                    self.exact,
+                    single,
+                    recent(single.input, history, 0),
+                    outputs,
+                )
+            }
+            Operator::Mcm(several) => {
+                let x = recent(several.input, history, 0);
+                multiples_are_good(self.exact, several, x, outputs)
+            }
+        }
+    }
+}
