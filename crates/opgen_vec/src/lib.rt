@@ -17,3 +17,6 @@ pub use write::write_rows;
 
 /// The most rows of a file of vectors.
 pub const MAX_ROWS: u32 = 100_000;
+
+#[cfg(test)]
+mod tests;

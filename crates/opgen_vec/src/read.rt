@@ -69,18 +69,18 @@ pub fn read_empty_rows(bytes: &[u8]) -> Result<u32, VecFault>
     ensures too_many { result ≡ Err VecFault.TooMany → AreTooMany [] (lines bytes.now) }
     ensures memory { result ≡ Err VecFault.Memory → ⊥ }
 {
-    let mut count = 0u32;
+    let mut rows = 0u32;
     let mut rest = bytes;
     'lines: while !rest.is_empty() {
         let (line, later) = split_line(rest);
-        if count == MAX_ROWS {
+        if rows == MAX_ROWS {
             return Err(VecFault::TooMany);
         }
         if !line.is_empty() {
-            return Err(VecFault::BadLine { line: count + 1 });
+            return Err(VecFault::BadLine { line: rows + 1 });
         }
-        count += 1;
+        rows += 1;
         rest = later;
     }
-    Ok(count)
+    Ok(rows)
 }
