@@ -2,3 +2,5 @@ pub mod Products
 pub mod Circuits
 pub mod Parts
 pub mod Names
+pub mod Preparing
+pub mod Leaving
