@@ -4,6 +4,7 @@
 mod draw;
 mod fault;
 mod hex;
+mod laws;
 mod read;
 mod row;
 mod vectors;
@@ -11,6 +12,7 @@ mod write;
 
 pub use draw::stimulus;
 pub use fault::VecFault;
+pub use laws::one_reading;
 pub use read::{read_empty_rows, read_vectors};
 pub use vectors::Vectors;
 pub use write::write_rows;
