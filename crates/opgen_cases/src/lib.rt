@@ -4,6 +4,8 @@
 #[cfg(test)]
 mod documents;
 #[cfg(test)]
+mod draws;
+#[cfg(test)]
 mod faults;
 #[cfg(test)]
 mod generate;

@@ -3,4 +3,5 @@ pub mod Products
 pub mod Circuits
 pub mod Parts
 pub mod Names
-pub mod Dues
+pub mod Preparing
+pub mod Leaving

@@ -1,5 +1,5 @@
 -- Parts of lines, and statuses with and without a line.
-use Rattle.std.proofs.Common.{◌≡◌, inl, inr, ℕ, ◌-◌, List, ◌++◌, length, take, Option, Some, None, sym, ap, ◌∙◌, arith, append-nil}
+use Rattle.std.proofs.Common.{◌≡◌, ◌⊎◌, inl, inr, ℕ, ◌-◌, List, ◌++◌, length, take, Option, Some, None, sym, ap, ◌∙◌, arith, append-nil}
 use Rattle.opgen_io.specs.Bytes.{TakesPrefix}
 use Rattle.opgen_top.specs.Statuses.{HasLine, IsSilent, TellsOr}
 
@@ -32,3 +32,8 @@ told_status status before now result (inr (inr e)) h = absurd (not_five result h
 pub not_silent : (result : ℕ) → HasLine result → IsSilent result → ⊥
 not_silent result h (inl e) = not_four result h e
 not_silent result h (inr e) = not_five result h e
+
+-- a status of the specification is none of reading
+pub no_fault : (result : ℕ) → (result ≡ 0) ⊎ (result ≡ 1) → result ≡ 3 → ⊥
+no_fault result (inl e) f = omega (arith, e, f)
+no_fault result (inr e) f = omega (arith, e, f)

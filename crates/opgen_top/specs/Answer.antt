@@ -1,22 +1,12 @@
 -- What the program answers: a status, and the line that it prints.
 use Rattle.std.specs.Prelude.{ℕ, ◌≡◌, ◌⊎◌, List, ◌++◌, codes, Option, Some, None, Result, Ok, Err, string_bytes}
-use Rattle.opgen_io.specs.Answers.{fetched}
 use Rattle.opgen_io.specs.Bytes.{TakesPrefix}
-use Rattle.opgen_io.specs.Files.{Files}
-use Rattle.opgen_io.specs.declared.folder.FetchFault.{FetchFault}
-use Rattle.opgen_io.specs.declared.folder.FetchFault.TheVariants as fetch
-use Rattle.opgen_spec.specs.Document.{tree}
-use Rattle.opgen_spec.specs.Faults.{read}
 use Rattle.opgen_spec.specs.Texts.{fault_text}
 use Rattle.opgen_spec.specs.declared.fault.SpecFault.{SpecFault}
 use Rattle.opgen_operator.specs.declared.spec.Spec.{Spec}
 use Rattle.opgen_top.specs.Built.{Multiplication, multiplication}
 use Rattle.opgen_top.specs.declared.line.Line.{Line}
 use Rattle.opgen_top.specs.declared.line.Line.TheVariants.{Usage, ReadFault, TooLong, Unsupported, Refused, Wrote}
-
--- the most bytes that a specification has
-abbrev pub most_bytes : ℕ
-most_bytes = 1048576
 
 pub record Answer : Type 0 where
   pub status : ℕ
@@ -67,26 +57,6 @@ answer_of_spec spec (Some m) = wrote spec.name
 abbrev pub answer_of_reading : Result Spec SpecFault → Answer
 answer_of_reading (Ok spec) = answer_of_spec spec (multiplication spec)
 answer_of_reading (Err fault) = refused fault
-
--- by what fetching its file gives
-abbrev pub answer_of_fetch : Result (List ℕ) FetchFault → Answer
-answer_of_fetch (Ok bytes) = answer_of_reading (read (tree bytes))
-answer_of_fetch (Err fetch.TooLong) = too_long
-answer_of_fetch (Err _) = read_fault
-
--- the answer that is due where nothing goes wrong outside: by the words, then by the specification's file and what it holds
-abbrev pub due : (spec : Option (List ℕ)) → Files → Answer
-due None files = usage
-due (Some file) files = answer_of_fetch (fetched (files file) most_bytes)
-
--- what stands under the specification's name: nothing, or more bytes than a specification has
-abbrev pub IsMissing : (spec : Option (List ℕ)) → Files → Type 0
-IsMissing None files = ⊥
-IsMissing (Some file) files = files file ≡ None
-
-abbrev pub IsTooLong : (spec : Option (List ℕ)) → Files → Type 0
-IsTooLong None files = ⊥
-IsTooLong (Some file) files = fetched (files file) most_bytes ≡ Err fetch.TooLong
 
 -- the sink has the line of an answer of this status more, where it tells what it takes
 abbrev pub TakesLine : (status : ℕ) (held : List ℕ) (after : Option (List ℕ)) → Type 0

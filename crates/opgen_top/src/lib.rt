@@ -5,6 +5,8 @@ mod buildable;
 mod command;
 mod generate;
 mod line;
+mod made;
+mod prepare;
 mod program;
 mod status;
 

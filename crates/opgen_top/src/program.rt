@@ -4,36 +4,35 @@ ghost use Rattle.opgen_top.specs.declared.line.Line.{Line};
 ghost use Rattle.opgen_io.specs.Bytes.{TakesPrefix};
 ghost use Rattle.opgen_io.specs.Counts.{Rose, Stood};
 ghost use Rattle.opgen_io.specs.Files.{Files, stored};
-ghost use Rattle.opgen_top.specs.Answer.{answer_of, due, IsMissing, IsTooLong, read_fault, too_long, usage, IsAnswer, TakesLine, TakesPartOfLine};
-ghost use Rattle.opgen_top.specs.Command.{spec_file};
-ghost use Rattle.opgen_top.specs.Generate.{Generates, IsRefused, Leaves, LeavesStored};
+ghost use Rattle.opgen_top.specs.Answer.{answer_of, read_fault, too_long, usage, IsAnswer, TakesLine, TakesPartOfLine};
+ghost use Rattle.opgen_top.specs.Command.{command_of};
+ghost use Rattle.opgen_top.specs.Due.{IsDue, IsDueStatus, TakesDueLine, IsMissing, IsTooLong, IsRefused};
+ghost use Rattle.opgen_top.specs.Stores.{Stores, Leaves, LeavesStored};
 ghost use Rattle.opgen_top.specs.Statuses.{HasLine, IsSilent, IsStatus, Refuses, TellsOr};
 
-use crate::command::spec_file;
-use crate::generate::{GeneratedFile, Refusal, generated};
+use crate::command::command_of;
 use crate::line::Line;
+use crate::made::{MadeFile, Refusal};
+use crate::prepare::prepare;
 use crate::status::Status;
-use opgen_io::{FetchFault, Folder, PutFault, Sink, StoreFault};
+use opgen_io::{Folder, PutFault, Sink, StoreFault};
 use std::alloc::Global;
 
-/// The most bytes that a specification has.
-const MAX_SPEC_LEN: usize = 1_048_576;
-
 /// Stores the generated file, and gives the line that tells of it; without a line, the status.
-fn store<F: Folder>(generated: GeneratedFile, folder: &mut F) -> Result<Line, Status>
-    ensures line { IfOk result (λ line. line ≡ Line.Wrote generated.line) }
+fn store<F: Folder>(made: MadeFile, folder: &mut F) -> Result<Line, Status>
+    ensures line { IfOk result (λ line. line ≡ Line.Wrote made.line) }
     ensures silent { IfErr result (λ status. IsSilent status.0) }
     ensures stored { (files : Files) → F.told folder.old ≡ Some files → IsOk result →
-        F.told folder.new ≡ Some (stored (string_bytes generated.file) generated.text.items files) }
+        F.told folder.new ≡ Some (stored (string_bytes made.file) made.text.items files) }
     ensures write_fault { IfErr result (λ status. status.0 ≡ 4 → Rose (F.write_faults folder.old) (F.write_faults folder.new)) }
     ensures left { (files : Files) → F.told folder.old ≡ Some files → IsErr result →
-        LeavesStored (string_bytes generated.file) generated.text.items files (F.told folder.new)
+        LeavesStored (string_bytes made.file) made.text.items files (F.told folder.new)
         (F.write_faults folder.old) (F.write_faults folder.new) }
     ensures read_faults_same { F.read_faults folder.new ≡ F.read_faults folder.old }
     ensures complete { Stood (F.write_faults folder.old) (F.write_faults folder.new) → IfErr result (λ status. status.0 ≡ 5) }
 {
-    match folder.store(&generated.file, &generated.text) {
-        Ok(()) => Ok(Line::Wrote(generated.line)),
+    match folder.store(&made.file, &made.text) {
+        Ok(()) => Ok(Line::Wrote(made.line)),
         Err(StoreFault::Failed) => Err(Status(4)),
         Err(StoreFault::Memory) => Err(Status(5)),
     }
@@ -44,47 +43,41 @@ fn store<F: Folder>(generated: GeneratedFile, folder: &mut F) -> Result<Line, St
 fn answer<F: Folder>(alloc: Global, words: &[String], folder: &mut F) -> Result<Line, Status>
     ensures silent { IfErr result (λ status. IsSilent status.0) }
     ensures listed { IfOk result (λ line. IsAnswer (answer_of line)) }
-    ensures generated { (files : Files) → F.told folder.old ≡ Some files →
+    ensures stored { (files : Files) → F.told folder.old ≡ Some files →
         (line : Line) → result ≡ Ok line → (answer_of line).status ≡ 0 →
-        Generates (spec_file (map string_bytes words.now)) files (F.told folder.new) }
+        Stores (command_of (map string_bytes words.now)) files (F.told folder.new) }
 
-    ensures usage { IfOk result (λ line. (answer_of line).status ≡ 2 → spec_file (map string_bytes words.now) ≡ None) }
-    ensures usage_due { spec_file (map string_bytes words.now) ≡ None → result ≡ Ok Line.Usage }
+    ensures usage { IfOk result (λ line. (answer_of line).status ≡ 2 → command_of (map string_bytes words.now) ≡ None) }
+    ensures usage_due { command_of (map string_bytes words.now) ≡ None → result ≡ Ok Line.Usage }
     ensures read_fault { IfOk result (λ line. (answer_of line).status ≡ 3 →
         Rose (F.read_faults folder.old) (F.read_faults folder.new) ⊎ Rose (F.lacks folder.old) (F.lacks folder.new)) }
     ensures too_long { IfOk result (λ line. (answer_of line).status ≡ 9 → Rose (F.longs folder.old) (F.longs folder.new)) }
     ensures write_fault { IfErr result (λ status. status.0 ≡ 4 → Rose (F.write_faults folder.old) (F.write_faults folder.new)) }
     ensures refused { (files : Files) → F.told folder.old ≡ Some files → IfOk result (λ line. (answer_of line).status ≡ 1 →
-        IsRefused (spec_file (map string_bytes words.now)) files) }
+        IsRefused (command_of (map string_bytes words.now)) files) }
     ensures missing { (files : Files) → F.told folder.old ≡ Some files →
         Stood (F.read_faults folder.old) (F.read_faults folder.new) → IfOk result (λ line. (answer_of line).status ≡ 3 →
-        IsMissing (spec_file (map string_bytes words.now)) files) }
+        IsMissing (command_of (map string_bytes words.now)) files) }
     ensures longer { (files : Files) → F.told folder.old ≡ Some files → IfOk result (λ line. (answer_of line).status ≡ 9 →
-        IsTooLong (spec_file (map string_bytes words.now)) files) }
+        IsTooLong (command_of (map string_bytes words.now)) files) }
 
     ensures complete { (files : Files) → F.told folder.old ≡ Some files →
         Stood (F.read_faults folder.old) (F.read_faults folder.new) →
         Stood (F.write_faults folder.old) (F.write_faults folder.new) →
-        MatchResult result (λ line. answer_of line ≡ due (spec_file (map string_bytes words.now)) files) (λ status. status.0 ≡ 5) }
+        MatchResult result (λ line. IsDue (command_of (map string_bytes words.now)) files (answer_of line)) (λ status. status.0 ≡ 5) }
     ensures due { (files : Files) → F.told folder.old ≡ Some files → IfOk result (λ line. (answer_of line ≡ read_fault) ⊎
-        (answer_of line ≡ due (spec_file (map string_bytes words.now)) files)) }
+        IsDue (command_of (map string_bytes words.now)) files (answer_of line)) }
 
     ensures unchanged { IfOk result (λ line. Refuses (answer_of line).status → F.told folder.new ≡ F.told folder.old) }
     ensures left { (files : Files) → F.told folder.old ≡ Some files → IsErr result →
-        Leaves (spec_file (map string_bytes words.now)) files (F.told folder.new)
+        Leaves (command_of (map string_bytes words.now)) files (F.told folder.new)
         (F.write_faults folder.old) (F.write_faults folder.new) }
 {
-    let Some(file) = spec_file(words) else {
+    let Some(asked) = command_of(words) else {
         return Ok(Line::Usage);
     };
-    let bytes = match folder.fetch(alloc, file, MAX_SPEC_LEN) {
-        Ok(bytes) => bytes,
-        Err(FetchFault::Failed) => return Ok(Line::ReadFault),
-        Err(FetchFault::TooLong) => return Ok(Line::TooLong),
-        Err(FetchFault::Memory) => return Err(Status(5)),
-    };
-    match generated(alloc, &bytes) {
-        Ok(generated) => store(generated, folder),
+    match prepare(alloc, asked, folder) {
+        Ok(made) => store(made, folder),
         Err(Refusal::Line(line)) => Ok(line),
         Err(Refusal::Memory) => Err(Status(5)),
     }
@@ -118,12 +111,12 @@ pub fn run<F: Folder, K: Sink>(
 ) -> Status
     ensures statuses { IsStatus result.0 }
 
-    ensures generated { (files : Files) → F.told folder.old ≡ Some files → result.0 ≡ 0 →
-        Generates (spec_file (map string_bytes words.now)) files (F.told folder.new) }
+    ensures stored { (files : Files) → F.told folder.old ≡ Some files → result.0 ≡ 0 →
+        Stores (command_of (map string_bytes words.now)) files (F.told folder.new) }
 
     // Each refusal has its cause.
-    ensures usage { result.0 ≡ 2 → spec_file (map string_bytes words.now) ≡ None }
-    ensures usage_due { spec_file (map string_bytes words.now) ≡ None →
+    ensures usage { result.0 ≡ 2 → command_of (map string_bytes words.now) ≡ None }
+    ensures usage_due { command_of (map string_bytes words.now) ≡ None →
         TellsOr 2 (K.faults out.old) (K.faults out.new) result.0 }
     ensures read_fault { result.0 ≡ 3 →
         Rose (F.read_faults folder.old) (F.read_faults folder.new) ⊎ Rose (F.lacks folder.old) (F.lacks folder.new) }
@@ -131,26 +124,26 @@ pub fn run<F: Folder, K: Sink>(
     ensures write_fault { result.0 ≡ 4 →
         Rose (F.write_faults folder.old) (F.write_faults folder.new) ⊎ Rose (K.faults out.old) (K.faults out.new) }
     ensures refused { (files : Files) → F.told folder.old ≡ Some files → result.0 ≡ 1 →
-        IsRefused (spec_file (map string_bytes words.now)) files }
+        IsRefused (command_of (map string_bytes words.now)) files }
     ensures missing { (files : Files) → F.told folder.old ≡ Some files →
         Stood (F.read_faults folder.old) (F.read_faults folder.new) → result.0 ≡ 3 →
-        IsMissing (spec_file (map string_bytes words.now)) files }
+        IsMissing (command_of (map string_bytes words.now)) files }
     ensures longer { (files : Files) → F.told folder.old ≡ Some files → result.0 ≡ 9 →
-        IsTooLong (spec_file (map string_bytes words.now)) files }
+        IsTooLong (command_of (map string_bytes words.now)) files }
 
     // Where nothing goes wrong outside, the status is the one that is due, or memory ran out.
     ensures complete { (files : Files) → F.told folder.old ≡ Some files →
         Stood (F.read_faults folder.old) (F.read_faults folder.new) →
         Stood (F.write_faults folder.old) (F.write_faults folder.new) →
         Stood (K.faults out.old) (K.faults out.new) →
-        (result.0 ≡ 5) ⊎ (result.0 ≡ (due (spec_file (map string_bytes words.now)) files).status) }
+        (result.0 ≡ 5) ⊎ IsDueStatus (command_of (map string_bytes words.now)) files result.0 }
     ensures due { (files : Files) → F.told folder.old ≡ Some files →
-        (result.0 ≡ 3) ⊎ (IsSilent result.0 ⊎ (result.0 ≡ (due (spec_file (map string_bytes words.now)) files).status)) }
+        (result.0 ≡ 3) ⊎ (IsSilent result.0 ⊎ IsDueStatus (command_of (map string_bytes words.now)) files result.0) }
 
     // What is left in the folder.
     ensures unchanged { Refuses result.0 → F.told folder.new ≡ F.told folder.old }
     ensures left { (files : Files) → F.told folder.old ≡ Some files → IsSilent result.0 →
-        Leaves (spec_file (map string_bytes words.now)) files (F.told folder.new)
+        Leaves (command_of (map string_bytes words.now)) files (F.told folder.new)
         (F.write_faults folder.old) (F.write_faults folder.new) }
 
     // What is printed, where the sink tells what it takes: one line, a part of one after 4, nothing after 5.
@@ -162,7 +155,7 @@ pub fn run<F: Folder, K: Sink>(
         K.taken out.new ≡ Some (held ++ too_long.line) }
     ensures line { (files : Files) → F.told folder.old ≡ Some files →
         (held : List ℕ) → K.taken out.old ≡ Some held → (result.0 ≡ 0) ⊎ (result.0 ≡ 1) →
-        K.taken out.new ≡ Some (held ++ (due (spec_file (map string_bytes words.now)) files).line) }
+        TakesDueLine (command_of (map string_bytes words.now)) files held (K.taken out.new) }
     ensures one_line { (held : List ℕ) → K.taken out.old ≡ Some held → HasLine result.0 →
         TakesLine result.0 held (K.taken out.new) }
     ensures part { result.0 ≡ 4 → TakesPartOfLine (K.taken out.old) (K.taken out.new) }

@@ -5,3 +5,4 @@ pub mod RowTexts
 pub mod Rows
 pub mod Writing
 pub mod Draws
+pub mod OneReading

@@ -8,7 +8,8 @@ use Rattle.std.proofs.lemmas.List.{take_all, length-take, length-drop, take-appe
 use Rattle.std.proofs.lemmas.Bool.{ne_eqb}
 use Rattle.std.specs.Str.Lines.{lines}
 use Rattle.opgen_vec.proofs.RowTexts.{bad-line}
-use Rattle.opgen_vec.specs.Rows.{AreCells}
+use Rattle.opgen_vec.specs.Rows.{AreCells, AreRowsOfCells}
+use Rattle.opgen_vec.specs.Writing.{row_count}
 use Rattle.opgen_vec.specs.declared.TheConstants.{MAX_ROWS}
 use Rattle.opgen_vec.specs.Reading.{IsRow, AreRows, IsBad, AreVectors, IsFirstBad, AreTooMany}
 
@@ -118,3 +119,15 @@ empty_row (c ∷ line) e = absurd (omega (arith, e))
 
 pub no_row : (line : List ℕ) → (length line ≡ 0 → ⊥) → IsBad [] line
 no_row line some = bad-line [] line (ap (λ b. cond b (Some []) None) (ne_eqb (length line) 0 some))
+
+-- what stands in rows that were read
+pub rows-of_cells : (widths cells : List ℕ) (lines : List (List ℕ)) → AreRows widths cells lines → AreRowsOfCells widths (length lines) cells
+rows-of_cells widths cells [] none = none
+rows-of_cells widths cells (line ∷ lines) (is, are) = (is.0, rows-of_cells widths (drop (length widths) cells) lines are)
+
+-- the number of rows
+pub row_count-rows : (columns : ℕ) (widths cells : List ℕ) (lines : List (List ℕ)) → columns ≡ length widths → 0 < length widths → AreRows widths cells lines → row_count columns cells ≡ length lines
+row_count-rows zero widths cells lines e some are = absurd (omega (arith, e, some))
+row_count-rows (suc m) widths cells lines e some are =
+    let len : length cells ≡ suc m * length lines = length-rows widths cells lines are ∙ ap (λ n. n * length lines) (sym e) in
+    ap (λ n. n / suc m) len ∙ mul-div_cancel_left (length lines) (omega arith)

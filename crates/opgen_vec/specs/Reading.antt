@@ -1,7 +1,9 @@
 -- What a file of vectors holds: a row a line. Lines end by a line feed, which may follow a carriage return; the last line may have none.
-use Rattle.std.specs.Prelude.{ℕ, ◌≡◌, ◌-◌, ◌≤◌, ◌<◌, List, [], ◌∷◌, length, take, drop, slice_get, IsSomeAnd}
+use Rattle.std.specs.Prelude.{ℕ, ◌≡◌, ◌-◌, ◌≤◌, ◌<◌, List, [], ◌∷◌, length, take, drop, slice_get, IsSomeAnd, Result, Ok, Err}
 use Rattle.std.specs.Str.{str_to_ascii_lowercase}
 use Rattle.opgen_vec.specs.declared.TheConstants.{MAX_ROWS}
+use Rattle.opgen_vec.specs.declared.fault.VecFault.{VecFault}
+use Rattle.opgen_vec.specs.declared.fault.VecFault.TheVariants as faults
 use Rattle.opgen_vec.specs.Rows.{row_text, AreCells}
 
 -- the line is the text of these cells, but that its letters may be capitals
@@ -37,3 +39,14 @@ pub record IsFirstBad (widths : List ℕ) (lines : List (List ℕ)) (line : ℕ)
 pub record AreTooMany (widths : List ℕ) (lines : List (List ℕ)) : Type 0 where
   pub good : AreGood widths (take MAX_ROWS lines)
   pub more : MAX_ROWS < length lines
+
+-- what reading gives, but for want of memory
+abbrev pub IsReading : (widths : List ℕ) (lines : List (List ℕ)) → Result (List ℕ) VecFault → Type 0
+IsReading widths lines (Ok cells) = AreVectors widths cells lines
+IsReading widths lines (Err (faults.BadLine line)) = IsFirstBad widths lines line
+IsReading widths lines (Err faults.TooMany) = AreTooMany widths lines
+IsReading widths lines (Err faults.Memory) = ⊥
+
+-- lines are rows of one list of cells, or have one fault
+abbrev pub HasOneReading : Type 0
+HasOneReading = (widths : List ℕ) (lines : List (List ℕ)) (a b : Result (List ℕ) VecFault) → IsReading widths lines a → IsReading widths lines b → a ≡ b

@@ -1,5 +1,5 @@
 -- Rows of words: in hexadecimal, highest digit first, with one space between two words.
-use Rattle.std.specs.Prelude.{ℕ, zero, suc, ◌+◌, ◌/◌, ◌%◌, ◌^◌, ◌<◌, List, [], ◌∷◌, ◌++◌, codes}
+use Rattle.std.specs.Prelude.{ℕ, ◌≡◌, zero, suc, ◌+◌, ◌/◌, ◌%◌, ◌^◌, ◌<◌, List, [], ◌∷◌, ◌++◌, length, take, drop, codes}
 use Rattle.std.specs.Char.{digit_char}
 
 -- how many digits a word of so many bits has: a quarter, rounded up
@@ -29,3 +29,8 @@ abbrev pub AreCells : (widths cells : List ℕ) → Type 0
 AreCells [] [] = Unit {0}
 AreCells (width ∷ widths) (cell ∷ cells) = (cell < 2 ^ width) × AreCells widths cells
 AreCells _ _ = ⊥
+
+-- so many rows of cells, and no cell more
+abbrev pub AreRowsOfCells : (widths : List ℕ) (rows : ℕ) (cells : List ℕ) → Type 0
+AreRowsOfCells widths zero cells = cells ≡ []
+AreRowsOfCells widths (suc rows) cells = AreCells widths (take (length widths) cells) × AreRowsOfCells widths rows (drop (length widths) cells)

@@ -1,7 +1,9 @@
 //! The stimulus of a specification.
-ghost use Rattle.std.specs.Prelude.{◌≡◌, ◌++◌, length, IfOk, OnOk};
+ghost use Rattle.std.specs.Prelude.{◌≡◌, ◌++◌, length, map, IfOk, OnOk};
 ghost use Rattle.opgen_operator.specs.Ports.{inputs_of};
 ghost use Rattle.opgen_operator.specs.Valid.{IsValidSpec};
+ghost use Rattle.opgen_vec.specs.Rows.{AreRowsOfCells};
+ghost use Rattle.opgen_vec.specs.Writing.{row_count};
 ghost use Rattle.opgen_vec.specs.Stimulus.{next, drawn, is_divisor, given, draws, state_after, stimulus_cells};
 
 use crate::vectors::Vectors;
@@ -69,6 +71,8 @@ pub fn stimulus(alloc: Global, spec: &Spec, seed: u64, cycles: u32) -> Result<Ve
     requires { IsValidSpec spec.now }
     ensures columns { IfOk result (λ v. v.columns ≡ length (inputs_of spec.now)) }
     ensures cells { IfOk result (λ v. v.cells ≡ stimulus_cells spec.now seed cycles) }
+    ensures fit { IfOk result (λ v. AreRowsOfCells (map (λ port. port.format.width) (inputs_of spec.now)) cycles v.cells) }
+    ensures count { IfOk result (λ v. row_count v.columns v.cells ≡ cycles) }
 {
     let ports = spec.inputs(alloc)?;
     let mut cells = Vec::new(alloc);

@@ -4,6 +4,7 @@
 mod draw;
 mod fault;
 mod hex;
+mod laws;
 mod read;
 mod row;
 mod vectors;
@@ -11,9 +12,13 @@ mod write;
 
 pub use draw::stimulus;
 pub use fault::VecFault;
+pub use laws::one_reading;
 pub use read::{read_empty_rows, read_vectors};
 pub use vectors::Vectors;
 pub use write::write_rows;
 
 /// The most rows of a file of vectors.
 pub const MAX_ROWS: u32 = 100_000;
+
+#[cfg(test)]
+mod tests;

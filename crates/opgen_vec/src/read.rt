@@ -1,6 +1,8 @@
 //! Files of vectors.
 ghost use Rattle.std.specs.Prelude.{◌≡◌, ◌≤◌, ◌<◌, ◌^◌, ℕ, [], All, length, IfOk, Err};
 ghost use Rattle.std.specs.Str.Lines.{lines};
+ghost use Rattle.opgen_vec.specs.Rows.{AreRowsOfCells};
+ghost use Rattle.opgen_vec.specs.Writing.{row_count};
 ghost use Rattle.opgen_vec.specs.Reading.{AreVectors, IsFirstBad, AreTooMany};
 
 use crate::MAX_ROWS;
@@ -24,6 +26,8 @@ pub fn read_vectors(alloc: Global, bytes: &[u8], widths: &[u32]) -> Result<Vecto
     requires narrow { All (λ width. width ≤ 64) widths.now }
     ensures columns { IfOk result (λ v. v.columns ≡ length widths.now) }
     ensures rows { IfOk result (λ v. AreVectors widths.now v.cells (lines bytes.now)) }
+    ensures cells { IfOk result (λ v. AreRowsOfCells widths.now (length (lines bytes.now)) v.cells) }
+    ensures count { IfOk result (λ v. row_count v.columns v.cells ≡ length (lines bytes.now)) }
     ensures bad_line { (line : ℕ) → result ≡ Err (VecFault.BadLine line) → IsFirstBad widths.now (lines bytes.now) line }
     ensures too_many { result ≡ Err VecFault.TooMany → AreTooMany widths.now (lines bytes.now) }
 {
@@ -69,18 +73,18 @@ pub fn read_empty_rows(bytes: &[u8]) -> Result<u32, VecFault>
     ensures too_many { result ≡ Err VecFault.TooMany → AreTooMany [] (lines bytes.now) }
     ensures memory { result ≡ Err VecFault.Memory → ⊥ }
 {
-    let mut count = 0u32;
+    let mut rows = 0u32;
     let mut rest = bytes;
     'lines: while !rest.is_empty() {
         let (line, later) = split_line(rest);
-        if count == MAX_ROWS {
+        if rows == MAX_ROWS {
             return Err(VecFault::TooMany);
         }
         if !line.is_empty() {
-            return Err(VecFault::BadLine { line: count + 1 });
+            return Err(VecFault::BadLine { line: rows + 1 });
         }
-        count += 1;
+        rows += 1;
         rest = later;
     }
-    Ok(count)
+    Ok(rows)
 }

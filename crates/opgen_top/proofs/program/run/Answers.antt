@@ -1,10 +1,11 @@
-use Rattle.std.proofs.Common.{◌≡◌, refl, sym, ◌∙◌, inl, inr, arith}
-use Rattle.opgen_top.specs.Answer.{answer_of, usage}
-use Rattle.opgen_top.proofs.Parts.{takes-nothing, told_status, not_silent}
+use Rattle.std.proofs.Common.{◌≡◌, ◌++◌, Some, refl, sym, ap, ◌∙◌, inl, inr, arith}
+use Rattle.opgen_top.specs.Answer.{Answer, answer_of, usage}
+use Rattle.opgen_top.specs.Statuses.{HasLine}
+use Rattle.opgen_top.proofs.Parts.{takes-nothing, told_status, not_silent, no_fault}
 use Rattle.opgen_top.proofs.program.run.Goals as goal
 
-pub returns-in-Ok-clause-generated : goal.returns-in-Ok-clause-generated
-returns-in-Ok-clause-generated g c files told h =
+pub returns-in-Ok-clause-stored : goal.returns-in-Ok-clause-stored
+returns-in-Ok-clause-stored g c files told h =
     let line = c.in-Ok.line in
     let ok : (answer_of line).status ≡ 0 =
     elim c.printed.ensures.status [
@@ -12,7 +13,27 @@ returns-in-Ok-clause-generated g c files told h =
       | inr (inl p) ↦ absurd (omega (arith, p.0, h))
       | inr (inr e) ↦ absurd (omega (arith, e, h))
     ] in
-    c.answer.ensures.generated files told line c.in-Ok.is ok
+    c.answer.ensures.stored files told line c.in-Ok.is ok
+
+pub returns-in-Ok-clause-due : goal.returns-in-Ok-clause-due
+returns-in-Ok-clause-due g c files told =
+    let line = c.in-Ok.line in
+    elim c.printed.ensures.status [
+      | inl e ↦ elim (c.in-Ok.ensures.due files told) [ inl fault ↦ inl (e ∙ ap (λ (a : Answer). a.status) fault) | inr due ↦ inr (inr (answer_of line, due, e)) ]
+      | inr (inl p) ↦ inr (inl (inl p.0))
+      | inr (inr e) ↦ inr (inl (inr e))
+    ]
+
+pub returns-in-Ok-clause-line : goal.returns-in-Ok-clause-line
+returns-in-Ok-clause-line g c files told held tells h =
+    let line = c.in-Ok.line in
+    let has_line : HasLine c.printed.result.0 = elim h [ inl e ↦ inl e | inr e ↦ inr (inl e) ] in
+    let status = told_status _ _ _ _ c.printed.ensures.status has_line in
+    let taken = elim (c.printed.ensures.taken held tells) as (λ _. g.K.Sink.taken c.printed.new.out ≡ Some (held ++ (answer_of line).line)) [ inl silent ↦ absurd (not_silent _ has_line silent) | inr e ↦ e ] in
+    elim (c.in-Ok.ensures.due files told) [
+      | inl fault ↦ absurd (no_fault _ h (status ∙ ap (λ (a : Answer). a.status) fault))
+      | inr due ↦ (answer_of line, due, taken)
+    ]
 
 pub returns-in-Ok-clause-one_line : goal.returns-in-Ok-clause-one_line
 returns-in-Ok-clause-one_line g c held tells h =

@@ -1,7 +1,7 @@
-use Rattle.std.proofs.Common.{◌≡◌, ◌++◌, ap, ◌∙◌, append-nil, length, arith}
+use Rattle.std.proofs.Common.{◌≡◌, ap, subst, length, map, arith}
 use Rattle.opgen_operator.specs.Ports.{inputs_of}
-use Rattle.opgen_vec.specs.Stimulus.{draws, repeated, stimulus_cells}
-use Rattle.opgen_vec.proofs.Draws.{cycle_more, whole}
+use Rattle.opgen_vec.specs.Rows.{AreRowsOfCells}
+use Rattle.opgen_vec.proofs.Draws.{cycle_more, all_drawn, whole, rows_fit, inputs_wide, rows_counted, some_input}
 use Rattle.opgen_vec.proofs.draw.stimulus.Goals as goal
 
 pub cycles-preserved : goal.cycles-preserved
@@ -12,8 +12,20 @@ cycles-preserved c =
 
 pub invariant_of-result : goal.invariant_of-result
 invariant_of-result c =
-    let none : c.cycles.left ≡ 0 = omega (arith, c.cycles-test.false) in
-    let all : stimulus_cells c.args.spec.now c.args.seed c.args.cycles ≡ c.cycles.cells.items =
-    c.cycles.invariant ∙ ap (λ n. c.cycles.cells.items ++ draws c.args.spec.now.op (repeated n (inputs_of c.args.spec.now)) c.cycles.state) none ∙ append-nil c.cycles.cells.items in
+    let all = all_drawn c.args.spec.now.op (inputs_of c.args.spec.now) c.cycles.cells.items c.args.cycles c.args.seed c.cycles.left c.cycles.state c.cycles.invariant c.cycles-test.false in
     let columns : c.len.result ≡ length (inputs_of c.args.spec.now) = omega (arith, c.len.ensures, c.in_ok-ports.ports.ok.0, ap length c.in_ok-ports.ensures) in
     rw c.from_vec.ensures record { whole = whole c.args.spec.now.op (inputs_of c.args.spec.now) c.args.cycles c.args.seed c.len.result c.cycles.cells.items columns all }
+
+pub returns-clause-fit : goal.returns-clause-fit
+returns-clause-fit c =
+    let op = c.args.spec.now.op in
+    let all = all_drawn op (inputs_of c.args.spec.now) c.cycles.cells.items c.args.cycles c.args.seed c.cycles.left c.cycles.state c.cycles.invariant c.cycles-test.false in
+    rw c.from_vec.ensures
+    (subst (AreRowsOfCells (map (λ port. port.format.width) (inputs_of c.args.spec.now)) c.args.cycles) all (rows_fit op (inputs_of c.args.spec.now) c.args.cycles c.args.seed (inputs_wide op c.requires.op)))
+
+pub returns-clause-count : goal.returns-clause-count
+returns-clause-count c =
+    let op = c.args.spec.now.op in
+    let all = all_drawn op (inputs_of c.args.spec.now) c.cycles.cells.items c.args.cycles c.args.seed c.cycles.left c.cycles.state c.cycles.invariant c.cycles-test.false in
+    let columns : c.len.result ≡ length (inputs_of c.args.spec.now) = omega (arith, c.len.ensures, c.in_ok-ports.ports.ok.0, ap length c.in_ok-ports.ensures) in
+    rw c.from_vec.ensures (rows_counted op (inputs_of c.args.spec.now) c.args.cycles c.args.seed c.len.result c.cycles.cells.items columns (some_input op) all)

@@ -6,8 +6,8 @@ use Rattle.opgen_vec.proofs.read.read_empty_rows.Given as goal
 
 abbrev pub invariant-lines : goal.invariant-lines
 invariant-lines l = record {
-  few : l.count ≤ MAX_ROWS;
-  read : IsReadTo [] [] (lines l.fn.bytes) l.count (lines l.rest);
+  few : l.rows ≤ MAX_ROWS;
+  read : IsReadTo [] [] (lines l.fn.bytes) l.rows (lines l.rest);
 }
 
 abbrev pub decreases-lines : goal.decreases-lines

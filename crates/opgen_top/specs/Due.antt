@@ -1,0 +1,57 @@
+-- The answer that is due where nothing goes wrong outside: by the words, then by the command's files and what they hold.
+use Rattle.std.specs.Prelude.{ℕ, ◌≡◌, List, ◌++◌, Option, Some, None, Result, Ok, Err}
+use Rattle.opgen_io.specs.Answers.{fetched}
+use Rattle.opgen_io.specs.Files.{Files}
+use Rattle.opgen_io.specs.declared.folder.FetchFault.{FetchFault}
+use Rattle.opgen_io.specs.declared.folder.FetchFault.TheVariants as fetch
+use Rattle.opgen_spec.specs.Document.{tree}
+use Rattle.opgen_spec.specs.Faults.{read}
+use Rattle.opgen_operator.specs.declared.spec.Spec.{Spec}
+use Rattle.opgen_top.specs.Answer.{Answer, usage, read_fault, too_long, answer_of_reading}
+use Rattle.opgen_top.specs.Built.{multiplication}
+use Rattle.opgen_top.specs.Command.{Command, Generate}
+
+-- the most bytes that a specification has
+abbrev pub most_bytes : ℕ
+most_bytes = 1048576
+
+-- by what fetching a file gives: what is said of its bytes, or the answer of the fault
+abbrev pub OnFetch : Result (List ℕ) FetchFault → Answer → (List ℕ → Type 0) → Type 0
+OnFetch (Ok bytes) a said = said bytes
+OnFetch (Err fetch.TooLong) a said = a ≡ too_long
+OnFetch (Err _) a said = a ≡ read_fault
+
+abbrev pub IsDueOf : Command → Files → Answer → Type 0
+IsDueOf (Generate spec) files a = OnFetch (fetched (files spec) most_bytes) a (λ bytes. a ≡ answer_of_reading (read (tree bytes)))
+
+abbrev pub IsDue : Option Command → Files → Answer → Type 0
+IsDue None files a = a ≡ usage
+IsDue (Some command) files a = IsDueOf command files a
+
+-- the status of the answer that is due
+abbrev pub IsDueStatus : Option Command → Files → (status : ℕ) → Type 0
+IsDueStatus command files status = (a : Answer) × IsDue command files a × (status ≡ a.status)
+
+-- the sink has the line of the answer that is due more
+abbrev pub TakesDueLine : Option Command → Files → (held : List ℕ) (after : Option (List ℕ)) → Type 0
+TakesDueLine command files held after = (a : Answer) × IsDue command files a × (after ≡ Some (held ++ a.line))
+
+-- a file that the command takes is not there
+abbrev pub IsMissing : Option Command → Files → Type 0
+IsMissing None files = ⊥
+IsMissing (Some (Generate spec)) files = files spec ≡ None
+
+-- or has more bytes than it may have
+abbrev pub IsTooLong : Option Command → Files → Type 0
+IsTooLong None files = ⊥
+IsTooLong (Some (Generate spec)) files = fetched (files spec) most_bytes ≡ Err fetch.TooLong
+
+-- the bytes of a specification have a fault, or ask for what can't be generated
+pub record IsRefusedSpec (spec : List ℕ) (files : Files) : Type 0 where
+  pub bytes : List ℕ
+  pub stands : files spec ≡ Some bytes
+  pub refused : (asked : Spec) → read (tree bytes) ≡ Ok asked → multiplication asked ≡ None
+
+abbrev pub IsRefused : Option Command → Files → Type 0
+IsRefused None files = ⊥
+IsRefused (Some (Generate spec)) files = IsRefusedSpec spec files

@@ -1,0 +1,47 @@
+//! Commands before their store.
+ghost use Rattle.std.specs.Prelude.{◌≡◌, Some};
+ghost use Rattle.opgen_top.specs.Command.{plain, Generate};
+ghost use Rattle.opgen_top.specs.Prepared.{Prepares};
+
+use crate::command::Command;
+use crate::generate::generated;
+use crate::line::Line;
+use crate::made::{MadeFile, Refusal};
+use opgen_io::{FetchFault, Folder};
+use std::alloc::Global;
+
+/// The most bytes that a specification has.
+const MAX_SPEC_LEN: usize = 1_048_576;
+
+/// The file that a command makes of its files. The folder's files stay as they are.
+pub(crate) fn prepare<F: Folder>(
+    alloc: Global,
+    asked: Command<'_>,
+    folder: &mut F,
+) -> Result<MadeFile, Refusal>
+    ensures told_same { F.told folder.new ≡ F.told folder.old }
+    ensures write_faults_same { F.write_faults folder.new ≡ F.write_faults folder.old }
+    ensures prepared { Prepares (Some (plain asked.entry)) (F.told folder.old)
+        (record { faults = F.read_faults folder.old; lacks = F.lacks folder.old; longs = F.longs folder.old })
+        (record { faults = F.read_faults folder.new; lacks = F.lacks folder.new; longs = F.longs folder.new }) result }
+{
+    match asked {
+        Command::Generate { spec } => generate(alloc, spec, folder),
+    }
+}
+
+fn generate<F: Folder>(alloc: Global, spec: &str, folder: &mut F) -> Result<MadeFile, Refusal>
+    ensures told_same { F.told folder.new ≡ F.told folder.old }
+    ensures write_faults_same { F.write_faults folder.new ≡ F.write_faults folder.old }
+    ensures prepared { Prepares (Some (Generate spec.now)) (F.told folder.old)
+        (record { faults = F.read_faults folder.old; lacks = F.lacks folder.old; longs = F.longs folder.old })
+        (record { faults = F.read_faults folder.new; lacks = F.lacks folder.new; longs = F.longs folder.new }) result }
+{
+    let bytes = match folder.fetch(alloc, spec, MAX_SPEC_LEN) {
+        Ok(bytes) => bytes,
+        Err(FetchFault::Failed) => return Err(Refusal::Line(Line::ReadFault)),
+        Err(FetchFault::TooLong) => return Err(Refusal::Line(Line::TooLong)),
+        Err(FetchFault::Memory) => return Err(Refusal::Memory),
+    };
+    generated(alloc, &bytes)
+}

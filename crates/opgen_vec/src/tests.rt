@@ -1,0 +1,124 @@
+ghost use Rattle.std.specs.Prelude.{◌≡◌, [], IfOk};
+
+use crate::*;
+use opgen_list::Items;
+use std::alloc::{AllocError, Global};
+use std::test::Fail;
+
+#[test]
+fn reads_rows(rt: HostRuntime) -> Result<(), Fail> {
+    let cases: [(&[u8], &[u32], &[u128]); 7] = [
+        (b"", &[4], &[]),
+        (b"0\n1\nf\n", &[4], &[0, 1, 15]),
+        (b"F\r\na", &[4], &[15, 10]),
+        (b"1f 3\n00 0", &[5, 2], &[31, 3, 0, 0]),
+        (b"1\r\n0\n", &[1], &[1, 0]),
+        (b"ffffffffffffffff\n", &[64], &[0xffff_ffff_ffff_ffff]),
+        (b"aBcD 7 0\n", &[16, 3, 1], &[0xabcd, 7, 0]),
+    ];
+    for (bytes, widths, cells) in cases {
+        let found = read_vectors(rt.alloc(), bytes, widths)?;
+        assert_eq!(rt; found.columns as usize, widths.len());
+        assert_eq!(rt; found.cells.as_slice(), cells);
+    }
+    Ok(())
+}
+
+#[test]
+fn refuses_the_first_bad_line(rt: HostRuntime) {
+    let cases: [(&[u8], &[u32], u32); 14] = [
+        (b"f\ng\n", &[4], 2),
+        (b"\n", &[4], 1),
+        (b"1\n\n2\n", &[4], 2),
+        (b"1\r", &[4], 1),
+        (b"1\n2\n3\r", &[4], 3),
+        (b"1 \n", &[4], 1),
+        (b" 1\n", &[4], 1),
+        (b"1  2\n", &[4, 4], 1),
+        (b"1\t2\n", &[4, 4], 1),
+        (b"1 2 3\n", &[4, 4], 1),
+        (b"1\n", &[5], 1),
+        (b"20\n", &[5], 1),
+        (b"1f\n010\n", &[5], 2),
+        (b"1 : 03\n", &[4], 1),
+    ];
+    for (bytes, widths, line) in cases {
+        let fault = read_vectors(rt.alloc(), bytes, widths).err();
+        assert_eq!(rt; fault, Some(VecFault::BadLine { line }));
+    }
+}
+
+#[test]
+fn counts_empty_rows(rt: HostRuntime) {
+    let cases: [(&[u8], Result<u32, VecFault>); 6] = [
+        (b"", Ok(0)),
+        (b"\n", Ok(1)),
+        (b"\r\n\n", Ok(2)),
+        (b"\r", Err(VecFault::BadLine { line: 1 })),
+        (b"\n\n0\n", Err(VecFault::BadLine { line: 3 })),
+        (b"\n \n", Err(VecFault::BadLine { line: 2 })),
+    ];
+    for (bytes, want) in cases {
+        assert_eq!(rt; read_empty_rows(bytes), want);
+    }
+}
+
+#[test]
+fn refuses_too_many_rows(rt: HostRuntime) -> Result<(), Fail> {
+    let mut rows = vec![in rt.alloc(); b'\n'; MAX_ROWS as usize]?;
+    assert_eq!(rt; read_empty_rows(&rows), Ok(MAX_ROWS));
+    rows.push(b'\n')?;
+    assert_eq!(rt; read_empty_rows(&rows), Err(VecFault::TooMany));
+    rows.push(b'?')?;
+    assert_eq!(rt; read_empty_rows(&rows), Err(VecFault::TooMany));
+    Ok(())
+}
+
+fn column(alloc: Global, cells: &[u128]) -> Result<Vectors, AllocError>
+    ensures columns { IfOk result (λ v. v.columns ≡ 1) }
+    ensures cells { IfOk result (λ v. v.cells ≡ cells.now) }
+{
+    Ok(Vectors {
+        columns: 1,
+        cells: Items::from_vec(Vec::from_slice(alloc, cells)?),
+    })
+}
+
+fn no_columns(alloc: Global) -> Vectors
+    ensures { result.columns ≡ 0 }
+{
+    Vectors {
+        columns: 0,
+        cells: Items::new(alloc),
+    }
+}
+
+#[test]
+fn writes_rows(rt: HostRuntime) -> Result<(), Fail> {
+    let inputs = column(rt.alloc(), &[0, 1, 15])?;
+    let outputs = column(rt.alloc(), &[0, 3, 45])?;
+    assert_eq!(rt; inputs.row_count(), outputs.row_count());
+    let text = write_rows(rt.alloc(), &inputs, &outputs, &[4], &[6])?;
+    assert_eq!(rt; text.as_slice(), b"0 : 00\n1 : 03\nf : 2d\n".as_slice());
+    Ok(())
+}
+
+#[test]
+fn writes_rows_of_one_side(rt: HostRuntime) -> Result<(), Fail> {
+    let vectors = read_vectors(rt.alloc(), b"1F 3\n00 0", &[5, 2])?;
+    let none = no_columns(rt.alloc());
+    let text = write_rows(rt.alloc(), &vectors, &none, &[5, 2], &[])?;
+    assert_eq!(rt; text.as_slice(), b"1f 3 : \n00 0 : \n".as_slice());
+    let text = write_rows(rt.alloc(), &none, &vectors, &[], &[5, 2])?;
+    assert_eq!(rt; text.as_slice(), b" : 1f 3\n : 00 0\n".as_slice());
+    Ok(())
+}
+
+#[test]
+fn prints_faults(rt: HostRuntime) -> Result<(), Fail> {
+    let bad = VecFault::BadLine { line: 3 };
+    assert_eq!(rt; format!(in rt.alloc(); "{bad}")?.as_str(), "BadLine 3");
+    let many = VecFault::TooMany;
+    assert_eq!(rt; format!(in rt.alloc(); "{many}")?.as_str(), "TooMany");
+    Ok(())
+}
