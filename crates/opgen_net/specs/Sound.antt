@@ -1,5 +1,5 @@
 -- Sound designs: nine rules, and the first place at which a rule fails.
-use Rattle.std.specs.Prelude.{ℕ, ◌+◌, ◌≡◌, ◌≢◌, ◌<◌, ◌⊎◌, Bool, List, [], ◌++◌, length, map, codes, All, Contains, Some, IfSome, IsSome, slice_get, slice_index, slice_index_or}
+use Rattle.std.specs.Prelude.{ℕ, ◌+◌, ◌^◌, ◌≡◌, ◌≢◌, ◌<◌, ◌⊎◌, Bool, List, [], ◌++◌, length, map, codes, All, Contains, Some, IfSome, IsSome, slice_get, slice_index, slice_index_or}
 use Rattle.opgen_net.specs.declared.design.Design.{Design}
 use Rattle.opgen_net.specs.declared.design.Dir.TheVariants.{In, Out}
 use Rattle.opgen_net.specs.declared.design.Port.{Port}
@@ -149,6 +149,10 @@ abbrev pub item : Design → Place → ℕ
 item d (at_port i) = i + 1
 item d (at_signal i) = length d.ports + i + 1
 item d (at_driver i) = length d.ports + length d.signals + i + 1
+
+-- its places have numbers of 32 bits
+abbrev pub HasNumbers : Design → Type 0
+HasNumbers d = length d.ports + length d.signals + length d.drivers < 2 ^ 32
 
 abbrev pub PortPasses : Design → Rule → ℕ → Port → Type 0
 PortPasses d DeclaredTwice i p = IsNewName (names_of d) i

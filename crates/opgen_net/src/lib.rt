@@ -9,7 +9,11 @@ mod formula;
 pub mod names;
 mod net;
 mod node;
+mod reads;
+mod rules;
 mod sound;
+mod targets;
+mod width;
 mod word_bits;
 
 pub use cell::{Cell, Class};
