@@ -1,0 +1,5 @@
+pub mod FirstSymbol
+pub mod DigitValues
+pub mod FirstPlaces
+pub mod AllowedNames
+pub mod Operands

@@ -1,0 +1,5 @@
+pub mod Fits
+pub mod Left
+pub mod Gives
+pub mod Places
+pub mod Names
