@@ -3,3 +3,5 @@ pub mod Left
 pub mod Gives
 pub mod Places
 pub mod Names
+pub mod Rows
+pub mod Seen

@@ -86,7 +86,8 @@ impl<'a> Cursor<'a> {
     /// The number of a bit, and what is left behind it.
     #[tactic(auto, using(crate::proofs::FirstSymbol::index_first))]
     pub fn index(self) -> Option<(u32, Cursor<'a>)>
-        ensures { option_map (λ x. (x.0, left x.1)) result ≡ index_at (left self.entry) }
+        ensures value { option_map (λ x. (x.0, left x.1)) result ≡ index_at (left self.entry) }
+        ensures most { IfSome result (λ x. x.0 ≤ 63) }
     {
         let (kind, text, rest) = self.next()?;
         if same_kind(kind, TokenKind::Number) {

@@ -3,7 +3,10 @@
 
 pub mod cursor;
 pub mod declared;
+pub mod draft;
 pub mod expression;
 pub mod name;
 pub mod refusal;
+pub mod statement;
 pub mod token_text;
+pub mod unit;

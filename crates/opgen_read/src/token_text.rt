@@ -1,6 +1,6 @@
 // What the texts of tokens say.
 
-ghost use Rattle.std.specs.Prelude.{◌≡◌, ◌≤◌, ◌<◌, IsTrue, map, length, nat_le, Some, None, if◌then◌else◌, ◌∷◌};
+ghost use Rattle.std.specs.Prelude.{◌≡◌, ◌≤◌, ◌<◌, IsTrue, IfSome, map, length, nat_le, Some, None, if◌then◌else◌, ◌∷◌};
 ghost use Rattle.std.specs.Char.{to_ascii_lowercase, is_ascii_digit};
 ghost use Rattle.std.specs.List.{list_all};
 ghost use Rattle.std.specs.Str.{bytes_eq};
@@ -37,7 +37,8 @@ pub fn same_word(word: &str, text: &[u8]) -> bool
 /// The number that digits give, where it is the number of a bit.
 pub fn index_of(digits: &[u8]) -> Option<u32>
     requires { IsTrue (list_all is_ascii_digit digits.now) }
-    ensures { result ≡ (if nat_le (value digits.now) 63 then Some (value digits.now) else None) }
+    ensures value { result ≡ (if nat_le (value digits.now) 63 then Some (value digits.now) else None) }
+    ensures most { IfSome result (λ i. i ≤ 63) }
 {
     let mut index = 0;
     'digits: for digit in digits {
