@@ -5,3 +5,4 @@ pub mod Places
 pub mod Names
 pub mod Rows
 pub mod Seen
+pub mod Moved

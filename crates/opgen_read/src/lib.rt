@@ -8,5 +8,6 @@ pub mod expression;
 pub mod name;
 pub mod refusal;
 pub mod statement;
+pub mod take;
 pub mod token_text;
 pub mod unit;
