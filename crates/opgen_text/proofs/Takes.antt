@@ -1,7 +1,8 @@
 -- A place takes a piece exactly where reading finds what the piece says.
-use Rattle.std.specs.Prelude.{◌+◌}
-use Rattle.std.proofs.Common.{◌≡◌, ℕ, zero, suc, ◌≤◌, Bool, true, false, List, [], ◌∷◌, codes, length, Option, Some, None, refl, ap, sym, ◌∙◌, arith}
-use Rattle.opgen_text.specs.declared.kind.TokenKind.TheVariants.{ZeroChar, LeftParen, RightParen, Colon, Comma, Equal, LessEqual, Arrow, Becomes}
+use Rattle.std.specs.Prelude.{replicate, ◌+◌, is_some}
+use Rattle.std.specs.Str.{bytes_eq}
+use Rattle.std.proofs.Common.{◌≡◌, ◌⊎◌, inl, inr, ℕ, zero, suc, ◌≤◌, Bool, true, false, List, [], ◌∷◌, ◌++◌, codes, length, Option, Some, None, refl, ap, sym, ◌∙◌, arith}
+use Rattle.opgen_text.specs.declared.kind.TokenKind.TheVariants.{ZeroChar, LeftParen, RightParen, Semicolon, Colon, Comma, Dot, Equal, LessEqual, Arrow, Becomes}
 use Rattle.opgen_text.specs.declared.place.Place.{Place}
 use Rattle.opgen_text.specs.declared.place.Place.TheVariants as at
 use Rattle.opgen_net.specs.declared.design.Dir.{Dir}
@@ -9,14 +10,14 @@ use Rattle.opgen_net.specs.declared.design.Dir.TheVariants.{In, Out}
 use Rattle.opgen_net.specs.declared.design.Port.{Port}
 use Rattle.opgen_net.specs.declared.design.Signal.{Signal}
 use Rattle.opgen_net.specs.declared.design.Driver.{Driver}
-use Rattle.opgen_net.specs.declared.design.Driver.TheVariants.{Choice}
+use Rattle.opgen_net.specs.declared.design.Driver.TheVariants.{Assign, Choice, Table, Register, Output}
 use Rattle.opgen_net.specs.Names.{is_allowed_name}
 use Rattle.opgen_net.specs.Tree.{Tree}
-use Rattle.opgen_text.specs.Symbols.{Symbol, word, number, mark}
+use Rattle.opgen_text.specs.Symbols.{Symbol, word, number, string, mark}
 use Rattle.opgen_text.specs.Grammar.{Names, place_of, IsName, IsIndex, value, max_depth, IsSignalPart, whole, slice, IsPrimary, signal as signal_part, literal, input, group, IsFactor, plain, opposite, IsExpression, single, several}
 use Rattle.opgen_text.specs.Statements.{Reading, scope, with_entity, with_port, with_signal, with_driver, with_name, with_architecture, direction, range_to_zero, end_of_piece, IsPort, port_line, IsEnd, bare, of_unit, named, of_unit_named, IsInitial, absent, written, zeros, AreRows, others, row, IsConcurrent, assignment, output, choice as conditional, table, IsClocked, clocked, at_edge, Takes, library_clause, use_logic, use_numeric, entity, port, last_port, end_entity, architecture, signal, begin, statement, process, process_is, register, end_if, end_process, later_statement, end_without_process, end_after_process}
-use Rattle.opgen_text.specs.Reader.{and_then, choice, eat, op_at, end_at, width_at, direction_at, clock, entity_at, port_at, own_name_at, unit_end_at, heading_at, initial_value_at, initial_at, signal_at, row_word_at, address_at, rows_at, table_at, is_one, choice_at, valued_at, output_at, target_at, assignment_at, concurrent_at, clocked_at, edge_at, process_at, statement_at, body_at, declarations_at, clocked_body_at, use_clause, ports_at, takes_at}
-use Rattle.opgen_text.proofs.Steps.{bind_then, choice_then, some_is, found, found_is, if_some, eat_some, eat_all_some, end_some, phrase_some, name_some, index_then, string_some, name-reads, index-reads, eat-word, no_keyword, refused-end, refused-with, refused-vector, refused-process, refused-entity, refused-architecture}
+use Rattle.opgen_text.specs.Reader.{◌>>=◌, and_then, choice, eat, eat_all, name_at, index_at, string_at, part_at, op_at, expression_at, expression, inside, no_more, end_at, phrase_at, width_at, direction_at, clock, clock_port, entity_at, port_at, own_name_at, unit_end_at, heading_at, others_zero, initial_value_at, initial_at, signal_at, row_at, other_at, rows_at, table_at, is_one, high_at, choice_at, valued_at, output_at, target_at, assignment_at, concurrent_at, clocked_at, edge_at, process_at, Step, statement_at, body_at, declarations_at, clocked_body_at, use_clause, ports_at, takes_at}
+use Rattle.opgen_text.proofs.Steps.{bind_then, choice_then, some_is, found, found_is, if_some, eat_some, eat_all_some, end_some, phrase_some, name_some, index_then, string_some, name-reads, index-reads, eat-word, no_keyword, refused-end, refused-with, refused-vector, refused-process, refused-entity, refused-architecture, refused-begin}
 use Rattle.opgen_text.proofs.Expressions.{closes, part-reads, expression-reads, part_some, expression-is}
 
 -- what follows an expression is no operator
@@ -79,7 +80,7 @@ unfolding signal_at and_then
 signal-reads n high {ss = ss} m h i = rw (name-reads n _ m, range-reads high ss h, initial-reads i) refl
 
 rows-read : {rows : List (List Bool × List Bool)} {other : List Bool} {ss : List Symbol} → AreRows rows other ss → (n : ℕ) → length ss ≤ n → rows_at n ss ≡ found rows other
-unfolding rows_at row_word_at address_at end_at and_then choice
+unfolding rows_at row_at other_at end_at and_then choice
 rows-read others zero h = absurd (omega arith)
 rows-read others (suc n) h = refl
 rows-read (row r) zero h = absurd (omega arith)
@@ -90,7 +91,7 @@ unfolding target_at and_then
 target-reads n ss m = rw (name-reads n _ m) refl
 
 concurrent-reads : {names : Names} {k : Driver} {ss : List Symbol} → IsConcurrent names k ss → concurrent_at names ss ≡ Some k
-unfolding concurrent_at assignment_at valued_at output_at choice_at table_at end_at and_then choice
+unfolding concurrent_at assignment_at valued_at output_at high_at choice_at table_at end_at and_then choice
 concurrent-reads (assignment {n = n} {ss = ss} m e) =
     rw (no_keyword (codes "with") n _ refused-with m, target-reads n ss m, expression-not_vector e, expression-reads e refl after-end) refl
 concurrent-reads (output {n = n} m e) =
@@ -161,8 +162,8 @@ width_then ss w rest e go =
     let s4 = eat_some (number (codes "0")) c d e4 in
     let s5 = eat_some (mark RightParen) d x e5 in
     index_then a b.0 b.1 e2 (λ high s2 h v.
-    let whole : ss ≡ range_to_zero high rest = cc in
-    go high whole h (sym p ∙ ap (λ u. u + 1) v)))))))
+      let whole : ss ≡ range_to_zero high rest = cc in
+      go high whole h (sym p ∙ ap (λ u. u + 1) v)))))))
 
 direction_some : (ss : List Symbol) (dir : Dir) (rest : List Symbol) → direction_at ss ≡ found dir rest → ss ≡ word (direction dir) ∷ rest
 unfolding direction_at
@@ -216,17 +217,9 @@ initial_value_some width ss w e = choice_then _ _ _ _ e
     rw (← some_is f2, s1, end_some v.1 a e2) written)))
     (λ a h k.
     bind_then _ _ _ k (λ b e1 f1.
-    bind_then _ _ _ f1 (λ c e2 f2.
-    bind_then _ _ _ f2 (λ d e3 f3.
-    bind_then _ _ _ f3 (λ x e4 f4.
-    bind_then _ _ _ f4 (λ y e5 f5.
     let s0 = eat_some (mark LeftParen) ss a h in
-    let s1 = eat_some (word (codes "others")) a b e1 in
-    let s2 = eat_some (mark Arrow) b c e2 in
-    let s3 = eat_some (mark ZeroChar) c d e3 in
-    let s4 = eat_some (mark RightParen) d x e4 in
-    let s5 = end_some x y e5 in
-    rw (← some_is f5, s0, s1, s2, s3, s4, s5) zeros))))))
+    let s1 = phrase_some others_zero a b e1 in
+    rw (← some_is f1, s0, s1) zeros))
 
 initial_some : (width : ℕ) (ss : List Symbol) (w : Option (List Bool)) → initial_at width ss ≡ Some w → IsInitial width w ss
 unfolding initial_at
@@ -254,32 +247,72 @@ signal_some r ss s e =
     width_then c w.0 w.1 e5 (λ high s5 h v. rw (← some_is f6, s1, s2, s3, s4, s5, v) (signal m h (rw v at (initial_some w.0 w.1 i e6))))))))))
 
 rows_some : (n : ℕ) (ss : List Symbol) (rows : List (List Bool × List Bool)) (other : List Bool) → rows_at n ss ≡ found rows other → AreRows rows other ss
-unfolding rows_at row_word_at address_at
+unfolding rows_at row_at other_at
 rows_some zero ss rows other e = cc
-rows_some (suc n) ss rows other e =
-    bind_then _ _ _ e (λ w e1 f1.
-    bind_then _ _ _ e1 (λ v g1 h1.
-    bind_then _ _ _ h1 (λ a g2 h2.
-    let (i1, i2) = found_is v.0 w.0 a w.1 h2 in
-    let s1 = string_some ss v.0 v.1 g1 in
-    let s2 = eat_some (word (codes "when")) v.1 a g2 in
-    choice_then _ _ _ _ f1
+rows_some (suc n) ss rows other e = choice_then _ _ _ _ e
     (λ h k.
-    bind_then _ _ _ k (λ x e3 f3.
-    bind_then _ _ _ f3 (λ more e4 f4.
-    bind_then _ _ _ e3 (λ y g5 h5.
-    bind_then _ _ _ h5 (λ b g6 h6.
-    let (j1, j2) = found_is y.0 x.0 b x.1 h6 in
-    let s3 = string_some w.1 y.0 y.1 g5 in
-    let s4 = eat_some (mark Comma) y.1 b g6 in
-    let (k1, k2) = found_is ((x.0, w.0) ∷ more.0) rows more.1 other f4 in
-    rw (← k1, ← k2, s1, s2, i1, i2, s3, s4, j1, j2) (row (rows_some n x.1 more.0 more.1 e4)))))))
-    (λ b h k.
-    bind_then _ _ _ k (λ c e3 f3.
-    let (k1, k2) = found_is [] rows w.0 other f3 in
-    let s3 = eat_some (word (codes "others")) w.1 b h in
-    let s4 = end_some b c e3 in
-    rw (← k1, ← k2, s1, s2, i1, i2, s3, s4) others)))))
+    bind_then _ _ _ k (λ x e1 f1.
+    bind_then _ _ _ e1 (λ w g1 h1.
+    bind_then _ _ _ h1 (λ a g2 h2.
+    bind_then _ _ _ h2 (λ b g3 h3.
+    bind_then _ _ _ h3 (λ c g4 h4.
+    let (k1, k2) = found_is [] rows x other f1 in
+    let s1 = string_some ss w.0 w.1 g1 in
+    let s2 = eat_some (word (codes "when")) w.1 a g2 in
+    let s3 = eat_some (word (codes "others")) a b g3 in
+    rw (← k1, ← k2, ← some_is h4, s1, s2, s3, end_some b c g4) others))))))
+    (λ x h k.
+    bind_then _ _ _ k (λ more e2 f2.
+    bind_then _ _ _ h (λ w g1 h1.
+    bind_then _ _ _ h1 (λ a g2 h2.
+    bind_then _ _ _ h2 (λ v g3 h3.
+    bind_then _ _ _ h3 (λ b g4 h4.
+    let (k1, k2) = found_is (x.0 ∷ more.0) rows more.1 other f2 in
+    let (i1, i2) = found_is (v.0, w.0) x.0 b x.1 h4 in
+    let s1 = string_some ss w.0 w.1 g1 in
+    let s2 = eat_some (word (codes "when")) w.1 a g2 in
+    let s3 = string_some a v.0 v.1 g3 in
+    let s4 = eat_some (mark Comma) v.1 b g4 in
+    rw (← k1, ← k2, ← i1, s1, s2, s3, s4, i2) (row (rows_some n x.1 more.0 more.1 e2))))))))
+
+-- a row that was read is not empty
+pub row-shorter : (ss : List Symbol) (r : List Bool × List Bool) (rest : List Symbol) → row_at ss ≡ found r rest → suc (length rest) ≤ length ss
+unfolding row_at
+row-shorter ss r rest e =
+    bind_then _ _ _ e (λ w g1 h1.
+    bind_then _ _ _ h1 (λ a g2 h2.
+    bind_then _ _ _ h2 (λ v g3 h3.
+    bind_then _ _ _ h3 (λ b g4 h4.
+    let (i1, i2) = found_is (v.0, w.0) r b rest h4 in
+    let s1 = string_some ss w.0 w.1 g1 in
+    let s2 = eat_some (word (codes "when")) w.1 a g2 in
+    let s3 = string_some a v.0 v.1 g3 in
+    let s4 = eat_some (mark Comma) v.1 b g4 in
+    rw (s1, s2, s3, s4, i2) (omega arith)))))
+
+no_rows : (n : ℕ) → rows_at (suc n) [] ≡ None
+unfolding row_at other_at rows_at and_then choice
+no_rows n = refl
+
+after_row : (m n : ℕ) (ss : List Symbol) → ((rs : List Symbol) → length rs ≤ m → length rs ≤ n → rows_at m rs ≡ rows_at n rs) → length ss ≤ suc m → length ss ≤ suc n →
+    (o : Option ((List Bool × List Bool) × List Symbol)) → row_at ss ≡ o →
+    choice o (other_at ss >>= λ w. found [] w) (λ x. rows_at m x.1 >>= λ more. found (x.0 ∷ more.0) more.1)
+    ≡ choice o (other_at ss >>= λ w. found [] w) (λ x. rows_at n x.1 >>= λ more. found (x.0 ∷ more.0) more.1)
+unfolding choice
+after_row m n ss same h k None e = refl
+after_row m n ss same h k (Some x) e =
+    let short = row-shorter ss x.0 x.1 e in
+    ap (λ u. u >>= λ more. found (x.0 ∷ more.0) more.1) (same x.1 (omega (arith, short, h)) (omega (arith, short, k)))
+
+-- how many rows are allowed makes no difference where they are enough
+pub enough_rows : (m n : ℕ) (ss : List Symbol) → length ss ≤ m → length ss ≤ n → rows_at m ss ≡ rows_at n ss
+unfolding rows_at
+enough_rows zero zero ss h k = refl
+enough_rows (suc m) zero [] h k = no_rows m
+enough_rows (suc m) zero (s ∷ ss) h k = absurd (omega arith)
+enough_rows zero (suc n) [] h k = sym (no_rows n)
+enough_rows zero (suc n) (s ∷ ss) h k = absurd (omega arith)
+enough_rows (suc m) (suc n) ss h k = after_row m n ss (λ rs i j. enough_rows m n rs i j) h k (row_at ss) refl
 
 table_some : (names : Names) (ss : List Symbol) (k : Driver) → table_at names ss ≡ Some k → IsConcurrent names k (word (codes "with") ∷ ss)
 unfolding table_at
@@ -302,24 +335,30 @@ one_is (false ∷ []) e = cc
 one_is (true ∷ b ∷ w) e = cc
 one_is (false ∷ b ∷ w) e = cc
 
+high_some : (ss rest : List Symbol) → high_at ss ≡ Some rest → ss ≡ mark Equal ∷ string (true ∷ []) ∷ word (codes "else") ∷ rest
+unfolding high_at
+high_some ss rest e =
+    bind_then _ _ _ e (λ a e1 f1.
+    bind_then _ _ _ f1 (λ w e2 f2.
+    let (t, g) = if_some (is_one w.0) (eat (word (codes "else")) w.1) rest f2 in
+    let s1 = eat_some (mark Equal) ss a e1 in
+    let s2 = string_some a w.0 w.1 e2 in
+    let o = one_is w.0 t in
+    let s3 = eat_some (word (codes "else")) w.1 rest g in
+    cc))
+
 choice_some : (names : Names) (n : List ℕ) (one : Tree) (rs ss : List Symbol) (k : Driver) → IsName n → IsExpression names max_depth one rs (word (codes "when") ∷ ss) →
     choice_at names (place_of names.signals n) one ss ≡ Some k → IsConcurrent names k (word n ∷ mark LessEqual ∷ rs)
 unfolding choice_at
 choice_some names n one rs ss k m x e =
     bind_then _ _ _ e (λ on e1 f1.
-    bind_then _ _ _ f1 (λ a e2 f2.
-    bind_then _ _ _ f2 (λ w e3 f3.
-    bind_then _ _ _ f3 (λ b e4 f4.
-    bind_then _ _ _ f4 (λ other e5 f5.
-    bind_then _ _ _ f5 (λ c e6 f6.
-    let (t, g) = if_some (is_one w.0) (Some (Choice (place_of names.signals n) on.0 one other.0)) k f6 in
+    bind_then _ _ _ f1 (λ b e2 f2.
+    bind_then _ _ _ f2 (λ other e3 f3.
+    bind_then _ _ _ f3 (λ c e4 f4.
     let p = part_some names ss on.0 on.1 e1 in
-    let s2 = eat_some (mark Equal) on.1 a e2 in
-    let s3 = string_some a w.0 w.1 e3 in
-    let s4 = eat_some (word (codes "else")) w.1 b e4 in
-    let o = one_is w.0 t in
-    let y = expression-is names max_depth other.0 b other.1 e5 in
-    rw (← some_is g) (conditional m x (rw (s2, s3, s4, o) at p) (rw (end_some other.1 c e6) at y))))))))
+    let s2 = high_some on.1 b e2 in
+    let y = expression-is names max_depth other.0 b other.1 e3 in
+    rw (← some_is f4) (conditional m x (rw s2 at p) (rw (end_some other.1 c e4) at y))))))
 
 valued_some : (names : Names) (n : List ℕ) (ss : List Symbol) (k : Driver) → IsName n → valued_at names (place_of names.signals n) ss ≡ Some k → IsConcurrent names k (word n ∷ mark LessEqual ∷ ss)
 unfolding valued_at
@@ -327,10 +366,10 @@ valued_some names n ss k m e =
     bind_then _ _ _ e (λ x e1 f1.
     let y = expression-is names max_depth x.0 ss x.1 e1 in
     choice_then _ _ _ _ f1
-    (λ h g.
-    bind_then _ _ _ g (λ a e2 f2.
-    rw (← some_is f2) (assignment m (rw (end_some x.1 a e2) at y))))
-    (λ a h g. choice_some names n x.0 ss a k m (rw (eat_some (word (codes "when")) x.1 a h) at y) g))
+      (λ h g.
+      bind_then _ _ _ g (λ a e2 f2.
+      rw (← some_is f2) (assignment m (rw (end_some x.1 a e2) at y))))
+      (λ a h g. choice_some names n x.0 ss a k m (rw (eat_some (word (codes "when")) x.1 a h) at y) g))
 
 output_some : (names : Names) (n : List ℕ) (ss : List Symbol) (k : Driver) → IsName n → output_at names (place_of names.ports n) ss ≡ Some k → IsConcurrent names k (word n ∷ mark LessEqual ∷ word (codes "std_logic_vector") ∷ ss)
 unfolding output_at
@@ -362,8 +401,8 @@ concurrent_some names ss k e = choice_then _ _ _ _ e
     (λ h g.
     bind_then _ _ _ g (λ n e1 f1.
     target_then ss n.0 n.1 e1 (λ s m. choice_then _ _ _ _ f1
-    (λ h g. rw s (valued_some names n.0 n.1 k m g))
-    (λ a h g. rw (s, eat_some (word (codes "std_logic_vector")) n.1 a h) (output_some names n.0 a k m g)))))
+      (λ h g. rw s (valued_some names n.0 n.1 k m g))
+      (λ a h g. rw (s, eat_some (word (codes "std_logic_vector")) n.1 a h) (output_some names n.0 a k m g)))))
     (λ a h g. rw (eat_some (word (codes "with")) ss a h) (table_some names a k g))
 
 clocked_some : (names : Names) (ss : List Symbol) (k : Driver) → clocked_at names ss ≡ Some k → IsClocked names k ss
@@ -395,8 +434,8 @@ process_some r ss rest k e c =
     bind_then _ _ _ e (λ a e1 f1.
     let s1 = eat_all_some clock ss a e1 in
     choice_then _ _ _ _ f1
-    (λ h g. rw (s1, edge_some a rest g) (process c))
-    (λ b h g. rw (s1, eat_some (word (codes "is")) a b h, edge_some b rest g) (process_is c)))
+      (λ h g. rw (s1, edge_some a rest g) (process c))
+      (λ b h g. rw (s1, eat_some (word (codes "is")) a b h, edge_some b rest g) (process_is c)))
 
 statement_some : (p : Place) (r : Reading) (ss : List Symbol) (q : Place) (r2 : Reading) →
     ((k : Driver) (rs : List Symbol) → IsConcurrent (scope r) k rs → Takes p r rs p (with_driver r k)) →
@@ -451,24 +490,10 @@ entity_some r ss n e =
     bind_then _ _ _ e (λ a e1 f1.
     bind_then _ _ _ f1 (λ m e2 f2.
     bind_then _ _ _ f2 (λ b e3 f3.
-    bind_then _ _ _ f3 (λ c e4 f4.
-    bind_then _ _ _ f4 (λ d e5 f5.
-    bind_then _ _ _ f5 (λ x e6 f6.
-    bind_then _ _ _ f6 (λ y e7 f7.
-    bind_then _ _ _ f7 (λ z e8 f8.
-    bind_then _ _ _ f8 (λ u e9 f9.
-    bind_then _ _ _ f9 (λ v e10 f10.
     let s1 = eat_some (word (codes "entity")) ss a e1 in
     let (s2, o) = name_some a m.0 m.1 e2 in
-    let s3 = eat_some (word (codes "is")) m.1 b e3 in
-    let s4 = eat_some (word (codes "port")) b c e4 in
-    let s5 = eat_some (mark LeftParen) c d e5 in
-    let s6 = eat_some (word (codes "clk")) d x e6 in
-    let s7 = eat_some (mark Colon) x y e7 in
-    let s8 = eat_some (word (codes "in")) y z e8 in
-    let s9 = eat_some (word (codes "std_logic")) z u e9 in
-    let s10 = end_some u v e10 in
-    rw (← some_is f10, s1, s2, s3, s4, s5, s6, s7, s8, s9, s10) (entity o)))))))))))
+    let s3 = phrase_some clock_port m.1 b e3 in
+    rw (← some_is f3, s1, s2, s3) (entity o))))
 
 ports_some : (r : Reading) (ss : List Symbol) (q : Place) (r2 : Reading) → ports_at r ss ≡ found q r2 → Takes at.Ports r ss q r2
 unfolding ports_at
@@ -476,14 +501,14 @@ ports_some r ss q r2 e =
     bind_then _ _ _ e (λ p e1 f1.
     let t = port_some ss p.0 p.1 e1 in
     choice_then _ _ _ _ f1
-    (λ h g.
-    bind_then _ _ _ g (λ a e2 f2.
-    let (i, j) = found_is at.Ports q (with_port r p.0) r2 f2 in
-    rw (← i, ← j) (port (rw (end_some p.1 a e2) at t))))
-    (λ b h g.
-    bind_then _ _ _ g (λ a e2 f2.
-    let (i, j) = found_is at.EndEntity q (with_port r p.0) r2 f2 in
-    rw (← i, ← j) (last_port (rw (eat_some (mark RightParen) p.1 b h, end_some b a e2) at t)))))
+      (λ h g.
+      bind_then _ _ _ g (λ a e2 f2.
+      let (i, j) = found_is at.Ports q (with_port r p.0) r2 f2 in
+      rw (← i, ← j) (port (rw (end_some p.1 a e2) at t))))
+      (λ b h g.
+      bind_then _ _ _ g (λ a e2 f2.
+      let (i, j) = found_is at.EndEntity q (with_port r p.0) r2 f2 in
+      rw (← i, ← j) (last_port (rw (eat_some (mark RightParen) p.1 b h, end_some b a e2) at t)))))
 
 heading_some : (r : Reading) (ss : List Symbol) (q : Place) (r2 : Reading) (h : List ℕ × List ℕ) (rest : List Symbol) → heading_at ss ≡ found h rest →
     declarations_at (with_architecture r h.0 h.1) rest ≡ found q r2 → Takes at.Architecture r ss q r2

@@ -188,18 +188,16 @@ direction_at ss = choice (eat (word (codes "in")) ss) (eat (word (codes "out")) 
 abbrev pub clock : List Symbol
 clock = mark LeftParen ∷ word (codes "clk") ∷ mark RightParen ∷ []
 
+-- the clock's port behind the name of its entity
+abbrev pub clock_port : List Symbol
+clock_port =
+    word (codes "is") ∷ word (codes "port") ∷ mark LeftParen ∷ word (codes "clk") ∷ mark Colon ∷ word (codes "in") ∷ word (codes "std_logic") ∷ []
+
 unfoldable pub entity_at : List Symbol → Option (List ℕ)
 entity_at ss = do
   a ← eat (word (codes "entity")) ss
   n ← name_at a
-  b ← eat (word (codes "is")) n.1
-  c ← eat (word (codes "port")) b
-  d ← eat (mark LeftParen) c
-  e ← eat (word (codes "clk")) d
-  f ← eat (mark Colon) e
-  g ← eat (word (codes "in")) f
-  h ← eat (word (codes "std_logic")) g
-  i ← end_at h
+  e ← phrase_at clock_port n.1
   Some n.0
 
 -- a port, and what follows it
@@ -230,17 +228,14 @@ heading_at ss = do
   c ← eat (word (codes "is")) n.1
   Some ((own.0, n.0), c)
 
+abbrev pub others_zero : List Symbol
+others_zero = word (codes "others") ∷ mark Arrow ∷ mark ZeroChar ∷ mark RightParen ∷ []
+
 -- an initial value behind `:=`, for a signal of a width
 unfoldable pub initial_value_at : ℕ → List Symbol → Option (List Bool)
 initial_value_at width ss = choice (eat (mark LeftParen) ss)
     (string_at ss >>= λ w. end_at w.1 >>= λ e. Some w.0)
-    (λ a. do
-      b ← eat (word (codes "others")) a
-      c ← eat (mark Arrow) b
-      d ← eat (mark ZeroChar) c
-      e ← eat (mark RightParen) d
-      f ← end_at e
-      Some (replicate width false))
+    (λ a. phrase_at others_zero a >>= λ e. Some (replicate width false))
 
 unfoldable pub initial_at : ℕ → List Symbol → Option (Option (List Bool))
 initial_at width ss = choice (eat (mark Becomes) ss) (end_at ss >>= λ e. Some None) (λ rest. initial_value_at width rest >>= λ w. Some (Some w))
@@ -255,26 +250,30 @@ signal_at ss = do
   initial ← initial_at width.0 width.1
   Some (record { name = n.0; width = width.0; initial = initial })
 
--- a word of a table with `when` behind it
-unfoldable pub row_word_at : List Symbol → Option (List Bool × List Symbol)
-row_word_at ss = do
+-- a row of a table, an address behind its word, and the comma
+unfoldable pub row_at : List Symbol → Option ((List Bool × List Bool) × List Symbol)
+row_at ss = do
   w ← string_at ss
   a ← eat (word (codes "when")) w.1
-  Some (w.0, a)
+  address ← string_at a
+  b ← eat (mark Comma) address.1
+  Some ((address.0, w.0), b)
 
--- the address of a row and the comma behind it
-unfoldable pub address_at : List Symbol → Option (List Bool × List Symbol)
-address_at ss = do
-  address ← string_at ss
-  a ← eat (mark Comma) address.1
-  Some (address.0, a)
+-- the word of every other address, and the piece is over
+unfoldable pub other_at : List Symbol → Option (List Bool)
+other_at ss = do
+  w ← string_at ss
+  a ← eat (word (codes "when")) w.1
+  b ← eat (word (codes "others")) a
+  e ← end_at b
+  Some w.0
 
 -- at most so many rows, and the word of every other address
 unfoldable pub rows_at : ℕ → List Symbol → Option (List (List Bool × List Bool) × List Bool)
 rows_at zero ss = None
-rows_at (suc n) ss = row_word_at ss >>= λ w. choice (eat (word (codes "others")) w.1)
-    (address_at w.1 >>= λ a. rows_at n a.1 >>= λ more. Some ((a.0, w.0) ∷ more.0, more.1))
-    (λ rest. end_at rest >>= λ e. Some ([], w.0))
+rows_at (suc n) ss = choice (row_at ss)
+    (other_at ss >>= λ w. Some ([], w))
+    (λ x. rows_at n x.1 >>= λ more. Some (x.0 ∷ more.0, more.1))
 
 -- a table behind `with`
 unfoldable pub table_at : Names → List Symbol → Option Driver
@@ -290,16 +289,21 @@ abbrev pub is_one : List Bool → Bool
 is_one (true ∷ []) = true
 is_one _ = false
 
+-- a comparison with "1" up to `else`
+unfoldable pub high_at : List Symbol → Option (List Symbol)
+high_at ss = do
+  a ← eat (mark Equal) ss
+  w ← string_at a
+  if is_one w.0 then eat (word (codes "else")) w.1 else None
+
 -- a conditional assignment behind `when`
 unfoldable pub choice_at : Names → ℕ → Tree → List Symbol → Option Driver
 choice_at names to one ss = do
   on ← part_at names ss
-  a ← eat (mark Equal) on.1
-  w ← string_at a
-  b ← eat (word (codes "else")) w.1
-  other ← expression names max_depth b
+  a ← high_at on.1
+  other ← expression names max_depth a
   e ← end_at other.1
-  if is_one w.0 then Some (Choice to on.0 one other.0) else None
+  Some (Choice to on.0 one other.0)
 
 -- an assignment to a signal, behind `<=`
 unfoldable pub valued_at : Names → ℕ → List Symbol → Option Driver
