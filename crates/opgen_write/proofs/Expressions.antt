@@ -66,7 +66,7 @@ abbrev mutual
 same_part : (a b h i l m : ℕ) → a ≡ b → h ≡ i → l ≡ m → tree.part a h l ≡ tree.part b i m
 same_part a b h i l m p q r = rw (p, q, r) refl
 
-range-begins : (high low : ℕ) (rest : List ℕ) → begins is_word_byte (range_text high low ++ rest) ≡ false
+pub range-begins : (high low : ℕ) (rest : List ℕ) → begins is_word_byte (range_text high low ++ rest) ≡ false
 unfolding range_text
 range-begins high low rest = refl
 

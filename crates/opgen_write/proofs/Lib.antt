@@ -6,4 +6,5 @@ pub mod Places
 pub mod Fitting
 pub mod Drivers
 pub mod Leading
+pub mod Declarations
 pub mod Designs

@@ -77,6 +77,13 @@ module _ (n rest : List ℕ) (allowed : IsTrue (is_allowed_name n)) (stops : beg
   pub lexes_name : (ks : List Symbol) → Lexes rest ks → Lexes (n ++ rest) (word n ∷ ks)
   lexes_name ks l = subst (λ u. Lexes (n ++ rest) (word u ∷ ks)) (name_lowercase n bytes) (lexes_token Word n rest ks name_is_word l)
 
+-- a word in lower case, before a rest that begins with no word byte
+pub lexes_keyword : (n rest : List ℕ) (ks : List Symbol) → begins is_ascii_alphabetic n ≡ true → list_all is_word_byte n ≡ true → has_single_underscores n ≡ true → nat_le (length n) 64 ≡ true
+    → map to_ascii_lowercase n ≡ n → begins is_word_byte rest ≡ false → Lexes rest ks → Lexes (n ++ rest) (word n ∷ ks)
+lexes_keyword n rest ks letter bytes single short lowercase stops l =
+    let is_word : IsWord n rest = record { letter = letter; bytes = AllPass-from_list_all is_word_byte n bytes; single = single; short = below (length n) 64 short; stops = stops } in
+    subst (λ u. Lexes (n ++ rest) (word u ∷ ks)) lowercase (lexes_token Word n rest ks is_word l)
+
 -- numbers
 
 digit : (c : ℕ) → digit_value c < 10 → is_ascii_digit c ≡ true
