@@ -7,4 +7,5 @@ pub mod Fitting
 pub mod Drivers
 pub mod Leading
 pub mod Declarations
+pub mod Bodies
 pub mod Designs
