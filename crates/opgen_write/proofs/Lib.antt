@@ -8,4 +8,5 @@ pub mod Drivers
 pub mod Leading
 pub mod Declarations
 pub mod Bodies
+pub mod Writable
 pub mod Designs

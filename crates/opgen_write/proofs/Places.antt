@@ -31,7 +31,7 @@ place-is : (names : List (List ℕ)) (n : List ℕ) (i : ℕ) → i < length nam
 place-is names n i h at before =
     position_or_len_is (bytes_eq n) names i [] (omega (arith, h)) (λ k b. differs n (get_or names k []) (before k b)) (λ _. (bytes_eq-Decides n (get_or names i [])).1 (sym at))
 
-no_signal : Signal
+pub no_signal : Signal
 no_signal = record { name = []; width = 0; initial = None }
 
 no_port : Port
