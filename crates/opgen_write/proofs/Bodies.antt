@@ -42,24 +42,38 @@ not_true : (b : Bool) → not b ≡ true → b ≡ false
 not_true true h = sym h
 not_true false h = refl
 
-neither-no_register : (k : Driver) → is_neither k ≡ true → is_register k ≡ false
+pub neither-no_register : (k : Driver) → is_neither k ≡ true → is_register k ≡ false
 neither-no_register k h = not_true (is_register k) (and_parts (not (is_register k)) (not (is_output k)) h).0
 
-output-no_register : (k : Driver) → is_output k ≡ true → is_register k ≡ false
+pub output-no_register : (k : Driver) → is_output k ≡ true → is_register k ≡ false
 output-no_register (Assign s e) h = refl
 output-no_register (Choice s on one other) h = refl
 output-no_register (Table s on rows other) h = refl
 output-no_register (Register s e) h = sym h
 output-no_register (Output p e) h = refl
 
+-- what was read before the next statement
+abbrev pub in_body : Design → List Driver → Reading
+in_body d ks = record {
+  design = record { name = d.name; ports = d.ports; signals = d.signals; drivers = ks };
+  architecture = codes "rtl";
+  agrees = bytes_eq d.name d.name;
+}
+
+-- the text of the process of these registers
+abbrev pub process_of : Design → List Driver → List ℕ
+process_of d rs =
+    if is_some rs
+    then codes "  process (clk)\n  begin\n    if rising_edge(clk) then\n" ++ flat_map (driver_text d) rs ++ codes "    end if;\n  end process;\n"
+    else []
+
+pub process_text-of : (d : Design) → process_text d ≡ process_of d (filter is_register d.drivers)
+unfolding process_text drivers_text
+process_text-of d = rw (some_passes is_register d.drivers) refl
+
 module _ (d : Design) (found : AreFound d) where
-  -- what was read before the next statement
-  abbrev pub body : List Driver → Reading
-  body ks = record {
-    design = record { name = d.name; ports = d.ports; signals = d.signals; drivers = ks };
-    architecture = codes "rtl";
-    agrees = bytes_eq d.name d.name;
-  }
+  abbrev body : List Driver → Reading
+  body ks = in_body d ks
 
   abbrev IsGoodConcurrent : Driver → Type 0
   IsGoodConcurrent k = (is_register k ≡ false) × DriverFits d k
@@ -121,20 +135,9 @@ module _ (d : Design) (found : AreFound d) where
         (λ us m. lexes_process (driver_text d k ++ others) (w.symbols ++ mark Semicolon ∷ us) (w.lexes others us m))
         (process w.says) more)
 
-  -- the text of the process of these registers
-  abbrev process_of : List Driver → List ℕ
-  process_of rs =
-      if is_some rs
-      then codes "  process (clk)\n  begin\n    if rising_edge(clk) then\n" ++ flat_map (driver_text d) rs ++ codes "    end if;\n  end process;\n"
-      else []
-
-  process_text-of : process_text d ≡ process_of (filter is_register d.drivers)
-  unfolding process_text drivers_text
-  process_text-of = rw (some_passes is_register d.drivers) refl
-
   -- the statements, then the process, then the outputs
-  body_leads : (ns rs os : List Driver) → All IsGoodConcurrent ns → All IsGoodRegister rs → All IsGoodConcurrent os
-      → Leads Body (body []) (flat_map (driver_text d) ns ++ (process_of rs ++ (flat_map (driver_text d) os ++ codes "end architecture;\n"))) (body (ns ++ rs ++ os))
+  pub body_leads : (ns rs os : List Driver) → All IsGoodConcurrent ns → All IsGoodRegister rs → All IsGoodConcurrent os
+      → Leads Body (body []) (flat_map (driver_text d) ns ++ (process_of d rs ++ (flat_map (driver_text d) os ++ codes "end architecture;\n"))) (body (ns ++ rs ++ os))
   body_leads ns [] os n r o =
       let all : ns ++ [] ++ os ≡ ns ++ os = ap (λ u. u ++ os) (append-nil ns) in
       let q = body (ns ++ [] ++ os) in
@@ -145,8 +148,8 @@ module _ (d : Design) (found : AreFound d) where
       let q = body (ns ++ (k ∷ ks) ++ os) in
       let outputs = flat_map (driver_text d) os ++ codes "end architecture;\n" in
       let last = later_statements_lead (codes "end architecture;\n") q os (ns ++ k ∷ ks) o (ends_after_process (ns ++ (k ∷ ks) ++ os)) in
-      let text : process_of (k ∷ ks) ++ outputs
+      let text : process_of d (k ∷ ks) ++ outputs
           ≡ codes "  process (clk)\n  begin\n    if rising_edge(clk) then\n" ++ (flat_map (driver_text d) (k ∷ ks) ++ (codes "    end if;\n  end process;\n" ++ outputs))
           = simp append_assoc in
-      statements_lead (process_of (k ∷ ks) ++ outputs) q ns [] n
+      statements_lead (process_of d (k ∷ ks) ++ outputs) q ns [] n
       (subst (λ u. Leads Body (body ns) u q) (sym text) (process_leads outputs q k ks ns r last))
