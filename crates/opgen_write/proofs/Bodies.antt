@@ -129,7 +129,7 @@ module _ (d : Design) (found : AreFound d) where
         let others = flat_map (driver_text d) ks ++ ending in
         let closed : Leads Process (body ((done ++ k ∷ []) ++ ks)) ending q = subst (λ u. Leads Process (body u) ending q) (sym (append_assoc done (k ∷ []) ks)) (process_ends (done ++ k ∷ ks) l) in
         let more : Leads Process (body (done ++ k ∷ [])) others q
-            = each_leads Process body (driver_text d) IsGoodRegister (λ k. IsClocked (names_of d) k) clocked_written (λ done k ss i. register i) ending q ks (done ++ k ∷ []) (all_rest IsGoodRegister k ks good) closed in
+        = each_leads Process body (driver_text d) IsGoodRegister (λ k. IsClocked (names_of d) k) clocked_written (λ done k ss i. register i) ending q ks (done ++ k ∷ []) (all_rest IsGoodRegister k ks good) closed in
         subst (λ u. Leads Body (body done) (codes "  process (clk)\n  begin\n    if rising_edge(clk) then\n" ++ u) q) (sym (append_assoc (driver_text d k) (flat_map (driver_text d) ks) ending))
         (leads_on Body Process (body done) (body (done ++ k ∷ [])) q _ others (process_head ++ w.symbols) w.within_piece
         (λ us m. lexes_process (driver_text d k ++ others) (w.symbols ++ mark Semicolon ∷ us) (w.lexes others us m))
@@ -149,7 +149,7 @@ module _ (d : Design) (found : AreFound d) where
       let outputs = flat_map (driver_text d) os ++ codes "end architecture;\n" in
       let last = later_statements_lead (codes "end architecture;\n") q os (ns ++ k ∷ ks) o (ends_after_process (ns ++ (k ∷ ks) ++ os)) in
       let text : process_of d (k ∷ ks) ++ outputs
-          ≡ codes "  process (clk)\n  begin\n    if rising_edge(clk) then\n" ++ (flat_map (driver_text d) (k ∷ ks) ++ (codes "    end if;\n  end process;\n" ++ outputs))
-          = simp append_assoc in
+      ≡ codes "  process (clk)\n  begin\n    if rising_edge(clk) then\n" ++ (flat_map (driver_text d) (k ∷ ks) ++ (codes "    end if;\n  end process;\n" ++ outputs))
+      = simp append_assoc in
       statements_lead (process_of d (k ∷ ks) ++ outputs) q ns [] n
       (subst (λ u. Leads Body (body ns) u q) (sym text) (process_leads outputs q k ks ns r last))

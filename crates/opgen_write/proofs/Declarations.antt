@@ -97,9 +97,9 @@ initial_written width (Some w) f = record {
   symbols = mark Becomes ∷ string w ∷ [];
   within_piece = refl;
   lexes = λ rest ks l.
-    let ended = lexes_found 2 (codes ";\n" ++ rest) rest (mark Semicolon ∷ []) ks refl l in
-    let text : (initial_text (Some w) ++ codes ";\n") ++ rest ≡ codes " := " ++ (word_text w ++ (codes ";\n" ++ rest)) = simp append_assoc in
-    rw text (lexes_found 3 (codes " := " ++ (word_text w ++ (codes ";\n" ++ rest))) _ (mark Becomes ∷ []) _ refl (lexes_word w (codes ";\n" ++ rest) _ f.0 f.1 ended));
+      let ended = lexes_found 2 (codes ";\n" ++ rest) rest (mark Semicolon ∷ []) ks refl l in
+      let text : (initial_text (Some w) ++ codes ";\n") ++ rest ≡ codes " := " ++ (word_text w ++ (codes ";\n" ++ rest)) = simp append_assoc in
+      rw text (lexes_found 3 (codes " := " ++ (word_text w ++ (codes ";\n" ++ rest))) _ (mark Becomes ∷ []) _ refl (lexes_word w (codes ";\n" ++ rest) _ f.0 f.1 ended));
   says = written;
 }
 
@@ -115,18 +115,18 @@ signal_written s f =
       symbols = word (codes "signal") ∷ word s.name ∷ mark Colon ∷ word (codes "unsigned") ∷ range_to_zero (decimal (s.width - 1)) initial.symbols;
       within_piece = initial.within_piece;
       lexes = λ rest ks l.
-        let behind = (initial_text s.initial ++ codes ";\n") ++ rest in
-        let range = range_text (s.width - 1) 0 ++ behind in
-        let ranged = lexes_width s.width behind _ f.small (initial.lexes rest ks l) in
-        let typed = lexes_keyword (codes "unsigned") range _ refl refl refl refl refl (range-begins (s.width - 1) 0 behind) ranged in
-        let colon = lexes_found 3 (codes " : " ++ (codes "unsigned" ++ range)) _ (mark Colon ∷ []) _ refl typed in
-        let named = lexes_name s.name (codes " : " ++ (codes "unsigned" ++ range)) f.allowed refl _ colon in
-        let text : signal_text s ++ rest ≡ codes "  signal " ++ (s.name ++ (codes " : " ++ (codes "unsigned" ++ (range_text (s.width - 1) 0 ++ ((initial_text s.initial ++ codes ";\n") ++ rest))))) = simp append_assoc in
-        rw text (lexes_found 4 (codes "  signal " ++ (s.name ++ (codes " : " ++ (codes "unsigned" ++ range)))) _ (word (codes "signal") ∷ []) _ refl named);
+          let behind = (initial_text s.initial ++ codes ";\n") ++ rest in
+          let range = range_text (s.width - 1) 0 ++ behind in
+          let ranged = lexes_width s.width behind _ f.small (initial.lexes rest ks l) in
+          let typed = lexes_keyword (codes "unsigned") range _ refl refl refl refl refl (range-begins (s.width - 1) 0 behind) ranged in
+          let colon = lexes_found 3 (codes " : " ++ (codes "unsigned" ++ range)) _ (mark Colon ∷ []) _ refl typed in
+          let named = lexes_name s.name (codes " : " ++ (codes "unsigned" ++ range)) f.allowed refl _ colon in
+          let text : signal_text s ++ rest ≡ codes "  signal " ++ (s.name ++ (codes " : " ++ (codes "unsigned" ++ (range_text (s.width - 1) 0 ++ ((initial_text s.initial ++ codes ";\n") ++ rest))))) = simp append_assoc in
+          rw text (lexes_found 4 (codes "  signal " ++ (s.name ++ (codes " : " ++ (codes "unsigned" ++ range)))) _ (word (codes "signal") ∷ []) _ refl named);
       says = λ r. subst
-        (λ w. Takes Declarations r
-        (word (codes "signal") ∷ word s.name ∷ mark Colon ∷ word (codes "unsigned") ∷ range_to_zero (decimal (s.width - 1)) (initial.symbols ++ end_of_piece))
-        Declarations (with_signal r (record { name = s.name; width = w; initial = s.initial })))
-        (width-value s.width f.small)
-        (signal f.allowed (width-index s.width f.small) initial.says);
+          (λ w. Takes Declarations r
+          (word (codes "signal") ∷ word s.name ∷ mark Colon ∷ word (codes "unsigned") ∷ range_to_zero (decimal (s.width - 1)) (initial.symbols ++ end_of_piece))
+          Declarations (with_signal r (record { name = s.name; width = w; initial = s.initial })))
+          (width-value s.width f.small)
+          (signal f.allowed (width-index s.width f.small) initial.says);
     }

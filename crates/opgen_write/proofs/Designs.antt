@@ -86,7 +86,7 @@ module _ (d : Design) (allowed : IsTrue (is_allowed_name d.name)) where
         let behind = flat_map port_text ps ++ (codes "\n  );" ++ rest) in
         let later = ports_lead p2 ps (done ++ p ∷ []) (all_rest PortFits p (p2 ∷ ps) good) (subst (λ u. Leads EndEntity (in_ports u) rest q) (sym (append_assoc done (p ∷ []) (p2 ∷ ps))) l) in
         let text : flat_map port_text (p2 ∷ ps) ++ (codes "\n  );" ++ rest) ≡ codes ";" ++ (port_behind p2 ++ behind)
-            = append_assoc (port_text p2) (flat_map port_text ps) (codes "\n  );" ++ rest) ∙ ap (λ u. u ++ behind) (port_text-behind p2) in
+        = append_assoc (port_text p2) (flat_map port_text ps) (codes "\n  );" ++ rest) ∙ ap (λ u. u ++ behind) (port_text-behind p2) in
         subst (λ u. Leads Ports (in_ports done) (port_behind p ++ u) q) (sym text)
         (leads_on Ports Ports (in_ports done) (in_ports (done ++ p ∷ [])) q (port_behind p ++ (codes ";" ++ (port_behind p2 ++ behind))) (port_behind p2 ++ behind) (port_symbols p) refl
         (λ us m. lexes_port p (codes ";" ++ (port_behind p2 ++ behind)) (mark Semicolon ∷ us) f (lexes_found 1 (codes ";" ++ (port_behind p2 ++ behind)) (port_behind p2 ++ behind) end_of_piece us refl m))

@@ -119,12 +119,12 @@ module _ (d : Design) (found : AreFound d) where
         symbols = word n ∷ mark LeftParen ∷ number (decimal high) ∷ word (codes "downto") ∷ number (decimal low) ∷ mark RightParen ∷ [];
         within_piece = refl;
         lexes = λ rest ks stops l.
-          rw (append_assoc n (range_text high low) rest)
-          (lexes_name n (range_text high low ++ rest) f.allowed (range-begins high low rest) _ (lexes_range high low rest ks i j l));
+            rw (append_assoc n (range_text high low) rest)
+            (lexes_name n (range_text high low ++ rest) f.allowed (range-begins high low rest) _ (lexes_range high low rest ks i j l));
         reads = λ ks. subst
-          (λ t. IsSignalPart (names_of d) t (word n ∷ mark LeftParen ∷ number (decimal high) ∷ word (codes "downto") ∷ number (decimal low) ∷ mark RightParen ∷ ks) ks)
-          (same_part _ _ _ _ _ _ f.first v u)
-          (slice f.allowed (omega (arith, v, i)) (omega (arith, u, j)));
+            (λ t. IsSignalPart (names_of d) t (word n ∷ mark LeftParen ∷ number (decimal high) ∷ word (codes "downto") ∷ number (decimal low) ∷ mark RightParen ∷ ks) ks)
+            (same_part _ _ _ _ _ _ f.first v u)
+            (slice f.allowed (omega (arith, v, i)) (omega (arith, u, j)));
       }
 
   literal_written : (depth : ℕ) (w : List Bool) → 1 ≤ length w → length w ≤ 64 → Writes (IsPrimary (names_of d) depth (tree.bits w)) (word_text w)
@@ -143,10 +143,10 @@ module _ (d : Design) (found : AreFound d) where
         symbols = word (codes "unsigned") ∷ mark LeftParen ∷ word n ∷ mark RightParen ∷ [];
         within_piece = refl;
         lexes = λ rest ks stops l.
-          let closed = lexes_found 1 (codes ")" ++ rest) rest (mark RightParen ∷ []) ks refl l in
-          let named = lexes_name n (codes ")" ++ rest) f.allowed refl _ closed in
-          let text : (codes "unsigned(" ++ n ++ codes ")") ++ rest ≡ codes "unsigned(" ++ (n ++ (codes ")" ++ rest)) = simp append_assoc in
-          rw text (lexes_found 2 (codes "unsigned(" ++ (n ++ (codes ")" ++ rest))) (n ++ (codes ")" ++ rest)) (word (codes "unsigned") ∷ mark LeftParen ∷ []) _ refl named);
+            let closed = lexes_found 1 (codes ")" ++ rest) rest (mark RightParen ∷ []) ks refl l in
+            let named = lexes_name n (codes ")" ++ rest) f.allowed refl _ closed in
+            let text : (codes "unsigned(" ++ n ++ codes ")") ++ rest ≡ codes "unsigned(" ++ (n ++ (codes ")" ++ rest)) = simp append_assoc in
+            rw text (lexes_found 2 (codes "unsigned(" ++ (n ++ (codes ")" ++ rest))) (n ++ (codes ")" ++ rest)) (word (codes "unsigned") ∷ mark LeftParen ∷ []) _ refl named);
         reads = λ ks. subst (λ k. IsPrimary (names_of d) depth (tree.port k) (word (codes "unsigned") ∷ mark LeftParen ∷ word n ∷ mark RightParen ∷ ks) ks) f.first (input f.allowed);
       }
 
@@ -173,10 +173,10 @@ module _ (d : Design) (found : AreFound d) where
     symbols = mark LeftParen ∷ (w.symbols ++ mark RightParen ∷ []);
     within_piece = within-append w.symbols (mark RightParen ∷ []) w.within_piece refl;
     lexes = λ rest ks stops l.
-      let closed = lexes_found 1 (codes ")" ++ rest) rest (mark RightParen ∷ []) ks refl l in
-      let inner = w.lexes (codes ")" ++ rest) (mark RightParen ∷ ks) refl closed in
-      rw (append_assoc text (codes ")") rest, append_assoc w.symbols (mark RightParen ∷ []) ks)
-      (lexes_found 1 (codes "(" ++ (text ++ (codes ")" ++ rest))) (text ++ (codes ")" ++ rest)) (mark LeftParen ∷ []) (w.symbols ++ mark RightParen ∷ ks) refl inner);
+        let closed = lexes_found 1 (codes ")" ++ rest) rest (mark RightParen ∷ []) ks refl l in
+        let inner = w.lexes (codes ")" ++ rest) (mark RightParen ∷ ks) refl closed in
+        rw (append_assoc text (codes ")") rest, append_assoc w.symbols (mark RightParen ∷ []) ks)
+        (lexes_found 1 (codes "(" ++ (text ++ (codes ")" ++ rest))) (text ++ (codes ")" ++ rest)) (mark LeftParen ∷ []) (w.symbols ++ mark RightParen ∷ ks) refl inner);
     reads = λ ks. group (rw (append_assoc w.symbols (mark RightParen ∷ []) ks) (w.reads (mark RightParen ∷ ks)));
   }
 
@@ -207,9 +207,9 @@ module _ (d : Design) (found : AreFound d) where
         symbols = operator o ∷ (first.symbols ++ others.symbols);
         within_piece = operator-within o (first.symbols ++ others.symbols) (within-append first.symbols others.symbols first.within_piece others.within_piece);
         lexes = λ rest ks stops l.
-          let found = lexes_operator o _ _ (operands_lex depth o t ts text rest ks first others stops l) in
-          subst (λ u. Lexes u (operator o ∷ ((first.symbols ++ others.symbols) ++ ks))) (sym (regroup (operator_text o) text (further_text d o ts) rest))
-          (rw (append_assoc first.symbols others.symbols ks) found);
+            let found = lexes_operator o _ _ (operands_lex depth o t ts text rest ks first others stops l) in
+            subst (λ u. Lexes u (operator o ∷ ((first.symbols ++ others.symbols) ++ ks))) (sym (regroup (operator_text o) text (further_text d o ts) rest))
+            (rw (append_assoc first.symbols others.symbols ks) found);
         reads = λ ks. next (rw (append_assoc first.symbols others.symbols ks) (first.reads (others.symbols ++ ks))) (others.reads ks);
       }
 
@@ -222,8 +222,8 @@ module _ (d : Design) (found : AreFound d) where
         symbols = first.symbols ++ others.symbols;
         within_piece = within-append first.symbols others.symbols first.within_piece others.within_piece;
         lexes = λ rest ks stops l.
-          rw (append_assoc text (further_text d o (tree.more u ts)) rest, append_assoc first.symbols others.symbols ks)
-          (operands_lex depth o t (tree.more u ts) text rest ks first others stops l);
+            rw (append_assoc text (further_text d o (tree.more u ts)) rest, append_assoc first.symbols others.symbols ks)
+            (operands_lex depth o t (tree.more u ts) text rest ks first others stops l);
         reads = λ ks. rw (append_assoc first.symbols others.symbols ks) (several (first.reads (others.symbols ++ ks)) (others.reads ks));
       }
 

@@ -44,9 +44,9 @@ module _ (d : Design) (s : IsSound d) (shape : IsShaped d) (names : HasAllowedNa
 
   pub all_signals : All SignalFits d.signals
   all_signals = λ k e b.
-    let wide = subst (λ o. IfSome o (SignalPasses d Width k)) (slice_get-get_or d.signals k e b) (s.widths (at_signal k)) in
-    let x = get_or d.signals k e in
-    record { allowed = names.signals k e b; small = wide.0; initial = initial_fits x.initial x.width wide.0 wide.1 }
+      let wide = subst (λ o. IfSome o (SignalPasses d Width k)) (slice_get-get_or d.signals k e b) (s.widths (at_signal k)) in
+      let x = get_or d.signals k e in
+      record { allowed = names.signals k e b; small = wide.0; initial = initial_fits x.initial x.width wide.0 wide.1 }
 
   width_small : (i : ℕ) → i < length d.signals → IsSmall (slice_index (signal_widths d) i)
   width_small i h = subst IsSmall (sym (get_or-map (λ q. q.width) d.signals i no_signal 0 h)) (all_signals i no_signal h).small
@@ -64,8 +64,7 @@ module _ (d : Design) (s : IsSound d) (shape : IsShaped d) (names : HasAllowedNa
   rows_short to on [] h all = tt
   rows_short to on (r ∷ rows) h all =
       let here = all_first (λ r. HasWidth d on (length r.0) × (length r.1 ≡ slice_index (signal_widths d) to)) r rows all in
-      let small = width_small to h in
-      (
+      let small = width_small to h in (
         width-is_width (signal_widths d) (port_widths d) on (length r.0) here.0,
         (omega (arith, here.1, small.0), omega (arith, here.1, small.1)),
         rows_short to on rows h (all_rest (λ r. HasWidth d on (length r.0) × (length r.1 ≡ slice_index (signal_widths d) to)) r rows all),
@@ -82,8 +81,7 @@ module _ (d : Design) (s : IsSound d) (shape : IsShaped d) (names : HasAllowedNa
   )
   driver_fits (Table to on rows other) declared w shaped =
       let on_width = some_of (width (signal_widths d) (port_widths d) on) w.1 in
-      let small = width_small to declared.target in
-      (
+      let small = width_small to declared.target in (
         declared.target,
         shaped,
         fits d short on on_width.0 declared.reads (part_chains on shaped) on_width.1,
@@ -95,6 +93,6 @@ module _ (d : Design) (s : IsSound d) (shape : IsShaped d) (names : HasAllowedNa
 
   pub all_drivers : All (DriverFits d) d.drivers
   all_drivers = λ k e b.
-    let at = slice_get-get_or d.drivers k e b in
-    driver_fits (get_or d.drivers k e) (subst (λ o. IfSome o (DriverPasses d Undeclared k)) at (s.declared (at_driver k)))
-    (subst (λ o. IfSome o (DriverPasses d Width k)) at (s.widths (at_driver k))) (shape.drivers k e b)
+      let at = slice_get-get_or d.drivers k e b in
+      driver_fits (get_or d.drivers k e) (subst (λ o. IfSome o (DriverPasses d Undeclared k)) at (s.declared (at_driver k)))
+      (subst (λ o. IfSome o (DriverPasses d Width k)) at (s.widths (at_driver k))) (shape.drivers k e b)

@@ -1,0 +1,15 @@
+//! The law of written designs.
+
+ghost use Rattle.opgen_net.specs.declared.design.Design.{Design};
+ghost use Rattle.opgen_text.specs.DesignText.{text_of};
+ghost use Rattle.opgen_text.specs.Shaped.{IsShaped, IsWritable};
+ghost use Rattle.opgen_text.specs.Spelled.{Spells};
+
+/// The text of every design that is sound, stands under allowed names, has a port and has the
+/// subset's form spells that design: by the reader's own definitions, its statements give the
+/// design, with the same ports, signals, initial values and drivers in their order.
+///
+/// It holds for any number of ports and signals.
+pub fn text_spells()
+    ensures { (d : Design) → IsWritable d → IsShaped d → Spells (text_of d) d }
+{}
