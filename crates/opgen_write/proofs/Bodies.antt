@@ -17,7 +17,7 @@ use Rattle.opgen_text.specs.declared.place.Place.TheVariants.{Body, Process, End
 use Rattle.opgen_write.proofs.Lexing.{Lexes, lexes_found, lexes_end}
 use Rattle.opgen_write.proofs.Expressions.{AreFound}
 use Rattle.opgen_write.proofs.Drivers.{WritesPiece, DriverFits, concurrent_written, register_written}
-use Rattle.opgen_write.proofs.Leading.{Leads, leads_on, leads_last, each_leads, all_first, all_rest}
+use Rattle.opgen_write.proofs.Leading.{Leads, leads_on, leads_last, each_leads, all_first, all_rest, not_true}
 
 -- what passes the test, and all that it has from passing it
 pub kept : {X : Type 0} (p : X → Bool) (P Q : X → Type 0) → ((x : X) → p x ≡ true → P x → Q x) → (xs : List X) → All P xs → All Q (filter p xs)
@@ -37,10 +37,6 @@ some_passes p (x ∷ xs) = elim (cases_Bool (p x)) [
   | inl passes ↦ rw passes refl
   | inr fails ↦ rw fails (some_passes p xs)
 ]
-
-not_true : (b : Bool) → not b ≡ true → b ≡ false
-not_true true h = sym h
-not_true false h = refl
 
 pub neither-no_register : (k : Driver) → is_neither k ≡ true → is_register k ≡ false
 neither-no_register k h = not_true (is_register k) (and_parts (not (is_register k)) (not (is_output k)) h).0

@@ -10,3 +10,5 @@ pub mod Declarations
 pub mod Bodies
 pub mod Writable
 pub mod Designs
+pub mod MadeDesigns
+pub mod MadeNames
