@@ -1,7 +1,8 @@
 -- The text of an expression is cut into symbols that are that expression in the grammar.
-use Rattle.std.proofs.Common.{◌≡◌, ℕ, zero, suc, ◌+◌, ◌<◌, ◌≤◌, Bool, true, false, not, List, [], ◌∷◌, ◌++◌, length, codes, decimal, IsTrue, refl, sym, subst, arith, append_assoc}
+use Rattle.std.proofs.Common.{◌≡◌, ℕ, zero, suc, ◌+◌, ◌<◌, ◌≤◌, Bool, true, false, not, List, [], ◌∷◌, ◌++◌, length, codes, decimal, IsTrue, refl, sym, ◌∙◌, subst, arith, append_assoc}
 use Rattle.std.specs.List.{list_all}
-use Rattle.std.proofs.lemmas.Bool.{and_parts}
+use Rattle.std.proofs.lemmas.Bool.{and_from}
+use Rattle.std.proofs.lemmas.List.Folds.{list_all-append}
 use Rattle.opgen_net.specs.declared.design.Design.{Design}
 use Rattle.opgen_net.specs.declared.expr.Op.{Op}
 use Rattle.opgen_net.specs.declared.expr.Op.TheVariants as op
@@ -24,10 +25,7 @@ abbrev pub AreWithin : List Symbol → Type 0
 AreWithin ss = list_all (λ s. not (is_semicolon s)) ss ≡ true
 
 pub within-append : (a b : List Symbol) → AreWithin a → AreWithin b → AreWithin (a ++ b)
-within-append [] b h k = k
-within-append (s ∷ a) b h k =
-    let (here, more) = and_parts (not (is_semicolon s)) (list_all (λ s. not (is_semicolon s)) a) h in
-    rw (here, within-append a b more k) refl
+within-append a b h k = list_all-append (λ s. not (is_semicolon s)) a b ∙ and_from _ _ h k
 
 -- Before any rest that begins with no word byte the text is cut into these symbols, within a piece, which are what R says.
 pub record Writes (R : List Symbol → List Symbol → Type 0) (text : List ℕ) : Type 0 where

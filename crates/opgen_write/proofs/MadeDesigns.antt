@@ -164,7 +164,7 @@ module _ (called : List ℕ) (net : Net) (valid : IsValid net) where
       record {
         drivers = all_shaped;
         in_order = in_order _ _ last
-          (kept (λ k. not (is_register k)) (λ k. is_output k ≡ false) IsPlain (λ k h e. (not_true (is_register k) h, e)) nodes none)
-          (kept is_register (λ k. is_output k ≡ false) IsClockedDriver (λ k h e. (h, e)) nodes none)
-          (outputs-output ws (length net.inputs) net.outputs);
+            (kept (λ k. not (is_register k)) (λ k. is_output k ≡ false) IsPlain (λ k h e. (not_true (is_register k) h, e)) nodes none)
+            (kept is_register (λ k. is_output k ≡ false) IsClockedDriver (λ k h e. (h, e)) nodes none)
+            (outputs-output ws (length net.inputs) net.outputs);
       }
