@@ -1,116 +1,32 @@
 //! Refusals, missing files and failing calls.
-use crate::running::{generated, ran, scale};
+use crate::running::{ran, scale};
 use std::test::Fail;
 
 const USAGE: &str = "usage: opgen COMMAND (generate, vectors, simulate, workload, check)\n";
 
-/// A specification's name, width and coefficients, what follows them, and the line that refuses it.
-static REFUSED: [(&str, &str, &str, &str, &str); 18] = [
-    ("times3", "7", "3", "", "specification: Unsupported\n"),
-    ("times3", "4", "0", "", "specification: Unsupported\n"),
-    ("times3", "4", "-3", "", "specification: Unsupported\n"),
+/// Whole documents, and the statuses and lines that they get.
+static DOCUMENTS: [(&[u8], u8, &str); 7] = [
+    (b"", 1, "specification: MissingKey version\n"),
+    (b"version = 2\n", 1, "specification: MissingKey name\n"),
+    (b"x = ", 1, "specification: NotToml\n"),
+    (b"version = 1\nversion = 1\n", 1, "specification: NotToml\n"),
+    (b"name = \"\xff\"\n", 1, "specification: NotToml\n"),
+    // A byte order mark before the document, and lines that end in a carriage return and a line feed.
     (
-        "times3",
-        "4",
-        "1",
-        "denominator = 3\n",
-        "specification: NotExact 0\n",
+        b"\xef\xbb\xbfversion = 1\nname = \"times3\"\nkind = \"scale\"\nexact = true\ntarget = \"plain\"\nperiod = 10000\nsigned = false\nwidth = 4\nlsb = 0\nout_lsb = 0\ncoefficients = [3]\n",
+        0,
+        "wrote times3.vhd, latency 0\n",
     ),
     (
-        "times3",
-        "0",
-        "3",
-        "",
-        "specification: OutOfRange width 0\n",
-    ),
-    (
-        "times3",
-        "33",
-        "3",
-        "",
-        "specification: OutOfRange width 33\n",
-    ),
-    (
-        "times3",
-        "4",
-        "1073741825",
-        "",
-        "specification: OutOfRange coefficients 1073741825\n",
-    ),
-    (
-        "times3",
-        "4",
-        "3, 3",
-        "",
-        "specification: OutOfRange coefficients 2\n",
-    ),
-    (
-        "times3",
-        "4",
-        "3.0",
-        "",
-        "specification: WrongType coefficients\n",
-    ),
-    (
-        "times3",
-        "4",
-        "\"1.0000000000\"",
-        "",
-        "specification: WrongType coefficients\n",
-    ),
-    ("times3", "4.0", "3", "", "specification: WrongType width\n"),
-    ("x", "4", "3", "", "specification: BadName\n"),
-    ("s12", "4", "3", "", "specification: BadName\n"),
-    ("times__3", "4", "3", "", "specification: BadName\n"),
-    ("Times3", "4", "3", "", "specification: BadName\n"),
-    (
-        "times3",
-        "4",
-        "3",
-        "colour = 1\n",
-        "specification: UnknownKey 0 1\n",
-    ),
-    (
-        "times3",
-        "4",
-        "3",
-        "version = 1\n",
-        "specification: NotToml\n",
-    ),
-    (
-        "times3",
-        "4",
-        "3",
-        "[[delay]]\nclass = \"wood\"\nbase = 1\nper_bit = 1\n",
-        "specification: OutOfRange class 1 1\n",
+        b"version = 1\r\nname = \"times3\"\r\nkind = \"scale\"\r\nexact = true\r\ntarget = \"plain\"\r\nperiod = 10000\r\nsigned = false\r\nwidth = 4\r\nlsb = 0\r\nout_lsb = 0\r\ncoefficients = [3]\r\n",
+        0,
+        "wrote times3.vhd, latency 0\n",
     ),
 ];
 
 #[test]
-fn refused_values(rt: HostRuntime) -> Result<(), Fail> {
-    for (name, width, coefficients, more, line) in &REFUSED {
-        let mut spec = scale(rt.alloc(), name, width, coefficients)?;
-        spec.push_str(more)?;
-        let ran = generated(rt.alloc(), &spec)?;
-        assert_eq!(rt; ran.status.0, 1);
-        assert!(rt; ran.out.bytes() == line.as_bytes());
-        assert!(rt; ran.folder.get("times3.vhd").is_none());
-    }
-    Ok(())
-}
-
-/// Whole documents, and the lines that refuse them.
-static DOCUMENTS: [(&[u8], &str); 5] = [
-    (b"", "specification: MissingKey version\n"),
-    (b"version = 2\n", "specification: MissingKey name\n"),
-    (b"x = ", "specification: NotToml\n"),
-    (b"version = 1\nversion = 1\n", "specification: NotToml\n"),
-    (b"name = \"\xff\"\n", "specification: NotToml\n"),
-];
-
-#[test]
-fn refused_documents(rt: HostRuntime) -> Result<(), Fail> {
-    for (bytes, line) in &DOCUMENTS {
+fn whole_documents(rt: HostRuntime) -> Result<(), Fail> {
+    for (bytes, status, line) in &DOCUMENTS {
         let ran = ran(
             rt.alloc(),
             &["generate", "spec.toml"],
@@ -119,7 +35,7 @@ fn refused_documents(rt: HostRuntime) -> Result<(), Fail> {
             &[],
             &[],
         )?;
-        assert_eq!(rt; ran.status.0, 1);
+        assert_eq!(rt; ran.status.0, *status);
         assert!(rt; ran.out.bytes() == line.as_bytes());
     }
     Ok(())

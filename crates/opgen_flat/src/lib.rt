@@ -22,8 +22,7 @@ use opgen_net::{Design, Net};
 use opgen_num::Memory;
 use std::alloc::Global;
 
-/// The design of a net without delays, under this name: node `i` is signal `s<i>`, and every word
-/// of a cycle follows from the inputs of that cycle.
+/// The design of a net without delays, under this name: node `i` is signal `s<i>`.
 pub fn flat(alloc: Global, net: &Net, name: &str) -> Result<Design, Memory>
     requires valid { IsValid net.now }
     requires no_delay { HasNoDelay net.now }

@@ -6,6 +6,8 @@ use Rattle.opgen_net.specs.declared.design.Port.{Port}
 use Rattle.opgen_net.specs.declared.design.Signal.{Signal}
 use Rattle.opgen_net.specs.declared.design.Driver.{Driver}
 use Rattle.opgen_net.specs.declared.design.Driver.TheVariants.{Assign, Choice, Table, Register, Output}
+use Rattle.opgen_net.specs.declared.sound.SoundFault.{SoundFault}
+use Rattle.opgen_net.specs.declared.sound.SoundFault.TheVariants.{Unsound, Memory}
 use Rattle.opgen_net.specs.Tree.{Tree}
 use Rattle.opgen_net.specs.Width.{IsWidth, width}
 use Rattle.opgen_net.specs.Reads.{AllReads, ReadsName}
@@ -196,3 +198,8 @@ pub record IsFirstUnsound (d : Design) (rule : Rule) (number : ℕ) : Type 0 whe
   pub earlier_rules : (r : Rule) → rule_number r < rule_number rule → Holds d r
   pub earlier_places : (p : Place) → item d p < number → PassesAt d rule p
   pub fails : (p : Place) × (item d p ≡ number) × (PassesAt d rule p → ⊥)
+
+-- a fault of a design names its first rule that fails, by number, and the first place; want of memory says nothing
+abbrev pub IsFaultOf : Design → SoundFault → Type 0
+IsFaultOf d (Unsound rule place) = (r : Rule) × (rule_number r ≡ rule) × IsFirstUnsound d r place
+IsFaultOf d Memory = Unit {0}

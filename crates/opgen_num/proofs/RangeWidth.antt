@@ -21,10 +21,10 @@ digits-least (suc most) (suc n) h (suc g) l =
     let half : digits_within most (suc n / 2) ≤ g = digits-least most (suc n / 2) (omega arith) g (omega (arith, two-pow-succ g)) in
     omega arith
 
-count-holds : (n : ℕ) → n < 2 ^ digit_count n
+pub count-holds : (n : ℕ) → n < 2 ^ digit_count n
 count-holds n = digits-holds n n (omega arith)
 
-count-least : (n g : ℕ) → n < 2 ^ g → digit_count n ≤ g
+pub count-least : (n g : ℕ) → n < 2 ^ g → digit_count n ≤ g
 count-least n = digits-least n n (omega arith)
 
 pub range_width-least : (lo hi : ℤ) → lo ≤ℤ hi → IsLeastWidth lo hi (range_width lo hi)

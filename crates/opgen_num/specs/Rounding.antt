@@ -1,6 +1,6 @@
 -- When a whole number is a good rounding of a fraction or a root: exact, or faithful, which is less than one unit away
 -- (de Dinechin and Kumm, Application-Specific Arithmetic).
-use Rattle.std.specs.Prelude.{◌≡◌, ℕ, ◌+◌, ◌-◌, ◌*◌, ◌<◌, ◌⊎◌, Bool, true, false, ℤ, pos, ◌-ℤ◌, ◌*ℤ◌, ◌<ℤ◌, unsigned_abs}
+use Rattle.std.specs.Prelude.{◌≡◌, ℕ, ◌+◌, ◌-◌, ◌*◌, ◌<◌, ◌≤◌, ◌⊎◌, Bool, true, false, ℤ, pos, ◌-ℤ◌, ◌*ℤ◌, ◌<ℤ◌, unsigned_abs}
 
 abbrev pub distance : ℤ → ℤ → ℕ
 distance a b = unsigned_abs (a -ℤ b)
@@ -20,3 +20,11 @@ IsGoodLinear n m y false = IsWithinOne n m y
 -- y is less than one away from the square root of n
 abbrev pub IsGoodRoot : (n y : ℕ) → Type 0
 IsGoodRoot n y = (n < (y + 1) * (y + 1)) × ((y ≡ 0) ⊎ ((y - 1) * (y - 1) < n))
+
+-- q is the quotient of n by b rounded down, and r the remainder
+abbrev pub IsQuotient : (n b q r : ℕ) → Type 0
+IsQuotient n b q r = (n ≡ q * b + r) × (r < b)
+
+-- y is the square root of n rounded down, and r the remainder
+abbrev pub IsRoot : (n y r : ℕ) → Type 0
+IsRoot n y r = (n ≡ y * y + r) × (r ≤ 2 * y)

@@ -11,7 +11,7 @@ mod word;
 pub use format::{Format, FormatFault, Ratio, cover, least_width};
 pub use memory::Memory;
 pub use number::bit_length;
-pub use rounding::{good_linear, good_root};
+pub use rounding::{good_linear, good_root, is_quotient, is_root};
 pub use word::Word;
 
 /// The greatest width of a signal, in bits.

@@ -1,5 +1,5 @@
 ghost use Rattle.std.specs.Prelude.{◌≡◌, ◌↔◌, IsTrue, pos, ◌<ℤ◌, ◌≤ℤ◌, ◌*ℤ◌, ◌+ℤ◌};
-ghost use Rattle.opgen_num.specs.Rounding.{IsExact, IsGoodLinear, IsGoodRoot, IsWithinOne};
+ghost use Rattle.opgen_num.specs.Rounding.{IsExact, IsGoodLinear, IsGoodRoot, IsQuotient, IsRoot, IsWithinOne};
 
 /// Whether `y` is a good rounding of `n / m`: equal to it, or else less than one away from it.
 ///
@@ -21,6 +21,24 @@ pub fn good_root(n: u128, y: u128) -> bool
 {
     let root = n.isqrt();
     y == root || (y == root + 1 && root * root < n)
+}
+
+/// Whether `q` is the quotient of `n` by `b` rounded down, and `r` the remainder. Nothing is where `b` is 0.
+pub fn is_quotient(n: u128, b: u128, q: u128, r: u128) -> bool
+    ensures { IsTrue result ↔ IsQuotient n b q r }
+{
+    if b == 0 {
+        return false;
+    }
+    q == n / b && r == n % b
+}
+
+/// Whether `y` is the square root of `n` rounded down, and `r` the remainder.
+pub fn is_root(n: u128, y: u128, r: u128) -> bool
+    ensures { IsTrue result ↔ IsRoot n y r }
+{
+    let root = n.isqrt();
+    y == root && r == n - root * root
 }
 
 fn is_exact(n: i128, m: i128, y: i128) -> bool
@@ -67,6 +85,22 @@ mod tests {
         assert!(rt; good_linear(least, most, -2, false));
         assert!(rt; !good_linear(least, most, -3, false));
         assert!(rt; !good_linear(least, most, -1, true));
+        Ok(())
+    }
+
+    #[test]
+    fn remainders(rt: HostRuntime) -> Result<(), Fail> {
+        let most = u128::MAX;
+        let half: u128 = 1 << 64;
+        assert!(rt; is_quotient(100, 7, 14, 2));
+        assert!(rt; !is_quotient(100, 7, 13, 9));
+        assert!(rt; !is_quotient(0, 0, 0, 0));
+        assert!(rt; is_quotient(most, most, 1, 0));
+        assert!(rt; !is_quotient(most, most, most, most));
+        assert!(rt; is_root(200, 14, 4));
+        assert!(rt; !is_root(200, 13, 31));
+        assert!(rt; is_root(most, half - 1, 2 * (half - 1)));
+        assert!(rt; !is_root(most, most, most));
         Ok(())
     }
 

@@ -22,7 +22,7 @@ use Rattle.opgen_spec.specs.Keys.{document_keys, is_needed}
 use Rattle.opgen_spec.specs.Document.{list_of, value_at, number_in, number_at, flag_at, items_at, count, small, kind_of}
 use Rattle.opgen_spec.specs.Numbers.{are_digits, digits_from, are_parts, decimal_with, cut_at, unsigned_decimal, decimal_of, coefficient, places_in, places_among, numerators, are_texts, denominator_of}
 use Rattle.opgen_spec.specs.Spec.{format_at, unsigned_at, sum_of, operator_of}
-use Rattle.opgen_spec.specs.Ranges.{IsPower, IsInput, IsWithin, IsSum, IsOperator}
+use Rattle.opgen_operator.specs.Ranges.{IsPower, IsInput, IsWithin, IsSum, IsOperator}
 use Rattle.opgen_spec.specs.Faults.{first_of, check_fault, outside, is_beyond, first_beyond, length_outside, array_outside, most_coefficients, coefficients_outside, found, out_of_range, outside_among, is_missing, missing_among, wrong_among, among_keys, among_lines, bad_version, bad_name, bad_kind, form_fault, value_fault, field_fault}
 use Rattle.opgen_spec.proofs.Reading.{or_none}
 

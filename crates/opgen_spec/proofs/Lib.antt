@@ -1,9 +1,6 @@
-pub mod DigitCount
 mod Digits
 mod Trees
-mod Bounds
 mod Reading
 mod Fields
 mod Validity
 mod Written
-pub mod Accepted

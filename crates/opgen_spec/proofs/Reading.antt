@@ -5,7 +5,7 @@ use Rattle.toml.specs.Data.{Members}
 use Rattle.opgen_spec.specs.declared.fault.SpecFault.{SpecFault}
 use Rattle.opgen_spec.specs.declared.fault.SpecFault.TheVariants as fault
 use Rattle.opgen_spec.specs.declared.lines.Check.TheVariants.{Unknown, Missing, WrongType, Range}
-use Rattle.opgen_spec.specs.declared.spec.Spec.{Spec}
+use Rattle.opgen_operator.specs.declared.spec.Spec.{Spec}
 use Rattle.opgen_spec.specs.Faults.{first_of, check_fault, bad_version, bad_name, bad_kind, not_exact, coarse, too_wide, field_fault, limit_fault, fault_of, judged, read, Gives}
 use Rattle.opgen_spec.specs.Spec.{spec_of}
 

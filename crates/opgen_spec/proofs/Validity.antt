@@ -1,6 +1,6 @@
 -- A document without a fault gives a valid specification.
-use Rattle.std.proofs.Common.{◌≡◌, ℕ, zero, suc, ◌+◌, ◌≤◌, Bool, true, false, List, [], ◌∷◌, length, Option, Some, None, is_some, option_and_then, refl, ap, arith, lit<, if◌then◌else◌}
-use Rattle.std.specs.Prelude.{ℤ, pos, negsuc, All}
+use Rattle.std.proofs.Common.{◌≡◌, ℕ, zero, suc, ◌+◌, ◌≤◌, Bool, true, false, List, [], ◌∷◌, length, Option, Some, None, is_some, option_map, option_and_then, nat_lt, refl, ap, sym, ◌∙◌, arith, lit<, if◌then◌else◌}
+use Rattle.std.specs.Prelude.{ℤ, pos, negsuc, All, IsTrue}
 use Rattle.std.proofs.lemmas.Int.{ints}
 use Rattle.toml.specs.Data.{Data, string, integer, float, boolean, datetime, array, table, Items, no_items, item, Members}
 use Rattle.opgen_spec.specs.declared.fault.SpecFault.{SpecFault}
@@ -10,13 +10,17 @@ use Rattle.opgen_spec.specs.declared.key.Key.TheVariants as key
 use Rattle.opgen_spec.specs.declared.key.Kind.{Kind}
 use Rattle.opgen_spec.specs.declared.key.Kind.TheVariants as kind
 use Rattle.opgen_spec.specs.declared.lines.Check.TheVariants.{Range}
-use Rattle.opgen_spec.specs.declared.spec.DelayLine.{DelayLine}
+use Rattle.opgen_operator.specs.declared.spec.DelayLine.{DelayLine}
 use Rattle.opgen_spec.specs.Keys.{line_keys, is_needed}
 use Rattle.opgen_spec.specs.Document.{list_of, items_in, value_at, number_at, text_at, flag_at, items_at, count, kind_of}
 use Rattle.opgen_spec.specs.Spec.{line_of, lines_of, operator_of, spec_with}
-use Rattle.opgen_spec.specs.SpecName.{is_spec_name}
-use Rattle.opgen_spec.specs.Valid.{AgreesOnExact, IsDelayLine, IsValidSpec}
-use Rattle.opgen_spec.specs.Faults.{first_of, outside, length_outside, found, out_of_range, outside_among, is_one, among_line, among_lines, not_exact, coarse, too_wide, limit_fault}
+use Rattle.opgen_operator.specs.SpecName.{is_spec_name}
+use Rattle.opgen_operator.specs.Valid.{AgreesOnExact, IsDelayLine, IsValidSpec}
+use Rattle.opgen_spec.specs.Faults.{first_of, outside, length_outside, found, out_of_range, outside_among, is_one, among_line, among_lines, not_exact, coarse, over_limit, too_wide, limit_fault}
+use Rattle.opgen_num.specs.declared.TheConstants.{MAX_WIDTH}
+use Rattle.opgen_operator.specs.declared.TheConstants.{MAX_SHIFT}
+use Rattle.opgen_operator.specs.declared.spec.Spec.{Spec}
+use Rattle.opgen_operator.specs.Outputs.{inexact, least_shift, shift}
 use Rattle.opgen_spec.proofs.Reading.{or_none}
 use Rattle.opgen_spec.proofs.Fields.{AreFine, map_none, first_none, present, needs, there_inside, inside, zero_inside, counted, operator_in}
 
@@ -102,13 +106,26 @@ few_items (Some d) h =
     let (_, most) = inside (pos 0) (pos 16) (pos (length (list_of (items_in (Some d))))) h in
     omega (arith, ints)
 
+-- exact outputs are asked for only where the exact values are whole
+asked_exact : (spec : Spec) → not_exact spec ≡ None → IsTrue spec.exact → inexact spec.op ≡ None
+asked_exact spec h asked = map_none fault.NotExact (inexact spec.op) (ap (λ b. if b then option_map fault.NotExact (inexact spec.op) else None) (sym asked) ∙ h)
+
+within_limit : (bits : ℕ) → over_limit bits ≡ None → bits ≤ MAX_WIDTH
+within_limit bits h = go (nat_lt MAX_WIDTH bits) refl
+  where
+    go : (b : Bool) → nat_lt MAX_WIDTH bits ≡ b → bits ≤ MAX_WIDTH
+    go true e =
+        let some : Some (fault.TooWide bits) ≡ None = ap (λ b. if b then Some (fault.TooWide bits) else None) (sym e) ∙ h in
+        cc
+    go false e = grind arith
+
 pub valid_in : (ms : Members) (one : Kind) → AreFine ms → kind_of ms ≡ Some one → limit_fault (spec_with one ms) ≡ None → IsValidSpec (spec_with one ms)
 unfolding spec_with
 valid_in ms one f e h =
     let spec = spec_with one ms in
     let (exact, later) = or_none (not_exact spec) (first_of (coarse spec ∷ too_wide spec ∷ [])) h in
-    let (shift, last) = or_none (coarse spec) (first_of (too_wide spec ∷ [])) later in
-    let (width, _) = or_none (too_wide spec) None last in
+    let (fine, last) = or_none (coarse spec) (first_of (too_wide spec ∷ [])) later in
+    let (narrow, _) = or_none (too_wide spec) None last in
     let (target, period) = common one in
     let text = there_inside (value_at ms key.Target) (outside (pos 1) (pos 32) (pos (length (text_at ms key.Target)))) (present ms key.Target (needs ms one key.Target e target) f.needed.target) f.ranges.target in
     let (text_least, text_most) = inside (pos 1) (pos 32) (pos (length (text_at ms key.Target))) text in
@@ -123,7 +140,7 @@ valid_in ms one f e h =
       period = counted (number_at ms key.Period) 1 1000000 time_least time_most (omega arith);
       few_lines = omega (arith, no_more_lines (items_at ms key.Delay), few_items (value_at ms key.Delay) f.ranges.delay);
       lines = delays_in 1 (items_at ms key.Delay) f.lines;
-      has_exact = exact;
-      fine = shift;
-      narrow = width;
+      has_exact = asked_exact spec exact;
+      fine = inside (least_shift spec.op) MAX_SHIFT (shift spec.op) (map_none fault.Coarse (outside (least_shift spec.op) MAX_SHIFT (shift spec.op)) fine);
+      narrow = λ bits e. within_limit bits (ap (λ o. option_and_then over_limit o) (sym e) ∙ narrow);
     }

@@ -1,5 +1,5 @@
 -- The first fault of a document.
-use Rattle.std.specs.Prelude.{◌≡◌, ℕ, ◌+◌, ◌^◌, ◌==◌, ◌&&◌, ◌||◌, not, Bool, false, List, [], ◌∷◌, length, map, ℤ, pos, negsuc, int_lt, int_le, unsigned_abs, Option, Some, None, is_some, is_none, option_map, option_and_then, find, if◌then◌else◌, nat_lt, Result, Ok, Err}
+use Rattle.std.specs.Prelude.{◌≡◌, ℕ, ◌+◌, ◌^◌, ◌==◌, ◌&&◌, ◌||◌, not, Bool, false, List, [], ◌∷◌, length, map, ℤ, pos, negsuc, int_le, unsigned_abs, Option, Some, None, is_some, is_none, option_map, option_and_then, find, if◌then◌else◌, nat_lt, Result, Ok, Err}
 use Rattle.std.specs.List.{list_all, position_from}
 use Rattle.std.specs.Option.{option_or, option_map_or}
 use Rattle.toml.specs.Data.{Data, string, table, Items, no_items, item, Members, as_str, as_integer, as_bool, as_array, as_table}
@@ -14,15 +14,14 @@ use Rattle.opgen_spec.specs.declared.key.Sort.{Sort}
 use Rattle.opgen_spec.specs.declared.key.Sort.TheVariants.{Number, Text, Flag, Coefficients, Numbers, Tables}
 use Rattle.opgen_spec.specs.declared.lines.Check.{Check}
 use Rattle.opgen_spec.specs.declared.lines.Check.TheVariants.{Unknown, Missing, WrongType, Range}
-use Rattle.opgen_spec.specs.declared.spec.Spec.{Spec}
-use Rattle.opgen_spec.specs.declared.spec.Operator.{Operator}
-use Rattle.opgen_spec.specs.declared.spec.Operator.TheVariants.{Scale, Fir, Multiply, Divide, Root}
+use Rattle.opgen_operator.specs.declared.TheConstants.{MAX_SHIFT}
+use Rattle.opgen_operator.specs.declared.spec.Spec.{Spec}
 use Rattle.opgen_spec.specs.Keys.{document_keys, line_keys, is_known, is_needed, class_named, sort_of}
 use Rattle.opgen_spec.specs.Document.{names, list_of, value_at, number_at, text_at, flag_at, items_of, items_at, kind_of}
 use Rattle.opgen_spec.specs.Numbers.{decimal_of, numerators, are_texts}
-use Rattle.opgen_spec.specs.Outputs.{shift, first_inexact, need}
+use Rattle.opgen_operator.specs.Outputs.{shift, inexact, least_shift, need}
 use Rattle.opgen_spec.specs.Spec.{spec_of}
-use Rattle.opgen_spec.specs.SpecName.{is_spec_name}
+use Rattle.opgen_operator.specs.SpecName.{is_spec_name}
 
 -- the first of some faults
 abbrev pub first_of : List (Option SpecFault) → Option SpecFault
@@ -193,23 +192,12 @@ abbrev pub bad_kind : Members → Option SpecFault
 bad_kind ms = if is_some (kind_of ms) then None else Some fault.BadKind
 
 -- Not exact: exact outputs are asked for, and the exact value is not a whole number of units for every input.
-abbrev pub inexact : Operator → Option ℕ
-inexact (Scale s) = first_inexact s
-inexact (Fir s) = first_inexact s
-inexact (Multiply p) = if int_lt (shift (Multiply p)) (pos 0) then Some 0 else None
-inexact _ = None
-
 abbrev pub not_exact : Spec → Option SpecFault
 not_exact spec = if spec.exact then option_map fault.NotExact (inexact spec.op) else None
 
--- Coarse: the shift is not within the bounds of the kind. That of a multiplication by several constants is 0.
-abbrev pub least_shift : Operator → ℤ
-least_shift (Divide p) = pos 0
-least_shift (Root r) = pos 0
-least_shift _ = negsuc 47
-
+-- Coarse: the shift is not within the bounds of the kind.
 abbrev pub coarse : Spec → Option SpecFault
-coarse spec = option_map fault.Coarse (outside (least_shift spec.op) (pos 48) (shift spec.op))
+coarse spec = option_map fault.Coarse (outside (least_shift spec.op) MAX_SHIFT (shift spec.op))
 
 -- Too wide: the widest signal needs more bits than a signal may have.
 abbrev pub over_limit : ℕ → Option SpecFault

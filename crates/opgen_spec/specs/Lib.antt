@@ -1,11 +1,7 @@
-pub mod SpecName
 pub mod Keys
 pub mod Document
 pub mod Numbers
 pub mod Spec
-pub mod Outputs
 pub mod Faults
-pub mod Ranges
-pub mod Valid
 pub mod Texts
 pub mod Written

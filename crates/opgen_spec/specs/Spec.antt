@@ -7,15 +7,15 @@ use Rattle.opgen_spec.specs.declared.key.Key.{Key}
 use Rattle.opgen_spec.specs.declared.key.Key.TheVariants as key
 use Rattle.opgen_spec.specs.declared.key.Kind.{Kind}
 use Rattle.opgen_spec.specs.declared.key.Kind.TheVariants as kind
-use Rattle.opgen_spec.specs.declared.spec.Spec.{Spec}
-use Rattle.opgen_spec.specs.declared.spec.DelayLine.{DelayLine}
-use Rattle.opgen_spec.specs.declared.spec.Operator.{Operator}
-use Rattle.opgen_spec.specs.declared.spec.Operator.TheVariants.{Scale, Fir, Multiply, Divide, Root, Mcm}
-use Rattle.opgen_spec.specs.declared.spec.Sum.{Sum}
-use Rattle.opgen_spec.specs.declared.spec.Product.{Product}
-use Rattle.opgen_spec.specs.declared.spec.Pair.{Pair}
-use Rattle.opgen_spec.specs.declared.spec.Single.{Single}
-use Rattle.opgen_spec.specs.declared.spec.Several.{Several}
+use Rattle.opgen_operator.specs.declared.spec.Spec.{Spec}
+use Rattle.opgen_operator.specs.declared.spec.DelayLine.{DelayLine}
+use Rattle.opgen_operator.specs.declared.spec.Operator.{Operator}
+use Rattle.opgen_operator.specs.declared.spec.Operator.TheVariants.{Scale, Fir, Multiply, Divide, Root, Mcm}
+use Rattle.opgen_operator.specs.declared.spec.Sum.{Sum}
+use Rattle.opgen_operator.specs.declared.spec.Product.{Product}
+use Rattle.opgen_operator.specs.declared.spec.Pair.{Pair}
+use Rattle.opgen_operator.specs.declared.spec.Single.{Single}
+use Rattle.opgen_operator.specs.declared.spec.Several.{Several}
 use Rattle.opgen_spec.specs.Keys.{class_named}
 use Rattle.opgen_spec.specs.Document.{text_at, flag_at, items_at, count_at, small_at, kind_of}
 use Rattle.opgen_spec.specs.Numbers.{numerators, denominator_of}

@@ -4,15 +4,15 @@ use Rattle.toml.specs.Data.{string, integer, boolean, Members, table, Items, no_
 use Rattle.opgen_num.specs.declared.format.Format.{Format}
 use Rattle.opgen_spec.specs.declared.key.Key.{Key}
 use Rattle.opgen_spec.specs.declared.key.Key.TheVariants as key
-use Rattle.opgen_spec.specs.declared.spec.Spec.{Spec}
-use Rattle.opgen_spec.specs.declared.spec.DelayLine.{DelayLine}
-use Rattle.opgen_spec.specs.declared.spec.Operator.{Operator}
-use Rattle.opgen_spec.specs.declared.spec.Operator.TheVariants.{Scale, Fir, Multiply, Divide, Root, Mcm}
-use Rattle.opgen_spec.specs.declared.spec.Sum.{Sum}
-use Rattle.opgen_spec.specs.declared.spec.Product.{Product}
-use Rattle.opgen_spec.specs.declared.spec.Pair.{Pair}
-use Rattle.opgen_spec.specs.declared.spec.Single.{Single}
-use Rattle.opgen_spec.specs.declared.spec.Several.{Several}
+use Rattle.opgen_operator.specs.declared.spec.Spec.{Spec}
+use Rattle.opgen_operator.specs.declared.spec.DelayLine.{DelayLine}
+use Rattle.opgen_operator.specs.declared.spec.Operator.{Operator}
+use Rattle.opgen_operator.specs.declared.spec.Operator.TheVariants.{Scale, Fir, Multiply, Divide, Root, Mcm}
+use Rattle.opgen_operator.specs.declared.spec.Sum.{Sum}
+use Rattle.opgen_operator.specs.declared.spec.Product.{Product}
+use Rattle.opgen_operator.specs.declared.spec.Pair.{Pair}
+use Rattle.opgen_operator.specs.declared.spec.Single.{Single}
+use Rattle.opgen_operator.specs.declared.spec.Several.{Several}
 use Rattle.opgen_spec.specs.Document.{value_at, items_at}
 use Rattle.opgen_spec.specs.Keys.{kind_name, class_name}
 use Rattle.opgen_spec.specs.Numbers.{numerators, denominator_of}

@@ -1,4 +1,4 @@
-//! Specifications of operators: their types, and the reader of a TOML document.
+//! The reader of specifications of operators, which are TOML documents.
 #![tactic(auto)]
 
 mod decimal;
@@ -9,14 +9,13 @@ mod key;
 mod limits;
 mod lines;
 mod make;
-mod outputs;
 mod range;
 mod read;
-mod spec;
-mod spec_name;
 
 pub use fault::SpecFault;
 pub use key::{Key, Kind};
+pub use opgen_operator::{
+    DelayLine, MAX_SPEC_NAME_LEN, Operator, Pair, PortFormat, Product, Several, Single, Spec, Sum,
+    is_spec_name,
+};
 pub use read::read_spec;
-pub use spec::{DelayLine, Operator, Pair, PortFormat, Product, Several, Single, Spec, Sum};
-pub use spec_name::{MAX_SPEC_NAME_LEN, is_spec_name};

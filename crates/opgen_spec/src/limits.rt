@@ -1,26 +1,10 @@
-ghost use Rattle.std.specs.Prelude.{◌≡◌, pos, negsuc, ◌≤ℤ◌, None};
-ghost use Rattle.opgen_spec.specs.Ranges.{IsOperator};
-ghost use Rattle.opgen_spec.specs.Outputs.{shift, need};
-ghost use Rattle.opgen_spec.specs.Faults.{inexact, not_exact, least_shift, coarse, over_limit, too_wide, limit_fault};
+ghost use Rattle.std.specs.Prelude.{◌≡◌, None};
+ghost use Rattle.opgen_operator.specs.Ranges.{IsOperator};
+ghost use Rattle.opgen_spec.specs.Faults.{not_exact, coarse, over_limit, too_wide, limit_fault};
 
 use crate::fault::SpecFault;
-use crate::outputs::{first_inexact, places_up, product_need, sum_need};
-use crate::range::outside;
-use crate::spec::{Operator, Spec};
 use opgen_num::MAX_WIDTH;
-
-/// The place of the first coefficient that is not a whole number of units, or 0 of a product that is not.
-fn inexact(op: &Operator) -> Option<u32>
-    requires { IsOperator op.now }
-    ensures { result ≡ inexact op.now }
-{
-    match op {
-        Operator::Scale(sum) => first_inexact(sum),
-        Operator::Fir(sum) => first_inexact(sum),
-        Operator::Multiply(_) => if op.shift() < 0 { Some(0) } else { None },
-        _ => None,
-    }
-}
+use opgen_operator::{MAX_SHIFT, Spec};
 
 fn not_exact(spec: &Spec) -> Option<SpecFault>
     requires { IsOperator spec.now.op }
@@ -29,17 +13,8 @@ fn not_exact(spec: &Spec) -> Option<SpecFault>
     if !spec.exact {
         return None;
     }
-    let index = inexact(&spec.op)?;
+    let index = spec.op.inexact()?;
     Some(SpecFault::NotExact { index })
-}
-
-fn least_shift(op: &Operator) -> i32
-    ensures { result ≡ least_shift op.now }
-{
-    match op {
-        Operator::Divide(_) | Operator::Root(_) => 0,
-        _ => -48,
-    }
 }
 
 fn coarse(spec: &Spec) -> Option<SpecFault>
@@ -47,26 +22,10 @@ fn coarse(spec: &Spec) -> Option<SpecFault>
     ensures { result ≡ coarse spec.now }
 {
     let shift = spec.op.shift();
-    if least_shift(&spec.op) <= shift && shift <= 48 {
+    if spec.op.least_shift() <= shift && shift <= MAX_SHIFT {
         None
     } else {
         Some(SpecFault::Coarse { shift })
-    }
-}
-
-/// The width of the widest signal, where it may be over the limit.
-fn need(op: &Operator) -> Option<u32>
-    requires op { IsOperator op.now }
-    requires low { negsuc 47 ≤ℤ shift op.now }
-    requires high { shift op.now ≤ℤ pos 48 }
-    ensures { result ≡ need op.now }
-{
-    match op {
-        Operator::Scale(sum) => Some(sum_need(sum)),
-        Operator::Fir(sum) => Some(sum_need(sum)),
-        Operator::Multiply(product) => Some(product_need(product)),
-        Operator::Divide(pair) => Some(pair.a.width + places_up(op.shift())),
-        _ => None,
     }
 }
 
@@ -75,7 +34,7 @@ fn too_wide(spec: &Spec) -> Option<SpecFault>
     requires fine { coarse spec.now ≡ None }
     ensures { result ≡ too_wide spec.now }
 {
-    let need = need(&spec.op)?;
+    let need = spec.op.need()?;
     if need > MAX_WIDTH {
         Some(SpecFault::TooWide { need })
     } else {

@@ -7,10 +7,10 @@ use crate::document::{count_at, flag_at, items_at, number_at, small_at, text_at,
 use crate::form::are_texts;
 use crate::key::{Key, Kind, class_named};
 use crate::range::{coefficient, places_among};
-use crate::spec::{DelayLine, Operator, Pair, Product, Several, Single, Spec, Sum};
 use opgen_list::{Items, Text};
 use opgen_net::Class;
 use opgen_num::Format;
+use opgen_operator::{DelayLine, Operator, Pair, Product, Several, Single, Spec, Sum};
 use std::alloc::{AllocError, Global};
 use toml::{Table, Value};
 

@@ -1,9 +1,9 @@
 ghost use Rattle.std.specs.Prelude.{◌≡◌, IfOk, IsSomeAnd, MatchResult, Some};
 ghost use Rattle.toml.specs.View.{table_view};
 ghost use Rattle.opgen_spec.specs.Document.{tree};
-ghost use Rattle.opgen_spec.specs.Ranges.{IsOperator};
+ghost use Rattle.opgen_operator.specs.Ranges.{IsOperator};
 ghost use Rattle.opgen_spec.specs.Faults.{bad_version, bad_name, bad_kind, form_fault, value_fault, field_fault, read, Gives, IsNoTree};
-ghost use Rattle.opgen_spec.specs.Valid.{IsValidSpec};
+ghost use Rattle.opgen_operator.specs.Valid.{IsValidSpec};
 ghost use Rattle.opgen_spec.specs.Written.{IsAsWritten};
 
 use crate::document::{kind_of, number_at, text_at};
@@ -12,8 +12,7 @@ use crate::key::Key;
 use crate::limits::limit_fault;
 use crate::lines::{Check, check_fault};
 use crate::make::spec_with;
-use crate::spec::Spec;
-use crate::spec_name::is_spec_name;
+use opgen_operator::{Spec, is_spec_name};
 use std::alloc::Global;
 use toml::Table;
 

@@ -9,3 +9,4 @@ pub mod Symbols
 pub mod Grammar
 pub mod Statements
 pub mod Spelled
+pub mod Reader

@@ -9,7 +9,7 @@ use Rattle.opgen_spec.specs.Document.{tree}
 use Rattle.opgen_spec.specs.Faults.{read}
 use Rattle.opgen_spec.specs.Texts.{fault_text}
 use Rattle.opgen_spec.specs.declared.fault.SpecFault.{SpecFault}
-use Rattle.opgen_spec.specs.declared.spec.Spec.{Spec}
+use Rattle.opgen_operator.specs.declared.spec.Spec.{Spec}
 use Rattle.opgen_top.specs.Built.{Multiplication, multiplication}
 use Rattle.opgen_top.specs.declared.line.Line.{Line}
 use Rattle.opgen_top.specs.declared.line.Line.TheVariants.{Usage, ReadFault, TooLong, Unsupported, Refused, Wrote}

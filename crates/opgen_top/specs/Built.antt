@@ -1,13 +1,13 @@
 -- What can be generated so far: an exact product of a few unsigned bits and one whole number, in steps of one.
-use Rattle.std.specs.Prelude.{ℕ, ◌&&◌, ℤ, pos, Bool, true, false, not, List, [], ◌∷◌, codes, Option, Some, None, is_some, if◌then◌else◌, nat_le}
+use Rattle.std.specs.Prelude.{ℕ, ◌&&◌, ℤ, pos, Bool, true, false, not, List, [], ◌∷◌, codes, Option, Some, None, if◌then◌else◌, nat_le}
 use Rattle.std.specs.Ordering.{int_eq}
 use Rattle.std.specs.Str.{bytes_eq}
 use Rattle.opgen_num.specs.declared.format.Format.{Format}
-use Rattle.opgen_spec.specs.declared.spec.Spec.{Spec}
-use Rattle.opgen_spec.specs.declared.spec.DelayLine.{DelayLine}
-use Rattle.opgen_spec.specs.declared.spec.Operator.{Operator}
-use Rattle.opgen_spec.specs.declared.spec.Operator.TheVariants.{Scale}
-use Rattle.opgen_spec.specs.declared.spec.Sum.{Sum}
+use Rattle.opgen_operator.specs.declared.spec.Spec.{Spec}
+use Rattle.opgen_operator.specs.declared.spec.DelayLine.{DelayLine}
+use Rattle.opgen_operator.specs.declared.spec.Operator.{Operator}
+use Rattle.opgen_operator.specs.declared.spec.Operator.TheVariants.{Scale}
+use Rattle.opgen_operator.specs.declared.spec.Sum.{Sum}
 
 -- the bits of the input, and what it is multiplied by
 pub record Multiplication : Type 0 where

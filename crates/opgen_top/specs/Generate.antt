@@ -1,5 +1,5 @@
 -- What `generate` gives.
-use Rattle.std.specs.Prelude.{IsSome, ℕ, ◌≡◌, ◌⊎◌, ◌*◌, Bool, List, [], ◌∷◌, ◌++◌, map, codes, slice_get, All, Option, Some, None, Ok}
+use Rattle.std.specs.Prelude.{IsSome, ℕ, ◌≡◌, ◌⊎◌, ◌*◌, Bool, List, [], ◌∷◌, map, slice_get, All, Option, Some, None, Ok}
 use Rattle.opgen_num.specs.Words.{nat}
 use Rattle.opgen_net.specs.declared.design.Design.{Design}
 use Rattle.opgen_net.specs.Run.{AreWords, Words, Run, input_widths, outputs_of}
@@ -9,7 +9,7 @@ use Rattle.opgen_io.specs.Counts.{Rose}
 use Rattle.opgen_io.specs.Files.{Files, stored, KeepsOthers}
 use Rattle.opgen_spec.specs.Document.{tree}
 use Rattle.opgen_spec.specs.Faults.{read}
-use Rattle.opgen_spec.specs.declared.spec.Spec.{Spec}
+use Rattle.opgen_operator.specs.declared.spec.Spec.{Spec}
 use Rattle.opgen_top.specs.Answer.{file_name}
 use Rattle.opgen_top.specs.Built.{Multiplication, multiplication}
 

@@ -3,7 +3,7 @@ ghost use Rattle.std.specs.Prelude.{◌≡◌, ℕ, List, ◌≤◌, ◌^◌, If
 ghost use Rattle.opgen_net.specs.Names.{is_allowed_name};
 ghost use Rattle.opgen_spec.specs.Document.{tree};
 ghost use Rattle.opgen_spec.specs.Faults.{read};
-ghost use Rattle.opgen_spec.specs.declared.spec.Spec.{Spec as SpecData};
+ghost use Rattle.opgen_operator.specs.declared.spec.Spec.{Spec as SpecData};
 ghost use Rattle.opgen_top.specs.Answer.{answer_of, answer_of_reading, file_name, IsAnswer, refused, wrote};
 ghost use Rattle.opgen_top.specs.Built.{multiplication};
 ghost use Rattle.opgen_top.specs.Generate.{IsCircuitText, IsGenerated};

@@ -1,4 +1,4 @@
-use Rattle.std.proofs.Common.{◌≡◌, sym, subst}
+use Rattle.std.proofs.Common.{sym, subst}
 use Rattle.std.specs.Prelude.{IsTrue}
 use Rattle.opgen_net.specs.Names.{is_allowed_name}
 use Rattle.opgen_top.proofs.Names.{spec_name-allowed}

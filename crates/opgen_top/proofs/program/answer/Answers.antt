@@ -1,4 +1,4 @@
-use Rattle.std.proofs.Common.{◌≡◌, Some, Err, sym, ap, ◌∙◌, subst}
+use Rattle.std.proofs.Common.{Some, Err, sym, ap, ◌∙◌, subst}
 use Rattle.opgen_top.specs.Generate.{Stands}
 use Rattle.opgen_top.proofs.program.answer.Goals as goal
 

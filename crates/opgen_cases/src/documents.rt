@@ -1,0 +1,1002 @@
+//! Documents with a line or two changed, and what `generate` prints for them.
+use crate::running::generated;
+use std::alloc::{AllocError, Global};
+use std::test::Fail;
+
+const SCALE: &str =
+    "version = 1\nname = \"times3\"\nkind = \"scale\"\nexact = true\ntarget = \"plain\"\nperiod = 10000\nsigned = false\nwidth = 4\nlsb = 0\nout_lsb = 0\ncoefficients = [3]\n";
+
+const FILTER: &str =
+    "version = 1\nname = \"times3\"\nkind = \"fir\"\nexact = true\ntarget = \"plain\"\nperiod = 10000\nsigned = false\nwidth = 4\nlsb = 0\nout_lsb = 0\ncoefficients = [4, 8, 3, 1]\ndenominator = 4\n";
+
+const MULTIPLY: &str =
+    "version = 1\nname = \"product\"\nkind = \"multiply\"\nexact = false\ntarget = \"plain\"\nperiod = 1000000\nsigned = false\nwidth_a = 4\nlsb_a = 24\nwidth_b = 4\nlsb_b = 0\nout_lsb = -24\n";
+
+const DIVIDE: &str =
+    "version = 1\nname = \"quotient\"\nkind = \"divide\"\nexact = false\ntarget = \"plain\"\nperiod = 1000000\nwidth_a = 4\nlsb_a = 0\nwidth_b = 4\nlsb_b = 0\nout_lsb = 0\n";
+
+const ROOT: &str =
+    "version = 1\nname = \"root8\"\nkind = \"root\"\nexact = true\ntarget = \"plain\"\nperiod = 1000000\nwidth = 8\nlsb = 0\nout_lsb = 0\n";
+
+const MCM: &str =
+    "version = 1\nname = \"mcm45\"\nkind = \"mcm\"\nexact = true\ntarget = \"plain\"\nperiod = 1000000\nsigned = false\nwidth = 4\nlsb = 0\nconstants = [0]\nextra = 1\n";
+
+/// A line of a document and what stands in its place.
+type Change = (&'static str, &'static str);
+
+/// A change of the scale above, and the fault or the line that is printed.
+type Case = (&'static str, &'static str, &'static str);
+
+static KEYS: [Case; 17] = [
+    ("version = 1", "", "MissingKey version"),
+    ("name = \"times3\"", "", "MissingKey name"),
+    ("kind = \"scale\"", "", "MissingKey kind"),
+    ("exact = true", "", "MissingKey exact"),
+    ("target = \"plain\"", "", "MissingKey target"),
+    ("period = 10000", "", "MissingKey period"),
+    ("signed = false", "", "MissingKey signed"),
+    ("width = 4", "", "MissingKey width"),
+    ("lsb = 0", "", "MissingKey lsb"),
+    ("out_lsb = 0", "", "MissingKey out_lsb"),
+    ("coefficients = [3]", "", "MissingKey coefficients"),
+    (
+        "coefficients = [3]",
+        "coefficients = [3]\nzeta = 1\nalpha = 1",
+        "UnknownKey 0 0",
+    ),
+    (
+        "coefficients = [3]",
+        "coefficients = [3]\nzeta = 1",
+        "UnknownKey 0 11",
+    ),
+    (
+        "coefficients = [3]",
+        "coefficients = [3]\n[[delay]]\nclass = \"add\"\nbase = 100\nper_bit = 10\n[[delay]]\nclass = \"add\"\nbase = 100\nper_bit = 10\ncolour = 1",
+        "UnknownKey 2 2",
+    ),
+    (
+        "coefficients = [3]",
+        "coefficients = [3]\nzz = 1\n[[delay]]\nclass = \"add\"\nbase = 100\nper_bit = 10\naa = 1",
+        "UnknownKey 0 12",
+    ),
+    (
+        "coefficients = [3]",
+        "coefficients = [3]\nwidth_a = 4",
+        "UnknownKey 0 11",
+    ),
+    (
+        "coefficients = [3]",
+        "coefficients = [3]\nextra = 1",
+        "UnknownKey 0 2",
+    ),
+];
+
+static TYPES: [Case; 32] = [
+    ("kind = \"scale\"", "kind = \"wood\"", "BadKind"),
+    ("kind = \"scale\"", "kind = \"Scale\"", "BadKind"),
+    ("version = 1", "version = 1.0", "WrongType version"),
+    ("version = 1", "version = \"1\"", "WrongType version"),
+    ("version = 1", "version = true", "WrongType version"),
+    ("name = \"times3\"", "name = 1", "WrongType name"),
+    ("name = \"times3\"", "name = []", "WrongType name"),
+    ("exact = true", "exact = 1", "WrongType exact"),
+    ("exact = true", "exact = \"true\"", "WrongType exact"),
+    ("target = \"plain\"", "target = 1", "WrongType target"),
+    ("period = 10000", "period = 1e3", "WrongType period"),
+    ("period = 10000", "period = 1979-05-27", "WrongType period"),
+    ("period = 10000", "period = [1]", "WrongType period"),
+    ("signed = false", "signed = 0", "WrongType signed"),
+    ("width = 4", "width = 4.0", "WrongType width"),
+    ("width = 4", "width = \"4\"", "WrongType width"),
+    ("lsb = 0", "lsb = 0.0", "WrongType lsb"),
+    (
+        "coefficients = [3]",
+        "coefficients = 3",
+        "WrongType coefficients",
+    ),
+    (
+        "coefficients = [3]",
+        "coefficients = \"3\"",
+        "WrongType coefficients",
+    ),
+    (
+        "coefficients = [3]",
+        "coefficients = [3.0]",
+        "WrongType coefficients",
+    ),
+    (
+        "coefficients = [3]",
+        "coefficients = [true]",
+        "WrongType coefficients",
+    ),
+    (
+        "coefficients = [3]",
+        "coefficients = [[3]]",
+        "WrongType coefficients",
+    ),
+    (
+        "coefficients = [3]",
+        "coefficients = [1, \"1\"]",
+        "WrongType coefficients",
+    ),
+    (
+        "coefficients = [3]",
+        "coefficients = [\"1\", 1]",
+        "WrongType coefficients",
+    ),
+    (
+        "coefficients = [3]",
+        "coefficients = { a = 1 }",
+        "WrongType coefficients",
+    ),
+    (
+        "coefficients = [3]",
+        "coefficients = [3]\ndenominator = \"1\"",
+        "WrongType denominator",
+    ),
+    (
+        "coefficients = [3]",
+        "coefficients = [3]\ndenominator = 1.0",
+        "WrongType denominator",
+    ),
+    (
+        "coefficients = [3]",
+        "coefficients = [3]\ndelay = 5",
+        "WrongType delay",
+    ),
+    (
+        "coefficients = [3]",
+        "coefficients = [3]\ndelay = \"x\"",
+        "WrongType delay",
+    ),
+    (
+        "coefficients = [3]",
+        "coefficients = [3]\ndelay = [1]",
+        "WrongType delay",
+    ),
+    (
+        "coefficients = [3]",
+        "coefficients = [3]\ndelay = [[]]",
+        "WrongType delay",
+    ),
+    (
+        "coefficients = [3]",
+        "coefficients = [3]\ndelay = { class = 'add', base = 1, per_bit = 1 }",
+        "WrongType delay",
+    ),
+];
+
+static NAMES: [Case; 27] = [
+    ("name = \"times3\"", "name = \"x\"", "BadName"),
+    ("name = \"times3\"", "name = \"\"", "BadName"),
+    ("name = \"times3\"", "name = \"X1\"", "BadName"),
+    ("name = \"times3\"", "name = \"1a\"", "BadName"),
+    ("name = \"times3\"", "name = \"a_\"", "BadName"),
+    ("name = \"times3\"", "name = \"_a\"", "BadName"),
+    ("name = \"times3\"", "name = \"a__b\"", "BadName"),
+    ("name = \"times3\"", "name = \"a-b\"", "BadName"),
+    ("name = \"times3\"", "name = \"entity\"", "BadName"),
+    ("name = \"times3\"", "name = \"signal\"", "BadName"),
+    ("name = \"times3\"", "name = \"std\"", "BadName"),
+    ("name = \"times3\"", "name = \"rtl\"", "BadName"),
+    ("name = \"times3\"", "name = \"clk\"", "BadName"),
+    ("name = \"times3\"", "name = \"ce\"", "BadName"),
+    (
+        "name = \"times3\"",
+        "name = \"s\"",
+        "wrote s.vhd, latency 0",
+    ),
+    ("name = \"times3\"", "name = \"s1\"", "BadName"),
+    ("name = \"times3\"", "name = \"s12\"", "BadName"),
+    (
+        "name = \"times3\"",
+        "name = \"s1_1\"",
+        "wrote s1_1.vhd, latency 0",
+    ),
+    ("name = \"times3\"", "name = \"y7\"", "BadName"),
+    (
+        "name = \"times3\"",
+        "name = \"y8\"",
+        "wrote y8.vhd, latency 0",
+    ),
+    (
+        "name = \"times3\"",
+        "name = \"y10\"",
+        "wrote y10.vhd, latency 0",
+    ),
+    ("name = \"times3\"", "name = \"q\"", "BadName"),
+    ("name = \"times3\"", "name = \"r\"", "BadName"),
+    (
+        "name = \"times3\"",
+        "name = \"aaaaaaaaaaaaaaaaaaaaaaaaaaaaaaaa\"",
+        "wrote aaaaaaaaaaaaaaaaaaaaaaaaaaaaaaaa.vhd, latency 0",
+    ),
+    (
+        "name = \"times3\"",
+        "name = \"aaaaaaaaaaaaaaaaaaaaaaaaaaaaaaaaa\"",
+        "BadName",
+    ),
+    (
+        "name = \"times3\"",
+        "name = \"default\"",
+        "wrote default.vhd, latency 0",
+    ),
+    ("name = \"times3\"", "name = \"café\"", "BadName"),
+];
+
+static RANGES: [Case; 36] = [
+    ("target = \"plain\"", "target = \"\"", "OutOfRange target 0"),
+    (
+        "target = \"plain\"",
+        "target = \"tttttttttttttttttttttttttttttttt\"",
+        "Unsupported",
+    ),
+    (
+        "target = \"plain\"",
+        "target = \"ttttttttttttttttttttttttttttttttt\"",
+        "OutOfRange target 33",
+    ),
+    ("period = 10000", "period = 0", "OutOfRange period 0"),
+    ("period = 10000", "period = 1", "Unsupported"),
+    ("period = 10000", "period = 999", "Unsupported"),
+    (
+        "period = 10000",
+        "period = 1000",
+        "wrote times3.vhd, latency 0",
+    ),
+    (
+        "period = 10000",
+        "period = 1000000",
+        "wrote times3.vhd, latency 0",
+    ),
+    (
+        "period = 10000",
+        "period = 1000001",
+        "OutOfRange period 1000001",
+    ),
+    ("period = 10000", "period = -5", "OutOfRange period -5"),
+    ("width = 4", "width = 0", "OutOfRange width 0"),
+    ("width = 4", "width = 1", "wrote times3.vhd, latency 0"),
+    ("width = 4", "width = 6", "wrote times3.vhd, latency 0"),
+    ("width = 4", "width = 7", "Unsupported"),
+    ("width = 4", "width = 32", "Unsupported"),
+    ("width = 4", "width = 33", "OutOfRange width 33"),
+    ("width = 4", "width = -1", "OutOfRange width -1"),
+    ("lsb = 0", "lsb = -33", "OutOfRange lsb -33"),
+    ("lsb = 0", "lsb = -32", "NotExact 0"),
+    ("lsb = 0", "lsb = 32", "Unsupported"),
+    ("lsb = 0", "lsb = 33", "OutOfRange lsb 33"),
+    ("out_lsb = 0", "out_lsb = -33", "OutOfRange out_lsb -33"),
+    ("out_lsb = 0", "out_lsb = 33", "OutOfRange out_lsb 33"),
+    (
+        "coefficients = [3]",
+        "coefficients = []",
+        "OutOfRange coefficients 0",
+    ),
+    (
+        "coefficients = [3]",
+        "coefficients = [1, 2]",
+        "OutOfRange coefficients 2",
+    ),
+    ("coefficients = [3]", "coefficients = [0]", "Unsupported"),
+    ("coefficients = [3]", "coefficients = [-1]", "Unsupported"),
+    (
+        "coefficients = [3]",
+        "coefficients = [1073741824]",
+        "wrote times3.vhd, latency 0",
+    ),
+    (
+        "coefficients = [3]",
+        "coefficients = [1073741825]",
+        "OutOfRange coefficients 1073741825",
+    ),
+    (
+        "coefficients = [3]",
+        "coefficients = [-1073741824]",
+        "Unsupported",
+    ),
+    (
+        "coefficients = [3]",
+        "coefficients = [-1073741825]",
+        "OutOfRange coefficients -1073741825",
+    ),
+    (
+        "coefficients = [3]",
+        "coefficients = [3]\ndenominator = 0",
+        "OutOfRange denominator 0",
+    ),
+    (
+        "coefficients = [3]",
+        "coefficients = [3]\ndenominator = 1",
+        "wrote times3.vhd, latency 0",
+    ),
+    (
+        "coefficients = [3]",
+        "coefficients = [3]\ndenominator = -1",
+        "OutOfRange denominator -1",
+    ),
+    (
+        "coefficients = [3]",
+        "coefficients = [3]\ndenominator = 1073741824",
+        "NotExact 0",
+    ),
+    (
+        "coefficients = [3]",
+        "coefficients = [3]\ndenominator = 1073741825",
+        "OutOfRange denominator 1073741825",
+    ),
+];
+
+static DELAYS: [Case; 10] = [
+    (
+        "coefficients = [3]",
+        "coefficients = [3]\ndelay = []",
+        "wrote times3.vhd, latency 0",
+    ),
+    (
+        "coefficients = [3]",
+        "coefficients = [3]\n[[delay]]\nclass = \"add\"\nbase = 100\nper_bit = 10\n[[delay]]\nclass = \"wood\"\nbase = 100\nper_bit = 10",
+        "OutOfRange class 2 2",
+    ),
+    (
+        "coefficients = [3]",
+        "coefficients = [3]\n[[delay]]\nclass = \"add\"\nbase = 100\nper_bit = 10\n[[delay]]\nclass = 1\nbase = 100\nper_bit = 10",
+        "WrongType class 2",
+    ),
+    (
+        "coefficients = [3]",
+        "coefficients = [3]\n[[delay]]\nclass = \"add\"\nbase = 100\nper_bit = 10\n[[delay]]\nclass = \"add\"\nper_bit = 10",
+        "MissingKey base 2",
+    ),
+    (
+        "coefficients = [3]",
+        "coefficients = [3]\n[[delay]]\nclass = \"add\"\nbase = 100\nper_bit = 10\n[[delay]]\nclass = \"add\"\nbase = -1\nper_bit = 10",
+        "OutOfRange base 2 -1",
+    ),
+    (
+        "coefficients = [3]",
+        "coefficients = [3]\n[[delay]]\nclass = \"add\"\nbase = 100\nper_bit = 10\n[[delay]]\nclass = \"add\"\nbase = 1000000\nper_bit = 10",
+        "Unsupported",
+    ),
+    (
+        "coefficients = [3]",
+        "coefficients = [3]\n[[delay]]\nclass = \"add\"\nbase = 100\nper_bit = 10\n[[delay]]\nclass = \"add\"\nbase = 1000001\nper_bit = 10",
+        "OutOfRange base 2 1000001",
+    ),
+    (
+        "coefficients = [3]",
+        "coefficients = [3]\n[[delay]]\nclass = \"add\"\nbase = 100\nper_bit = 10\n[[delay]]\nclass = \"add\"\nbase = 100\nper_bit = 10000",
+        "Unsupported",
+    ),
+    (
+        "coefficients = [3]",
+        "coefficients = [3]\n[[delay]]\nclass = \"add\"\nbase = 100\nper_bit = 10\n[[delay]]\nclass = \"add\"\nbase = 100\nper_bit = 10001",
+        "OutOfRange per_bit 2 10001",
+    ),
+    (
+        "coefficients = [3]",
+        "coefficients = [3]\n[[delay]]\nclass = \"add\"\nbase = 100\nper_bit = 10\n[[delay]]\nbase = 100\nper_bit = 10",
+        "MissingKey class 2",
+    ),
+];
+
+static OTHERS: [Case; 9] = [
+    ("version = 1", "version = 0", "BadVersion 0"),
+    ("version = 1", "version = 3", "BadVersion 3"),
+    ("version = 1", "version = -1", "BadVersion -1"),
+    (
+        "version = 1",
+        "version = 9223372036854775807",
+        "BadVersion 9223372036854775807",
+    ),
+    ("version = 1", "version = 9223372036854775808", "NotToml"),
+    (
+        "coefficients = [3]",
+        "coefficients = [\"0.5\"]\ndenominator = 1",
+        "WrongType denominator",
+    ),
+    (
+        "coefficients = [3]",
+        "coefficients = [1]\ndenominator = 3",
+        "NotExact 0",
+    ),
+    (
+        "period = 10000",
+        "period = 10000000000000000000000000000000000000000",
+        "NotToml",
+    ),
+    (
+        "coefficients = [3]",
+        "coefficients = [3]\ncolour = [[[[[[[[[[[[[[[[[[[[[[[[[[[[[[[[[[[[[[[[[[[[[[[[[[[[[[[[[[[[[[[[[[[[[[[[[[[[[[[[[[[[[[[[[[]]]]]]]]]]]]]]]]]]]]]]]]]]]]]]]]]]]]]]]]]]]]]]]]]]]]]]]]]]]]]]]]]]]]]]]]]]]]]]]]]]]]]]]]]]",
+        "NotToml",
+    ),
+];
+
+/// Further documents, their changes, and the faults or the lines that are printed.
+static FURTHER: [(&str, &[Change], &str); 67] = [
+    (
+        SCALE,
+        &[
+            ("period = 10000", ""),
+            ("coefficients = [3]", "coefficients = [3]\ncolour = 1"),
+        ],
+        "UnknownKey 0 1",
+    ),
+    (
+        SCALE,
+        &[
+            ("kind = \"scale\"", ""),
+            ("coefficients = [3]", "coefficients = [3]\nconstants = [1]"),
+        ],
+        "MissingKey kind",
+    ),
+    (
+        SCALE,
+        &[
+            ("kind = \"scale\"", "kind = 7"),
+            ("coefficients = [3]", "coefficients = [3]\nconstants = [1]"),
+        ],
+        "WrongType kind",
+    ),
+    (
+        SCALE,
+        &[("version = 1", "version = 2"), ("width = 4", "width = 33")],
+        "BadVersion 2",
+    ),
+    (
+        SCALE,
+        &[
+            ("signed = false", "signed = true"),
+            ("width = 4", "width = 1"),
+        ],
+        "OutOfRange width 1",
+    ),
+    (
+        SCALE,
+        &[
+            ("exact = true", "exact = false"),
+            ("coefficients = [3]", "coefficients = [\"0.5\"]"),
+        ],
+        "Unsupported",
+    ),
+    (
+        SCALE,
+        &[
+            ("exact = true", "exact = false"),
+            ("coefficients = [3]", "coefficients = [\"-0.5\"]"),
+        ],
+        "Unsupported",
+    ),
+    (
+        SCALE,
+        &[
+            ("exact = true", "exact = false"),
+            ("coefficients = [3]", "coefficients = [\".5\"]"),
+        ],
+        "WrongType coefficients",
+    ),
+    (
+        SCALE,
+        &[
+            ("exact = true", "exact = false"),
+            ("coefficients = [3]", "coefficients = [\"1.\"]"),
+        ],
+        "WrongType coefficients",
+    ),
+    (
+        SCALE,
+        &[
+            ("exact = true", "exact = false"),
+            ("coefficients = [3]", "coefficients = [\"1.0000000000\"]"),
+        ],
+        "WrongType coefficients",
+    ),
+    (
+        SCALE,
+        &[
+            ("exact = true", "exact = false"),
+            ("coefficients = [3]", "coefficients = [\"123456789\"]"),
+        ],
+        "Unsupported",
+    ),
+    (
+        SCALE,
+        &[
+            ("exact = true", "exact = false"),
+            ("coefficients = [3]", "coefficients = [\"1234567890\"]"),
+        ],
+        "WrongType coefficients",
+    ),
+    (
+        SCALE,
+        &[
+            ("exact = true", "exact = false"),
+            ("coefficients = [3]", "coefficients = [\"0.00000001\"]"),
+        ],
+        "Unsupported",
+    ),
+    (
+        SCALE,
+        &[
+            ("exact = true", "exact = false"),
+            ("coefficients = [3]", "coefficients = [\"-\"]"),
+        ],
+        "WrongType coefficients",
+    ),
+    (
+        SCALE,
+        &[
+            ("exact = true", "exact = false"),
+            ("coefficients = [3]", "coefficients = [\"+1\"]"),
+        ],
+        "WrongType coefficients",
+    ),
+    (
+        SCALE,
+        &[
+            ("exact = true", "exact = false"),
+            ("coefficients = [3]", "coefficients = [\"1e3\"]"),
+        ],
+        "WrongType coefficients",
+    ),
+    (
+        SCALE,
+        &[
+            ("exact = true", "exact = false"),
+            ("coefficients = [3]", "coefficients = [\" 1\"]"),
+        ],
+        "WrongType coefficients",
+    ),
+    (
+        SCALE,
+        &[
+            ("exact = true", "exact = false"),
+            ("coefficients = [3]", "coefficients = [\"\"]"),
+        ],
+        "WrongType coefficients",
+    ),
+    (
+        SCALE,
+        &[
+            ("exact = true", "exact = false"),
+            ("coefficients = [3]", "coefficients = [\"--1\"]"),
+        ],
+        "WrongType coefficients",
+    ),
+    (
+        SCALE,
+        &[
+            ("exact = true", "exact = false"),
+            ("coefficients = [3]", "coefficients = [\"00.5\"]"),
+        ],
+        "Unsupported",
+    ),
+    (
+        SCALE,
+        &[
+            ("exact = true", "exact = false"),
+            ("coefficients = [3]", "coefficients = [\"-0\"]"),
+        ],
+        "Unsupported",
+    ),
+    (
+        SCALE,
+        &[
+            ("exact = true", "exact = false"),
+            ("coefficients = [3]", "coefficients = [\"1073741825\"]"),
+        ],
+        "WrongType coefficients",
+    ),
+    (
+        SCALE,
+        &[
+            ("exact = true", "exact = false"),
+            ("coefficients = [3]", "coefficients = [\"107.374183\"]"),
+        ],
+        "Unsupported",
+    ),
+    (
+        SCALE,
+        &[
+            ("exact = true", "exact = false"),
+            ("coefficients = [3]", "coefficients = [\"٣\"]"),
+        ],
+        "WrongType coefficients",
+    ),
+    (
+        FILTER,
+        &[
+            ("exact = true", "exact = false"),
+            (
+                "coefficients = [4, 8, 3, 1]",
+                "coefficients = [\"1\", \"0.5\", \"0.25\"]",
+            ),
+            ("denominator = 4", ""),
+        ],
+        "Unsupported",
+    ),
+    (
+        FILTER,
+        &[
+            ("exact = true", "exact = false"),
+            (
+                "coefficients = [4, 8, 3, 1]",
+                "coefficients = [\"1100\", \"0.000001\"]",
+            ),
+            ("denominator = 4", ""),
+        ],
+        "OutOfRange coefficients 1100000000",
+    ),
+    (FILTER, &[], "NotExact 2"),
+    (
+        SCALE,
+        &[("lsb = 0", "lsb = -32"), ("out_lsb = 0", "out_lsb = 17")],
+        "NotExact 0",
+    ),
+    (
+        SCALE,
+        &[
+            ("exact = true", "exact = false"),
+            ("lsb = 0", "lsb = -24"),
+            ("out_lsb = 0", "out_lsb = 24"),
+        ],
+        "Unsupported",
+    ),
+    (
+        SCALE,
+        &[
+            ("exact = true", "exact = false"),
+            ("lsb = 0", "lsb = -24"),
+            ("out_lsb = 0", "out_lsb = 25"),
+        ],
+        "Coarse -49",
+    ),
+    (
+        SCALE,
+        &[("lsb = 0", "lsb = 24"), ("out_lsb = 0", "out_lsb = -24")],
+        "Unsupported",
+    ),
+    (
+        SCALE,
+        &[("lsb = 0", "lsb = 24"), ("out_lsb = 0", "out_lsb = -25")],
+        "Coarse 49",
+    ),
+    (
+        SCALE,
+        &[("lsb = 0", "lsb = 32"), ("out_lsb = 0", "out_lsb = -32")],
+        "Coarse 64",
+    ),
+    (
+        MULTIPLY,
+        &[
+            ("lsb_a = 24", "lsb_a = -24"),
+            ("out_lsb = -24", "out_lsb = 24"),
+        ],
+        "Unsupported",
+    ),
+    (
+        MULTIPLY,
+        &[
+            ("lsb_a = 24", "lsb_a = -24"),
+            ("lsb_b = 0", "lsb_b = -1"),
+            ("out_lsb = -24", "out_lsb = 24"),
+        ],
+        "Coarse -49",
+    ),
+    (MULTIPLY, &[], "Unsupported"),
+    (MULTIPLY, &[("lsb_b = 0", "lsb_b = 1")], "Coarse 49"),
+    (
+        MULTIPLY,
+        &[
+            ("exact = false", "exact = true"),
+            ("lsb_a = 24", "lsb_a = 0"),
+            ("out_lsb = -24", "out_lsb = 4"),
+        ],
+        "NotExact 0",
+    ),
+    (DIVIDE, &[("lsb_b = 0", "lsb_b = 1")], "Coarse -1"),
+    (DIVIDE, &[], "Unsupported"),
+    (
+        DIVIDE,
+        &[
+            ("lsb_a = 0", "lsb_a = 24"),
+            ("out_lsb = 0", "out_lsb = -24"),
+        ],
+        "Unsupported",
+    ),
+    (
+        DIVIDE,
+        &[
+            ("lsb_a = 0", "lsb_a = 24"),
+            ("lsb_b = 0", "lsb_b = -1"),
+            ("out_lsb = 0", "out_lsb = -24"),
+        ],
+        "Coarse 49",
+    ),
+    (ROOT, &[("lsb = 0", "lsb = -1")], "Coarse -1"),
+    (ROOT, &[], "Unsupported"),
+    (ROOT, &[("out_lsb = 0", "out_lsb = -24")], "Unsupported"),
+    (
+        ROOT,
+        &[("lsb = 0", "lsb = 1"), ("out_lsb = 0", "out_lsb = -24")],
+        "Coarse 49",
+    ),
+    (
+        SCALE,
+        &[
+            ("width = 4", "width = 32"),
+            ("lsb = 0", "lsb = 3"),
+            ("coefficients = [3]", "coefficients = [1073741824]"),
+        ],
+        "TooWide 65",
+    ),
+    (
+        SCALE,
+        &[
+            ("width = 4", "width = 32"),
+            ("lsb = 0", "lsb = 32"),
+            ("out_lsb = 0", "out_lsb = -16"),
+            ("coefficients = [3]", "coefficients = [1073741824]"),
+        ],
+        "TooWide 110",
+    ),
+    (
+        MULTIPLY,
+        &[
+            ("width_a = 4", "width_a = 32"),
+            ("lsb_a = 24", "lsb_a = 1"),
+            ("width_b = 4", "width_b = 32"),
+            ("out_lsb = -24", "out_lsb = 0"),
+        ],
+        "TooWide 65",
+    ),
+    (
+        DIVIDE,
+        &[("width_a = 4", "width_a = 32"), ("lsb_a = 0", "lsb_a = 32")],
+        "Unsupported",
+    ),
+    (
+        DIVIDE,
+        &[
+            ("width_a = 4", "width_a = 17"),
+            ("lsb_a = 0", "lsb_a = 32"),
+            ("lsb_b = 0", "lsb_b = -16"),
+        ],
+        "TooWide 65",
+    ),
+    (
+        DIVIDE,
+        &[("out_lsb = 0", "out_lsb = 0\nsigned = false")],
+        "UnknownKey 0 7",
+    ),
+    (
+        MCM,
+        &[("constants = [0]", "constants = []")],
+        "OutOfRange constants 0",
+    ),
+    (MCM, &[], "Unsupported"),
+    (
+        MCM,
+        &[("constants = [0]", "constants = [2047]")],
+        "Unsupported",
+    ),
+    (
+        MCM,
+        &[("constants = [0]", "constants = [2048]")],
+        "OutOfRange constants 2048",
+    ),
+    (
+        MCM,
+        &[("constants = [0]", "constants = [-2047]")],
+        "Unsupported",
+    ),
+    (
+        MCM,
+        &[("constants = [0]", "constants = [-2048]")],
+        "OutOfRange constants -2048",
+    ),
+    (
+        MCM,
+        &[("constants = [0]", "constants = [1, 2, 3, 4, 5, 6, 7, 8, 9]")],
+        "OutOfRange constants 9",
+    ),
+    (
+        MCM,
+        &[("constants = [0]", "constants = [\"1\"]")],
+        "WrongType constants",
+    ),
+    (
+        MCM,
+        &[
+            ("constants = [0]", "constants = [45]"),
+            ("extra = 1", "extra = -1"),
+        ],
+        "OutOfRange extra -1",
+    ),
+    (
+        MCM,
+        &[
+            ("constants = [0]", "constants = [45]"),
+            ("extra = 1", "extra = 0"),
+        ],
+        "Unsupported",
+    ),
+    (
+        MCM,
+        &[
+            ("constants = [0]", "constants = [45]"),
+            ("extra = 1", "extra = 2"),
+        ],
+        "Unsupported",
+    ),
+    (
+        MCM,
+        &[
+            ("constants = [0]", "constants = [45]"),
+            ("extra = 1", "extra = 3"),
+        ],
+        "OutOfRange extra 3",
+    ),
+    (
+        MCM,
+        &[
+            ("constants = [0]", "constants = [45]"),
+            ("extra = 1", "extra = 1\nout_lsb = 0"),
+        ],
+        "UnknownKey 0 6",
+    ),
+    (
+        SCALE,
+        &[
+            ("width = 4", "width = 33"),
+            (
+                "coefficients = [3]",
+                "coefficients = [3]\n[[delay]]\nclass = \"add\"\nbase = -1\nper_bit = 10",
+            ),
+        ],
+        "OutOfRange width 33",
+    ),
+    (
+        SCALE,
+        &[
+            ("width = 4", "width = \"x\""),
+            (
+                "coefficients = [3]",
+                "coefficients = [3]\n[[delay]]\nclass = \"add\"\nper_bit = 10",
+            ),
+        ],
+        "MissingKey base 1",
+    ),
+];
+
+/// The document with its changes; an empty text takes a line away.
+fn changed(alloc: Global, document: &str, changes: &[(&str, &str)]) -> Result<String, AllocError> {
+    let mut text = String::new(alloc);
+    for line in document.lines() {
+        let change = changes.iter().find(|change| change.0 == line);
+        let new = change.map_or(line, |change| change.1);
+        if !new.is_empty() {
+            text.push_str(new)?;
+            text.push('\n')?;
+        }
+    }
+    Ok(text)
+}
+
+/// Whether `generate` answers a specification with this fault or line.
+fn answers(alloc: Global, spec: &str, answer: &str) -> Result<bool, AllocError> {
+    let ran = generated(alloc, spec)?;
+    let line = if answer.starts_with("wrote") {
+        format!(in alloc; "{answer}\n")?
+    } else {
+        format!(in alloc; "specification: {answer}\n")?
+    };
+    let status = if answer.starts_with("wrote") { 0 } else { 1 };
+    Ok(ran.status.0 == status && ran.out.bytes() == line.as_bytes())
+}
+
+/// The number of the first case that is answered otherwise.
+fn first_wrong(alloc: Global, cases: &[Case]) -> Result<Option<usize>, AllocError> {
+    for (number, (line, new, answer)) in cases.iter().enumerate() {
+        let spec = changed(alloc, SCALE, &[(line, new)])?;
+        if !answers(alloc, &spec, answer)? {
+            return Ok(Some(number));
+        }
+    }
+    Ok(None)
+}
+
+#[test]
+fn keys(rt: HostRuntime) -> Result<(), Fail> {
+    assert_eq!(rt; first_wrong(rt.alloc(), &KEYS)?, None);
+    Ok(())
+}
+
+#[test]
+fn types(rt: HostRuntime) -> Result<(), Fail> {
+    assert_eq!(rt; first_wrong(rt.alloc(), &TYPES)?, None);
+    Ok(())
+}
+
+#[test]
+fn names(rt: HostRuntime) -> Result<(), Fail> {
+    assert_eq!(rt; first_wrong(rt.alloc(), &NAMES)?, None);
+    Ok(())
+}
+
+#[test]
+fn ranges(rt: HostRuntime) -> Result<(), Fail> {
+    assert_eq!(rt; first_wrong(rt.alloc(), &RANGES)?, None);
+    Ok(())
+}
+
+#[test]
+fn delays(rt: HostRuntime) -> Result<(), Fail> {
+    assert_eq!(rt; first_wrong(rt.alloc(), &DELAYS)?, None);
+    Ok(())
+}
+
+#[test]
+fn others(rt: HostRuntime) -> Result<(), Fail> {
+    assert_eq!(rt; first_wrong(rt.alloc(), &OTHERS)?, None);
+    Ok(())
+}
+
+#[test]
+fn further(rt: HostRuntime) -> Result<(), Fail> {
+    for (document, changes, answer) in &FURTHER {
+        let spec = changed(rt.alloc(), document, changes)?;
+        assert!(rt; answers(rt.alloc(), &spec, answer)?);
+    }
+    Ok(())
+}
+
+/// A unit so many times between two texts.
+fn repeated(
+    alloc: Global,
+    before: &str,
+    unit: &str,
+    count: u32,
+    after: &str,
+) -> Result<String, AllocError> {
+    let mut text = String::from_str(alloc, before)?;
+    for _ in 0..count {
+        text.push_str(unit)?;
+    }
+    text.push_str(after)?;
+    Ok(text)
+}
+
+/// An element of an exact filter of words of 32 bits, how many stand in its list, and the fault.
+static ELEMENTS: [(&str, u32, &str); 5] = [
+    ("1, ", 257, "OutOfRange coefficients 257"),
+    ("1, ", 256, "Unsupported"),
+    ("16777215, ", 256, "Unsupported"),
+    ("16777216, ", 256, "Unsupported"),
+    ("16777218, ", 256, "TooWide 65"),
+];
+
+#[test]
+fn long_filters(rt: HostRuntime) -> Result<(), Fail> {
+    for (element, count, answer) in &ELEMENTS {
+        let list = repeated(rt.alloc(), "coefficients = [", element, *count, "]")?;
+        let changes: [(&str, &str); 3] = [
+            ("width = 4", "width = 32"),
+            ("coefficients = [4, 8, 3, 1]", &list),
+            ("denominator = 4", ""),
+        ];
+        let spec = changed(rt.alloc(), FILTER, &changes)?;
+        assert!(rt; answers(rt.alloc(), &spec, answer)?);
+    }
+    Ok(())
+}
+
+#[test]
+fn many_delay_lines(rt: HostRuntime) -> Result<(), Fail> {
+    let line = "[[delay]]\nclass = \"add\"\nbase = 100\nper_bit = 10\n";
+    let sixteen = repeated(rt.alloc(), SCALE, line, 16, "")?;
+    assert!(rt; answers(rt.alloc(), &sixteen, "Unsupported")?);
+    let seventeen = repeated(rt.alloc(), SCALE, line, 17, "")?;
+    assert!(rt; answers(rt.alloc(), &seventeen, "OutOfRange delay 17")?);
+    Ok(())
+}

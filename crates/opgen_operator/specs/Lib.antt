@@ -1,0 +1,5 @@
+pub mod SpecName
+pub mod Outputs
+pub mod Ports
+pub mod Ranges
+pub mod Valid

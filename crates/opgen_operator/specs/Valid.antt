@@ -1,0 +1,38 @@
+-- Valid specifications: their fields are within the ranges of their keys, and they have a net.
+use Rattle.std.specs.Prelude.{ℕ, ◌≡◌, ◌≤◌, ◌≤ℤ◌, Bool, IsTrue, length, All, Some, None}
+use Rattle.opgen_num.specs.declared.TheConstants.{MAX_WIDTH}
+use Rattle.opgen_operator.specs.declared.TheConstants.{MAX_SHIFT}
+use Rattle.opgen_operator.specs.declared.spec.Spec.{Spec}
+use Rattle.opgen_operator.specs.declared.spec.DelayLine.{DelayLine}
+use Rattle.opgen_operator.specs.declared.spec.Operator.{Operator}
+use Rattle.opgen_operator.specs.declared.spec.Operator.TheVariants.{Scale, Fir, Multiply, Divide, Root, Mcm}
+use Rattle.opgen_operator.specs.Outputs.{inexact, shift, least_shift, need}
+use Rattle.opgen_operator.specs.Ranges.{IsOperator}
+use Rattle.opgen_operator.specs.SpecName.{is_spec_name}
+
+-- the operator's own mark of exact outputs, where it has one, is that of the specification
+abbrev pub AgreesOnExact : Bool → Operator → Type 0
+AgreesOnExact exact (Scale s) = s.exact ≡ exact
+AgreesOnExact exact (Fir s) = s.exact ≡ exact
+AgreesOnExact exact (Multiply p) = Unit {0}
+AgreesOnExact exact (Divide p) = p.exact ≡ exact
+AgreesOnExact exact (Root r) = r.exact ≡ exact
+AgreesOnExact exact (Mcm m) = Unit {0}
+
+abbrev pub IsDelayLine : DelayLine → Type 0
+IsDelayLine line = (line.base ≤ 1000000) × (line.per_bit ≤ 10000)
+
+pub record IsValidSpec (spec : Spec) : Type 0 where
+  pub version : spec.version ≡ 1
+  pub name : IsTrue (is_spec_name spec.name)
+  pub op : IsOperator spec.op
+  pub agrees : AgreesOnExact spec.exact spec.op
+  pub target : (1 ≤ length spec.target) × (length spec.target ≤ 32)
+  pub period : (1 ≤ spec.period) × (spec.period ≤ 1000000)
+  pub few_lines : length spec.delays ≤ 16
+  pub lines : All IsDelayLine spec.delays
+  -- exact outputs are asked for only where the exact values are whole
+  pub has_exact : IsTrue spec.exact → inexact spec.op ≡ None
+  pub fine : (least_shift spec.op ≤ℤ shift spec.op) × (shift spec.op ≤ℤ MAX_SHIFT)
+  -- the widest signal is no wider than a signal may be
+  pub narrow : (bits : ℕ) → need spec.op ≡ Some bits → bits ≤ MAX_WIDTH

@@ -1,0 +1,14 @@
+//! Operators: what a specification asks for, and what its good outputs are.
+#![tactic(auto)]
+
+mod outputs;
+mod ports;
+mod spec;
+mod spec_name;
+
+pub use spec::{DelayLine, Operator, Pair, PortFormat, Product, Several, Single, Spec, Sum};
+pub use spec_name::{MAX_SPEC_NAME_LEN, is_spec_name};
+
+/// The greatest shift of an operator: the power of two that brings its exact value into units of
+/// the output's last place.
+pub const MAX_SHIFT: i32 = 48;

@@ -1,0 +1,9 @@
+use Rattle.std.proofs.Common.{refl, rules}
+use Rattle.opgen_vec.proofs.Rows.{whole}
+use Rattle.opgen_vec.proofs.read.read_vectors.Goals as goal
+
+pub returns-in_err-cells-clause-bad_line : goal.returns-in_err-cells-clause-bad_line
+returns-in_err-cells-clause-bad_line c line e = c.in_err-cells.ensures.bad_line line (search rules)
+
+pub invariant_of-result : goal.invariant_of-result
+invariant_of-result c = rw c.from_vec.ensures record { whole = whole _ _ _ _ refl c.in_ok-cells.ensures.rows.rows }

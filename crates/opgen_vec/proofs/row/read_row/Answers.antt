@@ -1,0 +1,16 @@
+use Rattle.std.proofs.Common.{◌≤◌, take, ap, ◌∙◌, subst, arith}
+use Rattle.std.proofs.Math.Seq.{take-append_seam}
+use Rattle.std.specs.Prelude.{All}
+use Rattle.std.proofs.lemmas.List.Elements.{All-tail}
+use Rattle.opgen_vec.proofs.Words.{first_cells}
+use Rattle.opgen_vec.proofs.row.read_row.Goals as goal
+
+pub loop-width-init : goal.loop-width-init
+loop-width-init c =
+    let (widths, len) = c.in-Some.ensures.cases in
+    record {
+      cells = first_cells _ _ _ _ _ _ _ _ widths c.in-Some-word_at.ensures c.in_ok-push.ensures.items c.digit_count.ensures;
+      same = ap (take _) c.in_ok-push.ensures.items ∙ take-append_seam _ _;
+      kept = omega (arith, c.in_ok-push.ensures.len);
+      narrow = All-tail (λ width. width ≤ 64) _ _ (subst (All (λ width. width ≤ 64)) widths c.requires);
+    }

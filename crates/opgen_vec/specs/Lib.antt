@@ -1,0 +1,6 @@
+pub mod Rows
+pub mod Digits
+pub mod Reading
+pub mod Writing
+pub mod Fault
+pub mod Stimulus

@@ -1,0 +1,39 @@
+-- What a file of vectors holds: a row a line. Lines end by a line feed, which may follow a carriage return; the last line may have none.
+use Rattle.std.specs.Prelude.{ℕ, ◌≡◌, ◌-◌, ◌≤◌, ◌<◌, List, [], ◌∷◌, length, take, drop, slice_get, IsSomeAnd}
+use Rattle.std.specs.Str.{str_to_ascii_lowercase}
+use Rattle.opgen_vec.specs.declared.TheConstants.{MAX_ROWS}
+use Rattle.opgen_vec.specs.Rows.{row_text, AreCells}
+
+-- the line is the text of these cells, but that its letters may be capitals
+abbrev pub IsRow : (widths cells line : List ℕ) → Type 0
+IsRow widths cells line = AreCells widths cells × (str_to_ascii_lowercase line ≡ row_text widths cells)
+
+-- the lines are the rows of these cells, row after row
+abbrev pub AreRows : (widths cells : List ℕ) (lines : List (List ℕ)) → Type 0
+AreRows widths cells [] = cells ≡ []
+AreRows widths cells (line ∷ lines) = IsRow widths (take (length widths) cells) line × AreRows widths (drop (length widths) cells) lines
+
+-- each line is a row
+abbrev pub AreGood : (widths : List ℕ) (lines : List (List ℕ)) → Type 0
+AreGood widths lines = (cells : List ℕ) × AreRows widths cells lines
+
+-- the line is no row
+abbrev pub IsBad : (widths line : List ℕ) → Type 0
+IsBad widths line = (cells : List ℕ) → IsRow widths cells line → ⊥
+
+-- all lines are rows, and there are not too many
+pub record AreVectors (widths cells : List ℕ) (lines : List (List ℕ)) : Type 0 where
+  pub few : length lines ≤ MAX_ROWS
+  pub rows : AreRows widths cells lines
+
+-- the line of this number, from 1, is the first that is no row, and stands where a row may
+pub record IsFirstBad (widths : List ℕ) (lines : List (List ℕ)) (line : ℕ) : Type 0 where
+  pub counted : 1 ≤ line
+  pub few : line ≤ MAX_ROWS
+  pub good : AreGood widths (take (line - 1) lines)
+  pub bad : IsSomeAnd (slice_get lines (line - 1)) (IsBad widths)
+
+-- all lines that may stand are rows, and there are more
+pub record AreTooMany (widths : List ℕ) (lines : List (List ℕ)) : Type 0 where
+  pub good : AreGood widths (take MAX_ROWS lines)
+  pub more : MAX_ROWS < length lines

@@ -1,0 +1,19 @@
+//! Files of vectors: rows of words in hexadecimal, one line for each cycle.
+#![tactic(auto)]
+
+mod draw;
+mod fault;
+mod hex;
+mod read;
+mod row;
+mod vectors;
+mod write;
+
+pub use draw::stimulus;
+pub use fault::VecFault;
+pub use read::{read_empty_rows, read_vectors};
+pub use vectors::Vectors;
+pub use write::write_rows;
+
+/// The most rows of a file of vectors.
+pub const MAX_ROWS: u32 = 100_000;

@@ -1,0 +1,28 @@
+ghost use Rattle.std.specs.Prelude.{◌≡◌, ◌*◌, ◌/◌, length};
+
+use opgen_list::Items;
+
+/// Rows of words, row after row. Each cell is the number of a word.
+///
+/// The number of cells is a multiple of `columns`, and 0 where `columns` is 0.
+#[derive(Drop)]
+pub struct Vectors {
+    pub columns: u32,
+    pub cells: Items<u128>,
+    pub ghost whole: { columns * (length cells / columns) ≡ length cells },
+}
+
+impl Vectors {
+    ghost use Rattle.opgen_vec.specs.Writing.{row_count};
+
+    /// The number of rows, 0 where a row has no cell.
+    pub fn row_count(&self) -> usize
+        ensures { result ≡ row_count self.now.columns self.now.cells }
+    {
+        if self.columns == 0 {
+            0
+        } else {
+            self.cells.len() / self.columns as usize
+        }
+    }
+}
