@@ -93,8 +93,8 @@ rows_written (r ∷ rows) other rs s =
       symbols = string r.1 ∷ word (codes "when") ∷ string r.0 ∷ mark Comma ∷ more.symbols;
       within_piece = more.within_piece;
       lexes = λ rest ks l.
-        let text : (flat_map row_text (r ∷ rows) ++ other_text other) ++ rest ≡ row_text r ++ ((flat_map row_text rows ++ other_text other) ++ rest) = simp append_assoc in
-        rw text (lexes_row r _ _ rs.0 rs.1 (more.lexes rest ks l));
+          let text : (flat_map row_text (r ∷ rows) ++ other_text other) ++ rest ≡ row_text r ++ ((flat_map row_text rows ++ other_text other) ++ rest) = simp append_assoc in
+          rw text (lexes_row r _ _ rs.0 rs.1 (more.lexes rest ks l));
       says = row more.says;
     }
 
@@ -117,8 +117,8 @@ module _ (d : Design) (found : AreFound d) where
         symbols = word n ∷ mark LessEqual ∷ w.symbols;
         within_piece = w.within_piece;
         lexes = λ rest ks l.
-          let text : driver_text d (Assign s e) ++ rest ≡ codes "  " ++ (n ++ (codes " <= " ++ (expression_text d e ++ (codes ";\n" ++ rest)))) = simp append_assoc in
-          rw text (lexes_indent _ _ (assigned s e rest ks f.0 w l));
+            let text : driver_text d (Assign s e) ++ rest ≡ codes "  " ++ (n ++ (codes " <= " ++ (expression_text d e ++ (codes ";\n" ++ rest)))) = simp append_assoc in
+            rw text (lexes_indent _ _ (assigned s e rest ks f.0 w l));
         says = subst (λ k. IsConcurrent (names_of d) (Assign k e) (word n ∷ mark LessEqual ∷ (w.symbols ++ end_of_piece))) at.first (assignment at.allowed (w.reads end_of_piece));
       }
 
@@ -132,8 +132,8 @@ module _ (d : Design) (found : AreFound d) where
         symbols = word n ∷ mark LessEqual ∷ w.symbols;
         within_piece = w.within_piece;
         lexes = λ rest ks l.
-          let text : driver_text d (Register s e) ++ rest ≡ codes "      " ++ (n ++ (codes " <= " ++ (expression_text d e ++ (codes ";\n" ++ rest)))) = simp append_assoc in
-          rw text (lexes_indent _ _ (lexes_indent _ _ (lexes_indent _ _ (assigned s e rest ks f.0 w l))));
+            let text : driver_text d (Register s e) ++ rest ≡ codes "      " ++ (n ++ (codes " <= " ++ (expression_text d e ++ (codes ";\n" ++ rest)))) = simp append_assoc in
+            rw text (lexes_indent _ _ (lexes_indent _ _ (lexes_indent _ _ (assigned s e rest ks f.0 w l))));
         says = subst (λ k. IsClocked (names_of d) (Register k e) (word n ∷ mark LessEqual ∷ (w.symbols ++ end_of_piece))) at.first (clocked at.allowed (w.reads end_of_piece));
       }
 
@@ -147,18 +147,18 @@ module _ (d : Design) (found : AreFound d) where
         symbols = word n ∷ mark LessEqual ∷ word (codes "std_logic_vector") ∷ mark LeftParen ∷ (w.symbols ++ mark RightParen ∷ []);
         within_piece = within-append w.symbols (mark RightParen ∷ []) w.within_piece refl;
         lexes = λ rest ks l.
-          let behind = codes ");\n" ++ rest in
-          let ended = lexes_found 3 (codes ");\n" ++ rest) rest (mark RightParen ∷ mark Semicolon ∷ []) ks refl l in
-          let inner = w.lexes behind _ refl ended in
-          let opened = lexes_found 2 (codes "std_logic_vector(" ++ (expression_text d e ++ behind)) _ (word (codes "std_logic_vector") ∷ mark LeftParen ∷ []) _ refl inner in
-          let text : driver_text d (Output p e) ++ rest ≡ codes "  " ++ (n ++ (codes " <= " ++ (codes "std_logic_vector(" ++ (expression_text d e ++ (codes ");\n" ++ rest))))) = simp append_assoc in
-          rw (text, append_assoc w.symbols (mark RightParen ∷ []) (mark Semicolon ∷ ks)) (lexes_indent _ _ (lexes_target n _ _ at.allowed opened));
+            let behind = codes ");\n" ++ rest in
+            let ended = lexes_found 3 (codes ");\n" ++ rest) rest (mark RightParen ∷ mark Semicolon ∷ []) ks refl l in
+            let inner = w.lexes behind _ refl ended in
+            let opened = lexes_found 2 (codes "std_logic_vector(" ++ (expression_text d e ++ behind)) _ (word (codes "std_logic_vector") ∷ mark LeftParen ∷ []) _ refl inner in
+            let text : driver_text d (Output p e) ++ rest ≡ codes "  " ++ (n ++ (codes " <= " ++ (codes "std_logic_vector(" ++ (expression_text d e ++ (codes ");\n" ++ rest))))) = simp append_assoc in
+            rw (text, append_assoc w.symbols (mark RightParen ∷ []) (mark Semicolon ∷ ks)) (lexes_indent _ _ (lexes_target n _ _ at.allowed opened));
         says =
-          rw (append_assoc w.symbols (mark RightParen ∷ []) end_of_piece)
-          (subst
-          (λ k. IsConcurrent (names_of d) (Output k e) (word n ∷ mark LessEqual ∷ word (codes "std_logic_vector") ∷ mark LeftParen ∷ (w.symbols ++ mark RightParen ∷ end_of_piece)))
-          at.first
-          (output at.allowed (w.reads (mark RightParen ∷ end_of_piece))));
+            rw (append_assoc w.symbols (mark RightParen ∷ []) end_of_piece)
+            (subst
+            (λ k. IsConcurrent (names_of d) (Output k e) (word n ∷ mark LessEqual ∷ word (codes "std_logic_vector") ∷ mark LeftParen ∷ (w.symbols ++ mark RightParen ∷ end_of_piece)))
+            at.first
+            (output at.allowed (w.reads (mark RightParen ∷ end_of_piece))));
       }
 
   choice_symbols : (n : List ℕ) (one on other ks : List Symbol)
@@ -181,22 +181,22 @@ module _ (d : Design) (found : AreFound d) where
         symbols = word n ∷ mark LessEqual ∷ (first.symbols ++ word (codes "when") ∷ (test.symbols ++ mark Equal ∷ string (true ∷ []) ∷ word (codes "else") ∷ second.symbols));
         within_piece = within-append first.symbols _ first.within_piece (within-append test.symbols (mark Equal ∷ string (true ∷ []) ∷ word (codes "else") ∷ second.symbols) test.within_piece second.within_piece);
         lexes = λ rest ks l.
-          let three = second.lexes (codes ";\n" ++ rest) _ refl (lexes_ended rest ks l) in
-          let behind = codes " = \"1\" else " ++ (expression_text d other ++ (codes ";\n" ++ rest)) in
-          let two = test.lexes behind _ refl (lexes_found 7 behind _ (mark Equal ∷ string (true ∷ []) ∷ word (codes "else") ∷ []) _ refl three) in
-          let chosen = codes " when " ++ (expression_text d on ++ behind) in
-          let all = first.lexes chosen _ refl (lexes_found 3 chosen _ (word (codes "when") ∷ []) _ refl two) in
-          let text : driver_text d (Choice s on one other) ++ rest
-              ≡ codes "  " ++ (n ++ (codes " <= " ++ (expression_text d one ++ (codes " when " ++ (expression_text d on ++ (codes " = \"1\" else " ++ (expression_text d other ++ (codes ";\n" ++ rest))))))))
-              = simp append_assoc in
-          rw (text, choice_symbols n first.symbols test.symbols second.symbols (mark Semicolon ∷ ks)) (lexes_indent _ _ (lexes_target n _ _ at.allowed all));
+            let three = second.lexes (codes ";\n" ++ rest) _ refl (lexes_ended rest ks l) in
+            let behind = codes " = \"1\" else " ++ (expression_text d other ++ (codes ";\n" ++ rest)) in
+            let two = test.lexes behind _ refl (lexes_found 7 behind _ (mark Equal ∷ string (true ∷ []) ∷ word (codes "else") ∷ []) _ refl three) in
+            let chosen = codes " when " ++ (expression_text d on ++ behind) in
+            let all = first.lexes chosen _ refl (lexes_found 3 chosen _ (word (codes "when") ∷ []) _ refl two) in
+            let text : driver_text d (Choice s on one other) ++ rest
+            ≡ codes "  " ++ (n ++ (codes " <= " ++ (expression_text d one ++ (codes " when " ++ (expression_text d on ++ (codes " = \"1\" else " ++ (expression_text d other ++ (codes ";\n" ++ rest))))))))
+            = simp append_assoc in
+            rw (text, choice_symbols n first.symbols test.symbols second.symbols (mark Semicolon ∷ ks)) (lexes_indent _ _ (lexes_target n _ _ at.allowed all));
         says =
-          rw (choice_symbols n first.symbols test.symbols second.symbols end_of_piece)
-          (subst
-          (λ k. IsConcurrent (names_of d) (Choice k on one other)
-          (word n ∷ mark LessEqual ∷ (first.symbols ++ word (codes "when") ∷ (test.symbols ++ mark Equal ∷ string (true ∷ []) ∷ word (codes "else") ∷ (second.symbols ++ end_of_piece)))))
-          at.first
-          (choice at.allowed (first.reads _) (test.reads _) (second.reads end_of_piece)));
+            rw (choice_symbols n first.symbols test.symbols second.symbols end_of_piece)
+            (subst
+            (λ k. IsConcurrent (names_of d) (Choice k on one other)
+            (word n ∷ mark LessEqual ∷ (first.symbols ++ word (codes "when") ∷ (test.symbols ++ mark Equal ∷ string (true ∷ []) ∷ word (codes "else") ∷ (second.symbols ++ end_of_piece)))))
+            at.first
+            (choice at.allowed (first.reads _) (test.reads _) (second.reads end_of_piece)));
       }
 
   table_symbols : (n : List ℕ) (on rows ks : List Symbol) → (word (codes "with") ∷ (on ++ word (codes "select") ∷ word n ∷ mark LessEqual ∷ rows)) ++ ks
@@ -215,21 +215,21 @@ module _ (d : Design) (found : AreFound d) where
         symbols = word (codes "with") ∷ (test.symbols ++ word (codes "select") ∷ word n ∷ mark LessEqual ∷ listed.symbols);
         within_piece = within-append test.symbols _ test.within_piece listed.within_piece;
         lexes = λ rest ks l.
-          let lines = codes " <=\n" ++ ((flat_map row_text rows ++ other_text other) ++ rest) in
-          let named = lexes_name n lines at.allowed refl _ (lexes_found 3 lines _ (mark LessEqual ∷ []) _ refl (listed.lexes rest ks l)) in
-          let behind = codes " select " ++ (n ++ lines) in
-          let tested = test.lexes behind _ refl (lexes_found 3 behind (n ++ lines) (word (codes "select") ∷ []) _ refl named) in
-          let text : driver_text d (Table s on rows other) ++ rest
-              ≡ codes "  with " ++ (expression_text d on ++ (codes " select " ++ (n ++ (codes " <=\n" ++ ((flat_map row_text rows ++ other_text other) ++ rest)))))
-              = simp append_assoc in
-          rw (text, table_symbols n test.symbols listed.symbols (mark Semicolon ∷ ks))
-          (lexes_found 4 (codes "  with " ++ (expression_text d on ++ behind)) _ (word (codes "with") ∷ []) _ refl tested);
+            let lines = codes " <=\n" ++ ((flat_map row_text rows ++ other_text other) ++ rest) in
+            let named = lexes_name n lines at.allowed refl _ (lexes_found 3 lines _ (mark LessEqual ∷ []) _ refl (listed.lexes rest ks l)) in
+            let behind = codes " select " ++ (n ++ lines) in
+            let tested = test.lexes behind _ refl (lexes_found 3 behind (n ++ lines) (word (codes "select") ∷ []) _ refl named) in
+            let text : driver_text d (Table s on rows other) ++ rest
+            ≡ codes "  with " ++ (expression_text d on ++ (codes " select " ++ (n ++ (codes " <=\n" ++ ((flat_map row_text rows ++ other_text other) ++ rest)))))
+            = simp append_assoc in
+            rw (text, table_symbols n test.symbols listed.symbols (mark Semicolon ∷ ks))
+            (lexes_found 4 (codes "  with " ++ (expression_text d on ++ behind)) _ (word (codes "with") ∷ []) _ refl tested);
         says =
-          rw (table_symbols n test.symbols listed.symbols end_of_piece)
-          (subst
-          (λ k. IsConcurrent (names_of d) (Table k on rows other) (word (codes "with") ∷ (test.symbols ++ word (codes "select") ∷ word n ∷ mark LessEqual ∷ (listed.symbols ++ end_of_piece))))
-          at.first
-          (table (test.reads _) at.allowed listed.says));
+            rw (table_symbols n test.symbols listed.symbols end_of_piece)
+            (subst
+            (λ k. IsConcurrent (names_of d) (Table k on rows other) (word (codes "with") ∷ (test.symbols ++ word (codes "select") ∷ word n ∷ mark LessEqual ∷ (listed.symbols ++ end_of_piece))))
+            at.first
+            (table (test.reads _) at.allowed listed.says));
       }
 
   pub concurrent_written : (k : Driver) → is_register k ≡ false → DriverFits d k → WritesPiece (IsConcurrent (names_of d) k) (driver_text d k)

@@ -1,7 +1,8 @@
 -- The text of an expression is cut into symbols that are that expression in the grammar.
-use Rattle.std.proofs.Common.{◌≡◌, ℕ, zero, suc, ◌+◌, ◌<◌, ◌≤◌, Bool, true, false, not, List, [], ◌∷◌, ◌++◌, length, codes, decimal, IsTrue, refl, sym, subst, arith, append_assoc}
+use Rattle.std.proofs.Common.{◌≡◌, ℕ, zero, suc, ◌+◌, ◌<◌, ◌≤◌, Bool, true, false, not, List, [], ◌∷◌, ◌++◌, length, codes, decimal, IsTrue, refl, sym, ◌∙◌, subst, arith, append_assoc}
 use Rattle.std.specs.List.{list_all}
-use Rattle.std.proofs.lemmas.Bool.{and_parts}
+use Rattle.std.proofs.lemmas.Bool.{and_from}
+use Rattle.std.proofs.lemmas.List.Folds.{list_all-append}
 use Rattle.opgen_net.specs.declared.design.Design.{Design}
 use Rattle.opgen_net.specs.declared.expr.Op.{Op}
 use Rattle.opgen_net.specs.declared.expr.Op.TheVariants as op
@@ -24,10 +25,7 @@ abbrev pub AreWithin : List Symbol → Type 0
 AreWithin ss = list_all (λ s. not (is_semicolon s)) ss ≡ true
 
 pub within-append : (a b : List Symbol) → AreWithin a → AreWithin b → AreWithin (a ++ b)
-within-append [] b h k = k
-within-append (s ∷ a) b h k =
-    let (here, more) = and_parts (not (is_semicolon s)) (list_all (λ s. not (is_semicolon s)) a) h in
-    rw (here, within-append a b more k) refl
+within-append a b h k = list_all-append (λ s. not (is_semicolon s)) a b ∙ and_from _ _ h k
 
 -- Before any rest that begins with no word byte the text is cut into these symbols, within a piece, which are what R says.
 pub record Writes (R : List Symbol → List Symbol → Type 0) (text : List ℕ) : Type 0 where
@@ -66,7 +64,7 @@ abbrev mutual
 same_part : (a b h i l m : ℕ) → a ≡ b → h ≡ i → l ≡ m → tree.part a h l ≡ tree.part b i m
 same_part a b h i l m p q r = rw (p, q, r) refl
 
-range-begins : (high low : ℕ) (rest : List ℕ) → begins is_word_byte (range_text high low ++ rest) ≡ false
+pub range-begins : (high low : ℕ) (rest : List ℕ) → begins is_word_byte (range_text high low ++ rest) ≡ false
 unfolding range_text
 range-begins high low rest = refl
 
@@ -119,12 +117,12 @@ module _ (d : Design) (found : AreFound d) where
         symbols = word n ∷ mark LeftParen ∷ number (decimal high) ∷ word (codes "downto") ∷ number (decimal low) ∷ mark RightParen ∷ [];
         within_piece = refl;
         lexes = λ rest ks stops l.
-          rw (append_assoc n (range_text high low) rest)
-          (lexes_name n (range_text high low ++ rest) f.allowed (range-begins high low rest) _ (lexes_range high low rest ks i j l));
+            rw (append_assoc n (range_text high low) rest)
+            (lexes_name n (range_text high low ++ rest) f.allowed (range-begins high low rest) _ (lexes_range high low rest ks i j l));
         reads = λ ks. subst
-          (λ t. IsSignalPart (names_of d) t (word n ∷ mark LeftParen ∷ number (decimal high) ∷ word (codes "downto") ∷ number (decimal low) ∷ mark RightParen ∷ ks) ks)
-          (same_part _ _ _ _ _ _ f.first v u)
-          (slice f.allowed (omega (arith, v, i)) (omega (arith, u, j)));
+            (λ t. IsSignalPart (names_of d) t (word n ∷ mark LeftParen ∷ number (decimal high) ∷ word (codes "downto") ∷ number (decimal low) ∷ mark RightParen ∷ ks) ks)
+            (same_part _ _ _ _ _ _ f.first v u)
+            (slice f.allowed (omega (arith, v, i)) (omega (arith, u, j)));
       }
 
   literal_written : (depth : ℕ) (w : List Bool) → 1 ≤ length w → length w ≤ 64 → Writes (IsPrimary (names_of d) depth (tree.bits w)) (word_text w)
@@ -143,10 +141,10 @@ module _ (d : Design) (found : AreFound d) where
         symbols = word (codes "unsigned") ∷ mark LeftParen ∷ word n ∷ mark RightParen ∷ [];
         within_piece = refl;
         lexes = λ rest ks stops l.
-          let closed = lexes_found 1 (codes ")" ++ rest) rest (mark RightParen ∷ []) ks refl l in
-          let named = lexes_name n (codes ")" ++ rest) f.allowed refl _ closed in
-          let text : (codes "unsigned(" ++ n ++ codes ")") ++ rest ≡ codes "unsigned(" ++ (n ++ (codes ")" ++ rest)) = simp append_assoc in
-          rw text (lexes_found 2 (codes "unsigned(" ++ (n ++ (codes ")" ++ rest))) (n ++ (codes ")" ++ rest)) (word (codes "unsigned") ∷ mark LeftParen ∷ []) _ refl named);
+            let closed = lexes_found 1 (codes ")" ++ rest) rest (mark RightParen ∷ []) ks refl l in
+            let named = lexes_name n (codes ")" ++ rest) f.allowed refl _ closed in
+            let text : (codes "unsigned(" ++ n ++ codes ")") ++ rest ≡ codes "unsigned(" ++ (n ++ (codes ")" ++ rest)) = simp append_assoc in
+            rw text (lexes_found 2 (codes "unsigned(" ++ (n ++ (codes ")" ++ rest))) (n ++ (codes ")" ++ rest)) (word (codes "unsigned") ∷ mark LeftParen ∷ []) _ refl named);
         reads = λ ks. subst (λ k. IsPrimary (names_of d) depth (tree.port k) (word (codes "unsigned") ∷ mark LeftParen ∷ word n ∷ mark RightParen ∷ ks) ks) f.first (input f.allowed);
       }
 
@@ -173,10 +171,10 @@ module _ (d : Design) (found : AreFound d) where
     symbols = mark LeftParen ∷ (w.symbols ++ mark RightParen ∷ []);
     within_piece = within-append w.symbols (mark RightParen ∷ []) w.within_piece refl;
     lexes = λ rest ks stops l.
-      let closed = lexes_found 1 (codes ")" ++ rest) rest (mark RightParen ∷ []) ks refl l in
-      let inner = w.lexes (codes ")" ++ rest) (mark RightParen ∷ ks) refl closed in
-      rw (append_assoc text (codes ")") rest, append_assoc w.symbols (mark RightParen ∷ []) ks)
-      (lexes_found 1 (codes "(" ++ (text ++ (codes ")" ++ rest))) (text ++ (codes ")" ++ rest)) (mark LeftParen ∷ []) (w.symbols ++ mark RightParen ∷ ks) refl inner);
+        let closed = lexes_found 1 (codes ")" ++ rest) rest (mark RightParen ∷ []) ks refl l in
+        let inner = w.lexes (codes ")" ++ rest) (mark RightParen ∷ ks) refl closed in
+        rw (append_assoc text (codes ")") rest, append_assoc w.symbols (mark RightParen ∷ []) ks)
+        (lexes_found 1 (codes "(" ++ (text ++ (codes ")" ++ rest))) (text ++ (codes ")" ++ rest)) (mark LeftParen ∷ []) (w.symbols ++ mark RightParen ∷ ks) refl inner);
     reads = λ ks. group (rw (append_assoc w.symbols (mark RightParen ∷ []) ks) (w.reads (mark RightParen ∷ ks)));
   }
 
@@ -207,9 +205,9 @@ module _ (d : Design) (found : AreFound d) where
         symbols = operator o ∷ (first.symbols ++ others.symbols);
         within_piece = operator-within o (first.symbols ++ others.symbols) (within-append first.symbols others.symbols first.within_piece others.within_piece);
         lexes = λ rest ks stops l.
-          let found = lexes_operator o _ _ (operands_lex depth o t ts text rest ks first others stops l) in
-          subst (λ u. Lexes u (operator o ∷ ((first.symbols ++ others.symbols) ++ ks))) (sym (regroup (operator_text o) text (further_text d o ts) rest))
-          (rw (append_assoc first.symbols others.symbols ks) found);
+            let found = lexes_operator o _ _ (operands_lex depth o t ts text rest ks first others stops l) in
+            subst (λ u. Lexes u (operator o ∷ ((first.symbols ++ others.symbols) ++ ks))) (sym (regroup (operator_text o) text (further_text d o ts) rest))
+            (rw (append_assoc first.symbols others.symbols ks) found);
         reads = λ ks. next (rw (append_assoc first.symbols others.symbols ks) (first.reads (others.symbols ++ ks))) (others.reads ks);
       }
 
@@ -222,8 +220,8 @@ module _ (d : Design) (found : AreFound d) where
         symbols = first.symbols ++ others.symbols;
         within_piece = within-append first.symbols others.symbols first.within_piece others.within_piece;
         lexes = λ rest ks stops l.
-          rw (append_assoc text (further_text d o (tree.more u ts)) rest, append_assoc first.symbols others.symbols ks)
-          (operands_lex depth o t (tree.more u ts) text rest ks first others stops l);
+            rw (append_assoc text (further_text d o (tree.more u ts)) rest, append_assoc first.symbols others.symbols ks)
+            (operands_lex depth o t (tree.more u ts) text rest ks first others stops l);
         reads = λ ks. rw (append_assoc first.symbols others.symbols ks) (several (first.reads (others.symbols ++ ks)) (others.reads ks));
       }
 

@@ -13,7 +13,7 @@ use Rattle.opgen_write.proofs.Lexing.{Lexes, lexes_tokens}
 use Rattle.opgen_write.proofs.Expressions.{AreWithin}
 use Rattle.opgen_write.proofs.Drivers.{WritesPiece}
 
-not_true : (b : Bool) → not b ≡ true → b ≡ false
+pub not_true : (b : Bool) → not b ≡ true → b ≡ false
 not_true true h = sym h
 not_true false h = refl
 

@@ -1,9 +1,14 @@
 mod Bits
-pub mod Lexing
-pub mod Words
-pub mod Expressions
-pub mod Places
-pub mod Fitting
-pub mod Drivers
-pub mod Leading
-pub mod Designs
+mod Lexing
+mod Words
+mod Expressions
+mod Places
+mod Fitting
+mod Drivers
+mod Leading
+mod Declarations
+mod Bodies
+mod Writable
+mod Designs
+mod MadeDesigns
+mod MadeNames

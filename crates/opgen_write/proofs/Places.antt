@@ -31,7 +31,7 @@ place-is : (names : List (List ℕ)) (n : List ℕ) (i : ℕ) → i < length nam
 place-is names n i h at before =
     position_or_len_is (bytes_eq n) names i [] (omega (arith, h)) (λ k b. differs n (get_or names k []) (before k b)) (λ _. (bytes_eq-Decides n (get_or names i [])).1 (sym at))
 
-no_signal : Signal
+pub no_signal : Signal
 no_signal = record { name = []; width = 0; initial = None }
 
 no_port : Port
@@ -62,7 +62,7 @@ module _ (d : Design) (s : IsSound d) (allowed : HasAllowedNames d) where
   signal_found i h = record {
     allowed = subst (λ n. IsTrue (is_allowed_name n)) (signal_name-here i h) (allowed.signals i no_signal h);
     first = place-is (names_of d).signals (signal_name d i) i (omega (arith, h, length-map d.signals (λ q. q.name))) (named_signal i h)
-      (λ k b e. (new_signal i h).not_before (length d.ports + k) (omega (arith, b)) (declared_signal k ∙ e ∙ sym (declared_signal i ∙ named_signal i h)));
+        (λ k b e. (new_signal i h).not_before (length d.ports + k) (omega (arith, b)) (declared_signal k ∙ e ∙ sym (declared_signal i ∙ named_signal i h)));
   }
 
   abbrev port_here : ℕ → Port
@@ -87,7 +87,7 @@ module _ (d : Design) (s : IsSound d) (allowed : HasAllowedNames d) where
   port_found i h = record {
     allowed = subst (λ n. IsTrue (is_allowed_name n)) (port_name-here i h) (allowed.ports i no_port h);
     first = place-is (names_of d).ports (port_name d i) i (omega (arith, h, length-map d.ports (λ p. p.name))) (named_port i h)
-      (λ k b e. (new_port i h).not_before k b (declared_port k (omega (arith, b, h)) ∙ e ∙ sym (declared_port i h ∙ named_port i h)));
+        (λ k b e. (new_port i h).not_before k b (declared_port k (omega (arith, b, h)) ∙ e ∙ sym (declared_port i h ∙ named_port i h)));
   }
 
   pub are_found : AreFound d

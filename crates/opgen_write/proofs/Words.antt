@@ -8,6 +8,7 @@ use Rattle.std.proofs.lemmas.Bool.Decides.{nat_tests}
 use Rattle.std.proofs.lemmas.Fmt.{decimal_is_IsNumeral, length-decimal-le}
 use Rattle.std.proofs.lemmas.List.{map-append, reverse-append, reverse-reverse}
 use Rattle.std.proofs.lemmas.List.Elements.{filter-append}
+use Rattle.std.proofs.lemmas.List.Folds.{list_all-append}
 use Rattle.std.proofs.lemmas.List.Sums.{AllPass-from_list_all}
 use Rattle.opgen_net.specs.Names.{is_allowed_name, is_name_byte, is_identifier, is_refused, starts_with_letter, has_single_underscores}
 use Rattle.opgen_text.specs.Bytes.{is_word_byte, is_bit, begins}
@@ -77,6 +78,13 @@ module _ (n rest : List ℕ) (allowed : IsTrue (is_allowed_name n)) (stops : beg
   pub lexes_name : (ks : List Symbol) → Lexes rest ks → Lexes (n ++ rest) (word n ∷ ks)
   lexes_name ks l = subst (λ u. Lexes (n ++ rest) (word u ∷ ks)) (name_lowercase n bytes) (lexes_token Word n rest ks name_is_word l)
 
+-- a word in lower case, before a rest that begins with no word byte
+pub lexes_keyword : (n rest : List ℕ) (ks : List Symbol) → begins is_ascii_alphabetic n ≡ true → list_all is_word_byte n ≡ true → has_single_underscores n ≡ true → nat_le (length n) 64 ≡ true
+    → map to_ascii_lowercase n ≡ n → begins is_word_byte rest ≡ false → Lexes rest ks → Lexes (n ++ rest) (word n ∷ ks)
+lexes_keyword n rest ks letter bytes single short lowercase stops l =
+    let is_word : IsWord n rest = record { letter = letter; bytes = AllPass-from_list_all is_word_byte n bytes; single = single; short = below (length n) 64 short; stops = stops } in
+    subst (λ u. Lexes (n ++ rest) (word u ∷ ks)) lowercase (lexes_token Word n rest ks is_word l)
+
 -- numbers
 
 digit : (c : ℕ) → digit_value c < 10 → is_ascii_digit c ≡ true
@@ -116,12 +124,6 @@ lexes_range high low rest ks h k l =
 
 -- bit strings
 
-list_all-append : (p : ℕ → Bool) (a b : List ℕ) → list_all p a ≡ true → list_all p b ≡ true → list_all p (a ++ b) ≡ true
-list_all-append p [] b h k = k
-list_all-append p (x ∷ a) b h k =
-    let (here, more) = and_parts (p x) (list_all p a) h in
-    rw (here, list_all-append p a b more k) refl
-
 length-bits_text : (w : List Bool) → length (bits_text w) ≡ length w
 length-bits_text [] = refl
 length-bits_text (true ∷ w) = omega (arith, length-append (bits_text w) (codes "1"), length-bits_text w)
@@ -129,8 +131,8 @@ length-bits_text (false ∷ w) = omega (arith, length-append (bits_text w) (code
 
 bits_are_bits : (w : List Bool) → list_all is_bit (bits_text w) ≡ true
 bits_are_bits [] = refl
-bits_are_bits (true ∷ w) = list_all-append is_bit (bits_text w) (codes "1") (bits_are_bits w) refl
-bits_are_bits (false ∷ w) = list_all-append is_bit (bits_text w) (codes "0") (bits_are_bits w) refl
+bits_are_bits (true ∷ w) = list_all-append is_bit (bits_text w) (codes "1") ∙ ap (λ b. b && true) (bits_are_bits w)
+bits_are_bits (false ∷ w) = list_all-append is_bit (bits_text w) (codes "0") ∙ ap (λ b. b && true) (bits_are_bits w)
 
 values : List ℕ → List Bool
 values text = map (λ b. b == 49) (filter is_bit text)

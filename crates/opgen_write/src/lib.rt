@@ -4,11 +4,13 @@
 mod architecture;
 mod entity;
 mod expression;
+mod law;
 mod sink;
 mod statement;
 #[cfg(test)]
 mod tests;
 mod write;
 
+pub use law::{made_designs, text_spells};
 pub use sink::VecSink;
 pub use write::{WriteFault, text, write_design};

@@ -84,6 +84,55 @@ begin
 end architecture;
 "#;
 
+const THIRD: &str = r#"library ieee;
+use ieee.std_logic_1164.all;
+use ieee.numeric_std.all;
+
+entity third is
+  port (
+    clk : in std_logic;
+    x : in std_logic_vector(3 downto 0);
+    y : out std_logic_vector(2 downto 0)
+  );
+end entity;
+
+architecture rtl of third is
+  signal s0 : unsigned(3 downto 0);
+  signal s1 : unsigned(3 downto 0);
+  signal s1_1 : unsigned(3 downto 0) := "0000";
+  signal s2 : unsigned(3 downto 0);
+  signal s3 : unsigned(3 downto 0);
+begin
+  s0 <= unsigned(x);
+  with s0 select s1 <=
+    "0000" when "0000",
+    "0001" when "0001",
+    "0001" when "0010",
+    "0010" when "0011",
+    "0011" when "0100",
+    "0011" when "0101",
+    "0100" when "0110",
+    "0101" when "0111",
+    "0101" when "1000",
+    "0110" when "1001",
+    "0111" when "1010",
+    "0111" when "1011",
+    "1000" when "1100",
+    "1001" when "1101",
+    "1001" when "1110",
+    "1010" when others;
+  s2 <= "0001";
+  s3 <= s1_1 + s2;
+  process (clk)
+  begin
+    if rising_edge(clk) then
+      s1_1 <= s1;
+    end if;
+  end process;
+  y <= std_logic_vector(s3(3 downto 1));
+end architecture;
+"#;
+
 fn port(alloc: Global, name: &str, dir: Dir, width: u32) -> Result<Port, AllocError> {
     let name = Text::from_str(alloc, name)?;
     Ok(Port { name, dir, width })
@@ -222,6 +271,89 @@ fn mixed(alloc: Global) -> Result<Design, AllocError> {
     })
 }
 
+// Twice a third of 4 bits, rounded.
+fn third_table(alloc: Global) -> Result<Driver, AllocError> {
+    let words = [0, 1, 1, 2, 3, 3, 4, 5, 5, 6, 7, 7, 8, 9, 9];
+    let mut rows = Vec::new(alloc);
+    for (address, word) in words.iter().enumerate() {
+        rows.push((Word::new(address as u128, 4), Word::new(*word, 4)))?;
+    }
+    Ok(Driver::Table {
+        to: 1,
+        on: Formula::new(Expr::Name(0)),
+        rows: Items::from_vec(rows),
+        other: Word::new(10, 4),
+    })
+}
+
+fn third_signals(alloc: Global) -> Result<Vec<Signal>, AllocError> {
+    let mut signals = Vec::new(alloc);
+    signals.push(signal(alloc, "s0", 4, None)?)?;
+    signals.push(signal(alloc, "s1", 4, None)?)?;
+    signals.push(signal(alloc, "s1_1", 4, Some(Word::new(0, 4)))?)?;
+    signals.push(signal(alloc, "s2", 4, None)?)?;
+    signals.push(signal(alloc, "s3", 4, None)?)?;
+    Ok(signals)
+}
+
+fn third_drivers(alloc: Global) -> Result<Vec<Driver>, AllocError> {
+    let mut drivers = Vec::new(alloc);
+    drivers.push(assign(0, Expr::Port(0)))?;
+    drivers.push(third_table(alloc)?)?;
+    drivers.push(assign(3, Expr::Bits(Word::new(1, 4))))?;
+    drivers.push(assign(4, pair(alloc, Op::Plus, Expr::Name(2), Expr::Name(3))?))?;
+    drivers.push(Driver::Register {
+        to: 2,
+        expr: Formula::new(Expr::Name(1)),
+    })?;
+    drivers.push(output(1, part(4, 3, 1)))?;
+    Ok(drivers)
+}
+
+fn third(alloc: Global) -> Result<Design, AllocError> {
+    let x = port(alloc, "x", Dir::In, 4)?;
+    let y = port(alloc, "y", Dir::Out, 3)?;
+    Ok(Design {
+        name: Text::from_str(alloc, "third")?,
+        ports: Items::from_vec(vec![in alloc; x, y]?),
+        signals: Items::from_vec(third_signals(alloc)?),
+        drivers: Items::from_vec(third_drivers(alloc)?),
+    })
+}
+
+// Inputs of 1 to 64 bits, and nothing else.
+fn many_inputs(alloc: Global) -> Result<Design, AllocError> {
+    let mut ports = Items::new(alloc);
+    for number in 0..64u32 {
+        let mut name = String::new(alloc);
+        write!(name, "p{number}")?;
+        ports.push(port(alloc, &name, Dir::In, number + 1)?)?;
+    }
+    Ok(Design {
+        name: Text::from_str(alloc, "inputs")?,
+        ports,
+        signals: Items::new(alloc),
+        drivers: Items::new(alloc),
+    })
+}
+
+fn many_inputs_text(alloc: Global) -> Result<String, AllocError> {
+    let mut expected = String::from_str(
+        alloc,
+        "library ieee;\nuse ieee.std_logic_1164.all;\nuse ieee.numeric_std.all;\n\nentity inputs is\n  port (\n    clk : in std_logic",
+    )?;
+    for highest in 0..64u32 {
+        write!(
+            expected,
+            ";\n    p{highest} : in std_logic_vector({highest} downto 0)"
+        )?;
+    }
+    expected.push_str(
+        "\n  );\nend entity;\n\narchitecture rtl of inputs is\nbegin\nend architecture;\n",
+    )?;
+    Ok(expected)
+}
+
 #[test]
 fn writes_a_table(rt: HostRuntime) -> Result<(), Fail> {
     let design = times3(rt.alloc())?;
@@ -252,5 +384,30 @@ fn tells_of_a_sink_that_fails(rt: HostRuntime) -> Result<(), Fail> {
     assert!(rt; sink.bytes().is_empty());
     write_design(rt.alloc(), &design, &mut sink)?;
     assert_eq!(rt; sink.bytes(), TIMES3.as_bytes());
+    Ok(())
+}
+
+#[test]
+fn writes_a_pipelined_table(rt: HostRuntime) -> Result<(), Fail> {
+    let bytes = text(rt.alloc(), &third(rt.alloc())?)?;
+    assert_eq!(rt; str::from_utf8(&bytes)?, THIRD);
+    Ok(())
+}
+
+#[test]
+fn writes_many_ports_and_no_signal(rt: HostRuntime) -> Result<(), Fail> {
+    let bytes = text(rt.alloc(), &many_inputs(rt.alloc())?)?;
+    let expected = many_inputs_text(rt.alloc())?;
+    assert_eq!(rt; str::from_utf8(&bytes)?, expected.as_str());
+    Ok(())
+}
+
+#[test]
+fn keeps_what_was_taken_before_a_fault(rt: HostRuntime) -> Result<(), Fail> {
+    let mut sink = MemorySink::new(rt.alloc(), vec![in rt.alloc(); 1]?);
+    write_design(rt.alloc(), &third(rt.alloc())?, &mut sink)?;
+    let written = write_design(rt.alloc(), &times3(rt.alloc())?, &mut sink);
+    assert_eq!(rt; written, Err(WriteFault::Failed));
+    assert_eq!(rt; sink.bytes(), THIRD.as_bytes());
     Ok(())
 }
