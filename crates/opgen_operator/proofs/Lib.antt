@@ -4,4 +4,5 @@ mod WeightedSums
 mod Roundings
 mod Widths
 mod Numbered
+mod Reached
 pub mod Accepted

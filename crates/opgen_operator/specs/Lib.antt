@@ -7,3 +7,4 @@ pub mod Exact
 pub mod Good
 pub mod Judged
 pub mod Fits
+pub mod Reached

@@ -2,12 +2,14 @@
 #![tactic(auto)]
 
 mod good;
+mod laws;
 mod outputs;
 mod ports;
 mod spec;
 mod spec_name;
 mod words;
 
+pub use laws::{products_reach, sums_reach};
 pub use spec::{DelayLine, Operator, Pair, PortFormat, Product, Several, Single, Spec, Sum};
 pub use spec_name::{MAX_SPEC_NAME_LEN, is_spec_name};
 pub use words::{is_cycle, is_history};

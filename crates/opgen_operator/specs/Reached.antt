@@ -1,0 +1,31 @@
+-- How far exact values go over all inputs: the formats of the outputs hold them, and no narrower ones do.
+use Rattle.std.specs.Prelude.{ℕ, ℤ, pos, neg_ℤ, ◌+ℤ◌, ◌-ℤ◌, ◌*ℤ◌, ◌≤ℤ◌, ◌<ℤ◌}
+use Rattle.opgen_num.specs.declared.format.Format.{Format}
+use Rattle.opgen_num.specs.declared.format.Ratio.{Ratio}
+use Rattle.opgen_num.specs.Formats.{Holds}
+use Rattle.opgen_operator.specs.declared.outputs.Reach.{Reach}
+use Rattle.opgen_operator.specs.declared.spec.Product.{Product}
+use Rattle.opgen_operator.specs.declared.spec.Sum.{Sum}
+use Rattle.opgen_operator.specs.Exact.{Recent, exact_sum, exact_product}
+use Rattle.opgen_operator.specs.Outputs.{sum_places, product_places}
+use Rattle.opgen_operator.specs.Ranges.{IsSum, IsProduct}
+
+-- a number that a word of the format stands for
+abbrev pub IsOf : Format → ℤ → Type 0
+IsOf f n = Holds f.signed f.width n
+
+-- From the floor of the least fraction to the ceiling of the greatest, over all inputs: no fraction is below the one or
+-- above the other, some fraction is less than one above the floor, and some less than one below the ceiling.
+pub record Spans (Input : Type 0) (In : Input → Type 0) (value : Input → Ratio) (reach : Reach) : Type 0 where
+  pub low : (x : Input) → In x → ((value x).den *ℤ neg_ℤ (pos reach.below)) ≤ℤ (value x).num
+  pub high : (x : Input) → In x → (value x).num ≤ℤ ((value x).den *ℤ pos reach.above)
+  pub least : (x : Input) × In x × ((value x).num <ℤ ((value x).den *ℤ (neg_ℤ (pos reach.below) +ℤ pos 1)))
+  pub greatest : (x : Input) × In x × (((value x).den *ℤ (pos reach.above -ℤ pos 1)) <ℤ (value x).num)
+
+-- the exact values of a sum, over all inputs before the last cycle and in it
+abbrev pub SumsReach : Type 0
+SumsReach = (s : Sum) → IsSum 256 s → Spans Recent (λ x. (ago : ℕ) → IsOf s.input (x ago)) (exact_sum s) (sum_places s)
+
+-- and those of a product
+abbrev pub ProductsReach : Type 0
+ProductsReach = (p : Product) → IsProduct p → Spans (ℤ × ℤ) (λ x. IsOf p.a x.0 × IsOf p.b x.1) (λ x. exact_product p x.0 x.1) (product_places p)
