@@ -19,13 +19,17 @@ pub record Multiplies (width factor : ℕ) (d : Design) : Type 0 where
       → (t : ℕ) (given : List (List Bool)) (v : Words) → slice_get inputs t ≡ Some given → slice_get vs t ≡ Some v
       → map nat (outputs_of d v) ≡ map (λ x. factor * nat x) given
 
--- the text of a sound design of this name that multiplies
-pub record IsCircuitText (name : List ℕ) (m : Multiplication) (text : List ℕ) : Type 0 where
-  pub design : Design
-  pub written : text ≡ text_of design
+-- a sound design of this name that multiplies
+pub record IsCircuit (name : List ℕ) (m : Multiplication) (design : Design) : Type 0 where
   pub called : design.name ≡ name
   pub sound : IsSound design
   pub multiplies : Multiplies m.width m.factor design
+
+-- the text of one
+pub record IsCircuitText (name : List ℕ) (m : Multiplication) (text : List ℕ) : Type 0 where
+  pub design : Design
+  pub written : text ≡ text_of design
+  pub circuit : IsCircuit name m design
 
 -- the bytes are a specification without a fault that asks for a multiplication, and the file, named after it, has the text of its circuit
 pub record IsGenerated (bytes file text : List ℕ) : Type 0 where

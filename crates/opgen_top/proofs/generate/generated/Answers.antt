@@ -1,9 +1,14 @@
-use Rattle.std.proofs.Common.{sym, subst}
+use Rattle.std.proofs.Common.{◌≡◌, Err, sym, ap, ◌∙◌, subst}
 use Rattle.std.specs.Prelude.{IsTrue}
 use Rattle.opgen_net.specs.Names.{is_allowed_name}
+use Rattle.opgen_top.specs.declared.made.Refusal.TheVariants as refusals
 use Rattle.opgen_top.proofs.Names.{spec_name-allowed}
 use Rattle.opgen_top.proofs.generate.generated.Goals as goal
 
 pub circuit_text-requires-clause-allowed : goal.circuit_text-requires-clause-allowed
 circuit_text-requires-clause-allowed c =
-    subst (λ name. IsTrue (is_allowed_name name)) (sym c.as_str-name.ensures) (spec_name-allowed c.in-Ok.spec.name c.in-Ok.ensures.valid.name)
+    subst (λ name. IsTrue (is_allowed_name name)) (sym c.as_str-name.ensures) (spec_name-allowed c.in-Ok.buildable.spec.name c.in-Ok.ensures.valid.name)
+
+pub returns-in-Err-clause-refused : goal.returns-in-Err-clause-refused
+returns-in-Err-clause-refused c line e spec h =
+    let same : c.in-Err.refusal ≡ refusals.Line line = cc in c.judged.ensures.refused line (c.in-Err.is ∙ ap Err same) spec h
