@@ -4,3 +4,4 @@ pub mod Parts
 pub mod Names
 pub mod Preparing
 pub mod Leaving
+pub mod RunRows
