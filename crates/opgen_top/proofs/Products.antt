@@ -9,12 +9,13 @@ use Rattle.opgen_net.specs.declared.design.Port.{Port}
 use Rattle.opgen_net.specs.declared.net.Net.{Net}
 use Rattle.opgen_net.specs.Value.{word_at}
 use Rattle.opgen_net.specs.Flow.{Inputs, input_from, slice_flow}
-use Rattle.opgen_net.specs.Valid.{IsValid, input_widths as net_widths}
-use Rattle.opgen_net.specs.Run.{Words, RunsOn, Run, AreWords, at_ports, is_in, input_widths, outputs_of}
+use Rattle.opgen_net.specs.Valid.{IsValid, slice_width, input_widths as net_widths}
+use Rattle.opgen_net.specs.Run.{Words, RunsOn, Run, AreWords, at_ports, is_in, is_out, input_widths, outputs_of}
 use Rattle.opgen_net.specs.Made.{input_port, output_port, design_of}
 use Rattle.opgen_flat.specs.Following.{RunFollowsFlow}
 use Rattle.opgen_flat.specs.Running.{DesignRuns}
 use Rattle.opgen_scale.specs.Times.{IsTimes}
+use Rattle.opgen_top.specs.Running.{output_widths}
 use Rattle.opgen_top.specs.Generate.{Multiplies}
 
 module _ {X Y : Type 0} (f : X → Y) (is : Dir → Bool) where
@@ -75,5 +76,8 @@ module _ (law : RunFollowsFlow) (running : DesignRuns) (name : List ℕ) (width 
       let e : width ∷ [] ≡ net_widths net = sym (ap (map (λ i. i.1)) times.inputs) in
       running name net valid inputs (subst (λ ws. All (AreWords ws) inputs) e words)
 
+  one_output : output_widths d ≡ slice_width times.from ∷ []
+  one_output = ap (λ ps. at_ports is_out ps (map (λ p. p.width) ps)) ports
+
   pub multiplies : Multiplies width factor d
-  multiplies = record { input = one_input; runs = has_run; product = product }
+  multiplies = record { input = one_input; output_width = slice_width times.from; output = one_output; least = times.output_width; runs = has_run; product = product }

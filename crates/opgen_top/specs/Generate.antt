@@ -1,5 +1,5 @@
 -- What `generate` gives.
-use Rattle.std.specs.Prelude.{ℕ, ◌≡◌, ◌*◌, Bool, List, [], ◌∷◌, map, slice_get, All, Some, Ok}
+use Rattle.std.specs.Prelude.{ℕ, ◌≡◌, ◌-◌, ◌*◌, ◌^◌, Bool, List, [], ◌∷◌, map, slice_get, All, Some, Ok}
 use Rattle.opgen_num.specs.Words.{nat}
 use Rattle.opgen_net.specs.declared.design.Design.{Design}
 use Rattle.opgen_net.specs.Run.{AreWords, Words, Run, input_widths, outputs_of}
@@ -9,11 +9,16 @@ use Rattle.opgen_spec.specs.Document.{tree}
 use Rattle.opgen_spec.specs.Faults.{read}
 use Rattle.opgen_operator.specs.declared.spec.Spec.{Spec}
 use Rattle.opgen_top.specs.Answer.{file_name}
+use Rattle.opgen_scale.specs.Times.{IsBitLength}
+use Rattle.opgen_top.specs.Running.{output_widths}
 use Rattle.opgen_top.specs.Built.{Multiplication, multiplication}
 
--- A design of one input that has a run over each list of its words, and in each of whose runs, in each cycle, the output is a number times the input.
+-- A design of one input, and one output in the least width, that has a run over each list of its words, and in each of whose runs, in each cycle, the output is a number times the input.
 pub record Multiplies (width factor : ℕ) (d : Design) : Type 0 where
   pub input : input_widths d ≡ width ∷ []
+  pub output_width : ℕ
+  pub output : output_widths d ≡ output_width ∷ []
+  pub least : IsBitLength output_width (factor * (2 ^ width - 1))
   pub runs : (inputs : List (List (List Bool))) → All (AreWords (width ∷ [])) inputs → (vs : List Words) × Run d inputs vs
   pub product : (inputs : List (List (List Bool))) (vs : List Words) → Run d inputs vs
       → (t : ℕ) (given : List (List Bool)) (v : Words) → slice_get inputs t ≡ Some given → slice_get vs t ≡ Some v
