@@ -32,13 +32,17 @@ pub record Serves (spec : Spec) (d : Design) : Type 0 where
       → IsInRange spec (recent_words (inputs_of spec) inputs t)
       → IsGood spec (recent_words (inputs_of spec) inputs t) (output_words (outputs_of spec) (design_outputs d v))
 
--- the text of a sound design of this name that serves the specification
-pub record IsCircuitText (spec : Spec) (text : List ℕ) : Type 0 where
-  pub design : Design
-  pub written : text ≡ text_of design
+-- a sound design of the specification's name that serves it
+pub record IsCircuit (spec : Spec) (design : Design) : Type 0 where
   pub called : design.name ≡ spec.name
   pub sound : IsSound design
   pub serves : Serves spec design
+
+-- the text of one
+pub record IsCircuitText (spec : Spec) (text : List ℕ) : Type 0 where
+  pub design : Design
+  pub written : text ≡ text_of design
+  pub circuit : IsCircuit spec design
 
 -- the bytes are a specification without a fault that can be generated, and the file, named after it, has the text of its circuit
 pub record IsGenerated (bytes file text : List ℕ) : Type 0 where

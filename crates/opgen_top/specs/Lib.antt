@@ -3,6 +3,7 @@ pub mod Command
 pub mod Statuses
 pub mod Answer
 pub mod Generate
+pub mod Running
 pub mod Due
 pub mod Stores
 pub mod Prepared

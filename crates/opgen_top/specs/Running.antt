@@ -1,0 +1,33 @@
+-- Runs of a design over rows of numbers.
+use Rattle.std.specs.Prelude.{ℕ, zero, suc, ◌≡◌, Bool, List, [], ◌∷◌, length, map, take, drop}
+use Rattle.std.specs.List.{concat}
+use Rattle.opgen_num.specs.Words.{nat, word}
+use Rattle.opgen_net.specs.declared.design.Design.{Design}
+use Rattle.opgen_net.specs.Run.{Words, RunsOn, initial_words, at_ports, is_out, input_widths, outputs_of}
+
+-- the words of a row, one for each width
+abbrev pub row_words : (widths cells : List ℕ) → List (List Bool)
+row_words (width ∷ widths) (cell ∷ cells) = word width cell ∷ row_words widths cells
+row_words _ _ = []
+
+-- the words of so many rows, row after row
+abbrev pub rows_words : (widths : List ℕ) (rows : ℕ) (cells : List ℕ) → List (List (List Bool))
+rows_words widths zero cells = []
+rows_words widths (suc rows) cells = row_words widths (take (length widths) cells) ∷ rows_words widths rows (drop (length widths) cells)
+
+abbrev pub output_widths : Design → List ℕ
+output_widths d = at_ports is_out d.ports (map (λ p. p.width) d.ports)
+
+-- the numbers of the output ports in a cycle
+abbrev pub output_cells : Design → Words → List ℕ
+output_cells d v = map nat (outputs_of d v)
+
+-- in so many cycles from these words of the registers, the outputs are those of the inputs
+pub record RunsRows (d : Design) (now : List (List Bool)) (rows : ℕ) (inputs outputs : List ℕ) : Type 0 where
+  pub words : List Words
+  pub runs : RunsOn d now (rows_words (input_widths d) rows inputs) words
+  pub outputs_are : outputs ≡ concat (map (output_cells d) words)
+
+-- the same from the initial words
+abbrev pub IsRunOf : (d : Design) (rows : ℕ) (inputs outputs : List ℕ) → Type 0
+IsRunOf d rows inputs outputs = RunsRows d (initial_words d.signals) rows inputs outputs
