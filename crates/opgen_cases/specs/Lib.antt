@@ -1,1 +1,2 @@
 pub mod TimesThree
+pub mod Operators

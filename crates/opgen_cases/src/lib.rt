@@ -1,4 +1,4 @@
-//! The worked cases: tests over the whole program, and definitions computed on a small net.
+//! The worked cases: tests over the whole program, and definitions computed on a small net and on operators.
 #![tactic(auto)]
 
 #[cfg(test)]
@@ -15,4 +15,4 @@ mod good;
 mod running;
 mod worked;
 
-pub use worked::definitions_compute;
+pub use worked::{definitions_compute, operators_compute};
