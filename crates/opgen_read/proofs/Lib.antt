@@ -5,3 +5,5 @@ pub mod AllowedNames
 pub mod Operands
 pub mod Zeros
 pub mod TableRows
+pub mod FirstPiece
+pub mod Reaching

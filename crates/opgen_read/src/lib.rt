@@ -6,6 +6,7 @@ pub mod declared;
 pub mod draft;
 pub mod expression;
 pub mod name;
+pub mod pieces;
 pub mod refusal;
 pub mod statement;
 pub mod take;
