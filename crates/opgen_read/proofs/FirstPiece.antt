@@ -1,16 +1,11 @@
 -- The first piece of what is left.
-use Rattle.std.specs.Prelude.{if◌then◌else◌}
-use Rattle.std.specs.List.{list_all}
-use Rattle.std.proofs.Common.{◌≡◌, inl, inr, ℕ, zero, suc, ◌+◌, ◌≤◌, ◌<◌, ◌&&◌, Bool, true, false, List, [], ◌∷◌, length, map, take, drop, refl, ap, sym, ◌∙◌, arith}
-use Rattle.std.proofs.lemmas.Bool.{and_parts, and_from}
+use Rattle.std.proofs.Common.{◌≡◌, ℕ, ◌<◌, List, [], ◌∷◌, length, map, take, drop, refl, ap, ◌∙◌, arith}
 use Rattle.std.proofs.lemmas.List.{take-map, drop-map}
 use Rattle.opgen_text.specs.declared.kind.Token.{Token}
-use Rattle.opgen_text.specs.declared.kind.TokenKind.TheVariants.{Semicolon}
-use Rattle.opgen_text.specs.Reader.{same_kind}
 use Rattle.opgen_text.specs.Spans.{spelled, spelling_of}
-use Rattle.opgen_text.specs.Symbols.{Symbol, symbol_of, symbols, pieces}
+use Rattle.opgen_text.specs.Symbols.{symbol_of, symbols, pieces}
 use Rattle.opgen_text.proofs.Walks.{first_len, pieces-first}
-use Rattle.opgen_read.specs.Fits.{fits, piece_len}
+use Rattle.opgen_read.specs.Fits.{piece_len}
 use Rattle.opgen_read.proofs.FirstSymbol.{semicolon_first}
 
 first_len-tokens : (bytes : List ℕ) (ts : List Token) → first_len (symbols bytes ts) ≡ piece_len ts

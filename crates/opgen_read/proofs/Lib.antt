@@ -7,3 +7,6 @@ pub mod Zeros
 pub mod TableRows
 pub mod FirstPiece
 pub mod Reaching
+pub mod FittingTokens
+pub mod DriverCount
+pub mod Judging

@@ -8,3 +8,5 @@ pub mod Seen
 pub mod Moved
 pub mod Reached
 pub mod Stepped
+pub mod Answer
+pub mod Outcome

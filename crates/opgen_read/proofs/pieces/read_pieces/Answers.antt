@@ -1,4 +1,4 @@
-use Rattle.std.proofs.Common.{◌+◌, length, arith}
+use Rattle.std.proofs.Common.{arith}
 use Rattle.std.proofs.lemmas.Result.{err_from_is_err_and}
 use Rattle.opgen_read.specs.Left.{left}
 use Rattle.opgen_read.specs.Seen.{seen}
@@ -22,4 +22,4 @@ pub returns-in_err-place-clause-err : goal.returns-in_err-place-clause-err
 returns-in_err-place-clause-err c =
     let p = err_from_is_err_and c.from_residual-in_err-place.result c.from_residual-in_err-place.ensures.1 in
     rw (p.1, p.2) (step_fault (left c.args.text) (left c.pieces.rest) c.pieces.place (seen c.pieces.draft) c.pieces.taken (left c.in-Some.piece) (left c.in-Some.more) c.in_err-place.field-0.0
-      c.pieces.invariant.reached c.in-Some.ensures.some c.in_err-place.ensures)
+    c.pieces.invariant.reached c.in-Some.ensures.some c.in_err-place.ensures)
