@@ -13,6 +13,8 @@ mod generate;
 mod good;
 #[cfg(test)]
 mod running;
+#[cfg(test)]
+mod texts;
 mod worked;
 
 pub use worked::{definitions_compute, operators_compute};

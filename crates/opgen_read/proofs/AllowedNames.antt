@@ -1,12 +1,12 @@
 -- An allowed name is UTF-8, since it is ASCII.
-use Rattle.std.specs.Str.{IsUtf8, IsAscii}
+use Rattle.std.specs.Str.{IsUtf8}
 use Rattle.std.specs.List.{list_all}
 use Rattle.std.specs.Char.{is_ascii_lowercase, is_ascii_digit}
-use Rattle.std.proofs.Common.{◌≡◌, inl, inr, ℕ, zero, suc, ◌≤◌, ◌<◌, ◌&&◌, ◌||◌, Bool, true, false, nat_le, List, [], ◌∷◌, length, arith, eqb}
+use Rattle.std.proofs.Common.{◌≡◌, inl, inr, ℕ, zero, suc, ◌<◌, ◌&&◌, ◌||◌, true, false, nat_le, List, [], ◌∷◌, length, arith}
 use Rattle.std.proofs.lemmas.Bool.{and_parts, or_cases, leb-true, eqb-true, false_from_ne_true}
 use Rattle.std.proofs.lemmas.Str.{IsUtf8-from_ascii}
-use Rattle.std.specs.Prelude.{slice_index, if◌then◌else◌, Some, None, Option}
-use Rattle.opgen_net.specs.Names.{is_allowed_name, is_name_byte, is_identifier, is_refused, starts_with_letter, has_single_underscores, is_underscore}
+use Rattle.std.specs.Prelude.{slice_index}
+use Rattle.opgen_net.specs.Names.{is_allowed_name, is_name_byte, is_identifier, starts_with_letter, has_single_underscores, is_underscore}
 
 byte-below : (b : ℕ) → is_name_byte b ≡ true → b < 128
 byte-below b h = elim (or_cases (is_ascii_lowercase b || is_ascii_digit b) (is_underscore b) h) [

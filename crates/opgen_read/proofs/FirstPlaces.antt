@@ -2,7 +2,7 @@
 use Rattle.std.specs.Prelude.{position, is_some}
 use Rattle.std.specs.Option.{option_copied}
 use Rattle.std.specs.List.{position_or_len}
-use Rattle.std.proofs.Common.{Bor, map, ◌≡◌, ◌⊎◌, inl, inr, ℕ, suc, ◌+◌, ◌≤◌, ◌<◌, Bool, true, false, cond, List, [], ◌∷◌, ◌++◌, length, Option, Some, None, refl, ap, sym, ◌∙◌, arith, length-append}
+use Rattle.std.proofs.Common.{Bor, map, ◌≡◌, inl, inr, ℕ, ◌+◌, ◌≤◌, Bool, true, false, cond, List, [], ◌∷◌, ◌++◌, length, Option, Some, None, refl, ap, sym, ◌∙◌, arith, length-append}
 use Rattle.std.specs.Map.{update}
 use Rattle.std.specs.Str.{bytes_eq}
 use Rattle.std.proofs.lemmas.Slice.Eq.{bytes_eq-Decides}
@@ -40,8 +40,8 @@ module _ {X : Type 0} (p : X → Bool) where
   pub position_push : (xs : List X) (x : X) → position p (xs ++ x ∷ []) ≡ noted_at (position p xs) (p x) (length xs)
   position_push xs x = elim (cases_lt (position_or_len p xs) (length xs)) [
     | inl h ↦
-      let same : position_or_len p (xs ++ x ∷ []) ≡ position_or_len p xs = position_or_len_push p xs x ∙ rw (ne_eqb (position_or_len p xs) (length xs) (λ e. omega (arith, e, h))) refl in
-      rw (same, lt-ltb (position_or_len p xs) (length xs) h, lt-ltb (position_or_len p xs) (length (xs ++ x ∷ [])) (omega (arith, h, length-append xs (x ∷ [])))) refl
+        let same : position_or_len p (xs ++ x ∷ []) ≡ position_or_len p xs = position_or_len_push p xs x ∙ rw (ne_eqb (position_or_len p xs) (length xs) (λ e. omega (arith, e, h))) refl in
+        rw (same, lt-ltb (position_or_len p xs) (length xs) h, lt-ltb (position_or_len p xs) (length (xs ++ x ∷ [])) (omega (arith, h, length-append xs (x ∷ [])))) refl
     | inr h ↦ rw (le-ltb (position_or_len p xs) (length xs) h) (one_more xs x (p x) refl (omega (arith, h, within xs)))
   ]
 

@@ -5,3 +5,8 @@ pub mod AllowedNames
 pub mod Operands
 pub mod Zeros
 pub mod TableRows
+pub mod FirstPiece
+pub mod Reaching
+pub mod FittingTokens
+pub mod DriverCount
+pub mod Judging

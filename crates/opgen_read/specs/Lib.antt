@@ -6,3 +6,7 @@ pub mod Names
 pub mod Rows
 pub mod Seen
 pub mod Moved
+pub mod Reached
+pub mod Stepped
+pub mod Answer
+pub mod Outcome

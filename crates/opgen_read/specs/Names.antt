@@ -1,5 +1,5 @@
 -- The names that are declared, as an expression is read under them.
-use Rattle.std.specs.Prelude.{◌∷◌, [], ◌++◌, List, Option, Some, None, map}
+use Rattle.std.specs.Prelude.{◌∷◌, [], List, Option, Some, None, map}
 use Rattle.opgen_net.specs.Tree.{Tree, Trees, more}
 use Rattle.opgen_text.specs.Grammar.{Names}
 use Rattle.opgen_text.specs.Symbols.{Symbol}

@@ -2,7 +2,7 @@ ghost use Rattle.std.specs.Prelude.{IsTrue, length};
 ghost use Rattle.std.specs.List.{list_all};
 ghost use Rattle.opgen_read.specs.Fits.{fits};
 
-use crate::token_text::{index_of, same_kind, same_word, word_of};
+use crate::token_text::{index_of, piece_len, same_kind, same_word, word_of};
 use opgen_num::Word;
 use opgen_text::{Token, TokenKind};
 
@@ -15,10 +15,10 @@ pub struct Cursor<'a> {
 }
 
 impl<'a> Cursor<'a> {
-    ghost use Rattle.std.specs.Prelude.{◌≡◌, IsTrue, IfSome, IfNone, ◌≤◌, ◌∷◌, [], length, map, option_map, codes};
+    ghost use Rattle.std.specs.Prelude.{◌≡◌, IsTrue, IfSome, IfNone, ◌≤◌, ◌<◌, ◌∷◌, [], length, map, option_map, codes};
     ghost use Rattle.std.specs.Char.{to_ascii_lowercase};
     ghost use Rattle.std.specs.List.{list_all};
-    ghost use Rattle.opgen_text.specs.Symbols.{symbols, symbol_of, mark, word, number};
+    ghost use Rattle.opgen_text.specs.Symbols.{symbols, symbol_of, pieces, mark, word, number};
     ghost use Rattle.opgen_text.specs.Reader.{eat, is_mark, index_at, string_at, end_at};
     ghost use Rattle.opgen_read.specs.Fits.{fits, is_numeral};
     ghost use Rattle.opgen_read.specs.Left.{left};
@@ -120,5 +120,28 @@ impl<'a> Cursor<'a> {
             None => Some(rest),
             Some(_) => None,
         }
+    }
+
+    /// The tokens up to the first semicolon, with it, and what is left behind them.
+    pub fn piece(self) -> Option<(Cursor<'a>, Cursor<'a>)>
+        ensures some { IfSome result (λ x. pieces (left self.entry) ≡ left x.0 ∷ pieces (left x.1)) }
+        ensures shorter { IfSome result (λ x. length (left x.1) < length (left self.entry)) }
+        ensures none { IfNone result (left self.entry ≡ []) }
+    {
+        if self.tokens.is_empty() {
+            return None;
+        }
+        let (piece, more) = self.tokens.split_at(piece_len(self.tokens));
+        let bytes = self.bytes;
+        Some((
+            Cursor {
+                bytes,
+                tokens: piece,
+            },
+            Cursor {
+                bytes,
+                tokens: more,
+            },
+        ))
     }
 }

@@ -65,7 +65,10 @@ impl<T: Named + Drop> Declared<T> {
     pub fn new(alloc: Global) -> Result<Declared<T>, AllocError>
         ensures { IfOk result (λ d. d ≡ []) }
     {
-        Ok(Declared { items: Items::new(alloc), first: IndexMap::new(alloc) })
+        Ok(Declared {
+            items: Items::new(alloc),
+            first: IndexMap::new(alloc),
+        })
     }
 
     /// The place of the first declaration of this name, or how many declarations there are.

@@ -1,13 +1,19 @@
-//! The reader of the VHDL subset.
+//! The reader of the VHDL subset: from the bytes of a text to the design that it spells.
 #![tactic(auto)]
 
-pub mod cursor;
-pub mod declared;
-pub mod draft;
-pub mod expression;
-pub mod name;
-pub mod refusal;
-pub mod statement;
-pub mod take;
-pub mod token_text;
-pub mod unit;
+mod cursor;
+mod declared;
+mod draft;
+mod expression;
+mod fault;
+mod name;
+mod pieces;
+mod read;
+mod refusal;
+mod statement;
+mod take;
+mod token_text;
+mod unit;
+
+pub use fault::ReadFault;
+pub use read::{MAX_PORTS, MAX_SIGNALS, read_design};

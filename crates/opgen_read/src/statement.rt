@@ -138,12 +138,7 @@ fn choice(
 
 // An assignment to a signal, behind `<=`.
 #[tactic(auto, unfolding(opgen_text::specs::Reader::valued_at, opgen_text::specs::Reader::and_then, opgen_text::specs::Reader::choice))]
-fn valued(
-    alloc: Global,
-    scope: Scope<'_>,
-    to: usize,
-    rest: Cursor<'_>,
-) -> Result<Driver, Refusal>
+fn valued(alloc: Global, scope: Scope<'_>, to: usize, rest: Cursor<'_>) -> Result<Driver, Refusal>
     ensures { Gives (λ x. x) result (valued_at (names_in scope.entry) to (left rest.entry)) }
 {
     let (value, rest) = expression(alloc, scope, MAX_DEPTH, rest)?;
@@ -161,12 +156,7 @@ fn valued(
 
 // An assignment to an output, behind `std_logic_vector`.
 #[tactic(auto, unfolding(opgen_text::specs::Reader::output_at, opgen_text::specs::Reader::and_then))]
-fn output(
-    alloc: Global,
-    scope: Scope<'_>,
-    port: usize,
-    rest: Cursor<'_>,
-) -> Result<Driver, Refusal>
+fn output(alloc: Global, scope: Scope<'_>, port: usize, rest: Cursor<'_>) -> Result<Driver, Refusal>
     ensures { Gives (λ x. x) result (output_at (names_in scope.entry) port (left rest.entry)) }
 {
     let rest = rest.mark(TokenKind::LeftParen).ok_or(Refusal::Refused)?;

@@ -137,7 +137,11 @@ pub fn take(alloc: Global, draft: Draft, place: Place, piece: Cursor<'_>) -> Ste
 {
     match place {
         Place::Library => onward(draft, library_clause(piece), Place::UseLogic),
-        Place::UseLogic => onward(draft, use_clause(piece, "std_logic_1164"), Place::UseNumeric),
+        Place::UseLogic => onward(
+            draft,
+            use_clause(piece, "std_logic_1164"),
+            Place::UseNumeric,
+        ),
         Place::UseNumeric => onward(draft, use_clause(piece, "numeric_std"), Place::Entity),
         Place::Entity => {
             let name = entity(alloc, piece)?;

@@ -8,9 +8,10 @@ ghost use Rattle.opgen_text.specs.Bytes.{is_bit};
 ghost use Rattle.opgen_text.specs.Grammar.{value};
 ghost use Rattle.opgen_text.specs.Reader.{same_kind, rank};
 ghost use Rattle.opgen_text.specs.Symbols.{bits_in};
+ghost use Rattle.opgen_read.specs.Fits.{piece_len};
 
 use opgen_num::Word;
-use opgen_text::TokenKind;
+use opgen_text::{Token, TokenKind};
 
 // The number of the highest bit of a word.
 const MAX_INDEX: u32 = 63;
@@ -76,4 +77,18 @@ pub fn word_of(text: &[u8]) -> Word
         }
     }
     word
+}
+
+/// How many tokens stand up to the first semicolon, with it.
+pub fn piece_len(tokens: &[Token]) -> usize
+    ensures value { result ≡ piece_len tokens.now }
+    ensures most { result ≤ length tokens.now }
+    ensures some { 0 < length tokens.now → 0 < result }
+{
+    'tokens: for (i, token) in tokens.iter().enumerate() {
+        if same_kind(token.kind, TokenKind::Semicolon) {
+            return i + 1;
+        }
+    }
+    tokens.len()
 }

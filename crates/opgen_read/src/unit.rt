@@ -63,10 +63,7 @@ fn width(rest: Cursor<'_>) -> Option<(u32, Cursor<'_>)>
 {
     let rest = rest.mark(TokenKind::LeftParen)?;
     let (high, rest) = rest.index()?;
-    let rest = rest
-        .word("downto")?
-        .zero()?
-        .mark(TokenKind::RightParen)?;
+    let rest = rest.word("downto")?.zero()?.mark(TokenKind::RightParen)?;
     Some((high + 1, rest))
 }
 

@@ -1,5 +1,5 @@
-use Rattle.std.proofs.Common.{◌≡◌, [], ◌∷◌, ◌++◌, length, Some, ap, sym, ◌∙◌, arith}
-use Rattle.opgen_text.specs.Reader.{row_at, rows_at}
+use Rattle.std.proofs.Common.{length, ap, sym, ◌∙◌, arith}
+use Rattle.opgen_text.specs.Reader.{rows_at}
 use Rattle.opgen_text.proofs.Takes.{row-shorter}
 use Rattle.opgen_read.specs.Left.{left}
 use Rattle.opgen_read.specs.Rows.{with_rows}
@@ -12,7 +12,7 @@ rows-smaller c = omega (arith, row-shorter (left c.rows.rest) c.in-Some.row (lef
 pub rows-preserved : goal.rows-preserved
 rows-preserved c = record {
   same = ap (λ u. with_rows u (rows_at (length (left c.in-Some.more)) (left c.in-Some.more))) c.in_ok-push.ensures.ok
-    ∙ sym (rows-step c.rows.rows (left c.rows.rest) c.in-Some.row (left c.in-Some.more) (sym c.in-Some.ensures)) ∙ c.rows.invariant.same;
+      ∙ sym (rows-step c.rows.rows (left c.rows.rest) c.in-Some.row (left c.in-Some.more) (sym c.in-Some.ensures)) ∙ c.rows.invariant.same;
 }
 
 pub returns-in-Some-other : goal.returns-in-Some-other
