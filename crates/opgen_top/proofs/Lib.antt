@@ -5,3 +5,4 @@ pub mod Parts
 pub mod Names
 pub mod Preparing
 pub mod Leaving
+mod Spelled

@@ -9,6 +9,7 @@ use Rattle.opgen_net.specs.Run.{AreWords, Words, Run}
 use Rattle.opgen_net.specs.Run.{outputs_of as design_outputs}
 use Rattle.opgen_net.specs.Sound.{IsSound}
 use Rattle.opgen_text.specs.DesignText.{text_of}
+use Rattle.opgen_text.specs.Spelled.{Spells}
 use Rattle.opgen_spec.specs.Document.{tree}
 use Rattle.opgen_spec.specs.Faults.{read}
 use Rattle.opgen_operator.specs.declared.spec.PortFormat.{PortFormat}
@@ -32,10 +33,13 @@ pub record Serves (spec : Spec) (d : Design) : Type 0 where
       → IsInRange spec (recent_words (inputs_of spec) inputs t)
       → IsGood spec (recent_words (inputs_of spec) inputs t) (output_words (outputs_of spec) (design_outputs d v))
 
--- the text of a sound design of this name that serves the specification
+-- The text of a sound design of this name that serves the specification. By the grammar of the text it spells that design
+-- and no other.
 pub record IsCircuitText (spec : Spec) (text : List ℕ) : Type 0 where
   pub design : Design
   pub written : text ≡ text_of design
+  pub spells : Spells text design
+  pub no_other : (other : Design) → Spells text other → other ≡ design
   pub called : design.name ≡ spec.name
   pub sound : IsSound design
   pub serves : Serves spec design
