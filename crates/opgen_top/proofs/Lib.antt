@@ -6,3 +6,4 @@ pub mod Names
 pub mod Preparing
 pub mod Leaving
 pub mod RunRows
+mod Spelled

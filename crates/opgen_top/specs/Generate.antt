@@ -4,11 +4,16 @@ use Rattle.opgen_net.specs.declared.design.Design.{Design}
 use Rattle.opgen_net.specs.declared.design.Dir.{Dir}
 use Rattle.opgen_net.specs.declared.design.Dir.TheVariants.{In, Out}
 use Rattle.opgen_net.specs.declared.design.Port.{Port}
+use Rattle.opgen_net.specs.declared.net.Net.{Net}
 use Rattle.opgen_net.specs.Flow.{Inputs}
+use Rattle.opgen_net.specs.Made.{design_of}
+use Rattle.opgen_net.specs.Named.{IsNamed}
 use Rattle.opgen_net.specs.Run.{AreWords, Words, Run}
 use Rattle.opgen_net.specs.Run.{outputs_of as design_outputs}
 use Rattle.opgen_net.specs.Sound.{IsSound}
+use Rattle.opgen_net.specs.Valid.{IsValid}
 use Rattle.opgen_text.specs.DesignText.{text_of}
+use Rattle.opgen_text.specs.Spelled.{Spells}
 use Rattle.opgen_spec.specs.Document.{tree}
 use Rattle.opgen_spec.specs.Faults.{read}
 use Rattle.opgen_operator.specs.declared.spec.PortFormat.{PortFormat}
@@ -38,10 +43,19 @@ pub record IsCircuit (spec : Spec) (design : Design) : Type 0 where
   pub sound : IsSound design
   pub serves : Serves spec design
 
--- the text of one
+-- the design of a net that can stand in it under this name
+pub record IsMade (name : List ℕ) (design : Design) : Type 0 where
+  pub net : Net
+  pub valid : IsValid net
+  pub named : IsNamed name net
+  pub made : design ≡ design_of name net
+
+-- The text of a circuit for the specification. By the grammar of the text it spells that design and no other.
 pub record IsCircuitText (spec : Spec) (text : List ℕ) : Type 0 where
   pub design : Design
   pub written : text ≡ text_of design
+  pub spells : Spells text design
+  pub no_other : (other : Design) → Spells text other → other ≡ design
   pub circuit : IsCircuit spec design
 
 -- the bytes are a specification without a fault that can be generated, and the file, named after it, has the text of its circuit

@@ -7,7 +7,7 @@ ghost use Rattle.opgen_spec.specs.Faults.{read};
 ghost use Rattle.opgen_operator.specs.declared.spec.Spec.{Spec as SpecData};
 ghost use Rattle.opgen_top.specs.Answer.{answer_of, answer_of_reading, file_name, IsAnswer, refused, wrote};
 ghost use Rattle.opgen_top.specs.Built.{multiplication};
-ghost use Rattle.opgen_top.specs.Generate.{IsCircuit, IsCircuitText, IsGenerated};
+ghost use Rattle.opgen_top.specs.Generate.{IsCircuit, IsMade, IsCircuitText, IsGenerated};
 ghost use Rattle.opgen_top.specs.declared.line.Line.{Line as LineData};
 
 use crate::buildable::{Multiplication, multiplication_of};
@@ -34,7 +34,8 @@ fn circuit(alloc: Global, spec: &Spec, asked: Multiplication) -> Result<Design, 
     requires asked { multiplication spec.now ≡ Some (record { width = asked.width; factor = asked.factor }) }
     requires width { (1 ≤ asked.width) × (asked.width ≤ 6) }
     requires factor { (1 ≤ asked.factor) × (asked.factor ≤ 2 ^ 30) }
-    ensures { IfOk result (IsCircuit spec.now) }
+    ensures circuit { IfOk result (IsCircuit spec.now) }
+    ensures made { IfOk result (IsMade spec.now.name) }
 {
     let net = times(alloc, asked.width, asked.factor)?;
     Ok(flat(alloc, &net, spec.name.as_str())?)

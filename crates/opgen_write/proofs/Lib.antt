@@ -9,6 +9,7 @@ mod Leading
 mod Declarations
 mod Bodies
 mod Writable
-mod Designs
-mod MadeDesigns
-mod MadeNames
+pub mod Designs
+pub mod MadeDesigns
+pub mod MadeNames
+pub mod Lengths

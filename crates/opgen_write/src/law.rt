@@ -29,3 +29,8 @@ pub fn made_designs()
     ensures writable { (name : List ℕ) (net : Net) → IsNamed name net → length net.nodes ≤ 2 ^ 64
         → IsSound (design_of name net) → IsWritable (design_of name net) }
 {}
+
+/// The text of a design has a byte for each signal at least.
+pub fn text_lengths()
+    ensures { (d : Design) → length d.signals ≤ length (text_of d) }
+{}

@@ -1,4 +1,5 @@
 use Rattle.std.proofs.Common.{ap, sym, ◌∙◌, subst}
+use Rattle.opgen_net.specs.Made.{design_of}
 use Rattle.opgen_flat.proofs.Follows.{follows}
 use Rattle.opgen_flat.proofs.Runs.{design_runs}
 use Rattle.opgen_top.specs.Generate.{Serves}
@@ -10,8 +11,8 @@ use Rattle.opgen_top.proofs.generate.circuit.Goals as goal
 pub flat-requires-clause-named : goal.flat-requires-clause-named
 flat-requires-clause-named c = rw c.as_str.ensures (named c.args.spec.now.name c.requires.allowed c.args.asked.width c.args.asked.factor c.in_ok-net.net c.in_ok-net.ensures.times)
 
-pub returns : goal.returns
-returns c =
+pub returns-clause-circuit : goal.returns-clause-circuit
+returns-clause-circuit c =
     let spec = c.args.spec.now in
     let net = c.in_ok-net.net in
     let made = c.in_ok-flat.ensures.design in
@@ -20,4 +21,14 @@ returns c =
       called = ap (λ d. d.name) made ∙ c.as_str.ensures;
       sound = c.in_ok-flat.ensures.sound;
       serves = subst (Serves spec) (sym made) (serves follows design_runs _ spec net net_fits);
+    }
+
+pub returns-clause-made : goal.returns-clause-made
+returns-clause-made c =
+    let name = c.args.spec.now.name in
+    let net = c.in_ok-net.net in record {
+      net = net;
+      valid = c.in_ok-net.ensures.valid;
+      named = named name c.requires.allowed c.args.asked.width c.args.asked.factor net c.in_ok-net.ensures.times;
+      made = c.in_ok-flat.ensures.design ∙ ap (λ n. design_of n net) c.as_str.ensures;
     }
