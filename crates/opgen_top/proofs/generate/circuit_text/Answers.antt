@@ -25,7 +25,7 @@ returns-in-Ok c =
     let net_fits = fits c.args.asked.width c.args.asked.factor c.requires.width.0 c.requires.factor.0 net c.in_ok-net.ensures.valid c.in_ok-net.ensures.times spec asks.inner asks.exact asks.op in
     let can_stand = named spec.name c.requires.allowed c.args.asked.width c.args.asked.factor net c.in_ok-net.ensures.times in
     let spelled = written_spells spec.name net c.in_ok-design.design c.into_bytes.result.items (made ∙ ap (λ n. design_of n net) c.as_str.ensures) c.in_ok-net.ensures.valid can_stand
-        c.in_ok-design.ensures.sound text (omega (arith, c.into_bytes.result.small, c.into_bytes.result.ok.0, c.into_bytes.result.ok.1)) in
+    c.in_ok-design.ensures.sound text (omega (arith, c.into_bytes.result.small, c.into_bytes.result.ok.0, c.into_bytes.result.ok.1)) in
     record {
       design = c.in_ok-design.design;
       written = text;
