@@ -49,7 +49,7 @@ fn circuit_text(alloc: Global, spec: &Spec, asked: Multiplication) -> Result<Vec
     ensures { IfOk result (λ bytes. IsCircuitText spec.now bytes.items) }
 {
     let design = circuit(alloc, spec, asked)?;
-    text(alloc, &design)
+    Ok(text(alloc, &design)?)
 }
 
 fn file_name(alloc: Global, name: &str) -> Result<String, AllocError>
