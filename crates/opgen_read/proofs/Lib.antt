@@ -10,3 +10,4 @@ pub mod Reaching
 pub mod FittingTokens
 pub mod DriverCount
 pub mod Judging
+pub mod FirstCause

@@ -6,6 +6,7 @@ mod declared;
 mod draft;
 mod expression;
 mod fault;
+mod law;
 mod name;
 mod pieces;
 mod read;
@@ -16,4 +17,5 @@ mod token_text;
 mod unit;
 
 pub use fault::ReadFault;
+pub use law::one_cause;
 pub use read::{MAX_PORTS, MAX_SIGNALS, read_design};
