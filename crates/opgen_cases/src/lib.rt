@@ -2,19 +2,10 @@
 #![tactic(auto)]
 
 #[cfg(test)]
-mod documents;
-#[cfg(test)]
-mod draws;
-#[cfg(test)]
 mod faults;
 #[cfg(test)]
 mod generate;
-#[cfg(test)]
-mod good;
-#[cfg(test)]
-mod running;
-#[cfg(test)]
-mod texts;
+pub mod running;
 mod worked;
 
 pub use worked::{definitions_compute, operators_compute};

@@ -1,5 +1,5 @@
 //! Documents with a line or two changed, and what `generate` prints for them.
-use crate::running::generated;
+use opgen_cases::running::generated;
 use std::alloc::{AllocError, Global};
 use std::test::Fail;
 

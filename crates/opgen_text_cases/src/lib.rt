@@ -1,0 +1,5 @@
+//! Texts of the VHDL subset, read: tests alone.
+#![tactic(auto)]
+
+#[cfg(test)]
+mod texts;
