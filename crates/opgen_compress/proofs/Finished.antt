@@ -20,8 +20,8 @@ use Rattle.opgen_net.specs.declared.node.Node.{Node}
 use Rattle.opgen_net.specs.declared.node.Node.TheVariants.{Constant, Cells}
 use Rattle.opgen_net.specs.declared.word_bits.WordBit.{WordBit}
 use Rattle.opgen_net.specs.declared.word_bits.WordBit.TheVariants.{Zero, One, Of}
-use Rattle.opgen_net.specs.declared.word_bits.Run.{Run}
-use Rattle.opgen_net.specs.declared.word_bits.Run.TheVariants.{Bits, Part}
+use Rattle.opgen_net.specs.declared.word_bits.Piece.{Piece}
+use Rattle.opgen_net.specs.declared.word_bits.Piece.TheVariants.{Bits, Part}
 use Rattle.opgen_net.specs.Tree.{name, none, more}
 use Rattle.opgen_net.specs.Flow.{Inputs, KeepsFlow, flow}
 use Rattle.opgen_net.specs.Made.{slice_tree}
@@ -158,7 +158,7 @@ sum-number width a b h g =
 
 -- a word more
 
-more-widths : (ns : List Node) (count : ℕ) (rs : List Run) (k : ℕ) → k < length ns → slice_index (widths (with_runs ns count rs).nodes) k ≡ slice_index (widths ns) k
+more-widths : (ns : List Node) (count : ℕ) (rs : List Piece) (k : ℕ) → k < length ns → slice_index (widths (with_runs ns count rs).nodes) k ≡ slice_index (widths ns) k
 more-widths ns count [] k h = width-append_before ns (Cells Wire count (word_tree (widths ns) [])) k h
 more-widths ns count (Bits w ∷ []) k h = width-append_before ns (Constant w) k h
 more-widths ns count (Part s ∷ []) k h =
@@ -168,7 +168,7 @@ more-widths ns count (Part s ∷ []) k h =
 more-widths ns count (Bits w ∷ q ∷ rs) k h = width-append_before ns (Cells Wire count (word_tree (widths ns) (Bits w ∷ q ∷ rs))) k h
 more-widths ns count (Part s ∷ q ∷ rs) k h = width-append_before ns (Cells Wire count (word_tree (widths ns) (Part s ∷ q ∷ rs))) k h
 
-more-nodes : (ns : List Node) (count : ℕ) (rs : List Run) → length ns ≤ length (with_runs ns count rs).nodes
+more-nodes : (ns : List Node) (count : ℕ) (rs : List Piece) → length ns ≤ length (with_runs ns count rs).nodes
 more-nodes ns count [] = omega (arith, length-append ns (Cells Wire count (word_tree (widths ns) []) ∷ []))
 more-nodes ns count (Bits w ∷ []) = omega (arith, length-append ns (Constant w ∷ []))
 more-nodes ns count (Part s ∷ []) =

@@ -35,33 +35,3 @@ pub fn components(alloc: Global, graph: &[Vec<usize>]) -> Result<Vec<Component>,
     }
     walk.components(alloc)
 }
-
-#[cfg(test)]
-mod tests {
-    use super::*;
-    use std::test::Fail;
-
-    fn graph(alloc: Global, links: &[&[usize]]) -> Result<Vec<Vec<usize>>, AllocError> {
-        let mut graph = Vec::new(alloc);
-        for nodes in links {
-            graph.push(Vec::from_slice(alloc, nodes)?)?;
-        }
-        Ok(graph)
-    }
-
-    #[test]
-    fn cycles_apart(rt: HostRuntime) -> Result<(), Fail> {
-        let graph = graph(
-            rt.alloc(),
-            &[&[1, 4], &[2], &[1, 3], &[], &[4, 2], &[0, 5, 6], &[]],
-        )?;
-        let found = components(rt.alloc(), &graph)?;
-        let cyclic = [false, true, true, false, true, true, false];
-        assert_eq!(rt; found.len(), 7);
-        for (node, component) in found.iter().enumerate() {
-            assert_eq!(rt; component.cyclic, cyclic[node]);
-        }
-        assert_eq!(rt; found[2].number, found[1].number);
-        Ok(())
-    }
-}

@@ -13,7 +13,7 @@ use Rattle.opgen_net.specs.declared.design.Port.{Port}
 use Rattle.opgen_net.specs.declared.design.Driver.{Driver}
 use Rattle.opgen_net.specs.Made.{signal_name, initial_of, node_signal, node_driver, each_node, output_drivers, is_register, input_port, output_port, drivers_of, design_of}
 use Rattle.opgen_net.specs.Valid.{widths}
-use Rattle.opgen_flat.specs.Combinational.{is_delay, HasNoDelay}
+use Rattle.opgen_net.specs.Valid.{is_delay, HasNoDelay}
 use Rattle.opgen_flat.proofs.Filters.{filter-kept, filter-dropped}
 
 pub not_delay : (ns : List Node) → list_any is_delay ns ≡ false → (i : ℕ) (d : Node) → i < length ns → is_delay (get_or ns i d) ≡ false

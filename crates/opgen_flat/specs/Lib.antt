@@ -1,4 +1,3 @@
-pub mod Combinational
 pub mod Following
 pub mod Soundness
 pub mod Running

@@ -5,8 +5,7 @@ ghost use Rattle.std.specs.Prelude.{◌≡◌, IfOk};
 ghost use Rattle.opgen_net.specs.Made.{design_of};
 ghost use Rattle.opgen_net.specs.Named.{IsNamed};
 ghost use Rattle.opgen_net.specs.Sound.{IsSound};
-ghost use Rattle.opgen_net.specs.Valid.{IsValid};
-ghost use Rattle.opgen_flat.specs.Combinational.{HasNoDelay};
+ghost use Rattle.opgen_net.specs.Valid.{HasNoDelay, IsValid};
 
 mod drivers;
 mod laws;

@@ -1,7 +1,6 @@
 ghost use Rattle.std.specs.Prelude.{◌≡◌, IfOk};
 ghost use Rattle.opgen_net.specs.Made.{each_node, node_signal, signal_name};
-ghost use Rattle.opgen_net.specs.Valid.{widths as widths_of};
-ghost use Rattle.opgen_flat.specs.Combinational.{HasNoDelay};
+ghost use Rattle.opgen_net.specs.Valid.{HasNoDelay, widths as widths_of};
 
 use opgen_list::{Items, Text};
 use opgen_net::{Net, Signal};

@@ -15,3 +15,4 @@ pub mod FirstFailing
 pub mod SoundLaws
 pub mod GroupLaws
 pub mod NameWalk
+pub mod OrderLaws

@@ -14,8 +14,8 @@ use Rattle.opgen_net.specs.declared.net.Net.{Net}
 use Rattle.opgen_net.specs.declared.node.Node.TheVariants.{Constant, Cells}
 use Rattle.opgen_net.specs.declared.word_bits.WordBit.{WordBit}
 use Rattle.opgen_net.specs.declared.word_bits.WordBit.TheVariants.{Zero, One, Of}
-use Rattle.opgen_net.specs.declared.word_bits.Run.{Run}
-use Rattle.opgen_net.specs.declared.word_bits.Run.TheVariants.{Bits, Part}
+use Rattle.opgen_net.specs.declared.word_bits.Piece.{Piece}
+use Rattle.opgen_net.specs.declared.word_bits.Piece.TheVariants.{Bits, Part}
 use Rattle.opgen_net.specs.Tree.{Tree, name, part, chain, none}
 use Rattle.opgen_net.specs.Plain.{trees_of}
 use Rattle.opgen_net.specs.Value.{Scope, cut, value, value_on}
@@ -55,19 +55,19 @@ cut-whole w high low z h =
 
 -- lengths of runs
 
-abbrev run_length : Run → ℕ
+abbrev run_length : Piece → ℕ
 run_length (Bits w) = length w
 run_length (Part s) = slice_width s
 
-abbrev runs_length : List Run → ℕ
+abbrev runs_length : List Piece → ℕ
 runs_length [] = 0
 runs_length (r ∷ rs) = run_length r + runs_length rs
 
-abbrev AllThere : List ℕ → List Run → Type 0
+abbrev AllThere : List ℕ → List Piece → Type 0
 AllThere ws [] = Unit {0}
 AllThere ws (r ∷ rs) = RunIsThere ws r × AllThere ws rs
 
-record IsAbove (ws : List ℕ) (old new : List Run) : Type 0 where
+record IsAbove (ws : List ℕ) (old new : List Piece) : Type 0 where
   there : AllThere ws new
   count : runs_length new ≡ runs_length old + 1
 
@@ -75,15 +75,15 @@ near : (node index : ℕ) (s : Slice) → (nat_eq node s.node && nat_eq index (s
 near node index s h = let a = and_parts (nat_eq node s.node) (nat_eq index (s.high + 1)) h in (eqb-true node s.node a.0, eqb-true index (s.high + 1) a.1)
 
 module _ (ws : List ℕ) where
-  alone-above : (b : WordBit) (rs : List Run) → IsThere ws b → AllThere ws rs → IsAbove ws rs (alone b ∷ rs)
+  alone-above : (b : WordBit) (rs : List Piece) → IsThere ws b → AllThere ws rs → IsAbove ws rs (alone b ∷ rs)
   alone-above Zero rs h a = record { there = (omega arith, a); count = omega arith }
   alone-above One rs h a = record { there = (omega arith, a); count = omega arith }
   alone-above (Of node index) rs h a = record { there = ((omega arith, h), a); count = omega arith }
 
-  longer-above : (b : Bool) (w : List Bool) (rs : List Run) → AllThere ws (Bits w ∷ rs) → IsAbove ws (Bits w ∷ rs) (Bits (w ++ b ∷ []) ∷ rs)
+  longer-above : (b : Bool) (w : List Bool) (rs : List Piece) → AllThere ws (Bits w ∷ rs) → IsAbove ws (Bits w ∷ rs) (Bits (w ++ b ∷ []) ∷ rs)
   longer-above b w rs a = record { there = (omega (arith, length-append w (b ∷ [])), a.1); count = omega (arith, length-append w (b ∷ [])) }
 
-  part-above : (node index : ℕ) (s : Slice) (rs : List Run) → index < slice_index ws node → AllThere ws (Part s ∷ rs)
+  part-above : (node index : ℕ) (s : Slice) (rs : List Piece) → index < slice_index ws node → AllThere ws (Part s ∷ rs)
       → (c : Bool) → (c ≡ true → (node ≡ s.node) × (index ≡ s.high + 1))
       → IsAbove ws (Part s ∷ rs) (over (Of node index) (if c then Some (Part (record { node = node; high = index; low = s.low })) else None) (Part s) rs)
   part-above node index s rs h a true f =
@@ -91,7 +91,7 @@ module _ (ws : List ℕ) where
       record { there = ((omega (arith, a.0.0, n.1), h), a.1); count = omega (arith, a.0.0, n.1) }
   part-above node index s rs h a false f = alone-above (Of node index) (Part s ∷ rs) h a
 
-  above-above : (b : WordBit) (rs : List Run) → IsThere ws b → AllThere ws rs → IsAbove ws rs (above b rs)
+  above-above : (b : WordBit) (rs : List Piece) → IsThere ws b → AllThere ws rs → IsAbove ws rs (above b rs)
   above-above b [] h a = alone-above b [] h a
   above-above Zero (Bits w ∷ rs) h a = longer-above false w rs a
   above-above One (Bits w ∷ rs) h a = longer-above true w rs a
@@ -114,7 +114,7 @@ module _ (ws : List ℕ) where
       let t = later-there b bs h in
       omega (arith, (above-above b (runs bs) (h 0 b (omega arith)) (runs-there bs t)).count, runs-count bs t)
 
-  all_there : (rs : List Run) → AllThere ws rs → All (RunIsThere ws) rs
+  all_there : (rs : List Piece) → AllThere ws rs → All (RunIsThere ws) rs
   all_there [] a = All-nil (RunIsThere ws)
   all_there (r ∷ rs) a = All-cons (RunIsThere ws) r rs a.0 (all_there rs a.1)
 
@@ -156,15 +156,15 @@ module _ (ws : List ℕ) where
       ∙ ap (λ c. if c then as_width (slice_width s) else None) (lt-ltb s.high w h.1)
       ∙ as_width-is (slice_width s) (omega (arith, h.0)) k
 
-  run-width : (r : Run) → RunIsThere ws r → run_length r ≤ MAX_WIDTH → width ws [] (run_tree ws r) ≡ Some (run_length r)
+  run-width : (r : Piece) → RunIsThere ws r → run_length r ≤ MAX_WIDTH → width ws [] (run_tree ws r) ≡ Some (run_length r)
   run-width (Bits w) h k = as_width-is (length w) h k
   run-width (Part s) h k = either-width s h k (is_whole ws s) (whole ws s)
 
-  run_length-pos : (r : Run) → RunIsThere ws r → 1 ≤ run_length r
+  run_length-pos : (r : Piece) → RunIsThere ws r → 1 ≤ run_length r
   run_length-pos (Bits w) h = h
   run_length-pos (Part s) h = omega (arith, h.0)
 
-  more-width : (w : ℕ) (rs : List Run) → AllThere ws rs → 1 ≤ w → w + runs_length rs ≤ MAX_WIDTH
+  more-width : (w : ℕ) (rs : List Piece) → AllThere ws rs → 1 ≤ w → w + runs_length rs ≤ MAX_WIDTH
       → width_on ws [] Cat w (trees_of (map (run_tree ws) rs)) ≡ Some (w + runs_length rs)
   more-width w [] a h k = ap Some (omega arith)
   more-width w (r ∷ rs) a h k =
@@ -176,7 +176,7 @@ module _ (ws : List ℕ) where
       ∙ more-width (w + v) rs a.1 (omega (arith, h)) (omega (arith, k))
       ∙ ap Some e
 
-  word-width : (rs : List Run) → AllThere ws rs → 1 ≤ runs_length rs → runs_length rs ≤ MAX_WIDTH → width ws [] (word_tree ws rs) ≡ Some (runs_length rs)
+  word-width : (rs : List Piece) → AllThere ws rs → 1 ≤ runs_length rs → runs_length rs ≤ MAX_WIDTH → width ws [] (word_tree ws rs) ≡ Some (runs_length rs)
   word-width [] a h k = absurd (omega (arith, h))
   word-width (r ∷ []) a h k = run-width r a.0 (omega (arith, k)) ∙ ap Some (omega arith)
   word-width (r ∷ q ∷ rs) a h k =
@@ -187,15 +187,15 @@ module _ (ws : List ℕ) where
   either-nests true s = (refl, refl)
   either-nests false s = (refl, refl)
 
-  run-nests : (r : Run) → (in_chain (run_tree ws r) ≡ 0) × (nesting (run_tree ws r) ≡ 0)
+  run-nests : (r : Piece) → (in_chain (run_tree ws r) ≡ 0) × (nesting (run_tree ws r) ≡ 0)
   run-nests (Bits w) = (refl, refl)
   run-nests (Part s) = either-nests (is_whole ws s) s
 
-  operands-nest : (rs : List Run) → operands_nesting (trees_of (map (run_tree ws) rs)) ≡ 0
+  operands-nest : (rs : List Piece) → operands_nesting (trees_of (map (run_tree ws) rs)) ≡ 0
   operands-nest [] = refl
   operands-nest (r ∷ rs) = let a = run-nests r in omega (arith, a.0, a.1, operands-nest rs)
 
-  word-nests : (rs : List Run) → nesting (word_tree ws rs) ≡ 0
+  word-nests : (rs : List Piece) → nesting (word_tree ws rs) ≡ 0
   word-nests [] = refl
   word-nests (r ∷ []) = (run-nests r).1
   word-nests (r ∷ q ∷ rs) = operands-nest (r ∷ q ∷ rs)
@@ -217,20 +217,20 @@ module _ (ws : List ℕ) (f : ℕ → List Bool) (wide : (n : ℕ) → length (f
   bit_in One = true
   bit_in (Of node index) = slice_index_or (f node) index false
 
-  abbrev run_bits : Run → List Bool
+  abbrev run_bits : Piece → List Bool
   run_bits (Bits w) = w
   run_bits (Part s) = cut s.high s.low (f s.node)
 
-  abbrev runs_bits : List Run → List Bool
+  abbrev runs_bits : List Piece → List Bool
   runs_bits [] = []
   runs_bits (r ∷ rs) = runs_bits rs ++ run_bits r
 
-  alone-bits : (b : WordBit) (rs : List Run) → IsThere ws b → runs_bits (alone b ∷ rs) ≡ runs_bits rs ++ bit_in b ∷ []
+  alone-bits : (b : WordBit) (rs : List Piece) → IsThere ws b → runs_bits (alone b ∷ rs) ≡ runs_bits rs ++ bit_in b ∷ []
   alone-bits Zero rs h = refl
   alone-bits One rs h = refl
   alone-bits (Of node index) rs h = ap (λ v. runs_bits rs ++ v) (cut-one (f node) index (omega (arith, h, wide node)))
 
-  part-bits : (node index : ℕ) (s : Slice) (rs : List Run) → index < slice_index ws node → LiesWithin ws s
+  part-bits : (node index : ℕ) (s : Slice) (rs : List Piece) → index < slice_index ws node → LiesWithin ws s
       → (c : Bool) → (c ≡ true → (node ≡ s.node) × (index ≡ s.high + 1))
       → runs_bits (over (Of node index) (if c then Some (Part (record { node = node; high = index; low = s.low })) else None) (Part s) rs)
       ≡ runs_bits (Part s ∷ rs) ++ slice_index_or (f node) index false ∷ []
@@ -244,7 +244,7 @@ module _ (ws : List ℕ) (f : ℕ → List Bool) (wide : (n : ℕ) → length (f
       ∙ ap (λ i. runs_bits (Part s ∷ rs) ++ slice_index_or (f node) i false ∷ []) (sym n.1)
   part-bits node index s rs h a false g = alone-bits (Of node index) (Part s ∷ rs) h
 
-  above-bits : (b : WordBit) (rs : List Run) → IsThere ws b → AllThere ws rs → runs_bits (above b rs) ≡ runs_bits rs ++ bit_in b ∷ []
+  above-bits : (b : WordBit) (rs : List Piece) → IsThere ws b → AllThere ws rs → runs_bits (above b rs) ≡ runs_bits rs ++ bit_in b ∷ []
   above-bits b [] h a = alone-bits b [] h
   above-bits Zero (Bits w ∷ rs) h a = sym (append_assoc (runs_bits rs) w (false ∷ []))
   above-bits One (Bits w ∷ rs) h a = sym (append_assoc (runs_bits rs) w (true ∷ []))
@@ -269,18 +269,18 @@ module _ (ws : List ℕ) (f : ℕ → List Bool) (wide : (n : ℕ) → length (f
   either-value s true g = sym (cut-whole (f s.node) s.high s.low (g refl).0 (omega (arith, (g refl).1, wide s.node)))
   either-value s false g = refl
 
-  run-value : (r : Run) → value scope (run_tree ws r) ≡ run_bits r
+  run-value : (r : Piece) → value scope (run_tree ws r) ≡ run_bits r
   run-value (Bits w) = refl
   run-value (Part s) = either-value s (is_whole ws s) (whole ws s)
 
-  more-value : (w : List Bool) (rs : List Run) → value_on scope Cat w (trees_of (map (run_tree ws) rs)) ≡ runs_bits rs ++ w
+  more-value : (w : List Bool) (rs : List Piece) → value_on scope Cat w (trees_of (map (run_tree ws) rs)) ≡ runs_bits rs ++ w
   more-value w [] = refl
   more-value w (r ∷ rs) =
       ap (λ v. value_on scope Cat (v ++ w) (trees_of (map (run_tree ws) rs))) (run-value r)
       ∙ more-value (run_bits r ++ w) rs
       ∙ sym (append_assoc (runs_bits rs) (run_bits r) w)
 
-  word-value : (rs : List Run) → value scope (word_tree ws rs) ≡ runs_bits rs
+  word-value : (rs : List Piece) → value scope (word_tree ws rs) ≡ runs_bits rs
   word-value [] = refl
   word-value (r ∷ []) = run-value r
   word-value (r ∷ q ∷ rs) = ap (λ v. value_on scope Cat v (trees_of (map (run_tree ws) (q ∷ rs)))) (run-value r) ∙ more-value (run_bits r) (q ∷ rs)
@@ -304,7 +304,7 @@ module _ (net : Net) (valid : IsValid net) where
     part-found count s false g =
         flow-append_last net.nodes (Cells Wire count (slice_tree (widths net.nodes) s)) inputs t ∙ run-value (widths net.nodes) here wide (Part s)
 
-    runs-found : (count : ℕ) (rs : List Run) → flow (with_runs net.nodes count rs).nodes inputs (with_runs net.nodes count rs).place t ≡ runs_bits (widths net.nodes) here wide rs
+    runs-found : (count : ℕ) (rs : List Piece) → flow (with_runs net.nodes count rs).nodes inputs (with_runs net.nodes count rs).place t ≡ runs_bits (widths net.nodes) here wide rs
     runs-found count [] = flow-append_last net.nodes (Cells Wire count (chain Cat none)) inputs t
     runs-found count (Bits w ∷ []) = flow-append_last net.nodes (Constant w) inputs t
     runs-found count (Part s ∷ []) = part-found count s (is_whole (widths net.nodes) s) (whole (widths net.nodes) s)
@@ -331,7 +331,7 @@ module _ (net : Net) (valid : IsValid net) where
   part-found_width count s true e g = omega (arith, (g refl).0, (g refl).1, e)
   part-found_width count s false e g = width-append_last net.nodes (Cells Wire count (slice_tree (widths net.nodes) s))
 
-  runs-found_width : (count : ℕ) (rs : List Run) → count ≡ runs_length rs
+  runs-found_width : (count : ℕ) (rs : List Piece) → count ≡ runs_length rs
       → slice_index (widths (with_runs net.nodes count rs).nodes) (with_runs net.nodes count rs).place ≡ count
   runs-found_width count [] e = width-append_last net.nodes (Cells Wire count (chain Cat none))
   runs-found_width count (Bits w ∷ []) e = width-append_last net.nodes (Constant w) ∙ omega (arith, e)

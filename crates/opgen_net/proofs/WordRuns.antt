@@ -5,8 +5,8 @@ use Rattle.opgen_num.specs.Words.{digit, nat, word}
 use Rattle.opgen_num.proofs.Words.{digit-below, low-bit, nat-below}
 use Rattle.opgen_net.specs.declared.word_bits.WordBit.{WordBit}
 use Rattle.opgen_net.specs.declared.word_bits.WordBit.TheVariants.{Zero, One, Of}
-use Rattle.opgen_net.specs.declared.word_bits.Run.{Run}
-use Rattle.opgen_net.specs.declared.word_bits.Run.TheVariants.{Bits, Part}
+use Rattle.opgen_net.specs.declared.word_bits.Piece.{Piece}
+use Rattle.opgen_net.specs.declared.word_bits.Piece.TheVariants.{Bits, Part}
 use Rattle.opgen_net.specs.WordRule.{over, above, runs, FirstHasAtMost}
 
 -- a bit above a word adds its power of two to the word's number
@@ -25,7 +25,7 @@ word-with_top (a ∷ w) b =
     ∙ ap (λ k. a ∷ word (length w + 1) k) half
     ∙ ap (λ v. a ∷ v) (word-with_top w b)
 
-over-at_most : (n : ℕ) (b : WordBit) (r : Run) (rs : List Run) → FirstHasAtMost n (r ∷ rs) → FirstHasAtMost (n + 1) (above b (r ∷ rs))
+over-at_most : (n : ℕ) (b : WordBit) (r : Piece) (rs : List Piece) → FirstHasAtMost n (r ∷ rs) → FirstHasAtMost (n + 1) (above b (r ∷ rs))
 over-at_most n Zero (Bits w) rs h = omega (arith, h, length-append w (false ∷ []))
 over-at_most n One (Bits w) rs h = omega (arith, h, length-append w (true ∷ []))
 over-at_most n Zero (Part s) rs h = omega arith
@@ -33,13 +33,13 @@ over-at_most n One (Part s) rs h = omega arith
 over-at_most n (Of node index) (Bits w) rs h = tt
 over-at_most n (Of node index) (Part s) rs h = elim (nat_eq node s.node && nat_eq index (s.high + 1)) as (λ c. FirstHasAtMost (n + 1) (over (Of node index) (if c then Some (Part (record { node = node; high = index; low = s.low })) else None) (Part s) rs)) [ true ↦ tt | false ↦ tt ]
 
-above-at_most : (n : ℕ) (b : WordBit) (rs : List Run) → FirstHasAtMost n rs → FirstHasAtMost (n + 1) (above b rs)
+above-at_most : (n : ℕ) (b : WordBit) (rs : List Piece) → FirstHasAtMost n rs → FirstHasAtMost (n + 1) (above b rs)
 above-at_most n Zero [] h = omega arith
 above-at_most n One [] h = omega arith
 above-at_most n (Of node index) [] h = tt
 above-at_most n b (r ∷ rs) h = over-at_most n b r rs h
 
-first-at_most : (n : ℕ) (rs : List Run) (m : ℕ) → n ≤ m → FirstHasAtMost n rs → FirstHasAtMost m rs
+first-at_most : (n : ℕ) (rs : List Piece) (m : ℕ) → n ≤ m → FirstHasAtMost n rs → FirstHasAtMost m rs
 first-at_most n [] m l h = tt
 first-at_most n (Bits w ∷ rs) m l h = omega (arith, h, l)
 first-at_most n (Part s ∷ rs) m l h = tt

@@ -9,6 +9,7 @@ pub mod Valid
 pub mod Run
 pub mod Sound
 pub mod Rules
+pub mod Order
 pub mod Made
 pub mod Names
 pub mod Named

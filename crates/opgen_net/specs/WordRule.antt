@@ -8,8 +8,8 @@ use Rattle.opgen_net.specs.declared.node.Node.{Node}
 use Rattle.opgen_net.specs.declared.node.Node.TheVariants.{Constant, Cells}
 use Rattle.opgen_net.specs.declared.word_bits.WordBit.{WordBit}
 use Rattle.opgen_net.specs.declared.word_bits.WordBit.TheVariants.{Zero, One, Of}
-use Rattle.opgen_net.specs.declared.word_bits.Run.{Run}
-use Rattle.opgen_net.specs.declared.word_bits.Run.TheVariants.{Bits, Part}
+use Rattle.opgen_net.specs.declared.word_bits.Piece.{Piece}
+use Rattle.opgen_net.specs.declared.word_bits.Piece.TheVariants.{Bits, Part}
 use Rattle.opgen_net.specs.Tree.{Tree, bits, chain}
 use Rattle.opgen_net.specs.Plain.{trees_of}
 use Rattle.opgen_net.specs.Flow.{Inputs, flow}
@@ -38,13 +38,13 @@ HasBits before given after n =
     (inputs : Inputs) (t : ℤ) → All (AreWords (input_widths before)) inputs → flow after inputs n t ≡ word_flow before.nodes inputs given t
 
 -- a bit alone in its run
-abbrev pub alone : WordBit → Run
+abbrev pub alone : WordBit → Piece
 alone Zero = Bits (false ∷ [])
 alone One = Bits (true ∷ [])
 alone (Of node index) = Part (record { node = node; high = index; low = index })
 
 -- the run of a bit and the run below it: both are constants, or the bit is the next one up in the node
-abbrev pub joined : WordBit → Run → Option Run
+abbrev pub joined : WordBit → Piece → Option Piece
 joined Zero (Bits w) = Some (Bits (w ++ false ∷ []))
 joined One (Bits w) = Some (Bits (w ++ true ∷ []))
 joined (Of node index) (Part s) =
@@ -52,37 +52,37 @@ joined (Of node index) (Part s) =
 joined _ _ = None
 
 -- a bit over a run and those below: in a longer run, where there is one, or else alone
-abbrev pub over : WordBit → Option Run → Run → List Run → List Run
+abbrev pub over : WordBit → Option Piece → Piece → List Piece → List Piece
 over b None r rs = alone b ∷ r ∷ rs
 over b (Some longer) r rs = longer ∷ rs
 
 -- constants, or a part that lies within its node
-abbrev pub RunIsThere : List ℕ → Run → Type 0
+abbrev pub RunIsThere : List ℕ → Piece → Type 0
 RunIsThere ws (Bits w) = 1 ≤ length w
 RunIsThere ws (Part s) = LiesWithin ws s
 
 -- runs from the highest down, with a bit above them
-abbrev pub above : WordBit → List Run → List Run
+abbrev pub above : WordBit → List Piece → List Piece
 above b [] = alone b ∷ []
 above b (r ∷ rs) = over b (joined b r) r rs
 
 -- the bits are cut only where two neighbours stand in no run together, so these runs are the fewest
-abbrev pub runs : List WordBit → List Run
+abbrev pub runs : List WordBit → List Piece
 runs [] = []
 runs (b ∷ bs) = above b (runs bs)
 
 -- the first run, if it is of constants, has at most so many bits
-abbrev pub FirstHasAtMost : ℕ → List Run → Type 0
+abbrev pub FirstHasAtMost : ℕ → List Piece → Type 0
 FirstHasAtMost n (Bits w ∷ rs) = length w ≤ n
 FirstHasAtMost n _ = Unit {0}
 
 -- a run as an operand: a slice that is its whole node is read by the node's name
-abbrev pub run_tree : List ℕ → Run → Tree
+abbrev pub run_tree : List ℕ → Piece → Tree
 run_tree ws (Bits w) = bits w
 run_tree ws (Part s) = slice_tree ws s
 
 -- one run stands by itself, several are joined by &
-abbrev pub word_tree : List ℕ → List Run → Tree
+abbrev pub word_tree : List ℕ → List Piece → Tree
 word_tree ws (r ∷ []) = run_tree ws r
 word_tree ws rs = chain Cat (trees_of (map (run_tree ws) rs))
 
@@ -99,7 +99,7 @@ abbrev pub with_node : List Node → Node → Found
 with_node nodes n = record { nodes = nodes ++ n ∷ []; place = length nodes }
 
 -- constants alone are a Constant, the bits of a whole node are that node, and all else is an expression of so many bits
-abbrev pub with_runs : List Node → ℕ → List Run → Found
+abbrev pub with_runs : List Node → ℕ → List Piece → Found
 with_runs nodes count (Bits w ∷ []) = with_node nodes (Constant w)
 with_runs nodes count (Part s ∷ []) =
     if is_whole (widths nodes) s then record { nodes = nodes; place = s.node } else with_node nodes (Cells Wire count (slice_tree (widths nodes) s))

@@ -9,6 +9,7 @@ mod formula;
 pub mod names;
 mod net;
 mod node;
+mod order;
 mod reads;
 mod rules;
 mod sound;

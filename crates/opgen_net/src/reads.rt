@@ -52,7 +52,7 @@ fn add_all_uses(exprs: &[Expr], uses: &mut Uses) -> Result<(), AllocError>
 
 impl Driver {
     /// What the driver's expressions read.
-    pub fn uses(&self, alloc: Global) -> Result<Uses, AllocError>
+    pub(crate) fn uses(&self, alloc: Global) -> Result<Uses, AllocError>
         ensures names { IfOk result (λ u. u.names.items ≡ driver_names self.now) }
         ensures ports { IfOk result (λ u. u.ports.items ≡ driver_ports self.now) }
     {

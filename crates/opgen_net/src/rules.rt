@@ -102,7 +102,7 @@ impl Design {
         Ok(are_below(&uses, self.signals.len(), self.ports.len()))
     }
 
-    pub fn undeclared(&self, alloc: Global) -> Result<Option<usize>, AllocError>
+    pub(crate) fn undeclared(&self, alloc: Global) -> Result<Option<usize>, AllocError>
         ensures { IfOk result (IsFirstFailing (DriverPasses self.now Undeclared) self.now.drivers) }
     {
         for i in 0..self.drivers.len() {
@@ -126,7 +126,7 @@ impl Design {
         }
     }
 
-    pub fn declared_twice(&self, alloc: Global) -> Result<Option<usize>, AllocError>
+    pub(crate) fn declared_twice(&self, alloc: Global) -> Result<Option<usize>, AllocError>
         requires { HasNumbers self.now }
         ensures { IfOk result (IsFirstFailing (λ i name. IsNewName (names_of self.now) i) (names_of self.now)) }
     {
@@ -143,7 +143,7 @@ impl Design {
         Ok(None)
     }
 
-    pub fn wrong_port(&self) -> Option<usize>
+    pub(crate) fn wrong_port(&self) -> Option<usize>
         ensures { IsFirstFailing (PortPasses self.now Width) self.now.ports result }
     {
         for i in 0..self.ports.len() {
@@ -154,7 +154,7 @@ impl Design {
         None
     }
 
-    pub fn wrong_signal(&self) -> Option<usize>
+    pub(crate) fn wrong_signal(&self) -> Option<usize>
         ensures { IsFirstFailing (SignalPasses self.now Width) self.now.signals result }
     {
         for i in 0..self.signals.len() {
@@ -197,7 +197,7 @@ impl Design {
         }
     }
 
-    pub fn wrong_driver(&self) -> Option<usize>
+    pub(crate) fn wrong_driver(&self) -> Option<usize>
         requires { Holds self.now Undeclared }
         ensures { IsFirstFailing (DriverPasses self.now Width) self.now.drivers result }
     {
@@ -220,7 +220,7 @@ impl Design {
         !self.drives_input(driver) && is_first(firsts, slot, place)
     }
 
-    pub fn driven_twice(&self, firsts: &[Option<usize>]) -> Option<usize>
+    pub(crate) fn driven_twice(&self, firsts: &[Option<usize>]) -> Option<usize>
         requires numbers { HasNumbers self.now }
         requires declared { Holds self.now Undeclared }
         requires firsts { AreFirstDrivers self.now (length self.now.drivers) firsts.now }
@@ -255,7 +255,7 @@ impl Design {
         }
     }
 
-    pub fn undriven_port(&self, firsts: &[Option<usize>]) -> Option<usize>
+    pub(crate) fn undriven_port(&self, firsts: &[Option<usize>]) -> Option<usize>
         requires numbers { HasNumbers self.now }
         requires declared { Holds self.now Undeclared }
         requires firsts { AreFirstDrivers self.now (length self.now.drivers) firsts.now }
@@ -278,7 +278,7 @@ impl Design {
         self.is_driven(firsts, place)
     }
 
-    pub fn undriven_signal(&self, firsts: &[Option<usize>]) -> Option<usize>
+    pub(crate) fn undriven_signal(&self, firsts: &[Option<usize>]) -> Option<usize>
         requires declared { Holds self.now Undeclared }
         requires firsts { AreFirstDrivers self.now (length self.now.drivers) firsts.now }
         ensures { IsFirstFailing (SignalPasses self.now NotDriven) self.now.signals result }
@@ -320,7 +320,11 @@ impl Design {
     }
 
     // The components of signals that need one another.
-    fn groups(&self, alloc: Global, firsts: &[Option<usize>]) -> Result<Vec<Component>, AllocError>
+    pub(crate) fn groups(
+        &self,
+        alloc: Global,
+        firsts: &[Option<usize>],
+    ) -> Result<Vec<Component>, AllocError>
         requires numbers { HasNumbers self.now }
         requires declared { Holds self.now Undeclared }
         requires firsts { AreFirstDrivers self.now (length self.now.drivers) firsts.now }
@@ -340,7 +344,7 @@ impl Design {
         !(slot < self.signals.len() && groups[slot].cyclic)
     }
 
-    pub fn cyclic(
+    pub(crate) fn cyclic(
         &self,
         alloc: Global,
         firsts: &[Option<usize>],
@@ -378,7 +382,7 @@ impl Design {
         Ok(self.are_inputs(&uses.ports))
     }
 
-    pub fn reads_output(&self, alloc: Global) -> Result<Option<usize>, AllocError>
+    pub(crate) fn reads_output(&self, alloc: Global) -> Result<Option<usize>, AllocError>
         requires { Holds self.now Undeclared }
         ensures { IfOk result (IsFirstFailing (DriverPasses self.now ReadsOutput) self.now.drivers) }
     {
@@ -410,7 +414,7 @@ impl Design {
         signal.initial.is_some() || !self.is_register(firsts[place])
     }
 
-    pub fn no_initial(&self, firsts: &[Option<usize>]) -> Option<usize>
+    pub(crate) fn no_initial(&self, firsts: &[Option<usize>]) -> Option<usize>
         requires declared { Holds self.now Undeclared }
         requires firsts { AreFirstDrivers self.now (length self.now.drivers) firsts.now }
         requires once { Holds self.now DrivenTwice }
@@ -439,7 +443,7 @@ impl Design {
         }
     }
 
-    pub fn choice_twice(&self, alloc: Global) -> Result<Option<usize>, AllocError>
+    pub(crate) fn choice_twice(&self, alloc: Global) -> Result<Option<usize>, AllocError>
         requires { Holds self.now Width }
         ensures { IfOk result (IsFirstFailing (DriverPasses self.now ChoiceTwice) self.now.drivers) }
     {

@@ -7,7 +7,7 @@ use std::alloc::{AllocError, Global};
 
 impl Driver {
     /// The slot of what the driver drives, in a design of so many signals: that of a signal, or after those that of a port.
-    pub fn slot(&self, signals: usize) -> usize
+    pub(crate) fn slot(&self, signals: usize) -> usize
         requires { slot signals (target self.now) < 2 ^ 64 }
         ensures { result ≡ slot signals (target self.now) }
     {
@@ -43,7 +43,7 @@ fn note(firsts: &mut Vec<Option<usize>>, slot: usize, number: usize)
 
 impl Design {
     /// The first driver of each slot, if it has one.
-    pub fn first_drivers(&self, alloc: Global) -> Result<Vec<Option<usize>>, AllocError>
+    pub(crate) fn first_drivers(&self, alloc: Global) -> Result<Vec<Option<usize>>, AllocError>
         requires numbers { HasNumbers self.now }
         requires declared { Holds self.now Undeclared }
         ensures { IfOk result (λ v. AreFirstDrivers self.now (length self.now.drivers) v.items) }
@@ -57,7 +57,7 @@ impl Design {
     }
 
     /// Whether a driver drives an input port.
-    pub fn drives_input(&self, driver: &Driver) -> bool
+    pub(crate) fn drives_input(&self, driver: &Driver) -> bool
         requires { Names self.now (target driver.now) }
         ensures { IsTrue result ↔ IsInput self.now (target driver.now) }
     {

@@ -73,7 +73,7 @@ impl Design {
 impl Expr {
     /// The width of an expression over the signals and ports of a design, where its parts fit.
     #[cycle(width)]
-    pub fn width(&self, design: &Design) -> Option<u32>
+    pub(crate) fn width(&self, design: &Design) -> Option<u32>
         ensures { result ≡ width (signal_widths design.now) (port_widths design.now) (plain self.now) }
     {
         match self {

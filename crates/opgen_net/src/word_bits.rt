@@ -21,7 +21,7 @@ pub enum WordBit {
 
 /// Neighbouring bits of a word that stand in one piece: constants, or neighbours in one node.
 #[derive(Clone, Copy)]
-pub enum Run {
+pub enum Piece {
     Bits(Word),
     Part(Slice),
 }
@@ -44,13 +44,13 @@ fn with_top(word: Word, bit: bool) -> Word
 }
 
 // A bit by itself.
-fn alone(bit: WordBit) -> Run
+fn alone(bit: WordBit) -> Piece
     ensures { result ≡ alone bit }
 {
     match bit {
-        WordBit::Zero => Run::Bits(Word::new(0, 1)),
-        WordBit::One => Run::Bits(Word::new(1, 1)),
-        WordBit::Of { node, index } => Run::Part(Slice {
+        WordBit::Zero => Piece::Bits(Word::new(0, 1)),
+        WordBit::One => Piece::Bits(Word::new(1, 1)),
+        WordBit::Of { node, index } => Piece::Part(Slice {
             node,
             high: index,
             low: index,
@@ -59,16 +59,16 @@ fn alone(bit: WordBit) -> Run
 }
 
 // The run with the bit above it, where they stand in one piece.
-fn join(bit: WordBit, run: &Run) -> Option<Run>
+fn join(bit: WordBit, run: &Piece) -> Option<Piece>
     requires { FirstHasAtMost 127 (run.now ∷ []) }
     ensures { result ≡ joined bit run.now }
 {
     match (bit, run) {
-        (WordBit::Zero, Run::Bits(word)) => Some(Run::Bits(with_top(*word, false))),
-        (WordBit::One, Run::Bits(word)) => Some(Run::Bits(with_top(*word, true))),
-        (WordBit::Of { node, index }, Run::Part(slice)) => {
+        (WordBit::Zero, Piece::Bits(word)) => Some(Piece::Bits(with_top(*word, false))),
+        (WordBit::One, Piece::Bits(word)) => Some(Piece::Bits(with_top(*word, true))),
+        (WordBit::Of { node, index }, Piece::Part(slice)) => {
             if node == slice.node && index.checked_sub(1) == Some(slice.high) {
-                Some(Run::Part(Slice {
+                Some(Piece::Part(Slice {
                     node,
                     high: index,
                     low: slice.low,
@@ -82,7 +82,7 @@ fn join(bit: WordBit, run: &Run) -> Option<Run>
 }
 
 // Puts a bit above the runs, of which the last is the highest.
-fn put(runs: &mut Vec<Run>, bit: WordBit) -> Result<(), AllocError>
+fn put(runs: &mut Vec<Piece>, bit: WordBit) -> Result<(), AllocError>
     requires { FirstHasAtMost 127 (reverse runs.old.items) }
     ensures { OnOk result (reverse runs.new.items ≡ above bit (reverse runs.old.items)) }
 {
@@ -104,7 +104,7 @@ fn put(runs: &mut Vec<Run>, bit: WordBit) -> Result<(), AllocError>
 }
 
 // The fewest runs that the bits fall into, the highest first.
-fn runs_of(alloc: Global, bits: &[WordBit]) -> Result<Vec<Run>, AllocError>
+fn runs_of(alloc: Global, bits: &[WordBit]) -> Result<Vec<Piece>, AllocError>
     requires { length bits.now < 128 }
     ensures { IfOk result (λ v. v.items ≡ runs bits.now) }
 {
@@ -139,7 +139,7 @@ impl Net {
     }
 
     // Gives a node with the bits of these runs, of which there are `width`.
-    fn word_of_runs(&mut self, runs: &[Run], width: u32) -> Result<usize, Memory>
+    fn word_of_runs(&mut self, runs: &[Piece], width: u32) -> Result<usize, Memory>
         requires net { IsValid self.old }
         requires there { All (RunIsThere (widths self.old.nodes)) runs.now }
         requires fits { FitsNodes (widths self.old.nodes) width (word_tree (widths self.old.nodes) runs.now) }
@@ -150,11 +150,11 @@ impl Net {
         ensures flow { KeepsFlow self.old.nodes self.new.nodes }
     {
         match runs {
-            [Run::Bits(word)] => {
+            [Piece::Bits(word)] => {
                 let place = self.constant(*word)?;
                 Ok(place)
             }
-            [Run::Part(slice)] if self.is_whole(*slice) => Ok(slice.node),
+            [Piece::Part(slice)] if self.is_whole(*slice) => Ok(slice.node),
             _ => {
                 let expr = self.expression(runs)?;
                 let place = self.cells(Class::Wire, width, expr)?;
@@ -173,14 +173,14 @@ impl Net {
     }
 
     // A run as an operand: the name of a whole node, a part of another, or constants.
-    fn operand(&self, run: &Run) -> Expr
+    fn operand(&self, run: &Piece) -> Expr
         requires net { IsValid self.now }
         requires there { RunIsThere (widths self.now.nodes) run.now }
         ensures { plain result ≡ run_tree (widths self.now.nodes) run.now }
     {
         match run {
-            Run::Bits(word) => Expr::Bits(*word),
-            Run::Part(slice) => {
+            Piece::Bits(word) => Expr::Bits(*word),
+            Piece::Part(slice) => {
                 if self.is_whole(*slice) {
                     Expr::Name(slice.node)
                 } else {
@@ -191,7 +191,7 @@ impl Net {
     }
 
     // Each run as an operand, in their order.
-    fn operands(&self, runs: &[Run]) -> Result<Vec<Expr>, AllocError>
+    fn operands(&self, runs: &[Piece]) -> Result<Vec<Expr>, AllocError>
         requires net { IsValid self.now }
         requires there { All (RunIsThere (widths self.now.nodes)) runs.now }
         ensures { IfOk result (λ v. map plain v.items ≡ map (run_tree (widths self.now.nodes)) runs.now) }
@@ -204,7 +204,7 @@ impl Net {
     }
 
     // One run stands by itself, and several stand in a chain.
-    fn expression(&self, runs: &[Run]) -> Result<Expr, AllocError>
+    fn expression(&self, runs: &[Piece]) -> Result<Expr, AllocError>
         requires net { IsValid self.now }
         requires there { All (RunIsThere (widths self.now.nodes)) runs.now }
         ensures { IfOk result (λ e. plain e ≡ word_tree (widths self.now.nodes) runs.now) }

@@ -11,7 +11,7 @@ use Rattle.opgen_net.specs.declared.net.Net.{Net}
 use Rattle.opgen_net.specs.Value.{word_at}
 use Rattle.opgen_net.specs.Flow.{Inputs, input_at, slice_flow}
 use Rattle.opgen_net.specs.Run.{AreWords}
-use Rattle.opgen_flat.specs.Combinational.{HasNoDelay}
+use Rattle.opgen_net.specs.Valid.{HasNoDelay}
 use Rattle.opgen_scale.specs.Times.{multiples, IsBitLength, IsTimes}
 use Rattle.opgen_scale.specs.Recipe.{table_nodes, table_net, shifted_nodes, product_node}
 use Rattle.opgen_scale.proofs.Product.{get_or-multiples, nat-row, nat-shifted, cut-whole, length-input_at}

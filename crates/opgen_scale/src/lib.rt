@@ -2,8 +2,7 @@
 #![tactic(auto)]
 
 ghost use Rattle.std.specs.Prelude.{◌≡◌, ◌<◌, ◌≤◌, ◌*◌, ◌+◌, ◌-◌, ◌^◌, ◌%◌, ◌++◌, ◌∷◌, [], IfOk, OnOk, length, slice_index};
-ghost use Rattle.opgen_flat.specs.Combinational.{HasNoDelay};
-ghost use Rattle.opgen_net.specs.Valid.{IsValid, widths};
+ghost use Rattle.opgen_net.specs.Valid.{HasNoDelay, IsValid, widths};
 ghost use Rattle.opgen_net.specs.Plain.{plain};
 ghost use Rattle.opgen_scale.specs.Times.{multiples, IsTimes};
 ghost use Rattle.opgen_scale.specs.Recipe.{table_net, above_zeros, shifted_nodes, product_node};

@@ -4,7 +4,7 @@ use Rattle.opgen_net.specs.Valid.{widths}
 use Rattle.opgen_scale.specs.Times.{IsTimes}
 use Rattle.opgen_scale.specs.Recipe.{table_nodes, shifted_nodes}
 use Rattle.opgen_scale.proofs.Widths.{widths-table_nodes, product_width}
-use Rattle.opgen_flat.specs.Combinational.{HasNoDelay}
+use Rattle.opgen_net.specs.Valid.{HasNoDelay}
 use Rattle.opgen_scale.proofs.ProductNet.{built_net, is_times, no_delay}
 use Rattle.opgen_scale.proofs.times.Goals as goal
 
