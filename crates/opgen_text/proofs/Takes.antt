@@ -162,8 +162,8 @@ width_then ss w rest e go =
     let s4 = eat_some (number (codes "0")) c d e4 in
     let s5 = eat_some (mark RightParen) d x e5 in
     index_then a b.0 b.1 e2 (λ high s2 h v.
-      let whole : ss ≡ range_to_zero high rest = cc in
-      go high whole h (sym p ∙ ap (λ u. u + 1) v)))))))
+    let whole : ss ≡ range_to_zero high rest = cc in
+    go high whole h (sym p ∙ ap (λ u. u + 1) v)))))))
 
 direction_some : (ss : List Symbol) (dir : Dir) (rest : List Symbol) → direction_at ss ≡ found dir rest → ss ≡ word (direction dir) ∷ rest
 unfolding direction_at
@@ -366,10 +366,10 @@ valued_some names n ss k m e =
     bind_then _ _ _ e (λ x e1 f1.
     let y = expression-is names max_depth x.0 ss x.1 e1 in
     choice_then _ _ _ _ f1
-      (λ h g.
-      bind_then _ _ _ g (λ a e2 f2.
-      rw (← some_is f2) (assignment m (rw (end_some x.1 a e2) at y))))
-      (λ a h g. choice_some names n x.0 ss a k m (rw (eat_some (word (codes "when")) x.1 a h) at y) g))
+    (λ h g.
+    bind_then _ _ _ g (λ a e2 f2.
+    rw (← some_is f2) (assignment m (rw (end_some x.1 a e2) at y))))
+    (λ a h g. choice_some names n x.0 ss a k m (rw (eat_some (word (codes "when")) x.1 a h) at y) g))
 
 output_some : (names : Names) (n : List ℕ) (ss : List Symbol) (k : Driver) → IsName n → output_at names (place_of names.ports n) ss ≡ Some k → IsConcurrent names k (word n ∷ mark LessEqual ∷ word (codes "std_logic_vector") ∷ ss)
 unfolding output_at
@@ -401,8 +401,8 @@ concurrent_some names ss k e = choice_then _ _ _ _ e
     (λ h g.
     bind_then _ _ _ g (λ n e1 f1.
     target_then ss n.0 n.1 e1 (λ s m. choice_then _ _ _ _ f1
-      (λ h g. rw s (valued_some names n.0 n.1 k m g))
-      (λ a h g. rw (s, eat_some (word (codes "std_logic_vector")) n.1 a h) (output_some names n.0 a k m g)))))
+    (λ h g. rw s (valued_some names n.0 n.1 k m g))
+    (λ a h g. rw (s, eat_some (word (codes "std_logic_vector")) n.1 a h) (output_some names n.0 a k m g)))))
     (λ a h g. rw (eat_some (word (codes "with")) ss a h) (table_some names a k g))
 
 clocked_some : (names : Names) (ss : List Symbol) (k : Driver) → clocked_at names ss ≡ Some k → IsClocked names k ss
@@ -434,8 +434,8 @@ process_some r ss rest k e c =
     bind_then _ _ _ e (λ a e1 f1.
     let s1 = eat_all_some clock ss a e1 in
     choice_then _ _ _ _ f1
-      (λ h g. rw (s1, edge_some a rest g) (process c))
-      (λ b h g. rw (s1, eat_some (word (codes "is")) a b h, edge_some b rest g) (process_is c)))
+    (λ h g. rw (s1, edge_some a rest g) (process c))
+    (λ b h g. rw (s1, eat_some (word (codes "is")) a b h, edge_some b rest g) (process_is c)))
 
 statement_some : (p : Place) (r : Reading) (ss : List Symbol) (q : Place) (r2 : Reading) →
     ((k : Driver) (rs : List Symbol) → IsConcurrent (scope r) k rs → Takes p r rs p (with_driver r k)) →
@@ -501,14 +501,14 @@ ports_some r ss q r2 e =
     bind_then _ _ _ e (λ p e1 f1.
     let t = port_some ss p.0 p.1 e1 in
     choice_then _ _ _ _ f1
-      (λ h g.
-      bind_then _ _ _ g (λ a e2 f2.
-      let (i, j) = found_is at.Ports q (with_port r p.0) r2 f2 in
-      rw (← i, ← j) (port (rw (end_some p.1 a e2) at t))))
-      (λ b h g.
-      bind_then _ _ _ g (λ a e2 f2.
-      let (i, j) = found_is at.EndEntity q (with_port r p.0) r2 f2 in
-      rw (← i, ← j) (last_port (rw (eat_some (mark RightParen) p.1 b h, end_some b a e2) at t)))))
+    (λ h g.
+    bind_then _ _ _ g (λ a e2 f2.
+    let (i, j) = found_is at.Ports q (with_port r p.0) r2 f2 in
+    rw (← i, ← j) (port (rw (end_some p.1 a e2) at t))))
+    (λ b h g.
+    bind_then _ _ _ g (λ a e2 f2.
+    let (i, j) = found_is at.EndEntity q (with_port r p.0) r2 f2 in
+    rw (← i, ← j) (last_port (rw (eat_some (mark RightParen) p.1 b h, end_some b a e2) at t)))))
 
 heading_some : (r : Reading) (ss : List Symbol) (q : Place) (r2 : Reading) (h : List ℕ × List ℕ) (rest : List Symbol) → heading_at ss ≡ found h rest →
     declarations_at (with_architecture r h.0 h.1) rest ≡ found q r2 → Takes at.Architecture r ss q r2
