@@ -5,3 +5,4 @@ pub mod Names
 pub mod Preparing
 pub mod Leaving
 pub mod RunRows
+pub mod OneDue
