@@ -6,3 +6,4 @@ pub mod Preparing
 pub mod Leaving
 pub mod RunRows
 pub mod OneDue
+pub mod Unfetched
