@@ -9,6 +9,8 @@ mod faults;
 mod generate;
 #[cfg(test)]
 mod running;
+#[cfg(test)]
+mod texts;
 mod worked;
 
 pub use worked::definitions_compute;

@@ -10,3 +10,8 @@ pub mod Standing
 pub mod ReadLaws
 pub mod WordRuns
 pub mod WordLaws
+pub mod UseLaws
+pub mod FirstFailing
+pub mod SoundLaws
+pub mod GroupLaws
+pub mod NameWalk

@@ -8,6 +8,7 @@ pub mod Flow
 pub mod Valid
 pub mod Run
 pub mod Sound
+pub mod Rules
 pub mod Made
 pub mod Names
 pub mod Named

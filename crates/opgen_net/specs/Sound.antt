@@ -1,11 +1,13 @@
 -- Sound designs: nine rules, and the first place at which a rule fails.
-use Rattle.std.specs.Prelude.{ℕ, ◌+◌, ◌≡◌, ◌≢◌, ◌<◌, ◌⊎◌, Bool, List, [], ◌++◌, length, map, codes, All, Contains, Some, IfSome, IsSome, slice_get, slice_index, slice_index_or}
+use Rattle.std.specs.Prelude.{ℕ, ◌+◌, ◌^◌, ◌≡◌, ◌≢◌, ◌<◌, ◌⊎◌, Bool, List, [], ◌++◌, length, map, codes, All, Contains, Some, IfSome, IsSome, slice_get, slice_index, slice_index_or}
 use Rattle.opgen_net.specs.declared.design.Design.{Design}
 use Rattle.opgen_net.specs.declared.design.Dir.TheVariants.{In, Out}
 use Rattle.opgen_net.specs.declared.design.Port.{Port}
 use Rattle.opgen_net.specs.declared.design.Signal.{Signal}
 use Rattle.opgen_net.specs.declared.design.Driver.{Driver}
 use Rattle.opgen_net.specs.declared.design.Driver.TheVariants.{Assign, Choice, Table, Register, Output}
+use Rattle.opgen_net.specs.declared.sound.SoundFault.{SoundFault}
+use Rattle.opgen_net.specs.declared.sound.SoundFault.TheVariants.{Unsound, Memory}
 use Rattle.opgen_net.specs.Tree.{Tree}
 use Rattle.opgen_net.specs.Width.{IsWidth, width}
 use Rattle.opgen_net.specs.Reads.{AllReads, ReadsName}
@@ -148,6 +150,10 @@ item d (at_port i) = i + 1
 item d (at_signal i) = length d.ports + i + 1
 item d (at_driver i) = length d.ports + length d.signals + i + 1
 
+-- its places have numbers of 32 bits
+abbrev pub HasNumbers : Design → Type 0
+HasNumbers d = length d.ports + length d.signals + length d.drivers < 2 ^ 32
+
 abbrev pub PortPasses : Design → Rule → ℕ → Port → Type 0
 PortPasses d DeclaredTwice i p = IsNewName (names_of d) i
 PortPasses d Width i p = IsWidth p.width
@@ -196,3 +202,8 @@ pub record IsFirstUnsound (d : Design) (rule : Rule) (number : ℕ) : Type 0 whe
   pub earlier_rules : (r : Rule) → rule_number r < rule_number rule → Holds d r
   pub earlier_places : (p : Place) → item d p < number → PassesAt d rule p
   pub fails : (p : Place) × (item d p ≡ number) × (PassesAt d rule p → ⊥)
+
+-- a fault of a design names its first rule that fails, by number, and the first place; want of memory says nothing
+abbrev pub IsFaultOf : Design → SoundFault → Type 0
+IsFaultOf d (Unsound rule place) = (r : Rule) × (rule_number r ≡ rule) × IsFirstUnsound d r place
+IsFaultOf d Memory = Unit {0}

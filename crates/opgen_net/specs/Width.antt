@@ -17,6 +17,10 @@ abbrev pub joined : Op → ℕ → ℕ → Option ℕ
 joined Cat a b = as_width (a + b)
 joined _ a b = if nat_eq a b then Some a else None
 
+-- the same of widths that may be none
+abbrev pub joined_options : Op → Option ℕ → Option ℕ → Option ℕ
+joined_options op a b = option_and_then (λ w. option_and_then (joined op w) b) a
+
 abbrev mutual
   -- the width of an expression over the widths of names and ports; none where parts do not fit, or a part has no width of a signal
   pub width : (names ports : List ℕ) → Tree → Option ℕ

@@ -9,6 +9,11 @@ mod formula;
 pub mod names;
 mod net;
 mod node;
+mod reads;
+mod rules;
+mod sound;
+mod targets;
+mod width;
 mod word_bits;
 
 pub use cell::{Cell, Class};
@@ -17,4 +22,5 @@ pub use expr::{Expr, Op, Slice};
 pub use formula::Formula;
 pub use net::{Net, Output};
 pub use node::Node;
+pub use sound::SoundFault;
 pub use word_bits::WordBit;

@@ -5,3 +5,8 @@ pub mod Spans
 pub mod ExpressionText
 pub mod DesignText
 pub mod Shaped
+pub mod Symbols
+pub mod Grammar
+pub mod Statements
+pub mod Spelled
+pub mod Reader

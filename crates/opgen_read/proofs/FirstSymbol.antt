@@ -1,0 +1,180 @@
+-- What the first symbol is, by the kind and the text of its token.
+use Rattle.std.specs.Prelude.{if◌then◌else◌, nat_le}
+use Rattle.std.specs.Char.{to_ascii_lowercase}
+use Rattle.std.specs.Str.{bytes_eq}
+use Rattle.std.proofs.Common.{◌≡◌, ℕ, Bool, true, false, ◌&&◌, List, ◌∷◌, map, Some, None, refl, ap, sym, ◌∙◌}
+use Rattle.opgen_text.specs.declared.kind.TokenKind.{TokenKind}
+use Rattle.opgen_text.specs.declared.kind.TokenKind.TheVariants.{Word, Number, Bits, ZeroChar, LeftParen, RightParen, Semicolon, Colon, Comma, Dot, Ampersand, Plus, Minus, Equal, LessEqual, Arrow, Becomes}
+use Rattle.opgen_net.specs.Names.{is_allowed_name}
+use Rattle.opgen_text.specs.Symbols.{Symbol, symbol_of, bits_in, word, number, mark, is_semicolon}
+use Rattle.opgen_text.specs.Grammar.{value}
+use Rattle.opgen_text.proofs.Steps.{found, some_is}
+use Rattle.opgen_text.specs.Reader.{eat, name_at, index_at, string_at, same_kind, is_mark}
+
+pub eat_word : (w : List ℕ) (k : TokenKind) (text : List ℕ) (rest : List Symbol) → eat (word w) (symbol_of (k, text) ∷ rest) ≡ (if same_kind k Word && bytes_eq w (map to_ascii_lowercase text) then Some rest else None)
+eat_word w Word text rest = refl
+eat_word w Number text rest = refl
+eat_word w Bits text rest = refl
+eat_word w ZeroChar text rest = refl
+eat_word w LeftParen text rest = refl
+eat_word w RightParen text rest = refl
+eat_word w Semicolon text rest = refl
+eat_word w Colon text rest = refl
+eat_word w Comma text rest = refl
+eat_word w Dot text rest = refl
+eat_word w Ampersand text rest = refl
+eat_word w Plus text rest = refl
+eat_word w Minus text rest = refl
+eat_word w Equal text rest = refl
+eat_word w LessEqual text rest = refl
+eat_word w Arrow text rest = refl
+eat_word w Becomes text rest = refl
+
+pub eat_number : (w : List ℕ) (k : TokenKind) (text : List ℕ) (rest : List Symbol) → eat (number w) (symbol_of (k, text) ∷ rest) ≡ (if same_kind k Number && bytes_eq w text then Some rest else None)
+eat_number w Word text rest = refl
+eat_number w Number text rest = refl
+eat_number w Bits text rest = refl
+eat_number w ZeroChar text rest = refl
+eat_number w LeftParen text rest = refl
+eat_number w RightParen text rest = refl
+eat_number w Semicolon text rest = refl
+eat_number w Colon text rest = refl
+eat_number w Comma text rest = refl
+eat_number w Dot text rest = refl
+eat_number w Ampersand text rest = refl
+eat_number w Plus text rest = refl
+eat_number w Minus text rest = refl
+eat_number w Equal text rest = refl
+eat_number w LessEqual text rest = refl
+eat_number w Arrow text rest = refl
+eat_number w Becomes text rest = refl
+
+pub index_first : (k : TokenKind) (text : List ℕ) (rest : List Symbol) → index_at (symbol_of (k, text) ∷ rest) ≡ (if same_kind k Number then (if nat_le (value text) 63 then Some (value text, rest) else None) else None)
+index_first Word text rest = refl
+index_first Number text rest = refl
+index_first Bits text rest = refl
+index_first ZeroChar text rest = refl
+index_first LeftParen text rest = refl
+index_first RightParen text rest = refl
+index_first Semicolon text rest = refl
+index_first Colon text rest = refl
+index_first Comma text rest = refl
+index_first Dot text rest = refl
+index_first Ampersand text rest = refl
+index_first Plus text rest = refl
+index_first Minus text rest = refl
+index_first Equal text rest = refl
+index_first LessEqual text rest = refl
+index_first Arrow text rest = refl
+index_first Becomes text rest = refl
+
+pub string_first : (k : TokenKind) (text : List ℕ) (rest : List Symbol) → string_at (symbol_of (k, text) ∷ rest) ≡ (if same_kind k Bits then Some (bits_in text, rest) else None)
+string_first Word text rest = refl
+string_first Number text rest = refl
+string_first Bits text rest = refl
+string_first ZeroChar text rest = refl
+string_first LeftParen text rest = refl
+string_first RightParen text rest = refl
+string_first Semicolon text rest = refl
+string_first Colon text rest = refl
+string_first Comma text rest = refl
+string_first Dot text rest = refl
+string_first Ampersand text rest = refl
+string_first Plus text rest = refl
+string_first Minus text rest = refl
+string_first Equal text rest = refl
+string_first LessEqual text rest = refl
+string_first Arrow text rest = refl
+string_first Becomes text rest = refl
+
+pub name_first : (k : TokenKind) (text : List ℕ) (rest : List Symbol) → name_at (symbol_of (k, text) ∷ rest) ≡ (if same_kind k Word then (if is_allowed_name (map to_ascii_lowercase text) then Some (map to_ascii_lowercase text, rest) else None) else None)
+name_first Word text rest = refl
+name_first Number text rest = refl
+name_first Bits text rest = refl
+name_first ZeroChar text rest = refl
+name_first LeftParen text rest = refl
+name_first RightParen text rest = refl
+name_first Semicolon text rest = refl
+name_first Colon text rest = refl
+name_first Comma text rest = refl
+name_first Dot text rest = refl
+name_first Ampersand text rest = refl
+name_first Plus text rest = refl
+name_first Minus text rest = refl
+name_first Equal text rest = refl
+name_first LessEqual text rest = refl
+name_first Arrow text rest = refl
+name_first Becomes text rest = refl
+
+pub semicolon_first : (k : TokenKind) (text : List ℕ) → is_semicolon (symbol_of (k, text)) ≡ same_kind k Semicolon
+semicolon_first Word text = refl
+semicolon_first Number text = refl
+semicolon_first Bits text = refl
+semicolon_first ZeroChar text = refl
+semicolon_first LeftParen text = refl
+semicolon_first RightParen text = refl
+semicolon_first Semicolon text = refl
+semicolon_first Colon text = refl
+semicolon_first Comma text = refl
+semicolon_first Dot text = refl
+semicolon_first Ampersand text = refl
+semicolon_first Plus text = refl
+semicolon_first Minus text = refl
+semicolon_first Equal text = refl
+semicolon_first LessEqual text = refl
+semicolon_first Arrow text = refl
+semicolon_first Becomes text = refl
+
+no_others : (m : TokenKind) → is_mark m ≡ true → (same_kind m Word ≡ false) × (same_kind m Number ≡ false) × (same_kind m Bits ≡ false)
+no_others Word h = cc
+no_others Number h = cc
+no_others Bits h = cc
+no_others ZeroChar h = (refl, refl, refl)
+no_others LeftParen h = (refl, refl, refl)
+no_others RightParen h = (refl, refl, refl)
+no_others Semicolon h = (refl, refl, refl)
+no_others Colon h = (refl, refl, refl)
+no_others Comma h = (refl, refl, refl)
+no_others Dot h = (refl, refl, refl)
+no_others Ampersand h = (refl, refl, refl)
+no_others Plus h = (refl, refl, refl)
+no_others Minus h = (refl, refl, refl)
+no_others Equal h = (refl, refl, refl)
+no_others LessEqual h = (refl, refl, refl)
+no_others Arrow h = (refl, refl, refl)
+no_others Becomes h = (refl, refl, refl)
+
+pub eat_mark : (m k : TokenKind) (text : List ℕ) (rest : List Symbol) → is_mark m ≡ true → eat (mark m) (symbol_of (k, text) ∷ rest) ≡ (if same_kind m k then Some rest else None)
+eat_mark m Word text rest h = let n = no_others m h in rw n.0 refl
+eat_mark m Number text rest h = let n = no_others m h in rw n.1 refl
+eat_mark m Bits text rest h = let n = no_others m h in rw n.2 refl
+eat_mark m ZeroChar text rest h = refl
+eat_mark m LeftParen text rest h = refl
+eat_mark m RightParen text rest h = refl
+eat_mark m Semicolon text rest h = refl
+eat_mark m Colon text rest h = refl
+eat_mark m Comma text rest h = refl
+eat_mark m Dot text rest h = refl
+eat_mark m Ampersand text rest h = refl
+eat_mark m Plus text rest h = refl
+eat_mark m Minus text rest h = refl
+eat_mark m Equal text rest h = refl
+eat_mark m LessEqual text rest h = refl
+eat_mark m Arrow text rest h = refl
+eat_mark m Becomes text rest h = refl
+
+choose_some : {A R : Type 0} (b : Bool) (m n : A) (rest : R) → Some n ≡ (if b then Some m else None) → (if b then found m rest else None) ≡ found n rest
+choose_some true m n rest e = ap (λ x. found x rest) (some_is (sym e))
+choose_some false m n rest e = cc
+
+choose_none : {A R : Type 0} (b : Bool) (m : A) (rest : R) → None ≡ (if b then Some m else None) → (if b then found m rest else None) ≡ None
+choose_none true m rest e = cc
+choose_none false m rest e = refl
+
+pub name_read : (ss : List Symbol) (k : TokenKind) (text : List ℕ) (rest : List Symbol) (n : List ℕ) → ss ≡ symbol_of (k, text) ∷ rest → same_kind k Word ≡ true →
+    Some n ≡ (if is_allowed_name (map to_ascii_lowercase text) then Some (map to_ascii_lowercase text) else None) → name_at ss ≡ Some (n, rest)
+name_read ss k text rest n e h allowed = ap name_at e ∙ name_first k text rest ∙ rw h (choose_some (is_allowed_name (map to_ascii_lowercase text)) (map to_ascii_lowercase text) n rest allowed)
+
+pub name_refused : (ss : List Symbol) (k : TokenKind) (text : List ℕ) (rest : List Symbol) → ss ≡ symbol_of (k, text) ∷ rest → same_kind k Word ≡ true →
+    None ≡ (if is_allowed_name (map to_ascii_lowercase text) then Some (map to_ascii_lowercase text) else None) → name_at ss ≡ None
+name_refused ss k text rest e h allowed = ap name_at e ∙ name_first k text rest ∙ rw h (choose_none (is_allowed_name (map to_ascii_lowercase text)) (map to_ascii_lowercase text) rest allowed)

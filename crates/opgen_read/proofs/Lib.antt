@@ -1,0 +1,13 @@
+pub mod FirstSymbol
+pub mod DigitValues
+pub mod FirstPlaces
+pub mod AllowedNames
+pub mod Operands
+pub mod Zeros
+pub mod TableRows
+pub mod FirstPiece
+pub mod Reaching
+pub mod FittingTokens
+pub mod DriverCount
+pub mod Judging
+pub mod FirstCause

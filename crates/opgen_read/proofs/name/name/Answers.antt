@@ -1,0 +1,16 @@
+use Rattle.std.proofs.Common.{sym, ◌∙◌}
+use Rattle.opgen_read.specs.Left.{left}
+use Rattle.opgen_read.proofs.FirstSymbol.{name_read, name_refused}
+use Rattle.opgen_read.proofs.name.name.Goals as goal
+
+pub returns-in-Some : goal.returns-in-Some
+returns-in-Some c =
+    let first = rw c.in_ok-kind.ensures.ok_part at c.next.ensures.some in
+    name_read (left c.args.rest) c.in_ok-kind.kind c.in_ok-kind.text.now (left c.in_ok-kind.rest) c.in-Some.name first
+    (sym c.same_kind.ensures ∙ c.if-not-same_kind.false) (sym c.in-Some.is ∙ c.in_ok-name.ensures)
+
+pub returns-in-None : goal.returns-in-None
+returns-in-None c =
+    let first = rw c.in_ok-kind.ensures.ok_part at c.next.ensures.some in
+    name_refused (left c.args.rest) c.in_ok-kind.kind c.in_ok-kind.text.now (left c.in_ok-kind.rest) first
+    (sym c.same_kind.ensures ∙ c.if-not-same_kind.false) (sym c.in-None.is ∙ c.in_ok-name.ensures)

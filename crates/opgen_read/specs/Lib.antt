@@ -1,0 +1,12 @@
+pub mod Fits
+pub mod Left
+pub mod Gives
+pub mod Places
+pub mod Names
+pub mod Rows
+pub mod Seen
+pub mod Moved
+pub mod Reached
+pub mod Stepped
+pub mod Answer
+pub mod Outcome

@@ -1,0 +1,11 @@
+-- A phrase that changes nothing.
+use Rattle.std.specs.Prelude.{List, Option, Some, None}
+use Rattle.opgen_text.specs.declared.place.Place.{Place}
+use Rattle.opgen_text.specs.Statements.{Reading}
+use Rattle.opgen_text.specs.Symbols.{Symbol}
+use Rattle.opgen_text.specs.Reader.{Step}
+
+-- the place next to a phrase, where it was read
+abbrev pub moved : Place → Reading → Option (List Symbol) → Step
+moved next r None = None
+moved next r (Some rest) = Some (next, r)

@@ -1,0 +1,13 @@
+-- The places of names in a list, as a map finds them.
+use Rattle.std.specs.Prelude.{◌≡◌, ℕ, Bool, List, Option, Some, None, position, String, if◌then◌else◌}
+use Rattle.std.specs.Str.{bytes_eq}
+use Rattle.indexmap.specs.IndexMap.{IndexMap, get_by_text}
+
+-- the map leads from each name to its first place in the list, and from no other name to any
+abbrev pub FindsEach : {A S : Type 0} → IndexMap (String A) ℕ S → List (List ℕ) → Type 0
+FindsEach first names = (q : List ℕ) → get_by_text first q ≡ position (bytes_eq q) names
+
+-- where a name is found once another declaration stands at a place, under the same name or not
+abbrev pub noted_at : Option ℕ → (same : Bool) → ℕ → Option ℕ
+noted_at (Some first) same place = Some first
+noted_at None same place = if same then Some place else None

@@ -1,0 +1,14 @@
+-- What one piece does.
+use Rattle.std.specs.Prelude.{◌≡◌, ℕ, Result, Ok, Err, Some, None}
+use Rattle.opgen_text.specs.declared.place.Place.{Place}
+use Rattle.opgen_text.specs.Reader.{Step}
+use Rattle.opgen_read.specs.declared.draft.Draft.{Draft}
+use Rattle.opgen_read.specs.declared.pieces.PieceFault.{PieceFault}
+use Rattle.opgen_read.specs.declared.pieces.PieceFault.TheVariants.{Memory, Syntax}
+use Rattle.opgen_read.specs.Seen.{seen}
+
+-- what was read with the piece, or the piece's number where its place does not take it
+abbrev pub Steps : Result (Place × Draft) PieceFault → ℕ → Step → Type 0
+Steps (Ok x) number read = read ≡ Some (x.0, seen x.1)
+Steps (Err Memory) number read = Unit {0}
+Steps (Err (Syntax k)) number read = (read ≡ None) × (k ≡ number)

@@ -1,0 +1,147 @@
+ghost use Rattle.std.specs.Prelude.{IsTrue, length};
+ghost use Rattle.std.specs.List.{list_all};
+ghost use Rattle.opgen_read.specs.Fits.{fits};
+
+use crate::token_text::{index_of, piece_len, same_kind, same_word, word_of};
+use opgen_num::Word;
+use opgen_text::{Token, TokenKind};
+
+/// What is left to read of a text: the tokens that are left, with the bytes that they stand in.
+#[derive(Clone, Copy)]
+pub struct Cursor<'a> {
+    bytes: &'a [u8],
+    tokens: &'a [Token],
+    ghost tokens_fit: { IsTrue (list_all (fits bytes.now) tokens.now) },
+}
+
+impl<'a> Cursor<'a> {
+    ghost use Rattle.std.specs.Prelude.{◌≡◌, IsTrue, IfSome, IfNone, ◌≤◌, ◌<◌, ◌∷◌, [], length, map, option_map, codes};
+    ghost use Rattle.std.specs.Char.{to_ascii_lowercase};
+    ghost use Rattle.std.specs.List.{list_all};
+    ghost use Rattle.opgen_text.specs.Symbols.{symbols, symbol_of, pieces, mark, word, number};
+    ghost use Rattle.opgen_text.specs.Reader.{eat, is_mark, index_at, string_at, end_at};
+    ghost use Rattle.opgen_read.specs.Fits.{fits, is_numeral};
+    ghost use Rattle.opgen_read.specs.Left.{left};
+
+    pub fn new(bytes: &'a [u8], tokens: &'a [Token]) -> Cursor<'a>
+        requires { IsTrue (list_all (fits bytes.now) tokens.now) }
+        ensures { left result ≡ symbols bytes.now tokens.now }
+    {
+        Cursor { bytes, tokens }
+    }
+
+    /// The kind and the text of the first token, and what is left behind it.
+    pub fn next(self) -> Option<(TokenKind, &'a [u8], Cursor<'a>)>
+        ensures some { IfSome result (λ x. left self.entry ≡ symbol_of (x.0, x.1.now) ∷ left x.2) }
+        ensures none { IfNone result (left self.entry ≡ []) }
+        ensures short { IfSome result (λ x. length x.1.now ≤ 66) }
+        ensures numeral { IfSome result (λ x. IsTrue (is_numeral x.0 x.1.now)) }
+    {
+        let (token, tokens) = self.tokens.split_first()?;
+        let text = &self.bytes[token.start..token.end];
+        let bytes = self.bytes;
+        Some((token.kind, text, Cursor { bytes, tokens }))
+    }
+
+    /// What is left behind this word of the language.
+    #[tactic(auto, using(crate::proofs::FirstSymbol::eat_word))]
+    pub fn word(self, text: &str) -> Option<Cursor<'a>>
+        ensures { option_map left result ≡ eat (word (map to_ascii_lowercase text.now)) (left self.entry) }
+    {
+        let (kind, found, rest) = self.next()?;
+        if same_kind(kind, TokenKind::Word) && same_word(text, found) {
+            Some(rest)
+        } else {
+            None
+        }
+    }
+
+    /// What is left behind this mark.
+    #[tactic(auto, using(crate::proofs::FirstSymbol::eat_mark))]
+    pub fn mark(self, kind: TokenKind) -> Option<Cursor<'a>>
+        requires { IsTrue (is_mark kind) }
+        ensures { option_map left result ≡ eat (mark kind) (left self.entry) }
+    {
+        let (found, _text, rest) = self.next()?;
+        if same_kind(kind, found) {
+            Some(rest)
+        } else {
+            None
+        }
+    }
+
+    /// What is left behind the number that is written `0`.
+    #[tactic(auto, using(crate::proofs::FirstSymbol::eat_number))]
+    pub fn zero(self) -> Option<Cursor<'a>>
+        ensures { option_map left result ≡ eat (number (codes "0")) (left self.entry) }
+    {
+        let (kind, text, rest) = self.next()?;
+        if same_kind(kind, TokenKind::Number) && text == b"0".as_slice() {
+            Some(rest)
+        } else {
+            None
+        }
+    }
+
+    /// The number of a bit, and what is left behind it.
+    #[tactic(auto, using(crate::proofs::FirstSymbol::index_first))]
+    pub fn index(self) -> Option<(u32, Cursor<'a>)>
+        ensures value { option_map (λ x. (x.0, left x.1)) result ≡ index_at (left self.entry) }
+        ensures most { IfSome result (λ x. x.0 ≤ 63) }
+    {
+        let (kind, text, rest) = self.next()?;
+        if same_kind(kind, TokenKind::Number) {
+            Some((index_of(text)?, rest))
+        } else {
+            None
+        }
+    }
+
+    /// The word of a bit string, and what is left behind it.
+    #[tactic(auto, using(crate::proofs::FirstSymbol::string_first))]
+    pub fn string(self) -> Option<(Word, Cursor<'a>)>
+        ensures { option_map (λ x. (x.0, left x.1)) result ≡ string_at (left self.entry) }
+    {
+        let (kind, text, rest) = self.next()?;
+        if same_kind(kind, TokenKind::Bits) {
+            Some((word_of(text), rest))
+        } else {
+            None
+        }
+    }
+
+    /// Nothing, where a semicolon alone is left.
+    #[tactic(auto, unfolding(opgen_text::specs::Reader::end_at, opgen_text::specs::Reader::and_then))]
+    pub fn end(self) -> Option<Cursor<'a>>
+        ensures { option_map left result ≡ end_at (left self.entry) }
+    {
+        let rest = self.mark(TokenKind::Semicolon)?;
+        match rest.next() {
+            None => Some(rest),
+            Some(_) => None,
+        }
+    }
+
+    /// The tokens up to the first semicolon, with it, and what is left behind them.
+    pub fn piece(self) -> Option<(Cursor<'a>, Cursor<'a>)>
+        ensures some { IfSome result (λ x. pieces (left self.entry) ≡ left x.0 ∷ pieces (left x.1)) }
+        ensures shorter { IfSome result (λ x. length (left x.1) < length (left self.entry)) }
+        ensures none { IfNone result (left self.entry ≡ []) }
+    {
+        if self.tokens.is_empty() {
+            return None;
+        }
+        let (piece, more) = self.tokens.split_at(piece_len(self.tokens));
+        let bytes = self.bytes;
+        Some((
+            Cursor {
+                bytes,
+                tokens: piece,
+            },
+            Cursor {
+                bytes,
+                tokens: more,
+            },
+        ))
+    }
+}

@@ -1,0 +1,111 @@
+// What was read of a text so far.
+
+ghost use Rattle.std.specs.Prelude.{◌≡◌, IfOk, option_map};
+ghost use Rattle.opgen_text.specs.Statements.{with_entity, with_port, with_signal, with_driver, with_name, with_architecture, nothing, scope};
+ghost use Rattle.opgen_read.specs.Seen.{seen};
+ghost use Rattle.opgen_read.specs.Names.{names_in};
+
+use crate::declared::Declared;
+use crate::expression::Scope;
+use opgen_list::{Items, Text};
+use opgen_net::{Driver, Port, Signal};
+use std::alloc::{AllocError, Global};
+
+/// A design that is not complete, the name of its architecture, and whether the names that have to
+/// agree do.
+#[derive(Drop)]
+pub struct Draft {
+    pub name: Text,
+    pub ports: Declared<Port>,
+    pub signals: Declared<Signal>,
+    pub drivers: Items<Driver>,
+    pub architecture: Text,
+    pub agrees: bool,
+}
+
+impl Draft {
+    pub fn new(alloc: Global) -> Result<Draft, AllocError>
+        ensures { IfOk result (λ d. seen d ≡ nothing) }
+    {
+        Ok(Draft {
+            name: Text::from_str(alloc, "")?,
+            ports: Declared::new(alloc)?,
+            signals: Declared::new(alloc)?,
+            drivers: Items::new(alloc),
+            architecture: Text::from_str(alloc, "")?,
+            agrees: true,
+        })
+    }
+
+    /// What names stand for.
+    pub fn scope(&self) -> Scope<'_>
+        ensures { names_in result ≡ scope (seen self.now) }
+    {
+        Scope {
+            signals: &self.signals,
+            ports: &self.ports,
+        }
+    }
+
+    pub fn with_entity(self, name: Text) -> Draft
+        ensures { seen result ≡ with_entity (seen self) name }
+    {
+        let mut draft = self;
+        draft.name = name;
+        draft
+    }
+
+    pub fn with_port(self, alloc: Global, port: Port) -> Result<Draft, AllocError>
+        ensures { IfOk result (λ d. seen d ≡ with_port (seen self) port) }
+    {
+        let mut draft = self;
+        draft.ports = draft.ports.declare(alloc, port)?;
+        Ok(draft)
+    }
+
+    pub fn with_signal(self, alloc: Global, signal: Signal) -> Result<Draft, AllocError>
+        ensures { IfOk result (λ d. seen d ≡ with_signal (seen self) signal) }
+    {
+        let mut draft = self;
+        draft.signals = draft.signals.declare(alloc, signal)?;
+        Ok(draft)
+    }
+
+    pub fn with_driver(self, driver: Driver) -> Result<Draft, AllocError>
+        ensures { IfOk result (λ d. seen d ≡ with_driver (seen self) driver) }
+    {
+        let mut draft = self;
+        draft.drivers.push(driver)?;
+        Ok(draft)
+    }
+
+    /// Notes whether the entity's name agrees, where it is written again.
+    pub fn with_entity_again(self, name: Option<Text>) -> Draft
+        ensures { seen result ≡ with_name (seen self) self.name name }
+    {
+        let mut draft = self;
+        if let Some(name) = name {
+            draft.agrees = draft.agrees && draft.name.as_str() == name.as_str();
+        }
+        draft
+    }
+
+    /// Notes whether the architecture's name agrees, where it is written again.
+    pub fn with_architecture_again(self, name: Option<Text>) -> Draft
+        ensures { seen result ≡ with_name (seen self) self.architecture name }
+    {
+        let mut draft = self;
+        if let Some(name) = name {
+            draft.agrees = draft.agrees && draft.architecture.as_str() == name.as_str();
+        }
+        draft
+    }
+
+    pub fn with_architecture(self, own: Text, entity: Text) -> Draft
+        ensures { seen result ≡ with_architecture (seen self) own entity }
+    {
+        let mut draft = self;
+        draft.architecture = own;
+        draft.with_entity_again(Some(entity))
+    }
+}

@@ -1,0 +1,198 @@
+// Expressions, read by descent.
+
+ghost use Rattle.std.specs.Prelude.{◌≡◌, length, map, option_map};
+ghost use Rattle.opgen_net.specs.Plain.{plain, plain_all, trees_of};
+ghost use Rattle.opgen_net.specs.Tree.{chain};
+ghost use Rattle.opgen_text.specs.Grammar.{operator};
+ghost use Rattle.opgen_text.specs.Reader.{eat, range_at, part_at, input_at, closed, op_at, primary_at, factor_at, operands_at, expression_at, expression, inside};
+ghost use Rattle.opgen_read.specs.Left.{left};
+ghost use Rattle.opgen_read.specs.Gives.{Gives};
+ghost use Rattle.opgen_read.specs.Names.{names_in, joined};
+
+use crate::cursor::Cursor;
+use crate::declared::Declared;
+use crate::name::name;
+use crate::refusal::Refusal;
+use opgen_net::{Expr, Op, Port, Signal, Slice};
+use opgen_text::TokenKind;
+use std::alloc::Global;
+
+/// What names stand for.
+#[derive(Clone, Copy)]
+pub struct Scope<'n> {
+    pub signals: &'n Declared<Signal>,
+    pub ports: &'n Declared<Port>,
+}
+
+type Read<'a, T> = Result<(T, Cursor<'a>), Refusal>;
+
+// The highest and the lowest bit of a part, behind its opening parenthesis.
+#[tactic(auto, unfolding(opgen_text::specs::Reader::range_at, opgen_text::specs::Reader::and_then))]
+fn range(rest: Cursor<'_>) -> Option<(u32, u32, Cursor<'_>)>
+    ensures { option_map (λ x. ((x.0, x.1), left x.2)) result ≡ range_at (left rest.entry) }
+{
+    let (high, rest) = rest.index()?;
+    let rest = rest.word("downto")?;
+    let (low, rest) = rest.index()?;
+    let rest = rest.mark(TokenKind::RightParen)?;
+    Some((high, low, rest))
+}
+
+/// A signal, or a part of one.
+#[tactic(auto, unfolding(opgen_text::specs::Reader::part_at, opgen_text::specs::Reader::and_then, opgen_text::specs::Reader::choice))]
+pub fn part<'a>(alloc: Global, scope: Scope<'_>, rest: Cursor<'a>) -> Read<'a, Expr>
+    ensures { Gives (λ x. (plain x.0, left x.1)) result (part_at (names_in scope.entry) (left rest.entry)) }
+{
+    let (name, rest) = name(alloc, rest)?;
+    let node = scope.signals.place(name.as_str());
+    match rest.mark(TokenKind::LeftParen) {
+        None => Ok((Expr::Name(node), rest)),
+        Some(rest) => match range(rest) {
+            None => Err(Refusal::Refused),
+            Some((high, low, rest)) => Ok((Expr::Part(Slice { node, high, low }), rest)),
+        },
+    }
+}
+
+// A port, behind `unsigned`.
+#[tactic(auto, unfolding(opgen_text::specs::Reader::input_at, opgen_text::specs::Reader::and_then))]
+fn input<'a>(alloc: Global, scope: Scope<'_>, rest: Cursor<'a>) -> Read<'a, Expr>
+    ensures { Gives (λ x. (plain x.0, left x.1)) result (input_at (names_in scope.entry) (left rest.entry)) }
+{
+    let rest = rest.mark(TokenKind::LeftParen).ok_or(Refusal::Refused)?;
+    let (name, rest) = name(alloc, rest)?;
+    let rest = rest.mark(TokenKind::RightParen).ok_or(Refusal::Refused)?;
+    Ok((Expr::Port(scope.ports.place(name.as_str())), rest))
+}
+
+// What is left behind an operator.
+fn behind(rest: Cursor<'_>, op: Op) -> Option<Cursor<'_>>
+    ensures { option_map left result ≡ eat (operator op) (left rest.entry) }
+{
+    match op {
+        Op::And => rest.word("and"),
+        Op::Or => rest.word("or"),
+        Op::Xor => rest.word("xor"),
+        Op::Cat => rest.mark(TokenKind::Ampersand),
+        Op::Plus => rest.mark(TokenKind::Plus),
+        Op::Minus => rest.mark(TokenKind::Minus),
+    }
+}
+
+// The operator at the front.
+#[tactic(auto, unfolding(opgen_text::specs::Reader::op_at))]
+fn operator(rest: Cursor<'_>) -> Option<Op>
+    ensures { result ≡ op_at (left rest.entry) }
+{
+    if behind(rest, Op::And).is_some() {
+        Some(Op::And)
+    } else if behind(rest, Op::Or).is_some() {
+        Some(Op::Or)
+    } else if behind(rest, Op::Xor).is_some() {
+        Some(Op::Xor)
+    } else if behind(rest, Op::Cat).is_some() {
+        Some(Op::Cat)
+    } else if behind(rest, Op::Plus).is_some() {
+        Some(Op::Plus)
+    } else if behind(rest, Op::Minus).is_some() {
+        Some(Op::Minus)
+    } else {
+        None
+    }
+}
+
+fn chain(op: Op, operands: Vec<Expr>) -> Expr
+    ensures { plain result ≡ chain op (plain_all operands.items) }
+{
+    Expr::Chain(op, operands)
+}
+
+/// The expression at the front, with parentheses at most `depth` deep.
+#[cycle(expression)]
+#[tactic(auto, unfolding(opgen_text::specs::Reader::expression_at, opgen_text::specs::Reader::and_then, opgen_text::specs::Reader::choice))]
+pub fn expression<'a>(
+    alloc: Global,
+    scope: Scope<'_>,
+    depth: u32,
+    rest: Cursor<'a>,
+) -> Read<'a, Expr>
+    ensures { Gives (λ x. (plain x.0, left x.1)) result (expression (names_in scope.entry) depth (left rest.entry)) }
+{
+    let (first, rest) = factor(alloc, scope, depth, rest)?;
+    match operator(rest) {
+        None => Ok((first, rest)),
+        Some(op) => {
+            let mut operands = Vec::new(alloc);
+            operands.push(first)?;
+            let (operands, rest) = further(alloc, scope, depth, op, operands, rest)?;
+            Ok((chain(op, operands), rest))
+        }
+    }
+}
+
+// The operands of a chain, where the first stand already.
+#[cycle(expression)]
+fn further<'a>(
+    alloc: Global,
+    scope: Scope<'_>,
+    depth: u32,
+    op: Op,
+    operands: Vec<Expr>,
+    rest: Cursor<'a>,
+) -> Read<'a, Vec<Expr>>
+    ensures { Gives (λ x. (plain_all x.0.items, left x.1)) result (joined (map plain operands.items) (operands_at (names_in scope.entry) (inside (names_in scope.entry) depth) (length (left rest.entry)) op (left rest.entry))) }
+{
+    let mut operands = operands;
+    let mut rest = rest;
+    'operands: while let Some(after) = behind(rest, op) {
+        let (operand, more) = factor(alloc, scope, depth, after)?;
+        operands.push(operand)?;
+        rest = more;
+    }
+    Ok((operands, rest))
+}
+
+#[cycle(expression)]
+#[tactic(auto, unfolding(opgen_text::specs::Reader::factor_at, opgen_text::specs::Reader::and_then, opgen_text::specs::Reader::choice))]
+fn factor<'a>(alloc: Global, scope: Scope<'_>, depth: u32, rest: Cursor<'a>) -> Read<'a, Expr>
+    ensures { Gives (λ x. (plain x.0, left x.1)) result (factor_at (names_in scope.entry) (inside (names_in scope.entry) depth) (left rest.entry)) }
+{
+    match rest.word("not") {
+        None => primary(alloc, scope, depth, rest),
+        Some(rest) => {
+            let (operand, rest) = primary(alloc, scope, depth, rest)?;
+            Ok((Expr::Not(Box::new(alloc, operand)?), rest))
+        }
+    }
+}
+
+#[cycle(expression)]
+#[tactic(auto, unfolding(opgen_text::specs::Reader::primary_at, opgen_text::specs::Reader::and_then, opgen_text::specs::Reader::choice))]
+fn primary<'a>(alloc: Global, scope: Scope<'_>, depth: u32, rest: Cursor<'a>) -> Read<'a, Expr>
+    ensures { Gives (λ x. (plain x.0, left x.1)) result (primary_at (names_in scope.entry) (inside (names_in scope.entry) depth) (left rest.entry)) }
+{
+    if let Some(rest) = rest.mark(TokenKind::LeftParen) {
+        return group(alloc, scope, depth, rest);
+    }
+    if let Some(rest) = rest.word("unsigned") {
+        return input(alloc, scope, rest);
+    }
+    match rest.string() {
+        Some((word, rest)) => Ok((Expr::Bits(word), rest)),
+        None => part(alloc, scope, rest),
+    }
+}
+
+// An expression behind its opening parenthesis.
+#[cycle(expression)]
+#[tactic(auto, unfolding(opgen_text::specs::Reader::inside, opgen_text::specs::Reader::and_then))]
+fn group<'a>(alloc: Global, scope: Scope<'_>, depth: u32, rest: Cursor<'a>) -> Read<'a, Expr>
+    ensures { Gives (λ x. (plain x.0, left x.1)) result (closed (inside (names_in scope.entry) depth (left rest.entry))) }
+{
+    if depth == 0 {
+        return Err(Refusal::Refused);
+    }
+    let (operand, rest) = expression(alloc, scope, depth - 1, rest)?;
+    let rest = rest.mark(TokenKind::RightParen).ok_or(Refusal::Refused)?;
+    Ok((operand, rest))
+}

@@ -1,0 +1,75 @@
+// The pieces of a text, one after the other.
+
+ghost use Rattle.std.specs.Prelude.{◌≡◌, ◌≤◌, ◌+◌, IfOk, IfErr, OnErr, length, Ok, Err};
+ghost use Rattle.opgen_text.specs.declared.place.Place.TheVariants.{Library, End};
+ghost use Rattle.opgen_text.specs.Reader.{takes_at};
+ghost use Rattle.opgen_text.specs.Statements.{Follows, nothing};
+ghost use Rattle.opgen_text.specs.Symbols.{pieces};
+ghost use Rattle.opgen_read.specs.Left.{left};
+ghost use Rattle.opgen_read.specs.Reached.{IsPieceFault};
+ghost use Rattle.opgen_read.specs.Seen.{seen};
+ghost use Rattle.opgen_read.specs.Stepped.{Steps};
+
+use crate::cursor::Cursor;
+use crate::draft::Draft;
+use crate::refusal::Refusal;
+use crate::take::take;
+use opgen_text::Place;
+use std::alloc::{AllocError, Global};
+
+/// Why pieces were not read: memory ran out, or a piece, by its number from 1, is none that its
+/// place takes.
+#[derive(Clone, Copy, Debug, PartialEq, Eq, Drop)]
+pub enum PieceFault {
+    Memory,
+    Syntax { piece: u32 },
+}
+
+impl From<AllocError> for PieceFault {
+    ghost use Rattle.opgen_read.specs.declared.pieces.PieceFault.TheVariants as faults;
+
+    ghost from_gives = { λ _ e. e ≡ faults.Memory };
+
+    fn from(_e: AllocError) -> PieceFault {
+        PieceFault::Memory
+    }
+}
+
+// One piece at its place, by its number.
+fn step(
+    alloc: Global,
+    draft: Draft,
+    place: Place,
+    piece: Cursor<'_>,
+    number: u32,
+) -> Result<(Place, Draft), PieceFault>
+    ensures { Steps result number (takes_at place (seen draft) (left piece.entry)) }
+{
+    match take(alloc, draft, place, piece) {
+        Ok(next) => Ok(next),
+        Err(Refusal::Memory) => Err(PieceFault::Memory),
+        Err(Refusal::Refused) => Err(PieceFault::Syntax { piece: number }),
+    }
+}
+
+/// What the pieces of a whole text say.
+pub fn read_pieces(alloc: Global, text: Cursor<'_>) -> Result<Draft, PieceFault>
+    requires { length (left text) ≤ 67108864 }
+    ensures ok { IfOk result (λ d. Follows Library nothing (pieces (left text.entry)) End (seen d)) }
+    ensures err { IfErr result (IsPieceFault (left text.entry)) }
+{
+    let mut draft = Draft::new(alloc)?;
+    let mut place = Place::Library;
+    let mut rest = text;
+    let mut taken = 0;
+    'pieces: while let Some((piece, more)) = rest.piece() {
+        (place, draft) = step(alloc, draft, place, piece, taken + 1)?;
+        rest = more;
+        taken += 1;
+    }
+    if place == Place::End {
+        Ok(draft)
+    } else {
+        Err(PieceFault::Syntax { piece: taken + 1 })
+    }
+}

@@ -1,0 +1,103 @@
+// Whole texts.
+
+ghost use Rattle.std.specs.Prelude.{◌≡◌, ◌≤◌, IfOk, IfErr, IsTrue, ◌↔◌, length};
+ghost use Rattle.opgen_net.specs.Sound.{IsSound};
+ghost use Rattle.opgen_text.specs.Spelled.{Statements, Spells};
+ghost use Rattle.opgen_read.specs.Answer.{IsWithinLimits, IsReadFault};
+ghost use Rattle.opgen_read.specs.Outcome.{IsTextFault, IsOutcome, HasFew};
+ghost use Rattle.opgen_read.specs.Seen.{seen};
+
+use crate::cursor::Cursor;
+use crate::draft::Draft;
+use crate::fault::ReadFault;
+use crate::pieces::{PieceFault, read_pieces};
+use opgen_lex::{LexFault, tokens};
+use opgen_net::{Design, SoundFault};
+use std::alloc::Global;
+
+/// The most signals of a design that is read.
+pub const MAX_SIGNALS: usize = 65_536;
+
+/// The most ports of a design that is read.
+pub const MAX_PORTS: usize = 64;
+
+// What the statements of a text say.
+fn statements(alloc: Global, bytes: &[u8]) -> Result<Draft, ReadFault>
+    requires { length bytes.now ≤ 67108864 }
+    ensures ok { IfOk result (λ d. Statements bytes.now (seen d)) }
+    ensures few { IfOk result (λ d. HasFew (seen d).design) }
+    ensures err { IfErr result (IsTextFault bytes.now) }
+{
+    let tokens = match tokens(alloc, bytes) {
+        Ok(tokens) => tokens,
+        Err(LexFault::Lexical { offset }) => return Err(ReadFault::Lexical { offset }),
+        Err(LexFault::Memory) => return Err(ReadFault::Memory),
+    };
+    match read_pieces(alloc, Cursor::new(bytes, &tokens)) {
+        Ok(draft) => Ok(draft),
+        Err(PieceFault::Syntax { piece }) => Err(ReadFault::Syntax { piece }),
+        Err(PieceFault::Memory) => Err(ReadFault::Memory),
+    }
+}
+
+fn is_within_limits(design: &Design) -> bool
+    ensures { IsTrue result ↔ IsWithinLimits design.now }
+{
+    design.signals.len() <= MAX_SIGNALS && design.ports.len() <= MAX_PORTS
+}
+
+// The design of a draft.
+fn design_of(draft: Draft) -> Design
+    ensures { result ≡ (seen draft).design }
+{
+    Design {
+        name: draft.name,
+        ports: draft.ports.into_items(),
+        signals: draft.signals.into_items(),
+        drivers: draft.drivers,
+    }
+}
+
+// The fault of a design that is within the limits, if it has one.
+fn judged(alloc: Global, design: &Design, agrees: bool) -> Result<(), ReadFault>
+    requires limits { IsWithinLimits design.now }
+    requires few { HasFew design.now }
+    ensures { IsOutcome agrees design.now result }
+{
+    if !agrees {
+        return Err(ReadFault::Unsound { rule: 1, item: 0 });
+    }
+    match design.sound(alloc) {
+        Ok(()) => Ok(()),
+        Err(SoundFault::Unsound { rule, item }) => Err(ReadFault::Unsound { rule, item }),
+        Err(SoundFault::Memory) => Err(ReadFault::Memory),
+    }
+}
+
+/// The design that a text of the VHDL subset spells. White space, comments and parentheses leave
+/// nothing of themselves. Names are compared without case and stand in lower case; a name means its
+/// first declaration.
+///
+/// Time goes with the number of bytes, and memory with the number of tokens.
+///
+/// # Errors
+///
+/// The first cause, in the order of `ReadFault`: an offset at which no token starts, a piece that
+/// its place does not take, more signals or ports than the limits, a rule of sound designs that
+/// fails.
+pub fn read_design(alloc: Global, bytes: &[u8]) -> Result<Design, ReadFault>
+    requires { length bytes.now ≤ 67108864 }
+    ensures spelled { IfOk result (λ d. Spells bytes.now d) }
+    ensures within_limits { IfOk result (λ d. IsWithinLimits d) }
+    ensures sound { IfOk result (λ d. IsSound d) }
+    ensures fault { IfErr result (IsReadFault bytes.now) }
+{
+    let draft = statements(alloc, bytes)?;
+    let agrees = draft.agrees;
+    let design = design_of(draft);
+    if !is_within_limits(&design) {
+        return Err(ReadFault::TooLarge);
+    }
+    judged(alloc, &design, agrees)?;
+    Ok(design)
+}

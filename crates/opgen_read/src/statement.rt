@@ -1,0 +1,249 @@
+// The statements of an architecture.
+
+ghost use Rattle.std.specs.Prelude.{◌≡◌, length, map, option_map};
+ghost use Rattle.opgen_net.specs.Plain.{plain};
+ghost use Rattle.opgen_text.specs.Reader.{row_at, other_at, rows_at, table_at, choice_at, valued_at, output_at, target_at, assignment_at, concurrent_at, clocked_at, is_one, high_at, clock, edge_at, process_at, eat_all};
+ghost use Rattle.opgen_read.specs.Left.{left};
+ghost use Rattle.opgen_read.specs.Gives.{Gives};
+ghost use Rattle.opgen_read.specs.Names.{names_in};
+
+use crate::cursor::Cursor;
+use crate::expression::{Scope, expression, part};
+use crate::name::name;
+use crate::refusal::Refusal;
+use opgen_list::{Items, Text};
+use opgen_net::{Driver, Expr, Formula};
+use opgen_num::Word;
+use opgen_text::TokenKind;
+use std::alloc::Global;
+
+// How deep parentheses may nest.
+const MAX_DEPTH: u32 = 64;
+
+// A row of a table, its address first, and what is left behind its comma.
+#[tactic(auto, unfolding(opgen_text::specs::Reader::row_at, opgen_text::specs::Reader::and_then))]
+fn row(rest: Cursor<'_>) -> Option<((Word, Word), Cursor<'_>)>
+    ensures { option_map (λ x. (x.0, left x.1)) result ≡ row_at (left rest.entry) }
+{
+    match rest.string() {
+        None => None,
+        Some((word, rest)) => {
+            let rest = rest.word("when")?;
+            match rest.string() {
+                None => None,
+                Some((address, rest)) => {
+                    let rest = rest.mark(TokenKind::Comma)?;
+                    Some(((address, word), rest))
+                }
+            }
+        }
+    }
+}
+
+// The word of every other address, and the piece is over.
+#[tactic(auto, unfolding(opgen_text::specs::Reader::other_at, opgen_text::specs::Reader::and_then))]
+fn other(rest: Cursor<'_>) -> Option<Word>
+    ensures { result ≡ other_at (left rest.entry) }
+{
+    match rest.string() {
+        None => None,
+        Some((word, rest)) => {
+            let _end = rest.word("when")?.word("others")?.end()?;
+            Some(word)
+        }
+    }
+}
+
+fn rows(alloc: Global, rest: Cursor<'_>) -> Result<(Items<(Word, Word)>, Word), Refusal>
+    ensures { Gives (λ x. x) result (rows_at (length (left rest.entry)) (left rest.entry)) }
+{
+    let mut rows = Items::new(alloc);
+    let mut rest = rest;
+    'rows: while let Some((row, more)) = row(rest) {
+        rows.push(row)?;
+        rest = more;
+    }
+    match other(rest) {
+        Some(word) => Ok((rows, word)),
+        None => Err(Refusal::Refused),
+    }
+}
+
+// A table behind `with`.
+#[tactic(auto, unfolding(opgen_text::specs::Reader::table_at, opgen_text::specs::Reader::and_then))]
+fn table(alloc: Global, scope: Scope<'_>, rest: Cursor<'_>) -> Result<Driver, Refusal>
+    ensures { Gives (λ x. x) result (table_at (names_in scope.entry) (left rest.entry)) }
+{
+    let (on, rest) = part(alloc, scope, rest)?;
+    let rest = rest.word("select").ok_or(Refusal::Refused)?;
+    let (name, rest) = name(alloc, rest)?;
+    let rest = rest.mark(TokenKind::LessEqual).ok_or(Refusal::Refused)?;
+    let (rows, other) = rows(alloc, rest)?;
+    Ok(Driver::Table {
+        to: scope.signals.place(name.as_str()),
+        on: Formula::new(on),
+        rows,
+        other,
+    })
+}
+
+fn is_one(word: Word) -> bool
+    ensures { result ≡ is_one word }
+{
+    word.width() == 1 && word.bits() == 1
+}
+
+// The rest of a comparison with "1", up to `else`.
+#[tactic(auto, unfolding(opgen_text::specs::Reader::high_at, opgen_text::specs::Reader::and_then))]
+fn high(rest: Cursor<'_>) -> Option<Cursor<'_>>
+    ensures { option_map left result ≡ high_at (left rest.entry) }
+{
+    let rest = rest.mark(TokenKind::Equal)?;
+    match rest.string() {
+        None => None,
+        Some((word, rest)) => {
+            if is_one(word) {
+                rest.word("else")
+            } else {
+                None
+            }
+        }
+    }
+}
+
+// An assignment that depends on a condition, behind `when`.
+#[tactic(auto, unfolding(opgen_text::specs::Reader::choice_at, opgen_text::specs::Reader::and_then))]
+fn choice(
+    alloc: Global,
+    scope: Scope<'_>,
+    to: usize,
+    yes: Expr,
+    rest: Cursor<'_>,
+) -> Result<Driver, Refusal>
+    ensures { Gives (λ x. x) result (choice_at (names_in scope.entry) to (plain yes) (left rest.entry)) }
+{
+    let (on, rest) = part(alloc, scope, rest)?;
+    let rest = high(rest).ok_or(Refusal::Refused)?;
+    let (no, rest) = expression(alloc, scope, MAX_DEPTH, rest)?;
+    match rest.end() {
+        None => Err(Refusal::Refused),
+        Some(_end) => Ok(Driver::Choice {
+            to,
+            on: Formula::new(on),
+            yes: Formula::new(yes),
+            no: Formula::new(no),
+        }),
+    }
+}
+
+// An assignment to a signal, behind `<=`.
+#[tactic(auto, unfolding(opgen_text::specs::Reader::valued_at, opgen_text::specs::Reader::and_then, opgen_text::specs::Reader::choice))]
+fn valued(alloc: Global, scope: Scope<'_>, to: usize, rest: Cursor<'_>) -> Result<Driver, Refusal>
+    ensures { Gives (λ x. x) result (valued_at (names_in scope.entry) to (left rest.entry)) }
+{
+    let (value, rest) = expression(alloc, scope, MAX_DEPTH, rest)?;
+    match rest.word("when") {
+        Some(rest) => choice(alloc, scope, to, value, rest),
+        None => match rest.end() {
+            None => Err(Refusal::Refused),
+            Some(_end) => Ok(Driver::Assign {
+                to,
+                expr: Formula::new(value),
+            }),
+        },
+    }
+}
+
+// An assignment to an output, behind `std_logic_vector`.
+#[tactic(auto, unfolding(opgen_text::specs::Reader::output_at, opgen_text::specs::Reader::and_then))]
+fn output(alloc: Global, scope: Scope<'_>, port: usize, rest: Cursor<'_>) -> Result<Driver, Refusal>
+    ensures { Gives (λ x. x) result (output_at (names_in scope.entry) port (left rest.entry)) }
+{
+    let rest = rest.mark(TokenKind::LeftParen).ok_or(Refusal::Refused)?;
+    let (value, rest) = expression(alloc, scope, MAX_DEPTH, rest)?;
+    let rest = rest.mark(TokenKind::RightParen).ok_or(Refusal::Refused)?;
+    match rest.end() {
+        None => Err(Refusal::Refused),
+        Some(_end) => Ok(Driver::Output {
+            port,
+            expr: Formula::new(value),
+        }),
+    }
+}
+
+// The name that is driven, and what is left behind `<=`.
+#[tactic(auto, unfolding(opgen_text::specs::Reader::target_at, opgen_text::specs::Reader::and_then))]
+fn target<'a>(alloc: Global, rest: Cursor<'a>) -> Result<(Text, Cursor<'a>), Refusal>
+    ensures { Gives (λ x. (x.0, left x.1)) result (target_at (left rest.entry)) }
+{
+    let (name, rest) = name(alloc, rest)?;
+    let rest = rest.mark(TokenKind::LessEqual).ok_or(Refusal::Refused)?;
+    Ok((name, rest))
+}
+
+#[tactic(auto, unfolding(opgen_text::specs::Reader::assignment_at, opgen_text::specs::Reader::and_then, opgen_text::specs::Reader::choice))]
+fn assignment(alloc: Global, scope: Scope<'_>, piece: Cursor<'_>) -> Result<Driver, Refusal>
+    ensures { Gives (λ x. x) result (assignment_at (names_in scope.entry) (left piece.entry)) }
+{
+    let (name, rest) = target(alloc, piece)?;
+    match rest.word("std_logic_vector") {
+        Some(rest) => output(alloc, scope, scope.ports.place(name.as_str()), rest),
+        None => valued(alloc, scope, scope.signals.place(name.as_str()), rest),
+    }
+}
+
+/// The driver of a statement outside the process.
+#[tactic(auto, unfolding(opgen_text::specs::Reader::concurrent_at, opgen_text::specs::Reader::choice))]
+pub fn concurrent(alloc: Global, scope: Scope<'_>, piece: Cursor<'_>) -> Result<Driver, Refusal>
+    ensures { Gives (λ x. x) result (concurrent_at (names_in scope.entry) (left piece.entry)) }
+{
+    match piece.word("with") {
+        Some(rest) => table(alloc, scope, rest),
+        None => assignment(alloc, scope, piece),
+    }
+}
+
+/// The driver of an assignment within the process.
+#[tactic(auto, unfolding(opgen_text::specs::Reader::clocked_at, opgen_text::specs::Reader::and_then))]
+pub fn clocked(alloc: Global, scope: Scope<'_>, piece: Cursor<'_>) -> Result<Driver, Refusal>
+    ensures { Gives (λ x. x) result (clocked_at (names_in scope.entry) (left piece.entry)) }
+{
+    let (name, rest) = target(alloc, piece)?;
+    let (value, rest) = expression(alloc, scope, MAX_DEPTH, rest)?;
+    match rest.end() {
+        None => Err(Refusal::Refused),
+        Some(_end) => Ok(Driver::Register {
+            to: scope.signals.place(name.as_str()),
+            expr: Formula::new(value),
+        }),
+    }
+}
+
+#[tactic(auto, unfolding(opgen_text::specs::Reader::and_then))]
+fn clock(rest: Cursor<'_>) -> Option<Cursor<'_>>
+    ensures { option_map left result ≡ eat_all clock (left rest.entry) }
+{
+    rest.mark(TokenKind::LeftParen)?
+        .word("clk")?
+        .mark(TokenKind::RightParen)
+}
+
+#[tactic(auto, unfolding(opgen_text::specs::Reader::edge_at, opgen_text::specs::Reader::and_then))]
+fn edge(rest: Cursor<'_>) -> Option<Cursor<'_>>
+    ensures { option_map left result ≡ edge_at (left rest.entry) }
+{
+    let rest = rest.word("begin")?.word("if")?.word("rising_edge")?;
+    clock(rest)?.word("then")
+}
+
+/// What is left of the process's first piece at its first assignment, behind `process`.
+#[tactic(auto, unfolding(opgen_text::specs::Reader::process_at, opgen_text::specs::Reader::and_then, opgen_text::specs::Reader::choice))]
+pub fn process(rest: Cursor<'_>) -> Option<Cursor<'_>>
+    ensures { option_map left result ≡ process_at (left rest.entry) }
+{
+    let rest = clock(rest)?;
+    match rest.word("is") {
+        Some(rest) => edge(rest),
+        None => edge(rest),
+    }
+}

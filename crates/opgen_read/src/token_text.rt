@@ -1,0 +1,94 @@
+// What the texts of tokens say.
+
+ghost use Rattle.std.specs.Prelude.{◌≡◌, ◌≤◌, ◌<◌, IsTrue, IfSome, map, length, nat_le, Some, None, if◌then◌else◌, ◌∷◌};
+ghost use Rattle.std.specs.Char.{to_ascii_lowercase, is_ascii_digit};
+ghost use Rattle.std.specs.List.{list_all};
+ghost use Rattle.std.specs.Str.{bytes_eq};
+ghost use Rattle.opgen_text.specs.Bytes.{is_bit};
+ghost use Rattle.opgen_text.specs.Grammar.{value};
+ghost use Rattle.opgen_text.specs.Reader.{same_kind, rank};
+ghost use Rattle.opgen_text.specs.Symbols.{bits_in};
+ghost use Rattle.opgen_read.specs.Fits.{piece_len};
+
+use opgen_num::Word;
+use opgen_text::{Token, TokenKind};
+
+// The number of the highest bit of a word.
+const MAX_INDEX: u32 = 63;
+
+fn rank(kind: TokenKind) -> u8
+    ensures { result ≡ rank kind }
+{
+    kind as u8
+}
+
+pub fn same_kind(a: TokenKind, b: TokenKind) -> bool
+    ensures { result ≡ same_kind a b }
+{
+    rank(a) == rank(b)
+}
+
+/// Whether a text is this word, in letters of any case.
+pub fn same_word(word: &str, text: &[u8]) -> bool
+    ensures { result ≡ bytes_eq (map to_ascii_lowercase word.now) (map to_ascii_lowercase text.now) }
+{
+    word.as_bytes().eq_ignore_ascii_case(text)
+}
+
+/// The number that digits give, where it is the number of a bit.
+pub fn index_of(digits: &[u8]) -> Option<u32>
+    requires { IsTrue (list_all is_ascii_digit digits.now) }
+    ensures value { result ≡ (if nat_le (value digits.now) 63 then Some (value digits.now) else None) }
+    ensures most { IfSome result (λ i. i ≤ 63) }
+{
+    let mut index = 0;
+    'digits: for digit in digits {
+        index = index * 10 + (*digit - b'0') as u32;
+        if index > MAX_INDEX {
+            return None;
+        }
+    }
+    Some(index)
+}
+
+fn is_bit(byte: u8) -> bool
+    ensures { result ≡ is_bit byte }
+{
+    byte == b'0' || byte == b'1'
+}
+
+// A word with a bit below its lowest.
+fn with_lowest(word: Word, bit: bool) -> Word
+    requires { length word < 128 }
+    ensures { result ≡ bit ∷ word }
+{
+    Word::new(word.bits() * 2 + bit as u128, word.width() + 1)
+}
+
+/// The word of a bit string, whose last bit is the lowest.
+pub fn word_of(text: &[u8]) -> Word
+    requires { length text.now ≤ 66 }
+    ensures { result ≡ bits_in text.now }
+{
+    let mut word = Word::new(0, 0);
+    'bits: for byte in text {
+        if is_bit(*byte) {
+            word = with_lowest(word, *byte == b'1');
+        }
+    }
+    word
+}
+
+/// How many tokens stand up to the first semicolon, with it.
+pub fn piece_len(tokens: &[Token]) -> usize
+    ensures value { result ≡ piece_len tokens.now }
+    ensures most { result ≤ length tokens.now }
+    ensures some { 0 < length tokens.now → 0 < result }
+{
+    'tokens: for (i, token) in tokens.iter().enumerate() {
+        if same_kind(token.kind, TokenKind::Semicolon) {
+            return i + 1;
+        }
+    }
+    tokens.len()
+}
