@@ -7,3 +7,5 @@ pub mod Preparing
 pub mod Leaving
 pub mod RunRows
 mod Spelled
+pub mod OneDue
+pub mod Unfetched

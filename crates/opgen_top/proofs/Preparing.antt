@@ -13,12 +13,13 @@ use Rattle.opgen_top.specs.declared.line.Line.TheVariants.{Wrote}
 use Rattle.opgen_top.specs.declared.made.MadeFile.{MadeFile}
 use Rattle.opgen_top.specs.declared.made.Refusal.{Refusal}
 use Rattle.opgen_top.specs.declared.made.Refusal.TheVariants as refusals
-use Rattle.opgen_top.specs.Answer.{Answer, answer_of, answer_of_reading, IsAnswer, wrote}
+use Rattle.opgen_top.specs.Answer.{Answer, read_fault, too_long, answer_of, answer_of_reading, IsAnswer, wrote}
 use Rattle.opgen_top.specs.Built.{multiplication}
 use Rattle.opgen_top.specs.Command.{Generate}
 use Rattle.opgen_top.specs.Due.{most_bytes, OnFetch, IsDue}
 use Rattle.opgen_top.specs.Generate.{IsGenerated}
-use Rattle.opgen_top.specs.Prepared.{Reads, Prepares, IsMade, IsRefusal}
+use Rattle.opgen_top.specs.Prepared.{Reads, Prepares, IsMade, IsRefusal, Fetches}
+use Rattle.opgen_top.proofs.Unfetched.{unfetched-refused}
 
 -- a file that was fetched whole
 on_fetch : (under : Option (List ℕ)) (most : ℕ) (bytes : List ℕ) (a : Answer) (said : List ℕ → Type 0) → under ≡ Some bytes → length bytes ≤ most → said bytes → OnFetch (fetched under most) a said
@@ -62,3 +63,14 @@ module _ (spec bytes : List ℕ) (told : Option Files) (before now : Reads) (sta
   prepares (Ok made) generated line named listed status due refused = generated-made made generated line named
   prepares (Err (refusals.Line line)) generated said named listed status due refused = generated-refused line (listed line refl) (status line refl) (due line refl) (refused line refl)
   prepares (Err refusals.Memory) generated line named listed status due refused = tt
+
+-- a specification that was not fetched
+pub fetch-refused : (spec : List ℕ) (told : Option Files) (before now : Reads) (refusal : Refusal) → Fetches spec most_bytes told before now (Err refusal) → Prepares (Some (Generate spec)) told before now (Err refusal)
+fetch-refused spec told before now (refusals.Line line) cause = unfetched-refused (Some (Generate spec)) told before now spec most_bytes missing longer line cause
+  where
+    missing : (files : Files) → told ≡ Some files → files spec ≡ None → (files spec ≡ None) × IsDue (Some (Generate spec)) files read_fault
+    missing files is e = (e, subst (λ o. OnFetch (fetched o most_bytes) read_fault (λ bytes. read_fault ≡ answer_of_reading (read (tree bytes)))) (sym e) refl)
+
+    longer : (files : Files) → told ≡ Some files → fetched (files spec) most_bytes ≡ Err fetch.TooLong → (fetched (files spec) most_bytes ≡ Err fetch.TooLong) × IsDue (Some (Generate spec)) files too_long
+    longer files is e = (e, subst (λ r. OnFetch r too_long (λ bytes. too_long ≡ answer_of_reading (read (tree bytes)))) (sym e) refl)
+fetch-refused spec told before now refusals.Memory cause = tt

@@ -55,3 +55,7 @@ pub record IsRefusedSpec (spec : List ℕ) (files : Files) : Type 0 where
 abbrev pub IsRefused : Option Command → Files → Type 0
 IsRefused None files = ⊥
 IsRefused (Some (Generate spec)) files = IsRefusedSpec spec files
+
+-- the words and the files leave one answer
+abbrev pub HasOneDue : Type 0
+HasOneDue = (command : Option Command) (files : Files) (a b : Answer) → IsDue command files a → IsDue command files b → a ≡ b

@@ -1,13 +1,16 @@
 -- A command before its store: the file that it makes, or why there is none.
-use Rattle.std.specs.Prelude.{ℕ, ◌≡◌, ◌⊎◌, Option, Some, Result, Ok, Err, string_bytes}
+use Rattle.std.specs.Prelude.{ℕ, ◌≡◌, ◌⊎◌, ◌≤◌, List, length, Option, Some, None, Result, Ok, Err, Vec, string_bytes}
+use Rattle.std.specs.declared.alloc.Global.{Global}
+use Rattle.opgen_io.specs.Answers.{fetched}
 use Rattle.opgen_io.specs.Counts.{Rose, Stood}
 use Rattle.opgen_io.specs.Files.{Files}
+use Rattle.opgen_io.specs.declared.folder.FetchFault.TheVariants as fetch
 use Rattle.opgen_top.specs.declared.line.Line.{Line}
 use Rattle.opgen_top.specs.declared.line.Line.TheVariants.{Wrote}
 use Rattle.opgen_top.specs.declared.made.MadeFile.{MadeFile}
 use Rattle.opgen_top.specs.declared.made.Refusal.{Refusal}
 use Rattle.opgen_top.specs.declared.made.Refusal.TheVariants as refusals
-use Rattle.opgen_top.specs.Answer.{answer_of, read_fault, IsAnswer}
+use Rattle.opgen_top.specs.Answer.{answer_of, read_fault, too_long, IsAnswer}
 use Rattle.opgen_top.specs.Command.{Command}
 use Rattle.opgen_top.specs.Due.{IsDue, IsMissing, IsTooLong, IsRefused}
 use Rattle.opgen_top.specs.Statuses.{Refuses}
@@ -42,3 +45,23 @@ abbrev pub Prepares : (command : Option Command) (told : Option Files) (before n
 Prepares command told before now (Ok made) = IsMade command told made
 Prepares command told before now (Err (refusals.Line line)) = IsRefusal command told before now line
 Prepares command told before now (Err refusals.Memory) = Unit {0}
+
+-- the counts did not fall
+pub record Kept (before now : Reads) : Type 0 where
+  pub faults : before.faults ≤ now.faults
+  pub lacks : before.lacks ≤ now.lacks
+  pub longs : before.longs ≤ now.longs
+
+-- the line for a file that was not fetched, and its cause
+pub record IsUnfetched (name : List ℕ) (most : ℕ) (told : Option Files) (before now : Reads) (line : Line) : Type 0 where
+  pub either : (answer_of line ≡ read_fault) ⊎ (answer_of line ≡ too_long)
+  pub read_counted : (answer_of line).status ≡ 3 → Rose before.faults now.faults ⊎ Rose before.lacks now.lacks
+  pub long_counted : (answer_of line).status ≡ 9 → Rose before.longs now.longs
+  pub missing : (files : Files) → told ≡ Some files → Stood before.faults now.faults → (answer_of line).status ≡ 3 → files name ≡ None
+  pub longer : (files : Files) → told ≡ Some files → (answer_of line).status ≡ 9 → fetched (files name) most ≡ Err fetch.TooLong
+
+-- the bytes of a file, or why there are none
+abbrev pub Fetches : (name : List ℕ) (most : ℕ) (told : Option Files) (before now : Reads) → Result (Vec ℕ Global) Refusal → Type 0
+Fetches name most told before now (Ok bytes) = (length bytes.items ≤ most) × ((files : Files) → told ≡ Some files → files name ≡ Some bytes.items)
+Fetches name most told before now (Err (refusals.Line line)) = IsUnfetched name most told before now line
+Fetches name most told before now (Err refusals.Memory) = Unit {0}

@@ -4,6 +4,7 @@
 mod buildable;
 mod command;
 mod generate;
+mod laws;
 mod line;
 mod made;
 mod prepare;
@@ -11,6 +12,7 @@ mod program;
 mod status;
 
 pub use buildable::built;
+pub use laws::one_due;
 pub use opgen_flat::flat;
 pub use opgen_write::{VecSink, WriteFault, write_design};
 pub use program::run;

@@ -1,7 +1,7 @@
 //! Commands before their store.
 ghost use Rattle.std.specs.Prelude.{◌≡◌, Some};
 ghost use Rattle.opgen_top.specs.Command.{plain, Generate};
-ghost use Rattle.opgen_top.specs.Prepared.{Prepares};
+ghost use Rattle.opgen_top.specs.Prepared.{Fetches, Kept, Prepares};
 
 use crate::command::Command;
 use crate::generate::generated;
@@ -30,6 +30,30 @@ pub(crate) fn prepare<F: Folder>(
     }
 }
 
+/// The bytes of a file, of which there may be `most`.
+fn fetch<F: Folder>(
+    alloc: Global,
+    name: &str,
+    most: usize,
+    folder: &mut F,
+) -> Result<Vec<u8>, Refusal>
+    ensures told_same { F.told folder.new ≡ F.told folder.old }
+    ensures write_faults_same { F.write_faults folder.new ≡ F.write_faults folder.old }
+    ensures kept { Kept
+        (record { faults = F.read_faults folder.old; lacks = F.lacks folder.old; longs = F.longs folder.old })
+        (record { faults = F.read_faults folder.new; lacks = F.lacks folder.new; longs = F.longs folder.new }) }
+    ensures fetched { Fetches name.now most (F.told folder.old)
+        (record { faults = F.read_faults folder.old; lacks = F.lacks folder.old; longs = F.longs folder.old })
+        (record { faults = F.read_faults folder.new; lacks = F.lacks folder.new; longs = F.longs folder.new }) result }
+{
+    match folder.fetch(alloc, name, most) {
+        Ok(bytes) => Ok(bytes),
+        Err(FetchFault::Failed) => Err(Refusal::Line(Line::ReadFault)),
+        Err(FetchFault::TooLong) => Err(Refusal::Line(Line::TooLong)),
+        Err(FetchFault::Memory) => Err(Refusal::Memory),
+    }
+}
+
 fn generate<F: Folder>(alloc: Global, spec: &str, folder: &mut F) -> Result<MadeFile, Refusal>
     ensures told_same { F.told folder.new ≡ F.told folder.old }
     ensures write_faults_same { F.write_faults folder.new ≡ F.write_faults folder.old }
@@ -37,11 +61,9 @@ fn generate<F: Folder>(alloc: Global, spec: &str, folder: &mut F) -> Result<Made
         (record { faults = F.read_faults folder.old; lacks = F.lacks folder.old; longs = F.longs folder.old })
         (record { faults = F.read_faults folder.new; lacks = F.lacks folder.new; longs = F.longs folder.new }) result }
 {
-    let bytes = match folder.fetch(alloc, spec, MAX_SPEC_LEN) {
+    let bytes = match fetch(alloc, spec, MAX_SPEC_LEN, folder) {
         Ok(bytes) => bytes,
-        Err(FetchFault::Failed) => return Err(Refusal::Line(Line::ReadFault)),
-        Err(FetchFault::TooLong) => return Err(Refusal::Line(Line::TooLong)),
-        Err(FetchFault::Memory) => return Err(Refusal::Memory),
+        Err(refusal) => return Err(refusal),
     };
     generated(alloc, &bytes)
 }
