@@ -4,6 +4,7 @@ mod WeightedSums
 mod Roundings
 mod Widths
 mod PortWidths
+mod In128
 mod Numbered
 mod Reached
 pub mod Accepted
