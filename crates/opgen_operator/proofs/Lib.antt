@@ -3,6 +3,8 @@ mod Magnitudes
 mod WeightedSums
 mod Roundings
 mod Widths
+mod PortWidths
+mod In128
 mod Numbered
 mod Reached
 pub mod Accepted

@@ -8,3 +8,4 @@ pub mod Good
 pub mod Judged
 pub mod Fits
 pub mod Reached
+pub mod Bounded
