@@ -7,3 +7,4 @@ pub mod Leaving
 pub mod RunRows
 pub mod OneDue
 pub mod Unfetched
+pub mod OneSimulate
