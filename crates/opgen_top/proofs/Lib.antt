@@ -9,3 +9,4 @@ pub mod RunRows
 mod Spelled
 pub mod OneDue
 pub mod Unfetched
+pub mod OneSimulate

@@ -7,3 +7,5 @@ pub mod Running
 pub mod Due
 pub mod Stores
 pub mod Prepared
+pub mod Simulate
+pub mod Vectors

@@ -12,7 +12,7 @@ mod program;
 mod status;
 
 pub use buildable::built;
-pub use laws::one_due;
+pub use laws::{one_due, one_simulate_answer};
 pub use opgen_flat::flat;
 pub use opgen_write::{VecSink, WriteFault, write_design};
 pub use program::run;

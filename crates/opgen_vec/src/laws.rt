@@ -1,6 +1,13 @@
 ghost use Rattle.opgen_vec.specs.Reading.{HasOneReading};
+ghost use Rattle.opgen_vec.specs.Worked.{TextsCompute, DrawsCompute};
 
 /// A file of vectors has one reading: its cells, or one fault.
 pub fn one_reading()
     ensures { HasOneReading }
+{}
+
+/// The definitions, computed on worked rows.
+pub fn definitions_compute()
+    ensures texts { TextsCompute }
+    ensures draws { DrawsCompute }
 {}

@@ -12,7 +12,7 @@ mod write;
 
 pub use draw::stimulus;
 pub use fault::VecFault;
-pub use laws::one_reading;
+pub use laws::{definitions_compute, one_reading};
 pub use read::{read_empty_rows, read_vectors};
 pub use vectors::Vectors;
 pub use write::write_rows;
