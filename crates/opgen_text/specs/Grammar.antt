@@ -20,7 +20,7 @@ pub record Names : Type 0 where
 abbrev pub place_of : List (List ℕ) → List ℕ → ℕ
 place_of names n = position_or_len (bytes_eq n) names
 
--- a word that is no refused name
+-- an identifier of at most 64 bytes that is no refused name
 abbrev pub IsName : List ℕ → Type 0
 IsName n = IsTrue (is_allowed_name n)
 
@@ -32,10 +32,11 @@ value digits = digits_value 10 digits
 abbrev pub IsIndex : List ℕ → Type 0
 IsIndex digits = value digits ≤ 63
 
--- how deep parentheses may nest
+-- how deep parentheses round expressions may nest; those of a range and of `unsigned` are not counted
 abbrev pub max_depth : ℕ
 max_depth = 64
 
+-- how an operator is written
 abbrev pub operator : Op → Symbol
 operator op.And = word (codes "and")
 operator op.Or = word (codes "or")
@@ -63,6 +64,7 @@ mutual
     group : {d : ℕ} {t : Tree} {ss rest : List Symbol} → IsExpression names d t ss (mark RightParen ∷ rest) →
         IsPrimary names (suc d) t (mark LeftParen ∷ ss) rest
 
+  -- a primary, or one behind `not`
   pub data IsFactor (names : Names) : (depth : ℕ) → Tree → List Symbol → List Symbol → Type 0 where
     plain : {d : ℕ} {t : Tree} {ss rest : List Symbol} → IsPrimary names d t ss rest → IsFactor names d t ss rest
     opposite : {d : ℕ} {t : Tree} {ss rest : List Symbol} → IsPrimary names d t ss rest →

@@ -1,5 +1,5 @@
 -- The table of places of a text: which piece each place takes, what is read there, and which place comes next. A text is
--- one entity and its architecture (IEEE 1076-1993, 1.1, 1.2, 9.2 and 9.5).
+-- one entity and its architecture (IEEE 1076-1993, 1.1, 1.2, 4.3.1.2, 8.4, 8.7, 9.2, 9.5, 10.4 and 11.2).
 use Rattle.std.specs.Prelude.{◌≢◌, ℕ, ◌+◌, ◌&&◌, Bool, true, false, List, [], ◌∷◌, ◌++◌, map, replicate, codes, Option, Some, None}
 use Rattle.std.specs.Str.{bytes_eq}
 use Rattle.opgen_text.specs.declared.kind.TokenKind.TheVariants.{ZeroChar, LeftParen, RightParen, Semicolon, Colon, Comma, Dot, Equal, LessEqual, Arrow, Becomes}
@@ -43,7 +43,7 @@ with_signal r s = record r { design = record r.design { signals = r.design.signa
 abbrev pub with_driver : Reading → Driver → Reading
 with_driver r k = record r { design = record r.design { drivers = r.design.drivers ++ k ∷ [] } }
 
--- a name that has to be another, where it is written
+-- where a name is written, it has to be this one
 abbrev pub with_name : Reading → List ℕ → Option (List ℕ) → Reading
 with_name r own None = r
 with_name r own (Some n) = record r { agrees = r.agrees && bytes_eq own n }
@@ -117,7 +117,9 @@ pub data IsClocked (names : Names) : Driver → List Symbol → Type 0 where
 abbrev pub at_edge : List Symbol → List Symbol
 at_edge rest = word (codes "begin") ∷ word (codes "if") ∷ word (codes "rising_edge") ∷ parenthesized_clock (word (codes "then") ∷ rest)
 
--- a place takes a piece: what was read before it, what is read with it, and the next place
+-- A place takes a piece: what was read before it, what is read with it, and the next place. A text has one process at most,
+-- since the place behind the process takes no other. As in the grammar, a fact over two lists speaks of what begins the first
+-- and is followed by the second.
 pub data Takes : Place → Reading → List Symbol → Place → Reading → Type 0 where
   library_clause : {r : Reading} →
       Takes at.Library r (word (codes "library") ∷ word (codes "ieee") ∷ end_of_piece) at.UseLogic r

@@ -39,7 +39,7 @@ abbrev pub onto : Symbol → List (List Symbol) → List (List Symbol)
 onto s [] = (s ∷ []) ∷ []
 onto s (piece ∷ more) = (s ∷ piece) ∷ more
 
--- the pieces of a text: it is cut after each semicolon, and what is left after the last is a piece too
+-- the pieces of a text: it is cut after each semicolon, and what is left after the last is a piece too, where a symbol is left
 abbrev pub pieces : List Symbol → List (List Symbol)
 pieces [] = []
 pieces (s ∷ ss) = if is_semicolon s then (s ∷ []) ∷ pieces ss else onto s (pieces ss)
