@@ -327,7 +327,12 @@ static RANGES: [Case; 36] = [
     ),
 ];
 
-static DELAYS: [Case; 10] = [
+static DELAYS: [Case; 11] = [
+    (
+        "coefficients = [3]",
+        "coefficients = [3]\n[[delay]]\nclass = \"wood\"\nbase = 100\nper_bit = 10",
+        "OutOfRange class 1 1",
+    ),
     (
         "coefficients = [3]",
         "coefficients = [3]\ndelay = []",
