@@ -417,8 +417,10 @@ static OTHERS: [Case; 9] = [
     ),
 ];
 
-/// Further documents, their changes, and the faults or the lines that are printed.
-static FURTHER: [(&str, &[Change], &str); 67] = [
+/// A document, its changes, and the fault or the line that is printed.
+type Further = (&'static str, &'static [Change], &'static str);
+
+static SCALES: [Further; 15] = [
     (
         SCALE,
         &[
@@ -456,6 +458,88 @@ static FURTHER: [(&str, &[Change], &str); 67] = [
         ],
         "OutOfRange width 1",
     ),
+    (
+        SCALE,
+        &[("lsb = 0", "lsb = -32"), ("out_lsb = 0", "out_lsb = 17")],
+        "NotExact 0",
+    ),
+    (
+        SCALE,
+        &[
+            ("exact = true", "exact = false"),
+            ("lsb = 0", "lsb = -24"),
+            ("out_lsb = 0", "out_lsb = 24"),
+        ],
+        "Unsupported",
+    ),
+    (
+        SCALE,
+        &[
+            ("exact = true", "exact = false"),
+            ("lsb = 0", "lsb = -24"),
+            ("out_lsb = 0", "out_lsb = 25"),
+        ],
+        "Coarse -49",
+    ),
+    (
+        SCALE,
+        &[("lsb = 0", "lsb = 24"), ("out_lsb = 0", "out_lsb = -24")],
+        "Unsupported",
+    ),
+    (
+        SCALE,
+        &[("lsb = 0", "lsb = 24"), ("out_lsb = 0", "out_lsb = -25")],
+        "Coarse 49",
+    ),
+    (
+        SCALE,
+        &[("lsb = 0", "lsb = 32"), ("out_lsb = 0", "out_lsb = -32")],
+        "Coarse 64",
+    ),
+    (
+        SCALE,
+        &[
+            ("width = 4", "width = 32"),
+            ("lsb = 0", "lsb = 3"),
+            ("coefficients = [3]", "coefficients = [1073741824]"),
+        ],
+        "TooWide 65",
+    ),
+    (
+        SCALE,
+        &[
+            ("width = 4", "width = 32"),
+            ("lsb = 0", "lsb = 32"),
+            ("out_lsb = 0", "out_lsb = -16"),
+            ("coefficients = [3]", "coefficients = [1073741824]"),
+        ],
+        "TooWide 110",
+    ),
+    (
+        SCALE,
+        &[
+            ("width = 4", "width = 33"),
+            (
+                "coefficients = [3]",
+                "coefficients = [3]\n[[delay]]\nclass = \"add\"\nbase = -1\nper_bit = 10",
+            ),
+        ],
+        "OutOfRange width 33",
+    ),
+    (
+        SCALE,
+        &[
+            ("width = 4", "width = \"x\""),
+            (
+                "coefficients = [3]",
+                "coefficients = [3]\n[[delay]]\nclass = \"add\"\nper_bit = 10",
+            ),
+        ],
+        "MissingKey base 1",
+    ),
+];
+
+static DECIMALS: [Further; 19] = [
     (
         SCALE,
         &[
@@ -608,6 +692,9 @@ static FURTHER: [(&str, &[Change], &str); 67] = [
         ],
         "WrongType coefficients",
     ),
+];
+
+static FILTERS: [Further; 3] = [
     (
         FILTER,
         &[
@@ -633,44 +720,9 @@ static FURTHER: [(&str, &[Change], &str); 67] = [
         "OutOfRange coefficients 1100000000",
     ),
     (FILTER, &[], "NotExact 2"),
-    (
-        SCALE,
-        &[("lsb = 0", "lsb = -32"), ("out_lsb = 0", "out_lsb = 17")],
-        "NotExact 0",
-    ),
-    (
-        SCALE,
-        &[
-            ("exact = true", "exact = false"),
-            ("lsb = 0", "lsb = -24"),
-            ("out_lsb = 0", "out_lsb = 24"),
-        ],
-        "Unsupported",
-    ),
-    (
-        SCALE,
-        &[
-            ("exact = true", "exact = false"),
-            ("lsb = 0", "lsb = -24"),
-            ("out_lsb = 0", "out_lsb = 25"),
-        ],
-        "Coarse -49",
-    ),
-    (
-        SCALE,
-        &[("lsb = 0", "lsb = 24"), ("out_lsb = 0", "out_lsb = -24")],
-        "Unsupported",
-    ),
-    (
-        SCALE,
-        &[("lsb = 0", "lsb = 24"), ("out_lsb = 0", "out_lsb = -25")],
-        "Coarse 49",
-    ),
-    (
-        SCALE,
-        &[("lsb = 0", "lsb = 32"), ("out_lsb = 0", "out_lsb = -32")],
-        "Coarse 64",
-    ),
+];
+
+static PRODUCTS: [Further; 6] = [
     (
         MULTIPLY,
         &[
@@ -699,6 +751,19 @@ static FURTHER: [(&str, &[Change], &str); 67] = [
         ],
         "NotExact 0",
     ),
+    (
+        MULTIPLY,
+        &[
+            ("width_a = 4", "width_a = 32"),
+            ("lsb_a = 24", "lsb_a = 1"),
+            ("width_b = 4", "width_b = 32"),
+            ("out_lsb = -24", "out_lsb = 0"),
+        ],
+        "TooWide 65",
+    ),
+];
+
+static QUOTIENTS_AND_ROOTS: [Further; 11] = [
     (DIVIDE, &[("lsb_b = 0", "lsb_b = 1")], "Coarse -1"),
     (DIVIDE, &[], "Unsupported"),
     (
@@ -727,35 +792,6 @@ static FURTHER: [(&str, &[Change], &str); 67] = [
         "Coarse 49",
     ),
     (
-        SCALE,
-        &[
-            ("width = 4", "width = 32"),
-            ("lsb = 0", "lsb = 3"),
-            ("coefficients = [3]", "coefficients = [1073741824]"),
-        ],
-        "TooWide 65",
-    ),
-    (
-        SCALE,
-        &[
-            ("width = 4", "width = 32"),
-            ("lsb = 0", "lsb = 32"),
-            ("out_lsb = 0", "out_lsb = -16"),
-            ("coefficients = [3]", "coefficients = [1073741824]"),
-        ],
-        "TooWide 110",
-    ),
-    (
-        MULTIPLY,
-        &[
-            ("width_a = 4", "width_a = 32"),
-            ("lsb_a = 24", "lsb_a = 1"),
-            ("width_b = 4", "width_b = 32"),
-            ("out_lsb = -24", "out_lsb = 0"),
-        ],
-        "TooWide 65",
-    ),
-    (
         DIVIDE,
         &[("width_a = 4", "width_a = 32"), ("lsb_a = 0", "lsb_a = 32")],
         "Unsupported",
@@ -774,6 +810,9 @@ static FURTHER: [(&str, &[Change], &str); 67] = [
         &[("out_lsb = 0", "out_lsb = 0\nsigned = false")],
         "UnknownKey 0 7",
     ),
+];
+
+static MULTIPLES: [Further; 13] = [
     (
         MCM,
         &[("constants = [0]", "constants = []")],
@@ -850,28 +889,6 @@ static FURTHER: [(&str, &[Change], &str); 67] = [
         ],
         "UnknownKey 0 6",
     ),
-    (
-        SCALE,
-        &[
-            ("width = 4", "width = 33"),
-            (
-                "coefficients = [3]",
-                "coefficients = [3]\n[[delay]]\nclass = \"add\"\nbase = -1\nper_bit = 10",
-            ),
-        ],
-        "OutOfRange width 33",
-    ),
-    (
-        SCALE,
-        &[
-            ("width = 4", "width = \"x\""),
-            (
-                "coefficients = [3]",
-                "coefficients = [3]\n[[delay]]\nclass = \"add\"\nper_bit = 10",
-            ),
-        ],
-        "MissingKey base 1",
-    ),
 ];
 
 /// The document with its changes; an empty text takes a line away.
@@ -947,12 +964,53 @@ fn others(rt: HostRuntime) -> Result<(), Fail> {
     Ok(())
 }
 
-#[test]
-fn further(rt: HostRuntime) -> Result<(), Fail> {
-    for (document, changes, answer) in &FURTHER {
-        let spec = changed(rt.alloc(), document, changes)?;
-        assert!(rt; answers(rt.alloc(), &spec, answer)?);
+/// The number of the first of further cases that is answered otherwise.
+fn first_further_wrong(alloc: Global, cases: &[Further]) -> Result<Option<usize>, AllocError> {
+    for (number, (document, changes, answer)) in cases.iter().enumerate() {
+        let spec = changed(alloc, document, changes)?;
+        if !answers(alloc, &spec, answer)? {
+            return Ok(Some(number));
+        }
     }
+    Ok(None)
+}
+
+#[test]
+fn scales(rt: HostRuntime) -> Result<(), Fail> {
+    assert_eq!(rt; first_further_wrong(rt.alloc(), &SCALES)?, None);
+    Ok(())
+}
+
+#[test]
+fn decimals(rt: HostRuntime) -> Result<(), Fail> {
+    assert_eq!(rt; first_further_wrong(rt.alloc(), &DECIMALS)?, None);
+    Ok(())
+}
+
+#[test]
+fn filters(rt: HostRuntime) -> Result<(), Fail> {
+    assert_eq!(rt; first_further_wrong(rt.alloc(), &FILTERS)?, None);
+    Ok(())
+}
+
+#[test]
+fn products(rt: HostRuntime) -> Result<(), Fail> {
+    assert_eq!(rt; first_further_wrong(rt.alloc(), &PRODUCTS)?, None);
+    Ok(())
+}
+
+#[test]
+fn quotients_and_roots(rt: HostRuntime) -> Result<(), Fail> {
+    assert_eq!(rt;
+        first_further_wrong(rt.alloc(), &QUOTIENTS_AND_ROOTS)?,
+        None
+    );
+    Ok(())
+}
+
+#[test]
+fn multiples(rt: HostRuntime) -> Result<(), Fail> {
+    assert_eq!(rt; first_further_wrong(rt.alloc(), &MULTIPLES)?, None);
     Ok(())
 }
 
