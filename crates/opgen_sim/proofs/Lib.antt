@@ -1,0 +1,2 @@
+pub mod WordOps
+pub mod Fitting
