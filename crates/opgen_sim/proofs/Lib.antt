@@ -1,2 +1,3 @@
 pub mod WordOps
 pub mod Fitting
+pub mod Plain

@@ -2,7 +2,7 @@ ghost use Rattle.std.specs.Prelude.{◌≡◌, ◌<◌, IsSome, length};
 ghost use Rattle.opgen_net.specs.Plain.{plain, plain_all};
 ghost use Rattle.opgen_net.specs.Value.{value, chain_value, word_at};
 ghost use Rattle.opgen_net.specs.Width.{chain_width};
-ghost use Rattle.opgen_sim.specs.Fitting.{Fits, scope_of, widths_of};
+ghost use Rattle.opgen_sim.specs.Fitting.{AreNarrow, Fits, scope_of, widths_of};
 
 use crate::words::{combined, cut, turned};
 use opgen_net::{Expr, Op};
@@ -18,7 +18,8 @@ fn word_at(words: &[Word], place: usize) -> Word
 /// The value of an expression over a word for each signal and for each port.
 #[cycle(value)]
 pub fn value(expr: &Expr, names: &[Word], ports: &[Word]) -> Word
-    requires { Fits names.now ports.now (plain expr.now) }
+    requires narrow { AreNarrow names.now }
+    requires fits { Fits names.now ports.now (plain expr.now) }
     ensures { result ≡ value (scope_of names.now ports.now) (plain expr.now) }
 {
     match expr {
@@ -33,7 +34,8 @@ pub fn value(expr: &Expr, names: &[Word], ports: &[Word]) -> Word
 
 #[cycle(value)]
 fn chain_value(op: Op, operands: &[Expr], names: &[Word], ports: &[Word]) -> Word
-    requires { IsSome (chain_width (widths_of names.now) (widths_of ports.now) op (plain_all operands.now)) }
+    requires narrow { AreNarrow names.now }
+    requires fits { IsSome (chain_width (widths_of names.now) (widths_of ports.now) op (plain_all operands.now)) }
     ensures { result ≡ chain_value (scope_of names.now ports.now) op (plain_all operands.now) }
 {
     match operands {

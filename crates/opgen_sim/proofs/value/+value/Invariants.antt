@@ -1,4 +1,4 @@
-use Rattle.std.proofs.Common.{◌≡◌, ◌≤◌, length, drop}
+use Rattle.std.proofs.Common.{◌≡◌, length, drop}
 use Rattle.std.specs.Prelude.{IsSome}
 use Rattle.opgen_net.specs.Plain.{plain_all}
 use Rattle.opgen_net.specs.Value.{value_on}

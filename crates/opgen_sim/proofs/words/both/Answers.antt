@@ -1,7 +1,6 @@
-use Rattle.std.proofs.Common.{◌≡◌, ◌<◌, ◌^◌, length, ap, sym, ◌∙◌, subst}
+use Rattle.std.proofs.Common.{length, ap, ◌∙◌}
 use Rattle.std.specs.Prelude.{bit_and}
 use Rattle.opgen_num.specs.Words.{nat, word}
-use Rattle.opgen_num.proofs.Words.{nat-below}
 use Rattle.opgen_sim.proofs.WordOps.{word-and}
 use Rattle.opgen_sim.proofs.words.both.Goals as goal
 

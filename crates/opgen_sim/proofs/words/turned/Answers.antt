@@ -1,6 +1,6 @@
 use Rattle.std.proofs.Common.{◌≡◌, ◌+◌, ◌-◌, ◌^◌, length, ap, ◌∙◌, arith}
 use Rattle.std.proofs.lemmas.Nat.{pow_pos}
-use Rattle.opgen_num.specs.Words.{nat, word}
+use Rattle.opgen_num.specs.Words.{word}
 use Rattle.opgen_sim.proofs.WordOps.{word-not}
 use Rattle.opgen_sim.proofs.words.turned.Goals as goal
 
