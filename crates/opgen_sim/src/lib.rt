@@ -1,5 +1,6 @@
 //! The simulator: designs run cycle by cycle.
 #![tactic(auto)]
 
+mod evaluate;
 mod value;
 mod words;

@@ -1,0 +1,85 @@
+ghost use Rattle.std.specs.Prelude.{◌≡◌};
+ghost use Rattle.opgen_net.specs.Run.{Words};
+ghost use Rattle.opgen_net.specs.Value.{chosen};
+ghost use Rattle.opgen_net.specs.Sound.{target};
+ghost use Rattle.opgen_sim.specs.Fitting.{AreNarrow, scope_of};
+ghost use Rattle.opgen_sim.specs.Evaluate.{DriverFits, IsThere, driver_word, put, table_word};
+
+use crate::value::value;
+use opgen_net::Driver;
+use opgen_num::Word;
+
+// The first word where the condition is the bit 1, and else the second.
+fn chosen(on: Word, one: Word, other: Word) -> Word
+    ensures { result ≡ chosen on one other }
+{
+    if on.width() == 1 && on.bits() == 1 {
+        one
+    } else {
+        other
+    }
+}
+
+// The word of the first row of an address.
+fn table_word(rows: &[(Word, Word)], other: Word, address: Word) -> Word
+    ensures { result ≡ table_word rows.now other address }
+{
+    for row in rows {
+        if row.0.bits() == address.bits() {
+            return row.1;
+        }
+    }
+    other
+}
+
+// What the driver's right side says over words.
+fn driver_word(driver: &Driver, names: &[Word], ports: &[Word]) -> Word
+    requires narrow { AreNarrow names.now }
+    requires fits { DriverFits names.now ports.now driver.now }
+    ensures { result ≡ driver_word (scope_of names.now ports.now) driver.now }
+{
+    match driver {
+        Driver::Assign { to: _, expr }
+        | Driver::Register { to: _, expr }
+        | Driver::Output { port: _, expr } => value(expr.expr(), names, ports),
+        Driver::Choice { to: _, on, yes, no } => chosen(
+            value(on.expr(), names, ports),
+            value(yes.expr(), names, ports),
+            value(no.expr(), names, ports),
+        ),
+        Driver::Table {
+            to: _,
+            on,
+            rows,
+            other,
+        } => table_word(rows.as_slice(), *other, value(on.expr(), names, ports)),
+    }
+}
+
+// Puts a driver's word at what it drives.
+fn put(driver: &Driver, names: &mut [Word], ports: &mut [Word])
+    requires narrow { AreNarrow names.old }
+    requires fits { DriverFits names.old ports.old driver.now }
+    requires there { IsThere (record { signals = names.old; ports = ports.old }) (target driver.now) }
+    ensures names { names.new ≡ (put driver.now (record { signals = names.old; ports = ports.old })).signals }
+    ensures ports { ports.new ≡ (put driver.now (record { signals = names.old; ports = ports.old })).ports }
+{
+    let word = driver_word(driver, names, ports);
+    match driver {
+        Driver::Assign { to, expr: _ } => names[*to] = word,
+        Driver::Choice {
+            to,
+            on: _,
+            yes: _,
+            no: _,
+        } => names[*to] = word,
+        Driver::Table {
+            to,
+            on: _,
+            rows: _,
+            other: _,
+        } => names[*to] = word,
+        Driver::Register { to, expr: _ } => names[*to] = word,
+        Driver::Output { port, expr: _ } => ports[*port] = word,
+    }
+}
