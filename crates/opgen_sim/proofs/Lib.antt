@@ -1,3 +1,5 @@
 pub mod WordOps
 pub mod Fitting
 pub mod Plain
+pub mod Widths
+pub mod Reading

@@ -1,12 +1,12 @@
-ghost use Rattle.std.specs.Prelude.{◌≡◌};
+ghost use Rattle.std.specs.Prelude.{ℕ, ◌≡◌, ◌<◌, Some, length, slice_get};
 ghost use Rattle.opgen_net.specs.Run.{Words};
 ghost use Rattle.opgen_net.specs.Value.{chosen};
-ghost use Rattle.opgen_net.specs.Sound.{target};
+ghost use Rattle.opgen_net.specs.Sound.{IsSound, target};
 ghost use Rattle.opgen_sim.specs.Fitting.{AreNarrow, scope_of};
-ghost use Rattle.opgen_sim.specs.Evaluate.{DriverFits, IsThere, driver_word, put, table_word};
+ghost use Rattle.opgen_sim.specs.Evaluate.{DriverFits, HaveWidths, IsThere, driver_word, put, settle, table_word};
 
 use crate::value::value;
-use opgen_net::Driver;
+use opgen_net::{Design, Driver};
 use opgen_num::Word;
 
 // The first word where the condition is the bit 1, and else the second.
@@ -81,5 +81,18 @@ fn put(driver: &Driver, names: &mut [Word], ports: &mut [Word])
         } => names[*to] = word,
         Driver::Register { to, expr: _ } => names[*to] = word,
         Driver::Output { port, expr: _ } => ports[*port] = word,
+    }
+}
+
+/// Evaluates the drivers at these places in order, each over the words of those before it.
+pub fn settle(design: &Design, order: &[usize], names: &mut [Word], ports: &mut [Word])
+    requires sound { IsSound design.now }
+    requires places { (p i : ℕ) → slice_get order.now p ≡ Some i → i < length design.now.drivers }
+    requires widths { HaveWidths design.now (record { signals = names.old; ports = ports.old }) }
+    ensures names { names.new ≡ (settle design.now.drivers order.now (record { signals = names.old; ports = ports.old })).signals }
+    ensures ports { ports.new ≡ (settle design.now.drivers order.now (record { signals = names.old; ports = ports.old })).ports }
+{
+    for place in order {
+        put(design.drivers.get(*place), names, ports);
     }
 }
