@@ -3,3 +3,4 @@ pub mod Fitting
 pub mod Plain
 pub mod Widths
 pub mod Reading
+pub mod Equations

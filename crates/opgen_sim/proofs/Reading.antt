@@ -1,23 +1,19 @@
 -- A driver's word over words that agree where it reads.
-use Rattle.std.proofs.Common.{◌≡◌, ℕ, zero, suc, ◌<◌, Bool, true, false, if◌then◌else◌, List, [], length, map, get_or, Option, Some, None, refl, sym, ap, ◌∙◌, subst, inl, inr, arith}
-use Rattle.std.specs.Prelude.{◌≢◌, IsSome, IfSome, slice_get, slice_set}
+use Rattle.std.proofs.Common.{◌≡◌, ℕ, zero, suc, ◌<◌, Bool, false, List, [], ◌∷◌, length, Some, refl, ap, ◌∙◌, subst, inl, inr, arith}
+use Rattle.std.specs.Prelude.{IfSome, slice_get}
 use Rattle.std.proofs.lemmas.List.{get_or-set_other}
 use Rattle.opgen_net.specs.declared.design.Design.{Design}
 use Rattle.opgen_net.specs.declared.design.Dir.TheVariants.{In}
-use Rattle.opgen_net.specs.declared.design.Port.{Port}
 use Rattle.opgen_net.specs.declared.design.Driver.{Driver}
 use Rattle.opgen_net.specs.declared.design.Driver.TheVariants.{Assign, Choice, Table, Register, Output}
 use Rattle.opgen_net.specs.Made.{is_register}
 use Rattle.opgen_net.specs.Reads.{AllReads, AllOperandsRead, ReadsName, SomeOperandReads}
 use Rattle.opgen_net.specs.Run.{Words, scope}
-use Rattle.opgen_net.specs.Sound.{Target, signal, port_of, target, Needs, IsInput, ReadsInputs, Names}
+use Rattle.opgen_net.specs.Sound.{Target, signal, port_of, Needs, IsInput, ReadsInputs, Names}
 use Rattle.opgen_net.specs.Tree.{Tree, Trees, name, part, bits, port, inverse, chain, none, more}
-use Rattle.opgen_net.specs.Value.{Scope, value, chosen, word_at}
+use Rattle.opgen_net.specs.Value.{value, chosen, word_at}
 use Rattle.opgen_net.proofs.ValueLaws.{same_value}
 use Rattle.opgen_sim.specs.Evaluate.{driver_word, table_word, put_at}
-
-true-false : true ≡ false → ⊥
-true-false e = subst (λ b. if b then Unit {0} else ⊥) e tt
 
 module _ (P Q : ℕ → Type 0) (r : ℕ) where
   mutual
@@ -65,5 +61,5 @@ module _ (d : Design) (w : List Bool) (v : Words) where
       ∙ ap (λ x. chosen (value (scope v) on) x (value new other)) (tree-same t one h.1 (λ s e k. f s e (inr (inl k))) g n)
       ∙ ap (chosen (value (scope v) on) (value (scope v) one)) (tree-same t other h.2 (λ s e k. f s e (inr (inr k))) g n)
   driver-same t (Table to on rows other) h r f g n = ap (table_word rows other) (tree-same t on h f g n)
-  driver-same t (Register to e) h r f g n = absurd (true-false r)
+  driver-same t (Register to e) h r f g n = absurd (cc)
   driver-same t (Output place e) h r f g n = tree-same t e h f g n

@@ -1,6 +1,6 @@
 -- The drivers of a sound design over words of the widths of its signals and ports.
-use Rattle.std.proofs.Common.{◌≡◌, ℕ, zero, suc, ◌<◌, ◌≤◌, Bool, true, false, if◌then◌else◌, List, [], ◌∷◌, length, map, get_or, Option, Some, None, refl, sym, ap, ◌∙◌, subst, arith}
-use Rattle.std.specs.Prelude.{IsSome, IfSome, All, Contains, nat_eq, slice_get, slice_index, slice_set, option_map}
+use Rattle.std.proofs.Common.{◌≡◌, ℕ, suc, Bool, true, false, if◌then◌else◌, List, [], ◌∷◌, length, map, get_or, Option, Some, None, refl, sym, ap, ◌∙◌, subst, arith}
+use Rattle.std.specs.Prelude.{IsSome, IfSome, nat_eq, slice_get, slice_index, option_map}
 use Rattle.std.proofs.Math.ListN.{get_or-map}
 use Rattle.std.proofs.Math.Seq.{map-set_same}
 use Rattle.std.proofs.lemmas.List.{length-map}
@@ -12,7 +12,7 @@ use Rattle.opgen_net.specs.declared.design.Driver.{Driver}
 use Rattle.opgen_net.specs.declared.design.Driver.TheVariants.{Assign, Choice, Table, Register, Output}
 use Rattle.opgen_net.specs.Run.{Words, scope}
 use Rattle.opgen_net.specs.Tree.{Tree}
-use Rattle.opgen_net.specs.Value.{Scope, value, chosen}
+use Rattle.opgen_net.specs.Value.{value, chosen}
 use Rattle.opgen_net.specs.Width.{IsWidth, width}
 use Rattle.opgen_net.specs.Sound.{IsSound, Width, Target, signal, port_of, target, Names, HasWidth, WidthsAgree, SignalPasses, DriverPasses, signal_widths, port_widths, at_signal, at_driver}
 use Rattle.opgen_net.proofs.SoundLaws.{declared-at}

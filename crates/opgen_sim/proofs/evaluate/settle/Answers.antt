@@ -1,7 +1,6 @@
 use Rattle.std.proofs.Common.{◌≡◌, ◌+◌, get_or, drop, sym, ap, ◌∙◌, subst}
 use Rattle.std.proofs.lemmas.List.{drop_more}
 use Rattle.opgen_net.specs.Run.{Words}
-use Rattle.opgen_net.specs.Sound.{target}
 use Rattle.opgen_sim.specs.Evaluate.{HaveWidths, put, put_option, settle}
 use Rattle.opgen_sim.proofs.Widths.{narrow, agree-at, driver-fits, declared-there, put-widths, words-eq}
 use Rattle.opgen_sim.proofs.evaluate.settle.Goals as goal
@@ -24,7 +23,7 @@ loop-place-preserved c =
     let v : Words = record { signals = c.loop-place.names; ports = c.loop-place.ports } in
     let e : put k v ≡ record { signals = c.put.new.names; ports = c.put.new.ports } = sym (words-eq c.put.new.names c.put.new.ports (put k v) c.put.ensures.names c.put.ensures.ports) in
     let step : settle d.drivers (drop i order) v ≡ settle d.drivers (drop (i + 1) order) (put k v) =
-        ap (λ l. settle d.drivers l v) (drop_more order i 0 c.loop-place-test.true) ∙ ap (λ o. settle d.drivers (drop (i + 1) order) (put_option o v)) c.get.ensures in
+    ap (λ l. settle d.drivers l v) (drop_more order i 0 c.loop-place-test.true) ∙ ap (λ o. settle d.drivers (drop (i + 1) order) (put_option o v)) c.get.ensures in
     record {
       same = ap (settle d.drivers (drop (i + 1) order)) (sym e) ∙ sym step ∙ c.loop-place.invariant.same;
       widths = subst (HaveWidths d) e (put-widths d c.requires.sound v c.loop-place.invariant.widths k (agree-at d c.requires.sound (get_or order i 0) k c.get.ensures));

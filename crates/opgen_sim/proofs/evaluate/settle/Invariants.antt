@@ -1,5 +1,4 @@
 use Rattle.std.proofs.Common.{◌≡◌, drop}
-use Rattle.opgen_net.specs.Run.{Words}
 use Rattle.opgen_sim.specs.Evaluate.{HaveWidths, settle}
 use Rattle.opgen_sim.proofs.evaluate.settle.Given as goal
 
