@@ -1,6 +1,6 @@
 -- What stands after the drivers of a sound design have been evaluated in order.
 use Rattle.std.proofs.Common.{◌≡◌, ℕ, zero, suc, ◌+◌, ◌<◌, ◌≤◌, Bool, true, false, if◌then◌else◌, List, [], ◌∷◌, length, drop, Some, refl, sym, ap, ◌∙◌, subst, inl, inr, arith}
-use Rattle.std.specs.Prelude.{◌≢◌, Contains, IfSome, slice_get}
+use Rattle.std.specs.Prelude.{◌≢◌, Contains, IfSome, slice_get, Option, None}
 use Rattle.std.proofs.lemmas.Bool.{cases_lt, cases_eq}
 use Rattle.std.proofs.lemmas.List.{length-drop, get_or-set_same, get_or-set_other}
 use Rattle.std.proofs.lemmas.List.Sorted.{Contains-permutation, IsPermutation-sym}
@@ -8,10 +8,12 @@ use Rattle.std.proofs.lemmas.Map.Made.{Contains-tail}
 use Rattle.std.proofs.lemmas.Option.{slice_get_within}
 use Rattle.opgen_net.specs.declared.design.Design.{Design}
 use Rattle.opgen_net.specs.declared.design.Driver.{Driver}
+use Rattle.opgen_net.specs.declared.design.Driver.TheVariants.{Register}
+use Rattle.opgen_net.specs.Tree.{Tree}
 use Rattle.opgen_net.specs.Made.{is_register}
 use Rattle.opgen_net.specs.Order.{IsOrderOf, waiting}
 use Rattle.opgen_net.specs.Run.{Words, scope}
-use Rattle.opgen_net.specs.Sound.{IsSound, ReadsOutput, Target, signal, port_of, target, ReadsInputs, DriverPasses, at_driver}
+use Rattle.opgen_net.specs.Sound.{IsSound, ReadsOutput, Target, signal, port_of, target, ReadsInputs, DriverPasses, at_driver, IsInput}
 use Rattle.opgen_net.proofs.SoundLaws.{declared-at, once-at, at-contains, contains-at}
 use Rattle.opgen_sim.specs.Evaluate.{HaveWidths, IsThere, driver_word, put_at, put, put_option, settle}
 use Rattle.opgen_sim.proofs.Reading.{at, driver-same}
@@ -74,7 +76,7 @@ module _ (d : Design) (sound : IsSound d) (order : List ℕ) (o : IsOrderOf d or
   same-driver i k m e f = let a : Some k ≡ Some m = sym e ∙ f in cc
 
   -- drivers at different places drive different things
-  targets-differ : (i j : ℕ) (k m : Driver) → slice_get d.drivers i ≡ Some k → slice_get d.drivers j ≡ Some m → i ≢ j → target k ≢ target m
+  pub targets-differ : (i j : ℕ) (k m : Driver) → slice_get d.drivers i ≡ Some k → slice_get d.drivers j ≡ Some m → i ≢ j → target k ≢ target m
   targets-differ i j k m e f n = λ t. elim (cases_lt i j) [
     | inl l ↦ (once-at d sound.driven_once j m f).not_before i k l e t
     | inr l ↦ (once-at d sound.driven_once i k e).not_before j m (omega (arith, l, n)) f (sym t)
@@ -136,3 +138,28 @@ module _ (d : Design) (sound : IsSound d) (order : List ℕ) (o : IsOrderOf d or
   stands v h i k e r =
       let p = in-order i k e r in
       stand-on order 0 v h refl (λ p i k l. absurd (omega (arith, l))) p.0 i k (slice_get_within order p.0 i p.1) p.1 e
+
+  -- what is driven by none of the drivers keeps its word
+  kept : (t : Target) (todo : List ℕ) (v : Words) → ((p i : ℕ) (k : Driver) → slice_get todo p ≡ Some i → slice_get d.drivers i ≡ Some k → t ≢ target k) → at t (settle d.drivers todo v) ≡ at t v
+  kept t [] v f = refl
+  kept t (i ∷ todo) v f = kept t todo (put_option (slice_get d.drivers i) v) (λ p j k e g. f (suc p) j k e g) ∙ by-option (slice_get d.drivers i) refl
+    where
+      by-option : (x : Option Driver) → slice_get d.drivers i ≡ x → at t (put_option x v) ≡ at t v
+      by-option None e = refl
+      by-option (Some k) e = at-other (target k) t (driver_word (scope v) k) v (f 0 i k refl e)
+
+  -- a register keeps its word of the cycle, and an input port that which is given
+  pub register-kept : (v : Words) (i to : ℕ) (e : Tree) → slice_get d.drivers i ≡ Some (Register to e) → at (signal to) (settle d.drivers order v) ≡ at (signal to) v
+  register-kept v i to e h = kept (signal to) order v (λ p j k a b.
+      let r = placed p j a in
+      let g = subst (λ x. is_register x ≡ false) (same-driver j r.0 k r.1 b) r.2 in
+      elim (cases_eq i j) [
+        | inl x ↦
+            let same = same-driver j (Register to e) k (subst (λ y. slice_get d.drivers y ≡ Some (Register to e)) x h) b in
+            let f : is_register (Register to e) ≡ false = ap is_register same ∙ g in
+            absurd (cc)
+        | inr x ↦ targets-differ i j (Register to e) k h b x
+      ])
+
+  pub input-kept : (v : Words) (p : ℕ) → IsInput d (port_of p) → at (port_of p) (settle d.drivers order v) ≡ at (port_of p) v
+  input-kept v p h = kept (port_of p) order v (λ q j k a b t. (once-at d sound.driven_once j k b).no_input (subst (IsInput d) t h))

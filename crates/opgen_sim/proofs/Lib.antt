@@ -4,3 +4,5 @@ pub mod Plain
 pub mod Widths
 pub mod Reading
 pub mod Equations
+pub mod Registers
+pub mod Cycles

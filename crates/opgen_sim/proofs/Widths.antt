@@ -59,7 +59,7 @@ module _ (d : Design) (sound : IsSound d) where
     fits : (e : Tree) (w : ℕ) → HasWidth d e w → Fits v.signals v.ports e
     fits e w k = subst IsSome (sym (has-width e w k)) refl
 
-    long : (e : Tree) (w : ℕ) → HasWidth d e w → length (value (scope v) e) ≡ w
+    pub long : (e : Tree) (w : ℕ) → HasWidth d e w → length (value (scope v) e) ≡ w
     long e w k = value-fits v.signals v.ports e w (has-width e w k)
 
     pub driver-fits : (k : Driver) → WidthsAgree d k → DriverFits v.signals v.ports k

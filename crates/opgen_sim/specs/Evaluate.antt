@@ -56,3 +56,15 @@ pub record HaveWidths (d : Design) (v : Words) : Type 0 where
 abbrev pub IsThere : Words → Target → Type 0
 IsThere v (signal s) = s < length v.signals
 IsThere v (port_of p) = p < length v.ports
+
+-- a register's next word
+abbrev pub hand_on : Driver → Words → List (List Bool) → List (List Bool)
+hand_on (Register to e) v next = slice_set next to (value (scope v) e)
+hand_on (Assign to e) v next = next
+hand_on (Choice to on one other) v next = next
+hand_on (Table to on rows other) v next = next
+hand_on (Output place e) v next = next
+
+abbrev pub hand_all_on : List Driver → Words → List (List Bool) → List (List Bool)
+hand_all_on [] v next = next
+hand_all_on (k ∷ ks) v next = hand_all_on ks v (hand_on k v next)

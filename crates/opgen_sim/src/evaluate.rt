@@ -1,9 +1,9 @@
-ghost use Rattle.std.specs.Prelude.{ℕ, ◌≡◌, ◌<◌, Some, length, slice_get};
+ghost use Rattle.std.specs.Prelude.{ℕ, ◌≡◌, ◌<◌, Some, length, map, slice_get};
 ghost use Rattle.opgen_net.specs.Run.{Words};
 ghost use Rattle.opgen_net.specs.Value.{chosen};
-ghost use Rattle.opgen_net.specs.Sound.{IsSound, target};
+ghost use Rattle.opgen_net.specs.Sound.{IsSound, signal_widths, target};
 ghost use Rattle.opgen_sim.specs.Fitting.{AreNarrow, scope_of};
-ghost use Rattle.opgen_sim.specs.Evaluate.{DriverFits, HaveWidths, IsThere, driver_word, put, settle, table_word};
+ghost use Rattle.opgen_sim.specs.Evaluate.{DriverFits, HaveWidths, IsThere, driver_word, hand_all_on, hand_on, put, settle, table_word};
 
 use crate::value::value;
 use opgen_net::{Design, Driver};
@@ -94,5 +94,30 @@ pub fn settle(design: &Design, order: &[usize], names: &mut [Word], ports: &mut 
 {
     for place in order {
         put(design.drivers.get(*place), names, ports);
+    }
+}
+
+// Puts a register's next word at its signal.
+fn hand_on(driver: &Driver, names: &[Word], ports: &[Word], next: &mut [Word])
+    requires narrow { AreNarrow names.now }
+    requires fits { DriverFits names.now ports.now driver.now }
+    requires there { IsThere (record { signals = next.old; ports = ports.now }) (target driver.now) }
+    ensures { next.new ≡ hand_on driver.now (record { signals = names.now; ports = ports.now }) next.old }
+{
+    if let Driver::Register { to, expr } = driver {
+        next[*to] = value(expr.expr(), names, ports);
+    }
+}
+
+/// Puts the registers' next words at their signals, all from the words of one cycle.
+pub fn hand_all_on(design: &Design, names: &[Word], ports: &[Word], next: &mut [Word])
+    requires sound { IsSound design.now }
+    requires widths { HaveWidths design.now (record { signals = names.now; ports = ports.now }) }
+    requires room { map length next.old ≡ signal_widths design.now }
+    ensures words { next.new ≡ hand_all_on design.now.drivers (record { signals = names.now; ports = ports.now }) next.old }
+    ensures widths { map length next.new ≡ signal_widths design.now }
+{
+    for place in 0..design.drivers.len() {
+        hand_on(design.drivers.get(place), names, ports, next);
     }
 }
