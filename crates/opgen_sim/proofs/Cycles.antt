@@ -87,9 +87,9 @@ module _ (d : Design) (sound : IsSound d) (order : List ℕ) (o : IsOrderOf d or
   meets i (Table to on rows other) g =
       let a = agree-at d sound i (Table to on rows other) g in
       is-table_word other (value (scope v) on) rows
-          (λ j q e. sym (long d sound v settled on (length q.0) (subst (λ x. HasWidth d on (length x.0)) (get_or_from_slice_get rows j q q e) (a.0 j q (slice_get_within rows j q e)).0)))
-          (subst (λ x. IfSome x (DriverPasses d ChoiceTwice i)) g (sound.addresses (at_driver i)))
-          (word_at v.signals to) (stands d sound order o v0 h i (Table to on rows other) g refl)
+      (λ j q e. sym (long d sound v settled on (length q.0) (subst (λ x. HasWidth d on (length x.0)) (get_or_from_slice_get rows j q q e) (a.0 j q (slice_get_within rows j q e)).0)))
+      (subst (λ x. IfSome x (DriverPasses d ChoiceTwice i)) g (sound.addresses (at_driver i)))
+      (word_at v.signals to) (stands d sound order o v0 h i (Table to on rows other) g refl)
   meets i (Register to e) g =
       let w : HaveWidths d (record { signals = next; ports = v.ports }) = record { signals = room; ports = settled.ports } in
       (register-kept d sound order o v0 i to e g, handed d.drivers i to e v next g (λ j m l f t. targets-differ d sound order o i j (Register to e) m g f (λ x. omega (arith, l, x)) (sym t)) (declared-there d sound (record { signals = next; ports = v.ports }) w i (Register to e) g))
