@@ -1,7 +1,7 @@
 -- A sound design's drivers, evaluated in order, give a cycle.
-use Rattle.std.proofs.Common.{◌≡◌, ℕ, zero, suc, ◌<◌, Bool, true, false, if◌then◌else◌, List, [], ◌∷◌, length, map, get_or, Option, Some, None, refl, sym, ap, ◌∙◌, subst, inl, inr, arith}
-use Rattle.std.specs.Prelude.{◌≢◌, All, IfSome, nat_eq, slice_get}
-use Rattle.std.proofs.lemmas.Bool.{cases_eq, cond-true, cond-false, eqb-true, eqb-false}
+use Rattle.std.proofs.Common.{◌≡◌, ℕ, zero, suc, ◌<◌, Bool, true, false, if◌then◌else◌, List, [], ◌∷◌, length, map, get_or, Some, refl, sym, ap, ◌∙◌, subst, arith}
+use Rattle.std.specs.Prelude.{◌≢◌, IfSome, nat_eq, slice_get}
+use Rattle.std.proofs.lemmas.Bool.{cond-true, cond-false, eqb-true, eqb-false}
 use Rattle.std.proofs.lemmas.List.{length-map}
 use Rattle.std.proofs.lemmas.Option.{slice_get-get_or, slice_get_within, get_or_from_slice_get}
 use Rattle.opgen_num.specs.Words.{nat, word}
@@ -14,8 +14,7 @@ use Rattle.opgen_net.specs.declared.design.Driver.{Driver}
 use Rattle.opgen_net.specs.declared.design.Driver.TheVariants.{Assign, Choice, Table, Register, Output}
 use Rattle.opgen_net.specs.Order.{IsOrderOf}
 use Rattle.opgen_net.specs.Run.{Words, scope, at_ports, is_in, IsTableWord, Meets, Cycle}
-use Rattle.opgen_net.specs.Sound.{IsSound, ChoiceTwice, AddressesDiffer, DriverPasses, HasWidth, signal_widths, port_of, target, at_driver}
-use Rattle.opgen_net.specs.Tree.{Tree}
+use Rattle.opgen_net.specs.Sound.{IsSound, ChoiceTwice, DriverPasses, HasWidth, signal_widths, at_driver}
 use Rattle.opgen_net.specs.Value.{value, word_at}
 use Rattle.opgen_sim.specs.Evaluate.{HaveWidths, table_word, settle, hand_all_on}
 use Rattle.opgen_sim.proofs.Widths.{agree-at, declared-there, long, settle-widths}

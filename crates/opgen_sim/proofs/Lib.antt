@@ -6,3 +6,5 @@ pub mod Reading
 pub mod Equations
 pub mod Registers
 pub mod Cycles
+pub mod Ports
+pub mod Starts

@@ -1,2 +1,4 @@
 pub mod Fitting
 pub mod Evaluate
+pub mod Step
+pub mod Sims

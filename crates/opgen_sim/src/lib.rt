@@ -4,7 +4,9 @@
 mod copies;
 mod cycle;
 mod evaluate;
+mod numbers;
+mod sim;
 mod value;
 mod words;
 
-pub use cycle::run_cycle;
+pub use sim::Sim;

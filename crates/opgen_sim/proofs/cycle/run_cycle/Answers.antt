@@ -1,4 +1,4 @@
-use Rattle.std.proofs.Common.{◌≡◌, sym, subst, ap, ◌∙◌}
+use Rattle.std.proofs.Common.{sym, subst, ap, ◌∙◌}
 use Rattle.std.proofs.lemmas.Option.{slice_get_within}
 use Rattle.opgen_net.specs.Run.{Cycle, Words, at_ports, is_in}
 use Rattle.opgen_sim.specs.Evaluate.{HaveWidths, settle, hand_all_on}
