@@ -8,3 +8,4 @@ pub mod Registers
 pub mod Cycles
 pub mod Ports
 pub mod Starts
+pub mod Runs

@@ -2,3 +2,4 @@ pub mod Fitting
 pub mod Evaluate
 pub mod Step
 pub mod Sims
+pub mod Runs

@@ -4,9 +4,11 @@
 mod copies;
 mod cycle;
 mod evaluate;
+mod laws;
 mod numbers;
 mod sim;
 mod value;
 mod words;
 
+pub use laws::steps_are_runs;
 pub use sim::Sim;
