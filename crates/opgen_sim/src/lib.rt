@@ -7,6 +7,8 @@ mod evaluate;
 mod laws;
 mod numbers;
 mod sim;
+#[cfg(test)]
+mod tests;
 mod value;
 mod words;
 
