@@ -21,7 +21,7 @@ use Rattle.opgen_sim.proofs.Widths.{agree-at, declared-there, long, settle-width
 use Rattle.opgen_sim.proofs.Equations.{stands, register-kept, input-kept, targets-differ}
 use Rattle.opgen_sim.proofs.Registers.{handed}
 
-same-word : (a b : List Bool) → length a ≡ length b → nat a ≡ nat b → a ≡ b
+pub same-word : (a b : List Bool) → length a ≡ length b → nat a ≡ nat b → a ≡ b
 same-word a b l e = sym (word-nat a) ∙ ap (word (length a)) e ∙ ap (λ n. word n (nat b)) l ∙ word-nat b
 
 nat_eq-false : (b : Bool) (m n : ℕ) → nat_eq m n ≡ b → (m ≡ n → ⊥) → nat_eq m n ≡ false

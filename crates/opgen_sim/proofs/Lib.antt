@@ -9,3 +9,4 @@ pub mod Cycles
 pub mod Ports
 pub mod Starts
 pub mod Runs
+pub mod OneRun

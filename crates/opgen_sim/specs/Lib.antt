@@ -3,3 +3,4 @@ pub mod Evaluate
 pub mod Step
 pub mod Sims
 pub mod Runs
+pub mod OneRun
