@@ -1,0 +1,12 @@
+pub mod WordOps
+pub mod Fitting
+pub mod Plain
+pub mod Widths
+pub mod Reading
+pub mod Equations
+pub mod Registers
+pub mod Cycles
+pub mod Ports
+pub mod Starts
+pub mod Runs
+pub mod OneRun

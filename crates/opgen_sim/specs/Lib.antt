@@ -1,0 +1,6 @@
+pub mod Fitting
+pub mod Evaluate
+pub mod Step
+pub mod Sims
+pub mod Runs
+pub mod OneRun

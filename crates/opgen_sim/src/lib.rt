@@ -1,0 +1,16 @@
+//! The simulator: designs run cycle by cycle.
+#![tactic(auto)]
+
+mod copies;
+mod cycle;
+mod evaluate;
+mod laws;
+mod numbers;
+mod sim;
+#[cfg(test)]
+mod tests;
+mod value;
+mod words;
+
+pub use laws::{at_most_one_run, steps_are_runs};
+pub use sim::Sim;
