@@ -1,5 +1,5 @@
 ghost use Rattle.std.specs.Prelude.{◌≡◌, ◌≤◌, ◌+◌, [], ◌∷◌, ◌++◌, length, All, IfOk, OnOk};
-ghost use Rattle.opgen_net.specs.Plain.{plain};
+ghost use Rattle.opgen_design.specs.Plain.{plain};
 ghost use Rattle.opgen_net.specs.Valid.{IsValid, FitsNodes, widths};
 ghost use Rattle.opgen_net.specs.WordRule.{IsThere};
 ghost use Rattle.opgen_net.specs.Flow.{KeepsFlow};
@@ -9,8 +9,9 @@ ghost use Rattle.opgen_compress.specs.Kept.{WorkThere};
 ghost use Rattle.opgen_compress.specs.Adder.{full_adder as full_adder_of, half_adder as half_adder_of, bit_tree, two as two_of, three as three_of, half_sum as half_sum_of, half_carry as half_carry_of, full_sum as full_sum_of, full_carry as full_carry_of, next_bit};
 
 use crate::queue::Queue;
+use opgen_design::{Expr, Op, Slice};
 use opgen_list::Items;
-use opgen_net::{Class, Expr, Net, Op, Slice, WordBit};
+use opgen_net::{Class, Net, WordBit};
 use opgen_num::{Memory, Word};
 use std::alloc::{AllocError, Global};
 

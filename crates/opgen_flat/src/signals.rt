@@ -2,8 +2,9 @@ ghost use Rattle.std.specs.Prelude.{◌≡◌, IfOk};
 ghost use Rattle.opgen_net.specs.Made.{each_node, node_signal, signal_name};
 ghost use Rattle.opgen_net.specs.Valid.{HasNoDelay, widths as widths_of};
 
+use opgen_design::Signal;
 use opgen_list::{Items, Text};
-use opgen_net::{Net, Signal};
+use opgen_net::Net;
 use std::alloc::{AllocError, Global};
 
 /// The name of the signal of a node.

@@ -6,8 +6,8 @@ ghost use Rattle.indexmap.specs.IndexMap.{get_by_text};
 ghost use Rattle.opgen_read.specs.Places.{noted_at};
 
 use indexmap::IndexMap;
+use opgen_design::{Port, Signal};
 use opgen_list::Items;
-use opgen_net::{Port, Signal};
 use std::alloc::{AllocError, Global};
 use std::marker::Model;
 
