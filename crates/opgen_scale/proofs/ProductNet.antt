@@ -13,19 +13,8 @@ use Rattle.opgen_net.specs.Flow.{Inputs, input_at, slice_flow}
 use Rattle.opgen_design.specs.Run.{AreWords}
 use Rattle.opgen_net.specs.Valid.{HasNoDelay}
 use Rattle.opgen_scale.specs.Times.{multiples, IsBitLength, IsTimes}
-use Rattle.opgen_scale.specs.Recipe.{table_nodes, table_net, shifted_nodes, product_node}
+use Rattle.opgen_scale.specs.Recipe.{table_nodes, table_net, shifted_nodes, product_node, product_slice, product_net}
 use Rattle.opgen_scale.proofs.Product.{get_or-multiples, nat-row, nat-shifted, cut-whole, length-input_at}
-
--- all the bits of the product's node
-abbrev pub product_slice : (row z : ℕ) → Slice
-product_slice row z = record { node = product_node z; high = row + z - 1; low = 0 }
-
-abbrev pub product_net : (number w row z : ℕ) → Net
-product_net number w row z = record {
-  inputs = (codes "x", w) ∷ [];
-  nodes = table_nodes number w row ++ shifted_nodes row z;
-  outputs = record { name = codes "y"; from = product_slice row z } ∷ [];
-}
 
 module _ (number w row : ℕ) (fits : number * (2 ^ w - 1) < 2 ^ row) (positive : 1 ≤ row) where
   -- the row that an input word numbers has the row's width

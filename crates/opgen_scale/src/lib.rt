@@ -5,9 +5,13 @@ ghost use Rattle.std.specs.Prelude.{◌≡◌, ◌<◌, ◌≤◌, ◌*◌, ◌+
 ghost use Rattle.opgen_net.specs.Valid.{HasNoDelay, IsValid, widths};
 ghost use Rattle.opgen_design.specs.Plain.{plain};
 ghost use Rattle.opgen_scale.specs.Times.{multiples, IsTimes};
-ghost use Rattle.opgen_scale.specs.Recipe.{table_net, above_zeros, shifted_nodes, product_node};
+ghost use Rattle.opgen_scale.specs.Recipe.{table_net, above_zeros, shifted_nodes, product_node, IsProductNet};
 
 use opgen_design::{Expr, Op, Slice};
+
+mod laws;
+
+pub use laws::one_product_net;
 use opgen_net::{Class, Net};
 use opgen_num::{Memory, Word, bit_length};
 use std::alloc::{AllocError, Global};
@@ -51,6 +55,7 @@ fn table_shape(width: u32, factor: u64) -> TableShape
     requires narrow { (1 ≤ width) × (width ≤ 6) }
     requires factor { (1 ≤ factor) × (factor ≤ 2 ^ 30) }
     ensures product { result.odd * 2 ^ result.zeros ≡ factor }
+    ensures odd { result.odd % 2 ≡ 1 }
     ensures small { result.odd ≤ 2 ^ 30 }
     ensures fits { result.odd * (2 ^ width - 1) < 2 ^ result.row_width }
     ensures least { 2 ^ (result.row_width - 1) ≤ result.odd * (2 ^ width - 1) }
@@ -132,14 +137,15 @@ fn shift(alloc: Global, net: &mut Net, row_width: u32, zeros: u32) -> Result<usi
 
 /// The net that multiplies an unsigned input `x` of `width` bits by `factor`.
 ///
-/// The output `y` has the least width that holds the greatest product. What no clause says: the
-/// table holds the products without the zeros that end them all, which stand below its rows.
+/// The output `y` has the least width that holds the greatest product. The table holds the products
+/// without the zeros that end them all, which stand below its rows.
 pub fn times(alloc: Global, width: u32, factor: u64) -> Result<Net, Memory>
     requires narrow { (1 ≤ width) × (width ≤ 6) }
     requires factor { (1 ≤ factor) × (factor ≤ 2 ^ 30) }
     ensures valid { IfOk result IsValid }
     ensures no_delay { IfOk result HasNoDelay }
     ensures times { IfOk result (IsTimes width factor) }
+    ensures net { IfOk result (IsProductNet width factor) }
 {
     let shape = table_shape(width, factor);
     let mut net = table_net(alloc, shape.odd, width, shape.row_width)?;

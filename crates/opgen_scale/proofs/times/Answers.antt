@@ -40,3 +40,18 @@ returns-clause-times c =
     let made = c.table_shape-shape.ensures in
     subst (IsTimes c.args.width c.args.factor) (sym built)
     (is_times shape.odd c.args.width shape.row_width shape.zeros c.args.factor made.fits made.positive made.product made.least)
+
+pub returns-clause-net : goal.returns-clause-net
+returns-clause-net c =
+    let shape = c.table_shape-shape.result in
+    let made = c.table_shape-shape.ensures in
+    record {
+      odd = shape.odd;
+      zeros = shape.zeros;
+      row_width = shape.row_width;
+      product = made.product;
+      is_odd = made.odd;
+      least = (made.fits, made.least);
+      made = built_net shape.odd c.args.width shape.row_width shape.zeros c.in_ok-node.node c.in_ok-net.net c.shift.new.net c.output.new.self
+          c.in_ok-output.ensures.ok c.in_ok-node.ensures.ok c.in_ok-net.ensures.ok c.in_ok-node.ensures.place;
+    }
