@@ -1,11 +1,21 @@
 //! Whole texts through readers and writers that move a part at a time.
 ghost use Rattle.std.specs.Prelude.{◌≡◌, ◌≢◌, ◌≤◌, IfOk, IfSome, OnOk, Err, vec_len, take};
-ghost use Rattle.std.specs.Io.KnownBytes.{Appends};
+ghost use Rattle.std.specs.Io.{ReadsAtMost};
+ghost use Rattle.std.specs.Io.KnownBytes.{Appends, ReadConsumes};
 
 use crate::FetchFault;
 use std::alloc::{AllocError, Global};
 use std::io;
 use std::io::{Error, ErrorKind, Read, Write};
+
+// One read. Where clang sees std's read in a loop over pieces that are never empty, it drops the loop's arm `Ok(0)`.
+#[inline(never)]
+fn read_piece<F: Read>(file: &mut F, piece: &mut [u8]) -> io::Result<usize>
+    ensures bound { ReadsAtMost result piece.new }
+    ensures bytes { ReadConsumes (F.remaining file.old) (F.remaining file.new) result piece.new }
+{
+    file.read(piece)
+}
 
 /// Reads all that is left, or the first `room` bytes of it. A read that gives nothing is the end.
 pub fn read_within<F: Read>(alloc: Global, file: &mut F, room: usize) -> Result<Vec<u8>, FetchFault>
@@ -21,7 +31,7 @@ pub fn read_within<F: Read>(alloc: Global, file: &mut F, room: usize) -> Result<
         if wanted == 0 {
             return Ok(bytes);
         }
-        match file.read(&mut piece[..wanted]) {
+        match read_piece(file, &mut piece[..wanted]) {
             Ok(0) => return Ok(bytes),
             Ok(given) => match bytes.extend_from_slice(&piece[..given]) {
                 Ok(()) => {}
