@@ -1,11 +1,10 @@
 -- A width and a factor have one net: one odd part, one power of two, one width of rows.
 use Rattle.std.proofs.Common.{◌≡◌, ℕ, zero, suc, ◌+◌, ◌-◌, ◌*◌, ◌%◌, ◌^◌, ◌<◌, ◌≤◌, refl, sym, ap, ◌∙◌, subst, arith, inl, inr}
-use Rattle.std.proofs.Math.Nat.{two-pow-succ, mul-le-mul_left, mul-lt-mul_of_pos_left}
+use Rattle.std.proofs.Math.Nat.{two-pow-succ, mul-lt-mul_of_pos_left}
 use Rattle.std.proofs.Math.Pow.{pow_mono}
 use Rattle.std.proofs.lemmas.Bool.{cases_lt}
 use Rattle.std.proofs.lemmas.Nat.{pow_pos}
-use Rattle.opgen_net.specs.declared.net.Net.{Net}
-use Rattle.opgen_scale.specs.Recipe.{product_net, IsProductNet, HasOneProductNet}
+use Rattle.opgen_scale.specs.Recipe.{product_net, HasOneProductNet}
 use Rattle.opgen_scale.specs.Times.{IsBitLength}
 
 doubled : (m z : ℕ) → m * 2 ^ suc z ≡ m * 2 ^ z + m * 2 ^ z

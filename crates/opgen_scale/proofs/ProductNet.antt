@@ -6,7 +6,6 @@ use Rattle.std.proofs.Math.Nat.{mul-le-mul_left, mul-lt-mul_of_pos_left}
 use Rattle.opgen_num.specs.Words.{nat, word}
 use Rattle.opgen_num.specs.WordLaws.{length-word}
 use Rattle.opgen_num.proofs.Words.{nat-below}
-use Rattle.opgen_design.specs.declared.expr.Slice.{Slice}
 use Rattle.opgen_net.specs.declared.net.Net.{Net}
 use Rattle.opgen_design.specs.Value.{word_at}
 use Rattle.opgen_net.specs.Flow.{Inputs, input_at, slice_flow}
@@ -86,3 +85,7 @@ built_net number w row z n table shifted whole e1 e2 e3 place =
 pub no_delay : (number w row z : ℕ) → HasNoDelay (product_net number w row z)
 no_delay number w row zero = refl
 no_delay number w row (suc z) = refl
+
+pub few_nodes : (number w row z : ℕ) → length (product_net number w row z).nodes ≤ 3
+few_nodes number w row zero = omega arith
+few_nodes number w row (suc z) = omega arith
