@@ -9,4 +9,6 @@ pub mod Cycles
 pub mod Ports
 pub mod Starts
 pub mod Runs
+pub mod Orders
+pub mod HasRun
 pub mod OneRun

@@ -1,4 +1,4 @@
--- A sound design has one run at most for each list of inputs.
+-- A sound design has one run over each list of inputs.
 use Rattle.std.proofs.Common.{◌≡◌, ℕ, zero, suc, ◌<◌, ◌≤◌, Bool, true, false, if◌then◌else◌, List, [], ◌∷◌, length, get_or, Some, refl, sym, ap, ◌∙◌, subst, inl, inr, arith}
 use Rattle.std.specs.Prelude.{nat_eq, Contains, IfSome, slice_get}
 use Rattle.std.proofs.lemmas.Bool.{cases_lt, cond-true, cond-false, eqb-true, eqb-false}
@@ -20,9 +20,10 @@ use Rattle.opgen_net.specs.Value.{value, chosen, word_at}
 use Rattle.opgen_net.proofs.SoundLaws.{contains-at}
 use Rattle.opgen_net.proofs.ValueLaws.{same_value}
 use Rattle.opgen_sim.specs.Sims.{SameRegisters}
-use Rattle.opgen_sim.specs.OneRun.{HasAtMostOneRun}
+use Rattle.opgen_sim.specs.OneRun.{HasOneRun}
 use Rattle.opgen_sim.specs.Evaluate.{HaveWidths, table_word}
 use Rattle.opgen_sim.proofs.Cycles.{same-word}
+use Rattle.opgen_sim.proofs.HasRun.{a-run}
 use Rattle.opgen_sim.proofs.Widths.{agree-at, long, words-eq}
 use Rattle.opgen_sim.proofs.Reading.{there-some}
 
@@ -184,5 +185,8 @@ runs-one d sound (g ∷ gs) now others same (v ∷ vs) (u ∷ us) h k =
     ap (λ x. x ∷ vs) (words-one d sound now others g same v u h.0 k.0 h.1 k.1)
     ∙ ap (λ xs. u ∷ xs) (runs-one d sound gs h.0 k.0 (next-one d sound now others g same v u h.0 k.0 h.1 k.1) vs us h.2 k.2)
 
-pub one-run : HasAtMostOneRun
-one-run d sound inputs vs us h k = runs-one d sound inputs (initial_words d.signals) (initial_words d.signals) (λ i to e g. refl) vs us h k
+pub one-run : HasOneRun
+one-run d sound inputs words =
+    let r = a-run d sound inputs words in
+    let start = initial_words d.signals in
+    (r.0, record { run = r.1; no_other = λ us h. runs-one d sound inputs start start (λ i to e g. refl) us r.0 h r.1 })

@@ -12,5 +12,5 @@ mod tests;
 mod value;
 mod words;
 
-pub use laws::{at_most_one_run, steps_are_runs};
+pub use laws::{one_run, steps_are_runs};
 pub use sim::Sim;
