@@ -2,6 +2,7 @@ pub mod WordOps
 pub mod Fitting
 pub mod Plain
 pub mod Widths
+pub mod TableLaws
 pub mod Reading
 pub mod Equations
 pub mod Registers

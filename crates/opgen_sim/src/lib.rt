@@ -7,6 +7,7 @@ mod evaluate;
 mod laws;
 mod numbers;
 mod sim;
+mod tables;
 #[cfg(test)]
 mod tests;
 mod value;
