@@ -3,13 +3,13 @@ use Rattle.std.proofs.Common.{◌≡◌, ℕ, suc, Bool, if◌then◌else◌, Li
 use Rattle.std.specs.Prelude.{All, slice_get}
 use Rattle.opgen_num.specs.Words.{word}
 use Rattle.opgen_num.specs.WordLaws.{length-word}
-use Rattle.opgen_net.specs.declared.design.Design.{Design}
-use Rattle.opgen_net.specs.declared.design.Dir.{Dir}
-use Rattle.opgen_net.specs.declared.design.Dir.TheVariants.{In, Out}
-use Rattle.opgen_net.specs.declared.design.Driver.{Driver}
-use Rattle.opgen_net.specs.declared.design.Port.{Port}
-use Rattle.opgen_net.specs.Run.{Words, Cycle, RunsOn, Run, AreWords, at_ports, is_in, input_widths, initial_words}
-use Rattle.opgen_net.specs.Sound.{IsSound, WidthsAgree, signal_widths}
+use Rattle.opgen_design.specs.declared.design.Design.{Design}
+use Rattle.opgen_design.specs.declared.design.Dir.{Dir}
+use Rattle.opgen_design.specs.declared.design.Dir.TheVariants.{In, Out}
+use Rattle.opgen_design.specs.declared.design.Driver.{Driver}
+use Rattle.opgen_design.specs.declared.design.Port.{Port}
+use Rattle.opgen_design.specs.Run.{Words, Cycle, RunsOn, Run, AreWords, at_ports, is_in, input_widths, initial_words}
+use Rattle.opgen_design.specs.Sound.{IsSound, WidthsAgree, signal_widths}
 use Rattle.opgen_sim.specs.Evaluate.{HaveWidths, settle, hand_on, hand_all_on}
 use Rattle.opgen_sim.specs.Sims.{SameRegisters}
 use Rattle.opgen_sim.proofs.Cycles.{is-cycle}

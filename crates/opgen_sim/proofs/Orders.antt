@@ -6,11 +6,11 @@ use Rattle.std.proofs.lemmas.Bool.{cases_lt}
 use Rattle.std.proofs.lemmas.List.Elements.{All-cons}
 use Rattle.std.proofs.lemmas.List.Sorted.{IsPermutation-refl, IsPermutation-sym, IsPermutation-trans, IsPermutation-cons, IsPermutation-middle, All-permutation}
 use Rattle.std.proofs.lemmas.Option.{slice_get_within, get_or_from_slice_get}
-use Rattle.opgen_net.specs.declared.design.Design.{Design}
-use Rattle.opgen_net.specs.declared.design.Driver.{Driver}
-use Rattle.opgen_net.specs.Order.{IsOrderOf, waiting}
-use Rattle.opgen_net.specs.Sound.{Target, signal, port_of, target, Needs, IsOrdered}
-use Rattle.opgen_net.proofs.SoundLaws.{at-contains}
+use Rattle.opgen_design.specs.declared.design.Design.{Design}
+use Rattle.opgen_design.specs.declared.design.Driver.{Driver}
+use Rattle.opgen_design.specs.Order.{IsOrderOf, waiting}
+use Rattle.opgen_design.specs.Sound.{Target, signal, port_of, target, Needs, IsOrdered}
+use Rattle.opgen_design.proofs.SoundLaws.{at-contains}
 
 -- numbers sorted by rank
 module _ (rank : ℕ → ℕ) where

@@ -5,7 +5,7 @@ use Rattle.std.specs.HashMap.{HashMap}
 use Rattle.std.proofs.lemmas.List.{take_more}
 use Rattle.std.proofs.lemmas.Option.{slice_get_within}
 use Rattle.std.proofs.lemmas.Slice.Zip.{AllZip-long, all_zipped_more}
-use Rattle.opgen_net.specs.declared.design.Driver.{Driver}
+use Rattle.opgen_design.specs.declared.design.Driver.{Driver}
 use Rattle.opgen_sim.specs.Tables.{AreTables, HasRows, rows_of}
 
 module _ {S : Type 0} where

@@ -1,8 +1,8 @@
 -- A sound design has one run over each list of inputs.
 use Rattle.std.specs.Prelude.{◌≡◌, Bool, List, All}
-use Rattle.opgen_net.specs.declared.design.Design.{Design}
-use Rattle.opgen_net.specs.Run.{Words, Run, AreWords, input_widths}
-use Rattle.opgen_net.specs.Sound.{IsSound}
+use Rattle.opgen_design.specs.declared.design.Design.{Design}
+use Rattle.opgen_design.specs.Run.{Words, Run, AreWords, input_widths}
+use Rattle.opgen_design.specs.Sound.{IsSound}
 
 -- a run over these inputs, and each other one is the same
 pub record IsOnlyRun (d : Design) (inputs : List (List (List Bool))) (vs : List Words) : Type 0 where

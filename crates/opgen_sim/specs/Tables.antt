@@ -3,8 +3,8 @@ use Rattle.std.specs.Prelude.{ℕ, ◌≡◌, Bool, List, [], ◌∷◌, nat_eq,
 use Rattle.std.specs.List.{AllZip}
 use Rattle.std.specs.HashMap.{HashMap, get}
 use Rattle.opgen_num.specs.Words.{nat}
-use Rattle.opgen_net.specs.declared.design.Driver.{Driver}
-use Rattle.opgen_net.specs.declared.design.Driver.TheVariants.{Table}
+use Rattle.opgen_design.specs.declared.design.Driver.{Driver}
+use Rattle.opgen_design.specs.declared.design.Driver.TheVariants.{Table}
 
 -- the word of the first row of an address
 abbrev pub row_word : List (List Bool × List Bool) → (address : ℕ) → Option (List Bool)

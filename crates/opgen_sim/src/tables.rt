@@ -4,7 +4,7 @@ ghost use Rattle.std.specs.HashMap.{get};
 ghost use Rattle.opgen_num.specs.Words.{nat};
 ghost use Rattle.opgen_sim.specs.Tables.{AreTables, HasRows, rows_of};
 
-use opgen_net::Driver;
+use opgen_design::Driver;
 use opgen_num::Word;
 use std::alloc::{AllocError, Global};
 use std::collections::HashMap;

@@ -4,7 +4,7 @@ use Rattle.std.specs.Prelude.{All, codes, IsTrue, ◌≢◌, slice_index}
 use Rattle.std.specs.List.{AllPairs}
 use Rattle.std.proofs.lemmas.List.Elements.{All-nil, All-cons}
 use Rattle.opgen_net.specs.declared.net.Net.{Net}
-use Rattle.opgen_net.specs.Names.{is_allowed_name, refused_words}
+use Rattle.opgen_design.specs.Names.{is_allowed_name, refused_words}
 use Rattle.opgen_net.specs.Named.{port_names, IsFree, IsNamed}
 use Rattle.opgen_scale.specs.Times.{IsTimes}
 

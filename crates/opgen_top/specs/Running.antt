@@ -2,8 +2,8 @@
 use Rattle.std.specs.Prelude.{ℕ, zero, suc, ◌≡◌, Bool, List, [], ◌∷◌, length, map, take, drop}
 use Rattle.std.specs.List.{concat}
 use Rattle.opgen_num.specs.Words.{nat, word}
-use Rattle.opgen_net.specs.declared.design.Design.{Design}
-use Rattle.opgen_net.specs.Run.{Words, RunsOn, initial_words, at_ports, is_out, input_widths, outputs_of}
+use Rattle.opgen_design.specs.declared.design.Design.{Design}
+use Rattle.opgen_design.specs.Run.{Words, RunsOn, initial_words, at_ports, is_out, input_widths, outputs_of}
 
 -- the words of a row, one for each width
 abbrev pub row_words : (widths cells : List ℕ) → List (List Bool)
