@@ -1,6 +1,6 @@
 -- A sound design's drivers, evaluated in order, give a cycle.
 use Rattle.std.proofs.Common.{◌≡◌, ℕ, zero, suc, ◌<◌, Bool, true, false, if◌then◌else◌, List, [], ◌∷◌, length, map, get_or, Some, refl, sym, ap, ◌∙◌, subst, arith}
-use Rattle.std.specs.Prelude.{◌≢◌, IfSome, nat_eq, slice_get}
+use Rattle.std.specs.Prelude.{◌≢◌, IfSome, nat_eq, slice_get, unwrap_or}
 use Rattle.std.proofs.lemmas.Bool.{cond-true, cond-false, eqb-true, eqb-false}
 use Rattle.std.proofs.lemmas.List.{length-map}
 use Rattle.std.proofs.lemmas.Option.{slice_get-get_or, slice_get_within, get_or_from_slice_get}
@@ -17,6 +17,7 @@ use Rattle.opgen_design.specs.Run.{Words, scope, at_ports, is_in, IsTableWord, M
 use Rattle.opgen_design.specs.Sound.{IsSound, ChoiceTwice, DriverPasses, HasWidth, signal_widths, at_driver}
 use Rattle.opgen_design.specs.Value.{value, word_at}
 use Rattle.opgen_sim.specs.Evaluate.{HaveWidths, table_word, settle, hand_all_on}
+use Rattle.opgen_sim.specs.Tables.{row_word}
 use Rattle.opgen_sim.proofs.Widths.{agree-at, declared-there, long, settle-widths}
 use Rattle.opgen_sim.proofs.Equations.{stands, register-kept, input-kept, targets-differ}
 use Rattle.opgen_sim.proofs.Registers.{handed}
@@ -36,8 +37,14 @@ abbrev Row : Type 0
 Row = List Bool × List Bool
 
 module _ (other address : List Bool) where
+  pub at-first : (r : Row) (rows : List Row) → nat_eq (nat r.0) (nat address) ≡ true → table_word (r ∷ rows) other address ≡ r.1
+  at-first r rows e = ap (λ o. unwrap_or o other) (cond-true (nat_eq (nat r.0) (nat address)) (Some r.1) (row_word rows (nat address)) e)
+
+  pub past-first : (r : Row) (rows : List Row) → nat_eq (nat r.0) (nat address) ≡ false → table_word (r ∷ rows) other address ≡ table_word rows other address
+  past-first r rows e = ap (λ o. unwrap_or o other) (cond-false (nat_eq (nat r.0) (nat address)) (Some r.1) (row_word rows (nat address)) e)
+
   skip : (r : Row) (rows : List Row) → length r.0 ≡ length address → (r.0 ≡ address → ⊥) → table_word (r ∷ rows) other address ≡ table_word rows other address
-  skip r rows l f = cond-false (nat_eq (nat r.0) (nat address)) r.1 (table_word rows other address) (nat_eq-false (nat_eq (nat r.0) (nat address)) (nat r.0) (nat address) refl (λ e. f (same-word r.0 address l e)))
+  skip r rows l f = past-first r rows (nat_eq-false (nat_eq (nat r.0) (nat address)) (nat r.0) (nat address) refl (λ e. f (same-word r.0 address l e)))
 
   table-hit : (rows : List Row) (i : ℕ) (r : Row) → slice_get rows i ≡ Some r → ((j : ℕ) (q : Row) → slice_get rows j ≡ Some q → length q.0 ≡ length address)
       → ((i j : ℕ) (r q : Row) → i < j → slice_get rows i ≡ Some r → slice_get rows j ≡ Some q → r.0 ≢ q.0) → r.0 ≡ address → table_word rows other address ≡ r.1
@@ -45,7 +52,7 @@ module _ (other address : List Bool) where
   table-hit (q ∷ rows) zero r e l f h =
       let same : q ≡ r = cc in
       let a : q.0 ≡ address = ap (λ x. x.0) same ∙ h in
-      cond-true (nat_eq (nat q.0) (nat address)) q.1 (table_word rows other address) (ap (λ x. nat_eq (nat x) (nat address)) a ∙ nat_eq-true (nat_eq (nat address) (nat address)) (nat address) refl) ∙ ap (λ x. x.1) same
+      at-first q rows (ap (λ x. nat_eq (nat x) (nat address)) a ∙ nat_eq-true (nat_eq (nat address) (nat address)) (nat address) refl) ∙ ap (λ x. x.1) same
   table-hit (q ∷ rows) (suc i) r e l f h =
       skip q rows (l 0 q refl) (λ x. f 0 (suc i) q r (omega arith) refl e (x ∙ sym h))
       ∙ table-hit rows i r e (λ j p g. l (suc j) p g) (λ a b x y k g m. f (suc a) (suc b) x y (omega (arith, k)) g m) h

@@ -2,6 +2,7 @@ pub mod WordOps
 pub mod Fitting
 pub mod Plain
 pub mod Widths
+pub mod TableLaws
 pub mod Reading
 pub mod Equations
 pub mod Registers
@@ -9,4 +10,6 @@ pub mod Cycles
 pub mod Ports
 pub mod Starts
 pub mod Runs
+pub mod Orders
+pub mod HasRun
 pub mod OneRun

@@ -1,7 +1,7 @@
--- A sound design has one run at most for each list of inputs.
+-- A sound design has one run over each list of inputs.
 use Rattle.std.proofs.Common.{◌≡◌, ℕ, zero, suc, ◌<◌, ◌≤◌, Bool, true, false, if◌then◌else◌, List, [], ◌∷◌, length, get_or, Some, refl, sym, ap, ◌∙◌, subst, inl, inr, arith}
 use Rattle.std.specs.Prelude.{nat_eq, Contains, IfSome, slice_get}
-use Rattle.std.proofs.lemmas.Bool.{cases_lt, cond-true, cond-false, eqb-true, eqb-false}
+use Rattle.std.proofs.lemmas.Bool.{cases_lt, eqb-true, eqb-false}
 use Rattle.std.proofs.lemmas.List.Elements.{All-cons}
 use Rattle.opgen_num.specs.Words.{nat}
 use Rattle.std.proofs.lemmas.List.{length-map, ext_get_or}
@@ -20,9 +20,10 @@ use Rattle.opgen_design.specs.Value.{value, chosen, word_at}
 use Rattle.opgen_design.proofs.SoundLaws.{contains-at}
 use Rattle.opgen_design.proofs.ValueLaws.{same_value}
 use Rattle.opgen_sim.specs.Sims.{SameRegisters}
-use Rattle.opgen_sim.specs.OneRun.{HasAtMostOneRun}
+use Rattle.opgen_sim.specs.OneRun.{HasOneRun}
 use Rattle.opgen_sim.specs.Evaluate.{HaveWidths, table_word}
-use Rattle.opgen_sim.proofs.Cycles.{same-word}
+use Rattle.opgen_sim.proofs.Cycles.{same-word, at-first, past-first}
+use Rattle.opgen_sim.proofs.HasRun.{a-run}
 use Rattle.opgen_sim.proofs.Widths.{agree-at, long, words-eq}
 use Rattle.opgen_sim.proofs.Reading.{there-some}
 
@@ -49,12 +50,12 @@ table-is [] other a w l h = h.of_none (λ k d m. absurd (omega (arith, m)))
 table-is (q ∷ rows) other a w l h = by-first (nat_eq (nat q.0) (nat a)) refl (table-is rows other a w (λ j r g. l (suc j) r g))
   where
     by-first : (b : Bool) → nat_eq (nat q.0) (nat a) ≡ b → (IsTableWord rows other a w → w ≡ table_word rows other a) → w ≡ table_word (q ∷ rows) other a
-    by-first true e rest = h.of_row 0 q (omega arith) (same-word q.0 a (l 0 q refl) (eqb-true (nat q.0) (nat a) e)) ∙ sym (cond-true (nat_eq (nat q.0) (nat a)) q.1 (table_word rows other a) e)
+    by-first true e rest = h.of_row 0 q (omega arith) (same-word q.0 a (l 0 q refl) (eqb-true (nat q.0) (nat a) e)) ∙ sym (at-first other a q rows e)
     by-first false e rest =
         rest (record {
           of_row = λ i x m. h.of_row (suc i) x (omega (arith, m));
           of_none = λ g. h.of_none (All-cons (λ r. r.0 ≡ a → ⊥) q rows (λ z. eqb-false (nat q.0) (nat a) e (ap nat z)) g);
-        }) ∙ sym (cond-false (nat_eq (nat q.0) (nat a)) q.1 (table_word rows other a) e)
+        }) ∙ sym (past-first other a q rows e)
 
 -- words at the same input ports
 cons-head : (b : Dir) (x y : List Bool) (xs ys : List (List Bool)) → b ≡ In → (if is_in b then x ∷ xs else xs) ≡ (if is_in b then y ∷ ys else ys) → x ≡ y
@@ -184,5 +185,8 @@ runs-one d sound (g ∷ gs) now others same (v ∷ vs) (u ∷ us) h k =
     ap (λ x. x ∷ vs) (words-one d sound now others g same v u h.0 k.0 h.1 k.1)
     ∙ ap (λ xs. u ∷ xs) (runs-one d sound gs h.0 k.0 (next-one d sound now others g same v u h.0 k.0 h.1 k.1) vs us h.2 k.2)
 
-pub one-run : HasAtMostOneRun
-one-run d sound inputs vs us h k = runs-one d sound inputs (initial_words d.signals) (initial_words d.signals) (λ i to e g. refl) vs us h k
+pub one-run : HasOneRun
+one-run d sound inputs words =
+    let r = a-run d sound inputs words in
+    let start = initial_words d.signals in
+    (r.0, record { run = r.1; no_other = λ us h. runs-one d sound inputs start start (λ i to e g. refl) us r.0 h r.1 })

@@ -1,6 +1,6 @@
 -- The drivers of a sound design over words of the widths of its signals and ports.
 use Rattle.std.proofs.Common.{◌≡◌, ℕ, suc, Bool, true, false, if◌then◌else◌, List, [], ◌∷◌, length, map, get_or, Option, Some, None, refl, sym, ap, ◌∙◌, subst, arith}
-use Rattle.std.specs.Prelude.{IsSome, IfSome, nat_eq, slice_get, slice_index, option_map}
+use Rattle.std.specs.Prelude.{IsSome, IfSome, nat_eq, slice_get, slice_index, option_map, unwrap_or}
 use Rattle.std.proofs.Math.ListN.{get_or-map}
 use Rattle.std.proofs.Math.Seq.{map-set_same}
 use Rattle.std.proofs.lemmas.List.{length-map}
@@ -18,6 +18,7 @@ use Rattle.opgen_design.specs.Sound.{IsSound, Width, Target, signal, port_of, ta
 use Rattle.opgen_design.proofs.SoundLaws.{declared-at}
 use Rattle.opgen_sim.specs.Fitting.{AreNarrow, Fits}
 use Rattle.opgen_sim.specs.Evaluate.{DriverFits, HaveWidths, IsThere, driver_word, table_word, put_at, put, put_option, settle}
+use Rattle.opgen_sim.specs.Tables.{row_word}
 use Rattle.opgen_sim.proofs.Fitting.{value-fits}
 
 pub words-eq : (signals ports : List (List Bool)) (v : Words) → signals ≡ v.signals → ports ≡ v.ports → record { signals = signals; ports = ports } ≡ v
@@ -29,13 +30,13 @@ chosen-length (true ∷ []) one other w h k = h
 chosen-length (true ∷ x ∷ xs) one other w h k = k
 chosen-length (false ∷ xs) one other w h k = k
 
-either-length : (b : Bool) (one other : List Bool) (w : ℕ) → length one ≡ w → length other ≡ w → length (if b then one else other) ≡ w
-either-length true one other w h k = h
-either-length false one other w h k = k
+found-length : (b : Bool) (word other : List Bool) (found : Option (List Bool)) (w : ℕ) → length word ≡ w → length (unwrap_or found other) ≡ w → length (unwrap_or (if b then Some word else found) other) ≡ w
+found-length true word other found w h k = h
+found-length false word other found w h k = k
 
 table-length : (rows : List (List Bool × List Bool)) (other address : List Bool) (w : ℕ) → ((i : ℕ) (r : List Bool × List Bool) → slice_get rows i ≡ Some r → length r.1 ≡ w) → length other ≡ w → length (table_word rows other address) ≡ w
 table-length [] other address w h k = k
-table-length (r ∷ rows) other address w h k = either-length (nat_eq (nat r.0) (nat address)) r.1 (table_word rows other address) w (h 0 r refl) (table-length rows other address w (λ i q e. h (suc i) q e) k)
+table-length (r ∷ rows) other address w h k = found-length (nat_eq (nat r.0) (nat address)) r.1 other (row_word rows (nat address)) w (h 0 r refl) (table-length rows other address w (λ i q e. h (suc i) q e) k)
 
 wide : (d : Design) (i : ℕ) (o : Option Signal) (w : ℕ) → option_map (λ s. s.width) o ≡ Some w → IfSome o (SignalPasses d Width i) → IsWidth w
 wide d i None w e h = absurd (cc)

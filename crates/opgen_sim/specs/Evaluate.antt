@@ -1,5 +1,5 @@
 -- The drivers of a design evaluated one after another.
-use Rattle.std.specs.Prelude.{ℕ, ◌≡◌, ◌<◌, Bool, List, [], ◌∷◌, map, length, nat_eq, if◌then◌else◌, slice_get, slice_set, Option, Some, None}
+use Rattle.std.specs.Prelude.{ℕ, ◌≡◌, ◌<◌, Bool, List, [], ◌∷◌, map, length, slice_get, slice_set, Option, Some, None, unwrap_or}
 use Rattle.opgen_num.specs.Words.{nat}
 use Rattle.opgen_design.specs.declared.design.Design.{Design}
 use Rattle.opgen_design.specs.declared.design.Driver.{Driver}
@@ -8,11 +8,11 @@ use Rattle.opgen_design.specs.Run.{Words, scope}
 use Rattle.opgen_design.specs.Sound.{Target, signal, port_of, target, signal_widths, port_widths}
 use Rattle.opgen_design.specs.Value.{Scope, value, chosen}
 use Rattle.opgen_sim.specs.Fitting.{Fits}
+use Rattle.opgen_sim.specs.Tables.{row_word}
 
 -- the word of the first row of an address, and else the other word
 abbrev pub table_word : List (List Bool × List Bool) → (other address : List Bool) → List Bool
-table_word [] other address = other
-table_word (r ∷ rows) other address = if nat_eq (nat r.0) (nat address) then r.1 else table_word rows other address
+table_word rows other address = unwrap_or (row_word rows (nat address)) other
 
 -- what a driver's right side says over words
 abbrev pub driver_word : Scope → Driver → List Bool

@@ -1,4 +1,5 @@
 pub mod Fitting
+pub mod Tables
 pub mod Evaluate
 pub mod Step
 pub mod Sims

@@ -9,6 +9,7 @@ use Rattle.opgen_design.specs.Tree.{Tree}
 use Rattle.opgen_design.specs.Value.{word_at}
 use Rattle.opgen_sim.specs.declared.sim.Sim.{Sim}
 use Rattle.opgen_sim.specs.Evaluate.{HaveWidths}
+use Rattle.opgen_sim.specs.Tables.{AreTables}
 
 -- the design that is run
 abbrev pub simulated : Sim → Design
@@ -18,10 +19,11 @@ simulated s = s.design
 abbrev pub registers : Sim → List (List Bool)
 registers s = s.words.items
 
--- a simulator of a sound design that has an order of evaluation and all its room
+-- a simulator of a sound design that has an order of evaluation, its tables by their addresses and all its room
 pub record IsReady (s : Sim) : Type 0 where
   pub sound : IsSound s.design
   pub order : IsOrderOf s.design s.order.items
+  pub tables : AreTables s.design.drivers s.tables.items
   pub widths : HaveWidths s.design (record { signals = s.words.items; ports = s.ports.items })
   pub room : map length s.next.items ≡ signal_widths s.design
 

@@ -3,8 +3,10 @@ ghost use Rattle.opgen_design.specs.Run.{Words};
 ghost use Rattle.opgen_design.specs.Value.{chosen};
 ghost use Rattle.opgen_design.specs.Sound.{IsSound, signal_widths, target};
 ghost use Rattle.opgen_sim.specs.Fitting.{AreNarrow, scope_of};
-ghost use Rattle.opgen_sim.specs.Evaluate.{DriverFits, HaveWidths, IsThere, driver_word, hand_all_on, hand_on, put, settle, table_word};
+ghost use Rattle.opgen_sim.specs.Evaluate.{DriverFits, HaveWidths, IsThere, driver_word, hand_all_on, hand_on, put, settle};
+ghost use Rattle.opgen_sim.specs.Tables.{AreTables, HasRows, rows_of};
 
+use crate::tables::{Rows, look_up};
 use crate::value::value;
 use opgen_design::{Design, Driver};
 use opgen_num::Word;
@@ -20,20 +22,9 @@ fn chosen(on: Word, one: Word, other: Word) -> Word
     }
 }
 
-// The word of the first row of an address.
-fn table_word(rows: &[(Word, Word)], other: Word, address: Word) -> Word
-    ensures { result ≡ table_word rows.now other address }
-{
-    for row in rows {
-        if row.0.bits() == address.bits() {
-            return row.1;
-        }
-    }
-    other
-}
-
 // What the driver's right side says over words.
-fn driver_word(driver: &Driver, names: &[Word], ports: &[Word]) -> Word
+fn driver_word(driver: &Driver, table: &Rows, names: &[Word], ports: &[Word]) -> Word
+    requires table { HasRows (rows_of driver.now) table.now }
     requires narrow { AreNarrow names.now }
     requires fits { DriverFits names.now ports.now driver.now }
     ensures { result ≡ driver_word (scope_of names.now ports.now) driver.now }
@@ -50,21 +41,22 @@ fn driver_word(driver: &Driver, names: &[Word], ports: &[Word]) -> Word
         Driver::Table {
             to: _,
             on,
-            rows,
+            rows: _,
             other,
-        } => table_word(rows.as_slice(), *other, value(on.expr(), names, ports)),
+        } => look_up(table, *other, value(on.expr(), names, ports)),
     }
 }
 
 // Puts a driver's word at what it drives.
-fn put(driver: &Driver, names: &mut [Word], ports: &mut [Word])
+fn put(driver: &Driver, table: &Rows, names: &mut [Word], ports: &mut [Word])
+    requires table { HasRows (rows_of driver.now) table.now }
     requires narrow { AreNarrow names.old }
     requires fits { DriverFits names.old ports.old driver.now }
     requires there { IsThere (record { signals = names.old; ports = ports.old }) (target driver.now) }
     ensures names { names.new ≡ (put driver.now (record { signals = names.old; ports = ports.old })).signals }
     ensures ports { ports.new ≡ (put driver.now (record { signals = names.old; ports = ports.old })).ports }
 {
-    let word = driver_word(driver, names, ports);
+    let word = driver_word(driver, table, names, ports);
     match driver {
         Driver::Assign { to, expr: _ } => names[*to] = word,
         Driver::Choice {
@@ -85,15 +77,22 @@ fn put(driver: &Driver, names: &mut [Word], ports: &mut [Word])
 }
 
 /// Evaluates the drivers at these places in order, each over the words of those before it.
-pub fn settle(design: &Design, order: &[usize], names: &mut [Word], ports: &mut [Word])
+pub fn settle(
+    design: &Design,
+    order: &[usize],
+    tables: &[Rows],
+    names: &mut [Word],
+    ports: &mut [Word],
+)
     requires sound { IsSound design.now }
     requires places { (p i : ℕ) → slice_get order.now p ≡ Some i → i < length design.now.drivers }
+    requires tables { AreTables design.now.drivers tables.now }
     requires widths { HaveWidths design.now (record { signals = names.old; ports = ports.old }) }
     ensures names { names.new ≡ (settle design.now.drivers order.now (record { signals = names.old; ports = ports.old })).signals }
     ensures ports { ports.new ≡ (settle design.now.drivers order.now (record { signals = names.old; ports = ports.old })).ports }
 {
     for place in order {
-        put(design.drivers.get(*place), names, ports);
+        put(design.drivers.get(*place), &tables[*place], names, ports);
     }
 }
 

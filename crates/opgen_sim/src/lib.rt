@@ -7,10 +7,11 @@ mod evaluate;
 mod laws;
 mod numbers;
 mod sim;
+mod tables;
 #[cfg(test)]
 mod tests;
 mod value;
 mod words;
 
-pub use laws::{at_most_one_run, steps_are_runs};
+pub use laws::{one_run, steps_are_runs};
 pub use sim::Sim;

@@ -8,6 +8,7 @@ ghost use Rattle.opgen_sim.specs.Step.{FitWidths, IsStep};
 use crate::copies::copy;
 use crate::cycle::run_cycle;
 use crate::numbers::{give_outputs, take_inputs};
+use crate::tables::{Rows, tables};
 use opgen_design::{Design, Port, Signal};
 use opgen_num::{Memory, Word};
 use std::alloc::{AllocError, Global};
@@ -18,6 +19,7 @@ use std::mem;
 pub struct Sim {
     design: Design,
     order: Vec<usize>,
+    tables: Vec<Rows>,
     words: Vec<Word>,
     next: Vec<Word>,
     ports: Vec<Word>,
@@ -55,12 +57,14 @@ impl Sim {
         ensures { IfOk result (λ s. IsNew design.now s) }
     {
         let order = design.order(alloc)?;
+        let tables = tables(alloc, design.drivers.as_slice())?;
         let words = initial_words(alloc, design.signals.as_slice())?;
         let next = initial_words(alloc, design.signals.as_slice())?;
         let ports = zeros(alloc, design.ports.as_slice())?;
         Ok(Sim {
             design: copy(alloc, design)?,
             order,
+            tables,
             words,
             next,
             ports,
@@ -80,6 +84,7 @@ impl Sim {
         run_cycle(
             &self.design,
             &self.order,
+            &self.tables,
             &mut self.words,
             &mut self.ports,
             &mut self.next,

@@ -1,7 +1,8 @@
-use Rattle.std.proofs.Common.{◌≡◌, ◌+◌, get_or, drop, sym, ap, ◌∙◌, subst}
+use Rattle.std.proofs.Common.{◌≡◌, ◌+◌, get_or, drop, sym, ap, ◌∙◌, subst, arith}
 use Rattle.std.proofs.lemmas.List.{drop_more}
 use Rattle.opgen_design.specs.Run.{Words}
 use Rattle.opgen_sim.specs.Evaluate.{HaveWidths, put, put_option, settle}
+use Rattle.opgen_sim.proofs.TableLaws.{table-there, table-at}
 use Rattle.opgen_sim.proofs.Widths.{narrow, agree-at, driver-fits, declared-there, put-widths, words-eq}
 use Rattle.opgen_sim.proofs.evaluate.settle.Goals as goal
 
@@ -13,6 +14,15 @@ put-requires-clause-fits c = driver-fits c.args.design.now c.requires.sound (rec
 
 pub put-requires-clause-there : goal.put-requires-clause-there
 put-requires-clause-there c = declared-there c.args.design.now c.requires.sound (record { signals = c.loop-place.names; ports = c.loop-place.ports }) c.loop-place.invariant.widths (get_or c.args.order.now c.loop-place.place-index 0) c.get.result.now c.get.ensures
+
+pub offset_bounds-tables-place : goal.offset_bounds-tables-place
+offset_bounds-tables-place c = omega (arith, table-there c.args.design.now.drivers c.args.tables.now (get_or c.args.order.now c.loop-place.place-index 0) c.get.result.now c.requires.tables c.get.ensures)
+
+pub bounds-tables-place : goal.bounds-tables-place
+bounds-tables-place c = table-there c.args.design.now.drivers c.args.tables.now (get_or c.args.order.now c.loop-place.place-index 0) c.get.result.now c.requires.tables c.get.ensures
+
+pub put-requires-clause-table : goal.put-requires-clause-table
+put-requires-clause-table c = table-at c.args.design.now.drivers c.args.tables.now (get_or c.args.order.now c.loop-place.place-index 0) c.get.result.now c.index-tables-place.result c.requires.tables c.get.ensures c.index-tables-place.is
 
 pub loop-place-preserved : goal.loop-place-preserved
 loop-place-preserved c =

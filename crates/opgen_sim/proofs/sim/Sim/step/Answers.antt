@@ -16,11 +16,11 @@ give_outputs-requires-clause-room c =
     let new = c.run_cycle.new.ports in
     let n : length new ≡ length (port_widths d) = sym (length-map new length) ∙ ap length c.run_cycle.ensures.cycle.port_widths in
     let l : length new ≡ old.len = omega (arith, n, ap length c.requires.ready.widths.ports, length-map old.items length, old.ok.0) in
-    let e : c.deref-2.result.now ≡ new = c.deref-2.ensures.value ∙ with_items_is (with_items old c.take_inputs.new.words) new l in
+    let e : c.deref-3.result.now ≡ new = c.deref-3.ensures.value ∙ with_items_is (with_items old c.take_inputs.new.words) new l in
     c.requires.outputs
     ∙ sym (at_ports-length is_out d.ports new (port_widths d) n)
     ∙ ap (λ ws. length (at_ports is_out d.ports ws)) (sym e)
-    ∙ ap (λ qs. length (at_ports is_out qs c.deref-2.result.now)) (sym c.as_slice-2.ensures)
+    ∙ ap (λ qs. length (at_ports is_out qs c.deref-3.result.now)) (sym c.as_slice-2.ensures)
 
 pub returns-clause-step : goal.returns-clause-step
 returns-clause-step c =
@@ -33,7 +33,7 @@ returns-clause-step c =
     let v : Words = record { signals = c.run_cycle.new.names; ports = new } in
     let n : length new ≡ length (port_widths d) = sym (length-map new length) ∙ ap length c.run_cycle.ensures.cycle.port_widths in
     let l : length new ≡ s.ports.len = omega (arith, n, ap length c.requires.ready.widths.ports, length-map s.ports.items length, s.ports.ok.0) in
-    let e : c.deref-2.result.now ≡ new = c.deref-2.ensures.value ∙ with_items_is (with_items s.ports taken) new l in
+    let e : c.deref-3.result.now ≡ new = c.deref-3.ensures.value ∙ with_items_is (with_items s.ports taken) new l in
     let t : length taken ≡ s.ports.len = omega (arith, c.take_inputs.auto.words, ap length c.deref_mut.ensures.value, s.ports.ok.0) in
     let given : at_ports is_in d.ports taken ≡ words_of (input_widths d) inputs = subst (λ qs. at_ports is_in qs taken ≡ words_of (at_ports is_in qs (map (λ p. p.width) qs)) inputs) c.as_slice.ensures c.take_inputs.ensures.inputs in
     let g : at_ports is_in d.ports c.deref_mut-3.result.now ≡ words_of (input_widths d) inputs = ap (at_ports is_in d.ports) (c.deref_mut-3.ensures.value ∙ with_items_is s.ports taken t) ∙ given in
