@@ -1,7 +1,7 @@
 // Whole texts.
 
 ghost use Rattle.std.specs.Prelude.{◌≡◌, ◌≤◌, IfOk, IfErr, IsTrue, ◌↔◌, length};
-ghost use Rattle.opgen_net.specs.Sound.{IsSound};
+ghost use Rattle.opgen_net.specs.Sound.{HasNumbers, IsSound};
 ghost use Rattle.opgen_text.specs.Spelled.{Statements, Spells};
 ghost use Rattle.opgen_read.specs.Answer.{IsWithinLimits, IsReadFault};
 ghost use Rattle.opgen_read.specs.Outcome.{IsTextFault, IsOutcome, HasFew};
@@ -90,6 +90,7 @@ pub fn read_design(alloc: Global, bytes: &[u8]) -> Result<Design, ReadFault>
     ensures spelled { IfOk result (λ d. Spells bytes.now d) }
     ensures within_limits { IfOk result (λ d. IsWithinLimits d) }
     ensures sound { IfOk result (λ d. IsSound d) }
+    ensures numbers { IfOk result (λ d. HasNumbers d) }
     ensures fault { IfErr result (IsReadFault bytes.now) }
 {
     let draft = statements(alloc, bytes)?;

@@ -97,3 +97,7 @@ built_net number w row z n table shifted whole e1 e2 e3 place =
 pub no_delay : (number w row z : ℕ) → HasNoDelay (product_net number w row z)
 no_delay number w row zero = refl
 no_delay number w row (suc z) = refl
+
+pub few_nodes : (number w row z : ℕ) → length (product_net number w row z).nodes ≤ 3
+few_nodes number w row zero = omega arith
+few_nodes number w row (suc z) = omega arith

@@ -138,6 +138,7 @@ pub fn times(alloc: Global, width: u32, factor: u64) -> Result<Net, Memory>
     requires factor { (1 ≤ factor) × (factor ≤ 2 ^ 30) }
     ensures valid { IfOk result IsValid }
     ensures no_delay { IfOk result HasNoDelay }
+    ensures few { IfOk result (λ net. length net.nodes ≤ 3) }
     ensures times { IfOk result (IsTimes width factor) }
 {
     let shape = table_shape(width, factor);

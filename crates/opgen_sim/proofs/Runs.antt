@@ -19,7 +19,7 @@ module _ (d : Design) (now others : List (List Bool)) (same : SameRegisters d no
   meets-kept (Register to e) i v next g m = (m.0 ∙ same i to e g, m.1)
   meets-kept (Output place e) i v next g m = m
 
-  cycle-kept : (given : List (List Bool)) (v : Words) (next : List (List Bool)) → Cycle d now given v next → Cycle d others given v next
+  pub cycle-kept : (given : List (List Bool)) (v : Words) (next : List (List Bool)) → Cycle d now given v next → Cycle d others given v next
   cycle-kept given v next h = record {
     signal_widths = h.signal_widths;
     port_widths = h.port_widths;

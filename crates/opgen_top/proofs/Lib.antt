@@ -10,3 +10,7 @@ mod Spelled
 pub mod OneDue
 pub mod Unfetched
 pub mod OneSimulate
+pub mod Columns
+pub mod SomePort
+pub mod PreparingRuns
+pub mod Vectoring

@@ -1,11 +1,11 @@
-use Rattle.std.proofs.Common.{◌≡◌, ◌++◌, ◌∷◌, [], ◌+◌, ap, ◌∙◌, sym, subst, arith}
+use Rattle.std.proofs.Common.{◌≡◌, ◌++◌, ◌∷◌, [], ◌+◌, ◌≤◌, length, ap, ◌∙◌, sym, subst, arith}
 use Rattle.std.specs.Prelude.{slice_index}
 use Rattle.opgen_net.specs.Valid.{widths}
 use Rattle.opgen_scale.specs.Times.{IsTimes}
 use Rattle.opgen_scale.specs.Recipe.{table_nodes, shifted_nodes}
 use Rattle.opgen_scale.proofs.Widths.{widths-table_nodes, product_width}
 use Rattle.opgen_net.specs.Valid.{HasNoDelay}
-use Rattle.opgen_scale.proofs.ProductNet.{built_net, is_times, no_delay}
+use Rattle.opgen_scale.proofs.ProductNet.{built_net, is_times, no_delay, few_nodes}
 use Rattle.opgen_scale.proofs.times.Goals as goal
 
 pub shift-requires-clause-table : goal.shift-requires-clause-table
@@ -31,6 +31,13 @@ returns-clause-no_delay c =
     let built = built_net shape.odd c.args.width shape.row_width shape.zeros c.in_ok-node.node c.in_ok-net.net c.shift.new.net c.output.new.self
     c.in_ok-output.ensures.ok c.in_ok-node.ensures.ok c.in_ok-net.ensures.ok c.in_ok-node.ensures.place in
     subst HasNoDelay (sym built) (no_delay shape.odd c.args.width shape.row_width shape.zeros)
+
+pub returns-clause-few : goal.returns-clause-few
+returns-clause-few c =
+    let shape = c.table_shape-shape.result in
+    let built = built_net shape.odd c.args.width shape.row_width shape.zeros c.in_ok-node.node c.in_ok-net.net c.shift.new.net c.output.new.self
+    c.in_ok-output.ensures.ok c.in_ok-node.ensures.ok c.in_ok-net.ensures.ok c.in_ok-node.ensures.place in
+    subst (λ n. length n.nodes ≤ 3) (sym built) (few_nodes shape.odd c.args.width shape.row_width shape.zeros)
 
 pub returns-clause-times : goal.returns-clause-times
 returns-clause-times c =
