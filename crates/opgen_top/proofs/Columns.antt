@@ -1,8 +1,8 @@
 -- The widths of a design's ports, and rows of cells for them.
-use Rattle.std.proofs.Common.{◌≡◌, inl, inr, ℕ, zero, suc, ◌+◌, ◌-◌, ◌*◌, ◌/◌, ◌<◌, ◌≤◌, max, List, [], ◌∷◌, length, take, drop, map, Some, refl, sym, ap, ◌∙◌, subst, arith}
+use Rattle.std.proofs.Common.{◌≡◌, inl, inr, ℕ, zero, suc, ◌+◌, ◌-◌, ◌*◌, ◌/◌, ◌<◌, ◌≤◌, ◌^◌, max, Bool, true, false, List, [], ◌∷◌, ◌++◌, length, take, drop, get_or, map, Some, refl, sym, ap, ◌∙◌, subst, arith, append_assoc}
 use Rattle.std.specs.Prelude.{All, IfSome, slice_get, if◌then◌else◌}
 use Rattle.std.proofs.Math.Nat.{mul-div_cancel_left}
-use Rattle.std.proofs.lemmas.List.{length-take, length-drop, length-map}
+use Rattle.std.proofs.lemmas.List.{length-take, length-drop, drop_more}
 use Rattle.std.proofs.lemmas.List.Elements.{All-nil, All-cons}
 use Rattle.opgen_net.specs.declared.design.Design.{Design}
 use Rattle.opgen_net.specs.declared.design.Dir.{Dir}
@@ -15,6 +15,25 @@ use Rattle.opgen_vec.specs.Rows.{AreCells, AreRowsOfCells}
 use Rattle.opgen_vec.specs.Writing.{row_count, row_count_of, HaveSameRows}
 use Rattle.opgen_vec.proofs.Rows.{length-cells}
 use Rattle.opgen_top.specs.Running.{output_widths}
+
+-- the widths of the ports of one direction, port after port
+abbrev pub widths_on : (is : Dir → Bool) → List Port → List ℕ
+widths_on is ps = at_ports is ps (map (λ p. p.width) ps)
+
+module _ (is : Dir → Bool) (ps : List Port) (i : ℕ) (p : Port) (here : i < length ps) (e : p ≡ get_or ps i p) (all seen : List ℕ)
+    (so_far : all ≡ seen ++ widths_on is (drop i ps)) where
+  next_port : widths_on is (drop i ps) ≡ (if is p.dir then p.width ∷ widths_on is (drop (i + 1) ps) else widths_on is (drop (i + 1) ps))
+  next_port = ap (widths_on is) (drop_more ps i p here ∙ ap (λ q. q ∷ drop (i + 1) ps) (sym e))
+
+  pub port_kept : is p.dir ≡ true → all ≡ (seen ++ p.width ∷ []) ++ widths_on is (drop (i + 1) ps)
+  port_kept kept =
+      let rest = widths_on is (drop (i + 1) ps) in
+      so_far ∙ ap (λ ws. seen ++ ws) (next_port ∙ ap (λ b. if b then p.width ∷ rest else rest) kept) ∙ sym (append_assoc seen (p.width ∷ []) rest)
+
+  pub port_passed : is p.dir ≡ false → all ≡ seen ++ widths_on is (drop (i + 1) ps)
+  port_passed passed =
+      let rest = widths_on is (drop (i + 1) ps) in
+      so_far ∙ ap (λ ws. seen ++ ws) (next_port ∙ ap (λ b. if b then p.width ∷ rest else rest) passed)
 
 -- a port stands on one side
 one_side : (dir : Dir) (w : ℕ) (is os : List ℕ) → length (if is_in dir then w ∷ is else is) + length (if is_out dir then w ∷ os else os) ≡ suc (length is + length os)
@@ -71,7 +90,7 @@ later_rows widths cells (suc rows) some (is, are) =
     subst (λ n. AreRowsOfCells widths n (drop (length widths) cells)) less are
 
 pub length-rows_of_cells : (widths cells : List ℕ) (rows : ℕ) → AreRowsOfCells widths rows cells → length cells ≡ rows * length widths
-length-rows_of_cells widths cells zero none = ap length none
+length-rows_of_cells widths cells zero none = omega (arith, ap length none)
 length-rows_of_cells widths cells (suc rows) are =
     let room = row_room widths cells (suc rows) (omega arith) are in
     let rest = length-rows_of_cells widths (drop (length widths) cells) rows are.1 in

@@ -19,13 +19,19 @@ pub(crate) struct Rows {
     pub inputs: Vectors,
 }
 
+fn is_of(dir: Dir, port: &Port) -> bool
+    ensures { result ≡ is_of dir port.now.dir }
+{
+    port.dir == dir
+}
+
 /// The widths of the ports of a direction, in order.
 pub(crate) fn port_widths(alloc: Global, ports: &[Port], dir: Dir) -> Result<Vec<u32>, AllocError>
     ensures { IfOk result (λ widths. widths.items ≡ at_ports (is_of dir) ports.now (map (λ p. p.width) ports.now)) }
 {
     let mut widths = Vec::new(alloc);
     for port in ports {
-        if port.dir == dir {
+        if is_of(dir, port) {
             widths.push(port.width)?;
         }
     }
@@ -78,5 +84,11 @@ pub(crate) fn run_text(alloc: Global, design: &Design, rows: &Rows) -> Result<Ve
         columns: out_widths.len() as u32,
         cells: Items::from_vec(cells),
     };
-    write_rows(alloc, &rows.inputs, &outputs, &in_widths, &out_widths)
+    Ok(write_rows(
+        alloc,
+        &rows.inputs,
+        &outputs,
+        &in_widths,
+        &out_widths,
+    )?)
 }
