@@ -27,11 +27,21 @@ const FIVE: &str =
 
 /// VHDL and vectors, and the rows and the line that they give.
 static ROWS: [(&str, &str, &str, &str); 6] = [
-    (TIMES3, "0\n1\nf\n", "0 : 00\n1 : 03\nf : 2d\n", "simulated 3 cycles\n"),
+    (
+        TIMES3,
+        "0\n1\nf\n",
+        "0 : 00\n1 : 03\nf : 2d\n",
+        "simulated 3 cycles\n",
+    ),
     // Capitals, a carriage return, and a last line without a line feed.
     (TIMES3, "A\r\nB", "a : 1e\nb : 21\n", "simulated 2 cycles\n"),
     (TIMES3, "", "", "simulated 0 cycles\n"),
-    (HELD, "1 02\nf 1f\n0 00\n", "1 02 : 11\nf 1f : 03\n0 00 : 0e\n", "simulated 3 cycles\n"),
+    (
+        HELD,
+        "1 02\nf 1f\n0 00\n",
+        "1 02 : 11\nf 1f : 03\n0 00 : 0e\n",
+        "simulated 3 cycles\n",
+    ),
     (FIVE, "\n\r\n", " : 5\n : 5\n", "simulated 2 cycles\n"),
     (FIVE, "", "", "simulated 0 cycles\n"),
 ];
@@ -88,11 +98,36 @@ fn too_many_rows(rt: HostRuntime) -> Result<(), Fail> {
 /// The words, calls of the folder that fail, and the status and the line: the VHDL is fetched before
 /// the vectors, and both before either is judged.
 static FETCHES: [(&[&str], &[u64], u8, &str); 6] = [
-    (&["simulate", "a.vhd", "none", "out.vec"], &[], 3, "read fault\n"),
-    (&["simulate", "none", "in.vec", "out.vec"], &[], 3, "read fault\n"),
-    (&["simulate", "bad.vhd", "none", "out.vec"], &[], 3, "read fault\n"),
-    (&["simulate", "a.vhd", "in.vec", "out.vec"], &[0], 3, "read fault\n"),
-    (&["simulate", "a.vhd", "in.vec", "out.vec"], &[1], 3, "read fault\n"),
+    (
+        &["simulate", "a.vhd", "none", "out.vec"],
+        &[],
+        3,
+        "read fault\n",
+    ),
+    (
+        &["simulate", "none", "in.vec", "out.vec"],
+        &[],
+        3,
+        "read fault\n",
+    ),
+    (
+        &["simulate", "bad.vhd", "none", "out.vec"],
+        &[],
+        3,
+        "read fault\n",
+    ),
+    (
+        &["simulate", "a.vhd", "in.vec", "out.vec"],
+        &[0],
+        3,
+        "read fault\n",
+    ),
+    (
+        &["simulate", "a.vhd", "in.vec", "out.vec"],
+        &[1],
+        3,
+        "read fault\n",
+    ),
     (&["simulate", "a.vhd", "in.vec", "out.vec"], &[2], 4, ""),
 ];
 

@@ -33,14 +33,7 @@ fn refusals(rt: HostRuntime) -> Result<(), Fail> {
     assert!(rt; fault.out.bytes() == "specification: MissingKey name\n".as_bytes());
 
     let seven = scale(rt.alloc(), "seven", "7", "3")?;
-    let unsupported = ran(
-        rt.alloc(),
-        &words,
-        "spec.toml",
-        seven.as_bytes(),
-        &[],
-        &[],
-    )?;
+    let unsupported = ran(rt.alloc(), &words, "spec.toml", seven.as_bytes(), &[], &[])?;
     assert_eq!(rt; unsupported.status.0, 1);
     assert!(rt; unsupported.out.bytes() == "specification: Unsupported\n".as_bytes());
     assert!(rt; unsupported.folder.get("seven.vec").is_none());

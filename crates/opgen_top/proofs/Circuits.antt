@@ -63,15 +63,17 @@ other_kind (Output place e) = refl
 
 pub few_places : (name : List ℕ) (width factor : ℕ) (net : Net) → IsTimes width factor net → length net.nodes ≤ 3 → HasNumbers (design_of name net)
 few_places name width factor net times few =
+    let d = design_of name net in
     let ws = widths net.nodes in
     let nodes = each_node (node_driver ws) 0 net.nodes in
-    let rest = filter is_register nodes ++ output_drivers ws (length net.inputs) net.outputs in
-    let ports : length (map input_port net.inputs ++ map output_port net.outputs) ≡ 2 =
+    let others = filter (λ k. not (is_register k)) nodes in
+    let registers = filter is_register nodes in
+    let last = output_drivers ws (length net.inputs) net.outputs in
+    let ports : length d.ports ≡ 2 =
     ap (λ is. length (map input_port is ++ map output_port net.outputs)) times.inputs ∙ ap (λ os. suc (length (map output_port os))) times.outputs in
-    let signals = length-each (node_signal net) 0 net.nodes in
-    let outputs : length (output_drivers ws (length net.inputs) net.outputs) ≡ 1 = ap (λ os. length (output_drivers ws (length net.inputs) os)) times.outputs in
+    let signals : length d.signals ≡ length net.nodes = length-each (node_signal net) 0 net.nodes in
+    let outputs : length last ≡ 1 = ap (λ os. length (output_drivers ws (length net.inputs) os)) times.outputs in
     let kept = length-filter_both (λ k. not (is_register k)) is_register other_kind nodes in
-    let all : length (filter (λ k. not (is_register k)) nodes ++ rest) ≡ length net.nodes + 1 =
-    length-append (filter (λ k. not (is_register k)) nodes) rest
-    ∙ omega (arith, length-append (filter is_register nodes) (output_drivers ws (length net.inputs) net.outputs), kept, length-each (node_driver ws) 0 net.nodes, outputs) in
-    omega (arith, few, ports, signals, all)
+    let drivers : length d.drivers ≡ length net.nodes + 1 =
+    length-append (others ++ registers) last ∙ omega (arith, length-append others registers, kept, length-each (node_driver ws) 0 net.nodes, outputs) in
+    omega (arith, few, ports, signals, drivers)

@@ -14,3 +14,5 @@ pub mod Columns
 pub mod SomePort
 pub mod PreparingRuns
 pub mod Vectoring
+pub mod Holding
+pub mod Hyphens

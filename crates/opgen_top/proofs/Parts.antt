@@ -1,6 +1,7 @@
 -- Parts of lines, and statuses with and without a line.
 use Rattle.std.proofs.Common.{◌≡◌, ◌⊎◌, inl, inr, ℕ, ◌-◌, List, ◌++◌, length, take, Option, Some, None, sym, ap, ◌∙◌, arith, append-nil}
 use Rattle.opgen_io.specs.Bytes.{TakesPrefix}
+use Rattle.opgen_top.specs.Answer.{Answer, IsAnswer}
 use Rattle.opgen_top.specs.Statuses.{HasLine, IsSilent, TellsOfFiles, TellsOr}
 
 pub takes-nothing : (taken : Option (List ℕ)) (line : List ℕ) → TakesPrefix taken line taken
@@ -49,3 +50,16 @@ tells_line result (inl e) = inl e
 tells_line result (inr (inl e)) = inr (inl e)
 tells_line result (inr (inr (inl e))) = inr (inr (inr (inr (inl e))))
 tells_line result (inr (inr (inr e))) = inr (inr (inr (inr (inr (inl e)))))
+
+-- an answer has the status of a line
+pub answer_line : (a : Answer) → IsAnswer a → HasLine a.status
+answer_line a (inl e) = inr (inr (inl (ap (λ (b : Answer). b.status) e)))
+answer_line a (inr (inl e)) = inr (inr (inr (inl (ap (λ (b : Answer). b.status) e))))
+answer_line a (inr (inr (inl e))) = inr (inr (inr (inr (inr (inr (ap (λ (b : Answer). b.status) e))))))
+answer_line a (inr (inr (inr (inl e)))) = inr (inl (ap (λ (b : Answer). b.status) e))
+answer_line a (inr (inr (inr (inr (inl (inl (fault, e))))))) = inr (inl (ap (λ (b : Answer). b.status) e))
+answer_line a (inr (inr (inr (inr (inl (inr (inl (fault, e)))))))) = inr (inr (inr (inr (inl (ap (λ (b : Answer). b.status) e)))))
+answer_line a (inr (inr (inr (inr (inl (inr (inr (fault, e)))))))) = inr (inr (inr (inr (inr (inl (ap (λ (b : Answer). b.status) e))))))
+answer_line a (inr (inr (inr (inr (inr (inl (name, e))))))) = inl (ap (λ (b : Answer). b.status) e)
+answer_line a (inr (inr (inr (inr (inr (inr (inl (name, e)))))))) = inl (ap (λ (b : Answer). b.status) e)
+answer_line a (inr (inr (inr (inr (inr (inr (inr (rows, e)))))))) = inl (ap (λ (b : Answer). b.status) e)

@@ -26,7 +26,7 @@ fn starts_with_hyphen(word: &str) -> bool
 }
 
 fn has_hyphen(files: &[String]) -> bool
-    ensures { result ≡ list_any starts_with_hyphen (map string_bytes files.now) }
+    ensures { result ≡ list_any (λ file. starts_with_hyphen (string_bytes file)) files.now }
 {
     files.iter().any(|file| starts_with_hyphen(file))
 }
@@ -37,12 +37,17 @@ fn command_on<'a>(name: &str, files: &'a [String]) -> Option<Command<'a>>
     match files {
         [spec] if name == "generate" => Some(Command::Generate { spec }),
         [spec] if name == "vectors" => Some(Command::Vectors { spec }),
-        [vhdl, vectors, out] if name == "simulate" => Some(Command::Simulate { vhdl, vectors, out }),
+        [vhdl, vectors, out] if name == "simulate" => Some(Command::Simulate {
+            vhdl,
+            vectors,
+            out,
+        }),
         _ => None,
     }
 }
 
 /// The command that the words name.
+#[tactic(auto, using(crate::proofs::Hyphens::any_map))]
 pub(crate) fn command_of(words: &[String]) -> Option<Command<'_>>
     ensures { option_map plain result ≡ command_of (map string_bytes words.now) }
 {

@@ -84,11 +84,5 @@ pub(crate) fn run_text(alloc: Global, design: &Design, rows: &Rows) -> Result<Ve
         columns: out_widths.len() as u32,
         cells: Items::from_vec(cells),
     };
-    Ok(write_rows(
-        alloc,
-        &rows.inputs,
-        &outputs,
-        &in_widths,
-        &out_widths,
-    )?)
+    Ok(write_rows(alloc, &rows.inputs, &outputs, &in_widths, &out_widths)?)
 }

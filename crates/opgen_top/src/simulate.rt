@@ -81,9 +81,7 @@ fn vectors_rows(alloc: Global, bytes: &[u8], widths: &[u32]) -> Result<Rows, Ref
     match read_rows(alloc, bytes, widths) {
         Ok(rows) => Ok(rows),
         Err(VecFault::Memory) => Err(Refusal::Memory),
-        Err(fault) => Err(Refusal::Line(Line::VectorsRefused(vectors_refused(
-            alloc, fault,
-        )?))),
+        Err(fault) => Err(Refusal::Line(Line::VectorsRefused(vectors_refused(alloc, fault)?))),
     }
 }
 

@@ -7,6 +7,7 @@ ghost use Rattle.opgen_top.specs.Answer.{answer_of, answer_of_reading, vectors_n
 ghost use Rattle.opgen_top.specs.Built.{multiplication};
 ghost use Rattle.opgen_top.specs.Vectors.{IsVectors};
 ghost use Rattle.opgen_top.specs.declared.line.Line.{Line as LineData};
+ghost use Rattle.opgen_top.specs.declared.line.Line.TheVariants as lines;
 
 use crate::generate::{Buildable, circuit, judged};
 use crate::made::{MadeFile, Refusal};
@@ -33,8 +34,8 @@ fn wrote_vectors(alloc: Global, name: &str) -> Result<String, AllocError>
 /// What `vectors` makes of the bytes of a specification.
 pub(crate) fn vectors_of(alloc: Global, bytes: &[u8]) -> Result<MadeFile, Refusal>
     ensures vectors { IfOk result (λ v. IsVectors bytes.now (string_bytes v.file) v.text.items) }
-    ensures line { IfOk result (λ v. answer_of (Line.Wrote v.line) ≡ answer_of_reading wrote_vectors (read (tree bytes.now))) }
-    ensures named { IfOk result (λ v. (name : List ℕ) × (answer_of (Line.Wrote v.line) ≡ wrote_vectors name)) }
+    ensures line { IfOk result (λ v. answer_of (lines.Wrote v.line) ≡ answer_of_reading wrote_vectors (read (tree bytes.now))) }
+    ensures named { IfOk result (λ v. (name : List ℕ) × (answer_of (lines.Wrote v.line) ≡ wrote_vectors name)) }
     ensures refused_line { (line : LineData) → result ≡ Err (Refusal.Line line) →
         answer_of line ≡ answer_of_reading wrote_vectors (read (tree bytes.now)) }
     ensures refused_status { (line : LineData) → result ≡ Err (Refusal.Line line) → (answer_of line).status ≡ 1 }

@@ -37,4 +37,4 @@ returns-clause-made c =
 pub returns-clause-numbers : goal.returns-clause-numbers
 returns-clause-numbers c =
     let net = c.in_ok-net.net in
-    subst HasNumbers (sym c.in_ok-flat.ensures.design) (few_places _ c.args.asked.width c.args.asked.factor net c.in_ok-net.ensures.times c.in_ok-net.ensures.few)
+    subst HasNumbers (sym c.in_ok-flat.ensures.design) (few_places c.as_str.result.now c.args.asked.width c.args.asked.factor net c.in_ok-net.ensures.times c.in_ok-net.ensures.few)

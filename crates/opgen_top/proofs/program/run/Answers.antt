@@ -1,7 +1,7 @@
 use Rattle.std.proofs.Common.{◌≡◌, ◌++◌, Some, refl, sym, ap, ◌∙◌, inl, inr, arith}
 use Rattle.opgen_top.specs.Answer.{Answer, answer_of, usage}
 use Rattle.opgen_top.specs.Statuses.{HasLine}
-use Rattle.opgen_top.proofs.Parts.{takes-nothing, told_status, not_silent, no_fault, tells_line}
+use Rattle.opgen_top.proofs.Parts.{takes-nothing, told_status, not_silent, no_fault, tells_line, answer_line}
 use Rattle.opgen_top.proofs.program.run.Goals as goal
 
 pub returns-in-Ok-clause-stored : goal.returns-in-Ok-clause-stored
@@ -44,6 +44,14 @@ returns-in-Ok-clause-one_line g c held tells h =
       sym status,
       elim (c.printed.ensures.taken held tells) [ inl silent ↦ absurd (not_silent _ h silent) | inr e ↦ e ],
     )
+
+pub returns-in-Ok-clause-left : goal.returns-in-Ok-clause-left
+returns-in-Ok-clause-left g c files told silent =
+    let line = c.in-Ok.line in
+    elim (answer_line (answer_of line) c.in-Ok.ensures.listed) [
+      | inl ok ↦ inr (inl (c.answer.ensures.stored files told line c.in-Ok.is ok))
+      | inr refuses ↦ inl (c.in-Ok.ensures.unchanged refuses ∙ told)
+    ]
 
 pub returns-in-Err-clause-part : goal.returns-in-Err-clause-part
 returns-in-Err-clause-part g c h = (usage, inl refl, takes-nothing _ usage.line)
