@@ -1,5 +1,5 @@
 -- The rows of vectors without cells.
-use Rattle.std.proofs.Common.{◌≡◌, ℕ, zero, suc, List, [], ◌∷◌, length, refl, sym, ap, ◌∙◌, subst, arith}
+use Rattle.std.proofs.Common.{◌≡◌, ℕ, zero, suc, List, [], ◌∷◌, length, refl, sym, subst, arith}
 use Rattle.std.specs.Str.Lines.{lines}
 use Rattle.opgen_vec.specs.Reading.{AreVectors}
 use Rattle.opgen_vec.specs.Rows.{AreRowsOfCells}

@@ -1,5 +1,5 @@
 -- Parts of lines, and statuses with and without a line.
-use Rattle.std.proofs.Common.{◌≡◌, ◌⊎◌, inl, inr, ℕ, ◌-◌, List, ◌++◌, length, take, Option, Some, None, sym, ap, ◌∙◌, arith, append-nil}
+use Rattle.std.proofs.Common.{◌≡◌, inl, inr, ℕ, ◌-◌, List, ◌++◌, length, take, Option, Some, None, sym, ap, ◌∙◌, arith, append-nil}
 use Rattle.opgen_io.specs.Bytes.{TakesPrefix}
 use Rattle.opgen_top.specs.Answer.{Answer, IsAnswer}
 use Rattle.opgen_top.specs.Statuses.{HasLine, IsSilent, TellsOfFiles, TellsOr}

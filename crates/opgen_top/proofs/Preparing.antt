@@ -19,7 +19,7 @@ use Rattle.opgen_top.specs.Command.{Command, Generate, Vectors}
 use Rattle.opgen_top.specs.Due.{most_bytes, OnFetch, IsDue, IsDueOfSpec, IsMissing, IsTooLong, IsRefused, IsRefusedSpec}
 use Rattle.opgen_top.specs.Generate.{IsGenerated}
 use Rattle.opgen_top.specs.Vectors.{IsVectors}
-use Rattle.opgen_top.specs.Prepared.{Reads, Prepares, IsMade, IsRefusal, Fetches}
+use Rattle.opgen_top.specs.Prepared.{Reads, Prepares, IsRefusal, Fetches}
 use Rattle.opgen_top.proofs.Unfetched.{unfetched-refused}
 
 -- a file that was fetched whole

@@ -1,5 +1,5 @@
 -- From what VHDL and vectors give to what `simulate` makes of its files.
-use Rattle.std.proofs.Common.{◌≡◌, ◌⊎◌, inl, inr, ℕ, ◌≤◌, List, length, Option, Some, Result, Ok, Err, sym, ap, ◌∙◌, subst, arith, refl}
+use Rattle.std.proofs.Common.{◌≡◌, ◌⊎◌, inl, inr, ℕ, ◌≤◌, List, length, Option, Some, Result, Ok, Err, sym, ap, subst, arith, refl}
 use Rattle.std.specs.Prelude.{string_bytes, None, IfOk}
 use Rattle.std.specs.Str.Lines.{lines}
 use Rattle.opgen_io.specs.Answers.{fetched}

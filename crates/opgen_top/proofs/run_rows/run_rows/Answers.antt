@@ -1,4 +1,4 @@
-use Rattle.std.proofs.Common.{◌≡◌, ◌++◌, length, take, drop, ap, ◌∙◌, arith}
+use Rattle.std.proofs.Common.{◌++◌, length, take, drop, ap, ◌∙◌, arith}
 use Rattle.opgen_net.specs.Run.{input_widths}
 use Rattle.opgen_sim.specs.Sims.{registers, simulated}
 use Rattle.opgen_top.proofs.Columns.{row_room, later_rows}
