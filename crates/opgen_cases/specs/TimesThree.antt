@@ -2,15 +2,15 @@
 use Rattle.std.specs.Prelude.{◌≡◌, pos, negsuc, true, false, None, Some, [], ◌∷◌, ◌++◌, codes, decimal, List, Bool}
 use Rattle.opgen_net.specs.declared.net.Net.{Net}
 use Rattle.opgen_net.specs.declared.node.Node.TheVariants as node
-use Rattle.opgen_net.specs.declared.expr.Op.TheVariants.{Plus, Minus, Cat}
-use Rattle.opgen_net.specs.declared.design.Design.{Design}
-use Rattle.opgen_net.specs.declared.design.Dir.TheVariants.{In, Out}
-use Rattle.opgen_net.specs.declared.design.Driver.TheVariants.{Assign, Table, Output}
-use Rattle.opgen_net.specs.Tree.{Tree, name, part, bits, port, inverse, chain, none, more}
-use Rattle.opgen_net.specs.Value.{Scope, value}
-use Rattle.opgen_net.specs.Width.{width, nesting}
+use Rattle.opgen_design.specs.declared.expr.Op.TheVariants.{Plus, Minus, Cat}
+use Rattle.opgen_design.specs.declared.design.Design.{Design}
+use Rattle.opgen_design.specs.declared.design.Dir.TheVariants.{In, Out}
+use Rattle.opgen_design.specs.declared.design.Driver.TheVariants.{Assign, Table, Output}
+use Rattle.opgen_design.specs.Tree.{Tree, name, part, bits, port, inverse, chain, none, more}
+use Rattle.opgen_design.specs.Value.{Scope, value}
+use Rattle.opgen_design.specs.Width.{width, nesting}
 use Rattle.opgen_net.specs.Flow.{Inputs, flow}
-use Rattle.opgen_net.specs.Run.{Words, Cycle}
+use Rattle.opgen_design.specs.Run.{Words, Cycle}
 use Rattle.opgen_net.specs.Made.{design_of}
 
 -- the words of two bits, the lowest bit first

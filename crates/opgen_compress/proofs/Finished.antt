@@ -13,8 +13,8 @@ use Rattle.opgen_num.proofs.Words.{nat-below}
 use Rattle.opgen_heap.specs.Contents.{Contents}
 use Rattle.opgen_heap.specs.Sum.{Words, bit_under, ones, columns_sum}
 use Rattle.opgen_net.specs.declared.cell.Class.TheVariants.{Wire, Add}
-use Rattle.opgen_net.specs.declared.expr.Slice.{Slice}
-use Rattle.opgen_net.specs.declared.expr.Op.TheVariants.{Plus}
+use Rattle.opgen_design.specs.declared.expr.Slice.{Slice}
+use Rattle.opgen_design.specs.declared.expr.Op.TheVariants.{Plus}
 use Rattle.opgen_net.specs.declared.net.Net.{Net}
 use Rattle.opgen_net.specs.declared.node.Node.{Node}
 use Rattle.opgen_net.specs.declared.node.Node.TheVariants.{Constant, Cells}
@@ -22,16 +22,16 @@ use Rattle.opgen_net.specs.declared.word_bits.WordBit.{WordBit}
 use Rattle.opgen_net.specs.declared.word_bits.WordBit.TheVariants.{Zero, One, Of}
 use Rattle.opgen_net.specs.declared.word_bits.Piece.{Piece}
 use Rattle.opgen_net.specs.declared.word_bits.Piece.TheVariants.{Bits, Part}
-use Rattle.opgen_net.specs.Tree.{name, none, more}
+use Rattle.opgen_design.specs.Tree.{name, none, more}
 use Rattle.opgen_net.specs.Flow.{Inputs, KeepsFlow, flow}
 use Rattle.opgen_net.specs.Made.{slice_tree}
-use Rattle.opgen_net.specs.Run.{AreWords}
+use Rattle.opgen_design.specs.Run.{AreWords}
 use Rattle.opgen_net.specs.Valid.{widths, input_widths, IsValid, FitsNodes}
-use Rattle.opgen_net.specs.Width.{IsWidth, as_width, joined, width, width_on}
+use Rattle.opgen_design.specs.Width.{IsWidth, as_width, joined, width, width_on}
 use Rattle.opgen_net.specs.WordRule.{IsThere, HasBits, bit_flow, word_flow, runs, is_whole, word_tree, with_node, with_runs, with_word}
 use Rattle.opgen_net.proofs.Appending.{flow-append_last, width-append_before}
 use Rattle.opgen_net.proofs.FlowLaws.{index_within, length-widths}
-use Rattle.opgen_net.proofs.WidthLaws.{length-sum_with, as_width-of}
+use Rattle.opgen_design.proofs.WidthLaws.{length-sum_with, as_width-of}
 use Rattle.opgen_compress.specs.Adder.{two}
 use Rattle.opgen_compress.specs.Recipe.{Column, State, all_columns, heights_below, lowered, row, fullest}
 use Rattle.opgen_compress.specs.Kept.{AllThere, words_at, IsSumOfColumns, IsSumOf}

@@ -8,16 +8,16 @@ use Rattle.std.proofs.lemmas.List.Elements.{All-cons, All-nil}
 use Rattle.opgen_num.specs.Words.{digit}
 use Rattle.opgen_num.specs.Sums.{xor}
 use Rattle.opgen_heap.specs.Sum.{bit_under}
-use Rattle.opgen_net.specs.declared.expr.Op.{Op}
-use Rattle.opgen_net.specs.declared.expr.Op.TheVariants.{And, Or, Xor}
+use Rattle.opgen_design.specs.declared.expr.Op.{Op}
+use Rattle.opgen_design.specs.declared.expr.Op.TheVariants.{And, Or, Xor}
 use Rattle.opgen_net.specs.declared.net.Net.{Net}
 use Rattle.opgen_net.specs.declared.word_bits.WordBit.{WordBit}
 use Rattle.opgen_net.specs.declared.word_bits.WordBit.TheVariants.{Zero, One, Of}
-use Rattle.opgen_net.specs.Tree.{Tree, Trees, none, more, name, part}
-use Rattle.opgen_net.specs.Value.{Scope, value, combined, cut}
-use Rattle.opgen_net.specs.Width.{IsWidth, joined, width, width_on, nesting, in_chain}
+use Rattle.opgen_design.specs.Tree.{Tree, Trees, none, more, name, part}
+use Rattle.opgen_design.specs.Value.{Scope, value, combined, cut}
+use Rattle.opgen_design.specs.Width.{IsWidth, joined, width, width_on, nesting, in_chain}
 use Rattle.opgen_net.specs.Flow.{Inputs, flow}
-use Rattle.opgen_net.specs.Run.{AreWords}
+use Rattle.opgen_design.specs.Run.{AreWords}
 use Rattle.opgen_net.specs.Valid.{widths, input_widths, IsValid, FitsNodes}
 use Rattle.opgen_net.specs.WordRule.{IsThere}
 use Rattle.opgen_net.proofs.FlowWidths.{flow-width}

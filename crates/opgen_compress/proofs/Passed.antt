@@ -9,7 +9,7 @@ use Rattle.opgen_heap.proofs.Sums.{ones-append}
 use Rattle.opgen_net.specs.declared.net.Net.{Net}
 use Rattle.opgen_net.specs.declared.word_bits.WordBit.{WordBit}
 use Rattle.opgen_net.specs.Flow.{Inputs}
-use Rattle.opgen_net.specs.Run.{AreWords}
+use Rattle.opgen_design.specs.Run.{AreWords}
 use Rattle.opgen_net.specs.Valid.{widths, input_widths, IsValid}
 use Rattle.opgen_net.specs.WordRule.{IsThere}
 use Rattle.opgen_compress.specs.Adder.{Work}

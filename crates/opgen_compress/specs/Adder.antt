@@ -1,14 +1,14 @@
 -- The nodes of a full adder, which adds three bits of one weight, and of a half adder, which adds two.
 use Rattle.std.specs.Prelude.{ℕ, Bool, true, false, List, [], ◌∷◌, ◌++◌, length}
 use Rattle.opgen_net.specs.declared.cell.Class.TheVariants.{Logic}
-use Rattle.opgen_net.specs.declared.expr.Op.{Op}
-use Rattle.opgen_net.specs.declared.expr.Op.TheVariants.{And, Or, Xor}
+use Rattle.opgen_design.specs.declared.expr.Op.{Op}
+use Rattle.opgen_design.specs.declared.expr.Op.TheVariants.{And, Or, Xor}
 use Rattle.opgen_net.specs.declared.net.Net.{Net}
 use Rattle.opgen_net.specs.declared.node.Node.TheVariants.{Cells}
 use Rattle.opgen_net.specs.declared.word_bits.WordBit.{WordBit}
 use Rattle.opgen_net.specs.declared.word_bits.WordBit.TheVariants.{Of}
-use Rattle.opgen_net.specs.Tree.{Tree, chain}
-use Rattle.opgen_net.specs.Plain.{trees_of}
+use Rattle.opgen_design.specs.Tree.{Tree, chain}
+use Rattle.opgen_design.specs.Plain.{trees_of}
 use Rattle.opgen_net.specs.Valid.{widths}
 use Rattle.opgen_net.specs.WordRule.{alone, run_tree}
 

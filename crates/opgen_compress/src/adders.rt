@@ -1,5 +1,5 @@
 ghost use Rattle.std.specs.Prelude.{◌≡◌, ◌≤◌, ◌+◌, [], ◌∷◌, ◌++◌, length, All, IfOk, OnOk};
-ghost use Rattle.opgen_net.specs.Plain.{plain};
+ghost use Rattle.opgen_design.specs.Plain.{plain};
 ghost use Rattle.opgen_net.specs.Valid.{IsValid, FitsNodes, widths};
 ghost use Rattle.opgen_net.specs.WordRule.{IsThere};
 ghost use Rattle.opgen_net.specs.Flow.{KeepsFlow};
@@ -10,7 +10,8 @@ ghost use Rattle.opgen_compress.specs.Adder.{full_adder as full_adder_of, half_a
 
 use crate::queue::Queue;
 use opgen_list::Items;
-use opgen_net::{Class, Expr, Net, Op, Slice, WordBit};
+use opgen_design::{Expr, Op, Slice};
+use opgen_net::{Class, Net, WordBit};
 use opgen_num::{Memory, Word};
 use std::alloc::{AllocError, Global};
 

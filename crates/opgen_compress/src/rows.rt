@@ -1,20 +1,21 @@
 ghost use Rattle.std.specs.Prelude.{◌≡◌, ◌≤◌, ◌%◌, ◌^◌, ℕ, ℤ, length, slice_index, All, IfOk, OnOk};
 ghost use Rattle.opgen_num.specs.Words.{nat};
 ghost use Rattle.opgen_net.specs.Flow.{Inputs, KeepsFlow, flow};
-ghost use Rattle.opgen_net.specs.Run.{AreWords};
+ghost use Rattle.opgen_design.specs.Run.{AreWords};
 ghost use Rattle.opgen_net.specs.Valid.{IsValid, input_widths, widths};
-ghost use Rattle.opgen_net.specs.Width.{IsWidth};
+ghost use Rattle.opgen_design.specs.Width.{IsWidth};
 ghost use Rattle.opgen_net.specs.declared.net.Net.{Net};
 ghost use Rattle.opgen_compress.specs.Recipe.{Answer, row as row_of, fullest as fullest_of, finished};
 ghost use Rattle.opgen_compress.specs.Adder.{two};
-ghost use Rattle.opgen_net.specs.Plain.{plain};
-ghost use Rattle.opgen_net.specs.Tree.{name};
-ghost use Rattle.opgen_net.specs.declared.expr.Op.TheVariants.{Plus};
+ghost use Rattle.opgen_design.specs.Plain.{plain};
+ghost use Rattle.opgen_design.specs.Tree.{name};
+ghost use Rattle.opgen_design.specs.declared.expr.Op.TheVariants.{Plus};
 ghost use Rattle.opgen_compress.specs.Kept.{AllThere, IsSumOfColumns};
 
 use crate::passes::fullest;
 use crate::queue::Queue;
-use opgen_net::{Class, Expr, Net, Op, WordBit};
+use opgen_design::{Expr, Op};
+use opgen_net::{Class, Net, WordBit};
 use opgen_num::Memory;
 use std::alloc::{AllocError, Global};
 

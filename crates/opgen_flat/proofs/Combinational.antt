@@ -7,11 +7,12 @@ use Rattle.std.proofs.lemmas.List.{drop_more, append-nil, append_assoc}
 use Rattle.opgen_net.specs.declared.node.Node.{Node}
 use Rattle.opgen_net.specs.declared.node.Node.TheVariants.{Input, Constant, Cells, Choice, Table, Delay}
 use Rattle.opgen_net.specs.declared.net.Net.{Net}
-use Rattle.opgen_net.specs.declared.design.Signal.{Signal}
-use Rattle.opgen_net.specs.declared.design.Design.{Design}
-use Rattle.opgen_net.specs.declared.design.Port.{Port}
-use Rattle.opgen_net.specs.declared.design.Driver.{Driver}
-use Rattle.opgen_net.specs.Made.{signal_name, initial_of, node_signal, node_driver, each_node, output_drivers, is_register, input_port, output_port, drivers_of, design_of}
+use Rattle.opgen_design.specs.declared.design.Signal.{Signal}
+use Rattle.opgen_design.specs.declared.design.Design.{Design}
+use Rattle.opgen_design.specs.declared.design.Port.{Port}
+use Rattle.opgen_design.specs.declared.design.Driver.{Driver}
+use Rattle.opgen_net.specs.Made.{signal_name, initial_of, node_signal, node_driver, each_node, output_drivers, input_port, output_port, drivers_of, design_of}
+use Rattle.opgen_design.specs.Order.{is_register}
 use Rattle.opgen_net.specs.Valid.{widths}
 use Rattle.opgen_net.specs.Valid.{is_delay, HasNoDelay}
 use Rattle.opgen_flat.proofs.Filters.{filter-kept, filter-dropped}

@@ -6,18 +6,18 @@ use Rattle.std.proofs.lemmas.List.{take_all}
 use Rattle.std.proofs.lemmas.Option.{get_or_from_slice_get, slice_get_within}
 use Rattle.opgen_num.specs.Words.{nat}
 use Rattle.opgen_net.specs.declared.cell.Class.{Class}
-use Rattle.opgen_net.specs.declared.expr.Slice.{Slice}
+use Rattle.opgen_design.specs.declared.expr.Slice.{Slice}
 use Rattle.opgen_net.specs.declared.node.Node.TheVariants.{Cells, Choice, Table}
 use Rattle.opgen_net.specs.declared.net.Net.{Net}
 use Rattle.opgen_net.specs.declared.net.Output as net_output
-use Rattle.opgen_net.specs.Tree.{Tree, name, part}
-use Rattle.opgen_net.specs.Value.{word_at, cut, value, chosen}
+use Rattle.opgen_design.specs.Tree.{Tree, name, part}
+use Rattle.opgen_design.specs.Value.{word_at, cut, value, chosen}
 use Rattle.opgen_net.specs.Flow.{Inputs, flow, slice_flow}
 use Rattle.opgen_net.specs.Valid.{widths, LiesWithin, IsValid}
-use Rattle.opgen_net.specs.Run.{Words, scope}
+use Rattle.opgen_design.specs.Run.{Words, scope}
 use Rattle.opgen_net.specs.Made.{slice_tree}
-use Rattle.opgen_net.proofs.ValueLaws.{same_value}
-use Rattle.opgen_net.proofs.WidthLaws.{width-reads}
+use Rattle.opgen_design.proofs.ValueLaws.{same_value}
+use Rattle.opgen_design.proofs.WidthLaws.{width-reads}
 use Rattle.opgen_net.proofs.FlowLaws.{length-widths, index_within, lies_within, stands_at, flow_equation}
 
 module _ (net : Net) (valid : IsValid net) (inputs : Inputs) (t : ℕ) (v : Words) (wide : (i : ℕ) → length (word_at v.signals i) ≡ slice_index (widths net.nodes) i) where

@@ -8,12 +8,13 @@ use Rattle.opgen_net.specs.declared.node.Node.{Node}
 use Rattle.opgen_net.specs.declared.node.Node.TheVariants.{Input, Constant, Cells, Choice, Table, Delay}
 use Rattle.opgen_net.specs.declared.net.Net.{Net}
 use Rattle.opgen_net.specs.declared.net.Output as net_output
-use Rattle.opgen_net.specs.declared.design.Design.{Design}
-use Rattle.opgen_net.specs.declared.design.Port.{Port}
-use Rattle.opgen_net.specs.declared.design.Signal.{Signal}
-use Rattle.opgen_net.specs.declared.design.Driver.{Driver}
-use Rattle.opgen_net.specs.Made.{node_signal, node_driver, each_node, output_driver, output_drivers, is_register, drivers_of, input_port, output_port}
-use Rattle.opgen_net.specs.Sound.{Rule, at_port, at_signal, at_driver, PortPasses, SignalPasses, DriverPasses, Holds, signal, target}
+use Rattle.opgen_design.specs.declared.design.Design.{Design}
+use Rattle.opgen_design.specs.declared.design.Port.{Port}
+use Rattle.opgen_design.specs.declared.design.Signal.{Signal}
+use Rattle.opgen_design.specs.declared.design.Driver.{Driver}
+use Rattle.opgen_net.specs.Made.{node_signal, node_driver, each_node, output_driver, output_drivers, drivers_of, input_port, output_port}
+use Rattle.opgen_design.specs.Order.{is_register}
+use Rattle.opgen_design.specs.Sound.{Rule, at_port, at_signal, at_driver, PortPasses, SignalPasses, DriverPasses, Holds, signal, target}
 use Rattle.opgen_net.specs.Valid.{widths}
 use Rattle.opgen_flat.proofs.Parts.{length-each, get-each, get-outputs, node_there}
 

@@ -9,8 +9,9 @@ use Rattle.opgen_net.specs.declared.node.Node.{Node}
 use Rattle.opgen_net.specs.declared.node.Node.TheVariants.{Delay}
 use Rattle.opgen_net.specs.declared.net.Net.{Net}
 use Rattle.opgen_net.specs.declared.net.Output as net_output
-use Rattle.opgen_net.specs.declared.design.Driver.{Driver}
-use Rattle.opgen_net.specs.Made.{node_signal, node_driver, each_node, output_driver, output_drivers, is_register, drivers_of}
+use Rattle.opgen_design.specs.declared.design.Driver.{Driver}
+use Rattle.opgen_net.specs.Made.{node_signal, node_driver, each_node, output_driver, output_drivers, drivers_of}
+use Rattle.opgen_design.specs.Order.{is_register}
 use Rattle.opgen_net.specs.Valid.{widths}
 use Rattle.opgen_net.proofs.FlowLaws.{length-widths}
 use Rattle.opgen_flat.proofs.Filters.{Contains-filter}

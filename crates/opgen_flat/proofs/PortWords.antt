@@ -2,7 +2,7 @@
 use Rattle.std.proofs.Common.{◌≡◌, ℕ, zero, suc, ◌+◌, ◌<◌, List, [], ◌∷◌, ◌++◌, length, map, get_or, drop, refl, ap, arith}
 use Rattle.opgen_net.specs.declared.net.Output as net_output
 use Rattle.opgen_net.specs.Made.{input_port, output_port}
-use Rattle.opgen_net.specs.Run.{at_ports, is_in, is_out}
+use Rattle.opgen_design.specs.Run.{at_ports, is_in, is_out}
 
 module _ {X : Type 0} (os : List net_output.Output) where
   -- the first words are those of the inputs

@@ -9,13 +9,13 @@ use Rattle.opgen_net.specs.declared.node.Node.{Node}
 use Rattle.opgen_net.specs.declared.node.Node.TheVariants.{Input, Constant, Cells, Choice, Table, Delay}
 use Rattle.opgen_net.specs.declared.net.Net.{Net}
 use Rattle.opgen_net.specs.declared.net.Output as net_output
-use Rattle.opgen_net.specs.Value.{word_at, cut}
+use Rattle.opgen_design.specs.Value.{word_at, cut}
 use Rattle.opgen_net.specs.Flow.{Inputs, input_from, flow, slice_flow}
 use Rattle.opgen_net.specs.Valid.{widths, slice_width, LiesWithin, IsValid}
 use Rattle.opgen_net.specs.Valid as valid_net
-use Rattle.opgen_net.specs.Run.{Words, at_ports, is_in, AreWords, Meets, Cycle, RunsOn, initial_words}
+use Rattle.opgen_design.specs.Run.{Words, at_ports, is_in, AreWords, Meets, Cycle, RunsOn, initial_words}
 use Rattle.opgen_net.specs.Made.{node_driver, output_driver, each_node, drivers_of, design_of, input_port, output_port}
-use Rattle.opgen_net.proofs.WidthLaws.{length-cut}
+use Rattle.opgen_design.proofs.WidthLaws.{length-cut}
 use Rattle.opgen_net.proofs.FlowLaws.{length-widths, stands_at, flow_equation}
 use Rattle.opgen_net.proofs.FlowWidths.{flow-width}
 use Rattle.opgen_net.proofs.InputLaws.{input-width, width-at}

@@ -7,21 +7,22 @@ use Rattle.std.proofs.lemmas.List.Elements.{All-nil, All-cons, All-head, All-tai
 use Rattle.std.proofs.lemmas.Option.{slice_get-get_or, slice_get_within, slice_get-map, get_or_from_slice_get}
 use Rattle.opgen_num.specs.Words.{nat, word}
 use Rattle.opgen_num.specs.WordLaws.{nat-word}
-use Rattle.opgen_net.specs.declared.expr.Slice.{Slice}
+use Rattle.opgen_design.specs.declared.expr.Slice.{Slice}
 use Rattle.opgen_net.specs.declared.node.Node.{Node}
 use Rattle.opgen_net.specs.declared.node.Node.TheVariants.{Input, Constant, Cells, Choice, Table, Delay}
 use Rattle.opgen_net.specs.declared.net.Net.{Net}
 use Rattle.opgen_net.specs.declared.net.Output as net_output
-use Rattle.opgen_net.specs.declared.design.Dir.TheVariants.{In, Out}
-use Rattle.opgen_net.specs.declared.design.Driver.{Driver}
-use Rattle.opgen_net.specs.Tree.{name, part}
-use Rattle.opgen_net.specs.Reads.{AllReads}
+use Rattle.opgen_design.specs.declared.design.Dir.TheVariants.{In, Out}
+use Rattle.opgen_design.specs.declared.design.Driver.{Driver}
+use Rattle.opgen_design.specs.Tree.{name, part}
+use Rattle.opgen_design.specs.Reads.{AllReads}
 use Rattle.opgen_net.specs.Valid as valid_net
 use Rattle.opgen_net.specs.Valid.{widths, LiesWithin, IsValid}
-use Rattle.opgen_net.specs.Made.{slice_tree, initial_of, node_signal, node_driver, each_node, output_driver, output_drivers, is_register, addressed, drivers_of, input_port, output_port, design_of}
-use Rattle.opgen_net.specs.Sound.{Names, signal, port_of, target, DriverReads, Needs, IsDeclared, IsInput, IsDriven, IsOrdered, ReadsInputs, IsRegisterOf, HasInitial, AddressesDiffer, Undeclared, DrivenTwice, NotDriven, ReadsOutput, NoInitial, ChoiceTwice, Holds}
-use Rattle.opgen_net.proofs.WidthLaws.{width-reads}
-use Rattle.opgen_net.proofs.ReadLaws.{reads-weaker, holds_of_read}
+use Rattle.opgen_net.specs.Made.{slice_tree, initial_of, node_signal, node_driver, each_node, output_driver, output_drivers, addressed, drivers_of, input_port, output_port, design_of}
+use Rattle.opgen_design.specs.Order.{is_register}
+use Rattle.opgen_design.specs.Sound.{Names, signal, port_of, target, DriverReads, Needs, IsDeclared, IsInput, IsDriven, IsOrdered, ReadsInputs, IsRegisterOf, HasInitial, AddressesDiffer, Undeclared, DrivenTwice, NotDriven, ReadsOutput, NoInitial, ChoiceTwice, Holds}
+use Rattle.opgen_design.proofs.WidthLaws.{width-reads}
+use Rattle.opgen_design.proofs.ReadLaws.{reads-weaker, holds_of_read}
 use Rattle.opgen_net.proofs.FlowLaws.{index_within, lies_within, length-widths, stands_at}
 use Rattle.opgen_net.proofs.InputLaws.{input-width}
 use Rattle.opgen_net.proofs.Standing.{may_stand}

@@ -10,7 +10,7 @@ use Rattle.opgen_net.specs.declared.net.Net.{Net}
 use Rattle.opgen_net.specs.declared.net.Output as net_output
 use Rattle.opgen_net.specs.Named.{port_names, begins_as_signal, IsNamed}
 use Rattle.opgen_net.specs.Made.{signal_name, node_signal, each_node, input_port, output_port, design_of}
-use Rattle.opgen_net.specs.Sound.{names_of, IsNewName, DeclaredTwice, Holds}
+use Rattle.opgen_design.specs.Sound.{names_of, IsNewName, DeclaredTwice, Holds}
 use Rattle.opgen_flat.proofs.Parts.{length-each, get-each, node_there}
 use Rattle.opgen_flat.proofs.Origins.{holds}
 

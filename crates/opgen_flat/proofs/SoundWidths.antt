@@ -7,20 +7,20 @@ use Rattle.std.proofs.lemmas.List.Elements.{All-nil}
 use Rattle.std.proofs.lemmas.Option.{slice_get-get_or, slice_get-map, get_or_from_slice_get, slice_get_within}
 use Rattle.opgen_num.specs.Words.{word}
 use Rattle.opgen_num.specs.WordLaws.{length-word}
-use Rattle.opgen_net.specs.declared.expr.Slice.{Slice}
+use Rattle.opgen_design.specs.declared.expr.Slice.{Slice}
 use Rattle.opgen_net.specs.declared.node.Node.{Node}
 use Rattle.opgen_net.specs.declared.node.Node.TheVariants.{Input, Constant, Cells, Choice, Table, Delay}
 use Rattle.opgen_net.specs.declared.net.Net.{Net}
 use Rattle.opgen_net.specs.declared.net.Output as net_output
-use Rattle.opgen_net.specs.declared.design.Design.{Design}
-use Rattle.opgen_net.specs.Tree.{Tree, name, part, bits, port}
-use Rattle.opgen_net.specs.Width.{IsWidth, as_width, width}
-use Rattle.opgen_net.specs.Run.{AreWords}
+use Rattle.opgen_design.specs.declared.design.Design.{Design}
+use Rattle.opgen_design.specs.Tree.{Tree, name, part, bits, port}
+use Rattle.opgen_design.specs.Width.{IsWidth, as_width, width}
+use Rattle.opgen_design.specs.Run.{AreWords}
 use Rattle.opgen_net.specs.Valid as valid_net
 use Rattle.opgen_net.specs.Valid.{widths, slice_width, node_width, LiesWithin, IsValid}
 use Rattle.opgen_net.specs.Made.{slice_tree, initial_of, node_signal, node_driver, output_driver, addressed, input_port, output_port, design_of}
-use Rattle.opgen_net.specs.Sound.{signal_widths, port_widths, HasWidth, WidthsAgree, IsSignalWide, Width, Holds}
-use Rattle.opgen_net.proofs.WidthLaws.{as_width-of, width-kept}
+use Rattle.opgen_design.specs.Sound.{signal_widths, port_widths, HasWidth, WidthsAgree, IsSignalWide, Width, Holds}
+use Rattle.opgen_design.proofs.WidthLaws.{as_width-of, width-kept}
 use Rattle.opgen_net.proofs.FlowLaws.{index_within, lies_within, length-widths}
 use Rattle.opgen_net.proofs.InputLaws.{input-width, input_node}
 use Rattle.opgen_net.proofs.FlowWidths.{are_widths, slice-is_width, flow-width}

@@ -4,7 +4,7 @@ use Rattle.std.proofs.lemmas.List.{length-drop, drop_more, drop_all, append-nil,
 use Rattle.opgen_num.specs.Words.{word}
 use Rattle.opgen_net.specs.declared.node.Node.{Node}
 use Rattle.opgen_net.specs.declared.net.Output as net_output
-use Rattle.opgen_net.specs.declared.design.Driver.{Driver}
+use Rattle.opgen_design.specs.declared.design.Driver.{Driver}
 use Rattle.opgen_net.specs.Made.{each_node, addressed, output_driver, output_drivers}
 use Rattle.opgen_net.specs.Valid.{node_width, widths_on, MayStand, AllMayStand}
 

@@ -5,8 +5,8 @@ use Rattle.std.proofs.lemmas.Bool.{cases_lt}
 use Rattle.opgen_num.specs.Words.{nat, word}
 use Rattle.opgen_num.specs.WordLaws.{nat-word}
 use Rattle.opgen_num.proofs.Words.{word-nat, nat-below}
-use Rattle.opgen_net.specs.Value.{word_at}
-use Rattle.opgen_net.specs.Run.{IsTableWord}
+use Rattle.opgen_design.specs.Value.{word_at}
+use Rattle.opgen_design.specs.Run.{IsTableWord}
 use Rattle.opgen_net.specs.Made.{addressed, last_row}
 
 pub length-addressed : (w a : ℕ) (rows : List (List Bool)) → length (addressed w a rows) ≡ length rows - 1

@@ -1,10 +1,10 @@
 -- The runs of a net's design follow the net's flow.
 use Rattle.std.specs.Prelude.{ℕ, pos, ◌≡◌, ◌<◌, List, length, map, slice_get, Some}
 use Rattle.opgen_net.specs.declared.net.Net.{Net}
-use Rattle.opgen_net.specs.Value.{word_at}
+use Rattle.opgen_design.specs.Value.{word_at}
 use Rattle.opgen_net.specs.Flow.{Inputs, flow, slice_flow}
 use Rattle.opgen_net.specs.Valid.{IsValid}
-use Rattle.opgen_net.specs.Run.{Words, Run, outputs_of}
+use Rattle.opgen_design.specs.Run.{Words, Run, outputs_of}
 use Rattle.opgen_net.specs.Made.{design_of}
 
 -- in the words of a cycle each signal has the word of its node, and each output port that of its slice

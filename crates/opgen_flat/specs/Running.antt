@@ -3,7 +3,7 @@ use Rattle.std.specs.Prelude.{ℕ, All, List}
 use Rattle.opgen_net.specs.declared.net.Net.{Net}
 use Rattle.opgen_net.specs.Flow.{Inputs}
 use Rattle.opgen_net.specs.Valid.{IsValid, input_widths}
-use Rattle.opgen_net.specs.Run.{AreWords, Words, Run}
+use Rattle.opgen_design.specs.Run.{AreWords, Words, Run}
 use Rattle.opgen_net.specs.Made.{design_of}
 
 -- there is a run of a valid net's design over each list of inputs whose words have the widths of the net's inputs

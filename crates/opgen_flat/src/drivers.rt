@@ -3,7 +3,8 @@ ghost use Rattle.opgen_net.specs.Made.{addressed, each_node, last_row, node_driv
 ghost use Rattle.opgen_net.specs.Valid.{IsValid, LiesWithin, MayStand, widths as widths_of};
 
 use opgen_list::Items;
-use opgen_net::{Driver, Expr, Formula, Net, Node, Output, Slice};
+use opgen_design::{Driver, Expr, Formula, Slice};
+use opgen_net::{Net, Node, Output};
 use opgen_num::Word;
 use std::alloc::{AllocError, Global};
 

@@ -4,7 +4,7 @@
 ghost use Rattle.std.specs.Prelude.{◌≡◌, IfOk};
 ghost use Rattle.opgen_net.specs.Made.{design_of};
 ghost use Rattle.opgen_net.specs.Named.{IsNamed};
-ghost use Rattle.opgen_net.specs.Sound.{IsSound};
+ghost use Rattle.opgen_design.specs.Sound.{IsSound};
 ghost use Rattle.opgen_net.specs.Valid.{HasNoDelay, IsValid};
 
 mod drivers;
@@ -17,7 +17,8 @@ mod widths;
 
 pub use laws::{design_is_sound, design_runs, run_follows_flow};
 use opgen_list::Text;
-use opgen_net::{Design, Net};
+use opgen_design::Design;
+use opgen_net::Net;
 use opgen_num::Memory;
 use std::alloc::Global;
 

@@ -4,7 +4,8 @@ ghost use Rattle.opgen_net.specs.Valid.{IsValid, LiesWithin, widths as widths_of
 
 use crate::widths::slice_width;
 use opgen_list::{Items, Text};
-use opgen_net::{Dir, Net, Output, Port};
+use opgen_design::{Dir, Port};
+use opgen_net::{Net, Output};
 use std::alloc::{AllocError, Global};
 
 /// The ports of the inputs.

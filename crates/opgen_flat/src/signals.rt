@@ -3,7 +3,8 @@ ghost use Rattle.opgen_net.specs.Made.{each_node, node_signal, signal_name};
 ghost use Rattle.opgen_net.specs.Valid.{HasNoDelay, widths as widths_of};
 
 use opgen_list::{Items, Text};
-use opgen_net::{Net, Signal};
+use opgen_design::Signal;
+use opgen_net::Net;
 use std::alloc::{AllocError, Global};
 
 /// The name of the signal of a node.

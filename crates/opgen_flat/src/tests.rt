@@ -3,7 +3,8 @@ ghost use Rattle.opgen_num.specs.Words.{word};
 ghost use Rattle.opgen_net.specs.Valid.{IsValid};
 
 use crate::flat;
-use opgen_net::{Driver, Net, Node, Slice};
+use opgen_design::{Driver, Slice};
+use opgen_net::{Net, Node};
 use opgen_num::{Memory, Word};
 use std::alloc::Global;
 use std::test::Fail;

@@ -1,7 +1,8 @@
 ghost use Rattle.std.specs.Prelude.{◌≡◌, ◌<◌, ◌≤◌, ◌^◌, ◌+◌, IfOk};
 ghost use Rattle.opgen_net.specs.Valid.{IsValid, LiesWithin, MayStand, node_width, slice_width, widths};
 
-use opgen_net::{Net, Node, Slice};
+use opgen_design::Slice;
+use opgen_net::{Net, Node};
 use std::alloc::{AllocError, Global};
 
 /// The number of bits of a slice of a node, over the widths of the nodes.

@@ -1,6 +1,6 @@
 ghost use Rattle.std.specs.Prelude.{◌≡◌, ℕ, ◌+◌, ◌*◌, ◌%◌, ◌^◌, ◌<◌, ◌≤◌, ℤ, pos, ◌+ℤ◌, Bool, List, [], ◌++◌, ◌-◌, length, take, replicate, OnOk, OnErr};
 ghost use Rattle.opgen_num.specs.Words.{digit, nat};
-ghost use Rattle.opgen_net.specs.Width.{IsWidth};
+ghost use Rattle.opgen_design.specs.Width.{IsWidth};
 ghost use Rattle.opgen_net.specs.declared.word_bits.WordBit.{WordBit};
 ghost use Rattle.opgen_net.specs.declared.word_bits.WordBit.TheVariants.{Of};
 ghost use Rattle.opgen_heap.specs.Sum.{Words, bit_under, heap_sum};
@@ -22,7 +22,7 @@ pub struct Heap {
 
 impl Model for Heap {
     ghost use Rattle.std.specs.Prelude.{◌≤◌, ◌<◌, ◌^◌, length};
-    ghost use Rattle.opgen_net.specs.Width.{IsWidth};
+    ghost use Rattle.opgen_design.specs.Width.{IsWidth};
     ghost use Rattle.opgen_heap.specs.Contents.{Contents};
 
     ghost Value = { Contents };

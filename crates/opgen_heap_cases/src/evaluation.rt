@@ -1,5 +1,6 @@
 //! The words of a net without choices, tables and delays, for given inputs.
-use opgen_net::{Expr, Net, Node, Op, Slice};
+use opgen_design::{Expr, Op, Slice};
+use opgen_net::{Net, Node};
 use std::alloc::AllocError;
 
 /// A number and its width in bits.

@@ -1,6 +1,6 @@
 //! Heaps are compressed, and their sums for ones, zeros and drawn words are compared with plain addition.
 ghost use Rattle.std.specs.Prelude.{IfOk};
-ghost use Rattle.opgen_net.specs.Width.{IsWidth};
+ghost use Rattle.opgen_design.specs.Width.{IsWidth};
 ghost use Rattle.opgen_net.specs.Valid.{IsValid};
 ghost use Rattle.opgen_compress.specs.Kept.{AllThere};
 

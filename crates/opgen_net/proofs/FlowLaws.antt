@@ -3,14 +3,14 @@ use Rattle.std.proofs.Common.{◌≡◌, ℕ, zero, suc, ◌+◌, ◌<◌, List,
 use Rattle.std.specs.Prelude.{ℤ, slice_get, slice_index}
 use Rattle.std.proofs.lemmas.List.{get_or_append_left, get_or_at, append-nil, append_assoc}
 use Rattle.opgen_num.specs.Words.{nat}
-use Rattle.opgen_net.specs.declared.expr.Slice.{Slice}
+use Rattle.opgen_design.specs.declared.expr.Slice.{Slice}
 use Rattle.opgen_net.specs.declared.node.Node.{Node}
 use Rattle.opgen_net.specs.declared.node.Node.TheVariants.{Input, Constant, Cells, Choice, Table, Delay}
-use Rattle.opgen_net.specs.Value.{word_at, cut, chosen}
+use Rattle.opgen_design.specs.Value.{word_at, cut, chosen}
 use Rattle.opgen_net.specs.Flow.{Stream, before, Inputs, stream_at, part_at, stream_of, streams_on, flow}
 use Rattle.opgen_net.specs.Valid.{node_width, widths_on, widths, LiesWithin, MayStand, AllMayStand}
-use Rattle.opgen_net.proofs.ValueLaws.{same_value}
-use Rattle.opgen_net.proofs.WidthLaws.{width-reads}
+use Rattle.opgen_design.proofs.ValueLaws.{same_value}
+use Rattle.opgen_design.proofs.WidthLaws.{width-reads}
 
 pub index_within : (ws : List ℕ) (i k : ℕ) → k < slice_index ws i → i < length ws
 index_within [] i k h = absurd (omega (arith, h))

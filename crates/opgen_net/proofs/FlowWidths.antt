@@ -6,16 +6,16 @@ use Rattle.std.proofs.lemmas.List.{get_or_append_left, get_or_at, get_or_past}
 use Rattle.std.proofs.lemmas.Option.{get_or_from_slice_get}
 use Rattle.opgen_num.specs.Words.{nat}
 use Rattle.opgen_num.proofs.Words.{nat-below}
-use Rattle.opgen_net.specs.declared.expr.Slice.{Slice}
+use Rattle.opgen_design.specs.declared.expr.Slice.{Slice}
 use Rattle.opgen_net.specs.declared.node.Node.{Node}
 use Rattle.opgen_net.specs.declared.node.Node.TheVariants.{Input, Constant, Cells, Choice, Table, Delay}
 use Rattle.opgen_net.specs.declared.net.Net.{Net}
-use Rattle.opgen_net.specs.Value.{chosen}
-use Rattle.opgen_net.specs.Width.{IsWidth}
+use Rattle.opgen_design.specs.Value.{chosen}
+use Rattle.opgen_design.specs.Width.{IsWidth}
 use Rattle.opgen_net.specs.Flow.{Stream, before, Inputs, input_at, stream_at, part_at, stream_of, streams_on, flow}
-use Rattle.opgen_net.specs.Run.{AreWords}
+use Rattle.opgen_design.specs.Run.{AreWords}
 use Rattle.opgen_net.specs.Valid.{slice_width, node_width, widths_on, widths, LiesWithin, MayStand, AllMayStand, input_widths, IsValid}
-use Rattle.opgen_net.proofs.WidthLaws.{length-cut, value-width, width-is_width}
+use Rattle.opgen_design.proofs.WidthLaws.{length-cut, value-width, width-is_width}
 use Rattle.opgen_net.proofs.FlowLaws.{lies_within, length-widths}
 use Rattle.opgen_net.proofs.InputLaws.{input-width, input_at-width}
 

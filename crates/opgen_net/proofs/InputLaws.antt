@@ -7,9 +7,9 @@ use Rattle.std.proofs.lemmas.Option.{get_or_from_slice_get}
 use Rattle.opgen_net.specs.declared.node.Node.{Node}
 use Rattle.opgen_net.specs.declared.node.Node.TheVariants.{Input, Constant, Cells, Choice, Table, Delay}
 use Rattle.opgen_net.specs.declared.net.Net.{Net}
-use Rattle.opgen_net.specs.Value.{word_at}
+use Rattle.opgen_design.specs.Value.{word_at}
 use Rattle.opgen_net.specs.Flow.{Inputs, input_at, input_from}
-use Rattle.opgen_net.specs.Run.{AreWords}
+use Rattle.opgen_design.specs.Run.{AreWords}
 use Rattle.opgen_net.specs.Valid.{input_nodes, numbered, input_widths, IsValid}
 
 -- an Input node is among the Input nodes

@@ -3,11 +3,11 @@ use Rattle.std.proofs.Common.{◌≡◌, length-append, ◌^◌, ℕ, zero, suc,
 use Rattle.std.specs.Prelude.{slice_get, slice_index, slice_index_or, All}
 use Rattle.std.proofs.lemmas.Option.{slice_get-get_or}
 use Rattle.std.proofs.lemmas.List.{get_or_append_left, get_or_at}
-use Rattle.opgen_net.specs.declared.expr.Slice.{Slice}
+use Rattle.opgen_design.specs.declared.expr.Slice.{Slice}
 use Rattle.opgen_net.specs.declared.node.Node.{Node}
 use Rattle.opgen_net.specs.declared.node.Node.TheVariants.{Input, Constant, Cells, Choice, Table, Delay}
 use Rattle.opgen_net.specs.Valid.{node_width, widths, LiesWithin, MayStand, AllMayStand}
-use Rattle.opgen_net.proofs.WidthLaws.{width-kept}
+use Rattle.opgen_design.proofs.WidthLaws.{width-kept}
 use Rattle.opgen_net.proofs.FlowLaws.{index_within, stands_at}
 
 get-kept : (ws more : List ℕ) (i w : ℕ) → slice_get ws i ≡ Some w → slice_get (ws ++ more) i ≡ Some w

@@ -8,20 +8,20 @@ use Rattle.std.proofs.lemmas.List.Elements.{All-cons, All-nil}
 use Rattle.std.proofs.lemmas.Option.{slice_get-get_or}
 use Rattle.opgen_num.specs.declared.TheConstants.{MAX_WIDTH}
 use Rattle.opgen_net.specs.declared.cell.Class.TheVariants.{Wire}
-use Rattle.opgen_net.specs.declared.expr.Op.TheVariants.{Cat}
-use Rattle.opgen_net.specs.declared.expr.Slice.{Slice}
+use Rattle.opgen_design.specs.declared.expr.Op.TheVariants.{Cat}
+use Rattle.opgen_design.specs.declared.expr.Slice.{Slice}
 use Rattle.opgen_net.specs.declared.net.Net.{Net}
 use Rattle.opgen_net.specs.declared.node.Node.TheVariants.{Constant, Cells}
 use Rattle.opgen_net.specs.declared.word_bits.WordBit.{WordBit}
 use Rattle.opgen_net.specs.declared.word_bits.WordBit.TheVariants.{Zero, One, Of}
 use Rattle.opgen_net.specs.declared.word_bits.Piece.{Piece}
 use Rattle.opgen_net.specs.declared.word_bits.Piece.TheVariants.{Bits, Part}
-use Rattle.opgen_net.specs.Tree.{Tree, name, part, chain, none}
-use Rattle.opgen_net.specs.Plain.{trees_of}
-use Rattle.opgen_net.specs.Value.{Scope, cut, value, value_on}
-use Rattle.opgen_net.specs.Width.{IsWidth, as_width, width, width_on, in_chain, nesting, operands_nesting}
+use Rattle.opgen_design.specs.Tree.{Tree, name, part, chain, none}
+use Rattle.opgen_design.specs.Plain.{trees_of}
+use Rattle.opgen_design.specs.Value.{Scope, cut, value, value_on}
+use Rattle.opgen_design.specs.Width.{IsWidth, as_width, width, width_on, in_chain, nesting, operands_nesting}
 use Rattle.opgen_net.specs.Flow.{Inputs, flow}
-use Rattle.opgen_net.specs.Run.{AreWords}
+use Rattle.opgen_design.specs.Run.{AreWords}
 use Rattle.opgen_net.specs.Valid.{slice_width, widths, LiesWithin, FitsNodes, input_widths, IsValid}
 use Rattle.opgen_net.specs.Made.{slice_tree}
 use Rattle.opgen_net.specs.WordRule.{IsThere, bit_flow, HasBits, alone, RunIsThere, over, above, runs, run_tree, word_tree, is_whole, Found, with_node, with_runs, with_word}

@@ -1,8 +1,8 @@
 -- The words of a net's nodes at each whole time, negative times too.
 use Rattle.std.specs.Prelude.{ℕ, zero, suc, ◌<◌, ◌≡◌, ℤ, pos, negsuc, Bool, false, List, [], ◌∷◌, ◌++◌, length, replicate, slice_index_or}
 use Rattle.opgen_num.specs.Words.{nat}
-use Rattle.opgen_net.specs.Value.{word_at, cut, value, chosen}
-use Rattle.opgen_net.specs.declared.expr.Slice.{Slice}
+use Rattle.opgen_design.specs.Value.{word_at, cut, value, chosen}
+use Rattle.opgen_design.specs.declared.expr.Slice.{Slice}
 use Rattle.opgen_net.specs.declared.node.Node.{Node}
 use Rattle.opgen_net.specs.declared.node.Node.TheVariants.{Input, Constant, Cells, Choice, Table, Delay}
 

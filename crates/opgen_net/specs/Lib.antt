@@ -1,16 +1,5 @@
-pub mod Tree
-pub mod Plain
-pub mod TreeCode
-pub mod Value
-pub mod Width
-pub mod Reads
 pub mod Flow
 pub mod Valid
-pub mod Run
-pub mod Sound
-pub mod Rules
-pub mod Order
 pub mod Made
-pub mod Names
 pub mod Named
 pub mod WordRule

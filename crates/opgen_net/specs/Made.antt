@@ -1,18 +1,18 @@
 -- The design of a net whose nodes all stand in one cycle.
 use Rattle.std.specs.Prelude.{ℕ, ◌+◌, ◌-◌, negsuc, Bool, true, false, not, ◌&&◌, if◌then◌else◌, nat_eq, List, [], ◌∷◌, ◌++◌, length, map, filter, slice_index, slice_index_or, codes, decimal, Option, Some, None}
 use Rattle.opgen_num.specs.Words.{word}
-use Rattle.opgen_net.specs.declared.expr.Slice.{Slice}
+use Rattle.opgen_design.specs.declared.expr.Slice.{Slice}
 use Rattle.opgen_net.specs.declared.node.Node.{Node}
 use Rattle.opgen_net.specs.declared.node.Node.TheVariants as node
 use Rattle.opgen_net.specs.declared.net.Net.{Net}
 use Rattle.opgen_net.specs.declared.net.Output as net_output
-use Rattle.opgen_net.specs.declared.design.Design.{Design}
-use Rattle.opgen_net.specs.declared.design.Dir.TheVariants.{In, Out}
-use Rattle.opgen_net.specs.declared.design.Port.{Port}
-use Rattle.opgen_net.specs.declared.design.Signal.{Signal}
-use Rattle.opgen_net.specs.declared.design.Driver.{Driver}
-use Rattle.opgen_net.specs.declared.design.Driver.TheVariants.{Assign, Choice, Table, Register, Output}
-use Rattle.opgen_net.specs.Tree.{Tree, name, part, bits, port}
+use Rattle.opgen_design.specs.declared.design.Design.{Design}
+use Rattle.opgen_design.specs.declared.design.Dir.TheVariants.{In, Out}
+use Rattle.opgen_design.specs.declared.design.Port.{Port}
+use Rattle.opgen_design.specs.declared.design.Signal.{Signal}
+use Rattle.opgen_design.specs.declared.design.Driver.{Driver}
+use Rattle.opgen_design.specs.declared.design.Driver.TheVariants.{Assign, Choice, Table, Register, Output}
+use Rattle.opgen_design.specs.Tree.{Tree, name, part, bits, port}
 use Rattle.opgen_net.specs.Flow.{flow}
 use Rattle.opgen_net.specs.Valid.{widths, slice_width}
 
@@ -64,10 +64,6 @@ output_driver ws place o = Output place (slice_tree ws o.from)
 abbrev pub output_drivers : List ℕ → ℕ → List net_output.Output → List Driver
 output_drivers ws place [] = []
 output_drivers ws place (o ∷ os) = output_driver ws place o ∷ output_drivers ws (place + 1) os
-
-abbrev pub is_register : Driver → Bool
-is_register (Register to e) = true
-is_register _ = false
 
 abbrev pub input_port : List ℕ × ℕ → Port
 input_port i = record { name = i.0; dir = In; width = i.1 }

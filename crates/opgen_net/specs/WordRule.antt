@@ -1,8 +1,8 @@
 -- A node that has given bits: one that is there, or a new one of constants, parts of nodes and the operator &.
 use Rattle.std.specs.Prelude.{ℕ, ◌≡◌, ◌+◌, ◌<◌, ◌≤◌, ℤ, Bool, true, false, ◌&&◌, if◌then◌else◌, nat_eq, All, List, [], ◌∷◌, ◌++◌, length, map, reverse, slice_index, slice_index_or, Option, Some, None}
 use Rattle.opgen_net.specs.declared.cell.Class.TheVariants.{Wire}
-use Rattle.opgen_net.specs.declared.expr.Op.TheVariants.{Cat}
-use Rattle.opgen_net.specs.declared.expr.Slice.{Slice}
+use Rattle.opgen_design.specs.declared.expr.Op.TheVariants.{Cat}
+use Rattle.opgen_design.specs.declared.expr.Slice.{Slice}
 use Rattle.opgen_net.specs.declared.net.Net.{Net}
 use Rattle.opgen_net.specs.declared.node.Node.{Node}
 use Rattle.opgen_net.specs.declared.node.Node.TheVariants.{Constant, Cells}
@@ -10,10 +10,10 @@ use Rattle.opgen_net.specs.declared.word_bits.WordBit.{WordBit}
 use Rattle.opgen_net.specs.declared.word_bits.WordBit.TheVariants.{Zero, One, Of}
 use Rattle.opgen_net.specs.declared.word_bits.Piece.{Piece}
 use Rattle.opgen_net.specs.declared.word_bits.Piece.TheVariants.{Bits, Part}
-use Rattle.opgen_net.specs.Tree.{Tree, bits, chain}
-use Rattle.opgen_net.specs.Plain.{trees_of}
+use Rattle.opgen_design.specs.Tree.{Tree, bits, chain}
+use Rattle.opgen_design.specs.Plain.{trees_of}
 use Rattle.opgen_net.specs.Flow.{Inputs, flow}
-use Rattle.opgen_net.specs.Run.{AreWords}
+use Rattle.opgen_design.specs.Run.{AreWords}
 use Rattle.opgen_net.specs.Valid.{widths, input_widths, LiesWithin}
 use Rattle.opgen_net.specs.Made.{slice_tree}
 

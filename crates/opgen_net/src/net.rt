@@ -1,8 +1,8 @@
 ghost use Rattle.std.specs.Prelude.{◌≡◌, ◌<◌, ◌++◌, [], ◌∷◌, length, slice_index, IfOk, OnOk, OnErr};
 ghost use Rattle.opgen_net.specs.Flow.{KeepsFlow};
-ghost use Rattle.opgen_net.specs.Plain.{plain};
+ghost use Rattle.opgen_design.specs.Plain.{plain};
 ghost use Rattle.opgen_net.specs.Valid.{IsValid, IsOfExpressions, FitsNodes, FitsChoice, FitsTable, LiesWithin, MayStand, input_nodes, widths};
-ghost use Rattle.opgen_net.specs.Width.{IsWidth};
+ghost use Rattle.opgen_design.specs.Width.{IsWidth};
 
 use crate::{Class, Expr, Formula, Node, Slice};
 use opgen_list::{Items, Text};

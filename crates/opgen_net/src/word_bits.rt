@@ -2,9 +2,9 @@ ghost use Rattle.std.specs.Prelude.{◌≡◌, ◌*◌, ◌^◌, ◌<◌, ◌++�
 ghost use Rattle.opgen_num.specs.Words.{digit};
 ghost use Rattle.opgen_net.specs.Flow.{KeepsFlow};
 ghost use Rattle.opgen_net.specs.Made.{slice_tree};
-ghost use Rattle.opgen_net.specs.Plain.{plain};
+ghost use Rattle.opgen_design.specs.Plain.{plain};
 ghost use Rattle.opgen_net.specs.Valid.{IsValid, LiesWithin, FitsNodes, widths};
-ghost use Rattle.opgen_net.specs.Width.{IsWidth};
+ghost use Rattle.opgen_design.specs.Width.{IsWidth};
 ghost use Rattle.opgen_net.specs.WordRule.{IsThere, HasBits, joined, alone, above, runs, RunIsThere, run_tree, word_tree, is_whole, with_word, FirstHasAtMost, with_runs};
 
 use crate::{Class, Expr, Net, Op, Slice};

@@ -2,7 +2,7 @@
 use Rattle.std.proofs.Common.{◌≡◌, ℕ, zero, suc, ◌+◌, ◌≤◌, ◌&&◌, not, length, nat_le, ap, arith}
 use Rattle.std.specs.Prelude.{IsTrue}
 use Rattle.std.proofs.lemmas.Bool.{and_parts, leb-true}
-use Rattle.opgen_net.specs.Names.{is_allowed_name}
+use Rattle.opgen_design.specs.Names.{is_allowed_name}
 use Rattle.opgen_num.specs.declared.TheConstants.{MAX_WIDTH}
 use Rattle.opgen_operator.specs.declared.spec.Spec.{Spec}
 use Rattle.opgen_operator.specs.declared.spec.Operator.TheVariants.{Scale, Fir, Multiply, Divide}

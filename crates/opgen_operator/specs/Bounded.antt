@@ -2,7 +2,7 @@
 use Rattle.std.specs.Prelude.{ℕ, ◌^◌, ◌<◌, ◌≤◌, ℤ, pos, neg_ℤ, ◌≤ℤ◌, ◌<ℤ◌, length, All}
 use Rattle.opgen_num.specs.declared.TheConstants.{MAX_INPUT}
 use Rattle.opgen_num.specs.declared.format.Ratio.{Ratio}
-use Rattle.opgen_net.specs.Width.{IsWidth}
+use Rattle.opgen_design.specs.Width.{IsWidth}
 use Rattle.opgen_operator.specs.declared.spec.Operator.{Operator}
 use Rattle.opgen_operator.specs.declared.spec.Operator.TheVariants.{Scale, Fir, Multiply, Divide, Root, Mcm}
 use Rattle.opgen_operator.specs.declared.spec.PortFormat.{PortFormat}

@@ -4,7 +4,7 @@ use Rattle.opgen_num.specs.declared.format.Format.{Format}
 use Rattle.opgen_num.specs.Words.{word}
 use Rattle.opgen_num.specs.Values.{val}
 use Rattle.opgen_net.specs.Flow.{Inputs, input_at}
-use Rattle.opgen_net.specs.Value.{word_at}
+use Rattle.opgen_design.specs.Value.{word_at}
 use Rattle.opgen_operator.specs.declared.spec.PortFormat.{PortFormat}
 use Rattle.opgen_operator.specs.Exact.{Recent}
 

@@ -5,7 +5,7 @@ use Rattle.std.specs.Str.{bytes_eq}
 use Rattle.std.proofs.Common.{◌≡◌, ℕ, Bool, true, false, ◌&&◌, List, ◌∷◌, map, Some, None, refl, ap, sym, ◌∙◌}
 use Rattle.opgen_text.specs.declared.kind.TokenKind.{TokenKind}
 use Rattle.opgen_text.specs.declared.kind.TokenKind.TheVariants.{Word, Number, Bits, ZeroChar, LeftParen, RightParen, Semicolon, Colon, Comma, Dot, Ampersand, Plus, Minus, Equal, LessEqual, Arrow, Becomes}
-use Rattle.opgen_net.specs.Names.{is_allowed_name}
+use Rattle.opgen_design.specs.Names.{is_allowed_name}
 use Rattle.opgen_text.specs.Symbols.{Symbol, symbol_of, bits_in, word, number, mark, is_semicolon}
 use Rattle.opgen_text.specs.Grammar.{value}
 use Rattle.opgen_text.proofs.Steps.{found, some_is}

@@ -1,8 +1,8 @@
 -- Operands read one after the other.
 use Rattle.std.proofs.Common.{◌≡◌, ℕ, zero, suc, List, [], ◌∷◌, ◌++◌, Option, Some, None, refl, ap}
-use Rattle.opgen_net.specs.declared.expr.Op.{Op}
-use Rattle.opgen_net.specs.Tree.{Tree, Trees, none, more}
-use Rattle.opgen_net.specs.Plain.{trees_of}
+use Rattle.opgen_design.specs.declared.expr.Op.{Op}
+use Rattle.opgen_design.specs.Tree.{Tree, Trees, none, more}
+use Rattle.opgen_design.specs.Plain.{trees_of}
 use Rattle.opgen_text.specs.Grammar.{Names, operator}
 use Rattle.opgen_text.specs.Symbols.{Symbol}
 use Rattle.opgen_text.specs.Reader.{◌>>=◌, and_then, choice, eat, factor_at, operands_at}

@@ -1,8 +1,8 @@
 -- What reading a text answers: the design that it spells, or the first cause against it, and how that prints.
 use Rattle.std.specs.Prelude.{◌≡◌, ◌⊎◌, ℕ, ◌≤◌, true, false, List, ◌++◌, codes, length}
 use Rattle.std.specs.Fmt.{decimal}
-use Rattle.opgen_net.specs.declared.design.Design.{Design}
-use Rattle.opgen_net.specs.Sound.{Rule, rule_number, IsFirstUnsound}
+use Rattle.opgen_design.specs.declared.design.Design.{Design}
+use Rattle.opgen_design.specs.Sound.{Rule, rule_number, IsFirstUnsound}
 use Rattle.opgen_text.specs.Tokens.{LexicalAt}
 use Rattle.opgen_text.specs.Statements.{Reading}
 use Rattle.opgen_text.specs.Spelled.{Statements, SyntaxAt}

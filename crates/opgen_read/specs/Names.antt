@@ -1,6 +1,6 @@
 -- The names that are declared, as an expression is read under them.
 use Rattle.std.specs.Prelude.{◌∷◌, [], List, Option, Some, None, map}
-use Rattle.opgen_net.specs.Tree.{Tree, Trees, more}
+use Rattle.opgen_design.specs.Tree.{Tree, Trees, more}
 use Rattle.opgen_text.specs.Grammar.{Names}
 use Rattle.opgen_text.specs.Symbols.{Symbol}
 use Rattle.opgen_read.specs.declared.expression.Scope.{Scope}

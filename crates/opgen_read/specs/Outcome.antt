@@ -1,7 +1,7 @@
 -- Steps on the way to an answer.
 use Rattle.std.specs.Prelude.{◌≡◌, ℕ, ◌≤◌, Bool, true, List, length, Result, Ok, Err}
-use Rattle.opgen_net.specs.declared.design.Design.{Design}
-use Rattle.opgen_net.specs.Sound.{IsSound}
+use Rattle.opgen_design.specs.declared.design.Design.{Design}
+use Rattle.opgen_design.specs.Sound.{IsSound}
 use Rattle.opgen_text.specs.Tokens.{LexicalAt}
 use Rattle.opgen_text.specs.Spelled.{SyntaxAt}
 use Rattle.opgen_read.specs.declared.fault.ReadFault.{ReadFault}

@@ -7,7 +7,7 @@ ghost use Rattle.opgen_read.specs.Places.{noted_at};
 
 use indexmap::IndexMap;
 use opgen_list::Items;
-use opgen_net::{Port, Signal};
+use opgen_design::{Port, Signal};
 use std::alloc::{AllocError, Global};
 use std::marker::Model;
 

@@ -8,7 +8,7 @@ ghost use Rattle.opgen_read.specs.Names.{names_in};
 use crate::declared::Declared;
 use crate::expression::Scope;
 use opgen_list::{Items, Text};
-use opgen_net::{Driver, Port, Signal};
+use opgen_design::{Driver, Port, Signal};
 use std::alloc::{AllocError, Global};
 
 /// A design that is not complete, the name of its architecture, and whether the names that have to

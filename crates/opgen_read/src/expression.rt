@@ -1,8 +1,8 @@
 // Expressions, read by descent.
 
 ghost use Rattle.std.specs.Prelude.{◌≡◌, length, map, option_map};
-ghost use Rattle.opgen_net.specs.Plain.{plain, plain_all, trees_of};
-ghost use Rattle.opgen_net.specs.Tree.{chain};
+ghost use Rattle.opgen_design.specs.Plain.{plain, plain_all, trees_of};
+ghost use Rattle.opgen_design.specs.Tree.{chain};
 ghost use Rattle.opgen_text.specs.Grammar.{operator};
 ghost use Rattle.opgen_text.specs.Reader.{eat, range_at, part_at, input_at, closed, op_at, primary_at, factor_at, operands_at, expression_at, expression, inside};
 ghost use Rattle.opgen_read.specs.Left.{left};
@@ -13,7 +13,7 @@ use crate::cursor::Cursor;
 use crate::declared::Declared;
 use crate::name::name;
 use crate::refusal::Refusal;
-use opgen_net::{Expr, Op, Port, Signal, Slice};
+use opgen_design::{Expr, Op, Port, Signal, Slice};
 use opgen_text::TokenKind;
 use std::alloc::Global;
 

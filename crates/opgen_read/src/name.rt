@@ -2,7 +2,7 @@
 
 ghost use Rattle.std.specs.Prelude.{◌≡◌, IfOk, map, Some, None, if◌then◌else◌};
 ghost use Rattle.std.specs.Char.{to_ascii_lowercase};
-ghost use Rattle.opgen_net.specs.Names.{is_allowed_name};
+ghost use Rattle.opgen_design.specs.Names.{is_allowed_name};
 ghost use Rattle.opgen_text.specs.Reader.{name_at};
 ghost use Rattle.opgen_read.specs.Left.{left};
 ghost use Rattle.opgen_read.specs.Gives.{Gives};
@@ -11,7 +11,7 @@ use crate::cursor::Cursor;
 use crate::refusal::Refusal;
 use crate::token_text::same_kind;
 use opgen_list::Text;
-use opgen_net::names::is_allowed_name;
+use opgen_design::names::is_allowed_name;
 use opgen_text::TokenKind;
 use std::alloc::{AllocError, Global};
 

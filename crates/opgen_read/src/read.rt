@@ -1,7 +1,7 @@
 // Whole texts.
 
 ghost use Rattle.std.specs.Prelude.{◌≡◌, ◌≤◌, IfOk, IfErr, IsTrue, ◌↔◌, length};
-ghost use Rattle.opgen_net.specs.Sound.{HasNumbers, IsSound};
+ghost use Rattle.opgen_design.specs.Sound.{HasNumbers, IsSound};
 ghost use Rattle.opgen_text.specs.Spelled.{Statements, Spells};
 ghost use Rattle.opgen_read.specs.Answer.{IsWithinLimits, IsReadFault};
 ghost use Rattle.opgen_read.specs.Outcome.{IsTextFault, IsOutcome, HasFew};
@@ -12,7 +12,7 @@ use crate::draft::Draft;
 use crate::fault::ReadFault;
 use crate::pieces::{PieceFault, read_pieces};
 use opgen_lex::{LexFault, tokens};
-use opgen_net::{Design, SoundFault};
+use opgen_design::{Design, SoundFault};
 use std::alloc::Global;
 
 /// The most signals of a design that is read.

@@ -1,7 +1,7 @@
 // The statements of an architecture.
 
 ghost use Rattle.std.specs.Prelude.{◌≡◌, length, map, option_map};
-ghost use Rattle.opgen_net.specs.Plain.{plain};
+ghost use Rattle.opgen_design.specs.Plain.{plain};
 ghost use Rattle.opgen_text.specs.Reader.{row_at, other_at, rows_at, table_at, choice_at, valued_at, output_at, target_at, assignment_at, concurrent_at, clocked_at, is_one, high_at, clock, edge_at, process_at, eat_all};
 ghost use Rattle.opgen_read.specs.Left.{left};
 ghost use Rattle.opgen_read.specs.Gives.{Gives};
@@ -12,7 +12,7 @@ use crate::expression::{Scope, expression, part};
 use crate::name::name;
 use crate::refusal::Refusal;
 use opgen_list::{Items, Text};
-use opgen_net::{Driver, Expr, Formula};
+use opgen_design::{Driver, Expr, Formula};
 use opgen_num::Word;
 use opgen_text::TokenKind;
 use std::alloc::Global;

@@ -10,7 +10,7 @@ use crate::cursor::Cursor;
 use crate::name::name;
 use crate::refusal::Refusal;
 use opgen_list::Text;
-use opgen_net::{Dir, Port, Signal};
+use opgen_design::{Dir, Port, Signal};
 use opgen_num::Word;
 use opgen_text::TokenKind;
 use std::alloc::Global;

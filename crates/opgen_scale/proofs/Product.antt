@@ -10,9 +10,9 @@ use Rattle.std.proofs.lemmas.Bool.{cases_lt}
 use Rattle.opgen_num.specs.Words.{nat, word}
 use Rattle.opgen_num.specs.WordLaws.{length-word, nat-word}
 use Rattle.opgen_num.proofs.Words.{nat-below}
-use Rattle.opgen_net.specs.Value.{word_at, cut}
+use Rattle.opgen_design.specs.Value.{word_at, cut}
 use Rattle.opgen_net.specs.Flow.{Inputs, input_from, input_at}
-use Rattle.opgen_net.specs.Run.{AreWords}
+use Rattle.opgen_design.specs.Run.{AreWords}
 use Rattle.opgen_scale.specs.Times.{multiples}
 
 pub length-multiples : (number width n : ℕ) → length (multiples number width n) ≡ n

@@ -6,11 +6,11 @@ use Rattle.std.proofs.Math.Nat.{mul-le-mul_left, mul-lt-mul_of_pos_left}
 use Rattle.opgen_num.specs.Words.{nat, word}
 use Rattle.opgen_num.specs.WordLaws.{length-word}
 use Rattle.opgen_num.proofs.Words.{nat-below}
-use Rattle.opgen_net.specs.declared.expr.Slice.{Slice}
+use Rattle.opgen_design.specs.declared.expr.Slice.{Slice}
 use Rattle.opgen_net.specs.declared.net.Net.{Net}
-use Rattle.opgen_net.specs.Value.{word_at}
+use Rattle.opgen_design.specs.Value.{word_at}
 use Rattle.opgen_net.specs.Flow.{Inputs, input_at, slice_flow}
-use Rattle.opgen_net.specs.Run.{AreWords}
+use Rattle.opgen_design.specs.Run.{AreWords}
 use Rattle.opgen_net.specs.Valid.{HasNoDelay}
 use Rattle.opgen_scale.specs.Times.{multiples, IsBitLength, IsTimes}
 use Rattle.opgen_scale.specs.Recipe.{table_nodes, table_net, shifted_nodes, product_node}

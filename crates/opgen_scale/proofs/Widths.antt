@@ -4,7 +4,7 @@ use Rattle.std.specs.Prelude.{slice_get, slice_index}
 use Rattle.std.proofs.lemmas.Nat.{pow_pos}
 use Rattle.opgen_num.specs.Words.{word}
 use Rattle.opgen_num.specs.WordLaws.{length-word}
-use Rattle.opgen_net.specs.Width.{as_width}
+use Rattle.opgen_design.specs.Width.{as_width}
 use Rattle.opgen_net.specs.Valid.{FitsNodes, FitsTable, widths}
 use Rattle.opgen_scale.specs.Times.{multiples}
 use Rattle.opgen_scale.specs.Recipe.{above_zeros, table_nodes, shifted_nodes, product_node}

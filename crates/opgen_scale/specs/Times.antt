@@ -1,11 +1,11 @@
 -- A net whose output is a whole multiple of its input.
 use Rattle.std.specs.Prelude.{ℕ, zero, suc, ◌≡◌, ◌-◌, ◌*◌, ◌^◌, ◌<◌, ◌≤◌, ℤ, Bool, List, [], ◌∷◌, ◌++◌, codes, All}
 use Rattle.opgen_num.specs.Words.{nat, word}
-use Rattle.opgen_net.specs.declared.expr.Slice.{Slice}
+use Rattle.opgen_design.specs.declared.expr.Slice.{Slice}
 use Rattle.opgen_net.specs.declared.net.Net.{Net}
 use Rattle.opgen_net.specs.Flow.{Inputs, input_at, slice_flow}
 use Rattle.opgen_net.specs.Valid.{slice_width}
-use Rattle.opgen_net.specs.Run.{AreWords}
+use Rattle.opgen_design.specs.Run.{AreWords}
 
 -- the words of the first n multiples of a number, from 0 up
 abbrev pub multiples : (number width n : ℕ) → List (List Bool)

@@ -3,11 +3,12 @@
 
 ghost use Rattle.std.specs.Prelude.{◌≡◌, ◌<◌, ◌≤◌, ◌*◌, ◌+◌, ◌-◌, ◌^◌, ◌%◌, ◌++◌, ◌∷◌, [], IfOk, OnOk, length, slice_index};
 ghost use Rattle.opgen_net.specs.Valid.{HasNoDelay, IsValid, widths};
-ghost use Rattle.opgen_net.specs.Plain.{plain};
+ghost use Rattle.opgen_design.specs.Plain.{plain};
 ghost use Rattle.opgen_scale.specs.Times.{multiples, IsTimes};
 ghost use Rattle.opgen_scale.specs.Recipe.{table_net, above_zeros, shifted_nodes, product_node};
 
-use opgen_net::{Class, Expr, Net, Op, Slice};
+use opgen_design::{Expr, Op, Slice};
+use opgen_net::{Class, Net};
 use opgen_num::{Memory, Word, bit_length};
 use std::alloc::{AllocError, Global};
 

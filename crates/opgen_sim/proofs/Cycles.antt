@@ -6,16 +6,16 @@ use Rattle.std.proofs.lemmas.List.{length-map}
 use Rattle.std.proofs.lemmas.Option.{slice_get-get_or, slice_get_within, get_or_from_slice_get}
 use Rattle.opgen_num.specs.Words.{nat, word}
 use Rattle.opgen_num.proofs.Words.{word-nat}
-use Rattle.opgen_net.specs.declared.design.Design.{Design}
-use Rattle.opgen_net.specs.declared.design.Dir.{Dir}
-use Rattle.opgen_net.specs.declared.design.Dir.TheVariants.{In, Out}
-use Rattle.opgen_net.specs.declared.design.Port.{Port}
-use Rattle.opgen_net.specs.declared.design.Driver.{Driver}
-use Rattle.opgen_net.specs.declared.design.Driver.TheVariants.{Assign, Choice, Table, Register, Output}
-use Rattle.opgen_net.specs.Order.{IsOrderOf}
-use Rattle.opgen_net.specs.Run.{Words, scope, at_ports, is_in, IsTableWord, Meets, Cycle}
-use Rattle.opgen_net.specs.Sound.{IsSound, ChoiceTwice, DriverPasses, HasWidth, signal_widths, at_driver}
-use Rattle.opgen_net.specs.Value.{value, word_at}
+use Rattle.opgen_design.specs.declared.design.Design.{Design}
+use Rattle.opgen_design.specs.declared.design.Dir.{Dir}
+use Rattle.opgen_design.specs.declared.design.Dir.TheVariants.{In, Out}
+use Rattle.opgen_design.specs.declared.design.Port.{Port}
+use Rattle.opgen_design.specs.declared.design.Driver.{Driver}
+use Rattle.opgen_design.specs.declared.design.Driver.TheVariants.{Assign, Choice, Table, Register, Output}
+use Rattle.opgen_design.specs.Order.{IsOrderOf}
+use Rattle.opgen_design.specs.Run.{Words, scope, at_ports, is_in, IsTableWord, Meets, Cycle}
+use Rattle.opgen_design.specs.Sound.{IsSound, ChoiceTwice, DriverPasses, HasWidth, signal_widths, at_driver}
+use Rattle.opgen_design.specs.Value.{value, word_at}
 use Rattle.opgen_sim.specs.Evaluate.{HaveWidths, table_word, settle, hand_all_on}
 use Rattle.opgen_sim.proofs.Widths.{agree-at, declared-there, long, settle-widths}
 use Rattle.opgen_sim.proofs.Equations.{stands, register-kept, input-kept, targets-differ}

@@ -6,15 +6,14 @@ use Rattle.std.proofs.lemmas.List.{length-drop, get_or-set_same, get_or-set_othe
 use Rattle.std.proofs.lemmas.List.Sorted.{Contains-permutation, IsPermutation-sym}
 use Rattle.std.proofs.lemmas.Map.Made.{Contains-tail}
 use Rattle.std.proofs.lemmas.Option.{slice_get_within}
-use Rattle.opgen_net.specs.declared.design.Design.{Design}
-use Rattle.opgen_net.specs.declared.design.Driver.{Driver}
-use Rattle.opgen_net.specs.declared.design.Driver.TheVariants.{Register}
-use Rattle.opgen_net.specs.Tree.{Tree}
-use Rattle.opgen_net.specs.Made.{is_register}
-use Rattle.opgen_net.specs.Order.{IsOrderOf, waiting}
-use Rattle.opgen_net.specs.Run.{Words, scope}
-use Rattle.opgen_net.specs.Sound.{IsSound, ReadsOutput, Target, signal, port_of, target, ReadsInputs, DriverPasses, at_driver, IsInput}
-use Rattle.opgen_net.proofs.SoundLaws.{declared-at, once-at, at-contains, contains-at}
+use Rattle.opgen_design.specs.declared.design.Design.{Design}
+use Rattle.opgen_design.specs.declared.design.Driver.{Driver}
+use Rattle.opgen_design.specs.declared.design.Driver.TheVariants.{Register}
+use Rattle.opgen_design.specs.Tree.{Tree}
+use Rattle.opgen_design.specs.Order.{is_register, IsOrderOf, waiting}
+use Rattle.opgen_design.specs.Run.{Words, scope}
+use Rattle.opgen_design.specs.Sound.{IsSound, ReadsOutput, Target, signal, port_of, target, ReadsInputs, DriverPasses, at_driver, IsInput}
+use Rattle.opgen_design.proofs.SoundLaws.{declared-at, once-at, at-contains, contains-at}
 use Rattle.opgen_sim.specs.Evaluate.{HaveWidths, IsThere, driver_word, put_at, put, put_option, settle}
 use Rattle.opgen_sim.proofs.Reading.{at, driver-same}
 use Rattle.opgen_sim.proofs.Widths.{agree-at, put-widths, declared-there}

@@ -6,19 +6,19 @@ use Rattle.std.proofs.lemmas.List.Elements.{All-cons}
 use Rattle.opgen_num.specs.Words.{nat}
 use Rattle.std.proofs.lemmas.List.{length-map, ext_get_or}
 use Rattle.std.proofs.lemmas.Option.{slice_get_within, get_or_from_slice_get}
-use Rattle.opgen_net.specs.declared.design.Design.{Design}
-use Rattle.opgen_net.specs.declared.design.Dir.{Dir}
-use Rattle.opgen_net.specs.declared.design.Dir.TheVariants.{In, Out}
-use Rattle.opgen_net.specs.declared.design.Port.{Port}
-use Rattle.opgen_net.specs.declared.design.Driver.{Driver}
-use Rattle.opgen_net.specs.declared.design.Driver.TheVariants.{Assign, Choice, Table, Register, Output}
-use Rattle.opgen_net.specs.Reads.{AllReads, AllOperandsRead, ReadsName, SomeOperandReads}
-use Rattle.opgen_net.specs.Run.{Words, scope, Cycle, Meets, RunsOn, IsTableWord, at_ports, is_in, initial_words}
-use Rattle.opgen_net.specs.Sound.{IsSound, NotDriven, ReadsOutput, Target, signal, port_of, target, Needs, IsDriven, HasWidth, signal_widths, ReadsInputs, SignalPasses, PortPasses, DriverPasses, at_signal, at_port, at_driver}
-use Rattle.opgen_net.specs.Tree.{Tree, Trees, name, part, bits, port, inverse, chain, none, more}
-use Rattle.opgen_net.specs.Value.{value, chosen, word_at}
-use Rattle.opgen_net.proofs.SoundLaws.{contains-at}
-use Rattle.opgen_net.proofs.ValueLaws.{same_value}
+use Rattle.opgen_design.specs.declared.design.Design.{Design}
+use Rattle.opgen_design.specs.declared.design.Dir.{Dir}
+use Rattle.opgen_design.specs.declared.design.Dir.TheVariants.{In, Out}
+use Rattle.opgen_design.specs.declared.design.Port.{Port}
+use Rattle.opgen_design.specs.declared.design.Driver.{Driver}
+use Rattle.opgen_design.specs.declared.design.Driver.TheVariants.{Assign, Choice, Table, Register, Output}
+use Rattle.opgen_design.specs.Reads.{AllReads, AllOperandsRead, ReadsName, SomeOperandReads}
+use Rattle.opgen_design.specs.Run.{Words, scope, Cycle, Meets, RunsOn, IsTableWord, at_ports, is_in, initial_words}
+use Rattle.opgen_design.specs.Sound.{IsSound, NotDriven, ReadsOutput, Target, signal, port_of, target, Needs, IsDriven, HasWidth, signal_widths, ReadsInputs, SignalPasses, PortPasses, DriverPasses, at_signal, at_port, at_driver}
+use Rattle.opgen_design.specs.Tree.{Tree, Trees, name, part, bits, port, inverse, chain, none, more}
+use Rattle.opgen_design.specs.Value.{value, chosen, word_at}
+use Rattle.opgen_design.proofs.SoundLaws.{contains-at}
+use Rattle.opgen_design.proofs.ValueLaws.{same_value}
 use Rattle.opgen_sim.specs.Sims.{SameRegisters}
 use Rattle.opgen_sim.specs.OneRun.{HasAtMostOneRun}
 use Rattle.opgen_sim.specs.Evaluate.{HaveWidths, table_word}

@@ -2,11 +2,11 @@
 use Rattle.std.proofs.Common.{◌≡◌, ℕ, ◌+◌, ◌-◌, ◌<◌, ◌≤◌, Bool, List, [], ◌∷◌, Box, Global, length, take, drop, get_or, sym, ap, ◌∙◌, arith}
 use Rattle.std.proofs.Math.Seq.{take-length}
 use Rattle.std.proofs.lemmas.List.{drop_more}
-use Rattle.opgen_net.specs.declared.expr.Expr as X
-use Rattle.opgen_net.specs.declared.expr.Expr.{Expr, Name, Part, Bits, Port, Not, fold_out-Expr}
-use Rattle.opgen_net.specs.declared.expr.Slice.{Slice}
-use Rattle.opgen_net.specs.Tree.{Tree, name, part, bits, port, inverse, more}
-use Rattle.opgen_net.specs.Plain.{plain, plain_level, plain_all}
+use Rattle.opgen_design.specs.declared.expr.Expr as X
+use Rattle.opgen_design.specs.declared.expr.Expr.{Expr, Name, Part, Bits, Port, Not, fold_out-Expr}
+use Rattle.opgen_design.specs.declared.expr.Slice.{Slice}
+use Rattle.opgen_design.specs.Tree.{Tree, name, part, bits, port, inverse, more}
+use Rattle.opgen_design.specs.Plain.{plain, plain_level, plain_all}
 
 pub plain-name : (n : ℕ) → plain (Name n) ≡ name n
 unfolding X.out-Expr denote.Hole.Carrier.out

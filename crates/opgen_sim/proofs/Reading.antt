@@ -2,17 +2,17 @@
 use Rattle.std.proofs.Common.{◌≡◌, ℕ, zero, suc, ◌<◌, Bool, false, List, [], ◌∷◌, length, Some, refl, ap, ◌∙◌, subst, inl, inr, arith}
 use Rattle.std.specs.Prelude.{IfSome, slice_get}
 use Rattle.std.proofs.lemmas.List.{get_or-set_other}
-use Rattle.opgen_net.specs.declared.design.Design.{Design}
-use Rattle.opgen_net.specs.declared.design.Dir.TheVariants.{In}
-use Rattle.opgen_net.specs.declared.design.Driver.{Driver}
-use Rattle.opgen_net.specs.declared.design.Driver.TheVariants.{Assign, Choice, Table, Register, Output}
-use Rattle.opgen_net.specs.Made.{is_register}
-use Rattle.opgen_net.specs.Reads.{AllReads, AllOperandsRead, ReadsName, SomeOperandReads}
-use Rattle.opgen_net.specs.Run.{Words, scope}
-use Rattle.opgen_net.specs.Sound.{Target, signal, port_of, Needs, IsInput, ReadsInputs, Names}
-use Rattle.opgen_net.specs.Tree.{Tree, Trees, name, part, bits, port, inverse, chain, none, more}
-use Rattle.opgen_net.specs.Value.{value, chosen, word_at}
-use Rattle.opgen_net.proofs.ValueLaws.{same_value}
+use Rattle.opgen_design.specs.declared.design.Design.{Design}
+use Rattle.opgen_design.specs.declared.design.Dir.TheVariants.{In}
+use Rattle.opgen_design.specs.declared.design.Driver.{Driver}
+use Rattle.opgen_design.specs.declared.design.Driver.TheVariants.{Assign, Choice, Table, Register, Output}
+use Rattle.opgen_design.specs.Order.{is_register}
+use Rattle.opgen_design.specs.Reads.{AllReads, AllOperandsRead, ReadsName, SomeOperandReads}
+use Rattle.opgen_design.specs.Run.{Words, scope}
+use Rattle.opgen_design.specs.Sound.{Target, signal, port_of, Needs, IsInput, ReadsInputs, Names}
+use Rattle.opgen_design.specs.Tree.{Tree, Trees, name, part, bits, port, inverse, chain, none, more}
+use Rattle.opgen_design.specs.Value.{value, chosen, word_at}
+use Rattle.opgen_design.proofs.ValueLaws.{same_value}
 use Rattle.opgen_sim.specs.Evaluate.{driver_word, table_word, put_at}
 
 module _ (P Q : ℕ → Type 0) (r : ℕ) where

@@ -4,13 +4,13 @@ use Rattle.std.specs.Prelude.{◌≢◌, slice_get}
 use Rattle.std.proofs.Math.ListN.{get_or-map}
 use Rattle.std.proofs.Math.Seq.{map-set_same}
 use Rattle.std.proofs.lemmas.List.{length-set, get_or-set_same, get_or-set_other}
-use Rattle.opgen_net.specs.declared.design.Design.{Design}
-use Rattle.opgen_net.specs.declared.design.Driver.{Driver}
-use Rattle.opgen_net.specs.declared.design.Driver.TheVariants.{Assign, Choice, Table, Register, Output}
-use Rattle.opgen_net.specs.Run.{Words, scope}
-use Rattle.opgen_net.specs.Sound.{IsSound, WidthsAgree, signal, target, signal_widths}
-use Rattle.opgen_net.specs.Tree.{Tree}
-use Rattle.opgen_net.specs.Value.{value, word_at}
+use Rattle.opgen_design.specs.declared.design.Design.{Design}
+use Rattle.opgen_design.specs.declared.design.Driver.{Driver}
+use Rattle.opgen_design.specs.declared.design.Driver.TheVariants.{Assign, Choice, Table, Register, Output}
+use Rattle.opgen_design.specs.Run.{Words, scope}
+use Rattle.opgen_design.specs.Sound.{IsSound, WidthsAgree, signal, target, signal_widths}
+use Rattle.opgen_design.specs.Tree.{Tree}
+use Rattle.opgen_design.specs.Value.{value, word_at}
 use Rattle.opgen_sim.specs.Evaluate.{HaveWidths, hand_on, hand_all_on}
 use Rattle.opgen_sim.proofs.Widths.{word-length}
 

@@ -3,10 +3,10 @@ use Rattle.std.proofs.Common.{◌≡◌, ℕ, Bool, List, [], ◌∷◌, map, ge
 use Rattle.std.specs.Prelude.{slice_get}
 use Rattle.std.proofs.lemmas.Option.{slice_get-get_or}
 use Rattle.opgen_num.specs.Words.{nat}
-use Rattle.opgen_net.specs.declared.design.Design.{Design}
-use Rattle.opgen_net.specs.declared.design.Driver.{Driver}
-use Rattle.opgen_net.specs.declared.design.Driver.TheVariants.{Assign, Choice, Table, Register, Output}
-use Rattle.opgen_net.specs.Run.{Words, Cycle, Meets, RunsOn, input_widths, outputs_of}
+use Rattle.opgen_design.specs.declared.design.Design.{Design}
+use Rattle.opgen_design.specs.declared.design.Driver.{Driver}
+use Rattle.opgen_design.specs.declared.design.Driver.TheVariants.{Assign, Choice, Table, Register, Output}
+use Rattle.opgen_design.specs.Run.{Words, Cycle, Meets, RunsOn, input_widths, outputs_of}
 use Rattle.opgen_sim.specs.Sims.{SameRegisters}
 use Rattle.opgen_sim.specs.Step.{words_of}
 use Rattle.opgen_sim.specs.Runs.{StepsOn, StepsAreRuns}

@@ -3,15 +3,15 @@ use Rattle.std.proofs.Common.{◌≡◌, ℕ, zero, suc, Bool, List, [], ◌∷�
 use Rattle.std.specs.Prelude.{IsSome, IfSome, slice_get, unwrap_or}
 use Rattle.opgen_num.specs.Words.{word}
 use Rattle.opgen_num.specs.WordLaws.{length-word}
-use Rattle.opgen_net.specs.declared.design.Design.{Design}
-use Rattle.opgen_net.specs.declared.design.Dir.{Dir}
-use Rattle.opgen_net.specs.declared.design.Driver.TheVariants.{Register}
-use Rattle.opgen_net.specs.declared.design.Port.{Port}
-use Rattle.opgen_net.specs.declared.design.Signal.{Signal}
-use Rattle.opgen_net.specs.Run.{at_ports, initial_words}
-use Rattle.opgen_net.specs.Sound.{IsSound, Width, NoInitial, IsSignalWide, SignalPasses, signal_widths, at_signal}
-use Rattle.opgen_net.specs.Value.{word_at}
-use Rattle.opgen_net.proofs.SoundLaws.{at-contains}
+use Rattle.opgen_design.specs.declared.design.Design.{Design}
+use Rattle.opgen_design.specs.declared.design.Dir.{Dir}
+use Rattle.opgen_design.specs.declared.design.Driver.TheVariants.{Register}
+use Rattle.opgen_design.specs.declared.design.Port.{Port}
+use Rattle.opgen_design.specs.declared.design.Signal.{Signal}
+use Rattle.opgen_design.specs.Run.{at_ports, initial_words}
+use Rattle.opgen_design.specs.Sound.{IsSound, Width, NoInitial, IsSignalWide, SignalPasses, signal_widths, at_signal}
+use Rattle.opgen_design.specs.Value.{word_at}
+use Rattle.opgen_design.proofs.SoundLaws.{at-contains}
 use Rattle.opgen_sim.specs.Sims.{SameRegisters}
 
 abbrev pub start : Signal → List Bool

@@ -6,16 +6,16 @@ use Rattle.std.proofs.Math.Seq.{map-set_same}
 use Rattle.std.proofs.lemmas.List.{length-map}
 use Rattle.std.proofs.lemmas.Option.{slice_get-map, slice_get-get_or, slice_get_within, get_or_from_slice_get}
 use Rattle.opgen_num.specs.Words.{nat}
-use Rattle.opgen_net.specs.declared.design.Design.{Design}
-use Rattle.opgen_net.specs.declared.design.Signal.{Signal}
-use Rattle.opgen_net.specs.declared.design.Driver.{Driver}
-use Rattle.opgen_net.specs.declared.design.Driver.TheVariants.{Assign, Choice, Table, Register, Output}
-use Rattle.opgen_net.specs.Run.{Words, scope}
-use Rattle.opgen_net.specs.Tree.{Tree}
-use Rattle.opgen_net.specs.Value.{value, chosen}
-use Rattle.opgen_net.specs.Width.{IsWidth, width}
-use Rattle.opgen_net.specs.Sound.{IsSound, Width, Target, signal, port_of, target, Names, HasWidth, WidthsAgree, SignalPasses, DriverPasses, signal_widths, port_widths, at_signal, at_driver}
-use Rattle.opgen_net.proofs.SoundLaws.{declared-at}
+use Rattle.opgen_design.specs.declared.design.Design.{Design}
+use Rattle.opgen_design.specs.declared.design.Signal.{Signal}
+use Rattle.opgen_design.specs.declared.design.Driver.{Driver}
+use Rattle.opgen_design.specs.declared.design.Driver.TheVariants.{Assign, Choice, Table, Register, Output}
+use Rattle.opgen_design.specs.Run.{Words, scope}
+use Rattle.opgen_design.specs.Tree.{Tree}
+use Rattle.opgen_design.specs.Value.{value, chosen}
+use Rattle.opgen_design.specs.Width.{IsWidth, width}
+use Rattle.opgen_design.specs.Sound.{IsSound, Width, Target, signal, port_of, target, Names, HasWidth, WidthsAgree, SignalPasses, DriverPasses, signal_widths, port_widths, at_signal, at_driver}
+use Rattle.opgen_design.proofs.SoundLaws.{declared-at}
 use Rattle.opgen_sim.specs.Fitting.{AreNarrow, Fits}
 use Rattle.opgen_sim.specs.Evaluate.{DriverFits, HaveWidths, IsThere, driver_word, table_word, put_at, put, put_option, settle}
 use Rattle.opgen_sim.proofs.Fitting.{value-fits}

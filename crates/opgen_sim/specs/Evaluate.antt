@@ -1,12 +1,12 @@
 -- The drivers of a design evaluated one after another.
 use Rattle.std.specs.Prelude.{ℕ, ◌≡◌, ◌<◌, Bool, List, [], ◌∷◌, map, length, nat_eq, if◌then◌else◌, slice_get, slice_set, Option, Some, None}
 use Rattle.opgen_num.specs.Words.{nat}
-use Rattle.opgen_net.specs.declared.design.Design.{Design}
-use Rattle.opgen_net.specs.declared.design.Driver.{Driver}
-use Rattle.opgen_net.specs.declared.design.Driver.TheVariants.{Assign, Choice, Table, Register, Output}
-use Rattle.opgen_net.specs.Run.{Words, scope}
-use Rattle.opgen_net.specs.Sound.{Target, signal, port_of, target, signal_widths, port_widths}
-use Rattle.opgen_net.specs.Value.{Scope, value, chosen}
+use Rattle.opgen_design.specs.declared.design.Design.{Design}
+use Rattle.opgen_design.specs.declared.design.Driver.{Driver}
+use Rattle.opgen_design.specs.declared.design.Driver.TheVariants.{Assign, Choice, Table, Register, Output}
+use Rattle.opgen_design.specs.Run.{Words, scope}
+use Rattle.opgen_design.specs.Sound.{Target, signal, port_of, target, signal_widths, port_widths}
+use Rattle.opgen_design.specs.Value.{Scope, value, chosen}
 use Rattle.opgen_sim.specs.Fitting.{Fits}
 
 -- the word of the first row of an address, and else the other word

@@ -1,9 +1,9 @@
 -- Expressions over words: the words of the signals, and those of the ports.
 use Rattle.std.specs.Prelude.{ℕ, ◌≤◌, Bool, List, length, map, All, IsSome}
 use Rattle.opgen_num.specs.declared.TheConstants.{MAX_WIDTH}
-use Rattle.opgen_net.specs.Tree.{Tree}
-use Rattle.opgen_net.specs.Value.{Scope, word_at}
-use Rattle.opgen_net.specs.Width.{width}
+use Rattle.opgen_design.specs.Tree.{Tree}
+use Rattle.opgen_design.specs.Value.{Scope, word_at}
+use Rattle.opgen_design.specs.Width.{width}
 
 abbrev pub widths_of : List (List Bool) → List ℕ
 widths_of ws = map length ws

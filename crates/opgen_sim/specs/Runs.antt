@@ -1,8 +1,8 @@
 -- Steps one after another.
 use Rattle.std.specs.Prelude.{ℕ, ◌≡◌, Bool, List, [], ◌∷◌, map}
 use Rattle.opgen_num.specs.Words.{nat}
-use Rattle.opgen_net.specs.declared.design.Design.{Design}
-use Rattle.opgen_net.specs.Run.{Words, Run, input_widths, outputs_of}
+use Rattle.opgen_design.specs.declared.design.Design.{Design}
+use Rattle.opgen_design.specs.Run.{Words, Run, input_widths, outputs_of}
 use Rattle.opgen_sim.specs.declared.sim.Sim.{Sim}
 use Rattle.opgen_sim.specs.Sims.{IsNew, registers}
 use Rattle.opgen_sim.specs.Step.{IsStep, words_of}

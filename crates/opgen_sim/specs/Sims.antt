@@ -1,12 +1,12 @@
 -- Simulators of designs, and the registers' words that they hold.
 use Rattle.std.specs.Prelude.{ℕ, ◌≡◌, Bool, List, length, map, Some, slice_get}
-use Rattle.opgen_net.specs.declared.design.Design.{Design}
-use Rattle.opgen_net.specs.declared.design.Driver.TheVariants.{Register}
-use Rattle.opgen_net.specs.Order.{IsOrderOf}
-use Rattle.opgen_net.specs.Run.{initial_words}
-use Rattle.opgen_net.specs.Sound.{IsSound, signal_widths}
-use Rattle.opgen_net.specs.Tree.{Tree}
-use Rattle.opgen_net.specs.Value.{word_at}
+use Rattle.opgen_design.specs.declared.design.Design.{Design}
+use Rattle.opgen_design.specs.declared.design.Driver.TheVariants.{Register}
+use Rattle.opgen_design.specs.Order.{IsOrderOf}
+use Rattle.opgen_design.specs.Run.{initial_words}
+use Rattle.opgen_design.specs.Sound.{IsSound, signal_widths}
+use Rattle.opgen_design.specs.Tree.{Tree}
+use Rattle.opgen_design.specs.Value.{word_at}
 use Rattle.opgen_sim.specs.declared.sim.Sim.{Sim}
 use Rattle.opgen_sim.specs.Evaluate.{HaveWidths}
 

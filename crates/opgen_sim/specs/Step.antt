@@ -1,8 +1,8 @@
 -- One step of the simulator: numbers at the ports, and a cycle between them.
 use Rattle.std.specs.Prelude.{ℕ, ◌≡◌, ◌<◌, ◌^◌, Bool, List, [], ◌∷◌, map}
 use Rattle.opgen_num.specs.Words.{nat, word}
-use Rattle.opgen_net.specs.declared.design.Design.{Design}
-use Rattle.opgen_net.specs.Run.{Words, Cycle, input_widths, outputs_of}
+use Rattle.opgen_design.specs.declared.design.Design.{Design}
+use Rattle.opgen_design.specs.Run.{Words, Cycle, input_widths, outputs_of}
 
 -- numbers as words of these widths
 abbrev pub words_of : (widths numbers : List ℕ) → List (List Bool)

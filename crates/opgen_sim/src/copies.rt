@@ -1,7 +1,7 @@
 ghost use Rattle.std.specs.Prelude.{◌≡◌, IfOk};
 
 use opgen_list::Items;
-use opgen_net::{Design, Driver, Formula, Port, Signal};
+use opgen_design::{Design, Driver, Formula, Port, Signal};
 use opgen_num::Word;
 use std::alloc::{AllocError, Global};
 

@@ -1,11 +1,11 @@
 ghost use Rattle.std.specs.Prelude.{◌≡◌, length, map};
-ghost use Rattle.opgen_net.specs.Order.{IsOrderOf};
-ghost use Rattle.opgen_net.specs.Run.{Cycle, Words, at_ports, is_in};
-ghost use Rattle.opgen_net.specs.Sound.{IsSound, signal_widths};
+ghost use Rattle.opgen_design.specs.Order.{IsOrderOf};
+ghost use Rattle.opgen_design.specs.Run.{Cycle, Words, at_ports, is_in};
+ghost use Rattle.opgen_design.specs.Sound.{IsSound, signal_widths};
 ghost use Rattle.opgen_sim.specs.Evaluate.{HaveWidths};
 
 use crate::evaluate::{hand_all_on, settle};
-use opgen_net::Design;
+use opgen_design::Design;
 use opgen_num::Word;
 
 /// Runs one cycle of a sound design in place: before it the registers' words stand in `names` and the inputs in `ports`, after it

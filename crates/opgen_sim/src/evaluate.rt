@@ -1,12 +1,12 @@
 ghost use Rattle.std.specs.Prelude.{ℕ, ◌≡◌, ◌<◌, Some, length, map, slice_get};
-ghost use Rattle.opgen_net.specs.Run.{Words};
-ghost use Rattle.opgen_net.specs.Value.{chosen};
-ghost use Rattle.opgen_net.specs.Sound.{IsSound, signal_widths, target};
+ghost use Rattle.opgen_design.specs.Run.{Words};
+ghost use Rattle.opgen_design.specs.Value.{chosen};
+ghost use Rattle.opgen_design.specs.Sound.{IsSound, signal_widths, target};
 ghost use Rattle.opgen_sim.specs.Fitting.{AreNarrow, scope_of};
 ghost use Rattle.opgen_sim.specs.Evaluate.{DriverFits, HaveWidths, IsThere, driver_word, hand_all_on, hand_on, put, settle, table_word};
 
 use crate::value::value;
-use opgen_net::{Design, Driver};
+use opgen_design::{Design, Driver};
 use opgen_num::Word;
 
 // The first word where the condition is the bit 1, and else the second.

@@ -1,10 +1,10 @@
 //! Numbers at the ports of a design.
 ghost use Rattle.std.specs.Prelude.{◌≡◌, ◌<◌, ◌^◌, ◌+◌, true, if◌then◌else◌, length, map, slice_index, slice_set};
 ghost use Rattle.opgen_num.specs.Words.{nat, word};
-ghost use Rattle.opgen_net.specs.Run.{at_ports, is_in, is_out};
+ghost use Rattle.opgen_design.specs.Run.{at_ports, is_in, is_out};
 ghost use Rattle.opgen_sim.specs.Step.{FitWidths, words_of};
 
-use opgen_net::{Dir, Port};
+use opgen_design::{Dir, Port};
 use opgen_num::Word;
 
 // Puts the next input at an input port, and counts it.

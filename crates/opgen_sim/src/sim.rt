@@ -1,14 +1,14 @@
 ghost use Rattle.std.specs.Prelude.{◌≡◌, IfOk, length, map, unwrap_or};
 ghost use Rattle.opgen_num.specs.Words.{word};
-ghost use Rattle.opgen_net.specs.Run.{at_ports, input_widths, is_out};
-ghost use Rattle.opgen_net.specs.Sound.{HasNumbers, IsSound, port_widths};
+ghost use Rattle.opgen_design.specs.Run.{at_ports, input_widths, is_out};
+ghost use Rattle.opgen_design.specs.Sound.{HasNumbers, IsSound, port_widths};
 ghost use Rattle.opgen_sim.specs.Sims.{IsNew, IsReady, registers, simulated};
 ghost use Rattle.opgen_sim.specs.Step.{FitWidths, IsStep};
 
 use crate::copies::copy;
 use crate::cycle::run_cycle;
 use crate::numbers::{give_outputs, take_inputs};
-use opgen_net::{Design, Port, Signal};
+use opgen_design::{Design, Port, Signal};
 use opgen_num::{Memory, Word};
 use std::alloc::{AllocError, Global};
 use std::mem;

@@ -1,9 +1,9 @@
 ghost use Rattle.std.specs.Prelude.{◌≡◌, ◌∷◌, [], IfOk, codes, length};
-ghost use Rattle.opgen_net.specs.declared.design.Dir.TheVariants.{In, Out};
+ghost use Rattle.opgen_design.specs.declared.design.Dir.TheVariants.{In, Out};
 
 use crate::Sim;
 use opgen_list::{Items, Text};
-use opgen_net::{Design, Dir, Driver, Expr, Formula, Port, Signal};
+use opgen_design::{Design, Dir, Driver, Expr, Formula, Port, Signal};
 use opgen_num::{Memory, Word};
 use std::alloc::Global;
 use std::test::Fail;

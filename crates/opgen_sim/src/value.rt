@@ -1,11 +1,11 @@
 ghost use Rattle.std.specs.Prelude.{◌≡◌, ◌<◌, IsSome, length};
-ghost use Rattle.opgen_net.specs.Plain.{plain, plain_all};
-ghost use Rattle.opgen_net.specs.Value.{value, chain_value, word_at};
-ghost use Rattle.opgen_net.specs.Width.{chain_width};
+ghost use Rattle.opgen_design.specs.Plain.{plain, plain_all};
+ghost use Rattle.opgen_design.specs.Value.{value, chain_value, word_at};
+ghost use Rattle.opgen_design.specs.Width.{chain_width};
 ghost use Rattle.opgen_sim.specs.Fitting.{AreNarrow, Fits, scope_of, widths_of};
 
 use crate::words::{combined, cut, turned};
-use opgen_net::{Expr, Op};
+use opgen_design::{Expr, Op};
 use opgen_num::Word;
 
 fn word_at(words: &[Word], place: usize) -> Word

@@ -1,10 +1,10 @@
 ghost use Rattle.std.specs.Prelude.{ℕ, ◌≡◌, ◌^◌, ◌+◌, ◌-◌, ◌<◌, ◌≤◌, ◌++◌, ◌&&◌, ◌||◌, Some, false, true, length, map, not};
 ghost use Rattle.opgen_num.specs.Sums.{pairwise, sum_with, xor};
 ghost use Rattle.opgen_num.specs.Words.{digit};
-ghost use Rattle.opgen_net.specs.Value.{combined, cut};
-ghost use Rattle.opgen_net.specs.Width.{joined};
+ghost use Rattle.opgen_design.specs.Value.{combined, cut};
+ghost use Rattle.opgen_design.specs.Width.{joined};
 
-use opgen_net::Op;
+use opgen_design::Op;
 use opgen_num::Word;
 
 fn power(exponent: u32) -> u128

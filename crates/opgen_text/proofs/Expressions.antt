@@ -2,9 +2,9 @@
 use Rattle.std.specs.Prelude.{is_some}
 use Rattle.std.proofs.Common.{◌≡◌, inl, inr, ℕ, zero, suc, ◌≤◌, Bool, true, false, cond, List, [], ◌∷◌, codes, length, Option, Some, None, refl, ap, sym, ◌∙◌, arith}
 use Rattle.opgen_text.specs.declared.kind.TokenKind.TheVariants.{LeftParen, RightParen}
-use Rattle.opgen_net.specs.declared.expr.Op.{Op}
-use Rattle.opgen_net.specs.declared.expr.Op.TheVariants as op
-use Rattle.opgen_net.specs.Tree.{Tree, Trees, name, part, bits, port, inverse, chain, none, more}
+use Rattle.opgen_design.specs.declared.expr.Op.{Op}
+use Rattle.opgen_design.specs.declared.expr.Op.TheVariants as op
+use Rattle.opgen_design.specs.Tree.{Tree, Trees, name, part, bits, port, inverse, chain, none, more}
 use Rattle.opgen_text.specs.Symbols.{Symbol, word, number, mark}
 use Rattle.opgen_text.specs.Grammar.{Names, place_of, IsIndex, value, operator, IsSignalPart, whole, slice, IsPrimary, signal, literal, input, group, IsFactor, plain, opposite, AreOperands, done, next, IsExpression, single, several}
 use Rattle.opgen_text.specs.Reader.{◌>>=◌, and_then, choice, eat, range_at, part_at, input_at, closed, op_at, primary_at, factor_at, operands_at, expression_at, inside}

@@ -2,11 +2,11 @@
 use Rattle.std.specs.Prelude.{◌≡◌, List, [], ◌∷◌, codes, true, false, None, refl}
 use Rattle.opgen_text.specs.declared.kind.TokenKind.TheVariants.{Word, Bits, LeftParen, RightParen, Semicolon, Colon, Dot, LessEqual}
 use Rattle.opgen_text.specs.declared.place.Place.TheVariants.{Library, End}
-use Rattle.opgen_net.specs.declared.design.Design.{Design}
-use Rattle.opgen_net.specs.declared.design.Dir.TheVariants.{In, Out}
-use Rattle.opgen_net.specs.declared.design.Driver.TheVariants.{Assign, Output}
-use Rattle.opgen_net.specs.Names.{refused_words}
-use Rattle.opgen_net.specs.Tree as tree
+use Rattle.opgen_design.specs.declared.design.Design.{Design}
+use Rattle.opgen_design.specs.declared.design.Dir.TheVariants.{In, Out}
+use Rattle.opgen_design.specs.declared.design.Driver.TheVariants.{Assign, Output}
+use Rattle.opgen_design.specs.Names.{refused_words}
+use Rattle.opgen_design.specs.Tree as tree
 use Rattle.opgen_text.specs.Symbols.{Symbol, word, number, string, mark, symbol_of, pieces}
 use Rattle.opgen_text.specs.Grammar.{whole, signal, input, plain, single}
 use Rattle.opgen_text.specs.Statements.{Reading, nothing, Follows, stay, onward, library_clause, use_logic, use_numeric, entity, port, last_port, port_line, end_entity, bare, of_unit, architecture, absent, begin, statement, assignment, output, end_without_process}

@@ -5,14 +5,14 @@ use Rattle.std.proofs.Common.{◌≡◌, ◌⊎◌, inl, inr, ℕ, zero, suc, �
 use Rattle.opgen_text.specs.declared.kind.TokenKind.TheVariants.{ZeroChar, LeftParen, RightParen, Semicolon, Colon, Comma, Dot, Equal, LessEqual, Arrow, Becomes}
 use Rattle.opgen_text.specs.declared.place.Place.{Place}
 use Rattle.opgen_text.specs.declared.place.Place.TheVariants as at
-use Rattle.opgen_net.specs.declared.design.Dir.{Dir}
-use Rattle.opgen_net.specs.declared.design.Dir.TheVariants.{In, Out}
-use Rattle.opgen_net.specs.declared.design.Port.{Port}
-use Rattle.opgen_net.specs.declared.design.Signal.{Signal}
-use Rattle.opgen_net.specs.declared.design.Driver.{Driver}
-use Rattle.opgen_net.specs.declared.design.Driver.TheVariants.{Assign, Choice, Table, Register, Output}
-use Rattle.opgen_net.specs.Names.{is_allowed_name}
-use Rattle.opgen_net.specs.Tree.{Tree}
+use Rattle.opgen_design.specs.declared.design.Dir.{Dir}
+use Rattle.opgen_design.specs.declared.design.Dir.TheVariants.{In, Out}
+use Rattle.opgen_design.specs.declared.design.Port.{Port}
+use Rattle.opgen_design.specs.declared.design.Signal.{Signal}
+use Rattle.opgen_design.specs.declared.design.Driver.{Driver}
+use Rattle.opgen_design.specs.declared.design.Driver.TheVariants.{Assign, Choice, Table, Register, Output}
+use Rattle.opgen_design.specs.Names.{is_allowed_name}
+use Rattle.opgen_design.specs.Tree.{Tree}
 use Rattle.opgen_text.specs.Symbols.{Symbol, word, number, string, mark}
 use Rattle.opgen_text.specs.Grammar.{Names, place_of, IsName, IsIndex, value, max_depth, IsSignalPart, whole, slice, IsPrimary, signal as signal_part, literal, input, group, IsFactor, plain, opposite, IsExpression, single, several}
 use Rattle.opgen_text.specs.Statements.{Reading, scope, with_entity, with_port, with_signal, with_driver, with_name, with_architecture, direction, range_to_zero, end_of_piece, IsPort, port_line, IsEnd, bare, of_unit, named, of_unit_named, IsInitial, absent, written, zeros, AreRows, others, row, IsConcurrent, assignment, output, choice as conditional, table, IsClocked, clocked, at_edge, Takes, library_clause, use_logic, use_numeric, entity, port, last_port, end_entity, architecture, signal, begin, statement, process, process_is, register, end_if, end_process, later_statement, end_without_process, end_after_process}

@@ -3,10 +3,10 @@ use Rattle.std.specs.Prelude.{ℕ, ◌≡◌, ◌*◌, Bool, List, [], ◌∷◌
 use Rattle.std.proofs.Common.{lit<}
 use Rattle.std.proofs.lemmas.Fmt.{decimal_digit}
 use Rattle.opgen_num.specs.Words.{word}
-use Rattle.opgen_net.specs.declared.design.Design.{Design}
-use Rattle.opgen_net.specs.declared.design.Dir.TheVariants.{In, Out}
-use Rattle.opgen_net.specs.declared.design.Driver.TheVariants.{Assign, Table, Output}
-use Rattle.opgen_net.specs.Tree.{name, port}
+use Rattle.opgen_design.specs.declared.design.Design.{Design}
+use Rattle.opgen_design.specs.declared.design.Dir.TheVariants.{In, Out}
+use Rattle.opgen_design.specs.declared.design.Driver.TheVariants.{Assign, Table, Output}
+use Rattle.opgen_design.specs.Tree.{name, port}
 use Rattle.opgen_text.specs.ExpressionText.{word_text, range_text}
 use Rattle.opgen_text.specs.DesignText.{port_text, entity_text, signal_text, row_text, other_text, driver_text, drivers_text, process_text, architecture_text, text_of}
 

@@ -3,7 +3,7 @@ use Rattle.std.specs.Prelude.{if◌then◌else◌, ◌≢◌}
 use Rattle.std.proofs.Common.{◌≡◌, ◌⊎◌, inl, inr, ℕ, suc, ◌+◌, Bool, true, false, List, [], ◌∷◌, ◌++◌, length, take, drop, Option, Some, None, refl, ap, sym, ◌∙◌, arith, append_assoc}
 use Rattle.std.proofs.lemmas.Bool.{cases_Bool}
 use Rattle.std.proofs.lemmas.Grind.{common_steps}
-use Rattle.opgen_net.specs.declared.design.Design.{Design}
+use Rattle.opgen_design.specs.declared.design.Design.{Design}
 use Rattle.opgen_text.specs.declared.kind.Token.{Token}
 use Rattle.opgen_text.specs.declared.place.Place.{Place}
 use Rattle.opgen_text.specs.declared.place.Place.TheVariants.{Library, UseLogic, UseNumeric, Entity, Ports, EndEntity, Architecture, Declarations, Body, Process, EndProcess, AfterProcess, End}

@@ -1,11 +1,11 @@
 -- The text of an expression in the VHDL subset, as bytes (IEEE 1076-1993, 7.1 to 7.3).
 -- Words and ranges are unfoldable: a proof opens the ones that it needs.
 use Rattle.std.specs.Prelude.{ℕ, zero, suc, Bool, true, false, List, [], ◌∷◌, ◌++◌, codes, decimal, slice_get, unwrap_or, option_map}
-use Rattle.opgen_net.specs.declared.design.Design.{Design}
-use Rattle.opgen_net.specs.declared.expr.Op.{Op}
-use Rattle.opgen_net.specs.declared.expr.Op.TheVariants.{And, Or, Xor, Cat, Plus, Minus}
-use Rattle.opgen_net.specs.Tree.{Tree, Trees, name, part, bits, port, inverse, chain, none, more}
-use Rattle.opgen_net.specs.Width.{in_chain, in_not}
+use Rattle.opgen_design.specs.declared.design.Design.{Design}
+use Rattle.opgen_design.specs.declared.expr.Op.{Op}
+use Rattle.opgen_design.specs.declared.expr.Op.TheVariants.{And, Or, Xor, Cat, Plus, Minus}
+use Rattle.opgen_design.specs.Tree.{Tree, Trees, name, part, bits, port, inverse, chain, none, more}
+use Rattle.opgen_design.specs.Width.{in_chain, in_not}
 
 -- the name of a signal, and of a port, by its place; no text where there is none
 abbrev pub signal_name : Design → ℕ → List ℕ

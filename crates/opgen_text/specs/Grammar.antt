@@ -5,10 +5,10 @@ use Rattle.std.specs.List.{position_or_len}
 use Rattle.std.specs.Str.{bytes_eq}
 use Rattle.std.specs.Str.Parse.{digits_value}
 use Rattle.opgen_text.specs.declared.kind.TokenKind.TheVariants.{LeftParen, RightParen, Ampersand, Plus, Minus}
-use Rattle.opgen_net.specs.declared.expr.Op.{Op}
-use Rattle.opgen_net.specs.declared.expr.Op.TheVariants as op
-use Rattle.opgen_net.specs.Names.{is_allowed_name}
-use Rattle.opgen_net.specs.Tree.{Tree, Trees, name, part, bits, port, inverse, chain, none, more}
+use Rattle.opgen_design.specs.declared.expr.Op.{Op}
+use Rattle.opgen_design.specs.declared.expr.Op.TheVariants as op
+use Rattle.opgen_design.specs.Names.{is_allowed_name}
+use Rattle.opgen_design.specs.Tree.{Tree, Trees, name, part, bits, port, inverse, chain, none, more}
 use Rattle.opgen_text.specs.Symbols.{Symbol, word, number, string, mark}
 
 -- the names that are declared, in order

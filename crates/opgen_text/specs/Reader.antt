@@ -6,16 +6,16 @@ use Rattle.opgen_text.specs.declared.kind.TokenKind.{TokenKind}
 use Rattle.opgen_text.specs.declared.kind.TokenKind.TheVariants.{Word, Number, Bits, ZeroChar, LeftParen, RightParen, Semicolon, Colon, Comma, Dot, Ampersand, Plus, Minus, Equal, LessEqual, Arrow, Becomes}
 use Rattle.opgen_text.specs.declared.place.Place.{Place}
 use Rattle.opgen_text.specs.declared.place.Place.TheVariants as at
-use Rattle.opgen_net.specs.declared.design.Dir.{Dir}
-use Rattle.opgen_net.specs.declared.design.Dir.TheVariants.{In, Out}
-use Rattle.opgen_net.specs.declared.design.Port.{Port}
-use Rattle.opgen_net.specs.declared.design.Signal.{Signal}
-use Rattle.opgen_net.specs.declared.design.Driver.{Driver}
-use Rattle.opgen_net.specs.declared.design.Driver.TheVariants.{Assign, Choice, Table, Register, Output}
-use Rattle.opgen_net.specs.declared.expr.Op.{Op}
-use Rattle.opgen_net.specs.declared.expr.Op.TheVariants as op
-use Rattle.opgen_net.specs.Names.{is_allowed_name}
-use Rattle.opgen_net.specs.Tree.{Tree, Trees, name, part, bits, port, inverse, chain, none, more}
+use Rattle.opgen_design.specs.declared.design.Dir.{Dir}
+use Rattle.opgen_design.specs.declared.design.Dir.TheVariants.{In, Out}
+use Rattle.opgen_design.specs.declared.design.Port.{Port}
+use Rattle.opgen_design.specs.declared.design.Signal.{Signal}
+use Rattle.opgen_design.specs.declared.design.Driver.{Driver}
+use Rattle.opgen_design.specs.declared.design.Driver.TheVariants.{Assign, Choice, Table, Register, Output}
+use Rattle.opgen_design.specs.declared.expr.Op.{Op}
+use Rattle.opgen_design.specs.declared.expr.Op.TheVariants as op
+use Rattle.opgen_design.specs.Names.{is_allowed_name}
+use Rattle.opgen_design.specs.Tree.{Tree, Trees, name, part, bits, port, inverse, chain, none, more}
 use Rattle.opgen_text.specs.Symbols.{Symbol, word, number, string, mark}
 use Rattle.opgen_text.specs.Grammar.{Names, place_of, value, max_depth, operator}
 use Rattle.opgen_text.specs.Statements.{Reading, scope, with_entity, with_port, with_signal, with_driver, with_name, with_architecture}

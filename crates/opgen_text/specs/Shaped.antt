@@ -1,13 +1,13 @@
 -- Designs whose text is one of the VHDL subset.
 use Rattle.std.specs.Prelude.{◌≡◌, ◌≤◌, ◌++◌, length, filter, All, IsTrue}
-use Rattle.opgen_net.specs.declared.design.Design.{Design}
-use Rattle.opgen_net.specs.declared.design.Driver.{Driver}
-use Rattle.opgen_net.specs.declared.design.Driver.TheVariants.{Assign, Choice, Table, Register, Output}
-use Rattle.opgen_net.specs.Tree.{Tree, Trees, name, part, inverse, chain, none, more}
-use Rattle.opgen_net.specs.Width.{nesting, max_nesting}
-use Rattle.opgen_net.specs.Sound.{IsSound}
-use Rattle.opgen_net.specs.Made.{is_register}
-use Rattle.opgen_net.specs.Names.{is_allowed_name}
+use Rattle.opgen_design.specs.declared.design.Design.{Design}
+use Rattle.opgen_design.specs.declared.design.Driver.{Driver}
+use Rattle.opgen_design.specs.declared.design.Driver.TheVariants.{Assign, Choice, Table, Register, Output}
+use Rattle.opgen_design.specs.Tree.{Tree, Trees, name, part, inverse, chain, none, more}
+use Rattle.opgen_design.specs.Width.{nesting, max_nesting}
+use Rattle.opgen_design.specs.Sound.{IsSound}
+use Rattle.opgen_design.specs.Order.{is_register}
+use Rattle.opgen_design.specs.Names.{is_allowed_name}
 use Rattle.opgen_text.specs.DesignText.{is_neither, is_output}
 
 -- a signal, or a part of one

@@ -1,6 +1,6 @@
 -- Which design a text spells, and the first piece at which a text is none of the VHDL subset.
 use Rattle.std.specs.Prelude.{◌≡◌, ℕ, ◌+◌, true, List, ◌++◌, length}
-use Rattle.opgen_net.specs.declared.design.Design.{Design}
+use Rattle.opgen_design.specs.declared.design.Design.{Design}
 use Rattle.opgen_text.specs.declared.kind.Token.{Token}
 use Rattle.opgen_text.specs.declared.place.Place.{Place}
 use Rattle.opgen_text.specs.declared.place.Place.TheVariants.{Library, End}

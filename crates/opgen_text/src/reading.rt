@@ -1,7 +1,7 @@
 // Laws of what a text spells.
 
 ghost use Rattle.std.specs.Prelude.{◌≡◌, ◌⊎◌, ℕ, List};
-ghost use Rattle.opgen_net.specs.declared.design.Design.{Design};
+ghost use Rattle.opgen_design.specs.declared.design.Design.{Design};
 ghost use Rattle.opgen_text.specs.Tokens.{LexicalAt};
 ghost use Rattle.opgen_text.specs.Statements.{Reading};
 ghost use Rattle.opgen_text.specs.Spelled.{Statements, Spells, SyntaxAt};

@@ -4,13 +4,14 @@ use Rattle.std.specs.Prelude.{All, codes, filter, IsTrue, ◌≢◌, slice_index
 use Rattle.std.specs.List.{AllPairs}
 use Rattle.std.proofs.lemmas.List.Elements.{All-nil, All-cons}
 use Rattle.std.proofs.lemmas.List.Filters.{length-filter_both}
-use Rattle.opgen_net.specs.declared.design.Driver.{Driver}
-use Rattle.opgen_net.specs.declared.design.Driver.TheVariants.{Assign, Choice, Table, Register, Output}
+use Rattle.opgen_design.specs.declared.design.Driver.{Driver}
+use Rattle.opgen_design.specs.declared.design.Driver.TheVariants.{Assign, Choice, Table, Register, Output}
 use Rattle.opgen_net.specs.declared.net.Net.{Net}
-use Rattle.opgen_net.specs.Names.{is_allowed_name, refused_words}
-use Rattle.opgen_net.specs.Made.{input_port, output_port, node_signal, node_driver, each_node, output_drivers, is_register, design_of}
+use Rattle.opgen_design.specs.Names.{is_allowed_name, refused_words}
+use Rattle.opgen_net.specs.Made.{input_port, output_port, node_signal, node_driver, each_node, output_drivers, design_of}
+use Rattle.opgen_design.specs.Order.{is_register}
 use Rattle.opgen_net.specs.Named.{port_names, IsFree, IsNamed}
-use Rattle.opgen_net.specs.Sound.{HasNumbers}
+use Rattle.opgen_design.specs.Sound.{HasNumbers}
 use Rattle.opgen_net.specs.Valid.{widths}
 use Rattle.opgen_flat.proofs.Parts.{length-each}
 use Rattle.opgen_scale.specs.Times.{IsTimes}

@@ -4,12 +4,12 @@ use Rattle.std.specs.Prelude.{All, IfSome, slice_get, if◌then◌else◌}
 use Rattle.std.proofs.Math.Nat.{mul-div_cancel_left}
 use Rattle.std.proofs.lemmas.List.{length-take, length-drop, drop_more}
 use Rattle.std.proofs.lemmas.List.Elements.{All-nil, All-cons}
-use Rattle.opgen_net.specs.declared.design.Design.{Design}
-use Rattle.opgen_net.specs.declared.design.Dir.{Dir}
-use Rattle.opgen_net.specs.declared.design.Dir.TheVariants.{In, Out}
-use Rattle.opgen_net.specs.declared.design.Port.{Port}
-use Rattle.opgen_net.specs.Run.{at_ports, is_in, is_out, input_widths}
-use Rattle.opgen_net.specs.Sound.{HasNumbers, IsSound, Width, PortPasses, at_port}
+use Rattle.opgen_design.specs.declared.design.Design.{Design}
+use Rattle.opgen_design.specs.declared.design.Dir.{Dir}
+use Rattle.opgen_design.specs.declared.design.Dir.TheVariants.{In, Out}
+use Rattle.opgen_design.specs.declared.design.Port.{Port}
+use Rattle.opgen_design.specs.Run.{at_ports, is_in, is_out, input_widths}
+use Rattle.opgen_design.specs.Sound.{HasNumbers, IsSound, Width, PortPasses, at_port}
 use Rattle.opgen_sim.specs.Step.{FitWidths}
 use Rattle.opgen_vec.specs.Rows.{AreCells, AreRowsOfCells}
 use Rattle.opgen_vec.specs.Writing.{row_count, row_count_of, HaveSameRows}

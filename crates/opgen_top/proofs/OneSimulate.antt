@@ -1,8 +1,8 @@
 -- The bytes of VHDL and of vectors leave one answer.
 use Rattle.std.proofs.Common.{◌≡◌, inl, inr, ℕ, List, Result, Ok, Err, sym, ap, ◌∙◌, subst}
 use Rattle.std.specs.Str.Lines.{lines}
-use Rattle.opgen_net.specs.declared.design.Design.{Design}
-use Rattle.opgen_net.specs.Run.{input_widths}
+use Rattle.opgen_design.specs.declared.design.Design.{Design}
+use Rattle.opgen_design.specs.Run.{input_widths}
 use Rattle.opgen_text.proofs.Walks.{one_design}
 use Rattle.opgen_read.proofs.FirstCause.{one_cause, no_cause}
 use Rattle.opgen_vec.specs.declared.fault.VecFault.{VecFault}

@@ -16,7 +16,7 @@ use Rattle.opgen_num.proofs.RangeWidth.{count-holds, count-least}
 use Rattle.opgen_net.specs.declared.net.Net.{Net}
 use Rattle.opgen_net.specs.Flow.{Inputs, input_at, slice_flow}
 use Rattle.opgen_net.specs.Valid.{IsValid, slice_width}
-use Rattle.opgen_net.specs.Run.{AreWords}
+use Rattle.opgen_design.specs.Run.{AreWords}
 use Rattle.opgen_operator.specs.declared.spec.Operator.{Operator}
 use Rattle.opgen_operator.specs.declared.spec.Operator.TheVariants.{Scale, Fir, Multiply, Divide, Root, Mcm}
 use Rattle.opgen_operator.specs.declared.spec.Spec.{Spec}

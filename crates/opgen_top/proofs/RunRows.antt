@@ -4,8 +4,8 @@ use Rattle.std.specs.List.{concat}
 use Rattle.std.proofs.Math.ListN.{drop_of_length-le}
 use Rattle.std.proofs.lemmas.List.{length-map, take_all}
 use Rattle.opgen_num.specs.Words.{nat}
-use Rattle.opgen_net.specs.declared.design.Design.{Design}
-use Rattle.opgen_net.specs.Run.{Words, Cycle, RunsOn, is_out, initial_words, input_widths, outputs_of}
+use Rattle.opgen_design.specs.declared.design.Design.{Design}
+use Rattle.opgen_design.specs.Run.{Words, Cycle, RunsOn, is_out, initial_words, input_widths, outputs_of}
 use Rattle.opgen_sim.specs.declared.sim.Sim.{Sim}
 use Rattle.opgen_sim.specs.Sims.{IsNew, SameRegisters, registers}
 use Rattle.opgen_sim.specs.Step.{IsStep, words_of}

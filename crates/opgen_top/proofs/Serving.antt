@@ -3,15 +3,15 @@ use Rattle.std.proofs.Common.{◌≡◌, ℕ, zero, suc, ◌<◌, Bool, true, fa
 use Rattle.std.specs.Prelude.{pos, All, slice_get}
 use Rattle.std.proofs.lemmas.List.Elements.{All-nil, All-cons}
 use Rattle.std.proofs.lemmas.Simd.{map-map}
-use Rattle.opgen_net.specs.declared.design.Design.{Design}
-use Rattle.opgen_net.specs.declared.design.Dir.{Dir}
-use Rattle.opgen_net.specs.declared.design.Dir.TheVariants.{In, Out}
-use Rattle.opgen_net.specs.declared.design.Port.{Port}
+use Rattle.opgen_design.specs.declared.design.Design.{Design}
+use Rattle.opgen_design.specs.declared.design.Dir.{Dir}
+use Rattle.opgen_design.specs.declared.design.Dir.TheVariants.{In, Out}
+use Rattle.opgen_design.specs.declared.design.Port.{Port}
 use Rattle.opgen_net.specs.declared.net.Net.{Net}
 use Rattle.opgen_net.specs.declared.net.Output.{Output}
 use Rattle.opgen_net.specs.Flow.{Inputs, slice_flow}
 use Rattle.opgen_net.specs.Valid.{slice_width, input_widths as net_widths}
-use Rattle.opgen_net.specs.Run.{Words, RunsOn, Run, AreWords, at_ports, is_in, input_widths}
+use Rattle.opgen_design.specs.Run.{Words, RunsOn, Run, AreWords, at_ports, is_in, input_widths}
 use Rattle.opgen_net.specs.Made.{input_port, output_port, design_of}
 use Rattle.opgen_flat.specs.Following.{RunFollowsFlow}
 use Rattle.opgen_flat.specs.Running.{DesignRuns}

@@ -1,6 +1,6 @@
 -- A design that a text spells has a port.
 use Rattle.std.proofs.Common.{ℕ, ◌<◌, List, [], ◌∷◌, length, Option, Some, None, subst, arith, length-append}
-use Rattle.opgen_net.specs.declared.design.Design.{Design}
+use Rattle.opgen_design.specs.declared.design.Design.{Design}
 use Rattle.opgen_text.specs.declared.place.Place.{Place}
 use Rattle.opgen_text.specs.declared.place.Place.TheVariants as at
 use Rattle.opgen_text.specs.Symbols.{Symbol}

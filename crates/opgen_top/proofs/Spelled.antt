@@ -1,10 +1,10 @@
 -- The text of a net's sound design spells that design.
 use Rattle.std.proofs.Common.{◌≡◌, ◌≤◌, ◌^◌, ℕ, List, length, ap, sym, ◌∙◌, subst, arith}
-use Rattle.opgen_net.specs.declared.design.Design.{Design}
+use Rattle.opgen_design.specs.declared.design.Design.{Design}
 use Rattle.opgen_net.specs.declared.net.Net.{Net}
 use Rattle.opgen_net.specs.Made.{node_signal, design_of}
 use Rattle.opgen_net.specs.Named.{IsNamed}
-use Rattle.opgen_net.specs.Sound.{IsSound}
+use Rattle.opgen_design.specs.Sound.{IsSound}
 use Rattle.opgen_net.specs.Valid.{IsValid}
 use Rattle.opgen_flat.proofs.Parts.{length-each}
 use Rattle.opgen_text.specs.DesignText.{text_of}

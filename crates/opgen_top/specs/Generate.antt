@@ -1,16 +1,16 @@
 -- What `generate` gives.
 use Rattle.std.specs.Prelude.{ℕ, ◌≡◌, List, ◌++◌, map, slice_get, All, Some, Ok, IsSome}
-use Rattle.opgen_net.specs.declared.design.Design.{Design}
-use Rattle.opgen_net.specs.declared.design.Dir.{Dir}
-use Rattle.opgen_net.specs.declared.design.Dir.TheVariants.{In, Out}
-use Rattle.opgen_net.specs.declared.design.Port.{Port}
+use Rattle.opgen_design.specs.declared.design.Design.{Design}
+use Rattle.opgen_design.specs.declared.design.Dir.{Dir}
+use Rattle.opgen_design.specs.declared.design.Dir.TheVariants.{In, Out}
+use Rattle.opgen_design.specs.declared.design.Port.{Port}
 use Rattle.opgen_net.specs.declared.net.Net.{Net}
 use Rattle.opgen_net.specs.Flow.{Inputs}
 use Rattle.opgen_net.specs.Made.{design_of}
 use Rattle.opgen_net.specs.Named.{IsNamed}
-use Rattle.opgen_net.specs.Run.{AreWords, Words, Run}
-use Rattle.opgen_net.specs.Run.{outputs_of as design_outputs}
-use Rattle.opgen_net.specs.Sound.{IsSound}
+use Rattle.opgen_design.specs.Run.{AreWords, Words, Run}
+use Rattle.opgen_design.specs.Run.{outputs_of as design_outputs}
+use Rattle.opgen_design.specs.Sound.{IsSound}
 use Rattle.opgen_net.specs.Valid.{IsValid}
 use Rattle.opgen_text.specs.DesignText.{text_of}
 use Rattle.opgen_text.specs.Spelled.{Spells}

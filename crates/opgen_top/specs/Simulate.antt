@@ -1,9 +1,9 @@
 -- What `simulate` answers by the bytes of its VHDL and of its vectors, and what it stores.
 use Rattle.std.specs.Prelude.{ℕ, ◌≡◌, ◌≢◌, ◌⊎◌, List, length, Ok, Err}
 use Rattle.std.specs.Str.Lines.{lines}
-use Rattle.opgen_net.specs.declared.design.Design.{Design}
-use Rattle.opgen_net.specs.Run.{input_widths}
-use Rattle.opgen_net.specs.Sound.{IsSound}
+use Rattle.opgen_design.specs.declared.design.Design.{Design}
+use Rattle.opgen_design.specs.Run.{input_widths}
+use Rattle.opgen_design.specs.Sound.{IsSound}
 use Rattle.opgen_text.specs.Spelled.{Spells}
 use Rattle.opgen_read.specs.declared.fault.ReadFault.{ReadFault}
 use Rattle.opgen_read.specs.declared.fault.ReadFault.TheVariants as read

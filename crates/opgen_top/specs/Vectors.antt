@@ -1,6 +1,6 @@
 -- What `vectors` stores: the rows of the stimulus and of the outputs, in the run of the circuit that `generate` would store.
 use Rattle.std.specs.Prelude.{ℕ, ◌≡◌, List, Ok, IsSome}
-use Rattle.opgen_net.specs.declared.design.Design.{Design}
+use Rattle.opgen_design.specs.declared.design.Design.{Design}
 use Rattle.opgen_operator.specs.declared.spec.Spec.{Spec}
 use Rattle.opgen_spec.specs.Document.{tree}
 use Rattle.opgen_spec.specs.Faults.{read}

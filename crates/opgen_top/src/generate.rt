@@ -1,7 +1,7 @@
 //! From the bytes of a specification to the file that is stored.
 ghost use Rattle.std.specs.Prelude.{◌≡◌, ℕ, List, ◌≤◌, ◌^◌, IfOk, IsTrue, string_bytes, Err, Ok, None, Some};
-ghost use Rattle.opgen_net.specs.Names.{is_allowed_name};
-ghost use Rattle.opgen_net.specs.Sound.{HasNumbers};
+ghost use Rattle.opgen_design.specs.Names.{is_allowed_name};
+ghost use Rattle.opgen_design.specs.Sound.{HasNumbers};
 ghost use Rattle.opgen_operator.specs.Valid.{IsValidSpec};
 ghost use Rattle.opgen_spec.specs.Document.{tree};
 ghost use Rattle.opgen_spec.specs.Faults.{read};
@@ -15,7 +15,7 @@ use crate::buildable::{Multiplication, multiplication_of};
 use crate::line::Line;
 use crate::made::{MadeFile, Refusal};
 use opgen_flat::flat;
-use opgen_net::Design;
+use opgen_design::Design;
 use opgen_num::Memory;
 use opgen_scale::times;
 use opgen_spec::{Spec, SpecFault, read_spec};

@@ -1,12 +1,12 @@
 //! The outputs of a design over rows of inputs.
 ghost use Rattle.std.specs.Prelude.{◌≡◌, ◌<◌, IfOk, length, map};
-ghost use Rattle.opgen_net.specs.Run.{at_ports, input_widths};
-ghost use Rattle.opgen_net.specs.Sound.{HasNumbers, IsSound};
+ghost use Rattle.opgen_design.specs.Run.{at_ports, input_widths};
+ghost use Rattle.opgen_design.specs.Sound.{HasNumbers, IsSound};
 ghost use Rattle.opgen_vec.specs.Rows.{AreRowsOfCells};
 ghost use Rattle.opgen_top.specs.Running.{is_of, output_widths, IsRunOf, IsRunText};
 
 use opgen_list::Items;
-use opgen_net::{Design, Dir, Port};
+use opgen_design::{Design, Dir, Port};
 use opgen_num::Memory;
 use opgen_sim::Sim;
 use opgen_vec::{Vectors, write_rows};

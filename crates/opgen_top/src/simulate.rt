@@ -1,7 +1,7 @@
 //! From the bytes of VHDL and of vectors to the file that is stored.
 ghost use Rattle.std.specs.Prelude.{◌≡◌, ◌≢◌, ◌⊎◌, ◌≤◌, ◌<◌, ◌^◌, All, IfOk, IfErr, Err, length, string_bytes};
 ghost use Rattle.std.specs.Str.Lines.{lines};
-ghost use Rattle.opgen_net.specs.Sound.{HasNumbers};
+ghost use Rattle.opgen_design.specs.Sound.{HasNumbers};
 ghost use Rattle.opgen_vec.specs.Reading.{IsReading};
 ghost use Rattle.opgen_top.specs.Answer.{answer_of, simulated as simulated_answer, vectors_refused, vhdl_refused};
 ghost use Rattle.opgen_top.specs.Simulate.{GivesDesign, HoldsRows, MakesRows, RefusesRows, RefusesVectors, RefusesVhdl, Runs};
@@ -11,7 +11,7 @@ use crate::line::Line;
 use crate::made::{MadeFile, Refusal};
 use crate::run_rows::{Rows, port_widths, run_text};
 use opgen_list::Items;
-use opgen_net::{Design, Dir};
+use opgen_design::{Design, Dir};
 use opgen_read::{ReadFault, read_design};
 use opgen_vec::{VecFault, Vectors, read_empty_rows, read_vectors};
 use std::alloc::{AllocError, Global};

@@ -5,10 +5,10 @@ use Rattle.std.specs.List.{list_any}
 use Rattle.std.specs.Str.{bytes_eq}
 use Rattle.std.proofs.lemmas.Bool.{cases_Bool, and_parts}
 use Rattle.std.proofs.lemmas.List.Elements.{All-cons, All-nil}
-use Rattle.opgen_net.specs.declared.design.Design.{Design}
-use Rattle.opgen_net.specs.declared.design.Driver.{Driver}
-use Rattle.opgen_net.specs.declared.design.Driver.TheVariants.{Assign, Choice, Table, Register, Output}
-use Rattle.opgen_net.specs.Made.{is_register}
+use Rattle.opgen_design.specs.declared.design.Design.{Design}
+use Rattle.opgen_design.specs.declared.design.Driver.{Driver}
+use Rattle.opgen_design.specs.declared.design.Driver.TheVariants.{Assign, Choice, Table, Register, Output}
+use Rattle.opgen_design.specs.Order.{is_register}
 use Rattle.opgen_text.specs.Symbols.{Symbol, word, mark}
 use Rattle.opgen_text.specs.DesignText.{is_neither, is_output, driver_text, drivers_text, process_text}
 use Rattle.opgen_text.specs.Statements.{Reading, names_of, end_of_piece, parenthesized_clock, at_edge, IsConcurrent, IsClocked, statement, process, register, end_if, end_process, later_statement, of_unit, end_without_process, end_after_process}

@@ -1,11 +1,11 @@
 -- The texts of ports and of signals are cut into their declarations.
 use Rattle.std.proofs.Common.{◌≡◌, ℕ, ◌+◌, ◌-◌, ◌≤◌, Bool, false, List, [], ◌∷◌, ◌++◌, codes, decimal, Option, Some, None, IsTrue, refl, subst, arith, append_assoc, lit<}
 use Rattle.std.proofs.lemmas.Fmt.{decimal_digit}
-use Rattle.opgen_net.specs.declared.design.Dir.{Dir}
-use Rattle.opgen_net.specs.declared.design.Dir.TheVariants.{In, Out}
-use Rattle.opgen_net.specs.declared.design.Port.{Port}
-use Rattle.opgen_net.specs.declared.design.Signal.{Signal}
-use Rattle.opgen_net.specs.Names.{is_allowed_name}
+use Rattle.opgen_design.specs.declared.design.Dir.{Dir}
+use Rattle.opgen_design.specs.declared.design.Dir.TheVariants.{In, Out}
+use Rattle.opgen_design.specs.declared.design.Port.{Port}
+use Rattle.opgen_design.specs.declared.design.Signal.{Signal}
+use Rattle.opgen_design.specs.Names.{is_allowed_name}
 use Rattle.opgen_text.specs.Bytes.{is_word_byte, begins}
 use Rattle.opgen_text.specs.Symbols.{Symbol, word, number, string, mark}
 use Rattle.opgen_text.specs.ExpressionText.{word_text, range_text}

@@ -3,12 +3,12 @@ use Rattle.std.proofs.Common.{◌≡◌, ℕ, ◌≤◌, true, false, List, [], 
 use Rattle.std.specs.Prelude.{All}
 use Rattle.std.specs.Str.{bytes_eq}
 use Rattle.std.proofs.lemmas.Slice.Eq.{bytes_eq-Decides}
-use Rattle.opgen_net.specs.declared.design.Design.{Design}
-use Rattle.opgen_net.specs.declared.design.Driver.{Driver}
-use Rattle.opgen_net.specs.declared.design.Port.{Port}
-use Rattle.opgen_net.specs.declared.design.Signal.{Signal}
-use Rattle.opgen_net.specs.Made.{is_register}
-use Rattle.opgen_net.specs.Names.{refused_words, is_allowed_name}
+use Rattle.opgen_design.specs.declared.design.Design.{Design}
+use Rattle.opgen_design.specs.declared.design.Driver.{Driver}
+use Rattle.opgen_design.specs.declared.design.Port.{Port}
+use Rattle.opgen_design.specs.declared.design.Signal.{Signal}
+use Rattle.opgen_design.specs.Order.{is_register}
+use Rattle.opgen_design.specs.Names.{refused_words, is_allowed_name}
 use Rattle.opgen_text.specs.Symbols.{word, mark}
 use Rattle.opgen_text.specs.DesignText.{is_neither, is_output, port_text, entity_text, signal_text, driver_text, drivers_text, architecture_text, text_of}
 use Rattle.opgen_text.specs.Shaped.{IsShaped, IsWritable}

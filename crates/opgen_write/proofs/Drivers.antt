@@ -1,12 +1,12 @@
 -- The text of each driver is cut into one piece of symbols, which is its statement in the grammar.
 use Rattle.std.proofs.Common.{◌≡◌, ℕ, ◌<◌, ◌≤◌, Bool, true, false, List, [], ◌∷◌, ◌++◌, length, flat_map, codes, IsTrue, refl, ap, ◌∙◌, subst, append_assoc, true≢false}
-use Rattle.opgen_net.specs.declared.design.Design.{Design}
-use Rattle.opgen_net.specs.declared.design.Driver.{Driver}
-use Rattle.opgen_net.specs.declared.design.Driver.TheVariants.{Assign, Choice, Table, Register, Output}
-use Rattle.opgen_net.specs.Made.{is_register}
-use Rattle.opgen_net.specs.Names.{is_allowed_name}
-use Rattle.opgen_net.specs.Tree.{Tree}
-use Rattle.opgen_net.specs.Width.{nesting, max_nesting}
+use Rattle.opgen_design.specs.declared.design.Design.{Design}
+use Rattle.opgen_design.specs.declared.design.Driver.{Driver}
+use Rattle.opgen_design.specs.declared.design.Driver.TheVariants.{Assign, Choice, Table, Register, Output}
+use Rattle.opgen_design.specs.Order.{is_register}
+use Rattle.opgen_design.specs.Names.{is_allowed_name}
+use Rattle.opgen_design.specs.Tree.{Tree}
+use Rattle.opgen_design.specs.Width.{nesting, max_nesting}
 use Rattle.opgen_text.specs.Symbols.{Symbol, word, string, mark}
 use Rattle.opgen_text.specs.ExpressionText.{signal_name, port_name, word_text, expression_text}
 use Rattle.opgen_text.specs.DesignText.{row_text, other_text, driver_text}

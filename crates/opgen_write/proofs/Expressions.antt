@@ -3,13 +3,13 @@ use Rattle.std.proofs.Common.{◌≡◌, ℕ, zero, suc, ◌+◌, ◌<◌, ◌�
 use Rattle.std.specs.List.{list_all}
 use Rattle.std.proofs.lemmas.Bool.{and_from}
 use Rattle.std.proofs.lemmas.List.Folds.{list_all-append}
-use Rattle.opgen_net.specs.declared.design.Design.{Design}
-use Rattle.opgen_net.specs.declared.expr.Op.{Op}
-use Rattle.opgen_net.specs.declared.expr.Op.TheVariants as op
-use Rattle.opgen_net.specs.Names.{is_allowed_name}
-use Rattle.opgen_net.specs.Tree as tree
-use Rattle.opgen_net.specs.Tree.{Tree, Trees}
-use Rattle.opgen_net.specs.Width.{in_chain, in_not, nesting, operands_nesting}
+use Rattle.opgen_design.specs.declared.design.Design.{Design}
+use Rattle.opgen_design.specs.declared.expr.Op.{Op}
+use Rattle.opgen_design.specs.declared.expr.Op.TheVariants as op
+use Rattle.opgen_design.specs.Names.{is_allowed_name}
+use Rattle.opgen_design.specs.Tree as tree
+use Rattle.opgen_design.specs.Tree.{Tree, Trees}
+use Rattle.opgen_design.specs.Width.{in_chain, in_not, nesting, operands_nesting}
 use Rattle.opgen_text.specs.Bytes.{is_word_byte, begins}
 use Rattle.opgen_text.specs.Symbols.{Symbol, word, number, string, mark, is_semicolon}
 use Rattle.opgen_text.specs.ExpressionText.{signal_name, port_name, word_text, range_text, operator_text, within, expression_text, further_text}

@@ -1,7 +1,7 @@
 -- The text of a design has a byte for each signal at least.
 use Rattle.std.proofs.Common.{◌≡◌, ℕ, ◌≤◌, List, [], ◌∷◌, ◌++◌, length, flat_map, codes, ap, arith, append_assoc, length-append}
-use Rattle.opgen_net.specs.declared.design.Design.{Design}
-use Rattle.opgen_net.specs.declared.design.Signal.{Signal}
+use Rattle.opgen_design.specs.declared.design.Design.{Design}
+use Rattle.opgen_design.specs.declared.design.Signal.{Signal}
 use Rattle.opgen_text.specs.DesignText.{is_neither, is_output, entity_text, signal_text, drivers_text, process_text, architecture_text, text_of}
 
 signal_some : (s : Signal) → 1 ≤ length (signal_text s)

@@ -2,19 +2,20 @@
 use Rattle.std.proofs.Common.{◌≡◌, ℕ, ◌+◌, Bool, true, false, not, ◌&&◌, nat_eq, if◌then◌else◌, List, [], ◌∷◌, ◌++◌, length, filter, get_or, option_and_then, Some, refl, ap, ◌∙◌, arith, append-nil}
 use Rattle.std.specs.Prelude.{All}
 use Rattle.std.proofs.lemmas.List.Elements.{All-cons, All-nil, All-append, All-filter, filter-append}
-use Rattle.opgen_net.specs.declared.design.Driver.{Driver}
-use Rattle.opgen_net.specs.declared.expr.Op.{Op}
-use Rattle.opgen_net.specs.declared.expr.Slice.{Slice}
+use Rattle.opgen_design.specs.declared.design.Driver.{Driver}
+use Rattle.opgen_design.specs.declared.expr.Op.{Op}
+use Rattle.opgen_design.specs.declared.expr.Slice.{Slice}
 use Rattle.opgen_net.specs.declared.node.Node.{Node}
 use Rattle.opgen_net.specs.declared.node.Node.TheVariants.{Input, Constant, Cells, Choice, Table, Delay}
 use Rattle.opgen_net.specs.declared.net.Net.{Net}
 use Rattle.opgen_net.specs.declared.net.Output as net_output
-use Rattle.opgen_net.specs.Tree as tree
-use Rattle.opgen_net.specs.Tree.{Tree, Trees}
-use Rattle.opgen_net.specs.Width.{joined, width, width_on}
+use Rattle.opgen_design.specs.Tree as tree
+use Rattle.opgen_design.specs.Tree.{Tree, Trees}
+use Rattle.opgen_design.specs.Width.{joined, width, width_on}
 use Rattle.opgen_net.specs.Valid.{widths, MayStand, IsValid}
-use Rattle.opgen_net.specs.Made.{slice_tree, node_driver, each_node, output_driver, output_drivers, is_register, drivers_of, design_of}
-use Rattle.opgen_net.proofs.WidthLaws.{some_before}
+use Rattle.opgen_net.specs.Made.{slice_tree, node_driver, each_node, output_driver, output_drivers, drivers_of, design_of}
+use Rattle.opgen_design.specs.Order.{is_register}
+use Rattle.opgen_design.proofs.WidthLaws.{some_before}
 use Rattle.opgen_net.proofs.Standing.{all_stand}
 use Rattle.opgen_text.specs.DesignText.{is_output, is_neither}
 use Rattle.opgen_text.specs.Shaped.{HasFullChains, HaveFullChains, IsShapedExpression, IsShapedDriver, IsShaped}

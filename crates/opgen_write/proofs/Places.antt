@@ -7,13 +7,13 @@ use Rattle.std.proofs.lemmas.List.Sums.{position_or_len_is}
 use Rattle.std.proofs.Math.ListN.{get_or-append}
 use Rattle.std.proofs.lemmas.Option.{slice_get-get_or}
 use Rattle.std.proofs.lemmas.Slice.Eq.{bytes_eq-Decides}
-use Rattle.opgen_net.specs.declared.design.Design.{Design}
-use Rattle.opgen_net.specs.declared.design.Dir.TheVariants.{In}
-use Rattle.opgen_net.specs.declared.design.Port.{Port}
-use Rattle.opgen_net.specs.declared.design.Signal.{Signal}
-use Rattle.opgen_net.specs.Names.{is_allowed_name}
-use Rattle.opgen_net.specs.Sound as sound
-use Rattle.opgen_net.specs.Sound.{IsSound, IsNewName, DeclaredTwice, SignalPasses, PortPasses, at_port, at_signal}
+use Rattle.opgen_design.specs.declared.design.Design.{Design}
+use Rattle.opgen_design.specs.declared.design.Dir.TheVariants.{In}
+use Rattle.opgen_design.specs.declared.design.Port.{Port}
+use Rattle.opgen_design.specs.declared.design.Signal.{Signal}
+use Rattle.opgen_design.specs.Names.{is_allowed_name}
+use Rattle.opgen_design.specs.Sound as sound
+use Rattle.opgen_design.specs.Sound.{IsSound, IsNewName, DeclaredTwice, SignalPasses, PortPasses, at_port, at_signal}
 use Rattle.opgen_text.specs.ExpressionText.{signal_name, port_name}
 use Rattle.opgen_text.specs.Grammar.{place_of}
 use Rattle.opgen_text.specs.Shaped.{HasAllowedNames}

@@ -10,7 +10,7 @@ use Rattle.std.proofs.lemmas.List.{map-append, reverse-append, reverse-reverse}
 use Rattle.std.proofs.lemmas.List.Elements.{filter-append}
 use Rattle.std.proofs.lemmas.List.Folds.{list_all-append}
 use Rattle.std.proofs.lemmas.List.Sums.{AllPass-from_list_all}
-use Rattle.opgen_net.specs.Names.{is_allowed_name, is_name_byte, is_identifier, is_refused, starts_with_letter, has_single_underscores}
+use Rattle.opgen_design.specs.Names.{is_allowed_name, is_name_byte, is_identifier, is_refused, starts_with_letter, has_single_underscores}
 use Rattle.opgen_text.specs.Bytes.{is_word_byte, is_bit, begins}
 use Rattle.opgen_text.specs.Tokens.{IsWord, IsBits}
 use Rattle.opgen_text.specs.Symbols.{Symbol, word, number, string, mark, bits_in}

@@ -3,15 +3,15 @@ use Rattle.std.proofs.Common.{◌≡◌, ℕ, ◌<◌, ◌≤◌, Bool, List, []
 use Rattle.std.specs.Prelude.{All}
 use Rattle.std.proofs.lemmas.List.{get_or-map, length-map}
 use Rattle.std.proofs.lemmas.Option.{slice_get-get_or, slice_get_within, get_or_from_slice_get}
-use Rattle.opgen_net.specs.declared.design.Design.{Design}
-use Rattle.opgen_net.specs.declared.design.Driver.{Driver}
-use Rattle.opgen_net.specs.declared.design.Driver.TheVariants.{Assign, Choice, Table, Register, Output}
-use Rattle.opgen_net.specs.Tree as tree
-use Rattle.opgen_net.specs.Tree.{Tree}
-use Rattle.opgen_net.specs.Reads.{AllReads}
-use Rattle.opgen_net.specs.Width.{width}
-use Rattle.opgen_net.specs.Sound.{IsSound, IsDeclared, Undeclared, Width, signal_widths, port_widths, HasWidth, WidthsAgree, PortPasses, SignalPasses, DriverPasses, at_port, at_signal, at_driver}
-use Rattle.opgen_net.proofs.WidthLaws.{width-is_width}
+use Rattle.opgen_design.specs.declared.design.Design.{Design}
+use Rattle.opgen_design.specs.declared.design.Driver.{Driver}
+use Rattle.opgen_design.specs.declared.design.Driver.TheVariants.{Assign, Choice, Table, Register, Output}
+use Rattle.opgen_design.specs.Tree as tree
+use Rattle.opgen_design.specs.Tree.{Tree}
+use Rattle.opgen_design.specs.Reads.{AllReads}
+use Rattle.opgen_design.specs.Width.{width}
+use Rattle.opgen_design.specs.Sound.{IsSound, IsDeclared, Undeclared, Width, signal_widths, port_widths, HasWidth, WidthsAgree, PortPasses, SignalPasses, DriverPasses, at_port, at_signal, at_driver}
+use Rattle.opgen_design.proofs.WidthLaws.{width-is_width}
 use Rattle.opgen_text.specs.Shaped.{IsPart, HasFullChains, IsShapedExpression, IsShapedDriver, IsShaped, HasAllowedNames}
 use Rattle.opgen_write.proofs.Fitting.{fits}
 use Rattle.opgen_write.proofs.Drivers.{AreShort, FitsWhole, DriverFits}

@@ -1,12 +1,12 @@
 //! The text of an architecture.
 ghost use Rattle.std.specs.Prelude.{◌≡◌, ◌++◌, OnOk, string_bytes};
 ghost use Rattle.std.specs.List.{flat_map, list_any};
-ghost use Rattle.opgen_net.specs.Made.{is_register};
+ghost use Rattle.opgen_design.specs.Order.{is_register};
 ghost use Rattle.opgen_text.specs.DesignText.{initial_text, signal_text, is_output, is_neither, drivers_text, process_text, architecture_text};
 
 use crate::expression::{put_range, put_word};
 use crate::statement::put_driver;
-use opgen_net::{Design, Driver, Signal};
+use opgen_design::{Design, Driver, Signal};
 use opgen_num::Word;
 use std::alloc::AllocError;
 

@@ -4,7 +4,7 @@ ghost use Rattle.std.specs.List.{flat_map};
 ghost use Rattle.opgen_text.specs.DesignText.{direction_text, port_text, entity_text};
 
 use crate::expression::put_range;
-use opgen_net::{Design, Dir, Port};
+use opgen_design::{Design, Dir, Port};
 use std::alloc::AllocError;
 
 fn direction(dir: Dir) -> &'static str

@@ -1,11 +1,11 @@
 //! The text of an expression.
 ghost use Rattle.std.specs.Prelude.{◌≡◌, ◌++◌, OnOk, decimal, string_bytes};
 ghost use Rattle.opgen_num.specs.Words.{word};
-ghost use Rattle.opgen_net.specs.Plain.{plain, plain_all};
-ghost use Rattle.opgen_net.specs.Width.{in_chain, in_not};
+ghost use Rattle.opgen_design.specs.Plain.{plain, plain_all};
+ghost use Rattle.opgen_design.specs.Width.{in_chain, in_not};
 ghost use Rattle.opgen_text.specs.ExpressionText.{signal_name, port_name, bit_text, bits_text, word_text, range_text, operator_text, within, expression_text, chain_text};
 
-use opgen_net::{Design, Expr, Op};
+use opgen_design::{Design, Expr, Op};
 use opgen_num::Word;
 use std::alloc::AllocError;
 

@@ -1,11 +1,11 @@
 //! The laws of written designs.
 
 ghost use Rattle.std.specs.Prelude.{ℕ, ◌^◌, ◌≤◌, List, length};
-ghost use Rattle.opgen_net.specs.declared.design.Design.{Design};
+ghost use Rattle.opgen_design.specs.declared.design.Design.{Design};
 ghost use Rattle.opgen_net.specs.declared.net.Net.{Net};
 ghost use Rattle.opgen_net.specs.Made.{design_of};
 ghost use Rattle.opgen_net.specs.Named.{IsNamed};
-ghost use Rattle.opgen_net.specs.Sound.{IsSound};
+ghost use Rattle.opgen_design.specs.Sound.{IsSound};
 ghost use Rattle.opgen_net.specs.Valid.{IsValid};
 ghost use Rattle.opgen_text.specs.DesignText.{text_of};
 ghost use Rattle.opgen_text.specs.Shaped.{IsShaped, IsWritable};

@@ -1,12 +1,12 @@
 //! The texts of statements, one for each driver.
 ghost use Rattle.std.specs.Prelude.{◌≡◌, ◌++◌, OnOk, string_bytes, List, Bool};
 ghost use Rattle.std.specs.List.{flat_map};
-ghost use Rattle.opgen_net.specs.Tree.{Tree};
-ghost use Rattle.opgen_net.specs.declared.design.Driver.TheVariants.{Assign, Choice, Table, Register, Output};
+ghost use Rattle.opgen_design.specs.Tree.{Tree};
+ghost use Rattle.opgen_design.specs.declared.design.Driver.TheVariants.{Assign, Choice, Table, Register, Output};
 ghost use Rattle.opgen_text.specs.DesignText.{row_text, other_text, driver_text};
 
 use crate::expression::{port_name, put_expression, put_word, signal_name};
-use opgen_net::{Design, Driver, Formula};
+use opgen_design::{Design, Driver, Formula};
 use opgen_num::Word;
 use std::alloc::AllocError;
 

@@ -1,7 +1,7 @@
 use super::*;
 use opgen_io::MemorySink;
 use opgen_list::{Items, Text};
-use opgen_net::{Design, Dir, Driver, Expr, Formula, Op, Port, Signal, Slice};
+use opgen_design::{Design, Dir, Driver, Expr, Formula, Op, Port, Signal, Slice};
 use opgen_num::Word;
 use std::alloc::{AllocError, Global};
 use std::test::Fail;

@@ -7,7 +7,7 @@ ghost use Rattle.opgen_text.specs.DesignText.{text_of};
 use crate::architecture::put_architecture;
 use crate::entity::put_entity;
 use opgen_io::{PutFault, Sink};
-use opgen_net::Design;
+use opgen_design::Design;
 use opgen_num::Memory;
 use std::alloc::Global;
 use thiserror::Error;

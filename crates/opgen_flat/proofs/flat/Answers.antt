@@ -1,5 +1,5 @@
 use Rattle.std.proofs.Common.{◌∙◌, ◌≡◌, ◌≤◌, ◌^◌, length, sym, ap, subst, arith}
-use Rattle.opgen_net.specs.Sound.{IsSound}
+use Rattle.opgen_design.specs.Sound.{IsSound}
 use Rattle.opgen_net.proofs.FlowLaws.{length-widths}
 use Rattle.opgen_flat.proofs.Combinational.{made}
 use Rattle.opgen_flat.proofs.Soundness.{design_sound}

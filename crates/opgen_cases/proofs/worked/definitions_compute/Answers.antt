@@ -1,10 +1,10 @@
 use Rattle.std.proofs.Common.{◌≡◌, [], ◌∷◌, true, false, List, Bool, refl}
 use Rattle.std.specs.Prelude.{All}
 use Rattle.std.proofs.lemmas.List.Elements.{All-nil, All-cons}
-use Rattle.opgen_net.specs.declared.design.Driver.{Driver}
-use Rattle.opgen_net.specs.declared.design.Driver.TheVariants.{Assign, Table, Output}
-use Rattle.opgen_net.specs.Tree.{name, port}
-use Rattle.opgen_net.specs.Run.{Meets, IsTableWord}
+use Rattle.opgen_design.specs.declared.design.Driver.{Driver}
+use Rattle.opgen_design.specs.declared.design.Driver.TheVariants.{Assign, Table, Output}
+use Rattle.opgen_design.specs.Tree.{name, port}
+use Rattle.opgen_design.specs.Run.{Meets, IsTableWord}
 use Rattle.opgen_cases.specs.TimesThree.{bit_word, zero_word, three_word, cycle_words, times3_design}
 use Rattle.opgen_cases.proofs.worked.definitions_compute.Goals as goal
 

@@ -4,7 +4,7 @@ use Rattle.opgen_net.specs.declared.net.Net.{Net}
 use Rattle.opgen_net.specs.declared.node.Node.TheVariants.{Cells}
 use Rattle.opgen_net.specs.declared.cell.Class.TheVariants.{Add}
 use Rattle.opgen_net.specs.declared.word_bits.WordBit.{WordBit}
-use Rattle.opgen_net.specs.Plain.{plain}
+use Rattle.opgen_design.specs.Plain.{plain}
 use Rattle.opgen_net.specs.Valid.{widths, FitsNodes}
 use Rattle.opgen_net.specs.WordRule.{IsThere, HasBits, with_word}
 use Rattle.opgen_net.proofs.Appending.{width-append_last}

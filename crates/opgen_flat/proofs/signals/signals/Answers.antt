@@ -1,6 +1,6 @@
 use Rattle.std.proofs.Common.{◌≡◌, ◌∙◌, ◌+◌, ◌<◌, ℕ, ◌++◌, ◌∷◌, List, [], length, drop, sym, ap, arith, None}
 use Rattle.std.specs.Prelude.{slice_index}
-use Rattle.opgen_net.specs.declared.design.Signal.{Signal}
+use Rattle.opgen_design.specs.declared.design.Signal.{Signal}
 use Rattle.opgen_net.specs.Made.{each_node, node_signal, signal_name}
 use Rattle.opgen_net.proofs.FlowLaws.{length-widths}
 use Rattle.opgen_flat.proofs.Combinational.{signals_next, plain_signal}

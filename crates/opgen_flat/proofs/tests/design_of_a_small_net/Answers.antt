@@ -5,7 +5,7 @@ use Rattle.std.specs.List.{AllPairs}
 use Rattle.std.proofs.lemmas.Bool.{false≢true}
 use Rattle.std.proofs.lemmas.List.Elements.{All-nil, All-cons}
 use Rattle.opgen_net.specs.declared.net.Net.{Net}
-use Rattle.opgen_net.specs.Names.{refused_words, is_allowed_name}
+use Rattle.opgen_design.specs.Names.{refused_words, is_allowed_name}
 use Rattle.opgen_net.specs.Named.{port_names, IsFree, IsNamed}
 use Rattle.opgen_flat.proofs.tests.design_of_a_small_net.Goals as goal
 

@@ -1,7 +1,7 @@
 use Rattle.std.proofs.Common.{◌≡◌, [], ◌∷◌, ◌++◌, map, length, Some, ap, sym, ◌∙◌, arith}
 use Rattle.std.proofs.lemmas.List.{map_push}
 use Rattle.std.proofs.lemmas.Result.{err_from_is_err_and}
-use Rattle.opgen_net.specs.Plain.{plain}
+use Rattle.opgen_design.specs.Plain.{plain}
 use Rattle.opgen_text.specs.Grammar.{operator}
 use Rattle.opgen_text.specs.Reader.{eat, inside}
 use Rattle.opgen_text.proofs.Expressions.{factor-shorter, operator_eaten, enough}

@@ -1,6 +1,6 @@
 use Rattle.std.proofs.Common.{sym, subst, ap, ◌∙◌}
 use Rattle.std.proofs.lemmas.Option.{slice_get_within}
-use Rattle.opgen_net.specs.Run.{Cycle, Words, at_ports, is_in}
+use Rattle.opgen_design.specs.Run.{Cycle, Words, at_ports, is_in}
 use Rattle.opgen_sim.specs.Evaluate.{HaveWidths, settle, hand_all_on}
 use Rattle.opgen_sim.proofs.Cycles.{is-cycle}
 use Rattle.opgen_sim.proofs.Equations.{placed}

@@ -1,8 +1,8 @@
 use Rattle.std.proofs.Common.{◌≡◌, ◌+◌, ◌∷◌, drop, sym, ap, ◌∙◌, subst, map, length}
 use Rattle.std.proofs.lemmas.List.{drop_more}
 use Rattle.std.proofs.lemmas.Option.{slice_get_within, get_or_from_slice_get}
-use Rattle.opgen_net.specs.Run.{Words}
-use Rattle.opgen_net.specs.Sound.{signal_widths}
+use Rattle.opgen_design.specs.Run.{Words}
+use Rattle.opgen_design.specs.Sound.{signal_widths}
 use Rattle.opgen_sim.specs.Evaluate.{HaveWidths, hand_all_on}
 use Rattle.opgen_sim.proofs.Widths.{narrow, agree-at, driver-fits, declared-there}
 use Rattle.opgen_sim.proofs.Registers.{hand_on-widths}

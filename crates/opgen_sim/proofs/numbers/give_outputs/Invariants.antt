@@ -1,6 +1,6 @@
 use Rattle.std.proofs.Common.{drop, map}
 use Rattle.opgen_num.specs.Words.{nat}
-use Rattle.opgen_net.specs.Run.{at_ports, is_out}
+use Rattle.opgen_design.specs.Run.{at_ports, is_out}
 use Rattle.opgen_sim.proofs.Ports.{Given}
 use Rattle.opgen_sim.proofs.numbers.give_outputs.Given as goal
 

@@ -1,12 +1,12 @@
 use Rattle.std.proofs.Common.{◌≡◌, ◌<◌, ◌+◌, ◌-◌, get_or, ℕ, Bool, List, take, drop, refl, length, ap, sym, ◌∙◌, subst, arith}
-use Rattle.opgen_net.specs.declared.expr.Expr.{Expr, Part}
-use Rattle.opgen_net.specs.declared.expr.Slice.{Slice}
-use Rattle.opgen_net.proofs.WidthLaws.{PartFits}
-use Rattle.opgen_net.specs.Plain.{plain, plain_all}
+use Rattle.opgen_design.specs.declared.expr.Expr.{Expr, Part}
+use Rattle.opgen_design.specs.declared.expr.Slice.{Slice}
+use Rattle.opgen_design.proofs.WidthLaws.{PartFits}
+use Rattle.opgen_design.specs.Plain.{plain, plain_all}
 use Rattle.std.specs.Prelude.{IsSome}
-use Rattle.opgen_net.specs.declared.expr.Op.{Op}
-use Rattle.opgen_net.specs.Width.{IsWidth, joined, width_on, chain_width}
-use Rattle.opgen_net.specs.Value.{value, value_on, combined, word_at}
+use Rattle.opgen_design.specs.declared.expr.Op.{Op}
+use Rattle.opgen_design.specs.Width.{IsWidth, joined, width_on, chain_width}
+use Rattle.opgen_design.specs.Value.{value, value_on, combined, word_at}
 use Rattle.opgen_sim.specs.Fitting.{Fits, scope_of, widths_of}
 use Rattle.opgen_sim.proofs.Plain.{plain-name, plain-part, plain-port, plain-not, more-at, first-and-rest}
 use Rattle.opgen_sim.proofs.Fitting.{name-there, port-there, part-there, part-lies, narrow-at, value-is_width, Step, chain-start, chain-step}

@@ -1,8 +1,8 @@
 use Rattle.std.proofs.Common.{◌≡◌, length, drop}
 use Rattle.std.specs.Prelude.{IsSome}
-use Rattle.opgen_net.specs.Plain.{plain_all}
-use Rattle.opgen_net.specs.Value.{value_on}
-use Rattle.opgen_net.specs.Width.{IsWidth, width_on}
+use Rattle.opgen_design.specs.Plain.{plain_all}
+use Rattle.opgen_design.specs.Value.{value_on}
+use Rattle.opgen_design.specs.Width.{IsWidth, width_on}
 use Rattle.opgen_sim.specs.Fitting.{scope_of, widths_of}
 use Rattle.opgen_sim.proofs.value.+value.Given as goal
 

@@ -1,6 +1,6 @@
 use Rattle.std.proofs.Common.{ap, sym, ◌∙◌, subst}
 use Rattle.opgen_net.specs.Made.{design_of}
-use Rattle.opgen_net.specs.Sound.{HasNumbers}
+use Rattle.opgen_design.specs.Sound.{HasNumbers}
 use Rattle.opgen_flat.proofs.Follows.{follows}
 use Rattle.opgen_flat.proofs.Runs.{design_runs}
 use Rattle.opgen_top.specs.Generate.{Serves}

@@ -1,5 +1,5 @@
 use Rattle.std.proofs.Common.{◌++◌, length, take, drop, ap, ◌∙◌, arith}
-use Rattle.opgen_net.specs.Run.{input_widths}
+use Rattle.opgen_design.specs.Run.{input_widths}
 use Rattle.opgen_sim.specs.Sims.{registers, simulated}
 use Rattle.opgen_top.proofs.Columns.{row_room, later_rows}
 use Rattle.opgen_top.proofs.RunRows.{run_start, one_step, whole_run, length-step, written_back}

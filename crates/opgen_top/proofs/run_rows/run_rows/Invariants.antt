@@ -1,5 +1,5 @@
 use Rattle.std.proofs.Common.{◌≡◌, length}
-use Rattle.opgen_net.specs.Run.{input_widths}
+use Rattle.opgen_design.specs.Run.{input_widths}
 use Rattle.opgen_sim.specs.Sims.{IsReady, registers, simulated}
 use Rattle.opgen_vec.specs.Rows.{AreRowsOfCells}
 use Rattle.opgen_top.specs.Running.{output_widths}

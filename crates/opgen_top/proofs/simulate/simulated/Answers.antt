@@ -1,5 +1,5 @@
 use Rattle.std.proofs.Common.{ap, ◌∙◌}
-use Rattle.opgen_net.specs.Run.{is_in}
+use Rattle.opgen_design.specs.Run.{is_in}
 use Rattle.opgen_top.proofs.Columns.{widths_on, few_inputs, narrow_inputs}
 use Rattle.opgen_top.proofs.SomePort.{some_port}
 use Rattle.opgen_top.proofs.simulate.simulated.Goals as goal

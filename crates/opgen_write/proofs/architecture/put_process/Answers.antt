@@ -1,6 +1,6 @@
 use Rattle.std.proofs.Common.{◌≡◌, true, refl, arith, append_assoc}
 use Rattle.std.specs.List.{list_any}
-use Rattle.opgen_net.specs.Made.{is_register}
+use Rattle.opgen_design.specs.Order.{is_register}
 use Rattle.opgen_text.specs.DesignText.{process_text}
 use Rattle.opgen_write.proofs.architecture.put_process.Goals as goal
 

@@ -1,5 +1,5 @@
 use Rattle.std.proofs.Common.{◌≡◌, ◌++◌, drop, string_bytes}
-use Rattle.opgen_net.specs.Plain.{plain_all}
+use Rattle.opgen_design.specs.Plain.{plain_all}
 use Rattle.opgen_text.specs.ExpressionText.{further_text}
 use Rattle.opgen_write.proofs.expression.+expression.Given as goal
 

@@ -1,5 +1,5 @@
 use Rattle.std.proofs.Common.{◌≡◌, take, map}
-use Rattle.opgen_net.specs.Plain.{plain}
+use Rattle.opgen_design.specs.Plain.{plain}
 use Rattle.opgen_net.specs.Valid.{widths}
 use Rattle.opgen_net.specs.WordRule.{run_tree}
 use Rattle.opgen_net.proofs.net.Net.operands.Given as goal

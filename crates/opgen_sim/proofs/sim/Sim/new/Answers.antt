@@ -1,7 +1,7 @@
 use Rattle.std.proofs.Common.{length, map, sym, ap, ◌∙◌, subst}
-use Rattle.opgen_net.specs.Order.{IsOrderOf}
-use Rattle.opgen_net.specs.Run.{initial_words}
-use Rattle.opgen_net.specs.Sound.{IsSound, signal_widths}
+use Rattle.opgen_design.specs.Order.{IsOrderOf}
+use Rattle.opgen_design.specs.Run.{initial_words}
+use Rattle.opgen_design.specs.Sound.{IsSound, signal_widths}
 use Rattle.opgen_num.specs.Words.{word}
 use Rattle.opgen_sim.specs.Evaluate.{HaveWidths}
 use Rattle.opgen_sim.specs.Sims.{SameRegisters}

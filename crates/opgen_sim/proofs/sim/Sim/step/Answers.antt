@@ -2,8 +2,8 @@ use Rattle.std.proofs.Common.{◌≡◌, length, map, sym, ap, ◌∙◌, subst,
 use Rattle.std.specs.Vec.{with_items}
 use Rattle.std.proofs.lemmas.List.{length-map, with_items_is}
 use Rattle.opgen_num.specs.Words.{nat}
-use Rattle.opgen_net.specs.Run.{Cycle, Words, at_ports, is_in, is_out, input_widths}
-use Rattle.opgen_net.specs.Sound.{port_widths}
+use Rattle.opgen_design.specs.Run.{Cycle, Words, at_ports, is_in, is_out, input_widths}
+use Rattle.opgen_design.specs.Sound.{port_widths}
 use Rattle.opgen_sim.specs.Step.{words_of}
 use Rattle.opgen_sim.specs.Sims.{registers}
 use Rattle.opgen_sim.proofs.Starts.{at_ports-length}

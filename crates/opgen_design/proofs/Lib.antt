@@ -1,0 +1,10 @@
+mod Underscores
+pub mod ValueLaws
+pub mod WidthLaws
+pub mod ReadLaws
+pub mod UseLaws
+pub mod FirstFailing
+pub mod SoundLaws
+pub mod GroupLaws
+pub mod NameWalk
+pub mod OrderLaws

@@ -1,0 +1,6 @@
+use Rattle.opgen_design.specs.Rules.{HoldsBefore}
+use Rattle.opgen_design.specs.Sound.{NotDriven, PortPasses}
+use Rattle.opgen_design.proofs.design.Design.undriven_port.Given as goal
+
+abbrev pub invariant-loop-i : goal.invariant-loop-i
+invariant-loop-i l = HoldsBefore (PortPasses l.self NotDriven) l.self.ports l.i

@@ -1,0 +1,11 @@
+pub mod Tree
+pub mod Plain
+pub mod TreeCode
+pub mod Value
+pub mod Width
+pub mod Reads
+pub mod Run
+pub mod Sound
+pub mod Rules
+pub mod Order
+pub mod Names

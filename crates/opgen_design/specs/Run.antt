@@ -1,0 +1,77 @@
+-- One cycle of a design, and its runs: the equations of IEEE 1076-1993 for a settled cycle on the bits 0 and 1.
+use Rattle.std.specs.Prelude.{ℕ, ◌≡◌, Bool, true, false, if◌then◌else◌, List, [], ◌∷◌, length, map, All, unwrap_or}
+use Rattle.opgen_design.specs.declared.design.Design.{Design}
+use Rattle.opgen_design.specs.declared.design.Dir.{Dir}
+use Rattle.opgen_design.specs.declared.design.Dir.TheVariants.{In, Out}
+use Rattle.opgen_design.specs.declared.design.Port.{Port}
+use Rattle.opgen_design.specs.declared.design.Signal.{Signal}
+use Rattle.opgen_design.specs.declared.design.Driver.{Driver}
+use Rattle.opgen_design.specs.declared.design.Driver.TheVariants.{Assign, Choice, Table, Register, Output}
+use Rattle.opgen_design.specs.Value.{word_at, Scope, value, chosen}
+
+-- a word for each signal, and for each port
+pub record Words : Type 0 where
+  pub signals : List (List Bool)
+  pub ports : List (List Bool)
+
+abbrev pub scope : Words → Scope
+scope v = record { names = word_at v.signals; ports = word_at v.ports }
+
+-- the items that stand at ports of a direction, in order
+abbrev pub at_ports : {X : Type 0} → (is : Dir → Bool) → List Port → List X → List X
+at_ports is [] xs = []
+at_ports is (p ∷ ps) [] = []
+at_ports is (p ∷ ps) (x ∷ xs) = if is p.dir then x ∷ at_ports is ps xs else at_ports is ps xs
+
+abbrev pub is_in : Dir → Bool
+is_in In = true
+is_in Out = false
+
+abbrev pub is_out : Dir → Bool
+is_out In = false
+is_out Out = true
+
+-- a table's word: that of a row whose address it is, or the other word where no row has that address
+pub record IsTableWord (rows : List (List Bool × List Bool)) (other address word : List Bool) : Type 0 where
+  pub of_row : All (λ r. r.0 ≡ address → word ≡ r.1) rows
+  pub of_none : All (λ r. r.0 ≡ address → ⊥) rows → word ≡ other
+
+-- what a driver says of a cycle: of its words, and of the words of the registers now and next
+abbrev pub Meets : (now : List (List Bool)) → Words → (next : List (List Bool)) → Driver → Type 0
+Meets now v next (Assign to e) = word_at v.signals to ≡ value (scope v) e
+Meets now v next (Choice to on one other) = word_at v.signals to ≡ chosen (value (scope v) on) (value (scope v) one) (value (scope v) other)
+Meets now v next (Table to on rows other) = IsTableWord rows other (value (scope v) on) (word_at v.signals to)
+Meets now v next (Register to e) = (word_at v.signals to ≡ word_at now to) × (word_at next to ≡ value (scope v) e)
+Meets now v next (Output port e) = word_at v.ports port ≡ value (scope v) e
+
+-- a cycle: each signal and port has a word of its width, the input ports have the words given, and each driver's equation holds
+pub record Cycle (d : Design) (now given : List (List Bool)) (v : Words) (next : List (List Bool)) : Type 0 where
+  pub signal_widths : map length v.signals ≡ map (λ s. s.width) d.signals
+  pub port_widths : map length v.ports ≡ map (λ p. p.width) d.ports
+  pub inputs : at_ports is_in d.ports v.ports ≡ given
+  pub equations : All (Meets now v next) d.drivers
+
+-- cycles in order, each register's word in one what the cycle before handed on
+abbrev pub RunsOn : Design → (now : List (List Bool)) → (inputs : List (List (List Bool))) → List Words → Type 0
+RunsOn d now [] [] = Unit {0}
+RunsOn d now (given ∷ inputs) (v ∷ vs) = (next : List (List Bool)) × Cycle d now given v next × RunsOn d next inputs vs
+RunsOn d now _ _ = ⊥
+
+-- the word of each register in cycle 0
+abbrev pub initial_words : List Signal → List (List Bool)
+initial_words signals = map (λ s. unwrap_or s.initial []) signals
+
+-- a run of a design over the inputs of its cycles
+abbrev pub Run : Design → (inputs : List (List (List Bool))) → List Words → Type 0
+Run d inputs vs = RunsOn d (initial_words d.signals) inputs vs
+
+-- the words of the output ports in a cycle, in order
+abbrev pub outputs_of : Design → Words → List (List Bool)
+outputs_of d v = at_ports is_out d.ports v.ports
+
+-- words of these widths, one for each
+abbrev pub AreWords : List ℕ → List (List Bool) → Type 0
+AreWords ws given = map length given ≡ ws
+
+abbrev pub input_widths : Design → List ℕ
+input_widths d = at_ports is_in d.ports (map (λ p. p.width) d.ports)

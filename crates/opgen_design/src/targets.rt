@@ -1,0 +1,69 @@
+ghost use Rattle.std.specs.Prelude.{◌≡◌, ◌<◌, ◌^◌, IfOk, IsTrue, ◌↔◌, length};
+ghost use Rattle.opgen_design.specs.Rules.{AreFirstDrivers, noted, slot};
+ghost use Rattle.opgen_design.specs.Sound.{Undeclared, Holds, HasNumbers, Names, IsInput, target};
+
+use crate::{Design, Dir, Driver};
+use std::alloc::{AllocError, Global};
+
+impl Driver {
+    /// The slot of what the driver drives, in a design of so many signals: that of a signal, or after those that of a port.
+    pub(crate) fn slot(&self, signals: usize) -> usize
+        requires { slot signals (target self.now) < 2 ^ 64 }
+        ensures { result ≡ slot signals (target self.now) }
+    {
+        match self {
+            Driver::Assign { to, expr: _ } => *to,
+            Driver::Choice {
+                to,
+                on: _,
+                yes: _,
+                no: _,
+            } => *to,
+            Driver::Table {
+                to,
+                on: _,
+                rows: _,
+                other: _,
+            } => *to,
+            Driver::Register { to, expr: _ } => *to,
+            Driver::Output { port, expr: _ } => signals + *port,
+        }
+    }
+}
+
+// Notes a number at a slot that has none.
+fn note(firsts: &mut Vec<Option<usize>>, slot: usize, number: usize)
+    requires { slot < length firsts.old.items }
+    ensures { firsts.new.items ≡ noted firsts.old.items slot number }
+{
+    if firsts[slot].is_none() {
+        firsts[slot] = Some(number);
+    }
+}
+
+impl Design {
+    /// The first driver of each slot, if it has one.
+    pub(crate) fn first_drivers(&self, alloc: Global) -> Result<Vec<Option<usize>>, AllocError>
+        requires numbers { HasNumbers self.now }
+        requires declared { Holds self.now Undeclared }
+        ensures { IfOk result (λ v. AreFirstDrivers self.now (length self.now.drivers) v.items) }
+    {
+        let signals = self.signals.len();
+        let mut firsts = vec![in alloc; None; signals + self.ports.len()]?;
+        for i in 0..self.drivers.len() {
+            note(&mut firsts, self.drivers.get(i).slot(signals), i);
+        }
+        Ok(firsts)
+    }
+
+    /// Whether a driver drives an input port.
+    pub(crate) fn drives_input(&self, driver: &Driver) -> bool
+        requires { Names self.now (target driver.now) }
+        ensures { IsTrue result ↔ IsInput self.now (target driver.now) }
+    {
+        match driver {
+            Driver::Output { port, expr: _ } => matches!(self.ports.get(*port).dir, Dir::In),
+            _ => false,
+        }
+    }
+}

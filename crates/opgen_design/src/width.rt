@@ -1,0 +1,113 @@
+ghost use Rattle.std.specs.Prelude.{◌≡◌, ◌+◌, ◌-◌, ◌&&◌, nat_le, nat_lt, if◌then◌else◌, None, slice_get};
+ghost use Rattle.opgen_design.specs.Plain.{plain, plain_all};
+ghost use Rattle.opgen_design.specs.Sound.{signal_widths, port_widths};
+ghost use Rattle.opgen_design.specs.Width.{as_width, joined, joined_options, width, chain_width};
+
+use crate::{Design, Expr, Op, Slice};
+use opgen_num::MAX_WIDTH;
+
+// The number, if it is the width of a signal.
+fn as_width(width: u32) -> Option<u32>
+    ensures { result ≡ as_width width }
+{
+    if 1 <= width && width <= MAX_WIDTH {
+        Some(width)
+    } else {
+        None
+    }
+}
+
+// The width of a slice of a signal, if it lies within it.
+fn part_width(whole: u32, slice: Slice) -> Option<u32>
+    ensures { result ≡ (if nat_le slice.low slice.high && nat_lt slice.high whole then as_width (slice.high + 1 - slice.low) else None) }
+{
+    if slice.low <= slice.high && slice.high < whole {
+        as_width(slice.high + 1 - slice.low)
+    } else {
+        None
+    }
+}
+
+// The width of two operands together.
+fn joined(op: Op, first: u32, second: u32) -> Option<u32>
+    ensures { result ≡ joined op first second }
+{
+    match op {
+        Op::Cat => match first.checked_add(second) {
+            Some(sum) => as_width(sum),
+            None => None,
+        },
+        _ => { if first == second { Some(first) } else { None } }
+    }
+}
+
+fn joined_options(op: Op, first: Option<u32>, second: Option<u32>) -> Option<u32>
+    ensures { result ≡ joined_options op first second }
+{
+    match (first, second) {
+        (Some(first), Some(second)) => joined(op, first, second),
+        _ => None,
+    }
+}
+
+impl Design {
+    fn signal_width(&self, node: usize) -> Option<u32>
+        ensures { result ≡ slice_get (signal_widths self.now) node }
+    {
+        match self.signals.as_slice().get(node) {
+            Some(signal) => Some(signal.width),
+            None => None,
+        }
+    }
+
+    fn port_width(&self, place: usize) -> Option<u32>
+        ensures { result ≡ slice_get (port_widths self.now) place }
+    {
+        match self.ports.as_slice().get(place) {
+            Some(port) => Some(port.width),
+            None => None,
+        }
+    }
+}
+
+impl Expr {
+    /// The width of an expression over the signals and ports of a design, where its parts fit.
+    #[cycle(width)]
+    pub(crate) fn width(&self, design: &Design) -> Option<u32>
+        ensures { result ≡ width (signal_widths design.now) (port_widths design.now) (plain self.now) }
+    {
+        match self {
+            Expr::Name(node) => match design.signal_width(*node) {
+                Some(width) => as_width(width),
+                None => None,
+            },
+            Expr::Part(slice) => match design.signal_width(slice.node) {
+                Some(width) => part_width(width, *slice),
+                None => None,
+            },
+            Expr::Bits(word) => as_width(word.width()),
+            Expr::Port(place) => match design.port_width(*place) {
+                Some(width) => as_width(width),
+                None => None,
+            },
+            Expr::Not(operand) => operand.width(design),
+            Expr::Chain(op, operands) => chain_width(*op, operands, design),
+        }
+    }
+}
+
+#[cycle(width)]
+fn chain_width(op: Op, operands: &[Expr], design: &Design) -> Option<u32>
+    ensures { result ≡ chain_width (signal_widths design.now) (port_widths design.now) op (plain_all operands.now) }
+{
+    match operands {
+        [] | [_] => None,
+        [first, rest @ ..] => {
+            let mut width = first.width(design);
+            for operand in rest {
+                width = joined_options(op, width, operand.width(design));
+            }
+            width
+        }
+    }
+}

@@ -1,8 +1,0 @@
-use Rattle.opgen_net.specs.Sound.{NotDriven}
-use Rattle.opgen_net.proofs.SoundLaws.{port-fault}
-use Rattle.opgen_net.proofs.design.Design.check_driven_ports.Goals as goal
-
-pub returns-clause-fault : goal.returns-clause-fault
-returns-clause-fault c =
-    let d = c.args.self.now in
-    port-fault d NotDriven (c.undriven_port.result) (c.undriven_port.ensures) c.failing.result (c.failing.ensures)

@@ -1,8 +1,0 @@
-use Rattle.opgen_net.specs.Sound.{Width}
-use Rattle.opgen_net.proofs.SoundLaws.{port-fault}
-use Rattle.opgen_net.proofs.design.Design.check_port_widths.Goals as goal
-
-pub returns-clause-fault : goal.returns-clause-fault
-returns-clause-fault c =
-    let d = c.args.self.now in
-    port-fault d Width (c.wrong_port.result) (c.wrong_port.ensures) c.failing.result (c.failing.ensures)

@@ -1,6 +1,0 @@
-use Rattle.opgen_net.specs.Rules.{HoldsBefore}
-use Rattle.opgen_net.specs.Sound.{Cyclic, DriverPasses}
-use Rattle.opgen_net.proofs.design.Design.cyclic.Given as goal
-
-abbrev pub invariant-loop-i : goal.invariant-loop-i
-invariant-loop-i l = HoldsBefore (DriverPasses l.self Cyclic) l.self.drivers l.i

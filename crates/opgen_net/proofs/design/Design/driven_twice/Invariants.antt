@@ -1,6 +1,0 @@
-use Rattle.opgen_net.specs.Rules.{HoldsBefore}
-use Rattle.opgen_net.specs.Sound.{DrivenTwice, DriverPasses}
-use Rattle.opgen_net.proofs.design.Design.driven_twice.Given as goal
-
-abbrev pub invariant-loop-i : goal.invariant-loop-i
-invariant-loop-i l = HoldsBefore (DriverPasses l.self DrivenTwice) l.self.drivers l.i

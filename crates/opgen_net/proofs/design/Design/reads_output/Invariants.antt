@@ -1,6 +1,0 @@
-use Rattle.opgen_net.specs.Rules.{HoldsBefore}
-use Rattle.opgen_net.specs.Sound.{ReadsOutput, DriverPasses}
-use Rattle.opgen_net.proofs.design.Design.reads_output.Given as goal
-
-abbrev pub invariant-loop-i : goal.invariant-loop-i
-invariant-loop-i l = HoldsBefore (DriverPasses l.self ReadsOutput) l.self.drivers l.i

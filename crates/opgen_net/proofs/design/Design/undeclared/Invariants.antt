@@ -1,6 +1,0 @@
-use Rattle.opgen_net.specs.Rules.{HoldsBefore}
-use Rattle.opgen_net.specs.Sound.{Undeclared, DriverPasses}
-use Rattle.opgen_net.proofs.design.Design.undeclared.Given as goal
-
-abbrev pub invariant-loop-i : goal.invariant-loop-i
-invariant-loop-i l = HoldsBefore (DriverPasses l.self Undeclared) l.self.drivers l.i

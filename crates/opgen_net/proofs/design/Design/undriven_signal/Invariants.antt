@@ -1,6 +1,0 @@
-use Rattle.opgen_net.specs.Rules.{HoldsBefore}
-use Rattle.opgen_net.specs.Sound.{NotDriven, SignalPasses}
-use Rattle.opgen_net.proofs.design.Design.undriven_signal.Given as goal
-
-abbrev pub invariant-loop-i : goal.invariant-loop-i
-invariant-loop-i l = HoldsBefore (SignalPasses l.self NotDriven) l.self.signals l.i

@@ -1,5 +1,0 @@
-use Rattle.opgen_net.proofs.SoundLaws.{declared-at}
-use Rattle.opgen_net.proofs.design.Design.wrong_driver.Goals as goal
-
-pub widths_agree-requires : goal.widths_agree-requires
-widths_agree-requires c = (declared-at c.args.self.now c.requires c.loop-i.i c.get.result.now c.get.ensures).target

@@ -1,6 +1,0 @@
-use Rattle.opgen_net.specs.Rules.{HoldsBefore}
-use Rattle.opgen_net.specs.Sound.{Width, DriverPasses}
-use Rattle.opgen_net.proofs.design.Design.wrong_driver.Given as goal
-
-abbrev pub invariant-loop-i : goal.invariant-loop-i
-invariant-loop-i l = HoldsBefore (DriverPasses l.self Width) l.self.drivers l.i

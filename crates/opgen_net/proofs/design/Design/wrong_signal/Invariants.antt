@@ -1,6 +1,0 @@
-use Rattle.opgen_net.specs.Rules.{HoldsBefore}
-use Rattle.opgen_net.specs.Sound.{Width, SignalPasses}
-use Rattle.opgen_net.proofs.design.Design.wrong_signal.Given as goal
-
-abbrev pub invariant-loop-i : goal.invariant-loop-i
-invariant-loop-i l = HoldsBefore (SignalPasses l.self Width) l.self.signals l.i
