@@ -42,13 +42,18 @@ fn whole_documents(rt: HostRuntime) -> Result<(), Fail> {
 }
 
 /// Words that are not taken.
-static WORDS: [&[&str]; 6] = [
+static WORDS: [&[&str]; 11] = [
     &[],
     &["generate"],
     &["generate", "-spec.toml"],
     &["generate", "spec.toml", "spec.toml"],
     &["Generate", "spec.toml"],
+    &["vectors"],
+    &["vectors", "-spec.toml"],
     &["simulate", "spec.toml"],
+    &["simulate", "spec.toml", "spec.toml", "-out"],
+    &["simulate", "spec.toml", "spec.toml", "out", "out"],
+    &["workload", "1"],
 ];
 
 #[test]

@@ -2,7 +2,7 @@
 use crate::running::{generated, scale};
 use std::test::Fail;
 
-const TIMES3: &str =
+pub(crate) const TIMES3: &str =
     "library ieee;\nuse ieee.std_logic_1164.all;\nuse ieee.numeric_std.all;\n\nentity times3 is\n  port (\n    clk : in std_logic;\n    x : in std_logic_vector(3 downto 0);\n    y : out std_logic_vector(5 downto 0)\n  );\nend entity;\n\narchitecture rtl of times3 is\n  signal s0 : unsigned(3 downto 0);\n  signal s1 : unsigned(5 downto 0);\nbegin\n  s0 <= unsigned(x);\n  with s0 select s1 <=\n    \"000000\" when \"0000\",\n    \"000011\" when \"0001\",\n    \"000110\" when \"0010\",\n    \"001001\" when \"0011\",\n    \"001100\" when \"0100\",\n    \"001111\" when \"0101\",\n    \"010010\" when \"0110\",\n    \"010101\" when \"0111\",\n    \"011000\" when \"1000\",\n    \"011011\" when \"1001\",\n    \"011110\" when \"1010\",\n    \"100001\" when \"1011\",\n    \"100100\" when \"1100\",\n    \"100111\" when \"1101\",\n    \"101010\" when \"1110\",\n    \"101101\" when others;\n  y <= std_logic_vector(s1);\nend architecture;\n";
 
 const TIMES6: &str =

@@ -6,6 +6,10 @@ mod faults;
 #[cfg(test)]
 mod generate;
 pub mod running;
+#[cfg(test)]
+mod simulate;
+#[cfg(test)]
+mod vectors;
 mod worked;
 
 pub use worked::{definitions_compute, operators_compute};

@@ -31,7 +31,33 @@ fn copied(alloc: Global, words: &[&str]) -> Result<Vec<String>, AllocError> {
     Ok(copies)
 }
 
-/// Runs the words over a folder of one file, with these calls of the folder and the sink failing.
+/// Runs the words over a folder of these files, with these calls of the folder and the sink failing.
+pub fn ran_over(
+    alloc: Global,
+    words: &[&str],
+    files: &[(&str, &[u8])],
+    folder_failing: &[u64],
+    sink_failing: &[u64],
+) -> Result<Outcome, AllocError> {
+    let words = copied(alloc, words)?;
+    let mut held = Vec::new(alloc);
+    for (name, bytes) in files {
+        held.push((
+            String::from_str(alloc, name)?,
+            Vec::from_slice(alloc, bytes)?,
+        ))?;
+    }
+    let mut folder = MemoryFolder::new(held, Vec::from_slice(alloc, folder_failing)?);
+    let mut out = MemorySink::new(alloc, Vec::from_slice(alloc, sink_failing)?);
+    let status = run(alloc, &words, &mut folder, &mut out);
+    Ok(Outcome {
+        status,
+        folder,
+        out,
+    })
+}
+
+/// Runs the words over a folder of one file.
 pub fn ran(
     alloc: Global,
     words: &[&str],
@@ -40,20 +66,7 @@ pub fn ran(
     folder_failing: &[u64],
     sink_failing: &[u64],
 ) -> Result<Outcome, AllocError> {
-    let words = copied(alloc, words)?;
-    let mut files = Vec::new(alloc);
-    files.push((
-        String::from_str(alloc, name)?,
-        Vec::from_slice(alloc, bytes)?,
-    ))?;
-    let mut folder = MemoryFolder::new(files, Vec::from_slice(alloc, folder_failing)?);
-    let mut out = MemorySink::new(alloc, Vec::from_slice(alloc, sink_failing)?);
-    let status = run(alloc, &words, &mut folder, &mut out);
-    Ok(Outcome {
-        status,
-        folder,
-        out,
-    })
+    ran_over(alloc, words, &[(name, bytes)], folder_failing, sink_failing)
 }
 
 /// `generate` on a specification, with no failing calls.

@@ -10,3 +10,9 @@ mod Spelled
 pub mod OneDue
 pub mod Unfetched
 pub mod OneSimulate
+pub mod Columns
+pub mod SomePort
+pub mod PreparingRuns
+pub mod Vectoring
+pub mod Holding
+pub mod Hyphens

@@ -8,8 +8,8 @@ use Rattle.opgen_read.proofs.FirstCause.{one_cause, no_cause}
 use Rattle.opgen_vec.specs.declared.fault.VecFault.{VecFault}
 use Rattle.opgen_vec.specs.Reading.{IsReading}
 use Rattle.opgen_vec.proofs.OneReading.{one_reading}
-use Rattle.opgen_top.specs.Answer.{Answer}
-use Rattle.opgen_top.specs.Simulate.{vhdl_refused, vectors_refused, GivesDesign, RefusesVhdl, RefusesVectors, Runs, HasOneSimulateAnswer}
+use Rattle.opgen_top.specs.Answer.{Answer, vhdl_refused, vectors_refused}
+use Rattle.opgen_top.specs.Simulate.{GivesDesign, RefusesVhdl, RefusesVectors, Runs, HasOneSimulateAnswer}
 
 module _ (text vectors : List ℕ) where
   -- a text that gives a design has no cause against it
@@ -27,12 +27,15 @@ module _ (text vectors : List ℕ) where
 
   one_vectors_fault : (a b : Answer) → RefusesVectors text vectors a → RefusesVectors text vectors b → a ≡ b
   one_vectors_fault a b h k =
-      let reads : Err h.fault ≡ Err k.fault = one_read h.design k.design h.gives k.gives (Err h.fault) (Err k.fault) h.cause k.cause in
-      let same : h.fault ≡ k.fault = cc in h.answer ∙ ap vectors_refused same ∙ sym k.answer
+      let p = h.refused in
+      let q = k.refused in
+      let reads : Err p.fault ≡ Err q.fault = one_read h.design k.design h.gives k.gives (Err p.fault) (Err q.fault) p.cause q.cause in
+      let same : p.fault ≡ q.fault = cc in p.answer ∙ ap vectors_refused same ∙ sym q.answer
 
   not_run : (a b : Answer) → RefusesVectors text vectors a → Runs text vectors b → ⊥
   not_run a b h k =
-      let reads : Err h.fault ≡ Ok k.cells = one_read h.design k.design h.gives k.gives (Err h.fault) (Ok k.cells) h.cause k.rows in cc
+      let p = h.refused in
+      let reads : Err p.fault ≡ Ok k.cells = one_read h.design k.design h.gives k.gives (Err p.fault) (Ok k.cells) p.cause k.rows in cc
 
 pub one_simulate_answer : HasOneSimulateAnswer
 one_simulate_answer text vectors a b (inl h) (inl k) = one_fault text vectors a b h k

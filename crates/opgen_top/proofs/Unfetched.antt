@@ -30,14 +30,22 @@ module _ (command : Option Command) (told : Option Files) (before now : Reads) (
   not_one : (answer_of line).status ≡ 1 → ⊥
   not_one h = elim status [ inl e ↦ omega (arith, e, h) | inr e ↦ omega (arith, e, h) ]
 
+  not_six : (answer_of line).status ≡ 6 → ⊥
+  not_six h = elim status [ inl e ↦ omega (arith, e, h) | inr e ↦ omega (arith, e, h) ]
+
+  not_seven : (answer_of line).status ≡ 7 → ⊥
+  not_seven h = elim status [ inl e ↦ omega (arith, e, h) | inr e ↦ omega (arith, e, h) ]
+
   pub unfetched-refused : IsRefusal command told before now line
   unfetched-refused = record {
     listed = elim cause.either [ inl e ↦ inr (inl e) | inr e ↦ inr (inr (inl e)) ];
-    refuses = elim status [ inl e ↦ inr (inr (inl e)) | inr e ↦ inr (inr (inr e)) ];
+    refuses = elim status [ inl e ↦ inr (inr (inl e)) | inr e ↦ inr (inr (inr (inr (inr e)))) ];
     no_usage = not_two;
     read_counted = cause.read_counted;
     long_counted = cause.long_counted;
     refused = λ files is h. absurd (not_one h);
+    vhdl_refused = λ files is h. absurd (not_six h);
+    vectors_refused = λ files is h. absurd (not_seven h);
     missing = λ files is stood h. (missing_due files is (cause.missing files is stood h)).0;
     longer = λ files is h. (longer_due files is (cause.longer files is h)).0;
     complete = λ files is stood. elim cause.either [ inl e ↦ due_of_missing files is stood e | inr e ↦ due_of_longer files is e ];

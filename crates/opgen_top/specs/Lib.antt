@@ -4,8 +4,8 @@ pub mod Statuses
 pub mod Answer
 pub mod Generate
 pub mod Running
+pub mod Simulate
+pub mod Vectors
 pub mod Due
 pub mod Stores
 pub mod Prepared
-pub mod Simulate
-pub mod Vectors

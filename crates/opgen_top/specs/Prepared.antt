@@ -12,7 +12,7 @@ use Rattle.opgen_top.specs.declared.made.Refusal.{Refusal}
 use Rattle.opgen_top.specs.declared.made.Refusal.TheVariants as refusals
 use Rattle.opgen_top.specs.Answer.{answer_of, read_fault, too_long, IsAnswer}
 use Rattle.opgen_top.specs.Command.{Command}
-use Rattle.opgen_top.specs.Due.{IsDue, IsMissing, IsTooLong, IsRefused}
+use Rattle.opgen_top.specs.Due.{IsDue, IsMissing, IsTooLong, IsRefused, IsVhdlRefused, AreVectorsRefused}
 use Rattle.opgen_top.specs.Statuses.{Refuses}
 use Rattle.opgen_top.specs.Stores.{Makes}
 
@@ -36,6 +36,8 @@ pub record IsRefusal (command : Option Command) (told : Option Files) (before no
   pub read_counted : (answer_of line).status ≡ 3 → Rose before.faults now.faults ⊎ Rose before.lacks now.lacks
   pub long_counted : (answer_of line).status ≡ 9 → Rose before.longs now.longs
   pub refused : (files : Files) → told ≡ Some files → (answer_of line).status ≡ 1 → IsRefused command files
+  pub vhdl_refused : (files : Files) → told ≡ Some files → (answer_of line).status ≡ 6 → IsVhdlRefused command files
+  pub vectors_refused : (files : Files) → told ≡ Some files → (answer_of line).status ≡ 7 → AreVectorsRefused command files
   pub missing : (files : Files) → told ≡ Some files → Stood before.faults now.faults → (answer_of line).status ≡ 3 → IsMissing command files
   pub longer : (files : Files) → told ≡ Some files → (answer_of line).status ≡ 9 → IsTooLong command files
   pub complete : (files : Files) → told ≡ Some files → Stood before.faults now.faults → IsDue command files (answer_of line)

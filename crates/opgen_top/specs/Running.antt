@@ -1,19 +1,23 @@
 -- Runs of a design over rows of numbers.
 use Rattle.std.specs.Prelude.{ℕ, zero, suc, ◌≡◌, Bool, List, [], ◌∷◌, length, map, take, drop}
 use Rattle.std.specs.List.{concat}
-use Rattle.opgen_num.specs.Words.{nat, word}
+use Rattle.opgen_num.specs.Words.{nat}
 use Rattle.opgen_design.specs.declared.design.Design.{Design}
-use Rattle.opgen_design.specs.Run.{Words, RunsOn, initial_words, at_ports, is_out, input_widths, outputs_of}
-
--- the words of a row, one for each width
-abbrev pub row_words : (widths cells : List ℕ) → List (List Bool)
-row_words (width ∷ widths) (cell ∷ cells) = word width cell ∷ row_words widths cells
-row_words _ _ = []
+use Rattle.opgen_design.specs.declared.design.Dir.{Dir}
+use Rattle.opgen_design.specs.declared.design.Dir.TheVariants.{In, Out}
+use Rattle.opgen_design.specs.Run.{Words, RunsOn, initial_words, at_ports, is_in, is_out, input_widths, outputs_of}
+use Rattle.opgen_sim.specs.Step.{words_of}
+use Rattle.opgen_vec.specs.Writing.{rows_text}
 
 -- the words of so many rows, row after row
 abbrev pub rows_words : (widths : List ℕ) (rows : ℕ) (cells : List ℕ) → List (List (List Bool))
 rows_words widths zero cells = []
-rows_words widths (suc rows) cells = row_words widths (take (length widths) cells) ∷ rows_words widths rows (drop (length widths) cells)
+rows_words widths (suc rows) cells = words_of widths (take (length widths) cells) ∷ rows_words widths rows (drop (length widths) cells)
+
+-- the ports of a direction
+abbrev pub is_of : Dir → Dir → Bool
+is_of In = is_in
+is_of Out = is_out
 
 abbrev pub output_widths : Design → List ℕ
 output_widths d = at_ports is_out d.ports (map (λ p. p.width) d.ports)
@@ -31,3 +35,9 @@ pub record RunsRows (d : Design) (now : List (List Bool)) (rows : ℕ) (inputs o
 -- the same from the initial words
 abbrev pub IsRunOf : (d : Design) (rows : ℕ) (inputs outputs : List ℕ) → Type 0
 IsRunOf d rows inputs outputs = RunsRows d (initial_words d.signals) rows inputs outputs
+
+-- a line for each cycle of the run over these inputs, with the row of the inputs and the row of the outputs
+pub record IsRunText (d : Design) (rows : ℕ) (inputs text : List ℕ) : Type 0 where
+  pub outputs : List ℕ
+  pub run : IsRunOf d rows inputs outputs
+  pub written : text ≡ rows_text (input_widths d) (output_widths d) rows inputs outputs

@@ -1,6 +1,5 @@
--- What `simulate` answers by the bytes of its VHDL and of its vectors, and what it stores. It waits for its command.
-use Rattle.std.specs.Prelude.{ℕ, ◌≡◌, ◌≢◌, ◌⊎◌, List, ◌++◌, codes, length, Ok, Err}
-use Rattle.std.specs.Fmt.{decimal}
+-- What `simulate` answers by the bytes of its VHDL and of its vectors, and what it stores.
+use Rattle.std.specs.Prelude.{ℕ, ◌≡◌, ◌≢◌, ◌⊎◌, List, length, Ok, Err}
 use Rattle.std.specs.Str.Lines.{lines}
 use Rattle.opgen_design.specs.declared.design.Design.{Design}
 use Rattle.opgen_design.specs.Run.{input_widths}
@@ -8,22 +7,13 @@ use Rattle.opgen_design.specs.Sound.{IsSound}
 use Rattle.opgen_text.specs.Spelled.{Spells}
 use Rattle.opgen_read.specs.declared.fault.ReadFault.{ReadFault}
 use Rattle.opgen_read.specs.declared.fault.ReadFault.TheVariants as read
-use Rattle.opgen_read.specs.Answer.{IsWithinLimits, IsReadFault, fault_text as read_fault_text}
+use Rattle.opgen_read.specs.Answer.{IsWithinLimits, IsReadFault}
 use Rattle.opgen_vec.specs.declared.fault.VecFault.{VecFault}
-use Rattle.opgen_vec.specs.Fault.{fault_text as vectors_fault_text}
 use Rattle.opgen_vec.specs.Reading.{IsReading}
-use Rattle.opgen_vec.specs.Writing.{rows_text}
-use Rattle.opgen_top.specs.Answer.{Answer}
-use Rattle.opgen_top.specs.Running.{output_widths, IsRunOf}
-
-abbrev pub simulated : (rows : ℕ) → Answer
-simulated rows = record { status = 0; line = codes "simulated " ++ decimal rows ++ codes " cycles\n" }
-
-abbrev pub vhdl_refused : ReadFault → Answer
-vhdl_refused fault = record { status = 6; line = codes "vhdl: " ++ read_fault_text fault ++ codes "\n" }
-
-abbrev pub vectors_refused : VecFault → Answer
-vectors_refused fault = record { status = 7; line = codes "vectors: " ++ vectors_fault_text fault ++ codes "\n" }
+use Rattle.opgen_vec.specs.Rows.{AreRowsOfCells}
+use Rattle.opgen_top.specs.declared.run_rows.Rows.{Rows}
+use Rattle.opgen_top.specs.Answer.{Answer, simulated, vhdl_refused, vectors_refused}
+use Rattle.opgen_top.specs.Running.{IsRunText}
 
 -- the text spells a sound design within the limits
 pub record GivesDesign (text : List ℕ) (design : Design) : Type 0 where
@@ -38,13 +28,24 @@ pub record RefusesVhdl (text : List ℕ) (a : Answer) : Type 0 where
   pub cause : IsReadFault text fault
   pub answer : a ≡ vhdl_refused fault
 
--- the vectors are no rows of the design's inputs; without inputs each line has to be empty
+-- the vectors are no rows of words of these widths; without widths each line has to be empty
+pub record RefusesRows (widths vectors : List ℕ) (a : Answer) : Type 0 where
+  pub fault : VecFault
+  pub cause : IsReading widths (lines vectors) (Err fault)
+  pub answer : a ≡ vectors_refused fault
+
+-- nor of the inputs of the design
 pub record RefusesVectors (text vectors : List ℕ) (a : Answer) : Type 0 where
   pub design : Design
   pub gives : GivesDesign text design
-  pub fault : VecFault
-  pub cause : IsReading (input_widths design) (lines vectors) (Err fault)
-  pub answer : a ≡ vectors_refused fault
+  pub refused : RefusesRows (input_widths design) vectors a
+
+-- the rows that the vectors hold
+pub record HoldsRows (widths vectors : List ℕ) (rows : Rows) : Type 0 where
+  pub reading : IsReading widths (lines vectors) (Ok rows.inputs.cells)
+  pub columns : rows.inputs.columns ≡ length widths
+  pub count : rows.count ≡ length (lines vectors)
+  pub fit : AreRowsOfCells widths rows.count rows.inputs.cells
 
 -- they are rows
 pub record Runs (text vectors : List ℕ) (a : Answer) : Type 0 where
@@ -64,9 +65,7 @@ pub record MakesRows (text vectors rows : List ℕ) : Type 0 where
   pub gives : GivesDesign text design
   pub cells : List ℕ
   pub read : IsReading (input_widths design) (lines vectors) (Ok cells)
-  pub outputs : List ℕ
-  pub run : IsRunOf design (length (lines vectors)) cells outputs
-  pub written : rows ≡ rows_text (input_widths design) (output_widths design) (length (lines vectors)) cells outputs
+  pub run : IsRunText design (length (lines vectors)) cells rows
 
 -- the bytes of both files leave one answer
 abbrev pub HasOneSimulateAnswer : Type 0

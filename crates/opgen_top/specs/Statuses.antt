@@ -2,13 +2,17 @@
 use Rattle.std.specs.Prelude.{ℕ, ◌≡◌, ◌⊎◌}
 use Rattle.opgen_io.specs.Counts.{Rose}
 
--- a status of a refusal: the specification, the words, the read or the length
+-- a status of a refusal: the specification, the words, the read, the VHDL, the vectors or the length
 abbrev pub Refuses : ℕ → Type 0
-Refuses status = (status ≡ 1) ⊎ ((status ≡ 2) ⊎ ((status ≡ 3) ⊎ (status ≡ 9)))
+Refuses status = (status ≡ 1) ⊎ ((status ≡ 2) ⊎ ((status ≡ 3) ⊎ ((status ≡ 6) ⊎ ((status ≡ 7) ⊎ (status ≡ 9)))))
 
 -- a status that comes with a line
 abbrev pub HasLine : ℕ → Type 0
 HasLine status = (status ≡ 0) ⊎ Refuses status
+
+-- a status that says what the files of a command hold
+abbrev pub TellsOfFiles : ℕ → Type 0
+TellsOfFiles status = (status ≡ 0) ⊎ ((status ≡ 1) ⊎ ((status ≡ 6) ⊎ (status ≡ 7)))
 
 -- the status of a write fault, or of want of memory
 abbrev pub IsSilent : ℕ → Type 0

@@ -9,7 +9,10 @@ mod line;
 mod made;
 mod prepare;
 mod program;
+mod run_rows;
+mod simulate;
 mod status;
+mod vectors;
 
 pub use buildable::built;
 pub use laws::{one_due, one_simulate_answer};

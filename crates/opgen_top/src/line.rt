@@ -10,6 +10,10 @@ pub enum Line {
     Unsupported,
     /// The whole line that names a fault of the specification.
     Refused(String),
+    /// The whole line that names a fault of the VHDL.
+    VhdlRefused(String),
+    /// The whole line that names a fault of the vectors.
+    VectorsRefused(String),
     /// The whole line that tells of a stored file.
     Wrote(String),
 }
@@ -28,6 +32,8 @@ impl Line {
             Line::Unsupported | Line::Refused(_) => 1,
             Line::Usage => 2,
             Line::ReadFault => 3,
+            Line::VhdlRefused(_) => 6,
+            Line::VectorsRefused(_) => 7,
             Line::TooLong => 9,
         }
     }
@@ -41,7 +47,10 @@ impl Line {
             Line::ReadFault => "read fault\n",
             Line::TooLong => "too long\n",
             Line::Unsupported => "specification: Unsupported\n",
-            Line::Refused(line) | Line::Wrote(line) => line.as_str(),
+            Line::Refused(line)
+            | Line::VhdlRefused(line)
+            | Line::VectorsRefused(line)
+            | Line::Wrote(line) => line.as_str(),
         }
     }
 }

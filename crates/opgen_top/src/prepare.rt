@@ -1,17 +1,22 @@
 //! Commands before their store.
 ghost use Rattle.std.specs.Prelude.{◌≡◌, Some};
-ghost use Rattle.opgen_top.specs.Command.{plain, Generate};
+ghost use Rattle.opgen_top.specs.Command.{plain, Generate, Vectors, Simulate};
 ghost use Rattle.opgen_top.specs.Prepared.{Fetches, Kept, Prepares};
 
 use crate::command::Command;
 use crate::generate::generated;
 use crate::line::Line;
 use crate::made::{MadeFile, Refusal};
+use crate::simulate::simulated;
+use crate::vectors::vectors_of;
 use opgen_io::{FetchFault, Folder};
 use std::alloc::Global;
 
 /// The most bytes that a specification has.
 const MAX_SPEC_LEN: usize = 1_048_576;
+
+/// The most bytes that a file of VHDL has, and a file of vectors.
+const MAX_SIMULATED_LEN: usize = 67_108_864;
 
 /// The file that a command makes of its files. The folder's files stay as they are.
 pub(crate) fn prepare<F: Folder>(
@@ -27,6 +32,8 @@ pub(crate) fn prepare<F: Folder>(
 {
     match asked {
         Command::Generate { spec } => generate(alloc, spec, folder),
+        Command::Vectors { spec } => vectors(alloc, spec, folder),
+        Command::Simulate { vhdl, vectors, out } => simulate(alloc, vhdl, vectors, out, folder),
     }
 }
 
@@ -66,4 +73,42 @@ fn generate<F: Folder>(alloc: Global, spec: &str, folder: &mut F) -> Result<Made
         Err(refusal) => return Err(refusal),
     };
     generated(alloc, &bytes)
+}
+
+fn vectors<F: Folder>(alloc: Global, spec: &str, folder: &mut F) -> Result<MadeFile, Refusal>
+    ensures told_same { F.told folder.new ≡ F.told folder.old }
+    ensures write_faults_same { F.write_faults folder.new ≡ F.write_faults folder.old }
+    ensures prepared { Prepares (Some (Vectors spec.now)) (F.told folder.old)
+        (record { faults = F.read_faults folder.old; lacks = F.lacks folder.old; longs = F.longs folder.old })
+        (record { faults = F.read_faults folder.new; lacks = F.lacks folder.new; longs = F.longs folder.new }) result }
+{
+    let document = match fetch(alloc, spec, MAX_SPEC_LEN, folder) {
+        Ok(bytes) => bytes,
+        Err(refusal) => return Err(refusal),
+    };
+    vectors_of(alloc, &document)
+}
+
+fn simulate<F: Folder>(
+    alloc: Global,
+    vhdl: &str,
+    vectors: &str,
+    out: &str,
+    folder: &mut F,
+) -> Result<MadeFile, Refusal>
+    ensures told_same { F.told folder.new ≡ F.told folder.old }
+    ensures write_faults_same { F.write_faults folder.new ≡ F.write_faults folder.old }
+    ensures prepared { Prepares (Some (Simulate vhdl.now vectors.now out.now)) (F.told folder.old)
+        (record { faults = F.read_faults folder.old; lacks = F.lacks folder.old; longs = F.longs folder.old })
+        (record { faults = F.read_faults folder.new; lacks = F.lacks folder.new; longs = F.longs folder.new }) result }
+{
+    let text = match fetch(alloc, vhdl, MAX_SIMULATED_LEN, folder) {
+        Ok(bytes) => bytes,
+        Err(refusal) => return Err(refusal),
+    };
+    let rows = match fetch(alloc, vectors, MAX_SIMULATED_LEN, folder) {
+        Ok(bytes) => bytes,
+        Err(refusal) => return Err(refusal),
+    };
+    simulated(alloc, &text, &rows, out)
 }

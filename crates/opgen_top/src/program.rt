@@ -6,9 +6,9 @@ ghost use Rattle.opgen_io.specs.Counts.{Rose, Stood};
 ghost use Rattle.opgen_io.specs.Files.{Files, stored};
 ghost use Rattle.opgen_top.specs.Answer.{answer_of, read_fault, too_long, usage, IsAnswer, TakesLine, TakesPartOfLine};
 ghost use Rattle.opgen_top.specs.Command.{command_of};
-ghost use Rattle.opgen_top.specs.Due.{IsDue, IsDueStatus, TakesDueLine, IsMissing, IsTooLong, IsRefused};
+ghost use Rattle.opgen_top.specs.Due.{IsDue, IsDueStatus, TakesDueLine, IsMissing, IsTooLong, IsRefused, IsVhdlRefused, AreVectorsRefused};
 ghost use Rattle.opgen_top.specs.Stores.{Stores, Leaves, LeavesStored};
-ghost use Rattle.opgen_top.specs.Statuses.{HasLine, IsSilent, IsStatus, Refuses, TellsOr};
+ghost use Rattle.opgen_top.specs.Statuses.{HasLine, IsSilent, IsStatus, Refuses, TellsOfFiles, TellsOr};
 
 use crate::command::command_of;
 use crate::line::Line;
@@ -55,6 +55,10 @@ fn answer<F: Folder>(alloc: Global, words: &[String], folder: &mut F) -> Result<
     ensures write_fault { IfErr result (λ status. status.0 ≡ 4 → Rose (F.write_faults folder.old) (F.write_faults folder.new)) }
     ensures refused { (files : Files) → F.told folder.old ≡ Some files → IfOk result (λ line. (answer_of line).status ≡ 1 →
         IsRefused (command_of (map string_bytes words.now)) files) }
+    ensures vhdl_refused { (files : Files) → F.told folder.old ≡ Some files → IfOk result (λ line. (answer_of line).status ≡ 6 →
+        IsVhdlRefused (command_of (map string_bytes words.now)) files) }
+    ensures vectors_refused { (files : Files) → F.told folder.old ≡ Some files → IfOk result (λ line. (answer_of line).status ≡ 7 →
+        AreVectorsRefused (command_of (map string_bytes words.now)) files) }
     ensures missing { (files : Files) → F.told folder.old ≡ Some files →
         Stood (F.read_faults folder.old) (F.read_faults folder.new) → IfOk result (λ line. (answer_of line).status ≡ 3 →
         IsMissing (command_of (map string_bytes words.now)) files) }
@@ -101,8 +105,13 @@ fn printed<K: Sink>(line: &Line, out: &mut K) -> Status
     }
 }
 
-/// Runs the program: `words` are the words after its name. `generate SPEC` reads the specification
-/// SPEC from the folder, stores the VHDL of its circuit under `<name>.vhd` and prints a line.
+/// Runs the program: `words` are the words after its name.
+///
+/// - `generate SPEC` reads the specification SPEC from the folder, stores the VHDL of its circuit
+///   under `<name>.vhd` and prints a line.
+/// - `vectors SPEC` stores the rows of that circuit over its stimulus under `<name>.vec`.
+/// - `simulate VHDL VECTORS OUT` runs the design of VHDL over the rows of VECTORS and stores the rows
+///   of its inputs and outputs under OUT.
 pub fn run<F: Folder, K: Sink>(
     alloc: Global,
     words: &[String],
@@ -125,6 +134,10 @@ pub fn run<F: Folder, K: Sink>(
         Rose (F.write_faults folder.old) (F.write_faults folder.new) ⊎ Rose (K.faults out.old) (K.faults out.new) }
     ensures refused { (files : Files) → F.told folder.old ≡ Some files → result.0 ≡ 1 →
         IsRefused (command_of (map string_bytes words.now)) files }
+    ensures vhdl_refused { (files : Files) → F.told folder.old ≡ Some files → result.0 ≡ 6 →
+        IsVhdlRefused (command_of (map string_bytes words.now)) files }
+    ensures vectors_refused { (files : Files) → F.told folder.old ≡ Some files → result.0 ≡ 7 →
+        AreVectorsRefused (command_of (map string_bytes words.now)) files }
     ensures missing { (files : Files) → F.told folder.old ≡ Some files →
         Stood (F.read_faults folder.old) (F.read_faults folder.new) → result.0 ≡ 3 →
         IsMissing (command_of (map string_bytes words.now)) files }
@@ -154,7 +167,7 @@ pub fn run<F: Folder, K: Sink>(
     ensures line_too_long { (held : List ℕ) → K.taken out.old ≡ Some held → result.0 ≡ 9 →
         K.taken out.new ≡ Some (held ++ too_long.line) }
     ensures line { (files : Files) → F.told folder.old ≡ Some files →
-        (held : List ℕ) → K.taken out.old ≡ Some held → (result.0 ≡ 0) ⊎ (result.0 ≡ 1) →
+        (held : List ℕ) → K.taken out.old ≡ Some held → TellsOfFiles result.0 →
         TakesDueLine (command_of (map string_bytes words.now)) files held (K.taken out.new) }
     ensures one_line { (held : List ℕ) → K.taken out.old ≡ Some held → HasLine result.0 →
         TakesLine result.0 held (K.taken out.new) }

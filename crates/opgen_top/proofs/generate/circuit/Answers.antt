@@ -1,9 +1,10 @@
 use Rattle.std.proofs.Common.{ap, sym, ◌∙◌, subst}
 use Rattle.opgen_net.specs.Made.{design_of}
+use Rattle.opgen_design.specs.Sound.{HasNumbers}
 use Rattle.opgen_flat.proofs.Follows.{follows}
 use Rattle.opgen_flat.proofs.Runs.{design_runs}
 use Rattle.opgen_top.specs.Generate.{Serves}
-use Rattle.opgen_top.proofs.Circuits.{named}
+use Rattle.opgen_top.proofs.Circuits.{named, few_places}
 use Rattle.opgen_top.proofs.Products.{asked, fits}
 use Rattle.opgen_top.proofs.Serving.{serves}
 use Rattle.opgen_top.proofs.generate.circuit.Goals as goal
@@ -32,3 +33,8 @@ returns-clause-made c =
       named = named name c.requires.allowed c.args.asked.width c.args.asked.factor net c.in_ok-net.ensures.times;
       made = c.in_ok-flat.ensures.design ∙ ap (λ n. design_of n net) c.as_str.ensures;
     }
+
+pub returns-clause-numbers : goal.returns-clause-numbers
+returns-clause-numbers c =
+    let net = c.in_ok-net.net in
+    subst HasNumbers (sym c.in_ok-flat.ensures.design) (few_places c.as_str.result.now c.args.asked.width c.args.asked.factor net c.in_ok-net.ensures.times c.in_ok-net.ensures.few)

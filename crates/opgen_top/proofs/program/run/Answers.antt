@@ -1,7 +1,7 @@
 use Rattle.std.proofs.Common.{◌≡◌, ◌++◌, Some, refl, sym, ap, ◌∙◌, inl, inr, arith}
 use Rattle.opgen_top.specs.Answer.{Answer, answer_of, usage}
 use Rattle.opgen_top.specs.Statuses.{HasLine}
-use Rattle.opgen_top.proofs.Parts.{takes-nothing, told_status, not_silent, no_fault}
+use Rattle.opgen_top.proofs.Parts.{takes-nothing, told_status, not_silent, no_fault, tells_line, answer_line}
 use Rattle.opgen_top.proofs.program.run.Goals as goal
 
 pub returns-in-Ok-clause-stored : goal.returns-in-Ok-clause-stored
@@ -27,7 +27,7 @@ returns-in-Ok-clause-due g c files told =
 pub returns-in-Ok-clause-line : goal.returns-in-Ok-clause-line
 returns-in-Ok-clause-line g c files told held tells h =
     let line = c.in-Ok.line in
-    let has_line : HasLine c.printed.result.0 = elim h [ inl e ↦ inl e | inr e ↦ inr (inl e) ] in
+    let has_line : HasLine c.printed.result.0 = tells_line _ h in
     let status = told_status _ _ _ _ c.printed.ensures.status has_line in
     let taken = elim (c.printed.ensures.taken held tells) as (λ _. g.K.Sink.taken c.printed.new.out ≡ Some (held ++ (answer_of line).line)) [ inl silent ↦ absurd (not_silent _ has_line silent) | inr e ↦ e ] in
     elim (c.in-Ok.ensures.due files told) [
@@ -44,6 +44,14 @@ returns-in-Ok-clause-one_line g c held tells h =
       sym status,
       elim (c.printed.ensures.taken held tells) [ inl silent ↦ absurd (not_silent _ h silent) | inr e ↦ e ],
     )
+
+pub returns-in-Ok-clause-left : goal.returns-in-Ok-clause-left
+returns-in-Ok-clause-left g c files told silent =
+    let line = c.in-Ok.line in
+    elim (answer_line (answer_of line) c.in-Ok.ensures.listed) [
+      | inl ok ↦ inr (inl (c.answer.ensures.stored files told line c.in-Ok.is ok))
+      | inr refuses ↦ inl (c.in-Ok.ensures.unchanged refuses ∙ told)
+    ]
 
 pub returns-in-Err-clause-part : goal.returns-in-Err-clause-part
 returns-in-Err-clause-part g c h = (usage, inl refl, takes-nothing _ usage.line)

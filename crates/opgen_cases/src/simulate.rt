@@ -1,0 +1,148 @@
+//! Runs of VHDL over vectors, as `simulate` stores them.
+use crate::generate::TIMES3;
+use crate::running::{Outcome, ran_over};
+use std::alloc::{AllocError, Global};
+use std::test::Fail;
+
+fn simulated(alloc: Global, vhdl: &str, vectors: &str) -> Result<Outcome, AllocError> {
+    ran_over(
+        alloc,
+        &["simulate", "times3.vhd", "in.vec", "out.vec"],
+        &[
+            ("times3.vhd", vhdl.as_bytes()),
+            ("in.vec", vectors.as_bytes()),
+        ],
+        &[],
+        &[],
+    )
+}
+
+/// A design with two inputs and a register that holds the sum of the cycle before.
+const HELD: &str =
+    "library ieee;\nuse ieee.std_logic_1164.all;\nuse ieee.numeric_std.all;\nentity held is\nport (clk : in std_logic;\na : in std_logic_vector(3 downto 0);\ny : out std_logic_vector(4 downto 0);\nb : in std_logic_vector(4 downto 0));\nend held;\narchitecture rtl of held is\nsignal s : unsigned(4 downto 0) := \"10001\";\nbegin\ny <= std_logic_vector(s);\nprocess (clk)\nbegin\nif rising_edge(clk) then\ns <= (\"0\" & unsigned(a)) + unsigned(b);\nend if;\nend process;\nend rtl;\n";
+
+/// A design without inputs.
+const FIVE: &str =
+    "library ieee;\nuse ieee.std_logic_1164.all;\nuse ieee.numeric_std.all;\nentity five is\nport (clk : in std_logic;\ny : out std_logic_vector(3 downto 0));\nend five;\narchitecture rtl of five is\nsignal s : unsigned(3 downto 0);\nbegin\ns <= \"0101\";\ny <= std_logic_vector(s);\nend rtl;\n";
+
+/// VHDL and vectors, and the rows and the line that they give.
+static ROWS: [(&str, &str, &str, &str); 6] = [
+    (
+        TIMES3,
+        "0\n1\nf\n",
+        "0 : 00\n1 : 03\nf : 2d\n",
+        "simulated 3 cycles\n",
+    ),
+    // Capitals, a carriage return, and a last line without a line feed.
+    (TIMES3, "A\r\nB", "a : 1e\nb : 21\n", "simulated 2 cycles\n"),
+    (TIMES3, "", "", "simulated 0 cycles\n"),
+    (
+        HELD,
+        "1 02\nf 1f\n0 00\n",
+        "1 02 : 11\nf 1f : 03\n0 00 : 0e\n",
+        "simulated 3 cycles\n",
+    ),
+    (FIVE, "\n\r\n", " : 5\n : 5\n", "simulated 2 cycles\n"),
+    (FIVE, "", "", "simulated 0 cycles\n"),
+];
+
+#[test]
+fn rows_and_lines(rt: HostRuntime) -> Result<(), Fail> {
+    for (vhdl, vectors, rows, line) in &ROWS {
+        let ran = simulated(rt.alloc(), vhdl, vectors)?;
+        assert_eq!(rt; ran.status.0, 0);
+        assert!(rt; ran.folder.get("out.vec") == Some(rows.as_bytes()));
+        assert!(rt; ran.folder.get("in.vec") == Some(vectors.as_bytes()));
+        assert!(rt; ran.out.bytes() == line.as_bytes());
+    }
+    Ok(())
+}
+
+/// VHDL and vectors that are refused, with the status and the line.
+static REFUSED: [(&str, &str, u8, &str); 9] = [
+    (TIMES3, "f\ng\n", 7, "vectors: BadLine 2\n"),
+    (TIMES3, "0\n\n", 7, "vectors: BadLine 2\n"),
+    (TIMES3, "00\n", 7, "vectors: BadLine 1\n"),
+    (TIMES3, "0 : 00\n", 7, "vectors: BadLine 1\n"),
+    (HELD, "1 02\n1 20\n", 7, "vectors: BadLine 2\n"),
+    (FIVE, "\n\r", 7, "vectors: BadLine 2\n"),
+    ("", "f\n", 6, "vhdl: Syntax 1\n"),
+    ("#", "f\n", 6, "vhdl: Lexical 0\n"),
+    // The faults of the VHDL come before those of the vectors.
+    ("#", "g\n", 6, "vhdl: Lexical 0\n"),
+];
+
+#[test]
+fn refusals(rt: HostRuntime) -> Result<(), Fail> {
+    for (vhdl, vectors, status, line) in &REFUSED {
+        let ran = simulated(rt.alloc(), vhdl, vectors)?;
+        assert_eq!(rt; ran.status.0, *status);
+        assert!(rt; ran.folder.get("out.vec").is_none());
+        assert!(rt; ran.out.bytes() == line.as_bytes());
+    }
+    Ok(())
+}
+
+#[test]
+fn too_many_rows(rt: HostRuntime) -> Result<(), Fail> {
+    let mut rows = String::new(rt.alloc());
+    for _ in 0..100_001 {
+        rows.push_str("0\n")?;
+    }
+    let ran = simulated(rt.alloc(), TIMES3, &rows)?;
+    assert_eq!(rt; ran.status.0, 7);
+    assert!(rt; ran.out.bytes() == "vectors: TooMany\n".as_bytes());
+    Ok(())
+}
+
+/// The words, calls of the folder that fail, and the status and the line: the VHDL is fetched before
+/// the vectors, and both before either is judged.
+static FETCHES: [(&[&str], &[u64], u8, &str); 6] = [
+    (
+        &["simulate", "a.vhd", "none", "out.vec"],
+        &[],
+        3,
+        "read fault\n",
+    ),
+    (
+        &["simulate", "none", "in.vec", "out.vec"],
+        &[],
+        3,
+        "read fault\n",
+    ),
+    (
+        &["simulate", "bad.vhd", "none", "out.vec"],
+        &[],
+        3,
+        "read fault\n",
+    ),
+    (
+        &["simulate", "a.vhd", "in.vec", "out.vec"],
+        &[0],
+        3,
+        "read fault\n",
+    ),
+    (
+        &["simulate", "a.vhd", "in.vec", "out.vec"],
+        &[1],
+        3,
+        "read fault\n",
+    ),
+    (&["simulate", "a.vhd", "in.vec", "out.vec"], &[2], 4, ""),
+];
+
+#[test]
+fn fetches(rt: HostRuntime) -> Result<(), Fail> {
+    let files = [
+        ("a.vhd", TIMES3.as_bytes()),
+        ("bad.vhd", "#".as_bytes()),
+        ("in.vec", "0\n".as_bytes()),
+    ];
+    for (words, failing, status, line) in &FETCHES {
+        let ran = ran_over(rt.alloc(), words, &files, failing, &[])?;
+        assert_eq!(rt; ran.status.0, *status);
+        assert!(rt; ran.folder.get("out.vec").is_none());
+        assert!(rt; ran.out.bytes() == line.as_bytes());
+    }
+    Ok(())
+}

@@ -1,0 +1,88 @@
+//! The outputs of a design over rows of inputs.
+ghost use Rattle.std.specs.Prelude.{◌≡◌, ◌<◌, IfOk, length, map};
+ghost use Rattle.opgen_design.specs.Run.{at_ports, input_widths};
+ghost use Rattle.opgen_design.specs.Sound.{HasNumbers, IsSound};
+ghost use Rattle.opgen_vec.specs.Rows.{AreRowsOfCells};
+ghost use Rattle.opgen_top.specs.Running.{is_of, output_widths, IsRunOf, IsRunText};
+
+use opgen_design::{Design, Dir, Port};
+use opgen_list::Items;
+use opgen_num::Memory;
+use opgen_sim::Sim;
+use opgen_vec::{Vectors, write_rows};
+use std::alloc::{AllocError, Global};
+
+/// Rows of numbers at the input ports of a design, one for each cycle.
+#[derive(Drop)]
+pub(crate) struct Rows {
+    pub count: u32,
+    pub inputs: Vectors,
+}
+
+fn is_of(dir: Dir, port: &Port) -> bool
+    ensures { result ≡ is_of dir port.now.dir }
+{
+    port.dir == dir
+}
+
+/// The widths of the ports of a direction, in order.
+pub(crate) fn port_widths(alloc: Global, ports: &[Port], dir: Dir) -> Result<Vec<u32>, AllocError>
+    ensures { IfOk result (λ widths. widths.items ≡ at_ports (is_of dir) ports.now (map (λ p. p.width) ports.now)) }
+{
+    let mut widths = Vec::new(alloc);
+    for port in ports {
+        if is_of(dir, port) {
+            widths.push(port.width)?;
+        }
+    }
+    Ok(widths)
+}
+
+/// The numbers at the output ports, cycle after cycle.
+fn run_rows(
+    alloc: Global,
+    design: &Design,
+    in_columns: usize,
+    out_columns: usize,
+    rows: &Rows,
+) -> Result<Vec<u128>, Memory>
+    requires sound { IsSound design.now }
+    requires numbers { HasNumbers design.now }
+    requires in_columns { in_columns ≡ length (input_widths design.now) }
+    requires out_columns { out_columns ≡ length (output_widths design.now) }
+    requires rows { AreRowsOfCells (input_widths design.now) rows.now.count rows.now.inputs.cells }
+    ensures { IfOk result (λ cells. IsRunOf design.now rows.now.count rows.now.inputs.cells cells.items) }
+{
+    let mut sim = Sim::new(alloc, design)?;
+    let mut outputs = vec![in alloc; 0; out_columns]?;
+    let mut cells = Vec::new(alloc);
+    let mut inputs = rows.inputs.cells.as_slice();
+    let mut left = rows.count;
+    'rows: while left > 0 {
+        let (given, later) = inputs.split_at(in_columns);
+        sim.step(given, &mut outputs);
+        cells.extend_from_slice(&outputs)?;
+        inputs = later;
+        left -= 1;
+    }
+    Ok(cells)
+}
+
+/// The text of the run of a design over rows of its inputs.
+pub(crate) fn run_text(alloc: Global, design: &Design, rows: &Rows) -> Result<Vec<u8>, Memory>
+    requires sound { IsSound design.now }
+    requires numbers { HasNumbers design.now }
+    requires some_port { 0 < length design.now.ports }
+    requires columns { rows.now.inputs.columns ≡ length (input_widths design.now) }
+    requires rows { AreRowsOfCells (input_widths design.now) rows.now.count rows.now.inputs.cells }
+    ensures { IfOk result (λ text. IsRunText design.now rows.now.count rows.now.inputs.cells text.items) }
+{
+    let in_widths = port_widths(alloc, design.ports.as_slice(), Dir::In)?;
+    let out_widths = port_widths(alloc, design.ports.as_slice(), Dir::Out)?;
+    let cells = run_rows(alloc, design, in_widths.len(), out_widths.len(), rows)?;
+    let outputs = Vectors {
+        columns: out_widths.len() as u32,
+        cells: Items::from_vec(cells),
+    };
+    Ok(write_rows(alloc, &rows.inputs, &outputs, &in_widths, &out_widths)?)
+}
