@@ -175,7 +175,7 @@ module _ (d : Design) (sound : IsSound d) (now others given : List (List Bool)) 
       let w = subst (Meets others u after) x (k.equations i (Register to e) l) in
       m.1 ∙ ap (λ y. value (scope y) e) words-one ∙ sym w.1
 
-runs-one : (d : Design) → IsSound d → (inputs : List (List (List Bool))) (now others : List (List Bool)) → SameRegisters d now others → (vs us : List Words) → RunsOn d now inputs vs → RunsOn d others inputs us → vs ≡ us
+pub runs-one : (d : Design) → IsSound d → (inputs : List (List (List Bool))) (now others : List (List Bool)) → SameRegisters d now others → (vs us : List Words) → RunsOn d now inputs vs → RunsOn d others inputs us → vs ≡ us
 runs-one d sound [] now others same [] [] h k = refl
 runs-one d sound [] now others same [] (u ∷ us) h k = absurd k
 runs-one d sound [] now others same (v ∷ vs) us h k = absurd h

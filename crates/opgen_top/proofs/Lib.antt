@@ -13,6 +13,8 @@ pub mod OneSimulate
 pub mod Columns
 pub mod SomePort
 pub mod PreparingRuns
-pub mod Vectoring
+pub mod ServedPorts
 pub mod Holding
 pub mod Hyphens
+pub mod OneCircuit
+pub mod OneStore

@@ -17,7 +17,7 @@ module _ (text vectors : List ℕ) where
   not_both design a gives refused = refused.of_text (no_cause text design refused.fault gives.spelled gives.within gives.sound refused.cause)
 
   -- two readings under one design are one
-  one_read : (c d : Design) → GivesDesign text c → GivesDesign text d → (r s : Result (List ℕ) VecFault) → IsReading (input_widths c) (lines vectors) r → IsReading (input_widths d) (lines vectors) s → r ≡ s
+  pub one_read : (c d : Design) → GivesDesign text c → GivesDesign text d → (r s : Result (List ℕ) VecFault) → IsReading (input_widths c) (lines vectors) r → IsReading (input_widths d) (lines vectors) s → r ≡ s
   one_read c d gc gd r s h k =
       let same = one_design text c d gc.spelled gd.spelled in
       one_reading (input_widths d) (lines vectors) r s (subst (λ x. IsReading (input_widths x) (lines vectors) r) same h) k

@@ -29,22 +29,30 @@ on_fetch under most bytes a said e few h =
     let whole : fetched under most ≡ Ok bytes = ap (λ o. fetched o most) e ∙ ap (λ b. cond b (Ok bytes) (Err fetch.TooLong)) fits in
     subst (λ r. OnFetch r a said) (sym whole) h
 
--- a command on a specification
-module _ (command : Command) (made : List ℕ → Answer) (spec : List ℕ)
-    (is_due : (files : Files) (a : Answer) → IsDueOfSpec made spec files a → IsDue (Some command) files a)
-    (is_missing : (files : Files) → files spec ≡ None → IsMissing (Some command) files)
-    (is_longer : (files : Files) → fetched (files spec) most_bytes ≡ Err fetch.TooLong → IsTooLong (Some command) files)
-    (is_refused : (files : Files) → IsRefusedSpec spec files → IsRefused (Some command) files) where
+-- what is said of a command on one specification
+record TakesSpec (command : Command) (made : List ℕ → Answer) (spec : List ℕ) : Type 0 where
+  due : (files : Files) (a : Answer) → IsDueOfSpec made spec files a → IsDue (Some command) files a
+  missing : (files : Files) → files spec ≡ None → IsMissing (Some command) files
+  longer : (files : Files) → fetched (files spec) most_bytes ≡ Err fetch.TooLong → IsTooLong (Some command) files
+  refused : (files : Files) → IsRefusedSpec spec files → IsRefused (Some command) files
+
+generate_takes : (spec : List ℕ) → TakesSpec (Generate spec) wrote spec
+generate_takes spec = record { due = λ files a h. h; missing = λ files h. h; longer = λ files h. h; refused = λ files h. h }
+
+vectors_takes : (spec : List ℕ) → TakesSpec (Vectors spec) wrote_vectors spec
+vectors_takes spec = record { due = λ files a h. h; missing = λ files h. h; longer = λ files h. h; refused = λ files h. h }
+
+module _ (command : Command) (made : List ℕ → Answer) (spec : List ℕ) (takes : TakesSpec command made spec) where
   missing : (told : Option Files) (files : Files) → told ≡ Some files → files spec ≡ None → IsMissing (Some command) files × IsDue (Some command) files read_fault
   missing told files is e = (
-    is_missing files e,
-    is_due files read_fault (subst (λ o. OnFetch (fetched o most_bytes) read_fault (λ bytes. read_fault ≡ answer_of_reading made (read (tree bytes)))) (sym e) refl),
+    takes.missing files e,
+    takes.due files read_fault (subst (λ o. OnFetch (fetched o most_bytes) read_fault (λ bytes. read_fault ≡ answer_of_reading made (read (tree bytes)))) (sym e) refl),
   )
 
   longer : (told : Option Files) (files : Files) → told ≡ Some files → fetched (files spec) most_bytes ≡ Err fetch.TooLong → IsTooLong (Some command) files × IsDue (Some command) files too_long
   longer told files is e = (
-    is_longer files e,
-    is_due files too_long (subst (λ r. OnFetch r too_long (λ bytes. too_long ≡ answer_of_reading made (read (tree bytes)))) (sym e) refl),
+    takes.longer files e,
+    takes.due files too_long (subst (λ r. OnFetch r too_long (λ bytes. too_long ≡ answer_of_reading made (read (tree bytes)))) (sym e) refl),
   )
 
   spec-unfetched : (told : Option Files) (before now : Reads) (refusal : Refusal) → Fetches spec most_bytes told before now (Err refusal) → Prepares (Some command) told before now (Err refusal)
@@ -53,7 +61,7 @@ module _ (command : Command) (made : List ℕ → Answer) (spec : List ℕ)
 
   module _ (bytes : List ℕ) (told : Option Files) (before now : Reads) (stands : (files : Files) → told ≡ Some files → files spec ≡ Some bytes) (few : length bytes ≤ most_bytes) where
     spec-due : (files : Files) (a : Answer) → told ≡ Some files → a ≡ answer_of_reading made (read (tree bytes)) → IsDue (Some command) files a
-    spec-due files a is e = is_due files a (on_fetch (files spec) most_bytes bytes a (λ bytes. a ≡ answer_of_reading made (read (tree bytes))) (stands files is) few e)
+    spec-due files a is e = takes.due files a (on_fetch (files spec) most_bytes bytes a (λ bytes. a ≡ answer_of_reading made (read (tree bytes))) (stands files is) few e)
 
     spec-refused : (line : Line) → IsAnswer (answer_of line) → (answer_of line).status ≡ 1 → answer_of line ≡ answer_of_reading made (read (tree bytes))
         → ((asked : Spec) → read (tree bytes) ≡ Ok asked → multiplication asked ≡ None) → IsRefusal (Some command) told before now line
@@ -63,7 +71,7 @@ module _ (command : Command) (made : List ℕ → Answer) (spec : List ℕ)
       no_usage = λ other. absurd (omega (arith, status, other));
       read_counted = λ other. absurd (omega (arith, status, other));
       long_counted = λ other. absurd (omega (arith, status, other));
-      refused = λ files is _. is_refused files record { bytes = bytes; stands = stands files is; refused = refused };
+      refused = λ files is _. takes.refused files record { bytes = bytes; stands = stands files is; refused = refused };
       vhdl_refused = λ files is other. absurd (omega (arith, status, other));
       vectors_refused = λ files is other. absurd (omega (arith, status, other));
       missing = λ files is stood other. absurd (omega (arith, status, other));
@@ -74,10 +82,10 @@ module _ (command : Command) (made : List ℕ → Answer) (spec : List ℕ)
 
 -- a specification that was not fetched
 pub generate-unfetched : (spec : List ℕ) (told : Option Files) (before now : Reads) (refusal : Refusal) → Fetches spec most_bytes told before now (Err refusal) → Prepares (Some (Generate spec)) told before now (Err refusal)
-generate-unfetched spec = spec-unfetched (Generate spec) wrote spec (λ files a h. h) (λ files h. h) (λ files h. h) (λ files h. h)
+generate-unfetched spec = spec-unfetched (Generate spec) wrote spec (generate_takes spec)
 
 pub vectors-unfetched : (spec : List ℕ) (told : Option Files) (before now : Reads) (refusal : Refusal) → Fetches spec most_bytes told before now (Err refusal) → Prepares (Some (Vectors spec)) told before now (Err refusal)
-vectors-unfetched spec = spec-unfetched (Vectors spec) wrote_vectors spec (λ files a h. h) (λ files h. h) (λ files h. h) (λ files h. h)
+vectors-unfetched spec = spec-unfetched (Vectors spec) wrote_vectors spec (vectors_takes spec)
 
 module _ (spec bytes : List ℕ) (told : Option Files) (before now : Reads) (stands : (files : Files) → told ≡ Some files → files spec ≡ Some bytes) (few : length bytes ≤ most_bytes) where
   pub generate-prepares : (r : Result MadeFile Refusal) → IfOk r (λ g. IsGenerated bytes (string_bytes g.file) g.text.items) → IfOk r (λ g. answer_of (Wrote g.line) ≡ answer_of_reading wrote (read (tree bytes)))
@@ -87,10 +95,10 @@ module _ (spec bytes : List ℕ) (told : Option Files) (before now : Reads) (sta
   generate-prepares (Ok made) generated line named listed status due refused = record {
     listed = inr (inr (inr (inr (inr (inl named)))));
     makes = λ files is. record { bytes = bytes; stands = stands files is; generated = generated };
-    due = λ files is. spec-due (Generate spec) wrote spec (λ files a h. h) (λ files h. h) (λ files h. h) (λ files h. h) bytes told before now stands few files (answer_of (Wrote made.line)) is line;
+    due = λ files is. spec-due (Generate spec) wrote spec (generate_takes spec) bytes told before now stands few files (answer_of (Wrote made.line)) is line;
   }
   generate-prepares (Err (refusals.Line line)) generated said named listed status due refused =
-      spec-refused (Generate spec) wrote spec (λ files a h. h) (λ files h. h) (λ files h. h) (λ files h. h) bytes told before now stands few line (listed line refl) (status line refl) (due line refl) (refused line refl)
+      spec-refused (Generate spec) wrote spec (generate_takes spec) bytes told before now stands few line (listed line refl) (status line refl) (due line refl) (refused line refl)
   generate-prepares (Err refusals.Memory) generated line named listed status due refused = tt
 
   pub vectors-prepares : (r : Result MadeFile Refusal) → IfOk r (λ g. IsVectors bytes (string_bytes g.file) g.text.items) → IfOk r (λ g. answer_of (Wrote g.line) ≡ answer_of_reading wrote_vectors (read (tree bytes)))
@@ -100,8 +108,8 @@ module _ (spec bytes : List ℕ) (told : Option Files) (before now : Reads) (sta
   vectors-prepares (Ok made) vectors line named listed status due refused = record {
     listed = inr (inr (inr (inr (inr (inr (inl named))))));
     makes = λ files is. record { bytes = bytes; stands = stands files is; vectors = vectors };
-    due = λ files is. spec-due (Vectors spec) wrote_vectors spec (λ files a h. h) (λ files h. h) (λ files h. h) (λ files h. h) bytes told before now stands few files (answer_of (Wrote made.line)) is line;
+    due = λ files is. spec-due (Vectors spec) wrote_vectors spec (vectors_takes spec) bytes told before now stands few files (answer_of (Wrote made.line)) is line;
   }
   vectors-prepares (Err (refusals.Line line)) vectors said named listed status due refused =
-      spec-refused (Vectors spec) wrote_vectors spec (λ files a h. h) (λ files h. h) (λ files h. h) (λ files h. h) bytes told before now stands few line (listed line refl) (status line refl) (due line refl) (refused line refl)
+      spec-refused (Vectors spec) wrote_vectors spec (vectors_takes spec) bytes told before now stands few line (listed line refl) (status line refl) (due line refl) (refused line refl)
   vectors-prepares (Err refusals.Memory) vectors line named listed status due refused = tt

@@ -22,7 +22,8 @@ use Rattle.opgen_operator.specs.Good.{IsGood, IsInRange}
 use Rattle.opgen_operator.specs.Judged.{recent_words, output_words}
 use Rattle.opgen_operator.specs.Ports.{inputs_of, outputs_of}
 use Rattle.opgen_top.specs.Answer.{file_name}
-use Rattle.opgen_top.specs.Built.{multiplication}
+use Rattle.opgen_scale.specs.Recipe.{IsProductNet}
+use Rattle.opgen_top.specs.Built.{Multiplication, multiplication}
 
 -- a port of a design
 abbrev pub port_of : Dir → PortFormat → Port
@@ -37,8 +38,17 @@ pub record Serves (spec : Spec) (d : Design) : Type 0 where
       → IsInRange spec (recent_words (inputs_of spec) inputs t)
       → IsGood spec (recent_words (inputs_of spec) inputs t) (output_words (outputs_of spec) (design_outputs d v))
 
--- a sound design of the specification's name that serves it
+-- the design, under the specification's name, of the one net that multiplies as the specification asks
+pub record IsMultiplier (spec : Spec) (design : Design) : Type 0 where
+  pub asked : Multiplication
+  pub asks : multiplication spec ≡ Some asked
+  pub net : Net
+  pub product : IsProductNet asked.width asked.factor net
+  pub made : design ≡ design_of spec.name net
+
+-- that design: it bears the specification's name, is sound, and serves it
 pub record IsCircuit (spec : Spec) (design : Design) : Type 0 where
+  pub multiplier : IsMultiplier spec design
   pub called : design.name ≡ spec.name
   pub sound : IsSound design
   pub serves : Serves spec design
@@ -65,3 +75,7 @@ pub record IsGenerated (bytes file text : List ℕ) : Type 0 where
   pub built : IsSome (multiplication spec)
   pub file_name : file ≡ file_name spec.name
   pub circuit : IsCircuitText spec text
+
+-- a specification leaves one circuit
+abbrev pub HasOneCircuit : Type 0
+HasOneCircuit = (spec : Spec) (a b : Design) → IsCircuit spec a → IsCircuit spec b → a ≡ b

@@ -42,6 +42,10 @@ pub record Stores (command : Option Command) (files : Files) (after : Option Fil
   pub makes : Makes command files file text
   pub stored : after ≡ Some (stored file text files)
 
+-- a command over its files stores one file with one text
+abbrev pub HasOneStore : Type 0
+HasOneStore = (command : Option Command) (files : Files) (after others : Option Files) → Stores command files after → Stores command files others → after ≡ others
+
 -- the store of that file failed: under its name anything may stand, or nothing, and the others are as before
 pub record Breaks (command : Option Command) (files : Files) (after : Option Files) : Type 0 where
   pub file : List ℕ

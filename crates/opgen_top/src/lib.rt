@@ -15,7 +15,7 @@ mod status;
 mod vectors;
 
 pub use buildable::built;
-pub use laws::{one_due, one_simulate_answer};
+pub use laws::{one_circuit, one_due, one_simulate_answer, one_store};
 pub use opgen_flat::flat;
 pub use opgen_write::{VecSink, WriteFault, write_design};
 pub use program::run;

@@ -13,7 +13,7 @@ pub(crate) struct MadeFile {
     pub line: String,
 }
 
-/// Why nothing is generated: the line that says so, or want of memory.
+/// Why nothing is made: the line that says so, or want of memory.
 #[derive(Drop)]
 pub(crate) enum Refusal {
     Line(Line),

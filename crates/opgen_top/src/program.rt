@@ -18,7 +18,7 @@ use crate::status::Status;
 use opgen_io::{Folder, PutFault, Sink, StoreFault};
 use std::alloc::Global;
 
-/// Stores the generated file, and gives the line that tells of it; without a line, the status.
+/// Stores the file that was made, and gives the line that tells of it; without a line, the status.
 fn store<F: Folder>(made: MadeFile, folder: &mut F) -> Result<Line, Status>
     ensures line { IfOk result (λ line. line ≡ Line.Wrote made.line) }
     ensures silent { IfErr result (λ status. IsSilent status.0) }

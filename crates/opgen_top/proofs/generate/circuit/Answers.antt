@@ -19,6 +19,13 @@ returns-clause-circuit c =
     let made = c.in_ok-flat.ensures.design in
     let asks = asked spec _ c.requires.asked in
     let net_fits = fits c.args.asked.width c.args.asked.factor c.requires.width.0 c.requires.factor.0 net c.in_ok-net.ensures.valid c.in_ok-net.ensures.times spec asks.inner asks.exact asks.op in record {
+      multiplier = record {
+        asked = record { width = c.args.asked.width; factor = c.args.asked.factor };
+        asks = c.requires.asked;
+        net = net;
+        product = c.in_ok-net.ensures.net;
+        made = made ∙ ap (λ n. design_of n net) c.as_str.ensures;
+      };
       called = ap (λ d. d.name) made ∙ c.as_str.ensures;
       sound = c.in_ok-flat.ensures.sound;
       serves = subst (Serves spec) (sym made) (serves follows design_runs _ spec net net_fits);

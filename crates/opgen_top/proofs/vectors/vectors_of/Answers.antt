@@ -1,7 +1,7 @@
 use Rattle.std.proofs.Common.{sym, subst}
 use Rattle.opgen_vec.specs.Rows.{AreRowsOfCells}
 use Rattle.opgen_top.proofs.Names.{spec_name-allowed}
-use Rattle.opgen_top.proofs.Vectoring.{served_widths}
+use Rattle.opgen_top.proofs.ServedPorts.{served_widths}
 use Rattle.opgen_top.proofs.vectors.vectors_of.Goals as goal
 
 pub circuit-requires-clause-allowed : goal.circuit-requires-clause-allowed
