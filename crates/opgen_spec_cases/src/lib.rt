@@ -1,9 +1,5 @@
-//! Documents of specifications, judged cycles and drawn stimuli: tests alone.
+//! Documents of specifications: tests alone.
 #![tactic(auto)]
 
 #[cfg(test)]
 mod documents;
-#[cfg(test)]
-mod draws;
-#[cfg(test)]
-mod good;

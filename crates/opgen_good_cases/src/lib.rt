@@ -1,0 +1,7 @@
+//! Judged cycles and drawn stimuli of specifications: tests alone.
+#![tactic(auto)]
+
+#[cfg(test)]
+mod draws;
+#[cfg(test)]
+mod good;
