@@ -18,7 +18,7 @@ type Case = (
     Option<&'static str>,
 );
 
-static CASES: [Case; 28] = [
+static FIRST: [Case; 4] = [
     (
         "library ieee;\nuse ieee.std_logic_1164.all;\nuse ieee.numeric_std.all;\n\nentity div7 is\n  port (\n    clk : in std_logic;\n    a : in std_logic_vector(0 downto 0);\n    b : in std_logic_vector(6 downto 0);\n    q : out std_logic_vector(1 downto 0)\n  );\nend entity;\n\narchitecture rtl of div7 is\n  signal s0 : unsigned(0 downto 0);\n  signal s1 : unsigned(6 downto 0);\n  signal s2 : unsigned(8 downto 0);\n  signal s3 : unsigned(8 downto 0);\n  signal s4 : unsigned(8 downto 0);\n  signal s5 : unsigned(0 downto 0);\n  signal s6 : unsigned(6 downto 0);\n  signal s7 : unsigned(8 downto 0);\n  signal s8 : unsigned(8 downto 0);\n  signal s9 : unsigned(0 downto 0);\n  signal s10 : unsigned(1 downto 0);\nbegin\n  s0 <= unsigned(a);\n  s1 <= unsigned(b);\n  s2 <= \"00\" & s1;\n  s3 <= \"00000000\" & s0;\n  s4 <= s3 - s2;\n  s5 <= not s4(8 downto 8);\n  s6 <= s4(6 downto 0) when s5 = \"1\" else s3(6 downto 0);\n  s7 <= \"0\" & s6 & \"0\";\n  s8 <= s7 - s2;\n  s9 <= not s8(8 downto 8);\n  s10 <= s5 & s9;\n  q <= std_logic_vector(s10);\nend architecture;\n",
         "0 0d\n1 33\n0 47\n0 2d\n0 39\n1 2e\n0 0c\n1 19\n1 7c\n0 34\n1 5f\n1 18\n0 3a\n0 37\n0 4d\n0 06\n",
@@ -49,6 +49,9 @@ static CASES: [Case; 28] = [
         "vectors: BadLine 3\n",
         None,
     ),
+];
+
+static SECOND: [Case; 5] = [
     (
         "LIBRARY IEEE;\nUSE IEEE.STD_LOGIC_1164.ALL;\nUSE IEEE.NUMERIC_STD.ALL;\n\nENTITY OP IS\n  PORT (\n    CLK : IN STD_LOGIC;\n    X : IN STD_LOGIC_VECTOR(7 DOWNTO 0);\n    Y0 : OUT STD_LOGIC_VECTOR(9 DOWNTO 0);\n    Y1 : OUT STD_LOGIC_VECTOR(13 DOWNTO 0)\n  );\nEND ENTITY;\n\nARCHITECTURE RTL OF OP IS\n  SIGNAL S0 : UNSIGNED(7 DOWNTO 0);\n  SIGNAL S1 : UNSIGNED(9 DOWNTO 0);\n  SIGNAL S2 : UNSIGNED(9 DOWNTO 0);\n  SIGNAL S3 : UNSIGNED(9 DOWNTO 0);\n  SIGNAL S4 : UNSIGNED(11 DOWNTO 0);\n  SIGNAL S5 : UNSIGNED(11 DOWNTO 0);\n  SIGNAL S6 : UNSIGNED(11 DOWNTO 0);\n  SIGNAL S7 : UNSIGNED(9 DOWNTO 0);\n  SIGNAL S8 : UNSIGNED(9 DOWNTO 0);\n  SIGNAL S8_1 : UNSIGNED(9 DOWNTO 0) := \"0000000000\";\n  SIGNAL S9 : UNSIGNED(13 DOWNTO 0);\n  SIGNAL S9_1 : UNSIGNED(13 DOWNTO 0) := \"00000000000000\";\n  SIGNAL S10 : UNSIGNED(13 DOWNTO 0);\n  SIGNAL S11 : UNSIGNED(13 DOWNTO 0);\nBEGIN\n  S0 <= UNSIGNED(X);\n  S1 <= S0(7 DOWNTO 7) & S0 & \"0\";\n  S2 <= S0(7 DOWNTO 7) & S0(7 DOWNTO 7) & S0;\n  S3 <= S1 + S2;\n  S4 <= S0 & \"0000\";\n  S5 <= S3(9 DOWNTO 9) & S3(9 DOWNTO 9) & S3;\n  S6 <= S4 - S5;\n  S7 <= \"0000000000\";\n  S8 <= S7 - S3;\n  S9 <= S6 & \"00\";\n  S10 <= \"00000000000000\";\n  S11 <= S10 - S9_1;\n  PROCESS (CLK)\n  BEGIN\n    IF RISING_EDGE(CLK) THEN\n      S8_1 <= S8;\n      S9_1 <= S9;\n    END IF;\n  END PROCESS;\n  Y0 <= STD_LOGIC_VECTOR(S8_1);\n  Y1 <= STD_LOGIC_VECTOR(S11);\nEND ARCHITECTURE;\n",
         "14\n1a\n9a\n66\n62\n8f\n14\n5b\n7b\n72\na2\n5d\n0c\n18\ne9\n32\n",
@@ -88,6 +91,9 @@ static CASES: [Case; 28] = [
         "vhdl: Syntax 14\n",
         None,
     ),
+];
+
+static THIRD: [Case; 6] = [
     (
         "library ieee;\nuse ieee.std_logic_1164.all;\nuse ieee.numeric_std.all;\n\nentity times3 is\n  port (\n    clk : in std_logic;\n    x : in std_logic_vector(3 downto 0);\n    y : out std_logic_vector(2 downto 0)\n  );\nend entity;\n\narchitecture rtl of times3 is\n  signal s0 : unsigned(3 downto 0);\n  signal s1 : unsigned(3 downto 0);\n  signal s2 : unsigned(3 downto 0);\n  signal s3 : unsigned(3 downto 0);\n  signal s4 : unsigned(0 downto 0);\n  signal s5 : unsigned(1 downto 0);\n  signal s6 : unsigned(4 downto 0);\n  signal s7 : unsigned(4 downto 0);\n  signal s8 : unsigned(4 downto 0);\n  signal s9 : unsigned(0 downto 0);\n  signal s10 : unsigned(2 downto 0);\n  signal s11 : unsigned(5 downto 0);\n  signal s12 : unsigned(5 downto 0);\n  signal s13 : unsigned(5 downto 0);\n  signal s14 : unsigned(0 downto 0);\n  signal s15 : unsigned(2 downto 0);\nbegin\n  s0 <= unsigned(x);\n  s1 <= \"00\" & s0(3 downto 2);\n  s2 <= \"0001\";\n  s3 <= s1 - s2;\n  s4 <= not s3(3 downto 3);\n  s5 <= s3(1 downto 0) when s4 = \"1\" else s1(1 downto 0);\n  s6 <= \"0\" & s5 & s0(1 downto 0);\n  s7 <= \"00\" & s4 & \"01\";\n  s8 <= s6 - s7;\n  s9 <= not s8(4 downto 4);\n  s10 <= s8(2 downto 0) when s9 = \"1\" else s6(2 downto 0);\n  s11 <= \"0\" & s10 & \"00\";\n  s12 <= \"00\" & s4 & s9 & \"01\";\n  s13 <= s11 - s12;\n  s14 <= not s13(5 downto 5);\n  s15 <= s4 & s9 & s14;\n  y <= std_logic_vector(s15);\nend architecture;\n",
         "1\n1\n9\n6\n6\n8\n1\n5\n7\n7\na\n5\n0\n1\ne\n3\n",
@@ -140,6 +146,9 @@ static CASES: [Case; 28] = [
             "0 : 0\n0 : 0\n2 : 4\n1 : 2\n1 : 2\n2 : 4\n0 : 0\n1 : 2\n1 : 2\n1 : 2\n2 : 4\n1 : 2\n0 : 0\n0 : 0\n3 : 6\n0 : 0\n",
         ),
     ),
+];
+
+static FOURTH: [Case; 7] = [
     (
         TIMES3,
         "0\n1\nf\n",
@@ -165,6 +174,9 @@ static CASES: [Case; 28] = [
     ),
     (TIMES3, "1\n\nf\n", 7, "vectors: BadLine 2\n", None),
     (TIMES3, "01\n", 7, "vectors: BadLine 1\n", None),
+];
+
+static FIFTH: [Case; 6] = [
     (TIMES3, "1 \n", 7, "vectors: BadLine 1\n", None),
     (TIMES3, "1\r", 7, "vectors: BadLine 1\n", None),
     (
@@ -212,7 +224,31 @@ fn all_agree(alloc: Global, cases: &[Case]) -> Result<bool, Fail> {
 }
 
 #[test]
-fn cases_agree(rt: HostRuntime) -> Result<(), Fail> {
-    assert!(rt; all_agree(rt.alloc(), &CASES)?);
+fn first_cases(rt: HostRuntime) -> Result<(), Fail> {
+    assert!(rt; all_agree(rt.alloc(), &FIRST)?);
+    Ok(())
+}
+
+#[test]
+fn second_cases(rt: HostRuntime) -> Result<(), Fail> {
+    assert!(rt; all_agree(rt.alloc(), &SECOND)?);
+    Ok(())
+}
+
+#[test]
+fn third_cases(rt: HostRuntime) -> Result<(), Fail> {
+    assert!(rt; all_agree(rt.alloc(), &THIRD)?);
+    Ok(())
+}
+
+#[test]
+fn fourth_cases(rt: HostRuntime) -> Result<(), Fail> {
+    assert!(rt; all_agree(rt.alloc(), &FOURTH)?);
+    Ok(())
+}
+
+#[test]
+fn fifth_cases(rt: HostRuntime) -> Result<(), Fail> {
+    assert!(rt; all_agree(rt.alloc(), &FIFTH)?);
     Ok(())
 }

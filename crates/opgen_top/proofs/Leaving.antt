@@ -2,11 +2,9 @@
 use Rattle.std.proofs.Common.{inl, inr, ℕ, List, Option}
 use Rattle.opgen_io.specs.Files.{Files}
 use Rattle.opgen_top.specs.Command.{Command}
-use Rattle.opgen_top.specs.Stores.{Makes, LeavesStored, Leaves}
+use Rattle.opgen_top.specs.Stores.{Makes, LeavesUnstored, LeavesNone}
 
-pub leaves_made : (command : Option Command) (files : Files) (file text : List ℕ) (after : Option Files) (before now : ℕ) → LeavesStored file text files after before now → Makes command files file text
-    → Leaves command files after before now
+pub leaves_made : (command : Option Command) (files : Files) (file text : List ℕ) (after : Option Files) (before now : ℕ) → LeavesUnstored file files after before now → Makes command files file text
+    → LeavesNone command files after before now
 leaves_made command files file text after before now (inl same) makes = inl same
-leaves_made command files file text after before now (inr (inl whole)) makes = inr (inl record { file = file; text = text; makes = makes; stored = whole })
-leaves_made command files file text after before now (inr (inr broken)) makes =
-    inr (inr (broken.0, record { file = file; text = text; makes = makes; tells = broken.1; others = broken.2 }))
+leaves_made command files file text after before now (inr broken) makes = inr (broken.0, record { file = file; text = text; makes = makes; tells = broken.1; others = broken.2 })

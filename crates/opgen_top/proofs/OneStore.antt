@@ -3,7 +3,7 @@ use Rattle.std.proofs.Common.{◌≡◌, ℕ, List, length, map, refl, Option, S
 use Rattle.std.specs.Prelude.{unwrap_or}
 use Rattle.std.specs.List.{concat}
 use Rattle.std.specs.Str.Lines.{lines}
-use Rattle.opgen_io.specs.Files.{Files, stored}
+use Rattle.opgen_io.specs.Files.{Files}
 use Rattle.opgen_design.specs.declared.design.Design.{Design}
 use Rattle.opgen_design.specs.Run.{input_widths, initial_words}
 use Rattle.opgen_design.specs.Sound.{IsSound}
@@ -67,19 +67,14 @@ one_rows text vectors rows others h k =
     let run = subst (λ d. IsRunText d (length (lines vectors)) k.cells rows) design (subst (λ cs. IsRunText h.design (length (lines vectors)) cs rows) cells h.run) in
     one_text k.design k.gives.sound (length (lines vectors)) k.cells rows others run k.run
 
-one_made : (command : Option Command) (files : Files) (file text name words : List ℕ) → Makes command files file text → Makes command files name words → (file ≡ name) × (text ≡ words)
-one_made None files file text name words h k = absurd h
-one_made (Some (Generate spec)) files file text name words h k =
+pub one_store : HasOneStore
+one_store None files file text name words h k = absurd h
+one_store (Some (Generate spec)) files file text name words h k =
     one_generated h.bytes k.bytes file text name words (some_one h.bytes k.bytes (sym h.stands ∙ k.stands)) h.generated k.generated
-one_made (Some (Vectors spec)) files file text name words h k =
+one_store (Some (Vectors spec)) files file text name words h k =
     one_vectors h.bytes k.bytes file text name words (some_one h.bytes k.bytes (sym h.stands ∙ k.stands)) h.vectors k.vectors
-one_made (Some (Simulate vhdl vectors out)) files file text name words h k =
+one_store (Some (Simulate vhdl vectors out)) files file text name words h k =
     let design = some_one h.design k.design (sym h.stands ∙ k.stands) in
     let given = some_one h.given k.given (sym h.also_stands ∙ k.also_stands) in
     let rows = subst (λ g. MakesRows k.design g text) given (subst (λ d. MakesRows d h.given text) design h.rows) in
     (h.file_name ∙ sym k.file_name, one_rows k.design k.given text words rows k.rows)
-
-pub one_store : HasOneStore
-one_store command files after others h k =
-    let same = one_made command files h.file h.text k.file k.text h.makes k.makes in
-    h.stored ∙ ap (λ f. Some (stored f h.text files)) same.0 ∙ ap (λ t. Some (stored k.file t files)) same.1 ∙ sym k.stored

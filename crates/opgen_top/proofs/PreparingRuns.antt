@@ -1,11 +1,13 @@
 -- From what VHDL and vectors give to what `simulate` makes of its files.
 use Rattle.std.proofs.Common.{◌≡◌, ◌⊎◌, inl, inr, ℕ, ◌≤◌, List, length, Option, Some, Result, Ok, Err, sym, ap, subst, arith, refl}
-use Rattle.std.specs.Prelude.{string_bytes, None, IfOk}
+use Rattle.std.specs.Prelude.{string_bytes, None, IfOk, ◌≢◌}
 use Rattle.std.specs.Str.Lines.{lines}
 use Rattle.opgen_io.specs.Answers.{fetched}
 use Rattle.opgen_io.specs.Counts.{Rose, Stood}
 use Rattle.opgen_io.specs.Files.{Files}
 use Rattle.opgen_io.specs.declared.folder.FetchFault.TheVariants as fetch
+use Rattle.opgen_vec.specs.declared.fault.VecFault.TheVariants as vector_faults
+use Rattle.opgen_vec.specs.Reading.{IsReading}
 use Rattle.opgen_top.specs.declared.line.Line.{Line}
 use Rattle.opgen_top.specs.declared.line.Line.TheVariants.{Wrote}
 use Rattle.opgen_top.specs.declared.made.MadeFile.{MadeFile}
@@ -15,7 +17,7 @@ use Rattle.opgen_top.specs.Answer.{Answer, read_fault, too_long, answer_of}
 use Rattle.opgen_top.specs.Command.{Simulate}
 use Rattle.opgen_top.specs.Due.{most_simulated_bytes, OnFetch, IsDue, IsMissing, IsTooLong}
 use Rattle.opgen_top.specs.Prepared.{Reads, Kept, Prepares, IsMade, IsRefusal, IsUnfetched, Fetches}
-use Rattle.opgen_top.specs.Simulate.{IsSimulateAnswer, MakesRows, RefusesVhdl, RefusesVectors, Runs}
+use Rattle.opgen_top.specs.Simulate.{IsSimulateAnswer, MakesRows, RefusesRows, RefusesVhdl, RefusesVectors, Runs}
 use Rattle.opgen_top.proofs.Preparing.{on_fetch}
 use Rattle.opgen_top.proofs.Unfetched.{unfetched-refused}
 
@@ -34,6 +36,10 @@ unfetched-before name most told before mid now line kept cause = record {
   missing = λ files is stood h. cause.missing files is (stood-after before.faults mid.faults now.faults kept.faults stood) h;
   longer = cause.longer;
 }
+
+-- a fault of rows is no want of memory
+names_fault : (widths vectors : List ℕ) (a : Answer) (cause : RefusesRows widths vectors a) → cause.fault ≢ vector_faults.Memory
+names_fault widths vectors a cause = λ e. subst (λ f. IsReading widths (lines vectors) (Err f)) e cause.cause
 
 module _ (vhdl vectors out : List ℕ) where
   abbrev SaysOf : Files → Answer → (text : List ℕ) → Type 0
@@ -76,7 +82,7 @@ module _ (vhdl vectors out : List ℕ) where
       vhdl-refused : (line : Line) → RefusesVhdl text (answer_of line) → IsRefusal (Some (Simulate vhdl vectors out)) told before now line
       vhdl-refused line cause =
           let status : (answer_of line).status ≡ 6 = ap (λ (a : Answer). a.status) cause.answer in record {
-            listed = inr (inr (inr (inr (inl (inr (inl (cause.fault, cause.answer)))))));
+            listed = inr (inr (inr (inr (inl (inr (inl (cause.fault, cause.of_text, cause.answer)))))));
             refuses = inr (inr (inr (inl status)));
             no_usage = λ other. absurd (omega (arith, status, other));
             read_counted = λ other. absurd (omega (arith, status, other));
@@ -93,7 +99,7 @@ module _ (vhdl vectors out : List ℕ) where
       vectors-refused : (line : Line) → RefusesVectors text rows (answer_of line) → IsRefusal (Some (Simulate vhdl vectors out)) told before now line
       vectors-refused line cause =
           let status : (answer_of line).status ≡ 7 = ap (λ (a : Answer). a.status) cause.refused.answer in record {
-            listed = inr (inr (inr (inr (inl (inr (inr (cause.refused.fault, cause.refused.answer)))))));
+            listed = inr (inr (inr (inr (inl (inr (inr (cause.refused.fault, names_fault _ _ _ cause.refused, cause.refused.answer)))))));
             refuses = inr (inr (inr (inr (inl status))));
             no_usage = λ other. absurd (omega (arith, status, other));
             read_counted = λ other. absurd (omega (arith, status, other));

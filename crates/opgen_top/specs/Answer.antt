@@ -1,13 +1,16 @@
 -- What the program answers: a status, and the line that it prints.
-use Rattle.std.specs.Prelude.{ℕ, ◌≡◌, ◌⊎◌, List, ◌++◌, codes, Option, Some, None, Result, Ok, Err, string_bytes}
+use Rattle.std.specs.Prelude.{ℕ, ◌≡◌, ◌≢◌, ◌⊎◌, List, ◌++◌, codes, Option, Some, None, Result, Ok, Err, string_bytes}
 use Rattle.std.specs.Fmt.{decimal}
 use Rattle.opgen_io.specs.Bytes.{TakesPrefix}
 use Rattle.opgen_read.specs.declared.fault.ReadFault.{ReadFault}
+use Rattle.opgen_read.specs.declared.fault.ReadFault.TheVariants as read_faults
 use Rattle.opgen_read.specs.Answer.{fault_text as read_fault_text}
 use Rattle.opgen_vec.specs.declared.fault.VecFault.{VecFault}
+use Rattle.opgen_vec.specs.declared.fault.VecFault.TheVariants as vector_faults
 use Rattle.opgen_vec.specs.Fault.{fault_text as vectors_fault_text}
 use Rattle.opgen_spec.specs.Texts.{fault_text}
 use Rattle.opgen_spec.specs.declared.fault.SpecFault.{SpecFault}
+use Rattle.opgen_spec.specs.declared.fault.SpecFault.TheVariants as spec_faults
 use Rattle.opgen_operator.specs.declared.spec.Spec.{Spec}
 use Rattle.opgen_top.specs.Built.{Multiplication, multiplication}
 use Rattle.opgen_top.specs.declared.line.Line.{Line}
@@ -60,11 +63,11 @@ IsSuccess a =
     ((name : List ℕ) × (a ≡ wrote name))
     ⊎ (((name : List ℕ) × (a ≡ wrote_vectors name)) ⊎ ((rows : ℕ) × (a ≡ simulated rows)))
 
--- an answer that names a fault of a file
+-- an answer that names a fault of a file, which want of memory is not
 abbrev pub NamesFault : Answer → Type 0
 NamesFault a =
-    ((fault : SpecFault) × (a ≡ refused fault))
-    ⊎ (((fault : ReadFault) × (a ≡ vhdl_refused fault)) ⊎ ((fault : VecFault) × (a ≡ vectors_refused fault)))
+    ((fault : SpecFault) × (fault ≢ spec_faults.Memory) × (a ≡ refused fault))
+    ⊎ (((fault : ReadFault) × (fault ≢ read_faults.Memory) × (a ≡ vhdl_refused fault)) ⊎ ((fault : VecFault) × (fault ≢ vector_faults.Memory) × (a ≡ vectors_refused fault)))
 
 -- one of these answers
 abbrev pub IsAnswer : Answer → Type 0

@@ -1,6 +1,7 @@
 -- The answer that is due where nothing goes wrong outside: by the words, then by the command's files and what they hold.
 use Rattle.std.specs.Prelude.{ℕ, ◌≡◌, ◌⊎◌, List, ◌++◌, Option, Some, None, Result, Ok, Err}
 use Rattle.opgen_io.specs.Answers.{fetched}
+use Rattle.opgen_io.specs.Bytes.{TakesPrefix}
 use Rattle.opgen_io.specs.Files.{Files}
 use Rattle.opgen_io.specs.declared.folder.FetchFault.{FetchFault}
 use Rattle.opgen_io.specs.declared.folder.FetchFault.TheVariants as fetch
@@ -51,6 +52,11 @@ IsDueStatus command files status = (a : Answer) × IsDue command files a × (sta
 -- the sink has the line of the answer that is due more
 abbrev pub TakesDueLine : Option Command → Files → (held : List ℕ) (after : Option (List ℕ)) → Type 0
 TakesDueLine command files held after = (a : Answer) × IsDue command files a × (after ≡ Some (held ++ a.line))
+
+-- the sink has nothing more, or a first part of the line that is due or of the line for a fault of reading
+abbrev pub TakesPartOfDueLine : Option Command → Files → (held : List ℕ) (after : Option (List ℕ)) → Type 0
+TakesPartOfDueLine command files held after =
+    (after ≡ Some held) ⊎ ((a : Answer) × ((a ≡ read_fault) ⊎ IsDue command files a) × TakesPrefix (Some held) a.line after)
 
 -- a file that the command takes is not there
 abbrev pub IsMissing : Option Command → Files → Type 0

@@ -42,9 +42,9 @@ pub record Stores (command : Option Command) (files : Files) (after : Option Fil
   pub makes : Makes command files file text
   pub stored : after ≡ Some (stored file text files)
 
--- a command over its files stores one file with one text
+-- a command over its files makes one file with one text
 abbrev pub HasOneStore : Type 0
-HasOneStore = (command : Option Command) (files : Files) (after others : Option Files) → Stores command files after → Stores command files others → after ≡ others
+HasOneStore = (command : Option Command) (files : Files) (file text name words : List ℕ) → Makes command files file text → Makes command files name words → (file ≡ name) × (text ≡ words)
 
 -- the store of that file failed: under its name anything may stand, or nothing, and the others are as before
 pub record Breaks (command : Option Command) (files : Files) (after : Option Files) : Type 0 where
@@ -54,11 +54,14 @@ pub record Breaks (command : Option Command) (files : Files) (after : Option Fil
   pub tells : IsSome after
   pub others : KeepsOthers file (Some files) after
 
--- what a store leaves: the folder as it was, or with the whole file; or, where a fault of writing was counted, with a broken one
-abbrev pub LeavesStored : (file text : List ℕ) (files : Files) (after : Option Files) (faults_before faults_after : ℕ) → Type 0
-LeavesStored file text files after before now =
-    (after ≡ Some files) ⊎ ((after ≡ Some (stored file text files)) ⊎ (Rose before now × IsSome after × KeepsOthers file (Some files) after))
+-- what a failed store leaves: the folder as it was, or, where a fault of writing was counted, with a broken file
+abbrev pub LeavesUnstored : (file : List ℕ) (files : Files) (after : Option Files) (faults_before faults_after : ℕ) → Type 0
+LeavesUnstored file files after before now = (after ≡ Some files) ⊎ (Rose before now × IsSome after × KeepsOthers file (Some files) after)
 
--- the same after the whole program, of the file that the command makes
+-- the same of the file that the command makes
+abbrev pub LeavesNone : Option Command → Files → (after : Option Files) (faults_before faults_after : ℕ) → Type 0
+LeavesNone command files after before now = (after ≡ Some files) ⊎ (Rose before now × Breaks command files after)
+
+-- what the whole program leaves where it does not come to its line: the same, or the folder with the whole file
 abbrev pub Leaves : Option Command → Files → (after : Option Files) (faults_before faults_after : ℕ) → Type 0
-Leaves command files after before now = (after ≡ Some files) ⊎ (Stores command files after ⊎ (Rose before now × Breaks command files after))
+Leaves command files after before now = LeavesNone command files after before now ⊎ Stores command files after

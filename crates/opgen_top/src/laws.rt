@@ -8,17 +8,17 @@ pub fn one_due()
     ensures { HasOneDue }
 {}
 
-/// The bytes of VHDL and of vectors leave one answer of `simulate`.
+/// The bytes of VHDL and of vectors leave at most one answer of `simulate`.
 pub fn one_simulate_answer()
     ensures { HasOneSimulateAnswer }
 {}
 
-/// A specification leaves one circuit: `generate` stores it, and `vectors` runs it.
+/// A specification leaves at most one circuit: `generate` stores it, and `vectors` runs it.
 pub fn one_circuit()
     ensures { HasOneCircuit }
 {}
 
-/// A command over its files stores one file with one text.
+/// A command over its files stores at most one file, with one text.
 pub fn one_store()
     ensures { HasOneStore }
 {}

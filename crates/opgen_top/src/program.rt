@@ -6,8 +6,8 @@ ghost use Rattle.opgen_io.specs.Counts.{Rose, Stood};
 ghost use Rattle.opgen_io.specs.Files.{Files, stored};
 ghost use Rattle.opgen_top.specs.Answer.{answer_of, read_fault, too_long, usage, IsAnswer, TakesLine, TakesPartOfLine};
 ghost use Rattle.opgen_top.specs.Command.{command_of};
-ghost use Rattle.opgen_top.specs.Due.{IsDue, IsDueStatus, TakesDueLine, IsMissing, IsTooLong, IsRefused, IsVhdlRefused, AreVectorsRefused};
-ghost use Rattle.opgen_top.specs.Stores.{Stores, Leaves, LeavesStored};
+ghost use Rattle.opgen_top.specs.Due.{IsDue, IsDueStatus, TakesDueLine, TakesPartOfDueLine, IsMissing, IsTooLong, IsRefused, IsVhdlRefused, AreVectorsRefused};
+ghost use Rattle.opgen_top.specs.Stores.{Stores, Leaves, LeavesNone, LeavesUnstored};
 ghost use Rattle.opgen_top.specs.Statuses.{HasLine, IsSilent, IsStatus, Refuses, TellsOfFiles, TellsOr};
 
 use crate::command::command_of;
@@ -26,7 +26,7 @@ fn store<F: Folder>(made: MadeFile, folder: &mut F) -> Result<Line, Status>
         F.told folder.new ≡ Some (stored (string_bytes made.file) made.text.items files) }
     ensures write_fault { IfErr result (λ status. status.0 ≡ 4 → Rose (F.write_faults folder.old) (F.write_faults folder.new)) }
     ensures left { (files : Files) → F.told folder.old ≡ Some files → IsErr result →
-        LeavesStored (string_bytes made.file) made.text.items files (F.told folder.new)
+        LeavesUnstored (string_bytes made.file) files (F.told folder.new)
         (F.write_faults folder.old) (F.write_faults folder.new) }
     ensures read_faults_same { F.read_faults folder.new ≡ F.read_faults folder.old }
     ensures complete { Stood (F.write_faults folder.old) (F.write_faults folder.new) → IfErr result (λ status. status.0 ≡ 5) }
@@ -71,10 +71,13 @@ fn answer<F: Folder>(alloc: Global, words: &[String], folder: &mut F) -> Result<
         MatchResult result (λ line. IsDue (command_of (map string_bytes words.now)) files (answer_of line)) (λ status. status.0 ≡ 5) }
     ensures due { (files : Files) → F.told folder.old ≡ Some files → IfOk result (λ line. (answer_of line ≡ read_fault) ⊎
         IsDue (command_of (map string_bytes words.now)) files (answer_of line)) }
+    ensures due_read { (files : Files) → F.told folder.old ≡ Some files →
+        Stood (F.read_faults folder.old) (F.read_faults folder.new) →
+        IfOk result (λ line. IsDue (command_of (map string_bytes words.now)) files (answer_of line)) }
 
     ensures unchanged { IfOk result (λ line. Refuses (answer_of line).status → F.told folder.new ≡ F.told folder.old) }
     ensures left { (files : Files) → F.told folder.old ≡ Some files → IsErr result →
-        Leaves (command_of (map string_bytes words.now)) files (F.told folder.new)
+        LeavesNone (command_of (map string_bytes words.now)) files (F.told folder.new)
         (F.write_faults folder.old) (F.write_faults folder.new) }
 {
     let Some(asked) = command_of(words) else {
@@ -152,6 +155,9 @@ pub fn run<F: Folder, K: Sink>(
         (result.0 ≡ 5) ⊎ IsDueStatus (command_of (map string_bytes words.now)) files result.0 }
     ensures due { (files : Files) → F.told folder.old ≡ Some files →
         (result.0 ≡ 3) ⊎ (IsSilent result.0 ⊎ IsDueStatus (command_of (map string_bytes words.now)) files result.0) }
+    ensures due_read { (files : Files) → F.told folder.old ≡ Some files →
+        Stood (F.read_faults folder.old) (F.read_faults folder.new) →
+        IsSilent result.0 ⊎ IsDueStatus (command_of (map string_bytes words.now)) files result.0 }
 
     // What is left in the folder.
     ensures unchanged { Refuses result.0 → F.told folder.new ≡ F.told folder.old }
@@ -172,6 +178,9 @@ pub fn run<F: Folder, K: Sink>(
     ensures one_line { (held : List ℕ) → K.taken out.old ≡ Some held → HasLine result.0 →
         TakesLine result.0 held (K.taken out.new) }
     ensures part { result.0 ≡ 4 → TakesPartOfLine (K.taken out.old) (K.taken out.new) }
+    ensures part_due { (files : Files) → F.told folder.old ≡ Some files →
+        (held : List ℕ) → K.taken out.old ≡ Some held → result.0 ≡ 4 →
+        TakesPartOfDueLine (command_of (map string_bytes words.now)) files held (K.taken out.new) }
     ensures silent { Stood (K.faults out.old) (K.faults out.new) → result.0 ≡ 4 → K.taken out.new ≡ K.taken out.old }
     ensures none { result.0 ≡ 5 → K.taken out.new ≡ K.taken out.old }
     ensures sink_tells { is_some (K.taken out.new) ≡ is_some (K.taken out.old) }

@@ -1,4 +1,5 @@
-use Rattle.std.proofs.Common.{◌≡◌, ◌++◌, Some, refl, sym, ap, ◌∙◌, inl, inr, arith}
+use Rattle.std.proofs.Common.{◌≡◌, ◌++◌, Some, refl, sym, ap, ◌∙◌, subst, inl, inr, arith}
+use Rattle.opgen_io.specs.Bytes.{TakesPrefix}
 use Rattle.opgen_top.specs.Answer.{Answer, answer_of, usage}
 use Rattle.opgen_top.specs.Statuses.{HasLine}
 use Rattle.opgen_top.proofs.Parts.{takes-nothing, told_status, not_silent, no_fault, tells_line, answer_line}
@@ -49,12 +50,26 @@ pub returns-in-Ok-clause-left : goal.returns-in-Ok-clause-left
 returns-in-Ok-clause-left g c files told silent =
     let line = c.in-Ok.line in
     elim (answer_line (answer_of line) c.in-Ok.ensures.listed) [
-      | inl ok ↦ inr (inl (c.answer.ensures.stored files told line c.in-Ok.is ok))
-      | inr refuses ↦ inl (c.in-Ok.ensures.unchanged refuses ∙ told)
+      | inl ok ↦ inr (c.answer.ensures.stored files told line c.in-Ok.is ok)
+      | inr refuses ↦ inl (inl (c.in-Ok.ensures.unchanged refuses ∙ told))
     ]
 
 pub returns-in-Err-clause-part : goal.returns-in-Err-clause-part
 returns-in-Err-clause-part g c h = (usage, inl refl, takes-nothing _ usage.line)
 
 pub returns-in-Err-clause-left : goal.returns-in-Err-clause-left
-returns-in-Err-clause-left g c files told h = c.in-Err.ensures.left files told refl
+returns-in-Err-clause-left g c files told h = inl (c.in-Err.ensures.left files told refl)
+
+pub returns-in-Ok-clause-due_read : goal.returns-in-Ok-clause-due_read
+returns-in-Ok-clause-due_read g c files told stood =
+    let line = c.in-Ok.line in
+    elim c.printed.ensures.status [
+      | inl e ↦ inr (answer_of line, c.in-Ok.ensures.due_read files told stood, e)
+      | inr (inl p) ↦ inl (inl p.0)
+      | inr (inr e) ↦ inl (inr e)
+    ]
+
+pub returns-in-Ok-clause-part_due : goal.returns-in-Ok-clause-part_due
+returns-in-Ok-clause-part_due g c files told held tells h =
+    let line = c.in-Ok.line in
+    inr (answer_of line, c.in-Ok.ensures.due files told, subst (λ before. TakesPrefix before (answer_of line).line (g.K.Sink.taken c.printed.new.out)) tells (c.printed.ensures.part h))
