@@ -203,6 +203,46 @@ static FIFTH: [Case; 6] = [
     ),
 ];
 
+/// The first text in capitals with a comment after each line; cut off before its end; with a signal that needs itself; with a signal
+/// that is driven twice; and with a table that has no other word.
+static CHANGED: [Case; 5] = [
+    (
+        "LIBRARY IEEE; -- as before\nUSE IEEE.STD_LOGIC_1164.ALL; -- as before\nUSE IEEE.NUMERIC_STD.ALL; -- as before\n -- as before\nENTITY TIMES3 IS -- as before\n  PORT ( -- as before\n    CLK : IN STD_LOGIC; -- as before\n    X : IN STD_LOGIC_VECTOR(3 DOWNTO 0); -- as before\n    Y : OUT STD_LOGIC_VECTOR(5 DOWNTO 0) -- as before\n  ); -- as before\nEND ENTITY; -- as before\n -- as before\nARCHITECTURE RTL OF TIMES3 IS -- as before\n  SIGNAL S0 : UNSIGNED(3 DOWNTO 0); -- as before\n  SIGNAL S1 : UNSIGNED(5 DOWNTO 0); -- as before\nBEGIN -- as before\n  S0 <= UNSIGNED(X); -- as before\n  WITH S0 SELECT S1 <= -- as before\n    \"000000\" WHEN \"0000\", -- as before\n    \"000011\" WHEN \"0001\", -- as before\n    \"000110\" WHEN \"0010\", -- as before\n    \"001001\" WHEN \"0011\", -- as before\n    \"001100\" WHEN \"0100\", -- as before\n    \"001111\" WHEN \"0101\", -- as before\n    \"010010\" WHEN \"0110\", -- as before\n    \"010101\" WHEN \"0111\", -- as before\n    \"011000\" WHEN \"1000\", -- as before\n    \"011011\" WHEN \"1001\", -- as before\n    \"011110\" WHEN \"1010\", -- as before\n    \"100001\" WHEN \"1011\", -- as before\n    \"100100\" WHEN \"1100\", -- as before\n    \"100111\" WHEN \"1101\", -- as before\n    \"101010\" WHEN \"1110\", -- as before\n    \"101101\" WHEN OTHERS; -- as before\n  Y <= STD_LOGIC_VECTOR(S1); -- as before\nEND ARCHITECTURE; -- as before\n",
+        "0\n1\nf\n",
+        0,
+        "simulated 3 cycles\n",
+        Some("0 : 00\n1 : 03\nf : 2d\n"),
+    ),
+    (
+        "library ieee;\nuse ieee.std_logic_1164.all;\nuse ieee.numeric_std.all;\n\nentity times3 is\n  port (\n    clk : in std_logic;\n    x : in std_logic_vector(3 downto 0);\n    y : out std_logic_vector(5 downto 0)\n  );\nend entity;\n\narchitecture rtl of times3 is\n  signal s0 : unsigned(3 downto 0);\n  signal s1 : unsigned(5 downto 0);\nbegin\n  s0 <= unsigned(x);\n  with s0 select s1 <=\n    \"000000\" when \"0000\",\n    \"000011\" when \"0001\",\n    \"000110\" when \"0010\",\n    \"001001\" when \"0011\",\n    \"001100\" when \"0100\",\n    \"001111\" when \"0101\",\n    \"010010\" when \"0110\",\n    \"010101\" when \"0111\",\n    \"011000\" when \"1000\",\n    \"011011\" when \"1001\",\n    \"011110\" when \"1010\",\n    \"100001\" when \"1011\",\n    \"100100\" when \"1100\",\n    \"100111\" when \"1101\",\n    \"101010\" when \"1110\",\n    \"101101\" when others;\n  y <= std_logic_vector(s1);\nend architecture",
+        "0\n1\nf\n",
+        6,
+        "vhdl: Syntax 13\n",
+        None,
+    ),
+    (
+        "library ieee;\nuse ieee.std_logic_1164.all;\nuse ieee.numeric_std.all;\n\nentity times3 is\n  port (\n    clk : in std_logic;\n    x : in std_logic_vector(3 downto 0);\n    y : out std_logic_vector(5 downto 0)\n  );\nend entity;\n\narchitecture rtl of times3 is\n  signal s0 : unsigned(3 downto 0);\n  signal s1 : unsigned(5 downto 0);\nbegin\n  s0 <= s1(3 downto 0);\n  with s0 select s1 <=\n    \"000000\" when \"0000\",\n    \"000011\" when \"0001\",\n    \"000110\" when \"0010\",\n    \"001001\" when \"0011\",\n    \"001100\" when \"0100\",\n    \"001111\" when \"0101\",\n    \"010010\" when \"0110\",\n    \"010101\" when \"0111\",\n    \"011000\" when \"1000\",\n    \"011011\" when \"1001\",\n    \"011110\" when \"1010\",\n    \"100001\" when \"1011\",\n    \"100100\" when \"1100\",\n    \"100111\" when \"1101\",\n    \"101010\" when \"1110\",\n    \"101101\" when others;\n  y <= std_logic_vector(s1);\nend architecture;\n",
+        "0\n1\nf\n",
+        6,
+        "vhdl: Unsound 6 5\n",
+        None,
+    ),
+    (
+        "library ieee;\nuse ieee.std_logic_1164.all;\nuse ieee.numeric_std.all;\n\nentity times3 is\n  port (\n    clk : in std_logic;\n    x : in std_logic_vector(3 downto 0);\n    y : out std_logic_vector(5 downto 0)\n  );\nend entity;\n\narchitecture rtl of times3 is\n  signal s0 : unsigned(3 downto 0);\n  signal s1 : unsigned(5 downto 0);\nbegin\n  s0 <= unsigned(x);\n  s0 <= unsigned(x);\n  with s0 select s1 <=\n    \"000000\" when \"0000\",\n    \"000011\" when \"0001\",\n    \"000110\" when \"0010\",\n    \"001001\" when \"0011\",\n    \"001100\" when \"0100\",\n    \"001111\" when \"0101\",\n    \"010010\" when \"0110\",\n    \"010101\" when \"0111\",\n    \"011000\" when \"1000\",\n    \"011011\" when \"1001\",\n    \"011110\" when \"1010\",\n    \"100001\" when \"1011\",\n    \"100100\" when \"1100\",\n    \"100111\" when \"1101\",\n    \"101010\" when \"1110\",\n    \"101101\" when others;\n  y <= std_logic_vector(s1);\nend architecture;\n",
+        "0\n1\nf\n",
+        6,
+        "vhdl: Unsound 4 6\n",
+        None,
+    ),
+    (
+        "library ieee;\nuse ieee.std_logic_1164.all;\nuse ieee.numeric_std.all;\n\nentity times3 is\n  port (\n    clk : in std_logic;\n    x : in std_logic_vector(3 downto 0);\n    y : out std_logic_vector(5 downto 0)\n  );\nend entity;\n\narchitecture rtl of times3 is\n  signal s0 : unsigned(3 downto 0);\n  signal s1 : unsigned(5 downto 0);\nbegin\n  s0 <= unsigned(x);\n  with s0 select s1 <=\n    \"000000\" when \"0000\",\n    \"000011\" when \"0001\",\n    \"000110\" when \"0010\",\n    \"001001\" when \"0011\",\n    \"001100\" when \"0100\",\n    \"001111\" when \"0101\",\n    \"010010\" when \"0110\",\n    \"010101\" when \"0111\",\n    \"011000\" when \"1000\",\n    \"011011\" when \"1001\",\n    \"011110\" when \"1010\",\n    \"100001\" when \"1011\",\n    \"100100\" when \"1100\",\n    \"100111\" when \"1101\",\n    \"101010\" when \"1110\",\n    \"101101\" when \"1111\";\n  y <= std_logic_vector(s1);\nend architecture;\n",
+        "0\n1\nf\n",
+        6,
+        "vhdl: Syntax 11\n",
+        None,
+    ),
+];
+
 fn all_agree(alloc: Global, cases: &[Case]) -> Result<bool, Fail> {
     for (vhdl, vectors, status, line, rows) in cases {
         let ran = ran_over(
@@ -250,5 +290,11 @@ fn fourth_cases(rt: HostRuntime) -> Result<(), Fail> {
 #[test]
 fn fifth_cases(rt: HostRuntime) -> Result<(), Fail> {
     assert!(rt; all_agree(rt.alloc(), &FIFTH)?);
+    Ok(())
+}
+
+#[test]
+fn changed_cases(rt: HostRuntime) -> Result<(), Fail> {
+    assert!(rt; all_agree(rt.alloc(), &CHANGED)?);
     Ok(())
 }
