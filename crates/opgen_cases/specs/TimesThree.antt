@@ -41,6 +41,7 @@ times3_design = record {
       Assign 0 (port 0)
       ∷ Table 1 (name 0) ((bit_word false, zero_word) ∷ []) three_word
       ∷ Output 1 (name 1) ∷ [];
+  enable = None;
 }
 
 -- the input is 1 in cycle 0 and 0 in cycle 1

@@ -2,7 +2,7 @@
 use Rattle.std.proofs.Common.{◌≡◌, ℕ, zero, suc, ◌+◌, ◌-◌, ◌*◌, ◌%◌, ◌^◌, ◌<◌, ◌≤◌, Bool, true, false, List, [], ◌∷◌, ◌++◌, length, length-append, map, reverse, Some, refl, sym, ap, ◌∙◌, subst, arith}
 use Rattle.std.specs.Prelude.{ℤ, All, max, slice_index, slice_index_or, slice_get, option_and_then, None, if◌then◌else◌}
 use Rattle.std.proofs.Math.Nat.{two-pow-succ, add-mul-mod_self_left, mod-eq_of_lt}
-use Rattle.std.proofs.lemmas.List.{length-map, length-reverse, map-append, reverse-append}
+use Rattle.std.proofs.lemmas.List.{append-nil, length-map, length-reverse, map-append, reverse-append}
 use Rattle.std.proofs.lemmas.List.Elements.{All-cons, All-nil, All-push}
 use Rattle.std.proofs.lemmas.Option.{slice_get-get_or}
 use Rattle.std.proofs.lemmas.Bool.{eq-eqb}
@@ -23,18 +23,21 @@ use Rattle.opgen_net.specs.declared.word_bits.WordBit.TheVariants.{Zero, One, Of
 use Rattle.opgen_net.specs.declared.word_bits.Piece.{Piece}
 use Rattle.opgen_net.specs.declared.word_bits.Piece.TheVariants.{Bits, Part}
 use Rattle.opgen_design.specs.Tree.{name, none, more}
-use Rattle.opgen_net.specs.Flow.{Inputs, KeepsFlow, flow}
+use Rattle.opgen_net.specs.Flow.{Inputs, flow}
+use Rattle.opgen_net.specs.Grown.{HasGrown}
 use Rattle.opgen_net.specs.Made.{slice_tree}
 use Rattle.opgen_design.specs.Run.{AreWords}
 use Rattle.opgen_net.specs.Valid.{widths, input_widths, IsValid, FitsNodes}
 use Rattle.opgen_design.specs.Width.{IsWidth, as_width, joined, width, width_on}
 use Rattle.opgen_net.specs.WordRule.{IsThere, HasBits, bit_flow, word_flow, runs, is_whole, word_tree, with_node, with_runs, with_word}
-use Rattle.opgen_net.proofs.Appending.{flow-append_last, width-append_before}
+use Rattle.opgen_net.proofs.Appending.{flow-append_last}
+use Rattle.opgen_net.proofs.Grown.{grown-more, grown-flow}
 use Rattle.opgen_net.proofs.FlowLaws.{index_within, length-widths}
 use Rattle.opgen_design.proofs.WidthLaws.{length-sum_with, as_width-of}
 use Rattle.opgen_compress.specs.Adder.{two}
 use Rattle.opgen_compress.specs.Recipe.{Column, State, all_columns, heights_below, lowered, row, fullest}
-use Rattle.opgen_compress.specs.Kept.{AllThere, words_at, IsSumOfColumns, IsSumOf}
+use Rattle.opgen_heap.specs.Standing.{AllThere}
+use Rattle.opgen_compress.specs.Kept.{words_at, IsSumOfColumns, IsSumOf}
 use Rattle.opgen_compress.proofs.Ones.{with_ones-sum, with_ones-length, with_ones-there}
 use Rattle.opgen_compress.proofs.Passed.{Passed, all-passed}
 use Rattle.opgen_compress.proofs.Reduced.{words-later}
@@ -158,34 +161,21 @@ sum-number width a b h g =
 
 -- a word more
 
-more-widths : (ns : List Node) (count : ℕ) (rs : List Piece) (k : ℕ) → k < length ns → slice_index (widths (with_runs ns count rs).nodes) k ≡ slice_index (widths ns) k
-more-widths ns count [] k h = width-append_before ns (Cells Wire count (word_tree (widths ns) [])) k h
-more-widths ns count (Bits w ∷ []) k h = width-append_before ns (Constant w) k h
-more-widths ns count (Part s ∷ []) k h =
+-- what a word's runs leave are the nodes before, and further ones
+word-nodes : (ns : List Node) (count : ℕ) (rs : List Piece) → (more : List Node) × ((with_runs ns count rs).nodes ≡ ns ++ more)
+word-nodes ns count [] = (Cells Wire count (word_tree (widths ns) []) ∷ [], refl)
+word-nodes ns count (Bits w ∷ []) = (Constant w ∷ [], refl)
+word-nodes ns count (Part s ∷ []) =
     elim (is_whole (widths ns) s) as (
-    λ c. slice_index (widths (if c then record { nodes = ns; place = s.node } else with_node ns (Cells Wire count (slice_tree (widths ns) s))).nodes) k ≡ slice_index (widths ns) k
-    ) [ true ↦ refl | false ↦ width-append_before ns (Cells Wire count (slice_tree (widths ns) s)) k h ]
-more-widths ns count (Bits w ∷ q ∷ rs) k h = width-append_before ns (Cells Wire count (word_tree (widths ns) (Bits w ∷ q ∷ rs))) k h
-more-widths ns count (Part s ∷ q ∷ rs) k h = width-append_before ns (Cells Wire count (word_tree (widths ns) (Part s ∷ q ∷ rs))) k h
+    λ c. (more : List Node) × ((if c then record { nodes = ns; place = s.node } else with_node ns (Cells Wire count (slice_tree (widths ns) s))).nodes ≡ ns ++ more)
+    ) [ true ↦ ([], sym (append-nil ns)) | false ↦ (Cells Wire count (slice_tree (widths ns) s) ∷ [], refl) ]
+word-nodes ns count (Bits w ∷ q ∷ rs) = (Cells Wire count (word_tree (widths ns) (Bits w ∷ q ∷ rs)) ∷ [], refl)
+word-nodes ns count (Part s ∷ q ∷ rs) = (Cells Wire count (word_tree (widths ns) (Part s ∷ q ∷ rs)) ∷ [], refl)
 
-more-nodes : (ns : List Node) (count : ℕ) (rs : List Piece) → length ns ≤ length (with_runs ns count rs).nodes
-more-nodes ns count [] = omega (arith, length-append ns (Cells Wire count (word_tree (widths ns) []) ∷ []))
-more-nodes ns count (Bits w ∷ []) = omega (arith, length-append ns (Constant w ∷ []))
-more-nodes ns count (Part s ∷ []) =
-    elim (is_whole (widths ns) s) as (
-    λ c. length ns ≤ length (if c then record { nodes = ns; place = s.node } else with_node ns (Cells Wire count (slice_tree (widths ns) s))).nodes
-    ) [ true ↦ omega arith | false ↦ omega (arith, length-append ns (Cells Wire count (slice_tree (widths ns) s) ∷ [])) ]
-more-nodes ns count (Bits w ∷ q ∷ rs) = omega (arith, length-append ns (Cells Wire count (word_tree (widths ns) (Bits w ∷ q ∷ rs)) ∷ []))
-more-nodes ns count (Part s ∷ q ∷ rs) = omega (arith, length-append ns (Cells Wire count (word_tree (widths ns) (Part s ∷ q ∷ rs)) ∷ []))
-
-pub word-later : (net new : Net) (bits : List WordBit) → new ≡ record net { nodes = (with_word net.nodes bits).nodes } → IsValid new → KeepsFlow net.nodes new.nodes → Later net new
-word-later net new bits e v f = record {
-  valid = v;
-  inputs = ap (λ (n : Net). n.inputs) e;
-  flow = f;
-  count = omega (arith, ap (λ (n : Net). length n.nodes) e, more-nodes net.nodes (length bits) (runs bits));
-  widths = λ k h. ap (λ (n : Net). slice_index (widths n.nodes) k) e ∙ more-widths net.nodes (length bits) (runs bits) k h;
-}
+pub word-later : (net new : Net) (bits : List WordBit) → new ≡ record net { nodes = (with_word net.nodes bits).nodes } → IsValid new → Later net new
+word-later net new bits e v =
+    let w = word-nodes net.nodes (length bits) (runs bits) in
+    record { valid = v; grown = subst (HasGrown net) (sym (e ∙ ap (λ ns. record net { nodes = ns }) w.1)) (grown-more net w.0) }
 
 -- the sum of two nodes of one width
 
@@ -228,7 +218,7 @@ module _ (net : Net) (columns : List Column) (width : ℕ) (many : length column
       let low = map (bit_under ws) (picked 0 columns) in
       let high = map (bit_under ws) (picked 1 columns) in
       let of_a : flow two_words.nodes inputs a t ≡ low =
-      after.flow inputs a t (node-there one a width w wide) ∙ first inputs t words ∙ row-word net.nodes inputs t 0 columns in
+      grown-flow one two_words after.grown inputs a t (node-there one a width w wide) ∙ first inputs t words ∙ row-word net.nodes inputs t 0 columns in
       let of_b : flow two_words.nodes inputs b t ≡ high =
       second inputs t (words-later net one later inputs words) ∙ row-word one.nodes inputs t 1 columns ∙ bits-kept net one later inputs t (picked 1 columns) (picked-there net 1 columns there) in
       let sum : Node = Cells Add width (two Plus (name a) (name b)) in

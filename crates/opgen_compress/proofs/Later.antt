@@ -7,40 +7,29 @@ use Rattle.opgen_net.specs.declared.net.Net.{Net}
 use Rattle.opgen_net.specs.declared.node.Node.{Node}
 use Rattle.opgen_net.specs.declared.word_bits.WordBit.{WordBit}
 use Rattle.opgen_net.specs.declared.word_bits.WordBit.TheVariants.{Zero, One, Of}
-use Rattle.opgen_net.specs.Flow.{Inputs, KeepsFlow}
+use Rattle.opgen_net.specs.Flow.{Inputs}
+use Rattle.opgen_net.specs.Grown.{HasGrown}
 use Rattle.opgen_net.specs.Valid.{widths, MayStand, input_nodes, IsValid}
 use Rattle.opgen_net.specs.WordRule.{IsThere}
 use Rattle.opgen_net.proofs.FlowLaws.{index_within, length-widths}
-use Rattle.opgen_net.proofs.Appending.{flow-append_before, width-append_before, valid-append}
-use Rattle.opgen_compress.specs.Kept.{AllThere, words_at}
+use Rattle.opgen_net.proofs.Appending.{valid-append}
+use Rattle.opgen_net.proofs.Grown.{grown-same, grown-then, grown-more, grown-flow, grown-there, grown-all_there}
+use Rattle.opgen_heap.proofs.Standing.{columns-still_there}
+use Rattle.opgen_heap.specs.Standing.{AllThere}
+use Rattle.opgen_compress.specs.Kept.{words_at}
 
 pub record Later (old new : Net) : Type 0 where
   pub valid : IsValid new
-  pub inputs : new.inputs ≡ old.inputs
-  pub flow : KeepsFlow old.nodes new.nodes
-  pub count : length old.nodes ≤ length new.nodes
-  pub widths : (k : ℕ) → k < length old.nodes → slice_index (widths new.nodes) k ≡ slice_index (widths old.nodes) k
+  pub grown : HasGrown old new
 
 pub later-same : (net : Net) → IsValid net → Later net net
-later-same net v = record { valid = v; inputs = refl; flow = λ i n t h. refl; count = omega arith; widths = λ k h. refl }
+later-same net v = record { valid = v; grown = grown-same net }
 
 pub later-then : (a b c : Net) → Later a b → Later b c → Later a c
-later-then a b c p q = record {
-  valid = q.valid;
-  inputs = q.inputs ∙ p.inputs;
-  flow = λ i n t h. q.flow i n t (omega (arith, h, p.count)) ∙ p.flow i n t h;
-  count = omega (arith, p.count, q.count);
-  widths = λ k h. q.widths k (omega (arith, h, p.count)) ∙ p.widths k h;
-}
+later-then a b c p q = record { valid = q.valid; grown = grown-then a b c p.grown q.grown }
 
 pub later-node : (net : Net) (n : Node) → IsValid net → MayStand (widths net.nodes) n → input_nodes (n ∷ []) ≡ [] → Later net (record net { nodes = net.nodes ++ n ∷ [] })
-later-node net n v stands none = record {
-  valid = valid-append net n v stands none;
-  inputs = refl;
-  flow = flow-append_before net.nodes n;
-  count = omega (arith, length-append net.nodes (n ∷ []));
-  widths = λ k h. width-append_before net.nodes n k h;
-}
+later-node net n v stands none = record { valid = valid-append net n v stands none; grown = grown-more net (n ∷ []) }
 
 -- all of a list
 
@@ -61,21 +50,19 @@ module _ (old new : Net) (later : Later old new) where
   node_there node index h = omega (arith, index_within (widths old.nodes) node index h, length-widths old.nodes)
 
   pub there-kept : (b : WordBit) → IsThere (widths old.nodes) b → IsThere (widths new.nodes) b
-  there-kept Zero h = tt
-  there-kept One h = tt
-  there-kept (Of node index) h = omega (arith, h, later.widths node (node_there node index h))
+  there-kept = grown-there old new later.grown
 
   pub all_there-kept : (bs : List WordBit) → All (IsThere (widths old.nodes)) bs → All (IsThere (widths new.nodes)) bs
-  all_there-kept bs h = λ k d l. there-kept (slice_index_or bs k d) (h k d l)
+  all_there-kept = grown-all_there old new later.grown
 
   pub columns_there-kept : (cs : List (List WordBit)) → AllThere old cs → AllThere new cs
-  columns_there-kept cs h = λ k d l. all_there-kept (slice_index_or cs k d) (h k d l)
+  columns_there-kept = columns-still_there old new later.grown
 
   module _ (inputs : Inputs) (t : ℤ) where
     pub bit-kept : (b : WordBit) → IsThere (widths old.nodes) b → bit_under (words_at new.nodes inputs t) b ≡ bit_under (words_at old.nodes inputs t) b
     bit-kept Zero h = refl
     bit-kept One h = refl
-    bit-kept (Of node index) h = ap (λ w. slice_index_or w index false) (later.flow inputs node t (node_there node index h))
+    bit-kept (Of node index) h = ap (λ w. slice_index_or w index false) (grown-flow old new later.grown inputs node t (node_there node index h))
 
     pub ones-kept : (bs : List WordBit) → All (IsThere (widths old.nodes)) bs → ones (words_at new.nodes inputs t) bs ≡ ones (words_at old.nodes inputs t) bs
     ones-kept [] h = refl

@@ -14,7 +14,8 @@ use Rattle.opgen_net.specs.Valid.{widths, input_widths, IsValid}
 use Rattle.opgen_net.specs.WordRule.{IsThere}
 use Rattle.opgen_compress.specs.Adder.{Work}
 use Rattle.opgen_compress.specs.Recipe.{Column, State, reduced, under, is_none, pass, passes, height, falling, heights_below, fullest, lowered}
-use Rattle.opgen_compress.specs.Kept.{AllThere, WorkThere, words_at}
+use Rattle.opgen_heap.specs.Standing.{AllThere}
+use Rattle.opgen_compress.specs.Kept.{WorkThere, words_at}
 use Rattle.opgen_compress.proofs.Later.{Later, later-same, later-then, all_there-kept, columns_there-kept, ones-kept, columns_sum-kept, first_column, rest_columns}
 use Rattle.opgen_compress.proofs.Reduced.{Reduced, all-reduced, reduced-length, words-later}
 use Rattle.opgen_compress.proofs.Heights.{less, height-above}

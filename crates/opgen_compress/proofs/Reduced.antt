@@ -39,7 +39,7 @@ reduced-same top w v h = record { later = later-same w.net v; there = h; sum = �
 
 -- inputs of the widths of a net's ports, in the net when it has grown
 pub words-later : (old new : Net) → Later old new → (inputs : Inputs) → All (AreWords (input_widths old)) inputs → All (AreWords (input_widths new)) inputs
-words-later old new l inputs h = subst (λ (is : List (List ℕ × ℕ)). All (AreWords (map (λ i. i.1) is)) inputs) (sym l.inputs) h
+words-later old new l inputs h = subst (λ (is : List (List ℕ × ℕ)). All (AreWords (map (λ i. i.1) is)) inputs) (sym l.grown.inputs) h
 
 reduced-then : (top : Bool) (w v u : Work) → Reduced top w v → Reduced top v u → Reduced top w u
 reduced-then top w v u a b = record {

@@ -12,11 +12,7 @@ use Rattle.opgen_net.specs.Valid.{widths, input_widths}
 use Rattle.opgen_net.specs.WordRule.{IsThere}
 use Rattle.opgen_compress.specs.Adder.{Work}
 
--- each bit is a bit of a node of the net
-abbrev pub AllThere : Net → List (List WordBit) → Type 0
-AllThere net columns = All (All (IsThere (widths net.nodes))) columns
-
--- so it is with the bits of a column that is being reduced
+-- the bits of a column that is being reduced are bits of nodes of the net
 pub record WorkThere (w : Work) : Type 0 where
   pub column : All (IsThere (widths w.net.nodes)) w.column
   pub carries : All (IsThere (widths w.net.nodes)) w.carries

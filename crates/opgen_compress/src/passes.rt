@@ -2,7 +2,8 @@ ghost use Rattle.std.specs.Prelude.{◌≡◌, ◌≤◌, ◌<◌, ◌^◌, ◌-
 ghost use Rattle.opgen_net.specs.Valid.{IsValid, widths};
 ghost use Rattle.opgen_net.specs.WordRule.{IsThere};
 ghost use Rattle.opgen_compress.specs.Recipe.{is_none, reduced, pass as passed, passes, heights_below, fullest as fullest_of, lowered};
-ghost use Rattle.opgen_compress.specs.Kept.{AllThere, WorkThere};
+ghost use Rattle.opgen_heap.specs.Standing.{AllThere};
+ghost use Rattle.opgen_compress.specs.Kept.{WorkThere};
 
 use crate::adders::{full_adder, half_adder};
 use crate::queue::Queue;

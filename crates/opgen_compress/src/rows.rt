@@ -1,6 +1,7 @@
 ghost use Rattle.std.specs.Prelude.{◌≡◌, ◌≤◌, ◌%◌, ◌^◌, ℕ, ℤ, length, slice_index, All, IfOk, OnOk};
 ghost use Rattle.opgen_num.specs.Words.{nat};
-ghost use Rattle.opgen_net.specs.Flow.{Inputs, KeepsFlow, flow};
+ghost use Rattle.opgen_net.specs.Flow.{Inputs, flow};
+ghost use Rattle.opgen_net.specs.Grown.{HasGrown};
 ghost use Rattle.opgen_design.specs.Run.{AreWords};
 ghost use Rattle.opgen_net.specs.Valid.{IsValid, input_widths, widths};
 ghost use Rattle.opgen_design.specs.Width.{IsWidth};
@@ -10,7 +11,8 @@ ghost use Rattle.opgen_compress.specs.Adder.{two};
 ghost use Rattle.opgen_design.specs.Plain.{plain};
 ghost use Rattle.opgen_design.specs.Tree.{name};
 ghost use Rattle.opgen_design.specs.declared.expr.Op.TheVariants.{Plus};
-ghost use Rattle.opgen_compress.specs.Kept.{AllThere, IsSumOfColumns};
+ghost use Rattle.opgen_heap.specs.Standing.{AllThere};
+ghost use Rattle.opgen_compress.specs.Kept.{IsSumOfColumns};
 
 use crate::passes::fullest;
 use crate::queue::Queue;
@@ -52,7 +54,7 @@ pub fn finish(alloc: Global, width: u32, columns: &[Queue], net: &mut Net) -> Re
     ensures place { IfOk result (λ n. n ≡ (finished width (record { net = net.old; columns = columns.now })).place) }
     ensures sum { IfOk result (λ n. IsSumOfColumns net.old columns.now width net.new.nodes n) }
     ensures width { IfOk result (λ n. slice_index (widths net.new.nodes) n ≡ width) }
-    ensures flow { OnOk result (KeepsFlow net.old.nodes net.new.nodes) }
+    ensures grown { OnOk result (HasGrown net.old net.new) }
     ensures valid { IsValid net.new }
 {
     let a = net.word(&row(alloc, columns, 0)?)?;

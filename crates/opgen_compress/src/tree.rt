@@ -1,9 +1,11 @@
 ghost use Rattle.std.specs.Prelude.{◌≡◌, ◌≤◌, ◌<◌, ◌^◌, ◌++◌, Bool, length, slice_index, slice_index_or, IfOk, OnOk, []};
 ghost use Rattle.opgen_net.specs.Flow.{KeepsFlow};
+ghost use Rattle.opgen_net.specs.Grown.{HasGrown};
 ghost use Rattle.opgen_net.specs.Valid.{IsValid, widths};
 ghost use Rattle.opgen_num.specs.Words.{word};
 ghost use Rattle.opgen_compress.specs.Recipe.{one_if, with_ones, all_columns, compressed};
-ghost use Rattle.opgen_compress.specs.Kept.{AllThere, IsSumOf};
+ghost use Rattle.opgen_heap.specs.Standing.{AllThere};
+ghost use Rattle.opgen_compress.specs.Kept.{IsSumOf};
 
 use crate::passes::lower;
 use crate::queue::Queue;
@@ -61,6 +63,7 @@ pub fn compress(alloc: Global, heap: Heap, net: &mut Net) -> Result<usize, Memor
     ensures place { IfOk result (λ n. n ≡ (compressed net.old heap).place) }
     ensures sum { IfOk result (λ n. IsSumOf net.old heap net.new.nodes n) }
     ensures width { IfOk result (λ n. slice_index (widths net.new.nodes) n ≡ heap.width) }
+    ensures grown { OnOk result (HasGrown net.old net.new) }
     ensures flow { OnOk result (KeepsFlow net.old.nodes net.new.nodes) }
     ensures valid { IsValid net.new }
 {
@@ -103,24 +106,26 @@ mod tests {
         heap.add_bit(c, 0, 0)?;
         assert_eq!(rt; compress(rt.alloc(), heap, &mut net)?, 7);
         assert_eq!(rt; net.nodes.len(), 8);
-        let nodes = [
-            (3, Class::Logic, "Chain(Xor, [Name(0), Name(1)])"),
-            (4, Class::Logic, "Chain(And, [Name(0), Name(1)])"),
-            (
-                5,
-                Class::Wire,
-                "Chain(Cat, [Bits(Word { bits: 0, width: 1 }), Name(4), Name(2)])",
-            ),
-            (
-                6,
-                Class::Wire,
-                "Chain(Cat, [Bits(Word { bits: 0, width: 2 }), Name(3)])",
-            ),
-            (7, Class::Add, "Chain(Plus, [Name(5), Name(6)])"),
-        ];
-        for (place, class, text) in nodes {
-            assert_eq!(rt; *shown(&rt, &net, place, class)?.as_str(), *text);
-        }
+        assert_eq!(rt;
+            *shown(&rt, &net, 3, Class::Logic)?.as_str(),
+            *"Chain(Xor, [Name(0), Name(1)])"
+        );
+        assert_eq!(rt;
+            *shown(&rt, &net, 4, Class::Logic)?.as_str(),
+            *"Chain(And, [Name(0), Name(1)])"
+        );
+        assert_eq!(rt;
+            *shown(&rt, &net, 5, Class::Wire)?.as_str(),
+            *"Chain(Cat, [Bits(Word { bits: 0, width: 1 }), Name(4), Name(2)])"
+        );
+        assert_eq!(rt;
+            *shown(&rt, &net, 6, Class::Wire)?.as_str(),
+            *"Chain(Cat, [Bits(Word { bits: 0, width: 2 }), Name(3)])"
+        );
+        assert_eq!(rt;
+            *shown(&rt, &net, 7, Class::Add)?.as_str(),
+            *"Chain(Plus, [Name(5), Name(6)])"
+        );
         Ok(())
     }
 

@@ -4,10 +4,10 @@ use Rattle.std.specs.Prelude.{Contains}
 use Rattle.std.proofs.lemmas.Bool.{cases_lt}
 use Rattle.std.proofs.lemmas.List.{get_or_past}
 use Rattle.std.proofs.lemmas.List.Elements.{All-contains, Contains-append_left, Contains-append_right, Contains-append_cases}
-use Rattle.opgen_cycles.specs.declared.Component.{Component}
-use Rattle.opgen_cycles.specs.Graph.{Graph, IsGraph, Path, links_of, AreComponents, component_of}
-use Rattle.opgen_cycles.specs.Graph as graph
-use Rattle.opgen_cycles.proofs.Laws.{smaller}
+use Rattle.opgen_components.specs.declared.Component.{Component}
+use Rattle.opgen_components.specs.Graph.{Graph, IsGraph, Path, links_of, AreComponents, component_of}
+use Rattle.opgen_components.specs.Graph as graph
+use Rattle.opgen_components.proofs.Laws.{smaller}
 use Rattle.opgen_design.specs.declared.design.Design.{Design}
 use Rattle.opgen_design.specs.declared.design.Driver.{Driver}
 use Rattle.opgen_design.specs.declared.design.Driver.TheVariants.{Assign, Choice, Table, Register, Output}

@@ -8,3 +8,5 @@ pub mod SoundLaws
 pub mod GroupLaws
 pub mod NameWalk
 pub mod OrderLaws
+pub mod EnableLaws
+mod Enabled

@@ -9,7 +9,7 @@ use Rattle.opgen_design.specs.declared.design.Port.{Port}
 use Rattle.opgen_design.specs.declared.design.Signal.{Signal}
 use Rattle.opgen_design.specs.declared.sound.SoundFault.{SoundFault}
 use Rattle.opgen_design.specs.Rules.{HoldsBefore, IsFirstFailing, IsFaultAt, fault_at}
-use Rattle.opgen_design.specs.Sound.{IsNewName, names_of, DeclaredTwice, Place, at_port, at_signal, at_driver, item, Holds, PassesAt}
+use Rattle.opgen_design.specs.Sound.{IsNewName, names_of, DeclaredTwice, Place, at_design, at_port, at_signal, at_driver, item, Holds, PassesAt}
 use Rattle.opgen_design.proofs.FirstFailing.{before-more, of-item}
 
 pub unit-if : {X : Type 0} (o : Option X) → IfSome o (λ x. Unit {0})
@@ -62,6 +62,7 @@ module _ (d : Design) where
   name-at i l h = of-item (IsNew (names_of d)) (names_of d) i (get_or (names_of d) i []) (slice_get-get_or (names_of d) i [] l) h
 
   place-passes : (n : ℕ) → HoldsBefore (IsNew (names_of d)) (names_of d) n → (p : Place) → (item d p < n + 1 ⊎ (length (names_of d) ≤ n)) → PassesAt d DeclaredTwice p
+  place-passes n h at_design l = tt
   place-passes n h (at_port i) l = at_front i (slice_get d.ports i) refl (λ m. let q : i < length (names_of d) = omega (arith, m, names-length d) in name-at i q (h i (elim l [ inl a ↦ omega (arith, a) | inr b ↦ omega (arith, b, q) ])))
   place-passes n h (at_signal i) l = at_back i (slice_get d.signals i) refl (λ m. let q : length d.ports + i < length (names_of d) = omega (arith, m, names-length d) in name-at (length d.ports + i) q (h (length d.ports + i) (elim l [ inl a ↦ omega (arith, a) | inr b ↦ omega (arith, b, q) ])))
   place-passes n h (at_driver i) l = unit-if (slice_get d.drivers i)

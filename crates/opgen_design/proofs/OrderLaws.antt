@@ -5,8 +5,8 @@ use Rattle.std.specs.List.Sorted.{IsPermutation, IsNonDecreasingBy}
 use Rattle.std.proofs.lemmas.Bool.{cases_lt, cases_eq}
 use Rattle.std.proofs.lemmas.List.{length_push, append_assoc, append-nil, get_or_append_left, get_or_push, drop_more, drop_all}
 use Rattle.std.proofs.lemmas.Option.{slice_get_within, slice_get-get_or, get_or_from_slice_get}
-use Rattle.opgen_cycles.specs.declared.Component.{Component}
-use Rattle.opgen_cycles.specs.Graph.{component_of}
+use Rattle.opgen_components.specs.declared.Component.{Component}
+use Rattle.opgen_components.specs.Graph.{component_of}
 use Rattle.opgen_design.specs.declared.design.Design.{Design}
 use Rattle.opgen_design.specs.declared.design.Driver.{Driver}
 use Rattle.opgen_design.specs.Order.{is_register, IsOrderOf, AreRanks, IsSmallAt, rank_at, waiting}

@@ -11,44 +11,48 @@ use Rattle.opgen_design.specs.declared.design.Driver.TheVariants.{Assign, Choice
 use Rattle.opgen_design.specs.declared.sound.SoundFault.{SoundFault}
 use Rattle.opgen_design.specs.Reads.{driver_names, driver_ports, names_read, ports_read}
 use Rattle.opgen_design.specs.Rules.{IsFirstFailing, IsFaultAt, PortsPass, SignalsPass, DriversPass, AreFirstDrivers, IsDrivenAt, slot, slot_of, noted, noted_at, fault_at}
-use Rattle.opgen_design.specs.Sound.{Rule, rule_number, Target, signal, port_of, target, DriverReads, Names, IsDeclared, IsInput, IsOnlyDriver, IsDriven, Place, at_port, at_signal, at_driver, item, Holds, PassesAt, PortPasses, SignalPasses, DriverPasses, Undeclared, DrivenTwice}
+use Rattle.opgen_design.specs.Sound.{Rule, rule_number, Target, signal, port_of, target, DriverReads, Names, IsDeclared, IsInput, IsOnlyDriver, IsDriven, Place, at_design, at_port, at_signal, at_driver, item, Holds, PassesAt, DesignPasses, PortPasses, SignalPasses, DriverPasses, Undeclared, DrivenTwice}
 use Rattle.opgen_design.proofs.FirstFailing.{of-item}
 use Rattle.opgen_design.proofs.UseLaws.{reads-lists, lists-reads, all-front, all-back}
 
 -- a rule that holds everywhere, and the fault of one that does not
 module _ (d : Design) (r : Rule) where
-  pub holds-of : PortsPass d r → SignalsPass d r → DriversPass d r → Holds d r
-  holds-of p s k (at_port i) = p i
-  holds-of p s k (at_signal i) = s i
-  holds-of p s k (at_driver i) = k i
+  pub holds-of : DesignPasses d r → PortsPass d r → SignalsPass d r → DriversPass d r → Holds d r
+  holds-of w p s k at_design = w
+  holds-of w p s k (at_port i) = p i
+  holds-of w p s k (at_signal i) = s i
+  holds-of w p s k (at_driver i) = k i
 
-  pub driver-fault : PortsPass d r → SignalsPass d r → (o : Option ℕ) → IsFirstFailing (DriverPasses d r) d.drivers o
+  pub driver-fault : DesignPasses d r → PortsPass d r → SignalsPass d r → (o : Option ℕ) → IsFirstFailing (DriverPasses d r) d.drivers o
       → (res : Result (Unit {0}) SoundFault) → res ≡ fault_at (rule_number r) (length d.ports + length d.signals) o → IfErr res (IsFaultAt d r)
-  driver-fault p s None h res e = subst (λ x. IfErr x (IsFaultAt d r)) (sym e) tt
-  driver-fault p s (Some n) h res e =
+  driver-fault w p s None h res e = subst (λ x. IfErr x (IsFaultAt d r)) (sym e) tt
+  driver-fault w p s (Some n) h res e =
       let earlier : (q : Place) → item d q < length d.ports + length d.signals + n + 1 → PassesAt d r q = λ q. elim q as (λ x. item d x < length d.ports + length d.signals + n + 1 → PassesAt d r x) [
+        | at_design ↦ λ l. w
         | at_port i ↦ λ l. p i
         | at_signal i ↦ λ l. s i
         | at_driver i ↦ λ l. h.0 i (omega (arith, l))
       ] in
       subst (λ x. IfErr x (IsFaultAt d r)) (sym e) (refl, record { earlier = earlier; fails = (at_driver n, refl, h.2) })
 
-  pub signal-fault : PortsPass d r → (o : Option ℕ) → IsFirstFailing (SignalPasses d r) d.signals o
+  pub signal-fault : DesignPasses d r → PortsPass d r → (o : Option ℕ) → IsFirstFailing (SignalPasses d r) d.signals o
       → (res : Result (Unit {0}) SoundFault) → res ≡ fault_at (rule_number r) (length d.ports) o → IfErr res (IsFaultAt d r)
-  signal-fault p None h res e = subst (λ x. IfErr x (IsFaultAt d r)) (sym e) tt
-  signal-fault p (Some n) h res e =
+  signal-fault w p None h res e = subst (λ x. IfErr x (IsFaultAt d r)) (sym e) tt
+  signal-fault w p (Some n) h res e =
       let earlier : (q : Place) → item d q < length d.ports + n + 1 → PassesAt d r q = λ q. elim q as (λ x. item d x < length d.ports + n + 1 → PassesAt d r x) [
+        | at_design ↦ λ l. w
         | at_port i ↦ λ l. p i
         | at_signal i ↦ λ l. h.0 i (omega (arith, l))
         | at_driver i ↦ λ l. absurd (omega (arith, l, h.1))
       ] in
       subst (λ x. IfErr x (IsFaultAt d r)) (sym e) (refl, record { earlier = earlier; fails = (at_signal n, refl, h.2) })
 
-  pub port-fault : (o : Option ℕ) → IsFirstFailing (PortPasses d r) d.ports o
+  pub port-fault : DesignPasses d r → (o : Option ℕ) → IsFirstFailing (PortPasses d r) d.ports o
       → (res : Result (Unit {0}) SoundFault) → res ≡ fault_at (rule_number r) 0 o → IfErr res (IsFaultAt d r)
-  port-fault None h res e = subst (λ x. IfErr x (IsFaultAt d r)) (sym e) tt
-  port-fault (Some n) h res e =
+  port-fault w None h res e = subst (λ x. IfErr x (IsFaultAt d r)) (sym e) tt
+  port-fault w (Some n) h res e =
       let earlier : (q : Place) → item d q < 0 + n + 1 → PassesAt d r q = λ q. elim q as (λ x. item d x < 0 + n + 1 → PassesAt d r x) [
+        | at_design ↦ λ l. w
         | at_port i ↦ λ l. h.0 i (omega (arith, l))
         | at_signal i ↦ λ l. absurd (omega (arith, l, h.1))
         | at_driver i ↦ λ l. absurd (omega (arith, l, h.1))

@@ -5,6 +5,7 @@ pub mod Value
 pub mod Width
 pub mod Reads
 pub mod Run
+pub mod Enabled
 pub mod Sound
 pub mod Rules
 pub mod Order

@@ -1,8 +1,8 @@
 -- Orders in which the drivers of a design give their words of a cycle.
 use Rattle.std.specs.Prelude.{ℕ, ◌+◌, ◌^◌, ◌≡◌, ◌<◌, if◌then◌else◌, Bool, true, false, List, [], ◌∷◌, length, slice_get, Some}
 use Rattle.std.specs.List.Sorted.{IsPermutation}
-use Rattle.opgen_cycles.specs.declared.Component.{Component}
-use Rattle.opgen_cycles.specs.Graph.{component_of}
+use Rattle.opgen_components.specs.declared.Component.{Component}
+use Rattle.opgen_components.specs.Graph.{component_of}
 use Rattle.opgen_design.specs.declared.design.Design.{Design}
 use Rattle.opgen_design.specs.declared.design.Driver.{Driver}
 use Rattle.opgen_design.specs.declared.design.Driver.TheVariants.{Register}

@@ -5,8 +5,8 @@ use Rattle.opgen_design.specs.declared.design.Driver.{Driver}
 use Rattle.opgen_design.specs.declared.design.Driver.TheVariants.{Register}
 use Rattle.opgen_design.specs.declared.sound.SoundFault.{SoundFault}
 use Rattle.opgen_design.specs.declared.sound.SoundFault.TheVariants.{Unsound, Memory}
-use Rattle.opgen_cycles.specs.declared.Component.{Component}
-use Rattle.opgen_cycles.specs.Graph.{component_of}
+use Rattle.opgen_components.specs.declared.Component.{Component}
+use Rattle.opgen_components.specs.Graph.{component_of}
 use Rattle.opgen_design.specs.Reads.{driver_names}
 use Rattle.opgen_design.specs.Sound.{Rule, rule_number, Target, signal, port_of, target, Place, item, Needs, DependsOn, PassesAt, PortPasses, SignalPasses, DriverPasses}
 

@@ -1,5 +1,5 @@
 -- One cycle of a design, and its runs: the equations of IEEE 1076-1993 for a settled cycle on the bits 0 and 1.
-use Rattle.std.specs.Prelude.{ℕ, ◌≡◌, Bool, true, false, if◌then◌else◌, List, [], ◌∷◌, length, map, All, unwrap_or}
+use Rattle.std.specs.Prelude.{ℕ, ◌≡◌, Option, Some, None, Bool, true, false, if◌then◌else◌, List, [], ◌∷◌, length, map, All, unwrap_or}
 use Rattle.opgen_design.specs.declared.design.Design.{Design}
 use Rattle.opgen_design.specs.declared.design.Dir.{Dir}
 use Rattle.opgen_design.specs.declared.design.Dir.TheVariants.{In, Out}
@@ -36,20 +36,25 @@ pub record IsTableWord (rows : List (List Bool × List Bool)) (other address wor
   pub of_row : All (λ r. r.0 ≡ address → word ≡ r.1) rows
   pub of_none : All (λ r. r.0 ≡ address → ⊥) rows → word ≡ other
 
+-- what a register holds next: the new word where there is no enable or the enable's word is 1, and else the word that it holds
+abbrev pub moved : (enable : Option ℕ) → Words → (new held : List Bool) → List Bool
+moved None v new held = new
+moved (Some port) v new held = chosen (word_at v.ports port) new held
+
 -- what a driver says of a cycle: of its words, and of the words of the registers now and next
-abbrev pub Meets : (now : List (List Bool)) → Words → (next : List (List Bool)) → Driver → Type 0
-Meets now v next (Assign to e) = word_at v.signals to ≡ value (scope v) e
-Meets now v next (Choice to on one other) = word_at v.signals to ≡ chosen (value (scope v) on) (value (scope v) one) (value (scope v) other)
-Meets now v next (Table to on rows other) = IsTableWord rows other (value (scope v) on) (word_at v.signals to)
-Meets now v next (Register to e) = (word_at v.signals to ≡ word_at now to) × (word_at next to ≡ value (scope v) e)
-Meets now v next (Output port e) = word_at v.ports port ≡ value (scope v) e
+abbrev pub Meets : (enable : Option ℕ) → (now : List (List Bool)) → Words → (next : List (List Bool)) → Driver → Type 0
+Meets enable now v next (Assign to e) = word_at v.signals to ≡ value (scope v) e
+Meets enable now v next (Choice to on one other) = word_at v.signals to ≡ chosen (value (scope v) on) (value (scope v) one) (value (scope v) other)
+Meets enable now v next (Table to on rows other) = IsTableWord rows other (value (scope v) on) (word_at v.signals to)
+Meets enable now v next (Register to e) = (word_at v.signals to ≡ word_at now to) × (word_at next to ≡ moved enable v (value (scope v) e) (word_at now to))
+Meets enable now v next (Output port e) = word_at v.ports port ≡ value (scope v) e
 
 -- a cycle: each signal and port has a word of its width, the input ports have the words given, and each driver's equation holds
 pub record Cycle (d : Design) (now given : List (List Bool)) (v : Words) (next : List (List Bool)) : Type 0 where
   pub signal_widths : map length v.signals ≡ map (λ s. s.width) d.signals
   pub port_widths : map length v.ports ≡ map (λ p. p.width) d.ports
   pub inputs : at_ports is_in d.ports v.ports ≡ given
-  pub equations : All (Meets now v next) d.drivers
+  pub equations : All (Meets d.enable now v next) d.drivers
 
 -- cycles in order, each register's word in one what the cycle before handed on
 abbrev pub RunsOn : Design → (now : List (List Bool)) → (inputs : List (List (List Bool))) → List Words → Type 0

@@ -1,4 +1,4 @@
--- Sound designs: nine rules, and the first place at which a rule fails.
+-- Sound designs: ten rules, and the first place at which a rule fails.
 use Rattle.std.specs.Prelude.{ℕ, ◌+◌, ◌^◌, ◌≡◌, ◌≢◌, ◌<◌, ◌⊎◌, Bool, List, [], ◌++◌, length, map, codes, All, Contains, Some, IfSome, IsSome, slice_get, slice_index, slice_index_or}
 use Rattle.opgen_design.specs.declared.design.Design.{Design}
 use Rattle.opgen_design.specs.declared.design.Dir.TheVariants.{In, Out}
@@ -14,7 +14,7 @@ use Rattle.opgen_design.specs.Reads.{AllReads, ReadsName}
 
 -- the rules, in the order in which they are tried
 pub data Rule : Type 0 where
-  Undeclared DeclaredTwice Width DrivenTwice NotDriven Cyclic ReadsOutput NoInitial ChoiceTwice : Rule
+  Undeclared DeclaredTwice Width DrivenTwice NotDriven Cyclic ReadsOutput NoInitial ChoiceTwice BadEnable : Rule
 
 abbrev pub rule_number : Rule → ℕ
 rule_number Undeclared = 1
@@ -26,6 +26,7 @@ rule_number Cyclic = 6
 rule_number ReadsOutput = 7
 rule_number NoInitial = 8
 rule_number ChoiceTwice = 9
+rule_number BadEnable = 10
 
 -- what a driver drives
 pub data Target : Type 0 where
@@ -54,7 +55,7 @@ Needs r (Table to on rows other) = ReadsName r on
 Needs r (Register to e) = ⊥
 Needs r (Output place e) = ReadsName r e
 
--- rule 1: each number in a driver names a signal or a port
+-- rule 1: each number in a driver names a signal or a port, and the enable names a port
 abbrev pub Names : Design → Target → Type 0
 Names d (signal s) = s < length d.signals
 Names d (port_of p) = p < length d.ports
@@ -62,6 +63,9 @@ Names d (port_of p) = p < length d.ports
 pub record IsDeclared (d : Design) (k : Driver) : Type 0 where
   pub target : Names d (target k)
   pub reads : DriverReads (λ s. s < length d.signals) (λ p. p < length d.ports) k
+
+abbrev pub IsEnableDeclared : Design → Type 0
+IsEnableDeclared d = IfSome d.enable (λ p. p < length d.ports)
 
 -- rule 2: a name is not `clk`, and stands nowhere before
 abbrev pub names_of : Design → List (List ℕ)
@@ -140,12 +144,18 @@ AddressesDiffer (Table to on rows other) =
     (i j : ℕ) (r q : List Bool × List Bool) → i < j → slice_get rows i ≡ Some r → slice_get rows j ≡ Some q → r.0 ≢ q.0
 AddressesDiffer _ = Unit {0}
 
--- a place where a rule may fail, by its number in the list of its kind
+-- rule 10: the enable is an input port of one bit
+abbrev pub IsFitForEnable : Design → ℕ → Port → Type 0
+IsFitForEnable d i p = d.enable ≡ Some i → (p.dir ≡ In) × (p.width ≡ 1)
+
+-- a place where a rule may fail: the design as a whole, or a port, signal or driver by its number in its list
 pub data Place : Type 0 where
+  at_design : Place
   at_port at_signal at_driver : ℕ → Place
 
--- the number of a place, from 1: ports, then signals, then drivers
+-- the number of a place: 0 of the whole, and from 1 on ports, then signals, then drivers
 abbrev pub item : Design → Place → ℕ
+item d at_design = 0
 item d (at_port i) = i + 1
 item d (at_signal i) = length d.ports + i + 1
 item d (at_driver i) = length d.ports + length d.signals + i + 1
@@ -154,10 +164,15 @@ item d (at_driver i) = length d.ports + length d.signals + i + 1
 abbrev pub HasNumbers : Design → Type 0
 HasNumbers d = length d.ports + length d.signals + length d.drivers < 2 ^ 32
 
+abbrev pub DesignPasses : Design → Rule → Type 0
+DesignPasses d Undeclared = IsEnableDeclared d
+DesignPasses d _ = Unit {0}
+
 abbrev pub PortPasses : Design → Rule → ℕ → Port → Type 0
 PortPasses d DeclaredTwice i p = IsNewName (names_of d) i
 PortPasses d Width i p = IsWidth p.width
 PortPasses d NotDriven i p = p.dir ≡ Out → IsDriven d (port_of i)
+PortPasses d BadEnable i p = IsFitForEnable d i p
 PortPasses d _ i p = Unit {0}
 
 abbrev pub SignalPasses : Design → Rule → ℕ → Signal → Type 0
@@ -178,6 +193,7 @@ DriverPasses d _ i k = Unit {0}
 
 -- a rule does not fail at a place
 abbrev pub PassesAt : Design → Rule → Place → Type 0
+PassesAt d rule at_design = DesignPasses d rule
 PassesAt d rule (at_port i) = IfSome (slice_get d.ports i) (PortPasses d rule i)
 PassesAt d rule (at_signal i) = IfSome (slice_get d.signals i) (SignalPasses d rule i)
 PassesAt d rule (at_driver i) = IfSome (slice_get d.drivers i) (DriverPasses d rule i)
@@ -196,6 +212,7 @@ pub record IsSound (d : Design) : Type 0 where
   pub reads_inputs : Holds d ReadsOutput
   pub initials : Holds d NoInitial
   pub addresses : Holds d ChoiceTwice
+  pub enable : Holds d BadEnable
 
 -- the first rule that fails, and the number of the first place at which it does
 pub record IsFirstUnsound (d : Design) (rule : Rule) (number : ℕ) : Type 0 where

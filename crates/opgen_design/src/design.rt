@@ -60,4 +60,7 @@ pub struct Design {
     pub ports: Items<Port>,
     pub signals: Items<Signal>,
     pub drivers: Items<Driver>,
+    /// The place of the port that lets the registers move: in a cycle in which its word is not 1 they hold. Without it they
+    /// move in every cycle.
+    pub enable: Option<usize>,
 }

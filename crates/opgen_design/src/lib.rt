@@ -5,6 +5,7 @@ mod copy;
 mod design;
 mod expr;
 mod formula;
+pub mod laws;
 pub mod names;
 mod order;
 mod reads;

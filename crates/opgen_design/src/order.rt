@@ -1,11 +1,11 @@
 ghost use Rattle.std.specs.Prelude.{◌≡◌, ◌++◌, ◌<◌, ◌^◌, [], ◌∷◌, if◌then◌else◌, IfOk, OnOk, length, slice_index};
-ghost use Rattle.opgen_cycles.specs.Graph.{component_of};
+ghost use Rattle.opgen_components.specs.Graph.{component_of};
 ghost use Rattle.opgen_design.specs.Order.{is_register, AreRanks, IsOrderOf, IsSmallAt, rank_at, waiting};
 ghost use Rattle.opgen_design.specs.Rules.{AreGroups};
 ghost use Rattle.opgen_design.specs.Sound.{Undeclared, Holds, HasNumbers, IsSound, Names, target};
 
 use crate::{Design, Driver};
-use opgen_cycles::Component;
+use opgen_components::Component;
 use opgen_num::Memory;
 use std::alloc::{AllocError, Global};
 

@@ -1,13 +1,14 @@
 ghost use Rattle.std.specs.Prelude.{◌≡◌, ◌≢◌, ◌+◌, ◌<◌, ℕ, Some, None, All, IfOk, IfSome, IsSome, IsTrue, ◌↔◌, length, slice_get, slice_index_or, []};
 ghost use Rattle.std.specs.List.{AllPairs};
-ghost use Rattle.opgen_cycles.specs.Graph.{graph_of};
+ghost use Rattle.opgen_components.specs.Graph.{graph_of};
 ghost use Rattle.opgen_design.specs.Rules.{IsFirstFailing, AreFirstDrivers, AreNeeds, AreGroups, DifferentAddresses, IsDrivenAt, IsRegisterAt, needs_at};
-ghost use Rattle.opgen_design.specs.Sound.{Undeclared, Width, DrivenTwice, NotDriven, Cyclic, ReadsOutput, NoInitial, ChoiceTwice, Holds, HasNumbers, IsDeclared, IsNewName, IsSignalWide, IsOnlyDriver, IsDriven, IsOffCycles, IsOrdered, ReadsInputs, HasInitial, AddressesDiffer, Names, WidthsAgree, PortPasses, SignalPasses, DriverPasses, names_of, signal, port_of, target};
+ghost use Rattle.opgen_design.specs.Sound.{Undeclared, Width, DrivenTwice, NotDriven, Cyclic, ReadsOutput, NoInitial, ChoiceTwice, BadEnable, Holds, HasNumbers, IsDeclared, IsNewName, IsSignalWide, IsOnlyDriver, IsDriven, IsOffCycles, IsOrdered, ReadsInputs, HasInitial, AddressesDiffer, Names, WidthsAgree, PortPasses, SignalPasses, DriverPasses, names_of, signal, port_of, target};
 ghost use Rattle.opgen_design.specs.Width.{IsWidth};
+ghost use Rattle.opgen_design.specs.declared.design.Dir.TheVariants.{In};
 
 use crate::reads::Uses;
 use crate::{Design, Dir, Driver, Port, Signal};
-use opgen_cycles::{Component, components};
+use opgen_components::{Component, components};
 use opgen_num::{MAX_WIDTH, Word};
 use std::alloc::{AllocError, Global};
 use std::collections::HashSet;
@@ -65,6 +66,14 @@ impl Signal {
             Some(word) => is_width(self.width) && word.width() == self.width,
             None => is_width(self.width),
         }
+    }
+}
+
+impl Port {
+    fn is_for_enable(&self) -> bool
+        ensures { IsTrue result ↔ ((self.now.dir ≡ In) × (self.now.width ≡ 1)) }
+    {
+        matches!(self.dir, Dir::In) && self.width == 1
     }
 }
 
@@ -453,6 +462,16 @@ impl Design {
             }
         }
         Ok(None)
+    }
+
+    pub(crate) fn bad_enable(&self) -> Option<usize>
+        requires { Holds self.now Undeclared }
+        ensures { IsFirstFailing (PortPasses self.now BadEnable) self.now.ports result }
+    {
+        match self.enable {
+            Some(port) if !self.ports.get(port).is_for_enable() => Some(port),
+            _ => None,
+        }
     }
 }
 

@@ -1,6 +1,6 @@
 ghost use Rattle.std.specs.Prelude.{◌≡◌, ◌+◌, ◌<◌, ◌^◌, ℕ, Some, OnOk, IfErr, length};
 ghost use Rattle.opgen_design.specs.Rules.{AreFirstDrivers, IsFaultAt, PortsPass, SignalsPass, DriversPass, fault_at};
-ghost use Rattle.opgen_design.specs.Sound.{Undeclared, DeclaredTwice, Width, DrivenTwice, NotDriven, Cyclic, ReadsOutput, NoInitial, ChoiceTwice, Holds, HasNumbers, IsOrdered, IsSound, IsFaultOf};
+ghost use Rattle.opgen_design.specs.Sound.{Undeclared, DeclaredTwice, Width, DrivenTwice, NotDriven, Cyclic, ReadsOutput, NoInitial, ChoiceTwice, BadEnable, DesignPasses, Holds, HasNumbers, IsOrdered, IsSound, IsFaultOf};
 
 use crate::Design;
 use std::alloc::{AllocError, Global};
@@ -9,7 +9,8 @@ use thiserror::Error;
 /// Why a design is not sound.
 #[derive(Clone, Copy, Debug, PartialEq, Eq, Error)]
 pub enum SoundFault {
-    /// The first rule that fails, from 1, and the first place at which it does, from 1 in ports, then signals, then drivers.
+    /// The first rule that fails, from 1, and the first place at which it does, from 1 in ports, then signals, then drivers. An
+    /// enable that names no port is the place 0.
     #[error("rule {rule} fails at item {item}")]
     Unsound { rule: u8, item: u32 },
     #[error("out of memory")]
@@ -42,10 +43,10 @@ fn failing(rule: u8, before: usize, place: Option<usize>) -> Result<(), SoundFau
 }
 
 impl Design {
-    /// Whether nine rules hold: 1 each number in a driver names a signal or a port, 2 names differ and none is `clk`, 3 widths agree,
+    /// Whether ten rules hold: 1 each number in a driver names a signal or a port, and the enable a port, 2 names differ and none is `clk`, 3 widths agree,
     /// 4 nothing has two drivers and no input port has one, 5 each signal and output port has one, 6 no signal depends on itself
     /// without a register between, 7 output ports are not read, 8 signals of registers have an initial value, 9 no table has an
-    /// address twice.
+    /// address twice, 10 the enable is an input port of one bit.
     ///
     /// Time and memory go with the size of the design.
     ///
@@ -66,7 +67,8 @@ impl Design {
         self.check_ordered(alloc, &firsts)?;
         self.check_inputs(alloc)?;
         self.check_initials(&firsts)?;
-        self.check_addresses(alloc)
+        self.check_addresses(alloc)?;
+        self.check_enable()
     }
 
     // How many places come before the drivers.
@@ -77,12 +79,34 @@ impl Design {
         self.ports.len() + self.signals.len()
     }
 
+    fn check_enable_declared(&self) -> Result<(), SoundFault>
+        ensures holds { OnOk result (DesignPasses self.now Undeclared) }
+        ensures fault { IfErr result (IsFaultAt self.now Undeclared) }
+    {
+        match self.enable {
+            Some(port) if port >= self.ports.len() => {
+                Err(SoundFault::Unsound { rule: 1, item: 0 })
+            }
+            _ => Ok(()),
+        }
+    }
+
+    fn check_driver_names(&self, alloc: Global) -> Result<(), SoundFault>
+        requires numbers { HasNumbers self.now }
+        requires enable { DesignPasses self.now Undeclared }
+        ensures holds { OnOk result (Holds self.now Undeclared) }
+        ensures fault { IfErr result (IsFaultAt self.now Undeclared) }
+    {
+        failing(1, self.before_drivers(), self.undeclared(alloc)?)
+    }
+
     fn check_declared(&self, alloc: Global) -> Result<(), SoundFault>
         requires { HasNumbers self.now }
         ensures holds { OnOk result (Holds self.now Undeclared) }
         ensures fault { IfErr result (IsFaultAt self.now Undeclared) }
     {
-        failing(1, self.before_drivers(), self.undeclared(alloc)?)
+        self.check_enable_declared()?;
+        self.check_driver_names(alloc)
     }
 
     fn check_names(&self, alloc: Global) -> Result<(), SoundFault>
@@ -214,6 +238,15 @@ impl Design {
     {
         failing(9, self.before_drivers(), self.choice_twice(alloc)?)
     }
+
+    fn check_enable(&self) -> Result<(), SoundFault>
+        requires numbers { HasNumbers self.now }
+        requires declared { Holds self.now Undeclared }
+        ensures holds { OnOk result (Holds self.now BadEnable) }
+        ensures fault { IfErr result (IsFaultAt self.now BadEnable) }
+    {
+        failing(10, 0, self.bad_enable())
+    }
 }
 
 #[cfg(test)]
@@ -278,6 +311,7 @@ mod tests {
             ports: Items::new(alloc),
             signals: Items::new(alloc),
             drivers: Items::new(alloc),
+            enable: None,
         };
         design.ports.push(port(alloc, "x", Dir::In, 4)?)?;
         design.ports.push(port(alloc, "y", Dir::Out, 4)?)?;
@@ -423,6 +457,24 @@ mod tests {
         let alloc = rt.alloc();
         assert_eq!(rt; verdict(alloc, &chain(alloc, 0)?), (0, 0));
         assert_eq!(rt; verdict(alloc, &chain(alloc, 40003)?), (6, 105546));
+        Ok(())
+    }
+
+    // The verdict on the sound design whose registers move where the word of a port is 1: x and y of four bits, z of one.
+    fn enabled(alloc: Global, enable: usize) -> Result<(u8, u32), AllocError> {
+        let mut design = driven(alloc)?;
+        design.ports.push(port(alloc, "z", Dir::In, 1)?)?;
+        design.enable = Some(enable);
+        Ok(verdict(alloc, &design))
+    }
+
+    #[test]
+    fn enables(rt: HostRuntime) -> Result<(), Fail> {
+        let alloc = rt.alloc();
+        assert_eq!(rt; enabled(alloc, 0)?, (10, 1));
+        assert_eq!(rt; enabled(alloc, 1)?, (10, 2));
+        assert_eq!(rt; enabled(alloc, 2)?, (0, 0));
+        assert_eq!(rt; enabled(alloc, 3)?, (1, 0));
         Ok(())
     }
 

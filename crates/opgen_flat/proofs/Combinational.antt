@@ -85,11 +85,11 @@ plain_drivers net h =
 pub made : (called : List ℕ) (net : Net) → HasNoDelay net → (ws : List ℕ) (name : List ℕ) (ports : List Port) (signals : List Signal) (drivers : List Driver) → ws ≡ widths net.nodes
     → name ≡ called → ports ≡ map input_port net.inputs ++ map output_port net.outputs → signals ≡ each_node (node_signal net) 0 net.nodes
     → drivers ≡ each_node (node_driver ws) 0 net.nodes ++ output_drivers ws (length net.inputs) net.outputs
-    → ◌≡◌ {A = Design} record { name = name; ports = ports; signals = signals; drivers = drivers } (design_of called net)
+    → ◌≡◌ {A = Design} record { name = name; ports = ports; signals = signals; drivers = drivers; enable = None } (design_of called net)
 made called net h ws name ports signals drivers e n p s d =
     let all : drivers ≡ drivers_of net =
     d ∙ ap (λ v. each_node (node_driver v) 0 net.nodes ++ output_drivers v (length net.inputs) net.outputs) e ∙ sym (plain_drivers net h) in
-    let design : List ℕ → List Port → List Signal → List Driver → Design = λ a b f g. record { name = a; ports = b; signals = f; drivers = g } in
+    let design : List ℕ → List Port → List Signal → List Driver → Design = λ a b f g. record { name = a; ports = b; signals = f; drivers = g; enable = None } in
     ap (λ a. design a ports signals drivers) n
     ∙ ap (λ b. design called b signals drivers) p
     ∙ ap (λ f. design called (map input_port net.inputs ++ map output_port net.outputs) f drivers) s

@@ -1,5 +1,5 @@
 -- The words of a run are those of the net's flow.
-use Rattle.std.proofs.Common.{◌≡◌, ℕ, zero, suc, ◌+◌, ◌<◌, Bool, List, [], ◌∷◌, ◌++◌, length, map, get_or, drop, Some, sym, ap, ◌∙◌, subst, arith}
+use Rattle.std.proofs.Common.{◌≡◌, ℕ, zero, suc, ◌+◌, ◌<◌, Bool, List, [], ◌∷◌, ◌++◌, length, map, get_or, drop, Some, None, sym, ap, ◌∙◌, subst, arith}
 use Rattle.std.specs.Prelude.{pos, negsuc, option_map, unwrap_or, slice_get, slice_index}
 use Rattle.std.proofs.lemmas.List.{length-map, length-append, length-drop, ext_get_or, get_or-drop}
 use Rattle.std.proofs.lemmas.List.Elements.{All-contains}
@@ -41,12 +41,12 @@ module _ (called : List ℕ) (net : Net) (valid : IsValid net) (inputs : Inputs)
       omega (arith, slice_get_within (valid_net.input_widths net) port w (input-width net valid j port w h), length-map net.inputs (λ i. i.1)) in
       sym (get-inputs net.outputs net.inputs v.ports port [] there) ∙ ap (λ ws. word_at ws port) c.inputs ∙ sym (taken port w)
 
-  meets : (i : ℕ) (n : Node) → slice_get net.nodes i ≡ Some n → Meets now v next (node_driver (widths net.nodes) i n)
-  meets i n h = All-contains (Meets now v next) (drivers_of net) (node_driver (widths net.nodes) i n) c.equations (has_node_driver net i n h)
+  meets : (i : ℕ) (n : Node) → slice_get net.nodes i ≡ Some n → Meets None now v next (node_driver (widths net.nodes) i n)
+  meets i n h = All-contains (Meets None now v next) (drivers_of net) (node_driver (widths net.nodes) i n) c.equations (has_node_driver net i n h)
 
   -- a node whose operands have their words has its own
   at_node : (i : ℕ) (n : Node) → slice_get net.nodes i ≡ Some n → ((j : ℕ) → j < i → word_at v.signals j ≡ flows j)
-      → Meets now v next (node_driver (widths net.nodes) i n) → word_at v.signals i ≡ flows i
+      → Meets None now v next (node_driver (widths net.nodes) i n) → word_at v.signals i ≡ flows i
   at_node i (Input port w) h ih m = m ∙ port_word i port w h ∙ sym (flow_equation net.nodes valid.nodes inputs i (Input port w) (pos t) h)
   at_node i (Constant w) h ih m = m ∙ sym (flow_equation net.nodes valid.nodes inputs i (Constant w) (pos t) h)
   at_node i (Cells class w e) h ih m = m ∙ cells_value net valid inputs t v wide i ih class w e h
@@ -71,7 +71,7 @@ module _ (called : List ℕ) (net : Net) (valid : IsValid net) (inputs : Inputs)
       → word_at v.ports (length net.inputs + j) ≡ slice_flow net.nodes inputs o.from (pos t)
   output_word j o h =
       let driver = output_driver (widths net.nodes) (length net.inputs + j) o in
-      let m = All-contains (Meets now v next) (drivers_of net) driver c.equations (has_output_driver net j o h) in
+      let m = All-contains (Meets None now v next) (drivers_of net) driver c.equations (has_output_driver net j o h) in
       m ∙ output_value net valid inputs t v wide j o h signal_word
 
   pub output_words : outputs_of (design_of called net) v ≡ map (λ o. slice_flow net.nodes inputs o.from (pos t)) net.outputs

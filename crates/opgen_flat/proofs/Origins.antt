@@ -14,7 +14,7 @@ use Rattle.opgen_design.specs.declared.design.Signal.{Signal}
 use Rattle.opgen_design.specs.declared.design.Driver.{Driver}
 use Rattle.opgen_net.specs.Made.{node_signal, node_driver, each_node, output_driver, output_drivers, drivers_of, input_port, output_port}
 use Rattle.opgen_design.specs.Order.{is_register}
-use Rattle.opgen_design.specs.Sound.{Rule, at_port, at_signal, at_driver, PortPasses, SignalPasses, DriverPasses, Holds, signal, target}
+use Rattle.opgen_design.specs.Sound.{Rule, at_design, at_port, at_signal, at_driver, DesignPasses, PortPasses, SignalPasses, DriverPasses, Holds, signal, target}
 use Rattle.opgen_net.specs.Valid.{widths}
 use Rattle.opgen_flat.proofs.Parts.{length-each, get-each, get-outputs, node_there}
 
@@ -22,13 +22,14 @@ pub if_there : {X : Type 0} (o : Option X) (P : X → Type 0) → ((x : X) → o
 if_there None P h = tt
 if_there (Some x) P h = h x refl
 
--- a rule holds where it passes at each port, signal and driver
-pub holds : (d : Design) (rule : Rule) → ((i : ℕ) (p : Port) → slice_get d.ports i ≡ Some p → PortPasses d rule i p)
+-- a rule holds where it passes of the design as a whole and at each port, signal and driver
+pub holds : (d : Design) (rule : Rule) → DesignPasses d rule → ((i : ℕ) (p : Port) → slice_get d.ports i ≡ Some p → PortPasses d rule i p)
     → ((i : ℕ) (s : Signal) → slice_get d.signals i ≡ Some s → SignalPasses d rule i s)
     → ((i : ℕ) (k : Driver) → slice_get d.drivers i ≡ Some k → DriverPasses d rule i k) → Holds d rule
-holds d rule p s k (at_port i) = if_there (slice_get d.ports i) (PortPasses d rule i) (p i)
-holds d rule p s k (at_signal i) = if_there (slice_get d.signals i) (SignalPasses d rule i) (s i)
-holds d rule p s k (at_driver i) = if_there (slice_get d.drivers i) (DriverPasses d rule i) (k i)
+holds d rule w p s k at_design = w
+holds d rule w p s k (at_port i) = if_there (slice_get d.ports i) (PortPasses d rule i) (p i)
+holds d rule w p s k (at_signal i) = if_there (slice_get d.signals i) (SignalPasses d rule i) (s i)
+holds d rule w p s k (at_driver i) = if_there (slice_get d.drivers i) (DriverPasses d rule i) (k i)
 
 pub target-node : (ws : List ℕ) (i : ℕ) (n : Node) → target (node_driver ws i n) ≡ signal i
 target-node ws i (Input place w) = refl

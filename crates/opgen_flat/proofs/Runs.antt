@@ -1,5 +1,5 @@
 -- The words of a net's flow are a run of its design.
-use Rattle.std.proofs.Common.{inl, inr, ◌≤◌, ◌≡◌, ℕ, suc, ◌+◌, ◌<◌, Bool, List, [], ◌∷◌, ◌++◌, length, map, get_or, Some, refl, sym, ap, ◌∙◌, arith}
+use Rattle.std.proofs.Common.{inl, inr, ◌≤◌, ◌≡◌, ℕ, suc, ◌+◌, ◌<◌, Bool, List, [], ◌∷◌, ◌++◌, length, map, get_or, Some, None, refl, sym, ap, ◌∙◌, arith}
 use Rattle.std.specs.Prelude.{pos, option_map, slice_get, slice_index, All}
 use Rattle.std.proofs.lemmas.Bool.{cases_lt}
 use Rattle.std.proofs.lemmas.List.{length-map, get_or_append_left, get_or-append-add, get_or_past, map-append, ext_get_or}
@@ -96,7 +96,7 @@ module _ (called : List ℕ) (net : Net) (valid : IsValid net) (inputs : Inputs)
     before : (i : ℕ) → i < length net.nodes → (j : ℕ) → j < i → word_at (cycle_words net inputs t given).signals j ≡ flow net.nodes inputs j (pos t)
     before i l j m = word_of t j (omega (arith, l, m))
 
-    node_meets : (i : ℕ) (n : Node) → slice_get net.nodes i ≡ Some n → Meets now (cycle_words net inputs t given) next (node_driver (widths net.nodes) i n)
+    node_meets : (i : ℕ) (n : Node) → slice_get net.nodes i ≡ Some n → Meets None now (cycle_words net inputs t given) next (node_driver (widths net.nodes) i n)
     node_meets i (Input port w) h =
         let there : port < length given =
         omega (arith, slice_get_within (valid_net.input_widths net) port w (input-width net valid i port w h), length-map net.inputs (λ i. i.1), given_count) in
@@ -126,7 +126,7 @@ module _ (called : List ℕ) (net : Net) (valid : IsValid net) (inputs : Inputs)
         )
 
     output_meets : (j : ℕ) (o : net_output.Output) → slice_get net.outputs j ≡ Some o
-        → Meets now (cycle_words net inputs t given) next (output_driver (widths net.nodes) (length net.inputs + j) o)
+        → Meets None now (cycle_words net inputs t given) next (output_driver (widths net.nodes) (length net.inputs + j) o)
     output_meets j o h =
         let f : net_output.Output → List Bool = λ o. slice_flow net.nodes inputs o.from (pos t) in
         let e : length net.inputs + j ≡ length given + j = ap (λ k. k + j) (sym given_count) in
@@ -149,7 +149,7 @@ module _ (called : List ℕ) (net : Net) (valid : IsValid net) (inputs : Inputs)
           ∙ sym (map-append (λ p. p.width) (map input_port net.inputs) (map output_port net.outputs));
       inputs = words_of_inputs net.inputs net.outputs given (output_words net inputs t) given_count;
       equations = λ k d l.
-          by_driver net (Meets now (cycle_words net inputs t given) next) node_meets output_meets (get_or (drivers_of net) k d) (Contains-get_or (drivers_of net) k d l);
+          by_driver net (Meets None now (cycle_words net inputs t given) next) node_meets output_meets (get_or (drivers_of net) k d) (Contains-get_or (drivers_of net) k d l);
     }
 
     pub held_next : (i of : ℕ) → slice_get net.nodes i ≡ Some (Delay of) → word_at next i ≡ flow net.nodes inputs i (pos (suc t))

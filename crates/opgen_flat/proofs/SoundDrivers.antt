@@ -20,7 +20,7 @@ use Rattle.opgen_net.specs.Valid as valid_net
 use Rattle.opgen_net.specs.Valid.{widths, LiesWithin, IsValid}
 use Rattle.opgen_net.specs.Made.{slice_tree, initial_of, node_signal, node_driver, each_node, output_driver, output_drivers, addressed, drivers_of, input_port, output_port, design_of}
 use Rattle.opgen_design.specs.Order.{is_register}
-use Rattle.opgen_design.specs.Sound.{Names, signal, port_of, target, DriverReads, Needs, IsDeclared, IsInput, IsDriven, IsOrdered, ReadsInputs, IsRegisterOf, HasInitial, AddressesDiffer, Undeclared, DrivenTwice, NotDriven, ReadsOutput, NoInitial, ChoiceTwice, Holds}
+use Rattle.opgen_design.specs.Sound.{Names, signal, port_of, target, DriverReads, Needs, IsDeclared, IsInput, IsDriven, IsOrdered, ReadsInputs, IsRegisterOf, HasInitial, AddressesDiffer, Undeclared, DrivenTwice, NotDriven, ReadsOutput, NoInitial, ChoiceTwice, BadEnable, Holds}
 use Rattle.opgen_design.proofs.WidthLaws.{width-reads}
 use Rattle.opgen_design.proofs.ReadLaws.{reads-weaker, holds_of_read}
 use Rattle.opgen_net.proofs.FlowLaws.{index_within, lies_within, length-widths, stands_at}
@@ -225,7 +225,7 @@ module _ (called : List ℕ) (net : Net) (valid : IsValid net) where
   }
 
   pub all_declared : Holds (design_of called net) Undeclared
-  all_declared = holds (design_of called net) Undeclared (λ i p h. tt) (λ i s h. tt) (by_place (IsDeclared (design_of called net)) declared_node declared_output)
+  all_declared = holds (design_of called net) Undeclared tt (λ i p h. tt) (λ i s h. tt) (by_place (IsDeclared (design_of called net)) declared_node declared_output)
 
   -- rule 4
   output_at : (j : ℕ) (o : net_output.Output) → slice_get net.outputs j ≡ Some o → slice_get (design_of called net).ports (length net.inputs + j) ≡ Some (output_port o)
@@ -250,7 +250,7 @@ module _ (called : List ℕ) (net : Net) (valid : IsValid net) where
 
   pub driven_once : Holds (design_of called net) DrivenTwice
   driven_once =
-      holds (design_of called net) DrivenTwice (λ i p h. tt) (λ i s h. tt) (
+      holds (design_of called net) DrivenTwice tt (λ i p h. tt) (λ i s h. tt) (
       λ i k h. record {
         not_before = λ j m l g. distinct_places (drivers_of net) (distinct net) j i m k l g h;
         no_input = no_input k (Contains-get (drivers_of net) i k h);
@@ -260,7 +260,7 @@ module _ (called : List ℕ) (net : Net) (valid : IsValid net) where
   -- rule 5
   pub all_driven : Holds (design_of called net) NotDriven
   all_driven =
-      holds (design_of called net) NotDriven
+      holds (design_of called net) NotDriven tt
       (
       by_port net (λ i p. p.dir ≡ Out → IsDriven (design_of called net) (port_of i)) (λ i x h e. absurd (cc))
       (λ j o h e. (output_driver (widths net.nodes) (length net.inputs + j) o, has_output_driver net j o h, refl))
@@ -294,7 +294,7 @@ module _ (called : List ℕ) (net : Net) (valid : IsValid net) where
 
   pub reads_inputs : Holds (design_of called net) ReadsOutput
   reads_inputs =
-      holds (design_of called net) ReadsOutput (λ i p h. tt) (λ i s h. tt) (
+      holds (design_of called net) ReadsOutput tt (λ i p h. tt) (λ i s h. tt) (
       by_place (ReadsInputs (design_of called net))
       (
       λ i n h.
@@ -319,7 +319,7 @@ module _ (called : List ℕ) (net : Net) (valid : IsValid net) where
 
   pub have_initials : Holds (design_of called net) NoInitial
   have_initials =
-      holds (design_of called net) NoInitial (λ i p h. tt)
+      holds (design_of called net) NoInitial tt (λ i p h. tt)
       (
       by_signal net (HasInitial (design_of called net)) (
       λ i n h k c.
@@ -350,4 +350,7 @@ module _ (called : List ℕ) (net : Net) (valid : IsValid net) where
 
   pub all_addresses_differ : Holds (design_of called net) ChoiceTwice
   all_addresses_differ =
-      holds (design_of called net) ChoiceTwice (λ i p h. tt) (λ i s h. tt) (by_place AddressesDiffer addresses_differ (λ j o h. tt))
+      holds (design_of called net) ChoiceTwice tt (λ i p h. tt) (λ i s h. tt) (by_place AddressesDiffer addresses_differ (λ j o h. tt))
+
+  pub fit_for_enable : Holds (design_of called net) BadEnable
+  fit_for_enable = holds (design_of called net) BadEnable tt (λ i p h e. absurd (cc)) (λ i s h. tt) (λ i k h. tt)

@@ -103,7 +103,7 @@ module _ (called : List ℕ) (net : Net) (named : IsNamed called net) (few : len
 
   pub declared_once : Holds (design_of called net) DeclaredTwice
   declared_once =
-      holds (design_of called net) DeclaredTwice
+      holds (design_of called net) DeclaredTwice tt
       (λ i p h. new_port i (omega (arith, slice_get_within (design_of called net).ports i p h, port_count)))
       (
       λ i s h.

@@ -165,7 +165,7 @@ module _ (called : List ℕ) (net : Net) (valid : IsValid net) where
 
   pub widths_agree : Holds (design_of called net) Width
   widths_agree =
-      holds (design_of called net) Width
+      holds (design_of called net) Width tt
       (by_port net (λ i p. IsWidth p.width) (λ i x h. input-is_width i x h) (λ j o h. slice-is_width (widths net.nodes) is_width o.from (lies j o h)))
       (by_signal net (λ i s. IsSignalWide s) signal_wide)
       (λ i k h. by_driver net (WidthsAgree (design_of called net)) node_agrees output_agrees k (Contains-get (design_of called net).drivers i k h))

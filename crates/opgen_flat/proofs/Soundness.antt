@@ -2,7 +2,7 @@
 use Rattle.opgen_flat.specs.Soundness.{DesignIsSound}
 use Rattle.opgen_flat.proofs.SoundNames.{declared_once}
 use Rattle.opgen_flat.proofs.SoundWidths.{widths_agree}
-use Rattle.opgen_flat.proofs.SoundDrivers.{all_declared, driven_once, all_driven, in_order, reads_inputs, have_initials, all_addresses_differ}
+use Rattle.opgen_flat.proofs.SoundDrivers.{all_declared, driven_once, all_driven, in_order, reads_inputs, have_initials, all_addresses_differ, fit_for_enable}
 
 pub design_sound : DesignIsSound
 design_sound called net valid named few = record {
@@ -15,4 +15,5 @@ design_sound called net valid named few = record {
   reads_inputs = reads_inputs called net valid;
   initials = have_initials called net valid;
   addresses = all_addresses_differ called net valid;
+  enable = fit_for_enable called net valid;
 }

@@ -39,5 +39,6 @@ pub fn flat(alloc: Global, net: &Net, name: &str) -> Result<Design, Memory>
         ports,
         signals,
         drivers,
+        enable: None,
     })
 }

@@ -12,7 +12,7 @@ const QUOTIENT: &str =
 
 fn drawn(alloc: Global, text: &str, seed: u64, cycles: u32) -> Result<Vec<u128>, Fail> {
     let spec = read_spec(alloc, text.as_bytes())?;
-    Ok(stimulus(alloc, &spec, seed, cycles)?.cells.into_vec())
+    Ok(stimulus(alloc, &spec, seed, cycles)?.cells)
 }
 
 #[test]

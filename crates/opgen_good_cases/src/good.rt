@@ -7,7 +7,7 @@ use opgen_spec::{Spec, is_cycle, is_history, read_spec};
 use std::alloc::Global;
 use std::test::Fail;
 
-type Case = (&'static [u128], &'static [u128], bool);
+pub(crate) type Case = (&'static [u128], &'static [u128], bool);
 
 /// Whether the outputs are good, where the words are those of the ports.
 fn judged(
@@ -30,7 +30,11 @@ fn judged(
 }
 
 /// The number of the first case that is judged otherwise, 0 where the document is no specification.
-fn first_misjudged(alloc: Global, document: &str, cases: &[Case]) -> Result<Option<usize>, Memory> {
+pub(crate) fn first_misjudged(
+    alloc: Global,
+    document: &str,
+    cases: &[Case],
+) -> Result<Option<usize>, Memory> {
     let Ok(spec) = read_spec(alloc, document.as_bytes()) else {
         return Ok(Some(0));
     };

@@ -5,3 +5,5 @@
 mod draws;
 #[cfg(test)]
 mod good;
+#[cfg(test)]
+mod wide;

@@ -2,3 +2,4 @@ mod Residues
 pub mod Bits
 pub mod Sums
 mod Columns
+pub mod Standing

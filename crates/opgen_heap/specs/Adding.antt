@@ -13,11 +13,11 @@ with_bit_at [] (suc k) b = [] ∷ with_bit_at [] k b
 with_bit_at (c ∷ cs) zero b = (c ++ b ∷ []) ∷ cs
 with_bit_at (c ∷ cs) (suc k) b = c ∷ with_bit_at cs k b
 
--- a bit more of weight 2 ^ weight, unless that is no weight of the heap
+-- a bit more in column `weight`, unless the heap is not so wide
 abbrev pub with_bit : Contents → WordBit → (weight : ℕ) → Contents
 with_bit heap b weight = if nat_lt weight heap.width then record heap { columns = with_bit_at heap.columns weight b } else heap
 
--- the lowest bits of a node, so many, from a weight up
+-- the lowest bits of a node, so many, from column `weight` up
 abbrev pub with_row : Contents → (node count weight : ℕ) → Contents
 with_row heap node zero weight = heap
 with_row heap node (suc k) weight = with_bit (with_row heap node k weight) (Of node k) (weight + k)

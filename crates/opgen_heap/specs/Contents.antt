@@ -2,7 +2,7 @@
 use Rattle.std.specs.Prelude.{ℕ, List}
 use Rattle.opgen_net.specs.declared.word_bits.WordBit.{WordBit}
 
--- the bits of weight 2 ^ i stand in column i, those of weight 1 first; a column past the end of the list holds no bit
+-- a bit in column i counts 2 ^ i, and column 0 comes first; a column past the end of the list holds no bit
 pub record Contents : Type 0 where
   pub width : ℕ
   pub constant : ℕ

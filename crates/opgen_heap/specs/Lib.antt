@@ -1,3 +1,4 @@
 pub mod Contents
 pub mod Sum
 pub mod Adding
+pub mod Standing

@@ -1,4 +1,5 @@
 ghost use Rattle.std.specs.Prelude.{◌≡◌, ℕ, ◌+◌, ◌*◌, ◌%◌, ◌^◌, ◌<◌, ◌≤◌, ℤ, pos, ◌+ℤ◌, Bool, List, [], ◌++◌, ◌-◌, length, take, replicate, OnOk, OnErr};
+ghost use Rattle.opgen_num.specs.declared.TheConstants.{MAX_WIDTH};
 ghost use Rattle.opgen_num.specs.Words.{digit, nat};
 ghost use Rattle.opgen_design.specs.Width.{IsWidth};
 ghost use Rattle.opgen_net.specs.declared.word_bits.WordBit.{WordBit};
@@ -12,7 +13,7 @@ use opgen_num::Memory;
 use std::alloc::{AllocError, Global};
 use std::marker::Model;
 
-/// A sum of weighted bits and a constant, modulo 2 to its width. Bits of the weight 2 to `i` stand in column `i`.
+/// A sum of bits and a constant, modulo 2 to its width. A bit in column `i` counts 2 to `i`.
 #[derive(Drop)]
 pub struct Heap {
     width: u32,
@@ -50,7 +51,7 @@ fn append_at(
     place: usize,
     bit: WordBit,
 ) -> Result<(), AllocError>
-    requires { place < 64 }
+    requires { place < MAX_WIDTH }
     ensures ok { OnOk result (columns.new.items ≡ with_bit_at columns.old.items place bit) }
     ensures err { OnErr result (take (length columns.old.items) columns.new.items ≡ columns.old.items) }
 {
@@ -61,7 +62,7 @@ fn append_at(
 
 // What is left of a whole number by a division by 2 to a width.
 fn modulo(value: i128, width: u32) -> u128
-    requires { width ≤ 64 }
+    requires { width ≤ MAX_WIDTH }
     ensures value { result ≡ residue value (2 ^ width) }
     ensures below { result < 2 ^ width }
 {
@@ -81,7 +82,7 @@ impl Heap {
         }
     }
 
-    /// Appends the bit `index` of a node to the column of a weight. A weight of the heap's width or more adds nothing.
+    /// Appends the bit `index` of a node to column `weight`. A column of the heap's width or more adds nothing.
     pub fn add_bit(&mut self, node: usize, index: u32, weight: u32) -> Result<(), Memory>
         ensures ok { OnOk result (self.new ≡ with_bit self.old (Of node index) weight) }
         ensures sum { OnOk result ((words : Words) → heap_sum words self.new ≡ (heap_sum words self.old + digit (bit_under words (Of node index)) * 2 ^ weight) % 2 ^ self.old.width) }
@@ -104,7 +105,7 @@ impl Heap {
         }
     }
 
-    /// Adds the bits 0 to `width - 1` of a node, bit 0 at a weight and each other one at twice the weight of the one before.
+    /// Adds the bits 0 to `width - 1` of a node, bit 0 to column `weight` and each other one to the next column.
     /// Where memory runs out, some of them may have been added.
     pub fn add_row(&mut self, node: usize, width: u32, weight: u32) -> Result<(), Memory>
         ensures ok { OnOk result (self.new ≡ with_row self.old node width weight) }
@@ -125,7 +126,7 @@ impl Heap {
         self.constant = (self.constant + modulo(value, self.width)) % (1 << self.width);
     }
 
-    /// The columns from weight 1 up. A column past their end holds no bit.
+    /// The columns from 0 up. A column past their end holds no bit.
     pub fn columns(&self) -> &[Items<WordBit>]
         ensures value { result.now ≡ self.now.columns }
         ensures few { length result.now ≤ self.now.width }

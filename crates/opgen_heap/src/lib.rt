@@ -1,6 +1,8 @@
-//! Bit heaps: sums of weighted bits, kept as columns of bits of one weight and a constant.
+//! Bit heaps: sums of bits in columns, and a constant.
 #![tactic(auto)]
 
 mod heap;
+mod laws;
 
 pub use heap::Heap;
+pub use laws::bits_still_stand;

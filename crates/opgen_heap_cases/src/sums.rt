@@ -2,7 +2,7 @@
 ghost use Rattle.std.specs.Prelude.{IfOk};
 ghost use Rattle.opgen_design.specs.Width.{IsWidth};
 ghost use Rattle.opgen_net.specs.Valid.{IsValid};
-ghost use Rattle.opgen_compress.specs.Kept.{AllThere};
+ghost use Rattle.opgen_heap.specs.Standing.{AllThere};
 
 use crate::evaluation::{Sized, lowest, words_of};
 use opgen_compress::compress;
@@ -21,7 +21,7 @@ struct Case {
     input_width: u32,
 }
 
-static CASES: [Case; 14] = [
+static CASES: [Case; 17] = [
     Case {
         width: 5,
         columns: &[],
@@ -106,6 +106,24 @@ static CASES: [Case; 14] = [
         constant: -5,
         input_width: 64,
     },
+    Case {
+        width: 95,
+        columns: &[1; 95],
+        constant: -1,
+        input_width: 95,
+    },
+    Case {
+        width: 96,
+        columns: &[3; 96],
+        constant: -5,
+        input_width: 96,
+    },
+    Case {
+        width: 96,
+        columns: &[0, 9, 2, 17, 1, 0, 5, 5],
+        constant: 1 << 95,
+        input_width: 48,
+    },
 ];
 
 /// One bit of the heap: that of an input's word, and its column.
@@ -133,7 +151,7 @@ fn places(alloc: Global, case: &Case) -> Result<Vec<Placed>, AllocError> {
     let mut placed = Vec::new(alloc);
     let mut node: usize = 0;
     let mut left = case.input_width;
-    for (weight, count) in (0..64).zip(case.columns) {
+    for (weight, count) in (0..96).zip(case.columns) {
         for _ in 0..*count {
             if left == 0 {
                 node = node.saturating_add(1);
@@ -201,7 +219,8 @@ fn drawn(alloc: Global, count: usize, width: u32, seed: u64) -> Result<Vec<u128>
         state = state
             .wrapping_mul(6364136223846793005)
             .wrapping_add(1442695040888963407);
-        words.push(lowest(u128::from(state.swap_bytes()), width))?;
+        let low = u128::from(state.swap_bytes());
+        words.push(lowest(u128::from(state) << 64 | low, width))?;
     }
     Ok(words)
 }
@@ -220,8 +239,8 @@ fn agrees(
 }
 
 fn case_holds(alloc: Global, case: &Case) -> Result<bool, Memory> {
-    let width = case.width.clamp(1, 64);
-    let input_width = case.input_width.clamp(1, 64);
+    let width = case.width.clamp(1, 96);
+    let input_width = case.input_width.clamp(1, 96);
     let placed = places(alloc, case)?;
     let mut net = inputs_of(alloc, &placed, input_width)?;
     let ports = net.inputs.len();

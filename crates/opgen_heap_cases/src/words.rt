@@ -74,10 +74,10 @@ fn runs_of_bits(rt: HostRuntime) -> Result<(), Fail> {
 }
 
 #[test]
-fn sixty_four_bits(rt: HostRuntime) -> Result<(), Fail> {
+fn ninety_six_bits(rt: HostRuntime) -> Result<(), Fail> {
     let mut net = Net::new(rt.alloc());
     let x = net.input("x", 4)?;
-    let word = net.word(&[WordBit::Of { node: x, index: 3 }; 64])?;
-    assert_eq!(rt; number(&net, word)?, 18_446_744_073_709_551_615);
+    let word = net.word(&[WordBit::Of { node: x, index: 3 }; 96])?;
+    assert_eq!(rt; number(&net, word)?, 79_228_162_514_264_337_593_543_950_335);
     Ok(())
 }

@@ -1,6 +1,6 @@
 -- Why a text has no list of tokens.
 use Rattle.std.specs.Prelude.{ℕ, List}
-use Rattle.opgen_text.specs.Tokens.{LexicalAt}
+use Rattle.opgen_vhdl.specs.Tokens.{LexicalAt}
 use Rattle.opgen_lex.specs.declared.LexFault.{LexFault}
 use Rattle.opgen_lex.specs.declared.LexFault.TheVariants.{Lexical, Memory}
 

@@ -3,16 +3,15 @@
 ghost use Rattle.std.specs.Prelude.{◌≡◌, ◌==◌, ◌≤◌, length, drop};
 ghost use Rattle.std.specs.Char.{is_ascii_digit};
 ghost use Rattle.std.specs.List.{prefix_len};
-ghost use Rattle.opgen_text.specs.Bytes.{is_white, is_word_byte, is_bit, is_in_line, has_single_underscores, begins};
-ghost use Rattle.opgen_text.specs.Fronts.{front_of, word_front, number_front, bits_front, char_front, hyphen_front, mark_front, FrontStands};
+ghost use Rattle.opgen_vhdl.specs.Bytes.{is_white, is_word_byte, is_bit, is_in_line, has_single_underscores, begins};
+ghost use Rattle.opgen_vhdl.specs.Fronts.{front_of, word_front, number_front, bits_front, char_front, hyphen_front, mark_front, FrontStands};
 
-use opgen_text::{Front, TokenKind};
+use opgen_num::MAX_WIDTH;
+use opgen_vhdl::{Front, TokenKind};
 
 const MAX_WORD_LEN: usize = 64;
 
 const MAX_DIGITS: usize = 9;
-
-const MAX_BITS: usize = 64;
 
 fn is_white(byte: u8) -> bool
     ensures { result ≡ is_white byte }
@@ -118,7 +117,7 @@ fn bits_front(bytes: &[u8]) -> Option<Front>
     ensures { result ≡ bits_front bytes.now }
 {
     let len = bits_len(bytes);
-    if 1 <= len && len <= MAX_BITS && begins_with(&bytes[len..], b'"') {
+    if 1 <= len && len <= MAX_WIDTH as usize && begins_with(&bytes[len..], b'"') {
         Some(Front::Token(TokenKind::Bits, len + 2))
     } else {
         None

@@ -2,15 +2,15 @@
 #![tactic(auto)]
 
 ghost use Rattle.std.specs.Prelude.{◌≡◌, length, All, IfOk, IfErr};
-ghost use Rattle.opgen_text.specs.Tokens.{Tokens};
-ghost use Rattle.opgen_text.specs.Spans.{InOrder, IsWithin};
+ghost use Rattle.opgen_vhdl.specs.Tokens.{Tokens};
+ghost use Rattle.opgen_vhdl.specs.Spans.{InOrder, IsWithin};
 ghost use Rattle.opgen_lex.specs.Fault.{IsLexical};
 
 mod front;
 
 use front::front_at;
-use opgen_text::Front;
-pub use opgen_text::{Token, TokenKind};
+use opgen_vhdl::Front;
+pub use opgen_vhdl::{Token, TokenKind};
 use std::alloc::{AllocFailed, Global};
 use thiserror::Error;
 
@@ -131,8 +131,8 @@ mod tests {
             &[(Word, 0, 64)],
         ),
         (
-            b"\"0000000011111111000000001111111100000000111111110000000011111111\"",
-            &[(Bits, 0, 66)],
+            b"\"000000001111111100000000111111110000000011111111000000001111111100000000111111110000000011111111\"",
+            &[(Bits, 0, 98)],
         ),
     ];
 
@@ -162,7 +162,7 @@ mod tests {
             (b"x \"01", 2),
             (b"\"012\"", 0),
             (
-                b"\"00000000111111110000000011111111000000001111111100000000111111110\"",
+                b"\"0000000011111111000000001111111100000000111111110000000011111111000000001111111100000000111111110\"",
                 0,
             ),
             (b"a < b", 2),

@@ -6,3 +6,4 @@ pub mod FlowBefore
 pub mod Standing
 pub mod WordRuns
 pub mod WordLaws
+pub mod Grown

@@ -3,3 +3,4 @@ pub mod Valid
 pub mod Made
 pub mod Named
 pub mod WordRule
+pub mod Grown

@@ -84,4 +84,5 @@ design_of called net = record {
   ports = map input_port net.inputs ++ map output_port net.outputs;
   signals = each_node (node_signal net) 0 net.nodes;
   drivers = drivers_of net;
+  enable = None;
 }

@@ -2,11 +2,13 @@
 #![tactic(auto)]
 
 mod cell;
+mod laws;
 mod net;
 mod node;
 mod word_bits;
 
 pub use cell::{Cell, Class};
+pub use laws::grown_nets_keep_nodes;
 pub use net::{Net, Output};
 pub use node::Node;
 pub use opgen_design::{

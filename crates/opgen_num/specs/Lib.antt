@@ -4,3 +4,4 @@ pub mod Sums
 pub mod Values
 pub mod Formats
 pub mod Rounding
+pub mod Floors

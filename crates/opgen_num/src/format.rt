@@ -1,6 +1,7 @@
 ghost use Rattle.std.specs.Prelude.{◌≡◌, ℕ, ◌≤◌, length, ◌↔◌, pos, negsuc, ◌<ℤ◌, ◌≤ℤ◌, IfOk, IfSome, IfNone};
 ghost use Rattle.opgen_num.specs.Formats.{IsWidthOf, IsLsb, is_negative, range_width, IsLeastWidth, IsTooWide, Holds};
 ghost use Rattle.opgen_num.specs.Values.{int, val};
+ghost use Rattle.opgen_num.specs.Words.{nat};
 
 use crate::{MAX_LSB, MAX_WIDTH, Word, bit_length};
 
@@ -58,9 +59,16 @@ impl Format {
         if self.signed {
             signed_value(word)
         } else {
-            word.bits() as i128
+            unsigned_value(word)
         }
     }
+}
+
+fn unsigned_value(word: Word) -> i128
+    requires { length word ≤ MAX_WIDTH }
+    ensures { result ≡ pos (nat word) }
+{
+    word.bits() as i128
 }
 
 // The number of a word in two's complement.
@@ -135,12 +143,12 @@ mod tests {
 
     #[test]
     fn least_formats(rt: HostRuntime) -> Result<(), Fail> {
-        let half: i128 = 1 << 63;
+        let half: i128 = 1 << 95;
         assert_eq!(rt; cover(0, 0, 0), format(false, 1, 0));
         assert_eq!(rt; cover(-1, 0, 0), format(true, 2, 0));
-        assert_eq!(rt; cover(-half, half - 1, 64), format(true, 64, 64));
+        assert_eq!(rt; cover(-half, half - 1, 64), format(true, 96, 64));
         assert_eq!(rt; cover(-half, half, 0), None);
-        assert_eq!(rt; cover(0, 2 * half - 1, -64), format(false, 64, -64));
+        assert_eq!(rt; cover(0, 2 * half - 1, -64), format(false, 96, -64));
         assert_eq!(rt; cover(0, 2 * half, 0), None);
         assert_eq!(rt; cover(i128::MIN, i128::MAX, 0), None);
         assert_eq!(rt; least_width(i128::MIN, i128::MAX), 128);

@@ -15,10 +15,10 @@ pub use rounding::{good_linear, good_root, is_quotient, is_root};
 pub use word::Word;
 
 /// The greatest width of a signal, in bits.
-pub const MAX_WIDTH: u32 = 64;
+pub const MAX_WIDTH: u32 = 96;
 
 /// The greatest width of an input of an operator, in bits.
-pub const MAX_INPUT: u32 = 32;
+pub const MAX_INPUT: u32 = 48;
 
 /// The greatest weight of a lowest bit is 2 to this power, the least 2 to its negative.
 pub const MAX_LSB: i32 = 64;

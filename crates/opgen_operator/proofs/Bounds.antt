@@ -1,7 +1,7 @@
 -- Bounds of products and widths.
-use Rattle.std.proofs.Common.{◌≡◌, ℕ, zero, suc, ◌+◌, ◌*◌, ◌/◌, ◌%◌, ◌^◌, ◌≤◌, ◌<◌, max, min, arith}
+use Rattle.std.proofs.Common.{◌≡◌, ℕ, zero, suc, ap, ◌+◌, ◌*◌, ◌/◌, ◌%◌, ◌^◌, ◌≤◌, ◌<◌, max, min, arith}
 use Rattle.std.specs.Prelude.{ℤ, pos, negsuc, neg_ℤ, ◌≤ℤ◌, unsigned_abs}
-use Rattle.std.proofs.Math.Nat.{mul-le-mul_left, mul-le-mul_right, div-le_self}
+use Rattle.std.proofs.Math.Nat.{mul-le-mul_left, mul-le-mul_right, div-le_self, two-pow-succ}
 use Rattle.std.proofs.lemmas.Nat.{pow-add}
 use Rattle.std.proofs.lemmas.Int.{ints}
 use Rattle.opgen_num.proofs.BitLength.{power_order}
@@ -36,6 +36,20 @@ some_units (negsuc n) h = absurd (omega (arith, ints))
 pub few_units : (k : ℕ) (den : ℤ) → pos 1 ≤ℤ den → den ≤ℤ pos k → unsigned_abs den ≤ k
 few_units k (pos n) low high = omega (arith, ints)
 few_units k (negsuc n) low high = absurd (omega (arith, ints))
+
+-- a sum of inputs of a width, each times a coefficient
+pub reach_bound : (r f below above w : ℕ) → r ≤ 2 ^ 38 → f ≤ 2 ^ 38 → below ≤ 2 ^ w → above ≤ 2 ^ w → r * below + f * above ≤ 2 ^ (w + 39)
+reach_bound r f below above w few more low high =
+    let first = products r below 38 w few low in
+    let second = products f above 38 w more high in
+    let power : 2 ^ (w + 39) ≡ 2 ^ suc (38 + w) = ap (λ k. 2 ^ k) (omega arith) in
+    omega (arith, first, second, power, two-pow-succ (38 + w))
+
+-- shifted up, where there is room
+pub room_bound : (n w : ℕ) (s : ℤ) → n ≤ 2 ^ (w + 39) → w + places_up s ≤ 80 → n * up s ≤ 2 ^ 119
+room_bound n w s small room =
+    let all = products n (up s) (w + 39) (places_up s) small (power_order (places_up s) (places_up s) (omega arith)) in
+    omega (arith, all, power_order (w + 39 + places_up s) 119 (omega arith))
 
 -- a number of so many bits, shifted up
 pub shifted : (n i k : ℕ) (s : ℤ) → n ≤ 2 ^ i → s ≤ℤ pos k → n * up s ≤ 2 ^ (i + k)

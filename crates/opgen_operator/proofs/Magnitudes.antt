@@ -3,7 +3,11 @@ use Rattle.std.proofs.Common.{◌≡◌, ℕ, ◌+◌, ◌-◌, ◌*◌, ◌^◌
 use Rattle.std.specs.Prelude.{ℤ, pos, negsuc, ◌*ℤ◌, unsigned_abs}
 use Rattle.std.specs.Int.{w128}
 use Rattle.std.proofs.lemmas.Int.{ints}
+use Rattle.opgen_num.specs.declared.format.Format.{Format}
 use Rattle.opgen_num.specs.Formats.{Holds}
+use Rattle.opgen_operator.specs.declared.spec.Single.{Single}
+use Rattle.opgen_operator.specs.Ranges.{IsInput, IsSingle}
+use Rattle.opgen_operator.specs.Reached.{IsOf}
 use Rattle.opgen_num.proofs.BitLength.{power_order}
 use Rattle.opgen_operator.proofs.Bounds.{products}
 
@@ -24,6 +28,15 @@ pub fits_small : (n : ℤ) → unsigned_abs n ≤ 2 ^ 126 → FitsSigned w128 n
 fits_small n h = omega (arith, ints)
 
 -- a number of a width
-pub holds_within : (signed : Bool) (width : ℕ) (n : ℤ) → width ≤ 32 → Holds signed width n → unsigned_abs n ≤ 2 ^ 32
-holds_within false width n few (low, high) = omega (arith, ints, power_order width 32 few)
-holds_within true width n few (low, high) = omega (arith, ints, power_order (width - 1) 32 (omega arith))
+pub holds_within : (signed : Bool) (width : ℕ) (n : ℤ) → Holds signed width n → unsigned_abs n ≤ 2 ^ width
+holds_within false width n (low, high) = omega (arith, ints)
+holds_within true width n (low, high) = omega (arith, ints, power_order (width - 1) width (omega arith))
+
+pub number_small : (f : Format) (n : ℤ) → IsInput f → IsOf f n → unsigned_abs n ≤ 2 ^ 48
+number_small f n fits of = omega (arith, holds_within f.signed f.width n of, power_order f.width 48 fits.most)
+
+pub number_fits : (f : Format) (n : ℤ) → IsInput f → IsOf f n → FitsSigned w128 n
+number_fits f n fits of = fits_small n (omega (arith, number_small f n fits of))
+
+pub root_input_fits : (r : Single) (n : ℤ) → IsSingle r → unsigned_abs n ≤ 2 ^ r.input.width → FitsSigned w128 n
+root_input_fits r n fits small = fits_small n (omega (arith, small, power_order r.input.width 48 fits.input.most))

@@ -1,7 +1,6 @@
 -- The widths of ports of a valid specification.
-use Rattle.std.proofs.Common.{◌≡◌, ℕ, zero, suc, ◌+◌, ◌≤◌, Bool, true, false, List, [], ◌∷◌, map, get_or, Some, refl, arith}
-use Rattle.std.specs.Prelude.{ℤ, pos, ◌≤ℤ◌, codes, All}
-use Rattle.opgen_num.specs.declared.TheConstants.{MAX_WIDTH}
+use Rattle.std.proofs.Common.{ℕ, zero, suc, ◌+◌, ◌≤◌, Bool, true, false, List, [], ◌∷◌, map, get_or, refl, arith}
+use Rattle.std.specs.Prelude.{ℤ, ◌≤ℤ◌, codes, All}
 use Rattle.opgen_operator.specs.declared.TheConstants.{MAX_SHIFT}
 use Rattle.opgen_num.specs.declared.format.Format.{Format}
 use Rattle.opgen_num.specs.Formats.{fewest_bits}
@@ -11,11 +10,14 @@ use Rattle.opgen_operator.specs.declared.spec.Pair.{Pair}
 use Rattle.opgen_operator.specs.declared.spec.PortFormat.{PortFormat}
 use Rattle.opgen_operator.specs.declared.spec.Several.{Several}
 use Rattle.opgen_operator.specs.declared.spec.Single.{Single}
-use Rattle.opgen_operator.specs.Bounded.{IsInputWide, IsOutputWide, InputsAreWide, OutputsAreWide, ShiftsAreSmall, IsShiftSmall}
-use Rattle.opgen_operator.specs.Outputs.{places_up, pair_shift, root_shift, reach_over, need, sum_need, product_need, sum_places, product_places, shift, least_shift}
+use Rattle.opgen_operator.specs.Accepted.{HasInputsWithin, IsAcceptedBy}
+use Rattle.opgen_operator.specs.Bounded.{HasWidth, InputsAreWide, OutputsAreWide, LimitsAreWithin, ShiftsAreSmall, IsShiftSmall, RootsAreNarrow}
+use Rattle.opgen_operator.specs.Limits.{most_input, most_signal, least_shift, most_shift}
+use Rattle.opgen_operator.specs.Outputs.{places_up, pair_shift, root_shift, reach_over, sum_need, product_need, sum_places, product_places, shift}
 use Rattle.opgen_operator.specs.Ports.{numbered, constant_format, multiple_ports, quotient_ports, root_ports, operator_inputs, operator_outputs}
 use Rattle.opgen_operator.specs.Ranges.{IsOperator, IsInput, IsPair, IsSeveral, IsSingle}
 use Rattle.opgen_operator.proofs.Accepted.{some_width}
+use Rattle.opgen_operator.proofs.Versions.{input_limit, signal_limit, shift_limit}
 use Rattle.opgen_operator.proofs.Widths.{multiple_width, root_bits}
 
 -- of one port, and of two
@@ -27,7 +29,7 @@ all_two : (P : PortFormat → Type 0) (p r : PortFormat) → P p → P r → All
 all_two P p r h g zero d _ = h
 all_two P p r h g (suc k) d below = all_one P r g k d (omega arith)
 
-all_numbered : (n : ℕ) (g : ℤ → Format) (ts : List ℤ) → All (λ t. (1 ≤ (g t).width) × ((g t).width ≤ 64)) ts → All IsOutputWide (numbered n (map g ts))
+all_numbered : (n : ℕ) (g : ℤ → Format) (ts : List ℤ) → All (λ t. (1 ≤ (g t).width) × ((g t).width ≤ 64)) ts → All (HasWidth 64) (numbered n (map g ts))
 all_numbered n g [] each k d below = absurd (omega arith)
 all_numbered n g (t ∷ ts) each zero d below = each zero t (omega arith)
 all_numbered n g (t ∷ ts) each (suc k) d below = all_numbered (n + 1) g ts (λ j e h. each (suc j) e (omega arith)) k d (omega arith)
@@ -36,57 +38,68 @@ some_bits : (signed : Bool) (width : ℕ) → fewest_bits signed ≤ width → 1
 some_bits false width h = h
 some_bits true width h = omega arith
 
-input_wide : (name : List ℕ) (f : Format) → IsInput f → IsInputWide (record { name = name; format = f })
-input_wide name f fits = (some_bits f.signed f.width fits.fewest, fits.most)
+input_wide : (most : ℕ) (name : List ℕ) (f : Format) → IsInput f → f.width ≤ most → HasWidth most (record { name = name; format = f })
+input_wide most name f fits few = (some_bits f.signed f.width fits.fewest, few)
 
-quotients_wide : (exact : Bool) (p : Pair) → IsPair p → p.a.width + places_up (pair_shift p) ≤ 64 → All IsOutputWide (quotient_ports exact p)
-quotients_wide true p fits few =
-    all_two IsOutputWide _ _ (omega (arith, some_bits p.a.signed p.a.width fits.a.fewest), few)
-    (some_bits p.b.signed p.b.width fits.b.fewest, omega (arith, fits.b.most))
-quotients_wide false p fits few = all_one IsOutputWide _ (omega (arith, some_bits p.a.signed p.a.width fits.a.fewest), few)
+wider : (most : ℕ) (ports : List PortFormat) → 64 ≤ most → All (HasWidth 64) ports → All (HasWidth most) ports
+wider most ports far each k d below = let (some, few) = each k d below in (some, omega (arith, few, far))
 
-roots_wide : (exact : Bool) (r : Single) → IsSingle r → root_shift r ≤ℤ pos 48 → All IsOutputWide (root_ports exact r)
+quotients_wide : (most : ℕ) (exact : Bool) (p : Pair) → 64 ≤ most → IsPair p → p.a.width + places_up (pair_shift p) ≤ most → All (HasWidth most) (quotient_ports exact p)
+quotients_wide most true p far fits few =
+    all_two (HasWidth most) _ _ (omega (arith, some_bits p.a.signed p.a.width fits.a.fewest), few)
+    (some_bits p.b.signed p.b.width fits.b.fewest, omega (arith, fits.b.most, far))
+quotients_wide most false p far fits few = all_one (HasWidth most) _ (omega (arith, some_bits p.a.signed p.a.width fits.a.fewest), few)
+
+roots_wide : (exact : Bool) (r : Single) → IsSingle r → root_shift r ≤ℤ MAX_SHIFT → All (HasWidth 64) (root_ports exact r)
 roots_wide true r fits high =
     let (some, few) = root_bits r fits high in
-    all_two IsOutputWide _ _ (some, omega (arith, few)) (omega arith, omega (arith, few))
+    all_two (HasWidth 64) _ _ (some, omega (arith, few)) (omega arith, omega (arith, few))
 roots_wide false r fits high =
     let (some, few) = root_bits r fits high in
-    all_one IsOutputWide _ (some, omega (arith, few))
+    all_one (HasWidth 64) _ (some, omega (arith, few))
 
-multiples_wide : (m : Several) → IsSeveral m → All IsOutputWide (multiple_ports m)
+multiples_wide : (m : Several) → IsSeveral m → All (HasWidth 64) (multiple_ports m)
 multiples_wide m fits =
     all_numbered 0 (constant_format m.input) m.constants
     (λ k t below. (some_width (reach_over m.input (get_or m.constants k t ∷ [])), multiple_width m.input (get_or m.constants k t) fits.input (fits.constants k t below)))
 
 pub inputs_wide : InputsAreWide
-inputs_wide spec valid = go spec.op valid.op
+inputs_wide spec valid = go (most_input spec.version) spec.op valid.op.ranges valid.op.inputs
   where
-    go : (op : Operator) → IsOperator op → All IsInputWide (operator_inputs op)
-    go (Scale s) fits = all_one IsInputWide _ (input_wide (codes "x") s.input fits.input)
-    go (Fir s) fits = all_one IsInputWide _ (input_wide (codes "x") s.input fits.input)
-    go (Multiply p) fits = all_two IsInputWide _ _ (input_wide (codes "a") p.a fits.a) (input_wide (codes "b") p.b fits.b)
-    go (Divide p) fits = all_two IsInputWide _ _ (input_wide (codes "a") p.a fits.a) (input_wide (codes "b") p.b fits.b)
-    go (Root r) fits = all_one IsInputWide _ (input_wide (codes "x") r.input fits.input)
-    go (Mcm m) fits = all_one IsInputWide _ (input_wide (codes "x") m.input fits.input)
+    go : (most : ℕ) (op : Operator) → IsOperator op → HasInputsWithin most op → All (HasWidth most) (operator_inputs op)
+    go most (Scale s) fits few = all_one (HasWidth most) _ (input_wide most (codes "x") s.input fits.input few)
+    go most (Fir s) fits few = all_one (HasWidth most) _ (input_wide most (codes "x") s.input fits.input few)
+    go most (Multiply p) fits (few, more) = all_two (HasWidth most) _ _ (input_wide most (codes "a") p.a fits.a few) (input_wide most (codes "b") p.b fits.b more)
+    go most (Divide p) fits (few, more) = all_two (HasWidth most) _ _ (input_wide most (codes "a") p.a fits.a few) (input_wide most (codes "b") p.b fits.b more)
+    go most (Root r) fits few = all_one (HasWidth most) _ (input_wide most (codes "x") r.input fits.input few)
+    go most (Mcm m) fits few = all_one (HasWidth most) _ (input_wide most (codes "x") m.input fits.input few)
+
+pub operator_wide : (version : ℕ) (op : Operator) → IsAcceptedBy version op → All (HasWidth (most_signal version)) (operator_outputs op)
+operator_wide version (Scale s) is = all_one (HasWidth (most_signal version)) _ (some_width (sum_places s), omega (arith, is.narrow (sum_need s) refl))
+operator_wide version (Fir s) is = all_one (HasWidth (most_signal version)) _ (some_width (sum_places s), omega (arith, is.narrow (sum_need s) refl))
+operator_wide version (Multiply p) is = all_one (HasWidth (most_signal version)) _ (some_width (product_places p), omega (arith, is.narrow (product_need p) refl))
+operator_wide version (Divide p) is = quotients_wide (most_signal version) p.exact p (signal_limit version).0 is.ranges (is.narrow (p.a.width + places_up (pair_shift p)) refl)
+operator_wide version (Root r) is = wider (most_signal version) (root_ports r.exact r) (signal_limit version).0 (roots_wide r.exact r is.ranges (shift_limit version (Root r) is.fine.1))
+operator_wide version (Mcm m) is = wider (most_signal version) (multiple_ports m) (signal_limit version).0 (multiples_wide m is.ranges)
 
 pub outputs_wide : OutputsAreWide
-outputs_wide spec valid = go spec.op valid.op valid.fine.1 valid.narrow
-  where
-    go : (op : Operator) → IsOperator op → shift op ≤ℤ MAX_SHIFT → ((bits : ℕ) → need op ≡ Some bits → bits ≤ MAX_WIDTH) → All IsOutputWide (operator_outputs op)
-    go (Scale s) fits high narrow = all_one IsOutputWide _ (some_width (sum_places s), omega (arith, narrow (sum_need s) refl))
-    go (Fir s) fits high narrow = all_one IsOutputWide _ (some_width (sum_places s), omega (arith, narrow (sum_need s) refl))
-    go (Multiply p) fits high narrow = all_one IsOutputWide _ (some_width (product_places p), omega (arith, narrow (product_need p) refl))
-    go (Divide p) fits high narrow = quotients_wide p.exact p fits (narrow (p.a.width + places_up (pair_shift p)) refl)
-    go (Root r) fits high narrow = roots_wide r.exact r fits high
-    go (Mcm m) fits high narrow = multiples_wide m fits
+outputs_wide spec valid = operator_wide spec.version spec.op valid.op
+
+pub limits_within : LimitsAreWithin
+limits_within version = (input_limit version, (signal_limit version).1)
 
 pub shifts_small : ShiftsAreSmall
-shifts_small spec valid = go spec.op valid.fine
+shifts_small spec valid = go spec.version spec.op valid.op.fine
   where
-    go : (op : Operator) → (least_shift op ≤ℤ shift op) × (shift op ≤ℤ MAX_SHIFT) → IsShiftSmall op
-    go (Scale s) fine = fine
-    go (Fir s) fine = fine
-    go (Multiply p) fine = fine
-    go (Divide p) fine = fine
-    go (Root r) fine = fine
-    go (Mcm m) fine = cc
+    go : (version : ℕ) (op : Operator) → (least_shift op ≤ℤ shift op) × (shift op ≤ℤ most_shift version op) → IsShiftSmall version op
+    go version (Scale s) fine = fine
+    go version (Fir s) fine = fine
+    go version (Multiply p) fine = fine
+    go version (Divide p) fine = fine
+    go version (Root r) fine = fine
+    go version (Mcm m) fine = tt
+
+pub roots_narrow : RootsAreNarrow
+roots_narrow version r is =
+    let (_, few) = root_bits r is.ranges (shift_limit version (Root r) is.fine.1) in
+    omega (arith, few, (signal_limit version).0)

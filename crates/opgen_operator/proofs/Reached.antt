@@ -133,7 +133,7 @@ commuted (pos n) k = omega (arith, ints)
 commuted (negsuc n) k = omega (arith, ints)
 
 -- rounded up
-ceiling : (n d : ℕ) → 0 < d → (n ≤ d * div_ceil n d) × (d * div_ceil n d < n + d)
+pub ceiling : (n d : ℕ) → 0 < d → (n ≤ d * div_ceil n d) × (d * div_ceil n d < n + d)
 ceiling n d h = go (n % d) refl
   where
     go : (r : ℕ) → n % d ≡ r → (n ≤ d * (n / d + min 1 (n % d))) × (d * (n / d + min 1 (n % d)) < n + d)

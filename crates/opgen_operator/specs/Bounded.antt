@@ -1,48 +1,57 @@
--- The bounds that every valid specification keeps: of the widths of its ports, of its shift, and of its exact values.
-use Rattle.std.specs.Prelude.{ℕ, ◌^◌, ◌<◌, ◌≤◌, ℤ, pos, neg_ℤ, ◌≤ℤ◌, ◌<ℤ◌, length, All}
-use Rattle.opgen_num.specs.declared.TheConstants.{MAX_INPUT}
+-- The bounds that every valid specification keeps: of the widths of its ports, of its shift, and of its exact values; and those
+-- of the numbers that builders of nets compute.
+use Rattle.std.specs.Prelude.{ℕ, ◌≡◌, ◌+◌, ◌*◌, ◌^◌, ◌<◌, ◌≤◌, ℤ, pos, neg_ℤ, ◌≤ℤ◌, ◌<ℤ◌, unsigned_abs, length, All}
+use Rattle.opgen_num.specs.declared.TheConstants.{MAX_INPUT, MAX_WIDTH}
 use Rattle.opgen_num.specs.declared.format.Ratio.{Ratio}
-use Rattle.opgen_design.specs.Width.{IsWidth}
+use Rattle.opgen_operator.specs.declared.TheConstants.{MAX_SHIFT}
 use Rattle.opgen_operator.specs.declared.spec.Operator.{Operator}
 use Rattle.opgen_operator.specs.declared.spec.Operator.TheVariants.{Scale, Fir, Multiply, Divide, Root, Mcm}
 use Rattle.opgen_operator.specs.declared.spec.PortFormat.{PortFormat}
+use Rattle.opgen_operator.specs.declared.spec.Product.{Product}
+use Rattle.opgen_operator.specs.declared.spec.Single.{Single}
 use Rattle.opgen_operator.specs.declared.spec.Spec.{Spec}
+use Rattle.opgen_operator.specs.declared.spec.Sum.{Sum}
+use Rattle.opgen_operator.specs.Accepted.{IsAcceptedBy, IsAccepted, IsAcceptedSum}
 use Rattle.opgen_operator.specs.Exact.{Recent, exact_sum, exact_product, exact_quotient, exact_multiple, dividend, square}
 use Rattle.opgen_operator.specs.Judged.{format_at}
-use Rattle.opgen_operator.specs.Outputs.{sum_shift, product_shift, pair_shift, root_shift}
-use Rattle.opgen_operator.specs.Ports.{inputs_of, outputs_of}
+use Rattle.opgen_operator.specs.Limits.{most_input, most_signal, most_sum_shift}
+use Rattle.opgen_operator.specs.Outputs.{sum_shift, product_shift, pair_shift, root_shift, places_up, up, down, product_reach, product_places, width_of, guard_bits, HasRoom}
+use Rattle.opgen_operator.specs.Ports.{root_width, product_format, inputs_of, outputs_of}
+use Rattle.opgen_operator.specs.Ranges.{IsProduct}
 use Rattle.opgen_operator.specs.Reached.{IsOf}
 use Rattle.opgen_operator.specs.Valid.{IsValidSpec}
 
--- an input port has one bit or more, and as many as an input may have at most
-abbrev pub IsInputWide : PortFormat → Type 0
-IsInputWide p = (1 ≤ p.format.width) × (p.format.width ≤ MAX_INPUT)
+-- no version's limits are beyond those of the program
+abbrev pub LimitsAreWithin : Type 0
+LimitsAreWithin = (version : ℕ) → (most_input version ≤ MAX_INPUT) × (most_signal version ≤ MAX_WIDTH)
 
--- an output port is as wide as a signal may be
-abbrev pub IsOutputWide : PortFormat → Type 0
-IsOutputWide p = IsWidth p.format.width
+-- a port has one bit or more, and so many at most
+abbrev pub HasWidth : (most : ℕ) → PortFormat → Type 0
+HasWidth most p = (1 ≤ p.format.width) × (p.format.width ≤ most)
 
+-- an input port is as wide as an input of the version may be, and an output port as a signal
 abbrev pub InputsAreWide : Type 0
-InputsAreWide = (spec : Spec) → IsValidSpec spec → All IsInputWide (inputs_of spec)
+InputsAreWide = (spec : Spec) → IsValidSpec spec → All (HasWidth (most_input spec.version)) (inputs_of spec)
 
 abbrev pub OutputsAreWide : Type 0
-OutputsAreWide = (spec : Spec) → IsValidSpec spec → All IsOutputWide (outputs_of spec)
+OutputsAreWide = (spec : Spec) → IsValidSpec spec → All (HasWidth (most_signal spec.version)) (outputs_of spec)
 
 -- from one whole number to another
 abbrev pub IsFromTo : (low high n : ℤ) → Type 0
 IsFromTo low high n = (low ≤ℤ n) × (n ≤ℤ high)
 
--- The shift is from -48 to 48, and not below 0 for quotients and roots. Several constants have none.
-abbrev pub IsShiftSmall : Operator → Type 0
-IsShiftSmall (Scale s) = IsFromTo (neg_ℤ (pos 48)) (pos 48) (sum_shift s)
-IsShiftSmall (Fir s) = IsFromTo (neg_ℤ (pos 48)) (pos 48) (sum_shift s)
-IsShiftSmall (Multiply p) = IsFromTo (neg_ℤ (pos 48)) (pos 48) (product_shift p)
-IsShiftSmall (Divide p) = IsFromTo (pos 0) (pos 48) (pair_shift p)
-IsShiftSmall (Root r) = IsFromTo (pos 0) (pos 48) (root_shift r)
-IsShiftSmall (Mcm m) = Unit {0}
+-- The shift is from -48 to 48, but of sums in version 2 to 32, and not below 0 for quotients and roots. Several constants
+-- have none.
+abbrev pub IsShiftSmall : (version : ℕ) → Operator → Type 0
+IsShiftSmall version (Scale s) = IsFromTo (neg_ℤ MAX_SHIFT) (most_sum_shift version) (sum_shift s)
+IsShiftSmall version (Fir s) = IsFromTo (neg_ℤ MAX_SHIFT) (most_sum_shift version) (sum_shift s)
+IsShiftSmall version (Multiply p) = IsFromTo (neg_ℤ MAX_SHIFT) MAX_SHIFT (product_shift p)
+IsShiftSmall version (Divide p) = IsFromTo (pos 0) MAX_SHIFT (pair_shift p)
+IsShiftSmall version (Root r) = IsFromTo (pos 0) MAX_SHIFT (root_shift r)
+IsShiftSmall version (Mcm m) = Unit {0}
 
 abbrev pub ShiftsAreSmall : Type 0
-ShiftsAreSmall = (spec : Spec) → IsValidSpec spec → IsShiftSmall spec.op
+ShiftsAreSmall = (spec : Spec) → IsValidSpec spec → IsShiftSmall spec.version spec.op
 
 -- in every cycle, the number of each input port is one of the port's format
 abbrev pub AreOfInputs : Spec → (inputs : (port : ℕ) → Recent) → Type 0
@@ -70,3 +79,36 @@ IsExactIn128 (Mcm m) inputs = All (λ t. IsRatioIn128 (exact_multiple t (inputs 
 abbrev pub ExactValuesAreIn128 : Type 0
 ExactValuesAreIn128 =
     (spec : Spec) → IsValidSpec spec → (inputs : (port : ℕ) → Recent) → AreOfInputs spec inputs → IsExactIn128 spec.op inputs
+
+-- The operator of a valid specification is accepted; and a sum that is accepted as a multiple of its input is one by its fields.
+pub record ValidAreAccepted : Type 0 where
+  pub operators : (spec : Spec) → IsValidSpec spec → IsAccepted spec.op
+  pub multiples : (s : Sum) → IsAccepted (Scale s) → IsAcceptedSum s
+
+-- Every accepted sum has room in 128 bits.
+abbrev pub AcceptedHaveRoom : Type 0
+AcceptedHaveRoom = (op : Operator) → IsAccepted op → HasRoom op
+
+-- A table of a sum has the numbers of some bits of its input, times one coefficient, in units of the output's last place with the
+-- guard bits below it: a numerator of 122 bits, since a coefficient has 30, the input and a shift up have 80, and there are 12
+-- guard bits at most. With a bit more for rounding, it and the denominator are together below 2 ^ 126.
+pub record IsEntrySmall (s : Sum) (coef : ℤ) : Type 0 where
+  pub in122 : unsigned_abs coef * up (sum_shift s) * 2 ^ (s.input.width + guard_bits s) ≤ 2 ^ 122
+  pub rounded : unsigned_abs coef * up (sum_shift s) * 2 ^ (s.input.width + guard_bits s + 1) + unsigned_abs s.den * down (sum_shift s) < 2 ^ 126
+
+abbrev pub EntriesAreSmall : Type 0
+EntriesAreSmall = (s : Sum) → IsAcceptedSum s → (guard_bits s ≤ 12) × All (IsEntrySmall s) s.coefs
+
+-- The differences that a root takes of its remainders have three bits more than the root, and stay within each version's limit.
+abbrev pub RootsAreNarrow : Type 0
+RootsAreNarrow = (version : ℕ) (r : Single) → IsAcceptedBy version (Root r) → root_width r + 3 ≤ most_signal version
+
+-- The range of a product in units of the output's last place passes 128 bits only where it is shifted up. The output has then
+-- so many bits more than the plain product.
+pub record IsProductWidth (p : Product) : Type 0 where
+  pub plain : width_of (product_reach p) ≤ p.a.width + p.b.width
+  pub not_up : product_shift p ≤ℤ pos 0 → ((product_places p).below ≤ 2 ^ 96) × ((product_places p).above ≤ 2 ^ 96)
+  pub shifted_up : pos 0 ≤ℤ product_shift p → (product_format p).width ≡ width_of (product_reach p) + places_up (product_shift p)
+
+abbrev pub ProductsHaveWidth : Type 0
+ProductsHaveWidth = (p : Product) → IsProduct p → IsProductWidth p

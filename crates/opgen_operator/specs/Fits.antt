@@ -1,24 +1,40 @@
--- Nets that fit a specification.
-use Rattle.std.specs.Prelude.{ℕ, ◌≡◌, ◌<◌, List, length, map, pos, All}
+-- Nets that fit an operator, and so a specification.
+use Rattle.std.specs.Prelude.{ℕ, ◌≡◌, ◌<◌, Bool, List, length, map, pos, All}
 use Rattle.opgen_net.specs.declared.net.Net.{Net}
 use Rattle.opgen_net.specs.Flow.{Inputs, slice_flow}
 use Rattle.opgen_design.specs.Run.{AreWords}
 use Rattle.opgen_net.specs.Valid.{IsValid, slice_width, input_widths}
+use Rattle.opgen_operator.specs.declared.spec.Operator.{Operator}
+use Rattle.opgen_operator.specs.declared.spec.Operator.TheVariants.{Scale, Fir}
 use Rattle.opgen_operator.specs.declared.spec.PortFormat.{PortFormat}
 use Rattle.opgen_operator.specs.declared.spec.Spec.{Spec}
-use Rattle.opgen_operator.specs.Good.{IsGood, IsInRange}
+use Rattle.opgen_operator.specs.declared.spec.Sum.{Sum}
+use Rattle.opgen_operator.specs.Good.{IsGoodOf, IsInRangeOf}
 use Rattle.opgen_operator.specs.Judged.{recent_words, output_words}
-use Rattle.opgen_operator.specs.Ports.{inputs_of, outputs_of}
+use Rattle.opgen_operator.specs.Ports.{operator_inputs, operator_outputs}
+use Rattle.opgen_operator.specs.Valid.{IsValidSpec}
 
 abbrev pub name_and_width : PortFormat → List ℕ × ℕ
 name_and_width p = (p.name, p.format.width)
 
--- The net is valid, has the ports of the specification, and its outputs are good in each cycle whose inputs are in range.
-pub record FitsSpec (spec : Spec) (net : Net) : Type 0 where
+-- The net is valid, has the ports of the operator, and its outputs are good in each cycle whose inputs are in range.
+pub record FitsOperator (exact : Bool) (op : Operator) (net : Net) : Type 0 where
   pub valid : IsValid net
-  pub inputs : net.inputs ≡ map name_and_width (inputs_of spec)
-  pub outputs : map (λ o. (o.name, slice_width o.from)) net.outputs ≡ map name_and_width (outputs_of spec)
+  pub inputs : net.inputs ≡ map name_and_width (operator_inputs op)
+  pub outputs : map (λ o. (o.name, slice_width o.from)) net.outputs ≡ map name_and_width (operator_outputs op)
   pub good : (inputs : Inputs) (t : ℕ) → All (AreWords (input_widths net)) inputs → t < length inputs
-      → IsInRange spec (recent_words (inputs_of spec) inputs t)
-      → IsGood spec (recent_words (inputs_of spec) inputs t)
-      (output_words (outputs_of spec) (map (λ o. slice_flow net.nodes inputs o.from (pos t)) net.outputs))
+      → IsInRangeOf op (recent_words (operator_inputs op) inputs t)
+      → IsGoodOf exact op (recent_words (operator_inputs op) inputs t)
+      (output_words (operator_outputs op) (map (λ o. slice_flow net.nodes inputs o.from (pos t)) net.outputs))
+
+abbrev pub FitsSpec : Spec → Net → Type 0
+FitsSpec spec net = FitsOperator spec.exact spec.op net
+
+-- What a builder of nets promises: for every valid specification whose operator has these fields, the net fits it. Its clause
+-- is `IfOk result (FitsSpecsOf (Multiply product.now))` under the condition `IsAcceptedProduct product.now`, and so of the
+-- other kinds. Of sums it is `IfOk result (FitsSpecsOfSum sum.now)`, since multiples and filters are built alike.
+abbrev pub FitsSpecsOf : Operator → Net → Type 0
+FitsSpecsOf op net = (spec : Spec) → IsValidSpec spec → spec.op ≡ op → FitsSpec spec net
+
+abbrev pub FitsSpecsOfSum : Sum → Net → Type 0
+FitsSpecsOfSum s net = FitsSpecsOf (Scale s) net × FitsSpecsOf (Fir s) net

@@ -1,11 +1,14 @@
 pub mod SpecName
 pub mod Outputs
+pub mod Limits
 pub mod Ports
 pub mod Ranges
+pub mod Accepted
 pub mod Valid
 pub mod Exact
 pub mod Good
 pub mod Judged
 pub mod Fits
 pub mod Reached
+pub mod Held
 pub mod Bounded

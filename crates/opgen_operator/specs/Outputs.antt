@@ -1,10 +1,9 @@
 -- Exact values in units of the output's last place: their shift, how far they reach, and the widths that hold them.
-use Rattle.std.specs.Prelude.{ℕ, ◌+◌, ◌*◌, ◌-◌, ◌%◌, ◌^◌, ◌==◌, not, max, Bool, true, false, List, ℤ, pos, negsuc, neg_ℤ, ◌-ℤ◌, ◌+ℤ◌, ◌*ℤ◌, unsigned_abs, int_lt, if◌then◌else◌, Option, Some, None, sum, map, count_by}
+use Rattle.std.specs.Prelude.{ℕ, ◌+◌, ◌*◌, ◌-◌, ◌%◌, ◌^◌, ◌≤◌, ◌==◌, not, max, Bool, true, false, List, ℤ, pos, negsuc, neg_ℤ, ◌-ℤ◌, ◌+ℤ◌, ◌*ℤ◌, unsigned_abs, int_lt, if◌then◌else◌, Option, Some, None, sum, map, count_by}
 use Rattle.std.specs.Int.{div_ceil}
 use Rattle.std.specs.List.{position_from}
 use Rattle.opgen_num.specs.declared.format.Format.{Format}
 use Rattle.opgen_num.specs.Formats.{digit_count, range_width}
-use Rattle.opgen_operator.specs.declared.TheConstants.{MAX_SHIFT}
 use Rattle.opgen_operator.specs.declared.spec.Operator.{Operator}
 use Rattle.opgen_operator.specs.declared.spec.Operator.TheVariants.{Scale, Fir, Multiply, Divide, Root, Mcm}
 use Rattle.opgen_operator.specs.declared.spec.Sum.{Sum}
@@ -64,12 +63,6 @@ inexact (Scale s) = first_inexact s
 inexact (Fir s) = first_inexact s
 inexact (Multiply p) = if int_lt (product_shift p) (pos 0) then Some 0 else None
 inexact _ = None
-
--- the least shift of a kind; the greatest is `MAX_SHIFT`, and that of a multiplication by several constants is 0
-abbrev pub least_shift : Operator → ℤ
-least_shift (Divide p) = pos 0
-least_shift (Root r) = pos 0
-least_shift _ = neg_ℤ MAX_SHIFT
 
 -- how far the numbers of a format go below and above 0
 abbrev pub reach_with : (signed : Bool) (width : ℕ) → Reach
@@ -152,7 +145,8 @@ sum_need s = width_of (sum_places s) + guard_bits s
 abbrev pub product_need : Product → ℕ
 product_need p = width_of (product_places p) + places_down (product_shift p)
 
--- the width of the widest signal; a root and a multiplication by several constants have no signal over the limit
+-- The width of the widest signal, of the kinds where it may be over the limit. That of a root has three bits more than the root,
+-- for which there is always room; none is asked of several constants, whose outputs have always room.
 abbrev pub need : Operator → Option ℕ
 need (Scale s) = Some (sum_need s)
 need (Fir s) = Some (sum_need s)
@@ -160,3 +154,14 @@ need (Multiply p) = Some (product_need p)
 need (Divide p) = Some (p.a.width + places_up (pair_shift p))
 need (Root r) = None
 need (Mcm m) = None
+
+-- A sum has room in 128 bits where its input and its shift up have 80 bits together: 32 and 48 in version 1, 48 and 32 in
+-- version 2.
+abbrev pub HasSumRoom : Sum → Type 0
+HasSumRoom s = s.input.width + places_up (sum_shift s) ≤ 80
+
+-- Of the other kinds nothing is asked: a product that is shifted up takes its width from the plain product.
+abbrev pub HasRoom : Operator → Type 0
+HasRoom (Scale s) = HasSumRoom s
+HasRoom (Fir s) = HasSumRoom s
+HasRoom _ = Unit {0}

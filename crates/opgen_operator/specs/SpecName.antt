@@ -20,7 +20,7 @@ abbrev pub is_signal_name : List ℕ → Bool
 is_signal_name [] = false
 is_signal_name (c ∷ digits) = c == 115 && nat_lt 0 (length digits) && list_all is_ascii_digit digits
 
--- A specification's name: a name of the VHDL subset in lower case, of at most 32 bytes, that its design uses for
--- nothing else.
+-- A specification's name: a name of the VHDL subset in lower case, of at most 32 bytes, that is none of the taken names and not
+-- `s` with digits alone after it.
 abbrev pub is_spec_name : List ℕ → Bool
 is_spec_name name = nat_le (length name) 32 && is_allowed_name name && not (is_taken name) && not (is_signal_name name)

@@ -1,13 +1,12 @@
--- Valid specifications: their fields are within the ranges of their keys, and they have a net.
-use Rattle.std.specs.Prelude.{ℕ, ◌≡◌, ◌≤◌, ◌≤ℤ◌, Bool, IsTrue, length, All, Some, None}
-use Rattle.opgen_num.specs.declared.TheConstants.{MAX_WIDTH}
-use Rattle.opgen_operator.specs.declared.TheConstants.{MAX_SHIFT}
+-- Valid specifications: their fields are within the ranges of their keys and the limits of their version.
+use Rattle.std.specs.Prelude.{◌≡◌, ◌≤◌, Bool, IsTrue, length, All, None}
 use Rattle.opgen_operator.specs.declared.spec.Spec.{Spec}
 use Rattle.opgen_operator.specs.declared.spec.DelayLine.{DelayLine}
 use Rattle.opgen_operator.specs.declared.spec.Operator.{Operator}
 use Rattle.opgen_operator.specs.declared.spec.Operator.TheVariants.{Scale, Fir, Multiply, Divide, Root, Mcm}
-use Rattle.opgen_operator.specs.Outputs.{inexact, shift, least_shift, need}
-use Rattle.opgen_operator.specs.Ranges.{IsOperator}
+use Rattle.opgen_operator.specs.Accepted.{IsAcceptedBy}
+use Rattle.opgen_operator.specs.Limits.{IsVersion}
+use Rattle.opgen_operator.specs.Outputs.{inexact}
 use Rattle.opgen_operator.specs.SpecName.{is_spec_name}
 
 -- the operator's own mark of exact outputs, where it has one, is that of the specification
@@ -23,9 +22,9 @@ abbrev pub IsDelayLine : DelayLine → Type 0
 IsDelayLine line = (line.base ≤ 1000000) × (line.per_bit ≤ 10000)
 
 pub record IsValidSpec (spec : Spec) : Type 0 where
-  pub version : spec.version ≡ 1
+  pub version : IsVersion spec.version
   pub name : IsTrue (is_spec_name spec.name)
-  pub op : IsOperator spec.op
+  pub op : IsAcceptedBy spec.version spec.op
   pub agrees : AgreesOnExact spec.exact spec.op
   pub target : (1 ≤ length spec.target) × (length spec.target ≤ 32)
   pub period : (1 ≤ spec.period) × (spec.period ≤ 1000000)
@@ -33,6 +32,3 @@ pub record IsValidSpec (spec : Spec) : Type 0 where
   pub lines : All IsDelayLine spec.delays
   -- exact outputs are asked for only where the exact values are whole
   pub has_exact : IsTrue spec.exact → inexact spec.op ≡ None
-  pub fine : (least_shift spec.op ≤ℤ shift spec.op) × (shift spec.op ≤ℤ MAX_SHIFT)
-  -- the widest signal is no wider than a signal may be
-  pub narrow : (bits : ℕ) → need spec.op ≡ Some bits → bits ≤ MAX_WIDTH

@@ -1,13 +1,15 @@
-ghost use Rattle.std.specs.Prelude.{ℕ, false, ◌≡◌, ◌≢◌, ◌+◌, ◌*◌, ◌<◌, ◌≤◌, ◌^◌, ◌↔◌, ℤ, pos, negsuc, ◌*ℤ◌, ◌≤ℤ◌, length, slice_index, unsigned_abs, All, IsTrue, Some};
+ghost use Rattle.std.specs.Prelude.{ℕ, false, ◌≡◌, ◌≢◌, ◌+◌, ◌*◌, ◌<◌, ◌≤◌, ◌^◌, ◌↔◌, ℤ, pos, neg_ℤ, ◌*ℤ◌, ◌≤ℤ◌, length, slice_index, unsigned_abs, All, IsTrue, Some};
 ghost use Rattle.opgen_num.specs.Rounding.{IsGoodRoot, IsQuotient, IsRoot};
 ghost use Rattle.opgen_operator.specs.Exact.{weighted, exact_sum, exact_product, exact_quotient, exact_multiple, dividend, square};
 ghost use Rattle.opgen_operator.specs.Good.{IsGoodRatio, IsGoodQuotient, IsGoodSquareRoot, AreGoodMultiples, IsGood, IsInRange};
 ghost use Rattle.opgen_operator.specs.Judged.{number_of, recent_numbers, output_numbers, IsHistory, IsCycle};
-ghost use Rattle.opgen_operator.specs.Outputs.{sum_shift, product_shift, pair_shift, root_shift};
+ghost use Rattle.opgen_operator.specs.Outputs.{sum_shift, product_shift, pair_shift, root_shift, HasSumRoom};
 ghost use Rattle.opgen_operator.specs.Ports.{one_input, two_inputs, sum_format, product_format, constant_format, quotient_format, remainder_format, root_format, rest_format, quotient_ports, root_ports, multiple_ports, inputs_of, outputs_of};
 ghost use Rattle.opgen_operator.specs.Ranges.{IsInput, IsWithin, IsSum, IsProduct, IsPair, IsSingle, IsSeveral};
+ghost use Rattle.opgen_operator.specs.Reached.{IsOf};
 ghost use Rattle.opgen_operator.specs.Valid.{IsValidSpec};
 
+use crate::MAX_SHIFT;
 use crate::outputs::{
     pair_shift, places_down, places_up, power, product_shift, root_shift, sum_shift,
 };
@@ -16,14 +18,15 @@ use crate::ports::{
     sum_format,
 };
 use crate::spec::{Operator, Pair, Product, Several, Single, Spec, Sum};
-use opgen_num::{Format, Word, good_linear, good_root, is_quotient, is_root};
+use opgen_num::{Format, MAX_INPUT, MAX_WIDTH, Word, good_linear, good_root, is_quotient, is_root};
 
 /// The number of an input's word.
 fn input(format: Format, bits: u128) -> i128
     requires format { IsInput format }
     requires bits { bits < 2 ^ format.width }
     ensures value { result ≡ number_of format bits }
-    ensures bound { unsigned_abs result ≤ 2 ^ 32 }
+    ensures bound { unsigned_abs result ≤ 2 ^ format.width }
+    ensures of { IsOf format result }
     ensures unsigned { format.signed ≡ false → pos 0 ≤ℤ result }
 {
     format.value(Word::new(bits, format.width))
@@ -32,7 +35,7 @@ fn input(format: Format, bits: u128) -> i128
 /// The number of an output's word.
 fn output(format: Format, bits: u128) -> i128
     requires least { 1 ≤ format.width }
-    requires most { format.width ≤ 64 }
+    requires most { format.width ≤ MAX_WIDTH }
     requires bits { bits < 2 ^ format.width }
     ensures { result ≡ number_of format bits }
 {
@@ -44,7 +47,7 @@ fn recent(format: Format, history: &[u128], ago: usize) -> i128
     requires format { IsInput format }
     requires history { IsHistory (one_input format) history.now }
     ensures value { result ≡ recent_numbers (one_input format) history.now 0 ago }
-    ensures bound { unsigned_abs result ≤ 2 ^ 32 }
+    ensures bound { unsigned_abs result ≤ 2 ^ format.width }
 {
     if ago < history.len() {
         input(format, history[history.len() - 1 - ago])
@@ -60,8 +63,8 @@ fn operands(a: Format, b: Format, history: &[u128]) -> (i128, i128)
     requires history { IsHistory (two_inputs a b) history.now }
     ensures first { result.0 ≡ recent_numbers (two_inputs a b) history.now 0 0 }
     ensures second { result.1 ≡ recent_numbers (two_inputs a b) history.now 1 0 }
-    ensures first_bound { unsigned_abs result.0 ≤ 2 ^ 32 }
-    ensures second_bound { unsigned_abs result.1 ≤ 2 ^ 32 }
+    ensures first_of { IsOf a result.0 }
+    ensures second_of { IsOf b result.1 }
     ensures unsigned { b.signed ≡ false → pos 0 ≤ℤ result.1 }
 {
     let last = history.len() - 1;
@@ -70,8 +73,8 @@ fn operands(a: Format, b: Format, history: &[u128]) -> (i128, i128)
 
 /// A number times two to a power.
 fn raised(n: i128, places: u32) -> i128
-    requires small { unsigned_abs n ≤ 2 ^ 70 }
-    requires few { places ≤ 48 }
+    requires small { unsigned_abs n * 2 ^ places ≤ 2 ^ 126 }
+    requires few { places ≤ MAX_WIDTH }
     ensures value { result ≡ n *ℤ pos (2 ^ places) }
 {
     n * (power(places) as i128)
@@ -82,7 +85,7 @@ fn weighted(sum: &Sum, history: &[u128]) -> i128
     requires sum { IsSum 256 sum.now }
     requires history { IsHistory (one_input sum.now.input) history.now }
     ensures value { result ≡ weighted sum.now.coefs (recent_numbers (one_input sum.now.input) history.now 0) }
-    ensures bound { unsigned_abs result ≤ 2 ^ 70 }
+    ensures bound { unsigned_abs result ≤ 2 ^ (sum.now.input.width + 38) }
 {
     let mut total = 0;
     let mut ago = 0;
@@ -95,19 +98,19 @@ fn weighted(sum: &Sum, history: &[u128]) -> i128
 
 /// An input times a coefficient.
 fn product(n: i128, coef: i64) -> i128
-    requires input { unsigned_abs n ≤ 2 ^ 32 }
+    requires input { unsigned_abs n ≤ 2 ^ MAX_INPUT }
     requires coef { unsigned_abs coef ≤ 2 ^ 30 }
-    ensures value { result ≡ n *ℤ coef }
-    ensures bound { unsigned_abs result ≤ 2 ^ 62 }
+    ensures { result ≡ n *ℤ coef }
 {
     n * i128::from(coef)
 }
 
 fn sum_is_good(exact: bool, sum: &Sum, history: &[u128], y: u128) -> bool
     requires sum { IsSum 256 sum.now }
-    requires low { negsuc 47 ≤ℤ sum_shift sum.now }
-    requires high { sum_shift sum.now ≤ℤ pos 48 }
-    requires narrow { (sum_format sum.now).width ≤ 64 }
+    requires low { neg_ℤ MAX_SHIFT ≤ℤ sum_shift sum.now }
+    requires high { sum_shift sum.now ≤ℤ MAX_SHIFT }
+    requires room { HasSumRoom sum.now }
+    requires narrow { (sum_format sum.now).width ≤ MAX_WIDTH }
     requires history { IsHistory (one_input sum.now.input) history.now }
     requires y { y < 2 ^ (sum_format sum.now).width }
     ensures { IsTrue result ↔ IsGoodRatio exact
@@ -122,11 +125,11 @@ fn sum_is_good(exact: bool, sum: &Sum, history: &[u128], y: u128) -> bool
 
 fn product_is_good(exact: bool, product: &Product, a: i128, b: i128, y: u128) -> bool
     requires product { IsProduct product.now }
-    requires low { negsuc 47 ≤ℤ product_shift product.now }
-    requires high { product_shift product.now ≤ℤ pos 48 }
-    requires narrow { (product_format product.now).width ≤ 64 }
-    requires a { unsigned_abs a ≤ 2 ^ 32 }
-    requires b { unsigned_abs b ≤ 2 ^ 32 }
+    requires low { neg_ℤ MAX_SHIFT ≤ℤ product_shift product.now }
+    requires high { product_shift product.now ≤ℤ MAX_SHIFT }
+    requires narrow { (product_format product.now).width ≤ MAX_WIDTH }
+    requires a { IsOf product.now.a a }
+    requires b { IsOf product.now.b b }
     requires y { y < 2 ^ (product_format product.now).width }
     ensures { IsTrue result ↔ IsGoodRatio exact (exact_product product.now a b)
         (number_of (product_format product.now) y) }
@@ -145,9 +148,9 @@ fn product_is_good(exact: bool, product: &Product, a: i128, b: i128, y: u128) ->
 fn quotient_is_good(exact: bool, pair: &Pair, a: i128, b: i128, outputs: &[u128]) -> bool
     requires pair { IsPair pair.now }
     requires low { pos 0 ≤ℤ pair_shift pair.now }
-    requires high { pair_shift pair.now ≤ℤ pos 48 }
-    requires narrow { (quotient_format pair.now).width ≤ 64 }
-    requires a { unsigned_abs a ≤ 2 ^ 32 }
+    requires high { pair_shift pair.now ≤ℤ MAX_SHIFT }
+    requires narrow { (quotient_format pair.now).width ≤ MAX_WIDTH }
+    requires a { IsOf pair.now.a a }
     requires b { pos 0 ≤ℤ b }
     requires outputs { IsCycle (quotient_ports exact pair.now) outputs.now }
     ensures in_range { b ≢ pos 0 → (IsTrue result ↔ IsGoodQuotient exact pair.now a b
@@ -176,8 +179,8 @@ fn quotient_is_good(exact: bool, pair: &Pair, a: i128, b: i128, outputs: &[u128]
 fn root_is_good(exact: bool, single: &Single, x: i128, outputs: &[u128]) -> bool
     requires single { IsSingle single.now }
     requires low { pos 0 ≤ℤ root_shift single.now }
-    requires high { root_shift single.now ≤ℤ pos 48 }
-    requires x { unsigned_abs x ≤ 2 ^ 32 }
+    requires high { root_shift single.now ≤ℤ MAX_SHIFT }
+    requires x { unsigned_abs x ≤ 2 ^ single.now.input.width }
     requires outputs { IsCycle (root_ports exact single.now) outputs.now }
     ensures { IsTrue result ↔ IsGoodSquareRoot exact single.now x
         (output_numbers (root_ports exact single.now) outputs.now 0)
@@ -196,7 +199,7 @@ fn root_is_good(exact: bool, single: &Single, x: i128, outputs: &[u128]) -> bool
 fn multiple_is_good(exact: bool, input: Format, constant: i64, x: i128, y: u128) -> bool
     requires input { IsInput input }
     requires constant { IsWithin 2047 constant }
-    requires x { unsigned_abs x ≤ 2 ^ 32 }
+    requires x { unsigned_abs x ≤ 2 ^ MAX_INPUT }
     requires y { y < 2 ^ (constant_format input constant).width }
     ensures { IsTrue result ↔ IsGoodRatio exact (exact_multiple constant x)
         (number_of (constant_format input constant) y) }
@@ -211,7 +214,7 @@ fn multiple_is_good(exact: bool, input: Format, constant: i64, x: i128, y: u128)
 
 fn multiples_are_good(exact: bool, several: &Several, x: i128, outputs: &[u128]) -> bool
     requires several { IsSeveral several.now }
-    requires x { unsigned_abs x ≤ 2 ^ 32 }
+    requires x { unsigned_abs x ≤ 2 ^ MAX_INPUT }
     requires outputs { IsCycle (multiple_ports several.now) outputs.now }
     ensures { IsTrue result ↔ AreGoodMultiples exact several.now.constants x
         (output_numbers (multiple_ports several.now) outputs.now) }

@@ -1,4 +1,5 @@
-ghost use Rattle.opgen_operator.specs.Bounded.{ExactValuesAreIn128, InputsAreWide, OutputsAreWide, ShiftsAreSmall};
+ghost use Rattle.opgen_operator.specs.Bounded.{AcceptedHaveRoom, EntriesAreSmall, ExactValuesAreIn128, InputsAreWide, LimitsAreWithin, OutputsAreWide, ProductsHaveWidth, RootsAreNarrow, ShiftsAreSmall, ValidAreAccepted};
+ghost use Rattle.opgen_operator.specs.Held.{OutputsHold};
 ghost use Rattle.opgen_operator.specs.Reached.{SumsReach, ProductsReach};
 
 /// The output of a sum goes from the floor of its least exact value to the ceiling of its greatest.
@@ -12,17 +13,28 @@ pub fn products_reach()
     ensures { ProductsReach }
 {}
 
-/// Each input port of a valid specification has 1 to 32 bits.
+/// The formats of outputs hold every exact value, rounded down or up, but of roots rounded down.
+pub fn outputs_hold()
+    ensures { OutputsHold }
+{}
+
+/// No version has inputs or signals of more bits than the program's.
+pub fn limits_are_within()
+    ensures { LimitsAreWithin }
+{}
+
+/// Each input port of a valid specification has 1 to 32 bits in version 1, and 1 to 48 in version 2.
 pub fn inputs_are_wide()
     ensures { InputsAreWide }
 {}
 
-/// Each output port of a valid specification has 1 to 64 bits.
+/// Each output port of a valid specification has 1 to 64 bits in version 1, and 1 to 96 in version 2.
 pub fn outputs_are_wide()
     ensures { OutputsAreWide }
 {}
 
-/// The shift of a valid specification is from -48 to 48, and from 0 on for quotients and roots.
+/// The shift of a valid specification is from -48 to 48, for sums in version 2 up to 32, and from 0
+/// on for quotients and roots.
 pub fn shifts_are_small()
     ensures { ShiftsAreSmall }
 {}
@@ -33,4 +45,29 @@ pub fn shifts_are_small()
 /// of a quotient and the square of a root.
 pub fn exact_values_are_in_128()
     ensures { ExactValuesAreIn128 }
+{}
+
+/// The operator of a valid specification is accepted, which is what builders of nets ask for.
+pub fn valid_are_accepted()
+    ensures { ValidAreAccepted }
+{}
+
+/// The input and a shift up of an accepted sum have 80 bits together at most.
+pub fn accepted_have_room()
+    ensures { AcceptedHaveRoom }
+{}
+
+/// The entries of tables of an accepted sum have 122 bits at most, 12 of them guard bits.
+pub fn entries_are_small()
+    ensures { EntriesAreSmall }
+{}
+
+/// The widest signal of a root is within the limit of each version.
+pub fn roots_are_narrow()
+    ensures { RootsAreNarrow }
+{}
+
+/// The range of a product passes 128 bits only where it is shifted up, and how wide its output is there.
+pub fn products_have_width()
+    ensures { ProductsHaveWidth }
 {}

@@ -1,8 +1,10 @@
 //! Operators: what a specification asks for, and what its good outputs are.
 #![tactic(auto)]
 
+mod fields;
 mod good;
 mod laws;
+mod limits;
 mod outputs;
 mod ports;
 mod spec;
@@ -10,13 +12,15 @@ mod spec_name;
 mod words;
 
 pub use laws::{
-    exact_values_are_in_128, inputs_are_wide, outputs_are_wide, products_reach, shifts_are_small,
-    sums_reach,
+    accepted_have_room, entries_are_small, exact_values_are_in_128, inputs_are_wide,
+    limits_are_within, outputs_are_wide, outputs_hold, products_have_width, products_reach,
+    roots_are_narrow, shifts_are_small, sums_reach, valid_are_accepted,
 };
+pub use limits::{most_input, most_signal};
 pub use spec::{DelayLine, Operator, Pair, PortFormat, Product, Several, Single, Spec, Sum};
 pub use spec_name::{MAX_SPEC_NAME_LEN, is_spec_name};
 pub use words::{is_cycle, is_history};
 
-/// The greatest shift of an operator: the power of two that brings its exact value into units of
-/// the output's last place.
+/// The greatest shift of an operator in any version of specifications: the power of two that brings
+/// its exact value into units of the output's last place.
 pub const MAX_SHIFT: i32 = 48;

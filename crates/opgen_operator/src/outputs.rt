@@ -1,6 +1,6 @@
-ghost use Rattle.std.specs.Prelude.{◌≡◌, ◌+◌, ◌*◌, ◌<◌, ◌≤◌, ◌^◌, ℤ, pos, negsuc, ◌≤ℤ◌, length, All, unsigned_abs};
+ghost use Rattle.std.specs.Prelude.{◌≡◌, ◌+◌, ◌*◌, ◌<◌, ◌≤◌, ◌^◌, ℤ, pos, negsuc, neg_ℤ, ◌≤ℤ◌, length, All, unsigned_abs};
 ghost use Rattle.opgen_operator.specs.Ranges.{IsInput, IsWithin, IsSum, IsProduct, IsPair, IsSingle, IsOperator};
-ghost use Rattle.opgen_operator.specs.Outputs.{sum_shift, product_shift, pair_shift, root_shift, shift, inexact, least_shift, need, places_up, places_down, up, down, is_whole, first_inexact, reach_of, rises, falls, above_zero, below_zero, reach_over, sum_reach, product_reach, in_units, in_places, sum_places, product_places, width_of, terms, tables, guard_for, guard_bits, sum_need, product_need};
+ghost use Rattle.opgen_operator.specs.Outputs.{sum_shift, product_shift, pair_shift, root_shift, shift, inexact, HasRoom, HasSumRoom, need, places_up, places_down, up, down, is_whole, first_inexact, reach_of, rises, falls, above_zero, below_zero, reach_over, sum_reach, product_reach, in_units, in_places, sum_places, product_places, width_of, terms, tables, guard_for, guard_bits, sum_need, product_need};
 
 use crate::MAX_SHIFT;
 use crate::spec::{Operator, Pair, Product, Single, Sum};
@@ -20,16 +20,6 @@ impl Operator {
             Operator::Divide(pair) => pair_shift(pair),
             Operator::Root(single) => root_shift(single),
             Operator::Mcm(_) => 0,
-        }
-    }
-
-    /// The least shift of an operator of this kind.
-    pub fn least_shift(&self) -> i32
-        ensures { result ≡ least_shift self.now }
-    {
-        match self {
-            Operator::Divide(_) | Operator::Root(_) => 0,
-            _ => -MAX_SHIFT,
         }
     }
 
@@ -56,8 +46,9 @@ impl Operator {
     /// The bits of the widest signal, of the kinds where it may be wider than a signal can be.
     pub fn need(&self) -> Option<u32>
         requires op { IsOperator self.now }
-        requires low { negsuc 47 ≤ℤ shift self.now }
+        requires low { neg_ℤ MAX_SHIFT ≤ℤ shift self.now }
         requires high { shift self.now ≤ℤ MAX_SHIFT }
+        requires room { HasRoom self.now }
         ensures { result ≡ need self.now }
     {
         match self {
@@ -178,8 +169,8 @@ pub(crate) struct Reach {
 fn reach_of(format: Format) -> Reach
     requires { IsInput format }
     ensures value { result ≡ reach_of format }
-    ensures below { result.below ≤ 2 ^ 32 }
-    ensures above { result.above ≤ 2 ^ 32 }
+    ensures below { result.below ≤ 2 ^ format.width }
+    ensures above { result.above ≤ 2 ^ format.width }
 {
     if format.signed {
         let half = power(format.width - 1);
@@ -243,8 +234,8 @@ pub(crate) fn reach_over(input: Format, coefs: &[i64]) -> Reach
     requires few { length coefs.now ≤ 256 }
     requires small { All (IsWithin (2 ^ 30)) coefs.now }
     ensures value { result ≡ reach_over input coefs.now }
-    ensures below { result.below ≤ 2 ^ 71 }
-    ensures above { result.above ≤ 2 ^ 71 }
+    ensures below { result.below ≤ 2 ^ (input.width + 39) }
+    ensures above { result.above ≤ 2 ^ (input.width + 39) }
 {
     let input = reach_of(input);
     let rises = u128::from(rises(coefs));
@@ -259,18 +250,18 @@ pub(crate) fn reach_over(input: Format, coefs: &[i64]) -> Reach
 fn sum_reach(sum: &Sum) -> Reach
     requires { IsSum 256 sum.now }
     ensures value { result ≡ sum_reach sum.now }
-    ensures below { result.below ≤ 2 ^ 71 }
-    ensures above { result.above ≤ 2 ^ 71 }
+    ensures below { result.below ≤ 2 ^ (sum.now.input.width + 39) }
+    ensures above { result.above ≤ 2 ^ (sum.now.input.width + 39) }
 {
     reach_over(sum.input, sum.coefs.as_slice())
 }
 
 /// How far a product goes.
-fn product_reach(product: &Product) -> Reach
+pub(crate) fn product_reach(product: &Product) -> Reach
     requires { IsProduct product.now }
     ensures value { result ≡ product_reach product.now }
-    ensures below { result.below ≤ 2 ^ 71 }
-    ensures above { result.above ≤ 2 ^ 71 }
+    ensures below { result.below ≤ 2 ^ (product.now.a.width + product.now.b.width) }
+    ensures above { result.above ≤ 2 ^ (product.now.a.width + product.now.b.width) }
 {
     let a = reach_of(product.a);
     let b = reach_of(product.b);
@@ -282,9 +273,9 @@ fn product_reach(product: &Product) -> Reach
 
 /// In units of the output's last place, rounded away from 0.
 fn in_units(numerator: u128, shift: i32, den: i64) -> u128
-    requires numerator { numerator ≤ 2 ^ 71 }
-    requires low { negsuc 47 ≤ℤ shift }
-    requires high { shift ≤ℤ pos 48 }
+    requires numerator { numerator * up shift ≤ 2 ^ 119 }
+    requires low { neg_ℤ MAX_SHIFT ≤ℤ shift }
+    requires high { shift ≤ℤ MAX_SHIFT }
     requires positive { pos 1 ≤ℤ den }
     requires small { den ≤ℤ pos (2 ^ 30) }
     ensures value { result ≡ in_units numerator shift den }
@@ -294,10 +285,10 @@ fn in_units(numerator: u128, shift: i32, den: i64) -> u128
 }
 
 fn in_places(reach: Reach, shift: i32, den: i64) -> Reach
-    requires below { reach.below ≤ 2 ^ 71 }
-    requires above { reach.above ≤ 2 ^ 71 }
-    requires low { negsuc 47 ≤ℤ shift }
-    requires high { shift ≤ℤ pos 48 }
+    requires below { reach.below * up shift ≤ 2 ^ 119 }
+    requires above { reach.above * up shift ≤ 2 ^ 119 }
+    requires low { neg_ℤ MAX_SHIFT ≤ℤ shift }
+    requires high { shift ≤ℤ MAX_SHIFT }
     requires positive { pos 1 ≤ℤ den }
     requires small { den ≤ℤ pos (2 ^ 30) }
     ensures value { result ≡ in_places reach shift den }
@@ -339,15 +330,15 @@ fn terms(coefs: &[i64]) -> u32
 fn tables(sum: &Sum) -> u32
     requires { IsSum 256 sum.now }
     ensures value { result ≡ tables sum.now }
-    ensures bound { result ≤ 1536 }
+    ensures bound { result ≤ 2048 }
 {
     terms(sum.coefs.as_slice()) * sum.input.width.div_ceil(6)
 }
 
-fn guard_bits(sum: &Sum) -> u32
+pub(crate) fn guard_bits(sum: &Sum) -> u32
     requires { IsSum 256 sum.now }
     ensures value { result ≡ guard_bits sum.now }
-    ensures bound { result ≤ 11 }
+    ensures bound { result ≤ 12 }
 {
     match first_inexact(sum) {
         Some(_) => guard(tables(sum)),
@@ -358,8 +349,9 @@ fn guard_bits(sum: &Sum) -> u32
 /// How far a sum goes in units of the output's last place.
 pub(crate) fn sum_places(sum: &Sum) -> Reach
     requires sum { IsSum 256 sum.now }
-    requires low { negsuc 47 ≤ℤ sum_shift sum.now }
-    requires high { sum_shift sum.now ≤ℤ pos 48 }
+    requires low { neg_ℤ MAX_SHIFT ≤ℤ sum_shift sum.now }
+    requires high { sum_shift sum.now ≤ℤ MAX_SHIFT }
+    requires room { HasSumRoom sum.now }
     ensures value { result ≡ sum_places sum.now }
     ensures below { result.below ≤ 2 ^ 120 }
     ensures above { result.above ≤ 2 ^ 120 }
@@ -367,11 +359,11 @@ pub(crate) fn sum_places(sum: &Sum) -> Reach
     in_places(sum_reach(sum), sum_shift(sum), sum.den)
 }
 
-/// How far a product goes in units of the output's last place.
-pub(crate) fn product_places(product: &Product) -> Reach
+/// How far a product goes in units of the output's last place, where it is not shifted up.
+fn product_places(product: &Product) -> Reach
     requires product { IsProduct product.now }
-    requires low { negsuc 47 ≤ℤ product_shift product.now }
-    requires high { product_shift product.now ≤ℤ pos 48 }
+    requires low { neg_ℤ MAX_SHIFT ≤ℤ product_shift product.now }
+    requires high { product_shift product.now ≤ℤ pos 0 }
     ensures value { result ≡ product_places product.now }
     ensures below { result.below ≤ 2 ^ 120 }
     ensures above { result.above ≤ 2 ^ 120 }
@@ -379,11 +371,30 @@ pub(crate) fn product_places(product: &Product) -> Reach
     in_places(product_reach(product), product_shift(product), 1)
 }
 
+/// The width of the output of a product.
+///
+/// Shifted up, its range may have no place in 128 bits; the plain product's has one.
+pub(crate) fn product_width(product: &Product) -> u32
+    requires product { IsProduct product.now }
+    requires low { neg_ℤ MAX_SHIFT ≤ℤ product_shift product.now }
+    requires high { product_shift product.now ≤ℤ MAX_SHIFT }
+    ensures value { result ≡ width_of (product_places product.now) }
+    ensures bound { result ≤ 200 }
+{
+    let shift = product_shift(product);
+    if shift > 0 {
+        width_of(product_reach(product)) + places_up(shift)
+    } else {
+        width_of(product_places(product))
+    }
+}
+
 /// The width of the widest signal of a sum.
 fn sum_need(sum: &Sum) -> u32
     requires sum { IsSum 256 sum.now }
-    requires low { negsuc 47 ≤ℤ sum_shift sum.now }
-    requires high { sum_shift sum.now ≤ℤ pos 48 }
+    requires low { neg_ℤ MAX_SHIFT ≤ℤ sum_shift sum.now }
+    requires high { sum_shift sum.now ≤ℤ MAX_SHIFT }
+    requires room { HasSumRoom sum.now }
     ensures { result ≡ sum_need sum.now }
 {
     width_of(sum_places(sum)) + guard_bits(sum)
@@ -392,9 +403,9 @@ fn sum_need(sum: &Sum) -> u32
 /// The width of the widest signal of a product.
 fn product_need(product: &Product) -> u32
     requires product { IsProduct product.now }
-    requires low { negsuc 47 ≤ℤ product_shift product.now }
-    requires high { product_shift product.now ≤ℤ pos 48 }
+    requires low { neg_ℤ MAX_SHIFT ≤ℤ product_shift product.now }
+    requires high { product_shift product.now ≤ℤ MAX_SHIFT }
     ensures { result ≡ product_need product.now }
 {
-    width_of(product_places(product)) + places_down(product_shift(product))
+    product_width(product) + places_down(product_shift(product))
 }

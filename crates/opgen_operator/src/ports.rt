@@ -1,12 +1,14 @@
-ghost use Rattle.std.specs.Prelude.{◌≡◌, ◌+◌, ◌*◌, ◌≤◌, ◌^◌, ◌++◌, [], ◌∷◌, ℤ, pos, negsuc, ◌≤ℤ◌, length, map, codes, All, IfOk};
+ghost use Rattle.std.specs.Prelude.{◌≡◌, ◌+◌, ◌*◌, ◌≤◌, ◌^◌, ◌++◌, [], ◌∷◌, ℤ, pos, neg_ℤ, ◌≤ℤ◌, length, map, codes, All, IfOk};
 ghost use Rattle.std.specs.Fmt.{decimal};
-ghost use Rattle.opgen_operator.specs.Outputs.{shift, sum_shift, product_shift};
+ghost use Rattle.opgen_operator.specs.Outputs.{shift, sum_shift, product_shift, HasRoom, HasSumRoom};
 ghost use Rattle.opgen_operator.specs.Ports.{port, covering, unsigned, sum_format, product_format, constant_format, quotient_format, remainder_format, root_width, root_format, rest_format, numbered, with_rest, operator_inputs, operator_outputs, inputs_of, outputs_of};
 ghost use Rattle.opgen_operator.specs.Ranges.{IsInput, IsWithin, IsSum, IsProduct, IsPair, IsSingle, IsSeveral, IsOperator};
 ghost use Rattle.opgen_operator.specs.Valid.{IsValidSpec};
 
+use crate::MAX_SHIFT;
 use crate::outputs::{
-    Reach, pair_shift, places_up, product_places, reach_over, root_shift, sum_places, width_of,
+    Reach, pair_shift, places_up, product_reach, product_width, reach_over, root_shift, sum_places,
+    width_of,
 };
 use crate::spec::{Operator, Pair, PortFormat, Product, Several, Single, Spec, Sum};
 use opgen_list::Text;
@@ -92,8 +94,9 @@ fn unsigned(width: u32, lsb: i32) -> Format
 
 pub(crate) fn sum_format(sum: &Sum) -> Format
     requires sum { IsSum 256 sum.now }
-    requires low { negsuc 47 ≤ℤ sum_shift sum.now }
-    requires high { sum_shift sum.now ≤ℤ pos 48 }
+    requires low { neg_ℤ MAX_SHIFT ≤ℤ sum_shift sum.now }
+    requires high { sum_shift sum.now ≤ℤ MAX_SHIFT }
+    requires room { HasSumRoom sum.now }
     ensures { result ≡ sum_format sum.now }
 {
     covering(sum_places(sum), sum.out_lsb)
@@ -101,11 +104,15 @@ pub(crate) fn sum_format(sum: &Sum) -> Format
 
 pub(crate) fn product_format(product: &Product) -> Format
     requires product { IsProduct product.now }
-    requires low { negsuc 47 ≤ℤ product_shift product.now }
-    requires high { product_shift product.now ≤ℤ pos 48 }
+    requires low { neg_ℤ MAX_SHIFT ≤ℤ product_shift product.now }
+    requires high { product_shift product.now ≤ℤ MAX_SHIFT }
     ensures { result ≡ product_format product.now }
 {
-    covering(product_places(product), product.out_lsb)
+    Format {
+        signed: 0 < product_reach(product).below,
+        width: product_width(product),
+        lsb: product.out_lsb,
+    }
 }
 
 pub(crate) fn constant_format(input: Format, constant: i64) -> Format
@@ -194,8 +201,9 @@ fn constants(alloc: Global, several: &Several) -> Result<Vec<PortFormat>, AllocE
 
 fn operator_outputs(alloc: Global, op: &Operator) -> Result<Vec<PortFormat>, AllocError>
     requires op { IsOperator op.now }
-    requires low { negsuc 47 ≤ℤ shift op.now }
-    requires high { shift op.now ≤ℤ pos 48 }
+    requires low { neg_ℤ MAX_SHIFT ≤ℤ shift op.now }
+    requires high { shift op.now ≤ℤ MAX_SHIFT }
+    requires room { HasRoom op.now }
     ensures { IfOk result (λ ports. ports.items ≡ operator_outputs op.now) }
 {
     match op {

@@ -1,12 +1,13 @@
 -- Digits read one by one.
 use Rattle.std.specs.Prelude.{if◌then◌else◌}
-use Rattle.std.proofs.Common.{◌≡◌, ℕ, suc, ◌+◌, ◌*◌, ◌-◌, ◌≤◌, ◌<◌, true, nat_le, List, [], ◌∷◌, length, drop, get_or, Some, None, refl, ap, ◌∙◌, arith, drop-cons}
-use Rattle.std.proofs.lemmas.Bool.{and_parts, leb-true, lt-ltb, le-ltb, lt-leb, true_from_ne_false}
+use Rattle.std.proofs.Common.{◌≡◌, ℕ, suc, ◌+◌, ◌*◌, ◌-◌, ◌≤◌, ◌<◌, true, nat_le, nat_lt, List, [], ◌∷◌, length, drop, get_or, Some, None, refl, ap, ◌∙◌, arith, drop-cons}
+use Rattle.std.proofs.lemmas.Bool.{and_parts, leb-true, lt-ltb, le-ltb, true_from_ne_false}
 use Rattle.std.proofs.lemmas.List.Folds.{list_all_at}
 use Rattle.std.specs.Char.{is_ascii_digit, digit_value}
 use Rattle.std.specs.Str.Parse.{digits_value_after}
 use Rattle.std.specs.List.{list_all}
-use Rattle.opgen_text.specs.Grammar.{value}
+use Rattle.opgen_num.specs.declared.TheConstants.{MAX_WIDTH}
+use Rattle.opgen_vhdl.specs.Grammar.{value}
 
 digit_bounds : (b : ℕ) → is_ascii_digit b ≡ true → (48 ≤ b) × (b ≤ 57)
 digit_bounds b h =
@@ -32,5 +33,5 @@ grows : (n : ℕ) (ds : List ℕ) → n ≤ digits_value_after 10 n ds
 grows n [] = omega arith
 grows n (d ∷ ds) = omega (arith, grows (n * 10 + digit_value d) ds)
 
-pub no_index : (digits : List ℕ) (n i : ℕ) → digits_value_after 10 n (drop i digits) ≡ value digits → 63 < n → None ≡ (if nat_le (value digits) 63 then Some (value digits) else None)
-no_index digits n i e h = rw (lt-leb (value digits) 63 (omega (arith, e, h, grows n (drop i digits)))) refl
+pub no_index : (digits : List ℕ) (n i : ℕ) → digits_value_after 10 n (drop i digits) ≡ value digits → MAX_WIDTH ≤ n → None ≡ (if nat_lt (value digits) MAX_WIDTH then Some (value digits) else None)
+no_index digits n i e h = rw (le-ltb (value digits) MAX_WIDTH (omega (arith, e, h, grows n (drop i digits)))) refl

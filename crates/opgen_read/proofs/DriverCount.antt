@@ -1,9 +1,9 @@
 -- A text has no more drivers than pieces, and no more pieces than symbols.
 use Rattle.std.proofs.Common.{◌≡◌, inl, inr, ℕ, suc, ◌+◌, ◌≤◌, List, [], ◌∷◌, length, Option, Some, None, refl, arith, length-append}
 use Rattle.std.proofs.lemmas.Bool.{cases_Bool}
-use Rattle.opgen_text.specs.declared.place.Place.{Place}
-use Rattle.opgen_text.specs.Symbols.{Symbol, pieces, onto, is_semicolon}
-use Rattle.opgen_text.specs.Statements.{Reading, with_name, Takes, library_clause, use_logic, use_numeric, entity, port, last_port, end_entity, architecture, signal, begin, statement, process, process_is, register, end_if, end_process, later_statement, end_without_process, end_after_process, Follows, stay, onward}
+use Rattle.opgen_vhdl.specs.declared.place.Place.{Place}
+use Rattle.opgen_vhdl.specs.Symbols.{Symbol, pieces, onto, is_semicolon}
+use Rattle.opgen_vhdl.specs.Statements.{Reading, with_name, Takes, library_clause, use_logic, use_numeric, entity, port, last_port, end_entity, architecture, signal, begin, statement, process, process_is, register, end_if, end_enabled, end_edge, end_process, later_statement, end_without_process, end_after_process, Follows, stay, onward}
 
 abbrev count : Reading → ℕ
 count r = length r.design.drivers
@@ -24,10 +24,12 @@ piece_count (architecture m o t) = piece_count t
 piece_count (signal m h i) = omega arith
 piece_count (begin t) = piece_count t
 piece_count (statement {r = r} {k = k} c) = omega (arith, length-append r.design.drivers (k ∷ []))
-piece_count (process {r = r} {k = k} c) = omega (arith, length-append r.design.drivers (k ∷ []))
-piece_count (process_is {r = r} {k = k} c) = omega (arith, length-append r.design.drivers (k ∷ []))
+piece_count (process {r = r} {k = k} e c) = omega (arith, length-append r.design.drivers (k ∷ []))
+piece_count (process_is {r = r} {k = k} e c) = omega (arith, length-append r.design.drivers (k ∷ []))
 piece_count (register {r = r} {k = k} c) = omega (arith, length-append r.design.drivers (k ∷ []))
-piece_count end_if = omega arith
+piece_count (end_if h) = omega arith
+piece_count (end_enabled h) = omega arith
+piece_count end_edge = omega arith
 piece_count end_process = omega arith
 piece_count (later_statement {r = r} {k = k} c) = omega (arith, length-append r.design.drivers (k ∷ []))
 piece_count (end_without_process {r = r} {a = a} e) = omega (arith, named_count r r.architecture a)

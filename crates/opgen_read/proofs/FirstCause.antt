@@ -3,14 +3,14 @@ use Rattle.std.specs.Prelude.{IfSome, slice_get}
 use Rattle.std.proofs.Common.{◌≡◌, ◌≢◌, inl, inr, ℕ, ◌<◌, true, false, List, [], ◌∷◌, length, Option, Some, None, refl, ap, sym, ◌∙◌, subst, arith}
 use Rattle.std.proofs.lemmas.Bool.{cases_order}
 use Rattle.opgen_design.specs.declared.design.Design.{Design}
-use Rattle.opgen_design.specs.Sound.{Rule, Undeclared, DeclaredTwice, Width, DrivenTwice, NotDriven, Cyclic, ReadsOutput, NoInitial, ChoiceTwice, rule_number, Holds, at_port, at_signal, at_driver, DependsOn, at_once, through, IsOrderedBy, IsOrdered, IsSound, IsFirstUnsound}
-use Rattle.opgen_text.specs.declared.kind.Token.{Token}
-use Rattle.opgen_text.specs.Tokens.{Tokens, LexicalAt}
-use Rattle.opgen_text.specs.Statements.{Reading}
-use Rattle.opgen_text.specs.Spelled.{Statements, Spells}
-use Rattle.opgen_text.proofs.CutLemmas.{one_cut, nothing_starts_at_end}
-use Rattle.opgen_text.proofs.Walks.{one_list, one_fault, not_both}
-use Rattle.opgen_text.specs.Tokens.{size_of}
+use Rattle.opgen_design.specs.Sound.{Rule, Undeclared, DeclaredTwice, Width, DrivenTwice, NotDriven, Cyclic, ReadsOutput, NoInitial, ChoiceTwice, BadEnable, rule_number, Holds, at_design, at_port, at_signal, at_driver, DependsOn, at_once, through, IsOrderedBy, IsOrdered, IsSound, IsFirstUnsound}
+use Rattle.opgen_vhdl.specs.declared.kind.Token.{Token}
+use Rattle.opgen_vhdl.specs.Tokens.{Tokens, LexicalAt}
+use Rattle.opgen_vhdl.specs.Statements.{Reading}
+use Rattle.opgen_vhdl.specs.Spelled.{Statements, Spells}
+use Rattle.opgen_vhdl.proofs.CutLemmas.{one_cut, nothing_starts_at_end}
+use Rattle.opgen_vhdl.proofs.Walks.{one_list, one_fault, not_both}
+use Rattle.opgen_vhdl.specs.Tokens.{size_of}
 use Rattle.opgen_read.specs.declared.fault.ReadFault.{ReadFault}
 use Rattle.opgen_read.specs.declared.fault.ReadFault.TheVariants.{Lexical, Syntax, TooLarge, Unsound, Memory}
 use Rattle.opgen_read.specs.Answer.{IsWithinLimits, FailsAt, IsReadFault}
@@ -25,7 +25,7 @@ one_offset bytes m n s t = sym s.place ∙ ap size_of (one_cut s.elements t.elem
 
 -- rules by number
 abbrev rules : List Rule
-rules = Undeclared ∷ Undeclared ∷ DeclaredTwice ∷ Width ∷ DrivenTwice ∷ NotDriven ∷ Cyclic ∷ ReadsOutput ∷ NoInitial ∷ ChoiceTwice ∷ []
+rules = Undeclared ∷ Undeclared ∷ DeclaredTwice ∷ Width ∷ DrivenTwice ∷ NotDriven ∷ Cyclic ∷ ReadsOutput ∷ NoInitial ∷ ChoiceTwice ∷ BadEnable ∷ []
 
 there : (r : Rule) → slice_get rules (rule_number r) ≡ Some r
 there Undeclared = refl
@@ -37,6 +37,7 @@ there Cyclic = refl
 there ReadsOutput = refl
 there NoInitial = refl
 there ChoiceTwice = refl
+there BadEnable = refl
 
 some_is : {A : Type 0} {a b : A} → Some a ≡ Some b → a ≡ b
 some_is e = cc
@@ -111,6 +112,7 @@ if_some None P h = tt
 if_some (Some x) P h = h x
 
 off_cycles : (d : Design) → IsOrdered d → Holds d Cyclic
+off_cycles d o at_design = tt
 off_cycles d o (at_port i) = if_some (slice_get d.ports i) _ (λ x. tt)
 off_cycles d o (at_signal i) = if_some (slice_get d.signals i) _ (λ x. tt)
 off_cycles d o (at_driver i) = if_some (slice_get d.drivers i) _ (λ k s e f. itself d o.0 s o.1 f)
@@ -125,6 +127,7 @@ all_hold d s Cyclic = off_cycles d s.ordered
 all_hold d s ReadsOutput = s.reads_inputs
 all_hold d s NoInitial = s.initials
 all_hold d s ChoiceTwice = s.addresses
+all_hold d s BadEnable = s.enable
 
 sound_fails : (r : Reading) (m i : ℕ) → r.agrees ≡ true → IsSound r.design → FailsAt r m i → ⊥
 sound_fails r m i agrees s (inl f) = let bad : false ≡ true = sym f.0 ∙ agrees in cc

@@ -1,10 +1,10 @@
 -- The first piece of what is left.
 use Rattle.std.proofs.Common.{◌≡◌, ℕ, ◌<◌, List, [], ◌∷◌, length, map, take, drop, refl, ap, ◌∙◌, arith}
 use Rattle.std.proofs.lemmas.List.{take-map, drop-map}
-use Rattle.opgen_text.specs.declared.kind.Token.{Token}
-use Rattle.opgen_text.specs.Spans.{spelled, spelling_of}
-use Rattle.opgen_text.specs.Symbols.{symbol_of, symbols, pieces}
-use Rattle.opgen_text.proofs.Walks.{first_len, pieces-first}
+use Rattle.opgen_vhdl.specs.declared.kind.Token.{Token}
+use Rattle.opgen_vhdl.specs.Spans.{spelled, spelling_of}
+use Rattle.opgen_vhdl.specs.Symbols.{symbol_of, symbols, pieces}
+use Rattle.opgen_vhdl.proofs.Walks.{first_len, pieces-first}
 use Rattle.opgen_read.specs.Fits.{piece_len}
 use Rattle.opgen_read.proofs.FirstSymbol.{semicolon_first}
 

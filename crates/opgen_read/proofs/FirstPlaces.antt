@@ -10,6 +10,7 @@ use Rattle.std.proofs.lemmas.Bool.{lt-ltb, le-ltb, cases_lt, eq-eqb, ne_eqb, fal
 use Rattle.std.proofs.lemmas.List.Sums.{prefix_len-le-length}
 use Rattle.std.proofs.lemmas.List.Folds.{position_or_len_push}
 use Rattle.std.proofs.lemmas.List.{length-map, map_push}
+use Rattle.opgen_design.specs.Names.{is_allowed_name}
 use Rattle.opgen_read.specs.Places.{noted_at}
 
 module _ {X : Type 0} (p : X → Bool) where
@@ -69,6 +70,16 @@ old_name f n place k there q = go (bytes_eq q n) (f q) refl refl
     go b (Some j) e h = refl
     go true None e h = let bad : Some k ≡ None = sym there ∙ ap f (sym ((bytes_eq-Decides q n).0 e)) ∙ h in cc
     go false None e h = refl
+
+-- a map that knows allowed names alone, and one more
+pub still_allowed : (f m : List ℕ → Option ℕ) (n : List ℕ) (place : ℕ) → is_allowed_name n ≡ true → ((q : List ℕ) (k : ℕ) → f q ≡ Some k → is_allowed_name q ≡ true) →
+    ((q : List ℕ) → m q ≡ noted_at (f q) (bytes_eq q n) place) → (q : List ℕ) (k : ℕ) → m q ≡ Some k → is_allowed_name q ≡ true
+still_allowed f m n place allowed old noted q k found = go (f q) (bytes_eq q n) refl refl (sym (noted q) ∙ found)
+  where
+    go : (o : Option ℕ) (b : Bool) → f q ≡ o → bytes_eq q n ≡ b → noted_at o b place ≡ Some k → is_allowed_name q ≡ true
+    go (Some i) b h s e = old q i h
+    go None true h s e = ap is_allowed_name ((bytes_eq-Decides q n).0 s) ∙ allowed
+    go None false h s e = cc
 
 -- what a look-up says by whether it found something
 pub absent_from : {A : Type 0} (r : Option (Bor A)) (o : Option A) → option_copied r ≡ o → (b : Bool) → b ≡ is_some r → b ≡ false → o ≡ None

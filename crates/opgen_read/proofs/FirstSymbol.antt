@@ -1,15 +1,16 @@
 -- What the first symbol is, by the kind and the text of its token.
-use Rattle.std.specs.Prelude.{if◌then◌else◌, nat_le}
+use Rattle.std.specs.Prelude.{if◌then◌else◌, nat_lt}
 use Rattle.std.specs.Char.{to_ascii_lowercase}
 use Rattle.std.specs.Str.{bytes_eq}
 use Rattle.std.proofs.Common.{◌≡◌, ℕ, Bool, true, false, ◌&&◌, List, ◌∷◌, map, Some, None, refl, ap, sym, ◌∙◌}
-use Rattle.opgen_text.specs.declared.kind.TokenKind.{TokenKind}
-use Rattle.opgen_text.specs.declared.kind.TokenKind.TheVariants.{Word, Number, Bits, ZeroChar, LeftParen, RightParen, Semicolon, Colon, Comma, Dot, Ampersand, Plus, Minus, Equal, LessEqual, Arrow, Becomes}
+use Rattle.opgen_num.specs.declared.TheConstants.{MAX_WIDTH}
+use Rattle.opgen_vhdl.specs.declared.kind.TokenKind.{TokenKind}
+use Rattle.opgen_vhdl.specs.declared.kind.TokenKind.TheVariants.{Word, Number, Bits, ZeroChar, LeftParen, RightParen, Semicolon, Colon, Comma, Dot, Ampersand, Plus, Minus, Equal, LessEqual, Arrow, Becomes}
 use Rattle.opgen_design.specs.Names.{is_allowed_name}
-use Rattle.opgen_text.specs.Symbols.{Symbol, symbol_of, bits_in, word, number, mark, is_semicolon}
-use Rattle.opgen_text.specs.Grammar.{value}
-use Rattle.opgen_text.proofs.Steps.{found, some_is}
-use Rattle.opgen_text.specs.Reader.{eat, name_at, index_at, string_at, same_kind, is_mark}
+use Rattle.opgen_vhdl.specs.Symbols.{Symbol, symbol_of, bits_in, word, number, mark, is_semicolon}
+use Rattle.opgen_vhdl.specs.Grammar.{value}
+use Rattle.opgen_vhdl.proofs.Steps.{found, some_is}
+use Rattle.opgen_vhdl.specs.Reader.{eat, name_at, index_at, string_at, same_kind, is_mark}
 
 pub eat_word : (w : List ℕ) (k : TokenKind) (text : List ℕ) (rest : List Symbol) → eat (word w) (symbol_of (k, text) ∷ rest) ≡ (if same_kind k Word && bytes_eq w (map to_ascii_lowercase text) then Some rest else None)
 eat_word w Word text rest = refl
@@ -49,7 +50,7 @@ eat_number w LessEqual text rest = refl
 eat_number w Arrow text rest = refl
 eat_number w Becomes text rest = refl
 
-pub index_first : (k : TokenKind) (text : List ℕ) (rest : List Symbol) → index_at (symbol_of (k, text) ∷ rest) ≡ (if same_kind k Number then (if nat_le (value text) 63 then Some (value text, rest) else None) else None)
+pub index_first : (k : TokenKind) (text : List ℕ) (rest : List Symbol) → index_at (symbol_of (k, text) ∷ rest) ≡ (if same_kind k Number then (if nat_lt (value text) MAX_WIDTH then Some (value text, rest) else None) else None)
 index_first Word text rest = refl
 index_first Number text rest = refl
 index_first Bits text rest = refl

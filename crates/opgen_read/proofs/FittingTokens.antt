@@ -7,15 +7,16 @@ use Rattle.std.proofs.lemmas.Bool.{and_from, le-leb}
 use Rattle.std.proofs.lemmas.List.{length-map, length-take-le}
 use Rattle.std.proofs.lemmas.List.Elements.{All-head, All-tail}
 use Rattle.std.proofs.lemmas.List.Sums.{list_all-from_AllPass}
-use Rattle.opgen_text.specs.declared.kind.Token.{Token}
-use Rattle.opgen_text.specs.declared.kind.TokenKind.{TokenKind}
-use Rattle.opgen_text.specs.declared.kind.TokenKind.TheVariants.{Word, Number, Bits, ZeroChar, LeftParen, RightParen, Semicolon, Colon, Comma, Dot, Ampersand, Plus, Minus, Equal, LessEqual, Arrow, Becomes}
-use Rattle.opgen_text.specs.Spans.{InOrder, IsWithin, IsSpelledIn, spelling_of, spelled}
-use Rattle.opgen_text.specs.Symbols.{symbols, symbol_of}
-use Rattle.opgen_text.specs.Tokens.{IsToken}
+use Rattle.opgen_num.specs.declared.TheConstants.{MAX_WIDTH}
+use Rattle.opgen_vhdl.specs.declared.kind.Token.{Token}
+use Rattle.opgen_vhdl.specs.declared.kind.TokenKind.{TokenKind}
+use Rattle.opgen_vhdl.specs.declared.kind.TokenKind.TheVariants.{Word, Number, Bits, ZeroChar, LeftParen, RightParen, Semicolon, Colon, Comma, Dot, Ampersand, Plus, Minus, Equal, LessEqual, Arrow, Becomes}
+use Rattle.opgen_vhdl.specs.Spans.{InOrder, IsWithin, IsSpelledIn, spelling_of, spelled}
+use Rattle.opgen_vhdl.specs.Symbols.{symbols, symbol_of}
+use Rattle.opgen_vhdl.specs.Tokens.{IsToken}
 use Rattle.opgen_read.specs.Fits.{fits, is_numeral}
 
-short : (kind : TokenKind) (text rest : List ℕ) → IsToken kind text rest → length text ≤ 66
+short : (kind : TokenKind) (text rest : List ℕ) → IsToken kind text rest → length text ≤ MAX_WIDTH + 2
 short Word text rest t = omega (arith, t.short)
 short Number text rest t = omega (arith, t.short)
 short Bits text rest t = rw t.quoted (omega (arith, length-append t.digits (codes "\""), t.short))
@@ -60,7 +61,7 @@ one_fits : (bytes : List ℕ) (t : Token) → IsWithin (length bytes) t → IsSp
 one_fits bytes t within spells =
     let long : length (spelling_of bytes t) ≡ t.end - t.start = length-cut (t.end - t.start) t.start bytes (omega (arith, within.0, within.1)) in
     let most = short t.kind (spelling_of bytes t) (drop t.end bytes) spells in
-    and_from _ _ (and_from _ _ (and_from _ _ (le-leb t.start t.end (omega (arith, within.0))) (le-leb t.end (length bytes) within.1)) (le-leb (t.end - t.start) 66 (omega (arith, long, most))))
+    and_from _ _ (and_from _ _ (and_from _ _ (le-leb t.start t.end (omega (arith, within.0))) (le-leb t.end (length bytes) within.1)) (le-leb (t.end - t.start) (MAX_WIDTH + 2) (omega (arith, long, most))))
     (numeral t.kind (spelling_of bytes t) (drop t.end bytes) spells)
 
 pub all_fit : (bytes : List ℕ) (ts : List Token) → All (IsWithin (length bytes)) ts → All (IsSpelledIn bytes) ts → list_all (fits bytes) ts ≡ true

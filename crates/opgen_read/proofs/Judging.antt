@@ -1,7 +1,7 @@
 -- The fault of a text whose statements were read.
 use Rattle.std.proofs.Common.{ℕ, List, Err}
-use Rattle.opgen_text.specs.Statements.{Reading}
-use Rattle.opgen_text.specs.Spelled.{Statements}
+use Rattle.opgen_vhdl.specs.Statements.{Reading}
+use Rattle.opgen_vhdl.specs.Spelled.{Statements}
 use Rattle.opgen_read.specs.declared.fault.ReadFault.{ReadFault}
 use Rattle.opgen_read.specs.declared.fault.ReadFault.TheVariants.{Lexical, Syntax, TooLarge, Unsound, Memory}
 use Rattle.opgen_read.specs.Answer.{IsWithinLimits, IsReadFault}

@@ -3,10 +3,10 @@ use Rattle.std.proofs.Common.{◌≡◌, ℕ, zero, suc, List, [], ◌∷◌, �
 use Rattle.opgen_design.specs.declared.expr.Op.{Op}
 use Rattle.opgen_design.specs.Tree.{Tree, Trees, none, more}
 use Rattle.opgen_design.specs.Plain.{trees_of}
-use Rattle.opgen_text.specs.Grammar.{Names, operator}
-use Rattle.opgen_text.specs.Symbols.{Symbol}
-use Rattle.opgen_text.specs.Reader.{◌>>=◌, and_then, choice, eat, factor_at, operands_at}
-use Rattle.opgen_text.proofs.Steps.{found}
+use Rattle.opgen_vhdl.specs.Grammar.{Names, operator}
+use Rattle.opgen_vhdl.specs.Symbols.{Symbol}
+use Rattle.opgen_vhdl.specs.Reader.{◌>>=◌, and_then, choice, eat, factor_at, operands_at}
+use Rattle.opgen_vhdl.proofs.Steps.{found}
 use Rattle.opgen_read.specs.Names.{onto_trees, joined}
 use Rattle.opgen_read.specs.Gives.{Fails}
 use Rattle.opgen_read.specs.declared.refusal.Refusal.{Refusal}

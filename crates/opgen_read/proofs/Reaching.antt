@@ -1,13 +1,13 @@
 -- Pieces taken one after the other.
 use Rattle.std.proofs.Common.{◌≡◌, ◌≢◌, ℕ, ◌+◌, List, [], ◌∷◌, ◌++◌, Some, None, Err, refl, ap, sym, ◌∙◌, append_assoc, length-append, arith}
 use Rattle.std.proofs.lemmas.List.{append-nil}
-use Rattle.opgen_text.specs.declared.place.Place.{Place}
-use Rattle.opgen_text.specs.declared.place.Place.TheVariants.{Library, End}
-use Rattle.opgen_text.specs.Symbols.{Symbol, pieces}
-use Rattle.opgen_text.specs.Reader.{takes_at}
-use Rattle.opgen_text.specs.Statements.{Reading, nothing, Follows, stay}
-use Rattle.opgen_text.proofs.Takes.{takes-is}
-use Rattle.opgen_text.proofs.Walks.{Follows-push, refuses}
+use Rattle.opgen_vhdl.specs.declared.place.Place.{Place}
+use Rattle.opgen_vhdl.specs.declared.place.Place.TheVariants.{Library, End}
+use Rattle.opgen_vhdl.specs.Symbols.{Symbol, pieces}
+use Rattle.opgen_vhdl.specs.Reader.{takes_at}
+use Rattle.opgen_vhdl.specs.Statements.{Reading, nothing, Follows, stay}
+use Rattle.opgen_vhdl.proofs.Takes.{takes-is}
+use Rattle.opgen_vhdl.proofs.Walks.{Follows-push, refuses}
 use Rattle.opgen_read.specs.Reached.{Reached, StopsAt, IsPieceFault}
 use Rattle.opgen_read.specs.Stepped.{Steps}
 use Rattle.opgen_read.specs.declared.pieces.PieceFault.{PieceFault}

@@ -1,10 +1,10 @@
 -- Rows of a table read one after the other.
 use Rattle.std.proofs.Common.{◌≡◌, ℕ, zero, suc, ◌≤◌, Bool, List, [], ◌∷◌, ◌++◌, length, Option, Some, None, refl, ap, sym, ◌∙◌, append_assoc, arith}
 use Rattle.std.proofs.lemmas.List.{append-nil}
-use Rattle.opgen_text.specs.Symbols.{Symbol}
-use Rattle.opgen_text.specs.Reader.{◌>>=◌, and_then, choice, row_at, other_at, rows_at}
-use Rattle.opgen_text.proofs.Steps.{found}
-use Rattle.opgen_text.proofs.Takes.{row-shorter, enough_rows}
+use Rattle.opgen_vhdl.specs.Symbols.{Symbol}
+use Rattle.opgen_vhdl.specs.Reader.{◌>>=◌, and_then, choice, row_at, other_at, rows_at}
+use Rattle.opgen_vhdl.proofs.Steps.{found}
+use Rattle.opgen_vhdl.proofs.Takes.{row-shorter, enough_rows}
 use Rattle.opgen_read.specs.Rows.{with_rows}
 
 abbrev Row : Type 0

@@ -3,9 +3,9 @@ use Rattle.std.specs.Prelude.{◌≡◌, ◌⊎◌, ℕ, ◌≤◌, true, false,
 use Rattle.std.specs.Fmt.{decimal}
 use Rattle.opgen_design.specs.declared.design.Design.{Design}
 use Rattle.opgen_design.specs.Sound.{Rule, rule_number, IsFirstUnsound}
-use Rattle.opgen_text.specs.Tokens.{LexicalAt}
-use Rattle.opgen_text.specs.Statements.{Reading}
-use Rattle.opgen_text.specs.Spelled.{Statements, SyntaxAt}
+use Rattle.opgen_vhdl.specs.Tokens.{LexicalAt}
+use Rattle.opgen_vhdl.specs.Statements.{Reading}
+use Rattle.opgen_vhdl.specs.Spelled.{Statements, SyntaxAt}
 use Rattle.opgen_read.specs.declared.fault.ReadFault.{ReadFault}
 use Rattle.opgen_read.specs.declared.fault.ReadFault.TheVariants.{Lexical, Syntax, TooLarge, Unsound, Memory}
 
@@ -14,7 +14,7 @@ pub record IsWithinLimits (d : Design) : Type 0 where
   pub signals : length d.signals ≤ 65536
   pub ports : length d.ports ≤ 64
 
--- Names that do not agree are item 0 of rule 1, before every other place; where they agree, it is the first rule that fails.
+-- Names that do not agree are item 0 of rule 1, as is an enable that names no port; where they agree, it is the first rule that fails.
 abbrev pub FailsAt : Reading → (rule item : ℕ) → Type 0
 FailsAt r rule item =
     ((r.agrees ≡ false) × (rule ≡ 1) × (item ≡ 0))

@@ -1,9 +1,9 @@
 -- A phrase that changes nothing.
 use Rattle.std.specs.Prelude.{List, Option, Some, None}
-use Rattle.opgen_text.specs.declared.place.Place.{Place}
-use Rattle.opgen_text.specs.Statements.{Reading}
-use Rattle.opgen_text.specs.Symbols.{Symbol}
-use Rattle.opgen_text.specs.Reader.{Step}
+use Rattle.opgen_vhdl.specs.declared.place.Place.{Place}
+use Rattle.opgen_vhdl.specs.Statements.{Reading}
+use Rattle.opgen_vhdl.specs.Symbols.{Symbol}
+use Rattle.opgen_vhdl.specs.Reader.{Step}
 
 -- the place next to a phrase, where it was read
 abbrev pub moved : Place → Reading → Option (List Symbol) → Step

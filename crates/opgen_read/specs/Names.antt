@@ -1,8 +1,8 @@
 -- The names that are declared, as an expression is read under them.
 use Rattle.std.specs.Prelude.{◌∷◌, [], List, Option, Some, None, map}
 use Rattle.opgen_design.specs.Tree.{Tree, Trees, more}
-use Rattle.opgen_text.specs.Grammar.{Names}
-use Rattle.opgen_text.specs.Symbols.{Symbol}
+use Rattle.opgen_vhdl.specs.Grammar.{Names}
+use Rattle.opgen_vhdl.specs.Symbols.{Symbol}
 use Rattle.opgen_read.specs.declared.expression.Scope.{Scope}
 
 abbrev pub names_in : Scope → Names

@@ -2,8 +2,8 @@
 use Rattle.std.specs.Prelude.{◌≡◌, ℕ, ◌≤◌, Bool, true, List, length, Result, Ok, Err}
 use Rattle.opgen_design.specs.declared.design.Design.{Design}
 use Rattle.opgen_design.specs.Sound.{IsSound}
-use Rattle.opgen_text.specs.Tokens.{LexicalAt}
-use Rattle.opgen_text.specs.Spelled.{SyntaxAt}
+use Rattle.opgen_vhdl.specs.Tokens.{LexicalAt}
+use Rattle.opgen_vhdl.specs.Spelled.{SyntaxAt}
 use Rattle.opgen_read.specs.declared.fault.ReadFault.{ReadFault}
 use Rattle.opgen_read.specs.declared.fault.ReadFault.TheVariants.{Lexical, Syntax, TooLarge, Unsound, Memory}
 use Rattle.opgen_read.specs.Answer.{FailsAt}

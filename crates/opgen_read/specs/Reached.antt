@@ -1,9 +1,9 @@
 -- How far the pieces of a text were read.
 use Rattle.std.specs.Prelude.{◌≡◌, ℕ, ◌+◌, List, ◌++◌, length}
-use Rattle.opgen_text.specs.declared.place.Place.{Place}
-use Rattle.opgen_text.specs.declared.place.Place.TheVariants.{Library}
-use Rattle.opgen_text.specs.Symbols.{Symbol, pieces}
-use Rattle.opgen_text.specs.Statements.{Reading, nothing, Follows, Stops}
+use Rattle.opgen_vhdl.specs.declared.place.Place.{Place}
+use Rattle.opgen_vhdl.specs.declared.place.Place.TheVariants.{Library}
+use Rattle.opgen_vhdl.specs.Symbols.{Symbol, pieces}
+use Rattle.opgen_vhdl.specs.Statements.{Reading, nothing, Follows, Stops}
 use Rattle.opgen_read.specs.declared.pieces.PieceFault.{PieceFault}
 use Rattle.opgen_read.specs.declared.pieces.PieceFault.TheVariants.{Memory, Syntax}
 

@@ -1,7 +1,7 @@
 -- What one piece does.
 use Rattle.std.specs.Prelude.{◌≡◌, ℕ, Result, Ok, Err, Some, None}
-use Rattle.opgen_text.specs.declared.place.Place.{Place}
-use Rattle.opgen_text.specs.Reader.{Step}
+use Rattle.opgen_vhdl.specs.declared.place.Place.{Place}
+use Rattle.opgen_vhdl.specs.Reader.{Step}
 use Rattle.opgen_read.specs.declared.draft.Draft.{Draft}
 use Rattle.opgen_read.specs.declared.pieces.PieceFault.{PieceFault}
 use Rattle.opgen_read.specs.declared.pieces.PieceFault.TheVariants.{Memory, Syntax}

@@ -4,7 +4,7 @@ ghost use Rattle.opgen_read.specs.Fits.{fits};
 
 use crate::token_text::{index_of, piece_len, same_kind, same_word, word_of};
 use opgen_num::Word;
-use opgen_text::{Token, TokenKind};
+use opgen_vhdl::{Token, TokenKind};
 
 /// What is left to read of a text: the tokens that are left, with the bytes that they stand in.
 #[derive(Clone, Copy)]
@@ -15,11 +15,12 @@ pub struct Cursor<'a> {
 }
 
 impl<'a> Cursor<'a> {
-    ghost use Rattle.std.specs.Prelude.{◌≡◌, IsTrue, IfSome, IfNone, ◌≤◌, ◌<◌, ◌∷◌, [], length, map, option_map, codes};
+    ghost use Rattle.std.specs.Prelude.{◌≡◌, IsTrue, IfSome, IfNone, ◌+◌, ◌≤◌, ◌<◌, ◌∷◌, [], length, map, option_map, codes};
     ghost use Rattle.std.specs.Char.{to_ascii_lowercase};
     ghost use Rattle.std.specs.List.{list_all};
-    ghost use Rattle.opgen_text.specs.Symbols.{symbols, symbol_of, pieces, mark, word, number};
-    ghost use Rattle.opgen_text.specs.Reader.{eat, is_mark, index_at, string_at, end_at};
+    ghost use Rattle.opgen_num.specs.declared.TheConstants.{MAX_WIDTH};
+    ghost use Rattle.opgen_vhdl.specs.Symbols.{symbols, symbol_of, pieces, mark, word, number};
+    ghost use Rattle.opgen_vhdl.specs.Reader.{eat, is_mark, index_at, string_at, end_at};
     ghost use Rattle.opgen_read.specs.Fits.{fits, is_numeral};
     ghost use Rattle.opgen_read.specs.Left.{left};
 
@@ -34,7 +35,7 @@ impl<'a> Cursor<'a> {
     pub fn next(self) -> Option<(TokenKind, &'a [u8], Cursor<'a>)>
         ensures some { IfSome result (λ x. left self.entry ≡ symbol_of (x.0, x.1.now) ∷ left x.2) }
         ensures none { IfNone result (left self.entry ≡ []) }
-        ensures short { IfSome result (λ x. length x.1.now ≤ 66) }
+        ensures short { IfSome result (λ x. length x.1.now ≤ MAX_WIDTH + 2) }
         ensures numeral { IfSome result (λ x. IsTrue (is_numeral x.0 x.1.now)) }
     {
         let (token, tokens) = self.tokens.split_first()?;
@@ -87,7 +88,7 @@ impl<'a> Cursor<'a> {
     #[tactic(auto, using(crate::proofs::FirstSymbol::index_first))]
     pub fn index(self) -> Option<(u32, Cursor<'a>)>
         ensures value { option_map (λ x. (x.0, left x.1)) result ≡ index_at (left self.entry) }
-        ensures most { IfSome result (λ x. x.0 ≤ 63) }
+        ensures most { IfSome result (λ x. x.0 < MAX_WIDTH) }
     {
         let (kind, text, rest) = self.next()?;
         if same_kind(kind, TokenKind::Number) {
@@ -111,7 +112,7 @@ impl<'a> Cursor<'a> {
     }
 
     /// Nothing, where a semicolon alone is left.
-    #[tactic(auto, unfolding(opgen_text::specs::Reader::end_at, opgen_text::specs::Reader::and_then))]
+    #[tactic(auto, unfolding(opgen_vhdl::specs::Reader::end_at, opgen_vhdl::specs::Reader::and_then))]
     pub fn end(self) -> Option<Cursor<'a>>
         ensures { option_map left result ≡ end_at (left self.entry) }
     {

@@ -37,7 +37,7 @@ impl Named for Signal {
     }
 }
 
-/// A list of declarations. Contracts see it as the list.
+/// A list of declarations under allowed names. Contracts see it as the list.
 #[derive(Drop)]
 pub struct Declared<T: Named> {
     items: Items<T>,
@@ -47,7 +47,7 @@ pub struct Declared<T: Named> {
 impl<T: Named> Model for Declared<T> {
     ghost use Rattle.std.specs.Prelude.{List, map};
     ghost use Rattle.std.specs.Coded.{coded_list};
-    ghost use Rattle.opgen_read.specs.Places.{FindsEach};
+    ghost use Rattle.opgen_read.specs.Places.{FindsEach, KnowsAllowed};
 
     ghost Value = { List T };
 
@@ -55,12 +55,13 @@ impl<T: Named> Model for Declared<T> {
 
     ghost view = { λ a. a.items };
 
-    ghost invariant = { λ a. FindsEach a.first (map T.name_of a.items) };
+    ghost invariant = { λ a. FindsEach a.first (map T.name_of a.items) × KnowsAllowed a.first };
 }
 
 impl<T: Named + Drop> Declared<T> {
-    ghost use Rattle.std.specs.Prelude.{◌≡◌, IfOk, ◌++◌, ◌∷◌, [], map};
-    ghost use Rattle.opgen_text.specs.Grammar.{place_of};
+    ghost use Rattle.std.specs.Prelude.{◌≡◌, IfOk, IsTrue, ◌++◌, ◌∷◌, [], map};
+    ghost use Rattle.opgen_design.specs.Names.{is_allowed_name};
+    ghost use Rattle.opgen_vhdl.specs.Grammar.{place_of};
 
     pub fn new(alloc: Global) -> Result<Declared<T>, AllocError>
         ensures { IfOk result (λ d. d ≡ []) }
@@ -81,8 +82,16 @@ impl<T: Named + Drop> Declared<T> {
         }
     }
 
+    /// Whether there is a declaration of this name, which is allowed then.
+    pub fn has(&self, name: &str) -> bool
+        ensures { IsTrue result → IsTrue (is_allowed_name name.now) }
+    {
+        self.first.get(name).is_some()
+    }
+
     /// The declarations with one more.
     pub fn declare(self, alloc: Global, item: T) -> Result<Declared<T>, AllocError>
+        requires { IsTrue (is_allowed_name (T.name_of item)) }
         ensures { IfOk result (λ d. d ≡ self ++ item ∷ []) }
     {
         let Declared { mut items, first } = self;

@@ -1,7 +1,8 @@
 // What was read of a text so far.
 
-ghost use Rattle.std.specs.Prelude.{◌≡◌, IfOk, option_map};
-ghost use Rattle.opgen_text.specs.Statements.{with_entity, with_port, with_signal, with_driver, with_name, with_architecture, nothing, scope};
+ghost use Rattle.std.specs.Prelude.{◌≡◌, IfOk, IsTrue, option_map};
+ghost use Rattle.opgen_design.specs.Names.{is_allowed_name};
+ghost use Rattle.opgen_vhdl.specs.Statements.{with_entity, with_port, with_signal, with_driver, with_enable, with_name, with_architecture, nothing, scope};
 ghost use Rattle.opgen_read.specs.Seen.{seen};
 ghost use Rattle.opgen_read.specs.Names.{names_in};
 
@@ -19,6 +20,7 @@ pub struct Draft {
     pub ports: Declared<Port>,
     pub signals: Declared<Signal>,
     pub drivers: Items<Driver>,
+    pub enable: Option<usize>,
     pub architecture: Text,
     pub agrees: bool,
 }
@@ -32,6 +34,7 @@ impl Draft {
             ports: Declared::new(alloc)?,
             signals: Declared::new(alloc)?,
             drivers: Items::new(alloc),
+            enable: None,
             architecture: Text::from_str(alloc, "")?,
             agrees: true,
         })
@@ -56,6 +59,7 @@ impl Draft {
     }
 
     pub fn with_port(self, alloc: Global, port: Port) -> Result<Draft, AllocError>
+        requires { IsTrue (is_allowed_name port.name) }
         ensures { IfOk result (λ d. seen d ≡ with_port (seen self) port) }
     {
         let mut draft = self;
@@ -64,6 +68,7 @@ impl Draft {
     }
 
     pub fn with_signal(self, alloc: Global, signal: Signal) -> Result<Draft, AllocError>
+        requires { IsTrue (is_allowed_name signal.name) }
         ensures { IfOk result (λ d. seen d ≡ with_signal (seen self) signal) }
     {
         let mut draft = self;
@@ -77,6 +82,14 @@ impl Draft {
         let mut draft = self;
         draft.drivers.push(driver)?;
         Ok(draft)
+    }
+
+    pub fn with_enable(self, enable: Option<usize>) -> Draft
+        ensures { seen result ≡ with_enable (seen self) enable }
+    {
+        let mut draft = self;
+        draft.enable = enable;
+        draft
     }
 
     /// Notes whether the entity's name agrees, where it is written again.

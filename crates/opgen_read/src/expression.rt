@@ -3,8 +3,8 @@
 ghost use Rattle.std.specs.Prelude.{◌≡◌, length, map, option_map};
 ghost use Rattle.opgen_design.specs.Plain.{plain, plain_all, trees_of};
 ghost use Rattle.opgen_design.specs.Tree.{chain};
-ghost use Rattle.opgen_text.specs.Grammar.{operator};
-ghost use Rattle.opgen_text.specs.Reader.{eat, range_at, part_at, input_at, closed, op_at, primary_at, factor_at, operands_at, expression_at, expression, inside};
+ghost use Rattle.opgen_vhdl.specs.Grammar.{operator};
+ghost use Rattle.opgen_vhdl.specs.Reader.{eat, range_at, part_at, input_at, closed, op_at, primary_at, factor_at, operands_at, expression_at, expression, inside};
 ghost use Rattle.opgen_read.specs.Left.{left};
 ghost use Rattle.opgen_read.specs.Gives.{Gives};
 ghost use Rattle.opgen_read.specs.Names.{names_in, joined};
@@ -14,7 +14,7 @@ use crate::declared::Declared;
 use crate::name::name;
 use crate::refusal::Refusal;
 use opgen_design::{Expr, Op, Port, Signal, Slice};
-use opgen_text::TokenKind;
+use opgen_vhdl::TokenKind;
 use std::alloc::Global;
 
 /// What names stand for.
@@ -24,10 +24,22 @@ pub struct Scope<'n> {
     pub ports: &'n Declared<Port>,
 }
 
+impl Scope<'_> {
+    ghost use Rattle.std.specs.Prelude.{IsTrue};
+    ghost use Rattle.opgen_design.specs.Names.{is_allowed_name};
+
+    /// Whether a signal or a port has this name, which is allowed then.
+    pub fn has(self, name: &str) -> bool
+        ensures { IsTrue result → IsTrue (is_allowed_name name.now) }
+    {
+        self.signals.has(name) || self.ports.has(name)
+    }
+}
+
 type Read<'a, T> = Result<(T, Cursor<'a>), Refusal>;
 
 // The highest and the lowest bit of a part, behind its opening parenthesis.
-#[tactic(auto, unfolding(opgen_text::specs::Reader::range_at, opgen_text::specs::Reader::and_then))]
+#[tactic(auto, unfolding(opgen_vhdl::specs::Reader::range_at, opgen_vhdl::specs::Reader::and_then))]
 fn range(rest: Cursor<'_>) -> Option<(u32, u32, Cursor<'_>)>
     ensures { option_map (λ x. ((x.0, x.1), left x.2)) result ≡ range_at (left rest.entry) }
 {
@@ -39,11 +51,11 @@ fn range(rest: Cursor<'_>) -> Option<(u32, u32, Cursor<'_>)>
 }
 
 /// A signal, or a part of one.
-#[tactic(auto, unfolding(opgen_text::specs::Reader::part_at, opgen_text::specs::Reader::and_then, opgen_text::specs::Reader::choice))]
+#[tactic(auto, unfolding(opgen_vhdl::specs::Reader::part_at, opgen_vhdl::specs::Reader::and_then, opgen_vhdl::specs::Reader::choice))]
 pub fn part<'a>(alloc: Global, scope: Scope<'_>, rest: Cursor<'a>) -> Read<'a, Expr>
     ensures { Gives (λ x. (plain x.0, left x.1)) result (part_at (names_in scope.entry) (left rest.entry)) }
 {
-    let (name, rest) = name(alloc, rest)?;
+    let (name, rest) = name(alloc, Some(scope), rest)?;
     let node = scope.signals.place(name.as_str());
     match rest.mark(TokenKind::LeftParen) {
         None => Ok((Expr::Name(node), rest)),
@@ -55,12 +67,12 @@ pub fn part<'a>(alloc: Global, scope: Scope<'_>, rest: Cursor<'a>) -> Read<'a, E
 }
 
 // A port, behind `unsigned`.
-#[tactic(auto, unfolding(opgen_text::specs::Reader::input_at, opgen_text::specs::Reader::and_then))]
+#[tactic(auto, unfolding(opgen_vhdl::specs::Reader::input_at, opgen_vhdl::specs::Reader::and_then))]
 fn input<'a>(alloc: Global, scope: Scope<'_>, rest: Cursor<'a>) -> Read<'a, Expr>
     ensures { Gives (λ x. (plain x.0, left x.1)) result (input_at (names_in scope.entry) (left rest.entry)) }
 {
     let rest = rest.mark(TokenKind::LeftParen).ok_or(Refusal::Refused)?;
-    let (name, rest) = name(alloc, rest)?;
+    let (name, rest) = name(alloc, Some(scope), rest)?;
     let rest = rest.mark(TokenKind::RightParen).ok_or(Refusal::Refused)?;
     Ok((Expr::Port(scope.ports.place(name.as_str())), rest))
 }
@@ -80,7 +92,7 @@ fn behind(rest: Cursor<'_>, op: Op) -> Option<Cursor<'_>>
 }
 
 // The operator at the front.
-#[tactic(auto, unfolding(opgen_text::specs::Reader::op_at))]
+#[tactic(auto, unfolding(opgen_vhdl::specs::Reader::op_at))]
 fn operator(rest: Cursor<'_>) -> Option<Op>
     ensures { result ≡ op_at (left rest.entry) }
 {
@@ -109,7 +121,7 @@ fn chain(op: Op, operands: Vec<Expr>) -> Expr
 
 /// The expression at the front, with parentheses at most `depth` deep.
 #[cycle(expression)]
-#[tactic(auto, unfolding(opgen_text::specs::Reader::expression_at, opgen_text::specs::Reader::and_then, opgen_text::specs::Reader::choice))]
+#[tactic(auto, unfolding(opgen_vhdl::specs::Reader::expression_at, opgen_vhdl::specs::Reader::and_then, opgen_vhdl::specs::Reader::choice))]
 pub fn expression<'a>(
     alloc: Global,
     scope: Scope<'_>,
@@ -153,7 +165,7 @@ fn further<'a>(
 }
 
 #[cycle(expression)]
-#[tactic(auto, unfolding(opgen_text::specs::Reader::factor_at, opgen_text::specs::Reader::and_then, opgen_text::specs::Reader::choice))]
+#[tactic(auto, unfolding(opgen_vhdl::specs::Reader::factor_at, opgen_vhdl::specs::Reader::and_then, opgen_vhdl::specs::Reader::choice))]
 fn factor<'a>(alloc: Global, scope: Scope<'_>, depth: u32, rest: Cursor<'a>) -> Read<'a, Expr>
     ensures { Gives (λ x. (plain x.0, left x.1)) result (factor_at (names_in scope.entry) (inside (names_in scope.entry) depth) (left rest.entry)) }
 {
@@ -167,7 +179,7 @@ fn factor<'a>(alloc: Global, scope: Scope<'_>, depth: u32, rest: Cursor<'a>) -> 
 }
 
 #[cycle(expression)]
-#[tactic(auto, unfolding(opgen_text::specs::Reader::primary_at, opgen_text::specs::Reader::and_then, opgen_text::specs::Reader::choice))]
+#[tactic(auto, unfolding(opgen_vhdl::specs::Reader::primary_at, opgen_vhdl::specs::Reader::and_then, opgen_vhdl::specs::Reader::choice))]
 fn primary<'a>(alloc: Global, scope: Scope<'_>, depth: u32, rest: Cursor<'a>) -> Read<'a, Expr>
     ensures { Gives (λ x. (plain x.0, left x.1)) result (primary_at (names_in scope.entry) (inside (names_in scope.entry) depth) (left rest.entry)) }
 {
@@ -185,7 +197,7 @@ fn primary<'a>(alloc: Global, scope: Scope<'_>, depth: u32, rest: Cursor<'a>) ->
 
 // An expression behind its opening parenthesis.
 #[cycle(expression)]
-#[tactic(auto, unfolding(opgen_text::specs::Reader::inside, opgen_text::specs::Reader::and_then))]
+#[tactic(auto, unfolding(opgen_vhdl::specs::Reader::inside, opgen_vhdl::specs::Reader::and_then))]
 fn group<'a>(alloc: Global, scope: Scope<'_>, depth: u32, rest: Cursor<'a>) -> Read<'a, Expr>
     ensures { Gives (λ x. (plain x.0, left x.1)) result (closed (inside (names_in scope.entry) depth (left rest.entry))) }
 {

@@ -17,7 +17,7 @@ pub enum ReadFault {
     TooLarge,
     /// The first rule of sound designs that fails, and the first place at which it does, from 1 in
     /// ports, then signals, then drivers. Names of the entity or the architecture that do not agree
-    /// are item 0 of rule 1.
+    /// are item 0 of rule 1, and so is an enable that names no port.
     Unsound { rule: u8, item: u32 },
     Memory,
 }

@@ -3,7 +3,7 @@
 ghost use Rattle.std.specs.Prelude.{◌≡◌, ◌≢◌, ℕ, List};
 ghost use Rattle.opgen_design.specs.declared.design.Design.{Design};
 ghost use Rattle.opgen_design.specs.Sound.{IsSound};
-ghost use Rattle.opgen_text.specs.Spelled.{Spells};
+ghost use Rattle.opgen_vhdl.specs.Spelled.{Spells};
 ghost use Rattle.opgen_read.specs.declared.fault.ReadFault.{ReadFault};
 ghost use Rattle.opgen_read.specs.declared.fault.ReadFault.TheVariants.{Memory};
 ghost use Rattle.opgen_read.specs.Answer.{IsWithinLimits, IsReadFault};

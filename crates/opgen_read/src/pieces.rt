@@ -1,10 +1,10 @@
 // The pieces of a text, one after the other.
 
 ghost use Rattle.std.specs.Prelude.{◌≡◌, ◌≤◌, ◌+◌, IfOk, IfErr, OnErr, length, Ok, Err};
-ghost use Rattle.opgen_text.specs.declared.place.Place.TheVariants.{Library, End};
-ghost use Rattle.opgen_text.specs.Reader.{takes_at};
-ghost use Rattle.opgen_text.specs.Statements.{Follows, nothing};
-ghost use Rattle.opgen_text.specs.Symbols.{pieces};
+ghost use Rattle.opgen_vhdl.specs.declared.place.Place.TheVariants.{Library, End};
+ghost use Rattle.opgen_vhdl.specs.Reader.{takes_at};
+ghost use Rattle.opgen_vhdl.specs.Statements.{Follows, nothing};
+ghost use Rattle.opgen_vhdl.specs.Symbols.{pieces};
 ghost use Rattle.opgen_read.specs.Left.{left};
 ghost use Rattle.opgen_read.specs.Reached.{IsPieceFault};
 ghost use Rattle.opgen_read.specs.Seen.{seen};
@@ -14,7 +14,7 @@ use crate::cursor::Cursor;
 use crate::draft::Draft;
 use crate::refusal::Refusal;
 use crate::take::take;
-use opgen_text::Place;
+use opgen_vhdl::Place;
 use std::alloc::{AllocError, Global};
 
 /// Why pieces were not read: memory ran out, or a piece, by its number from 1, is none that its

@@ -2,7 +2,7 @@
 
 ghost use Rattle.std.specs.Prelude.{◌≡◌, ◌≤◌, IfOk, IfErr, IsTrue, ◌↔◌, length};
 ghost use Rattle.opgen_design.specs.Sound.{HasNumbers, IsSound};
-ghost use Rattle.opgen_text.specs.Spelled.{Statements, Spells};
+ghost use Rattle.opgen_vhdl.specs.Spelled.{Statements, Spells};
 ghost use Rattle.opgen_read.specs.Answer.{IsWithinLimits, IsReadFault};
 ghost use Rattle.opgen_read.specs.Outcome.{IsTextFault, IsOutcome, HasFew};
 ghost use Rattle.opgen_read.specs.Seen.{seen};
@@ -55,6 +55,7 @@ fn design_of(draft: Draft) -> Design
         ports: draft.ports.into_items(),
         signals: draft.signals.into_items(),
         drivers: draft.drivers,
+        enable: draft.enable,
     }
 }
 

@@ -1,8 +1,9 @@
 // The statements of an architecture.
 
 ghost use Rattle.std.specs.Prelude.{◌≡◌, length, map, option_map};
+ghost use Rattle.std.specs.Char.{to_ascii_lowercase};
 ghost use Rattle.opgen_design.specs.Plain.{plain};
-ghost use Rattle.opgen_text.specs.Reader.{row_at, other_at, rows_at, table_at, choice_at, valued_at, output_at, target_at, assignment_at, concurrent_at, clocked_at, is_one, high_at, clock, edge_at, process_at, eat_all};
+ghost use Rattle.opgen_vhdl.specs.Reader.{row_at, other_at, rows_at, table_at, choice_at, valued_at, output_at, target_at, assignment_at, concurrent_at, clocked_at, is_one, high_at, clock, edge_at, process_at, port_high_at, enable_at, eat_all};
 ghost use Rattle.opgen_read.specs.Left.{left};
 ghost use Rattle.opgen_read.specs.Gives.{Gives};
 ghost use Rattle.opgen_read.specs.Names.{names_in};
@@ -14,14 +15,14 @@ use crate::refusal::Refusal;
 use opgen_design::{Driver, Expr, Formula};
 use opgen_list::{Items, Text};
 use opgen_num::Word;
-use opgen_text::TokenKind;
+use opgen_vhdl::TokenKind;
 use std::alloc::Global;
 
 // How deep parentheses may nest.
 const MAX_DEPTH: u32 = 64;
 
 // A row of a table, its address first, and what is left behind its comma.
-#[tactic(auto, unfolding(opgen_text::specs::Reader::row_at, opgen_text::specs::Reader::and_then))]
+#[tactic(auto, unfolding(opgen_vhdl::specs::Reader::row_at, opgen_vhdl::specs::Reader::and_then))]
 fn row(rest: Cursor<'_>) -> Option<((Word, Word), Cursor<'_>)>
     ensures { option_map (λ x. (x.0, left x.1)) result ≡ row_at (left rest.entry) }
 {
@@ -41,7 +42,7 @@ fn row(rest: Cursor<'_>) -> Option<((Word, Word), Cursor<'_>)>
 }
 
 // The word of every other address, and the piece is over.
-#[tactic(auto, unfolding(opgen_text::specs::Reader::other_at, opgen_text::specs::Reader::and_then))]
+#[tactic(auto, unfolding(opgen_vhdl::specs::Reader::other_at, opgen_vhdl::specs::Reader::and_then))]
 fn other(rest: Cursor<'_>) -> Option<Word>
     ensures { result ≡ other_at (left rest.entry) }
 {
@@ -70,13 +71,13 @@ fn rows(alloc: Global, rest: Cursor<'_>) -> Result<(Items<(Word, Word)>, Word), 
 }
 
 // A table behind `with`.
-#[tactic(auto, unfolding(opgen_text::specs::Reader::table_at, opgen_text::specs::Reader::and_then))]
+#[tactic(auto, unfolding(opgen_vhdl::specs::Reader::table_at, opgen_vhdl::specs::Reader::and_then))]
 fn table(alloc: Global, scope: Scope<'_>, rest: Cursor<'_>) -> Result<Driver, Refusal>
     ensures { Gives (λ x. x) result (table_at (names_in scope.entry) (left rest.entry)) }
 {
     let (on, rest) = part(alloc, scope, rest)?;
     let rest = rest.word("select").ok_or(Refusal::Refused)?;
-    let (name, rest) = name(alloc, rest)?;
+    let (name, rest) = name(alloc, Some(scope), rest)?;
     let rest = rest.mark(TokenKind::LessEqual).ok_or(Refusal::Refused)?;
     let (rows, other) = rows(alloc, rest)?;
     Ok(Driver::Table {
@@ -93,26 +94,20 @@ fn is_one(word: Word) -> bool
     word.width() == 1 && word.bits() == 1
 }
 
-// The rest of a comparison with "1", up to `else`.
-#[tactic(auto, unfolding(opgen_text::specs::Reader::high_at, opgen_text::specs::Reader::and_then))]
-fn high(rest: Cursor<'_>) -> Option<Cursor<'_>>
-    ensures { option_map left result ≡ high_at (left rest.entry) }
+// The rest of a comparison with "1", up to a word behind it.
+#[tactic(auto, unfolding(opgen_vhdl::specs::Reader::high_at, opgen_vhdl::specs::Reader::and_then))]
+fn high<'a>(rest: Cursor<'a>, next: &str) -> Option<Cursor<'a>>
+    ensures { option_map left result ≡ high_at (map to_ascii_lowercase next.now) (left rest.entry) }
 {
     let rest = rest.mark(TokenKind::Equal)?;
     match rest.string() {
         None => None,
-        Some((word, rest)) => {
-            if is_one(word) {
-                rest.word("else")
-            } else {
-                None
-            }
-        }
+        Some((word, rest)) => { if is_one(word) { rest.word(next) } else { None } }
     }
 }
 
 // An assignment that depends on a condition, behind `when`.
-#[tactic(auto, unfolding(opgen_text::specs::Reader::choice_at, opgen_text::specs::Reader::and_then))]
+#[tactic(auto, unfolding(opgen_vhdl::specs::Reader::choice_at, opgen_vhdl::specs::Reader::and_then))]
 fn choice(
     alloc: Global,
     scope: Scope<'_>,
@@ -123,7 +118,7 @@ fn choice(
     ensures { Gives (λ x. x) result (choice_at (names_in scope.entry) to (plain yes) (left rest.entry)) }
 {
     let (on, rest) = part(alloc, scope, rest)?;
-    let rest = high(rest).ok_or(Refusal::Refused)?;
+    let rest = high(rest, "else").ok_or(Refusal::Refused)?;
     let (no, rest) = expression(alloc, scope, MAX_DEPTH, rest)?;
     match rest.end() {
         None => Err(Refusal::Refused),
@@ -137,7 +132,7 @@ fn choice(
 }
 
 // An assignment to a signal, behind `<=`.
-#[tactic(auto, unfolding(opgen_text::specs::Reader::valued_at, opgen_text::specs::Reader::and_then, opgen_text::specs::Reader::choice))]
+#[tactic(auto, unfolding(opgen_vhdl::specs::Reader::valued_at, opgen_vhdl::specs::Reader::and_then, opgen_vhdl::specs::Reader::choice))]
 fn valued(alloc: Global, scope: Scope<'_>, to: usize, rest: Cursor<'_>) -> Result<Driver, Refusal>
     ensures { Gives (λ x. x) result (valued_at (names_in scope.entry) to (left rest.entry)) }
 {
@@ -155,7 +150,7 @@ fn valued(alloc: Global, scope: Scope<'_>, to: usize, rest: Cursor<'_>) -> Resul
 }
 
 // An assignment to an output, behind `std_logic_vector`.
-#[tactic(auto, unfolding(opgen_text::specs::Reader::output_at, opgen_text::specs::Reader::and_then))]
+#[tactic(auto, unfolding(opgen_vhdl::specs::Reader::output_at, opgen_vhdl::specs::Reader::and_then))]
 fn output(alloc: Global, scope: Scope<'_>, port: usize, rest: Cursor<'_>) -> Result<Driver, Refusal>
     ensures { Gives (λ x. x) result (output_at (names_in scope.entry) port (left rest.entry)) }
 {
@@ -172,20 +167,24 @@ fn output(alloc: Global, scope: Scope<'_>, port: usize, rest: Cursor<'_>) -> Res
 }
 
 // The name that is driven, and what is left behind `<=`.
-#[tactic(auto, unfolding(opgen_text::specs::Reader::target_at, opgen_text::specs::Reader::and_then))]
-fn target<'a>(alloc: Global, rest: Cursor<'a>) -> Result<(Text, Cursor<'a>), Refusal>
+#[tactic(auto, unfolding(opgen_vhdl::specs::Reader::target_at, opgen_vhdl::specs::Reader::and_then))]
+fn target<'a>(
+    alloc: Global,
+    scope: Scope<'_>,
+    rest: Cursor<'a>,
+) -> Result<(Text, Cursor<'a>), Refusal>
     ensures { Gives (λ x. (x.0, left x.1)) result (target_at (left rest.entry)) }
 {
-    let (name, rest) = name(alloc, rest)?;
+    let (name, rest) = name(alloc, Some(scope), rest)?;
     let rest = rest.mark(TokenKind::LessEqual).ok_or(Refusal::Refused)?;
     Ok((name, rest))
 }
 
-#[tactic(auto, unfolding(opgen_text::specs::Reader::assignment_at, opgen_text::specs::Reader::and_then, opgen_text::specs::Reader::choice))]
+#[tactic(auto, unfolding(opgen_vhdl::specs::Reader::assignment_at, opgen_vhdl::specs::Reader::and_then, opgen_vhdl::specs::Reader::choice))]
 fn assignment(alloc: Global, scope: Scope<'_>, piece: Cursor<'_>) -> Result<Driver, Refusal>
     ensures { Gives (λ x. x) result (assignment_at (names_in scope.entry) (left piece.entry)) }
 {
-    let (name, rest) = target(alloc, piece)?;
+    let (name, rest) = target(alloc, scope, piece)?;
     match rest.word("std_logic_vector") {
         Some(rest) => output(alloc, scope, scope.ports.place(name.as_str()), rest),
         None => valued(alloc, scope, scope.signals.place(name.as_str()), rest),
@@ -193,7 +192,7 @@ fn assignment(alloc: Global, scope: Scope<'_>, piece: Cursor<'_>) -> Result<Driv
 }
 
 /// The driver of a statement outside the process.
-#[tactic(auto, unfolding(opgen_text::specs::Reader::concurrent_at, opgen_text::specs::Reader::choice))]
+#[tactic(auto, unfolding(opgen_vhdl::specs::Reader::concurrent_at, opgen_vhdl::specs::Reader::choice))]
 pub fn concurrent(alloc: Global, scope: Scope<'_>, piece: Cursor<'_>) -> Result<Driver, Refusal>
     ensures { Gives (λ x. x) result (concurrent_at (names_in scope.entry) (left piece.entry)) }
 {
@@ -204,11 +203,11 @@ pub fn concurrent(alloc: Global, scope: Scope<'_>, piece: Cursor<'_>) -> Result<
 }
 
 /// The driver of an assignment within the process.
-#[tactic(auto, unfolding(opgen_text::specs::Reader::clocked_at, opgen_text::specs::Reader::and_then))]
+#[tactic(auto, unfolding(opgen_vhdl::specs::Reader::clocked_at, opgen_vhdl::specs::Reader::and_then))]
 pub fn clocked(alloc: Global, scope: Scope<'_>, piece: Cursor<'_>) -> Result<Driver, Refusal>
     ensures { Gives (λ x. x) result (clocked_at (names_in scope.entry) (left piece.entry)) }
 {
-    let (name, rest) = target(alloc, piece)?;
+    let (name, rest) = target(alloc, scope, piece)?;
     let (value, rest) = expression(alloc, scope, MAX_DEPTH, rest)?;
     match rest.end() {
         None => Err(Refusal::Refused),
@@ -219,7 +218,7 @@ pub fn clocked(alloc: Global, scope: Scope<'_>, piece: Cursor<'_>) -> Result<Dri
     }
 }
 
-#[tactic(auto, unfolding(opgen_text::specs::Reader::and_then))]
+#[tactic(auto, unfolding(opgen_vhdl::specs::Reader::and_then))]
 fn clock(rest: Cursor<'_>) -> Option<Cursor<'_>>
     ensures { option_map left result ≡ eat_all clock (left rest.entry) }
 {
@@ -228,7 +227,7 @@ fn clock(rest: Cursor<'_>) -> Option<Cursor<'_>>
         .mark(TokenKind::RightParen)
 }
 
-#[tactic(auto, unfolding(opgen_text::specs::Reader::edge_at, opgen_text::specs::Reader::and_then))]
+#[tactic(auto, unfolding(opgen_vhdl::specs::Reader::edge_at, opgen_vhdl::specs::Reader::and_then))]
 fn edge(rest: Cursor<'_>) -> Option<Cursor<'_>>
     ensures { option_map left result ≡ edge_at (left rest.entry) }
 {
@@ -236,8 +235,8 @@ fn edge(rest: Cursor<'_>) -> Option<Cursor<'_>>
     clock(rest)?.word("then")
 }
 
-/// What is left of the process's first piece at its first assignment, behind `process`.
-#[tactic(auto, unfolding(opgen_text::specs::Reader::process_at, opgen_text::specs::Reader::and_then, opgen_text::specs::Reader::choice))]
+/// What is left of the process's first piece at its enable or its first assignment, behind `process`.
+#[tactic(auto, unfolding(opgen_vhdl::specs::Reader::process_at, opgen_vhdl::specs::Reader::and_then, opgen_vhdl::specs::Reader::choice))]
 pub fn process(rest: Cursor<'_>) -> Option<Cursor<'_>>
     ensures { option_map left result ≡ process_at (left rest.entry) }
 {
@@ -245,5 +244,37 @@ pub fn process(rest: Cursor<'_>) -> Option<Cursor<'_>>
     match rest.word("is") {
         Some(rest) => edge(rest),
         None => edge(rest),
+    }
+}
+
+// The port that enables the registers, behind `if`.
+#[tactic(auto, unfolding(opgen_vhdl::specs::Reader::port_high_at, opgen_vhdl::specs::Reader::and_then))]
+fn port_high<'a>(
+    alloc: Global,
+    scope: Scope<'_>,
+    rest: Cursor<'a>,
+) -> Result<(usize, Cursor<'a>), Refusal>
+    ensures { Gives (λ x. (x.0, left x.1)) result (port_high_at (names_in scope.entry) (left rest.entry)) }
+{
+    let (name, rest) = name(alloc, Some(scope), rest)?;
+    let rest = high(rest, "then").ok_or(Refusal::Refused)?;
+    Ok((scope.ports.place(name.as_str()), rest))
+}
+
+/// The port that enables the registers, where the process has an enable, and what is left at its first assignment.
+#[tactic(auto, unfolding(opgen_vhdl::specs::Reader::enable_at, opgen_vhdl::specs::Reader::and_then, opgen_vhdl::specs::Reader::choice))]
+pub fn enable<'a>(
+    alloc: Global,
+    scope: Scope<'_>,
+    rest: Cursor<'a>,
+) -> Result<(Option<usize>, Cursor<'a>), Refusal>
+    ensures { Gives (λ x. (x.0, left x.1)) result (enable_at (names_in scope.entry) (left rest.entry)) }
+{
+    match rest.word("if") {
+        None => Ok((None, rest)),
+        Some(rest) => {
+            let (port, rest) = port_high(alloc, scope, rest)?;
+            Ok((Some(port), rest))
+        }
     }
 }

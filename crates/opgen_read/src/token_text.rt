@@ -1,20 +1,21 @@
 // What the texts of tokens say.
 
-ghost use Rattle.std.specs.Prelude.{◌≡◌, ◌≤◌, ◌<◌, IsTrue, IfSome, map, length, nat_le, Some, None, if◌then◌else◌, ◌∷◌};
+ghost use Rattle.std.specs.Prelude.{◌≡◌, ◌+◌, ◌≤◌, ◌<◌, IsTrue, IfSome, map, length, nat_lt, Some, None, if◌then◌else◌, ◌∷◌};
 ghost use Rattle.std.specs.Char.{to_ascii_lowercase, is_ascii_digit};
 ghost use Rattle.std.specs.List.{list_all};
 ghost use Rattle.std.specs.Str.{bytes_eq};
-ghost use Rattle.opgen_text.specs.Bytes.{is_bit};
-ghost use Rattle.opgen_text.specs.Grammar.{value};
-ghost use Rattle.opgen_text.specs.Reader.{same_kind, rank};
-ghost use Rattle.opgen_text.specs.Symbols.{bits_in};
+ghost use Rattle.opgen_num.specs.declared.TheConstants.{MAX_WIDTH};
+ghost use Rattle.opgen_vhdl.specs.Bytes.{is_bit};
+ghost use Rattle.opgen_vhdl.specs.Grammar.{value};
+ghost use Rattle.opgen_vhdl.specs.Reader.{same_kind, rank};
+ghost use Rattle.opgen_vhdl.specs.Symbols.{bits_in};
 ghost use Rattle.opgen_read.specs.Fits.{piece_len};
 
-use opgen_num::Word;
-use opgen_text::{Token, TokenKind};
+use opgen_num::{MAX_WIDTH, Word};
+use opgen_vhdl::{Token, TokenKind};
 
-// The number of the highest bit of a word.
-const MAX_INDEX: u32 = 63;
+// The number of the highest bit of a signal.
+const MAX_INDEX: u32 = MAX_WIDTH - 1;
 
 fn rank(kind: TokenKind) -> u8
     ensures { result ≡ rank kind }
@@ -35,11 +36,11 @@ pub fn same_word(word: &str, text: &[u8]) -> bool
     word.as_bytes().eq_ignore_ascii_case(text)
 }
 
-/// The number that digits give, where it is the number of a bit.
+/// The number that digits give, where it is the number of a bit of a signal.
 pub fn index_of(digits: &[u8]) -> Option<u32>
     requires { IsTrue (list_all is_ascii_digit digits.now) }
-    ensures value { result ≡ (if nat_le (value digits.now) 63 then Some (value digits.now) else None) }
-    ensures most { IfSome result (λ i. i ≤ 63) }
+    ensures value { result ≡ (if nat_lt (value digits.now) MAX_WIDTH then Some (value digits.now) else None) }
+    ensures most { IfSome result (λ i. i < MAX_WIDTH) }
 {
     let mut index = 0;
     'digits: for digit in digits {
@@ -67,7 +68,7 @@ fn with_lowest(word: Word, bit: bool) -> Word
 
 /// The word of a bit string, whose last bit is the lowest.
 pub fn word_of(text: &[u8]) -> Word
-    requires { length text.now ≤ 66 }
+    requires { length text.now ≤ MAX_WIDTH + 2 }
     ensures { result ≡ bits_in text.now }
 {
     let mut word = Word::new(0, 0);

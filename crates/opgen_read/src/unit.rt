@@ -1,8 +1,9 @@
 // Names, ports and signals of an entity and its architecture.
 
-ghost use Rattle.std.specs.Prelude.{◌≡◌, map, option_map, replicate, false};
+ghost use Rattle.std.specs.Prelude.{◌≡◌, IfOk, IsTrue, map, option_map, replicate, false};
 ghost use Rattle.std.specs.Char.{to_ascii_lowercase};
-ghost use Rattle.opgen_text.specs.Reader.{phrase_at, clock_port, entity_at, direction_at, width_at, port_at, own_name_at, unit_end_at, heading_at, others_zero, initial_value_at, initial_at, signal_at};
+ghost use Rattle.opgen_design.specs.Names.{is_allowed_name};
+ghost use Rattle.opgen_vhdl.specs.Reader.{phrase_at, clock_port, entity_at, direction_at, width_at, port_at, own_name_at, unit_end_at, heading_at, others_zero, initial_value_at, initial_at, signal_at};
 ghost use Rattle.opgen_read.specs.Left.{left};
 ghost use Rattle.opgen_read.specs.Gives.{Gives};
 
@@ -12,11 +13,11 @@ use crate::refusal::Refusal;
 use opgen_design::{Dir, Port, Signal};
 use opgen_list::Text;
 use opgen_num::Word;
-use opgen_text::TokenKind;
+use opgen_vhdl::TokenKind;
 use std::alloc::Global;
 
 // The port of the clock, and the piece is over.
-#[tactic(auto, unfolding(opgen_text::specs::Reader::and_then))]
+#[tactic(auto, unfolding(opgen_vhdl::specs::Reader::and_then))]
 fn clock_port(rest: Cursor<'_>) -> Option<Cursor<'_>>
     ensures { option_map left result ≡ phrase_at clock_port (left rest.entry) }
 {
@@ -31,19 +32,19 @@ fn clock_port(rest: Cursor<'_>) -> Option<Cursor<'_>>
 }
 
 /// The name of an entity, from a piece that is its head.
-#[tactic(auto, unfolding(opgen_text::specs::Reader::entity_at, opgen_text::specs::Reader::and_then))]
+#[tactic(auto, unfolding(opgen_vhdl::specs::Reader::entity_at, opgen_vhdl::specs::Reader::and_then))]
 pub fn entity(alloc: Global, piece: Cursor<'_>) -> Result<Text, Refusal>
     ensures { Gives (λ x. x) result (entity_at (left piece.entry)) }
 {
     let rest = piece.word("entity").ok_or(Refusal::Refused)?;
-    let (name, rest) = name(alloc, rest)?;
+    let (name, rest) = name(alloc, None, rest)?;
     match clock_port(rest) {
         Some(_end) => Ok(name),
         None => Err(Refusal::Refused),
     }
 }
 
-#[tactic(auto, unfolding(opgen_text::specs::Reader::direction_at, opgen_text::specs::Reader::and_then, opgen_text::specs::Reader::choice))]
+#[tactic(auto, unfolding(opgen_vhdl::specs::Reader::direction_at, opgen_vhdl::specs::Reader::and_then, opgen_vhdl::specs::Reader::choice))]
 fn direction(rest: Cursor<'_>) -> Option<(Dir, Cursor<'_>)>
     ensures { option_map (λ x. (x.0, left x.1)) result ≡ direction_at (left rest.entry) }
 {
@@ -57,7 +58,7 @@ fn direction(rest: Cursor<'_>) -> Option<(Dir, Cursor<'_>)>
 }
 
 // The width of a range that ends at 0.
-#[tactic(auto, unfolding(opgen_text::specs::Reader::width_at, opgen_text::specs::Reader::and_then))]
+#[tactic(auto, unfolding(opgen_vhdl::specs::Reader::width_at, opgen_vhdl::specs::Reader::and_then))]
 fn width(rest: Cursor<'_>) -> Option<(u32, Cursor<'_>)>
     ensures { option_map (λ x. (x.0, left x.1)) result ≡ width_at (left rest.entry) }
 {
@@ -68,11 +69,12 @@ fn width(rest: Cursor<'_>) -> Option<(u32, Cursor<'_>)>
 }
 
 /// A port, and what is left behind it.
-#[tactic(auto, unfolding(opgen_text::specs::Reader::port_at, opgen_text::specs::Reader::and_then))]
+#[tactic(auto, unfolding(opgen_vhdl::specs::Reader::port_at, opgen_vhdl::specs::Reader::and_then))]
 pub fn port<'a>(alloc: Global, rest: Cursor<'a>) -> Result<(Port, Cursor<'a>), Refusal>
-    ensures { Gives (λ x. (x.0, left x.1)) result (port_at (left rest.entry)) }
+    ensures value { Gives (λ x. (x.0, left x.1)) result (port_at (left rest.entry)) }
+    ensures allowed { IfOk result (λ x. IsTrue (is_allowed_name x.0.name)) }
 {
-    let (name, rest) = name(alloc, rest)?;
+    let (name, rest) = name(alloc, None, rest)?;
     let rest = rest.mark(TokenKind::Colon).ok_or(Refusal::Refused)?;
     let (dir, rest) = direction(rest).ok_or(Refusal::Refused)?;
     let rest = rest.word("std_logic_vector").ok_or(Refusal::Refused)?;
@@ -81,11 +83,11 @@ pub fn port<'a>(alloc: Global, rest: Cursor<'a>) -> Result<(Port, Cursor<'a>), R
 }
 
 // The name of a unit at its end, where it is written.
-#[tactic(auto, unfolding(opgen_text::specs::Reader::own_name_at, opgen_text::specs::Reader::and_then, opgen_text::specs::Reader::choice))]
+#[tactic(auto, unfolding(opgen_vhdl::specs::Reader::own_name_at, opgen_vhdl::specs::Reader::and_then, opgen_vhdl::specs::Reader::choice))]
 fn own_name(alloc: Global, rest: Cursor<'_>) -> Result<Option<Text>, Refusal>
     ensures { Gives (λ x. x) result (own_name_at (left rest.entry)) }
 {
-    match name(alloc, rest) {
+    match name(alloc, None, rest) {
         Ok((name, rest)) => match rest.end() {
             Some(_end) => Ok(Some(name)),
             None => Err(Refusal::Refused),
@@ -99,7 +101,7 @@ fn own_name(alloc: Global, rest: Cursor<'_>) -> Result<Option<Text>, Refusal>
 }
 
 /// The name of a unit of this kind at its end, behind `end`.
-#[tactic(auto, unfolding(opgen_text::specs::Reader::unit_end_at, opgen_text::specs::Reader::choice))]
+#[tactic(auto, unfolding(opgen_vhdl::specs::Reader::unit_end_at, opgen_vhdl::specs::Reader::choice))]
 pub fn unit_end(alloc: Global, unit: &str, rest: Cursor<'_>) -> Result<Option<Text>, Refusal>
     ensures { Gives (λ x. x) result (unit_end_at (map to_ascii_lowercase unit.now) (left rest.entry)) }
 {
@@ -110,20 +112,20 @@ pub fn unit_end(alloc: Global, unit: &str, rest: Cursor<'_>) -> Result<Option<Te
 }
 
 /// The name of an architecture, that of its entity, and what is left behind them.
-#[tactic(auto, unfolding(opgen_text::specs::Reader::heading_at, opgen_text::specs::Reader::and_then))]
+#[tactic(auto, unfolding(opgen_vhdl::specs::Reader::heading_at, opgen_vhdl::specs::Reader::and_then))]
 pub fn heading<'a>(alloc: Global, piece: Cursor<'a>) -> Result<(Text, Text, Cursor<'a>), Refusal>
     ensures { Gives (λ x. ((x.0, x.1), left x.2)) result (heading_at (left piece.entry)) }
 {
     let rest = piece.word("architecture").ok_or(Refusal::Refused)?;
-    let (own, rest) = name(alloc, rest)?;
+    let (own, rest) = name(alloc, None, rest)?;
     let rest = rest.word("of").ok_or(Refusal::Refused)?;
-    let (entity, rest) = name(alloc, rest)?;
+    let (entity, rest) = name(alloc, None, rest)?;
     let rest = rest.word("is").ok_or(Refusal::Refused)?;
     Ok((own, entity, rest))
 }
 
 // Zeros for all bits, behind the opening parenthesis, and the piece is over.
-#[tactic(auto, unfolding(opgen_text::specs::Reader::and_then))]
+#[tactic(auto, unfolding(opgen_vhdl::specs::Reader::and_then))]
 fn others_zero(rest: Cursor<'_>) -> Option<Cursor<'_>>
     ensures { option_map left result ≡ phrase_at others_zero (left rest.entry) }
 {
@@ -143,7 +145,7 @@ fn zeros(width: u32) -> Word
 }
 
 // An initial value behind `:=`.
-#[tactic(auto, unfolding(opgen_text::specs::Reader::initial_value_at, opgen_text::specs::Reader::and_then, opgen_text::specs::Reader::choice))]
+#[tactic(auto, unfolding(opgen_vhdl::specs::Reader::initial_value_at, opgen_vhdl::specs::Reader::and_then, opgen_vhdl::specs::Reader::choice))]
 fn initial_value(width: u32, rest: Cursor<'_>) -> Option<Word>
     ensures { result ≡ initial_value_at width (left rest.entry) }
 {
@@ -162,7 +164,7 @@ fn initial_value(width: u32, rest: Cursor<'_>) -> Option<Word>
     }
 }
 
-#[tactic(auto, unfolding(opgen_text::specs::Reader::initial_at, opgen_text::specs::Reader::and_then, opgen_text::specs::Reader::choice))]
+#[tactic(auto, unfolding(opgen_vhdl::specs::Reader::initial_at, opgen_vhdl::specs::Reader::and_then, opgen_vhdl::specs::Reader::choice))]
 fn initial(width: u32, rest: Cursor<'_>) -> Option<Option<Word>>
     ensures { result ≡ initial_at width (left rest.entry) }
 {
@@ -179,12 +181,13 @@ fn initial(width: u32, rest: Cursor<'_>) -> Option<Option<Word>>
 }
 
 /// A signal, from a piece that declares it.
-#[tactic(auto, unfolding(opgen_text::specs::Reader::signal_at, opgen_text::specs::Reader::and_then))]
+#[tactic(auto, unfolding(opgen_vhdl::specs::Reader::signal_at, opgen_vhdl::specs::Reader::and_then))]
 pub fn signal(alloc: Global, piece: Cursor<'_>) -> Result<Signal, Refusal>
-    ensures { Gives (λ x. x) result (signal_at (left piece.entry)) }
+    ensures value { Gives (λ x. x) result (signal_at (left piece.entry)) }
+    ensures allowed { IfOk result (λ x. IsTrue (is_allowed_name x.name)) }
 {
     let rest = piece.word("signal").ok_or(Refusal::Refused)?;
-    let (name, rest) = name(alloc, rest)?;
+    let (name, rest) = name(alloc, None, rest)?;
     let rest = rest.mark(TokenKind::Colon).ok_or(Refusal::Refused)?;
     let rest = rest.word("unsigned").ok_or(Refusal::Refused)?;
     let (width, rest) = width(rest).ok_or(Refusal::Refused)?;

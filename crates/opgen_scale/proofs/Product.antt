@@ -9,6 +9,7 @@ use Rattle.std.proofs.lemmas.Nat.{pow_pos}
 use Rattle.std.proofs.lemmas.Bool.{cases_lt}
 use Rattle.opgen_num.specs.Words.{nat, word}
 use Rattle.opgen_num.specs.WordLaws.{length-word, nat-word}
+use Rattle.opgen_num.proofs.Cuts.{nat-append}
 use Rattle.opgen_num.proofs.Words.{nat-below}
 use Rattle.opgen_design.specs.Value.{word_at, cut}
 use Rattle.opgen_net.specs.Flow.{Inputs, input_from, input_at}
@@ -43,12 +44,6 @@ nat-row number width n a size fits =
     let most : nat a ≤ 2 ^ n - 1 = omega (arith, below) in
     ap nat (get_or-multiples number width (2 ^ n) (nat a) [] below)
     ∙ nat-word width (number * nat a) (omega (arith, mul-le-mul_left number most, fits))
-
-pub nat-append : (a b : List Bool) → nat (a ++ b) ≡ nat a + 2 ^ length a * nat b
-nat-append [] b = omega arith
-nat-append (x ∷ a) b =
-    let doubled : 2 ^ suc (length a) * nat b ≡ 2 ^ length a * nat b + 2 ^ length a * nat b = omega (arith, ap (λ n. n * nat b) (two-pow-succ (length a))) in
-    omega (arith, nat-append a b, doubled)
 
 -- zeros below a word
 pub nat-shifted : (z : ℕ) (w : List Bool) → nat (word z 0 ++ w) ≡ 2 ^ z * nat w

@@ -2,6 +2,7 @@
 use Rattle.std.proofs.Common.{◌≡◌, ℕ, zero, suc, ◌+◌, ◌*◌, ◌^◌, ◌<◌, ◌≤◌, Bool, List, [], ◌∷◌, ◌++◌, length, get_or, Some, refl, sym, ap, ◌∙◌, subst, arith, le-leb}
 use Rattle.std.specs.Prelude.{slice_get, slice_index}
 use Rattle.std.proofs.lemmas.Nat.{pow_pos}
+use Rattle.opgen_num.specs.declared.TheConstants.{MAX_WIDTH}
 use Rattle.opgen_num.specs.Words.{word}
 use Rattle.opgen_num.specs.WordLaws.{length-word}
 use Rattle.opgen_design.specs.Width.{as_width}
@@ -10,8 +11,8 @@ use Rattle.opgen_scale.specs.Times.{multiples}
 use Rattle.opgen_scale.specs.Recipe.{above_zeros, table_nodes, shifted_nodes, product_node}
 use Rattle.opgen_scale.proofs.Product.{length-multiples, get_or-multiples}
 
-pub as_width-within : (w : ℕ) → 1 ≤ w → w ≤ 64 → as_width w ≡ Some w
-as_width-within w low high = rw (le-leb 1 w low, le-leb w 64 high) refl
+pub as_width-within : (w : ℕ) → 1 ≤ w → w ≤ MAX_WIDTH → as_width w ≡ Some w
+as_width-within w low high = rw (le-leb 1 w low, le-leb w MAX_WIDTH high) refl
 
 pub row_width : (number w n i : ℕ) (d : List Bool) → i < n → length (get_or (multiples number w n) i d) ≡ w
 row_width number w n i d h = ap length (get_or-multiples number w n i d h) ∙ length-word w (number * i)
@@ -26,7 +27,7 @@ fits_table number w row ws e low high positive narrow =
       same_width = λ k d h. row_width number row (2 ^ w) k d (subst (λ n. k < n) (length-multiples number row (2 ^ w)) h) ∙ sym first;
     }
 
-pub fits_zeros : (ws : List ℕ) (n w z : ℕ) → slice_get ws n ≡ Some w → 1 ≤ w → w + suc z ≤ 64 → FitsNodes ws (w + suc z) (above_zeros n (suc z))
+pub fits_zeros : (ws : List ℕ) (n w z : ℕ) → slice_get ws n ≡ Some w → 1 ≤ w → w + suc z ≤ MAX_WIDTH → FitsNodes ws (w + suc z) (above_zeros n (suc z))
 fits_zeros ws n w z at positive fits =
     let first : as_width w ≡ Some w = as_width-within w positive (omega (arith, fits)) in
     let zeros : as_width (length (word (suc z) 0)) ≡ Some (suc z) = ap as_width (length-word (suc z) 0) ∙ as_width-within (suc z) (omega arith) (omega (arith, fits)) in
@@ -35,7 +36,7 @@ fits_zeros ws n w z at positive fits =
       nests = omega arith;
     }
 
-pub fits_shifted : (ws : List ℕ) (n w z : ℕ) → slice_get ws n ≡ Some w → 1 ≤ w → 1 ≤ z → w + z ≤ 64 → FitsNodes ws (w + z) (above_zeros n z)
+pub fits_shifted : (ws : List ℕ) (n w z : ℕ) → slice_get ws n ≡ Some w → 1 ≤ w → 1 ≤ z → w + z ≤ MAX_WIDTH → FitsNodes ws (w + z) (above_zeros n z)
 fits_shifted ws n w zero at positive some fits = absurd (omega (arith, some))
 fits_shifted ws n w (suc z) at positive some fits = fits_zeros ws n w z at positive fits
 

@@ -2,6 +2,7 @@
 #![tactic(auto)]
 
 ghost use Rattle.std.specs.Prelude.{◌≡◌, ◌<◌, ◌≤◌, ◌*◌, ◌+◌, ◌-◌, ◌^◌, ◌%◌, ◌++◌, ◌∷◌, [], IfOk, OnOk, length, slice_index};
+ghost use Rattle.opgen_num.specs.declared.TheConstants.{MAX_WIDTH};
 ghost use Rattle.opgen_net.specs.Valid.{HasNoDelay, IsValid, widths};
 ghost use Rattle.opgen_design.specs.Plain.{plain};
 ghost use Rattle.opgen_scale.specs.Times.{multiples, IsTimes};
@@ -121,7 +122,7 @@ fn shift(alloc: Global, net: &mut Net, row_width: u32, zeros: u32) -> Result<usi
     requires net { IsValid net.old }
     requires two { length net.old.nodes ≡ 2 }
     requires table { widths net.old.nodes ≡ slice_index (widths net.old.nodes) 0 ∷ row_width ∷ [] }
-    requires fits { row_width + zeros ≤ 64 }
+    requires fits { row_width + zeros ≤ MAX_WIDTH }
     requires row { 1 ≤ row_width }
     ensures ok { OnOk result (net.new ≡ record net.old { nodes = net.old.nodes ++ shifted_nodes row_width zeros }) }
     ensures place { IfOk result (λ n. n ≡ product_node zeros) }

@@ -13,7 +13,7 @@ use Rattle.opgen_design.specs.declared.design.Port.{Port}
 use Rattle.opgen_design.specs.declared.design.Driver.{Driver}
 use Rattle.opgen_design.specs.declared.design.Driver.TheVariants.{Assign, Choice, Table, Register, Output}
 use Rattle.opgen_design.specs.Order.{IsOrderOf}
-use Rattle.opgen_design.specs.Run.{Words, scope, at_ports, is_in, IsTableWord, Meets, Cycle}
+use Rattle.opgen_design.specs.Run.{Words, scope, moved, at_ports, is_in, IsTableWord, Meets, Cycle}
 use Rattle.opgen_design.specs.Sound.{IsSound, ChoiceTwice, DriverPasses, HasWidth, signal_widths, at_driver}
 use Rattle.opgen_design.specs.Value.{value, word_at}
 use Rattle.opgen_sim.specs.Evaluate.{HaveWidths, table_word, settle, hand_all_on}
@@ -87,7 +87,7 @@ module _ (d : Design) (sound : IsSound d) (order : List ℕ) (o : IsOrderOf d or
   settled : HaveWidths d v
   settled = settle-widths d sound order v0 h
 
-  meets : (i : ℕ) (k : Driver) → slice_get d.drivers i ≡ Some k → Meets v0.signals v (hand_all_on d.drivers v next) k
+  meets : (i : ℕ) (k : Driver) → slice_get d.drivers i ≡ Some k → Meets d.enable v0.signals v (hand_all_on d.enable d.drivers v next) k
   meets i (Assign to e) g = stands d sound order o v0 h i (Assign to e) g refl
   meets i (Choice to on one other) g = stands d sound order o v0 h i (Choice to on one other) g refl
   meets i (Table to on rows other) g =
@@ -98,10 +98,11 @@ module _ (d : Design) (sound : IsSound d) (order : List ℕ) (o : IsOrderOf d or
       (word_at v.signals to) (stands d sound order o v0 h i (Table to on rows other) g refl)
   meets i (Register to e) g =
       let w : HaveWidths d (record { signals = next; ports = v.ports }) = record { signals = room; ports = settled.ports } in
-      (register-kept d sound order o v0 i to e g, handed d.drivers i to e v next g (λ j m l f t. targets-differ d sound order o i j (Register to e) m g f (λ x. omega (arith, l, x)) (sym t)) (declared-there d sound (record { signals = next; ports = v.ports }) w i (Register to e) g))
+      let kept = register-kept d sound order o v0 i to e g in
+      (kept, handed d.enable d.drivers i to e v next g (λ j m l f t. targets-differ d sound order o i j (Register to e) m g f (λ x. omega (arith, l, x)) (sym t)) (declared-there d sound (record { signals = next; ports = v.ports }) w i (Register to e) g) ∙ ap (moved d.enable v (value (scope v) e)) kept)
   meets i (Output place e) g = stands d sound order o v0 h i (Output place e) g refl
 
-  pub is-cycle : Cycle d v0.signals (at_ports is_in d.ports v0.ports) v (hand_all_on d.drivers v next)
+  pub is-cycle : Cycle d v0.signals (at_ports is_in d.ports v0.ports) v (hand_all_on d.enable d.drivers v next)
   is-cycle = record {
     signal_widths = settled.signals;
     port_widths = settled.ports;

@@ -44,9 +44,9 @@ filled (p ∷ ps) given e =
     (r.0 ∷ r.1, ap (λ n. n ∷ map length r.1) r.2 ∙ ap (λ ns. p.width ∷ ns) r.3, r.4)
 
 module _ (d : Design) (sound : IsSound d) where
-  handed-widths : (v : Words) → HaveWidths d v → (ks : List Driver) → ((i : ℕ) (k : Driver) → slice_get ks i ≡ Some k → WidthsAgree d k) → (next : List (List Bool)) → map length next ≡ signal_widths d → map length (hand_all_on ks v next) ≡ signal_widths d
+  handed-widths : (v : Words) → HaveWidths d v → (ks : List Driver) → ((i : ℕ) (k : Driver) → slice_get ks i ≡ Some k → WidthsAgree d k) → (next : List (List Bool)) → map length next ≡ signal_widths d → map length (hand_all_on d.enable ks v next) ≡ signal_widths d
   handed-widths v h [] agree next n = n
-  handed-widths v h (k ∷ ks) agree next n = handed-widths v h ks (λ i m e. agree (suc i) m e) (hand_on k v next) (hand_on-widths d sound v h k next (agree 0 k refl) n)
+  handed-widths v h (k ∷ ks) agree next n = handed-widths v h ks (λ i m e. agree (suc i) m e) (hand_on d.enable k v next) (hand_on-widths d sound v h k next (agree 0 k refl) n)
 
   a-cycle : (now given : List (List Bool)) → map length now ≡ signal_widths d → AreWords (input_widths d) given → (v : Words) × (next : List (List Bool)) × Cycle d now given v next × (map length next ≡ signal_widths d)
   a-cycle now given n e =
@@ -55,7 +55,7 @@ module _ (d : Design) (sound : IsSound d) where
       let before : Words = record { signals = now; ports = f.0 } in
       let h : HaveWidths d before = record { signals = n; ports = f.1 } in
       let v = settle d.drivers o.0 before in
-      let next = hand_all_on d.drivers v now in (
+      let next = hand_all_on d.enable d.drivers v now in (
         v,
         next,
         subst (λ ws. Cycle d now ws v next) f.2 (is-cycle d sound o.0 o.1 before h now n),

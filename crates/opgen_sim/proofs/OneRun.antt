@@ -13,7 +13,7 @@ use Rattle.opgen_design.specs.declared.design.Port.{Port}
 use Rattle.opgen_design.specs.declared.design.Driver.{Driver}
 use Rattle.opgen_design.specs.declared.design.Driver.TheVariants.{Assign, Choice, Table, Register, Output}
 use Rattle.opgen_design.specs.Reads.{AllReads, AllOperandsRead, ReadsName, SomeOperandReads}
-use Rattle.opgen_design.specs.Run.{Words, scope, Cycle, Meets, RunsOn, IsTableWord, at_ports, is_in, initial_words}
+use Rattle.opgen_design.specs.Run.{Words, scope, moved, Cycle, Meets, RunsOn, IsTableWord, at_ports, is_in, initial_words}
 use Rattle.opgen_design.specs.Sound.{IsSound, NotDriven, ReadsOutput, Target, signal, port_of, target, Needs, IsDriven, HasWidth, signal_widths, ReadsInputs, SignalPasses, PortPasses, DriverPasses, at_signal, at_port, at_driver}
 use Rattle.opgen_design.specs.Tree.{Tree, Trees, name, part, bits, port, inverse, chain, none, more}
 use Rattle.opgen_design.specs.Value.{value, chosen, word_at}
@@ -113,7 +113,7 @@ module _ (d : Design) (sound : IsSound d) (now others given : List (List Bool)) 
   lens : (x : Words) → HaveWidths d x → (on : Tree) (rows : List (List Bool × List Bool)) → ((j : ℕ) (q : List Bool × List Bool) → slice_get rows j ≡ Some q → HasWidth d on (length q.0)) → (j : ℕ) (q : List Bool × List Bool) → slice_get rows j ≡ Some q → length q.0 ≡ length (value (scope x) on)
   lens x y on rows f j q e = sym (long d sound x y on (length q.0) (f j q e))
 
-  driver-one : (P : ℕ → Type 0) → ((r : ℕ) → P r → word_at v.signals r ≡ word_at u.signals r) → (x : Driver) (i : ℕ) → slice_get d.drivers i ≡ Some x → ReadsInputs d x → ((r : ℕ) → Needs r x → P r) → Meets now v next x → Meets others u after x → At (target x)
+  driver-one : (P : ℕ → Type 0) → ((r : ℕ) → P r → word_at v.signals r ≡ word_at u.signals r) → (x : Driver) (i : ℕ) → slice_get d.drivers i ≡ Some x → ReadsInputs d x → ((r : ℕ) → Needs r x → P r) → Meets d.enable now v next x → Meets d.enable others u after x → At (target x)
   driver-one P below (Assign to e) i g a f m w = m ∙ tree-one P below e a f ∙ sym w
   driver-one P below (Choice to on one other) i g a f m w =
       m
@@ -135,7 +135,7 @@ module _ (d : Design) (sound : IsSound d) (now others given : List (List Bool)) 
       let a = subst (λ x. IfSome x (DriverPasses d ReadsOutput c.0)) c.1 (sound.reads_inputs (at_driver c.0)) in
       let l = slice_get_within d.drivers c.0 y.0 c.1 in
       let g = get_or_from_slice_get d.drivers c.0 y.0 y.0 c.1 in
-      subst At y.2 (driver-one P below y.0 c.0 c.1 a (f y.0 y.1 y.2) (subst (Meets now v next) g (h.equations c.0 y.0 l)) (subst (Meets others u after) g (k.equations c.0 y.0 l)))
+      subst At y.2 (driver-one P below y.0 c.0 c.1 a (f y.0 y.1 y.2) (subst (Meets d.enable now v next) g (h.equations c.0 y.0 l)) (subst (Meets d.enable others u after) g (k.equations c.0 y.0 l)))
 
   signals-below : (n : ℕ) → SameBelow n
   signals-below zero r l = absurd (omega (arith, l))
@@ -171,9 +171,12 @@ module _ (d : Design) (sound : IsSound d) (now others given : List (List Bool)) 
   next-one i to e g =
       let l = slice_get_within d.drivers i (Register to e) g in
       let x = get_or_from_slice_get d.drivers i (Register to e) (Register to e) g in
-      let m = subst (Meets now v next) x (h.equations i (Register to e) l) in
-      let w = subst (Meets others u after) x (k.equations i (Register to e) l) in
-      m.1 ∙ ap (λ y. value (scope y) e) words-one ∙ sym w.1
+      let m = subst (Meets d.enable now v next) x (h.equations i (Register to e) l) in
+      let w = subst (Meets d.enable others u after) x (k.equations i (Register to e) l) in
+      m.1
+      ∙ ap (λ y. moved d.enable y (value (scope y) e) (word_at now to)) words-one
+      ∙ ap (moved d.enable u (value (scope u) e)) (registers i to e g)
+      ∙ sym w.1
 
 pub runs-one : (d : Design) → IsSound d → (inputs : List (List (List Bool))) (now others : List (List Bool)) → SameRegisters d now others → (vs us : List Words) → RunsOn d now inputs vs → RunsOn d others inputs us → vs ≡ us
 runs-one d sound [] now others same [] [] h k = refl

@@ -3,12 +3,12 @@ use Rattle.std.proofs.Common.{◌≡◌, ℕ, zero, suc, ◌+◌, ◌^◌, ◌<�
 use Rattle.std.specs.Prelude.{slice_set}
 use Rattle.std.proofs.Math.Seq.{take-length, map-set_same}
 use Rattle.std.proofs.lemmas.List.{append_assoc, append-nil, length-set, length-drop, drop_more, take_more, length-map, get_or-map}
-use Rattle.opgen_num.specs.Words.{nat, word}
+use Rattle.opgen_num.specs.Words.{FitWidths, nat, word}
 use Rattle.opgen_num.specs.WordLaws.{length-word}
 use Rattle.opgen_design.specs.declared.design.Dir.{Dir}
 use Rattle.opgen_design.specs.declared.design.Port.{Port}
 use Rattle.opgen_design.specs.Run.{at_ports, is_in}
-use Rattle.opgen_sim.specs.Step.{FitWidths, words_of}
+use Rattle.opgen_sim.specs.Step.{words_of}
 
 at-map : {X Y : Type 0} (f : X → Y) (xs : List X) (i : ℕ) (x : X) → get_or (map f xs) i (f x) ≡ f (get_or xs i x)
 at-map f [] i x = refl

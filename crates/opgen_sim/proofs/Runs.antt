@@ -6,17 +6,18 @@ use Rattle.opgen_num.specs.Words.{nat}
 use Rattle.opgen_design.specs.declared.design.Design.{Design}
 use Rattle.opgen_design.specs.declared.design.Driver.{Driver}
 use Rattle.opgen_design.specs.declared.design.Driver.TheVariants.{Assign, Choice, Table, Register, Output}
-use Rattle.opgen_design.specs.Run.{Words, Cycle, Meets, RunsOn, input_widths, outputs_of}
+use Rattle.opgen_design.specs.Run.{Words, scope, moved, Cycle, Meets, RunsOn, input_widths, outputs_of}
+use Rattle.opgen_design.specs.Value.{value}
 use Rattle.opgen_sim.specs.Sims.{SameRegisters}
 use Rattle.opgen_sim.specs.Step.{words_of}
 use Rattle.opgen_sim.specs.Runs.{StepsOn, StepsAreRuns}
 
 module _ (d : Design) (now others : List (List Bool)) (same : SameRegisters d now others) where
-  meets-kept : (k : Driver) (i : ℕ) (v : Words) (next : List (List Bool)) → slice_get d.drivers i ≡ Some k → Meets now v next k → Meets others v next k
+  meets-kept : (k : Driver) (i : ℕ) (v : Words) (next : List (List Bool)) → slice_get d.drivers i ≡ Some k → Meets d.enable now v next k → Meets d.enable others v next k
   meets-kept (Assign to e) i v next g m = m
   meets-kept (Choice to on one other) i v next g m = m
   meets-kept (Table to on rows other) i v next g m = m
-  meets-kept (Register to e) i v next g m = (m.0 ∙ same i to e g, m.1)
+  meets-kept (Register to e) i v next g m = (m.0 ∙ same i to e g, m.1 ∙ ap (moved d.enable v (value (scope v) e)) (same i to e g))
   meets-kept (Output place e) i v next g m = m
 
   pub cycle-kept : (given : List (List Bool)) (v : Words) (next : List (List Bool)) → Cycle d now given v next → Cycle d others given v next
@@ -41,4 +42,4 @@ runs d now others (i ∷ is) (o ∷ os) same h =
     )
 
 pub steps-are-runs : StepsAreRuns
-steps-are-runs d s inputs outputs n h = runs d s.words.items _ inputs outputs n.registers h
+steps-are-runs d s inputs outputs n h = runs d s.registers _ inputs outputs n.registers h

@@ -24,7 +24,7 @@ use Rattle.opgen_sim.proofs.Fitting.{value-fits}
 pub words-eq : (signals ports : List (List Bool)) (v : Words) → signals ≡ v.signals → ports ≡ v.ports → record { signals = signals; ports = ports } ≡ v
 words-eq signals ports v e f = ap (λ s. record { signals = s; ports = ports }) e ∙ ap (λ p. record { signals = v.signals; ports = p }) f
 
-chosen-length : (on one other : List Bool) (w : ℕ) → length one ≡ w → length other ≡ w → length (chosen on one other) ≡ w
+pub chosen-length : (on one other : List Bool) (w : ℕ) → length one ≡ w → length other ≡ w → length (chosen on one other) ≡ w
 chosen-length [] one other w h k = k
 chosen-length (true ∷ []) one other w h k = h
 chosen-length (true ∷ x ∷ xs) one other w h k = k

@@ -4,9 +4,9 @@ use Rattle.opgen_num.specs.Words.{nat}
 use Rattle.opgen_design.specs.declared.design.Design.{Design}
 use Rattle.opgen_design.specs.declared.design.Driver.{Driver}
 use Rattle.opgen_design.specs.declared.design.Driver.TheVariants.{Assign, Choice, Table, Register, Output}
-use Rattle.opgen_design.specs.Run.{Words, scope}
+use Rattle.opgen_design.specs.Run.{Words, scope, moved}
 use Rattle.opgen_design.specs.Sound.{Target, signal, port_of, target, signal_widths, port_widths}
-use Rattle.opgen_design.specs.Value.{Scope, value, chosen}
+use Rattle.opgen_design.specs.Value.{Scope, value, chosen, word_at}
 use Rattle.opgen_sim.specs.Fitting.{Fits}
 use Rattle.opgen_sim.specs.Tables.{row_word}
 
@@ -23,12 +23,12 @@ driver_word s (Register to e) = value s e
 driver_word s (Output place e) = value s e
 
 -- the expressions of a driver have widths over words of their widths
-abbrev pub DriverFits : (names ports : List (List Bool)) → Driver → Type 0
-DriverFits names ports (Assign to e) = Fits names ports e
-DriverFits names ports (Choice to on one other) = Fits names ports on × Fits names ports one × Fits names ports other
-DriverFits names ports (Table to on rows other) = Fits names ports on
-DriverFits names ports (Register to e) = Fits names ports e
-DriverFits names ports (Output place e) = Fits names ports e
+abbrev pub DriverFits : (signals ports : List (List Bool)) → Driver → Type 0
+DriverFits signals ports (Assign to e) = Fits signals ports e
+DriverFits signals ports (Choice to on one other) = Fits signals ports on × Fits signals ports one × Fits signals ports other
+DriverFits signals ports (Table to on rows other) = Fits signals ports on
+DriverFits signals ports (Register to e) = Fits signals ports e
+DriverFits signals ports (Output place e) = Fits signals ports e
 
 abbrev pub put_at : Target → List Bool → Words → Words
 put_at (signal s) w v = record { signals = slice_set v.signals s w; ports = v.ports }
@@ -58,13 +58,13 @@ IsThere v (signal s) = s < length v.signals
 IsThere v (port_of p) = p < length v.ports
 
 -- a register's next word
-abbrev pub hand_on : Driver → Words → List (List Bool) → List (List Bool)
-hand_on (Register to e) v next = slice_set next to (value (scope v) e)
-hand_on (Assign to e) v next = next
-hand_on (Choice to on one other) v next = next
-hand_on (Table to on rows other) v next = next
-hand_on (Output place e) v next = next
+abbrev pub hand_on : (enable : Option ℕ) → Driver → Words → List (List Bool) → List (List Bool)
+hand_on enable (Register to e) v next = slice_set next to (moved enable v (value (scope v) e) (word_at v.signals to))
+hand_on enable (Assign to e) v next = next
+hand_on enable (Choice to on one other) v next = next
+hand_on enable (Table to on rows other) v next = next
+hand_on enable (Output place e) v next = next
 
-abbrev pub hand_all_on : List Driver → Words → List (List Bool) → List (List Bool)
-hand_all_on [] v next = next
-hand_all_on (k ∷ ks) v next = hand_all_on ks v (hand_on k v next)
+abbrev pub hand_all_on : (enable : Option ℕ) → List Driver → Words → List (List Bool) → List (List Bool)
+hand_all_on enable [] v next = next
+hand_all_on enable (k ∷ ks) v next = hand_all_on enable ks v (hand_on enable k v next)

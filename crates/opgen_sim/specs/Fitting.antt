@@ -8,12 +8,12 @@ use Rattle.opgen_design.specs.Width.{width}
 abbrev pub widths_of : List (List Bool) → List ℕ
 widths_of ws = map length ws
 
-abbrev pub scope_of : (names ports : List (List Bool)) → Scope
-scope_of names ports = record { names = word_at names; ports = word_at ports }
+abbrev pub scope_of : (signals ports : List (List Bool)) → Scope
+scope_of signals ports = record { names = word_at signals; ports = word_at ports }
 
 -- an expression has a width over words of their widths
-abbrev pub Fits : (names ports : List (List Bool)) → Tree → Type 0
-Fits names ports e = IsSome (width (widths_of names) (widths_of ports) e)
+abbrev pub Fits : (signals ports : List (List Bool)) → Tree → Type 0
+Fits signals ports e = IsSome (width (widths_of signals) (widths_of ports) e)
 
 -- no word is wider than a signal may be
 abbrev pub AreNarrow : List (List Bool) → Type 0

@@ -3,8 +3,7 @@ use Rattle.std.specs.Prelude.{ℕ, ◌≡◌, Bool, List, [], ◌∷◌, map}
 use Rattle.opgen_num.specs.Words.{nat}
 use Rattle.opgen_design.specs.declared.design.Design.{Design}
 use Rattle.opgen_design.specs.Run.{Words, Run, input_widths, outputs_of}
-use Rattle.opgen_sim.specs.declared.sim.Sim.{Sim}
-use Rattle.opgen_sim.specs.Sims.{IsNew, registers}
+use Rattle.opgen_sim.specs.Sims.{Simulator, IsNew}
 use Rattle.opgen_sim.specs.Step.{IsStep, words_of}
 
 -- steps in order, each from the registers' words that the step before left
@@ -19,4 +18,4 @@ HasRun d inputs outputs = (vs : List Words) × Run d (map (words_of (input_width
 
 -- the steps of a new simulator are a run of its design
 abbrev pub StepsAreRuns : Type 0
-StepsAreRuns = (d : Design) (s : Sim) (inputs outputs : List (List ℕ)) → IsNew d s → StepsOn d (registers s) inputs outputs → HasRun d inputs outputs
+StepsAreRuns = (d : Design) (s : Simulator) (inputs outputs : List (List ℕ)) → IsNew d s → StepsOn d s.registers inputs outputs → HasRun d inputs outputs

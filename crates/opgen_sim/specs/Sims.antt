@@ -1,5 +1,6 @@
 -- Simulators of designs, and the registers' words that they hold.
 use Rattle.std.specs.Prelude.{ℕ, ◌≡◌, Bool, List, length, map, Some, slice_get}
+use Rattle.std.specs.HashMap.{HashMap}
 use Rattle.opgen_design.specs.declared.design.Design.{Design}
 use Rattle.opgen_design.specs.declared.design.Driver.TheVariants.{Register}
 use Rattle.opgen_design.specs.Order.{IsOrderOf}
@@ -7,32 +8,27 @@ use Rattle.opgen_design.specs.Run.{initial_words}
 use Rattle.opgen_design.specs.Sound.{IsSound, signal_widths}
 use Rattle.opgen_design.specs.Tree.{Tree}
 use Rattle.opgen_design.specs.Value.{word_at}
-use Rattle.opgen_sim.specs.declared.sim.Sim.{Sim}
 use Rattle.opgen_sim.specs.Evaluate.{HaveWidths}
 use Rattle.opgen_sim.specs.Tables.{AreTables}
 
--- the design that is run
-abbrev pub simulated : Sim → Design
-simulated s = s.design
+-- a simulator: the design that is run, and the words of the registers now, at the places of their signals
+pub record Simulator : Type 0 where
+  pub design : Design
+  pub registers : List (List Bool)
 
--- the words of the registers now, at the places of their signals
-abbrev pub registers : Sim → List (List Bool)
-registers s = s.words.items
-
--- a simulator of a sound design that has an order of evaluation, its tables by their addresses and all its room
-pub record IsReady (s : Sim) : Type 0 where
-  pub sound : IsSound s.design
-  pub order : IsOrderOf s.design s.order.items
-  pub tables : AreTables s.design.drivers s.tables.items
-  pub widths : HaveWidths s.design (record { signals = s.words.items; ports = s.ports.items })
-  pub room : map length s.next.items ≡ signal_widths s.design
+-- what a simulator of a sound design holds: an order of evaluation, its tables by their addresses and all its room
+pub record IsReady {S : Type 0} (d : Design) (places : List ℕ) (rows : List (HashMap ℕ (List Bool) S)) (words next ports : List (List Bool)) : Type 0 where
+  pub sound : IsSound d
+  pub order : IsOrderOf d places
+  pub tables : AreTables d.drivers rows
+  pub widths : HaveWidths d (record { signals = words; ports = ports })
+  pub room : map length next ≡ signal_widths d
 
 -- two lists have the same words at the registers of a design
 abbrev pub SameRegisters : Design → (now others : List (List Bool)) → Type 0
 SameRegisters d now others = (i to : ℕ) (e : Tree) → slice_get d.drivers i ≡ Some (Register to e) → word_at now to ≡ word_at others to
 
 -- a simulator before the first cycle of a design
-pub record IsNew (d : Design) (s : Sim) : Type 0 where
-  pub ready : IsReady s
-  pub design : simulated s ≡ d
-  pub registers : SameRegisters d (registers s) (initial_words d.signals)
+pub record IsNew (d : Design) (s : Simulator) : Type 0 where
+  pub design : s.design ≡ d
+  pub registers : SameRegisters d s.registers (initial_words d.signals)

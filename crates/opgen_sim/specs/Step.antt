@@ -1,5 +1,5 @@
 -- One step of the simulator: numbers at the ports, and a cycle between them.
-use Rattle.std.specs.Prelude.{ℕ, ◌≡◌, ◌<◌, ◌^◌, Bool, List, [], ◌∷◌, map}
+use Rattle.std.specs.Prelude.{ℕ, ◌≡◌, Bool, List, [], ◌∷◌, map}
 use Rattle.opgen_num.specs.Words.{nat, word}
 use Rattle.opgen_design.specs.declared.design.Design.{Design}
 use Rattle.opgen_design.specs.Run.{Words, Cycle, input_widths, outputs_of}
@@ -9,12 +9,6 @@ abbrev pub words_of : (widths numbers : List ℕ) → List (List Bool)
 words_of [] ns = []
 words_of (w ∷ ws) [] = []
 words_of (w ∷ ws) (n ∷ ns) = word w n ∷ words_of ws ns
-
--- one number for each width, below 2 to it
-abbrev pub FitWidths : (widths numbers : List ℕ) → Type 0
-FitWidths [] [] = Unit {0}
-FitWidths (w ∷ ws) (n ∷ ns) = (n < 2 ^ w) × FitWidths ws ns
-FitWidths _ _ = ⊥
 
 -- a cycle from the registers' words now to the next ones, with these numbers at the input ports and at the output ports
 pub record IsStep (d : Design) (now : List (List Bool)) (inputs : List ℕ) (next : List (List Bool)) (outputs : List ℕ) : Type 0 where

@@ -104,5 +104,6 @@ pub fn copy(alloc: Global, design: &Design) -> Result<Design, AllocError>
         ports: ports(alloc, design.ports.as_slice())?,
         signals: signals(alloc, design.signals.as_slice())?,
         drivers: drivers(alloc, design.drivers.as_slice())?,
+        enable: design.enable,
     })
 }

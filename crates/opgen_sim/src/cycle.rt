@@ -10,7 +10,7 @@ use crate::tables::Rows;
 use opgen_design::Design;
 use opgen_num::Word;
 
-/// Runs one cycle of a sound design in place: before it the registers' words stand in `names` and the inputs in `ports`, after it
+/// Runs one cycle of a sound design in place: before it the registers' words stand in `signals` and the inputs in `ports`, after it
 /// both have the words of the settled cycle, and `next` has the registers' next words.
 ///
 /// `order` is an order of evaluation, as [`Design::order`] finds it, and `tables` has the rows of each driver by their addresses.
@@ -18,18 +18,18 @@ pub fn run_cycle(
     design: &Design,
     order: &[usize],
     tables: &[Rows],
-    names: &mut [Word],
+    signals: &mut [Word],
     ports: &mut [Word],
     next: &mut [Word],
 )
     requires sound { IsSound design.now }
     requires order { IsOrderOf design.now order.now }
     requires tables { AreTables design.now.drivers tables.now }
-    requires widths { HaveWidths design.now (record { signals = names.old; ports = ports.old }) }
+    requires widths { HaveWidths design.now (record { signals = signals.old; ports = ports.old }) }
     requires room { map length next.old ≡ signal_widths design.now }
-    ensures cycle { Cycle design.now names.old (at_ports is_in design.now.ports ports.old) (record { signals = names.new; ports = ports.new }) next.new }
+    ensures cycle { Cycle design.now signals.old (at_ports is_in design.now.ports ports.old) (record { signals = signals.new; ports = ports.new }) next.new }
     ensures widths { map length next.new ≡ signal_widths design.now }
 {
-    settle(design, order, tables, names, ports);
-    hand_all_on(design, names, ports, next);
+    settle(design, order, tables, signals, ports);
+    hand_all_on(design, signals, ports, next);
 }

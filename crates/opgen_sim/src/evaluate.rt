@@ -1,4 +1,4 @@
-ghost use Rattle.std.specs.Prelude.{ℕ, ◌≡◌, ◌<◌, Some, length, map, slice_get};
+ghost use Rattle.std.specs.Prelude.{ℕ, ◌≡◌, ◌<◌, IfSome, Some, length, map, slice_get};
 ghost use Rattle.opgen_design.specs.Run.{Words};
 ghost use Rattle.opgen_design.specs.Value.{chosen};
 ghost use Rattle.opgen_design.specs.Sound.{IsSound, signal_widths, target};
@@ -23,55 +23,55 @@ fn chosen(on: Word, one: Word, other: Word) -> Word
 }
 
 // What the driver's right side says over words.
-fn driver_word(driver: &Driver, table: &Rows, names: &[Word], ports: &[Word]) -> Word
+fn driver_word(driver: &Driver, table: &Rows, signals: &[Word], ports: &[Word]) -> Word
     requires table { HasRows (rows_of driver.now) table.now }
-    requires narrow { AreNarrow names.now }
-    requires fits { DriverFits names.now ports.now driver.now }
-    ensures { result ≡ driver_word (scope_of names.now ports.now) driver.now }
+    requires narrow { AreNarrow signals.now }
+    requires fits { DriverFits signals.now ports.now driver.now }
+    ensures { result ≡ driver_word (scope_of signals.now ports.now) driver.now }
 {
     match driver {
         Driver::Assign { to: _, expr }
         | Driver::Register { to: _, expr }
-        | Driver::Output { port: _, expr } => value(expr.expr(), names, ports),
+        | Driver::Output { port: _, expr } => value(expr.expr(), signals, ports),
         Driver::Choice { to: _, on, yes, no } => chosen(
-            value(on.expr(), names, ports),
-            value(yes.expr(), names, ports),
-            value(no.expr(), names, ports),
+            value(on.expr(), signals, ports),
+            value(yes.expr(), signals, ports),
+            value(no.expr(), signals, ports),
         ),
         Driver::Table {
             to: _,
             on,
             rows: _,
             other,
-        } => look_up(table, *other, value(on.expr(), names, ports)),
+        } => look_up(table, *other, value(on.expr(), signals, ports)),
     }
 }
 
 // Puts a driver's word at what it drives.
-fn put(driver: &Driver, table: &Rows, names: &mut [Word], ports: &mut [Word])
+fn put(driver: &Driver, table: &Rows, signals: &mut [Word], ports: &mut [Word])
     requires table { HasRows (rows_of driver.now) table.now }
-    requires narrow { AreNarrow names.old }
-    requires fits { DriverFits names.old ports.old driver.now }
-    requires there { IsThere (record { signals = names.old; ports = ports.old }) (target driver.now) }
-    ensures names { names.new ≡ (put driver.now (record { signals = names.old; ports = ports.old })).signals }
-    ensures ports { ports.new ≡ (put driver.now (record { signals = names.old; ports = ports.old })).ports }
+    requires narrow { AreNarrow signals.old }
+    requires fits { DriverFits signals.old ports.old driver.now }
+    requires there { IsThere (record { signals = signals.old; ports = ports.old }) (target driver.now) }
+    ensures signals { signals.new ≡ (put driver.now (record { signals = signals.old; ports = ports.old })).signals }
+    ensures ports { ports.new ≡ (put driver.now (record { signals = signals.old; ports = ports.old })).ports }
 {
-    let word = driver_word(driver, table, names, ports);
+    let word = driver_word(driver, table, signals, ports);
     match driver {
-        Driver::Assign { to, expr: _ } => names[*to] = word,
+        Driver::Assign { to, expr: _ } => signals[*to] = word,
         Driver::Choice {
             to,
             on: _,
             yes: _,
             no: _,
-        } => names[*to] = word,
+        } => signals[*to] = word,
         Driver::Table {
             to,
             on: _,
             rows: _,
             other: _,
-        } => names[*to] = word,
-        Driver::Register { to, expr: _ } => names[*to] = word,
+        } => signals[*to] = word,
+        Driver::Register { to, expr: _ } => signals[*to] = word,
         Driver::Output { port, expr: _ } => ports[*port] = word,
     }
 }
@@ -81,42 +81,62 @@ pub fn settle(
     design: &Design,
     order: &[usize],
     tables: &[Rows],
-    names: &mut [Word],
+    signals: &mut [Word],
     ports: &mut [Word],
 )
     requires sound { IsSound design.now }
     requires places { (p i : ℕ) → slice_get order.now p ≡ Some i → i < length design.now.drivers }
     requires tables { AreTables design.now.drivers tables.now }
-    requires widths { HaveWidths design.now (record { signals = names.old; ports = ports.old }) }
-    ensures names { names.new ≡ (settle design.now.drivers order.now (record { signals = names.old; ports = ports.old })).signals }
-    ensures ports { ports.new ≡ (settle design.now.drivers order.now (record { signals = names.old; ports = ports.old })).ports }
+    requires widths { HaveWidths design.now (record { signals = signals.old; ports = ports.old }) }
+    ensures signals { signals.new ≡ (settle design.now.drivers order.now (record { signals = signals.old; ports = ports.old })).signals }
+    ensures ports { ports.new ≡ (settle design.now.drivers order.now (record { signals = signals.old; ports = ports.old })).ports }
 {
     for place in order {
-        put(design.drivers.get(*place), &tables[*place], names, ports);
+        put(design.drivers.get(*place), &tables[*place], signals, ports);
     }
 }
 
-// Puts a register's next word at its signal.
-fn hand_on(driver: &Driver, names: &[Word], ports: &[Word], next: &mut [Word])
-    requires narrow { AreNarrow names.now }
-    requires fits { DriverFits names.now ports.now driver.now }
-    requires there { IsThere (record { signals = next.old; ports = ports.now }) (target driver.now) }
-    ensures { next.new ≡ hand_on driver.now (record { signals = names.now; ports = ports.now }) next.old }
+// Puts a register's next word at its signal: the new word where there is no enable or its word is 1, and else the word that it holds.
+fn hand_on(
+    enable: Option<usize>,
+    driver: &Driver,
+    signals: &[Word],
+    ports: &[Word],
+    next: &mut [Word],
+)
+    requires enable { IfSome enable (λ port. port < length ports.now) }
+    requires narrow { AreNarrow signals.now }
+    requires fits { DriverFits signals.now ports.now driver.now }
+    requires there { IsThere (record { signals = signals.now; ports = ports.now }) (target driver.now) }
+    requires room { IsThere (record { signals = next.old; ports = ports.now }) (target driver.now) }
+    ensures { next.new ≡ hand_on enable driver.now (record { signals = signals.now; ports = ports.now }) next.old }
 {
     if let Driver::Register { to, expr } = driver {
-        next[*to] = value(expr.expr(), names, ports);
+        let new = value(expr.expr(), signals, ports);
+        let held = signals[*to];
+        next[*to] = match enable {
+            None => new,
+            Some(port) => chosen(ports[port], new, held),
+        };
     }
 }
 
-/// Puts the registers' next words at their signals, all from the words of one cycle.
-pub fn hand_all_on(design: &Design, names: &[Word], ports: &[Word], next: &mut [Word])
+/// Puts the registers' next words at their signals, all from the words of one cycle: new words where the registers move, and else
+/// those that they hold.
+pub fn hand_all_on(design: &Design, signals: &[Word], ports: &[Word], next: &mut [Word])
     requires sound { IsSound design.now }
-    requires widths { HaveWidths design.now (record { signals = names.now; ports = ports.now }) }
+    requires widths { HaveWidths design.now (record { signals = signals.now; ports = ports.now }) }
     requires room { map length next.old ≡ signal_widths design.now }
-    ensures words { next.new ≡ hand_all_on design.now.drivers (record { signals = names.now; ports = ports.now }) next.old }
+    ensures words { next.new ≡ hand_all_on design.now.enable design.now.drivers (record { signals = signals.now; ports = ports.now }) next.old }
     ensures widths { map length next.new ≡ signal_widths design.now }
 {
     for place in 0..design.drivers.len() {
-        hand_on(design.drivers.get(place), names, ports, next);
+        hand_on(
+            design.enable,
+            design.drivers.get(place),
+            signals,
+            ports,
+            next,
+        );
     }
 }

@@ -1,9 +1,9 @@
 ghost use Rattle.std.specs.Prelude.{◌≡◌, IfOk, length, map, unwrap_or};
-ghost use Rattle.opgen_num.specs.Words.{word};
+ghost use Rattle.opgen_num.specs.Words.{FitWidths, word};
 ghost use Rattle.opgen_design.specs.Run.{at_ports, input_widths, is_out};
 ghost use Rattle.opgen_design.specs.Sound.{HasNumbers, IsSound, port_widths};
-ghost use Rattle.opgen_sim.specs.Sims.{IsNew, IsReady, registers, simulated};
-ghost use Rattle.opgen_sim.specs.Step.{FitWidths, IsStep};
+ghost use Rattle.opgen_sim.specs.Sims.{IsNew};
+ghost use Rattle.opgen_sim.specs.Step.{IsStep};
 
 use crate::copies::copy;
 use crate::cycle::run_cycle;
@@ -12,6 +12,7 @@ use crate::tables::{Rows, tables};
 use opgen_design::{Design, Port, Signal};
 use opgen_num::{Memory, Word};
 use std::alloc::{AllocError, Global};
+use std::marker::Model;
 use std::mem;
 
 /// A design that is run cycle by cycle.
@@ -23,6 +24,20 @@ pub struct Sim {
     words: Vec<Word>,
     next: Vec<Word>,
     ports: Vec<Word>,
+}
+
+impl Model for Sim {
+    ghost use Rattle.std.specs.Coded.{codes};
+    ghost use Rattle.opgen_design.specs.TreeCode.{coded_tree};
+    ghost use Rattle.opgen_sim.specs.Sims.{IsReady, Simulator};
+
+    ghost Value = { Simulator };
+
+    ghost coded = { Prim.hlevel (codes, coded_tree) };
+
+    ghost view = { λ s. record { design = s.design; registers = s.words.items } };
+
+    ghost invariant = { λ s. IsReady s.design s.order.items s.tables.items s.words.items s.next.items s.ports.items };
 }
 
 // The initial words; zeros where a signal has none.
@@ -73,12 +88,10 @@ impl Sim {
 
     /// Runs one cycle: a number for each input port, below 2 to its width, gives a number for each output port. Takes no memory.
     pub fn step(&mut self, inputs: &[u128], outputs: &mut [u128])
-        requires ready { IsReady self.old }
-        requires inputs { FitWidths (input_widths (simulated self.old)) inputs.now }
-        requires outputs { length outputs.old ≡ length (at_ports is_out (simulated self.old).ports (port_widths (simulated self.old))) }
-        ensures ready { IsReady self.new }
-        ensures design { simulated self.new ≡ simulated self.old }
-        ensures step { IsStep (simulated self.old) (registers self.old) inputs.now (registers self.new) outputs.new }
+        requires inputs { FitWidths (input_widths self.old.design) inputs.now }
+        requires outputs { length outputs.old ≡ length (at_ports is_out self.old.design.ports (port_widths self.old.design)) }
+        ensures design { self.new.design ≡ self.old.design }
+        ensures step { IsStep self.old.design self.old.registers inputs.now self.new.registers outputs.new }
     {
         take_inputs(self.design.ports.as_slice(), inputs, &mut self.ports);
         run_cycle(

@@ -17,33 +17,33 @@ fn word_at(words: &[Word], place: usize) -> Word
 
 /// The value of an expression over a word for each signal and for each port.
 #[cycle(value)]
-pub fn value(expr: &Expr, names: &[Word], ports: &[Word]) -> Word
-    requires narrow { AreNarrow names.now }
-    requires fits { Fits names.now ports.now (plain expr.now) }
-    ensures { result ≡ value (scope_of names.now ports.now) (plain expr.now) }
+pub fn value(expr: &Expr, signals: &[Word], ports: &[Word]) -> Word
+    requires narrow { AreNarrow signals.now }
+    requires fits { Fits signals.now ports.now (plain expr.now) }
+    ensures { result ≡ value (scope_of signals.now ports.now) (plain expr.now) }
 {
     match expr {
-        Expr::Name(signal) => word_at(names, *signal),
-        Expr::Part(slice) => cut(slice.high, slice.low, word_at(names, slice.node)),
+        Expr::Name(signal) => word_at(signals, *signal),
+        Expr::Part(slice) => cut(slice.high, slice.low, word_at(signals, slice.node)),
         Expr::Bits(word) => *word,
         Expr::Port(place) => word_at(ports, *place),
-        Expr::Not(operand) => turned(value(operand, names, ports)),
-        Expr::Chain(op, operands) => chain_value(*op, operands, names, ports),
+        Expr::Not(operand) => turned(value(operand, signals, ports)),
+        Expr::Chain(op, operands) => chain_value(*op, operands, signals, ports),
     }
 }
 
 #[cycle(value)]
-fn chain_value(op: Op, operands: &[Expr], names: &[Word], ports: &[Word]) -> Word
-    requires narrow { AreNarrow names.now }
-    requires fits { IsSome (chain_width (widths_of names.now) (widths_of ports.now) op (plain_all operands.now)) }
-    ensures { result ≡ chain_value (scope_of names.now ports.now) op (plain_all operands.now) }
+fn chain_value(op: Op, operands: &[Expr], signals: &[Word], ports: &[Word]) -> Word
+    requires narrow { AreNarrow signals.now }
+    requires fits { IsSome (chain_width (widths_of signals.now) (widths_of ports.now) op (plain_all operands.now)) }
+    ensures { result ≡ chain_value (scope_of signals.now ports.now) op (plain_all operands.now) }
 {
     match operands {
         [] => Word::new(0, 0),
         [first, rest @ ..] => {
-            let mut word = value(first, names, ports);
+            let mut word = value(first, signals, ports);
             for operand in rest {
-                word = combined(op, word, value(operand, names, ports));
+                word = combined(op, word, value(operand, signals, ports));
             }
             word
         }

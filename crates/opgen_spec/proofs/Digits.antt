@@ -14,7 +14,7 @@ pub record IsReadSoFar (digits : List ℕ) (start number index : ℕ) : Type 0 w
   pub value : digits_from number (drop index digits) ≡ digits_from start digits
   pub bound : (number + 1) * 10 ^ (length digits - index) ≤ (start + 1) * 10 ^ length digits
 
-digit_bounds : (b : ℕ) → is_ascii_digit b ≡ true → (48 ≤ b) × (b ≤ 57)
+pub digit_bounds : (b : ℕ) → is_ascii_digit b ≡ true → (48 ≤ b) × (b ≤ 57)
 digit_bounds b h =
     let (low, high) = and_parts (nat_le 48 b) (nat_le b 57) h in
     (leb-true 48 b low, leb-true b 57 high)

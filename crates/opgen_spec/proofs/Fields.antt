@@ -19,9 +19,12 @@ use Rattle.opgen_spec.specs.declared.key.Kind.{Kind}
 use Rattle.opgen_spec.specs.declared.key.Kind.TheVariants as kind
 use Rattle.opgen_spec.specs.declared.lines.Check.TheVariants.{Unknown, Missing, WrongType, Range}
 use Rattle.opgen_spec.specs.Keys.{document_keys, is_needed}
-use Rattle.opgen_spec.specs.Document.{list_of, value_at, number_in, number_at, flag_at, items_at, count, small, kind_of}
+use Rattle.opgen_spec.specs.Document.{list_of, value_at, number_in, number_at, flag_at, count_at, items_at, count, small, kind_of}
 use Rattle.opgen_spec.specs.Numbers.{are_digits, digits_from, are_parts, decimal_with, cut_at, unsigned_decimal, decimal_of, coefficient, places_in, places_among, numerators, are_texts, denominator_of}
 use Rattle.opgen_spec.specs.Spec.{format_at, unsigned_at, sum_of, operator_of}
+use Rattle.opgen_operator.specs.Accepted.{HasInputsWithin}
+use Rattle.opgen_operator.specs.Limits.{most_input}
+use Rattle.opgen_operator.proofs.Versions.{input_limit}
 use Rattle.opgen_operator.specs.Ranges.{IsPower, IsInput, IsWithin, IsSum, IsOperator}
 use Rattle.opgen_spec.specs.Faults.{first_of, check_fault, outside, is_beyond, first_beyond, length_outside, array_outside, most_coefficients, coefficients_outside, found, out_of_range, outside_among, is_missing, missing_among, wrong_among, among_keys, among_lines, bad_version, bad_name, bad_kind, form_fault, value_fault, field_fault}
 use Rattle.opgen_spec.proofs.Reading.{or_none}
@@ -208,12 +211,19 @@ power_small n (least, most) = go (int_le (negsuc 2147483647) n && int_lt n (pos 
 power_at : (ms : Members) (k : Key) → option_and_then (λ _. outside (negsuc 31) (pos 32) (number_at ms k)) (value_at ms k) ≡ None → IsPower (small (number_at ms k))
 power_at ms k h = power_small (number_at ms k) (zero_inside (value_at ms k) (negsuc 31) (pos 32) (omega (arith, ints)) (omega (arith, ints)) h)
 
-width_at : (ms : Members) (k : Key) → is_none (value_at ms k) ≡ false → option_and_then (λ _. outside (pos (if flag_at ms key.Signed then 2 else 1)) (pos 32) (number_at ms k)) (value_at ms k) ≡ None → (fewest_bits (flag_at ms key.Signed) ≤ count (number_at ms k)) × (count (number_at ms k) ≤ 32)
+-- the most bits of an input in the document's version
+abbrev pub widest_input : Members → ℕ
+widest_input ms = most_input (count_at ms key.Version)
+
+width_at : (ms : Members) (k : Key) → is_none (value_at ms k) ≡ false → option_and_then (λ _. outside (pos (if flag_at ms key.Signed then 2 else 1)) (pos (widest_input ms)) (number_at ms k)) (value_at ms k) ≡ None → (fewest_bits (flag_at ms key.Signed) ≤ count (number_at ms k)) × (count (number_at ms k) ≤ widest_input ms)
 width_at ms k there h = go (flag_at ms key.Signed) (there_inside (value_at ms k) _ there h)
   where
-    go : (flag : Bool) → outside (pos (if flag then 2 else 1)) (pos 32) (number_at ms k) ≡ None → (fewest_bits flag ≤ count (number_at ms k)) × (count (number_at ms k) ≤ 32)
-    go true none = let bounds = inside (pos 2) (pos 32) (number_at ms k) none in counted (number_at ms k) 2 32 bounds.0 bounds.1 (omega arith)
-    go false none = let bounds = inside (pos 1) (pos 32) (number_at ms k) none in counted (number_at ms k) 1 32 bounds.0 bounds.1 (omega arith)
+    few : widest_input ms < 2 ^ 32
+    few = omega (arith, input_limit (count_at ms key.Version))
+
+    go : (flag : Bool) → outside (pos (if flag then 2 else 1)) (pos (widest_input ms)) (number_at ms k) ≡ None → (fewest_bits flag ≤ count (number_at ms k)) × (count (number_at ms k) ≤ widest_input ms)
+    go true none = let bounds = inside (pos 2) (pos (widest_input ms)) (number_at ms k) none in counted (number_at ms k) 2 (widest_input ms) bounds.0 bounds.1 few
+    go false none = let bounds = inside (pos 1) (pos (widest_input ms)) (number_at ms k) none in counted (number_at ms k) 1 (widest_input ms) bounds.0 bounds.1 few
 
 one_bit : (flag : Bool) (w : ℕ) → fewest_bits flag ≤ w → 1 ≤ w
 one_bit true w h = omega arith
@@ -316,7 +326,7 @@ sum_in ms one most f e width coefs same =
     let array = array_in most (2 ^ 30) (items_at ms key.Coefficients) (ap (λ m. array_outside m (2 ^ 30) (items_at ms key.Coefficients)) (sym limit) ∙ numbers) in
     let (positive, small) = denominator_in ms f.ranges.denominator in
     record {
-      input = record { fewest = fewest; most = widest; lsb = power_at ms key.Lsb f.ranges.lsb };
+      input = record { fewest = fewest; most = omega (arith, widest, input_limit (count_at ms key.Version)); lsb = power_at ms key.Lsb f.ranges.lsb };
       out_lsb = power_at ms key.OutLsb f.ranges.out_lsb;
       some = array.some;
       few = array.few;
@@ -328,20 +338,35 @@ sum_in ms one most f e width coefs same =
 a_in : (ms : Members) (one : Kind) → AreFine ms → kind_of ms ≡ Some one → is_needed (Some one) key.WidthA ≡ true → IsInput (format_at ms key.WidthA key.LsbA)
 a_in ms one f e width =
     let (fewest, widest) = width_at ms key.WidthA (present ms key.WidthA (needs ms one key.WidthA e width) f.needed.width_a) f.ranges.width_a in
-    record { fewest = fewest; most = widest; lsb = power_at ms key.LsbA f.ranges.lsb_a }
+    record { fewest = fewest; most = omega (arith, widest, input_limit (count_at ms key.Version)); lsb = power_at ms key.LsbA f.ranges.lsb_a }
 
 b_in : (ms : Members) (one : Kind) → AreFine ms → kind_of ms ≡ Some one → is_needed (Some one) key.WidthB ≡ true → IsInput (format_at ms key.WidthB key.LsbB)
 b_in ms one f e width =
     let (fewest, widest) = width_at ms key.WidthB (present ms key.WidthB (needs ms one key.WidthB e width) f.needed.width_b) f.ranges.width_b in
-    record { fewest = fewest; most = widest; lsb = power_at ms key.LsbB f.ranges.lsb_b }
+    record { fewest = fewest; most = omega (arith, widest, input_limit (count_at ms key.Version)); lsb = power_at ms key.LsbB f.ranges.lsb_b }
 
 x_in : (ms : Members) (one : Kind) → AreFine ms → kind_of ms ≡ Some one → is_needed (Some one) key.Width ≡ true → IsInput (format_at ms key.Width key.Lsb)
 x_in ms one f e width =
     let (fewest, widest) = width_at ms key.Width (present ms key.Width (needs ms one key.Width e width) f.needed.width) f.ranges.width in
-    record { fewest = fewest; most = widest; lsb = power_at ms key.Lsb f.ranges.lsb }
+    record { fewest = fewest; most = omega (arith, widest, input_limit (count_at ms key.Version)); lsb = power_at ms key.Lsb f.ranges.lsb }
 
 unsigned_in : (ms : Members) (w l : Key) → IsInput (format_at ms w l) → IsInput (unsigned_at ms w l)
 unsigned_in ms w l h = record { fewest = one_bit (flag_at ms key.Signed) (count (number_at ms w)) h.fewest; most = h.most; lsb = h.lsb }
+
+-- no input has more bits than the version lets it have
+pub inputs_in : (ms : Members) (one : Kind) → AreFine ms → kind_of ms ≡ Some one → HasInputsWithin (widest_input ms) (operator_of one ms)
+inputs_in ms kind.Scale f e = (width_at ms key.Width (present ms key.Width (needs ms kind.Scale key.Width e refl) f.needed.width) f.ranges.width).1
+inputs_in ms kind.Fir f e = (width_at ms key.Width (present ms key.Width (needs ms kind.Fir key.Width e refl) f.needed.width) f.ranges.width).1
+inputs_in ms kind.Multiply f e = (
+  (width_at ms key.WidthA (present ms key.WidthA (needs ms kind.Multiply key.WidthA e refl) f.needed.width_a) f.ranges.width_a).1,
+  (width_at ms key.WidthB (present ms key.WidthB (needs ms kind.Multiply key.WidthB e refl) f.needed.width_b) f.ranges.width_b).1,
+)
+inputs_in ms kind.Divide f e = (
+  (width_at ms key.WidthA (present ms key.WidthA (needs ms kind.Divide key.WidthA e refl) f.needed.width_a) f.ranges.width_a).1,
+  (width_at ms key.WidthB (present ms key.WidthB (needs ms kind.Divide key.WidthB e refl) f.needed.width_b) f.ranges.width_b).1,
+)
+inputs_in ms kind.Root f e = (width_at ms key.Width (present ms key.Width (needs ms kind.Root key.Width e refl) f.needed.width) f.ranges.width).1
+inputs_in ms kind.Mcm f e = (width_at ms key.Width (present ms key.Width (needs ms kind.Mcm key.Width e refl) f.needed.width) f.ranges.width).1
 
 pub operator_in : (ms : Members) (one : Kind) → AreFine ms → kind_of ms ≡ Some one → IsOperator (operator_of one ms)
 operator_in ms kind.Scale f e = sum_in ms kind.Scale 1 f e refl refl refl

@@ -1,4 +1,5 @@
 mod Digits
+mod Decimals
 mod Trees
 mod Reading
 mod Fields

@@ -1,6 +1,7 @@
 -- A document without a fault gives a valid specification.
-use Rattle.std.proofs.Common.{◌≡◌, ℕ, zero, suc, ◌+◌, ◌≤◌, Bool, true, false, List, [], ◌∷◌, length, Option, Some, None, is_some, option_map, option_and_then, nat_lt, refl, ap, sym, ◌∙◌, arith, lit<, if◌then◌else◌}
+use Rattle.std.proofs.Common.{◌≡◌, ℕ, zero, suc, ◌+◌, ◌≤◌, Bool, true, false, List, [], ◌∷◌, length, Option, Some, None, is_some, option_map, option_and_then, nat_lt, ◌==◌, ◌||◌, ◌⊎◌, ⊎_elim, inl, inr, refl, ap, sym, ◌∙◌, arith, lit<, if◌then◌else◌}
 use Rattle.std.specs.Prelude.{ℤ, pos, negsuc, All, IsTrue}
+use borrow.Author.Tests.{eqb-true}
 use Rattle.std.proofs.lemmas.Int.{ints}
 use Rattle.toml.specs.Data.{Data, string, integer, float, boolean, datetime, array, table, Items, no_items, item, Members}
 use Rattle.opgen_spec.specs.declared.fault.SpecFault.{SpecFault}
@@ -16,13 +17,13 @@ use Rattle.opgen_spec.specs.Document.{list_of, items_in, value_at, number_at, te
 use Rattle.opgen_spec.specs.Spec.{line_of, lines_of, operator_of, spec_with}
 use Rattle.opgen_operator.specs.SpecName.{is_spec_name}
 use Rattle.opgen_operator.specs.Valid.{AgreesOnExact, IsDelayLine, IsValidSpec}
-use Rattle.opgen_spec.specs.Faults.{first_of, outside, length_outside, found, out_of_range, outside_among, is_one, among_line, among_lines, not_exact, coarse, over_limit, too_wide, limit_fault}
-use Rattle.opgen_num.specs.declared.TheConstants.{MAX_WIDTH}
-use Rattle.opgen_operator.specs.declared.TheConstants.{MAX_SHIFT}
+use Rattle.opgen_spec.specs.Faults.{first_of, outside, length_outside, found, out_of_range, outside_among, is_version, among_line, among_lines, not_exact, coarse, over_limit, too_wide, limit_fault}
 use Rattle.opgen_operator.specs.declared.spec.Spec.{Spec}
-use Rattle.opgen_operator.specs.Outputs.{inexact, least_shift, shift}
+use Rattle.opgen_operator.specs.Accepted.{marks_exact}
+use Rattle.opgen_operator.specs.Limits.{IsVersion, most_signal, least_shift, most_shift}
+use Rattle.opgen_operator.specs.Outputs.{inexact, shift}
 use Rattle.opgen_spec.proofs.Reading.{or_none}
-use Rattle.opgen_spec.proofs.Fields.{AreFine, map_none, first_none, present, needs, there_inside, inside, zero_inside, counted, operator_in}
+use Rattle.opgen_spec.proofs.Fields.{AreFine, map_none, first_none, present, needs, there_inside, inside, zero_inside, counted, operator_in, inputs_in}
 
 -- what a choice without a fault says of its test
 pub passed : (b : Bool) (f : SpecFault) → (if b then None else Some f) ≡ None → b ≡ true
@@ -35,11 +36,21 @@ no_kind o h e = go (is_some o) (passed (is_some o) fault.BadKind h) (ap is_some 
     go : (b : Bool) → b ≡ true → b ≡ false → ⊥
     go b is is_no = cc
 
-one_counted : (n : ℤ) → is_one n ≡ true → count n ≡ 1
-one_counted (pos n) h =
-    let same : n ≡ 1 = grind arith in
-    rw same refl
-one_counted (negsuc n) h = cc
+pub version_is : (n : ℕ) → is_version (pos n) ≡ true → (n ≡ 1) ⊎ (n ≡ 2)
+version_is n h = go (n == 1) (n == 2) refl refl h
+  where
+    go : (a b : Bool) → (n == 1) ≡ a → (n == 2) ≡ b → (a || b) ≡ true → (n ≡ 1) ⊎ (n ≡ 2)
+    go true b one two h = inl (eqb-true n 1 one)
+    go false true one two h = inr (eqb-true n 2 two)
+    go false false one two h = cc
+
+version_counted : (n : ℤ) → is_version n ≡ true → IsVersion (count n)
+version_counted (pos n) h =
+    ⊎_elim
+    (λ (e : n ≡ 1). inl (ap (λ k. count (pos k)) e))
+    (λ (e : n ≡ 2). inr (ap (λ k. count (pos k)) e))
+    (version_is n h)
+version_counted (negsuc n) h = cc
 
 agrees : (ms : Members) (one : Kind) → AgreesOnExact (flag_at ms key.Exact) (operator_of one ms)
 agrees ms kind.Scale = refl
@@ -48,6 +59,15 @@ agrees ms kind.Multiply = tt
 agrees ms kind.Divide = refl
 agrees ms kind.Root = refl
 agrees ms kind.Mcm = tt
+
+-- an operator that marks exact outputs is one of a specification that does
+marked : (ms : Members) (one : Kind) → IsTrue (marks_exact (operator_of one ms)) → IsTrue (flag_at ms key.Exact)
+marked ms kind.Scale asked = asked
+marked ms kind.Fir asked = asked
+marked ms kind.Multiply asked = cc
+marked ms kind.Divide asked = asked
+marked ms kind.Root asked = asked
+marked ms kind.Mcm asked = cc
 
 -- every kind needs its target and its period
 pub common : (one : Kind) → (is_needed (Some one) key.Target ≡ true) × (is_needed (Some one) key.Period ≡ true)
@@ -110,10 +130,10 @@ few_items (Some d) h =
 asked_exact : (spec : Spec) → not_exact spec ≡ None → IsTrue spec.exact → inexact spec.op ≡ None
 asked_exact spec h asked = map_none fault.NotExact (inexact spec.op) (ap (λ b. if b then option_map fault.NotExact (inexact spec.op) else None) (sym asked) ∙ h)
 
-within_limit : (bits : ℕ) → over_limit bits ≡ None → bits ≤ MAX_WIDTH
-within_limit bits h = go (nat_lt MAX_WIDTH bits) refl
+within_limit : (most bits : ℕ) → over_limit most bits ≡ None → bits ≤ most
+within_limit most bits h = go (nat_lt most bits) refl
   where
-    go : (b : Bool) → nat_lt MAX_WIDTH bits ≡ b → bits ≤ MAX_WIDTH
+    go : (b : Bool) → nat_lt most bits ≡ b → bits ≤ most
     go true e =
         let some : Some (fault.TooWide bits) ≡ None = ap (λ b. if b then Some (fault.TooWide bits) else None) (sym e) ∙ h in
         cc
@@ -132,15 +152,19 @@ valid_in ms one f e h =
     let time = there_inside (value_at ms key.Period) (outside (pos 1) (pos 1000000) (number_at ms key.Period)) (present ms key.Period (needs ms one key.Period e period) f.needed.period) f.ranges.period in
     let (time_least, time_most) = inside (pos 1) (pos 1000000) (number_at ms key.Period) time in
     record {
-      version = one_counted (number_at ms key.Version) (passed (is_one (number_at ms key.Version)) (fault.BadVersion (number_at ms key.Version)) f.version);
+      version = version_counted (number_at ms key.Version) (passed (is_version (number_at ms key.Version)) (fault.BadVersion (number_at ms key.Version)) f.version);
       name = passed (is_spec_name (text_at ms key.Name)) fault.BadName f.name;
-      op = operator_in ms one f e;
+      op = record {
+        ranges = operator_in ms one f e;
+        inputs = inputs_in ms one f e;
+        fine = inside (least_shift spec.op) (most_shift spec.version spec.op) (shift spec.op) (map_none fault.Coarse (outside (least_shift spec.op) (most_shift spec.version spec.op) (shift spec.op)) fine);
+        narrow = λ bits e. within_limit (most_signal spec.version) bits (ap (λ o. option_and_then (over_limit (most_signal spec.version)) o) (sym e) ∙ narrow);
+        whole = λ asked. asked_exact spec exact (marked ms one asked);
+      };
       agrees = agrees ms one;
       target = (omega (arith, ints), omega (arith, ints));
       period = counted (number_at ms key.Period) 1 1000000 time_least time_most (omega arith);
       few_lines = omega (arith, no_more_lines (items_at ms key.Delay), few_items (value_at ms key.Delay) f.ranges.delay);
       lines = delays_in 1 (items_at ms key.Delay) f.lines;
       has_exact = asked_exact spec exact;
-      fine = inside (least_shift spec.op) MAX_SHIFT (shift spec.op) (map_none fault.Coarse (outside (least_shift spec.op) MAX_SHIFT (shift spec.op)) fine);
-      narrow = λ bits e. within_limit bits (ap (λ o. option_and_then over_limit o) (sym e) ∙ narrow);
     }

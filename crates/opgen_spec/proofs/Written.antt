@@ -1,5 +1,5 @@
 -- A document without a fault gives the values that it writes.
-use Rattle.std.proofs.Common.{◌≡◌, sym, ◌&&◌, ℕ, ◌<◌, ◌^◌, ◌||◌, not, Bool, true, false, length, get_or, Option, Some, None, is_some, is_none, option_and_then, find, nat_lt, refl, ap, ◌∙◌, arith, lit<, if◌then◌else◌, List, [], ◌∷◌, cond, ◌+◌, unwrap_or}
+use Rattle.std.proofs.Common.{◌≡◌, sym, ◌&&◌, ℕ, ◌<◌, ◌^◌, ◌||◌, ⊎_elim, not, Bool, true, false, length, get_or, Option, Some, None, is_some, is_none, option_and_then, find, nat_lt, refl, ap, ◌∙◌, arith, lit<, if◌then◌else◌, List, [], ◌∷◌, cond, ◌+◌, unwrap_or}
 use Rattle.std.specs.Prelude.{ℤ, pos, negsuc, ◌≤ℤ◌, int_le, int_lt}
 use Rattle.std.specs.Option.{option_map_or}
 use Rattle.std.proofs.lemmas.Bool.{lt-ltb}
@@ -13,17 +13,21 @@ use Rattle.opgen_spec.specs.declared.key.Key.TheVariants as key
 use Rattle.opgen_spec.specs.declared.key.Kind.{Kind}
 use Rattle.opgen_spec.specs.declared.key.Kind.TheVariants as kind
 use Rattle.opgen_spec.specs.Keys.{document_keys, kinds, kind_name, is_needed, line_keys, classes, class_name, class_named}
-use Rattle.opgen_spec.specs.Document.{value_at, number_in, text_in, flag_in, number_at, text_at, flag_at, count, small, kind_of, items_of, items_in, items_at}
+use Rattle.opgen_spec.specs.Document.{value_at, number_in, text_in, flag_in, number_at, text_at, flag_at, count_at, count, small, kind_of, items_of, items_in, items_at}
 use Rattle.opgen_spec.specs.Spec.{format_at, unsigned_at, operator_of, kind_in, spec_with, line_of, lines_of}
 use Rattle.opgen_spec.specs.Written.{IsInputAsWritten, IsOperatorAsWritten, IsAsWritten, IsLineAsWritten, AreLinesAsWritten}
-use Rattle.opgen_spec.specs.Faults.{missing_among, wrong_among, is_missing, is_wrong, outside, is_one, field_fault, among_line, among_lines, are_tables, class_outside, found, out_of_range, outside_among}
-use Rattle.opgen_spec.proofs.Fields.{AreFine, fine, nothing_wrong, find_none, map_none, present, needs, there_inside, zero_inside, inside, first_none, no_wrong_line}
+use Rattle.opgen_spec.specs.Faults.{missing_among, wrong_among, is_missing, is_wrong, outside, is_version, field_fault, among_line, among_lines, are_tables, class_outside, found, out_of_range, outside_among}
+use Rattle.opgen_operator.proofs.Versions.{input_limit}
+use Rattle.opgen_spec.proofs.Fields.{widest_input, AreFine, fine, nothing_wrong, find_none, map_none, present, needs, there_inside, zero_inside, inside, first_none, no_wrong_line}
 use Rattle.opgen_net.specs.declared.cell.Class.{Class}
 use Rattle.opgen_net.specs.declared.cell.Class.TheVariants as class
 use Rattle.opgen_spec.specs.declared.fault.SpecFault.{SpecFault}
 use Rattle.opgen_spec.specs.declared.lines.Check.TheVariants.{Missing, WrongType, Range}
+use Rattle.opgen_spec.specs.Decimals.{AreNumerators, AreCoefficients}
+use Rattle.opgen_spec.specs.Numbers.{numerators, denominator_of}
+use Rattle.opgen_spec.proofs.Decimals.{coefficients_written, integers_written, numbers_typed}
 use Rattle.opgen_spec.proofs.Reading.{or_none}
-use Rattle.opgen_spec.proofs.Validity.{passed, common}
+use Rattle.opgen_spec.proofs.Validity.{passed, common, version_is}
 
 number_stands : (o : Option Data) → is_none o ≡ false → option_map_or (λ d. not (is_some (as_integer d)) || false) o false ≡ false → o ≡ Some (integer (number_in o))
 number_stands (Some (integer n)) there typed = refl
@@ -67,14 +71,14 @@ are_typed ms h =
       typed = λ i lt. find_none (is_wrong ms) document_keys i key.Version (map_none (λ k. fault.WrongType k 0) (find (is_wrong ms) document_keys) wrong) lt;
     }
 
-width_bounds : (ms : Members) (k : Key) → is_none (value_at ms k) ≡ false → option_and_then (λ _. outside (pos (if flag_at ms key.Signed then 2 else 1)) (pos 32) (number_at ms k)) (value_at ms k) ≡ None → (pos 1 ≤ℤ number_at ms k) × (number_at ms k ≤ℤ pos 32)
+width_bounds : (ms : Members) (k : Key) → is_none (value_at ms k) ≡ false → option_and_then (λ _. outside (pos (if flag_at ms key.Signed then 2 else 1)) (pos (widest_input ms)) (number_at ms k)) (value_at ms k) ≡ None → (pos 1 ≤ℤ number_at ms k) × (number_at ms k ≤ℤ pos (widest_input ms))
 width_bounds ms k there h = go (flag_at ms key.Signed) (there_inside (value_at ms k) _ there h)
   where
-    go : (flag : Bool) → outside (pos (if flag then 2 else 1)) (pos 32) (number_at ms k) ≡ None → (pos 1 ≤ℤ number_at ms k) × (number_at ms k ≤ℤ pos 32)
+    go : (flag : Bool) → outside (pos (if flag then 2 else 1)) (pos (widest_input ms)) (number_at ms k) ≡ None → (pos 1 ≤ℤ number_at ms k) × (number_at ms k ≤ℤ pos (widest_input ms))
     go true none =
-        let (least, most) = inside (pos 2) (pos 32) (number_at ms k) none in
+        let (least, most) = inside (pos 2) (pos (widest_input ms)) (number_at ms k) none in
         (omega (arith, ints), most)
-    go false none = inside (pos 1) (pos 32) (number_at ms k) none
+    go false none = inside (pos 1) (pos (widest_input ms)) (number_at ms k) none
 
 count_written : (o : Option Data) (low high : ℕ) → is_none o ≡ false → option_map_or (λ d. not (is_some (as_integer d)) || false) o false ≡ false → (pos low ≤ℤ number_in o) × (number_in o ≤ℤ pos high) → high < 2 ^ 32 → o ≡ Some (integer (pos (count (number_in o))))
 count_written o low high there typed (least, most) few =
@@ -91,7 +95,7 @@ x_written ms one f t e width lsb =
     let there = present ms key.Width (needs ms one key.Width e width) (t.there 7 (lit< tt)) in
     let lsb_there = present ms key.Lsb (needs ms one key.Lsb e lsb) (t.there 8 (lit< tt)) in
     record {
-      width_written = count_written (value_at ms key.Width) 1 32 there (t.typed 7 (lit< tt)) (width_bounds ms key.Width there f.ranges.width) (omega arith);
+      width_written = count_written (value_at ms key.Width) 1 (widest_input ms) there (t.typed 7 (lit< tt)) (width_bounds ms key.Width there f.ranges.width) (omega (arith, input_limit (count_at ms key.Version)));
       lsb_written = power_written (value_at ms key.Lsb) lsb_there (t.typed 8 (lit< tt)) f.ranges.lsb;
     }
 
@@ -101,7 +105,7 @@ a_written ms one f t e width lsb =
     let there = present ms key.WidthA (needs ms one key.WidthA e width) (t.there 9 (lit< tt)) in
     let lsb_there = present ms key.LsbA (needs ms one key.LsbA e lsb) (t.there 10 (lit< tt)) in
     record {
-      width_written = count_written (value_at ms key.WidthA) 1 32 there (t.typed 9 (lit< tt)) (width_bounds ms key.WidthA there f.ranges.width_a) (omega arith);
+      width_written = count_written (value_at ms key.WidthA) 1 (widest_input ms) there (t.typed 9 (lit< tt)) (width_bounds ms key.WidthA there f.ranges.width_a) (omega (arith, input_limit (count_at ms key.Version)));
       lsb_written = power_written (value_at ms key.LsbA) lsb_there (t.typed 10 (lit< tt)) f.ranges.lsb_a;
     }
 
@@ -111,7 +115,7 @@ b_written ms one f t e width lsb =
     let there = present ms key.WidthB (needs ms one key.WidthB e width) (t.there 11 (lit< tt)) in
     let lsb_there = present ms key.LsbB (needs ms one key.LsbB e lsb) (t.there 12 (lit< tt)) in
     record {
-      width_written = count_written (value_at ms key.WidthB) 1 32 there (t.typed 11 (lit< tt)) (width_bounds ms key.WidthB there f.ranges.width_b) (omega arith);
+      width_written = count_written (value_at ms key.WidthB) 1 (widest_input ms) there (t.typed 11 (lit< tt)) (width_bounds ms key.WidthB there f.ranges.width_b) (omega (arith, input_limit (count_at ms key.Version)));
       lsb_written = power_written (value_at ms key.LsbB) lsb_there (t.typed 12 (lit< tt)) f.ranges.lsb_b;
     }
 
@@ -134,20 +138,26 @@ extra_written ms f t e =
     let there = present ms key.Extra (needs ms kind.Mcm key.Extra e refl) (t.there 17 (lit< tt)) in
     count_written (value_at ms key.Extra) 0 2 there (t.typed 17 (lit< tt)) (zero_inside (value_at ms key.Extra) (pos 0) (pos 2) (omega (arith, ints)) (omega (arith, ints)) f.ranges.extra) (omega arith)
 
+coefs_written : (ms : Members) → AreTyped ms → AreCoefficients ms (numerators (items_at ms key.Coefficients)) (denominator_of ms)
+unfolding document_keys
+coefs_written ms t = coefficients_written ms (t.typed 14 (lit< tt)) (t.typed 15 (lit< tt))
+
+constants_written : (ms : Members) → AreTyped ms → AreNumerators 0 (items_at ms key.Constants) (numerators (items_at ms key.Constants))
+unfolding document_keys
+constants_written ms t = integers_written (items_at ms key.Constants) (numbers_typed (value_at ms key.Constants) (t.typed 16 (lit< tt)))
+
 operator_written : (ms : Members) (one : Kind) → AreFine ms → AreTyped ms → kind_of ms ≡ Some one → IsOperatorAsWritten ms (operator_of one ms)
 operator_written ms kind.Scale f t e = record {
   signed = signed_written ms kind.Scale t e refl;
   input = x_written ms kind.Scale f t e refl refl;
   out_lsb = out_written ms kind.Scale f t e refl;
-  coefs = refl;
-  den = refl;
+  coefs = coefs_written ms t;
 }
 operator_written ms kind.Fir f t e = record {
   signed = signed_written ms kind.Fir t e refl;
   input = x_written ms kind.Fir f t e refl refl;
   out_lsb = out_written ms kind.Fir f t e refl;
-  coefs = refl;
-  den = refl;
+  coefs = coefs_written ms t;
 }
 operator_written ms kind.Multiply f t e = record {
   signed = signed_written ms kind.Multiply t e refl;
@@ -167,7 +177,7 @@ operator_written ms kind.Root f t e = record {
 operator_written ms kind.Mcm f t e = record {
   signed = signed_written ms kind.Mcm t e refl;
   input = x_written ms kind.Mcm f t e refl refl;
-  constants = refl;
+  constants = constants_written ms t;
   extra = extra_written ms f t e;
 }
 
@@ -266,11 +276,11 @@ tables_typed (Some d) h = both (are_tables (items_of d)) (is_some (as_array d)) 
     both true b h = refl
     both false b h = cc
 
-one_bounds : (n : ℤ) → is_one n ≡ true → (pos 1 ≤ℤ n) × (n ≤ℤ pos 1)
-one_bounds (pos n) h =
-    let same : n ≡ 1 = grind arith in
-    (omega (arith, ints), omega (arith, ints))
-one_bounds (negsuc n) h = cc
+version_bounds : (n : ℤ) → is_version n ≡ true → (pos 1 ≤ℤ n) × (n ≤ℤ pos 2)
+version_bounds (pos n) h =
+    let which = version_is n h in
+    (⊎_elim (λ (e : n ≡ 1). omega (arith, ints)) (λ (e : n ≡ 2). omega (arith, ints)) which, ⊎_elim (λ (e : n ≡ 1). omega (arith, ints)) (λ (e : n ≡ 2). omega (arith, ints)) which)
+version_bounds (negsuc n) h = cc
 
 pub written : (ms : Members) (one : Kind) → field_fault ms ≡ None → kind_of ms ≡ Some one → IsAsWritten ms (spec_with one ms)
 unfolding spec_with document_keys
@@ -283,7 +293,7 @@ written ms one h e =
     let time_there = present ms key.Period (needs ms one key.Period e period) (t.there 5 (lit< tt)) in
     let time = there_inside (value_at ms key.Period) (outside (pos 1) (pos 1000000) (number_at ms key.Period)) time_there f.ranges.period in
     record {
-      version = count_written (value_at ms key.Version) 1 1 (present ms key.Version (needs ms one key.Version e version) (t.there 0 (lit< tt))) (t.typed 0 (lit< tt)) (one_bounds (number_at ms key.Version) (passed (is_one (number_at ms key.Version)) (fault.BadVersion (number_at ms key.Version)) f.version)) (omega arith);
+      version = count_written (value_at ms key.Version) 1 2 (present ms key.Version (needs ms one key.Version e version) (t.there 0 (lit< tt))) (t.typed 0 (lit< tt)) (version_bounds (number_at ms key.Version) (passed (is_version (number_at ms key.Version)) (fault.BadVersion (number_at ms key.Version)) f.version)) (omega arith);
       name = text_stands (value_at ms key.Name) (present ms key.Name (needs ms one key.Name e name) (t.there 1 (lit< tt))) (t.typed 1 (lit< tt));
       kind_written = text_stands (value_at ms key.Kind) (present ms key.Kind (needs ms one key.Kind e named) (t.there 2 (lit< tt))) (t.typed 2 (lit< tt)) ∙ ap (λ text. Some (string text)) (kind_found (text_at ms key.Kind) kinds one e ∙ ap kind_name (sym (kind_of_operator one ms)));
       exact = flag_stands (value_at ms key.Exact) (present ms key.Exact (needs ms one key.Exact e exact) (t.there 3 (lit< tt))) (t.typed 3 (lit< tt));

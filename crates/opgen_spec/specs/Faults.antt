@@ -3,7 +3,6 @@ use Rattle.std.specs.Prelude.{◌≡◌, ℕ, ◌+◌, ◌^◌, ◌==◌, ◌&&�
 use Rattle.std.specs.List.{list_all, position_from}
 use Rattle.std.specs.Option.{option_or, option_map_or}
 use Rattle.toml.specs.Data.{Data, string, table, Items, no_items, item, Members, as_str, as_integer, as_bool, as_array, as_table}
-use Rattle.opgen_num.specs.declared.TheConstants.{MAX_INPUT, MAX_WIDTH}
 use Rattle.opgen_spec.specs.declared.fault.SpecFault.{SpecFault}
 use Rattle.opgen_spec.specs.declared.fault.SpecFault.TheVariants as fault
 use Rattle.opgen_spec.specs.declared.key.Key.{Key}
@@ -14,12 +13,12 @@ use Rattle.opgen_spec.specs.declared.key.Sort.{Sort}
 use Rattle.opgen_spec.specs.declared.key.Sort.TheVariants.{Number, Text, Flag, Coefficients, Numbers, Tables}
 use Rattle.opgen_spec.specs.declared.lines.Check.{Check}
 use Rattle.opgen_spec.specs.declared.lines.Check.TheVariants.{Unknown, Missing, WrongType, Range}
-use Rattle.opgen_operator.specs.declared.TheConstants.{MAX_SHIFT}
 use Rattle.opgen_operator.specs.declared.spec.Spec.{Spec}
 use Rattle.opgen_spec.specs.Keys.{document_keys, line_keys, is_known, is_needed, class_named, sort_of}
-use Rattle.opgen_spec.specs.Document.{names, list_of, value_at, number_at, text_at, flag_at, items_of, items_at, kind_of}
+use Rattle.opgen_spec.specs.Document.{names, list_of, value_at, number_at, text_at, flag_at, count_at, items_of, items_at, kind_of}
 use Rattle.opgen_spec.specs.Numbers.{decimal_of, numerators, are_texts}
-use Rattle.opgen_operator.specs.Outputs.{shift, inexact, least_shift, need}
+use Rattle.opgen_operator.specs.Limits.{most_input, most_signal, least_shift, most_shift}
+use Rattle.opgen_operator.specs.Outputs.{shift, inexact, need}
 use Rattle.opgen_spec.specs.Spec.{spec_of}
 use Rattle.opgen_operator.specs.SpecName.{is_spec_name}
 
@@ -90,21 +89,22 @@ wrong_among ks line ms = option_map (λ k. fault.WrongType k line) (find (is_wro
 abbrev pub outside : ℤ → ℤ → ℤ → Option ℤ
 outside low high n = if int_le low n && int_le n high then None else Some n
 
--- the bounds of a whole number, signed inputs being of two bits or more
-abbrev pub bounds : Bool → Key → Option (ℤ × ℤ)
-bounds signed key.Period = Some (pos 1, pos 1000000)
-bounds signed key.Width = Some (pos (if signed then 2 else 1), pos MAX_INPUT)
-bounds signed key.WidthA = Some (pos (if signed then 2 else 1), pos MAX_INPUT)
-bounds signed key.WidthB = Some (pos (if signed then 2 else 1), pos MAX_INPUT)
-bounds signed key.Lsb = Some (negsuc 31, pos 32)
-bounds signed key.LsbA = Some (negsuc 31, pos 32)
-bounds signed key.LsbB = Some (negsuc 31, pos 32)
-bounds signed key.OutLsb = Some (negsuc 31, pos 32)
-bounds signed key.Denominator = Some (pos 1, pos (2 ^ 30))
-bounds signed key.Extra = Some (pos 0, pos 2)
-bounds signed key.Base = Some (pos 0, pos 1000000)
-bounds signed key.PerBit = Some (pos 0, pos 10000)
-bounds signed _ = None
+-- The bounds of a whole number. Signed inputs have two bits or more, and how many an input may have hangs on the version. Version
+-- and sign are those of the table that has the key: of the document, since a delay line has no such key.
+abbrev pub bounds : (version : ℕ) (signed : Bool) → Key → Option (ℤ × ℤ)
+bounds version signed key.Period = Some (pos 1, pos 1000000)
+bounds version signed key.Width = Some (pos (if signed then 2 else 1), pos (most_input version))
+bounds version signed key.WidthA = Some (pos (if signed then 2 else 1), pos (most_input version))
+bounds version signed key.WidthB = Some (pos (if signed then 2 else 1), pos (most_input version))
+bounds version signed key.Lsb = Some (negsuc 31, pos 32)
+bounds version signed key.LsbA = Some (negsuc 31, pos 32)
+bounds version signed key.LsbB = Some (negsuc 31, pos 32)
+bounds version signed key.OutLsb = Some (negsuc 31, pos 32)
+bounds version signed key.Denominator = Some (pos 1, pos (2 ^ 30))
+bounds version signed key.Extra = Some (pos 0, pos 2)
+bounds version signed key.Base = Some (pos 0, pos 1000000)
+bounds version signed key.PerBit = Some (pos 0, pos 10000)
+bounds version signed _ = None
 
 abbrev pub most_coefficients : Option Kind → ℕ
 most_coefficients (Some kind.Fir) = 256
@@ -141,7 +141,7 @@ value_outside line ms key.Coefficients = coefficients_outside ms
 value_outside line ms key.Constants = array_outside 8 2047 (items_at ms key.Constants)
 value_outside line ms key.Delay = length_outside 0 16 (items_at ms key.Delay)
 value_outside line ms key.Class = class_outside line (text_at ms key.Class)
-value_outside line ms k = number_outside (bounds (flag_at ms key.Signed) k) (number_at ms k)
+value_outside line ms k = number_outside (bounds (count_at ms key.Version) (flag_at ms key.Signed) k) (number_at ms k)
 
 abbrev pub found : ℕ → Members → Key → Option ℤ
 found line ms k = option_and_then (λ _. value_outside line ms k) (value_at ms k)
@@ -178,12 +178,13 @@ among_lines check line (item d rest) = option_or (among_line check line d) (amon
 abbrev pub check_fault : Check → Members → Option SpecFault
 check_fault check ms = option_or (among_keys check ms) (among_lines check 1 (items_at ms key.Delay))
 
-abbrev pub is_one : ℤ → Bool
-is_one (pos n) = n == 1
-is_one (negsuc n) = false
+-- Bad version: neither 1 nor 2.
+abbrev pub is_version : ℤ → Bool
+is_version (pos n) = n == 1 || n == 2
+is_version (negsuc n) = false
 
 abbrev pub bad_version : Members → Option SpecFault
-bad_version ms = if is_one (number_at ms key.Version) then None else Some (fault.BadVersion (number_at ms key.Version))
+bad_version ms = if is_version (number_at ms key.Version) then None else Some (fault.BadVersion (number_at ms key.Version))
 
 abbrev pub bad_name : Members → Option SpecFault
 bad_name ms = if is_spec_name (text_at ms key.Name) then None else Some fault.BadName
@@ -195,16 +196,16 @@ bad_kind ms = if is_some (kind_of ms) then None else Some fault.BadKind
 abbrev pub not_exact : Spec → Option SpecFault
 not_exact spec = if spec.exact then option_map fault.NotExact (inexact spec.op) else None
 
--- Coarse: the shift is not within the bounds of the kind.
+-- Coarse: the shift is not within the bounds that the version sets to the kind.
 abbrev pub coarse : Spec → Option SpecFault
-coarse spec = option_map fault.Coarse (outside (least_shift spec.op) MAX_SHIFT (shift spec.op))
+coarse spec = option_map fault.Coarse (outside (least_shift spec.op) (most_shift spec.version spec.op) (shift spec.op))
 
--- Too wide: the widest signal needs more bits than a signal may have.
-abbrev pub over_limit : ℕ → Option SpecFault
-over_limit bits = if nat_lt MAX_WIDTH bits then Some (fault.TooWide bits) else None
+-- Too wide: the widest signal needs more bits than a signal of the version may have.
+abbrev pub over_limit : (most : ℕ) → ℕ → Option SpecFault
+over_limit most bits = if nat_lt most bits then Some (fault.TooWide bits) else None
 
 abbrev pub too_wide : Spec → Option SpecFault
-too_wide spec = option_and_then over_limit (need spec.op)
+too_wide spec = option_and_then (over_limit (most_signal spec.version)) (need spec.op)
 
 -- what a specification whose fields are in range is asked for
 abbrev pub limit_fault : Spec → Option SpecFault

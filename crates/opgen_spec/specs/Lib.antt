@@ -1,6 +1,7 @@
 pub mod Keys
 pub mod Document
 pub mod Numbers
+pub mod Decimals
 pub mod Spec
 pub mod Faults
 pub mod Texts

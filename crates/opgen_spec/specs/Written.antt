@@ -15,7 +15,7 @@ use Rattle.opgen_operator.specs.declared.spec.Single.{Single}
 use Rattle.opgen_operator.specs.declared.spec.Several.{Several}
 use Rattle.opgen_spec.specs.Document.{value_at, items_at}
 use Rattle.opgen_spec.specs.Keys.{kind_name, class_name}
-use Rattle.opgen_spec.specs.Numbers.{numerators, denominator_of}
+use Rattle.opgen_spec.specs.Decimals.{AreNumerators, AreCoefficients}
 use Rattle.opgen_spec.specs.Spec.{kind_in}
 
 pub record IsInputAsWritten (ms : Members) (width lsb : Key) (f : Format) : Type 0 where
@@ -26,8 +26,7 @@ pub record IsSumAsWritten (ms : Members) (s : Sum) : Type 0 where
   pub signed : value_at ms key.Signed ≡ Some (boolean s.input.signed)
   pub input : IsInputAsWritten ms key.Width key.Lsb s.input
   pub out_lsb : value_at ms key.OutLsb ≡ Some (integer s.out_lsb)
-  pub coefs : s.coefs ≡ numerators (items_at ms key.Coefficients)
-  pub den : s.den ≡ denominator_of ms
+  pub coefs : AreCoefficients ms s.coefs s.den
 
 pub record IsProductAsWritten (ms : Members) (p : Product) : Type 0 where
   pub signed : value_at ms key.Signed ≡ Some (boolean p.a.signed)
@@ -47,7 +46,7 @@ pub record IsSingleAsWritten (ms : Members) (r : Single) : Type 0 where
 pub record IsSeveralAsWritten (ms : Members) (m : Several) : Type 0 where
   pub signed : value_at ms key.Signed ≡ Some (boolean m.input.signed)
   pub input : IsInputAsWritten ms key.Width key.Lsb m.input
-  pub constants : m.constants ≡ numerators (items_at ms key.Constants)
+  pub constants : AreNumerators 0 (items_at ms key.Constants) m.constants
   pub extra : value_at ms key.Extra ≡ Some (integer (pos m.extra))
 
 abbrev pub IsOperatorAsWritten : Members → Operator → Type 0

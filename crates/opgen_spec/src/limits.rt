@@ -1,10 +1,11 @@
 ghost use Rattle.std.specs.Prelude.{◌≡◌, None};
+ghost use Rattle.opgen_operator.specs.Accepted.{HasInputsWithin};
+ghost use Rattle.opgen_operator.specs.Limits.{most_input};
 ghost use Rattle.opgen_operator.specs.Ranges.{IsOperator};
 ghost use Rattle.opgen_spec.specs.Faults.{not_exact, coarse, over_limit, too_wide, limit_fault};
 
 use crate::fault::SpecFault;
-use opgen_num::MAX_WIDTH;
-use opgen_operator::{MAX_SHIFT, Spec};
+use opgen_operator::{Spec, most_signal};
 
 fn not_exact(spec: &Spec) -> Option<SpecFault>
     requires { IsOperator spec.now.op }
@@ -22,7 +23,7 @@ fn coarse(spec: &Spec) -> Option<SpecFault>
     ensures { result ≡ coarse spec.now }
 {
     let shift = spec.op.shift();
-    if spec.op.least_shift() <= shift && shift <= MAX_SHIFT {
+    if spec.op.least_shift() <= shift && shift <= spec.op.most_shift(spec.version) {
         None
     } else {
         Some(SpecFault::Coarse { shift })
@@ -31,11 +32,12 @@ fn coarse(spec: &Spec) -> Option<SpecFault>
 
 fn too_wide(spec: &Spec) -> Option<SpecFault>
     requires op { IsOperator spec.now.op }
+    requires inputs { HasInputsWithin (most_input spec.now.version) spec.now.op }
     requires fine { coarse spec.now ≡ None }
     ensures { result ≡ too_wide spec.now }
 {
     let need = spec.op.need()?;
-    if need > MAX_WIDTH {
+    if need > most_signal(spec.version) {
         Some(SpecFault::TooWide { need })
     } else {
         None
@@ -44,7 +46,8 @@ fn too_wide(spec: &Spec) -> Option<SpecFault>
 
 /// The first fault of a specification whose fields are in range.
 pub(crate) fn limit_fault(spec: &Spec) -> Option<SpecFault>
-    requires { IsOperator spec.now.op }
+    requires op { IsOperator spec.now.op }
+    requires inputs { HasInputsWithin (most_input spec.now.version) spec.now.op }
     ensures { result ≡ limit_fault spec.now }
 {
     if let Some(fault) = not_exact(spec) {

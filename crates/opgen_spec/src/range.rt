@@ -5,10 +5,10 @@ ghost use Rattle.opgen_spec.specs.Numbers.{places_in, places_among, coefficient}
 ghost use Rattle.opgen_spec.specs.Faults.{outside, bounds, most_coefficients, is_beyond, first_beyond, length_outside, array_outside, number_outside, class_outside, coefficients_outside, value_outside, found, outside_among};
 
 use crate::decimal::{decimal_of, numerator};
-use crate::document::{flag_at, items_at, kind_of, number_at, text_at, value_at};
+use crate::document::{count_at, flag_at, items_at, kind_of, number_at, text_at, value_at};
 use crate::fault::SpecFault;
 use crate::key::{Key, Kind, class_named};
-use opgen_num::MAX_INPUT;
+use opgen_operator::most_input;
 use toml::{Table, Value};
 
 /// The greatest numerator of a coefficient, without its sign.
@@ -22,13 +22,14 @@ pub(crate) fn outside(low: i64, high: i64, n: i64) -> Option<i64>
 }
 
 /// The bounds of the whole number at a key.
-fn bounds(key: Key, signed: bool) -> Option<(i64, i64)>
-    ensures { result ≡ bounds signed key }
+fn bounds(version: u32, signed: bool, key: Key) -> Option<(i64, i64)>
+    ensures { result ≡ bounds version signed key }
 {
     match key {
         Key::Period => Some((1, 1_000_000)),
         Key::Width | Key::WidthA | Key::WidthB => {
-            Some((if signed { 2 } else { 1 }, i64::from(MAX_INPUT)))
+            let fewest = if signed { 2 } else { 1 };
+            Some((fewest, i64::from(most_input(version))))
         }
         Key::Lsb | Key::LsbA | Key::LsbB | Key::OutLsb => Some((-32, 32)),
         Key::Denominator => Some((1, 1 << 30)),
@@ -167,7 +168,11 @@ fn value_outside(line: u64, table: &Table, key: Key) -> Option<i64>
         Key::Delay => length_outside(0, 16, items_at(table, key)),
         Key::Class => class_outside(line, text_at(table, key)),
         _ => number_outside(
-            bounds(key, flag_at(table, Key::Signed)),
+            bounds(
+                count_at(table, Key::Version),
+                flag_at(table, Key::Signed),
+                key,
+            ),
             number_at(table, key),
         ),
     }

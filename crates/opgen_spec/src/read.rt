@@ -34,7 +34,7 @@ fn bad_version(table: &Table) -> Option<SpecFault>
     ensures { result ≡ bad_version (table_view table.now) }
 {
     let found = number_at(table, Key::Version);
-    if found == 1 {
+    if found == 1 || found == 2 {
         None
     } else {
         Some(SpecFault::BadVersion { found })

@@ -3,22 +3,22 @@ use opgen_cases::running::generated;
 use std::alloc::{AllocError, Global};
 use std::test::Fail;
 
-const SCALE: &str =
+pub(crate) const SCALE: &str =
     "version = 1\nname = \"times3\"\nkind = \"scale\"\nexact = true\ntarget = \"plain\"\nperiod = 10000\nsigned = false\nwidth = 4\nlsb = 0\nout_lsb = 0\ncoefficients = [3]\n";
 
-const FILTER: &str =
+pub(crate) const FILTER: &str =
     "version = 1\nname = \"times3\"\nkind = \"fir\"\nexact = true\ntarget = \"plain\"\nperiod = 10000\nsigned = false\nwidth = 4\nlsb = 0\nout_lsb = 0\ncoefficients = [4, 8, 3, 1]\ndenominator = 4\n";
 
-const MULTIPLY: &str =
+pub(crate) const MULTIPLY: &str =
     "version = 1\nname = \"product\"\nkind = \"multiply\"\nexact = false\ntarget = \"plain\"\nperiod = 1000000\nsigned = false\nwidth_a = 4\nlsb_a = 24\nwidth_b = 4\nlsb_b = 0\nout_lsb = -24\n";
 
-const DIVIDE: &str =
+pub(crate) const DIVIDE: &str =
     "version = 1\nname = \"quotient\"\nkind = \"divide\"\nexact = false\ntarget = \"plain\"\nperiod = 1000000\nwidth_a = 4\nlsb_a = 0\nwidth_b = 4\nlsb_b = 0\nout_lsb = 0\n";
 
-const ROOT: &str =
+pub(crate) const ROOT: &str =
     "version = 1\nname = \"root8\"\nkind = \"root\"\nexact = true\ntarget = \"plain\"\nperiod = 1000000\nwidth = 8\nlsb = 0\nout_lsb = 0\n";
 
-const MCM: &str =
+pub(crate) const MCM: &str =
     "version = 1\nname = \"mcm45\"\nkind = \"mcm\"\nexact = true\ntarget = \"plain\"\nperiod = 1000000\nsigned = false\nwidth = 4\nlsb = 0\nconstants = [0]\nextra = 1\n";
 
 /// A line of a document and what stands in its place.
@@ -448,7 +448,7 @@ static SCALES: [Further; 15] = [
     (
         SCALE,
         &[("version = 1", "version = 2"), ("width = 4", "width = 33")],
-        "BadVersion 2",
+        "Unsupported",
     ),
     (
         SCALE,
@@ -892,7 +892,11 @@ static MULTIPLES: [Further; 13] = [
 ];
 
 /// The document with its changes; an empty text takes a line away.
-fn changed(alloc: Global, document: &str, changes: &[(&str, &str)]) -> Result<String, AllocError> {
+pub(crate) fn changed(
+    alloc: Global,
+    document: &str,
+    changes: &[(&str, &str)],
+) -> Result<String, AllocError> {
     let mut text = String::new(alloc);
     for line in document.lines() {
         let change = changes.iter().find(|change| change.0 == line);
@@ -906,7 +910,7 @@ fn changed(alloc: Global, document: &str, changes: &[(&str, &str)]) -> Result<St
 }
 
 /// Whether `generate` answers a specification with this fault or line.
-fn answers(alloc: Global, spec: &str, answer: &str) -> Result<bool, AllocError> {
+pub(crate) fn answers(alloc: Global, spec: &str, answer: &str) -> Result<bool, AllocError> {
     let ran = generated(alloc, spec)?;
     let line = if answer.starts_with("wrote") {
         format!(in alloc; "{answer}\n")?
@@ -1015,7 +1019,7 @@ fn multiples(rt: HostRuntime) -> Result<(), Fail> {
 }
 
 /// A unit so many times between two texts.
-fn repeated(
+pub(crate) fn repeated(
     alloc: Global,
     before: &str,
     unit: &str,

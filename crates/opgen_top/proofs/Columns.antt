@@ -10,8 +10,9 @@ use Rattle.opgen_design.specs.declared.design.Dir.TheVariants.{In, Out}
 use Rattle.opgen_design.specs.declared.design.Port.{Port}
 use Rattle.opgen_design.specs.Run.{at_ports, is_in, is_out, input_widths}
 use Rattle.opgen_design.specs.Sound.{HasNumbers, IsSound, Width, PortPasses, at_port}
-use Rattle.opgen_sim.specs.Step.{FitWidths}
-use Rattle.opgen_vec.specs.Rows.{AreCells, AreRowsOfCells}
+use Rattle.opgen_num.specs.declared.TheConstants.{MAX_WIDTH}
+use Rattle.opgen_num.specs.Words.{FitWidths}
+use Rattle.opgen_vec.specs.Rows.{AreRowsOfCells}
 use Rattle.opgen_vec.specs.Writing.{row_count, row_count_of, HaveSameRows}
 use Rattle.opgen_vec.proofs.Rows.{length-cells}
 use Rattle.opgen_top.specs.Running.{output_widths}
@@ -55,7 +56,7 @@ few_outputs d few = omega (arith, few, sides d)
 
 -- no port of a sound design is too wide
 abbrev IsNarrow : ℕ → Type 0
-IsNarrow width = width ≤ 64
+IsNarrow width = width ≤ MAX_WIDTH
 
 narrow_side : (dir : Dir) (w : ℕ) (is : List ℕ) → IsNarrow w → All IsNarrow is → All IsNarrow (if is_in dir then w ∷ is else is)
 narrow_side In w is h all = All-cons IsNarrow w is h all
@@ -65,15 +66,8 @@ narrow_on : (ps : List Port) → ((i : ℕ) (p : Port) → slice_get ps i ≡ So
 narrow_on [] h = All-nil IsNarrow
 narrow_on (p ∷ ps) h = narrow_side p.dir p.width (at_ports is_in ps (map (λ p. p.width) ps)) (h 0 p refl) (narrow_on ps (λ i q e. h (suc i) q e))
 
-pub narrow_inputs : (d : Design) → IsSound d → All (λ width. width ≤ 64) (input_widths d)
+pub narrow_inputs : (d : Design) → IsSound d → All (λ width. width ≤ MAX_WIDTH) (input_widths d)
 narrow_inputs d sound = narrow_on d.ports (λ i p e. (subst (λ o. IfSome o (PortPasses d Width i)) e (sound.widths (at_port i))).1)
-
--- cells fit the widths that they are of
-pub cells_fit : (widths cells : List ℕ) → AreCells widths cells → FitWidths widths cells
-cells_fit [] [] are = tt
-cells_fit [] (c ∷ cells) are = absurd are
-cells_fit (w ∷ widths) [] are = absurd are
-cells_fit (w ∷ widths) (c ∷ cells) (small, are) = (small, cells_fit widths cells are)
 
 pub row_room : (widths cells : List ℕ) (rows : ℕ) → 0 < rows → AreRowsOfCells widths rows cells → length widths ≤ length cells
 row_room widths cells zero some are = absurd (omega (arith, some))
@@ -81,7 +75,7 @@ row_room widths cells (suc rows) some (is, are) = omega (arith, length-cells wid
 
 pub first_fits : (widths cells : List ℕ) (rows : ℕ) → 0 < rows → AreRowsOfCells widths rows cells → FitWidths widths (take (length widths) cells)
 first_fits widths cells zero some are = absurd (omega (arith, some))
-first_fits widths cells (suc rows) some (is, are) = cells_fit widths (take (length widths) cells) is
+first_fits widths cells (suc rows) some (is, are) = is
 
 pub later_rows : (widths cells : List ℕ) (rows : ℕ) → 0 < rows → AreRowsOfCells widths rows cells → AreRowsOfCells widths (rows - 1) (drop (length widths) cells)
 later_rows widths cells zero some are = absurd (omega (arith, some))

@@ -1,127 +1,118 @@
--- From what VHDL and vectors give to what `simulate` makes of its files.
-use Rattle.std.proofs.Common.{◌≡◌, ◌⊎◌, inl, inr, ℕ, ◌≤◌, List, length, Option, Some, Result, Ok, Err, sym, ap, subst, arith, refl}
-use Rattle.std.specs.Prelude.{string_bytes, None, IfOk, ◌≢◌}
+-- From what VHDL and vectors give to what `simulate` answers to its files.
+use Rattle.std.proofs.Common.{◌≡◌, ◌⊎◌, inl, inr, ℕ, ◌≤◌, List, length, Option, Some, Result, Ok, Err, refl, sym, ap, subst, arith}
+use Rattle.std.specs.Prelude.{◌≢◌}
 use Rattle.std.specs.Str.Lines.{lines}
+use Rattle.opgen_design.specs.declared.design.Design.{Design}
+use Rattle.opgen_design.specs.Run.{input_widths}
 use Rattle.opgen_io.specs.Answers.{fetched}
-use Rattle.opgen_io.specs.Counts.{Rose, Stood}
 use Rattle.opgen_io.specs.Files.{Files}
-use Rattle.opgen_io.specs.declared.folder.FetchFault.TheVariants as fetch
 use Rattle.opgen_vec.specs.declared.fault.VecFault.TheVariants as vector_faults
 use Rattle.opgen_vec.specs.Reading.{IsReading}
-use Rattle.opgen_top.specs.declared.line.Line.{Line}
-use Rattle.opgen_top.specs.declared.line.Line.TheVariants.{Wrote}
-use Rattle.opgen_top.specs.declared.made.MadeFile.{MadeFile}
-use Rattle.opgen_top.specs.declared.made.Refusal.{Refusal}
-use Rattle.opgen_top.specs.declared.made.Refusal.TheVariants as refusals
-use Rattle.opgen_top.specs.Answer.{Answer, read_fault, too_long, answer_of}
+use Rattle.opgen_top.specs.declared.answer.Answer.{Answer as Held}
+use Rattle.opgen_top.specs.declared.answer.Refusal.{Refusal}
+use Rattle.opgen_top.specs.declared.answer.Refusal.TheVariants as refusals
+use Rattle.opgen_top.specs.declared.run_rows.Rows.{Rows}
+use Rattle.opgen_top.specs.Answer.{Answer, success, vhdl_refused, vectors_refused}
 use Rattle.opgen_top.specs.Command.{Simulate}
-use Rattle.opgen_top.specs.Due.{most_simulated_bytes, OnFetch, IsDue, IsMissing, IsTooLong}
-use Rattle.opgen_top.specs.Prepared.{Reads, Kept, Prepares, IsMade, IsRefusal, IsUnfetched, Fetches}
-use Rattle.opgen_top.specs.Simulate.{IsSimulateAnswer, MakesRows, RefusesRows, RefusesVhdl, RefusesVectors, Runs}
-use Rattle.opgen_top.proofs.Preparing.{on_fetch}
-use Rattle.opgen_top.proofs.Unfetched.{unfetched-refused}
-
-rose-before : (before mid now : ℕ) → before ≤ mid → Rose mid now → Rose before now
-rose-before before mid now le rose = omega (arith, le, rose)
-
-stood-after : (before mid now : ℕ) → before ≤ mid → Stood before now → Stood mid now
-stood-after before mid now le stood = omega (arith, le, stood)
-
--- what a later fetch counts was counted since before
-unfetched-before : (name : List ℕ) (most : ℕ) (told : Option Files) (before mid now : Reads) (line : Line) → Kept before mid → IsUnfetched name most told mid now line → IsUnfetched name most told before now line
-unfetched-before name most told before mid now line kept cause = record {
-  either = cause.either;
-  read_counted = λ h. elim (cause.read_counted h) [ inl rose ↦ inl (rose-before before.faults mid.faults now.faults kept.faults rose) | inr rose ↦ inr (rose-before before.lacks mid.lacks now.lacks kept.lacks rose) ];
-  long_counted = λ h. rose-before before.longs mid.longs now.longs kept.longs (cause.long_counted h);
-  missing = λ files is stood h. cause.missing files is (stood-after before.faults mid.faults now.faults kept.faults stood) h;
-  longer = cause.longer;
-}
+use Rattle.opgen_top.specs.Due.{most_simulated_bytes, OnFetch, IsAnswerOf}
+use Rattle.opgen_top.specs.Lines.{simulated_line}
+use Rattle.opgen_top.specs.Prepared.{Reads, Kept, Answers, Fetches, Refused, HoldsRows, IsListed, IsPrepared, answer_of, refusal_of}
+use Rattle.opgen_top.specs.Printed as printed
+use Rattle.opgen_top.specs.Running.{IsRunText}
+use Rattle.opgen_top.specs.Simulate.{GivesDesign, IsSimulated, RefusesRows, RefusesVhdl}
+use Rattle.opgen_top.proofs.Listed.{listed_refusal, listed_success}
+use Rattle.opgen_top.proofs.PreparingSpecs.{status_of}
+use Rattle.opgen_top.proofs.Unfetched.{on_fetch, on_missing, on_longer, unfetched, unfetched-before}
 
 -- a fault of rows is no want of memory
-names_fault : (widths vectors : List ℕ) (a : Answer) (cause : RefusesRows widths vectors a) → cause.fault ≢ vector_faults.Memory
+pub names_fault : (widths vectors : List ℕ) (a : Answer) (cause : RefusesRows widths vectors a) → cause.fault ≢ vector_faults.Memory
 names_fault widths vectors a cause = λ e. subst (λ f. IsReading widths (lines vectors) (Err f)) e cause.cause
 
-module _ (vhdl vectors out : List ℕ) where
+-- VHDL that is refused answers the command
+pub vhdl_answers : (out text rows : List ℕ) (refusal : Refusal) → Refused {X = Design} (Err refusal) (RefusesVhdl text) → Answers (Err refusal) (IsSimulated out text rows)
+vhdl_answers out text rows (refusals.Line line) h = inl h
+vhdl_answers out text rows refusals.Memory h = tt
+
+pub vhdl_listed : (text : List ℕ) (refusal : Refusal) → Refused {X = Design} (Err refusal) (RefusesVhdl text) → Answers (Err refusal) IsListed
+vhdl_listed text (refusals.Line line) h =
+    subst IsListed (sym h.answer) (listed_refusal (vhdl_refused h.fault) (printed.vhdl_refused h.fault h.of_text refl refl) refl)
+vhdl_listed text refusals.Memory h = tt
+
+-- so do vectors
+pub rows_answer : (out text vectors widths : List ℕ) (design : Design) (refusal : Refusal) → GivesDesign text design → widths ≡ input_widths design → Refused {X = Rows} (Err refusal) (RefusesRows widths vectors)
+    → Answers (Err refusal) (IsSimulated out text vectors)
+rows_answer out text vectors widths design (refusals.Line line) gives same h =
+    inr (inl record { design = design; gives = gives; refused = subst (λ ws. RefusesRows ws vectors (refusal_of line)) same h })
+rows_answer out text vectors widths design refusals.Memory gives same h = tt
+
+pub rows_listed : (widths vectors : List ℕ) (refusal : Refusal) → Refused {X = Rows} (Err refusal) (RefusesRows widths vectors) → Answers (Err refusal) IsListed
+rows_listed widths vectors (refusals.Line line) h =
+    subst IsListed (sym h.answer) (listed_refusal (vectors_refused h.fault) (printed.vectors_refused h.fault (names_fault widths vectors (refusal_of line) h) refl refl) refl)
+rows_listed widths vectors refusals.Memory h = tt
+
+-- and so do rows
+pub made_run : (out text vectors widths : List ℕ) (a : Answer) (design : Design) (held : Rows) (line file rows : List ℕ) → GivesDesign text design → widths ≡ input_widths design → HoldsRows widths vectors held
+    → IsRunText design held.count held.inputs.cells.items rows → line ≡ simulated_line held.count → file ≡ out → a ≡ success line file rows → IsSimulated out text vectors a
+made_run out text vectors widths a design held line file rows gives same holds run said filed e =
+    inr (inr record {
+      design = design;
+      gives = gives;
+      cells = held.inputs.cells.items;
+      read = subst (λ ws. IsReading ws (lines vectors) (Ok held.inputs.cells.items)) same holds.reading;
+      rows = rows;
+      run = subst (λ n. IsRunText design n held.inputs.cells.items rows) holds.count run;
+      answer = rw (e, said, filed, holds.count) refl;
+    })
+
+pub run_listed : (a : Answer) (count : ℕ) (line file rows : List ℕ) → line ≡ simulated_line count → a ≡ success line file rows → IsListed a
+run_listed a count line file rows said e = subst IsListed (sym e) (listed_success (success line file rows) (printed.simulated count refl said) refl)
+
+-- the answer to both files has status 0, 6 or 7
+simulated_status : (out text rows : List ℕ) (a : Answer) → IsSimulated out text rows a → (a.status ≡ 6) ⊎ ((a.status ≡ 7) ⊎ (a.status ≡ 0))
+simulated_status out text rows a (inl cause) = inl (ap status_of cause.answer)
+simulated_status out text rows a (inr (inl cause)) = inr (inl (ap status_of cause.refused.answer))
+simulated_status out text rows a (inr (inr runs)) = inr (inr (ap status_of runs.answer))
+
+module _ (vhdl vectors out : List ℕ) (told : Option Files) where
   abbrev SaysOf : Files → Answer → (text : List ℕ) → Type 0
-  SaysOf files a text = OnFetch (fetched (files vectors) most_simulated_bytes) a (λ rows. IsSimulateAnswer text rows a)
+  SaysOf files a text = OnFetch (fetched (files vectors) most_simulated_bytes) a (λ rows. IsSimulated out text rows a)
 
   -- VHDL that was not fetched
-  vhdl-missing : (told : Option Files) (files : Files) → told ≡ Some files → files vhdl ≡ None → IsMissing (Some (Simulate vhdl vectors out)) files × IsDue (Some (Simulate vhdl vectors out)) files read_fault
-  vhdl-missing told files is e = (inl e, subst (λ o. OnFetch (fetched o most_simulated_bytes) read_fault (SaysOf files read_fault)) (sym e) refl)
+  pub vhdl-unfetched : (before now : Reads) (refusal : Refusal) → Fetches vhdl most_simulated_bytes told before now (Err refusal)
+      → Answers (Err refusal) (IsPrepared (Some (Simulate vhdl vectors out)) told before now)
+  vhdl-unfetched before now (refusals.Line line) cause =
+      unfetched (Some (Simulate vhdl vectors out)) told before now vhdl most_simulated_bytes
+      (λ files is e. on_missing (files vhdl) most_simulated_bytes (SaysOf files _) e)
+      (λ files is e. on_longer (files vhdl) most_simulated_bytes (SaysOf files _) e) line cause
+  vhdl-unfetched before now refusals.Memory cause = tt
 
-  vhdl-longer : (told : Option Files) (files : Files) → told ≡ Some files → fetched (files vhdl) most_simulated_bytes ≡ Err fetch.TooLong
-      → IsTooLong (Some (Simulate vhdl vectors out)) files × IsDue (Some (Simulate vhdl vectors out)) files too_long
-  vhdl-longer told files is e = (inl e, subst (λ r. OnFetch r too_long (SaysOf files too_long)) (sym e) refl)
-
-  pub vhdl-unfetched : (told : Option Files) (before now : Reads) (refusal : Refusal) → Fetches vhdl most_simulated_bytes told before now (Err refusal) → Prepares (Some (Simulate vhdl vectors out)) told before now (Err refusal)
-  vhdl-unfetched told before now (refusals.Line line) cause = unfetched-refused (Some (Simulate vhdl vectors out)) told before now vhdl most_simulated_bytes (vhdl-missing told) (vhdl-longer told) line cause
-  vhdl-unfetched told before now refusals.Memory cause = tt
-
-  module _ (text : List ℕ) (told : Option Files) (stands : (files : Files) → told ≡ Some files → files vhdl ≡ Some text) (few : length text ≤ most_simulated_bytes) where
-    -- vectors that were not fetched, after VHDL that was
-    on_vhdl : (files : Files) (a : Answer) → told ≡ Some files → SaysOf files a text → IsDue (Some (Simulate vhdl vectors out)) files a
+  module _ (text : List ℕ) (stands : (files : Files) → told ≡ Some files → files vhdl ≡ Some text) (few : length text ≤ most_simulated_bytes) where
+    on_vhdl : (files : Files) (a : Answer) → told ≡ Some files → SaysOf files a text → IsAnswerOf (Some (Simulate vhdl vectors out)) files a
     on_vhdl files a is said = on_fetch (files vhdl) most_simulated_bytes text a (SaysOf files a) (stands files is) few said
 
-    vectors-missing : (files : Files) → told ≡ Some files → files vectors ≡ None → IsMissing (Some (Simulate vhdl vectors out)) files × IsDue (Some (Simulate vhdl vectors out)) files read_fault
-    vectors-missing files is e = (inr e, on_vhdl files read_fault is (subst (λ o. OnFetch (fetched o most_simulated_bytes) read_fault (λ rows. IsSimulateAnswer text rows read_fault)) (sym e) refl))
-
-    vectors-longer : (files : Files) → told ≡ Some files → fetched (files vectors) most_simulated_bytes ≡ Err fetch.TooLong
-        → IsTooLong (Some (Simulate vhdl vectors out)) files × IsDue (Some (Simulate vhdl vectors out)) files too_long
-    vectors-longer files is e = (inr e, on_vhdl files too_long is (subst (λ r. OnFetch r too_long (λ rows. IsSimulateAnswer text rows too_long)) (sym e) refl))
-
-    pub rows-unfetched : (before mid now : Reads) (refusal : Refusal) → Kept before mid → Fetches vectors most_simulated_bytes told mid now (Err refusal) → Prepares (Some (Simulate vhdl vectors out)) told before now (Err refusal)
+    -- vectors that were not fetched, after VHDL that was
+    pub rows-unfetched : (before mid now : Reads) (refusal : Refusal) → Kept before mid → Fetches vectors most_simulated_bytes told mid now (Err refusal)
+        → Answers (Err refusal) (IsPrepared (Some (Simulate vhdl vectors out)) told before now)
     rows-unfetched before mid now (refusals.Line line) kept cause =
-        unfetched-refused (Some (Simulate vhdl vectors out)) told before now vectors most_simulated_bytes vectors-missing vectors-longer line
-        (unfetched-before vectors most_simulated_bytes told before mid now line kept cause)
+        unfetched (Some (Simulate vhdl vectors out)) told before now vectors most_simulated_bytes
+        (λ files is e. on_vhdl files _ is (on_missing (files vectors) most_simulated_bytes (λ rows. IsSimulated out text rows _) e))
+        (λ files is e. on_vhdl files _ is (on_longer (files vectors) most_simulated_bytes (λ rows. IsSimulated out text rows _) e))
+        line (unfetched-before vectors most_simulated_bytes told before mid now line kept cause)
     rows-unfetched before mid now refusals.Memory kept cause = tt
 
     module _ (rows : List ℕ) (before now : Reads) (also : (files : Files) → told ≡ Some files → files vectors ≡ Some rows) (short : length rows ≤ most_simulated_bytes) where
-      run-due : (files : Files) (a : Answer) → told ≡ Some files → IsSimulateAnswer text rows a → IsDue (Some (Simulate vhdl vectors out)) files a
-      run-due files a is said = on_vhdl files a is (on_fetch (files vectors) most_simulated_bytes rows a (λ rows. IsSimulateAnswer text rows a) (also files is) short said)
-
-      vhdl-refused : (line : Line) → RefusesVhdl text (answer_of line) → IsRefusal (Some (Simulate vhdl vectors out)) told before now line
-      vhdl-refused line cause =
-          let status : (answer_of line).status ≡ 6 = ap (λ (a : Answer). a.status) cause.answer in record {
-            listed = inr (inr (inr (inr (inl (inr (inl (cause.fault, cause.of_text, cause.answer)))))));
-            refuses = inr (inr (inr (inl status)));
-            no_usage = λ other. absurd (omega (arith, status, other));
-            read_counted = λ other. absurd (omega (arith, status, other));
-            long_counted = λ other. absurd (omega (arith, status, other));
-            refused = λ files is other. absurd (omega (arith, status, other));
-            vhdl_refused = λ files is _. record { text = text; stands = stands files is; answer = answer_of line; refused = cause };
-            vectors_refused = λ files is other. absurd (omega (arith, status, other));
-            missing = λ files is stood other. absurd (omega (arith, status, other));
-            longer = λ files is other. absurd (omega (arith, status, other));
-            complete = λ files is stood. run-due files (answer_of line) is (inl cause);
-            due = λ files is. inr (run-due files (answer_of line) is (inl cause));
+      answers : (a : Answer) → IsSimulated out text rows a → IsListed a → IsPrepared (Some (Simulate vhdl vectors out)) told before now a
+      answers a is listed =
+          let status = simulated_status out text rows a is in record {
+            listed = listed;
+            usage = λ other. absurd (elim status [ inl e ↦ omega (arith, e, other) | inr (inl e) ↦ omega (arith, e, other) | inr (inr e) ↦ omega (arith, e, other) ]);
+            read_counted = λ other. absurd (elim status [ inl e ↦ omega (arith, e, other) | inr (inl e) ↦ omega (arith, e, other) | inr (inr e) ↦ omega (arith, e, other) ]);
+            long_counted = λ other. absurd (elim status [ inl e ↦ omega (arith, e, other) | inr (inl e) ↦ omega (arith, e, other) | inr (inr e) ↦ omega (arith, e, other) ]);
+            due = λ files there.
+                inr (on_vhdl files a there (on_fetch (files vectors) most_simulated_bytes rows a (λ given. IsSimulated out text given a) (also files there) short is));
           }
 
-      vectors-refused : (line : Line) → RefusesVectors text rows (answer_of line) → IsRefusal (Some (Simulate vhdl vectors out)) told before now line
-      vectors-refused line cause =
-          let status : (answer_of line).status ≡ 7 = ap (λ (a : Answer). a.status) cause.refused.answer in record {
-            listed = inr (inr (inr (inr (inl (inr (inr (cause.refused.fault, names_fault _ _ _ cause.refused, cause.refused.answer)))))));
-            refuses = inr (inr (inr (inr (inl status))));
-            no_usage = λ other. absurd (omega (arith, status, other));
-            read_counted = λ other. absurd (omega (arith, status, other));
-            long_counted = λ other. absurd (omega (arith, status, other));
-            refused = λ files is other. absurd (omega (arith, status, other));
-            vhdl_refused = λ files is other. absurd (omega (arith, status, other));
-            vectors_refused = λ files is _. record { text = text; stands = stands files is; rows = rows; also_stands = also files is; answer = answer_of line; refused = cause };
-            missing = λ files is stood other. absurd (omega (arith, status, other));
-            longer = λ files is other. absurd (omega (arith, status, other));
-            complete = λ files is stood. run-due files (answer_of line) is (inr (inl cause));
-            due = λ files is. inr (run-due files (answer_of line) is (inr (inl cause)));
-          }
-
-      made-run : (made : MadeFile) → string_bytes made.file ≡ out → MakesRows text rows made.text.items → Runs text rows (answer_of (Wrote made.line)) → IsMade (Some (Simulate vhdl vectors out)) told made
-      made-run made file makes runs = record {
-        listed = inr (inr (inr (inr (inr (inr (inr (length (lines rows), runs.answer)))))));
-        makes = λ files is. record { design = text; stands = stands files is; given = rows; also_stands = also files is; file_name = file; rows = makes };
-        due = λ files is. run-due files (answer_of (Wrote made.line)) is (inr (inr runs));
-      }
-
-      pub simulate-prepares : (r : Result MadeFile Refusal) → IfOk r (λ made. string_bytes made.file ≡ out) → IfOk r (λ made. MakesRows text rows made.text.items) → IfOk r (λ made. Runs text rows (answer_of (Wrote made.line)))
-          → ((line : Line) → r ≡ Err (refusals.Line line) → RefusesVhdl text (answer_of line) ⊎ RefusesVectors text rows (answer_of line)) → Prepares (Some (Simulate vhdl vectors out)) told before now r
-      simulate-prepares (Ok made) file makes runs refused = made-run made file makes runs
-      simulate-prepares (Err (refusals.Line line)) file makes runs refused = elim (refused line refl) [ inl cause ↦ vhdl-refused line cause | inr cause ↦ vectors-refused line cause ]
-      simulate-prepares (Err refusals.Memory) file makes runs refused = tt
+      pub simulate-prepared : (r : Result Held Refusal) → Answers r (IsSimulated out text rows) → Answers r IsListed → Answers r (IsPrepared (Some (Simulate vhdl vectors out)) told before now)
+      simulate-prepared (Ok held) is listed = answers (answer_of held) is listed
+      simulate-prepared (Err (refusals.Line line)) is listed = answers (refusal_of line) is listed
+      simulate-prepared (Err refusals.Memory) is listed = tt

@@ -1,11 +1,11 @@
 -- The net of a product fits the specification that asks for it.
-use Rattle.std.proofs.Common.{◌≡◌, ℕ, ◌-◌, ◌*◌, ◌^◌, ◌≤◌, max, ◌&&◌, not, nat_le, Bool, true, false, List, [], ◌∷◌, map, Option, Some, None, refl, sym, ap, ◌∙◌, subst, arith, if◌then◌else◌}
+use Rattle.std.proofs.Common.{◌≡◌, ℕ, ◌-◌, ◌*◌, ◌^◌, ◌≤◌, max, ◌&&◌, not, nat_le, Bool, true, false, List, [], ◌∷◌, map, refl, sym, ap, ◌∙◌, subst, arith}
 use Rattle.std.specs.Prelude.{ℤ, pos, negsuc, ◌-ℤ◌, ◌*ℤ◌, ◌+ℤ◌, All, codes}
 use Rattle.std.specs.Ordering.{int_eq}
 use Rattle.std.specs.Int.{div_ceil}
 use Rattle.std.proofs.Math.Nat.{mul-le-mul}
 use Rattle.std.proofs.lemmas.Bool.{and_parts}
-use Rattle.std.proofs.lemmas.Bool.Decides.{Decides-int_eq}
+use Rattle.std.proofs.lemmas.Bool.Decides.{Decides-int_eq, nat_tests}
 use Rattle.std.proofs.lemmas.Int.{ints}
 use Rattle.opgen_num.specs.declared.format.Format.{Format}
 use Rattle.opgen_num.specs.Formats.{digit_count}
@@ -17,8 +17,7 @@ use Rattle.opgen_net.specs.declared.net.Net.{Net}
 use Rattle.opgen_net.specs.Flow.{Inputs, input_at, slice_flow}
 use Rattle.opgen_net.specs.Valid.{IsValid, slice_width}
 use Rattle.opgen_design.specs.Run.{AreWords}
-use Rattle.opgen_operator.specs.declared.spec.Operator.{Operator}
-use Rattle.opgen_operator.specs.declared.spec.Operator.TheVariants.{Scale, Fir, Multiply, Divide, Root, Mcm}
+use Rattle.opgen_operator.specs.declared.spec.Operator.TheVariants.{Scale}
 use Rattle.opgen_operator.specs.declared.spec.Spec.{Spec}
 use Rattle.opgen_operator.specs.declared.spec.Sum.{Sum}
 use Rattle.opgen_operator.specs.Fits.{FitsSpec, name_and_width}
@@ -27,7 +26,7 @@ use Rattle.opgen_operator.specs.Judged.{recent_words, output_words}
 use Rattle.opgen_operator.specs.Outputs.{reach_over, width_of}
 use Rattle.opgen_operator.specs.Ports.{operator_inputs, operator_outputs, sum_format, unsigned}
 use Rattle.opgen_scale.specs.Times.{IsBitLength, IsTimes}
-use Rattle.opgen_top.specs.Built.{Multiplication, multiplication, multiplication_in, only_factor, times, is_few_bits, is_whole, is_one_stage}
+use Rattle.opgen_top.specs.Kinds.{is_few_bits, is_one_factor, is_whole}
 
 -- an exact scale of unsigned bits by one whole number, in steps of one
 abbrev scale : (width factor : ℕ) (exact : Bool) → Sum
@@ -39,29 +38,33 @@ scale width factor exact = record {
   exact = exact;
 }
 
--- what a specification that asks for a multiplication says
-pub record Asks (spec : Spec) (m : Multiplication) : Type 0 where
-  pub exact : spec.exact ≡ true
-  pub inner : Bool
-  pub op : spec.op ≡ Scale (scale m.width m.factor inner)
+-- what a scale that can be built asks for
+pub record Asked (s : Sum) : Type 0 where
+  pub factor : ℕ
+  pub only : s.coefs ≡ pos factor ∷ []
+  pub some_factor : 1 ≤ factor
+  pub small : factor ≤ 2 ^ 30
+  pub some_width : 1 ≤ s.input.width
+  pub narrow : s.input.width ≤ 6
+  pub is_scale : s ≡ scale s.input.width factor s.exact
 
--- the only coefficient
-factor_listed : (coefs : List ℤ) (n : ℕ) → only_factor coefs ≡ Some n → coefs ≡ pos n ∷ []
-factor_listed [] n h = cc
-factor_listed (pos k ∷ []) n h = go (nat_le 1 k && nat_le k 1073741824) h
-  where
-    go : (b : Bool) → (if b then Some k else None) ≡ Some n → pos k ∷ [] ≡ pos n ∷ []
-    go true e = let same : k ≡ n = cc in ap (λ i. pos i ∷ []) same
-    go false e = cc
-factor_listed (negsuc k ∷ []) n h = cc
-factor_listed (pos k ∷ c ∷ cs) n h = cc
-factor_listed (negsuc k ∷ c ∷ cs) n h = cc
+record OneFactor (coefs : List ℤ) : Type 0 where
+  factor : ℕ
+  only : coefs ≡ pos factor ∷ []
+  some : 1 ≤ factor
+  small : factor ≤ 2 ^ 30
 
-times_some : (width : ℕ) (o : Option ℕ) (m : Multiplication) → times width o ≡ Some m → (o ≡ Some m.factor) × (width ≡ m.width)
-times_some width None m h = cc
-times_some width (Some factor) m h =
-    let same : record { width = width; factor = factor } ≡ m = cc in
-    (ap (λ (k : Multiplication). Some k.factor) same, ap (λ (k : Multiplication). k.width) same)
+below : (m n : ℕ) → nat_le m n ≡ true → m ≤ n
+below m n h = grind (arith, nat_tests, h)
+
+one_factor : (coefs : List ℤ) → is_one_factor coefs ≡ true → OneFactor coefs
+one_factor [] h = cc
+one_factor (pos n ∷ []) h =
+    let (some, small) = and_parts (nat_le 1 n) (nat_le n 1073741824) h in
+    record { factor = n; only = refl; some = below 1 n some; small = omega (arith, below n 1073741824 small) }
+one_factor (negsuc n ∷ []) h = cc
+one_factor (pos n ∷ c ∷ cs) h = cc
+one_factor (negsuc n ∷ c ∷ cs) h = cc
 
 same_sum : (signed : Bool) (width : ℕ) (lsb out_lsb : ℤ) (coefs : List ℤ) (den : ℤ) (exact : Bool) (w n : ℕ)
     → signed ≡ false → width ≡ w → lsb ≡ pos 0 → out_lsb ≡ pos 0 → coefs ≡ pos n ∷ [] → den ≡ pos 1
@@ -75,38 +78,24 @@ falsified : (b : Bool) → not b ≡ true → b ≡ false
 falsified true h = cc
 falsified false h = refl
 
-sum_asked : (s : Sum) (m : Multiplication) → is_whole s ≡ true → s.coefs ≡ pos m.factor ∷ [] → s.input.width ≡ m.width → s ≡ scale m.width m.factor s.exact
-sum_asked s m whole coefs width =
+pub asked : (s : Sum) → is_whole s ≡ true → is_one_factor s.coefs ≡ true → Asked s
+asked s whole factors =
     let (few, out) = and_parts (is_few_bits s.input) (int_eq s.out_lsb (pos 0) && int_eq s.den (pos 1)) whole in
     let (out_lsb, den) = and_parts (int_eq s.out_lsb (pos 0)) (int_eq s.den (pos 1)) out in
     let (unsigned, bits) = and_parts (not s.input.signed) (nat_le 1 s.input.width && (nat_le s.input.width 6 && int_eq s.input.lsb (pos 0))) few in
-    let (_, most) = and_parts (nat_le 1 s.input.width) (nat_le s.input.width 6 && int_eq s.input.lsb (pos 0)) bits in
-    let (_, lsb) = and_parts (nat_le s.input.width 6) (int_eq s.input.lsb (pos 0)) most in
-    same_sum s.input.signed s.input.width s.input.lsb s.out_lsb s.coefs s.den s.exact m.width m.factor (falsified s.input.signed unsigned) width (equal _ _ lsb) (equal _ _ out_lsb) coefs (equal _ _ den)
-
-op_asked : (op : Operator) (m : Multiplication) → multiplication_in op ≡ Some m → (inner : Bool) × (op ≡ Scale (scale m.width m.factor inner))
-op_asked (Scale s) m h = go (is_whole s) refl h
-  where
-    go : (b : Bool) → is_whole s ≡ b → (if b then times s.input.width (only_factor s.coefs) else None) ≡ Some m → (inner : Bool) × (Scale s ≡ Scale (scale m.width m.factor inner))
-    go true whole e =
-        let (factor, width) = times_some s.input.width (only_factor s.coefs) m e in
-        (s.exact, ap Scale (sum_asked s m whole (factor_listed s.coefs m.factor factor) width))
-    go false whole e = cc
-op_asked (Fir s) m h = cc
-op_asked (Multiply p) m h = cc
-op_asked (Divide p) m h = cc
-op_asked (Root r) m h = cc
-op_asked (Mcm k) m h = cc
-
-pub asked : (spec : Spec) (m : Multiplication) → multiplication spec ≡ Some m → Asks spec m
-asked spec m h = go (spec.exact && is_one_stage spec) refl h
-  where
-    go : (b : Bool) → (spec.exact && is_one_stage spec) ≡ b → (if b then multiplication_in spec.op else None) ≡ Some m → Asks spec m
-    go true both e =
-        let (exact, _) = and_parts spec.exact (is_one_stage spec) both in
-        let (inner, op) = op_asked spec.op m e in
-        record { exact = exact; inner = inner; op = op }
-    go false both e = cc
+    let (least, most) = and_parts (nat_le 1 s.input.width) (nat_le s.input.width 6 && int_eq s.input.lsb (pos 0)) bits in
+    let (narrow, lsb) = and_parts (nat_le s.input.width 6) (int_eq s.input.lsb (pos 0)) most in
+    let one = one_factor s.coefs factors in record {
+      factor = one.factor;
+      only = one.only;
+      some_factor = one.some;
+      small = one.small;
+      some_width = below 1 s.input.width least;
+      narrow = below s.input.width 6 narrow;
+      is_scale =
+          same_sum s.input.signed s.input.width s.input.lsb s.out_lsb s.coefs s.den s.exact s.input.width one.factor
+          (falsified s.input.signed unsigned) refl (equal _ _ lsb) (equal _ _ out_lsb) one.only (equal _ _ den);
+    }
 
 -- the width of a bit length
 width_is : (width number : ℕ) → 1 ≤ number → IsBitLength width number → width ≡ max (digit_count number) 1

@@ -6,8 +6,7 @@ use Rattle.std.proofs.lemmas.List.{length-map, take_all}
 use Rattle.opgen_num.specs.Words.{nat}
 use Rattle.opgen_design.specs.declared.design.Design.{Design}
 use Rattle.opgen_design.specs.Run.{Words, Cycle, RunsOn, is_out, initial_words, input_widths, outputs_of}
-use Rattle.opgen_sim.specs.declared.sim.Sim.{Sim}
-use Rattle.opgen_sim.specs.Sims.{IsNew, SameRegisters, registers}
+use Rattle.opgen_sim.specs.Sims.{Simulator, IsNew, SameRegisters}
 use Rattle.opgen_sim.specs.Step.{IsStep, words_of}
 use Rattle.opgen_sim.proofs.Runs.{cycle-kept}
 use Rattle.opgen_sim.proofs.Starts.{at_ports-length}
@@ -60,10 +59,10 @@ run_kept d now others (given ∷ inputs) [] same r = absurd r
 run_kept d now others (given ∷ inputs) (v ∷ vs) same (next, cycle, r) = (next, cycle-kept d now others same given v next cycle, r)
 
 -- before the first cycle
-pub run_start : (d : Design) (s : Sim) (rows : ℕ) (inputs : List ℕ) → IsNew d s → HasRun d rows inputs (registers s) rows inputs []
+pub run_start : (d : Design) (s : Simulator) (rows : ℕ) (inputs : List ℕ) → IsNew d s → HasRun d rows inputs s.registers rows inputs []
 run_start d s rows inputs new outputs run = record {
   words = run.words;
-  runs = run_kept d (registers s) (initial_words d.signals) (rows_words (input_widths d) rows inputs) run.words new.registers run.runs;
+  runs = run_kept d s.registers (initial_words d.signals) (rows_words (input_widths d) rows inputs) run.words new.registers run.runs;
   outputs_are = run.outputs_are;
 }
 

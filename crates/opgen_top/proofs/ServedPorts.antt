@@ -9,7 +9,7 @@ use Rattle.opgen_operator.specs.declared.spec.PortFormat.{PortFormat}
 use Rattle.opgen_operator.specs.declared.spec.Spec.{Spec}
 use Rattle.opgen_operator.specs.Ports.{inputs_of, outputs_of}
 use Rattle.opgen_vec.proofs.Draws.{some_input}
-use Rattle.opgen_top.specs.Generate.{port_of, Serves}
+use Rattle.opgen_top.specs.Circuit.{port_of, Serves}
 
 abbrev side : List Port → List ℕ
 side ps = at_ports is_in ps (map (λ p. p.width) ps)
@@ -19,14 +19,14 @@ inputs_first [] [] = refl
 inputs_first [] (o ∷ os) = inputs_first [] os
 inputs_first (i ∷ is) os = ap (λ ws. i.format.width ∷ ws) (inputs_first is os)
 
-pub served_widths : (spec : Spec) (d : Design) → Serves spec d → input_widths d ≡ map (λ p. p.format.width) (inputs_of spec)
-served_widths spec d serves = ap side serves.ports ∙ inputs_first (inputs_of spec) (outputs_of spec)
+pub served_widths : (spec : Spec) (latency : ℕ) (d : Design) → Serves spec latency d → input_widths d ≡ map (λ p. p.format.width) (inputs_of spec)
+served_widths spec latency d serves = ap side serves.ports ∙ inputs_first (inputs_of spec) (outputs_of spec)
 
-pub served_columns : (spec : Spec) (d : Design) → Serves spec d → length (input_widths d) ≡ length (inputs_of spec)
-served_columns spec d serves = ap length (served_widths spec d serves) ∙ length-map (inputs_of spec) (λ p. p.format.width)
+pub served_columns : (spec : Spec) (latency : ℕ) (d : Design) → Serves spec latency d → length (input_widths d) ≡ length (inputs_of spec)
+served_columns spec latency d serves = ap length (served_widths spec latency d serves) ∙ length-map (inputs_of spec) (λ p. p.format.width)
 
-pub served_port : (spec : Spec) (d : Design) → Serves spec d → 0 < length d.ports
-served_port spec d serves =
+pub served_port : (spec : Spec) (latency : ℕ) (d : Design) → Serves spec latency d → 0 < length d.ports
+served_port spec latency d serves =
     let is = map (port_of In) (inputs_of spec) in
     let os = map (port_of Out) (outputs_of spec) in
     omega (arith, ap length serves.ports, length-append is os, length-map (inputs_of spec) (port_of In), some_input spec.op)

@@ -1,5 +1,5 @@
 -- The design of a net that fits a specification serves it.
-use Rattle.std.proofs.Common.{◌≡◌, ℕ, zero, suc, ◌<◌, Bool, true, false, cond, List, [], ◌∷◌, ◌++◌, length, map, Some, refl, sym, ap, ◌∙◌, subst, arith}
+use Rattle.std.proofs.Common.{◌≡◌, ℕ, zero, suc, ◌+◌, ◌<◌, Bool, true, false, cond, List, [], ◌∷◌, ◌++◌, length, map, Some, refl, sym, ap, ◌∙◌, subst, arith}
 use Rattle.std.specs.Prelude.{pos, All, slice_get}
 use Rattle.std.proofs.lemmas.List.Elements.{All-nil, All-cons}
 use Rattle.std.proofs.lemmas.Simd.{map-map}
@@ -20,7 +20,9 @@ use Rattle.opgen_operator.specs.Fits.{FitsSpec, name_and_width}
 use Rattle.opgen_operator.specs.Good.{IsGood, IsInRange}
 use Rattle.opgen_operator.specs.Judged.{recent_words, output_words}
 use Rattle.opgen_operator.specs.Ports.{inputs_of, outputs_of}
-use Rattle.opgen_top.specs.Generate.{port_of, Serves}
+use Rattle.opgen_flat.proofs.Follows.{follows}
+use Rattle.opgen_flat.proofs.Runs.{design_runs}
+use Rattle.opgen_top.specs.Circuit.{port_of, Serves, CircuitsServe}
 
 module _ {X Y : Type 0} (f : X → Y) (is : Dir → Bool) where
   at_ports-map : (ps : List Port) (xs : List X) → map f (at_ports is ps xs) ≡ at_ports is ps (map f xs)
@@ -79,11 +81,17 @@ module _ (law : RunFollowsFlow) (running : DesignRuns) (name : List ℕ) (spec :
       let words = subst (λ ws. All (AreWords ws) inputs) (widths_in net.inputs net.outputs) (run_words (design_of name net) _ inputs vs run) in
       fits.good inputs t words (run_within (design_of name net) _ inputs vs run t v there) range
 
-  pub serves : Serves spec (design_of name net)
+  serves : Serves spec 0 (design_of name net)
   serves = record {
     ports = ap (λ ps. ps ++ map output_port net.outputs) inputs_are ∙ ap (λ ps. map (port_of In) (inputs_of spec) ++ ps) outputs_are;
     runs = λ inputs words. running name net fits.valid inputs (subst (λ ws. All (AreWords ws) inputs) (sym widths_are) words);
     good = λ inputs vs run t v there range.
-        let follows = law name net fits.valid inputs vs run t v there in
-        subst (λ ws. IsGood spec (recent_words (inputs_of spec) inputs t) (output_words (outputs_of spec) ws)) (sym follows.outputs) (good inputs vs run t v there range);
+        let now : t + 0 ≡ t = omega arith in
+        let here = subst (λ i. slice_get vs i ≡ Some v) now there in
+        let words = law name net fits.valid inputs vs run t v here in
+        subst (λ ws. IsGood spec (recent_words (inputs_of spec) inputs t) (output_words (outputs_of spec) ws)) (sym words.outputs) (good inputs vs run t v here range);
   }
+
+pub circuits_serve : CircuitsServe
+circuits_serve spec latency design c =
+    subst (λ l. Serves spec l design) (sym c.at_once) (subst (Serves spec 0) (sym c.made) (serves follows design_runs spec.name spec c.net c.fits))

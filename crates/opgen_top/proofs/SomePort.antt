@@ -1,11 +1,11 @@
 -- A design that a text spells has a port.
 use Rattle.std.proofs.Common.{ℕ, ◌<◌, List, [], ◌∷◌, length, Option, Some, None, subst, arith, length-append}
 use Rattle.opgen_design.specs.declared.design.Design.{Design}
-use Rattle.opgen_text.specs.declared.place.Place.{Place}
-use Rattle.opgen_text.specs.declared.place.Place.TheVariants as at
-use Rattle.opgen_text.specs.Symbols.{Symbol}
-use Rattle.opgen_text.specs.Statements.{Reading, with_name, Takes, library_clause, use_logic, use_numeric, entity, port, last_port, end_entity, architecture, signal, begin, statement, process, process_is, register, end_if, end_process, later_statement, end_without_process, end_after_process, Follows, stay, onward}
-use Rattle.opgen_text.specs.Spelled.{Spells}
+use Rattle.opgen_vhdl.specs.declared.place.Place.{Place}
+use Rattle.opgen_vhdl.specs.declared.place.Place.TheVariants as at
+use Rattle.opgen_vhdl.specs.Symbols.{Symbol}
+use Rattle.opgen_vhdl.specs.Statements.{Reading, with_name, Takes, library_clause, use_logic, use_numeric, entity, port, last_port, end_entity, architecture, signal, begin, statement, process, process_is, register, end_if, end_enabled, end_edge, end_process, later_statement, end_without_process, end_after_process, Follows, stay, onward}
+use Rattle.opgen_vhdl.specs.Spelled.{Spells}
 
 abbrev HasPort : Reading → Type 0
 HasPort r = 0 < length r.design.ports
@@ -22,6 +22,7 @@ HasPortAt at.Architecture r = HasPort r
 HasPortAt at.Declarations r = HasPort r
 HasPortAt at.Body r = HasPort r
 HasPortAt at.Process r = HasPort r
+HasPortAt at.EndEdge r = HasPort r
 HasPortAt at.EndProcess r = HasPort r
 HasPortAt at.AfterProcess r = HasPort r
 HasPortAt at.End r = HasPort r
@@ -42,10 +43,12 @@ taken (architecture m o t) h = taken t h
 taken (signal m i w) h = h
 taken (begin t) h = taken t h
 taken (statement c) h = h
-taken (process c) h = h
-taken (process_is c) h = h
+taken (process e c) h = h
+taken (process_is e c) h = h
 taken (register c) h = h
-taken end_if h = h
+taken (end_if none) h = h
+taken (end_enabled e) h = h
+taken end_edge h = h
 taken end_process h = h
 taken (later_statement c) h = h
 taken (end_without_process {r = r} {a = a} e) h = named r r.architecture a h

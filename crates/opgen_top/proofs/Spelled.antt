@@ -7,8 +7,8 @@ use Rattle.opgen_net.specs.Named.{IsNamed}
 use Rattle.opgen_design.specs.Sound.{IsSound}
 use Rattle.opgen_net.specs.Valid.{IsValid}
 use Rattle.opgen_flat.proofs.Parts.{length-each}
-use Rattle.opgen_text.specs.DesignText.{text_of}
-use Rattle.opgen_text.specs.Spelled.{Spells}
+use Rattle.opgen_vhdl.specs.DesignText.{text_of}
+use Rattle.opgen_vhdl.specs.Spelled.{Spells}
 use Rattle.opgen_write.proofs.Designs.{spells}
 use Rattle.opgen_write.proofs.Lengths.{signals-fewer}
 use Rattle.opgen_write.proofs.MadeDesigns.{made_is_shaped}

@@ -1,20 +1,76 @@
--- A command before its store: the file that it makes, or why there is none.
-use Rattle.std.specs.Prelude.{ℕ, ◌≡◌, ◌⊎◌, ◌≤◌, List, length, Option, Some, None, Result, Ok, Err, Vec, string_bytes}
+-- For the functions of this crate alone: an answer before its stores, or why there is none yet.
+use Rattle.std.specs.Prelude.{ℕ, ◌≡◌, ◌⊎◌, ◌≤◌, List, [], length, map, Option, Some, None, Result, Ok, Err, Vec, string_bytes}
 use Rattle.std.specs.declared.alloc.Global.{Global}
+use Rattle.std.specs.Str.Lines.{lines}
 use Rattle.opgen_io.specs.Answers.{fetched}
 use Rattle.opgen_io.specs.Counts.{Rose, Stood}
 use Rattle.opgen_io.specs.Files.{Files}
 use Rattle.opgen_io.specs.declared.folder.FetchFault.TheVariants as fetch
+use Rattle.opgen_vec.specs.Reading.{IsReading}
+use Rattle.opgen_vec.specs.Rows.{AreRowsOfCells}
+use Rattle.opgen_top.specs.declared.answer.Answer.{Answer as Held}
+use Rattle.opgen_top.specs.declared.answer.NewFile.{NewFile}
+use Rattle.opgen_top.specs.declared.answer.Refusal.{Refusal}
+use Rattle.opgen_top.specs.declared.answer.Refusal.TheVariants as refusals
 use Rattle.opgen_top.specs.declared.line.Line.{Line}
-use Rattle.opgen_top.specs.declared.line.Line.TheVariants.{Wrote}
-use Rattle.opgen_top.specs.declared.made.MadeFile.{MadeFile}
-use Rattle.opgen_top.specs.declared.made.Refusal.{Refusal}
-use Rattle.opgen_top.specs.declared.made.Refusal.TheVariants as refusals
-use Rattle.opgen_top.specs.Answer.{answer_of, read_fault, too_long, IsAnswer}
+use Rattle.opgen_top.specs.declared.line.Line.TheVariants as line
+use Rattle.opgen_top.specs.declared.run_rows.Rows.{Rows}
+use Rattle.opgen_top.specs.Answer.{Answer, read_fault, refusal}
 use Rattle.opgen_top.specs.Command.{Command}
-use Rattle.opgen_top.specs.Due.{IsDue, IsMissing, IsTooLong, IsRefused, IsVhdlRefused, AreVectorsRefused}
+use Rattle.opgen_top.specs.Due.{IsAnswerOf}
+use Rattle.opgen_top.specs.Lines.{read_fault_line, too_long_line, unsupported_line, usage_line}
+use Rattle.opgen_top.specs.Printed.{IsLineOf}
 use Rattle.opgen_top.specs.Statuses.{Refuses}
-use Rattle.opgen_top.specs.Stores.{Makes}
+use Rattle.opgen_top.specs.Stores.{Store}
+
+-- the status and the text of a line
+abbrev pub line_status : Line → ℕ
+line_status line.Usage = 2
+line_status line.ReadFault = 3
+line_status line.TooLong = 9
+line_status line.Unsupported = 1
+line_status (line.Refused text) = 1
+line_status (line.VhdlRefused text) = 6
+line_status (line.VectorsRefused text) = 7
+line_status (line.Wrote text) = 0
+
+abbrev pub line_text : Line → List ℕ
+line_text line.Usage = usage_line
+line_text line.ReadFault = read_fault_line
+line_text line.TooLong = too_long_line
+line_text line.Unsupported = unsupported_line
+line_text (line.Refused text) = string_bytes text
+line_text (line.VhdlRefused text) = string_bytes text
+line_text (line.VectorsRefused text) = string_bytes text
+line_text (line.Wrote text) = string_bytes text
+
+-- an answer as the program holds it
+abbrev pub store_of : NewFile → Store
+store_of file = record { name = string_bytes file.name; bytes = file.bytes.items }
+
+abbrev pub answer_of : Held → Answer
+answer_of a = record { status = line_status a.line; line = line_text a.line; stores = map store_of a.stores.items }
+
+-- the answer of a refusal
+abbrev pub refusal_of : Line → Answer
+refusal_of line = refusal (line_status line) (line_text line)
+
+-- what is said of the answer, unless memory ran out
+abbrev pub Answers : Result Held Refusal → (Answer → Type 0) → Type 0
+Answers (Ok a) said = said (answer_of a)
+Answers (Err (refusals.Line line)) said = said (refusal_of line)
+Answers (Err refusals.Memory) said = Unit {0}
+
+-- the same of a refusal
+abbrev pub Refused : {X : Type 0} → Result X Refusal → (Answer → Type 0) → Type 0
+Refused (Ok x) said = Unit {0}
+Refused (Err (refusals.Line line)) said = said (refusal_of line)
+Refused (Err refusals.Memory) said = Unit {0}
+
+-- an answer has a line of its status, and none that refuses has a store
+pub record IsListed (a : Answer) : Type 0 where
+  pub line : IsLineOf a.status a.line
+  pub no_store : Refuses a.status → a.stores ≡ []
 
 -- a folder's counts of failing reads
 pub record Reads : Type 0 where
@@ -22,48 +78,37 @@ pub record Reads : Type 0 where
   pub lacks : ℕ
   pub longs : ℕ
 
--- the file and the line that tells of it
-pub record IsMade (command : Option Command) (told : Option Files) (made : MadeFile) : Type 0 where
-  pub listed : IsAnswer (answer_of (Wrote made.line))
-  pub makes : (files : Files) → told ≡ Some files → Makes command files (string_bytes made.file) made.text.items
-  pub due : (files : Files) → told ≡ Some files → IsDue command files (answer_of (Wrote made.line))
-
--- the line of a refusal, and its cause
-pub record IsRefusal (command : Option Command) (told : Option Files) (before now : Reads) (line : Line) : Type 0 where
-  pub listed : IsAnswer (answer_of line)
-  pub refuses : Refuses (answer_of line).status
-  pub no_usage : (answer_of line).status ≡ 2 → ⊥
-  pub read_counted : (answer_of line).status ≡ 3 → Rose before.faults now.faults ⊎ Rose before.lacks now.lacks
-  pub long_counted : (answer_of line).status ≡ 9 → Rose before.longs now.longs
-  pub refused : (files : Files) → told ≡ Some files → (answer_of line).status ≡ 1 → IsRefused command files
-  pub vhdl_refused : (files : Files) → told ≡ Some files → (answer_of line).status ≡ 6 → IsVhdlRefused command files
-  pub vectors_refused : (files : Files) → told ≡ Some files → (answer_of line).status ≡ 7 → AreVectorsRefused command files
-  pub missing : (files : Files) → told ≡ Some files → Stood before.faults now.faults → (answer_of line).status ≡ 3 → IsMissing command files
-  pub longer : (files : Files) → told ≡ Some files → (answer_of line).status ≡ 9 → IsTooLong command files
-  pub complete : (files : Files) → told ≡ Some files → Stood before.faults now.faults → IsDue command files (answer_of line)
-  pub due : (files : Files) → told ≡ Some files → (answer_of line ≡ read_fault) ⊎ IsDue command files (answer_of line)
-
-abbrev pub Prepares : (command : Option Command) (told : Option Files) (before now : Reads) → Result MadeFile Refusal → Type 0
-Prepares command told before now (Ok made) = IsMade command told made
-Prepares command told before now (Err (refusals.Line line)) = IsRefusal command told before now line
-Prepares command told before now (Err refusals.Memory) = Unit {0}
-
 -- the counts did not fall
 pub record Kept (before now : Reads) : Type 0 where
   pub faults : before.faults ≤ now.faults
   pub lacks : before.lacks ≤ now.lacks
   pub longs : before.longs ≤ now.longs
 
+-- the answer of a command: that which is due, or `read fault` where a fault of reading was counted
+pub record IsPrepared (command : Option Command) (told : Option Files) (before now : Reads) (a : Answer) : Type 0 where
+  pub listed : IsListed a
+  pub usage : a.status ≡ 2 → command ≡ None
+  pub read_counted : a.status ≡ 3 → Rose before.faults now.faults ⊎ Rose before.lacks now.lacks
+  pub long_counted : a.status ≡ 9 → Rose before.longs now.longs
+  pub due : (files : Files) → told ≡ Some files → ((a ≡ read_fault) × Rose before.faults now.faults) ⊎ IsAnswerOf command files a
+
 -- the line for a file that was not fetched, and its cause
-pub record IsUnfetched (name : List ℕ) (most : ℕ) (told : Option Files) (before now : Reads) (line : Line) : Type 0 where
-  pub either : (answer_of line ≡ read_fault) ⊎ (answer_of line ≡ too_long)
-  pub read_counted : (answer_of line).status ≡ 3 → Rose before.faults now.faults ⊎ Rose before.lacks now.lacks
-  pub long_counted : (answer_of line).status ≡ 9 → Rose before.longs now.longs
-  pub missing : (files : Files) → told ≡ Some files → Stood before.faults now.faults → (answer_of line).status ≡ 3 → files name ≡ None
-  pub longer : (files : Files) → told ≡ Some files → (answer_of line).status ≡ 9 → fetched (files name) most ≡ Err fetch.TooLong
+pub record IsUnfetched (name : List ℕ) (most : ℕ) (told : Option Files) (before now : Reads) (l : Line) : Type 0 where
+  pub either : (l ≡ line.ReadFault) ⊎ (l ≡ line.TooLong)
+  pub read_counted : l ≡ line.ReadFault → Rose before.faults now.faults ⊎ Rose before.lacks now.lacks
+  pub long_counted : l ≡ line.TooLong → Rose before.longs now.longs
+  pub missing : (files : Files) → told ≡ Some files → Stood before.faults now.faults → l ≡ line.ReadFault → files name ≡ None
+  pub longer : (files : Files) → told ≡ Some files → l ≡ line.TooLong → fetched (files name) most ≡ Err fetch.TooLong
 
 -- the bytes of a file, or why there are none
 abbrev pub Fetches : (name : List ℕ) (most : ℕ) (told : Option Files) (before now : Reads) → Result (Vec ℕ Global) Refusal → Type 0
 Fetches name most told before now (Ok bytes) = (length bytes.items ≤ most) × ((files : Files) → told ≡ Some files → files name ≡ Some bytes.items)
 Fetches name most told before now (Err (refusals.Line line)) = IsUnfetched name most told before now line
 Fetches name most told before now (Err refusals.Memory) = Unit {0}
+
+-- the rows that the vectors hold
+pub record HoldsRows (widths vectors : List ℕ) (rows : Rows) : Type 0 where
+  pub reading : IsReading widths (lines vectors) (Ok rows.inputs.cells.items)
+  pub columns : rows.inputs.columns ≡ length widths
+  pub count : rows.count ≡ length (lines vectors)
+  pub fit : AreRowsOfCells widths rows.count rows.inputs.cells.items

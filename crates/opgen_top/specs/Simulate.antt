@@ -1,17 +1,15 @@
--- What `simulate` answers by the bytes of its VHDL and of its vectors, and what it stores.
+-- What `simulate` answers, by the bytes of its VHDL and of its vectors.
 use Rattle.std.specs.Prelude.{ℕ, ◌≡◌, ◌≢◌, ◌⊎◌, List, length, Ok, Err}
 use Rattle.std.specs.Str.Lines.{lines}
 use Rattle.opgen_design.specs.declared.design.Design.{Design}
 use Rattle.opgen_design.specs.Run.{input_widths}
 use Rattle.opgen_design.specs.Sound.{IsSound}
-use Rattle.opgen_text.specs.Spelled.{Spells}
+use Rattle.opgen_vhdl.specs.Spelled.{Spells}
 use Rattle.opgen_read.specs.declared.fault.ReadFault.{ReadFault}
 use Rattle.opgen_read.specs.declared.fault.ReadFault.TheVariants as read
 use Rattle.opgen_read.specs.Answer.{IsWithinLimits, IsReadFault}
 use Rattle.opgen_vec.specs.declared.fault.VecFault.{VecFault}
 use Rattle.opgen_vec.specs.Reading.{IsReading}
-use Rattle.opgen_vec.specs.Rows.{AreRowsOfCells}
-use Rattle.opgen_top.specs.declared.run_rows.Rows.{Rows}
 use Rattle.opgen_top.specs.Answer.{Answer, simulated, vhdl_refused, vectors_refused}
 use Rattle.opgen_top.specs.Running.{IsRunText}
 
@@ -34,39 +32,22 @@ pub record RefusesRows (widths vectors : List ℕ) (a : Answer) : Type 0 where
   pub cause : IsReading widths (lines vectors) (Err fault)
   pub answer : a ≡ vectors_refused fault
 
--- nor of the inputs of the design
+-- nor of the inputs of the design that the VHDL spells
 pub record RefusesVectors (text vectors : List ℕ) (a : Answer) : Type 0 where
   pub design : Design
   pub gives : GivesDesign text design
   pub refused : RefusesRows (input_widths design) vectors a
 
--- the rows that the vectors hold
-pub record HoldsRows (widths vectors : List ℕ) (rows : Rows) : Type 0 where
-  pub reading : IsReading widths (lines vectors) (Ok rows.inputs.cells)
-  pub columns : rows.inputs.columns ≡ length widths
-  pub count : rows.count ≡ length (lines vectors)
-  pub fit : AreRowsOfCells widths rows.count rows.inputs.cells
-
--- they are rows
-pub record Runs (text vectors : List ℕ) (a : Answer) : Type 0 where
-  pub design : Design
-  pub gives : GivesDesign text design
-  pub cells : List ℕ
-  pub rows : IsReading (input_widths design) (lines vectors) (Ok cells)
-  pub answer : a ≡ simulated (length (lines vectors))
-
--- the answer by the bytes of both files
-abbrev pub IsSimulateAnswer : (text vectors : List ℕ) → Answer → Type 0
-IsSimulateAnswer text vectors a = RefusesVhdl text a ⊎ (RefusesVectors text vectors a ⊎ Runs text vectors a)
-
--- the rows of the inputs and of the outputs in the run of the design that is spelled
-pub record MakesRows (text vectors rows : List ℕ) : Type 0 where
+-- they are rows: stored are those of the inputs and of the outputs, in the run of the design
+pub record Runs (out text vectors : List ℕ) (a : Answer) : Type 0 where
   pub design : Design
   pub gives : GivesDesign text design
   pub cells : List ℕ
   pub read : IsReading (input_widths design) (lines vectors) (Ok cells)
+  pub rows : List ℕ
   pub run : IsRunText design (length (lines vectors)) cells rows
+  pub answer : a ≡ simulated out (length (lines vectors)) rows
 
--- the bytes of both files leave one answer
-abbrev pub HasOneSimulateAnswer : Type 0
-HasOneSimulateAnswer = (text vectors : List ℕ) (a b : Answer) → IsSimulateAnswer text vectors a → IsSimulateAnswer text vectors b → a ≡ b
+-- the answer by the bytes of both files
+abbrev pub IsSimulated : (out text vectors : List ℕ) → Answer → Type 0
+IsSimulated out text vectors a = RefusesVhdl text a ⊎ (RefusesVectors text vectors a ⊎ Runs out text vectors a)

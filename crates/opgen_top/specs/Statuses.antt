@@ -10,10 +10,6 @@ Refuses status = (status ≡ 1) ⊎ ((status ≡ 2) ⊎ ((status ≡ 3) ⊎ ((st
 abbrev pub HasLine : ℕ → Type 0
 HasLine status = (status ≡ 0) ⊎ Refuses status
 
--- a status that says what the files of a command hold
-abbrev pub TellsOfFiles : ℕ → Type 0
-TellsOfFiles status = (status ≡ 0) ⊎ ((status ≡ 1) ⊎ ((status ≡ 6) ⊎ (status ≡ 7)))
-
 -- the status of a write fault, or of want of memory
 abbrev pub IsSilent : ℕ → Type 0
 IsSilent status = (status ≡ 4) ⊎ (status ≡ 5)
@@ -21,6 +17,10 @@ IsSilent status = (status ≡ 4) ⊎ (status ≡ 5)
 -- one of the statuses that the program has
 abbrev pub IsStatus : ℕ → Type 0
 IsStatus status = HasLine status ⊎ IsSilent status
+
+-- a status other than 3, 4 and 5: what is due, whatever the folder counted
+abbrev pub IsDueStatus : ℕ → Type 0
+IsDueStatus status = (status ≡ 0) ⊎ ((status ≡ 1) ⊎ ((status ≡ 2) ⊎ ((status ≡ 6) ⊎ ((status ≡ 7) ⊎ (status ≡ 9)))))
 
 -- the status whose line was put; or 4, where the sink counted a fault; or 5
 abbrev pub TellsOr : (status before now result : ℕ) → Type 0

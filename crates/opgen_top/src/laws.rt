@@ -1,16 +1,22 @@
-ghost use Rattle.opgen_top.specs.Due.{HasOneDue};
-ghost use Rattle.opgen_top.specs.Generate.{HasOneCircuit};
-ghost use Rattle.opgen_top.specs.Simulate.{HasOneSimulateAnswer};
-ghost use Rattle.opgen_top.specs.Stores.{HasOneStore};
+ghost use Rattle.opgen_top.specs.Causes.{AnswersHaveCauses};
+ghost use Rattle.opgen_top.specs.Circuit.{CircuitsServe, HasOneCircuit};
+ghost use Rattle.opgen_top.specs.Due.{HasOneAnswer};
+ghost use Rattle.opgen_top.specs.Kinds.{HasOneNet};
+ghost use Rattle.opgen_top.specs.Printed.{LinesAreFixed};
 
-/// At most one answer is due for the words and the files.
-pub fn one_due()
-    ensures { HasOneDue }
+/// The words and the files leave at most one answer: its status, its line and its stores.
+pub fn one_answer()
+    ensures { HasOneAnswer }
 {}
 
-/// The bytes of VHDL and of vectors leave at most one answer of `simulate`.
-pub fn one_simulate_answer()
-    ensures { HasOneSimulateAnswer }
+/// Each status of an answer that is due says what the words and the files are.
+pub fn answers_have_causes()
+    ensures { AnswersHaveCauses }
+{}
+
+/// A specification leaves at most one net.
+pub fn one_net()
+    ensures { HasOneNet }
 {}
 
 /// A specification leaves at most one circuit: `generate` stores it, and `vectors` runs it.
@@ -18,7 +24,12 @@ pub fn one_circuit()
     ensures { HasOneCircuit }
 {}
 
-/// A command over its files stores at most one file, with one text.
-pub fn one_store()
-    ensures { HasOneStore }
+/// Each circuit serves its specification.
+pub fn circuits_serve()
+    ensures { CircuitsServe }
+{}
+
+/// The statuses 2, 3 and 9 have one line each.
+pub fn lines_are_fixed()
+    ensures { LinesAreFixed }
 {}

@@ -1,21 +1,26 @@
 //! The program, from the words of its command line to its status.
 #![tactic(auto)]
 
-mod buildable;
+mod answer;
+mod circuit;
 mod command;
 mod generate;
+mod kinds;
 mod laws;
 mod line;
-mod made;
 mod prepare;
+mod product;
 mod program;
 mod run_rows;
 mod simulate;
 mod status;
+mod store_all;
 mod vectors;
 
-pub use buildable::built;
-pub use laws::{one_circuit, one_due, one_simulate_answer, one_store};
+pub use kinds::built;
+pub use laws::{
+    answers_have_causes, circuits_serve, lines_are_fixed, one_answer, one_circuit, one_net,
+};
 pub use opgen_flat::flat;
 pub use opgen_write::{VecSink, WriteFault, write_design};
 pub use program::run;

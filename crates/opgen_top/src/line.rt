@@ -19,12 +19,12 @@ pub enum Line {
 }
 
 impl Line {
-    ghost use Rattle.opgen_top.specs.Answer.{answer_of, IsAnswer};
+    ghost use Rattle.opgen_top.specs.Prepared.{line_status, line_text};
     ghost use Rattle.opgen_top.specs.Statuses.{HasLine};
 
     /// The status that comes with the line.
     pub fn status(&self) -> u8
-        ensures value { result ≡ (answer_of self.now).status }
+        ensures value { result ≡ line_status self.now }
         ensures listed { HasLine result }
     {
         match self {
@@ -40,7 +40,7 @@ impl Line {
 
     /// The line with its line feed.
     pub fn as_str(&self) -> &str
-        ensures { result.now ≡ (answer_of self.now).line }
+        ensures { result.now ≡ line_text self.now }
     {
         match self {
             Line::Usage => "usage: opgen COMMAND (generate, vectors, simulate, workload, check)\n",

@@ -1,12 +1,12 @@
-//! Commands before their store.
+//! Commands before their stores.
 ghost use Rattle.std.specs.Prelude.{◌≡◌, Some};
 ghost use Rattle.opgen_top.specs.Command.{plain, Generate, Vectors, Simulate};
-ghost use Rattle.opgen_top.specs.Prepared.{Fetches, Kept, Prepares};
+ghost use Rattle.opgen_top.specs.Prepared.{Answers, Fetches, IsPrepared, Kept};
 
+use crate::answer::{Answer, Refusal};
 use crate::command::Command;
 use crate::generate::generated;
 use crate::line::Line;
-use crate::made::{MadeFile, Refusal};
 use crate::simulate::simulated;
 use crate::vectors::vectors_of;
 use opgen_io::{FetchFault, Folder};
@@ -18,17 +18,17 @@ const MAX_SPEC_LEN: usize = 1_048_576;
 /// The most bytes that a file of VHDL has, and a file of vectors.
 const MAX_SIMULATED_LEN: usize = 67_108_864;
 
-/// The file that a command makes of its files. The folder's files stay as they are.
+/// What a command answers to its files, before anything is stored. The folder's files stay as they are.
 pub(crate) fn prepare<F: Folder>(
     alloc: Global,
     asked: Command<'_>,
     folder: &mut F,
-) -> Result<MadeFile, Refusal>
+) -> Result<Answer, Refusal>
     ensures told_same { F.told folder.new ≡ F.told folder.old }
     ensures write_faults_same { F.write_faults folder.new ≡ F.write_faults folder.old }
-    ensures prepared { Prepares (Some (plain asked.entry)) (F.told folder.old)
+    ensures prepared { Answers result (IsPrepared (Some (plain asked.entry)) (F.told folder.old)
         (record { faults = F.read_faults folder.old; lacks = F.lacks folder.old; longs = F.longs folder.old })
-        (record { faults = F.read_faults folder.new; lacks = F.lacks folder.new; longs = F.longs folder.new }) result }
+        (record { faults = F.read_faults folder.new; lacks = F.lacks folder.new; longs = F.longs folder.new })) }
 {
     match asked {
         Command::Generate { spec } => generate(alloc, spec, folder),
@@ -61,12 +61,12 @@ fn fetch<F: Folder>(
     }
 }
 
-fn generate<F: Folder>(alloc: Global, spec: &str, folder: &mut F) -> Result<MadeFile, Refusal>
+fn generate<F: Folder>(alloc: Global, spec: &str, folder: &mut F) -> Result<Answer, Refusal>
     ensures told_same { F.told folder.new ≡ F.told folder.old }
     ensures write_faults_same { F.write_faults folder.new ≡ F.write_faults folder.old }
-    ensures prepared { Prepares (Some (Generate spec.now)) (F.told folder.old)
+    ensures prepared { Answers result (IsPrepared (Some (Generate spec.now)) (F.told folder.old)
         (record { faults = F.read_faults folder.old; lacks = F.lacks folder.old; longs = F.longs folder.old })
-        (record { faults = F.read_faults folder.new; lacks = F.lacks folder.new; longs = F.longs folder.new }) result }
+        (record { faults = F.read_faults folder.new; lacks = F.lacks folder.new; longs = F.longs folder.new })) }
 {
     let bytes = match fetch(alloc, spec, MAX_SPEC_LEN, folder) {
         Ok(bytes) => bytes,
@@ -75,12 +75,12 @@ fn generate<F: Folder>(alloc: Global, spec: &str, folder: &mut F) -> Result<Made
     generated(alloc, &bytes)
 }
 
-fn vectors<F: Folder>(alloc: Global, spec: &str, folder: &mut F) -> Result<MadeFile, Refusal>
+fn vectors<F: Folder>(alloc: Global, spec: &str, folder: &mut F) -> Result<Answer, Refusal>
     ensures told_same { F.told folder.new ≡ F.told folder.old }
     ensures write_faults_same { F.write_faults folder.new ≡ F.write_faults folder.old }
-    ensures prepared { Prepares (Some (Vectors spec.now)) (F.told folder.old)
+    ensures prepared { Answers result (IsPrepared (Some (Vectors spec.now)) (F.told folder.old)
         (record { faults = F.read_faults folder.old; lacks = F.lacks folder.old; longs = F.longs folder.old })
-        (record { faults = F.read_faults folder.new; lacks = F.lacks folder.new; longs = F.longs folder.new }) result }
+        (record { faults = F.read_faults folder.new; lacks = F.lacks folder.new; longs = F.longs folder.new })) }
 {
     let document = match fetch(alloc, spec, MAX_SPEC_LEN, folder) {
         Ok(bytes) => bytes,
@@ -95,12 +95,12 @@ fn simulate<F: Folder>(
     vectors: &str,
     out: &str,
     folder: &mut F,
-) -> Result<MadeFile, Refusal>
+) -> Result<Answer, Refusal>
     ensures told_same { F.told folder.new ≡ F.told folder.old }
     ensures write_faults_same { F.write_faults folder.new ≡ F.write_faults folder.old }
-    ensures prepared { Prepares (Some (Simulate vhdl.now vectors.now out.now)) (F.told folder.old)
+    ensures prepared { Answers result (IsPrepared (Some (Simulate vhdl.now vectors.now out.now)) (F.told folder.old)
         (record { faults = F.read_faults folder.old; lacks = F.lacks folder.old; longs = F.longs folder.old })
-        (record { faults = F.read_faults folder.new; lacks = F.lacks folder.new; longs = F.longs folder.new }) result }
+        (record { faults = F.read_faults folder.new; lacks = F.lacks folder.new; longs = F.longs folder.new })) }
 {
     let text = match fetch(alloc, vhdl, MAX_SIMULATED_LEN, folder) {
         Ok(bytes) => bytes,

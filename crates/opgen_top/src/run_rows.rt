@@ -6,7 +6,6 @@ ghost use Rattle.opgen_vec.specs.Rows.{AreRowsOfCells};
 ghost use Rattle.opgen_top.specs.Running.{is_of, output_widths, IsRunOf, IsRunText};
 
 use opgen_design::{Design, Dir, Port};
-use opgen_list::Items;
 use opgen_num::Memory;
 use opgen_sim::Sim;
 use opgen_vec::{Vectors, write_rows};
@@ -50,8 +49,8 @@ fn run_rows(
     requires numbers { HasNumbers design.now }
     requires in_columns { in_columns ≡ length (input_widths design.now) }
     requires out_columns { out_columns ≡ length (output_widths design.now) }
-    requires rows { AreRowsOfCells (input_widths design.now) rows.now.count rows.now.inputs.cells }
-    ensures { IfOk result (λ cells. IsRunOf design.now rows.now.count rows.now.inputs.cells cells.items) }
+    requires rows { AreRowsOfCells (input_widths design.now) rows.now.count rows.now.inputs.cells.items }
+    ensures { IfOk result (λ cells. IsRunOf design.now rows.now.count rows.now.inputs.cells.items cells.items) }
 {
     let mut sim = Sim::new(alloc, design)?;
     let mut outputs = vec![in alloc; 0; out_columns]?;
@@ -74,15 +73,15 @@ pub(crate) fn run_text(alloc: Global, design: &Design, rows: &Rows) -> Result<Ve
     requires numbers { HasNumbers design.now }
     requires some_port { 0 < length design.now.ports }
     requires columns { rows.now.inputs.columns ≡ length (input_widths design.now) }
-    requires rows { AreRowsOfCells (input_widths design.now) rows.now.count rows.now.inputs.cells }
-    ensures { IfOk result (λ text. IsRunText design.now rows.now.count rows.now.inputs.cells text.items) }
+    requires rows { AreRowsOfCells (input_widths design.now) rows.now.count rows.now.inputs.cells.items }
+    ensures { IfOk result (λ text. IsRunText design.now rows.now.count rows.now.inputs.cells.items text.items) }
 {
     let in_widths = port_widths(alloc, design.ports.as_slice(), Dir::In)?;
     let out_widths = port_widths(alloc, design.ports.as_slice(), Dir::Out)?;
     let cells = run_rows(alloc, design, in_widths.len(), out_widths.len(), rows)?;
     let outputs = Vectors {
         columns: out_widths.len() as u32,
-        cells: Items::from_vec(cells),
+        cells,
     };
     Ok(write_rows(alloc, &rows.inputs, &outputs, &in_widths, &out_widths)?)
 }

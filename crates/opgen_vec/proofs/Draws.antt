@@ -6,7 +6,8 @@ use Rattle.std.specs.Prelude.{All, ◌&&◌, ◌==◌}
 use Rattle.std.proofs.Math.Seq.{take-append_seam, drop-append_seam}
 use Rattle.std.proofs.lemmas.List.{length-map}
 use Rattle.std.proofs.lemmas.List.Elements.{All-head, All-tail, All-cons, All-nil}
-use Rattle.opgen_vec.specs.Rows.{AreCells, AreRowsOfCells}
+use Rattle.opgen_num.specs.Words.{FitWidths}
+use Rattle.opgen_vec.specs.Rows.{AreRowsOfCells}
 use Rattle.opgen_operator.specs.declared.spec.Operator.{Operator}
 use Rattle.opgen_operator.specs.declared.spec.PortFormat.{PortFormat}
 use Rattle.opgen_num.specs.Formats.{fewest_bits}
@@ -72,7 +73,7 @@ given_small op port state some small = go (is_divisor op port && drawn port.form
 abbrev widths_of : List PortFormat → List ℕ
 widths_of ports = map (λ port. port.format.width) ports
 
-row_fits : (op : Operator) (ports : List PortFormat) (state : ℕ) → All (λ port. 1 ≤ port.format.width) ports → AreCells (widths_of ports) (draws op ports state)
+row_fits : (op : Operator) (ports : List PortFormat) (state : ℕ) → All (λ port. 1 ≤ port.format.width) ports → FitWidths (widths_of ports) (draws op ports state)
 row_fits op [] state all = tt
 row_fits op (port ∷ ports) state all = (
   given_small op port (next state) (All-head (λ port. 1 ≤ port.format.width) port ports all) (next_small state),
@@ -88,7 +89,7 @@ rows_fit op ports (suc cycles) state all =
     ap (take (length (widths_of ports))) cells ∙ ap (λ k. take k (draws op ports state ++ draws op (repeated cycles ports) (state_after ports state))) n ∙ take-append_seam (draws op ports state) (draws op (repeated cycles ports) (state_after ports state)) in
     let rest : drop (length (widths_of ports)) (draws op (ports ++ repeated cycles ports) state) ≡ draws op (repeated cycles ports) (state_after ports state) =
     ap (drop (length (widths_of ports))) cells ∙ ap (λ k. drop k (draws op ports state ++ draws op (repeated cycles ports) (state_after ports state))) n ∙ drop-append_seam (draws op ports state) (draws op (repeated cycles ports) (state_after ports state)) in (
-      subst (AreCells (widths_of ports)) (sym first) (row_fits op ports state all),
+      subst (FitWidths (widths_of ports)) (sym first) (row_fits op ports state all),
       subst (AreRowsOfCells (widths_of ports) cycles) (sym rest) (rows_fit op ports cycles (state_after ports state) all),
     )
 

@@ -7,7 +7,8 @@ use Rattle.std.proofs.Math.Nat.{pow-succ', pow-le-pow_right, two-pow-succ, div-e
 use Rattle.std.proofs.Math.Seq.{take-append_seam, drop-append_seam}
 use Rattle.std.proofs.lemmas.List.{map-append, length-map, length-append, length-take-le, take-append-drop, take-map, drop-map}
 use Rattle.std.proofs.lemmas.Bool.Decides.{nat_tests}
-use Rattle.opgen_vec.specs.Rows.{digit_count, hex_text, word_text, spaced_text, AreCells}
+use Rattle.opgen_num.specs.Words.{FitWidths}
+use Rattle.opgen_vec.specs.Rows.{digit_count, hex_text, word_text, spaced_text}
 use Rattle.opgen_vec.specs.Digits.{hex_value, below, word_at, spaced_word_at, joined, spaced_cells, row_cells}
 use Rattle.opgen_vec.specs.Reading.{IsRow, IsBad}
 use Rattle.opgen_vec.proofs.Digits.{length-hex_text, hex_value-text, text-hex_value}
@@ -95,7 +96,7 @@ is_space t e = grind (arith, nat_tests)
 drop_one : (k t : ℕ) (text : List ℕ) → drop (1 + k) (t ∷ text) ≡ drop k text
 drop_one k t text = rw one-add refl
 
-spaced_cells-text : (widths cells text : List ℕ) → AreCells widths cells → lower text ≡ spaced_text widths cells → spaced_cells widths text ≡ Some cells
+spaced_cells-text : (widths cells text : List ℕ) → FitWidths widths cells → lower text ≡ spaced_text widths cells → spaced_cells widths text ≡ Some cells
 spaced_cells-text [] [] text are e = ap (spaced_cells []) (no_text text e)
 spaced_cells-text [] (c ∷ cells) text are e = absurd are
 spaced_cells-text (w ∷ widths) [] text are e = absurd are
@@ -129,12 +130,12 @@ word_then width cell text rest front after =
     ∙ ap (λ xs. xs ++ lower (drop (digit_count width) text)) front ∙ ap (λ xs. word_text width cell ++ xs) after
 
 -- no cells, where nothing is left
-ended : (text cells : List ℕ) → cond (length text == 0) (Some []) None ≡ Some cells → AreCells [] cells × (lower text ≡ [])
+ended : (text cells : List ℕ) → cond (length text == 0) (Some []) None ≡ Some cells → FitWidths [] cells × (lower text ≡ [])
 ended [] [] e = (tt, refl)
 ended [] (c ∷ cells) e = cc
 ended (t ∷ text) cells e = go (length (t ∷ text) == 0) refl e
   where
-    go : (b : Bool) → (length (t ∷ text) == 0) ≡ b → cond b (Some []) None ≡ Some cells → AreCells [] cells × (lower (t ∷ text) ≡ [])
+    go : (b : Bool) → (length (t ∷ text) == 0) ≡ b → cond b (Some []) None ≡ Some cells → FitWidths [] cells × (lower (t ∷ text) ≡ [])
     go true is e = absurd (omega (arith, eqb-true (length (t ∷ text)) 0 is))
     go false is e = cc
 
@@ -146,7 +147,7 @@ after_space width cell t text e = go (t == 32) refl e
     go true is e = (ap to_ascii_lowercase (eqb-true t 32 is), e)
     go false is e = cc
 
-text-spaced_cells : (widths cells text : List ℕ) → spaced_cells widths text ≡ Some cells → AreCells widths cells × (lower text ≡ spaced_text widths cells)
+text-spaced_cells : (widths cells text : List ℕ) → spaced_cells widths text ≡ Some cells → FitWidths widths cells × (lower text ≡ spaced_text widths cells)
 text-spaced_cells [] cells text e = ended text cells e
 text-spaced_cells (w ∷ widths) cells [] e = cc
 text-spaced_cells (w ∷ widths) cells (t ∷ text) e =
@@ -156,8 +157,8 @@ text-spaced_cells (w ∷ widths) cells (t ∷ text) e =
     rest = drop (1 + digit_count w) (t ∷ text)
 
     go : (cells : List ℕ) (o : Option ℕ) → spaced_word_at w (t ∷ text) ≡ o → (p : Option (List ℕ)) → spaced_cells widths (drop (1 + digit_count w) (t ∷ text)) ≡ p → joined o p ≡ Some cells
-        → ((more : List ℕ) → spaced_cells widths (drop (1 + digit_count w) (t ∷ text)) ≡ Some more → AreCells widths more × (lower (drop (1 + digit_count w) (t ∷ text)) ≡ spaced_text widths more))
-        → AreCells (w ∷ widths) cells × (lower (t ∷ text) ≡ spaced_text (w ∷ widths) cells)
+        → ((more : List ℕ) → spaced_cells widths (drop (1 + digit_count w) (t ∷ text)) ≡ Some more → FitWidths widths more × (lower (drop (1 + digit_count w) (t ∷ text)) ≡ spaced_text widths more))
+        → FitWidths (w ∷ widths) cells × (lower (t ∷ text) ≡ spaced_text (w ∷ widths) cells)
     go cells None o p q e later = cc
     go cells (Some c) o None q e later = cc
     go [] (Some c) o (Some more) q e later = cc

@@ -7,13 +7,14 @@ use Rattle.std.proofs.Math.Nat.{mul-div_cancel_left}
 use Rattle.std.proofs.lemmas.List.{take_all, length-take, length-drop, take-append-le, drop-append-le, take-append-drop}
 use Rattle.std.proofs.lemmas.Bool.{ne_eqb}
 use Rattle.std.specs.Str.Lines.{lines}
+use Rattle.opgen_num.specs.Words.{FitWidths}
 use Rattle.opgen_vec.proofs.RowTexts.{bad-line}
-use Rattle.opgen_vec.specs.Rows.{AreCells, AreRowsOfCells}
+use Rattle.opgen_vec.specs.Rows.{AreRowsOfCells}
 use Rattle.opgen_vec.specs.Writing.{row_count}
 use Rattle.opgen_vec.specs.declared.TheConstants.{MAX_ROWS}
 use Rattle.opgen_vec.specs.Reading.{IsRow, AreRows, IsBad, AreVectors, IsFirstBad, AreTooMany}
 
-pub length-cells : (widths cells : List ℕ) → AreCells widths cells → length cells ≡ length widths
+pub length-cells : (widths cells : List ℕ) → FitWidths widths cells → length cells ≡ length widths
 length-cells [] [] are = refl
 length-cells [] (c ∷ cells) are = absurd are
 length-cells (w ∷ widths) [] are = absurd are

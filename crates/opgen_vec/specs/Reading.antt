@@ -1,14 +1,15 @@
 -- What a file of vectors holds: a row a line. Lines end by a line feed, which may follow a carriage return; the last line may have none.
 use Rattle.std.specs.Prelude.{ℕ, ◌≡◌, ◌-◌, ◌≤◌, ◌<◌, List, [], ◌∷◌, length, take, drop, slice_get, IsSomeAnd, Result, Ok, Err}
 use Rattle.std.specs.Str.{str_to_ascii_lowercase}
+use Rattle.opgen_num.specs.Words.{FitWidths}
 use Rattle.opgen_vec.specs.declared.TheConstants.{MAX_ROWS}
 use Rattle.opgen_vec.specs.declared.fault.VecFault.{VecFault}
 use Rattle.opgen_vec.specs.declared.fault.VecFault.TheVariants as faults
-use Rattle.opgen_vec.specs.Rows.{row_text, AreCells}
+use Rattle.opgen_vec.specs.Rows.{row_text}
 
 -- the line is the text of these cells, but that its letters may be capitals
 abbrev pub IsRow : (widths cells line : List ℕ) → Type 0
-IsRow widths cells line = AreCells widths cells × (str_to_ascii_lowercase line ≡ row_text widths cells)
+IsRow widths cells line = FitWidths widths cells × (str_to_ascii_lowercase line ≡ row_text widths cells)
 
 -- the lines are the rows of these cells, row after row
 abbrev pub AreRows : (widths cells : List ℕ) (lines : List (List ℕ)) → Type 0

@@ -1,6 +1,7 @@
 -- Rows of words: in hexadecimal, highest digit first, with one space between two words.
-use Rattle.std.specs.Prelude.{ℕ, ◌≡◌, zero, suc, ◌+◌, ◌/◌, ◌%◌, ◌^◌, ◌<◌, List, [], ◌∷◌, ◌++◌, length, take, drop, codes}
+use Rattle.std.specs.Prelude.{ℕ, ◌≡◌, zero, suc, ◌+◌, ◌/◌, ◌%◌, ◌^◌, List, [], ◌∷◌, ◌++◌, length, take, drop, codes}
 use Rattle.std.specs.Char.{digit_char}
+use Rattle.opgen_num.specs.Words.{FitWidths}
 
 -- how many digits a word of so many bits has: a quarter, rounded up
 abbrev pub digit_count : (width : ℕ) → ℕ
@@ -24,13 +25,7 @@ abbrev pub row_text : (widths cells : List ℕ) → List ℕ
 row_text (width ∷ widths) (cell ∷ cells) = word_text width cell ++ spaced_text widths cells
 row_text _ _ = []
 
--- one cell for each width, below 2 to it
-abbrev pub AreCells : (widths cells : List ℕ) → Type 0
-AreCells [] [] = Unit {0}
-AreCells (width ∷ widths) (cell ∷ cells) = (cell < 2 ^ width) × AreCells widths cells
-AreCells _ _ = ⊥
-
 -- so many rows of cells, and no cell more
 abbrev pub AreRowsOfCells : (widths : List ℕ) (rows : ℕ) (cells : List ℕ) → Type 0
 AreRowsOfCells widths zero cells = cells ≡ []
-AreRowsOfCells widths (suc rows) cells = AreCells widths (take (length widths) cells) × AreRowsOfCells widths rows (drop (length widths) cells)
+AreRowsOfCells widths (suc rows) cells = FitWidths widths (take (length widths) cells) × AreRowsOfCells widths rows (drop (length widths) cells)

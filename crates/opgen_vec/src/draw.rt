@@ -7,7 +7,6 @@ ghost use Rattle.opgen_vec.specs.Writing.{row_count};
 ghost use Rattle.opgen_vec.specs.Stimulus.{next, drawn, is_divisor, given, draws, state_after, stimulus_cells};
 
 use crate::vectors::Vectors;
-use opgen_list::Items;
 use opgen_num::Memory;
 use opgen_operator::{Operator, PortFormat, Spec};
 use std::alloc::{AllocError, Global};
@@ -70,9 +69,9 @@ fn draw_row(
 pub fn stimulus(alloc: Global, spec: &Spec, seed: u64, cycles: u32) -> Result<Vectors, Memory>
     requires { IsValidSpec spec.now }
     ensures columns { IfOk result (λ v. v.columns ≡ length (inputs_of spec.now)) }
-    ensures cells { IfOk result (λ v. v.cells ≡ stimulus_cells spec.now seed cycles) }
-    ensures fit { IfOk result (λ v. AreRowsOfCells (map (λ port. port.format.width) (inputs_of spec.now)) cycles v.cells) }
-    ensures count { IfOk result (λ v. row_count v.columns v.cells ≡ cycles) }
+    ensures cells { IfOk result (λ v. v.cells.items ≡ stimulus_cells spec.now seed cycles) }
+    ensures fit { IfOk result (λ v. AreRowsOfCells (map (λ port. port.format.width) (inputs_of spec.now)) cycles v.cells.items) }
+    ensures count { IfOk result (λ v. row_count v.columns v.cells.items ≡ cycles) }
 {
     let ports = spec.inputs(alloc)?;
     let mut cells = Vec::new(alloc);
@@ -84,6 +83,6 @@ pub fn stimulus(alloc: Global, spec: &Spec, seed: u64, cycles: u32) -> Result<Ve
     }
     Ok(Vectors {
         columns: ports.len() as u32,
-        cells: Items::from_vec(cells),
+        cells,
     })
 }

@@ -1,6 +1,7 @@
 //! Words in hexadecimal.
 ghost use Rattle.std.specs.Prelude.{◌≡◌, ◌/◌, ◌%◌, ◌++◌, OnOk, ◌≤◌, ◌<◌, ◌^◌, ◌*◌, ◌+◌, length, IfSome};
 ghost use Rattle.std.specs.Char.{digit_char};
+ghost use Rattle.opgen_num.specs.declared.TheConstants.{MAX_WIDTH};
 ghost use Rattle.opgen_vec.specs.Rows.{digit_count, word_text};
 ghost use Rattle.opgen_vec.specs.Digits.{hex_value, word_at};
 
@@ -14,7 +15,7 @@ pub(crate) fn digit_count(width: u32) -> usize
 }
 
 fn hex_value(digits: &[u8]) -> Option<u128>
-    requires { length digits.now ≤ 16 }
+    requires { length digits.now ≤ digit_count MAX_WIDTH }
     ensures value { result ≡ hex_value 0 digits.now }
     ensures small { IfSome result (λ n. n < 16 ^ length digits.now) }
 {
@@ -28,7 +29,7 @@ fn hex_value(digits: &[u8]) -> Option<u128>
 
 /// The word of this width at the front of a text, if one of exactly its digits stands there.
 pub(crate) fn word_at(text: &[u8], width: u32) -> Option<u128>
-    requires { width ≤ 64 }
+    requires { width ≤ MAX_WIDTH }
     ensures { result ≡ word_at width text.now }
 {
     let digits = digit_count(width);

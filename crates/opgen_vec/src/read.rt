@@ -1,6 +1,7 @@
 //! Files of vectors.
 ghost use Rattle.std.specs.Prelude.{◌≡◌, ◌≤◌, ◌<◌, ◌^◌, ℕ, [], All, length, IfOk, Err};
 ghost use Rattle.std.specs.Str.Lines.{lines};
+ghost use Rattle.opgen_num.specs.declared.TheConstants.{MAX_WIDTH};
 ghost use Rattle.opgen_vec.specs.Rows.{AreRowsOfCells};
 ghost use Rattle.opgen_vec.specs.Writing.{row_count};
 ghost use Rattle.opgen_vec.specs.Reading.{AreVectors, IsFirstBad, AreTooMany};
@@ -9,7 +10,6 @@ use crate::MAX_ROWS;
 use crate::fault::VecFault;
 use crate::row::{read_row, split_line};
 use crate::vectors::Vectors;
-use opgen_list::Items;
 use std::alloc::Global;
 
 /// The cells of a file of vectors for ports of these widths, one column for each.
@@ -23,23 +23,23 @@ use std::alloc::Global;
 pub fn read_vectors(alloc: Global, bytes: &[u8], widths: &[u32]) -> Result<Vectors, VecFault>
     requires some { 0 < length widths.now }
     requires few { length widths.now < 2 ^ 32 }
-    requires narrow { All (λ width. width ≤ 64) widths.now }
+    requires narrow { All (λ width. width ≤ MAX_WIDTH) widths.now }
     ensures columns { IfOk result (λ v. v.columns ≡ length widths.now) }
-    ensures rows { IfOk result (λ v. AreVectors widths.now v.cells (lines bytes.now)) }
-    ensures cells { IfOk result (λ v. AreRowsOfCells widths.now (length (lines bytes.now)) v.cells) }
-    ensures count { IfOk result (λ v. row_count v.columns v.cells ≡ length (lines bytes.now)) }
+    ensures rows { IfOk result (λ v. AreVectors widths.now v.cells.items (lines bytes.now)) }
+    ensures cells { IfOk result (λ v. AreRowsOfCells widths.now (length (lines bytes.now)) v.cells.items) }
+    ensures count { IfOk result (λ v. row_count v.columns v.cells.items ≡ length (lines bytes.now)) }
     ensures bad_line { (line : ℕ) → result ≡ Err (VecFault.BadLine line) → IsFirstBad widths.now (lines bytes.now) line }
     ensures too_many { result ≡ Err VecFault.TooMany → AreTooMany widths.now (lines bytes.now) }
 {
     let cells = read_cells(alloc, bytes, widths)?;
     Ok(Vectors {
         columns: widths.len() as u32,
-        cells: Items::from_vec(cells),
+        cells,
     })
 }
 
 fn read_cells(alloc: Global, bytes: &[u8], widths: &[u32]) -> Result<Vec<u128>, VecFault>
-    requires { All (λ width. width ≤ 64) widths.now }
+    requires { All (λ width. width ≤ MAX_WIDTH) widths.now }
     ensures rows { IfOk result (λ cells. AreVectors widths.now cells.items (lines bytes.now)) }
     ensures bad_line { (line : ℕ) → result ≡ Err (VecFault.BadLine line) → IsFirstBad widths.now (lines bytes.now) line }
     ensures too_many { result ≡ Err VecFault.TooMany → AreTooMany widths.now (lines bytes.now) }

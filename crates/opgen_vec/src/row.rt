@@ -2,6 +2,7 @@
 ghost use Rattle.std.specs.Prelude.{◌≡◌, ◌==◌, ◌≤◌, ◌<◌, ◌+◌, ◌-◌, ◌∷◌, ◌++◌, All, length, take, drop, Some, None, IfOk, MatchBool};
 ghost use Rattle.std.specs.List.{position_or_len};
 ghost use Rattle.std.specs.Str.Lines.{lines, strip_carriage_return};
+ghost use Rattle.opgen_num.specs.declared.TheConstants.{MAX_WIDTH};
 ghost use Rattle.opgen_vec.specs.Rows.{digit_count};
 ghost use Rattle.opgen_vec.specs.Digits.{spaced_word_at, row_cells};
 
@@ -39,7 +40,7 @@ pub(crate) fn split_line(text: &[u8]) -> (&[u8], &[u8])
 }
 
 fn spaced_word_at(text: &[u8], width: u32) -> Option<u128>
-    requires { width ≤ 64 }
+    requires { width ≤ MAX_WIDTH }
     ensures { result ≡ spaced_word_at width text.now }
 {
     match text {
@@ -54,7 +55,7 @@ pub(crate) fn read_row(
     widths: &[u32],
     cells: &mut Vec<u128>,
 ) -> Result<bool, AllocError>
-    requires { All (λ width. width ≤ 64) widths.now }
+    requires { All (λ width. width ≤ MAX_WIDTH) widths.now }
     ensures kept { IfOk result (λ good. take (length cells.old.items) cells.new.items ≡ cells.old.items) }
     ensures cells { IfOk result (λ good. MatchBool good
         (row_cells widths.now line.now ≡ Some (drop (length cells.old.items) cells.new.items))

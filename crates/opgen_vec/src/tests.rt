@@ -1,19 +1,24 @@
 ghost use Rattle.std.specs.Prelude.{◌≡◌, [], IfOk};
 
 use crate::*;
-use opgen_list::Items;
 use std::alloc::{AllocError, Global};
 use std::test::Fail;
 
 #[test]
 fn reads_rows(rt: HostRuntime) -> Result<(), Fail> {
-    let cases: [(&[u8], &[u32], &[u128]); 7] = [
+    let cases: [(&[u8], &[u32], &[u128]); 9] = [
         (b"", &[4], &[]),
         (b"0\n1\nf\n", &[4], &[0, 1, 15]),
         (b"F\r\na", &[4], &[15, 10]),
         (b"1f 3\n00 0", &[5, 2], &[31, 3, 0, 0]),
         (b"1\r\n0\n", &[1], &[1, 0]),
         (b"ffffffffffffffff\n", &[64], &[0xffff_ffff_ffff_ffff]),
+        (b"1ffffffffffffffff\n", &[65], &[0x1_ffff_ffff_ffff_ffff]),
+        (
+            b"800000000000000000000000 0F\n",
+            &[96, 5],
+            &[0x8000_0000_0000_0000_0000_0000, 15],
+        ),
         (b"aBcD 7 0\n", &[16, 3, 1], &[0xabcd, 7, 0]),
     ];
     for (bytes, widths, cells) in cases {
@@ -26,7 +31,7 @@ fn reads_rows(rt: HostRuntime) -> Result<(), Fail> {
 
 #[test]
 fn refuses_the_first_bad_line(rt: HostRuntime) {
-    let cases: [(&[u8], &[u32], u32); 14] = [
+    let cases: [(&[u8], &[u32], u32); 17] = [
         (b"f\ng\n", &[4], 2),
         (b"\n", &[4], 1),
         (b"1\n\n2\n", &[4], 2),
@@ -41,6 +46,9 @@ fn refuses_the_first_bad_line(rt: HostRuntime) {
         (b"20\n", &[5], 1),
         (b"1f\n010\n", &[5], 2),
         (b"1 : 03\n", &[4], 1),
+        (b"20000000000000000\n", &[65], 1),
+        (b"00000000000000000000000\n", &[96], 1),
+        (b"0000000000000000000000000\n", &[96], 1),
     ];
     for (bytes, widths, line) in cases {
         let fault = read_vectors(rt.alloc(), bytes, widths).err();
@@ -76,11 +84,11 @@ fn refuses_too_many_rows(rt: HostRuntime) -> Result<(), Fail> {
 
 fn column(alloc: Global, cells: &[u128]) -> Result<Vectors, AllocError>
     ensures columns { IfOk result (λ v. v.columns ≡ 1) }
-    ensures cells { IfOk result (λ v. v.cells ≡ cells.now) }
+    ensures cells { IfOk result (λ v. v.cells.items ≡ cells.now) }
 {
     Ok(Vectors {
         columns: 1,
-        cells: Items::from_vec(Vec::from_slice(alloc, cells)?),
+        cells: Vec::from_slice(alloc, cells)?,
     })
 }
 
@@ -89,7 +97,7 @@ fn no_columns(alloc: Global) -> Vectors
 {
     Vectors {
         columns: 0,
-        cells: Items::new(alloc),
+        cells: Vec::new(alloc),
     }
 }
 
@@ -111,6 +119,17 @@ fn writes_rows_of_one_side(rt: HostRuntime) -> Result<(), Fail> {
     assert_eq!(rt; text.as_slice(), b"1f 3 : \n00 0 : \n".as_slice());
     let text = write_rows(rt.alloc(), &none, &vectors, &[], &[5, 2])?;
     assert_eq!(rt; text.as_slice(), b" : 1f 3\n : 00 0\n".as_slice());
+    Ok(())
+}
+
+#[test]
+fn writes_24_digits(rt: HostRuntime) -> Result<(), Fail> {
+    let inputs = column(rt.alloc(), &[0xfedc_ba98_7654_3210_0123_4567, 10])?;
+    let outputs = column(rt.alloc(), &[0x1_0000_0000_0000_0000, 0])?;
+    let text = write_rows(rt.alloc(), &inputs, &outputs, &[96], &[65])?;
+    let rows =
+        b"fedcba987654321001234567 : 10000000000000000\n00000000000000000000000a : 00000000000000000\n";
+    assert_eq!(rt; text.as_slice(), rows.as_slice());
     Ok(())
 }
 

@@ -1,15 +1,13 @@
 ghost use Rattle.std.specs.Prelude.{◌≡◌, ◌*◌, ◌/◌, length};
 
-use opgen_list::Items;
-
 /// Rows of words, row after row. Each cell is the number of a word.
 ///
 /// The number of cells is a multiple of `columns`, and 0 where `columns` is 0.
 #[derive(Drop)]
 pub struct Vectors {
     pub columns: u32,
-    pub cells: Items<u128>,
-    pub ghost whole: { columns * (length cells / columns) ≡ length cells },
+    pub cells: Vec<u128>,
+    pub ghost whole: { columns * (length cells.items / columns) ≡ length cells.items },
 }
 
 impl Vectors {
@@ -17,7 +15,7 @@ impl Vectors {
 
     /// The number of rows, 0 where a row has no cell.
     pub fn row_count(&self) -> usize
-        ensures { result ≡ row_count self.now.columns self.now.cells }
+        ensures { result ≡ row_count self.now.columns self.now.cells.items }
     {
         if self.columns == 0 {
             0

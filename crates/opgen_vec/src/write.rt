@@ -62,10 +62,10 @@ pub fn write_rows(
     requires in_columns { inputs.now.columns ≡ length in_widths.now }
     requires out_columns { outputs.now.columns ≡ length out_widths.now }
     requires some { 0 < length in_widths.now + length out_widths.now }
-    requires same_rows { HaveSameRows (length in_widths.now) (length out_widths.now) inputs.now.cells outputs.now.cells }
+    requires same_rows { HaveSameRows (length in_widths.now) (length out_widths.now) inputs.now.cells.items outputs.now.cells.items }
     ensures { IfOk result (λ text. text.items ≡ rows_text in_widths.now out_widths.now
-        (row_count_of (length in_widths.now) (length out_widths.now) inputs.now.cells outputs.now.cells)
-        inputs.now.cells outputs.now.cells) }
+        (row_count_of (length in_widths.now) (length out_widths.now) inputs.now.cells.items outputs.now.cells.items)
+        inputs.now.cells.items outputs.now.cells.items) }
 {
     let mut text = Vec::new(alloc);
     let mut left = inputs.row_count().max(outputs.row_count());

@@ -1,49 +1,47 @@
 -- The texts of ports and of signals are cut into their declarations.
-use Rattle.std.proofs.Common.{◌≡◌, ℕ, ◌+◌, ◌-◌, ◌≤◌, Bool, false, List, [], ◌∷◌, ◌++◌, codes, decimal, Option, Some, None, IsTrue, refl, subst, arith, append_assoc, lit<}
+use Rattle.std.proofs.Common.{◌≡◌, ℕ, ◌+◌, ◌-◌, ◌<◌, Bool, false, List, [], ◌∷◌, ◌++◌, length, codes, decimal, Option, Some, None, IsTrue, refl, subst, arith, append_assoc, lit<}
 use Rattle.std.proofs.lemmas.Fmt.{decimal_digit}
+use Rattle.opgen_num.specs.declared.TheConstants.{MAX_WIDTH}
 use Rattle.opgen_design.specs.declared.design.Dir.{Dir}
 use Rattle.opgen_design.specs.declared.design.Dir.TheVariants.{In, Out}
 use Rattle.opgen_design.specs.declared.design.Port.{Port}
 use Rattle.opgen_design.specs.declared.design.Signal.{Signal}
 use Rattle.opgen_design.specs.Names.{is_allowed_name}
-use Rattle.opgen_text.specs.Bytes.{is_word_byte, begins}
-use Rattle.opgen_text.specs.Symbols.{Symbol, word, number, string, mark}
-use Rattle.opgen_text.specs.ExpressionText.{word_text, range_text}
-use Rattle.opgen_text.specs.DesignText.{direction_text, port_text, initial_text, signal_text}
-use Rattle.opgen_text.specs.Grammar.{value}
-use Rattle.opgen_text.specs.Statements.{Reading, with_signal, direction, range_to_zero, end_of_piece, IsPort, port_line, IsInitial, absent, written, Takes, signal}
-use Rattle.opgen_text.specs.declared.kind.TokenKind.TheVariants.{LeftParen, RightParen, Semicolon, Colon, Becomes}
-use Rattle.opgen_text.specs.declared.place.Place.TheVariants.{Declarations}
+use Rattle.opgen_design.specs.Width.{IsWidth}
+use Rattle.opgen_vhdl.specs.Bytes.{is_word_byte, begins}
+use Rattle.opgen_vhdl.specs.Symbols.{Symbol, word, number, string, mark}
+use Rattle.opgen_vhdl.specs.ExpressionText.{word_text, range_text}
+use Rattle.opgen_vhdl.specs.DesignText.{direction_text, port_text, initial_text, signal_text}
+use Rattle.opgen_vhdl.specs.Grammar.{value}
+use Rattle.opgen_vhdl.specs.Statements.{Reading, with_signal, direction, range_to_zero, end_of_piece, IsPort, port_line, IsInitial, absent, written, Takes, signal}
+use Rattle.opgen_vhdl.specs.declared.kind.TokenKind.TheVariants.{LeftParen, RightParen, Semicolon, Colon, Becomes}
+use Rattle.opgen_vhdl.specs.declared.place.Place.TheVariants.{Declarations}
 use Rattle.opgen_write.proofs.Lexing.{Lexes, lexes_found}
 use Rattle.opgen_write.proofs.Words.{lexes_name, lexes_keyword, lexes_range, lexes_word, value_of-decimal}
 use Rattle.opgen_write.proofs.Expressions.{range-begins}
-use Rattle.opgen_write.proofs.Drivers.{IsShort, WritesPiece}
-
-abbrev pub IsSmall : ℕ → Type 0
-IsSmall w = (1 ≤ w) × (w ≤ 64)
-
--- the range of a width, down to 0
+use Rattle.opgen_write.proofs.Drivers.{WritesPiece}
 
 zero_digit : decimal 0 ≡ codes "0"
 zero_digit = decimal_digit 0 (lit< tt)
 
-lexes_width : (w : ℕ) (rest : List ℕ) (ks : List Symbol) → IsSmall w → Lexes rest ks → Lexes (range_text (w - 1) 0 ++ rest) (range_to_zero (decimal (w - 1)) ks)
+-- the range of a width, down to 0
+lexes_width : (w : ℕ) (rest : List ℕ) (ks : List Symbol) → IsWidth w → Lexes rest ks → Lexes (range_text (w - 1) 0 ++ rest) (range_to_zero (decimal (w - 1)) ks)
 lexes_width w rest ks h l =
     subst (λ u. Lexes (range_text (w - 1) 0 ++ rest) (mark LeftParen ∷ number (decimal (w - 1)) ∷ word (codes "downto") ∷ number u ∷ mark RightParen ∷ ks)) zero_digit
-    (lexes_range (w - 1) 0 rest ks (omega (arith, h.1)) (omega arith) l)
+    (lexes_range (w - 1) 0 rest ks (omega (arith, h.0, h.1)) (omega (arith, h.0, h.1)) l)
 
-width-value : (w : ℕ) → IsSmall w → value (decimal (w - 1)) + 1 ≡ w
-width-value w h = omega (arith, h.0, value_of-decimal (w - 1) (omega (arith, h.1)))
+width-value : (w : ℕ) → IsWidth w → value (decimal (w - 1)) + 1 ≡ w
+width-value w h = omega (arith, h.0, value_of-decimal (w - 1) (omega (arith, h.0, h.1)))
 
-width-index : (w : ℕ) → IsSmall w → value (decimal (w - 1)) ≤ 63
-width-index w h = omega (arith, h.1, value_of-decimal (w - 1) (omega (arith, h.1)))
+width-index : (w : ℕ) → IsWidth w → value (decimal (w - 1)) < MAX_WIDTH
+width-index w h = omega (arith, h.0, h.1, value_of-decimal (w - 1) (omega (arith, h.0, h.1)))
 
 -- ports
 
 -- a port whose name and width can be written
 pub record PortFits (p : Port) : Type 0 where
   pub allowed : IsTrue (is_allowed_name p.name)
-  pub small : IsSmall p.width
+  pub wide : IsWidth p.width
 
 -- the text of a port behind the `;` in front of it
 abbrev pub port_behind : Port → List ℕ
@@ -68,7 +66,7 @@ lexes_direction dir rest ks stops l = at dir (lexes_keyword (codes "std_logic_ve
 pub lexes_port : (p : Port) (rest : List ℕ) (ks : List Symbol) → PortFits p → Lexes rest ks → Lexes (port_behind p ++ rest) (port_symbols p ++ ks)
 lexes_port p rest ks f l =
     let range = range_text (p.width - 1) 0 ++ rest in
-    let typed = lexes_direction p.dir range _ (range-begins (p.width - 1) 0 rest) (lexes_width p.width rest ks f.small l) in
+    let typed = lexes_direction p.dir range _ (range-begins (p.width - 1) 0 rest) (lexes_width p.width rest ks f.wide l) in
     let behind = codes " : " ++ (direction_text p.dir ++ (codes " std_logic_vector" ++ range)) in
     let named = lexes_name p.name behind f.allowed refl _ typed in
     let text : port_behind p ++ rest ≡ codes "\n    " ++ (p.name ++ (codes " : " ++ (direction_text p.dir ++ (codes " std_logic_vector" ++ (range_text (p.width - 1) 0 ++ rest))))) = simp append_assoc in
@@ -76,19 +74,19 @@ lexes_port p rest ks f l =
 
 pub port_is : (p : Port) (rest : List Symbol) → PortFits p → IsPort p (port_symbols p ++ rest) rest
 port_is p rest f =
-    subst (λ w. IsPort (record { name = p.name; dir = p.dir; width = w }) (port_symbols p ++ rest) rest) (width-value p.width f.small)
-    (port_line {dir = p.dir} f.allowed (width-index p.width f.small))
+    subst (λ w. IsPort (record { name = p.name; dir = p.dir; width = w }) (port_symbols p ++ rest) rest) (width-value p.width f.wide)
+    (port_line {dir = p.dir} f.allowed (width-index p.width f.wide))
 
 -- signals
 
 abbrev pub InitialFits : Option (List Bool) → Type 0
 InitialFits None = Unit {0}
-InitialFits (Some w) = IsShort w
+InitialFits (Some w) = IsWidth (length w)
 
 -- a signal whose name, width and initial value can be written
 pub record SignalFits (s : Signal) : Type 0 where
   pub allowed : IsTrue (is_allowed_name s.name)
-  pub small : IsSmall s.width
+  pub wide : IsWidth s.width
   pub initial : InitialFits s.initial
 
 initial_written : (width : ℕ) (initial : Option (List Bool)) → InitialFits initial → WritesPiece (IsInitial width initial) (initial_text initial ++ codes ";\n")
@@ -99,7 +97,7 @@ initial_written width (Some w) f = record {
   lexes = λ rest ks l.
       let ended = lexes_found 2 (codes ";\n" ++ rest) rest (mark Semicolon ∷ []) ks refl l in
       let text : (initial_text (Some w) ++ codes ";\n") ++ rest ≡ codes " := " ++ (word_text w ++ (codes ";\n" ++ rest)) = simp append_assoc in
-      rw text (lexes_found 3 (codes " := " ++ (word_text w ++ (codes ";\n" ++ rest))) _ (mark Becomes ∷ []) _ refl (lexes_word w (codes ";\n" ++ rest) _ f.0 f.1 ended));
+      rw text (lexes_found 3 (codes " := " ++ (word_text w ++ (codes ";\n" ++ rest))) _ (mark Becomes ∷ []) _ refl (lexes_word w (codes ";\n" ++ rest) _ f ended));
   says = written;
 }
 
@@ -117,7 +115,7 @@ signal_written s f =
       lexes = λ rest ks l.
           let behind = (initial_text s.initial ++ codes ";\n") ++ rest in
           let range = range_text (s.width - 1) 0 ++ behind in
-          let ranged = lexes_width s.width behind _ f.small (initial.lexes rest ks l) in
+          let ranged = lexes_width s.width behind _ f.wide (initial.lexes rest ks l) in
           let typed = lexes_keyword (codes "unsigned") range _ refl refl refl refl refl (range-begins (s.width - 1) 0 behind) ranged in
           let colon = lexes_found 3 (codes " : " ++ (codes "unsigned" ++ range)) _ (mark Colon ∷ []) _ refl typed in
           let named = lexes_name s.name (codes " : " ++ (codes "unsigned" ++ range)) f.allowed refl _ colon in
@@ -127,6 +125,6 @@ signal_written s f =
           (λ w. Takes Declarations r
           (word (codes "signal") ∷ word s.name ∷ mark Colon ∷ word (codes "unsigned") ∷ range_to_zero (decimal (s.width - 1)) (initial.symbols ++ end_of_piece))
           Declarations (with_signal r (record { name = s.name; width = w; initial = s.initial })))
-          (width-value s.width f.small)
-          (signal f.allowed (width-index s.width f.small) initial.says);
+          (width-value s.width f.wide)
+          (signal f.allowed (width-index s.width f.wide) initial.says);
     }

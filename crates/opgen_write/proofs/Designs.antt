@@ -1,5 +1,5 @@
 -- The text of a sound, shaped design under allowed names, with a port, spells that design.
-use Rattle.std.proofs.Common.{◌≡◌, ℕ, ◌≤◌, true, false, List, [], ◌∷◌, ◌++◌, length, filter, flat_map, codes, IsTrue, refl, ap, sym, ◌∙◌, subst, arith, append_assoc}
+use Rattle.std.proofs.Common.{◌≡◌, ℕ, ◌≤◌, true, false, List, [], ◌∷◌, ◌++◌, length, filter, flat_map, codes, None, IsTrue, refl, ap, sym, ◌∙◌, subst, arith, append_assoc}
 use Rattle.std.specs.Prelude.{All}
 use Rattle.std.specs.Str.{bytes_eq}
 use Rattle.std.proofs.lemmas.Slice.Eq.{bytes_eq-Decides}
@@ -9,13 +9,13 @@ use Rattle.opgen_design.specs.declared.design.Port.{Port}
 use Rattle.opgen_design.specs.declared.design.Signal.{Signal}
 use Rattle.opgen_design.specs.Order.{is_register}
 use Rattle.opgen_design.specs.Names.{refused_words, is_allowed_name}
-use Rattle.opgen_text.specs.Symbols.{word, mark}
-use Rattle.opgen_text.specs.DesignText.{is_neither, is_output, port_text, entity_text, signal_text, driver_text, drivers_text, architecture_text, text_of}
-use Rattle.opgen_text.specs.Shaped.{IsShaped, IsWritable}
-use Rattle.opgen_text.specs.Spelled.{Spells}
-use Rattle.opgen_text.specs.Statements.{Reading, nothing, end_of_piece, library_clause, use_logic, use_numeric, entity, port, last_port, end_entity, of_unit, architecture, begin}
-use Rattle.opgen_text.specs.declared.kind.TokenKind.TheVariants.{LeftParen, RightParen, Semicolon, Colon, Dot}
-use Rattle.opgen_text.specs.declared.place.Place.TheVariants.{Library, UseLogic, UseNumeric, Entity, Ports, EndEntity, Architecture, Declarations, Body}
+use Rattle.opgen_vhdl.specs.Symbols.{word, mark}
+use Rattle.opgen_vhdl.specs.DesignText.{is_neither, is_output, port_text, entity_text, signal_text, driver_text, drivers_text, architecture_text, text_of}
+use Rattle.opgen_vhdl.specs.Shaped.{IsShaped, IsWritable}
+use Rattle.opgen_vhdl.specs.Spelled.{Spells}
+use Rattle.opgen_vhdl.specs.Statements.{Reading, nothing, end_of_piece, library_clause, use_logic, use_numeric, entity, port, last_port, end_entity, of_unit, architecture, begin}
+use Rattle.opgen_vhdl.specs.declared.kind.TokenKind.TheVariants.{LeftParen, RightParen, Semicolon, Colon, Dot}
+use Rattle.opgen_vhdl.specs.declared.place.Place.TheVariants.{Library, UseLogic, UseNumeric, Entity, Ports, EndEntity, Architecture, Declarations, Body}
 use Rattle.opgen_write.proofs.Lexing.{lexes_found}
 use Rattle.opgen_write.proofs.Words.{lexes_name}
 use Rattle.opgen_write.proofs.Expressions.{AreFound}
@@ -23,8 +23,8 @@ use Rattle.opgen_write.proofs.Places.{are_found}
 use Rattle.opgen_write.proofs.Drivers.{DriverFits}
 use Rattle.opgen_write.proofs.Leading.{Leads, leads_on, leads_behind, each_leads, all_first, all_rest, leads_spell}
 use Rattle.opgen_write.proofs.Declarations.{PortFits, port_behind, port_text-behind, port_symbols, lexes_port, port_is, SignalFits, Declares, signal_written}
-use Rattle.opgen_write.proofs.Bodies.{kept, neither-no_register, output-no_register, in_body, process_of, process_text-of, body_leads}
-use Rattle.opgen_write.proofs.Writable.{all_ports, all_signals, all_drivers}
+use Rattle.opgen_write.proofs.Bodies.{kept, some_passes, neither-no_register, output-no_register, in_body, process_of, process_text-of, body_leads}
+use Rattle.opgen_write.proofs.Writable.{all_ports, all_signals, all_drivers, enable_fits}
 
 rtl_allowed : IsTrue (is_allowed_name (codes "rtl"))
 unfolding refused_words
@@ -34,7 +34,7 @@ module _ (d : Design) (allowed : IsTrue (is_allowed_name d.name)) where
   -- what was read before the next port
   abbrev in_ports : List Port → Reading
   in_ports ps = record {
-    design = record { name = d.name; ports = ps; signals = []; drivers = [] };
+    design = record { name = d.name; ports = ps; signals = []; drivers = []; enable = None };
     architecture = [];
     agrees = true;
   }
@@ -42,7 +42,7 @@ module _ (d : Design) (allowed : IsTrue (is_allowed_name d.name)) where
   -- what was read before the next signal
   abbrev in_signals : List Signal → Reading
   in_signals ss = record {
-    design = record { name = d.name; ports = d.ports; signals = ss; drivers = [] };
+    design = record { name = d.name; ports = d.ports; signals = ss; drivers = []; enable = None };
     architecture = codes "rtl";
     agrees = bytes_eq d.name d.name;
   }
@@ -106,9 +106,9 @@ module _ (d : Design) (allowed : IsTrue (is_allowed_name d.name)) where
         (lexes_name d.name (codes " is\n" ++ rest) allowed refl _ (lexes_found 3 (codes " is\n" ++ rest) rest (word (codes "is") ∷ []) us refl m)))
         (λ ss next after t. architecture rtl_allowed allowed t) l)
 
-    begin_leads : Leads Body (in_body d []) rest q → Leads Declarations (in_signals d.signals) (codes "begin\n" ++ rest) q
+    begin_leads : Leads Body (in_body d None []) rest q → Leads Declarations (in_signals d.signals) (codes "begin\n" ++ rest) q
     begin_leads l =
-        leads_behind Declarations Body (in_signals d.signals) (in_body d []) q (codes "begin\n" ++ rest) rest (word (codes "begin") ∷ []) refl
+        leads_behind Declarations Body (in_signals d.signals) (in_body d None []) q (codes "begin\n" ++ rest) rest (word (codes "begin") ∷ []) refl
         (λ us m. lexes_found 2 (codes "begin\n" ++ rest) rest (word (codes "begin") ∷ []) us refl m) (λ ss next after t. begin t) l
 
     signals_lead : (ss done : List Signal) → All SignalFits ss → Leads Declarations (in_signals (done ++ ss)) rest q → Leads Declarations (in_signals done) (flat_map signal_text ss ++ rest) q
@@ -170,17 +170,18 @@ module _ (d : Design) (w : IsWritable d) (shape : IsShaped d) where
   outputs = filter is_output d.drivers
 
   abbrev read_last : Reading
-  read_last = in_body d (neither ++ registers ++ outputs)
+  read_last = in_body d d.enable (neither ++ registers ++ outputs)
 
   drivers_fit : All (DriverFits d) d.drivers
   drivers_fit = all_drivers d w.sound shape w.names
 
-  statements_lead : (p : Port) (ps : List Port) (e : d.ports ≡ p ∷ ps) → Leads Body (in_body d []) (statements_text d p ps e) read_last
+  statements_lead : (p : Port) (ps : List Port) (e : d.ports ≡ p ∷ ps) → Leads Body (in_body d None []) (statements_text d p ps e) read_last
   statements_lead p ps e =
       body_leads d found neither registers outputs
       (kept is_neither (DriverFits d) (λ k. (is_register k ≡ false) × DriverFits d k) (λ k h f. (neither-no_register k h, f)) d.drivers drivers_fit)
       (kept is_register (DriverFits d) (λ k. (is_register k ≡ true) × DriverFits d k) (λ k h f. (h, f)) d.drivers drivers_fit)
       (kept is_output (DriverFits d) (λ k. (is_register k ≡ false) × DriverFits d k) (λ k h f. (output-no_register k h, f)) d.drivers drivers_fit)
+      (enable_fits d w.sound shape w.names) (λ some. subst IsTrue (some_passes is_register d.drivers) (shape.enabled some))
 
   design_leads : (p : Port) (ps : List Port) (e : d.ports ≡ p ∷ ps) → Leads Library nothing (text_of d) read_last
   design_leads p ps e =
@@ -195,5 +196,5 @@ module _ (d : Design) (w : IsWritable d) (shape : IsShaped d) where
   pub spells : Spells (text_of d) d
   spells =
       let ports = first_port d.ports w.has_port in
-      subst (λ ks. Spells (text_of d) (record { name = d.name; ports = d.ports; signals = d.signals; drivers = ks })) (sym shape.in_order)
+      subst (λ ks. Spells (text_of d) (record { name = d.name; ports = d.ports; signals = d.signals; drivers = ks; enable = d.enable })) (sym shape.in_order)
       (leads_spell (text_of d) read_last (design_leads ports.0 ports.1 ports.2) ((bytes_eq-Decides d.name d.name).1 refl))

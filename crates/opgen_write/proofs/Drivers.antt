@@ -1,19 +1,19 @@
 -- The text of each driver is cut into one piece of symbols, which is its statement in the grammar.
-use Rattle.std.proofs.Common.{◌≡◌, ℕ, ◌<◌, ◌≤◌, Bool, true, false, List, [], ◌∷◌, ◌++◌, length, flat_map, codes, IsTrue, refl, ap, ◌∙◌, subst, append_assoc, true≢false}
+use Rattle.std.proofs.Common.{◌≡◌, ℕ, ◌<◌, ◌≤◌, Bool, true, false, List, [], ◌∷◌, ◌++◌, length, flat_map, codes, Option, Some, None, IsTrue, refl, ap, ◌∙◌, subst, append_assoc, true≢false}
 use Rattle.opgen_design.specs.declared.design.Design.{Design}
 use Rattle.opgen_design.specs.declared.design.Driver.{Driver}
 use Rattle.opgen_design.specs.declared.design.Driver.TheVariants.{Assign, Choice, Table, Register, Output}
 use Rattle.opgen_design.specs.Order.{is_register}
 use Rattle.opgen_design.specs.Names.{is_allowed_name}
 use Rattle.opgen_design.specs.Tree.{Tree}
-use Rattle.opgen_design.specs.Width.{nesting, max_nesting}
-use Rattle.opgen_text.specs.Symbols.{Symbol, word, string, mark}
-use Rattle.opgen_text.specs.ExpressionText.{signal_name, port_name, word_text, expression_text}
-use Rattle.opgen_text.specs.DesignText.{row_text, other_text, driver_text}
-use Rattle.opgen_text.specs.Shaped.{IsPart}
-use Rattle.opgen_text.specs.Grammar.{max_depth, IsExpression}
-use Rattle.opgen_text.specs.Statements.{names_of, end_of_piece, AreRows, others, row, IsConcurrent, assignment, output, choice, table, IsClocked, clocked}
-use Rattle.opgen_text.specs.declared.kind.TokenKind.TheVariants.{LeftParen, RightParen, Semicolon, Comma, Equal, LessEqual}
+use Rattle.opgen_design.specs.Width.{IsWidth, nesting, max_nesting}
+use Rattle.opgen_vhdl.specs.Symbols.{Symbol, word, string, mark}
+use Rattle.opgen_vhdl.specs.ExpressionText.{signal_name, port_name, word_text, expression_text}
+use Rattle.opgen_vhdl.specs.DesignText.{row_text, other_text, further_indent, driver_text}
+use Rattle.opgen_vhdl.specs.Shaped.{IsPart}
+use Rattle.opgen_vhdl.specs.Grammar.{max_depth, IsExpression}
+use Rattle.opgen_vhdl.specs.Statements.{names_of, end_of_piece, AreRows, others, row, IsConcurrent, assignment, output, choice, table, IsClocked, clocked}
+use Rattle.opgen_vhdl.specs.declared.kind.TokenKind.TheVariants.{LeftParen, RightParen, Semicolon, Comma, Equal, LessEqual}
 use Rattle.opgen_write.proofs.Lexing.{Lexes, lexes_found}
 use Rattle.opgen_write.proofs.Words.{lexes_name, lexes_word}
 use Rattle.opgen_write.proofs.Expressions.{AreWithin, within-append, Writes, AreFound, Fits, signal_part_written, expression_written}
@@ -30,19 +30,16 @@ pub record FitsWhole (d : Design) (e : Tree) : Type 0 where
   pub fits : Fits d e
   pub nests : nesting e ≤ max_nesting
 
--- a word that can be written
-abbrev pub IsShort : List Bool → Type 0
-IsShort w = (1 ≤ length w) × (length w ≤ 64)
-
+-- the addresses and words of rows can be written
 abbrev pub AreShort : List (List Bool × List Bool) → Type 0
 AreShort [] = Unit {0}
-AreShort (r ∷ rows) = IsShort r.0 × IsShort r.1 × AreShort rows
+AreShort (r ∷ rows) = IsWidth (length r.0) × IsWidth (length r.1) × AreShort rows
 
 -- a driver whose parts can be written
 abbrev pub DriverFits : Design → Driver → Type 0
 DriverFits d (Assign to e) = (to < length d.signals) × FitsWhole d e
 DriverFits d (Choice to on one other) = (to < length d.signals) × IsPart on × Fits d on × FitsWhole d one × FitsWhole d other
-DriverFits d (Table to on rows other) = (to < length d.signals) × IsPart on × Fits d on × AreShort rows × IsShort other
+DriverFits d (Table to on rows other) = (to < length d.signals) × IsPart on × Fits d on × AreShort rows × IsWidth (length other)
 DriverFits d (Register to e) = (to < length d.signals) × FitsWhole d e
 DriverFits d (Output p e) = (p < length d.ports) × FitsWhole d e
 
@@ -56,31 +53,35 @@ lexes_target n rest ks allowed l = lexes_name n (codes " <= " ++ rest) allowed r
 lexes_indent : (rest : List ℕ) (ks : List Symbol) → Lexes rest ks → Lexes (codes "  " ++ rest) ks
 lexes_indent rest ks l = lexes_found 2 (codes "  " ++ rest) rest [] ks refl l
 
+lexes_further : (e : Option ℕ) (rest : List ℕ) (ks : List Symbol) → Lexes rest ks → Lexes (further_indent e ++ rest) ks
+lexes_further None rest ks l = l
+lexes_further (Some p) rest ks l = lexes_indent rest ks l
+
 -- the rows of a table
 
-lexes_row : (r : List Bool × List Bool) (rest : List ℕ) (ks : List Symbol) → IsShort r.0 → IsShort r.1 → Lexes rest ks
+lexes_row : (r : List Bool × List Bool) (rest : List ℕ) (ks : List Symbol) → IsWidth (length r.0) → IsWidth (length r.1) → Lexes rest ks
     → Lexes (row_text r ++ rest) (string r.1 ∷ word (codes "when") ∷ string r.0 ∷ mark Comma ∷ ks)
 unfolding row_text
 lexes_row r rest ks a w l =
     let ended = lexes_found 2 (codes ",\n" ++ rest) rest (mark Comma ∷ []) ks refl l in
-    let address = lexes_word r.0 (codes ",\n" ++ rest) _ a.0 a.1 ended in
+    let address = lexes_word r.0 (codes ",\n" ++ rest) _ a ended in
     let behind = lexes_found 3 (codes " when " ++ (word_text r.0 ++ (codes ",\n" ++ rest))) _ (word (codes "when") ∷ []) _ refl address in
-    let here = lexes_word r.1 (codes " when " ++ (word_text r.0 ++ (codes ",\n" ++ rest))) _ w.0 w.1 behind in
+    let here = lexes_word r.1 (codes " when " ++ (word_text r.0 ++ (codes ",\n" ++ rest))) _ w behind in
     let whole = lexes_found 4 (codes "    " ++ (word_text r.1 ++ (codes " when " ++ (word_text r.0 ++ (codes ",\n" ++ rest))))) _ [] _ refl here in
     let text : row_text r ++ rest ≡ codes "    " ++ (word_text r.1 ++ (codes " when " ++ (word_text r.0 ++ (codes ",\n" ++ rest)))) = simp append_assoc in
     rw text whole
 
-lexes_other : (w : List Bool) (rest : List ℕ) (ks : List Symbol) → IsShort w → Lexes rest ks
+lexes_other : (w : List Bool) (rest : List ℕ) (ks : List Symbol) → IsWidth (length w) → Lexes rest ks
     → Lexes (other_text w ++ rest) (string w ∷ word (codes "when") ∷ word (codes "others") ∷ mark Semicolon ∷ ks)
 unfolding other_text
 lexes_other w rest ks s l =
     let behind = lexes_found 6 (codes " when others;\n" ++ rest) rest (word (codes "when") ∷ word (codes "others") ∷ mark Semicolon ∷ []) ks refl l in
-    let here = lexes_word w (codes " when others;\n" ++ rest) _ s.0 s.1 behind in
+    let here = lexes_word w (codes " when others;\n" ++ rest) _ s behind in
     let whole = lexes_found 4 (codes "    " ++ (word_text w ++ (codes " when others;\n" ++ rest))) _ [] _ refl here in
     let text : other_text w ++ rest ≡ codes "    " ++ (word_text w ++ (codes " when others;\n" ++ rest)) = simp append_assoc in
     rw text whole
 
-rows_written : (rows : List (List Bool × List Bool)) (other : List Bool) → AreShort rows → IsShort other → WritesPiece (AreRows rows other) (flat_map row_text rows ++ other_text other)
+rows_written : (rows : List (List Bool × List Bool)) (other : List Bool) → AreShort rows → IsWidth (length other) → WritesPiece (AreRows rows other) (flat_map row_text rows ++ other_text other)
 rows_written [] other rs s = record {
   symbols = string other ∷ word (codes "when") ∷ word (codes "others") ∷ [];
   within_piece = refl;
@@ -132,8 +133,8 @@ module _ (d : Design) (found : AreFound d) where
         symbols = word n ∷ mark LessEqual ∷ w.symbols;
         within_piece = w.within_piece;
         lexes = λ rest ks l.
-            let text : driver_text d (Register s e) ++ rest ≡ codes "      " ++ (n ++ (codes " <= " ++ (expression_text d e ++ (codes ";\n" ++ rest)))) = simp append_assoc in
-            rw text (lexes_indent _ _ (lexes_indent _ _ (lexes_indent _ _ (assigned s e rest ks f.0 w l))));
+            let text : driver_text d (Register s e) ++ rest ≡ further_indent d.enable ++ (codes "      " ++ (n ++ (codes " <= " ++ (expression_text d e ++ (codes ";\n" ++ rest))))) = simp append_assoc in
+            rw text (lexes_further d.enable _ _ (lexes_indent _ _ (lexes_indent _ _ (lexes_indent _ _ (assigned s e rest ks f.0 w l)))));
         says = subst (λ k. IsClocked (names_of d) (Register k e) (word n ∷ mark LessEqual ∷ (w.symbols ++ end_of_piece))) at.first (clocked at.allowed (w.reads end_of_piece));
       }
 

@@ -9,14 +9,15 @@ use Rattle.opgen_design.specs.declared.expr.Op.TheVariants as op
 use Rattle.opgen_design.specs.Names.{is_allowed_name}
 use Rattle.opgen_design.specs.Tree as tree
 use Rattle.opgen_design.specs.Tree.{Tree, Trees}
-use Rattle.opgen_design.specs.Width.{in_chain, in_not, nesting, operands_nesting}
-use Rattle.opgen_text.specs.Bytes.{is_word_byte, begins}
-use Rattle.opgen_text.specs.Symbols.{Symbol, word, number, string, mark, is_semicolon}
-use Rattle.opgen_text.specs.ExpressionText.{signal_name, port_name, word_text, range_text, operator_text, within, expression_text, further_text}
-use Rattle.opgen_text.specs.Shaped.{IsPart, AreTwoOrMore}
-use Rattle.opgen_text.specs.Grammar.{place_of, operator, IsSignalPart, whole, slice, IsPrimary, signal, literal, input, group, IsFactor, plain, opposite, AreOperands, done, next, IsExpression, single, several}
-use Rattle.opgen_text.specs.Statements.{names_of}
-use Rattle.opgen_text.specs.declared.kind.TokenKind.TheVariants.{LeftParen, RightParen}
+use Rattle.opgen_num.specs.declared.TheConstants.{MAX_WIDTH}
+use Rattle.opgen_design.specs.Width.{IsWidth, in_chain, in_not, nesting, operands_nesting}
+use Rattle.opgen_vhdl.specs.Bytes.{is_word_byte, begins}
+use Rattle.opgen_vhdl.specs.Symbols.{Symbol, word, number, string, mark, is_semicolon}
+use Rattle.opgen_vhdl.specs.ExpressionText.{signal_name, port_name, word_text, range_text, operator_text, within, expression_text, further_text}
+use Rattle.opgen_vhdl.specs.Shaped.{IsPart, AreTwoOrMore}
+use Rattle.opgen_vhdl.specs.Grammar.{place_of, operator, IsSignalPart, whole, slice, IsPrimary, signal, literal, input, group, IsFactor, plain, opposite, AreOperands, done, next, IsExpression, single, several}
+use Rattle.opgen_vhdl.specs.Statements.{names_of}
+use Rattle.opgen_vhdl.specs.declared.kind.TokenKind.TheVariants.{LeftParen, RightParen}
 use Rattle.opgen_write.proofs.Lexing.{Lexes, lexes_found}
 use Rattle.opgen_write.proofs.Words.{lexes_name, lexes_range, lexes_word, value_of-decimal}
 
@@ -51,8 +52,8 @@ pub record AreFound (d : Design) : Type 0 where
 abbrev mutual
   pub Fits : Design → Tree → Type 0
   Fits d (tree.name n) = n < length d.signals
-  Fits d (tree.part n high low) = (n < length d.signals) × (high ≤ 63) × (low ≤ 63)
-  Fits d (tree.bits w) = (1 ≤ length w) × (length w ≤ 64)
+  Fits d (tree.part n high low) = (n < length d.signals) × (high < MAX_WIDTH) × (low < MAX_WIDTH)
+  Fits d (tree.bits w) = IsWidth (length w)
   Fits d (tree.port n) = n < length d.ports
   Fits d (tree.inverse t) = Fits d t
   Fits d (tree.chain o ts) = AreTwoOrMore ts × FitAll d ts
@@ -107,7 +108,7 @@ module _ (d : Design) (found : AreFound d) where
         reads = λ ks. subst (λ k. IsSignalPart (names_of d) (tree.name k) (word n ∷ ks) ks) f.first (whole f.allowed);
       }
 
-  part_written : (s high low : ℕ) → s < length d.signals → high ≤ 63 → low ≤ 63 → Writes (IsSignalPart (names_of d) (tree.part s high low)) (signal_name d s ++ range_text high low)
+  part_written : (s high low : ℕ) → s < length d.signals → high < MAX_WIDTH → low < MAX_WIDTH → Writes (IsSignalPart (names_of d) (tree.part s high low)) (signal_name d s ++ range_text high low)
   part_written s high low h i j =
       let n = signal_name d s in
       let f = found.signals s h in
@@ -125,11 +126,11 @@ module _ (d : Design) (found : AreFound d) where
             (slice f.allowed (omega (arith, v, i)) (omega (arith, u, j)));
       }
 
-  literal_written : (depth : ℕ) (w : List Bool) → 1 ≤ length w → length w ≤ 64 → Writes (IsPrimary (names_of d) depth (tree.bits w)) (word_text w)
-  literal_written depth w some short = record {
+  literal_written : (depth : ℕ) (w : List Bool) → IsWidth (length w) → Writes (IsPrimary (names_of d) depth (tree.bits w)) (word_text w)
+  literal_written depth w width = record {
     symbols = string w ∷ [];
     within_piece = refl;
-    lexes = λ rest ks stops l. lexes_word w rest ks some short l;
+    lexes = λ rest ks stops l. lexes_word w rest ks width l;
     reads = λ ks. literal;
   }
 
@@ -161,7 +162,7 @@ module _ (d : Design) (found : AreFound d) where
   primary_written : (depth : ℕ) (t : Tree) → in_not t ≡ 0 → Fits d t → Writes (IsPrimary (names_of d) depth t) (expression_text d t)
   primary_written depth (tree.name s) h f = written_as _ _ _ (λ ss ks i. signal i) (name_written s f)
   primary_written depth (tree.part s high low) h f = written_as _ _ _ (λ ss ks i. signal i) (part_written s high low f.0 f.1 f.2)
-  primary_written depth (tree.bits w) h f = literal_written depth w f.0 f.1
+  primary_written depth (tree.bits w) h f = literal_written depth w f
   primary_written depth (tree.port p) h f = input_written depth p f
   primary_written depth (tree.inverse t) h f = absurd (omega (arith, h))
   primary_written depth (tree.chain o ts) h f = absurd (omega (arith, h))

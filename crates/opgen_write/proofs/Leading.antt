@@ -3,12 +3,12 @@ use Rattle.std.proofs.Common.{◌≡◌, Bool, true, false, not, ℕ, suc, List,
 use Rattle.std.specs.Prelude.{All}
 use Rattle.std.specs.List.{list_all}
 use Rattle.std.proofs.lemmas.Bool.{and_parts}
-use Rattle.opgen_text.specs.Symbols.{Symbol, mark, is_semicolon, pieces}
-use Rattle.opgen_text.specs.Statements.{Reading, nothing, end_of_piece, Takes, Follows, stay, onward}
-use Rattle.opgen_text.specs.Spelled.{Spells}
-use Rattle.opgen_text.specs.declared.kind.TokenKind.TheVariants.{Semicolon}
-use Rattle.opgen_text.specs.declared.place.Place.{Place}
-use Rattle.opgen_text.specs.declared.place.Place.TheVariants.{Library, End}
+use Rattle.opgen_vhdl.specs.Symbols.{Symbol, mark, is_semicolon, pieces}
+use Rattle.opgen_vhdl.specs.Statements.{Reading, nothing, end_of_piece, Takes, Follows, stay, onward}
+use Rattle.opgen_vhdl.specs.Spelled.{Spells}
+use Rattle.opgen_vhdl.specs.declared.kind.TokenKind.TheVariants.{Semicolon}
+use Rattle.opgen_vhdl.specs.declared.place.Place.{Place}
+use Rattle.opgen_vhdl.specs.declared.place.Place.TheVariants.{Library, End}
 use Rattle.opgen_write.proofs.Lexing.{Lexes, lexes_tokens}
 use Rattle.opgen_write.proofs.Expressions.{AreWithin}
 use Rattle.opgen_write.proofs.Drivers.{WritesPiece}

@@ -2,7 +2,7 @@
 use Rattle.std.proofs.Common.{◌≡◌, ℕ, ◌≤◌, List, [], ◌∷◌, ◌++◌, length, flat_map, codes, ap, arith, append_assoc, length-append}
 use Rattle.opgen_design.specs.declared.design.Design.{Design}
 use Rattle.opgen_design.specs.declared.design.Signal.{Signal}
-use Rattle.opgen_text.specs.DesignText.{is_neither, is_output, entity_text, signal_text, drivers_text, process_text, architecture_text, text_of}
+use Rattle.opgen_vhdl.specs.DesignText.{is_neither, is_output, entity_text, signal_text, drivers_text, process_text, architecture_text, text_of}
 
 signal_some : (s : Signal) → 1 ≤ length (signal_text s)
 unfolding signal_text

@@ -1,15 +1,15 @@
 -- Which symbols the bytes of a text are cut into, from the front of the text on.
 use Rattle.std.proofs.Common.{◌≡◌, ℕ, zero, suc, List, [], ◌∷◌, ◌++◌, take, drop, map, Option, Some, None, option_map, unwrap_or, refl, ap, sym, ◌∙◌, subst, take-append-drop}
-use Rattle.opgen_text.specs.Fronts.{front_of, FrontStands}
-use Rattle.opgen_text.specs.Tokens.{Element, gap, token, Stands, IsToken, Cut, tokens_from, Tokens}
-use Rattle.opgen_text.specs.Spans.{spellings_of}
-use Rattle.opgen_text.specs.Symbols.{Symbol, symbol_of, symbols}
-use Rattle.opgen_text.specs.declared.kind.Front.{Front}
-use Rattle.opgen_text.specs.declared.kind.Front.TheVariants as front
-use Rattle.opgen_text.specs.declared.kind.Token.{Token}
-use Rattle.opgen_text.specs.declared.kind.TokenKind.{TokenKind}
-use Rattle.opgen_text.proofs.FrontLemmas.{front_stands}
-use Rattle.opgen_text.proofs.SpanLemmas.{tokens-spellings}
+use Rattle.opgen_vhdl.specs.Fronts.{front_of, FrontStands}
+use Rattle.opgen_vhdl.specs.Tokens.{Element, gap, token, Stands, IsToken, Cut, tokens_from, Tokens}
+use Rattle.opgen_vhdl.specs.Spans.{spellings_of}
+use Rattle.opgen_vhdl.specs.Symbols.{Symbol, symbol_of, symbols}
+use Rattle.opgen_vhdl.specs.declared.kind.Front.{Front}
+use Rattle.opgen_vhdl.specs.declared.kind.Front.TheVariants as front
+use Rattle.opgen_vhdl.specs.declared.kind.Token.{Token}
+use Rattle.opgen_vhdl.specs.declared.kind.TokenKind.{TokenKind}
+use Rattle.opgen_vhdl.proofs.FrontLemmas.{front_stands}
+use Rattle.opgen_vhdl.proofs.SpanLemmas.{tokens-spellings}
 
 -- the bytes are cut into elements, whose tokens are these symbols
 pub record Lexes (bytes : List ℕ) (ss : List Symbol) : Type 0 where

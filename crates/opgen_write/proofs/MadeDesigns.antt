@@ -17,8 +17,8 @@ use Rattle.opgen_net.specs.Made.{slice_tree, node_driver, each_node, output_driv
 use Rattle.opgen_design.specs.Order.{is_register}
 use Rattle.opgen_design.proofs.WidthLaws.{some_before}
 use Rattle.opgen_net.proofs.Standing.{all_stand}
-use Rattle.opgen_text.specs.DesignText.{is_output, is_neither}
-use Rattle.opgen_text.specs.Shaped.{HasFullChains, HaveFullChains, IsShapedExpression, IsShapedDriver, IsShaped}
+use Rattle.opgen_vhdl.specs.DesignText.{is_output, is_neither}
+use Rattle.opgen_vhdl.specs.Shaped.{HasFullChains, HaveFullChains, IsShapedExpression, IsShapedDriver, IsShaped}
 use Rattle.opgen_write.proofs.Leading.{all_first, all_rest, not_true}
 use Rattle.opgen_write.proofs.Bodies.{kept}
 
@@ -168,4 +168,5 @@ module _ (called : List ℕ) (net : Net) (valid : IsValid net) where
             (kept (λ k. not (is_register k)) (λ k. is_output k ≡ false) IsPlain (λ k h e. (not_true (is_register k) h, e)) nodes none)
             (kept is_register (λ k. is_output k ≡ false) IsClockedDriver (λ k h e. (h, e)) nodes none)
             (outputs-output ws (length net.inputs) net.outputs);
+        enabled = λ some. absurd cc;
       }

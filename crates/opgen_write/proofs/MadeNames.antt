@@ -16,7 +16,7 @@ use Rattle.opgen_net.specs.Made.{signal_name, node_signal, each_node, input_port
 use Rattle.opgen_net.specs.Named.{IsNamed}
 use Rattle.opgen_design.specs.Names.{refused_words, is_refused, is_underscore, is_name_byte, ends_with_underscore, has_double_underscore, is_allowed_name}
 use Rattle.opgen_design.specs.Sound.{IsSound}
-use Rattle.opgen_text.specs.Shaped.{IsWritable}
+use Rattle.opgen_vhdl.specs.Shaped.{IsWritable}
 use Rattle.opgen_write.proofs.Leading.{all_first, all_rest}
 
 -- a digit is a byte of names, and no underscore

@@ -14,10 +14,10 @@ use Rattle.opgen_design.specs.declared.design.Signal.{Signal}
 use Rattle.opgen_design.specs.Names.{is_allowed_name}
 use Rattle.opgen_design.specs.Sound as sound
 use Rattle.opgen_design.specs.Sound.{IsSound, IsNewName, DeclaredTwice, SignalPasses, PortPasses, at_port, at_signal}
-use Rattle.opgen_text.specs.ExpressionText.{signal_name, port_name}
-use Rattle.opgen_text.specs.Grammar.{place_of}
-use Rattle.opgen_text.specs.Shaped.{HasAllowedNames}
-use Rattle.opgen_text.specs.Statements.{names_of}
+use Rattle.opgen_vhdl.specs.ExpressionText.{signal_name, port_name}
+use Rattle.opgen_vhdl.specs.Grammar.{place_of}
+use Rattle.opgen_vhdl.specs.Shaped.{HasAllowedNames}
+use Rattle.opgen_vhdl.specs.Statements.{names_of}
 use Rattle.opgen_write.proofs.Expressions.{IsFound, AreFound}
 
 differs : (a b : List ℕ) → b ≢ a → bytes_eq a b ≡ false

@@ -10,13 +10,15 @@ use Rattle.std.proofs.lemmas.List.{map-append, reverse-append, reverse-reverse}
 use Rattle.std.proofs.lemmas.List.Elements.{filter-append}
 use Rattle.std.proofs.lemmas.List.Folds.{list_all-append}
 use Rattle.std.proofs.lemmas.List.Sums.{AllPass-from_list_all}
+use Rattle.opgen_num.specs.declared.TheConstants.{MAX_WIDTH}
 use Rattle.opgen_design.specs.Names.{is_allowed_name, is_name_byte, is_identifier, is_refused, starts_with_letter, has_single_underscores}
-use Rattle.opgen_text.specs.Bytes.{is_word_byte, is_bit, begins}
-use Rattle.opgen_text.specs.Tokens.{IsWord, IsBits}
-use Rattle.opgen_text.specs.Symbols.{Symbol, word, number, string, mark, bits_in}
-use Rattle.opgen_text.specs.ExpressionText.{bits_text, word_text, range_text}
-use Rattle.opgen_text.specs.Grammar.{value}
-use Rattle.opgen_text.specs.declared.kind.TokenKind.TheVariants.{Word, Number, Bits, LeftParen, RightParen}
+use Rattle.opgen_design.specs.Width.{IsWidth}
+use Rattle.opgen_vhdl.specs.Bytes.{is_word_byte, is_bit, begins}
+use Rattle.opgen_vhdl.specs.Tokens.{IsWord, IsBits}
+use Rattle.opgen_vhdl.specs.Symbols.{Symbol, word, number, string, mark, bits_in}
+use Rattle.opgen_vhdl.specs.ExpressionText.{bits_text, word_text, range_text}
+use Rattle.opgen_vhdl.specs.Grammar.{value}
+use Rattle.opgen_vhdl.specs.declared.kind.TokenKind.TheVariants.{Word, Number, Bits, LeftParen, RightParen}
 use Rattle.opgen_write.proofs.Lexing.{Lexes, lexes_token, lexes_found}
 
 -- names
@@ -94,11 +96,11 @@ digits : (ds : List ℕ) → AllDigits 10 ds → list_all is_ascii_digit ds ≡ 
 digits [] h = refl
 digits (c ∷ cs) h = rw (digit c h.0, digits cs h.1) refl
 
--- the digits of a number below 64 stand for it, and are a number where no word byte follows
-pub value_of-decimal : (n : ℕ) → n ≤ 63 → value (decimal n) ≡ n
+-- the digits of the number of a bit stand for it, and are a number where no word byte follows
+pub value_of-decimal : (n : ℕ) → n < MAX_WIDTH → value (decimal n) ≡ n
 value_of-decimal n h = (decimal_is_IsNumeral n (omega (arith, h))).1
 
-pub lexes_number : (n : ℕ) (rest : List ℕ) (ks : List Symbol) → n ≤ 63 → begins is_word_byte rest ≡ false → Lexes rest ks → Lexes (decimal n ++ rest) (number (decimal n) ∷ ks)
+pub lexes_number : (n : ℕ) (rest : List ℕ) (ks : List Symbol) → n < MAX_WIDTH → begins is_word_byte rest ≡ false → Lexes rest ks → Lexes (decimal n ++ rest) (number (decimal n) ∷ ks)
 lexes_number n rest ks h stops l =
     let numeral = (decimal_is_IsNumeral n (omega (arith, h))).0 in
     let short = length-decimal-le 2 n (omega arith) (omega (arith, h)) (omega (arith, h)) in
@@ -110,7 +112,7 @@ lexes_number n rest ks h stops l =
     }) l
 
 -- the range of bits, whose texts end themselves
-pub lexes_range : (high low : ℕ) (rest : List ℕ) (ks : List Symbol) → high ≤ 63 → low ≤ 63 → Lexes rest ks
+pub lexes_range : (high low : ℕ) (rest : List ℕ) (ks : List Symbol) → high < MAX_WIDTH → low < MAX_WIDTH → Lexes rest ks
     → Lexes (range_text high low ++ rest) (mark LeftParen ∷ number (decimal high) ∷ word (codes "downto") ∷ number (decimal low) ∷ mark RightParen ∷ ks)
 unfolding range_text
 lexes_range high low rest ks h k l =
@@ -154,16 +156,16 @@ bits_in-word_text w =
     let read : values (bits_text w ++ codes "\"") ≡ reverse w = values-append (bits_text w) (codes "\"") ∙ append-nil (values (bits_text w)) ∙ values-bits_text w in
     ap reverse read ∙ reverse-reverse w
 
-word_text-is_bits : (w : List Bool) → 1 ≤ length w → length w ≤ 64 → IsBits (word_text w)
+word_text-is_bits : (w : List Bool) → IsWidth (length w) → IsBits (word_text w)
 unfolding word_text
-word_text-is_bits w some short = record {
+word_text-is_bits w width = record {
   digits = bits_text w;
   quoted = refl;
-  some = omega (arith, some, length-bits_text w);
-  short = omega (arith, short, length-bits_text w);
+  some = omega (arith, width.0, length-bits_text w);
+  short = omega (arith, width.1, length-bits_text w);
   bytes = AllPass-from_list_all is_bit (bits_text w) (bits_are_bits w);
 }
 
-pub lexes_word : (w : List Bool) (rest : List ℕ) (ks : List Symbol) → 1 ≤ length w → length w ≤ 64 → Lexes rest ks → Lexes (word_text w ++ rest) (string w ∷ ks)
-lexes_word w rest ks some short l =
-    subst (λ u. Lexes (word_text w ++ rest) (string u ∷ ks)) (bits_in-word_text w) (lexes_token Bits (word_text w) rest ks (word_text-is_bits w some short) l)
+pub lexes_word : (w : List Bool) (rest : List ℕ) (ks : List Symbol) → IsWidth (length w) → Lexes rest ks → Lexes (word_text w ++ rest) (string w ∷ ks)
+lexes_word w rest ks width l =
+    subst (λ u. Lexes (word_text w ++ rest) (string u ∷ ks)) (bits_in-word_text w) (lexes_token Bits (word_text w) rest ks (word_text-is_bits w width) l)

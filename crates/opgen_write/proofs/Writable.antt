@@ -3,25 +3,26 @@ use Rattle.std.proofs.Common.{◌≡◌, ℕ, ◌<◌, ◌≤◌, Bool, List, []
 use Rattle.std.specs.Prelude.{All}
 use Rattle.std.proofs.lemmas.List.{get_or-map, length-map}
 use Rattle.std.proofs.lemmas.Option.{slice_get-get_or, slice_get_within, get_or_from_slice_get}
+use Rattle.opgen_num.specs.declared.TheConstants.{MAX_WIDTH}
 use Rattle.opgen_design.specs.declared.design.Design.{Design}
 use Rattle.opgen_design.specs.declared.design.Driver.{Driver}
 use Rattle.opgen_design.specs.declared.design.Driver.TheVariants.{Assign, Choice, Table, Register, Output}
 use Rattle.opgen_design.specs.Tree as tree
 use Rattle.opgen_design.specs.Tree.{Tree}
 use Rattle.opgen_design.specs.Reads.{AllReads}
-use Rattle.opgen_design.specs.Width.{width}
-use Rattle.opgen_design.specs.Sound.{IsSound, IsDeclared, Undeclared, Width, signal_widths, port_widths, HasWidth, WidthsAgree, PortPasses, SignalPasses, DriverPasses, at_port, at_signal, at_driver}
+use Rattle.opgen_design.specs.Width.{IsWidth, width}
+use Rattle.opgen_design.specs.Sound.{IsSound, IsDeclared, Undeclared, Width, signal_widths, port_widths, HasWidth, WidthsAgree, PortPasses, SignalPasses, DriverPasses, at_design, at_port, at_signal, at_driver}
 use Rattle.opgen_design.proofs.WidthLaws.{width-is_width}
-use Rattle.opgen_text.specs.Shaped.{IsPart, HasFullChains, IsShapedExpression, IsShapedDriver, IsShaped, HasAllowedNames}
+use Rattle.opgen_vhdl.specs.Shaped.{IsPart, HasFullChains, IsShapedExpression, IsShapedDriver, IsShaped, HasAllowedNames}
 use Rattle.opgen_write.proofs.Fitting.{fits}
 use Rattle.opgen_write.proofs.Drivers.{AreShort, FitsWhole, DriverFits}
-use Rattle.opgen_write.proofs.Declarations.{IsSmall, PortFits, InitialFits, SignalFits}
+use Rattle.opgen_write.proofs.Declarations.{PortFits, InitialFits, SignalFits}
 use Rattle.opgen_write.proofs.Leading.{all_first, all_rest}
 use Rattle.opgen_write.proofs.Places.{no_signal}
 
-initial_fits : (initial : Option (List Bool)) (w : ℕ) → IsSmall w → IfSome initial (λ v. length v ≡ w) → InitialFits initial
-initial_fits None w small h = tt
-initial_fits (Some v) w small h = (omega (arith, h, small.0), omega (arith, h, small.1))
+initial_fits : (initial : Option (List Bool)) (w : ℕ) → IsWidth w → IfSome initial (λ v. length v ≡ w) → InitialFits initial
+initial_fits None w wide h = tt
+initial_fits (Some v) w wide h = (omega (arith, h, wide.0), omega (arith, h, wide.1))
 
 some_of : (o : Option ℕ) → IsSome o → (w : ℕ) × (o ≡ Some w)
 some_of None h = absurd cc
@@ -39,22 +40,25 @@ module _ (d : Design) (s : IsSound d) (shape : IsShaped d) (names : HasAllowedNa
   pub all_ports : All PortFits d.ports
   all_ports = λ k e b. record {
     allowed = names.ports k e b;
-    small = subst (λ o. IfSome o (PortPasses d Width k)) (slice_get-get_or d.ports k e b) (s.widths (at_port k));
+    wide = subst (λ o. IfSome o (PortPasses d Width k)) (slice_get-get_or d.ports k e b) (s.widths (at_port k));
   }
+
+  pub enable_fits : IfSome d.enable (λ p. p < length d.ports)
+  enable_fits = s.declared at_design
 
   pub all_signals : All SignalFits d.signals
   all_signals = λ k e b.
       let wide = subst (λ o. IfSome o (SignalPasses d Width k)) (slice_get-get_or d.signals k e b) (s.widths (at_signal k)) in
       let x = get_or d.signals k e in
-      record { allowed = names.signals k e b; small = wide.0; initial = initial_fits x.initial x.width wide.0 wide.1 }
+      record { allowed = names.signals k e b; wide = wide.0; initial = initial_fits x.initial x.width wide.0 wide.1 }
 
-  width_small : (i : ℕ) → i < length d.signals → IsSmall (slice_index (signal_widths d) i)
-  width_small i h = subst IsSmall (sym (get_or-map (λ q. q.width) d.signals i no_signal 0 h)) (all_signals i no_signal h).small
+  width_wide : (i : ℕ) → i < length d.signals → IsWidth (slice_index (signal_widths d) i)
+  width_wide i h = subst IsWidth (sym (get_or-map (λ q. q.width) d.signals i no_signal 0 h)) (all_signals i no_signal h).wide
 
-  short : (i w : ℕ) → slice_get (signal_widths d) i ≡ Some w → w ≤ 64
+  short : (i w : ℕ) → slice_get (signal_widths d) i ≡ Some w → w ≤ MAX_WIDTH
   short i w e =
       let within : i < length d.signals = omega (arith, slice_get_within (signal_widths d) i w e, length-map d.signals (λ q. q.width)) in
-      omega (arith, get_or_from_slice_get (signal_widths d) i w 0 e, (width_small i within).1)
+      omega (arith, get_or_from_slice_get (signal_widths d) i w 0 e, (width_wide i within).1)
 
   expression_fits : (e : Tree) (w : ℕ) → IsShapedExpression e → AllReads (λ q. q < length d.signals) (λ p. p < length d.ports) e → HasWidth d e w → FitsWhole d e
   expression_fits e w shaped reads h = record { fits = fits d short e w reads shaped.chains h; nests = shaped.nests }
@@ -64,9 +68,9 @@ module _ (d : Design) (s : IsSound d) (shape : IsShaped d) (names : HasAllowedNa
   rows_short to on [] h all = tt
   rows_short to on (r ∷ rows) h all =
       let here = all_first (λ r. HasWidth d on (length r.0) × (length r.1 ≡ slice_index (signal_widths d) to)) r rows all in
-      let small = width_small to h in (
+      let wide = width_wide to h in (
         width-is_width (signal_widths d) (port_widths d) on (length r.0) here.0,
-        (omega (arith, here.1, small.0), omega (arith, here.1, small.1)),
+        (omega (arith, here.1, wide.0), omega (arith, here.1, wide.1)),
         rows_short to on rows h (all_rest (λ r. HasWidth d on (length r.0) × (length r.1 ≡ slice_index (signal_widths d) to)) r rows all),
       )
 
@@ -81,12 +85,12 @@ module _ (d : Design) (s : IsSound d) (shape : IsShaped d) (names : HasAllowedNa
   )
   driver_fits (Table to on rows other) declared w shaped =
       let on_width = some_of (width (signal_widths d) (port_widths d) on) w.1 in
-      let small = width_small to declared.target in (
+      let wide = width_wide to declared.target in (
         declared.target,
         shaped,
         fits d short on on_width.0 declared.reads (part_chains on shaped) on_width.1,
         rows_short to on rows declared.target w.0,
-        (omega (arith, w.2, small.0), omega (arith, w.2, small.1)),
+        (omega (arith, w.2, wide.0), omega (arith, w.2, wide.1)),
       )
   driver_fits (Register to e) declared w shaped = (declared.target, expression_fits e _ shaped declared.reads w)
   driver_fits (Output p e) declared w shaped = (declared.target, expression_fits e _ shaped declared.reads w)

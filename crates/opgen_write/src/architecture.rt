@@ -2,9 +2,9 @@
 ghost use Rattle.std.specs.Prelude.{◌≡◌, ◌++◌, OnOk, string_bytes};
 ghost use Rattle.std.specs.List.{flat_map, list_any};
 ghost use Rattle.opgen_design.specs.Order.{is_register};
-ghost use Rattle.opgen_text.specs.DesignText.{initial_text, signal_text, is_output, is_neither, drivers_text, process_text, architecture_text};
+ghost use Rattle.opgen_vhdl.specs.DesignText.{initial_text, signal_text, is_output, is_neither, enable_text, end_enable_text, drivers_text, process_text, architecture_text};
 
-use crate::expression::{put_range, put_word};
+use crate::expression::{port_name, put_range, put_word};
 use crate::statement::put_driver;
 use opgen_design::{Design, Driver, Signal};
 use opgen_num::Word;
@@ -22,7 +22,7 @@ fn put_initial(out: &mut String, initial: Option<Word>) -> Result<(), AllocError
     }
 }
 
-#[tactic(auto, unfolding(opgen_text::specs::DesignText::signal_text))]
+#[tactic(auto, unfolding(opgen_vhdl::specs::DesignText::signal_text))]
 fn put_signal(out: &mut String, signal: &Signal) -> Result<(), AllocError>
     ensures { OnOk result (string_bytes out.new ≡ string_bytes out.old ++ signal_text signal.now) }
 {
@@ -65,7 +65,7 @@ fn has_register(design: &Design) -> bool
 }
 
 // The drivers of signals outside the process.
-#[tactic(auto, unfolding(opgen_text::specs::DesignText::drivers_text))]
+#[tactic(auto, unfolding(opgen_vhdl::specs::DesignText::drivers_text))]
 fn put_concurrent(out: &mut String, design: &Design) -> Result<(), AllocError>
     ensures { OnOk result (string_bytes out.new ≡ string_bytes out.old ++ drivers_text design.now is_neither) }
 {
@@ -77,7 +77,7 @@ fn put_concurrent(out: &mut String, design: &Design) -> Result<(), AllocError>
     Ok(())
 }
 
-#[tactic(auto, unfolding(opgen_text::specs::DesignText::drivers_text))]
+#[tactic(auto, unfolding(opgen_vhdl::specs::DesignText::drivers_text))]
 fn put_registers(out: &mut String, design: &Design) -> Result<(), AllocError>
     ensures { OnOk result (string_bytes out.new ≡ string_bytes out.old ++ drivers_text design.now is_register) }
 {
@@ -89,7 +89,7 @@ fn put_registers(out: &mut String, design: &Design) -> Result<(), AllocError>
     Ok(())
 }
 
-#[tactic(auto, unfolding(opgen_text::specs::DesignText::drivers_text))]
+#[tactic(auto, unfolding(opgen_vhdl::specs::DesignText::drivers_text))]
 fn put_outputs(out: &mut String, design: &Design) -> Result<(), AllocError>
     ensures { OnOk result (string_bytes out.new ≡ string_bytes out.old ++ drivers_text design.now is_output) }
 {
@@ -101,8 +101,27 @@ fn put_outputs(out: &mut String, design: &Design) -> Result<(), AllocError>
     Ok(())
 }
 
+// The `if` round the registers of a design with an enable.
+fn put_enable(out: &mut String, design: &Design) -> Result<(), AllocError>
+    ensures { OnOk result (string_bytes out.new ≡ string_bytes out.old ++ enable_text design.now design.now.enable) }
+{
+    match design.enable {
+        Some(port) => writeln!(out, "      if {} = \"1\" then", port_name(design, port)),
+        None => Ok(()),
+    }
+}
+
+fn put_end_enable(out: &mut String, design: &Design) -> Result<(), AllocError>
+    ensures { OnOk result (string_bytes out.new ≡ string_bytes out.old ++ end_enable_text design.now.enable) }
+{
+    match design.enable {
+        Some(_) => out.push_str("      end if;\n"),
+        None => Ok(()),
+    }
+}
+
 // The process of the registers, where there is one.
-#[tactic(auto, unfolding(opgen_text::specs::DesignText::process_text))]
+#[tactic(auto, unfolding(opgen_vhdl::specs::DesignText::process_text))]
 fn put_process(out: &mut String, design: &Design) -> Result<(), AllocError>
     ensures { OnOk result (string_bytes out.new ≡ string_bytes out.old ++ process_text design.now) }
 {
@@ -110,12 +129,14 @@ fn put_process(out: &mut String, design: &Design) -> Result<(), AllocError>
         return Ok(());
     }
     out.push_str("  process (clk)\n  begin\n    if rising_edge(clk) then\n")?;
+    put_enable(out, design)?;
     put_registers(out, design)?;
+    put_end_enable(out, design)?;
     out.push_str("    end if;\n  end process;\n")?;
     Ok(())
 }
 
-#[tactic(auto, unfolding(opgen_text::specs::DesignText::architecture_text))]
+#[tactic(auto, unfolding(opgen_vhdl::specs::DesignText::architecture_text))]
 pub(crate) fn put_architecture(out: &mut String, design: &Design) -> Result<(), AllocError>
     ensures { OnOk result (string_bytes out.new ≡ string_bytes out.old ++ architecture_text design.now) }
 {

@@ -1,7 +1,7 @@
 //! The text of an entity.
 ghost use Rattle.std.specs.Prelude.{◌≡◌, ◌++◌, OnOk, string_bytes};
 ghost use Rattle.std.specs.List.{flat_map};
-ghost use Rattle.opgen_text.specs.DesignText.{direction_text, port_text, entity_text};
+ghost use Rattle.opgen_vhdl.specs.DesignText.{direction_text, port_text, entity_text};
 
 use crate::expression::put_range;
 use opgen_design::{Design, Dir, Port};
@@ -17,7 +17,7 @@ fn direction(dir: Dir) -> &'static str
 }
 
 // A port, after the `;` of the port before it.
-#[tactic(auto, unfolding(opgen_text::specs::DesignText::port_text))]
+#[tactic(auto, unfolding(opgen_vhdl::specs::DesignText::port_text))]
 fn put_port(out: &mut String, port: &Port) -> Result<(), AllocError>
     ensures { OnOk result (string_bytes out.new ≡ string_bytes out.old ++ port_text port.now) }
 {
@@ -36,7 +36,7 @@ fn put_ports(out: &mut String, design: &Design) -> Result<(), AllocError>
     Ok(())
 }
 
-#[tactic(auto, unfolding(opgen_text::specs::DesignText::entity_text))]
+#[tactic(auto, unfolding(opgen_vhdl::specs::DesignText::entity_text))]
 pub(crate) fn put_entity(out: &mut String, design: &Design) -> Result<(), AllocError>
     ensures { OnOk result (string_bytes out.new ≡ string_bytes out.old ++ entity_text design.now) }
 {

@@ -3,7 +3,7 @@ ghost use Rattle.std.specs.Prelude.{◌≡◌, ◌++◌, OnOk, decimal, string_b
 ghost use Rattle.opgen_num.specs.Words.{word};
 ghost use Rattle.opgen_design.specs.Plain.{plain, plain_all};
 ghost use Rattle.opgen_design.specs.Width.{in_chain, in_not};
-ghost use Rattle.opgen_text.specs.ExpressionText.{signal_name, port_name, bit_text, bits_text, word_text, range_text, operator_text, within, expression_text, chain_text};
+ghost use Rattle.opgen_vhdl.specs.ExpressionText.{signal_name, port_name, bit_text, bits_text, word_text, range_text, operator_text, within, expression_text, chain_text};
 
 use opgen_design::{Design, Expr, Op};
 use opgen_num::Word;
@@ -47,7 +47,7 @@ fn put_bits(out: &mut String, bits: u128, width: u32) -> Result<(), AllocError>
     put_bit(out, bits % 2 == 1)
 }
 
-#[tactic(auto, unfolding(opgen_text::specs::ExpressionText::word_text))]
+#[tactic(auto, unfolding(opgen_vhdl::specs::ExpressionText::word_text))]
 pub(crate) fn put_word(out: &mut String, word: Word) -> Result<(), AllocError>
     ensures { OnOk result (string_bytes out.new ≡ string_bytes out.old ++ word_text word) }
 {
@@ -56,7 +56,7 @@ pub(crate) fn put_word(out: &mut String, word: Word) -> Result<(), AllocError>
     out.push_str("\"")
 }
 
-#[tactic(auto, unfolding(opgen_text::specs::ExpressionText::range_text))]
+#[tactic(auto, unfolding(opgen_vhdl::specs::ExpressionText::range_text))]
 pub(crate) fn put_range(out: &mut String, high: u32, low: u32) -> Result<(), AllocError>
     ensures { OnOk result (string_bytes out.new ≡ string_bytes out.old ++ range_text high low) }
 {

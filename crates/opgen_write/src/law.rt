@@ -7,13 +7,13 @@ ghost use Rattle.opgen_net.specs.Made.{design_of};
 ghost use Rattle.opgen_net.specs.Named.{IsNamed};
 ghost use Rattle.opgen_design.specs.Sound.{IsSound};
 ghost use Rattle.opgen_net.specs.Valid.{IsValid};
-ghost use Rattle.opgen_text.specs.DesignText.{text_of};
-ghost use Rattle.opgen_text.specs.Shaped.{IsShaped, IsWritable};
-ghost use Rattle.opgen_text.specs.Spelled.{Spells};
+ghost use Rattle.opgen_vhdl.specs.DesignText.{text_of};
+ghost use Rattle.opgen_vhdl.specs.Shaped.{IsShaped, IsWritable};
+ghost use Rattle.opgen_vhdl.specs.Spelled.{Spells};
 
 /// The text of every design that is sound, stands under allowed names, has a port and has the
 /// subset's form spells that design: by the reader's own definitions, its statements give the
-/// design, with the same ports, signals, initial values and drivers in their order.
+/// design, with the same ports, signals, initial values and enable, and its drivers in their order.
 ///
 /// It holds for any number of ports and signals.
 pub fn text_spells()

@@ -3,14 +3,14 @@ ghost use Rattle.std.specs.Prelude.{◌≡◌, ◌++◌, OnOk, string_bytes, Lis
 ghost use Rattle.std.specs.List.{flat_map};
 ghost use Rattle.opgen_design.specs.Tree.{Tree};
 ghost use Rattle.opgen_design.specs.declared.design.Driver.TheVariants.{Assign, Choice, Table, Register, Output};
-ghost use Rattle.opgen_text.specs.DesignText.{row_text, other_text, driver_text};
+ghost use Rattle.opgen_vhdl.specs.DesignText.{row_text, other_text, further_indent, driver_text};
 
 use crate::expression::{port_name, put_expression, put_word, signal_name};
 use opgen_design::{Design, Driver, Formula};
 use opgen_num::Word;
 use std::alloc::AllocError;
 
-#[tactic(auto, unfolding(opgen_text::specs::DesignText::row_text))]
+#[tactic(auto, unfolding(opgen_vhdl::specs::DesignText::row_text))]
 fn put_row(out: &mut String, row: &(Word, Word)) -> Result<(), AllocError>
     ensures { OnOk result (string_bytes out.new ≡ string_bytes out.old ++ row_text row.now) }
 {
@@ -31,7 +31,7 @@ fn put_rows(out: &mut String, rows: &[(Word, Word)]) -> Result<(), AllocError>
 }
 
 // The row of every other address.
-#[tactic(auto, unfolding(opgen_text::specs::DesignText::other_text))]
+#[tactic(auto, unfolding(opgen_vhdl::specs::DesignText::other_text))]
 fn put_other(out: &mut String, word: Word) -> Result<(), AllocError>
     ensures { OnOk result (string_bytes out.new ≡ string_bytes out.old ++ other_text word) }
 {
@@ -41,7 +41,7 @@ fn put_other(out: &mut String, word: Word) -> Result<(), AllocError>
     Ok(())
 }
 
-#[tactic(auto, unfolding(opgen_text::specs::DesignText::driver_text))]
+#[tactic(auto, unfolding(opgen_vhdl::specs::DesignText::driver_text))]
 fn put_table(
     out: &mut String,
     design: &Design,
@@ -59,7 +59,7 @@ fn put_table(
     put_other(out, other)
 }
 
-#[tactic(auto, unfolding(opgen_text::specs::DesignText::driver_text))]
+#[tactic(auto, unfolding(opgen_vhdl::specs::DesignText::driver_text))]
 fn put_choice(
     out: &mut String,
     design: &Design,
@@ -80,7 +80,7 @@ fn put_choice(
 }
 
 // An assignment to a signal.
-#[tactic(auto, unfolding(opgen_text::specs::DesignText::driver_text))]
+#[tactic(auto, unfolding(opgen_vhdl::specs::DesignText::driver_text))]
 fn put_assignment(
     out: &mut String,
     design: &Design,
@@ -94,7 +94,32 @@ fn put_assignment(
     out.push_str(";\n")
 }
 
-#[tactic(auto, unfolding(opgen_text::specs::DesignText::driver_text))]
+// The registers of a design with an enable stand a level deeper.
+fn put_further_indent(out: &mut String, design: &Design) -> Result<(), AllocError>
+    ensures { OnOk result (string_bytes out.new ≡ string_bytes out.old ++ further_indent design.now.enable) }
+{
+    match design.enable {
+        Some(_) => out.push_str("  "),
+        None => Ok(()),
+    }
+}
+
+// An assignment two levels deeper, in the process.
+#[tactic(auto, unfolding(opgen_vhdl::specs::DesignText::driver_text))]
+fn put_register(
+    out: &mut String,
+    design: &Design,
+    to: usize,
+    expr: &Formula,
+) -> Result<(), AllocError>
+    ensures { OnOk result (string_bytes out.new ≡ string_bytes out.old ++ driver_text design.now (Register to expr.now)) }
+{
+    put_further_indent(out, design)?;
+    out.push_str("    ")?;
+    put_assignment(out, design, to, expr)
+}
+
+#[tactic(auto, unfolding(opgen_vhdl::specs::DesignText::driver_text))]
 fn put_output(
     out: &mut String,
     design: &Design,
@@ -109,7 +134,7 @@ fn put_output(
     Ok(())
 }
 
-#[tactic(auto, unfolding(opgen_text::specs::DesignText::driver_text))]
+#[tactic(auto, unfolding(opgen_vhdl::specs::DesignText::driver_text))]
 pub(crate) fn put_driver(
     out: &mut String,
     design: &Design,
@@ -126,11 +151,7 @@ pub(crate) fn put_driver(
             rows,
             other,
         } => put_table(out, design, *to, on, rows.as_slice(), *other),
-        // two levels deeper, in the process
-        Driver::Register { to, expr } => {
-            out.push_str("    ")?;
-            put_assignment(out, design, *to, expr)
-        }
+        Driver::Register { to, expr } => put_register(out, design, *to, expr),
         Driver::Output { port, expr } => put_output(out, design, *port, expr),
     }
 }

@@ -133,6 +133,88 @@ begin
 end architecture;
 "#;
 
+const ENABLED_THIRD: &str = r#"library ieee;
+use ieee.std_logic_1164.all;
+use ieee.numeric_std.all;
+
+entity third is
+  port (
+    clk : in std_logic;
+    ce : in std_logic_vector(0 downto 0);
+    x : in std_logic_vector(3 downto 0);
+    y : out std_logic_vector(2 downto 0)
+  );
+end entity;
+
+architecture rtl of third is
+  signal s0 : unsigned(3 downto 0);
+  signal s1 : unsigned(3 downto 0);
+  signal s1_1 : unsigned(3 downto 0) := "0000";
+  signal s2 : unsigned(3 downto 0);
+  signal s3 : unsigned(3 downto 0);
+begin
+  s0 <= unsigned(x);
+  with s0 select s1 <=
+    "0000" when "0000",
+    "0001" when "0001",
+    "0001" when "0010",
+    "0010" when "0011",
+    "0011" when "0100",
+    "0011" when "0101",
+    "0100" when "0110",
+    "0101" when "0111",
+    "0101" when "1000",
+    "0110" when "1001",
+    "0111" when "1010",
+    "0111" when "1011",
+    "1000" when "1100",
+    "1001" when "1101",
+    "1001" when "1110",
+    "1010" when others;
+  s2 <= "0001";
+  s3 <= s1_1 + s2;
+  process (clk)
+  begin
+    if rising_edge(clk) then
+      if ce = "1" then
+        s1_1 <= s1;
+      end if;
+    end if;
+  end process;
+  y <= std_logic_vector(s3(3 downto 1));
+end architecture;
+"#;
+
+const HELD: &str = r#"library ieee;
+use ieee.std_logic_1164.all;
+use ieee.numeric_std.all;
+
+entity held is
+  port (
+    clk : in std_logic;
+    a : in std_logic_vector(1 downto 0);
+    go : in std_logic_vector(0 downto 0);
+    y : out std_logic_vector(1 downto 0)
+  );
+end entity;
+
+architecture rtl of held is
+  signal s0 : unsigned(1 downto 0) := "01";
+  signal s1 : unsigned(1 downto 0) := "10";
+begin
+  process (clk)
+  begin
+    if rising_edge(clk) then
+      if go = "1" then
+        s0 <= unsigned(a);
+        s1 <= not s0;
+      end if;
+    end if;
+  end process;
+  y <= std_logic_vector(s1);
+end architecture;
+"#;
+
 fn port(alloc: Global, name: &str, dir: Dir, width: u32) -> Result<Port, AllocError> {
     let name = Text::from_str(alloc, name)?;
     Ok(Port { name, dir, width })
@@ -200,6 +282,7 @@ fn times3(alloc: Global) -> Result<Design, AllocError> {
         ports: Items::from_vec(vec![in alloc; x, y]?),
         signals: Items::from_vec(vec![in alloc; s0, s1]?),
         drivers: Items::from_vec(drivers),
+        enable: None,
     })
 }
 
@@ -268,6 +351,7 @@ fn mixed(alloc: Global) -> Result<Design, AllocError> {
         ports: Items::from_vec(vec![in alloc; a, b, y, z]?),
         signals: Items::from_vec(mixed_signals(alloc)?),
         drivers: Items::from_vec(mixed_drivers(alloc)?),
+        enable: None,
     })
 }
 
@@ -296,9 +380,10 @@ fn third_signals(alloc: Global) -> Result<Vec<Signal>, AllocError> {
     Ok(signals)
 }
 
-fn third_drivers(alloc: Global) -> Result<Vec<Driver>, AllocError> {
+// The input and the output stand at these places among the ports.
+fn third_drivers(alloc: Global, x: usize, y: usize) -> Result<Vec<Driver>, AllocError> {
     let mut drivers = Vec::new(alloc);
-    drivers.push(assign(0, Expr::Port(0)))?;
+    drivers.push(assign(0, Expr::Port(x)))?;
     drivers.push(third_table(alloc)?)?;
     drivers.push(assign(3, Expr::Bits(Word::new(1, 4))))?;
     drivers.push(assign(4, pair(alloc, Op::Plus, Expr::Name(2), Expr::Name(3))?))?;
@@ -306,7 +391,7 @@ fn third_drivers(alloc: Global) -> Result<Vec<Driver>, AllocError> {
         to: 2,
         expr: Formula::new(Expr::Name(1)),
     })?;
-    drivers.push(output(1, part(4, 3, 1)))?;
+    drivers.push(output(y, part(4, 3, 1)))?;
     Ok(drivers)
 }
 
@@ -317,14 +402,57 @@ fn third(alloc: Global) -> Result<Design, AllocError> {
         name: Text::from_str(alloc, "third")?,
         ports: Items::from_vec(vec![in alloc; x, y]?),
         signals: Items::from_vec(third_signals(alloc)?),
-        drivers: Items::from_vec(third_drivers(alloc)?),
+        drivers: Items::from_vec(third_drivers(alloc, 0, 1)?),
+        enable: None,
     })
 }
 
-// Inputs of 1 to 64 bits, and nothing else.
+fn enabled_third(alloc: Global) -> Result<Design, AllocError> {
+    let ce = port(alloc, "ce", Dir::In, 1)?;
+    let x = port(alloc, "x", Dir::In, 4)?;
+    let y = port(alloc, "y", Dir::Out, 3)?;
+    Ok(Design {
+        name: Text::from_str(alloc, "third")?,
+        ports: Items::from_vec(vec![in alloc; ce, x, y]?),
+        signals: Items::from_vec(third_signals(alloc)?),
+        drivers: Items::from_vec(third_drivers(alloc, 1, 2)?),
+        enable: Some(0),
+    })
+}
+
+// Two registers behind each other, the second inverted; the enable is the second port.
+fn held_drivers(alloc: Global) -> Result<Vec<Driver>, AllocError> {
+    let first = Driver::Register {
+        to: 0,
+        expr: Formula::new(Expr::Port(0)),
+    };
+    let second = Driver::Register {
+        to: 1,
+        expr: Formula::new(not(alloc, Expr::Name(0))?),
+    };
+    let drivers = vec![in alloc; first, second, output(2, Expr::Name(1))]?;
+    Ok(drivers)
+}
+
+fn held(alloc: Global) -> Result<Design, AllocError> {
+    let a = port(alloc, "a", Dir::In, 2)?;
+    let go = port(alloc, "go", Dir::In, 1)?;
+    let y = port(alloc, "y", Dir::Out, 2)?;
+    let s0 = signal(alloc, "s0", 2, Some(Word::new(1, 2)))?;
+    let s1 = signal(alloc, "s1", 2, Some(Word::new(2, 2)))?;
+    Ok(Design {
+        name: Text::from_str(alloc, "held")?,
+        ports: Items::from_vec(vec![in alloc; a, go, y]?),
+        signals: Items::from_vec(vec![in alloc; s0, s1]?),
+        drivers: Items::from_vec(held_drivers(alloc)?),
+        enable: Some(1),
+    })
+}
+
+// Inputs of 1 to 96 bits, and nothing else.
 fn many_inputs(alloc: Global) -> Result<Design, AllocError> {
     let mut ports = Items::new(alloc);
-    for number in 0..64u32 {
+    for number in 0..96u32 {
         let mut name = String::new(alloc);
         write!(name, "p{number}")?;
         ports.push(port(alloc, &name, Dir::In, number + 1)?)?;
@@ -334,6 +462,7 @@ fn many_inputs(alloc: Global) -> Result<Design, AllocError> {
         ports,
         signals: Items::new(alloc),
         drivers: Items::new(alloc),
+        enable: None,
     })
 }
 
@@ -342,7 +471,7 @@ fn many_inputs_text(alloc: Global) -> Result<String, AllocError> {
         alloc,
         "library ieee;\nuse ieee.std_logic_1164.all;\nuse ieee.numeric_std.all;\n\nentity inputs is\n  port (\n    clk : in std_logic",
     )?;
-    for highest in 0..64u32 {
+    for highest in 0..96u32 {
         write!(
             expected,
             ";\n    p{highest} : in std_logic_vector({highest} downto 0)"
@@ -391,6 +520,20 @@ fn tells_of_a_sink_that_fails(rt: HostRuntime) -> Result<(), Fail> {
 fn writes_a_pipelined_table(rt: HostRuntime) -> Result<(), Fail> {
     let bytes = text(rt.alloc(), &third(rt.alloc())?)?;
     assert_eq!(rt; str::from_utf8(&bytes)?, THIRD);
+    Ok(())
+}
+
+#[test]
+fn writes_an_enable(rt: HostRuntime) -> Result<(), Fail> {
+    let bytes = text(rt.alloc(), &enabled_third(rt.alloc())?)?;
+    assert_eq!(rt; str::from_utf8(&bytes)?, ENABLED_THIRD);
+    Ok(())
+}
+
+#[test]
+fn writes_an_enable_by_its_place(rt: HostRuntime) -> Result<(), Fail> {
+    let bytes = text(rt.alloc(), &held(rt.alloc())?)?;
+    assert_eq!(rt; str::from_utf8(&bytes)?, HELD);
     Ok(())
 }
 

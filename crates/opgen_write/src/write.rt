@@ -2,7 +2,7 @@
 ghost use Rattle.std.specs.Prelude.{◌≡◌, ◌≤◌, ◌++◌, ℕ, List, Some, is_some, OnOk, OnErr, IfOk};
 ghost use Rattle.opgen_io.specs.Bytes.{TakesPrefix};
 ghost use Rattle.opgen_io.specs.Counts.{Rose};
-ghost use Rattle.opgen_text.specs.DesignText.{text_of};
+ghost use Rattle.opgen_vhdl.specs.DesignText.{text_of};
 
 use crate::architecture::put_architecture;
 use crate::entity::put_entity;

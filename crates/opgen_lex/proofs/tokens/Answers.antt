@@ -1,6 +1,6 @@
 use Rattle.std.proofs.Common.{arith, length-drop}
-use Rattle.opgen_text.proofs.CutLemmas.{cut_to-gap, cut_to-token, cut_to_end}
-use Rattle.opgen_text.proofs.SpanLemmas.{tokens-in_order, tokens-within}
+use Rattle.opgen_vhdl.proofs.CutLemmas.{cut_to-gap, cut_to-token, cut_to_end}
+use Rattle.opgen_vhdl.proofs.SpanLemmas.{tokens-in_order, tokens-within}
 use Rattle.opgen_lex.proofs.tokens.Goals as goal
 
 pub elements-preserved-in-Some-Gap : goal.elements-preserved-in-Some-Gap

@@ -1,5 +1,5 @@
 use Rattle.std.proofs.Common.{length, ◌-◌, ◌≤◌}
-use Rattle.opgen_text.proofs.CutLemmas.{CutTo}
+use Rattle.opgen_vhdl.proofs.CutLemmas.{CutTo}
 use Rattle.opgen_lex.proofs.tokens.Given as goal
 
 abbrev pub invariant-elements : goal.invariant-elements

@@ -1,4 +1,4 @@
-use Rattle.std.proofs.Common.{◌≡◌, [], ◌∷◌, true, false, List, Bool, refl}
+use Rattle.std.proofs.Common.{◌≡◌, [], ◌∷◌, true, false, List, Bool, None, refl}
 use Rattle.std.specs.Prelude.{All}
 use Rattle.std.proofs.lemmas.List.Elements.{All-nil, All-cons}
 use Rattle.opgen_design.specs.declared.design.Driver.{Driver}
@@ -18,7 +18,7 @@ table_word = record {
 }
 
 abbrev Met : Driver → Type 0
-Met = Meets [] cycle_words []
+Met = Meets None [] cycle_words []
 
 equations : All Met times3_design.drivers
 equations =

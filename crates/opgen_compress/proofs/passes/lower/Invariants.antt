@@ -2,7 +2,7 @@ use Rattle.std.proofs.Common.{◌≡◌, ◌≤◌, length, reverse}
 use Rattle.std.specs.Prelude.{All}
 use Rattle.opgen_net.specs.Valid.{IsValid}
 use Rattle.opgen_compress.specs.Recipe.{passes, lowered}
-use Rattle.opgen_compress.specs.Kept.{AllThere}
+use Rattle.opgen_heap.specs.Standing.{AllThere}
 use Rattle.opgen_compress.proofs.passes.lower.Given as goal
 
 abbrev pub invariant-falling : goal.invariant-falling

@@ -3,7 +3,7 @@ use Rattle.std.specs.Prelude.{All}
 use Rattle.opgen_net.specs.Valid.{IsValid, widths}
 use Rattle.opgen_net.specs.WordRule.{IsThere}
 use Rattle.opgen_compress.specs.Recipe.{pass}
-use Rattle.opgen_compress.specs.Kept.{AllThere}
+use Rattle.opgen_heap.specs.Standing.{AllThere}
 use Rattle.opgen_compress.proofs.passes.pass.Given as goal
 
 abbrev pub invariant-columns : goal.invariant-columns

@@ -1,8 +1,10 @@
 use Rattle.std.proofs.Common.{◌≡◌, ◌<◌, ◌≤◌, ◌^◌, [], length, sym, ap, ◌∙◌, subst, arith, rules}
 use Rattle.std.specs.Prelude.{slice_index}
 use Rattle.opgen_net.specs.Valid.{widths}
+use Rattle.opgen_net.proofs.Grown.{grown-then, grown-flow}
 use Rattle.opgen_compress.specs.Recipe.{State, all_columns, fullest, lowered}
-use Rattle.opgen_compress.specs.Kept.{AllThere, IsSumOfColumns}
+use Rattle.opgen_heap.specs.Standing.{AllThere}
+use Rattle.opgen_compress.specs.Kept.{IsSumOfColumns}
 use Rattle.opgen_compress.proofs.Passed.{Passed, lowered-fullest}
 use Rattle.opgen_compress.proofs.Finished.{all_columns-length, all_columns-there, all-lowered, heap-sum}
 use Rattle.opgen_compress.proofs.tree.compress.Goals as goal
@@ -41,10 +43,13 @@ returns-clause-sum c =
     let sum = subst (λ w. IsSumOfColumns s.net s.columns w c.finish.new.net.nodes c.in_ok-answer.answer) c.width-width.ensures.value c.in_ok-answer.ensures.sum in
     heap-sum c.args.net.now heap s c.finish.new.net.nodes c.in_ok-answer.answer c.columns_of.ensures.few c.columns_of.ensures.below p sum
 
-pub returns-clause-flow : goal.returns-clause-flow
-returns-clause-flow c = λ inputs n t h.
+pub returns-clause-grown : goal.returns-clause-grown
+returns-clause-grown c =
     let heap = c.args.heap in
     let s : State = record { net = c.lower.new.net; columns = c.deref.result.now } in
     let left : lowered c.args.net.now (all_columns heap) ≡ s = search rules in
     let p = subst (Passed c.args.net.now [] (all_columns heap)) left (all-lowered c.args.net.now heap c.requires.net c.requires.there) in
-    c.in_ok-answer.ensures.flow inputs n t (omega (arith, h, p.later.count)) ∙ p.later.flow inputs n t h
+    grown-then c.args.net.now c.lower.new.net c.finish.new.net p.later.grown c.in_ok-answer.ensures.grown
+
+pub returns-clause-flow : goal.returns-clause-flow
+returns-clause-flow c = grown-flow c.args.net.now c.finish.new.net (returns-clause-grown c)

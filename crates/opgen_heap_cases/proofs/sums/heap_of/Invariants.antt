@@ -1,4 +1,4 @@
-use Rattle.opgen_compress.specs.Kept.{AllThere}
+use Rattle.opgen_heap.specs.Standing.{AllThere}
 use Rattle.opgen_heap_cases.proofs.sums.heap_of.Given as goal
 
 abbrev pub invariant-bits : goal.invariant-bits

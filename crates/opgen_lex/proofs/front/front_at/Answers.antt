@@ -1,7 +1,7 @@
 use Rattle.std.proofs.Common.{◌≡◌, ◌-◌, length, take, drop, sym, ◌∙◌, ap, subst, length-drop}
 use Rattle.std.proofs.Math.Seq.{take-length}
-use Rattle.opgen_text.specs.Fronts.{front_of, FrontStands}
-use Rattle.opgen_text.proofs.FrontLemmas.{front_stands}
+use Rattle.opgen_vhdl.specs.Fronts.{front_of, FrontStands}
+use Rattle.opgen_vhdl.proofs.FrontLemmas.{front_stands}
 use Rattle.opgen_lex.proofs.front.front_at.Goals as goal
 
 pub returns : goal.returns

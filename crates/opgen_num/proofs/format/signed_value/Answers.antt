@@ -1,4 +1,4 @@
-use Rattle.std.proofs.Common.{◌^◌, ap, arith}
+use Rattle.std.proofs.Common.{◌^◌, length, ap, arith}
 use Rattle.std.proofs.lemmas.Int.{ints}
 use Rattle.std.proofs.lemmas.Nat.{one_shl, pow_below}
 use Rattle.opgen_num.proofs.Values.{int-low, int-high}
@@ -20,3 +20,21 @@ returns-else-bits-power c =
     let small = pow_below c.width.result 126 (omega arith) in
     let below = nat-below c.args.word in
     omega (arith, ints, int-high c.args.word (omega (arith, ints)))
+
+pub overflow_cast-bits : goal.overflow_cast-bits
+overflow_cast-bits c =
+    let small = pow_below (length c.args.word) 126 (omega arith) in
+    omega (arith, nat-below c.args.word)
+
+pub overflow_add-bits : goal.overflow_add-bits
+overflow_add-bits c =
+    let small = pow_below (length c.args.word) 126 (omega arith) in
+    omega (arith, ints, nat-below c.args.word)
+
+pub overflow_sub-result : goal.overflow_sub-result
+overflow_sub-result c =
+    let width = ap (λ n. 2 ^ n) c.width.ensures in
+    let power = one_shl c.width.result 128 (omega arith) in
+    let small = pow_below c.width.result 126 (omega arith) in
+    let below = nat-below c.args.word in
+    omega (arith, ints)

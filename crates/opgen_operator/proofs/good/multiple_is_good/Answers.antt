@@ -12,7 +12,7 @@ pub output-requires-clause-most : goal.output-requires-clause-most
 output-requires-clause-most c =
     let fits_constant : FitsSigned w64 c.args.constant = omega (arith, ints, c.requires.constant) in
     let format : c.constant_format.result ≡ constant_format c.args.input c.args.constant = simp to_z-of_z at c.constant_format.ensures in
-    rw format (multiple_width c.args.input c.args.constant c.requires.input c.requires.constant)
+    rw format (omega (arith, multiple_width c.args.input c.args.constant c.requires.input c.requires.constant))
 
 pub returns : goal.returns
 returns c =
@@ -21,6 +21,6 @@ returns c =
     let fits_product : FitsSigned w128 c.product.result = search rules in
     let fits_output : FitsSigned w128 c.output.result = search rules in
     let format : c.constant_format.result ≡ constant_format c.args.input c.args.constant = simp to_z-of_z at c.constant_format.ensures in
-    let num = simp to_z-of_z at c.product.ensures.value in
+    let num = simp to_z-of_z at c.product.ensures in
     let out = rw format at c.output.ensures in
     good-along c.good_linear.result c.args.exact c.product.result _ (pos 1) (pos 1) c.output.result _ num refl out (simp to_z-of_z at c.good_linear.ensures)

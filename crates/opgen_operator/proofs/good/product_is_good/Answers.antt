@@ -1,26 +1,49 @@
-use Rattle.std.proofs.Common.{◌≡◌, ◌≤◌, ◌^◌, FitsSigned, rules, arith}
-use Rattle.std.specs.Prelude.{pos, ◌*ℤ◌, unsigned_abs}
+use Rattle.std.proofs.Common.{◌≡◌, ◌^◌, FitsSigned, rules, arith}
+use Rattle.std.specs.Prelude.{pos, ◌*ℤ◌}
 use Rattle.std.specs.Int.{w32, w128}
 use Rattle.std.proofs.lemmas.Int.{ints, to_z-of_z}
-use Rattle.opgen_operator.specs.Outputs.{places_up, places_down, product_shift}
-use Rattle.opgen_operator.proofs.Magnitudes.{product_within, fits_small}
+use Rattle.opgen_operator.specs.Outputs.{places_up, places_down, product_shift, product_places}
+use Rattle.opgen_num.proofs.BitLength.{power_order}
+use Rattle.opgen_operator.proofs.Accepted.{some_width}
+use Rattle.opgen_operator.proofs.Bounds.{few_down}
+use Rattle.opgen_operator.proofs.Magnitudes.{fits_small, number_fits}
+use Rattle.opgen_operator.proofs.ProductWidths.{product_room, product_small}
 use Rattle.opgen_operator.proofs.Roundings.{good-along}
 use Rattle.opgen_operator.proofs.good.product_is_good.Goals as goal
 
 pub raised-numerator-requires-clause-small : goal.raised-numerator-requires-clause-small
 raised-numerator-requires-clause-small c =
-    let fits_a : FitsSigned w128 c.args.a = fits_small _ (omega (arith, c.requires.a)) in
-    let fits_b : FitsSigned w128 c.args.b = fits_small _ (omega (arith, c.requires.b)) in
-    let few : unsigned_abs (c.args.a *ℤ c.args.b) ≤ 2 ^ 64 = product_within c.args.a c.args.b 32 32 c.requires.a c.requires.b in
-    let fits : FitsSigned w128 (c.args.a *ℤ c.args.b) = fits_small _ (omega (arith, few)) in
-    simp to_z-of_z (omega (arith, few))
+    let p = c.args.product.now in
+    let fits_a : FitsSigned w128 c.args.a = number_fits p.a _ c.requires.product.a c.requires.a in
+    let fits_b : FitsSigned w128 c.args.b = number_fits p.b _ c.requires.product.b c.requires.b in
+    let fits : FitsSigned w128 (c.args.a *ℤ c.args.b) = fits_small _ (omega (arith, product_small p c.args.a c.args.b c.requires.product c.requires.a c.requires.b)) in
+    let fits_shift : FitsSigned w32 c.product_shift-shift.result = search rules in
+    let raised_up : c.places_up.result ≡ places_up (product_shift p) = rw c.product_shift-shift.ensures.value at simp to_z-of_z at c.places_up.ensures in
+    simp to_z-of_z (rw raised_up (omega (arith, product_room p c.args.a c.args.b c.requires.product c.requires.a c.requires.b c.requires.narrow)))
+
+pub overflow_mul-a : goal.overflow_mul-a
+overflow_mul-a c =
+    let p = c.args.product.now in
+    let fits_a : FitsSigned w128 c.args.a = number_fits p.a _ c.requires.product.a c.requires.a in
+    let fits_b : FitsSigned w128 c.args.b = number_fits p.b _ c.requires.product.b c.requires.b in
+    simp to_z-of_z (fits_small _ (omega (arith, product_small p c.args.a c.args.b c.requires.product c.requires.a c.requires.b)))
+
+pub raised-denominator-requires-clause-small : goal.raised-denominator-requires-clause-small
+raised-denominator-requires-clause-small c =
+    let p = c.args.product.now in
+    let fits_shift : FitsSigned w32 c.product_shift-shift.result = search rules in
+    let raised_down : c.places_down.result ≡ places_down (product_shift p) = rw c.product_shift-shift.ensures.value at simp to_z-of_z at c.places_down.ensures in
+    rw raised_down (omega (arith, power_order (places_down (product_shift p)) 48 (few_down 47 (product_shift p) c.requires.low)))
+
+pub output-requires-clause-least : goal.output-requires-clause-least
+output-requires-clause-least c = rw c.product_format.ensures (some_width (product_places c.args.product.now))
 
 pub returns : goal.returns
 returns c =
-    let fits_a : FitsSigned w128 c.args.a = fits_small _ (omega (arith, c.requires.a)) in
-    let fits_b : FitsSigned w128 c.args.b = fits_small _ (omega (arith, c.requires.b)) in
-    let few : unsigned_abs (c.args.a *ℤ c.args.b) ≤ 2 ^ 64 = product_within c.args.a c.args.b 32 32 c.requires.a c.requires.b in
-    let fits : FitsSigned w128 (c.args.a *ℤ c.args.b) = fits_small _ (omega (arith, few)) in
+    let p = c.args.product.now in
+    let fits_a : FitsSigned w128 c.args.a = number_fits p.a _ c.requires.product.a c.requires.a in
+    let fits_b : FitsSigned w128 c.args.b = number_fits p.b _ c.requires.product.b c.requires.b in
+    let fits : FitsSigned w128 (c.args.a *ℤ c.args.b) = fits_small _ (omega (arith, product_small p c.args.a c.args.b c.requires.product c.requires.a c.requires.b)) in
     let fits_numerator : FitsSigned w128 c.raised-numerator.result = search rules in
     let fits_denominator : FitsSigned w128 c.raised-denominator.result = search rules in
     let fits_output : FitsSigned w128 c.output.result = search rules in

@@ -1,16 +1,27 @@
-use Rattle.std.proofs.Common.{◌≡◌, ◌^◌, ◌∙◌, FitsSigned, rules, arith, ap, refl, false}
+use Rattle.std.proofs.Common.{◌≡◌, ◌+◌, ◌^◌, ◌∙◌, FitsSigned, rules, arith, ap, refl, false}
 use Rattle.std.specs.Prelude.{pos, unsigned_abs}
 use Rattle.std.specs.Int.{w32, w128}
 use Rattle.std.proofs.lemmas.Int.{to_z-of_z}
 use Rattle.opgen_operator.specs.Exact.{dividend}
 use Rattle.opgen_operator.specs.Outputs.{places_up, pair_shift}
-use Rattle.opgen_operator.proofs.Magnitudes.{fits_small, unsigned_abs-product}
+use Rattle.opgen_num.proofs.BitLength.{power_order}
+use Rattle.opgen_operator.proofs.Bounds.{products}
+use Rattle.opgen_operator.proofs.Magnitudes.{holds_within, number_fits, unsigned_abs-product}
 use Rattle.opgen_operator.proofs.Roundings.{good-along, quotient-along}
 use Rattle.opgen_operator.proofs.good.quotient_is_good.Goals as goal
 
+pub raised-shifted-requires-clause-small : goal.raised-shifted-requires-clause-small
+raised-shifted-requires-clause-small c =
+    let p = c.args.pair.now in
+    let fits_a : FitsSigned w128 c.args.a = number_fits p.a _ c.requires.pair.a c.requires.a in
+    let fits_shift : FitsSigned w32 c.pair_shift.result = search rules in
+    let raised_up : c.places_up.result ≡ places_up (pair_shift p) = rw c.pair_shift.ensures at simp to_z-of_z at c.places_up.ensures in
+    let all = products (unsigned_abs c.args.a) (2 ^ places_up (pair_shift p)) p.a.width (places_up (pair_shift p)) (holds_within p.a.signed p.a.width c.args.a c.requires.a) (omega arith) in
+    simp to_z-of_z (rw raised_up (omega (arith, all, power_order (p.a.width + places_up (pair_shift p)) 126 (omega (arith, c.requires.narrow)))))
+
 pub returns-then-exact-clause-in_range : goal.returns-then-exact-clause-in_range
 returns-then-exact-clause-in_range c =
-    let fits_a : FitsSigned w128 c.args.a = fits_small _ (omega (arith, c.requires.a)) in
+    let fits_a : FitsSigned w128 c.args.a = number_fits c.args.pair.now.a _ c.requires.pair.a c.requires.a in
     let fits_b = c.ranges.b in
     let fits_shift : FitsSigned w32 c.pair_shift.result = search rules in
     let fits_shifted : FitsSigned w128 c.raised-shifted.result = search rules in
@@ -26,7 +37,7 @@ returns-then-exact-clause-in_range c =
 
 pub returns-else-exact-clause-in_range : goal.returns-else-exact-clause-in_range
 returns-else-exact-clause-in_range c =
-    let fits_a : FitsSigned w128 c.args.a = fits_small _ (omega (arith, c.requires.a)) in
+    let fits_a : FitsSigned w128 c.args.a = number_fits c.args.pair.now.a _ c.requires.pair.a c.requires.a in
     let fits_b = c.ranges.b in
     let fits_shift : FitsSigned w32 c.pair_shift.result = search rules in
     let fits_shifted : FitsSigned w128 c.raised-shifted.result = search rules in

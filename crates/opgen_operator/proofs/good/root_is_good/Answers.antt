@@ -1,16 +1,27 @@
-use Rattle.std.proofs.Common.{◌≡◌, ◌^◌, ◌∙◌, FitsSigned, rules, arith, ap}
+use Rattle.std.proofs.Common.{◌≡◌, ◌+◌, ◌^◌, ◌∙◌, FitsSigned, rules, arith, ap}
 use Rattle.std.specs.Prelude.{pos, unsigned_abs}
 use Rattle.std.specs.Int.{w32, w128}
 use Rattle.std.proofs.lemmas.Int.{to_z-of_z}
 use Rattle.opgen_operator.specs.Exact.{square}
 use Rattle.opgen_operator.specs.Outputs.{places_up, root_shift}
-use Rattle.opgen_operator.proofs.Magnitudes.{fits_small, unsigned_abs-product}
+use Rattle.opgen_num.proofs.BitLength.{power_order}
+use Rattle.opgen_operator.proofs.Bounds.{few_up, products}
+use Rattle.opgen_operator.proofs.Magnitudes.{root_input_fits, unsigned_abs-product}
 use Rattle.opgen_operator.proofs.Roundings.{root-along, good_root-along}
 use Rattle.opgen_operator.proofs.good.root_is_good.Goals as goal
 
+pub raised-requires-clause-small : goal.raised-requires-clause-small
+raised-requires-clause-small c =
+    let r = c.args.single.now in
+    let fits_x : FitsSigned w128 c.args.x = root_input_fits r c.args.x c.requires.single c.requires.x in
+    let fits_shift : FitsSigned w32 c.root_shift.result = search rules in
+    let raised_up : c.places_up.result ≡ places_up (root_shift r) = rw c.root_shift.ensures at simp to_z-of_z at c.places_up.ensures in
+    let all = products (unsigned_abs c.args.x) (2 ^ places_up (root_shift r)) r.input.width (places_up (root_shift r)) c.requires.x (omega arith) in
+    simp to_z-of_z (rw raised_up (omega (arith, all, power_order (r.input.width + places_up (root_shift r)) 126 (omega (arith, c.requires.single.input.most, few_up 48 (root_shift r) c.requires.high)))))
+
 pub returns-then-exact : goal.returns-then-exact
 returns-then-exact c =
-    let fits_x : FitsSigned w128 c.args.x = fits_small _ (omega (arith, c.requires.x)) in
+    let fits_x : FitsSigned w128 c.args.x = root_input_fits c.args.single.now c.args.x c.requires.single c.requires.x in
     let fits_shift : FitsSigned w32 c.root_shift.result = search rules in
     let fits_raised : FitsSigned w128 c.raised.result = search rules in
     let fits_y : FitsSigned w128 c.output.result = search rules in
@@ -24,7 +35,7 @@ returns-then-exact c =
 
 pub returns-else-exact : goal.returns-else-exact
 returns-else-exact c =
-    let fits_x : FitsSigned w128 c.args.x = fits_small _ (omega (arith, c.requires.x)) in
+    let fits_x : FitsSigned w128 c.args.x = root_input_fits c.args.single.now c.args.x c.requires.single c.requires.x in
     let fits_shift : FitsSigned w32 c.root_shift.result = search rules in
     let fits_raised : FitsSigned w128 c.raised.result = search rules in
     let fits_y : FitsSigned w128 c.output.result = search rules in

@@ -1,10 +1,35 @@
-use Rattle.std.proofs.Common.{◌≡◌, ◌^◌, FitsSigned, rules, arith}
-use Rattle.std.specs.Prelude.{pos, ◌*ℤ◌}
+use Rattle.std.proofs.Common.{◌≡◌, ◌+◌, ◌≤◌, ◌^◌, FitsSigned, rules, arith}
+use Rattle.std.specs.Prelude.{pos, ◌*ℤ◌, unsigned_abs}
 use Rattle.std.specs.Int.{w32, w64, w128}
 use Rattle.std.proofs.lemmas.Int.{ints, to_z-of_z}
 use Rattle.opgen_operator.specs.Outputs.{places_up, places_down, sum_shift}
+use Rattle.opgen_num.proofs.BitLength.{power_order}
+use Rattle.opgen_operator.proofs.Bounds.{products, few_down, few_units}
+use Rattle.opgen_operator.proofs.Magnitudes.{fits_small}
 use Rattle.opgen_operator.proofs.Roundings.{good-along, positive_units}
 use Rattle.opgen_operator.proofs.good.sum_is_good.Goals as goal
+
+pub raised-numerator-requires-clause-small : goal.raised-numerator-requires-clause-small
+raised-numerator-requires-clause-small c =
+    let sum = c.args.sum.now in
+    let width = sum.input.width in
+    let few : unsigned_abs c.weighted.result ≤ 2 ^ 86 = omega (arith, c.weighted.ensures.bound, power_order (width + 38) 86 (omega (arith, c.requires.sum.input.most))) in
+    let fits_weighted : FitsSigned w128 c.weighted.result = fits_small _ (omega (arith, few)) in
+    let fits_shift : FitsSigned w32 c.sum_shift-shift.result = search rules in
+    let raised_up : c.places_up.result ≡ places_up (sum_shift sum) = rw c.sum_shift-shift.ensures.value at simp to_z-of_z at c.places_up.ensures in
+    let all = products (unsigned_abs c.weighted.result) (2 ^ places_up (sum_shift sum)) (width + 38) (places_up (sum_shift sum)) c.weighted.ensures.bound (omega arith) in
+    simp to_z-of_z (rw raised_up (omega (arith, all, power_order (width + 38 + places_up (sum_shift sum)) 126 (omega (arith, c.requires.room)))))
+
+pub raised-denominator-requires-clause-small : goal.raised-denominator-requires-clause-small
+raised-denominator-requires-clause-small c =
+    let sum = c.args.sum.now in
+    let fits_den : FitsSigned w64 sum.den = omega (arith, ints, c.requires.sum.positive, c.requires.sum.small) in
+    let fits_from : FitsSigned w128 c.from.result = search rules in
+    let from : c.from.result ≡ sum.den = simp to_z-of_z at c.from.ensures in
+    let fits_shift : FitsSigned w32 c.sum_shift-shift.result = search rules in
+    let raised_down : c.places_down.result ≡ places_down (sum_shift sum) = rw c.sum_shift-shift.ensures.value at simp to_z-of_z at c.places_down.ensures in
+    let all = products (unsigned_abs sum.den) (2 ^ places_down (sum_shift sum)) 30 48 (few_units (2 ^ 30) sum.den c.requires.sum.positive c.requires.sum.small) (power_order (places_down (sum_shift sum)) 48 (few_down 47 (sum_shift sum) c.requires.low)) in
+    simp to_z-of_z (rw (from, raised_down) (omega (arith, all)))
 
 pub good_linear-requires : goal.good_linear-requires
 good_linear-requires c =

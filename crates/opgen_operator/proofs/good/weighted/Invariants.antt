@@ -1,4 +1,4 @@
-use Rattle.std.proofs.Common.{◌≡◌, ◌≤◌, ◌*◌, ◌^◌, drop}
+use Rattle.std.proofs.Common.{◌≡◌, ◌+◌, ◌≤◌, ◌*◌, ◌^◌, drop}
 use Rattle.std.specs.Prelude.{◌+ℤ◌, unsigned_abs}
 use Rattle.opgen_operator.specs.Exact.{weighted, weighted_from}
 use Rattle.opgen_operator.specs.Judged.{recent_numbers}
@@ -9,5 +9,5 @@ abbrev pub invariant-coefs : goal.invariant-coefs
 invariant-coefs l = record {
   value : (l.total +ℤ weighted_from l.ago (drop l.coef-index l.sum.coefs) (recent_numbers (one_input l.sum.input) l.history 0)) ≡ weighted l.sum.coefs (recent_numbers (one_input l.sum.input) l.history 0);
   place : l.ago ≡ l.coef-index;
-  bound : unsigned_abs l.total ≤ l.coef-index * 2 ^ 62;
+  bound : unsigned_abs l.total ≤ l.coef-index * 2 ^ (l.sum.input.width + 30);
 }

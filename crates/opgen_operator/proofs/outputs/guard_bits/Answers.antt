@@ -9,4 +9,4 @@ returns-in-Some-clause-value c =
     rw (← c.in-Some.ensures) (least ∙ ap digit_count c.tables.ensures.value)
 
 pub returns-in-Some-clause-bound : goal.returns-in-Some-clause-bound
-returns-in-Some-clause-bound c = c.guard.ensures.least 11 (omega (arith, c.tables.ensures.bound))
+returns-in-Some-clause-bound c = c.guard.ensures.least 12 (omega (arith, c.tables.ensures.bound))

@@ -2,9 +2,9 @@ use Rattle.std.proofs.Common.{◌≡◌, [], ◌∷◌, ◌++◌, map, length, S
 use Rattle.std.proofs.lemmas.List.{map_push}
 use Rattle.std.proofs.lemmas.Result.{err_from_is_err_and}
 use Rattle.opgen_design.specs.Plain.{plain}
-use Rattle.opgen_text.specs.Grammar.{operator}
-use Rattle.opgen_text.specs.Reader.{eat, inside}
-use Rattle.opgen_text.proofs.Expressions.{factor-shorter, operator_eaten, enough}
+use Rattle.opgen_vhdl.specs.Grammar.{operator}
+use Rattle.opgen_vhdl.specs.Reader.{eat, inside}
+use Rattle.opgen_vhdl.proofs.Expressions.{factor-shorter, operator_eaten, enough}
 use Rattle.opgen_read.specs.Left.{left}
 use Rattle.opgen_read.specs.Names.{names_in, joined}
 use Rattle.opgen_read.proofs.Operands.{operands-stop, operands-step, operands-fail, fails_too}

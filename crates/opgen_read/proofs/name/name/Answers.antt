@@ -1,16 +1,20 @@
 use Rattle.std.proofs.Common.{sym, ◌∙◌}
+use Rattle.opgen_vhdl.proofs.Steps.{name_some}
 use Rattle.opgen_read.specs.Left.{left}
 use Rattle.opgen_read.proofs.FirstSymbol.{name_read, name_refused}
 use Rattle.opgen_read.proofs.name.name.Goals as goal
 
-pub returns-in-Some : goal.returns-in-Some
-returns-in-Some c =
+pub returns-in-Some-clause-value : goal.returns-in-Some-clause-value
+returns-in-Some-clause-value c =
     let first = rw c.in_ok-kind.ensures.ok_part at c.next.ensures.some in
     name_read (left c.args.rest) c.in_ok-kind.kind c.in_ok-kind.text.now (left c.in_ok-kind.rest) c.in-Some.name first
     (sym c.same_kind.ensures ∙ c.if-not-same_kind.false) (sym c.in-Some.is ∙ c.in_ok-name.ensures)
 
-pub returns-in-None : goal.returns-in-None
-returns-in-None c =
+pub returns-in-Some-clause-allowed : goal.returns-in-Some-clause-allowed
+returns-in-Some-clause-allowed c = (name_some (left c.args.rest) c.in-Some.name (left c.in_ok-kind.rest) (returns-in-Some-clause-value c)).1
+
+pub returns-in-None-clause-value : goal.returns-in-None-clause-value
+returns-in-None-clause-value c =
     let first = rw c.in_ok-kind.ensures.ok_part at c.next.ensures.some in
     name_refused (left c.args.rest) c.in_ok-kind.kind c.in_ok-kind.text.now (left c.in_ok-kind.rest) first
     (sym c.same_kind.ensures ∙ c.if-not-same_kind.false) (sym c.in-None.is ∙ c.in_ok-name.ensures)

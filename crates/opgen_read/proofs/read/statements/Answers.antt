@@ -1,5 +1,5 @@
 use Rattle.std.proofs.Common.{◌≤◌, length, refl, arith}
-use Rattle.opgen_text.proofs.SpanLemmas.{tokens-spelled}
+use Rattle.opgen_vhdl.proofs.SpanLemmas.{tokens-spelled}
 use Rattle.opgen_read.specs.Left.{left}
 use Rattle.opgen_read.proofs.FittingTokens.{all_fit, few_symbols}
 use Rattle.opgen_read.proofs.DriverCount.{few_drivers}

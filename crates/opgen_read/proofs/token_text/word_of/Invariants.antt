@@ -1,5 +1,5 @@
 use Rattle.std.proofs.Common.{◌≡◌, ◌≤◌, take, length}
-use Rattle.opgen_text.specs.Symbols.{bits_in}
+use Rattle.opgen_vhdl.specs.Symbols.{bits_in}
 use Rattle.opgen_read.proofs.token_text.word_of.Given as goal
 
 abbrev pub invariant-bits : goal.invariant-bits

@@ -3,9 +3,9 @@ use Rattle.toml.specs.View.{table_view}
 use Rattle.opgen_spec.specs.declared.key.Kind.TheVariants as kind
 use Rattle.opgen_spec.specs.Document.{tree, kind_of}
 use Rattle.opgen_spec.specs.Faults.{read, field_fault, limit_fault}
-use Rattle.opgen_spec.specs.Spec.{operator_of, spec_with, spec_of}
+use Rattle.opgen_spec.specs.Spec.{spec_with, spec_of}
 use Rattle.opgen_spec.proofs.Reading.{field_first, limit_first, none_first, gives_fault}
-use Rattle.opgen_spec.proofs.Fields.{fine, operator_in}
+use Rattle.opgen_spec.proofs.Fields.{fine, operator_in, inputs_in}
 use Rattle.opgen_spec.proofs.Validity.{no_kind, valid_in}
 use Rattle.opgen_spec.proofs.Written.{written}
 use Rattle.opgen_spec.proofs.read.read_spec.Goals as goal
@@ -26,8 +26,11 @@ unfolding spec_with
 limit_fault-requires c =
     let ms = table_view c.in_ok-table.table in
     let none : field_fault ms ≡ None = sym c.field_fault.ensures ∙ c.in_default.is in
-    let op : c.in_ok-spec.spec.op ≡ operator_of c.in-Some-kind_of.kind ms = ap (λ s. s.op) c.in_ok-spec.ensures in
-    rw op (operator_in ms c.in-Some-kind_of.kind (fine ms none) (sym c.in-Some-kind_of.ensures))
+    let named = sym c.in-Some-kind_of.ensures in
+    rw c.in_ok-spec.ensures (record {
+      op = operator_in ms c.in-Some-kind_of.kind (fine ms none) named;
+      inputs = inputs_in ms c.in-Some-kind_of.kind (fine ms none) named;
+    })
 
 pub returns-in-Some-limit_fault-clause-gives : goal.returns-in-Some-limit_fault-clause-gives
 returns-in-Some-limit_fault-clause-gives c =

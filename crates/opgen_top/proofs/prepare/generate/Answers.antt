@@ -1,5 +1,5 @@
 use Rattle.std.proofs.Common.{Some, length, sym, ap, ◌∙◌, arith}
-use Rattle.opgen_top.proofs.Preparing.{generate-prepares, generate-unfetched}
+use Rattle.opgen_top.proofs.PreparingSpecs.{generate-prepared, generate-unfetched}
 use Rattle.opgen_top.proofs.prepare.generate.Goals as goal
 
 pub returns-clause-prepared : goal.returns-clause-prepared
@@ -7,8 +7,9 @@ returns-clause-prepared g c =
     let said = c.generated.ensures in
     let fetched = c.in-Ok.ensures.fetched in
     let few = fetched.0 in
-    generate-prepares c.args.spec.now c.deref.result.now (g.F.Folder.told c.args.folder.now) _ _ (λ files told. fetched.1 files told ∙ ap Some (sym c.deref.ensures.value)) (omega (arith, few, ap length c.deref.ensures.value))
-    c.generated.result said.generated said.line said.named said.refused_listed said.refused_status said.refused_line said.refused
+    generate-prepared c.args.spec.now (g.F.Folder.told c.args.folder.now) _ _ c.deref.result.now
+    (λ files told. fetched.1 files told ∙ ap Some (sym c.deref.ensures.value)) (omega (arith, few, ap length c.deref.ensures.value))
+    c.generated.result said.answer said.listed
 
 pub returns-in-Err-clause-prepared : goal.returns-in-Err-clause-prepared
 returns-in-Err-clause-prepared g c = generate-unfetched c.args.spec.now (g.F.Folder.told c.args.folder.now) _ _ c.in-Err.refusal c.in-Err.ensures.fetched

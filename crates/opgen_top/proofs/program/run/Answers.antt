@@ -1,75 +1,88 @@
-use Rattle.std.proofs.Common.{◌≡◌, ◌++◌, Some, refl, sym, ap, ◌∙◌, subst, inl, inr, arith}
-use Rattle.opgen_io.specs.Bytes.{TakesPrefix}
-use Rattle.opgen_top.specs.Answer.{Answer, answer_of, usage}
-use Rattle.opgen_top.specs.Statuses.{HasLine}
-use Rattle.opgen_top.proofs.Parts.{takes-nothing, told_status, not_silent, no_fault, tells_line, answer_line}
+use Rattle.std.proofs.Common.{Some, Err, map, inl, refl, ap, ◌∙◌, subst}
+use Rattle.opgen_io.specs.Counts.{Rose}
+use Rattle.opgen_top.specs.Due.{IsAnswerOf}
+use Rattle.opgen_top.specs.Prepared.{answer_of, store_of}
+use Rattle.opgen_top.specs.Stores.{stored_all, HasBroken, HasFirst}
+use Rattle.opgen_top.proofs.Ending.{later_reads, line_taken, gives_due, gives_missing, gives_all, due_now, left_unprinted, left_memory, is_printed, nothing_printed, left_unstored, left_first}
+use Rattle.opgen_top.proofs.Heading.{are_short, heading}
+use Rattle.opgen_top.proofs.Listed.{listed_status}
 use Rattle.opgen_top.proofs.program.run.Goals as goal
 
-pub returns-in-Ok-clause-stored : goal.returns-in-Ok-clause-stored
-returns-in-Ok-clause-stored g c files told h =
-    let line = c.in-Ok.line in
-    let ok : (answer_of line).status ≡ 0 =
-    elim c.printed.ensures.status [
-      | inl e ↦ sym e ∙ h
-      | inr (inl p) ↦ absurd (omega (arith, p.0, h))
-      | inr (inr e) ↦ absurd (omega (arith, e, h))
-    ] in
-    c.answer.ensures.stored files told line c.in-Ok.is ok
+pub returns-in-Ok-store_all-clause-answered : goal.returns-in-Ok-store_all-clause-answered
+returns-in-Ok-store_all-clause-answered g c files told due =
+    let prepared = later_reads _ _ _ _ _ _ _ _ c.store_all.ensures.read_faults_same c.in-Ok.ensures.prepared in
+    let said = c.printed.ensures in
+    gives_due _ _ _ _ _ prepared _ _ _ _ _ _ said.status said.taken said.part
+    (λ fs is. c.in-Ok-store_all.ensures.ok fs (c.answer.ensures.told_same ∙ is) ∙ ap (λ xs. Some (stored_all (map store_of xs) fs)) c.deref.ensures.value)
+    files told due
 
-pub returns-in-Ok-clause-due : goal.returns-in-Ok-clause-due
-returns-in-Ok-clause-due g c files told =
-    let line = c.in-Ok.line in
-    elim c.printed.ensures.status [
-      | inl e ↦ elim (c.in-Ok.ensures.due files told) [ inl fault ↦ inl (e ∙ ap (λ (a : Answer). a.status) fault) | inr due ↦ inr (inr (answer_of line, due, e)) ]
-      | inr (inl p) ↦ inr (inl (inl p.0))
-      | inr (inr e) ↦ inr (inl (inr e))
-    ]
+pub returns-in-Ok-store_all-clause-missing : goal.returns-in-Ok-store_all-clause-missing
+returns-in-Ok-store_all-clause-missing g c files told stood three =
+    let prepared = later_reads _ _ _ _ _ _ _ _ c.store_all.ensures.read_faults_same c.in-Ok.ensures.prepared in
+    let said = c.printed.ensures in
+    gives_missing _ _ _ _ _ prepared _ _ _ _ _ _ said.status said.taken said.part
+    (λ fs is. c.in-Ok-store_all.ensures.ok fs (c.answer.ensures.told_same ∙ is) ∙ ap (λ xs. Some (stored_all (map store_of xs) fs)) c.deref.ensures.value)
+    files told stood three
 
-pub returns-in-Ok-clause-line : goal.returns-in-Ok-clause-line
-returns-in-Ok-clause-line g c files told held tells h =
-    let line = c.in-Ok.line in
-    let has_line : HasLine c.printed.result.0 = tells_line _ h in
-    let status = told_status _ _ _ _ c.printed.ensures.status has_line in
-    let taken = elim (c.printed.ensures.taken held tells) as (λ _. g.K.Sink.taken c.printed.new.out ≡ Some (held ++ (answer_of line).line)) [ inl silent ↦ absurd (not_silent _ has_line silent) | inr e ↦ e ] in
-    elim (c.in-Ok.ensures.due files told) [
-      | inl fault ↦ absurd (no_fault _ h (status ∙ ap (λ (a : Answer). a.status) fault))
-      | inr due ↦ (answer_of line, due, taken)
-    ]
+pub returns-in-Ok-store_all-clause-complete : goal.returns-in-Ok-store_all-clause-complete
+returns-in-Ok-store_all-clause-complete g c files told read write put =
+    let prepared = later_reads _ _ _ _ _ _ _ _ c.store_all.ensures.read_faults_same c.in-Ok.ensures.prepared in
+    let said = c.printed.ensures in
+    gives_all _ _ _ _ _ prepared _ _ _ _ _ _ said.status said.taken said.part
+    (λ fs is. c.in-Ok-store_all.ensures.ok fs (c.answer.ensures.told_same ∙ is) ∙ ap (λ xs. Some (stored_all (map store_of xs) fs)) c.deref.ensures.value)
+    files told read put (listed_status _ _ c.in-Ok.ensures.prepared.listed.line)
 
-pub returns-in-Ok-clause-one_line : goal.returns-in-Ok-clause-one_line
-returns-in-Ok-clause-one_line g c held tells h =
-    let line = c.in-Ok.line in
-    let status = told_status _ _ _ _ c.printed.ensures.status h in (
-      answer_of line,
-      c.in-Ok.ensures.listed,
-      sym status,
-      elim (c.printed.ensures.taken held tells) [ inl silent ↦ absurd (not_silent _ h silent) | inr e ↦ e ],
-    )
+pub returns-in-Ok-store_all-clause-left_by_fault : goal.returns-in-Ok-store_all-clause-left_by_fault
+returns-in-Ok-store_all-clause-left_by_fault g c files told four =
+    let prepared = later_reads _ _ _ _ _ _ _ _ c.store_all.ensures.read_faults_same c.in-Ok.ensures.prepared in
+    let said = c.printed.ensures in
+    left_unprinted _ _ _ _ _ prepared _ _ _ _ _ _ said.status said.taken said.part
+    (λ fs is. c.in-Ok-store_all.ensures.ok fs (c.answer.ensures.told_same ∙ is) ∙ ap (λ xs. Some (stored_all (map store_of xs) fs)) c.deref.ensures.value)
+    files _ told (listed_status _ _ c.in-Ok.ensures.prepared.listed.line) four
 
-pub returns-in-Ok-clause-left : goal.returns-in-Ok-clause-left
-returns-in-Ok-clause-left g c files told silent =
-    let line = c.in-Ok.line in
-    elim (answer_line (answer_of line) c.in-Ok.ensures.listed) [
-      | inl ok ↦ inr (c.answer.ensures.stored files told line c.in-Ok.is ok)
-      | inr refuses ↦ inl (inl (c.in-Ok.ensures.unchanged refuses ∙ told))
-    ]
+pub returns-in-Ok-store_all-clause-left_by_memory : goal.returns-in-Ok-store_all-clause-left_by_memory
+returns-in-Ok-store_all-clause-left_by_memory g c files told five =
+    let prepared = later_reads _ _ _ _ _ _ _ _ c.store_all.ensures.read_faults_same c.in-Ok.ensures.prepared in
+    let said = c.printed.ensures in
+    left_memory _ _ _ _ _ prepared _ _ _ _ _ _ said.status said.taken said.part
+    (λ fs is. c.in-Ok-store_all.ensures.ok fs (c.answer.ensures.told_same ∙ is) ∙ ap (λ xs. Some (stored_all (map store_of xs) fs)) c.deref.ensures.value)
+    files told
 
-pub returns-in-Err-clause-part : goal.returns-in-Err-clause-part
-returns-in-Err-clause-part g c h = (usage, inl refl, takes-nothing _ usage.line)
+pub returns-in-Ok-store_all-clause-printed : goal.returns-in-Ok-store_all-clause-printed
+returns-in-Ok-store_all-clause-printed g c held holds =
+    let prepared = later_reads _ _ _ _ _ _ _ _ c.store_all.ensures.read_faults_same c.in-Ok.ensures.prepared in
+    let said = c.printed.ensures in
+    is_printed _ _ _ _ _ prepared _ _ _ _ _ _ said.status said.taken said.part
+    (λ fs is. c.in-Ok-store_all.ensures.ok fs (c.answer.ensures.told_same ∙ is) ∙ ap (λ xs. Some (stored_all (map store_of xs) fs)) c.deref.ensures.value)
+    (listed_status _ _ c.in-Ok.ensures.prepared.listed.line) said.none said.silent held holds
 
-pub returns-in-Err-clause-left : goal.returns-in-Err-clause-left
-returns-in-Err-clause-left g c files told h = inl (c.in-Err.ensures.left files told refl)
+pub returns-in-Ok-store_all-clause-headline : goal.returns-in-Ok-store_all-clause-headline
+returns-in-Ok-store_all-clause-headline g c file asked files told ok =
+    let prepared = later_reads _ _ _ _ _ _ _ _ c.store_all.ensures.read_faults_same c.in-Ok.ensures.prepared in
+    let said = c.printed.ensures in
+    let a = answer_of c.in-Ok.answer in
+    let stores = c.in-Ok-store_all.ensures.ok files (c.answer.ensures.told_same ∙ told) ∙ ap (λ xs. Some (stored_all (map store_of xs) files)) c.deref.ensures.value in
+    let due = due_now _ _ _ _ _ prepared _ _ _ _ _ _ said.status said.taken said.part
+    (λ fs is. c.in-Ok-store_all.ensures.ok fs (c.answer.ensures.told_same ∙ is) ∙ ap (λ xs. Some (stored_all (map store_of xs) fs)) c.deref.ensures.value)
+    files told ok in
+    heading file files a _ _ _ (subst (λ command. IsAnswerOf command files a) asked due.0) due.1 (are_short c.in-Ok.answer.stores.items) stores
+    (λ held holds. line_taken _ held a.line _ (inl ok) (said.taken held holds))
 
-pub returns-in-Ok-clause-due_read : goal.returns-in-Ok-clause-due_read
-returns-in-Ok-clause-due_read g c files told stood =
-    let line = c.in-Ok.line in
-    elim c.printed.ensures.status [
-      | inl e ↦ inr (answer_of line, c.in-Ok.ensures.due_read files told stood, e)
-      | inr (inl p) ↦ inl (inl p.0)
-      | inr (inr e) ↦ inl (inr e)
-    ]
+pub returns-in-Err-Failed-clause-left_by_fault : goal.returns-in-Err-Failed-clause-left_by_fault
+returns-in-Err-Failed-clause-left_by_fault g c files told four =
+    let prepared = later_reads _ _ _ _ _ _ _ _ c.store_all.ensures.read_faults_same c.in-Ok.ensures.prepared in
+    let failed = c.in-Err-Failed.ensures in
+    let why = subst (λ n. Rose n (g.F.Folder.write_faults c.store_all.new.folder)) c.answer.ensures.write_faults_same (failed.failed_counted (ap Err c.in-Err-Failed.field-0-is)) in
+    let broken = subst (λ xs. HasBroken (map store_of xs) files (g.F.Folder.told c.store_all.new.folder)) c.deref.ensures.value
+    (failed.failed files (c.answer.ensures.told_same ∙ told) (ap Err c.in-Err-Failed.field-0-is)) in
+    left_unstored _ _ _ _ _ prepared _ _ _ (λ e. let bad = c.in-Err-Failed.ensures.none (ap (map store_of) c.deref.ensures.value ∙ e) in cc) files _ _ told why broken refl
 
-pub returns-in-Ok-clause-part_due : goal.returns-in-Ok-clause-part_due
-returns-in-Ok-clause-part_due g c files told held tells h =
-    let line = c.in-Ok.line in
-    inr (answer_of line, c.in-Ok.ensures.due files told, subst (λ before. TakesPrefix before (answer_of line).line (g.K.Sink.taken c.printed.new.out)) tells (c.printed.ensures.part h))
+pub returns-in-Err-Failed-clause-printed : goal.returns-in-Err-Failed-clause-printed
+returns-in-Err-Failed-clause-printed g c held holds = nothing_printed 4 _ _ _ _ (inl refl) refl held holds
+
+pub returns-clause-left_by_memory : goal.returns-clause-left_by_memory
+returns-clause-left_by_memory g c files told five =
+    let prepared = later_reads _ _ _ _ _ _ _ _ c.store_all.ensures.read_faults_same c.in-Ok.ensures.prepared in
+    let first = subst (λ xs. HasFirst (map store_of xs) files (g.F.Folder.told c.store_all.new.folder)) c.deref.ensures.value
+    (c.in-Err-Memory.ensures.memory files (c.answer.ensures.told_same ∙ told) (ap Err c.in-Err-Memory.field-0-is)) in
+    left_first _ _ _ _ _ prepared _ (g.K.Sink.taken c.args.out.now) (g.K.Sink.taken c.args.out.now) (λ e. let bad = c.in-Err-Memory.ensures.none (ap (map store_of) c.deref.ensures.value ∙ e) in cc) files told first

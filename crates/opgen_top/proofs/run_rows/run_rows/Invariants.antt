@@ -1,6 +1,5 @@
 use Rattle.std.proofs.Common.{◌≡◌, length}
 use Rattle.opgen_design.specs.Run.{input_widths}
-use Rattle.opgen_sim.specs.Sims.{IsReady, registers, simulated}
 use Rattle.opgen_vec.specs.Rows.{AreRowsOfCells}
 use Rattle.opgen_top.specs.Running.{output_widths}
 use Rattle.opgen_top.proofs.RunRows.{HasRun}
@@ -8,11 +7,10 @@ use Rattle.opgen_top.proofs.run_rows.run_rows.Given as goal
 
 abbrev pub invariant-rows : goal.invariant-rows
 invariant-rows l = record {
-  ready : IsReady l.sim;
-  same : simulated l.sim ≡ l.design;
+  same : l.sim.design ≡ l.design;
   fit : AreRowsOfCells (input_widths l.design) l.left l.inputs;
   room : length l.outputs.items ≡ length (output_widths l.design);
-  run : HasRun l.design l.fn.rows.count l.fn.rows.inputs.cells (registers l.sim) l.left l.inputs l.cells.items;
+  run : HasRun l.design l.fn.rows.count l.fn.rows.inputs.cells.items l.sim.registers l.left l.inputs l.cells.items;
 }
 
 abbrev pub decreases-rows : goal.decreases-rows

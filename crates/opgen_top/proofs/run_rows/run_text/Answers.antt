@@ -1,4 +1,4 @@
-use Rattle.std.proofs.Common.{◌≡◌, ◌*◌, length, ap, ◌∙◌, arith}
+use Rattle.std.proofs.Common.{◌≡◌, ◌*◌, length, refl, ap, ◌∙◌, arith}
 use Rattle.opgen_design.specs.Run.{input_widths, is_in, is_out}
 use Rattle.opgen_top.specs.Running.{output_widths}
 use Rattle.opgen_top.proofs.Columns.{widths_on, sides, few_outputs, length-rows_of_cells, whole_rows, same_rows}
@@ -17,7 +17,7 @@ invariant_of-outputs c =
     let widths = c.in_ok-out_widths.ensures ∙ ap (widths_on is_out) c.as_slice-2.ensures in
     let columns : length (output_widths d) ≡ c.len-3.result = omega (arith, c.len-3.ensures, c.in_ok-out_widths.out_widths.ok.0, ap length widths) in
     let cells = c.in_ok-cells.cells.items in
-    rw c.from_vec.ensures record { whole = whole_rows c.len-3.result rows.count cells (length-run d rows.count rows.inputs.cells cells c.in_ok-cells.ensures ∙ ap (λ n. rows.count * n) columns) }
+    record { whole = whole_rows c.len-3.result rows.count cells (length-run d rows.count rows.inputs.cells.items cells c.in_ok-cells.ensures ∙ ap (λ n. rows.count * n) columns) }
 
 pub write_rows-requires-clause-some : goal.write_rows-requires-clause-some
 write_rows-requires-clause-some c =
@@ -32,9 +32,9 @@ write_rows-requires-clause-same_rows c =
     let cells = c.in_ok-cells.cells.items in
     let ins = c.deref.ensures.value ∙ c.in_ok-in_widths.ensures ∙ ap (widths_on is_in) c.as_slice.ensures in
     let outs = c.deref-2.ensures.value ∙ c.in_ok-out_widths.ensures ∙ ap (widths_on is_out) c.as_slice-2.ensures in
-    rw (c.from_vec.ensures, ins, outs) (same_rows (length (input_widths d)) (length (output_widths d)) rows.count rows.inputs.cells cells
-    (length-rows_of_cells (input_widths d) rows.inputs.cells rows.count c.requires.rows)
-    (length-run d rows.count rows.inputs.cells cells c.in_ok-cells.ensures))
+    rw (ins, outs) (same_rows (length (input_widths d)) (length (output_widths d)) rows.count rows.inputs.cells.items cells
+    (length-rows_of_cells (input_widths d) rows.inputs.cells.items rows.count c.requires.rows)
+    (length-run d rows.count rows.inputs.cells.items cells c.in_ok-cells.ensures))
 
 pub returns : goal.returns
 returns c =
@@ -42,5 +42,5 @@ returns c =
     let rows = c.args.rows.now in
     let ins = c.deref.ensures.value ∙ c.in_ok-in_widths.ensures ∙ ap (widths_on is_in) c.as_slice.ensures in
     let outs = c.deref-2.ensures.value ∙ c.in_ok-out_widths.ensures ∙ ap (widths_on is_out) c.as_slice-2.ensures in
-    run_written d rows.count rows.inputs.cells c.in_ok-cells.cells.items c.in_ok-write_rows.field-0.items c.deref.result.now c.deref-2.result.now c.from_vec.result
-    ins outs c.from_vec.ensures c.requires.some_port c.requires.rows c.in_ok-cells.ensures c.in_ok-write_rows.ensures
+    run_written d rows.count rows.inputs.cells.items c.in_ok-cells.cells.items c.in_ok-write_rows.field-0.items c.deref.result.now c.deref-2.result.now c.in_ok-cells.cells.items
+    ins outs refl c.requires.some_port c.requires.rows c.in_ok-cells.ensures c.in_ok-write_rows.ensures

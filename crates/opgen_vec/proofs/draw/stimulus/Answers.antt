@@ -1,4 +1,5 @@
 use Rattle.std.proofs.Common.{◌≡◌, ap, subst, length, map, arith}
+use Rattle.opgen_operator.specs.Accepted.{IsAcceptedBy}
 use Rattle.opgen_operator.specs.Ports.{inputs_of}
 use Rattle.opgen_vec.specs.Rows.{AreRowsOfCells}
 use Rattle.opgen_vec.proofs.Draws.{cycle_more, all_drawn, whole, rows_fit, inputs_wide, rows_counted, some_input}
@@ -14,18 +15,18 @@ pub invariant_of-result : goal.invariant_of-result
 invariant_of-result c =
     let all = all_drawn c.args.spec.now.op (inputs_of c.args.spec.now) c.cycles.cells.items c.args.cycles c.args.seed c.cycles.left c.cycles.state c.cycles.invariant c.cycles-test.false in
     let columns : c.len.result ≡ length (inputs_of c.args.spec.now) = omega (arith, c.len.ensures, c.in_ok-ports.ports.ok.0, ap length c.in_ok-ports.ensures) in
-    rw c.from_vec.ensures record { whole = whole c.args.spec.now.op (inputs_of c.args.spec.now) c.args.cycles c.args.seed c.len.result c.cycles.cells.items columns all }
+    record { whole = whole c.args.spec.now.op (inputs_of c.args.spec.now) c.args.cycles c.args.seed c.len.result c.cycles.cells.items columns all }
 
 pub returns-clause-fit : goal.returns-clause-fit
 returns-clause-fit c =
     let op = c.args.spec.now.op in
+    let accepted : IsAcceptedBy c.args.spec.now.version op = c.requires.op in
     let all = all_drawn op (inputs_of c.args.spec.now) c.cycles.cells.items c.args.cycles c.args.seed c.cycles.left c.cycles.state c.cycles.invariant c.cycles-test.false in
-    rw c.from_vec.ensures
-    (subst (AreRowsOfCells (map (λ port. port.format.width) (inputs_of c.args.spec.now)) c.args.cycles) all (rows_fit op (inputs_of c.args.spec.now) c.args.cycles c.args.seed (inputs_wide op c.requires.op)))
+    subst (AreRowsOfCells (map (λ port. port.format.width) (inputs_of c.args.spec.now)) c.args.cycles) all (rows_fit op (inputs_of c.args.spec.now) c.args.cycles c.args.seed (inputs_wide op accepted.ranges))
 
 pub returns-clause-count : goal.returns-clause-count
 returns-clause-count c =
     let op = c.args.spec.now.op in
     let all = all_drawn op (inputs_of c.args.spec.now) c.cycles.cells.items c.args.cycles c.args.seed c.cycles.left c.cycles.state c.cycles.invariant c.cycles-test.false in
     let columns : c.len.result ≡ length (inputs_of c.args.spec.now) = omega (arith, c.len.ensures, c.in_ok-ports.ports.ok.0, ap length c.in_ok-ports.ensures) in
-    rw c.from_vec.ensures (rows_counted op (inputs_of c.args.spec.now) c.args.cycles c.args.seed c.len.result c.cycles.cells.items columns (some_input op) all)
+    rows_counted op (inputs_of c.args.spec.now) c.args.cycles c.args.seed c.len.result c.cycles.cells.items columns (some_input op) all

@@ -6,10 +6,10 @@ pub returns-in_err-cells-clause-bad_line : goal.returns-in_err-cells-clause-bad_
 returns-in_err-cells-clause-bad_line c line e = c.in_err-cells.ensures.bad_line line (search rules)
 
 pub invariant_of-result : goal.invariant_of-result
-invariant_of-result c = rw c.from_vec.ensures record { whole = whole _ _ _ _ refl c.in_ok-cells.ensures.rows.rows }
+invariant_of-result c = record { whole = whole _ _ _ _ refl c.in_ok-cells.ensures.rows.rows }
 
 pub returns-clause-cells : goal.returns-clause-cells
-returns-clause-cells c = rw c.from_vec.ensures (rows-of_cells _ _ _ c.in_ok-cells.ensures.rows.rows)
+returns-clause-cells c = rows-of_cells _ _ _ c.in_ok-cells.ensures.rows.rows
 
 pub returns-clause-count : goal.returns-clause-count
-returns-clause-count c = rw c.from_vec.ensures (row_count-rows _ _ _ _ refl c.requires.some c.in_ok-cells.ensures.rows.rows)
+returns-clause-count c = row_count-rows _ _ _ _ refl c.requires.some c.in_ok-cells.ensures.rows.rows

@@ -2,6 +2,7 @@ use Rattle.std.proofs.Common.{◌≤◌, take, ap, ◌∙◌, subst, arith}
 use Rattle.std.proofs.Math.Seq.{take-append_seam}
 use Rattle.std.specs.Prelude.{All}
 use Rattle.std.proofs.lemmas.List.Elements.{All-tail}
+use Rattle.opgen_num.specs.declared.TheConstants.{MAX_WIDTH}
 use Rattle.opgen_vec.proofs.Words.{first_cells}
 use Rattle.opgen_vec.proofs.row.read_row.Goals as goal
 
@@ -12,5 +13,5 @@ loop-width-init c =
       cells = first_cells _ _ _ _ _ _ _ _ widths c.in-Some-word_at.ensures c.in_ok-push.ensures.items c.digit_count.ensures;
       same = ap (take _) c.in_ok-push.ensures.items ∙ take-append_seam _ _;
       kept = omega (arith, c.in_ok-push.ensures.len);
-      narrow = All-tail (λ width. width ≤ 64) _ _ (subst (All (λ width. width ≤ 64)) widths c.requires);
+      narrow = All-tail (λ width. width ≤ MAX_WIDTH) _ _ (subst (All (λ width. width ≤ MAX_WIDTH)) widths c.requires);
     }

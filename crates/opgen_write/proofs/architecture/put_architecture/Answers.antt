@@ -1,5 +1,5 @@
 use Rattle.std.proofs.Common.{refl, append_assoc}
-use Rattle.opgen_text.specs.DesignText.{architecture_text}
+use Rattle.opgen_vhdl.specs.DesignText.{architecture_text}
 use Rattle.opgen_write.proofs.architecture.put_architecture.Goals as goal
 
 pub returns : goal.returns

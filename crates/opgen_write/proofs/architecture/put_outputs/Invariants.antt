@@ -1,7 +1,7 @@
 use Rattle.std.proofs.Common.{◌≡◌, ◌++◌, drop, filter, string_bytes}
 use Rattle.std.specs.List.{flat_map}
-use Rattle.opgen_text.specs.DesignText.{is_output}
-use Rattle.opgen_text.specs.DesignText.{driver_text}
+use Rattle.opgen_vhdl.specs.DesignText.{is_output}
+use Rattle.opgen_vhdl.specs.DesignText.{driver_text}
 use Rattle.opgen_write.proofs.architecture.put_outputs.Given as goal
 
 abbrev pub invariant-drivers : goal.invariant-drivers

@@ -1,7 +1,7 @@
 use Rattle.std.proofs.Common.{◌≡◌, ◌++◌, drop, filter, string_bytes}
 use Rattle.std.specs.List.{flat_map}
 use Rattle.opgen_design.specs.Order.{is_register}
-use Rattle.opgen_text.specs.DesignText.{driver_text}
+use Rattle.opgen_vhdl.specs.DesignText.{driver_text}
 use Rattle.opgen_write.proofs.architecture.put_registers.Given as goal
 
 abbrev pub invariant-drivers : goal.invariant-drivers

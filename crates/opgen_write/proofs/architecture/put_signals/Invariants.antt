@@ -1,6 +1,6 @@
 use Rattle.std.proofs.Common.{◌≡◌, ◌++◌, drop, string_bytes}
 use Rattle.std.specs.List.{flat_map}
-use Rattle.opgen_text.specs.DesignText.{signal_text}
+use Rattle.opgen_vhdl.specs.DesignText.{signal_text}
 use Rattle.opgen_write.proofs.architecture.put_signals.Given as goal
 
 abbrev pub invariant-signals : goal.invariant-signals

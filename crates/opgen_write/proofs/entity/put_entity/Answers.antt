@@ -1,5 +1,5 @@
 use Rattle.std.proofs.Common.{refl, append_assoc}
-use Rattle.opgen_text.specs.DesignText.{entity_text}
+use Rattle.opgen_vhdl.specs.DesignText.{entity_text}
 use Rattle.opgen_write.proofs.entity.put_entity.Goals as goal
 
 pub returns : goal.returns

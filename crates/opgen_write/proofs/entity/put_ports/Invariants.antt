@@ -1,6 +1,6 @@
 use Rattle.std.proofs.Common.{◌≡◌, ◌++◌, drop, string_bytes}
 use Rattle.std.specs.List.{flat_map}
-use Rattle.opgen_text.specs.DesignText.{port_text}
+use Rattle.opgen_vhdl.specs.DesignText.{port_text}
 use Rattle.opgen_write.proofs.entity.put_ports.Given as goal
 
 abbrev pub invariant-ports : goal.invariant-ports

@@ -1,6 +1,6 @@
 use Rattle.std.proofs.Common.{◌≡◌, ◌++◌, drop, string_bytes}
 use Rattle.opgen_design.specs.Plain.{plain_all}
-use Rattle.opgen_text.specs.ExpressionText.{further_text}
+use Rattle.opgen_vhdl.specs.ExpressionText.{further_text}
 use Rattle.opgen_write.proofs.expression.+expression.Given as goal
 
 abbrev pub invariant-put_chain-further : goal.invariant-put_chain-further

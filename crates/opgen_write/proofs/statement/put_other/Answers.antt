@@ -1,5 +1,5 @@
 use Rattle.std.proofs.Common.{refl, append_assoc}
-use Rattle.opgen_text.specs.DesignText.{other_text}
+use Rattle.opgen_vhdl.specs.DesignText.{other_text}
 use Rattle.opgen_write.proofs.statement.put_other.Goals as goal
 
 pub returns : goal.returns

@@ -1,6 +1,6 @@
 use Rattle.std.proofs.Common.{◌≡◌, ◌++◌, drop, string_bytes}
 use Rattle.std.specs.List.{flat_map}
-use Rattle.opgen_text.specs.DesignText.{row_text}
+use Rattle.opgen_vhdl.specs.DesignText.{row_text}
 use Rattle.opgen_write.proofs.statement.put_rows.Given as goal
 
 abbrev pub invariant-rows : goal.invariant-rows

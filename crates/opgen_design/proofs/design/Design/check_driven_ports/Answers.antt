@@ -5,4 +5,4 @@ use Rattle.opgen_design.proofs.design.Design.check_driven_ports.Goals as goal
 pub returns-clause-fault : goal.returns-clause-fault
 returns-clause-fault c =
     let d = c.args.self.now in
-    port-fault d NotDriven (c.undriven_port.result) (c.undriven_port.ensures) c.failing.result (c.failing.ensures)
+    port-fault d NotDriven tt (c.undriven_port.result) (c.undriven_port.ensures) c.failing.result (c.failing.ensures)

@@ -1,6 +1,6 @@
 use Rattle.std.proofs.Common.{List, Result, Ok, Err, IfOk, Vec, sym, subst}
-use Rattle.opgen_cycles.specs.declared.Component.{Component}
-use Rattle.opgen_cycles.specs.Graph.{Graph, graph_of, AreComponents}
+use Rattle.opgen_components.specs.declared.Component.{Component}
+use Rattle.opgen_components.specs.Graph.{Graph, graph_of, AreComponents}
 use Rattle.opgen_design.specs.declared.design.Design.{Design}
 use Rattle.opgen_design.specs.Rules.{AreNeeds, AreGroups}
 use Rattle.opgen_design.proofs.GroupLaws.{is-graph, are-groups}

@@ -1,5 +1,5 @@
 use Rattle.std.proofs.Common.{◌≡◌, ℕ, ◌<◌, length, get_or, None, []}
-use Rattle.opgen_cycles.specs.Graph.{graph_of}
+use Rattle.opgen_components.specs.Graph.{graph_of}
 use Rattle.opgen_design.specs.Rules.{needs_at}
 use Rattle.opgen_design.proofs.design.Design.needs.Given as goal
 

@@ -1,8 +1,35 @@
-use Rattle.std.proofs.Common.{◌≡◌, FitsSigned, rules}
+use Rattle.std.proofs.Common.{◌≡◌, ◌≤◌, ◌^◌, FitsSigned, arith, rules}
+use Rattle.std.specs.Prelude.{unsigned_abs}
 use Rattle.std.specs.Int.{w128}
 use Rattle.std.proofs.lemmas.Int.{to_z-of_z}
+use Rattle.opgen_num.proofs.BitLength.{power_order}
+use Rattle.opgen_operator.proofs.Accepted.{scale_fits, fir_fits, product_fits}
+use Rattle.opgen_operator.proofs.Magnitudes.{fits_small}
 use Rattle.opgen_operator.proofs.Roundings.{zero_if}
 use Rattle.opgen_operator.proofs.spec.Spec.good.Goals as goal
+
+pub sum_is_good-requires-clause-narrow : goal.sum_is_good-requires-clause-narrow
+sum_is_good-requires-clause-narrow c = omega (arith, scale_fits c.args.self.now c.in-Scale.sum c.requires.valid c.in-Scale.is)
+
+pub sum_is_good-requires-in-Fir-clause-narrow : goal.sum_is_good-requires-in-Fir-clause-narrow
+sum_is_good-requires-in-Fir-clause-narrow c = omega (arith, fir_fits c.args.self.now c.in-Fir.sum c.requires.valid c.in-Fir.is)
+
+pub product_is_good-requires-clause-narrow : goal.product_is_good-requires-clause-narrow
+product_is_good-requires-clause-narrow c = omega (arith, product_fits c.args.self.now c.in-Multiply.product c.requires.valid c.in-Multiply.is)
+
+pub product_is_good-requires-clause-y : goal.product_is_good-requires-clause-y
+product_is_good-requires-clause-y c =
+    let cycle = rw c.in-Multiply.is at c.requires.outputs in
+    let whole = cycle.whole in
+    cycle.fit 0 (omega (arith, whole))
+
+pub multiples_are_good-requires-clause-x : goal.multiples_are_good-requires-clause-x
+multiples_are_good-requires-clause-x c =
+    let m = c.in-Mcm.several in
+    let ranges = (rw c.in-Mcm.is at c.requires.valid.op).ranges in
+    let few : unsigned_abs c.recent-x.result ≤ 2 ^ 48 = omega (arith, c.recent-x.ensures.bound, power_order m.input.width 48 ranges.input.most) in
+    let fits_x : FitsSigned w128 c.recent-x.result = fits_small _ (omega (arith, few)) in
+    simp to_z-of_z (omega (arith, few))
 
 pub returns-in-Multiply-clause-in_range : goal.returns-in-Multiply-clause-in_range
 returns-in-Multiply-clause-in_range c =

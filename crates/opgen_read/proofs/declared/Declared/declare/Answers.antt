@@ -1,8 +1,15 @@
+use Rattle.std.proofs.Common.{◌≡◌, ◌∙◌, true, ap}
 use Rattle.indexmap.specs.IndexMap.{get_by_text}
-use Rattle.opgen_read.proofs.FirstPlaces.{one_declared}
+use Rattle.opgen_design.specs.Names.{is_allowed_name}
+use Rattle.opgen_read.proofs.FirstPlaces.{one_declared, still_allowed}
 use Rattle.opgen_read.proofs.declared.Declared.declare.Goals as goal
 
 pub invariant_of-result : goal.invariant_of-result
 invariant_of-result g c =
-    one_declared g.T.Named.name_of c.self.inside.items c.push.new.self c.args.item (get_by_text c.self.inside.first) (get_by_text c.in_ok-first.first) c.name.result.now c.len.result
-    c.in_ok-push.ensures.ok c.name.ensures c.len.ensures c.self.invariant c.in_ok-first.ensures
+    let before = get_by_text c.self.inside.first in
+    let after = get_by_text c.in_ok-first.first in
+    let allowed : is_allowed_name c.name.result.now ≡ true = ap is_allowed_name c.name.ensures ∙ c.requires in (
+      one_declared g.T.Named.name_of c.self.inside.items c.push.new.self c.args.item before after c.name.result.now c.len.result
+          c.in_ok-push.ensures.ok c.name.ensures c.len.ensures c.self.invariant.0 c.in_ok-first.ensures,
+      still_allowed before after c.name.result.now c.len.result allowed c.self.invariant.1 c.in_ok-first.ensures,
+    )

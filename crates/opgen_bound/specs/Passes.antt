@@ -1,0 +1,13 @@
+-- What contracts say of a pass.
+use Rattle.std.specs.Prelude.{◌≡◌}
+use Rattle.opgen_bound.specs.declared.view.View.{View}
+use Rattle.opgen_bound.specs.declared.bound.Pass.{Pass}
+use Rattle.opgen_bound.specs.declared.bound.Bound.{Bound}
+
+-- what the pass knows
+abbrev pub view : Pass → View
+view pass = pass.seat.me.0
+
+-- it is a pass of this bound
+abbrev pub IsPassOf : Bound → Pass → Type 0
+IsPassOf bound pass = pass.seat.table_id ≡ bound.table.shared.table_id

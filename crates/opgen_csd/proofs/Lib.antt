@@ -1,0 +1,7 @@
+pub mod Canonical
+pub mod Fewest
+pub mod Recoding
+pub mod Existence
+pub mod Sums
+pub mod Filling
+pub mod StepUp

@@ -1,0 +1,9 @@
+pub mod Members
+pub mod Powers
+pub mod Pairs
+pub mod Rounding
+pub mod Reaching
+pub mod Vectors
+pub mod SignedSets
+pub mod OddParts
+pub mod Uniqueness

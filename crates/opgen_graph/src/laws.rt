@@ -1,0 +1,17 @@
+ghost use Rattle.opgen_graph.specs.SignedDigits.{DigitSetsReach};
+ghost use Rattle.opgen_graph.specs.GraphLaws.{RanksAreGraphs, OneGraph};
+
+/// A law: the set of signed-digit partial sums of some targets has the targets, and can be reached from 1.
+pub fn digit_sets_reach()
+    ensures { DigitSetsReach }
+{}
+
+/// A law: a graph by ranks has an adder for each member and no other, wired from 1 on.
+pub fn ranks_are_graphs()
+    ensures { RanksAreGraphs }
+{}
+
+/// A law: a set has one graph by ranks.
+pub fn one_graph()
+    ensures { OneGraph }
+{}

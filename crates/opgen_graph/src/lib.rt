@@ -1,0 +1,64 @@
+//! Adder graphs: several constants times one input, by adders of shifted numbers
+//! (de Dinechin and Kumm, Application-Specific Arithmetic).
+#![tactic(auto)]
+
+mod costs;
+mod digit_set;
+mod forms;
+mod laws;
+mod makes;
+mod ranks;
+mod shifts;
+
+pub use costs::cost;
+pub use digit_set::csd_set;
+pub use forms::{Form, Step, combine};
+pub use laws::{digit_sets_reach, one_graph, ranks_are_graphs};
+pub use makes::{makes_among, makes_with};
+pub use ranks::{Adder, Graph, reach};
+
+/// The greatest constant.
+pub const MAX_TARGET: u32 = 2047;
+
+#[cfg(test)]
+mod tests {
+    use super::*;
+    use std::test::Fail;
+
+    #[test]
+    fn combinations(rt: HostRuntime) -> Result<(), Fail> {
+        let step = combine(3, 3, 45).ok_or("none")?;
+        assert_eq!(rt; step.form, Form::B);
+        assert_eq!(rt; step.shift, 4);
+        Ok(())
+    }
+
+    #[test]
+    fn graphs(rt: HostRuntime) -> Result<(), Fail> {
+        let graph = reach(rt.alloc(), &[3, 45])?.ok_or("none")?;
+        assert_eq!(rt; graph.adders.len(), 2);
+        let three = graph.adders.get(0);
+        assert_eq!(rt; three.value, 3);
+        assert_eq!(rt; three.u, 1);
+        assert_eq!(rt; three.v, 1);
+        assert_eq!(rt; three.step.form, Form::A);
+        assert_eq!(rt; three.step.shift, 1);
+        let last = graph.adders.get(1);
+        assert_eq!(rt; last.value, 45);
+        assert_eq!(rt; last.u, 3);
+        assert_eq!(rt; last.v, 3);
+        assert_eq!(rt; last.step.form, Form::B);
+        assert_eq!(rt; last.step.shift, 4);
+        assert!(rt; reach(rt.alloc(), &[45])?.is_none());
+        Ok(())
+    }
+
+    #[test]
+    fn sets(rt: HostRuntime) -> Result<(), Fail> {
+        let set = csd_set(rt.alloc(), &[45])?;
+        assert_eq!(rt; set.as_slice(), [3, 19, 45].as_slice());
+        assert_eq!(rt; cost(set.as_slice(), 4), 25);
+        assert_eq!(rt; cost(&[3, 45], 4), 16);
+        Ok(())
+    }
+}

@@ -1,0 +1,6 @@
+ghost use Rattle.opgen_net.specs.Grown.{GrownNetsKeepNodes};
+
+/// A net that has grown keeps the width of each node that it had, and the node's word at each time.
+pub fn grown_nets_keep_nodes()
+    ensures { GrownNetsKeepNodes }
+{}

@@ -1,0 +1,232 @@
+-- The widths of products.
+use Rattle.std.proofs.Common.{◌≡◌, ℕ, zero, suc, ◌+◌, ◌-◌, ◌*◌, ◌^◌, ◌≤◌, ◌<◌, max, min, Bool, true, false, nat_lt, refl, sym, ap, ◌∙◌, arith, lt_of_mul-lt-mul_right, mul-lt-mul_of_pos_right}
+use Rattle.std.specs.Prelude.{ℤ, pos, negsuc, neg_ℤ, ◌*ℤ◌, ◌≤ℤ◌, unsigned_abs}
+use Rattle.std.specs.Int.{div_ceil}
+use Rattle.std.proofs.Math.Nat.{mul-le-mul, mul-le-mul_left, mul-le-mul_right}
+use Rattle.std.proofs.lemmas.Bool.{lt-ltb}
+use Rattle.std.proofs.lemmas.Int.{ints}
+use Rattle.std.proofs.lemmas.Nat.{pow-add, pow_pos}
+use Rattle.opgen_num.proofs.BitLength.{power_cancel, power_order}
+use Rattle.opgen_num.proofs.RangeWidth.{count-holds, count-least}
+use Rattle.opgen_num.specs.Formats.{fewest_bits, digit_count, range_width}
+use Rattle.opgen_operator.specs.declared.spec.Product.{Product}
+use Rattle.opgen_operator.specs.Outputs.{reach_with, reach_of, product_shift, product_reach, product_places, places_up, places_down, up, in_units, width_of}
+use Rattle.opgen_operator.specs.Ports.{product_format}
+use Rattle.opgen_operator.specs.Ranges.{IsProduct}
+use Rattle.opgen_operator.specs.Reached.{IsOf}
+use Rattle.opgen_operator.specs.Bounded.{ProductsHaveWidth}
+use Rattle.opgen_operator.proofs.Bounds.{products}
+use Rattle.opgen_operator.proofs.Magnitudes.{product_within, holds_within}
+use Rattle.opgen_operator.proofs.Reached.{held-within, product_span, ceiling}
+
+count_some : (n : ℕ) → 1 ≤ n → 1 ≤ digit_count n
+count_some zero h = absurd (omega arith)
+count_some (suc n) h = omega arith
+
+-- the digits of a number that is shifted up
+shifted-count : (n s : ℕ) → 1 ≤ n → digit_count (n * 2 ^ s) ≡ digit_count n + s
+shifted-count n s some =
+    let g = digit_count (n * 2 ^ s) in
+    let power : 2 ^ (digit_count n + s) ≡ 2 ^ digit_count n * 2 ^ s = pow-add 2 (digit_count n) s in
+    let most : g ≤ digit_count n + s = count-least (n * 2 ^ s) (digit_count n + s) (omega (arith, power, mul-lt-mul_of_pos_right (count-holds n) (pow_pos s))) in
+    let one : 1 * 2 ^ s ≤ n * 2 ^ s = mul-le-mul_right (2 ^ s) some in
+    let holds = count-holds (n * 2 ^ s) in
+    let few : s < g = power_cancel s g (n * 2 ^ s) (omega (arith, one)) holds in
+    let split : 2 ^ g ≡ 2 ^ (g - s) * 2 ^ s = ap (λ k. 2 ^ k) (omega (arith, few)) ∙ pow-add 2 (g - s) s in
+    let below : n < 2 ^ (g - s) = lt_of_mul-lt-mul_right (2 ^ s) (omega (arith, holds, split)) in
+    omega (arith, most, few, count-least n (g - s) below)
+
+-- the width of a range that goes at least as far above 0 as below
+upper-width : (below above : ℕ) → 1 ≤ above → below ≤ above → range_width (neg_ℤ (pos below)) (pos above) ≡ digit_count above + min 1 below
+upper-width zero above some far = omega (arith, count_some above some)
+upper-width (suc b) above some far =
+    let most : max b above ≡ above = omega (arith, far) in
+    rw most (omega (arith, count_some above some))
+
+shifted-sign : (n s : ℕ) → min 1 (n * 2 ^ s) ≡ min 1 n
+shifted-sign zero s = omega arith
+shifted-sign (suc n) s =
+    let one : 1 * 2 ^ s ≤ suc n * 2 ^ s = mul-le-mul_right (2 ^ s) (omega arith) in
+    omega (arith, one, pow_pos s)
+
+pub shifted-width : (below above s : ℕ) → 1 ≤ above → below ≤ above → range_width (neg_ℤ (pos (below * 2 ^ s))) (pos (above * 2 ^ s)) ≡ range_width (neg_ℤ (pos below)) (pos above) + s
+shifted-width below above s some far =
+    let one : 1 * 2 ^ s ≤ above * 2 ^ s = mul-le-mul_right (2 ^ s) some in
+    let shifted = upper-width (below * 2 ^ s) (above * 2 ^ s) (omega (arith, one, pow_pos s)) (mul-le-mul_right (2 ^ s) far) in
+    let plain = upper-width below above some far in
+    omega (arith, shifted, plain, shifted-count above s some, shifted-sign below s)
+
+-- a product's range goes at least as far above 0 as below
+pub record IsUpper (below above bits : ℕ) : Type 0 where
+  pub some : 1 ≤ above
+  pub far : below ≤ above
+  pub width : range_width (neg_ℤ (pos below)) (pos above) ≤ bits
+  pub small : above ≤ 2 ^ bits
+
+unsigned_upper : (v w : ℕ) → 1 ≤ v → 1 ≤ w → IsUpper (max (0 * (2 ^ w - 1)) ((2 ^ v - 1) * 0)) (max ((2 ^ v - 1) * (2 ^ w - 1)) (0 * 0)) (v + w)
+unsigned_upper v w one two =
+    let a = 2 ^ v - 1 in
+    let b = 2 ^ w - 1 in
+    let some_a : 1 ≤ a = omega (arith, power_order 1 v one) in
+    let some_b : 1 ≤ b = omega (arith, power_order 1 w two) in
+    let some : 1 * 1 ≤ a * b = mul-le-mul {n₁ = 1} {m₁ = 1} {n₂ = a} {m₂ = b} some_a some_b in
+    let low : max (0 * b) (a * 0) ≡ 0 = omega arith in
+    let high : max (a * b) (0 * 0) ≡ a * b = omega arith in
+    let power : 2 ^ (v + w) ≡ 2 ^ v * 2 ^ w = pow-add 2 v w in
+    let first : a * b ≤ a * 2 ^ w = mul-le-mul_left a (omega arith) in
+    let second : (a + 1) * 2 ^ w ≤ 2 ^ v * 2 ^ w = mul-le-mul {n₁ = a + 1} {m₁ = 2 ^ w} {n₂ = 2 ^ v} {m₂ = 2 ^ w} (omega (arith, pow_pos v)) (omega arith) in
+    let below : a * b < 2 ^ (v + w) = omega (arith, first, second, power, pow_pos w) in
+    rw (low, high) (record {
+      some = omega (arith, some);
+      far = omega arith;
+      width = omega (arith, upper-width 0 (a * b) (omega (arith, some)) (omega arith), count-least (a * b) (v + w) below);
+      small = omega (arith, below);
+    })
+
+signed_upper : (v w : ℕ) → 2 ≤ v → 2 ≤ w → IsUpper (max (2 ^ (v - 1) * (2 ^ (w - 1) - 1)) ((2 ^ (v - 1) - 1) * 2 ^ (w - 1))) (max ((2 ^ (v - 1) - 1) * (2 ^ (w - 1) - 1)) (2 ^ (v - 1) * 2 ^ (w - 1))) (v + w)
+signed_upper v w one two =
+    let a = 2 ^ (v - 1) in
+    let b = 2 ^ (w - 1) in
+    let some : 1 * 1 ≤ a * b = mul-le-mul {n₁ = 1} {m₁ = 1} {n₂ = a} {m₂ = b} (omega (arith, pow_pos (v - 1))) (omega (arith, pow_pos (w - 1))) in
+    let left : a * (b - 1) ≤ a * b = mul-le-mul_left a (omega arith) in
+    let right : (a - 1) * b ≤ a * b = mul-le-mul_right b (omega arith) in
+    let both : (a - 1) * (b - 1) ≤ a * b = mul-le-mul {n₁ = a - 1} {m₁ = b - 1} {n₂ = a} {m₂ = b} (omega arith) (omega arith) in
+    let high : max ((a - 1) * (b - 1)) (a * b) ≡ a * b = omega (arith, both) in
+    let power : 2 ^ (v - 1 + (w - 1)) ≡ a * b = pow-add 2 (v - 1) (w - 1) in
+    let less : 2 ^ (v - 1 + (w - 1)) < 2 ^ (v + w - 1) = omega (arith, power_order (v - 1 + (w - 1) + 1) (v + w - 1) (omega arith), pow-add 2 (v - 1 + (w - 1)) 1, pow_pos (v - 1 + (w - 1))) in
+    let far : max (a * (b - 1)) ((a - 1) * b) ≤ a * b = omega (arith, left, right) in
+    rw high (record {
+      some = omega (arith, some);
+      far = far;
+      width = omega (arith, upper-width (max (a * (b - 1)) ((a - 1) * b)) (a * b) (omega (arith, some)) far, count-least (a * b) (v + w - 1) (omega (arith, power, less)));
+      small = omega (arith, power, less, power_order (v + w - 1) (v + w) (omega arith));
+    })
+
+pub product_upper : (p : Product) → IsProduct p → IsUpper (product_reach p).below (product_reach p).above (p.a.width + p.b.width)
+product_upper p fits = go p.a.signed p.b.signed fits.alike fits.a.fewest fits.b.fewest
+  where
+    go : (s t : Bool) → s ≡ t → fewest_bits s ≤ p.a.width → fewest_bits t ≤ p.b.width
+        → IsUpper
+        (max ((reach_with s p.a.width).below * (reach_with t p.b.width).above) ((reach_with s p.a.width).above * (reach_with t p.b.width).below))
+        (max ((reach_with s p.a.width).above * (reach_with t p.b.width).above) ((reach_with s p.a.width).below * (reach_with t p.b.width).below))
+        (p.a.width + p.b.width)
+    go true true e few more = signed_upper p.a.width p.b.width few more
+    go false false e few more = unsigned_upper p.a.width p.b.width few more
+    go true false e few more = cc
+    go false true e few more = cc
+
+-- In units of the output's last place: a number that is shifted up,
+raised-units : (n k : ℕ) → in_units n (pos k) (pos 1) ≡ n * 2 ^ k
+raised-units n k =
+    let (low, high) = ceiling (n * 2 ^ k) 1 (omega arith) in
+    omega (arith, low, high)
+
+-- and one that is not
+lowered_units : (n : ℕ) (s : ℤ) → s ≤ℤ pos 0 → in_units n s (pos 1) ≤ n
+lowered_units n (pos zero) h = omega (arith, raised-units n 0)
+lowered_units n (pos (suc k)) h = absurd (omega (arith, ints))
+lowered_units n (negsuc k) h =
+    let d = 1 * 2 ^ (k + 1) in
+    let (_, high) = ceiling (n * 1) d (omega (arith, pow_pos (k + 1))) in
+    let c = div_ceil (n * 1) d in
+    below n c d (omega (arith, pow_pos (k + 1))) (omega (arith, high))
+  where
+    below : (n c d : ℕ) → 1 ≤ d → d * c < n + d → c ≤ n
+    below n zero d some h = omega arith
+    below n (suc c) d some h =
+        let one : 1 * c ≤ d * c = mul-le-mul_right c some in
+        omega (arith, h, one)
+
+units-sign : (n : ℕ) (s : ℤ) → nat_lt 0 (in_units n s (pos 1)) ≡ nat_lt 0 n
+units-sign n s =
+    let d = 1 * 2 ^ places_down s in
+    let some : 0 < d = omega (arith, pow_pos (places_down s)) in
+    let (low, high) = ceiling (n * up s) d some in
+    go n (div_ceil (n * up s) d) (up s) d (pow_pos (places_up s)) low high
+  where
+    go : (n c u d : ℕ) → 0 < u → n * u ≤ d * c → d * c < n * u + d → nat_lt 0 c ≡ nat_lt 0 n
+    go zero zero u d some low high = refl
+    go zero (suc c) u d some low high =
+        let one : d * 1 ≤ d * suc c = mul-le-mul_left d (omega arith) in
+        absurd (omega (arith, one, high))
+    go (suc n) zero u d some low high =
+        let one : 1 * u ≤ suc n * u = mul-le-mul_right u (omega arith) in
+        absurd (omega (arith, one, low, some))
+    go (suc n) (suc c) u d some low high = lt-ltb 0 (suc c) (omega arith) ∙ sym (lt-ltb 0 (suc n) (omega arith))
+
+pub shifted_up-width : (p : Product) → IsProduct p → pos 0 ≤ℤ product_shift p → width_of (product_places p) ≡ width_of (product_reach p) + places_up (product_shift p)
+shifted_up-width p fits h = go (product_shift p) h
+  where
+    below : ℕ
+    below = (product_reach p).below
+
+    above : ℕ
+    above = (product_reach p).above
+
+    go : (s : ℤ) → pos 0 ≤ℤ s → range_width (neg_ℤ (pos (in_units below s (pos 1)))) (pos (in_units above s (pos 1))) ≡ range_width (neg_ℤ (pos below)) (pos above) + places_up s
+    go (pos k) h =
+        let upper = product_upper p fits in
+        rw (raised-units below k, raised-units above k) (shifted-width below above k upper.some upper.far)
+    go (negsuc k) h = absurd (omega (arith, ints))
+
+-- an output is signed where the plain product is
+pub product-sign : (p : Product) → nat_lt 0 (product_places p).below ≡ nat_lt 0 (product_reach p).below
+product-sign p = units-sign (product_reach p).below (product_shift p)
+
+pub products_width : ProductsHaveWidth
+products_width p fits =
+    let upper = product_upper p fits in
+    let few : p.a.width + p.b.width ≤ 96 = omega (arith, fits.a.most, fits.b.most) in
+    let most = power_order (p.a.width + p.b.width) 96 few in
+    record {
+      plain = upper.width;
+      not_up = λ h. (
+        omega (arith, lowered_units (product_reach p).below (product_shift p) h, upper.far, upper.small, most),
+        omega (arith, lowered_units (product_reach p).above (product_shift p) h, upper.small, most),
+      );
+      shifted_up = λ h. shifted_up-width p fits h;
+    }
+
+-- a product that is shifted up has no more bits than its output
+pub product_room : (p : Product) (a b : ℤ) → IsProduct p → IsOf p.a a → IsOf p.b b → (product_format p).width ≤ 96 → unsigned_abs (a *ℤ b) * 2 ^ places_up (product_shift p) ≤ 2 ^ 96
+product_room p a b fits of_a of_b narrow = go (product_shift p) (λ h. shifted_up-width p fits h)
+  where
+    upper : IsUpper (product_reach p).below (product_reach p).above (p.a.width + p.b.width)
+    upper = product_upper p fits
+
+    above : ℕ
+    above = (product_reach p).above
+
+    within : unsigned_abs (a *ℤ b) ≤ above
+    within =
+        let (low, high) = product_span (reach_of p.a).below (reach_of p.a).above (reach_of p.b).below (reach_of p.b).above a b (held-within p.a.signed p.a.width a of_a) (held-within p.b.signed p.b.width b of_b) in
+        omega (arith, ints, low, high, upper.far)
+
+    go : (s : ℤ) → (pos 0 ≤ℤ s → (product_format p).width ≡ width_of (product_reach p) + places_up s) → unsigned_abs (a *ℤ b) * 2 ^ places_up s ≤ 2 ^ 96
+    go (pos k) wide =
+        let bits = digit_count above in
+        let plain = upper-width (product_reach p).below above upper.some upper.far in
+        let few : bits + k ≤ 96 = omega (arith, wide (omega (arith, ints)), narrow, plain) in
+        let all = products (unsigned_abs (a *ℤ b)) (2 ^ k) bits k (omega (arith, within, count-holds above)) (omega arith) in
+        omega (arith, all, power_order (bits + k) 96 few)
+    go (negsuc k) wide = omega (arith, within, upper.small, power_order (p.a.width + p.b.width) 96 (omega (arith, fits.a.most, fits.b.most)))
+
+-- the range of the plain product
+pub reach_small : (p : Product) (n : ℕ) → IsProduct p → n ≤ 2 ^ (p.a.width + p.b.width) → n ≤ 2 ^ 120
+reach_small p n fits small = omega (arith, small, power_order (p.a.width + p.b.width) 120 (omega (arith, fits.a.most, fits.b.most)))
+
+pub not_up_bound : (p : Product) (n : ℕ) → IsProduct p → n ≤ 2 ^ (p.a.width + p.b.width) → product_shift p ≤ℤ pos 0 → n * up (product_shift p) ≤ 2 ^ 119
+not_up_bound p n fits small high = go (product_shift p) high
+  where
+    few : n ≤ 2 ^ 119
+    few = omega (arith, small, power_order (p.a.width + p.b.width) 119 (omega (arith, fits.a.most, fits.b.most)))
+
+    go : (s : ℤ) → s ≤ℤ pos 0 → n * up s ≤ 2 ^ 119
+    go (pos zero) h = omega (arith, few)
+    go (pos (suc k)) h = absurd (omega (arith, ints))
+    go (negsuc k) h = omega (arith, few)
+
+pub product_small : (p : Product) (a b : ℤ) → IsProduct p → IsOf p.a a → IsOf p.b b → unsigned_abs (a *ℤ b) ≤ 2 ^ 96
+product_small p a b fits of_a of_b =
+    let all = product_within a b p.a.width p.b.width (holds_within p.a.signed p.a.width a of_a) (holds_within p.b.signed p.b.width b of_b) in
+    omega (arith, all, power_order (p.a.width + p.b.width) 96 (omega (arith, fits.a.most, fits.b.most)))

@@ -1,0 +1,5 @@
+use Rattle.opgen_operator.proofs.In128.{entries_small}
+use Rattle.opgen_operator.proofs.laws.entries_are_small.Goals as goal
+
+pub returns : goal.returns
+returns c = entries_small

@@ -1,0 +1,5 @@
+use Rattle.opgen_operator.proofs.Held.{outputs_held}
+use Rattle.opgen_operator.proofs.laws.outputs_hold.Goals as goal
+
+pub returns : goal.returns
+returns c = outputs_held

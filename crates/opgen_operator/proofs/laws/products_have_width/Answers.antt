@@ -1,0 +1,5 @@
+use Rattle.opgen_operator.proofs.ProductWidths.{products_width}
+use Rattle.opgen_operator.proofs.laws.products_have_width.Goals as goal
+
+pub returns : goal.returns
+returns c = products_width

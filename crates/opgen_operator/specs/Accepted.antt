@@ -1,0 +1,60 @@
+-- Operators that can be built. Their fields know no version: they are accepted where one version accepts all of them, so
+-- where widths, shift and widest signal are within the limits of the same version.
+use Rattle.std.specs.Prelude.{ℕ, ◌≡◌, ◌≤◌, ◌⊎◌, ◌≤ℤ◌, Bool, false, IsTrue, Some, None}
+use Rattle.opgen_operator.specs.declared.spec.Operator.{Operator}
+use Rattle.opgen_operator.specs.declared.spec.Operator.TheVariants.{Scale, Fir, Multiply, Divide, Root, Mcm}
+use Rattle.opgen_operator.specs.declared.spec.Pair.{Pair}
+use Rattle.opgen_operator.specs.declared.spec.Product.{Product}
+use Rattle.opgen_operator.specs.declared.spec.Several.{Several}
+use Rattle.opgen_operator.specs.declared.spec.Single.{Single}
+use Rattle.opgen_operator.specs.declared.spec.Sum.{Sum}
+use Rattle.opgen_operator.specs.Limits.{most_input, most_signal, least_shift, most_shift}
+use Rattle.opgen_operator.specs.Outputs.{inexact, shift, need}
+use Rattle.opgen_operator.specs.Ranges.{IsOperator}
+
+-- no input has more bits
+abbrev pub HasInputsWithin : (most : ℕ) → Operator → Type 0
+HasInputsWithin most (Scale s) = s.input.width ≤ most
+HasInputsWithin most (Fir s) = s.input.width ≤ most
+HasInputsWithin most (Multiply p) = (p.a.width ≤ most) × (p.b.width ≤ most)
+HasInputsWithin most (Divide p) = (p.a.width ≤ most) × (p.b.width ≤ most)
+HasInputsWithin most (Root r) = r.input.width ≤ most
+HasInputsWithin most (Mcm m) = m.input.width ≤ most
+
+-- the operator's own mark of exact outputs; a product and several constants have none
+abbrev pub marks_exact : Operator → Bool
+marks_exact (Scale s) = s.exact
+marks_exact (Fir s) = s.exact
+marks_exact (Multiply p) = false
+marks_exact (Divide p) = p.exact
+marks_exact (Root r) = r.exact
+marks_exact (Mcm m) = false
+
+pub record IsAcceptedBy (version : ℕ) (op : Operator) : Type 0 where
+  -- the fields are within the ranges of their keys
+  pub ranges : IsOperator op
+  pub inputs : HasInputsWithin (most_input version) op
+  pub fine : (least_shift op ≤ℤ shift op) × (shift op ≤ℤ most_shift version op)
+  -- the widest signal is no wider than a signal may be
+  pub narrow : (bits : ℕ) → need op ≡ Some bits → bits ≤ most_signal version
+  -- exact outputs are asked for only where the exact values are whole
+  pub whole : IsTrue (marks_exact op) → inexact op ≡ None
+
+abbrev pub IsAccepted : Operator → Type 0
+IsAccepted op = IsAcceptedBy 1 op ⊎ IsAcceptedBy 2 op
+
+-- The same of the fields alone. A sum of one coefficient is accepted as a filter where it is as a multiple of its input.
+abbrev pub IsAcceptedSum : Sum → Type 0
+IsAcceptedSum s = IsAccepted (Fir s)
+
+abbrev pub IsAcceptedProduct : Product → Type 0
+IsAcceptedProduct p = IsAccepted (Multiply p)
+
+abbrev pub IsAcceptedPair : Pair → Type 0
+IsAcceptedPair p = IsAccepted (Divide p)
+
+abbrev pub IsAcceptedSingle : Single → Type 0
+IsAcceptedSingle r = IsAccepted (Root r)
+
+abbrev pub IsAcceptedSeveral : Several → Type 0
+IsAcceptedSeveral m = IsAccepted (Mcm m)

@@ -1,0 +1,50 @@
+// The limits that the versions of specifications set.
+
+ghost use Rattle.std.specs.Prelude.{◌≡◌};
+ghost use Rattle.opgen_operator.specs.Limits.{most_input, most_signal, most_sum_shift, least_shift, most_shift};
+
+use crate::MAX_SHIFT;
+use crate::spec::Operator;
+use opgen_num::{MAX_INPUT, MAX_WIDTH};
+
+/// The most bits that an input has in a version of specifications.
+pub fn most_input(version: u32) -> u32
+    ensures { result ≡ most_input version }
+{
+    if version == 1 { 32 } else { MAX_INPUT }
+}
+
+/// The most bits that a signal has in a version of specifications.
+pub fn most_signal(version: u32) -> u32
+    ensures { result ≡ most_signal version }
+{
+    if version == 1 { 64 } else { MAX_WIDTH }
+}
+
+fn most_sum_shift(version: u32) -> i32
+    ensures { result ≡ most_sum_shift version }
+{
+    if version == 1 { MAX_SHIFT } else { 32 }
+}
+
+impl Operator {
+    /// The least shift of an operator of this kind.
+    pub fn least_shift(&self) -> i32
+        ensures { result ≡ least_shift self.now }
+    {
+        match self {
+            Operator::Divide(_) | Operator::Root(_) => 0,
+            _ => -MAX_SHIFT,
+        }
+    }
+
+    /// The greatest shift of an operator of this kind in a version of specifications.
+    pub fn most_shift(&self, version: u32) -> i32
+        ensures { result ≡ most_shift version self.now }
+    {
+        match self {
+            Operator::Scale(_) | Operator::Fir(_) => most_sum_shift(version),
+            _ => MAX_SHIFT,
+        }
+    }
+}

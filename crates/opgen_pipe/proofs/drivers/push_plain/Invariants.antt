@@ -1,0 +1,9 @@
+use Rattle.std.proofs.Common.{◌≡◌, ◌++◌, not, drop, filter}
+use Rattle.opgen_design.specs.Order.{is_register}
+use Rattle.opgen_pipe.specs.Pipelined.{all_of, node_drivers}
+use Rattle.opgen_pipe.proofs.drivers.push_plain.Given as goal
+
+abbrev pub invariant-nodes : goal.invariant-nodes
+invariant-nodes l =
+    l.drivers ++ filter (λ k. not (is_register k)) (all_of (node_drivers l.first l.standings) l.number (drop l.number l.nodes))
+    ≡ l.initial.drivers ++ filter (λ k. not (is_register k)) (all_of (node_drivers l.first l.standings) 0 l.nodes)

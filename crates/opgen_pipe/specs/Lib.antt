@@ -1,0 +1,11 @@
+pub mod Times
+pub mod Copies
+pub mod Standings
+pub mod Reading
+pub mod Pipelined
+pub mod Laws
+pub mod Zeros
+pub mod Counts
+pub mod Cells
+pub mod Planned
+pub mod Timed

@@ -1,0 +1,37 @@
+-- What a plan gives: a design, its numbers and its cells, or why there is none.
+use Rattle.std.specs.Prelude.{ℕ, ◌≡◌, ◌-◌, ◌<◌, ◌≤◌, Bool, List, map, Result, Ok, Err}
+use Rattle.opgen_net.specs.declared.net.Net.{Net}
+use Rattle.opgen_schedule.specs.declared.slot.Slot.{Slot}
+use Rattle.opgen_schedule.specs.Schedule.{greatest_time}
+use Rattle.opgen_schedule.specs.Stage.{slot_at, stage}
+use Rattle.opgen_target.specs.Delays.{Delays, setup}
+use Rattle.opgen_target.specs.Ledger.{width_sum}
+use Rattle.opgen_pipe.specs.declared.planning.Planned.{Planned}
+use Rattle.opgen_pipe.specs.declared.planning.PlanFault.{PlanFault}
+use Rattle.opgen_pipe.specs.declared.planning.PlanFault.TheVariants.{PeriodTooShort, TooLarge, Memory}
+use Rattle.opgen_pipe.specs.Cells.{classes, net_delays, need, design_cells}
+use Rattle.opgen_pipe.specs.Copies.{net_latency, signal_count}
+use Rattle.opgen_pipe.specs.Pipelined.{design_of}
+
+-- the most signals that a design may have
+abbrev pub most_signals : ℕ
+most_signals = 65536
+
+-- the slots of the schedule of one pass under a table of delays
+abbrev pub slots_of : Delays → (period : ℕ) → Net → List Slot
+slots_of table period net = stage (net_delays table net) (setup table) period net.nodes
+
+-- the design of that schedule, its latency, what its longest cycle leaves of the period, and the bits of its cells of each class
+pub record IsPlanOf (name : List ℕ) (enable : Bool) (net : Net) (table : Delays) (period : ℕ) (p : Planned) : Type 0 where
+  pub design : p.design ≡ design_of name enable net (slot_at (slots_of table period net))
+  pub latency : p.latency ≡ net_latency net (slot_at (slots_of table period net))
+  pub slack : p.slack ≡ period - setup table - greatest_time (slots_of table period net)
+  pub cells : p.cells ≡ map (width_sum (design_cells net (slot_at (slots_of table period net)))) classes
+
+-- a plan where the period is long enough and the signals are few enough; of these two causes the first that fails; and want of memory at any time
+abbrev pub IsOutcome : (name : List ℕ) → (enable : Bool) → Net → (table : Delays) → (period : ℕ) → Result Planned PlanFault → Type 0
+IsOutcome name enable net table period (Ok p) =
+    (need table net ≤ period) × (signal_count net (slot_at (slots_of table period net)) ≤ most_signals) × IsPlanOf name enable net table period p
+IsOutcome name enable net table period (Err (PeriodTooShort n)) = (n ≡ need table net) × (period < need table net)
+IsOutcome name enable net table period (Err TooLarge) = (need table net ≤ period) × (most_signals < signal_count net (slot_at (slots_of table period net)))
+IsOutcome name enable net table period (Err Memory) = Unit {0}

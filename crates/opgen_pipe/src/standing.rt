@@ -1,0 +1,10 @@
+/// Where a node stands in a design: its width in bits, whether it is a constant, its cycle, how many copies it has, and its own
+/// signal, which those of its copies come after.
+#[derive(Clone, Copy, Debug, PartialEq, Eq)]
+pub struct Standing {
+    pub width: u32,
+    pub constant: bool,
+    pub cycle: usize,
+    pub copies: usize,
+    pub signal: usize,
+}

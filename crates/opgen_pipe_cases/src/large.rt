@@ -1,0 +1,72 @@
+ghost use Rattle.std.specs.Prelude.{◌≡◌, ◌∷◌, [], IfOk, codes};
+ghost use Rattle.opgen_net.specs.Valid.{IsValid};
+
+use opgen_design::Slice;
+use opgen_net::Net;
+use opgen_num::{Memory, Word};
+use opgen_pipe::{PlanFault, Planned, plan};
+use opgen_target::{LinearTarget, Target};
+use std::alloc::{AllocError, Global};
+use std::test::Fail;
+
+// A net of an input, put out as it is, and a number of constants that nothing reads.
+fn constants(alloc: Global, number: usize) -> Result<Net, Memory>
+    ensures inputs { IfOk result (λ net. net.inputs ≡ (codes "x", 1) ∷ []) }
+    ensures outputs { IfOk result (λ net. net.outputs ≡ (record { name = codes "y"; from = record { node = 0; high = 0; low = 0 } }) ∷ []) }
+    ensures valid { IfOk result IsValid }
+{
+    let mut net = Net::new(alloc);
+    net.input("x", 1)?;
+    net.output(
+        "y",
+        Slice {
+            node: 0,
+            high: 0,
+            low: 0,
+        },
+    )?;
+    for _ in 0..number {
+        net.constant(Word::new(1, 1))?;
+    }
+    Ok(net)
+}
+
+fn zeros(alloc: Global) -> Result<LinearTarget, AllocError> {
+    let name = String::from_str(alloc, "zeros")?;
+    Ok(LinearTarget::new(name, [(0, 0); 6]))
+}
+
+// What the net is planned as, under the name "large" and with an enable.
+fn planned(
+    alloc: Global,
+    net: &Net,
+    target: &mut Box<dyn Target>,
+    period: u32,
+) -> Result<Planned, PlanFault>
+    requires valid { IsValid net.now }
+    requires inputs { net.now.inputs ≡ (codes "x", 1) ∷ [] }
+    requires outputs { net.now.outputs ≡ (record { name = codes "y"; from = record { node = 0; high = 0; low = 0 } }) ∷ [] }
+{
+    plan(alloc, net, "large", true, target, period)
+}
+
+#[test]
+fn signals_65_536(rt: HostRuntime) -> Result<(), Fail> {
+    let net = constants(rt.alloc(), 65_535)?;
+    let mut target: Box<dyn Target> = Box::new(rt.alloc(), zeros(rt.alloc())?)?;
+    let large = planned(rt.alloc(), &net, &mut target, 1)?;
+    assert_eq!(rt; large.design.signals.len(), 65_536);
+    assert_eq!(rt; large.latency, 0);
+    assert_eq!(rt; large.slack, 1);
+    assert_eq!(rt; large.cells, [0; 6]);
+    Ok(())
+}
+
+#[test]
+fn signals_65_537_are_refused(rt: HostRuntime) -> Result<(), Fail> {
+    let net = constants(rt.alloc(), 65_536)?;
+    let mut target: Box<dyn Target> = Box::new(rt.alloc(), zeros(rt.alloc())?)?;
+    let refused = planned(rt.alloc(), &net, &mut target, 1);
+    assert!(rt; matches!(refused, Err(PlanFault::TooLarge)));
+    Ok(())
+}

@@ -1,0 +1,4 @@
+pub mod Reading
+pub mod Equation
+pub mod Least
+pub mod Paths

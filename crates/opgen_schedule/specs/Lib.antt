@@ -1,0 +1,4 @@
+pub mod Reads
+pub mod Schedule
+pub mod Stage
+pub mod Laws

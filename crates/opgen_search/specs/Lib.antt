@@ -1,0 +1,5 @@
+pub mod Space
+pub mod Least
+pub mod Members
+pub mod Nodes
+pub mod Hunts

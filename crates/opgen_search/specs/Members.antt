@@ -1,0 +1,6 @@
+-- Lists that stand for sets.
+use Rattle.std.specs.Prelude.{ℕ, List, Contains}
+
+-- each member of one stands in the other
+abbrev pub Within : List ℕ → List ℕ → Type 0
+Within xs ys = (x : ℕ) → Contains xs x → Contains ys x

@@ -1,0 +1,27 @@
+-- A set in the making, inside the search.
+use Rattle.std.specs.Prelude.{◌≡◌, ℕ, ◌+◌, ◌≤◌, ◌<◌, List, [], ◌∷◌, ◌++◌, length, drop, nat_eq, All, Contains}
+use Rattle.std.specs.List.{IsDistinct}
+use Rattle.opgen_graph.specs.Reach.{Among, Built, IsMember}
+use Rattle.opgen_search.specs.Space.{limit}
+use Rattle.opgen_search.specs.Members.{Within}
+
+-- 1 is placed first; the others are the members
+abbrev pub members : (placed left : List ℕ) → List ℕ
+members placed left = drop 1 placed ++ left
+
+-- the placed members stand in an order in which they can be made, and no member stands twice
+pub record IsNode (placed left : List ℕ) : Type 0 where
+  pub starts : placed ≡ 1 ∷ drop 1 placed
+  pub built : Built (1 ∷ []) (drop 1 placed)
+  pub distinct : IsDistinct nat_eq (members placed left)
+  pub adders : All IsMember (members placed left)
+
+-- nothing that is left can be made of what is placed
+abbrev pub IsStuck : (placed left : List ℕ) → Type 0
+IsStuck placed left = (x : ℕ) → Contains left x → Among placed x → ⊥
+
+-- these have the targets, and so many further members may come to them
+pub record HasRoom (targets : List ℕ) (extra : ℕ) (set : List ℕ) (more : ℕ) : Type 0 where
+  pub has_targets : Within targets set
+  pub few : length set + more ≤ length targets + extra
+  pub small : All (λ x. x < limit targets) set

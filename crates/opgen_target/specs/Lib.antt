@@ -1,0 +1,4 @@
+pub mod Classes
+pub mod Delays
+pub mod Ledger
+pub mod Tables

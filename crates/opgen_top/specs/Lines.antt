@@ -1,0 +1,39 @@
+-- The lines that the program prints.
+use Rattle.std.specs.Prelude.{ℕ, List, ◌++◌, codes}
+use Rattle.std.specs.Fmt.{decimal}
+use Rattle.opgen_read.specs.declared.fault.ReadFault.{ReadFault}
+use Rattle.opgen_read.specs.Answer.{fault_text as vhdl_fault_text}
+use Rattle.opgen_spec.specs.declared.fault.SpecFault.{SpecFault}
+use Rattle.opgen_spec.specs.Texts.{fault_text}
+use Rattle.opgen_vec.specs.declared.fault.VecFault.{VecFault}
+use Rattle.opgen_vec.specs.Fault.{fault_text as vectors_fault_text}
+
+abbrev pub wrote_line : (name : List ℕ) (latency : ℕ) → List ℕ
+wrote_line name latency = codes "wrote " ++ name ++ codes ".vhd, latency " ++ decimal latency ++ codes "\n"
+
+abbrev pub wrote_vectors_line : (name : List ℕ) → List ℕ
+wrote_vectors_line name = codes "wrote " ++ name ++ codes ".vec, 16 cycles\n"
+
+abbrev pub simulated_line : (rows : ℕ) → List ℕ
+simulated_line rows = codes "simulated " ++ decimal rows ++ codes " cycles\n"
+
+abbrev pub refused_line : SpecFault → List ℕ
+refused_line fault = codes "specification: " ++ fault_text fault ++ codes "\n"
+
+abbrev pub unsupported_line : List ℕ
+unsupported_line = codes "specification: Unsupported\n"
+
+abbrev pub usage_line : List ℕ
+usage_line = codes "usage: opgen COMMAND (generate, vectors, simulate, workload, check)\n"
+
+abbrev pub read_fault_line : List ℕ
+read_fault_line = codes "read fault\n"
+
+abbrev pub vhdl_refused_line : ReadFault → List ℕ
+vhdl_refused_line fault = codes "vhdl: " ++ vhdl_fault_text fault ++ codes "\n"
+
+abbrev pub vectors_refused_line : VecFault → List ℕ
+vectors_refused_line fault = codes "vectors: " ++ vectors_fault_text fault ++ codes "\n"
+
+abbrev pub too_long_line : List ℕ
+too_long_line = codes "too long\n"

@@ -1,0 +1,57 @@
+-- What is printed, whether or not the folder tells its files.
+use Rattle.std.specs.Prelude.{ℕ, ◌≡◌, ◌≢◌, IsTrue, List, ◌++◌, Option, Some}
+use Rattle.opgen_io.specs.Bytes.{TakesPrefix}
+use Rattle.opgen_io.specs.Counts.{Stood}
+use Rattle.opgen_operator.specs.SpecName.{is_spec_name}
+use Rattle.opgen_read.specs.declared.fault.ReadFault.{ReadFault}
+use Rattle.opgen_read.specs.declared.fault.ReadFault.TheVariants as read_faults
+use Rattle.opgen_spec.specs.declared.fault.SpecFault.{SpecFault}
+use Rattle.opgen_spec.specs.declared.fault.SpecFault.TheVariants as spec_faults
+use Rattle.opgen_vec.specs.declared.fault.VecFault.{VecFault}
+use Rattle.opgen_vec.specs.declared.fault.VecFault.TheVariants as vector_faults
+use Rattle.opgen_top.specs.Lines.{wrote_line, wrote_vectors_line, simulated_line, refused_line, unsupported_line, usage_line, read_fault_line, vhdl_refused_line, vectors_refused_line, too_long_line}
+use Rattle.opgen_top.specs.Statuses.{HasLine}
+
+-- The lines of each status. A name is one that a specification may have, and a fault is one of a file, which want of memory
+-- is not.
+pub data IsLineOf (status : ℕ) (line : List ℕ) : Type 0 where
+  wrote : (name : List ℕ) → IsTrue (is_spec_name name) → status ≡ 0 → line ≡ wrote_line name 0 → IsLineOf status line
+  wrote_vectors : (name : List ℕ) → IsTrue (is_spec_name name) → status ≡ 0 → line ≡ wrote_vectors_line name → IsLineOf status line
+  simulated : (rows : ℕ) → status ≡ 0 → line ≡ simulated_line rows → IsLineOf status line
+  refused : (fault : SpecFault) → fault ≢ spec_faults.Memory → status ≡ 1 → line ≡ refused_line fault → IsLineOf status line
+  unsupported : status ≡ 1 → line ≡ unsupported_line → IsLineOf status line
+  usage : status ≡ 2 → line ≡ usage_line → IsLineOf status line
+  read_fault : status ≡ 3 → line ≡ read_fault_line → IsLineOf status line
+  vhdl_refused : (fault : ReadFault) → fault ≢ read_faults.Memory → status ≡ 6 → line ≡ vhdl_refused_line fault → IsLineOf status line
+  vectors_refused : (fault : VecFault) → fault ≢ vector_faults.Memory → status ≡ 7 → line ≡ vectors_refused_line fault → IsLineOf status line
+  too_long : status ≡ 9 → line ≡ too_long_line → IsLineOf status line
+
+-- the statuses 2, 3 and 9 have one line each
+pub record HasFixedLine (status : ℕ) (line : List ℕ) : Type 0 where
+  pub usage : status ≡ 2 → line ≡ usage_line
+  pub read_fault : status ≡ 3 → line ≡ read_fault_line
+  pub too_long : status ≡ 9 → line ≡ too_long_line
+
+abbrev pub LinesAreFixed : Type 0
+LinesAreFixed = (status : ℕ) (line : List ℕ) → IsLineOf status line → HasFixedLine status line
+
+-- a line of this status more
+pub record TakesLine (status : ℕ) (held : List ℕ) (now : Option (List ℕ)) : Type 0 where
+  pub line : List ℕ
+  pub listed : IsLineOf status line
+  pub taken : now ≡ Some (held ++ line)
+
+-- a first part of a line more
+pub record TakesPart (held : List ℕ) (now : Option (List ℕ)) : Type 0 where
+  pub status : ℕ
+  pub line : List ℕ
+  pub listed : IsLineOf status line
+  pub part : TakesPrefix (Some held) line now
+
+-- A sink that held these bytes has one line more, that of the status; after 4 a first part of a line, which is nothing where
+-- it counted no fault; after 5 nothing.
+pub record IsPrinted (status faults_before faults_now : ℕ) (held : List ℕ) (now : Option (List ℕ)) : Type 0 where
+  pub line : HasLine status → TakesLine status held now
+  pub part : status ≡ 4 → TakesPart held now
+  pub no_fault : status ≡ 4 → Stood faults_before faults_now → now ≡ Some held
+  pub no_memory : status ≡ 5 → now ≡ Some held

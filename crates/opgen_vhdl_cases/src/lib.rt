@@ -1,0 +1,7 @@
+//! Texts of the VHDL subset, read: tests alone.
+#![tactic(auto)]
+
+#[cfg(test)]
+mod enables;
+#[cfg(test)]
+mod texts;
