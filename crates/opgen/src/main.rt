@@ -1,9 +1,13 @@
 //! The generator of fixed-point operators.
 #![tactic(auto)]
 
+mod targets;
+
+use crate::targets::{fixed, plain};
 use opgen_io::{DiskFolder, StdSink};
+use opgen_target::Target;
 use opgen_top::{Status, run};
-use std::alloc::Global;
+use std::alloc::{AllocError, Global};
 use std::env;
 use std::io::ErrorKind;
 use std::process::ExitCode;
@@ -25,15 +29,26 @@ fn words(rt: &(impl Env + Alloc<A = Global>)) -> Result<Vec<String>, Status> {
     Ok(words)
 }
 
-/// Runs the program over the files of the working directory and standard output.
+/// Runs the program over the files of the working directory and standard output, with the targets `plain` and `fixed`.
+fn ran(
+    rt: &(impl Env + Files + Print + Alloc<A = Global>),
+    words: &[String],
+) -> Result<Status, AllocError> {
+    let alloc = rt.alloc();
+    let mut targets: Vec<Box<dyn Target>> = Vec::new(alloc);
+    targets.push(Box::new(alloc, plain(alloc)?)?)?;
+    targets.push(Box::new(alloc, fixed(alloc)?)?)?;
+    let mut folder = DiskFolder::new(rt);
+    let mut out = StdSink::new(rt);
+    Ok(run(alloc, words, &mut folder, &mut out, targets))
+}
+
 fn status(rt: &(impl Env + Files + Print + Alloc<A = Global>)) -> Status {
     let words = match words(rt) {
         Ok(words) => words,
         Err(status) => return status,
     };
-    let mut folder = DiskFolder::new(rt);
-    let mut out = StdSink::new(rt);
-    run(rt.alloc(), &words, &mut folder, &mut out)
+    ran(rt, &words).unwrap_or(Status(5))
 }
 
 fn main(rt: HostRuntime) -> ExitCode {

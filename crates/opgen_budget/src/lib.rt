@@ -1,8 +1,14 @@
-//! How many bits an operator computes beyond those of its output (de Dinechin and Kumm, Application-Specific Arithmetic).
+//! How many bits an operator computes beyond those of its output, and how many of a product it leaves out
+//! (de Dinechin and Kumm, Application-Specific Arithmetic).
 #![tactic(auto)]
 
 ghost use Rattle.std.specs.Prelude.{ℕ, ◌<◌, ◌≤◌, ◌^◌};
 
+mod columns;
+mod laws;
+
+pub use columns::{Cut, drop_columns};
+pub use laws::columns_have_bits;
 use opgen_num::bit_length;
 
 /// The guard bits for `n` rounded terms: the least number whose power of two is greater than `n`.

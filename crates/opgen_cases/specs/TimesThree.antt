@@ -11,7 +11,8 @@ use Rattle.opgen_design.specs.Value.{Scope, value}
 use Rattle.opgen_design.specs.Width.{width, nesting}
 use Rattle.opgen_net.specs.Flow.{Inputs, flow}
 use Rattle.opgen_design.specs.Run.{Words, Cycle}
-use Rattle.opgen_net.specs.Made.{design_of}
+use Rattle.opgen_pipe.specs.Pipelined.{design_of}
+use Rattle.opgen_schedule.specs.Schedule.{Schedule}
 
 -- the words of two bits, the lowest bit first
 abbrev pub zero_word : List Bool
@@ -29,6 +30,10 @@ times3_net = record {
   nodes = node.Input 0 1 ∷ node.Table 0 (zero_word ∷ three_word ∷ []) ∷ [];
   outputs = record { name = codes "y"; from = record { node = 1; high = 1; low = 0 } } ∷ [];
 }
+
+-- the schedule that puts each node at the start of cycle 0
+abbrev pub at_once : Schedule
+at_once i = record { cycle = 0; time = 0 }
 
 abbrev pub times3_design : Design
 times3_design = record {
@@ -59,7 +64,7 @@ abbrev pub cycle_words : Words
 cycle_words = record { signals = bit_word true ∷ three_word ∷ []; ports = bit_word true ∷ three_word ∷ [] }
 
 pub record TimesThree : Type 0 where
-  pub design : design_of (codes "times3") times3_net ≡ times3_design
+  pub design : design_of (codes "times3") false times3_net at_once ≡ times3_design
   pub flow_now : flow times3_net.nodes inputs 1 (pos 0) ≡ three_word
   pub flow_next : flow times3_net.nodes inputs 1 (pos 1) ≡ zero_word
   pub flow_before : flow times3_net.nodes inputs 1 (negsuc 6) ≡ zero_word

@@ -1,5 +1,10 @@
 //! Refusals, missing files and failing calls.
-use crate::running::{ran, scale};
+use crate::running::{ran, ran_over, scale};
+use crate::vectors::TIMES3 as ROWS;
+use opgen_harness::documents::SCALE;
+use opgen_harness::running::holds;
+use opgen_harness::texts::{TIMES3, TIMES3_REPORT};
+use std::alloc::{AllocError, Global};
 use std::test::Fail;
 
 const USAGE: &str = "usage: opgen COMMAND (generate, vectors, simulate, workload, check)\n";
@@ -15,12 +20,12 @@ static DOCUMENTS: [(&[u8], u8, &str); 7] = [
     (
         b"\xef\xbb\xbfversion = 1\nname = \"times3\"\nkind = \"scale\"\nexact = true\ntarget = \"plain\"\nperiod = 10000\nsigned = false\nwidth = 4\nlsb = 0\nout_lsb = 0\ncoefficients = [3]\n",
         0,
-        "wrote times3.vhd, latency 0\n",
+        "wrote times3.vhd and times3.rpt, latency 0\n",
     ),
     (
         b"version = 1\r\nname = \"times3\"\r\nkind = \"scale\"\r\nexact = true\r\ntarget = \"plain\"\r\nperiod = 10000\r\nsigned = false\r\nwidth = 4\r\nlsb = 0\r\nout_lsb = 0\r\ncoefficients = [3]\r\n",
         0,
-        "wrote times3.vhd, latency 0\n",
+        "wrote times3.vhd and times3.rpt, latency 0\n",
     ),
 ];
 
@@ -35,7 +40,7 @@ fn whole_documents(rt: HostRuntime) -> Result<(), Fail> {
             &[],
             &[],
         )?;
-        assert_eq!(rt; ran.status.0, *status);
+        assert_eq!(rt; ran.status, *status);
         assert!(rt; ran.out.bytes() == line.as_bytes());
     }
     Ok(())
@@ -61,7 +66,7 @@ fn usage(rt: HostRuntime) -> Result<(), Fail> {
     let spec = scale(rt.alloc(), "times3", "4", "3")?;
     for words in &WORDS {
         let ran = ran(rt.alloc(), words, "spec.toml", spec.as_bytes(), &[], &[])?;
-        assert_eq!(rt; ran.status.0, 2);
+        assert_eq!(rt; ran.status, 2);
         assert!(rt; ran.out.bytes() == USAGE.as_bytes());
         assert!(rt; ran.folder.get("times3.vhd").is_none());
     }
@@ -79,7 +84,7 @@ fn missing_and_too_long(rt: HostRuntime) -> Result<(), Fail> {
         &[],
         &[],
     )?;
-    assert_eq!(rt; missing.status.0, 3);
+    assert_eq!(rt; missing.status, 3);
     assert!(rt; missing.out.bytes() == "read fault\n".as_bytes());
 
     // A comment fills the document up to the limit, and then one byte over it.
@@ -96,7 +101,7 @@ fn missing_and_too_long(rt: HostRuntime) -> Result<(), Fail> {
         &[],
         &[],
     )?;
-    assert_eq!(rt; longest.status.0, 0);
+    assert_eq!(rt; longest.status, 0);
     bytes.push(b'.')?;
     let too_long = ran(
         rt.alloc(),
@@ -106,34 +111,175 @@ fn missing_and_too_long(rt: HostRuntime) -> Result<(), Fail> {
         &[],
         &[],
     )?;
-    assert_eq!(rt; too_long.status.0, 9);
+    assert_eq!(rt; too_long.status, 9);
     assert!(rt; too_long.out.bytes() == "too long\n".as_bytes());
     assert!(rt; too_long.folder.get("times3.vhd").is_none());
     Ok(())
 }
 
+/// Words, calls of the folder and of the sink that fail, and what is left: the status, the line, and what the folder holds under
+/// two names. Each had these bytes before.
+struct Failing {
+    name: &'static str,
+    words: &'static [&'static str],
+    folder: &'static [u64],
+    sink: &'static [u64],
+    status: u8,
+    line: &'static str,
+    first: (&'static str, &'static str),
+    second: (&'static str, &'static str),
+}
+
+const OLD: &str = "old";
+
+const WROTE: &str = "wrote times3.vhd and times3.rpt, latency 0\n";
+
+const GENERATE: &[&str] = &["generate", "spec.toml"];
+
+const VECTORS: &[&str] = &["vectors", "spec.toml"];
+
+static GENERATING: [Failing; 7] = [
+    Failing {
+        name: "the fetch",
+        words: GENERATE,
+        folder: &[0],
+        sink: &[],
+        status: 3,
+        line: "read fault\n",
+        first: ("times3.vhd", OLD),
+        second: ("times3.rpt", OLD),
+    },
+    Failing {
+        name: "the fetch and the line",
+        words: GENERATE,
+        folder: &[0],
+        sink: &[0],
+        status: 4,
+        line: "",
+        first: ("times3.vhd", OLD),
+        second: ("times3.rpt", OLD),
+    },
+    Failing {
+        name: "the first store",
+        words: GENERATE,
+        folder: &[1],
+        sink: &[],
+        status: 4,
+        line: "",
+        first: ("times3.vhd", OLD),
+        second: ("times3.rpt", OLD),
+    },
+    Failing {
+        name: "the second store",
+        words: GENERATE,
+        folder: &[2],
+        sink: &[],
+        status: 4,
+        line: "",
+        first: ("times3.vhd", TIMES3),
+        second: ("times3.rpt", OLD),
+    },
+    Failing {
+        name: "the line",
+        words: GENERATE,
+        folder: &[],
+        sink: &[0],
+        status: 4,
+        line: "",
+        first: ("times3.vhd", TIMES3),
+        second: ("times3.rpt", TIMES3_REPORT),
+    },
+    Failing {
+        name: "calls that are not made",
+        words: GENERATE,
+        folder: &[3],
+        sink: &[1],
+        status: 0,
+        line: WROTE,
+        first: ("times3.vhd", TIMES3),
+        second: ("times3.rpt", TIMES3_REPORT),
+    },
+    Failing {
+        name: "no call",
+        words: GENERATE,
+        folder: &[],
+        sink: &[],
+        status: 0,
+        line: WROTE,
+        first: ("times3.vhd", TIMES3),
+        second: ("times3.rpt", TIMES3_REPORT),
+    },
+];
+
+static DRAWING: [Failing; 4] = [
+    Failing {
+        name: "the fetch",
+        words: VECTORS,
+        folder: &[0],
+        sink: &[],
+        status: 3,
+        line: "read fault\n",
+        first: ("times3.vec", OLD),
+        second: ("times3.vhd", OLD),
+    },
+    Failing {
+        name: "the store",
+        words: VECTORS,
+        folder: &[1],
+        sink: &[],
+        status: 4,
+        line: "",
+        first: ("times3.vec", OLD),
+        second: ("times3.vhd", OLD),
+    },
+    Failing {
+        name: "the line",
+        words: VECTORS,
+        folder: &[],
+        sink: &[0],
+        status: 4,
+        line: "",
+        first: ("times3.vec", ROWS),
+        second: ("times3.vhd", OLD),
+    },
+    Failing {
+        name: "calls that are not made",
+        words: VECTORS,
+        folder: &[2],
+        sink: &[1],
+        status: 0,
+        line: "wrote times3.vec, 16 cycles\n",
+        first: ("times3.vec", ROWS),
+        second: ("times3.vhd", OLD),
+    },
+];
+
+/// The name of the first case that leaves something else.
+fn first_wrong(alloc: Global, cases: &[Failing]) -> Result<Option<&'static str>, AllocError> {
+    for case in cases {
+        let files = [
+            ("spec.toml", SCALE.as_bytes()),
+            (case.first.0, OLD.as_bytes()),
+            (case.second.0, OLD.as_bytes()),
+        ];
+        let ran = ran_over(alloc, case.words, &files, case.folder, case.sink)?;
+        let left = holds(&ran.folder, case.first.0, Some(case.first.1))
+            && holds(&ran.folder, case.second.0, Some(case.second.1));
+        if ran.status != case.status || ran.out.bytes() != case.line.as_bytes() || !left {
+            return Ok(Some(case.name));
+        }
+    }
+    Ok(None)
+}
+
 #[test]
-fn failing_calls(rt: HostRuntime) -> Result<(), Fail> {
-    let spec = scale(rt.alloc(), "times3", "4", "3")?;
-    let words = ["generate", "spec.toml"];
+fn failing_calls_of_generate(rt: HostRuntime) -> Result<(), Fail> {
+    assert_eq!(rt; first_wrong(rt.alloc(), &GENERATING)?, None);
+    Ok(())
+}
 
-    let read = ran(rt.alloc(), &words, "spec.toml", spec.as_bytes(), &[0], &[])?;
-    assert_eq!(rt; read.status.0, 3);
-    assert!(rt; read.out.bytes() == "read fault\n".as_bytes());
-    assert!(rt; read.folder.get("times3.vhd").is_none());
-
-    let write = ran(rt.alloc(), &words, "spec.toml", spec.as_bytes(), &[1], &[])?;
-    assert_eq!(rt; write.status.0, 4);
-    assert!(rt; write.out.bytes().is_empty());
-    assert!(rt; write.folder.get("times3.vhd").is_none());
-
-    let line = ran(rt.alloc(), &words, "spec.toml", spec.as_bytes(), &[], &[0])?;
-    assert_eq!(rt; line.status.0, 4);
-    assert!(rt; line.out.bytes().is_empty());
-    assert!(rt; line.folder.get("times3.vhd").is_some());
-
-    // The line is put in one call.
-    let second = ran(rt.alloc(), &words, "spec.toml", spec.as_bytes(), &[], &[1])?;
-    assert_eq!(rt; second.status.0, 0);
+#[test]
+fn failing_calls_of_vectors(rt: HostRuntime) -> Result<(), Fail> {
+    assert_eq!(rt; first_wrong(rt.alloc(), &DRAWING)?, None);
     Ok(())
 }

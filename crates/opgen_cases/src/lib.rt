@@ -5,9 +5,14 @@
 mod faults;
 #[cfg(test)]
 mod generate;
-pub mod running;
+#[cfg(test)]
+mod pipelined;
+#[cfg(test)]
+mod running;
 #[cfg(test)]
 mod simulate;
+#[cfg(test)]
+mod targets;
 #[cfg(test)]
 mod vectors;
 mod worked;

@@ -1,15 +1,10 @@
 //! Runs the program over files in memory.
-use opgen_io::{MemoryFolder, MemorySink};
-use opgen_top::{Status, run};
+use opgen_harness::documents::{SCALE, changed};
+use opgen_harness::running::{Outcome, folder_of, sink_of, words_of};
+use opgen_harness::targets::{listed, plain};
+use opgen_target::Target;
+use opgen_top::run;
 use std::alloc::{AllocError, Global};
-
-/// What a run of the program leaves.
-#[derive(Drop)]
-pub struct Outcome {
-    pub status: Status,
-    pub folder: MemoryFolder,
-    pub out: MemorySink,
-}
 
 /// The specification of three times four bits, with its name, its width and its coefficients changed.
 pub fn scale(
@@ -18,20 +13,37 @@ pub fn scale(
     width: &str,
     coefficients: &str,
 ) -> Result<String, AllocError> {
-    format!(in alloc;
-        "version = 1\nname = \"{name}\"\nkind = \"scale\"\nexact = true\ntarget = \"plain\"\nperiod = 10000\nsigned = false\nwidth = {width}\nlsb = 0\nout_lsb = 0\ncoefficients = [{coefficients}]\n"
-    )
+    let name = format!(in alloc; "name = \"{name}\"")?;
+    let width = format!(in alloc; "width = {width}")?;
+    let coefficients = format!(in alloc; "coefficients = [{coefficients}]")?;
+    let changes: [(&str, &str); 3] = [
+        ("name = \"times3\"", &name),
+        ("width = 4", &width),
+        ("coefficients = [3]", &coefficients),
+    ];
+    changed(alloc, SCALE, &changes)
 }
 
-fn copied(alloc: Global, words: &[&str]) -> Result<Vec<String>, AllocError> {
-    let mut copies = Vec::new(alloc);
-    for word in words {
-        copies.push(String::from_str(alloc, word)?)?;
-    }
-    Ok(copies)
+/// Runs the words over a folder of these files with these targets, with these calls of the folder and the sink failing.
+pub fn ran_with(
+    alloc: Global,
+    words: &[&str],
+    files: &[(&str, &[u8])],
+    failing: (&[u64], &[u64]),
+    targets: Vec<Box<dyn Target>>,
+) -> Result<Outcome, AllocError> {
+    let words = words_of(alloc, words)?;
+    let mut folder = folder_of(alloc, files, failing.0)?;
+    let mut out = sink_of(alloc, failing.1)?;
+    let status = run(alloc, &words, &mut folder, &mut out, targets);
+    Ok(Outcome {
+        status: status.0,
+        folder,
+        out,
+    })
 }
 
-/// Runs the words over a folder of these files, with these calls of the folder and the sink failing.
+/// The same with the target `plain`, and `fixed`, which takes no delay line and has 90 picoseconds for each cell.
 pub fn ran_over(
     alloc: Global,
     words: &[&str],
@@ -39,22 +51,10 @@ pub fn ran_over(
     folder_failing: &[u64],
     sink_failing: &[u64],
 ) -> Result<Outcome, AllocError> {
-    let words = copied(alloc, words)?;
-    let mut held = Vec::new(alloc);
-    for (name, bytes) in files {
-        held.push((
-            String::from_str(alloc, name)?,
-            Vec::from_slice(alloc, bytes)?,
-        ))?;
-    }
-    let mut folder = MemoryFolder::new(held, Vec::from_slice(alloc, folder_failing)?);
-    let mut out = MemorySink::new(alloc, Vec::from_slice(alloc, sink_failing)?);
-    let status = run(alloc, &words, &mut folder, &mut out);
-    Ok(Outcome {
-        status,
-        folder,
-        out,
-    })
+    let mut targets: Vec<Box<dyn Target>> = Vec::new(alloc);
+    targets.push(Box::new(alloc, plain(alloc)?)?)?;
+    targets.push(Box::new(alloc, listed(alloc, "fixed", 90)?)?)?;
+    ran_with(alloc, words, files, (folder_failing, sink_failing), targets)
 }
 
 /// Runs the words over a folder of one file.

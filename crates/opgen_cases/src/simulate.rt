@@ -1,6 +1,7 @@
 //! Runs of VHDL over vectors, as `simulate` stores them.
-use crate::generate::TIMES3;
-use crate::running::{Outcome, ran_over};
+use crate::running::ran_over;
+use opgen_harness::running::{Outcome, holds};
+use opgen_harness::texts::TIMES3;
 use std::alloc::{AllocError, Global};
 use std::test::Fail;
 
@@ -50,7 +51,7 @@ static ROWS: [(&str, &str, &str, &str); 6] = [
 fn rows_and_lines(rt: HostRuntime) -> Result<(), Fail> {
     for (vhdl, vectors, rows, line) in &ROWS {
         let ran = simulated(rt.alloc(), vhdl, vectors)?;
-        assert_eq!(rt; ran.status.0, 0);
+        assert_eq!(rt; ran.status, 0);
         assert!(rt; ran.folder.get("out.vec") == Some(rows.as_bytes()));
         assert!(rt; ran.folder.get("in.vec") == Some(vectors.as_bytes()));
         assert!(rt; ran.out.bytes() == line.as_bytes());
@@ -76,22 +77,45 @@ static REFUSED: [(&str, &str, u8, &str); 9] = [
 fn refusals(rt: HostRuntime) -> Result<(), Fail> {
     for (vhdl, vectors, status, line) in &REFUSED {
         let ran = simulated(rt.alloc(), vhdl, vectors)?;
-        assert_eq!(rt; ran.status.0, *status);
+        assert_eq!(rt; ran.status, *status);
         assert!(rt; ran.folder.get("out.vec").is_none());
         assert!(rt; ran.out.bytes() == line.as_bytes());
     }
     Ok(())
 }
 
-#[test]
-fn too_many_rows(rt: HostRuntime) -> Result<(), Fail> {
-    let mut rows = String::new(rt.alloc());
-    for _ in 0..100_001 {
+fn zeros(alloc: Global, count: u32) -> Result<String, AllocError> {
+    let mut rows = String::new(alloc);
+    for _ in 0..count {
         rows.push_str("0\n")?;
     }
-    let ran = simulated(rt.alloc(), TIMES3, &rows)?;
-    assert_eq!(rt; ran.status.0, 7);
-    assert!(rt; ran.out.bytes() == "vectors: TooMany\n".as_bytes());
+    Ok(rows)
+}
+
+#[test]
+fn the_most_rows(rt: HostRuntime) -> Result<(), Fail> {
+    let most = simulated(rt.alloc(), TIMES3, &zeros(rt.alloc(), 100_000)?)?;
+    assert_eq!(rt; most.status, 0);
+    assert!(rt; most.out.bytes() == "simulated 100000 cycles\n".as_bytes());
+
+    let more = simulated(rt.alloc(), TIMES3, &zeros(rt.alloc(), 100_001)?)?;
+    assert_eq!(rt; more.status, 7);
+    assert!(rt; more.out.bytes() == "vectors: TooMany\n".as_bytes());
+    Ok(())
+}
+
+#[test]
+fn a_refused_line_over_an_older_file(rt: HostRuntime) -> Result<(), Fail> {
+    let words = ["simulate", "a.vhd", "in.vec", "out.vec"];
+    let files = [
+        ("a.vhd", TIMES3.as_bytes()),
+        ("in.vec", "1\n".as_bytes()),
+        ("out.vec", "old".as_bytes()),
+    ];
+    let ran = ran_over(rt.alloc(), &words, &files, &[], &[0])?;
+    assert_eq!(rt; ran.status, 4);
+    assert!(rt; ran.out.bytes().is_empty());
+    assert!(rt; holds(&ran.folder, "out.vec", Some("1 : 03\n")));
     Ok(())
 }
 
@@ -140,7 +164,7 @@ fn fetches(rt: HostRuntime) -> Result<(), Fail> {
     ];
     for (words, failing, status, line) in &FETCHES {
         let ran = ran_over(rt.alloc(), words, &files, failing, &[])?;
-        assert_eq!(rt; ran.status.0, *status);
+        assert_eq!(rt; ran.status, *status);
         assert!(rt; ran.folder.get("out.vec").is_none());
         assert!(rt; ran.out.bytes() == line.as_bytes());
     }

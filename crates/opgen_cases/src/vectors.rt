@@ -1,9 +1,10 @@
 //! Vectors of specifications, as `vectors` stores them.
 use crate::running::{ran, scale};
+use opgen_harness::documents::MCM;
 use std::test::Fail;
 
 /// The numbers of the generator divided by 2^60, and three times each.
-const TIMES3: &str =
+pub(crate) const TIMES3: &str =
     "1 : 03\n1 : 03\n9 : 1b\n6 : 12\n6 : 12\n8 : 18\n1 : 03\n5 : 0f\n7 : 15\n7 : 15\na : 1e\n5 : 0f\n0 : 00\n1 : 03\ne : 2a\n3 : 09\n";
 
 #[test]
@@ -17,7 +18,7 @@ fn rows_and_line(rt: HostRuntime) -> Result<(), Fail> {
         &[],
         &[],
     )?;
-    assert_eq!(rt; ran.status.0, 0);
+    assert_eq!(rt; ran.status, 0);
     assert!(rt; ran.folder.get("times3.vec") == Some(TIMES3.as_bytes()));
     assert!(rt; ran.folder.get("times3.vhd").is_none());
     assert!(rt; ran.folder.get("spec.toml") == Some(spec.as_bytes()));
@@ -29,16 +30,15 @@ fn rows_and_line(rt: HostRuntime) -> Result<(), Fail> {
 fn refusals(rt: HostRuntime) -> Result<(), Fail> {
     let words = ["vectors", "spec.toml"];
     let fault = ran(rt.alloc(), &words, "spec.toml", b"version = 2\n", &[], &[])?;
-    assert_eq!(rt; fault.status.0, 1);
+    assert_eq!(rt; fault.status, 1);
     assert!(rt; fault.out.bytes() == "specification: MissingKey name\n".as_bytes());
 
-    let seven = scale(rt.alloc(), "seven", "7", "3")?;
-    let unsupported = ran(rt.alloc(), &words, "spec.toml", seven.as_bytes(), &[], &[])?;
-    assert_eq!(rt; unsupported.status.0, 1);
+    let unsupported = ran(rt.alloc(), &words, "spec.toml", MCM.as_bytes(), &[], &[])?;
+    assert_eq!(rt; unsupported.status, 1);
     assert!(rt; unsupported.out.bytes() == "specification: Unsupported\n".as_bytes());
-    assert!(rt; unsupported.folder.get("seven.vec").is_none());
+    assert!(rt; unsupported.folder.get("mcm45.vec").is_none());
 
     let missing = ran(rt.alloc(), &words, "other.toml", b"", &[], &[])?;
-    assert_eq!(rt; missing.status.0, 3);
+    assert_eq!(rt; missing.status, 3);
     Ok(())
 }

@@ -1,6 +1,6 @@
 ghost use Rattle.std.specs.Prelude.{◌≡◌, ◌≤◌, ◌++◌, ◌∷◌, [], List, All, length, map, replicate, slice_index, option_to_list, IfOk, OnOk, IfSome};
 ghost use Rattle.opgen_net.specs.Valid.{IsValid, MayStand, widths as widths_of};
-ghost use Rattle.opgen_target.specs.Delays.{IsWidth, setup};
+ghost use Rattle.opgen_target.specs.Delays.{IsTableWidth, setup};
 ghost use Rattle.opgen_target.specs.Ledger.{ledger_of, with_cell};
 ghost use Rattle.opgen_schedule.specs.Stage.{slot_at};
 ghost use Rattle.opgen_pipe.specs.Cells.{cell_of, design_cells, net_delays, node_cells, node_delay, register_of};
@@ -14,10 +14,10 @@ use std::alloc::{AllocError, Global};
 
 /// The cell of a node, over the widths of the nodes. Inputs and constants have none.
 fn cell_of(widths: &[u32], node: &Node) -> Option<Cell>
-    requires widths { All IsWidth widths.now }
+    requires widths { All IsTableWidth widths.now }
     requires stands { MayStand widths.now node.now }
     ensures cell { result ≡ cell_of widths.now node.now }
-    ensures wide { IfSome result (λ c. IsWidth c.width) }
+    ensures wide { IfSome result (λ c. IsTableWidth c.width) }
 {
     let (class, width) = match node {
         Node::Input { .. } | Node::Constant(_) => return None,
@@ -31,7 +31,7 @@ fn cell_of(widths: &[u32], node: &Node) -> Option<Cell>
 
 /// How long after its operands a node has its word, in picoseconds.
 fn node_delay(widths: &[u32], target: &Box<dyn Target>, node: &Node) -> u32
-    requires widths { All IsWidth widths.now }
+    requires widths { All IsTableWidth widths.now }
     requires stands { MayStand widths.now node.now }
     ensures { result ≡ node_delay (delays target.now) widths.now node.now }
 {
@@ -132,7 +132,7 @@ pub(crate) fn design_cells(
 
 /// Adds a cell to the ledger of a target.
 fn charge(target: &mut Box<dyn Target>, cell: Cell)
-    requires { IsWidth cell.width }
+    requires { IsTableWidth cell.width }
     ensures ledger { ledger target.new ≡ with_cell cell (ledger target.old) }
     ensures target_name { target_name target.new ≡ target_name target.old }
     ensures delays { delays target.new ≡ delays target.old }
@@ -143,7 +143,7 @@ fn charge(target: &mut Box<dyn Target>, cell: Cell)
 
 /// Charges these cells, and no others, to the ledger of a target.
 pub(crate) fn charge_all(target: &mut Box<dyn Target>, cells: &[Cell])
-    requires { All (λ c. IsWidth c.width) cells.now }
+    requires { All (λ c. IsTableWidth c.width) cells.now }
     ensures ledger { ledger target.new ≡ ledger_of cells.now }
     ensures target_name { target_name target.new ≡ target_name target.old }
     ensures delays { delays target.new ≡ delays target.old }

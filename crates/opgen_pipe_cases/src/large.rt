@@ -1,10 +1,10 @@
 ghost use Rattle.std.specs.Prelude.{◌≡◌, ◌∷◌, [], IfOk, codes};
 ghost use Rattle.opgen_net.specs.Valid.{IsValid};
 
-use opgen_design::Slice;
+use crate::plans::{expect, part, planned};
 use opgen_net::Net;
 use opgen_num::{Memory, Word};
-use opgen_pipe::{PlanFault, Planned, plan};
+use opgen_pipe::PlanFault;
 use opgen_target::{LinearTarget, Target};
 use std::alloc::{AllocError, Global};
 use std::test::Fail;
@@ -17,14 +17,7 @@ fn constants(alloc: Global, number: usize) -> Result<Net, Memory>
 {
     let mut net = Net::new(alloc);
     net.input("x", 1)?;
-    net.output(
-        "y",
-        Slice {
-            node: 0,
-            high: 0,
-            low: 0,
-        },
-    )?;
+    net.output("y", part(0, 0, 0))?;
     for _ in 0..number {
         net.constant(Word::new(1, 1))?;
     }
@@ -36,29 +29,12 @@ fn zeros(alloc: Global) -> Result<LinearTarget, AllocError> {
     Ok(LinearTarget::new(name, [(0, 0); 6]))
 }
 
-// What the net is planned as, under the name "large" and with an enable.
-fn planned(
-    alloc: Global,
-    net: &Net,
-    target: &mut Box<dyn Target>,
-    period: u32,
-) -> Result<Planned, PlanFault>
-    requires valid { IsValid net.now }
-    requires inputs { net.now.inputs ≡ (codes "x", 1) ∷ [] }
-    requires outputs { net.now.outputs ≡ (record { name = codes "y"; from = record { node = 0; high = 0; low = 0 } }) ∷ [] }
-{
-    plan(alloc, net, "large", true, target, period)
-}
-
 #[test]
 fn signals_65_536(rt: HostRuntime) -> Result<(), Fail> {
     let net = constants(rt.alloc(), 65_535)?;
     let mut target: Box<dyn Target> = Box::new(rt.alloc(), zeros(rt.alloc())?)?;
-    let large = planned(rt.alloc(), &net, &mut target, 1)?;
-    assert_eq!(rt; large.design.signals.len(), 65_536);
-    assert_eq!(rt; large.latency, 0);
-    assert_eq!(rt; large.slack, 1);
-    assert_eq!(rt; large.cells, [0; 6]);
+    let large = planned(rt.alloc(), &net, true, &mut target, 1)?;
+    expect(&rt, &large, 0, 1, 65_536, [0; 6]);
     Ok(())
 }
 
@@ -66,7 +42,7 @@ fn signals_65_536(rt: HostRuntime) -> Result<(), Fail> {
 fn signals_65_537_are_refused(rt: HostRuntime) -> Result<(), Fail> {
     let net = constants(rt.alloc(), 65_536)?;
     let mut target: Box<dyn Target> = Box::new(rt.alloc(), zeros(rt.alloc())?)?;
-    let refused = planned(rt.alloc(), &net, &mut target, 1);
+    let refused = planned(rt.alloc(), &net, true, &mut target, 1);
     assert!(rt; matches!(refused, Err(PlanFault::TooLarge)));
     Ok(())
 }

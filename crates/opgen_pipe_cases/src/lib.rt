@@ -2,6 +2,18 @@
 #![tactic(auto)]
 
 #[cfg(test)]
+mod delays;
+#[cfg(test)]
 mod large;
+#[cfg(test)]
+mod long;
+#[cfg(test)]
+mod plans;
+#[cfg(test)]
+mod readers;
+#[cfg(test)]
+mod runs;
+#[cfg(test)]
+mod spread;
 #[cfg(test)]
 mod third;

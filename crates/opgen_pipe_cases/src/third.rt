@@ -3,11 +3,13 @@ ghost use Rattle.opgen_design.specs.Plain.{plain as plain_of};
 ghost use Rattle.opgen_design.specs.Tree.{chain, more, name, none, part};
 ghost use Rattle.opgen_net.specs.Valid.{IsValid};
 
-use opgen_design::{Expr, Op, Slice};
+use crate::plans::{expect, part, plain, planned, planned_plain};
+use crate::runs::expect_enabled_run;
+use opgen_design::{Expr, Op};
 use opgen_net::{Class, Net};
 use opgen_num::{Memory, Word};
-use opgen_pipe::{PlanFault, Planned, plan};
-use opgen_target::{LinearTarget, Target};
+use opgen_pipe::PlanFault;
+use opgen_target::{LinearTarget, ListTarget, Target};
 use std::alloc::{AllocError, Global};
 use std::test::Fail;
 
@@ -25,14 +27,9 @@ fn thirds(alloc: Global) -> Result<Vec<Word>, AllocError>
 fn sum(alloc: Global) -> Result<Expr, AllocError>
     ensures { IfOk result (λ e. plain_of e ≡ chain Op.Plus (more (name 1) (more (part 2 3 0) none))) }
 {
-    let whole = Slice {
-        node: 2,
-        high: 3,
-        low: 0,
-    };
     let mut operands = Vec::new(alloc);
     operands.push(Expr::Name(1))?;
-    operands.push(Expr::Part(whole))?;
+    operands.push(Expr::Part(part(2, 3, 0)))?;
     Ok(Expr::Chain(Op::Plus, operands))
 }
 
@@ -47,35 +44,8 @@ fn third_net(alloc: Global) -> Result<Net, Memory>
     net.table(0, thirds(alloc)?)?;
     net.constant(Word::new(1, 4))?;
     net.cells(Class::Add, 4, sum(alloc)?)?;
-    net.output(
-        "y",
-        Slice {
-            node: 3,
-            high: 3,
-            low: 1,
-        },
-    )?;
+    net.output("y", part(3, 3, 1))?;
     Ok(net)
-}
-
-fn plain(alloc: Global) -> Result<LinearTarget, AllocError> {
-    let lines = [(0, 0), (400, 0), (500, 30), (450, 0), (600, 50), (100, 0)];
-    Ok(LinearTarget::new(String::from_str(alloc, "plain")?, lines))
-}
-
-// What the net is planned as, under the name that its test expects.
-fn planned(
-    alloc: Global,
-    net: &Net,
-    enable: bool,
-    target: &mut Box<dyn Target>,
-    period: u32,
-) -> Result<Planned, PlanFault>
-    requires valid { IsValid net.now }
-    requires inputs { net.now.inputs ≡ (codes "x", 4) ∷ [] }
-    requires outputs { net.now.outputs ≡ (record { name = codes "y"; from = record { node = 3; high = 3; low = 1 } }) ∷ [] }
-{
-    plan(alloc, net, "third", enable, target, period)
 }
 
 #[test]
@@ -83,10 +53,7 @@ fn third_at_900(rt: HostRuntime) -> Result<(), Fail> {
     let net = third_net(rt.alloc())?;
     let mut target: Box<dyn Target> = Box::new(rt.alloc(), plain(rt.alloc())?)?;
     let third = planned(rt.alloc(), &net, false, &mut target, 900)?;
-    assert_eq!(rt; third.latency, 1);
-    assert_eq!(rt; third.slack, 0);
-    assert_eq!(rt; third.cells, [0, 0, 4, 0, 4, 4]);
-    assert_eq!(rt; third.design.signals.len(), 5);
+    expect(&rt, &third, 1, 0, 5, [0, 0, 4, 0, 4, 4]);
     Ok(())
 }
 
@@ -111,5 +78,56 @@ fn third_with_enable(rt: HostRuntime) -> Result<(), Fail> {
     assert_eq!(rt; still.slack, 0);
     assert_eq!(rt; still.design.ports.len(), 3);
     assert!(rt; still.design.enable.is_none());
+    Ok(())
+}
+
+#[test]
+fn third_by_faster_adders(rt: HostRuntime) -> Result<(), Fail> {
+    let net = third_net(rt.alloc())?;
+    let mut target: Box<dyn Target> = Box::new(rt.alloc(), plain(rt.alloc())?)?;
+    assert!(rt; target.retune(Class::Add, 100, 10));
+    let one = planned(rt.alloc(), &net, false, &mut target, 1040)?;
+    expect(&rt, &one, 0, 0, 4, [0, 0, 4, 0, 4, 0]);
+    let two = planned(rt.alloc(), &net, false, &mut target, 1039)?;
+    expect(&rt, &two, 1, 139, 5, [0, 0, 4, 0, 4, 4]);
+    Ok(())
+}
+
+#[test]
+fn third_without_delays(rt: HostRuntime) -> Result<(), Fail> {
+    let net = third_net(rt.alloc())?;
+    let zeros = LinearTarget::new(String::from_str(rt.alloc(), "zeros")?, [(0, 0); 6]);
+    let mut target: Box<dyn Target> = Box::new(rt.alloc(), zeros)?;
+    let plan = planned(rt.alloc(), &net, false, &mut target, 1)?;
+    expect(&rt, &plan, 0, 1, 4, [0, 0, 4, 0, 4, 0]);
+    Ok(())
+}
+
+#[test]
+fn third_with_greatest_delays(rt: HostRuntime) -> Result<(), Fail> {
+    let net = third_net(rt.alloc())?;
+    let delays = vec![in rt.alloc(); u32::MAX; 768]?;
+    let slow = ListTarget::new(String::from_str(rt.alloc(), "slow")?, delays);
+    let mut target: Box<dyn Target> = Box::new(rt.alloc(), slow)?;
+    let refused = planned(rt.alloc(), &net, false, &mut target, u32::MAX);
+    assert!(rt;
+        matches!(
+            refused,
+            Err(PlanFault::PeriodTooShort {
+                need: 8_589_934_590
+            })
+        )
+    );
+    Ok(())
+}
+
+#[test]
+fn third_is_run_with_enable(rt: HostRuntime) -> Result<(), Fail> {
+    let net = third_net(rt.alloc())?;
+    let third = planned_plain(rt.alloc(), &net, true, 900)?;
+    let enable = [1, 0, 1, 1, 0, 0, 1, 1, 0, 1];
+    let x = [1, 5, 15, 2, 7, 0, 3, 12, 9, 6];
+    let y = [0, 1, 1, 5, 1, 1, 1, 1, 4, 4];
+    expect_enabled_run(&rt, rt.alloc(), &third.design, enable, x, y)?;
     Ok(())
 }

@@ -1,6 +1,3 @@
-pub mod WordOps
-pub mod Fitting
-pub mod Plain
 pub mod Widths
 pub mod TableLaws
 pub mod Reading

@@ -1,4 +1,3 @@
-pub mod Fitting
 pub mod Tables
 pub mod Evaluate
 pub mod Step

@@ -10,8 +10,6 @@ mod sim;
 mod tables;
 #[cfg(test)]
 mod tests;
-mod value;
-mod words;
 
 pub use laws::{one_run, steps_are_runs};
 pub use sim::Sim;

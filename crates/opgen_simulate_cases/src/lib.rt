@@ -2,4 +2,8 @@
 #![tactic(auto)]
 
 #[cfg(test)]
+mod enabled;
+#[cfg(test)]
+mod running;
+#[cfg(test)]
 mod texts;

@@ -1,25 +1,8 @@
 //! Documents with a line or two changed, and what `generate` prints for them.
-use opgen_cases::running::generated;
+use crate::running::generated;
+use opgen_harness::documents::{DIVIDE, FILTER, MCM, MULTIPLY, ROOT, SCALE, changed, repeated};
 use std::alloc::{AllocError, Global};
 use std::test::Fail;
-
-pub(crate) const SCALE: &str =
-    "version = 1\nname = \"times3\"\nkind = \"scale\"\nexact = true\ntarget = \"plain\"\nperiod = 10000\nsigned = false\nwidth = 4\nlsb = 0\nout_lsb = 0\ncoefficients = [3]\n";
-
-pub(crate) const FILTER: &str =
-    "version = 1\nname = \"times3\"\nkind = \"fir\"\nexact = true\ntarget = \"plain\"\nperiod = 10000\nsigned = false\nwidth = 4\nlsb = 0\nout_lsb = 0\ncoefficients = [4, 8, 3, 1]\ndenominator = 4\n";
-
-pub(crate) const MULTIPLY: &str =
-    "version = 1\nname = \"product\"\nkind = \"multiply\"\nexact = false\ntarget = \"plain\"\nperiod = 1000000\nsigned = false\nwidth_a = 4\nlsb_a = 24\nwidth_b = 4\nlsb_b = 0\nout_lsb = -24\n";
-
-pub(crate) const DIVIDE: &str =
-    "version = 1\nname = \"quotient\"\nkind = \"divide\"\nexact = false\ntarget = \"plain\"\nperiod = 1000000\nwidth_a = 4\nlsb_a = 0\nwidth_b = 4\nlsb_b = 0\nout_lsb = 0\n";
-
-pub(crate) const ROOT: &str =
-    "version = 1\nname = \"root8\"\nkind = \"root\"\nexact = true\ntarget = \"plain\"\nperiod = 1000000\nwidth = 8\nlsb = 0\nout_lsb = 0\n";
-
-pub(crate) const MCM: &str =
-    "version = 1\nname = \"mcm45\"\nkind = \"mcm\"\nexact = true\ntarget = \"plain\"\nperiod = 1000000\nsigned = false\nwidth = 4\nlsb = 0\nconstants = [0]\nextra = 1\n";
 
 /// A line of a document and what stands in its place.
 type Change = (&'static str, &'static str);
@@ -184,32 +167,32 @@ static NAMES: [Case; 27] = [
     (
         "name = \"times3\"",
         "name = \"s\"",
-        "wrote s.vhd, latency 0",
+        "wrote s.vhd and s.rpt, latency 0",
     ),
     ("name = \"times3\"", "name = \"s1\"", "BadName"),
     ("name = \"times3\"", "name = \"s12\"", "BadName"),
     (
         "name = \"times3\"",
         "name = \"s1_1\"",
-        "wrote s1_1.vhd, latency 0",
+        "wrote s1_1.vhd and s1_1.rpt, latency 0",
     ),
     ("name = \"times3\"", "name = \"y7\"", "BadName"),
     (
         "name = \"times3\"",
         "name = \"y8\"",
-        "wrote y8.vhd, latency 0",
+        "wrote y8.vhd and y8.rpt, latency 0",
     ),
     (
         "name = \"times3\"",
         "name = \"y10\"",
-        "wrote y10.vhd, latency 0",
+        "wrote y10.vhd and y10.rpt, latency 0",
     ),
     ("name = \"times3\"", "name = \"q\"", "BadName"),
     ("name = \"times3\"", "name = \"r\"", "BadName"),
     (
         "name = \"times3\"",
         "name = \"aaaaaaaaaaaaaaaaaaaaaaaaaaaaaaaa\"",
-        "wrote aaaaaaaaaaaaaaaaaaaaaaaaaaaaaaaa.vhd, latency 0",
+        "wrote aaaaaaaaaaaaaaaaaaaaaaaaaaaaaaaa.vhd and aaaaaaaaaaaaaaaaaaaaaaaaaaaaaaaa.rpt, latency 0",
     ),
     (
         "name = \"times3\"",
@@ -219,7 +202,7 @@ static NAMES: [Case; 27] = [
     (
         "name = \"times3\"",
         "name = \"default\"",
-        "wrote default.vhd, latency 0",
+        "wrote default.vhd and default.rpt, latency 0",
     ),
     ("name = \"times3\"", "name = \"café\"", "BadName"),
 ];
@@ -229,7 +212,7 @@ static RANGES: [Case; 36] = [
     (
         "target = \"plain\"",
         "target = \"tttttttttttttttttttttttttttttttt\"",
-        "Unsupported",
+        "UnknownTarget",
     ),
     (
         "target = \"plain\"",
@@ -237,17 +220,21 @@ static RANGES: [Case; 36] = [
         "OutOfRange target 33",
     ),
     ("period = 10000", "period = 0", "OutOfRange period 0"),
-    ("period = 10000", "period = 1", "Unsupported"),
-    ("period = 10000", "period = 999", "Unsupported"),
+    ("period = 10000", "period = 1", "PeriodTooShort 900"),
+    (
+        "period = 10000",
+        "period = 999",
+        "wrote times3.vhd and times3.rpt, latency 0",
+    ),
     (
         "period = 10000",
         "period = 1000",
-        "wrote times3.vhd, latency 0",
+        "wrote times3.vhd and times3.rpt, latency 0",
     ),
     (
         "period = 10000",
         "period = 1000000",
-        "wrote times3.vhd, latency 0",
+        "wrote times3.vhd and times3.rpt, latency 0",
     ),
     (
         "period = 10000",
@@ -256,15 +243,35 @@ static RANGES: [Case; 36] = [
     ),
     ("period = 10000", "period = -5", "OutOfRange period -5"),
     ("width = 4", "width = 0", "OutOfRange width 0"),
-    ("width = 4", "width = 1", "wrote times3.vhd, latency 0"),
-    ("width = 4", "width = 6", "wrote times3.vhd, latency 0"),
-    ("width = 4", "width = 7", "Unsupported"),
-    ("width = 4", "width = 32", "Unsupported"),
+    (
+        "width = 4",
+        "width = 1",
+        "wrote times3.vhd and times3.rpt, latency 0",
+    ),
+    (
+        "width = 4",
+        "width = 6",
+        "wrote times3.vhd and times3.rpt, latency 0",
+    ),
+    (
+        "width = 4",
+        "width = 7",
+        "wrote times3.vhd and times3.rpt, latency 0",
+    ),
+    (
+        "width = 4",
+        "width = 32",
+        "wrote times3.vhd and times3.rpt, latency 0",
+    ),
     ("width = 4", "width = 33", "OutOfRange width 33"),
     ("width = 4", "width = -1", "OutOfRange width -1"),
     ("lsb = 0", "lsb = -33", "OutOfRange lsb -33"),
     ("lsb = 0", "lsb = -32", "NotExact 0"),
-    ("lsb = 0", "lsb = 32", "Unsupported"),
+    (
+        "lsb = 0",
+        "lsb = 32",
+        "wrote times3.vhd and times3.rpt, latency 0",
+    ),
     ("lsb = 0", "lsb = 33", "OutOfRange lsb 33"),
     ("out_lsb = 0", "out_lsb = -33", "OutOfRange out_lsb -33"),
     ("out_lsb = 0", "out_lsb = 33", "OutOfRange out_lsb 33"),
@@ -278,12 +285,20 @@ static RANGES: [Case; 36] = [
         "coefficients = [1, 2]",
         "OutOfRange coefficients 2",
     ),
-    ("coefficients = [3]", "coefficients = [0]", "Unsupported"),
-    ("coefficients = [3]", "coefficients = [-1]", "Unsupported"),
+    (
+        "coefficients = [3]",
+        "coefficients = [0]",
+        "wrote times3.vhd and times3.rpt, latency 0",
+    ),
+    (
+        "coefficients = [3]",
+        "coefficients = [-1]",
+        "wrote times3.vhd and times3.rpt, latency 0",
+    ),
     (
         "coefficients = [3]",
         "coefficients = [1073741824]",
-        "wrote times3.vhd, latency 0",
+        "wrote times3.vhd and times3.rpt, latency 0",
     ),
     (
         "coefficients = [3]",
@@ -293,7 +308,7 @@ static RANGES: [Case; 36] = [
     (
         "coefficients = [3]",
         "coefficients = [-1073741824]",
-        "Unsupported",
+        "wrote times3.vhd and times3.rpt, latency 0",
     ),
     (
         "coefficients = [3]",
@@ -308,7 +323,7 @@ static RANGES: [Case; 36] = [
     (
         "coefficients = [3]",
         "coefficients = [3]\ndenominator = 1",
-        "wrote times3.vhd, latency 0",
+        "wrote times3.vhd and times3.rpt, latency 0",
     ),
     (
         "coefficients = [3]",
@@ -336,7 +351,7 @@ static DELAYS: [Case; 11] = [
     (
         "coefficients = [3]",
         "coefficients = [3]\ndelay = []",
-        "wrote times3.vhd, latency 0",
+        "wrote times3.vhd and times3.rpt, latency 0",
     ),
     (
         "coefficients = [3]",
@@ -361,7 +376,7 @@ static DELAYS: [Case; 11] = [
     (
         "coefficients = [3]",
         "coefficients = [3]\n[[delay]]\nclass = \"add\"\nbase = 100\nper_bit = 10\n[[delay]]\nclass = \"add\"\nbase = 1000000\nper_bit = 10",
-        "Unsupported",
+        "wrote times3.vhd and times3.rpt, latency 0",
     ),
     (
         "coefficients = [3]",
@@ -371,7 +386,7 @@ static DELAYS: [Case; 11] = [
     (
         "coefficients = [3]",
         "coefficients = [3]\n[[delay]]\nclass = \"add\"\nbase = 100\nper_bit = 10\n[[delay]]\nclass = \"add\"\nbase = 100\nper_bit = 10000",
-        "Unsupported",
+        "wrote times3.vhd and times3.rpt, latency 0",
     ),
     (
         "coefficients = [3]",
@@ -448,7 +463,7 @@ static SCALES: [Further; 15] = [
     (
         SCALE,
         &[("version = 1", "version = 2"), ("width = 4", "width = 33")],
-        "Unsupported",
+        "wrote times3.vhd and times3.rpt, latency 0",
     ),
     (
         SCALE,
@@ -470,7 +485,7 @@ static SCALES: [Further; 15] = [
             ("lsb = 0", "lsb = -24"),
             ("out_lsb = 0", "out_lsb = 24"),
         ],
-        "Unsupported",
+        "wrote times3.vhd and times3.rpt, latency 0",
     ),
     (
         SCALE,
@@ -484,7 +499,7 @@ static SCALES: [Further; 15] = [
     (
         SCALE,
         &[("lsb = 0", "lsb = 24"), ("out_lsb = 0", "out_lsb = -24")],
-        "Unsupported",
+        "wrote times3.vhd and times3.rpt, latency 0",
     ),
     (
         SCALE,
@@ -546,7 +561,7 @@ static DECIMALS: [Further; 19] = [
             ("exact = true", "exact = false"),
             ("coefficients = [3]", "coefficients = [\"0.5\"]"),
         ],
-        "Unsupported",
+        "wrote times3.vhd and times3.rpt, latency 0",
     ),
     (
         SCALE,
@@ -554,7 +569,7 @@ static DECIMALS: [Further; 19] = [
             ("exact = true", "exact = false"),
             ("coefficients = [3]", "coefficients = [\"-0.5\"]"),
         ],
-        "Unsupported",
+        "wrote times3.vhd and times3.rpt, latency 0",
     ),
     (
         SCALE,
@@ -586,7 +601,7 @@ static DECIMALS: [Further; 19] = [
             ("exact = true", "exact = false"),
             ("coefficients = [3]", "coefficients = [\"123456789\"]"),
         ],
-        "Unsupported",
+        "wrote times3.vhd and times3.rpt, latency 0",
     ),
     (
         SCALE,
@@ -602,7 +617,7 @@ static DECIMALS: [Further; 19] = [
             ("exact = true", "exact = false"),
             ("coefficients = [3]", "coefficients = [\"0.00000001\"]"),
         ],
-        "Unsupported",
+        "wrote times3.vhd and times3.rpt, latency 0",
     ),
     (
         SCALE,
@@ -658,7 +673,7 @@ static DECIMALS: [Further; 19] = [
             ("exact = true", "exact = false"),
             ("coefficients = [3]", "coefficients = [\"00.5\"]"),
         ],
-        "Unsupported",
+        "wrote times3.vhd and times3.rpt, latency 0",
     ),
     (
         SCALE,
@@ -666,7 +681,7 @@ static DECIMALS: [Further; 19] = [
             ("exact = true", "exact = false"),
             ("coefficients = [3]", "coefficients = [\"-0\"]"),
         ],
-        "Unsupported",
+        "wrote times3.vhd and times3.rpt, latency 0",
     ),
     (
         SCALE,
@@ -682,7 +697,7 @@ static DECIMALS: [Further; 19] = [
             ("exact = true", "exact = false"),
             ("coefficients = [3]", "coefficients = [\"107.374183\"]"),
         ],
-        "Unsupported",
+        "wrote times3.vhd and times3.rpt, latency 0",
     ),
     (
         SCALE,
@@ -705,7 +720,7 @@ static FILTERS: [Further; 3] = [
             ),
             ("denominator = 4", ""),
         ],
-        "Unsupported",
+        "wrote times3.vhd and times3.rpt, latency 0",
     ),
     (
         FILTER,
@@ -729,7 +744,7 @@ static PRODUCTS: [Further; 6] = [
             ("lsb_a = 24", "lsb_a = -24"),
             ("out_lsb = -24", "out_lsb = 24"),
         ],
-        "Unsupported",
+        "wrote product.vhd and product.rpt, latency 0",
     ),
     (
         MULTIPLY,
@@ -740,7 +755,11 @@ static PRODUCTS: [Further; 6] = [
         ],
         "Coarse -49",
     ),
-    (MULTIPLY, &[], "Unsupported"),
+    (
+        MULTIPLY,
+        &[],
+        "wrote product.vhd and product.rpt, latency 0",
+    ),
     (MULTIPLY, &[("lsb_b = 0", "lsb_b = 1")], "Coarse 49"),
     (
         MULTIPLY,
@@ -765,14 +784,18 @@ static PRODUCTS: [Further; 6] = [
 
 static QUOTIENTS_AND_ROOTS: [Further; 11] = [
     (DIVIDE, &[("lsb_b = 0", "lsb_b = 1")], "Coarse -1"),
-    (DIVIDE, &[], "Unsupported"),
+    (
+        DIVIDE,
+        &[],
+        "wrote quotient.vhd and quotient.rpt, latency 0",
+    ),
     (
         DIVIDE,
         &[
             ("lsb_a = 0", "lsb_a = 24"),
             ("out_lsb = 0", "out_lsb = -24"),
         ],
-        "Unsupported",
+        "wrote quotient.vhd and quotient.rpt, latency 0",
     ),
     (
         DIVIDE,
@@ -784,8 +807,12 @@ static QUOTIENTS_AND_ROOTS: [Further; 11] = [
         "Coarse 49",
     ),
     (ROOT, &[("lsb = 0", "lsb = -1")], "Coarse -1"),
-    (ROOT, &[], "Unsupported"),
-    (ROOT, &[("out_lsb = 0", "out_lsb = -24")], "Unsupported"),
+    (ROOT, &[], "wrote root8.vhd and root8.rpt, latency 0"),
+    (
+        ROOT,
+        &[("out_lsb = 0", "out_lsb = -24")],
+        "wrote root8.vhd and root8.rpt, latency 0",
+    ),
     (
         ROOT,
         &[("lsb = 0", "lsb = 1"), ("out_lsb = 0", "out_lsb = -24")],
@@ -794,7 +821,7 @@ static QUOTIENTS_AND_ROOTS: [Further; 11] = [
     (
         DIVIDE,
         &[("width_a = 4", "width_a = 32"), ("lsb_a = 0", "lsb_a = 32")],
-        "Unsupported",
+        "wrote quotient.vhd and quotient.rpt, latency 0",
     ),
     (
         DIVIDE,
@@ -891,24 +918,6 @@ static MULTIPLES: [Further; 13] = [
     ),
 ];
 
-/// The document with its changes; an empty text takes a line away.
-pub(crate) fn changed(
-    alloc: Global,
-    document: &str,
-    changes: &[(&str, &str)],
-) -> Result<String, AllocError> {
-    let mut text = String::new(alloc);
-    for line in document.lines() {
-        let change = changes.iter().find(|change| change.0 == line);
-        let new = change.map_or(line, |change| change.1);
-        if !new.is_empty() {
-            text.push_str(new)?;
-            text.push('\n')?;
-        }
-    }
-    Ok(text)
-}
-
 /// Whether `generate` answers a specification with this fault or line.
 pub(crate) fn answers(alloc: Global, spec: &str, answer: &str) -> Result<bool, AllocError> {
     let ran = generated(alloc, spec)?;
@@ -918,7 +927,7 @@ pub(crate) fn answers(alloc: Global, spec: &str, answer: &str) -> Result<bool, A
         format!(in alloc; "specification: {answer}\n")?
     };
     let status = if answer.starts_with("wrote") { 0 } else { 1 };
-    Ok(ran.status.0 == status && ran.out.bytes() == line.as_bytes())
+    Ok(ran.status == status && ran.out.bytes() == line.as_bytes())
 }
 
 /// The number of the first case that is answered otherwise.
@@ -1018,28 +1027,16 @@ fn multiples(rt: HostRuntime) -> Result<(), Fail> {
     Ok(())
 }
 
-/// A unit so many times between two texts.
-pub(crate) fn repeated(
-    alloc: Global,
-    before: &str,
-    unit: &str,
-    count: u32,
-    after: &str,
-) -> Result<String, AllocError> {
-    let mut text = String::from_str(alloc, before)?;
-    for _ in 0..count {
-        text.push_str(unit)?;
-    }
-    text.push_str(after)?;
-    Ok(text)
-}
-
 /// An element of an exact filter of words of 32 bits, how many stand in its list, and the fault.
 static ELEMENTS: [(&str, u32, &str); 5] = [
     ("1, ", 257, "OutOfRange coefficients 257"),
-    ("1, ", 256, "Unsupported"),
-    ("16777215, ", 256, "Unsupported"),
-    ("16777216, ", 256, "Unsupported"),
+    ("1, ", 256, "wrote times3.vhd and times3.rpt, latency 0"),
+    ("16777215, ", 256, "TooLarge"),
+    (
+        "16777216, ",
+        256,
+        "wrote times3.vhd and times3.rpt, latency 0",
+    ),
     ("16777218, ", 256, "TooWide 65"),
 ];
 
@@ -1062,7 +1059,13 @@ fn long_filters(rt: HostRuntime) -> Result<(), Fail> {
 fn many_delay_lines(rt: HostRuntime) -> Result<(), Fail> {
     let line = "[[delay]]\nclass = \"add\"\nbase = 100\nper_bit = 10\n";
     let sixteen = repeated(rt.alloc(), SCALE, line, 16, "")?;
-    assert!(rt; answers(rt.alloc(), &sixteen, "Unsupported")?);
+    assert!(rt;
+        answers(
+            rt.alloc(),
+            &sixteen,
+            "wrote times3.vhd and times3.rpt, latency 0"
+        )?
+    );
     let seventeen = repeated(rt.alloc(), SCALE, line, 17, "")?;
     assert!(rt; answers(rt.alloc(), &seventeen, "OutOfRange delay 17")?);
     Ok(())

@@ -1,6 +1,7 @@
 //! Documents at the limits of both versions, and what `generate` prints for them. The answers were computed by a program of
 //! another make, and are faults as they are; what has none cannot be built yet.
-use crate::documents::{DIVIDE, FILTER, MCM, MULTIPLY, ROOT, SCALE, answers, changed, repeated};
+use crate::documents::answers;
+use opgen_harness::documents::{DIVIDE, FILTER, MCM, MULTIPLY, ROOT, SCALE, changed, repeated};
 use std::alloc::{AllocError, Global};
 use std::test::Fail;
 
@@ -16,20 +17,20 @@ static SUMS: [Twin; 20] = [
     Twin {
         document: SCALE,
         changes: &[("width = 4", "width = 32")],
-        first: "Unsupported",
-        second: "Unsupported",
+        first: "wrote times3.vhd and times3.rpt, latency 0",
+        second: "wrote times3.vhd and times3.rpt, latency 0",
     },
     Twin {
         document: SCALE,
         changes: &[("width = 4", "width = 33")],
         first: "OutOfRange width 33",
-        second: "Unsupported",
+        second: "wrote times3.vhd and times3.rpt, latency 0",
     },
     Twin {
         document: SCALE,
         changes: &[("width = 4", "width = 48")],
         first: "OutOfRange width 48",
-        second: "Unsupported",
+        second: "wrote times3.vhd and times3.rpt, latency 0",
     },
     Twin {
         document: SCALE,
@@ -56,7 +57,7 @@ static SUMS: [Twin; 20] = [
             ("coefficients = [3]", "coefficients = [1]"),
         ],
         first: "OutOfRange width 48",
-        second: "Unsupported",
+        second: "wrote times3.vhd and times3.rpt, latency 0",
     },
     Twin {
         document: SCALE,
@@ -65,7 +66,7 @@ static SUMS: [Twin; 20] = [
             ("coefficients = [3]", "coefficients = [1073741824]"),
         ],
         first: "OutOfRange width 48",
-        second: "Unsupported",
+        second: "wrote times3.vhd and times3.rpt, latency 0",
     },
     Twin {
         document: SCALE,
@@ -82,25 +83,25 @@ static SUMS: [Twin; 20] = [
             ("signed = false", "signed = true"),
             ("width = 4", "width = 2"),
         ],
-        first: "Unsupported",
-        second: "Unsupported",
+        first: "wrote times3.vhd and times3.rpt, latency 0",
+        second: "wrote times3.vhd and times3.rpt, latency 0",
     },
     Twin {
         document: SCALE,
         changes: &[("lsb = 0", "lsb = 1"), ("out_lsb = 0", "out_lsb = -32")],
-        first: "Unsupported",
+        first: "wrote times3.vhd and times3.rpt, latency 0",
         second: "Coarse 33",
     },
     Twin {
         document: SCALE,
         changes: &[("out_lsb = 0", "out_lsb = -32")],
-        first: "Unsupported",
-        second: "Unsupported",
+        first: "wrote times3.vhd and times3.rpt, latency 0",
+        second: "wrote times3.vhd and times3.rpt, latency 0",
     },
     Twin {
         document: SCALE,
         changes: &[("lsb = 0", "lsb = 16"), ("out_lsb = 0", "out_lsb = -32")],
-        first: "Unsupported",
+        first: "wrote times3.vhd and times3.rpt, latency 0",
         second: "Coarse 48",
     },
     Twin {
@@ -110,8 +111,8 @@ static SUMS: [Twin; 20] = [
             ("lsb = 0", "lsb = -32"),
             ("out_lsb = 0", "out_lsb = 16"),
         ],
-        first: "Unsupported",
-        second: "Unsupported",
+        first: "wrote times3.vhd and times3.rpt, latency 0",
+        second: "wrote times3.vhd and times3.rpt, latency 0",
     },
     Twin {
         document: SCALE,
@@ -131,7 +132,7 @@ static SUMS: [Twin; 20] = [
             ("coefficients = [3]", "coefficients = [1073741823]"),
         ],
         first: "OutOfRange width 48",
-        second: "Unsupported",
+        second: "wrote times3.vhd and times3.rpt, latency 0",
     },
     Twin {
         document: SCALE,
@@ -152,7 +153,7 @@ static SUMS: [Twin; 20] = [
             ("coefficients = [3]", "coefficients = [3]\ndenominator = 3"),
         ],
         first: "OutOfRange width 48",
-        second: "Unsupported",
+        second: "wrote times3.vhd and times3.rpt, latency 0",
     },
     Twin {
         document: FILTER,
@@ -165,7 +166,7 @@ static SUMS: [Twin; 20] = [
             ("denominator = 4", ""),
         ],
         first: "OutOfRange width 48",
-        second: "Unsupported",
+        second: "wrote times3.vhd and times3.rpt, latency 0",
     },
     Twin {
         document: FILTER,
@@ -179,7 +180,7 @@ static SUMS: [Twin; 20] = [
             ("denominator = 4", "denominator = 7"),
         ],
         first: "OutOfRange width 48",
-        second: "Unsupported",
+        second: "TooLarge",
     },
 ];
 
@@ -194,7 +195,7 @@ static PRODUCTS: [Twin; 8] = [
             ("out_lsb = -24", "out_lsb = 0"),
         ],
         first: "OutOfRange width_a 48",
-        second: "Unsupported",
+        second: "wrote product.vhd and product.rpt, latency 0",
     },
     Twin {
         document: MULTIPLY,
@@ -229,7 +230,7 @@ static PRODUCTS: [Twin; 8] = [
             ("out_lsb = -24", "out_lsb = 32"),
         ],
         first: "OutOfRange width_a 48",
-        second: "Unsupported",
+        second: "wrote product.vhd and product.rpt, latency 0",
     },
     Twin {
         document: MULTIPLY,
@@ -272,7 +273,7 @@ static PRODUCTS: [Twin; 8] = [
             ("out_lsb = -24", "out_lsb = 0"),
         ],
         first: "OutOfRange width_a 33",
-        second: "Unsupported",
+        second: "wrote product.vhd and product.rpt, latency 0",
     },
 ];
 
@@ -285,7 +286,7 @@ static OTHERS: [Twin; 10] = [
             ("out_lsb = 0", "out_lsb = -32"),
         ],
         first: "OutOfRange width_a 48",
-        second: "Unsupported",
+        second: "wrote quotient.vhd and quotient.rpt, latency 0",
     },
     Twin {
         document: DIVIDE,
@@ -301,7 +302,7 @@ static OTHERS: [Twin; 10] = [
         document: DIVIDE,
         changes: &[("width_b = 4", "width_b = 48")],
         first: "OutOfRange width_b 48",
-        second: "Unsupported",
+        second: "wrote quotient.vhd and quotient.rpt, latency 0",
     },
     Twin {
         document: DIVIDE,
@@ -311,7 +312,7 @@ static OTHERS: [Twin; 10] = [
             ("out_lsb = 0", "out_lsb = -32"),
         ],
         first: "TooWide 65",
-        second: "Unsupported",
+        second: "wrote quotient.vhd and quotient.rpt, latency 0",
     },
     Twin {
         document: ROOT,
@@ -320,7 +321,7 @@ static OTHERS: [Twin; 10] = [
             ("out_lsb = 0", "out_lsb = -24"),
         ],
         first: "OutOfRange width 48",
-        second: "Unsupported",
+        second: "wrote root8.vhd and root8.rpt, latency 0",
     },
     Twin {
         document: ROOT,
@@ -424,13 +425,13 @@ fn quotients_roots_and_multiples(rt: HostRuntime) -> Result<(), Fail> {
 #[test]
 fn long_filters(rt: HostRuntime) -> Result<(), Fail> {
     let cases = [
-        ("width = 32", "16777218, ", "", "TooWide 65", "Unsupported"),
+        ("width = 32", "16777218, ", "", "TooWide 65", "TooLarge"),
         (
             "width = 48",
             "1, ",
             "denominator = 7",
             "OutOfRange width 48",
-            "Unsupported",
+            "TooLarge",
         ),
     ];
     for (width, element, denominator, first, second) in cases {
@@ -451,7 +452,7 @@ fn long_filters(rt: HostRuntime) -> Result<(), Fail> {
 #[test]
 fn versions(rt: HostRuntime) -> Result<(), Fail> {
     let cases = [
-        ("version = 2", "wrote times3.vhd, latency 0"),
+        ("version = 2", "wrote times3.vhd and times3.rpt, latency 0"),
         ("version = 3", "BadVersion 3"),
         ("version = 0", "BadVersion 0"),
     ];

@@ -10,8 +10,8 @@ abbrev pub Delays : Type 0
 Delays = (class : Class) (width : ℕ) → ℕ
 
 -- the widths that a table is asked for
-abbrev pub IsWidth : ℕ → Type 0
-IsWidth width = (1 ≤ width) × (width ≤ 128)
+abbrev pub IsTableWidth : ℕ → Type 0
+IsTableWidth width = (1 ≤ width) × (width ≤ 128)
 
 -- the delay of a cell
 abbrev pub delay_of : Delays → Cell → ℕ

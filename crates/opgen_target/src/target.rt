@@ -1,5 +1,5 @@
 ghost use Rattle.std.specs.Prelude.{◌≡◌, ℕ, List, Bool, if◌then◌else◌};
-ghost use Rattle.opgen_target.specs.Delays.{Delays, IsWidth, IsLine, delay_of, with_line};
+ghost use Rattle.opgen_target.specs.Delays.{Delays, IsTableWidth, IsLine, delay_of, with_line};
 ghost use Rattle.opgen_target.specs.Ledger.{Ledger, empty_ledger, with_cell};
 
 use crate::{Cell, Class};
@@ -22,7 +22,7 @@ pub trait Target: Drop {
 
     /// The delay of a cell in picoseconds. That of a register of one bit is the setup time.
     fn delay(&self, cell: Cell) -> u32
-        requires { IsWidth cell.width }
+        requires { IsTableWidth cell.width }
         ensures { result ≡ delay_of (delays self.now) cell };
 
     /// Gives the cells of a class the delay `base + per_bit * width`, in picoseconds, and says whether it did.
@@ -44,7 +44,7 @@ pub trait Target: Drop {
 
     /// Adds the width of a cell to the number of its class, which ends at `u64::MAX`.
     fn charge(&mut self, cell: Cell)
-        requires { IsWidth cell.width }
+        requires { IsTableWidth cell.width }
         ensures ledger { ledger self.new ≡ with_cell cell (ledger self.old) }
         ensures target_name { target_name self.new ≡ target_name self.old }
         ensures delays { delays self.new ≡ delays self.old }

@@ -1,26 +1,39 @@
--- Each status of a due answer has its cause.
-use Rattle.std.proofs.Common.{◌≡◌, inl, inr, ℕ, Bool, true, false, cond, List, length, Option, Some, None, Result, Ok, Err, refl, sym, ap, ◌∙◌, arith}
+-- Each status of a due answer has its cause, and each cause of a refused specification makes its refusal due.
+use Rattle.std.proofs.Common.{◌≡◌, ◌≢◌, inl, inr, ℕ, Bool, true, false, cond, List, [], ◌∷◌, length, Option, Some, None, Ok, Err, refl, sym, ap, subst, arith}
 use Rattle.std.specs.Prelude.{nat_le}
 use Rattle.opgen_io.specs.Answers.{fetched}
 use Rattle.opgen_io.specs.Files.{Files}
 use Rattle.opgen_io.specs.declared.folder.FetchFault.TheVariants as fetch
+use Rattle.opgen_operator.specs.declared.spec.DelayLine.{DelayLine}
 use Rattle.opgen_operator.specs.declared.spec.Spec.{Spec}
-use Rattle.opgen_spec.specs.declared.fault.SpecFault.{SpecFault}
 use Rattle.opgen_spec.specs.Document.{tree}
 use Rattle.opgen_spec.specs.Faults.{read}
+use Rattle.opgen_target.specs.Delays.{Delays}
 use Rattle.opgen_top.specs.Answer.{Answer}
-use Rattle.opgen_top.specs.Causes.{HasSpec, IsMade, IsRefusedSpec, IsRefused, IsMissing, IsVhdlRefused, AreVectorsRefused, IsTooLong, HasCause, AnswersHaveCauses}
+use Rattle.opgen_top.specs.Causes.{HasSpec, HasTable, IsMade, IsRefusedSpec, IsRefused, IsMissing, IsVhdlRefused, AreVectorsRefused, IsTooLong, HasCause, AnswersHaveCauses, RefusalsAreDue}
+use Rattle.opgen_top.specs.Causes as cause
 use Rattle.opgen_top.specs.Command.{Command, Generate, Vectors, Simulate}
 use Rattle.opgen_top.specs.Due.{most_bytes, most_simulated_bytes, OnFetch}
 use Rattle.opgen_top.specs.Kinds.{is_built}
 use Rattle.opgen_top.specs.Simulate.{IsSimulated}
-use Rattle.opgen_top.specs.Specified.{IsGenerated, IsVectors, OnBuilt, OnReading, OnSpec}
+use Rattle.opgen_top.specs.Specified.{IsAnswerToSpec, IsGenerated, IsVectors}
+use Rattle.opgen_top.specs.Targets.{Device, takes_lines}
+use Rattle.opgen_top.proofs.SpecCases.{answers_fault, answers_fixed, answers_table, answers_unbuilt, answers_unknown, cases_of_spec}
 
 abbrev pub status_of : Answer → ℕ
 status_of a = a.status
 
-module _ (command : Option Command) (files : Files) (a : Answer) where
-  caused_made : a.status ≡ 0 → IsMade command files a → HasCause command files a
+-- where lines are not taken there is one, and the table is fixed
+fixed_table : (adjustable : Bool) (lines : List DelayLine) → takes_lines adjustable lines ≡ false → (adjustable ≡ false) × (lines ≢ [])
+fixed_table adjustable [] h = absurd (cc)
+fixed_table adjustable (line ∷ lines) h = (h, λ e. cc)
+
+lines_fixed : (adjustable : Bool) (lines : List DelayLine) → adjustable ≡ false → lines ≢ [] → takes_lines adjustable lines ≡ false
+lines_fixed adjustable [] h some = absurd (some refl)
+lines_fixed adjustable (line ∷ lines) h some = h
+
+module _ (command : Option Command) (devices : List Device) (files : Files) (a : Answer) where
+  caused_made : a.status ≡ 0 → IsMade command devices files a → HasCause command devices files a
   caused_made is cause = record {
     made = λ _. cause;
     refused = λ other. absurd (omega (arith, is, other));
@@ -31,7 +44,7 @@ module _ (command : Option Command) (files : Files) (a : Answer) where
     longer = λ other. absurd (omega (arith, is, other));
   }
 
-  caused_refused : a.status ≡ 1 → IsRefused command files → HasCause command files a
+  caused_refused : a.status ≡ 1 → IsRefused command devices files a → HasCause command devices files a
   caused_refused is cause = record {
     made = λ other. absurd (omega (arith, is, other));
     refused = λ _. cause;
@@ -42,7 +55,7 @@ module _ (command : Option Command) (files : Files) (a : Answer) where
     longer = λ other. absurd (omega (arith, is, other));
   }
 
-  caused_usage : a.status ≡ 2 → command ≡ None → HasCause command files a
+  caused_usage : a.status ≡ 2 → command ≡ None → HasCause command devices files a
   caused_usage is cause = record {
     made = λ other. absurd (omega (arith, is, other));
     refused = λ other. absurd (omega (arith, is, other));
@@ -53,7 +66,7 @@ module _ (command : Option Command) (files : Files) (a : Answer) where
     longer = λ other. absurd (omega (arith, is, other));
   }
 
-  caused_missing : a.status ≡ 3 → IsMissing command files → HasCause command files a
+  caused_missing : a.status ≡ 3 → IsMissing command files → HasCause command devices files a
   caused_missing is cause = record {
     made = λ other. absurd (omega (arith, is, other));
     refused = λ other. absurd (omega (arith, is, other));
@@ -64,7 +77,7 @@ module _ (command : Option Command) (files : Files) (a : Answer) where
     longer = λ other. absurd (omega (arith, is, other));
   }
 
-  caused_vhdl : a.status ≡ 6 → IsVhdlRefused command files a → HasCause command files a
+  caused_vhdl : a.status ≡ 6 → IsVhdlRefused command files a → HasCause command devices files a
   caused_vhdl is cause = record {
     made = λ other. absurd (omega (arith, is, other));
     refused = λ other. absurd (omega (arith, is, other));
@@ -75,7 +88,7 @@ module _ (command : Option Command) (files : Files) (a : Answer) where
     longer = λ other. absurd (omega (arith, is, other));
   }
 
-  caused_vectors : a.status ≡ 7 → AreVectorsRefused command files a → HasCause command files a
+  caused_vectors : a.status ≡ 7 → AreVectorsRefused command files a → HasCause command devices files a
   caused_vectors is cause = record {
     made = λ other. absurd (omega (arith, is, other));
     refused = λ other. absurd (omega (arith, is, other));
@@ -86,7 +99,7 @@ module _ (command : Option Command) (files : Files) (a : Answer) where
     longer = λ other. absurd (omega (arith, is, other));
   }
 
-  caused_longer : a.status ≡ 9 → IsTooLong command files → HasCause command files a
+  caused_longer : a.status ≡ 9 → IsTooLong command files → HasCause command devices files a
   caused_longer is cause = record {
     made = λ other. absurd (omega (arith, is, other));
     refused = λ other. absurd (omega (arith, is, other));
@@ -99,56 +112,86 @@ module _ (command : Option Command) (files : Files) (a : Answer) where
 
   -- by what fetching a file gives
   on_under : (under : Option (List ℕ)) (most : ℕ) (said : List ℕ → Type 0) → (under ≡ None → IsMissing command files)
-      → (fetched under most ≡ Err fetch.TooLong → IsTooLong command files) → ((bytes : List ℕ) → under ≡ Some bytes → said bytes → HasCause command files a)
-      → OnFetch (fetched under most) a said → HasCause command files a
+      → (fetched under most ≡ Err fetch.TooLong → IsTooLong command files) → ((bytes : List ℕ) → under ≡ Some bytes → said bytes → HasCause command devices files a)
+      → OnFetch (fetched under most) a said → HasCause command devices files a
   on_under None most said missing longer whole h = caused_missing (ap status_of h) (missing refl)
   on_under (Some bytes) most said missing longer whole h = go (nat_le (length bytes) most) refl h
     where
-      go : (fits : Bool) → nat_le (length bytes) most ≡ fits → OnFetch (cond fits (Ok bytes) (Err fetch.TooLong)) a said → HasCause command files a
+      go : (fits : Bool) → nat_le (length bytes) most ≡ fits → OnFetch (cond fits (Ok bytes) (Err fetch.TooLong)) a said → HasCause command devices files a
       go true e is = whole bytes refl is
       go false e is = caused_longer (ap status_of is) (longer (ap (λ b. cond b (Ok bytes) (Err fetch.TooLong)) e))
 
-  -- by what the bytes of a specification give
-  on_spec : (spec bytes : List ℕ) (said : Spec → Answer → Type 0) → files spec ≡ Some bytes → (IsRefusedSpec spec files → IsRefused command files)
-      → ((asked : Spec) → said asked a → a.status ≡ 0) → (HasSpec spec files (λ s. said s a) → IsMade command files a) → OnSpec bytes a said → HasCause command files a
-  on_spec spec bytes said stands refusing ok making h = go (read (tree bytes)) refl h
-    where
-      built : (asked : Spec) → read (tree bytes) ≡ Ok asked → (b : Bool) → is_built asked ≡ b → OnBuilt b a (said asked a) → HasCause command files a
-      built asked reads true e is =
-          caused_made (ok asked is) (making record { bytes = bytes; stands = stands; spec = asked; reads = reads; built = e; says = is })
-      built asked reads false e is =
-          caused_refused (ap status_of is) (refusing record {
-            bytes = bytes;
-            stands = stands;
-            refused = λ other again is_other. let same : Ok asked ≡ Ok other = sym reads ∙ again in let no : asked ≡ other = cc in
-                let both : true ≡ false = sym is_other ∙ ap is_built (sym no) ∙ e in cc;
-          })
-
-      go : (r : Result Spec SpecFault) → read (tree bytes) ≡ r → OnReading r a (λ s. said s a) → HasCause command files a
-      go (Ok asked) reads is = built asked reads (is_built asked) refl is
-      go (Err fault) reads is =
-          caused_refused (ap status_of is) (refusing record {
-            bytes = bytes;
-            stands = stands;
-            refused = λ other again is_other. let same : Err fault ≡ Ok other = sym reads ∙ again in cc;
-          })
+  -- by what the bytes of a specification and the targets give
+  on_spec : (file bytes : List ℕ) (said : Spec → Delays → Answer → Type 0) → files file ≡ Some bytes → (IsRefusedSpec file devices files a → IsRefused command devices files a)
+      → ((spec : Spec) (table : Delays) → said spec table a → a.status ≡ 0) → (HasTable file devices files (λ s table. said s table a) → IsMade command devices files a)
+      → IsAnswerToSpec bytes devices said a → HasCause command devices files a
+  on_spec file bytes said stands refusing ok making h =
+      let has : (spec : Spec) → read (tree bytes) ≡ Ok spec → is_built spec ≡ true → HasSpec file files spec =
+      λ spec reads built. record { bytes = bytes; stands = stands; reads = reads; built = built } in
+      cases_of_spec bytes devices said a (HasCause command devices files a)
+      (λ fault reads is. caused_refused (ap status_of is) (refusing (cause.faulty bytes fault stands reads is)))
+      (λ spec reads built is. caused_refused (ap status_of is) (refusing (cause.unbuilt bytes spec stands reads built is)))
+      (λ spec reads built found is. caused_refused (ap status_of is) (refusing (cause.no_target spec (has spec reads built) found is)))
+      (λ spec device reads built found takes is.
+      let fixed = fixed_table device.adjustable spec.delays takes in
+      caused_refused (ap status_of is) (refusing (cause.fixed_table spec device (has spec reads built) found fixed.0 fixed.1 is)))
+      (λ spec table reads built of on. elim on [
+        | inl short ↦ caused_refused (ap status_of short.answer)
+            (refusing (cause.short_period record { spec = spec; has_spec = has spec reads built; table = table; of_target = of; says = short }))
+        | inr (inl large) ↦ caused_refused (ap status_of large.answer)
+            (refusing (cause.many_signals record { spec = spec; has_spec = has spec reads built; table = table; of_target = of; says = large }))
+        | inr (inr made) ↦ caused_made (ok spec table made) (making record { spec = spec; has_spec = has spec reads built; table = table; of_target = of; says = made })
+      ]) h
 
 pub answers_have_causes : AnswersHaveCauses
-answers_have_causes None files a h = caused_usage None files a (ap status_of h) refl
-answers_have_causes (Some (Generate spec)) files a h =
+answers_have_causes None devices files a h = caused_usage None devices files a (ap status_of h) refl
+answers_have_causes (Some (Generate spec)) devices files a h =
     let command = Some (Generate spec) in
-    on_under command files a (files spec) most_bytes (λ bytes. OnSpec bytes a IsGenerated) (λ e. e) (λ e. e)
-    (λ bytes stands. on_spec command files a spec bytes IsGenerated stands (λ r. r) (λ s g. ap status_of g.answer) (λ m. m)) h
-answers_have_causes (Some (Vectors spec)) files a h =
+    on_under command devices files a (files spec) most_bytes (λ bytes. IsAnswerToSpec bytes devices IsGenerated a) (λ e. e) (λ e. e)
+    (λ bytes stands. on_spec command devices files a spec bytes IsGenerated stands (λ r. r) (λ s table g. ap status_of g.answer) (λ m. m)) h
+answers_have_causes (Some (Vectors spec)) devices files a h =
     let command = Some (Vectors spec) in
-    on_under command files a (files spec) most_bytes (λ bytes. OnSpec bytes a IsVectors) (λ e. e) (λ e. e)
-    (λ bytes stands. on_spec command files a spec bytes IsVectors stands (λ r. r) (λ s g. ap status_of g.answer) (λ m. m)) h
-answers_have_causes (Some (Simulate vhdl vectors out)) files a h =
+    on_under command devices files a (files spec) most_bytes (λ bytes. IsAnswerToSpec bytes devices IsVectors a) (λ e. e) (λ e. e)
+    (λ bytes stands. on_spec command devices files a spec bytes IsVectors stands (λ r. r) (λ s table g. ap status_of g.answer) (λ m. m)) h
+answers_have_causes (Some (Simulate vhdl vectors out)) devices files a h =
     let command = Some (Simulate vhdl vectors out) in
-    on_under command files a (files vhdl) most_simulated_bytes (λ text. OnFetch (fetched (files vectors) most_simulated_bytes) a (λ rows. IsSimulated out text rows a)) inl inl
-    (λ text stands. on_under command files a (files vectors) most_simulated_bytes (λ rows. IsSimulated out text rows a) inr inr
+    on_under command devices files a (files vhdl) most_simulated_bytes (λ text. OnFetch (fetched (files vectors) most_simulated_bytes) a (λ rows. IsSimulated out text rows a)) inl inl
+    (λ text stands. on_under command devices files a (files vectors) most_simulated_bytes (λ rows. IsSimulated out text rows a) inr inr
     (λ rows also is. elim is [
-      | inl cause ↦ caused_vhdl command files a (ap status_of cause.answer) record { text = text; stands = stands; refused = cause }
-      | inr (inl cause) ↦ caused_vectors command files a (ap status_of cause.refused.answer) record { text = text; stands = stands; rows = rows; also_stands = also; says = cause }
-      | inr (inr runs) ↦ caused_made command files a (ap status_of runs.answer) record { text = text; stands = stands; rows = rows; also_stands = also; says = runs }
+      | inl because ↦ caused_vhdl command devices files a (ap status_of because.answer) record { text = text; stands = stands; refused = because }
+      | inr (inl because) ↦ caused_vectors command devices files a (ap status_of because.refused.answer)
+          record { text = text; stands = stands; rows = rows; also_stands = also; says = because }
+      | inr (inr runs) ↦ caused_made command devices files a (ap status_of runs.answer) record { text = text; stands = stands; rows = rows; also_stands = also; says = runs }
     ])) h
+
+-- a file that is not too long is fetched whole
+on_whole : (under : Option (List ℕ)) (bytes : List ℕ) (a : Answer) (said : List ℕ → Type 0) → under ≡ Some bytes → (fetched under most_bytes ≡ Err fetch.TooLong → ⊥) → said bytes
+    → OnFetch (fetched under most_bytes) a said
+on_whole None bytes a said e short h = absurd (cc)
+on_whole (Some held) bytes a said e short h = go (nat_le (length held) most_bytes) refl
+  where
+    go : (fits : Bool) → nat_le (length held) most_bytes ≡ fits → OnFetch (cond fits (Ok held) (Err fetch.TooLong)) a said
+    go true is = let same : held ≡ bytes = cc in subst said (sym same) h
+    go false is = absurd (short (ap (λ b. cond b (Ok held) (Err fetch.TooLong)) is))
+
+module _ (said : Spec → Delays → Answer → Type 0) (file : List ℕ) (devices : List Device) (files : Files) (a : Answer) (short : fetched (files file) most_bytes ≡ Err fetch.TooLong → ⊥) where
+  whole : (bytes : List ℕ) → files file ≡ Some bytes → IsAnswerToSpec bytes devices said a → OnFetch (fetched (files file) most_bytes) a (λ bytes. IsAnswerToSpec bytes devices said a)
+  whole bytes stands h = on_whole (files file) bytes a (λ bytes. IsAnswerToSpec bytes devices said a) stands short h
+
+  refusal_due : IsRefusedSpec file devices files a → OnFetch (fetched (files file) most_bytes) a (λ bytes. IsAnswerToSpec bytes devices said a)
+  refusal_due (cause.faulty bytes fault stands reads is) = whole bytes stands (answers_fault bytes devices said a fault reads is)
+  refusal_due (cause.unbuilt bytes spec stands reads built is) = whole bytes stands (answers_unbuilt bytes devices said a spec reads built is)
+  refusal_due (cause.no_target spec has found is) = whole has.bytes has.stands (answers_unknown has.bytes devices said a spec has.reads has.built found is)
+  refusal_due (cause.fixed_table spec device has found fixed some is) =
+      whole has.bytes has.stands (answers_fixed has.bytes devices said a spec device has.reads has.built found (lines_fixed device.adjustable spec.delays fixed some) is)
+  refusal_due (cause.short_period h) =
+      let has = h.has_spec in whole has.bytes has.stands (answers_table has.bytes devices said a h.spec h.table has.reads has.built h.of_target (inl h.says))
+  refusal_due (cause.many_signals h) =
+      let has = h.has_spec in whole has.bytes has.stands (answers_table has.bytes devices said a h.spec h.table has.reads has.built h.of_target (inr (inl h.says)))
+
+pub refusals_are_due : RefusalsAreDue
+refusals_are_due (Generate spec) file on devices files a short refused =
+    subst (λ name. OnFetch (fetched (files name) most_bytes) a (λ bytes. IsAnswerToSpec bytes devices IsGenerated a)) (sym on) (refusal_due IsGenerated file devices files a short refused)
+refusals_are_due (Vectors spec) file on devices files a short refused =
+    subst (λ name. OnFetch (fetched (files name) most_bytes) a (λ bytes. IsAnswerToSpec bytes devices IsVectors a)) (sym on) (refusal_due IsVectors file devices files a short refused)
+refusals_are_due (Simulate vhdl vectors out) file on devices files a short refused = absurd on

@@ -13,6 +13,7 @@ use Rattle.opgen_top.specs.Printed as printed
 use Rattle.opgen_top.specs.Lines.{usage_line}
 use Rattle.opgen_top.specs.Statuses.{HasLine, IsDueStatus, IsSilent, TellsOr}
 use Rattle.opgen_top.specs.Stores.{stored_all, HasBroken, HasFirst}
+use Rattle.opgen_top.specs.Targets.{Device}
 use Rattle.opgen_top.proofs.Parts.{takes-nothing, told_status, not_silent, not_four, due_line, not_three}
 use Rattle.opgen_top.proofs.Storing.{all_done}
 
@@ -25,18 +26,18 @@ line_taken result held line now has (inl silent) = absurd (not_silent result has
 line_taken result held line now has (inr taken) = taken
 
 -- stores change no count of reading
-pub later_reads : (command : Option Command) (told : Option Files) (before : Reads) (faults lacks longs later : ℕ) (a : Answer) → later ≡ faults
-    → IsPrepared command told before (record { faults = faults; lacks = lacks; longs = longs }) a → IsPrepared command told before (record { faults = later; lacks = lacks; longs = longs }) a
-later_reads command told before faults lacks longs later a same prepared =
-    subst (λ n. IsPrepared command told before (record { faults = n; lacks = lacks; longs = longs }) a) (sym same) prepared
+pub later_reads : (command : Option Command) (devices : List Device) (told : Option Files) (before : Reads) (faults lacks longs later : ℕ) (a : Answer) → later ≡ faults
+    → IsPrepared command devices told before (record { faults = faults; lacks = lacks; longs = longs }) a → IsPrepared command devices told before (record { faults = later; lacks = lacks; longs = longs }) a
+later_reads command devices told before faults lacks longs later a same prepared =
+    subst (λ n. IsPrepared command devices told before (record { faults = n; lacks = lacks; longs = longs }) a) (sym same) prepared
 
 -- an answer whose line was put, or was to be
-module _ (command : Option Command) (told : Option Files) (reads reads_now : Reads) (a : Answer) (prepared : IsPrepared command told reads reads_now a)
+module _ (command : Option Command) (devices : List Device) (told : Option Files) (reads reads_now : Reads) (a : Answer) (prepared : IsPrepared command devices told reads reads_now a)
     (result : ℕ) (after : Option Files) (before now : Option (List ℕ)) (puts puts_now : ℕ) (tells : TellsOr a.status puts puts_now result)
     (taken : (held : List ℕ) → before ≡ Some held → IsSilent result ⊎ (now ≡ Some (held ++ a.line)))
     (part : result ≡ 4 → TakesPrefix before a.line now)
     (stores : (files : Files) → told ≡ Some files → after ≡ Some (stored_all a.stores files)) where
-  gives : (files : Files) → told ≡ Some files → IsAnswerOf command files a → HasLine result → IsAnswered command files result after before now
+  gives : (files : Files) → told ≡ Some files → IsAnswerOf command devices files a → HasLine result → IsAnswered command devices files result after before now
   gives files is due has = record {
     answer = a;
     due = due;
@@ -45,19 +46,19 @@ module _ (command : Option Command) (told : Option Files) (reads reads_now : Rea
     line = λ held holds. line_taken result held a.line now has (taken held holds);
   }
 
-  pub gives_due : (files : Files) → told ≡ Some files → IsDueStatus result → IsAnswered command files result after before now
+  pub gives_due : (files : Files) → told ≡ Some files → IsDueStatus result → IsAnswered command devices files result after before now
   gives_due files is status = elim (prepared.due files is) [
     | inl fault ↦ absurd (not_three result status (told_status a.status puts puts_now result tells (due_line result status) ∙ ap status_of fault.0))
     | inr due ↦ gives files is due (due_line result status)
   ]
 
-  pub gives_missing : (files : Files) → told ≡ Some files → Stood reads.faults reads_now.faults → result ≡ 3 → IsAnswered command files result after before now
+  pub gives_missing : (files : Files) → told ≡ Some files → Stood reads.faults reads_now.faults → result ≡ 3 → IsAnswered command devices files result after before now
   gives_missing files is stood e = elim (prepared.due files is) [
     | inl fault ↦ let rose = fault.1 in absurd (omega (arith, stood, rose))
     | inr due ↦ gives files is due (inr (inr (inr (inl e))))
   ]
 
-  pub gives_all : (files : Files) → told ≡ Some files → Stood reads.faults reads_now.faults → Stood puts puts_now → HasLine a.status → (result ≡ 5) ⊎ IsAnswered command files result after before now
+  pub gives_all : (files : Files) → told ≡ Some files → Stood reads.faults reads_now.faults → Stood puts puts_now → HasLine a.status → (result ≡ 5) ⊎ IsAnswered command devices files result after before now
   gives_all files is stood put has = elim (prepared.due files is) [
     | inl fault ↦ let rose = fault.1 in absurd (omega (arith, stood, rose))
     | inr due ↦ elim tells [
@@ -67,7 +68,7 @@ module _ (command : Option Command) (told : Option Files) (reads reads_now : Rea
     ]
   ]
 
-  pub due_now : (files : Files) → told ≡ Some files → result ≡ 0 → IsAnswerOf command files a × (a.status ≡ 0)
+  pub due_now : (files : Files) → told ≡ Some files → result ≡ 0 → IsAnswerOf command devices files a × (a.status ≡ 0)
   due_now files is ok =
       let status = told_status a.status puts puts_now result tells (inl ok) in
       elim (prepared.due files is) [
@@ -84,7 +85,7 @@ module _ (command : Option Command) (told : Option Files) (reads reads_now : Rea
   ]
 
   pub left_unprinted : (files : Files) (write : Type 0) → told ≡ Some files → HasLine a.status → result ≡ 4
-      → LeftByFault command files (Rose reads.faults reads_now.faults) write (Rose puts puts_now) after before now
+      → LeftByFault command devices files (Rose reads.faults reads_now.faults) write (Rose puts puts_now) after before now
   left_unprinted files write is has four = elim (prepared.due files is) [
     | inl fault ↦ inl record {
       why = fault.1;
@@ -94,7 +95,7 @@ module _ (command : Option Command) (told : Option Files) (reads reads_now : Rea
     | inr due ↦ inr (a, due, inr record { why = put_counted has four; stores = stores files is; part = part four })
   ]
 
-  pub left_memory : (files : Files) → told ≡ Some files → LeftByMemory command files after
+  pub left_memory : (files : Files) → told ≡ Some files → LeftByMemory command devices files after
   left_memory files is = elim (prepared.due files is) [
     | inl fault ↦ inl (stores files is ∙ ap (λ (b : Answer). Some (stored_all b.stores files)) fault.0)
     | inr due ↦ inr (a, due, all_done a.stores files after (stores files is))
@@ -133,16 +134,16 @@ nothing_printed result puts puts_now before now silent same held holds = record 
 }
 
 -- a store of the answer failed
-module _ (command : Option Command) (told : Option Files) (reads reads_now : Reads) (a : Answer) (prepared : IsPrepared command told reads reads_now a)
+module _ (command : Option Command) (devices : List Device) (told : Option Files) (reads reads_now : Reads) (a : Answer) (prepared : IsPrepared command devices told reads reads_now a)
     (after : Option Files) (before now : Option (List ℕ)) (some : a.stores ≡ [] → ⊥) where
   pub left_unstored : (files : Files) (write put : Type 0) → told ≡ Some files → write → HasBroken a.stores files after → now ≡ before
-      → LeftByFault command files (Rose reads.faults reads_now.faults) write put after before now
+      → LeftByFault command devices files (Rose reads.faults reads_now.faults) write put after before now
   left_unstored files write put is why broken same = elim (prepared.due files is) [
     | inl fault ↦ absurd (some (ap (λ (b : Answer). b.stores) fault.0))
     | inr due ↦ inr (a, due, inl record { why = why; broken = broken; unprinted = same })
   ]
 
-  pub left_first : (files : Files) → told ≡ Some files → HasFirst a.stores files after → LeftByMemory command files after
+  pub left_first : (files : Files) → told ≡ Some files → HasFirst a.stores files after → LeftByMemory command devices files after
   left_first files is first = elim (prepared.due files is) [
     | inl fault ↦ absurd (some (ap (λ (b : Answer). b.stores) fault.0))
     | inr due ↦ inr (a, due, first)

@@ -1,50 +1,62 @@
 -- The answer of `generate` carries the headline.
-use Rattle.std.proofs.Common.{◌≡◌, ◌≤◌, ◌^◌, ℕ, List, [], ◌∷◌, ◌++◌, length, map, Option, Some, refl, ap, ◌∙◌, subst, arith}
+use Rattle.std.proofs.Common.{◌≡◌, ℕ, false, List, ◌++◌, Option, Some, refl, ap, ◌∙◌}
 use Rattle.opgen_io.specs.Files.{Files}
+use Rattle.opgen_pipe.specs.Cells.{net_delays}
+use Rattle.opgen_pipe.specs.Planned.{slots_of}
+use Rattle.opgen_pipe.proofs.Follows.{run-follows}
+use Rattle.opgen_report.specs.Report.{report}
+use Rattle.opgen_schedule.specs.Stage.{slot_at}
+use Rattle.opgen_target.specs.Delays.{Delays, setup}
 use Rattle.opgen_vhdl.specs.DesignText.{text_of}
 use Rattle.opgen_vhdl.proofs.Walks.{one_design}
-use Rattle.opgen_top.specs.declared.answer.NewFile.{NewFile}
+use Rattle.opgen_operator.specs.declared.spec.Spec.{Spec}
+use Rattle.opgen_pipe.specs.declared.planning.Planned.{Planned}
 use Rattle.opgen_top.specs.Answer.{Answer}
+use Rattle.opgen_top.specs.Circuit.{IsCircuit, Serves}
 use Rattle.opgen_top.specs.Command.{Generate}
 use Rattle.opgen_top.specs.Due.{IsAnswerOf}
 use Rattle.opgen_top.specs.Headline.{Headline}
-use Rattle.opgen_top.specs.Prepared.{store_of}
-use Rattle.opgen_top.specs.Stores.{Store, stored_all}
+use Rattle.opgen_top.specs.Stores.{stored_all}
+use Rattle.opgen_top.specs.Targets.{Device}
 use Rattle.opgen_top.proofs.Caused.{answers_have_causes}
-use Rattle.opgen_top.proofs.Serving.{circuits_serve}
-use Rattle.opgen_top.proofs.Spelled.{written_spells}
+use Rattle.opgen_top.proofs.Planning.{circuit_serves, circuit_sound, circuit_spells, fit}
 
--- each of the stores was in memory
-abbrev pub AreShort : List Store → Type 0
-AreShort [] = Unit {0}
-AreShort (s ∷ stores) = (length s.bytes ≤ 2 ^ 64) × AreShort stores
+-- without a clock enable a circuit's words follow the flow of its net
+pub plainly_serves : (spec : Spec) (table : Delays) (planned : Planned) (adders : List ℕ) → IsCircuit spec table false planned adders → Serves spec planned.latency false planned.design
+plainly_serves spec table planned adders c =
+    circuit_serves spec table false planned adders c
+    (run-follows spec.name false c.net (slot_at (slots_of table spec.period c.net)) (net_delays table c.net) (setup table) spec.period c.fitting.fits.valid (fit spec table false planned adders c))
 
-pub are_short : (files : List NewFile) → AreShort (map store_of files)
-are_short [] = tt
-are_short (file ∷ files) = (omega (arith, file.bytes.small, file.bytes.ok.0, file.bytes.ok.1), are_short files)
-
-pub heading : (file : List ℕ) (files : Files) (a : Answer) (after : Option Files) (before now : Option (List ℕ)) → IsAnswerOf (Some (Generate file)) files a → a.status ≡ 0
-    → AreShort a.stores → after ≡ Some (stored_all a.stores files) → ((held : List ℕ) → before ≡ Some held → now ≡ Some (held ++ a.line)) → Headline file files after before now
-heading file files a after before now due ok short stores line =
-    let made = (answers_have_causes (Some (Generate file)) files a due).made ok in
+pub heading : (file : List ℕ) (devices : List Device) (files : Files) (a : Answer) (after : Option Files) (before now : Option (List ℕ)) → IsAnswerOf (Some (Generate file)) devices files a → a.status ≡ 0
+    → after ≡ Some (stored_all a.stores files) → ((held : List ℕ) → before ≡ Some held → now ≡ Some (held ++ a.line)) → Headline file devices files after before now
+heading file devices files a after before now due ok stores line =
+    let made = (answers_have_causes (Some (Generate file)) devices files a due).made ok in
+    let spec = made.spec in
+    let table = made.table in
     let g = made.says in
-    let c = g.circuit in
-    let text = text_of g.design in
-    let small = subst (λ (b : Answer). AreShort b.stores) g.answer short in
-    let spelled = written_spells made.spec.name c.net g.design text c.made c.fits.valid c.named c.sound refl small.0 in record {
-      bytes = made.bytes;
-      stands = made.stands;
-      spec = made.spec;
-      accepted = made.reads;
-      built = made.built;
-      text = text;
-      store = stores ∙ ap (λ (b : Answer). Some (stored_all b.stores files)) g.answer;
-      design = g.design;
-      called = ap (λ d. d.name) c.made;
+    let planned = g.planned in
+    let spelled = circuit_spells spec table false planned g.adders g.circuit in record {
+      bytes = made.has_spec.bytes;
+      stands = made.has_spec.stands;
+      spec = spec;
+      accepted = made.has_spec.reads;
+      built = made.has_spec.built;
+      table = table;
+      of_target = made.of_target;
+      planned = planned;
+      adders = g.adders;
+      circuit = g.circuit;
+      text = text_of planned.design;
+      facts = report spec planned g.adders;
+      stores = stores ∙ ap (λ (b : Answer). Some (stored_all b.stores files)) g.answer;
+      design = planned.design;
+      called = ap (λ d. d.name) g.circuit.plan.design;
       spelled = spelled;
-      no_other = λ other s. one_design text other g.design s spelled;
-      sound = c.sound;
-      latency = g.latency;
+      no_other = λ other s. one_design (text_of planned.design) other planned.design s spelled;
+      sound = circuit_sound spec table false planned g.adders g.circuit;
+      latency = planned.latency;
+      is_planned = (refl, refl);
+      reported = refl;
       line = λ held tells. line held tells ∙ ap (λ (b : Answer). Some (held ++ b.line)) g.answer;
-      serves = circuits_serve made.spec g.latency g.design c;
+      serves = plainly_serves spec table planned g.adders g.circuit;
     }

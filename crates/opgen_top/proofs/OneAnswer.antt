@@ -1,23 +1,31 @@
--- The words and the files leave at most one answer.
-use Rattle.std.proofs.Common.{◌≡◌, ℕ, Bool, true, false, List, Option, Some, None, Result, Ok, Err, sym, ap, ◌∙◌, subst}
+-- The words, the targets and the files leave at most one answer.
+use Rattle.std.proofs.Common.{◌≡◌, inl, inr, ℕ, Bool, true, false, List, Option, Some, None, Result, Ok, Err, sym, ap, ◌∙◌, subst, arith}
 use Rattle.opgen_io.specs.Answers.{fetched}
 use Rattle.opgen_io.specs.declared.folder.FetchFault.{FetchFault}
 use Rattle.opgen_io.specs.declared.folder.FetchFault.TheVariants as fetch
+use Rattle.opgen_mult.specs.OneNet.{HasOneNet as HasOneProduct}
 use Rattle.opgen_operator.specs.declared.spec.Spec.{Spec}
+use Rattle.opgen_pipe.specs.declared.planning.Planned.{Planned}
+use Rattle.opgen_pipe.specs.Cells.{need}
+use Rattle.opgen_report.specs.Report.{report}
 use Rattle.opgen_spec.specs.declared.fault.SpecFault.{SpecFault}
 use Rattle.opgen_spec.specs.Document.{tree}
 use Rattle.opgen_spec.specs.Faults.{read}
+use Rattle.opgen_target.specs.Delays.{Delays}
 use Rattle.opgen_vhdl.specs.DesignText.{text_of}
 use Rattle.opgen_vec.specs.Stimulus.{stimulus_cells}
-use Rattle.opgen_top.specs.Answer.{Answer, wrote, wrote_vectors}
+use Rattle.opgen_top.specs.Answer.{Answer, period_too_short, wrote, wrote_vectors}
+use Rattle.opgen_top.specs.Circuit.{IsCircuit, signals_of}
 use Rattle.opgen_top.specs.Command.{Generate, Vectors, Simulate}
 use Rattle.opgen_top.specs.Due.{most_bytes, most_simulated_bytes, OnFetch, HasOneAnswer}
 use Rattle.opgen_top.specs.Kinds.{is_built}
 use Rattle.opgen_top.specs.Running.{IsRunText}
 use Rattle.opgen_top.specs.Simulate.{IsSimulated}
-use Rattle.opgen_top.specs.Specified.{IsGenerated, IsVectors, cycles, seed, OnBuilt, OnReading, OnSpec}
-use Rattle.opgen_top.proofs.OneCircuit.{one_circuit}
+use Rattle.opgen_top.specs.Specified.{IsAnswerToSpec, IsGenerated, IsVectors, IsTooShort, IsTooLarge, cycles, seed, OnBuilt, OnLines, OnReading, OnTable, OnTarget}
+use Rattle.opgen_top.specs.Targets.{Device, chosen, takes_lines, tuned}
+use Rattle.opgen_top.proofs.OneCircuit.{one_circuit, one_fitting}
 use Rattle.opgen_top.proofs.OneSimulated.{one_text, one_simulated}
+use Rattle.opgen_top.proofs.Planning.{circuit_sound}
 
 -- what is said of the bytes leaves one answer
 one_on_fetch : (r : Result (List ℕ) FetchFault) (a b : Answer) (said other : List ℕ → Type 0) → ((bytes : List ℕ) → said bytes → other bytes → a ≡ b) → OnFetch r a said → OnFetch r b other → a ≡ b
@@ -34,29 +42,88 @@ one_on_reading : (r : Result Spec SpecFault) (a b : Answer) (said other : Spec �
 one_on_reading (Ok spec) a b said other one h k = one_on_built (is_built spec) a b (said spec) (other spec) (one spec) h k
 one_on_reading (Err fault) a b said other one h k = h ∙ sym k
 
-one_generated : (spec : Spec) (a b : Answer) → IsGenerated spec a → IsGenerated spec b → a ≡ b
-one_generated spec a b h k =
-    let (latency, design) = one_circuit spec h.latency k.latency h.design k.design h.circuit k.circuit in
-    h.answer ∙ ap (λ l. wrote spec.name l (text_of h.design)) latency ∙ ap (λ d. wrote spec.name k.latency (text_of d)) design ∙ sym k.answer
+one_on_lines : (takes : Bool) (a b : Answer) (said other : Type 0) → (said → other → a ≡ b) → OnLines takes a said → OnLines takes b other → a ≡ b
+one_on_lines true a b said other one h k = one h k
+one_on_lines false a b said other one h k = h ∙ sym k
 
-one_vectors : (spec : Spec) (a b : Answer) → IsVectors spec a → IsVectors spec b → a ≡ b
-one_vectors spec a b h k =
-    let cells = stimulus_cells spec seed cycles in
-    let (latency, design) = one_circuit spec h.latency k.latency h.design k.design h.circuit k.circuit in
-    let run = subst (λ d. IsRunText d cycles cells h.rows) design h.run in
-    h.answer ∙ ap (wrote_vectors spec.name) (one_text k.design k.circuit.sound cycles cells h.rows k.rows run k.run) ∙ sym k.answer
+one_on_target : (found : Option Device) (spec : Spec) (a b : Answer) (said other : Delays → Type 0) → ((table : Delays) → said table → other table → a ≡ b)
+    → OnTarget found spec a said → OnTarget found spec b other → a ≡ b
+one_on_target (Some device) spec a b said other one h k =
+    let table = tuned device.delays spec.delays in
+    one_on_lines (takes_lines device.adjustable spec.delays) a b (said table) (other table) (one table) h k
+one_on_target None spec a b said other one h k = h ∙ sym k
 
-one_of_spec : (said : Spec → Answer → Type 0) → ((spec : Spec) (a b : Answer) → said spec a → said spec b → a ≡ b)
-    → (under : Option (List ℕ)) (a b : Answer) → OnFetch (fetched under most_bytes) a (λ bytes. OnSpec bytes a said) → OnFetch (fetched under most_bytes) b (λ bytes. OnSpec bytes b said) → a ≡ b
-one_of_spec said one under a b h k =
-    one_on_fetch (fetched under most_bytes) a b (λ bytes. OnSpec bytes a said) (λ bytes. OnSpec bytes b said)
-    (λ bytes. one_on_reading (read (tree bytes)) a b (λ spec. said spec a) (λ spec. said spec b) (λ spec. one spec a b)) h k
+-- there is a circuit
+abbrev Has : Spec → Delays → Type 0
+Has spec table = (planned : Planned) × (adders : List ℕ) × IsCircuit spec table false planned adders
 
-pub one_answer : HasOneAnswer
-one_answer None files a b h k = h ∙ sym k
-one_answer (Some (Generate spec)) files a b h k = one_of_spec IsGenerated one_generated (files spec) a b h k
-one_answer (Some (Vectors spec)) files a b h k = one_of_spec IsVectors one_vectors (files spec) a b h k
-one_answer (Some (Simulate vhdl vectors out)) files a b h k =
+-- the period, the number of signals and the circuit decide one after the other
+module _ (one_product : HasOneProduct) (spec : Spec) (table : Delays) where
+  one_short : (a b : Answer) → IsTooShort spec table a → IsTooShort spec table b → a ≡ b
+  one_short a b h k = h.answer ∙ ap (λ n. period_too_short (need table n)) (one_fitting one_product spec h.net k.net h.fitting k.fitting) ∙ sym k.answer
+
+  not_short_large : (a b : Answer) → IsTooShort spec table a → IsTooLarge spec table b → ⊥
+  not_short_large a b h k =
+      let same = ap (need table) (one_fitting one_product spec h.net k.net h.fitting k.fitting) in
+      let short = h.short in
+      let long = k.long_enough in omega (arith, same, short, long)
+
+  not_short_circuit : (a : Answer) → IsTooShort spec table a → Has spec table → ⊥
+  not_short_circuit a h (planned, adders, c) =
+      let same = ap (need table) (one_fitting one_product spec h.net c.net h.fitting c.fitting) in
+      let short = h.short in
+      let long = c.long_enough in omega (arith, same, short, long)
+
+  not_large_circuit : (a : Answer) → IsTooLarge spec table a → Has spec table → ⊥
+  not_large_circuit a h (planned, adders, c) =
+      let same = ap (signals_of table spec.period) (one_fitting one_product spec h.net c.net h.fitting c.fitting) in
+      let many = h.many_signals in
+      let few = c.few_signals in omega (arith, same, many, few)
+
+  one_on_table : (a b : Answer) (said other : Type 0) → (said → Has spec table) → (other → Has spec table) → (said → other → a ≡ b) → OnTable spec table a said → OnTable spec table b other → a ≡ b
+  one_on_table a b said other has also one (inl h) (inl k) = one_short a b h k
+  one_on_table a b said other has also one (inl h) (inr (inl k)) = absurd (not_short_large a b h k)
+  one_on_table a b said other has also one (inl h) (inr (inr k)) = absurd (not_short_circuit a h (also k))
+  one_on_table a b said other has also one (inr (inl h)) (inl k) = absurd (not_short_large b a k h)
+  one_on_table a b said other has also one (inr (inl h)) (inr (inl k)) = h.answer ∙ sym k.answer
+  one_on_table a b said other has also one (inr (inl h)) (inr (inr k)) = absurd (not_large_circuit a h (also k))
+  one_on_table a b said other has also one (inr (inr h)) (inl k) = absurd (not_short_circuit b k (has h))
+  one_on_table a b said other has also one (inr (inr h)) (inr (inl k)) = absurd (not_large_circuit b k (has h))
+  one_on_table a b said other has also one (inr (inr h)) (inr (inr k)) = one h k
+
+  one_generated : (a b : Answer) → IsGenerated spec table a → IsGenerated spec table b → a ≡ b
+  one_generated a b h k =
+      let (plan, adders) = one_circuit one_product spec table false h.planned k.planned h.adders k.adders h.circuit k.circuit in
+      h.answer
+      ∙ ap (λ (p : Planned). wrote spec.name p.latency (text_of p.design) (report spec p h.adders)) plan
+      ∙ ap (λ s. wrote spec.name k.planned.latency (text_of k.planned.design) (report spec k.planned s)) adders
+      ∙ sym k.answer
+
+  one_vectors : (a b : Answer) → IsVectors spec table a → IsVectors spec table b → a ≡ b
+  one_vectors a b h k =
+      let cells = stimulus_cells spec seed cycles in
+      let (plan, adders) = one_circuit one_product spec table false h.planned k.planned h.adders k.adders h.circuit k.circuit in
+      let run = subst (λ (p : Planned). IsRunText p.design cycles cells h.rows) plan h.run in
+      let sound = circuit_sound spec table false k.planned k.adders k.circuit in
+      h.answer ∙ ap (wrote_vectors spec.name) (one_text k.planned.design sound cycles cells h.rows k.rows run k.run) ∙ sym k.answer
+
+one_of_spec : HasOneProduct → (said : Spec → Delays → Answer → Type 0) → ((spec : Spec) (table : Delays) (a : Answer) → said spec table a → Has spec table)
+    → ((spec : Spec) (table : Delays) (a b : Answer) → said spec table a → said spec table b → a ≡ b)
+    → (devices : List Device) (under : Option (List ℕ)) (a b : Answer) → OnFetch (fetched under most_bytes) a (λ bytes. IsAnswerToSpec bytes devices said a)
+    → OnFetch (fetched under most_bytes) b (λ bytes. IsAnswerToSpec bytes devices said b) → a ≡ b
+one_of_spec one_product said has one devices under a b h k =
+    one_on_fetch (fetched under most_bytes) a b (λ bytes. IsAnswerToSpec bytes devices said a) (λ bytes. IsAnswerToSpec bytes devices said b)
+    (λ bytes. one_on_reading (read (tree bytes)) a b _ _
+    (λ spec. one_on_target (chosen spec.target devices) spec a b _ _
+    (λ table. one_on_table one_product spec table a b (said spec table a) (said spec table b) (has spec table a) (has spec table b) (one spec table a b)))) h k
+
+pub one_answer : HasOneProduct → HasOneAnswer
+one_answer one_product None devices files a b h k = h ∙ sym k
+one_answer one_product (Some (Generate spec)) devices files a b h k =
+    one_of_spec one_product IsGenerated (λ s table a g. (g.planned, g.adders, g.circuit)) (one_generated one_product) devices (files spec) a b h k
+one_answer one_product (Some (Vectors spec)) devices files a b h k =
+    one_of_spec one_product IsVectors (λ s table a g. (g.planned, g.adders, g.circuit)) (one_vectors one_product) devices (files spec) a b h k
+one_answer one_product (Some (Simulate vhdl vectors out)) devices files a b h k =
     let rows = fetched (files vectors) most_simulated_bytes in
     one_on_fetch (fetched (files vhdl) most_simulated_bytes) a b (λ text. OnFetch rows a (λ given. IsSimulated out text given a)) (λ text. OnFetch rows b (λ given. IsSimulated out text given b))
     (λ text. one_on_fetch rows a b (λ given. IsSimulated out text given a) (λ given. IsSimulated out text given b) (λ given. one_simulated out text given a b)) h k

@@ -1,34 +1,45 @@
--- A specification leaves at most one net and one circuit.
-use Rattle.std.proofs.Common.{◌≡◌, ℕ, List, [], ◌∷◌, sym, ap, ◌∙◌}
-use Rattle.std.specs.Prelude.{ℤ, pos, negsuc}
+-- A specification leaves at most one net, and one circuit for a table.
+use Rattle.std.proofs.Common.{◌≡◌, ℕ, Bool, List, refl, sym, ◌∙◌, subst}
+use Rattle.opgen_design.specs.declared.design.Design.{Design}
 use Rattle.opgen_net.specs.declared.net.Net.{Net}
-use Rattle.opgen_net.specs.Made.{design_of}
 use Rattle.opgen_operator.specs.declared.spec.Operator.{Operator}
 use Rattle.opgen_operator.specs.declared.spec.Operator.TheVariants.{Scale, Fir, Multiply, Divide, Root, Mcm}
-use Rattle.opgen_scale.proofs.OneNet.{one-net}
+use Rattle.opgen_operator.specs.declared.spec.Spec.{Spec}
+use Rattle.opgen_pipe.specs.declared.planning.Planned.{Planned}
+use Rattle.opgen_pipe.specs.Planned.{IsPlanOf}
+use Rattle.opgen_mult.specs.OneNet.{HasOneNet as HasOneProduct}
+use Rattle.opgen_target.specs.Delays.{Delays}
 use Rattle.opgen_top.specs.Circuit.{HasOneCircuit}
-use Rattle.opgen_top.specs.Kinds.{IsNetOfOperator, IsNetOfScale, HasOneNet}
+use Rattle.opgen_top.specs.Kinds.{IsNetOfOperator, IsFittingNet, HasOneNet}
 
-one_of_scale : (width : ℕ) (coefs : List ℤ) (a b : Net) → IsNetOfScale width coefs a → IsNetOfScale width coefs b → a ≡ b
-one_of_scale width [] a b h k = absurd h
-one_of_scale width (pos factor ∷ []) a b h k = one-net width factor a b h k
-one_of_scale width (negsuc n ∷ []) a b h k = absurd h
-one_of_scale width (pos n ∷ c ∷ coefs) a b h k = absurd h
-one_of_scale width (negsuc n ∷ c ∷ coefs) a b h k = absurd h
+module _ (one_product : HasOneProduct) where
+  one_of_operator : (op : Operator) (a b : Net) → IsNetOfOperator op a → IsNetOfOperator op b → a ≡ b
+  one_of_operator (Scale sum) a b h k = h ∙ sym k
+  one_of_operator (Fir sum) a b h k = h ∙ sym k
+  one_of_operator (Multiply product) a b h k = one_product product a b h k
+  one_of_operator (Divide pair) a b h k = h ∙ sym k
+  one_of_operator (Root single) a b h k = h ∙ sym k
+  one_of_operator (Mcm several) a b h k = absurd h
 
-one_of_operator : (op : Operator) (a b : Net) → IsNetOfOperator op a → IsNetOfOperator op b → a ≡ b
-one_of_operator (Scale sum) a b h k = one_of_scale sum.input.width sum.coefs a b h k
-one_of_operator (Fir sum) a b h k = absurd h
-one_of_operator (Multiply pair) a b h k = absurd h
-one_of_operator (Divide pair) a b h k = absurd h
-one_of_operator (Root single) a b h k = absurd h
-one_of_operator (Mcm several) a b h k = absurd h
+  pub one_net : HasOneNet
+  one_net spec a b h k = one_of_operator spec.op a b h k
 
-pub one_net : HasOneNet
-one_net spec a b h k = one_of_operator spec.op a b h k
+  pub one_fitting : (spec : Spec) (a b : Net) → IsFittingNet spec a → IsFittingNet spec b → a ≡ b
+  one_fitting spec a b h k = one_net spec a b h.of_kind k.of_kind
 
-pub one_circuit : HasOneCircuit
-one_circuit spec latency late a b h k = (
-  h.at_once ∙ sym k.at_once,
-  h.made ∙ ap (λ n. design_of spec.name n) (one_net spec h.net k.net h.of_kind k.of_kind) ∙ sym k.made,
-)
+-- plans of the same parts are the same
+abbrev plan_with : (design : Design) (latency slack : ℕ) (cells : List ℕ) → Planned
+plan_with design latency slack cells = record { design = design; latency = latency; slack = slack; cells = cells }
+
+same_parts : (d e : Design) (l m s t : ℕ) (c n : List ℕ) → d ≡ e → l ≡ m → s ≡ t → c ≡ n → plan_with d l s c ≡ plan_with e m t n
+same_parts d e l m s t c n is_d is_l is_s is_c = rw (is_d, is_l, is_s, is_c) refl
+
+one_plan : (name : List ℕ) (enable : Bool) (net : Net) (table : Delays) (period : ℕ) (p q : Planned) → IsPlanOf name enable net table period p → IsPlanOf name enable net table period q → p ≡ q
+one_plan name enable net table period p q h k =
+    same_parts p.design q.design p.latency q.latency p.slack q.slack p.cells q.cells (h.design ∙ sym k.design) (h.latency ∙ sym k.latency) (h.slack ∙ sym k.slack) (h.cells ∙ sym k.cells)
+
+pub one_circuit : HasOneProduct → HasOneCircuit
+one_circuit one_product spec table enable p q a b h k =
+    let same = one_fitting one_product spec h.net k.net h.fitting k.fitting in
+    let plan = subst (λ n. IsPlanOf spec.name enable n table spec.period p) same h.plan in
+    (one_plan spec.name enable k.net table spec.period p q plan k.plan, h.are_adders ∙ sym k.are_adders)

@@ -1,5 +1,5 @@
 -- From what VHDL and vectors give to what `simulate` answers to its files.
-use Rattle.std.proofs.Common.{◌≡◌, ◌⊎◌, inl, inr, ℕ, ◌≤◌, List, length, Option, Some, Result, Ok, Err, refl, sym, ap, subst, arith}
+use Rattle.std.proofs.Common.{◌≡◌, ◌⊎◌, inl, inr, ℕ, ◌≤◌, List, [], ◌∷◌, length, Option, Some, Result, Ok, Err, refl, sym, ap, subst, arith}
 use Rattle.std.specs.Prelude.{◌≢◌}
 use Rattle.std.specs.Str.Lines.{lines}
 use Rattle.opgen_design.specs.declared.design.Design.{Design}
@@ -12,7 +12,7 @@ use Rattle.opgen_top.specs.declared.answer.Answer.{Answer as Held}
 use Rattle.opgen_top.specs.declared.answer.Refusal.{Refusal}
 use Rattle.opgen_top.specs.declared.answer.Refusal.TheVariants as refusals
 use Rattle.opgen_top.specs.declared.run_rows.Rows.{Rows}
-use Rattle.opgen_top.specs.Answer.{Answer, success, vhdl_refused, vectors_refused}
+use Rattle.opgen_top.specs.Answer.{Answer, file as stored_file, success, vhdl_refused, vectors_refused}
 use Rattle.opgen_top.specs.Command.{Simulate}
 use Rattle.opgen_top.specs.Due.{most_simulated_bytes, OnFetch, IsAnswerOf}
 use Rattle.opgen_top.specs.Lines.{simulated_line}
@@ -20,6 +20,7 @@ use Rattle.opgen_top.specs.Prepared.{Reads, Kept, Answers, Fetches, Refused, Hol
 use Rattle.opgen_top.specs.Printed as printed
 use Rattle.opgen_top.specs.Running.{IsRunText}
 use Rattle.opgen_top.specs.Simulate.{GivesDesign, IsSimulated, RefusesRows, RefusesVhdl}
+use Rattle.opgen_top.specs.Targets.{Device}
 use Rattle.opgen_top.proofs.Listed.{listed_refusal, listed_success}
 use Rattle.opgen_top.proofs.PreparingSpecs.{status_of}
 use Rattle.opgen_top.proofs.Unfetched.{on_fetch, on_missing, on_longer, unfetched, unfetched-before}
@@ -52,7 +53,7 @@ rows_listed widths vectors refusals.Memory h = tt
 
 -- and so do rows
 pub made_run : (out text vectors widths : List ℕ) (a : Answer) (design : Design) (held : Rows) (line file rows : List ℕ) → GivesDesign text design → widths ≡ input_widths design → HoldsRows widths vectors held
-    → IsRunText design held.count held.inputs.cells.items rows → line ≡ simulated_line held.count → file ≡ out → a ≡ success line file rows → IsSimulated out text vectors a
+    → IsRunText design held.count held.inputs.cells.items rows → line ≡ simulated_line held.count → file ≡ out → a ≡ success line (stored_file file rows ∷ []) → IsSimulated out text vectors a
 made_run out text vectors widths a design held line file rows gives same holds run said filed e =
     inr (inr record {
       design = design;
@@ -64,8 +65,8 @@ made_run out text vectors widths a design held line file rows gives same holds r
       answer = rw (e, said, filed, holds.count) refl;
     })
 
-pub run_listed : (a : Answer) (count : ℕ) (line file rows : List ℕ) → line ≡ simulated_line count → a ≡ success line file rows → IsListed a
-run_listed a count line file rows said e = subst IsListed (sym e) (listed_success (success line file rows) (printed.simulated count refl said) refl)
+pub run_listed : (a : Answer) (count : ℕ) (line file rows : List ℕ) → line ≡ simulated_line count → a ≡ success line (stored_file file rows ∷ []) → IsListed a
+run_listed a count line file rows said e = subst IsListed (sym e) (listed_success (success line (stored_file file rows ∷ [])) (printed.simulated count refl said) refl)
 
 -- the answer to both files has status 0, 6 or 7
 simulated_status : (out text rows : List ℕ) (a : Answer) → IsSimulated out text rows a → (a.status ≡ 6) ⊎ ((a.status ≡ 7) ⊎ (a.status ≡ 0))
@@ -73,35 +74,35 @@ simulated_status out text rows a (inl cause) = inl (ap status_of cause.answer)
 simulated_status out text rows a (inr (inl cause)) = inr (inl (ap status_of cause.refused.answer))
 simulated_status out text rows a (inr (inr runs)) = inr (inr (ap status_of runs.answer))
 
-module _ (vhdl vectors out : List ℕ) (told : Option Files) where
+module _ (devices : List Device) (vhdl vectors out : List ℕ) (told : Option Files) where
   abbrev SaysOf : Files → Answer → (text : List ℕ) → Type 0
   SaysOf files a text = OnFetch (fetched (files vectors) most_simulated_bytes) a (λ rows. IsSimulated out text rows a)
 
   -- VHDL that was not fetched
   pub vhdl-unfetched : (before now : Reads) (refusal : Refusal) → Fetches vhdl most_simulated_bytes told before now (Err refusal)
-      → Answers (Err refusal) (IsPrepared (Some (Simulate vhdl vectors out)) told before now)
+      → Answers (Err refusal) (IsPrepared (Some (Simulate vhdl vectors out)) devices told before now)
   vhdl-unfetched before now (refusals.Line line) cause =
-      unfetched (Some (Simulate vhdl vectors out)) told before now vhdl most_simulated_bytes
+      unfetched (Some (Simulate vhdl vectors out)) devices told before now vhdl most_simulated_bytes
       (λ files is e. on_missing (files vhdl) most_simulated_bytes (SaysOf files _) e)
       (λ files is e. on_longer (files vhdl) most_simulated_bytes (SaysOf files _) e) line cause
   vhdl-unfetched before now refusals.Memory cause = tt
 
   module _ (text : List ℕ) (stands : (files : Files) → told ≡ Some files → files vhdl ≡ Some text) (few : length text ≤ most_simulated_bytes) where
-    on_vhdl : (files : Files) (a : Answer) → told ≡ Some files → SaysOf files a text → IsAnswerOf (Some (Simulate vhdl vectors out)) files a
+    on_vhdl : (files : Files) (a : Answer) → told ≡ Some files → SaysOf files a text → IsAnswerOf (Some (Simulate vhdl vectors out)) devices files a
     on_vhdl files a is said = on_fetch (files vhdl) most_simulated_bytes text a (SaysOf files a) (stands files is) few said
 
     -- vectors that were not fetched, after VHDL that was
     pub rows-unfetched : (before mid now : Reads) (refusal : Refusal) → Kept before mid → Fetches vectors most_simulated_bytes told mid now (Err refusal)
-        → Answers (Err refusal) (IsPrepared (Some (Simulate vhdl vectors out)) told before now)
+        → Answers (Err refusal) (IsPrepared (Some (Simulate vhdl vectors out)) devices told before now)
     rows-unfetched before mid now (refusals.Line line) kept cause =
-        unfetched (Some (Simulate vhdl vectors out)) told before now vectors most_simulated_bytes
+        unfetched (Some (Simulate vhdl vectors out)) devices told before now vectors most_simulated_bytes
         (λ files is e. on_vhdl files _ is (on_missing (files vectors) most_simulated_bytes (λ rows. IsSimulated out text rows _) e))
         (λ files is e. on_vhdl files _ is (on_longer (files vectors) most_simulated_bytes (λ rows. IsSimulated out text rows _) e))
         line (unfetched-before vectors most_simulated_bytes told before mid now line kept cause)
     rows-unfetched before mid now refusals.Memory kept cause = tt
 
     module _ (rows : List ℕ) (before now : Reads) (also : (files : Files) → told ≡ Some files → files vectors ≡ Some rows) (short : length rows ≤ most_simulated_bytes) where
-      answers : (a : Answer) → IsSimulated out text rows a → IsListed a → IsPrepared (Some (Simulate vhdl vectors out)) told before now a
+      answers : (a : Answer) → IsSimulated out text rows a → IsListed a → IsPrepared (Some (Simulate vhdl vectors out)) devices told before now a
       answers a is listed =
           let status = simulated_status out text rows a is in record {
             listed = listed;
@@ -112,7 +113,7 @@ module _ (vhdl vectors out : List ℕ) (told : Option Files) where
                 inr (on_vhdl files a there (on_fetch (files vectors) most_simulated_bytes rows a (λ given. IsSimulated out text given a) (also files there) short is));
           }
 
-      pub simulate-prepared : (r : Result Held Refusal) → Answers r (IsSimulated out text rows) → Answers r IsListed → Answers r (IsPrepared (Some (Simulate vhdl vectors out)) told before now)
+      pub simulate-prepared : (r : Result Held Refusal) → Answers r (IsSimulated out text rows) → Answers r IsListed → Answers r (IsPrepared (Some (Simulate vhdl vectors out)) devices told before now)
       simulate-prepared (Ok held) is listed = answers (answer_of held) is listed
       simulate-prepared (Err (refusals.Line line)) is listed = answers (refusal_of line) is listed
       simulate-prepared (Err refusals.Memory) is listed = tt

@@ -1,153 +1,149 @@
 -- From what a specification gives to what the command answers to its file.
-use Rattle.std.proofs.Common.{◌≡◌, ◌⊎◌, inl, inr, ℕ, ◌≤◌, Bool, true, false, List, length, Option, Some, Result, Ok, Err, refl, sym, ap, ◌∙◌, subst, arith}
+use Rattle.std.proofs.Common.{◌≡◌, ◌⊎◌, inl, inr, ℕ, ◌≤◌, true, List, length, Option, Some, Result, Ok, Err, refl, sym, ap, subst, arith}
 use Rattle.std.specs.Prelude.{◌≢◌, IsTrue}
+use Rattle.opgen_design.specs.declared.design.Design.{Design}
 use Rattle.opgen_io.specs.Answers.{fetched}
 use Rattle.opgen_io.specs.Files.{Files}
 use Rattle.opgen_operator.specs.declared.spec.Spec.{Spec}
 use Rattle.opgen_operator.specs.SpecName.{is_spec_name}
+use Rattle.opgen_report.specs.Report.{report}
 use Rattle.opgen_spec.specs.declared.fault.SpecFault.{SpecFault}
 use Rattle.opgen_spec.specs.declared.fault.SpecFault.TheVariants as spec_faults
 use Rattle.opgen_spec.specs.Document.{tree}
 use Rattle.opgen_spec.specs.Faults.{read, Gives}
-use Rattle.opgen_design.specs.declared.design.Design.{Design}
+use Rattle.opgen_target.specs.Delays.{Delays}
 use Rattle.opgen_vhdl.specs.DesignText.{text_of}
-use Rattle.opgen_vec.specs.Stimulus.{stimulus_cells}
 use Rattle.opgen_top.specs.declared.answer.Answer.{Answer as Held}
 use Rattle.opgen_top.specs.declared.answer.Refusal.{Refusal}
 use Rattle.opgen_top.specs.declared.answer.Refusal.TheVariants as refusals
-use Rattle.opgen_top.specs.Answer.{Answer, refusal, success, file_name, vectors_name}
-use Rattle.opgen_top.specs.Circuit.{IsCircuit}
+use Rattle.opgen_top.specs.declared.specified.Specified.{Specified}
+use Rattle.opgen_top.specs.Answer.{Answer, refusal, wrote, wrote_vectors}
 use Rattle.opgen_top.specs.Command.{Command, Generate, Vectors}
 use Rattle.opgen_top.specs.Due.{most_bytes, OnFetch, IsAnswerOf}
 use Rattle.opgen_top.specs.Kinds.{is_built}
-use Rattle.opgen_top.specs.Lines.{refused_line, wrote_line, wrote_vectors_line}
-use Rattle.opgen_top.specs.Prepared.{Reads, Answers, Fetches, Refused, IsListed, IsPrepared, answer_of, refusal_of}
+use Rattle.opgen_top.specs.Lines.{refused_line}
+use Rattle.opgen_top.specs.Prepared.{Reads, Answers, Fetches, OnRefusal, HasRows, IsListed, IsPrepared, IsSpecified, answer_of, refusal_of}
 use Rattle.opgen_top.specs.Printed as printed
-use Rattle.opgen_top.specs.Specified.{IsGenerated, IsVectors, OnBuilt, OnReading, OnSpec, cycles, seed}
-use Rattle.opgen_top.specs.Running.{IsRunText}
+use Rattle.opgen_top.specs.Specified.{IsAnswerToSpec, IsGenerated, IsVectors, OnReading, OnTable, OnTarget}
+use Rattle.opgen_top.specs.Targets.{Device, IsTableOf, chosen}
 use Rattle.opgen_top.proofs.Listed.{listed_refusal, listed_success}
+use Rattle.opgen_top.proofs.SpecCases.{answers_table, cases_of_spec, on_reading-map, on_target-map, reading_built, refusal_answers}
 use Rattle.opgen_top.proofs.Unfetched.{on_fetch, on_missing, on_longer, unfetched}
 
 abbrev pub status_of : Answer → ℕ
 status_of a = a.status
-
--- a refusal of a specification is one whatever is said of one that can be built
-refused_built : (b : Bool) (a : Answer) (said : Type 0) → OnBuilt b a ⊥ → OnBuilt b a said
-refused_built true a said h = absurd h
-refused_built false a said h = h
-
-refused_reading : (r : Result Spec SpecFault) (a : Answer) (said : Spec → Type 0) → OnReading r a (λ spec. ⊥) → OnReading r a said
-refused_reading (Ok spec) a said h = refused_built (is_built spec) a (said spec) h
-refused_reading (Err fault) a said h = h
-
-pub refused_spec : (bytes : List ℕ) (a : Answer) (said : Spec → Answer → Type 0) → OnSpec bytes a (λ spec b. ⊥) → OnSpec bytes a said
-refused_spec bytes a said h = refused_reading (read (tree bytes)) a (λ spec. said spec a) h
 
 -- what a fault of reading refuses
 pub read_gives : (fault : SpecFault) (r : Result Spec SpecFault) → fault ≢ spec_faults.Memory → Gives (Err fault) r → r ≡ Err fault
 read_gives spec_faults.Memory r named h = absurd (named refl)
 read_gives fault r named h = h
 
-pub fault_refused : (bytes line : List ℕ) (fault : SpecFault) → read (tree bytes) ≡ Err fault → line ≡ refused_line fault → OnSpec bytes (refusal 1 line) (λ spec b. ⊥)
+pub fault_refused : (bytes line : List ℕ) (fault : SpecFault) → read (tree bytes) ≡ Err fault → line ≡ refused_line fault → OnReading (read (tree bytes)) (refusal 1 line) (λ spec. ⊥)
 fault_refused bytes line fault e said = subst (λ r. OnReading r (refusal 1 line) (λ spec. ⊥)) (sym e) (ap (refusal 1) said)
 
 pub fault_listed : (line : List ℕ) (fault : SpecFault) → fault ≢ spec_faults.Memory → line ≡ refused_line fault → IsListed (refusal 1 line)
 fault_listed line fault named said = listed_refusal (refusal 1 line) (printed.refused fault named refl said) refl
 
--- a refusal of a specification answers a command on it
-pub refused_answers : (bytes : List ℕ) (said : Spec → Answer → Type 0) (refusal : Refusal) → Refused {X = Spec} (Err refusal) (λ a. OnSpec bytes a (λ spec b. ⊥)) → Answers (Err refusal) (λ a. OnSpec bytes a said)
-refused_answers bytes said (refusals.Line line) h = refused_spec bytes (refusal_of line) said h
-refused_answers bytes said refusals.Memory h = tt
+-- a refusal by the bytes, by the targets and by the table is one of the specification
+pub bytes_refused : (bytes : List ℕ) (devices : List Device) (refusal : Refusal) → OnRefusal refusal (λ a. OnReading (read (tree bytes)) a (λ spec. ⊥))
+    → OnRefusal refusal (IsAnswerToSpec bytes devices (λ spec table a. ⊥))
+bytes_refused bytes devices (refusals.Line line) h = on_reading-map (read (tree bytes)) (refusal_of line) (λ spec. ⊥) _ (λ spec no. absurd no) h
+bytes_refused bytes devices refusals.Memory h = tt
 
-pub refused_listed : (refusal : Refusal) → Refused {X = Spec} (Err refusal) IsListed → Answers (Err refusal) IsListed
-refused_listed (refusals.Line line) h = h
-refused_listed refusals.Memory h = tt
+module _ (bytes : List ℕ) (devices : List Device) (spec : Spec) (reads : read (tree bytes) ≡ Ok spec) (built : is_built spec ≡ true) where
+  pub target_refused : (refusal : Refusal) → OnRefusal refusal (λ a. OnTarget (chosen spec.target devices) spec a (λ table. ⊥))
+      → OnRefusal refusal (IsAnswerToSpec bytes devices (λ spec table a. ⊥))
+  target_refused (refusals.Line line) h =
+      reading_built (read (tree bytes)) (refusal_of line) _ spec reads built (on_target-map (chosen spec.target devices) spec (refusal_of line) (λ table. ⊥) _ (λ table no. absurd no) h)
+  target_refused refusals.Memory h = tt
+
+  pub plan_refused : (table : Delays) → IsTableOf spec devices table → (refusal : Refusal) → OnRefusal refusal (λ a. OnTable spec table a ⊥)
+      → OnRefusal refusal (IsAnswerToSpec bytes devices (λ spec table a. ⊥))
+  plan_refused table of (refusals.Line line) h = answers_table bytes devices (λ s t a. ⊥) (refusal_of line) spec table reads built of h
+  plan_refused table of refusals.Memory h = tt
+
+-- a refusal of a specification answers a command on it
+pub refused_answers : (bytes : List ℕ) (devices : List Device) (said : Spec → Delays → Answer → Type 0) (refusal : Refusal)
+    → OnRefusal refusal (IsAnswerToSpec bytes devices (λ spec table a. ⊥)) → OnRefusal refusal (IsAnswerToSpec bytes devices said)
+refused_answers bytes devices said (refusals.Line line) h = refusal_answers bytes devices said (refusal_of line) h
+refused_answers bytes devices said refusals.Memory h = tt
+
+-- want of memory says nothing
+pub want_says : (refusal : Refusal) (said : Answer → Type 0) → refusal ≡ refusals.Memory → OnRefusal refusal said
+want_says (refusals.Line line) said e = absurd (cc)
+want_says refusals.Memory said e = tt
 
 -- the lines of success are listed
-pub wrote_listed : (a : Answer) (name : List ℕ) (latency : ℕ) (line file text : List ℕ) → IsTrue (is_spec_name name) → latency ≡ 0 → line ≡ wrote_line name latency → a ≡ success line file text → IsListed a
-wrote_listed a name latency line file text allowed none said e =
-    subst IsListed (sym e) (listed_success (success line file text) (printed.wrote name allowed refl (said ∙ ap (wrote_line name) none)) refl)
+pub wrote_listed : (a : Answer) (name : List ℕ) (latency : ℕ) (text facts : List ℕ) → IsTrue (is_spec_name name) → a ≡ wrote name latency text facts → IsListed a
+wrote_listed a name latency text facts allowed e = subst IsListed (sym e) (listed_success (wrote name latency text facts) (printed.wrote name latency allowed refl refl) refl)
 
-pub wrote_vectors_listed : (a : Answer) (name line file text : List ℕ) → IsTrue (is_spec_name name) → line ≡ wrote_vectors_line name → a ≡ success line file text → IsListed a
-wrote_vectors_listed a name line file text allowed said e =
-    subst IsListed (sym e) (listed_success (success line file text) (printed.wrote_vectors name allowed refl said) refl)
-
--- what reads as a specification that can be built
-pub built_spec : (bytes : List ℕ) (a : Answer) (said : Spec → Answer → Type 0) (spec : Spec) → read (tree bytes) ≡ Ok spec → is_built spec ≡ true → said spec a → OnSpec bytes a said
-built_spec bytes a said spec reads built h =
-    subst (λ r. OnReading r a (λ s. said s a)) (sym reads) (subst (λ b. OnBuilt b a (said spec a)) (sym built) h)
+pub rows_of_listed : (a : Answer) (spec : Spec) (design : Design) → IsTrue (is_spec_name spec.name) → HasRows spec design a → IsListed a
+rows_of_listed a spec design allowed h =
+    subst IsListed (sym h.answer) (listed_success (wrote_vectors spec.name h.rows) (printed.wrote_vectors spec.name allowed refl refl) refl)
 
 -- what is made of a specification answers the command
-pub made_circuit : (bytes : List ℕ) (a : Answer) (spec : Spec) (latency : ℕ) (design : Design) (name line file text : List ℕ) → read (tree bytes) ≡ Ok spec → is_built spec ≡ true
-    → IsCircuit spec latency design → name ≡ spec.name → line ≡ wrote_line name latency → file ≡ file_name name → text ≡ text_of design → a ≡ success line file text → OnSpec bytes a IsGenerated
-made_circuit bytes a spec latency design name line file text reads built circuit called said filed written e =
-    built_spec bytes a IsGenerated spec reads built record {
-      latency = latency;
-      design = design;
-      circuit = circuit;
-      answer = rw (e, said, filed, written, called) refl;
-    }
+module _ (bytes : List ℕ) (devices : List Device) (made : Specified) (is : IsSpecified bytes devices made) (a : Answer) where
+  pub made_circuit : a ≡ wrote made.spec.name made.circuit.planned.latency (text_of made.circuit.planned.design) (report made.spec made.circuit.planned made.circuit.adders.items)
+      → IsAnswerToSpec bytes devices IsGenerated a
+  made_circuit e =
+      answers_table bytes devices IsGenerated a made.spec is.table is.reads is.built is.of_target
+      (inr (inr record { planned = made.circuit.planned; adders = made.circuit.adders.items; circuit = is.circuit; answer = e }))
 
-pub made_vectors : (bytes : List ℕ) (a : Answer) (spec : Spec) (latency : ℕ) (design : Design) (name line file rows cells : List ℕ) → read (tree bytes) ≡ Ok spec → is_built spec ≡ true
-    → IsCircuit spec latency design → name ≡ spec.name → line ≡ wrote_vectors_line name → file ≡ vectors_name name → cells ≡ stimulus_cells spec seed cycles → IsRunText design cycles cells rows
-    → a ≡ success line file rows → OnSpec bytes a IsVectors
-made_vectors bytes a spec latency design name line file rows cells reads built circuit called said filed drawn run e =
-    built_spec bytes a IsVectors spec reads built record {
-      latency = latency;
-      design = design;
-      circuit = circuit;
-      rows = rows;
-      run = subst (λ cs. IsRunText design cycles cs rows) drawn run;
-      answer = rw (e, said, filed, called) refl;
-    }
+  pub made_vectors : HasRows made.spec made.circuit.planned.design a → IsAnswerToSpec bytes devices IsVectors a
+  made_vectors h =
+      answers_table bytes devices IsVectors a made.spec is.table is.reads is.built is.of_target
+      (inr (inr record { planned = made.circuit.planned; adders = made.circuit.adders.items; circuit = is.circuit; rows = h.rows; run = h.run; answer = h.answer }))
 
 -- the answer to a specification has status 0 or 1
-spec_status : (bytes : List ℕ) (a : Answer) (said : Spec → Answer → Type 0) → ((spec : Spec) → said spec a → a.status ≡ 0) → OnSpec bytes a said → (a.status ≡ 0) ⊎ (a.status ≡ 1)
-spec_status bytes a said ok h = go (read (tree bytes)) h
-  where
-    of_built : (b : Bool) (spec : Spec) → OnBuilt b a (said spec a) → (a.status ≡ 0) ⊎ (a.status ≡ 1)
-    of_built true spec is = inl (ok spec is)
-    of_built false spec is = inr (ap status_of is)
+spec_status : (bytes : List ℕ) (devices : List Device) (said : Spec → Delays → Answer → Type 0) (a : Answer) → ((spec : Spec) (table : Delays) → said spec table a → a.status ≡ 0)
+    → IsAnswerToSpec bytes devices said a → (a.status ≡ 0) ⊎ (a.status ≡ 1)
+spec_status bytes devices said a ok h =
+    cases_of_spec bytes devices said a ((a.status ≡ 0) ⊎ (a.status ≡ 1))
+    (λ fault reads is. inr (ap status_of is))
+    (λ spec reads built is. inr (ap status_of is))
+    (λ spec reads built found is. inr (ap status_of is))
+    (λ spec device reads built found takes is. inr (ap status_of is))
+    (λ spec table reads built of on. elim on [
+      | inl short ↦ inr (ap status_of short.answer)
+      | inr (inl large) ↦ inr (ap status_of large.answer)
+      | inr (inr made) ↦ inl (ok spec table made)
+    ]) h
 
-    go : (r : Result Spec SpecFault) → OnReading r a (λ s. said s a) → (a.status ≡ 0) ⊎ (a.status ≡ 1)
-    go (Ok spec) is = of_built (is_built spec) spec is
-    go (Err fault) is = inr (ap status_of is)
-
-module _ (command : Command) (said : Spec → Answer → Type 0) (spec : List ℕ) (told : Option Files) (before now : Reads)
-    (due : (files : Files) (a : Answer) → OnFetch (fetched (files spec) most_bytes) a (λ bytes. OnSpec bytes a said) → IsAnswerOf (Some command) files a) where
-  spec-unfetched : (refusal : Refusal) → Fetches spec most_bytes told before now (Err refusal) → Answers (Err refusal) (IsPrepared (Some command) told before now)
+module _ (command : Command) (said : Spec → Delays → Answer → Type 0) (spec : List ℕ) (devices : List Device) (told : Option Files) (before now : Reads)
+    (due : (files : Files) (a : Answer) → OnFetch (fetched (files spec) most_bytes) a (λ bytes. IsAnswerToSpec bytes devices said a) → IsAnswerOf (Some command) devices files a) where
+  spec-unfetched : (refusal : Refusal) → Fetches spec most_bytes told before now (Err refusal) → Answers (Err refusal) (IsPrepared (Some command) devices told before now)
   spec-unfetched (refusals.Line line) cause =
-      unfetched (Some command) told before now spec most_bytes
-      (λ files is e. due files _ (on_missing (files spec) most_bytes (λ bytes. OnSpec bytes _ said) e))
-      (λ files is e. due files _ (on_longer (files spec) most_bytes (λ bytes. OnSpec bytes _ said) e)) line cause
+      unfetched (Some command) devices told before now spec most_bytes
+      (λ files is e. due files _ (on_missing (files spec) most_bytes (λ bytes. IsAnswerToSpec bytes devices said _) e))
+      (λ files is e. due files _ (on_longer (files spec) most_bytes (λ bytes. IsAnswerToSpec bytes devices said _) e)) line cause
   spec-unfetched refusals.Memory cause = tt
 
-  module _ (ok : (s : Spec) (a : Answer) → said s a → a.status ≡ 0) (bytes : List ℕ) (stands : (files : Files) → told ≡ Some files → files spec ≡ Some bytes) (few : length bytes ≤ most_bytes) where
-    answers : (a : Answer) → OnSpec bytes a said → IsListed a → IsPrepared (Some command) told before now a
+  module _ (ok : (s : Spec) (table : Delays) (a : Answer) → said s table a → a.status ≡ 0) (bytes : List ℕ) (stands : (files : Files) → told ≡ Some files → files spec ≡ Some bytes) (few : length bytes ≤ most_bytes) where
+    answers : (a : Answer) → IsAnswerToSpec bytes devices said a → IsListed a → IsPrepared (Some command) devices told before now a
     answers a is listed =
-        let status = spec_status bytes a said (λ s. ok s a) is in record {
+        let status = spec_status bytes devices said a (λ s table. ok s table a) is in record {
           listed = listed;
           usage = λ other. absurd (elim status [ inl e ↦ omega (arith, e, other) | inr e ↦ omega (arith, e, other) ]);
           read_counted = λ other. absurd (elim status [ inl e ↦ omega (arith, e, other) | inr e ↦ omega (arith, e, other) ]);
           long_counted = λ other. absurd (elim status [ inl e ↦ omega (arith, e, other) | inr e ↦ omega (arith, e, other) ]);
-          due = λ files there. inr (due files a (on_fetch (files spec) most_bytes bytes a (λ b. OnSpec b a said) (stands files there) few is));
+          due = λ files there. inr (due files a (on_fetch (files spec) most_bytes bytes a (λ b. IsAnswerToSpec b devices said a) (stands files there) few is));
         }
 
-    spec-prepared : (r : Result Held Refusal) → Answers r (λ a. OnSpec bytes a said) → Answers r IsListed → Answers r (IsPrepared (Some command) told before now)
+    spec-prepared : (r : Result Held Refusal) → Answers r (IsAnswerToSpec bytes devices said) → Answers r IsListed → Answers r (IsPrepared (Some command) devices told before now)
     spec-prepared (Ok held) is listed = answers (answer_of held) is listed
     spec-prepared (Err (refusals.Line line)) is listed = answers (refusal_of line) is listed
     spec-prepared (Err refusals.Memory) is listed = tt
 
-module _ (spec : List ℕ) (told : Option Files) (before now : Reads) where
-  pub generate-unfetched : (refusal : Refusal) → Fetches spec most_bytes told before now (Err refusal) → Answers (Err refusal) (IsPrepared (Some (Generate spec)) told before now)
-  generate-unfetched = spec-unfetched (Generate spec) IsGenerated spec told before now (λ files a h. h)
+module _ (spec : List ℕ) (devices : List Device) (told : Option Files) (before now : Reads) where
+  pub generate-unfetched : (refusal : Refusal) → Fetches spec most_bytes told before now (Err refusal) → Answers (Err refusal) (IsPrepared (Some (Generate spec)) devices told before now)
+  generate-unfetched = spec-unfetched (Generate spec) IsGenerated spec devices told before now (λ files a h. h)
 
-  pub vectors-unfetched : (refusal : Refusal) → Fetches spec most_bytes told before now (Err refusal) → Answers (Err refusal) (IsPrepared (Some (Vectors spec)) told before now)
-  vectors-unfetched = spec-unfetched (Vectors spec) IsVectors spec told before now (λ files a h. h)
+  pub vectors-unfetched : (refusal : Refusal) → Fetches spec most_bytes told before now (Err refusal) → Answers (Err refusal) (IsPrepared (Some (Vectors spec)) devices told before now)
+  vectors-unfetched = spec-unfetched (Vectors spec) IsVectors spec devices told before now (λ files a h. h)
 
   module _ (bytes : List ℕ) (stands : (files : Files) → told ≡ Some files → files spec ≡ Some bytes) (few : length bytes ≤ most_bytes) where
-    pub generate-prepared : (r : Result Held Refusal) → Answers r (λ a. OnSpec bytes a IsGenerated) → Answers r IsListed → Answers r (IsPrepared (Some (Generate spec)) told before now)
-    generate-prepared = spec-prepared (Generate spec) IsGenerated spec told before now (λ files a h. h) (λ s a g. ap status_of g.answer) bytes stands few
+    pub generate-prepared : (r : Result Held Refusal) → Answers r (IsAnswerToSpec bytes devices IsGenerated) → Answers r IsListed → Answers r (IsPrepared (Some (Generate spec)) devices told before now)
+    generate-prepared = spec-prepared (Generate spec) IsGenerated spec devices told before now (λ files a h. h) (λ s table a g. ap status_of g.answer) bytes stands few
 
-    pub vectors-prepared : (r : Result Held Refusal) → Answers r (λ a. OnSpec bytes a IsVectors) → Answers r IsListed → Answers r (IsPrepared (Some (Vectors spec)) told before now)
-    vectors-prepared = spec-prepared (Vectors spec) IsVectors spec told before now (λ files a h. h) (λ s a g. ap status_of g.answer) bytes stands few
+    pub vectors-prepared : (r : Result Held Refusal) → Answers r (IsAnswerToSpec bytes devices IsVectors) → Answers r IsListed → Answers r (IsPrepared (Some (Vectors spec)) devices told before now)
+    vectors-prepared = spec-prepared (Vectors spec) IsVectors spec devices told before now (λ files a h. h) (λ s table a g. ap status_of g.answer) bytes stands few

@@ -1,5 +1,5 @@
--- The ports of a design that serves a specification.
-use Rattle.std.proofs.Common.{◌≡◌, ℕ, ◌<◌, List, [], ◌∷◌, ◌++◌, length, map, refl, ap, ◌∙◌, arith, length-append}
+-- The ports of a design that has those of a specification.
+use Rattle.std.proofs.Common.{◌≡◌, ℕ, ◌<◌, false, List, [], ◌∷◌, ◌++◌, length, map, refl, ap, ◌∙◌, arith, length-append}
 use Rattle.std.proofs.lemmas.List.{length-map}
 use Rattle.opgen_design.specs.declared.design.Design.{Design}
 use Rattle.opgen_design.specs.declared.design.Dir.TheVariants.{In, Out}
@@ -9,7 +9,7 @@ use Rattle.opgen_operator.specs.declared.spec.PortFormat.{PortFormat}
 use Rattle.opgen_operator.specs.declared.spec.Spec.{Spec}
 use Rattle.opgen_operator.specs.Ports.{inputs_of, outputs_of}
 use Rattle.opgen_vec.proofs.Draws.{some_input}
-use Rattle.opgen_top.specs.Circuit.{port_of, Serves}
+use Rattle.opgen_top.specs.Circuit.{port_of, ports_for}
 
 abbrev side : List Port → List ℕ
 side ps = at_ports is_in ps (map (λ p. p.width) ps)
@@ -19,14 +19,15 @@ inputs_first [] [] = refl
 inputs_first [] (o ∷ os) = inputs_first [] os
 inputs_first (i ∷ is) os = ap (λ ws. i.format.width ∷ ws) (inputs_first is os)
 
-pub served_widths : (spec : Spec) (latency : ℕ) (d : Design) → Serves spec latency d → input_widths d ≡ map (λ p. p.format.width) (inputs_of spec)
-served_widths spec latency d serves = ap side serves.ports ∙ inputs_first (inputs_of spec) (outputs_of spec)
+module _ (spec : Spec) (d : Design) (ports : d.ports ≡ ports_for spec false) where
+  pub served_widths : input_widths d ≡ map (λ p. p.format.width) (inputs_of spec)
+  served_widths = ap side ports ∙ inputs_first (inputs_of spec) (outputs_of spec)
 
-pub served_columns : (spec : Spec) (latency : ℕ) (d : Design) → Serves spec latency d → length (input_widths d) ≡ length (inputs_of spec)
-served_columns spec latency d serves = ap length (served_widths spec latency d serves) ∙ length-map (inputs_of spec) (λ p. p.format.width)
+  pub served_columns : length (input_widths d) ≡ length (inputs_of spec)
+  served_columns = ap length served_widths ∙ length-map (inputs_of spec) (λ p. p.format.width)
 
-pub served_port : (spec : Spec) (latency : ℕ) (d : Design) → Serves spec latency d → 0 < length d.ports
-served_port spec latency d serves =
-    let is = map (port_of In) (inputs_of spec) in
-    let os = map (port_of Out) (outputs_of spec) in
-    omega (arith, ap length serves.ports, length-append is os, length-map (inputs_of spec) (port_of In), some_input spec.op)
+  pub served_port : 0 < length d.ports
+  served_port =
+      let is = map (port_of In) (inputs_of spec) in
+      let os = map (port_of Out) (outputs_of spec) in
+      omega (arith, ap length ports, length-append is os, length-map (inputs_of spec) (port_of In), some_input spec.op)

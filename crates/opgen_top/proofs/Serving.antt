@@ -1,55 +1,44 @@
--- The design of a net that fits a specification serves it.
-use Rattle.std.proofs.Common.{◌≡◌, ℕ, zero, suc, ◌+◌, ◌<◌, Bool, true, false, cond, List, [], ◌∷◌, ◌++◌, length, map, Some, refl, sym, ap, ◌∙◌, subst, arith}
+-- The design of a net that fits a specification serves it, at each schedule that fits a period.
+use Rattle.std.proofs.Common.{◌≡◌, ℕ, zero, suc, ◌+◌, ◌<◌, ◌≤◌, ◌^◌, Bool, true, false, List, [], ◌∷◌, ◌++◌, length, map, Some, refl, sym, ap, ◌∙◌, subst, arith}
 use Rattle.std.specs.Prelude.{pos, All, slice_get}
-use Rattle.std.proofs.lemmas.List.Elements.{All-nil, All-cons}
+use Rattle.std.proofs.lemmas.List.{map-append}
+use Rattle.std.proofs.lemmas.Option.{slice_get_within}
 use Rattle.std.proofs.lemmas.Simd.{map-map}
 use Rattle.opgen_design.specs.declared.design.Design.{Design}
-use Rattle.opgen_design.specs.declared.design.Dir.{Dir}
 use Rattle.opgen_design.specs.declared.design.Dir.TheVariants.{In, Out}
 use Rattle.opgen_design.specs.declared.design.Port.{Port}
+use Rattle.opgen_design.specs.Run.{Words, Run, AreWords, at_ports, is_in, outputs_of}
 use Rattle.opgen_net.specs.declared.net.Net.{Net}
 use Rattle.opgen_net.specs.declared.net.Output.{Output}
-use Rattle.opgen_net.specs.Flow.{Inputs, slice_flow}
+use Rattle.opgen_net.specs.Flow.{Inputs, before, slice_flow}
+use Rattle.opgen_net.specs.Made.{input_port, output_port}
+use Rattle.opgen_net.specs.Named.{IsNamed}
 use Rattle.opgen_net.specs.Valid.{slice_width, input_widths as net_widths}
-use Rattle.opgen_design.specs.Run.{Words, RunsOn, Run, AreWords, at_ports, is_in, input_widths}
-use Rattle.opgen_net.specs.Made.{input_port, output_port, design_of}
-use Rattle.opgen_flat.specs.Following.{RunFollowsFlow}
-use Rattle.opgen_flat.specs.Running.{DesignRuns}
 use Rattle.opgen_operator.specs.declared.spec.Spec.{Spec}
 use Rattle.opgen_operator.specs.Fits.{FitsSpec, name_and_width}
 use Rattle.opgen_operator.specs.Good.{IsGood, IsInRange}
 use Rattle.opgen_operator.specs.Judged.{recent_words, output_words}
-use Rattle.opgen_operator.specs.Ports.{inputs_of, outputs_of}
-use Rattle.opgen_flat.proofs.Follows.{follows}
-use Rattle.opgen_flat.proofs.Runs.{design_runs}
-use Rattle.opgen_top.specs.Circuit.{port_of, Serves, CircuitsServe}
+use Rattle.opgen_operator.specs.Ports.{inputs_of as spec_inputs, outputs_of as spec_outputs}
+use Rattle.opgen_pipe.specs.Copies.{net_latency, signal_count}
+use Rattle.opgen_pipe.specs.Laws.{FollowsFlow, counted, net_inputs}
+use Rattle.opgen_pipe.specs.Pipelined.{design_of, enable_inputs, ports_of}
+use Rattle.opgen_pipe.specs.Times.{ago}
+use Rattle.opgen_pipe.proofs.Soundness.{design_sound}
+use Rattle.opgen_schedule.specs.Schedule.{Schedule, Fits}
+use Rattle.opgen_sim.proofs.OneRun.{one-run}
+use Rattle.opgen_top.specs.Circuit.{port_of, ports_for, Serves}
+use Rattle.opgen_top.proofs.Taken.{run_words, run_long, taken_long, taken_words, widths_after}
 
-module _ {X Y : Type 0} (f : X → Y) (is : Dir → Bool) where
-  at_ports-map : (ps : List Port) (xs : List X) → map f (at_ports is ps xs) ≡ at_ports is ps (map f xs)
-  at_ports-map [] xs = refl
-  at_ports-map (p ∷ ps) [] = refl
-  at_ports-map (p ∷ ps) (x ∷ xs) = put (is p.dir) (at_ports is ps xs) (at_ports is ps (map f xs)) (at_ports-map ps xs)
-    where
-      put : (b : Bool) (ys : List X) (zs : List Y) → map f ys ≡ zs → map f (cond b (x ∷ ys) ys) ≡ cond b (f x ∷ zs) zs
-      put true ys zs e = ap (λ ks. f x ∷ ks) e
-      put false ys zs e = e
+-- so many cycles back from as many cycles on
+ago_next : (u k : ℕ) → ago (suc u) (suc k) ≡ ago u k
+ago_next u zero = refl
+ago_next u (suc k) = ap before (ago_next u k)
 
--- the inputs of a run have the widths of its input ports
-run_words : (d : Design) (now : List (List Bool)) (inputs : List (List (List Bool))) (vs : List Words) → RunsOn d now inputs vs → All (AreWords (input_widths d)) inputs
-run_words d now [] vs r = All-nil (AreWords (input_widths d))
-run_words d now (given ∷ inputs) [] r = absurd r
-run_words d now (given ∷ inputs) (v ∷ vs) (next, c, r) =
-    let words = ap (map length) (sym c.inputs) ∙ at_ports-map length is_in d.ports v.ports ∙ ap (at_ports is_in d.ports) c.port_widths in
-    All-cons (AreWords (input_widths d)) given inputs words (run_words d next inputs vs r)
-
--- a run has no more cycles than there are inputs
-run_within : (d : Design) (now : List (List Bool)) (inputs : List (List (List Bool))) (vs : List Words) → RunsOn d now inputs vs
-    → (t : ℕ) (v : Words) → slice_get vs t ≡ Some v → t < length inputs
-run_within d now [] [] r t v h = cc
-run_within d now [] (u ∷ vs) r t v h = absurd r
-run_within d now (given ∷ inputs) [] r t v h = cc
-run_within d now (given ∷ inputs) (u ∷ vs) r zero v h = omega arith
-run_within d now (given ∷ inputs) (u ∷ vs) (next, c, r) (suc t) v h = omega (arith, run_within d next inputs vs r t v h)
+ago_back : (t l : ℕ) → ago (t + l) l ≡ pos t
+ago_back t zero = let e : t + 0 ≡ t = omega arith in ap pos e
+ago_back t (suc l) =
+    let e : t + suc l ≡ suc (t + l) = omega arith in
+    ap (λ u. ago u (suc l)) e ∙ ago_next (t + l) l ∙ ago_back t l
 
 widths_in : (is : List (List ℕ × ℕ)) (os : List Output)
     → at_ports is_in (map input_port is ++ map output_port os) (map (λ p. p.width) (map input_port is ++ map output_port os)) ≡ map (λ i. i.1) is
@@ -57,41 +46,59 @@ widths_in [] [] = refl
 widths_in [] (o ∷ os) = widths_in [] os
 widths_in (i ∷ is) os = ap (λ ws. i.1 ∷ ws) (widths_in is os)
 
+first_width : (enable : Bool) (is : List (List ℕ × ℕ)) → map (λ i. i.1) (enable_inputs enable ++ is) ≡ widths_after enable (map (λ i. i.1) is)
+first_width true is = refl
+first_width false is = refl
+
 -- the output port of a name and a width
 abbrev out_port : List ℕ × ℕ → Port
 out_port o = record { name = o.0; dir = Out; width = o.1 }
 
-module _ (law : RunFollowsFlow) (running : DesignRuns) (name : List ℕ) (spec : Spec) (net : Net) (fits : FitsSpec spec net) where
-  inputs_are : map input_port net.inputs ≡ map (port_of In) (inputs_of spec)
-  inputs_are = ap (map input_port) fits.inputs ∙ map-map input_port name_and_width (inputs_of spec)
+module _ (spec : Spec) (net : Net) (fits : FitsSpec spec net) (enable : Bool) where
+  inputs_are : map input_port net.inputs ≡ map (port_of In) (spec_inputs spec)
+  inputs_are = ap (map input_port) fits.inputs ∙ map-map input_port name_and_width (spec_inputs spec)
 
-  outputs_are : map output_port net.outputs ≡ map (port_of Out) (outputs_of spec)
+  outputs_are : map output_port net.outputs ≡ map (port_of Out) (spec_outputs spec)
   outputs_are =
       sym (map-map out_port (λ (o : Output). (o.name, slice_width o.from)) net.outputs)
       ∙ ap (map out_port) fits.outputs
-      ∙ map-map out_port name_and_width (outputs_of spec)
+      ∙ map-map out_port name_and_width (spec_outputs spec)
 
-  widths_are : net_widths net ≡ map (λ p. p.format.width) (inputs_of spec)
-  widths_are = ap (map (λ i. i.1)) fits.inputs ∙ map-map (λ (i : List ℕ × ℕ). i.1) name_and_width (inputs_of spec)
+  -- the ports are those that the specification asks for
+  pub made_ports : ports_of enable net ≡ ports_for spec enable
+  made_ports =
+      ap (λ ps. ps ++ map output_port net.outputs) (map-append input_port (enable_inputs enable) net.inputs ∙ ap (λ ps. map input_port (enable_inputs enable) ++ ps) inputs_are)
+      ∙ ap (λ ps. (map input_port (enable_inputs enable) ++ map (port_of In) (spec_inputs spec)) ++ ps) outputs_are
 
-  good : (inputs : Inputs) (vs : List Words) → Run (design_of name net) inputs vs → (t : ℕ) (v : Words) → slice_get vs t ≡ Some v
-      → IsInRange spec (recent_words (inputs_of spec) inputs t)
-      → IsGood spec (recent_words (inputs_of spec) inputs t) (output_words (outputs_of spec) (map (λ o. slice_flow net.nodes inputs o.from (pos t)) net.outputs))
-  good inputs vs run t v there range =
-      let words = subst (λ ws. All (AreWords ws) inputs) (widths_in net.inputs net.outputs) (run_words (design_of name net) _ inputs vs run) in
-      fits.good inputs t words (run_within (design_of name net) _ inputs vs run t v there) range
+  module _ (name : List ℕ) (named : IsNamed name net) (delays : List ℕ) (setup period : ℕ) (s : Schedule) (fit : Fits net.nodes delays setup period s) (few : signal_count net s ≤ 2 ^ 64)
+      (follows : (inputs : Inputs) (vs : List Words) → Run (design_of name enable net s) inputs vs
+      → (u : ℕ) (v : Words) → slice_get (counted enable vs vs) u ≡ Some v → FollowsFlow name enable net s (net_inputs enable (counted enable vs inputs)) u v) where
+    abbrev design : Design
+    design = design_of name enable net s
 
-  serves : Serves spec 0 (design_of name net)
-  serves = record {
-    ports = ap (λ ps. ps ++ map output_port net.outputs) inputs_are ∙ ap (λ ps. map (port_of In) (inputs_of spec) ++ ps) outputs_are;
-    runs = λ inputs words. running name net fits.valid inputs (subst (λ ws. All (AreWords ws) inputs) (sym widths_are) words);
-    good = λ inputs vs run t v there range.
-        let now : t + 0 ≡ t = omega arith in
-        let here = subst (λ i. slice_get vs i ≡ Some v) now there in
-        let words = law name net fits.valid inputs vs run t v here in
-        subst (λ ws. IsGood spec (recent_words (inputs_of spec) inputs t) (output_words (outputs_of spec) ws)) (sym words.outputs) (good inputs vs run t v here range);
-  }
+    -- inputs of a run, in the cycles that count, are inputs of the net
+    net_words : (inputs : Inputs) (vs : List Words) → Run (design_of name enable net s) inputs vs → All (AreWords (net_widths net)) (net_inputs enable (counted enable vs inputs))
+    net_words inputs vs run =
+        taken_words enable (net_widths net) inputs vs
+        (subst (λ ws. All (AreWords ws) inputs) (widths_in (enable_inputs enable ++ net.inputs) net.outputs ∙ first_width enable net.inputs) (run_words (design_of name enable net s) _ inputs vs run))
 
-pub circuits_serve : CircuitsServe
-circuits_serve spec latency design c =
-    subst (λ l. Serves spec l design) (sym c.at_once) (subst (Serves spec 0) (sym c.made) (serves follows design_runs spec.name spec c.net c.fits))
+    good : (inputs : Inputs) (vs : List Words) → Run (design_of name enable net s) inputs vs → (t : ℕ) (v : Words) → slice_get (counted enable vs vs) (t + net_latency net s) ≡ Some v
+        → IsInRange spec (recent_words (spec_inputs spec) (net_inputs enable (counted enable vs inputs)) t)
+        → IsGood spec (recent_words (spec_inputs spec) (net_inputs enable (counted enable vs inputs)) t) (output_words (spec_outputs spec) (outputs_of (design_of name enable net s) v))
+    good inputs vs run t v there range =
+        let l = net_latency net s in
+        let taken = net_inputs enable (counted enable vs inputs) in
+        let within : t < length taken =
+        omega (arith, slice_get_within (counted enable vs vs) (t + l) v there, taken_long enable inputs vs (run_long (design_of name enable net s) _ inputs vs run)) in
+        let words : outputs_of (design_of name enable net s) v ≡ map (λ o. slice_flow net.nodes taken o.from (pos t)) net.outputs =
+        (follows inputs vs run (t + l) v there).outputs ∙ ap (λ time. map (λ o. slice_flow net.nodes taken o.from time) net.outputs) (ago_back t l) in
+        subst (λ ws. IsGood spec (recent_words (spec_inputs spec) taken t) (output_words (spec_outputs spec) ws)) (sym words) (fits.good taken t (net_words inputs vs run) within range)
+
+    pub serves : Serves spec (net_latency net s) enable (design_of name enable net s)
+    serves = record {
+      ports = made_ports;
+      runs = λ inputs words.
+          let r = one-run (design_of name enable net s) (design_sound name enable net delays setup period s fits.valid named fit few) inputs words in
+          (r.0, r.1.run);
+      good = good;
+    }

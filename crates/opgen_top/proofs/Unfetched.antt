@@ -13,6 +13,7 @@ use Rattle.opgen_top.specs.Command.{Command}
 use Rattle.opgen_top.specs.Due.{OnFetch, IsAnswerOf}
 use Rattle.opgen_top.specs.Prepared.{Reads, Kept, IsPrepared, IsUnfetched, refusal_of}
 use Rattle.opgen_top.specs.Printed as printed
+use Rattle.opgen_top.specs.Targets.{Device}
 use Rattle.opgen_top.proofs.Listed.{listed_refusal}
 
 -- a count rose or stood
@@ -53,11 +54,11 @@ unfetched-before name most told before mid now line kept cause = record {
   longer = cause.longer;
 }
 
-module _ (command : Option Command) (told : Option Files) (before now : Reads) (name : List ℕ) (most : ℕ)
-    (missing_due : (files : Files) → told ≡ Some files → files name ≡ None → IsAnswerOf command files read_fault)
-    (longer_due : (files : Files) → told ≡ Some files → fetched (files name) most ≡ Err fetch.TooLong → IsAnswerOf command files too_long) where
+module _ (command : Option Command) (devices : List Device) (told : Option Files) (before now : Reads) (name : List ℕ) (most : ℕ)
+    (missing_due : (files : Files) → told ≡ Some files → files name ≡ None → IsAnswerOf command devices files read_fault)
+    (longer_due : (files : Files) → told ≡ Some files → fetched (files name) most ≡ Err fetch.TooLong → IsAnswerOf command devices files too_long) where
   unread : Rose before.faults now.faults ⊎ Rose before.lacks now.lacks
-      → ((files : Files) → told ≡ Some files → Stood before.faults now.faults → files name ≡ None) → IsPrepared command told before now read_fault
+      → ((files : Files) → told ≡ Some files → Stood before.faults now.faults → files name ≡ None) → IsPrepared command devices told before now read_fault
   unread counted missing = record {
     listed = listed_refusal read_fault (printed.read_fault refl refl) refl;
     usage = λ other. absurd (omega (arith, other));
@@ -69,7 +70,7 @@ module _ (command : Option Command) (told : Option Files) (before now : Reads) (
     ];
   }
 
-  exceeds : Rose before.longs now.longs → ((files : Files) → told ≡ Some files → fetched (files name) most ≡ Err fetch.TooLong) → IsPrepared command told before now too_long
+  exceeds : Rose before.longs now.longs → ((files : Files) → told ≡ Some files → fetched (files name) most ≡ Err fetch.TooLong) → IsPrepared command devices told before now too_long
   exceeds counted longer = record {
     listed = listed_refusal too_long (printed.too_long refl refl) refl;
     usage = λ other. absurd (omega (arith, other));
@@ -78,8 +79,8 @@ module _ (command : Option Command) (told : Option Files) (before now : Reads) (
     due = λ files is. inr (longer_due files is (longer files is));
   }
 
-  pub unfetched : (line : Line) → IsUnfetched name most told before now line → IsPrepared command told before now (refusal_of line)
+  pub unfetched : (line : Line) → IsUnfetched name most told before now line → IsPrepared command devices told before now (refusal_of line)
   unfetched line cause = elim cause.either [
-    | inl e ↦ subst (λ l. IsPrepared command told before now (refusal_of l)) (sym e) (unread (cause.read_counted e) (λ files is stood. cause.missing files is stood e))
-    | inr e ↦ subst (λ l. IsPrepared command told before now (refusal_of l)) (sym e) (exceeds (cause.long_counted e) (λ files is. cause.longer files is e))
+    | inl e ↦ subst (λ l. IsPrepared command devices told before now (refusal_of l)) (sym e) (unread (cause.read_counted e) (λ files is stood. cause.missing files is stood e))
+    | inr e ↦ subst (λ l. IsPrepared command devices told before now (refusal_of l)) (sym e) (exceeds (cause.long_counted e) (λ files is. cause.longer files is e))
   ]

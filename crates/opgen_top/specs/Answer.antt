@@ -3,7 +3,7 @@ use Rattle.std.specs.Prelude.{ℕ, List, [], ◌∷◌, ◌++◌, codes}
 use Rattle.opgen_read.specs.declared.fault.ReadFault.{ReadFault}
 use Rattle.opgen_spec.specs.declared.fault.SpecFault.{SpecFault}
 use Rattle.opgen_vec.specs.declared.fault.VecFault.{VecFault}
-use Rattle.opgen_top.specs.Lines.{wrote_line, wrote_vectors_line, simulated_line, refused_line, unsupported_line, usage_line, read_fault_line, vhdl_refused_line, vectors_refused_line, too_long_line}
+use Rattle.opgen_top.specs.Lines.{wrote_line, wrote_vectors_line, simulated_line, refused_line, unsupported_line, unknown_target_line, not_adjustable_line, period_too_short_line, too_large_line, usage_line, read_fault_line, vhdl_refused_line, vectors_refused_line, too_long_line}
 use Rattle.opgen_top.specs.Stores.{Store}
 
 pub record Answer : Type 0 where
@@ -11,35 +11,54 @@ pub record Answer : Type 0 where
   pub line : List ℕ
   pub stores : List Store
 
--- a success stores one file
-abbrev pub success : (line name bytes : List ℕ) → Answer
-success line name bytes = record { status = 0; line = line; stores = record { name = name; bytes = bytes } ∷ [] }
+-- a success stores files, in order
+abbrev pub success : (line : List ℕ) → List Store → Answer
+success line stores = record { status = 0; line = line; stores = stores }
+
+abbrev pub file : (name bytes : List ℕ) → Store
+file name bytes = record { name = name; bytes = bytes }
 
 -- a refusal stores none
 abbrev pub refusal : (status : ℕ) (line : List ℕ) → Answer
 refusal status line = record { status = status; line = line; stores = [] }
 
--- the file of an operator of this name
-abbrev pub file_name : (name : List ℕ) → List ℕ
-file_name name = name ++ codes ".vhd"
+-- the files of an operator of this name: its VHDL, its report and its vectors
+abbrev pub vhdl_name : (name : List ℕ) → List ℕ
+vhdl_name name = name ++ codes ".vhd"
+
+abbrev pub report_name : (name : List ℕ) → List ℕ
+report_name name = name ++ codes ".rpt"
 
 abbrev pub vectors_name : (name : List ℕ) → List ℕ
 vectors_name name = name ++ codes ".vec"
 
-abbrev pub wrote : (name : List ℕ) (latency : ℕ) (text : List ℕ) → Answer
-wrote name latency text = success (wrote_line name latency) (file_name name) text
+-- the VHDL, and then the report
+abbrev pub wrote : (name : List ℕ) (latency : ℕ) (text report : List ℕ) → Answer
+wrote name latency text report = success (wrote_line name latency) (file (vhdl_name name) text ∷ file (report_name name) report ∷ [])
 
 abbrev pub wrote_vectors : (name rows : List ℕ) → Answer
-wrote_vectors name rows = success (wrote_vectors_line name) (vectors_name name) rows
+wrote_vectors name rows = success (wrote_vectors_line name) (file (vectors_name name) rows ∷ [])
 
 abbrev pub simulated : (out : List ℕ) (count : ℕ) (rows : List ℕ) → Answer
-simulated out count rows = success (simulated_line count) out rows
+simulated out count rows = success (simulated_line count) (file out rows ∷ [])
 
 abbrev pub refused : SpecFault → Answer
 refused fault = refusal 1 (refused_line fault)
 
 abbrev pub unsupported : Answer
 unsupported = refusal 1 unsupported_line
+
+abbrev pub unknown_target : Answer
+unknown_target = refusal 1 unknown_target_line
+
+abbrev pub not_adjustable : Answer
+not_adjustable = refusal 1 not_adjustable_line
+
+abbrev pub period_too_short : (need : ℕ) → Answer
+period_too_short need = refusal 1 (period_too_short_line need)
+
+abbrev pub too_large : Answer
+too_large = refusal 1 too_large_line
 
 abbrev pub usage : Answer
 usage = refusal 2 usage_line

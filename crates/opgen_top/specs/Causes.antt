@@ -1,26 +1,35 @@
--- What each status of a due answer says of the words and the files.
-use Rattle.std.specs.Prelude.{ℕ, ◌≡◌, ◌⊎◌, IsTrue, List, Option, Some, None, Ok, Err}
+-- What each status of a due answer says of the words, the targets and the files.
+use Rattle.std.specs.Prelude.{ℕ, ◌≡◌, ◌≢◌, ◌⊎◌, IsTrue, false, List, [], Option, Some, None, Ok, Err}
 use Rattle.opgen_io.specs.Answers.{fetched}
 use Rattle.opgen_io.specs.Files.{Files}
 use Rattle.opgen_io.specs.declared.folder.FetchFault.TheVariants as fetch
 use Rattle.opgen_operator.specs.declared.spec.Spec.{Spec}
+use Rattle.opgen_spec.specs.declared.fault.SpecFault.{SpecFault}
 use Rattle.opgen_spec.specs.Document.{tree}
 use Rattle.opgen_spec.specs.Faults.{read}
-use Rattle.opgen_top.specs.Answer.{Answer}
+use Rattle.opgen_target.specs.Delays.{Delays}
+use Rattle.opgen_top.specs.Answer.{Answer, refused, unsupported, unknown_target, not_adjustable}
 use Rattle.opgen_top.specs.Command.{Command, Generate, Vectors, Simulate}
 use Rattle.opgen_top.specs.Due.{IsAnswerOf, most_bytes, most_simulated_bytes}
 use Rattle.opgen_top.specs.Kinds.{is_built}
 use Rattle.opgen_top.specs.Simulate.{RefusesVhdl, RefusesVectors, Runs}
-use Rattle.opgen_top.specs.Specified.{IsGenerated, IsVectors}
+use Rattle.opgen_top.specs.Specified.{IsGenerated, IsVectors, IsTooShort, IsTooLarge}
+use Rattle.opgen_top.specs.Targets.{Device, IsTableOf, chosen}
 
--- a file holds a specification without a fault that can be generated, of which something is said
-pub record HasSpec (file : List ℕ) (files : Files) (said : Spec → Type 0) : Type 0 where
+-- a file holds a specification without a fault that can be generated
+pub record HasSpec (file : List ℕ) (files : Files) (spec : Spec) : Type 0 where
   pub bytes : List ℕ
   pub stands : files file ≡ Some bytes
-  pub spec : Spec
   pub reads : read (tree bytes) ≡ Ok spec
   pub built : IsTrue (is_built spec)
-  pub says : said spec
+
+-- and there is a target for it, of whose table something is said
+pub record HasTable (file : List ℕ) (devices : List Device) (files : Files) (said : Spec → Delays → Type 0) : Type 0 where
+  pub spec : Spec
+  pub has_spec : HasSpec file files spec
+  pub table : Delays
+  pub of_target : IsTableOf spec devices table
+  pub says : said spec table
 
 -- both files of `simulate` hold bytes, of which something is said
 pub record HasBoth (vhdl vectors : List ℕ) (files : Files) (said : (text rows : List ℕ) → Type 0) : Type 0 where
@@ -30,24 +39,32 @@ pub record HasBoth (vhdl vectors : List ℕ) (files : Files) (said : (text rows 
   pub also_stands : files vectors ≡ Some rows
   pub says : said text rows
 
--- after 0: the command's files were there, and made the one file that it stores
-abbrev pub IsMade : Option Command → Files → Answer → Type 0
-IsMade None files a = ⊥
-IsMade (Some (Generate spec)) files a = HasSpec spec files (λ s. IsGenerated s a)
-IsMade (Some (Vectors spec)) files a = HasSpec spec files (λ s. IsVectors s a)
-IsMade (Some (Simulate vhdl vectors out)) files a = HasBoth vhdl vectors files (λ text rows. Runs out text rows a)
+-- after 0: the command's files were there, and made what it stores
+abbrev pub IsMade : Option Command → List Device → Files → Answer → Type 0
+IsMade None devices files a = ⊥
+IsMade (Some (Generate spec)) devices files a = HasTable spec devices files (λ s table. IsGenerated s table a)
+IsMade (Some (Vectors spec)) devices files a = HasTable spec devices files (λ s table. IsVectors s table a)
+IsMade (Some (Simulate vhdl vectors out)) devices files a = HasBoth vhdl vectors files (λ text rows. Runs out text rows a)
 
--- after 1: the bytes of a specification have a fault, or ask for what can't be generated
-pub record IsRefusedSpec (spec : List ℕ) (files : Files) : Type 0 where
-  pub bytes : List ℕ
-  pub stands : files spec ≡ Some bytes
-  pub refused : (asked : Spec) → read (tree bytes) ≡ Ok asked → IsTrue (is_built asked) → ⊥
+-- After 1: why a specification is refused. Its bytes have a fault, or it can't be generated; no target has the name that it
+-- asks for, or the first of that name has a fixed table and there is a delay line; or its net needs a longer period, or would
+-- have too many signals.
+pub data IsRefusedSpec (file : List ℕ) (devices : List Device) (files : Files) (a : Answer) : Type 0 where
+  faulty : (bytes : List ℕ) (fault : SpecFault) → files file ≡ Some bytes → read (tree bytes) ≡ Err fault → a ≡ refused fault
+      → IsRefusedSpec file devices files a
+  unbuilt : (bytes : List ℕ) (spec : Spec) → files file ≡ Some bytes → read (tree bytes) ≡ Ok spec → is_built spec ≡ false → a ≡ unsupported
+      → IsRefusedSpec file devices files a
+  no_target : (spec : Spec) → HasSpec file files spec → chosen spec.target devices ≡ None → a ≡ unknown_target → IsRefusedSpec file devices files a
+  fixed_table : (spec : Spec) (device : Device) → HasSpec file files spec → chosen spec.target devices ≡ Some device → device.adjustable ≡ false
+      → spec.delays ≢ [] → a ≡ not_adjustable → IsRefusedSpec file devices files a
+  short_period : HasTable file devices files (λ spec table. IsTooShort spec table a) → IsRefusedSpec file devices files a
+  many_signals : HasTable file devices files (λ spec table. IsTooLarge spec table a) → IsRefusedSpec file devices files a
 
-abbrev pub IsRefused : Option Command → Files → Type 0
-IsRefused None files = ⊥
-IsRefused (Some (Generate spec)) files = IsRefusedSpec spec files
-IsRefused (Some (Vectors spec)) files = IsRefusedSpec spec files
-IsRefused (Some (Simulate vhdl vectors out)) files = ⊥
+abbrev pub IsRefused : Option Command → List Device → Files → Answer → Type 0
+IsRefused None devices files a = ⊥
+IsRefused (Some (Generate spec)) devices files a = IsRefusedSpec spec devices files a
+IsRefused (Some (Vectors spec)) devices files a = IsRefusedSpec spec devices files a
+IsRefused (Some (Simulate vhdl vectors out)) devices files a = ⊥
 
 -- after 3: a file that the command takes is not there
 abbrev pub IsMissing : Option Command → Files → Type 0
@@ -80,9 +97,9 @@ IsTooLong (Some (Simulate vhdl vectors out)) files =
     (fetched (files vhdl) most_simulated_bytes ≡ Err fetch.TooLong) ⊎ (fetched (files vectors) most_simulated_bytes ≡ Err fetch.TooLong)
 
 -- each status has its cause
-pub record HasCause (command : Option Command) (files : Files) (a : Answer) : Type 0 where
-  pub made : a.status ≡ 0 → IsMade command files a
-  pub refused : a.status ≡ 1 → IsRefused command files
+pub record HasCause (command : Option Command) (devices : List Device) (files : Files) (a : Answer) : Type 0 where
+  pub made : a.status ≡ 0 → IsMade command devices files a
+  pub refused : a.status ≡ 1 → IsRefused command devices files a
   pub usage : a.status ≡ 2 → command ≡ None
   pub missing : a.status ≡ 3 → IsMissing command files
   pub vhdl_refused : a.status ≡ 6 → IsVhdlRefused command files a
@@ -90,4 +107,15 @@ pub record HasCause (command : Option Command) (files : Files) (a : Answer) : Ty
   pub longer : a.status ≡ 9 → IsTooLong command files
 
 abbrev pub AnswersHaveCauses : Type 0
-AnswersHaveCauses = (command : Option Command) (files : Files) (a : Answer) → IsAnswerOf command files a → HasCause command files a
+AnswersHaveCauses = (command : Option Command) (devices : List Device) (files : Files) (a : Answer) → IsAnswerOf command devices files a → HasCause command devices files a
+
+-- a command on a specification
+abbrev pub IsOnSpec : Command → (file : List ℕ) → Type 0
+IsOnSpec (Generate spec) file = spec ≡ file
+IsOnSpec (Vectors spec) file = spec ≡ file
+IsOnSpec (Simulate vhdl vectors out) file = ⊥
+
+-- and where the file is not too long, each cause makes its refusal the due answer
+abbrev pub RefusalsAreDue : Type 0
+RefusalsAreDue = (command : Command) (file : List ℕ) → IsOnSpec command file → (devices : List Device) (files : Files) (a : Answer)
+    → (fetched (files file) most_bytes ≡ Err fetch.TooLong → ⊥) → IsRefusedSpec file devices files a → IsAnswerOf (Some command) devices files a

@@ -1,52 +1,75 @@
--- The circuit of a specification.
-use Rattle.std.specs.Prelude.{ℕ, ◌+◌, ◌≡◌, List, ◌++◌, map, slice_get, All, Some}
+-- The circuit of a specification, for a table of delays.
+use Rattle.std.specs.Prelude.{ℕ, ◌+◌, ◌≡◌, ◌≤◌, Bool, List, ◌++◌, map, slice_get, All, Some}
 use Rattle.opgen_design.specs.declared.design.Design.{Design}
 use Rattle.opgen_design.specs.declared.design.Dir.{Dir}
 use Rattle.opgen_design.specs.declared.design.Dir.TheVariants.{In, Out}
 use Rattle.opgen_design.specs.declared.design.Port.{Port}
-use Rattle.opgen_design.specs.Run.{AreWords, Words, Run}
+use Rattle.opgen_design.specs.Run.{AreWords, Words, Run, input_widths}
 use Rattle.opgen_design.specs.Run.{outputs_of as design_outputs}
 use Rattle.opgen_design.specs.Sound.{IsSound}
 use Rattle.opgen_net.specs.declared.net.Net.{Net}
 use Rattle.opgen_net.specs.Flow.{Inputs}
-use Rattle.opgen_net.specs.Made.{design_of}
-use Rattle.opgen_net.specs.Named.{IsNamed}
+use Rattle.opgen_net.specs.Made.{input_port}
 use Rattle.opgen_operator.specs.declared.spec.PortFormat.{PortFormat}
 use Rattle.opgen_operator.specs.declared.spec.Spec.{Spec}
-use Rattle.opgen_operator.specs.Fits.{FitsSpec}
 use Rattle.opgen_operator.specs.Good.{IsGood, IsInRange}
 use Rattle.opgen_operator.specs.Judged.{recent_words, output_words}
 use Rattle.opgen_operator.specs.Ports.{inputs_of, outputs_of}
-use Rattle.opgen_top.specs.Kinds.{IsNetOf}
+use Rattle.opgen_pipe.specs.declared.planning.Planned.{Planned}
+use Rattle.opgen_pipe.specs.Cells.{need}
+use Rattle.opgen_pipe.specs.Copies.{signal_count}
+use Rattle.opgen_pipe.specs.Laws.{counted, net_inputs}
+use Rattle.opgen_pipe.specs.Pipelined.{enable_inputs}
+use Rattle.opgen_pipe.specs.Planned.{IsPlanOf, most_signals, slots_of}
+use Rattle.opgen_schedule.specs.Stage.{slot_at}
+use Rattle.opgen_target.specs.Delays.{Delays}
+use Rattle.opgen_top.specs.Kinds.{AreAddersOf, IsFittingNet}
 
 -- a port of a design
 abbrev pub port_of : Dir → PortFormat → Port
 port_of dir p = record { name = p.name; dir = dir; width = p.format.width }
 
+-- the ports that a specification asks for: that of the clock enable, where there is one, its inputs and its outputs
+abbrev pub ports_for : Spec → (enable : Bool) → List Port
+ports_for spec enable = map input_port (enable_inputs enable) ++ map (port_of In) (inputs_of spec) ++ map (port_of Out) (outputs_of spec)
+
 -- A design serves a specification at a latency where it has its ports, has a run over each list of words of its inputs, and
--- in each run the outputs of a cycle are good for the inputs up to so many cycles before, where these are in range.
-pub record Serves (spec : Spec) (latency : ℕ) (d : Design) : Type 0 where
-  pub ports : d.ports ≡ map (port_of In) (inputs_of spec) ++ map (port_of Out) (outputs_of spec)
-  pub runs : (inputs : Inputs) → All (AreWords (map (λ p. p.format.width) (inputs_of spec))) inputs → (vs : List Words) × Run d inputs vs
-  pub good : (inputs : Inputs) (vs : List Words) → Run d inputs vs → (t : ℕ) (v : Words) → slice_get vs (t + latency) ≡ Some v
-      → IsInRange spec (recent_words (inputs_of spec) inputs t)
-      → IsGood spec (recent_words (inputs_of spec) inputs t) (output_words (outputs_of spec) (design_outputs d v))
+-- in each run the outputs of a cycle are good for the inputs up to so many cycles before, where these are in range. Cycles
+-- are those that count: with a clock enable, the ones in which its word is 1, in their order.
+pub record Serves (spec : Spec) (latency : ℕ) (enable : Bool) (d : Design) : Type 0 where
+  pub ports : d.ports ≡ ports_for spec enable
+  pub runs : (inputs : Inputs) → All (AreWords (input_widths d)) inputs → (vs : List Words) × Run d inputs vs
+  pub good : (inputs : Inputs) (vs : List Words) → Run d inputs vs
+      → (t : ℕ) (v : Words) → slice_get (counted enable vs vs) (t + latency) ≡ Some v
+      → IsInRange spec (recent_words (inputs_of spec) (net_inputs enable (counted enable vs inputs)) t)
+      → IsGood spec (recent_words (inputs_of spec) (net_inputs enable (counted enable vs inputs)) t)
+      (output_words (outputs_of spec) (design_outputs d v))
 
--- The circuit: the sound design, under the specification's name, of the one net of its kind. That net fits the specification,
--- and its ports are named as a design asks. So far it stands in one cycle, and has no latency.
-pub record IsCircuit (spec : Spec) (latency : ℕ) (design : Design) : Type 0 where
+-- the signals of the design that a net has for a table and a period
+abbrev pub signals_of : Delays → (period : ℕ) → Net → ℕ
+signals_of table period net = signal_count net (slot_at (slots_of table period net))
+
+-- The circuit for a table: the plan of the specification's net for its period, which is long enough, with no more signals
+-- than a design may have. Beside it stand the numbers of its adder graph, if its kind has one.
+pub record IsCircuit (spec : Spec) (table : Delays) (enable : Bool) (planned : Planned) (adders : List ℕ) : Type 0 where
   pub net : Net
-  pub of_kind : IsNetOf spec net
-  pub fits : FitsSpec spec net
-  pub named : IsNamed spec.name net
-  pub at_once : latency ≡ 0
-  pub made : design ≡ design_of spec.name net
-  pub sound : IsSound design
+  pub fitting : IsFittingNet spec net
+  pub are_adders : AreAddersOf spec adders
+  pub long_enough : need table net ≤ spec.period
+  pub few_signals : signals_of table spec.period net ≤ most_signals
+  pub plan : IsPlanOf spec.name enable net table spec.period planned
 
--- every circuit serves its specification
+-- every circuit is sound
+abbrev pub CircuitsAreSound : Type 0
+CircuitsAreSound = (spec : Spec) (table : Delays) (enable : Bool) (planned : Planned) (adders : List ℕ)
+    → IsCircuit spec table enable planned adders → IsSound planned.design
+
+-- every circuit serves its specification, at its latency
 abbrev pub CircuitsServe : Type 0
-CircuitsServe = (spec : Spec) (latency : ℕ) (design : Design) → IsCircuit spec latency design → Serves spec latency design
+CircuitsServe = (spec : Spec) (table : Delays) (enable : Bool) (planned : Planned) (adders : List ℕ)
+    → IsCircuit spec table enable planned adders → Serves spec planned.latency enable planned.design
 
--- a specification leaves at most one circuit, at one latency
+-- a specification leaves at most one circuit for a table
 abbrev pub HasOneCircuit : Type 0
-HasOneCircuit = (spec : Spec) (latency late : ℕ) (a b : Design) → IsCircuit spec latency a → IsCircuit spec late b → (latency ≡ late) × (a ≡ b)
+HasOneCircuit = (spec : Spec) (table : Delays) (enable : Bool) (p q : Planned) (a b : List ℕ)
+    → IsCircuit spec table enable p a → IsCircuit spec table enable q b → (p ≡ q) × (a ≡ b)

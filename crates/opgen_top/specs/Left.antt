@@ -7,6 +7,7 @@ use Rattle.opgen_top.specs.Command.{Command}
 use Rattle.opgen_top.specs.Due.{IsAnswerOf}
 use Rattle.opgen_top.specs.Lines.{read_fault_line}
 use Rattle.opgen_top.specs.Stores.{stored_all, HasFirst, HasBroken}
+use Rattle.opgen_top.specs.Targets.{Device}
 
 -- A fault of reading was counted: nothing has changed, and the sink has at most a first part of `read fault` more.
 pub record IsUnread (counted : Type 0) (files : Files) (after : Option Files) (before now : Option (List ℕ)) : Type 0 where
@@ -27,11 +28,11 @@ pub record IsUnprinted (counted : Type 0) (answer : Answer) (files : Files) (aft
   pub part : TakesPrefix before answer.line now
 
 -- After 4, by the counts that rose: a file was not read, or the answer that is due was not stored or not printed.
-abbrev pub LeftByFault : Option Command → Files → (read write put : Type 0) (after : Option Files) (before now : Option (List ℕ)) → Type 0
-LeftByFault command files read write put after before now =
+abbrev pub LeftByFault : Option Command → List Device → Files → (read write put : Type 0) (after : Option Files) (before now : Option (List ℕ)) → Type 0
+LeftByFault command devices files read write put after before now =
     IsUnread read files after before now
-    ⊎ ((a : Answer) × IsAnswerOf command files a × (IsUnstored write a files after before now ⊎ IsUnprinted put a files after before now))
+    ⊎ ((a : Answer) × IsAnswerOf command devices files a × (IsUnstored write a files after before now ⊎ IsUnprinted put a files after before now))
 
 -- After 5: nothing has changed, or a first part of the stores of the answer that is due stands.
-abbrev pub LeftByMemory : Option Command → Files → (after : Option Files) → Type 0
-LeftByMemory command files after = (after ≡ Some files) ⊎ ((a : Answer) × IsAnswerOf command files a × HasFirst a.stores files after)
+abbrev pub LeftByMemory : Option Command → List Device → Files → (after : Option Files) → Type 0
+LeftByMemory command devices files after = (after ≡ Some files) ⊎ ((a : Answer) × IsAnswerOf command devices files a × HasFirst a.stores files after)

@@ -1,4 +1,5 @@
 pub mod Command
+pub mod Targets
 pub mod Kinds
 pub mod Circuit
 pub mod Running
@@ -12,6 +13,5 @@ pub mod Due
 pub mod Headline
 pub mod Left
 pub mod Printed
-pub mod Product
 pub mod Causes
 pub mod Prepared

@@ -9,7 +9,7 @@ use Rattle.opgen_vec.specs.declared.fault.VecFault.{VecFault}
 use Rattle.opgen_vec.specs.Fault.{fault_text as vectors_fault_text}
 
 abbrev pub wrote_line : (name : List ℕ) (latency : ℕ) → List ℕ
-wrote_line name latency = codes "wrote " ++ name ++ codes ".vhd, latency " ++ decimal latency ++ codes "\n"
+wrote_line name latency = codes "wrote " ++ name ++ codes ".vhd and " ++ name ++ codes ".rpt, latency " ++ decimal latency ++ codes "\n"
 
 abbrev pub wrote_vectors_line : (name : List ℕ) → List ℕ
 wrote_vectors_line name = codes "wrote " ++ name ++ codes ".vec, 16 cycles\n"
@@ -22,6 +22,18 @@ refused_line fault = codes "specification: " ++ fault_text fault ++ codes "\n"
 
 abbrev pub unsupported_line : List ℕ
 unsupported_line = codes "specification: Unsupported\n"
+
+abbrev pub unknown_target_line : List ℕ
+unknown_target_line = codes "specification: UnknownTarget\n"
+
+abbrev pub not_adjustable_line : List ℕ
+not_adjustable_line = codes "specification: NotAdjustable\n"
+
+abbrev pub period_too_short_line : (need : ℕ) → List ℕ
+period_too_short_line need = codes "specification: PeriodTooShort " ++ decimal need ++ codes "\n"
+
+abbrev pub too_large_line : List ℕ
+too_large_line = codes "specification: TooLarge\n"
 
 abbrev pub usage_line : List ℕ
 usage_line = codes "usage: opgen COMMAND (generate, vectors, simulate, workload, check)\n"

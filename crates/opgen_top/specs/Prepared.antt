@@ -1,13 +1,20 @@
 -- For the functions of this crate alone: an answer before its stores, or why there is none yet.
-use Rattle.std.specs.Prelude.{ℕ, ◌≡◌, ◌⊎◌, ◌≤◌, List, [], length, map, Option, Some, None, Result, Ok, Err, Vec, string_bytes}
+use Rattle.std.specs.Prelude.{ℕ, ◌≡◌, ◌⊎◌, ◌≤◌, false, IsTrue, List, [], length, map, Option, Some, None, Result, Ok, Err, Vec, string_bytes}
 use Rattle.std.specs.declared.alloc.Global.{Global}
 use Rattle.std.specs.Str.Lines.{lines}
 use Rattle.opgen_io.specs.Answers.{fetched}
 use Rattle.opgen_io.specs.Counts.{Rose, Stood}
 use Rattle.opgen_io.specs.Files.{Files}
 use Rattle.opgen_io.specs.declared.folder.FetchFault.TheVariants as fetch
+use Rattle.opgen_design.specs.declared.design.Design.{Design}
+use Rattle.opgen_operator.specs.declared.spec.Spec.{Spec}
+use Rattle.opgen_operator.specs.Valid.{IsValidSpec}
+use Rattle.opgen_spec.specs.Document.{tree}
+use Rattle.opgen_spec.specs.Faults.{read}
+use Rattle.opgen_target.specs.Delays.{Delays}
 use Rattle.opgen_vec.specs.Reading.{IsReading}
 use Rattle.opgen_vec.specs.Rows.{AreRowsOfCells}
+use Rattle.opgen_vec.specs.Stimulus.{stimulus_cells}
 use Rattle.opgen_top.specs.declared.answer.Answer.{Answer as Held}
 use Rattle.opgen_top.specs.declared.answer.NewFile.{NewFile}
 use Rattle.opgen_top.specs.declared.answer.Refusal.{Refusal}
@@ -15,13 +22,19 @@ use Rattle.opgen_top.specs.declared.answer.Refusal.TheVariants as refusals
 use Rattle.opgen_top.specs.declared.line.Line.{Line}
 use Rattle.opgen_top.specs.declared.line.Line.TheVariants as line
 use Rattle.opgen_top.specs.declared.run_rows.Rows.{Rows}
-use Rattle.opgen_top.specs.Answer.{Answer, read_fault, refusal}
+use Rattle.opgen_top.specs.declared.specified.Specified.{Specified}
+use Rattle.opgen_top.specs.Answer.{Answer, read_fault, refusal, wrote_vectors}
+use Rattle.opgen_top.specs.Circuit.{IsCircuit}
 use Rattle.opgen_top.specs.Command.{Command}
 use Rattle.opgen_top.specs.Due.{IsAnswerOf}
-use Rattle.opgen_top.specs.Lines.{read_fault_line, too_long_line, unsupported_line, usage_line}
+use Rattle.opgen_top.specs.Kinds.{is_built}
+use Rattle.opgen_top.specs.Lines.{not_adjustable_line, read_fault_line, too_large_line, too_long_line, unknown_target_line, unsupported_line, usage_line}
 use Rattle.opgen_top.specs.Printed.{IsLineOf}
+use Rattle.opgen_top.specs.Running.{IsRunText}
+use Rattle.opgen_top.specs.Specified.{cycles, seed}
 use Rattle.opgen_top.specs.Statuses.{Refuses}
 use Rattle.opgen_top.specs.Stores.{Store}
+use Rattle.opgen_top.specs.Targets.{Device, IsTableOf}
 
 -- the status and the text of a line
 abbrev pub line_status : Line → ℕ
@@ -29,6 +42,9 @@ line_status line.Usage = 2
 line_status line.ReadFault = 3
 line_status line.TooLong = 9
 line_status line.Unsupported = 1
+line_status line.UnknownTarget = 1
+line_status line.NotAdjustable = 1
+line_status line.TooLarge = 1
 line_status (line.Refused text) = 1
 line_status (line.VhdlRefused text) = 6
 line_status (line.VectorsRefused text) = 7
@@ -39,6 +55,9 @@ line_text line.Usage = usage_line
 line_text line.ReadFault = read_fault_line
 line_text line.TooLong = too_long_line
 line_text line.Unsupported = unsupported_line
+line_text line.UnknownTarget = unknown_target_line
+line_text line.NotAdjustable = not_adjustable_line
+line_text line.TooLarge = too_large_line
 line_text (line.Refused text) = string_bytes text
 line_text (line.VhdlRefused text) = string_bytes text
 line_text (line.VectorsRefused text) = string_bytes text
@@ -55,17 +74,35 @@ answer_of a = record { status = line_status a.line; line = line_text a.line; sto
 abbrev pub refusal_of : Line → Answer
 refusal_of line = refusal (line_status line) (line_text line)
 
--- what is said of the answer, unless memory ran out
+-- what is said of the answer of a refusal, unless that is want of memory
+abbrev pub OnRefusal : Refusal → (Answer → Type 0) → Type 0
+OnRefusal (refusals.Line line) said = said (refusal_of line)
+OnRefusal refusals.Memory said = Unit {0}
+
+-- the same of an answer or a refusal
 abbrev pub Answers : Result Held Refusal → (Answer → Type 0) → Type 0
 Answers (Ok a) said = said (answer_of a)
-Answers (Err (refusals.Line line)) said = said (refusal_of line)
-Answers (Err refusals.Memory) said = Unit {0}
+Answers (Err refusal) said = OnRefusal refusal said
 
--- the same of a refusal
+-- and of a refusal alone
 abbrev pub Refused : {X : Type 0} → Result X Refusal → (Answer → Type 0) → Type 0
 Refused (Ok x) said = Unit {0}
-Refused (Err (refusals.Line line)) said = said (refusal_of line)
-Refused (Err refusals.Memory) said = Unit {0}
+Refused (Err refusal) said = OnRefusal refusal said
+
+-- a specification that the bytes give and that can be built, and its circuit for the target that it names
+pub record IsSpecified (bytes : List ℕ) (devices : List Device) (made : Specified) : Type 0 where
+  pub reads : read (tree bytes) ≡ Ok made.spec
+  pub valid : IsValidSpec made.spec
+  pub built : IsTrue (is_built made.spec)
+  pub table : Delays
+  pub of_target : IsTableOf made.spec devices table
+  pub circuit : IsCircuit made.spec table false made.circuit.planned made.circuit.adders.items
+
+-- an answer that stores the rows of a design over the stimulus of a specification
+pub record HasRows (spec : Spec) (design : Design) (a : Answer) : Type 0 where
+  pub rows : List ℕ
+  pub run : IsRunText design cycles (stimulus_cells spec seed cycles) rows
+  pub answer : a ≡ wrote_vectors spec.name rows
 
 -- an answer has a line of its status, and none that refuses has a store
 pub record IsListed (a : Answer) : Type 0 where
@@ -85,12 +122,12 @@ pub record Kept (before now : Reads) : Type 0 where
   pub longs : before.longs ≤ now.longs
 
 -- the answer of a command: that which is due, or `read fault` where a fault of reading was counted
-pub record IsPrepared (command : Option Command) (told : Option Files) (before now : Reads) (a : Answer) : Type 0 where
+pub record IsPrepared (command : Option Command) (devices : List Device) (told : Option Files) (before now : Reads) (a : Answer) : Type 0 where
   pub listed : IsListed a
   pub usage : a.status ≡ 2 → command ≡ None
   pub read_counted : a.status ≡ 3 → Rose before.faults now.faults ⊎ Rose before.lacks now.lacks
   pub long_counted : a.status ≡ 9 → Rose before.longs now.longs
-  pub due : (files : Files) → told ≡ Some files → ((a ≡ read_fault) × Rose before.faults now.faults) ⊎ IsAnswerOf command files a
+  pub due : (files : Files) → told ≡ Some files → ((a ≡ read_fault) × Rose before.faults now.faults) ⊎ IsAnswerOf command devices files a
 
 -- the line for a file that was not fetched, and its cause
 pub record IsUnfetched (name : List ℕ) (most : ℕ) (told : Option Files) (before now : Reads) (l : Line) : Type 0 where

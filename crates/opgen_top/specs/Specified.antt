@@ -1,23 +1,29 @@
--- What `generate` and `vectors` answer, by the bytes of their specification.
-use Rattle.std.specs.Prelude.{ℕ, ◌≡◌, Bool, true, false, List, Result, Ok, Err}
-use Rattle.opgen_design.specs.declared.design.Design.{Design}
+-- What `generate` and `vectors` answer, by the bytes of their specification and by the targets.
+use Rattle.std.specs.Prelude.{ℕ, ◌≡◌, ◌⊎◌, ◌≤◌, ◌<◌, Bool, true, false, List, Option, Some, None, Result, Ok, Err}
+use Rattle.opgen_net.specs.declared.net.Net.{Net}
 use Rattle.opgen_operator.specs.declared.spec.Spec.{Spec}
+use Rattle.opgen_pipe.specs.declared.planning.Planned.{Planned}
+use Rattle.opgen_pipe.specs.Cells.{need}
+use Rattle.opgen_pipe.specs.Planned.{most_signals}
+use Rattle.opgen_report.specs.Report.{report}
 use Rattle.opgen_spec.specs.declared.fault.SpecFault.{SpecFault}
 use Rattle.opgen_spec.specs.Document.{tree}
 use Rattle.opgen_spec.specs.Faults.{read}
+use Rattle.opgen_target.specs.Delays.{Delays}
 use Rattle.opgen_vhdl.specs.DesignText.{text_of}
 use Rattle.opgen_vec.specs.Stimulus.{stimulus_cells}
-use Rattle.opgen_top.specs.Answer.{Answer, refused, unsupported, wrote, wrote_vectors}
-use Rattle.opgen_top.specs.Circuit.{IsCircuit}
-use Rattle.opgen_top.specs.Kinds.{is_built}
+use Rattle.opgen_top.specs.Answer.{Answer, refused, unsupported, unknown_target, not_adjustable, period_too_short, too_large, wrote, wrote_vectors}
+use Rattle.opgen_top.specs.Circuit.{IsCircuit, signals_of}
+use Rattle.opgen_top.specs.Kinds.{is_built, IsFittingNet}
 use Rattle.opgen_top.specs.Running.{IsRunText}
+use Rattle.opgen_top.specs.Targets.{Device, chosen, takes_lines, tuned}
 
--- `generate` stores the text of the circuit, and tells its latency
-pub record IsGenerated (spec : Spec) (a : Answer) : Type 0 where
-  pub latency : ℕ
-  pub design : Design
-  pub circuit : IsCircuit spec latency design
-  pub answer : a ≡ wrote spec.name latency (text_of design)
+-- `generate` stores the text of the circuit and its report, and tells its latency
+pub record IsGenerated (spec : Spec) (table : Delays) (a : Answer) : Type 0 where
+  pub planned : Planned
+  pub adders : List ℕ
+  pub circuit : IsCircuit spec table false planned adders
+  pub answer : a ≡ wrote spec.name planned.latency (text_of planned.design) (report spec planned adders)
 
 -- so many cycles, drawn from this seed
 abbrev pub cycles : ℕ
@@ -27,24 +33,57 @@ abbrev pub seed : ℕ
 seed = 0
 
 -- `vectors` stores the rows of the stimulus and of the outputs, in the run of that circuit
-pub record IsVectors (spec : Spec) (a : Answer) : Type 0 where
-  pub latency : ℕ
-  pub design : Design
-  pub circuit : IsCircuit spec latency design
+pub record IsVectors (spec : Spec) (table : Delays) (a : Answer) : Type 0 where
+  pub planned : Planned
+  pub adders : List ℕ
+  pub circuit : IsCircuit spec table false planned adders
   pub rows : List ℕ
-  pub run : IsRunText design cycles (stimulus_cells spec seed cycles) rows
+  pub run : IsRunText planned.design cycles (stimulus_cells spec seed cycles) rows
   pub answer : a ≡ wrote_vectors spec.name rows
 
--- by whether a specification can be generated: what is said of it, or the refusal
+-- the period is too short for the net, which has a longer need
+pub record IsTooShort (spec : Spec) (table : Delays) (a : Answer) : Type 0 where
+  pub net : Net
+  pub fitting : IsFittingNet spec net
+  pub short : spec.period < need table net
+  pub answer : a ≡ period_too_short (need table net)
+
+-- the period is long enough, and the design too large
+pub record IsTooLarge (spec : Spec) (table : Delays) (a : Answer) : Type 0 where
+  pub net : Net
+  pub fitting : IsFittingNet spec net
+  pub long_enough : need table net ≤ spec.period
+  pub many_signals : most_signals < signals_of table spec.period net
+  pub answer : a ≡ too_large
+
+-- by the table of the target: one of these two refusals, or what is said
+abbrev pub OnTable : Spec → Delays → Answer → (said : Type 0) → Type 0
+OnTable spec table a said = IsTooShort spec table a ⊎ (IsTooLarge spec table a ⊎ said)
+
+-- by whether the target takes the delay lines: what is said, or the refusal
+abbrev pub OnLines : Bool → Answer → (said : Type 0) → Type 0
+OnLines true a said = said
+OnLines false a said = a ≡ not_adjustable
+
+-- by the target of the specification's name: the same of its table after the delay lines, or the refusal
+abbrev pub OnTarget : Option Device → Spec → Answer → (said : Delays → Type 0) → Type 0
+OnTarget (Some device) spec a said = OnLines (takes_lines device.adjustable spec.delays) a (said (tuned device.delays spec.delays))
+OnTarget None spec a said = a ≡ unknown_target
+
+-- by whether a specification can be generated: what is said, or the refusal
 abbrev pub OnBuilt : Bool → Answer → (said : Type 0) → Type 0
 OnBuilt true a said = said
 OnBuilt false a said = a ≡ unsupported
 
--- by what reading a document gives: the same, or the refusal of its first fault
-abbrev pub OnReading : Result Spec SpecFault → Answer → (Spec → Type 0) → Type 0
+-- by what reading a document gives: the same of the specification, or the refusal of the first fault
+abbrev pub OnReading : Result Spec SpecFault → Answer → (said : Spec → Type 0) → Type 0
 OnReading (Ok spec) a said = OnBuilt (is_built spec) a (said spec)
 OnReading (Err fault) a said = a ≡ refused fault
 
--- by the bytes
-abbrev pub OnSpec : (bytes : List ℕ) → Answer → (said : Spec → Answer → Type 0) → Type 0
-OnSpec bytes a said = OnReading (read (tree bytes)) a (λ spec. said spec a)
+-- by the bytes and the targets, what is said of the specification and its target's table
+abbrev pub OnSpec : (bytes : List ℕ) → List Device → Answer → (said : Spec → Delays → Type 0) → Type 0
+OnSpec bytes devices a said = OnReading (read (tree bytes)) a (λ spec. OnTarget (chosen spec.target devices) spec a (λ table. said spec table))
+
+-- the answer to a specification: a refusal, or what is said of it and of its target's table
+abbrev pub IsAnswerToSpec : (bytes : List ℕ) → List Device → (said : Spec → Delays → Answer → Type 0) → Answer → Type 0
+IsAnswerToSpec bytes devices said a = OnSpec bytes devices a (λ spec table. OnTable spec table a (said spec table a))

@@ -1,7 +1,7 @@
 //! What a command answers, before anything is stored.
 ghost use Rattle.std.specs.Prelude.{◌≡◌, ◌∷◌, [], IfOk, string_bytes};
-ghost use Rattle.opgen_top.specs.Answer.{success};
-ghost use Rattle.opgen_top.specs.Prepared.{answer_of, refusal_of};
+ghost use Rattle.opgen_top.specs.Answer.{file, success};
+ghost use Rattle.opgen_top.specs.Prepared.{answer_of, refusal_of, store_of};
 
 use crate::line::Line;
 use opgen_num::Memory;
@@ -55,10 +55,28 @@ pub(crate) fn with_file(
     name: String,
     bytes: Vec<u8>,
 ) -> Result<Answer, AllocError>
-    ensures { IfOk result (λ a. answer_of a ≡ success (string_bytes line) (string_bytes name) bytes.items) }
+    ensures { IfOk result (λ a. answer_of a ≡ success (string_bytes line) (file (string_bytes name) bytes.items ∷ [])) }
 {
     let mut stores = Vec::new(alloc);
     stores.push(NewFile { name, bytes })?;
+    Ok(Answer {
+        line: Line::Wrote(line),
+        stores,
+    })
+}
+
+/// The answer that stores two files, in this order.
+pub(crate) fn with_files(
+    alloc: Global,
+    line: String,
+    first: NewFile,
+    second: NewFile,
+) -> Result<Answer, AllocError>
+    ensures { IfOk result (λ a. answer_of a ≡ success (string_bytes line) (store_of first ∷ store_of second ∷ [])) }
+{
+    let mut stores = Vec::new(alloc);
+    stores.push(first)?;
+    stores.push(second)?;
     Ok(Answer {
         line: Line::Wrote(line),
         stores,

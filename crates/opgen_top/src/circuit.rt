@@ -1,21 +1,20 @@
 //! The circuit of a specification.
-ghost use Rattle.std.specs.Prelude.{◌≡◌, [], IfOk, IsTrue};
-ghost use Rattle.opgen_design.specs.Sound.{HasNumbers};
-ghost use Rattle.opgen_net.specs.Made.{design_of};
-ghost use Rattle.opgen_net.specs.Named.{IsNamed};
-ghost use Rattle.opgen_net.specs.Valid.{HasNoDelay};
-ghost use Rattle.opgen_operator.specs.Fits.{FitsSpec};
+ghost use Rattle.std.specs.Prelude.{◌≡◌, [], false, IfOk, IsTrue, string_bytes};
 ghost use Rattle.opgen_operator.specs.Valid.{IsValidSpec};
 ghost use Rattle.opgen_top.specs.Circuit.{IsCircuit};
-ghost use Rattle.opgen_top.specs.Kinds.{is_built, IsNetOf};
+ghost use Rattle.opgen_top.specs.Kinds.{is_built, AreAddersOf, IsFittingNet};
+ghost use Rattle.opgen_top.specs.Lines.{period_too_short_line};
+ghost use Rattle.opgen_top.specs.Prepared.{IsListed, Refused};
+ghost use Rattle.opgen_top.specs.Specified.{OnTable};
 
-use crate::product::scale_net;
-use opgen_design::Design;
-use opgen_flat::flat;
+use crate::answer::Refusal;
+use crate::line::Line;
 use opgen_net::Net;
 use opgen_num::Memory;
+use opgen_pipe::{PlanFault, Planned, plan};
 use opgen_spec::{Operator, Spec};
-use std::alloc::Global;
+use opgen_target::Target;
+use std::alloc::{AllocError, Global};
 
 /// The net of a specification, and the numbers that its constants share, if it has several.
 #[derive(Drop)]
@@ -24,44 +23,70 @@ pub(crate) struct Built {
     pub adders: Vec<u32>,
 }
 
-/// A design, and how many cycles after its inputs the outputs come.
+/// A plan of a net, and the same numbers.
 #[derive(Drop)]
 pub(crate) struct Circuit {
-    pub design: Design,
-    pub latency: u32,
+    pub planned: Planned,
+    pub adders: Vec<u32>,
+}
+
+/// A net with no shared numbers.
+fn alone(alloc: Global, net: Net) -> Built
+    ensures net { result.net ≡ net }
+    ensures adders { result.adders.items ≡ [] }
+{
+    Built {
+        net,
+        adders: Vec::new(alloc),
+    }
 }
 
 /// The net of a specification, by its kind.
 pub(crate) fn net_of(alloc: Global, spec: &Spec) -> Result<Built, Memory>
     requires valid { IsValidSpec spec.now }
     requires built { IsTrue (is_built spec.now) }
-    ensures net { IfOk result (λ made. IsNetOf spec.now made.net) }
-    ensures fits { IfOk result (λ made. FitsSpec spec.now made.net) }
-    ensures named { IfOk result (λ made. IsNamed spec.now.name made.net) }
-    ensures no_delay { IfOk result (λ made. HasNoDelay made.net) }
-    ensures numbers { IfOk result (λ made. HasNumbers (design_of spec.now.name made.net)) }
-    ensures adders { IfOk result (λ made. made.adders.items ≡ []) }
+    ensures net { IfOk result (λ made. IsFittingNet spec.now made.net) }
+    ensures adders { IfOk result (λ made. AreAddersOf spec.now made.adders.items) }
 {
-    let net = match &spec.op {
-        Operator::Scale(sum) => scale_net(alloc, sum)?,
-        _ => unreachable!(),
-    };
-    Ok(Built {
-        net,
-        adders: Vec::new(alloc),
-    })
+    match &spec.op {
+        Operator::Scale(sum) => Ok(alone(alloc, opgen_fir::build(alloc, sum)?)),
+        Operator::Fir(sum) => Ok(alone(alloc, opgen_fir::build(alloc, sum)?)),
+        Operator::Multiply(product) => Ok(alone(alloc, opgen_mult::build(alloc, product)?)),
+        Operator::Divide(pair) => Ok(alone(alloc, opgen_divide::build(alloc, pair)?)),
+        Operator::Root(single) => Ok(alone(alloc, opgen_sqrt::build(alloc, single)?)),
+        Operator::Mcm(_) => unreachable!(),
+    }
 }
 
-/// The circuit of a specification that can be generated.
-pub(crate) fn circuit_of(alloc: Global, spec: &Spec) -> Result<Circuit, Memory>
+fn too_short_line(alloc: Global, need: u64) -> Result<String, AllocError>
+    ensures { IfOk result (λ line. string_bytes line ≡ period_too_short_line need) }
+{
+    format!(in alloc; "specification: PeriodTooShort {need}\n")
+}
+
+/// The circuit of a specification that can be generated, for a target.
+pub(crate) fn circuit_of(
+    alloc: Global,
+    spec: &Spec,
+    target: &mut Box<dyn Target>,
+) -> Result<Circuit, Refusal>
     requires valid { IsValidSpec spec.now }
     requires built { IsTrue (is_built spec.now) }
-    ensures circuit { IfOk result (λ c. IsCircuit spec.now c.latency c.design) }
-    ensures numbers { IfOk result (λ c. HasNumbers c.design) }
+    ensures circuit { IfOk result (λ c. IsCircuit spec.now (delays target.old) false c.planned c.adders.items) }
+    ensures refused { Refused result (λ a. OnTable spec.now (delays target.old) a ⊥) }
+    ensures listed { Refused result IsListed }
 {
     let made = net_of(alloc, spec)?;
-    Ok(Circuit {
-        design: flat(alloc, &made.net, spec.name.as_str())?,
-        latency: 0,
-    })
+    let name = spec.name.as_str();
+    match plan(alloc, &made.net, name, false, target, spec.period) {
+        Ok(planned) => Ok(Circuit {
+            planned,
+            adders: made.adders,
+        }),
+        Err(PlanFault::PeriodTooShort { need }) => {
+            Err(Refusal::Line(Line::Refused(too_short_line(alloc, need)?)))
+        }
+        Err(PlanFault::TooLarge) => Err(Refusal::Line(Line::TooLarge)),
+        Err(PlanFault::Memory) => Err(Refusal::Memory),
+    }
 }

@@ -1,80 +1,75 @@
 //! From the bytes of a specification to what `generate` answers.
-ghost use Rattle.std.specs.Prelude.{◌≡◌, IfOk, IsTrue, string_bytes, Ok};
+ghost use Rattle.std.specs.Prelude.{◌≡◌, IfOk, string_bytes};
 ghost use Rattle.opgen_operator.specs.Valid.{IsValidSpec};
-ghost use Rattle.opgen_spec.specs.Document.{tree};
-ghost use Rattle.opgen_spec.specs.Faults.{read};
-ghost use Rattle.opgen_top.specs.Answer.{file_name};
-ghost use Rattle.opgen_top.specs.Kinds.{is_built};
-ghost use Rattle.opgen_top.specs.Lines.{refused_line, wrote_line};
-ghost use Rattle.opgen_top.specs.Prepared.{Answers, IsListed, Refused};
-ghost use Rattle.opgen_top.specs.Specified.{IsGenerated, OnSpec};
+ghost use Rattle.opgen_report.specs.Report.{report};
+ghost use Rattle.opgen_vhdl.specs.DesignText.{text_of};
+ghost use Rattle.opgen_top.specs.Answer.{report_name, vhdl_name, wrote};
+ghost use Rattle.opgen_top.specs.Lines.{wrote_line};
+ghost use Rattle.opgen_top.specs.Prepared.{answer_of, Answers, IsListed};
+ghost use Rattle.opgen_top.specs.Specified.{IsAnswerToSpec, IsGenerated};
+ghost use Rattle.opgen_top.specs.Targets.{devices_of};
 
-use crate::answer::{Answer, Refusal, with_file};
-use crate::circuit::circuit_of;
-use crate::kinds::built;
-use crate::line::Line;
-use opgen_spec::{Spec, SpecFault, read_spec};
+use crate::answer::{Answer, NewFile, Refusal, with_files};
+use crate::specified::{Specified, specified_by};
+use opgen_num::Memory;
+use opgen_report::report_text;
+use opgen_target::Target;
 use opgen_write::text;
 use std::alloc::{AllocError, Global};
 
-fn file_name(alloc: Global, name: &str) -> Result<String, AllocError>
-    ensures { IfOk result (λ file. string_bytes file ≡ file_name name.now) }
+fn vhdl_name(alloc: Global, name: &str) -> Result<String, AllocError>
+    ensures { IfOk result (λ file. string_bytes file ≡ vhdl_name name.now) }
 {
     format!(in alloc; "{name}.vhd")
+}
+
+fn report_name(alloc: Global, name: &str) -> Result<String, AllocError>
+    ensures { IfOk result (λ file. string_bytes file ≡ report_name name.now) }
+{
+    format!(in alloc; "{name}.rpt")
 }
 
 fn wrote_line(alloc: Global, name: &str, latency: u32) -> Result<String, AllocError>
     ensures { IfOk result (λ line. string_bytes line ≡ wrote_line name.now latency) }
 {
-    let mut line = format!(in alloc; "wrote {name}.vhd, latency ")?;
-    let number = format!(in alloc; "{latency}\n")?;
-    line.push_str(&number)?;
+    let mut line = String::new(alloc);
+    write!(line, "wrote {name}.vhd and ")?;
+    write!(line, "{name}.rpt, latency ")?;
+    writeln!(line, "{latency}")?;
     Ok(line)
 }
 
-fn refused_line(alloc: Global, fault: SpecFault) -> Result<String, AllocError>
-    ensures { IfOk result (λ line. string_bytes line ≡ refused_line fault) }
+/// The text of a circuit and the report on it, with the line that tells of them.
+fn written(alloc: Global, made: &Specified) -> Result<Answer, Memory>
+    requires { IsValidSpec made.now.spec }
+    ensures { IfOk result (λ a. answer_of a ≡ wrote made.now.spec.name made.now.circuit.planned.latency
+        (text_of made.now.circuit.planned.design) (report made.now.spec made.now.circuit.planned made.now.circuit.adders.items)) }
 {
-    format!(in alloc; "specification: {fault}\n")
-}
-
-/// The specification that the bytes give, where it has no fault and can be generated.
-pub(crate) fn judged(alloc: Global, bytes: &[u8]) -> Result<Spec, Refusal>
-    ensures reads { IfOk result (λ spec. read (tree bytes.now) ≡ Ok spec) }
-    ensures valid { IfOk result IsValidSpec }
-    ensures built { IfOk result (λ spec. IsTrue (is_built spec)) }
-    ensures refused { Refused result (λ a. OnSpec bytes.now a (λ spec b. ⊥)) }
-    ensures listed { Refused result IsListed }
-{
-    let spec = match read_spec(alloc, bytes) {
-        Ok(spec) => spec,
-        Err(SpecFault::Memory) => return Err(Refusal::Memory),
-        Err(fault) => {
-            return Err(Refusal::Line(Line::Refused(refused_line(alloc, fault)?)));
-        }
+    let name = made.spec.name.as_str();
+    let planned = &made.circuit.planned;
+    let vhdl = NewFile {
+        name: vhdl_name(alloc, name)?,
+        bytes: text(alloc, &planned.design)?,
     };
-    if built(&spec) {
-        Ok(spec)
-    } else {
-        Err(Refusal::Line(Line::Unsupported))
-    }
+    let report = NewFile {
+        name: report_name(alloc, name)?,
+        bytes: report_text(alloc, &made.spec, planned, &made.circuit.adders)?,
+    };
+    let line = wrote_line(alloc, name, planned.latency)?;
+    Ok(with_files(alloc, line, vhdl, report)?)
 }
 
 /// What `generate` answers to the bytes of a specification.
-pub(crate) fn generated(alloc: Global, bytes: &[u8]) -> Result<Answer, Refusal>
-    ensures answer { Answers result (λ a. OnSpec bytes.now a IsGenerated) }
+pub(crate) fn generated(
+    alloc: Global,
+    bytes: &[u8],
+    targets: Vec<Box<dyn Target>>,
+) -> Result<Answer, Refusal>
+    ensures answer { Answers result (IsAnswerToSpec bytes.now (devices_of target_name delays adjustable targets.items) IsGenerated) }
     ensures listed { Answers result IsListed }
 {
-    let spec = match judged(alloc, bytes) {
-        Ok(spec) => spec,
-        Err(refusal) => return Err(refusal),
-    };
-    let name = spec.name.as_str();
-    let made = circuit_of(alloc, &spec)?;
-    Ok(with_file(
-        alloc,
-        wrote_line(alloc, name, made.latency)?,
-        file_name(alloc, name)?,
-        text(alloc, &made.design)?,
-    )?)
+    match specified_by(alloc, bytes, targets) {
+        Ok(made) => Ok(written(alloc, &made)?),
+        Err(refusal) => Err(refusal),
+    }
 }

@@ -1,33 +1,53 @@
-ghost use Rattle.opgen_top.specs.Causes.{AnswersHaveCauses};
-ghost use Rattle.opgen_top.specs.Circuit.{CircuitsServe, HasOneCircuit};
+ghost use Rattle.opgen_top.specs.Causes.{AnswersHaveCauses, RefusalsAreDue};
+ghost use Rattle.opgen_top.specs.Circuit.{CircuitsAreSound, CircuitsServe, HasOneCircuit};
 ghost use Rattle.opgen_top.specs.Due.{HasOneAnswer};
 ghost use Rattle.opgen_top.specs.Kinds.{HasOneNet};
 ghost use Rattle.opgen_top.specs.Printed.{LinesAreFixed};
 
-/// The words and the files leave at most one answer: its status, its line and its stores.
+use opgen_pipe::run_follows_flow;
+
+/// The words, the targets and the files leave at most one answer: its status, its line and its stores.
 pub fn one_answer()
     ensures { HasOneAnswer }
-{}
+{
+    opgen_mult::one_net();
+}
 
-/// Each status of an answer that is due says what the words and the files are.
+/// Each status of an answer that is due says what the words, the targets and the files are.
 pub fn answers_have_causes()
     ensures { AnswersHaveCauses }
+{}
+
+/// Each cause for which a specification is refused makes that refusal the answer that is due.
+pub fn refusals_are_due()
+    ensures { RefusalsAreDue }
 {}
 
 /// A specification leaves at most one net.
 pub fn one_net()
     ensures { HasOneNet }
-{}
+{
+    opgen_mult::one_net();
+}
 
-/// A specification leaves at most one circuit: `generate` stores it, and `vectors` runs it.
+/// A specification leaves at most one circuit for a table of delays: `generate` stores it, and `vectors` runs it.
 pub fn one_circuit()
     ensures { HasOneCircuit }
+{
+    opgen_mult::one_net();
+}
+
+/// Each circuit is sound.
+pub fn circuits_are_sound()
+    ensures { CircuitsAreSound }
 {}
 
-/// Each circuit serves its specification.
+/// Each circuit serves its specification, at its latency.
 pub fn circuits_serve()
     ensures { CircuitsServe }
-{}
+{
+    run_follows_flow();
+}
 
 /// The statuses 2, 3 and 9 have one line each.
 pub fn lines_are_fixed()

@@ -9,19 +9,21 @@ mod kinds;
 mod laws;
 mod line;
 mod prepare;
-mod product;
 mod program;
 mod run_rows;
 mod simulate;
+mod specified;
 mod status;
 mod store_all;
+mod targets;
 mod vectors;
 
 pub use kinds::built;
 pub use laws::{
-    answers_have_causes, circuits_serve, lines_are_fixed, one_answer, one_circuit, one_net,
+    answers_have_causes, circuits_are_sound, circuits_serve, lines_are_fixed, one_answer,
+    one_circuit, one_net, refusals_are_due,
 };
-pub use opgen_flat::flat;
+pub use opgen_target::Target;
 pub use opgen_write::{VecSink, WriteFault, write_design};
 pub use program::run;
 pub use status::Status;

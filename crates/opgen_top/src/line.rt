@@ -8,13 +8,16 @@ pub enum Line {
     ReadFault,
     TooLong,
     Unsupported,
-    /// The whole line that names a fault of the specification.
+    UnknownTarget,
+    NotAdjustable,
+    TooLarge,
+    /// The whole line that names a fault of the specification, or the period that its net needs.
     Refused(String),
     /// The whole line that names a fault of the VHDL.
     VhdlRefused(String),
     /// The whole line that names a fault of the vectors.
     VectorsRefused(String),
-    /// The whole line that tells of a stored file.
+    /// The whole line that tells of the stored files.
     Wrote(String),
 }
 
@@ -29,7 +32,11 @@ impl Line {
     {
         match self {
             Line::Wrote(_) => 0,
-            Line::Unsupported | Line::Refused(_) => 1,
+            Line::Unsupported
+            | Line::UnknownTarget
+            | Line::NotAdjustable
+            | Line::TooLarge
+            | Line::Refused(_) => 1,
             Line::Usage => 2,
             Line::ReadFault => 3,
             Line::VhdlRefused(_) => 6,
@@ -47,6 +54,9 @@ impl Line {
             Line::ReadFault => "read fault\n",
             Line::TooLong => "too long\n",
             Line::Unsupported => "specification: Unsupported\n",
+            Line::UnknownTarget => "specification: UnknownTarget\n",
+            Line::NotAdjustable => "specification: NotAdjustable\n",
+            Line::TooLarge => "specification: TooLarge\n",
             Line::Refused(line)
             | Line::VhdlRefused(line)
             | Line::VectorsRefused(line)

@@ -1,7 +1,8 @@
 //! Commands before their stores.
-ghost use Rattle.std.specs.Prelude.{◌≡◌, Some};
+ghost use Rattle.std.specs.Prelude.{◌≡◌, List, Some};
 ghost use Rattle.opgen_top.specs.Command.{plain, Generate, Vectors, Simulate};
 ghost use Rattle.opgen_top.specs.Prepared.{Answers, Fetches, IsPrepared, Kept};
+ghost use Rattle.opgen_top.specs.Targets.{Device, devices_of};
 
 use crate::answer::{Answer, Refusal};
 use crate::command::Command;
@@ -10,6 +11,7 @@ use crate::line::Line;
 use crate::simulate::simulated;
 use crate::vectors::vectors_of;
 use opgen_io::{FetchFault, Folder};
+use opgen_target::Target;
 use std::alloc::Global;
 
 /// The most bytes that a specification has.
@@ -23,16 +25,18 @@ pub(crate) fn prepare<F: Folder>(
     alloc: Global,
     asked: Command<'_>,
     folder: &mut F,
+    targets: Vec<Box<dyn Target>>,
 ) -> Result<Answer, Refusal>
     ensures told_same { F.told folder.new ≡ F.told folder.old }
     ensures write_faults_same { F.write_faults folder.new ≡ F.write_faults folder.old }
-    ensures prepared { Answers result (IsPrepared (Some (plain asked.entry)) (F.told folder.old)
+    ensures prepared { Answers result (IsPrepared (Some (plain asked.entry))
+        (devices_of target_name delays adjustable targets.items) (F.told folder.old)
         (record { faults = F.read_faults folder.old; lacks = F.lacks folder.old; longs = F.longs folder.old })
         (record { faults = F.read_faults folder.new; lacks = F.lacks folder.new; longs = F.longs folder.new })) }
 {
     match asked {
-        Command::Generate { spec } => generate(alloc, spec, folder),
-        Command::Vectors { spec } => vectors(alloc, spec, folder),
+        Command::Generate { spec } => generate(alloc, spec, folder, targets),
+        Command::Vectors { spec } => vectors(alloc, spec, folder, targets),
         Command::Simulate { vhdl, vectors, out } => simulate(alloc, vhdl, vectors, out, folder),
     }
 }
@@ -61,10 +65,16 @@ fn fetch<F: Folder>(
     }
 }
 
-fn generate<F: Folder>(alloc: Global, spec: &str, folder: &mut F) -> Result<Answer, Refusal>
+fn generate<F: Folder>(
+    alloc: Global,
+    spec: &str,
+    folder: &mut F,
+    targets: Vec<Box<dyn Target>>,
+) -> Result<Answer, Refusal>
     ensures told_same { F.told folder.new ≡ F.told folder.old }
     ensures write_faults_same { F.write_faults folder.new ≡ F.write_faults folder.old }
-    ensures prepared { Answers result (IsPrepared (Some (Generate spec.now)) (F.told folder.old)
+    ensures prepared { Answers result (IsPrepared (Some (Generate spec.now))
+        (devices_of target_name delays adjustable targets.items) (F.told folder.old)
         (record { faults = F.read_faults folder.old; lacks = F.lacks folder.old; longs = F.longs folder.old })
         (record { faults = F.read_faults folder.new; lacks = F.lacks folder.new; longs = F.longs folder.new })) }
 {
@@ -72,13 +82,19 @@ fn generate<F: Folder>(alloc: Global, spec: &str, folder: &mut F) -> Result<Answ
         Ok(bytes) => bytes,
         Err(refusal) => return Err(refusal),
     };
-    generated(alloc, &bytes)
+    generated(alloc, &bytes, targets)
 }
 
-fn vectors<F: Folder>(alloc: Global, spec: &str, folder: &mut F) -> Result<Answer, Refusal>
+fn vectors<F: Folder>(
+    alloc: Global,
+    spec: &str,
+    folder: &mut F,
+    targets: Vec<Box<dyn Target>>,
+) -> Result<Answer, Refusal>
     ensures told_same { F.told folder.new ≡ F.told folder.old }
     ensures write_faults_same { F.write_faults folder.new ≡ F.write_faults folder.old }
-    ensures prepared { Answers result (IsPrepared (Some (Vectors spec.now)) (F.told folder.old)
+    ensures prepared { Answers result (IsPrepared (Some (Vectors spec.now))
+        (devices_of target_name delays adjustable targets.items) (F.told folder.old)
         (record { faults = F.read_faults folder.old; lacks = F.lacks folder.old; longs = F.longs folder.old })
         (record { faults = F.read_faults folder.new; lacks = F.lacks folder.new; longs = F.longs folder.new })) }
 {
@@ -86,7 +102,7 @@ fn vectors<F: Folder>(alloc: Global, spec: &str, folder: &mut F) -> Result<Answe
         Ok(bytes) => bytes,
         Err(refusal) => return Err(refusal),
     };
-    vectors_of(alloc, &document)
+    vectors_of(alloc, &document, targets)
 }
 
 fn simulate<F: Folder>(
@@ -98,7 +114,8 @@ fn simulate<F: Folder>(
 ) -> Result<Answer, Refusal>
     ensures told_same { F.told folder.new ≡ F.told folder.old }
     ensures write_faults_same { F.write_faults folder.new ≡ F.write_faults folder.old }
-    ensures prepared { Answers result (IsPrepared (Some (Simulate vhdl.now vectors.now out.now)) (F.told folder.old)
+    ensures prepared { (devices : List Device) → Answers result (IsPrepared (Some (Simulate vhdl.now vectors.now out.now))
+        devices (F.told folder.old)
         (record { faults = F.read_faults folder.old; lacks = F.lacks folder.old; longs = F.longs folder.old })
         (record { faults = F.read_faults folder.new; lacks = F.lacks folder.new; longs = F.longs folder.new })) }
 {

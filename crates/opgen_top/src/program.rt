@@ -10,6 +10,7 @@ ghost use Rattle.opgen_top.specs.Left.{LeftByFault, LeftByMemory};
 ghost use Rattle.opgen_top.specs.Prepared.{answer_of, line_status, line_text, refusal_of, IsPrepared};
 ghost use Rattle.opgen_top.specs.Printed.{IsPrinted};
 ghost use Rattle.opgen_top.specs.Statuses.{IsDueStatus, IsSilent, IsStatus, Refuses, TellsOr};
+ghost use Rattle.opgen_top.specs.Targets.{devices_of};
 
 use crate::answer::{Answer, Refusal, without_file};
 use crate::command::command_of;
@@ -19,15 +20,22 @@ use crate::status::Status;
 use crate::store_all::store_all;
 use opgen_io::{Folder, PutFault, Sink, StoreFault};
 use opgen_num::Memory;
+use opgen_target::Target;
 use std::alloc::Global;
 
 /// What is answered to the words. The folder's files stay as they are.
-fn answer<F: Folder>(alloc: Global, words: &[String], folder: &mut F) -> Result<Answer, Memory>
+fn answer<F: Folder>(
+    alloc: Global,
+    words: &[String],
+    folder: &mut F,
+    targets: Vec<Box<dyn Target>>,
+) -> Result<Answer, Memory>
     ensures told_same { F.told folder.new ≡ F.told folder.old }
     ensures write_faults_same { F.write_faults folder.new ≡ F.write_faults folder.old }
     ensures usage_due { command_of (map string_bytes words.now) ≡ None →
         IfOk result (λ a. answer_of a ≡ refusal_of Line.Usage) }
-    ensures prepared { IfOk result (λ a. IsPrepared (command_of (map string_bytes words.now)) (F.told folder.old)
+    ensures prepared { IfOk result (λ a. IsPrepared (command_of (map string_bytes words.now))
+        (devices_of target_name delays adjustable targets.items) (F.told folder.old)
         (record { faults = F.read_faults folder.old; lacks = F.lacks folder.old; longs = F.longs folder.old })
         (record { faults = F.read_faults folder.new; lacks = F.lacks folder.new; longs = F.longs folder.new })
         (answer_of a)) }
@@ -35,7 +43,7 @@ fn answer<F: Folder>(alloc: Global, words: &[String], folder: &mut F) -> Result<
     let Some(asked) = command_of(words) else {
         return Ok(without_file(alloc, Line::Usage));
     };
-    match prepare(alloc, asked, folder) {
+    match prepare(alloc, asked, folder, targets) {
         Ok(answer) => Ok(answer),
         Err(Refusal::Line(line)) => Ok(without_file(alloc, line)),
         Err(Refusal::Memory) => Err(Memory),
@@ -63,15 +71,19 @@ fn printed<K: Sink>(line: &Line, out: &mut K) -> Status
 /// Runs the program: `words` are the words after its name.
 ///
 /// - `generate SPEC` reads the specification SPEC from the folder, stores the VHDL of its circuit
-///   under `<name>.vhd` and prints a line.
+///   under `<name>.vhd` and the report on it under `<name>.rpt`, and prints a line with its latency.
 /// - `vectors SPEC` stores the rows of that circuit over its stimulus under `<name>.vec`.
 /// - `simulate VHDL VECTORS OUT` runs the design of VHDL over the rows of VECTORS and stores the rows
 ///   of its inputs and outputs under OUT.
+///
+/// A circuit is planned for the first of `targets` that has the name in its specification, whose
+/// table of delays is changed by the delay lines there, in order. All targets are dropped.
 pub fn run<F: Folder, K: Sink>(
     alloc: Global,
     words: &[String],
     folder: &mut F,
     out: &mut K,
+    targets: Vec<Box<dyn Target>>,
 ) -> Status
     ensures statuses { IsStatus result.0 }
 
@@ -88,29 +100,30 @@ pub fn run<F: Folder, K: Sink>(
     // Where the folder tells its files, the answer that is due was given, but for the statuses 4 and 5, and for 3 after a
     // fault of reading.
     ensures answered { (files : Files) → F.told folder.old ≡ Some files → IsDueStatus result.0 →
-        IsAnswered (command_of (map string_bytes words.now)) files result.0 (F.told folder.new)
-        (K.taken out.old) (K.taken out.new) }
+        IsAnswered (command_of (map string_bytes words.now)) (devices_of target_name delays adjustable targets.items) files
+        result.0 (F.told folder.new) (K.taken out.old) (K.taken out.new) }
     ensures missing { (files : Files) → F.told folder.old ≡ Some files →
         Stood (F.read_faults folder.old) (F.read_faults folder.new) → result.0 ≡ 3 →
-        IsAnswered (command_of (map string_bytes words.now)) files result.0 (F.told folder.new)
-        (K.taken out.old) (K.taken out.new) }
+        IsAnswered (command_of (map string_bytes words.now)) (devices_of target_name delays adjustable targets.items) files
+        result.0 (F.told folder.new) (K.taken out.old) (K.taken out.new) }
     ensures complete { (files : Files) → F.told folder.old ≡ Some files →
         Stood (F.read_faults folder.old) (F.read_faults folder.new) →
         Stood (F.write_faults folder.old) (F.write_faults folder.new) →
         Stood (K.faults out.old) (K.faults out.new) →
-        (result.0 ≡ 5) ⊎ IsAnswered (command_of (map string_bytes words.now)) files result.0 (F.told folder.new)
-        (K.taken out.old) (K.taken out.new) }
+        (result.0 ≡ 5) ⊎ IsAnswered (command_of (map string_bytes words.now)) (devices_of target_name delays adjustable targets.items) files
+        result.0 (F.told folder.new) (K.taken out.old) (K.taken out.new) }
 
     // What is left in the folder.
     ensures unchanged { Refuses result.0 → F.told folder.new ≡ F.told folder.old }
     ensures left_by_fault { (files : Files) → F.told folder.old ≡ Some files → result.0 ≡ 4 →
-        LeftByFault (command_of (map string_bytes words.now)) files
+        LeftByFault (command_of (map string_bytes words.now)) (devices_of target_name delays adjustable targets.items) files
         (Rose (F.read_faults folder.old) (F.read_faults folder.new))
         (Rose (F.write_faults folder.old) (F.write_faults folder.new))
         (Rose (K.faults out.old) (K.faults out.new))
         (F.told folder.new) (K.taken out.old) (K.taken out.new) }
     ensures left_by_memory { (files : Files) → F.told folder.old ≡ Some files → result.0 ≡ 5 →
-        LeftByMemory (command_of (map string_bytes words.now)) files (F.told folder.new) }
+        LeftByMemory (command_of (map string_bytes words.now)) (devices_of target_name delays adjustable targets.items) files
+        (F.told folder.new) }
 
     // What is printed, whether or not the folder tells its files.
     ensures printed { (held : List ℕ) → K.taken out.old ≡ Some held →
@@ -119,9 +132,10 @@ pub fn run<F: Folder, K: Sink>(
 
     ensures headline { (file : List ℕ) → command_of (map string_bytes words.now) ≡ Some (Generate file) →
         (files : Files) → F.told folder.old ≡ Some files → result.0 ≡ 0 →
-        Headline file files (F.told folder.new) (K.taken out.old) (K.taken out.new) }
+        Headline file (devices_of target_name delays adjustable targets.items) files
+        (F.told folder.new) (K.taken out.old) (K.taken out.new) }
 {
-    let answer = match answer(alloc, words, folder) {
+    let answer = match answer(alloc, words, folder, targets) {
         Ok(answer) => answer,
         Err(_) => return Status(5),
     };

@@ -1,14 +1,19 @@
 //! From the bytes of a specification to what `vectors` answers.
-ghost use Rattle.std.specs.Prelude.{◌≡◌, IfOk, string_bytes};
+ghost use Rattle.std.specs.Prelude.{◌≡◌, false, IfOk, string_bytes};
+ghost use Rattle.opgen_design.specs.Sound.{HasNumbers, IsSound};
+ghost use Rattle.opgen_operator.specs.Valid.{IsValidSpec};
 ghost use Rattle.opgen_top.specs.Answer.{vectors_name};
+ghost use Rattle.opgen_top.specs.Circuit.{ports_for};
 ghost use Rattle.opgen_top.specs.Lines.{wrote_vectors_line};
-ghost use Rattle.opgen_top.specs.Prepared.{Answers, IsListed};
-ghost use Rattle.opgen_top.specs.Specified.{IsVectors, OnSpec};
+ghost use Rattle.opgen_top.specs.Prepared.{answer_of, Answers, HasRows, IsListed};
+ghost use Rattle.opgen_top.specs.Specified.{IsAnswerToSpec, IsVectors};
+ghost use Rattle.opgen_top.specs.Targets.{devices_of};
 
 use crate::answer::{Answer, Refusal, with_file};
-use crate::circuit::circuit_of;
-use crate::generate::judged;
 use crate::run_rows::{Rows, run_text};
+use crate::specified::{Specified, specified_by};
+use opgen_num::Memory;
+use opgen_target::Target;
 use opgen_vec::stimulus;
 use std::alloc::{AllocError, Global};
 
@@ -28,25 +33,38 @@ fn wrote_vectors_line(alloc: Global, name: &str) -> Result<String, AllocError>
     format!(in alloc; "wrote {name}.vec, 16 cycles\n")
 }
 
-/// What `vectors` answers to the bytes of a specification.
-pub(crate) fn vectors_of(alloc: Global, bytes: &[u8]) -> Result<Answer, Refusal>
-    ensures answer { Answers result (λ a. OnSpec bytes.now a IsVectors) }
-    ensures listed { Answers result IsListed }
+/// The rows of a circuit over its stimulus, with the line that tells of them.
+fn ran(alloc: Global, made: &Specified) -> Result<Answer, Memory>
+    requires valid { IsValidSpec made.now.spec }
+    requires sound { IsSound made.now.circuit.planned.design }
+    requires numbers { HasNumbers made.now.circuit.planned.design }
+    requires ports { made.now.circuit.planned.design.ports ≡ ports_for made.now.spec false }
+    ensures { IfOk result (λ a. HasRows made.now.spec made.now.circuit.planned.design (answer_of a)) }
 {
-    let spec = match judged(alloc, bytes) {
-        Ok(spec) => spec,
-        Err(refusal) => return Err(refusal),
-    };
-    let made = circuit_of(alloc, &spec)?;
     let rows = Rows {
         count: CYCLES,
-        inputs: stimulus(alloc, &spec, SEED, CYCLES)?,
+        inputs: stimulus(alloc, &made.spec, SEED, CYCLES)?,
     };
-    let name = spec.name.as_str();
+    let name = made.spec.name.as_str();
     Ok(with_file(
         alloc,
         wrote_vectors_line(alloc, name)?,
         vectors_name(alloc, name)?,
-        run_text(alloc, &made.design, &rows)?,
+        run_text(alloc, &made.circuit.planned.design, &rows)?,
     )?)
+}
+
+/// What `vectors` answers to the bytes of a specification.
+pub(crate) fn vectors_of(
+    alloc: Global,
+    bytes: &[u8],
+    targets: Vec<Box<dyn Target>>,
+) -> Result<Answer, Refusal>
+    ensures answer { Answers result (IsAnswerToSpec bytes.now (devices_of target_name delays adjustable targets.items) IsVectors) }
+    ensures listed { Answers result IsListed }
+{
+    match specified_by(alloc, bytes, targets) {
+        Ok(made) => Ok(ran(alloc, &made)?),
+        Err(refusal) => Err(refusal),
+    }
 }

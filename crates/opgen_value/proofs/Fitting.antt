@@ -8,6 +8,7 @@ use Rattle.opgen_design.specs.Tree.{Tree, Trees, name, part, port, bits, chain, 
 use Rattle.opgen_design.specs.Value.{value, word_at, combined}
 use Rattle.opgen_design.specs.Width.{IsWidth, as_width, width, width_on, chain_width, joined}
 use Rattle.opgen_design.proofs.WidthLaws.{PartFits, part_fits, some_before, as_width-of, width-reads, width-is_width, value-width}
+use Rattle.opgen_num.specs.declared.TheConstants.{MAX_WIDTH}
 use Rattle.opgen_value.specs.Fitting.{AreNarrow, Fits, scope_of, widths_of}
 
 pub some-of : (o : Option ℕ) → IsSome o → (w : ℕ) × (o ≡ Some w)
@@ -17,7 +18,7 @@ some-of (Some w) h = (w, refl)
 is_some : (o : Option ℕ) (w : ℕ) → o ≡ Some w → IsSome o
 is_some o w h = subst IsSome (sym h) refl
 
-pub narrow-at : (ws : List (List Bool)) (n : ℕ) → AreNarrow ws → n < length ws → length (word_at ws n) ≤ 96
+pub narrow-at : (ws : List (List Bool)) (n : ℕ) → AreNarrow ws → n < length ws → length (word_at ws n) ≤ MAX_WIDTH
 narrow-at ws n h l = h n [] l
 
 module _ (names ports : List (List Bool)) where

@@ -119,11 +119,3 @@ pub word-take : (k : ℕ) (v : List Bool) → k ≤ length v → word k (nat v) 
 word-take zero v h = refl
 word-take (suc k) [] h = absurd (omega (arith, h))
 word-take (suc k) (x ∷ v) h = word-suc k (digit x + 2 * nat v) (digit x) (nat v) x refl refl ∙ ap (λ u. x ∷ u) (word-take k v (omega (arith, h)))
-
-pub nat-drop : (k : ℕ) (v : List Bool) → nat v / 2 ^ k ≡ nat (drop k v)
-nat-drop zero v = omega arith
-nat-drop (suc k) [] = zero-div (2 ^ suc k)
-nat-drop (suc k) (x ∷ v) =
-    let half : (digit x + 2 * nat v) / 2 ≡ nat v = omega (arith, digit-below x) in
-    let p : 2 ^ suc k ≡ 2 * 2 ^ k = omega (arith, two-pow-succ k) in
-    ap (λ m. (digit x + 2 * nat v) / m) p ∙ sym (div-div-eq-div-mul (digit x + 2 * nat v) 2 (2 ^ k)) ∙ ap (λ n. n / 2 ^ k) half ∙ nat-drop k v

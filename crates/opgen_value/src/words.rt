@@ -1,4 +1,5 @@
 ghost use Rattle.std.specs.Prelude.{ℕ, ◌≡◌, ◌^◌, ◌+◌, ◌-◌, ◌<◌, ◌≤◌, ◌++◌, ◌&&◌, ◌||◌, Some, false, true, length, map, not};
+ghost use Rattle.opgen_num.specs.declared.TheConstants.{MAX_WIDTH};
 ghost use Rattle.opgen_num.specs.Sums.{pairwise, sum_with, xor};
 ghost use Rattle.opgen_num.specs.Words.{digit};
 ghost use Rattle.opgen_design.specs.Value.{combined, cut};
@@ -73,7 +74,7 @@ fn sum(first: Word, second: Word, carry: bool) -> Word
 /// Two operands together.
 pub fn combined(op: Op, first: Word, second: Word) -> Word
     requires same { (w : ℕ) × (joined op (length first) (length second) ≡ Some w) }
-    requires first { length first ≤ 96 }
+    requires first { length first ≤ MAX_WIDTH }
     ensures { result ≡ combined op first second }
 {
     match op {

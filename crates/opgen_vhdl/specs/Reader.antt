@@ -15,6 +15,7 @@ use Rattle.opgen_design.specs.declared.design.Driver.{Driver}
 use Rattle.opgen_design.specs.declared.design.Driver.TheVariants.{Assign, Choice, Table, Register, Output}
 use Rattle.opgen_design.specs.declared.expr.Op.{Op}
 use Rattle.opgen_design.specs.declared.expr.Op.TheVariants as op
+use Rattle.opgen_design.specs.Enabled.{is_one}
 use Rattle.opgen_design.specs.Names.{is_allowed_name}
 use Rattle.opgen_design.specs.Tree.{Tree, Trees, name, part, bits, port, inverse, chain, none, more}
 use Rattle.opgen_vhdl.specs.Symbols.{Symbol, word, number, string, mark}
@@ -285,10 +286,6 @@ table_at names ss = do
   b ← eat (mark LessEqual) n.1
   rows ← rows_at (length b) b
   Some (Table (place_of names.signals n.0) on.0 rows.0 rows.1)
-
-abbrev pub is_one : List Bool → Bool
-is_one (true ∷ []) = true
-is_one _ = false
 
 -- a comparison with "1" up to a word behind it
 unfoldable pub high_at : List ℕ → List Symbol → Option (List Symbol)

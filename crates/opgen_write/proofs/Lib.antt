@@ -10,6 +10,4 @@ mod Declarations
 mod Bodies
 mod Writable
 pub mod Designs
-pub mod MadeDesigns
-pub mod MadeNames
 pub mod Lengths

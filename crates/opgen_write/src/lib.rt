@@ -11,6 +11,6 @@ mod statement;
 mod tests;
 mod write;
 
-pub use law::{made_designs, text_lengths, text_spells};
+pub use law::{text_lengths, text_spells};
 pub use sink::VecSink;
 pub use write::{WriteFault, text, write_design};

@@ -1,7 +1,7 @@
 use Rattle.std.proofs.Common.{length, sym, ap, ◌∙◌, subst, arith}
 use Rattle.std.specs.Prelude.{All}
 use Rattle.opgen_schedule.specs.Stage.{slot_at}
-use Rattle.opgen_target.specs.Delays.{IsWidth}
+use Rattle.opgen_target.specs.Delays.{IsTableWidth}
 use Rattle.opgen_pipe.proofs.CellLaws.{cells-wide, ledger-whole, ledger-list}
 use Rattle.opgen_pipe.proofs.Fitting.{outputs-within, slots-early, latency-few}
 use Rattle.opgen_pipe.proofs.planning.plan_at.Goals as goal
@@ -15,7 +15,7 @@ latency-last-requires-clause-there g c =
 
 pub charge_all-requires : goal.charge_all-requires
 charge_all-requires g c =
-    subst (All (λ c. IsWidth c.width)) (sym (c.deref-2.ensures.value ∙ c.in_ok-cells.ensures)) (cells-wide c.args.net.now c.requires.valid (slot_at c.args.slots.now))
+    subst (All (λ c. IsTableWidth c.width)) (sym (c.deref-2.ensures.value ∙ c.in_ok-cells.ensures)) (cells-wide c.args.net.now c.requires.valid (slot_at c.args.slots.now))
 
 pub overflow_cast-result : goal.overflow_cast-result
 overflow_cast-result g c =

@@ -1,17 +1,38 @@
-use Rattle.opgen_top.proofs.Scales.{has_kind, scale_parts, scale_fits, scale_named, no_other_kind}
+use Rattle.std.proofs.Common.{sym, subst}
+use Rattle.opgen_operator.specs.declared.spec.Operator.TheVariants.{Scale, Fir, Multiply, Divide, Root}
+use Rattle.opgen_top.specs.Kinds.{IsFittingNet}
+use Rattle.opgen_top.proofs.Building.{accepted_scale, kind_fitting}
 use Rattle.opgen_top.proofs.circuit.net_of.Goals as goal
 
-pub scale_net-requires-clause-whole : goal.scale_net-requires-clause-whole
-scale_net-requires-clause-whole c = (scale_parts c.args.spec.now c.in-Scale.sum c.in-Scale.is c.requires.built).0
+pub build-requires : goal.build-requires
+build-requires c = record { sum = accepted_scale c.args.spec.now c.requires.valid c.in-Scale.sum c.in-Scale.is }
 
-pub scale_net-requires-clause-factor : goal.scale_net-requires-clause-factor
-scale_net-requires-clause-factor c = (scale_parts c.args.spec.now c.in-Scale.sum c.in-Scale.is c.requires.built).1
+pub returns-in_ok-build-in-Scale-clause-net : goal.returns-in_ok-build-in-Scale-clause-net
+returns-in_ok-build-in-Scale-clause-net c =
+    let made = c.in_ok-build-in-Scale in
+    subst (IsFittingNet c.args.spec.now) (sym c.alone.ensures.net)
+    (kind_fitting c.args.spec.now c.requires.valid (Scale c.in-Scale.sum) made.field-0 c.in-Scale.is made.ensures.net made.ensures.fits.0)
 
-pub unreachable-requires : goal.unreachable-requires
-unreachable-requires c = no_other_kind c.args.spec.now.op c.in_default.not-Scale (has_kind c.args.spec.now c.requires.built)
+pub returns-in_ok-build-in-Fir-clause-net : goal.returns-in_ok-build-in-Fir-clause-net
+returns-in_ok-build-in-Fir-clause-net c =
+    let made = c.in_ok-build-in-Fir in
+    subst (IsFittingNet c.args.spec.now) (sym c.alone-in-Fir.ensures.net)
+    (kind_fitting c.args.spec.now c.requires.valid (Fir c.in-Fir.sum) made.field-0 c.in-Fir.is made.ensures.net made.ensures.fits.1)
 
-pub returns-clause-fits : goal.returns-clause-fits
-returns-clause-fits c = scale_fits c.args.spec.now c.in-Scale.sum c.in-Scale.is c.requires.built c.in_ok-net-in-Scale.net c.in_ok-net-in-Scale.ensures.product
+pub returns-in_ok-build-in-Multiply-clause-net : goal.returns-in_ok-build-in-Multiply-clause-net
+returns-in_ok-build-in-Multiply-clause-net c =
+    let made = c.in_ok-build-in-Multiply in
+    subst (IsFittingNet c.args.spec.now) (sym c.alone-in-Multiply.ensures.net)
+    (kind_fitting c.args.spec.now c.requires.valid (Multiply c.in-Multiply.product) made.field-0 c.in-Multiply.is made.ensures.net made.ensures.fits)
 
-pub returns-clause-named : goal.returns-clause-named
-returns-clause-named c = scale_named c.args.spec.now c.in-Scale.sum c.in-Scale.is c.requires.built c.in_ok-net-in-Scale.net c.in_ok-net-in-Scale.ensures.product c.requires.valid
+pub returns-in_ok-build-in-Divide-clause-net : goal.returns-in_ok-build-in-Divide-clause-net
+returns-in_ok-build-in-Divide-clause-net c =
+    let made = c.in_ok-build-in-Divide in
+    subst (IsFittingNet c.args.spec.now) (sym c.alone-in-Divide.ensures.net)
+    (kind_fitting c.args.spec.now c.requires.valid (Divide c.in-Divide.pair) made.field-0 c.in-Divide.is made.ensures.net made.ensures.fits)
+
+pub returns-in_ok-build-in-Root-clause-net : goal.returns-in_ok-build-in-Root-clause-net
+returns-in_ok-build-in-Root-clause-net c =
+    let made = c.in_ok-build-in-Root in
+    subst (IsFittingNet c.args.spec.now) (sym c.alone-in-Root.ensures.net)
+    (kind_fitting c.args.spec.now c.requires.valid (Root c.in-Root.single) made.field-0 c.in-Root.is made.ensures.net made.ensures.fits)

@@ -1,7 +1,8 @@
 use Rattle.std.proofs.Common.{◌≡◌, ◌+◌, ◌-◌, ◌/◌, ◌%◌, ◌^◌, ◌≤◌, length, drop, ap, ◌∙◌, arith}
 use Rattle.std.proofs.lemmas.List.{length-drop}
 use Rattle.opgen_num.specs.Words.{nat, word}
-use Rattle.opgen_value.proofs.WordOps.{word-take, word-mod, nat-drop}
+use Rattle.opgen_num.proofs.Cuts.{nat-drop}
+use Rattle.opgen_value.proofs.WordOps.{word-take, word-mod}
 use Rattle.opgen_value.proofs.words.cut.Goals as goal
 
 pub returns : goal.returns

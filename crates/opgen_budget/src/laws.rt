@@ -1,0 +1,6 @@
+ghost use Rattle.opgen_budget.specs.Columns.{HasColumns};
+
+/// How many bits each column of a product has.
+pub fn columns_have_bits()
+    ensures { HasColumns }
+{}

@@ -1,0 +1,7 @@
+//! Circuits of each kind over inputs: tests alone.
+#![tactic(auto)]
+
+#[cfg(test)]
+mod rows;
+#[cfg(test)]
+mod running;

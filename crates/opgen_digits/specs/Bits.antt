@@ -1,0 +1,38 @@
+-- Numbers whose bits are bits of a net's nodes, given from the highest down.
+use Rattle.std.specs.Prelude.{ℕ, zero, suc, ◌-◌, ℤ, List, [], ◌∷◌, ◌++◌, length}
+use Rattle.opgen_num.specs.Words.{nat}
+use Rattle.opgen_design.specs.declared.expr.Slice.{Slice}
+use Rattle.opgen_net.specs.declared.net.Net.{Net}
+use Rattle.opgen_net.specs.declared.node.Node.{Node}
+use Rattle.opgen_net.specs.declared.word_bits.WordBit.{WordBit}
+use Rattle.opgen_net.specs.declared.word_bits.WordBit.TheVariants.{Of}
+use Rattle.opgen_net.specs.Flow.{Inputs}
+use Rattle.opgen_net.specs.WordRule.{word_flow, with_word}
+
+-- the lowest bits of a node, so many of them
+abbrev pub node_bits : (node count : ℕ) → List WordBit
+node_bits node zero = []
+node_bits node (suc k) = Of node k ∷ node_bits node k
+
+-- the number that bits stand for at a time
+abbrev pub number_at : List Node → Inputs → ℤ → List WordBit → ℕ
+number_at nodes inputs t given = nat (word_flow nodes inputs given t)
+
+-- a net, and the number of a node in it
+pub record Placed : Type 0 where
+  pub net : Net
+  pub place : ℕ
+
+-- a net with a node of these bits
+abbrev pub with_bits : Net → List WordBit → Placed
+with_bits net given = let w = with_word net.nodes given in record { net = record net { nodes = w.nodes }; place = w.place }
+
+-- all bits of a node
+abbrev pub whole : (width node : ℕ) → Slice
+whole width node = record { node = node; high = width - 1; low = 0 }
+
+-- a net with an output more, of these bits
+abbrev pub with_output : (name : List ℕ) → Net → List WordBit → Net
+with_output name net given =
+    let w = with_bits net given in
+    record w.net { outputs = w.net.outputs ++ record { name = name; from = whole (length given) w.place } ∷ [] }

@@ -1,0 +1,156 @@
+//! Digits of quotients and roots, one at a time from the highest: what the digit 1 takes off is
+//! tried, and the number is restored where that was too much (de Dinechin and Kumm,
+//! Application-Specific Arithmetic).
+#![tactic(auto)]
+
+ghost use Rattle.std.specs.Prelude.{◌≡◌, ◌+◌, ◌≤◌, ℤ, [], ◌∷◌, ◌++◌, All, IfOk, OnOk, length, replicate, slice_index};
+ghost use Rattle.opgen_num.specs.declared.TheConstants.{MAX_WIDTH};
+ghost use Rattle.opgen_design.specs.Plain.{plain};
+ghost use Rattle.opgen_net.specs.declared.word_bits.WordBit.TheVariants.{Zero, Of};
+ghost use Rattle.opgen_net.specs.Valid.{IsValid, widths};
+ghost use Rattle.opgen_net.specs.WordRule.{IsThere};
+ghost use Rattle.opgen_digits.specs.Bits.{node_bits as node_bits_of, with_output};
+ghost use Rattle.opgen_design.specs.Width.{IsWidth};
+ghost use Rattle.opgen_digits.specs.Results.{AreResults, with_results};
+ghost use Rattle.opgen_digits.specs.Digit.{AreOperands, difference_of, is_not_negative, lowest as lowest_of, tried};
+
+mod laws;
+
+pub use laws::digits_are_right;
+use opgen_list::Items;
+use opgen_net::{Class, Expr, Net, Op, Slice, WordBit};
+use opgen_num::Memory;
+use std::alloc::{AllocError, Global};
+
+/// Digits that are known, and the bits of what is left, each from the highest.
+#[derive(Drop)]
+pub struct Digits {
+    pub known: Items<WordBit>,
+    pub rest: Items<WordBit>,
+}
+
+/// Appends the lowest bits of a node, so many of them, from the highest down.
+pub fn push_bits(bits: &mut Items<WordBit>, node: usize, count: u32) -> Result<(), AllocError>
+    ensures { OnOk result (bits.new ≡ bits.old ++ node_bits_of node count) }
+{
+    let mut left = count;
+    'bits: while left > 0 {
+        left -= 1;
+        bits.push(WordBit::Of { node, index: left })?;
+    }
+    Ok(())
+}
+
+/// Appends so many zeros.
+pub fn push_zeros(bits: &mut Items<WordBit>, count: u32) -> Result<(), AllocError>
+    ensures { OnOk result (bits.new ≡ bits.old ++ replicate count Zero) }
+{
+    'zeros: for k in 0..count {
+        bits.push(WordBit::Zero)?;
+    }
+    Ok(())
+}
+
+/// Appends further bits.
+pub fn push_all(bits: &mut Items<WordBit>, more: &[WordBit]) -> Result<(), AllocError>
+    ensures { OnOk result (bits.new ≡ bits.old ++ more.now) }
+{
+    'more: for bit in more {
+        bits.push(*bit)?;
+    }
+    Ok(())
+}
+
+// The difference of two nodes.
+fn difference(alloc: Global, a: usize, b: usize) -> Result<Expr, AllocError>
+    ensures { IfOk result (λ e. plain e ≡ difference_of a b) }
+{
+    let mut operands = Vec::new(alloc);
+    operands.push(Expr::Name(a))?;
+    operands.push(Expr::Name(b))?;
+    Ok(Expr::Chain(Op::Minus, operands))
+}
+
+// Whether a difference is not negative: its highest bit turned.
+fn not_negative(alloc: Global, difference: usize, rest: u32) -> Result<Expr, AllocError>
+    requires { rest ≤ MAX_WIDTH }
+    ensures { IfOk result (λ e. plain e ≡ is_not_negative rest difference) }
+{
+    let top = Slice {
+        node: difference,
+        high: rest + 1,
+        low: rest + 1,
+    };
+    Ok(Expr::Not(Box::new(alloc, Expr::Part(top))?))
+}
+
+fn lowest(node: usize, rest: u32) -> Slice
+    requires { 1 ≤ rest }
+    ensures { result ≡ lowest_of rest node }
+{
+    Slice {
+        node,
+        high: rest - 1,
+        low: 0,
+    }
+}
+
+/// Tries to take node `b` off node `a`, and so makes the next digit: 1 where that leaves no less
+/// than 0. What is left is kept only where it is asked for, in so many bits.
+///
+/// Both nodes have two bits more than the rest, and are meant to have a highest bit of 0. After
+/// want of memory the net is valid, and has some of the nodes.
+pub fn try_digit(
+    alloc: Global,
+    net: &mut Net,
+    digits: &mut Digits,
+    rest: u32,
+    a: usize,
+    b: usize,
+    keep: bool,
+) -> Result<(), Memory>
+    requires net { IsValid net.old }
+    requires operands { AreOperands rest net.old a b }
+    ensures ok { OnOk result (tried keep rest net.old a b digits.old.known ≡ record { net = net.new; digits = digits.new.known; rest = digits.new.rest }) }
+    ensures valid { IsValid net.new }
+{
+    let difference = net.cells(Class::Add, rest + 2, difference(alloc, a, b)?)?;
+    let digit = net.cells(Class::Logic, 1, not_negative(alloc, difference, rest)?)?;
+    digits.known.push(WordBit::Of {
+        node: digit,
+        index: 0,
+    })?;
+    digits.rest = Items::new(alloc);
+    if keep {
+        let left = net.choice(digit, lowest(difference, rest), lowest(a, rest))?;
+        push_bits(&mut digits.rest, left, rest)?;
+    }
+    Ok(())
+}
+
+// Appends an output that has these bits, from the highest down.
+fn output_bits(net: &mut Net, name: &str, bits: &[WordBit]) -> Result<(), Memory>
+    requires net { IsValid net.old }
+    requires width { IsWidth (length bits.now) }
+    requires there { All (IsThere (widths net.old.nodes)) bits.now }
+    ensures ok { OnOk result (net.new ≡ with_output name.now net.old bits.now) }
+    ensures valid { IsValid net.new }
+{
+    let node = net.word(bits)?;
+    let high = bits.len() as u32 - 1;
+    net.output(name, Slice { node, high, low: 0 })
+}
+
+/// Appends the digits as an output, and where they are exact what is left as an output `r`.
+pub fn output_results(net: &mut Net, name: &str, digits: &Digits, exact: bool) -> Result<(), Memory>
+    requires net { IsValid net.old }
+    requires results { AreResults exact (record { net = net.old; digits = digits.now.known; rest = digits.now.rest }) }
+    ensures ok { OnOk result (net.new ≡ with_results exact name.now (record { net = net.old; digits = digits.now.known; rest = digits.now.rest })) }
+    ensures valid { IsValid net.new }
+{
+    output_bits(net, name, digits.known.as_slice())?;
+    if exact {
+        output_bits(net, "r", digits.rest.as_slice())?;
+    }
+    Ok(())
+}

@@ -1,0 +1,95 @@
+-- The coefficients of a sum in units of the output's last place.
+use Rattle.std.proofs.Common.{◌≡◌, ℕ, zero, suc, ◌+◌, ◌*◌, ◌/◌, ◌%◌, ◌^◌, ◌<◌, ◌≤◌, Bool, true, false, List, [], ◌∷◌, length, get_or, not, cond, FitsSigned, refl, sym, ap, ◌∙◌, arith}
+use Rattle.std.specs.Prelude.{ℤ, pos, negsuc, neg_ℤ, ◌*ℤ◌, ◌≤ℤ◌, unsigned_abs, Some, None, ◌==◌}
+use Rattle.std.specs.List.{position_from}
+use Rattle.std.proofs.lemmas.Bool.{eqb-true}
+use Rattle.std.proofs.lemmas.Int.{ints, unsigned_abs-mul, fits_signed_from_abs}
+use Rattle.std.proofs.lemmas.List.Elements.{All-get_or}
+use Rattle.std.specs.Int.{w64}
+use Rattle.std.proofs.lemmas.Nat.{div-add-mod', pow_pos}
+use Rattle.opgen_operator.specs.declared.spec.Sum.{Sum}
+use Rattle.opgen_operator.specs.Outputs.{sum_shift, up, down, is_whole, first_inexact}
+use Rattle.opgen_operator.specs.Ranges.{IsSum, IsWithin}
+use Rattle.opgen_fir.specs.Recipe.{is_zero, factor}
+use Rattle.opgen_fir.specs.Summed.{units}
+
+-- the denominator in units
+pub den-units : (s : Sum) (c : ℤ) → IsSum 256 s → (factor s c).den ≡ pos (units s)
+den-units s c sum = scaled s.den (down (sum_shift s)) sum.positive
+  where
+    scaled : (d : ℤ) (v : ℕ) → pos 1 ≤ℤ d → d *ℤ pos v ≡ pos (unsigned_abs d * v)
+    scaled (pos d) v h = omega (arith, ints)
+    scaled (negsuc d) v h = absurd (omega (arith, ints, h))
+
+positive_product : (a b : ℕ) → 0 < a → 0 < b → 0 < a * b
+positive_product zero b h k = absurd (omega (arith, h))
+positive_product (suc a) b h k = omega (arith, k)
+
+pub units-some : (s : Sum) → IsSum 256 s → 0 < units s
+units-some s sum = positive_product (unsigned_abs s.den) (down (sum_shift s)) (omega (arith, ints, sum.positive)) (pow_pos _)
+
+-- a whole coefficient is a whole number of units
+pub record Whole (c : ℤ) (u m : ℕ) : Type 0 where
+  pub times : ℤ
+  pub is : times *ℤ pos m ≡ c *ℤ pos u
+
+negated : (q m : ℕ) → neg_ℤ (pos q) *ℤ pos m ≡ neg_ℤ (pos (q * m))
+negated zero m = omega (arith, ints)
+negated (suc q) m = omega (arith, ints)
+
+whole-times : (c : ℤ) (u m : ℕ) → (unsigned_abs c * u) % m ≡ 0 → Whole c u m
+whole-times (pos a) u m h = record { times = pos (a * u / m); is = omega (arith, ints, div-add-mod' (a * u) m, h) }
+whole-times (negsuc a) u m h =
+    let q = suc a * u / m in
+    let rest : suc a * u % m ≡ 0 = h in
+    let whole : q * m ≡ suc a * u = omega (arith, div-add-mod' (suc a * u) m, rest) in
+    let less : negsuc a *ℤ pos u ≡ neg_ℤ (pos (suc a * u)) = omega (arith, ints) in
+    record { times = neg_ℤ (pos q); is = negated q m ∙ ap (λ n. neg_ℤ (pos n)) whole ∙ sym less }
+
+none-passes : (p : ℤ → Bool) (i : ℕ) (cs : List ℤ) (k : ℕ) → position_from p i cs ≡ None → k < length cs → p (get_or cs k (pos 0)) ≡ false
+none-passes p i [] k e h = absurd (omega (arith, h))
+none-passes p i (c ∷ cs) zero e h = by (p c) e
+  where
+    by : (b : Bool) → cond b (Some i) (position_from p (i + 1) cs) ≡ None → b ≡ false
+    by true g = cc
+    by false g = refl
+none-passes p i (c ∷ cs) (suc k) e h = by (λ g. none-passes p (i + 1) cs k g (omega (arith, h))) (p c) e
+  where
+    by : (position_from p (i + 1) cs ≡ None → p (get_or cs k (pos 0)) ≡ false) → (b : Bool)
+        → cond b (Some i) (position_from p (i + 1) cs) ≡ None → p (get_or cs k (pos 0)) ≡ false
+    by later true g = cc
+    by later false g = later g
+
+not-false : (b : Bool) → not b ≡ false → b ≡ true
+not-false true e = refl
+not-false false e = cc
+
+-- where no coefficient is inexact
+pub all-whole : (s : Sum) → first_inexact s ≡ None → (k : ℕ) → k < length s.coefs
+    → Whole (get_or s.coefs k (pos 0)) (up (sum_shift s)) (units s)
+all-whole s none k h =
+    let c = get_or s.coefs k (pos 0) in
+    whole-times c (up (sum_shift s)) (units s)
+    (eqb-true ((unsigned_abs c * up (sum_shift s)) % units s) 0
+    (not-false (is_whole s c) (none-passes (λ d. not (is_whole s d)) 0 s.coefs k none h)))
+
+-- a coefficient that is not 0 is not 0 in units
+pub factor-some : (c : ℤ) (u : ℕ) → 0 < u → is_zero c ≡ false → c *ℤ pos u ≡ pos 0 → ⊥
+factor-some c u some e none = by (unsigned_abs c) e (sym (unsigned_abs-mul c (pos u)) ∙ ap unsigned_abs none)
+  where
+    by : (n : ℕ) → (n == 0) ≡ false → n * u ≡ 0 → ⊥
+    by zero f g = cc
+    by (suc n) f g = omega (arith, g, some)
+
+pub zero-is : (c : ℤ) → is_zero c ≡ true → c ≡ pos 0
+zero-is c e = by c (eqb-true (unsigned_abs c) 0 e)
+  where
+    by : (z : ℤ) → unsigned_abs z ≡ 0 → z ≡ pos 0
+    by (pos n) h = ap pos h
+    by (negsuc n) h = absurd (omega (arith, h))
+
+-- a coefficient is a number of 64 bits
+pub coef-fits : (s : Sum) → IsSum 256 s → (k : ℕ) → k < length s.coefs → FitsSigned w64 (get_or s.coefs k (pos 0))
+coef-fits s sum k h =
+    let small : unsigned_abs (get_or s.coefs k (pos 0)) ≤ 2 ^ 30 = All-get_or (IsWithin (2 ^ 30)) s.coefs k (pos 0) h sum.coefs in
+    fits_signed_from_abs w64 (get_or s.coefs k (pos 0)) (omega (arith, small))

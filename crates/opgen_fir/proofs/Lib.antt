@@ -1,0 +1,9 @@
+pub mod Rounds
+pub mod Delays
+pub mod WeightedSums
+pub mod Factors
+pub mod Summed
+pub mod Narrow
+pub mod Good
+pub mod Fits
+pub mod Steps

@@ -1,0 +1,115 @@
+-- No table of a sum is wider than the sum: the range of the output has room for the whole range of each term.
+use Rattle.std.proofs.Common.{◌≡◌, ℕ, zero, suc, ◌+◌, ◌-◌, ◌*◌, ◌^◌, ◌<◌, ◌≤◌, Bool, true, false, List, [], ◌∷◌, length, get_or, sym, ap, ◌∙◌, arith}
+use Rattle.std.specs.Prelude.{ℤ, pos, negsuc, neg_ℤ, ◌*ℤ◌, unsigned_abs, map, sum}
+use Rattle.std.specs.List.{fold}
+use Rattle.std.proofs.Math.Nat.{two-pow-succ, mul-le-mul_left}
+use Rattle.std.proofs.lemmas.Grind.{div_ceil_times}
+use Rattle.std.proofs.lemmas.Int.{ints, unsigned_abs-mul}
+use Rattle.std.proofs.lemmas.Nat.{pow-add, pow_pos}
+use Rattle.opgen_num.specs.declared.TheConstants.{MAX_WIDTH}
+use Rattle.opgen_num.specs.Formats.{fewest_bits, range_width}
+use Rattle.opgen_num.proofs.RangeWidth.{range_width-least}
+use Rattle.opgen_operator.specs.declared.spec.Sum.{Sum}
+use Rattle.opgen_operator.specs.Outputs.{sum_shift, up, reach_with, reach_of, above_zero, below_zero, rises, falls, sum_reach, sum_places, guard_bits}
+use Rattle.opgen_operator.specs.Ports.{sum_format}
+use Rattle.opgen_operator.specs.Ranges.{IsSum}
+use Rattle.opgen_kcm.specs.Entries.{in_guard_units}
+use Rattle.opgen_kcm.specs.Recipe.{HasNarrowRows}
+use Rattle.opgen_kcm.proofs.Narrow.{narrow}
+use Rattle.opgen_fir.specs.Recipe.{factor, sum_width}
+use Rattle.opgen_fir.specs.Summed.{units}
+use Rattle.opgen_fir.proofs.Factors.{den-units, units-some}
+
+-- the range of the output
+
+reach-span : (signed : Bool) (width : ℕ) → 1 ≤ width → (reach_with signed width).below + (reach_with signed width).above + 1 ≡ 2 ^ width
+reach-span true zero h = absurd (omega (arith, h))
+reach-span true (suc w) h =
+    let e : suc w - 1 ≡ w = omega arith in
+    omega (arith, two-pow-succ w, ap (λ n. 2 ^ n) e, pow_pos w)
+reach-span false w h = omega (arith, pow_pos w)
+
+abs-parts : (c : ℤ) → above_zero c + below_zero c ≡ unsigned_abs c
+abs-parts (pos n) = omega arith
+abs-parts (negsuc n) = omega arith
+
+fold-start : (a : ℕ) (xs : List ℕ) → fold ◌+◌ a xs ≡ a + fold ◌+◌ 0 xs
+fold-start a [] = omega arith
+fold-start a (x ∷ xs) = omega (arith, fold-start (a + x) xs, fold-start (0 + x) xs)
+
+sum-cons : (x : ℕ) (xs : List ℕ) → sum (x ∷ xs) ≡ x + sum xs
+sum-cons x xs =
+    let start : sum (x ∷ xs) ≡ (0 + x) + sum xs = fold-start (0 + x) xs in
+    omega (arith, start)
+
+coef-within : (cs : List ℤ) (k : ℕ) → k < length cs → unsigned_abs (get_or cs k (pos 0)) ≤ rises cs + falls cs
+coef-within [] k h = absurd (omega (arith, h))
+coef-within (c ∷ cs) zero h =
+    let up : rises (c ∷ cs) ≡ above_zero c + rises cs = sum-cons (above_zero c) (map above_zero cs) in
+    let down : falls (c ∷ cs) ≡ below_zero c + falls cs = sum-cons (below_zero c) (map below_zero cs) in
+    omega (arith, up, down, abs-parts c)
+coef-within (c ∷ cs) (suc k) h =
+    let up : rises (c ∷ cs) ≡ above_zero c + rises cs = sum-cons (above_zero c) (map above_zero cs) in
+    let down : falls (c ∷ cs) ≡ below_zero c + falls cs = sum-cons (below_zero c) (map below_zero cs) in
+    omega (arith, up, down, coef-within cs k (omega (arith, h)))
+
+half : (w : ℕ) → 2 ≤ w → 2 ^ w ≡ 2 ^ (w - 1) + 2 ^ (w - 1)
+half zero h = absurd (omega (arith, h))
+half (suc v) h = let e : suc v - 1 ≡ v = omega arith in omega (arith, two-pow-succ v, ap (λ n. 2 ^ n) e)
+
+width-span : (below above : ℕ) → below + above < 2 ^ range_width (neg_ℤ (pos below)) (pos above)
+width-span zero above =
+    let h = (range_width-least (pos 0) (pos above) (omega (arith, ints))).0 in
+    omega (arith, ints, h.2.1, pow_pos (range_width (pos 0) (pos above)))
+width-span (suc n) above =
+    let h = (range_width-least (negsuc n) (pos above) (omega (arith, ints))).0 in
+    let w = range_width (negsuc n) (pos above) in
+    omega (arith, ints, h.1.0, h.2.1, half w h.0, pow_pos (w - 1))
+
+units-span : (s : Sum) → IsSum 256 s → (k : ℕ) → k < length s.coefs
+    → unsigned_abs (get_or s.coefs k (pos 0)) * up (sum_shift s) * ((reach_of s.input).below + (reach_of s.input).above)
+    ≤ units s * ((sum_places s).below + (sum_places s).above)
+units-span s sum k h =
+    let r = reach_of s.input in
+    let n = unsigned_abs (get_or s.coefs k (pos 0)) in
+    let u = up (sum_shift s) in
+    let low = (div_ceil_times ((sum_reach s).below * u) (units s) (units-some s sum)).0 in
+    let high = (div_ceil_times ((sum_reach s).above * u) (units s) (units-some s sum)).0 in
+    let some = mul-le-mul_left (u * (r.below + r.above)) (coef-within s.coefs k h) in
+    omega (arith, low, high, some)
+
+pub fewest-some : (signed : Bool) → 1 ≤ fewest_bits signed
+fewest-some true = omega arith
+fewest-some false = omega arith
+
+one_more : (a b : ℕ) → 0 < b → a * (b - 1) + a ≡ a * b
+one_more a zero h = absurd (omega (arith, h))
+one_more a (suc b) h = let e : suc b - 1 ≡ b = omega arith in omega (arith, ap (λ n. a * n) e)
+
+-- the rows of each coefficient are no wider than the sum
+pub narrow-terms : (s : Sum) → IsSum 256 s → (k : ℕ) → k < length s.coefs → sum_width s ≤ MAX_WIDTH
+    → HasNarrowRows (in_guard_units (factor s (get_or s.coefs k (pos 0))) (guard_bits s)) s.input.width s.input.signed
+narrow-terms s sum k h fits =
+    let c = get_or s.coefs k (pos 0) in
+    let g = 2 ^ guard_bits s in
+    let u = up (sum_shift s) in
+    let m = units s in
+    let w = s.input.width in
+    let out = (sum_format s).width in
+    let q = in_guard_units (factor s c) (guard_bits s) in
+    let r = reach_of s.input in
+    let some : 1 ≤ w = omega (arith, fewest-some s.input.signed, sum.input.fewest) in
+    let span : r.below + r.above ≡ 2 ^ w - 1 = omega (arith, reach-span s.input.signed w some) in
+    let size : unsigned_abs q.num ≡ unsigned_abs c * u * g =
+    unsigned_abs-mul (c *ℤ pos u) (pos g) ∙ ap (λ n. n * g) (unsigned_abs-mul c (pos u)) in
+    let range : (sum_places s).below + (sum_places s).above ≤ 2 ^ out - 1 =
+    omega (arith, width-span (sum_places s).below (sum_places s).above) in
+    let term = mul-le-mul_left g (units-span s sum k h) in
+    let limit = mul-le-mul_left (m * g) range in
+    let whole : unsigned_abs c * u * g * (2 ^ w - 1) ≡ g * (unsigned_abs c * u * (r.below + r.above)) =
+    ap (λ n. unsigned_abs c * u * g * n) (sym span) ∙ omega arith in
+    let room : (2 ^ w - 1) * unsigned_abs q.num ≤ m * (g * (2 ^ out - 1)) =
+    omega (arith, ap (λ n. (2 ^ w - 1) * n) size, whole, term, limit) in
+    let power : 2 ^ sum_width s ≡ 2 ^ out * g = pow-add 2 out (guard_bits s) in
+    let below : g * (2 ^ out - 1) < 2 ^ sum_width s = omega (arith, one_more g (2 ^ out) (pow_pos out), power, pow_pos (guard_bits s)) in
+    narrow q m (g * (2 ^ out - 1)) (sum_width s) w s.input.signed (units-some s sum) (den-units s c sum) room below fits

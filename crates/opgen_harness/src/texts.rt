@@ -1,0 +1,54 @@
+//! Whole texts.
+
+/// The VHDL of three times four unsigned bits.
+pub const TIMES3: &str = r#"library ieee;
+use ieee.std_logic_1164.all;
+use ieee.numeric_std.all;
+
+entity times3 is
+  port (
+    clk : in std_logic;
+    x : in std_logic_vector(3 downto 0);
+    y : out std_logic_vector(5 downto 0)
+  );
+end entity;
+
+architecture rtl of times3 is
+  signal s0 : unsigned(3 downto 0);
+  signal s1 : unsigned(5 downto 0);
+begin
+  s0 <= unsigned(x);
+  with s0 select s1 <=
+    "000000" when "0000",
+    "000011" when "0001",
+    "000110" when "0010",
+    "001001" when "0011",
+    "001100" when "0100",
+    "001111" when "0101",
+    "010010" when "0110",
+    "010101" when "0111",
+    "011000" when "1000",
+    "011011" when "1001",
+    "011110" when "1010",
+    "100001" when "1011",
+    "100100" when "1100",
+    "100111" when "1101",
+    "101010" when "1110",
+    "101101" when others;
+  y <= std_logic_vector(s1);
+end architecture;
+"#;
+
+/// The report of three times four unsigned bits for the target `plain` at a period of 10,000 ps.
+pub const TIMES3_REPORT: &str = "operator times3
+kind scale
+mode exact
+target plain
+period 10000
+latency 0
+slack 9100
+input x unsigned 4 0
+output y unsigned 6 0
+cells wire 0 logic 0 add 0 choice 0 table 4 register 0
+signals 2
+";

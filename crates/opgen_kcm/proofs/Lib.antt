@@ -1,0 +1,9 @@
+pub mod Products
+pub mod Residues
+pub mod Bounds
+pub mod ChunkWords
+pub mod Multiples
+pub mod Entries
+pub mod Shapes
+pub mod Kept
+pub mod Narrow

@@ -1,0 +1,4 @@
+pub mod Chunks
+pub mod Entries
+pub mod Recipe
+pub mod Multiple

@@ -1,0 +1,6 @@
+ghost use Rattle.opgen_mult.specs.OneNet.{HasOneNet};
+
+/// A product leaves one net, so each call of `build` with it answers the same.
+pub fn one_net()
+    ensures { HasOneNet }
+{}

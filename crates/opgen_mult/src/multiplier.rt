@@ -1,0 +1,72 @@
+ghost use Rattle.std.specs.Prelude.{◌≡◌, IfOk};
+ghost use Rattle.opgen_operator.specs.Accepted.{IsAcceptedProduct};
+ghost use Rattle.opgen_operator.specs.Fits.{FitsSpecsOf};
+ghost use Rattle.opgen_operator.specs.declared.spec.Operator.TheVariants.{Multiply};
+ghost use Rattle.opgen_mult.specs.Recipe.{IsNetOfProduct};
+
+use crate::output::above_zeros;
+use crate::partial::{Work, products};
+use crate::places::{bits_below, constant, cut_of, heap_width, zeros_below};
+use opgen_compress::compress;
+use opgen_design::Slice;
+use opgen_net::Net;
+use opgen_num::Memory;
+use opgen_operator::{Product, outputs_hold, products_have_width};
+use std::alloc::Global;
+
+/// The net of the product `y` of the inputs `a` and `b`.
+///
+/// Where the output has not every bit of the product, its lowest columns are left out, as many as weigh at most half a unit of the
+/// output's last place, and half a unit is added: the output is then less than one unit from the product.
+pub fn build(alloc: Global, product: &Product) -> Result<Net, Memory>
+    requires { IsAcceptedProduct product.now }
+    ensures net { IfOk result (IsNetOfProduct product.now) }
+    ensures fits { IfOk result (FitsSpecsOf (Multiply product.now)) }
+{
+    // The output is as wide as the heap and the zeros below it, and has room for every product, rounded down or up.
+    products_have_width();
+    outputs_hold();
+    let cut = cut_of(product);
+    let Work { mut net, mut heap } = products(alloc, product, cut.columns)?;
+    heap.add_constant(constant(product, cut));
+    let sum = compress(alloc, heap, &mut net)?;
+    let node = above_zeros(
+        alloc,
+        &mut net,
+        sum,
+        heap_width(product),
+        zeros_below(product),
+    )?;
+    let low = bits_below(product);
+    let high = low + product.output().width - 1;
+    net.output("y", Slice { node, high, low })?;
+    Ok(net)
+}
+
+#[cfg(test)]
+mod tests {
+    use super::*;
+    use opgen_num::Format;
+    use std::test::Fail;
+
+    // 4 by 4 bits, of which the lowest four are cut off. The two lowest columns, of 1 and 2 bits, are left out, so 13 products are
+    // made. With the bit that rounds, the columns from 2 up have 3, 5, 3, 2 and 1 bits: one half adder brings them down to 4 bits, a
+    // half and a full one to 3, a half and three full ones to 2. These seven have two nodes each. With the inputs, the words of the two
+    // rows and their sum there are 2 + 13 + 14 + 3 nodes.
+    #[test]
+    fn four_by_four(rt: HostRuntime) -> Result<(), Fail> {
+        let four = Format {
+            signed: false,
+            width: 4,
+            lsb: 0,
+        };
+        let product = Product {
+            a: four,
+            b: four,
+            out_lsb: 4,
+        };
+        let net = build(rt.alloc(), &product)?;
+        assert_eq!(rt; net.nodes.len(), 32);
+        Ok(())
+    }
+}

@@ -1,0 +1,73 @@
+//! The output's bits.
+ghost use Rattle.std.specs.Prelude.{◌≡◌, ◌≤◌, ◌+◌, ◌++◌, IfOk, OnOk, replicate, slice_index};
+ghost use Rattle.opgen_net.specs.declared.word_bits.WordBit.TheVariants.{Zero};
+ghost use Rattle.opgen_net.specs.Valid.{IsValid, widths};
+ghost use Rattle.opgen_design.specs.Width.{IsWidth};
+ghost use Rattle.opgen_mult.specs.Recipe.{falling, above_zeros};
+ghost use Rattle.opgen_mult.specs.Shifted.{IsAboveZeros};
+
+use opgen_net::{Net, WordBit};
+use opgen_num::Memory;
+use std::alloc::{AllocError, Global};
+
+// Appends the lowest bits of a node, the highest first.
+fn push_falling(bits: &mut Vec<WordBit>, node: usize, count: u32) -> Result<(), AllocError>
+    ensures { OnOk result (bits.new.items ≡ bits.old.items ++ falling node count) }
+{
+    let mut left = count;
+    'bits: while left > 0 {
+        left -= 1;
+        bits.push(WordBit::Of { node, index: left })?;
+    }
+    Ok(())
+}
+
+fn push_zeros(bits: &mut Vec<WordBit>, count: u32) -> Result<(), AllocError>
+    ensures { OnOk result (bits.new.items ≡ bits.old.items ++ replicate count Zero) }
+{
+    'zeros: for _ in 0..count {
+        bits.push(WordBit::Zero)?;
+    }
+    Ok(())
+}
+
+// The lowest bits of a node above zeros, the highest first.
+fn bits_above_zeros(
+    alloc: Global,
+    node: usize,
+    width: u32,
+    zeros: u32,
+) -> Result<Vec<WordBit>, AllocError>
+    ensures { IfOk result (λ bits. bits.items ≡ falling node width ++ replicate zeros Zero) }
+{
+    let mut bits = Vec::new(alloc);
+    push_falling(&mut bits, node, width)?;
+    push_zeros(&mut bits, zeros)?;
+    Ok(bits)
+}
+
+/// The node that has the bits of a node above zeros: the same node where there are none.
+pub(crate) fn above_zeros(
+    alloc: Global,
+    net: &mut Net,
+    node: usize,
+    width: u32,
+    zeros: u32,
+) -> Result<usize, Memory>
+    requires net { IsValid net.old }
+    requires node { slice_index (widths net.old.nodes) node ≡ width }
+    requires some { 1 ≤ width }
+    requires width { IsWidth (width + zeros) }
+    ensures ok { OnOk result (net.new ≡ (above_zeros width zeros (record { net = net.old; place = node })).net) }
+    ensures place { IfOk result (λ n. n ≡ (above_zeros width zeros (record { net = net.old; place = node })).place) }
+    ensures width { IfOk result (λ n. slice_index (widths net.new.nodes) n ≡ width + zeros) }
+    ensures shifted { IfOk result (λ n. IsAboveZeros net.old node zeros net.new.nodes n) }
+    ensures valid { IsValid net.new }
+{
+    if zeros == 0 {
+        return Ok(node);
+    }
+    let bits = bits_above_zeros(alloc, node, width, zeros)?;
+    let shifted = net.word(&bits)?;
+    Ok(shifted)
+}

@@ -1,5 +1,0 @@
-pub mod Powers
-pub mod Product
-pub mod Widths
-pub mod ProductNet
-pub mod OneNet

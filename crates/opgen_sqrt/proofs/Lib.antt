@@ -1,0 +1,4 @@
+mod Arithmetic
+mod Steps
+mod Whole
+mod Named

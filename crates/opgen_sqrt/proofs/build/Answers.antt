@@ -1,0 +1,42 @@
+use Rattle.std.proofs.Common.{ℕ, List, sym, ap, ◌∙◌, subst, codes}
+use Rattle.std.specs.Prelude.{IsTrue}
+use Rattle.opgen_design.specs.Names.{is_allowed_name}
+use Rattle.opgen_net.specs.declared.net.Net.{Net}
+use Rattle.opgen_net.specs.Named.{IsNamed}
+use Rattle.opgen_operator.specs.Fits.{FitsSpecsOf}
+use Rattle.opgen_operator.specs.declared.spec.Operator.TheVariants.{Root}
+use Rattle.opgen_digits.specs.Digit.{Known}
+use Rattle.opgen_digits.specs.Results.{AreResults, with_results}
+use Rattle.opgen_sqrt.specs.Steps.{HoldsAfterEachStep}
+use Rattle.opgen_sqrt.proofs.Named.{named}
+use Rattle.opgen_sqrt.proofs.Whole.{has_widths, root_bits, results, fits_specs, all_steps}
+use Rattle.opgen_sqrt.proofs.build.Goals as goal
+
+pub output_results-requires-clause-results : goal.output_results-requires-clause-results
+output_results-requires-clause-results c =
+    let r = c.args.single.now in
+    subst (λ (k : Known). AreResults r.exact k) c.in_ok-digits.ensures.ok (results r (has_widths r c.requires) (root_bits r c.requires).0)
+
+pub returns-clause-net : goal.returns-clause-net
+returns-clause-net c =
+    let r = c.args.single.now in
+    c.in_ok-output_results.ensures.ok ∙ ap (with_results r.exact (codes "y")) (sym c.in_ok-digits.ensures.ok)
+
+pub returns-clause-steps : goal.returns-clause-steps
+returns-clause-steps c =
+    let r = c.args.single.now in
+    let made = c.in_ok-output_results.ensures.ok ∙ ap (with_results r.exact (codes "y")) (sym c.in_ok-digits.ensures.ok) in
+    subst (HoldsAfterEachStep r) (sym made) (all_steps r c.requires)
+
+pub returns-clause-fits : goal.returns-clause-fits
+returns-clause-fits c =
+    let r = c.args.single.now in
+    let made = c.in_ok-output_results.ensures.ok ∙ ap (with_results r.exact (codes "y")) (sym c.in_ok-digits.ensures.ok) in
+    subst (FitsSpecsOf (Root r)) (sym made) (fits_specs r c.requires)
+
+pub returns-clause-named : goal.returns-clause-named
+returns-clause-named c =
+    let r = c.args.single.now in
+    let made = c.in_ok-output_results.ensures.ok ∙ ap (with_results r.exact (codes "y")) (sym c.in_ok-digits.ensures.ok) in
+    subst (λ (net : Net). (name : List ℕ) → IsTrue (is_allowed_name name) → IsNamed name net) (sym made)
+    (named r (has_widths r c.requires) (root_bits r c.requires).0)

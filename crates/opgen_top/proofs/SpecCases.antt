@@ -1,0 +1,107 @@
+-- The cases of what a specification and the targets lead to.
+use Rattle.std.proofs.Common.{◌≡◌, inl, inr, ℕ, Bool, true, false, List, Option, Some, None, Result, Ok, Err, refl, sym, subst}
+use Rattle.opgen_operator.specs.declared.spec.Spec.{Spec}
+use Rattle.opgen_spec.specs.declared.fault.SpecFault.{SpecFault}
+use Rattle.opgen_spec.specs.Document.{tree}
+use Rattle.opgen_spec.specs.Faults.{read}
+use Rattle.opgen_target.specs.Delays.{Delays}
+use Rattle.opgen_top.specs.Answer.{Answer, refused, unsupported, unknown_target, not_adjustable}
+use Rattle.opgen_top.specs.Kinds.{is_built}
+use Rattle.opgen_top.specs.Specified.{IsAnswerToSpec, OnBuilt, OnLines, OnReading, OnTable, OnTarget}
+use Rattle.opgen_top.specs.Targets.{Device, IsTableOf, chosen, takes_lines, tuned}
+
+-- what is said of a specification and a table may be exchanged
+pub on_table-map : (spec : Spec) (table : Delays) (a : Answer) (said other : Type 0) → (said → other) → OnTable spec table a said → OnTable spec table a other
+on_table-map spec table a said other f (inl short) = inl short
+on_table-map spec table a said other f (inr (inl large)) = inr (inl large)
+on_table-map spec table a said other f (inr (inr h)) = inr (inr (f h))
+
+on_lines-map : (b : Bool) (a : Answer) (said other : Type 0) → (said → other) → OnLines b a said → OnLines b a other
+on_lines-map true a said other f h = f h
+on_lines-map false a said other f h = h
+
+pub on_target-map : (found : Option Device) (spec : Spec) (a : Answer) (said other : Delays → Type 0) → ((table : Delays) → said table → other table)
+    → OnTarget found spec a said → OnTarget found spec a other
+on_target-map (Some device) spec a said other f h =
+    on_lines-map (takes_lines device.adjustable spec.delays) a (said (tuned device.delays spec.delays)) (other (tuned device.delays spec.delays)) (f (tuned device.delays spec.delays)) h
+on_target-map None spec a said other f h = h
+
+on_built-map : (b : Bool) (a : Answer) (said other : Type 0) → (said → other) → OnBuilt b a said → OnBuilt b a other
+on_built-map true a said other f h = f h
+on_built-map false a said other f h = h
+
+pub on_reading-map : (r : Result Spec SpecFault) (a : Answer) (said other : Spec → Type 0) → ((spec : Spec) → said spec → other spec) → OnReading r a said → OnReading r a other
+on_reading-map (Ok spec) a said other f h = on_built-map (is_built spec) a (said spec) (other spec) (f spec) h
+on_reading-map (Err fault) a said other f h = h
+
+-- a refusal is one whatever is said of a circuit
+pub refusal_answers : (bytes : List ℕ) (devices : List Device) (said : Spec → Delays → Answer → Type 0) (a : Answer) → IsAnswerToSpec bytes devices (λ spec table b. ⊥) a
+    → IsAnswerToSpec bytes devices said a
+refusal_answers bytes devices said a h =
+    on_reading-map (read (tree bytes)) a _ _ (λ spec. on_target-map (chosen spec.target devices) spec a _ _ (λ table. on_table-map spec table a ⊥ (said spec table a) (λ no. absurd no))) h
+
+-- by what reads as a specification that can be built
+pub reading_built : (r : Result Spec SpecFault) (a : Answer) (said : Spec → Type 0) (spec : Spec) → r ≡ Ok spec → is_built spec ≡ true → said spec → OnReading r a said
+reading_built r a said spec reads built h = subst (λ x. OnReading x a said) (sym reads) (subst (λ b. OnBuilt b a (said spec)) (sym built) h)
+
+-- by the table of the specification's target
+pub on_table_of : (spec : Spec) (devices : List Device) (a : Answer) (said : Delays → Type 0) (table : Delays) → IsTableOf spec devices table → said table
+    → OnTarget (chosen spec.target devices) spec a said
+on_table_of spec devices a said table of h =
+    let device = of.device in
+    subst (λ found. OnTarget found spec a said) (sym of.is_chosen) (subst (λ b. OnLines b a (said (tuned device.delays spec.delays))) (sym of.takes) (subst said of.is_tuned h))
+
+module _ (bytes : List ℕ) (devices : List Device) (said : Spec → Delays → Answer → Type 0) (a : Answer) where
+  abbrev Said : Spec → Type 0
+  Said spec = OnTarget (chosen spec.target devices) spec a (λ table. OnTable spec table a (said spec table a))
+
+  pub answers_fault : (fault : SpecFault) → read (tree bytes) ≡ Err fault → a ≡ refused fault → IsAnswerToSpec bytes devices said a
+  answers_fault fault reads is = subst (λ r. OnReading r a Said) (sym reads) is
+
+  pub answers_unbuilt : (spec : Spec) → read (tree bytes) ≡ Ok spec → is_built spec ≡ false → a ≡ unsupported → IsAnswerToSpec bytes devices said a
+  answers_unbuilt spec reads built is = subst (λ r. OnReading r a Said) (sym reads) (subst (λ b. OnBuilt b a (Said spec)) (sym built) is)
+
+  pub answers_unknown : (spec : Spec) → read (tree bytes) ≡ Ok spec → is_built spec ≡ true → chosen spec.target devices ≡ None → a ≡ unknown_target → IsAnswerToSpec bytes devices said a
+  answers_unknown spec reads built found is =
+      reading_built (read (tree bytes)) a Said spec reads built (subst (λ d. OnTarget d spec a (λ table. OnTable spec table a (said spec table a))) (sym found) is)
+
+  pub answers_fixed : (spec : Spec) (device : Device) → read (tree bytes) ≡ Ok spec → is_built spec ≡ true → chosen spec.target devices ≡ Some device
+      → takes_lines device.adjustable spec.delays ≡ false → a ≡ not_adjustable → IsAnswerToSpec bytes devices said a
+  answers_fixed spec device reads built found takes is =
+      let table = tuned device.delays spec.delays in
+      reading_built (read (tree bytes)) a Said spec reads built
+      (subst (λ d. OnTarget d spec a (λ t. OnTable spec t a (said spec t a))) (sym found) (subst (λ b. OnLines b a (OnTable spec table a (said spec table a))) (sym takes) is))
+
+  pub answers_table : (spec : Spec) (table : Delays) → read (tree bytes) ≡ Ok spec → is_built spec ≡ true → IsTableOf spec devices table → OnTable spec table a (said spec table a)
+      → IsAnswerToSpec bytes devices said a
+  answers_table spec table reads built of h =
+      reading_built (read (tree bytes)) a Said spec reads built (on_table_of spec devices a (λ t. OnTable spec t a (said spec t a)) table of h)
+
+  -- one of these cases holds
+  module _ (P : Type 0) (by_fault : (fault : SpecFault) → read (tree bytes) ≡ Err fault → a ≡ refused fault → P)
+      (by_unbuilt : (spec : Spec) → read (tree bytes) ≡ Ok spec → is_built spec ≡ false → a ≡ unsupported → P)
+      (by_unknown : (spec : Spec) → read (tree bytes) ≡ Ok spec → is_built spec ≡ true → chosen spec.target devices ≡ None → a ≡ unknown_target → P)
+      (by_fixed : (spec : Spec) (device : Device) → read (tree bytes) ≡ Ok spec → is_built spec ≡ true → chosen spec.target devices ≡ Some device
+      → takes_lines device.adjustable spec.delays ≡ false → a ≡ not_adjustable → P)
+      (by_table : (spec : Spec) (table : Delays) → read (tree bytes) ≡ Ok spec → is_built spec ≡ true → IsTableOf spec devices table → OnTable spec table a (said spec table a) → P) where
+    of_lines : (spec : Spec) (device : Device) → read (tree bytes) ≡ Ok spec → is_built spec ≡ true → chosen spec.target devices ≡ Some device → (b : Bool) → takes_lines device.adjustable spec.delays ≡ b
+        → OnLines b a (OnTable spec (tuned device.delays spec.delays) a (said spec (tuned device.delays spec.delays) a)) → P
+    of_lines spec device reads built found true takes h =
+        by_table spec (tuned device.delays spec.delays) reads built record { device = device; is_chosen = found; takes = takes; is_tuned = refl } h
+    of_lines spec device reads built found false takes h = by_fixed spec device reads built found takes h
+
+    of_target : (spec : Spec) → read (tree bytes) ≡ Ok spec → is_built spec ≡ true → (found : Option Device) → chosen spec.target devices ≡ found
+        → OnTarget found spec a (λ table. OnTable spec table a (said spec table a)) → P
+    of_target spec reads built (Some device) found h = of_lines spec device reads built found (takes_lines device.adjustable spec.delays) refl h
+    of_target spec reads built None found h = by_unknown spec reads built found h
+
+    of_built : (spec : Spec) → read (tree bytes) ≡ Ok spec → (b : Bool) → is_built spec ≡ b → OnBuilt b a (Said spec) → P
+    of_built spec reads true built h = of_target spec reads built (chosen spec.target devices) refl h
+    of_built spec reads false built h = by_unbuilt spec reads built h
+
+    of_reading : (r : Result Spec SpecFault) → read (tree bytes) ≡ r → OnReading r a Said → P
+    of_reading (Ok spec) reads h = of_built spec reads (is_built spec) refl h
+    of_reading (Err fault) reads h = by_fault fault reads h
+
+    pub cases_of_spec : IsAnswerToSpec bytes devices said a → P
+    cases_of_spec h = of_reading (read (tree bytes)) refl h
