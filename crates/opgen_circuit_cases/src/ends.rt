@@ -1,9 +1,10 @@
 //! Circuits at the ends of ranges. The answers were worked out by a program of another make.
-use crate::running::{Case, first_wrong};
-use opgen_harness::documents::{DIVIDE, FILTER, ROOT, SCALE};
+use crate::running::{Case, first_wrong, generated};
+use opgen_harness::documents::{DIVIDE, FILTER, ROOT, SCALE, changed};
+use opgen_harness::running::holds;
 use std::test::Fail;
 
-static ENDS_OF_SUMS: [Case; 5] = [
+static ENDS_OF_SUMS: [Case; 6] = [
     Case {
         name: "thirteen bits",
         document: SCALE,
@@ -68,6 +69,24 @@ static ENDS_OF_SUMS: [Case; 5] = [
         inputs: "f\n1\n8\n0\nf\nf\nf\nf\n",
         rows: Some("f : 09\n1 : 12\n8 : 0c\n0 : 0c\nf : 0c\nf : 1b\nf : 20\nf : 22\n"),
     },
+    Case {
+        name: "sixteen large coefficients",
+        document: FILTER,
+        changes: &[
+            ("period = 10000", "period = 1000000"),
+            ("width = 4", "width = 32"),
+            (
+                "coefficients = [4, 8, 3, 1]",
+                "coefficients = [16777215, 16777215, 16777215, 16777215, 16777215, 16777215, 16777215, 16777215, 16777215, 16777215, 16777215, 16777215, 16777215, 16777215, 16777215, 16777215]",
+            ),
+            ("denominator = 4", ""),
+        ],
+        line: "wrote times3.vhd and times3.rpt, latency 0\n",
+        inputs: "ffffffff\n00000000\n00000001\n80000000\n",
+        rows: Some(
+            "ffffffff : 0fffffeff000001\n00000000 : 0fffffeff000001\n00000001 : 0ffffff00000000\n80000000 : 17ffffe80000000\n",
+        ),
+    },
 ];
 
 #[test]
@@ -131,5 +150,33 @@ fn ends_of_quotients_and_roots(rt: HostRuntime) -> Result<(), Fail> {
         first_wrong(rt.alloc(), &ENDS_OF_QUOTIENTS_AND_ROOTS)?,
         None
     );
+    Ok(())
+}
+
+/// The report of a third of four bits, whose sum stands in the cycle of its table.
+const THIRD: &str = "operator times3
+kind scale
+mode faithful
+target plain
+period 1000000
+latency 0
+slack 998480
+input x unsigned 4 0
+output y unsigned 3 0
+cells wire 0 logic 0 add 4 choice 0 table 4 register 0
+signals 4
+";
+
+#[test]
+fn report_of_a_third(rt: HostRuntime) -> Result<(), Fail> {
+    let changes = [
+        ("exact = true", "exact = false"),
+        ("period = 10000", "period = 1000000"),
+        ("coefficients = [3]", "coefficients = [1]\ndenominator = 3"),
+    ];
+    let spec = changed(rt.alloc(), SCALE, &changes)?;
+    let ran = generated(rt.alloc(), &spec)?;
+    assert_eq!(rt; ran.status, 0);
+    assert!(rt; holds(&ran.folder, "times3.rpt", Some(THIRD)));
     Ok(())
 }

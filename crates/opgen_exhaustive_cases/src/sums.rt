@@ -20,12 +20,12 @@ fn sum(
     document(alloc, mode, keys.as_str())
 }
 
-/// Scales of inputs of up to 7 bits, by three drawn coefficients for each shift from -3 to 3.
+/// Scales of inputs of up to 7 bits, by seven drawn coefficients for each shift from -3 to 3.
 fn scales(alloc: Global, signed: bool, seed: u64) -> Result<Vec<String>, AllocError> {
     let mut draws = Draws { state: seed };
     let mut specs = Vec::new(alloc);
     let least = if signed { 2 } else { 1 };
-    for place in 0..21 {
+    for place in 0..49 {
         let shift = place % 7 - 3;
         let coef = draws.among(-2048, 4096).to_string(alloc)?;
         let den = draws.among(1, 1024);

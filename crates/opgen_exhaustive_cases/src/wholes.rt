@@ -44,7 +44,7 @@ fn exact_products(rt: HostRuntime) -> Result<(), Fail> {
 /// Quotients of dividends of up to 5 bits by divisors of up to 4, of shifts from 0 to 3.
 fn quotients(alloc: Global, mode: &str) -> Result<Vec<String>, AllocError> {
     let mut specs = Vec::new(alloc);
-    for a in 1..=5u32 {
+    for a in 1..=6u32 {
         for b in 1..=4u32 {
             for shift in 0..=3 {
                 let keys = format!(in alloc;
