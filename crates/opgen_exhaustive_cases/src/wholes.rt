@@ -41,7 +41,7 @@ fn exact_products(rt: HostRuntime) -> Result<(), Fail> {
     judge(rt.alloc(), &products(rt.alloc(), EXACT, 0)?, Stimulus::All)
 }
 
-/// Quotients of dividends of up to 5 bits by divisors of up to 4, of shifts from 0 to 3.
+/// Quotients of dividends of up to 6 bits by divisors of up to 4, of shifts from 0 to 3.
 fn quotients(alloc: Global, mode: &str) -> Result<Vec<String>, AllocError> {
     let mut specs = Vec::new(alloc);
     for a in 1..=6u32 {
