@@ -40,8 +40,9 @@ use Rattle.opgen_heap.specs.Standing.{AllThere}
 use Rattle.opgen_compress.specs.Kept.{words_at, IsSumOfColumns, IsSumOf}
 use Rattle.opgen_compress.proofs.Ones.{with_ones-sum, with_ones-length, with_ones-there}
 use Rattle.opgen_compress.proofs.Passed.{Passed, all-passed}
-use Rattle.opgen_compress.proofs.Reduced.{words-later}
-use Rattle.opgen_compress.proofs.Later.{Later, bit-kept, first_of, rest_of, first_column, rest_columns}
+use Rattle.opgen_net.proofs.Later.{Later, words-later}
+use Rattle.opgen_heap.proofs.Kept.{bit-kept}
+use Rattle.opgen_compress.proofs.Firsts.{first_of, rest_of, first_column, rest_columns}
 
 -- lists in reverse
 
@@ -96,7 +97,7 @@ bits-kept : (old new : Net) → Later old new → (inputs : Inputs) (t : ℤ) (b
 bits-kept old new l inputs t [] h = refl
 bits-kept old new l inputs t (b ∷ bs) h =
     let P = IsThere (widths old.nodes) in
-    ap (λ x. x ∷ map (bit_under (words_at new.nodes inputs t)) bs) (bit-kept old new l inputs t b (first_of P b bs h))
+    ap (λ x. x ∷ map (bit_under (words_at new.nodes inputs t)) bs) (bit-kept old new l.grown inputs t b (first_of P b bs h))
     ∙ ap (λ r. bit_under (words_at old.nodes inputs t) b ∷ r) (bits-kept old new l inputs t bs (rest_of P b bs h))
 
 -- numbers of rows

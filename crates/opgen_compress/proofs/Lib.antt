@@ -1,4 +1,4 @@
-mod Later
+mod Firsts
 mod Operands
 mod Reduced
 mod Heights

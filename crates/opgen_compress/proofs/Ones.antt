@@ -13,7 +13,7 @@ use Rattle.opgen_net.specs.Valid.{widths}
 use Rattle.opgen_net.specs.WordRule.{IsThere}
 use Rattle.opgen_compress.specs.Recipe.{Column, one_if, with_ones}
 use Rattle.opgen_heap.specs.Standing.{AllThere}
-use Rattle.opgen_compress.proofs.Later.{first_column, rest_columns}
+use Rattle.opgen_compress.proofs.Firsts.{first_column, rest_columns}
 
 drop-one : (k : ℕ) (cs : List Column) → drop 1 (drop k cs) ≡ drop (suc k) cs
 drop-one zero [] = refl

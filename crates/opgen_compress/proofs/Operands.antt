@@ -24,7 +24,10 @@ use Rattle.opgen_net.proofs.FlowWidths.{flow-width}
 use Rattle.opgen_net.proofs.WordLaws.{word-fits}
 use Rattle.opgen_compress.specs.Adder.{bit_tree, two, three, half_sum, half_carry, full_sum, full_carry}
 use Rattle.opgen_compress.specs.Kept.{words_at}
-use Rattle.opgen_compress.proofs.Later.{Later, bit-kept, there-kept, first_of, rest_of}
+use Rattle.opgen_net.proofs.Later.{Later}
+use Rattle.opgen_heap.proofs.Kept.{bit-kept}
+use Rattle.opgen_net.proofs.Grown.{grown-there}
+use Rattle.opgen_compress.proofs.Firsts.{first_of, rest_of}
 
 -- an operand of one bit that needs no parentheses, or is a chain of such
 record Flat (ws : List ℕ) (depth : ℕ) (e : Tree) : Type 0 where
@@ -163,7 +166,7 @@ module _ (old new : Net) (later : Later old new) (inputs : Inputs) (t : ℤ) (wo
   result e = value (scope_at new inputs t) e
 
   bit-value : (b : WordBit) → IsThere (widths old.nodes) b → result (bit_tree b (widths new.nodes)) ≡ bit b ∷ []
-  bit-value b h = own-value new later.valid inputs t words b (there-kept old new later b h) ∙ ap (λ x. x ∷ []) (bit-kept old new later inputs t b h)
+  bit-value b h = own-value new later.valid inputs t words b (grown-there old new later.grown b h) ∙ ap (λ x. x ∷ []) (bit-kept old new later.grown inputs t b h)
 
   two-value : (op : Op) (x y : Tree) (v w : List Bool) → result x ≡ v → result y ≡ w → result (two op x y) ≡ combined op v w
   two-value op x y v w e f = ap (λ u. combined op u (result y)) e ∙ ap (combined op v) f

@@ -16,8 +16,12 @@ use Rattle.opgen_compress.specs.Adder.{Work}
 use Rattle.opgen_compress.specs.Recipe.{Column, State, reduced, under, is_none, pass, passes, height, falling, heights_below, fullest, lowered}
 use Rattle.opgen_heap.specs.Standing.{AllThere}
 use Rattle.opgen_compress.specs.Kept.{WorkThere, words_at}
-use Rattle.opgen_compress.proofs.Later.{Later, later-same, later-then, all_there-kept, columns_there-kept, ones-kept, columns_sum-kept, first_column, rest_columns}
-use Rattle.opgen_compress.proofs.Reduced.{Reduced, all-reduced, reduced-length, words-later}
+use Rattle.opgen_net.proofs.Later.{Later, later-same, later-then, words-later}
+use Rattle.opgen_heap.proofs.Kept.{ones-kept, columns_sum-kept}
+use Rattle.opgen_net.proofs.Grown.{grown-all_there}
+use Rattle.opgen_heap.proofs.Standing.{columns-still_there}
+use Rattle.opgen_compress.proofs.Firsts.{first_column, rest_columns}
+use Rattle.opgen_compress.proofs.Reduced.{Reduced, all-reduced, reduced-length}
 use Rattle.opgen_compress.proofs.Heights.{less, height-above}
 
 pub record Passed (net : Net) (carries : Column) (columns : List Column) (s : State) : Type 0 where
@@ -61,10 +65,10 @@ passed h net carries (column ∷ columns) v g a =
     all-reduced (length (column ++ carries) - h) (is_none columns) begin v (start-there net (column ++ carries) (with_carries net column carries columns a g)) in
     let s : State = pass h w.net w.carries columns in
     let others : AllThere net columns = rest_columns P column columns a in
-    let ih : Passed w.net w.carries columns s = passed h w.net w.carries columns r.later.valid r.there.carries (columns_there-kept net w.net r.later columns others) in
+    let ih : Passed w.net w.carries columns s = passed h w.net w.carries columns r.later.valid r.there.carries (columns-still_there net w.net r.later.grown columns others) in
     record {
       later = later-then net w.net s.net r.later ih.later;
-      there = All-cons (All (IsThere (widths s.net.nodes))) w.column s.columns (all_there-kept w.net s.net ih.later w.column r.there.column) ih.there;
+      there = All-cons (All (IsThere (widths s.net.nodes))) w.column s.columns (grown-all_there w.net s.net ih.later.grown w.column r.there.column) ih.there;
       many = ap suc ih.many;
       sum = λ inputs t words.
           let words_w = words-later net w.net r.later inputs words in
@@ -80,8 +84,8 @@ passed h net carries (column ∷ columns) v g a =
               z.1,
               double,
               ones-append (words_at net.nodes inputs t) column carries,
-              ones-kept w.net s.net ih.later inputs t w.column r.there.column,
-              columns_sum-kept net w.net r.later inputs t columns others,
+              ones-kept w.net s.net ih.later.grown inputs t w.column r.there.column,
+              columns_sum-kept net w.net r.later.grown inputs t columns others,
             ),
           );
     }
@@ -128,7 +132,7 @@ pub others-there : (h : ℕ) (net : Net) (queue : Column) (columns : List Column
     → AllThere net columns → reduced (length queue - h) top (start net queue) ≡ w → AllThere w.net columns
 others-there h net queue columns top w v a b e =
     let r : Reduced top (start net queue) (reduced (length queue - h) top (start net queue)) = all-reduced (length queue - h) top (start net queue) v (start-there net queue a) in
-    subst (λ (u : Work). AllThere u.net columns) e (columns_there-kept net (reduced (length queue - h) top (start net queue)).net r.later columns b)
+    subst (λ (u : Work). AllThere u.net columns) e (columns-still_there net (reduced (length queue - h) top (start net queue)).net r.later.grown columns b)
 
 -- how high the columns are
 

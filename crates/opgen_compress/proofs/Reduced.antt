@@ -20,7 +20,10 @@ use Rattle.opgen_net.proofs.Appending.{flow-append_last, width-append_last}
 use Rattle.opgen_compress.specs.Adder.{Work, half_sum, half_carry, full_sum, full_carry, with_logic, next_bit, with_adder, full_adder, half_adder}
 use Rattle.opgen_compress.specs.Recipe.{reduced}
 use Rattle.opgen_compress.specs.Kept.{WorkThere, words_at}
-use Rattle.opgen_compress.proofs.Later.{Later, later-same, later-then, later-node, there-kept, all_there-kept, ones-kept, bit-kept, first_of, rest_of}
+use Rattle.opgen_net.proofs.Later.{Later, later-same, later-then, later-node, words-later}
+use Rattle.opgen_heap.proofs.Kept.{ones-kept, bit-kept}
+use Rattle.opgen_net.proofs.Grown.{grown-there, grown-all_there}
+use Rattle.opgen_compress.proofs.Firsts.{first_of, rest_of}
 use Rattle.opgen_compress.proofs.Operands.{scope_at, half_sum-fits, half_carry-fits, full_sum-fits, full_carry-fits, half_sum-value, half_carry-value, full_sum-value, full_carry-value, digits-two, digits-three}
 
 -- the number of a column in work: its bits, and its carries at twice the weight
@@ -38,9 +41,6 @@ reduced-same : (top : Bool) (w : Work) → IsValid w.net → WorkThere w → Red
 reduced-same top w v h = record { later = later-same w.net v; there = h; sum = λ inputs t words. (0, omega arith, λ e. refl) }
 
 -- inputs of the widths of a net's ports, in the net when it has grown
-pub words-later : (old new : Net) → Later old new → (inputs : Inputs) → All (AreWords (input_widths old)) inputs → All (AreWords (input_widths new)) inputs
-words-later old new l inputs h = subst (λ (is : List (List ℕ × ℕ)). All (AreWords (map (λ i. i.1) is)) inputs) (sym l.grown.inputs) h
-
 reduced-then : (top : Bool) (w v u : Work) → Reduced top w v → Reduced top v u → Reduced top w u
 reduced-then top w v u a b = record {
   later = later-then w.net v.net u.net a.later b.later;
@@ -88,7 +88,7 @@ full-still_there net one column a b c rest v h e is =
     let P = IsThere (widths net.nodes) in
     let front = front-three P a b c rest (subst (All P) e h) in
     let later = logic-later net (full_sum a b c) v (full_sum-fits (widths net.nodes) a b c front) in
-    subst (λ (n : Net). All (IsThere (widths n.nodes)) (a ∷ b ∷ c ∷ [])) (sym is) (all_there-kept net (with_logic net (full_sum a b c)) later (a ∷ b ∷ c ∷ []) front)
+    subst (λ (n : Net). All (IsThere (widths n.nodes)) (a ∷ b ∷ c ∷ [])) (sym is) (grown-all_there net (with_logic net (full_sum a b c)) later.grown (a ∷ b ∷ c ∷ []) front)
 
 pub half-still_there : (net one : Net) (column : List WordBit) (a b : WordBit) (rest : List WordBit) → IsValid net → All (IsThere (widths net.nodes)) column
     → column ≡ a ∷ b ∷ rest → one ≡ with_logic net (half_sum a b) → All (IsThere (widths one.nodes)) (a ∷ b ∷ [])
@@ -96,7 +96,7 @@ half-still_there net one column a b rest v h e is =
     let P = IsThere (widths net.nodes) in
     let front = front-two P a b rest (subst (All P) e h) in
     let later = logic-later net (half_sum a b) v (half_sum-fits (widths net.nodes) a b front) in
-    subst (λ (n : Net). All (IsThere (widths n.nodes)) (a ∷ b ∷ [])) (sym is) (all_there-kept net (with_logic net (half_sum a b)) later (a ∷ b ∷ []) front)
+    subst (λ (n : Net). All (IsThere (widths n.nodes)) (a ∷ b ∷ [])) (sym is) (grown-all_there net (with_logic net (half_sum a b)) later.grown (a ∷ b ∷ []) front)
 
 -- an adder of bits that were taken from the front of a column
 module _ (net : Net) (valid : IsValid net) (sum carry : List ℕ → Tree) (taken rest carries : List WordBit)
@@ -131,8 +131,8 @@ module _ (net : Net) (valid : IsValid net) (sum carry : List ℕ → Tree) (take
   adder-reduced true = record {
     later = to_one;
     there = record {
-      column = push-there (widths one.nodes) rest (next_bit net) (all_there-kept net one to_one rest rest_there) (next-there net sum);
-      carries = all_there-kept net one to_one carries carries_there;
+      column = push-there (widths one.nodes) rest (next_bit net) (grown-all_there net one to_one.grown rest rest_there) (next-there net sum);
+      carries = grown-all_there net one to_one.grown carries carries_there;
     };
     sum = λ inputs t words.
         let before = words_at net.nodes inputs t in
@@ -142,8 +142,8 @@ module _ (net : Net) (valid : IsValid net) (sum carry : List ℕ → Tree) (take
             arith,
             adds before,
             ones-push after rest (next_bit net),
-            ones-kept net one to_one inputs t rest rest_there,
-            ones-kept net one to_one inputs t carries carries_there,
+            ones-kept net one to_one.grown inputs t rest rest_there,
+            ones-kept net one to_one.grown inputs t carries carries_there,
             ap digit (next-value net sum inputs t (x before) (is_sum inputs t words)),
             ones-append before taken rest,
           ),
@@ -153,8 +153,8 @@ module _ (net : Net) (valid : IsValid net) (sum carry : List ℕ → Tree) (take
   adder-reduced false = record {
     later = to_two;
     there = record {
-      column = push-there (widths two.nodes) rest (next_bit net) (all_there-kept net two to_two rest rest_there) (there-kept one two one_to_two (next_bit net) (next-there net sum));
-      carries = push-there (widths two.nodes) carries (next_bit one) (all_there-kept net two to_two carries carries_there) (next-there one carry);
+      column = push-there (widths two.nodes) rest (next_bit net) (grown-all_there net two to_two.grown rest rest_there) (grown-there one two one_to_two.grown (next_bit net) (next-there net sum));
+      carries = push-there (widths two.nodes) carries (next_bit one) (grown-all_there net two to_two.grown carries carries_there) (next-there one carry);
     };
     sum = λ inputs t words.
         let before = words_at net.nodes inputs t in
@@ -165,9 +165,9 @@ module _ (net : Net) (valid : IsValid net) (sum carry : List ℕ → Tree) (take
             adds before,
             ones-push after rest (next_bit net),
             ones-push after carries (next_bit one),
-            ones-kept net two to_two inputs t rest rest_there,
-            ones-kept net two to_two inputs t carries carries_there,
-            ap digit (bit-kept one two one_to_two inputs t (next_bit net) (next-there net sum)),
+            ones-kept net two to_two.grown inputs t rest rest_there,
+            ones-kept net two to_two.grown inputs t carries carries_there,
+            ap digit (bit-kept one two one_to_two.grown inputs t (next_bit net) (next-there net sum)),
             ap digit (next-value net sum inputs t (x before) (is_sum inputs t words)),
             ap digit (next-value one carry inputs t (y before) (is_carry inputs t words)),
             ones-append before taken rest,
@@ -193,7 +193,7 @@ module _ (top : Bool) (net : Net) (valid : IsValid net) (carries : List WordBit)
       let one = with_logic net (full_sum a b c) in
       let later : Later net one = logic-later net (full_sum a b c) valid fits in
       adder-reduced net valid (full_sum a b c) (full_carry a b c) (a ∷ b ∷ c ∷ []) rest carries fits
-      (full_carry-fits (widths one.nodes) a b c (all_there-kept net one later (a ∷ b ∷ c ∷ []) h))
+      (full_carry-fits (widths one.nodes) a b c (grown-all_there net one later.grown (a ∷ b ∷ c ∷ []) h))
       (λ words. xor (xor (bit_under words a) (bit_under words b)) (bit_under words c))
       (λ words. ((bit_under words a && bit_under words b) || (bit_under words a && bit_under words c)) || (bit_under words b && bit_under words c))
       (λ inputs t words. full_sum-value net net same inputs t words a b c h)
@@ -208,7 +208,7 @@ module _ (top : Bool) (net : Net) (valid : IsValid net) (carries : List WordBit)
       let one = with_logic net (half_sum a b) in
       let later : Later net one = logic-later net (half_sum a b) valid fits in
       adder-reduced net valid (half_sum a b) (half_carry a b) (a ∷ b ∷ []) rest carries fits
-      (half_carry-fits (widths one.nodes) a b (all_there-kept net one later (a ∷ b ∷ []) h))
+      (half_carry-fits (widths one.nodes) a b (grown-all_there net one later.grown (a ∷ b ∷ []) h))
       (λ words. xor (bit_under words a) (bit_under words b))
       (λ words. bit_under words a && bit_under words b)
       (λ inputs t words. half_sum-value net net same inputs t words a b h)

@@ -20,9 +20,11 @@ use Rattle.opgen_net.proofs.FlowWidths.{flow-width}
 use Rattle.opgen_net.proofs.Grown.{grown-flow, grown-width, grown-all_there}
 use Rattle.opgen_digits.specs.Bits.{number_at}
 use Rattle.opgen_digits.specs.Digit.{Known, difference_of, is_not_negative, lowest, with_difference, with_digit, digit_place, with_choice, with_next, tried, AreOperands, HasDigit}
-use Rattle.opgen_digits.proofs.Bits.{length-node_bits, node_bits-there, at-push, at-node_bits, number-kept}
+use Rattle.opgen_net.proofs.BitLists.{length-bits_from, bits_from-there}
+use Rattle.opgen_digits.proofs.Bits.{at-push, at-node, number-kept}
 use Rattle.opgen_digits.proofs.Differences.{sign, restored}
-use Rattle.opgen_digits.proofs.Nodes.{Later, later-then, later-node, node_there, difference-fits, not_negative-fits}
+use Rattle.opgen_net.proofs.Later.{Later, later-then, later-node, node_there}
+use Rattle.opgen_digits.proofs.Expressions.{difference-fits, not_negative-fits}
 
 module _ (rest : ℕ) (net : Net) (a b : ℕ) (valid : IsValid net) (are : AreOperands rest net a b) where
   abbrev one : Net
@@ -114,8 +116,8 @@ module _ (rest : ℕ) (net : Net) (a b : ℕ) (valid : IsValid net) (are : AreOp
   all-tried true digits h = record {
     later = three-later;
     digits_there = grown-all_there two three three-after.grown (with_next rest net a b digits) (stand digits h);
-    rest_there = node_bits-there (widths three.nodes) r rest (omega (arith, rest-width));
-    rest_length = λ _. length-node_bits r rest;
+    rest_there = bits_from-there (widths three.nodes) r 0 rest (omega (arith, rest-width));
+    rest_length = λ _. length-bits_from r 0 rest;
   }
   all-tried false digits h = record {
     later = two-later;
@@ -181,7 +183,7 @@ module _ (rest : ℕ) (net : Net) (a b : ℕ) (valid : IsValid net) (are : AreOp
             (stand digits h)
             ∙ two-digits digits h;
         left = λ _.
-            at-node_bits three.nodes inputs t r rest (flow-width three three-later.valid inputs words r t ∙ rest-width)
+            at-node three.nodes inputs t r rest (flow-width three three-later.valid inputs words r t ∙ rest-width)
             ∙ ap nat rest-flow
             ∙ restored (rest + 1) x y wide_x wide_y low_a low_b rest are.some;
       }

@@ -1,6 +1,6 @@
 pub mod Differences
 pub mod Bits
-pub mod Nodes
+pub mod Expressions
 pub mod Digit
 pub mod Outputs
 pub mod Results

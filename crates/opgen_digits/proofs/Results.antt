@@ -15,7 +15,7 @@ use Rattle.opgen_digits.specs.Bits.{number_at, with_bits, whole, with_output}
 use Rattle.opgen_digits.specs.Digit.{Known}
 use Rattle.opgen_digits.specs.Results.{AreResults, with_results}
 use Rattle.opgen_digits.proofs.Bits.{number-kept}
-use Rattle.opgen_digits.proofs.Nodes.{node_there}
+use Rattle.opgen_net.proofs.Later.{node_there}
 use Rattle.opgen_digits.proofs.Outputs.{whole-width, made-width, output-valid, output-keeps, output-count, output-there, output-number}
 
 abbrev pub shown : Output → List ℕ × ℕ

@@ -1,18 +1,12 @@
 -- Numbers whose bits are bits of a net's nodes, given from the highest down.
-use Rattle.std.specs.Prelude.{ℕ, zero, suc, ◌-◌, ℤ, List, [], ◌∷◌, ◌++◌, length}
+use Rattle.std.specs.Prelude.{ℕ, ◌-◌, ℤ, List, [], ◌∷◌, ◌++◌, length}
 use Rattle.opgen_num.specs.Words.{nat}
 use Rattle.opgen_design.specs.declared.expr.Slice.{Slice}
 use Rattle.opgen_net.specs.declared.net.Net.{Net}
 use Rattle.opgen_net.specs.declared.node.Node.{Node}
 use Rattle.opgen_net.specs.declared.word_bits.WordBit.{WordBit}
-use Rattle.opgen_net.specs.declared.word_bits.WordBit.TheVariants.{Of}
 use Rattle.opgen_net.specs.Flow.{Inputs}
 use Rattle.opgen_net.specs.WordRule.{word_flow, with_word}
-
--- the lowest bits of a node, so many of them
-abbrev pub node_bits : (node count : ℕ) → List WordBit
-node_bits node zero = []
-node_bits node (suc k) = Of node k ∷ node_bits node k
 
 -- the number that bits stand for at a time
 abbrev pub number_at : List Node → Inputs → ℤ → List WordBit → ℕ

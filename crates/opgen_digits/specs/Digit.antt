@@ -15,9 +15,9 @@ use Rattle.opgen_net.specs.declared.node.Node.TheVariants as node
 use Rattle.opgen_net.specs.declared.word_bits.WordBit.{WordBit}
 use Rattle.opgen_net.specs.declared.word_bits.WordBit.TheVariants.{Of}
 use Rattle.opgen_net.specs.Flow.{Inputs, flow}
-use Rattle.opgen_net.specs.WordRule.{IsThere}
+use Rattle.opgen_net.specs.WordRule.{IsThere, bits_from}
 use Rattle.opgen_net.specs.Valid.{IsValid, input_widths, widths}
-use Rattle.opgen_digits.specs.Bits.{node_bits, number_at}
+use Rattle.opgen_digits.specs.Bits.{number_at}
 
 -- a net, the digits that are known, and the bits of what is left, from the highest; there are none where they are not made
 pub record Known : Type 0 where
@@ -62,7 +62,7 @@ abbrev pub tried : (keep : Bool) → (rest : ℕ) → Net → (a b : ℕ) → Li
 tried true rest net a b digits = record {
   net = with_choice rest net a b;
   digits = with_next rest net a b digits;
-  rest = node_bits (length (with_digit rest net a b).nodes) rest;
+  rest = bits_from (length (with_digit rest net a b).nodes) 0 rest;
 }
 tried false rest net a b digits = record { net = with_digit rest net a b; digits = with_next rest net a b digits; rest = [] }
 

@@ -3,13 +3,13 @@
 //! Application-Specific Arithmetic).
 #![tactic(auto)]
 
-ghost use Rattle.std.specs.Prelude.{◌≡◌, ◌+◌, ◌≤◌, ℤ, [], ◌∷◌, ◌++◌, All, IfOk, OnOk, length, replicate, slice_index};
+ghost use Rattle.std.specs.Prelude.{◌≡◌, ◌+◌, ◌≤◌, ℤ, [], ◌∷◌, ◌++◌, All, IfOk, OnOk, length, slice_index};
 ghost use Rattle.opgen_num.specs.declared.TheConstants.{MAX_WIDTH};
 ghost use Rattle.opgen_design.specs.Plain.{plain};
-ghost use Rattle.opgen_net.specs.declared.word_bits.WordBit.TheVariants.{Zero, Of};
+ghost use Rattle.opgen_net.specs.declared.word_bits.WordBit.TheVariants.{Of};
 ghost use Rattle.opgen_net.specs.Valid.{IsValid, widths};
 ghost use Rattle.opgen_net.specs.WordRule.{IsThere};
-ghost use Rattle.opgen_digits.specs.Bits.{node_bits as node_bits_of, with_output};
+ghost use Rattle.opgen_digits.specs.Bits.{with_output};
 ghost use Rattle.opgen_design.specs.Width.{IsWidth};
 ghost use Rattle.opgen_digits.specs.Results.{AreResults, with_results};
 ghost use Rattle.opgen_digits.specs.Digit.{AreOperands, difference_of, is_not_negative, lowest as lowest_of, tried};
@@ -18,7 +18,7 @@ mod laws;
 
 pub use laws::digits_are_right;
 use opgen_list::Items;
-use opgen_net::{Class, Expr, Net, Op, Slice, WordBit};
+use opgen_net::{Class, Expr, Net, Op, Slice, WordBit, push_bits};
 use opgen_num::Memory;
 use std::alloc::{AllocError, Global};
 
@@ -27,28 +27,6 @@ use std::alloc::{AllocError, Global};
 pub struct Digits {
     pub known: Items<WordBit>,
     pub rest: Items<WordBit>,
-}
-
-/// Appends the lowest bits of a node, so many of them, from the highest down.
-pub fn push_bits(bits: &mut Items<WordBit>, node: usize, count: u32) -> Result<(), AllocError>
-    ensures { OnOk result (bits.new ≡ bits.old ++ node_bits_of node count) }
-{
-    let mut left = count;
-    'bits: while left > 0 {
-        left -= 1;
-        bits.push(WordBit::Of { node, index: left })?;
-    }
-    Ok(())
-}
-
-/// Appends so many zeros.
-pub fn push_zeros(bits: &mut Items<WordBit>, count: u32) -> Result<(), AllocError>
-    ensures { OnOk result (bits.new ≡ bits.old ++ replicate count Zero) }
-{
-    'zeros: for k in 0..count {
-        bits.push(WordBit::Zero)?;
-    }
-    Ok(())
 }
 
 /// Appends further bits.
@@ -123,7 +101,7 @@ pub fn try_digit(
     digits.rest = Items::new(alloc);
     if keep {
         let left = net.choice(digit, lowest(difference, rest), lowest(a, rest))?;
-        push_bits(&mut digits.rest, left, rest)?;
+        push_bits(&mut digits.rest, left, 0, rest)?;
     }
     Ok(())
 }

@@ -18,16 +18,17 @@ use Rattle.opgen_net.specs.declared.word_bits.WordBit.TheVariants.{Zero, Of}
 use Rattle.opgen_net.specs.Flow.{Inputs, flow}
 use Rattle.opgen_net.specs.Grown.{HasGrown}
 use Rattle.opgen_net.specs.Valid.{widths, input_widths, IsValid}
-use Rattle.opgen_net.specs.WordRule.{IsThere, bit_flow}
+use Rattle.opgen_net.specs.WordRule.{IsThere, bit_flow, bits_from}
 use Rattle.opgen_net.proofs.FlowWidths.{flow-width}
 use Rattle.opgen_net.proofs.Grown.{grown-same, grown-flow, grown-width, grown-all_there, grown-then}
 use Rattle.opgen_operator.specs.declared.spec.Pair.{Pair}
 use Rattle.opgen_operator.specs.Outputs.{places_up, pair_shift}
-use Rattle.opgen_digits.specs.Bits.{node_bits, number_at, with_bits}
+use Rattle.opgen_digits.specs.Bits.{number_at, with_bits}
 use Rattle.opgen_digits.specs.Digit.{Known, with_difference, tried, left_of, AreOperands, HasDigit}
-use Rattle.opgen_digits.proofs.Bits.{length-node_bits, node_bits-there, zeros-there, at-below, at-push, at-zero, at-zeros, at-node_bits, bit-kept, number-kept}
+use Rattle.opgen_net.proofs.BitLists.{length-bits_from, bits_from-there, zeros-there, bit-kept}
+use Rattle.opgen_digits.proofs.Bits.{at-below, at-push, at-zero, at-zeros, at-node, number-kept}
 use Rattle.opgen_digits.proofs.Digit.{Tried, all-tried, has_digit}
-use Rattle.opgen_digits.proofs.Nodes.{Later, later-same, later-then, node_there, words-later}
+use Rattle.opgen_net.proofs.Later.{Later, later-same, later-then, node_there, words-later}
 use Rattle.opgen_digits.proofs.Outputs.{made-later, made-width, made-number}
 use Rattle.opgen_divide.specs.Recipe.{with_inputs, numerator, digit_count, with_divisor, minuend, stepped, keeps, after}
 use Rattle.opgen_divide.specs.Steps.{IsDivided}
@@ -82,10 +83,10 @@ module _ (p : Pair) (have : HasWidths p) where
   }
 
   abbrev bits : List WordBit
-  bits = Zero ∷ Zero ∷ node_bits 1 w
+  bits = Zero ∷ Zero ∷ bits_from 1 0 w
 
   bits-length : length bits ≡ w + 2
-  bits-length = omega (arith, length-node_bits 1 w)
+  bits-length = omega (arith, length-bits_from 1 0 w)
 
   pub bits-wide : IsWidth (length bits)
   bits-wide = (omega arith, omega (arith, bits-length, have.few_b))
@@ -93,8 +94,8 @@ module _ (p : Pair) (have : HasWidths p) where
   pub bits-there : All (IsThere (widths base.nodes)) bits
   bits-there =
       let P = IsThere (widths base.nodes) in
-      let low = node_bits-there (widths base.nodes) 1 w (omega arith) in
-      All-cons P Zero (Zero ∷ node_bits 1 w) tt (All-cons P Zero (node_bits 1 w) tt low)
+      let low = bits_from-there (widths base.nodes) 1 0 w (omega arith) in
+      All-cons P Zero (Zero ∷ bits_from 1 0 w) tt (All-cons P Zero (bits_from 1 0 w) tt low)
 
   abbrev first : Net
   first = (with_divisor p).net
@@ -115,22 +116,22 @@ module _ (p : Pair) (have : HasWidths p) where
   divisor-number : (inputs : Inputs) (t : ℤ) → AreFor base inputs → nat (flow first.nodes inputs place t) ≡ divisor_at inputs t
   divisor-number inputs t words =
       made-number base inputs-valid bits bits-wide bits-there inputs t words
-      ∙ at-zero base.nodes inputs t (Zero ∷ node_bits 1 w)
-      ∙ at-zero base.nodes inputs t (node_bits 1 w)
-      ∙ at-node_bits base.nodes inputs t 1 w (flow-width base inputs-valid inputs words 1 t)
+      ∙ at-zero base.nodes inputs t (Zero ∷ bits_from 1 0 w)
+      ∙ at-zero base.nodes inputs t (bits_from 1 0 w)
+      ∙ at-node base.nodes inputs t 1 w (flow-width base inputs-valid inputs words 1 t)
 
   -- the numerator
 
   pub numerator-length : length (numerator p) ≡ digit_count p
   numerator-length =
       let s = places_up (pair_shift p) in
-      omega (arith, length-append (node_bits 0 p.a.width) (replicate s Zero), length-node_bits 0 p.a.width, length-replicate s Zero)
+      omega (arith, length-append (bits_from 0 0 p.a.width) (replicate s Zero), length-bits_from 0 0 p.a.width, length-replicate s Zero)
 
   pub numerator-there : All (IsThere (widths base.nodes)) (numerator p)
   numerator-there =
       let s = places_up (pair_shift p) in
       let ws = widths base.nodes in
-      All-append (IsThere ws) (node_bits 0 p.a.width) (replicate s Zero) (node_bits-there ws 0 p.a.width (omega arith)) (zeros-there ws s)
+      All-append (IsThere ws) (bits_from 0 0 p.a.width) (replicate s Zero) (bits_from-there ws 0 0 p.a.width (omega arith)) (zeros-there ws s)
 
   -- what is left after a step that is not the last is kept
   pub keeps-before : (k : ℕ) → k < digit_count p → keeps p k ≡ true

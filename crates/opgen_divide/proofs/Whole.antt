@@ -17,7 +17,7 @@ use Rattle.opgen_net.specs.declared.word_bits.WordBit.{WordBit}
 use Rattle.opgen_net.specs.declared.word_bits.WordBit.TheVariants.{Zero}
 use Rattle.opgen_net.specs.Flow.{Inputs, flow, input_at, KeepsFlow}
 use Rattle.opgen_net.specs.Valid.{widths}
-use Rattle.opgen_net.specs.WordRule.{IsThere}
+use Rattle.opgen_net.specs.WordRule.{IsThere, bits_from}
 use Rattle.opgen_net.proofs.FlowWidths.{flow-width}
 use Rattle.opgen_net.proofs.Grown.{flow-then, grown-flow, grown-count}
 use Rattle.opgen_operator.specs.declared.spec.Operator.TheVariants.{Divide}
@@ -32,11 +32,11 @@ use Rattle.opgen_operator.specs.Ports.{operator_inputs, quotient_ports}
 use Rattle.opgen_operator.specs.Ranges.{IsPair}
 use Rattle.opgen_operator.specs.Valid.{AgreesOnExact}
 use Rattle.opgen_operator.proofs.Accepted.{accepted_ranges, accepted_width}
-use Rattle.opgen_digits.specs.Bits.{node_bits, number_at}
+use Rattle.opgen_digits.specs.Bits.{number_at}
 use Rattle.opgen_digits.specs.Digit.{Known}
 use Rattle.opgen_digits.specs.Results.{AreResults, with_results}
-use Rattle.opgen_digits.proofs.Bits.{at-append, at-zeros, at-node_bits, number-kept}
-use Rattle.opgen_digits.proofs.Nodes.{Later, words-later}
+use Rattle.opgen_digits.proofs.Bits.{at-append, at-zeros, at-node, number-kept}
+use Rattle.opgen_net.proofs.Later.{Later, words-later}
 use Rattle.opgen_digits.proofs.Results.{result_ports, result_words, results-inputs, results-valid, results-keep, results-shown, results-digits, results-rest}
 use Rattle.opgen_divide.specs.Recipe.{numerator, digit_count, keeps, after, net_of_pair}
 use Rattle.opgen_divide.specs.Steps.{IsDivided, HoldsAfterEachStep}
@@ -155,12 +155,12 @@ module _ (p : Pair) (have : HasWidths p) where
   numerator-number inputs t words =
       let nodes = (base p have).nodes in
       let s = places_up (pair_shift p) in
-      let high = node_bits 0 p.a.width in
+      let high = bits_from 0 0 p.a.width in
       let zeros : List WordBit = replicate s Zero in
       let all : take count (numerator p) ≡ numerator p =
       ap (λ m. take m (numerator p)) (sym (numerator-length p have)) ∙ take-length (numerator p) in
       let wide : length (flow nodes inputs 0 t) ≡ p.a.width = flow-width (base p have) (inputs-valid p have) inputs words 0 t in
-      let a : number_at nodes inputs t high ≡ dividend_at inputs t = at-node_bits nodes inputs t 0 p.a.width wide in
+      let a : number_at nodes inputs t high ≡ dividend_at inputs t = at-node nodes inputs t 0 p.a.width wide in
       let long : 2 ^ length zeros * number_at nodes inputs t high ≡ 2 ^ s * dividend_at inputs t =
       ap (λ m. 2 ^ m * number_at nodes inputs t high) (length-replicate s Zero) ∙ ap (λ m. 2 ^ s * m) a in
       ap (number_at nodes inputs t) all ∙ at-append nodes inputs t high zeros ∙ omega (arith, at-zeros nodes inputs t s, long)

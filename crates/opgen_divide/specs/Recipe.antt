@@ -4,9 +4,10 @@ use Rattle.opgen_net.specs.declared.net.Net.{Net}
 use Rattle.opgen_net.specs.declared.node.Node.TheVariants.{Input}
 use Rattle.opgen_net.specs.declared.word_bits.WordBit.{WordBit}
 use Rattle.opgen_net.specs.declared.word_bits.WordBit.TheVariants.{Zero}
+use Rattle.opgen_net.specs.WordRule.{bits_from}
 use Rattle.opgen_operator.specs.declared.spec.Pair.{Pair}
 use Rattle.opgen_operator.specs.Outputs.{places_up, pair_shift}
-use Rattle.opgen_digits.specs.Bits.{Placed, node_bits, with_bits}
+use Rattle.opgen_digits.specs.Bits.{Placed, with_bits}
 use Rattle.opgen_digits.specs.Digit.{Known, tried}
 use Rattle.opgen_digits.specs.Results.{with_results}
 
@@ -20,14 +21,14 @@ with_inputs p = record {
 
 -- the numerator: the dividend, with as many zeros below it as it is shifted up
 abbrev pub numerator : Pair → List WordBit
-numerator p = node_bits 0 p.a.width ++ replicate (places_up (pair_shift p)) Zero
+numerator p = bits_from 0 0 p.a.width ++ replicate (places_up (pair_shift p)) Zero
 
 abbrev pub digit_count : Pair → ℕ
 digit_count p = p.a.width + places_up (pair_shift p)
 
 -- the divisor with two zeros above it
 abbrev pub with_divisor : Pair → Placed
-with_divisor p = with_bits (with_inputs p) (Zero ∷ Zero ∷ node_bits 1 p.b.width)
+with_divisor p = with_bits (with_inputs p) (Zero ∷ Zero ∷ bits_from 1 0 p.b.width)
 
 -- A step: what is left, the next bit of the numerator below it and a zero above it, less the divisor.
 abbrev pub minuend : Known → WordBit → List WordBit

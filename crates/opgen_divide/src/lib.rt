@@ -18,9 +18,9 @@ ghost use Rattle.opgen_divide.specs.Steps.{HoldsAfterEachStep};
 #[cfg(test)]
 mod tests;
 
-use opgen_digits::{Digits, output_results, push_all, push_bits, push_zeros, try_digit};
+use opgen_digits::{Digits, output_results, push_all, try_digit};
 use opgen_list::Items;
-use opgen_net::{Net, WordBit};
+use opgen_net::{Net, WordBit, push_bits, push_zeros};
 use opgen_num::Memory;
 use opgen_operator::Pair;
 use std::alloc::{AllocError, Global};
@@ -43,7 +43,7 @@ fn numerator(alloc: Global, pair: &Pair) -> Result<Items<WordBit>, AllocError>
     ensures { IfOk result (λ bits. bits ≡ numerator_of pair.now) }
 {
     let mut bits = Items::new(alloc);
-    push_bits(&mut bits, 0, pair.a.width)?;
+    push_bits(&mut bits, 0, 0, pair.a.width)?;
     push_zeros(&mut bits, pair.shift() as u32)?;
     Ok(bits)
 }
@@ -59,7 +59,7 @@ fn divisor(alloc: Global, pair: &Pair, net: &mut Net) -> Result<usize, Memory>
 {
     let mut bits = Items::new(alloc);
     push_zeros(&mut bits, 2)?;
-    push_bits(&mut bits, 1, pair.b.width)?;
+    push_bits(&mut bits, 1, 0, pair.b.width)?;
     net.word(bits.as_slice())
 }
 

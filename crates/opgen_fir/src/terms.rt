@@ -80,6 +80,7 @@ pub(crate) fn add_terms(
     ensures net { OnOk result (net.new ≡ (with_terms sum.now (length sum.now.coefs)).net) }
     ensures heap { OnOk result (heap.new ≡ (with_terms sum.now (length sum.now.coefs)).heap) }
     ensures more { OnOk result (HasTermsMore (no_terms sum.now) (record { net = net.new; heap = heap.new })) }
+    ensures bits { OnOk result (AllThere net.new heap.new.columns) }
     ensures sum { OnOk result ((inputs : Inputs) (t : ℤ) → All (AreWords (input_widths net.old)) inputs → HasSum sum.now (recent sum.now inputs t) (length sum.now.coefs) heap.old.width (sum_at (record { net = net.new; heap = heap.new }) inputs t)) }
     ensures valid { IsValid net.new }
 {

@@ -3,3 +3,4 @@ pub mod Bits
 pub mod Sums
 mod Columns
 pub mod Standing
+pub mod Kept

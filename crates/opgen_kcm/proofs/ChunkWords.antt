@@ -9,29 +9,8 @@ use Rattle.std.proofs.lemmas.List.{length-drop, length-take-le, take_all, get_or
 use Rattle.opgen_num.specs.Words.{nat}
 use Rattle.opgen_num.specs.Values.{highest}
 use Rattle.opgen_num.proofs.Cuts.{nat-append, nat-parts}
-use Rattle.opgen_net.specs.declared.node.Node.{Node}
-use Rattle.opgen_net.specs.Flow.{Inputs, flow}
-use Rattle.opgen_net.specs.WordRule.{bit_flow, word_flow}
 use Rattle.opgen_kcm.proofs.Products.{product-difference}
-use Rattle.opgen_kcm.specs.Chunks.{chunk_count, chunk_at, number, chunk_word, digit_of, bits_from}
-
-pub length-bits_from : (node low count : ℕ) → length (bits_from node low count) ≡ count
-length-bits_from node low zero = refl
-length-bits_from node low (suc k) = ap suc (length-bits_from node low k)
-
-reverse-cons : {A : Type 0} (x : A) (xs : List A) → reverse (x ∷ xs) ≡ reverse xs ++ x ∷ []
-reverse-cons x xs = reverse-append (x ∷ []) xs
-
--- the word of so many bits of a node from a place up
-pub bits-flow : (nodes : List Node) (inputs : Inputs) (node : ℕ) (t : ℤ) (low count : ℕ) → low + count ≤ length (flow nodes inputs node t)
-    → word_flow nodes inputs (bits_from node low count) t ≡ take count (drop low (flow nodes inputs node t))
-bits-flow nodes inputs node t low zero h = refl
-bits-flow nodes inputs node t low (suc k) h =
-    let w = flow nodes inputs node t in
-    reverse-cons (slice_index_or w (low + k) false) (map (bit_flow nodes inputs t) (bits_from node low k))
-    ∙ ap (λ l. l ++ slice_index_or w (low + k) false ∷ []) (bits-flow nodes inputs node t low k (omega (arith, h)))
-    ∙ ap (λ b. take k (drop low w) ++ b ∷ []) (sym (get_or-drop low w k false))
-    ∙ sym (take-suc (drop low w) k false (omega (arith, h, length-drop low w)))
+use Rattle.opgen_kcm.specs.Chunks.{chunk_count, chunk_at, number, chunk_word, digit_of}
 
 naturals-product : (a b m : ℕ) → (pos a -ℤ pos b) *ℤ pos m ≡ pos (a * m) -ℤ pos (b * m)
 naturals-product a b m =

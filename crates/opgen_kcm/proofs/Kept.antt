@@ -4,110 +4,50 @@ use Rattle.std.specs.Prelude.{ℤ, pos, ◌+ℤ◌, ◌==◌, All, slice_index, 
 use Rattle.std.proofs.Math.Nat.{mod-add-mod}
 use Rattle.std.proofs.lemmas.Bool.{eqb-true}
 use Rattle.std.proofs.lemmas.Int.{ints}
-use Rattle.std.proofs.lemmas.List.{append-nil, length-drop, length-take-le, take_all}
-use Rattle.std.proofs.lemmas.List.Elements.{All-cons, All-nil}
+use Rattle.std.proofs.lemmas.List.{length-drop, length-take-le, take_all}
 use Rattle.std.proofs.lemmas.Nat.{pow_pos}
 use Rattle.opgen_num.specs.declared.format.Ratio.{Ratio}
-use Rattle.opgen_num.specs.Words.{digit, nat}
+use Rattle.opgen_num.specs.Words.{nat}
 use Rattle.opgen_num.proofs.Words.{nat-below}
 use Rattle.opgen_heap.specs.Adding.{residue, with_constant}
 use Rattle.opgen_heap.specs.Contents.{Contents}
 use Rattle.opgen_heap.specs.Standing.{AllThere}
-use Rattle.opgen_heap.specs.Sum.{bit_under, ones, columns_sum, heap_sum}
+use Rattle.opgen_heap.specs.Sum.{columns_sum}
 use Rattle.opgen_heap.proofs.Bits.{with_row-all}
+use Rattle.opgen_heap.proofs.Kept.{sum-kept}
 use Rattle.opgen_heap.proofs.Standing.{columns-still_there}
 use Rattle.opgen_heap.proofs.Sums.{with_row-width, with_row-sum, with_constant-sum}
-use Rattle.opgen_net.specs.declared.cell.Class.TheVariants.{Wire}
 use Rattle.opgen_net.specs.declared.net.Net.{Net}
-use Rattle.opgen_net.specs.declared.node.Node.{Node}
-use Rattle.opgen_net.specs.declared.node.Node.TheVariants.{Constant, Cells, Table}
-use Rattle.opgen_net.specs.declared.word_bits.WordBit.{WordBit}
-use Rattle.opgen_net.specs.declared.word_bits.WordBit.TheVariants.{Zero, One, Of}
-use Rattle.opgen_net.specs.declared.word_bits.Piece.{Piece}
-use Rattle.opgen_net.specs.declared.word_bits.Piece.TheVariants.{Bits, Part}
+use Rattle.opgen_net.specs.declared.node.Node.TheVariants.{Table}
 use Rattle.opgen_net.specs.Flow.{Inputs, flow}
 use Rattle.opgen_net.specs.Grown.{HasGrown}
-use Rattle.opgen_net.specs.Made.{slice_tree}
 use Rattle.opgen_net.specs.Valid.{IsValid, widths, input_widths}
-use Rattle.opgen_net.specs.WordRule.{IsThere, is_whole, word_tree, with_node, runs, with_runs, with_word}
+use Rattle.opgen_net.specs.WordRule.{IsThere, bits_from, with_word}
 use Rattle.opgen_net.proofs.Appending.{flow-append_last, width-append_last}
-use Rattle.opgen_net.proofs.FlowLaws.{index_within, length-widths}
 use Rattle.opgen_net.proofs.FlowWidths.{flow-width}
-use Rattle.opgen_net.proofs.Grown.{grown-same, grown-more, grown-then, grown-flow}
+use Rattle.opgen_net.proofs.BitLists.{bits_from-there, bits_from-flow}
+use Rattle.opgen_net.proofs.Grown.{grown-same, grown-more, grown-then}
+use Rattle.opgen_net.proofs.Later.{word-grown}
 use Rattle.opgen_net.proofs.WordLaws.{word-has_bits}
 use Rattle.opgen_design.specs.Run.{AreWords}
 use Rattle.opgen_kcm.specs.declared.chunk.Chunk.{Chunk}
-use Rattle.opgen_kcm.specs.Chunks.{chunk_word, digit_of, bits_from}
+use Rattle.opgen_kcm.specs.Chunks.{chunk_word, digit_of}
 use Rattle.opgen_kcm.specs.Entries.{entry, all_entries, least_of, offsets, greatest_of, shape_of, rows_in}
 use Rattle.opgen_kcm.specs.Recipe.{Terms, with_rows_in, with_table, with_entries, input_width, HasTermsMore}
 use Rattle.opgen_kcm.specs.Multiple.{sum_at}
-use Rattle.opgen_kcm.proofs.ChunkWords.{bits-flow}
 use Rattle.opgen_kcm.proofs.Entries.{length-entries, length-offsets, addressed-offset}
 use Rattle.opgen_kcm.proofs.Residues.{residue-add}
 use Rattle.opgen_kcm.proofs.Shapes.{fold-each, length-row, row-number}
 
-module _ (old new : Net) (grown : HasGrown old new) where
-  pub words-later : (inputs : Inputs) → All (AreWords (input_widths old)) inputs → All (AreWords (input_widths new)) inputs
-  words-later inputs h = subst (λ (is : List (List ℕ × ℕ)). All (AreWords (map (λ i. i.1) is)) inputs) (sym grown.inputs) h
-
-  module _ (inputs : Inputs) (t : ℤ) where
-    bit-kept : (b : WordBit) → IsThere (widths old.nodes) b
-        → bit_under (λ n. flow new.nodes inputs n t) b ≡ bit_under (λ n. flow old.nodes inputs n t) b
-    bit-kept Zero h = refl
-    bit-kept One h = refl
-    bit-kept (Of node index) h =
-        ap (λ w. slice_index_or w index false)
-        (grown-flow old new grown inputs node t (omega (arith, index_within (widths old.nodes) node index h, length-widths old.nodes)))
-
-    ones-kept : (bs : List WordBit) → All (IsThere (widths old.nodes)) bs
-        → ones (λ n. flow new.nodes inputs n t) bs ≡ ones (λ n. flow old.nodes inputs n t) bs
-    ones-kept [] h = refl
-    ones-kept (b ∷ bs) h =
-        omega (arith, ap digit (bit-kept b (h 0 b (omega arith))), ones-kept bs (λ k d l. h (suc k) d (omega (arith, l))))
-
-    columns_sum-kept : (cs : List (List WordBit)) → AllThere old cs
-        → columns_sum (λ n. flow new.nodes inputs n t) cs ≡ columns_sum (λ n. flow old.nodes inputs n t) cs
-    columns_sum-kept [] h = refl
-    columns_sum-kept (c ∷ cs) h =
-        omega (arith, ones-kept c (h 0 c (omega arith)), columns_sum-kept cs (λ k d l. h (suc k) d (omega (arith, l))))
-
-    pub sum-kept : (heap : Contents) → AllThere old heap.columns
-        → heap_sum (λ n. flow new.nodes inputs n t) heap ≡ heap_sum (λ n. flow old.nodes inputs n t) heap
-    sum-kept heap h = ap (λ s. (s + heap.constant) % 2 ^ heap.width) (columns_sum-kept heap.columns h)
-
--- what a word's runs leave are the nodes before, and further ones
-word-nodes : (ns : List Node) (count : ℕ) (rs : List Piece) → (more : List Node) × ((with_runs ns count rs).nodes ≡ ns ++ more)
-word-nodes ns count [] = (Cells Wire count (word_tree (widths ns) []) ∷ [], refl)
-word-nodes ns count (Bits w ∷ []) = (Constant w ∷ [], refl)
-word-nodes ns count (Part s ∷ []) =
-    elim (is_whole (widths ns) s) as (
-    λ c. (more : List Node) ×
-    ((if c then record { nodes = ns; place = s.node } else with_node ns (Cells Wire count (slice_tree (widths ns) s))).nodes ≡ ns ++ more)
-    ) [ true ↦ ([], sym (append-nil ns)) | false ↦ (Cells Wire count (slice_tree (widths ns) s) ∷ [], refl) ]
-word-nodes ns count (Bits w ∷ q ∷ rs) = (Cells Wire count (word_tree (widths ns) (Bits w ∷ q ∷ rs)) ∷ [], refl)
-word-nodes ns count (Part s ∷ q ∷ rs) = (Cells Wire count (word_tree (widths ns) (Part s ∷ q ∷ rs)) ∷ [], refl)
-
-word-grown : (net : Net) (bits : List WordBit) → HasGrown net (record net { nodes = (with_word net.nodes bits).nodes })
-word-grown net bits =
-    let w = word-nodes net.nodes (length bits) (runs bits) in
-    subst (HasGrown net) (sym (ap (λ ns. record net { nodes = ns }) w.1)) (grown-more net w.0)
-
--- the bits of a chunk are there
-pub bits-there : (ws : List ℕ) (node low count : ℕ) → low + count ≤ slice_index ws node → All (IsThere ws) (bits_from node low count)
-bits-there ws node low zero h = All-nil (IsThere ws)
-bits-there ws node low (suc k) h =
-    All-cons (IsThere ws) (Of node (low + k)) (bits_from node low k) (omega (arith, h)) (bits-there ws node low k (omega (arith, h)))
-
-module _ (old : Terms) (valid : IsValid old.net) (there : AllThere old.net old.heap.columns) (input : ℕ) (c : Chunk)
-    (within : c.low + c.width ≤ input_width old.net input) where
+module _ (old : Terms) (valid : IsValid old.net) (input : ℕ) (c : Chunk) (within : c.low + c.width ≤ input_width old.net input) where
   -- the word of a chunk
   chunk-flow : (inputs : Inputs) (t : ℤ) → All (AreWords (input_widths old.net)) inputs
       → flow (with_word old.net.nodes (bits_from input c.low c.width)).nodes inputs
       (with_word old.net.nodes (bits_from input c.low c.width)).place t ≡ chunk_word c (flow old.net.nodes inputs input t)
   chunk-flow inputs t words =
       word-has_bits old.net valid (bits_from input c.low c.width)
-      (bits-there (widths old.net.nodes) input c.low c.width within) inputs t words
-      ∙ bits-flow old.net.nodes inputs input t c.low c.width (omega (arith, flow-width old.net valid inputs words input t, within))
+      (bits_from-there (widths old.net.nodes) input c.low c.width within) inputs t words
+      ∙ bits_from-flow old.net.nodes inputs t input c.low c.width (omega (arith, flow-width old.net valid inputs words input t, within))
 
   pub chunk-length : (inputs : Inputs) (t : ℤ) → All (AreWords (input_widths old.net)) inputs
       → length (chunk_word c (flow old.net.nodes inputs input t)) ≡ c.width
@@ -141,15 +81,15 @@ module _ (old : Terms) (valid : IsValid old.net) (there : AllThere old.net old.h
         width-append_last address.nodes table ∙ length-row ns 0 (omega (arith, size, pow_pos c.width)) in
         record {
           net = rows-grown;
-          bits = with_row-all (IsThere (widths new.net.nodes)) old.heap (length address.nodes) s.width s.zeros
+          bits = λ there. with_row-all (IsThere (widths new.net.nodes)) old.heap (length address.nodes) s.width s.zeros
               (λ i h. omega (arith, h, wide)) (columns-still_there old.net new.net rows-grown old.heap.columns there);
           width = with_row-width old.heap (length address.nodes) s.width s.zeros;
         }
 
-    rows-sum : (inputs : Inputs) (t : ℤ) → All (AreWords (input_widths old.net)) inputs
+    rows-sum : AllThere old.net old.heap.columns → (inputs : Inputs) (t : ℤ) → All (AreWords (input_widths old.net)) inputs
         → sum_at (with_rows_in (shape_of ns) input c ns old) inputs t
         ≡ (sum_at old inputs t + get_or ns (nat (chunk_word c (flow old.net.nodes inputs input t))) 0) % 2 ^ old.heap.width
-    rows-sum inputs t words =
+    rows-sum there inputs t words =
         let new = with_rows_in (shape_of ns) input c ns old in
         let s = shape_of ns in
         let address = with_word old.net.nodes (bits_from input c.low c.width) in
@@ -174,13 +114,13 @@ module _ (old : Terms) (valid : IsValid old.net) (there : AllThere old.net old.h
     table-more = by (greatest_of ns == 0)
       where
         by : (b : Bool) → HasTermsMore old (if b then old else with_rows_in (shape_of ns) input c ns old)
-        by true = record { net = grown-same old.net; bits = there; width = refl }
+        by true = record { net = grown-same old.net; bits = λ there. there; width = refl }
         by false = rows-more
 
-    table-sum : (inputs : Inputs) (t : ℤ) → All (AreWords (input_widths old.net)) inputs
+    table-sum : AllThere old.net old.heap.columns → (inputs : Inputs) (t : ℤ) → All (AreWords (input_widths old.net)) inputs
         → sum_at (with_table input c ns old) inputs t
         ≡ (sum_at old inputs t + get_or ns (nat (chunk_word c (flow old.net.nodes inputs input t))) 0) % 2 ^ old.heap.width
-    table-sum inputs t words = by (greatest_of ns == 0) (eqb-true (greatest_of ns) 0)
+    table-sum there inputs t words = by (greatest_of ns == 0) (eqb-true (greatest_of ns) 0)
       where
         x : List Bool
         x = chunk_word c (flow old.net.nodes inputs input t)
@@ -193,23 +133,23 @@ module _ (old : Terms) (valid : IsValid old.net) (there : AllThere old.net old.h
             let zero_there : n ≡ 0 = omega (arith, none refl, fold-each 0 ns (nat x) (offset-there inputs t words)) in
             let total = columns_sum (λ k. flow old.net.nodes inputs k t) old.heap.columns + old.heap.constant in
             sym (mod-add-mod total (2 ^ old.heap.width) n ∙ ap (λ k. k % 2 ^ old.heap.width) (omega (arith, zero_there)))
-        by false none = rows-sum inputs t words
+        by false none = rows-sum there inputs t words
 
 -- the entries of a chunk: the least in the constant, and the others above it
-module _ (old : Terms) (valid : IsValid old.net) (there : AllThere old.net old.heap.columns) (input : ℕ) (c : Chunk)
-    (within : c.low + c.width ≤ input_width old.net input) (q : Ratio) where
+module _ (old : Terms) (valid : IsValid old.net) (input : ℕ) (c : Chunk) (within : c.low + c.width ≤ input_width old.net input)
+    (q : Ratio) where
   pub entries-more : HasTermsMore old (with_entries input c (all_entries q c) old)
   entries-more =
       let es = all_entries q c in
-      let m = table-more (record old { heap = with_constant old.heap (least_of es) }) valid there input c within (offsets es)
+      let m = table-more (record old { heap = with_constant old.heap (least_of es) }) valid input c within (offsets es)
       (length-offsets es ∙ length-entries q c (2 ^ c.width)) in
       record { net = m.net; bits = m.bits; width = m.width }
 
-  pub entries-sum : (inputs : Inputs) (t : ℤ) → All (AreWords (input_widths old.net)) inputs
+  pub entries-sum : AllThere old.net old.heap.columns → (inputs : Inputs) (t : ℤ) → All (AreWords (input_widths old.net)) inputs
       → sum_at (with_entries input c (all_entries q c) old) inputs t
       ≡ residue (pos (sum_at old inputs t) +ℤ entry q c (digit_of c (chunk_word c (flow old.net.nodes inputs input t))))
       (2 ^ old.heap.width)
-  entries-sum inputs t words =
+  entries-sum there inputs t words =
       let es = all_entries q c in
       let m = 2 ^ old.heap.width in
       let some = pow_pos old.heap.width in
@@ -218,8 +158,8 @@ module _ (old : Terms) (valid : IsValid old.net) (there : AllThere old.net old.h
       let offset = get_or (offsets es) (nat x) 0 in
       let before = sum_at old inputs t in
       let sum : (pos before +ℤ least_of es) +ℤ pos offset ≡ pos before +ℤ entry q c (digit_of c x) =
-      omega (arith, ints, addressed-offset q c x (chunk-length old valid there input c within inputs t words)) in
-      table-sum base valid there input c within (offsets es) (length-offsets es ∙ length-entries q c (2 ^ c.width)) inputs t words
+      omega (arith, ints, addressed-offset q c x (chunk-length old valid input c within inputs t words)) in
+      table-sum base valid input c within (offsets es) (length-offsets es ∙ length-entries q c (2 ^ c.width)) there inputs t words
       ∙ ap (λ n. (n + offset) % m) (with_constant-sum (λ n. flow old.net.nodes inputs n t) old.heap (least_of es) some)
       ∙ residue-add (pos before +ℤ least_of es) offset m some
       ∙ ap (λ z. residue z m) sum
@@ -233,10 +173,10 @@ terms-same a b e f =
     net ∙ ap (λ (h : Contents). record { net = b.net; heap = h }) f
 
 pub more-then : (a b c : Terms) → HasTermsMore a b → HasTermsMore b c → HasTermsMore a c
-more-then a b c p q = record { net = grown-then a.net b.net c.net p.net q.net; bits = q.bits; width = q.width ∙ p.width }
+more-then a b c p q = record { net = grown-then a.net b.net c.net p.net q.net; bits = λ there. q.bits (p.bits there); width = q.width ∙ p.width }
 
-pub more-same : (s : Terms) → AllThere s.net s.heap.columns → HasTermsMore s s
-more-same s there = record { net = grown-same s.net; bits = there; width = refl }
+pub more-same : (s : Terms) → HasTermsMore s s
+more-same s = record { net = grown-same s.net; bits = λ there. there; width = refl }
 
 -- the steps of a chunk
 pub chunk-added : (old now : Terms) (base : Contents) (input : ℕ) (c : Chunk) (q : Ratio) (ns : List ℕ) → ns ≡ offsets (all_entries q c)

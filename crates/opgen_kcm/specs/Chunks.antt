@@ -1,9 +1,7 @@
 -- An input as chunks of six bits, each of which addresses a table.
-use Rattle.std.specs.Prelude.{ℕ, zero, suc, ◌+◌, ◌-◌, ◌*◌, ◌&&◌, Bool, List, [], ◌∷◌, take, drop, min, nat_le, ℤ, pos}
+use Rattle.std.specs.Prelude.{ℕ, ◌-◌, ◌*◌, ◌&&◌, Bool, List, take, drop, min, nat_le, ℤ, pos}
 use Rattle.std.specs.Int.{div_ceil}
 use Rattle.opgen_num.specs.Values.{val}
-use Rattle.opgen_net.specs.declared.word_bits.WordBit.{WordBit}
-use Rattle.opgen_net.specs.declared.word_bits.WordBit.TheVariants.{Of}
 use Rattle.opgen_kcm.specs.declared.chunk.Chunk.{Chunk}
 
 abbrev pub chunk_count : (width : ℕ) → ℕ
@@ -28,8 +26,3 @@ chunk_word c input = take c.width (drop c.low input)
 -- the digit that the bits of a chunk stand for
 abbrev pub digit_of : Chunk → List Bool → ℤ
 digit_of c bits = number c.signed c.width bits
-
--- so many bits of a node from a place up, the highest first
-abbrev pub bits_from : (node low count : ℕ) → List WordBit
-bits_from node low zero = []
-bits_from node low (suc k) = Of node (low + k) ∷ bits_from node low k

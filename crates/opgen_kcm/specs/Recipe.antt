@@ -9,10 +9,10 @@ use Rattle.opgen_net.specs.declared.net.Net.{Net}
 use Rattle.opgen_net.specs.declared.node.Node.TheVariants.{Table}
 use Rattle.opgen_net.specs.Grown.{HasGrown}
 use Rattle.opgen_net.specs.Valid.{widths}
-use Rattle.opgen_net.specs.WordRule.{with_word}
+use Rattle.opgen_net.specs.WordRule.{bits_from, with_word}
 use Rattle.opgen_kcm.specs.declared.chunk.Chunk.{Chunk}
 use Rattle.opgen_kcm.specs.declared.table.Shape.{Shape}
-use Rattle.opgen_kcm.specs.Chunks.{chunk_count, chunk_at, bits_from}
+use Rattle.opgen_kcm.specs.Chunks.{chunk_count, chunk_at}
 use Rattle.opgen_kcm.specs.Entries.{in_guard_units, all_entries, least_of, offsets, greatest_of, shape_of, rows_in}
 
 -- a net, and a heap of bits of its nodes
@@ -53,10 +53,10 @@ with_rows q guard input signed before =
     let width = input_width before.net input in
     with_chunks (in_guard_units q guard) input width signed (chunk_count width) before
 
--- Nodes and bits may have been added, and nothing else has changed; the heap's bits stand in the net.
+-- Nodes and bits may have been added, and nothing else has changed; where the heap's bits stood in the net, they still do.
 pub record HasTermsMore (old new : Terms) : Type 0 where
   pub net : HasGrown old.net new.net
-  pub bits : AllThere new.net new.heap.columns
+  pub bits : AllThere old.net old.heap.columns → AllThere new.net new.heap.columns
   pub width : new.heap.width ≡ old.heap.width
 
 -- The numbers whose quotients are rounded stand in 128 bits: the greatest multiple of an input of so many bits, in halves of a

@@ -2,9 +2,11 @@
 
 ghost use Rattle.std.specs.Prelude.{◌≡◌, ◌+◌, ◌*◌, ◌^◌, ◌<◌, ◌≤◌, length, unsigned_abs, IfOk};
 ghost use Rattle.opgen_num.specs.declared.TheConstants.{MAX_INPUT};
-ghost use Rattle.opgen_kcm.specs.Chunks.{chunk_at, digit_of, bits_from};
+ghost use Rattle.opgen_net.specs.WordRule.{bits_from};
+ghost use Rattle.opgen_kcm.specs.Chunks.{chunk_at, digit_of};
 
-use opgen_net::WordBit;
+use opgen_list::Items;
+use opgen_net::{WordBit, push_bits};
 use opgen_num::{Format, Word};
 use std::alloc::{AllocError, Global};
 
@@ -57,19 +59,12 @@ impl Chunk {
     }
 
     /// The chunk's bits of a node, the highest first.
-    pub(crate) fn bits_of(self, alloc: Global, node: usize) -> Result<Vec<WordBit>, AllocError>
+    pub(crate) fn bits_of(self, alloc: Global, node: usize) -> Result<Items<WordBit>, AllocError>
         requires { self.low + self.width ≤ MAX_INPUT }
-        ensures { IfOk result (λ bits. bits.items ≡ bits_from node self.low self.width) }
+        ensures { IfOk result (λ bits. bits ≡ bits_from node self.low self.width) }
     {
-        let mut bits = Vec::new(alloc);
-        let mut left = self.width;
-        'bits: while left > 0 {
-            left -= 1;
-            bits.push(WordBit::Of {
-                node,
-                index: self.low + left,
-            })?;
-        }
+        let mut bits = Items::new(alloc);
+        push_bits(&mut bits, node, self.low, self.width)?;
         Ok(bits)
     }
 }

@@ -49,7 +49,7 @@ fn add_table(
     let shape = shape_of(offsets, greatest);
     let rows = rows_in(alloc, shape, offsets)?;
     let bits = chunk.bits_of(alloc, input)?;
-    let address = net.word(&bits)?;
+    let address = net.word(bits.as_slice())?;
     let table = net.table(address, rows)?;
     heap.add_row(table, shape.width, shape.zeros)
 }
@@ -71,11 +71,10 @@ fn add_chunk(
     requires few { chunk.width ≤ 6 }
     requires short { chunk.low + chunk.width ≤ MAX_INPUT }
     requires narrow { (shape_of (offsets (all_entries q chunk))).width ≤ MAX_WIDTH }
-    requires bits { AllThere net.old heap.old.columns }
     ensures net { OnOk result (net.new ≡ (with_entries input chunk (all_entries q chunk) (record { net = net.old; heap = heap.old })).net) }
     ensures heap { OnOk result (heap.new ≡ (with_entries input chunk (all_entries q chunk) (record { net = net.old; heap = heap.old })).heap) }
     ensures more { OnOk result (HasTermsMore (record { net = net.old; heap = heap.old }) (record { net = net.new; heap = heap.new })) }
-    ensures sum { OnOk result ((inputs : Inputs) (t : ℤ) → All (AreWords (input_widths net.old)) inputs → sum_at (record { net = net.new; heap = heap.new }) inputs t ≡ residue (pos (sum_at (record { net = net.old; heap = heap.old }) inputs t) +ℤ entry q chunk (digit_of chunk (chunk_word chunk (flow net.old.nodes inputs input t)))) (2 ^ heap.old.width)) }
+    ensures sum { OnOk result (AllThere net.old heap.old.columns → (inputs : Inputs) (t : ℤ) → All (AreWords (input_widths net.old)) inputs → sum_at (record { net = net.new; heap = heap.new }) inputs t ≡ residue (pos (sum_at (record { net = net.old; heap = heap.old }) inputs t) +ℤ entry q chunk (digit_of chunk (chunk_word chunk (flow net.old.nodes inputs input t)))) (2 ^ heap.old.width)) }
     ensures valid { IsValid net.new }
 {
     let entries = entries(alloc, q, chunk)?;
@@ -87,7 +86,7 @@ fn add_chunk(
 }
 
 /// Adds a multiple of a node to a heap: `q` times the node's number, in units of which 2 to `guard`
-/// make one.
+/// make one. Where the heap's bits stand in the net, its sum rises by that multiple, and all its bits stand there.
 ///
 /// The node is cut into chunks of six bits, the last of which is signed where the node is. Each
 /// chunk addresses a table of its digits' multiples, rounded to whole units. The tables are nodes of
@@ -109,12 +108,11 @@ pub fn rows_of(
     requires short { input_width net.old input ≤ MAX_INPUT }
     requires room { unsigned_abs q.num * 2 ^ (input_width net.old input + guard + 1) + unsigned_abs q.den < 2 ^ 126 }
     requires narrow { HasNarrowRows (in_guard_units q guard) (input_width net.old input) signed }
-    requires bits { AllThere net.old heap.old.columns }
     ensures net { OnOk result (net.new ≡ (with_rows q guard input signed (record { net = net.old; heap = heap.old })).net) }
     ensures heap { OnOk result (heap.new ≡ (with_rows q guard input signed (record { net = net.old; heap = heap.old })).heap) }
-    ensures risen { OnOk result ((inputs : Inputs) (t : ℤ) → All (AreWords (input_widths net.old)) inputs → HasRisen q guard (chunk_count (input_width net.old input)) (number signed (input_width net.old input) (flow net.old.nodes inputs input t)) heap.old.width (sum_at (record { net = net.old; heap = heap.old }) inputs t) (sum_at (record { net = net.new; heap = heap.new }) inputs t)) }
+    ensures risen { OnOk result (AllThere net.old heap.old.columns → (inputs : Inputs) (t : ℤ) → All (AreWords (input_widths net.old)) inputs → HasRisen q guard (chunk_count (input_width net.old input)) (number signed (input_width net.old input) (flow net.old.nodes inputs input t)) heap.old.width (sum_at (record { net = net.old; heap = heap.old }) inputs t) (sum_at (record { net = net.new; heap = heap.new }) inputs t)) }
     ensures grown { OnOk result (HasGrown net.old net.new) }
-    ensures bits { OnOk result (AllThere net.new heap.new.columns) }
+    ensures bits { OnOk result (AllThere net.old heap.old.columns → AllThere net.new heap.new.columns) }
     ensures width { OnOk result (heap.new.width ≡ heap.old.width) }
     ensures valid { IsValid net.new }
 {

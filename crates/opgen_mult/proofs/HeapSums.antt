@@ -7,10 +7,11 @@ use Rattle.opgen_num.specs.declared.format.Format.{Format}
 use Rattle.opgen_num.specs.Formats.{fewest_bits}
 use Rattle.opgen_num.specs.Words.{digit}
 use Rattle.opgen_heap.specs.Contents.{Contents}
-use Rattle.opgen_heap.specs.Sum.{bit_under, ones, columns_sum, heap_sum}
+use Rattle.opgen_heap.specs.Sum.{bit_under, heap_sum}
 use Rattle.opgen_heap.specs.Adding.{with_bit}
 use Rattle.opgen_heap.specs.Standing.{AllThere}
 use Rattle.opgen_heap.proofs.Bits.{with_bit-all}
+use Rattle.opgen_heap.proofs.Kept.{sum-kept}
 use Rattle.opgen_heap.proofs.Standing.{columns-still_there}
 use Rattle.opgen_heap.proofs.Sums.{with_bit-sum, with_bit-width}
 use Rattle.opgen_compress.specs.Kept.{words_at}
@@ -21,13 +22,12 @@ use Rattle.opgen_net.specs.declared.net.Net.{Net}
 use Rattle.opgen_net.specs.declared.node.Node.{Node}
 use Rattle.opgen_net.specs.declared.node.Node.TheVariants.{Cells}
 use Rattle.opgen_net.specs.declared.word_bits.WordBit.{WordBit}
-use Rattle.opgen_net.specs.declared.word_bits.WordBit.TheVariants.{Zero, One, Of}
+use Rattle.opgen_net.specs.declared.word_bits.WordBit.TheVariants.{Of}
 use Rattle.opgen_net.specs.Flow.{Inputs, input_at, flow}
 use Rattle.opgen_net.specs.Grown.{HasGrown}
 use Rattle.opgen_net.specs.Valid.{widths, IsValid, FitsNodes}
 use Rattle.opgen_net.specs.WordRule.{IsThere}
 use Rattle.opgen_net.proofs.Appending.{valid-append, flow-append_last, width-append_last}
-use Rattle.opgen_net.proofs.FlowLaws.{index_within, length-widths}
 use Rattle.opgen_net.proofs.FlowWidths.{flow-width}
 use Rattle.opgen_net.proofs.Grown.{grown-more, grown-then, grown-same, grown-flow, grown-width}
 use Rattle.opgen_budget.specs.Sums.{sum_to, sum_over_pairs}
@@ -41,29 +41,6 @@ use Rattle.opgen_mult.specs.Recipe.{partial_product, has_one_sign, with_cells, w
 use Rattle.opgen_mult.proofs.Kept.{kept}
 use Rattle.opgen_mult.proofs.Operands.{product-fits, product-value}
 use Rattle.opgen_mult.proofs.PartialSums.{piece, pieces}
-
--- the sum of a heap over a net that has grown
-module _ (old new : Net) (grown : HasGrown old new) (ins : Inputs) (t : ℤ) where
-  bit-kept : (b : WordBit) → IsThere (widths old.nodes) b → bit_under (words_at new.nodes ins t) b ≡ bit_under (words_at old.nodes ins t) b
-  bit-kept Zero h = refl
-  bit-kept One h = refl
-  bit-kept (Of node index) h =
-      let there : node < length old.nodes = omega (arith, index_within (widths old.nodes) node index h, length-widths old.nodes) in
-      ap (λ w. slice_index_or w index false) (grown-flow old new grown ins node t there)
-
-  ones-kept : (bs : List WordBit) → All (IsThere (widths old.nodes)) bs
-      → ones (words_at new.nodes ins t) bs ≡ ones (words_at old.nodes ins t) bs
-  ones-kept [] h = refl
-  ones-kept (b ∷ bs) h = omega (arith, ap digit (bit-kept b (h 0 b (omega arith))), ones-kept bs (λ k d l. h (suc k) d (omega (arith, l))))
-
-  columns-kept : (cs : List (List WordBit)) → AllThere old cs
-      → columns_sum (words_at new.nodes ins t) cs ≡ columns_sum (words_at old.nodes ins t) cs
-  columns-kept [] h = refl
-  columns-kept (c ∷ cs) h = omega (arith, ones-kept c (h 0 c (omega arith)), columns-kept cs (λ k d l. h (suc k) d (omega (arith, l))))
-
-  sum-kept : (heap : Contents) → AllThere old heap.columns
-      → heap_sum (words_at new.nodes ins t) heap ≡ heap_sum (words_at old.nodes ins t) heap
-  sum-kept heap h = ap (λ s. (s + heap.constant) % 2 ^ heap.width) (columns-kept heap.columns h)
 
 pub input-width : (f : Format) → IsInput f → IsWidth f.width
 input-width f h = (fewest f.signed f.width h.fewest, omega (arith, h.most))

@@ -3,33 +3,14 @@ ghost use Rattle.std.specs.Prelude.{◌≡◌, ◌≤◌, ◌+◌, ◌++◌, IfO
 ghost use Rattle.opgen_net.specs.declared.word_bits.WordBit.TheVariants.{Zero};
 ghost use Rattle.opgen_net.specs.Valid.{IsValid, widths};
 ghost use Rattle.opgen_design.specs.Width.{IsWidth};
-ghost use Rattle.opgen_mult.specs.Recipe.{falling, above_zeros};
+ghost use Rattle.opgen_net.specs.WordRule.{bits_from};
+ghost use Rattle.opgen_mult.specs.Recipe.{above_zeros};
 ghost use Rattle.opgen_mult.specs.Shifted.{IsAboveZeros};
 
-use opgen_net::{Net, WordBit};
+use opgen_list::Items;
+use opgen_net::{Net, WordBit, push_bits, push_zeros};
 use opgen_num::Memory;
 use std::alloc::{AllocError, Global};
-
-// Appends the lowest bits of a node, the highest first.
-fn push_falling(bits: &mut Vec<WordBit>, node: usize, count: u32) -> Result<(), AllocError>
-    ensures { OnOk result (bits.new.items ≡ bits.old.items ++ falling node count) }
-{
-    let mut left = count;
-    'bits: while left > 0 {
-        left -= 1;
-        bits.push(WordBit::Of { node, index: left })?;
-    }
-    Ok(())
-}
-
-fn push_zeros(bits: &mut Vec<WordBit>, count: u32) -> Result<(), AllocError>
-    ensures { OnOk result (bits.new.items ≡ bits.old.items ++ replicate count Zero) }
-{
-    'zeros: for _ in 0..count {
-        bits.push(WordBit::Zero)?;
-    }
-    Ok(())
-}
 
 // The lowest bits of a node above zeros, the highest first.
 fn bits_above_zeros(
@@ -37,11 +18,11 @@ fn bits_above_zeros(
     node: usize,
     width: u32,
     zeros: u32,
-) -> Result<Vec<WordBit>, AllocError>
-    ensures { IfOk result (λ bits. bits.items ≡ falling node width ++ replicate zeros Zero) }
+) -> Result<Items<WordBit>, AllocError>
+    ensures { IfOk result (λ bits. bits ≡ bits_from node 0 width ++ replicate zeros Zero) }
 {
-    let mut bits = Vec::new(alloc);
-    push_falling(&mut bits, node, width)?;
+    let mut bits = Items::new(alloc);
+    push_bits(&mut bits, node, 0, width)?;
     push_zeros(&mut bits, zeros)?;
     Ok(bits)
 }
@@ -68,6 +49,6 @@ pub(crate) fn above_zeros(
         return Ok(node);
     }
     let bits = bits_above_zeros(alloc, node, width, zeros)?;
-    let shifted = net.word(&bits)?;
+    let shifted = net.word(bits.as_slice())?;
     Ok(shifted)
 }

@@ -7,3 +7,5 @@ pub mod Standing
 pub mod WordRuns
 pub mod WordLaws
 pub mod Grown
+pub mod BitLists
+pub mod Later

@@ -1,6 +1,5 @@
 -- Valid nets.
 use Rattle.std.specs.Prelude.{◌≡◌, ℕ, ◌+◌, ◌-◌, ◌^◌, ◌<◌, ◌≤◌, Bool, true, false, List, [], ◌∷◌, ◌++◌, length, map, slice_index, slice_index_or, Some, All}
-use Rattle.std.specs.List.{list_any}
 use Rattle.opgen_net.specs.declared.cell.Class.{Class}
 use Rattle.opgen_net.specs.declared.cell.Class.TheVariants as class
 use Rattle.opgen_design.specs.declared.expr.Slice.{Slice}
@@ -91,11 +90,3 @@ pub record IsValid (net : Net) : Type 0 where
   pub nodes : AllMayStand [] net.nodes
   pub inputs : input_nodes net.nodes ≡ numbered 0 (input_widths net)
   pub outputs : All (λ o. LiesWithin (widths net.nodes) o.from) net.outputs
-
-abbrev pub is_delay : Node → Bool
-is_delay (Delay of) = true
-is_delay _ = false
-
--- no node is a delay, so a net keeps nothing from one cycle to the next
-abbrev pub HasNoDelay : Net → Type 0
-HasNoDelay net = list_any is_delay net.nodes ≡ false

@@ -1,5 +1,5 @@
 -- A node that has given bits: one that is there, or a new one of constants, parts of nodes and the operator &.
-use Rattle.std.specs.Prelude.{ℕ, ◌≡◌, ◌+◌, ◌<◌, ◌≤◌, ℤ, Bool, true, false, ◌&&◌, if◌then◌else◌, nat_eq, All, List, [], ◌∷◌, ◌++◌, length, map, reverse, slice_index, slice_index_or, Option, Some, None}
+use Rattle.std.specs.Prelude.{ℕ, zero, suc, ◌≡◌, ◌+◌, ◌<◌, ◌≤◌, ℤ, Bool, true, false, ◌&&◌, if◌then◌else◌, nat_eq, All, List, [], ◌∷◌, ◌++◌, length, map, reverse, slice_index, slice_index_or, Option, Some, None}
 use Rattle.opgen_net.specs.declared.cell.Class.TheVariants.{Wire}
 use Rattle.opgen_design.specs.declared.expr.Op.TheVariants.{Cat}
 use Rattle.opgen_design.specs.declared.expr.Slice.{Slice}
@@ -22,6 +22,11 @@ abbrev pub IsThere : List ℕ → WordBit → Type 0
 IsThere ws Zero = Unit {0}
 IsThere ws One = Unit {0}
 IsThere ws (Of node index) = index < slice_index ws node
+
+-- so many bits of a node from a place up, the highest first
+abbrev pub bits_from : (node low count : ℕ) → List WordBit
+bits_from node low zero = []
+bits_from node low (suc k) = Of node (low + k) ∷ bits_from node low k
 
 abbrev pub bit_flow : List Node → Inputs → ℤ → WordBit → Bool
 bit_flow nodes inputs t Zero = false

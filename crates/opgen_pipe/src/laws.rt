@@ -2,8 +2,8 @@ ghost use Rattle.opgen_pipe.specs.Laws.{DesignIsShaped, DesignIsSound, DesignIsW
 ghost use Rattle.opgen_pipe.specs.Timed.{PlanFits, PlanIsLeast};
 
 use opgen_design::laws::{any_cycles_are_runs, enabled_cycles_are_runs};
+use opgen_runs::one_run;
 use opgen_schedule::{stage_fits, stage_is_least};
-use opgen_sim::one_run;
 
 /// The design of a valid net at a schedule that fits is sound, where the names of the net can stand in it.
 pub fn design_is_sound()

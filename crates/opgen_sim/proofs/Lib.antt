@@ -1,12 +1,3 @@
-pub mod Widths
 pub mod TableLaws
-pub mod Reading
-pub mod Equations
-pub mod Registers
-pub mod Cycles
 pub mod Ports
-pub mod Starts
 pub mod Runs
-pub mod Orders
-pub mod HasRun
-pub mod OneRun

@@ -8,7 +8,7 @@ use Rattle.opgen_num.specs.WordLaws.{length-word}
 use Rattle.opgen_design.specs.declared.design.Dir.{Dir}
 use Rattle.opgen_design.specs.declared.design.Port.{Port}
 use Rattle.opgen_design.specs.Run.{at_ports, is_in}
-use Rattle.opgen_sim.specs.Step.{words_of}
+use Rattle.opgen_runs.specs.Step.{words_of}
 
 at-map : {X Y : Type 0} (f : X → Y) (xs : List X) (i : ℕ) (x : X) → get_or (map f xs) i (f x) ≡ f (get_or xs i x)
 at-map f [] i x = refl

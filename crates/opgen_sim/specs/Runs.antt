@@ -4,7 +4,7 @@ use Rattle.opgen_num.specs.Words.{nat}
 use Rattle.opgen_design.specs.declared.design.Design.{Design}
 use Rattle.opgen_design.specs.Run.{Words, Run, input_widths, outputs_of}
 use Rattle.opgen_sim.specs.Sims.{Simulator, IsNew}
-use Rattle.opgen_sim.specs.Step.{IsStep, words_of}
+use Rattle.opgen_runs.specs.Step.{IsStep, words_of}
 
 -- steps in order, each from the registers' words that the step before left
 abbrev pub StepsOn : Design → (now : List (List Bool)) → (inputs outputs : List (List ℕ)) → Type 0

@@ -1,14 +1,12 @@
 -- Simulators of designs, and the registers' words that they hold.
-use Rattle.std.specs.Prelude.{ℕ, ◌≡◌, Bool, List, length, map, Some, slice_get}
+use Rattle.std.specs.Prelude.{ℕ, ◌≡◌, Bool, List, length, map}
 use Rattle.std.specs.HashMap.{HashMap}
 use Rattle.opgen_design.specs.declared.design.Design.{Design}
-use Rattle.opgen_design.specs.declared.design.Driver.TheVariants.{Register}
 use Rattle.opgen_design.specs.Order.{IsOrderOf}
 use Rattle.opgen_design.specs.Run.{initial_words}
 use Rattle.opgen_design.specs.Sound.{IsSound, signal_widths}
-use Rattle.opgen_design.specs.Tree.{Tree}
-use Rattle.opgen_design.specs.Value.{word_at}
-use Rattle.opgen_sim.specs.Evaluate.{HaveWidths}
+use Rattle.opgen_runs.specs.Evaluate.{HaveWidths}
+use Rattle.opgen_runs.specs.Registers.{SameRegisters}
 use Rattle.opgen_sim.specs.Tables.{AreTables}
 
 -- a simulator: the design that is run, and the words of the registers now, at the places of their signals
@@ -23,10 +21,6 @@ pub record IsReady {S : Type 0} (d : Design) (places : List ℕ) (rows : List (H
   pub tables : AreTables d.drivers rows
   pub widths : HaveWidths d (record { signals = words; ports = ports })
   pub room : map length next ≡ signal_widths d
-
--- two lists have the same words at the registers of a design
-abbrev pub SameRegisters : Design → (now others : List (List Bool)) → Type 0
-SameRegisters d now others = (i to : ℕ) (e : Tree) → slice_get d.drivers i ≡ Some (Register to e) → word_at now to ≡ word_at others to
 
 -- a simulator before the first cycle of a design
 pub record IsNew (d : Design) (s : Simulator) : Type 0 where

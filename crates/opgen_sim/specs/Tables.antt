@@ -1,15 +1,10 @@
--- Tables by their addresses.
-use Rattle.std.specs.Prelude.{ℕ, ◌≡◌, Bool, List, [], ◌∷◌, nat_eq, if◌then◌else◌, Option, Some, None}
+-- Tables by their addresses, as maps.
+use Rattle.std.specs.Prelude.{ℕ, ◌≡◌, Bool, List, [], nat_eq}
 use Rattle.std.specs.List.{AllZip}
 use Rattle.std.specs.HashMap.{HashMap, get}
-use Rattle.opgen_num.specs.Words.{nat}
 use Rattle.opgen_design.specs.declared.design.Driver.{Driver}
 use Rattle.opgen_design.specs.declared.design.Driver.TheVariants.{Table}
-
--- the word of the first row of an address
-abbrev pub row_word : List (List Bool × List Bool) → (address : ℕ) → Option (List Bool)
-row_word [] n = None
-row_word (r ∷ rows) n = if nat_eq (nat r.0) n then Some r.1 else row_word rows n
+use Rattle.opgen_runs.specs.Tables.{row_word}
 
 abbrev pub rows_of : Driver → List (List Bool × List Bool)
 rows_of (Table to on rows other) = rows

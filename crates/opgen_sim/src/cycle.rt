@@ -2,7 +2,7 @@ ghost use Rattle.std.specs.Prelude.{◌≡◌, length, map};
 ghost use Rattle.opgen_design.specs.Order.{IsOrderOf};
 ghost use Rattle.opgen_design.specs.Run.{Cycle, Words, at_ports, is_in};
 ghost use Rattle.opgen_design.specs.Sound.{IsSound, signal_widths};
-ghost use Rattle.opgen_sim.specs.Evaluate.{HaveWidths};
+ghost use Rattle.opgen_runs.specs.Evaluate.{HaveWidths};
 ghost use Rattle.opgen_sim.specs.Tables.{AreTables};
 
 use crate::evaluate::{hand_all_on, settle};

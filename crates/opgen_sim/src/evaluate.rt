@@ -3,7 +3,7 @@ ghost use Rattle.opgen_design.specs.Run.{Words};
 ghost use Rattle.opgen_design.specs.Value.{chosen};
 ghost use Rattle.opgen_design.specs.Sound.{IsSound, signal_widths, target};
 ghost use Rattle.opgen_value.specs.Fitting.{AreNarrow, scope_of};
-ghost use Rattle.opgen_sim.specs.Evaluate.{DriverFits, HaveWidths, IsThere, driver_word, hand_all_on, hand_on, put, settle};
+ghost use Rattle.opgen_runs.specs.Evaluate.{DriverFits, HaveWidths, IsThere, driver_word, hand_all_on, hand_on, put, settle};
 ghost use Rattle.opgen_sim.specs.Tables.{AreTables, HasRows, rows_of};
 
 use crate::tables::{Rows, look_up};

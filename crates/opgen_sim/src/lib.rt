@@ -11,5 +11,5 @@ mod tables;
 #[cfg(test)]
 mod tests;
 
-pub use laws::{one_run, steps_are_runs};
+pub use laws::steps_are_runs;
 pub use sim::Sim;

@@ -3,7 +3,7 @@ ghost use Rattle.opgen_num.specs.Words.{FitWidths, word};
 ghost use Rattle.opgen_design.specs.Run.{at_ports, input_widths, is_out};
 ghost use Rattle.opgen_design.specs.Sound.{HasNumbers, IsSound, port_widths};
 ghost use Rattle.opgen_sim.specs.Sims.{IsNew};
-ghost use Rattle.opgen_sim.specs.Step.{IsStep};
+ghost use Rattle.opgen_runs.specs.Step.{IsStep};
 
 use crate::copies::copy;
 use crate::cycle::run_cycle;

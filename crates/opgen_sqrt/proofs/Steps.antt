@@ -17,16 +17,17 @@ use Rattle.opgen_net.specs.declared.word_bits.WordBit.{WordBit}
 use Rattle.opgen_net.specs.declared.word_bits.WordBit.TheVariants.{Zero, One, Of}
 use Rattle.opgen_net.specs.Flow.{Inputs, flow}
 use Rattle.opgen_net.specs.Valid.{widths, input_widths, IsValid}
-use Rattle.opgen_net.specs.WordRule.{IsThere, bit_flow}
+use Rattle.opgen_net.specs.WordRule.{IsThere, bit_flow, bits_from}
 use Rattle.opgen_net.proofs.Grown.{grown-flow, grown-width, grown-all_there}
 use Rattle.opgen_operator.specs.declared.spec.Single.{Single}
 use Rattle.opgen_operator.specs.Outputs.{places_up, root_shift}
 use Rattle.opgen_operator.specs.Ports.{root_width}
-use Rattle.opgen_digits.specs.Bits.{node_bits, number_at, with_bits}
+use Rattle.opgen_digits.specs.Bits.{number_at, with_bits}
 use Rattle.opgen_digits.specs.Digit.{Known, with_difference, tried, left_of, AreOperands, HasDigit}
-use Rattle.opgen_digits.proofs.Bits.{length-node_bits, node_bits-there, zeros-there, at-below, at-push, at-zero, bit-kept, number-kept}
+use Rattle.opgen_net.proofs.BitLists.{length-bits_from, bits_from-there, zeros-there, bit-kept}
+use Rattle.opgen_digits.proofs.Bits.{at-below, at-push, at-zero, number-kept}
 use Rattle.opgen_digits.proofs.Digit.{Tried, all-tried, has_digit}
-use Rattle.opgen_digits.proofs.Nodes.{Later, later-same, later-then, node_there, words-later}
+use Rattle.opgen_net.proofs.Later.{Later, later-same, later-then, node_there, words-later}
 use Rattle.opgen_digits.proofs.Outputs.{made-later, made-width, made-number}
 use Rattle.opgen_sqrt.specs.Recipe.{with_input, shifted_width, radicand, minuend, subtrahend, stepped, keeps, after}
 use Rattle.opgen_sqrt.specs.Steps.{IsRooted}
@@ -98,13 +99,13 @@ module _ (r : Single) (have : HasWidths r) where
   pub radicand-length : length (radicand r) ≡ 2 * root_width r
   radicand-length =
       let s = places_up (root_shift r) in
-      let low : List WordBit = node_bits 0 r.input.width ++ replicate s Zero in
+      let low : List WordBit = bits_from 0 0 r.input.width ++ replicate s Zero in
       let odd : List WordBit = replicate (shifted_width r % 2) Zero in
       omega (
         arith,
         length-append odd low,
-        length-append (node_bits 0 r.input.width) (replicate s Zero),
-        length-node_bits 0 r.input.width,
+        length-append (bits_from 0 0 r.input.width) (replicate s Zero),
+        length-bits_from 0 0 r.input.width,
         length-replicate s Zero,
         length-replicate (shifted_width r % 2) Zero,
       )
@@ -113,10 +114,10 @@ module _ (r : Single) (have : HasWidths r) where
   radicand-there =
       let s = places_up (root_shift r) in
       let odd : List WordBit = replicate (shifted_width r % 2) Zero in
-      let high = node_bits 0 r.input.width in
+      let high = bits_from 0 0 r.input.width in
       let low : List WordBit = replicate s Zero in
       All-append (IsThere ws) odd (high ++ low) (zeros-there ws (shifted_width r % 2))
-      (All-append (IsThere ws) high low (node_bits-there ws 0 r.input.width (omega arith)) (zeros-there ws s))
+      (All-append (IsThere ws) high low (bits_from-there ws 0 0 r.input.width (omega arith)) (zeros-there ws s))
 
   -- what is left after a step that is not the last is kept
   pub keeps-before : (k : ℕ) → k < root_width r → keeps r k ≡ true

@@ -17,7 +17,7 @@ use Rattle.opgen_net.specs.declared.word_bits.WordBit.{WordBit}
 use Rattle.opgen_net.specs.declared.word_bits.WordBit.TheVariants.{Zero}
 use Rattle.opgen_net.specs.Flow.{Inputs, flow, input_at, KeepsFlow}
 use Rattle.opgen_net.specs.Valid.{widths}
-use Rattle.opgen_net.specs.WordRule.{IsThere}
+use Rattle.opgen_net.specs.WordRule.{IsThere, bits_from}
 use Rattle.opgen_net.proofs.FlowWidths.{flow-width}
 use Rattle.opgen_net.proofs.Grown.{flow-then, grown-flow, grown-count}
 use Rattle.opgen_operator.specs.declared.TheConstants.{MAX_SHIFT}
@@ -33,11 +33,11 @@ use Rattle.opgen_operator.specs.Ports.{operator_inputs, root_width, root_ports}
 use Rattle.opgen_operator.specs.Ranges.{IsSingle}
 use Rattle.opgen_operator.specs.Valid.{AgreesOnExact}
 use Rattle.opgen_operator.proofs.Accepted.{accepted_ranges, accepted_shift}
-use Rattle.opgen_digits.specs.Bits.{node_bits, number_at}
+use Rattle.opgen_digits.specs.Bits.{number_at}
 use Rattle.opgen_digits.specs.Digit.{Known}
 use Rattle.opgen_digits.specs.Results.{AreResults, with_results}
-use Rattle.opgen_digits.proofs.Bits.{at-append, at-zeros, at-node_bits, number-kept}
-use Rattle.opgen_digits.proofs.Nodes.{Later, words-later}
+use Rattle.opgen_digits.proofs.Bits.{at-append, at-zeros, at-node, number-kept}
+use Rattle.opgen_net.proofs.Later.{Later, words-later}
 use Rattle.opgen_digits.proofs.Results.{result_ports, result_words, results-inputs, results-valid, results-keep, results-shown, results-digits, results-rest}
 use Rattle.opgen_sqrt.specs.Recipe.{shifted_width, radicand, keeps, after, net_of_single}
 use Rattle.opgen_sqrt.specs.Steps.{IsRooted, HoldsAfterEachStep}
@@ -154,13 +154,13 @@ module _ (r : Single) (have : HasWidths r) (some_root : 1 ≤ root_width r) wher
   radicand-number inputs t words =
       let nodes = (base r have).nodes in
       let s = places_up (root_shift r) in
-      let high = node_bits 0 r.input.width in
+      let high = bits_from 0 0 r.input.width in
       let zeros : List WordBit = replicate s Zero in
       let odd : List WordBit = replicate (shifted_width r % 2) Zero in
       let all : take (2 * count) (radicand r) ≡ radicand r =
       ap (λ m. take m (radicand r)) (sym (radicand-length r have)) ∙ take-length (radicand r) in
       let wide : length (flow nodes inputs 0 t) ≡ r.input.width = flow-width (base r have) (input-valid r have) inputs words 0 t in
-      let x : number_at nodes inputs t high ≡ input_number inputs t = at-node_bits nodes inputs t 0 r.input.width wide in
+      let x : number_at nodes inputs t high ≡ input_number inputs t = at-node nodes inputs t 0 r.input.width wide in
       let long : 2 ^ length zeros * number_at nodes inputs t high ≡ 2 ^ s * input_number inputs t =
       ap (λ m. 2 ^ m * number_at nodes inputs t high) (length-replicate s Zero) ∙ ap (λ m. 2 ^ s * m) x in
       let above : 2 ^ length (high ++ zeros) * number_at nodes inputs t odd ≡ 0 =

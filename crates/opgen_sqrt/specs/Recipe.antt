@@ -4,10 +4,11 @@ use Rattle.opgen_net.specs.declared.net.Net.{Net}
 use Rattle.opgen_net.specs.declared.node.Node.TheVariants.{Input}
 use Rattle.opgen_net.specs.declared.word_bits.WordBit.{WordBit}
 use Rattle.opgen_net.specs.declared.word_bits.WordBit.TheVariants.{Zero, One}
+use Rattle.opgen_net.specs.WordRule.{bits_from}
 use Rattle.opgen_operator.specs.declared.spec.Single.{Single}
 use Rattle.opgen_operator.specs.Outputs.{places_up, root_shift}
 use Rattle.opgen_operator.specs.Ports.{root_width}
-use Rattle.opgen_digits.specs.Bits.{node_bits, with_bits}
+use Rattle.opgen_digits.specs.Bits.{with_bits}
 use Rattle.opgen_digits.specs.Digit.{Known, tried}
 use Rattle.opgen_digits.specs.Results.{with_results}
 
@@ -20,7 +21,7 @@ shifted_width r = r.input.width + places_up (root_shift r)
 
 -- the input with as many zeros below it as it is shifted up, and one above it where the number of these bits is odd
 abbrev pub radicand : Single → List WordBit
-radicand r = replicate (shifted_width r % 2) Zero ++ (node_bits 0 r.input.width ++ replicate (places_up (root_shift r)) Zero)
+radicand r = replicate (shifted_width r % 2) Zero ++ (bits_from 0 0 r.input.width ++ replicate (places_up (root_shift r)) Zero)
 
 -- A step: what is left, the next two bits of the radicand below it and a zero above it, less four times the root so far and one.
 abbrev pub minuend : Known → (high low : WordBit) → List WordBit

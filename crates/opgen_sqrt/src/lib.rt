@@ -19,9 +19,9 @@ ghost use Rattle.opgen_sqrt.specs.Steps.{HoldsAfterEachStep};
 #[cfg(test)]
 mod tests;
 
-use opgen_digits::{Digits, output_results, push_all, push_bits, push_zeros, try_digit};
+use opgen_digits::{Digits, output_results, push_all, try_digit};
 use opgen_list::Items;
-use opgen_net::{Net, WordBit};
+use opgen_net::{Net, WordBit, push_bits, push_zeros};
 use opgen_num::Memory;
 use opgen_operator::Single;
 use std::alloc::{AllocError, Global};
@@ -46,7 +46,7 @@ fn radicand(alloc: Global, single: &Single) -> Result<Items<WordBit>, AllocError
     let mut bits = Items::new(alloc);
     let shift = single.shift() as u32;
     push_zeros(&mut bits, (single.input.width + shift) % 2)?;
-    push_bits(&mut bits, 0, single.input.width)?;
+    push_bits(&mut bits, 0, 0, single.input.width)?;
     push_zeros(&mut bits, shift)?;
     Ok(bits)
 }

@@ -11,7 +11,7 @@ use Rattle.opgen_vec.specs.declared.fault.VecFault.{VecFault}
 use Rattle.opgen_vec.specs.Reading.{IsReading}
 use Rattle.opgen_vec.proofs.OneReading.{one_reading}
 use Rattle.opgen_top.specs.Answer.{Answer, simulated, vhdl_refused, vectors_refused}
-use Rattle.opgen_sim.proofs.OneRun.{runs-one}
+use Rattle.opgen_runs.proofs.OneRun.{runs-one}
 use Rattle.opgen_vec.specs.Writing.{rows_text}
 use Rattle.opgen_top.specs.Running.{rows_words, output_widths, output_cells, IsRunText}
 use Rattle.opgen_top.specs.Simulate.{GivesDesign, RefusesVhdl, RefusesVectors, Runs, IsSimulated}

@@ -6,10 +6,11 @@ use Rattle.std.proofs.lemmas.List.{length-map, take_all}
 use Rattle.opgen_num.specs.Words.{nat}
 use Rattle.opgen_design.specs.declared.design.Design.{Design}
 use Rattle.opgen_design.specs.Run.{Words, Cycle, RunsOn, is_out, initial_words, input_widths, outputs_of}
-use Rattle.opgen_sim.specs.Sims.{Simulator, IsNew, SameRegisters}
-use Rattle.opgen_sim.specs.Step.{IsStep, words_of}
-use Rattle.opgen_sim.proofs.Runs.{cycle-kept}
-use Rattle.opgen_sim.proofs.Starts.{at_ports-length}
+use Rattle.opgen_sim.specs.Sims.{Simulator, IsNew}
+use Rattle.opgen_runs.specs.Registers.{SameRegisters}
+use Rattle.opgen_runs.specs.Step.{IsStep, words_of}
+use Rattle.opgen_runs.proofs.Kept.{cycle-kept}
+use Rattle.opgen_runs.proofs.Starts.{at_ports-length}
 use Rattle.opgen_vec.specs.Rows.{AreRowsOfCells}
 use Rattle.opgen_vec.specs.Writing.{row_count_of, rows_text}
 use Rattle.opgen_top.specs.Running.{output_cells, output_widths, RunsRows, IsRunOf, IsRunText, rows_words}

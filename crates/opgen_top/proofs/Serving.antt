@@ -25,7 +25,7 @@ use Rattle.opgen_pipe.specs.Pipelined.{design_of, enable_inputs, ports_of}
 use Rattle.opgen_pipe.specs.Times.{ago}
 use Rattle.opgen_pipe.proofs.Soundness.{design_sound}
 use Rattle.opgen_schedule.specs.Schedule.{Schedule, Fits}
-use Rattle.opgen_sim.proofs.OneRun.{one-run}
+use Rattle.opgen_runs.proofs.OneRun.{one-run}
 use Rattle.opgen_top.specs.Circuit.{port_of, ports_for, Serves}
 use Rattle.opgen_top.proofs.Taken.{run_words, run_long, taken_long, taken_words, widths_after}
 

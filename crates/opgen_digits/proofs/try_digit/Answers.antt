@@ -7,7 +7,7 @@ use Rattle.opgen_net.specs.declared.node.Node.TheVariants as node
 use Rattle.opgen_net.specs.Valid.{FitsNodes, FitsChoice, widths}
 use Rattle.opgen_digits.specs.Digit.{is_not_negative, lowest, with_node, with_difference, with_digit, digit_place}
 use Rattle.opgen_digits.proofs.Digit.{one-width, choice-fits}
-use Rattle.opgen_digits.proofs.Nodes.{difference-fits, not_negative-fits}
+use Rattle.opgen_digits.proofs.Expressions.{difference-fits, not_negative-fits}
 use Rattle.opgen_digits.proofs.try_digit.Goals as goal
 
 pub cells-requires-clause-fits : goal.cells-requires-clause-fits

@@ -5,8 +5,7 @@ use Rattle.opgen_net.specs.declared.net.Net.{Net}
 use Rattle.opgen_net.specs.declared.word_bits.WordBit.{WordBit}
 use Rattle.opgen_net.specs.declared.word_bits.WordBit.TheVariants.{Zero}
 use Rattle.opgen_net.specs.Valid.{widths}
-use Rattle.opgen_net.specs.WordRule.{IsThere}
-use Rattle.opgen_digits.specs.Bits.{node_bits}
+use Rattle.opgen_net.specs.WordRule.{IsThere, bits_from}
 use Rattle.opgen_divide.proofs.Steps.{bits-wide, bits-there}
 use Rattle.opgen_divide.proofs.Whole.{has_widths}
 use Rattle.opgen_divide.proofs.divisor.Goals as goal
@@ -14,13 +13,13 @@ use Rattle.opgen_divide.proofs.divisor.Goals as goal
 pub word-requires-clause-width : goal.word-requires-clause-width
 word-requires-clause-width c =
     let p = c.args.pair.now in
-    let bits : c.as_slice.result.now ≡ Zero ∷ Zero ∷ node_bits 1 p.b.width = search rules in
+    let bits : c.as_slice.result.now ≡ Zero ∷ Zero ∷ bits_from 1 0 p.b.width = search rules in
     subst (λ (bs : List WordBit). IsWidth (length bs)) (sym bits) (bits-wide p (has_widths p c.requires.pair))
 
 pub word-requires-clause-there : goal.word-requires-clause-there
 word-requires-clause-there c =
     let p = c.args.pair.now in
-    let bits : c.as_slice.result.now ≡ Zero ∷ Zero ∷ node_bits 1 p.b.width = search rules in
+    let bits : c.as_slice.result.now ≡ Zero ∷ Zero ∷ bits_from 1 0 p.b.width = search rules in
     subst (All (IsThere (widths c.args.net.now.nodes))) (sym bits)
-    (subst (λ (n : Net). All (IsThere (widths n.nodes)) (Zero ∷ Zero ∷ node_bits 1 p.b.width)) (sym c.requires.net)
+    (subst (λ (n : Net). All (IsThere (widths n.nodes)) (Zero ∷ Zero ∷ bits_from 1 0 p.b.width)) (sym c.requires.net)
     (bits-there p (has_widths p c.requires.pair)))

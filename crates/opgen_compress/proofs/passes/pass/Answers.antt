@@ -6,7 +6,7 @@ use Rattle.opgen_net.specs.WordRule.{IsThere}
 use Rattle.opgen_compress.specs.Adder.{Work}
 use Rattle.opgen_compress.specs.Recipe.{Column, State, is_none, pass}
 use Rattle.opgen_heap.specs.Standing.{AllThere}
-use Rattle.opgen_compress.proofs.Later.{rest_columns}
+use Rattle.opgen_compress.proofs.Firsts.{rest_columns}
 use Rattle.opgen_compress.proofs.Passed.{passed, with_carries, one_column, others-there, no_columns}
 use Rattle.opgen_compress.proofs.passes.pass.Goals as goal
 

@@ -11,7 +11,8 @@ use Rattle.opgen_net.specs.Grown.{HasGrown}
 use Rattle.opgen_net.proofs.Appending.{width-append_last}
 use Rattle.opgen_net.proofs.Grown.{grown-more, grown-then, grown-width}
 use Rattle.opgen_compress.specs.Recipe.{row, fullest}
-use Rattle.opgen_compress.proofs.Later.{Later, columns_there-kept}
+use Rattle.opgen_net.proofs.Later.{Later}
+use Rattle.opgen_heap.proofs.Standing.{columns-still_there}
 use Rattle.opgen_compress.proofs.Finished.{row-there, row-length, word-later, node-there, sum-fits, single-sum, rows-sum}
 use Rattle.opgen_compress.proofs.rows.finish.Goals as goal
 
@@ -39,7 +40,7 @@ word-requires-2-clause-there c =
     let bits_2 : c.deref-2.result.now ≡ row 1 columns = search rules in
     let grown = c.in_ok-a.ensures.ok ∙ ap (λ (b : List WordBit). record net { nodes = (with_word net.nodes b).nodes }) bits in
     let later : Later net one = word-later net one (row 0 columns) grown c.word.ensures.valid in
-    subst (All (IsThere (widths one.nodes))) (sym bits_2) (row-there one 1 columns (columns_there-kept net one later columns c.requires.there))
+    subst (All (IsThere (widths one.nodes))) (sym bits_2) (row-there one 1 columns (columns-still_there net one later.grown columns c.requires.there))
 
 pub cells-requires-clause-fits : goal.cells-requires-clause-fits
 cells-requires-clause-fits c =

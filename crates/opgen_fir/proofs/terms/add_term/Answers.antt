@@ -24,7 +24,7 @@ use Rattle.opgen_fir.proofs.Narrow.{narrow-terms}
 use Rattle.opgen_fir.proofs.terms.add_term.Goals as goal
 
 pub returns-then-is_zero-clause-more : goal.returns-then-is_zero-clause-more
-returns-then-is_zero-clause-more c = more-same (record { net = c.args.net.now; heap = c.args.heap.now }) c.requires.bits
+returns-then-is_zero-clause-more c = more-same (record { net = c.args.net.now; heap = c.args.heap.now })
 
 pub returns-then-is_zero-clause-term : goal.returns-then-is_zero-clause-term
 returns-then-is_zero-clause-term c = λ inputs t words.
@@ -141,7 +141,7 @@ returns-clause-term c = λ inputs t words.
     let risen =
     subst (λ v. HasRisen (factor s k) (guard_bits s) (chunk_count v) (number signed v x) width a b) (c.requires.width some)
     (subst (λ h. HasRisen (factor s k) h (chunk_count w) (number signed w x) width a b) c.guard_bits-guard.ensures.value
-    (subst (λ (r : Ratio). HasRisen r g (chunk_count w) (number signed w x) width a b) q (c.in_ok-rows_of.ensures.risen inputs t words))) in
+    (subst (λ (r : Ratio). HasRisen r g (chunk_count w) (number signed w x) width a b) q (c.in_ok-rows_of.ensures.risen c.requires.bits inputs t words))) in
     record {
       by = risen.by;
       nothing = λ e. let clash : true ≡ false = sym e ∙ some in let no : ⊥ = cc in absurd no;

@@ -7,6 +7,7 @@ use Rattle.std.proofs.lemmas.Nat.{pow_pos}
 use Rattle.opgen_heap.specs.Contents.{Contents}
 use Rattle.opgen_net.specs.declared.net.Net.{Net}
 use Rattle.opgen_net.specs.Flow.{flow}
+use Rattle.opgen_heap.specs.Standing.{AllThere}
 use Rattle.opgen_net.specs.Valid.{widths, input_widths}
 use Rattle.opgen_net.specs.WordRule.{IsThere}
 use Rattle.opgen_design.specs.Run.{AreWords}
@@ -15,7 +16,8 @@ use Rattle.opgen_operator.proofs.Accepted.{accepted_ranges}
 use Rattle.opgen_kcm.specs.Chunks.{number}
 use Rattle.opgen_kcm.specs.Multiple.{sum_at}
 use Rattle.opgen_kcm.specs.Recipe.{Terms, HasTermsMore}
-use Rattle.opgen_kcm.proofs.Kept.{more-same, more-then, terms-same, words-later}
+use Rattle.opgen_net.proofs.Later.{words-grown}
+use Rattle.opgen_kcm.proofs.Kept.{more-same, more-then, terms-same}
 use Rattle.opgen_kcm.proofs.Residues.{residue-natural}
 use Rattle.opgen_fir.specs.Recipe.{is_zero, tapped, no_terms, with_term, with_terms, sum_width}
 use Rattle.opgen_fir.specs.Summed.{recent, HasTerm, HasSum}
@@ -34,7 +36,8 @@ taps-init c =
       heap = c.requires.heap;
       valid = c.requires.valid;
       more = subst (λ (t : Terms). HasTermsMore (no_terms s) t) (sym same)
-          (more-same (no_terms s) (All-nil (All (IsThere (widths (tapped s).nodes)))));
+          (more-same (no_terms s));
+      bits = subst (λ (t : Terms). AllThere t.net t.heap.columns) (sym same) (All-nil (All (IsThere (widths (tapped s).nodes))));
       sum = λ inputs t words. subst (λ (u : Terms). HasSum s (recent s inputs t) 0 u.heap.width (sum_at u inputs t)) (sym same) (record {
         total = pos 0;
         summed = none-summed s (recent s inputs t);
@@ -94,11 +97,12 @@ taps-preserved c =
       heap = ap (λ (t : Terms). t.heap) all;
       valid = c.add_term.ensures.valid;
       more = more-then (no_terms s) before now i.more c.in_ok-add_term.ensures.more;
+      bits = c.in_ok-add_term.ensures.more.bits i.bits;
       sum = λ inputs t words.
           let x = recent s inputs t in
           let given : All (AreWords (input_widths (tapped s))) inputs =
           subst (λ (n : Net). All (AreWords (input_widths n)) inputs) c.requires.net words in
-          let term = c.in_ok-add_term.ensures.term inputs t (words-later (tapped s) c.taps.net i.more.net inputs given) in
+          let term = c.in_ok-add_term.ensures.term inputs t (words-grown (tapped s) c.taps.net i.more.net inputs given) in
           let width : c.taps.heap.width ≡ c.args.heap.now.width = i.more.width ∙ ap (λ (h : Contents). h.width) (sym c.requires.heap) in
           let fitting =
           subst (λ w. HasTerm s known (number s.input.signed s.input.width (flow c.taps.net.nodes inputs k t)) w

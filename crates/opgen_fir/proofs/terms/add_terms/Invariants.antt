@@ -1,5 +1,6 @@
 use Rattle.std.proofs.Common.{◌≡◌}
 use Rattle.std.specs.Prelude.{ℤ, All}
+use Rattle.opgen_heap.specs.Standing.{AllThere}
 use Rattle.opgen_net.specs.Flow.{Inputs}
 use Rattle.opgen_net.specs.Valid.{IsValid, input_widths}
 use Rattle.opgen_design.specs.Run.{AreWords}
@@ -15,6 +16,7 @@ invariant-taps l = record {
   heap : l.heap ≡ (with_terms l.sum l.tap).heap;
   valid : IsValid l.net;
   more : HasTermsMore (no_terms l.sum) (record { net = l.net; heap = l.heap });
+  bits : AllThere l.net l.heap.columns;
   sum : (inputs : Inputs) (t : ℤ) → All (AreWords (input_widths l.initial.net)) inputs
       → HasSum l.sum (recent l.sum inputs t) l.tap l.initial.heap.width (sum_at (record { net = l.net; heap = l.heap }) inputs t);
 }

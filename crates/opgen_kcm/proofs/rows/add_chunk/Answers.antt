@@ -129,10 +129,10 @@ returns-clause-more c =
     chunk-added old now c.add_constant.new.self c.args.input k c.args.q c.deref-3.result.now numbers constant
     c.in_ok-add_table.ensures.net c.in_ok-add_table.ensures.heap in
     subst (λ (t : Terms). HasTermsMore old t) (sym all)
-    (entries-more old c.requires.net c.requires.bits c.args.input k c.requires.there c.args.q)
+    (entries-more old c.requires.net c.args.input k c.requires.there c.args.q)
 
 pub returns-clause-sum : goal.returns-clause-sum
-returns-clause-sum c = λ inputs t words.
+returns-clause-sum c = λ there inputs t words.
     let k = c.args.chunk in
     let es = all_entries c.args.q k in
     let known = to_z w128 (of_z w128 c.least_of-least.result) in
@@ -154,4 +154,4 @@ returns-clause-sum c = λ inputs t words.
     chunk-added old now c.add_constant.new.self c.args.input k c.args.q c.deref-3.result.now numbers constant
     c.in_ok-add_table.ensures.net c.in_ok-add_table.ensures.heap in
     ap (λ (s : Terms). sum_at s inputs t) all
-    ∙ entries-sum old c.requires.net c.requires.bits c.args.input k c.requires.there c.args.q inputs t words
+    ∙ entries-sum old c.requires.net c.args.input k c.requires.there c.args.q there inputs t words

@@ -3,8 +3,7 @@ use Rattle.std.specs.Prelude.{All}
 use Rattle.opgen_net.specs.Valid.{widths, FitsTable}
 use Rattle.opgen_net.specs.WordRule.{IsThere}
 use Rattle.opgen_kcm.specs.Entries.{greatest_of, shape_of, rows_in}
-use Rattle.opgen_kcm.proofs.ChunkWords.{length-bits_from}
-use Rattle.opgen_kcm.proofs.Kept.{bits-there}
+use Rattle.opgen_net.proofs.BitLists.{length-bits_from, bits_from-there}
 use Rattle.opgen_kcm.proofs.Shapes.{fold-below, fits_table, some-greatest}
 use Rattle.opgen_kcm.proofs.rows.add_table.Goals as goal
 
@@ -15,24 +14,24 @@ shape_of-shape-requires-clause-small c =
 pub word-requires-clause-width : goal.word-requires-clause-width
 word-requires-clause-width c =
     let k = c.args.chunk in
-    let size : length c.deref.result.now ≡ k.width =
-    ap length (c.deref.ensures.value ∙ c.in_ok-bits.ensures) ∙ length-bits_from c.args.input k.low k.width in
+    let size : length c.as_slice.result.now ≡ k.width =
+    ap length (c.as_slice.ensures ∙ c.in_ok-bits.ensures) ∙ length-bits_from c.args.input k.low k.width in
     (omega (arith, size, c.requires.some), omega (arith, size, c.requires.few))
 
 pub word-requires-clause-there : goal.word-requires-clause-there
 word-requires-clause-there c =
     let k = c.args.chunk in
     let ws = widths c.args.net.now.nodes in
-    subst (All (IsThere ws)) (sym (c.deref.ensures.value ∙ c.in_ok-bits.ensures))
-    (bits-there ws c.args.input k.low k.width c.requires.there)
+    subst (All (IsThere ws)) (sym (c.as_slice.ensures ∙ c.in_ok-bits.ensures))
+    (bits_from-there ws c.args.input k.low k.width c.requires.there)
 
 pub table-requires-clause-fits : goal.table-requires-clause-fits
 table-requires-clause-fits c =
     let k = c.args.chunk in
     let ns = c.args.offsets.now in
     let ws = widths c.word.new.self.nodes in
-    let size : length c.deref.result.now ≡ k.width =
-    ap length (c.deref.ensures.value ∙ c.in_ok-bits.ensures) ∙ length-bits_from c.args.input k.low k.width in
+    let size : length c.as_slice.result.now ≡ k.width =
+    ap length (c.as_slice.ensures ∙ c.in_ok-bits.ensures) ∙ length-bits_from c.args.input k.low k.width in
     let rows : c.in_ok-rows.rows.items ≡ rows_in (shape_of ns) ns =
     c.in_ok-rows.ensures ∙ ap (λ s. rows_in s ns) c.shape_of-shape.ensures.value in
     let some : 1 ≤ greatest_of ns = some-greatest (greatest_of ns) (λ e. c.if-greatest-eq0.false (c.greatest_of-greatest.ensures ∙ e)) in

@@ -13,7 +13,8 @@ use Rattle.opgen_kcm.specs.Entries.{in_guard_units, entry, all_entries}
 use Rattle.opgen_kcm.specs.Recipe.{Terms, with_chunks, with_entries, input_width, HasRoom}
 use Rattle.opgen_kcm.specs.Multiple.{sum_at}
 use Rattle.opgen_kcm.proofs.Bounds.{abs-some, guard-few, scaled-small, scaled-room}
-use Rattle.opgen_kcm.proofs.Kept.{words-later, terms-same, more-then, more-same}
+use Rattle.opgen_net.proofs.Later.{words-grown}
+use Rattle.opgen_kcm.proofs.Kept.{terms-same, more-then, more-same}
 use Rattle.opgen_kcm.proofs.Multiples.{total, total-multiple}
 use Rattle.opgen_kcm.proofs.Residues.{residue-none, residue-then}
 use Rattle.opgen_kcm.proofs.rows.rows_of.Goals as goal
@@ -35,8 +36,8 @@ chunks-init c =
       net = refl;
       heap = refl;
       valid = c.requires.net;
-      more = more-same (record { net = c.args.net.now; heap = heap }) c.requires.bits;
-      sum = λ inputs t words. residue-none (columns_sum (λ n. flow c.args.net.now.nodes inputs n t) heap.columns + heap.constant)
+      more = more-same (record { net = c.args.net.now; heap = heap });
+      sum = λ there inputs t words. residue-none (columns_sum (λ n. flow c.args.net.now.nodes inputs n t) heap.columns + heap.constant)
           (2 ^ heap.width) (pow_pos heap.width);
     }
 
@@ -86,7 +87,7 @@ chunks-preserved c =
       heap = ap (λ (t : Terms). t.heap) all;
       valid = c.add_chunk.ensures.valid;
       more = more-then old before now i.more c.in_ok-add_chunk.ensures.more;
-      sum = λ inputs t words.
+      sum = λ there inputs t words.
           let x = flow c.args.net.now.nodes inputs c.args.input t in
           let kept : flow c.chunks.net.nodes inputs c.args.input t ≡ x =
           grown-flow c.args.net.now c.chunks.net i.more.net inputs c.args.input t c.requires.there in
@@ -94,20 +95,20 @@ chunks-preserved c =
           let m = 2 ^ c.args.heap.now.width in
           let start = pos (sum_at old inputs t) in
           let sum : (start +ℤ total q w s k x) +ℤ e ≡ start +ℤ total q w s (suc k) x = omega (arith, ints) in
-          c.in_ok-add_chunk.ensures.sum inputs t (words-later c.args.net.now c.chunks.net i.more.net inputs words)
+          c.in_ok-add_chunk.ensures.sum (i.more.bits there) inputs t (words-grown c.args.net.now c.chunks.net i.more.net inputs words)
           ∙ ap (λ n. residue (pos (sum_at before inputs t) +ℤ entry q c.at-chunk.result
           (digit_of c.at-chunk.result (chunk_word c.at-chunk.result (flow c.chunks.net.nodes inputs c.args.input t)))) (2 ^ n)) i.more.width
           ∙ ap (λ d. residue (pos (sum_at before inputs t) +ℤ entry q d
           (digit_of d (chunk_word d (flow c.chunks.net.nodes inputs c.args.input t)))) m) c.at-chunk.ensures.value
           ∙ ap (λ y. residue (pos (sum_at before inputs t) +ℤ entry q chunk (digit_of chunk (chunk_word chunk y))) m) kept
-          ∙ ap (λ n. residue (pos n +ℤ e) m) (i.sum inputs t words)
+          ∙ ap (λ n. residue (pos n +ℤ e) m) (i.sum there inputs t words)
           ∙ residue-then (start +ℤ total q w s k x) e m (pow_pos c.args.heap.now.width)
           ∙ ap (λ z. residue z m) sum
           ∙ ap (λ n. residue (start +ℤ total q w s n x) m) next;
     }
 
 pub returns-clause-risen : goal.returns-clause-risen
-returns-clause-risen c = λ inputs t words.
+returns-clause-risen c = λ there inputs t words.
     let net = c.args.net.now in
     let w = input_width net c.args.input in
     let x = flow net.nodes inputs c.args.input t in
@@ -123,7 +124,7 @@ returns-clause-risen c = λ inputs t words.
           total-multiple c.args.q c.args.guard w c.args.signed x c.requires.positive
           (flow-width net c.requires.net inputs words c.args.input t)
           (are_widths net.nodes c.requires.net.nodes c.args.input c.requires.there).0;
-      sum = c.chunks.invariant.sum inputs t words
+      sum = c.chunks.invariant.sum there inputs t words
           ∙ ap (λ n. residue (start +ℤ total c.in_guard_units-units.result c.width_of-width.result c.args.signed n x) m) end
           ∙ ap (λ n. residue (start +ℤ total c.in_guard_units-units.result n c.args.signed (chunk_count n) x) m) wide
           ∙ ap (λ (r : Ratio). residue (start +ℤ total r w c.args.signed (chunk_count w) x) m) c.in_guard_units-units.ensures;

@@ -1,6 +1,7 @@
 use Rattle.std.proofs.Common.{◌≡◌, ◌^◌}
 use Rattle.std.specs.Prelude.{ℤ, pos, ◌+ℤ◌, All}
 use Rattle.opgen_heap.specs.Adding.{residue}
+use Rattle.opgen_heap.specs.Standing.{AllThere}
 use Rattle.opgen_net.specs.Flow.{Inputs, flow}
 use Rattle.opgen_net.specs.Valid.{IsValid, input_widths}
 use Rattle.opgen_design.specs.Run.{AreWords}
@@ -18,7 +19,7 @@ invariant-chunks l =
       heap : l.heap ≡ (with_chunks l.units l.input l.width l.signed l.place old).heap;
       valid : IsValid l.net;
       more : HasTermsMore old now;
-      sum : (inputs : Inputs) (t : ℤ) → All (AreWords (input_widths l.initial.net)) inputs
+      sum : AllThere l.initial.net l.initial.heap.columns → (inputs : Inputs) (t : ℤ) → All (AreWords (input_widths l.initial.net)) inputs
           → sum_at now inputs t
           ≡ residue (pos (sum_at old inputs t) +ℤ total l.units l.width l.signed l.place (flow l.initial.net.nodes inputs l.input t))
           (2 ^ l.initial.heap.width);

@@ -1,10 +1,10 @@
 use Rattle.std.proofs.Common.{sym, subst, ap, ◌∙◌}
 use Rattle.std.proofs.lemmas.Option.{slice_get_within}
 use Rattle.opgen_design.specs.Run.{Cycle, Words, at_ports, is_in}
-use Rattle.opgen_sim.specs.Evaluate.{HaveWidths, settle, hand_all_on}
-use Rattle.opgen_sim.proofs.Cycles.{is-cycle}
-use Rattle.opgen_sim.proofs.Equations.{placed}
-use Rattle.opgen_sim.proofs.Widths.{settle-widths, words-eq}
+use Rattle.opgen_runs.specs.Evaluate.{HaveWidths, settle, hand_all_on}
+use Rattle.opgen_runs.proofs.Cycles.{is-cycle}
+use Rattle.opgen_runs.proofs.Equations.{placed}
+use Rattle.opgen_runs.proofs.Widths.{settle-widths, words-eq}
 use Rattle.opgen_sim.proofs.cycle.run_cycle.Goals as goal
 
 pub settle-requires-clause-places : goal.settle-requires-clause-places

@@ -4,9 +4,9 @@ use Rattle.std.proofs.lemmas.List.{drop_more, length-map}
 use Rattle.std.proofs.lemmas.Option.{slice_get_within, get_or_from_slice_get}
 use Rattle.opgen_design.specs.Run.{Words}
 use Rattle.opgen_design.specs.Sound.{signal_widths}
-use Rattle.opgen_sim.specs.Evaluate.{HaveWidths, hand_all_on}
-use Rattle.opgen_sim.proofs.Widths.{narrow, agree-at, driver-fits, declared-there}
-use Rattle.opgen_sim.proofs.Registers.{enable-there, hand_on-widths}
+use Rattle.opgen_runs.specs.Evaluate.{HaveWidths, hand_all_on}
+use Rattle.opgen_runs.proofs.Widths.{narrow, agree-at, driver-fits, declared-there}
+use Rattle.opgen_runs.proofs.Registers.{enable-there, hand_on-widths}
 use Rattle.opgen_sim.proofs.evaluate.hand_all_on.Goals as goal
 
 pub hand_on-requires-clause-narrow : goal.hand_on-requires-clause-narrow

@@ -1,6 +1,6 @@
 use Rattle.std.proofs.Common.{◌≡◌, drop, length, map}
 use Rattle.opgen_design.specs.Sound.{signal_widths}
-use Rattle.opgen_sim.specs.Evaluate.{hand_all_on}
+use Rattle.opgen_runs.specs.Evaluate.{hand_all_on}
 use Rattle.opgen_sim.proofs.evaluate.hand_all_on.Given as goal
 
 abbrev pub invariant-loop-place : goal.invariant-loop-place

@@ -1,9 +1,9 @@
 use Rattle.std.proofs.Common.{◌≡◌, ◌+◌, get_or, drop, sym, ap, ◌∙◌, subst, arith}
 use Rattle.std.proofs.lemmas.List.{drop_more}
 use Rattle.opgen_design.specs.Run.{Words}
-use Rattle.opgen_sim.specs.Evaluate.{HaveWidths, put, put_option, settle}
+use Rattle.opgen_runs.specs.Evaluate.{HaveWidths, put, put_option, settle}
 use Rattle.opgen_sim.proofs.TableLaws.{table-there, table-at}
-use Rattle.opgen_sim.proofs.Widths.{narrow, agree-at, driver-fits, declared-there, put-widths, words-eq}
+use Rattle.opgen_runs.proofs.Widths.{narrow, agree-at, driver-fits, declared-there, put-widths, words-eq}
 use Rattle.opgen_sim.proofs.evaluate.settle.Goals as goal
 
 pub put-requires-clause-narrow : goal.put-requires-clause-narrow

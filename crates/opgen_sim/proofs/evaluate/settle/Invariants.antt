@@ -1,5 +1,5 @@
 use Rattle.std.proofs.Common.{◌≡◌, drop}
-use Rattle.opgen_sim.specs.Evaluate.{HaveWidths, settle}
+use Rattle.opgen_runs.specs.Evaluate.{HaveWidths, settle}
 use Rattle.opgen_sim.proofs.evaluate.settle.Given as goal
 
 abbrev pub invariant-loop-place : goal.invariant-loop-place

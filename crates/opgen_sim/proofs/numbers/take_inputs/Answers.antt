@@ -2,7 +2,7 @@ use Rattle.std.proofs.Common.{◌≡◌, ◌+◌, ◌<◌, [], ◌∷◌, ◌++�
 use Rattle.std.proofs.lemmas.List.{length-map, length-take-le}
 use Rattle.opgen_num.specs.Words.{word}
 use Rattle.opgen_design.specs.Run.{at_ports, is_in}
-use Rattle.opgen_sim.specs.Step.{words_of}
+use Rattle.opgen_runs.specs.Step.{words_of}
 use Rattle.opgen_sim.proofs.Ports.{Taken, taken-now, taken-room, taken-below, taken-step, front-more, widths-stay}
 use Rattle.opgen_sim.proofs.numbers.take_inputs.Goals as goal
 

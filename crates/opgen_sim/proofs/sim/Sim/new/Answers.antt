@@ -3,10 +3,10 @@ use Rattle.opgen_design.specs.Order.{IsOrderOf}
 use Rattle.opgen_design.specs.Run.{initial_words}
 use Rattle.opgen_design.specs.Sound.{IsSound, signal_widths}
 use Rattle.opgen_num.specs.Words.{word}
-use Rattle.opgen_sim.specs.Evaluate.{HaveWidths}
-use Rattle.opgen_sim.specs.Sims.{SameRegisters}
+use Rattle.opgen_runs.specs.Evaluate.{HaveWidths}
+use Rattle.opgen_runs.specs.Registers.{SameRegisters}
 use Rattle.opgen_sim.specs.Tables.{AreTables}
-use Rattle.opgen_sim.proofs.Starts.{start, starts-widths, starts-registers, zeros-widths}
+use Rattle.opgen_runs.proofs.Starts.{start, starts-widths, starts-registers, zeros-widths}
 use Rattle.opgen_sim.proofs.sim.Sim.new.Goals as goal
 
 pub invariant_of-result : goal.invariant_of-result

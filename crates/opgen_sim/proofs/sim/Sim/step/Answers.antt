@@ -5,8 +5,8 @@ use Rattle.opgen_num.specs.Words.{nat}
 use Rattle.opgen_design.specs.Run.{Cycle, Words, at_ports, is_in, is_out, input_widths}
 use Rattle.opgen_design.specs.Sound.{port_widths}
 use Rattle.opgen_sim.specs.Sims.{Simulator}
-use Rattle.opgen_sim.specs.Step.{IsStep, words_of}
-use Rattle.opgen_sim.proofs.Starts.{at_ports-length}
+use Rattle.opgen_runs.specs.Step.{IsStep, words_of}
+use Rattle.opgen_runs.proofs.Starts.{at_ports-length}
 use Rattle.opgen_sim.proofs.sim.Sim.step.Goals as goal
 
 pub give_outputs-requires-clause-room : goal.give_outputs-requires-clause-room

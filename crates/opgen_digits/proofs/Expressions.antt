@@ -1,0 +1,39 @@
+-- The expressions of a digit.
+use Rattle.std.proofs.Common.{◌≡◌, ℕ, ◌+◌, ◌<◌, ◌≤◌, ◌-◌, Bool, true, false, List, [], ◌∷◌, ◌++◌, length, map, Some, None, refl, sym, ap, ◌∙◌, subst, arith}
+use Rattle.std.specs.Prelude.{All, slice_index, slice_get, option_and_then, if◌then◌else◌, nat_le, nat_lt, ◌&&◌}
+use Rattle.std.proofs.lemmas.Bool.{eq-eqb, le-leb, lt-ltb}
+use Rattle.std.proofs.lemmas.Option.{slice_get-get_or}
+use Rattle.opgen_design.specs.declared.expr.Op.TheVariants.{Minus}
+use Rattle.opgen_design.specs.Tree.{name, none, more}
+use Rattle.opgen_design.specs.Width.{IsWidth, as_width, joined, width, width_on}
+use Rattle.opgen_design.proofs.WidthLaws.{as_width-of}
+use Rattle.opgen_net.specs.Valid.{FitsNodes}
+use Rattle.opgen_net.proofs.FlowLaws.{index_within}
+use Rattle.opgen_digits.specs.Digit.{difference_of, is_not_negative}
+
+module _ (ws : List ℕ) where
+  name-width : (n v : ℕ) → IsWidth v → slice_index ws n ≡ v → width ws [] (name n) ≡ Some v
+  name-width n v w h =
+      let there : slice_get ws n ≡ Some v = slice_get-get_or ws n 0 (index_within ws n 0 (omega (arith, h, w.0))) ∙ ap Some h in
+      ap (option_and_then as_width) there ∙ as_width-of v w
+
+  pub difference-fits : (a b v : ℕ) → IsWidth v → slice_index ws a ≡ v → slice_index ws b ≡ v → FitsNodes ws v (difference_of a b)
+  difference-fits a b v w h g = record {
+    has_width = ap (option_and_then (λ u. width_on ws [] Minus u (more (name b) none))) (name-width a v w h)
+        ∙ ap (option_and_then (λ u. option_and_then (λ x. Some x) (joined Minus v u))) (name-width b v w g)
+        ∙ ap (λ (c : Bool). option_and_then (λ x. Some x) (if c then Some v else None)) (eq-eqb v v refl);
+    nests = omega arith;
+  }
+
+  pub not_negative-fits : (rest f : ℕ) → slice_index ws f ≡ rest + 2 → FitsNodes ws 1 (is_not_negative rest f)
+  not_negative-fits rest f h =
+      let top = rest + 1 in
+      let there : slice_get ws f ≡ Some (rest + 2) = slice_get-get_or ws f 0 (index_within ws f 0 (omega (arith, h))) ∙ ap Some h in
+      let one : top + 1 - top ≡ 1 = omega arith in
+      record {
+        has_width = ap (option_and_then (λ w. if nat_le top top && nat_lt top w then as_width (top + 1 - top) else None)) there
+            ∙ ap (λ c. if c && nat_lt top (rest + 2) then as_width (top + 1 - top) else None) (le-leb top top (omega arith))
+            ∙ ap (λ c. if c then as_width (top + 1 - top) else None) (lt-ltb top (rest + 2) (omega arith))
+            ∙ ap as_width one;
+        nests = omega arith;
+      }

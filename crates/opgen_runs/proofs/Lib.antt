@@ -1,0 +1,10 @@
+pub mod Widths
+pub mod Reading
+pub mod Equations
+pub mod Registers
+pub mod Cycles
+pub mod Starts
+pub mod Kept
+pub mod Orders
+pub mod HasRun
+pub mod OneRun

@@ -1,0 +1,5 @@
+pub mod Tables
+pub mod Evaluate
+pub mod Step
+pub mod Registers
+pub mod OneRun

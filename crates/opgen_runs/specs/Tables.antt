@@ -1,0 +1,8 @@
+-- Tables by their addresses.
+use Rattle.std.specs.Prelude.{ℕ, Bool, List, [], ◌∷◌, nat_eq, if◌then◌else◌, Option, Some, None}
+use Rattle.opgen_num.specs.Words.{nat}
+
+-- the word of the first row of an address
+abbrev pub row_word : List (List Bool × List Bool) → (address : ℕ) → Option (List Bool)
+row_word [] n = None
+row_word (r ∷ rows) n = if nat_eq (nat r.0) n then Some r.1 else row_word rows n
