@@ -32,7 +32,8 @@ weight-more k c = elim (cases_order c k) [
 
 pub weight_below-suc : (m n k : ℕ) → weight_below m n (suc k) ≡ weight_below m n k + bits_in_column m n k * 2 ^ k
 weight_below-suc m n k =
-    pairs-same m n (λ i j. weight (suc k) (i + j)) (λ i j. weight k (i + j) + cond (eqb (i + j) k) 1 0 * 2 ^ k) (λ i j h l. weight-more k (i + j))
+    pairs-same m n (λ i j. weight (suc k) (i + j)) (λ i j. weight k (i + j) + cond (eqb (i + j) k) 1 0 * 2 ^ k)
+    (λ i j h l. weight-more k (i + j))
     ∙ pairs-plus m n (λ i j. weight k (i + j)) (λ i j. cond (eqb (i + j) k) 1 0 * 2 ^ k)
     ∙ ap (λ s. weight_below m n k + s) (pairs-times m n (λ i j. cond (eqb (i + j) k) 1 0) (2 ^ k))
 

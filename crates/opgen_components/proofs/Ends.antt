@@ -54,7 +54,8 @@ start-walk g n e = record {
 }
 
 -- with no open node the path is empty
-pub path-empty : (g : Graph) (marks : List Mark) (next path bounds places : List ℕ) (count : ℕ) → IsWalkOf g marks next path bounds places count → length places ≡ 0 → length path ≡ 0
+pub path-empty : (g : Graph) (marks : List Mark) (next path bounds places : List ℕ) (count : ℕ)
+    → IsWalkOf g marks next path bounds places count → length places ≡ 0 → length path ≡ 0
 path-empty g marks next path bounds places count w e =
     elim (cases_lt 0 (length path)) [
       | inl l ↦ let b = w.on_path.begins 0 l in let c = w.on_path.bounds_open b.0 b.1 in absurd (omega (arith, c.1, e))
@@ -62,7 +63,8 @@ path-empty g marks next path bounds places count w e =
     ]
 
 -- one link more was followed
-pub left-less : (g : Graph) (next : List ℕ) (s k : ℕ) → length next ≡ length g → get_or next s 0 ≡ k → k < length (links_of g s) → left g (set next s (k + 1)) + 1 ≡ left g next
+pub left-less : (g : Graph) (next : List ℕ) (s k : ℕ) → length next ≡ length g → get_or next s 0 ≡ k → k < length (links_of g s)
+    → left g (set next s (k + 1)) + 1 ≡ left g next
 left-less [] next s k l e h = absurd (omega (arith, h))
 left-less (links ∷ g) [] s k l e h = absurd (omega (arith, l))
 left-less (links ∷ g) (n ∷ next) zero k l e h = omega (arith, e, h)
@@ -129,7 +131,8 @@ module _ (g : Graph) (marks : List Mark) (next path bounds places : List ℕ) (c
       elim (cases_Bool (component_of found s).cyclic) [
         | inl e ↦ e
         | inr e ↦
-            let a = w.settled.alone s f.0 (component_of found s) (component_of found f.0) (is_done s l) e (is_done f.0 (graph s f.0 c)) same in
+            let a = w.settled.alone s f.0 (component_of found s) (component_of found f.0) (is_done s l) e
+            (is_done f.0 (graph s f.0 c)) same in
             let b : link_at g s c.0 ≡ f.0 = get_or_default (links_of g s) c.0 0 f.0 c.1 ∙ c.2 in
             absurd (w.settled.straight s c.0 (component_of found s) (is_done s l) e c.1 (b ∙ a))
       ]

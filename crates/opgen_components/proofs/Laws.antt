@@ -6,7 +6,8 @@ use Rattle.opgen_components.specs.declared.Component.{Component}
 use Rattle.opgen_components.specs.Graph.{Graph, links_of, Path, link, through, AreComponents, component_of}
 
 -- a link from a node that is not cyclic leads to a smaller number
-pub smaller : (g : Graph) (cs : List Component) → AreComponents g cs → (s r : ℕ) → s < length g → r < length g → Contains (links_of g s) r → (Path g s s → ⊥) → (component_of cs r).number < (component_of cs s).number
+pub smaller : (g : Graph) (cs : List Component) → AreComponents g cs → (s r : ℕ) → s < length g → r < length g → Contains (links_of g s) r
+    → (Path g s s → ⊥) → (component_of cs r).number < (component_of cs s).number
 smaller g cs h s r l m c off =
     elim (cases_lt (component_of cs r).number (component_of cs s).number) [
       | inl k ↦ k

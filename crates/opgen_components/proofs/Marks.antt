@@ -28,7 +28,8 @@ marked-again ms (n ∷ ns) m t h l =
       | inr d ↦ marked-again (set ms n m) ns m t (get_or-set_other ms n t m New d ∙ h) there
     ]
 
-pub marked-in : (ms : List Mark) (ns : List ℕ) (m : Mark) (k : ℕ) → k < length ns → get_or ns k 0 < length ms → mark_of (marked ms ns m) (get_or ns k 0) ≡ m
+pub marked-in : (ms : List Mark) (ns : List ℕ) (m : Mark) (k : ℕ) → k < length ns → get_or ns k 0 < length ms
+    → mark_of (marked ms ns m) (get_or ns k 0) ≡ m
 marked-in ms [] m k l h = absurd (omega (arith, l))
 marked-in ms (n ∷ ns) m zero l h =
     marked-again (set ms n m) ns m n (get_or-set_same ms n m New h) (omega (arith, length-set ms n m, h))

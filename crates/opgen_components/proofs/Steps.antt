@@ -25,7 +25,8 @@ walk-same g ms ns next next' path path' bounds bounds' places places' count coun
     (subst (λ x. IsWalkOf g ms next path bounds x count') (sym e)
     (subst (λ x. IsWalkOf g ms next path bounds places x) (sym f) w)))))
 
-pub links-of-graph : {Z : Type 0} (vs : List (Vec ℕ Z)) (s : ℕ) (d : Vec ℕ Z) → s < length vs → links_of (graph_of vs) s ≡ (get_or vs s d).items
+pub links-of-graph : {Z : Type 0} (vs : List (Vec ℕ Z)) (s : ℕ) (d : Vec ℕ Z) → s < length vs → links_of (graph_of vs) s
+    ≡ (get_or vs s d).items
 links-of-graph vs s d l = get_or-map (λ v. v.items) vs s d [] l
 
 pub length-graph : {Z : Type 0} (vs : List (Vec ℕ Z)) → length (graph_of vs) ≡ length vs
@@ -66,43 +67,58 @@ module _ (g : Graph) (old now : Walk) (graph : IsGraph g) (w : IsWalk g old) (o 
   there = place-there g old w o top
 
   abbrev IsAdvanced : Type 0
-  IsAdvanced = IsWalkOf g now.marks.items (set now.next.items node (k + 1)) now.path.items now.bounds.items now.open_places.items (length now.done.items)
+  IsAdvanced = IsWalkOf g now.marks.items (set now.next.items node (k + 1)) now.path.items now.bounds.items now.open_places.items
+      (length now.done.items)
 
   by_new : mark_of old.marks.items next_node ≡ New → Entered old next_node now → IsAdvanced
   by_new new e =
-      let reached = λ (i : ℕ) (l : i < length old.path.items). reaches-trans g (get_or old.path.items i 0) node next_node (reaches-top g old.marks.items old.next.items old.path.items old.bounds.items old.open_places.items (length old.done.items) w o top i l) (inr (link leads)) in
+      let reached = λ (i : ℕ) (l : i < length old.path.items). reaches-trans g (get_or old.path.items i 0) node next_node
+      (reaches-top g old.marks.items old.next.items old.path.items old.bounds.items old.open_places.items
+      (length old.done.items) w o top i l) (inr (link leads)) in
       let n = length old.path.items in
-      let v = entered-walk g old.marks.items old.next.items old.path.items old.bounds.items old.open_places.items (length old.done.items) w next_node new (graph node next_node leads) reached in
+      let v = entered-walk g old.marks.items old.next.items old.path.items old.bounds.items old.open_places.items
+      (length old.done.items) w next_node new (graph node next_node leads) reached in
       let same : get_or (old.path.items ++ next_node ∷ []) o 0 ≡ node = get_or_append_left old.path.items (next_node ∷ []) 0 o there in
-      let is : mark_of (set old.marks.items next_node (Open n)) next_node ≡ Open n = get_or-set_same old.marks.items next_node (Open n) New (omega (arith, w.marks_length, graph node next_node leads)) in
+      let is : mark_of (set old.marks.items next_node (Open n)) next_node
+      ≡ Open n = get_or-set_same old.marks.items next_node (Open n) New (omega (arith, w.marks_length, graph node next_node leads)) in
       let opened : mark_of (set old.marks.items next_node (Open n)) (link_at g (get_or (old.path.items ++ next_node ∷ []) o 0) k) ≡ Open n =
       ap (λ x. mark_of (set old.marks.items next_node (Open n)) (link_at g x k)) same ∙ is in
       let low : IsFollowed (old.bounds.items ++ n ∷ []) (Open n) o = λ b c m. omega (arith, m, there) in
-      let u = advanced-walk g (set old.marks.items next_node (Open n)) old.next.items (old.path.items ++ next_node ∷ []) (old.bounds.items ++ n ∷ []) (old.open_places.items ++ n ∷ []) (length old.done.items) v o k
+      let u = advanced-walk g (set old.marks.items next_node (Open n)) old.next.items (old.path.items ++ next_node ∷ [])
+      (old.bounds.items ++ n ∷ []) (old.open_places.items ++ n ∷ []) (length old.done.items) v o k
       (omega (arith, there, length_push old.path.items next_node)) (ap (λ x. get_or old.next.items x 0) same ∙ at)
       (subst (λ m. IsFollowed (old.bounds.items ++ n ∷ []) m o) (sym opened) low) in
       walk-same g (set old.marks.items next_node (Open n)) now.marks.items
       (set old.next.items (get_or (old.path.items ++ next_node ∷ []) o 0) (k + 1)) (set now.next.items node (k + 1))
       (old.path.items ++ next_node ∷ []) now.path.items (old.bounds.items ++ n ∷ []) now.bounds.items
       (old.open_places.items ++ n ∷ []) now.open_places.items (length old.done.items) (length now.done.items)
-      e.marks (ap (λ x. set x node (k + 1)) e.next ∙ ap (λ x. set old.next.items x (k + 1)) (sym same)) e.path e.bounds e.open_places (ap length e.done) u
+      e.marks (ap (λ x. set x node (k + 1)) e.next ∙ ap (λ x. set old.next.items x (k + 1)) (sym same)) e.path e.bounds e.open_places
+      (ap length e.done) u
 
   by_open : (p : ℕ) → mark_of old.marks.items next_node ≡ Open p → Joined old p now → IsAdvanced
   by_open p opened e =
-      let v = joined-walk g old.marks.items old.next.items old.path.items old.bounds.items old.open_places.items (length old.done.items) w o next_node p top leads opened now.bounds.items e.up e.there e.within e.kept in
-      let f = joined-followed g old.marks.items old.next.items old.path.items old.bounds.items old.open_places.items (length old.done.items) w o next_node p top leads opened now.bounds.items e.up e.there e.within e.kept in
-      let u = advanced-walk g old.marks.items old.next.items old.path.items now.bounds.items old.open_places.items (length old.done.items) v o k there at f in
-      walk-same g old.marks.items now.marks.items (set old.next.items node (k + 1)) (set now.next.items node (k + 1)) old.path.items now.path.items now.bounds.items now.bounds.items
+      let v = joined-walk g old.marks.items old.next.items old.path.items old.bounds.items old.open_places.items
+      (length old.done.items) w o next_node p top leads opened now.bounds.items e.up e.there e.within e.kept in
+      let f = joined-followed g old.marks.items old.next.items old.path.items old.bounds.items old.open_places.items
+      (length old.done.items) w o next_node p top leads opened now.bounds.items e.up e.there e.within e.kept in
+      let u = advanced-walk g old.marks.items old.next.items old.path.items now.bounds.items old.open_places.items
+      (length old.done.items) v o k there at f in
+      walk-same g old.marks.items now.marks.items (set old.next.items node (k + 1))
+      (set now.next.items node (k + 1)) old.path.items now.path.items now.bounds.items now.bounds.items
       old.open_places.items now.open_places.items (length old.done.items) (length now.done.items)
       e.marks (ap (λ x. set x node (k + 1)) e.next) e.path refl e.open_places (ap length e.done) u
 
   by_done : (c : Component) → mark_of old.marks.items next_node ≡ Done c → now ≡ old → IsAdvanced
   by_done c done e =
-      let f : IsFollowed old.bounds.items (mark_of old.marks.items next_node) o = subst (λ m. IsFollowed old.bounds.items m o) (sym done) tt in
-      let u = advanced-walk g old.marks.items old.next.items old.path.items old.bounds.items old.open_places.items (length old.done.items) w o k there at f in
-      walk-same g old.marks.items now.marks.items (set old.next.items node (k + 1)) (set now.next.items node (k + 1)) old.path.items now.path.items old.bounds.items now.bounds.items
+      let f : IsFollowed old.bounds.items (mark_of old.marks.items next_node) o = subst (λ m. IsFollowed old.bounds.items m o)
+      (sym done) tt in
+      let u = advanced-walk g old.marks.items old.next.items old.path.items old.bounds.items old.open_places.items
+      (length old.done.items) w o k there at f in
+      walk-same g old.marks.items now.marks.items (set old.next.items node (k + 1))
+      (set now.next.items node (k + 1)) old.path.items now.path.items old.bounds.items now.bounds.items
       old.open_places.items now.open_places.items (length old.done.items) (length now.done.items)
-      (ap (λ x. x.marks.items) e) (ap (λ x. set x.next.items node (k + 1)) e) (ap (λ x. x.path.items) e) (ap (λ x. x.bounds.items) e) (ap (λ x. x.open_places.items) e) (ap (λ x. length x.done.items) e) u
+      (ap (λ x. x.marks.items) e) (ap (λ x. set x.next.items node (k + 1)) e) (ap (λ x. x.path.items) e) (ap (λ x. x.bounds.items) e)
+      (ap (λ x. x.open_places.items) e) (ap (λ x. length x.done.items) e) u
 
   advanced_by : (m : Mark) → mark_of old.marks.items next_node ≡ m → Follows m old next_node now → IsAdvanced
   advanced_by New h e = by_new h e
@@ -112,12 +128,14 @@ module _ (g : Graph) (old now : Walk) (graph : IsGraph g) (w : IsWalk g old) (o 
   pub advanced : Follows (mark_of old.marks.items next_node) old next_node now → IsAdvanced
   advanced e = advanced_by (mark_of old.marks.items next_node) refl e
 
-  less_by : (m : Mark) → Follows m old next_node now → (now.next.items ≡ old.next.items) × (length now.open_places.items ≤ length old.open_places.items + 1)
+  less_by : (m : Mark) → Follows m old next_node now → (now.next.items ≡ old.next.items)
+      × (length now.open_places.items ≤ length old.open_places.items + 1)
   less_by New e = (e.next, omega (arith, ap length e.open_places, length_push old.open_places.items (length old.path.items)))
   less_by (Open p) e = (e.next, omega (arith, ap length e.open_places))
   less_by (Done c) e = (ap (λ x. x.next.items) e, omega (arith, ap (λ x. length x.open_places.items) e))
 
-  pub advanced-less : Follows (mark_of old.marks.items next_node) old next_node now → 2 * left g (set now.next.items node (k + 1)) + length now.open_places.items < work g old
+  pub advanced-less : Follows (mark_of old.marks.items next_node) old next_node now
+      → 2 * left g (set now.next.items node (k + 1)) + length now.open_places.items < work g old
   advanced-less e =
       let a = less_by (mark_of old.marks.items next_node) e in
       let b = left-less g old.next.items node k w.next_length at more in
@@ -137,7 +155,8 @@ module _ (g : Graph) (old now : Walk) (graph : IsGraph g) (w : IsWalk g old) (o 
 
 module _ (g : Graph) (old now : Walk) (w : IsWalk g old) (o : ℕ) (top : IsTop old.open_places.items o)
     (ended : length (links_of g (get_or old.path.items o 0)) ≤ get_or old.next.items (get_or old.path.items o 0) 0) where
-  rest_less : now.open_places.items ≡ take (length old.open_places.items - 1) old.open_places.items → now.next.items ≡ old.next.items → work g now < work g old
+  rest_less : now.open_places.items ≡ take (length old.open_places.items - 1) old.open_places.items → now.next.items ≡ old.next.items
+      → work g now < work g old
   rest_less e f =
       let a = ap length e in
       let b = length-take (length old.open_places.items - 1) old.open_places.items in
@@ -148,10 +167,13 @@ module _ (g : Graph) (old now : Walk) (w : IsWalk g old) (o : ℕ) (top : IsTop 
   module _ (b : ℕ) (begin : IsTop old.bounds.items b) (other : b ≢ o) (e : Finished old now) where
     pub finished : IsWalk g now
     finished =
-        walk-same g old.marks.items now.marks.items old.next.items now.next.items old.path.items now.path.items old.bounds.items now.bounds.items
-        (take (length old.open_places.items - 1) old.open_places.items) now.open_places.items (length old.done.items) (length now.done.items)
+        walk-same g old.marks.items now.marks.items old.next.items now.next.items old.path.items now.path.items old.bounds.items
+        now.bounds.items
+        (take (length old.open_places.items - 1) old.open_places.items) now.open_places.items (length old.done.items)
+        (length now.done.items)
         e.marks e.next e.path e.bounds e.open_places (ap length e.done)
-        (finished-walk g old.marks.items old.next.items old.path.items old.bounds.items old.open_places.items (length old.done.items) w o top ended b begin other)
+        (finished-walk g old.marks.items old.next.items old.path.items old.bounds.items old.open_places.items
+        (length old.done.items) w o top ended b begin other)
 
     pub finished-less : work g now < work g old
     finished-less = rest_less e.open_places e.next
@@ -160,18 +182,23 @@ module _ (g : Graph) (old now : Walk) (w : IsWalk g old) (o : ℕ) (top : IsTop 
     finished-met = λ s d f. d (ap (λ x. mark_of x s) (sym e.marks) ∙ f)
 
   module _ (begin : IsTop old.bounds.items o) (is_cyclic : Bool) (e : Closed old o is_cyclic now)
-      (turns : is_cyclic ≡ true → (o + 1 < length old.path.items) ⊎ Contains (links_of g (get_or old.path.items o 0)) (get_or old.path.items o 0))
-      (ends : is_cyclic ≡ false → (length old.path.items ≡ o + 1) × (Contains (links_of g (get_or old.path.items o 0)) (get_or old.path.items o 0) → ⊥)) where
+      (turns : is_cyclic ≡ true → (o + 1 < length old.path.items) ⊎ Contains (links_of g (get_or old.path.items o 0)) (get_or old.path.items
+      o 0))
+      (ends : is_cyclic ≡ false → (length old.path.items ≡ o + 1)
+      × (Contains (links_of g (get_or old.path.items o 0)) (get_or old.path.items o 0) → ⊥)) where
     abbrev group : Component
     group = record { number = length old.done.items; cyclic = is_cyclic }
 
     pub closed : IsWalk g now
     closed =
-        walk-same g (marked old.marks.items (drop o old.path.items) (Done group)) now.marks.items old.next.items now.next.items (take o old.path.items) now.path.items
+        walk-same g (marked old.marks.items (drop o old.path.items) (Done group)) now.marks.items old.next.items now.next.items
+        (take o old.path.items) now.path.items
         (take (length old.bounds.items - 1) old.bounds.items) now.bounds.items
-        (take (length old.open_places.items - 1) old.open_places.items) now.open_places.items (length old.done.items + (length old.path.items - o)) (length now.done.items)
+        (take (length old.open_places.items - 1) old.open_places.items) now.open_places.items
+        (length old.done.items + (length old.path.items - o)) (length now.done.items)
         e.marks e.next e.path e.bounds e.open_places e.done
-        (closed-walk g old.marks.items old.next.items old.path.items old.bounds.items old.open_places.items (length old.done.items) w o top ended begin is_cyclic turns ends)
+        (closed-walk g old.marks.items old.next.items old.path.items old.bounds.items old.open_places.items
+        (length old.done.items) w o top ended begin is_cyclic turns ends)
 
     pub closed-less : work g now < work g old
     closed-less = rest_less e.open_places e.next
@@ -182,7 +209,8 @@ module _ (g : Graph) (old now : Walk) (w : IsWalk g old) (o : ℕ) (top : IsTop 
         met_marked (set ms n (Done group)) ns s
         (λ f. elim (cases_eq s n) [
           | inl q ↦ elim (cases_lt n (length ms)) [
-            | inl l ↦ let a : Done group ≡ New = sym (get_or-set_same ms n (Done group) New l) ∙ ap (mark_of (set ms n (Done group))) (sym q) ∙ f in absurd (cc)
+            | inl l ↦ let a : Done group ≡ New = sym (get_or-set_same ms n (Done group) New l)
+                ∙ ap (mark_of (set ms n (Done group))) (sym q) ∙ f in absurd (cc)
             | inr l ↦ d (get_or_past ms s New (omega (arith, l, q)))
           ]
           | inr q ↦ d (sym (get_or-set_other ms n s (Done group) New q) ∙ f)
@@ -192,14 +220,17 @@ module _ (g : Graph) (old now : Walk) (w : IsWalk g old) (o : ℕ) (top : IsTop 
     closed-met = λ s d f. met_marked old.marks.items (drop o old.path.items) s d (ap (λ x. mark_of x s) (sym e.marks) ∙ f)
 
 -- a walk begins anew at a node
-module _ (g : Graph) (old now : Walk) (w : IsWalk g old) (empty : length old.path.items ≡ 0) (root : ℕ) (there : root < length g) (new : mark_of old.marks.items root ≡ New) (e : Entered old root now) where
+module _ (g : Graph) (old now : Walk) (w : IsWalk g old) (empty : length old.path.items ≡ 0) (root : ℕ) (there : root < length g)
+    (new : mark_of old.marks.items root ≡ New) (e : Entered old root now) where
   pub root-walk : IsWalk g now
   root-walk =
       let n = length old.path.items in
-      walk-same g (set old.marks.items root (Open n)) now.marks.items old.next.items now.next.items (old.path.items ++ root ∷ []) now.path.items (old.bounds.items ++ n ∷ []) now.bounds.items
+      walk-same g (set old.marks.items root (Open n)) now.marks.items old.next.items now.next.items
+      (old.path.items ++ root ∷ []) now.path.items (old.bounds.items ++ n ∷ []) now.bounds.items
       (old.open_places.items ++ n ∷ []) now.open_places.items (length old.done.items) (length now.done.items)
       e.marks e.next e.path e.bounds e.open_places (ap length e.done)
-      (entered-walk g old.marks.items old.next.items old.path.items old.bounds.items old.open_places.items (length old.done.items) w root new there
+      (entered-walk g old.marks.items old.next.items old.path.items old.bounds.items old.open_places.items
+      (length old.done.items) w root new there
       (λ i l. absurd (omega (arith, l, empty))))
 
   root-mark : mark_of now.marks.items root ≡ Open (length old.path.items)

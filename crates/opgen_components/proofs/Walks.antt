@@ -45,7 +45,8 @@ settled-kept g ms ns count to from h = record {
   cyclic = λ s c d. h.cyclic s c (from s c d);
 }
 
-module _ (g : Graph) (marks : List Mark) (next path bounds places : List ℕ) (count : ℕ) (w : IsWalkOf g marks next path bounds places count) where
+module _ (g : Graph) (marks : List Mark) (next path bounds places : List ℕ) (count : ℕ)
+    (w : IsWalkOf g marks next path bounds places count) where
   abbrev at : ℕ → ℕ
   at i = get_or path i 0
 
@@ -103,7 +104,8 @@ module _ (g : Graph) (marks : List Mark) (next path bounds places : List ℕ) (c
 
     followed_kept : (i : ℕ) (m : Mark) → i < length path → IsFollowed bounds m i → IsFollowed (bounds ++ length path ∷ []) m i
     followed_kept i New l h = h
-    followed_kept i (Open p) l h = λ b c m. elim (Contains-push_cases bounds (length path) b c) [ inl d ↦ h b d m | inr e ↦ absurd (omega (arith, e, m, l)) ]
+    followed_kept i (Open p) l h = λ b c m. elim
+        (Contains-push_cases bounds (length path) b c) [ inl d ↦ h b d m | inr e ↦ absurd (omega (arith, e, m, l)) ]
     followed_kept i (Done c) l h = tt
 
     was_met : (i : ℕ) (m : Mark) → IsFollowed bounds m i → m ≢ New
@@ -119,7 +121,8 @@ module _ (g : Graph) (marks : List Mark) (next path bounds places : List ℕ) (c
       on_path = record {
         marked = λ i l. elim (cases_end i l) [
           | inl m ↦ ap (mark_of marks-entered) (front i m) ∙ mark_kept (at i) (Open i) (λ e. absurd (cc)) (w.on_path.marked i m)
-          | inr e ↦ ap (λ j. mark_of marks-entered (get_or (path ++ s ∷ []) j 0)) e ∙ ap (mark_of marks-entered) end ∙ mark_same ∙ ap Open (sym e)
+          | inr e ↦ ap (λ j. mark_of marks-entered (get_or (path ++ s ∷ []) j 0)) e ∙ ap (mark_of marks-entered) end ∙ mark_same
+              ∙ ap Open (sym e)
         ];
         placed = λ t p h. elim (cases_eq t s) [
           | inl e ↦
@@ -137,7 +140,8 @@ module _ (g : Graph) (marks : List Mark) (next path bounds places : List ℕ) (c
         reaches = λ i j l m. elim (cases_end j m) [
           | inl n ↦ let x = front i (omega (arith, l, n)) in let y = front j n in rw (x, y) (w.on_path.reaches i j l n)
           | inr e ↦ elim (cases_end i (omega (arith, l, m))) [
-            | inl n ↦ subst (λ x. Reaches g (get_or (path ++ s ∷ []) i 0) (get_or (path ++ s ∷ []) x 0)) (sym e) (rw (front i n, end) (reached i n))
+            | inl n ↦ subst (λ x. Reaches g (get_or (path ++ s ∷ []) i 0) (get_or (path ++ s ∷ []) x 0)) (sym e)
+                (rw (front i n, end) (reached i n))
             | inr f ↦ inl (ap (λ x. get_or (path ++ s ∷ []) x 0) (f ∙ sym e))
           ]
         ];
@@ -154,7 +158,8 @@ module _ (g : Graph) (marks : List Mark) (next path bounds places : List ℕ) (c
               let same = mark_kept (link_at g (at i) k) (mark_of marks (link_at g (at i) k)) (was_met i _ h) refl in
               rw (front i n) (subst (λ x. IsFollowed (bounds ++ length path ∷ []) x i) (sym same) (followed_kept i _ n h))
           | inr e ↦
-              let f : k < get_or next s 0 = subst (λ x. k < get_or next x 0) end (subst (λ x. k < get_or next (get_or (path ++ s ∷ []) x 0) 0) e m) in
+              let f : k < get_or next s 0 = subst (λ x. k < get_or next x 0) end
+              (subst (λ x. k < get_or next (get_or (path ++ s ∷ []) x 0) 0) e m) in
               absurd (omega (arith, f, w.on_path.new s new))
         ];
         finished = λ i l. elim (cases_end i l) [
@@ -179,7 +184,8 @@ module _ (g : Graph) (marks : List Mark) (next path bounds places : List ℕ) (c
 
   -- a link that leads to an open node joins the groups from that node on
   module _ (o r p : ℕ) (top : IsTop places o) (leads : Contains (links_of g (at o)) r) (opened : mark_of marks r ≡ Open p) (cut : List ℕ)
-      (up : IsAscending cut) (there : (b : ℕ) → Contains cut b → Contains bounds b) (within : (b : ℕ) → Contains cut b → b ≤ p) (kept : (b : ℕ) → Contains bounds b → b ≤ p → Contains cut b) where
+      (up : IsAscending cut) (there : (b : ℕ) → Contains cut b → Contains bounds b) (within : (b : ℕ) → Contains cut b → b ≤ p)
+      (kept : (b : ℕ) → Contains bounds b → b ≤ p → Contains cut b) where
     to_place : (i : ℕ) → i < length path → Reaches g (at i) (at p)
     to_place i l =
         let a = w.on_path.placed r p opened in
@@ -225,7 +231,8 @@ module _ (g : Graph) (marks : List Mark) (next path bounds places : List ℕ) (c
     joined-followed = subst (λ m. IsFollowed cut m o) (sym opened) (λ b c m. within b c)
 
   -- one link more was followed
-  module _ (o k : ℕ) (there : o < length path) (was : get_or next (at o) 0 ≡ k) (here : IsFollowed bounds (mark_of marks (link_at g (at o) k)) o) where
+  module _ (o k : ℕ) (there : o < length path) (was : get_or next (at o) 0 ≡ k)
+      (here : IsFollowed bounds (mark_of marks (link_at g (at o) k)) o) where
     within_next : at o < length next
     within_next =
         elim (cases_lt (at o) (length marks)) [
@@ -260,9 +267,11 @@ module _ (g : Graph) (marks : List Mark) (next path bounds places : List ℕ) (c
               let same = same_place i o l there e in
               let n : j < k + 1 = subst (λ x. j < x) (ap (λ x. get_or more x 0) e ∙ more_same) m in
               elim (cases_eq j k) [
-                | inl f ↦ subst (λ x. IsFollowed bounds (mark_of marks (link_at g (at x) j)) x) (sym same) (subst (λ x. IsFollowed bounds (mark_of marks (link_at g (at o) x)) o) (sym f) here)
+                | inl f ↦ subst (λ x. IsFollowed bounds (mark_of marks (link_at g (at x) j)) x) (sym same)
+                    (subst (λ x. IsFollowed bounds (mark_of marks (link_at g (at o) x)) o) (sym f) here)
                 | inr d ↦
-                    let f : j < get_or next (at i) 0 = subst (λ x. j < get_or next x 0) (sym e) (subst (λ x. j < x) (sym was) (omega (arith, n, d))) in
+                    let f : j < get_or next (at i) 0 = subst (λ x. j < get_or next x 0) (sym e)
+                    (subst (λ x. j < x) (sym was) (omega (arith, n, d))) in
                     w.on_path.followed i j l f
               ]
           | inr d ↦ w.on_path.followed i j l (subst (λ x. j < x) (more_other (at i) d) m)
@@ -496,7 +505,8 @@ module _ (g : Graph) (marks : List Mark) (next path bounds places : List ℕ) (c
                 (mutual_reach o i there_top l (omega arith) m)
           ]
 
-      link_done : (i k : ℕ) → i < length path → o ≤ i → k < length (links_of g (at i)) → (m : Mark) → mark_of marks (link_at g (at i) k) ≡ m → IsFollowed bounds m i →
+      link_done : (i k : ℕ) → i < length path → o ≤ i → k < length (links_of g (at i)) → (m : Mark) → mark_of marks (link_at g (at i) k) ≡ m
+          → IsFollowed bounds m i →
           (b : Component) × IsDone closed (link_at g (at i) k) b × (b.number ≤ count)
       link_done i k l n a New h f = absurd f
       link_done i k l n a (Done b) h f = (b, done_stays _ b h, omega (arith, w.settled.numbers (link_at g (at i) k) b h))
@@ -511,11 +521,13 @@ module _ (g : Graph) (marks : List Mark) (next path bounds places : List ℕ) (c
       followed_closed i r (Open q) h f =
           let p = w.on_path.placed r q h in
           elim (cases_lt q o) [
-            | inl m ↦ subst (λ x. IsFollowed bounds-rest x i) (sym (ap (mark_of closed) (sym p.1) ∙ closed-low q m)) (λ b c. f b (from_bounds b c))
+            | inl m ↦ subst (λ x. IsFollowed bounds-rest x i) (sym (ap (mark_of closed) (sym p.1) ∙ closed-low q m))
+                (λ b c. f b (from_bounds b c))
             | inr m ↦ subst (λ x. IsFollowed bounds-rest x i) (sym (ap (mark_of closed) (sym p.1) ∙ closed-in q p.0 m)) tt
           ]
 
-      links_down : (s k : ℕ) (c : Component) → IsDone closed s c → k < length (links_of g s) → (b : Component) × IsDone closed (link_at g s k) b × (b.number ≤ c.number)
+      links_down : (s k : ℕ) (c : Component) → IsDone closed s c → k < length (links_of g s) → (b : Component)
+          × IsDone closed (link_at g s k) b × (b.number ≤ c.number)
       links_down s k c h l =
           elim (done_was s c h) [
             | inl a ↦ let b = w.settled.downwards s k c a l in (b.0, done_stays (link_at g s k) b.0 b.1, b.2)
@@ -611,7 +623,8 @@ module _ (g : Graph) (marks : List Mark) (next path bounds places : List ℕ) (c
               (followed_closed i (link_at g (at i) k) _ refl (w.on_path.followed i k (omega (arith, n, there_top)) f));
           finished = λ i l.
               let n : i < o = omega (arith, l, path-length) in
-              subst (λ y. Contains rest i ⊎ (length (links_of g y) ≤ get_or next y 0)) (sym (path-low i n)) (finished_rest i (omega (arith, n, there_top)));
+              subst (λ y. Contains rest i ⊎ (length (links_of g y) ≤ get_or next y 0)) (sym (path-low i n))
+              (finished_rest i (omega (arith, n, there_top)));
           open_within = λ i c. omega (arith, rest_below i c, path-length);
           open_up = ascending-front rest o rest_up;
           bounds_up = ascending-front bounds-rest o bounds_rest_up;

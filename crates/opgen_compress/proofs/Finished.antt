@@ -6,6 +6,7 @@ use Rattle.std.proofs.lemmas.List.{append-nil, length-map, length-reverse, map-a
 use Rattle.std.proofs.lemmas.List.Elements.{All-cons, All-nil, All-push}
 use Rattle.std.proofs.lemmas.Option.{slice_get-get_or}
 use Rattle.std.proofs.lemmas.Bool.{eq-eqb}
+use Rattle.opgen_num.proofs.Carries.{sum-carry}
 use Rattle.opgen_num.specs.Words.{digit, nat, word}
 use Rattle.opgen_num.specs.WordLaws.{nat-word, length-word}
 use Rattle.opgen_num.specs.Sums.{xor, majority, sum_with}
@@ -59,7 +60,8 @@ reverse-map_reverse f (x ∷ xs) =
 
 All-reverse : (P : WordBit → Type 0) (bs : List WordBit) → All P bs → All P (reverse bs)
 All-reverse P [] h = h
-All-reverse P (b ∷ bs) h = subst (All P) (sym (reverse-cons b bs)) (All-push P (reverse bs) b (All-reverse P bs (rest_of P b bs h)) (first_of P b bs h))
+All-reverse P (b ∷ bs) h = subst (All P) (sym (reverse-cons b bs))
+    (All-push P (reverse bs) b (All-reverse P bs (rest_of P b bs h)) (first_of P b bs h))
 
 -- the bits of a row, that of the lowest column first
 abbrev pub picked : (place : ℕ) → List Column → List WordBit
@@ -70,27 +72,34 @@ bit-there P z [] place h = z
 bit-there P z (b ∷ bs) zero h = first_of P b bs h
 bit-there P z (b ∷ bs) (suc k) h = bit-there P z bs k (rest_of P b bs h)
 
-picked-there : (net : Net) (place : ℕ) (columns : List Column) → AllThere net columns → All (IsThere (widths net.nodes)) (picked place columns)
+picked-there : (net : Net) (place : ℕ) (columns : List Column) → AllThere net columns
+    → All (IsThere (widths net.nodes)) (picked place columns)
 picked-there net place [] h = All-nil (IsThere (widths net.nodes))
 picked-there net place (c ∷ cs) h =
     let P = IsThere (widths net.nodes) in
-    All-cons P (slice_index_or c place Zero) (picked place cs) (bit-there P tt c place (first_column (All P) c cs h)) (picked-there net place cs (rest_columns (All P) c cs h))
+    All-cons P (slice_index_or c place Zero) (picked place cs) (bit-there P tt c place (first_column (All P) c cs h))
+    (picked-there net place cs (rest_columns (All P) c cs h))
 
-pub row-there : (net : Net) (place : ℕ) (columns : List Column) → AllThere net columns → All (IsThere (widths net.nodes)) (row place columns)
+pub row-there : (net : Net) (place : ℕ) (columns : List Column) → AllThere net columns
+    → All (IsThere (widths net.nodes)) (row place columns)
 row-there net place columns h = All-reverse (IsThere (widths net.nodes)) (picked place columns) (picked-there net place columns h)
 
 pub row-length : (place : ℕ) (columns : List Column) → length (row place columns) ≡ length columns
-row-length place columns = length-reverse (picked place columns) ∙ length-map columns (λ (column : Column). slice_index_or column place Zero)
+row-length place columns = length-reverse (picked place columns)
+    ∙ length-map columns (λ (column : Column). slice_index_or column place Zero)
 
-bits-flow : (nodes : List Node) (inputs : Inputs) (t : ℤ) (bs : List WordBit) → map (bit_flow nodes inputs t) bs ≡ map (bit_under (words_at nodes inputs t)) bs
+bits-flow : (nodes : List Node) (inputs : Inputs) (t : ℤ) (bs : List WordBit) → map (bit_flow nodes inputs t) bs
+    ≡ map (bit_under (words_at nodes inputs t)) bs
 bits-flow nodes inputs t [] = refl
 bits-flow nodes inputs t (Zero ∷ bs) = ap (λ l. false ∷ l) (bits-flow nodes inputs t bs)
 bits-flow nodes inputs t (One ∷ bs) = ap (λ l. true ∷ l) (bits-flow nodes inputs t bs)
-bits-flow nodes inputs t (Of node index ∷ bs) = ap (λ l. slice_index_or (flow nodes inputs node t) index false ∷ l) (bits-flow nodes inputs t bs)
+bits-flow nodes inputs t (Of node index ∷ bs) = ap (λ l. slice_index_or (flow nodes inputs node t) index false ∷ l)
+    (bits-flow nodes inputs t bs)
 
 row-word : (nodes : List Node) (inputs : Inputs) (t : ℤ) (place : ℕ) (columns : List Column)
     → word_flow nodes inputs (row place columns) t ≡ map (bit_under (words_at nodes inputs t)) (picked place columns)
-row-word nodes inputs t place columns = reverse-map_reverse (bit_flow nodes inputs t) (picked place columns) ∙ bits-flow nodes inputs t (picked place columns)
+row-word nodes inputs t place columns = reverse-map_reverse (bit_flow nodes inputs t) (picked place columns)
+    ∙ bits-flow nodes inputs t (picked place columns)
 
 bits-kept : (old new : Net) → Later old new → (inputs : Inputs) (t : ℤ) (bs : List WordBit) → All (IsThere (widths old.nodes)) bs
     → map (bit_under (words_at new.nodes inputs t)) bs ≡ map (bit_under (words_at old.nodes inputs t)) bs
@@ -106,7 +115,8 @@ module _ (words : Words) where
   abbrev number : (place : ℕ) → List Column → ℕ
   number place columns = nat (map (bit_under words) (picked place columns))
 
-  two-bits : (c : Column) → length c ≤ 2 → ones words c ≡ digit (bit_under words (slice_index_or c 0 Zero)) + digit (bit_under words (slice_index_or c 1 Zero))
+  two-bits : (c : Column) → length c ≤ 2 → ones words c
+      ≡ digit (bit_under words (slice_index_or c 0 Zero)) + digit (bit_under words (slice_index_or c 1 Zero))
   two-bits [] h = refl
   two-bits (a ∷ []) h = refl
   two-bits (a ∷ b ∷ []) h = omega arith
@@ -128,35 +138,17 @@ module _ (words : Words) where
   number-below : (place : ℕ) (columns : List Column) → number place columns < 2 ^ length columns
   number-below place columns =
       let bits = map (bit_under words) (picked place columns) in
-      let long : length bits ≡ length columns = length-map (picked place columns) (bit_under words) ∙ length-map columns (λ (column : Column). slice_index_or column place Zero) in
+      let long : length bits ≡ length columns = length-map (picked place columns) (bit_under words)
+      ∙ length-map columns (λ (column : Column). slice_index_or column place Zero) in
       subst (λ n. nat bits < 2 ^ n) long (nat-below bits)
-
--- with a last carry: the sum of two words and the carry
-sum-carry : (k : Bool) (a b : List Bool) → length a ≡ length b → (c : ℕ) × (nat (sum_with k a b) + 2 ^ length a * c ≡ nat a + nat b + digit k)
-sum-carry k [] [] h = (digit k, omega arith)
-sum-carry k [] (y ∷ b) h = absurd (omega (arith, h))
-sum-carry k (x ∷ a) [] h = absurd (omega (arith, h))
-sum-carry k (x ∷ a) (y ∷ b) h =
-    let rest = sum-carry (majority x y k) a b (omega (arith, h)) in
-    let double : 2 ^ length (x ∷ a) * rest.0 ≡ 2 ^ length a * rest.0 + 2 ^ length a * rest.0 = ap (λ n. n * rest.0) (two-pow-succ (length a)) ∙ omega arith in
-    (rest.0, omega (arith, rest.1, double, digits x y k))
-  where
-    digits : (x y k : Bool) → digit (xor (xor x y) k) + 2 * digit (majority x y k) ≡ digit x + digit y + digit k
-    digits true true true = refl
-    digits true true false = refl
-    digits true false true = refl
-    digits true false false = refl
-    digits false true true = refl
-    digits false true false = refl
-    digits false false true = refl
-    digits false false false = refl
 
 sum-number : (width : ℕ) (a b : List Bool) → length a ≡ width → length b ≡ width → nat (sum_with false a b) ≡ (nat a + nat b) % 2 ^ width
 sum-number width a b h g =
     let same : length a ≡ length b = h ∙ sym g in
     let c = sum-carry false a b same in
     let long : length (sum_with false a b) ≡ width = length-sum_with false a b same ∙ h in
-    let below : nat (sum_with false a b) < 2 ^ width = subst (λ n. nat (sum_with false a b) < 2 ^ n) long (nat-below (sum_with false a b)) in
+    let below : nat (sum_with false a b) < 2 ^ width = subst (λ n. nat (sum_with false a b) < 2 ^ n) long
+    (nat-below (sum_with false a b)) in
     let total : nat a + nat b ≡ nat (sum_with false a b) + 2 ^ width * c.0 = omega (arith, c.1, ap (λ n. 2 ^ n * c.0) h) in
     sym (ap (λ n. n % 2 ^ width) total ∙ add-mul-mod_self_left (nat (sum_with false a b)) (2 ^ width) c.0 ∙ mod-eq_of_lt below)
 
@@ -168,12 +160,14 @@ word-nodes ns count [] = (Cells Wire count (word_tree (widths ns) []) ∷ [], re
 word-nodes ns count (Bits w ∷ []) = (Constant w ∷ [], refl)
 word-nodes ns count (Part s ∷ []) =
     elim (is_whole (widths ns) s) as (
-    λ c. (more : List Node) × ((if c then record { nodes = ns; place = s.node } else with_node ns (Cells Wire count (slice_tree (widths ns) s))).nodes ≡ ns ++ more)
+    λ c. (more : List Node) × ((if c then record { nodes = ns; place = s.node } else with_node ns (Cells Wire count (slice_tree (widths ns)
+    s))).nodes ≡ ns ++ more)
     ) [ true ↦ ([], sym (append-nil ns)) | false ↦ (Cells Wire count (slice_tree (widths ns) s) ∷ [], refl) ]
 word-nodes ns count (Bits w ∷ q ∷ rs) = (Cells Wire count (word_tree (widths ns) (Bits w ∷ q ∷ rs)) ∷ [], refl)
 word-nodes ns count (Part s ∷ q ∷ rs) = (Cells Wire count (word_tree (widths ns) (Part s ∷ q ∷ rs)) ∷ [], refl)
 
-pub word-later : (net new : Net) (bits : List WordBit) → new ≡ record net { nodes = (with_word net.nodes bits).nodes } → IsValid new → Later net new
+pub word-later : (net new : Net) (bits : List WordBit) → new ≡ record net { nodes = (with_word net.nodes bits).nodes } → IsValid new
+    → Later net new
 word-later net new bits e v =
     let w = word-nodes net.nodes (length bits) (runs bits) in
     record { valid = v; grown = subst (HasGrown net) (sym (e ∙ ap (λ ns. record net { nodes = ns }) w.1)) (grown-more net w.0) }
@@ -188,7 +182,8 @@ name-width ws n v w h =
     let there : slice_get ws n ≡ Some v = slice_get-get_or ws n 0 (index_within ws n 0 (omega (arith, h, w.0))) ∙ ap Some h in
     ap (option_and_then as_width) there ∙ as_width-of v w
 
-pub sum-fits : (net : Net) (a b width : ℕ) → IsWidth width → slice_index (widths net.nodes) a ≡ width → slice_index (widths net.nodes) b ≡ width
+pub sum-fits : (net : Net) (a b width : ℕ) → IsWidth width → slice_index (widths net.nodes) a ≡ width → slice_index (widths net.nodes) b
+    ≡ width
     → FitsNodes (widths net.nodes) width (two Plus (name a) (name b))
 sum-fits net a b width w h g =
     let ws = widths net.nodes in
@@ -202,14 +197,19 @@ sum-fits net a b width w h g =
 -- what the rows give
 
 module _ (net : Net) (columns : List Column) (width : ℕ) (many : length columns ≡ width) where
-  pub single-sum : (new : Net) (a : ℕ) → fullest columns < 2 → HasBits net (row 0 columns) new.nodes a → IsSumOfColumns net columns width new.nodes a
+  pub single-sum : (new : Net) (a : ℕ) → fullest columns < 2 → HasBits net (row 0 columns) new.nodes a
+      → IsSumOfColumns net columns width new.nodes a
   single-sum new a h bits inputs t words =
       let ws = words_at net.nodes inputs t in
-      let value : nat (flow new.nodes inputs a t) ≡ columns_sum ws columns = ap nat (bits inputs t words ∙ row-word net.nodes inputs t 0 columns) ∙ omega (arith, two-rows ws columns (omega (arith, h)), one-row ws columns h) in
-      let below : columns_sum ws columns < 2 ^ width = subst (λ n. columns_sum ws columns < 2 ^ n) many (omega (arith, number-below ws 0 columns, two-rows ws columns (omega (arith, h)), one-row ws columns h)) in
+      let value : nat (flow new.nodes inputs a t)
+      ≡ columns_sum ws columns = ap nat (bits inputs t words ∙ row-word net.nodes inputs t 0 columns)
+      ∙ omega (arith, two-rows ws columns (omega (arith, h)), one-row ws columns h) in
+      let below : columns_sum ws columns < 2 ^ width = subst (λ n. columns_sum ws columns < 2 ^ n) many
+      (omega (arith, number-below ws 0 columns, two-rows ws columns (omega (arith, h)), one-row ws columns h)) in
       value ∙ sym (mod-eq_of_lt below)
 
-  pub rows-sum : (one two_words new : Net) (a b n : ℕ) → Later net one → Later one two_words → IsWidth width → fullest columns ≤ 2 → AllThere net columns
+  pub rows-sum : (one two_words new : Net) (a b n : ℕ) → Later net one → Later one two_words → IsWidth width → fullest columns ≤ 2
+      → AllThere net columns
       → HasBits net (row 0 columns) one.nodes a → HasBits one (row 1 columns) two_words.nodes b
       → slice_index (widths one.nodes) a ≡ width
       → new ≡ record two_words { nodes = two_words.nodes ++ Cells Add width (two Plus (name a) (name b)) ∷ [] } → n ≡ length two_words.nodes
@@ -219,18 +219,22 @@ module _ (net : Net) (columns : List Column) (width : ℕ) (many : length column
       let low = map (bit_under ws) (picked 0 columns) in
       let high = map (bit_under ws) (picked 1 columns) in
       let of_a : flow two_words.nodes inputs a t ≡ low =
-      grown-flow one two_words after.grown inputs a t (node-there one a width w wide) ∙ first inputs t words ∙ row-word net.nodes inputs t 0 columns in
+      grown-flow one two_words after.grown inputs a t (node-there one a width w wide) ∙ first inputs t words
+      ∙ row-word net.nodes inputs t 0 columns in
       let of_b : flow two_words.nodes inputs b t ≡ high =
-      second inputs t (words-later net one later inputs words) ∙ row-word one.nodes inputs t 1 columns ∙ bits-kept net one later inputs t (picked 1 columns) (picked-there net 1 columns there) in
+      second inputs t (words-later net one later inputs words) ∙ row-word one.nodes inputs t 1 columns
+      ∙ bits-kept net one later inputs t (picked 1 columns) (picked-there net 1 columns there) in
       let sum : Node = Cells Add width (two Plus (name a) (name b)) in
       let of_sum : flow new.nodes inputs n t ≡ sum_with false (flow two_words.nodes inputs a t) (flow two_words.nodes inputs b t) =
-      ap (λ (m : Net). flow m.nodes inputs n t) e ∙ ap (λ k. flow (two_words.nodes ++ sum ∷ []) inputs k t) p ∙ flow-append_last two_words.nodes sum inputs t in
+      ap (λ (m : Net). flow m.nodes inputs n t) e ∙ ap (λ k. flow (two_words.nodes ++ sum ∷ []) inputs k t) p
+      ∙ flow-append_last two_words.nodes sum inputs t in
       ap nat (of_sum ∙ ap (λ v. sum_with false v (flow two_words.nodes inputs b t)) of_a ∙ ap (sum_with false low) of_b)
       ∙ sum-number width low high (long ws 0) (long ws 1)
       ∙ ap (λ k. k % 2 ^ width) (sym (two-rows ws columns full))
     where
       long : (ws : Words) (place : ℕ) → length (map (bit_under ws) (picked place columns)) ≡ width
-      long ws place = length-map (picked place columns) (bit_under ws) ∙ length-map columns (λ (column : Column). slice_index_or column place Zero) ∙ many
+      long ws place = length-map (picked place columns) (bit_under ws)
+          ∙ length-map columns (λ (column : Column). slice_index_or column place Zero) ∙ many
 
 -- the whole
 
@@ -238,7 +242,11 @@ heap-columns : (words : Words) (heap : Contents) → length heap.columns ≤ hea
     → columns_sum words (all_columns heap) ≡ columns_sum words heap.columns + heap.constant
 heap-columns words heap h k =
     let bits = word heap.width heap.constant in
-    omega (arith, with_ones-sum words bits heap.columns (omega (arith, h, length-word heap.width heap.constant)), nat-word heap.width heap.constant k)
+    omega (
+      arith,
+      with_ones-sum words bits heap.columns (omega (arith, h, length-word heap.width heap.constant)),
+      nat-word heap.width heap.constant k,
+    )
 
 pub all_columns-length : (heap : Contents) → length (all_columns heap) ≡ heap.width
 all_columns-length heap = with_ones-length (word heap.width heap.constant) heap.columns ∙ length-word heap.width heap.constant
@@ -246,16 +254,20 @@ all_columns-length heap = with_ones-length (word heap.width heap.constant) heap.
 pub all_columns-there : (net : Net) (heap : Contents) → AllThere net heap.columns → AllThere net (all_columns heap)
 all_columns-there net heap h = with_ones-there net (word heap.width heap.constant) heap.columns h
 
-pub all-lowered : (net : Net) (heap : Contents) → IsValid net → AllThere net heap.columns → Passed net [] (all_columns heap) (lowered net (all_columns heap))
+pub all-lowered : (net : Net) (heap : Contents) → IsValid net → AllThere net heap.columns
+    → Passed net [] (all_columns heap) (lowered net (all_columns heap))
 all-lowered net heap v h = all-passed (heights_below (fullest (all_columns heap))) net (all_columns heap) v (all_columns-there net heap h)
 
 -- the columns that are left have the sum of the heap
-pub heap-sum : (net : Net) (heap : Contents) (s : State) (after : List Node) (n : ℕ) → length heap.columns ≤ heap.width → heap.constant < 2 ^ heap.width
+pub heap-sum : (net : Net) (heap : Contents) (s : State) (after : List Node) (n : ℕ) → length heap.columns ≤ heap.width
+    → heap.constant < 2 ^ heap.width
     → Passed net [] (all_columns heap) s → IsSumOfColumns s.net s.columns heap.width after n → IsSumOf net heap after n
 heap-sum net heap s after n h k p sum inputs t words =
     let before = words_at net.nodes inputs t in
     let left = columns_sum (words_at s.net.nodes inputs t) s.columns in
     let d = p.sum inputs t words in
     let same : 2 ^ length (all_columns heap) * d.0 ≡ 2 ^ heap.width * d.0 = ap (λ m. 2 ^ m * d.0) (all_columns-length heap) in
-    let total : columns_sum before heap.columns + heap.constant ≡ left + 2 ^ heap.width * d.0 = omega (arith, d.1, same, heap-columns before heap h k) in
-    sum inputs t (words-later net s.net p.later inputs words) ∙ sym (ap (λ m. m % 2 ^ heap.width) total ∙ add-mul-mod_self_left left (2 ^ heap.width) d.0)
+    let total : columns_sum before heap.columns + heap.constant
+    ≡ left + 2 ^ heap.width * d.0 = omega (arith, d.1, same, heap-columns before heap h k) in
+    sum inputs t (words-later net s.net p.later inputs words)
+    ∙ sym (ap (λ m. m % 2 ^ heap.width) total ∙ add-mul-mod_self_left left (2 ^ heap.width) d.0)

@@ -40,7 +40,8 @@ beyond bits k (suc j) h =
     ∙ filter-left bits (height (k + j)) (falling (k + j)) (omega (arith, h, height-rises k j))
     ∙ beyond bits k j h
 
-pub heights-found : (bits k j : ℕ) → k + j ≡ bits → bits ≤ height k → filter (less bits) (falling k) ≡ falling k → heights_below bits ≡ falling k
+pub heights-found : (bits k j : ℕ) → k + j ≡ bits → bits ≤ height k → filter (less bits) (falling k) ≡ falling k → heights_below bits
+    ≡ falling k
 heights-found bits k j e h f = ap (λ n. filter (less bits) (falling n)) (sym e) ∙ beyond bits k j h ∙ f
 
 pub falling-large : (k : ℕ) → All (λ h. 2 ≤ h) (falling k)
@@ -55,7 +56,8 @@ pub record Rising (bits next : ℕ) (found : List ℕ) : Type 0 where
   pub less : filter (less bits) (falling (length found)) ≡ falling (length found)
   pub large : All (λ h. 2 ≤ h) found
 
-pub one_height : (bits next : ℕ) (found : List ℕ) → Rising bits next found → next < bits → Rising bits (next + next / 2) (found ++ next ∷ [])
+pub one_height : (bits next : ℕ) (found : List ℕ) → Rising bits next found → next < bits
+    → Rising bits (next + next / 2) (found ++ next ∷ [])
 one_height bits next found r l =
     let k = length found in
     let n : length (found ++ next ∷ []) ≡ suc k = omega (arith, length-append found (next ∷ [])) in

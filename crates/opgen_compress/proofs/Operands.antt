@@ -46,20 +46,24 @@ bit-flat ws b h =
     flat One = (refl, refl)
     flat (Of node index) =
         elim (nat_eq index 0 && nat_eq (index + 1) (slice_index ws node)) as (
-        λ c. (in_chain (if c then name node else part node index index) ≡ 0) × (nesting (if c then name node else part node index index) ≡ 0)
+        λ c. (in_chain (if c then name node else part node index index) ≡ 0)
+        × (nesting (if c then name node else part node index index) ≡ 0)
         ) [ true ↦ (refl, refl) | false ↦ (refl, refl) ]
 
 module _ (ws : List ℕ) (op : Op) (keeps : joined op 1 1 ≡ Some 1) where
   -- an operand more
   on-width : (y : Tree) (ts : Trees) → width ws [] y ≡ Some 1 → width_on ws [] op 1 (more y ts) ≡ width_on ws [] op 1 ts
   on-width y ts e =
-      ap (option_and_then (λ v. option_and_then (λ u. width_on ws [] op u ts) (joined op 1 v))) e ∙ ap (option_and_then (λ u. width_on ws [] op u ts)) keeps
+      ap (option_and_then (λ v. option_and_then (λ u. width_on ws [] op u ts) (joined op 1 v))) e
+      ∙ ap (option_and_then (λ u. width_on ws [] op u ts)) keeps
 
   two-width : (x y : Tree) → width ws [] x ≡ Some 1 → width ws [] y ≡ Some 1 → width ws [] (two op x y) ≡ Some 1
   two-width x y e f = ap (option_and_then (λ w. width_on ws [] op w (more y none))) e ∙ on-width y none f
 
-  three-width : (x y z : Tree) → width ws [] x ≡ Some 1 → width ws [] y ≡ Some 1 → width ws [] z ≡ Some 1 → width ws [] (three op x y z) ≡ Some 1
-  three-width x y z e f g = ap (option_and_then (λ w. width_on ws [] op w (more y (more z none)))) e ∙ on-width y (more z none) f ∙ on-width z none g
+  three-width : (x y z : Tree) → width ws [] x ≡ Some 1 → width ws [] y ≡ Some 1 → width ws [] z ≡ Some 1 → width ws [] (three op x y z)
+      ≡ Some 1
+  three-width x y z e f g = ap (option_and_then (λ w. width_on ws [] op w (more y (more z none)))) e ∙ on-width y (more z none) f
+      ∙ on-width z none g
 
   two-flat : (x y : Tree) → Flat ws 0 x → Flat ws 0 y → Flat ws 1 (two op x y)
   two-flat x y f g = record {
@@ -110,12 +114,14 @@ module _ (ws : List ℕ) (a b c : WordBit) (h : All (IsThere ws) (a ∷ b ∷ c 
   r = second-there ws b c (rest_of (IsThere ws) a (b ∷ c ∷ []) h)
 
   pub full_sum-fits : FitsNodes ws 1 (full_sum a b c ws)
-  full_sum-fits = three-fits ws Xor refl 0 (omega arith) (bit_tree a ws) (bit_tree b ws) (bit_tree c ws) (bit-flat ws a p) (bit-flat ws b q) (bit-flat ws c r)
+  full_sum-fits = three-fits ws Xor refl 0 (omega arith) (bit_tree a ws) (bit_tree b ws) (bit_tree c ws) (bit-flat ws a p) (bit-flat ws b q)
+      (bit-flat ws c r)
 
   pub full_carry-fits : FitsNodes ws 1 (full_carry a b c ws)
   full_carry-fits =
       three-fits ws Or refl 1 (omega arith) (half_carry a b ws) (half_carry a c ws) (half_carry b c ws)
-      (half_carry-flat ws a b (pair (IsThere ws) a b p q)) (half_carry-flat ws a c (pair (IsThere ws) a c p r)) (half_carry-flat ws b c (pair (IsThere ws) b c q r))
+      (half_carry-flat ws a b (pair (IsThere ws) a b p q)) (half_carry-flat ws a c (pair (IsThere ws) a c p r))
+      (half_carry-flat ws b c (pair (IsThere ws) b c q r))
 
 -- values
 
@@ -136,7 +142,8 @@ abbrev pub scope_at : Net → Inputs → ℤ → Scope
 scope_at net inputs t = record { names = λ n. flow net.nodes inputs n t; ports = λ n. [] }
 
 module _ (net : Net) (valid : IsValid net) (inputs : Inputs) (t : ℤ) (words : All (AreWords (input_widths net)) inputs) where
-  own-value : (b : WordBit) → IsThere (widths net.nodes) b → value (scope_at net inputs t) (bit_tree b (widths net.nodes)) ≡ bit_under (words_at net.nodes inputs t) b ∷ []
+  own-value : (b : WordBit) → IsThere (widths net.nodes) b → value (scope_at net inputs t) (bit_tree b (widths net.nodes))
+      ≡ bit_under (words_at net.nodes inputs t) b ∷ []
   own-value Zero h = refl
   own-value One h = refl
   own-value (Of node index) h = by (nat_eq index 0 && nat_eq (index + 1) (slice_index (widths net.nodes) node)) whole
@@ -147,7 +154,8 @@ module _ (net : Net) (valid : IsValid net) (inputs : Inputs) (t : ℤ) (words : 
       wide : length w ≡ slice_index (widths net.nodes) node
       wide = flow-width net valid inputs words node t
 
-      whole : (nat_eq index 0 && nat_eq (index + 1) (slice_index (widths net.nodes) node)) ≡ true → (index ≡ 0) × (index + 1 ≡ slice_index (widths net.nodes) node)
+      whole : (nat_eq index 0 && nat_eq (index + 1) (slice_index (widths net.nodes) node)) ≡ true → (index ≡ 0)
+          × (index + 1 ≡ slice_index (widths net.nodes) node)
       whole e =
           let a = and_parts (nat_eq index 0) (nat_eq (index + 1) (slice_index (widths net.nodes) node)) e in
           (eqb-true index 0 a.0, eqb-true (index + 1) (slice_index (widths net.nodes) node) a.1)
@@ -166,12 +174,14 @@ module _ (old new : Net) (later : Later old new) (inputs : Inputs) (t : ℤ) (wo
   result e = value (scope_at new inputs t) e
 
   bit-value : (b : WordBit) → IsThere (widths old.nodes) b → result (bit_tree b (widths new.nodes)) ≡ bit b ∷ []
-  bit-value b h = own-value new later.valid inputs t words b (grown-there old new later.grown b h) ∙ ap (λ x. x ∷ []) (bit-kept old new later.grown inputs t b h)
+  bit-value b h = own-value new later.valid inputs t words b (grown-there old new later.grown b h)
+      ∙ ap (λ x. x ∷ []) (bit-kept old new later.grown inputs t b h)
 
   two-value : (op : Op) (x y : Tree) (v w : List Bool) → result x ≡ v → result y ≡ w → result (two op x y) ≡ combined op v w
   two-value op x y v w e f = ap (λ u. combined op u (result y)) e ∙ ap (combined op v) f
 
-  three-value : (op : Op) (x y z : Tree) (u v w : List Bool) → result x ≡ u → result y ≡ v → result z ≡ w → result (three op x y z) ≡ combined op (combined op u v) w
+  three-value : (op : Op) (x y z : Tree) (u v w : List Bool) → result x ≡ u → result y ≡ v → result z ≡ w → result (three op x y z)
+      ≡ combined op (combined op u v) w
   three-value op x y z u v w e f g = ap (λ k. combined op k (result z)) (two-value op x y u v e f) ∙ ap (combined op (combined op u v)) g
 
   module _ (a b : WordBit) (h : All (IsThere (widths old.nodes)) (a ∷ b ∷ [])) where
@@ -191,8 +201,10 @@ module _ (old new : Net) (later : Later old new) (inputs : Inputs) (t : ℤ) (wo
 
     pub full_sum-value : result (full_sum a b c (widths new.nodes)) ≡ xor (xor (bit a) (bit b)) (bit c) ∷ []
     full_sum-value =
-        three-value Xor (bit_tree a (widths new.nodes)) (bit_tree b (widths new.nodes)) (bit_tree c (widths new.nodes)) (bit a ∷ []) (bit b ∷ []) (bit c ∷ [])
-        (bit-value a (p (widths old.nodes) a b c h)) (bit-value b (q (widths old.nodes) a b c h)) (bit-value c (r (widths old.nodes) a b c h))
+        three-value Xor (bit_tree a (widths new.nodes)) (bit_tree b (widths new.nodes)) (bit_tree c (widths new.nodes)) (bit a ∷ [])
+        (bit b ∷ []) (bit c ∷ [])
+        (bit-value a (p (widths old.nodes) a b c h)) (bit-value b (q (widths old.nodes) a b c h))
+        (bit-value c (r (widths old.nodes) a b c h))
 
     pub full_carry-value : result (full_carry a b c (widths new.nodes)) ≡ (((bit a && bit b) || (bit a && bit c)) || (bit b && bit c)) ∷ []
     full_carry-value =
@@ -210,7 +222,8 @@ digits-two true false = refl
 digits-two false true = refl
 digits-two false false = refl
 
-pub digits-three : (a b c : Bool) → digit (xor (xor a b) c) + 2 * digit (((a && b) || (a && c)) || (b && c)) ≡ digit a + (digit b + (digit c + 0))
+pub digits-three : (a b c : Bool) → digit (xor (xor a b) c) + 2 * digit (((a && b) || (a && c)) || (b && c))
+    ≡ digit a + (digit b + (digit c + 0))
 digits-three true true true = refl
 digits-three true true false = refl
 digits-three true false true = refl

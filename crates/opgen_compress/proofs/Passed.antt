@@ -37,7 +37,8 @@ dropped : (columns : List Column) (d : ℕ) → (is_none columns ≡ false → d
 dropped [] d h = (d, refl)
 dropped (c ∷ cs) d h = (0, omega (arith, h refl))
 
-pub with_carries : (net : Net) (column carries : Column) (columns : List Column) → AllThere net (column ∷ columns) → All (IsThere (widths net.nodes)) carries
+pub with_carries : (net : Net) (column carries : Column) (columns : List Column) → AllThere net (column ∷ columns)
+    → All (IsThere (widths net.nodes)) carries
     → All (IsThere (widths net.nodes)) (column ++ carries)
 with_carries net column carries columns h g =
     let P = All (IsThere (widths net.nodes)) in
@@ -49,7 +50,8 @@ start net column = record { net = net; column = column; carries = [] }
 pub start-there : (net : Net) (column : Column) → All (IsThere (widths net.nodes)) column → WorkThere (start net column)
 start-there net column h = record { column = h; carries = All-nil (IsThere (widths net.nodes)) }
 
-pub passed : (h : ℕ) (net : Net) (carries : Column) (columns : List Column) → IsValid net → All (IsThere (widths net.nodes)) carries → AllThere net columns
+pub passed : (h : ℕ) (net : Net) (carries : Column) (columns : List Column) → IsValid net → All (IsThere (widths net.nodes)) carries
+    → AllThere net columns
     → Passed net carries columns (pass h net carries columns)
 passed h net carries [] v g a = record {
   later = later-same net v;
@@ -62,20 +64,24 @@ passed h net carries (column ∷ columns) v g a =
     let begin : Work = start net (column ++ carries) in
     let w : Work = reduced (length (column ++ carries) - h) (is_none columns) begin in
     let r : Reduced (is_none columns) begin w =
-    all-reduced (length (column ++ carries) - h) (is_none columns) begin v (start-there net (column ++ carries) (with_carries net column carries columns a g)) in
+    all-reduced (length (column ++ carries) - h) (is_none columns) begin v
+    (start-there net (column ++ carries) (with_carries net column carries columns a g)) in
     let s : State = pass h w.net w.carries columns in
     let others : AllThere net columns = rest_columns P column columns a in
-    let ih : Passed w.net w.carries columns s = passed h w.net w.carries columns r.later.valid r.there.carries (columns-still_there net w.net r.later.grown columns others) in
+    let ih : Passed w.net w.carries columns s = passed h w.net w.carries columns r.later.valid r.there.carries
+    (columns-still_there net w.net r.later.grown columns others) in
     record {
       later = later-then net w.net s.net r.later ih.later;
-      there = All-cons (All (IsThere (widths s.net.nodes))) w.column s.columns (grown-all_there w.net s.net ih.later.grown w.column r.there.column) ih.there;
+      there = All-cons (All (IsThere (widths s.net.nodes))) w.column s.columns
+          (grown-all_there w.net s.net ih.later.grown w.column r.there.column) ih.there;
       many = ap suc ih.many;
       sum = λ inputs t words.
           let words_w = words-later net w.net r.later inputs words in
           let x = r.sum inputs t words in
           let y = ih.sum inputs t words_w in
           let z = dropped columns x.0 x.2 in
-          let double : 2 ^ suc (length columns) * y.0 ≡ 2 ^ length columns * y.0 + 2 ^ length columns * y.0 = ap (λ n. n * y.0) (two-pow-succ (length columns)) ∙ omega arith in (
+          let double : 2 ^ suc (length columns) * y.0
+          ≡ 2 ^ length columns * y.0 + 2 ^ length columns * y.0 = ap (λ n. n * y.0) (two-pow-succ (length columns)) ∙ omega arith in (
             y.0 + z.0,
             omega (
               arith,
@@ -90,7 +96,8 @@ passed h net carries (column ∷ columns) v g a =
           );
     }
 
-passed-then : (net : Net) (columns : List Column) (s u : State) → Passed net [] columns s → Passed s.net [] s.columns u → Passed net [] columns u
+passed-then : (net : Net) (columns : List Column) (s u : State) → Passed net [] columns s → Passed s.net [] s.columns u
+    → Passed net [] columns u
 passed-then net columns s u a b = record {
   later = later-then net s.net u.net a.later b.later;
   there = b.there;
@@ -102,7 +109,8 @@ passed-then net columns s u a b = record {
       (x.0 + y.0, omega (arith, x.1, y.1, same));
 }
 
-pub all-passed : (hs : List ℕ) (net : Net) (columns : List Column) → IsValid net → AllThere net columns → Passed net [] columns (passes hs net columns)
+pub all-passed : (hs : List ℕ) (net : Net) (columns : List Column) → IsValid net → AllThere net columns
+    → Passed net [] columns (passes hs net columns)
 all-passed [] net columns v a = record {
   later = later-same net v;
   there = a;
@@ -124,15 +132,19 @@ pub one_column : (h : ℕ) (net : Net) (carries column : Column) (columns : List
     → pass h net carries (column ∷ columns) ≡ under w.column (pass h w.net w.carries columns)
 one_column h net carries column columns top queue w is_top is_queue e =
     let all : reduced (length (column ++ carries) - h) (is_none columns) (start net (column ++ carries)) ≡ w =
-    ap (λ q. reduced (length q - h) (is_none columns) (start net q)) (sym is_queue) ∙ ap (λ b. reduced (length queue - h) b (start net queue)) (sym is_top) ∙ e in
+    ap (λ q. reduced (length q - h) (is_none columns) (start net q)) (sym is_queue)
+    ∙ ap (λ b. reduced (length queue - h) b (start net queue)) (sym is_top) ∙ e in
     ap (λ (v : Work). under v.column (pass h v.net v.carries columns)) all
 
 -- the columns after it stand in the net that its adders leave
-pub others-there : (h : ℕ) (net : Net) (queue : Column) (columns : List Column) (top : Bool) (w : Work) → IsValid net → All (IsThere (widths net.nodes)) queue
+pub others-there : (h : ℕ) (net : Net) (queue : Column) (columns : List Column) (top : Bool) (w : Work) → IsValid net
+    → All (IsThere (widths net.nodes)) queue
     → AllThere net columns → reduced (length queue - h) top (start net queue) ≡ w → AllThere w.net columns
 others-there h net queue columns top w v a b e =
-    let r : Reduced top (start net queue) (reduced (length queue - h) top (start net queue)) = all-reduced (length queue - h) top (start net queue) v (start-there net queue a) in
-    subst (λ (u : Work). AllThere u.net columns) e (columns-still_there net (reduced (length queue - h) top (start net queue)).net r.later.grown columns b)
+    let r : Reduced top (start net queue) (reduced (length queue - h) top (start net queue)) = all-reduced (length queue - h) top
+    (start net queue) v (start-there net queue a) in
+    subst (λ (u : Work). AllThere u.net columns) e
+    (columns-still_there net (reduced (length queue - h) top (start net queue)).net r.later.grown columns b)
 
 -- how high the columns are
 
@@ -151,12 +163,14 @@ none-less : (bits k : ℕ) → bits ≤ 2 → filter (less bits) (falling k) ≡
 none-less bits zero h = refl
 none-less bits (suc k) h = by (nat_lt (height k) bits) (ltb-true (height k) bits) (none-less bits k h)
   where
-    by : (b : Bool) → (b ≡ true → height k < bits) → filter (less bits) (falling k) ≡ [] → (if b then height k ∷ filter (less bits) (falling k) else filter (less bits) (falling k)) ≡ []
+    by : (b : Bool) → (b ≡ true → height k < bits) → filter (less bits) (falling k) ≡ []
+        → (if b then height k ∷ filter (less bits) (falling k) else filter (less bits) (falling k)) ≡ []
     by true g e = absurd (omega (arith, h, g refl, height-above k))
     by false g e = e
 
 -- the last height is two
-down : (bits k : ℕ) (net : Net) (columns : List Column) → 2 < bits → fullest (passes (filter (less bits) (falling (suc k))) net columns).columns ≤ 2
+down : (bits k : ℕ) (net : Net) (columns : List Column) → 2 < bits
+    → fullest (passes (filter (less bits) (falling (suc k))) net columns).columns ≤ 2
 down bits zero net columns h =
     let e : filter (less bits) (falling (suc zero)) ≡ 2 ∷ [] = ap (λ b. if b then 2 ∷ [] else []) (lt-ltb 2 bits h) in
     subst (λ hs. fullest (passes hs net columns).columns ≤ 2) (sym e) (pass-fullest 2 net [] columns (omega arith))
@@ -165,14 +179,18 @@ down bits (suc k) net columns h = by (nat_lt (height (suc k)) bits) (λ n cs. do
     rest : List ℕ
     rest = filter (less bits) (falling (suc k))
 
-    by : (b : Bool) → ((n : Net) (cs : List Column) → fullest (passes rest n cs).columns ≤ 2) → fullest (passes (if b then height (suc k) ∷ rest else rest) net columns).columns ≤ 2
+    by : (b : Bool) → ((n : Net) (cs : List Column) → fullest (passes rest n cs).columns ≤ 2)
+        → fullest (passes (if b then height (suc k) ∷ rest else rest) net columns).columns ≤ 2
     by true f = let s : State = pass (height (suc k)) net [] columns in f s.net s.columns
     by false f = f net columns
 
 pub lowered-fullest : (net : Net) (columns : List Column) → fullest (lowered net columns).columns ≤ 2
-lowered-fullest net columns = by (fullest columns) (nat_lt 2 (fullest columns)) (ltb-true 2 (fullest columns)) (ltb-false 2 (fullest columns)) refl
+lowered-fullest net columns = by (fullest columns) (nat_lt 2 (fullest columns)) (ltb-true 2 (fullest columns))
+    (ltb-false 2 (fullest columns)) refl
   where
-    by : (bits : ℕ) (b : Bool) → (b ≡ true → 2 < bits) → (b ≡ false → bits ≤ 2) → fullest columns ≡ bits → fullest (passes (heights_below bits) net columns).columns ≤ 2
-    by bits false f g e = subst (λ hs. fullest (passes hs net columns).columns ≤ 2) (sym (none-less bits bits (g refl))) (omega (arith, g refl, e))
+    by : (bits : ℕ) (b : Bool) → (b ≡ true → 2 < bits) → (b ≡ false → bits ≤ 2) → fullest columns ≡ bits
+        → fullest (passes (heights_below bits) net columns).columns ≤ 2
+    by bits false f g e = subst (λ hs. fullest (passes hs net columns).columns ≤ 2) (sym (none-less bits bits (g refl)))
+        (omega (arith, g refl, e))
     by zero true f g e = absurd (omega (arith, f refl))
     by (suc bits) true f g e = down (suc bits) bits net columns (f refl)

@@ -53,15 +53,18 @@ reduced-then top w v u a b = record {
 
 -- a node of one bit more
 
-logic-later : (net : Net) (e : List ℕ → Tree) → IsValid net → FitsNodes (widths net.nodes) 1 (e (widths net.nodes)) → Later net (with_logic net e)
+logic-later : (net : Net) (e : List ℕ → Tree) → IsValid net → FitsNodes (widths net.nodes) 1 (e (widths net.nodes))
+    → Later net (with_logic net e)
 logic-later net e v fits = later-node net (Cells Logic 1 (e (widths net.nodes))) v (tt, fits) refl
 
 next-there : (net : Net) (e : List ℕ → Tree) → IsThere (widths (with_logic net e).nodes) (next_bit net)
 next-there net e = omega (arith, width-append_last net.nodes (Cells Logic 1 (e (widths net.nodes))))
 
-next-value : (net : Net) (e : List ℕ → Tree) (inputs : Inputs) (t : ℤ) (x : Bool) → value (scope_at net inputs t) (e (widths net.nodes)) ≡ x ∷ []
+next-value : (net : Net) (e : List ℕ → Tree) (inputs : Inputs) (t : ℤ) (x : Bool) → value (scope_at net inputs t) (e (widths net.nodes))
+    ≡ x ∷ []
     → bit_under (words_at (with_logic net e).nodes inputs t) (next_bit net) ≡ x
-next-value net e inputs t x h = ap (λ w. slice_index_or w 0 false) (flow-append_last net.nodes (Cells Logic 1 (e (widths net.nodes))) inputs t ∙ h)
+next-value net e inputs t x h = ap (λ w. slice_index_or w 0 false)
+    (flow-append_last net.nodes (Cells Logic 1 (e (widths net.nodes))) inputs t ∙ h)
 
 push-there : (ws : List ℕ) (bs : List WordBit) (b : WordBit) → All (IsThere ws) bs → IsThere ws b → All (IsThere ws) (bs ++ b ∷ [])
 push-there ws bs b h k = All-append (IsThere ws) bs (b ∷ []) h (All-cons (IsThere ws) b [] k (All-nil (IsThere ws)))
@@ -72,7 +75,8 @@ ones-push words bs b = ones-append words bs (b ∷ []) ∙ omega arith
 -- the first bits of a column, and those after them
 
 pub front-two : (P : WordBit → Type 0) (a b : WordBit) (rest : List WordBit) → All P (a ∷ b ∷ rest) → All P (a ∷ b ∷ [])
-front-two P a b rest h = All-cons P a (b ∷ []) (first_of P a (b ∷ rest) h) (All-cons P b [] (first_of P b rest (rest_of P a (b ∷ rest) h)) (All-nil P))
+front-two P a b rest h = All-cons P a (b ∷ []) (first_of P a (b ∷ rest) h)
+    (All-cons P b [] (first_of P b rest (rest_of P a (b ∷ rest) h)) (All-nil P))
 
 after-two : (P : WordBit → Type 0) (a b : WordBit) (rest : List WordBit) → All P (a ∷ b ∷ rest) → All P rest
 after-two P a b rest h = rest_of P b rest (rest_of P a (b ∷ rest) h)
@@ -82,21 +86,25 @@ front-three P a b c rest h = All-cons P a (b ∷ c ∷ []) (first_of P a (b ∷ 
 
 -- the bits of an adder that were taken from a column stand in the net with the node of their sum
 
-pub full-still_there : (net one : Net) (column : List WordBit) (a b c : WordBit) (rest : List WordBit) → IsValid net → All (IsThere (widths net.nodes)) column
+pub full-still_there : (net one : Net) (column : List WordBit) (a b c : WordBit) (rest : List WordBit) → IsValid net
+    → All (IsThere (widths net.nodes)) column
     → column ≡ a ∷ b ∷ c ∷ rest → one ≡ with_logic net (full_sum a b c) → All (IsThere (widths one.nodes)) (a ∷ b ∷ c ∷ [])
 full-still_there net one column a b c rest v h e is =
     let P = IsThere (widths net.nodes) in
     let front = front-three P a b c rest (subst (All P) e h) in
     let later = logic-later net (full_sum a b c) v (full_sum-fits (widths net.nodes) a b c front) in
-    subst (λ (n : Net). All (IsThere (widths n.nodes)) (a ∷ b ∷ c ∷ [])) (sym is) (grown-all_there net (with_logic net (full_sum a b c)) later.grown (a ∷ b ∷ c ∷ []) front)
+    subst (λ (n : Net). All (IsThere (widths n.nodes)) (a ∷ b ∷ c ∷ [])) (sym is)
+    (grown-all_there net (with_logic net (full_sum a b c)) later.grown (a ∷ b ∷ c ∷ []) front)
 
-pub half-still_there : (net one : Net) (column : List WordBit) (a b : WordBit) (rest : List WordBit) → IsValid net → All (IsThere (widths net.nodes)) column
+pub half-still_there : (net one : Net) (column : List WordBit) (a b : WordBit) (rest : List WordBit) → IsValid net
+    → All (IsThere (widths net.nodes)) column
     → column ≡ a ∷ b ∷ rest → one ≡ with_logic net (half_sum a b) → All (IsThere (widths one.nodes)) (a ∷ b ∷ [])
 half-still_there net one column a b rest v h e is =
     let P = IsThere (widths net.nodes) in
     let front = front-two P a b rest (subst (All P) e h) in
     let later = logic-later net (half_sum a b) v (half_sum-fits (widths net.nodes) a b front) in
-    subst (λ (n : Net). All (IsThere (widths n.nodes)) (a ∷ b ∷ [])) (sym is) (grown-all_there net (with_logic net (half_sum a b)) later.grown (a ∷ b ∷ []) front)
+    subst (λ (n : Net). All (IsThere (widths n.nodes)) (a ∷ b ∷ [])) (sym is)
+    (grown-all_there net (with_logic net (half_sum a b)) later.grown (a ∷ b ∷ []) front)
 
 -- an adder of bits that were taken from the front of a column
 module _ (net : Net) (valid : IsValid net) (sum carry : List ℕ → Tree) (taken rest carries : List WordBit)
@@ -131,7 +139,8 @@ module _ (net : Net) (valid : IsValid net) (sum carry : List ℕ → Tree) (take
   adder-reduced true = record {
     later = to_one;
     there = record {
-      column = push-there (widths one.nodes) rest (next_bit net) (grown-all_there net one to_one.grown rest rest_there) (next-there net sum);
+      column = push-there (widths one.nodes) rest (next_bit net) (grown-all_there net one to_one.grown rest rest_there)
+          (next-there net sum);
       carries = grown-all_there net one to_one.grown carries carries_there;
     };
     sum = λ inputs t words.
@@ -153,8 +162,10 @@ module _ (net : Net) (valid : IsValid net) (sum carry : List ℕ → Tree) (take
   adder-reduced false = record {
     later = to_two;
     there = record {
-      column = push-there (widths two.nodes) rest (next_bit net) (grown-all_there net two to_two.grown rest rest_there) (grown-there one two one_to_two.grown (next_bit net) (next-there net sum));
-      carries = push-there (widths two.nodes) carries (next_bit one) (grown-all_there net two to_two.grown carries carries_there) (next-there one carry);
+      column = push-there (widths two.nodes) rest (next_bit net) (grown-all_there net two to_two.grown rest rest_there)
+          (grown-there one two one_to_two.grown (next_bit net) (next-there net sum));
+      carries = push-there (widths two.nodes) carries (next_bit one) (grown-all_there net two to_two.grown carries carries_there)
+          (next-there one carry);
     };
     sum = λ inputs t words.
         let before = words_at net.nodes inputs t in
@@ -176,7 +187,8 @@ module _ (net : Net) (valid : IsValid net) (sum carry : List ℕ → Tree) (take
         );
   }
 
-module _ (top : Bool) (net : Net) (valid : IsValid net) (carries : List WordBit) (carries_there : All (IsThere (widths net.nodes)) carries) where
+module _ (top : Bool) (net : Net) (valid : IsValid net) (carries : List WordBit)
+    (carries_there : All (IsThere (widths net.nodes)) carries) where
   abbrev P : WordBit → Type 0
   P = IsThere (widths net.nodes)
 
@@ -195,7 +207,8 @@ module _ (top : Bool) (net : Net) (valid : IsValid net) (carries : List WordBit)
       adder-reduced net valid (full_sum a b c) (full_carry a b c) (a ∷ b ∷ c ∷ []) rest carries fits
       (full_carry-fits (widths one.nodes) a b c (grown-all_there net one later.grown (a ∷ b ∷ c ∷ []) h))
       (λ words. xor (xor (bit_under words a) (bit_under words b)) (bit_under words c))
-      (λ words. ((bit_under words a && bit_under words b) || (bit_under words a && bit_under words c)) || (bit_under words b && bit_under words c))
+      (λ words. ((bit_under words a && bit_under words b) || (bit_under words a && bit_under words c)) ||
+      (bit_under words b && bit_under words c))
       (λ inputs t words. full_sum-value net net same inputs t words a b c h)
       (λ inputs t words. full_carry-value net one later inputs t (words-later net one later inputs words) a b c h)
       (λ words. digits-three (bit_under words a) (bit_under words b) (bit_under words c))
@@ -236,30 +249,36 @@ all-reduced (suc (suc excess)) top w v h =
     let first : Reduced top w next = full-reduced top w.net v w.carries h.carries w.column h.column in
     reduced-then top w next (reduced excess top next) first (all-reduced excess top next first.later.valid first.there)
 
-pub reduced-next : (excess : ℕ) (top : Bool) (w : Work) → 2 ≤ excess → reduced excess top w ≡ reduced (excess - 2) top (full_adder top w.net w.column w.carries)
+pub reduced-next : (excess : ℕ) (top : Bool) (w : Work) → 2 ≤ excess → reduced excess top w
+    ≡ reduced (excess - 2) top (full_adder top w.net w.column w.carries)
 reduced-next zero top w h = absurd (omega (arith, h))
 reduced-next (suc zero) top w h = absurd (omega (arith, h))
-reduced-next (suc (suc excess)) top w h = let e : excess ≡ suc (suc excess) - 2 = omega arith in ap (λ k. reduced k top (full_adder top w.net w.column w.carries)) e
+reduced-next (suc (suc excess)) top w h = let e : excess
+    ≡ suc (suc excess) - 2 = omega arith in ap (λ k. reduced k top (full_adder top w.net w.column w.carries)) e
 
 -- lengths
 
-with_adder-length : (top : Bool) (sum carry : List ℕ → Tree) (net : Net) (column carries : List WordBit) → length (with_adder top sum carry net column carries).column ≡ length column + 1
+with_adder-length : (top : Bool) (sum carry : List ℕ → Tree) (net : Net) (column carries : List WordBit)
+    → length (with_adder top sum carry net column carries).column ≡ length column + 1
 with_adder-length true sum carry net column carries = length-append column (next_bit net ∷ [])
 with_adder-length false sum carry net column carries = length-append column (next_bit net ∷ [])
 
-pub full-length : (top : Bool) (net : Net) (column carries : List WordBit) → 3 ≤ length column → length (full_adder top net column carries).column + 2 ≡ length column
+pub full-length : (top : Bool) (net : Net) (column carries : List WordBit) → 3 ≤ length column
+    → length (full_adder top net column carries).column + 2 ≡ length column
 full-length top net [] carries h = absurd (omega (arith, h))
 full-length top net (a ∷ []) carries h = absurd (omega (arith, h))
 full-length top net (a ∷ b ∷ []) carries h = absurd (omega (arith, h))
 full-length top net (a ∷ b ∷ c ∷ rest) carries h = omega (arith, with_adder-length top (full_sum a b c) (full_carry a b c) net rest carries)
 
-half-length : (top : Bool) (net : Net) (column carries : List WordBit) → 2 ≤ length column → length (half_adder top net column carries).column + 1 ≡ length column
+half-length : (top : Bool) (net : Net) (column carries : List WordBit) → 2 ≤ length column
+    → length (half_adder top net column carries).column + 1 ≡ length column
 half-length top net [] carries h = absurd (omega (arith, h))
 half-length top net (a ∷ []) carries h = absurd (omega (arith, h))
 half-length top net (a ∷ b ∷ rest) carries h = omega (arith, with_adder-length top (half_sum a b) (half_carry a b) net rest carries)
 
 -- so many adders bring a column down to its height
-pub reduced-length : (excess height : ℕ) (top : Bool) (w : Work) → 2 ≤ height → length w.column - height ≡ excess → length (reduced excess top w).column ≤ height
+pub reduced-length : (excess height : ℕ) (top : Bool) (w : Work) → 2 ≤ height → length w.column - height ≡ excess
+    → length (reduced excess top w).column ≤ height
 reduced-length zero height top w l e = omega (arith, e)
 reduced-length (suc zero) height top w l e = omega (arith, e, l, half-length top w.net w.column w.carries (omega (arith, e, l)))
 reduced-length (suc (suc excess)) height top w l e =

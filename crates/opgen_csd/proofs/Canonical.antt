@@ -25,7 +25,8 @@ not_zero d (f ∷ ds) h e =
     let lowest : d ≡ pos 0 = omega (arith, ints, e, h.0) in
     above (omega (arith, ints, e, lowest))
 
-lowest : (d e v w x y : ℤ) → IsDigit d → IsDigit e → (d ≡ pos 0) ⊎ (v ≡ x +ℤ x) → (e ≡ pos 0) ⊎ (w ≡ y +ℤ y) → d +ℤ (v +ℤ v) ≡ e +ℤ (w +ℤ w) → d ≡ e
+lowest : (d e v w x y : ℤ) → IsDigit d → IsDigit e → (d ≡ pos 0) ⊎ (v ≡ x +ℤ x) → (e ≡ pos 0) ⊎ (w ≡ y +ℤ y) → d +ℤ (v +ℤ v) ≡ e +ℤ (w +ℤ w)
+    → d ≡ e
 lowest d e v w x y hd he even odd same = omega (arith, ints)
 
 pub unique : (ds es : List ℤ) → IsCanonical ds → IsCanonical es → value_of ds ≡ value_of es → ds ≡ es

@@ -6,8 +6,19 @@ use Rattle.opgen_csd.specs.Digits.{IsDigit, value_of, IsCanonical}
 use Rattle.opgen_csd.proofs.Recoding.{put_below}
 
 halve : (n : ℤ) → (x : ℤ) × ((n ≡ x +ℤ x) ⊎ (n ≡ pos 1 +ℤ (x +ℤ x)))
-halve (pos a) = (pos (a / 2), ⊎_elim (λ (e : a % 2 ≡ 0). inl (omega (arith, ints, e))) (λ (ne : a % 2 ≢ 0). inr (omega (arith, ints, ne))) (cases_eq (a % 2) 0))
-halve (negsuc a) = (negsuc (a / 2), ⊎_elim (λ (e : a % 2 ≡ 0). inr (omega (arith, ints, e))) (λ (ne : a % 2 ≢ 0). inl (omega (arith, ints, ne))) (cases_eq (a % 2) 0))
+halve (pos a) = (
+  pos (a / 2),
+  ⊎_elim (λ (e : a % 2 ≡ 0). inl (omega (arith, ints, e))) (λ (ne : a % 2 ≢ 0). inr (omega (arith, ints, ne)))
+      (cases_eq (a % 2) 0),
+)
+halve (negsuc a) = (
+  negsuc (a / 2),
+  ⊎_elim (λ (e : a % 2 ≡ 0). inr (omega (arith, ints, e))) (λ (ne : a % 2 ≢ 0). inl (omega (
+    arith,
+    ints,
+    ne,
+  ))) (cases_eq (a % 2) 0),
+)
 
 -- a lowest digit and half of what stands above it, which is even where the digit is not zero
 record Lowest (n : ℤ) : Type 0 where
@@ -18,11 +29,34 @@ record Lowest (n : ℤ) : Type 0 where
   even : digit ≢ pos 0 → (x : ℤ) × (half ≡ x +ℤ x)
 
 odd_lowest : (n x : ℤ) → n ≡ pos 1 +ℤ (x +ℤ x) → (y : ℤ) × ((x ≡ y +ℤ y) ⊎ (x ≡ pos 1 +ℤ (y +ℤ y))) → Lowest n
-odd_lowest n x e (y, inl h) = record { digit = pos 1; half = x; is_digit = (omega (arith, ints), omega (arith, ints)); sum = e; even = λ _. (y, h) }
-odd_lowest n x e (y, inr h) = record { digit = negsuc 0; half = x +ℤ pos 1; is_digit = (omega (arith, ints), omega (arith, ints)); sum = omega (arith, ints, e); even = λ _. (y +ℤ pos 1, omega (arith, ints, h)) }
+odd_lowest n x e (y, inl h) = record {
+  digit = pos 1;
+  half = x;
+  is_digit = (omega (arith, ints), omega (arith, ints));
+  sum = e;
+  even = λ _.
+      (y, h);
+}
+odd_lowest n x e (y, inr h) = record {
+  digit = negsuc 0;
+  half = x +ℤ pos 1;
+  is_digit = (omega (arith, ints), omega (arith, ints));
+  sum = omega (arith, ints, e);
+  even = λ _. (y +ℤ pos 1, omega (arith, ints, h));
+}
 
 lowest_from : (n : ℤ) → (x : ℤ) × ((n ≡ x +ℤ x) ⊎ (n ≡ pos 1 +ℤ (x +ℤ x))) → Lowest n
-lowest_from n (x, inl e) = record { digit = pos 0; half = x; is_digit = (omega (arith, ints), omega (arith, ints)); sum = omega (arith, ints, e); even = λ ne. absurd (ne refl) }
+lowest_from n (x, inl e) = record {
+  digit = pos 0;
+  half = x;
+  is_digit = (omega (arith, ints), omega (arith, ints));
+  sum = omega (
+    arith,
+    ints,
+    e,
+  );
+  even = λ ne. absurd (ne refl);
+}
 lowest_from n (x, inr e) = odd_lowest n x e (halve x)
 
 zero_or_not : (n : ℤ) → (n ≡ pos 0) ⊎ (n ≢ pos 0)

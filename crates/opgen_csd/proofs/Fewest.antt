@@ -23,7 +23,8 @@ pub record IsNoLonger (c n : ℕ) (v k : ℤ) : Type 0 where
 carried : (a d k x y : ℤ) → IsDigit a → IsDigit d → IsDigit k → a +ℤ (x +ℤ x) ≡ (d +ℤ (y +ℤ y)) +ℤ k → IsDigit (x -ℤ y)
 carried a d k x y ha hd hk e = (omega (arith, ints), omega (arith, ints))
 
-one_lower : (a d k x y h : ℤ) (c n : ℕ) → IsDigit a → IsDigit d → IsDigit k → a +ℤ (x +ℤ x) ≡ (d +ℤ (y +ℤ y)) +ℤ k → (a ≡ pos 0) ⊎ (x ≡ h +ℤ h) → IsNoLonger c n x (x -ℤ y) → IsNoLonger (weight a + c) (weight d + n) (a +ℤ (x +ℤ x)) k
+one_lower : (a d k x y h : ℤ) (c n : ℕ) → IsDigit a → IsDigit d → IsDigit k → a +ℤ (x +ℤ x) ≡ (d +ℤ (y +ℤ y)) +ℤ k
+    → (a ≡ pos 0) ⊎ (x ≡ h +ℤ h) → IsNoLonger c n x (x -ℤ y) → IsNoLonger (weight a + c) (weight d + n) (a +ℤ (x +ℤ x)) k
 one_lower a d k x y h c n ha hd hk same above r =
     let wa = weighs a ha in
     let wd = weighs d hd in
@@ -32,21 +33,28 @@ one_lower a d k x y h c n ha hd hk same above r =
     let all = r.all in
     record {
       all = ⊎_elim (λ (z : a ≡ pos 0). omega (arith, ints))
-          (λ (e : x ≡ h +ℤ h). ⊎_elim (λ (z : (x -ℤ y ≡ pos 0) × (weight (x -ℤ y) ≡ 0)). omega (arith, ints)) (λ (z : ((x -ℤ y ≡ pos 1) ⊎ (x -ℤ y ≡ negsuc 0)) × (weight (x -ℤ y) ≡ 1)). let few = r.even h e (λ q. omega (arith, ints, q)) in omega (arith, ints)) wq)
+          (λ (e : x ≡ h +ℤ h). ⊎_elim (λ (z : (x -ℤ y ≡ pos 0) × (weight (x -ℤ y) ≡ 0)). omega (arith, ints))
+          (λ (z : ((x -ℤ y ≡ pos 1) ⊎ (x -ℤ y ≡ negsuc 0)) × (weight (x -ℤ y) ≡ 1)). let few = r.even h e (λ q. omega (arith, ints, q))
+          in omega (arith, ints)) wq)
           above;
       even = λ g e ne. omega (arith, ints, e, ne);
     }
 
-pub no_longer : (cs ds : List ℤ) (k : ℤ) → IsCanonical cs → AllDigits ds → IsDigit k → value_of cs ≡ value_of ds +ℤ k → IsNoLonger (nonzeros cs) (nonzeros ds) (value_of cs) k
+pub no_longer : (cs ds : List ℤ) (k : ℤ) → IsCanonical cs → AllDigits ds → IsDigit k → value_of cs ≡ value_of ds +ℤ k
+    → IsNoLonger (nonzeros cs) (nonzeros ds) (value_of cs) k
 no_longer [] ds k hc hd hk e = record { all = omega arith; even = λ _ _ _. omega arith }
 no_longer (a ∷ cs) [] k hc hd hk e =
     let zero_digit : IsDigit (pos 0) = (omega (arith, ints), omega (arith, ints)) in
     let x = half_above a cs hc in
     let same : a +ℤ (value_of cs +ℤ value_of cs) ≡ (pos 0 +ℤ (pos 0 +ℤ pos 0)) +ℤ k = omega (arith, ints) in
-    one_lower a (pos 0) k (value_of cs) (pos 0) x.0 (nonzeros cs) 0 hc.0 zero_digit hk same x.1 (no_longer cs [] (value_of cs -ℤ pos 0) hc.2 tt (carried a (pos 0) k (value_of cs) (pos 0) hc.0 zero_digit hk same) (omega (arith, ints)))
+    one_lower a (pos 0) k (value_of cs) (pos 0) x.0 (nonzeros cs) 0 hc.0 zero_digit hk same x.1
+    (no_longer cs [] (value_of cs -ℤ pos 0) hc.2 tt (carried a (pos 0) k (value_of cs) (pos 0) hc.0 zero_digit hk same)
+    (omega (arith, ints)))
 no_longer (a ∷ cs) (d ∷ ds) k hc hd hk e =
     let x = half_above a cs hc in
-    one_lower a d k (value_of cs) (value_of ds) x.0 (nonzeros cs) (nonzeros ds) hc.0 hd.0 hk e x.1 (no_longer cs ds (value_of cs -ℤ value_of ds) hc.2 hd.1 (carried a d k (value_of cs) (value_of ds) hc.0 hd.0 hk e) (omega (arith, ints)))
+    one_lower a d k (value_of cs) (value_of ds) x.0 (nonzeros cs) (nonzeros ds) hc.0 hd.0 hk e x.1
+    (no_longer cs ds (value_of cs -ℤ value_of ds) hc.2 hd.1 (carried a d k (value_of cs) (value_of ds) hc.0 hd.0 hk e)
+    (omega (arith, ints)))
 
 pub fewest : (cs ds : List ℤ) → IsCanonical cs → AllDigits ds → value_of cs ≡ value_of ds → nonzeros cs ≤ nonzeros ds
 fewest cs ds hc hd e =

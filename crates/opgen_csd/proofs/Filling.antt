@@ -21,12 +21,15 @@ map_append [] ys = refl
 map_append (x ∷ xs) ys = ap (λ zs. size_of x ∷ zs) (map_append xs ys)
 
 partials_snoc : (xs : List ℤ) (d : ℤ) → 1 ≤ nonzeros xs → partials (xs ++ d ∷ []) ≡ partials xs ++ map size_of (cut_at xs d)
-partials_snoc xs d h = rw (cuts-snoc xs d, drop_some (cuts xs) (cut_at xs d) (omega (arith, h, length-cuts xs))) (map_append (drop 1 (cuts xs)) (cut_at xs d))
+partials_snoc xs d h = rw (cuts-snoc xs d, drop_some (cuts xs) (cut_at xs d) (omega (arith, h, length-cuts xs)))
+    (map_append (drop 1 (cuts xs)) (cut_at xs d))
 
 pub partials_zero : (xs : List ℤ) (d : ℤ) → 1 ≤ nonzeros xs → is_zero d ≡ true → partials (xs ++ d ∷ []) ≡ partials xs
-partials_zero xs d h z = partials_snoc xs d h ∙ ap (λ b. partials xs ++ map size_of (if b then [] else (xs ++ d ∷ []) ∷ [])) z ∙ append-nil (partials xs)
+partials_zero xs d h z = partials_snoc xs d h ∙ ap (λ b. partials xs ++ map size_of (if b then [] else (xs ++ d ∷ []) ∷ [])) z
+    ∙ append-nil (partials xs)
 
-pub partials_nonzero : (xs : List ℤ) (d : ℤ) → 1 ≤ nonzeros xs → is_zero d ≡ false → partials (xs ++ d ∷ []) ≡ partials xs ++ unsigned_abs (value_of (xs ++ d ∷ [])) ∷ []
+pub partials_nonzero : (xs : List ℤ) (d : ℤ) → 1 ≤ nonzeros xs → is_zero d ≡ false → partials (xs ++ d ∷ [])
+    ≡ partials xs ++ unsigned_abs (value_of (xs ++ d ∷ [])) ∷ []
 partials_nonzero xs d h z = partials_snoc xs d h ∙ ap (λ b. partials xs ++ map size_of (if b then [] else (xs ++ d ∷ []) ∷ [])) z
 
 weight_false : (d : ℤ) → is_zero d ≡ false → weight d ≡ 1
@@ -57,15 +60,25 @@ not_zero (negsuc n) h = refl
 no_partials : (d : ℤ) → is_zero d ≡ false → [] ≡ partials (d ∷ [])
 no_partials d z = ap (λ b. map size_of (drop 1 ((if b then [] else (d ∷ []) ∷ []) ++ []))) (sym z)
 
-pub fills_first : (digits : List ℤ) (len : ℕ) → unsigned_abs (value_of (take len digits)) % 2 ≡ 1 → Fills digits 1 (get_or digits 0 (pos 0)) (replicate 32 0) 0
+pub fills_first : (digits : List ℤ) (len : ℕ) → unsigned_abs (value_of (take len digits)) % 2 ≡ 1
+    → Fills digits 1 (get_or digits 0 (pos 0)) (replicate 32 0) 0
 fills_first digits zero odd = absurd (omega (arith, odd))
 fills_first [] (suc n) odd = absurd (omega (arith, odd))
 fills_first (d ∷ ds) (suc n) odd =
     let first : d ≢ pos 0 = λ e. omega (arith, ints, e, odd) in
     let z = not_zero d first in
-    record { total = omega (arith, ints); taken = no_partials d z; count = omega (arith, weight_false d z); size = refl; short = omega arith; zeros = λ k _. zeros_at 32 k }
+    record {
+      total = omega (arith, ints);
+      taken = no_partials d z;
+      count = omega (arith, weight_false d z);
+      size = refl;
+      short = omega arith;
+      zeros = λ k _. zeros_at 32 k;
+    }
 
-pub fills_zero : (digits : List ℤ) (len place : ℕ) (sum : ℤ) (sums : List ℕ) (n : ℕ) → IsRecoded digits len → length digits ≡ 64 → place < len → is_zero (get_or digits place (pos 0)) ≡ true → Fills digits place sum sums n → Fills digits (place + 1) (sum +ℤ get_or digits place (pos 0) *ℤ pos (2 ^ place)) sums n
+pub fills_zero : (digits : List ℤ) (len place : ℕ) (sum : ℤ) (sums : List ℕ) (n : ℕ) → IsRecoded digits len → length digits ≡ 64
+    → place < len → is_zero (get_or digits place (pos 0)) ≡ true → Fills digits place sum sums n
+    → Fills digits (place + 1) (sum +ℤ get_or digits place (pos 0) *ℤ pos (2 ^ place)) sums n
 fills_zero digits len place sum sums n r size h z f =
     let d = get_or digits place (pos 0) in
     let in_range : place < length digits = omega (arith, r.short) in
@@ -80,26 +93,41 @@ fills_zero digits len place sum sums n r size h z f =
       zeros = f.zeros;
     }
 
-pub room : (digits : List ℤ) (len place : ℕ) (sum : ℤ) (sums : List ℕ) (n : ℕ) → IsRecoded digits len → length digits ≡ 64 → place < len → is_zero (get_or digits place (pos 0)) ≡ false → Fills digits place sum sums n → n < 31
+pub room : (digits : List ℤ) (len place : ℕ) (sum : ℤ) (sums : List ℕ) (n : ℕ) → IsRecoded digits len → length digits ≡ 64 → place < len
+    → is_zero (get_or digits place (pos 0)) ≡ false → Fills digits place sum sums n → n < 31
 room digits len place sum sums n r size h z f =
     let in_range : place < length digits = omega (arith, r.short) in
-    omega (arith, f.count, nonzeros_more digits place in_range, few digits len (place + 1) r (omega arith), r.short, weight_false (get_or digits place (pos 0)) z)
+    omega (
+      arith,
+      f.count,
+      nonzeros_more digits place in_range,
+      few digits len (place + 1) r (omega arith),
+      r.short,
+      weight_false (get_or digits place (pos 0)) z,
+    )
 
-pub fills_more : (digits : List ℤ) (len place : ℕ) (sum : ℤ) (sums : List ℕ) (n : ℕ) → IsRecoded digits len → length digits ≡ 64 → place < len → is_zero (get_or digits place (pos 0)) ≡ false → Fills digits place sum sums n → (next : ℤ) → next ≡ sum +ℤ get_or digits place (pos 0) *ℤ pos (2 ^ place) → Fills digits (place + 1) next (set sums n (unsigned_abs next)) (n + 1)
+pub fills_more : (digits : List ℤ) (len place : ℕ) (sum : ℤ) (sums : List ℕ) (n : ℕ) → IsRecoded digits len → length digits ≡ 64
+    → place < len → is_zero (get_or digits place (pos 0)) ≡ false → Fills digits place sum sums n → (next : ℤ) → next
+    ≡ sum +ℤ get_or digits place (pos 0) *ℤ pos (2 ^ place) → Fills digits (place + 1) next (set sums n (unsigned_abs next)) (n + 1)
 fills_more digits len place sum sums n r size h z f next e =
     let d = get_or digits place (pos 0) in
     let in_range : place < length digits = omega (arith, r.short) in
     let more = take_more digits place (pos 0) in_range in
     let some : 1 ≤ nonzeros (take place digits) = omega (arith, f.count) in
-    let value : next ≡ value_of (take (place + 1) digits) = e ∙ ap (λ v. v +ℤ d *ℤ pos (2 ^ place)) f.total ∙ sym (value_more digits len place r size h) in
+    let value : next ≡ value_of (take (place + 1) digits) = e ∙ ap (λ v. v +ℤ d *ℤ pos (2 ^ place)) f.total
+    ∙ sym (value_more digits len place r size h) in
     let fits : n < length sums = omega (arith, f.size, room digits len place sum sums n r size h z f) in
     record {
       total = value;
-      taken = ap (λ k. take k (set sums n (unsigned_abs next))) (add-one n) ∙ take-suc-set sums n (unsigned_abs next) fits ∙ ap (λ xs. xs ++ unsigned_abs next ∷ []) f.taken ∙ ap (λ v. partials (take place digits) ++ unsigned_abs v ∷ []) (value ∙ ap value_of more) ∙ sym (ap partials more ∙ partials_nonzero (take place digits) d some z);
+      taken = ap (λ k. take k (set sums n (unsigned_abs next))) (add-one n) ∙ take-suc-set sums n (unsigned_abs next) fits
+          ∙ ap (λ xs. xs ++ unsigned_abs next ∷ []) f.taken
+          ∙ ap (λ v. partials (take place digits) ++ unsigned_abs v ∷ []) (value ∙ ap value_of more)
+          ∙ sym (ap partials more ∙ partials_nonzero (take place digits) d some z);
       count = omega (arith, f.count, nonzeros_more digits place in_range, weight_false (get_or digits place (pos 0)) z);
       size = length-set sums n (unsigned_abs next) ∙ f.size;
       short = omega (arith, room digits len place sum sums n r size h z f);
-      zeros = λ k le. let apart : k ≢ n = omega (arith, le) in rw (get_or-set_other sums n k (unsigned_abs next) 0 apart) (f.zeros k (omega (arith, le)));
+      zeros = λ k le. let apart : k ≢ n = omega (arith, le) in rw (get_or-set_other sums n k (unsigned_abs next) 0 apart)
+          (f.zeros k (omega (arith, le)));
     }
 
 pub is_filled : (digits : List ℤ) (place : ℕ) (sum : ℤ) (sums : List ℕ) (n : ℕ) → Fills digits place sum sums n → IsFilled sums n

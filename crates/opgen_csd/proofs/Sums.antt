@@ -15,7 +15,8 @@ use Rattle.opgen_csd.proofs.Recoding.{power_small}
 twice : (d : ℤ) (n : ℕ) → IsDigit d → d *ℤ pos (n * 2) ≡ d *ℤ pos n +ℤ d *ℤ pos n
 twice d n h =
     ⊎_elim (λ (p : d ≡ negsuc 0). rw p (omega (arith, ints)))
-    (λ (o : (d ≡ pos 0) ⊎ (d ≡ pos 1)). ⊎_elim (λ (p : d ≡ pos 0). rw p (omega (arith, ints))) (λ (p : d ≡ pos 1). rw p (omega (arith, ints))) o)
+    (λ (o : (d ≡ pos 0) ⊎ (d ≡ pos 1)). ⊎_elim (λ (p : d ≡ pos 0). rw p (omega (arith, ints)))
+    (λ (p : d ≡ pos 1). rw p (omega (arith, ints))) o)
     (digit_cases d h)
 
 pub raised : (d : ℤ) (k : ℕ) → IsDigit d → d *ℤ pos (2 ^ suc k) ≡ d *ℤ pos (2 ^ k) +ℤ d *ℤ pos (2 ^ k)
@@ -39,7 +40,8 @@ nonzeros-snoc (x ∷ xs) d = omega (arith, nonzeros-snoc xs d)
 abbrev pub cut_at : List ℤ → ℤ → List (List ℤ)
 cut_at xs d = if is_zero d then [] else (xs ++ d ∷ []) ∷ []
 
-below_cut : (x d : ℤ) (xs : List ℤ) (b : Bool) → map (λ c. x ∷ c) (if b then [] else (xs ++ d ∷ []) ∷ []) ≡ (if b then [] else (x ∷ (xs ++ d ∷ [])) ∷ [])
+below_cut : (x d : ℤ) (xs : List ℤ) (b : Bool) → map (λ c. x ∷ c) (if b then [] else (xs ++ d ∷ []) ∷ [])
+    ≡ (if b then [] else (x ∷ (xs ++ d ∷ [])) ∷ [])
 below_cut x d xs true = refl
 below_cut x d xs false = refl
 
@@ -64,7 +66,8 @@ length-cuts (x ∷ xs) = both (is_zero x) (length-cuts xs)
     mapped [] = refl
     mapped (c ∷ cs) = ap suc (mapped cs)
 
-    both : (b : Bool) → length (cuts xs) ≡ nonzeros xs → length ((if b then [] else (x ∷ []) ∷ []) ++ map (λ c. x ∷ c) (cuts xs)) ≡ (if b then 0 else 1) + nonzeros xs
+    both : (b : Bool) → length (cuts xs) ≡ nonzeros xs → length ((if b then [] else (x ∷ []) ∷ []) ++ map (λ c. x ∷ c) (cuts xs))
+        ≡ (if b then 0 else 1) + nonzeros xs
     both true e = omega (arith, mapped (cuts xs))
     both false e = omega (arith, mapped (cuts xs))
 
@@ -106,7 +109,12 @@ few_below (d ∷ e ∷ ds) (suc (suc k)) h =
     let from = few_below (e ∷ ds) (suc k) h.2 in
     ⊎_elim (λ (z : (d ≡ pos 0) × (weight d ≡ 0)). omega (arith, from, z.1))
     (λ (z : ((d ≡ pos 1) ⊎ (d ≡ negsuc 0)) × (weight d ≡ 1)).
-    let e_zero : e ≡ pos 0 = h.1 (λ q. ⊎_elim (λ (p : d ≡ pos 1). omega (arith, ints, p, q)) (λ (p : d ≡ negsuc 0). omega (arith, ints, p, q)) z.0) in
+    let e_zero : e ≡ pos 0 = h.1 (λ q. ⊎_elim (λ (p : d ≡ pos 1). omega (arith, ints, p, q)) (λ (p : d ≡ negsuc 0). omega (
+      arith,
+      ints,
+      p,
+      q,
+    )) z.0) in
     omega (arith, rest, z.1, ap weight e_zero))
     (weighs d h.0)
 
@@ -141,14 +149,19 @@ few digits len k r h = subst (λ xs. 2 * nonzeros xs ≤ suc k) (cut_twice digit
 pub digit_at : (digits : List ℤ) (len k : ℕ) → IsRecoded digits len → length digits ≡ 64 → k < len → IsDigit (get_or digits k (pos 0))
 digit_at digits len k r size h =
     let in_range : k < length digits = omega (arith, r.short) in
-    last_digit (take k digits) (get_or digits k (pos 0)) (subst AllDigits (take_more digits k (pos 0) in_range) (digits_below digits len (k + 1) r (omega arith)))
+    last_digit (take k digits) (get_or digits k (pos 0))
+    (subst AllDigits (take_more digits k (pos 0) in_range) (digits_below digits len (k + 1) r (omega arith)))
 
-pub value_more : (digits : List ℤ) (len k : ℕ) → IsRecoded digits len → length digits ≡ 64 → k < len → value_of (take (k + 1) digits) ≡ value_of (take k digits) +ℤ get_or digits k (pos 0) *ℤ pos (2 ^ k)
+pub value_more : (digits : List ℤ) (len k : ℕ) → IsRecoded digits len → length digits ≡ 64 → k < len → value_of (take (k + 1) digits)
+    ≡ value_of (take k digits) +ℤ get_or digits k (pos 0) *ℤ pos (2 ^ k)
 value_more digits len k r size h =
     let in_range : k < length digits = omega (arith, r.short) in
-    ap value_of (take_more digits k (pos 0) in_range) ∙ value-snoc (take k digits) (get_or digits k (pos 0)) (digit_at digits len k r size h) ∙ ap (λ n. value_of (take k digits) +ℤ get_or digits k (pos 0) *ℤ pos (2 ^ n)) (length_taken digits k (omega arith))
+    ap value_of (take_more digits k (pos 0) in_range)
+    ∙ value-snoc (take k digits) (get_or digits k (pos 0)) (digit_at digits len k r size h)
+    ∙ ap (λ n. value_of (take k digits) +ℤ get_or digits k (pos 0) *ℤ pos (2 ^ n)) (length_taken digits k (omega arith))
 
-pub value_small : (digits : List ℤ) (len k : ℕ) → IsRecoded digits len → length digits ≡ 64 → k ≤ len → unsigned_abs (value_of (take k digits)) < 2 ^ 63
+pub value_small : (digits : List ℤ) (len k : ℕ) → IsRecoded digits len → length digits ≡ 64 → k ≤ len
+    → unsigned_abs (value_of (take k digits)) < 2 ^ 63
 value_small digits len k r size h =
     let below = small (take k digits) (digits_below digits len k r h) in
     let e = length_taken digits k (omega (arith, r.short)) in
@@ -159,8 +172,11 @@ value_small digits len k r size h =
     pow_le zero h = omega arith
     pow_le (suc j) h = omega (arith, pow-suc 2 j, power_small j (omega (arith, h)))
 
-pub value_fits : (digits : List ℤ) (len k : ℕ) → IsRecoded digits len → length digits ≡ 64 → k < len → FitsSigned w64 (value_of (take k digits) +ℤ get_or digits k (pos 0) *ℤ pos (2 ^ k))
-value_fits digits len k r size h = fits_signed_from_abs w64 _ (subst (λ z. unsigned_abs z < 2 ^ 63) (value_more digits len k r size h) (value_small digits len (k + 1) r size (omega arith)))
+pub value_fits : (digits : List ℤ) (len k : ℕ) → IsRecoded digits len → length digits ≡ 64 → k < len
+    → FitsSigned w64 (value_of (take k digits) +ℤ get_or digits k (pos 0) *ℤ pos (2 ^ k))
+value_fits digits len k r size h = fits_signed_from_abs w64 _
+    (subst (λ z. unsigned_abs z < 2 ^ 63) (value_more digits len k r size h) (value_small digits len (k + 1) r size (omega arith)))
 
-pub nonzeros_more : (digits : List ℤ) (k : ℕ) → k < length digits → nonzeros (take (k + 1) digits) ≡ nonzeros (take k digits) + weight (get_or digits k (pos 0))
+pub nonzeros_more : (digits : List ℤ) (k : ℕ) → k < length digits → nonzeros (take (k + 1) digits)
+    ≡ nonzeros (take k digits) + weight (get_or digits k (pos 0))
 nonzeros_more digits k h = ap nonzeros (take_more digits k (pos 0) h) ∙ nonzeros-snoc (take k digits) (get_or digits k (pos 0))

@@ -16,8 +16,10 @@ module _ (d : Design) (port : ℕ) (is : d.enable ≡ Some port) where
   other i l None = tt
   other i l (Some q) = λ f. let a : Some i ≡ Some port = sym f ∙ is in let same : i ≡ port = cc in absurd (omega (arith, l, same))
 
-  pub first-unfit : (p : Port) → slice_get d.ports port ≡ Some p → ((p.dir ≡ In) × (p.width ≡ 1) → ⊥) → IsFirstFailing (PortPasses d BadEnable) d.ports (Some port)
-  first-unfit p at unfit = failing-at (PortPasses d BadEnable) d.ports port p at (λ h. unfit (h is)) (λ i l. other i l (slice_get d.ports i))
+  pub first-unfit : (p : Port) → slice_get d.ports port ≡ Some p → ((p.dir ≡ In) × (p.width ≡ 1) → ⊥)
+      → IsFirstFailing (PortPasses d BadEnable) d.ports (Some port)
+  first-unfit p at unfit = failing-at (PortPasses d BadEnable) d.ports port p at (λ h. unfit (h is))
+      (λ i l. other i l (slice_get d.ports i))
 
 pub never : (b : Bool) → b ≡ false → IsTrue b → ⊥
 never b e t = let f : false ≡ true = sym e ∙ t in absurd (cc)

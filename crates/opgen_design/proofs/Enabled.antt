@@ -17,23 +17,34 @@ Holds now later (Table to on rows other) = Unit {0}
 Holds now later (Output port e) = Unit {0}
 
 -- a cycle reads of the words before it those that registers hold
-from-held : (now later : List (List Bool)) (v : Words) (next : List (List Bool)) (k : Driver) → Holds now later k → Meets None later v next k → Meets None now v next k
+from-held : (now later : List (List Bool)) (v : Words) (next : List (List Bool)) (k : Driver) → Holds now later k
+    → Meets None later v next k → Meets None now v next k
 from-held now later v next (Register to e) h m = (m.0 ∙ h, m.1)
 from-held now later v next (Assign to e) h m = m
 from-held now later v next (Choice to on one other) h m = m
 from-held now later v next (Table to on rows other) h m = m
 from-held now later v next (Output port e) h m = m
 
-all-from-held : (now later : List (List Bool)) (v : Words) (next : List (List Bool)) (ks : List Driver) → All (Holds now later) ks → All (Meets None later v next) ks → All (Meets None now v next) ks
+all-from-held : (now later : List (List Bool)) (v : Words) (next : List (List Bool)) (ks : List Driver) → All (Holds now later) ks
+    → All (Meets None later v next) ks → All (Meets None now v next) ks
 all-from-held now later v next ks h m = λ i k l. from-held now later v next (get_or ks i k) (h i k l) (m i k l)
 
-runs-from-held : (d : Design) (now later : List (List Bool)) → All (Holds now later) d.drivers → (inputs : List (List (List Bool))) (vs : List Words)
+runs-from-held : (d : Design) (now later : List (List Bool)) → All (Holds now later) d.drivers
+    → (inputs : List (List (List Bool))) (vs : List Words)
     → RunsOn (without_enable d) later inputs vs → RunsOn (without_enable d) now inputs vs
 runs-from-held d now later h [] [] r = tt
 runs-from-held d now later h [] (v ∷ vs) r = r
 runs-from-held d now later h (given ∷ inputs) [] r = r
-runs-from-held d now later h (given ∷ inputs) (v ∷ vs) r =
-    (r.0, record { signal_widths = r.1.signal_widths; port_widths = r.1.port_widths; inputs = r.1.inputs; equations = all-from-held now later v r.0 d.drivers h r.1.equations }, r.2)
+runs-from-held d now later h (given ∷ inputs) (v ∷ vs) r = (
+  r.0,
+  record {
+    signal_widths = r.1.signal_widths;
+    port_widths = r.1.port_widths;
+    inputs = r.1.inputs;
+    equations = all-from-held now later v r.0 d.drivers h r.1.equations;
+  },
+  r.2,
+)
 
 -- where the enable's word is 1 a cycle is one without the enable, and else the registers hold
 module _ (port : ℕ) (now : List (List Bool)) (v : Words) (next : List (List Bool)) where
@@ -56,7 +67,8 @@ module _ (port : ℕ) (now : List (List Bool)) (v : Words) (next : List (List Bo
   moves one (Table to on rows other) m = m
   moves one (Output place e) m = m
 
-  all-move : is_one (word_at v.ports port) ≡ true → (ks : List Driver) → All (Meets (Some port) now v next) ks → All (Meets None now v next) ks
+  all-move : is_one (word_at v.ports port) ≡ true → (ks : List Driver) → All (Meets (Some port) now v next) ks
+      → All (Meets None now v next) ks
   all-move one ks m = λ i k l. moves one (get_or ks i k) (m i k l)
 
   holds : is_one (word_at v.ports port) ≡ false → (k : Driver) → Meets (Some port) now v next k → Holds now next k
@@ -70,20 +82,32 @@ module _ (port : ℕ) (now : List (List Bool)) (v : Words) (next : List (List Bo
   all-hold zero ks m = λ i k l. holds zero (get_or ks i k) (m i k l)
 
 module _ (d : Design) (port : ℕ) (is : d.enable ≡ Some port) where
-  equations : (now given : List (List Bool)) (v : Words) (next : List (List Bool)) → Cycle d now given v next → All (Meets (Some port) now v next) d.drivers
+  equations : (now given : List (List Bool)) (v : Words) (next : List (List Bool)) → Cycle d now given v next
+      → All (Meets (Some port) now v next) d.drivers
   equations now given v next c = subst (λ o. All (Meets o now v next) d.drivers) is c.equations
 
   abbrev Left : (now : List (List Bool)) → List Bool → (inputs : List (List (List Bool))) → List Words → Type 0
   Left now marks inputs vs = RunsOn (without_enable d) now (marked marks inputs) (marked marks vs)
 
-  one-cycle : (now given : List (List Bool)) (inputs : List (List (List Bool))) (v : Words) (vs : List Words) (next : List (List Bool)) → Cycle d now given v next → Left next (ones_at port vs) inputs vs
+  one-cycle : (now given : List (List Bool)) (inputs : List (List (List Bool))) (v : Words) (vs : List Words) (next : List (List Bool))
+      → Cycle d now given v next → Left next (ones_at port vs) inputs vs
       → (one : Bool) → is_one (word_at v.ports port) ≡ one → Left now (one ∷ ones_at port vs) (given ∷ inputs) (v ∷ vs)
-  one-cycle now given inputs v vs next c r true e =
-      (next, record { signal_widths = c.signal_widths; port_widths = c.port_widths; inputs = c.inputs; equations = all-move port now v next e d.drivers (equations now given v next c) }, r)
+  one-cycle now given inputs v vs next c r true e = (
+    next,
+    record {
+      signal_widths = c.signal_widths;
+      port_widths = c.port_widths;
+      inputs = c.inputs;
+      equations = all-move port now v next e d.drivers (equations now given v next c);
+    },
+    r,
+  )
   one-cycle now given inputs v vs next c r false e =
-      runs-from-held d now next (all-hold port now v next e d.drivers (equations now given v next c)) (marked (ones_at port vs) inputs) (marked (ones_at port vs) vs) r
+      runs-from-held d now next (all-hold port now v next e d.drivers (equations now given v next c)) (marked (ones_at port vs) inputs)
+      (marked (ones_at port vs) vs) r
 
-  enabled-on : (now : List (List Bool)) (inputs : List (List (List Bool))) (vs : List Words) → RunsOn d now inputs vs → Left now (ones_at port vs) inputs vs
+  enabled-on : (now : List (List Bool)) (inputs : List (List (List Bool))) (vs : List Words) → RunsOn d now inputs vs
+      → Left now (ones_at port vs) inputs vs
   enabled-on now [] [] r = tt
   enabled-on now [] (v ∷ vs) r = absurd r
   enabled-on now (given ∷ inputs) [] r = absurd r
@@ -94,24 +118,35 @@ pub enabled-cycles : EnabledCyclesAreRuns
 enabled-cycles d port inputs vs is r = enabled-on d port is (initial_words d.signals) inputs vs r
 
 -- without registers a cycle says nothing of the words before it and after it
-free : (enable : Option ℕ) (now later : List (List Bool)) (v : Words) (next after : List (List Bool)) (k : Driver) → IsNoRegister k → Meets enable now v next k → Meets enable later v after k
+free : (enable : Option ℕ) (now later : List (List Bool)) (v : Words) (next after : List (List Bool)) (k : Driver) → IsNoRegister k
+    → Meets enable now v next k → Meets enable later v after k
 free enable now later v next after (Register to e) n m = absurd n
 free enable now later v next after (Assign to e) n m = m
 free enable now later v next after (Choice to on one other) n m = m
 free enable now later v next after (Table to on rows other) n m = m
 free enable now later v next after (Output port e) n m = m
 
-all-free : (enable : Option ℕ) (now later : List (List Bool)) (v : Words) (next after : List (List Bool)) (ks : List Driver) → All IsNoRegister ks → All (Meets enable now v next) ks → All (Meets enable later v after) ks
+all-free : (enable : Option ℕ) (now later : List (List Bool)) (v : Words) (next after : List (List Bool)) (ks : List Driver)
+    → All IsNoRegister ks → All (Meets enable now v next) ks → All (Meets enable later v after) ks
 all-free enable now later v next after ks n m = λ i k l. free enable now later v next after (get_or ks i k) (n i k l) (m i k l)
 
 module _ (d : Design) (none : All IsNoRegister d.drivers) where
-  any-on : (marks : List Bool) (now later : List (List Bool)) (inputs : List (List (List Bool))) (vs : List Words) → RunsOn d now inputs vs → RunsOn d later (marked marks inputs) (marked marks vs)
+  any-on : (marks : List Bool) (now later : List (List Bool)) (inputs : List (List (List Bool))) (vs : List Words) → RunsOn d now inputs vs
+      → RunsOn d later (marked marks inputs) (marked marks vs)
   any-on [] now later inputs vs r = tt
   any-on (m ∷ marks) now later [] [] r = tt
   any-on (m ∷ marks) now later [] (v ∷ vs) r = absurd r
   any-on (m ∷ marks) now later (given ∷ inputs) [] r = absurd r
-  any-on (true ∷ marks) now later (given ∷ inputs) (v ∷ vs) r =
-      (later, record { signal_widths = r.1.signal_widths; port_widths = r.1.port_widths; inputs = r.1.inputs; equations = all-free d.enable now later v r.0 later d.drivers none r.1.equations }, any-on marks r.0 later inputs vs r.2)
+  any-on (true ∷ marks) now later (given ∷ inputs) (v ∷ vs) r = (
+    later,
+    record {
+      signal_widths = r.1.signal_widths;
+      port_widths = r.1.port_widths;
+      inputs = r.1.inputs;
+      equations = all-free d.enable now later v r.0 later d.drivers none r.1.equations;
+    },
+    any-on marks r.0 later inputs vs r.2,
+  )
   any-on (false ∷ marks) now later (given ∷ inputs) (v ∷ vs) r = any-on marks r.0 later inputs vs r.2
 
 pub any-cycles : AnyCyclesAreRuns

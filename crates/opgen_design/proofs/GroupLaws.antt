@@ -21,9 +21,11 @@ pub needs-contains : (r : ℕ) (k : Driver) → Needs r k → Contains (needs_of
 needs-contains r (Assign to e) h = reads-contains r e h
 needs-contains r (Choice to on one other) h =
     elim h [
-      | inl a ↦ Contains-append_left (names_read on ++ names_read one) (names_read other) r (Contains-append_left (names_read on) (names_read one) r (reads-contains r on a))
+      | inl a ↦ Contains-append_left (names_read on ++ names_read one) (names_read other) r
+          (Contains-append_left (names_read on) (names_read one) r (reads-contains r on a))
       | inr b ↦ elim b [
-        | inl a ↦ Contains-append_left (names_read on ++ names_read one) (names_read other) r (Contains-append_right (names_read on) (names_read one) r (reads-contains r one a))
+        | inl a ↦ Contains-append_left (names_read on ++ names_read one) (names_read other) r
+            (Contains-append_right (names_read on) (names_read one) r (reads-contains r one a))
         | inr a ↦ Contains-append_right (names_read on ++ names_read one) (names_read other) r (reads-contains r other a)
       ]
     ]
@@ -67,7 +69,8 @@ of-register (Table to on rows other) s count h g = absurd h
 of-register (Register to e) s count h g = g
 of-register (Output place e) s count h g = absurd h
 
-module _ (d : Design) (declared : Holds d Undeclared) (once : Holds d DrivenTwice) (firsts : List (Option ℕ)) (h : AreFirstDrivers d (length d.drivers) firsts) where
+module _ (d : Design) (declared : Holds d Undeclared) (once : Holds d DrivenTwice) (firsts : List (Option ℕ))
+    (h : AreFirstDrivers d (length d.drivers) firsts) where
   -- a signal's register is its first driver
   pub no-register : (s : ℕ) → (IsRegisterAt d (get_or firsts s None) → ⊥) → (k : Driver) → Contains d.drivers k → IsRegisterOf s k → ⊥
   no-register s never k c r =
@@ -76,7 +79,8 @@ module _ (d : Design) (declared : Holds d Undeclared) (once : Holds d DrivenTwic
       let e : get_or firsts s None ≡ Some f.0 = ap (λ t. get_or firsts (slot (length d.signals) t) None) (sym a.0) ∙ f.2 in
       never (subst (IsRegisterAt d) (sym e) (subst IsRegisterIn (sym f.1) a.1))
 
-  register_by : (s : ℕ) (o : Option ℕ) → get_or firsts s None ≡ o → IsRegisterAt d o → (k : Driver) × Contains d.drivers k × IsRegisterOf s k
+  register_by : (s : ℕ) (o : Option ℕ) → get_or firsts s None ≡ o → IsRegisterAt d o → (k : Driver) × Contains d.drivers k
+      × IsRegisterOf s k
   register_by s None e r = absurd r
   register_by s (Some j) e r =
       let f = h.found s j e in
@@ -93,14 +97,16 @@ module _ (d : Design) (declared : Holds d Undeclared) (once : Holds d DrivenTwic
           | inr l ↦ absurd (omega (arith, c.1, ap length (get_or_past g s [] (omega (arith, l, needs.0)))))
         ]
 
-    link_by : (s r : ℕ) → s < length d.signals → (o : Option ℕ) → get_or firsts s None ≡ o → Contains (needs_at d o) r → (k : Driver) × Contains d.drivers k × (target k ≡ signal s) × Contains (needs_of k) r
+    link_by : (s r : ℕ) → s < length d.signals → (o : Option ℕ) → get_or firsts s None ≡ o → Contains (needs_at d o) r → (k : Driver)
+        × Contains d.drivers k × (target k ≡ signal s) × Contains (needs_of k) r
     link_by s r l None e c = absurd (omega (arith, c.1))
     link_by s r l (Some j) e c =
         let f = h.found s j e in
         let k = at-contains d.drivers j f.0 f.1 in
         (f.0, k, is-signal d f.0 s (declared-in d declared f.0 k).target f.2 l, subst (λ x. Contains (needs_if x) r) f.1 c)
 
-    pub link-need : (s r : ℕ) → Contains (links_of g s) r → (k : Driver) × Contains d.drivers k × (target k ≡ signal s) × Contains (needs_of k) r
+    pub link-need : (s r : ℕ) → Contains (links_of g s) r → (k : Driver) × Contains d.drivers k × (target k ≡ signal s)
+        × Contains (needs_of k) r
     link-need s r c =
         let l = link-there s r c in
         link_by s r l (get_or firsts s None) refl (subst (λ x. Contains x r) (needs.1 s l) c)

@@ -24,10 +24,12 @@ module _ (d : Design) (r : Rule) where
   holds-of w p s k (at_driver i) = k i
 
   pub driver-fault : DesignPasses d r → PortsPass d r → SignalsPass d r → (o : Option ℕ) → IsFirstFailing (DriverPasses d r) d.drivers o
-      → (res : Result (Unit {0}) SoundFault) → res ≡ fault_at (rule_number r) (length d.ports + length d.signals) o → IfErr res (IsFaultAt d r)
+      → (res : Result (Unit {0}) SoundFault) → res ≡ fault_at (rule_number r) (length d.ports + length d.signals) o
+      → IfErr res (IsFaultAt d r)
   driver-fault w p s None h res e = subst (λ x. IfErr x (IsFaultAt d r)) (sym e) tt
   driver-fault w p s (Some n) h res e =
-      let earlier : (q : Place) → item d q < length d.ports + length d.signals + n + 1 → PassesAt d r q = λ q. elim q as (λ x. item d x < length d.ports + length d.signals + n + 1 → PassesAt d r x) [
+      let earlier : (q : Place) → item d q < length d.ports + length d.signals + n + 1
+      → PassesAt d r q = λ q. elim q as (λ x. item d x < length d.ports + length d.signals + n + 1 → PassesAt d r x) [
         | at_design ↦ λ l. w
         | at_port i ↦ λ l. p i
         | at_signal i ↦ λ l. s i
@@ -39,7 +41,8 @@ module _ (d : Design) (r : Rule) where
       → (res : Result (Unit {0}) SoundFault) → res ≡ fault_at (rule_number r) (length d.ports) o → IfErr res (IsFaultAt d r)
   signal-fault w p None h res e = subst (λ x. IfErr x (IsFaultAt d r)) (sym e) tt
   signal-fault w p (Some n) h res e =
-      let earlier : (q : Place) → item d q < length d.ports + n + 1 → PassesAt d r q = λ q. elim q as (λ x. item d x < length d.ports + n + 1 → PassesAt d r x) [
+      let earlier : (q : Place) → item d q < length d.ports + n + 1
+      → PassesAt d r q = λ q. elim q as (λ x. item d x < length d.ports + n + 1 → PassesAt d r x) [
         | at_design ↦ λ l. w
         | at_port i ↦ λ l. p i
         | at_signal i ↦ λ l. h.0 i (omega (arith, l))
@@ -92,8 +95,10 @@ pub is-signal : (d : Design) (k : Driver) (s : ℕ) → Names d (target k) → s
 is-signal d k s h e l = slot-target d (target k) (signal s) h l e
 
 -- the first driver of each slot, with one driver more
-module _ (d : Design) (n : ℕ) (firsts : List (Option ℕ)) (h : AreFirstDrivers d n firsts) (k : Driver) (at : slice_get d.drivers n ≡ Some k) (there : slot_of d k < length firsts) where
-  last_missing : (t i : ℕ) (m : Driver) → ((j : ℕ) → j < n → (q : Driver) → slice_get d.drivers j ≡ Some q → slot_of d q ≢ t) → slot_of d k ≢ t → i < n + 1 → slice_get d.drivers i ≡ Some m → slot_of d m ≢ t
+module _ (d : Design) (n : ℕ) (firsts : List (Option ℕ)) (h : AreFirstDrivers d n firsts) (k : Driver) (at : slice_get d.drivers n ≡ Some k)
+    (there : slot_of d k < length firsts) where
+  last_missing : (t i : ℕ) (m : Driver) → ((j : ℕ) → j < n → (q : Driver) → slice_get d.drivers j ≡ Some q → slot_of d q ≢ t)
+      → slot_of d k ≢ t → i < n + 1 → slice_get d.drivers i ≡ Some m → slot_of d m ≢ t
   last_missing t i m before never l e =
       elim (cases_eq i n) [
         | inl f ↦
@@ -116,24 +121,28 @@ module _ (d : Design) (n : ℕ) (firsts : List (Option ℕ)) (h : AreFirstDriver
     one_each = length-set firsts (slot_of d k) (Some n) ∙ h.one_each;
     found = λ t j f. elim (cases_eq t (slot_of d k)) [
       | inl q ↦
-          let a : Some n ≡ Some j = sym (get_or-set_same firsts (slot_of d k) (Some n) None there) ∙ ap (λ x. get_or (set firsts (slot_of d k) (Some n)) x None) (sym q) ∙ f in
+          let a : Some n ≡ Some j = sym (get_or-set_same firsts (slot_of d k) (Some n) None there)
+          ∙ ap (λ x. get_or (set firsts (slot_of d k) (Some n)) x None) (sym q) ∙ f in
           let same : n ≡ j = cc in
           (k, ap (slice_get d.drivers) (sym same) ∙ at, sym q)
       | inr q ↦ h.found t j (sym (get_or-set_other firsts (slot_of d k) t (Some n) None q) ∙ f)
     ];
     least = λ t j i m f l g. elim (cases_eq t (slot_of d k)) [
       | inl q ↦
-          let a : Some n ≡ Some j = sym (get_or-set_same firsts (slot_of d k) (Some n) None there) ∙ ap (λ x. get_or (set firsts (slot_of d k) (Some n)) x None) (sym q) ∙ f in
+          let a : Some n ≡ Some j = sym (get_or-set_same firsts (slot_of d k) (Some n) None there)
+          ∙ ap (λ x. get_or (set firsts (slot_of d k) (Some n)) x None) (sym q) ∙ f in
           let same : n ≡ j = cc in
           h.missing t i m (ap (λ x. get_or firsts x None) q ∙ e) (omega (arith, l, same)) g
       | inr q ↦ h.least t j i m (sym (get_or-set_other firsts (slot_of d k) t (Some n) None q) ∙ f) l g
     ];
     missing = λ t i m f l g. elim (cases_eq t (slot_of d k)) [
       | inl q ↦
-          let a : Some n ≡ None = sym (get_or-set_same firsts (slot_of d k) (Some n) None there) ∙ ap (λ x. get_or (set firsts (slot_of d k) (Some n)) x None) (sym q) ∙ f in
+          let a : Some n ≡ None = sym (get_or-set_same firsts (slot_of d k) (Some n) None there)
+          ∙ ap (λ x. get_or (set firsts (slot_of d k) (Some n)) x None) (sym q) ∙ f in
           absurd (cc)
       | inr q ↦
-          last_missing t i m (λ j l' p g'. h.missing t j p (sym (get_or-set_other firsts (slot_of d k) t (Some n) None q) ∙ f) l' g') (λ p. q (sym p)) l g
+          last_missing t i m (λ j l' p g'. h.missing t j p (sym (get_or-set_other firsts (slot_of d k) t (Some n) None q) ∙ f) l' g')
+          (λ p. q (sym p)) l g
     ];
   }
 
@@ -167,7 +176,8 @@ module _ (d : Design) (declared : Holds d Undeclared) (firsts : List (Option ℕ
     first_by only None e = absurd (h.missing (slot_of d k) i k e (slice_get_within d.drivers i k at) at refl)
     first_by only (Some j) e =
         let f = h.found (slot_of d k) j e in
-        let same = slot-target d (target f.0) (target k) (declared-at d declared j f.0 f.1).target (declared-at d declared i k at).target f.2 in
+        let same = slot-target d (target f.0) (target k) (declared-at d declared j f.0 f.1).target
+        (declared-at d declared i k at).target f.2 in
         elim (cases_order j i) [
           | inl q ↦ ap Some q
           | inr q ↦ elim q [
@@ -181,7 +191,8 @@ module _ (d : Design) (declared : Holds d Undeclared) (firsts : List (Option ℕ
 
   module _ (once : Holds d DrivenTwice) where
     -- the driver of a slot is the first of it
-    pub first-at : (k : Driver) → Contains d.drivers k → (j : ℕ) × (slice_get d.drivers j ≡ Some k) × (get_or firsts (slot_of d k) None ≡ Some j)
+    pub first-at : (k : Driver) → Contains d.drivers k → (j : ℕ) × (slice_get d.drivers j ≡ Some k)
+        × (get_or firsts (slot_of d k) None ≡ Some j)
     first-at k c =
         let a = contains-at d.drivers k c in
         (a.0, a.1, first-only a.0 k a.1 (once-at d once a.0 k a.1))
@@ -208,7 +219,8 @@ module _ (P Q : ℕ → Type 0) where
       let b = all-front Q (ports_read on ++ ports_read one) (ports_read other) g in (
         lists-reads P Q on (all-front P (names_read on) (names_read one) a) (all-front Q (ports_read on) (ports_read one) b),
         lists-reads P Q one (all-back P (names_read on) (names_read one) a) (all-back Q (ports_read on) (ports_read one) b),
-        lists-reads P Q other (all-back P (names_read on ++ names_read one) (names_read other) h) (all-back Q (ports_read on ++ ports_read one) (ports_read other) g),
+        lists-reads P Q other (all-back P (names_read on ++ names_read one) (names_read other) h)
+            (all-back Q (ports_read on ++ ports_read one) (ports_read other) g),
       )
   lists-driver (Table to on rows other) h g = lists-reads P Q on h g
   lists-driver (Register to e) h g = lists-reads P Q e h g

@@ -15,22 +15,28 @@ short-chain ns ps op [] h = refl
 short-chain ns ps op (e ∷ []) h = refl
 short-chain ns ps op (e ∷ f ∷ es) h = absurd (omega (arith, h))
 
-module _ (f : Tree → List ℕ) (g : Trees → List ℕ) (at_none : g none ≡ []) (at_more : (t : Tree) (ts : Trees) → g (more t ts) ≡ f t ++ g ts) where
+module _ (f : Tree → List ℕ) (g : Trees → List ℕ) (at_none : g none ≡ [])
+    (at_more : (t : Tree) (ts : Trees) → g (more t ts) ≡ f t ++ g ts) where
   push-all : (xs : List Expr) (x : Expr) → g (plain_all (xs ++ x ∷ [])) ≡ g (plain_all xs) ++ f (plain x)
-  push-all [] x = at_more (plain x) none ∙ ap (λ l. f (plain x) ++ l) at_none ∙ append-nil (f (plain x)) ∙ sym (ap (λ l. l ++ f (plain x)) at_none)
+  push-all [] x = at_more (plain x) none ∙ ap (λ l. f (plain x) ++ l) at_none ∙ append-nil (f (plain x))
+      ∙ sym (ap (λ l. l ++ f (plain x)) at_none)
   push-all (y ∷ xs) x =
       at_more (plain y) (plain_all (xs ++ x ∷ []))
       ∙ ap (λ l. f (plain y) ++ l) (push-all xs x)
       ∙ sym (append_assoc (f (plain y)) (g (plain_all xs)) (f (plain x)))
       ∙ ap (λ l. l ++ f (plain x)) (sym (at_more (plain y) (plain_all xs)))
 
-  pub all-more : (xs : List Expr) (i : ℕ) (x : Expr) → i < length xs → x ≡ get_or xs i x → g (plain_all (take (i + 1) xs)) ≡ g (plain_all (take i xs)) ++ f (plain x)
-  all-more xs i x l e = ap (λ l. g (plain_all l)) (take_more xs i x l) ∙ push-all (take i xs) (get_or xs i x) ∙ ap (λ y. g (plain_all (take i xs)) ++ f (plain y)) (sym e)
+  pub all-more : (xs : List Expr) (i : ℕ) (x : Expr) → i < length xs → x ≡ get_or xs i x → g (plain_all (take (i + 1) xs))
+      ≡ g (plain_all (take i xs)) ++ f (plain x)
+  all-more xs i x l e = ap (λ l. g (plain_all l)) (take_more xs i x l) ∙ push-all (take i xs) (get_or xs i x)
+      ∙ ap (λ y. g (plain_all (take i xs)) ++ f (plain y)) (sym e)
 
-pub names-more : (xs : List Expr) (i : ℕ) (x : Expr) → i < length xs → x ≡ get_or xs i x → operand_names (plain_all (take (i + 1) xs)) ≡ operand_names (plain_all (take i xs)) ++ names_read (plain x)
+pub names-more : (xs : List Expr) (i : ℕ) (x : Expr) → i < length xs → x ≡ get_or xs i x → operand_names (plain_all (take (i + 1) xs))
+    ≡ operand_names (plain_all (take i xs)) ++ names_read (plain x)
 names-more = all-more names_read operand_names refl (λ t ts. refl)
 
-pub ports-more : (xs : List Expr) (i : ℕ) (x : Expr) → i < length xs → x ≡ get_or xs i x → operand_ports (plain_all (take (i + 1) xs)) ≡ operand_ports (plain_all (take i xs)) ++ ports_read (plain x)
+pub ports-more : (xs : List Expr) (i : ℕ) (x : Expr) → i < length xs → x ≡ get_or xs i x → operand_ports (plain_all (take (i + 1) xs))
+    ≡ operand_ports (plain_all (take i xs)) ++ ports_read (plain x)
 ports-more = all-more ports_read operand_ports refl (λ t ts. refl)
 
 -- what all reads are, on the lists

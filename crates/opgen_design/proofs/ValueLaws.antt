@@ -6,7 +6,8 @@ use Rattle.opgen_design.specs.Tree.{Tree, Trees, name, part, bits, port, inverse
 use Rattle.opgen_design.specs.Value.{Scope, value, chain_value, value_on, cut, combined}
 use Rattle.opgen_design.specs.Reads.{AllReads, AllOperandsRead}
 
-module _ (P Q : ℕ → Type 0) (s r : Scope) (names : (n : ℕ) → P n → s.names n ≡ r.names n) (ports : (n : ℕ) → Q n → s.ports n ≡ r.ports n) where
+module _ (P Q : ℕ → Type 0) (s r : Scope) (names : (n : ℕ) → P n → s.names n ≡ r.names n)
+    (ports : (n : ℕ) → Q n → s.ports n ≡ r.ports n) where
   mutual
     pub same_value : (t : Tree) → AllReads P Q t → value s t ≡ value r t
     same_value (name n) h = names n h

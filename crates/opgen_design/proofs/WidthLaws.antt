@@ -43,7 +43,8 @@ as_width-some x w h =
     (a.1, (omega (arith, leb-true 1 x b.0, a.1), omega (arith, leb-true x MAX_WIDTH b.1, a.1)))
 
 pub as_width-of : (w : ℕ) → IsWidth w → as_width w ≡ Some w
-as_width-of w h = cond-true (nat_le 1 w && nat_le w MAX_WIDTH) (Some w) None (and_from (nat_le 1 w) (nat_le w MAX_WIDTH) (le-leb 1 w h.0) (le-leb w MAX_WIDTH h.1))
+as_width-of w h = cond-true (nat_le 1 w && nat_le w MAX_WIDTH) (Some w) None
+    (and_from (nat_le 1 w) (nat_le w MAX_WIDTH) (le-leb 1 w h.0) (le-leb w MAX_WIDTH h.1))
 
 equal_widths : (a b w : ℕ) → (if nat_eq a b then Some a else None) ≡ Some w → (a ≡ b) × (a ≡ w)
 equal_widths a b w h = let s = some_if (nat_eq a b) a w h in (eqb-true a b s.0, s.1)
@@ -57,7 +58,8 @@ joined-is_width Cat a b w h e = (as_width-some (a + b) w e).1
 joined-is_width Plus a b w h e = subst IsWidth (equal_widths a b w e).1 h
 joined-is_width Minus a b w h e = subst IsWidth (equal_widths a b w e).1 h
 
-combined-width : (op : Op) (a b w : ℕ) (x y : List Bool) → length x ≡ a → length y ≡ b → joined op a b ≡ Some w → length (combined op x y) ≡ w
+combined-width : (op : Op) (a b w : ℕ) (x y : List Bool) → length x ≡ a → length y ≡ b → joined op a b ≡ Some w → length (combined op x y)
+    ≡ w
 combined-width And a b w x y h k e = let s = equal_widths a b w e in length-pairwise ◌&&◌ x y (omega (arith, h, k, s.0)) ∙ h ∙ s.1
 combined-width Or a b w x y h k e = let s = equal_widths a b w e in length-pairwise ◌||◌ x y (omega (arith, h, k, s.0)) ∙ h ∙ s.1
 combined-width Xor a b w x y h k e = let s = equal_widths a b w e in length-pairwise xor x y (omega (arith, h, k, s.0)) ∙ h ∙ s.1
@@ -81,7 +83,8 @@ some_if_width : (b : Bool) (x w : ℕ) → (if b then as_width x else None) ≡ 
 some_if_width true x w h = (refl, h)
 some_if_width false x w h = absurd (cc)
 
-pub part_fits : (high low w v : ℕ) → (if nat_le low high && nat_lt high w then as_width (high + 1 - low) else None) ≡ Some v → PartFits high low w v
+pub part_fits : (high low w v : ℕ) → (if nat_le low high && nat_lt high w then as_width (high + 1 - low) else None) ≡ Some v
+    → PartFits high low w v
 part_fits high low w v h =
     let a = some_if_width (nat_le low high && nat_lt high w) (high + 1 - low) v h in
     let b = and_parts (nat_le low high) (nat_lt high w) a.0 in
@@ -127,14 +130,16 @@ module _ (ns ps : List ℕ) where
     width-reads (inverse t) w h = width-reads t w h
     width-reads (chain op ts) w h = chain-reads op ts w h
 
-    chain-reads : (op : Op) (ts : Trees) (w : ℕ) → chain_width ns ps op ts ≡ Some w → AllOperandsRead (λ r. r < length ns) (λ p. p < length ps) ts
+    chain-reads : (op : Op) (ts : Trees) (w : ℕ) → chain_width ns ps op ts ≡ Some w
+        → AllOperandsRead (λ r. r < length ns) (λ p. p < length ps) ts
     chain-reads op none w h = absurd (cc)
     chain-reads op (more t none) w h = absurd (cc)
     chain-reads op (more t (more u ts)) w h =
         let a = some_before (width ns ps t) (λ x. width_on ns ps op x (more u ts)) w h in
         (width-reads t a.0 a.1, on-reads op a.0 (more u ts) w a.2)
 
-    on-reads : (op : Op) (v : ℕ) (ts : Trees) (w : ℕ) → width_on ns ps op v ts ≡ Some w → AllOperandsRead (λ r. r < length ns) (λ p. p < length ps) ts
+    on-reads : (op : Op) (v : ℕ) (ts : Trees) (w : ℕ) → width_on ns ps op v ts ≡ Some w
+        → AllOperandsRead (λ r. r < length ns) (λ p. p < length ps) ts
     on-reads op v none w h = tt
     on-reads op v (more t ts) w h =
         let a = some_before (width ns ps t) (λ x. option_and_then (λ u. width_on ns ps op u ts) (joined op v x)) w h in
@@ -142,7 +147,8 @@ module _ (ns ps : List ℕ) where
         (width-reads t a.0 a.1, on-reads op b.0 ts w b.2)
 
 -- over lists that have the same widths at the same places
-module _ (ns ps ms qs : List ℕ) (names : (n w : ℕ) → slice_get ns n ≡ Some w → slice_get ms n ≡ Some w) (ports : (n w : ℕ) → slice_get ps n ≡ Some w → slice_get qs n ≡ Some w) where
+module _ (ns ps ms qs : List ℕ) (names : (n w : ℕ) → slice_get ns n ≡ Some w → slice_get ms n ≡ Some w)
+    (ports : (n w : ℕ) → slice_get ps n ≡ Some w → slice_get qs n ≡ Some w) where
   mutual
     pub width-kept : (t : Tree) (w : ℕ) → width ns ps t ≡ Some w → width ms qs t ≡ Some w
     width-kept (name n) w h =
@@ -176,7 +182,8 @@ module _ (ns ps ms qs : List ℕ) (names : (n w : ℕ) → slice_get ns n ≡ So
         ∙ on-kept op b.0 ts w b.2
 
 -- the value of an expression has its width
-module _ (ns ps : List ℕ) (s : Scope) (names : (n w : ℕ) → slice_get ns n ≡ Some w → length (s.names n) ≡ w) (ports : (n w : ℕ) → slice_get ps n ≡ Some w → length (s.ports n) ≡ w) where
+module _ (ns ps : List ℕ) (s : Scope) (names : (n w : ℕ) → slice_get ns n ≡ Some w → length (s.names n) ≡ w)
+    (ports : (n w : ℕ) → slice_get ps n ≡ Some w → length (s.ports n) ≡ w) where
   mutual
     pub value-width : (t : Tree) (w : ℕ) → width ns ps t ≡ Some w → length (value s t) ≡ w
     value-width (name n) w h =
@@ -200,7 +207,8 @@ module _ (ns ps : List ℕ) (s : Scope) (names : (n w : ℕ) → slice_get ns n 
         let a = some_before (width ns ps t) (λ x. width_on ns ps op x (more u ts)) w h in
         on-width op (value s t) a.0 (more u ts) w (value-width t a.0 a.1) a.2
 
-    on-width : (op : Op) (x : List Bool) (v : ℕ) (ts : Trees) (w : ℕ) → length x ≡ v → width_on ns ps op v ts ≡ Some w → length (value_on s op x ts) ≡ w
+    on-width : (op : Op) (x : List Bool) (v : ℕ) (ts : Trees) (w : ℕ) → length x ≡ v → width_on ns ps op v ts ≡ Some w
+        → length (value_on s op x ts) ≡ w
     on-width op x v none w e h = let same : v ≡ w = cc in e ∙ same
     on-width op x v (more t ts) w e h =
         let a = some_before (width ns ps t) (λ y. option_and_then (λ u. width_on ns ps op u ts) (joined op v y)) w h in

@@ -6,39 +6,12 @@ use Rattle.std.proofs.lemmas.Bool.{cases_lt, le-leb, lt-leb}
 use Rattle.std.proofs.lemmas.List.{length-drop, length-map}
 use Rattle.opgen_num.specs.Words.{digit, nat}
 use Rattle.opgen_num.specs.Sums.{xor, majority, sum_with}
+use Rattle.opgen_num.proofs.Carries.{sum-carry, nat-not}
 use Rattle.opgen_num.proofs.Cuts.{nat-parts, take-below, nat-take}
 use Rattle.opgen_num.proofs.Words.{nat-below}
 use Rattle.opgen_design.specs.Value.{cut, chosen}
 use Rattle.opgen_design.proofs.WidthLaws.{length-sum_with}
 use Rattle.opgen_digits.specs.Digit.{left_of}
-
--- with a last carry: the sum of two words and a carry
-pub sum-carry : (k : Bool) (a b : List Bool) → length a ≡ length b
-    → (c : ℕ) × (nat (sum_with k a b) + 2 ^ length a * c ≡ nat a + nat b + digit k)
-sum-carry k [] [] h = (digit k, omega arith)
-sum-carry k [] (y ∷ b) h = absurd (omega (arith, h))
-sum-carry k (x ∷ a) [] h = absurd (omega (arith, h))
-sum-carry k (x ∷ a) (y ∷ b) h =
-    let rest = sum-carry (majority x y k) a b (omega (arith, h)) in
-    let double : 2 ^ length (x ∷ a) * rest.0 ≡ 2 ^ length a * rest.0 + 2 ^ length a * rest.0 =
-    ap (λ n. n * rest.0) (two-pow-succ (length a)) ∙ omega arith in
-    (rest.0, omega (arith, rest.1, double, digits x y k))
-  where
-    digits : (x y k : Bool) → digit (xor (xor x y) k) + 2 * digit (majority x y k) ≡ digit x + digit y + digit k
-    digits true true true = refl
-    digits true true false = refl
-    digits true false true = refl
-    digits true false false = refl
-    digits false true true = refl
-    digits false true false = refl
-    digits false false true = refl
-    digits false false false = refl
-
--- a word and its turned bits are together all ones
-pub nat-not : (w : List Bool) → nat (map not w) + nat w + 1 ≡ 2 ^ length w
-nat-not [] = omega arith
-nat-not (true ∷ w) = omega (arith, nat-not w, two-pow-succ (length w))
-nat-not (false ∷ w) = omega (arith, nat-not w, two-pow-succ (length w))
 
 -- a word by its highest bit and those below it
 pub highest : (n : ℕ) (w : List Bool) → length w ≡ n + 1 → (b : Bool) × (cut n n w ≡ b ∷ []) × (nat w ≡ nat (take n w) + digit b * 2 ^ n)

@@ -18,10 +18,10 @@ use Rattle.opgen_net.specs.WordRule.{IsThere}
 use Rattle.opgen_net.proofs.Appending.{flow-append_last, width-append_last}
 use Rattle.opgen_net.proofs.FlowWidths.{flow-width}
 use Rattle.opgen_net.proofs.Grown.{grown-flow, grown-width, grown-all_there}
-use Rattle.opgen_digits.specs.Bits.{number_at}
-use Rattle.opgen_digits.specs.Digit.{Known, difference_of, is_not_negative, lowest, with_difference, with_digit, digit_place, with_choice, with_next, tried, AreOperands, HasDigit}
+use Rattle.opgen_net.specs.Placed.{number_at, difference_of}
+use Rattle.opgen_digits.specs.Digit.{Known, is_not_negative, lowest, with_difference, with_digit, digit_place, with_choice, with_next, tried, AreOperands, HasDigit}
 use Rattle.opgen_net.proofs.BitLists.{length-bits_from, bits_from-there}
-use Rattle.opgen_digits.proofs.Bits.{at-push, at-node, number-kept}
+use Rattle.opgen_net.proofs.Numbers.{at-push, at-node, number-kept}
 use Rattle.opgen_digits.proofs.Differences.{sign, restored}
 use Rattle.opgen_net.proofs.Later.{Later, later-then, later-node, node_there}
 use Rattle.opgen_digits.proofs.Expressions.{difference-fits, not_negative-fits}

@@ -9,7 +9,8 @@ use Rattle.opgen_design.specs.Width.{IsWidth, as_width, joined, width, width_on}
 use Rattle.opgen_design.proofs.WidthLaws.{as_width-of}
 use Rattle.opgen_net.specs.Valid.{FitsNodes}
 use Rattle.opgen_net.proofs.FlowLaws.{index_within}
-use Rattle.opgen_digits.specs.Digit.{difference_of, is_not_negative}
+use Rattle.opgen_net.specs.Placed.{difference_of}
+use Rattle.opgen_digits.specs.Digit.{is_not_negative}
 
 module _ (ws : List ℕ) where
   name-width : (n v : ℕ) → IsWidth v → slice_index ws n ≡ v → width ws [] (name n) ≡ Some v

@@ -1,5 +1,4 @@
 pub mod Differences
-pub mod Bits
 pub mod Expressions
 pub mod Digit
 pub mod Outputs

@@ -14,7 +14,7 @@ use Rattle.opgen_net.proofs.Appending.{valid-output}
 use Rattle.opgen_net.proofs.FlowWidths.{flow-width}
 use Rattle.opgen_net.proofs.Grown.{grown-flow, grown-count, grown-all_there}
 use Rattle.opgen_net.proofs.WordLaws.{word-has_bits, word-found_width}
-use Rattle.opgen_digits.specs.Bits.{number_at, with_bits, whole, with_output}
+use Rattle.opgen_net.specs.Placed.{number_at, with_bits, whole, with_output}
 use Rattle.opgen_net.proofs.Later.{Later, bits-later}
 
 pub whole-width : (width place : ℕ) → 1 ≤ width → slice_width (whole width place) ≡ width

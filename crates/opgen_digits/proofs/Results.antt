@@ -11,10 +11,10 @@ use Rattle.opgen_net.specs.Flow.{Inputs, slice_flow, KeepsFlow}
 use Rattle.opgen_net.specs.Valid.{widths, input_widths, slice_width, IsValid}
 use Rattle.opgen_net.specs.WordRule.{IsThere}
 use Rattle.opgen_net.proofs.Grown.{flow-then}
-use Rattle.opgen_digits.specs.Bits.{number_at, with_bits, whole, with_output}
+use Rattle.opgen_net.specs.Placed.{number_at, with_bits, whole, with_output}
 use Rattle.opgen_digits.specs.Digit.{Known}
 use Rattle.opgen_digits.specs.Results.{AreResults, with_results}
-use Rattle.opgen_digits.proofs.Bits.{number-kept}
+use Rattle.opgen_net.proofs.Numbers.{number-kept}
 use Rattle.opgen_net.proofs.Later.{node_there}
 use Rattle.opgen_digits.proofs.Outputs.{whole-width, made-width, output-valid, output-keeps, output-count, output-there, output-number}
 

@@ -3,21 +3,18 @@
 use Rattle.std.specs.Prelude.{ℕ, ◌≡◌, ◌+◌, ◌-◌, ◌*◌, ◌%◌, ◌^◌, ◌<◌, ◌≤◌, ℤ, Bool, true, false, List, [], ◌∷◌, ◌++◌, length, All, nat_le, slice_index, if◌then◌else◌}
 use Rattle.opgen_num.specs.declared.TheConstants.{MAX_WIDTH}
 use Rattle.opgen_num.specs.Words.{digit, nat}
-use Rattle.opgen_design.specs.declared.expr.Op.TheVariants.{Minus}
 use Rattle.opgen_design.specs.declared.expr.Slice.{Slice}
-use Rattle.opgen_design.specs.Plain.{trees_of}
 use Rattle.opgen_design.specs.Run.{AreWords}
-use Rattle.opgen_design.specs.Tree.{Tree, name, part, inverse, chain}
+use Rattle.opgen_design.specs.Tree.{Tree, part, inverse}
 use Rattle.opgen_net.specs.declared.cell.Class.TheVariants as class
 use Rattle.opgen_net.specs.declared.net.Net.{Net}
-use Rattle.opgen_net.specs.declared.node.Node.{Node}
 use Rattle.opgen_net.specs.declared.node.Node.TheVariants as node
 use Rattle.opgen_net.specs.declared.word_bits.WordBit.{WordBit}
 use Rattle.opgen_net.specs.declared.word_bits.WordBit.TheVariants.{Of}
 use Rattle.opgen_net.specs.Flow.{Inputs, flow}
 use Rattle.opgen_net.specs.WordRule.{IsThere, bits_from}
 use Rattle.opgen_net.specs.Valid.{IsValid, input_widths, widths}
-use Rattle.opgen_digits.specs.Bits.{number_at}
+use Rattle.opgen_net.specs.Placed.{number_at, with_last, difference_of}
 
 -- a net, the digits that are known, and the bits of what is left, from the highest; there are none where they are not made
 pub record Known : Type 0 where
@@ -25,13 +22,7 @@ pub record Known : Type 0 where
   pub digits : List WordBit
   pub rest : List WordBit
 
-abbrev pub with_node : Net → Node → Net
-with_node net n = record net { nodes = net.nodes ++ n ∷ [] }
-
 -- Numbers of two bits more than the rest are compared, by their difference.
-
-abbrev pub difference_of : (a b : ℕ) → Tree
-difference_of a b = chain Minus (trees_of (name a ∷ name b ∷ []))
 
 -- 1 where the highest bit of the difference is 0, so where the difference is not negative
 abbrev pub is_not_negative : (rest difference : ℕ) → Tree
@@ -42,17 +33,17 @@ lowest rest n = record { node = n; high = rest - 1; low = 0 }
 
 -- the nodes of a digit
 abbrev pub with_difference : (rest : ℕ) → Net → (a b : ℕ) → Net
-with_difference rest net a b = with_node net (node.Cells class.Add (rest + 2) (difference_of a b))
+with_difference rest net a b = with_last net (node.Cells class.Add (rest + 2) (difference_of a b))
 
 abbrev pub with_digit : (rest : ℕ) → Net → (a b : ℕ) → Net
-with_digit rest net a b = with_node (with_difference rest net a b) (node.Cells class.Logic 1 (is_not_negative rest (length net.nodes)))
+with_digit rest net a b = with_last (with_difference rest net a b) (node.Cells class.Logic 1 (is_not_negative rest (length net.nodes)))
 
 abbrev pub digit_place : (rest : ℕ) → Net → (a b : ℕ) → ℕ
 digit_place rest net a b = length (with_difference rest net a b).nodes
 
 abbrev pub with_choice : (rest : ℕ) → Net → (a b : ℕ) → Net
 with_choice rest net a b =
-    with_node (with_digit rest net a b) (node.Choice (digit_place rest net a b) (lowest rest (length net.nodes)) (lowest rest a))
+    with_last (with_digit rest net a b) (node.Choice (digit_place rest net a b) (lowest rest (length net.nodes)) (lowest rest a))
 
 abbrev pub with_next : (rest : ℕ) → Net → (a b : ℕ) → List WordBit → List WordBit
 with_next rest net a b digits = digits ++ Of (digit_place rest net a b) 0 ∷ []

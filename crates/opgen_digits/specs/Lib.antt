@@ -1,3 +1,2 @@
-pub mod Bits
 pub mod Digit
 pub mod Results

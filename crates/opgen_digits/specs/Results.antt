@@ -4,7 +4,7 @@ use Rattle.opgen_design.specs.Width.{IsWidth}
 use Rattle.opgen_net.specs.declared.net.Net.{Net}
 use Rattle.opgen_net.specs.Valid.{widths}
 use Rattle.opgen_net.specs.WordRule.{IsThere}
-use Rattle.opgen_digits.specs.Bits.{with_output}
+use Rattle.opgen_net.specs.Placed.{with_output}
 use Rattle.opgen_digits.specs.Digit.{Known}
 
 -- Bits that stand in the net and can be outputs: the digits, and where they are exact what is left.

@@ -9,10 +9,10 @@ ghost use Rattle.opgen_design.specs.Plain.{plain};
 ghost use Rattle.opgen_net.specs.declared.word_bits.WordBit.TheVariants.{Of};
 ghost use Rattle.opgen_net.specs.Valid.{IsValid, widths};
 ghost use Rattle.opgen_net.specs.WordRule.{IsThere};
-ghost use Rattle.opgen_digits.specs.Bits.{with_output};
+ghost use Rattle.opgen_net.specs.Placed.{with_output, difference_of};
 ghost use Rattle.opgen_design.specs.Width.{IsWidth};
 ghost use Rattle.opgen_digits.specs.Results.{AreResults, with_results};
-ghost use Rattle.opgen_digits.specs.Digit.{AreOperands, difference_of, is_not_negative, lowest as lowest_of, tried};
+ghost use Rattle.opgen_digits.specs.Digit.{AreOperands, is_not_negative, lowest as lowest_of, tried};
 
 mod laws;
 

@@ -23,10 +23,10 @@ use Rattle.opgen_net.proofs.FlowWidths.{flow-width}
 use Rattle.opgen_net.proofs.Grown.{grown-same, grown-flow, grown-width, grown-all_there, grown-then}
 use Rattle.opgen_operator.specs.declared.spec.Pair.{Pair}
 use Rattle.opgen_operator.specs.Outputs.{places_up, pair_shift}
-use Rattle.opgen_digits.specs.Bits.{number_at, with_bits}
+use Rattle.opgen_net.specs.Placed.{number_at, with_bits}
 use Rattle.opgen_digits.specs.Digit.{Known, with_difference, tried, left_of, AreOperands, HasDigit}
 use Rattle.opgen_net.proofs.BitLists.{length-bits_from, bits_from-there, zeros-there, bit-kept}
-use Rattle.opgen_digits.proofs.Bits.{at-below, at-push, at-zero, at-zeros, at-node, number-kept}
+use Rattle.opgen_net.proofs.Numbers.{at-below, at-push, at-zero, at-zeros, at-node, number-kept}
 use Rattle.opgen_digits.proofs.Digit.{Tried, all-tried, has_digit}
 use Rattle.opgen_net.proofs.Later.{Later, later-same, later-then, node_there, words-later}
 use Rattle.opgen_digits.proofs.Outputs.{made-later, made-width, made-number}
@@ -131,7 +131,8 @@ module _ (p : Pair) (have : HasWidths p) where
   numerator-there =
       let s = places_up (pair_shift p) in
       let ws = widths base.nodes in
-      All-append (IsThere ws) (bits_from 0 0 p.a.width) (replicate s Zero) (bits_from-there ws 0 0 p.a.width (omega arith)) (zeros-there ws s)
+      All-append (IsThere ws) (bits_from 0 0 p.a.width) (replicate s Zero) (bits_from-there ws 0 0 p.a.width (omega arith))
+      (zeros-there ws s)
 
   -- what is left after a step that is not the last is kept
   pub keeps-before : (k : ℕ) → k < digit_count p → keeps p k ≡ true

@@ -4,16 +4,16 @@ use opgen_spec::PortFormat;
 use std::alloc::{AllocError, Global};
 use std::test::Fail;
 
-/// Puts a row of words of at most eight bits.
+/// Puts a row of words of at most twelve bits.
 fn put_row(text: &mut String, ports: &[PortFormat], words: &[u128]) -> Result<(), AllocError> {
     for (place, (port, word)) in ports.iter().zip(words).enumerate() {
         if place != 0 {
             text.push(' ')?;
         }
-        if port.format.width <= 4 {
-            write!(text, "{word:x}")?;
-        } else {
-            write!(text, "{word:02x}")?;
+        match port.format.width {
+            0..=4 => write!(text, "{word:x}")?,
+            5..=8 => write!(text, "{word:02x}")?,
+            _ => write!(text, "{word:03x}")?,
         }
     }
     text.push('\n')

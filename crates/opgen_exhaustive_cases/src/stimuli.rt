@@ -47,7 +47,7 @@ pub(crate) fn all_cycles(alloc: Global, ports: &[PortFormat]) -> Result<Cycles, 
     Ok(cycles)
 }
 
-/// Puts so many cycles of drawn words of at most eight bits.
+/// Puts so many cycles of drawn words of at most twelve bits.
 pub(crate) fn put_drawn(
     alloc: Global,
     cycles: &mut Cycles,

@@ -39,7 +39,7 @@ use Rattle.opgen_operator.specs.Ranges.{IsSum}
 use Rattle.opgen_operator.specs.Reached.{IsOf}
 use Rattle.opgen_kcm.specs.Recipe.{Terms, HasTermsMore}
 use Rattle.opgen_kcm.specs.Multiple.{sum_at}
-use Rattle.opgen_kcm.proofs.Residues.{residue-then}
+use Rattle.opgen_heap.proofs.Residues.{residue-then}
 use Rattle.opgen_fir.specs.Recipe.{tapped, no_terms, with_half, sum_width, above_guard, with_output}
 use Rattle.opgen_fir.specs.Summed.{back, recent, HasSum}
 use Rattle.opgen_fir.proofs.Delays.{back-is}

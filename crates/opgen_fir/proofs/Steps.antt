@@ -16,7 +16,7 @@ use Rattle.opgen_operator.specs.Ranges.{IsSum}
 use Rattle.opgen_kcm.specs.Chunks.{chunk_count, number}
 use Rattle.opgen_kcm.specs.Multiple.{IsMultiple}
 use Rattle.opgen_kcm.specs.Recipe.{input_width}
-use Rattle.opgen_kcm.proofs.Residues.{residue-then}
+use Rattle.opgen_heap.proofs.Residues.{residue-then}
 use Rattle.opgen_fir.specs.Recipe.{is_zero, taps, tapped, factor, with_half}
 use Rattle.opgen_fir.specs.Summed.{recent, IsSummed, HasTerm, HasSum}
 use Rattle.opgen_fir.proofs.Delays.{length-line, line-width, line-flow, tap_within}

@@ -4,14 +4,13 @@ use Rattle.std.specs.Prelude.{ℤ, pos, ◌+ℤ◌, ◌*ℤ◌, unsigned_abs}
 use Rattle.std.proofs.lemmas.Int.{ints}
 use Rattle.std.proofs.lemmas.List.Sums.{count_by_more_no, count_by_more_yes}
 use Rattle.opgen_num.specs.Rounding.{distance}
-use Rattle.opgen_num.proofs.Integers.{product-sum, product_assoc}
+use Rattle.opgen_num.proofs.Integers.{product-sum, product_assoc, commuted, sum-product}
 use Rattle.opgen_operator.specs.declared.spec.Sum.{Sum}
 use Rattle.opgen_operator.specs.Exact.{Recent}
 use Rattle.opgen_operator.specs.Outputs.{sum_shift, up, terms, guard_bits}
 use Rattle.opgen_operator.specs.Ranges.{IsSum}
 use Rattle.opgen_kcm.specs.Chunks.{chunk_count}
 use Rattle.opgen_kcm.specs.Multiple.{IsMultiple}
-use Rattle.opgen_kcm.proofs.Products.{commuted, sum-product}
 use Rattle.opgen_fir.specs.Recipe.{is_zero, factor}
 use Rattle.opgen_fir.specs.Summed.{weighted_first, units, IsNear, tables_first, scaled_first, IsSummed}
 use Rattle.opgen_fir.proofs.Factors.{den-units, all-whole}

@@ -29,7 +29,9 @@ module _ (P : WordBit → Type 0) where
       λ c. AllBits (if c then record heap { columns = with_bit_at heap.columns weight b } else heap).columns
       ) [ true ↦ bit_at-all heap.columns weight b p h | false ↦ h ]
 
-  pub with_row-all : (heap : Contents) (node count weight : ℕ) → ((i : ℕ) → i < count → P (Of node i)) → AllBits heap.columns → AllBits (with_row heap node count weight).columns
+  pub with_row-all : (heap : Contents) (node count weight : ℕ) → ((i : ℕ) → i < count → P (Of node i)) → AllBits heap.columns
+      → AllBits (with_row heap node count weight).columns
   with_row-all heap node zero weight p h = h
   with_row-all heap node (suc k) weight p h =
-      with_bit-all (with_row heap node k weight) (Of node k) (weight + k) (p k (omega arith)) (with_row-all heap node k weight (λ i l. p i (omega (arith, l))) h)
+      with_bit-all (with_row heap node k weight) (Of node k) (weight + k) (p k (omega arith))
+      (with_row-all heap node k weight (λ i l. p i (omega (arith, l))) h)

@@ -1,4 +1,4 @@
-mod Residues
+pub mod Residues
 pub mod Bits
 pub mod Sums
 mod Columns

@@ -48,9 +48,11 @@ with_bit-sum words heap b weight = by (nat_lt weight heap.width) (ltb-false weig
     s = columns_sum words heap.columns + heap.constant
 
     by : (c : Bool) → (c ≡ false → heap.width ≤ weight)
-        → heap_sum words (if c then record heap { columns = with_bit_at heap.columns weight b } else heap) ≡ (heap_sum words heap + d * 2 ^ weight) % 2 ^ heap.width
+        → heap_sum words (if c then record heap { columns = with_bit_at heap.columns weight b } else heap)
+        ≡ (heap_sum words heap + d * 2 ^ weight) % 2 ^ heap.width
     by true h =
-        let e : columns_sum words (with_bit_at heap.columns weight b) + heap.constant ≡ s + d * 2 ^ weight = omega (arith, columns_sum-with_bit_at words heap.columns weight b) in
+        let e : columns_sum words (with_bit_at heap.columns weight b) + heap.constant
+        ≡ s + d * 2 ^ weight = omega (arith, columns_sum-with_bit_at words heap.columns weight b) in
         ap (λ n. n % 2 ^ heap.width) e ∙ sym (mod-add-mod s (2 ^ heap.width) (d * 2 ^ weight))
     by false h = unraised s d heap.width weight (h refl)
 
@@ -58,18 +60,23 @@ with_bit-sum words heap b weight = by (nat_lt weight heap.width) (ltb-false weig
 pub with_bit-past : (heap : Contents) (b : WordBit) (weight : ℕ) → heap.width ≤ weight → with_bit heap b weight ≡ heap
 with_bit-past heap b weight h = by (nat_lt weight heap.width) (ltb-true weight heap.width)
   where
-    by : (c : Bool) → (c ≡ true → weight < heap.width) → (if c then record heap { columns = with_bit_at heap.columns weight b } else heap) ≡ heap
+    by : (c : Bool) → (c ≡ true → weight < heap.width) → (if c then record heap { columns = with_bit_at heap.columns weight b } else heap)
+        ≡ heap
     by true g = absurd (omega (arith, g refl, h))
     by false g = refl
 
 pub with_bit-width : (heap : Contents) (b : WordBit) (weight : ℕ) → (with_bit heap b weight).width ≡ heap.width
-with_bit-width heap b weight = elim (nat_lt weight heap.width) as (λ c. (if c then record heap { columns = with_bit_at heap.columns weight b } else heap).width ≡ heap.width) [ true ↦ refl | false ↦ refl ]
+with_bit-width heap b weight = elim (nat_lt weight heap.width) as
+    (λ c. (if c then record heap { columns = with_bit_at heap.columns weight b } else heap).width ≡ heap.width)
+    [ true ↦ refl | false ↦ refl ]
 
 pub with_row-width : (heap : Contents) (node count weight : ℕ) → (with_row heap node count weight).width ≡ heap.width
 with_row-width heap node zero weight = refl
-with_row-width heap node (suc k) weight = with_bit-width (with_row heap node k weight) (Of node k) (weight + k) ∙ with_row-width heap node k weight
+with_row-width heap node (suc k) weight = with_bit-width (with_row heap node k weight) (Of node k) (weight + k)
+    ∙ with_row-width heap node k weight
 
-with_row-past : (heap : Contents) (node n j weight : ℕ) → heap.width ≤ weight + n → with_row heap node (n + j) weight ≡ with_row heap node n weight
+with_row-past : (heap : Contents) (node n j weight : ℕ) → heap.width ≤ weight + n → with_row heap node (n + j) weight
+    ≡ with_row heap node n weight
 with_row-past heap node n zero weight h = ap (λ k. with_row heap node k weight) (omega arith)
 with_row-past heap node n (suc j) weight h =
     let before = with_row heap node (n + j) weight in
@@ -79,7 +86,8 @@ with_row-past heap node n (suc j) weight h =
     ∙ with_row-past heap node n j weight h
 
 -- of a row only the bits below the heap's width count
-pub with_row-kept : (heap : Contents) (node count weight : ℕ) → with_row heap node (min count (heap.width - weight)) weight ≡ with_row heap node count weight
+pub with_row-kept : (heap : Contents) (node count weight : ℕ) → with_row heap node (min count (heap.width - weight)) weight
+    ≡ with_row heap node count weight
 with_row-kept heap node count weight = elim (cases_order count (heap.width - weight)) [
   | inl e ↦ ap (λ k. with_row heap node k weight) (omega (arith, e))
   | inr o ↦ elim o [
@@ -113,8 +121,10 @@ with_row-sum words heap node (suc k) weight =
     let low = nat (take k (words node)) in
     let m = 2 ^ heap.width in
     let p : d * 2 ^ (weight + k) ≡ d * 2 ^ k * 2 ^ weight = ap (λ n. d * n) (pow-add 2 weight k) ∙ omega arith in
-    let value : nat (take (suc k) (words node)) * 2 ^ weight ≡ low * 2 ^ weight + d * 2 ^ (weight + k) = ap (λ n. n * 2 ^ weight) (nat-take (words node) k) ∙ omega (arith, p) in
-    let total : (heap_sum words heap + low * 2 ^ weight) + d * 2 ^ (weight + k) ≡ heap_sum words heap + nat (take (suc k) (words node)) * 2 ^ weight = omega (arith, value) in
+    let value : nat (take (suc k) (words node)) * 2 ^ weight
+    ≡ low * 2 ^ weight + d * 2 ^ (weight + k) = ap (λ n. n * 2 ^ weight) (nat-take (words node) k) ∙ omega (arith, p) in
+    let total : (heap_sum words heap + low * 2 ^ weight) + d * 2 ^ (weight + k)
+    ≡ heap_sum words heap + nat (take (suc k) (words node)) * 2 ^ weight = omega (arith, value) in
     with_bit-sum words before (Of node k) (weight + k)
     ∙ ap (λ w. (heap_sum words before + d * 2 ^ (weight + k)) % 2 ^ w) (with_row-width heap node k weight)
     ∙ ap (λ s. (s + d * 2 ^ (weight + k)) % m) (with_row-sum words heap node k weight)

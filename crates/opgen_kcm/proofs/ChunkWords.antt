@@ -9,7 +9,7 @@ use Rattle.std.proofs.lemmas.List.{length-drop, length-take-le, take_all, get_or
 use Rattle.opgen_num.specs.Words.{nat}
 use Rattle.opgen_num.specs.Values.{highest}
 use Rattle.opgen_num.proofs.Cuts.{nat-append, nat-parts}
-use Rattle.opgen_kcm.proofs.Products.{product-difference}
+use Rattle.opgen_num.proofs.Integers.{product-difference}
 use Rattle.opgen_kcm.specs.Chunks.{chunk_count, chunk_at, number, chunk_word, digit_of}
 
 naturals-product : (a b m : ℕ) → (pos a -ℤ pos b) *ℤ pos m ≡ pos (a * m) -ℤ pos (b * m)

@@ -36,7 +36,7 @@ use Rattle.opgen_kcm.specs.Entries.{entry, all_entries, least_of, offsets, great
 use Rattle.opgen_kcm.specs.Recipe.{Terms, with_rows_in, with_table, with_entries, input_width, HasTermsMore}
 use Rattle.opgen_kcm.specs.Multiple.{sum_at}
 use Rattle.opgen_kcm.proofs.Entries.{length-entries, length-offsets, addressed-offset}
-use Rattle.opgen_kcm.proofs.Residues.{residue-add}
+use Rattle.opgen_heap.proofs.Residues.{residue-add}
 use Rattle.opgen_kcm.proofs.Shapes.{fold-each, length-row, row-number}
 
 module _ (old : Terms) (valid : IsValid old.net) (input : ℕ) (c : Chunk) (within : c.low + c.width ≤ input_width old.net input) where
@@ -173,7 +173,12 @@ terms-same a b e f =
     net ∙ ap (λ (h : Contents). record { net = b.net; heap = h }) f
 
 pub more-then : (a b c : Terms) → HasTermsMore a b → HasTermsMore b c → HasTermsMore a c
-more-then a b c p q = record { net = grown-then a.net b.net c.net p.net q.net; bits = λ there. q.bits (p.bits there); width = q.width ∙ p.width }
+more-then a b c p q = record {
+  net = grown-then a.net b.net c.net p.net q.net;
+  bits = λ there. q.bits (p.bits there);
+  width = q.width
+      ∙ p.width;
+}
 
 pub more-same : (s : Terms) → HasTermsMore s s
 more-same s = record { net = grown-same s.net; bits = λ there. there; width = refl }

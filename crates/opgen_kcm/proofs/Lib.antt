@@ -1,5 +1,3 @@
-pub mod Products
-pub mod Residues
 pub mod Bounds
 pub mod ChunkWords
 pub mod Multiples

@@ -8,12 +8,11 @@ use Rattle.std.proofs.lemmas.Nat.{div-add-mod'}
 use Rattle.opgen_num.specs.declared.format.Ratio.{Ratio}
 use Rattle.opgen_num.specs.Rounding.{distance}
 use Rattle.opgen_num.proofs.Floors.{one_floor}
-use Rattle.opgen_num.proofs.Integers.{product-sum, product_assoc}
+use Rattle.opgen_num.proofs.Integers.{product-sum, product_assoc, commuted, sum-product}
 use Rattle.opgen_num.proofs.Rounded.{floor_is, half_away}
 use Rattle.opgen_kcm.specs.Chunks.{chunk_count, chunk_at, number, chunk_word, digit_of}
 use Rattle.opgen_kcm.specs.Entries.{in_guard_units, nearest, entry}
 use Rattle.opgen_kcm.specs.Multiple.{IsMultiple}
-use Rattle.opgen_kcm.proofs.Products.{commuted, sum-product}
 use Rattle.opgen_kcm.proofs.ChunkWords.{value_of, chunks-value}
 
 -- twice the distance of m * e and n is at most so many m

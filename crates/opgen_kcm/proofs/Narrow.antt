@@ -16,14 +16,13 @@ use Rattle.opgen_num.specs.Rounding.{distance}
 use Rattle.opgen_num.specs.Words.{word}
 use Rattle.opgen_num.specs.WordLaws.{length-word}
 use Rattle.opgen_num.proofs.BitLength.{power_order}
-use Rattle.opgen_num.proofs.Integers.{product-sum, product_cancel}
+use Rattle.opgen_num.proofs.Integers.{product-sum, product_cancel, product-difference, difference-product}
 use Rattle.opgen_num.proofs.Values.{val_holds}
 use Rattle.opgen_kcm.specs.declared.chunk.Chunk.{Chunk}
 use Rattle.opgen_kcm.specs.Chunks.{chunk_count, chunk_at, digit_of}
 use Rattle.opgen_kcm.specs.Entries.{nearest, entry, all_entries, least_of, offsets, greatest_of}
 use Rattle.opgen_kcm.specs.Recipe.{HasNarrowRows}
 use Rattle.opgen_kcm.proofs.Entries.{length-entries, get_or-entries, length-offsets}
-use Rattle.opgen_kcm.proofs.Products.{product-difference, difference-product}
 use Rattle.opgen_kcm.proofs.Multiples.{nearest-floor}
 use Rattle.opgen_kcm.proofs.Shapes.{fold-below, narrow-rows}
 

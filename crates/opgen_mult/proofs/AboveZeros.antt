@@ -24,7 +24,8 @@ given-count node width zeros =
 module _ (ws : List ℕ) where
   pub given-there : (node width zeros : ℕ) → slice_index ws node ≡ width → All (IsThere ws) (given node width zeros)
   given-there node width zeros h =
-      All-append (IsThere ws) (bits_from node 0 width) (replicate zeros Zero) (bits_from-there ws node 0 width (omega (arith, h))) (zeros-there ws zeros)
+      All-append (IsThere ws) (bits_from node 0 width) (replicate zeros Zero) (bits_from-there ws node 0 width (omega (arith, h)))
+      (zeros-there ws zeros)
 
 module _ (nodes : List Node) (ins : Inputs) (t : ℤ) where
   abbrev f : WordBit → Bool

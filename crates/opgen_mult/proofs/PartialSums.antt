@@ -187,7 +187,8 @@ differences A X B Y =
 -- The products of bits and three powers of two make the product of the words' numbers.
 pub signed-product : (a b : List Bool) (m n : ℕ) → length a ≡ suc m → length b ≡ suc n
     → int a *ℤ int b
-    ≡ pos (sum_over_pairs (suc m) (suc n) (pieces (signs (suc m) (suc n)) a b)) +ℤ ((pos (2 ^ m) +ℤ pos (2 ^ n)) -ℤ pos (2 * (2 ^ m * 2 ^ n)))
+    ≡ pos (sum_over_pairs (suc m) (suc n) (pieces (signs (suc m) (suc n)) a b)) +ℤ
+    ((pos (2 ^ m) +ℤ pos (2 ^ n)) -ℤ pos (2 * (2 ^ m * 2 ^ n)))
 signed-product a b m n h l =
     let X = digit (at a m) * 2 ^ m in
     let Y = digit (at b n) * 2 ^ n in

@@ -22,7 +22,8 @@ pub streams_on-append : (inputs : Inputs) (ss : List Stream) (ns : List Node) (n
 streams_on-append inputs ss [] n = refl
 streams_on-append inputs ss (m ∷ ns) n = streams_on-append inputs (ss ++ stream_of inputs ss m ∷ []) ns n
 
-pub stream_at-append_before : (ss : List Stream) (s : Stream) (k : ℕ) (t : ℤ) → k < length ss → stream_at (ss ++ s ∷ []) k t ≡ stream_at ss k t
+pub stream_at-append_before : (ss : List Stream) (s : Stream) (k : ℕ) (t : ℤ) → k < length ss → stream_at (ss ++ s ∷ []) k t
+    ≡ stream_at ss k t
 stream_at-append_before ss s k t h = ap (λ (r : Stream). r t) (get_or-append ss (s ∷ []) (λ u. []) k h)
 
 pub stream_at-append_last : (ss : List Stream) (s : Stream) (t : ℤ) → stream_at (ss ++ s ∷ []) (length ss) t ≡ s t
@@ -47,7 +48,8 @@ flow-append_last nodes n inputs t =
 
 -- widths
 
-pub widths_on-append : (ws : List ℕ) (ns : List Node) (n : Node) → widths_on ws (ns ++ n ∷ []) ≡ widths_on ws ns ++ node_width (widths_on ws ns) n ∷ []
+pub widths_on-append : (ws : List ℕ) (ns : List Node) (n : Node) → widths_on ws (ns ++ n ∷ [])
+    ≡ widths_on ws ns ++ node_width (widths_on ws ns) n ∷ []
 widths_on-append ws [] n = refl
 widths_on-append ws (m ∷ ns) n = widths_on-append (ws ++ node_width ws m ∷ []) ns n
 
@@ -55,7 +57,8 @@ pub widths-append : (ns : List Node) (n : Node) → widths (ns ++ n ∷ []) ≡ 
 widths-append ns n = widths_on-append [] ns n
 
 -- the width of a node before, and that of the node itself
-pub width-append_before : (ns : List Node) (n : Node) (k : ℕ) → k < length ns → slice_index (widths (ns ++ n ∷ [])) k ≡ slice_index (widths ns) k
+pub width-append_before : (ns : List Node) (n : Node) (k : ℕ) → k < length ns → slice_index (widths (ns ++ n ∷ [])) k
+    ≡ slice_index (widths ns) k
 width-append_before ns n k h =
     ap (λ ws. slice_index ws k) (widths-append ns n)
     ∙ get_or-append (widths ns) (node_width (widths ns) n ∷ []) 0 k (omega (arith, h, length-widths ns))
@@ -68,7 +71,8 @@ width-append_last ns n =
 
 -- valid nets
 
-pub may_stand-append : (ws : List ℕ) (ns : List Node) (n : Node) → AllMayStand ws ns → MayStand (widths_on ws ns) n → AllMayStand ws (ns ++ n ∷ [])
+pub may_stand-append : (ws : List ℕ) (ns : List Node) (n : Node) → AllMayStand ws ns → MayStand (widths_on ws ns) n
+    → AllMayStand ws (ns ++ n ∷ [])
 may_stand-append ws [] n all h = (h, tt)
 may_stand-append ws (m ∷ ns) n all h = (all.0, may_stand-append (ws ++ node_width ws m ∷ []) ns n all.1 h)
 
@@ -87,13 +91,15 @@ numbered-append k (v ∷ ws) w =
     let e : (k + 1) + length ws ≡ k + length (v ∷ ws) = omega arith in
     ap (λ r. (k, v) ∷ r) (numbered-append (k + 1) ws w ∙ ap (λ i. numbered (k + 1) ws ++ (i, w) ∷ []) e)
 
-outputs_lie : (nodes : List Node) (n : Node) (os : List Output) → All (λ o. LiesWithin (widths nodes) o.from) os → All (λ o. LiesWithin (widths (nodes ++ n ∷ [])) o.from) os
+outputs_lie : (nodes : List Node) (n : Node) (os : List Output) → All (λ o. LiesWithin (widths nodes) o.from) os
+    → All (λ o. LiesWithin (widths (nodes ++ n ∷ [])) o.from) os
 outputs_lie nodes n os h =
     subst (λ ws. All (λ o. LiesWithin ws o.from) os) (sym (widths-append nodes n))
     (λ k d l. lies-kept (widths nodes) (node_width (widths nodes) n ∷ []) (slice_index_or os k d).from (h k d l))
 
 -- a node that is no input
-pub valid-append : (net : Net) (n : Node) → IsValid net → MayStand (widths net.nodes) n → input_nodes (n ∷ []) ≡ [] → IsValid (record net { nodes = net.nodes ++ n ∷ [] })
+pub valid-append : (net : Net) (n : Node) → IsValid net → MayStand (widths net.nodes) n → input_nodes (n ∷ []) ≡ []
+    → IsValid (record net { nodes = net.nodes ++ n ∷ [] })
 valid-append net n valid stands none = record {
   nodes = may_stand-append [] net.nodes n valid.nodes stands;
   inputs = input_nodes-append net.nodes n ∙ ap (λ r. input_nodes net.nodes ++ r) none ∙ append-nil (input_nodes net.nodes) ∙ valid.inputs;
@@ -117,7 +123,8 @@ valid-input net name w valid wide =
       outputs = outputs_lie net.nodes n net.outputs valid.outputs;
     }
 
-pub valid-output : (net : Net) (o : Output) → IsValid net → LiesWithin (widths net.nodes) o.from → IsValid (record net { outputs = net.outputs ++ o ∷ [] })
+pub valid-output : (net : Net) (o : Output) → IsValid net → LiesWithin (widths net.nodes) o.from
+    → IsValid (record net { outputs = net.outputs ++ o ∷ [] })
 valid-output net o valid lies = record {
   nodes = valid.nodes;
   inputs = valid.inputs;

@@ -34,7 +34,8 @@ record Agree (ss rs : List Stream) : Type 0 where
   words : (i a b : ℕ) → stream_at ss i (negsuc a) ≡ stream_at rs i (negsuc b)
 
 module _ (inputs others : Inputs) where
-  stream-before : (ss rs : List Stream) (n : Node) (a b : ℕ) → Agree ss rs → stream_of inputs ss n (negsuc a) ≡ stream_of others rs n (negsuc b)
+  stream-before : (ss rs : List Stream) (n : Node) (a b : ℕ) → Agree ss rs → stream_of inputs ss n (negsuc a)
+      ≡ stream_of others rs n (negsuc b)
   stream-before ss rs (Input place w) a b h = refl
   stream-before ss rs (Constant w) a b h = refl
   stream-before ss rs (Cells class w e) a b h =
@@ -64,7 +65,13 @@ module _ (inputs others : Inputs) where
                 ∙ h.words i a b
                 ∙ ap (λ x. x (negsuc b)) (sym (get_or_append_left rs (r ∷ []) (λ u. []) i (omega (arith, l, h.count))))
             | inr l ↦ ap (λ x. x (negsuc a)) (get_or_past (ss ++ s ∷ []) i (λ u. []) (omega (arith, l, length-append ss (s ∷ []))))
-                ∙ ap (λ x. x (negsuc b)) (sym (get_or_past (rs ++ r ∷ []) i (λ u. []) (omega (arith, l, h.count, length-append rs (r ∷ [])))))
+                ∙ ap (λ x. x (negsuc b)) (sym (get_or_past (rs ++ r ∷ []) i (λ u. []) (omega (
+                  arith,
+                  l,
+                  h.count,
+                  length-append rs
+                      (r ∷ []),
+                ))))
           ]
         ];
       }

@@ -36,7 +36,8 @@ length-streams_on inputs ss (n ∷ ns) =
     omega (arith, length-streams_on inputs (ss ++ s ∷ []) ns, length-append ss (s ∷ []))
 
 -- over streams that agree on the nodes before it, a node that may stand has one stream
-module _ (inputs : Inputs) (ws : List ℕ) (ss rs : List Stream) (same : (i : ℕ) (t : ℤ) → i < length ws → stream_at ss i t ≡ stream_at rs i t) where
+module _ (inputs : Inputs) (ws : List ℕ) (ss rs : List Stream)
+    (same : (i : ℕ) (t : ℤ) → i < length ws → stream_at ss i t ≡ stream_at rs i t) where
   same_part : (s : Slice) (t : ℤ) → LiesWithin ws s → part_at ss s t ≡ part_at rs s t
   same_part s t h = ap (cut s.high s.low) (same s.node t (lies_within ws s h))
 
@@ -78,7 +79,8 @@ length-widths_on ws (n ∷ ns) =
 pub length-widths : (ns : List Node) → length (widths ns) ≡ length ns
 length-widths ns = length-widths_on [] ns ∙ omega arith
 
-stands_on : (ws : List ℕ) (ns : List Node) → AllMayStand ws ns → (j : ℕ) (n : Node) → slice_get ns j ≡ Some n → StandsAt (widths_on ws ns) (length ws + j) n
+stands_on : (ws : List ℕ) (ns : List Node) → AllMayStand ws ns → (j : ℕ) (n : Node) → slice_get ns j ≡ Some n
+    → StandsAt (widths_on ws ns) (length ws + j) n
 stands_on ws [] a j n h = absurd (cc)
 stands_on ws (m ∷ ns) a zero n h =
     let is : m ≡ n = cc in

@@ -22,7 +22,8 @@ pub flow-more : (nodes more : List Node) → KeepsFlow nodes (nodes ++ more)
 flow-more nodes [] = subst (KeepsFlow nodes) (sym (append-nil nodes)) (λ inputs n t h. refl)
 flow-more nodes (n ∷ more) =
     subst (KeepsFlow nodes) (append_assoc nodes (n ∷ []) more)
-    (flow-then nodes (nodes ++ n ∷ []) ((nodes ++ n ∷ []) ++ more) (omega (arith, length-append nodes (n ∷ []))) (flow-append_before nodes n) (flow-more (nodes ++ n ∷ []) more))
+    (flow-then nodes (nodes ++ n ∷ []) ((nodes ++ n ∷ []) ++ more) (omega (arith, length-append nodes (n ∷ [])))
+    (flow-append_before nodes n) (flow-more (nodes ++ n ∷ []) more))
 
 abbrev KeepsWidths : (old new : List Node) → Type 0
 KeepsWidths old new = (n : ℕ) → n < length old → slice_index (widths new) n ≡ slice_index (widths old) n

@@ -13,7 +13,8 @@ use Rattle.opgen_design.specs.Run.{AreWords}
 use Rattle.opgen_net.specs.Valid.{input_nodes, numbered, input_widths, IsValid}
 
 -- an Input node is among the Input nodes
-among_inputs : (ns : List Node) (j port w : ℕ) → slice_get ns j ≡ Some (Input port w) → (k : ℕ) × (slice_get (input_nodes ns) k ≡ Some (port, w))
+among_inputs : (ns : List Node) (j port w : ℕ) → slice_get ns j ≡ Some (Input port w) → (k : ℕ)
+    × (slice_get (input_nodes ns) k ≡ Some (port, w))
 among_inputs [] j port w h = absurd (cc)
 among_inputs (m ∷ ns) zero port w h = let is : m ≡ Input port w = cc in (0, ap (λ x. slice_get (input_nodes (x ∷ ns)) 0) is)
 among_inputs (Input p v ∷ ns) (suc j) port w h = let rest = among_inputs ns j port w h in (suc rest.0, rest.1)
@@ -24,7 +25,8 @@ among_inputs (Table address rows ∷ ns) (suc j) port w h = among_inputs ns j po
 among_inputs (Delay of ∷ ns) (suc j) port w h = among_inputs ns j port w h
 
 -- and each of these is a node
-one_of_inputs : (ns : List Node) (k : ℕ) (i : ℕ × ℕ) → slice_get (input_nodes ns) k ≡ Some i → (j : ℕ) × (slice_get ns j ≡ Some (Input i.0 i.1))
+one_of_inputs : (ns : List Node) (k : ℕ) (i : ℕ × ℕ) → slice_get (input_nodes ns) k ≡ Some i → (j : ℕ)
+    × (slice_get ns j ≡ Some (Input i.0 i.1))
 one_of_inputs [] k i h = absurd (cc)
 one_of_inputs (Input p v ∷ ns) zero i h = let is : (p, v) ≡ i = cc in (0, ap (λ x. Some (Input x.0 x.1)) is)
 one_of_inputs (Input p v ∷ ns) (suc k) i h = let rest = one_of_inputs ns k i h in (suc rest.0, rest.1)
@@ -52,7 +54,8 @@ at_numbered a (v ∷ ws) (suc k) w h =
     at_numbered (a + 1) ws k w h ∙ ap (λ x. Some (x, w)) e
 
 -- the Input node of a port has its width
-pub input-width : (net : Net) → IsValid net → (j port w : ℕ) → slice_get net.nodes j ≡ Some (Input port w) → slice_get (input_widths net) port ≡ Some w
+pub input-width : (net : Net) → IsValid net → (j port w : ℕ) → slice_get net.nodes j ≡ Some (Input port w)
+    → slice_get (input_widths net) port ≡ Some w
 input-width net v j port w h =
     let a = among_inputs net.nodes j port w h in
     let listed : slice_get (numbered 0 (input_widths net)) a.0 ≡ Some (port, w) = ap (λ is. slice_get is a.0) (sym v.inputs) ∙ a.1 in
@@ -61,7 +64,8 @@ input-width net v j port w h =
     ap (slice_get (input_widths net)) e ∙ b.1
 
 -- each port has an Input node
-pub input_node : (net : Net) → IsValid net → (port w : ℕ) → slice_get (input_widths net) port ≡ Some w → (j : ℕ) × (slice_get net.nodes j ≡ Some (Input port w))
+pub input_node : (net : Net) → IsValid net → (port w : ℕ) → slice_get (input_widths net) port ≡ Some w → (j : ℕ)
+    × (slice_get net.nodes j ≡ Some (Input port w))
 input_node net v port w h =
     let e : 0 + port ≡ port = omega arith in
     let listed : slice_get (input_nodes net.nodes) port ≡ Some (port, w) =
@@ -74,7 +78,8 @@ width-at [] k = refl
 width-at (w ∷ words) zero = refl
 width-at (w ∷ words) (suc k) = width-at words k
 
-input_from-width : (ws : List ℕ) (inputs : Inputs) → All (AreWords ws) inputs → (port w : ℕ) → slice_get ws port ≡ Some w → (t : ℕ) → length (input_from inputs t port w) ≡ w
+input_from-width : (ws : List ℕ) (inputs : Inputs) → All (AreWords ws) inputs → (port w : ℕ) → slice_get ws port ≡ Some w → (t : ℕ)
+    → length (input_from inputs t port w) ≡ w
 input_from-width ws [] a port w h t = length-replicate w _
 input_from-width ws (words ∷ later) a port w h zero =
     let is : map length words ≡ ws = All-head (AreWords ws) words later a in
@@ -82,6 +87,7 @@ input_from-width ws (words ∷ later) a port w h zero =
 input_from-width ws (words ∷ later) a port w h (suc t) = input_from-width ws later (All-tail (AreWords ws) words later a) port w h t
 
 -- an input's word has its port's width at all times
-pub input_at-width : (ws : List ℕ) (inputs : Inputs) → All (AreWords ws) inputs → (port w : ℕ) → slice_get ws port ≡ Some w → (t : ℤ) → length (input_at inputs port w t) ≡ w
+pub input_at-width : (ws : List ℕ) (inputs : Inputs) → All (AreWords ws) inputs → (port w : ℕ) → slice_get ws port ≡ Some w → (t : ℤ)
+    → length (input_at inputs port w t) ≡ w
 input_at-width ws inputs a port w h (pos t) = input_from-width ws inputs a port w h t
 input_at-width ws inputs a port w h (negsuc t) = length-replicate w _

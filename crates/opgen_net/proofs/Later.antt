@@ -77,7 +77,8 @@ module _ (net : Net) (valid : IsValid net) where
   runs-later count (Bits w ∷ q ∷ rs) fits = later-node net (Cells Wire count (word_tree ws (Bits w ∷ q ∷ rs))) valid (tt, fits) refl
   runs-later count (Part s ∷ q ∷ rs) fits = later-node net (Cells Wire count (word_tree ws (Part s ∷ q ∷ rs))) valid (tt, fits) refl
 
-  pub bits-later : (given : List WordBit) → IsWidth (length given) → All (IsThere ws) given → Later net (record net { nodes = (with_word net.nodes given).nodes })
+  pub bits-later : (given : List WordBit) → IsWidth (length given) → All (IsThere ws) given
+      → Later net (record net { nodes = (with_word net.nodes given).nodes })
   bits-later given wide there = runs-later (length given) (runs given) (word-fits ws given wide there)
 
 -- what a word's runs leave are the nodes before, and further ones

@@ -9,3 +9,4 @@ pub mod WordLaws
 pub mod Grown
 pub mod BitLists
 pub mod Later
+pub mod Numbers

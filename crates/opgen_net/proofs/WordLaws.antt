@@ -31,7 +31,8 @@ use Rattle.opgen_net.proofs.Appending.{flow-append_last, width-append_last}
 
 -- parts of words
 
-cut-next : (w : List Bool) (high low : ℕ) → low ≤ high → high + 1 < length w → cut (high + 1) low w ≡ cut high low w ++ slice_index_or w (high + 1) false ∷ []
+cut-next : (w : List Bool) (high low : ℕ) → low ≤ high → high + 1 < length w → cut (high + 1) low w
+    ≡ cut high low w ++ slice_index_or w (high + 1) false ∷ []
 cut-next w high low l h =
     let k = high + 1 - low in
     let e : high + 1 + 1 - low ≡ suc k = omega (arith, l) in
@@ -72,7 +73,8 @@ record IsAbove (ws : List ℕ) (old new : List Piece) : Type 0 where
   count : runs_length new ≡ runs_length old + 1
 
 near : (node index : ℕ) (s : Slice) → (nat_eq node s.node && nat_eq index (s.high + 1)) ≡ true → (node ≡ s.node) × (index ≡ s.high + 1)
-near node index s h = let a = and_parts (nat_eq node s.node) (nat_eq index (s.high + 1)) h in (eqb-true node s.node a.0, eqb-true index (s.high + 1) a.1)
+near node index s h = let a = and_parts (nat_eq node s.node) (nat_eq index (s.high + 1)) h in
+    (eqb-true node s.node a.0, eqb-true index (s.high + 1) a.1)
 
 module _ (ws : List ℕ) where
   alone-above : (b : WordBit) (rs : List Piece) → IsThere ws b → AllThere ws rs → IsAbove ws rs (alone b ∷ rs)
@@ -80,12 +82,14 @@ module _ (ws : List ℕ) where
   alone-above One rs h a = record { there = (omega arith, a); count = omega arith }
   alone-above (Of node index) rs h a = record { there = ((omega arith, h), a); count = omega arith }
 
-  longer-above : (b : Bool) (w : List Bool) (rs : List Piece) → AllThere ws (Bits w ∷ rs) → IsAbove ws (Bits w ∷ rs) (Bits (w ++ b ∷ []) ∷ rs)
+  longer-above : (b : Bool) (w : List Bool) (rs : List Piece) → AllThere ws (Bits w ∷ rs)
+      → IsAbove ws (Bits w ∷ rs) (Bits (w ++ b ∷ []) ∷ rs)
   longer-above b w rs a = record { there = (omega (arith, length-append w (b ∷ [])), a.1); count = omega (arith, length-append w (b ∷ [])) }
 
   part-above : (node index : ℕ) (s : Slice) (rs : List Piece) → index < slice_index ws node → AllThere ws (Part s ∷ rs)
       → (c : Bool) → (c ≡ true → (node ≡ s.node) × (index ≡ s.high + 1))
-      → IsAbove ws (Part s ∷ rs) (over (Of node index) (if c then Some (Part (record { node = node; high = index; low = s.low })) else None) (Part s) rs)
+      → IsAbove ws (Part s ∷ rs) (over (Of node index) (if c then Some (Part (record { node = node; high = index; low = s.low })) else None)
+      (Part s) rs)
   part-above node index s rs h a true f =
       let n = f refl in
       record { there = ((omega (arith, a.0.0, n.1), h), a.1); count = omega (arith, a.0.0, n.1) }
@@ -141,7 +145,8 @@ module _ (ws : List ℕ) where
   node-get : (n k : ℕ) → k < slice_index ws n → slice_get ws n ≡ Some (slice_index ws n)
   node-get n k h = slice_get-get_or ws n 0 (index_within ws n k h)
 
-  either-width : (s : Slice) → LiesWithin ws s → slice_width s ≤ MAX_WIDTH → (c : Bool) → (c ≡ true → (s.low ≡ 0) × (s.high + 1 ≡ slice_index ws s.node))
+  either-width : (s : Slice) → LiesWithin ws s → slice_width s ≤ MAX_WIDTH → (c : Bool)
+      → (c ≡ true → (s.low ≡ 0) × (s.high + 1 ≡ slice_index ws s.node))
       → width ws [] (either c s) ≡ Some (slice_width s)
   either-width s h k true f =
       let w = slice_index ws s.node in
@@ -151,7 +156,8 @@ module _ (ws : List ℕ) where
       ∙ as_width-is (slice_width s) (omega (arith, h.0)) k
   either-width s h k false f =
       let w = slice_index ws s.node in
-      ap (option_and_then (λ v. if nat_le s.low s.high && nat_lt s.high v then as_width (slice_width s) else None)) (node-get s.node s.high h.1)
+      ap (option_and_then (λ v. if nat_le s.low s.high && nat_lt s.high v then as_width (slice_width s) else None))
+      (node-get s.node s.high h.1)
       ∙ ap (λ c. if c && nat_lt s.high w then as_width (slice_width s) else None) (le-leb s.low s.high h.0)
       ∙ ap (λ c. if c then as_width (slice_width s) else None) (lt-ltb s.high w h.1)
       ∙ as_width-is (slice_width s) (omega (arith, h.0)) k
@@ -176,7 +182,8 @@ module _ (ws : List ℕ) where
       ∙ more-width (w + v) rs a.1 (omega (arith, h)) (omega (arith, k))
       ∙ ap Some e
 
-  word-width : (rs : List Piece) → AllThere ws rs → 1 ≤ runs_length rs → runs_length rs ≤ MAX_WIDTH → width ws [] (word_tree ws rs) ≡ Some (runs_length rs)
+  word-width : (rs : List Piece) → AllThere ws rs → 1 ≤ runs_length rs → runs_length rs ≤ MAX_WIDTH → width ws [] (word_tree ws rs)
+      ≡ Some (runs_length rs)
   word-width [] a h k = absurd (omega (arith, h))
   word-width (r ∷ []) a h k = run-width r a.0 (omega (arith, k)) ∙ ap Some (omega arith)
   word-width (r ∷ q ∷ rs) a h k =
@@ -265,7 +272,8 @@ module _ (ws : List ℕ) (f : ℕ → List Bool) (wide : (n : ℕ) → length (f
   abbrev scope : Scope
   scope = record { names = f; ports = λ n. [] }
 
-  either-value : (s : Slice) (c : Bool) → (c ≡ true → (s.low ≡ 0) × (s.high + 1 ≡ slice_index ws s.node)) → value scope (either c s) ≡ run_bits (Part s)
+  either-value : (s : Slice) (c : Bool) → (c ≡ true → (s.low ≡ 0) × (s.high + 1 ≡ slice_index ws s.node)) → value scope (either c s)
+      ≡ run_bits (Part s)
   either-value s true g = sym (cut-whole (f s.node) s.high s.low (g refl).0 (omega (arith, (g refl).1, wide s.node)))
   either-value s false g = refl
 
@@ -283,13 +291,15 @@ module _ (ws : List ℕ) (f : ℕ → List Bool) (wide : (n : ℕ) → length (f
   word-value : (rs : List Piece) → value scope (word_tree ws rs) ≡ runs_bits rs
   word-value [] = refl
   word-value (r ∷ []) = run-value r
-  word-value (r ∷ q ∷ rs) = ap (λ v. value_on scope Cat v (trees_of (map (run_tree ws) (q ∷ rs)))) (run-value r) ∙ more-value (run_bits r) (q ∷ rs)
+  word-value (r ∷ q ∷ rs) = ap (λ v. value_on scope Cat v (trees_of (map (run_tree ws) (q ∷ rs)))) (run-value r)
+      ∙ more-value (run_bits r) (q ∷ rs)
 
 -- the node that the rule finds
 
 module _ (net : Net) (valid : IsValid net) where
   abbrev of_part : ℕ → Slice → Bool → Found
-  of_part count s c = if c then record { nodes = net.nodes; place = s.node } else with_node net.nodes (Cells Wire count (slice_tree (widths net.nodes) s))
+  of_part count s c = if c then record { nodes = net.nodes; place = s.node } else with_node net.nodes
+      (Cells Wire count (slice_tree (widths net.nodes) s))
 
   module _ (inputs : Inputs) (t : ℤ) (words : All (AreWords (input_widths net)) inputs) where
     abbrev here : ℕ → List Bool
@@ -302,31 +312,38 @@ module _ (net : Net) (valid : IsValid net) where
         → flow (of_part count s c).nodes inputs (of_part count s c).place t ≡ cut s.high s.low (here s.node)
     part-found count s true g = sym (cut-whole (here s.node) s.high s.low (g refl).0 (omega (arith, (g refl).1, wide s.node)))
     part-found count s false g =
-        flow-append_last net.nodes (Cells Wire count (slice_tree (widths net.nodes) s)) inputs t ∙ run-value (widths net.nodes) here wide (Part s)
+        flow-append_last net.nodes (Cells Wire count (slice_tree (widths net.nodes) s)) inputs t
+        ∙ run-value (widths net.nodes) here wide (Part s)
 
-    runs-found : (count : ℕ) (rs : List Piece) → flow (with_runs net.nodes count rs).nodes inputs (with_runs net.nodes count rs).place t ≡ runs_bits (widths net.nodes) here wide rs
+    runs-found : (count : ℕ) (rs : List Piece) → flow (with_runs net.nodes count rs).nodes inputs (with_runs net.nodes count rs).place t
+        ≡ runs_bits (widths net.nodes) here wide rs
     runs-found count [] = flow-append_last net.nodes (Cells Wire count (chain Cat none)) inputs t
     runs-found count (Bits w ∷ []) = flow-append_last net.nodes (Constant w) inputs t
     runs-found count (Part s ∷ []) = part-found count s (is_whole (widths net.nodes) s) (whole (widths net.nodes) s)
     runs-found count (Bits w ∷ q ∷ rs) =
-        flow-append_last net.nodes (Cells Wire count (word_tree (widths net.nodes) (Bits w ∷ q ∷ rs))) inputs t ∙ word-value (widths net.nodes) here wide (Bits w ∷ q ∷ rs)
+        flow-append_last net.nodes (Cells Wire count (word_tree (widths net.nodes) (Bits w ∷ q ∷ rs))) inputs t
+        ∙ word-value (widths net.nodes) here wide (Bits w ∷ q ∷ rs)
     runs-found count (Part s ∷ q ∷ rs) =
-        flow-append_last net.nodes (Cells Wire count (word_tree (widths net.nodes) (Part s ∷ q ∷ rs))) inputs t ∙ word-value (widths net.nodes) here wide (Part s ∷ q ∷ rs)
+        flow-append_last net.nodes (Cells Wire count (word_tree (widths net.nodes) (Part s ∷ q ∷ rs))) inputs t
+        ∙ word-value (widths net.nodes) here wide (Part s ∷ q ∷ rs)
 
   bit_in-flow : (inputs : Inputs) (t : ℤ) (words : All (AreWords (input_widths net)) inputs) (bs : List WordBit)
       → map (bit_in (widths net.nodes) (here inputs t words) (wide inputs t words)) bs ≡ map (bit_flow net.nodes inputs t) bs
   bit_in-flow inputs t words [] = refl
   bit_in-flow inputs t words (Zero ∷ bs) = ap (λ x. false ∷ x) (bit_in-flow inputs t words bs)
   bit_in-flow inputs t words (One ∷ bs) = ap (λ x. true ∷ x) (bit_in-flow inputs t words bs)
-  bit_in-flow inputs t words (Of node index ∷ bs) = ap (λ x. slice_index_or (flow net.nodes inputs node t) index false ∷ x) (bit_in-flow inputs t words bs)
+  bit_in-flow inputs t words (Of node index ∷ bs) = ap (λ x. slice_index_or (flow net.nodes inputs node t) index false ∷ x)
+      (bit_in-flow inputs t words bs)
 
-  pub word-has_bits : (bs : List WordBit) → All (IsThere (widths net.nodes)) bs → HasBits net bs (with_word net.nodes bs).nodes (with_word net.nodes bs).place
+  pub word-has_bits : (bs : List WordBit) → All (IsThere (widths net.nodes)) bs
+      → HasBits net bs (with_word net.nodes bs).nodes (with_word net.nodes bs).place
   word-has_bits bs h inputs t words =
       runs-found inputs t words (length bs) (runs bs)
       ∙ runs-spell (widths net.nodes) (here inputs t words) (wide inputs t words) bs h
       ∙ ap reverse (bit_in-flow inputs t words bs)
 
-  part-found_width : (count : ℕ) (s : Slice) (c : Bool) → count ≡ slice_width s → (c ≡ true → (s.low ≡ 0) × (s.high + 1 ≡ slice_index (widths net.nodes) s.node))
+  part-found_width : (count : ℕ) (s : Slice) (c : Bool) → count ≡ slice_width s
+      → (c ≡ true → (s.low ≡ 0) × (s.high + 1 ≡ slice_index (widths net.nodes) s.node))
       → slice_index (widths (of_part count s c).nodes) (of_part count s c).place ≡ count
   part-found_width count s true e g = omega (arith, (g refl).0, (g refl).1, e)
   part-found_width count s false e g = width-append_last net.nodes (Cells Wire count (slice_tree (widths net.nodes) s))
@@ -335,9 +352,12 @@ module _ (net : Net) (valid : IsValid net) where
       → slice_index (widths (with_runs net.nodes count rs).nodes) (with_runs net.nodes count rs).place ≡ count
   runs-found_width count [] e = width-append_last net.nodes (Cells Wire count (chain Cat none))
   runs-found_width count (Bits w ∷ []) e = width-append_last net.nodes (Constant w) ∙ omega (arith, e)
-  runs-found_width count (Part s ∷ []) e = part-found_width count s (is_whole (widths net.nodes) s) (omega (arith, e)) (whole (widths net.nodes) s)
-  runs-found_width count (Bits w ∷ q ∷ rs) e = width-append_last net.nodes (Cells Wire count (word_tree (widths net.nodes) (Bits w ∷ q ∷ rs)))
-  runs-found_width count (Part s ∷ q ∷ rs) e = width-append_last net.nodes (Cells Wire count (word_tree (widths net.nodes) (Part s ∷ q ∷ rs)))
+  runs-found_width count (Part s ∷ []) e = part-found_width count s (is_whole (widths net.nodes) s) (omega (arith, e))
+      (whole (widths net.nodes) s)
+  runs-found_width count (Bits w ∷ q ∷ rs) e = width-append_last net.nodes
+      (Cells Wire count (word_tree (widths net.nodes) (Bits w ∷ q ∷ rs)))
+  runs-found_width count (Part s ∷ q ∷ rs) e = width-append_last net.nodes
+      (Cells Wire count (word_tree (widths net.nodes) (Part s ∷ q ∷ rs)))
 
   pub word-found_width : (bs : List WordBit) → All (IsThere (widths net.nodes)) bs
       → slice_index (widths (with_word net.nodes bs).nodes) (with_word net.nodes bs).place ≡ length bs

@@ -31,7 +31,9 @@ over-at_most n One (Bits w) rs h = omega (arith, h, length-append w (true ∷ []
 over-at_most n Zero (Part s) rs h = omega arith
 over-at_most n One (Part s) rs h = omega arith
 over-at_most n (Of node index) (Bits w) rs h = tt
-over-at_most n (Of node index) (Part s) rs h = elim (nat_eq node s.node && nat_eq index (s.high + 1)) as (λ c. FirstHasAtMost (n + 1) (over (Of node index) (if c then Some (Part (record { node = node; high = index; low = s.low })) else None) (Part s) rs)) [ true ↦ tt | false ↦ tt ]
+over-at_most n (Of node index) (Part s) rs h = elim (nat_eq node s.node && nat_eq index (s.high + 1)) as
+    (λ c. FirstHasAtMost (n + 1) (over (Of node index) (if c then Some (Part (record { node = node; high = index; low = s.low })) else None)
+    (Part s) rs)) [ true ↦ tt | false ↦ tt ]
 
 above-at_most : (n : ℕ) (b : WordBit) (rs : List Piece) → FirstHasAtMost n rs → FirstHasAtMost (n + 1) (above b rs)
 above-at_most n Zero [] h = omega arith
@@ -46,7 +48,8 @@ first-at_most n (Part s ∷ rs) m l h = tt
 
 runs-at_most : (bs : List WordBit) → FirstHasAtMost (length bs) (runs bs)
 runs-at_most [] = tt
-runs-at_most (b ∷ bs) = subst (λ n. FirstHasAtMost n (runs (b ∷ bs))) (omega arith) (above-at_most (length bs) b (runs bs) (runs-at_most bs))
+runs-at_most (b ∷ bs) = subst (λ n. FirstHasAtMost n (runs (b ∷ bs))) (omega arith)
+    (above-at_most (length bs) b (runs bs) (runs-at_most bs))
 
 pub runs-short : (bs : List WordBit) (n : ℕ) → length bs ≤ n → FirstHasAtMost n (runs bs)
 runs-short bs n h = first-at_most (length bs) (runs bs) n h (runs-at_most bs)
@@ -55,4 +58,5 @@ runs-short bs n h = first-at_most (length bs) (runs bs) n h (runs-at_most bs)
 pub top_below : (w : List Bool) (b : Bool) → nat w + digit b * 2 ^ length w < 2 ^ (length w + 1)
 top_below w b =
     let e : 2 ^ (length w + 1) ≡ 2 ^ length w + 2 ^ length w = ap (λ k. 2 ^ k) (add-one (length w)) ∙ two-pow-succ (length w) in
-    elim b as (λ c. nat w + digit c * 2 ^ length w < 2 ^ (length w + 1)) [ true ↦ omega (arith, nat-below w, e) | false ↦ omega (arith, nat-below w, e) ]
+    elim b as (λ c. nat w + digit c * 2 ^ length w < 2 ^ (length w + 1))
+    [ true ↦ omega (arith, nat-below w, e) | false ↦ omega (arith, nat-below w, e) ]

@@ -4,3 +4,4 @@ pub mod Made
 pub mod Named
 pub mod WordRule
 pub mod Grown
+pub mod Placed

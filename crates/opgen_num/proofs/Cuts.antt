@@ -10,7 +10,8 @@ use Rattle.opgen_num.proofs.Words.{nat-below}
 pub nat-append : (low high : List Bool) → nat (low ++ high) ≡ nat low + 2 ^ length low * nat high
 nat-append [] high = omega arith
 nat-append (b ∷ low) high =
-    let half : 2 ^ suc (length low) * nat high ≡ 2 * (2 ^ length low * nat high) = ap (λ p. p * nat high) (two-pow-succ (length low)) ∙ omega arith in
+    let half : 2 ^ suc (length low) * nat high ≡ 2 * (2 ^ length low * nat high) = ap (λ p. p * nat high) (two-pow-succ (length low))
+    ∙ omega arith in
     omega (arith, nat-append low high)
 
 -- the lowest bits, and those above them

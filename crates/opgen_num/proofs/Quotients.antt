@@ -36,7 +36,8 @@ module _ (n m q r : ℤ) (positive : pos 0 <ℤ m) (whole : ((q *ℤ m) +ℤ r) 
         omega (arith, ints),
         omega (arith, ints),
         λ z.
-            let under : y <ℤ (q +ℤ pos 1) = product_cancel m y (q +ℤ pos 1) (omega (arith, ints)) (omega (arith, products, bounds.0, bounds.1)) in
+            let under : y <ℤ (q +ℤ pos 1) = product_cancel m y (q +ℤ pos 1) (omega (arith, ints))
+            (omega (arith, products, bounds.0, bounds.1)) in
             omega (arith, ints),
       )
 
@@ -48,7 +49,8 @@ module _ (n m q r : ℤ) (positive : pos 0 <ℤ m) (whole : ((q *ℤ m) +ℤ r) 
       (same, omega (arith, ints, ap (λ z. m *ℤ z) same))
 
 -- where there is a rest, the next number after the quotient is no greater than one that fits
-pub next_fits : (n m q r : ℤ) → ((q *ℤ m) +ℤ r) ≡ n → pos 0 <ℤ r → r <ℤ m → FitsSigned w128 q → FitsSigned w128 n → FitsSigned w128 (q +ℤ pos 1)
+pub next_fits : (n m q r : ℤ) → ((q *ℤ m) +ℤ r) ≡ n → pos 0 <ℤ r → r <ℤ m → FitsSigned w128 q → FitsSigned w128 n
+    → FitsSigned w128 (q +ℤ pos 1)
 next_fits n (pos m) (pos q) r whole low high f g =
     let twice : q * 2 ≤ q * m = mul-le-mul_left q (omega (arith, ints)) in
     omega (arith, ints)

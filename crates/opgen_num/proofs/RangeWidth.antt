@@ -28,11 +28,14 @@ pub count-least : (n g : ℕ) → n < 2 ^ g → digit_count n ≤ g
 count-least n = digits-least n n (omega arith)
 
 pub range_width-least : (lo hi : ℤ) → lo ≤ℤ hi → IsLeastWidth lo hi (range_width lo hi)
-range_width-least (pos a) hi h = unsigned_width (pos a) hi (digit_count (unsigned_abs hi)) (omega (arith, ints)) h (count-holds (unsigned_abs hi)) (count-least (unsigned_abs hi))
+range_width-least (pos a) hi h = unsigned_width (pos a) hi (digit_count (unsigned_abs hi)) (omega (arith, ints)) h
+    (count-holds (unsigned_abs hi)) (count-least (unsigned_abs hi))
 range_width-least (negsuc a) (pos b) h =
-    signed_width (negsuc a) (pos b) (max a b) (digit_count (max a b)) h (omega (arith, ints)) (omega (arith, ints)) (omega (arith, ints)) (λ n l g. omega (arith, ints)) (count-holds (max a b)) (count-least (max a b))
+    signed_width (negsuc a) (pos b) (max a b) (digit_count (max a b)) h (omega (arith, ints)) (omega (arith, ints)) (omega (arith, ints))
+    (λ n l g. omega (arith, ints)) (count-holds (max a b)) (count-least (max a b))
 range_width-least (negsuc a) (negsuc b) h =
-    signed_width (negsuc a) (negsuc b) a (digit_count a) h (omega (arith, ints)) (omega (arith, ints)) (omega (arith, ints)) (λ n l g. omega (arith, ints)) (count-holds a) (count-least a)
+    signed_width (negsuc a) (negsuc b) a (digit_count a) h (omega (arith, ints)) (omega (arith, ints)) (omega (arith, ints))
+    (λ n l g. omega (arith, ints)) (count-holds a) (count-least a)
 
 pub least_width-unique : (lo hi : ℤ) (v w : ℕ) → IsLeastWidth lo hi v → IsLeastWidth lo hi w → v ≡ w
 least_width-unique lo hi v w f g =

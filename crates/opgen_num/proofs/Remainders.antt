@@ -20,7 +20,8 @@ pub root_only : (n root y r : ℕ) → root * root ≤ n → n < (root + 1) * (r
 root_only n root y r low high h =
     ⊎_elim
     (λ (t : y < root). absurd (omega (arith, square_step y root t, h.0, h.1)))
-    (λ (t : root ≤ y). ⊎_elim (λ (u : root < y). absurd (omega (arith, square_step root y u, h.0))) (λ (u : y ≤ root). omega arith) (cases_lt root y))
+    (λ (t : root ≤ y). ⊎_elim (λ (u : root < y). absurd (omega (arith, square_step root y u, h.0))) (λ (u : y ≤ root). omega arith)
+    (cases_lt root y))
     (cases_lt y root)
 
 pub root_if : (n root y r : ℕ) → root * root ≤ n → n < (root + 1) * (root + 1) → y ≡ root → r ≡ n - root * root → IsRoot n y r

@@ -38,8 +38,10 @@ rest_bounds n (negsuc m) h = absurd (omega (arith, ints))
 pub floor_is : (n m : ℤ) → pos 0 <ℤ m → IsFloor n m (int_div_euclid n m)
 floor_is n m h =
     let (low, high) = rest_bounds n m h in
-    let whole = quotient_and_rest n m h in
-    (omega (arith, products, whole, low, commuted (int_div_euclid n m) m), omega (arith, products, whole, high, commuted (int_div_euclid n m) m))
+    let whole = quotient_and_rest n m h in (
+      omega (arith, products, whole, low, commuted (int_div_euclid n m) m),
+      omega (arith, products, whole, high, commuted (int_div_euclid n m) m),
+    )
 
 times-zero : (m : ℤ) → m *ℤ pos 0 ≡ pos 0
 times-zero m = omega (arith, ints)
@@ -69,12 +71,24 @@ pub half_away : (n m y : ℤ) → IsFloor ((pos 2 *ℤ n) +ℤ m) (pos 2 *ℤ m)
     → ((pos 2 *ℤ (m *ℤ y)) ≤ℤ ((pos 2 *ℤ n) +ℤ m)) × (((pos 2 *ℤ n) -ℤ m) <ℤ (pos 2 *ℤ (m *ℤ y)))
 half_away n m y (low, high) =
     let same = product_assoc (pos 2) m y in
-    let more = product_assoc (pos 2) m (y +ℤ pos 1) in
-    (omega (arith, ints, low, same), omega (arith, products, high, same, more, ap (λ z. pos 2 *ℤ z) (product-sum m y (pos 1)), product-sum (pos 2) (m *ℤ y) (m *ℤ pos 1)))
+    let more = product_assoc (pos 2) m (y +ℤ pos 1) in (
+      omega (arith, ints, low, same),
+      omega (
+        arith,
+        products,
+        high,
+        same,
+        more,
+        ap (λ z. pos 2 *ℤ z) (product-sum m y (pos 1)),
+        product-sum
+            (pos 2) (m *ℤ y) (m *ℤ pos 1),
+      ),
+    )
 
 -- A word has the value y where its bits are a remainder, as those of the sum of a heap, of what is y up to multiples of 2 to the
 -- width, and y is in the range of the width.
-pub value_from_remainder : (w : List Bool) (format : Format) (total : ℕ) (y k : ℤ) → 1 ≤ length w → nat w ≡ total % 2 ^ length w → y +ℤ (pos (2 ^ length w) *ℤ k) ≡ pos total → Holds format.signed (length w) y → val w format ≡ y
+pub value_from_remainder : (w : List Bool) (format : Format) (total : ℕ) (y k : ℤ) → 1 ≤ length w → nat w ≡ total % 2 ^ length w
+    → y +ℤ (pos (2 ^ length w) *ℤ k) ≡ pos total → Holds format.signed (length w) y → val w format ≡ y
 value_from_remainder w format total y k some e is range =
     let P = 2 ^ length w in
     let whole = div-add-mod' total P in
@@ -87,14 +101,18 @@ floor_of_parts n m q j r whole low high =
     (omega (arith, ints, whole, less, low), omega (arith, products, whole, less, high, product-sum m (q -ℤ j) (pos 1)))
 
 -- Without their lowest bits, the bits of a word have the residue of the floor of what they had the residue of.
-pub floor_dropped : (low high : ℕ) (w : List Bool) (n k y : ℤ) → length w ≡ low + high → n +ℤ (pos (2 ^ length w) *ℤ k) ≡ pos (nat w) → IsFloor n (pos (2 ^ low)) y → y +ℤ (pos (2 ^ high) *ℤ k) ≡ pos (nat (drop low w))
+pub floor_dropped : (low high : ℕ) (w : List Bool) (n k y : ℤ) → length w ≡ low + high → n +ℤ (pos (2 ^ length w) *ℤ k) ≡ pos (nat w)
+    → IsFloor n (pos (2 ^ low)) y → y +ℤ (pos (2 ^ high) *ℤ k) ≡ pos (nat (drop low w))
 floor_dropped low high w n k y len e is =
     let P = 2 ^ low in
     let q = nat w / P in
     let whole = div-add-mod' (nat w) P in
-    let power : pos (2 ^ length w) ≡ pos P *ℤ pos (2 ^ high) = ap (λ m. pos (2 ^ m)) len ∙ ap pos (pow-add 2 low high) ∙ omega (arith, ints) in
-    let split : pos (2 ^ length w) *ℤ k ≡ pos P *ℤ (pos (2 ^ high) *ℤ k) = ap (λ z. z *ℤ k) power ∙ product_assoc (pos P) (pos (2 ^ high)) k in
+    let power : pos (2 ^ length w) ≡ pos P *ℤ pos (2 ^ high) = ap (λ m. pos (2 ^ m)) len ∙ ap pos (pow-add 2 low high)
+    ∙ omega (arith, ints) in
+    let split : pos (2 ^ length w) *ℤ k ≡ pos P *ℤ (pos (2 ^ high) *ℤ k) = ap (λ z. z *ℤ k) power
+    ∙ product_assoc (pos P) (pos (2 ^ high)) k in
     let floor : IsFloor n (pos P) (pos q -ℤ (pos (2 ^ high) *ℤ k)) =
-    floor_of_parts n (pos P) (pos q) (pos (2 ^ high) *ℤ k) (pos (nat w % P)) (omega (arith, ints, e, whole, split)) (omega (arith, ints)) (omega (arith, ints, mod-lt (nat w) (pow_pos low))) in
+    floor_of_parts n (pos P) (pos q) (pos (2 ^ high) *ℤ k) (pos (nat w % P)) (omega (arith, ints, e, whole, split)) (omega (arith, ints))
+    (omega (arith, ints, mod-lt (nat w) (pow_pos low))) in
     let same = one_floor (pos P) (omega (arith, ints, pow_pos low)) n y (pos q -ℤ (pos (2 ^ high) *ℤ k)) is floor in
     omega (arith, ints, same, ap pos (nat-drop low w))

@@ -10,13 +10,15 @@ use Rattle.opgen_num.specs.Formats.{Holds}
 use Rattle.opgen_num.proofs.Words.{digit-below, nat-below}
 
 -- the number of a word has the weight of the highest bit where that is 1, and is below it where it is 0
-pub highest_weight : (b : Bool) (w : List Bool) → (cond (highest (b ∷ w)) (2 ^ length w) 0 ≤ nat (b ∷ w)) × (nat (b ∷ w) < 2 ^ length w + cond (highest (b ∷ w)) (2 ^ length w) 0)
+pub highest_weight : (b : Bool) (w : List Bool) → (cond (highest (b ∷ w)) (2 ^ length w) 0 ≤ nat (b ∷ w))
+    × (nat (b ∷ w) < 2 ^ length w + cond (highest (b ∷ w)) (2 ^ length w) 0)
 highest_weight true [] = omega arith
 highest_weight false [] = omega arith
 highest_weight b (c ∷ w) = go (highest (c ∷ w)) (highest_weight c w)
   where
     go : (top : Bool) → (cond top (2 ^ length w) 0 ≤ nat (c ∷ w)) × (nat (c ∷ w) < 2 ^ length w + cond top (2 ^ length w) 0)
-        → (cond top (2 ^ suc (length w)) 0 ≤ digit b + 2 * nat (c ∷ w)) × (digit b + 2 * nat (c ∷ w) < 2 ^ suc (length w) + cond top (2 ^ suc (length w)) 0)
+        → (cond top (2 ^ suc (length w)) 0 ≤ digit b + 2 * nat (c ∷ w))
+        × (digit b + 2 * nat (c ∷ w) < 2 ^ suc (length w) + cond top (2 ^ suc (length w)) 0)
     go true h = omega (arith, two-pow-succ (length w), digit-below b)
     go false h = omega (arith, two-pow-succ (length w), digit-below b)
 
@@ -50,7 +52,8 @@ int_holds (b ∷ w) h = go (highest (b ∷ w)) (highest_weight b w)
 
     go : (top : Bool) → (cond top (2 ^ length w) 0 ≤ nat (b ∷ w)) × (nat (b ∷ w) < 2 ^ length w + cond top (2 ^ length w) 0)
         → Holds true (suc (length w)) (pos (nat (b ∷ w)) -ℤ pos (cond top (2 ^ suc (length w)) 0))
-    go true l = signed_holds (suc (length w)) _ (omega (arith, ints, two-pow-succ (length w), ap (λ i. 2 ^ i) half)) (omega (arith, ints, two-pow-succ (length w), ap (λ i. 2 ^ i) half))
+    go true l = signed_holds (suc (length w)) _ (omega (arith, ints, two-pow-succ (length w), ap (λ i. 2 ^ i) half))
+        (omega (arith, ints, two-pow-succ (length w), ap (λ i. 2 ^ i) half))
     go false l = signed_holds (suc (length w)) _ (omega (arith, ints, ap (λ i. 2 ^ i) half)) (omega (arith, ints, ap (λ i. 2 ^ i) half))
 
 -- a format holds the number of each word of its width

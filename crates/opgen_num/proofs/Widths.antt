@@ -11,7 +11,8 @@ unsigned_all a b length order holds =
     let p : 2 ^ length ≤ 2 ^ max length 1 = power_order length (max length 1) (omega arith) in
     (omega arith, (omega (arith, ints), omega (arith, ints)), (omega (arith, ints), omega (arith, ints)))
 
-unsigned_least : (a b length : ℕ) → ((g : ℕ) → b < 2 ^ g → length ≤ g) → (other : ℕ) → HoldsBoth false (pos a) (pos b) other → max length 1 ≤ other
+unsigned_least : (a b length : ℕ) → ((g : ℕ) → b < 2 ^ g → length ≤ g) → (other : ℕ) → HoldsBoth false (pos a) (pos b) other
+    → max length 1 ≤ other
 unsigned_least a b length least other all =
     let few = all.0 in
     let high = all.2.1 in
@@ -19,7 +20,8 @@ unsigned_least a b length least other all =
     let l = least other below in
     omega arith
 
-pub unsigned_width : (lo hi : ℤ) (length : ℕ) → pos 0 ≤ℤ lo → lo ≤ℤ hi → unsigned_abs hi < 2 ^ length → ((g : ℕ) → unsigned_abs hi < 2 ^ g → length ≤ g) → IsLeastWidth lo hi (max length 1)
+pub unsigned_width : (lo hi : ℤ) (length : ℕ) → pos 0 ≤ℤ lo → lo ≤ℤ hi → unsigned_abs hi < 2 ^ length
+    → ((g : ℕ) → unsigned_abs hi < 2 ^ g → length ≤ g) → IsLeastWidth lo hi (max length 1)
 unsigned_width (pos a) (pos b) length low order holds least =
     let e : is_negative (pos a) ≡ false = grind (arith, ints) in
     rw e (unsigned_all a b length (omega (arith, ints)) holds, unsigned_least a b length least)
@@ -32,7 +34,8 @@ module _ (lo hi : ℤ) (m length : ℕ) (order : lo ≤ℤ hi) where
       let p : 2 ^ length ≤ 2 ^ (max (length + 1) 2 - 1) = power_order length (max (length + 1) 2 - 1) (omega arith) in
       (omega arith, (omega (arith, ints), omega (arith, ints)), (omega (arith, ints), omega (arith, ints)))
 
-  signed_least : ((n : ℕ) → negsuc n ≤ℤ lo → hi ≤ℤ pos n → m ≤ n) → ((g : ℕ) → m < 2 ^ g → length ≤ g) → (other : ℕ) → HoldsBoth true lo hi other → max (length + 1) 2 ≤ other
+  signed_least : ((n : ℕ) → negsuc n ≤ℤ lo → hi ≤ℤ pos n → m ≤ n) → ((g : ℕ) → m < 2 ^ g → length ≤ g) → (other : ℕ)
+      → HoldsBoth true lo hi other → max (length + 1) 2 ≤ other
   signed_least magnitude least other all =
       let few = all.0 in
       let low = all.1.0 in

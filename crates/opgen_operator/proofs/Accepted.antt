@@ -24,7 +24,8 @@ use Rattle.opgen_operator.proofs.Versions.{room, shift_limit, signal_limit}
 -- its name is an allowed name of a design, of 32 bytes at most
 pub name_allowed : (spec : Spec) → IsValidSpec spec → IsTrue (is_allowed_name spec.name) × (length spec.name ≤ 32)
 name_allowed spec valid =
-    let (first, _) = and_parts (nat_le (length spec.name) 32 && is_allowed_name spec.name && not (is_taken spec.name)) (not (is_signal_name spec.name)) valid.name in
+    let (first, _) = and_parts (nat_le (length spec.name) 32 && is_allowed_name spec.name && not (is_taken spec.name))
+    (not (is_signal_name spec.name)) valid.name in
     let (both, _) = and_parts (nat_le (length spec.name) 32 && is_allowed_name spec.name) (not (is_taken spec.name)) first in
     let (short, allowed) = and_parts (nat_le (length spec.name) 32) (is_allowed_name spec.name) both in
     (allowed, leb-true (length spec.name) 32 short)
@@ -55,16 +56,29 @@ accepted spec valid =
 
 -- the outputs of sums, products and quotients have as few bits
 pub scale_fits : (spec : Spec) (s : Sum) → IsValidSpec spec → spec.op ≡ Scale s → width_of (sum_places s) + guard_bits s ≤ MAX_WIDTH
-scale_fits spec s valid e = omega (arith, valid.op.narrow (width_of (sum_places s) + guard_bits s) (ap need e), (signal_limit spec.version).1)
+scale_fits spec s valid e = omega (
+  arith,
+  valid.op.narrow (width_of (sum_places s) + guard_bits s) (ap need e),
+  (signal_limit spec.version).1,
+)
 
 pub fir_fits : (spec : Spec) (s : Sum) → IsValidSpec spec → spec.op ≡ Fir s → width_of (sum_places s) + guard_bits s ≤ MAX_WIDTH
 fir_fits spec s valid e = omega (arith, valid.op.narrow (width_of (sum_places s) + guard_bits s) (ap need e), (signal_limit spec.version).1)
 
-pub product_fits : (spec : Spec) (p : Product) → IsValidSpec spec → spec.op ≡ Multiply p → width_of (product_places p) + places_down (product_shift p) ≤ MAX_WIDTH
-product_fits spec p valid e = omega (arith, valid.op.narrow (width_of (product_places p) + places_down (product_shift p)) (ap need e), (signal_limit spec.version).1)
+pub product_fits : (spec : Spec) (p : Product) → IsValidSpec spec → spec.op ≡ Multiply p
+    → width_of (product_places p) + places_down (product_shift p) ≤ MAX_WIDTH
+product_fits spec p valid e = omega (
+  arith,
+  valid.op.narrow (width_of (product_places p) + places_down (product_shift p)) (ap need e),
+  (signal_limit spec.version).1,
+)
 
 pub quotient_fits : (spec : Spec) (p : Pair) → IsValidSpec spec → spec.op ≡ Divide p → p.a.width + places_up (pair_shift p) ≤ MAX_WIDTH
-quotient_fits spec p valid e = omega (arith, valid.op.narrow (p.a.width + places_up (pair_shift p)) (ap need e), (signal_limit spec.version).1)
+quotient_fits spec p valid e = omega (
+  arith,
+  valid.op.narrow (p.a.width + places_up (pair_shift p)) (ap need e),
+  (signal_limit spec.version).1,
+)
 
 -- sums have room in 128 bits, and no shift is above the greatest
 pub operator_room : (spec : Spec) → IsValidSpec spec → HasRoom spec.op × (shift spec.op ≤ℤ MAX_SHIFT)

@@ -28,11 +28,14 @@ use Rattle.opgen_operator.proofs.Reached.{IsWithinReach, held-within, sum_within
 use Rattle.opgen_operator.proofs.Roundings.{positive_units}
 
 -- a fraction that lies in a range is rounded into it
-rounded_within : (n m : ℤ) (below above : ℕ) (y : ℤ) → pos 0 <ℤ m → (m *ℤ neg_ℤ (pos below)) ≤ℤ n → n ≤ℤ (m *ℤ pos above) → IsWithinOne n m y → IsWithinReach below above y
+rounded_within : (n m : ℤ) (below above : ℕ) (y : ℤ) → pos 0 <ℤ m → (m *ℤ neg_ℤ (pos below)) ≤ℤ n → n ≤ℤ (m *ℤ pos above)
+    → IsWithinOne n m y → IsWithinReach below above y
 rounded_within n m below above y positive low high near =
     let (under, over) = within_one-bounds n m y near in
-    let most : y <ℤ (pos above +ℤ pos 1) = product_cancel m y (pos above +ℤ pos 1) (omega (arith, ints)) (omega (arith, products, under, high)) in
-    let least : neg_ℤ (pos below) <ℤ (y +ℤ pos 1) = product_cancel m (neg_ℤ (pos below)) (y +ℤ pos 1) (omega (arith, ints)) (omega (arith, products, over, low)) in
+    let most : y <ℤ (pos above +ℤ pos 1) = product_cancel m y (pos above +ℤ pos 1) (omega (arith, ints))
+    (omega (arith, products, under, high)) in
+    let least : neg_ℤ (pos below) <ℤ (y +ℤ pos 1) = product_cancel m (neg_ℤ (pos below)) (y +ℤ pos 1) (omega (arith, ints))
+    (omega (arith, products, over, low)) in
     (omega (arith, ints), omega (arith, ints))
 
 -- the format that covers a range holds its numbers
@@ -51,23 +54,28 @@ covered r lsb y (low, high) =
     go true width first second = (omega (arith, ints, first.0, low), omega (arith, ints, second.1, high))
     go false width first second = (omega (arith, ints, first.0, low), omega (arith, ints, second.1, high))
 
-sums_held : (s : Sum) → IsSum 256 s → (x : Recent) → ((ago : ℕ) → IsOf s.input (x ago)) → (y : ℤ) → IsGoodRatio false (exact_sum s x) y → IsOf (sum_format s) y
+sums_held : (s : Sum) → IsSum 256 s → (x : Recent) → ((ago : ℕ) → IsOf s.input (x ago)) → (y : ℤ) → IsGoodRatio false (exact_sum s x) y
+    → IsOf (sum_format s) y
 sums_held s fits x of y good =
     let span = sums_span s fits in
     let ratio = exact_sum s x in
     covered (sum_places s) s.out_lsb y
-    (rounded_within ratio.num ratio.den (sum_places s).below (sum_places s).above y (positive_units s.den (places_down (sum_shift s)) fits.positive) (span.low x of) (span.high x of) good)
+    (rounded_within ratio.num ratio.den (sum_places s).below (sum_places s).above y
+    (positive_units s.den (places_down (sum_shift s)) fits.positive) (span.low x of) (span.high x of) good)
 
-products_held : (p : Product) (a b : ℤ) → IsOf p.a a → IsOf p.b b → (y : ℤ) → IsGoodRatio false (exact_product p a b) y → IsOf (product_format p) y
+products_held : (p : Product) (a b : ℤ) → IsOf p.a a → IsOf p.b b → (y : ℤ) → IsGoodRatio false (exact_product p a b) y
+    → IsOf (product_format p) y
 products_held p a b of_a of_b y good =
     let span = products_span p in
     let ratio = exact_product p a b in
     covered (product_places p) p.out_lsb y
-    (rounded_within ratio.num ratio.den (product_places p).below (product_places p).above y (omega (arith, ints, pow_pos (places_down (product_shift p)))) (span.low (a, b) (of_a, of_b)) (span.high (a, b) (of_a, of_b)) good)
+    (rounded_within ratio.num ratio.den (product_places p).below (product_places p).above y
+    (omega (arith, ints, pow_pos (places_down (product_shift p)))) (span.low (a, b) (of_a, of_b)) (span.high (a, b) (of_a, of_b)) good)
 
 multiples_held : (input : Format) (t x : ℤ) → IsOf input x → IsOf (constant_format input t) (x *ℤ t)
 multiples_held input t x of =
-    let (low, high) = sum_within (reach_of input).below (reach_of input).above 0 (t ∷ []) (λ k. x) (λ k. held-within input.signed input.width x of) in
+    let (low, high) = sum_within (reach_of input).below (reach_of input).above 0 (t ∷ []) (λ k. x)
+    (λ k. held-within input.signed input.width x of) in
     covered (reach_over input (t ∷ [])) input.lsb (x *ℤ t) (omega (arith, ints, low), omega (arith, ints, high))
 
 unsigned_of : (signed : Bool) (width : ℕ) (n : ℤ) → signed ≡ false → Holds signed width n → (pos 0 ≤ℤ n) × (n <ℤ pos (2 ^ width))
@@ -75,14 +83,16 @@ unsigned_of false width n e (low, high) = (low, omega (arith, ints))
 unsigned_of true width n e h = cc
 
 -- a quotient is no greater than its dividend
-quotients_held : (p : Pair) → IsPair p → (a b : ℤ) → IsOf p.a a → IsOf p.b b → b ≢ pos 0 → (y : ℤ) → IsGoodRatio false (exact_quotient p a b) y → IsOf (quotient_format p) y
+quotients_held : (p : Pair) → IsPair p → (a b : ℤ) → IsOf p.a a → IsOf p.b b → b ≢ pos 0 → (y : ℤ)
+    → IsGoodRatio false (exact_quotient p a b) y → IsOf (quotient_format p) y
 quotients_held p fits a b of_a of_b some y good =
     go a b (unsigned_of p.a.signed p.a.width a fits.a_unsigned of_a) (unsigned_of p.b.signed p.b.width b fits.b_unsigned of_b) some good
   where
     s : ℕ
     s = places_up (pair_shift p)
 
-    go : (a b : ℤ) → (pos 0 ≤ℤ a) × (a <ℤ pos (2 ^ p.a.width)) → (pos 0 ≤ℤ b) × (b <ℤ pos (2 ^ p.b.width)) → b ≢ pos 0 → IsWithinOne (a *ℤ pos (2 ^ s)) b y → Holds false (p.a.width + s) y
+    go : (a b : ℤ) → (pos 0 ≤ℤ a) × (a <ℤ pos (2 ^ p.a.width)) → (pos 0 ≤ℤ b) × (b <ℤ pos (2 ^ p.b.width)) → b ≢ pos 0
+        → IsWithinOne (a *ℤ pos (2 ^ s)) b y → Holds false (p.a.width + s) y
     go (pos n) (pos zero) of_a of_b some good = absurd (some refl)
     go (pos n) (pos (suc d)) (_, small) of_b some good =
         let N = 2 ^ (p.a.width + s) in
@@ -90,18 +100,21 @@ quotients_held p fits a b of_a of_b some y good =
         let less : (n + 1) * 2 ^ s ≤ 2 ^ p.a.width * 2 ^ s = mul-le-mul_right (2 ^ s) (omega (arith, ints)) in
         let few : n * 2 ^ s ≤ N - 1 = omega (arith, less, power, pow_pos s) in
         let more : 1 * (N - 1) ≤ suc d * (N - 1) = mul-le-mul_right (N - 1) (omega arith) in
-        let (low, high) = rounded_within (pos n *ℤ pos (2 ^ s)) (pos (suc d)) 0 (N - 1) y (omega (arith, ints)) (omega (arith, ints)) (omega (arith, ints, few, more)) good in
+        let (low, high) = rounded_within (pos n *ℤ pos (2 ^ s)) (pos (suc d)) 0 (N - 1) y (omega (arith, ints)) (omega (arith, ints))
+        (omega (arith, ints, few, more)) good in
         (omega (arith, ints, low), omega (arith, ints, high, pow_pos (p.a.width + s)))
     go (negsuc n) b (low, _) of_b some good = absurd (omega (arith, ints, low))
     go (pos n) (negsuc d) of_a (low, _) some good = absurd (omega (arith, ints, low))
 
-remainders_held : (p : Pair) → IsPair p → (a b : ℤ) → IsOf p.b b → (q r : ℕ) → IsQuotient (dividend p a) (unsigned_abs b) q r → IsOf (remainder_format p) (pos r)
+remainders_held : (p : Pair) → IsPair p → (a b : ℤ) → IsOf p.b b → (q r : ℕ) → IsQuotient (dividend p a) (unsigned_abs b) q r
+    → IsOf (remainder_format p) (pos r)
 remainders_held p fits a b of_b q r (_, less) =
     let (low, high) = unsigned_of p.b.signed p.b.width b fits.b_unsigned of_b in
     (omega (arith, ints), omega (arith, ints, low, high, less))
 
 -- a root has half the bits of its square
-roots_held : (r : Single) → IsSingle r → (x : ℤ) → IsOf r.input x → (y rest : ℕ) → IsRoot (square r x) y rest → IsOf (root_format r) (pos y) × IsOf (rest_format r) (pos rest)
+roots_held : (r : Single) → IsSingle r → (x : ℤ) → IsOf r.input x → (y rest : ℕ) → IsRoot (square r x) y rest → IsOf (root_format r) (pos y)
+    × IsOf (rest_format r) (pos rest)
 roots_held r fits x of y rest (whole, few) =
     let s = places_up (root_shift r) in
     let w = r.input.width in

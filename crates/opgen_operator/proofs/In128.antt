@@ -81,18 +81,27 @@ pub exact_in128 : ExactValuesAreIn128
 exact_in128 spec valid inputs of = go spec.version spec.op valid.op of
   where
     go : (version : ℕ) (op : Operator) → IsAcceptedBy version op
-        → ((port ago : ℕ) → port < length (operator_inputs op) → IsOf (format_at (operator_inputs op) port) (inputs port ago)) → IsExactIn128 op inputs
-    go version (Scale s) is of = sum_in128 1 s (inputs 0) (omega arith) is.ranges is.fine.0 (sum_room version s is.inputs is.fine.1) (λ ago. of 0 ago (omega arith))
-    go version (Fir s) is of = sum_in128 256 s (inputs 0) (omega arith) is.ranges is.fine.0 (sum_room version s is.inputs is.fine.1) (λ ago. of 0 ago (omega arith))
+        → ((port ago : ℕ) → port < length (operator_inputs op) → IsOf (format_at (operator_inputs op) port) (inputs port ago))
+        → IsExactIn128 op inputs
+    go version (Scale s) is of = sum_in128 1 s (inputs 0) (omega arith) is.ranges is.fine.0 (sum_room version s is.inputs is.fine.1)
+        (λ ago. of 0 ago (omega arith))
+    go version (Fir s) is of = sum_in128 256 s (inputs 0) (omega arith) is.ranges is.fine.0 (sum_room version s is.inputs is.fine.1)
+        (λ ago. of 0 ago (omega arith))
     go version (Multiply p) is of =
         let narrow : product_need p ≤ 96 = omega (arith, is.narrow (product_need p) refl, (signal_limit version).1) in
-        let room = product_room p (inputs 0 0) (inputs 1 0) is.ranges (of 0 0 (omega arith)) (of 1 0 (omega arith)) (omega (arith, narrow)) in
-        let same = unsigned_abs-product (inputs 0 0 *ℤ inputs 1 0) (pos (up (product_shift p))) in
-        (small_in128 ((inputs 0 0 *ℤ inputs 1 0) *ℤ pos (up (product_shift p))) (omega (arith, room, same)), units_in128 (product_shift p) is.fine.0)
+        let room = product_room p (inputs 0 0) (inputs 1 0) is.ranges (of 0 0 (omega arith)) (of 1 0 (omega arith))
+        (omega (arith, narrow)) in
+        let same = unsigned_abs-product (inputs 0 0 *ℤ inputs 1 0) (pos (up (product_shift p))) in (
+          small_in128 ((inputs 0 0 *ℤ inputs 1 0) *ℤ pos (up (product_shift p))) (omega (arith, room, same)),
+          units_in128 (product_shift p) is.fine.0,
+        )
     go version (Divide p) is of =
         let a = number_small p.a (inputs 0 0) is.ranges.a (of 0 0 (omega arith)) in
         let b = number_small p.b (inputs 1 0) is.ranges.b (of 1 0 (omega arith)) in (
-          (raised_in128 (inputs 0 0) 48 (pair_shift p) a (omega (arith, few_up 48 (pair_shift p) is.fine.1)), small_in128 (inputs 1 0) (omega (arith, b))),
+          (
+            raised_in128 (inputs 0 0) 48 (pair_shift p) a (omega (arith, few_up 48 (pair_shift p) is.fine.1)),
+            small_in128 (inputs 1 0) (omega (arith, b)),
+          ),
           whole_in128 (unsigned_abs (inputs 0 0)) (pair_shift p) a is.fine.1,
         )
     go version (Root r) is of =
@@ -113,7 +122,8 @@ guard_small s fits = go (first_inexact s)
     chunks = omega (arith, fits.input.most)
 
     few : tables s ≤ 256 * 8
-    few = mul-le-mul {n₁ = terms s.coefs} {m₁ = div_ceil s.input.width 6} {n₂ = 256} {m₂ = 8} (omega (arith, few_terms s.coefs, fits.few)) chunks
+    few = mul-le-mul {n₁ = terms s.coefs} {m₁ = div_ceil s.input.width 6} {n₂ = 256} {m₂ = 8}
+        (omega (arith, few_terms s.coefs, fits.few)) chunks
 
     go : (o : Option ℕ) → guard_for o s ≤ 12
     go None = omega arith
@@ -127,7 +137,8 @@ entry_small s c fits small low room =
     let raised = products (unsigned_abs c) (2 ^ u) 30 u small (omega arith) in
     let plain = products (unsigned_abs c * 2 ^ u) (2 ^ (w + g)) (30 + u) (w + g) raised (omega arith) in
     let whole = products (unsigned_abs c * 2 ^ u) (2 ^ (w + g + 1)) (30 + u) (w + g + 1) raised (omega arith) in
-    let units = products (unsigned_abs s.den) (down (sum_shift s)) 30 48 (few_units (2 ^ 30) s.den fits.positive fits.small) (power_order (places_down (sum_shift s)) 48 (few_down 47 (sum_shift s) low)) in
+    let units = products (unsigned_abs s.den) (down (sum_shift s)) 30 48 (few_units (2 ^ 30) s.den fits.positive fits.small)
+    (power_order (places_down (sum_shift s)) 48 (few_down 47 (sum_shift s) low)) in
     record {
       in122 = omega (arith, plain, power_order (30 + u + (w + g)) 122 (omega (arith, room, guard_small s fits)));
       rounded = omega (arith, whole, power_order (30 + u + (w + g + 1)) 123 (omega (arith, room, guard_small s fits)), units);
@@ -139,5 +150,6 @@ entries_small s is = ⊎_elim (λ (by : IsAcceptedBy 1 (Fir s)). go 1 by) (λ (b
     go : (version : ℕ) → IsAcceptedBy version (Fir s) → (guard_bits s ≤ 12) × All (IsEntrySmall s) s.coefs
     go version by = (
       guard_small s by.ranges,
-      λ k d below. entry_small s (get_or s.coefs k d) by.ranges (by.ranges.coefs k d below) by.fine.0 (sum_room version s by.inputs by.fine.1),
+      λ k d below. entry_small s (get_or s.coefs k d) by.ranges (by.ranges.coefs k d below) by.fine.0
+          (sum_room version s by.inputs by.fine.1),
     )

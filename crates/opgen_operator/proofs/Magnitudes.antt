@@ -21,7 +21,8 @@ pub product_within : (a b : ℤ) (i j : ℕ) → unsigned_abs a ≤ 2 ^ i → un
 product_within a b i j first second = omega (arith, unsigned_abs-product a b, products (unsigned_abs a) (unsigned_abs b) i j first second)
 
 -- a number raised by some places
-pub raised_within : (n : ℤ) (i places most : ℕ) → unsigned_abs n ≤ 2 ^ i → places ≤ most → unsigned_abs (n *ℤ pos (2 ^ places)) ≤ 2 ^ (i + most)
+pub raised_within : (n : ℤ) (i places most : ℕ) → unsigned_abs n ≤ 2 ^ i → places ≤ most
+    → unsigned_abs (n *ℤ pos (2 ^ places)) ≤ 2 ^ (i + most)
 raised_within n i places most small few = product_within n (pos (2 ^ places)) i most small (power_order places most few)
 
 pub fits_small : (n : ℤ) → unsigned_abs n ≤ 2 ^ 126 → FitsSigned w128 n

@@ -16,20 +16,24 @@ length-numbered : (n : ℕ) (fs : List Format) → length (numbered n fs) ≡ le
 length-numbered n [] = refl
 length-numbered n (f ∷ fs) = ap suc (length-numbered (n + 1) fs)
 
-format_at-numbered : (n k : ℕ) (g : ℤ → Format) (ts : List ℤ) (d : ℤ) → k < length ts → format_at (numbered n (map g ts)) k ≡ g (get_or ts k d)
+format_at-numbered : (n k : ℕ) (g : ℤ → Format) (ts : List ℤ) (d : ℤ) → k < length ts → format_at (numbered n (map g ts)) k
+    ≡ g (get_or ts k d)
 format_at-numbered n k g [] d h = absurd (omega arith)
 format_at-numbered n zero g (t ∷ ts) d h = refl
 format_at-numbered n (suc k) g (t ∷ ts) d h = format_at-numbered (n + 1) k g ts d (omega arith)
 
 pub multiple-count : (m : Several) (outputs : List ℕ) → IsCycle (multiple_ports m) outputs → length outputs ≡ length m.constants
-multiple-count m outputs h = h.whole ∙ length-numbered 0 (map (constant_format m.input) m.constants) ∙ length-map m.constants (constant_format m.input)
+multiple-count m outputs h = h.whole ∙ length-numbered 0 (map (constant_format m.input) m.constants)
+    ∙ length-map m.constants (constant_format m.input)
 
-pub multiple-format : (m : Several) (k : ℕ) (d : ℤ) → k < length m.constants → format_at (multiple_ports m) k ≡ constant_format m.input (get_or m.constants k d)
+pub multiple-format : (m : Several) (k : ℕ) (d : ℤ) → k < length m.constants → format_at (multiple_ports m) k
+    ≡ constant_format m.input (get_or m.constants k d)
 multiple-format m k d h = format_at-numbered 0 k (constant_format m.input) m.constants d h
 
 pub multiple-fits : (m : Several) (outputs : List ℕ) (k : ℕ) (d : ℤ) → IsCycle (multiple_ports m) outputs → k < length m.constants
     → slice_index outputs k < 2 ^ (constant_format m.input (get_or m.constants k d)).width
-multiple-fits m outputs k d h below = subst (λ (f : Format). slice_index outputs k < 2 ^ f.width) (multiple-format m k d below) (h.fit k (omega (arith, multiple-count m outputs h)))
+multiple-fits m outputs k d h below = subst (λ (f : Format). slice_index outputs k < 2 ^ f.width) (multiple-format m k d below)
+    (h.fit k (omega (arith, multiple-count m outputs h)))
 
 pub multiple-number : (m : Several) (outputs : List ℕ) (k : ℕ) (d : ℤ) → k < length m.constants
     → output_numbers (multiple_ports m) outputs k ≡ number_of (constant_format m.input (get_or m.constants k d)) (slice_index outputs k)
@@ -37,13 +41,16 @@ multiple-number m outputs k d below = ap (λ f. number_of f (slice_index outputs
 
 -- what judges the number judges the output
 pub multiple-judged : (m : Several) (outputs : List ℕ) (k : ℕ) (d : ℤ) (exact good : Bool) (x : ℤ) → k < length m.constants
-    → (IsTrue good ↔ IsGoodRatio exact (exact_multiple (get_or m.constants k d) x) (number_of (constant_format m.input (get_or m.constants k d)) (slice_index outputs k)))
+    → (IsTrue good ↔ IsGoodRatio exact (exact_multiple (get_or m.constants k d) x)
+    (number_of (constant_format m.input (get_or m.constants k d)) (slice_index outputs k)))
     → IsTrue good ↔ IsGoodRatio exact (exact_multiple (get_or m.constants k d) x) (output_numbers (multiple_ports m) outputs k)
 multiple-judged m outputs k d exact good x below h =
-    subst (λ (y : ℤ). IsTrue good ↔ IsGoodRatio exact (exact_multiple (get_or m.constants k d) x) y) (sym (multiple-number m outputs k d below)) h
+    subst (λ (y : ℤ). IsTrue good ↔ IsGoodRatio exact (exact_multiple (get_or m.constants k d) x) y)
+    (sym (multiple-number m outputs k d below)) h
 
 -- one element more of a list
-pub each_more : (P : ℕ → ℤ → Type 0) (ts : List ℤ) (i : ℕ) → ((k : ℕ) (t : ℤ) → k < i → slice_get ts k ≡ Some t → P k t) → P i (get_or ts i (pos 0))
+pub each_more : (P : ℕ → ℤ → Type 0) (ts : List ℤ) (i : ℕ) → ((k : ℕ) (t : ℤ) → k < i → slice_get ts k ≡ Some t → P k t)
+    → P i (get_or ts i (pos 0))
     → (k : ℕ) (t : ℤ) → k < i + 1 → slice_get ts k ≡ Some t → P k t
 each_more P ts i so_far here k t below got =
     ⊎_elim

@@ -29,7 +29,8 @@ all_two : (P : PortFormat → Type 0) (p r : PortFormat) → P p → P r → All
 all_two P p r h g zero d _ = h
 all_two P p r h g (suc k) d below = all_one P r g k d (omega arith)
 
-all_numbered : (n : ℕ) (g : ℤ → Format) (ts : List ℤ) → All (λ t. (1 ≤ (g t).width) × ((g t).width ≤ 64)) ts → All (HasWidth 64) (numbered n (map g ts))
+all_numbered : (n : ℕ) (g : ℤ → Format) (ts : List ℤ) → All (λ t. (1 ≤ (g t).width) × ((g t).width ≤ 64)) ts
+    → All (HasWidth 64) (numbered n (map g ts))
 all_numbered n g [] each k d below = absurd (omega arith)
 all_numbered n g (t ∷ ts) each zero d below = each zero t (omega arith)
 all_numbered n g (t ∷ ts) each (suc k) d below = all_numbered (n + 1) g ts (λ j e h. each (suc j) e (omega arith)) k d (omega arith)
@@ -44,7 +45,8 @@ input_wide most name f fits few = (some_bits f.signed f.width fits.fewest, few)
 wider : (most : ℕ) (ports : List PortFormat) → 64 ≤ most → All (HasWidth 64) ports → All (HasWidth most) ports
 wider most ports far each k d below = let (some, few) = each k d below in (some, omega (arith, few, far))
 
-quotients_wide : (most : ℕ) (exact : Bool) (p : Pair) → 64 ≤ most → IsPair p → p.a.width + places_up (pair_shift p) ≤ most → All (HasWidth most) (quotient_ports exact p)
+quotients_wide : (most : ℕ) (exact : Bool) (p : Pair) → 64 ≤ most → IsPair p → p.a.width + places_up (pair_shift p) ≤ most
+    → All (HasWidth most) (quotient_ports exact p)
 quotients_wide most true p far fits few =
     all_two (HasWidth most) _ _ (omega (arith, some_bits p.a.signed p.a.width fits.a.fewest), few)
     (some_bits p.b.signed p.b.width fits.b.fewest, omega (arith, fits.b.most, far))
@@ -61,7 +63,10 @@ roots_wide false r fits high =
 multiples_wide : (m : Several) → IsSeveral m → All (HasWidth 64) (multiple_ports m)
 multiples_wide m fits =
     all_numbered 0 (constant_format m.input) m.constants
-    (λ k t below. (some_width (reach_over m.input (get_or m.constants k t ∷ [])), multiple_width m.input (get_or m.constants k t) fits.input (fits.constants k t below)))
+    (λ k t below. (
+      some_width (reach_over m.input (get_or m.constants k t ∷ [])),
+      multiple_width m.input (get_or m.constants k t) fits.input (fits.constants k t below),
+    ))
 
 pub inputs_wide : InputsAreWide
 inputs_wide spec valid = go (most_input spec.version) spec.op valid.op.ranges valid.op.inputs
@@ -69,17 +74,24 @@ inputs_wide spec valid = go (most_input spec.version) spec.op valid.op.ranges va
     go : (most : ℕ) (op : Operator) → IsOperator op → HasInputsWithin most op → All (HasWidth most) (operator_inputs op)
     go most (Scale s) fits few = all_one (HasWidth most) _ (input_wide most (codes "x") s.input fits.input few)
     go most (Fir s) fits few = all_one (HasWidth most) _ (input_wide most (codes "x") s.input fits.input few)
-    go most (Multiply p) fits (few, more) = all_two (HasWidth most) _ _ (input_wide most (codes "a") p.a fits.a few) (input_wide most (codes "b") p.b fits.b more)
-    go most (Divide p) fits (few, more) = all_two (HasWidth most) _ _ (input_wide most (codes "a") p.a fits.a few) (input_wide most (codes "b") p.b fits.b more)
+    go most (Multiply p) fits (few, more) = all_two (HasWidth most) _ _ (input_wide most (codes "a") p.a fits.a few)
+        (input_wide most (codes "b") p.b fits.b more)
+    go most (Divide p) fits (few, more) = all_two (HasWidth most) _ _ (input_wide most (codes "a") p.a fits.a few)
+        (input_wide most (codes "b") p.b fits.b more)
     go most (Root r) fits few = all_one (HasWidth most) _ (input_wide most (codes "x") r.input fits.input few)
     go most (Mcm m) fits few = all_one (HasWidth most) _ (input_wide most (codes "x") m.input fits.input few)
 
 pub operator_wide : (version : ℕ) (op : Operator) → IsAcceptedBy version op → All (HasWidth (most_signal version)) (operator_outputs op)
-operator_wide version (Scale s) is = all_one (HasWidth (most_signal version)) _ (some_width (sum_places s), omega (arith, is.narrow (sum_need s) refl))
-operator_wide version (Fir s) is = all_one (HasWidth (most_signal version)) _ (some_width (sum_places s), omega (arith, is.narrow (sum_need s) refl))
-operator_wide version (Multiply p) is = all_one (HasWidth (most_signal version)) _ (some_width (product_places p), omega (arith, is.narrow (product_need p) refl))
-operator_wide version (Divide p) is = quotients_wide (most_signal version) p.exact p (signal_limit version).0 is.ranges (is.narrow (p.a.width + places_up (pair_shift p)) refl)
-operator_wide version (Root r) is = wider (most_signal version) (root_ports r.exact r) (signal_limit version).0 (roots_wide r.exact r is.ranges (shift_limit version (Root r) is.fine.1))
+operator_wide version (Scale s) is = all_one (HasWidth (most_signal version)) _
+    (some_width (sum_places s), omega (arith, is.narrow (sum_need s) refl))
+operator_wide version (Fir s) is = all_one (HasWidth (most_signal version)) _
+    (some_width (sum_places s), omega (arith, is.narrow (sum_need s) refl))
+operator_wide version (Multiply p) is = all_one (HasWidth (most_signal version)) _
+    (some_width (product_places p), omega (arith, is.narrow (product_need p) refl))
+operator_wide version (Divide p) is = quotients_wide (most_signal version) p.exact p (signal_limit version).0 is.ranges
+    (is.narrow (p.a.width + places_up (pair_shift p)) refl)
+operator_wide version (Root r) is = wider (most_signal version) (root_ports r.exact r) (signal_limit version).0
+    (roots_wide r.exact r is.ranges (shift_limit version (Root r) is.fine.1))
 operator_wide version (Mcm m) is = wider (most_signal version) (multiple_ports m) (signal_limit version).0 (multiples_wide m is.ranges)
 
 pub outputs_wide : OutputsAreWide

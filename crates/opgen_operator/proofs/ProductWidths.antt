@@ -28,7 +28,8 @@ shifted-count : (n s : ℕ) → 1 ≤ n → digit_count (n * 2 ^ s) ≡ digit_co
 shifted-count n s some =
     let g = digit_count (n * 2 ^ s) in
     let power : 2 ^ (digit_count n + s) ≡ 2 ^ digit_count n * 2 ^ s = pow-add 2 (digit_count n) s in
-    let most : g ≤ digit_count n + s = count-least (n * 2 ^ s) (digit_count n + s) (omega (arith, power, mul-lt-mul_of_pos_right (count-holds n) (pow_pos s))) in
+    let most : g ≤ digit_count n + s = count-least (n * 2 ^ s) (digit_count n + s)
+    (omega (arith, power, mul-lt-mul_of_pos_right (count-holds n) (pow_pos s))) in
     let one : 1 * 2 ^ s ≤ n * 2 ^ s = mul-le-mul_right (2 ^ s) some in
     let holds = count-holds (n * 2 ^ s) in
     let few : s < g = power_cancel s g (n * 2 ^ s) (omega (arith, one)) holds in
@@ -49,7 +50,8 @@ shifted-sign (suc n) s =
     let one : 1 * 2 ^ s ≤ suc n * 2 ^ s = mul-le-mul_right (2 ^ s) (omega arith) in
     omega (arith, one, pow_pos s)
 
-pub shifted-width : (below above s : ℕ) → 1 ≤ above → below ≤ above → range_width (neg_ℤ (pos (below * 2 ^ s))) (pos (above * 2 ^ s)) ≡ range_width (neg_ℤ (pos below)) (pos above) + s
+pub shifted-width : (below above s : ℕ) → 1 ≤ above → below ≤ above → range_width (neg_ℤ (pos (below * 2 ^ s))) (pos (above * 2 ^ s))
+    ≡ range_width (neg_ℤ (pos below)) (pos above) + s
 shifted-width below above s some far =
     let one : 1 * 2 ^ s ≤ above * 2 ^ s = mul-le-mul_right (2 ^ s) some in
     let shifted = upper-width (below * 2 ^ s) (above * 2 ^ s) (omega (arith, one, pow_pos s)) (mul-le-mul_right (2 ^ s) far) in
@@ -63,7 +65,8 @@ pub record IsUpper (below above bits : ℕ) : Type 0 where
   pub width : range_width (neg_ℤ (pos below)) (pos above) ≤ bits
   pub small : above ≤ 2 ^ bits
 
-unsigned_upper : (v w : ℕ) → 1 ≤ v → 1 ≤ w → IsUpper (max (0 * (2 ^ w - 1)) ((2 ^ v - 1) * 0)) (max ((2 ^ v - 1) * (2 ^ w - 1)) (0 * 0)) (v + w)
+unsigned_upper : (v w : ℕ) → 1 ≤ v → 1 ≤ w → IsUpper (max (0 * (2 ^ w - 1)) ((2 ^ v - 1) * 0)) (max ((2 ^ v - 1) * (2 ^ w - 1)) (0 * 0))
+    (v + w)
 unsigned_upper v w one two =
     let a = 2 ^ v - 1 in
     let b = 2 ^ w - 1 in
@@ -74,7 +77,8 @@ unsigned_upper v w one two =
     let high : max (a * b) (0 * 0) ≡ a * b = omega arith in
     let power : 2 ^ (v + w) ≡ 2 ^ v * 2 ^ w = pow-add 2 v w in
     let first : a * b ≤ a * 2 ^ w = mul-le-mul_left a (omega arith) in
-    let second : (a + 1) * 2 ^ w ≤ 2 ^ v * 2 ^ w = mul-le-mul {n₁ = a + 1} {m₁ = 2 ^ w} {n₂ = 2 ^ v} {m₂ = 2 ^ w} (omega (arith, pow_pos v)) (omega arith) in
+    let second : (a + 1) * 2 ^ w ≤ 2 ^ v * 2 ^ w = mul-le-mul {n₁ = a + 1} {m₁ = 2 ^ w} {n₂ = 2 ^ v} {m₂ = 2 ^ w} (omega (arith, pow_pos v))
+    (omega arith) in
     let below : a * b < 2 ^ (v + w) = omega (arith, first, second, power, pow_pos w) in
     rw (low, high) (record {
       some = omega (arith, some);
@@ -83,22 +87,29 @@ unsigned_upper v w one two =
       small = omega (arith, below);
     })
 
-signed_upper : (v w : ℕ) → 2 ≤ v → 2 ≤ w → IsUpper (max (2 ^ (v - 1) * (2 ^ (w - 1) - 1)) ((2 ^ (v - 1) - 1) * 2 ^ (w - 1))) (max ((2 ^ (v - 1) - 1) * (2 ^ (w - 1) - 1)) (2 ^ (v - 1) * 2 ^ (w - 1))) (v + w)
+signed_upper : (v w : ℕ) → 2 ≤ v → 2 ≤ w → IsUpper (max (2 ^ (v - 1) * (2 ^ (w - 1) - 1)) ((2 ^ (v - 1) - 1) * 2 ^ (w - 1)))
+    (max ((2 ^ (v - 1) - 1) * (2 ^ (w - 1) - 1)) (2 ^ (v - 1) * 2 ^ (w - 1))) (v + w)
 signed_upper v w one two =
     let a = 2 ^ (v - 1) in
     let b = 2 ^ (w - 1) in
-    let some : 1 * 1 ≤ a * b = mul-le-mul {n₁ = 1} {m₁ = 1} {n₂ = a} {m₂ = b} (omega (arith, pow_pos (v - 1))) (omega (arith, pow_pos (w - 1))) in
+    let some : 1 * 1 ≤ a * b = mul-le-mul {n₁ = 1} {m₁ = 1} {n₂ = a} {m₂ = b} (omega (arith, pow_pos (v - 1)))
+    (omega (arith, pow_pos (w - 1))) in
     let left : a * (b - 1) ≤ a * b = mul-le-mul_left a (omega arith) in
     let right : (a - 1) * b ≤ a * b = mul-le-mul_right b (omega arith) in
     let both : (a - 1) * (b - 1) ≤ a * b = mul-le-mul {n₁ = a - 1} {m₁ = b - 1} {n₂ = a} {m₂ = b} (omega arith) (omega arith) in
     let high : max ((a - 1) * (b - 1)) (a * b) ≡ a * b = omega (arith, both) in
     let power : 2 ^ (v - 1 + (w - 1)) ≡ a * b = pow-add 2 (v - 1) (w - 1) in
-    let less : 2 ^ (v - 1 + (w - 1)) < 2 ^ (v + w - 1) = omega (arith, power_order (v - 1 + (w - 1) + 1) (v + w - 1) (omega arith), pow-add 2 (v - 1 + (w - 1)) 1, pow_pos (v - 1 + (w - 1))) in
+    let less : 2 ^ (v - 1 + (w - 1)) < 2 ^ (v + w - 1) = omega
+    (arith, power_order (v - 1 + (w - 1) + 1) (v + w - 1) (omega arith), pow-add 2 (v - 1 + (w - 1)) 1, pow_pos (v - 1 + (w - 1))) in
     let far : max (a * (b - 1)) ((a - 1) * b) ≤ a * b = omega (arith, left, right) in
     rw high (record {
       some = omega (arith, some);
       far = far;
-      width = omega (arith, upper-width (max (a * (b - 1)) ((a - 1) * b)) (a * b) (omega (arith, some)) far, count-least (a * b) (v + w - 1) (omega (arith, power, less)));
+      width = omega (
+        arith,
+        upper-width (max (a * (b - 1)) ((a - 1) * b)) (a * b) (omega (arith, some)) far,
+        count-least (a * b) (v + w - 1) (omega (arith, power, less)),
+      );
       small = omega (arith, power, less, power_order (v + w - 1) (v + w) (omega arith));
     })
 
@@ -107,8 +118,10 @@ product_upper p fits = go p.a.signed p.b.signed fits.alike fits.a.fewest fits.b.
   where
     go : (s t : Bool) → s ≡ t → fewest_bits s ≤ p.a.width → fewest_bits t ≤ p.b.width
         → IsUpper
-        (max ((reach_with s p.a.width).below * (reach_with t p.b.width).above) ((reach_with s p.a.width).above * (reach_with t p.b.width).below))
-        (max ((reach_with s p.a.width).above * (reach_with t p.b.width).above) ((reach_with s p.a.width).below * (reach_with t p.b.width).below))
+        (max ((reach_with s p.a.width).below * (reach_with t p.b.width).above)
+        ((reach_with s p.a.width).above * (reach_with t p.b.width).below))
+        (max ((reach_with s p.a.width).above * (reach_with t p.b.width).above)
+        ((reach_with s p.a.width).below * (reach_with t p.b.width).below))
         (p.a.width + p.b.width)
     go true true e few more = signed_upper p.a.width p.b.width few more
     go false false e few more = unsigned_upper p.a.width p.b.width few more
@@ -154,7 +167,8 @@ units-sign n s =
         absurd (omega (arith, one, low, some))
     go (suc n) (suc c) u d some low high = lt-ltb 0 (suc c) (omega arith) ∙ sym (lt-ltb 0 (suc n) (omega arith))
 
-pub shifted_up-width : (p : Product) → IsProduct p → pos 0 ≤ℤ product_shift p → width_of (product_places p) ≡ width_of (product_reach p) + places_up (product_shift p)
+pub shifted_up-width : (p : Product) → IsProduct p → pos 0 ≤ℤ product_shift p → width_of (product_places p)
+    ≡ width_of (product_reach p) + places_up (product_shift p)
 shifted_up-width p fits h = go (product_shift p) h
   where
     below : ℕ
@@ -163,7 +177,8 @@ shifted_up-width p fits h = go (product_shift p) h
     above : ℕ
     above = (product_reach p).above
 
-    go : (s : ℤ) → pos 0 ≤ℤ s → range_width (neg_ℤ (pos (in_units below s (pos 1)))) (pos (in_units above s (pos 1))) ≡ range_width (neg_ℤ (pos below)) (pos above) + places_up s
+    go : (s : ℤ) → pos 0 ≤ℤ s → range_width (neg_ℤ (pos (in_units below s (pos 1)))) (pos (in_units above s (pos 1)))
+        ≡ range_width (neg_ℤ (pos below)) (pos above) + places_up s
     go (pos k) h =
         let upper = product_upper p fits in
         rw (raised-units below k, raised-units above k) (shifted-width below above k upper.some upper.far)
@@ -188,7 +203,8 @@ products_width p fits =
     }
 
 -- a product that is shifted up has no more bits than its output
-pub product_room : (p : Product) (a b : ℤ) → IsProduct p → IsOf p.a a → IsOf p.b b → (product_format p).width ≤ 96 → unsigned_abs (a *ℤ b) * 2 ^ places_up (product_shift p) ≤ 2 ^ 96
+pub product_room : (p : Product) (a b : ℤ) → IsProduct p → IsOf p.a a → IsOf p.b b → (product_format p).width ≤ 96
+    → unsigned_abs (a *ℤ b) * 2 ^ places_up (product_shift p) ≤ 2 ^ 96
 product_room p a b fits of_a of_b narrow = go (product_shift p) (λ h. shifted_up-width p fits h)
   where
     upper : IsUpper (product_reach p).below (product_reach p).above (p.a.width + p.b.width)
@@ -199,23 +215,35 @@ product_room p a b fits of_a of_b narrow = go (product_shift p) (λ h. shifted_u
 
     within : unsigned_abs (a *ℤ b) ≤ above
     within =
-        let (low, high) = product_span (reach_of p.a).below (reach_of p.a).above (reach_of p.b).below (reach_of p.b).above a b (held-within p.a.signed p.a.width a of_a) (held-within p.b.signed p.b.width b of_b) in
+        let (low, high) = product_span (reach_of p.a).below (reach_of p.a).above (reach_of p.b).below (reach_of p.b).above a b
+        (held-within p.a.signed p.a.width a of_a) (held-within p.b.signed p.b.width b of_b) in
         omega (arith, ints, low, high, upper.far)
 
-    go : (s : ℤ) → (pos 0 ≤ℤ s → (product_format p).width ≡ width_of (product_reach p) + places_up s) → unsigned_abs (a *ℤ b) * 2 ^ places_up s ≤ 2 ^ 96
+    go : (s : ℤ) → (pos 0 ≤ℤ s → (product_format p).width ≡ width_of (product_reach p) + places_up s)
+        → unsigned_abs (a *ℤ b) * 2 ^ places_up s ≤ 2 ^ 96
     go (pos k) wide =
         let bits = digit_count above in
         let plain = upper-width (product_reach p).below above upper.some upper.far in
         let few : bits + k ≤ 96 = omega (arith, wide (omega (arith, ints)), narrow, plain) in
         let all = products (unsigned_abs (a *ℤ b)) (2 ^ k) bits k (omega (arith, within, count-holds above)) (omega arith) in
         omega (arith, all, power_order (bits + k) 96 few)
-    go (negsuc k) wide = omega (arith, within, upper.small, power_order (p.a.width + p.b.width) 96 (omega (arith, fits.a.most, fits.b.most)))
+    go (negsuc k) wide = omega (
+      arith,
+      within,
+      upper.small,
+      power_order (p.a.width + p.b.width) 96 (omega (
+        arith,
+        fits.a.most,
+        fits.b.most,
+      )),
+    )
 
 -- the range of the plain product
 pub reach_small : (p : Product) (n : ℕ) → IsProduct p → n ≤ 2 ^ (p.a.width + p.b.width) → n ≤ 2 ^ 120
 reach_small p n fits small = omega (arith, small, power_order (p.a.width + p.b.width) 120 (omega (arith, fits.a.most, fits.b.most)))
 
-pub not_up_bound : (p : Product) (n : ℕ) → IsProduct p → n ≤ 2 ^ (p.a.width + p.b.width) → product_shift p ≤ℤ pos 0 → n * up (product_shift p) ≤ 2 ^ 119
+pub not_up_bound : (p : Product) (n : ℕ) → IsProduct p → n ≤ 2 ^ (p.a.width + p.b.width) → product_shift p ≤ℤ pos 0
+    → n * up (product_shift p) ≤ 2 ^ 119
 not_up_bound p n fits small high = go (product_shift p) high
   where
     few : n ≤ 2 ^ 119
@@ -228,5 +256,6 @@ not_up_bound p n fits small high = go (product_shift p) high
 
 pub product_small : (p : Product) (a b : ℤ) → IsProduct p → IsOf p.a a → IsOf p.b b → unsigned_abs (a *ℤ b) ≤ 2 ^ 96
 product_small p a b fits of_a of_b =
-    let all = product_within a b p.a.width p.b.width (holds_within p.a.signed p.a.width a of_a) (holds_within p.b.signed p.b.width b of_b) in
+    let all = product_within a b p.a.width p.b.width (holds_within p.a.signed p.a.width a of_a)
+    (holds_within p.b.signed p.b.width b of_b) in
     omega (arith, all, power_order (p.a.width + p.b.width) 96 (omega (arith, fits.a.most, fits.b.most)))

@@ -19,11 +19,13 @@ use Rattle.opgen_operator.specs.Reached.{IsOf, Spans}
 abbrev pub IsWithinReach : (below above : ℕ) → ℤ → Type 0
 IsWithinReach below above n = (neg_ℤ (pos below) ≤ℤ n) × (n ≤ℤ pos above)
 
-pub held-within : (signed : Bool) (width : ℕ) (n : ℤ) → Holds signed width n → IsWithinReach (reach_with signed width).below (reach_with signed width).above n
+pub held-within : (signed : Bool) (width : ℕ) (n : ℤ) → Holds signed width n
+    → IsWithinReach (reach_with signed width).below (reach_with signed width).above n
 held-within false width n (low, high) = (omega (arith, ints), omega (arith, ints, pow_pos width))
 held-within true width n (low, high) = (omega (arith, ints), omega (arith, ints, pow_pos (width - 1)))
 
-pub within-held : (signed : Bool) (width : ℕ) (n : ℤ) → IsWithinReach (reach_with signed width).below (reach_with signed width).above n → Holds signed width n
+pub within-held : (signed : Bool) (width : ℕ) (n : ℤ) → IsWithinReach (reach_with signed width).below (reach_with signed width).above n
+    → Holds signed width n
 within-held false width n (low, high) = (omega (arith, ints), omega (arith, ints, pow_pos width))
 within-held true width n (low, high) = (omega (arith, ints), omega (arith, ints, pow_pos (width - 1)))
 
@@ -34,13 +36,15 @@ term (pos m) (pos n) below above (low, high) =
     let most : m * n ≤ above * n = mul-le-mul {n₁ = m} {m₁ = n} {n₂ = above} {m₂ = n} (omega (arith, ints)) (omega arith) in
     (omega (arith, ints), omega (arith, ints))
 term (pos m) (negsuc n) below above (low, high) =
-    let most : m * (n + 1) ≤ above * (n + 1) = mul-le-mul {n₁ = m} {m₁ = n + 1} {n₂ = above} {m₂ = n + 1} (omega (arith, ints)) (omega arith) in
+    let most : m * (n + 1) ≤ above * (n + 1) = mul-le-mul {n₁ = m} {m₁ = n + 1} {n₂ = above} {m₂ = n + 1} (omega (arith, ints))
+    (omega arith) in
     (omega (arith, ints), omega (arith, ints))
 term (negsuc m) (pos n) below above (low, high) =
     let most : (m + 1) * n ≤ below * n = mul-le-mul {n₁ = m + 1} {m₁ = n} {n₂ = below} {m₂ = n} (omega (arith, ints)) (omega arith) in
     (omega (arith, ints), omega (arith, ints))
 term (negsuc m) (negsuc n) below above (low, high) =
-    let most : (m + 1) * (n + 1) ≤ below * (n + 1) = mul-le-mul {n₁ = m + 1} {m₁ = n + 1} {n₂ = below} {m₂ = n + 1} (omega (arith, ints)) (omega arith) in
+    let most : (m + 1) * (n + 1) ≤ below * (n + 1) = mul-le-mul {n₁ = m + 1} {m₁ = n + 1} {n₂ = below} {m₂ = n + 1} (omega (arith, ints))
+    (omega arith) in
     (omega (arith, ints), omega (arith, ints))
 
 -- products with a number below 0
@@ -158,38 +162,60 @@ module _ (n : ℤ) (below above scale d : ℕ) (some : 0 < d) where
   pub least_end : n ≡ neg_ℤ (pos below) → (n *ℤ pos scale) <ℤ (pos d *ℤ (neg_ℤ (pos (div_ceil (below * scale) d)) +ℤ pos 1))
   least_end h =
       let (_, close) = ceiling (below * scale) d some in
-      omega (arith, ints, ap (λ y. y *ℤ pos scale) h, close, neg-left below scale, neg-right d (div_ceil (below * scale) d), product-sum (pos d) (neg_ℤ (pos (div_ceil (below * scale) d))) (pos 1))
+      omega (
+        arith,
+        ints,
+        ap (λ y. y *ℤ pos scale) h,
+        close,
+        neg-left below scale,
+        neg-right d (div_ceil (below * scale) d),
+        product-sum (pos d) (neg_ℤ (pos (div_ceil (below * scale) d))) (pos 1),
+      )
 
   pub greatest_end : n ≡ pos above → (pos d *ℤ (pos (div_ceil (above * scale) d) -ℤ pos 1)) <ℤ (n *ℤ pos scale)
   greatest_end h =
       let (_, close) = ceiling (above * scale) d some in
-      omega (arith, ints, ap (λ y. y *ℤ pos scale) h, close, neg-right d 1, product-sum (pos d) (pos (div_ceil (above * scale) d)) (neg_ℤ (pos 1)))
+      omega (
+        arith,
+        ints,
+        ap (λ y. y *ℤ pos scale) h,
+        close,
+        neg-right d 1,
+        product-sum (pos d) (pos (div_ceil (above * scale) d)) (neg_ℤ (pos 1)),
+      )
 
 pub sums_span : (s : Sum) → IsSum 256 s → Spans Recent (λ x. (ago : ℕ) → IsOf s.input (x ago)) (exact_sum s) (sum_places s)
 sums_span s fits = go s.den fits.positive
   where
     go : (den : ℤ) → pos 1 ≤ℤ den → Spans Recent (λ x. (ago : ℕ) → IsOf s.input (x ago))
-        (λ x. record { num = weighted s.coefs x *ℤ pos (up (sum_shift s)); den = den *ℤ pos (down (sum_shift s)) }) (in_places (sum_reach s) (sum_shift s) den)
+        (λ x. record { num = weighted s.coefs x *ℤ pos (up (sum_shift s)); den = den *ℤ pos (down (sum_shift s)) })
+        (in_places (sum_reach s) (sum_shift s) den)
     go (pos d) h =
         let f = s.input in
         let below = (reach_of f).below in
         let above = (reach_of f).above in
-        let some : 0 < d * down (sum_shift s) = mul-le-mul {n₁ = 1} {m₁ = 1} {n₂ = d} {m₂ = down (sum_shift s)} (omega (arith, ints)) (pow_pos (places_down (sum_shift s))) in
+        let some : 0 < d * down (sum_shift s) = mul-le-mul {n₁ = 1} {m₁ = 1} {n₂ = d} {m₂ = down (sum_shift s)} (omega (arith, ints))
+        (pow_pos (places_down (sum_shift s))) in
         let low : Recent = λ k. lowest below above (get_or s.coefs k (pos 0)) in
         let high : Recent = λ k. highest_for below above (get_or s.coefs k (pos 0)) in
-        let within = λ (x : Recent) (of : (ago : ℕ) → IsOf f (x ago)). sum_within below above 0 s.coefs x (λ k. held-within f.signed f.width (x k) (of k)) in
+        let within = λ (x : Recent) (of : (ago : ℕ) → IsOf f (x ago)). sum_within below above 0 s.coefs x
+        (λ k. held-within f.signed f.width (x k) (of k)) in
         record {
-          low = λ x of. low_end (weighted s.coefs x) (sum_reach s).below (sum_reach s).above (up (sum_shift s)) (d * down (sum_shift s)) some ((within x of).0);
-          high = λ x of. high_end (weighted s.coefs x) (sum_reach s).below (sum_reach s).above (up (sum_shift s)) (d * down (sum_shift s)) some ((within x of).1);
+          low = λ x of. low_end (weighted s.coefs x) (sum_reach s).below (sum_reach s).above (up (sum_shift s))
+              (d * down (sum_shift s)) some ((within x of).0);
+          high = λ x of. high_end (weighted s.coefs x) (sum_reach s).below (sum_reach s).above (up (sum_shift s))
+              (d * down (sum_shift s)) some ((within x of).1);
           least = (
             low,
             λ k. within-held f.signed f.width (low k) (lowest-within below above (get_or s.coefs k (pos 0))),
-            least_end (weighted s.coefs low) (sum_reach s).below (sum_reach s).above (up (sum_shift s)) (d * down (sum_shift s)) some (sum_lowest below above 0 s.coefs low (λ k lt. ap low (omega arith))),
+            least_end (weighted s.coefs low) (sum_reach s).below (sum_reach s).above (up (sum_shift s)) (d * down (sum_shift s)) some
+                (sum_lowest below above 0 s.coefs low (λ k lt. ap low (omega arith))),
           );
           greatest = (
             high,
             λ k. within-held f.signed f.width (high k) (highest-within below above (get_or s.coefs k (pos 0))),
-            greatest_end (weighted s.coefs high) (sum_reach s).below (sum_reach s).above (up (sum_shift s)) (d * down (sum_shift s)) some (sum_highest below above 0 s.coefs high (λ k lt. ap high (omega arith))),
+            greatest_end (weighted s.coefs high) (sum_reach s).below (sum_reach s).above (up (sum_shift s)) (d * down (sum_shift s)) some
+                (sum_highest below above 0 s.coefs high (λ k lt. ap high (omega arith))),
           );
         }
     go (negsuc d) h = absurd (omega (arith, ints))
@@ -206,13 +232,16 @@ module _ (below above under over : ℕ) where
       let most : m * n ≤ above * over = mul-le-mul {n₁ = m} {m₁ = n} {n₂ = above} {m₂ = over} (omega (arith, ints)) (omega (arith, ints)) in
       (omega (arith, ints), omega (arith, ints))
   product_span (pos m) (negsuc n) (low, high) (left, right) =
-      let most : m * (n + 1) ≤ above * under = mul-le-mul {n₁ = m} {m₁ = n + 1} {n₂ = above} {m₂ = under} (omega (arith, ints)) (omega (arith, ints)) in
+      let most : m * (n + 1) ≤ above * under = mul-le-mul {n₁ = m} {m₁ = n + 1} {n₂ = above} {m₂ = under} (omega (arith, ints))
+      (omega (arith, ints)) in
       (omega (arith, ints), omega (arith, ints))
   product_span (negsuc m) (pos n) (low, high) (left, right) =
-      let most : (m + 1) * n ≤ below * over = mul-le-mul {n₁ = m + 1} {m₁ = n} {n₂ = below} {m₂ = over} (omega (arith, ints)) (omega (arith, ints)) in
+      let most : (m + 1) * n ≤ below * over = mul-le-mul {n₁ = m + 1} {m₁ = n} {n₂ = below} {m₂ = over} (omega (arith, ints))
+      (omega (arith, ints)) in
       (omega (arith, ints), omega (arith, ints))
   product_span (negsuc m) (negsuc n) (low, high) (left, right) =
-      let most : (m + 1) * (n + 1) ≤ below * under = mul-le-mul {n₁ = m + 1} {m₁ = n + 1} {n₂ = below} {m₂ = under} (omega (arith, ints)) (omega (arith, ints)) in
+      let most : (m + 1) * (n + 1) ≤ below * under = mul-le-mul {n₁ = m + 1} {m₁ = n + 1} {n₂ = below} {m₂ = under} (omega (arith, ints))
+      (omega (arith, ints)) in
       (omega (arith, ints), omega (arith, ints))
 
   abbrev IsProductOf : ℤ → Type 0
@@ -265,7 +294,8 @@ products_span p =
     let d = down (product_shift p) in
     let some : 0 < d = pow_pos (places_down (product_shift p)) in
     let within = λ (x : ℤ × ℤ) (of : IsOf p.a x.0 × IsOf p.b x.1).
-    product_span a.below a.above b.below b.above x.0 x.1 (held-within p.a.signed p.a.width x.0 of.0) (held-within p.b.signed p.b.width x.1 of.1) in
+    product_span a.below a.above b.below b.above x.0 x.1 (held-within p.a.signed p.a.width x.0 of.0)
+    (held-within p.b.signed p.b.width x.1 of.1) in
     let lowest = product_lowest a.below a.above b.below b.above in
     let highest = product_highest a.below a.above b.below b.above in
     let of : (x : ℤ × ℤ) → IsWithinReach a.below a.above x.0 × IsWithinReach b.below b.above x.1 → IsOf p.a x.0 × IsOf p.b x.1 = λ x h.

@@ -6,14 +6,16 @@ use Rattle.std.proofs.lemmas.Nat.{pow_pos}
 use Rattle.opgen_num.specs.Rounding.{IsGoodLinear, IsGoodRoot, IsQuotient, IsRoot}
 use Rattle.opgen_operator.proofs.Bounds.{some_product}
 
-pub good-along : (b exact : Bool) (n n' m m' y y' : ℤ) → n ≡ n' → m ≡ m' → y ≡ y' → (IsTrue b ↔ IsGoodLinear n m y exact) → IsTrue b ↔ IsGoodLinear n' m' y' exact
+pub good-along : (b exact : Bool) (n n' m m' y y' : ℤ) → n ≡ n' → m ≡ m' → y ≡ y' → (IsTrue b ↔ IsGoodLinear n m y exact)
+    → IsTrue b ↔ IsGoodLinear n' m' y' exact
 good-along b exact n n' m m' y y' num den out h = rw (num, den, out) at h
 
 pub positive_units : (d : ℤ) (k : ℕ) → pos 1 ≤ℤ d → pos 0 <ℤ (d *ℤ pos (2 ^ k))
 positive_units (pos d) k h = omega (arith, ints, some_product d (2 ^ k) (omega (arith, ints)) (pow_pos k))
 positive_units (negsuc d) k h = absurd (omega (arith, ints))
 
-pub quotient-along : (a : Bool) (n n' b b' q q' r r' : ℕ) → n ≡ n' → b ≡ b' → q ≡ q' → r ≡ r' → (IsTrue a ↔ IsQuotient n b q r) → IsTrue a ↔ IsQuotient n' b' q' r'
+pub quotient-along : (a : Bool) (n n' b b' q q' r r' : ℕ) → n ≡ n' → b ≡ b' → q ≡ q' → r ≡ r' → (IsTrue a ↔ IsQuotient n b q r)
+    → IsTrue a ↔ IsQuotient n' b' q' r'
 quotient-along a n n' b b' q q' r r' en eb eq er h = rw (en, eb, eq, er) at h
 
 pub root-along : (a : Bool) (n n' y y' r r' : ℕ) → n ≡ n' → y ≡ y' → r ≡ r' → (IsTrue a ↔ IsRoot n y r) → IsTrue a ↔ IsRoot n' y' r'

@@ -44,7 +44,8 @@ shift_limit version (Mcm m) h = h
 pub sum_room : (version : ℕ) (s : Sum) → s.input.width ≤ most_input version → sum_shift s ≤ℤ most_sum_shift version → HasSumRoom s
 sum_room version s few high = go (version == 1) few high
   where
-    go : (b : Bool) → s.input.width ≤ (if b then 32 else 48) → sum_shift s ≤ℤ (if b then pos 48 else pos 32) → s.input.width + places_up (sum_shift s) ≤ 80
+    go : (b : Bool) → s.input.width ≤ (if b then 32 else 48) → sum_shift s ≤ℤ (if b then pos 48 else pos 32)
+        → s.input.width + places_up (sum_shift s) ≤ 80
     go true few high = omega (arith, few_up 48 (sum_shift s) high)
     go false few high = omega (arith, few_up 32 (sum_shift s) high)
 

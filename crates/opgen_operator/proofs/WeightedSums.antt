@@ -18,7 +18,8 @@ pub sum_step : (total term whole : ℤ) (ago i : ℕ) (coefs : List ℤ) (x : Re
     → (total +ℤ weighted_from ago (drop i coefs) x) ≡ whole → ((total +ℤ term) +ℤ weighted_from (ago + 1) (drop (i + 1) coefs) x) ≡ whole
 sum_step total term whole ago i coefs x h e so_far = omega (arith, ints, weighted-step ago i coefs x h)
 
-pub bound_step : (total term : ℤ) (i most : ℕ) → unsigned_abs total ≤ i * most → unsigned_abs term ≤ most → unsigned_abs (total +ℤ term) ≤ (i + 1) * most
+pub bound_step : (total term : ℤ) (i most : ℕ) → unsigned_abs total ≤ i * most → unsigned_abs term ≤ most
+    → unsigned_abs (total +ℤ term) ≤ (i + 1) * most
 bound_step total term i most h g = omega (arith, ints)
 
 -- a sum of up to 256 terms, each of an input of a width and a coefficient
@@ -29,4 +30,9 @@ taps_bound n count w h few =
     omega (arith, h, most, power)
 
 pub sum_small : (n i w : ℕ) {count : ℕ} → n ≤ (i + 1) * 2 ^ (w + 30) → i < count → count ≤ 256 → w ≤ 48 → n ≤ 2 ^ 126
-sum_small n i w h here few narrow = omega (arith, taps_bound n (i + 1) w h (omega (arith, here, few)), power_order (w + 38) 126 (omega (arith, narrow)))
+sum_small n i w h here few narrow = omega (
+  arith,
+  taps_bound n (i + 1) w h (omega (arith, here, few)),
+  power_order (w + 38) 126
+      (omega (arith, narrow)),
+)

@@ -16,9 +16,17 @@ pub width_within : (below above k : ℕ) → below < 2 ^ k → above < 2 ^ k →
 width_within zero above k low high = omega (arith, count-least above k high)
 width_within (suc a) above k low high = omega (arith, count-least (max a above) k (omega arith))
 
-reach_small : (signed : Bool) (width : ℕ) → width ≤ 48 → ((reach_with signed width).below ≤ 2 ^ 48) × ((reach_with signed width).above ≤ 2 ^ 48)
+reach_small : (signed : Bool) (width : ℕ) → width ≤ 48 → ((reach_with signed width).below ≤ 2 ^ 48)
+    × ((reach_with signed width).above ≤ 2 ^ 48)
 reach_small false width few = (omega arith, omega (arith, power_order width 48 few))
-reach_small true width few = (omega (arith, power_order (width - 1) 48 (omega arith)), omega (arith, power_order (width - 1) 48 (omega arith)))
+reach_small true width few = (
+  omega (arith, power_order (width - 1) 48 (omega arith)),
+  omega (
+    arith,
+    power_order (width - 1) 48
+        (omega arith),
+  ),
+)
 
 multiple_small : (n reach : ℕ) → n ≤ 2047 → reach ≤ 2 ^ 48 → n * reach < 2 ^ 60
 multiple_small n reach few small = omega (arith, products n reach 11 48 (omega arith) small)

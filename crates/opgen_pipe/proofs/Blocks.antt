@@ -63,7 +63,8 @@ module _ (count : ℕ → ℕ) where
         ∙ block_on (a + 1) ns (long_rest a x ns long) j k (m - length (f a x)) n h (subst (λ i. k ≤ count i) at l) r
         ∙ ap (λ i. slice_get (f i n) k) (sym at)
 
-    length-all_on : (a : ℕ) (ns : List Node) → AreLong a ns → length (all_of f a ns) + signals_before count a ≡ signals_before count (a + length ns)
+    length-all_on : (a : ℕ) (ns : List Node) → AreLong a ns → length (all_of f a ns) + signals_before count a
+        ≡ signals_before count (a + length ns)
     length-all_on a [] long = let e : a + 0 ≡ a = omega arith in omega (arith, ap (signals_before count) e)
     length-all_on a (x ∷ ns) long =
         let at : a + length (x ∷ ns) ≡ a + 1 + length ns = omega arith in
@@ -113,14 +114,16 @@ module _ (count : ℕ → ℕ) where
               }
         ]
 
-module _ (count : ℕ → ℕ) {X : Type 0} (f : ℕ → Node → List X) (ns : List Node) (long : (i : ℕ) (n : Node) → slice_get ns i ≡ Some n → length (f i n) ≡ 1 + count i) where
+module _ (count : ℕ → ℕ) {X : Type 0} (f : ℕ → Node → List X) (ns : List Node)
+    (long : (i : ℕ) (n : Node) → slice_get ns i ≡ Some n → length (f i n) ≡ 1 + count i) where
   from_zero : (i : ℕ) → 0 + i ≡ i
   from_zero i = omega arith
 
   all_long : AreLong count f 0 ns
   all_long j n h = subst (λ i. length (f i n) ≡ 1 + count i) (sym (from_zero j)) (long j n h)
 
-  pub block : (i k : ℕ) (n : Node) → slice_get ns i ≡ Some n → k ≤ count i → slice_get (all_of f 0 ns) (signals_before count i + k) ≡ slice_get (f i n) k
+  pub block : (i k : ℕ) (n : Node) → slice_get ns i ≡ Some n → k ≤ count i → slice_get (all_of f 0 ns) (signals_before count i + k)
+      ≡ slice_get (f i n) k
   block i k n h l =
       block_on count f 0 ns all_long i k (signals_before count i + k) n h (subst (λ j. k ≤ count j) (sym (from_zero i)) l)
       (omega (arith, ap (signals_before count) (from_zero i)))
@@ -129,7 +132,8 @@ module _ (count : ℕ → ℕ) {X : Type 0} (f : ℕ → Node → List X) (ns : 
   pub length-all : length (all_of f 0 ns) ≡ signals_before count (length ns)
   length-all = omega (arith, length-all_on count f 0 ns all_long, ap (signals_before count) (from_zero (length ns)))
 
-  pub origin : (m : ℕ) → m < length (all_of f 0 ns) → (i : ℕ) × (k : ℕ) × (n : Node) × (slice_get ns i ≡ Some n) × (k ≤ count i) × (m ≡ signals_before count i + k)
+  pub origin : (m : ℕ) → m < length (all_of f 0 ns) → (i : ℕ) × (k : ℕ) × (n : Node) × (slice_get ns i ≡ Some n) × (k ≤ count i)
+      × (m ≡ signals_before count i + k)
   origin m l =
       let o = origin_on count f 0 ns all_long m l in (
         o.node,

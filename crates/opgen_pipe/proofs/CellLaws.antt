@@ -42,13 +42,16 @@ all-wide net valid ws e =
     All-same IsTableWidth ws (widths net.nodes) e (
     λ i d l.
     let x = are_widths net.nodes valid.nodes i (omega (arith, l, length-widths net.nodes)) in
-    let same : get_or (widths net.nodes) i d ≡ slice_index (widths net.nodes) i = sym (get_or_from_slice_get (widths net.nodes) i (get_or (widths net.nodes) i d) 0 (slice_get-get_or (widths net.nodes) i d l)) in
+    let same : get_or (widths net.nodes) i d ≡ slice_index (widths net.nodes) i = sym (get_or_from_slice_get (widths net.nodes) i
+    (get_or (widths net.nodes) i d) 0 (slice_get-get_or (widths net.nodes) i d l)) in
     subst IsTableWidth (sym same) (x.0, omega (arith, x.1))
     )
 
-pub node-stands : (net : Net) → IsValid net → (ws : List ℕ) → ws ≡ widths net.nodes → (nodes : List Node) → nodes ≡ net.nodes → (i : ℕ) (n : Node) → i < length nodes → n ≡ get_or nodes i n → MayStand ws n
+pub node-stands : (net : Net) → IsValid net → (ws : List ℕ) → ws ≡ widths net.nodes → (nodes : List Node) → nodes ≡ net.nodes
+    → (i : ℕ) (n : Node) → i < length nodes → n ≡ get_or nodes i n → MayStand ws n
 node-stands net valid ws e nodes f i n l g =
-    subst (λ vs. MayStand vs n) (sym e) (may_stand net.nodes valid.nodes i n (ap (λ ns. slice_get ns i) (sym f) ∙ slice_get_read nodes (length nodes) i n refl l g))
+    subst (λ vs. MayStand vs n) (sym e) (may_stand net.nodes valid.nodes i n (ap (λ ns. slice_get ns i) (sym f) ∙ slice_get_read nodes
+    (length nodes) i n refl l g))
 
 some-list : (o : Option Cell) → IfSome o (λ c. IsTableWidth c.width) → All (λ c. IsTableWidth c.width) (option_to_list o)
 some-list None h = All-nil (λ c. IsTableWidth c.width)
@@ -73,14 +76,16 @@ module _ (net : Net) (valid : IsValid net) (s : Schedule) where
       let own = some-list (cell_of ws n) (cell-wide ws all n (may_stand net.nodes valid.nodes a n here)) in
       let w : IsTableWidth (slice_index ws a) = all a 0 (omega (arith, slice_get_within net.nodes a n here, length-widths net.nodes)) in
       All-append (λ c. IsTableWidth c.width) (f a n) (all_of f (a + 1) ns)
-      (All-append (λ c. IsTableWidth c.width) (option_to_list (cell_of ws n)) (replicate (copies net s a) (register_of (slice_index ws a))) own
+      (All-append (λ c. IsTableWidth c.width) (option_to_list (cell_of ws n))
+      (replicate (copies net s a) (register_of (slice_index ws a))) own
       (All-replicate (λ c. IsTableWidth c.width) (copies net s a) (register_of (slice_index ws a)) w))
       (cells-wide_on (a + 1) ns (λ j m g. let x : a + 1 + j ≡ a + suc j = omega arith in ap (slice_get net.nodes) x ∙ r (suc j) m g))
 
   pub cells-wide : All (λ c. IsTableWidth c.width) (design_cells net s)
   cells-wide = cells-wide_on 0 net.nodes (λ j n h. let e : 0 + j ≡ j = omega arith in ap (slice_get net.nodes) e ∙ h)
 
-  cells-few_on : (a : ℕ) (ns : List Node) → length (all_of (node_cells (widths net.nodes) (copies net s)) a ns) + signals_before (copies net s) a ≤ signals_before (copies net s) (a + length ns)
+  cells-few_on : (a : ℕ) (ns : List Node) → length (all_of (node_cells (widths net.nodes) (copies net s)) a ns) + signals_before
+      (copies net s) a ≤ signals_before (copies net s) (a + length ns)
   cells-few_on a [] = let e : a + 0 ≡ a = omega arith in omega (arith, ap (signals_before (copies net s)) e)
   cells-few_on a (n ∷ ns) =
       let ws = widths net.nodes in
@@ -99,10 +104,16 @@ module _ (net : Net) (valid : IsValid net) (s : Schedule) where
       )
 
   pub cells-few : length (design_cells net s) ≤ signal_count net s
-  cells-few = let e : 0 + length net.nodes ≡ length net.nodes = omega arith in omega (arith, cells-few_on 0 net.nodes, ap (signals_before (copies net s)) e)
+  cells-few = let e : 0 + length net.nodes ≡ length net.nodes = omega arith in omega (
+    arith,
+    cells-few_on 0 net.nodes,
+    ap (signals_before
+        (copies net s)) e,
+  )
 
 -- their bits are so many at most
-pub width_sum-most : (cells : List Cell) → All (λ c. IsTableWidth c.width) cells → (class : Class) → width_sum cells class ≤ 128 * length cells
+pub width_sum-most : (cells : List Cell) → All (λ c. IsTableWidth c.width) cells → (class : Class)
+    → width_sum cells class ≤ 128 * length cells
 width_sum-most [] h class = omega arith
 width_sum-most (c ∷ cs) h class =
     let P : Cell → Type 0 = λ c. IsTableWidth c.width in
@@ -115,7 +126,8 @@ width_sum-most (c ∷ cs) h class =
     one false l = omega arith
 
 -- so a ledger of them is their sum, which does not come near its end
-module _ (net : Net) (valid : IsValid net) (s : Schedule) (few : signal_count net s ≤ 65536) (cells : List Cell) (are : cells ≡ design_cells net s) (l : Ledger) (is : l ≡ ledger_of cells) where
+module _ (net : Net) (valid : IsValid net) (s : Schedule) (few : signal_count net s ≤ 65536) (cells : List Cell)
+    (are : cells ≡ design_cells net s) (l : Ledger) (is : l ≡ ledger_of cells) where
   pub ledger-whole : (class : Class) → l class ≡ width_sum (design_cells net s) class
   ledger-whole class =
       let all = design_cells net s in

@@ -28,10 +28,12 @@ module _ (s : Schedule) (c : ℕ) (P : ℕ → Type 0) where
   each [] f = All-nil P
   each (k ∷ ks) f =
       All-cons P k ks
-      (f k (let e : (if nat_eq k k then c - (s k).cycle else 0) ≡ c - (s k).cycle = ap (λ b. if b then c - (s k).cycle else 0) (eqb_same k) in omega (arith, e)))
+      (f k (let e : (if nat_eq k k then c - (s k).cycle else 0)
+      ≡ c - (s k).cycle = ap (λ b. if b then c - (s k).cycle else 0) (eqb_same k) in omega (arith, e)))
       (each ks (λ j h. f j (omega (arith, h))))
 
-one_at : (s : Schedule) (ns : List Node) (i m j : ℕ) (n : Node) → slice_get ns m ≡ Some n → copy_read s (s (i + m)).cycle j (reads_of n) ≤ copy_read_by s i j ns
+one_at : (s : Schedule) (ns : List Node) (i m j : ℕ) (n : Node) → slice_get ns m ≡ Some n
+    → copy_read s (s (i + m)).cycle j (reads_of n) ≤ copy_read_by s i j ns
 one_at s [] i m j n h = absurd (cc)
 one_at s (o ∷ ns) i zero j n h =
     let is : o ≡ n = cc in
@@ -41,10 +43,12 @@ one_at s (o ∷ ns) i zero j n h =
     omega (arith, same)
 one_at s (o ∷ ns) i (suc m) j n h =
     let e : i + suc m ≡ i + 1 + m = omega arith in
-    let same : copy_read s (s (i + suc m)).cycle j (reads_of n) ≡ copy_read s (s (i + 1 + m)).cycle j (reads_of n) = ap (λ x. copy_read s (s x).cycle j (reads_of n)) e in
+    let same : copy_read s (s (i + suc m)).cycle j (reads_of n)
+    ≡ copy_read s (s (i + 1 + m)).cycle j (reads_of n) = ap (λ x. copy_read s (s x).cycle j (reads_of n)) e in
     omega (arith, same, one_at s ns (i + 1) m j n h)
 
-not_later : (nodes : List Node) (s : Schedule) (os : List Output) → All (λ o. is_constant_at nodes o.from.node ≡ false → (s o.from.node).cycle ≤ latency nodes s os) os
+not_later : (nodes : List Node) (s : Schedule) (os : List Output)
+    → All (λ o. is_constant_at nodes o.from.node ≡ false → (s o.from.node).cycle ≤ latency nodes s os) os
 not_later nodes s [] = All-nil (λ o. is_constant_at nodes o.from.node ≡ false → (s o.from.node).cycle ≤ 0)
 not_later nodes s (o ∷ os) =
     let l = latency nodes s (o ∷ os) in
@@ -59,7 +63,8 @@ module _ (net : Net) (s : Schedule) where
   ps = standings net s
 
   pub standing-is : (i : ℕ) (n : Node) → slice_get net.nodes i ≡ Some n → standing_at (standings net s) i ≡ standing_of net s i n
-  standing-is i n h = get_or_from_slice_get (standings net s) i (standing_of net s i n) nowhere (get-each (standing_of net s) net.nodes i n h)
+  standing-is i n h = get_or_from_slice_get (standings net s) i (standing_of net s i n) nowhere
+      (get-each (standing_of net s) net.nodes i n h)
 
   pub node_there : (i : ℕ) → i < length net.nodes → slice_get net.nodes i ≡ Some (get_or net.nodes i (Delay 0))
   node_there i l = slice_get-get_or net.nodes i (Delay 0) l
@@ -102,10 +107,12 @@ module _ (net : Net) (s : Schedule) where
             }
       ]
 
-  live : (j : ℕ) → is_constant_at net.nodes j ≡ false → copies net s j ≡ max (copy_read_by s 0 j net.nodes) (copy_read s (net_latency net s) j (output_nodes net))
+  live : (j : ℕ) → is_constant_at net.nodes j ≡ false → copies net s j
+      ≡ max (copy_read_by s 0 j net.nodes) (copy_read s (net_latency net s) j (output_nodes net))
   live j e = ap (λ b. if b then 0 else max (copy_read_by s 0 j net.nodes) (copy_read s (net_latency net s) j (output_nodes net))) e
 
-  nodes_copied : (i : ℕ) (n : Node) → slice_get net.nodes i ≡ Some n → All (λ j. is_constant_at net.nodes j ≡ false → (s i).cycle ≤ (s j).cycle + copies net s j) (reads_of n)
+  nodes_copied : (i : ℕ) (n : Node) → slice_get net.nodes i ≡ Some n
+      → All (λ j. is_constant_at net.nodes j ≡ false → (s i).cycle ≤ (s j).cycle + copies net s j) (reads_of n)
   nodes_copied i n h =
       each s (s i).cycle (λ j. is_constant_at net.nodes j ≡ false → (s i).cycle ≤ (s j).cycle + copies net s j) (reads_of n)
       (
@@ -115,17 +122,20 @@ module _ (net : Net) (s : Schedule) where
 
   outputs_copied : All (λ j. is_constant_at net.nodes j ≡ false → net_latency net s ≤ (s j).cycle + copies net s j) (output_nodes net)
   outputs_copied =
-      each s (net_latency net s) (λ j. is_constant_at net.nodes j ≡ false → net_latency net s ≤ (s j).cycle + copies net s j) (output_nodes net)
+      each s (net_latency net s) (λ j. is_constant_at net.nodes j ≡ false → net_latency net s ≤ (s j).cycle + copies net s j)
+      (output_nodes net)
       (λ j a e. omega (arith, a, live j e))
 
   module _ (delays : List ℕ) (setup period : ℕ) (valid : IsValid net) (fits : Fits net.nodes delays setup period s) where
-    early : (i : ℕ) (n : Node) → FitsAt net.nodes setup period s (slice_index delays i) i n → All (λ j. is_constant_at net.nodes j ≡ false → (s j).cycle ≤ (s i).cycle) (reads_of n)
+    early : (i : ℕ) (n : Node) → FitsAt net.nodes setup period s (slice_index delays i) i n
+        → All (λ j. is_constant_at net.nodes j ≡ false → (s j).cycle ≤ (s i).cycle) (reads_of n)
     early i (Input port w) f = All-nil (λ j. is_constant_at net.nodes j ≡ false → (s j).cycle ≤ (s i).cycle)
     early i (Constant w) f = All-nil (λ j. is_constant_at net.nodes j ≡ false → (s j).cycle ≤ (s i).cycle)
     early i (Cells class w x) f = λ k d l e. (f.operands k d l e).0
     early i (Choice on one other) f = λ k d l e. (f.operands k d l e).0
     early i (Table address rows) f = λ k d l e. (f.operands k d l e).0
-    early i (Delay of) f = let P : ℕ → Type 0 = λ j. is_constant_at net.nodes j ≡ false → (s j).cycle ≤ (s i).cycle in All-cons P of [] f.1 (All-nil P)
+    early i (Delay of) f = let P : ℕ → Type 0 = λ j. is_constant_at net.nodes j ≡ false
+        → (s j).cycle ≤ (s i).cycle in All-cons P of [] f.1 (All-nil P)
 
     -- what a node reads stands before it, with a copy for its cycle
     pub reads_in : (i : ℕ) (n : Node) → slice_get net.nodes i ≡ Some n → All (λ j. (j < i) × ReadIn (s i).cycle j) (reads_of n)
@@ -136,13 +146,17 @@ module _ (net : Net) (s : Schedule) where
         λ k d l. (b k d l, λ e. (a k d l e, c k d l e))
 
     -- and so does what an output reads for the latency
-    pub output_reads_in : (place : ℕ) (o : Output) → slice_get net.outputs place ≡ Some o → (o.from.node < length net.nodes) × ReadIn (net_latency net s) o.from.node
+    pub output_reads_in : (place : ℕ) (o : Output) → slice_get net.outputs place ≡ Some o → (o.from.node < length net.nodes)
+        × ReadIn (net_latency net s) o.from.node
     output_reads_in place o h =
         let l = slice_get_within net.outputs place o h in
         let is : get_or net.outputs place o ≡ o = get_or_from_slice_get net.outputs place o o h in
-        let lies = subst (λ x. (x.from.low ≤ x.from.high) × (x.from.high < slice_index (widths net.nodes) x.from.node)) is (valid.outputs place o l) in
-        let a = subst (λ x. is_constant_at net.nodes x.from.node ≡ false → (s x.from.node).cycle ≤ net_latency net s) is (not_later net.nodes s net.outputs place o l) in
+        let lies = subst (λ x. (x.from.low ≤ x.from.high) × (x.from.high < slice_index (widths net.nodes) x.from.node)) is
+        (valid.outputs place o l) in
+        let a = subst (λ x. is_constant_at net.nodes x.from.node ≡ false → (s x.from.node).cycle ≤ net_latency net s) is
+        (not_later net.nodes s net.outputs place o l) in
         let node : slice_get (output_nodes net) place ≡ Some o.from.node = get-mapped (λ o. o.from.node) net.outputs place o h in
         let c = subst (λ j. is_constant_at net.nodes j ≡ false → net_latency net s ≤ (s j).cycle + copies net s j)
-        (get_or_from_slice_get (output_nodes net) place o.from.node 0 node) (outputs_copied place 0 (slice_get_within (output_nodes net) place o.from.node node)) in
+        (get_or_from_slice_get (output_nodes net) place o.from.node 0 node)
+        (outputs_copied place 0 (slice_get_within (output_nodes net) place o.from.node node)) in
         (omega (arith, lies_within (widths net.nodes) o.from lies, length-widths net.nodes), λ e. (a e, c e))

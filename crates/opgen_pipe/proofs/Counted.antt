@@ -56,6 +56,7 @@ module _ (enabled : EnabledCyclesAreRuns) (any : AnyCyclesAreRuns) (called : Lis
 
 pub follows-flow : EnabledCyclesAreRuns → AnyCyclesAreRuns → RunFollowsFlow
 follows-flow enabled any called true net delays setup period s valid fits inputs vs r u v h =
-    run-follows called true net s delays setup period valid fits (marked (ones_at 0 vs) inputs) (marked (ones_at 0 vs) vs) (counted-run enabled any called net s inputs vs r) u v h
+    run-follows called true net s delays setup period valid fits (marked (ones_at 0 vs) inputs) (marked (ones_at 0 vs) vs)
+    (counted-run enabled any called net s inputs vs r) u v h
 follows-flow enabled any called false net delays setup period s valid fits inputs vs r u v h =
     run-follows called false net s delays setup period valid fits inputs vs r u v h

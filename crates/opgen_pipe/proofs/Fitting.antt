@@ -34,15 +34,24 @@ early_at m slots h i =
       | inr l ↦ omega (arith, ap (λ p. p.cycle) (get_or_past slots i start l))
     ]
 
-pub standings-small : (net : Net) (slots : List Slot) → AreSlots net slots → signal_count net (slot_at slots) ≤ 2 ^ 32 → AreSmall (standings net (slot_at slots))
+pub standings-small : (net : Net) (slots : List Slot) → AreSlots net slots → signal_count net (slot_at slots) ≤ 2 ^ 32
+    → AreSmall (standings net (slot_at slots))
 standings-small net slots are few k d l =
     let s = slot_at slots in
     let there : k < length net.nodes = omega (arith, l, length-standings net s) in
     let n = get_or net.nodes k (Delay 0) in
     let o = standing_of net s k n in
     let is : get_or (standings net s) k d ≡ o =
-    get_or_from_slice_get (standings net s) k o d (get-each (standing_of net s) net.nodes k n (slice_get-get_or net.nodes k (Delay 0) there)) in
-    subst IsSmall (sym is) (early_at (2 ^ 32) slots are.early k, omega (arith, before-within (copies net s) k (length net.nodes) there, few))
+    get_or_from_slice_get (standings net s) k o d
+    (get-each (standing_of net s) net.nodes k n (slice_get-get_or net.nodes k (Delay 0) there)) in
+    subst IsSmall (sym is) (
+      early_at (2 ^ 32) slots are.early k,
+      omega (
+        arith,
+        before-within (copies net s) k (length net.nodes) there,
+        few,
+      ),
+    )
 
 pub standings-widths : (net : Net) (s : Schedule) → map (λ p. p.width) (standings net s) ≡ widths net.nodes
 standings-widths net s =
@@ -53,28 +62,34 @@ standings-widths net s =
     let there : i < length net.nodes = omega (arith, l, long) in
     let n = get_or net.nodes i (Delay 0) in
     get_or_from_slice_get (map (λ p. p.width) ps) i (slice_index (widths net.nodes) i) 0
-    (get-mapped (λ p. p.width) ps i (standing_of net s i n) (get-each (standing_of net s) net.nodes i n (slice_get-get_or net.nodes i (Delay 0) there)))
+    (get-mapped (λ p. p.width) ps i (standing_of net s i n)
+    (get-each (standing_of net s) net.nodes i n (slice_get-get_or net.nodes i (Delay 0) there)))
     )
 
-pub nodes-stand : (net : Net) (s : Schedule) → IsValid net → (ps : List Standing) → ps ≡ standings net s → All (MayStand (map (λ p. p.width) ps)) net.nodes
+pub nodes-stand : (net : Net) (s : Schedule) → IsValid net → (ps : List Standing) → ps ≡ standings net s
+    → All (MayStand (map (λ p. p.width) ps)) net.nodes
 nodes-stand net s valid ps e =
     subst (λ ws. All (MayStand ws) net.nodes) (sym (ap (map (λ p. p.width)) e ∙ standings-widths net s)) (all_stand net.nodes valid.nodes)
 
-pub latency-early : (m : ℕ) (nodes : List Node) (slots : List Slot) → All (λ p. p.cycle ≤ m) slots → (os : List Output) → latency nodes (slot_at slots) os ≤ m
+pub latency-early : (m : ℕ) (nodes : List Node) (slots : List Slot) → All (λ p. p.cycle ≤ m) slots → (os : List Output)
+    → latency nodes (slot_at slots) os ≤ m
 latency-early m nodes slots h [] = omega arith
 latency-early m nodes slots h (o ∷ os) = by (is_constant_at nodes o.from.node) (latency-early m nodes slots h os)
   where
-    by : (b : Bool) → latency nodes (slot_at slots) os ≤ m → max (if b then 0 else (slot_at slots o.from.node).cycle) (latency nodes (slot_at slots) os) ≤ m
+    by : (b : Bool) → latency nodes (slot_at slots) os ≤ m
+        → max (if b then 0 else (slot_at slots o.from.node).cycle) (latency nodes (slot_at slots) os) ≤ m
     by true l = omega (arith, l)
     by false l = omega (arith, l, early_at m slots h o.from.node)
 
 -- the port of an input is there
-pub input-there : (net : Net) → IsValid net → (nodes : List Node) → nodes ≡ net.nodes → (k : ℕ) (d : Node) → k < length nodes → (p w : ℕ) → get_or nodes k d ≡ Input p w → p < length net.inputs
+pub input-there : (net : Net) → IsValid net → (nodes : List Node) → nodes ≡ net.nodes → (k : ℕ) (d : Node) → k < length nodes → (p w : ℕ)
+    → get_or nodes k d ≡ Input p w → p < length net.inputs
 input-there net valid nodes e k d l p w h =
     let at : slice_get net.nodes k ≡ Some (Input p w) = ap (λ ns. slice_get ns k) (sym e) ∙ slice_get-get_or nodes k d l ∙ ap Some h in
     omega (arith, slice_get_within (input_widths net) p w (input-width net valid k p w at), length-map net.inputs (λ i. i.1))
 
-pub outputs-within : (net : Net) → IsValid net → (count : ℕ) → count ≡ length net.nodes → (os : List Output) → os ≡ net.outputs → All (λ o. o.from.node < count) os
+pub outputs-within : (net : Net) → IsValid net → (count : ℕ) → count ≡ length net.nodes → (os : List Output) → os ≡ net.outputs
+    → All (λ o. o.from.node < count) os
 outputs-within net valid count e os f =
     All-same (λ o. o.from.node < count) os net.outputs f (
     All-weaker (λ o. LiesWithin (widths net.nodes) o.from) (λ o. o.from.node < count)
@@ -82,13 +97,16 @@ outputs-within net valid count e os f =
     )
 
 -- slots whose cycles are below the number of nodes, of which there are few
-pub slots-early : (net : Net) (slots : List Slot) → length slots ≡ length net.nodes → All (λ p. p.cycle ≤ length net.nodes) slots → signal_count net (slot_at slots) ≤ 65536 → AreSlots net slots
+pub slots-early : (net : Net) (slots : List Slot) → length slots ≡ length net.nodes → All (λ p. p.cycle ≤ length net.nodes) slots
+    → signal_count net (slot_at slots) ≤ 65536 → AreSlots net slots
 slots-early net slots count early few = record {
   one_each = count;
-  early = All-weaker (λ p. p.cycle ≤ length net.nodes) (λ p. p.cycle ≤ 2 ^ 32) (λ p l. omega (arith, l, few, before-most (copies net (slot_at slots)) (length net.nodes))) slots early;
+  early = All-weaker (λ p. p.cycle ≤ length net.nodes) (λ p. p.cycle ≤ 2 ^ 32)
+      (λ p l. omega (arith, l, few, before-most (copies net (slot_at slots)) (length net.nodes))) slots early;
 }
 
-pub latency-few : (net : Net) (slots : List Slot) → All (λ p. p.cycle ≤ length net.nodes) slots → signal_count net (slot_at slots) ≤ 65536 → (nodes : List Node) (os : List Output)
+pub latency-few : (net : Net) (slots : List Slot) → All (λ p. p.cycle ≤ length net.nodes) slots → signal_count net (slot_at slots) ≤ 65536
+    → (nodes : List Node) (os : List Output)
     → latency nodes (slot_at slots) os ≤ 65536
 latency-few net slots early few nodes os =
     omega (arith, latency-early (length net.nodes) nodes slots early os, few, before-most (copies net (slot_at slots)) (length net.nodes))

@@ -56,9 +56,11 @@ ago-start zero = refl
 ago-start (suc k) = ap before (ago-start k)
 
 -- what a node of an expression reads, in the expression
-pub cells-read : (ws : List ℕ) (P : ℕ → Type 0) (class : Class) (w : ℕ) (e : Tree) → MayStand ws (Cells class w e) → All P (reads_of (Cells class w e)) → AllReads P NoPorts e
+pub cells-read : (ws : List ℕ) (P : ℕ → Type 0) (class : Class) (w : ℕ) (e : Tree) → MayStand ws (Cells class w e)
+    → All P (reads_of (Cells class w e)) → AllReads P NoPorts e
 cells-read ws P class w e h a =
-    let r = reads-weaker (λ j. j < length ws) (λ p. p < 0) (λ j. j < length ws) NoPorts (λ j l. l) (λ p l. absurd (omega (arith, l))) e (width-reads ws [] e w h.1.has_width) in
+    let r = reads-weaker (λ j. j < length ws) (λ p. p < 0) (λ j. j < length ws) NoPorts (λ j l. l) (λ p l. absurd (omega (arith, l))) e
+    (width-reads ws [] e w h.1.has_width) in
     lists-reads P NoPorts e a (reads-lists (λ j. j < length ws) NoPorts e r).1
 
 chosen_same : (a b c x y z : List Bool) → a ≡ x → b ≡ y → c ≡ z → chosen a b c ≡ chosen x y z
@@ -75,7 +77,8 @@ later_input : (enable : Bool) (given : List (List Bool)) (rest : List (List (Lis
 later_input true given rest k port w = refl
 later_input false given rest k port w = refl
 
-module _ (called : List ℕ) (enable : Bool) (net : Net) (s : Schedule) (delays : List ℕ) (setup period : ℕ) (valid : IsValid net) (fits : Fits net.nodes delays setup period s)
+module _ (called : List ℕ) (enable : Bool) (net : Net) (s : Schedule) (delays : List ℕ) (setup period : ℕ) (valid : IsValid net)
+    (fits : Fits net.nodes delays setup period s)
     (inputs : Inputs) where
   abbrev d : Design
   d = without_enable (design_of called enable net s)
@@ -93,11 +96,13 @@ module _ (called : List ℕ) (enable : Bool) (net : Net) (s : Schedule) (delays 
   abbrev words_at : ℕ → Scope
   words_at k = record { names = λ j. flow net.nodes inputs j (ago k 0); ports = λ p. [] }
 
-  equation : (i : ℕ) (n : Node) (t : ℤ) → slice_get net.nodes i ≡ Some n → flow net.nodes inputs i t ≡ stream_of inputs (streams_on inputs [] net.nodes) n t
+  equation : (i : ℕ) (n : Node) (t : ℤ) → slice_get net.nodes i ≡ Some n → flow net.nodes inputs i t
+      ≡ stream_of inputs (streams_on inputs [] net.nodes) n t
   equation i n t h = flow_equation net.nodes valid.nodes inputs i n t h
 
   -- a constant has one word at all times
-  constant_flow : (j : ℕ) (n : Node) → slice_get net.nodes j ≡ Some n → is_constant_at net.nodes j ≡ true → (t r : ℤ) → flow net.nodes inputs j t ≡ flow net.nodes inputs j r
+  constant_flow : (j : ℕ) (n : Node) → slice_get net.nodes j ≡ Some n → is_constant_at net.nodes j ≡ true → (t r : ℤ)
+      → flow net.nodes inputs j t ≡ flow net.nodes inputs j r
   constant_flow j n h e t r = by n h (sym (ap is_some_constant h) ∙ e)
     where
       by : (n : Node) → slice_get net.nodes j ≡ Some n → is_constant n ≡ true → flow net.nodes inputs j t ≡ flow net.nodes inputs j r
@@ -110,16 +115,21 @@ module _ (called : List ℕ) (enable : Bool) (net : Net) (s : Schedule) (delays 
 
   -- what the registers hold as cycle u begins
   record Held (u : ℕ) (now : List (List Bool)) : Type 0 where
-    copied : (i k : ℕ) → i < length net.nodes → k < copies net s i → word_at now (signal_of net s i (suc k)) ≡ flow net.nodes inputs i (ago u ((s i).cycle + suc k))
-    delayed : (i of : ℕ) → slice_get net.nodes i ≡ Some (Delay of) → word_at now (signal_of net s i 0) ≡ flow net.nodes inputs i (ago u (s i).cycle)
+    copied : (i k : ℕ) → i < length net.nodes → k < copies net s i → word_at now (signal_of net s i (suc k))
+        ≡ flow net.nodes inputs i (ago u ((s i).cycle + suc k))
+    delayed : (i of : ℕ) → slice_get net.nodes i ≡ Some (Delay of) → word_at now (signal_of net s i 0)
+        ≡ flow net.nodes inputs i (ago u (s i).cycle)
 
-  module _ (u : ℕ) (now given next : List (List Bool)) (v : Words) (c : Cycle (without_enable (design_of called enable net s)) now given v next) (held : Held u now)
+  module _ (u : ℕ) (now given next : List (List Bool)) (v : Words)
+      (c : Cycle (without_enable (design_of called enable net s)) now given v next) (held : Held u now)
       (taken : (port w : ℕ) → input_from inputs u port w ≡ word_at given (length (enable_inputs enable) + port)) where
-    wide : (i k : ℕ) (n : Node) → slice_get net.nodes i ≡ Some n → k ≤ copies net s i → length (word_at v.signals (signal_of net s i k)) ≡ slice_index (widths net.nodes) i
+    wide : (i k : ℕ) (n : Node) → slice_get net.nodes i ≡ Some n → k ≤ copies net s i → length (word_at v.signals (signal_of net s i k))
+        ≡ slice_index (widths net.nodes) i
     wide i k n h l =
         sym (width-at v.signals (signal_of net s i k))
         ∙ ap (λ ws. slice_index ws (signal_of net s i k)) c.signal_widths
-        ∙ get_or_from_slice_get (map (λ x. x.width) (all_of (node_signals net (standings net s)) 0 net.nodes)) (signal_of net s i k) (slice_index (widths net.nodes) i) 0
+        ∙ get_or_from_slice_get (map (λ x. x.width) (all_of (node_signals net (standings net s)) 0 net.nodes)) (signal_of net s i k)
+        (slice_index (widths net.nodes) i) 0
         (signal_width net s i k n h l)
 
     -- all copies of a node have their words
@@ -134,32 +144,42 @@ module _ (called : List ℕ) (enable : Bool) (net : Net) (s : Schedule) (delays 
         let n = get_or net.nodes j (Delay 0) in
         let h = node_there net s j l in
         let q = copy_of_read net s at j l r in
-        let place : word_at v.signals (read_in (standings net s) at j) ≡ word_at v.signals (signal_of net s j q.copy) = ap (word_at v.signals) q.is in
+        let place : word_at v.signals (read_in (standings net s) at j)
+        ≡ word_at v.signals (signal_of net s j q.copy) = ap (word_at v.signals) q.is in
         let time : flow net.nodes inputs j (ago u ((s j).cycle + q.copy)) ≡ flow net.nodes inputs j (ago u at) =
         elim (cases_Bool (is_constant_at net.nodes j)) [
           | inl e ↦ constant_flow j n h e (ago u ((s j).cycle + q.copy)) (ago u at)
           | inr e ↦ ap (λ k. flow net.nodes inputs j (ago u k)) (q.distance e)
         ] in
-        let all : word_at v.signals (read_in (standings net s) at j) ≡ flow net.nodes inputs j (ago u at) = place ∙ f q.copy q.within ∙ time in
+        let all : word_at v.signals (read_in (standings net s) at j) ≡ flow net.nodes inputs j (ago u at) = place ∙ f q.copy q.within
+        ∙ time in
         (all, ap length (sym all) ∙ ap length place ∙ wide j q.copy n h q.within ∙ sym (ap (λ o. o.width) (standing-is net s j n h)))
 
     -- what each operand of a node has in the node's cycle
     abbrev HasOperand : ℕ → ℕ → Type 0
-    HasOperand i = HasWord (standings net s) (s i).cycle (scope v) (record { names = λ j. flow net.nodes inputs j (ago u (s i).cycle); ports = λ p. [] })
+    HasOperand i = HasWord (standings net s) (s i).cycle (scope v)
+        (record { names = λ j. flow net.nodes inputs j (ago u (s i).cycle); ports = λ p. [] })
 
     operands : (i : ℕ) (n : Node) → slice_get net.nodes i ≡ Some n → ((j : ℕ) → j < i → Follows j) → All (HasOperand i) (reads_of n)
     operands i n h ih =
         let l = slice_get_within net.nodes i n h in
-        All-weaker (λ j. (j < i) × ReadIn net s (s i).cycle j) (HasOperand i) (λ j q. read_word (s i).cycle j (omega (arith, l, q.0)) (ih j q.0) q.1) (reads_of n)
+        All-weaker (λ j. (j < i) × ReadIn net s (s i).cycle j) (HasOperand i)
+        (λ j q. read_word (s i).cycle j (omega (arith, l, q.0)) (ih j q.0) q.1) (reads_of n)
         (reads_in net s delays setup period valid fits i n h)
 
     -- an input port has the word given
-    port_word : (i port w : ℕ) → slice_get net.nodes i ≡ Some (Input port w) → word_at v.ports (length (enable_inputs enable) + port) ≡ input_from inputs u port w
+    port_word : (i port w : ℕ) → slice_get net.nodes i ≡ Some (Input port w) → word_at v.ports (length (enable_inputs enable) + port)
+        ≡ input_from inputs u port w
     port_word i port w h =
         let ins = enable_inputs enable ++ net.inputs in
         let place = length (enable_inputs enable) + port in
         let there : place < length ins =
-        omega (arith, slice_get_within (valid_net.input_widths net) port w (input-width net valid i port w h), length-map net.inputs (λ i. i.1), length-ins enable net) in
+        omega (
+          arith,
+          slice_get_within (valid_net.input_widths net) port w (input-width net valid i port w h),
+          length-map net.inputs (λ i. i.1),
+          length-ins enable net,
+        ) in
         sym (get-inputs net.outputs ins v.ports place [] there) ∙ ap (λ ws. word_at ws place) c.inputs ∙ sym (taken port w)
 
     meets : (k : Driver) → Contains (drivers_of enable net s) k → Meets None now v next k
@@ -177,7 +197,8 @@ module _ (called : List ℕ) (enable : Bool) (net : Net) (s : Schedule) (delays 
         let r : Scope = record { names = λ j. flow net.nodes inputs j (ago u (s i).cycle); ports = λ p. [] } in
         m
         ∙ tree-value (standings net s) (s i).cycle (scope v) r e
-        (cells-read (widths net.nodes) (HasOperand i) class w e (may_stand net.nodes valid.nodes i (Cells class w e) h) (operands i (Cells class w e) h ih))
+        (cells-read (widths net.nodes) (HasOperand i) class w e (may_stand net.nodes valid.nodes i (Cells class w e) h)
+        (operands i (Cells class w e) h ih))
         ∙ sym (equation i (Cells class w e) (ago u (s i).cycle) h)
     at_node i (Choice on one other) h ih m =
         let r : Scope = record { names = λ j. flow net.nodes inputs j (ago u (s i).cycle); ports = λ p. [] } in
@@ -193,10 +214,12 @@ module _ (called : List ℕ) (enable : Bool) (net : Net) (s : Schedule) (delays 
     at_node i (Table address rows) h ih m =
         let x = All-head (HasOperand i) address [] (operands i (Table address rows) h ih) in
         let stands = may_stand net.nodes valid.nodes i (Table address rows) h in
-        let there : address < length net.nodes = omega (arith, index_within (widths net.nodes) address 0 (omega (arith, stands.address_width.0)), length-widths net.nodes) in
+        let there : address < length net.nodes = omega
+        (arith, index_within (widths net.nodes) address 0 (omega (arith, stands.address_width.0)), length-widths net.nodes) in
         let w : (standing_at (standings net s) address).width ≡ slice_index (widths net.nodes) address =
         ap (λ o. o.width) (standing-is net s address (get_or net.nodes address (Delay 0)) (node_there net s address there)) in
-        table_word (standing_at (standings net s) address).width rows (word_at v.signals (read_in (standings net s) (s i).cycle address)) (word_at v.signals (signals_before (copies net s) i))
+        table_word (standing_at (standings net s) address).width rows (word_at v.signals (read_in (standings net s) (s i).cycle address))
+        (word_at v.signals (signals_before (copies net s) i))
         (stands.row_for_each ∙ ap (λ n. 2 ^ n) (sym w)) (ap length x.0 ∙ x.1) m
         ∙ ap (λ k. word_at rows (nat k)) x.0
         ∙ sym (equation i (Table address rows) (ago u (s i).cycle) h)
@@ -213,7 +236,8 @@ module _ (called : List ℕ) (enable : Bool) (net : Net) (s : Schedule) (delays 
         let e : signal_of net s i 0 ≡ signals_before (copies net s) i = omega arith in
         let t : (s i).cycle ≡ (s i).cycle + 0 = omega arith in
         ap (word_at v.signals) e
-        ∙ at_node i n h ih (meets (own_driver (length (enable_inputs enable)) (standings net s) (standing_of net s i n) n) (has_own_driver net s enable i n h))
+        ∙ at_node i n h ih (meets (own_driver (length (enable_inputs enable)) (standings net s) (standing_of net s i n) n)
+        (has_own_driver net s enable i n h))
         ∙ ap (λ k. flow net.nodes inputs i (ago u k)) t
     below (suc b) i l m (suc k) q =
         let n = get_or net.nodes i (Delay 0) in
@@ -224,26 +248,37 @@ module _ (called : List ℕ) (enable : Bool) (net : Net) (s : Schedule) (delays 
         ∙ ap (word_at now) (sym e)
         ∙ held.copied i k m (omega (arith, q))
 
-    follows : (i k : ℕ) → i < length net.nodes → k ≤ copies net s i → word_at v.signals (signal_of net s i k) ≡ flow net.nodes inputs i (ago u ((s i).cycle + k))
+    follows : (i k : ℕ) → i < length net.nodes → k ≤ copies net s i → word_at v.signals (signal_of net s i k)
+        ≡ flow net.nodes inputs i (ago u ((s i).cycle + k))
     follows i k l q = below (suc i) i (omega arith) l k q
 
     output_word : (j : ℕ) (o : net_output.Output) → slice_get net.outputs j ≡ Some o
-        → word_at v.ports (length (enable_inputs enable) + length net.inputs + j) ≡ slice_flow net.nodes inputs o.from (ago u (net_latency net s))
+        → word_at v.ports (length (enable_inputs enable) + length net.inputs + j)
+        ≡ slice_flow net.nodes inputs o.from (ago u (net_latency net s))
     output_word j o h =
         let l = net_latency net s in
         let g = output_reads_in net s delays setup period valid fits j o h in
         let r : Scope = record { names = λ j. flow net.nodes inputs j (ago u l); ports = λ p. [] } in
         let x = read_word l o.from.node g.0 (λ k q. follows o.from.node k g.0 q) g.1 in
-        meets (driver.Output (length (enable_inputs enable) + length net.inputs + j) (slice_in (standings net s) l o.from)) (has_output_driver net s enable j o h)
+        meets (driver.Output (length (enable_inputs enable) + length net.inputs + j) (slice_in (standings net s) l o.from))
+        (has_output_driver net s enable j o h)
         ∙ part-value (standings net s) l (scope v) r o.from.node o.from.high o.from.low x
 
-    output_words : outputs_of (design_of called enable net s) v ≡ map (λ o. slice_flow net.nodes inputs o.from (ago u (net_latency net s))) net.outputs
+    output_words : outputs_of (design_of called enable net s) v
+        ≡ map (λ o. slice_flow net.nodes inputs o.from (ago u (net_latency net s))) net.outputs
     output_words =
         let f : net_output.Output → List Bool = λ o. slice_flow net.nodes inputs o.from (ago u (net_latency net s)) in
         let ins = enable_inputs enable ++ net.inputs in
         let many = length-ins enable net in
         let long : length v.ports ≡ length ins + length net.outputs =
-        omega (arith, length-map v.ports (λ w. length w), ap length c.port_widths, length-map (ports_of enable net) (λ p. p.width), length-ports enable net, many) in
+        omega (
+          arith,
+          length-map v.ports (λ w. length w),
+          ap length c.port_widths,
+          length-map (ports_of enable net) (λ p. p.width),
+          length-ports enable net,
+          many,
+        ) in
         let count : length (drop (length ins) v.ports) ≡ length net.outputs = omega (arith, length-drop (length ins) v.ports, long) in
         outputs-rest ins net.outputs v.ports long
         ∙ ext_get_or [] (drop (length ins) v.ports) (map f net.outputs) (count ∙ sym (length-map net.outputs f)) (
@@ -258,7 +293,8 @@ module _ (called : List ℕ) (enable : Bool) (net : Net) (s : Schedule) (delays 
         )
 
     constant_word : (i : ℕ) (w : List Bool) → slice_get net.nodes i ≡ Some (Constant w) → word_at v.signals (signal_of net s i 0) ≡ w
-    constant_word i w h = follows i 0 (slice_get_within net.nodes i (Constant w) h) (omega arith) ∙ equation i (Constant w) (ago u ((s i).cycle + 0)) h
+    constant_word i w h = follows i 0 (slice_get_within net.nodes i (Constant w) h) (omega arith)
+        ∙ equation i (Constant w) (ago u ((s i).cycle + 0)) h
 
     at_cycle : FollowsFlow called enable net s inputs u v
     at_cycle = record { nodes = follows; constants = constant_word; outputs = output_words }
@@ -279,11 +315,13 @@ module _ (called : List ℕ) (enable : Bool) (net : Net) (s : Schedule) (delays 
       delayed = λ i of h.
           let e : signal_of net s i 0 ≡ signals_before (copies net s) i = omega arith in
           let l = slice_get_within net.nodes i (Delay of) h in
-          let q = All-head (λ j. (j < i) × ReadIn net s (s i).cycle j) of [] (reads_in net s delays setup period valid fits i (Delay of) h) in
+          let q = All-head (λ j. (j < i) × ReadIn net s (s i).cycle j) of []
+          (reads_in net s delays setup period valid fits i (Delay of) h) in
           let there : of < length net.nodes = omega (arith, l, q.0) in
           let x = read_word (s i).cycle of there (λ k r. follows of k there r) q.1 in
           ap (word_at next) e
-          ∙ (meets (own_driver (length (enable_inputs enable)) (standings net s) (standing_of net s i (Delay of)) (Delay of)) (has_own_driver net s enable i (Delay of) h)).1
+          ∙ (meets (own_driver (length (enable_inputs enable)) (standings net s) (standing_of net s i (Delay of)) (Delay of))
+          (has_own_driver net s enable i (Delay of) h)).1
           ∙ x.0
           ∙ ap (flow net.nodes inputs of) (sym (ago-next u (s i).cycle))
           ∙ sym (equation i (Delay of) (ago (suc u) (s i).cycle) h);
@@ -325,15 +363,19 @@ module _ (called : List ℕ) (enable : Bool) (net : Net) (s : Schedule) (delays 
       let is : w ≡ v = cc in
       let e : t ≡ t + 0 = omega arith in
       let taken = λ (port x : ℕ). ap (λ k. input_from inputs k port x) e ∙ same 0 port x ∙ first_input enable given rest port x in
-      subst (λ k. FollowsFlow called enable net s inputs k v) e (subst (FollowsFlow called enable net s inputs t) is (at_cycle t now given r.0 w r.1 held taken))
+      subst (λ k. FollowsFlow called enable net s inputs k v) e
+      (subst (FollowsFlow called enable net s inputs t) is (at_cycle t now given r.0 w r.1 held taken))
   follows_on (given ∷ rest) (w ∷ vs) now t same held r (suc u) v h =
       let e : t ≡ t + 0 = omega arith in
       let f : suc t + u ≡ t + suc u = omega arith in
       let taken = λ (port x : ℕ). ap (λ k. input_from inputs k port x) e ∙ same 0 port x ∙ first_input enable given rest port x in
-      let later = λ (k port x : ℕ). let g : suc t + k ≡ t + suc k = omega arith in ap (λ j. input_from inputs j port x) g ∙ same (suc k) port x ∙ later_input enable given rest k port x in
-      subst (λ k. FollowsFlow called enable net s inputs k v) f (follows_on rest vs r.0 (suc t) later (held_next t now given r.0 w r.1 held taken) r.2 u v h)
+      let later = λ (k port x : ℕ). let g : suc t + k ≡ t + suc k = omega arith in ap (λ j. input_from inputs j port x) g
+      ∙ same (suc k) port x ∙ later_input enable given rest k port x in
+      subst (λ k. FollowsFlow called enable net s inputs k v) f
+      (follows_on rest vs r.0 (suc t) later (held_next t now given r.0 w r.1 held taken) r.2 u v h)
 
-pub run-follows : (called : List ℕ) (enable : Bool) (net : Net) (s : Schedule) (delays : List ℕ) (setup period : ℕ) → IsValid net → Fits net.nodes delays setup period s
+pub run-follows : (called : List ℕ) (enable : Bool) (net : Net) (s : Schedule) (delays : List ℕ) (setup period : ℕ) → IsValid net
+    → Fits net.nodes delays setup period s
     → (inputs : List (List (List Bool))) (vs : List Words) → Run (without_enable (design_of called enable net s)) inputs vs
     → (u : ℕ) (v : Words) → slice_get vs u ≡ Some v → FollowsFlow called enable net s (net_inputs enable inputs) u v
 run-follows called enable net s delays setup period valid fits inputs vs r u v h =
@@ -341,5 +383,6 @@ run-follows called enable net s delays setup period valid fits inputs vs r u v h
     let e : 0 + u ≡ u = omega arith in
     subst (λ k. FollowsFlow called enable net s taken k v) e (
     follows_on called enable net s delays setup period valid fits taken inputs vs (initial_words (design_of called enable net s).signals) 0
-    (λ k port w. let f : 0 + k ≡ k = omega arith in ap (λ j. input_from taken j port w) f) (started called enable net s delays setup period valid fits taken) r u v h
+    (λ k port w. let f : 0 + k ≡ k = omega arith in ap (λ j. input_from taken j port w) f)
+    (started called enable net s delays setup period valid fits taken) r u v h
     )

@@ -24,7 +24,8 @@ get-append [] ys i x h = inr (i, omega arith, h)
 get-append (y ∷ xs) ys zero x h = inl h
 get-append (y ∷ xs) ys (suc i) x h = elim (get-append xs ys i x h) [ inl a ↦ inl a | inr b ↦ inr (b.0, omega (arith, b.1), b.2) ]
 
-pub get-map : {X Y : Type 0} (f : X → Y) (xs : List X) (i : ℕ) (y : Y) → slice_get (map f xs) i ≡ Some y → (x : X) × (slice_get xs i ≡ Some x) × (f x ≡ y)
+pub get-map : {X Y : Type 0} (f : X → Y) (xs : List X) (i : ℕ) (y : Y) → slice_get (map f xs) i ≡ Some y → (x : X)
+    × (slice_get xs i ≡ Some x) × (f x ≡ y)
 get-map f [] i y h = absurd (cc)
 get-map f (x ∷ xs) zero y h = (x, refl, let is : f x ≡ y = cc in is)
 get-map f (x ∷ xs) (suc i) y h = get-map f xs i y h
@@ -47,7 +48,8 @@ pub length-each : {X : Type 0} (f : ℕ → Node → X) (k : ℕ) (ns : List Nod
 length-each f k [] = refl
 length-each f k (n ∷ ns) = ap suc (length-each f (k + 1) ns)
 
-get-each_on : {X : Type 0} (f : ℕ → Node → X) (k : ℕ) (ns : List Node) (j : ℕ) (n : Node) → slice_get ns j ≡ Some n → slice_get (each_node f k ns) j ≡ Some (f (k + j) n)
+get-each_on : {X : Type 0} (f : ℕ → Node → X) (k : ℕ) (ns : List Node) (j : ℕ) (n : Node) → slice_get ns j ≡ Some n
+    → slice_get (each_node f k ns) j ≡ Some (f (k + j) n)
 get-each_on f k [] j n h = absurd (cc)
 get-each_on f k (m ∷ ns) zero n h =
     let is : m ≡ n = cc in
@@ -57,7 +59,8 @@ get-each_on f k (m ∷ ns) (suc j) n h =
     let e : k + 1 + j ≡ k + suc j = omega arith in
     get-each_on f (k + 1) ns j n h ∙ ap (λ i. Some (f i n)) e
 
-pub get-each : {X : Type 0} (f : ℕ → Node → X) (ns : List Node) (j : ℕ) (n : Node) → slice_get ns j ≡ Some n → slice_get (each_node f 0 ns) j ≡ Some (f j n)
+pub get-each : {X : Type 0} (f : ℕ → Node → X) (ns : List Node) (j : ℕ) (n : Node) → slice_get ns j ≡ Some n
+    → slice_get (each_node f 0 ns) j ≡ Some (f j n)
 get-each f ns j n h = let e : 0 + j ≡ j = omega arith in get-each_on f 0 ns j n h ∙ ap (λ i. Some (f i n)) e
 
 -- what a filter keeps

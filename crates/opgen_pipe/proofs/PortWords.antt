@@ -13,7 +13,8 @@ module _ {X : Type 0} (os : List net_output.Output) where
   get-inputs (i ∷ is) (x ∷ xs) zero d l = refl
   get-inputs (i ∷ is) (x ∷ xs) (suc k) d l = get-inputs is xs k d (omega (arith, l))
 
-all_outputs : {X : Type 0} (os : List net_output.Output) (xs : List X) → length xs ≡ length os → at_ports is_out (map output_port os) xs ≡ xs
+all_outputs : {X : Type 0} (os : List net_output.Output) (xs : List X) → length xs ≡ length os → at_ports is_out (map output_port os) xs
+    ≡ xs
 all_outputs [] [] l = refl
 all_outputs [] (x ∷ xs) l = absurd (omega (arith, l))
 all_outputs (o ∷ os) [] l = absurd (omega (arith, l))

@@ -30,7 +30,8 @@ use Rattle.opgen_pipe.proofs.Trees.{part_cases}
 module _ (ps : List Standing) (c : ℕ) where
   -- the form
   pub part-shaped : (n high low : ℕ) → IsShapedExpression (part_in ps c n high low)
-  part-shaped n high low = part_cases ps c IsShapedExpression n high low (λ b t. record { chains = tt; nests = omega arith }) (record { chains = tt; nests = omega arith })
+  part-shaped n high low = part_cases ps c IsShapedExpression n high low (λ b t. record { chains = tt; nests = omega arith })
+      (record { chains = tt; nests = omega arith })
 
   mutual
     tree-chains : (t : Tree) → HasFullChains t → HasFullChains (tree_in ps c t)
@@ -107,11 +108,14 @@ module _ (ns ps : List ℕ) where
         let b = some_before (joined o x a.0) (λ u. width_on ns ps o u ts) w a.2 in
         (full_chains t a.0 a.1, full_on o b.0 ts w b.2)
 
-own_shaped : (ws : List ℕ) (first : ℕ) (ps : List Standing) (o : Standing) (n : Node) → MayStand ws n → IsShapedDriver (own_driver first ps o n)
+own_shaped : (ws : List ℕ) (first : ℕ) (ps : List Standing) (o : Standing) (n : Node) → MayStand ws n
+    → IsShapedDriver (own_driver first ps o n)
 own_shaped ws first ps o (Input place w) h = record { chains = tt; nests = omega arith }
 own_shaped ws first ps o (Constant w) h = record { chains = tt; nests = omega arith }
-own_shaped ws first ps o (Cells class w e) h = tree-shaped ps o.cycle e (record { chains = full_chains ws [] e w h.1.has_width; nests = h.1.nests })
-own_shaped ws first ps o (Choice on one other) h = (tt, part-shaped ps o.cycle one.node one.high one.low, part-shaped ps o.cycle other.node other.high other.low)
+own_shaped ws first ps o (Cells class w e) h = tree-shaped ps o.cycle e
+    (record { chains = full_chains ws [] e w h.1.has_width; nests = h.1.nests })
+own_shaped ws first ps o (Choice on one other) h =
+    (tt, part-shaped ps o.cycle one.node one.high one.low, part-shaped ps o.cycle other.node other.high other.low)
 own_shaped ws first ps o (Table address rows) h = tt
 own_shaped ws first ps o (Delay of) h = record { chains = tt; nests = omega arith }
 
@@ -128,7 +132,8 @@ IsLast k = (is_output k ≡ true) × (is_register k ≡ false)
 
 outputs-last : (ps : List Standing) (l p : ℕ) (os : List net_output.Output) → All IsLast (output_drivers ps l p os)
 outputs-last ps l p [] = All-nil IsLast
-outputs-last ps l p (o ∷ os) = All-cons IsLast (driver.Output p (slice_in ps l o.from)) (output_drivers ps l (p + 1) os) (refl, refl) (outputs-last ps l (p + 1) os)
+outputs-last ps l p (o ∷ os) = All-cons IsLast (driver.Output p (slice_in ps l o.from)) (output_drivers ps l (p + 1) os) (refl, refl)
+    (outputs-last ps l (p + 1) os)
 
 -- the order of the drivers
 module _ {X : Type 0} (p : X → Bool) where
@@ -165,7 +170,8 @@ module _ (plain registers outputs : List Driver) (p : All IsPlain plain) (r : Al
   plain-kept : filter is_neither all ≡ plain
   plain-kept =
       split is_neither
-      ∙ ap (λ u. u ++ filter is_neither registers ++ filter is_neither outputs) (filter_all is_neither IsPlain plain (λ k h. rw (h.0, h.1) refl) p)
+      ∙ ap (λ u. u ++ filter is_neither registers ++ filter is_neither outputs)
+      (filter_all is_neither IsPlain plain (λ k h. rw (h.0, h.1) refl) p)
       ∙ ap (λ u. plain ++ u ++ filter is_neither outputs) (filter_none is_neither IsClocked registers (λ k h. rw h.0 refl) r)
       ∙ ap (λ u. plain ++ [] ++ u) (filter_none is_neither IsLast outputs (λ k h. rw (h.0, h.1) refl) o)
       ∙ append-nil (plain ++ []) ∙ append-nil plain
@@ -203,12 +209,14 @@ design-shaped called enable net s valid =
     let ps = standings net s in
     let nodes = all_of (node_drivers first ps) 0 net.nodes in
     let none : All (λ k. is_output k ≡ false) nodes =
-    λ i d l. of_nodes net s enable (λ k. is_output k ≡ false) (λ i n h. own-no_output first ps (standing_of net s i n) n) (λ i k n h l. refl) _ (All-contains_itself nodes i d l) in
+    λ i d l. of_nodes net s enable (λ k. is_output k ≡ false) (λ i n h. own-no_output first ps (standing_of net s i n) n)
+    (λ i k n h l. refl) _ (All-contains_itself nodes i d l) in
     record {
       drivers = λ i d l. by_driver net s enable IsShapedDriver
           (λ i n h. own_shaped (widths net.nodes) first ps (standing_of net s i n) n (may_stand net.nodes valid.nodes i n h))
           (λ i k n h l. record { chains = tt; nests = omega arith })
-          (λ j o h. part-shaped ps (net_latency net s) o.from.node o.from.high o.from.low) _ (All-contains_itself (drivers_of enable net s) i d l);
+          (λ j o h. part-shaped ps (net_latency net s) o.from.node o.from.high o.from.low) _
+          (All-contains_itself (drivers_of enable net s) i d l);
       in_order = in_order _ _ (output_drivers ps (net_latency net s) (first + length net.inputs) net.outputs)
           (kept (λ k. not (is_register k)) (λ k. is_output k ≡ false) IsPlain (λ k h e. (not-true (is_register k) h, e)) nodes none)
           (kept is_register (λ k. is_output k ≡ false) IsClocked (λ k h e. (h, e)) nodes none)

@@ -42,9 +42,11 @@ use Rattle.opgen_pipe.proofs.SoundParts.{holds}
 
 -- what a driver reads and needs
 
-driver-weaker : (P Q R S : ℕ → Type 0) → ((n : ℕ) → P n → R n) → ((n : ℕ) → Q n → S n) → (k : Driver) → DriverReads P Q k → DriverReads R S k
+driver-weaker : (P Q R S : ℕ → Type 0) → ((n : ℕ) → P n → R n) → ((n : ℕ) → Q n → S n) → (k : Driver) → DriverReads P Q k
+    → DriverReads R S k
 driver-weaker P Q R S f g (driver.Assign to e) h = reads-weaker P Q R S f g e h
-driver-weaker P Q R S f g (driver.Choice to on one other) h = (reads-weaker P Q R S f g on h.0, reads-weaker P Q R S f g one h.1, reads-weaker P Q R S f g other h.2)
+driver-weaker P Q R S f g (driver.Choice to on one other) h =
+    (reads-weaker P Q R S f g on h.0, reads-weaker P Q R S f g one h.1, reads-weaker P Q R S f g other h.2)
 driver-weaker P Q R S f g (driver.Table to on rows other) h = reads-weaker P Q R S f g on h
 driver-weaker P Q R S f g (driver.Register to e) h = reads-weaker P Q R S f g e h
 driver-weaker P Q R S f g (driver.Output place e) h = reads-weaker P Q R S f g e h
@@ -76,7 +78,8 @@ Distinct (k ∷ ks) = All (λ m. target k ≢ target m) ks × Distinct ks
 distinct-filter : (p : Driver → Bool) (ks : List Driver) → Distinct ks → Distinct (filter p ks)
 distinct-filter p [] h = tt
 distinct-filter p (k ∷ ks) h =
-    cond_both (p k) (k ∷ filter p ks) (filter p ks) Distinct (λ _. (All-filter p (λ m. target k ≢ target m) ks h.0, distinct-filter p ks h.1)) (λ _. distinct-filter p ks h.1)
+    cond_both (p k) (k ∷ filter p ks) (filter p ks) Distinct
+    (λ _. (All-filter p (λ m. target k ≢ target m) ks h.0, distinct-filter p ks h.1)) (λ _. distinct-filter p ks h.1)
 
 distinct-append : (ks ms : List Driver) → Distinct ks → Distinct ms → All (λ k. All (λ m. target k ≢ target m) ms) ks → Distinct (ks ++ ms)
 distinct-append [] ms a b c = b
@@ -85,7 +88,8 @@ distinct-append (k ∷ ks) ms a b c = (
   distinct-append ks ms a.1 b (All-tail (λ k. All (λ m. target k ≢ target m) ms) k ks c),
 )
 
-distinct_places : (ks : List Driver) → Distinct ks → (j i : ℕ) (m k : Driver) → j < i → slice_get ks j ≡ Some m → slice_get ks i ≡ Some k → target m ≢ target k
+distinct_places : (ks : List Driver) → Distinct ks → (j i : ℕ) (m k : Driver) → j < i → slice_get ks j ≡ Some m → slice_get ks i ≡ Some k
+    → target m ≢ target k
 distinct_places [] h j i m k l a b = absurd (cc)
 distinct_places (x ∷ ks) h j zero m k l a b = absurd (omega (arith, l))
 distinct_places (x ∷ ks) h zero (suc i) m k l a b =
@@ -111,7 +115,8 @@ in_place-distinct a (k ∷ ks) h = (
   in_place-distinct (a + 1) ks (λ m x g. let e : a + suc m ≡ a + 1 + m = omega arith in h (suc m) x g ∙ ap signal e),
 )
 
-later_outputs : (ps : List Standing) (l p a : ℕ) (os : List net_output.Output) → p < a → All (λ m. port_of p ≢ target m) (output_drivers ps l a os)
+later_outputs : (ps : List Standing) (l p a : ℕ) (os : List net_output.Output) → p < a
+    → All (λ m. port_of p ≢ target m) (output_drivers ps l a os)
 later_outputs ps l p a [] h = All-nil (λ m. port_of p ≢ target m)
 later_outputs ps l p a (o ∷ os) h =
     All-cons (λ m. port_of p ≢ target m) (driver.Output a (slice_in ps l o.from)) (output_drivers ps l (a + 1) os)
@@ -124,11 +129,13 @@ distinct_outputs ps l a (o ∷ os) = (later_outputs ps l a (a + 1) os (omega ari
 no_signals : (ps : List Standing) (l i a : ℕ) (os : List net_output.Output) → All (λ m. signal i ≢ target m) (output_drivers ps l a os)
 no_signals ps l i a [] = All-nil (λ m. signal i ≢ target m)
 no_signals ps l i a (o ∷ os) =
-    All-cons (λ m. signal i ≢ target m) (driver.Output a (slice_in ps l o.from)) (output_drivers ps l (a + 1) os) (λ e. absurd (cc)) (no_signals ps l i (a + 1) os)
+    All-cons (λ m. signal i ≢ target m) (driver.Output a (slice_in ps l o.from)) (output_drivers ps l (a + 1) os) (λ e. absurd (cc))
+    (no_signals ps l i (a + 1) os)
 
 module _ (net : Net) (s : Schedule) where
   -- a signal of a node that is there
-  signal_there : (i k : ℕ) → i < length net.nodes → k ≤ copies net s i → signal_of net s i k < length (all_of (node_signals net (standings net s)) 0 net.nodes)
+  signal_there : (i k : ℕ) → i < length net.nodes → k ≤ copies net s i
+      → signal_of net s i k < length (all_of (node_signals net (standings net s)) 0 net.nodes)
   signal_there i k l q = omega (arith, before-within (copies net s) i (length net.nodes) l, q, length-signals net s)
 
   module _ (enable : Bool) where
@@ -148,7 +155,8 @@ module _ (net : Net) (s : Schedule) where
     outs = output_drivers (standings net s) (net_latency net s) (length (enable_inputs enable) + length net.inputs) net.outputs
 
     -- the drivers of nodes and copies stand as their signals do
-    in_place : (m : ℕ) (x : Driver) → slice_get (all_of (node_drivers (length (enable_inputs enable)) (standings net s)) 0 net.nodes) m ≡ Some x → target x ≡ signal m
+    in_place : (m : ℕ) (x : Driver) → slice_get (all_of (node_drivers (length (enable_inputs enable)) (standings net s)) 0 net.nodes) m
+        ≡ Some x → target x ≡ signal m
     in_place =
         by_place net s enable (λ m x. target x ≡ signal m)
         (
@@ -178,7 +186,8 @@ module _ (net : Net) (s : Schedule) where
         let m = get_or registers j e in
         let in_plain : Contains plain k = Contains-get_or plain i d l in
         let in_registers : Contains registers m = Contains-get_or registers j e r in
-        let is : k ≡ m = one_driver k m (from_filter (λ k. not (is_register k)) nodes k in_plain) (from_filter is_register nodes m in_registers) same in
+        let is : k ≡ m = one_driver k m (from_filter (λ k. not (is_register k)) nodes k in_plain)
+        (from_filter is_register nodes m in_registers) same in
         let not_register : not (is_register k) ≡ true = filter_passes (λ k. not (is_register k)) nodes i d l in
         let register : is_register m ≡ true = filter_passes is_register nodes j e r in
         both_ways (is_register k) (not-true (is_register k) not_register) (ap is_register is ∙ register)
@@ -189,21 +198,25 @@ module _ (net : Net) (s : Schedule) where
         let of_nodes : All P nodes =
         λ i d l.
         let o = at_place (get_or nodes i d) (Contains-get_or nodes i d l) in
-        subst (λ x. All (λ m. x ≢ target m) outs) (sym o.2) (no_signals (standings net s) (net_latency net s) o.0 (length (enable_inputs enable) + length net.inputs) net.outputs) in
+        subst (λ x. All (λ m. x ≢ target m) outs) (sym o.2)
+        (no_signals (standings net s) (net_latency net s) o.0 (length (enable_inputs enable) + length net.inputs) net.outputs) in
         All-append P plain registers (All-filter (λ k. not (is_register k)) P nodes of_nodes) (All-filter is_register P nodes of_nodes)
 
     distinct : Distinct (drivers_of enable net s)
     distinct =
         let all = in_place-distinct 0 nodes (λ m x h. let e : m ≡ 0 + m = omega arith in in_place m x h ∙ ap signal e) in
         distinct-append (plain ++ registers) outs
-        (distinct-append plain registers (distinct-filter (λ k. not (is_register k)) nodes all) (distinct-filter is_register nodes all) plain_and_registers)
-        (distinct_outputs (standings net s) (net_latency net s) (length (enable_inputs enable) + length net.inputs) net.outputs) signals_and_outputs
+        (distinct-append plain registers (distinct-filter (λ k. not (is_register k)) nodes all)
+        (distinct-filter is_register nodes all) plain_and_registers)
+        (distinct_outputs (standings net s) (net_latency net s) (length (enable_inputs enable) + length net.inputs) net.outputs)
+        signals_and_outputs
 
 abbrev second_of : Option (List ℕ × ℕ) → ℕ
 second_of None = 0
 second_of (Some x) = x.1
 
-module _ (called : List ℕ) (enable : Bool) (net : Net) (s : Schedule) (delays : List ℕ) (setup period : ℕ) (valid : IsValid net) (fits : Fits net.nodes delays setup period s) where
+module _ (called : List ℕ) (enable : Bool) (net : Net) (s : Schedule) (delays : List ℕ) (setup period : ℕ) (valid : IsValid net)
+    (fits : Fits net.nodes delays setup period s) where
   abbrev d : Design
   d = design_of called enable net s
 
@@ -212,7 +225,8 @@ module _ (called : List ℕ) (enable : Bool) (net : Net) (s : Schedule) (delays 
 
   -- what the own driver of a node reads
   own_reads : (P Q : ℕ → Type 0) (i : ℕ) (n : Node) → slice_get net.nodes i ≡ Some n
-      → ((j k : ℕ) → j < i → k ≤ copies net s j → P (signal_of net s j k)) → ((p : ℕ) → p < length net.inputs → Q (length (enable_inputs enable) + p))
+      → ((j k : ℕ) → j < i → k ≤ copies net s j → P (signal_of net s j k))
+      → ((p : ℕ) → p < length net.inputs → Q (length (enable_inputs enable) + p))
       → DriverReads P Q (own_driver (length (enable_inputs enable)) (standings net s) (standing_of net s i n) n)
   own_reads P Q i n h f g = by n h (operands n h)
     where
@@ -220,37 +234,45 @@ module _ (called : List ℕ) (enable : Bool) (net : Net) (s : Schedule) (delays 
       operands n h =
           let l = slice_get_within net.nodes i n h in
           All-weaker (λ j. (j < i) × ReadIn net s (s i).cycle j) (λ j. P (read_in (standings net s) (s i).cycle j))
-          (λ j q. let x = copy_of_read net s (s i).cycle j (omega (arith, l, q.0)) q.1 in subst P (sym x.is) (f j x.copy q.0 x.within)) (reads_of n)
+          (λ j q. let x = copy_of_read net s (s i).cycle j (omega (arith, l, q.0)) q.1 in subst P (sym x.is) (f j x.copy q.0 x.within))
+          (reads_of n)
           (reads_in net s delays setup period valid fits i n h)
 
       by : (n : Node) → slice_get net.nodes i ≡ Some n → All (λ j. P (read_in (standings net s) (s i).cycle j)) (reads_of n)
           → DriverReads P Q (own_driver (length (enable_inputs enable)) (standings net s) (standing_of net s i n) n)
-      by (Input place w) h a = let x = get-map (λ y. y.1) net.inputs place w (input-width net valid i place w h) in g place (slice_get_within net.inputs place x.0 x.1)
+      by (Input place w) h a = let x = get-map (λ y. y.1) net.inputs place w (input-width net valid i place w h) in g place
+          (slice_get_within net.inputs place x.0 x.1)
       by (Constant w) h a = tt
       by (Cells class w e) h a =
           tree-reads (standings net s) (s i).cycle P Q e
           (
-          reads-weaker (λ j. P (read_in (standings net s) (s i).cycle j)) NoPorts (λ j. P (read_in (standings net s) (s i).cycle j)) Q (λ j p. p) (λ p q. absurd q) e
-          (cells-read (widths net.nodes) (λ j. P (read_in (standings net s) (s i).cycle j)) class w e (may_stand net.nodes valid.nodes i (Cells class w e) h) a)
+          reads-weaker (λ j. P (read_in (standings net s) (s i).cycle j)) NoPorts (λ j. P (read_in (standings net s) (s i).cycle j)) Q
+          (λ j p. p) (λ p q. absurd q) e
+          (cells-read (widths net.nodes) (λ j. P (read_in (standings net s) (s i).cycle j)) class w e
+          (may_stand net.nodes valid.nodes i (Cells class w e) h) a)
           )
       by (Choice on one other) h a =
           let R : ℕ → Type 0 = λ j. P (read_in (standings net s) (s i).cycle j) in
           let b = All-tail R on (one.node ∷ other.node ∷ []) a in (
             All-head R on (one.node ∷ other.node ∷ []) a,
             part-reads (standings net s) (s i).cycle P Q one.node one.high one.low (All-head R one.node (other.node ∷ []) b),
-            part-reads (standings net s) (s i).cycle P Q other.node other.high other.low (All-head R other.node [] (All-tail R one.node (other.node ∷ []) b)),
+            part-reads (standings net s) (s i).cycle P Q other.node other.high other.low
+                (All-head R other.node [] (All-tail R one.node (other.node ∷ []) b)),
           )
       by (Table address rows) h a = All-head (λ j. P (read_in (standings net s) (s i).cycle j)) address [] a
       by (Delay of) h a = All-head (λ j. P (read_in (standings net s) (s i).cycle j)) of [] a
 
   output_reads : (P Q : ℕ → Type 0) (j : ℕ) (o : net_output.Output) → slice_get net.outputs j ≡ Some o
-      → ((j k : ℕ) → j < length net.nodes → k ≤ copies net s j → P (signal_of net s j k)) → AllReads P Q (slice_in (standings net s) (net_latency net s) o.from)
+      → ((j k : ℕ) → j < length net.nodes → k ≤ copies net s j → P (signal_of net s j k))
+      → AllReads P Q (slice_in (standings net s) (net_latency net s) o.from)
   output_reads P Q j o h f =
       let g = output_reads_in net s delays setup period valid fits j o h in
       let x = copy_of_read net s (net_latency net s) o.from.node g.0 g.1 in
-      part-reads (standings net s) (net_latency net s) P Q o.from.node o.from.high o.from.low (subst P (sym x.is) (f o.from.node x.copy g.0 x.within))
+      part-reads (standings net s) (net_latency net s) P Q o.from.node o.from.high o.from.low
+      (subst P (sym x.is) (f o.from.node x.copy g.0 x.within))
 
-  by_item : (P : Driver → Type 0) → ((i : ℕ) (n : Node) → slice_get net.nodes i ≡ Some n → P (own_driver (length (enable_inputs enable)) (standings net s) (standing_of net s i n) n))
+  by_item : (P : Driver → Type 0) → ((i : ℕ) (n : Node) → slice_get net.nodes i ≡ Some n → P (own_driver (length (enable_inputs enable))
+      (standings net s) (standing_of net s i n) n))
       → ((i k : ℕ) (n : Node) → slice_get net.nodes i ≡ Some n → k < copies net s i → P (copy_register (standing_of net s i n) k))
       → ((j : ℕ) (o : net_output.Output) → slice_get net.outputs j ≡ Some o
       → P (driver.Output (length (enable_inputs enable) + length net.inputs + j) (slice_in (standings net s) (net_latency net s) o.from)))
@@ -271,14 +293,18 @@ module _ (called : List ℕ) (enable : Bool) (net : Net) (s : Schedule) (delays 
       → IsDeclared (design_of called enable net s) (own_driver (length (enable_inputs enable)) (standings net s) (standing_of net s i n) n)
   declared_own i n h =
       let l = slice_get_within net.nodes i n h in
-      let here : signals_before (copies net s) i < length (design_of called enable net s).signals = omega (arith, signal_there net s i 0 l (omega arith)) in
+      let here : signals_before (copies net s) i < length (design_of called enable net s).signals = omega
+      (arith, signal_there net s i 0 l (omega arith)) in
       record {
-        target = subst (Names (design_of called enable net s)) (sym (target-own (length (enable_inputs enable)) (standings net s) (standing_of net s i n) n)) here;
-        reads = own_reads (λ r. r < length (design_of called enable net s).signals) (λ p. p < length (design_of called enable net s).ports) i n h
+        target = subst (Names (design_of called enable net s))
+            (sym (target-own (length (enable_inputs enable)) (standings net s) (standing_of net s i n) n)) here;
+        reads = own_reads (λ r. r < length (design_of called enable net s).signals)
+            (λ p. p < length (design_of called enable net s).ports) i n h
             (λ j k m q. signal_there net s j k (omega (arith, l, m)) q) (λ p m. omega (arith, m, length-ports enable net));
       }
 
-  declared_copy : (i k : ℕ) (n : Node) → slice_get net.nodes i ≡ Some n → k < copies net s i → IsDeclared (design_of called enable net s) (copy_register (standing_of net s i n) k)
+  declared_copy : (i k : ℕ) (n : Node) → slice_get net.nodes i ≡ Some n → k < copies net s i
+      → IsDeclared (design_of called enable net s) (copy_register (standing_of net s i n) k)
   declared_copy i k n h q =
       let l = slice_get_within net.nodes i n h in
       record {
@@ -287,10 +313,12 @@ module _ (called : List ℕ) (enable : Bool) (net : Net) (s : Schedule) (delays 
       }
 
   declared_output : (j : ℕ) (o : net_output.Output) → slice_get net.outputs j ≡ Some o
-      → IsDeclared (design_of called enable net s) (driver.Output (length (enable_inputs enable) + length net.inputs + j) (slice_in (standings net s) (net_latency net s) o.from))
+      → IsDeclared (design_of called enable net s)
+      (driver.Output (length (enable_inputs enable) + length net.inputs + j) (slice_in (standings net s) (net_latency net s) o.from))
   declared_output j o h = record {
     target = omega (arith, slice_get_within net.outputs j o h, length-ports enable net);
-    reads = output_reads (λ r. r < length (design_of called enable net s).signals) (λ p. p < length (design_of called enable net s).ports) j o h (λ j k m q. signal_there net s j k m q);
+    reads = output_reads (λ r. r < length (design_of called enable net s).signals)
+        (λ p. p < length (design_of called enable net s).ports) j o h (λ j k m q. signal_there net s j k m q);
   }
 
   pub all_declared : Holds (design_of called enable net s) Undeclared
@@ -302,7 +330,8 @@ module _ (called : List ℕ) (enable : Bool) (net : Net) (s : Schedule) (delays 
   no_input : (k : Driver) → Contains (drivers_of enable net s) k → IsInput (design_of called enable net s) (target k) → ⊥
   no_input =
       by_driver net s enable (λ k. IsInput (design_of called enable net s) (target k) → ⊥)
-      (λ i n h e. subst (IsInput (design_of called enable net s)) (target-own (length (enable_inputs enable)) (standings net s) (standing_of net s i n) n) e)
+      (λ i n h e. subst (IsInput (design_of called enable net s))
+      (target-own (length (enable_inputs enable)) (standings net s) (standing_of net s i n) n) e)
       (λ i k n h l e. e)
       (
       λ j o h e.
@@ -356,11 +385,14 @@ module _ (called : List ℕ) (enable : Bool) (net : Net) (s : Schedule) (delays 
         by_driver net s enable (λ k. (x r : ℕ) → target k ≡ signal x → Needs r k → r < x)
         (
         λ i m h x r t n.
-        let e : signal (signals_before (copies net s) i) ≡ signal x = sym (target-own (length (enable_inputs enable)) (standings net s) (standing_of net s i m) m) ∙ t in
+        let e : signal (signals_before (copies net s) i)
+        ≡ signal x = sym (target-own (length (enable_inputs enable)) (standings net s) (standing_of net s i m) m) ∙ t in
         let is : signals_before (copies net s) i ≡ x = cc in
         let below : r < signals_before (copies net s) i =
-        needs_read (λ r. r < signals_before (copies net s) i) (λ p. Unit {0}) r (own_driver (length (enable_inputs enable)) (standings net s) (standing_of net s i m) m)
-        (own_reads (λ r. r < signals_before (copies net s) i) (λ p. Unit {0}) i m h (λ j k l q. omega (arith, before-within (copies net s) j i l, q)) (λ p l. tt)) n in
+        needs_read (λ r. r < signals_before (copies net s) i) (λ p. Unit {0}) r
+        (own_driver (length (enable_inputs enable)) (standings net s) (standing_of net s i m) m)
+        (own_reads (λ r. r < signals_before (copies net s) i) (λ p. Unit {0}) i m h
+        (λ j k l q. omega (arith, before-within (copies net s) j i l, q)) (λ p l. tt)) n in
         omega (arith, below, is)
         )
         (λ i k m h l x r t n. absurd n)
@@ -369,7 +401,8 @@ module _ (called : List ℕ) (enable : Bool) (net : Net) (s : Schedule) (delays 
   )
 
   -- rule 7
-  input_at : (p : ℕ) → p < length net.inputs → IfSome (slice_get (design_of called enable net s).ports (length (enable_inputs enable) + p)) (λ q. q.dir ≡ In)
+  input_at : (p : ℕ) → p < length net.inputs → IfSome (slice_get (design_of called enable net s).ports (length (enable_inputs enable) + p))
+      (λ q. q.dir ≡ In)
   input_at p l =
       let ins = enable_inputs enable ++ net.inputs in
       let place = length (enable_inputs enable) + p in
@@ -399,7 +432,8 @@ module _ (called : List ℕ) (enable : Bool) (net : Net) (s : Schedule) (delays 
       ]
 
   register_initial : (i : ℕ) (n : Node) → slice_get net.nodes i ≡ Some n → (j : ℕ) (m : Node) → slice_get net.nodes j ≡ Some m
-      → IsRegisterOf (signal_of net s i 0) (own_driver (length (enable_inputs enable)) (standings net s) (standing_of net s j m) m) → IsSome (initial_of (zero_word net i) n)
+      → IsRegisterOf (signal_of net s i 0) (own_driver (length (enable_inputs enable)) (standings net s) (standing_of net s j m) m)
+      → IsSome (initial_of (zero_word net i) n)
   register_initial i n h j (Input place w) g r = absurd r
   register_initial i n h j (Constant w) g r = absurd r
   register_initial i n h j (Cells class w e) g r = absurd r
@@ -428,7 +462,8 @@ module _ (called : List ℕ) (enable : Bool) (net : Net) (s : Schedule) (delays 
       by_signal net s (HasInitial (design_of called enable net s))
       (
       λ i n h k c.
-      by_driver net s enable (λ k. IsRegisterOf (signal_of net s i 0) k → IsSome (initial_of (zero_word net i) n)) (λ j m g. register_initial i n h j m g)
+      by_driver net s enable (λ k. IsRegisterOf (signal_of net s i 0) k → IsSome (initial_of (zero_word net i) n))
+      (λ j m g. register_initial i n h j m g)
       (λ j m o g l r. absurd (no_copy i j m l r)) (λ j o g r. absurd r) k c
       )
       (λ i k n h l m c r. refl)
@@ -446,9 +481,11 @@ module _ (called : List ℕ) (enable : Bool) (net : Net) (s : Schedule) (delays 
       λ a b r q l f g same.
       let w = (standing_at (standings net s) address).width in
       let stands = may_stand net.nodes valid.nodes i (Table address rows) h in
-      let x = All-head (λ j. (j < i) × ReadIn net s (s i).cycle j) address [] (reads_in net s delays setup period valid fits i (Table address rows) h) in
+      let x = All-head (λ j. (j < i) × ReadIn net s (s i).cycle j) address []
+      (reads_in net s delays setup period valid fits i (Table address rows) h) in
       let there : address < length net.nodes = omega (arith, x.0, slice_get_within net.nodes i (Table address rows) h) in
-      let e : w ≡ slice_index (widths net.nodes) address = ap (λ o. o.width) (standing-is net s address (get_or net.nodes address (Delay 0)) (node_there net s address there)) in
+      let e : w ≡ slice_index (widths net.nodes) address = ap (λ o. o.width)
+      (standing-is net s address (get_or net.nodes address (Delay 0)) (node_there net s address there)) in
       let long : length rows ≡ 2 ^ w = stands.row_for_each ∙ ap (λ n. 2 ^ n) (sym e) in
       let pairs = addressed w 0 rows in
       let first : a + 1 < length rows = omega (arith, slice_get_within pairs a r f, length-addressed w 0 rows) in
@@ -462,10 +499,12 @@ module _ (called : List ℕ) (enable : Bool) (net : Net) (s : Schedule) (delays 
 
   pub all_addresses_differ : Holds (design_of called enable net s) ChoiceTwice
   all_addresses_differ =
-      holds (design_of called enable net s) ChoiceTwice tt (λ i p h. tt) (λ i x h. tt) (by_item AddressesDiffer addresses_differ (λ i k n h l. tt) (λ j o h. tt))
+      holds (design_of called enable net s) ChoiceTwice tt (λ i p h. tt) (λ i x h. tt)
+      (by_item AddressesDiffer addresses_differ (λ i k n h l. tt) (λ j o h. tt))
 
   -- rule 10
-  fit_input : (e b : Bool) (i : ℕ) (x : List ℕ × ℕ) → slice_get (enable_inputs e ++ net.inputs) i ≡ Some x → (if e && b then Some 0 else None) ≡ Some i → (In ≡ In) × (x.1 ≡ 1)
+  fit_input : (e b : Bool) (i : ℕ) (x : List ℕ × ℕ) → slice_get (enable_inputs e ++ net.inputs) i ≡ Some x
+      → (if e && b then Some 0 else None) ≡ Some i → (In ≡ In) × (x.1 ≡ 1)
   fit_input true true zero x h f = (refl, ap second_of (sym h))
   fit_input true true (suc i) x h f = absurd (let is : 0 ≡ suc i = cc in omega (arith, is))
   fit_input true false i x h f = absurd (cc)

@@ -31,7 +31,8 @@ abbrev Begins : ℕ → List ℕ → Type 0
 Begins n ds = (more : List ℕ) → begins_as_signal (115 ∷ (ds ++ more)) ≡ true
 
 one_digit : (n : ℕ) → n < 10 → Begins n ((48 + n) ∷ [])
-one_digit n h more = and_from (nat_le 48 (48 + n)) (nat_le (48 + n) 57) (le-leb 48 (48 + n) (omega arith)) (le-leb (48 + n) 57 (omega (arith, h)))
+one_digit n h more = and_from (nat_le 48 (48 + n)) (nat_le (48 + n) 57) (le-leb 48 (48 + n) (omega arith))
+    (le-leb (48 + n) 57 (omega (arith, h)))
 
 more_digits : (n : ℕ) (ds : List ℕ) → 10 ≤ n → Begins (n / 10) ds → Begins n (ds ++ (48 + n % 10) ∷ [])
 more_digits n [] l h more = one_digit (n % 10) (omega arith) more
@@ -65,7 +66,8 @@ no_underscore c h e = grind (arith, nat_tests)
 
 -- digits end where an underscore stands
 module _ where
-  same_digits : (ds es : List ℕ) (k m : ℕ) → AllDigits 10 ds → AllDigits 10 es → ds ++ tail_of k ≡ es ++ tail_of m → (ds ≡ es) × (tail_of k ≡ tail_of m)
+  same_digits : (ds es : List ℕ) (k m : ℕ) → AllDigits 10 ds → AllDigits 10 es → ds ++ tail_of k ≡ es ++ tail_of m → (ds ≡ es)
+      × (tail_of k ≡ tail_of m)
   same_digits [] [] k m a b e = (refl, e)
   same_digits [] (c ∷ es) zero m a b e = absurd (cc)
   same_digits [] (c ∷ es) (suc k) m a b e = absurd (no_underscore c b.0 (ap (λ n. get_or n 0 0) (sym e)))
@@ -106,7 +108,8 @@ record Free (name : List ℕ) : Type 0 where
   no_signal_name : begins_as_signal name ≡ true → ⊥
 
 ports_free : (called : List ℕ) (net : Net) → IsNamed called net → All Free (port_names net)
-ports_free called net named = All-weaker IsFree Free (λ n f. record { no_clock_name = f.no_clock; no_signal_name = λ b. f.no_signal b }) (port_names net) named.free
+ports_free called net named = All-weaker IsFree Free (λ n f. record { no_clock_name = f.no_clock; no_signal_name = λ b. f.no_signal b })
+    (port_names net) named.free
 
 all_free : (enable : Bool) (called : List ℕ) (net : Net) → IsNamed called net → All Free (all_names enable net)
 all_free false called net named = ports_free called net named
@@ -149,7 +152,8 @@ module _ (called : List ℕ) (enable : Bool) (net : Net) (s : Schedule) (named :
     place : m ≡ signal_of net s node copy
     labelled : slice_index_or signals m [] ≡ label node copy
 
-  at_label : (i k : ℕ) (n : Node) → slice_get net.nodes i ≡ Some n → k ≤ copies net s i → slice_index_or signals (signal_of net s i k) [] ≡ label i k
+  at_label : (i k : ℕ) (n : Node) → slice_get net.nodes i ≡ Some n → k ≤ copies net s i → slice_index_or signals (signal_of net s i k) []
+      ≡ label i k
   at_label i zero n h l =
       let x = own_signal (zero_word net i) (standing_of net s i n) i n in
       get_or_from_slice_get signals (signal_of net s i 0) (signal_name i) []
@@ -158,7 +162,8 @@ module _ (called : List ℕ) (enable : Bool) (net : Net) (s : Schedule) (named :
       let x = copy_signal (zero_word net i) (standing_of net s i n) i (1 + k) in
       let e : 1 + k ≡ suc k = omega arith in
       get_or_from_slice_get signals (signal_of net s i (suc k)) (copy_name i (1 + k)) []
-      (get-mapped (λ x. x.name) (all_of (node_signals net (standings net s)) 0 net.nodes) (signal_of net s i (suc k)) x (signal-copy net s i n h k (omega (arith, l))))
+      (get-mapped (λ x. x.name) (all_of (node_signals net (standings net s)) 0 net.nodes) (signal_of net s i (suc k)) x
+      (signal-copy net s i n h k (omega (arith, l))))
       ∙ ap (copy_name i) e
 
   numbered : (m : ℕ) → m < length (all_of (node_signals net (standings net s)) 0 net.nodes) → Numbered m
@@ -180,7 +185,8 @@ module _ (called : List ℕ) (enable : Bool) (net : Net) (s : Schedule) (named :
   at_port i l = get_or_append_left ports signals [] i (omega (arith, l, ap length ports-are)) ∙ ap (λ ns. get_or ns i []) ports-are
 
   -- a name among the signals
-  at_signal : (i : ℕ) → length (all_names enable net) ≤ i → slice_index_or names i [] ≡ slice_index_or signals (i - length (all_names enable net)) []
+  at_signal : (i : ℕ) → length (all_names enable net) ≤ i → slice_index_or names i []
+      ≡ slice_index_or signals (i - length (all_names enable net)) []
   at_signal i l = get_or-append_right ports signals (length (all_names enable net)) i [] (ap length ports-are) l
 
   new_port : (i : ℕ) → i < length (all_names enable net) → IsNewName names i
@@ -189,7 +195,8 @@ module _ (called : List ℕ) (enable : Bool) (net : Net) (s : Schedule) (named :
     not_before = λ j m e. all_differ enable called net named j i [] m l (sym (at_port j (omega (arith, m, l))) ∙ e ∙ at_port i l);
   }
 
-  new_signal : (i : ℕ) → length (all_names enable net) ≤ i → i - length (all_names enable net) < length (all_of (node_signals net (standings net s)) 0 net.nodes) → IsNewName names i
+  new_signal : (i : ℕ) → length (all_names enable net) ≤ i
+      → i - length (all_names enable net) < length (all_of (node_signals net (standings net s)) 0 net.nodes) → IsNewName names i
   new_signal i l m =
       let count = length (all_names enable net) in
       let x = numbered (i - count) m in
@@ -199,12 +206,14 @@ module _ (called : List ℕ) (enable : Bool) (net : Net) (s : Schedule) (named :
         not_before = λ j k e. elim (cases_lt j count) [
           | inl a ↦
               let same : label x.node x.copy ≡ slice_index_or (all_names enable net) j [] = sym at ∙ sym e ∙ at_port j a in
-              (all_free enable called net named j [] a).no_signal_name (ap begins_as_signal (sym same) ∙ label_begins x.node x.copy x.small_node)
+              (all_free enable called net named j [] a).no_signal_name
+              (ap begins_as_signal (sym same) ∙ label_begins x.node x.copy x.small_node)
           | inr a ↦
               let y = numbered (j - count) (omega (arith, a, k, m)) in
               let same : label y.node y.copy ≡ label x.node x.copy = sym (at_signal j a ∙ y.labelled) ∙ e ∙ at in
               let equal = labels_differ y.node y.copy x.node x.copy y.small_node y.small_copy x.small_node x.small_copy same in
-              let place : j - count ≡ i - count = y.place ∙ ap (λ n. signal_of net s n y.copy) equal.0 ∙ ap (signal_of net s x.node) equal.1 ∙ sym x.place in
+              let place : j - count ≡ i - count = y.place ∙ ap (λ n. signal_of net s n y.copy) equal.0 ∙ ap (signal_of net s x.node) equal.1
+              ∙ sym x.place in
               omega (arith, place, a, k)
         ];
       }

@@ -42,7 +42,8 @@ use Rattle.opgen_pipe.proofs.Follows.{cells-read}
 use Rattle.opgen_pipe.proofs.SoundParts.{holds}
 
 -- a part that lies within its node has its width
-lying-width : (ws qs : List ℕ) → ((i : ℕ) → i < length ws → IsWidth (slice_index ws i)) → (s : Slice) → LiesWithin ws s → width ws qs (part s.node s.high s.low) ≡ Some (slice_width s)
+lying-width : (ws qs : List ℕ) → ((i : ℕ) → i < length ws → IsWidth (slice_index ws i)) → (s : Slice) → LiesWithin ws s
+    → width ws qs (part s.node s.high s.low) ≡ Some (slice_width s)
 lying-width ws qs all s h =
     let w = slice_index ws s.node in
     let there = lies_within ws s h in
@@ -61,7 +62,8 @@ enable-wide true zero x h = ap (λ o. unwrap o) (sym h)
 enable-wide true (suc i) x h = absurd (cc)
 enable-wide false i x h = absurd (cc)
 
-module _ (called : List ℕ) (enable : Bool) (net : Net) (s : Schedule) (delays : List ℕ) (setup period : ℕ) (valid : IsValid net) (fits : Fits net.nodes delays setup period s) where
+module _ (called : List ℕ) (enable : Bool) (net : Net) (s : Schedule) (delays : List ℕ) (setup period : ℕ) (valid : IsValid net)
+    (fits : Fits net.nodes delays setup period s) where
   abbrev d : Design
   d = design_of called enable net s
 
@@ -82,31 +84,40 @@ module _ (called : List ℕ) (enable : Bool) (net : Net) (s : Schedule) (delays 
 
   -- the signal of a node, and of each copy, has the node's width
   wide : (i k : ℕ) (n : Node) → slice_get net.nodes i ≡ Some n → k ≤ copies net s i
-      → slice_get (signal_widths (design_of called enable net s)) (signals_before (copies net s) i + k) ≡ Some (slice_index (widths net.nodes) i)
+      → slice_get (signal_widths (design_of called enable net s)) (signals_before (copies net s) i + k)
+      ≡ Some (slice_index (widths net.nodes) i)
   wide i k n h l = signal_width net s i k n h l
 
-  own : (i : ℕ) (n : Node) → slice_get net.nodes i ≡ Some n → slice_index (signal_widths (design_of called enable net s)) (signals_before (copies net s) i) ≡ slice_index (widths net.nodes) i
+  own : (i : ℕ) (n : Node) → slice_get net.nodes i ≡ Some n
+      → slice_index (signal_widths (design_of called enable net s)) (signals_before (copies net s) i) ≡ slice_index (widths net.nodes) i
   own i n h =
       let e : signals_before (copies net s) i ≡ signals_before (copies net s) i + 0 = omega arith in
       ap (slice_index (signal_widths (design_of called enable net s))) e
-      ∙ get_or_from_slice_get (signal_widths (design_of called enable net s)) (signals_before (copies net s) i + 0) (slice_index (widths net.nodes) i) 0 (wide i 0 n h (omega arith))
+      ∙ get_or_from_slice_get (signal_widths (design_of called enable net s)) (signals_before (copies net s) i + 0)
+      (slice_index (widths net.nodes) i) 0 (wide i 0 n h (omega arith))
 
   -- and of a kind's width
-  own_node : (i : ℕ) (n : Node) → slice_get net.nodes i ≡ Some n → slice_index (signal_widths (design_of called enable net s)) (signals_before (copies net s) i) ≡ node_width (widths net.nodes) n
+  own_node : (i : ℕ) (n : Node) → slice_get net.nodes i ≡ Some n
+      → slice_index (signal_widths (design_of called enable net s)) (signals_before (copies net s) i) ≡ node_width (widths net.nodes) n
   own_node i n h = own i n h ∙ width_at net.nodes valid.nodes i n h
 
   -- what is read of a node in a cycle has the node's width
   read_width : (at j : ℕ) → j < length net.nodes → ReadIn net s at j
-      → (slice_get (signal_widths (design_of called enable net s)) (read_in (standings net s) at j) ≡ Some (slice_index (widths net.nodes) j))
+      → (slice_get (signal_widths (design_of called enable net s)) (read_in (standings net s) at j)
+      ≡ Some (slice_index (widths net.nodes) j))
       × ((standing_at (standings net s) j).width ≡ slice_index (widths net.nodes) j)
   read_width at j l r =
       let n = get_or net.nodes j (Delay 0) in
       let h = node_there net s j l in
-      let q = copy_of_read net s at j l r in
-      (ap (slice_get (signal_widths (design_of called enable net s))) q.is ∙ wide j q.copy n h q.within, ap (λ o. o.width) (standing-is net s j n h))
+      let q = copy_of_read net s at j l r in (
+        ap (slice_get (signal_widths (design_of called enable net s))) q.is
+            ∙ wide j q.copy n h q.within,
+        ap (λ o. o.width) (standing-is net s j n h),
+      )
 
   abbrev Wide : ℕ → ℕ → Type 0
-  Wide at = HasWidthOf (standings net s) at (widths net.nodes) (signal_widths (design_of called enable net s)) (port_widths (design_of called enable net s))
+  Wide at = HasWidthOf (standings net s) at (widths net.nodes) (signal_widths (design_of called enable net s))
+      (port_widths (design_of called enable net s))
 
   read_wide : (at j : ℕ) → j < length net.nodes → ReadIn net s at j → Wide at j
   read_wide at j l r = λ w h.
@@ -114,14 +125,17 @@ module _ (called : List ℕ) (enable : Bool) (net : Net) (s : Schedule) (delays 
       let same : slice_index (widths net.nodes) j ≡ w = get_or_from_slice_get (widths net.nodes) j w 0 h in
       (x.0 ∙ ap Some same, x.1 ∙ same)
 
-  operands : (i : ℕ) (n : Node) → slice_get net.nodes i ≡ Some n → All (λ j. (j < length net.nodes) × ReadIn net s (s i).cycle j) (reads_of n)
+  operands : (i : ℕ) (n : Node) → slice_get net.nodes i ≡ Some n
+      → All (λ j. (j < length net.nodes) × ReadIn net s (s i).cycle j) (reads_of n)
   operands i n h =
       let l = slice_get_within net.nodes i n h in
-      All-weaker (λ j. (j < i) × ReadIn net s (s i).cycle j) (λ j. (j < length net.nodes) × ReadIn net s (s i).cycle j) (λ j q. (omega (arith, l, q.0), q.1)) (reads_of n)
+      All-weaker (λ j. (j < i) × ReadIn net s (s i).cycle j) (λ j. (j < length net.nodes) × ReadIn net s (s i).cycle j)
+      (λ j q. (omega (arith, l, q.0), q.1)) (reads_of n)
       (reads_in net s delays setup period valid fits i n h)
 
   -- a name that is read has its node's width
-  name_width : (at j u : ℕ) → j < length net.nodes → ReadIn net s at j → slice_index (widths net.nodes) j ≡ u → HasWidth (design_of called enable net s) (name (read_in (standings net s) at j)) u
+  name_width : (at j u : ℕ) → j < length net.nodes → ReadIn net s at j → slice_index (widths net.nodes) j ≡ u
+      → HasWidth (design_of called enable net s) (name (read_in (standings net s) at j)) u
   name_width at j u l r e =
       ap (option_and_then as_width) (read_width at j l r).0
       ∙ as_width-of (slice_index (widths net.nodes) j) (is_width j (omega (arith, l, length-widths net.nodes)))
@@ -131,7 +145,8 @@ module _ (called : List ℕ) (enable : Bool) (net : Net) (s : Schedule) (delays 
       → HasWidth (design_of called enable net s) (slice_in (standings net s) at x) u
   slice_width-of at x u lies r e =
       let there : x.node < length net.nodes = omega (arith, lies_within (widths net.nodes) x lies, length-widths net.nodes) in
-      part-width (standings net s) at (widths net.nodes) (signal_widths (design_of called enable net s)) (port_widths (design_of called enable net s)) x.node x.high x.low (slice_width x)
+      part-width (standings net s) at (widths net.nodes) (signal_widths (design_of called enable net s))
+      (port_widths (design_of called enable net s)) x.node x.high x.low (slice_width x)
       (read_wide at x.node there r) (lying-width (widths net.nodes) [] is_width x lies)
       ∙ ap Some e
 
@@ -140,21 +155,26 @@ module _ (called : List ℕ) (enable : Bool) (net : Net) (s : Schedule) (delays 
   node_agrees i (Input place w) h =
       let x = get-map (λ y. y.1) net.inputs place w (input-width net valid i place w h) in
       let ins = enable_inputs enable ++ net.inputs in
-      let at : slice_get ins (length (enable_inputs enable) + place) ≡ Some x.0 = get-right (enable_inputs enable) net.inputs (length (enable_inputs enable) + place) place refl ∙ x.1 in
+      let at : slice_get ins (length (enable_inputs enable) + place)
+      ≡ Some x.0 = get-right (enable_inputs enable) net.inputs (length (enable_inputs enable) + place) place refl ∙ x.1 in
       let wide : slice_get (port_widths (design_of called enable net s)) (length (enable_inputs enable) + place) ≡ Some x.0.1 =
-      get-mapped (λ p. p.width) (ports_of enable net) (length (enable_inputs enable) + place) (input_port x.0) (port-in enable net (length (enable_inputs enable) + place) x.0 at) in
+      get-mapped (λ p. p.width) (ports_of enable net) (length (enable_inputs enable) + place) (input_port x.0)
+      (port-in enable net (length (enable_inputs enable) + place) x.0 at) in
       ap (option_and_then as_width) wide
       ∙ ap as_width x.2
       ∙ as_width-of w (may_stand net.nodes valid.nodes i (Input place w) h)
       ∙ ap Some (sym (own_node i (Input place w) h))
-  node_agrees i (Constant w) h = as_width-of (length w) (may_stand net.nodes valid.nodes i (Constant w) h) ∙ ap Some (sym (own_node i (Constant w) h))
+  node_agrees i (Constant w) h = as_width-of (length w) (may_stand net.nodes valid.nodes i (Constant w) h)
+      ∙ ap Some (sym (own_node i (Constant w) h))
   node_agrees i (Cells class w e) h =
       let stands = may_stand net.nodes valid.nodes i (Cells class w e) h in
-      tree-width (standings net s) (s i).cycle (widths net.nodes) (signal_widths (design_of called enable net s)) (port_widths (design_of called enable net s)) e w
+      tree-width (standings net s) (s i).cycle (widths net.nodes) (signal_widths (design_of called enable net s))
+      (port_widths (design_of called enable net s)) e w
       (
       cells-read (widths net.nodes) (Wide (s i).cycle) class w e stands
       (
-      All-weaker (λ j. (j < length net.nodes) × ReadIn net s (s i).cycle j) (Wide (s i).cycle) (λ j q. read_wide (s i).cycle j q.0 q.1) (reads_of (Cells class w e))
+      All-weaker (λ j. (j < length net.nodes) × ReadIn net s (s i).cycle j) (Wide (s i).cycle) (λ j q. read_wide (s i).cycle j q.0 q.1)
+      (reads_of (Cells class w e))
       (operands i (Cells class w e) h)
       )
       )
@@ -178,14 +198,17 @@ module _ (called : List ℕ) (enable : Bool) (net : Net) (s : Schedule) (delays 
       let w = (standing_at (standings net s) address).width in
       let to = signals_before (copies net s) i in
       let on : Tree = name (read_in (standings net s) (s i).cycle address) in
-      let has : HasWidth (design_of called enable net s) on w = name_width (s i).cycle address w x.0 x.1 (sym (read_width (s i).cycle address x.0 x.1).1) in
+      let has : HasWidth (design_of called enable net s) on w = name_width (s i).cycle address w x.0 x.1
+      (sym (read_width (s i).cycle address x.0 x.1).1) in
       let positive : 1 ≤ length rows = omega (arith, stands.row_for_each, pow_pos (slice_index (widths net.nodes) address)) in
       let own = sym (own_node i (Table address rows) h) in
-      let of_row : All (λ r. HasWidth (design_of called enable net s) on (length r.0) × (length r.1 ≡ slice_index (signal_widths (design_of called enable net s)) to)) (addressed w 0 rows) =
+      let of_row : All (λ r. HasWidth (design_of called enable net s) on (length r.0)
+      × (length r.1 ≡ slice_index (signal_widths (design_of called enable net s)) to)) (addressed w 0 rows) =
       λ k e l.
       let small : k + 1 < length rows = omega (arith, l, length-addressed w 0 rows) in
       let at = get-addressed w rows k e small in
-      subst (λ r. HasWidth (design_of called enable net s) on (length r.0) × (length r.1 ≡ slice_index (signal_widths (design_of called enable net s)) to)) (sym at) (
+      subst (λ r. HasWidth (design_of called enable net s) on (length r.0)
+      × (length r.1 ≡ slice_index (signal_widths (design_of called enable net s)) to)) (sym at) (
         has ∙ ap Some (sym (length-word w k)),
         stands.same_width k [] (omega (arith, small)) ∙ own,
       ) in
@@ -194,7 +217,8 @@ module _ (called : List ℕ) (enable : Bool) (net : Net) (s : Schedule) (delays 
       let x = All-head (λ j. (j < length net.nodes) × ReadIn net s (s i).cycle j) of [] (operands i (Delay of) h) in
       name_width (s i).cycle of _ x.0 x.1 (sym (own_node i (Delay of) h))
 
-  copy_agrees : (i k : ℕ) (n : Node) → slice_get net.nodes i ≡ Some n → k < copies net s i → WidthsAgree (design_of called enable net s) (copy_register (standing_of net s i n) k)
+  copy_agrees : (i k : ℕ) (n : Node) → slice_get net.nodes i ≡ Some n → k < copies net s i
+      → WidthsAgree (design_of called enable net s) (copy_register (standing_of net s i n) k)
   copy_agrees i k n h l =
       let a = signals_before (copies net s) i in
       let e : a + 1 + k ≡ a + suc k = omega arith in
@@ -202,14 +226,17 @@ module _ (called : List ℕ) (enable : Bool) (net : Net) (s : Schedule) (delays 
       ap (option_and_then as_width) (wide i k n h (omega (arith, l)))
       ∙ as_width-of (slice_index (widths net.nodes) i) (is_width i there)
       ∙ ap Some (sym (ap (slice_index (signal_widths (design_of called enable net s))) e
-      ∙ get_or_from_slice_get (signal_widths (design_of called enable net s)) (a + suc k) (slice_index (widths net.nodes) i) 0 (wide i (suc k) n h (omega (arith, l)))))
+      ∙ get_or_from_slice_get (signal_widths (design_of called enable net s)) (a + suc k) (slice_index (widths net.nodes) i) 0
+      (wide i (suc k) n h (omega (arith, l)))))
 
   lies : (j : ℕ) (o : net_output.Output) → slice_get net.outputs j ≡ Some o → LiesWithin (widths net.nodes) o.from
   lies j o h =
-      subst (λ x. LiesWithin (widths net.nodes) x.from) (get_or_from_slice_get net.outputs j o o h) (valid.outputs j o (slice_get_within net.outputs j o h))
+      subst (λ x. LiesWithin (widths net.nodes) x.from) (get_or_from_slice_get net.outputs j o o h)
+      (valid.outputs j o (slice_get_within net.outputs j o h))
 
   output_agrees : (j : ℕ) (o : net_output.Output) → slice_get net.outputs j ≡ Some o
-      → WidthsAgree (design_of called enable net s) (Output (length (enable_inputs enable) + length net.inputs + j) (slice_in (standings net s) (net_latency net s) o.from))
+      → WidthsAgree (design_of called enable net s)
+      (Output (length (enable_inputs enable) + length net.inputs + j) (slice_in (standings net s) (net_latency net s) o.from))
   output_agrees j o h =
       let place = length (enable_inputs enable) + length net.inputs + j in
       slice_width-of (net_latency net s) o.from _ (lies j o h) (output_reads_in net s delays setup period valid fits j o h).1
@@ -245,5 +272,7 @@ module _ (called : List ℕ) (enable : Bool) (net : Net) (s : Schedule) (delays 
   widths_agree =
       holds (design_of called enable net s) Width tt
       (by_port enable net (λ i p. IsWidth p.width) input-is_width (λ j o h. slice-is_width (widths net.nodes) is_width o.from (lies j o h)))
-      (by_signal net s (λ i x. IsSignalWide x) (λ i n h. (node_wide i n h, initial_width i n)) (λ i k n h l. (node_wide i n h, zero_width i)))
-      (λ i k h. by_driver net s enable (WidthsAgree (design_of called enable net s)) node_agrees copy_agrees output_agrees k (Contains-get (drivers_of enable net s) i k h))
+      (by_signal net s (λ i x. IsSignalWide x) (λ i n h. (node_wide i n h, initial_width i n))
+      (λ i k n h l. (node_wide i n h, zero_width i)))
+      (λ i k h. by_driver net s enable (WidthsAgree (design_of called enable net s)) node_agrees copy_agrees output_agrees k
+      (Contains-get (drivers_of enable net s) i k h))

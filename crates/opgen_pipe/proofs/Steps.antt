@@ -15,7 +15,8 @@ use Rattle.opgen_pipe.specs.declared.standing.Standing.{Standing}
 use Rattle.opgen_pipe.specs.Pipelined.{all_of, own_driver, copy_register}
 
 -- an item more of a list made from a function
-pub range-more : {X : Type 0} (f : ℕ → X) (a n j : ℕ) (old now : List X) (x : X) → now ≡ old ++ map f (range_with_len a n) → a + n ≡ j → x ≡ f j
+pub range-more : {X : Type 0} (f : ℕ → X) (a n j : ℕ) (old now : List X) (x : X) → now ≡ old ++ map f (range_with_len a n) → a + n ≡ j → x
+    ≡ f j
     → now ++ x ∷ [] ≡ old ++ map f (range_with_len a (n + 1))
 range-more f a n j old now x e p is =
     ap (λ xs. xs ++ x ∷ []) e
@@ -24,7 +25,8 @@ range-more f a n j old now x e p is =
     ∙ ap (λ xs. old ++ xs) (sym (map-range_with_len_more f a n j p))
 
 module _ {X : Type 0} (f : ℕ → Node → List X) where
-  pub all-at : (ns : List Node) (i : ℕ) (n : Node) → i < length ns → n ≡ get_or ns i n → all_of f i (drop i ns) ≡ f i n ++ all_of f (i + 1) (drop (i + 1) ns)
+  pub all-at : (ns : List Node) (i : ℕ) (n : Node) → i < length ns → n ≡ get_or ns i n → all_of f i (drop i ns)
+      ≡ f i n ++ all_of f (i + 1) (drop (i + 1) ns)
   all-at ns i n l e = ap (all_of f i) (drop_more ns i n l ∙ ap (λ m. m ∷ drop (i + 1) ns) (sym e))
 
   -- the items of a node more
@@ -36,7 +38,8 @@ module _ {X : Type 0} (f : ℕ → Node → List X) where
       ∙ ap (λ xs. now ++ xs) (sym (all-at ns i n l e))
 
   -- and those of them that pass
-  pub passing-more : (p : X → Bool) (ns : List Node) (i : ℕ) (n : Node) (now next : List X) → i < length ns → n ≡ get_or ns i n → next ≡ now ++ filter p (f i n)
+  pub passing-more : (p : X → Bool) (ns : List Node) (i : ℕ) (n : Node) (now next : List X) → i < length ns → n ≡ get_or ns i n → next
+      ≡ now ++ filter p (f i n)
       → next ++ filter p (all_of f (i + 1) (drop (i + 1) ns)) ≡ now ++ filter p (all_of f i (drop i ns))
   passing-more p ns i n now next l e is =
       let rest = all_of f (i + 1) (drop (i + 1) ns) in
@@ -65,28 +68,37 @@ module _ (first : ℕ) (ps : List Standing) (o : Standing) where
   abbrev items : Node → List Driver
   items n = own_driver first ps o n ∷ map (copy_register o) (range_with_len 0 o.copies)
 
-  pub plain-own : (n : Node) → is_delay n ≡ false → filter (λ k. not (is_register k)) (own_driver first ps o n ∷ map (copy_register o) (range_with_len 0 o.copies)) ≡ own_driver first ps o n ∷ []
+  pub plain-own : (n : Node) → is_delay n ≡ false
+      → filter (λ k. not (is_register k)) (own_driver first ps o n ∷ map (copy_register o) (range_with_len 0 o.copies))
+      ≡ own_driver first ps o n ∷ []
   plain-own n h =
       let rest = filter (λ k. not (is_register k)) (map (copy_register o) (range_with_len 0 o.copies)) in
-      ap (λ b. cond (not b) (own_driver first ps o n ∷ rest) rest) (own-register n ∙ h) ∙ ap (λ xs. own_driver first ps o n ∷ xs) (no_plain_copies o (range_with_len 0 o.copies))
+      ap (λ b. cond (not b) (own_driver first ps o n ∷ rest) rest) (own-register n ∙ h)
+      ∙ ap (λ xs. own_driver first ps o n ∷ xs) (no_plain_copies o (range_with_len 0 o.copies))
 
-  pub plain-delay : (n : Node) → is_delay n ≡ true → filter (λ k. not (is_register k)) (own_driver first ps o n ∷ map (copy_register o) (range_with_len 0 o.copies)) ≡ []
+  pub plain-delay : (n : Node) → is_delay n ≡ true
+      → filter (λ k. not (is_register k)) (own_driver first ps o n ∷ map (copy_register o) (range_with_len 0 o.copies)) ≡ []
   plain-delay n h =
       let rest = filter (λ k. not (is_register k)) (map (copy_register o) (range_with_len 0 o.copies)) in
       ap (λ b. cond (not b) (own_driver first ps o n ∷ rest) rest) (own-register n ∙ h) ∙ no_plain_copies o (range_with_len 0 o.copies)
 
-  pub register-own : (n : Node) → is_delay n ≡ false → filter is_register (own_driver first ps o n ∷ map (copy_register o) (range_with_len 0 o.copies)) ≡ map (copy_register o) (range_with_len 0 o.copies)
+  pub register-own : (n : Node) → is_delay n ≡ false
+      → filter is_register (own_driver first ps o n ∷ map (copy_register o) (range_with_len 0 o.copies))
+      ≡ map (copy_register o) (range_with_len 0 o.copies)
   register-own n h =
       let rest = filter is_register (map (copy_register o) (range_with_len 0 o.copies)) in
       ap (λ b. cond b (own_driver first ps o n ∷ rest) rest) (own-register n ∙ h) ∙ all_copies o (range_with_len 0 o.copies)
 
   pub register-delay : (n : Node) → is_delay n ≡ true
-      → filter is_register (own_driver first ps o n ∷ map (copy_register o) (range_with_len 0 o.copies)) ≡ own_driver first ps o n ∷ map (copy_register o) (range_with_len 0 o.copies)
+      → filter is_register (own_driver first ps o n ∷ map (copy_register o) (range_with_len 0 o.copies))
+      ≡ own_driver first ps o n ∷ map (copy_register o) (range_with_len 0 o.copies)
   register-delay n h =
       let rest = filter is_register (map (copy_register o) (range_with_len 0 o.copies)) in
-      ap (λ b. cond b (own_driver first ps o n ∷ rest) rest) (own-register n ∙ h) ∙ ap (λ xs. own_driver first ps o n ∷ xs) (all_copies o (range_with_len 0 o.copies))
+      ap (λ b. cond b (own_driver first ps o n ∷ rest) rest) (own-register n ∙ h)
+      ∙ ap (λ xs. own_driver first ps o n ∷ xs) (all_copies o (range_with_len 0 o.copies))
 
-pub addressed_end : (w : ℕ) (done : List (List Bool × List Bool)) (rows : List (List Bool)) (a : ℕ) → length rows ≤ a + 1 → done ++ addressed w a (drop a rows) ≡ done
+pub addressed_end : (w : ℕ) (done : List (List Bool × List Bool)) (rows : List (List Bool)) (a : ℕ) → length rows ≤ a + 1
+    → done ++ addressed w a (drop a rows) ≡ done
 addressed_end w done rows a l = ap (λ xs. done ++ xs) (go rows a l) ∙ append-nil done
   where
     go : (rows : List (List Bool)) (a : ℕ) → length rows ≤ a + 1 → addressed w a (drop a rows) ≡ []

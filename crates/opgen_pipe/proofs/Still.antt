@@ -41,10 +41,13 @@ pub chosen_same : (a b c x y z : List Bool) → a ≡ x → b ≡ y → c ≡ z 
 chosen_same a b c x y z h i j = ap (λ n. chosen n b c) h ∙ ap (λ n. chosen x n c) i ∙ ap (λ n. chosen x y n) j
 
 -- the row that a word numbers is there
-pub row-there : (words rows : List (List Bool)) (address : ℕ) (w : List Bool) → FitsTable (map length words) address rows → w ≡ get_or words address w → nat w < length rows
+pub row-there : (words rows : List (List Bool)) (address : ℕ) (w : List Bool) → FitsTable (map length words) address rows → w
+    ≡ get_or words address w → nat w < length rows
 row-there words rows address w h e =
-    let there : address < length words = omega (arith, index_within (map length words) address 0 (omega (arith, h.address_width.0)), length-map words length) in
-    let wide : slice_index (map length words) address ≡ length w = width-at words address ∙ ap length (sym (read-word words address w there e)) in
+    let there : address < length words = omega
+    (arith, index_within (map length words) address 0 (omega (arith, h.address_width.0)), length-map words length) in
+    let wide : slice_index (map length words) address ≡ length w = width-at words address
+    ∙ ap length (sym (read-word words address w there e)) in
     omega (arith, nat-below w, h.row_for_each, ap (λ n. 2 ^ n) wide)
 
 pub node-there : (words : List (List Bool)) (i : ℕ) → i < length (map length words) → i < length words
@@ -73,11 +76,13 @@ module _ (net : Net) (valid : IsValid net) where
       omega (arith, ap length same, wide k there, (are_widths net.nodes valid.nodes k there).1)
 
   pub zeros-narrow : (k : ℕ) (words : List (List Bool)) → words ≡ take k (zero_words net) → All (λ w. length w ≤ MAX_WIDTH) words
-  zeros-narrow k words e = subst (All (λ w. length w ≤ MAX_WIDTH)) (sym e) (All-take (λ w. length w ≤ MAX_WIDTH) k (zero_words net) all-narrow)
+  zeros-narrow k words e = subst (All (λ w. length w ≤ MAX_WIDTH)) (sym e)
+      (All-take (λ w. length w ≤ MAX_WIDTH) k (zero_words net) all-narrow)
 
   widths-are : map length (zero_words net) ≡ widths net.nodes
   widths-are =
-      ext_get_or 0 (map length (zero_words net)) (widths net.nodes) (length-map (zero_words net) length ∙ count ∙ sym (length-widths net.nodes))
+      ext_get_or 0 (map length (zero_words net)) (widths net.nodes)
+      (length-map (zero_words net) length ∙ count ∙ sym (length-widths net.nodes))
       (λ i l. width-at (zero_words net) i ∙ wide i (omega (arith, l, length-map (zero_words net) length, count)))
 
   map-take : (k : ℕ) (ws : List (List Bool)) → map length (take k ws) ≡ take k (map length ws)
@@ -86,11 +91,13 @@ module _ (net : Net) (valid : IsValid net) where
   take-front : (xs ys : List ℕ) (k : ℕ) → length xs ≡ k → take k (xs ++ ys) ≡ xs
   take-front xs ys k e = ap (λ n. take n (xs ++ ys)) (sym e) ∙ take-append_seam xs ys
 
-  pub zeros-stand : (i : ℕ) (n : Node) → slice_get net.nodes i ≡ Some n → (words : List (List Bool)) → words ≡ take i (zero_words net) → MayStand (map length words) n
+  pub zeros-stand : (i : ℕ) (n : Node) → slice_get net.nodes i ≡ Some n → (words : List (List Bool)) → words ≡ take i (zero_words net)
+      → MayStand (map length words) n
   zeros-stand i n h words e =
       let s = stands_at net.nodes valid.nodes i n h in
       let earlier : map length words ≡ s.earlier =
-      ap (map length) e ∙ map-take i (zero_words net) ∙ ap (take i) (widths-are ∙ s.all) ∙ take-front s.earlier (node_width s.earlier n ∷ s.later) i s.place in
+      ap (map length) e ∙ map-take i (zero_words net) ∙ ap (take i) (widths-are ∙ s.all)
+      ∙ take-front s.earlier (node_width s.earlier n ∷ s.later) i s.place in
       subst (λ ws. MayStand ws n) (sym earlier) s.stands
 
   -- the words before a node
@@ -100,7 +107,8 @@ module _ (net : Net) (valid : IsValid net) where
   still-is : (i : ℕ) (n : Node) → slice_get net.nodes i ≡ Some n → still_word (take i (zero_words net)) n ≡ flow net.nodes [] i (negsuc 0)
   still-is i n h = by n h (reads-before net.nodes valid.nodes i n h) ∙ sym (flow_equation net.nodes valid.nodes [] i n (negsuc 0) h)
     where
-      by : (n : Node) → slice_get net.nodes i ≡ Some n → All (λ j. j < i) (reads_of n) → still_word (take i (zero_words net)) n ≡ stream_of [] (streams_on [] [] net.nodes) n (negsuc 0)
+      by : (n : Node) → slice_get net.nodes i ≡ Some n → All (λ j. j < i) (reads_of n) → still_word (take i (zero_words net)) n
+          ≡ stream_of [] (streams_on [] [] net.nodes) n (negsuc 0)
       by (Input port w) h r = refl
       by (Constant w) h r = refl
       by (Cells class w e) h r =
@@ -123,7 +131,8 @@ module _ (net : Net) (valid : IsValid net) where
           before i of l (All-head (λ j. j < i) of [] r) ∙ flow-before net.nodes [] [] of 0 1
 
   -- one word more
-  pub zeros-more : (i : ℕ) (n : Node) → slice_get net.nodes i ≡ Some n → (words : List (List Bool)) (word : List Bool) → words ≡ take i (zero_words net) → word ≡ still_word words n
+  pub zeros-more : (i : ℕ) (n : Node) → slice_get net.nodes i ≡ Some n → (words : List (List Bool)) (word : List Bool) → words
+      ≡ take i (zero_words net) → word ≡ still_word words n
       → words ++ word ∷ [] ≡ take (i + 1) (zero_words net)
   zeros-more i n h words word e f =
       let l = slice_get_within net.nodes i n h in

@@ -14,7 +14,8 @@ length-addressed w a [] = refl
 length-addressed w a (r ∷ []) = refl
 length-addressed w a (r ∷ s ∷ rows) = omega (arith, length-addressed w (a + 1) (s ∷ rows))
 
-get-addressed_on : (w a : ℕ) (rows : List (List Bool)) (k : ℕ) (d : List Bool × List Bool) → k + 1 < length rows → get_or (addressed w a rows) k d ≡ (word w (a + k), get_or rows k [])
+get-addressed_on : (w a : ℕ) (rows : List (List Bool)) (k : ℕ) (d : List Bool × List Bool) → k + 1 < length rows
+    → get_or (addressed w a rows) k d ≡ (word w (a + k), get_or rows k [])
 get-addressed_on w a [] k d l = absurd (omega (arith, l))
 get-addressed_on w a (r ∷ []) k d l = absurd (omega (arith, l))
 get-addressed_on w a (r ∷ s ∷ rows) zero d l = let e : a ≡ a + 0 = omega arith in ap (λ i. (word w i, r)) e
@@ -22,7 +23,8 @@ get-addressed_on w a (r ∷ s ∷ rows) (suc k) d l =
     let e : a + 1 + k ≡ a + suc k = omega arith in
     get-addressed_on w (a + 1) (s ∷ rows) k d (omega (arith, l)) ∙ ap (λ i. (word w i, get_or (s ∷ rows) k [])) e
 
-pub get-addressed : (w : ℕ) (rows : List (List Bool)) (k : ℕ) (d : List Bool × List Bool) → k + 1 < length rows → get_or (addressed w 0 rows) k d ≡ (word w k, get_or rows k [])
+pub get-addressed : (w : ℕ) (rows : List (List Bool)) (k : ℕ) (d : List Bool × List Bool) → k + 1 < length rows
+    → get_or (addressed w 0 rows) k d ≡ (word w k, get_or rows k [])
 get-addressed w rows k d l = let e : 0 + k ≡ k = omega arith in get-addressed_on w 0 rows k d l ∙ ap (λ i. (word w i, get_or rows k [])) e
 
 -- the row that the address numbers

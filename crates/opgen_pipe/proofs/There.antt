@@ -11,12 +11,14 @@ use Rattle.opgen_net.proofs.FlowLaws.{length-widths, lies_within}
 use Rattle.opgen_schedule.specs.Reads.{reads_of}
 use Rattle.opgen_schedule.proofs.Reading.{reads-before}
 
-pub reads_there : (net : Net) → IsValid net → (nodes : List Node) → nodes ≡ net.nodes → (i : ℕ) (n : Node) → i < length nodes → n ≡ get_or nodes i n
+pub reads_there : (net : Net) → IsValid net → (nodes : List Node) → nodes ≡ net.nodes → (i : ℕ) (n : Node) → i < length nodes → n
+    ≡ get_or nodes i n
     → (reads : List ℕ) → reads ≡ reads_of n → All (λ j. j < length nodes) reads
 reads_there net valid nodes e i n l g reads f =
     let h = slice_get_read nodes (length nodes) i n refl l g in
     let a = reads-before net.nodes valid.nodes i n (ap (λ ns. slice_get ns i) (sym e) ∙ h) in
-    All-same (λ j. j < length nodes) reads (reads_of n) f (All-weaker (λ j. j < i) (λ j. j < length nodes) (λ j m. omega (arith, m, l)) (reads_of n) a)
+    All-same (λ j. j < length nodes) reads (reads_of n) f
+    (All-weaker (λ j. j < i) (λ j. j < length nodes) (λ j m. omega (arith, m, l)) (reads_of n) a)
 
 pub outputs_there : (net : Net) → IsValid net → (nodes : List Node) → nodes ≡ net.nodes → (outputs : List Output) → outputs ≡ net.outputs
     → All (λ o. o.from.node < length nodes) outputs
@@ -26,7 +28,8 @@ outputs_there net valid nodes e outputs f =
     (λ o h. omega (arith, lies_within (widths net.nodes) o.from h, length-widths net.nodes, ap length e)) net.outputs valid.outputs
     )
 
-pub output_nodes_there : (net : Net) → IsValid net → (nodes : List Node) → nodes ≡ net.nodes → (outputs : List Output) → outputs ≡ net.outputs
+pub output_nodes_there : (net : Net) → IsValid net → (nodes : List Node) → nodes ≡ net.nodes → (outputs : List Output) → outputs
+    ≡ net.outputs
     → (reads : List ℕ) → reads ≡ map (λ o. o.from.node) outputs → All (λ j. j < length nodes) reads
 output_nodes_there net valid nodes e outputs f reads g =
     All-same (λ j. j < length nodes) reads (map (λ o. o.from.node) outputs) g

@@ -18,7 +18,8 @@ NoPorts _ = ⊥
 
 module _ (ps : List Standing) (c : ℕ) where
   -- a part is read by name only where it is the whole
-  pub part_cases : (T : Tree → Type 0) (n high low : ℕ) → (low ≡ 0 → high + 1 ≡ (standing_at ps n).width → T (name (read_in ps c n))) → T (part (read_in ps c n) high low)
+  pub part_cases : (T : Tree → Type 0) (n high low : ℕ) → (low ≡ 0 → high + 1 ≡ (standing_at ps n).width → T (name (read_in ps c n)))
+      → T (part (read_in ps c n) high low)
       → T (part_in ps c n high low)
   part_cases T n high low whole other =
       cond_both (nat_eq low 0 && nat_eq (high + 1) (standing_at ps n).width) (name (read_in ps c n)) (part (read_in ps c n) high low) T
@@ -39,7 +40,8 @@ module _ (ps : List Standing) (c : ℕ) where
         part_cases (λ t. value s t ≡ cut high low (r.names n)) n high low
         (
         λ bottom top.
-        h.0 ∙ sym (ap (λ l. take (high + 1 - l) (drop l (r.names n))) bottom ∙ take_all (high + 1 - 0) (r.names n) (omega (arith, top, h.1)))
+        h.0 ∙ sym (ap (λ l. take (high + 1 - l) (drop l (r.names n))) bottom
+        ∙ take_all (high + 1 - 0) (r.names n) (omega (arith, top, h.1)))
         )
         (ap (cut high low) h.0)
 
@@ -56,7 +58,8 @@ module _ (ps : List Standing) (c : ℕ) where
       chain-value op none h = refl
       chain-value op (more t ts) h = ap (λ w. value_on s op w (trees_in ps c ts)) (tree-value t h.0) ∙ on-value op (value r t) ts h.1
 
-      on-value : (op : Op) (w : List Bool) (ts : Trees) → AllOperandsRead HasWord NoPorts ts → value_on s op w (trees_in ps c ts) ≡ value_on r op w ts
+      on-value : (op : Op) (w : List Bool) (ts : Trees) → AllOperandsRead HasWord NoPorts ts → value_on s op w (trees_in ps c ts)
+          ≡ value_on r op w ts
       on-value op w none h = refl
       on-value op w (more t ts) h =
           ap (λ v. value_on s op (combined op w v) (trees_in ps c ts)) (tree-value t h.0) ∙ on-value op (combined op w (value r t)) ts h.1
@@ -69,7 +72,8 @@ module _ (ps : List Standing) (c : ℕ) where
     abbrev width_of_part : (high low : ℕ) → ℕ → Option ℕ
     width_of_part high low w = if nat_le low high && nat_lt high w then as_width (high + 1 - low) else None
 
-    pub part-width : (n high low w : ℕ) → HasWidthOf n → width ns [] (part n high low) ≡ Some w → width ms qs (part_in ps c n high low) ≡ Some w
+    pub part-width : (n high low w : ℕ) → HasWidthOf n → width ns [] (part n high low) ≡ Some w → width ms qs (part_in ps c n high low)
+        ≡ Some w
     part-width n high low w h e =
         let f : ℕ → Option ℕ = λ v. if nat_le low high && nat_lt high v then as_width (high + 1 - low) else None in
         let a = some_before (slice_get ns n) f w e in
@@ -94,19 +98,23 @@ module _ (ps : List Standing) (c : ℕ) where
       tree-width (inverse t) w h e = tree-width t w h e
       tree-width (chain op ts) w h e = chain-width op ts w h e
 
-      chain-width : (op : Op) (ts : Trees) (w : ℕ) → AllOperandsRead HasWidthOf NoPorts ts → chain_width ns [] op ts ≡ Some w → chain_width ms qs op (trees_in ps c ts) ≡ Some w
+      chain-width : (op : Op) (ts : Trees) (w : ℕ) → AllOperandsRead HasWidthOf NoPorts ts → chain_width ns [] op ts ≡ Some w
+          → chain_width ms qs op (trees_in ps c ts) ≡ Some w
       chain-width op none w h e = absurd (cc)
       chain-width op (more t none) w h e = absurd (cc)
       chain-width op (more t (more u ts)) w h e =
           let a = some_before (width ns [] t) (λ x. width_on ns [] op x (more u ts)) w e in
-          ap (option_and_then (λ x. width_on ms qs op x (trees_in ps c (more u ts)))) (tree-width t a.0 h.0 a.1) ∙ on-width op a.0 (more u ts) w h.1 a.2
+          ap (option_and_then (λ x. width_on ms qs op x (trees_in ps c (more u ts)))) (tree-width t a.0 h.0 a.1)
+          ∙ on-width op a.0 (more u ts) w h.1 a.2
 
-      on-width : (op : Op) (v : ℕ) (ts : Trees) (w : ℕ) → AllOperandsRead HasWidthOf NoPorts ts → width_on ns [] op v ts ≡ Some w → width_on ms qs op v (trees_in ps c ts) ≡ Some w
+      on-width : (op : Op) (v : ℕ) (ts : Trees) (w : ℕ) → AllOperandsRead HasWidthOf NoPorts ts → width_on ns [] op v ts ≡ Some w
+          → width_on ms qs op v (trees_in ps c ts) ≡ Some w
       on-width op v none w h e = e
       on-width op v (more t ts) w h e =
           let a = some_before (width ns [] t) (λ x. option_and_then (λ u. width_on ns [] op u ts) (joined op v x)) w e in
           let b = some_before (joined op v a.0) (λ u. width_on ns [] op u ts) w a.2 in
-          ap (option_and_then (λ x. option_and_then (λ u. width_on ms qs op u (trees_in ps c ts)) (joined op v x))) (tree-width t a.0 h.0 a.1)
+          ap (option_and_then (λ x. option_and_then (λ u. width_on ms qs op u (trees_in ps c ts)) (joined op v x)))
+          (tree-width t a.0 h.0 a.1)
           ∙ ap (option_and_then (λ u. width_on ms qs op u (trees_in ps c ts))) b.1
           ∙ on-width op b.0 ts w h.1 b.2
 

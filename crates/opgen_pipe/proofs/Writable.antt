@@ -59,11 +59,13 @@ no_double c [] e h = refl
 no_double c (d ∷ ds) e h = rw (e, no_double d ds (digit-no_underscore d h.0) h.1) refl
 
 -- an underscore between digits
-no_end_within : (c : ℕ) (ds : List ℕ) (e : ℕ) (es : List ℕ) → digit_value e < 10 → AllDigits 10 es → ends_with_underscore (c ∷ (ds ++ 95 ∷ e ∷ es)) ≡ false
+no_end_within : (c : ℕ) (ds : List ℕ) (e : ℕ) (es : List ℕ) → digit_value e < 10 → AllDigits 10 es
+    → ends_with_underscore (c ∷ (ds ++ 95 ∷ e ∷ es)) ≡ false
 no_end_within c [] e es h k = no_end e es (digit-no_underscore e h) k
 no_end_within c (d ∷ ds) e es h k = no_end_within d ds e es h k
 
-no_double_within : (c : ℕ) (ds : List ℕ) (e : ℕ) (es : List ℕ) → is_underscore c ≡ false → AllDigits 10 ds → digit_value e < 10 → AllDigits 10 es
+no_double_within : (c : ℕ) (ds : List ℕ) (e : ℕ) (es : List ℕ) → is_underscore c ≡ false → AllDigits 10 ds → digit_value e < 10
+    → AllDigits 10 es
     → has_double_underscore (c ∷ (ds ++ 95 ∷ e ∷ es)) ≡ false
 no_double_within c [] e es u a h k = rw (u, digit-no_underscore e h, no_double e es (digit-no_underscore e h) k) refl
 no_double_within c (d ∷ ds) e es u a h k = rw (u, no_double_within d ds e es (digit-no_underscore d a.0) a.1 h k) refl
@@ -91,14 +93,21 @@ digits-allowed (c ∷ cs) some short h =
     let fits : nat_le (length (115 ∷ c ∷ cs)) 64 ≡ true = le-leb (length (115 ∷ c ∷ cs)) 64 (omega (arith, short)) in
     rw (fits, all_bytes (c ∷ cs) h, no_end 115 (c ∷ cs) refl h, no_double 115 (c ∷ cs) refl h, not_refused c cs h.0) refl
 
-two-allowed : (ds es : List ℕ) → 0 < length ds → length ds ≤ 20 → AllDigits 10 ds → 0 < length es → length es ≤ 20 → AllDigits 10 es → is_allowed_name (115 ∷ (ds ++ 95 ∷ es)) ≡ true
+two-allowed : (ds es : List ℕ) → 0 < length ds → length ds ≤ 20 → AllDigits 10 ds → 0 < length es → length es ≤ 20 → AllDigits 10 es
+    → is_allowed_name (115 ∷ (ds ++ 95 ∷ es)) ≡ true
 two-allowed [] es some short h more few k = absurd (omega (arith, some))
 two-allowed (c ∷ cs) [] some short h more few k = absurd (omega (arith, more))
 two-allowed (c ∷ cs) (e ∷ es) some short h more few k =
     let long : length (115 ∷ ((c ∷ cs) ++ 95 ∷ e ∷ es)) ≤ 64 = omega (arith, length-append (c ∷ cs) (95 ∷ e ∷ es), short, few) in
     let fits : nat_le (length (115 ∷ ((c ∷ cs) ++ 95 ∷ e ∷ es))) 64 ≡ true = le-leb (length (115 ∷ ((c ∷ cs) ++ 95 ∷ e ∷ es))) 64 long in
     let bytes : list_all is_name_byte ((c ∷ cs) ++ 95 ∷ e ∷ es) ≡ true = name_bytes (c ∷ cs) (95 ∷ e ∷ es) h (all_bytes (e ∷ es) k) in
-    rw (fits, bytes, no_end_within 115 (c ∷ cs) e es k.0 k.1, no_double_within 115 (c ∷ cs) e es refl h k.0 k.1, not_refused c (cs ++ 95 ∷ e ∷ es) h.0) refl
+    rw (
+      fits,
+      bytes,
+      no_end_within 115 (c ∷ cs) e es k.0 k.1,
+      no_double_within 115 (c ∷ cs) e es refl h k.0 k.1,
+      not_refused c (cs ++ 95 ∷ e ∷ es) h.0,
+    ) refl
 
 signal-allowed : (i : ℕ) → i < 2 ^ 64 → Allowed (signal_name i)
 signal-allowed i h =
@@ -111,7 +120,8 @@ copy-allowed i k h l =
     let b = (decimal_is_IsNumeral k l).0 in
     let e : copy_name i k ≡ 115 ∷ (decimal i ++ 95 ∷ decimal k) = ap (λ ds. 115 ∷ ds) (append_assoc (decimal i) (codes "_") (decimal k)) in
     ap is_allowed_name e
-    ∙ two-allowed (decimal i) (decimal k) a.0 (length-decimal-le 20 i (omega arith) (omega (arith, h)) h) a.1 b.0 (length-decimal-le 20 k (omega arith) (omega (arith, l)) l) b.1
+    ∙ two-allowed (decimal i) (decimal k) a.0 (length-decimal-le 20 i (omega arith) (omega (arith, h)) h) a.1 b.0
+    (length-decimal-le 20 k (omega arith) (omega (arith, l)) l) b.1
 
 enable-allowed : Allowed (codes "ce")
 unfolding refused_words
@@ -124,7 +134,8 @@ enable_name false i x h = absurd (cc)
 
 module _ (called : List ℕ) (enable : Bool) (net : Net) (s : Schedule) (named : IsNamed called net) (few : signal_count net s ≤ 2 ^ 64) where
   name_at : (i : ℕ) (n : List ℕ) → slice_get (port_names net) i ≡ Some n → Allowed n
-  name_at i n h = subst Allowed (get_or_from_slice_get (port_names net) i n n h) (named.allowed i n (slice_get_within (port_names net) i n h))
+  name_at i n h = subst Allowed (get_or_from_slice_get (port_names net) i n n h)
+      (named.allowed i n (slice_get_within (port_names net) i n h))
 
   ports-allowed : (i : ℕ) → (p : Port) → slice_get (ports_of enable net) i ≡ Some p → Allowed p.name
   ports-allowed =
@@ -135,13 +146,15 @@ module _ (called : List ℕ) (enable : Bool) (net : Net) (s : Schedule) (named :
         | inl a ↦ subst Allowed (sym (enable_name enable i x a)) enable-allowed
         | inr b ↦
             let at = get-mapped (λ y. y.0) net.inputs b.0 x b.2 in
-            name_at b.0 x.0 (get-left (map (λ y. y.0) net.inputs) (map (λ o. o.name) net.outputs) b.0 (slice_get_within (map (λ y. y.0) net.inputs) b.0 x.0 at) ∙ at)
+            name_at b.0 x.0 (get-left (map (λ y. y.0) net.inputs) (map (λ o. o.name) net.outputs) b.0
+            (slice_get_within (map (λ y. y.0) net.inputs) b.0 x.0 at) ∙ at)
       ]
       )
       (
       λ j o h.
       let names = map (λ y. y.0) net.inputs in
-      name_at (length names + j) o.name (get-right names (map (λ o. o.name) net.outputs) (length names + j) j refl ∙ get-mapped (λ o. o.name) net.outputs j o h)
+      name_at (length names + j) o.name (get-right names (map (λ o. o.name) net.outputs) (length names + j) j refl
+      ∙ get-mapped (λ o. o.name) net.outputs j o h)
       )
 
   small : (i : ℕ) → i < length net.nodes → (i < 2 ^ 64) × (copies net s i < 2 ^ 64)
@@ -161,7 +174,8 @@ design-writable called enable net delays setup period s valid named fits few = r
   names = record {
     entity = named.name_allowed;
     ports = λ i d l. ports-allowed called enable net s named few i _ (slice_get-get_or (ports_of enable net) i d l);
-    signals = λ i d l. signals-allowed called enable net s named few i _ (slice_get-get_or (all_of (node_signals net (standings net s)) 0 net.nodes) i d l);
+    signals = λ i d l. signals-allowed called enable net s named few i _
+        (slice_get-get_or (all_of (node_signals net (standings net s)) 0 net.nodes) i d l);
   };
   has_port = omega (arith, named.has_port, length-ports enable net);
 }

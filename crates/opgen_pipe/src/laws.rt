@@ -1,9 +1,9 @@
 ghost use Rattle.opgen_pipe.specs.Laws.{DesignIsShaped, DesignIsSound, DesignIsWritable, DesignRuns, RunFollowsFlow};
-ghost use Rattle.opgen_pipe.specs.Timed.{PlanFits, PlanIsLeast};
+ghost use Rattle.opgen_pipe.specs.Timed.{PlanFits, PlanIsLeast, PlanPathsFit};
 
 use opgen_design::laws::{any_cycles_are_runs, enabled_cycles_are_runs};
 use opgen_runs::one_run;
-use opgen_schedule::{stage_fits, stage_is_least};
+use opgen_schedule::{paths_fit, stage_fits, stage_is_least};
 
 /// The design of a valid net at a schedule that fits is sound, where the names of the net can stand in it.
 pub fn design_is_sound()
@@ -48,4 +48,12 @@ pub fn plan_is_least()
     ensures { PlanIsLeast }
 {
     stage_is_least();
+}
+
+/// In a plan's schedule each path of cells within a cycle ends its setup before the end of the cycle.
+pub fn plan_paths_fit()
+    ensures { PlanPathsFit }
+{
+    stage_fits();
+    paths_fit();
 }

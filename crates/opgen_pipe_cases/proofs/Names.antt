@@ -58,7 +58,8 @@ inputs_of net = map (λ i. i.0) net.inputs
 abbrev outputs_of : Net → List (List ℕ)
 outputs_of net = map (λ o. o.name) net.outputs
 
-joined : (net : Net) (outputs : List (List ℕ)) → inputs_of net ≡ codes "x" ∷ [] → outputs_of net ≡ outputs → port_names net ≡ codes "x" ∷ outputs
+joined : (net : Net) (outputs : List (List ℕ)) → inputs_of net ≡ codes "x" ∷ [] → outputs_of net ≡ outputs → port_names net
+    ≡ codes "x" ∷ outputs
 joined net outputs i o = ap (λ is. is ++ outputs_of net) i ∙ ap (λ os. codes "x" ∷ os) o
 
 one_input : (net : Net) → inputs_of net ≡ codes "x" ∷ [] → length net.inputs ≡ 1
@@ -112,13 +113,15 @@ each P x y z w =
     All-cons P (codes "x") (codes "y" ∷ codes "z" ∷ codes "w" ∷ []) x (All-cons P (codes "y") (codes "z" ∷ codes "w" ∷ []) y
     (All-cons P (codes "z") (codes "w" ∷ []) z (All-cons P (codes "w") [] w (All-nil P))))
 
-pub named_three : (net : Net) → inputs_of net ≡ codes "x" ∷ [] → outputs_of net ≡ codes "y" ∷ codes "z" ∷ codes "w" ∷ [] → IsNamed (codes "made") net
+pub named_three : (net : Net) → inputs_of net ≡ codes "x" ∷ [] → outputs_of net ≡ codes "y" ∷ codes "z" ∷ codes "w" ∷ []
+    → IsNamed (codes "made") net
 named_three net i o =
     let names = joined net (codes "y" ∷ codes "z" ∷ codes "w" ∷ []) i o in
     record {
       has_port = omega (arith, one_input net i);
       name_allowed = made_allowed;
-      allowed = subst (All (λ n. IsTrue (is_allowed_name n))) (sym names) (each (λ n. IsTrue (is_allowed_name n)) x_allowed y_allowed z_allowed w_allowed);
+      allowed = subst (All (λ n. IsTrue (is_allowed_name n))) (sym names)
+          (each (λ n. IsTrue (is_allowed_name n)) x_allowed y_allowed z_allowed w_allowed);
       differ = subst (AllPairs (λ a b. a ≢ b)) (sym names) (λ i j d l m. differ_four i j d l m);
       free = subst (All IsFree) (sym names) (each IsFree free_x free_y free_z free_w);
     }

@@ -14,9 +14,11 @@ digit_bounds b h =
     let (low, high) = and_parts (nat_le 48 b) (nat_le b 57) h in
     (leb-true 48 b low, leb-true b 57 high)
 
-pub digit_at : (digits : List ℕ) (i : ℕ) → list_all is_ascii_digit digits ≡ true → i < length digits → (48 ≤ get_or digits i 0) × (get_or digits i 0 ≤ 57)
+pub digit_at : (digits : List ℕ) (i : ℕ) → list_all is_ascii_digit digits ≡ true → i < length digits → (48 ≤ get_or digits i 0)
+    × (get_or digits i 0 ≤ 57)
 digit_at digits i all lt =
-    digit_bounds (get_or digits i 0) (true_from_ne_false (is_ascii_digit (get_or digits i 0)) (λ no_digit. let none = list_all_at is_ascii_digit digits i 0 lt no_digit in cc))
+    digit_bounds (get_or digits i 0) (true_from_ne_false (is_ascii_digit (get_or digits i 0)) (λ no_digit. let none = list_all_at
+    is_ascii_digit digits i 0 lt no_digit in cc))
 
 digit_is : (b : ℕ) → 48 ≤ b → b ≤ 57 → digit_value b ≡ b - 48
 digit_is b low high = rw (le-ltb b 48 low, lt-ltb b 58 (omega (arith, high))) refl
@@ -26,12 +28,14 @@ pub read_digit : (digits : List ℕ) (n i : ℕ) → list_all is_ascii_digit dig
     digits_value_after 10 n (drop i digits) ≡ digits_value_after 10 (n * 10 + (get_or digits i 0 - 48)) (drop (suc i) digits)
 read_digit digits n i all lt =
     let (low, high) = digit_at digits i all lt in
-    ap (digits_value_after 10 n) (drop-cons digits i 0 lt) ∙ ap (λ d. digits_value_after 10 (n * 10 + d) (drop (suc i) digits)) (digit_is (get_or digits i 0) low high)
+    ap (digits_value_after 10 n) (drop-cons digits i 0 lt)
+    ∙ ap (λ d. digits_value_after 10 (n * 10 + d) (drop (suc i) digits)) (digit_is (get_or digits i 0) low high)
 
 -- reading on makes a number no less
 grows : (n : ℕ) (ds : List ℕ) → n ≤ digits_value_after 10 n ds
 grows n [] = omega arith
 grows n (d ∷ ds) = omega (arith, grows (n * 10 + digit_value d) ds)
 
-pub no_index : (digits : List ℕ) (n i : ℕ) → digits_value_after 10 n (drop i digits) ≡ value digits → MAX_WIDTH ≤ n → None ≡ (if nat_lt (value digits) MAX_WIDTH then Some (value digits) else None)
+pub no_index : (digits : List ℕ) (n i : ℕ) → digits_value_after 10 n (drop i digits) ≡ value digits → MAX_WIDTH ≤ n → None
+    ≡ (if nat_lt (value digits) MAX_WIDTH then Some (value digits) else None)
 no_index digits n i e h = rw (le-ltb (value digits) MAX_WIDTH (omega (arith, e, h, grows n (drop i digits)))) refl

@@ -21,11 +21,13 @@ no_tokens bytes ts n s t =
     omega (arith, ap length none_left, t.more)
 
 one_offset : (bytes : List ℕ) (m n : ℕ) → LexicalAt bytes m → LexicalAt bytes n → m ≡ n
-one_offset bytes m n s t = sym s.place ∙ ap size_of (one_cut s.elements t.elements bytes s.rest t.rest s.cut t.cut s.nothing t.nothing).0 ∙ t.place
+one_offset bytes m n s t = sym s.place ∙ ap size_of (one_cut s.elements t.elements bytes s.rest t.rest s.cut t.cut s.nothing t.nothing).0
+    ∙ t.place
 
 -- rules by number
 abbrev rules : List Rule
-rules = Undeclared ∷ Undeclared ∷ DeclaredTwice ∷ Width ∷ DrivenTwice ∷ NotDriven ∷ Cyclic ∷ ReadsOutput ∷ NoInitial ∷ ChoiceTwice ∷ BadEnable ∷ []
+rules = Undeclared ∷ Undeclared ∷ DeclaredTwice ∷ Width ∷ DrivenTwice ∷ NotDriven ∷ Cyclic ∷ ReadsOutput ∷ NoInitial ∷ ChoiceTwice ∷
+    BadEnable ∷ []
 
 there : (r : Rule) → slice_get rules (rule_number r) ≡ Some r
 there Undeclared = refl
@@ -72,7 +74,8 @@ one_failure r m i n j (inr f) (inr g) =
     let same = one_rule f.1 g.1 number in
     (sym f.2 ∙ number ∙ g.2, same_item r.design g.1 i j (subst (λ x. IsFirstUnsound r.design x i) same f.3) g.3)
 
-fail_at : (bytes : List ℕ) (q r : Reading) (m i n j : ℕ) → Statements bytes q → Statements bytes r → FailsAt q m i → FailsAt r n j → Unsound m i ≡ Unsound n j
+fail_at : (bytes : List ℕ) (q r : Reading) (m i n j : ℕ) → Statements bytes q → Statements bytes r → FailsAt q m i → FailsAt r n j
+    → Unsound m i ≡ Unsound n j
 fail_at bytes q r m i n j s t f g =
     let same = one_list bytes q r s t in
     let (a, b) = one_failure r m i n j (subst (λ x. FailsAt x m i) same f) g in
@@ -93,10 +96,12 @@ one_cause bytes (Syntax k) (Unsound r i) m n c d = absurd (not_both bytes d.0 k 
 one_cause bytes TooLarge (Lexical i) m n c d = absurd (no_tokens bytes c.1.tokens i c.1.cut d)
 one_cause bytes TooLarge (Syntax k) m n c d = absurd (not_both bytes c.0 k c.1 d)
 one_cause bytes TooLarge TooLarge m n c d = refl
-one_cause bytes TooLarge (Unsound r i) m n c d = absurd (c.2 (subst (λ (x : Reading). IsWithinLimits x.design) (one_list bytes d.0 c.0 d.1 c.1) d.2))
+one_cause bytes TooLarge (Unsound r i) m n c d = absurd
+    (c.2 (subst (λ (x : Reading). IsWithinLimits x.design) (one_list bytes d.0 c.0 d.1 c.1) d.2))
 one_cause bytes (Unsound r i) (Lexical k) m n c d = absurd (no_tokens bytes c.1.tokens k c.1.cut d)
 one_cause bytes (Unsound r i) (Syntax k) m n c d = absurd (not_both bytes c.0 k c.1 d)
-one_cause bytes (Unsound r i) TooLarge m n c d = absurd (d.2 (subst (λ (x : Reading). IsWithinLimits x.design) (one_list bytes c.0 d.0 c.1 d.1) c.2))
+one_cause bytes (Unsound r i) TooLarge m n c d = absurd
+    (d.2 (subst (λ (x : Reading). IsWithinLimits x.design) (one_list bytes c.0 d.0 c.1 d.1) c.2))
 one_cause bytes (Unsound r i) (Unsound q j) m n c d = fail_at bytes c.0 d.0 r i q j c.1 d.1 c.3 d.3
 
 -- in a sound design no rule fails
@@ -134,7 +139,8 @@ sound_fails r m i agrees s (inl f) = let bad : false ≡ true = sym f.0 ∙ agre
 sound_fails r m i agrees s (inr f) = f.3.fails.2 (all_hold r.design s f.1 f.3.fails.0)
 
 -- a text that spells a sound design within the limits has no cause against it
-pub no_cause : (bytes : List ℕ) (d : Design) (e : ReadFault) → Spells bytes d → IsWithinLimits d → IsSound d → IsReadFault bytes e → e ≡ Memory
+pub no_cause : (bytes : List ℕ) (d : Design) (e : ReadFault) → Spells bytes d → IsWithinLimits d → IsSound d → IsReadFault bytes e → e
+    ≡ Memory
 no_cause bytes d (Lexical i) p w s c = absurd (no_tokens bytes p.statements.tokens i p.statements.cut c)
 no_cause bytes d (Syntax k) p w s c = absurd (not_both bytes p.read k p.statements c)
 no_cause bytes d TooLarge p w s c =

@@ -29,20 +29,28 @@ module _ {X : Type 0} (p : X → Bool) where
     | inr h ↦ omega (arith, h, within xs)
   ]
 
-  one_more : (xs : List X) (x : X) (b : Bool) → p x ≡ b → position_or_len p xs ≡ length xs → position p (xs ++ x ∷ []) ≡ (cond b (Some (length xs)) None)
+  one_more : (xs : List X) (x : X) (b : Bool) → p x ≡ b → position_or_len p xs ≡ length xs → position p (xs ++ x ∷ [])
+      ≡ (cond b (Some (length xs)) None)
   one_more xs x true e h =
-      let all : position_or_len p (xs ++ x ∷ []) ≡ length xs = position_or_len_push p xs x ∙ rw (eq-eqb (position_or_len p xs) (length xs) h, e) (omega arith) in
+      let all : position_or_len p (xs ++ x ∷ []) ≡ length xs = position_or_len_push p xs x
+      ∙ rw (eq-eqb (position_or_len p xs) (length xs) h, e) (omega arith) in
       rw (all, lt-ltb (length xs) (length (xs ++ x ∷ [])) (omega (arith, length-append xs (x ∷ [])))) refl
   one_more xs x false e h =
-      let all : position_or_len p (xs ++ x ∷ []) ≡ length xs + 1 = position_or_len_push p xs x ∙ rw (eq-eqb (position_or_len p xs) (length xs) h, e) (omega arith) in
+      let all : position_or_len p (xs ++ x ∷ []) ≡ length xs + 1 = position_or_len_push p xs x
+      ∙ rw (eq-eqb (position_or_len p xs) (length xs) h, e) (omega arith) in
       rw (all, le-ltb (length xs + 1) (length (xs ++ x ∷ [])) (omega (arith, length-append xs (x ∷ [])))) refl
 
   -- a list with one item more
   pub position_push : (xs : List X) (x : X) → position p (xs ++ x ∷ []) ≡ noted_at (position p xs) (p x) (length xs)
   position_push xs x = elim (cases_lt (position_or_len p xs) (length xs)) [
     | inl h ↦
-        let same : position_or_len p (xs ++ x ∷ []) ≡ position_or_len p xs = position_or_len_push p xs x ∙ rw (ne_eqb (position_or_len p xs) (length xs) (λ e. omega (arith, e, h))) refl in
-        rw (same, lt-ltb (position_or_len p xs) (length xs) h, lt-ltb (position_or_len p xs) (length (xs ++ x ∷ [])) (omega (arith, h, length-append xs (x ∷ [])))) refl
+        let same : position_or_len p (xs ++ x ∷ []) ≡ position_or_len p xs = position_or_len_push p xs x
+        ∙ rw (ne_eqb (position_or_len p xs) (length xs) (λ e. omega (arith, e, h))) refl in
+        rw (
+          same,
+          lt-ltb (position_or_len p xs) (length xs) h,
+          lt-ltb (position_or_len p xs) (length (xs ++ x ∷ [])) (omega (arith, h, length-append xs (x ∷ []))),
+        ) refl
     | inr h ↦ rw (le-ltb (position_or_len p xs) (length xs) h) (one_more xs x (p x) refl (omega (arith, h, within xs)))
   ]
 
@@ -50,16 +58,19 @@ kept : (o : Option ℕ) (place : ℕ) → o ≡ noted_at o false place
 kept None place = refl
 kept (Some k) place = refl
 
-after_update : (f : List ℕ → Option ℕ) (n q : List ℕ) (place : ℕ) (b : Bool) → bytes_eq n q ≡ b → f n ≡ None → update bytes_eq f n (Some place) q ≡ noted_at (f q) (bytes_eq q n) place
+after_update : (f : List ℕ → Option ℕ) (n q : List ℕ) (place : ℕ) (b : Bool) → bytes_eq n q ≡ b → f n ≡ None
+    → update bytes_eq f n (Some place) q ≡ noted_at (f q) (bytes_eq q n) place
 after_update f n q place true e none =
     let same : n ≡ q = (bytes_eq-Decides n q).0 e in
     rw (e, (bytes_eq-Decides q n).1 (sym same), ap f (sym same) ∙ none) refl
 after_update f n q place false e none =
-    let other : bytes_eq q n ≡ false = false_from_ne_true (bytes_eq q n) (λ h. let bad : true ≡ false = sym ((bytes_eq-Decides n q).1 (sym ((bytes_eq-Decides q n).0 h))) ∙ e in cc) in
+    let other : bytes_eq q n ≡ false = false_from_ne_true (bytes_eq q n) (λ h. let bad : true ≡ false = sym ((bytes_eq-Decides n q).1
+    (sym ((bytes_eq-Decides q n).0 h))) ∙ e in cc) in
     rw (e, other) (kept (f q) place)
 
 -- a new name leads to its place
-pub new_name : (f g : List ℕ → Option ℕ) (n : List ℕ) (place : ℕ) → f n ≡ None → ((q : List ℕ) → g q ≡ update bytes_eq f n (Some place) q) → (q : List ℕ) → g q ≡ noted_at (f q) (bytes_eq q n) place
+pub new_name : (f g : List ℕ → Option ℕ) (n : List ℕ) (place : ℕ) → f n ≡ None → ((q : List ℕ) → g q ≡ update bytes_eq f n (Some place) q)
+    → (q : List ℕ) → g q ≡ noted_at (f q) (bytes_eq q n) place
 new_name f g n place none updated q = updated q ∙ after_update f n q place (bytes_eq n q) refl none
 
 -- a name that is there keeps its place
@@ -72,7 +83,8 @@ old_name f n place k there q = go (bytes_eq q n) (f q) refl refl
     go false None e h = refl
 
 -- a map that knows allowed names alone, and one more
-pub still_allowed : (f m : List ℕ → Option ℕ) (n : List ℕ) (place : ℕ) → is_allowed_name n ≡ true → ((q : List ℕ) (k : ℕ) → f q ≡ Some k → is_allowed_name q ≡ true) →
+pub still_allowed : (f m : List ℕ → Option ℕ) (n : List ℕ) (place : ℕ) → is_allowed_name n ≡ true
+    → ((q : List ℕ) (k : ℕ) → f q ≡ Some k → is_allowed_name q ≡ true) →
     ((q : List ℕ) → m q ≡ noted_at (f q) (bytes_eq q n) place) → (q : List ℕ) (k : ℕ) → m q ≡ Some k → is_allowed_name q ≡ true
 still_allowed f m n place allowed old noted q k found = go (f q) (bytes_eq q n) refl refl (sym (noted q) ∙ found)
   where
@@ -86,7 +98,8 @@ pub absent_from : {A : Type 0} (r : Option (Bor A)) (o : Option A) → option_co
 absent_from None o e b h f = sym e
 absent_from (Some x) o e b h f = cc
 
-pub present_from : {A : Type 0} (r : Option (Bor A)) (o : Option A) → option_copied r ≡ o → (b : Bool) → b ≡ is_some r → b ≡ true → (a : A) × (o ≡ Some a)
+pub present_from : {A : Type 0} (r : Option (Bor A)) (o : Option A) → option_copied r ≡ o → (b : Bool) → b ≡ is_some r → b ≡ true → (a : A)
+    × (o ≡ Some a)
 present_from None o e b h f = cc
 present_from (Some x) o e b h f = (x.now, sym e)
 

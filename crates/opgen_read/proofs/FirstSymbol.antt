@@ -12,7 +12,8 @@ use Rattle.opgen_vhdl.specs.Grammar.{value}
 use Rattle.opgen_vhdl.proofs.Steps.{found, some_is}
 use Rattle.opgen_vhdl.specs.Reader.{eat, name_at, index_at, string_at, same_kind, is_mark}
 
-pub eat_word : (w : List ℕ) (k : TokenKind) (text : List ℕ) (rest : List Symbol) → eat (word w) (symbol_of (k, text) ∷ rest) ≡ (if same_kind k Word && bytes_eq w (map to_ascii_lowercase text) then Some rest else None)
+pub eat_word : (w : List ℕ) (k : TokenKind) (text : List ℕ) (rest : List Symbol) → eat (word w) (symbol_of (k, text) ∷ rest)
+    ≡ (if same_kind k Word && bytes_eq w (map to_ascii_lowercase text) then Some rest else None)
 eat_word w Word text rest = refl
 eat_word w Number text rest = refl
 eat_word w Bits text rest = refl
@@ -31,7 +32,8 @@ eat_word w LessEqual text rest = refl
 eat_word w Arrow text rest = refl
 eat_word w Becomes text rest = refl
 
-pub eat_number : (w : List ℕ) (k : TokenKind) (text : List ℕ) (rest : List Symbol) → eat (number w) (symbol_of (k, text) ∷ rest) ≡ (if same_kind k Number && bytes_eq w text then Some rest else None)
+pub eat_number : (w : List ℕ) (k : TokenKind) (text : List ℕ) (rest : List Symbol) → eat (number w) (symbol_of (k, text) ∷ rest)
+    ≡ (if same_kind k Number && bytes_eq w text then Some rest else None)
 eat_number w Word text rest = refl
 eat_number w Number text rest = refl
 eat_number w Bits text rest = refl
@@ -50,7 +52,8 @@ eat_number w LessEqual text rest = refl
 eat_number w Arrow text rest = refl
 eat_number w Becomes text rest = refl
 
-pub index_first : (k : TokenKind) (text : List ℕ) (rest : List Symbol) → index_at (symbol_of (k, text) ∷ rest) ≡ (if same_kind k Number then (if nat_lt (value text) MAX_WIDTH then Some (value text, rest) else None) else None)
+pub index_first : (k : TokenKind) (text : List ℕ) (rest : List Symbol) → index_at (symbol_of (k, text) ∷ rest)
+    ≡ (if same_kind k Number then (if nat_lt (value text) MAX_WIDTH then Some (value text, rest) else None) else None)
 index_first Word text rest = refl
 index_first Number text rest = refl
 index_first Bits text rest = refl
@@ -69,7 +72,8 @@ index_first LessEqual text rest = refl
 index_first Arrow text rest = refl
 index_first Becomes text rest = refl
 
-pub string_first : (k : TokenKind) (text : List ℕ) (rest : List Symbol) → string_at (symbol_of (k, text) ∷ rest) ≡ (if same_kind k Bits then Some (bits_in text, rest) else None)
+pub string_first : (k : TokenKind) (text : List ℕ) (rest : List Symbol) → string_at (symbol_of (k, text) ∷ rest)
+    ≡ (if same_kind k Bits then Some (bits_in text, rest) else None)
 string_first Word text rest = refl
 string_first Number text rest = refl
 string_first Bits text rest = refl
@@ -88,7 +92,9 @@ string_first LessEqual text rest = refl
 string_first Arrow text rest = refl
 string_first Becomes text rest = refl
 
-pub name_first : (k : TokenKind) (text : List ℕ) (rest : List Symbol) → name_at (symbol_of (k, text) ∷ rest) ≡ (if same_kind k Word then (if is_allowed_name (map to_ascii_lowercase text) then Some (map to_ascii_lowercase text, rest) else None) else None)
+pub name_first : (k : TokenKind) (text : List ℕ) (rest : List Symbol) → name_at (symbol_of (k, text) ∷ rest)
+    ≡ (if same_kind k Word then (if is_allowed_name (map to_ascii_lowercase text) then Some (map to_ascii_lowercase text, rest) else None)
+    else None)
 name_first Word text rest = refl
 name_first Number text rest = refl
 name_first Bits text rest = refl
@@ -145,7 +151,8 @@ no_others LessEqual h = (refl, refl, refl)
 no_others Arrow h = (refl, refl, refl)
 no_others Becomes h = (refl, refl, refl)
 
-pub eat_mark : (m k : TokenKind) (text : List ℕ) (rest : List Symbol) → is_mark m ≡ true → eat (mark m) (symbol_of (k, text) ∷ rest) ≡ (if same_kind m k then Some rest else None)
+pub eat_mark : (m k : TokenKind) (text : List ℕ) (rest : List Symbol) → is_mark m ≡ true → eat (mark m) (symbol_of (k, text) ∷ rest)
+    ≡ (if same_kind m k then Some rest else None)
 eat_mark m Word text rest h = let n = no_others m h in rw n.0 refl
 eat_mark m Number text rest h = let n = no_others m h in rw n.1 refl
 eat_mark m Bits text rest h = let n = no_others m h in rw n.2 refl
@@ -164,7 +171,8 @@ eat_mark m LessEqual text rest h = refl
 eat_mark m Arrow text rest h = refl
 eat_mark m Becomes text rest h = refl
 
-choose_some : {A R : Type 0} (b : Bool) (m n : A) (rest : R) → Some n ≡ (if b then Some m else None) → (if b then found m rest else None) ≡ found n rest
+choose_some : {A R : Type 0} (b : Bool) (m n : A) (rest : R) → Some n ≡ (if b then Some m else None) → (if b then found m rest else None)
+    ≡ found n rest
 choose_some true m n rest e = ap (λ x. found x rest) (some_is (sym e))
 choose_some false m n rest e = cc
 
@@ -172,10 +180,15 @@ choose_none : {A R : Type 0} (b : Bool) (m : A) (rest : R) → None ≡ (if b th
 choose_none true m rest e = cc
 choose_none false m rest e = refl
 
-pub name_read : (ss : List Symbol) (k : TokenKind) (text : List ℕ) (rest : List Symbol) (n : List ℕ) → ss ≡ symbol_of (k, text) ∷ rest → same_kind k Word ≡ true →
-    Some n ≡ (if is_allowed_name (map to_ascii_lowercase text) then Some (map to_ascii_lowercase text) else None) → name_at ss ≡ Some (n, rest)
-name_read ss k text rest n e h allowed = ap name_at e ∙ name_first k text rest ∙ rw h (choose_some (is_allowed_name (map to_ascii_lowercase text)) (map to_ascii_lowercase text) n rest allowed)
+pub name_read : (ss : List Symbol) (k : TokenKind) (text : List ℕ) (rest : List Symbol) (n : List ℕ) → ss ≡ symbol_of (k, text) ∷ rest
+    → same_kind k Word ≡ true →
+    Some n ≡ (if is_allowed_name (map to_ascii_lowercase text) then Some (map to_ascii_lowercase text) else None) → name_at ss
+    ≡ Some (n, rest)
+name_read ss k text rest n e h allowed = ap name_at e ∙ name_first k text rest
+    ∙ rw h (choose_some (is_allowed_name (map to_ascii_lowercase text)) (map to_ascii_lowercase text) n rest allowed)
 
-pub name_refused : (ss : List Symbol) (k : TokenKind) (text : List ℕ) (rest : List Symbol) → ss ≡ symbol_of (k, text) ∷ rest → same_kind k Word ≡ true →
+pub name_refused : (ss : List Symbol) (k : TokenKind) (text : List ℕ) (rest : List Symbol) → ss ≡ symbol_of (k, text) ∷ rest
+    → same_kind k Word ≡ true →
     None ≡ (if is_allowed_name (map to_ascii_lowercase text) then Some (map to_ascii_lowercase text) else None) → name_at ss ≡ None
-name_refused ss k text rest e h allowed = ap name_at e ∙ name_first k text rest ∙ rw h (choose_none (is_allowed_name (map to_ascii_lowercase text)) (map to_ascii_lowercase text) rest allowed)
+name_refused ss k text rest e h allowed = ap name_at e ∙ name_first k text rest
+    ∙ rw h (choose_none (is_allowed_name (map to_ascii_lowercase text)) (map to_ascii_lowercase text) rest allowed)

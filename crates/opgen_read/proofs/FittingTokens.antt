@@ -59,12 +59,18 @@ length-cut n k xs h = length-take-le n (drop k xs) (omega (arith, length-drop k 
 
 one_fits : (bytes : List ℕ) (t : Token) → IsWithin (length bytes) t → IsSpelledIn bytes t → fits bytes t ≡ true
 one_fits bytes t within spells =
-    let long : length (spelling_of bytes t) ≡ t.end - t.start = length-cut (t.end - t.start) t.start bytes (omega (arith, within.0, within.1)) in
+    let long : length (spelling_of bytes t) ≡ t.end - t.start = length-cut (t.end - t.start) t.start bytes (omega (
+      arith,
+      within.0,
+      within.1,
+    )) in
     let most = short t.kind (spelling_of bytes t) (drop t.end bytes) spells in
-    and_from _ _ (and_from _ _ (and_from _ _ (le-leb t.start t.end (omega (arith, within.0))) (le-leb t.end (length bytes) within.1)) (le-leb (t.end - t.start) (MAX_WIDTH + 2) (omega (arith, long, most))))
+    and_from _ _ (and_from _ _ (and_from _ _ (le-leb t.start t.end (omega (arith, within.0))) (le-leb t.end (length bytes) within.1))
+    (le-leb (t.end - t.start) (MAX_WIDTH + 2) (omega (arith, long, most))))
     (numeral t.kind (spelling_of bytes t) (drop t.end bytes) spells)
 
-pub all_fit : (bytes : List ℕ) (ts : List Token) → All (IsWithin (length bytes)) ts → All (IsSpelledIn bytes) ts → list_all (fits bytes) ts ≡ true
+pub all_fit : (bytes : List ℕ) (ts : List Token) → All (IsWithin (length bytes)) ts → All (IsSpelledIn bytes) ts → list_all (fits bytes) ts
+    ≡ true
 all_fit bytes [] w s = refl
 all_fit bytes (t ∷ ts) w s = and_from (fits bytes t) (list_all (fits bytes) ts)
     (one_fits bytes t (All-head (IsWithin (length bytes)) t ts w) (All-head (IsSpelledIn bytes) t ts s))
@@ -76,4 +82,10 @@ few_tokens low high [] h = omega (arith, h)
 few_tokens low high (t ∷ ts) h = omega (arith, h.0, h.1, few_tokens t.end high ts h.2)
 
 pub few_symbols : (bytes : List ℕ) (ts : List Token) → InOrder 0 (length bytes) ts → length (symbols bytes ts) ≤ length bytes
-few_symbols bytes ts h = omega (arith, few_tokens 0 (length bytes) ts h, length-map (map (spelled bytes) ts) symbol_of, length-map ts (spelled bytes))
+few_symbols bytes ts h = omega (
+  arith,
+  few_tokens 0 (length bytes) ts h,
+  length-map (map (spelled bytes) ts) symbol_of,
+  length-map ts
+      (spelled bytes),
+)

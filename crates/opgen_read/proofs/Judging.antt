@@ -7,7 +7,8 @@ use Rattle.opgen_read.specs.declared.fault.ReadFault.TheVariants.{Lexical, Synta
 use Rattle.opgen_read.specs.Answer.{IsWithinLimits, IsReadFault}
 use Rattle.opgen_read.specs.Outcome.{IsOutcome}
 
-pub judged_fault : (bytes : List ℕ) (r : Reading) (fault : ReadFault) → Statements bytes r → IsWithinLimits r.design → IsOutcome r.agrees r.design (Err fault) → IsReadFault bytes fault
+pub judged_fault : (bytes : List ℕ) (r : Reading) (fault : ReadFault) → Statements bytes r → IsWithinLimits r.design
+    → IsOutcome r.agrees r.design (Err fault) → IsReadFault bytes fault
 judged_fault bytes r (Lexical offset) s w o = absurd o
 judged_fault bytes r (Syntax piece) s w o = absurd o
 judged_fault bytes r TooLarge s w o = absurd o

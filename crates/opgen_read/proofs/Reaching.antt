@@ -38,16 +38,19 @@ reached_fault whole rest p r n piece more reached e t = record {
   piece = ap (λ u. u + 1) reached.count;
 }
 
-pub step_fault : (whole rest : List Symbol) (p : Place) (r : Reading) (n : ℕ) (piece more : List Symbol) (fault : PieceFault) → Reached whole rest p r n →
+pub step_fault : (whole rest : List Symbol) (p : Place) (r : Reading) (n : ℕ) (piece more : List Symbol) (fault : PieceFault)
+    → Reached whole rest p r n →
     pieces rest ≡ piece ∷ pieces more → Steps (Err fault) (n + 1) (takes_at p r piece) → IsPieceFault whole fault
 step_fault whole rest p r n piece more Memory reached e t = tt
 step_fault whole rest p r n piece more (Syntax k) reached e t = rw t.1 (reached_fault whole rest p r n piece more reached e t.0)
 
-pub reached_end : (whole rest : List Symbol) (p : Place) (r : Reading) (n : ℕ) → Reached whole rest p r n → rest ≡ [] → p ≡ End → Follows Library nothing (pieces whole) End r
+pub reached_end : (whole rest : List Symbol) (p : Place) (r : Reading) (n : ℕ) → Reached whole rest p r n → rest ≡ [] → p ≡ End
+    → Follows Library nothing (pieces whole) End r
 reached_end whole rest p r n reached e h =
     rw (reached.split ∙ ap (λ u. reached.taken ++ pieces u) e ∙ append-nil reached.taken, ← h) reached.follow
 
-pub reached_early : (whole rest : List Symbol) (p : Place) (r : Reading) (n : ℕ) → Reached whole rest p r n → rest ≡ [] → p ≢ End → StopsAt whole (n + 1)
+pub reached_early : (whole rest : List Symbol) (p : Place) (r : Reading) (n : ℕ) → Reached whole rest p r n → rest ≡ [] → p ≢ End
+    → StopsAt whole (n + 1)
 reached_early whole rest p r n reached e h = record {
   taken = reached.taken;
   left = [];

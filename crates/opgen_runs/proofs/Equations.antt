@@ -30,7 +30,8 @@ at-other (port_of p) (signal s) w v n = refl
 at-other (port_of p) (port_of q) w v n = get_or-set_other v.ports p q w [] (λ e. n (ap port_of e))
 
 -- the front of what is left of a list
-drop-head : {X : Type 0} (xs : List X) (n : ℕ) (x : X) (rest : List X) → drop n xs ≡ x ∷ rest → (slice_get xs n ≡ Some x) × (drop (suc n) xs ≡ rest)
+drop-head : {X : Type 0} (xs : List X) (n : ℕ) (x : X) (rest : List X) → drop n xs ≡ x ∷ rest → (slice_get xs n ≡ Some x)
+    × (drop (suc n) xs ≡ rest)
 drop-head [] zero x rest h = absurd (cc)
 drop-head [] (suc n) x rest h = absurd (cc)
 drop-head (y ∷ ys) zero x rest h = let a : y ≡ x = cc in let b : ys ≡ rest = cc in (ap Some a, b)
@@ -43,7 +44,8 @@ Found ks b i = (j : ℕ) × (k : Driver) × (i ≡ b + j) × (slice_get ks j ≡
 found-later : (k : Driver) (ks : List Driver) (b i : ℕ) → Found ks (b + 1) i → Found (k ∷ ks) b i
 found-later k ks b i f = (suc f.0, f.1, omega (arith, f.2), f.3, f.4)
 
-found-more : (k : Driver) (ks : List Driver) (b i : ℕ) (r : Bool) → is_register k ≡ r → (Contains (waiting (b + 1) ks) i → Found ks (b + 1) i)
+found-more : (k : Driver) (ks : List Driver) (b i : ℕ) (r : Bool) → is_register k ≡ r
+    → (Contains (waiting (b + 1) ks) i → Found ks (b + 1) i)
     → Contains (if r then waiting (b + 1) ks else b ∷ waiting (b + 1) ks) i → Found (k ∷ ks) b i
 found-more k ks b i true e f c = found-later k ks b i (f c)
 found-more k ks b i false e f c = elim (cases_eq b i) [
@@ -59,13 +61,15 @@ has-more : (r : Bool) (b i : ℕ) (xs : List ℕ) → Contains xs i → Contains
 has-more true b i xs c = c
 has-more false b i xs c = (suc c.0, omega (arith, c.1), c.2)
 
-waiting-has : (ks : List Driver) (b j i : ℕ) (k : Driver) → slice_get ks j ≡ Some k → is_register k ≡ false → i ≡ b + j → Contains (waiting b ks) i
+waiting-has : (ks : List Driver) (b j i : ℕ) (k : Driver) → slice_get ks j ≡ Some k → is_register k ≡ false → i ≡ b + j
+    → Contains (waiting b ks) i
 waiting-has [] b j i k e r h = absurd (cc)
 waiting-has (m ∷ ks) b zero i k e r h =
     let same : m ≡ k = cc in
     let f : is_register m ≡ false = ap is_register same ∙ r in
     subst (λ x. Contains (if x then waiting (b + 1) ks else b ∷ waiting (b + 1) ks) i) (sym f) (0, omega arith, omega (arith, h))
-waiting-has (m ∷ ks) b (suc j) i k e r h = has-more (is_register m) b i (waiting (b + 1) ks) (waiting-has ks (b + 1) j i k e r (omega (arith, h)))
+waiting-has (m ∷ ks) b (suc j) i k e r h = has-more (is_register m) b i (waiting (b + 1) ks)
+    (waiting-has ks (b + 1) j i k e r (omega (arith, h)))
 
 module _ (d : Design) (sound : IsSound d) (order : List ℕ) (o : IsOrderOf d order) where
   reads-at : (i : ℕ) (k : Driver) → slice_get d.drivers i ≡ Some k → ReadsInputs d k
@@ -75,7 +79,8 @@ module _ (d : Design) (sound : IsSound d) (order : List ℕ) (o : IsOrderOf d or
   same-driver i k m e f = let a : Some k ≡ Some m = sym e ∙ f in cc
 
   -- drivers at different places drive different things
-  pub targets-differ : (i j : ℕ) (k m : Driver) → slice_get d.drivers i ≡ Some k → slice_get d.drivers j ≡ Some m → i ≢ j → target k ≢ target m
+  pub targets-differ : (i j : ℕ) (k m : Driver) → slice_get d.drivers i ≡ Some k → slice_get d.drivers j ≡ Some m → i ≢ j
+      → target k ≢ target m
   targets-differ i j k m e f n = λ t. elim (cases_lt i j) [
     | inl l ↦ (once-at d sound.driven_once j m f).not_before i k l e t
     | inr l ↦ (once-at d sound.driven_once i k e).not_before j m (omega (arith, l, n)) f (sym t)
@@ -83,12 +88,14 @@ module _ (d : Design) (sound : IsSound d) (order : List ℕ) (o : IsOrderOf d or
 
   pub placed : (p i : ℕ) → slice_get order p ≡ Some i → (k : Driver) × (slice_get d.drivers i ≡ Some k) × (is_register k ≡ false)
   placed p i e =
-      let c = Contains-permutation order (waiting 0 d.drivers) i (IsPermutation-sym (waiting 0 d.drivers) order o.each_once) (at-contains order p i e) in
+      let c = Contains-permutation order (waiting 0 d.drivers) i (IsPermutation-sym (waiting 0 d.drivers) order o.each_once)
+      (at-contains order p i e) in
       let f = waiting-found d.drivers 0 i c in
       (f.1, subst (λ j. slice_get d.drivers j ≡ Some f.1) (sym (omega (arith, f.2))) f.3, f.4)
 
   pub in-order : (i : ℕ) (k : Driver) → slice_get d.drivers i ≡ Some k → is_register k ≡ false → (p : ℕ) × (slice_get order p ≡ Some i)
-  in-order i k e r = contains-at order i (Contains-permutation (waiting 0 d.drivers) order i o.each_once (waiting-has d.drivers 0 i i k e r (omega arith)))
+  in-order i k e r = contains-at order i (Contains-permutation (waiting 0 d.drivers) order i o.each_once (waiting-has d.drivers 0 i i k e r
+      (omega arith)))
 
   -- a driver's word stands where it drives
   abbrev pub Stands : Words → Driver → Type 0
@@ -98,8 +105,10 @@ module _ (d : Design) (sound : IsSound d) (order : List ℕ) (o : IsOrderOf d or
   StandUpTo n v = (p i : ℕ) (k : Driver) → p < n → slice_get order p ≡ Some i → slice_get d.drivers i ≡ Some k → Stands v k
 
   -- one driver more
-  module _ (v : Words) (h : HaveWidths d v) (n i : ℕ) (k : Driver) (at-order : slice_get order n ≡ Some i) (at-drivers : slice_get d.drivers i ≡ Some k) (before : StandUpTo n v) where
-    unread : (p j : ℕ) (m : Driver) → p ≤ n → slice_get order p ≡ Some j → slice_get d.drivers j ≡ Some m → driver_word (scope (put k v)) m ≡ driver_word (scope v) m
+  module _ (v : Words) (h : HaveWidths d v) (n i : ℕ) (k : Driver) (at-order : slice_get order n ≡ Some i)
+      (at-drivers : slice_get d.drivers i ≡ Some k) (before : StandUpTo n v) where
+    unread : (p j : ℕ) (m : Driver) → p ≤ n → slice_get order p ≡ Some j → slice_get d.drivers j ≡ Some m → driver_word (scope (put k v)) m
+        ≡ driver_word (scope v) m
     unread p j m l e f =
         let r = placed p j e in
         let g = subst (λ x. is_register x ≡ false) (same-driver j r.0 m r.1 f) r.2 in
@@ -109,7 +118,8 @@ module _ (d : Design) (sound : IsSound d) (order : List ℕ) (o : IsOrderOf d or
         (declared-at d sound.declared i k at-drivers).target
 
     itself : Stands (put k v) k
-    itself = at-put (target k) (driver_word (scope v) k) v (declared-there d sound v h i k at-drivers) ∙ sym (unread n i k (omega arith) at-order at-drivers)
+    itself = at-put (target k) (driver_word (scope v) k) v (declared-there d sound v h i k at-drivers)
+        ∙ sym (unread n i k (omega arith) at-order at-drivers)
 
     pub one-more : StandUpTo (suc n) (put k v)
     one-more p j m l e f = elim (cases_eq j i) [
@@ -124,31 +134,38 @@ module _ (d : Design) (sound : IsSound d) (order : List ℕ) (o : IsOrderOf d or
           ∙ sym (unread p j m (omega (arith, p-before)) e f)
     ]
 
-  stand-on : (todo : List ℕ) (n : ℕ) (v : Words) → HaveWidths d v → drop n order ≡ todo → StandUpTo n v → StandUpTo (length order) (settle d.drivers todo v)
+  stand-on : (todo : List ℕ) (n : ℕ) (v : Words) → HaveWidths d v → drop n order ≡ todo → StandUpTo n v
+      → StandUpTo (length order) (settle d.drivers todo v)
   stand-on [] n v h e before = λ p i k l. before p i k (omega (arith, l, ap length e, length-drop n order))
   stand-on (i ∷ todo) n v h e before =
       let a = drop-head order n i todo e in
       let k = placed n i a.0 in
       subst (λ x. StandUpTo (length order) (settle d.drivers todo (put_option x v))) (sym k.1)
-      (stand-on todo (suc n) (put k.0 v) (put-widths d sound v h k.0 (agree-at d sound i k.0 k.1)) a.1 (one-more v h n i k.0 a.0 k.1 before))
+      (stand-on todo (suc n) (put k.0 v) (put-widths d sound v h k.0 (agree-at d sound i k.0 k.1)) a.1
+      (one-more v h n i k.0 a.0 k.1 before))
 
   -- each driver that is no register has its word after the drivers have been evaluated in order
-  pub stands : (v : Words) → HaveWidths d v → (i : ℕ) (k : Driver) → slice_get d.drivers i ≡ Some k → is_register k ≡ false → Stands (settle d.drivers order v) k
+  pub stands : (v : Words) → HaveWidths d v → (i : ℕ) (k : Driver) → slice_get d.drivers i ≡ Some k → is_register k ≡ false
+      → Stands (settle d.drivers order v) k
   stands v h i k e r =
       let p = in-order i k e r in
       stand-on order 0 v h refl (λ p i k l. absurd (omega (arith, l))) p.0 i k (slice_get_within order p.0 i p.1) p.1 e
 
   -- what is driven by none of the drivers keeps its word
-  kept : (t : Target) (todo : List ℕ) (v : Words) → ((p i : ℕ) (k : Driver) → slice_get todo p ≡ Some i → slice_get d.drivers i ≡ Some k → t ≢ target k) → at t (settle d.drivers todo v) ≡ at t v
+  kept : (t : Target) (todo : List ℕ) (v : Words)
+      → ((p i : ℕ) (k : Driver) → slice_get todo p ≡ Some i → slice_get d.drivers i ≡ Some k → t ≢ target k)
+      → at t (settle d.drivers todo v) ≡ at t v
   kept t [] v f = refl
-  kept t (i ∷ todo) v f = kept t todo (put_option (slice_get d.drivers i) v) (λ p j k e g. f (suc p) j k e g) ∙ by-option (slice_get d.drivers i) refl
+  kept t (i ∷ todo) v f = kept t todo (put_option (slice_get d.drivers i) v) (λ p j k e g. f (suc p) j k e g)
+      ∙ by-option (slice_get d.drivers i) refl
     where
       by-option : (x : Option Driver) → slice_get d.drivers i ≡ x → at t (put_option x v) ≡ at t v
       by-option None e = refl
       by-option (Some k) e = at-other (target k) t (driver_word (scope v) k) v (f 0 i k refl e)
 
   -- a register keeps its word of the cycle, and an input port that which is given
-  pub register-kept : (v : Words) (i to : ℕ) (e : Tree) → slice_get d.drivers i ≡ Some (Register to e) → at (signal to) (settle d.drivers order v) ≡ at (signal to) v
+  pub register-kept : (v : Words) (i to : ℕ) (e : Tree) → slice_get d.drivers i ≡ Some (Register to e)
+      → at (signal to) (settle d.drivers order v) ≡ at (signal to) v
   register-kept v i to e h = kept (signal to) order v (λ p j k a b.
       let r = placed p j a in
       let g = subst (λ x. is_register x ≡ false) (same-driver j r.0 k r.1 b) r.2 in

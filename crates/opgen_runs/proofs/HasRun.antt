@@ -26,8 +26,10 @@ input_widths_of ps = at_ports is_in ps (map (λ p. p.width) ps)
 abbrev Filled : List Port → List (List Bool) → Type 0
 Filled ps given = (ws : List (List Bool)) × (map length ws ≡ map (λ p. p.width) ps) × (at_ports is_in ps ws ≡ given)
 
-fill-one : (b : Dir) (w : ℕ) (ps : List Port) → ((given : List (List Bool)) → map length given ≡ input_widths_of ps → Filled ps given) → (given : List (List Bool)) → map length given ≡ (if is_in b then w ∷ input_widths_of ps else input_widths_of ps)
-    → (x : List Bool) × (xs : List (List Bool)) × (length x ≡ w) × (map length xs ≡ map (λ p. p.width) ps) × ((if is_in b then x ∷ at_ports is_in ps xs else at_ports is_in ps xs) ≡ given)
+fill-one : (b : Dir) (w : ℕ) (ps : List Port) → ((given : List (List Bool)) → map length given ≡ input_widths_of ps → Filled ps given)
+    → (given : List (List Bool)) → map length given ≡ (if is_in b then w ∷ input_widths_of ps else input_widths_of ps)
+    → (x : List Bool) × (xs : List (List Bool)) × (length x ≡ w) × (map length xs ≡ map (λ p. p.width) ps)
+    × ((if is_in b then x ∷ at_ports is_in ps xs else at_ports is_in ps xs) ≡ given)
 fill-one In w ps rest [] e = absurd (cc)
 fill-one In w ps rest (g ∷ given) e =
     let here : length g ≡ w = cc in
@@ -44,11 +46,14 @@ filled (p ∷ ps) given e =
     (r.0 ∷ r.1, ap (λ n. n ∷ map length r.1) r.2 ∙ ap (λ ns. p.width ∷ ns) r.3, r.4)
 
 module _ (d : Design) (sound : IsSound d) where
-  handed-widths : (v : Words) → HaveWidths d v → (ks : List Driver) → ((i : ℕ) (k : Driver) → slice_get ks i ≡ Some k → WidthsAgree d k) → (next : List (List Bool)) → map length next ≡ signal_widths d → map length (hand_all_on d.enable ks v next) ≡ signal_widths d
+  handed-widths : (v : Words) → HaveWidths d v → (ks : List Driver) → ((i : ℕ) (k : Driver) → slice_get ks i ≡ Some k → WidthsAgree d k)
+      → (next : List (List Bool)) → map length next ≡ signal_widths d → map length (hand_all_on d.enable ks v next) ≡ signal_widths d
   handed-widths v h [] agree next n = n
-  handed-widths v h (k ∷ ks) agree next n = handed-widths v h ks (λ i m e. agree (suc i) m e) (hand_on d.enable k v next) (hand_on-widths d sound v h k next (agree 0 k refl) n)
+  handed-widths v h (k ∷ ks) agree next n = handed-widths v h ks (λ i m e. agree (suc i) m e) (hand_on d.enable k v next)
+      (hand_on-widths d sound v h k next (agree 0 k refl) n)
 
-  a-cycle : (now given : List (List Bool)) → map length now ≡ signal_widths d → AreWords (input_widths d) given → (v : Words) × (next : List (List Bool)) × Cycle d now given v next × (map length next ≡ signal_widths d)
+  a-cycle : (now given : List (List Bool)) → map length now ≡ signal_widths d → AreWords (input_widths d) given → (v : Words)
+      × (next : List (List Bool)) × Cycle d now given v next × (map length next ≡ signal_widths d)
   a-cycle now given n e =
       let o = has-order d sound.ordered in
       let f = filled d.ports given e in
@@ -62,14 +67,16 @@ module _ (d : Design) (sound : IsSound d) where
         handed-widths v (settle-widths d sound o.0 before h) d.drivers (agree-at d sound) now n,
       )
 
-  cycles : (inputs : List (List (List Bool))) → All (AreWords (input_widths d)) inputs → (now : List (List Bool)) → map length now ≡ signal_widths d → (vs : List Words) × RunsOn d now inputs vs
+  cycles : (inputs : List (List (List Bool))) → All (AreWords (input_widths d)) inputs → (now : List (List Bool)) → map length now
+      ≡ signal_widths d → (vs : List Words) × RunsOn d now inputs vs
   cycles [] words now n = ([], tt)
   cycles (given ∷ inputs) words now n =
       let c = a-cycle now given n (words 0 given (omega arith)) in
       let more = cycles inputs (λ i x l. words (suc i) x (omega (arith, l))) c.1 c.3 in
       (c.0 ∷ more.0, (c.1, c.2, more.1))
 
-  run-kept : (inputs : List (List (List Bool))) (now others : List (List Bool)) (vs : List Words) → SameRegisters d now others → RunsOn d now inputs vs → RunsOn d others inputs vs
+  run-kept : (inputs : List (List (List Bool))) (now others : List (List Bool)) (vs : List Words) → SameRegisters d now others
+      → RunsOn d now inputs vs → RunsOn d others inputs vs
   run-kept [] now others [] same h = tt
   run-kept [] now others (v ∷ vs) same h = absurd h
   run-kept (given ∷ inputs) now others [] same h = absurd h

@@ -10,7 +10,8 @@ use Rattle.opgen_design.specs.Value.{value}
 use Rattle.opgen_runs.specs.Registers.{SameRegisters}
 
 module _ (d : Design) (now others : List (List Bool)) (same : SameRegisters d now others) where
-  meets-kept : (k : Driver) (i : ℕ) (v : Words) (next : List (List Bool)) → slice_get d.drivers i ≡ Some k → Meets d.enable now v next k → Meets d.enable others v next k
+  meets-kept : (k : Driver) (i : ℕ) (v : Words) (next : List (List Bool)) → slice_get d.drivers i ≡ Some k → Meets d.enable now v next k
+      → Meets d.enable others v next k
   meets-kept (Assign to e) i v next g m = m
   meets-kept (Choice to on one other) i v next g m = m
   meets-kept (Table to on rows other) i v next g m = m

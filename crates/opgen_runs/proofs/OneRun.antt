@@ -45,12 +45,16 @@ abbrev Reads : Design → ℕ → Type 0
 Reads d p = IfSome (slice_get d.ports p) (λ q. q.dir ≡ In)
 
 -- a table gives one word
-table-is : (rows : List (List Bool × List Bool)) (other a w : List Bool) → ((j : ℕ) (q : List Bool × List Bool) → slice_get rows j ≡ Some q → length q.0 ≡ length a) → IsTableWord rows other a w → w ≡ table_word rows other a
+table-is : (rows : List (List Bool × List Bool)) (other a w : List Bool)
+    → ((j : ℕ) (q : List Bool × List Bool) → slice_get rows j ≡ Some q → length q.0 ≡ length a) → IsTableWord rows other a w → w
+    ≡ table_word rows other a
 table-is [] other a w l h = h.of_none (λ k d m. absurd (omega (arith, m)))
 table-is (q ∷ rows) other a w l h = by-first (nat_eq (nat q.0) (nat a)) refl (table-is rows other a w (λ j r g. l (suc j) r g))
   where
-    by-first : (b : Bool) → nat_eq (nat q.0) (nat a) ≡ b → (IsTableWord rows other a w → w ≡ table_word rows other a) → w ≡ table_word (q ∷ rows) other a
-    by-first true e rest = h.of_row 0 q (omega arith) (same-word q.0 a (l 0 q refl) (eqb-true (nat q.0) (nat a) e)) ∙ sym (at-first other a q rows e)
+    by-first : (b : Bool) → nat_eq (nat q.0) (nat a) ≡ b → (IsTableWord rows other a w → w ≡ table_word rows other a) → w
+        ≡ table_word (q ∷ rows) other a
+    by-first true e rest = h.of_row 0 q (omega arith) (same-word q.0 a (l 0 q refl) (eqb-true (nat q.0) (nat a) e))
+        ∙ sym (at-first other a q rows e)
     by-first false e rest =
         rest (record {
           of_row = λ i x m. h.of_row (suc i) x (omega (arith, m));
@@ -58,22 +62,28 @@ table-is (q ∷ rows) other a w l h = by-first (nat_eq (nat q.0) (nat a)) refl (
         }) ∙ sym (past-first other a q rows e)
 
 -- words at the same input ports
-cons-head : (b : Dir) (x y : List Bool) (xs ys : List (List Bool)) → b ≡ In → (if is_in b then x ∷ xs else xs) ≡ (if is_in b then y ∷ ys else ys) → x ≡ y
+cons-head : (b : Dir) (x y : List Bool) (xs ys : List (List Bool)) → b ≡ In → (if is_in b then x ∷ xs else xs)
+    ≡ (if is_in b then y ∷ ys else ys) → x ≡ y
 cons-head In x y xs ys e h = cc
 cons-head Out x y xs ys e h = absurd (cc)
 
-cons-tail : (b : Dir) (x y : List Bool) (xs ys : List (List Bool)) → (if is_in b then x ∷ xs else xs) ≡ (if is_in b then y ∷ ys else ys) → xs ≡ ys
+cons-tail : (b : Dir) (x y : List Bool) (xs ys : List (List Bool)) → (if is_in b then x ∷ xs else xs) ≡ (if is_in b then y ∷ ys else ys)
+    → xs ≡ ys
 cons-tail In x y xs ys h = cc
 cons-tail Out x y xs ys h = h
 
-same-inputs : (ps : List Port) (xs ys : List (List Bool)) → length xs ≡ length ps → length ys ≡ length ps → at_ports is_in ps xs ≡ at_ports is_in ps ys → (i : ℕ) (q : Port) → slice_get ps i ≡ Some q → q.dir ≡ In → get_or xs i [] ≡ get_or ys i []
+same-inputs : (ps : List Port) (xs ys : List (List Bool)) → length xs ≡ length ps → length ys ≡ length ps → at_ports is_in ps xs
+    ≡ at_ports is_in ps ys → (i : ℕ) (q : Port) → slice_get ps i ≡ Some q → q.dir ≡ In → get_or xs i [] ≡ get_or ys i []
 same-inputs [] xs ys l m h i q e f = absurd (cc)
 same-inputs (p ∷ ps) [] ys l m h i q e f = absurd (omega (arith, l))
 same-inputs (p ∷ ps) (x ∷ xs) [] l m h i q e f = absurd (omega (arith, m))
-same-inputs (p ∷ ps) (x ∷ xs) (y ∷ ys) l m h zero q e f = let same : p ≡ q = cc in cons-head p.dir x y (at_ports is_in ps xs) (at_ports is_in ps ys) (ap (λ z. z.dir) same ∙ f) h
-same-inputs (p ∷ ps) (x ∷ xs) (y ∷ ys) l m h (suc i) q e f = same-inputs ps xs ys (omega (arith, l)) (omega (arith, m)) (cons-tail p.dir x y (at_ports is_in ps xs) (at_ports is_in ps ys) h) i q e f
+same-inputs (p ∷ ps) (x ∷ xs) (y ∷ ys) l m h zero q e f = let same : p
+    ≡ q = cc in cons-head p.dir x y (at_ports is_in ps xs) (at_ports is_in ps ys) (ap (λ z. z.dir) same ∙ f) h
+same-inputs (p ∷ ps) (x ∷ xs) (y ∷ ys) l m h (suc i) q e f = same-inputs ps xs ys (omega (arith, l)) (omega (arith, m))
+    (cons-tail p.dir x y (at_ports is_in ps xs) (at_ports is_in ps ys) h) i q e f
 
-module _ (d : Design) (sound : IsSound d) (now others given : List (List Bool)) (registers : SameRegisters d now others) (v u : Words) (next after : List (List Bool)) (h : Cycle d now given v next) (k : Cycle d others given u after) where
+module _ (d : Design) (sound : IsSound d) (now others given : List (List Bool)) (registers : SameRegisters d now others) (v u : Words)
+    (next after : List (List Bool)) (h : Cycle d now given v next) (k : Cycle d others given u after) where
   abbrev Below : ℕ → ℕ → Type 0
   Below n r = sound.ordered.0 r < n
 
@@ -99,21 +109,27 @@ module _ (d : Design) (sound : IsSound d) (now others given : List (List Bool)) 
 
   same-port : (p : ℕ) → Reads d p → word_at v.ports p ≡ word_at u.ports p
   same-port p r = elim (cases_lt p (length d.ports)) [
-    | inl l ↦ let q = there-some d.ports p l in same-inputs d.ports v.ports u.ports v-ports u-ports (h.inputs ∙ sym k.inputs) p q.0 q.1 (subst (λ o. IfSome o (λ q. q.dir ≡ In)) q.1 r)
+    | inl l ↦ let q = there-some d.ports p l in same-inputs d.ports v.ports u.ports v-ports u-ports (h.inputs ∙ sym k.inputs) p q.0 q.1
+        (subst (λ o. IfSome o (λ q. q.dir ≡ In)) q.1 r)
     | inr l ↦ past v.ports p (omega (arith, l, v-ports)) ∙ sym (past u.ports p (omega (arith, l, u-ports)))
   ]
 
-  tree-one : (P : ℕ → Type 0) → ((r : ℕ) → P r → word_at v.signals r ≡ word_at u.signals r) → (t : Tree) → AllReads (λ s. Unit {0}) (Reads d) t → ((r : ℕ) → ReadsName r t → P r) → value (scope v) t ≡ value (scope u) t
+  tree-one : (P : ℕ → Type 0) → ((r : ℕ) → P r → word_at v.signals r ≡ word_at u.signals r) → (t : Tree)
+      → AllReads (λ s. Unit {0}) (Reads d) t → ((r : ℕ) → ReadsName r t → P r) → value (scope v) t ≡ value (scope u) t
   tree-one P below t a f = same_value P (Reads d) (scope v) (scope u) below same-port t (reads-all P (Reads d) (λ s. Unit {0}) t a f)
 
   abbrev At : Target → Type 0
   At (signal s) = word_at v.signals s ≡ word_at u.signals s
   At (port_of p) = word_at v.ports p ≡ word_at u.ports p
 
-  lens : (x : Words) → HaveWidths d x → (on : Tree) (rows : List (List Bool × List Bool)) → ((j : ℕ) (q : List Bool × List Bool) → slice_get rows j ≡ Some q → HasWidth d on (length q.0)) → (j : ℕ) (q : List Bool × List Bool) → slice_get rows j ≡ Some q → length q.0 ≡ length (value (scope x) on)
+  lens : (x : Words) → HaveWidths d x → (on : Tree) (rows : List (List Bool × List Bool))
+      → ((j : ℕ) (q : List Bool × List Bool) → slice_get rows j ≡ Some q → HasWidth d on (length q.0)) → (j : ℕ) (q : List Bool × List Bool)
+      → slice_get rows j ≡ Some q → length q.0 ≡ length (value (scope x) on)
   lens x y on rows f j q e = sym (long d sound x y on (length q.0) (f j q e))
 
-  driver-one : (P : ℕ → Type 0) → ((r : ℕ) → P r → word_at v.signals r ≡ word_at u.signals r) → (x : Driver) (i : ℕ) → slice_get d.drivers i ≡ Some x → ReadsInputs d x → ((r : ℕ) → Needs r x → P r) → Meets d.enable now v next x → Meets d.enable others u after x → At (target x)
+  driver-one : (P : ℕ → Type 0) → ((r : ℕ) → P r → word_at v.signals r ≡ word_at u.signals r) → (x : Driver) (i : ℕ) → slice_get d.drivers i
+      ≡ Some x → ReadsInputs d x → ((r : ℕ) → Needs r x → P r) → Meets d.enable now v next x → Meets d.enable others u after x
+      → At (target x)
   driver-one P below (Assign to e) i g a f m w = m ∙ tree-one P below e a f ∙ sym w
   driver-one P below (Choice to on one other) i g a f m w =
       m
@@ -123,26 +139,35 @@ module _ (d : Design) (sound : IsSound d) (now others given : List (List Bool)) 
       ∙ sym w
   driver-one P below (Table to on rows other) i g a f m w =
       let z = agree-at d sound i (Table to on rows other) g in
-      table-is rows other (value (scope v) on) (word_at v.signals to) (lens v (record { signals = h.signal_widths; ports = h.port_widths }) on rows (λ j q e. (subst (λ x. HasWidth d on (length x.0) × (length x.1 ≡ get_or (signal_widths d) to 0)) (get_or_from_slice_get rows j q q e) (z.0 j q (slice_get_within rows j q e))).0)) m
+      table-is rows other (value (scope v) on) (word_at v.signals to)
+      (lens v (record { signals = h.signal_widths; ports = h.port_widths }) on rows
+      (λ j q e. (subst (λ x. HasWidth d on (length x.0) × (length x.1 ≡ get_or (signal_widths d) to 0))
+      (get_or_from_slice_get rows j q q e) (z.0 j q (slice_get_within rows j q e))).0)) m
       ∙ ap (table_word rows other) (tree-one P below on a f)
-      ∙ sym (table-is rows other (value (scope u) on) (word_at u.signals to) (lens u (record { signals = k.signal_widths; ports = k.port_widths }) on rows (λ j q e. (subst (λ x. HasWidth d on (length x.0) × (length x.1 ≡ get_or (signal_widths d) to 0)) (get_or_from_slice_get rows j q q e) (z.0 j q (slice_get_within rows j q e))).0)) w)
+      ∙ sym (table-is rows other (value (scope u) on) (word_at u.signals to)
+      (lens u (record { signals = k.signal_widths; ports = k.port_widths }) on rows
+      (λ j q e. (subst (λ x. HasWidth d on (length x.0) × (length x.1 ≡ get_or (signal_widths d) to 0))
+      (get_or_from_slice_get rows j q q e) (z.0 j q (slice_get_within rows j q e))).0)) w)
   driver-one P below (Register to e) i g a f m w = m.0 ∙ registers i to e g ∙ sym w.0
   driver-one P below (Output place e) i g a f m w = m ∙ tree-one P below e a f ∙ sym w
 
-  at-driver : (P : ℕ → Type 0) → ((r : ℕ) → P r → word_at v.signals r ≡ word_at u.signals r) → (t : Target) → IsDriven d t → ((x : Driver) → Contains d.drivers x → target x ≡ t → (r : ℕ) → Needs r x → P r) → At t
+  at-driver : (P : ℕ → Type 0) → ((r : ℕ) → P r → word_at v.signals r ≡ word_at u.signals r) → (t : Target) → IsDriven d t
+      → ((x : Driver) → Contains d.drivers x → target x ≡ t → (r : ℕ) → Needs r x → P r) → At t
   at-driver P below t y f =
       let c = contains-at d.drivers y.0 y.1 in
       let a = subst (λ x. IfSome x (DriverPasses d ReadsOutput c.0)) c.1 (sound.reads_inputs (at_driver c.0)) in
       let l = slice_get_within d.drivers c.0 y.0 c.1 in
       let g = get_or_from_slice_get d.drivers c.0 y.0 y.0 c.1 in
-      subst At y.2 (driver-one P below y.0 c.0 c.1 a (f y.0 y.1 y.2) (subst (Meets d.enable now v next) g (h.equations c.0 y.0 l)) (subst (Meets d.enable others u after) g (k.equations c.0 y.0 l)))
+      subst At y.2 (driver-one P below y.0 c.0 c.1 a (f y.0 y.1 y.2) (subst (Meets d.enable now v next) g (h.equations c.0 y.0 l))
+      (subst (Meets d.enable others u after) g (k.equations c.0 y.0 l)))
 
   signals-below : (n : ℕ) → SameBelow n
   signals-below zero r l = absurd (omega (arith, l))
   signals-below (suc n) r l = elim (cases_lt r (length d.signals)) [
     | inl m ↦
         let s = there-some d.signals r m in
-        at-driver (Below n) (signals-below n) (signal r) (subst (λ o. IfSome o (SignalPasses d NotDriven r)) s.1 (sound.driven (at_signal r)))
+        at-driver (Below n) (signals-below n) (signal r)
+        (subst (λ o. IfSome o (SignalPasses d NotDriven r)) s.1 (sound.driven (at_signal r)))
         (λ x c t q z. omega (arith, l, sound.ordered.1 r q x c t z))
     | inr m ↦ past v.signals r (omega (arith, m, v-signals)) ∙ sym (past u.signals r (omega (arith, m, u-signals)))
   ]
@@ -159,7 +184,8 @@ module _ (d : Design) (sound : IsSound d) (now others given : List (List Bool)) 
       by-dir : (b : Dir) (p : ℕ) (q : Port) → slice_get d.ports p ≡ Some q → q.dir ≡ b → word_at v.ports p ≡ word_at u.ports p
       by-dir In p q g e = same-port p (subst (λ o. IfSome o (λ q. q.dir ≡ In)) (sym g) e)
       by-dir Out p q g e =
-          at-driver (λ r. Unit {0}) (λ r z. signals-one r) (port_of p) (subst (λ o. IfSome o (PortPasses d NotDriven p)) g (sound.driven (at_port p)) e) (λ x c t r z. tt)
+          at-driver (λ r. Unit {0}) (λ r z. signals-one r) (port_of p)
+          (subst (λ o. IfSome o (PortPasses d NotDriven p)) g (sound.driven (at_port p)) e) (λ x c t r z. tt)
 
   words-one : v ≡ u
   words-one =
@@ -178,7 +204,8 @@ module _ (d : Design) (sound : IsSound d) (now others given : List (List Bool)) 
       ∙ ap (moved d.enable u (value (scope u) e)) (registers i to e g)
       ∙ sym w.1
 
-pub runs-one : (d : Design) → IsSound d → (inputs : List (List (List Bool))) (now others : List (List Bool)) → SameRegisters d now others → (vs us : List Words) → RunsOn d now inputs vs → RunsOn d others inputs us → vs ≡ us
+pub runs-one : (d : Design) → IsSound d → (inputs : List (List (List Bool))) (now others : List (List Bool)) → SameRegisters d now others
+    → (vs us : List Words) → RunsOn d now inputs vs → RunsOn d others inputs us → vs ≡ us
 runs-one d sound [] now others same [] [] h k = refl
 runs-one d sound [] now others same [] (u ∷ us) h k = absurd k
 runs-one d sound [] now others same (v ∷ vs) us h k = absurd h

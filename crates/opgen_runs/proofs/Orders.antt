@@ -28,12 +28,19 @@ module _ (rank : ℕ → ℕ) where
   with-one i (j ∷ is) up = elim (cases_lt (rank j) (rank i)) [
     | inl l ↦
         let more = with-one i is (λ p q d m n. up (suc p) (suc q) d (omega (arith, m)) (omega (arith, n))) in
-        let least : All (λ k. rank j ≤ rank k) (i ∷ is) = All-cons (λ k. rank j ≤ rank k) i is (omega (arith, l)) (λ k d m. up 0 (suc k) d (omega arith) (omega (arith, m))) in (
+        let least : All (λ k. rank j ≤ rank k) (i ∷ is) = All-cons (λ k. rank j ≤ rank k) i is (omega (arith, l))
+        (λ k d m. up 0 (suc k) d (omega arith) (omega (arith, m))) in (
           j ∷ more.0,
-          IsPermutation-trans (i ∷ j ∷ is) (j ∷ i ∷ is) (j ∷ more.0) (IsPermutation-sym (j ∷ i ∷ is) (i ∷ j ∷ is) (IsPermutation-middle (j ∷ []) i is)) (IsPermutation-cons j (i ∷ is) more.0 more.1),
+          IsPermutation-trans (i ∷ j ∷ is) (j ∷ i ∷ is) (j ∷ more.0)
+              (IsPermutation-sym (j ∷ i ∷ is) (i ∷ j ∷ is) (IsPermutation-middle (j ∷ []) i is))
+              (IsPermutation-cons j (i ∷ is) more.0 more.1),
           ascending-cons j more.0 (All-permutation (λ k. rank j ≤ rank k) (i ∷ is) more.0 more.1 least) more.2,
         )
-    | inr l ↦ (i ∷ j ∷ is, IsPermutation-refl (i ∷ j ∷ is), ascending-cons i (j ∷ is) (λ k d m. omega (arith, l, up 0 k d (omega arith) m)) up)
+    | inr l ↦ (
+      i ∷ j ∷ is,
+      IsPermutation-refl (i ∷ j ∷ is),
+      ascending-cons i (j ∷ is) (λ k d m. omega (arith, l, up 0 k d (omega arith) m)) up,
+    )
   ]
 
   sorting : (is : List ℕ) → Sorting is
@@ -73,10 +80,12 @@ module _ (d : Design) (o : IsOrdered d) where
   abbrev rank : ℕ → ℕ
   rank i = rank_option (slice_get d.drivers i)
 
-  rank-at : (order : List ℕ) (p i : ℕ) (k : Driver) → slice_get order p ≡ Some i → slice_get d.drivers i ≡ Some k → rank (get_or order p 0) ≡ rank_of (target k)
+  rank-at : (order : List ℕ) (p i : ℕ) (k : Driver) → slice_get order p ≡ Some i → slice_get d.drivers i ≡ Some k → rank (get_or order p 0)
+      ≡ rank_of (target k)
   rank-at order p i k a b = ap rank (get_or_from_slice_get order p i 0 a) ∙ ap rank_option b
 
-  needed-below : (k m : Driver) (j s : ℕ) → Contains d.drivers k → slice_get d.drivers j ≡ Some m → target m ≡ signal s → Needs s k → (u : Target) → target k ≡ u → o.0 s < rank_of u
+  needed-below : (k m : Driver) (j s : ℕ) → Contains d.drivers k → slice_get d.drivers j ≡ Some m → target m ≡ signal s → Needs s k
+      → (u : Target) → target k ≡ u → o.0 s < rank_of u
   needed-below k m j s c f t n (signal r) e = o.1 r s k c e n
   needed-below k m j s c f t n (port_of p) e = below-above d.drivers j s m f t
 

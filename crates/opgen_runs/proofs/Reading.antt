@@ -46,14 +46,18 @@ is-input : (d : Design) (p : ℕ) → p < length d.ports → Reads d p → IsInp
 is-input d p l h = let q = there-some d.ports p l in (q.0, q.1, subst (λ o. IfSome o (λ q. q.dir ≡ In)) q.1 h)
 
 module _ (d : Design) (w : List Bool) (v : Words) where
-  tree-same : (t : Target) (e : Tree) → AllReads (λ s. Unit {0}) (Reads d) e → ((s : ℕ) → t ≡ signal s → ReadsName s e → ⊥) → (IsInput d t → ⊥) → Names d t → value (scope (put_at t w v)) e ≡ value (scope v) e
+  tree-same : (t : Target) (e : Tree) → AllReads (λ s. Unit {0}) (Reads d) e → ((s : ℕ) → t ≡ signal s → ReadsName s e → ⊥)
+      → (IsInput d t → ⊥) → Names d t → value (scope (put_at t w v)) e ≡ value (scope v) e
   tree-same (signal s) e h f g n =
-      same_value (λ n. n ≡ s → ⊥) (Reads d) (scope (put_at (signal s) w v)) (scope v) (λ n k. get_or-set_other v.signals s n w [] k) (λ n k. refl) e (reads-others (λ s. Unit {0}) (Reads d) s e h (f s refl))
+      same_value (λ n. n ≡ s → ⊥) (Reads d) (scope (put_at (signal s) w v)) (scope v) (λ n k. get_or-set_other v.signals s n w [] k)
+      (λ n k. refl) e (reads-others (λ s. Unit {0}) (Reads d) s e h (f s refl))
   tree-same (port_of p) e h f g n =
-      same_value (λ s. Unit {0}) (Reads d) (scope (put_at (port_of p) w v)) (scope v) (λ n k. refl) (λ q k. get_or-set_other v.ports p q w [] (λ x. g (is-input d p n (subst (Reads d) x k)))) e h
+      same_value (λ s. Unit {0}) (Reads d) (scope (put_at (port_of p) w v)) (scope v) (λ n k. refl)
+      (λ q k. get_or-set_other v.ports p q w [] (λ x. g (is-input d p n (subst (Reads d) x k)))) e h
 
   -- a word put where a driver reads nothing leaves the driver's word
-  pub driver-same : (t : Target) (k : Driver) → ReadsInputs d k → is_register k ≡ false → ((s : ℕ) → t ≡ signal s → Needs s k → ⊥) → (IsInput d t → ⊥) → Names d t → driver_word (scope (put_at t w v)) k ≡ driver_word (scope v) k
+  pub driver-same : (t : Target) (k : Driver) → ReadsInputs d k → is_register k ≡ false → ((s : ℕ) → t ≡ signal s → Needs s k → ⊥)
+      → (IsInput d t → ⊥) → Names d t → driver_word (scope (put_at t w v)) k ≡ driver_word (scope v) k
   driver-same t (Assign to e) h r f g n = tree-same t e h f g n
   driver-same t (Choice to on one other) h r f g n =
       let new = scope (put_at t w v) in

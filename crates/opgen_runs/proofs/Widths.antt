@@ -21,7 +21,8 @@ use Rattle.opgen_runs.specs.Evaluate.{DriverFits, HaveWidths, IsThere, driver_wo
 use Rattle.opgen_runs.specs.Tables.{row_word}
 use Rattle.opgen_value.proofs.Fitting.{value-fits}
 
-pub words-eq : (signals ports : List (List Bool)) (v : Words) → signals ≡ v.signals → ports ≡ v.ports → record { signals = signals; ports = ports } ≡ v
+pub words-eq : (signals ports : List (List Bool)) (v : Words) → signals ≡ v.signals → ports ≡ v.ports
+    → record { signals = signals; ports = ports } ≡ v
 words-eq signals ports v e f = ap (λ s. record { signals = s; ports = ports }) e ∙ ap (λ p. record { signals = v.signals; ports = p }) f
 
 pub chosen-length : (on one other : List Bool) (w : ℕ) → length one ≡ w → length other ≡ w → length (chosen on one other) ≡ w
@@ -30,15 +31,20 @@ chosen-length (true ∷ []) one other w h k = h
 chosen-length (true ∷ x ∷ xs) one other w h k = k
 chosen-length (false ∷ xs) one other w h k = k
 
-found-length : (b : Bool) (word other : List Bool) (found : Option (List Bool)) (w : ℕ) → length word ≡ w → length (unwrap_or found other) ≡ w → length (unwrap_or (if b then Some word else found) other) ≡ w
+found-length : (b : Bool) (word other : List Bool) (found : Option (List Bool)) (w : ℕ) → length word ≡ w → length (unwrap_or found other)
+    ≡ w → length (unwrap_or (if b then Some word else found) other) ≡ w
 found-length true word other found w h k = h
 found-length false word other found w h k = k
 
-table-length : (rows : List (List Bool × List Bool)) (other address : List Bool) (w : ℕ) → ((i : ℕ) (r : List Bool × List Bool) → slice_get rows i ≡ Some r → length r.1 ≡ w) → length other ≡ w → length (table_word rows other address) ≡ w
+table-length : (rows : List (List Bool × List Bool)) (other address : List Bool) (w : ℕ)
+    → ((i : ℕ) (r : List Bool × List Bool) → slice_get rows i ≡ Some r → length r.1 ≡ w) → length other ≡ w
+    → length (table_word rows other address) ≡ w
 table-length [] other address w h k = k
-table-length (r ∷ rows) other address w h k = found-length (nat_eq (nat r.0) (nat address)) r.1 other (row_word rows (nat address)) w (h 0 r refl) (table-length rows other address w (λ i q e. h (suc i) q e) k)
+table-length (r ∷ rows) other address w h k = found-length (nat_eq (nat r.0) (nat address)) r.1 other (row_word rows (nat address)) w
+    (h 0 r refl) (table-length rows other address w (λ i q e. h (suc i) q e) k)
 
-wide : (d : Design) (i : ℕ) (o : Option Signal) (w : ℕ) → option_map (λ s. s.width) o ≡ Some w → IfSome o (SignalPasses d Width i) → IsWidth w
+wide : (d : Design) (i : ℕ) (o : Option Signal) (w : ℕ) → option_map (λ s. s.width) o ≡ Some w → IfSome o (SignalPasses d Width i)
+    → IsWidth w
 wide d i None w e h = absurd (cc)
 wide d i (Some s) w e h = let f : s.width ≡ w = cc in subst IsWidth f h.0
 
@@ -49,7 +55,8 @@ module _ (d : Design) (sound : IsSound d) where
   module _ (v : Words) (h : HaveWidths d v) where
     pub narrow : AreNarrow v.signals
     narrow = λ k x l.
-        let a : slice_get (map length v.signals) k ≡ Some (length (get_or v.signals k x)) = slice_get-map length v.signals k ∙ ap (option_map length) (slice_get-get_or v.signals k x l) in
+        let a : slice_get (map length v.signals) k ≡ Some (length (get_or v.signals k x)) = slice_get-map length v.signals k
+        ∙ ap (option_map length) (slice_get-get_or v.signals k x l) in
         let b : slice_get (signal_widths d) k ≡ Some (length (get_or v.signals k x)) = ap (λ ws. slice_get ws k) (sym h.signals) ∙ a in
         let c = sym (slice_get-map (λ s. s.width) d.signals k) ∙ b in
         (wide d k (slice_get d.signals k) (length (get_or v.signals k x)) c (sound.widths (at_signal k))).1
@@ -65,8 +72,14 @@ module _ (d : Design) (sound : IsSound d) where
 
     pub driver-fits : (k : Driver) → WidthsAgree d k → DriverFits v.signals v.ports k
     driver-fits (Assign to e) a = fits e (slice_index (signal_widths d) to) a
-    driver-fits (Choice to on one other) a = (fits on 1 a.0, fits one (slice_index (signal_widths d) to) a.1, fits other (slice_index (signal_widths d) to) a.2)
-    driver-fits (Table to on rows other) a = subst (λ ns. IsSome (width ns (map length v.ports) on)) (sym h.signals) (subst (λ ps. IsSome (width (signal_widths d) ps on)) (sym h.ports) a.1)
+    driver-fits (Choice to on one other) a = (
+      fits on 1 a.0,
+      fits one (slice_index (signal_widths d) to) a.1,
+      fits other (slice_index
+          (signal_widths d) to) a.2,
+    )
+    driver-fits (Table to on rows other) a = subst (λ ns. IsSome (width ns (map length v.ports) on)) (sym h.signals)
+        (subst (λ ps. IsSome (width (signal_widths d) ps on)) (sym h.ports) a.1)
     driver-fits (Register to e) a = fits e (slice_index (signal_widths d) to) a
     driver-fits (Output place e) a = fits e (slice_index (port_widths d) place) a
 
@@ -80,14 +93,19 @@ module _ (d : Design) (sound : IsSound d) where
 
     pub word-length : (k : Driver) → WidthsAgree d k → length (driver_word (scope v) k) ≡ width_of (target k)
     word-length (Assign to e) a = long e (slice_index (signal_widths d) to) a
-    word-length (Choice to on one other) a = chosen-length (value (scope v) on) (value (scope v) one) (value (scope v) other) (slice_index (signal_widths d) to) (long one (slice_index (signal_widths d) to) a.1) (long other (slice_index (signal_widths d) to) a.2)
-    word-length (Table to on rows other) a = table-length rows other (value (scope v) on) (slice_index (signal_widths d) to) (λ i r e. subst (λ q. length q.1 ≡ slice_index (signal_widths d) to) (get_or_from_slice_get rows i r r e) (a.0 i r (slice_get_within rows i r e)).1) a.2
+    word-length (Choice to on one other) a = chosen-length (value (scope v) on) (value (scope v) one) (value (scope v) other)
+        (slice_index (signal_widths d) to) (long one (slice_index (signal_widths d) to) a.1)
+        (long other (slice_index (signal_widths d) to) a.2)
+    word-length (Table to on rows other) a = table-length rows other (value (scope v) on) (slice_index (signal_widths d) to)
+        (λ i r e. subst (λ q. length q.1 ≡ slice_index (signal_widths d) to) (get_or_from_slice_get rows i r r e)
+        (a.0 i r (slice_get_within rows i r e)).1) a.2
     word-length (Register to e) a = long e (slice_index (signal_widths d) to) a
     word-length (Output place e) a = long e (slice_index (port_widths d) place) a
 
     put-at-widths : (t : Target) (w : List Bool) → length w ≡ width_of t → HaveWidths d (put_at t w v)
     put-at-widths (signal s) w e = record {
-      signals = map-set_same length v.signals s w [] (e ∙ ap (λ ws. get_or ws s 0) (sym h.signals) ∙ get_or-map length v.signals s []) ∙ h.signals;
+      signals = map-set_same length v.signals s w [] (e ∙ ap (λ ws. get_or ws s 0) (sym h.signals) ∙ get_or-map length v.signals s [])
+          ∙ h.signals;
       ports = h.ports;
     }
     put-at-widths (port_of p) w e = record {

@@ -45,7 +45,8 @@ module _ (delays : List ℕ) (setup period : ℕ) where
         ap f (same of (All-head (λ j. j < m) of [] h))
 
   equation_on : (ps : List Slot) (ns : List Node) (j : ℕ) (n : Node) → slice_get ns j ≡ Some n → All (λ i. i < length ps + j) (reads_of n)
-      → slot_at (slots_on delays setup period ps ns) (length ps + j) ≡ slot_of setup period (slots_on delays setup period ps ns) (slice_index delays (length ps + j)) n
+      → slot_at (slots_on delays setup period ps ns) (length ps + j)
+      ≡ slot_of setup period (slots_on delays setup period ps ns) (slice_index delays (length ps + j)) n
   equation_on ps [] j n h r = absurd (cc)
   equation_on ps (m ∷ ns) zero n h r =
       let d : ℕ → ℕ = slice_index delays in
@@ -54,7 +55,8 @@ module _ (delays : List ℕ) (setup period : ℕ) where
       let e : length ps + 0 ≡ length ps = omega arith in
       let longer : length (ps ++ p ∷ []) ≡ length ps + 1 = omega (arith, length-append ps (p ∷ [])) in
       let is : m ≡ n = cc in
-      let before = λ (i : ℕ) (l : i < length ps). sym (kept (ps ++ p ∷ []) ns i (omega (arith, l, longer)) ∙ get_or_append_left ps (p ∷ []) start i l) in
+      let before = λ (i : ℕ) (l : i < length ps). sym
+      (kept (ps ++ p ∷ []) ns i (omega (arith, l, longer)) ∙ get_or_append_left ps (p ∷ []) start i l) in
       ap (slot_at all) e
       ∙ kept (ps ++ p ∷ []) ns (length ps) (omega (arith, longer))
       ∙ get_or_at ps p [] start (length ps) refl

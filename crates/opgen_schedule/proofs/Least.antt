@@ -27,7 +27,8 @@ pick P false p q f g = g refl
 
 -- the later of two is one of them, and neither is after it
 later_one : (P : Slot → Type 0) (p q : Slot) → P p → P q → P (later p q)
-later_one P p q x y = pick P (nat_lt p.cycle q.cycle) q _ (λ e. y) (λ e. pick P (nat_lt q.cycle p.cycle) p _ (λ e. x) (λ e. pick P (nat_lt p.time q.time) q p (λ e. y) (λ e. x)))
+later_one P p q x y = pick P (nat_lt p.cycle q.cycle) q _ (λ e. y)
+    (λ e. pick P (nat_lt q.cycle p.cycle) p _ (λ e. x) (λ e. pick P (nat_lt p.time q.time) q p (λ e. y) (λ e. x)))
 
 first_not_after : (p q : Slot) → NotAfter p (later p q)
 first_not_after p q =
@@ -54,13 +55,22 @@ second_not_after p q =
     )
 
 then_not_after : (p q r : Slot) → NotAfter p q → NotAfter q r → NotAfter p r
-then_not_after p q r a b = (omega (arith, a.0, b.0), λ l. let x = a.1 (omega (arith, a.0, b.0, l)) in let y = b.1 (omega (arith, a.0, b.0, l)) in omega (arith, x, y))
+then_not_after p q r a b = (
+  omega (arith, a.0, b.0),
+  λ l. let x = a.1 (omega (arith, a.0, b.0, l)) in let y = b.1 (omega (
+    arith,
+    a.0,
+    b.0,
+    l,
+  )) in omega (arith, x, y),
+)
 
 -- what holds of a slot and of those of some nodes holds of the latest
 pub latest_one : (P : Slot → Type 0) (p : Slot) (ps : List Slot) (js : List ℕ) → P p → All (λ j. P (slot_at ps j)) js → P (latest p ps js)
 latest_one P p ps [] s h = s
 latest_one P p ps (j ∷ js) s h =
-    latest_one P (later p (slot_at ps j)) ps js (later_one P p (slot_at ps j) s (All-head (λ j. P (slot_at ps j)) j js h)) (All-tail (λ j. P (slot_at ps j)) j js h)
+    latest_one P (later p (slot_at ps j)) ps js (later_one P p (slot_at ps j) s (All-head (λ j. P (slot_at ps j)) j js h))
+    (All-tail (λ j. P (slot_at ps j)) j js h)
 
 itself : (p : Slot) → NotAfter p p
 itself p = (omega arith, λ l. omega arith)
@@ -72,11 +82,13 @@ latest_after p ps (j ∷ js) =
     then_not_after p q (latest q ps js) (first_not_after p (slot_at ps j)) (latest_after q ps js)
 
 -- what holds of all slots up to the latest one holds of each operand's
-each_read : (p : Slot) (ps : List Slot) (Q : ℕ → Type 0) (r : Slot) (js : List ℕ) → ((j : ℕ) → NotAfter (slot_at ps j) r → Q j) → NotAfter (latest p ps js) r → All Q js
+each_read : (p : Slot) (ps : List Slot) (Q : ℕ → Type 0) (r : Slot) (js : List ℕ) → ((j : ℕ) → NotAfter (slot_at ps j) r → Q j)
+    → NotAfter (latest p ps js) r → All Q js
 each_read p ps Q r [] f h = All-nil Q
 each_read p ps Q r (j ∷ js) f h =
     let q : Slot = later p (slot_at ps j) in
-    All-cons Q j js (f j (then_not_after (slot_at ps j) q r (second_not_after p (slot_at ps j)) (then_not_after q (latest q ps js) r (latest_after q ps js) h)))
+    All-cons Q j js (f j (then_not_after (slot_at ps j) q r (second_not_after p (slot_at ps j))
+    (then_not_after q (latest q ps js) r (latest_after q ps js) h)))
     (each_read q ps Q r js f h)
 
 greatest_at : (ds : List ℕ) (i : ℕ) → slice_index ds i ≤ greatest ds
@@ -101,13 +113,15 @@ module _ (nodes : List Node) (delays : List ℕ) (setup period : ℕ) (valid : A
   equation i n h = stage_equation delays setup period nodes valid i n h
 
   -- cells after operands that stand in these slots
-  after_fits : (i : ℕ) (reads : List ℕ) → greatest delays + setup ≤ period → placed i ≡ after setup period (delay i) (latest start all reads)
+  after_fits : (i : ℕ) (reads : List ℕ) → greatest delays + setup ≤ period → placed i
+      ≡ after setup period (delay i) (latest start all reads)
       → CellFits nodes setup period placed (delay i) i reads
   after_fits i reads l e =
       let d : ℕ = delay i in
       let r : Slot = latest start all reads in
       let short : d + setup ≤ period = short_at delays setup period i l in
-      let In : Slot → ℕ → Type 0 = λ p j. is_constant_at nodes j ≡ false → ((placed j).cycle ≤ p.cycle) × ((placed j).cycle ≡ p.cycle → (placed j).time + d ≤ p.time) in
+      let In : Slot → ℕ → Type 0 = λ p j. is_constant_at nodes j ≡ false → ((placed j).cycle ≤ p.cycle)
+      × ((placed j).cycle ≡ p.cycle → (placed j).time + d ≤ p.time) in
       let P : Slot → Type 0 = λ p. (d ≤ p.time) × (p.time + setup ≤ period) × All (In p) reads in
       let same : Slot = record { cycle = r.cycle; time = r.time + d } in
       let next : Slot = record { cycle = r.cycle + 1; time = d } in
@@ -132,7 +146,8 @@ module _ (nodes : List Node) (delays : List ℕ) (setup period : ℕ) (valid : A
       ) in
       record { own = parts.0; ends = parts.1; operands = parts.2 }
 
-  fits_at : greatest delays + setup ≤ period → (i : ℕ) (n : Node) → slice_get nodes i ≡ Some n → FitsAt nodes setup period placed (delay i) i n
+  fits_at : greatest delays + setup ≤ period → (i : ℕ) (n : Node) → slice_get nodes i ≡ Some n
+      → FitsAt nodes setup period placed (delay i) i n
   fits_at l i (Input port w) h = let e = equation i (Input port w) h in (ap (λ p. p.cycle) e, ap (λ p. p.time) e)
   fits_at l i (Constant w) h = tt
   fits_at l i (Cells class w x) h = after_fits i (reads_of (Cells class w x)) l (equation i (Cells class w x) h)
@@ -167,8 +182,11 @@ module _ (nodes : List Node) (delays : List ℕ) (setup period : ℕ) (valid : A
         elim (cases_Bool (is_constant m)) [
           | inl c ↦ let e = constant_starts j m h c in (omega (arith, ap (λ p. p.cycle) e), λ k. omega (arith, l, ap (λ p. p.time) e))
           | inr c ↦
-              let u = t (ap is_some_constant h ∙ c) in
-              (omega (arith, ih.0, u.0), λ k. let x = u.1 (omega (arith, ih.0, u.0, k)) in let y = ih.1 (omega (arith, ih.0, u.0, k)) in omega (arith, x, y))
+              let u = t (ap is_some_constant h ∙ c) in (
+                omega (arith, ih.0, u.0),
+                λ k. let x = u.1 (omega (arith, ih.0, u.0, k)) in let y = ih.1 (omega (arith, ih.0, u.0, k))
+                    in omega (arith, x, y),
+              )
         ]
 
     cell : (d : ℕ) (r p : Slot) → Allows r d p → d ≤ r.time → r.time + setup ≤ period → NotAfter (after setup period d p) r
@@ -180,14 +198,16 @@ module _ (nodes : List Node) (delays : List ℕ) (setup period : ℕ) (valid : A
         (elim (cases_lt p.cycle r.cycle) [ inl k ↦ omega (arith, k) | inr k ↦ absurd (let x = a.1 k in omega (arith, x, no, l)) ], λ k. o)
         )
 
-    cell_at : (i : ℕ) (n : Node) → slice_get nodes i ≡ Some n → (reads : List ℕ) → All (λ j. j < i) reads → CellFits nodes setup period s (delay i) i reads
+    cell_at : (i : ℕ) (n : Node) → slice_get nodes i ≡ Some n → (reads : List ℕ) → All (λ j. j < i) reads
+        → CellFits nodes setup period s (delay i) i reads
         → ((j : ℕ) → j < i → NotAfter (placed j) (s j)) → NotAfter (after setup period (delay i) (latest start all reads)) (s i)
     cell_at i n h reads r f ih =
         cell (delay i) (s i) (latest start all reads)
         (
         latest_one (Allows (s i) (delay i)) start all reads (omega arith, λ k. omega (arith, f.own))
         (
-        both_reads (λ j. j < i) (λ j. is_constant_at nodes j ≡ false → InTime s (delay i) i j) (λ j. Allows (s i) (delay i) (placed j)) reads
+        both_reads (λ j. j < i) (λ j. is_constant_at nodes j ≡ false → InTime s (delay i) i j)
+        (λ j. Allows (s i) (delay i) (placed j)) reads
         (λ j k t. let m = there i j n h k in operand i j (delay i) m.0 m.1 f.own (ih j k) t) r f.operands
         )
         )
@@ -230,12 +250,14 @@ module _ (nodes : List Node) (delays : List ℕ) (setup period : ℕ) (valid : A
     latency_least (o ∷ os) = by (is_constant_at nodes o.from.node) (latency_least os)
       where
         by : (b : Bool) → latency nodes placed os ≤ latency nodes s os
-            → max (if b then 0 else (placed o.from.node).cycle) (latency nodes placed os) ≤ max (if b then 0 else (s o.from.node).cycle) (latency nodes s os)
+            → max (if b then 0 else (placed o.from.node).cycle) (latency nodes placed os) ≤ max (if b then 0 else (s o.from.node).cycle)
+            (latency nodes s os)
         by true h = omega (arith, h)
         by false h = omega (arith, cycle_least o.from.node, h)
 
 pub stage_fits : StageFits
-stage_fits nodes delays setup period valid long l = record { setup_fits = omega (arith, l); nodes_fit = fits_at nodes delays setup period valid l }
+stage_fits nodes delays setup period valid long l = record
+    { a_delay_each = long; setup_fits = omega (arith, l); nodes_fit = fits_at nodes delays setup period valid l }
 
 pub stage_is_least : StageIsLeast
 stage_is_least nodes delays setup period valid s fits outputs = latency_least nodes delays setup period valid s fits outputs
@@ -246,11 +268,13 @@ latest_early ps js m h = latest_one (λ p. p.cycle ≤ m) start ps js (omega ari
 
 pub after_early : (setup period delay : ℕ) (p : Slot) → (after setup period delay p).cycle ≤ p.cycle + 1
 after_early setup period delay p =
-    pick (λ q. q.cycle ≤ p.cycle + 1) (nat_le (p.time + delay + setup) period) (record { cycle = p.cycle; time = p.time + delay }) (record { cycle = p.cycle + 1; time = delay })
+    pick (λ q. q.cycle ≤ p.cycle + 1) (nat_le (p.time + delay + setup) period) (record { cycle = p.cycle; time = p.time + delay })
+    (record { cycle = p.cycle + 1; time = delay })
     (λ e. omega arith) (λ e. omega arith)
 
 -- the next node's slot among those before
-pub early-push : (ps : List Slot) (p : Slot) → ((j : ℕ) → (slot_at ps j).cycle ≤ length ps) → p.cycle ≤ length ps + 1 → (j : ℕ) → (slot_at (ps ++ p ∷ []) j).cycle ≤ length (ps ++ p ∷ [])
+pub early-push : (ps : List Slot) (p : Slot) → ((j : ℕ) → (slot_at ps j).cycle ≤ length ps) → p.cycle ≤ length ps + 1 → (j : ℕ)
+    → (slot_at (ps ++ p ∷ []) j).cycle ≤ length (ps ++ p ∷ [])
 early-push ps p h l j =
     let longer : length (ps ++ p ∷ []) ≡ length ps + 1 = length-append ps (p ∷ []) in
     elim (cases_order j (length ps)) [
@@ -262,7 +286,8 @@ early-push ps p h l j =
     ]
 
 -- each slot's time leaves the setup before the end of the cycle
-module _ (nodes : List Node) (delays : List ℕ) (setup period : ℕ) (valid : AllMayStand [] nodes) (short : greatest delays + setup ≤ period) where
+module _ (nodes : List Node) (delays : List ℕ) (setup period : ℕ) (valid : AllMayStand [] nodes)
+    (short : greatest delays + setup ≤ period) where
   ends-at : (i : ℕ) (n : Node) → slice_get nodes i ≡ Some n → (slot_at (stage delays setup period nodes) i).time + setup ≤ period
   ends-at i (Input port w) h = omega (arith, short, ap (λ p. p.time) (equation nodes delays setup period valid i (Input port w) h))
   ends-at i (Constant w) h = omega (arith, short, ap (λ p. p.time) (equation nodes delays setup period valid i (Constant w) h))

@@ -9,7 +9,8 @@ use Rattle.opgen_schedule.specs.Schedule.{Schedule, InTime, CellFits, Fits}
 use Rattle.opgen_schedule.specs.Laws.{IsOfCells, Path, alone, longer, PathsFit}
 
 module _ (nodes : List Node) (delays : List ℕ) (setup period : ℕ) (s : Schedule) (fits : Fits nodes delays setup period s) where
-  cells_fit : (i : ℕ) (n : Node) → slice_get nodes i ≡ Some n → IsOfCells n → CellFits nodes setup period s (slice_index delays i) i (reads_of n)
+  cells_fit : (i : ℕ) (n : Node) → slice_get nodes i ≡ Some n → IsOfCells n
+      → CellFits nodes setup period s (slice_index delays i) i (reads_of n)
   cells_fit i (Cells class w e) h c = fits.nodes_fit i (Cells class w e) h
   cells_fit i (Choice on one other) h c = fits.nodes_fit i (Choice on one other) h
   cells_fit i (Table address rows) h c = fits.nodes_fit i (Table address rows) h
@@ -25,7 +26,8 @@ module _ (nodes : List Node) (delays : List ℕ) (setup period : ℕ) (s : Sched
   no_constant (Constant w) c = absurd c
   no_constant (Delay of) c = absurd c
 
-  ends_in_cells : (i sum : ℕ) → Path nodes delays s i sum → (sum ≤ (s i).time) × ((s i).time + setup ≤ period) × (is_constant_at nodes i ≡ false)
+  ends_in_cells : (i sum : ℕ) → Path nodes delays s i sum → (sum ≤ (s i).time) × ((s i).time + setup ≤ period)
+      × (is_constant_at nodes i ≡ false)
   ends_in_cells _ _ (alone i n h c) =
       let f = cells_fit i n h c in (f.own, f.ends, ap is_some_constant h ∙ no_constant n c)
   ends_in_cells _ _ (longer j before i n p h c r same) =

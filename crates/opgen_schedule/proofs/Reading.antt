@@ -17,13 +17,15 @@ stand-reads ws (Cells class w e) h = (reads-lists (λ j. j < length ws) (λ p. p
 stand-reads ws (Choice on one other) h =
     let P : ℕ → Type 0 = λ j. j < length ws in
     All-cons P on (one.node ∷ other.node ∷ []) (index_within ws on 0 (omega (arith, h.one_bit)))
-    (All-cons P one.node (other.node ∷ []) (lies_within ws one h.one_lies) (All-cons P other.node [] (lies_within ws other h.other_lies) (All-nil P)))
+    (All-cons P one.node (other.node ∷ []) (lies_within ws one h.one_lies)
+    (All-cons P other.node [] (lies_within ws other h.other_lies) (All-nil P)))
 stand-reads ws (Table address rows) h =
     let P : ℕ → Type 0 = λ j. j < length ws in
     All-cons P address [] (index_within ws address 0 (omega (arith, h.address_width.0))) (All-nil P)
 stand-reads ws (Delay of) h = let P : ℕ → Type 0 = λ j. j < length ws in All-cons P of [] h (All-nil P)
 
-pub reads-before : (nodes : List Node) → AllMayStand [] nodes → (i : ℕ) (n : Node) → slice_get nodes i ≡ Some n → All (λ j. j < i) (reads_of n)
+pub reads-before : (nodes : List Node) → AllMayStand [] nodes → (i : ℕ) (n : Node) → slice_get nodes i ≡ Some n
+    → All (λ j. j < i) (reads_of n)
 reads-before nodes a i n h =
     let s = stands_at nodes a i n h in
     subst (λ k. All (λ j. j < k) (reads_of n)) s.place (stand-reads s.earlier n s.stands)

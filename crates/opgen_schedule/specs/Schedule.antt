@@ -1,5 +1,5 @@
 -- Schedules of a net, as inequalities: each node stands in a cycle of the clock, at a time in picoseconds within it.
-use Rattle.std.specs.Prelude.{ℕ, ◌≡◌, ◌+◌, ◌≤◌, false, List, [], ◌∷◌, All, max, if◌then◌else◌, slice_get, slice_index, Some}
+use Rattle.std.specs.Prelude.{ℕ, ◌≡◌, ◌+◌, ◌≤◌, false, List, [], ◌∷◌, All, length, max, if◌then◌else◌, slice_get, slice_index, Some}
 use Rattle.opgen_net.specs.declared.net.Output.{Output}
 use Rattle.opgen_net.specs.declared.node.Node.{Node}
 use Rattle.opgen_net.specs.declared.node.Node.TheVariants.{Input, Constant, Delay}
@@ -26,8 +26,9 @@ FitsAt nodes setup period s delay i (Constant w) = Unit {0}
 FitsAt nodes setup period s delay i (Delay of) = ((s i).time ≡ 0) × (is_constant_at nodes of ≡ false → (s of).cycle ≤ (s i).cycle)
 FitsAt nodes setup period s delay i n = CellFits nodes setup period s delay i (reads_of n)
 
--- a schedule fits a period over nodes of these delays
+-- a schedule fits a period over nodes of these delays, one for each node
 pub record Fits (nodes : List Node) (delays : List ℕ) (setup period : ℕ) (s : Schedule) : Type 0 where
+  pub a_delay_each : length delays ≡ length nodes
   pub setup_fits : setup ≤ period
   pub nodes_fit : (i : ℕ) (n : Node) → slice_get nodes i ≡ Some n → FitsAt nodes setup period s (slice_index delays i) i n
 

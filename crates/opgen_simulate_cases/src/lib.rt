@@ -4,6 +4,8 @@
 #[cfg(test)]
 mod enabled;
 #[cfg(test)]
+mod enabled_long;
+#[cfg(test)]
 mod running;
 #[cfg(test)]
 mod texts;

@@ -30,7 +30,8 @@ read-number n (d ∷ ds) =
 number-append : (a b : List ℕ) → number (a ++ b) ≡ number a * 10 ^ length b + number b
 number-append [] b = omega arith
 number-append (d ∷ a) b =
-    let power : 10 ^ length (a ++ b) ≡ 10 ^ length a * 10 ^ length b = ap (λ k. 10 ^ k) (length-append a b) ∙ pow-add 10 (length a) (length b) in
+    let power : 10 ^ length (a ++ b) ≡ 10 ^ length a * 10 ^ length b = ap (λ k. 10 ^ k) (length-append a b)
+    ∙ pow-add 10 (length a) (length b) in
     omega (arith, number-append a b, ap (λ p. (d - 48) * p) power)
 
 all_digits : (ds : List ℕ) → list_all is_ascii_digit ds ≡ true → All IsDigit ds
@@ -50,16 +51,19 @@ record IsMadeOf (negative : Bool) (body : List ℕ) (made : Decimal) : Type 0 wh
   value : made.digits ≡ number (whole ++ fraction)
   places : made.places ≡ length fraction
 
-parts_made : (negative : Bool) (whole fraction : List ℕ) (made : Decimal) → decimal_with negative whole fraction ≡ Some made → IsMadeOf negative (whole ++ after_point fraction) made
+parts_made : (negative : Bool) (whole fraction : List ℕ) (made : Decimal) → decimal_with negative whole fraction ≡ Some made
+    → IsMadeOf negative (whole ++ after_point fraction) made
 parts_made negative whole fraction made h = go (are_parts whole fraction) refl h
   where
     d : Decimal
     d = record { negative = negative; digits = digits_from (digits_from 0 whole) fraction; places = length fraction }
 
-    go : (b : Bool) → are_parts whole fraction ≡ b → (if b then Some d else None) ≡ Some made → IsMadeOf negative (whole ++ after_point fraction) made
+    go : (b : Bool) → are_parts whole fraction ≡ b → (if b then Some d else None) ≡ Some made
+        → IsMadeOf negative (whole ++ after_point fraction) made
     go true e found =
         let same : d ≡ made = cc in
-        let (digits, short) = and_parts (are_digits whole && list_all is_ascii_digit fraction) (nat_le (length whole + length fraction) 9) e in
+        let (digits, short) = and_parts (are_digits whole && list_all is_ascii_digit fraction)
+        (nat_le (length whole + length fraction) 9) e in
         let (left, right) = and_parts (are_digits whole) (list_all is_ascii_digit fraction) digits in
         let (some, each) = and_parts (nat_lt 0 (length whole)) (list_all is_ascii_digit whole) left in
         record {
@@ -70,7 +74,14 @@ parts_made negative whole fraction made h = go (are_parts whole fraction) refl h
           digits = (all_digits whole each, all_digits fraction right);
           few = leb-true (length whole + length fraction) 9 short;
           sign_is = ap (λ (m : Decimal). m.negative) (sym same);
-          value = ap (λ (m : Decimal). m.digits) (sym same) ∙ omega (arith, read-number (digits_from 0 whole) fraction, read-number 0 whole, ap (λ n. n * 10 ^ length fraction) (read-number 0 whole), number-append whole fraction);
+          value = ap (λ (m : Decimal). m.digits) (sym same)
+              ∙ omega (
+                arith,
+                read-number (digits_from 0 whole) fraction,
+                read-number 0 whole,
+                ap (λ n. n * 10 ^ length fraction) (read-number 0 whole),
+                number-append whole fraction,
+              );
           places = ap (λ (m : Decimal). m.places) (sym same);
         }
     go false e found = cc
@@ -89,7 +100,8 @@ body_made negative body made h = go (position (λ byte. byte == 46) body) refl h
         let point : get_or body at 0 ≡ 46 = eqb-true (get_or body at 0) 46 passes in
         more (nat_lt (at + 1) (length body)) refl found lt point
       where
-        more : (b : Bool) → nat_lt (at + 1) (length body) ≡ b → (if b then decimal_with negative (take at body) (drop (at + 1) body) else None) ≡ Some made
+        more : (b : Bool) → nat_lt (at + 1) (length body) ≡ b
+            → (if b then decimal_with negative (take at body) (drop (at + 1) body) else None) ≡ Some made
             → at < length body → get_or body at 0 ≡ 46 → IsMadeOf negative body made
         more false e found lt point = cc
         more true e found lt point =
@@ -99,11 +111,13 @@ body_made negative body made h = go (position (λ byte. byte == 46) body) refl h
             ap (λ rest. take at body ++ rest) (with_point (drop (at + 1) body) some ∙ sym cut) ∙ take-append-drop at body in
             subst (λ (b : List ℕ). IsMadeOf negative b made) joined (parts_made negative (take at body) (drop (at + 1) body) made found)
 
-decimal_written : (text : List ℕ) (made : Decimal) → decimal_of text ≡ Some made → IsDecimal text (signed made.negative made.digits) made.places
+decimal_written : (text : List ℕ) (made : Decimal) → decimal_of text ≡ Some made
+    → IsDecimal text (signed made.negative made.digits) made.places
 decimal_written [] made h = cc
 decimal_written (first ∷ rest) made h = go (first == 45) refl h
   where
-    write : (negative : Bool) (body : List ℕ) → first ∷ rest ≡ sign negative ++ body → IsMadeOf negative body made → IsDecimal (first ∷ rest) (signed made.negative made.digits) made.places
+    write : (negative : Bool) (body : List ℕ) → first ∷ rest ≡ sign negative ++ body → IsMadeOf negative body made
+        → IsDecimal (first ∷ rest) (signed made.negative made.digits) made.places
     write negative body e m = record {
       negative = negative;
       whole = m.whole;
@@ -129,19 +143,23 @@ neg-times (suc a) b = omega (arith, ints)
 numerator-value : (power : ℕ) (d : Decimal) → numerator power d ≡ signed d.negative d.digits *ℤ pos (10 ^ (power - d.places))
 numerator-value power d = go d.negative
   where
-    go : (b : Bool) → (if b then neg_ℤ (pos (scaled power d)) else pos (scaled power d)) ≡ signed b d.digits *ℤ pos (10 ^ (power - d.places))
+    go : (b : Bool) → (if b then neg_ℤ (pos (scaled power d)) else pos (scaled power d))
+        ≡ signed b d.digits *ℤ pos (10 ^ (power - d.places))
     go true = neg-times d.digits (10 ^ (power - d.places))
     go false = omega (arith, ints)
 
-text_numerator : (power : ℕ) (text : List ℕ) → is_some (decimal_of text) ≡ true → places_in (string text) ≤ power → IsNumerator power (string text) (coefficient power (string text))
+text_numerator : (power : ℕ) (text : List ℕ) → is_some (decimal_of text) ≡ true → places_in (string text) ≤ power
+    → IsNumerator power (string text) (coefficient power (string text))
 text_numerator power text some few = go (decimal_of text) refl some few
   where
     go : (o : Option Decimal) → decimal_of text ≡ o → is_some o ≡ true → option_map_or (λ d. d.places) o 0 ≤ power
-        → (n : ℤ) × (places : ℕ) × IsDecimal text n places × (places ≤ power) × (option_map_or (numerator power) o (pos 0) ≡ n *ℤ pos (10 ^ (power - places)))
+        → (n : ℤ) × (places : ℕ) × IsDecimal text n places × (places ≤ power)
+        × (option_map_or (numerator power) o (pos 0) ≡ n *ℤ pos (10 ^ (power - places)))
     go (Some d) e some few = (signed d.negative d.digits, d.places, decimal_written text d e, few, numerator-value power d)
     go None e some few = cc
 
-texts_numerators : (power : ℕ) (items : Items) → are_decimals items ≡ true → places_among items ≤ power → AreNumerators power items (map (coefficient power) (list_of items))
+texts_numerators : (power : ℕ) (items : Items) → are_decimals items ≡ true → places_among items ≤ power
+    → AreNumerators power items (map (coefficient power) (list_of items))
 texts_numerators power no_items h few = tt
 texts_numerators power (item (string text) rest) h few =
     let (first, later) = and_parts (is_some (decimal_of text)) (are_decimals rest) h in
@@ -186,18 +204,22 @@ none_asked (item (integer n) rest) h = none_asked rest h
 none_asked (item _ rest) h = cc
 
 pub integers_written : (items : Items) → are_integers items ≡ true → AreNumerators 0 items (numerators items)
-integers_written items h = subst (λ (p : ℕ). AreNumerators 0 items (map (coefficient p) (list_of items))) (sym (no_places items h)) (integers_numerators items h)
+integers_written items h = subst (λ (p : ℕ). AreNumerators 0 items (map (coefficient p) (list_of items))) (sym (no_places items h))
+    (integers_numerators items h)
 
 either : (a b : Bool) → (a || b) ≡ true → (a ≡ true) ⊎ (b ≡ true)
 either true b h = inl refl
 either false b h = inr h
 
-numbers_written : (items : Items) → are_coefficients items ≡ true → AreNumerators (places_among items) items (numerators items) × HasPlaces (places_among items) items
+numbers_written : (items : Items) → are_coefficients items ≡ true → AreNumerators (places_among items) items (numerators items)
+    × HasPlaces (places_among items) items
 numbers_written items h =
     ⊎_elim
     (λ (all : are_integers items ≡ true).
-    let none = sym (no_places items all) in
-    (subst (λ (p : ℕ). AreNumerators p items (numerators items)) none (integers_written items all), subst (λ (p : ℕ). HasPlaces p items) none (none_asked items all)))
+    let none = sym (no_places items all) in (
+      subst (λ (p : ℕ). AreNumerators p items (numerators items)) none (integers_written items all),
+      subst (λ (p : ℕ). HasPlaces p items) none (none_asked items all),
+    ))
     (λ (all : are_decimals items ≡ true). (texts_numerators (places_among items) items all (omega arith), texts_places items all))
     (either (are_integers items) (are_decimals items) h)
 
@@ -207,7 +229,8 @@ decimals_are (item (string text) rest) = (λ h. refl, λ h. absurd (h tt))
 decimals_are (item _ rest) = (λ h. absurd h, λ h. refl)
 
 -- a value that is not of a wrong type
-array_typed : (o : Option Data) → option_map_or (λ d. not (are_coefficients (items_of d) && is_some (as_array d)) || false) o false ≡ false → are_coefficients (items_in o) ≡ true
+array_typed : (o : Option Data) → option_map_or (λ d. not (are_coefficients (items_of d) && is_some (as_array d)) || false) o false ≡ false
+    → are_coefficients (items_in o) ≡ true
 array_typed None h = refl
 array_typed (Some d) h = both (are_coefficients (items_of d)) (is_some (as_array d)) h
   where
@@ -215,7 +238,8 @@ array_typed (Some d) h = both (are_coefficients (items_of d)) (is_some (as_array
     both true b h = refl
     both false b h = cc
 
-pub numbers_typed : (o : Option Data) → option_map_or (λ d. not (are_integers (items_of d) && is_some (as_array d)) || false) o false ≡ false → are_integers (items_in o) ≡ true
+pub numbers_typed : (o : Option Data) → option_map_or (λ d. not (are_integers (items_of d) && is_some (as_array d)) || false) o false
+    ≡ false → are_integers (items_in o) ≡ true
 numbers_typed None h = refl
 numbers_typed (Some d) h = both (are_integers (items_of d)) (is_some (as_array d)) h
   where
@@ -224,14 +248,16 @@ numbers_typed (Some d) h = both (are_integers (items_of d)) (is_some (as_array d
     both false b h = cc
 
 number_given : (o : Option Data) (clash : Bool) → option_map_or (λ d. not (is_some (as_integer d)) || clash) o false ≡ false
-    → (o ≡ Some (integer (option_map_or (λ _. number_in o) o (pos 1)))) ⊎ ((o ≡ None) × (option_map_or (λ _. number_in o) o (pos 1) ≡ pos 1))
+    → (o ≡ Some (integer (option_map_or (λ _. number_in o) o (pos 1)))) ⊎
+    ((o ≡ None) × (option_map_or (λ _. number_in o) o (pos 1) ≡ pos 1))
 number_given None clash h = inr (refl, refl)
 number_given (Some (integer n)) clash h = inl refl
 number_given (Some _) clash h = cc
 
 pub coefficients_written : (ms : Members)
     → option_map_or (λ d. not (are_coefficients (items_of d) && is_some (as_array d)) || false) (value_at ms key.Coefficients) false ≡ false
-    → option_map_or (λ d. not (is_some (as_integer d)) || are_texts (items_at ms key.Coefficients)) (value_at ms key.Denominator) false ≡ false
+    → option_map_or (λ d. not (is_some (as_integer d)) || are_texts (items_at ms key.Coefficients)) (value_at ms key.Denominator) false
+    ≡ false
     → AreCoefficients ms (numerators (items_at ms key.Coefficients)) (denominator_of ms)
 coefficients_written ms typed given =
     let items = items_at ms key.Coefficients in
@@ -243,6 +269,7 @@ coefficients_written ms typed given =
       numerators = all.0;
       greatest = all.1;
       of_decimals = λ h. ap (λ b. if b then pos (10 ^ places_among items) else d) (texts h);
-      of_numbers = λ h. subst (λ (b : Bool). (value_at ms key.Denominator ≡ Some (integer (if b then pos (10 ^ places_among items) else d))) ⊎ ((value_at ms key.Denominator ≡ None) × ((if b then pos (10 ^ places_among items) else d) ≡ pos 1)))
+      of_numbers = λ h. subst (λ (b : Bool). (value_at ms key.Denominator ≡ Some (integer (if b then pos (10 ^ places_among items) else d)))
+          ⊎ ((value_at ms key.Denominator ≡ None) × ((if b then pos (10 ^ places_among items) else d) ≡ pos 1)))
           (sym (numbers h)) (number_given (value_at ms key.Denominator) (are_texts items) given);
     }

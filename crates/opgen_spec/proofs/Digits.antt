@@ -23,9 +23,11 @@ by_cases : (b : Bool) → (b ≡ false → ⊥) → b ≡ true
 by_cases true h = refl
 by_cases false h = absurd (h refl)
 
-pub digit_at : (digits : List ℕ) (i : ℕ) → list_all is_ascii_digit digits ≡ true → i < length digits → (48 ≤ get_or digits i 0) × (get_or digits i 0 ≤ 57)
+pub digit_at : (digits : List ℕ) (i : ℕ) → list_all is_ascii_digit digits ≡ true → i < length digits → (48 ≤ get_or digits i 0)
+    × (get_or digits i 0 ≤ 57)
 digit_at digits i all lt =
-    digit_bounds (get_or digits i 0) (by_cases (is_ascii_digit (get_or digits i 0)) (λ no_digit. let none = list_all_at is_ascii_digit digits i 0 lt no_digit in cc))
+    digit_bounds (get_or digits i 0) (by_cases (is_ascii_digit (get_or digits i 0)) (λ no_digit. let none = list_all_at is_ascii_digit
+    digits i 0 lt no_digit in cc))
 
 room_of : (n digit p q : ℕ) → digit ≤ 9 → q ≡ 10 * p → (n * 10 + digit + 1) * p ≤ (n + 1) * q
 room_of n digit p q h e =
@@ -36,7 +38,8 @@ room_of n digit p q h e =
 room : (n digit rest : ℕ) → digit ≤ 9 → (n * 10 + digit + 1) * 10 ^ rest ≤ (n + 1) * 10 ^ suc rest
 room n digit rest h = room_of n digit (10 ^ rest) (10 ^ suc rest) h (pow-succ' 10 rest)
 
-pub read_more : (digits : List ℕ) (start number i next : ℕ) → next ≡ suc i → IsReadSoFar digits start number i → i < length digits → get_or digits i 0 ≤ 57 → IsReadSoFar digits start (number * 10 + (get_or digits i 0 - 48)) next
+pub read_more : (digits : List ℕ) (start number i next : ℕ) → next ≡ suc i → IsReadSoFar digits start number i → i < length digits
+    → get_or digits i 0 ≤ 57 → IsReadSoFar digits start (number * 10 + (get_or digits i 0 - 48)) next
 read_more digits start number i next e so_far lt most =
     let left : length digits - i ≡ suc (length digits - suc i) = omega (arith, lt) in
     let cut = drop-cons digits i 0 lt in
@@ -51,7 +54,8 @@ read_more digits start number i next e so_far lt most =
 positive : (k : ℕ) → 1 ≤ 10 ^ k
 positive k = one-le-pow k 10 (omega arith)
 
-pub small : (digits : List ℕ) (start number i : ℕ) → IsReadSoFar digits start number i → (start + 1) * 10 ^ length digits ≤ 10 ^ 9 → number < 10 ^ 9
+pub small : (digits : List ℕ) (start number i : ℕ) → IsReadSoFar digits start number i → (start + 1) * 10 ^ length digits ≤ 10 ^ 9
+    → number < 10 ^ 9
 small digits start number i so_far most =
     let one = mul-le-mul_left (number + 1) (positive (length digits - i)) in
     let bound = so_far.bound in

@@ -38,14 +38,16 @@ pub find_none : (p : Key → Bool) (ks : List Key) (i : ℕ) (d : Key) → find 
 find_none p [] i d h lt = absurd (omega arith)
 find_none p (k ∷ ks) i d h lt = go (p k) refl i (λ j none below. find_none p ks j d none below) lt
   where
-    go : (b : Bool) → p k ≡ b → (i : ℕ) → ((j : ℕ) → find p ks ≡ None → j < length ks → p (get_or ks j d) ≡ false) → i < length (k ∷ ks) → p (get_or (k ∷ ks) i d) ≡ false
+    go : (b : Bool) → p k ≡ b → (i : ℕ) → ((j : ℕ) → find p ks ≡ None → j < length ks → p (get_or ks j d) ≡ false) → i < length (k ∷ ks)
+        → p (get_or (k ∷ ks) i d) ≡ false
     go true e i later lt =
         let some : Some k ≡ None = ap (λ b. cond b (Some k) (find p ks)) (sym e) ∙ h in
         cc
     go false e zero later lt = e
     go false e (suc i) later lt = later i (ap (λ b. cond b (Some k) (find p ks)) (sym e) ∙ h) (omega arith)
 
-pub first_none : (f : Key → Option SpecFault) (ks : List Key) (i : ℕ) (d : Key) → first_of (map f ks) ≡ None → i < length ks → f (get_or ks i d) ≡ None
+pub first_none : (f : Key → Option SpecFault) (ks : List Key) (i : ℕ) (d : Key) → first_of (map f ks) ≡ None → i < length ks
+    → f (get_or ks i d) ≡ None
 first_none f [] i d h lt = absurd (omega arith)
 first_none f (k ∷ ks) zero d h lt = (or_none (f k) (first_of (map f ks)) h).0
 first_none f (k ∷ ks) (suc i) d h lt = first_none f ks i d (or_none (f k) (first_of (map f ks)) h).1 (omega arith)
@@ -71,7 +73,9 @@ ranges : (ms : Members) → outside_among document_keys 0 ms ≡ None → Ranges
 unfolding document_keys
 ranges ms h =
     let f : Key → Option SpecFault = λ k. out_of_range 0 k (found 0 ms k) in
-    let at : (i : ℕ) → i < 19 → found 0 ms (get_or document_keys i key.Version) ≡ None = λ i lt. map_none (fault.OutOfRange (get_or document_keys i key.Version) 0) (found 0 ms (get_or document_keys i key.Version)) (first_none f document_keys i key.Version h lt) in
+    let at : (i : ℕ) → i < 19 → found 0 ms (get_or document_keys i key.Version)
+    ≡ None = λ i lt. map_none (fault.OutOfRange (get_or document_keys i key.Version) 0)
+    (found 0 ms (get_or document_keys i key.Version)) (first_none f document_keys i key.Version h lt) in
     record {
       target = at 4 (lit< tt);
       period = at 5 (lit< tt);
@@ -102,7 +106,8 @@ needed : (ms : Members) → missing_among document_keys 0 ms ≡ None → Needed
 unfolding document_keys
 needed ms h =
     let none : find (is_missing ms) document_keys ≡ None = map_none (λ k. fault.MissingKey k 0) (find (is_missing ms) document_keys) h in
-    let at : (i : ℕ) → i < 19 → is_missing ms (get_or document_keys i key.Version) ≡ false = λ i lt. find_none (is_missing ms) document_keys i key.Version none lt in
+    let at : (i : ℕ) → i < 19 → is_missing ms (get_or document_keys i key.Version)
+    ≡ false = λ i lt. find_none (is_missing ms) document_keys i key.Version none lt in
     record {
       target = at 4 (lit< tt);
       period = at 5 (lit< tt);
@@ -141,7 +146,8 @@ fine ms h =
       lines = lines;
     }
 
-pub nothing_wrong : (ms : Members) → field_fault ms ≡ None → (missing_among document_keys 0 ms ≡ None) × (wrong_among document_keys 0 ms ≡ None)
+pub nothing_wrong : (ms : Members) → field_fault ms ≡ None → (missing_among document_keys 0 ms ≡ None)
+    × (wrong_among document_keys 0 ms ≡ None)
 nothing_wrong ms h =
     let (forms, _) = or_none (form_fault ms) (value_fault ms) h in
     let (_, later) = or_none (check_fault Unknown ms) (first_of (check_fault Missing ms ∷ check_fault WrongType ms ∷ [])) forms in
@@ -151,7 +157,8 @@ nothing_wrong ms h =
     let (typed, _) = or_none (among_keys WrongType ms) (among_lines WrongType 1 (items_at ms key.Delay)) wrong in
     (there, typed)
 
-pub no_wrong_line : (ms : Members) → field_fault ms ≡ None → (among_lines Missing 1 (items_at ms key.Delay) ≡ None) × (among_lines WrongType 1 (items_at ms key.Delay) ≡ None)
+pub no_wrong_line : (ms : Members) → field_fault ms ≡ None → (among_lines Missing 1 (items_at ms key.Delay) ≡ None)
+    × (among_lines WrongType 1 (items_at ms key.Delay) ≡ None)
 no_wrong_line ms h =
     let (forms, _) = or_none (form_fault ms) (value_fault ms) h in
     let (_, later) = or_none (check_fault Unknown ms) (first_of (check_fault Missing ms ∷ check_fault WrongType ms ∷ [])) forms in
@@ -188,7 +195,8 @@ there_inside (Some d) x there h = h
 there_inside None x there h = cc
 
 -- a number whose bounds hold 0, there or not
-pub zero_inside : (o : Option Data) (low high : ℤ) → low ≤ℤ pos 0 → pos 0 ≤ℤ high → option_and_then (λ _. outside low high (number_in o)) o ≡ None → (low ≤ℤ number_in o) × (number_in o ≤ℤ high)
+pub zero_inside : (o : Option Data) (low high : ℤ) → low ≤ℤ pos 0 → pos 0 ≤ℤ high → option_and_then (λ _. outside low high (number_in o)) o
+    ≡ None → (low ≤ℤ number_in o) × (number_in o ≤ℤ high)
 zero_inside (Some d) low high least most h = inside low high (number_in (Some d)) h
 zero_inside None low high least most h = (least, most)
 
@@ -208,22 +216,29 @@ power_small n (least, most) = go (int_le (negsuc 2147483647) n && int_lt n (pos 
     go true = (least, most)
     go false = (omega (arith, ints), omega (arith, ints))
 
-power_at : (ms : Members) (k : Key) → option_and_then (λ _. outside (negsuc 31) (pos 32) (number_at ms k)) (value_at ms k) ≡ None → IsPower (small (number_at ms k))
-power_at ms k h = power_small (number_at ms k) (zero_inside (value_at ms k) (negsuc 31) (pos 32) (omega (arith, ints)) (omega (arith, ints)) h)
+power_at : (ms : Members) (k : Key) → option_and_then (λ _. outside (negsuc 31) (pos 32) (number_at ms k)) (value_at ms k) ≡ None
+    → IsPower (small (number_at ms k))
+power_at ms k h = power_small (number_at ms k)
+    (zero_inside (value_at ms k) (negsuc 31) (pos 32) (omega (arith, ints)) (omega (arith, ints)) h)
 
 -- the most bits of an input in the document's version
 abbrev pub widest_input : Members → ℕ
 widest_input ms = most_input (count_at ms key.Version)
 
-width_at : (ms : Members) (k : Key) → is_none (value_at ms k) ≡ false → option_and_then (λ _. outside (pos (if flag_at ms key.Signed then 2 else 1)) (pos (widest_input ms)) (number_at ms k)) (value_at ms k) ≡ None → (fewest_bits (flag_at ms key.Signed) ≤ count (number_at ms k)) × (count (number_at ms k) ≤ widest_input ms)
+width_at : (ms : Members) (k : Key) → is_none (value_at ms k) ≡ false
+    → option_and_then (λ _. outside (pos (if flag_at ms key.Signed then 2 else 1)) (pos (widest_input ms)) (number_at ms k)) (value_at ms k)
+    ≡ None → (fewest_bits (flag_at ms key.Signed) ≤ count (number_at ms k)) × (count (number_at ms k) ≤ widest_input ms)
 width_at ms k there h = go (flag_at ms key.Signed) (there_inside (value_at ms k) _ there h)
   where
     few : widest_input ms < 2 ^ 32
     few = omega (arith, input_limit (count_at ms key.Version))
 
-    go : (flag : Bool) → outside (pos (if flag then 2 else 1)) (pos (widest_input ms)) (number_at ms k) ≡ None → (fewest_bits flag ≤ count (number_at ms k)) × (count (number_at ms k) ≤ widest_input ms)
-    go true none = let bounds = inside (pos 2) (pos (widest_input ms)) (number_at ms k) none in counted (number_at ms k) 2 (widest_input ms) bounds.0 bounds.1 few
-    go false none = let bounds = inside (pos 1) (pos (widest_input ms)) (number_at ms k) none in counted (number_at ms k) 1 (widest_input ms) bounds.0 bounds.1 few
+    go : (flag : Bool) → outside (pos (if flag then 2 else 1)) (pos (widest_input ms)) (number_at ms k) ≡ None
+        → (fewest_bits flag ≤ count (number_at ms k)) × (count (number_at ms k) ≤ widest_input ms)
+    go true none = let bounds = inside (pos 2) (pos (widest_input ms)) (number_at ms k) none in counted (number_at ms k) 2
+        (widest_input ms) bounds.0 bounds.1 few
+    go false none = let bounds = inside (pos 1) (pos (widest_input ms)) (number_at ms k) none in counted (number_at ms k) 1
+        (widest_input ms) bounds.0 bounds.1 few
 
 one_bit : (flag : Bool) (w : ℕ) → fewest_bits flag ≤ w → 1 ≤ w
 one_bit true w h = omega arith
@@ -237,7 +252,9 @@ none_beyond : (limit : ℕ) (ns : List ℤ) → find (is_beyond limit) ns ≡ No
 none_beyond limit [] h k d lt = absurd (omega arith)
 none_beyond limit (n ∷ ns) h k d lt = go (is_beyond limit n) refl k (λ j none below. none_beyond limit ns none j d below) lt
   where
-    go : (b : Bool) → is_beyond limit n ≡ b → (k : ℕ) → ((j : ℕ) → find (is_beyond limit) ns ≡ None → j < length ns → IsWithin limit (get_or ns j d)) → k < length (n ∷ ns) → IsWithin limit (get_or (n ∷ ns) k d)
+    go : (b : Bool) → is_beyond limit n ≡ b → (k : ℕ)
+        → ((j : ℕ) → find (is_beyond limit) ns ≡ None → j < length ns → IsWithin limit (get_or ns j d)) → k < length (n ∷ ns)
+        → IsWithin limit (get_or (n ∷ ns) k d)
     go true e k later lt =
         let some : Some n ≡ None = ap (λ b. cond b (Some n) (find (is_beyond limit) ns)) (sym e) ∙ h in
         cc
@@ -267,7 +284,9 @@ places o = option_map_or (λ d. d.places) o 0
 with_few : (negative : Bool) (whole after : List ℕ) → places (decimal_with negative whole after) ≤ 9
 with_few negative whole after = go (are_parts whole after) refl
   where
-    go : (b : Bool) → are_parts whole after ≡ b → places (if b then Some (record { negative = negative; digits = digits_from (digits_from 0 whole) after; places = length after }) else None) ≤ 9
+    go : (b : Bool) → are_parts whole after ≡ b
+        → places (if b then Some (record { negative = negative; digits = digits_from (digits_from 0 whole) after; places = length after })
+        else None) ≤ 9
     go true e =
         let (_, few) = and_parts (are_digits whole && list_all is_ascii_digit after) (nat_le (length whole + length after) 9) e in
         let most = leb-true (length whole + length after) 9 few in
@@ -307,26 +326,38 @@ ten_power k h =
 denominator_in : (ms : Members) → found 0 ms key.Denominator ≡ None → (pos 1 ≤ℤ denominator_of ms) × (denominator_of ms ≤ℤ pos (2 ^ 30))
 denominator_in ms h = go (are_texts (items_at ms key.Coefficients))
   where
-    given : (o : Option Data) → option_and_then (λ _. outside (pos 1) (pos (2 ^ 30)) (number_in o)) o ≡ None → (pos 1 ≤ℤ option_map_or (λ _. number_in o) o (pos 1)) × (option_map_or (λ _. number_in o) o (pos 1) ≤ℤ pos (2 ^ 30))
+    given : (o : Option Data) → option_and_then (λ _. outside (pos 1) (pos (2 ^ 30)) (number_in o)) o ≡ None
+        → (pos 1 ≤ℤ option_map_or (λ _. number_in o) o (pos 1)) × (option_map_or (λ _. number_in o) o (pos 1) ≤ℤ pos (2 ^ 30))
     given (Some d) h = inside (pos 1) (pos (2 ^ 30)) (number_in (Some d)) h
     given None h = (omega (arith, ints), omega (arith, ints))
 
-    go : (b : Bool) → (pos 1 ≤ℤ (if b then pos (10 ^ places_among (items_at ms key.Coefficients)) else option_map_or (λ _. number_at ms key.Denominator) (value_at ms key.Denominator) (pos 1))) × ((if b then pos (10 ^ places_among (items_at ms key.Coefficients)) else option_map_or (λ _. number_at ms key.Denominator) (value_at ms key.Denominator) (pos 1)) ≤ℤ pos (2 ^ 30))
-    go true = let (some, most) = ten_power (places_among (items_at ms key.Coefficients)) (few_places (items_at ms key.Coefficients)) in (omega (arith, ints), omega (arith, ints))
+    go : (b : Bool) → (pos 1 ≤ℤ (if b then pos (10 ^ places_among (items_at ms key.Coefficients)) else option_map_or (λ _. number_at ms
+        key.Denominator) (value_at ms key.Denominator) (pos 1)))
+        × ((if b then pos (10 ^ places_among (items_at ms key.Coefficients)) else option_map_or (λ _. number_at ms key.Denominator)
+        (value_at ms key.Denominator) (pos 1)) ≤ℤ pos (2 ^ 30))
+    go true = let (some, most) = ten_power (places_among (items_at ms key.Coefficients)) (few_places (items_at ms key.Coefficients)) in
+        (omega (arith, ints), omega (arith, ints))
     go false = given (value_at ms key.Denominator) h
 
 pub needs : (ms : Members) (one : Kind) (k : Key) → kind_of ms ≡ Some one → is_needed (Some one) k ≡ true → is_needed (kind_of ms) k ≡ true
 needs ms one k e h = ap (λ named. is_needed named k) e ∙ h
 
-sum_in : (ms : Members) (one : Kind) (most : ℕ) → AreFine ms → kind_of ms ≡ Some one → is_needed (Some one) key.Width ≡ true → is_needed (Some one) key.Coefficients ≡ true → most_coefficients (Some one) ≡ most → IsSum most (sum_of ms)
+sum_in : (ms : Members) (one : Kind) (most : ℕ) → AreFine ms → kind_of ms ≡ Some one → is_needed (Some one) key.Width ≡ true
+    → is_needed (Some one) key.Coefficients ≡ true → most_coefficients (Some one) ≡ most → IsSum most (sum_of ms)
 sum_in ms one most f e width coefs same =
     let (fewest, widest) = width_at ms key.Width (present ms key.Width (needs ms one key.Width e width) f.needed.width) f.ranges.width in
-    let numbers = there_inside (value_at ms key.Coefficients) (coefficients_outside ms) (present ms key.Coefficients (needs ms one key.Coefficients e coefs) f.needed.coefficients) f.ranges.coefficients in
+    let numbers = there_inside (value_at ms key.Coefficients) (coefficients_outside ms)
+    (present ms key.Coefficients (needs ms one key.Coefficients e coefs) f.needed.coefficients) f.ranges.coefficients in
     let limit : most_coefficients (kind_of ms) ≡ most = ap most_coefficients e ∙ same in
-    let array = array_in most (2 ^ 30) (items_at ms key.Coefficients) (ap (λ m. array_outside m (2 ^ 30) (items_at ms key.Coefficients)) (sym limit) ∙ numbers) in
+    let array = array_in most (2 ^ 30) (items_at ms key.Coefficients)
+    (ap (λ m. array_outside m (2 ^ 30) (items_at ms key.Coefficients)) (sym limit) ∙ numbers) in
     let (positive, small) = denominator_in ms f.ranges.denominator in
     record {
-      input = record { fewest = fewest; most = omega (arith, widest, input_limit (count_at ms key.Version)); lsb = power_at ms key.Lsb f.ranges.lsb };
+      input = record {
+        fewest = fewest;
+        most = omega (arith, widest, input_limit (count_at ms key.Version));
+        lsb = power_at ms key.Lsb f.ranges.lsb;
+      };
       out_lsb = power_at ms key.OutLsb f.ranges.out_lsb;
       some = array.some;
       few = array.few;
@@ -335,17 +366,30 @@ sum_in ms one most f e width coefs same =
       small = small;
     }
 
-a_in : (ms : Members) (one : Kind) → AreFine ms → kind_of ms ≡ Some one → is_needed (Some one) key.WidthA ≡ true → IsInput (format_at ms key.WidthA key.LsbA)
+a_in : (ms : Members) (one : Kind) → AreFine ms → kind_of ms ≡ Some one → is_needed (Some one) key.WidthA ≡ true
+    → IsInput (format_at ms key.WidthA key.LsbA)
 a_in ms one f e width =
-    let (fewest, widest) = width_at ms key.WidthA (present ms key.WidthA (needs ms one key.WidthA e width) f.needed.width_a) f.ranges.width_a in
-    record { fewest = fewest; most = omega (arith, widest, input_limit (count_at ms key.Version)); lsb = power_at ms key.LsbA f.ranges.lsb_a }
+    let (fewest, widest) = width_at ms key.WidthA
+    (present ms key.WidthA (needs ms one key.WidthA e width) f.needed.width_a) f.ranges.width_a in
+    record {
+      fewest = fewest;
+      most = omega (arith, widest, input_limit (count_at ms key.Version));
+      lsb = power_at ms key.LsbA f.ranges.lsb_a;
+    }
 
-b_in : (ms : Members) (one : Kind) → AreFine ms → kind_of ms ≡ Some one → is_needed (Some one) key.WidthB ≡ true → IsInput (format_at ms key.WidthB key.LsbB)
+b_in : (ms : Members) (one : Kind) → AreFine ms → kind_of ms ≡ Some one → is_needed (Some one) key.WidthB ≡ true
+    → IsInput (format_at ms key.WidthB key.LsbB)
 b_in ms one f e width =
-    let (fewest, widest) = width_at ms key.WidthB (present ms key.WidthB (needs ms one key.WidthB e width) f.needed.width_b) f.ranges.width_b in
-    record { fewest = fewest; most = omega (arith, widest, input_limit (count_at ms key.Version)); lsb = power_at ms key.LsbB f.ranges.lsb_b }
+    let (fewest, widest) = width_at ms key.WidthB
+    (present ms key.WidthB (needs ms one key.WidthB e width) f.needed.width_b) f.ranges.width_b in
+    record {
+      fewest = fewest;
+      most = omega (arith, widest, input_limit (count_at ms key.Version));
+      lsb = power_at ms key.LsbB f.ranges.lsb_b;
+    }
 
-x_in : (ms : Members) (one : Kind) → AreFine ms → kind_of ms ≡ Some one → is_needed (Some one) key.Width ≡ true → IsInput (format_at ms key.Width key.Lsb)
+x_in : (ms : Members) (one : Kind) → AreFine ms → kind_of ms ≡ Some one → is_needed (Some one) key.Width ≡ true
+    → IsInput (format_at ms key.Width key.Lsb)
 x_in ms one f e width =
     let (fewest, widest) = width_at ms key.Width (present ms key.Width (needs ms one key.Width e width) f.needed.width) f.ranges.width in
     record { fewest = fewest; most = omega (arith, widest, input_limit (count_at ms key.Version)); lsb = power_at ms key.Lsb f.ranges.lsb }
@@ -355,8 +399,10 @@ unsigned_in ms w l h = record { fewest = one_bit (flag_at ms key.Signed) (count 
 
 -- no input has more bits than the version lets it have
 pub inputs_in : (ms : Members) (one : Kind) → AreFine ms → kind_of ms ≡ Some one → HasInputsWithin (widest_input ms) (operator_of one ms)
-inputs_in ms kind.Scale f e = (width_at ms key.Width (present ms key.Width (needs ms kind.Scale key.Width e refl) f.needed.width) f.ranges.width).1
-inputs_in ms kind.Fir f e = (width_at ms key.Width (present ms key.Width (needs ms kind.Fir key.Width e refl) f.needed.width) f.ranges.width).1
+inputs_in ms kind.Scale f e = (width_at ms key.Width (present ms key.Width (needs ms kind.Scale key.Width e refl) f.needed.width)
+    f.ranges.width).1
+inputs_in ms kind.Fir f e = (width_at ms key.Width (present ms key.Width (needs ms kind.Fir key.Width e refl) f.needed.width)
+    f.ranges.width).1
 inputs_in ms kind.Multiply f e = (
   (width_at ms key.WidthA (present ms key.WidthA (needs ms kind.Multiply key.WidthA e refl) f.needed.width_a) f.ranges.width_a).1,
   (width_at ms key.WidthB (present ms key.WidthB (needs ms kind.Multiply key.WidthB e refl) f.needed.width_b) f.ranges.width_b).1,
@@ -365,8 +411,10 @@ inputs_in ms kind.Divide f e = (
   (width_at ms key.WidthA (present ms key.WidthA (needs ms kind.Divide key.WidthA e refl) f.needed.width_a) f.ranges.width_a).1,
   (width_at ms key.WidthB (present ms key.WidthB (needs ms kind.Divide key.WidthB e refl) f.needed.width_b) f.ranges.width_b).1,
 )
-inputs_in ms kind.Root f e = (width_at ms key.Width (present ms key.Width (needs ms kind.Root key.Width e refl) f.needed.width) f.ranges.width).1
-inputs_in ms kind.Mcm f e = (width_at ms key.Width (present ms key.Width (needs ms kind.Mcm key.Width e refl) f.needed.width) f.ranges.width).1
+inputs_in ms kind.Root f e = (width_at ms key.Width (present ms key.Width (needs ms kind.Root key.Width e refl) f.needed.width)
+    f.ranges.width).1
+inputs_in ms kind.Mcm f e = (width_at ms key.Width (present ms key.Width (needs ms kind.Mcm key.Width e refl) f.needed.width)
+    f.ranges.width).1
 
 pub operator_in : (ms : Members) (one : Kind) → AreFine ms → kind_of ms ≡ Some one → IsOperator (operator_of one ms)
 operator_in ms kind.Scale f e = sum_in ms kind.Scale 1 f e refl refl refl
@@ -390,7 +438,8 @@ operator_in ms kind.Root f e = record {
   out_lsb = power_at ms key.OutLsb f.ranges.out_lsb;
 }
 operator_in ms kind.Mcm f e =
-    let numbers = there_inside (value_at ms key.Constants) (array_outside 8 2047 (items_at ms key.Constants)) (present ms key.Constants (needs ms kind.Mcm key.Constants e refl) f.needed.constants) f.ranges.constants in
+    let numbers = there_inside (value_at ms key.Constants) (array_outside 8 2047 (items_at ms key.Constants))
+    (present ms key.Constants (needs ms kind.Mcm key.Constants e refl) f.needed.constants) f.ranges.constants in
     let array = array_in 8 2047 (items_at ms key.Constants) numbers in
     let (least, most) = zero_inside (value_at ms key.Extra) (pos 0) (pos 2) (omega (arith, ints)) (omega (arith, ints)) f.ranges.extra in
     record {

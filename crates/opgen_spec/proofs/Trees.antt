@@ -30,17 +30,22 @@ items-length [] = refl
 items-length (v ∷ vs) = ap suc (items-length vs)
 
 -- the items from a place on
-pub cut : (vs : List Value) (i : ℕ) (v : Value) → i < length vs → items_view (drop i vs) ≡ item (view (get_or vs i v)) (items_view (drop (i + 1) vs))
+pub cut : (vs : List Value) (i : ℕ) (v : Value) → i < length vs → items_view (drop i vs)
+    ≡ item (view (get_or vs i v)) (items_view (drop (i + 1) vs))
 cut vs i v lt = ap items_view (drop_more vs i v lt)
 
 -- the first number that passes a test stands at a place, or after it
-pub find_here : (p : ℤ → Bool) (f : Data → ℤ) (vs : List Value) (i : ℕ) (v : Value) → i < length vs → v ≡ get_or vs i v → (answer : Option ℤ) → find p (map f (list_of (items_view (drop i vs)))) ≡ answer → p (f (view v)) ≡ true → Some (f (view v)) ≡ answer
+pub find_here : (p : ℤ → Bool) (f : Data → ℤ) (vs : List Value) (i : ℕ) (v : Value) → i < length vs → v ≡ get_or vs i v
+    → (answer : Option ℤ) → find p (map f (list_of (items_view (drop i vs)))) ≡ answer → p (f (view v)) ≡ true → Some (f (view v)) ≡ answer
 find_here p f vs i v lt here answer so_far passes =
     let first = ap (λ items. find p (map f (list_of items))) (cut vs i v lt) in
     let at : p (f (view (get_or vs i v))) ≡ true = rw (← here) passes in
-    ap (λ w. Some (f (view w))) here ∙ sym (first ∙ ap (λ b. cond b (Some (f (view (get_or vs i v)))) (find p (map f (list_of (items_view (drop (i + 1) vs)))))) at) ∙ so_far
+    ap (λ w. Some (f (view w))) here ∙ sym (first ∙ ap (λ b. cond b (Some (f (view (get_or vs i v))))
+    (find p (map f (list_of (items_view (drop (i + 1) vs)))))) at) ∙ so_far
 
-pub find_past : (p : ℤ → Bool) (f : Data → ℤ) (vs : List Value) (i : ℕ) (v : Value) → i < length vs → v ≡ get_or vs i v → (answer : Option ℤ) → find p (map f (list_of (items_view (drop i vs)))) ≡ answer → p (f (view v)) ≡ false → find p (map f (list_of (items_view (drop (i + 1) vs)))) ≡ answer
+pub find_past : (p : ℤ → Bool) (f : Data → ℤ) (vs : List Value) (i : ℕ) (v : Value) → i < length vs → v ≡ get_or vs i v
+    → (answer : Option ℤ) → find p (map f (list_of (items_view (drop i vs)))) ≡ answer → p (f (view v)) ≡ false
+    → find p (map f (list_of (items_view (drop (i + 1) vs)))) ≡ answer
 find_past p f vs i v lt here answer so_far fails =
     let first = ap (λ items. find p (map f (list_of items))) (cut vs i v lt) in
     let at : p (f (view (get_or vs i v))) ≡ false = rw (← here) fails in

@@ -90,9 +90,13 @@ line_ranges n ms h =
 delay_in : (n : ℕ) (ms : Members) → outside_among line_keys n ms ≡ None → IsDelayLine (line_of ms)
 delay_in n ms h =
     let (base, per_bit) = line_ranges n ms h in
-    let (base_least, base_most) = zero_inside (value_at ms key.Base) (pos 0) (pos 1000000) (omega (arith, ints)) (omega (arith, ints)) base in
-    let (bit_least, bit_most) = zero_inside (value_at ms key.PerBit) (pos 0) (pos 10000) (omega (arith, ints)) (omega (arith, ints)) per_bit in
-    ((counted (number_at ms key.Base) 0 1000000 base_least base_most (omega arith)).1, (counted (number_at ms key.PerBit) 0 10000 bit_least bit_most (omega arith)).1)
+    let (base_least, base_most) = zero_inside (value_at ms key.Base) (pos 0) (pos 1000000) (omega (arith, ints))
+    (omega (arith, ints)) base in
+    let (bit_least, bit_most) = zero_inside (value_at ms key.PerBit) (pos 0) (pos 10000) (omega (arith, ints))
+    (omega (arith, ints)) per_bit in (
+      (counted (number_at ms key.Base) 0 1000000 base_least base_most (omega arith)).1,
+      (counted (number_at ms key.PerBit) 0 10000 bit_least bit_most (omega arith)).1,
+    )
 
 all_more : (x : DelayLine) (xs : List DelayLine) → IsDelayLine x → All IsDelayLine xs → All IsDelayLine (x ∷ xs)
 all_more x xs first rest zero d lt = first
@@ -128,7 +132,8 @@ few_items (Some d) h =
 
 -- exact outputs are asked for only where the exact values are whole
 asked_exact : (spec : Spec) → not_exact spec ≡ None → IsTrue spec.exact → inexact spec.op ≡ None
-asked_exact spec h asked = map_none fault.NotExact (inexact spec.op) (ap (λ b. if b then option_map fault.NotExact (inexact spec.op) else None) (sym asked) ∙ h)
+asked_exact spec h asked = map_none fault.NotExact (inexact spec.op)
+    (ap (λ b. if b then option_map fault.NotExact (inexact spec.op) else None) (sym asked) ∙ h)
 
 within_limit : (most bits : ℕ) → over_limit most bits ≡ None → bits ≤ most
 within_limit most bits h = go (nat_lt most bits) refl
@@ -139,7 +144,8 @@ within_limit most bits h = go (nat_lt most bits) refl
         cc
     go false e = grind arith
 
-pub valid_in : (ms : Members) (one : Kind) → AreFine ms → kind_of ms ≡ Some one → limit_fault (spec_with one ms) ≡ None → IsValidSpec (spec_with one ms)
+pub valid_in : (ms : Members) (one : Kind) → AreFine ms → kind_of ms ≡ Some one → limit_fault (spec_with one ms) ≡ None
+    → IsValidSpec (spec_with one ms)
 unfolding spec_with
 valid_in ms one f e h =
     let spec = spec_with one ms in
@@ -147,18 +153,23 @@ valid_in ms one f e h =
     let (fine, last) = or_none (coarse spec) (first_of (too_wide spec ∷ [])) later in
     let (narrow, _) = or_none (too_wide spec) None last in
     let (target, period) = common one in
-    let text = there_inside (value_at ms key.Target) (outside (pos 1) (pos 32) (pos (length (text_at ms key.Target)))) (present ms key.Target (needs ms one key.Target e target) f.needed.target) f.ranges.target in
+    let text = there_inside (value_at ms key.Target) (outside (pos 1) (pos 32) (pos (length (text_at ms key.Target))))
+    (present ms key.Target (needs ms one key.Target e target) f.needed.target) f.ranges.target in
     let (text_least, text_most) = inside (pos 1) (pos 32) (pos (length (text_at ms key.Target))) text in
-    let time = there_inside (value_at ms key.Period) (outside (pos 1) (pos 1000000) (number_at ms key.Period)) (present ms key.Period (needs ms one key.Period e period) f.needed.period) f.ranges.period in
+    let time = there_inside (value_at ms key.Period) (outside (pos 1) (pos 1000000) (number_at ms key.Period))
+    (present ms key.Period (needs ms one key.Period e period) f.needed.period) f.ranges.period in
     let (time_least, time_most) = inside (pos 1) (pos 1000000) (number_at ms key.Period) time in
     record {
-      version = version_counted (number_at ms key.Version) (passed (is_version (number_at ms key.Version)) (fault.BadVersion (number_at ms key.Version)) f.version);
+      version = version_counted (number_at ms key.Version)
+          (passed (is_version (number_at ms key.Version)) (fault.BadVersion (number_at ms key.Version)) f.version);
       name = passed (is_spec_name (text_at ms key.Name)) fault.BadName f.name;
       op = record {
         ranges = operator_in ms one f e;
         inputs = inputs_in ms one f e;
-        fine = inside (least_shift spec.op) (most_shift spec.version spec.op) (shift spec.op) (map_none fault.Coarse (outside (least_shift spec.op) (most_shift spec.version spec.op) (shift spec.op)) fine);
-        narrow = λ bits e. within_limit (most_signal spec.version) bits (ap (λ o. option_and_then (over_limit (most_signal spec.version)) o) (sym e) ∙ narrow);
+        fine = inside (least_shift spec.op) (most_shift spec.version spec.op) (shift spec.op)
+            (map_none fault.Coarse (outside (least_shift spec.op) (most_shift spec.version spec.op) (shift spec.op)) fine);
+        narrow = λ bits e. within_limit (most_signal spec.version) bits
+            (ap (λ o. option_and_then (over_limit (most_signal spec.version)) o) (sym e) ∙ narrow);
         whole = λ asked. asked_exact spec exact (marked ms one asked);
       };
       agrees = agrees ms one;

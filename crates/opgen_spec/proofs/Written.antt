@@ -29,17 +29,20 @@ use Rattle.opgen_spec.proofs.Decimals.{coefficients_written, integers_written, n
 use Rattle.opgen_spec.proofs.Reading.{or_none}
 use Rattle.opgen_spec.proofs.Validity.{passed, common, version_is}
 
-number_stands : (o : Option Data) → is_none o ≡ false → option_map_or (λ d. not (is_some (as_integer d)) || false) o false ≡ false → o ≡ Some (integer (number_in o))
+number_stands : (o : Option Data) → is_none o ≡ false → option_map_or (λ d. not (is_some (as_integer d)) || false) o false ≡ false → o
+    ≡ Some (integer (number_in o))
 number_stands (Some (integer n)) there typed = refl
 number_stands (Some _) there typed = cc
 number_stands None there typed = cc
 
-text_stands : (o : Option Data) → is_none o ≡ false → option_map_or (λ d. not (is_some (as_str d)) || false) o false ≡ false → o ≡ Some (string (text_in o))
+text_stands : (o : Option Data) → is_none o ≡ false → option_map_or (λ d. not (is_some (as_str d)) || false) o false ≡ false → o
+    ≡ Some (string (text_in o))
 text_stands (Some (string text)) there typed = refl
 text_stands (Some _) there typed = cc
 text_stands None there typed = cc
 
-flag_stands : (o : Option Data) → is_none o ≡ false → option_map_or (λ d. not (is_some (as_bool d)) || false) o false ≡ false → o ≡ Some (boolean (flag_in o))
+flag_stands : (o : Option Data) → is_none o ≡ false → option_map_or (λ d. not (is_some (as_bool d)) || false) o false ≡ false → o
+    ≡ Some (boolean (flag_in o))
 flag_stands (Some (boolean flag)) there typed = refl
 flag_stands (Some _) there typed = cc
 flag_stands None there typed = cc
@@ -67,76 +70,94 @@ are_typed : (ms : Members) → field_fault ms ≡ None → AreTyped ms
 are_typed ms h =
     let (missing, wrong) = nothing_wrong ms h in
     record {
-      there = λ i lt. find_none (is_missing ms) document_keys i key.Version (map_none (λ k. fault.MissingKey k 0) (find (is_missing ms) document_keys) missing) lt;
-      typed = λ i lt. find_none (is_wrong ms) document_keys i key.Version (map_none (λ k. fault.WrongType k 0) (find (is_wrong ms) document_keys) wrong) lt;
+      there = λ i lt. find_none (is_missing ms) document_keys i key.Version
+          (map_none (λ k. fault.MissingKey k 0) (find (is_missing ms) document_keys) missing) lt;
+      typed = λ i lt. find_none (is_wrong ms) document_keys i key.Version
+          (map_none (λ k. fault.WrongType k 0) (find (is_wrong ms) document_keys) wrong) lt;
     }
 
-width_bounds : (ms : Members) (k : Key) → is_none (value_at ms k) ≡ false → option_and_then (λ _. outside (pos (if flag_at ms key.Signed then 2 else 1)) (pos (widest_input ms)) (number_at ms k)) (value_at ms k) ≡ None → (pos 1 ≤ℤ number_at ms k) × (number_at ms k ≤ℤ pos (widest_input ms))
+width_bounds : (ms : Members) (k : Key) → is_none (value_at ms k) ≡ false
+    → option_and_then (λ _. outside (pos (if flag_at ms key.Signed then 2 else 1)) (pos (widest_input ms)) (number_at ms k)) (value_at ms k)
+    ≡ None → (pos 1 ≤ℤ number_at ms k) × (number_at ms k ≤ℤ pos (widest_input ms))
 width_bounds ms k there h = go (flag_at ms key.Signed) (there_inside (value_at ms k) _ there h)
   where
-    go : (flag : Bool) → outside (pos (if flag then 2 else 1)) (pos (widest_input ms)) (number_at ms k) ≡ None → (pos 1 ≤ℤ number_at ms k) × (number_at ms k ≤ℤ pos (widest_input ms))
+    go : (flag : Bool) → outside (pos (if flag then 2 else 1)) (pos (widest_input ms)) (number_at ms k) ≡ None → (pos 1 ≤ℤ number_at ms k)
+        × (number_at ms k ≤ℤ pos (widest_input ms))
     go true none =
         let (least, most) = inside (pos 2) (pos (widest_input ms)) (number_at ms k) none in
         (omega (arith, ints), most)
     go false none = inside (pos 1) (pos (widest_input ms)) (number_at ms k) none
 
-count_written : (o : Option Data) (low high : ℕ) → is_none o ≡ false → option_map_or (λ d. not (is_some (as_integer d)) || false) o false ≡ false → (pos low ≤ℤ number_in o) × (number_in o ≤ℤ pos high) → high < 2 ^ 32 → o ≡ Some (integer (pos (count (number_in o))))
+count_written : (o : Option Data) (low high : ℕ) → is_none o ≡ false → option_map_or (λ d. not (is_some (as_integer d)) || false) o false
+    ≡ false → (pos low ≤ℤ number_in o) × (number_in o ≤ℤ pos high) → high < 2 ^ 32 → o ≡ Some (integer (pos (count (number_in o))))
 count_written o low high there typed (least, most) few =
     number_stands o there typed ∙ ap (λ n. Some (integer n)) (count_same (number_in o) low high least most few)
 
-power_written : (o : Option Data) → is_none o ≡ false → option_map_or (λ d. not (is_some (as_integer d)) || false) o false ≡ false → option_and_then (λ _. outside (negsuc 31) (pos 32) (number_in o)) o ≡ None → o ≡ Some (integer (small (number_in o)))
+power_written : (o : Option Data) → is_none o ≡ false → option_map_or (λ d. not (is_some (as_integer d)) || false) o false ≡ false
+    → option_and_then (λ _. outside (negsuc 31) (pos 32) (number_in o)) o ≡ None → o ≡ Some (integer (small (number_in o)))
 power_written o there typed h =
     let (least, most) = zero_inside o (negsuc 31) (pos 32) (omega (arith, ints)) (omega (arith, ints)) h in
     number_stands o there typed ∙ ap (λ n. Some (integer n)) (small_same (number_in o) least most)
 
-x_written : (ms : Members) (one : Kind) → AreFine ms → AreTyped ms → kind_of ms ≡ Some one → is_needed (Some one) key.Width ≡ true → is_needed (Some one) key.Lsb ≡ true → IsInputAsWritten ms key.Width key.Lsb (format_at ms key.Width key.Lsb)
+x_written : (ms : Members) (one : Kind) → AreFine ms → AreTyped ms → kind_of ms ≡ Some one → is_needed (Some one) key.Width ≡ true
+    → is_needed (Some one) key.Lsb ≡ true → IsInputAsWritten ms key.Width key.Lsb (format_at ms key.Width key.Lsb)
 unfolding document_keys
 x_written ms one f t e width lsb =
     let there = present ms key.Width (needs ms one key.Width e width) (t.there 7 (lit< tt)) in
     let lsb_there = present ms key.Lsb (needs ms one key.Lsb e lsb) (t.there 8 (lit< tt)) in
     record {
-      width_written = count_written (value_at ms key.Width) 1 (widest_input ms) there (t.typed 7 (lit< tt)) (width_bounds ms key.Width there f.ranges.width) (omega (arith, input_limit (count_at ms key.Version)));
+      width_written = count_written (value_at ms key.Width) 1 (widest_input ms) there (t.typed 7 (lit< tt))
+          (width_bounds ms key.Width there f.ranges.width) (omega (arith, input_limit (count_at ms key.Version)));
       lsb_written = power_written (value_at ms key.Lsb) lsb_there (t.typed 8 (lit< tt)) f.ranges.lsb;
     }
 
-a_written : (ms : Members) (one : Kind) → AreFine ms → AreTyped ms → kind_of ms ≡ Some one → is_needed (Some one) key.WidthA ≡ true → is_needed (Some one) key.LsbA ≡ true → IsInputAsWritten ms key.WidthA key.LsbA (format_at ms key.WidthA key.LsbA)
+a_written : (ms : Members) (one : Kind) → AreFine ms → AreTyped ms → kind_of ms ≡ Some one → is_needed (Some one) key.WidthA ≡ true
+    → is_needed (Some one) key.LsbA ≡ true → IsInputAsWritten ms key.WidthA key.LsbA (format_at ms key.WidthA key.LsbA)
 unfolding document_keys
 a_written ms one f t e width lsb =
     let there = present ms key.WidthA (needs ms one key.WidthA e width) (t.there 9 (lit< tt)) in
     let lsb_there = present ms key.LsbA (needs ms one key.LsbA e lsb) (t.there 10 (lit< tt)) in
     record {
-      width_written = count_written (value_at ms key.WidthA) 1 (widest_input ms) there (t.typed 9 (lit< tt)) (width_bounds ms key.WidthA there f.ranges.width_a) (omega (arith, input_limit (count_at ms key.Version)));
+      width_written = count_written (value_at ms key.WidthA) 1 (widest_input ms) there (t.typed 9 (lit< tt))
+          (width_bounds ms key.WidthA there f.ranges.width_a) (omega (arith, input_limit (count_at ms key.Version)));
       lsb_written = power_written (value_at ms key.LsbA) lsb_there (t.typed 10 (lit< tt)) f.ranges.lsb_a;
     }
 
-b_written : (ms : Members) (one : Kind) → AreFine ms → AreTyped ms → kind_of ms ≡ Some one → is_needed (Some one) key.WidthB ≡ true → is_needed (Some one) key.LsbB ≡ true → IsInputAsWritten ms key.WidthB key.LsbB (format_at ms key.WidthB key.LsbB)
+b_written : (ms : Members) (one : Kind) → AreFine ms → AreTyped ms → kind_of ms ≡ Some one → is_needed (Some one) key.WidthB ≡ true
+    → is_needed (Some one) key.LsbB ≡ true → IsInputAsWritten ms key.WidthB key.LsbB (format_at ms key.WidthB key.LsbB)
 unfolding document_keys
 b_written ms one f t e width lsb =
     let there = present ms key.WidthB (needs ms one key.WidthB e width) (t.there 11 (lit< tt)) in
     let lsb_there = present ms key.LsbB (needs ms one key.LsbB e lsb) (t.there 12 (lit< tt)) in
     record {
-      width_written = count_written (value_at ms key.WidthB) 1 (widest_input ms) there (t.typed 11 (lit< tt)) (width_bounds ms key.WidthB there f.ranges.width_b) (omega (arith, input_limit (count_at ms key.Version)));
+      width_written = count_written (value_at ms key.WidthB) 1 (widest_input ms) there (t.typed 11 (lit< tt))
+          (width_bounds ms key.WidthB there f.ranges.width_b) (omega (arith, input_limit (count_at ms key.Version)));
       lsb_written = power_written (value_at ms key.LsbB) lsb_there (t.typed 12 (lit< tt)) f.ranges.lsb_b;
     }
 
 unsigned_written : (ms : Members) (w l : Key) → IsInputAsWritten ms w l (format_at ms w l) → IsInputAsWritten ms w l (unsigned_at ms w l)
 unsigned_written ms w l h = record { width_written = h.width_written; lsb_written = h.lsb_written }
 
-out_written : (ms : Members) (one : Kind) → AreFine ms → AreTyped ms → kind_of ms ≡ Some one → is_needed (Some one) key.OutLsb ≡ true → value_at ms key.OutLsb ≡ Some (integer (small (number_at ms key.OutLsb)))
+out_written : (ms : Members) (one : Kind) → AreFine ms → AreTyped ms → kind_of ms ≡ Some one → is_needed (Some one) key.OutLsb ≡ true
+    → value_at ms key.OutLsb ≡ Some (integer (small (number_at ms key.OutLsb)))
 unfolding document_keys
 out_written ms one f t e h =
-    power_written (value_at ms key.OutLsb) (present ms key.OutLsb (needs ms one key.OutLsb e h) (t.there 13 (lit< tt))) (t.typed 13 (lit< tt)) f.ranges.out_lsb
+    power_written (value_at ms key.OutLsb) (present ms key.OutLsb (needs ms one key.OutLsb e h) (t.there 13 (lit< tt)))
+    (t.typed 13 (lit< tt)) f.ranges.out_lsb
 
-signed_written : (ms : Members) (one : Kind) → AreTyped ms → kind_of ms ≡ Some one → is_needed (Some one) key.Signed ≡ true → value_at ms key.Signed ≡ Some (boolean (flag_at ms key.Signed))
+signed_written : (ms : Members) (one : Kind) → AreTyped ms → kind_of ms ≡ Some one → is_needed (Some one) key.Signed ≡ true
+    → value_at ms key.Signed ≡ Some (boolean (flag_at ms key.Signed))
 unfolding document_keys
 signed_written ms one t e h =
     flag_stands (value_at ms key.Signed) (present ms key.Signed (needs ms one key.Signed e h) (t.there 6 (lit< tt))) (t.typed 6 (lit< tt))
 
-extra_written : (ms : Members) → AreFine ms → AreTyped ms → kind_of ms ≡ Some kind.Mcm → value_at ms key.Extra ≡ Some (integer (pos (count (number_at ms key.Extra))))
+extra_written : (ms : Members) → AreFine ms → AreTyped ms → kind_of ms ≡ Some kind.Mcm → value_at ms key.Extra
+    ≡ Some (integer (pos (count (number_at ms key.Extra))))
 unfolding document_keys
 extra_written ms f t e =
     let there = present ms key.Extra (needs ms kind.Mcm key.Extra e refl) (t.there 17 (lit< tt)) in
-    count_written (value_at ms key.Extra) 0 2 there (t.typed 17 (lit< tt)) (zero_inside (value_at ms key.Extra) (pos 0) (pos 2) (omega (arith, ints)) (omega (arith, ints)) f.ranges.extra) (omega arith)
+    count_written (value_at ms key.Extra) 0 2 there (t.typed 17 (lit< tt))
+    (zero_inside (value_at ms key.Extra) (pos 0) (pos 2) (omega (arith, ints)) (omega (arith, ints)) f.ranges.extra) (omega arith)
 
 coefs_written : (ms : Members) → AreTyped ms → AreCoefficients ms (numerators (items_at ms key.Coefficients)) (denominator_of ms)
 unfolding document_keys
@@ -146,7 +167,8 @@ constants_written : (ms : Members) → AreTyped ms → AreNumerators 0 (items_at
 unfolding document_keys
 constants_written ms t = integers_written (items_at ms key.Constants) (numbers_typed (value_at ms key.Constants) (t.typed 16 (lit< tt)))
 
-operator_written : (ms : Members) (one : Kind) → AreFine ms → AreTyped ms → kind_of ms ≡ Some one → IsOperatorAsWritten ms (operator_of one ms)
+operator_written : (ms : Members) (one : Kind) → AreFine ms → AreTyped ms → kind_of ms ≡ Some one
+    → IsOperatorAsWritten ms (operator_of one ms)
 operator_written ms kind.Scale f t e = record {
   signed = signed_written ms kind.Scale t e refl;
   input = x_written ms kind.Scale f t e refl refl;
@@ -182,7 +204,8 @@ operator_written ms kind.Mcm f t e = record {
 }
 
 -- every kind needs the first six keys
-first_keys : (one : Kind) → (is_needed (Some one) key.Version ≡ true) × (is_needed (Some one) key.Name ≡ true) × (is_needed (Some one) key.Exact ≡ true) × (is_needed (Some one) key.Kind ≡ true)
+first_keys : (one : Kind) → (is_needed (Some one) key.Version ≡ true) × (is_needed (Some one) key.Name ≡ true)
+    × (is_needed (Some one) key.Exact ≡ true) × (is_needed (Some one) key.Kind ≡ true)
 first_keys kind.Scale = (refl, refl, refl, refl)
 first_keys kind.Fir = (refl, refl, refl, refl)
 first_keys kind.Multiply = (refl, refl, refl, refl)
@@ -195,7 +218,8 @@ kind_found : (text : List ℕ) (ks : List Kind) (one : Kind) → find (λ k. byt
 kind_found text [] one h = cc
 kind_found text (k ∷ ks) one h = go (bytes_eq (kind_name k) text) refl (λ later. kind_found text ks one later)
   where
-    go : (b : Bool) → bytes_eq (kind_name k) text ≡ b → (find (λ k. bytes_eq (kind_name k) text) ks ≡ Some one → text ≡ kind_name one) → text ≡ kind_name one
+    go : (b : Bool) → bytes_eq (kind_name k) text ≡ b → (find (λ k. bytes_eq (kind_name k) text) ks ≡ Some one → text ≡ kind_name one)
+        → text ≡ kind_name one
     go true e later =
         let first : Some k ≡ Some one = ap (λ b. cond b (Some k) (find (λ k. bytes_eq (kind_name k) text) ks)) (sym e) ∙ h in
         let same : k ≡ one = cc in
@@ -211,11 +235,13 @@ kind_of_operator kind.Root ms = refl
 kind_of_operator kind.Mcm ms = refl
 
 -- the same of classes
-class_found : (text : List ℕ) (cs : List Class) (one : Class) → find (λ c. bytes_eq (class_name c) text) cs ≡ Some one → text ≡ class_name one
+class_found : (text : List ℕ) (cs : List Class) (one : Class) → find (λ c. bytes_eq (class_name c) text) cs ≡ Some one → text
+    ≡ class_name one
 class_found text [] one h = cc
 class_found text (c ∷ cs) one h = go (bytes_eq (class_name c) text) refl (λ later. class_found text cs one later)
   where
-    go : (b : Bool) → bytes_eq (class_name c) text ≡ b → (find (λ c. bytes_eq (class_name c) text) cs ≡ Some one → text ≡ class_name one) → text ≡ class_name one
+    go : (b : Bool) → bytes_eq (class_name c) text ≡ b → (find (λ c. bytes_eq (class_name c) text) cs ≡ Some one → text ≡ class_name one)
+        → text ≡ class_name one
     go true e later =
         let first : Some c ≡ Some one = ap (λ b. cond b (Some c) (find (λ c. bytes_eq (class_name c) text) cs)) (sym e) ∙ h in
         let same : c ≡ one = cc in
@@ -225,17 +251,20 @@ class_found text (c ∷ cs) one h = go (bytes_eq (class_name c) text) refl (λ l
 named_class : (n : ℕ) (text : List ℕ) → class_outside n text ≡ None → text ≡ class_name (unwrap_or (class_named text) class.Wire)
 named_class n text h = go (class_named text) refl h
   where
-    go : (o : Option Class) → class_named text ≡ o → (if is_none o then Some (pos n) else None) ≡ None → text ≡ class_name (unwrap_or o class.Wire)
+    go : (o : Option Class) → class_named text ≡ o → (if is_none o then Some (pos n) else None) ≡ None → text
+        ≡ class_name (unwrap_or o class.Wire)
     go (Some one) e none = class_found text classes one e
     go None e none = cc
 
 -- delay lines
-line_needed : (named : Option Kind) → (is_needed named key.Class ≡ true) × (is_needed named key.Base ≡ true) × (is_needed named key.PerBit ≡ true)
+line_needed : (named : Option Kind) → (is_needed named key.Class ≡ true) × (is_needed named key.Base ≡ true)
+    × (is_needed named key.PerBit ≡ true)
 unfolding kinds
 line_needed (Some one) = (refl, refl, refl)
 line_needed None = (refl, refl, refl)
 
-line_written : (n : ℕ) (ms : Members) → missing_among line_keys n ms ≡ None → wrong_among line_keys n ms ≡ None → outside_among line_keys n ms ≡ None → IsLineAsWritten ms (line_of ms)
+line_written : (n : ℕ) (ms : Members) → missing_among line_keys n ms ≡ None → wrong_among line_keys n ms ≡ None
+    → outside_among line_keys n ms ≡ None → IsLineAsWritten ms (line_of ms)
 unfolding line_keys
 line_written n ms missing wrong outside_none =
     let f : Key → Option SpecFault = λ k. out_of_range n k (found n ms k) in
@@ -248,17 +277,24 @@ line_written n ms missing wrong outside_none =
     let class_typed = find_none (is_wrong ms) line_keys 0 key.Class none_wrong (lit< tt) in
     let base_typed = find_none (is_wrong ms) line_keys 1 key.Class none_wrong (lit< tt) in
     let bit_typed = find_none (is_wrong ms) line_keys 2 key.Class none_wrong (lit< tt) in
-    let class_range = map_none (fault.OutOfRange key.Class n) (found n ms key.Class) (first_none f line_keys 0 key.Class outside_none (lit< tt)) in
-    let base_range = map_none (fault.OutOfRange key.Base n) (found n ms key.Base) (first_none f line_keys 1 key.Class outside_none (lit< tt)) in
-    let bit_range = map_none (fault.OutOfRange key.PerBit n) (found n ms key.PerBit) (first_none f line_keys 2 key.Class outside_none (lit< tt)) in
-    let name = named_class n (text_at ms key.Class) (there_inside (value_at ms key.Class) (class_outside n (text_at ms key.Class)) class_there class_range) in
+    let class_range = map_none (fault.OutOfRange key.Class n) (found n ms key.Class)
+    (first_none f line_keys 0 key.Class outside_none (lit< tt)) in
+    let base_range = map_none (fault.OutOfRange key.Base n) (found n ms key.Base)
+    (first_none f line_keys 1 key.Class outside_none (lit< tt)) in
+    let bit_range = map_none (fault.OutOfRange key.PerBit n) (found n ms key.PerBit)
+    (first_none f line_keys 2 key.Class outside_none (lit< tt)) in
+    let name = named_class n (text_at ms key.Class)
+    (there_inside (value_at ms key.Class) (class_outside n (text_at ms key.Class)) class_there class_range) in
     record {
       class_written = text_stands (value_at ms key.Class) class_there class_typed ∙ ap (λ text. Some (string text)) name;
-      base = count_written (value_at ms key.Base) 0 1000000 base_there base_typed (zero_inside (value_at ms key.Base) (pos 0) (pos 1000000) (omega (arith, ints)) (omega (arith, ints)) base_range) (omega arith);
-      per_bit = count_written (value_at ms key.PerBit) 0 10000 bit_there bit_typed (zero_inside (value_at ms key.PerBit) (pos 0) (pos 10000) (omega (arith, ints)) (omega (arith, ints)) bit_range) (omega arith);
+      base = count_written (value_at ms key.Base) 0 1000000 base_there base_typed
+          (zero_inside (value_at ms key.Base) (pos 0) (pos 1000000) (omega (arith, ints)) (omega (arith, ints)) base_range) (omega arith);
+      per_bit = count_written (value_at ms key.PerBit) 0 10000 bit_there bit_typed
+          (zero_inside (value_at ms key.PerBit) (pos 0) (pos 10000) (omega (arith, ints)) (omega (arith, ints)) bit_range) (omega arith);
     }
 
-lines_written : (n : ℕ) (items : Items) → among_lines Missing n items ≡ None → among_lines WrongType n items ≡ None → among_lines Range n items ≡ None → are_tables items ≡ true → AreLinesAsWritten items (lines_of items)
+lines_written : (n : ℕ) (items : Items) → among_lines Missing n items ≡ None → among_lines WrongType n items ≡ None
+    → among_lines Range n items ≡ None → are_tables items ≡ true → AreLinesAsWritten items (lines_of items)
 lines_written n no_items missing wrong range tables = tt
 lines_written n (item (table ms) rest) missing wrong range tables =
     let (missing_here, missing_later) = or_none (among_line Missing n (table ms)) (among_lines Missing (n + 1) rest) missing in
@@ -268,7 +304,8 @@ lines_written n (item (table ms) rest) missing wrong range tables =
 lines_written n (item _ rest) missing wrong range tables = cc
 
 -- an array that is not of a wrong type is one of tables
-tables_typed : (o : Option Data) → option_map_or (λ d. not (are_tables (items_of d) && is_some (as_array d)) || false) o false ≡ false → are_tables (items_in o) ≡ true
+tables_typed : (o : Option Data) → option_map_or (λ d. not (are_tables (items_of d) && is_some (as_array d)) || false) o false ≡ false
+    → are_tables (items_in o) ≡ true
 tables_typed None h = refl
 tables_typed (Some d) h = both (are_tables (items_of d)) (is_some (as_array d)) h
   where
@@ -278,8 +315,10 @@ tables_typed (Some d) h = both (are_tables (items_of d)) (is_some (as_array d)) 
 
 version_bounds : (n : ℤ) → is_version n ≡ true → (pos 1 ≤ℤ n) × (n ≤ℤ pos 2)
 version_bounds (pos n) h =
-    let which = version_is n h in
-    (⊎_elim (λ (e : n ≡ 1). omega (arith, ints)) (λ (e : n ≡ 2). omega (arith, ints)) which, ⊎_elim (λ (e : n ≡ 1). omega (arith, ints)) (λ (e : n ≡ 2). omega (arith, ints)) which)
+    let which = version_is n h in (
+      ⊎_elim (λ (e : n ≡ 1). omega (arith, ints)) (λ (e : n ≡ 2). omega (arith, ints)) which,
+      ⊎_elim (λ (e : n ≡ 1). omega (arith, ints)) (λ (e : n ≡ 2). omega (arith, ints)) which,
+    )
 version_bounds (negsuc n) h = cc
 
 pub written : (ms : Members) (one : Kind) → field_fault ms ≡ None → kind_of ms ≡ Some one → IsAsWritten ms (spec_with one ms)
@@ -293,12 +332,22 @@ written ms one h e =
     let time_there = present ms key.Period (needs ms one key.Period e period) (t.there 5 (lit< tt)) in
     let time = there_inside (value_at ms key.Period) (outside (pos 1) (pos 1000000) (number_at ms key.Period)) time_there f.ranges.period in
     record {
-      version = count_written (value_at ms key.Version) 1 2 (present ms key.Version (needs ms one key.Version e version) (t.there 0 (lit< tt))) (t.typed 0 (lit< tt)) (version_bounds (number_at ms key.Version) (passed (is_version (number_at ms key.Version)) (fault.BadVersion (number_at ms key.Version)) f.version)) (omega arith);
-      name = text_stands (value_at ms key.Name) (present ms key.Name (needs ms one key.Name e name) (t.there 1 (lit< tt))) (t.typed 1 (lit< tt));
-      kind_written = text_stands (value_at ms key.Kind) (present ms key.Kind (needs ms one key.Kind e named) (t.there 2 (lit< tt))) (t.typed 2 (lit< tt)) ∙ ap (λ text. Some (string text)) (kind_found (text_at ms key.Kind) kinds one e ∙ ap kind_name (sym (kind_of_operator one ms)));
-      exact = flag_stands (value_at ms key.Exact) (present ms key.Exact (needs ms one key.Exact e exact) (t.there 3 (lit< tt))) (t.typed 3 (lit< tt));
-      target = text_stands (value_at ms key.Target) (present ms key.Target (needs ms one key.Target e target) (t.there 4 (lit< tt))) (t.typed 4 (lit< tt));
-      period = count_written (value_at ms key.Period) 1 1000000 time_there (t.typed 5 (lit< tt)) (inside (pos 1) (pos 1000000) (number_at ms key.Period) time) (omega arith);
+      version = count_written (value_at ms key.Version) 1 2
+          (present ms key.Version (needs ms one key.Version e version) (t.there 0 (lit< tt))) (t.typed 0 (lit< tt))
+          (version_bounds (number_at ms key.Version)
+          (passed (is_version (number_at ms key.Version)) (fault.BadVersion (number_at ms key.Version)) f.version)) (omega arith);
+      name = text_stands (value_at ms key.Name) (present ms key.Name (needs ms one key.Name e name) (t.there 1 (lit< tt)))
+          (t.typed 1 (lit< tt));
+      kind_written = text_stands (value_at ms key.Kind) (present ms key.Kind (needs ms one key.Kind e named) (t.there 2 (lit< tt)))
+          (t.typed 2 (lit< tt)) ∙ ap (λ text. Some (string text)) (kind_found (text_at ms key.Kind) kinds one e
+          ∙ ap kind_name (sym (kind_of_operator one ms)));
+      exact = flag_stands (value_at ms key.Exact) (present ms key.Exact (needs ms one key.Exact e exact) (t.there 3 (lit< tt)))
+          (t.typed 3 (lit< tt));
+      target = text_stands (value_at ms key.Target) (present ms key.Target (needs ms one key.Target e target) (t.there 4 (lit< tt)))
+          (t.typed 4 (lit< tt));
+      period = count_written (value_at ms key.Period) 1 1000000 time_there (t.typed 5 (lit< tt))
+          (inside (pos 1) (pos 1000000) (number_at ms key.Period) time) (omega arith);
       op = operator_written ms one f t e;
-      delays = lines_written 1 (items_at ms key.Delay) missing_lines wrong_lines f.lines (tables_typed (value_at ms key.Delay) (t.typed 18 (lit< tt)));
+      delays = lines_written 1 (items_at ms key.Delay) missing_lines wrong_lines f.lines
+          (tables_typed (value_at ms key.Delay) (t.typed 18 (lit< tt)));
     }

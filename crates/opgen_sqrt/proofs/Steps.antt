@@ -22,10 +22,10 @@ use Rattle.opgen_net.proofs.Grown.{grown-flow, grown-width, grown-all_there}
 use Rattle.opgen_operator.specs.declared.spec.Single.{Single}
 use Rattle.opgen_operator.specs.Outputs.{places_up, root_shift}
 use Rattle.opgen_operator.specs.Ports.{root_width}
-use Rattle.opgen_digits.specs.Bits.{number_at, with_bits}
+use Rattle.opgen_net.specs.Placed.{number_at, with_bits}
 use Rattle.opgen_digits.specs.Digit.{Known, with_difference, tried, left_of, AreOperands, HasDigit}
 use Rattle.opgen_net.proofs.BitLists.{length-bits_from, bits_from-there, zeros-there, bit-kept}
-use Rattle.opgen_digits.proofs.Bits.{at-below, at-push, at-zero, number-kept}
+use Rattle.opgen_net.proofs.Numbers.{at-below, at-push, at-zero, number-kept}
 use Rattle.opgen_digits.proofs.Digit.{Tried, all-tried, has_digit}
 use Rattle.opgen_net.proofs.Later.{Later, later-same, later-then, node_there, words-later}
 use Rattle.opgen_digits.proofs.Outputs.{made-later, made-width, made-number}

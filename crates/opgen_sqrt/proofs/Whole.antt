@@ -33,10 +33,10 @@ use Rattle.opgen_operator.specs.Ports.{operator_inputs, root_width, root_ports}
 use Rattle.opgen_operator.specs.Ranges.{IsSingle}
 use Rattle.opgen_operator.specs.Valid.{AgreesOnExact}
 use Rattle.opgen_operator.proofs.Accepted.{accepted_ranges, accepted_shift}
-use Rattle.opgen_digits.specs.Bits.{number_at}
+use Rattle.opgen_net.specs.Placed.{number_at}
 use Rattle.opgen_digits.specs.Digit.{Known}
 use Rattle.opgen_digits.specs.Results.{AreResults, with_results}
-use Rattle.opgen_digits.proofs.Bits.{at-append, at-zeros, at-node, number-kept}
+use Rattle.opgen_net.proofs.Numbers.{at-append, at-zeros, at-node, number-kept}
 use Rattle.opgen_net.proofs.Later.{Later, words-later}
 use Rattle.opgen_digits.proofs.Results.{result_ports, result_words, results-inputs, results-valid, results-keep, results-shown, results-digits, results-rest}
 use Rattle.opgen_sqrt.specs.Recipe.{shifted_width, radicand, keeps, after, net_of_single}

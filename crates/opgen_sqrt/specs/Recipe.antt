@@ -8,7 +8,7 @@ use Rattle.opgen_net.specs.WordRule.{bits_from}
 use Rattle.opgen_operator.specs.declared.spec.Single.{Single}
 use Rattle.opgen_operator.specs.Outputs.{places_up, root_shift}
 use Rattle.opgen_operator.specs.Ports.{root_width}
-use Rattle.opgen_digits.specs.Bits.{with_bits}
+use Rattle.opgen_net.specs.Placed.{with_bits}
 use Rattle.opgen_digits.specs.Digit.{Known, tried}
 use Rattle.opgen_digits.specs.Results.{with_results}
 

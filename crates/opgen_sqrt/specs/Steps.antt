@@ -8,7 +8,7 @@ use Rattle.opgen_net.specs.Flow.{Inputs}
 use Rattle.opgen_net.specs.Valid.{input_widths}
 use Rattle.opgen_operator.specs.declared.spec.Single.{Single}
 use Rattle.opgen_operator.specs.Ports.{root_width}
-use Rattle.opgen_digits.specs.Bits.{number_at}
+use Rattle.opgen_net.specs.Placed.{number_at}
 use Rattle.opgen_sqrt.specs.Recipe.{radicand, keeps, after}
 
 -- n is the square of y and r, or, where r is not kept, some other rest

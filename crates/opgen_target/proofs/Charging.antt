@@ -11,17 +11,20 @@ use Rattle.opgen_target.specs.Ledger.{empty_ledger, with_cell, width_in, width_s
 pub ledger_of-none : ledger_of [] ≡ empty_ledger
 ledger_of-none = fun_ext (λ class. omega arith)
 
-width_sum-more : (cells : List Cell) (cell : Cell) (class : Class) → width_sum (cells ++ cell ∷ []) class ≡ width_sum cells class + width_in class cell
+width_sum-more : (cells : List Cell) (cell : Cell) (class : Class) → width_sum (cells ++ cell ∷ []) class
+    ≡ width_sum cells class + width_in class cell
 width_sum-more cells cell class = rw (sum_by-append (width_in class) cells (cell ∷ [])) (omega arith)
 
 -- one more cell is entered
 pub ledger_of-more : (cells : List Cell) (cell : Cell) → with_cell cell (ledger_of cells) ≡ ledger_of (cells ++ cell ∷ [])
 ledger_of-more cells cell = fun_ext (λ class. rw (width_sum-more cells cell class)
-    (elim (is_same cell.class class) as (λ same. (if same then min (min (width_sum cells class) last_number + cell.width) last_number else min (width_sum cells class) last_number) ≡ min (width_sum cells class + (if same then cell.width else 0)) last_number) [
+    (elim (is_same cell.class class) as (λ same. (if same then min (min (width_sum cells class) last_number + cell.width) last_number else
+    min (width_sum cells class) last_number) ≡ min (width_sum cells class + (if same then cell.width else 0)) last_number) [
       | true ↦ omega arith
       | false ↦ omega arith
     ]))
 
 -- a sum that is not beyond the end stands whole
-pub ledger_of-whole : (cells : List Cell) (class : Class) → width_sum cells class ≤ last_number → ledger_of cells class ≡ width_sum cells class
+pub ledger_of-whole : (cells : List Cell) (class : Class) → width_sum cells class ≤ last_number → ledger_of cells class
+    ≡ width_sum cells class
 ledger_of-whole cells class below = omega (arith, below)

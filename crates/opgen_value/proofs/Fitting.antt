@@ -31,21 +31,26 @@ module _ (names ports : List (List Bool)) where
   pub word-width : (ws : List (List Bool)) (n w : ℕ) → slice_get (widths_of ws) n ≡ Some w → length (word_at ws n) ≡ w
   word-width ws n w h =
       let l : n < length ws = omega (arith, slice_get_within (widths_of ws) n w h, length-map ws length) in
-      let e : slice_get (widths_of ws) n ≡ Some (length (word_at ws n)) = slice_get-map length ws n ∙ ap (option_map length) (slice_get-get_or ws n [] l) in
+      let e : slice_get (widths_of ws) n ≡ Some (length (word_at ws n)) = slice_get-map length ws n
+      ∙ ap (option_map length) (slice_get-get_or ws n [] l) in
       let f : Some w ≡ Some (length (word_at ws n)) = sym h ∙ e in
       let g : w ≡ length (word_at ws n) = cc in
       sym g
 
   pub name-there : (e : Tree) (n : ℕ) → e ≡ name n → Fits names ports e → n < length names
-  name-there e n is h = let w = some-of (width ns ps (name n)) (subst (Fits names ports) is h) in omega (arith, width-reads ns ps (name n) w.0 w.1, length-map names length)
+  name-there e n is h = let w = some-of (width ns ps (name n)) (subst (Fits names ports) is h) in omega
+      (arith, width-reads ns ps (name n) w.0 w.1, length-map names length)
 
   pub port-there : (e : Tree) (n : ℕ) → e ≡ port n → Fits names ports e → n < length ports
-  port-there e n is h = let w = some-of (width ns ps (port n)) (subst (Fits names ports) is h) in omega (arith, width-reads ns ps (port n) w.0 w.1, length-map ports length)
+  port-there e n is h = let w = some-of (width ns ps (port n)) (subst (Fits names ports) is h) in omega
+      (arith, width-reads ns ps (port n) w.0 w.1, length-map ports length)
 
   pub part-there : (e : Tree) (n high low : ℕ) → e ≡ part n high low → Fits names ports e → n < length names
-  part-there e n high low is h = let w = some-of (width ns ps (part n high low)) (subst (Fits names ports) is h) in omega (arith, width-reads ns ps (part n high low) w.0 w.1, length-map names length)
+  part-there e n high low is h = let w = some-of (width ns ps (part n high low)) (subst (Fits names ports) is h) in omega
+      (arith, width-reads ns ps (part n high low) w.0 w.1, length-map names length)
 
-  pub part-lies : (e : Tree) (n high low : ℕ) → e ≡ part n high low → Fits names ports e → (v : ℕ) × PartFits high low (length (word_at names n)) v
+  pub part-lies : (e : Tree) (n high low : ℕ) → e ≡ part n high low → Fits names ports e → (v : ℕ)
+      × PartFits high low (length (word_at names n)) v
   part-lies e n high low is h =
       let w = some-of (width ns ps (part n high low)) (subst (Fits names ports) is h) in
       let a = some_before (slice_get ns n) (λ v. if nat_le low high && nat_lt high v then as_width (high + 1 - low) else None) w.0 w.1 in
@@ -62,25 +67,32 @@ module _ (names ports : List (List Bool)) where
   value-is_width e h = let w = some-of (width ns ps e) h in subst IsWidth (sym (value-fits e w.0 w.1)) (width-is_width ns ps e w.0 w.1)
 
   -- two words as a chain of literals
-  pair-width : (op : Op) (x y : List Bool) (u : ℕ) → IsWidth (length x) → IsWidth (length y) → joined op (length x) (length y) ≡ Some u → width ns ps (chain op (more (bits x) (more (bits y) none))) ≡ Some u
+  pair-width : (op : Op) (x y : List Bool) (u : ℕ) → IsWidth (length x) → IsWidth (length y) → joined op (length x) (length y) ≡ Some u
+      → width ns ps (chain op (more (bits x) (more (bits y) none))) ≡ Some u
   pair-width op x y u h k e =
       ap (option_and_then (λ w. width_on ns ps op w (more (bits y) none))) (as_width-of (length x) h)
       ∙ ap (option_and_then (λ v. option_and_then (λ u. width_on ns ps op u none) (joined op (length x) v))) (as_width-of (length y) k)
       ∙ ap (option_and_then (λ u. width_on ns ps op u none)) e
 
-  pub pair-value : (op : Op) (x y : List Bool) (u : ℕ) → IsWidth (length x) → IsWidth (length y) → joined op (length x) (length y) ≡ Some u → length (combined op x y) ≡ u
+  pub pair-value : (op : Op) (x y : List Bool) (u : ℕ) → IsWidth (length x) → IsWidth (length y) → joined op (length x) (length y) ≡ Some u
+      → length (combined op x y) ≡ u
   pair-value op x y u h k e = value-fits (chain op (more (bits x) (more (bits y) none))) u (pair-width op x y u h k e)
 
-  pub pair-is_width : (op : Op) (x y : List Bool) (u : ℕ) → IsWidth (length x) → IsWidth (length y) → joined op (length x) (length y) ≡ Some u → IsWidth u
+  pub pair-is_width : (op : Op) (x y : List Bool) (u : ℕ) → IsWidth (length x) → IsWidth (length y) → joined op (length x) (length y)
+      ≡ Some u → IsWidth u
   pair-is_width op x y u h k e = width-is_width ns ps (chain op (more (bits x) (more (bits y) none))) u (pair-width op x y u h k e)
 
   -- the first operand of a chain, and those after it
-  pub chain-start : (op : Op) (t : Tree) (ts : Trees) → IsSome (chain_width ns ps op (more t ts)) → Fits names ports t × IsSome (width_on ns ps op (length (value (scope_of names ports) t)) ts)
+  pub chain-start : (op : Op) (t : Tree) (ts : Trees) → IsSome (chain_width ns ps op (more t ts)) → Fits names ports t
+      × IsSome (width_on ns ps op (length (value (scope_of names ports) t)) ts)
   chain-start op t none h = absurd (cc)
   chain-start op t (more u ts) h =
       let w = some-of (chain_width ns ps op (more t (more u ts))) h in
-      let a = some_before (width ns ps t) (λ x. width_on ns ps op x (more u ts)) w.0 w.1 in
-      (is_some (width ns ps t) a.0 a.1, subst (λ x. IsSome (width_on ns ps op x (more u ts))) (sym (value-fits t a.0 a.1)) (is_some (width_on ns ps op a.0 (more u ts)) w.0 a.2))
+      let a = some_before (width ns ps t) (λ x. width_on ns ps op x (more u ts)) w.0 w.1 in (
+        is_some (width ns ps t) a.0 a.1,
+        subst (λ x. IsSome (width_on ns ps op x (more u ts))) (sym (value-fits t a.0 a.1))
+            (is_some (width_on ns ps op a.0 (more u ts)) w.0 a.2),
+      )
 
   -- one more operand
   pub record Step (op : Op) (x : List Bool) (t : Tree) (ts : Trees) : Type 0 where
@@ -89,7 +101,8 @@ module _ (names ports : List (List Bool)) where
     pub rest : IsSome (width_on ns ps op (length (combined op x (value (scope_of names ports) t))) ts)
     pub is_width : IsWidth (length (combined op x (value (scope_of names ports) t)))
 
-  pub chain-step : (op : Op) (x : List Bool) (t : Tree) (ts : Trees) → IsWidth (length x) → IsSome (width_on ns ps op (length x) (more t ts)) → Step op x t ts
+  pub chain-step : (op : Op) (x : List Bool) (t : Tree) (ts : Trees) → IsWidth (length x)
+      → IsSome (width_on ns ps op (length x) (more t ts)) → Step op x t ts
   chain-step op x t ts k h =
       let w = some-of (width_on ns ps op (length x) (more t ts)) h in
       let a = some_before (width ns ps t) (λ v. option_and_then (λ u. width_on ns ps op u ts) (joined op (length x) v)) w.0 w.1 in

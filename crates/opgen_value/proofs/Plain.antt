@@ -29,10 +29,12 @@ unfolding X.out-Expr denote.Hole.Carrier.out
 plain-not b = fold_out-Expr Tree plain_level (Not b)
 
 -- the operands that are left, from one on
-pub more-at : (xs : List Expr) (i : ℕ) (x : Expr) → i < length xs → x ≡ get_or xs i x → plain_all (drop i xs) ≡ more (plain x) (plain_all (drop (i + 1) xs))
+pub more-at : (xs : List Expr) (i : ℕ) (x : Expr) → i < length xs → x ≡ get_or xs i x → plain_all (drop i xs)
+    ≡ more (plain x) (plain_all (drop (i + 1) xs))
 more-at xs i x l e = ap plain_all (drop_more xs i x l) ∙ ap (λ y. more (plain y) (plain_all (drop (i + 1) xs))) (sym e)
 
-pub first-and-rest : (xs : List Expr) (x : Expr) → 1 ≤ length xs → x ≡ get_or xs 0 x → plain_all xs ≡ more (plain x) (plain_all (take (length xs - 1) (drop 1 xs)))
+pub first-and-rest : (xs : List Expr) (x : Expr) → 1 ≤ length xs → x ≡ get_or xs 0 x → plain_all xs
+    ≡ more (plain x) (plain_all (take (length xs - 1) (drop 1 xs)))
 first-and-rest [] x l e = absurd (omega (arith, l))
 first-and-rest (y ∷ ys) x l e =
     let n : length (y ∷ ys) - 1 ≡ length ys = omega arith in

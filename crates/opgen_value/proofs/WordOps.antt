@@ -17,7 +17,9 @@ word-suc w n r q b e d =
     ap (λ x. eqb x 1 ∷ word w (n / 2)) low ∙ ap (λ x. x ∷ word w (n / 2)) (low-bit b q) ∙ ap (λ x. b ∷ word w x) half
 
 -- bit by bit
-module _ (op : ℕ → ℕ → ℕ) (low : ℕ → ℕ → ℕ) (f : Bool → Bool → Bool) (step : (a b : ℕ) → op a b ≡ op (a / 2) (b / 2) * 2 + low (a % 2) (b % 2)) (bits : (x y : Bool) → low (digit x) (digit y) ≡ digit (f x y)) where
+module _ (op : ℕ → ℕ → ℕ) (low : ℕ → ℕ → ℕ) (f : Bool → Bool → Bool)
+    (step : (a b : ℕ) → op a b ≡ op (a / 2) (b / 2) * 2 + low (a % 2) (b % 2))
+    (bits : (x y : Bool) → low (digit x) (digit y) ≡ digit (f x y)) where
   pub bitwise : (a b : List Bool) → length a ≡ length b → word (length a) (op (nat a) (nat b)) ≡ pairwise f a b
   bitwise [] b h = refl
   bitwise (x ∷ a) [] h = absurd (omega (arith, h))
@@ -31,7 +33,8 @@ module _ (op : ℕ → ℕ → ℕ) (low : ℕ → ℕ → ℕ) (f : Bool → Bo
       let e1 : op (n / 2) (m / 2) ≡ op (nat a) (nat b) = ap (λ v. op v (m / 2)) n2 ∙ ap (op (nat a)) m2 in
       let e2 : low (n % 2) (m % 2) ≡ digit (f x y) = ap (λ v. low v (m % 2)) n1 ∙ ap (low (digit x)) m1 ∙ bits x y in
       let e : op n m ≡ digit (f x y) + 2 * op (nat a) (nat b) = omega (arith, step n m, e1, e2) in
-      word-suc (length a) (op n m) (digit (f x y)) (op (nat a) (nat b)) (f x y) e refl ∙ ap (λ v. f x y ∷ v) (bitwise a b (omega (arith, h)))
+      word-suc (length a) (op n m) (digit (f x y)) (op (nat a) (nat b)) (f x y) e refl
+      ∙ ap (λ v. f x y ∷ v) (bitwise a b (omega (arith, h)))
 
 and-bits : (x y : Bool) → min (digit x) (digit y) ≡ digit (x && y)
 and-bits false false = refl
@@ -77,9 +80,12 @@ word-not (false ∷ a) ones h =
 
 -- the first of two numbers stands above the second
 pub word-append : (a b : List Bool) → word (length a + length b) (nat b * 2 ^ length a + nat a) ≡ a ++ b
-word-append [] b = let e : nat b * 2 ^ 0 + 0 ≡ nat b = omega arith in ap (word (0 + length b)) e ∙ ap (λ n. word n (nat b)) (zero-add (length b)) ∙ word-nat b
+word-append [] b = let e : nat b * 2 ^ 0 + 0 ≡ nat b = omega arith in ap (word (0 + length b)) e
+    ∙ ap (λ n. word n (nat b)) (zero-add (length b)) ∙ word-nat b
 word-append (x ∷ a) b =
-    let e : nat b * 2 ^ suc (length a) + (digit x + 2 * nat a) ≡ digit x + 2 * (nat b * 2 ^ length a + nat a) = omega (arith, two-pow-succ (length a), ap (λ n. nat b * n) (two-pow-succ (length a))) in
+    let e : nat b * 2 ^ suc (length a) + (digit x + 2 * nat a)
+    ≡ digit x + 2 * (nat b * 2 ^ length a + nat a) = omega
+    (arith, two-pow-succ (length a), ap (λ n. nat b * n) (two-pow-succ (length a))) in
     let n : suc (length a) + length b ≡ suc (length a + length b) = omega arith in
     ap (λ k. word k (nat b * 2 ^ suc (length a) + (digit x + 2 * nat a))) n
     ∙ word-suc (length a + length b) (nat b * 2 ^ suc (length a) + (digit x + 2 * nat a)) (digit x) (nat b * 2 ^ length a + nat a) x e refl
@@ -101,8 +107,10 @@ word-sum k [] b h = refl
 word-sum k (x ∷ a) [] h = absurd (omega (arith, h))
 word-sum k (x ∷ a) (y ∷ b) h =
     let c = majority x y k in
-    let e : (digit x + 2 * nat a) + (digit y + 2 * nat b) + digit k ≡ digit (xor (xor x y) k) + 2 * (nat a + nat b + digit c) = omega (arith, bits-sum k x y) in
-    word-suc (length a) ((digit x + 2 * nat a) + (digit y + 2 * nat b) + digit k) (digit (xor (xor x y) k)) (nat a + nat b + digit c) (xor (xor x y) k) e refl
+    let e : (digit x + 2 * nat a) + (digit y + 2 * nat b) + digit k
+    ≡ digit (xor (xor x y) k) + 2 * (nat a + nat b + digit c) = omega (arith, bits-sum k x y) in
+    word-suc (length a) ((digit x + 2 * nat a) + (digit y + 2 * nat b) + digit k) (digit (xor (xor x y) k)) (nat a + nat b + digit c)
+    (xor (xor x y) k) e refl
     ∙ ap (λ v. xor (xor x y) k ∷ v) (word-sum c a b (omega (arith, h)))
 
 -- a word has the lowest bits of a number
@@ -113,9 +121,11 @@ word-mod (suc w) n =
     let a = mod-pow-add n w 1 in
     let k : w + 1 ≡ suc w = omega arith in
     let e : n % 2 ^ suc w ≡ n % 2 + 2 * (n / 2 % 2 ^ w) = ap (λ j. n % 2 ^ j) (sym k) ∙ a ∙ omega arith in
-    word-suc w (n % 2 ^ suc w) (n % 2) (n / 2 % 2 ^ w) (eqb (n % 2) 1) e (sym (digit-low n)) ∙ ap (λ v. eqb (n % 2) 1 ∷ v) (word-mod w (n / 2))
+    word-suc w (n % 2 ^ suc w) (n % 2) (n / 2 % 2 ^ w) (eqb (n % 2) 1) e (sym (digit-low n))
+    ∙ ap (λ v. eqb (n % 2) 1 ∷ v) (word-mod w (n / 2))
 
 pub word-take : (k : ℕ) (v : List Bool) → k ≤ length v → word k (nat v) ≡ take k v
 word-take zero v h = refl
 word-take (suc k) [] h = absurd (omega (arith, h))
-word-take (suc k) (x ∷ v) h = word-suc k (digit x + 2 * nat v) (digit x) (nat v) x refl refl ∙ ap (λ u. x ∷ u) (word-take k v (omega (arith, h)))
+word-take (suc k) (x ∷ v) h = word-suc k (digit x + 2 * nat v) (digit x) (nat v) x refl refl
+    ∙ ap (λ u. x ∷ u) (word-take k v (omega (arith, h)))

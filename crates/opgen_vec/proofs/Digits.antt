@@ -25,7 +25,8 @@ length-hex_text zero n = refl
 length-hex_text (suc k) n = ap suc (length-hex_text k n)
 
 -- the digits of a number, read back
-pub hex_value-text : (before n : ℕ) (digits : List ℕ) → map to_ascii_lowercase digits ≡ hex_text (length digits) n → n / 16 ^ length digits ≡ before → hex_value before digits ≡ Some n
+pub hex_value-text : (before n : ℕ) (digits : List ℕ) → map to_ascii_lowercase digits ≡ hex_text (length digits) n → n / 16 ^ length digits
+    ≡ before → hex_value before digits ≡ Some n
 hex_value-text before n [] e top = ap Some (sym top ∙ units n)
 hex_value-text before n (c ∷ digits) e top =
     let k = length digits in
@@ -37,10 +38,12 @@ hex_value-text before n (c ∷ digits) e top =
     let above : n / 16 ^ k / 16 ≡ before = place-above n k ∙ top in
     let next : n / 16 ^ k ≡ before * 16 + digit_value c = omega (arith, is, above) in
     let tests : nat_lt (digit_value c) 16 ≡ true = grind (arith, nat_tests, is, small) in
-    ap (λ b. cond b (hex_value (before * 16 + digit_value c) digits) None) tests ∙ hex_value-text (before * 16 + digit_value c) n digits others next
+    ap (λ b. cond b (hex_value (before * 16 + digit_value c) digits) None) tests
+    ∙ hex_value-text (before * 16 + digit_value c) n digits others next
 
 -- what is read has these digits
-pub text-hex_value : (before n : ℕ) (digits : List ℕ) → hex_value before digits ≡ Some n → (map to_ascii_lowercase digits ≡ hex_text (length digits) n) × (n / 16 ^ length digits ≡ before)
+pub text-hex_value : (before n : ℕ) (digits : List ℕ) → hex_value before digits ≡ Some n
+    → (map to_ascii_lowercase digits ≡ hex_text (length digits) n) × (n / 16 ^ length digits ≡ before)
 text-hex_value before n [] e = (refl, (let same : before ≡ n = cc in units n ∙ sym same))
 text-hex_value before n (c ∷ digits) e = go (nat_lt (digit_value c) 16) refl e (text-hex_value (before * 16 + digit_value c) n digits)
   where
@@ -48,13 +51,17 @@ text-hex_value before n (c ∷ digits) e = go (nat_lt (digit_value c) 16) refl e
     k = length digits
 
     go : (b : Bool) → nat_lt (digit_value c) 16 ≡ b → cond b (hex_value (before * 16 + digit_value c) digits) None ≡ Some n
-        → (hex_value (before * 16 + digit_value c) digits ≡ Some n → (map to_ascii_lowercase digits ≡ hex_text (length digits) n) × (n / 16 ^ length digits ≡ before * 16 + digit_value c))
+        → (hex_value (before * 16 + digit_value c) digits ≡ Some n → (map to_ascii_lowercase digits ≡ hex_text (length digits) n)
+        × (n / 16 ^ length digits ≡ before * 16 + digit_value c))
         → (map to_ascii_lowercase (c ∷ digits) ≡ hex_text (suc (length digits)) n) × (n / 16 ^ suc (length digits) ≡ before)
     go true is e later =
         let (others, above) = later e in
         let small : digit_value c < 16 = grind (arith, nat_tests, is) in
         let unit : digit_value c ≡ n / 16 ^ length digits % 16 = omega (arith, above, small) in
         let top : n / 16 ^ length digits / 16 ≡ before = omega (arith, above, small) in
-        let first : to_ascii_lowercase c ≡ digit_char (n / 16 ^ length digits % 16) = lower-digit c small ∙ ap digit_char unit in
-        ((let e : map to_ascii_lowercase (c ∷ digits) ≡ hex_text (suc (length digits)) n = cc in e), sym (place-above n (length digits)) ∙ top)
+        let first : to_ascii_lowercase c ≡ digit_char (n / 16 ^ length digits % 16) = lower-digit c small ∙ ap digit_char unit in (
+          (let e : map to_ascii_lowercase (c ∷ digits) ≡ hex_text (suc (length digits)) n = cc in e),
+          sym (place-above n (length digits))
+              ∙ top,
+        )
     go false is e later = cc

@@ -12,7 +12,8 @@ third = record {
   ports =
       record { name = codes "ce"; dir = In; width = 1 } ∷ record { name = codes "x"; dir = In; width = 1 }
       ∷ record { name = codes "y"; dir = Out; width = 1 } ∷ [];
-  signals = record { name = codes "s1"; width = 1; initial = None } ∷ record { name = codes "s1_1"; width = 1; initial = Some (false ∷ []) } ∷ [];
+  signals = record { name = codes "s1"; width = 1; initial = None } ∷ record { name = codes "s1_1"; width = 1; initial = Some (false ∷ []) }
+      ∷ [];
   drivers = Assign 0 (port 1) ∷ Register 1 (name 0) ∷ Output 2 (name 1) ∷ [];
   enable = Some 0;
 }

@@ -44,7 +44,8 @@ not_true false h = refl
 
 -- the longest prefix whose bytes pass a test
 
-prefix_len-append_stops : (p : ℕ → Bool) (text rest : List ℕ) → list_all p text ≡ true → begins p rest ≡ false → prefix_len p (text ++ rest) ≡ length text
+prefix_len-append_stops : (p : ℕ → Bool) (text rest : List ℕ) → list_all p text ≡ true → begins p rest ≡ false → prefix_len p (text ++ rest)
+    ≡ length text
 prefix_len-append_stops p [] [] all stops = refl
 prefix_len-append_stops p [] (b ∷ bs) all stops = rw stops refl
 prefix_len-append_stops p (b ∷ bs) rest all stops =
@@ -100,11 +101,13 @@ module _ (text rest : List ℕ) where
 
   front-of_number : IsNumber text rest → number_front (text ++ rest) ≡ Some (Token Number (length text))
   front-of_number d =
-      let n = prefix_len-append_stops is_ascii_digit text rest (list_all-from_AllPass is_ascii_digit text d.bytes) (not_word_byte-no_digit rest d.stops) in
+      let n = prefix_len-append_stops is_ascii_digit text rest (list_all-from_AllPass is_ascii_digit text d.bytes)
+      (not_word_byte-no_digit rest d.stops) in
       let short = d.short in
       rw (n, drop-append_seam text rest, d.stops) (grind (arith, nat_tests))
 
-front-of_bits : (digits rest : List ℕ) → 0 < length digits → length digits ≤ MAX_WIDTH → list_all is_bit digits ≡ true → bits_front (digits ++ 34 ∷ rest) ≡ Some (Token Bits (length digits + 2))
+front-of_bits : (digits rest : List ℕ) → 0 < length digits → length digits ≤ MAX_WIDTH → list_all is_bit digits ≡ true
+    → bits_front (digits ++ 34 ∷ rest) ≡ Some (Token Bits (length digits + 2))
 front-of_bits digits rest some short all =
     let n = prefix_len-append_stops is_bit digits (34 ∷ rest) all refl in
     rw (n, drop-append_seam digits (34 ∷ rest)) (grind (arith, nat_tests))
@@ -112,7 +115,8 @@ front-of_bits digits rest some short all =
 quoted_length : (digits text : List ℕ) → text ≡ 34 ∷ (digits ++ 34 ∷ []) → length digits + 2 ≡ length text
 quoted_length digits text e = omega (arith, ap length e, length-append digits (34 ∷ []))
 
-front-of_token : (kind : TokenKind) (text rest : List ℕ) → IsToken kind text rest → front_of (text ++ rest) ≡ Some (Token kind (length text))
+front-of_token : (kind : TokenKind) (text rest : List ℕ) → IsToken kind text rest → front_of (text ++ rest)
+    ≡ Some (Token kind (length text))
 front-of_token Word [] rest s = absurd (false≢true s.letter)
 front-of_token Word (b ∷ bs) rest s = front_of-letter b (bs ++ rest) s.letter ∙ front-of_word (b ∷ bs) rest s
 front-of_token Number [] rest s = absurd (omega (arith, s.some))
@@ -120,8 +124,10 @@ front-of_token Number (b ∷ bs) rest s =
     let (here, more) = and_parts (is_ascii_digit b) (list_all is_ascii_digit bs) (list_all-from_AllPass is_ascii_digit (b ∷ bs) s.bytes) in
     front_of-digit b (bs ++ rest) here ∙ front-of_number (b ∷ bs) rest s
 front-of_token Bits text rest s =
-    let e : text ++ rest ≡ 34 ∷ (s.digits ++ 34 ∷ rest) = ap (λ u. u ++ rest) s.quoted ∙ ap (λ u. 34 ∷ u) (append_assoc s.digits (34 ∷ []) rest) in
-    ap front_of e ∙ front-of_bits s.digits rest s.some s.short (list_all-from_AllPass is_bit s.digits s.bytes) ∙ ap (λ n. Some (Token Bits n)) (quoted_length s.digits text s.quoted)
+    let e : text ++ rest ≡ 34 ∷ (s.digits ++ 34 ∷ rest) = ap (λ u. u ++ rest) s.quoted
+    ∙ ap (λ u. 34 ∷ u) (append_assoc s.digits (34 ∷ []) rest) in
+    ap front_of e ∙ front-of_bits s.digits rest s.some s.short (list_all-from_AllPass is_bit s.digits s.bytes)
+    ∙ ap (λ n. Some (Token Bits n)) (quoted_length s.digits text s.quoted)
 front-of_token ZeroChar text rest s = rw s refl
 front-of_token LeftParen text rest s = rw s refl
 front-of_token RightParen text rest s = rw s refl
@@ -139,7 +145,11 @@ front-of_token Becomes text rest s = rw s refl
 
 pub front-of_element : (e : Element) (rest : List ℕ) → Stands e rest → front_of (text_of e ++ rest) ≡ Some (front_of_element e)
 front-of_element (gap text) rest (inl s) = rw (s.alone, s.white) refl
-front-of_element (gap text) rest (inr s) = rw (s.marked, prefix_len-append_stops is_in_line s.body rest (list_all-from_AllPass is_in_line s.body s.bytes) s.stops) (ap (λ n. Some (Gap n)) (omega arith))
+front-of_element (gap text) rest (inr s) = rw (
+  s.marked,
+  prefix_len-append_stops is_in_line s.body rest (list_all-from_AllPass is_in_line
+      s.body s.bytes) s.stops,
+) (ap (λ n. Some (Gap n)) (omega arith))
 front-of_element (token kind text) rest s = front-of_token kind text rest s
 
 pub None-nothing : (bytes : List ℕ) → front_of bytes ≡ None → NothingStarts bytes
@@ -151,7 +161,8 @@ abbrev Found : List ℕ → Option Front → Type 0
 Found bytes None = Unit {0}
 Found bytes (Some f) = FrontStands bytes (Some f)
 
-choose : (bytes : List ℕ) (test : Bool) (x y : Option Front) → (test ≡ true → Found bytes x) → (test ≡ false → Found bytes y) → Found bytes (cond test x y)
+choose : (bytes : List ℕ) (test : Bool) (x y : Option Front) → (test ≡ true → Found bytes x) → (test ≡ false → Found bytes y)
+    → Found bytes (cond test x y)
 choose bytes true x y p q = p refl
 choose bytes false x y p q = q refl
 
@@ -209,7 +220,8 @@ two_within : (b : ℕ) (p : ℕ → Bool) (bs : List ℕ) → begins p bs ≡ tr
 two_within b p [] h = absurd (false≢true h)
 two_within b p (x ∷ bs) h = omega arith
 
-comment_at : (n m : ℕ) (bs : List ℕ) → m ≡ suc (suc n) → n ≤ length bs → list_all is_in_line (take n bs) ≡ true → begins is_in_line (drop n bs) ≡ false → Found (45 ∷ 45 ∷ bs) (Some (Gap m))
+comment_at : (n m : ℕ) (bs : List ℕ) → m ≡ suc (suc n) → n ≤ length bs → list_all is_in_line (take n bs) ≡ true
+    → begins is_in_line (drop n bs) ≡ false → Found (45 ∷ 45 ∷ bs) (Some (Gap m))
 comment_at n m bs e within all stops = rw e (
   omega arith,
   omega (arith, within),
@@ -223,7 +235,8 @@ comment_at n m bs e within all stops = rw e (
 
 comment-found : (bs : List ℕ) → begins is_hyphen bs ≡ true → Found (45 ∷ bs) (Some (Gap (2 + prefix_len is_in_line (drop 1 bs))))
 comment-found [] h = absurd (false≢true h)
-comment-found (x ∷ bs) h = rw (same x 45 h) (comment_at (prefix_len is_in_line bs) (2 + prefix_len is_in_line bs) bs (omega arith) (prefix_len-le-length is_in_line bs) (prefix_passes is_in_line bs) (prefix_stops is_in_line bs))
+comment-found (x ∷ bs) h = rw (same x 45 h) (comment_at (prefix_len is_in_line bs) (2 + prefix_len is_in_line bs) bs (omega arith)
+    (prefix_len-le-length is_in_line bs) (prefix_passes is_in_line bs) (prefix_stops is_in_line bs))
 
 begins-drop_nil : (p : ℕ → Bool) (n : ℕ) → begins p (drop n []) ≡ false
 begins-drop_nil p zero = refl
@@ -234,7 +247,8 @@ quote_more n [] h = absurd (false≢true (sym (begins-drop_nil is_quote n) ∙ h
 quote_more zero (b ∷ bs) h = (ap (λ u. u ∷ []) (same b 34 h), omega arith)
 quote_more (suc n) (b ∷ bs) h = let (p, q) = quote_more n bs h in (ap (λ u. b ∷ u) p, omega arith)
 
-bits_at : (n m : ℕ) (bs : List ℕ) → m ≡ suc (suc n) → 1 ≤ n → n ≤ MAX_WIDTH → n ≤ length bs → list_all is_bit (take n bs) ≡ true → begins is_quote (drop n bs) ≡ true → Found (34 ∷ bs) (Some (Token Bits m))
+bits_at : (n m : ℕ) (bs : List ℕ) → m ≡ suc (suc n) → 1 ≤ n → n ≤ MAX_WIDTH → n ≤ length bs → list_all is_bit (take n bs) ≡ true
+    → begins is_quote (drop n bs) ≡ true → Found (34 ∷ bs) (Some (Token Bits m))
 bits_at n m bs e some short within all quote =
     let (p, q) = quote_more n bs quote in
     rw e (
@@ -255,7 +269,8 @@ bits-found bs =
     choose (34 ∷ bs) (nat_le 1 n && nat_le n MAX_WIDTH && begins is_quote (drop n bs)) (Some (Token Bits (n + 2))) None
     (λ t. let (length_right, quote) = and_parts (nat_le 1 n && nat_le n MAX_WIDTH) (begins is_quote (drop n bs)) t in
     let (some, short) = and_parts (nat_le 1 n) (nat_le n MAX_WIDTH) length_right in
-    bits_at n (n + 2) bs (omega arith) (below 1 n some) (below n MAX_WIDTH short) (prefix_len-le-length is_bit bs) (prefix_passes is_bit bs) quote)
+    bits_at n (n + 2) bs (omega arith) (below 1 n some) (below n MAX_WIDTH short) (prefix_len-le-length is_bit bs)
+    (prefix_passes is_bit bs) quote)
     (λ _. tt)
 
 char-found : (bs : List ℕ) → Found (39 ∷ bs) (char_front bs)
@@ -280,11 +295,14 @@ mark-found b bs =
     choose (b ∷ bs) (b == 38) _ _ (λ h. one_mark b 38 bs h) (λ _.
     choose (b ∷ bs) (b == 43) _ _ (λ h. one_mark b 43 bs h) (λ _.
     choose (b ∷ bs) (b == 58) _ _ (λ h. rw (same b 58 h)
-    (choose (58 ∷ bs) (begins is_equals bs) _ _ (λ t. (omega arith, two_within 58 _ bs t, first_two 58 61 bs t)) (λ t. (omega arith, omega arith, (refl, t))))) (λ _.
+    (choose (58 ∷ bs) (begins is_equals bs) _ _ (λ t. (omega arith, two_within 58 _ bs t, first_two 58 61 bs t))
+    (λ t. (omega arith, omega arith, (refl, t))))) (λ _.
     choose (b ∷ bs) (b == 61) _ _ (λ h. rw (same b 61 h)
-    (choose (61 ∷ bs) (begins is_greater bs) _ _ (λ t. (omega arith, two_within 61 _ bs t, first_two 61 62 bs t)) (λ t. (omega arith, omega arith, (refl, t))))) (λ _.
+    (choose (61 ∷ bs) (begins is_greater bs) _ _ (λ t. (omega arith, two_within 61 _ bs t, first_two 61 62 bs t))
+    (λ t. (omega arith, omega arith, (refl, t))))) (λ _.
     choose (b ∷ bs) (b == 60) _ _ (λ h. rw (same b 60 h)
-    (choose (60 ∷ bs) (begins is_equals bs) _ _ (λ t. (omega arith, two_within 60 _ bs t, first_two 60 61 bs t)) (λ _. tt))) (λ _. tt))))))))))
+    (choose (60 ∷ bs) (begins is_equals bs) _ _ (λ t. (omega arith, two_within 60 _ bs t, first_two 60 61 bs t)) (λ _. tt)))
+    (λ _. tt))))))))))
 
 found : (bytes : List ℕ) → Found bytes (front_of bytes)
 found [] = tt
@@ -307,9 +325,12 @@ front_stands bytes = with_nothing bytes (front_of bytes) refl (found bytes)
 
 -- what a token allows behind it goes by the first byte there
 
-before-same_first : (kind : TokenKind) (text r s : List ℕ) → ((p : ℕ → Bool) → begins p s ≡ begins p r) → IsToken kind text r → IsToken kind text s
-before-same_first Word text r s same_first t = record { letter = t.letter; bytes = t.bytes; single = t.single; short = t.short; stops = same_first is_word_byte ∙ t.stops }
-before-same_first Number text r s same_first t = record { some = t.some; short = t.short; bytes = t.bytes; stops = same_first is_word_byte ∙ t.stops }
+before-same_first : (kind : TokenKind) (text r s : List ℕ) → ((p : ℕ → Bool) → begins p s ≡ begins p r) → IsToken kind text r
+    → IsToken kind text s
+before-same_first Word text r s same_first t = record
+    { letter = t.letter; bytes = t.bytes; single = t.single; short = t.short; stops = same_first is_word_byte ∙ t.stops }
+before-same_first Number text r s same_first t = record
+    { some = t.some; short = t.short; bytes = t.bytes; stops = same_first is_word_byte ∙ t.stops }
 before-same_first Bits text r s same_first t = t
 before-same_first ZeroChar text r s same_first t = t
 before-same_first LeftParen text r s same_first t = t
@@ -327,7 +348,8 @@ before-same_first Arrow text r s same_first t = t
 before-same_first Becomes text r s same_first t = t
 
 -- of two lists with the same text, the longer goes on behind the shorter
-goes_on : (a r b s : List ℕ) → a ++ r ≡ b ++ s → length a < length b → (c : ℕ) × (more : List ℕ) × (b ≡ a ++ c ∷ more) × (r ≡ c ∷ (more ++ s))
+goes_on : (a r b s : List ℕ) → a ++ r ≡ b ++ s → length a < length b → (c : ℕ) × (more : List ℕ) × (b ≡ a ++ c ∷ more)
+    × (r ≡ c ∷ (more ++ s))
 goes_on [] r [] s e h = absurd (omega (arith, h))
 goes_on [] r (c ∷ more) s e h = (c, more, refl, e)
 goes_on (x ∷ a) r [] s e h = absurd (omega (arith, h))
@@ -340,13 +362,16 @@ goes_on (x ∷ a) r (y ∷ b) s e h =
 same_length : (j k : TokenKind) (m n : ℕ) → Some (Token j m) ≡ Some (Token k n) → m ≡ n
 same_length j k m n e = cc
 
-pub longest : (kind other : TokenKind) (text longer rest beyond : List ℕ) → IsToken kind text rest → IsToken other longer [] → text ++ rest ≡ longer ++ beyond → length longer ≤ length text
+pub longest : (kind other : TokenKind) (text longer rest beyond : List ℕ) → IsToken kind text rest → IsToken other longer [] → text ++ rest
+    ≡ longer ++ beyond → length longer ≤ length text
 longest kind other text longer rest beyond t u at = elim (cases_lt (length text) (length longer)) [
   | inl below ↦
       let more = goes_on text rest longer beyond at below in
-      let follows : IsToken kind text (more.0 ∷ more.1) = before-same_first kind text rest (more.0 ∷ more.1) (λ p. sym (ap (begins p) more.3)) t in
+      let follows : IsToken kind text (more.0 ∷ more.1) = before-same_first kind text rest (more.0 ∷ more.1)
+      (λ p. sym (ap (begins p) more.3)) t in
       let both : longer ++ [] ≡ text ++ (more.0 ∷ more.1) = append-nil longer ∙ more.2 in
-      let lengths = same_length other kind _ _ (sym (front-of_token other longer [] u) ∙ ap front_of both ∙ front-of_token kind text (more.0 ∷ more.1) follows) in
+      let lengths = same_length other kind _ _
+      (sym (front-of_token other longer [] u) ∙ ap front_of both ∙ front-of_token kind text (more.0 ∷ more.1) follows) in
       omega (arith, lengths)
   | inr above ↦ above
 ]

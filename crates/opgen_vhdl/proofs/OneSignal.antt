@@ -33,7 +33,8 @@ of_text =
     ∷ mark LeftParen ∷ number (codes "3") ∷ word (codes "downto") ∷ number (codes "0") ∷ mark RightParen ∷ mark Semicolon
     ∷ word (codes "begin") ∷ word (codes "s0") ∷ mark LessEqual
     ∷ word (codes "unsigned") ∷ mark LeftParen ∷ word (codes "x") ∷ mark RightParen ∷ mark Semicolon
-    ∷ word (codes "y") ∷ mark LessEqual ∷ word (codes "std_logic_vector") ∷ mark LeftParen ∷ word (codes "s0") ∷ mark RightParen ∷ mark Semicolon
+    ∷ word (codes "y") ∷ mark LessEqual ∷ word (codes "std_logic_vector") ∷ mark LeftParen ∷ word
+    (codes "s0") ∷ mark RightParen ∷ mark Semicolon
     ∷ word (codes "end") ∷ mark Semicolon ∷ []
 
 abbrev copy : Design
@@ -49,7 +50,8 @@ pub one_signal : Follows Library nothing (pieces of_text) End (record { design =
 unfolding refused_words
 one_signal =
     onward library_clause (onward use_logic (onward use_numeric (onward (entity refl)
-    (onward (port (port_line {dir = In} refl (lit≤ tt))) (onward (last_port (port_line {dir = Out} refl (lit≤ tt))) (onward (end_entity of_unit)
+    (onward (port (port_line {dir = In} refl (lit≤ tt)))
+    (onward (last_port (port_line {dir = Out} refl (lit≤ tt))) (onward (end_entity of_unit)
     (onward (architecture refl refl (said.signal refl (lit≤ tt) absent))
     (onward (begin (statement (assignment refl (single (plain (input refl))))))
     (onward (statement (output refl (single (plain (signal (whole refl))))))

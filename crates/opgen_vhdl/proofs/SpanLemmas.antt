@@ -19,9 +19,11 @@ pub token_some : (kind : TokenKind) (text rest : List ℕ) → IsToken kind text
 token_some kind [] rest s = let stands = subst (FrontStands rest) (front-of_element (token kind []) rest s) (front_stands rest) in stands.0
 token_some kind (b ∷ bs) rest s = omega arith
 
-pub in_order : (es : List Element) (bytes rest : List ℕ) (low at : ℕ) → low ≤ at → Cut es bytes rest → InOrder low (at + size_of es) (tokens_from at es)
+pub in_order : (es : List Element) (bytes rest : List ℕ) (low at : ℕ) → low ≤ at → Cut es bytes rest
+    → InOrder low (at + size_of es) (tokens_from at es)
 in_order [] bytes rest low at h c = omega arith
-in_order (gap t ∷ es) bytes rest low at h c = rw (sym (add_assoc at (length t) (size_of es))) (in_order es c.0 rest low (at + length t) (omega arith) c.3)
+in_order (gap t ∷ es) bytes rest low at h c = rw (sym (add_assoc at (length t) (size_of es)))
+    (in_order es c.0 rest low (at + length t) (omega arith) c.3)
 in_order (token k t ∷ es) bytes rest low at h c = (
   h,
   omega (arith, token_some k t c.0 c.2),
@@ -56,24 +58,32 @@ module _ (before text rest : List ℕ) where
 
 -- the tokens from an offset on, behind the bytes before it
 
-spelled_from : (es : List Element) (before bytes rest : List ℕ) → Cut es bytes rest → All (IsSpelledIn (before ++ bytes)) (tokens_from (length before) es)
+spelled_from : (es : List Element) (before bytes rest : List ℕ) → Cut es bytes rest
+    → All (IsSpelledIn (before ++ bytes)) (tokens_from (length before) es)
 spelled_from [] before bytes rest c = All-nil (IsSpelledIn (before ++ bytes))
-spelled_from (gap t ∷ es) before bytes rest c = rw (c.1, sym (append_assoc before t c.0), sym (length-append before t)) (spelled_from es (before ++ t) c.0 rest c.3)
+spelled_from (gap t ∷ es) before bytes rest c = rw (c.1, sym (append_assoc before t c.0), sym (length-append before t))
+    (spelled_from es (before ++ t) c.0 rest c.3)
 spelled_from (token k t ∷ es) before bytes rest c =
     let whole = before ++ (t ++ c.0) in
     let first = spanned k (length before) (length before + length t) in
     let others = tokens_from (length before + length t) es in
     let here : IsSpelledIn whole first = rw (spelling before t c.0 k, drop-through before t c.0) c.2 in
-    let later : All (IsSpelledIn whole) others = rw (sym (append_assoc before t c.0), sym (length-append before t)) (spelled_from es (before ++ t) c.0 rest c.3) in
+    let later : All (IsSpelledIn whole) others = rw (sym (append_assoc before t c.0), sym (length-append before t))
+    (spelled_from es (before ++ t) c.0 rest c.3) in
     rw c.1 (All-cons (IsSpelledIn whole) first others here later)
 
-spellings_from : (es : List Element) (before bytes rest : List ℕ) → Cut es bytes rest → map (spelled (before ++ bytes)) (tokens_from (length before) es) ≡ spellings_of es
+spellings_from : (es : List Element) (before bytes rest : List ℕ) → Cut es bytes rest
+    → map (spelled (before ++ bytes)) (tokens_from (length before) es) ≡ spellings_of es
 spellings_from [] before bytes rest c = refl
-spellings_from (gap t ∷ es) before bytes rest c = rw (c.1, sym (append_assoc before t c.0), sym (length-append before t)) (spellings_from es (before ++ t) c.0 rest c.3)
+spellings_from (gap t ∷ es) before bytes rest c = rw (c.1, sym (append_assoc before t c.0), sym (length-append before t))
+    (spellings_from es (before ++ t) c.0 rest c.3)
 spellings_from (token k t ∷ es) before bytes rest c =
     let whole = before ++ (t ++ c.0) in
-    let later : map (spelled whole) (tokens_from (length before + length t) es) ≡ spellings_of es = rw (sym (append_assoc before t c.0), sym (length-append before t)) (spellings_from es (before ++ t) c.0 rest c.3) in
-    let both : map (spelled whole) (tokens_from (length before) (token k t ∷ es)) ≡ spellings_of (token k t ∷ es) = rw (spelling before t c.0 k, later) refl in
+    let later : map (spelled whole) (tokens_from (length before + length t) es)
+    ≡ spellings_of es = rw (sym (append_assoc before t c.0), sym (length-append before t))
+    (spellings_from es (before ++ t) c.0 rest c.3) in
+    let both : map (spelled whole) (tokens_from (length before) (token k t ∷ es))
+    ≡ spellings_of (token k t ∷ es) = rw (spelling before t c.0 k, later) refl in
     subst (λ u. map (spelled (before ++ u)) (tokens_from (length before) (token k t ∷ es)) ≡ spellings_of (token k t ∷ es)) (sym c.1) both
 
 pub tokens-within : (bytes : List ℕ) (ts : List Token) → Tokens bytes ts → All (IsWithin (length bytes)) ts

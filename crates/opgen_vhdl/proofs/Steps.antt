@@ -18,15 +18,18 @@ unfolding and_then
 bind_some None f y e = absurd cc
 bind_some (Some x) f y e = (x, refl, e)
 
-pub bind_then : {A B G : Type 0} (r : Option A) (f : A → Option B) (y : B) → (r >>= f) ≡ Some y → ((x : A) → r ≡ Some x → f x ≡ Some y → G) → G
+pub bind_then : {A B G : Type 0} (r : Option A) (f : A → Option B) (y : B) → (r >>= f) ≡ Some y → ((x : A) → r ≡ Some x → f x ≡ Some y → G)
+    → G
 bind_then r f y e go = let b = bind_some r f y e in go b.0 b.1 b.2
 
-pub chosen : {A B : Type 0} (o : Option A) (x : B) (f : A → B) (y : B) → choice o x f ≡ y → ((o ≡ None) × (x ≡ y)) ⊎ ((a : A) × (o ≡ Some a) × (f a ≡ y))
+pub chosen : {A B : Type 0} (o : Option A) (x : B) (f : A → B) (y : B) → choice o x f ≡ y
+    → ((o ≡ None) × (x ≡ y)) ⊎ ((a : A) × (o ≡ Some a) × (f a ≡ y))
 unfolding choice
 chosen None x f y e = inl (refl, e)
 chosen (Some a) x f y e = inr (a, refl, e)
 
-pub choice_then : {A B G : Type 0} (o : Option A) (x : B) (f : A → B) (y : B) → choice o x f ≡ y → (o ≡ None → x ≡ y → G) → ((a : A) → o ≡ Some a → f a ≡ y → G) → G
+pub choice_then : {A B G : Type 0} (o : Option A) (x : B) (f : A → B) (y : B) → choice o x f ≡ y → (o ≡ None → x ≡ y → G)
+    → ((a : A) → o ≡ Some a → f a ≡ y → G) → G
 choice_then o x f y e none some = elim (chosen o x f y e) [ inl h ↦ none h.0 h.1 | inr h ↦ some h.0 h.1 h.2 ]
 
 pub some_is : {A : Type 0} {a b : A} → Some a ≡ Some b → a ≡ b
@@ -56,7 +59,8 @@ cases_option (Some a) = inr (a, refl)
 
 -- kinds by number
 abbrev kinds : List TokenKind
-kinds = Word ∷ Number ∷ Bits ∷ ZeroChar ∷ LeftParen ∷ RightParen ∷ Semicolon ∷ Colon ∷ Comma ∷ Dot ∷ Ampersand ∷ Plus ∷ Minus ∷ Equal ∷ LessEqual ∷ Arrow ∷ Becomes ∷ []
+kinds = Word ∷ Number ∷ Bits ∷ ZeroChar ∷ LeftParen ∷ RightParen ∷ Semicolon ∷ Colon ∷ Comma ∷ Dot ∷ Ampersand ∷ Plus ∷ Minus ∷ Equal ∷
+    LessEqual ∷ Arrow ∷ Becomes ∷ []
 
 there : (k : TokenKind) → slice_get kinds (rank k) ≡ Some k
 there Word = refl
@@ -136,7 +140,8 @@ name_some (number m ∷ ss) n rest e = cc
 name_some (string m ∷ ss) n rest e = cc
 name_some (mark m ∷ ss) n rest e = cc
 
-index_some : (ss : List Symbol) (k : ℕ) (rest : List Symbol) → index_at ss ≡ found k rest → (digits : List ℕ) × (ss ≡ number digits ∷ rest) × IsIndex digits × (k ≡ value digits)
+index_some : (ss : List Symbol) (k : ℕ) (rest : List Symbol) → index_at ss ≡ found k rest → (digits : List ℕ) × (ss ≡ number digits ∷ rest)
+    × IsIndex digits × (k ≡ value digits)
 index_some [] k rest e = cc
 index_some (word m ∷ ss) k rest e = cc
 index_some (number m ∷ ss) k rest e =
@@ -146,7 +151,8 @@ index_some (number m ∷ ss) k rest e =
 index_some (string m ∷ ss) k rest e = cc
 index_some (mark m ∷ ss) k rest e = cc
 
-pub index_then : {G : Type 0} (ss : List Symbol) (k : ℕ) (rest : List Symbol) → index_at ss ≡ found k rest → ((digits : List ℕ) → ss ≡ number digits ∷ rest → IsIndex digits → k ≡ value digits → G) → G
+pub index_then : {G : Type 0} (ss : List Symbol) (k : ℕ) (rest : List Symbol) → index_at ss ≡ found k rest
+    → ((digits : List ℕ) → ss ≡ number digits ∷ rest → IsIndex digits → k ≡ value digits → G) → G
 index_then ss k rest e go = let x = index_some ss k rest e in go x.0 x.1 x.2 x.3
 
 pub string_some : (ss : List Symbol) (w : List Bool) (rest : List Symbol) → string_at ss ≡ found w rest → ss ≡ string w ∷ rest

@@ -29,21 +29,25 @@ unfolding op_at
 after-when ss = refl
 
 -- an expression does not begin with this word
-part-not_vector : {names : Names} {t : Tree} {ss rest : List Symbol} → IsSignalPart names t ss rest → eat (word (codes "std_logic_vector")) ss ≡ None
+part-not_vector : {names : Names} {t : Tree} {ss rest : List Symbol} → IsSignalPart names t ss rest
+    → eat (word (codes "std_logic_vector")) ss ≡ None
 part-not_vector (whole {n = n} h) = no_keyword (codes "std_logic_vector") n _ refused-vector h
 part-not_vector (slice {n = n} h i j) = no_keyword (codes "std_logic_vector") n _ refused-vector h
 
-primary-not_vector : {names : Names} {d : ℕ} {t : Tree} {ss rest : List Symbol} → IsPrimary names d t ss rest → eat (word (codes "std_logic_vector")) ss ≡ None
+primary-not_vector : {names : Names} {d : ℕ} {t : Tree} {ss rest : List Symbol} → IsPrimary names d t ss rest
+    → eat (word (codes "std_logic_vector")) ss ≡ None
 primary-not_vector (signal_part p) = part-not_vector p
 primary-not_vector literal = refl
 primary-not_vector (input h) = refl
 primary-not_vector (group r) = refl
 
-factor-not_vector : {names : Names} {d : ℕ} {t : Tree} {ss rest : List Symbol} → IsFactor names d t ss rest → eat (word (codes "std_logic_vector")) ss ≡ None
+factor-not_vector : {names : Names} {d : ℕ} {t : Tree} {ss rest : List Symbol} → IsFactor names d t ss rest
+    → eat (word (codes "std_logic_vector")) ss ≡ None
 factor-not_vector (plain p) = primary-not_vector p
 factor-not_vector (opposite p) = refl
 
-expression-not_vector : {names : Names} {d : ℕ} {t : Tree} {ss rest : List Symbol} → IsExpression names d t ss rest → eat (word (codes "std_logic_vector")) ss ≡ None
+expression-not_vector : {names : Names} {d : ℕ} {t : Tree} {ss rest : List Symbol} → IsExpression names d t ss rest
+    → eat (word (codes "std_logic_vector")) ss ≡ None
 expression-not_vector (single f) = factor-not_vector f
 expression-not_vector (several f r) = factor-not_vector f
 
@@ -57,14 +61,18 @@ port-reads (port_line {n = n} {high = high} {dir = In} {rest = rest} m h) = rw (
 port-reads (port_line {n = n} {high = high} {dir = Out} {rest = rest} m h) = rw (name-reads n _ m, range-reads high rest h) refl
 
 -- the end of a unit is read behind `end`
-end-reads : {unit : List ℕ} {n : Option (List ℕ)} {ss : List Symbol} → is_allowed_name unit ≡ false → IsEnd unit n ss → (rest : List Symbol) × (ss ≡ word (codes "end") ∷ rest) × (unit_end_at unit rest ≡ Some n)
+end-reads : {unit : List ℕ} {n : Option (List ℕ)} {ss : List Symbol} → is_allowed_name unit ≡ false → IsEnd unit n ss → (rest : List Symbol)
+    × (ss ≡ word (codes "end") ∷ rest) × (unit_end_at unit rest ≡ Some n)
 unfolding unit_end_at own_name_at end_at and_then choice
 end-reads refused bare = (_, refl, refl)
 end-reads {unit = unit} refused of_unit = (_, refl, rw (eat-word unit end_of_piece) refl)
-end-reads {unit = unit} refused (named {n = n} h) = (_, refl, rw (no_keyword unit n end_of_piece refused h, name-reads n end_of_piece h) refl)
-end-reads {unit = unit} refused (of_unit_named {n = n} h) = (_, refl, rw (eat-word unit (word n ∷ end_of_piece), name-reads n end_of_piece h) refl)
+end-reads {unit = unit} refused (named {n = n} h) =
+    (_, refl, rw (no_keyword unit n end_of_piece refused h, name-reads n end_of_piece h) refl)
+end-reads {unit = unit} refused (of_unit_named {n = n} h) =
+    (_, refl, rw (eat-word unit (word n ∷ end_of_piece), name-reads n end_of_piece h) refl)
 
-end-then : {G : Type 0} {unit : List ℕ} {n : Option (List ℕ)} {ss : List Symbol} → is_allowed_name unit ≡ false → IsEnd unit n ss → ((rest : List Symbol) → ss ≡ word (codes "end") ∷ rest → unit_end_at unit rest ≡ Some n → G) → G
+end-then : {G : Type 0} {unit : List ℕ} {n : Option (List ℕ)} {ss : List Symbol} → is_allowed_name unit ≡ false → IsEnd unit n ss
+    → ((rest : List Symbol) → ss ≡ word (codes "end") ∷ rest → unit_end_at unit rest ≡ Some n → G) → G
 end-then refused e go = let x = end-reads refused e in go x.0 x.1 x.2
 
 initial-reads : {width : ℕ} {w : Option (List Bool)} {ss : List Symbol} → IsInitial width w ss → initial_at width ss ≡ Some w
@@ -74,11 +82,13 @@ initial-reads written = refl
 initial-reads zeros = refl
 
 signal-reads : (n high : List ℕ) {w : Option (List Bool)} {ss : List Symbol} → IsName n → IsIndex high → IsInitial (value high + 1) w ss →
-    signal_at (word (codes "signal") ∷ word n ∷ mark Colon ∷ word (codes "unsigned") ∷ range_to_zero high ss) ≡ Some (record { name = n; width = value high + 1; initial = w })
+    signal_at (word (codes "signal") ∷ word n ∷ mark Colon ∷ word (codes "unsigned") ∷ range_to_zero high ss)
+    ≡ Some (record { name = n; width = value high + 1; initial = w })
 unfolding signal_at and_then
 signal-reads n high {ss = ss} m h i = rw (name-reads n _ m, range-reads high ss h, initial-reads i) refl
 
-rows-read : {rows : List (List Bool × List Bool)} {other : List Bool} {ss : List Symbol} → AreRows rows other ss → (n : ℕ) → length ss ≤ n → rows_at n ss ≡ found rows other
+rows-read : {rows : List (List Bool × List Bool)} {other : List Bool} {ss : List Symbol} → AreRows rows other ss → (n : ℕ) → length ss ≤ n
+    → rows_at n ss ≡ found rows other
 unfolding rows_at row_at other_at end_at and_then choice
 rows-read others zero h = absurd (omega arith)
 rows-read others (suc n) h = refl
@@ -96,7 +106,14 @@ concurrent-reads (assignment {n = n} {ss = ss} m e) =
 concurrent-reads (output {n = n} m e) =
     rw (no_keyword (codes "with") n _ refused-with m, target-reads n _ m, expression-reads e refl (closes end_of_piece)) refl
 concurrent-reads (conditional {n = n} {ss = ss} {ps = ps} m e p f) =
-    rw (no_keyword (codes "with") n _ refused-with m, target-reads n ss m, expression-not_vector e, expression-reads e refl (after-when ps), part-reads p refl, expression-reads f refl after-end) refl
+    rw (
+      no_keyword (codes "with") n _ refused-with m,
+      target-reads n ss m,
+      expression-not_vector e,
+      expression-reads e refl (after-when ps),
+      part-reads p refl,
+      expression-reads f refl after-end,
+    ) refl
 concurrent-reads (table {n = n} {rs = rs} p m r) =
     rw (part-reads p refl, name-reads n _ m, rows-read r (length rs) (omega arith)) refl
 
@@ -105,7 +122,8 @@ unfolding clocked_at end_at and_then
 clocked-reads (clocked {n = n} {ss = ss} m e) = rw (target-reads n ss m, expression-reads e refl after-end) refl
 
 -- a statement does not begin with such a word
-concurrent-not : (k : List ℕ) {names : Names} {d : Driver} {ss : List Symbol} → is_allowed_name k ≡ false → ((rest : List Symbol) → eat (word k) (word (codes "with") ∷ rest) ≡ None) → IsConcurrent names d ss → eat (word k) ss ≡ None
+concurrent-not : (k : List ℕ) {names : Names} {d : Driver} {ss : List Symbol} → is_allowed_name k ≡ false
+    → ((rest : List Symbol) → eat (word k) (word (codes "with") ∷ rest) ≡ None) → IsConcurrent names d ss → eat (word k) ss ≡ None
 concurrent-not k refused no_with (assignment {n = n} m e) = no_keyword k n _ refused m
 concurrent-not k refused no_with (output {n = n} m e) = no_keyword k n _ refused m
 concurrent-not k refused no_with (conditional {n = n} m e p f) = no_keyword k n _ refused m
@@ -114,7 +132,8 @@ concurrent-not k refused no_with (table p m r) = no_with _
 clocked-no_if : {names : Names} {d : Driver} {ss : List Symbol} → IsClocked names d ss → eat (word (codes "if")) ss ≡ None
 clocked-no_if (clocked {n = n} m e) = no_keyword (codes "if") n _ refused-if m
 
-enable-reads : {names : Names} {e : Option ℕ} {k : Driver} {ss rest : List Symbol} → IsEnable names e ss rest → IsClocked names k rest → enable_at names ss ≡ found e rest
+enable-reads : {names : Names} {e : Option ℕ} {k : Driver} {ss rest : List Symbol} → IsEnable names e ss rest → IsClocked names k rest
+    → enable_at names ss ≡ found e rest
 unfolding enable_at port_high_at high_at and_then choice
 enable-reads always c = rw (clocked-no_if c) refl
 enable-reads (enabled {n = n} m) c = rw (name-reads n _ m) refl
@@ -122,16 +141,19 @@ enable-reads (enabled {n = n} m) c = rw (name-reads n _ m) refl
 clocked-not : {names : Names} {d : Driver} {ss : List Symbol} → IsClocked names d ss → eat (word (codes "end")) ss ≡ None
 clocked-not (clocked {n = n} m e) = no_keyword (codes "end") n _ refused-end m
 
-statement-reads : (p : Place) (r : Reading) {k : Driver} {ss : List Symbol} → IsConcurrent (scope r) k ss → statement_at p r ss ≡ found p (with_driver r k)
+statement-reads : (p : Place) (r : Reading) {k : Driver} {ss : List Symbol} → IsConcurrent (scope r) k ss → statement_at p r ss
+    ≡ found p (with_driver r k)
 unfolding statement_at and_then choice
 statement-reads p r c = rw (concurrent-not (codes "end") refused-end (λ rest. refl) c, concurrent-reads c) refl
 
-ending-reads : (p : Place) (r : Reading) {a : Option (List ℕ)} {ss : List Symbol} → IsEnd (codes "architecture") a ss → statement_at p r ss ≡ found at.End (with_name r r.architecture a)
+ending-reads : (p : Place) (r : Reading) {a : Option (List ℕ)} {ss : List Symbol} → IsEnd (codes "architecture") a ss → statement_at p r ss
+    ≡ found at.End (with_name r r.architecture a)
 unfolding statement_at and_then choice
 ending-reads p r e = end-then refused-architecture e (λ rest s u. rw (s, u) refl)
 
 pub takes-reads : {p q : Place} {r r2 : Reading} {ss : List Symbol} → Takes p r ss q r2 → takes_at p r ss ≡ found q r2
-unfolding takes_at entity_at ports_at heading_at declarations_at body_at opening_at clocked_body_at edge_at process_at end_at and_then choice
+unfolding takes_at entity_at ports_at heading_at declarations_at body_at opening_at clocked_body_at edge_at process_at end_at and_then
+    choice
 takes-reads library_clause = refl
 takes-reads use_logic = refl
 takes-reads use_numeric = refl
@@ -157,7 +179,8 @@ takes-reads (end_without_process {r = r} e) = end-then refused-architecture e (�
 takes-reads (end_after_process {r = r} e) = ending-reads at.AfterProcess r e
 
 -- what is read is in the grammar
-width_then : {G : Type 0} (ss : List Symbol) (w : ℕ) (rest : List Symbol) → width_at ss ≡ found w rest → ((high : List ℕ) → ss ≡ range_to_zero high rest → IsIndex high → w ≡ value high + 1 → G) → G
+width_then : {G : Type 0} (ss : List Symbol) (w : ℕ) (rest : List Symbol) → width_at ss ≡ found w rest
+    → ((high : List ℕ) → ss ≡ range_to_zero high rest → IsIndex high → w ≡ value high + 1 → G) → G
 unfolding width_at
 width_then ss w rest e go =
     bind_then _ _ _ e (λ a e1 f1.
@@ -197,7 +220,8 @@ port_some ss p rest e =
     let s4 = eat_some (word (codes "std_logic_vector")) dir.1 b e4 in
     width_then b w.0 w.1 e5 (λ high s5 h v. rw (← i, s1, s2, s3, s4, s5, v, j) (port_line m h)))))))
 
-own_name_then : {G : Type 0} (ss : List Symbol) (n : Option (List ℕ)) → own_name_at ss ≡ Some n → (n ≡ None → ss ≡ end_of_piece → G) → ((m : List ℕ) → n ≡ Some m → ss ≡ word m ∷ end_of_piece → IsName m → G) → G
+own_name_then : {G : Type 0} (ss : List Symbol) (n : Option (List ℕ)) → own_name_at ss ≡ Some n → (n ≡ None → ss ≡ end_of_piece → G)
+    → ((m : List ℕ) → n ≡ Some m → ss ≡ word m ∷ end_of_piece → IsName m → G) → G
 unfolding own_name_at
 own_name_then ss n e without with_own = choice_then _ _ _ _ e
     (λ h k.
@@ -208,7 +232,8 @@ own_name_then ss n e without with_own = choice_then _ _ _ _ e
     let (s1, o) = name_some ss m.0 m.1 h in
     with_own m.0 (sym (some_is f1)) (s1 ∙ ap (λ u. word m.0 ∷ u) (end_some m.1 a e1)) o))
 
-unit_end_some : (unit : List ℕ) (ss : List Symbol) (n : Option (List ℕ)) → unit_end_at unit ss ≡ Some n → IsEnd unit n (word (codes "end") ∷ ss)
+unit_end_some : (unit : List ℕ) (ss : List Symbol) (n : Option (List ℕ)) → unit_end_at unit ss ≡ Some n
+    → IsEnd unit n (word (codes "end") ∷ ss)
 unfolding unit_end_at
 unit_end_some unit ss n e = choice_then _ _ _ _ e
     (λ h k. own_name_then ss n k (λ i s. rw (i, s) bare) (λ m i s o. rw (i, s) (named o)))
@@ -216,7 +241,8 @@ unit_end_some unit ss n e = choice_then _ _ _ _ e
     let t = eat_some (word unit) ss a h in
     own_name_then a n k (λ i s. rw (i, t, s) of_unit) (λ m i s o. rw (i, t, s) (of_unit_named o)))
 
-initial_value_some : (width : ℕ) (ss : List Symbol) (w : List Bool) → initial_value_at width ss ≡ Some w → IsInitial width (Some w) (mark Becomes ∷ ss)
+initial_value_some : (width : ℕ) (ss : List Symbol) (w : List Bool) → initial_value_at width ss ≡ Some w
+    → IsInitial width (Some w) (mark Becomes ∷ ss)
 unfolding initial_value_at
 initial_value_some width ss w e = choice_then _ _ _ _ e
     (λ h k.
@@ -240,7 +266,8 @@ initial_some width ss w e = choice_then _ _ _ _ e
     bind_then _ _ _ k (λ v e1 f1.
     rw (← some_is f1, eat_some (mark Becomes) ss a h) (initial_value_some width a v e1)))
 
-signal_some : (r : Reading) (ss : List Symbol) (s : Signal) → signal_at ss ≡ Some s → Takes at.Declarations r ss at.Declarations (with_signal r s)
+signal_some : (r : Reading) (ss : List Symbol) (s : Signal) → signal_at ss ≡ Some s
+    → Takes at.Declarations r ss at.Declarations (with_signal r s)
 unfolding signal_at
 signal_some r ss s e =
     bind_then _ _ _ e (λ a e1 f1.
@@ -253,9 +280,11 @@ signal_some r ss s e =
     let (s2, m) = name_some a n.0 n.1 e2 in
     let s3 = eat_some (mark Colon) n.1 b e3 in
     let s4 = eat_some (word (codes "unsigned")) b c e4 in
-    width_then c w.0 w.1 e5 (λ high s5 h v. rw (← some_is f6, s1, s2, s3, s4, s5, v) (signal m h (rw v at (initial_some w.0 w.1 i e6))))))))))
+    width_then c w.0 w.1 e5 (λ high s5 h v. rw (← some_is f6, s1, s2, s3, s4, s5, v) (signal m h (rw v at (initial_some w.0 w.1 i
+    e6))))))))))
 
-rows_some : (n : ℕ) (ss : List Symbol) (rows : List (List Bool × List Bool)) (other : List Bool) → rows_at n ss ≡ found rows other → AreRows rows other ss
+rows_some : (n : ℕ) (ss : List Symbol) (rows : List (List Bool × List Bool)) (other : List Bool) → rows_at n ss ≡ found rows other
+    → AreRows rows other ss
 unfolding rows_at row_at other_at
 rows_some zero ss rows other e = cc
 rows_some (suc n) ss rows other e = choice_then _ _ _ _ e
@@ -285,7 +314,8 @@ rows_some (suc n) ss rows other e = choice_then _ _ _ _ e
     rw (← k1, ← k2, ← i1, s1, s2, s3, s4, i2) (row (rows_some n x.1 more.0 more.1 e2))))))))
 
 -- a row that was read is not empty
-pub row-shorter : (ss : List Symbol) (r : List Bool × List Bool) (rest : List Symbol) → row_at ss ≡ found r rest → suc (length rest) ≤ length ss
+pub row-shorter : (ss : List Symbol) (r : List Bool × List Bool) (rest : List Symbol) → row_at ss ≡ found r rest
+    → suc (length rest) ≤ length ss
 unfolding row_at
 row-shorter ss r rest e =
     bind_then _ _ _ e (λ w g1 h1.
@@ -303,7 +333,8 @@ no_rows : (n : ℕ) → rows_at (suc n) [] ≡ None
 unfolding row_at other_at rows_at and_then choice
 no_rows n = refl
 
-after_row : (m n : ℕ) (ss : List Symbol) → ((rs : List Symbol) → length rs ≤ m → length rs ≤ n → rows_at m rs ≡ rows_at n rs) → length ss ≤ suc m → length ss ≤ suc n →
+after_row : (m n : ℕ) (ss : List Symbol) → ((rs : List Symbol) → length rs ≤ m → length rs ≤ n → rows_at m rs ≡ rows_at n rs)
+    → length ss ≤ suc m → length ss ≤ suc n →
     (o : Option ((List Bool × List Bool) × List Symbol)) → row_at ss ≡ o →
     choice o (other_at ss >>= λ w. found [] w) (λ x. rows_at m x.1 >>= λ more. found (x.0 ∷ more.0) more.1)
     ≡ choice o (other_at ss >>= λ w. found [] w) (λ x. rows_at n x.1 >>= λ more. found (x.0 ∷ more.0) more.1)
@@ -356,7 +387,8 @@ high_some next ss rest e =
     let s3 = eat_some (word next) w.1 rest g in
     cc))
 
-choice_some : (names : Names) (n : List ℕ) (one : Tree) (rs ss : List Symbol) (k : Driver) → IsName n → IsExpression names max_depth one rs (word (codes "when") ∷ ss) →
+choice_some : (names : Names) (n : List ℕ) (one : Tree) (rs ss : List Symbol) (k : Driver) → IsName n
+    → IsExpression names max_depth one rs (word (codes "when") ∷ ss) →
     choice_at names (place_of names.signals n) one ss ≡ Some k → IsConcurrent names k (word n ∷ mark LessEqual ∷ rs)
 unfolding choice_at
 choice_some names n one rs ss k m x e =
@@ -369,7 +401,8 @@ choice_some names n one rs ss k m x e =
     let y = expression-is names max_depth other.0 b other.1 e3 in
     rw (← some_is f4) (conditional m x (rw s2 at p) (rw (end_some other.1 c e4) at y))))))
 
-valued_some : (names : Names) (n : List ℕ) (ss : List Symbol) (k : Driver) → IsName n → valued_at names (place_of names.signals n) ss ≡ Some k → IsConcurrent names k (word n ∷ mark LessEqual ∷ ss)
+valued_some : (names : Names) (n : List ℕ) (ss : List Symbol) (k : Driver) → IsName n → valued_at names (place_of names.signals n) ss
+    ≡ Some k → IsConcurrent names k (word n ∷ mark LessEqual ∷ ss)
 unfolding valued_at
 valued_some names n ss k m e =
     bind_then _ _ _ e (λ x e1 f1.
@@ -380,7 +413,8 @@ valued_some names n ss k m e =
     rw (← some_is f2) (assignment m (rw (end_some x.1 a e2) at y))))
     (λ a h g. choice_some names n x.0 ss a k m (rw (eat_some (word (codes "when")) x.1 a h) at y) g))
 
-output_some : (names : Names) (n : List ℕ) (ss : List Symbol) (k : Driver) → IsName n → output_at names (place_of names.ports n) ss ≡ Some k → IsConcurrent names k (word n ∷ mark LessEqual ∷ word (codes "std_logic_vector") ∷ ss)
+output_some : (names : Names) (n : List ℕ) (ss : List Symbol) (k : Driver) → IsName n → output_at names (place_of names.ports n) ss ≡ Some k
+    → IsConcurrent names k (word n ∷ mark LessEqual ∷ word (codes "std_logic_vector") ∷ ss)
 unfolding output_at
 output_some names n ss k m e =
     bind_then _ _ _ e (λ a e1 f1.
@@ -393,7 +427,8 @@ output_some names n ss k m e =
     let s4 = end_some b c e4 in
     rw (← some_is f4, s1) (output m (rw (s3, s4) at y))))))
 
-target_then : {G : Type 0} (ss : List Symbol) (n : List ℕ) (rest : List Symbol) → target_at ss ≡ found n rest → (ss ≡ word n ∷ mark LessEqual ∷ rest → IsName n → G) → G
+target_then : {G : Type 0} (ss : List Symbol) (n : List ℕ) (rest : List Symbol) → target_at ss ≡ found n rest
+    → (ss ≡ word n ∷ mark LessEqual ∷ rest → IsName n → G) → G
 unfolding target_at
 target_then ss n rest e go =
     bind_then _ _ _ e (λ x e1 f1.
@@ -437,7 +472,8 @@ edge_some ss rest e =
     let s5 = eat_some (word (codes "then")) d rest f4 in
     cc))))
 
-port_high_some : (names : Names) (ss : List Symbol) (p : ℕ) (rest : List Symbol) → port_high_at names ss ≡ found p rest → IsEnable names (Some p) (word (codes "if") ∷ ss) rest
+port_high_some : (names : Names) (ss : List Symbol) (p : ℕ) (rest : List Symbol) → port_high_at names ss ≡ found p rest
+    → IsEnable names (Some p) (word (codes "if") ∷ ss) rest
 unfolding port_high_at
 port_high_some names ss p rest e =
     bind_then _ _ _ e (λ n e1 f1.
@@ -447,7 +483,8 @@ port_high_some names ss p rest e =
     let s2 = high_some (codes "then") n.1 a e2 in
     rw (← i, s1, s2, j) (enabled m)))
 
-enable_some : (names : Names) (ss : List Symbol) (e : Option ℕ) (rest : List Symbol) → enable_at names ss ≡ found e rest → IsEnable names e ss rest
+enable_some : (names : Names) (ss : List Symbol) (e : Option ℕ) (rest : List Symbol) → enable_at names ss ≡ found e rest
+    → IsEnable names e ss rest
 unfolding enable_at
 enable_some names ss e rest h = choice_then _ _ _ _ h
     (λ k g. let (i, j) = found_is None e ss rest g in rw (← i, j) always)
@@ -456,7 +493,8 @@ enable_some names ss e rest h = choice_then _ _ _ _ h
     let (i, j) = found_is (Some p.0) e p.1 rest f1 in
     rw (← i, ← j, eat_some (word (codes "if")) ss a k) (port_high_some names a p.0 p.1 e1)))
 
-process_some : (r : Reading) (e : Option ℕ) (k : Driver) (ss middle rest : List Symbol) → process_at ss ≡ Some middle → IsEnable (scope r) e middle rest →
+process_some : (r : Reading) (e : Option ℕ) (k : Driver) (ss middle rest : List Symbol) → process_at ss ≡ Some middle
+    → IsEnable (scope r) e middle rest →
     IsClocked (scope r) k rest → Takes at.Body r (word (codes "process") ∷ ss) at.Process (with_driver (with_enable r e) k)
 unfolding process_at
 process_some r enable k ss middle rest e n c =
@@ -466,7 +504,8 @@ process_some r enable k ss middle rest e n c =
     (λ h g. rw (s1, edge_some a middle g) (process n c))
     (λ b h g. rw (s1, eat_some (word (codes "is")) a b h, edge_some b middle g) (process_is n c)))
 
-opening_some : (r : Reading) (ss : List Symbol) (q : Place) (r2 : Reading) → opening_at r ss ≡ found q r2 → Takes at.Body r (word (codes "process") ∷ ss) q r2
+opening_some : (r : Reading) (ss : List Symbol) (q : Place) (r2 : Reading) → opening_at r ss ≡ found q r2
+    → Takes at.Body r (word (codes "process") ∷ ss) q r2
 unfolding opening_at
 opening_some r ss q r2 h =
     bind_then _ _ _ h (λ a e1 f1.
@@ -496,7 +535,8 @@ body_some r ss q r2 e = choice_then _ _ _ _ e
     (λ h g. statement_some at.Body r ss q r2 (λ k rs c. statement c) (λ a rs c. end_without_process c) g)
     (λ a h g. rw (eat_some (word (codes "process")) ss a h) (opening_some r a q r2 g))
 
-declarations_some : (r : Reading) (ss : List Symbol) (q : Place) (r2 : Reading) → declarations_at r ss ≡ found q r2 → Takes at.Declarations r ss q r2
+declarations_some : (r : Reading) (ss : List Symbol) (q : Place) (r2 : Reading) → declarations_at r ss ≡ found q r2
+    → Takes at.Declarations r ss q r2
 unfolding declarations_at
 declarations_some r ss q r2 e = choice_then _ _ _ _ e
     (λ h g.
@@ -509,7 +549,8 @@ end_if-is : (r : Reading) (e : Option ℕ) → r.design.enable ≡ e → Takes a
 end_if-is r None h = end_if h
 end_if-is r (Some p) h = end_enabled h
 
-clocked_body_some : (r : Reading) (ss : List Symbol) (q : Place) (r2 : Reading) → clocked_body_at r ss ≡ found q r2 → Takes at.Process r ss q r2
+clocked_body_some : (r : Reading) (ss : List Symbol) (q : Place) (r2 : Reading) → clocked_body_at r ss ≡ found q r2
+    → Takes at.Process r ss q r2
 unfolding clocked_body_at
 clocked_body_some r ss q r2 e = choice_then _ _ _ _ e
     (λ h g.
@@ -548,7 +589,8 @@ ports_some r ss q r2 e =
     let (i, j) = found_is at.EndEntity q (with_port r p.0) r2 f2 in
     rw (← i, ← j) (last_port (rw (eat_some (mark RightParen) p.1 b h, end_some b a e2) at t)))))
 
-heading_some : (r : Reading) (ss : List Symbol) (q : Place) (r2 : Reading) (h : List ℕ × List ℕ) (rest : List Symbol) → heading_at ss ≡ found h rest →
+heading_some : (r : Reading) (ss : List Symbol) (q : Place) (r2 : Reading) (h : List ℕ × List ℕ) (rest : List Symbol) → heading_at ss
+    ≡ found h rest →
     declarations_at (with_architecture r h.0 h.1) rest ≡ found q r2 → Takes at.Architecture r ss q r2
 unfolding heading_at
 heading_some r ss q r2 h rest e g =
@@ -603,5 +645,6 @@ takes-is at.EndProcess q r r2 ss e =
     bind_then _ _ _ e (λ a e1 f1.
     let (i, j) = found_is at.AfterProcess q r r2 f1 in
     rw (← i, ← j, phrase_some (word (codes "end") ∷ word (codes "process") ∷ []) ss a e1) end_process)
-takes-is at.AfterProcess q r r2 ss e = statement_some at.AfterProcess r ss q r2 (λ k rs c. later_statement c) (λ a rs c. end_after_process c) e
+takes-is at.AfterProcess q r r2 ss e = statement_some at.AfterProcess r ss q r2 (λ k rs c. later_statement c)
+    (λ a rs c. end_after_process c) e
 takes-is at.End q r r2 ss e = cc

@@ -22,7 +22,8 @@ times3 = record {
       ∷ record { name = codes "s1"; width = 6; initial = None } ∷ [];
   drivers =
       Assign 0 (port 0)
-      ∷ Table 1 (name 0) (row 0 ∷ row 1 ∷ row 2 ∷ row 3 ∷ row 4 ∷ row 5 ∷ row 6 ∷ row 7 ∷ row 8 ∷ row 9 ∷ row 10 ∷ row 11 ∷ row 12 ∷ row 13 ∷ row 14 ∷ []) (word 6 45)
+      ∷ Table 1 (name 0) (row 0 ∷ row 1 ∷ row 2 ∷ row 3 ∷ row 4 ∷ row 5 ∷ row 6 ∷ row 7 ∷ row 8 ∷ row 9 ∷ row 10 ∷ row 11 ∷ row 12 ∷ row 13
+      ∷ row 14 ∷ []) (word 6 45)
       ∷ Output 1 (name 1) ∷ [];
   enable = None;
 }

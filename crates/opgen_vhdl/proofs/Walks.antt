@@ -24,11 +24,13 @@ abbrev pub first_len : List Symbol → ℕ
 first_len [] = 0
 first_len (s ∷ ss) = if is_semicolon s then 1 else suc (first_len ss)
 
-pub pieces-first : (s : Symbol) (ss : List Symbol) → pieces (s ∷ ss) ≡ take (first_len (s ∷ ss)) (s ∷ ss) ∷ pieces (drop (first_len (s ∷ ss)) (s ∷ ss))
+pub pieces-first : (s : Symbol) (ss : List Symbol) → pieces (s ∷ ss)
+    ≡ take (first_len (s ∷ ss)) (s ∷ ss) ∷ pieces (drop (first_len (s ∷ ss)) (s ∷ ss))
 pieces-first s [] = elim (cases_Bool (is_semicolon s)) [ inl y ↦ rw y refl | inr n ↦ rw n refl ]
 pieces-first s (t ∷ ss) = elim (cases_Bool (is_semicolon s)) [ inl y ↦ rw y refl | inr n ↦ rw (n, pieces-first t ss) refl ]
 
-pub Follows-push : {p q p2 : Place} {r r2 r3 : Reading} {ps : List (List Symbol)} {piece : List Symbol} → Follows p r ps q r2 → Takes q r2 piece p2 r3 → Follows p r (ps ++ piece ∷ []) p2 r3
+pub Follows-push : {p q p2 : Place} {r r2 r3 : Reading} {ps : List (List Symbol)} {piece : List Symbol} → Follows p r ps q r2
+    → Takes q r2 piece p2 r3 → Follows p r (ps ++ piece ∷ []) p2 r3
 Follows-push stay t = onward t stay
 Follows-push (onward t f) u = onward t (Follows-push f u)
 
@@ -41,7 +43,8 @@ unfolding and_then
 Follows-walk stay = refl
 Follows-walk (onward t f) = rw (takes-reads t, Follows-walk f) refl
 
-one_walk : {p q q2 : Place} {r r2 r3 : Reading} {ps : List (List Symbol)} → Follows p r ps q r2 → Follows p r ps q2 r3 → (q ≡ q2) × (r2 ≡ r3)
+one_walk : {p q q2 : Place} {r r2 r3 : Reading} {ps : List (List Symbol)} → Follows p r ps q r2 → Follows p r ps q2 r3 → (q ≡ q2)
+    × (r2 ≡ r3)
 one_walk {q = q} {q2 = q2} {r2 = r2} {r3 = r3} f g = found_is q q2 r2 r3 (sym (Follows-walk f) ∙ Follows-walk g)
 
 abbrev is_end : Place → Bool
@@ -89,14 +92,17 @@ abbrev fault_at : Place → Reading → List (List Symbol) → Option ℕ
 fault_at p r [] = if is_end p then None else Some 1
 fault_at p r (s ∷ ps) = choice (takes_at p r s) (Some 1) (λ x. later (fault_at x.0 x.1 ps))
 
-no_take : (p : Place) (r : Reading) (piece : List Symbol) → ((q : Place) (r2 : Reading) → Takes p r piece q r2 → ⊥) → (o : Step) → takes_at p r piece ≡ o → o ≡ None
+no_take : (p : Place) (r : Reading) (piece : List Symbol) → ((q : Place) (r2 : Reading) → Takes p r piece q r2 → ⊥) → (o : Step)
+    → takes_at p r piece ≡ o → o ≡ None
 no_take p r piece h None e = refl
 no_take p r piece h (Some x) e = absurd (h x.0 x.1 (takes-is p x.0 r x.1 piece e))
 
-pub refuses : (p : Place) (r : Reading) (piece : List Symbol) → takes_at p r piece ≡ None → (q : Place) (r2 : Reading) → Takes p r piece q r2 → ⊥
+pub refuses : (p : Place) (r : Reading) (piece : List Symbol) → takes_at p r piece ≡ None → (q : Place) (r2 : Reading)
+    → Takes p r piece q r2 → ⊥
 refuses p r piece e q r2 t = let bad : None ≡ found q r2 = sym e ∙ takes-reads t in absurd cc
 
-stops-fault : {p q : Place} {r r2 : Reading} {taken : List (List Symbol)} → Follows p r taken q r2 → (left : List (List Symbol)) → Stops q r2 left → fault_at p r (taken ++ left) ≡ Some (suc (length taken))
+stops-fault : {p q : Place} {r r2 : Reading} {taken : List (List Symbol)} → Follows p r taken q r2 → (left : List (List Symbol))
+    → Stops q r2 left → fault_at p r (taken ++ left) ≡ Some (suc (length taken))
 unfolding choice
 stops-fault {q = q} stay [] h = rw (not_end q h) refl
 stops-fault {q = q} {r2 = r2} stay (piece ∷ ps) h = rw (no_take q r2 piece h (takes_at q r2 piece) refl) refl
@@ -111,10 +117,12 @@ suc-one : (n : ℕ) → suc n ≡ n + 1
 suc-one n = omega arith
 
 same_tokens : (bytes : List ℕ) (a b : List Token) → Tokens bytes a → Tokens bytes b → a ≡ b
-same_tokens bytes a b s t = sym s.listed ∙ ap (tokens_from 0) (cuts.one_cut s.elements t.elements bytes _ _ s.cut t.cut cuts.nothing_starts_at_end cuts.nothing_starts_at_end).0 ∙ t.listed
+same_tokens bytes a b s t = sym s.listed ∙ ap (tokens_from 0) (cuts.one_cut s.elements t.elements bytes _ _ s.cut t.cut
+    cuts.nothing_starts_at_end cuts.nothing_starts_at_end).0 ∙ t.listed
 
 syntax-fault : (bytes : List ℕ) (k : ℕ) (x : SyntaxAt bytes k) → fault_at Library nothing (pieces (symbols bytes x.tokens)) ≡ Some k
-syntax-fault bytes k x = ap (fault_at Library nothing) x.split ∙ stops-fault x.follow x.left x.stops ∙ ap Some (suc-one (length x.taken) ∙ sym x.piece)
+syntax-fault bytes k x = ap (fault_at Library nothing) x.split ∙ stops-fault x.follow x.left x.stops
+    ∙ ap Some (suc-one (length x.taken) ∙ sym x.piece)
 
 pub one_list : (bytes : List ℕ) (q r : Reading) → Statements bytes q → Statements bytes r → q ≡ r
 one_list bytes q r f g =
@@ -129,7 +137,8 @@ one_fault bytes j k f g =
 pub not_both : (bytes : List ℕ) (r : Reading) (k : ℕ) → Statements bytes r → SyntaxAt bytes k → ⊥
 not_both bytes r k f g =
     let same = same_tokens bytes f.tokens g.tokens f.cut g.cut in
-    let bad : None ≡ Some k = sym (ends-faultless f.follow refl) ∙ ap (λ ts. fault_at Library nothing (pieces (symbols bytes ts))) same ∙ syntax-fault bytes k g in
+    let bad : None ≡ Some k = sym (ends-faultless f.follow refl) ∙ ap (λ ts. fault_at Library nothing (pieces (symbols bytes ts))) same
+    ∙ syntax-fault bytes k g in
     absurd cc
 
 pub one_design : (bytes : List ℕ) (c d : Design) → Spells bytes c → Spells bytes d → c ≡ d
@@ -145,21 +154,37 @@ pub record Stopped (ps : List (List Symbol)) : Type 0 where
   pub follow : Follows Library nothing taken place read
   pub stops : Stops place read left
 
-reaches : (done left : List (List Symbol)) (p : Place) (r : Reading) → Follows Library nothing done p r → ((q : Reading) × Follows Library nothing (done ++ left) End q) ⊎ Stopped (done ++ left)
+reaches : (done left : List (List Symbol)) (p : Place) (r : Reading) → Follows Library nothing done p r
+    → ((q : Reading) × Follows Library nothing (done ++ left) End q) ⊎ Stopped (done ++ left)
 reaches done [] p r f = elim (end_or_not p) [
   | inl e ↦ inl (r, rw (append-empty done, ← e) f)
   | inr h ↦ inr (record { taken = done; left = []; split = refl; place = p; read = r; follow = f; stops = h })
 ]
 reaches done (piece ∷ left) p r f = elim (cases_option (takes_at p r piece)) [
   | inl e ↦ inr (record { taken = done; left = piece ∷ left; split = refl; place = p; read = r; follow = f; stops = refuses p r piece e })
-  | inr x ↦ rw (append_assoc done (piece ∷ []) left) at (reaches (done ++ piece ∷ []) left x.0.0 x.0.1 (Follows-push f (takes-is p x.0.0 r x.0.1 piece x.1)))
+  | inr x ↦ rw (append_assoc done (piece ∷ []) left) at
+      (reaches (done ++ piece ∷ []) left x.0.0 x.0.1 (Follows-push f (takes-is p x.0.0 r x.0.1 piece x.1)))
 ]
 
 -- a text that has tokens is read, or has a first fault
 reads_or_not : (bytes : List ℕ) → (ts : List Token) × Tokens bytes ts → ((r : Reading) × Statements bytes r) ⊎ ((k : ℕ) × SyntaxAt bytes k)
 reads_or_not bytes (ts, t) = elim (reaches [] (pieces (symbols bytes ts)) Library nothing stay) [
   | inl f ↦ inl (f.0, record { tokens = ts; cut = t; follow = f.1 })
-  | inr x ↦ inr (length x.taken + 1, record { tokens = ts; cut = t; taken = x.taken; left = x.left; split = x.split; place = x.place; read = x.read; follow = x.follow; stops = x.stops; piece = refl })
+  | inr x ↦ inr (
+    length x.taken + 1,
+    record {
+      tokens = ts;
+      cut = t;
+      taken = x.taken;
+      left = x.left;
+      split = x.split;
+      place = x.place;
+      read = x.read;
+      follow = x.follow;
+      stops = x.stops;
+      piece = refl;
+    },
+  )
 ]
 
 pub one_answer : (bytes : List ℕ) → ((r : Reading) × Statements bytes r) ⊎ (((k : ℕ) × SyntaxAt bytes k) ⊎ ((n : ℕ) × LexicalAt bytes n))

@@ -6,7 +6,8 @@ use Rattle.opgen_components.proofs.Ends.{are-components}
 use Rattle.opgen_components.proofs.Steps.{length-graph}
 use Rattle.opgen_components.proofs.components.Goals as goal
 
-found-all : {E Z : Type 0} (r : Result (Vec Component Z) E) (g : Graph) (cs : List Component) → IfOk r (λ v. v.items ≡ cs) → AreComponents g cs → IfOk r (λ v. AreComponents g v.items)
+found-all : {E Z : Type 0} (r : Result (Vec Component Z) E) (g : Graph) (cs : List Component) → IfOk r (λ v. v.items ≡ cs)
+    → AreComponents g cs → IfOk r (λ v. AreComponents g v.items)
 found-all (Ok v) g cs h a = subst (AreComponents g) (sym h) a
 found-all (Err e) g cs h a = tt
 
@@ -15,5 +16,6 @@ returns c =
     let g = graph_of c.args.graph.now in
     let w = c.loop-root.walk in
     found-all c.components.result g (map component_at w.marks.items) c.components.ensures
-    (are-components g w.marks.items w.next.items w.path.items w.bounds.items w.open_places.items (length w.done.items) c.loop-root.invariant.walk c.requires (ap length c.loop-root.invariant.path)
+    (are-components g w.marks.items w.next.items w.path.items w.bounds.items w.open_places.items
+    (length w.done.items) c.loop-root.invariant.walk c.requires (ap length c.loop-root.invariant.path)
     (λ s l. c.loop-root.invariant.met s (omega (arith, l, c.loop-root-test.false, length-graph c.args.graph.now))))

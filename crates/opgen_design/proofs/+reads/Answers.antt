@@ -14,9 +14,13 @@ reads::add_all_uses-loop-expr-preserved t c =
     let i = c.loop-expr.expr-index in
     record {
       names =
-          step c.add_uses.new.uses.names.items c.loop-expr.uses.names.items c.args.uses.now.names.items (operand_names (plain_all (take i xs))) (names_read (plain c.expr-item.result))
-          (operand_names (plain_all (take (i + 1) xs))) c.in_ok-add_uses.ensures.names c.loop-expr.invariant.names (names-more xs i c.expr-item.result c.loop-expr-test.true c.expr-item.is);
+          step c.add_uses.new.uses.names.items c.loop-expr.uses.names.items c.args.uses.now.names.items
+          (operand_names (plain_all (take i xs))) (names_read (plain c.expr-item.result))
+          (operand_names (plain_all (take (i + 1) xs))) c.in_ok-add_uses.ensures.names c.loop-expr.invariant.names
+          (names-more xs i c.expr-item.result c.loop-expr-test.true c.expr-item.is);
       ports =
-          step c.add_uses.new.uses.ports.items c.loop-expr.uses.ports.items c.args.uses.now.ports.items (operand_ports (plain_all (take i xs))) (ports_read (plain c.expr-item.result))
-          (operand_ports (plain_all (take (i + 1) xs))) c.in_ok-add_uses.ensures.ports c.loop-expr.invariant.ports (ports-more xs i c.expr-item.result c.loop-expr-test.true c.expr-item.is);
+          step c.add_uses.new.uses.ports.items c.loop-expr.uses.ports.items c.args.uses.now.ports.items
+          (operand_ports (plain_all (take i xs))) (ports_read (plain c.expr-item.result))
+          (operand_ports (plain_all (take (i + 1) xs))) c.in_ok-add_uses.ensures.ports c.loop-expr.invariant.ports
+          (ports-more xs i c.expr-item.result c.loop-expr-test.true c.expr-item.is);
     }

@@ -3,7 +3,7 @@ use Rattle.std.specs.Prelude.{All}
 use Rattle.opgen_net.specs.declared.net.Net.{Net}
 use Rattle.opgen_net.specs.Valid.{widths}
 use Rattle.opgen_net.specs.WordRule.{IsThere}
-use Rattle.opgen_digits.specs.Bits.{with_output}
+use Rattle.opgen_net.specs.Placed.{with_output}
 use Rattle.opgen_digits.specs.Digit.{Known}
 use Rattle.opgen_digits.proofs.Results.{still_there}
 use Rattle.opgen_digits.proofs.output_results.Goals as goal

@@ -5,7 +5,8 @@ use Rattle.opgen_net.specs.declared.cell.Class.TheVariants as class
 use Rattle.opgen_net.specs.declared.net.Net.{Net}
 use Rattle.opgen_net.specs.declared.node.Node.TheVariants as node
 use Rattle.opgen_net.specs.Valid.{FitsNodes, FitsChoice, widths}
-use Rattle.opgen_digits.specs.Digit.{is_not_negative, lowest, with_node, with_difference, with_digit, digit_place}
+use Rattle.opgen_net.specs.Placed.{with_last}
+use Rattle.opgen_digits.specs.Digit.{is_not_negative, lowest, with_difference, with_digit, digit_place}
 use Rattle.opgen_digits.proofs.Digit.{one-width, choice-fits}
 use Rattle.opgen_digits.proofs.Expressions.{difference-fits, not_negative-fits}
 use Rattle.opgen_digits.proofs.try_digit.Goals as goal
@@ -22,7 +23,7 @@ cells-requires-2-clause-fits c =
     let net = c.args.net.now in
     let rest = c.args.rest in
     let one : c.cells.new.self ≡ with_difference rest net c.args.a c.args.b =
-    c.in_ok-difference-2.ensures.ok ∙ ap (λ (e : Tree). with_node net (node.Cells class.Add (rest + 2) e)) c.in_ok-difference.ensures in
+    c.in_ok-difference-2.ensures.ok ∙ ap (λ (e : Tree). with_last net (node.Cells class.Add (rest + 2) e)) c.in_ok-difference.ensures in
     let place : length net.nodes ≡ c.in_ok-difference-2.difference = sym c.in_ok-difference-2.ensures.place in
     let fits =
     not_negative-fits (widths (with_difference rest net c.args.a c.args.b).nodes) rest (length net.nodes)
@@ -36,13 +37,13 @@ choice-requires-clause-fits c =
     let net = c.args.net.now in
     let rest = c.args.rest in
     let one : c.cells.new.self ≡ with_difference rest net c.args.a c.args.b =
-    c.in_ok-difference-2.ensures.ok ∙ ap (λ (e : Tree). with_node net (node.Cells class.Add (rest + 2) e)) c.in_ok-difference.ensures in
+    c.in_ok-difference-2.ensures.ok ∙ ap (λ (e : Tree). with_last net (node.Cells class.Add (rest + 2) e)) c.in_ok-difference.ensures in
     let place : c.in_ok-difference-2.difference ≡ length net.nodes = c.in_ok-difference-2.ensures.place in
     let two : c.cells-2.new.self ≡ with_digit rest net c.args.a c.args.b =
     c.in_ok-digit.ensures.ok
-    ∙ ap (λ (e : Tree). with_node c.cells.new.self (node.Cells class.Logic 1 e))
+    ∙ ap (λ (e : Tree). with_last c.cells.new.self (node.Cells class.Logic 1 e))
     (c.in_ok-not_negative.ensures ∙ ap (is_not_negative rest) place)
-    ∙ ap (λ (n : Net). with_node n (node.Cells class.Logic 1 (is_not_negative rest (length net.nodes)))) one in
+    ∙ ap (λ (n : Net). with_last n (node.Cells class.Logic 1 (is_not_negative rest (length net.nodes)))) one in
     let place_q = digit_place rest net c.args.a c.args.b in
     let digit : c.in_ok-digit.digit ≡ place_q =
     c.in_ok-digit.ensures.place ∙ ap (λ (n : Net). length n.nodes) one in

@@ -2,7 +2,7 @@ use Rattle.std.proofs.Common.{◌≡◌, ℕ, ◌+◌, List, [], ◌∷◌, ◌+
 use Rattle.opgen_net.specs.declared.net.Net.{Net}
 use Rattle.opgen_net.specs.declared.word_bits.WordBit.{WordBit}
 use Rattle.opgen_net.specs.declared.word_bits.WordBit.TheVariants.{Zero}
-use Rattle.opgen_digits.specs.Bits.{with_bits}
+use Rattle.opgen_net.specs.Placed.{with_bits}
 use Rattle.opgen_digits.specs.Digit.{AreOperands}
 use Rattle.opgen_divide.proofs.Steps.{operands-of}
 use Rattle.opgen_divide.proofs.step.Goals as goal

@@ -15,12 +15,16 @@ pub elements-preserved : goal.elements-preserved
 elements-preserved c =
     let (some, within, stands) = rw c.in-Some-Token.field-0-is at c.in-Some-Token.ensures in
     record {
-      cut = rw c.in_ok-push-in-Some-Token.ensures.items (cut_to-token c.args.bytes.now c.elements.at c.in-Some-Token.len within c.in-Some-Token.kind c.elements.found.items c.elements.invariant.cut stands);
+      cut = rw c.in_ok-push-in-Some-Token.ensures.items
+          (cut_to-token c.args.bytes.now c.elements.at c.in-Some-Token.len within c.in-Some-Token.kind c.elements.found.items
+          c.elements.invariant.cut stands);
       within = omega (arith, within, length-drop c.elements.at c.args.bytes.now, c.elements.invariant.within);
     }
 
 pub returns-clause-in_order : goal.returns-clause-in_order
-returns-clause-in_order c = tokens-in_order c.args.bytes.now c.elements.found.items (cut_to_end c.args.bytes.now c.elements.at c.elements.found.items c.elements-test.false c.elements.invariant.cut)
+returns-clause-in_order c = tokens-in_order c.args.bytes.now c.elements.found.items
+    (cut_to_end c.args.bytes.now c.elements.at c.elements.found.items c.elements-test.false c.elements.invariant.cut)
 
 pub returns-clause-within : goal.returns-clause-within
-returns-clause-within c = tokens-within c.args.bytes.now c.elements.found.items (cut_to_end c.args.bytes.now c.elements.at c.elements.found.items c.elements-test.false c.elements.invariant.cut)
+returns-clause-within c = tokens-within c.args.bytes.now c.elements.found.items
+    (cut_to_end c.args.bytes.now c.elements.at c.elements.found.items c.elements-test.false c.elements.invariant.cut)

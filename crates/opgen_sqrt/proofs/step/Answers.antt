@@ -7,7 +7,7 @@ use Rattle.opgen_net.specs.declared.word_bits.WordBit.TheVariants.{Zero, One}
 use Rattle.opgen_net.specs.Valid.{IsValid, widths}
 use Rattle.opgen_net.specs.WordRule.{IsThere}
 use Rattle.opgen_net.proofs.Grown.{grown-all_there}
-use Rattle.opgen_digits.specs.Bits.{with_bits}
+use Rattle.opgen_net.specs.Placed.{with_bits}
 use Rattle.opgen_digits.specs.Digit.{AreOperands}
 use Rattle.opgen_sqrt.proofs.Steps.{taken-there, first-later, operands-of}
 use Rattle.opgen_sqrt.proofs.step.Goals as goal

@@ -41,5 +41,14 @@ returns-then-weight-constant-clause-columns c =
       c.columns.invariant.2,
       omega (arith, c.columns.invariant.0, c.columns.invariant.1),
       λ more within least.
-          cut_is_greatest c.args.m c.args.n k (2 ^ (c.args.p - 1)) (omega (arith, whole, value, c.columns.invariant.0, weight_below-suc c.args.m c.args.n k, half c.args.p c.requires.p.1, c.if-weight-constant.true)) more least,
+          cut_is_greatest c.args.m c.args.n k (2 ^ (c.args.p - 1))
+          (omega (
+            arith,
+            whole,
+            value,
+            c.columns.invariant.0,
+            weight_below-suc c.args.m c.args.n k,
+            half c.args.p c.requires.p.1,
+            c.if-weight-constant.true,
+          )) more least,
     )

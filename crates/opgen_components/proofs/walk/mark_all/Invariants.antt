@@ -4,4 +4,5 @@ use Rattle.opgen_components.proofs.walk.mark_all.Given as goal
 
 abbrev pub invariant-loop-node : goal.invariant-loop-node
 invariant-loop-node l =
-    (marked l.marks.items (drop l.node-index l.nodes) l.mark ≡ marked l.initial.marks.items l.nodes l.mark) × (length l.marks.items ≡ length l.initial.marks.items)
+    (marked l.marks.items (drop l.node-index l.nodes) l.mark ≡ marked l.initial.marks.items l.nodes l.mark)
+    × (length l.marks.items ≡ length l.initial.marks.items)

@@ -18,34 +18,43 @@ logic-requires-clause-fits c =
     let P = IsThere (widths net.nodes) in
     let column : c.args.column.now ≡ c.take-a.result ∷ c.take-b.result ∷ c.take-b.new.self = search rules in
     let front = front-two P c.take-a.result c.take-b.result c.take-b.new.self (subst (All P) column c.requires.there.column) in
-    subst (FitsNodes (widths net.nodes) 1) (sym c.in_ok-sum.ensures) (half_sum-fits (widths net.nodes) c.take-a.result c.take-b.result front)
+    subst (FitsNodes (widths net.nodes) 1) (sym c.in_ok-sum.ensures)
+    (half_sum-fits (widths net.nodes) c.take-a.result c.take-b.result front)
 
 pub returns-then-top-clause-there : goal.returns-then-top-clause-there
 returns-then-top-clause-there c =
     let after : Work = record { net = c.logic.new.net; column = c.push.new.self; carries = c.args.carries.now } in
     let ok : half_adder c.args.top c.args.net.now c.args.column.now c.args.carries.now ≡ after = search rules in
-    subst WorkThere ok (half-reduced c.args.top c.args.net.now c.requires.net c.args.carries.now c.requires.there.carries c.args.column.now c.requires.there.column).there
+    subst WorkThere ok (half-reduced c.args.top c.args.net.now c.requires.net c.args.carries.now c.requires.there.carries c.args.column.now
+    c.requires.there.column).there
 
 pub half_carry-requires-clause-there : goal.half_carry-requires-clause-there
 half_carry-requires-clause-there c =
     let net = c.args.net.now in
     let column : c.args.column.now ≡ c.take-a.result ∷ c.take-b.result ∷ c.take-b.new.self = search rules in
-    let one : c.logic.new.net ≡ with_logic net (half_sum c.take-a.result c.take-b.result) = c.in_ok-logic.ensures.ok ∙ ap (λ e. record net { nodes = net.nodes ++ Cells Logic 1 e ∷ [] }) c.in_ok-sum.ensures in
-    half-still_there net c.logic.new.net c.args.column.now c.take-a.result c.take-b.result c.take-b.new.self c.requires.net c.requires.there.column column one
+    let one : c.logic.new.net ≡ with_logic net (half_sum c.take-a.result c.take-b.result) = c.in_ok-logic.ensures.ok
+    ∙ ap (λ e. record net { nodes = net.nodes ++ Cells Logic 1 e ∷ [] }) c.in_ok-sum.ensures in
+    half-still_there net c.logic.new.net c.args.column.now c.take-a.result c.take-b.result c.take-b.new.self c.requires.net
+    c.requires.there.column column one
 
 pub logic-requires-2-clause-fits : goal.logic-requires-2-clause-fits
 logic-requires-2-clause-fits c =
     let net = c.args.net.now in
     let column : c.args.column.now ≡ c.take-a.result ∷ c.take-b.result ∷ c.take-b.new.self = search rules in
-    let one : c.logic.new.net ≡ with_logic net (half_sum c.take-a.result c.take-b.result) = c.in_ok-logic.ensures.ok ∙ ap (λ e. record net { nodes = net.nodes ++ Cells Logic 1 e ∷ [] }) c.in_ok-sum.ensures in
+    let one : c.logic.new.net ≡ with_logic net (half_sum c.take-a.result c.take-b.result) = c.in_ok-logic.ensures.ok
+    ∙ ap (λ e. record net { nodes = net.nodes ++ Cells Logic 1 e ∷ [] }) c.in_ok-sum.ensures in
     let ws = widths c.logic.new.net.nodes in
-    subst (FitsNodes ws 1) (sym c.in_ok-both.ensures) (half_carry-fits ws c.take-a.result c.take-b.result (half-still_there net c.logic.new.net c.args.column.now c.take-a.result c.take-b.result c.take-b.new.self c.requires.net c.requires.there.column column one))
+    subst (FitsNodes ws 1) (sym c.in_ok-both.ensures)
+    (half_carry-fits ws c.take-a.result c.take-b.result
+    (half-still_there net c.logic.new.net c.args.column.now c.take-a.result c.take-b.result c.take-b.new.self c.requires.net
+    c.requires.there.column column one))
 
 pub returns-clause-there : goal.returns-clause-there
 returns-clause-there c =
     let after : Work = record { net = c.logic-2.new.net; column = c.push.new.self; carries = c.push-2.new.self } in
     let ok : half_adder c.args.top c.args.net.now c.args.column.now c.args.carries.now ≡ after = search rules in
-    subst WorkThere ok (half-reduced c.args.top c.args.net.now c.requires.net c.args.carries.now c.requires.there.carries c.args.column.now c.requires.there.column).there
+    subst WorkThere ok (half-reduced c.args.top c.args.net.now c.requires.net c.args.carries.now c.requires.there.carries c.args.column.now
+    c.requires.there.column).there
 
 pub half_sum-requires-clause-there : goal.half_sum-requires-clause-there
 half_sum-requires-clause-there c =

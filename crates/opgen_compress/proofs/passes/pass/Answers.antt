@@ -17,7 +17,8 @@ reduce-requires-clause-there c =
     let column = c.first-column.result in
     let rest = c.first-column.new.columns.items in
     let queue : c.append.new.self ≡ column ++ c.columns.carries = search rules in
-    subst (All (IsThere (widths net.nodes))) (sym queue) (with_carries net column c.columns.carries rest (subst (AllThere net) c.first-column.ensures i.1) i.2)
+    subst (All (IsThere (widths net.nodes))) (sym queue)
+    (with_carries net column c.columns.carries rest (subst (AllThere net) c.first-column.ensures i.1) i.2)
 
 pub columns-preserved : goal.columns-preserved
 columns-preserved c =
@@ -32,15 +33,19 @@ columns-preserved c =
     let after : State = pass h w.net w.carries rest in
     let queue : c.append.new.self ≡ column ++ carries = search rules in
     let here : AllThere net (column ∷ rest) = subst (AllThere net) c.first-column.ensures i.1 in
-    let there : All (IsThere (widths net.nodes)) c.append.new.self = subst (All (IsThere (widths net.nodes))) (sym queue) (with_carries net column carries rest here i.2) in
+    let there : All (IsThere (widths net.nodes)) c.append.new.self = subst (All (IsThere (widths net.nodes))) (sym queue)
+    (with_carries net column carries rest here i.2) in
     let last : c.is_last.result ≡ is_none rest = search rules in
     let next = one_column h net carries column rest c.is_last.result c.append.new.self w last queue c.in_ok-carries.ensures.ok in
     let more : c.push.new.self ≡ lower ++ w.column ∷ [] = c.in_ok-push.ensures.ok in (
       i.0
-          ∙ ap (λ (cs : List Column). let s : State = pass h net carries cs in (record { net = s.net; columns = lower ++ s.columns })) c.first-column.ensures
+          ∙ ap (λ (cs : List Column). let s : State = pass h net carries cs in (record { net = s.net; columns = lower ++ s.columns }))
+          c.first-column.ensures
           ∙ ap (λ (s : State). (record { net = s.net; columns = lower ++ s.columns })) next
-          ∙ ap (λ cs. (record { net = after.net; columns = cs })) (sym (append_assoc lower (w.column ∷ []) after.columns) ∙ ap (λ ls. ls ++ after.columns) (sym more)),
-      others-there h net c.append.new.self rest c.is_last.result w i.3 there (rest_columns (All (IsThere (widths net.nodes))) column rest here) c.in_ok-carries.ensures.ok,
+          ∙ ap (λ cs. (record { net = after.net; columns = cs }))
+          (sym (append_assoc lower (w.column ∷ []) after.columns) ∙ ap (λ ls. ls ++ after.columns) (sym more)),
+      others-there h net c.append.new.self rest c.is_last.result w i.3 there
+          (rest_columns (All (IsThere (widths net.nodes))) column rest here) c.in_ok-carries.ensures.ok,
       c.in_ok-carries.ensures.there.carries,
       c.reduce.ensures.valid,
     )
@@ -55,6 +60,7 @@ returns-clause-there c =
     let none : c.columns.rest.items ≡ [] = no_columns c.columns.rest.items count in
     let vec : lower ≡ c.into_vec.result.items = search rules in
     let ok = c.columns.invariant.0
-    ∙ ap (λ (cs : List Column). let s : State = pass h net c.columns.carries cs in (record { net = s.net; columns = lower ++ s.columns })) none
+    ∙ ap (λ (cs : List Column). let s : State = pass h net c.columns.carries cs in (record { net = s.net; columns = lower ++ s.columns }))
+    none
     ∙ ap (λ cs. (record { net = net; columns = cs })) (append-nil lower ∙ vec) in
     subst (λ (s : State). AllThere s.net s.columns) ok law.there

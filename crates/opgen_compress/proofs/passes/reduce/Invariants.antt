@@ -10,7 +10,8 @@ abbrev pub invariant-adders : goal.invariant-adders
 invariant-adders l =
     let now : Work = record { net = l.net; column = l.column; carries = l.carries } in
     let start : Work = record { net = l.initial.net; column = l.initial.column; carries = [] } in
-    (l.excess ≡ length l.column - l.height) × (reduced l.excess l.top now ≡ reduced (length l.initial.column - l.height) l.top start) × WorkThere now × IsValid l.net
+    (l.excess ≡ length l.column - l.height) × (reduced l.excess l.top now ≡ reduced (length l.initial.column - l.height) l.top start)
+    × WorkThere now × IsValid l.net
 
 abbrev pub decreases-adders : goal.decreases-adders
 decreases-adders l = l.excess

@@ -40,7 +40,8 @@ word-requires-2-clause-there c =
     let bits_2 : c.deref-2.result.now ≡ row 1 columns = search rules in
     let grown = c.in_ok-a.ensures.ok ∙ ap (λ (b : List WordBit). record net { nodes = (with_word net.nodes b).nodes }) bits in
     let later : Later net one = word-later net one (row 0 columns) grown c.word.ensures.valid in
-    subst (All (IsThere (widths one.nodes))) (sym bits_2) (row-there one 1 columns (columns-still_there net one later.grown columns c.requires.there))
+    subst (All (IsThere (widths one.nodes))) (sym bits_2)
+    (row-there one 1 columns (columns-still_there net one later.grown columns c.requires.there))
 
 pub cells-requires-clause-fits : goal.cells-requires-clause-fits
 cells-requires-clause-fits c =
@@ -52,10 +53,14 @@ cells-requires-clause-fits c =
     let bits_2 : c.deref-2.result.now ≡ row 1 columns = search rules in
     let grown = c.in_ok-b.ensures.ok ∙ ap (λ (b : List WordBit). record one { nodes = (with_word one.nodes b).nodes }) bits_2 in
     let later : Later one two_words = word-later one two_words (row 1 columns) grown c.word-2.ensures.valid in
-    let wide : slice_index (widths one.nodes) c.in_ok-a.a ≡ width = c.in_ok-a.ensures.width ∙ ap length bits ∙ row-length 0 columns ∙ c.requires.columns in
-    let wide_a : slice_index (widths two_words.nodes) c.in_ok-a.a ≡ width = grown-width one two_words later.grown c.in_ok-a.a (node-there one c.in_ok-a.a width c.requires.width wide) ∙ wide in
-    let wide_b : slice_index (widths two_words.nodes) c.in_ok-b.b ≡ width = c.in_ok-b.ensures.width ∙ ap length bits_2 ∙ row-length 1 columns ∙ c.requires.columns in
-    subst (FitsNodes (widths two_words.nodes) width) (sym c.in_ok-sum_of.ensures) (sum-fits two_words c.in_ok-a.a c.in_ok-b.b width c.requires.width wide_a wide_b)
+    let wide : slice_index (widths one.nodes) c.in_ok-a.a ≡ width = c.in_ok-a.ensures.width ∙ ap length bits ∙ row-length 0 columns
+    ∙ c.requires.columns in
+    let wide_a : slice_index (widths two_words.nodes) c.in_ok-a.a
+    ≡ width = grown-width one two_words later.grown c.in_ok-a.a (node-there one c.in_ok-a.a width c.requires.width wide) ∙ wide in
+    let wide_b : slice_index (widths two_words.nodes) c.in_ok-b.b ≡ width = c.in_ok-b.ensures.width ∙ ap length bits_2
+    ∙ row-length 1 columns ∙ c.requires.columns in
+    subst (FitsNodes (widths two_words.nodes) width) (sym c.in_ok-sum_of.ensures)
+    (sum-fits two_words c.in_ok-a.a c.in_ok-b.b width c.requires.width wide_a wide_b)
 
 pub returns-clause-sum : goal.returns-clause-sum
 returns-clause-sum c =
@@ -72,9 +77,12 @@ returns-clause-sum c =
     let after : Later one two_words = word-later one two_words (row 1 columns) grown_2 c.word-2.ensures.valid in
     let first = subst (λ (bs : List WordBit). HasBits net bs one.nodes c.in_ok-a.a) bits c.in_ok-a.ensures.bits in
     let second = subst (λ (bs : List WordBit). HasBits one bs two_words.nodes c.in_ok-b.b) bits_2 c.in_ok-b.ensures.bits in
-    let wide : slice_index (widths one.nodes) c.in_ok-a.a ≡ width = c.in_ok-a.ensures.width ∙ ap length bits ∙ row-length 0 columns ∙ c.requires.columns in
-    let sum = c.in_ok-sum.ensures.ok ∙ ap (λ e. record two_words { nodes = two_words.nodes ++ Cells Add width e ∷ [] }) c.in_ok-sum_of.ensures in
-    rows-sum net columns width c.requires.columns one two_words c.cells.new.self c.in_ok-a.a c.in_ok-b.b c.in_ok-sum.sum later after c.requires.width c.requires.two c.requires.there
+    let wide : slice_index (widths one.nodes) c.in_ok-a.a ≡ width = c.in_ok-a.ensures.width ∙ ap length bits ∙ row-length 0 columns
+    ∙ c.requires.columns in
+    let sum = c.in_ok-sum.ensures.ok ∙ ap (λ e. record two_words { nodes = two_words.nodes ++ Cells Add width e ∷ [] })
+    c.in_ok-sum_of.ensures in
+    rows-sum net columns width c.requires.columns one two_words c.cells.new.self c.in_ok-a.a c.in_ok-b.b c.in_ok-sum.sum later after
+    c.requires.width c.requires.two c.requires.there
     first second wide sum c.in_ok-sum.ensures.place
 
 pub returns-clause-width : goal.returns-clause-width
@@ -104,4 +112,5 @@ returns-clause-grown c =
     let grown_2 = c.in_ok-b.ensures.ok ∙ ap (λ (b : List WordBit). record one { nodes = (with_word one.nodes b).nodes }) bits_2 in
     let after : Later one two_words = word-later one two_words (row 1 columns) grown_2 c.word-2.ensures.valid in
     let last = grown-more two_words (Cells Add c.args.width (plain c.in_ok-sum_of.field-0) ∷ []) in
-    grown-then net two_words c.cells.new.self (grown-then net one two_words later.grown after.grown) (subst (HasGrown two_words) (sym c.in_ok-sum.ensures.ok) last)
+    grown-then net two_words c.cells.new.self (grown-then net one two_words later.grown after.grown)
+    (subst (HasGrown two_words) (sym c.in_ok-sum.ensures.ok) last)

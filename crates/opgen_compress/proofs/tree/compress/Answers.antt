@@ -18,7 +18,8 @@ pub finish-requires-clause-columns : goal.finish-requires-clause-columns
 finish-requires-clause-columns c =
     let s : State = record { net = c.lower.new.net; columns = c.deref.result.now } in
     let left : lowered c.args.net.now (all_columns c.args.heap) ≡ s = search rules in
-    let p = subst (Passed c.args.net.now [] (all_columns c.args.heap)) left (all-lowered c.args.net.now c.args.heap c.requires.net c.requires.there) in
+    let p = subst (Passed c.args.net.now [] (all_columns c.args.heap)) left
+    (all-lowered c.args.net.now c.args.heap c.requires.net c.requires.there) in
     p.many ∙ all_columns-length c.args.heap ∙ sym c.width-width.ensures.value
 
 pub finish-requires-clause-two : goal.finish-requires-clause-two
@@ -31,7 +32,8 @@ pub finish-requires-clause-there : goal.finish-requires-clause-there
 finish-requires-clause-there c =
     let s : State = record { net = c.lower.new.net; columns = c.deref.result.now } in
     let left : lowered c.args.net.now (all_columns c.args.heap) ≡ s = search rules in
-    let p = subst (Passed c.args.net.now [] (all_columns c.args.heap)) left (all-lowered c.args.net.now c.args.heap c.requires.net c.requires.there) in
+    let p = subst (Passed c.args.net.now [] (all_columns c.args.heap)) left
+    (all-lowered c.args.net.now c.args.heap c.requires.net c.requires.there) in
     p.there
 
 pub returns-clause-sum : goal.returns-clause-sum
@@ -40,7 +42,8 @@ returns-clause-sum c =
     let s : State = record { net = c.lower.new.net; columns = c.deref.result.now } in
     let left : lowered c.args.net.now (all_columns heap) ≡ s = search rules in
     let p = subst (Passed c.args.net.now [] (all_columns heap)) left (all-lowered c.args.net.now heap c.requires.net c.requires.there) in
-    let sum = subst (λ w. IsSumOfColumns s.net s.columns w c.finish.new.net.nodes c.in_ok-answer.answer) c.width-width.ensures.value c.in_ok-answer.ensures.sum in
+    let sum = subst (λ w. IsSumOfColumns s.net s.columns w c.finish.new.net.nodes c.in_ok-answer.answer) c.width-width.ensures.value
+    c.in_ok-answer.ensures.sum in
     heap-sum c.args.net.now heap s c.finish.new.net.nodes c.in_ok-answer.answer c.columns_of.ensures.few c.columns_of.ensures.below p sum
 
 pub returns-clause-grown : goal.returns-clause-grown

@@ -13,4 +13,5 @@ overflow_mul-result c =
 pub returns : goal.returns
 returns c =
     let d : to_z w64 (of_z w64 c.from.result) ≡ c.args.digit = omega (arith, ints) in
-    rw (d, shifted c.args.place c.requires.place) (to_z-of_z w64 _ (product_fits c.args.digit c.args.place c.requires.digit c.requires.place))
+    rw (d, shifted c.args.place c.requires.place)
+    (to_z-of_z w64 _ (product_fits c.args.digit c.args.place c.requires.digit c.requires.place))

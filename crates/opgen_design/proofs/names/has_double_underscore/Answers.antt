@@ -8,4 +8,5 @@ use Rattle.opgen_design.proofs.names.has_double_underscore.Goals as goal
 pub returns : goal.returns
 returns c =
     let name = c.args.name.now in
-    one_answer {P = HasSubslice name (95 ∷ 95 ∷ [])} _ _ (contains_text _ (95 ∷ 95 ∷ []) name c.contains.ensures.cases) (double_split name, double_joined name)
+    one_answer {P = HasSubslice name (95 ∷ 95 ∷ [])} _ _ (contains_text _ (95 ∷ 95 ∷ []) name c.contains.ensures.cases)
+    (double_split name, double_joined name)

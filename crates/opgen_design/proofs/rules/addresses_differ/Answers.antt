@@ -38,7 +38,8 @@ of-all (Err e) P Q h f g = tt
 pub returns : goal.returns
 returns c =
     let rows = c.args.rows.now in
-    let e : c.deref.result.now ≡ map (λ r. nat r.0) rows = c.deref.ensures.value ∙ c.loop-address.invariant ∙ ap (λ x. map (λ r. nat r.0) x) (take_all c.loop-address.address-index rows c.loop-address-test.false) in
+    let e : c.deref.result.now ≡ map (λ r. nat r.0) rows = c.deref.ensures.value ∙ c.loop-address.invariant
+    ∙ ap (λ x. map (λ r. nat r.0) x) (take_all c.loop-address.address-index rows c.loop-address-test.false) in
     of-all c.all_differ.result (AllPairs (λ x y. x ≢ y) c.deref.result.now) (DifferentAddresses rows) c.all_differ.ensures
     (λ h. pairs-differ rows c.requires (subst (AllPairs (λ x y. x ≢ y)) e h))
     (λ h. subst (AllPairs (λ x y. x ≢ y)) (sym e) (differ-pairs rows c.requires h))

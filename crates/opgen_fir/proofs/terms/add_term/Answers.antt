@@ -16,7 +16,7 @@ use Rattle.opgen_kcm.specs.Entries.{in_guard_units}
 use Rattle.opgen_kcm.specs.Multiple.{HasRisen, sum_at}
 use Rattle.opgen_kcm.specs.Recipe.{Terms, with_rows, input_width, HasNarrowRows}
 use Rattle.opgen_kcm.proofs.Kept.{more-same}
-use Rattle.opgen_kcm.proofs.Residues.{residue-none}
+use Rattle.opgen_heap.proofs.Residues.{residue-none}
 use Rattle.opgen_fir.specs.Recipe.{is_zero, factor, sum_width}
 use Rattle.opgen_fir.specs.Summed.{units}
 use Rattle.opgen_fir.proofs.Factors.{den-units, units-some, factor-some}
@@ -141,7 +141,8 @@ returns-clause-term c = λ inputs t words.
     let risen =
     subst (λ v. HasRisen (factor s k) (guard_bits s) (chunk_count v) (number signed v x) width a b) (c.requires.width some)
     (subst (λ h. HasRisen (factor s k) h (chunk_count w) (number signed w x) width a b) c.guard_bits-guard.ensures.value
-    (subst (λ (r : Ratio). HasRisen r g (chunk_count w) (number signed w x) width a b) q (c.in_ok-rows_of.ensures.risen c.requires.bits inputs t words))) in
+    (subst (λ (r : Ratio). HasRisen r g (chunk_count w) (number signed w x) width a b) q
+    (c.in_ok-rows_of.ensures.risen c.requires.bits inputs t words))) in
     record {
       by = risen.by;
       nothing = λ e. let clash : true ≡ false = sym e ∙ some in let no : ⊥ = cc in absurd no;

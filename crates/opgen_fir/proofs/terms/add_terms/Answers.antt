@@ -18,7 +18,7 @@ use Rattle.opgen_kcm.specs.Multiple.{sum_at}
 use Rattle.opgen_kcm.specs.Recipe.{Terms, HasTermsMore}
 use Rattle.opgen_net.proofs.Later.{words-grown}
 use Rattle.opgen_kcm.proofs.Kept.{more-same, more-then, terms-same}
-use Rattle.opgen_kcm.proofs.Residues.{residue-natural}
+use Rattle.opgen_heap.proofs.Residues.{residue-natural}
 use Rattle.opgen_fir.specs.Recipe.{is_zero, tapped, no_terms, with_term, with_terms, sum_width}
 use Rattle.opgen_fir.specs.Summed.{recent, HasTerm, HasSum}
 use Rattle.opgen_fir.proofs.Factors.{coef-fits}

@@ -10,7 +10,13 @@ use Rattle.opgen_operator.specs.Ranges.{IsWithin}
 use Rattle.opgen_fir.proofs.tests.third.Goals as goal
 
 abbrev third : List ℤ → Sum
-third coefs = record { input = record { signed = false; width = 4; lsb = pos 0 }; out_lsb = pos 0; coefs = coefs; den = pos 3; exact = false }
+third coefs = record {
+  input = record { signed = false; width = 4; lsb = pos 0 };
+  out_lsb = pos 0;
+  coefs = coefs;
+  den = pos 3;
+  exact = false;
+}
 
 not-asked : IsTrue false → inexact (Fir (third (pos 1 ∷ []))) ≡ None
 not-asked h = let clash : false ≡ true = h in let no : ⊥ = cc in absurd no

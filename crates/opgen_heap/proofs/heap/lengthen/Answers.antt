@@ -11,5 +11,6 @@ loop-columns-preserved c =
     rw e (
       omega (arith, i.0, length-append cs ([] ∷ [])),
       take-append-le (length c.args.columns.now.items) cs ([] ∷ []) i.0 ∙ i.1,
-      one_column cs c.args.count (length (cs ++ [] ∷ [])) (length-append cs ([] ∷ [])) (omega (arith, length-append cs ([] ∷ []), c.loop-columns-test.true, c.len.ensures)) ∙ i.2,
+      one_column cs c.args.count (length (cs ++ [] ∷ [])) (length-append cs ([] ∷ []))
+          (omega (arith, length-append cs ([] ∷ []), c.loop-columns-test.true, c.len.ensures)) ∙ i.2,
     )

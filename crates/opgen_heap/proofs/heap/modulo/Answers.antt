@@ -16,9 +16,11 @@ returns-clause-value c =
     let m = 2 ^ c.args.width in
     let most : 2 ^ c.args.width ≤ 2 ^ MAX_WIDTH = pow-le-pow_right {n = 2} (omega arith) {i = c.args.width} {j = MAX_WIDTH} c.requires in
     let w : 1 * 2 ^ c.args.width % 340282366920938463463374607431768211456 ≡ 2 ^ c.args.width = omega (arith, most) in
-    let divisor : to_z w128 (1 * 2 ^ c.args.width % 340282366920938463463374607431768211456) ≡ pos (2 ^ c.args.width) = ap (to_z w128) w ∙ to_z_pos w128 (2 ^ c.args.width) (omega (arith, most)) in
+    let divisor : to_z w128 (1 * 2 ^ c.args.width % 340282366920938463463374607431768211456) ≡ pos (2 ^ c.args.width) = ap (to_z w128) w
+    ∙ to_z_pos w128 (2 ^ c.args.width) (omega (arith, most)) in
     let rest : c.rem_euclid.result ≡ int_rem_euclid c.args.value (pos (2 ^ c.args.width)) =
     c.rem_euclid.ensures.value
-    ∙ ap (λ z. int_rem_euclid z (to_z w128 (1 * 2 ^ c.args.width % 340282366920938463463374607431768211456))) (to_z-of_z w128 c.args.value c.ranges.value)
+    ∙ ap (λ z. int_rem_euclid z (to_z w128 (1 * 2 ^ c.args.width % 340282366920938463463374607431768211456)))
+    (to_z-of_z w128 c.args.value c.ranges.value)
     ∙ ap (int_rem_euclid c.args.value) divisor in
     c.unsigned_abs.ensures.value ∙ ap unsigned_abs (to_z-of_z w128 c.rem_euclid.result (record { sfits = c.rem_euclid.type_inv }) ∙ rest)

@@ -7,4 +7,7 @@ use Rattle.opgen_heap_cases.proofs.sums.add.Goals as goal
 
 pub returns-in_ok-add_bit : goal.returns-in_ok-add_bit
 returns-in_ok-add_bit c =
-    rw c.in_ok-add_bit.ensures.ok (record { there = with_bit-all (IsThere (widths c.args.net.now.nodes)) c.args.heap.now (Of c.args.bit.node c.args.bit.index) c.args.bit.weight (omega (arith, c.width_of.ensures, c.if-bit-width_of.true)) c.requires.there })
+    rw c.in_ok-add_bit.ensures.ok (record {
+      there = with_bit-all (IsThere (widths c.args.net.now.nodes)) c.args.heap.now (Of c.args.bit.node
+          c.args.bit.index) c.args.bit.weight (omega (arith, c.width_of.ensures, c.if-bit-width_of.true)) c.requires.there;
+    })

@@ -16,7 +16,7 @@ use Rattle.opgen_kcm.proofs.Bounds.{abs-some, guard-few, scaled-small, scaled-ro
 use Rattle.opgen_net.proofs.Later.{words-grown}
 use Rattle.opgen_kcm.proofs.Kept.{terms-same, more-then, more-same}
 use Rattle.opgen_kcm.proofs.Multiples.{total, total-multiple}
-use Rattle.opgen_kcm.proofs.Residues.{residue-none, residue-then}
+use Rattle.opgen_heap.proofs.Residues.{residue-none, residue-then}
 use Rattle.opgen_kcm.proofs.rows.rows_of.Goals as goal
 
 pub in_guard_units-units-requires-clause-guard : goal.in_guard_units-units-requires-clause-guard

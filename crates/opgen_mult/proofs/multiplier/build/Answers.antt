@@ -64,4 +64,5 @@ returns-clause-fits c =
     ∙ ap (λ low. record three { outputs = three.outputs ++ output_of node low c.output.result.width ∷ [] }) c.bits_below-low.ensures.value
     ∙ ap (λ (f : Format). record three { outputs = three.outputs ++ output_of node (bits_below p) f.width ∷ [] }) c.output.ensures.value in
     net_fits p c.requires fit c.outputs_hold.ensures left c.cut_of-cut.ensures.columns w has heap added
-    two place c.in_ok-sum.ensures.sum c.in_ok-sum.ensures.valid c.in_ok-sum.ensures.grown wide three node above c.output-2.new.self is ports outs c.output-2.ensures.valid
+    two place c.in_ok-sum.ensures.sum c.in_ok-sum.ensures.valid c.in_ok-sum.ensures.grown wide three node above c.output-2.new.self is ports
+    outs c.output-2.ensures.valid

@@ -7,7 +7,8 @@ use Rattle.opgen_net.proofs.word_bits.with_top.Goals as goal
 pub overflow_add-bits : goal.overflow_add-bits
 overflow_add-bits c =
     let w = c.args.word in
-    let same : c.weight.result ≡ digit c.args.bit * 2 ^ length w = c.weight.ensures ∙ ap (λ k. digit c.args.bit * 2 ^ k) c.width-width.ensures in
+    let same : c.weight.result ≡ digit c.args.bit * 2 ^ length w = c.weight.ensures
+    ∙ ap (λ k. digit c.args.bit * 2 ^ k) c.width-width.ensures in
     let short : length w + 1 ≤ 128 = omega (arith, c.requires) in
     let most : 2 ^ (length w + 1) ≤ 2 ^ 128 = pow-le-pow_right {n = 2} (omega arith) {i = length w + 1} {j = 128} short in
     omega (arith, same, c.bits.ensures, top_below w c.args.bit, most)
@@ -15,7 +16,8 @@ overflow_add-bits c =
 pub returns : goal.returns
 returns c =
     let w = c.args.word in
-    let same : c.weight.result ≡ digit c.args.bit * 2 ^ length w = c.weight.ensures ∙ ap (λ k. digit c.args.bit * 2 ^ k) c.width-width.ensures in
+    let same : c.weight.result ≡ digit c.args.bit * 2 ^ length w = c.weight.ensures
+    ∙ ap (λ k. digit c.args.bit * 2 ^ k) c.width-width.ensures in
     c.new.ensures
     ∙ ap (λ k. word (k + 1) (c.bits.result + c.weight.result)) c.width-width.ensures
     ∙ ap (λ n. word (length w + 1) (n + c.weight.result)) c.bits.ensures

@@ -17,7 +17,8 @@ returns-then-lo-lt0-clause-least c =
     let high = simp to_z-of_z at c.magnitude.ensures.high in
     let least = simp to_z-of_z at c.magnitude.ensures.least in
     let negative = simp to_z-of_z at c.if-lo-lt0.true in
-    rw c.max.ensures (signed_width c.args.lo c.args.hi c.magnitude.result c.bit_length.result c.requires (grind (arith, ints)) low high least c.bit_length.ensures.holds c.bit_length.ensures.least)
+    rw c.max.ensures (signed_width c.args.lo c.args.hi c.magnitude.result c.bit_length.result c.requires
+    (grind (arith, ints)) low high least c.bit_length.ensures.holds c.bit_length.ensures.least)
 
 pub returns-else-lo-lt0-clause-least : goal.returns-else-lo-lt0-clause-least
 returns-else-lo-lt0-clause-least c =
@@ -25,10 +26,13 @@ returns-else-lo-lt0-clause-least c =
     let hi = c.ranges.hi in
     let value = simp to_z-of_z at c.unsigned_abs.ensures.value in
     let negative = simp to_z-of_z at c.if-lo-lt0.false in
-    rw c.max-else-lo-lt0.ensures (unsigned_width c.args.lo c.args.hi c.bit_length-else-lo-lt0.result (grind (arith, ints)) c.requires (rw value at c.bit_length-else-lo-lt0.ensures.holds) (rw value at c.bit_length-else-lo-lt0.ensures.least))
+    rw c.max-else-lo-lt0.ensures (unsigned_width c.args.lo c.args.hi c.bit_length-else-lo-lt0.result (grind (arith, ints)) c.requires
+    (rw value at c.bit_length-else-lo-lt0.ensures.holds) (rw value at c.bit_length-else-lo-lt0.ensures.least))
 
 pub returns-then-lo-lt0-clause-value : goal.returns-then-lo-lt0-clause-value
-returns-then-lo-lt0-clause-value c = least_width-unique c.args.lo c.args.hi _ _ (returns-then-lo-lt0-clause-least c) (range_width-least c.args.lo c.args.hi c.requires)
+returns-then-lo-lt0-clause-value c = least_width-unique c.args.lo c.args.hi _ _ (returns-then-lo-lt0-clause-least c)
+    (range_width-least c.args.lo c.args.hi c.requires)
 
 pub returns-else-lo-lt0-clause-value : goal.returns-else-lo-lt0-clause-value
-returns-else-lo-lt0-clause-value c = least_width-unique c.args.lo c.args.hi _ _ (returns-else-lo-lt0-clause-least c) (range_width-least c.args.lo c.args.hi c.requires)
+returns-else-lo-lt0-clause-value c = least_width-unique c.args.lo c.args.hi _ _ (returns-else-lo-lt0-clause-least c)
+    (range_width-least c.args.lo c.args.hi c.requires)

@@ -11,7 +11,8 @@ returns-then-rest-eq0 c =
     let whole = simp to_z-of_z at c.quotient-quotient.ensures.whole in
     let low = c.quotient-quotient.ensures.low in
     let high = simp to_z-of_z at c.quotient-quotient.ensures.high in (
-      (λ t. exact_if _ _ _ _ c.requires whole low high c.args.y (omega (arith, ints, eqb-true, eq-eqb)) (omega (arith, ints, eqb-true, eq-eqb))),
+      (λ t. exact_if _ _ _ _ c.requires whole low high c.args.y (omega (arith, ints, eqb-true, eq-eqb))
+          (omega (arith, ints, eqb-true, eq-eqb))),
       (λ t. omega (arith, ints, eqb-true, eq-eqb, exact_only _ _ _ _ c.requires whole low high c.args.y t)),
     )
 

@@ -9,11 +9,19 @@ returns-then-y-root c =
     let y = c.args.y in
     let r = c.args.r in
     let root = c.isqrt-root.ensures in (
-      (λ t. root_if n c.isqrt-root.result y r root.square_le root.next_square_gt (omega (arith, eqb-true, eq-eqb)) (omega (arith, eqb-true, eq-eqb))),
+      (λ t. root_if n c.isqrt-root.result y r root.square_le root.next_square_gt (omega (arith, eqb-true, eq-eqb))
+          (omega (arith, eqb-true, eq-eqb))),
       (λ t. omega (arith, eqb-true, eq-eqb, root_rest n c.isqrt-root.result y r (omega (arith, eqb-true, eq-eqb)) t)),
     )
 
 pub returns-else-y-root : goal.returns-else-y-root
 returns-else-y-root c =
-    let root = c.isqrt-root.ensures in
-    (λ t. absurd (omega (arith, eqb-true, eq-eqb)), λ t. absurd (omega (arith, eqb-true, eq-eqb, root_only c.args.n c.isqrt-root.result c.args.y c.args.r root.square_le root.next_square_gt t)))
+    let root = c.isqrt-root.ensures in (
+      λ t. absurd (omega (arith, eqb-true, eq-eqb)),
+      λ t. absurd (omega (
+        arith,
+        eqb-true,
+        eq-eqb,
+        root_only c.args.n c.isqrt-root.result c.args.y c.args.r root.square_le root.next_square_gt t,
+      )),
+    )

@@ -23,4 +23,5 @@ returns c =
     let format : c.constant_format.result ≡ constant_format c.args.input c.args.constant = simp to_z-of_z at c.constant_format.ensures in
     let num = simp to_z-of_z at c.product.ensures in
     let out = rw format at c.output.ensures in
-    good-along c.good_linear.result c.args.exact c.product.result _ (pos 1) (pos 1) c.output.result _ num refl out (simp to_z-of_z at c.good_linear.ensures)
+    good-along c.good_linear.result c.args.exact c.product.result _ (pos 1) (pos 1) c.output.result _ num refl out
+    (simp to_z-of_z at c.good_linear.ensures)

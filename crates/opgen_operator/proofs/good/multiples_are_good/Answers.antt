@@ -12,7 +12,8 @@ use Rattle.opgen_operator.proofs.good.multiples_are_good.Goals as goal
 
 pub bounds-outputs-place : goal.bounds-outputs-place
 bounds-outputs-place c =
-    let here : c.constants.constant-index < length c.args.several.now.constants = rw c.as_slice-constant-items.ensures at c.constants-test.true in
+    let here : c.constants.constant-index < length c.args.several.now.constants = rw c.as_slice-constant-items.ensures at
+    c.constants-test.true in
     omega (arith, c.constants.invariant.place, multiple-count c.args.several.now c.args.outputs.now c.requires.outputs)
 
 pub multiple_is_good-requires-clause-y : goal.multiple_is_good-requires-clause-y
@@ -23,7 +24,8 @@ multiple_is_good-requires-clause-y c =
     let constant : ℤ = get_or constants c.constants.constant-index (pos 0) in
     let small : unsigned_abs constant ≤ 2047 = c.requires.several.constants c.constants.constant-index (pos 0) here in
     let fits_constant : FitsSigned w64 constant = omega (arith, ints) in
-    rw (c.constants.invariant.place, same) (simp to_z-of_z (multiple-fits c.args.several.now c.args.outputs.now c.constants.constant-index (pos 0) c.requires.outputs here))
+    rw (c.constants.invariant.place, same) (simp to_z-of_z (multiple-fits c.args.several.now c.args.outputs.now c.constants.constant-index
+    (pos 0) c.requires.outputs here))
 
 pub returns-then-not-multiple_is_good : goal.returns-then-not-multiple_is_good
 returns-then-not-multiple_is_good c =
@@ -34,7 +36,8 @@ returns-then-not-multiple_is_good c =
     let small : unsigned_abs (get_or m.constants i (pos 0)) ≤ 2047 = c.requires.several.constants i (pos 0) here in
     let fits_constant : FitsSigned w64 (get_or m.constants i (pos 0)) = omega (arith, ints) in
     let fits_x = c.ranges.x in
-    let judged = multiple-judged m c.args.outputs.now i (pos 0) c.args.exact false c.args.x here (simp to_z-of_z at rw (same, c.constants.invariant.place) at c.if-not-multiple_is_good.ensures) in
+    let judged = multiple-judged m c.args.outputs.now i (pos 0) c.args.exact false c.args.x here
+    (simp to_z-of_z at rw (same, c.constants.invariant.place) at c.if-not-multiple_is_good.ensures) in
     (λ (none : IsTrue false). cc, λ all. judged.1 (all i (get_or m.constants i (pos 0)) (slice_get-get_or m.constants i (pos 0) here)))
 
 pub constants-preserved : goal.constants-preserved
@@ -46,10 +49,12 @@ constants-preserved c =
     let small : unsigned_abs (get_or m.constants i (pos 0)) ≤ 2047 = c.requires.several.constants i (pos 0) here in
     let fits_constant : FitsSigned w64 (get_or m.constants i (pos 0)) = omega (arith, ints) in
     let fits_x = c.ranges.x in
-    let judged = multiple-judged m c.args.outputs.now i (pos 0) c.args.exact true c.args.x here (simp to_z-of_z at rw (same, c.constants.invariant.place) at c.if-not-multiple_is_good.ensures) in
+    let judged = multiple-judged m c.args.outputs.now i (pos 0) c.args.exact true c.args.x here
+    (simp to_z-of_z at rw (same, c.constants.invariant.place) at c.if-not-multiple_is_good.ensures) in
     record {
       place = omega (arith, c.constants.invariant.place);
-      good = simp to_z-of_z (each_more (λ (k : ℕ) (t : ℤ). IsGoodRatio c.args.exact (exact_multiple t c.args.x) (output_numbers (multiple_ports m) c.args.outputs.now k)) m.constants i
+      good = simp to_z-of_z (each_more (λ (k : ℕ) (t : ℤ). IsGoodRatio c.args.exact (exact_multiple t c.args.x) (output_numbers
+          (multiple_ports m) c.args.outputs.now k)) m.constants i
           (simp to_z-of_z at c.constants.invariant.good) (judged.0 refl));
     }
 

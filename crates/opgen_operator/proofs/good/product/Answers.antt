@@ -11,6 +11,7 @@ returns c =
     let coef = c.ranges.coef in
     let fits_from : FitsSigned w128 c.from.result = search rules in
     let from : c.from.result ≡ c.args.coef = simp to_z-of_z at c.from.ensures in
-    let few : unsigned_abs (c.args.n *ℤ c.args.coef) ≤ 2 ^ 78 = product_within c.args.n c.args.coef 48 30 c.requires.input c.requires.coef in
+    let few : unsigned_abs (c.args.n *ℤ c.args.coef) ≤ 2 ^ 78 = product_within c.args.n c.args.coef 48 30 c.requires.input c.requires.coef
+    in
     let fits : FitsSigned w128 (c.args.n *ℤ c.args.coef) = fits_small _ (omega (arith, few)) in
     simp to_z-of_z (rw from (simp to_z-of_z refl))

@@ -16,10 +16,16 @@ raised-numerator-requires-clause-small c =
     let p = c.args.product.now in
     let fits_a : FitsSigned w128 c.args.a = number_fits p.a _ c.requires.product.a c.requires.a in
     let fits_b : FitsSigned w128 c.args.b = number_fits p.b _ c.requires.product.b c.requires.b in
-    let fits : FitsSigned w128 (c.args.a *ℤ c.args.b) = fits_small _ (omega (arith, product_small p c.args.a c.args.b c.requires.product c.requires.a c.requires.b)) in
+    let fits : FitsSigned w128 (c.args.a *ℤ c.args.b) = fits_small _
+    (omega (arith, product_small p c.args.a c.args.b c.requires.product c.requires.a c.requires.b)) in
     let fits_shift : FitsSigned w32 c.product_shift-shift.result = search rules in
-    let raised_up : c.places_up.result ≡ places_up (product_shift p) = rw c.product_shift-shift.ensures.value at simp to_z-of_z at c.places_up.ensures in
-    simp to_z-of_z (rw raised_up (omega (arith, product_room p c.args.a c.args.b c.requires.product c.requires.a c.requires.b c.requires.narrow)))
+    let raised_up : c.places_up.result ≡ places_up (product_shift p) = rw c.product_shift-shift.ensures.value at simp to_z-of_z at
+    c.places_up.ensures in
+    simp to_z-of_z (rw raised_up (omega (
+      arith,
+      product_room p c.args.a c.args.b c.requires.product c.requires.a c.requires.b
+          c.requires.narrow,
+    )))
 
 pub overflow_mul-a : goal.overflow_mul-a
 overflow_mul-a c =
@@ -32,7 +38,8 @@ pub raised-denominator-requires-clause-small : goal.raised-denominator-requires-
 raised-denominator-requires-clause-small c =
     let p = c.args.product.now in
     let fits_shift : FitsSigned w32 c.product_shift-shift.result = search rules in
-    let raised_down : c.places_down.result ≡ places_down (product_shift p) = rw c.product_shift-shift.ensures.value at simp to_z-of_z at c.places_down.ensures in
+    let raised_down : c.places_down.result ≡ places_down (product_shift p) = rw c.product_shift-shift.ensures.value at simp to_z-of_z at
+    c.places_down.ensures in
     rw raised_down (omega (arith, power_order (places_down (product_shift p)) 48 (few_down 47 (product_shift p) c.requires.low)))
 
 pub output-requires-clause-least : goal.output-requires-clause-least
@@ -43,14 +50,18 @@ returns c =
     let p = c.args.product.now in
     let fits_a : FitsSigned w128 c.args.a = number_fits p.a _ c.requires.product.a c.requires.a in
     let fits_b : FitsSigned w128 c.args.b = number_fits p.b _ c.requires.product.b c.requires.b in
-    let fits : FitsSigned w128 (c.args.a *ℤ c.args.b) = fits_small _ (omega (arith, product_small p c.args.a c.args.b c.requires.product c.requires.a c.requires.b)) in
+    let fits : FitsSigned w128 (c.args.a *ℤ c.args.b) = fits_small _
+    (omega (arith, product_small p c.args.a c.args.b c.requires.product c.requires.a c.requires.b)) in
     let fits_numerator : FitsSigned w128 c.raised-numerator.result = search rules in
     let fits_denominator : FitsSigned w128 c.raised-denominator.result = search rules in
     let fits_output : FitsSigned w128 c.output.result = search rules in
     let fits_shift : FitsSigned w32 c.product_shift-shift.result = search rules in
-    let raised_up : c.places_up.result ≡ places_up (product_shift c.args.product.now) = rw c.product_shift-shift.ensures.value at simp to_z-of_z at c.places_up.ensures in
-    let raised_down : c.places_down.result ≡ places_down (product_shift c.args.product.now) = rw c.product_shift-shift.ensures.value at simp to_z-of_z at c.places_down.ensures in
+    let raised_up : c.places_up.result ≡ places_up (product_shift c.args.product.now) = rw c.product_shift-shift.ensures.value at simp
+    to_z-of_z at c.places_up.ensures in
+    let raised_down : c.places_down.result ≡ places_down (product_shift c.args.product.now) = rw c.product_shift-shift.ensures.value at simp
+    to_z-of_z at c.places_down.ensures in
     let den : c.raised-denominator.result ≡ pos (2 ^ c.places_down.result) = omega (arith, ints, c.raised-denominator.ensures.value) in
     let num = rw raised_up at simp to_z-of_z at c.raised-numerator.ensures.value in
     let out = rw c.product_format.ensures at c.output.ensures in
-    good-along c.good_linear.result c.args.exact c.raised-numerator.result _ c.raised-denominator.result _ c.output.result _ num (rw raised_down at den) out (simp to_z-of_z at c.good_linear.ensures)
+    good-along c.good_linear.result c.args.exact c.raised-numerator.result _ c.raised-denominator.result _ c.output.result _ num
+    (rw raised_down at den) out (simp to_z-of_z at c.good_linear.ensures)

@@ -16,8 +16,16 @@ raised-shifted-requires-clause-small c =
     let fits_a : FitsSigned w128 c.args.a = number_fits p.a _ c.requires.pair.a c.requires.a in
     let fits_shift : FitsSigned w32 c.pair_shift.result = search rules in
     let raised_up : c.places_up.result ≡ places_up (pair_shift p) = rw c.pair_shift.ensures at simp to_z-of_z at c.places_up.ensures in
-    let all = products (unsigned_abs c.args.a) (2 ^ places_up (pair_shift p)) p.a.width (places_up (pair_shift p)) (holds_within p.a.signed p.a.width c.args.a c.requires.a) (omega arith) in
-    simp to_z-of_z (rw raised_up (omega (arith, all, power_order (p.a.width + places_up (pair_shift p)) 126 (omega (arith, c.requires.narrow)))))
+    let all = products (unsigned_abs c.args.a) (2 ^ places_up (pair_shift p)) p.a.width (places_up (pair_shift p))
+    (holds_within p.a.signed p.a.width c.args.a c.requires.a) (omega arith) in
+    simp to_z-of_z (rw raised_up (omega (
+      arith,
+      all,
+      power_order (p.a.width + places_up (pair_shift p)) 126 (omega (
+        arith,
+        c.requires.narrow,
+      )),
+    )))
 
 pub returns-then-exact-clause-in_range : goal.returns-then-exact-clause-in_range
 returns-then-exact-clause-in_range c =
@@ -27,12 +35,16 @@ returns-then-exact-clause-in_range c =
     let fits_shifted : FitsSigned w128 c.raised-shifted.result = search rules in
     let fits_q : FitsSigned w128 c.output-q.result = search rules in
     let fits_r : FitsSigned w128 c.output-r.result = search rules in
-    let raised_up : c.places_up.result ≡ places_up (pair_shift c.args.pair.now) = rw c.pair_shift.ensures at simp to_z-of_z at c.places_up.ensures in
+    let raised_up : c.places_up.result ≡ places_up (pair_shift c.args.pair.now) = rw c.pair_shift.ensures at simp to_z-of_z at
+    c.places_up.ensures in
     let shifted = rw raised_up at simp to_z-of_z at c.raised-shifted.ensures.value in
-    let n : c.unsigned_abs.result ≡ dividend c.args.pair.now c.args.a = (simp to_z-of_z at c.unsigned_abs.ensures.value) ∙ ap unsigned_abs shifted ∙ unsigned_abs-product c.args.a (pos (2 ^ places_up (pair_shift c.args.pair.now))) in
+    let n : c.unsigned_abs.result ≡ dividend c.args.pair.now c.args.a = (simp to_z-of_z at c.unsigned_abs.ensures.value)
+    ∙ ap unsigned_abs shifted ∙ unsigned_abs-product c.args.a (pos (2 ^ places_up (pair_shift c.args.pair.now))) in
     let b = simp to_z-of_z at c.unsigned_abs-then-exact.ensures.value in
-    let q = (simp to_z-of_z at c.unsigned_abs-then-exact-2.ensures.value) ∙ ap unsigned_abs (rw c.quotient_format.ensures at c.output-q.ensures) in
-    let r = (simp to_z-of_z at c.unsigned_abs-then-exact-3.ensures.value) ∙ ap unsigned_abs (rw c.remainder_format.ensures at c.output-r.ensures) in
+    let q = (simp to_z-of_z at c.unsigned_abs-then-exact-2.ensures.value)
+    ∙ ap unsigned_abs (rw c.quotient_format.ensures at c.output-q.ensures) in
+    let r = (simp to_z-of_z at c.unsigned_abs-then-exact-3.ensures.value)
+    ∙ ap unsigned_abs (rw c.remainder_format.ensures at c.output-r.ensures) in
     λ _. rw c.if-exact.true (quotient-along c.is_quotient.result _ _ _ _ _ _ _ _ n b q r c.is_quotient.ensures)
 
 pub returns-else-exact-clause-in_range : goal.returns-else-exact-clause-in_range
@@ -42,7 +54,9 @@ returns-else-exact-clause-in_range c =
     let fits_shift : FitsSigned w32 c.pair_shift.result = search rules in
     let fits_shifted : FitsSigned w128 c.raised-shifted.result = search rules in
     let fits_q : FitsSigned w128 c.output-q.result = search rules in
-    let raised_up : c.places_up.result ≡ places_up (pair_shift c.args.pair.now) = rw c.pair_shift.ensures at simp to_z-of_z at c.places_up.ensures in
+    let raised_up : c.places_up.result ≡ places_up (pair_shift c.args.pair.now) = rw c.pair_shift.ensures at simp to_z-of_z at
+    c.places_up.ensures in
     let shifted = rw raised_up at simp to_z-of_z at c.raised-shifted.ensures.value in
     let q = rw c.quotient_format.ensures at c.output-q.ensures in
-    λ _. rw c.if-exact.false (good-along c.good_linear.result false c.raised-shifted.result _ c.args.b c.args.b c.output-q.result _ shifted refl q (simp to_z-of_z at c.good_linear.ensures))
+    λ _. rw c.if-exact.false (good-along c.good_linear.result false c.raised-shifted.result _ c.args.b c.args.b c.output-q.result _ shifted
+    refl q (simp to_z-of_z at c.good_linear.ensures))

@@ -12,12 +12,21 @@ overflow_cast-result c = omega (arith, ints, c.power.ensures, power_order c.args
 pub overflow_mul-result : goal.overflow_mul-result
 overflow_mul-result c =
     let n = c.ranges.n in
-    let power : to_z w128 c.power.result ≡ pos (2 ^ c.args.places) = to_z_pos w128 _ (omega (arith, c.power.ensures, power_order c.args.places 96 c.requires.few)) ∙ ap pos c.power.ensures in
+    let power : to_z w128 c.power.result ≡ pos (2 ^ c.args.places) = to_z_pos w128 _ (omega (
+      arith,
+      c.power.ensures,
+      power_order c.args.places 96 c.requires.few,
+    )) ∙ ap pos c.power.ensures in
     rw power (simp to_z-of_z (fits_small _ (omega (arith, unsigned_abs-product c.args.n (pos (2 ^ c.args.places)), c.requires.small))))
 
 pub returns : goal.returns
 returns c =
     let n = c.ranges.n in
-    let power : to_z w128 c.power.result ≡ pos (2 ^ c.args.places) = to_z_pos w128 _ (omega (arith, c.power.ensures, power_order c.args.places 96 c.requires.few)) ∙ ap pos c.power.ensures in
-    let fits : FitsSigned w128 (c.args.n *ℤ pos (2 ^ c.args.places)) = fits_small _ (omega (arith, unsigned_abs-product c.args.n (pos (2 ^ c.args.places)), c.requires.small)) in
+    let power : to_z w128 c.power.result ≡ pos (2 ^ c.args.places) = to_z_pos w128 _ (omega (
+      arith,
+      c.power.ensures,
+      power_order c.args.places 96 c.requires.few,
+    )) ∙ ap pos c.power.ensures in
+    let fits : FitsSigned w128 (c.args.n *ℤ pos (2 ^ c.args.places)) = fits_small _
+    (omega (arith, unsigned_abs-product c.args.n (pos (2 ^ c.args.places)), c.requires.small)) in
     record { value = rw power (simp to_z-of_z refl) }

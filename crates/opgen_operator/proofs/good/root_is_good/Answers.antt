@@ -16,8 +16,17 @@ raised-requires-clause-small c =
     let fits_x : FitsSigned w128 c.args.x = root_input_fits r c.args.x c.requires.single c.requires.x in
     let fits_shift : FitsSigned w32 c.root_shift.result = search rules in
     let raised_up : c.places_up.result ≡ places_up (root_shift r) = rw c.root_shift.ensures at simp to_z-of_z at c.places_up.ensures in
-    let all = products (unsigned_abs c.args.x) (2 ^ places_up (root_shift r)) r.input.width (places_up (root_shift r)) c.requires.x (omega arith) in
-    simp to_z-of_z (rw raised_up (omega (arith, all, power_order (r.input.width + places_up (root_shift r)) 126 (omega (arith, c.requires.single.input.most, few_up 48 (root_shift r) c.requires.high)))))
+    let all = products (unsigned_abs c.args.x) (2 ^ places_up (root_shift r)) r.input.width (places_up (root_shift r)) c.requires.x
+    (omega arith) in
+    simp to_z-of_z (rw raised_up (omega (
+      arith,
+      all,
+      power_order (r.input.width + places_up (root_shift r)) 126 (omega (
+        arith,
+        c.requires.single.input.most,
+        few_up 48 (root_shift r) c.requires.high,
+      )),
+    )))
 
 pub returns-then-exact : goal.returns-then-exact
 returns-then-exact c =
@@ -26,11 +35,14 @@ returns-then-exact c =
     let fits_raised : FitsSigned w128 c.raised.result = search rules in
     let fits_y : FitsSigned w128 c.output.result = search rules in
     let fits_r : FitsSigned w128 c.output-then-exact.result = search rules in
-    let raised_up : c.places_up.result ≡ places_up (root_shift c.args.single.now) = rw c.root_shift.ensures at simp to_z-of_z at c.places_up.ensures in
+    let raised_up : c.places_up.result ≡ places_up (root_shift c.args.single.now) = rw c.root_shift.ensures at simp to_z-of_z at
+    c.places_up.ensures in
     let raised = rw raised_up at simp to_z-of_z at c.raised.ensures.value in
-    let n : c.unsigned_abs-square.result ≡ square c.args.single.now c.args.x = (simp to_z-of_z at c.unsigned_abs-square.ensures.value) ∙ ap unsigned_abs raised ∙ unsigned_abs-product c.args.x (pos (2 ^ places_up (root_shift c.args.single.now))) in
+    let n : c.unsigned_abs-square.result ≡ square c.args.single.now c.args.x = (simp to_z-of_z at c.unsigned_abs-square.ensures.value)
+    ∙ ap unsigned_abs raised ∙ unsigned_abs-product c.args.x (pos (2 ^ places_up (root_shift c.args.single.now))) in
     let y = (simp to_z-of_z at c.unsigned_abs-y.ensures.value) ∙ ap unsigned_abs (rw c.root_format.ensures at c.output.ensures) in
-    let r = (simp to_z-of_z at c.unsigned_abs-r.ensures.value) ∙ ap unsigned_abs (rw c.rest_format.ensures at c.output-then-exact.ensures) in
+    let r = (simp to_z-of_z at c.unsigned_abs-r.ensures.value)
+    ∙ ap unsigned_abs (rw c.rest_format.ensures at c.output-then-exact.ensures) in
     rw c.if-exact.true (root-along c.is_root.result _ _ _ _ _ _ n y r c.is_root.ensures)
 
 pub returns-else-exact : goal.returns-else-exact
@@ -39,8 +51,10 @@ returns-else-exact c =
     let fits_shift : FitsSigned w32 c.root_shift.result = search rules in
     let fits_raised : FitsSigned w128 c.raised.result = search rules in
     let fits_y : FitsSigned w128 c.output.result = search rules in
-    let raised_up : c.places_up.result ≡ places_up (root_shift c.args.single.now) = rw c.root_shift.ensures at simp to_z-of_z at c.places_up.ensures in
+    let raised_up : c.places_up.result ≡ places_up (root_shift c.args.single.now) = rw c.root_shift.ensures at simp to_z-of_z at
+    c.places_up.ensures in
     let raised = rw raised_up at simp to_z-of_z at c.raised.ensures.value in
-    let n : c.unsigned_abs-square.result ≡ square c.args.single.now c.args.x = (simp to_z-of_z at c.unsigned_abs-square.ensures.value) ∙ ap unsigned_abs raised ∙ unsigned_abs-product c.args.x (pos (2 ^ places_up (root_shift c.args.single.now))) in
+    let n : c.unsigned_abs-square.result ≡ square c.args.single.now c.args.x = (simp to_z-of_z at c.unsigned_abs-square.ensures.value)
+    ∙ ap unsigned_abs raised ∙ unsigned_abs-product c.args.x (pos (2 ^ places_up (root_shift c.args.single.now))) in
     let y = (simp to_z-of_z at c.unsigned_abs-y.ensures.value) ∙ ap unsigned_abs (rw c.root_format.ensures at c.output.ensures) in
     rw c.if-exact.false (good_root-along c.good_root.result _ _ _ _ n y c.good_root.ensures)

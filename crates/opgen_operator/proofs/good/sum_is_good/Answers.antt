@@ -13,12 +13,22 @@ pub raised-numerator-requires-clause-small : goal.raised-numerator-requires-clau
 raised-numerator-requires-clause-small c =
     let sum = c.args.sum.now in
     let width = sum.input.width in
-    let few : unsigned_abs c.weighted.result ≤ 2 ^ 86 = omega (arith, c.weighted.ensures.bound, power_order (width + 38) 86 (omega (arith, c.requires.sum.input.most))) in
+    let few : unsigned_abs c.weighted.result ≤ 2 ^ 86 = omega
+    (arith, c.weighted.ensures.bound, power_order (width + 38) 86 (omega (arith, c.requires.sum.input.most))) in
     let fits_weighted : FitsSigned w128 c.weighted.result = fits_small _ (omega (arith, few)) in
     let fits_shift : FitsSigned w32 c.sum_shift-shift.result = search rules in
-    let raised_up : c.places_up.result ≡ places_up (sum_shift sum) = rw c.sum_shift-shift.ensures.value at simp to_z-of_z at c.places_up.ensures in
-    let all = products (unsigned_abs c.weighted.result) (2 ^ places_up (sum_shift sum)) (width + 38) (places_up (sum_shift sum)) c.weighted.ensures.bound (omega arith) in
-    simp to_z-of_z (rw raised_up (omega (arith, all, power_order (width + 38 + places_up (sum_shift sum)) 126 (omega (arith, c.requires.room)))))
+    let raised_up : c.places_up.result ≡ places_up (sum_shift sum) = rw c.sum_shift-shift.ensures.value at simp to_z-of_z at
+    c.places_up.ensures in
+    let all = products (unsigned_abs c.weighted.result) (2 ^ places_up (sum_shift sum)) (width + 38)
+    (places_up (sum_shift sum)) c.weighted.ensures.bound (omega arith) in
+    simp to_z-of_z (rw raised_up (omega (
+      arith,
+      all,
+      power_order (width + 38 + places_up (sum_shift sum)) 126 (omega (
+        arith,
+        c.requires.room,
+      )),
+    )))
 
 pub raised-denominator-requires-clause-small : goal.raised-denominator-requires-clause-small
 raised-denominator-requires-clause-small c =
@@ -27,8 +37,11 @@ raised-denominator-requires-clause-small c =
     let fits_from : FitsSigned w128 c.from.result = search rules in
     let from : c.from.result ≡ sum.den = simp to_z-of_z at c.from.ensures in
     let fits_shift : FitsSigned w32 c.sum_shift-shift.result = search rules in
-    let raised_down : c.places_down.result ≡ places_down (sum_shift sum) = rw c.sum_shift-shift.ensures.value at simp to_z-of_z at c.places_down.ensures in
-    let all = products (unsigned_abs sum.den) (2 ^ places_down (sum_shift sum)) 30 48 (few_units (2 ^ 30) sum.den c.requires.sum.positive c.requires.sum.small) (power_order (places_down (sum_shift sum)) 48 (few_down 47 (sum_shift sum) c.requires.low)) in
+    let raised_down : c.places_down.result ≡ places_down (sum_shift sum) = rw c.sum_shift-shift.ensures.value at simp to_z-of_z at
+    c.places_down.ensures in
+    let all = products (unsigned_abs sum.den) (2 ^ places_down (sum_shift sum)) 30 48
+    (few_units (2 ^ 30) sum.den c.requires.sum.positive c.requires.sum.small)
+    (power_order (places_down (sum_shift sum)) 48 (few_down 47 (sum_shift sum) c.requires.low)) in
     simp to_z-of_z (rw (from, raised_down) (omega (arith, all)))
 
 pub good_linear-requires : goal.good_linear-requires
@@ -37,7 +50,8 @@ good_linear-requires c =
     let fits_from : FitsSigned w128 c.from.result = search rules in
     let fits : FitsSigned w128 c.raised-denominator.result = search rules in
     let from : c.from.result ≡ c.args.sum.now.den = simp to_z-of_z at c.from.ensures in
-    let den : c.raised-denominator.result ≡ c.args.sum.now.den *ℤ pos (2 ^ c.places_down.result) = rw from at simp to_z-of_z at c.raised-denominator.ensures.value in
+    let den : c.raised-denominator.result ≡ c.args.sum.now.den *ℤ pos (2 ^ c.places_down.result) = rw from at simp to_z-of_z at
+    c.raised-denominator.ensures.value in
     simp to_z-of_z (rw den (positive_units c.args.sum.now.den c.places_down.result c.requires.sum.positive))
 
 pub returns : goal.returns
@@ -50,9 +64,12 @@ returns c =
     let fits_output : FitsSigned w128 c.output.result = search rules in
     let fits_shift : FitsSigned w32 c.sum_shift-shift.result = search rules in
     let from : c.from.result ≡ c.args.sum.now.den = simp to_z-of_z at c.from.ensures in
-    let raised_up : c.places_up.result ≡ places_up (sum_shift c.args.sum.now) = rw c.sum_shift-shift.ensures.value at simp to_z-of_z at c.places_up.ensures in
-    let raised_down : c.places_down.result ≡ places_down (sum_shift c.args.sum.now) = rw c.sum_shift-shift.ensures.value at simp to_z-of_z at c.places_down.ensures in
+    let raised_up : c.places_up.result ≡ places_up (sum_shift c.args.sum.now) = rw c.sum_shift-shift.ensures.value at simp to_z-of_z at
+    c.places_up.ensures in
+    let raised_down : c.places_down.result ≡ places_down (sum_shift c.args.sum.now) = rw c.sum_shift-shift.ensures.value at simp to_z-of_z
+    at c.places_down.ensures in
     let den = rw (from, raised_down) at simp to_z-of_z at c.raised-denominator.ensures.value in
     let num = rw (c.weighted.ensures.value, raised_up) at simp to_z-of_z at c.raised-numerator.ensures.value in
     let out = rw c.sum_format.ensures at c.output.ensures in
-    good-along c.good_linear.result c.args.exact c.raised-numerator.result _ c.raised-denominator.result _ c.output.result _ num den out (simp to_z-of_z at c.good_linear.ensures)
+    good-along c.good_linear.result c.args.exact c.raised-numerator.result _ c.raised-denominator.result _ c.output.result _ num den out
+    (simp to_z-of_z at c.good_linear.ensures)

@@ -7,10 +7,12 @@ pub in_places-requires-clause-below : goal.in_places-requires-clause-below
 in_places-requires-clause-below c =
     let p = c.args.product.now in
     let fits : SFits w32 c.product_shift.result = record { sfits = c.product_shift.type_inv } in
-    simp (to_z-of_z, fits) (rw c.product_shift.ensures.value (not_up_bound p c.product_reach.result.below c.requires.product c.product_reach.ensures.below c.requires.high))
+    simp (to_z-of_z, fits) (rw c.product_shift.ensures.value (not_up_bound p c.product_reach.result.below c.requires.product
+    c.product_reach.ensures.below c.requires.high))
 
 pub in_places-requires-clause-above : goal.in_places-requires-clause-above
 in_places-requires-clause-above c =
     let p = c.args.product.now in
     let fits : SFits w32 c.product_shift.result = record { sfits = c.product_shift.type_inv } in
-    simp (to_z-of_z, fits) (rw c.product_shift.ensures.value (not_up_bound p c.product_reach.result.above c.requires.product c.product_reach.ensures.above c.requires.high))
+    simp (to_z-of_z, fits) (rw c.product_shift.ensures.value (not_up_bound p c.product_reach.result.above c.requires.product
+    c.product_reach.ensures.above c.requires.high))

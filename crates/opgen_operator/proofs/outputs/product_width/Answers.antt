@@ -6,10 +6,12 @@ use Rattle.opgen_operator.proofs.ProductWidths.{shifted_up-width, reach_small}
 use Rattle.opgen_operator.proofs.outputs.product_width.Goals as goal
 
 pub width_of-requires-clause-below : goal.width_of-requires-clause-below
-width_of-requires-clause-below c = reach_small c.args.product.now c.product_reach.result.below c.requires.product c.product_reach.ensures.below
+width_of-requires-clause-below c = reach_small c.args.product.now c.product_reach.result.below c.requires.product
+    c.product_reach.ensures.below
 
 pub width_of-requires-clause-above : goal.width_of-requires-clause-above
-width_of-requires-clause-above c = reach_small c.args.product.now c.product_reach.result.above c.requires.product c.product_reach.ensures.above
+width_of-requires-clause-above c = reach_small c.args.product.now c.product_reach.result.above c.requires.product
+    c.product_reach.ensures.above
 
 pub returns-then-shift-gt0-clause-value : goal.returns-then-shift-gt0-clause-value
 returns-then-shift-gt0-clause-value c =

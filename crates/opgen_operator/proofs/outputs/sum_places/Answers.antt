@@ -8,10 +8,12 @@ pub in_places-requires-clause-below : goal.in_places-requires-clause-below
 in_places-requires-clause-below c =
     let s = c.args.sum.now in
     let fits : SFits w32 c.sum_shift.result = record { sfits = c.sum_shift.type_inv } in
-    simp (to_z-of_z, fits) (rw c.sum_shift.ensures.value (room_bound c.sum_reach.result.below s.input.width (sum_shift s) c.sum_reach.ensures.below c.requires.room))
+    simp (to_z-of_z, fits) (rw c.sum_shift.ensures.value (room_bound c.sum_reach.result.below s.input.width (sum_shift s)
+    c.sum_reach.ensures.below c.requires.room))
 
 pub in_places-requires-clause-above : goal.in_places-requires-clause-above
 in_places-requires-clause-above c =
     let s = c.args.sum.now in
     let fits : SFits w32 c.sum_shift.result = record { sfits = c.sum_shift.type_inv } in
-    simp (to_z-of_z, fits) (rw c.sum_shift.ensures.value (room_bound c.sum_reach.result.above s.input.width (sum_shift s) c.sum_reach.ensures.above c.requires.room))
+    simp (to_z-of_z, fits) (rw c.sum_shift.ensures.value (room_bound c.sum_reach.result.above s.input.width (sum_shift s)
+    c.sum_reach.ensures.above c.requires.room))

@@ -4,6 +4,7 @@ use Rattle.opgen_operator.proofs.ports.constants.Given as goal
 
 abbrev pub invariant-constants : goal.invariant-constants
 invariant-constants l = record {
-  made : l.ports.items ++ numbered l.number (map (constant_format l.several.input) (drop l.constant-index l.several.constants)) ≡ numbered 0 (map (constant_format l.several.input) l.several.constants);
+  made : l.ports.items ++ numbered l.number (map (constant_format l.several.input) (drop l.constant-index l.several.constants))
+      ≡ numbered 0 (map (constant_format l.several.input) l.several.constants);
   place : l.number ≡ l.constant-index;
 }

@@ -7,5 +7,6 @@ use Rattle.opgen_operator.proofs.ports.product_format.Goals as goal
 pub returns : goal.returns
 returns c =
     let p = c.args.product.now in
-    let below : nat_lt 0 c.product_reach.result.below ≡ nat_lt 0 (product_places p).below = ap (λ (r : Reach). nat_lt 0 r.below) c.product_reach.ensures.value ∙ sym (product-sign p) in
+    let below : nat_lt 0 c.product_reach.result.below
+    ≡ nat_lt 0 (product_places p).below = ap (λ (r : Reach). nat_lt 0 r.below) c.product_reach.ensures.value ∙ sym (product-sign p) in
     rw (below, c.product_width.ensures.value) (search rules)

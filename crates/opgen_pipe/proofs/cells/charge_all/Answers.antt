@@ -12,7 +12,8 @@ cells-preserved g c =
     let cells = c.args.cells.now in
     let d : Cell = record { class = Wire; width = 0 } in
     record {
-      ledger = c.charge.ensures.ledger ∙ ap (with_cell (get_or cells i d)) c.cells.invariant.ledger ∙ ledger_of-more (take i cells) (get_or cells i d) ∙ ap ledger_of (sym (take_more cells i d c.cells-test.true));
+      ledger = c.charge.ensures.ledger ∙ ap (with_cell (get_or cells i d)) c.cells.invariant.ledger
+          ∙ ledger_of-more (take i cells) (get_or cells i d) ∙ ap ledger_of (sym (take_more cells i d c.cells-test.true));
       target_name = c.charge.ensures.target_name ∙ c.cells.invariant.target_name;
       delays = c.charge.ensures.delays ∙ c.cells.invariant.delays;
       adjustable = c.charge.ensures.adjustable ∙ c.cells.invariant.adjustable;

@@ -8,7 +8,8 @@ cell_of-requires-clause-widths c = all-wide c.args.net.now c.requires.valid c.ar
 
 pub cell_of-requires-clause-stands : goal.cell_of-requires-clause-stands
 cell_of-requires-clause-stands c =
-    node-stands c.args.net.now c.requires.valid c.args.widths.now c.requires.widths c.as_slice-nodes.result.now c.as_slice-nodes.ensures c.nodes.place c.index-nodes-place.result c.nodes-test.true c.index-nodes-place.is
+    node-stands c.args.net.now c.requires.valid c.args.widths.now c.requires.widths c.as_slice-nodes.result.now c.as_slice-nodes.ensures
+    c.nodes.place c.index-nodes-place.result c.nodes-test.true c.index-nodes-place.is
 
 pub bounds-widths-place : goal.bounds-widths-place
 bounds-widths-place c =

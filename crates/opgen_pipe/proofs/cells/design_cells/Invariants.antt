@@ -8,4 +8,5 @@ use Rattle.opgen_pipe.proofs.cells.design_cells.Given as goal
 
 abbrev pub invariant-nodes : goal.invariant-nodes
 invariant-nodes l =
-    l.cells.items ++ all_of (node_cells (widths l.net.nodes) (copies l.net (slot_at l.slots))) l.place (drop l.place l.nodes) ≡ design_cells l.net (slot_at l.slots)
+    l.cells.items ++ all_of (node_cells (widths l.net.nodes) (copies l.net (slot_at l.slots))) l.place (drop l.place l.nodes)
+    ≡ design_cells l.net (slot_at l.slots)

@@ -9,11 +9,13 @@ node_delay-requires-clause-widths g c = all-wide c.args.net.now c.requires.valid
 
 pub node_delay-requires-clause-stands : goal.node_delay-requires-clause-stands
 node_delay-requires-clause-stands g c =
-    node-stands c.args.net.now c.requires.valid c.args.widths.now c.requires.widths c.as_slice-nodes.result.now c.as_slice-nodes.ensures c.nodes.node-index c.node-item.result c.nodes-test.true c.node-item.is
+    node-stands c.args.net.now c.requires.valid c.args.widths.now c.requires.widths c.as_slice-nodes.result.now c.as_slice-nodes.ensures
+    c.nodes.node-index c.node-item.result c.nodes-test.true c.node-item.is
 
 pub returns : goal.returns
 returns g c =
     let table = (goal.Target-dyn g (c.args.target.now.vtable, c.args.target.now.value)).delays c.args.target.now.value in
     c.nodes.invariant
-    ∙ ap (map (node_delay table c.args.widths.now)) (take_all c.nodes.node-index c.as_slice-nodes.result.now c.nodes-test.false ∙ c.as_slice-nodes.ensures)
+    ∙ ap (map (node_delay table c.args.widths.now))
+    (take_all c.nodes.node-index c.as_slice-nodes.result.now c.nodes-test.false ∙ c.as_slice-nodes.ensures)
     ∙ ap (λ ws. map (node_delay table ws) c.args.net.now.nodes) c.requires.widths

@@ -9,6 +9,7 @@ abbrev pub invariant-nodes : goal.invariant-nodes
 invariant-nodes l = record {
   count : length l.counts.items ≡ length l.nodes;
   live : (j : ℕ) → j < length l.nodes → is_constant_at l.nodes j ≡ false
-      → max (get_or l.counts.items j 0) (copy_read_by (slot_at l.slots) l.place j (drop l.place l.nodes)) ≡ copy_read_by (slot_at l.slots) 0 j l.nodes;
+      → max (get_or l.counts.items j 0) (copy_read_by (slot_at l.slots) l.place j (drop l.place l.nodes))
+      ≡ copy_read_by (slot_at l.slots) 0 j l.nodes;
   still : (j : ℕ) → is_constant_at l.nodes j ≡ true → get_or l.counts.items j 0 ≡ 0;
 }

@@ -15,6 +15,7 @@ tree_in-requires-clause-there c =
     let h = subst (MayStand ws) c.in-Cells.is c.requires.stands in
     subst (AllReads (λ j. j < length ps) IsAny) (sym c.expr.ensures)
     (
-    reads-weaker (λ j. j < length ws) (λ p. p < 0) (λ j. j < length ps) IsAny (λ j l. omega (arith, l, length-map ps (λ p. p.width))) (λ p l. tt) e
+    reads-weaker (λ j. j < length ws) (λ p. p < 0) (λ j. j < length ps) IsAny (λ j l. omega (arith, l, length-map ps (λ p. p.width)))
+    (λ p l. tt) e
     (width-reads ws [] e c.in-Cells.width h.1.has_width)
     )

@@ -11,4 +11,6 @@ copies-preserved c =
     let own = c.args.own in
     let e : 0 + k ≡ k = omega arith in
     c.in_ok-push.ensures.ok
-    ∙ range-more (copy_register own) 0 k k c.args.drivers.now c.copies.drivers (Register (own.signal + 1 + k) c.new.result) c.copies.invariant e (ap (Register (own.signal + 1 + k)) (c.new.ensures ∙ plain-name (own.signal + k)))
+    ∙ range-more (copy_register own) 0 k k c.args.drivers.now c.copies.drivers
+    (Register (own.signal + 1 + k) c.new.result) c.copies.invariant e
+    (ap (Register (own.signal + 1 + k)) (c.new.ensures ∙ plain-name (own.signal + k)))

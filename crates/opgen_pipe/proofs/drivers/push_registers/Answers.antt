@@ -19,16 +19,20 @@ nodes-preserved c =
     let copies = map (copy_register o) (range_with_len 0 o.copies) in
     elim c.if-is_delay.branch [
       | then-is_delay+in_ok-own_driver+in_ok-push w ↦
-          passing-more (node_drivers first ps) is_register ns i n c.nodes.drivers c.push_copies.new.drivers c.nodes-test.true c.index-nodes-number.is
+          passing-more (node_drivers first ps) is_register ns i n c.nodes.drivers c.push_copies.new.drivers c.nodes-test.true
+          c.index-nodes-number.is
           (
           c.in_ok-push_copies.ensures
-          ∙ ap (λ ks. ks ++ copies) (w.drivers-is ∙ w.in_ok-push.ensures.ok ∙ ap (λ k. c.nodes.drivers ++ k ∷ []) w.in_ok-own_driver.ensures)
+          ∙ ap (λ ks. ks ++ copies) (w.drivers-is ∙ w.in_ok-push.ensures.ok ∙ ap (λ k. c.nodes.drivers ++ k ∷ [])
+          w.in_ok-own_driver.ensures)
           ∙ append_assoc c.nodes.drivers (own_driver first ps o n ∷ []) copies
           ∙ ap (λ ks. c.nodes.drivers ++ ks) (sym (register-delay first ps o n (sym c.is_delay.ensures ∙ w.if-is_delay.true)))
           )
           ∙ c.nodes.invariant
       | else-is_delay w ↦
-          passing-more (node_drivers first ps) is_register ns i n c.nodes.drivers c.push_copies.new.drivers c.nodes-test.true c.index-nodes-number.is
-          (c.in_ok-push_copies.ensures ∙ ap (λ ks. ks ++ copies) w.drivers-is ∙ ap (λ ks. c.nodes.drivers ++ ks) (sym (register-own first ps o n (sym c.is_delay.ensures ∙ w.if-is_delay.false))))
+          passing-more (node_drivers first ps) is_register ns i n c.nodes.drivers c.push_copies.new.drivers c.nodes-test.true
+          c.index-nodes-number.is
+          (c.in_ok-push_copies.ensures ∙ ap (λ ks. ks ++ copies) w.drivers-is
+          ∙ ap (λ ks. c.nodes.drivers ++ ks) (sym (register-own first ps o n (sym c.is_delay.ensures ∙ w.if-is_delay.false))))
           ∙ c.nodes.invariant
     ]

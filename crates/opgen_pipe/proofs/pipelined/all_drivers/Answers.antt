@@ -19,4 +19,5 @@ push_registers-requires-clause-ports c = λ k d l p w h.
 
 pub push_outputs-requires-clause-there : goal.push_outputs-requires-clause-there
 push_outputs-requires-clause-there c =
-    outputs-within c.args.net.now c.requires.valid (length c.args.standings.now) c.requires.standings c.as_slice-outputs.result.now c.as_slice-outputs.ensures
+    outputs-within c.args.net.now c.requires.valid
+    (length c.args.standings.now) c.requires.standings c.as_slice-outputs.result.now c.as_slice-outputs.ensures

@@ -27,8 +27,10 @@ returns-then-signal_count-gt-MAX_SIGNALS-clause-outcome g c =
     let net = c.args.net.now in
     let table = (goal.Target-dyn g (c.args.target.now.vtable, c.args.target.now.value)).delays c.args.target.now.value in
     let u = c.setup_time-setup.result in
-    let n = need-is net table c.args.period c.deref-2.result.now u (c.deref-2.ensures.value ∙ c.in_ok-delays.ensures) c.setup_time-setup.ensures in
-    let e = slots-are net table c.args.period c.deref-3.result.now u (c.deref-3.ensures.value ∙ c.in_ok-delays.ensures) c.setup_time-setup.ensures
+    let n = need-is net table c.args.period c.deref-2.result.now u
+    (c.deref-2.ensures.value ∙ c.in_ok-delays.ensures) c.setup_time-setup.ensures in
+    let e = slots-are net table c.args.period c.deref-3.result.now u
+    (c.deref-3.ensures.value ∙ c.in_ok-delays.ensures) c.setup_time-setup.ensures
     c.as_slice.result.now c.as_slice.ensures c.deref-5.result.now (c.deref-5.ensures.value ∙ c.in_ok-slots.ensures.stage) in
     let count = ap (λ ps. signal_count net (slot_at ps)) e in (
       omega (arith, n, c.greatest.ensures, c.from.ensures, c.from-2.ensures, c.from-3.ensures, c.if-need-from.false),
@@ -40,8 +42,10 @@ returns-clause-outcome g c =
     let net = c.args.net.now in
     let table = (goal.Target-dyn g (c.args.target.now.vtable, c.args.target.now.value)).delays c.args.target.now.value in
     let u = c.setup_time-setup.result in
-    let n = need-is net table c.args.period c.deref-2.result.now u (c.deref-2.ensures.value ∙ c.in_ok-delays.ensures) c.setup_time-setup.ensures in
-    let made = slots-are net table c.args.period c.deref-3.result.now u (c.deref-3.ensures.value ∙ c.in_ok-delays.ensures) c.setup_time-setup.ensures
+    let n = need-is net table c.args.period c.deref-2.result.now u
+    (c.deref-2.ensures.value ∙ c.in_ok-delays.ensures) c.setup_time-setup.ensures in
+    let made = slots-are net table c.args.period c.deref-3.result.now u
+    (c.deref-3.ensures.value ∙ c.in_ok-delays.ensures) c.setup_time-setup.ensures
     c.as_slice.result.now c.as_slice.ensures in
     let e = made c.deref-5.result.now (c.deref-5.ensures.value ∙ c.in_ok-slots.ensures.stage) in
     let f = made c.deref-7.result.now (c.deref-7.ensures.value ∙ c.in_ok-slots.ensures.stage) in
@@ -63,6 +67,7 @@ pub returns-clause-ledger : goal.returns-clause-ledger
 returns-clause-ledger g c = λ class.
     let net = c.args.net.now in
     let table = (goal.Target-dyn g (c.args.target.now.vtable, c.args.target.now.value)).delays c.args.target.now.value in
-    let h = slots-are net table c.args.period c.deref-3.result.now c.setup_time-setup.result (c.deref-3.ensures.value ∙ c.in_ok-delays.ensures) c.setup_time-setup.ensures
+    let h = slots-are net table c.args.period c.deref-3.result.now c.setup_time-setup.result
+    (c.deref-3.ensures.value ∙ c.in_ok-delays.ensures) c.setup_time-setup.ensures
     c.as_slice.result.now c.as_slice.ensures c.deref-8.result.now (c.deref-8.ensures.value ∙ c.in_ok-slots.ensures.stage) in
     c.in_ok-planned.ensures.ledger class ∙ ap (λ ps. width_sum (design_cells net (slot_at ps)) class) h

@@ -15,7 +15,8 @@ use Rattle.opgen_pipe.proofs.signals.all_signals.Goals as goal
 count : (net : Net) (zeros : List (List Bool)) → zeros ≡ zero_words net → length zeros ≡ length net.nodes
 count net zeros e = ap length e ∙ length-each (λ i n. zero_word net i) 0 net.nodes
 
-zero_is : (net : Net) (zeros : List (List Bool)) (i : ℕ) (x : List Bool) → zeros ≡ zero_words net → i < length net.nodes → x ≡ get_or zeros i x → x ≡ zero_word net i
+zero_is : (net : Net) (zeros : List (List Bool)) (i : ℕ) (x : List Bool) → zeros ≡ zero_words net → i < length net.nodes → x
+    ≡ get_or zeros i x → x ≡ zero_word net i
 zero_is net zeros i x e l g =
     read-word zeros i x (omega (arith, l, count net zeros e)) g
     ∙ ap (λ zs. word_at zs i) e
@@ -23,7 +24,12 @@ zero_is net zeros i x e l g =
     (get-each (λ i n. zero_word net i) net.nodes i (get_or net.nodes i (Delay 0)) (slice_get-get_or net.nodes i (Delay 0) l))
 
 pub bounds-zeros-number : goal.bounds-zeros-number
-bounds-zeros-number c = omega (arith, count c.args.net.now c.args.zeros.now c.requires.zeros, c.nodes-test.true, ap length c.as_slice-nodes.ensures)
+bounds-zeros-number c = omega (
+  arith,
+  count c.args.net.now c.args.zeros.now c.requires.zeros,
+  c.nodes-test.true,
+  ap length c.as_slice-nodes.ensures,
+)
 
 pub nodes-preserved : goal.nodes-preserved
 nodes-preserved c =
@@ -32,7 +38,9 @@ nodes-preserved c =
     let i = c.nodes.number in
     let n = c.index-nodes-number.result in
     let o = standing_at c.args.standings.now i in
-    let is = zero_is net c.args.zeros.now i c.index-zeros-number.result c.requires.zeros (omega (arith, c.nodes-test.true, ap length c.as_slice-nodes.ensures)) c.index-zeros-number.is in
-    all-more (node_signals net c.args.standings.now) ns i n c.nodes.signals c.push_node.new.signals c.nodes-test.true c.index-nodes-number.is
+    let is = zero_is net c.args.zeros.now i c.index-zeros-number.result c.requires.zeros
+    (omega (arith, c.nodes-test.true, ap length c.as_slice-nodes.ensures)) c.index-zeros-number.is in
+    all-more (node_signals net c.args.standings.now) ns i n c.nodes.signals c.push_node.new.signals c.nodes-test.true
+    c.index-nodes-number.is
     (c.in_ok-push_node.ensures ∙ ap (λ z. c.nodes.signals ++ (own_signal z o i n ∷ map (copy_signal z o i) (range_with_len 1 o.copies))) is)
     ∙ c.nodes.invariant

@@ -11,4 +11,5 @@ copies-preserved c =
     let f : List ℕ → Signal = λ n. record { name = n; width = own.width; initial = Some c.args.zero } in
     let e : 1 + k ≡ k + 1 = omega arith in
     c.in_ok-push.ensures.ok
-    ∙ range-more (copy_signal c.args.zero own c.args.node) 1 k (k + 1) c.args.signals.now c.copies.signals (f c.in_ok-copy_name.field-0) c.copies.invariant e (ap f c.in_ok-copy_name.ensures)
+    ∙ range-more (copy_signal c.args.zero own c.args.node) 1 k (k + 1) c.args.signals.now c.copies.signals
+    (f c.in_ok-copy_name.field-0) c.copies.invariant e (ap f c.in_ok-copy_name.ensures)

@@ -20,4 +20,10 @@ pub overflow_add-next-in-nodes : goal.overflow_add-next-in-nodes
 overflow_add-next-in-nodes c =
     let count = copies c.args.net.now (slot_at c.args.slots.now) in
     let l : c.nodes.place < length c.args.net.now.nodes = omega (arith, c.nodes-test.true, ap length c.as_slice-nodes.ensures) in
-    omega (arith, before-within count c.nodes.place (length c.args.net.now.nodes) l, c.requires.few, c.nodes.invariant.next, c.requires.copies.each c.nodes.place l)
+    omega (
+      arith,
+      before-within count c.nodes.place (length c.args.net.now.nodes) l,
+      c.requires.few,
+      c.nodes.invariant.next,
+      c.requires.copies.each c.nodes.place l,
+    )

@@ -7,6 +7,7 @@ use Rattle.opgen_pipe.proofs.standings.standings.Given as goal
 
 abbrev pub invariant-nodes : goal.invariant-nodes
 invariant-nodes l = record {
-  made : l.standings.items ++ each_node (standing_of l.net (slot_at l.slots)) l.place (drop l.place l.nodes) ≡ standings l.net (slot_at l.slots);
+  made : l.standings.items ++ each_node (standing_of l.net (slot_at l.slots)) l.place (drop l.place l.nodes)
+      ≡ standings l.net (slot_at l.slots);
   next : l.next ≡ signals_before (copies l.net (slot_at l.slots)) l.place;
 }

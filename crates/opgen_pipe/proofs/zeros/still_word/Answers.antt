@@ -9,7 +9,11 @@ pub row-requires : goal.row-requires
 row-requires c =
     let words = c.args.words.now in
     let h = subst (MayStand (map length words)) c.in-Table.is c.requires.stands in
-    omega (arith, row-there words c.in-Table.rows c.in-Table.address c.index-words-address.result h c.index-words-address.is, ap length c.as_slice.ensures)
+    omega (
+      arith,
+      row-there words c.in-Table.rows c.in-Table.address c.index-words-address.result h c.index-words-address.is,
+      ap length c.as_slice.ensures,
+    )
 
 pub returns-in-Input : goal.returns-in-Input
 returns-in-Input c = c.new.ensures ∙ word-zero c.in-Input.width ∙ sym (ap (still_word c.args.words.now) c.in-Input.is)
@@ -18,7 +22,9 @@ pub returns-in-Choice : goal.returns-in-Choice
 returns-in-Choice c =
     let words = c.args.words.now in
     let h = subst (MayStand (map length words)) c.in-Choice.is c.requires.stands in
-    let there : c.in-Choice.on < length words = node-there words c.in-Choice.on (index_within (map length words) c.in-Choice.on 0 (omega (arith, h.one_bit))) in
+    let there : c.in-Choice.on < length words = node-there words c.in-Choice.on
+    (index_within (map length words) c.in-Choice.on 0 (omega (arith, h.one_bit))) in
     c.chosen.ensures
-    ∙ chosen_same _ _ _ _ _ _ (read-word words c.in-Choice.on c.index-words-on.result there c.index-words-on.is) c.part.ensures c.part-in-Choice.ensures
+    ∙ chosen_same _ _ _ _ _ _ (read-word words c.in-Choice.on c.index-words-on.result there c.index-words-on.is) c.part.ensures
+    c.part-in-Choice.ensures
     ∙ sym (ap (still_word words) c.in-Choice.is)

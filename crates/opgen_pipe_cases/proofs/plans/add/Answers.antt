@@ -18,7 +18,8 @@ name-width ws n h =
     let there : slice_get ws n ≡ Some 4 = slice_get-get_or ws n 0 (index_within ws n 0 (omega (arith, h))) ∙ ap Some h in
     ap (option_and_then as_width) there ∙ as_width-of 4 four
 
-sum-fits : (ws : List ℕ) (a b : ℕ) → slice_index ws a ≡ 4 → slice_index ws b ≡ 4 → FitsNodes ws 4 (chain Plus (more (name a) (more (name b) none)))
+sum-fits : (ws : List ℕ) (a b : ℕ) → slice_index ws a ≡ 4 → slice_index ws b ≡ 4
+    → FitsNodes ws 4 (chain Plus (more (name a) (more (name b) none)))
 sum-fits ws a b h g = record {
   has_width = ap (option_and_then (λ v. width_on ws [] Plus v (more (name b) none))) (name-width ws a h)
       ∙ ap (option_and_then (λ v. option_and_then (λ u. Some u) (joined Plus 4 v))) (name-width ws b g)

@@ -10,9 +10,11 @@ use Rattle.opgen_read.proofs.declared.noted.Goals as goal
 pub returns : goal.returns
 returns c =
     let name = c.args.name.now in
-    let none : get_by_text c.args.first name ≡ None = absent_from c.get.result _ c.get.ensures.value c.is_some.result c.is_some.ensures c.if-is_some.false in
+    let none : get_by_text c.args.first name ≡ None = absent_from c.get.result _ c.get.ensures.value c.is_some.result c.is_some.ensures
+    c.if-is_some.false in
     let updated : (q : List ℕ) → get_by_text c.insert.new.self q ≡ update bytes_eq (get_by_text c.args.first) name (Some c.args.place) q =
-    λ q. hash_map_updates_text (string_bytes c.in_ok-key.key) c.args.first c.insert.new.self (Some c.args.place) c.in_ok-insert.ensures.updates q
+    λ q. hash_map_updates_text (string_bytes c.in_ok-key.key) c.args.first c.insert.new.self
+    (Some c.args.place) c.in_ok-insert.ensures.updates q
     ∙ ap (λ n. update bytes_eq (get_by_text c.args.first) n (Some c.args.place) q) c.in_ok-key.ensures.ok in
     new_name (get_by_text c.args.first) (get_by_text c.insert.new.self) name c.args.place none updated
 

@@ -22,7 +22,9 @@ decreases-group l = 5 * l.depth
 
 abbrev pub invariant-further-operands : goal.invariant-further-operands
 invariant-further-operands l = record {
-  same : joined (map plain l.operands.items) (operands_at (names_in l.scope) (inside (names_in l.scope) l.depth) (length (left l.rest)) l.op (left l.rest)) ≡ joined (map plain l.fn.operands.items) (operands_at (names_in l.scope) (inside (names_in l.scope) l.depth) (length (left l.fn.rest)) l.op (left l.fn.rest));
+  same : joined (map plain l.operands.items) (operands_at (names_in l.scope) (inside (names_in l.scope) l.depth) (length (left l.rest)) l.op
+      (left l.rest)) ≡ joined (map plain l.fn.operands.items)
+      (operands_at (names_in l.scope) (inside (names_in l.scope) l.depth) (length (left l.fn.rest)) l.op (left l.fn.rest));
 }
 
 abbrev pub decreases-further-operands : goal.decreases-further-operands

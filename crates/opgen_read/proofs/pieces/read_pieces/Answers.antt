@@ -13,7 +13,8 @@ pieces-init c = record {
 
 pub pieces-preserved : goal.pieces-preserved
 pieces-preserved c = record {
-  reached = reached_more (left c.args.text) (left c.pieces.rest) c.pieces.place c.in_ok-place.field-0-0 (seen c.pieces.draft) (seen c.in_ok-place.field-0-1) c.pieces.taken
+  reached = reached_more (left c.args.text) (left c.pieces.rest) c.pieces.place c.in_ok-place.field-0-0 (seen c.pieces.draft)
+      (seen c.in_ok-place.field-0-1) c.pieces.taken
       (left c.in-Some.piece) (left c.in-Some.more) c.pieces.invariant.reached c.in-Some.ensures.some c.in_ok-place.ensures;
   within = omega (arith, c.in-Some.ensures.shorter, c.pieces.invariant.within);
 }
@@ -21,5 +22,6 @@ pieces-preserved c = record {
 pub returns-in_err-place-clause-err : goal.returns-in_err-place-clause-err
 returns-in_err-place-clause-err c =
     let p = err_from_is_err_and c.from_residual-in_err-place.result c.from_residual-in_err-place.ensures.1 in
-    rw (p.1, p.2) (step_fault (left c.args.text) (left c.pieces.rest) c.pieces.place (seen c.pieces.draft) c.pieces.taken (left c.in-Some.piece) (left c.in-Some.more) c.in_err-place.field-0.0
+    rw (p.1, p.2) (step_fault (left c.args.text) (left c.pieces.rest) c.pieces.place (seen c.pieces.draft) c.pieces.taken
+    (left c.in-Some.piece) (left c.in-Some.more) c.in_err-place.field-0.0
     c.pieces.invariant.reached c.in-Some.ensures.some c.in_err-place.ensures)

@@ -17,7 +17,8 @@ rows-preserved c = record {
 
 pub returns-in-Some-other : goal.returns-in-Some-other
 returns-in-Some-other c =
-    sym c.rows.invariant.same ∙ rows-stop c.rows.rows (left c.rows.rest) c.in-Some-other.word (sym c.in_default.ensures) (sym c.in-Some-other.ensures)
+    sym c.rows.invariant.same ∙ rows-stop c.rows.rows (left c.rows.rest) c.in-Some-other.word (sym c.in_default.ensures)
+    (sym c.in-Some-other.ensures)
 
 pub returns-in-None : goal.returns-in-None
 returns-in-None c =

@@ -12,5 +12,7 @@ pub add_all_names-loop-expr-preserved : goal.add_all_names-loop-expr-preserved
 add_all_names-loop-expr-preserved t c =
     let xs = c.args.exprs.now in
     let i = c.loop-expr.expr-index in
-    step c.add_names.new.names.items c.loop-expr.names.items c.args.names.now.items (operand_names (plain_all (take i xs))) (names_read (plain c.expr-item.result))
-    (operand_names (plain_all (take (i + 1) xs))) c.in_ok-add_names.ensures c.loop-expr.invariant (names-more xs i c.expr-item.result c.loop-expr-test.true c.expr-item.is)
+    step c.add_names.new.names.items c.loop-expr.names.items c.args.names.now.items (operand_names (plain_all (take i xs)))
+    (names_read (plain c.expr-item.result))
+    (operand_names (plain_all (take (i + 1) xs))) c.in_ok-add_names.ensures c.loop-expr.invariant
+    (names-more xs i c.expr-item.result c.loop-expr-test.true c.expr-item.is)

@@ -10,4 +10,10 @@ after-requires-clause-early c =
 pub returns-in_ok-reads-in-Cells-clause-early : goal.returns-in_ok-reads-in-Cells-clause-early
 returns-in_ok-reads-in-Cells-clause-early c =
     let e = latest_early c.args.slots.now c.deref.result.now (length c.args.slots.now) c.requires.early in
-    omega (arith, e, ap (λ p. p.cycle) c.latest.ensures, ap (λ p. p.cycle) c.after.ensures, after_early c.args.setup c.args.period c.args.delay c.latest.result)
+    omega (
+      arith,
+      e,
+      ap (λ p. p.cycle) c.latest.ensures,
+      ap (λ p. p.cycle) c.after.ensures,
+      after_early c.args.setup c.args.period c.args.delay c.latest.result,
+    )

@@ -21,7 +21,8 @@ pub slot_of-requires-clause-short : goal.slot_of-requires-clause-short
 slot_of-requires-clause-short c = short_at c.args.delays.now c.args.setup c.args.period c.nodes.place c.requires.short
 
 pub returns-clause-early : goal.returns-clause-early
-returns-clause-early c = all-early c.nodes.slots.items (length c.args.nodes.now) (omega (arith, c.nodes.invariant.count, c.nodes-test.false, c.nodes.auto.place-end)) c.nodes.invariant.early
+returns-clause-early c = all-early c.nodes.slots.items (length c.args.nodes.now)
+    (omega (arith, c.nodes.invariant.count, c.nodes-test.false, c.nodes.auto.place-end)) c.nodes.invariant.early
 
 pub returns-clause-ends : goal.returns-clause-ends
 returns-clause-ends c =

@@ -8,5 +8,6 @@ digits_from-requires-clause-small c =
 
 pub returns-clause-digits : goal.returns-clause-digits
 returns-clause-digits c =
-    let most = joined c.digits_from-units.result (length c.args.whole.now) (length c.args.places.now) c.digits_from-units.ensures.bound (omega arith) in
+    let most = joined c.digits_from-units.result (length c.args.whole.now) (length c.args.places.now) c.digits_from-units.ensures.bound
+    (omega arith) in
     omega (arith, most, c.digits_from.ensures.bound)

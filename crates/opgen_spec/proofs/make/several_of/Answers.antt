@@ -7,5 +7,6 @@ use Rattle.opgen_spec.proofs.make.several_of.Goals as goal
 
 pub returns : goal.returns
 returns c =
-    let numbers : c.in_ok-numerators.field-0 ≡ numerators (items_at (table_view c.args.table.now) key.Constants) = c.in_ok-numerators.ensures ∙ ap numerators c.items_at.ensures in
+    let numbers : c.in_ok-numerators.field-0 ≡ numerators (items_at (table_view c.args.table.now) key.Constants) =
+    c.in_ok-numerators.ensures ∙ ap numerators c.items_at.ensures in
     rw (c.format_at.ensures, numbers, c.count_at.ensures) refl

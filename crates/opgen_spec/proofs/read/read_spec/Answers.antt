@@ -12,7 +12,8 @@ use Rattle.opgen_spec.proofs.read.read_spec.Goals as goal
 
 pub returns-in-Some-clause-gives : goal.returns-in-Some-clause-gives
 returns-in-Some-clause-gives c =
-    gives_fault c.in-Some.fault (read (tree c.args.bytes.now)) (ap read c.in_ok-table.ensures ∙ field_first (table_view c.in_ok-table.table) c.in-Some.fault (sym c.in-Some.ensures))
+    gives_fault c.in-Some.fault (read (tree c.args.bytes.now))
+    (ap read c.in_ok-table.ensures ∙ field_first (table_view c.in_ok-table.table) c.in-Some.fault (sym c.in-Some.ensures))
 
 pub returns-in_default-kind_of-clause-gives : goal.returns-in_default-kind_of-clause-gives
 returns-in_default-kind_of-clause-gives c =
@@ -36,21 +37,27 @@ pub returns-in-Some-limit_fault-clause-gives : goal.returns-in-Some-limit_fault-
 returns-in-Some-limit_fault-clause-gives c =
     let ms = table_view c.in_ok-table.table in
     let none : field_fault ms ≡ None = sym c.field_fault.ensures ∙ c.in_default.is in
-    let same : c.in_ok-spec.spec ≡ spec_of ms = c.in_ok-spec.ensures ∙ ap (λ o. spec_with (unwrap_or o kind.Scale) ms) c.in-Some-kind_of.ensures in
-    gives_fault c.in-Some-limit_fault.fault (read (tree c.args.bytes.now)) (ap read c.in_ok-table.ensures ∙ limit_first ms c.in-Some-limit_fault.fault none (ap limit_fault (sym same) ∙ sym c.in-Some-limit_fault.ensures))
+    let same : c.in_ok-spec.spec ≡ spec_of ms = c.in_ok-spec.ensures
+    ∙ ap (λ o. spec_with (unwrap_or o kind.Scale) ms) c.in-Some-kind_of.ensures in
+    gives_fault c.in-Some-limit_fault.fault (read (tree c.args.bytes.now))
+    (ap read c.in_ok-table.ensures ∙ limit_first ms c.in-Some-limit_fault.fault none (ap limit_fault (sym same)
+    ∙ sym c.in-Some-limit_fault.ensures))
 
 pub returns-clause-gives : goal.returns-clause-gives
 returns-clause-gives c =
     let ms = table_view c.in_ok-table.table in
     let none : field_fault ms ≡ None = sym c.field_fault.ensures ∙ c.in_default.is in
-    let same : c.in_ok-spec.spec ≡ spec_of ms = c.in_ok-spec.ensures ∙ ap (λ o. spec_with (unwrap_or o kind.Scale) ms) c.in-Some-kind_of.ensures in
-    ap read c.in_ok-table.ensures ∙ none_first ms none (ap limit_fault (sym same) ∙ (sym c.limit_fault.ensures ∙ c.in_default-limit_fault.is)) ∙ ap Ok (sym same)
+    let same : c.in_ok-spec.spec ≡ spec_of ms = c.in_ok-spec.ensures
+    ∙ ap (λ o. spec_with (unwrap_or o kind.Scale) ms) c.in-Some-kind_of.ensures in
+    ap read c.in_ok-table.ensures ∙ none_first ms none (ap limit_fault (sym same) ∙ (sym c.limit_fault.ensures
+    ∙ c.in_default-limit_fault.is)) ∙ ap Ok (sym same)
 
 pub returns-clause-valid : goal.returns-clause-valid
 returns-clause-valid c =
     let ms = table_view c.in_ok-table.table in
     let none : field_fault ms ≡ None = sym c.field_fault.ensures ∙ c.in_default.is in
-    let clear : limit_fault (spec_with c.in-Some-kind_of.kind ms) ≡ None = ap limit_fault (sym c.in_ok-spec.ensures) ∙ (sym c.limit_fault.ensures ∙ c.in_default-limit_fault.is) in
+    let clear : limit_fault (spec_with c.in-Some-kind_of.kind ms) ≡ None = ap limit_fault (sym c.in_ok-spec.ensures)
+    ∙ (sym c.limit_fault.ensures ∙ c.in_default-limit_fault.is) in
     rw c.in_ok-spec.ensures (valid_in ms c.in-Some-kind_of.kind (fine ms none) (sym c.in-Some-kind_of.ensures) clear)
 
 pub returns-clause-written : goal.returns-clause-written

@@ -8,7 +8,8 @@ use Rattle.opgen_value.proofs.evaluate.+value.Given as goal
 
 abbrev pub invariant-chain_value-loop-operand : goal.invariant-chain_value-loop-operand
 invariant-chain_value-loop-operand l = record {
-  value : value_on (scope_of l.names l.ports) l.op l.word (plain_all (drop l.operand-index l.rest)) ≡ value_on (scope_of l.names l.ports) l.op l.initial.word (plain_all l.rest);
+  value : value_on (scope_of l.names l.ports) l.op l.word (plain_all (drop l.operand-index l.rest))
+      ≡ value_on (scope_of l.names l.ports) l.op l.initial.word (plain_all l.rest);
   fits : IsSome (width_on (widths_of l.names) (widths_of l.ports) l.op (length l.word) (plain_all (drop l.operand-index l.rest)));
   width : IsWidth (length l.word);
 }

@@ -25,7 +25,8 @@ pub returns : goal.returns
 returns c =
     let a = c.args.first in
     let b = c.args.second in
-    let total : c.bits.result + c.bits-2.result + c.digit.result ≡ nat a + nat b + digit c.args.carry = omega (arith, c.bits.ensures, c.bits-2.ensures, c.digit.ensures) in
+    let total : c.bits.result + c.bits-2.result + c.digit.result
+    ≡ nat a + nat b + digit c.args.carry = omega (arith, c.bits.ensures, c.bits-2.ensures, c.digit.ensures) in
     let w : c.width-width.result ≡ length a = c.width-width.ensures in
     let p : c.power.result ≡ 2 ^ length a = c.power.ensures ∙ ap (λ n. 2 ^ n) w in
     c.new.ensures ∙ ap (λ n. word n ((c.bits.result + c.bits-2.result + c.digit.result) % c.power.result)) w

@@ -13,20 +13,37 @@ cycles-preserved c =
 
 pub invariant_of-result : goal.invariant_of-result
 invariant_of-result c =
-    let all = all_drawn c.args.spec.now.op (inputs_of c.args.spec.now) c.cycles.cells.items c.args.cycles c.args.seed c.cycles.left c.cycles.state c.cycles.invariant c.cycles-test.false in
-    let columns : c.len.result ≡ length (inputs_of c.args.spec.now) = omega (arith, c.len.ensures, c.in_ok-ports.ports.ok.0, ap length c.in_ok-ports.ensures) in
-    record { whole = whole c.args.spec.now.op (inputs_of c.args.spec.now) c.args.cycles c.args.seed c.len.result c.cycles.cells.items columns all }
+    let all = all_drawn c.args.spec.now.op (inputs_of c.args.spec.now) c.cycles.cells.items c.args.cycles c.args.seed c.cycles.left
+    c.cycles.state c.cycles.invariant c.cycles-test.false in
+    let columns : c.len.result ≡ length (inputs_of c.args.spec.now) = omega (
+      arith,
+      c.len.ensures,
+      c.in_ok-ports.ports.ok.0,
+      ap length c.in_ok-ports.ensures,
+    ) in
+    record {
+      whole = whole c.args.spec.now.op (inputs_of c.args.spec.now) c.args.cycles c.args.seed c.len.result c.cycles.cells.items
+          columns all;
+    }
 
 pub returns-clause-fit : goal.returns-clause-fit
 returns-clause-fit c =
     let op = c.args.spec.now.op in
     let accepted : IsAcceptedBy c.args.spec.now.version op = c.requires.op in
-    let all = all_drawn op (inputs_of c.args.spec.now) c.cycles.cells.items c.args.cycles c.args.seed c.cycles.left c.cycles.state c.cycles.invariant c.cycles-test.false in
-    subst (AreRowsOfCells (map (λ port. port.format.width) (inputs_of c.args.spec.now)) c.args.cycles) all (rows_fit op (inputs_of c.args.spec.now) c.args.cycles c.args.seed (inputs_wide op accepted.ranges))
+    let all = all_drawn op (inputs_of c.args.spec.now) c.cycles.cells.items c.args.cycles c.args.seed c.cycles.left c.cycles.state
+    c.cycles.invariant c.cycles-test.false in
+    subst (AreRowsOfCells (map (λ port. port.format.width) (inputs_of c.args.spec.now)) c.args.cycles) all
+    (rows_fit op (inputs_of c.args.spec.now) c.args.cycles c.args.seed (inputs_wide op accepted.ranges))
 
 pub returns-clause-count : goal.returns-clause-count
 returns-clause-count c =
     let op = c.args.spec.now.op in
-    let all = all_drawn op (inputs_of c.args.spec.now) c.cycles.cells.items c.args.cycles c.args.seed c.cycles.left c.cycles.state c.cycles.invariant c.cycles-test.false in
-    let columns : c.len.result ≡ length (inputs_of c.args.spec.now) = omega (arith, c.len.ensures, c.in_ok-ports.ports.ok.0, ap length c.in_ok-ports.ensures) in
+    let all = all_drawn op (inputs_of c.args.spec.now) c.cycles.cells.items c.args.cycles c.args.seed c.cycles.left c.cycles.state
+    c.cycles.invariant c.cycles-test.false in
+    let columns : c.len.result ≡ length (inputs_of c.args.spec.now) = omega (
+      arith,
+      c.len.ensures,
+      c.in_ok-ports.ports.ok.0,
+      ap length c.in_ok-ports.ensures,
+    ) in
     rows_counted op (inputs_of c.args.spec.now) c.args.cycles c.args.seed c.len.result c.cycles.cells.items columns (some_input op) all

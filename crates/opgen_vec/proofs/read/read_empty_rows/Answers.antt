@@ -11,7 +11,8 @@ pub returns-then-not-is_empty-clause-bad_line : goal.returns-then-not-is_empty-c
 returns-then-not-is_empty-clause-bad_line c line e =
     let number : c.lines.rows + 1 ≡ line = cc in
     let some = eqb-false (length c.split_line.result.0.now) 0 (sym c.if-not-is_empty.ensures) in
-    first_bad _ _ _ _ _ _ _ (rw c.split_line.ensures.lines at c.lines.invariant.read) c.lines.invariant.few c.if-rows-eq-MAX_ROWS.false (no_row _ some) number
+    first_bad _ _ _ _ _ _ _ (rw c.split_line.ensures.lines at c.lines.invariant.read) c.lines.invariant.few c.if-rows-eq-MAX_ROWS.false
+    (no_row _ some) number
 
 pub lines-preserved : goal.lines-preserved
 lines-preserved c =
@@ -27,4 +28,5 @@ returns-clause-count c =
 
 pub returns-clause-rows : goal.returns-clause-rows
 returns-clause-rows c =
-    vectors _ _ _ _ (no_line _ _ _ _ _ (eqb-true (length c.lines.rest.now) 0 (sym c.lines-test.ensures)) c.lines.invariant.read) c.lines.invariant.few
+    vectors _ _ _ _ (no_line _ _ _ _ _ (eqb-true (length c.lines.rest.now) 0 (sym c.lines-test.ensures)) c.lines.invariant.read)
+    c.lines.invariant.few

@@ -7,7 +7,8 @@ use Rattle.opgen_vec.proofs.row.read_row.Given as goal
 
 abbrev pub invariant-loop-width : goal.invariant-loop-width
 invariant-loop-width l = record {
-  cells : row_cells l.fn.widths l.fn.line ≡ before (drop (length l.fn.cells.items) l.cells.items) (spaced_cells (drop l.width-index l.others) l.rest);
+  cells : row_cells l.fn.widths l.fn.line ≡ before (drop (length l.fn.cells.items) l.cells.items) (spaced_cells (drop l.width-index
+      l.others) l.rest);
   same : take (length l.fn.cells.items) l.cells.items ≡ l.fn.cells.items;
   kept : length l.fn.cells.items ≤ length l.cells.items;
   narrow : All (λ width. width ≤ MAX_WIDTH) l.others;

@@ -5,7 +5,9 @@ use Rattle.opgen_vec.proofs.row.split_line.Goals as goal
 
 pub returns-then-len-text-clause-lines : goal.returns-then-len-text-clause-lines
 returns-then-len-text-clause-lines c =
-    rw (take_rest c.args.text.now (c.line_len-len.result + 1), c.without_return.ensures) (lines-feed c.args.text.now c.line_len-len.result c.line_len-len.ensures.value c.if-len-text.true)
+    rw (take_rest c.args.text.now (c.line_len-len.result + 1), c.without_return.ensures)
+    (lines-feed c.args.text.now c.line_len-len.result c.line_len-len.ensures.value c.if-len-text.true)
 
 pub returns-else-len-text-clause-lines : goal.returns-else-len-text-clause-lines
-returns-else-len-text-clause-lines c = lines-last c.args.text.now c.line_len-len.result c.line_len-len.ensures.value c.if-len-text.false c.line_len-len.ensures.within c.requires
+returns-else-len-text-clause-lines c = lines-last c.args.text.now c.line_len-len.result c.line_len-len.ensures.value c.if-len-text.false
+    c.line_len-len.ensures.within c.requires

@@ -4,7 +4,8 @@ use Rattle.opgen_vec.proofs.write.write_rows.Given as goal
 
 abbrev pub invariant-rows : goal.invariant-rows
 invariant-rows l = record {
-  text : rows_text l.in_widths l.out_widths (row_count_of (length l.in_widths) (length l.out_widths) l.fn.inputs.cells.items l.fn.outputs.cells.items) l.fn.inputs.cells.items l.fn.outputs.cells.items
+  text : rows_text l.in_widths l.out_widths (row_count_of (length l.in_widths) (length l.out_widths) l.fn.inputs.cells.items
+      l.fn.outputs.cells.items) l.fn.inputs.cells.items l.fn.outputs.cells.items
       ≡ l.text.items ++ rows_text l.in_widths l.out_widths l.left l.inputs l.outputs;
   inputs : length l.inputs ≡ length l.in_widths * l.left;
   outputs : length l.outputs ≡ length l.out_widths * l.left;

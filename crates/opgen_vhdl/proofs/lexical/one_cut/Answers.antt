@@ -5,7 +5,8 @@ use Rattle.opgen_vhdl.proofs.lexical.one_cut.Goals as goal
 
 pub returns-clause-tokens : goal.returns-clause-tokens
 returns-clause-tokens c = λ bytes a b s t.
-    sym s.listed ∙ ap (tokens_from 0) (one_cut s.elements t.elements bytes _ _ s.cut t.cut nothing_starts_at_end nothing_starts_at_end).0 ∙ t.listed
+    sym s.listed ∙ ap (tokens_from 0) (one_cut s.elements t.elements bytes _ _ s.cut t.cut nothing_starts_at_end nothing_starts_at_end).0
+    ∙ t.listed
 
 pub returns-clause-offset : goal.returns-clause-offset
 returns-clause-offset c = λ bytes m n s t.

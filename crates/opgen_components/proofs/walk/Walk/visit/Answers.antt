@@ -23,7 +23,8 @@ pub returns-clause-path : goal.returns-clause-path
 returns-clause-path c =
     let w = c.steps.self in
     let places = w.open_places.items in
-    let none : slice_get places (length places - 1) ≡ None = ap (λ x. slice_get x (length x - 1)) (sym c.deref.ensures.value) ∙ sym c.top.ensures ∙ c.in_default.is in
+    let none : slice_get places (length places - 1) ≡ None = ap (λ x. slice_get x (length x - 1)) (sym c.deref.ensures.value)
+    ∙ sym c.top.ensures ∙ c.in_default.is in
     let empty : length places ≡ 0 = elim (cases_lt 0 (length places)) [
       | inl l ↦
           let a = slice_get-get_or places (length places - 1) 0 (omega (arith, l)) in
@@ -31,4 +32,5 @@ returns-clause-path c =
       | inr l ↦ omega (arith, l)
     ] in
     nil_from_length w.path.items
-    (path-empty (graph_of c.args.graph.now) w.marks.items w.next.items w.path.items w.bounds.items places (length w.done.items) c.steps.invariant.walk empty)
+    (path-empty (graph_of c.args.graph.now) w.marks.items w.next.items w.path.items w.bounds.items places
+    (length w.done.items) c.steps.invariant.walk empty)

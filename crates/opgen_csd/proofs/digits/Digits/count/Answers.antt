@@ -11,8 +11,22 @@ pub loop-digit-preserved : goal.loop-digit-preserved
 loop-digit-preserved c =
     let more = nonzeros_more (take c.self.inside.len c.self.inside.digits) c.loop-digit.digit-index c.loop-digit-test.true in
     elim c.if-digit-ne0.branch [
-      | then-digit-ne0 w ↦ omega (arith, more, counted (get_or (take c.self.inside.len c.self.inside.digits) c.loop-digit.digit-index (pos 0)) w.if-digit-ne0.true, w.count-is, c.loop-digit.invariant)
+      | then-digit-ne0 w ↦ omega (
+        arith,
+        more,
+        counted (get_or (take c.self.inside.len c.self.inside.digits) c.loop-digit.digit-index
+            (pos 0)) w.if-digit-ne0.true,
+        w.count-is,
+        c.loop-digit.invariant,
+      )
       | else-digit-ne0 w ↦
           let f : FitsSigned w8 (get_or (take c.self.inside.len c.self.inside.digits) c.loop-digit.digit-index (pos 0)) = search rules in
-          omega (arith, more, not_counted (get_or (take c.self.inside.len c.self.inside.digits) c.loop-digit.digit-index (pos 0)) f w.if-digit-ne0.false, w.count-is, c.loop-digit.invariant)
+          omega (
+            arith,
+            more,
+            not_counted (get_or (take c.self.inside.len c.self.inside.digits) c.loop-digit.digit-index (pos 0)) f
+                w.if-digit-ne0.false,
+            w.count-is,
+            c.loop-digit.invariant,
+          )
     ]

@@ -14,7 +14,8 @@ overflow_add-sum c =
     let d : FitsSigned w8 (get_or c.self.inside.digits c.loop-place.place (pos 0)) = search rules in
     let r : FitsSigned w64 c.weighted-sum.result = search rules in
     let e = rw (to_z-of_z w8 _ d) at c.weighted-sum.ensures in
-    rw (to_z-of_z w64 c.weighted-sum.result r, c.loop-place.invariant, e) (value_fits _ _ _ c.self.invariant c.self.told c.loop-place-test.true)
+    rw (to_z-of_z w64 c.weighted-sum.result r, c.loop-place.invariant, e)
+    (value_fits _ _ _ c.self.invariant c.self.told c.loop-place-test.true)
 
 pub loop-place-preserved : goal.loop-place-preserved
 loop-place-preserved c =
@@ -22,4 +23,5 @@ loop-place-preserved c =
     let r : FitsSigned w64 c.weighted-sum.result = search rules in
     let e = rw (to_z-of_z w8 _ d) at c.weighted-sum.ensures in
     let fits = value_fits _ _ _ c.self.invariant c.self.told c.loop-place-test.true in
-    rw (to_z-of_z w64 c.weighted-sum.result r, c.loop-place.invariant, e, to_z-of_z w64 _ fits) (sym (value_more _ _ _ c.self.invariant c.self.told c.loop-place-test.true))
+    rw (to_z-of_z w64 c.weighted-sum.result r, c.loop-place.invariant, e, to_z-of_z w64 _ fits)
+    (sym (value_more _ _ _ c.self.invariant c.self.told c.loop-place-test.true))

@@ -9,4 +9,6 @@ use Rattle.opgen_design.proofs.design.Design.check_driven_once.Goals as goal
 pub returns-clause-fault : goal.returns-clause-fault
 returns-clause-fault c =
     let d = c.args.self.now in
-    driver-fault d DrivenTwice tt (λ i. unit-if (slice_get d.ports i)) (λ i. unit-if (slice_get d.signals i)) (c.driven_twice.result) (c.driven_twice.ensures) c.failing.result (c.failing.ensures ∙ ap (λ b. fault_at 4 b (c.driven_twice.result)) c.before_drivers.ensures)
+    driver-fault d DrivenTwice tt (λ i. unit-if (slice_get d.ports i)) (λ i. unit-if (slice_get d.signals i)) (c.driven_twice.result)
+    (c.driven_twice.ensures) c.failing.result
+    (c.failing.ensures ∙ ap (λ b. fault_at 4 b (c.driven_twice.result)) c.before_drivers.ensures)

@@ -7,4 +7,5 @@ use Rattle.opgen_design.proofs.design.Design.check_driven_signals.Goals as goal
 pub returns-clause-fault : goal.returns-clause-fault
 returns-clause-fault c =
     let d = c.args.self.now in
-    signal-fault d NotDriven tt c.requires.ports (c.undriven_signal.result) (c.undriven_signal.ensures) c.failing.result (c.failing.ensures ∙ ap (λ b. fault_at 5 b (c.undriven_signal.result)) c.len.ensures)
+    signal-fault d NotDriven tt c.requires.ports (c.undriven_signal.result) (c.undriven_signal.ensures) c.failing.result
+    (c.failing.ensures ∙ ap (λ b. fault_at 5 b (c.undriven_signal.result)) c.len.ensures)

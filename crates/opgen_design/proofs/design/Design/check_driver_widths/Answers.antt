@@ -7,4 +7,5 @@ use Rattle.opgen_design.proofs.design.Design.check_driver_widths.Goals as goal
 pub returns-clause-fault : goal.returns-clause-fault
 returns-clause-fault c =
     let d = c.args.self.now in
-    driver-fault d Width tt c.requires.ports c.requires.signals (c.wrong_driver.result) (c.wrong_driver.ensures) c.failing.result (c.failing.ensures ∙ ap (λ b. fault_at 3 b (c.wrong_driver.result)) c.before_drivers.ensures)
+    driver-fault d Width tt c.requires.ports c.requires.signals (c.wrong_driver.result) (c.wrong_driver.ensures) c.failing.result
+    (c.failing.ensures ∙ ap (λ b. fault_at 3 b (c.wrong_driver.result)) c.before_drivers.ensures)

@@ -7,4 +7,5 @@ use Rattle.opgen_design.proofs.design.Design.check_signal_widths.Goals as goal
 pub returns-clause-fault : goal.returns-clause-fault
 returns-clause-fault c =
     let d = c.args.self.now in
-    signal-fault d Width tt c.requires.ports (c.wrong_signal.result) (c.wrong_signal.ensures) c.failing.result (c.failing.ensures ∙ ap (λ b. fault_at 3 b (c.wrong_signal.result)) c.len.ensures)
+    signal-fault d Width tt c.requires.ports (c.wrong_signal.result) (c.wrong_signal.ensures) c.failing.result
+    (c.failing.ensures ∙ ap (λ b. fault_at 3 b (c.wrong_signal.result)) c.len.ensures)

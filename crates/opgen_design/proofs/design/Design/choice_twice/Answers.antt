@@ -11,4 +11,5 @@ choices_differ-requires c =
 pub returns : goal.returns
 returns c =
     let d = c.args.self.now in
-    none-failing (DriverPasses d ChoiceTwice) d.drivers c.loop-i.i (omega (arith, c.loop-i-test.false, c.len-i-end.ensures)) c.loop-i.invariant
+    none-failing (DriverPasses d ChoiceTwice) d.drivers c.loop-i.i
+    (omega (arith, c.loop-i-test.false, c.len-i-end.ensures)) c.loop-i.invariant

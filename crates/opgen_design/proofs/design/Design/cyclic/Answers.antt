@@ -16,6 +16,7 @@ returns-clause-first c =
 pub returns-clause-ordered : goal.returns-clause-ordered
 returns-clause-ordered c = λ e.
     let d = c.args.self.now in
-    let all = none-failing (DriverPasses d Cyclic) d.drivers c.loop-i.i (omega (arith, c.loop-i-test.false, c.len-i-end.ensures)) c.loop-i.invariant in
+    let all = none-failing (DriverPasses d Cyclic) d.drivers c.loop-i.i
+    (omega (arith, c.loop-i-test.false, c.len-i-end.ensures)) c.loop-i.invariant in
     is-ordered d c.in_ok-groups.groups.items c.in_ok-groups.ensures
     (λ k m. let a = contains-at d.drivers k m in of-item (DriverPasses d Cyclic) d.drivers a.0 k a.1 (all a.0))

@@ -12,7 +12,8 @@ use Rattle.opgen_design.proofs.design.Design.declared_twice.Goals as goal
 pub returns : goal.returns
 returns c =
     let d = c.args.self.now in
-    none-failing (IsNew (names_of d)) (names_of d) c.loop-i.i (omega (arith, names-length d, c.loop-i-test.false, c.len.ensures, c.len-2.ensures)) c.loop-i.invariant.holds
+    none-failing (IsNew (names_of d)) (names_of d) c.loop-i.i
+    (omega (arith, names-length d, c.loop-i-test.false, c.len.ensures, c.len-2.ensures)) c.loop-i.invariant.holds
 
 was-met : (b f : Bool) → f ≡ not b → f ≡ false → b ≡ true
 was-met true f e h = refl
@@ -41,11 +42,13 @@ returns-then-not-branch c =
 abbrev Met : {S : Type 0} → HashSet (Bor (List ℕ)) S → Bor (List ℕ) → Bool
 Met s q = contains (λ x y. bytes_eq x.now y.now) s q
 
-module _ {S : Type 0} (names : List (List ℕ)) (i : ℕ) (name : Bor (List ℕ)) (is : name.now ≡ get_or names i []) (old new : HashSet (Bor (List ℕ)) S)
+module _ {S : Type 0} (names : List (List ℕ)) (i : ℕ) (name : Bor (List ℕ)) (is : name.now ≡ get_or names i [])
+    (old new : HashSet (Bor (List ℕ)) S)
     (met : (q : Bor (List ℕ)) → IsTrue (Met old q) → (j : ℕ) × (j < i) × (get_or names j [] ≡ q.now))
     (all : (j : ℕ) (q : Bor (List ℕ)) → j < i → get_or names j [] ≡ q.now → IsTrue (Met old q))
     (updates : (q : Bor (List ℕ)) → Met new q ≡ cond (bytes_eq name.now q.now) true (Met old q)) where
-  met-by : (q : Bor (List ℕ)) (b : Bool) → bytes_eq name.now q.now ≡ b → cond b true (Met old q) ≡ true → (j : ℕ) × (j < i + 1) × (get_or names j [] ≡ q.now)
+  met-by : (q : Bor (List ℕ)) (b : Bool) → bytes_eq name.now q.now ≡ b → cond b true (Met old q) ≡ true → (j : ℕ) × (j < i + 1)
+      × (get_or names j [] ≡ q.now)
   met-by q true e h = (i, omega arith, sym is ∙ (bytes_eq-Decides name.now q.now).0 e)
   met-by q false e h = let m = met q h in (m.0, omega (arith, m.1), m.2)
 
@@ -75,8 +78,11 @@ loop-i-preserved c =
     let unmet : Met c.loop-i.met name ≡ false = was-not _ _ c.in_ok-insert.ensures.added c.if-not-branch.false in
     record {
       holds = new-holds names i within name.now c.name-name.ensures c.loop-i.invariant.holds
-          (λ e. let a : bytes_eq name.now (codes "clk") ≡ true = (bytes_eq-Decides name.now (codes "clk")).1 e in let b : false ≡ true = c.if-eq.ensures ∙ a in absurd (cc))
+          (λ e. let a : bytes_eq name.now (codes "clk") ≡ true = (bytes_eq-Decides name.now (codes "clk")).1 e in let b : false
+          ≡ true = c.if-eq.ensures ∙ a in absurd (cc))
           (λ j l e. let a = c.loop-i.invariant.all j name l e in let b : false ≡ true = sym unmet ∙ a in absurd (cc));
-      met = met-more names i name c.name-name.ensures c.loop-i.met c.insert.new.self c.loop-i.invariant.met c.loop-i.invariant.all (λ q. c.in_ok-insert.ensures.updates.0 q);
-      all = all-more names i name c.name-name.ensures c.loop-i.met c.insert.new.self c.loop-i.invariant.met c.loop-i.invariant.all (λ q. c.in_ok-insert.ensures.updates.0 q);
+      met = met-more names i name c.name-name.ensures c.loop-i.met c.insert.new.self c.loop-i.invariant.met c.loop-i.invariant.all
+          (λ q. c.in_ok-insert.ensures.updates.0 q);
+      all = all-more names i name c.name-name.ensures c.loop-i.met c.insert.new.self c.loop-i.invariant.met c.loop-i.invariant.all
+          (λ q. c.in_ok-insert.ensures.updates.0 q);
     }

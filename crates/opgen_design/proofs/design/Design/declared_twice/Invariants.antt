@@ -8,6 +8,8 @@ use Rattle.opgen_design.proofs.design.Design.declared_twice.Given as goal
 abbrev pub invariant-loop-i : goal.invariant-loop-i
 invariant-loop-i l = record {
   holds : HoldsBefore (λ i name. IsNewName (names_of l.self) i) (names_of l.self) l.i;
-  met : (q : Bor (List ℕ)) → IsTrue (contains (λ x y. bytes_eq x.now y.now) l.met q) → (j : ℕ) × (j < l.i) × (get_or (names_of l.self) j [] ≡ q.now);
-  all : (j : ℕ) (q : Bor (List ℕ)) → j < l.i → get_or (names_of l.self) j [] ≡ q.now → IsTrue (contains (λ x y. bytes_eq x.now y.now) l.met q);
+  met : (q : Bor (List ℕ)) → IsTrue (contains (λ x y. bytes_eq x.now y.now) l.met q) → (j : ℕ) × (j < l.i)
+      × (get_or (names_of l.self) j [] ≡ q.now);
+  all : (j : ℕ) (q : Bor (List ℕ)) → j < l.i → get_or (names_of l.self) j [] ≡ q.now
+      → IsTrue (contains (λ x y. bytes_eq x.now y.now) l.met q);
 }

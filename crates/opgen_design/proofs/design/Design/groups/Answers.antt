@@ -6,7 +6,8 @@ use Rattle.opgen_design.specs.Rules.{AreNeeds, AreGroups}
 use Rattle.opgen_design.proofs.GroupLaws.{is-graph, are-groups}
 use Rattle.opgen_design.proofs.design.Design.groups.Goals as goal
 
-of-components : {Z E : Type 0} (d : Design) (g : Graph) (r : Result (Vec Component Z) E) → IfOk r (λ cs. AreComponents g cs.items) → ((cs : List Component) → AreComponents g cs → AreGroups d cs) → IfOk r (λ cs. AreGroups d cs.items)
+of-components : {Z E : Type 0} (d : Design) (g : Graph) (r : Result (Vec Component Z) E) → IfOk r (λ cs. AreComponents g cs.items)
+    → ((cs : List Component) → AreComponents g cs → AreGroups d cs) → IfOk r (λ cs. AreGroups d cs.items)
 of-components d g (Ok v) h f = f v.items h
 of-components d g (Err e) h f = tt
 

@@ -19,7 +19,8 @@ pub returns-else-is_some : goal.returns-else-is_some
 returns-else-is_some c =
     let d = c.args.self.now in
     let r = c.is_register.ensures in (
-      (λ h k m s. absurd (no-register d c.requires.declared c.requires.once c.args.firsts.now c.requires.firsts c.args.place (λ g. refuse c.is_register.result h (r.1 g)) k m s)),
+      (λ h k m s. absurd (no-register d c.requires.declared c.requires.once c.args.firsts.now c.requires.firsts c.args.place
+          (λ g. refuse c.is_register.result h (r.1 g)) k m s)),
       (λ h. deny c.is_register.result (λ t.
           let k = some-register d c.requires.declared c.requires.once c.args.firsts.now c.requires.firsts c.args.place (r.0 t) in
           no-some c.args.signal.now.initial c.if-is_some.ensures (h k.0 k.1 k.2))),

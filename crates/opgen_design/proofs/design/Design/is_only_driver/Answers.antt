@@ -28,6 +28,7 @@ returns-then-not-drives_input c =
     let e : c.slot-slot.result ≡ slot_of d k = c.slot-slot.ensures ∙ ap (λ n. slot n (target k)) c.len.ensures in
     let f = ap (λ t. get_or c.args.firsts.now t None) e in
     let never : IsInput d (target k) → ⊥ = λ h. let a : false ≡ true = c.if-not-drives_input.ensures.1 h in absurd (cc) in (
-      (λ h. only-first d c.requires.declared c.args.firsts.now c.requires.firsts c.args.place k c.requires.at never (sym f ∙ c.is_first.ensures.0 h)),
+      (λ h. only-first d c.requires.declared c.args.firsts.now c.requires.firsts c.args.place k c.requires.at never
+          (sym f ∙ c.is_first.ensures.0 h)),
       (λ h. c.is_first.ensures.1 (f ∙ first-only d c.requires.declared c.args.firsts.now c.requires.firsts c.args.place k c.requires.at h)),
     )

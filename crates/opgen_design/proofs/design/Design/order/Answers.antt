@@ -12,7 +12,9 @@ returns c =
     let ranks = c.as_slice-ranks.result.now in
     let order = c.sort_by_key.new.self.items in
     let groups : AreGroups d c.deref-2.result.now = subst (AreGroups d) (sym c.deref-2.ensures.value) c.in_ok-groups.ensures in
-    let h : AreRanks d c.deref-2.result.now (length d.drivers) ranks = subst (AreRanks d c.deref-2.result.now (length d.drivers)) (sym c.as_slice-ranks.ensures.value) c.in_ok-ranks.ensures in
+    let h : AreRanks d c.deref-2.result.now (length d.drivers) ranks = subst (AreRanks d c.deref-2.result.now (length d.drivers))
+    (sym c.as_slice-ranks.ensures.value) c.in_ok-ranks.ensures in
     let perm = subst (λ xs. IsPermutation xs order) c.in_ok-order.ensures c.in_ok-sort_by_key.ensures.permutation in
-    let up : IsNonDecreasingBy (λ i. get_or ranks i 0) order = IsNonDecreasingBy-from_sort_by_key (λ i. get_or ranks i 0) order c.in_ok-sort_by_key.ensures.sorted (λ a r q k. search rules) in
+    let up : IsNonDecreasingBy (λ i. get_or ranks i 0) order = IsNonDecreasingBy-from_sort_by_key
+    (λ i. get_or ranks i 0) order c.in_ok-sort_by_key.ensures.sorted (λ a r q k. search rules) in
     is-order d c.deref-2.result.now groups (off-cycles d c.requires.sound.ordered) ranks h order perm up

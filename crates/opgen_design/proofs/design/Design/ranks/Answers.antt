@@ -12,7 +12,8 @@ loop-i-preserved c =
     let d = c.args.self.now in
     let cs = c.args.groups.now in
     subst (AreRanks d cs (c.loop-i.i + 1)) (sym c.in_ok-push.ensures.items)
-    (ranks-more d cs c.loop-i.i c.loop-i.ranks.items c.loop-i.invariant c.get.result.now c.get.ensures c.rank.result c.rank.ensures.rank c.rank.ensures.small)
+    (ranks-more d cs c.loop-i.i c.loop-i.ranks.items c.loop-i.invariant c.get.result.now c.get.ensures c.rank.result c.rank.ensures.rank
+    c.rank.ensures.small)
 
 pub returns : goal.returns
 returns c =

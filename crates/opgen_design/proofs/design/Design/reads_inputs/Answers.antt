@@ -16,7 +16,8 @@ pub returns : goal.returns
 returns c =
     let d = c.args.self.now in
     let e = c.deref.ensures.value ∙ c.in_ok-uses.ensures.ports in (
-      (λ h. lists-driver (λ s. Unit {0}) (λ p. IfSome (slice_get d.ports p) (λ q. q.dir ≡ In)) c.args.driver.now (all-names (λ s. Unit {0}) _ (λ x. tt))
+      (λ h. lists-driver (λ s. Unit {0}) (λ p. IfSome (slice_get d.ports p) (λ q. q.dir ≡ In)) c.args.driver.now
+          (all-names (λ s. Unit {0}) _ (λ x. tt))
           (subst (λ xs. All (λ p. IfSome (slice_get d.ports p) (λ q. q.dir ≡ In)) xs) e (c.are_inputs.ensures.0 h))),
       (λ h. c.are_inputs.ensures.1 (subst (λ xs. All (λ p. IfSome (slice_get d.ports p) (λ q. q.dir ≡ In)) xs) (sym e)
           (driver-lists (λ s. Unit {0}) (λ p. IfSome (slice_get d.ports p) (λ q. q.dir ≡ In)) c.args.driver.now h).1)),

@@ -10,4 +10,5 @@ reads_inputs-requires c = declared-at c.args.self.now c.requires c.loop-i.i c.ge
 pub returns : goal.returns
 returns c =
     let d = c.args.self.now in
-    none-failing (DriverPasses d ReadsOutput) d.drivers c.loop-i.i (omega (arith, c.loop-i-test.false, c.len-i-end.ensures)) c.loop-i.invariant
+    none-failing (DriverPasses d ReadsOutput) d.drivers c.loop-i.i
+    (omega (arith, c.loop-i-test.false, c.len-i-end.ensures)) c.loop-i.invariant

@@ -10,4 +10,5 @@ loop-i-preserved c =
     ∙ waiting-more ks c.loop-i.i c.get.result.now c.get.ensures c.loop-i.found.items ∙ c.loop-i.invariant
 
 pub returns : goal.returns
-returns c = waiting-all c.args.self.now.drivers c.loop-i.i c.loop-i.found.items (omega (arith, c.loop-i-test.false, c.len-i-end.ensures)) c.loop-i.invariant
+returns c = waiting-all c.args.self.now.drivers c.loop-i.i c.loop-i.found.items
+    (omega (arith, c.loop-i-test.false, c.len-i-end.ensures)) c.loop-i.invariant

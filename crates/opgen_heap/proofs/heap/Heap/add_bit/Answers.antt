@@ -16,7 +16,8 @@ pub invariant_of-self : goal.invariant_of-self
 invariant_of-self c =
     let cs = c.self.inside.columns.items in
     let w = c.self.inside.width in
-    let longer = length-with_bit_at cs c.args.weight (Of c.args.node c.args.index) w c.self.invariant.2 (omega (arith, c.if-weight-self.false)) in
+    let longer = length-with_bit_at cs c.args.weight (Of c.args.node c.args.index) w c.self.invariant.2
+    (omega (arith, c.if-weight-self.false)) in
     (c.self.invariant.0, c.self.invariant.1, omega (arith, ap length c.in-Ok.ensures.ok, longer))
 
 pub returns-in-Ok-clause-sum : goal.returns-in-Ok-clause-sum

@@ -33,4 +33,5 @@ returns-clause-value c =
 pub returns-clause-sum : goal.returns-clause-sum
 returns-clause-sum c = λ words.
     let width : 2 ^ c.self.inside.width ≡ 2 ^ c.args.self.now.width = ap (λ h. 2 ^ h.width) c.self.view_is in
-    ap (heap_sum words) (returns-clause-value c) ∙ with_constant-sum words c.args.self.now c.args.value (omega (arith, width, c.modulo.ensures.below))
+    ap (heap_sum words) (returns-clause-value c)
+    ∙ with_constant-sum words c.args.self.now c.args.value (omega (arith, width, c.modulo.ensures.below))

@@ -15,5 +15,6 @@ pub returns-clause-sum : goal.returns-clause-sum
 returns-clause-sum c = λ words.
     let h = c.args.self.now in
     let count : c.loop-index.index ≡ min c.args.width (h.width - c.args.weight) = search rules in
-    let is = c.loop-index.invariant ∙ ap (λ k. with_row h c.args.node k c.args.weight) count ∙ with_row-kept h c.args.node c.args.width c.args.weight in
+    let is = c.loop-index.invariant ∙ ap (λ k. with_row h c.args.node k c.args.weight) count
+    ∙ with_row-kept h c.args.node c.args.width c.args.weight in
     ap (heap_sum words) is ∙ with_row-sum words h c.args.node c.args.width c.args.weight

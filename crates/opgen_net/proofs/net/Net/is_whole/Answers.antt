@@ -7,7 +7,8 @@ use Rattle.opgen_net.proofs.net.Net.is_whole.Goals as goal
 pub overflow_add-result : goal.overflow_add-result
 overflow_add-result c =
     let there = index_within (widths c.args.self.now.nodes) c.args.slice.node c.args.slice.high c.requires.lies.1 in
-    let wide = are_widths c.args.self.now.nodes c.requires.net.nodes c.args.slice.node (omega (arith, there, length-widths c.args.self.now.nodes)) in
+    let wide = are_widths c.args.self.now.nodes c.requires.net.nodes c.args.slice.node
+    (omega (arith, there, length-widths c.args.self.now.nodes)) in
     omega (arith, c.requires.lies.1, wide.1)
 
 pub width_of-requires-clause-there : goal.width_of-requires-clause-there

@@ -23,4 +23,5 @@ returns-clause-bits c =
 pub returns-clause-width : goal.returns-clause-width
 returns-clause-width c =
     let found = c.deref.ensures.value ∙ c.in_ok-found.ensures in
-    rw (c.in_ok-place.ensures.ok, c.in_ok-place.ensures.place, found) (word-found_width c.args.self.now c.requires.net c.args.bits.now c.requires.there)
+    rw (c.in_ok-place.ensures.ok, c.in_ok-place.ensures.place, found)
+    (word-found_width c.args.self.now c.requires.net c.args.bits.now c.requires.there)

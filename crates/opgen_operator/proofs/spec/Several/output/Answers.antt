@@ -15,5 +15,6 @@ returns-clause-few c =
     let t : ℤ = get_or m.constants c.args.place (pos 0) in
     let small : unsigned_abs t ≤ 2047 = ranges.constants c.args.place (pos 0) c.requires.place in
     let fits : FitsSigned w64 t = omega (arith, ints) in
-    let same : c.constant_format.result ≡ constant_format m.input t = simp to_z-of_z at rw c.as_slice.ensures at c.constant_format.ensures in
+    let same : c.constant_format.result ≡ constant_format m.input t = simp to_z-of_z at rw c.as_slice.ensures at c.constant_format.ensures
+    in
     rw same (multiple_width m.input t ranges.input small)

@@ -15,7 +15,8 @@ pub sum_is_good-requires-in-Fir-clause-narrow : goal.sum_is_good-requires-in-Fir
 sum_is_good-requires-in-Fir-clause-narrow c = omega (arith, fir_fits c.args.self.now c.in-Fir.sum c.requires.valid c.in-Fir.is)
 
 pub product_is_good-requires-clause-narrow : goal.product_is_good-requires-clause-narrow
-product_is_good-requires-clause-narrow c = omega (arith, product_fits c.args.self.now c.in-Multiply.product c.requires.valid c.in-Multiply.is)
+product_is_good-requires-clause-narrow c = omega
+    (arith, product_fits c.args.self.now c.in-Multiply.product c.requires.valid c.in-Multiply.is)
 
 pub product_is_good-requires-clause-y : goal.product_is_good-requires-clause-y
 product_is_good-requires-clause-y c =
@@ -27,7 +28,8 @@ pub multiples_are_good-requires-clause-x : goal.multiples_are_good-requires-clau
 multiples_are_good-requires-clause-x c =
     let m = c.in-Mcm.several in
     let ranges = (rw c.in-Mcm.is at c.requires.valid.op).ranges in
-    let few : unsigned_abs c.recent-x.result ≤ 2 ^ 48 = omega (arith, c.recent-x.ensures.bound, power_order m.input.width 48 ranges.input.most) in
+    let few : unsigned_abs c.recent-x.result ≤ 2 ^ 48 = omega
+    (arith, c.recent-x.ensures.bound, power_order m.input.width 48 ranges.input.most) in
     let fits_x : FitsSigned w128 c.recent-x.result = fits_small _ (omega (arith, few)) in
     simp to_z-of_z (omega (arith, few))
 
@@ -43,7 +45,8 @@ returns-in-Divide-clause-in_range c =
     let fits_a : FitsSigned w128 c.operands-a-in-Divide.result.0 = search rules in
     let fits_b : FitsSigned w128 c.operands-a-in-Divide.result.1 = search rules in
     let agrees : c.in-Divide.pair.exact ≡ c.args.self.now.exact = rw c.in-Divide.is at c.requires.valid.agrees in
-    let good = rw (← agrees) at rw (c.operands-a-in-Divide.ensures.first, c.operands-a-in-Divide.ensures.second) at simp to_z-of_z at c.quotient_is_good.ensures.in_range in
+    let good = rw (← agrees) at rw (c.operands-a-in-Divide.ensures.first, c.operands-a-in-Divide.ensures.second) at simp to_z-of_z at
+    c.quotient_is_good.ensures.in_range in
     rw (c.in-Divide.is, ← agrees) good
 
 pub returns-in-Divide-clause-out_of_range : goal.returns-in-Divide-clause-out_of_range

@@ -15,7 +15,7 @@ use Rattle.opgen_net.specs.Valid.{widths}
 use Rattle.opgen_net.specs.WordRule.{IsThere, bits_from, bit_flow, word_flow}
 use Rattle.opgen_net.proofs.FlowLaws.{index_within, length-widths}
 use Rattle.opgen_net.proofs.BitLists.{length-word_flow, whole-flow, word-kept}
-use Rattle.opgen_digits.specs.Bits.{number_at}
+use Rattle.opgen_net.specs.Placed.{number_at}
 
 module _ (nodes : List Node) (inputs : Inputs) (t : ℤ) where
   abbrev at : List WordBit → ℕ

@@ -1,7 +1,10 @@
--- Numbers whose bits are bits of a net's nodes, given from the highest down.
+-- Numbers whose bits are bits of a net's nodes, given from the highest down, and nets with nodes of such bits.
 use Rattle.std.specs.Prelude.{ℕ, ◌-◌, ℤ, List, [], ◌∷◌, ◌++◌, length}
 use Rattle.opgen_num.specs.Words.{nat}
+use Rattle.opgen_design.specs.declared.expr.Op.TheVariants.{Minus}
 use Rattle.opgen_design.specs.declared.expr.Slice.{Slice}
+use Rattle.opgen_design.specs.Plain.{trees_of}
+use Rattle.opgen_design.specs.Tree.{Tree, name, chain}
 use Rattle.opgen_net.specs.declared.net.Net.{Net}
 use Rattle.opgen_net.specs.declared.node.Node.{Node}
 use Rattle.opgen_net.specs.declared.word_bits.WordBit.{WordBit}
@@ -26,7 +29,15 @@ abbrev pub whole : (width node : ℕ) → Slice
 whole width node = record { node = node; high = width - 1; low = 0 }
 
 -- a net with an output more, of these bits
-abbrev pub with_output : (name : List ℕ) → Net → List WordBit → Net
-with_output name net given =
+abbrev pub with_output : (called : List ℕ) → Net → List WordBit → Net
+with_output called net given =
     let w = with_bits net given in
-    record w.net { outputs = w.net.outputs ++ record { name = name; from = whole (length given) w.place } ∷ [] }
+    record w.net { outputs = w.net.outputs ++ record { name = called; from = whole (length given) w.place } ∷ [] }
+
+-- a net with a node more, at its end
+abbrev pub with_last : Net → Node → Net
+with_last net n = record net { nodes = net.nodes ++ n ∷ [] }
+
+-- the difference of two nodes
+abbrev pub difference_of : (a b : ℕ) → Tree
+difference_of a b = chain Minus (trees_of (name a ∷ name b ∷ []))
