@@ -10,7 +10,7 @@ use Rattle.opgen_net.specs.declared.node.Node.TheVariants.{Cells}
 use Rattle.opgen_net.specs.declared.word_bits.WordBit.{WordBit}
 use Rattle.opgen_net.specs.declared.word_bits.WordBit.TheVariants.{Zero, One}
 use Rattle.opgen_design.specs.Tree.{name}
-use Rattle.opgen_net.specs.WordRule.{with_word}
+use Rattle.opgen_net.specs.Placed.{Placed, with_bits, with_last}
 use Rattle.opgen_compress.specs.Adder.{Work, two, full_adder, half_adder}
 
 abbrev pub Column : Type 0
@@ -87,23 +87,18 @@ row place columns = reverse (map (λ column. slice_index_or column place Zero) c
 abbrev pub is_single : List Column → Bool
 is_single columns = nat_lt (fullest columns) 2
 
--- a net, and the number of a node in it
-pub record Answer : Type 0 where
-  pub net : Net
-  pub place : ℕ
+abbrev pub with_row : (place : ℕ) → State → Placed
+with_row place s = with_bits s.net (row place s.columns)
 
-abbrev pub with_row : (place : ℕ) → State → Answer
-with_row place s = let w = with_word s.net.nodes (row place s.columns) in record { net = record s.net { nodes = w.nodes }; place = w.place }
-
-abbrev pub with_sum : (width : ℕ) → Net → (a b : ℕ) → Answer
-with_sum width net a b = record { net = record net { nodes = net.nodes ++ Cells Add width (two Plus (name a) (name b)) ∷ [] }; place = length net.nodes }
+abbrev pub with_sum : (width : ℕ) → Net → (a b : ℕ) → Placed
+with_sum width net a b = record { net = with_last net (Cells Add width (two Plus (name a) (name b))); place = length net.nodes }
 
 -- the word of the first bits, and, where a column has two, the word of the second bits and the sum of the words
-abbrev pub finished : (width : ℕ) → State → Answer
+abbrev pub finished : (width : ℕ) → State → Placed
 finished width s =
     let a = with_row 0 s in
     let b = with_row 1 (record { net = a.net; columns = s.columns }) in
     if is_single s.columns then a else with_sum width b.net a.place b.place
 
-abbrev pub compressed : Net → Contents → Answer
+abbrev pub compressed : Net → Contents → Placed
 compressed net heap = finished heap.width (lowered net (all_columns heap))

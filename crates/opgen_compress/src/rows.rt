@@ -6,7 +6,7 @@ ghost use Rattle.opgen_design.specs.Run.{AreWords};
 ghost use Rattle.opgen_net.specs.Valid.{IsValid, input_widths, widths};
 ghost use Rattle.opgen_design.specs.Width.{IsWidth};
 ghost use Rattle.opgen_net.specs.declared.net.Net.{Net};
-ghost use Rattle.opgen_compress.specs.Recipe.{Answer, row as row_of, fullest as fullest_of, finished};
+ghost use Rattle.opgen_compress.specs.Recipe.{row as row_of, fullest as fullest_of, finished};
 ghost use Rattle.opgen_compress.specs.Adder.{two};
 ghost use Rattle.opgen_design.specs.Plain.{plain};
 ghost use Rattle.opgen_design.specs.Tree.{name};

@@ -1,7 +1,6 @@
 -- No table of a sum is wider than the sum: the range of the output has room for the whole range of each term.
 use Rattle.std.proofs.Common.{◌≡◌, ℕ, zero, suc, ◌+◌, ◌-◌, ◌*◌, ◌^◌, ◌<◌, ◌≤◌, Bool, true, false, List, [], ◌∷◌, length, get_or, sym, ap, ◌∙◌, arith}
 use Rattle.std.specs.Prelude.{ℤ, pos, negsuc, neg_ℤ, ◌*ℤ◌, unsigned_abs, map, sum}
-use Rattle.std.specs.List.{fold}
 use Rattle.std.proofs.Math.Nat.{two-pow-succ, mul-le-mul_left}
 use Rattle.std.proofs.lemmas.Grind.{div_ceil_times}
 use Rattle.std.proofs.lemmas.Int.{ints, unsigned_abs-mul}
@@ -9,6 +8,7 @@ use Rattle.std.proofs.lemmas.Nat.{pow-add, pow_pos}
 use Rattle.opgen_num.specs.declared.TheConstants.{MAX_WIDTH}
 use Rattle.opgen_num.specs.Formats.{fewest_bits, range_width}
 use Rattle.opgen_num.proofs.RangeWidth.{range_width-least}
+use Rattle.opgen_operator.proofs.Totals.{sum-cons}
 use Rattle.opgen_operator.specs.declared.spec.Sum.{Sum}
 use Rattle.opgen_operator.specs.Outputs.{sum_shift, up, reach_with, reach_of, above_zero, below_zero, rises, falls, sum_reach, sum_places, guard_bits}
 use Rattle.opgen_operator.specs.Ports.{sum_format}
@@ -32,15 +32,6 @@ reach-span false w h = omega (arith, pow_pos w)
 abs-parts : (c : ℤ) → above_zero c + below_zero c ≡ unsigned_abs c
 abs-parts (pos n) = omega arith
 abs-parts (negsuc n) = omega arith
-
-fold-start : (a : ℕ) (xs : List ℕ) → fold ◌+◌ a xs ≡ a + fold ◌+◌ 0 xs
-fold-start a [] = omega arith
-fold-start a (x ∷ xs) = omega (arith, fold-start (a + x) xs, fold-start (0 + x) xs)
-
-sum-cons : (x : ℕ) (xs : List ℕ) → sum (x ∷ xs) ≡ x + sum xs
-sum-cons x xs =
-    let start : sum (x ∷ xs) ≡ (0 + x) + sum xs = fold-start (0 + x) xs in
-    omega (arith, start)
 
 coef-within : (cs : List ℤ) (k : ℕ) → k < length cs → unsigned_abs (get_or cs k (pos 0)) ≤ rises cs + falls cs
 coef-within [] k h = absurd (omega (arith, h))

@@ -10,7 +10,8 @@ use Rattle.opgen_operator.specs.Outputs.{sum_shift, up, down, guard_bits}
 use Rattle.opgen_operator.specs.Ports.{sum_format}
 use Rattle.opgen_heap.specs.Contents.{Contents}
 use Rattle.opgen_heap.specs.Adding.{with_constant}
-use Rattle.opgen_compress.specs.Recipe.{Answer, compressed}
+use Rattle.opgen_net.specs.Placed.{Placed}
+use Rattle.opgen_compress.specs.Recipe.{compressed}
 use Rattle.opgen_kcm.specs.Recipe.{Terms, with_rows}
 
 abbrev pub is_zero : ℤ → Bool
@@ -65,7 +66,7 @@ with_half (suc k) heap = with_constant heap (pos (2 ^ k))
 abbrev pub above_guard : Sum → (node : ℕ) → Slice
 above_guard s node = record { node = node; high = sum_width s - 1; low = guard_bits s }
 
-abbrev pub with_output : Sum → Answer → Net
+abbrev pub with_output : Sum → Placed → Net
 with_output s a = record a.net { outputs = a.net.outputs ++ record { name = codes "y"; from = above_guard s a.place } ∷ [] }
 
 abbrev pub net_of_sum : Sum → Net

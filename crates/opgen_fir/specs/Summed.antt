@@ -40,7 +40,7 @@ IsNear k m n e =
     ((pos 2 *ℤ (pos m *ℤ e)) ≤ℤ ((pos 2 *ℤ n) +ℤ (pos k *ℤ pos m)))
     × (((pos 2 *ℤ n) -ℤ (pos k *ℤ pos m)) ≤ℤ (pos 2 *ℤ (pos m *ℤ e)))
 
--- the tables of the first so many coefficients
+-- the chunks of the first so many coefficients, whether or not they have a table
 abbrev pub tables_first : Sum → (count : ℕ) → ℕ
 tables_first s count = terms (take count s.coefs) * chunk_count s.input.width
 
@@ -48,7 +48,7 @@ tables_first s count = terms (take count s.coefs) * chunk_count s.input.width
 abbrev pub scaled_first : Sum → Recent → (count : ℕ) → ℤ
 scaled_first s x count = (weighted_first s.coefs x count *ℤ pos (up (sum_shift s))) *ℤ pos (2 ^ guard_bits s)
 
--- The sum of the first terms: half a guard unit off for each table at most, and exact where all coefficients are whole.
+-- The sum of the first terms: half a guard unit off for each chunk at most, and exact where all coefficients are whole.
 pub record IsSummed (s : Sum) (x : Recent) (count : ℕ) (e : ℤ) : Type 0 where
   pub near : IsNear (tables_first s count) (units s) (scaled_first s x count) e
   pub whole : guard_bits s ≡ 0 → first_inexact s ≡ None → pos (units s) *ℤ e ≡ weighted_first s.coefs x count *ℤ pos (up (sum_shift s))

@@ -1,4 +1,4 @@
--- What the tables of a coefficient add: a multiple of the input, at most half a unit off for each table.
+-- What the tables of a coefficient add: a multiple of the input, at most half a unit off for each chunk.
 use Rattle.std.specs.Prelude.{ℕ, ◌≡◌, ◌*◌, ◌^◌, ◌≤◌, ℤ, pos, ◌+ℤ◌, ◌*ℤ◌, unsigned_abs}
 use Rattle.opgen_num.specs.declared.format.Ratio.{Ratio}
 use Rattle.opgen_num.specs.Rounding.{distance}
@@ -7,16 +7,16 @@ use Rattle.opgen_heap.specs.Sum.{heap_sum}
 use Rattle.opgen_net.specs.Flow.{Inputs, flow}
 use Rattle.opgen_kcm.specs.Recipe.{Terms}
 
--- A number that is x times a fraction, in guard units, but for half a unit for each table; and x times it where it is whole and
+-- A number that is x times a fraction, in guard units, but for half a unit for each chunk; and x times it where it is whole and
 -- has no guard bits.
-pub record IsMultiple (q : Ratio) (guard tables : ℕ) (x e : ℤ) : Type 0 where
-  pub near : 2 * distance (q.den *ℤ e) ((x *ℤ q.num) *ℤ pos (2 ^ guard)) ≤ tables * unsigned_abs q.den
+pub record IsMultiple (q : Ratio) (guard chunks : ℕ) (x e : ℤ) : Type 0 where
+  pub near : 2 * distance (q.den *ℤ e) ((x *ℤ q.num) *ℤ pos (2 ^ guard)) ≤ chunks * unsigned_abs q.den
   pub whole : guard ≡ 0 → (factor : ℤ) → factor *ℤ q.den ≡ q.num → e ≡ x *ℤ factor
 
 -- a sum that has grown by such a number, modulo 2 to a width
-pub record HasRisen (q : Ratio) (guard tables : ℕ) (x : ℤ) (width before after : ℕ) : Type 0 where
+pub record HasRisen (q : Ratio) (guard chunks : ℕ) (x : ℤ) (width before after : ℕ) : Type 0 where
   pub by : ℤ
-  pub multiple : IsMultiple q guard tables x by
+  pub multiple : IsMultiple q guard chunks x by
   pub sum : after ≡ residue (pos before +ℤ by) (2 ^ width)
 
 -- the heap's sum over the words of the net's nodes at a time

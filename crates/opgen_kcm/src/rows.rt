@@ -86,7 +86,8 @@ fn add_chunk(
 }
 
 /// Adds a multiple of a node to a heap: `q` times the node's number, in units of which 2 to `guard`
-/// make one. Where the heap's bits stand in the net, its sum rises by that multiple, and all its bits stand there.
+/// make one. Where the heap's bits stand in the net, its sum rises by that multiple, but for half a
+/// unit for each chunk of six bits, and all its bits stand there.
 ///
 /// The node is cut into chunks of six bits, the last of which is signed where the node is. Each
 /// chunk addresses a table of its digits' multiples, rounded to whole units. The tables are nodes of

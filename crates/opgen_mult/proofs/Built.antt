@@ -5,7 +5,7 @@ use Rattle.std.proofs.lemmas.Int.{ints}
 use Rattle.opgen_num.specs.Values.{val}
 use Rattle.opgen_num.specs.Words.{nat}
 use Rattle.opgen_compress.specs.Kept.{words_at, IsSumOf}
-use Rattle.opgen_compress.specs.Recipe.{Answer}
+use Rattle.opgen_net.specs.Placed.{Placed}
 use Rattle.opgen_design.specs.Run.{AreWords}
 use Rattle.opgen_design.specs.Value.{cut, word_at}
 use Rattle.opgen_heap.specs.Adding.{residue}
@@ -36,11 +36,11 @@ use Rattle.opgen_mult.proofs.HeapWidth.{Layout}
 
 -- a word more changes no port
 
-pub zeros-inputs : (width zeros : ℕ) (s : Answer) → (above_zeros width zeros s).net.inputs ≡ s.net.inputs
+pub zeros-inputs : (width zeros : ℕ) (s : Placed) → (above_zeros width zeros s).net.inputs ≡ s.net.inputs
 zeros-inputs width zero s = refl
 zeros-inputs width (suc z) s = refl
 
-pub zeros-outputs : (width zeros : ℕ) (s : Answer) → (above_zeros width zeros s).net.outputs ≡ s.net.outputs
+pub zeros-outputs : (width zeros : ℕ) (s : Placed) → (above_zeros width zeros s).net.outputs ≡ s.net.outputs
 zeros-outputs width zero s = refl
 zeros-outputs width (suc z) s = refl
 

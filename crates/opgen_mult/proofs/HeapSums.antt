@@ -25,6 +25,7 @@ use Rattle.opgen_net.specs.declared.word_bits.WordBit.{WordBit}
 use Rattle.opgen_net.specs.declared.word_bits.WordBit.TheVariants.{Of}
 use Rattle.opgen_net.specs.Flow.{Inputs, input_at, flow}
 use Rattle.opgen_net.specs.Grown.{HasGrown}
+use Rattle.opgen_net.specs.Placed.{with_last}
 use Rattle.opgen_net.specs.Valid.{widths, IsValid, FitsNodes}
 use Rattle.opgen_net.specs.WordRule.{IsThere}
 use Rattle.opgen_net.proofs.Appending.{valid-append, flow-append_last, width-append_last}
@@ -37,7 +38,7 @@ use Rattle.opgen_operator.specs.Accepted.{IsAcceptedProduct}
 use Rattle.opgen_operator.specs.Ranges.{IsInput}
 use Rattle.opgen_operator.proofs.Accepted.{accepted_ranges}
 use Rattle.opgen_mult.specs.declared.partial.Work.{Work}
-use Rattle.opgen_mult.specs.Recipe.{partial_product, has_one_sign, with_cells, with_product, with_row, with_rows, inputs, products, heap_width}
+use Rattle.opgen_mult.specs.Recipe.{partial_product, has_one_sign, with_product, with_row, with_rows, inputs, products, heap_width}
 use Rattle.opgen_mult.proofs.Kept.{kept}
 use Rattle.opgen_mult.proofs.Operands.{product-fits, product-value}
 use Rattle.opgen_mult.proofs.PartialSums.{piece, pieces}
@@ -110,7 +111,7 @@ module _ (p : Product) where
     cells = Cells Logic 1 (partial_product p i j)
 
     abbrev larger : Net
-    larger = with_cells w.net (partial_product p i j)
+    larger = with_last w.net cells
 
     abbrev bit : WordBit
     bit = Of (length w.net.nodes) 0

@@ -10,9 +10,10 @@ use Rattle.opgen_net.specs.declared.cell.Class.TheVariants.{Logic}
 use Rattle.opgen_net.specs.declared.net.Net.{Net}
 use Rattle.opgen_net.specs.declared.node.Node.TheVariants.{Input, Cells}
 use Rattle.opgen_net.specs.declared.word_bits.WordBit.TheVariants.{Zero, Of}
-use Rattle.opgen_net.specs.WordRule.{bits_from, with_word}
+use Rattle.opgen_net.specs.Placed.{Placed, with_bits, with_last}
+use Rattle.opgen_net.specs.WordRule.{bits_from}
 use Rattle.opgen_heap.specs.Adding.{with_bit, with_constant}
-use Rattle.opgen_compress.specs.Recipe.{Answer, compressed}
+use Rattle.opgen_compress.specs.Recipe.{compressed}
 use Rattle.opgen_mult.specs.declared.partial.Work.{Work}
 use Rattle.opgen_operator.specs.declared.spec.Product.{Product}
 use Rattle.opgen_operator.specs.Outputs.{product_shift, places_up, places_down}
@@ -50,14 +51,11 @@ has_one_sign p i j = p.a.signed && xor (nat_eq (i + 1) p.a.width) (nat_eq (j + 1
 abbrev pub partial_product : Product → (i j : ℕ) → Tree
 partial_product p i j = if has_one_sign p i j then inverse (both p i j) else both p i j
 
-abbrev pub with_cells : Net → Tree → Net
-with_cells net e = record net { nodes = net.nodes ++ Cells Logic 1 e ∷ [] }
-
 -- a partial product in its column, if that is neither left out nor past the heap's width
 abbrev pub with_product : Product → (left_out i j : ℕ) → Work → Work
 with_product p left_out i j w =
     if nat_le left_out (i + j) && nat_lt (i + j) w.heap.width
-    then record { net = with_cells w.net (partial_product p i j); heap = with_bit w.heap (Of (length w.net.nodes) 0) (i + j) }
+    then record { net = with_last w.net (Cells Logic 1 (partial_product p i j)); heap = with_bit w.heap (Of (length w.net.nodes) 0) (i + j) }
     else w
 
 -- those of bit i of a and the first bits of b, and those of the first bits of a
@@ -95,17 +93,15 @@ rounding (suc k) = 2 ^ k
 abbrev pub constant : Product → ℤ
 constant p = sign_correction p.a.signed p.a.width p.b.width +ℤ pos (rounding (bits_below p))
 
-abbrev pub summed : Product → (left_out : ℕ) → Answer
+abbrev pub summed : Product → (left_out : ℕ) → Placed
 summed p left_out = let w = products p left_out in compressed w.net (with_constant w.heap (constant p))
 
 -- the word of a node's bits above zeros, where there are any
-abbrev pub above_zeros : (width zeros : ℕ) → Answer → Answer
+abbrev pub above_zeros : (width zeros : ℕ) → Placed → Placed
 above_zeros width zero s = s
-above_zeros width (suc z) s =
-    let found = with_word s.net.nodes (bits_from s.place 0 width ++ replicate (suc z) Zero) in
-    record { net = record s.net { nodes = found.nodes }; place = found.place }
+above_zeros width (suc z) s = with_bits s.net (bits_from s.place 0 width ++ replicate (suc z) Zero)
 
-abbrev pub shifted : Product → (left_out : ℕ) → Answer
+abbrev pub shifted : Product → (left_out : ℕ) → Placed
 shifted p left_out = above_zeros (heap_width p) (zeros_below p) (summed p left_out)
 
 -- the output has the bits from its lowest place up

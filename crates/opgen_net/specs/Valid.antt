@@ -90,3 +90,7 @@ pub record IsValid (net : Net) : Type 0 where
   pub nodes : AllMayStand [] net.nodes
   pub inputs : input_nodes net.nodes ≡ numbered 0 (input_widths net)
   pub outputs : All (λ o. LiesWithin (widths net.nodes) o.from) net.outputs
+
+abbrev pub is_delay : Node → Bool
+is_delay (Delay of) = true
+is_delay _ = false

@@ -3,11 +3,12 @@ pub mod Versions
 mod Magnitudes
 mod WeightedSums
 mod Roundings
-mod Widths
+pub mod Widths
 mod ProductWidths
 mod PortWidths
-mod In128
+pub mod In128
 mod Numbered
 mod Reached
 mod Held
 pub mod Accepted
+pub mod Totals

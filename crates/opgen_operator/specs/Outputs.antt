@@ -123,7 +123,7 @@ product_places p = in_places (product_reach p) (product_shift p) (pos 1)
 abbrev pub width_of : Reach → ℕ
 width_of r = range_width (neg_ℤ (pos r.below)) (pos r.above)
 
--- The tables of a sum: one for each six bits of the input at each coefficient that is not 0. Each rounds once.
+-- The tables of a sum: one is counted for each six bits of the input at each coefficient that is not 0. Each rounds once at most.
 abbrev pub terms : List ℤ → ℕ
 terms coefs = count_by (λ c. not (unsigned_abs c == 0)) coefs
 

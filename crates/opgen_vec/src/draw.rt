@@ -15,13 +15,16 @@ const MULTIPLIER: u128 = 6364136223846793005;
 
 const INCREMENT: u128 = 1442695040888963407;
 
-fn next(state: u64) -> u64
+/// The state after this one: a linear congruential generator modulo 2^64, with the factor and the increment of Knuth's MMIX
+/// (The Art of Computer Programming, volume 2, section 3.3.4).
+pub fn next(state: u64) -> u64
     ensures { result ≡ next state }
 {
     ((state as u128 * MULTIPLIER + INCREMENT) % (1 << 64)) as u64
 }
 
-fn drawn(width: u32, state: u64) -> u64
+/// The highest bits of a state, so many of them, as a number.
+pub fn drawn(width: u32, state: u64) -> u64
     ensures { result ≡ drawn width state }
 {
     (state as u128 >> 64u32.saturating_sub(width)) as u64

@@ -10,7 +10,7 @@ mod row;
 mod vectors;
 mod write;
 
-pub use draw::stimulus;
+pub use draw::{drawn, next, stimulus};
 pub use fault::VecFault;
 pub use laws::{definitions_compute, one_reading};
 pub use read::{read_empty_rows, read_vectors};
