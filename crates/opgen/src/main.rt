@@ -6,12 +6,13 @@ mod targets;
 use crate::targets::{fixed, plain};
 use opgen_io::{DiskFolder, StdSink};
 use opgen_target::Target;
-use opgen_top::{Status, run};
+use opgen_top::{OpenGate, Status, run};
 use std::alloc::{AllocError, Global};
 use std::env;
 use std::io::ErrorKind;
 use std::process::ExitCode;
 use std::rt::{Env, Files};
+use std::thread::Threads;
 
 /// The words after the program's name. Where they are no text there are none, which is a usage fault.
 fn words(rt: &(impl Env + Alloc<A = Global>)) -> Result<Vec<String>, Status> {
@@ -31,7 +32,7 @@ fn words(rt: &(impl Env + Alloc<A = Global>)) -> Result<Vec<String>, Status> {
 
 /// Runs the program over the files of the working directory and standard output, with the targets `plain` and `fixed`.
 fn ran(
-    rt: &(impl Env + Files + Print + Alloc<A = Global>),
+    rt: &(impl Env + Files + Print + Threads + Sync + Alloc<A = Global>),
     words: &[String],
 ) -> Result<Status, AllocError> {
     let alloc = rt.alloc();
@@ -40,10 +41,10 @@ fn ran(
     targets.push(Box::new(alloc, fixed(alloc)?)?)?;
     let mut folder = DiskFolder::new(rt);
     let mut out = StdSink::new(rt);
-    Ok(run(alloc, words, &mut folder, &mut out, targets))
+    Ok(run(rt, alloc, words, &mut folder, &mut out, targets, &OpenGate))
 }
 
-fn status(rt: &(impl Env + Files + Print + Alloc<A = Global>)) -> Status {
+fn status(rt: &(impl Env + Files + Print + Threads + Sync + Alloc<A = Global>)) -> Status {
     let words = match words(rt) {
         Ok(words) => words,
         Err(status) => return status,

@@ -6,6 +6,7 @@ use opgen_harness::running::holds;
 use opgen_harness::texts::{TIMES3, TIMES3_REPORT};
 use std::alloc::{AllocError, Global};
 use std::test::Fail;
+use std::thread::Threads;
 
 const USAGE: &str = "usage: opgen COMMAND (generate, vectors, simulate, workload, check)\n";
 
@@ -33,7 +34,7 @@ static DOCUMENTS: [(&[u8], u8, &str); 7] = [
 fn whole_documents(rt: HostRuntime) -> Result<(), Fail> {
     for (bytes, status, line) in &DOCUMENTS {
         let ran = ran(
-            rt.alloc(),
+            &rt,
             &["generate", "spec.toml"],
             "spec.toml",
             bytes,
@@ -58,14 +59,14 @@ static WORDS: [&[&str]; 11] = [
     &["simulate", "spec.toml"],
     &["simulate", "spec.toml", "spec.toml", "-out"],
     &["simulate", "spec.toml", "spec.toml", "out", "out"],
-    &["workload", "1"],
+    &["workload", "33"],
 ];
 
 #[test]
 fn usage(rt: HostRuntime) -> Result<(), Fail> {
     let spec = scale(rt.alloc(), "times3", "4", "3")?;
     for words in &WORDS {
-        let ran = ran(rt.alloc(), words, "spec.toml", spec.as_bytes(), &[], &[])?;
+        let ran = ran(&rt, words, "spec.toml", spec.as_bytes(), &[], &[])?;
         assert_eq!(rt; ran.status, 2);
         assert!(rt; ran.out.bytes() == USAGE.as_bytes());
         assert!(rt; ran.folder.get("times3.vhd").is_none());
@@ -77,7 +78,7 @@ fn usage(rt: HostRuntime) -> Result<(), Fail> {
 fn missing_and_too_long(rt: HostRuntime) -> Result<(), Fail> {
     let spec = scale(rt.alloc(), "times3", "4", "3")?;
     let missing = ran(
-        rt.alloc(),
+        &rt,
         &["generate", "spec.toml"],
         "other.toml",
         spec.as_bytes(),
@@ -94,7 +95,7 @@ fn missing_and_too_long(rt: HostRuntime) -> Result<(), Fail> {
         bytes.push(b'.')?;
     }
     let longest = ran(
-        rt.alloc(),
+        &rt,
         &["generate", "spec.toml"],
         "spec.toml",
         &bytes,
@@ -104,7 +105,7 @@ fn missing_and_too_long(rt: HostRuntime) -> Result<(), Fail> {
     assert_eq!(rt; longest.status, 0);
     bytes.push(b'.')?;
     let too_long = ran(
-        rt.alloc(),
+        &rt,
         &["generate", "spec.toml"],
         "spec.toml",
         &bytes,
@@ -255,14 +256,17 @@ static DRAWING: [Failing; 4] = [
 ];
 
 /// The name of the first case that leaves something else.
-fn first_wrong(alloc: Global, cases: &[Failing]) -> Result<Option<&'static str>, AllocError> {
+fn first_wrong(
+    rt: &(impl Threads + Sync + Alloc<A = Global>),
+    cases: &[Failing],
+) -> Result<Option<&'static str>, AllocError> {
     for case in cases {
         let files = [
             ("spec.toml", SCALE.as_bytes()),
             (case.first.0, OLD.as_bytes()),
             (case.second.0, OLD.as_bytes()),
         ];
-        let ran = ran_over(alloc, case.words, &files, case.folder, case.sink)?;
+        let ran = ran_over(rt, case.words, &files, case.folder, case.sink)?;
         let left = holds(&ran.folder, case.first.0, Some(case.first.1))
             && holds(&ran.folder, case.second.0, Some(case.second.1));
         if ran.status != case.status || ran.out.bytes() != case.line.as_bytes() || !left {
@@ -274,12 +278,12 @@ fn first_wrong(alloc: Global, cases: &[Failing]) -> Result<Option<&'static str>,
 
 #[test]
 fn failing_calls_of_generate(rt: HostRuntime) -> Result<(), Fail> {
-    assert_eq!(rt; first_wrong(rt.alloc(), &GENERATING)?, None);
+    assert_eq!(rt; first_wrong(&rt, &GENERATING)?, None);
     Ok(())
 }
 
 #[test]
 fn failing_calls_of_vectors(rt: HostRuntime) -> Result<(), Fail> {
-    assert_eq!(rt; first_wrong(rt.alloc(), &DRAWING)?, None);
+    assert_eq!(rt; first_wrong(&rt, &DRAWING)?, None);
     Ok(())
 }

@@ -5,6 +5,7 @@ use opgen_harness::running::holds;
 use opgen_harness::texts::{TIMES3, TIMES3_REPORT};
 use std::alloc::{AllocError, Global};
 use std::test::Fail;
+use std::thread::Threads;
 
 const TIMES6: &str = r#"library ieee;
 use ieee.std_logic_1164.all;
@@ -236,10 +237,13 @@ static ROWS: [Row; 5] = [
 ];
 
 /// The name of the first row that is answered otherwise.
-fn first_wrong(alloc: Global) -> Result<Option<&'static str>, AllocError> {
+fn first_wrong(
+    rt: &(impl Threads + Sync + Alloc<A = Global>),
+) -> Result<Option<&'static str>, AllocError> {
+    let alloc = rt.alloc();
     for row in &ROWS {
         let spec = scale(alloc, row.name, row.width, row.factor)?;
-        let ran = generated(alloc, &spec)?;
+        let ran = generated(rt, &spec)?;
         let holds_both = holds(&ran.folder, row.file, Some(row.text))
             && holds(&ran.folder, "spec.toml", Some(&spec));
         if ran.status != 0 || !holds_both || ran.out.bytes() != row.line.as_bytes() {
@@ -251,7 +255,7 @@ fn first_wrong(alloc: Global) -> Result<Option<&'static str>, AllocError> {
 
 #[test]
 fn texts_and_lines(rt: HostRuntime) -> Result<(), Fail> {
-    assert_eq!(rt; first_wrong(rt.alloc())?, None);
+    assert_eq!(rt; first_wrong(&rt)?, None);
     Ok(())
 }
 
@@ -259,7 +263,7 @@ fn texts_and_lines(rt: HostRuntime) -> Result<(), Fail> {
 fn report_and_version_2(rt: HostRuntime) -> Result<(), Fail> {
     for version in ["version = 1", "version = 2"] {
         let spec = changed(rt.alloc(), SCALE, &[("version = 1", version)])?;
-        let ran = generated(rt.alloc(), &spec)?;
+        let ran = generated(&rt, &spec)?;
         assert_eq!(rt; ran.status, 0);
         assert!(rt; holds(&ran.folder, "times3.vhd", Some(TIMES3)));
         assert!(rt; holds(&ran.folder, "times3.rpt", Some(TIMES3_REPORT)));

@@ -2,6 +2,8 @@
 #![tactic(auto)]
 
 #[cfg(test)]
+mod enabled;
+#[cfg(test)]
 mod faults;
 #[cfg(test)]
 mod generate;
@@ -15,6 +17,12 @@ mod simulate;
 mod targets;
 #[cfg(test)]
 mod vectors;
+#[cfg(test)]
+mod words;
 mod worked;
+#[cfg(test)]
+mod workers;
+#[cfg(test)]
+mod workload;
 
 pub use worked::{definitions_compute, operators_compute};

@@ -88,7 +88,7 @@ fn spec(alloc: Global) -> Result<String, AllocError> {
 fn text_and_report(rt: HostRuntime) -> Result<(), Fail> {
     let spec = spec(rt.alloc())?;
     let words = ["generate", "spec.toml"];
-    let ran = ran(rt.alloc(), &words, "spec.toml", spec.as_bytes(), &[], &[])?;
+    let ran = ran(&rt, &words, "spec.toml", spec.as_bytes(), &[], &[])?;
     assert_eq!(rt; ran.status, 0);
     assert!(rt; holds(&ran.folder, "times6.vhd", Some(TIMES6)));
     assert!(rt; holds(&ran.folder, "times6.rpt", Some(REPORT)));
@@ -100,7 +100,7 @@ fn text_and_report(rt: HostRuntime) -> Result<(), Fail> {
 fn rows(rt: HostRuntime) -> Result<(), Fail> {
     let spec = spec(rt.alloc())?;
     let words = ["vectors", "spec.toml"];
-    let ran = ran(rt.alloc(), &words, "spec.toml", spec.as_bytes(), &[], &[])?;
+    let ran = ran(&rt, &words, "spec.toml", spec.as_bytes(), &[], &[])?;
     assert_eq!(rt; ran.status, 0);
     assert!(rt; holds(&ran.folder, "times6.vec", Some(ROWS)));
     Ok(())

@@ -3,8 +3,9 @@ use opgen_harness::documents::{SCALE, changed};
 use opgen_harness::running::{Outcome, folder_of, sink_of, words_of};
 use opgen_harness::targets::{listed, plain};
 use opgen_target::Target;
-use opgen_top::run;
+use opgen_top::{OpenGate, run};
 use std::alloc::{AllocError, Global};
+use std::thread::Threads;
 
 /// The specification of three times four bits, with its name, its width and its coefficients changed.
 pub fn scale(
@@ -26,16 +27,17 @@ pub fn scale(
 
 /// Runs the words over a folder of these files with these targets, with these calls of the folder and the sink failing.
 pub fn ran_with(
-    alloc: Global,
+    rt: &(impl Threads + Sync + Alloc<A = Global>),
     words: &[&str],
     files: &[(&str, &[u8])],
     failing: (&[u64], &[u64]),
     targets: Vec<Box<dyn Target>>,
 ) -> Result<Outcome, AllocError> {
+    let alloc = rt.alloc();
     let words = words_of(alloc, words)?;
     let mut folder = folder_of(alloc, files, failing.0)?;
     let mut out = sink_of(alloc, failing.1)?;
-    let status = run(alloc, &words, &mut folder, &mut out, targets);
+    let status = run(rt, alloc, &words, &mut folder, &mut out, targets, &OpenGate);
     Ok(Outcome {
         status: status.0,
         folder,
@@ -45,34 +47,38 @@ pub fn ran_with(
 
 /// The same with the target `plain`, and `fixed`, which takes no delay line and has 90 picoseconds for each cell.
 pub fn ran_over(
-    alloc: Global,
+    rt: &(impl Threads + Sync + Alloc<A = Global>),
     words: &[&str],
     files: &[(&str, &[u8])],
     folder_failing: &[u64],
     sink_failing: &[u64],
 ) -> Result<Outcome, AllocError> {
+    let alloc = rt.alloc();
     let mut targets: Vec<Box<dyn Target>> = Vec::new(alloc);
     targets.push(Box::new(alloc, plain(alloc)?)?)?;
     targets.push(Box::new(alloc, listed(alloc, "fixed", 90)?)?)?;
-    ran_with(alloc, words, files, (folder_failing, sink_failing), targets)
+    ran_with(rt, words, files, (folder_failing, sink_failing), targets)
 }
 
 /// Runs the words over a folder of one file.
 pub fn ran(
-    alloc: Global,
+    rt: &(impl Threads + Sync + Alloc<A = Global>),
     words: &[&str],
     name: &str,
     bytes: &[u8],
     folder_failing: &[u64],
     sink_failing: &[u64],
 ) -> Result<Outcome, AllocError> {
-    ran_over(alloc, words, &[(name, bytes)], folder_failing, sink_failing)
+    ran_over(rt, words, &[(name, bytes)], folder_failing, sink_failing)
 }
 
 /// `generate` on a specification, with no failing calls.
-pub fn generated(alloc: Global, spec: &str) -> Result<Outcome, AllocError> {
+pub fn generated(
+    rt: &(impl Threads + Sync + Alloc<A = Global>),
+    spec: &str,
+) -> Result<Outcome, AllocError> {
     ran(
-        alloc,
+        rt,
         &["generate", "spec.toml"],
         "spec.toml",
         spec.as_bytes(),

@@ -4,10 +4,15 @@ use opgen_harness::running::{Outcome, holds};
 use opgen_harness::texts::TIMES3;
 use std::alloc::{AllocError, Global};
 use std::test::Fail;
+use std::thread::Threads;
 
-fn simulated(alloc: Global, vhdl: &str, vectors: &str) -> Result<Outcome, AllocError> {
+fn simulated(
+    rt: &(impl Threads + Sync + Alloc<A = Global>),
+    vhdl: &str,
+    vectors: &str,
+) -> Result<Outcome, AllocError> {
     ran_over(
-        alloc,
+        rt,
         &["simulate", "times3.vhd", "in.vec", "out.vec"],
         &[
             ("times3.vhd", vhdl.as_bytes()),
@@ -50,7 +55,7 @@ static ROWS: [(&str, &str, &str, &str); 6] = [
 #[test]
 fn rows_and_lines(rt: HostRuntime) -> Result<(), Fail> {
     for (vhdl, vectors, rows, line) in &ROWS {
-        let ran = simulated(rt.alloc(), vhdl, vectors)?;
+        let ran = simulated(&rt, vhdl, vectors)?;
         assert_eq!(rt; ran.status, 0);
         assert!(rt; ran.folder.get("out.vec") == Some(rows.as_bytes()));
         assert!(rt; ran.folder.get("in.vec") == Some(vectors.as_bytes()));
@@ -76,7 +81,7 @@ static REFUSED: [(&str, &str, u8, &str); 9] = [
 #[test]
 fn refusals(rt: HostRuntime) -> Result<(), Fail> {
     for (vhdl, vectors, status, line) in &REFUSED {
-        let ran = simulated(rt.alloc(), vhdl, vectors)?;
+        let ran = simulated(&rt, vhdl, vectors)?;
         assert_eq!(rt; ran.status, *status);
         assert!(rt; ran.folder.get("out.vec").is_none());
         assert!(rt; ran.out.bytes() == line.as_bytes());
@@ -94,11 +99,11 @@ fn zeros(alloc: Global, count: u32) -> Result<String, AllocError> {
 
 #[test]
 fn the_most_rows(rt: HostRuntime) -> Result<(), Fail> {
-    let most = simulated(rt.alloc(), TIMES3, &zeros(rt.alloc(), 100_000)?)?;
+    let most = simulated(&rt, TIMES3, &zeros(rt.alloc(), 100_000)?)?;
     assert_eq!(rt; most.status, 0);
     assert!(rt; most.out.bytes() == "simulated 100000 cycles\n".as_bytes());
 
-    let more = simulated(rt.alloc(), TIMES3, &zeros(rt.alloc(), 100_001)?)?;
+    let more = simulated(&rt, TIMES3, &zeros(rt.alloc(), 100_001)?)?;
     assert_eq!(rt; more.status, 7);
     assert!(rt; more.out.bytes() == "vectors: TooMany\n".as_bytes());
     Ok(())
@@ -112,7 +117,7 @@ fn a_refused_line_over_an_older_file(rt: HostRuntime) -> Result<(), Fail> {
         ("in.vec", "1\n".as_bytes()),
         ("out.vec", "old".as_bytes()),
     ];
-    let ran = ran_over(rt.alloc(), &words, &files, &[], &[0])?;
+    let ran = ran_over(&rt, &words, &files, &[], &[0])?;
     assert_eq!(rt; ran.status, 4);
     assert!(rt; ran.out.bytes().is_empty());
     assert!(rt; holds(&ran.folder, "out.vec", Some("1 : 03\n")));
@@ -163,7 +168,7 @@ fn fetches(rt: HostRuntime) -> Result<(), Fail> {
         ("in.vec", "0\n".as_bytes()),
     ];
     for (words, failing, status, line) in &FETCHES {
-        let ran = ran_over(rt.alloc(), words, &files, failing, &[])?;
+        let ran = ran_over(&rt, words, &files, failing, &[])?;
         assert_eq!(rt; ran.status, *status);
         assert!(rt; ran.folder.get("out.vec").is_none());
         assert!(rt; ran.out.bytes() == line.as_bytes());

@@ -6,6 +6,7 @@ use opgen_harness::targets::{listed, plain};
 use opgen_target::Target;
 use std::alloc::{AllocError, Global};
 use std::test::Fail;
+use std::thread::Threads;
 
 /// Changes of the scale by three, whose table takes 800 ps for the target `plain` and whose setup takes 100 ps, and the line.
 struct Case {
@@ -134,10 +135,13 @@ static CASES: [Case; 13] = [
 ];
 
 /// The name of the first case that is answered otherwise.
-fn first_wrong(alloc: Global) -> Result<Option<&'static str>, AllocError> {
+fn first_wrong(
+    rt: &(impl Threads + Sync + Alloc<A = Global>),
+) -> Result<Option<&'static str>, AllocError> {
+    let alloc = rt.alloc();
     for case in &CASES {
         let spec = changed(alloc, SCALE, case.changes)?;
-        let ran = generated(alloc, &spec)?;
+        let ran = generated(rt, &spec)?;
         let made = case.line == WROTE;
         let stores = ran.folder.get("times3.vhd").is_some() == made
             && ran.folder.get("times3.rpt").is_some() == made;
@@ -151,19 +155,20 @@ fn first_wrong(alloc: Global) -> Result<Option<&'static str>, AllocError> {
 
 #[test]
 fn lines_of_targets(rt: HostRuntime) -> Result<(), Fail> {
-    assert_eq!(rt; first_wrong(rt.alloc())?, None);
+    assert_eq!(rt; first_wrong(&rt)?, None);
     Ok(())
 }
 
 /// `generate` on three times four bits at a period, with these targets.
 fn generated_with(
-    alloc: Global,
+    rt: &(impl Threads + Sync + Alloc<A = Global>),
     period: &str,
     targets: Vec<Box<dyn Target>>,
 ) -> Result<Outcome, AllocError> {
+    let alloc = rt.alloc();
     let spec = changed(alloc, SCALE, &[("period = 10000", period)])?;
     ran_with(
-        alloc,
+        rt,
         &["generate", "spec.toml"],
         &[("spec.toml", spec.as_bytes())],
         (&[], &[]),
@@ -173,7 +178,7 @@ fn generated_with(
 
 #[test]
 fn no_target(rt: HostRuntime) -> Result<(), Fail> {
-    let ran = generated_with(rt.alloc(), "period = 10000", Vec::new(rt.alloc()))?;
+    let ran = generated_with(&rt, "period = 10000", Vec::new(rt.alloc()))?;
     assert_eq!(rt; ran.status, 1);
     assert!(rt; ran.out.bytes() == "specification: UnknownTarget\n".as_bytes());
     Ok(())
@@ -185,14 +190,14 @@ fn the_first_of_two_of_a_name_is_taken(rt: HostRuntime) -> Result<(), Fail> {
     let mut slow_first: Vec<Box<dyn Target>> = Vec::new(alloc);
     slow_first.push(Box::new(alloc, plain(alloc)?)?)?;
     slow_first.push(Box::new(alloc, listed(alloc, "plain", 0)?)?)?;
-    let ran = generated_with(alloc, "period = 899", slow_first)?;
+    let ran = generated_with(&rt, "period = 899", slow_first)?;
     assert_eq!(rt; ran.status, 1);
     assert!(rt; ran.out.bytes() == "specification: PeriodTooShort 900\n".as_bytes());
 
     let mut fast_first: Vec<Box<dyn Target>> = Vec::new(alloc);
     fast_first.push(Box::new(alloc, listed(alloc, "plain", 0)?)?)?;
     fast_first.push(Box::new(alloc, plain(alloc)?)?)?;
-    let ran = generated_with(alloc, "period = 1", fast_first)?;
+    let ran = generated_with(&rt, "period = 1", fast_first)?;
     assert_eq!(rt; ran.status, 0);
     assert!(rt; holds(&ran.folder, "times3.rpt", Some(AT_ONE)));
     Ok(())
@@ -216,7 +221,7 @@ signals 2
 fn the_slowest_target(rt: HostRuntime) -> Result<(), Fail> {
     let mut targets: Vec<Box<dyn Target>> = Vec::new(rt.alloc());
     targets.push(Box::new(rt.alloc(), listed(rt.alloc(), "plain", u32::MAX)?)?)?;
-    let ran = generated_with(rt.alloc(), "period = 1000000", targets)?;
+    let ran = generated_with(&rt, "period = 1000000", targets)?;
     assert_eq!(rt; ran.status, 1);
     assert!(rt; ran.out.bytes() == "specification: PeriodTooShort 8589934590\n".as_bytes());
     Ok(())

@@ -1,6 +1,5 @@
 //! Vectors of specifications, as `vectors` stores them.
 use crate::running::{ran, scale};
-use opgen_harness::documents::MCM;
 use std::test::Fail;
 
 /// The numbers of the generator divided by 2^60, and three times each.
@@ -11,7 +10,7 @@ pub(crate) const TIMES3: &str =
 fn rows_and_line(rt: HostRuntime) -> Result<(), Fail> {
     let spec = scale(rt.alloc(), "times3", "4", "3")?;
     let ran = ran(
-        rt.alloc(),
+        &rt,
         &["vectors", "spec.toml"],
         "spec.toml",
         spec.as_bytes(),
@@ -29,16 +28,11 @@ fn rows_and_line(rt: HostRuntime) -> Result<(), Fail> {
 #[test]
 fn refusals(rt: HostRuntime) -> Result<(), Fail> {
     let words = ["vectors", "spec.toml"];
-    let fault = ran(rt.alloc(), &words, "spec.toml", b"version = 2\n", &[], &[])?;
+    let fault = ran(&rt, &words, "spec.toml", b"version = 2\n", &[], &[])?;
     assert_eq!(rt; fault.status, 1);
     assert!(rt; fault.out.bytes() == "specification: MissingKey name\n".as_bytes());
 
-    let unsupported = ran(rt.alloc(), &words, "spec.toml", MCM.as_bytes(), &[], &[])?;
-    assert_eq!(rt; unsupported.status, 1);
-    assert!(rt; unsupported.out.bytes() == "specification: Unsupported\n".as_bytes());
-    assert!(rt; unsupported.folder.get("mcm45.vec").is_none());
-
-    let missing = ran(rt.alloc(), &words, "other.toml", b"", &[], &[])?;
+    let missing = ran(&rt, &words, "other.toml", b"", &[], &[])?;
     assert_eq!(rt; missing.status, 3);
     Ok(())
 }

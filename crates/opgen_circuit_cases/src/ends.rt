@@ -91,7 +91,7 @@ static ENDS_OF_SUMS: [Case; 6] = [
 
 #[test]
 fn ends_of_sums(rt: HostRuntime) -> Result<(), Fail> {
-    assert_eq!(rt; first_wrong(rt.alloc(), &ENDS_OF_SUMS)?, None);
+    assert_eq!(rt; first_wrong(&rt, &ENDS_OF_SUMS)?, None);
     Ok(())
 }
 
@@ -146,10 +146,7 @@ static ENDS_OF_QUOTIENTS_AND_ROOTS: [Case; 4] = [
 
 #[test]
 fn ends_of_quotients_and_roots(rt: HostRuntime) -> Result<(), Fail> {
-    assert_eq!(rt;
-        first_wrong(rt.alloc(), &ENDS_OF_QUOTIENTS_AND_ROOTS)?,
-        None
-    );
+    assert_eq!(rt; first_wrong(&rt, &ENDS_OF_QUOTIENTS_AND_ROOTS)?, None);
     Ok(())
 }
 
@@ -175,7 +172,7 @@ fn report_of_a_third(rt: HostRuntime) -> Result<(), Fail> {
         ("coefficients = [3]", "coefficients = [1]\ndenominator = 3"),
     ];
     let spec = changed(rt.alloc(), SCALE, &changes)?;
-    let ran = generated(rt.alloc(), &spec)?;
+    let ran = generated(&rt, &spec)?;
     assert_eq!(rt; ran.status, 0);
     assert!(rt; holds(&ran.folder, "times3.rpt", Some(THIRD)));
     Ok(())

@@ -4,6 +4,8 @@
 #[cfg(test)]
 mod ends;
 #[cfg(test)]
+mod multiples;
+#[cfg(test)]
 mod rows;
 #[cfg(test)]
 mod running;

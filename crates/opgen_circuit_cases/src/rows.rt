@@ -196,7 +196,7 @@ static SUMS: [Case; 15] = [
 
 #[test]
 fn sums(rt: HostRuntime) -> Result<(), Fail> {
-    assert_eq!(rt; first_wrong(rt.alloc(), &SUMS)?, None);
+    assert_eq!(rt; first_wrong(&rt, &SUMS)?, None);
     Ok(())
 }
 
@@ -293,7 +293,7 @@ static FILTERS: [Case; 6] = [
 
 #[test]
 fn filters(rt: HostRuntime) -> Result<(), Fail> {
-    assert_eq!(rt; first_wrong(rt.alloc(), &FILTERS)?, None);
+    assert_eq!(rt; first_wrong(&rt, &FILTERS)?, None);
     Ok(())
 }
 
@@ -418,7 +418,7 @@ static PRODUCTS: [Case; 8] = [
 
 #[test]
 fn products(rt: HostRuntime) -> Result<(), Fail> {
-    assert_eq!(rt; first_wrong(rt.alloc(), &PRODUCTS)?, None);
+    assert_eq!(rt; first_wrong(&rt, &PRODUCTS)?, None);
     Ok(())
 }
 
@@ -521,6 +521,6 @@ static QUOTIENTS_AND_ROOTS: [Case; 8] = [
 
 #[test]
 fn quotients_and_roots(rt: HostRuntime) -> Result<(), Fail> {
-    assert_eq!(rt; first_wrong(rt.alloc(), &QUOTIENTS_AND_ROOTS)?, None);
+    assert_eq!(rt; first_wrong(&rt, &QUOTIENTS_AND_ROOTS)?, None);
     Ok(())
 }

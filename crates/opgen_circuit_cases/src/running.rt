@@ -3,8 +3,9 @@ use opgen_harness::documents::changed;
 use opgen_harness::running::{Outcome, folder_of, holds, sink_of, words_of};
 use opgen_harness::targets::plain;
 use opgen_target::Target;
-use opgen_top::run;
+use opgen_top::{OpenGate, run};
 use std::alloc::{AllocError, Global};
+use std::thread::Threads;
 
 /// A specification, and what is left of it: the line of `generate`, and the rows of its circuit over inputs, if there is one.
 pub(crate) struct Case {
@@ -16,13 +17,18 @@ pub(crate) struct Case {
     pub rows: Option<&'static str>,
 }
 
-fn ran(alloc: Global, words: &[&str], files: &[(&str, &[u8])]) -> Result<Outcome, AllocError> {
+fn ran(
+    rt: &(impl Threads + Sync + Alloc<A = Global>),
+    words: &[&str],
+    files: &[(&str, &[u8])],
+) -> Result<Outcome, AllocError> {
+    let alloc = rt.alloc();
     let words = words_of(alloc, words)?;
     let mut folder = folder_of(alloc, files, &[])?;
     let mut out = sink_of(alloc, &[])?;
     let mut targets: Vec<Box<dyn Target>> = Vec::new(alloc);
     targets.push(Box::new(alloc, plain(alloc)?)?)?;
-    let status = run(alloc, &words, &mut folder, &mut out, targets);
+    let status = run(rt, alloc, &words, &mut folder, &mut out, targets, &OpenGate);
     Ok(Outcome {
         status: status.0,
         folder,
@@ -31,9 +37,12 @@ fn ran(alloc: Global, words: &[&str], files: &[(&str, &[u8])]) -> Result<Outcome
 }
 
 /// What `generate` leaves of a specification for the target `plain`.
-pub(crate) fn generated(alloc: Global, spec: &str) -> Result<Outcome, AllocError> {
+pub(crate) fn generated(
+    rt: &(impl Threads + Sync + Alloc<A = Global>),
+    spec: &str,
+) -> Result<Outcome, AllocError> {
     ran(
-        alloc,
+        rt,
         &["generate", "spec.toml"],
         &[("spec.toml", spec.as_bytes())],
     )
@@ -49,24 +58,33 @@ fn name_of(document: &str) -> &str {
 }
 
 /// Whether a circuit in VHDL gives these rows over the inputs.
-fn gives(alloc: Global, vhdl: &[u8], inputs: &str, rows: &str) -> Result<bool, AllocError> {
+fn gives(
+    rt: &(impl Threads + Sync + Alloc<A = Global>),
+    vhdl: &[u8],
+    inputs: &str,
+    rows: &str,
+) -> Result<bool, AllocError> {
     let ran = ran(
-        alloc,
+        rt,
         &["simulate", "a.vhd", "in.vec", "out.vec"],
         &[("a.vhd", vhdl), ("in.vec", inputs.as_bytes())],
     )?;
     Ok(ran.status == 0 && holds(&ran.folder, "out.vec", Some(rows)))
 }
 
-fn is_answered(alloc: Global, case: &Case) -> Result<bool, AllocError> {
+fn is_answered(
+    rt: &(impl Threads + Sync + Alloc<A = Global>),
+    case: &Case,
+) -> Result<bool, AllocError> {
+    let alloc = rt.alloc();
     let spec = changed(alloc, case.document, case.changes)?;
-    let made = generated(alloc, &spec)?;
+    let made = generated(rt, &spec)?;
     if made.out.bytes() != case.line.as_bytes() {
         return Ok(false);
     }
     let file = format!(in alloc; "{}.vhd", name_of(case.document))?;
     match (made.folder.get(&file), case.rows) {
-        (Some(vhdl), Some(rows)) => gives(alloc, vhdl, case.inputs, rows),
+        (Some(vhdl), Some(rows)) => gives(rt, vhdl, case.inputs, rows),
         (None, None) => Ok(made.status == 1),
         _ => Ok(false),
     }
@@ -74,11 +92,11 @@ fn is_answered(alloc: Global, case: &Case) -> Result<bool, AllocError> {
 
 /// The name of the first case that is answered otherwise.
 pub(crate) fn first_wrong(
-    alloc: Global,
+    rt: &(impl Threads + Sync + Alloc<A = Global>),
     cases: &[Case],
 ) -> Result<Option<&'static str>, AllocError> {
     for case in cases {
-        if !is_answered(alloc, case)? {
+        if !is_answered(rt, case)? {
             return Ok(Some(case.name));
         }
     }

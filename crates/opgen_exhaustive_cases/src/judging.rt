@@ -8,6 +8,7 @@ use opgen_operator::{Spec, is_cycle, is_history};
 use opgen_spec::{PortFormat, read_spec};
 use std::alloc::{AllocError, Global};
 use std::test::Fail;
+use std::thread::Threads;
 
 /// The inputs over which a circuit is run.
 #[derive(Clone, Copy)]
@@ -60,25 +61,30 @@ fn are_good(
 
 /// Whether the circuit's outputs for these inputs are good by the specification.
 pub(crate) fn is_met(
-    alloc: Global,
+    rt: &(impl Threads + Sync + Alloc<A = Global>),
     text: &str,
     circuit: &Circuit,
     stimulus: Stimulus,
 ) -> Result<bool, Fail> {
+    let alloc = rt.alloc();
     let spec = read_spec(alloc, text.as_bytes())?;
     let ports = spec.inputs(alloc)?;
     let inputs = cycles_of(alloc, &ports, stimulus, circuit.latency)?;
     let vectors = vectors_of(alloc, &ports, &inputs)?;
-    let run = run_of(alloc, circuit, vectors.as_str())?;
+    let run = run_of(rt, circuit, vectors.as_str())?;
     let outputs = outputs_of(alloc, run.as_str(), vectors.as_str())?;
     are_good(alloc, &spec, circuit.latency, &inputs, &outputs)
 }
 
 /// Fails with the first specification whose circuit has outputs that are not good.
-pub(crate) fn judge(alloc: Global, specs: &[String], stimulus: Stimulus) -> Result<(), Fail> {
+pub(crate) fn judge(
+    rt: &(impl Threads + Sync + Alloc<A = Global>),
+    specs: &[String],
+    stimulus: Stimulus,
+) -> Result<(), Fail> {
     for text in specs {
-        let circuit = circuit_of(alloc, text.as_str())?;
-        if !is_met(alloc, text.as_str(), &circuit, stimulus)? {
+        let circuit = circuit_of(rt, text.as_str())?;
+        if !is_met(rt, text.as_str(), &circuit, stimulus)? {
             return Err(Fail::new(format_args!("outputs that are not good: {text}")));
         }
     }

@@ -6,6 +6,8 @@ mod documents;
 #[cfg(test)]
 mod judging;
 #[cfg(test)]
+mod multiples;
+#[cfg(test)]
 mod rows;
 #[cfg(test)]
 mod running;

@@ -2,9 +2,10 @@
 use opgen_harness::running::{Outcome, folder_of, sink_of, words_of};
 use opgen_harness::targets::plain;
 use opgen_target::Target;
-use opgen_top::run;
+use opgen_top::{OpenGate, run};
 use std::alloc::{AllocError, Global};
 use std::test::Fail;
+use std::thread::Threads;
 
 /// The VHDL of a circuit, and the cycles from its inputs to its outputs.
 #[derive(Drop)]
@@ -13,13 +14,18 @@ pub(crate) struct Circuit {
     pub latency: usize,
 }
 
-fn ran(alloc: Global, words: &[&str], files: &[(&str, &[u8])]) -> Result<Outcome, AllocError> {
+fn ran(
+    rt: &(impl Threads + Sync + Alloc<A = Global>),
+    words: &[&str],
+    files: &[(&str, &[u8])],
+) -> Result<Outcome, AllocError> {
+    let alloc = rt.alloc();
     let words = words_of(alloc, words)?;
     let mut folder = folder_of(alloc, files, &[])?;
     let mut out = sink_of(alloc, &[])?;
     let mut targets: Vec<Box<dyn Target>> = Vec::new(alloc);
     targets.push(Box::new(alloc, plain(alloc)?)?)?;
-    let status = run(alloc, &words, &mut folder, &mut out, targets);
+    let status = run(rt, alloc, &words, &mut folder, &mut out, targets, &OpenGate);
     Ok(Outcome {
         status: status.0,
         folder,
@@ -35,9 +41,13 @@ fn told_latency(line: &[u8]) -> Option<usize> {
 }
 
 /// The circuit of a specification whose operator has the name `tried`.
-pub(crate) fn circuit_of(alloc: Global, spec: &str) -> Result<Circuit, Fail> {
+pub(crate) fn circuit_of(
+    rt: &(impl Threads + Sync + Alloc<A = Global>),
+    spec: &str,
+) -> Result<Circuit, Fail> {
+    let alloc = rt.alloc();
     let made = ran(
-        alloc,
+        rt,
         &["generate", "spec.toml"],
         &[("spec.toml", spec.as_bytes())],
     )?;
@@ -51,9 +61,14 @@ pub(crate) fn circuit_of(alloc: Global, spec: &str) -> Result<Circuit, Fail> {
 }
 
 /// The text of a circuit's run over a file of vectors.
-pub(crate) fn run_of(alloc: Global, circuit: &Circuit, vectors: &str) -> Result<String, Fail> {
+pub(crate) fn run_of(
+    rt: &(impl Threads + Sync + Alloc<A = Global>),
+    circuit: &Circuit,
+    vectors: &str,
+) -> Result<String, Fail> {
+    let alloc = rt.alloc();
     let ran = ran(
-        alloc,
+        rt,
         &["simulate", "a.vhd", "in.vec", "out.vec"],
         &[("a.vhd", &circuit.vhdl), ("in.vec", vectors.as_bytes())],
     )?;

@@ -39,8 +39,8 @@ fn scales(alloc: Global, signed: bool, seed: u64) -> Result<Vec<String>, AllocEr
 
 #[test]
 fn faithful_scales(rt: HostRuntime) -> Result<(), Fail> {
-    judge(rt.alloc(), &scales(rt.alloc(), false, 1)?, Stimulus::All)?;
-    judge(rt.alloc(), &scales(rt.alloc(), true, 2)?, Stimulus::All)
+    judge(&rt, &scales(rt.alloc(), false, 1)?, Stimulus::All)?;
+    judge(&rt, &scales(rt.alloc(), true, 2)?, Stimulus::All)
 }
 
 /// The judge finds out the circuit of another coefficient.
@@ -48,8 +48,8 @@ fn faithful_scales(rt: HostRuntime) -> Result<(), Fail> {
 fn another_scale(rt: HostRuntime) -> Result<(), Fail> {
     let five = sum(rt.alloc(), FAITHFUL, "scale", (false, 7, 3), ("5", 8))?;
     let six = sum(rt.alloc(), FAITHFUL, "scale", (false, 7, 3), ("6", 8))?;
-    let circuit = circuit_of(rt.alloc(), six.as_str())?;
-    assert!(rt; !is_met(rt.alloc(), five.as_str(), &circuit, Stimulus::All)?);
+    let circuit = circuit_of(&rt, six.as_str())?;
+    assert!(rt; !is_met(&rt, five.as_str(), &circuit, Stimulus::All)?);
     Ok(())
 }
 
@@ -93,19 +93,19 @@ fn filters(
 #[test]
 fn faithful_filters(rt: HostRuntime) -> Result<(), Fail> {
     let specs = filters(rt.alloc(), FAITHFUL, 3, 300, &[-3, 0, 3])?;
-    judge(rt.alloc(), &specs, Stimulus::Drawn(40))
+    judge(&rt, &specs, Stimulus::Drawn(40))
 }
 
 #[test]
 fn paced_filters(rt: HostRuntime) -> Result<(), Fail> {
     let specs = filters(rt.alloc(), PACED, 4, 300, &[-1, 1, 2])?;
     let last = specs.last().map_or("", |text| text.as_str());
-    assert!(rt; 0 < circuit_of(rt.alloc(), last)?.latency);
-    judge(rt.alloc(), &specs, Stimulus::Drawn(40))
+    assert!(rt; 0 < circuit_of(&rt, last)?.latency);
+    judge(&rt, &specs, Stimulus::Drawn(40))
 }
 
 #[test]
 fn exact_filters(rt: HostRuntime) -> Result<(), Fail> {
     let specs = filters(rt.alloc(), EXACT, 5, 1, &[0, 2])?;
-    judge(rt.alloc(), &specs, Stimulus::Drawn(40))
+    judge(&rt, &specs, Stimulus::Drawn(40))
 }

@@ -24,21 +24,17 @@ fn products(alloc: Global, mode: &str, least_shift: i32) -> Result<Vec<String>, 
 
 #[test]
 fn faithful_products(rt: HostRuntime) -> Result<(), Fail> {
-    judge(
-        rt.alloc(),
-        &products(rt.alloc(), FAITHFUL, -4)?,
-        Stimulus::All,
-    )
+    judge(&rt, &products(rt.alloc(), FAITHFUL, -4)?, Stimulus::All)
 }
 
 #[test]
 fn paced_products(rt: HostRuntime) -> Result<(), Fail> {
-    judge(rt.alloc(), &products(rt.alloc(), PACED, -4)?, Stimulus::All)
+    judge(&rt, &products(rt.alloc(), PACED, -4)?, Stimulus::All)
 }
 
 #[test]
 fn exact_products(rt: HostRuntime) -> Result<(), Fail> {
-    judge(rt.alloc(), &products(rt.alloc(), EXACT, 0)?, Stimulus::All)
+    judge(&rt, &products(rt.alloc(), EXACT, 0)?, Stimulus::All)
 }
 
 /// Quotients of dividends of up to 6 bits by divisors of up to 4, of shifts from 0 to 3.
@@ -59,17 +55,17 @@ fn quotients(alloc: Global, mode: &str) -> Result<Vec<String>, AllocError> {
 
 #[test]
 fn exact_quotients(rt: HostRuntime) -> Result<(), Fail> {
-    judge(rt.alloc(), &quotients(rt.alloc(), EXACT)?, Stimulus::All)
+    judge(&rt, &quotients(rt.alloc(), EXACT)?, Stimulus::All)
 }
 
 #[test]
 fn faithful_quotients(rt: HostRuntime) -> Result<(), Fail> {
-    judge(rt.alloc(), &quotients(rt.alloc(), FAITHFUL)?, Stimulus::All)
+    judge(&rt, &quotients(rt.alloc(), FAITHFUL)?, Stimulus::All)
 }
 
 #[test]
 fn paced_quotients(rt: HostRuntime) -> Result<(), Fail> {
-    judge(rt.alloc(), &quotients(rt.alloc(), PACED)?, Stimulus::All)
+    judge(&rt, &quotients(rt.alloc(), PACED)?, Stimulus::All)
 }
 
 /// Roots of numbers of up to 10 bits, of shifts from 0 to 3.
@@ -88,15 +84,15 @@ fn roots(alloc: Global, mode: &str) -> Result<Vec<String>, AllocError> {
 
 #[test]
 fn exact_roots(rt: HostRuntime) -> Result<(), Fail> {
-    judge(rt.alloc(), &roots(rt.alloc(), EXACT)?, Stimulus::All)
+    judge(&rt, &roots(rt.alloc(), EXACT)?, Stimulus::All)
 }
 
 #[test]
 fn faithful_roots(rt: HostRuntime) -> Result<(), Fail> {
-    judge(rt.alloc(), &roots(rt.alloc(), FAITHFUL)?, Stimulus::All)
+    judge(&rt, &roots(rt.alloc(), FAITHFUL)?, Stimulus::All)
 }
 
 #[test]
 fn paced_roots(rt: HostRuntime) -> Result<(), Fail> {
-    judge(rt.alloc(), &roots(rt.alloc(), PACED)?, Stimulus::All)
+    judge(&rt, &roots(rt.alloc(), PACED)?, Stimulus::All)
 }

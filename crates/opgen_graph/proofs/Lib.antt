@@ -7,3 +7,16 @@ pub mod Vectors
 pub mod SignedSets
 pub mod OddParts
 pub mod Uniqueness
+pub mod Residues
+pub mod Operands
+pub mod Ranges
+pub mod Steps
+pub mod Kept
+pub mod Sums
+pub mod Standing
+pub mod TargetLists
+pub mod Products
+pub mod Outputs
+pub mod Fits
+pub mod Named
+pub mod Serving

@@ -41,6 +41,6 @@ pub record IsFirstStep (u v f : ℕ) (step : Step) : Type 0 where
 abbrev pub CombEither : (u v f : ℕ) → Type 0
 CombEither u v f = Comb u v f ⊎ Comb v u f
 
--- a number is the odd part of the sum or of the difference of two odd numbers
+-- the sum or the difference of two numbers is a number times a power of two of at least 2
 abbrev pub IsOddPart : (part u v : ℕ) → Type 0
 IsOddPart part u v = (i : ℕ) × (1 ≤ i) × ((u + v ≡ 2 ^ i * part) ⊎ ((u ≡ v + 2 ^ i * part) ⊎ (v ≡ u + 2 ^ i * part)))

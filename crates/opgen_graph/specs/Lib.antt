@@ -4,3 +4,7 @@ pub mod Graphs
 pub mod GraphLaws
 pub mod SetCost
 pub mod SignedDigits
+pub mod Targets
+pub mod Served
+pub mod Recipe
+pub mod Placing

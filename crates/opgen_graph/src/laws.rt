@@ -1,5 +1,7 @@
 ghost use Rattle.opgen_graph.specs.SignedDigits.{DigitSetsReach};
+ghost use Rattle.opgen_graph.specs.Targets.{PartsAreOdd};
 ghost use Rattle.opgen_graph.specs.GraphLaws.{RanksAreGraphs, OneGraph};
+ghost use Rattle.opgen_graph.specs.Served.{ReachedSetsServe};
 
 /// A law: the set of signed-digit partial sums of some targets has the targets, and can be reached from 1.
 pub fn digit_sets_reach()
@@ -14,4 +16,14 @@ pub fn ranks_are_graphs()
 /// A law: a set has one graph by ranks.
 pub fn one_graph()
     ensures { OneGraph }
+{}
+
+/// A law: the graph of a set that reaches the targets of some constants has what their net needs.
+pub fn reached_sets_serve()
+    ensures { ReachedSetsServe }
+{}
+
+/// A law: a number is a power of two times its odd part, which is odd.
+pub fn parts_are_odd()
+    ensures { PartsAreOdd }
 {}

@@ -17,8 +17,8 @@ mod zeros;
 
 pub use counts::{copies, signal_count};
 pub use laws::{
-    design_is_shaped, design_is_sound, design_is_writable, design_runs, plan_fits, plan_is_least, plan_paths_fit,
-    run_follows_flow,
+    design_is_shaped, design_is_sound, design_is_writable, design_runs, plan_fits, plan_is_least,
+    plan_paths_fit, run_follows_flow,
 };
 pub use pipelined::design;
 pub use planning::{MAX_SIGNALS, PlanFault, Planned, plan};

@@ -1,12 +1,11 @@
 -- The search from its start to its end.
-use Rattle.std.proofs.Common.{◌≡◌, ◌⊎◌, inl, inr, ⊎_elim, ℕ, suc, ◌+◌, ◌%◌, ◌^◌, ◌≤◌, ◌<◌, List, [], ◌∷◌, length, All, refl, ap, subst, arith}
+use Rattle.std.proofs.Common.{◌≡◌, ◌⊎◌, inl, inr, ⊎_elim, ℕ, suc, ◌+◌, ◌%◌, ◌^◌, ◌≤◌, ◌<◌, List, [], ◌∷◌, length, All, refl, ap, arith}
 use Rattle.std.proofs.lemmas.List.Elements.{All-weaker, All-head, All-tail}
 use Rattle.opgen_graph.specs.Reach.{Reaches, IsMember}
 use Rattle.opgen_graph.specs.SignedDigits.{IsTarget, IsDigitSet}
 use Rattle.opgen_graph.proofs.Members.{all_of}
 use Rattle.opgen_graph.proofs.SignedSets.{Climbs, climbs, digit_sets_reach}
-use Rattle.opgen_search.specs.Space.{AreTargets, limit, IsCandidate, InSpace}
-use Rattle.opgen_search.specs.Least.{IsBefore, IsLeast}
+use Rattle.opgen_search.specs.Space.{AreTargets, limit, InSpace}
 use Rattle.opgen_search.specs.Nodes.{members, IsNode, HasRoom}
 use Rattle.opgen_search.proofs.Sets.{distinct_climbs, same_set}
 use Rattle.opgen_search.proofs.Limits.{limit_small, below_limit}
@@ -31,14 +30,8 @@ digit_count targets set r =
     ⊎_elim (λ (k : length set + 0 ≤ 2 ^ 13). omega (arith, k)) (λ (e : set ≡ []). omega (arith, ap length e)) (climbs_length set 0 (2 ^ 13) (climbs set r.adders.increasing) (all_of (λ x. 0 ≤ x) set (λ x c. omega arith)) small)
 
 -- ---- the end
-one_digit_set : (targets set other : List ℕ) → IsDigitSet targets set → IsDigitSet targets other → set ≡ other
+pub one_digit_set : (targets set other : List ℕ) → IsDigitSet targets set → IsDigitSet targets other → set ≡ other
 one_digit_set targets set other d e = same_set set other d.increasing e.increasing (λ x c. (e.members x).1 ((d.members x).0 c)) (λ x c. (d.members x).1 ((e.members x).0 c))
-
-pub least_of : (targets : List ℕ) (width extra : ℕ) (digits best : List ℕ) → IsDigitSet targets digits → InSpace targets extra best → (IsBefore width digits best → ⊥) → ((other : List ℕ) → IsCandidate targets extra other → IsBefore width other best → ⊥) → IsLeast targets width extra best
-least_of targets width extra digits best d member first all = record {
-  member = member;
-  least = λ other o. ⊎_elim (λ (c : IsCandidate targets extra other). all other c) (λ (e : IsDigitSet targets other). subst (λ xs. IsBefore width xs best → ⊥) (one_digit_set targets digits other d e) first) o;
-}
 
 pub space_reaches : (targets : List ℕ) (extra : ℕ) (set : List ℕ) → AreTargets targets → InSpace targets extra set → Reaches targets set
 space_reaches targets extra set h (inl c) = record {

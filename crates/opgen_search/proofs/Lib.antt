@@ -1,6 +1,14 @@
 pub mod Order
 pub mod Sets
 pub mod Limits
+pub mod Leasts
+pub mod Choices
 pub mod NodeLaws
 pub mod Trying
+pub mod Merging
 pub mod Closing
+pub mod Hunting
+pub mod Forking
+pub mod Ending
+pub mod Building
+pub mod Numbering

@@ -1,19 +1,17 @@
 -- Sets in the making.
-use Rattle.std.proofs.Common.{◌≡◌, ◌⊎◌, inl, inr, ⊎_elim, ℕ, ◌≤◌, ◌<◌, List, [], ◌∷◌, ◌++◌, length, drop, get_or, All, Contains, IsPermutation, refl, sym, ap, subst, ◌∙◌, arith, append_assoc}
-use lib.Dec.{eqb}
-use Rattle.std.specs.List.{IsDistinct, remove}
+use Rattle.std.proofs.Common.{◌≡◌, ◌⊎◌, inl, inr, ⊎_elim, ℕ, ◌≤◌, ◌<◌, false, ◌==◌, List, [], ◌∷◌, ◌++◌, length, drop, get_or, All, Contains, IsPermutation, refl, sym, ap, subst, ◌∙◌, arith, append_assoc}
+use Rattle.std.specs.List.{remove}
 use Rattle.std.proofs.lemmas.Grind.{get_or_default_zero}
 use Rattle.std.proofs.lemmas.List.{append-nil}
 use Rattle.std.proofs.lemmas.List.Elements.{All-contains, All-cons, Contains-get_or, Contains-append_left, Contains-append_right, Contains-append_cases}
 use Rattle.std.proofs.lemmas.List.Sorted.{IsPermutation-refl, IsPermutation-sym, IsPermutation-trans, IsPermutation-more, IsPermutation-middle, Contains-permutation, All-permutation}
-use Rattle.std.proofs.lemmas.Map.Keys.{IsDistinct-tail}
 use Rattle.opgen_graph.specs.Adders.{IsTerm, Comb, CombEither}
 use Rattle.opgen_graph.specs.Reach.{Among, Built, Reachable, IsMember}
 use Rattle.opgen_graph.proofs.Members.{here, there, of_cons, of_nil, of_one, all_of, is_in, read, within_more}
 use Rattle.opgen_graph.proofs.Reaching.{more_among}
 use Rattle.opgen_search.specs.Members.{Within}
 use Rattle.opgen_search.specs.Nodes.{members, IsNode, IsStuck}
-use Rattle.opgen_search.proofs.Sets.{apart, distinct_cons, distinct_moved}
+use Rattle.opgen_search.proofs.Sets.{distinct_cons, distinct_moved, distinct_append}
 
 -- ---- what is placed
 pub one_placed : (placed : List ℕ) → placed ≡ 1 ∷ drop 1 placed → Contains placed 1
@@ -79,10 +77,6 @@ added placed left x n out m a =
     }
 
 -- ---- the next member of a larger set that can be reached
-distinct_append : (xs ys : List ℕ) (x : ℕ) → IsDistinct eqb (xs ++ ys) → Contains xs x → Contains ys x → ⊥
-distinct_append [] ys x d cx cy = of_nil x cx
-distinct_append (z ∷ xs) ys x d cx cy = ⊎_elim (λ (e : z ≡ x). apart z (xs ++ ys) d (Contains-append_right xs ys z (subst (Contains ys) (sym e) cy))) (λ (k : Contains xs x). distinct_append xs ys x (IsDistinct-tail eqb z (xs ++ ys) d) k cy) (of_cons z x xs cx)
-
 first_new : (placed p order : List ℕ) → Within p placed → Built p order → (x : ℕ) → Contains order x → (Contains placed x → ⊥) → (f : ℕ) × Contains order f × (Contains placed f → ⊥) × Among placed f
 first_new placed p [] w b x c out = absurd (of_nil x c)
 first_new placed p (f ∷ fs) w b x c out =
@@ -94,26 +88,34 @@ first_new placed p (f ∷ fs) w b x c out =
     (λ (no : Contains placed f → ⊥). (f, here f fs, no, more_among p placed f w b.0))
     (is_in placed f)
 
-pub next_member : (placed left other : List ℕ) → IsNode placed left → IsStuck placed left → 0 < length left → Within (members placed left) other → Reachable other → (f : ℕ) × Contains other f × (Contains (members placed left) f → ⊥) × Among placed f
-next_member placed left other n stuck some w (order, perm, built) =
-    let x = get_or left 0 0 in
-    let x_left : Contains left x = Contains-get_or left 0 0 some in
-    let x_member : Contains (members placed left) x = Contains-append_right (drop 1 placed) left x x_left in
-    let x_large = (All-contains IsMember (members placed left) x n.adders x_member).1 in
-    let x_new : Contains placed x → ⊥ = λ c. ⊎_elim (λ (e : 1 ≡ x). omega (arith, e, x_large)) (λ (k : Contains (drop 1 placed) x). distinct_append (drop 1 placed) left x n.distinct k x_left) (placed_cases placed x n.starts c) in
+pub next_member : (placed left other : List ℕ) (x : ℕ) → IsNode placed left → IsStuck placed left → Contains other x → (Contains placed x → ⊥) → Reachable other → (f : ℕ) × Contains other f × (Contains (members placed left) f → ⊥) × Among placed f
+next_member placed left other x n stuck x_in x_new (order, perm, built) =
     let one : Within (1 ∷ []) placed = λ y c. subst (Contains placed) (of_one 1 y c) (one_placed placed n.starts) in
-    let (f, f_in, f_new, f_made) = first_new placed (1 ∷ []) order one built x (Contains-permutation other order x perm (w x x_member)) x_new in (
+    let (f, f_in, f_new, f_made) = first_new placed (1 ∷ []) order one built x (Contains-permutation other order x perm x_in) x_new in (
       f,
       Contains-permutation order other f (IsPermutation-sym other order perm) f_in,
       λ c. ⊎_elim (λ (k : Contains (drop 1 placed) f). f_new (placed_member placed f n.starts k)) (λ (k : Contains left f). stuck f k f_made) (Contains-append_cases (drop 1 placed) left f c),
       f_made,
     )
 
+pub some_left : (left : List ℕ) → false ≡ (length left == 0) → 0 < length left
+some_left [] e = cc
+some_left (x ∷ xs) e = omega arith
+
+-- what is left is not placed
+first_left : (placed left : List ℕ) → IsNode placed left → 0 < length left → (x : ℕ) × Contains (members placed left) x × (Contains placed x → ⊥)
+first_left placed left n some =
+    let x = get_or left 0 0 in
+    let x_left : Contains left x = Contains-get_or left 0 0 some in
+    let x_member : Contains (members placed left) x = Contains-append_right (drop 1 placed) left x x_left in
+    let x_large = (All-contains IsMember (members placed left) x n.adders x_member).1 in
+    (x, x_member, λ c. ⊎_elim (λ (e : 1 ≡ x). omega (arith, e, x_large)) (λ (k : Contains (drop 1 placed) x). distinct_append (drop 1 placed) left x n.distinct k x_left) (placed_cases placed x n.starts c))
+
 -- a node with something left of which nothing can be made is no set that can be reached
 pub not_reachable : (placed left other : List ℕ) → IsNode placed left → IsStuck placed left → 0 < length left → IsPermutation other (members placed left) → Reachable other → ⊥
 not_reachable placed left other n stuck some p r =
-    let w : Within (members placed left) other = λ x c. Contains-permutation (members placed left) other x (IsPermutation-sym other (members placed left) p) c in
-    let (f, f_in, f_out, _) = next_member placed left other n stuck some w r in
+    let (x, x_member, x_new) = first_left placed left n some in
+    let (f, f_in, f_out, _) = next_member placed left other x n stuck (Contains-permutation (members placed left) other x (IsPermutation-sym other (members placed left) p) x_member) x_new r in
     f_out (Contains-permutation other (members placed left) f p f_in)
 
 -- ---- a further member helps

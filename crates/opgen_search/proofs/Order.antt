@@ -1,5 +1,5 @@
 -- The order of sets is total.
-use Rattle.std.proofs.Common.{refl, ◌≡◌, ◌⊎◌, inl, inr, ℕ, ◌≤◌, ◌<◌, List, subst, sym, arith}
+use Rattle.std.proofs.Common.{refl, ◌≡◌, ◌⊎◌, inl, inr, ℕ, ◌≤◌, ◌<◌, List, Option, Some, None, subst, sym, arith}
 use Rattle.std.specs.declared.cmp.Ordering.{Ordering}
 use Rattle.std.specs.declared.cmp.Ordering.TheVariants.{Less, Equal, Greater}
 use Rattle.std.specs.Ordering.{ordering_reverse, ordering_then}
@@ -9,6 +9,7 @@ use Rattle.std.specs.Cmp.Lexicographic.{nat_list_cmp_total}
 use Rattle.std.proofs.lemmas.Bool.Decides.{nat_tests}
 use Rattle.opgen_graph.specs.SetCost.{set_cost}
 use Rattle.opgen_search.specs.Least.{order, IsBefore}
+use Rattle.opgen_search.specs.Covered.{IsNotBefore}
 
 pub order_total : (width : ℕ) → IsTotalOrder (order width)
 unfolding order
@@ -33,14 +34,11 @@ pub cost_before : (width : ℕ) (F G : List ℕ) → IsBefore width F G → set_
 unfolding order
 cost_before width F G h = grind (arith, nat_tests)
 
--- what costs more than the best is not before it
-pub not_dearer : (width : ℕ) (best F : List ℕ) → set_cost width best < set_cost width F → IsBefore width F best → ⊥
-not_dearer width best F lt b = omega (arith, lt, cost_before width F best b)
-
 -- a set that is no better than the best settles all that are that set or cost more
-pub settles : (width : ℕ) (best F G : List ℕ) → (IsBefore width F best → ⊥) → (F ≡ G) ⊎ (set_cost width F < set_cost width G) → IsBefore width G best → ⊥
-settles width best F G n (inl e) b = n (subst (λ x. IsBefore width x best) (sym e) b)
-settles width best F G n (inr lt) b = n (before_trans width F G best (before_cheaper width F G lt) b)
+pub settles : (width : ℕ) (best : Option (List ℕ)) (F G : List ℕ) → IsNotBefore width F best → (F ≡ G) ⊎ (set_cost width F < set_cost width G) → IsNotBefore width G best
+settles width None F G non same = non
+settles width (Some H) F G non (inl e) = λ b. non (subst (λ x. IsBefore width x H) (sym e) b)
+settles width (Some H) F G non (inr lt) = λ b. non (before_trans width F G H (before_cheaper width F G lt) b)
 
 -- ---- sets of which neither is before the other are one set
 then_equal : (r s : Ordering) → ordering_then r s ≡ Equal → s ≡ Equal
@@ -48,7 +46,7 @@ then_equal Less s e = cc
 then_equal Equal s e = e
 then_equal Greater s e = cc
 
-equal_sets : (width : ℕ) (F G : List ℕ) → order width F G ≡ Equal → F ≡ G
+pub equal_sets : (width : ℕ) (F G : List ℕ) → order width F G ≡ Equal → F ≡ G
 unfolding order
 equal_sets width F G e = exact_bytes F G (then_equal _ _ e)
 

@@ -7,8 +7,8 @@ use Rattle.std.proofs.lemmas.Bool.{cases_eq}
 use Rattle.std.proofs.lemmas.Bool.Decides.{nat_tests}
 use Rattle.std.proofs.lemmas.List.{append-nil}
 use Rattle.std.proofs.lemmas.List.Sums.{sum_by-cons, sum_by-append}
-use Rattle.std.proofs.lemmas.List.Elements.{All-from_recursion, recursion_from_All, All-contains}
-use Rattle.std.proofs.lemmas.List.Sorted.{IsPermutation-refl, IsPermutation-trans, IsPermutation-cons, IsPermutation-remove, Contains-permutation, length_permutation, sum_by-IsPermutation}
+use Rattle.std.proofs.lemmas.List.Elements.{All-from_recursion, recursion_from_All, All-contains, Contains-append_right}
+use Rattle.std.proofs.lemmas.List.Sorted.{IsPermutation-refl, IsPermutation-sym, IsPermutation-trans, IsPermutation-cons, IsPermutation-remove, Contains-permutation, length_permutation, sum_by-IsPermutation}
 use Rattle.std.proofs.lemmas.Map.Keys.{IsDistinct-head, IsDistinct-tail, IsDistinct-cons, IsDistinct-IsPermutation, IsStrictlyIncreasing-from_distinct}
 use Rattle.opgen_graph.specs.SetCost.{set_cost, adder_cost}
 use Rattle.opgen_graph.proofs.Members.{here, there, of_cons, of_nil, all_of}
@@ -60,6 +60,22 @@ grown width xs ys one d w = more (difference xs ys d w)
         let long = length_permutation _ _ p in
         let dear = sum_by-IsPermutation (adder_cost width) _ _ p in
         inr (omega (arith, long, length-append xs (r ∷ rs)), omega (arith, dear, one, sum_by-append (adder_cost width) xs (r ∷ rs), sum_by-cons (adder_cost width) r rs))
+
+pub distinct_append : (xs ys : List ℕ) (x : ℕ) → IsDistinct eqb (xs ++ ys) → Contains xs x → Contains ys x → ⊥
+distinct_append [] ys x d cx cy = of_nil x cx
+distinct_append (z ∷ xs) ys x d cx cy = ⊎_elim (λ (e : z ≡ x). apart z (xs ++ ys) d (Contains-append_right xs ys z (subst (Contains ys) (sym e) cy))) (λ (k : Contains xs x). distinct_append xs ys x (IsDistinct-tail eqb z (xs ++ ys) d) k cy) (of_cons z x xs cx)
+
+-- a larger list that is not the same set has a member besides
+pub one_more : (xs ys : List ℕ) → IsDistinct eqb xs → IsDistinct eqb ys → Within xs ys → (IsPermutation ys xs → ⊥) → (x : ℕ) × Contains ys x × (Contains xs x → ⊥)
+one_more xs ys dx dy w non = besides (difference xs ys dx w)
+  where
+    besides : (rest : List ℕ) × IsPermutation ys (xs ++ rest) → (x : ℕ) × Contains ys x × (Contains xs x → ⊥)
+    besides ([], p) = absurd (non (rw append-nil at p))
+    besides (r ∷ rs, p) = (
+      r,
+      Contains-permutation (xs ++ r ∷ rs) ys r (IsPermutation-sym ys (xs ++ r ∷ rs) p) (Contains-append_right xs (r ∷ rs) r (here r rs)),
+      λ c. distinct_append xs (r ∷ rs) r (distinct_moved ys (xs ++ r ∷ rs) p dy) c (here r rs),
+    )
 
 -- ---- increasing lists
 same_climbs : (xs ys : List ℕ) → Climbs xs → Climbs ys → Within xs ys → Within ys xs → xs ≡ ys

@@ -1,5 +1,9 @@
 pub mod Space
+pub mod Parts
 pub mod Least
+pub mod Covered
 pub mod Members
 pub mod Nodes
 pub mod Hunts
+pub mod Forks
+pub mod Recipe

@@ -1,14 +1,15 @@
-ghost use Rattle.std.specs.Prelude.{◌≡◌, ◌++◌, ◌∷◌, [], ℕ, ◌+◌, ◌%◌, ◌≤◌, ◌<◌, List, length, drop, IfOk, OnOk, Contains, IsPermutation};
+ghost use Rattle.std.specs.Prelude.{◌≡◌, ◌⊎◌, ◌++◌, ◌∷◌, [], ℕ, ◌+◌, ◌≤◌, ◌<◌, List, length, drop, IfOk, OnOk, IsTrue, IsFalse, Contains, IsPermutation};
 ghost use Rattle.std.specs.List.Sorted.{IsNonDecreasing};
 ghost use Rattle.opgen_graph.specs.Reach.{Among};
 ghost use Rattle.opgen_graph.specs.SetCost.{set_cost};
-ghost use Rattle.opgen_search.specs.Space.{IsCandidate};
 ghost use Rattle.opgen_search.specs.Members.{Within};
 ghost use Rattle.opgen_search.specs.Nodes.{IsNode, IsStuck, HasRoom, members};
-ghost use Rattle.opgen_search.specs.Hunts.{IsSearch, IsHunt, IsSettled, IsLater, IsCovered};
+ghost use Rattle.opgen_search.specs.Hunts.{IsChoice, IsPiece, IsHunt, IsSettled, IsLater, IsCovered, IsLeastOf, own_of, takes};
 
-use crate::hunt::{Hunt, Search, is_before};
+use crate::hunt::{Hunt, Piece};
 use crate::node::{Node, close, has, is_worth, with_member};
+use crate::part::{choices, is_foreign, takes_least};
+use crate::take::{is_better, look, take};
 use opgen_graph::cost;
 use std::alloc::{AllocError, Global};
 
@@ -23,79 +24,88 @@ fn set_of(alloc: Global, placed: &[u32]) -> Result<Vec<u32>, AllocError>
     Ok(set)
 }
 
-// Takes the set of a node with nothing left, if it is before the best so far.
-fn consider(
-    alloc: Global,
-    search: &Search,
-    hunt: &mut Hunt,
-    placed: &[u32],
-) -> Result<(), AllocError>
-    requires search { IsSearch search.now }
-    requires hunt { IsHunt search.now hunt.old }
-    requires node { IsNode placed.now [] }
-    requires room { HasRoom search.now.targets.now search.now.extra (members placed.now []) 0 }
-    ensures hunt { IsHunt search.now hunt.new }
-    ensures later { IsLater search.now hunt.old hunt.new }
-    ensures all { OnOk result ((other : List ℕ) → IsCandidate search.now.targets.now search.now.extra other → Within (members placed.now []) other → IsSettled search.now hunt.new other) }
+// Takes the set of a node with nothing left that is of the piece, if it is the first or before the best so far.
+fn consider(alloc: Global, piece: &Piece, hunt: &mut Hunt, node: &Node) -> Result<(), AllocError>
+    requires piece { IsPiece piece.now }
+    requires hunt { IsHunt piece.now hunt.old }
+    requires node { IsNode node.now.placed.items [] }
+    requires room { HasRoom piece.now.search.now.targets.items piece.now.search.now.extra (members node.now.placed.items []) 0 }
+    requires least { IsLeastOf piece.now.search.now.targets.items (members node.now.placed.items []) node.now.least }
+    requires takes { takes piece.now node.now.least }
+    ensures hunt { IsHunt piece.now hunt.new }
+    ensures later { IsLater piece.now hunt.old hunt.new }
+    ensures all { OnOk result ((other : List ℕ) → own_of piece.now other → Within (members node.now.placed.items []) other → IsSettled piece.now hunt.new other) }
 {
-    let set = set_of(alloc, placed)?;
-    if is_before(set.as_slice(), hunt.best.as_slice(), search.width) {
-        hunt.most = cost(set.as_slice(), search.width);
-        hunt.best = set;
+    let set = set_of(alloc, node.placed.as_slice())?;
+    if is_better(piece, hunt, set.as_slice()) {
+        take(piece, hunt, set);
     }
     Ok(())
 }
 
-/// Tries each set that has the node's members and at most so many more.
+// Whether a node is a set of the piece.
+fn is_whole(piece: &Piece, node: &Node) -> bool
+    requires { IsPiece piece.now }
+    ensures whole { IsTrue result → (node.now.left.items ≡ []) × takes piece.now node.now.least }
+    ensures open { IsFalse result → (0 < length node.now.left.items) ⊎ (takes piece.now node.now.least → ⊥) }
+{
+    node.left.is_empty() && takes_least(piece, node.least)
+}
+
+/// Tries each set of the piece that has the node's members and at most so many more.
 #[cycle(explore)]
 pub fn explore(
     alloc: Global,
-    search: &Search,
+    piece: &Piece,
     hunt: &mut Hunt,
     mut node: Node,
     more: u32,
 ) -> Result<(), AllocError>
-    requires search { IsSearch search.now }
-    requires hunt { IsHunt search.now hunt.old }
+    requires piece { IsPiece piece.now }
+    requires hunt { IsHunt piece.now hunt.old }
     requires node { IsNode node.placed.items node.left.items }
-    requires room { HasRoom search.now.targets.now search.now.extra (members node.placed.items node.left.items) more }
-    ensures hunt { IsHunt search.now hunt.new }
-    ensures later { IsLater search.now hunt.old hunt.new }
-    ensures covered { OnOk result (IsCovered search.now hunt.new (members node.placed.items node.left.items) more) }
+    requires room { HasRoom piece.now.search.now.targets.items piece.now.search.now.extra (members node.placed.items node.left.items) more }
+    requires least { IsLeastOf piece.now.search.now.targets.items (members node.placed.items node.left.items) node.least }
+    ensures hunt { IsHunt piece.now hunt.new }
+    ensures later { IsLater piece.now hunt.old hunt.new }
+    ensures covered { OnOk result (IsCovered piece.now hunt.new (members node.placed.items node.left.items) more) }
 {
     close(&mut node)?;
-    if node.left.is_empty() {
-        return consider(alloc, search, hunt, node.placed.as_slice());
+    if is_whole(piece, &node) {
+        return consider(alloc, piece, hunt, &node);
     }
     if more == 0 {
         return Ok(());
     }
-    try_members(alloc, search, hunt, &node, more)
+    try_members(alloc, piece, hunt, &node, more)
 }
 
-// The same for a node with something left, of which nothing can be made.
+// The same for a node that is no set of the piece, and of which nothing that is left can be made.
 #[cycle(explore)]
 fn try_members(
     alloc: Global,
-    search: &Search,
+    piece: &Piece,
     hunt: &mut Hunt,
     node: &Node,
     more: u32,
 ) -> Result<(), AllocError>
-    requires search { IsSearch search.now }
-    requires hunt { IsHunt search.now hunt.old }
+    requires piece { IsPiece piece.now }
+    requires hunt { IsHunt piece.now hunt.old }
     requires node { IsNode node.now.placed.items node.now.left.items }
     requires stuck { IsStuck node.now.placed.items node.now.left.items }
-    requires left { 0 < length node.now.left.items }
-    requires room { HasRoom search.now.targets.now search.now.extra (members node.now.placed.items node.now.left.items) more }
+    requires open { (0 < length node.now.left.items) ⊎ (takes piece.now node.now.least → ⊥) }
+    requires room { HasRoom piece.now.search.now.targets.items piece.now.search.now.extra (members node.now.placed.items node.now.left.items) more }
+    requires least { IsLeastOf piece.now.search.now.targets.items (members node.now.placed.items node.now.left.items) node.now.least }
     requires more { 0 < more }
-    ensures hunt { IsHunt search.now hunt.new }
-    ensures later { IsLater search.now hunt.old hunt.new }
-    ensures covered { OnOk result (IsCovered search.now hunt.new (members node.now.placed.items node.now.left.items) more) }
+    ensures hunt { IsHunt piece.now hunt.new }
+    ensures later { IsLater piece.now hunt.old hunt.new }
+    ensures covered { OnOk result (IsCovered piece.now hunt.new (members node.now.placed.items node.now.left.items) more) }
 {
-    let spent = cost(&node.placed[1..], search.width) + cost(node.left.as_slice(), search.width);
-    for half in 1..search.limit / 2 {
-        try_member(alloc, search, hunt, node, spent, more, 2 * half + 1)?;
+    look(piece, hunt);
+    let width = piece.search.width;
+    let spent = cost(&node.placed[1..], width) + cost(node.left.as_slice(), width);
+    for member in choices(piece, node.least, more) {
+        try_member(alloc, piece, hunt, node, spent, more, *member)?;
     }
     Ok(())
 }
@@ -104,40 +114,38 @@ fn try_members(
 #[cycle(explore)]
 fn try_member(
     alloc: Global,
-    search: &Search,
+    piece: &Piece,
     hunt: &mut Hunt,
     node: &Node,
     spent: u64,
     more: u32,
     member: u32,
 ) -> Result<(), AllocError>
-    requires search { IsSearch search.now }
-    requires hunt { IsHunt search.now hunt.old }
+    requires piece { IsPiece piece.now }
+    requires hunt { IsHunt piece.now hunt.old }
     requires node { IsNode node.now.placed.items node.now.left.items }
     requires stuck { IsStuck node.now.placed.items node.now.left.items }
-    requires left { 0 < length node.now.left.items }
-    requires room { HasRoom search.now.targets.now search.now.extra (members node.now.placed.items node.now.left.items) more }
+    requires room { HasRoom piece.now.search.now.targets.items piece.now.search.now.extra (members node.now.placed.items node.now.left.items) more }
+    requires least { IsLeastOf piece.now.search.now.targets.items (members node.now.placed.items node.now.left.items) node.now.least }
     requires more { 0 < more }
-    requires spent { spent ≡ set_cost search.now.width (members node.now.placed.items node.now.left.items) }
-    requires member { (member % 2 ≡ 1) × (1 < member) × (member < search.now.limit) }
-    ensures hunt { IsHunt search.now hunt.new }
-    ensures later { IsLater search.now hunt.old hunt.new }
-    ensures all { OnOk result ((other : List ℕ) → IsCandidate search.now.targets.now search.now.extra other → Within (members node.now.placed.items node.now.left.items) other → length other ≤ length (members node.now.placed.items node.now.left.items) + more → Contains other member → (Contains (members node.now.placed.items node.now.left.items) member → ⊥) → Among node.now.placed.items member → IsSettled search.now hunt.new other) }
+    requires spent { spent ≡ set_cost piece.now.search.now.width (members node.now.placed.items node.now.left.items) }
+    requires member { IsChoice piece.now.search.now.limit member }
+    ensures hunt { IsHunt piece.now hunt.new }
+    ensures later { IsLater piece.now hunt.old hunt.new }
+    ensures all { OnOk result ((other : List ℕ) → own_of piece.now other → Within (members node.now.placed.items node.now.left.items) other → length other ≤ length (members node.now.placed.items node.now.left.items) + more → Contains other member → (Contains (members node.now.placed.items node.now.left.items) member → ⊥) → Among node.now.placed.items member → IsSettled piece.now hunt.new other) }
 {
-    if spent + cost(&[member], search.width) > hunt.most {
+    if spent + cost(&[member], piece.search.width) > hunt.known {
         return Ok(());
     }
     if has(node.placed.as_slice(), node.left.as_slice(), member) {
         return Ok(());
     }
-    if !is_worth(
-        node.placed.as_slice(),
-        node.left.as_slice(),
-        member,
-        more == 1,
-    ) {
+    if is_foreign(piece, node.least, member, more) {
+        return Ok(());
+    }
+    if !is_worth(node.placed.as_slice(), node.left.as_slice(), member, more) {
         return Ok(());
     }
     let next = with_member(alloc, node, member)?;
-    explore(alloc, search, hunt, next, more - 1)
+    explore(alloc, piece, hunt, next, more - 1)
 }

@@ -1,23 +1,38 @@
 ghost use Rattle.std.specs.Prelude.{◌↔◌, ◌^◌, ◌<◌, length, IsTrue, IfOk};
 ghost use Rattle.opgen_search.specs.Least.{IsBefore};
 
+use opgen_bound::{Bound, Pass};
 use opgen_graph::cost;
 use std::cmp::Ordering;
 
-/// What is sought. Members stand below `limit`.
-#[derive(Clone, Copy)]
-pub struct Search<'a> {
-    pub targets: &'a [u32],
+/// What is sought, and by how many pieces. Members are `odds`, which are the odd numbers above 1 and below `limit`.
+#[derive(Drop)]
+pub struct Search {
+    pub targets: Vec<u32>,
     pub width: u32,
     pub extra: u32,
     pub limit: u32,
+    pub pieces: u32,
+    /// The set of the signed digits.
+    pub digits: Vec<u32>,
+    pub odds: Vec<u32>,
 }
 
-/// The best set so far, and what it costs: a set that costs more need not be tried.
+/// One piece of a search, by its number. Those of `odds` that its number takes are its own.
+#[derive(Drop)]
+pub struct Piece<'a> {
+    pub search: &'a Search,
+    pub bound: &'a Bound,
+    pub number: u32,
+    pub own: Vec<u32>,
+}
+
+/// The best set of a piece so far, and the least cost known: a set that costs more need not be tried.
 #[derive(Drop)]
 pub struct Hunt {
-    pub best: Vec<u32>,
-    pub most: u64,
+    pub best: Option<Vec<u32>>,
+    pub known: u64,
+    pub pass: Pass,
 }
 
 /// Whether a set is before another by cost, or at equal cost by the list.

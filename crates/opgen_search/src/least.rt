@@ -1,16 +1,22 @@
-ghost use Rattle.std.specs.Prelude.{◌≡◌, ◌≤◌, ◌∷◌, [], length, IfOk};
+ghost use Rattle.std.specs.Prelude.{◌≡◌, ◌≤◌, ◌∷◌, [], ◌<◌, length, IfOk};
 ghost use Rattle.opgen_num.specs.declared.TheConstants.{MAX_INPUT};
 ghost use Rattle.opgen_graph.specs.Reach.{Reaches};
 ghost use Rattle.opgen_search.specs.Space as space;
 ghost use Rattle.opgen_search.specs.Space.{AreTargets};
 ghost use Rattle.opgen_search.specs.Least.{IsLeast, OneLeast};
+ghost use Rattle.opgen_search.specs.Hunts.{IsSearch};
+ghost use Rattle.opgen_search.specs.Parts.{NumbersCount};
 
-use crate::explore::explore;
-use crate::hunt::{Hunt, Search};
-use crate::node::Node;
+use crate::fork::run_pieces;
+use crate::gate::Gate;
+use crate::hunt::Search;
+use crate::part::odds_below;
+use crate::piece::Found;
+use opgen_bound::Bound;
 use opgen_graph::{cost, csd_set};
 use opgen_num::Memory;
-use std::alloc::{AllocError, Global};
+use std::alloc::Global;
+use std::thread::Threads;
 
 // The number below which members stand.
 fn limit(targets: &[u32]) -> u32
@@ -24,40 +30,95 @@ fn limit(targets: &[u32]) -> u32
     2 << (32 - greatest.leading_zeros())
 }
 
-// The node of the targets, none of them placed.
-fn root(alloc: Global, targets: &[u32]) -> Result<Node, AllocError>
-    ensures placed { IfOk result (λ node. node.placed.items ≡ 1 ∷ []) }
-    ensures left { IfOk result (λ node. node.left.items ≡ targets.now) }
-{
-    let placed = vec![in alloc; 1]?;
-    let left = targets.to_vec(alloc)?;
-    Ok(Node { placed, left })
-}
-
-/// The least set of adders for some targets: of all sets of the space the one with no other before it.
-pub fn least_set(alloc: Global, targets: &[u32], width: u32, extra: u32) -> Result<Vec<u32>, Memory>
+// What all pieces share.
+fn search_of(
+    alloc: Global,
+    targets: &[u32],
+    width: u32,
+    extra: u32,
+    pieces: u32,
+) -> Result<Search, Memory>
     requires targets { AreTargets targets.now }
     requires count { length targets.now ≤ 8 }
     requires width { (1 ≤ width) × (width ≤ MAX_INPUT) }
     requires extra { extra ≤ 2 }
-    ensures least { IfOk result (λ set. IsLeast targets.now width extra set.items) }
-    ensures reaches { IfOk result (λ set. Reaches targets.now set.items) }
+    requires pieces { (1 ≤ pieces) × (pieces ≤ 32) }
+    ensures search { IfOk result IsSearch }
+    ensures targets { IfOk result (λ search. search.targets.items ≡ targets.now) }
+    ensures width { IfOk result (λ search. search.width ≡ width) }
+    ensures extra { IfOk result (λ search. search.extra ≡ extra) }
+    ensures pieces { IfOk result (λ search. search.pieces ≡ pieces) }
 {
-    let search = Search {
+    let limit = limit(targets);
+    let digits = csd_set(alloc, targets)?;
+    let odds = odds_below(alloc, limit)?;
+    let targets = targets.to_vec(alloc)?;
+    Ok(Search {
         targets,
         width,
         extra,
-        limit: limit(targets),
-    };
-    let best = csd_set(alloc, targets)?;
-    let most = cost(best.as_slice(), width);
-    let mut hunt = Hunt { best, most };
-    let node = root(alloc, targets)?;
-    explore(alloc, &search, &mut hunt, node, extra)?;
-    Ok(hunt.best)
+        limit,
+        pieces,
+        digits,
+        odds,
+    })
+}
+
+// The least set of a search, by all its pieces.
+fn least_of<R: Threads + Sync, G: Gate + Sync>(
+    rt: &R,
+    alloc: Global,
+    search: &Search,
+    gate: &G,
+) -> Result<Vec<u32>, Memory>
+    requires { IsSearch search.now }
+    ensures { IfOk result (λ set. IsLeast search.now.targets.items search.now.width search.now.extra set.items) }
+{
+    let start = cost(search.digits.as_slice(), search.width);
+    let (bound, pass) = Bound::new(alloc, start)?;
+    let Found { best, pass } = run_pieces(rt, alloc, &bound, search, gate, pass, 0, search.pieces);
+    bound.close(pass);
+    match best? {
+        Some(set) => Ok(set),
+        None => unreachable!(),
+    }
+}
+
+/// The least set of adders for some targets: of all sets of the space the one with no other before it.
+///
+/// The search is cut into as many pieces as workers, which are forked by `join` and share the least
+/// cost known. The answer does not depend on the number of workers, nor on the gate. With no target
+/// there is nothing to search, and the gate is told nothing.
+pub fn least_set<R: Threads + Sync, G: Gate + Sync>(
+    rt: &R,
+    alloc: Global,
+    targets: &[u32],
+    width: u32,
+    extra: u32,
+    workers: u32,
+    gate: &G,
+) -> Result<Vec<u32>, Memory>
+    requires targets { AreTargets targets.now }
+    requires count { length targets.now ≤ 8 }
+    requires width { (1 ≤ width) × (width ≤ MAX_INPUT) }
+    requires extra { extra ≤ 2 }
+    requires workers { (1 ≤ workers) × (workers ≤ 32) }
+    ensures least { IfOk result (λ set. IsLeast targets.now width extra set.items) }
+    ensures reaches { IfOk result (λ set. Reaches targets.now set.items) }
+{
+    if targets.is_empty() {
+        return Ok(Vec::new(alloc));
+    }
+    let search = search_of(alloc, targets, width, extra, workers)?;
+    least_of(rt, alloc, &search, gate)
 }
 
 /// A law: there is no other least set.
 pub fn one_least()
     ensures { OneLeast }
+{}
+
+/// A law: the number of a further member is how many odd numbers above 1 that are no targets stand below it.
+pub fn numbers_count()
+    ensures { NumbersCount }
 {}

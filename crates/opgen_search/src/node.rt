@@ -1,8 +1,10 @@
-ghost use Rattle.std.specs.Prelude.{◌≡◌, ◌++◌, ◌∷◌, [], ◌<◌, IfOk, OnOk, IfNone, IfSome, IsFalse, IsTrue, length, slice_index, All, Contains, IsPermutation, ◌⊎◌, ◌↔◌};
+ghost use Rattle.std.specs.Prelude.{◌≡◌, ◌++◌, ◌∷◌, [], ◌<◌, ◌≤◌, Some, IfOk, OnOk, IfNone, IfSome, IsFalse, IsTrue, length, slice_index, All, Contains, IsPermutation, ◌⊎◌, ◌↔◌};
 ghost use Rattle.opgen_graph.specs.Adders.{IsTerm};
 ghost use Rattle.opgen_graph.specs.Reach.{Among};
 ghost use Rattle.opgen_search.specs.Nodes.{IsNode, IsStuck, members};
+ghost use Rattle.opgen_search.specs.Hunts as hunts;
 
+use crate::part::least_with;
 use opgen_graph::{makes_among, makes_with};
 use std::alloc::{AllocError, Global};
 
@@ -11,6 +13,8 @@ use std::alloc::{AllocError, Global};
 pub struct Node {
     pub placed: Vec<u32>,
     pub left: Vec<u32>,
+    /// The least member that is no target.
+    pub least: Option<u32>,
 }
 
 // The place of the first number that is left and can be made.
@@ -33,6 +37,7 @@ pub fn close(node: &mut Node) -> Result<(), AllocError>
     ensures node { OnOk result (IsNode node.new.placed.items node.new.left.items) }
     ensures members { OnOk result (IsPermutation (members node.old.placed.items node.old.left.items) (members node.new.placed.items node.new.left.items)) }
     ensures stuck { OnOk result (IsStuck node.new.placed.items node.new.left.items) }
+    ensures least { OnOk result (node.new.least ≡ node.old.least) }
 {
     'places: while let Some(place) = next_made(node.placed.as_slice(), node.left.as_slice()) {
         let next = node.left.remove(place);
@@ -45,11 +50,17 @@ pub fn close(node: &mut Node) -> Result<(), AllocError>
 pub fn with_member(alloc: Global, node: &Node, member: u32) -> Result<Node, AllocError>
     ensures placed { IfOk result (λ next. next.placed.items ≡ node.now.placed.items ++ member ∷ []) }
     ensures left { IfOk result (λ next. next.left.items ≡ node.now.left.items) }
+    ensures least { IfOk result (λ next. next.least ≡ Some (hunts.least_with node.now.least member)) }
 {
     let mut placed = node.placed.to_vec(alloc)?;
     placed.push(member)?;
     let left = node.left.to_vec(alloc)?;
-    Ok(Node { placed, left })
+    let least = Some(least_with(node.least, member));
+    Ok(Node {
+        placed,
+        left,
+        least,
+    })
 }
 
 // Whether a further member lets one that is left be made.
@@ -70,13 +81,13 @@ fn helps(placed: &[u32], left: &[u32], member: u32) -> bool
 }
 
 /// Whether a further member can be made, and, where it is the last one, lets one that is left be made.
-pub fn is_worth(placed: &[u32], left: &[u32], member: u32, last: bool) -> bool
+pub fn is_worth(placed: &[u32], left: &[u32], member: u32, more: u32) -> bool
     requires terms { All IsTerm placed.now × All IsTerm left.now × IsTerm member }
     requires stuck { IsStuck placed.now left.now }
     ensures made { IsTrue result → Among placed.now member }
-    ensures useless { IsFalse result → Among placed.now member → IsTrue last × IsStuck (placed.now ++ member ∷ []) left.now }
+    ensures useless { IsFalse result → Among placed.now member → (more ≤ 1) × (0 < length left.now) × IsStuck (placed.now ++ member ∷ []) left.now }
 {
-    if !last {
+    if more > 1 || left.is_empty() {
         return makes_among(placed, member);
     }
     // the test that takes fewer pairs first

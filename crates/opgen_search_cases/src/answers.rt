@@ -1,28 +1,39 @@
 //! Least sets that a program of another make found.
 use crate::checks::are_targets;
 use opgen_graph::cost;
-use opgen_search::least_set;
+use opgen_search::{OpenGate, least_set};
 use std::alloc::Global;
 use std::test::Fail;
+use std::thread::Threads;
 
 /// Targets, width, further members, the cost of the least set, and that set.
 type Case = (&'static [u32], u32, u32, u64, &'static [u32]);
 
-/// Whether the answer is that set of that cost.
-fn is_answered(alloc: Global, case: &Case) -> Result<bool, Fail> {
+/// Whether the answer is that set of that cost, however many workers search.
+fn is_answered<R: Threads + Sync>(rt: &R, alloc: Global, case: &Case) -> Result<bool, Fail> {
     let (targets, width, extra, price, set) = *case;
     let asked = are_targets(targets) && targets.len() <= 8 && extra <= 2;
     if !asked || width == 0 || width > 32 || set.len() > 64 {
         return Ok(false);
     }
-    let found = least_set(alloc, targets, width, extra)?;
-    Ok(found.as_slice() == set && cost(set, width) == price)
+    for workers in [1_u32, 2, 3, 5, 8, 31, 32] {
+        let workers = workers.clamp(1, 32);
+        let found = least_set(rt, alloc, targets, width, extra, workers, &OpenGate)?;
+        if found.as_slice() != set {
+            return Ok(false);
+        }
+    }
+    Ok(cost(set, width) == price)
 }
 
 /// The number of the first case that is answered otherwise.
-fn first_other(alloc: Global, cases: &[Case]) -> Result<Option<usize>, Fail> {
+fn first_other<R: Threads + Sync>(
+    rt: &R,
+    alloc: Global,
+    cases: &[Case],
+) -> Result<Option<usize>, Fail> {
     for (number, case) in cases.iter().enumerate() {
-        if !is_answered(alloc, case)? {
+        if !is_answered(rt, alloc, case)? {
             return Ok(Some(number));
         }
     }
@@ -661,48 +672,48 @@ static EIGHTH: [Case; 20] = [
 
 #[test]
 fn first_answers(rt: HostRuntime) -> Result<(), Fail> {
-    assert_eq!(rt; first_other(rt.alloc(), FIRST.as_slice())?, None);
+    assert_eq!(rt; first_other(&rt, rt.alloc(), FIRST.as_slice())?, None);
     Ok(())
 }
 
 #[test]
 fn second_answers(rt: HostRuntime) -> Result<(), Fail> {
-    assert_eq!(rt; first_other(rt.alloc(), SECOND.as_slice())?, None);
+    assert_eq!(rt; first_other(&rt, rt.alloc(), SECOND.as_slice())?, None);
     Ok(())
 }
 
 #[test]
 fn third_answers(rt: HostRuntime) -> Result<(), Fail> {
-    assert_eq!(rt; first_other(rt.alloc(), THIRD.as_slice())?, None);
+    assert_eq!(rt; first_other(&rt, rt.alloc(), THIRD.as_slice())?, None);
     Ok(())
 }
 
 #[test]
 fn fourth_answers(rt: HostRuntime) -> Result<(), Fail> {
-    assert_eq!(rt; first_other(rt.alloc(), FOURTH.as_slice())?, None);
+    assert_eq!(rt; first_other(&rt, rt.alloc(), FOURTH.as_slice())?, None);
     Ok(())
 }
 
 #[test]
 fn fifth_answers(rt: HostRuntime) -> Result<(), Fail> {
-    assert_eq!(rt; first_other(rt.alloc(), FIFTH.as_slice())?, None);
+    assert_eq!(rt; first_other(&rt, rt.alloc(), FIFTH.as_slice())?, None);
     Ok(())
 }
 
 #[test]
 fn sixth_answers(rt: HostRuntime) -> Result<(), Fail> {
-    assert_eq!(rt; first_other(rt.alloc(), SIXTH.as_slice())?, None);
+    assert_eq!(rt; first_other(&rt, rt.alloc(), SIXTH.as_slice())?, None);
     Ok(())
 }
 
 #[test]
 fn seventh_answers(rt: HostRuntime) -> Result<(), Fail> {
-    assert_eq!(rt; first_other(rt.alloc(), SEVENTH.as_slice())?, None);
+    assert_eq!(rt; first_other(&rt, rt.alloc(), SEVENTH.as_slice())?, None);
     Ok(())
 }
 
 #[test]
 fn eighth_answers(rt: HostRuntime) -> Result<(), Fail> {
-    assert_eq!(rt; first_other(rt.alloc(), EIGHTH.as_slice())?, None);
+    assert_eq!(rt; first_other(&rt, rt.alloc(), EIGHTH.as_slice())?, None);
     Ok(())
 }

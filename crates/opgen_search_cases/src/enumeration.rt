@@ -3,10 +3,11 @@ ghost use Rattle.opgen_search.specs.Space.{AreTargets};
 
 use crate::checks::{are_targets, is_adder_set};
 use opgen_graph::{cost, csd_set, reach};
-use opgen_search::least_set;
+use opgen_search::{OpenGate, least_set};
 use std::alloc::Global;
 use std::cmp::Ordering;
 use std::test::Fail;
+use std::thread::Threads;
 
 /// The lesser of the best set so far and of the targets with some further members, if that set can be reached.
 fn better(
@@ -59,20 +60,38 @@ fn plain_least(alloc: Global, targets: &[u32], width: u32, extra: u32) -> Result
     Ok(best)
 }
 
-/// Whether the search finds what the enumeration finds.
-fn agrees(alloc: Global, targets: &[u32], width: u32, extra: u32) -> Result<bool, Fail> {
+/// Whether the search finds what the enumeration finds, with each of these numbers of workers.
+fn agrees<R: Threads + Sync>(
+    rt: &R,
+    alloc: Global,
+    targets: &[u32],
+    width: u32,
+    extra: u32,
+    workers: &[u32],
+) -> Result<bool, Fail> {
     if !are_targets(targets) || targets.len() > 8 || width == 0 || width > 32 || extra > 2 {
         return Ok(false);
     }
-    let found = least_set(alloc, targets, width, extra)?;
     let plain = plain_least(alloc, targets, width, extra)?;
-    Ok(found.as_slice() == plain.as_slice())
+    for count in workers {
+        let count = (*count).clamp(1, 32);
+        let found = least_set(rt, alloc, targets, width, extra, count, &OpenGate)?;
+        if found.as_slice() != plain.as_slice() {
+            return Ok(false);
+        }
+    }
+    Ok(true)
 }
 
 /// The first single target up to 255 where they differ.
-fn first_single(alloc: Global, width: u32, extra: u32) -> Result<Option<u32>, Fail> {
+fn first_single<R: Threads + Sync>(
+    rt: &R,
+    alloc: Global,
+    width: u32,
+    extra: u32,
+) -> Result<Option<u32>, Fail> {
     for half in 1..128 {
-        if !agrees(alloc, &[2 * half + 1], width, extra)? {
+        if !agrees(rt, alloc, &[2 * half + 1], width, extra, &[1, 3])? {
             return Ok(Some(2 * half + 1));
         }
     }
@@ -94,7 +113,8 @@ fn drawn(alloc: Global, seed: &mut u32, count: usize, bits: u32) -> Result<Vec<u
 }
 
 /// The first of some drawn sets of targets where they differ.
-fn first_drawn(
+fn first_drawn<R: Threads + Sync>(
+    rt: &R,
     alloc: Global,
     draws: usize,
     count: usize,
@@ -105,7 +125,8 @@ fn first_drawn(
     for draw in 0..draws {
         let targets = drawn(alloc, &mut seed, count, bits)?;
         let width = 1 + seed % 32;
-        if !agrees(alloc, targets.as_slice(), width, extra)? {
+        let workers = [1, 2, 3, 5, 8, 31, 32].as_slice();
+        if !agrees(rt, alloc, targets.as_slice(), width, extra, workers)? {
             return Ok(Some(draw));
         }
     }
@@ -115,18 +136,18 @@ fn first_drawn(
 #[test]
 fn singles(rt: HostRuntime) -> Result<(), Fail> {
     let alloc = rt.alloc();
-    assert_eq!(rt; first_single(alloc, 4, 0)?, None);
-    assert_eq!(rt; first_single(alloc, 4, 1)?, None);
-    assert_eq!(rt; first_single(alloc, 32, 1)?, None);
+    assert_eq!(rt; first_single(&rt, alloc, 4, 0)?, None);
+    assert_eq!(rt; first_single(&rt, alloc, 4, 1)?, None);
+    assert_eq!(rt; first_single(&rt, alloc, 32, 1)?, None);
     Ok(())
 }
 
 #[test]
 fn pairs_and_triples(rt: HostRuntime) -> Result<(), Fail> {
     let alloc = rt.alloc();
-    assert_eq!(rt; first_drawn(alloc, 40, 2, 9, 1)?, None);
-    assert_eq!(rt; first_drawn(alloc, 40, 3, 10, 1)?, None);
-    assert_eq!(rt; first_drawn(alloc, 4, 2, 6, 2)?, None);
-    assert_eq!(rt; first_drawn(alloc, 4, 3, 7, 2)?, None);
+    assert_eq!(rt; first_drawn(&rt, alloc, 40, 2, 9, 1)?, None);
+    assert_eq!(rt; first_drawn(&rt, alloc, 40, 3, 10, 1)?, None);
+    assert_eq!(rt; first_drawn(&rt, alloc, 4, 2, 6, 2)?, None);
+    assert_eq!(rt; first_drawn(&rt, alloc, 4, 3, 7, 2)?, None);
     Ok(())
 }

@@ -7,3 +7,5 @@ mod answers;
 mod checks;
 #[cfg(test)]
 mod enumeration;
+#[cfg(test)]
+mod gates;

@@ -8,7 +8,8 @@ use Rattle.opgen_runs.specs.Step.{words_of}
 use Rattle.opgen_runs.proofs.Kept.{cycle-kept}
 use Rattle.opgen_sim.specs.Runs.{StepsOn, StepsAreRuns}
 
-runs : (d : Design) (now others : List (List Bool)) (inputs outputs : List (List ℕ)) → SameRegisters d now others → StepsOn d now inputs outputs
+runs : (d : Design) (now others : List (List Bool)) (inputs outputs : List (List ℕ)) → SameRegisters d now others
+    → StepsOn d now inputs outputs
     → (vs : List Words) × RunsOn d others (map (words_of (input_widths d)) inputs) vs × (map (λ v. map nat (outputs_of d v)) vs ≡ outputs)
 runs d now others [] [] same h = ([], tt, refl)
 runs d now others [] (o ∷ os) same h = absurd h

@@ -1,3 +1,5 @@
 pub mod Tables
+pub mod Ready
+pub mod Engines
 pub mod Sims
 pub mod Runs

@@ -14,8 +14,10 @@ StepsOn d now _ _ = ⊥
 
 -- a run over these numbers at the input ports, with these at the output ports
 abbrev pub HasRun : Design → (inputs outputs : List (List ℕ)) → Type 0
-HasRun d inputs outputs = (vs : List Words) × Run d (map (words_of (input_widths d)) inputs) vs × (map (λ v. map nat (outputs_of d v)) vs ≡ outputs)
+HasRun d inputs outputs = (vs : List Words) × Run d (map (words_of (input_widths d)) inputs) vs
+    × (map (λ v. map nat (outputs_of d v)) vs ≡ outputs)
 
 -- the steps of a new simulator are a run of its design
 abbrev pub StepsAreRuns : Type 0
-StepsAreRuns = (d : Design) (s : Simulator) (inputs outputs : List (List ℕ)) → IsNew d s → StepsOn d s.registers inputs outputs → HasRun d inputs outputs
+StepsAreRuns = (d : Design) (s : Simulator) (inputs outputs : List (List ℕ)) → IsNew d s → StepsOn d s.registers inputs outputs
+    → HasRun d inputs outputs

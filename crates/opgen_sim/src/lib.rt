@@ -3,6 +3,7 @@
 
 mod copies;
 mod cycle;
+mod engine;
 mod evaluate;
 mod laws;
 mod numbers;
@@ -10,6 +11,7 @@ mod sim;
 mod tables;
 #[cfg(test)]
 mod tests;
+mod walker;
 
 pub use laws::steps_are_runs;
 pub use sim::Sim;

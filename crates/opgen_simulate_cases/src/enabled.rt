@@ -60,7 +60,7 @@ static GROUP_0: [Case; 4] = [
 
 #[test]
 fn group_0(rt: HostRuntime) -> Result<(), Fail> {
-    assert_eq!(rt; first_wrong(rt.alloc(), &GROUP_0)?, None);
+    assert_eq!(rt; first_wrong(&rt, &GROUP_0)?, None);
     Ok(())
 }
 
@@ -95,7 +95,7 @@ static GROUP_1: [Case; 2] = [
 
 #[test]
 fn group_1(rt: HostRuntime) -> Result<(), Fail> {
-    assert_eq!(rt; first_wrong(rt.alloc(), &GROUP_1)?, None);
+    assert_eq!(rt; first_wrong(&rt, &GROUP_1)?, None);
     Ok(())
 }
 
@@ -156,7 +156,7 @@ static GROUP_2: [Case; 4] = [
 
 #[test]
 fn group_2(rt: HostRuntime) -> Result<(), Fail> {
-    assert_eq!(rt; first_wrong(rt.alloc(), &GROUP_2)?, None);
+    assert_eq!(rt; first_wrong(&rt, &GROUP_2)?, None);
     Ok(())
 }
 
@@ -202,7 +202,7 @@ static GROUP_3: [Case; 3] = [
 
 #[test]
 fn group_3(rt: HostRuntime) -> Result<(), Fail> {
-    assert_eq!(rt; first_wrong(rt.alloc(), &GROUP_3)?, None);
+    assert_eq!(rt; first_wrong(&rt, &GROUP_3)?, None);
     Ok(())
 }
 
@@ -248,7 +248,7 @@ static GROUP_4: [Case; 3] = [
 
 #[test]
 fn group_4(rt: HostRuntime) -> Result<(), Fail> {
-    assert_eq!(rt; first_wrong(rt.alloc(), &GROUP_4)?, None);
+    assert_eq!(rt; first_wrong(&rt, &GROUP_4)?, None);
     Ok(())
 }
 
@@ -281,7 +281,7 @@ static GROUP_5: [Case; 2] = [
 
 #[test]
 fn group_5(rt: HostRuntime) -> Result<(), Fail> {
-    assert_eq!(rt; first_wrong(rt.alloc(), &GROUP_5)?, None);
+    assert_eq!(rt; first_wrong(&rt, &GROUP_5)?, None);
     Ok(())
 }
 
@@ -329,7 +329,7 @@ static GROUP_6: [Case; 3] = [
 
 #[test]
 fn group_6(rt: HostRuntime) -> Result<(), Fail> {
-    assert_eq!(rt; first_wrong(rt.alloc(), &GROUP_6)?, None);
+    assert_eq!(rt; first_wrong(&rt, &GROUP_6)?, None);
     Ok(())
 }
 
@@ -375,7 +375,7 @@ static GROUP_7: [Case; 3] = [
 
 #[test]
 fn group_7(rt: HostRuntime) -> Result<(), Fail> {
-    assert_eq!(rt; first_wrong(rt.alloc(), &GROUP_7)?, None);
+    assert_eq!(rt; first_wrong(&rt, &GROUP_7)?, None);
     Ok(())
 }
 
@@ -408,7 +408,7 @@ static GROUP_8: [Case; 2] = [
 
 #[test]
 fn group_8(rt: HostRuntime) -> Result<(), Fail> {
-    assert_eq!(rt; first_wrong(rt.alloc(), &GROUP_8)?, None);
+    assert_eq!(rt; first_wrong(&rt, &GROUP_8)?, None);
     Ok(())
 }
 
@@ -454,7 +454,7 @@ static GROUP_9: [Case; 3] = [
 
 #[test]
 fn group_9(rt: HostRuntime) -> Result<(), Fail> {
-    assert_eq!(rt; first_wrong(rt.alloc(), &GROUP_9)?, None);
+    assert_eq!(rt; first_wrong(&rt, &GROUP_9)?, None);
     Ok(())
 }
 
@@ -487,6 +487,6 @@ static GROUP_10: [Case; 2] = [
 
 #[test]
 fn group_10(rt: HostRuntime) -> Result<(), Fail> {
-    assert_eq!(rt; first_wrong(rt.alloc(), &GROUP_10)?, None);
+    assert_eq!(rt; first_wrong(&rt, &GROUP_10)?, None);
     Ok(())
 }

@@ -16,7 +16,7 @@ static CASE03_RUN: [Case; 1] = [Case {
 
 #[test]
 fn case03(rt: HostRuntime) -> Result<(), Fail> {
-    assert_eq!(rt; first_wrong(rt.alloc(), &CASE03_RUN)?, None);
+    assert_eq!(rt; first_wrong(&rt, &CASE03_RUN)?, None);
     Ok(())
 }
 
@@ -36,7 +36,7 @@ static CASE04_RUN: [Case; 1] = [Case {
 
 #[test]
 fn case04(rt: HostRuntime) -> Result<(), Fail> {
-    assert_eq!(rt; first_wrong(rt.alloc(), &CASE04_RUN)?, None);
+    assert_eq!(rt; first_wrong(&rt, &CASE04_RUN)?, None);
     Ok(())
 }
 
@@ -54,7 +54,7 @@ static CASE07_RUN: [Case; 1] = [Case {
 
 #[test]
 fn case07(rt: HostRuntime) -> Result<(), Fail> {
-    assert_eq!(rt; first_wrong(rt.alloc(), &CASE07_RUN)?, None);
+    assert_eq!(rt; first_wrong(&rt, &CASE07_RUN)?, None);
     Ok(())
 }
 
@@ -72,7 +72,7 @@ static CASE11_RUN: [Case; 1] = [Case {
 
 #[test]
 fn case11(rt: HostRuntime) -> Result<(), Fail> {
-    assert_eq!(rt; first_wrong(rt.alloc(), &CASE11_RUN)?, None);
+    assert_eq!(rt; first_wrong(&rt, &CASE11_RUN)?, None);
     Ok(())
 }
 
@@ -92,7 +92,7 @@ static CASE12_RUN: [Case; 1] = [Case {
 
 #[test]
 fn case12(rt: HostRuntime) -> Result<(), Fail> {
-    assert_eq!(rt; first_wrong(rt.alloc(), &CASE12_RUN)?, None);
+    assert_eq!(rt; first_wrong(&rt, &CASE12_RUN)?, None);
     Ok(())
 }
 
@@ -112,7 +112,7 @@ static CASE21_RUN: [Case; 1] = [Case {
 
 #[test]
 fn case21(rt: HostRuntime) -> Result<(), Fail> {
-    assert_eq!(rt; first_wrong(rt.alloc(), &CASE21_RUN)?, None);
+    assert_eq!(rt; first_wrong(&rt, &CASE21_RUN)?, None);
     Ok(())
 }
 
@@ -132,7 +132,7 @@ static CASE30_RUN: [Case; 1] = [Case {
 
 #[test]
 fn case30(rt: HostRuntime) -> Result<(), Fail> {
-    assert_eq!(rt; first_wrong(rt.alloc(), &CASE30_RUN)?, None);
+    assert_eq!(rt; first_wrong(&rt, &CASE30_RUN)?, None);
     Ok(())
 }
 
@@ -152,7 +152,7 @@ static CASE36_RUN: [Case; 1] = [Case {
 
 #[test]
 fn case36(rt: HostRuntime) -> Result<(), Fail> {
-    assert_eq!(rt; first_wrong(rt.alloc(), &CASE36_RUN)?, None);
+    assert_eq!(rt; first_wrong(&rt, &CASE36_RUN)?, None);
     Ok(())
 }
 
@@ -172,6 +172,6 @@ static CASE37_RUN: [Case; 1] = [Case {
 
 #[test]
 fn case37(rt: HostRuntime) -> Result<(), Fail> {
-    assert_eq!(rt; first_wrong(rt.alloc(), &CASE37_RUN)?, None);
+    assert_eq!(rt; first_wrong(&rt, &CASE37_RUN)?, None);
     Ok(())
 }

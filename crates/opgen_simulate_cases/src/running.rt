@@ -1,15 +1,29 @@
 //! Runs `simulate` over VHDL and vectors in memory.
 use opgen_harness::running::{Outcome, folder_of, holds, sink_of, words_of};
-use opgen_top::run;
+use opgen_top::{OpenGate, run};
 use std::alloc::{AllocError, Global};
+use std::thread::Threads;
 
 /// What `simulate` leaves, under the name `out.vec`. It asks for no target.
-pub(crate) fn simulated(alloc: Global, vhdl: &str, vectors: &str) -> Result<Outcome, AllocError> {
+pub(crate) fn simulated(
+    rt: &(impl Threads + Sync + Alloc<A = Global>),
+    vhdl: &str,
+    vectors: &str,
+) -> Result<Outcome, AllocError> {
+    let alloc = rt.alloc();
     let words = words_of(alloc, &["simulate", "a.vhd", "in.vec", "out.vec"])?;
     let files = [("a.vhd", vhdl.as_bytes()), ("in.vec", vectors.as_bytes())];
     let mut folder = folder_of(alloc, &files, &[])?;
     let mut out = sink_of(alloc, &[])?;
-    let status = run(alloc, &words, &mut folder, &mut out, Vec::new(alloc));
+    let status = run(
+        rt,
+        alloc,
+        &words,
+        &mut folder,
+        &mut out,
+        Vec::new(alloc),
+        &OpenGate,
+    );
     Ok(Outcome {
         status: status.0,
         folder,
@@ -29,11 +43,11 @@ pub(crate) struct Case {
 
 /// The name of the first case that is answered otherwise.
 pub(crate) fn first_wrong(
-    alloc: Global,
+    rt: &(impl Threads + Sync + Alloc<A = Global>),
     cases: &[Case],
 ) -> Result<Option<&'static str>, AllocError> {
     for case in cases {
-        let ran = simulated(alloc, case.vhdl, case.vectors)?;
+        let ran = simulated(rt, case.vhdl, case.vectors)?;
         let stored = holds(&ran.folder, "out.vec", case.rows);
         if ran.status != case.status || ran.out.bytes() != case.line.as_bytes() || !stored {
             return Ok(Some(case.name));

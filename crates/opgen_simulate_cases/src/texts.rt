@@ -46,7 +46,7 @@ static FIRST: [Case; 4] = [
 
 #[test]
 fn first_cases(rt: HostRuntime) -> Result<(), Fail> {
-    assert_eq!(rt; first_wrong(rt.alloc(), &FIRST)?, None);
+    assert_eq!(rt; first_wrong(&rt, &FIRST)?, None);
     Ok(())
 }
 
@@ -99,7 +99,7 @@ static SECOND: [Case; 5] = [
 
 #[test]
 fn second_cases(rt: HostRuntime) -> Result<(), Fail> {
-    assert_eq!(rt; first_wrong(rt.alloc(), &SECOND)?, None);
+    assert_eq!(rt; first_wrong(&rt, &SECOND)?, None);
     Ok(())
 }
 
@@ -166,7 +166,7 @@ static THIRD: [Case; 6] = [
 
 #[test]
 fn third_cases(rt: HostRuntime) -> Result<(), Fail> {
-    assert_eq!(rt; first_wrong(rt.alloc(), &THIRD)?, None);
+    assert_eq!(rt; first_wrong(&rt, &THIRD)?, None);
     Ok(())
 }
 
@@ -231,7 +231,7 @@ static FOURTH: [Case; 7] = [
 
 #[test]
 fn fourth_cases(rt: HostRuntime) -> Result<(), Fail> {
-    assert_eq!(rt; first_wrong(rt.alloc(), &FOURTH)?, None);
+    assert_eq!(rt; first_wrong(&rt, &FOURTH)?, None);
     Ok(())
 }
 
@@ -288,7 +288,7 @@ static FIFTH: [Case; 6] = [
 
 #[test]
 fn fifth_cases(rt: HostRuntime) -> Result<(), Fail> {
-    assert_eq!(rt; first_wrong(rt.alloc(), &FIFTH)?, None);
+    assert_eq!(rt; first_wrong(&rt, &FIFTH)?, None);
     Ok(())
 }
 
@@ -337,6 +337,6 @@ static CHANGED: [Case; 5] = [
 
 #[test]
 fn changed_cases(rt: HostRuntime) -> Result<(), Fail> {
-    assert_eq!(rt; first_wrong(rt.alloc(), &CHANGED)?, None);
+    assert_eq!(rt; first_wrong(&rt, &CHANGED)?, None);
     Ok(())
 }

@@ -3,6 +3,7 @@ use crate::running::generated;
 use opgen_harness::documents::{DIVIDE, FILTER, MCM, MULTIPLY, ROOT, SCALE, changed, repeated};
 use std::alloc::{AllocError, Global};
 use std::test::Fail;
+use std::thread::Threads;
 
 /// A line of a document and what stands in its place.
 type Change = (&'static str, &'static str);
@@ -845,11 +846,11 @@ static MULTIPLES: [Further; 13] = [
         &[("constants = [0]", "constants = []")],
         "OutOfRange constants 0",
     ),
-    (MCM, &[], "Unsupported"),
+    (MCM, &[], "wrote mcm45.vhd and mcm45.rpt, latency 0"),
     (
         MCM,
         &[("constants = [0]", "constants = [2047]")],
-        "Unsupported",
+        "wrote mcm45.vhd and mcm45.rpt, latency 0",
     ),
     (
         MCM,
@@ -859,7 +860,7 @@ static MULTIPLES: [Further; 13] = [
     (
         MCM,
         &[("constants = [0]", "constants = [-2047]")],
-        "Unsupported",
+        "wrote mcm45.vhd and mcm45.rpt, latency 0",
     ),
     (
         MCM,
@@ -890,7 +891,7 @@ static MULTIPLES: [Further; 13] = [
             ("constants = [0]", "constants = [45]"),
             ("extra = 1", "extra = 0"),
         ],
-        "Unsupported",
+        "wrote mcm45.vhd and mcm45.rpt, latency 0",
     ),
     (
         MCM,
@@ -898,7 +899,7 @@ static MULTIPLES: [Further; 13] = [
             ("constants = [0]", "constants = [45]"),
             ("extra = 1", "extra = 2"),
         ],
-        "Unsupported",
+        "wrote mcm45.vhd and mcm45.rpt, latency 0",
     ),
     (
         MCM,
@@ -919,8 +920,13 @@ static MULTIPLES: [Further; 13] = [
 ];
 
 /// Whether `generate` answers a specification with this fault or line.
-pub(crate) fn answers(alloc: Global, spec: &str, answer: &str) -> Result<bool, AllocError> {
-    let ran = generated(alloc, spec)?;
+pub(crate) fn answers(
+    rt: &(impl Threads + Sync + Alloc<A = Global>),
+    spec: &str,
+    answer: &str,
+) -> Result<bool, AllocError> {
+    let alloc = rt.alloc();
+    let ran = generated(rt, spec)?;
     let line = if answer.starts_with("wrote") {
         format!(in alloc; "{answer}\n")?
     } else {
@@ -931,10 +937,14 @@ pub(crate) fn answers(alloc: Global, spec: &str, answer: &str) -> Result<bool, A
 }
 
 /// The number of the first case that is answered otherwise.
-fn first_wrong(alloc: Global, cases: &[Case]) -> Result<Option<usize>, AllocError> {
+fn first_wrong(
+    rt: &(impl Threads + Sync + Alloc<A = Global>),
+    cases: &[Case],
+) -> Result<Option<usize>, AllocError> {
+    let alloc = rt.alloc();
     for (number, (line, new, answer)) in cases.iter().enumerate() {
         let spec = changed(alloc, SCALE, &[(line, new)])?;
-        if !answers(alloc, &spec, answer)? {
+        if !answers(rt, &spec, answer)? {
             return Ok(Some(number));
         }
     }
@@ -943,45 +953,49 @@ fn first_wrong(alloc: Global, cases: &[Case]) -> Result<Option<usize>, AllocErro
 
 #[test]
 fn keys(rt: HostRuntime) -> Result<(), Fail> {
-    assert_eq!(rt; first_wrong(rt.alloc(), &KEYS)?, None);
+    assert_eq!(rt; first_wrong(&rt, &KEYS)?, None);
     Ok(())
 }
 
 #[test]
 fn types(rt: HostRuntime) -> Result<(), Fail> {
-    assert_eq!(rt; first_wrong(rt.alloc(), &TYPES)?, None);
+    assert_eq!(rt; first_wrong(&rt, &TYPES)?, None);
     Ok(())
 }
 
 #[test]
 fn names(rt: HostRuntime) -> Result<(), Fail> {
-    assert_eq!(rt; first_wrong(rt.alloc(), &NAMES)?, None);
+    assert_eq!(rt; first_wrong(&rt, &NAMES)?, None);
     Ok(())
 }
 
 #[test]
 fn ranges(rt: HostRuntime) -> Result<(), Fail> {
-    assert_eq!(rt; first_wrong(rt.alloc(), &RANGES)?, None);
+    assert_eq!(rt; first_wrong(&rt, &RANGES)?, None);
     Ok(())
 }
 
 #[test]
 fn delays(rt: HostRuntime) -> Result<(), Fail> {
-    assert_eq!(rt; first_wrong(rt.alloc(), &DELAYS)?, None);
+    assert_eq!(rt; first_wrong(&rt, &DELAYS)?, None);
     Ok(())
 }
 
 #[test]
 fn others(rt: HostRuntime) -> Result<(), Fail> {
-    assert_eq!(rt; first_wrong(rt.alloc(), &OTHERS)?, None);
+    assert_eq!(rt; first_wrong(&rt, &OTHERS)?, None);
     Ok(())
 }
 
 /// The number of the first of further cases that is answered otherwise.
-fn first_further_wrong(alloc: Global, cases: &[Further]) -> Result<Option<usize>, AllocError> {
+fn first_further_wrong(
+    rt: &(impl Threads + Sync + Alloc<A = Global>),
+    cases: &[Further],
+) -> Result<Option<usize>, AllocError> {
+    let alloc = rt.alloc();
     for (number, (document, changes, answer)) in cases.iter().enumerate() {
         let spec = changed(alloc, document, changes)?;
-        if !answers(alloc, &spec, answer)? {
+        if !answers(rt, &spec, answer)? {
             return Ok(Some(number));
         }
     }
@@ -990,40 +1004,37 @@ fn first_further_wrong(alloc: Global, cases: &[Further]) -> Result<Option<usize>
 
 #[test]
 fn scales(rt: HostRuntime) -> Result<(), Fail> {
-    assert_eq!(rt; first_further_wrong(rt.alloc(), &SCALES)?, None);
+    assert_eq!(rt; first_further_wrong(&rt, &SCALES)?, None);
     Ok(())
 }
 
 #[test]
 fn decimals(rt: HostRuntime) -> Result<(), Fail> {
-    assert_eq!(rt; first_further_wrong(rt.alloc(), &DECIMALS)?, None);
+    assert_eq!(rt; first_further_wrong(&rt, &DECIMALS)?, None);
     Ok(())
 }
 
 #[test]
 fn filters(rt: HostRuntime) -> Result<(), Fail> {
-    assert_eq!(rt; first_further_wrong(rt.alloc(), &FILTERS)?, None);
+    assert_eq!(rt; first_further_wrong(&rt, &FILTERS)?, None);
     Ok(())
 }
 
 #[test]
 fn products(rt: HostRuntime) -> Result<(), Fail> {
-    assert_eq!(rt; first_further_wrong(rt.alloc(), &PRODUCTS)?, None);
+    assert_eq!(rt; first_further_wrong(&rt, &PRODUCTS)?, None);
     Ok(())
 }
 
 #[test]
 fn quotients_and_roots(rt: HostRuntime) -> Result<(), Fail> {
-    assert_eq!(rt;
-        first_further_wrong(rt.alloc(), &QUOTIENTS_AND_ROOTS)?,
-        None
-    );
+    assert_eq!(rt; first_further_wrong(&rt, &QUOTIENTS_AND_ROOTS)?, None);
     Ok(())
 }
 
 #[test]
 fn multiples(rt: HostRuntime) -> Result<(), Fail> {
-    assert_eq!(rt; first_further_wrong(rt.alloc(), &MULTIPLES)?, None);
+    assert_eq!(rt; first_further_wrong(&rt, &MULTIPLES)?, None);
     Ok(())
 }
 
@@ -1050,7 +1061,7 @@ fn long_filters(rt: HostRuntime) -> Result<(), Fail> {
             ("denominator = 4", ""),
         ];
         let spec = changed(rt.alloc(), FILTER, &changes)?;
-        assert!(rt; answers(rt.alloc(), &spec, answer)?);
+        assert!(rt; answers(&rt, &spec, answer)?);
     }
     Ok(())
 }
@@ -1059,14 +1070,8 @@ fn long_filters(rt: HostRuntime) -> Result<(), Fail> {
 fn many_delay_lines(rt: HostRuntime) -> Result<(), Fail> {
     let line = "[[delay]]\nclass = \"add\"\nbase = 100\nper_bit = 10\n";
     let sixteen = repeated(rt.alloc(), SCALE, line, 16, "")?;
-    assert!(rt;
-        answers(
-            rt.alloc(),
-            &sixteen,
-            "wrote times3.vhd and times3.rpt, latency 0"
-        )?
-    );
+    assert!(rt; answers(&rt, &sixteen, "wrote times3.vhd and times3.rpt, latency 0")?);
     let seventeen = repeated(rt.alloc(), SCALE, line, 17, "")?;
-    assert!(rt; answers(rt.alloc(), &seventeen, "OutOfRange delay 17")?);
+    assert!(rt; answers(&rt, &seventeen, "OutOfRange delay 17")?);
     Ok(())
 }

@@ -4,6 +4,7 @@ use crate::documents::answers;
 use opgen_harness::documents::{DIVIDE, FILTER, MCM, MULTIPLY, ROOT, SCALE, changed, repeated};
 use std::alloc::{AllocError, Global};
 use std::test::Fail;
+use std::thread::Threads;
 
 /// A document, its changes, and what is printed in version 1 and in version 2.
 struct Twin {
@@ -346,7 +347,7 @@ static OTHERS: [Twin; 10] = [
             ("extra = 1", "extra = 0"),
         ],
         first: "OutOfRange width 48",
-        second: "Unsupported",
+        second: "wrote mcm45.vhd and mcm45.rpt, latency 0",
     },
     Twin {
         document: MCM,
@@ -364,39 +365,31 @@ static OTHERS: [Twin; 10] = [
             ("constants = [0]", "constants = [45]"),
         ],
         first: "OutOfRange width 48",
-        second: "Unsupported",
+        second: "wrote mcm45.vhd and mcm45.rpt, latency 0",
     },
 ];
 
 fn is_answered(
-    alloc: Global,
+    rt: &(impl Threads + Sync + Alloc<A = Global>),
     version: &str,
     document: &str,
     changes: &[(&str, &str)],
     answer: &str,
 ) -> Result<bool, AllocError> {
+    let alloc = rt.alloc();
     let document = changed(alloc, document, &[("version = 1", version)])?;
     let spec = changed(alloc, &document, changes)?;
-    answers(alloc, &spec, answer)
+    answers(rt, &spec, answer)
 }
 
 /// The number of the first twin that is answered otherwise in one of the versions.
-fn first_wrong(alloc: Global, twins: &[Twin]) -> Result<Option<usize>, AllocError> {
+fn first_wrong(
+    rt: &(impl Threads + Sync + Alloc<A = Global>),
+    twins: &[Twin],
+) -> Result<Option<usize>, AllocError> {
     for (number, twin) in twins.iter().enumerate() {
-        let first = is_answered(
-            alloc,
-            "version = 1",
-            twin.document,
-            twin.changes,
-            twin.first,
-        )?;
-        let second = is_answered(
-            alloc,
-            "version = 2",
-            twin.document,
-            twin.changes,
-            twin.second,
-        )?;
+        let first = is_answered(rt, "version = 1", twin.document, twin.changes, twin.first)?;
+        let second = is_answered(rt, "version = 2", twin.document, twin.changes, twin.second)?;
         if !first || !second {
             return Ok(Some(number));
         }
@@ -406,19 +399,19 @@ fn first_wrong(alloc: Global, twins: &[Twin]) -> Result<Option<usize>, AllocErro
 
 #[test]
 fn sums(rt: HostRuntime) -> Result<(), Fail> {
-    assert_eq!(rt; first_wrong(rt.alloc(), &SUMS)?, None);
+    assert_eq!(rt; first_wrong(&rt, &SUMS)?, None);
     Ok(())
 }
 
 #[test]
 fn products(rt: HostRuntime) -> Result<(), Fail> {
-    assert_eq!(rt; first_wrong(rt.alloc(), &PRODUCTS)?, None);
+    assert_eq!(rt; first_wrong(&rt, &PRODUCTS)?, None);
     Ok(())
 }
 
 #[test]
 fn quotients_roots_and_multiples(rt: HostRuntime) -> Result<(), Fail> {
-    assert_eq!(rt; first_wrong(rt.alloc(), &OTHERS)?, None);
+    assert_eq!(rt; first_wrong(&rt, &OTHERS)?, None);
     Ok(())
 }
 
@@ -442,8 +435,8 @@ fn long_filters(rt: HostRuntime) -> Result<(), Fail> {
             ("coefficients = [4, 8, 3, 1]", &list),
             ("denominator = 4", denominator),
         ];
-        assert!(rt; is_answered(rt.alloc(), "version = 1", FILTER, &changes, first)?);
-        assert!(rt; is_answered(rt.alloc(), "version = 2", FILTER, &changes, second)?);
+        assert!(rt; is_answered(&rt, "version = 1", FILTER, &changes, first)?);
+        assert!(rt; is_answered(&rt, "version = 2", FILTER, &changes, second)?);
     }
     Ok(())
 }
@@ -457,9 +450,9 @@ fn versions(rt: HostRuntime) -> Result<(), Fail> {
         ("version = 0", "BadVersion 0"),
     ];
     for (version, answer) in cases {
-        assert!(rt; is_answered(rt.alloc(), version, SCALE, &[], answer)?);
+        assert!(rt; is_answered(&rt, version, SCALE, &[], answer)?);
     }
     let wide = [("width = 4", "width = 33")];
-    assert!(rt; is_answered(rt.alloc(), "version = 3", SCALE, &wide, "BadVersion 3")?);
+    assert!(rt; is_answered(&rt, "version = 3", SCALE, &wide, "BadVersion 3")?);
     Ok(())
 }

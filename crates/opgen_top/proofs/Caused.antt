@@ -1,6 +1,8 @@
 -- Each status of a due answer has its cause, and each cause of a refused specification makes its refusal due.
 use Rattle.std.proofs.Common.{◌≡◌, ◌≢◌, inl, inr, ℕ, Bool, true, false, cond, List, [], ◌∷◌, length, Option, Some, None, Ok, Err, refl, sym, ap, subst, arith}
 use Rattle.std.specs.Prelude.{nat_le}
+use Rattle.opgen_command.specs.declared.command.Command.{Command}
+use Rattle.opgen_command.specs.declared.command.Command.TheVariants.{Generate, Vectors, Simulate, Workload}
 use Rattle.opgen_io.specs.Answers.{fetched}
 use Rattle.opgen_io.specs.Files.{Files}
 use Rattle.opgen_io.specs.declared.folder.FetchFault.TheVariants as fetch
@@ -9,16 +11,16 @@ use Rattle.opgen_operator.specs.declared.spec.Spec.{Spec}
 use Rattle.opgen_spec.specs.Document.{tree}
 use Rattle.opgen_spec.specs.Faults.{read}
 use Rattle.opgen_target.specs.Delays.{Delays}
+use Rattle.opgen_workload.specs.Filter.{workload_spec}
 use Rattle.opgen_top.specs.Answer.{Answer}
 use Rattle.opgen_top.specs.Causes.{HasSpec, HasTable, IsMade, IsRefusedSpec, IsRefused, IsMissing, IsVhdlRefused, AreVectorsRefused, IsTooLong, HasCause, AnswersHaveCauses, RefusalsAreDue}
 use Rattle.opgen_top.specs.Causes as cause
-use Rattle.opgen_top.specs.Command.{Command, Generate, Vectors, Simulate}
 use Rattle.opgen_top.specs.Due.{most_bytes, most_simulated_bytes, OnFetch}
-use Rattle.opgen_top.specs.Kinds.{is_built}
 use Rattle.opgen_top.specs.Simulate.{IsSimulated}
-use Rattle.opgen_top.specs.Specified.{IsAnswerToSpec, IsGenerated, IsVectors}
+use Rattle.opgen_top.specs.Specified.{IsAnswerToSpec, IsGenerated, IsVectors, OnTable}
 use Rattle.opgen_top.specs.Targets.{Device, takes_lines}
-use Rattle.opgen_top.proofs.SpecCases.{answers_fault, answers_fixed, answers_table, answers_unbuilt, answers_unknown, cases_of_spec}
+use Rattle.opgen_top.specs.Workload.{IsWorked}
+use Rattle.opgen_top.proofs.SpecCases.{answers_fault, answers_fixed, answers_table, answers_unknown, cases_of_spec, cases_of_target}
 
 abbrev pub status_of : Answer → ℕ
 status_of a = a.status
@@ -126,33 +128,32 @@ module _ (command : Option Command) (devices : List Device) (files : Files) (a :
       → ((spec : Spec) (table : Delays) → said spec table a → a.status ≡ 0) → (HasTable file devices files (λ s table. said s table a) → IsMade command devices files a)
       → IsAnswerToSpec bytes devices said a → HasCause command devices files a
   on_spec file bytes said stands refusing ok making h =
-      let has : (spec : Spec) → read (tree bytes) ≡ Ok spec → is_built spec ≡ true → HasSpec file files spec =
-      λ spec reads built. record { bytes = bytes; stands = stands; reads = reads; built = built } in
+      let has : (spec : Spec) → read (tree bytes) ≡ Ok spec → HasSpec file files spec =
+      λ spec reads. record { bytes = bytes; stands = stands; reads = reads } in
       cases_of_spec bytes devices said a (HasCause command devices files a)
       (λ fault reads is. caused_refused (ap status_of is) (refusing (cause.faulty bytes fault stands reads is)))
-      (λ spec reads built is. caused_refused (ap status_of is) (refusing (cause.unbuilt bytes spec stands reads built is)))
-      (λ spec reads built found is. caused_refused (ap status_of is) (refusing (cause.no_target spec (has spec reads built) found is)))
-      (λ spec device reads built found takes is.
+      (λ spec reads found is. caused_refused (ap status_of is) (refusing (cause.no_target spec (has spec reads) found is)))
+      (λ spec device reads found takes is.
       let fixed = fixed_table device.adjustable spec.delays takes in
-      caused_refused (ap status_of is) (refusing (cause.fixed_table spec device (has spec reads built) found fixed.0 fixed.1 is)))
-      (λ spec table reads built of on. elim on [
+      caused_refused (ap status_of is) (refusing (cause.fixed_table spec device (has spec reads) found fixed.0 fixed.1 is)))
+      (λ spec table reads of on. elim on [
         | inl short ↦ caused_refused (ap status_of short.answer)
-            (refusing (cause.short_period record { spec = spec; has_spec = has spec reads built; table = table; of_target = of; says = short }))
+            (refusing (cause.short_period record { spec = spec; has_spec = has spec reads; table = table; of_target = of; says = short }))
         | inr (inl large) ↦ caused_refused (ap status_of large.answer)
-            (refusing (cause.many_signals record { spec = spec; has_spec = has spec reads built; table = table; of_target = of; says = large }))
-        | inr (inr made) ↦ caused_made (ok spec table made) (making record { spec = spec; has_spec = has spec reads built; table = table; of_target = of; says = made })
+            (refusing (cause.many_signals record { spec = spec; has_spec = has spec reads; table = table; of_target = of; says = large }))
+        | inr (inr made) ↦ caused_made (ok spec table made) (making record { spec = spec; has_spec = has spec reads; table = table; of_target = of; says = made })
       ]) h
 
 pub answers_have_causes : AnswersHaveCauses
 answers_have_causes None devices files a h = caused_usage None devices files a (ap status_of h) refl
-answers_have_causes (Some (Generate spec)) devices files a h =
-    let command = Some (Generate spec) in
-    on_under command devices files a (files spec) most_bytes (λ bytes. IsAnswerToSpec bytes devices IsGenerated a) (λ e. e) (λ e. e)
-    (λ bytes stands. on_spec command devices files a spec bytes IsGenerated stands (λ r. r) (λ s table g. ap status_of g.answer) (λ m. m)) h
-answers_have_causes (Some (Vectors spec)) devices files a h =
-    let command = Some (Vectors spec) in
-    on_under command devices files a (files spec) most_bytes (λ bytes. IsAnswerToSpec bytes devices IsVectors a) (λ e. e) (λ e. e)
-    (λ bytes stands. on_spec command devices files a spec bytes IsVectors stands (λ r. r) (λ s table g. ap status_of g.answer) (λ m. m)) h
+answers_have_causes (Some (Generate spec workers enable)) devices files a h =
+    let command = Some (Generate spec workers enable) in
+    on_under command devices files a (files spec) most_bytes (λ bytes. IsAnswerToSpec bytes devices (IsGenerated enable) a) (λ e. e) (λ e. e)
+    (λ bytes stands. on_spec command devices files a spec bytes (IsGenerated enable) stands (λ r. r) (λ s table g. ap status_of g.answer) (λ m. m)) h
+answers_have_causes (Some (Vectors spec seed cycles)) devices files a h =
+    let command = Some (Vectors spec seed cycles) in
+    on_under command devices files a (files spec) most_bytes (λ bytes. IsAnswerToSpec bytes devices (IsVectors seed cycles) a) (λ e. e) (λ e. e)
+    (λ bytes stands. on_spec command devices files a spec bytes (IsVectors seed cycles) stands (λ r. r) (λ s table g. ap status_of g.answer) (λ m. m)) h
 answers_have_causes (Some (Simulate vhdl vectors out)) devices files a h =
     let command = Some (Simulate vhdl vectors out) in
     on_under command devices files a (files vhdl) most_simulated_bytes (λ text. OnFetch (fetched (files vectors) most_simulated_bytes) a (λ rows. IsSimulated out text rows a)) inl inl
@@ -163,6 +164,17 @@ answers_have_causes (Some (Simulate vhdl vectors out)) devices files a h =
           record { text = text; stands = stands; rows = rows; also_stands = also; says = because }
       | inr (inr runs) ↦ caused_made command devices files a (ap status_of runs.answer) record { text = text; stands = stands; rows = rows; also_stands = also; says = runs }
     ])) h
+answers_have_causes (Some (Workload n)) devices files a h =
+    let command = Some (Workload n) in
+    let spec = workload_spec n in
+    cases_of_target devices spec a (λ table. OnTable spec table a (IsWorked n table a)) (HasCause command devices files a)
+    (λ found is. caused_refused command devices files a (ap status_of is) (cause.filter_without_target found is))
+    (λ device found takes is. let no_lines : true ≡ false = takes in cc)
+    (λ table of on. elim on [
+      | inl short ↦ caused_refused command devices files a (ap status_of short.answer) (cause.filter_of_long_need record { table = table; of_target = of; says = short })
+      | inr (inl large) ↦ caused_refused command devices files a (ap status_of large.answer) (cause.filter_of_many_signals record { table = table; of_target = of; says = large })
+      | inr (inr made) ↦ caused_made command devices files a (ap status_of made.answer) record { table = table; of_target = of; says = made }
+    ]) h
 
 -- a file that is not too long is fetched whole
 on_whole : (under : Option (List ℕ)) (bytes : List ℕ) (a : Answer) (said : List ℕ → Type 0) → under ≡ Some bytes → (fetched under most_bytes ≡ Err fetch.TooLong → ⊥) → said bytes
@@ -180,18 +192,20 @@ module _ (said : Spec → Delays → Answer → Type 0) (file : List ℕ) (devic
 
   refusal_due : IsRefusedSpec file devices files a → OnFetch (fetched (files file) most_bytes) a (λ bytes. IsAnswerToSpec bytes devices said a)
   refusal_due (cause.faulty bytes fault stands reads is) = whole bytes stands (answers_fault bytes devices said a fault reads is)
-  refusal_due (cause.unbuilt bytes spec stands reads built is) = whole bytes stands (answers_unbuilt bytes devices said a spec reads built is)
-  refusal_due (cause.no_target spec has found is) = whole has.bytes has.stands (answers_unknown has.bytes devices said a spec has.reads has.built found is)
+  refusal_due (cause.no_target spec has found is) = whole has.bytes has.stands (answers_unknown has.bytes devices said a spec has.reads found is)
   refusal_due (cause.fixed_table spec device has found fixed some is) =
-      whole has.bytes has.stands (answers_fixed has.bytes devices said a spec device has.reads has.built found (lines_fixed device.adjustable spec.delays fixed some) is)
+      whole has.bytes has.stands (answers_fixed has.bytes devices said a spec device has.reads found (lines_fixed device.adjustable spec.delays fixed some) is)
   refusal_due (cause.short_period h) =
-      let has = h.has_spec in whole has.bytes has.stands (answers_table has.bytes devices said a h.spec h.table has.reads has.built h.of_target (inl h.says))
+      let has = h.has_spec in whole has.bytes has.stands (answers_table has.bytes devices said a h.spec h.table has.reads h.of_target (inl h.says))
   refusal_due (cause.many_signals h) =
-      let has = h.has_spec in whole has.bytes has.stands (answers_table has.bytes devices said a h.spec h.table has.reads has.built h.of_target (inr (inl h.says)))
+      let has = h.has_spec in whole has.bytes has.stands (answers_table has.bytes devices said a h.spec h.table has.reads h.of_target (inr (inl h.says)))
 
 pub refusals_are_due : RefusalsAreDue
-refusals_are_due (Generate spec) file on devices files a short refused =
-    subst (λ name. OnFetch (fetched (files name) most_bytes) a (λ bytes. IsAnswerToSpec bytes devices IsGenerated a)) (sym on) (refusal_due IsGenerated file devices files a short refused)
-refusals_are_due (Vectors spec) file on devices files a short refused =
-    subst (λ name. OnFetch (fetched (files name) most_bytes) a (λ bytes. IsAnswerToSpec bytes devices IsVectors a)) (sym on) (refusal_due IsVectors file devices files a short refused)
+refusals_are_due (Generate spec workers enable) file on devices files a short refused =
+    subst (λ name. OnFetch (fetched (files name) most_bytes) a (λ bytes. IsAnswerToSpec bytes devices (IsGenerated enable) a)) (sym on)
+    (refusal_due (IsGenerated enable) file devices files a short refused)
+refusals_are_due (Vectors spec seed cycles) file on devices files a short refused =
+    subst (λ name. OnFetch (fetched (files name) most_bytes) a (λ bytes. IsAnswerToSpec bytes devices (IsVectors seed cycles) a)) (sym on)
+    (refusal_due (IsVectors seed cycles) file devices files a short refused)
 refusals_are_due (Simulate vhdl vectors out) file on devices files a short refused = absurd on
+refusals_are_due (Workload n) file on devices files a short refused = absurd on

@@ -1,10 +1,10 @@
 -- From an answer, its stores and its line to what the run gives.
 use Rattle.std.proofs.Common.{◌≡◌, ◌⊎◌, inl, inr, ℕ, List, [], ◌++◌, Option, Some, refl, sym, ap, ◌∙◌, subst, arith}
+use Rattle.opgen_command.specs.declared.command.Command.{Command}
 use Rattle.opgen_io.specs.Bytes.{TakesPrefix}
 use Rattle.opgen_io.specs.Counts.{Rose, Stood}
 use Rattle.opgen_io.specs.Files.{Files}
 use Rattle.opgen_top.specs.Answer.{Answer}
-use Rattle.opgen_top.specs.Command.{Command}
 use Rattle.opgen_top.specs.Due.{IsAnswerOf, IsAnswered}
 use Rattle.opgen_top.specs.Left.{LeftByFault, LeftByMemory}
 use Rattle.opgen_top.specs.Prepared.{Reads, IsPrepared}

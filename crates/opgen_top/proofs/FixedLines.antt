@@ -5,10 +5,10 @@ use Rattle.opgen_top.specs.Printed as printed
 
 pub lines_are_fixed : LinesAreFixed
 lines_are_fixed status line (printed.wrote name latency allowed e said) = record { usage = λ f. absurd (omega (arith, e, f)); read_fault = λ f. absurd (omega (arith, e, f)); too_long = λ f. absurd (omega (arith, e, f)) }
-lines_are_fixed status line (printed.wrote_vectors name allowed e said) = record { usage = λ f. absurd (omega (arith, e, f)); read_fault = λ f. absurd (omega (arith, e, f)); too_long = λ f. absurd (omega (arith, e, f)) }
+lines_are_fixed status line (printed.wrote_vectors name cycles allowed e said) = record { usage = λ f. absurd (omega (arith, e, f)); read_fault = λ f. absurd (omega (arith, e, f)); too_long = λ f. absurd (omega (arith, e, f)) }
 lines_are_fixed status line (printed.simulated rows e said) = record { usage = λ f. absurd (omega (arith, e, f)); read_fault = λ f. absurd (omega (arith, e, f)); too_long = λ f. absurd (omega (arith, e, f)) }
+lines_are_fixed status line (printed.worked n signals latency good e said) = record { usage = λ f. absurd (omega (arith, e, f)); read_fault = λ f. absurd (omega (arith, e, f)); too_long = λ f. absurd (omega (arith, e, f)) }
 lines_are_fixed status line (printed.refused fault named e said) = record { usage = λ f. absurd (omega (arith, e, f)); read_fault = λ f. absurd (omega (arith, e, f)); too_long = λ f. absurd (omega (arith, e, f)) }
-lines_are_fixed status line (printed.unsupported e said) = record { usage = λ f. absurd (omega (arith, e, f)); read_fault = λ f. absurd (omega (arith, e, f)); too_long = λ f. absurd (omega (arith, e, f)) }
 lines_are_fixed status line (printed.unknown_target e said) = record { usage = λ f. absurd (omega (arith, e, f)); read_fault = λ f. absurd (omega (arith, e, f)); too_long = λ f. absurd (omega (arith, e, f)) }
 lines_are_fixed status line (printed.not_adjustable e said) = record { usage = λ f. absurd (omega (arith, e, f)); read_fault = λ f. absurd (omega (arith, e, f)); too_long = λ f. absurd (omega (arith, e, f)) }
 lines_are_fixed status line (printed.period_too_short need e said) = record { usage = λ f. absurd (omega (arith, e, f)); read_fault = λ f. absurd (omega (arith, e, f)); too_long = λ f. absurd (omega (arith, e, f)) }

@@ -1,46 +1,32 @@
 -- The answer of `generate` carries the headline.
-use Rattle.std.proofs.Common.{◌≡◌, ℕ, false, List, ◌++◌, Option, Some, refl, ap, ◌∙◌}
+use Rattle.std.proofs.Common.{◌≡◌, ℕ, Bool, List, ◌++◌, Option, Some, refl, ap, ◌∙◌}
+use Rattle.opgen_command.specs.declared.command.Command.TheVariants.{Generate}
 use Rattle.opgen_io.specs.Files.{Files}
-use Rattle.opgen_pipe.specs.Cells.{net_delays}
-use Rattle.opgen_pipe.specs.Planned.{slots_of}
-use Rattle.opgen_pipe.proofs.Follows.{run-follows}
 use Rattle.opgen_report.specs.Report.{report}
-use Rattle.opgen_schedule.specs.Stage.{slot_at}
-use Rattle.opgen_target.specs.Delays.{Delays, setup}
 use Rattle.opgen_vhdl.specs.DesignText.{text_of}
 use Rattle.opgen_vhdl.proofs.Walks.{one_design}
-use Rattle.opgen_operator.specs.declared.spec.Spec.{Spec}
-use Rattle.opgen_pipe.specs.declared.planning.Planned.{Planned}
 use Rattle.opgen_top.specs.Answer.{Answer}
-use Rattle.opgen_top.specs.Circuit.{IsCircuit, Serves}
-use Rattle.opgen_top.specs.Command.{Generate}
+use Rattle.opgen_top.specs.Circuit.{CircuitsServe}
 use Rattle.opgen_top.specs.Due.{IsAnswerOf}
 use Rattle.opgen_top.specs.Headline.{Headline}
 use Rattle.opgen_top.specs.Stores.{stored_all}
 use Rattle.opgen_top.specs.Targets.{Device}
 use Rattle.opgen_top.proofs.Caused.{answers_have_causes}
-use Rattle.opgen_top.proofs.Planning.{circuit_serves, circuit_sound, circuit_spells, fit}
+use Rattle.opgen_top.proofs.Planning.{circuit_sound, circuit_spells}
 
--- without a clock enable a circuit's words follow the flow of its net
-pub plainly_serves : (spec : Spec) (table : Delays) (planned : Planned) (adders : List ℕ) → IsCircuit spec table false planned adders → Serves spec planned.latency false planned.design
-plainly_serves spec table planned adders c =
-    circuit_serves spec table false planned adders c
-    (run-follows spec.name false c.net (slot_at (slots_of table spec.period c.net)) (net_delays table c.net) (setup table) spec.period c.fitting.fits.valid (fit spec table false planned adders c))
-
-pub heading : (file : List ℕ) (devices : List Device) (files : Files) (a : Answer) (after : Option Files) (before now : Option (List ℕ)) → IsAnswerOf (Some (Generate file)) devices files a → a.status ≡ 0
-    → after ≡ Some (stored_all a.stores files) → ((held : List ℕ) → before ≡ Some held → now ≡ Some (held ++ a.line)) → Headline file devices files after before now
-heading file devices files a after before now due ok stores line =
-    let made = (answers_have_causes (Some (Generate file)) devices files a due).made ok in
+pub heading : CircuitsServe → (file : List ℕ) (workers : ℕ) (enable : Bool) (devices : List Device) (files : Files) (a : Answer) (after : Option Files) (before now : Option (List ℕ)) → IsAnswerOf (Some (Generate file workers enable)) devices files a → a.status ≡ 0
+    → after ≡ Some (stored_all a.stores files) → ((held : List ℕ) → before ≡ Some held → now ≡ Some (held ++ a.line)) → Headline file enable devices files after before now
+heading serves file workers enable devices files a after before now due ok stores line =
+    let made = (answers_have_causes (Some (Generate file workers enable)) devices files a due).made ok in
     let spec = made.spec in
     let table = made.table in
     let g = made.says in
     let planned = g.planned in
-    let spelled = circuit_spells spec table false planned g.adders g.circuit in record {
+    let spelled = circuit_spells spec table enable planned g.adders g.circuit in record {
       bytes = made.has_spec.bytes;
       stands = made.has_spec.stands;
       spec = spec;
       accepted = made.has_spec.reads;
-      built = made.has_spec.built;
       table = table;
       of_target = made.of_target;
       planned = planned;
@@ -53,10 +39,10 @@ heading file devices files a after before now due ok stores line =
       called = ap (λ d. d.name) g.circuit.plan.design;
       spelled = spelled;
       no_other = λ other s. one_design (text_of planned.design) other planned.design s spelled;
-      sound = circuit_sound spec table false planned g.adders g.circuit;
+      sound = circuit_sound spec table enable planned g.adders g.circuit;
       latency = planned.latency;
       is_planned = (refl, refl);
       reported = refl;
       line = λ held tells. line held tells ∙ ap (λ (b : Answer). Some (held ++ b.line)) g.answer;
-      serves = plainly_serves spec table planned g.adders g.circuit;
+      serves = serves spec table enable planned g.adders g.circuit;
     }

@@ -17,7 +17,6 @@ pub mod Columns
 pub mod SomePort
 pub mod ServedPorts
 pub mod Holding
-pub mod Hyphens
 pub mod OneCircuit
 pub mod OneSimulated
 pub mod OneAnswer
@@ -25,4 +24,6 @@ pub mod Caused
 pub mod Storing
 pub mod Ending
 pub mod Heading
+pub mod Working
+pub mod Judging
 pub mod FixedLines

@@ -25,10 +25,10 @@ listed_success a line ok = record { line = line; no_store = λ h. absurd (not_ze
 -- a status that has a line
 pub listed_status : (status : ℕ) (line : List ℕ) → IsLineOf status line → HasLine status
 listed_status status line (printed.wrote name latency allowed e said) = inl e
-listed_status status line (printed.wrote_vectors name allowed e said) = inl e
+listed_status status line (printed.wrote_vectors name cycles allowed e said) = inl e
 listed_status status line (printed.simulated rows e said) = inl e
+listed_status status line (printed.worked n signals latency good e said) = inl e
 listed_status status line (printed.refused fault named e said) = inr (inl e)
-listed_status status line (printed.unsupported e said) = inr (inl e)
 listed_status status line (printed.unknown_target e said) = inr (inl e)
 listed_status status line (printed.not_adjustable e said) = inr (inl e)
 listed_status status line (printed.period_too_short need e said) = inr (inl e)

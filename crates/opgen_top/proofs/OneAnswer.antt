@@ -1,9 +1,10 @@
 -- The words, the targets and the files leave at most one answer.
-use Rattle.std.proofs.Common.{◌≡◌, inl, inr, ℕ, Bool, true, false, List, Option, Some, None, Result, Ok, Err, sym, ap, ◌∙◌, subst, arith}
+use Rattle.std.proofs.Common.{◌≡◌, inl, inr, ℕ, ◌-◌, Bool, true, false, List, length, Option, Some, None, Result, Ok, Err, sym, ap, ◌∙◌, subst, arith}
+use Rattle.opgen_command.specs.declared.command.Command.TheVariants.{Generate, Vectors, Simulate, Workload}
 use Rattle.opgen_io.specs.Answers.{fetched}
+use Rattle.opgen_design.specs.Sound.{IsSound}
 use Rattle.opgen_io.specs.declared.folder.FetchFault.{FetchFault}
 use Rattle.opgen_io.specs.declared.folder.FetchFault.TheVariants as fetch
-use Rattle.opgen_mult.specs.OneNet.{HasOneNet as HasOneProduct}
 use Rattle.opgen_operator.specs.declared.spec.Spec.{Spec}
 use Rattle.opgen_pipe.specs.declared.planning.Planned.{Planned}
 use Rattle.opgen_pipe.specs.Cells.{need}
@@ -14,17 +15,20 @@ use Rattle.opgen_spec.specs.Faults.{read}
 use Rattle.opgen_target.specs.Delays.{Delays}
 use Rattle.opgen_vhdl.specs.DesignText.{text_of}
 use Rattle.opgen_vec.specs.Stimulus.{stimulus_cells}
-use Rattle.opgen_top.specs.Answer.{Answer, period_too_short, wrote, wrote_vectors}
+use Rattle.opgen_workload.specs.Filter.{workload_spec}
+use Rattle.opgen_workload.specs.Judged.{Counts, IsGoodCycle}
+use Rattle.opgen_workload.proofs.Counting.{one_count}
+use Rattle.opgen_top.specs.Answer.{Answer, period_too_short, worked, wrote, wrote_vectors}
 use Rattle.opgen_top.specs.Circuit.{IsCircuit, signals_of}
-use Rattle.opgen_top.specs.Command.{Generate, Vectors, Simulate}
 use Rattle.opgen_top.specs.Due.{most_bytes, most_simulated_bytes, OnFetch, HasOneAnswer}
-use Rattle.opgen_top.specs.Kinds.{is_built}
 use Rattle.opgen_top.specs.Running.{IsRunText}
 use Rattle.opgen_top.specs.Simulate.{IsSimulated}
-use Rattle.opgen_top.specs.Specified.{IsAnswerToSpec, IsGenerated, IsVectors, IsTooShort, IsTooLarge, cycles, seed, OnBuilt, OnLines, OnReading, OnTable, OnTarget}
+use Rattle.opgen_top.specs.Specified.{IsAnswerToSpec, IsGenerated, IsVectors, IsTooShort, IsTooLarge, OnLines, OnReading, OnTable, OnTarget}
 use Rattle.opgen_top.specs.Targets.{Device, chosen, takes_lines, tuned}
-use Rattle.opgen_top.proofs.OneCircuit.{one_circuit, one_fitting}
-use Rattle.opgen_top.proofs.OneSimulated.{one_text, one_simulated}
+use Rattle.opgen_top.specs.Workload.{IsWorked, RunsGood, workload_cells}
+use Rattle.opgen_top.specs.Workload.{cycles as workload_cycles}
+use Rattle.opgen_top.proofs.OneCircuit.{OneOfEach, one_circuit, one_fitting}
+use Rattle.opgen_top.proofs.OneSimulated.{one_outputs, one_text, one_simulated}
 use Rattle.opgen_top.proofs.Planning.{circuit_sound}
 
 -- what is said of the bytes leaves one answer
@@ -34,12 +38,8 @@ one_on_fetch (Err fetch.Failed) a b said other one h k = h ∙ sym k
 one_on_fetch (Err fetch.TooLong) a b said other one h k = h ∙ sym k
 one_on_fetch (Err fetch.Memory) a b said other one h k = h ∙ sym k
 
-one_on_built : (built : Bool) (a b : Answer) (said other : Type 0) → (said → other → a ≡ b) → OnBuilt built a said → OnBuilt built b other → a ≡ b
-one_on_built true a b said other one h k = one h k
-one_on_built false a b said other one h k = h ∙ sym k
-
 one_on_reading : (r : Result Spec SpecFault) (a b : Answer) (said other : Spec → Type 0) → ((spec : Spec) → said spec → other spec → a ≡ b) → OnReading r a said → OnReading r b other → a ≡ b
-one_on_reading (Ok spec) a b said other one h k = one_on_built (is_built spec) a b (said spec) (other spec) (one spec) h k
+one_on_reading (Ok spec) a b said other one h k = one spec h k
 one_on_reading (Err fault) a b said other one h k = h ∙ sym k
 
 one_on_lines : (takes : Bool) (a b : Answer) (said other : Type 0) → (said → other → a ≡ b) → OnLines takes a said → OnLines takes b other → a ≡ b
@@ -55,28 +55,28 @@ one_on_target None spec a b said other one h k = h ∙ sym k
 
 -- there is a circuit
 abbrev Has : Spec → Delays → Type 0
-Has spec table = (planned : Planned) × (adders : List ℕ) × IsCircuit spec table false planned adders
+Has spec table = (enable : Bool) × (planned : Planned) × (adders : List ℕ) × IsCircuit spec table enable planned adders
 
 -- the period, the number of signals and the circuit decide one after the other
-module _ (one_product : HasOneProduct) (spec : Spec) (table : Delays) where
+module _ (each : OneOfEach) (spec : Spec) (table : Delays) where
   one_short : (a b : Answer) → IsTooShort spec table a → IsTooShort spec table b → a ≡ b
-  one_short a b h k = h.answer ∙ ap (λ n. period_too_short (need table n)) (one_fitting one_product spec h.net k.net h.fitting k.fitting) ∙ sym k.answer
+  one_short a b h k = h.answer ∙ ap (λ n. period_too_short (need table n)) (one_fitting each spec h.net k.net h.fitting k.fitting) ∙ sym k.answer
 
   not_short_large : (a b : Answer) → IsTooShort spec table a → IsTooLarge spec table b → ⊥
   not_short_large a b h k =
-      let same = ap (need table) (one_fitting one_product spec h.net k.net h.fitting k.fitting) in
+      let same = ap (need table) (one_fitting each spec h.net k.net h.fitting k.fitting) in
       let short = h.short in
       let long = k.long_enough in omega (arith, same, short, long)
 
   not_short_circuit : (a : Answer) → IsTooShort spec table a → Has spec table → ⊥
-  not_short_circuit a h (planned, adders, c) =
-      let same = ap (need table) (one_fitting one_product spec h.net c.net h.fitting c.fitting) in
+  not_short_circuit a h (enable, planned, adders, c) =
+      let same = ap (need table) (one_fitting each spec h.net c.net h.fitting c.fitting) in
       let short = h.short in
       let long = c.long_enough in omega (arith, same, short, long)
 
   not_large_circuit : (a : Answer) → IsTooLarge spec table a → Has spec table → ⊥
-  not_large_circuit a h (planned, adders, c) =
-      let same = ap (signals_of table spec.period) (one_fitting one_product spec h.net c.net h.fitting c.fitting) in
+  not_large_circuit a h (enable, planned, adders, c) =
+      let same = ap (signals_of table spec.period) (one_fitting each spec h.net c.net h.fitting c.fitting) in
       let many = h.many_signals in
       let few = c.few_signals in omega (arith, same, many, few)
 
@@ -91,39 +91,62 @@ module _ (one_product : HasOneProduct) (spec : Spec) (table : Delays) where
   one_on_table a b said other has also one (inr (inr h)) (inr (inl k)) = absurd (not_large_circuit b k (has h))
   one_on_table a b said other has also one (inr (inr h)) (inr (inr k)) = one h k
 
-  one_generated : (a b : Answer) → IsGenerated spec table a → IsGenerated spec table b → a ≡ b
-  one_generated a b h k =
-      let (plan, adders) = one_circuit one_product spec table false h.planned k.planned h.adders k.adders h.circuit k.circuit in
+  one_generated : (enable : Bool) (a b : Answer) → IsGenerated enable spec table a → IsGenerated enable spec table b → a ≡ b
+  one_generated enable a b h k =
+      let (plan, adders) = one_circuit each spec table enable h.planned k.planned h.adders k.adders h.circuit k.circuit in
       h.answer
       ∙ ap (λ (p : Planned). wrote spec.name p.latency (text_of p.design) (report spec p h.adders)) plan
       ∙ ap (λ s. wrote spec.name k.planned.latency (text_of k.planned.design) (report spec k.planned s)) adders
       ∙ sym k.answer
 
-  one_vectors : (a b : Answer) → IsVectors spec table a → IsVectors spec table b → a ≡ b
-  one_vectors a b h k =
+  one_vectors : (seed cycles : ℕ) (a b : Answer) → IsVectors seed cycles spec table a → IsVectors seed cycles spec table b → a ≡ b
+  one_vectors seed cycles a b h k =
       let cells = stimulus_cells spec seed cycles in
-      let (plan, adders) = one_circuit one_product spec table false h.planned k.planned h.adders k.adders h.circuit k.circuit in
+      let (plan, adders) = one_circuit each spec table false h.planned k.planned h.adders k.adders h.circuit k.circuit in
       let run = subst (λ (p : Planned). IsRunText p.design cycles cells h.rows) plan h.run in
       let sound = circuit_sound spec table false k.planned k.adders k.circuit in
-      h.answer ∙ ap (wrote_vectors spec.name) (one_text k.planned.design sound cycles cells h.rows k.rows run k.run) ∙ sym k.answer
+      h.answer ∙ ap (wrote_vectors spec.name cycles) (one_text k.planned.design sound cycles cells h.rows k.rows run k.run) ∙ sym k.answer
 
-one_of_spec : HasOneProduct → (said : Spec → Delays → Answer → Type 0) → ((spec : Spec) (table : Delays) (a : Answer) → said spec table a → Has spec table)
+-- one number of good cycles
+one_judged : (n : ℕ) (p q : Planned) (g h : ℕ) → IsSound q.design → p ≡ q → RunsGood n p.design p.latency g → RunsGood n q.design q.latency h → g ≡ h
+one_judged n p q g h sound same a b =
+    let moved : RunsGood n q.design q.latency g = subst (λ (x : Planned). RunsGood n x.design x.latency g) same a in
+    let cells = workload_cells n in
+    let outputs = one_outputs q.design sound workload_cycles cells moved.outputs b.outputs moved.run b.run in
+    one_count (IsGoodCycle (workload_spec n) cells b.outputs q.latency) (workload_cycles - q.latency) g h
+    (subst (λ os. Counts (IsGoodCycle (workload_spec n) cells os q.latency) (workload_cycles - q.latency) g) outputs moved.counted) b.counted
+
+one_worked : OneOfEach → (n : ℕ) (table : Delays) (a b : Answer) → IsWorked n table a → IsWorked n table b → a ≡ b
+one_worked each n table a b h k =
+    let same = (one_circuit each (workload_spec n) table false h.planned k.planned h.adders k.adders h.circuit k.circuit).0 in
+    let sound = circuit_sound (workload_spec n) table false k.planned k.adders k.circuit in
+    h.answer
+    ∙ ap (λ (p : Planned). worked n (length p.design.signals) p.latency h.good) same
+    ∙ ap (worked n (length k.planned.design.signals) k.planned.latency) (one_judged n h.planned k.planned h.good k.good sound same h.judged k.judged)
+    ∙ sym k.answer
+
+one_of_spec : OneOfEach → (said : Spec → Delays → Answer → Type 0) → ((spec : Spec) (table : Delays) (a : Answer) → said spec table a → Has spec table)
     → ((spec : Spec) (table : Delays) (a b : Answer) → said spec table a → said spec table b → a ≡ b)
     → (devices : List Device) (under : Option (List ℕ)) (a b : Answer) → OnFetch (fetched under most_bytes) a (λ bytes. IsAnswerToSpec bytes devices said a)
     → OnFetch (fetched under most_bytes) b (λ bytes. IsAnswerToSpec bytes devices said b) → a ≡ b
-one_of_spec one_product said has one devices under a b h k =
+one_of_spec each said has one devices under a b h k =
     one_on_fetch (fetched under most_bytes) a b (λ bytes. IsAnswerToSpec bytes devices said a) (λ bytes. IsAnswerToSpec bytes devices said b)
     (λ bytes. one_on_reading (read (tree bytes)) a b _ _
     (λ spec. one_on_target (chosen spec.target devices) spec a b _ _
-    (λ table. one_on_table one_product spec table a b (said spec table a) (said spec table b) (has spec table a) (has spec table b) (one spec table a b)))) h k
+    (λ table. one_on_table each spec table a b (said spec table a) (said spec table b) (has spec table a) (has spec table b) (one spec table a b)))) h k
 
-pub one_answer : HasOneProduct → HasOneAnswer
-one_answer one_product None devices files a b h k = h ∙ sym k
-one_answer one_product (Some (Generate spec)) devices files a b h k =
-    one_of_spec one_product IsGenerated (λ s table a g. (g.planned, g.adders, g.circuit)) (one_generated one_product) devices (files spec) a b h k
-one_answer one_product (Some (Vectors spec)) devices files a b h k =
-    one_of_spec one_product IsVectors (λ s table a g. (g.planned, g.adders, g.circuit)) (one_vectors one_product) devices (files spec) a b h k
-one_answer one_product (Some (Simulate vhdl vectors out)) devices files a b h k =
+pub one_answer : OneOfEach → HasOneAnswer
+one_answer each None devices files a b h k = h ∙ sym k
+one_answer each (Some (Generate spec workers enable)) devices files a b h k =
+    one_of_spec each (IsGenerated enable) (λ s table a g. (enable, g.planned, g.adders, g.circuit)) (λ s table. one_generated each s table enable) devices (files spec) a b h k
+one_answer each (Some (Vectors spec seed cycles)) devices files a b h k =
+    one_of_spec each (IsVectors seed cycles) (λ s table a g. (false, g.planned, g.adders, g.circuit)) (λ s table. one_vectors each s table seed cycles) devices (files spec) a b h k
+one_answer each (Some (Workload n)) devices files a b h k =
+    let spec = workload_spec n in
+    one_on_target (chosen spec.target devices) spec a b _ _
+    (λ table. one_on_table each spec table a b (IsWorked n table a) (IsWorked n table b) (λ g. (false, g.planned, g.adders, g.circuit)) (λ g. (false, g.planned, g.adders, g.circuit))
+    (one_worked each n table a b)) h k
+one_answer each (Some (Simulate vhdl vectors out)) devices files a b h k =
     let rows = fetched (files vectors) most_simulated_bytes in
     one_on_fetch (fetched (files vhdl) most_simulated_bytes) a b (λ text. OnFetch rows a (λ given. IsSimulated out text given a)) (λ text. OnFetch rows b (λ given. IsSimulated out text given b))
     (λ text. one_on_fetch rows a b (λ given. IsSimulated out text given a) (λ given. IsSimulated out text given b) (λ given. one_simulated out text given a b)) h k

@@ -8,18 +8,36 @@ use Rattle.opgen_operator.specs.declared.spec.Spec.{Spec}
 use Rattle.opgen_pipe.specs.declared.planning.Planned.{Planned}
 use Rattle.opgen_pipe.specs.Planned.{IsPlanOf}
 use Rattle.opgen_mult.specs.OneNet.{HasOneNet as HasOneProduct}
+use Rattle.opgen_search.specs.Recipe.{OneAdderSet, OneNet}
 use Rattle.opgen_target.specs.Delays.{Delays}
 use Rattle.opgen_top.specs.Circuit.{HasOneCircuit}
-use Rattle.opgen_top.specs.Kinds.{IsNetOfOperator, IsFittingNet, HasOneNet}
+use Rattle.opgen_top.specs.Kinds.{AreAddersOf, AreAddersOfOperator, IsNetOfOperator, IsFittingNet, HasOneNet}
 
-module _ (one_product : HasOneProduct) where
+-- the kinds whose nets are found by a search have one each, and one set of adders
+pub record OneOfEach : Type 0 where
+  pub products : HasOneProduct
+  pub multiples : OneNet
+  pub adders : OneAdderSet
+
+module _ (one : OneOfEach) where
   one_of_operator : (op : Operator) (a b : Net) → IsNetOfOperator op a → IsNetOfOperator op b → a ≡ b
   one_of_operator (Scale sum) a b h k = h ∙ sym k
   one_of_operator (Fir sum) a b h k = h ∙ sym k
-  one_of_operator (Multiply product) a b h k = one_product product a b h k
+  one_of_operator (Multiply product) a b h k = one.products product a b h k
   one_of_operator (Divide pair) a b h k = h ∙ sym k
   one_of_operator (Root single) a b h k = h ∙ sym k
-  one_of_operator (Mcm several) a b h k = absurd h
+  one_of_operator (Mcm several) a b h k = one.multiples several a b h k
+
+  one_adders_of : (op : Operator) (a b : List ℕ) → AreAddersOfOperator op a → AreAddersOfOperator op b → a ≡ b
+  one_adders_of (Scale sum) a b h k = h ∙ sym k
+  one_adders_of (Fir sum) a b h k = h ∙ sym k
+  one_adders_of (Multiply product) a b h k = h ∙ sym k
+  one_adders_of (Divide pair) a b h k = h ∙ sym k
+  one_adders_of (Root single) a b h k = h ∙ sym k
+  one_adders_of (Mcm several) a b h k = one.adders several a b h k
+
+  pub one_adders : (spec : Spec) (a b : List ℕ) → AreAddersOf spec a → AreAddersOf spec b → a ≡ b
+  one_adders spec a b h k = one_adders_of spec.op a b h k
 
   pub one_net : HasOneNet
   one_net spec a b h k = one_of_operator spec.op a b h k
@@ -38,8 +56,8 @@ one_plan : (name : List ℕ) (enable : Bool) (net : Net) (table : Delays) (perio
 one_plan name enable net table period p q h k =
     same_parts p.design q.design p.latency q.latency p.slack q.slack p.cells q.cells (h.design ∙ sym k.design) (h.latency ∙ sym k.latency) (h.slack ∙ sym k.slack) (h.cells ∙ sym k.cells)
 
-pub one_circuit : HasOneProduct → HasOneCircuit
-one_circuit one_product spec table enable p q a b h k =
-    let same = one_fitting one_product spec h.net k.net h.fitting k.fitting in
+pub one_circuit : OneOfEach → HasOneCircuit
+one_circuit one spec table enable p q a b h k =
+    let same = one_fitting one spec h.net k.net h.fitting k.fitting in
     let plan = subst (λ n. IsPlanOf spec.name enable n table spec.period p) same h.plan in
-    (one_plan spec.name enable k.net table spec.period p q plan k.plan, h.are_adders ∙ sym k.are_adders)
+    (one_plan spec.name enable k.net table spec.period p q plan k.plan, one_adders one spec a b h.are_adders k.are_adders)

@@ -13,15 +13,19 @@ use Rattle.opgen_vec.proofs.OneReading.{one_reading}
 use Rattle.opgen_top.specs.Answer.{Answer, simulated, vhdl_refused, vectors_refused}
 use Rattle.opgen_runs.proofs.OneRun.{runs-one}
 use Rattle.opgen_vec.specs.Writing.{rows_text}
-use Rattle.opgen_top.specs.Running.{rows_words, output_widths, output_cells, IsRunText}
+use Rattle.opgen_top.specs.Running.{rows_words, output_widths, output_cells, IsRunOf, IsRunText}
 use Rattle.opgen_top.specs.Simulate.{GivesDesign, RefusesVhdl, RefusesVectors, Runs, IsSimulated}
 
--- a sound design has at most one text of its run over these inputs
+-- a sound design has at most one run over these inputs, and one text of it
+pub one_outputs : (d : Design) → IsSound d → (rows : ℕ) (inputs outputs other : List ℕ) → IsRunOf d rows inputs outputs → IsRunOf d rows inputs other → outputs ≡ other
+one_outputs d sound rows inputs outputs other h k =
+    let start = initial_words d.signals in
+    let words = runs-one d sound (rows_words (input_widths d) rows inputs) start start (λ i to e g. refl) h.words k.words h.runs k.runs in
+    h.outputs_are ∙ ap (λ vs. concat (map (output_cells d) vs)) words ∙ sym k.outputs_are
+
 pub one_text : (d : Design) → IsSound d → (rows : ℕ) (inputs text other : List ℕ) → IsRunText d rows inputs text → IsRunText d rows inputs other → text ≡ other
 one_text d sound rows inputs text other h k =
-    let start = initial_words d.signals in
-    let words = runs-one d sound (rows_words (input_widths d) rows inputs) start start (λ i to e g. refl) h.run.words k.run.words h.run.runs k.run.runs in
-    let outputs : h.outputs ≡ k.outputs = h.run.outputs_are ∙ ap (λ vs. concat (map (output_cells d) vs)) words ∙ sym k.run.outputs_are in
+    let outputs = one_outputs d sound rows inputs h.outputs k.outputs h.run k.run in
     h.written ∙ ap (λ os. rows_text (input_widths d) (output_widths d) rows inputs os) outputs ∙ sym k.written
 
 module _ (out text vectors : List ℕ) where

@@ -1,5 +1,5 @@
 -- From the outcome of planning to a circuit, or to its refusal.
-use Rattle.std.proofs.Common.{◌≡◌, inl, inr, ℕ, false, List, Ok, Err, refl, ap, ◌∙◌, subst}
+use Rattle.std.proofs.Common.{◌≡◌, inl, inr, ℕ, Bool, List, Ok, Err, refl, ap, ◌∙◌, subst}
 use Rattle.opgen_net.specs.declared.net.Net.{Net}
 use Rattle.opgen_operator.specs.declared.spec.Spec.{Spec}
 use Rattle.opgen_pipe.specs.declared.planning.Planned.{Planned}
@@ -15,23 +15,23 @@ use Rattle.opgen_top.specs.Printed as printed
 use Rattle.opgen_top.specs.Specified.{OnTable}
 use Rattle.opgen_top.proofs.Listed.{listed_refusal}
 
-module _ (spec : Spec) (table : Delays) (net : Net) (name : List ℕ) (called : name ≡ spec.name) (fitting : IsFittingNet spec net) where
-  pub planned_circuit : (planned : Planned) (adders : List ℕ) → AreAddersOf spec adders → IsOutcome name false net table spec.period (Ok planned) → IsCircuit spec table false planned adders
+module _ (spec : Spec) (enable : Bool) (table : Delays) (net : Net) (name : List ℕ) (called : name ≡ spec.name) (fitting : IsFittingNet spec net) where
+  pub planned_circuit : (planned : Planned) (adders : List ℕ) → AreAddersOf spec adders → IsOutcome name enable net table spec.period (Ok planned) → IsCircuit spec table enable planned adders
   planned_circuit planned adders are (long, few, plan) = record {
     net = net;
     fitting = fitting;
     are_adders = are;
     long_enough = long;
     few_signals = few;
-    plan = subst (λ n. IsPlanOf n false net table spec.period planned) called plan;
+    plan = subst (λ n. IsPlanOf n enable net table spec.period planned) called plan;
   }
 
-  pub planned_too_short : (need : ℕ) (line : List ℕ) → IsOutcome name false net table spec.period (Err (PeriodTooShort need)) → line ≡ period_too_short_line need
+  pub planned_too_short : (need : ℕ) (line : List ℕ) → IsOutcome name enable net table spec.period (Err (PeriodTooShort need)) → line ≡ period_too_short_line need
       → OnTable spec table (refusal 1 line) ⊥
   planned_too_short need line (is, short) said =
       inl record { net = net; fitting = fitting; short = short; answer = ap (refusal 1) (said ∙ ap period_too_short_line is) }
 
-  pub planned_too_large : IsOutcome name false net table spec.period (Err TooLarge) → OnTable spec table too_large ⊥
+  pub planned_too_large : IsOutcome name enable net table spec.period (Err TooLarge) → OnTable spec table too_large ⊥
   planned_too_large (long, many) = inr (inl record { net = net; fitting = fitting; long_enough = long; many_signals = many; answer = refl })
 
 pub too_short_listed : (need : ℕ) (line : List ℕ) → line ≡ period_too_short_line need → IsListed (refusal 1 line)

@@ -2,6 +2,7 @@
 use Rattle.std.proofs.Common.{◌≡◌, ◌⊎◌, inl, inr, ℕ, ◌≤◌, List, [], ◌∷◌, length, Option, Some, Result, Ok, Err, refl, sym, ap, subst, arith}
 use Rattle.std.specs.Prelude.{◌≢◌}
 use Rattle.std.specs.Str.Lines.{lines}
+use Rattle.opgen_command.specs.declared.command.Command.TheVariants.{Simulate}
 use Rattle.opgen_design.specs.declared.design.Design.{Design}
 use Rattle.opgen_design.specs.Run.{input_widths}
 use Rattle.opgen_io.specs.Answers.{fetched}
@@ -13,7 +14,6 @@ use Rattle.opgen_top.specs.declared.answer.Refusal.{Refusal}
 use Rattle.opgen_top.specs.declared.answer.Refusal.TheVariants as refusals
 use Rattle.opgen_top.specs.declared.run_rows.Rows.{Rows}
 use Rattle.opgen_top.specs.Answer.{Answer, file as stored_file, success, vhdl_refused, vectors_refused}
-use Rattle.opgen_top.specs.Command.{Simulate}
 use Rattle.opgen_top.specs.Due.{most_simulated_bytes, OnFetch, IsAnswerOf}
 use Rattle.opgen_top.specs.Lines.{simulated_line}
 use Rattle.opgen_top.specs.Prepared.{Reads, Kept, Answers, Fetches, Refused, HoldsRows, IsListed, IsPrepared, answer_of, refusal_of}

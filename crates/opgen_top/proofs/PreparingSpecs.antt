@@ -1,6 +1,8 @@
 -- From what a specification gives to what the command answers to its file.
-use Rattle.std.proofs.Common.{◌≡◌, ◌⊎◌, inl, inr, ℕ, ◌≤◌, true, List, length, Option, Some, Result, Ok, Err, refl, sym, ap, subst, arith}
+use Rattle.std.proofs.Common.{◌≡◌, ◌⊎◌, inl, inr, ℕ, ◌≤◌, Bool, true, false, List, length, Option, Some, Result, Ok, Err, refl, sym, ap, subst, arith}
 use Rattle.std.specs.Prelude.{◌≢◌, IsTrue}
+use Rattle.opgen_command.specs.declared.command.Command.{Command}
+use Rattle.opgen_command.specs.declared.command.Command.TheVariants.{Generate, Vectors}
 use Rattle.opgen_design.specs.declared.design.Design.{Design}
 use Rattle.opgen_io.specs.Answers.{fetched}
 use Rattle.opgen_io.specs.Files.{Files}
@@ -18,16 +20,14 @@ use Rattle.opgen_top.specs.declared.answer.Refusal.{Refusal}
 use Rattle.opgen_top.specs.declared.answer.Refusal.TheVariants as refusals
 use Rattle.opgen_top.specs.declared.specified.Specified.{Specified}
 use Rattle.opgen_top.specs.Answer.{Answer, refusal, wrote, wrote_vectors}
-use Rattle.opgen_top.specs.Command.{Command, Generate, Vectors}
 use Rattle.opgen_top.specs.Due.{most_bytes, OnFetch, IsAnswerOf}
-use Rattle.opgen_top.specs.Kinds.{is_built}
 use Rattle.opgen_top.specs.Lines.{refused_line}
 use Rattle.opgen_top.specs.Prepared.{Reads, Answers, Fetches, OnRefusal, HasRows, IsListed, IsPrepared, IsSpecified, answer_of, refusal_of}
 use Rattle.opgen_top.specs.Printed as printed
 use Rattle.opgen_top.specs.Specified.{IsAnswerToSpec, IsGenerated, IsVectors, OnReading, OnTable, OnTarget}
 use Rattle.opgen_top.specs.Targets.{Device, IsTableOf, chosen}
 use Rattle.opgen_top.proofs.Listed.{listed_refusal, listed_success}
-use Rattle.opgen_top.proofs.SpecCases.{answers_table, cases_of_spec, on_reading-map, on_target-map, reading_built, refusal_answers}
+use Rattle.opgen_top.proofs.SpecCases.{answers_table, cases_of_spec, on_reading-map, on_table_of, on_target-map, reading_ok, refusal_answers}
 use Rattle.opgen_top.proofs.Unfetched.{on_fetch, on_missing, on_longer, unfetched}
 
 abbrev pub status_of : Answer → ℕ
@@ -50,17 +50,21 @@ pub bytes_refused : (bytes : List ℕ) (devices : List Device) (refusal : Refusa
 bytes_refused bytes devices (refusals.Line line) h = on_reading-map (read (tree bytes)) (refusal_of line) (λ spec. ⊥) _ (λ spec no. absurd no) h
 bytes_refused bytes devices refusals.Memory h = tt
 
-module _ (bytes : List ℕ) (devices : List Device) (spec : Spec) (reads : read (tree bytes) ≡ Ok spec) (built : is_built spec ≡ true) where
+module _ (devices : List Device) (spec : Spec) where
   pub target_refused : (refusal : Refusal) → OnRefusal refusal (λ a. OnTarget (chosen spec.target devices) spec a (λ table. ⊥))
-      → OnRefusal refusal (IsAnswerToSpec bytes devices (λ spec table a. ⊥))
-  target_refused (refusals.Line line) h =
-      reading_built (read (tree bytes)) (refusal_of line) _ spec reads built (on_target-map (chosen spec.target devices) spec (refusal_of line) (λ table. ⊥) _ (λ table no. absurd no) h)
+      → OnRefusal refusal (λ a. OnTarget (chosen spec.target devices) spec a (λ table. OnTable spec table a ⊥))
+  target_refused (refusals.Line line) h = on_target-map (chosen spec.target devices) spec (refusal_of line) (λ table. ⊥) _ (λ table no. absurd no) h
   target_refused refusals.Memory h = tt
 
   pub plan_refused : (table : Delays) → IsTableOf spec devices table → (refusal : Refusal) → OnRefusal refusal (λ a. OnTable spec table a ⊥)
-      → OnRefusal refusal (IsAnswerToSpec bytes devices (λ spec table a. ⊥))
-  plan_refused table of (refusals.Line line) h = answers_table bytes devices (λ s t a. ⊥) (refusal_of line) spec table reads built of h
+      → OnRefusal refusal (λ a. OnTarget (chosen spec.target devices) spec a (λ table. OnTable spec table a ⊥))
+  plan_refused table of (refusals.Line line) h = on_table_of spec devices (refusal_of line) (λ t. OnTable spec t (refusal_of line) ⊥) table of h
   plan_refused table of refusals.Memory h = tt
+
+  pub made_refused : (bytes : List ℕ) → read (tree bytes) ≡ Ok spec → (refusal : Refusal)
+      → OnRefusal refusal (λ a. OnTarget (chosen spec.target devices) spec a (λ table. OnTable spec table a ⊥)) → OnRefusal refusal (IsAnswerToSpec bytes devices (λ spec table a. ⊥))
+  made_refused bytes reads (refusals.Line line) h = reading_ok (read (tree bytes)) (refusal_of line) _ spec reads h
+  made_refused bytes reads refusals.Memory h = tt
 
 -- a refusal of a specification answers a command on it
 pub refused_answers : (bytes : List ℕ) (devices : List Device) (said : Spec → Delays → Answer → Type 0) (refusal : Refusal)
@@ -77,22 +81,23 @@ want_says refusals.Memory said e = tt
 pub wrote_listed : (a : Answer) (name : List ℕ) (latency : ℕ) (text facts : List ℕ) → IsTrue (is_spec_name name) → a ≡ wrote name latency text facts → IsListed a
 wrote_listed a name latency text facts allowed e = subst IsListed (sym e) (listed_success (wrote name latency text facts) (printed.wrote name latency allowed refl refl) refl)
 
-pub rows_of_listed : (a : Answer) (spec : Spec) (design : Design) → IsTrue (is_spec_name spec.name) → HasRows spec design a → IsListed a
-rows_of_listed a spec design allowed h =
-    subst IsListed (sym h.answer) (listed_success (wrote_vectors spec.name h.rows) (printed.wrote_vectors spec.name allowed refl refl) refl)
+pub rows_of_listed : (a : Answer) (spec : Spec) (design : Design) (seed cycles : ℕ) → IsTrue (is_spec_name spec.name) → HasRows spec design seed cycles a → IsListed a
+rows_of_listed a spec design seed cycles allowed h =
+    subst IsListed (sym h.answer) (listed_success (wrote_vectors spec.name cycles h.rows) (printed.wrote_vectors spec.name cycles allowed refl refl) refl)
 
 -- what is made of a specification answers the command
-module _ (bytes : List ℕ) (devices : List Device) (made : Specified) (is : IsSpecified bytes devices made) (a : Answer) where
+module _ (bytes : List ℕ) (enable : Bool) (devices : List Device) (made : Specified) (is : IsSpecified bytes enable devices made) (a : Answer) where
   pub made_circuit : a ≡ wrote made.spec.name made.circuit.planned.latency (text_of made.circuit.planned.design) (report made.spec made.circuit.planned made.circuit.adders.items)
-      → IsAnswerToSpec bytes devices IsGenerated a
+      → IsAnswerToSpec bytes devices (IsGenerated enable) a
   made_circuit e =
-      answers_table bytes devices IsGenerated a made.spec is.table is.reads is.built is.of_target
+      answers_table bytes devices (IsGenerated enable) a made.spec is.table is.reads is.of_target
       (inr (inr record { planned = made.circuit.planned; adders = made.circuit.adders.items; circuit = is.circuit; answer = e }))
 
-  pub made_vectors : HasRows made.spec made.circuit.planned.design a → IsAnswerToSpec bytes devices IsVectors a
-  made_vectors h =
-      answers_table bytes devices IsVectors a made.spec is.table is.reads is.built is.of_target
-      (inr (inr record { planned = made.circuit.planned; adders = made.circuit.adders.items; circuit = is.circuit; rows = h.rows; run = h.run; answer = h.answer }))
+pub made_vectors : (bytes : List ℕ) (devices : List Device) (made : Specified) → IsSpecified bytes false devices made → (a : Answer) (seed cycles : ℕ)
+    → HasRows made.spec made.circuit.planned.design seed cycles a → IsAnswerToSpec bytes devices (IsVectors seed cycles) a
+made_vectors bytes devices made is a seed cycles h =
+    answers_table bytes devices (IsVectors seed cycles) a made.spec is.table is.reads is.of_target
+    (inr (inr record { planned = made.circuit.planned; adders = made.circuit.adders.items; circuit = is.circuit; rows = h.rows; run = h.run; answer = h.answer }))
 
 -- the answer to a specification has status 0 or 1
 spec_status : (bytes : List ℕ) (devices : List Device) (said : Spec → Delays → Answer → Type 0) (a : Answer) → ((spec : Spec) (table : Delays) → said spec table a → a.status ≡ 0)
@@ -100,10 +105,9 @@ spec_status : (bytes : List ℕ) (devices : List Device) (said : Spec → Delays
 spec_status bytes devices said a ok h =
     cases_of_spec bytes devices said a ((a.status ≡ 0) ⊎ (a.status ≡ 1))
     (λ fault reads is. inr (ap status_of is))
-    (λ spec reads built is. inr (ap status_of is))
-    (λ spec reads built found is. inr (ap status_of is))
-    (λ spec device reads built found takes is. inr (ap status_of is))
-    (λ spec table reads built of on. elim on [
+    (λ spec reads found is. inr (ap status_of is))
+    (λ spec device reads found takes is. inr (ap status_of is))
+    (λ spec table reads of on. elim on [
       | inl short ↦ inr (ap status_of short.answer)
       | inr (inl large) ↦ inr (ap status_of large.answer)
       | inr (inr made) ↦ inl (ok spec table made)
@@ -135,15 +139,19 @@ module _ (command : Command) (said : Spec → Delays → Answer → Type 0) (spe
     spec-prepared (Err refusals.Memory) is listed = tt
 
 module _ (spec : List ℕ) (devices : List Device) (told : Option Files) (before now : Reads) where
-  pub generate-unfetched : (refusal : Refusal) → Fetches spec most_bytes told before now (Err refusal) → Answers (Err refusal) (IsPrepared (Some (Generate spec)) devices told before now)
-  generate-unfetched = spec-unfetched (Generate spec) IsGenerated spec devices told before now (λ files a h. h)
+  pub generate-unfetched : (workers : ℕ) (enable : Bool) (refusal : Refusal) → Fetches spec most_bytes told before now (Err refusal)
+      → Answers (Err refusal) (IsPrepared (Some (Generate spec workers enable)) devices told before now)
+  generate-unfetched workers enable = spec-unfetched (Generate spec workers enable) (IsGenerated enable) spec devices told before now (λ files a h. h)
 
-  pub vectors-unfetched : (refusal : Refusal) → Fetches spec most_bytes told before now (Err refusal) → Answers (Err refusal) (IsPrepared (Some (Vectors spec)) devices told before now)
-  vectors-unfetched = spec-unfetched (Vectors spec) IsVectors spec devices told before now (λ files a h. h)
+  pub vectors-unfetched : (seed cycles : ℕ) (refusal : Refusal) → Fetches spec most_bytes told before now (Err refusal)
+      → Answers (Err refusal) (IsPrepared (Some (Vectors spec seed cycles)) devices told before now)
+  vectors-unfetched seed cycles = spec-unfetched (Vectors spec seed cycles) (IsVectors seed cycles) spec devices told before now (λ files a h. h)
 
   module _ (bytes : List ℕ) (stands : (files : Files) → told ≡ Some files → files spec ≡ Some bytes) (few : length bytes ≤ most_bytes) where
-    pub generate-prepared : (r : Result Held Refusal) → Answers r (IsAnswerToSpec bytes devices IsGenerated) → Answers r IsListed → Answers r (IsPrepared (Some (Generate spec)) devices told before now)
-    generate-prepared = spec-prepared (Generate spec) IsGenerated spec devices told before now (λ files a h. h) (λ s table a g. ap status_of g.answer) bytes stands few
+    pub generate-prepared : (workers : ℕ) (enable : Bool) (r : Result Held Refusal) → Answers r (IsAnswerToSpec bytes devices (IsGenerated enable)) → Answers r IsListed
+        → Answers r (IsPrepared (Some (Generate spec workers enable)) devices told before now)
+    generate-prepared workers enable = spec-prepared (Generate spec workers enable) (IsGenerated enable) spec devices told before now (λ files a h. h) (λ s table a g. ap status_of g.answer) bytes stands few
 
-    pub vectors-prepared : (r : Result Held Refusal) → Answers r (IsAnswerToSpec bytes devices IsVectors) → Answers r IsListed → Answers r (IsPrepared (Some (Vectors spec)) devices told before now)
-    vectors-prepared = spec-prepared (Vectors spec) IsVectors spec devices told before now (λ files a h. h) (λ s table a g. ap status_of g.answer) bytes stands few
+    pub vectors-prepared : (seed cycles : ℕ) (r : Result Held Refusal) → Answers r (IsAnswerToSpec bytes devices (IsVectors seed cycles)) → Answers r IsListed
+        → Answers r (IsPrepared (Some (Vectors spec seed cycles)) devices told before now)
+    vectors-prepared seed cycles = spec-prepared (Vectors spec seed cycles) (IsVectors seed cycles) spec devices told before now (λ files a h. h) (λ s table a g. ap status_of g.answer) bytes stands few

@@ -5,9 +5,8 @@ use Rattle.opgen_spec.specs.declared.fault.SpecFault.{SpecFault}
 use Rattle.opgen_spec.specs.Document.{tree}
 use Rattle.opgen_spec.specs.Faults.{read}
 use Rattle.opgen_target.specs.Delays.{Delays}
-use Rattle.opgen_top.specs.Answer.{Answer, refused, unsupported, unknown_target, not_adjustable}
-use Rattle.opgen_top.specs.Kinds.{is_built}
-use Rattle.opgen_top.specs.Specified.{IsAnswerToSpec, OnBuilt, OnLines, OnReading, OnTable, OnTarget}
+use Rattle.opgen_top.specs.Answer.{Answer, refused, unknown_target, not_adjustable}
+use Rattle.opgen_top.specs.Specified.{IsAnswerToSpec, OnLines, OnReading, OnTable, OnTarget}
 use Rattle.opgen_top.specs.Targets.{Device, IsTableOf, chosen, takes_lines, tuned}
 
 -- what is said of a specification and a table may be exchanged
@@ -26,12 +25,8 @@ on_target-map (Some device) spec a said other f h =
     on_lines-map (takes_lines device.adjustable spec.delays) a (said (tuned device.delays spec.delays)) (other (tuned device.delays spec.delays)) (f (tuned device.delays spec.delays)) h
 on_target-map None spec a said other f h = h
 
-on_built-map : (b : Bool) (a : Answer) (said other : Type 0) → (said → other) → OnBuilt b a said → OnBuilt b a other
-on_built-map true a said other f h = f h
-on_built-map false a said other f h = h
-
 pub on_reading-map : (r : Result Spec SpecFault) (a : Answer) (said other : Spec → Type 0) → ((spec : Spec) → said spec → other spec) → OnReading r a said → OnReading r a other
-on_reading-map (Ok spec) a said other f h = on_built-map (is_built spec) a (said spec) (other spec) (f spec) h
+on_reading-map (Ok spec) a said other f h = f spec h
 on_reading-map (Err fault) a said other f h = h
 
 -- a refusal is one whatever is said of a circuit
@@ -40,9 +35,9 @@ pub refusal_answers : (bytes : List ℕ) (devices : List Device) (said : Spec �
 refusal_answers bytes devices said a h =
     on_reading-map (read (tree bytes)) a _ _ (λ spec. on_target-map (chosen spec.target devices) spec a _ _ (λ table. on_table-map spec table a ⊥ (said spec table a) (λ no. absurd no))) h
 
--- by what reads as a specification that can be built
-pub reading_built : (r : Result Spec SpecFault) (a : Answer) (said : Spec → Type 0) (spec : Spec) → r ≡ Ok spec → is_built spec ≡ true → said spec → OnReading r a said
-reading_built r a said spec reads built h = subst (λ x. OnReading x a said) (sym reads) (subst (λ b. OnBuilt b a (said spec)) (sym built) h)
+-- by what reads as a specification
+pub reading_ok : (r : Result Spec SpecFault) (a : Answer) (said : Spec → Type 0) (spec : Spec) → r ≡ Ok spec → said spec → OnReading r a said
+reading_ok r a said spec reads h = subst (λ x. OnReading x a said) (sym reads) h
 
 -- by the table of the specification's target
 pub on_table_of : (spec : Spec) (devices : List Device) (a : Answer) (said : Delays → Type 0) (table : Delays) → IsTableOf spec devices table → said table
@@ -51,6 +46,22 @@ on_table_of spec devices a said table of h =
     let device = of.device in
     subst (λ found. OnTarget found spec a said) (sym of.is_chosen) (subst (λ b. OnLines b a (said (tuned device.delays spec.delays))) (sym of.takes) (subst said of.is_tuned h))
 
+-- by the targets one of these cases holds
+module _ (devices : List Device) (spec : Spec) (a : Answer) (said : Delays → Type 0) (P : Type 0) (by_unknown : chosen spec.target devices ≡ None → a ≡ unknown_target → P)
+    (by_fixed : (device : Device) → chosen spec.target devices ≡ Some device → takes_lines device.adjustable spec.delays ≡ false → a ≡ not_adjustable → P)
+    (by_table : (table : Delays) → IsTableOf spec devices table → said table → P) where
+  of_lines : (device : Device) → chosen spec.target devices ≡ Some device → (b : Bool) → takes_lines device.adjustable spec.delays ≡ b
+      → OnLines b a (said (tuned device.delays spec.delays)) → P
+  of_lines device found true takes h = by_table (tuned device.delays spec.delays) record { device = device; is_chosen = found; takes = takes; is_tuned = refl } h
+  of_lines device found false takes h = by_fixed device found takes h
+
+  of_target : (found : Option Device) → chosen spec.target devices ≡ found → OnTarget found spec a said → P
+  of_target (Some device) found h = of_lines device found (takes_lines device.adjustable spec.delays) refl h
+  of_target None found h = by_unknown found h
+
+  pub cases_of_target : OnTarget (chosen spec.target devices) spec a said → P
+  cases_of_target h = of_target (chosen spec.target devices) refl h
+
 module _ (bytes : List ℕ) (devices : List Device) (said : Spec → Delays → Answer → Type 0) (a : Answer) where
   abbrev Said : Spec → Type 0
   Said spec = OnTarget (chosen spec.target devices) spec a (λ table. OnTable spec table a (said spec table a))
@@ -58,49 +69,32 @@ module _ (bytes : List ℕ) (devices : List Device) (said : Spec → Delays → 
   pub answers_fault : (fault : SpecFault) → read (tree bytes) ≡ Err fault → a ≡ refused fault → IsAnswerToSpec bytes devices said a
   answers_fault fault reads is = subst (λ r. OnReading r a Said) (sym reads) is
 
-  pub answers_unbuilt : (spec : Spec) → read (tree bytes) ≡ Ok spec → is_built spec ≡ false → a ≡ unsupported → IsAnswerToSpec bytes devices said a
-  answers_unbuilt spec reads built is = subst (λ r. OnReading r a Said) (sym reads) (subst (λ b. OnBuilt b a (Said spec)) (sym built) is)
+  pub answers_unknown : (spec : Spec) → read (tree bytes) ≡ Ok spec → chosen spec.target devices ≡ None → a ≡ unknown_target → IsAnswerToSpec bytes devices said a
+  answers_unknown spec reads found is =
+      reading_ok (read (tree bytes)) a Said spec reads (subst (λ d. OnTarget d spec a (λ table. OnTable spec table a (said spec table a))) (sym found) is)
 
-  pub answers_unknown : (spec : Spec) → read (tree bytes) ≡ Ok spec → is_built spec ≡ true → chosen spec.target devices ≡ None → a ≡ unknown_target → IsAnswerToSpec bytes devices said a
-  answers_unknown spec reads built found is =
-      reading_built (read (tree bytes)) a Said spec reads built (subst (λ d. OnTarget d spec a (λ table. OnTable spec table a (said spec table a))) (sym found) is)
-
-  pub answers_fixed : (spec : Spec) (device : Device) → read (tree bytes) ≡ Ok spec → is_built spec ≡ true → chosen spec.target devices ≡ Some device
+  pub answers_fixed : (spec : Spec) (device : Device) → read (tree bytes) ≡ Ok spec → chosen spec.target devices ≡ Some device
       → takes_lines device.adjustable spec.delays ≡ false → a ≡ not_adjustable → IsAnswerToSpec bytes devices said a
-  answers_fixed spec device reads built found takes is =
+  answers_fixed spec device reads found takes is =
       let table = tuned device.delays spec.delays in
-      reading_built (read (tree bytes)) a Said spec reads built
+      reading_ok (read (tree bytes)) a Said spec reads
       (subst (λ d. OnTarget d spec a (λ t. OnTable spec t a (said spec t a))) (sym found) (subst (λ b. OnLines b a (OnTable spec table a (said spec table a))) (sym takes) is))
 
-  pub answers_table : (spec : Spec) (table : Delays) → read (tree bytes) ≡ Ok spec → is_built spec ≡ true → IsTableOf spec devices table → OnTable spec table a (said spec table a)
+  pub answers_table : (spec : Spec) (table : Delays) → read (tree bytes) ≡ Ok spec → IsTableOf spec devices table → OnTable spec table a (said spec table a)
       → IsAnswerToSpec bytes devices said a
-  answers_table spec table reads built of h =
-      reading_built (read (tree bytes)) a Said spec reads built (on_table_of spec devices a (λ t. OnTable spec t a (said spec t a)) table of h)
+  answers_table spec table reads of h =
+      reading_ok (read (tree bytes)) a Said spec reads (on_table_of spec devices a (λ t. OnTable spec t a (said spec t a)) table of h)
 
   -- one of these cases holds
   module _ (P : Type 0) (by_fault : (fault : SpecFault) → read (tree bytes) ≡ Err fault → a ≡ refused fault → P)
-      (by_unbuilt : (spec : Spec) → read (tree bytes) ≡ Ok spec → is_built spec ≡ false → a ≡ unsupported → P)
-      (by_unknown : (spec : Spec) → read (tree bytes) ≡ Ok spec → is_built spec ≡ true → chosen spec.target devices ≡ None → a ≡ unknown_target → P)
-      (by_fixed : (spec : Spec) (device : Device) → read (tree bytes) ≡ Ok spec → is_built spec ≡ true → chosen spec.target devices ≡ Some device
+      (by_unknown : (spec : Spec) → read (tree bytes) ≡ Ok spec → chosen spec.target devices ≡ None → a ≡ unknown_target → P)
+      (by_fixed : (spec : Spec) (device : Device) → read (tree bytes) ≡ Ok spec → chosen spec.target devices ≡ Some device
       → takes_lines device.adjustable spec.delays ≡ false → a ≡ not_adjustable → P)
-      (by_table : (spec : Spec) (table : Delays) → read (tree bytes) ≡ Ok spec → is_built spec ≡ true → IsTableOf spec devices table → OnTable spec table a (said spec table a) → P) where
-    of_lines : (spec : Spec) (device : Device) → read (tree bytes) ≡ Ok spec → is_built spec ≡ true → chosen spec.target devices ≡ Some device → (b : Bool) → takes_lines device.adjustable spec.delays ≡ b
-        → OnLines b a (OnTable spec (tuned device.delays spec.delays) a (said spec (tuned device.delays spec.delays) a)) → P
-    of_lines spec device reads built found true takes h =
-        by_table spec (tuned device.delays spec.delays) reads built record { device = device; is_chosen = found; takes = takes; is_tuned = refl } h
-    of_lines spec device reads built found false takes h = by_fixed spec device reads built found takes h
-
-    of_target : (spec : Spec) → read (tree bytes) ≡ Ok spec → is_built spec ≡ true → (found : Option Device) → chosen spec.target devices ≡ found
-        → OnTarget found spec a (λ table. OnTable spec table a (said spec table a)) → P
-    of_target spec reads built (Some device) found h = of_lines spec device reads built found (takes_lines device.adjustable spec.delays) refl h
-    of_target spec reads built None found h = by_unknown spec reads built found h
-
-    of_built : (spec : Spec) → read (tree bytes) ≡ Ok spec → (b : Bool) → is_built spec ≡ b → OnBuilt b a (Said spec) → P
-    of_built spec reads true built h = of_target spec reads built (chosen spec.target devices) refl h
-    of_built spec reads false built h = by_unbuilt spec reads built h
-
+      (by_table : (spec : Spec) (table : Delays) → read (tree bytes) ≡ Ok spec → IsTableOf spec devices table → OnTable spec table a (said spec table a) → P) where
     of_reading : (r : Result Spec SpecFault) → read (tree bytes) ≡ r → OnReading r a Said → P
-    of_reading (Ok spec) reads h = of_built spec reads (is_built spec) refl h
+    of_reading (Ok spec) reads h =
+        cases_of_target devices spec a (λ table. OnTable spec table a (said spec table a)) P (by_unknown spec reads) (λ device. by_fixed spec device reads)
+        (λ table. by_table spec table reads) h
     of_reading (Err fault) reads h = by_fault fault reads h
 
     pub cases_of_spec : IsAnswerToSpec bytes devices said a → P

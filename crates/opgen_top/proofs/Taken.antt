@@ -11,7 +11,7 @@ use Rattle.opgen_design.specs.Run.{Words, RunsOn, AreWords, at_ports, is_in, inp
 use Rattle.opgen_pipe.specs.Laws.{counted, net_inputs}
 
 module _ {X Y : Type 0} (f : X → Y) (is : Dir → Bool) where
-  at_ports-map : (ps : List Port) (xs : List X) → map f (at_ports is ps xs) ≡ at_ports is ps (map f xs)
+  pub at_ports-map : (ps : List Port) (xs : List X) → map f (at_ports is ps xs) ≡ at_ports is ps (map f xs)
   at_ports-map [] xs = refl
   at_ports-map (p ∷ ps) [] = refl
   at_ports-map (p ∷ ps) (x ∷ xs) = put (is p.dir) (at_ports is ps xs) (at_ports is ps (map f xs)) (at_ports-map ps xs)

@@ -3,13 +3,13 @@ use Rattle.std.proofs.Common.{◌≡◌, ◌⊎◌, inl, inr, ℕ, ◌≤◌, tr
 use Rattle.std.specs.Prelude.{nat_le}
 use Rattle.std.proofs.lemmas.Bool.{cases_lt}
 use Rattle.std.proofs.lemmas.Bool.Decides.{nat_tests}
+use Rattle.opgen_command.specs.declared.command.Command.{Command}
 use Rattle.opgen_io.specs.Answers.{fetched}
 use Rattle.opgen_io.specs.Counts.{Rose, Stood}
 use Rattle.opgen_io.specs.Files.{Files}
 use Rattle.opgen_io.specs.declared.folder.FetchFault.TheVariants as fetch
 use Rattle.opgen_top.specs.declared.line.Line.{Line}
 use Rattle.opgen_top.specs.Answer.{Answer, read_fault, too_long}
-use Rattle.opgen_top.specs.Command.{Command}
 use Rattle.opgen_top.specs.Due.{OnFetch, IsAnswerOf}
 use Rattle.opgen_top.specs.Prepared.{Reads, Kept, IsPrepared, IsUnfetched, refusal_of}
 use Rattle.opgen_top.specs.Printed as printed

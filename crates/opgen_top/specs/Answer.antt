@@ -3,7 +3,7 @@ use Rattle.std.specs.Prelude.{ℕ, List, [], ◌∷◌, ◌++◌, codes}
 use Rattle.opgen_read.specs.declared.fault.ReadFault.{ReadFault}
 use Rattle.opgen_spec.specs.declared.fault.SpecFault.{SpecFault}
 use Rattle.opgen_vec.specs.declared.fault.VecFault.{VecFault}
-use Rattle.opgen_top.specs.Lines.{wrote_line, wrote_vectors_line, simulated_line, refused_line, unsupported_line, unknown_target_line, not_adjustable_line, period_too_short_line, too_large_line, usage_line, read_fault_line, vhdl_refused_line, vectors_refused_line, too_long_line}
+use Rattle.opgen_top.specs.Lines.{wrote_line, wrote_vectors_line, simulated_line, worked_line, refused_line, unknown_target_line, not_adjustable_line, period_too_short_line, too_large_line, usage_line, read_fault_line, vhdl_refused_line, vectors_refused_line, too_long_line}
 use Rattle.opgen_top.specs.Stores.{Store}
 
 pub record Answer : Type 0 where
@@ -36,17 +36,18 @@ vectors_name name = name ++ codes ".vec"
 abbrev pub wrote : (name : List ℕ) (latency : ℕ) (text report : List ℕ) → Answer
 wrote name latency text report = success (wrote_line name latency) (file (vhdl_name name) text ∷ file (report_name name) report ∷ [])
 
-abbrev pub wrote_vectors : (name rows : List ℕ) → Answer
-wrote_vectors name rows = success (wrote_vectors_line name) (file (vectors_name name) rows ∷ [])
+abbrev pub wrote_vectors : (name : List ℕ) (cycles : ℕ) (rows : List ℕ) → Answer
+wrote_vectors name cycles rows = success (wrote_vectors_line name cycles) (file (vectors_name name) rows ∷ [])
 
 abbrev pub simulated : (out : List ℕ) (count : ℕ) (rows : List ℕ) → Answer
 simulated out count rows = success (simulated_line count) (file out rows ∷ [])
 
+-- a run that stores none
+abbrev pub worked : (n signals latency good : ℕ) → Answer
+worked n signals latency good = success (worked_line n signals latency good) []
+
 abbrev pub refused : SpecFault → Answer
 refused fault = refusal 1 (refused_line fault)
-
-abbrev pub unsupported : Answer
-unsupported = refusal 1 unsupported_line
 
 abbrev pub unknown_target : Answer
 unknown_target = refusal 1 unknown_target_line

@@ -1,5 +1,7 @@
 -- What each status of a due answer says of the words, the targets and the files.
-use Rattle.std.specs.Prelude.{ℕ, ◌≡◌, ◌≢◌, ◌⊎◌, IsTrue, false, List, [], Option, Some, None, Ok, Err}
+use Rattle.std.specs.Prelude.{ℕ, ◌≡◌, ◌≢◌, ◌⊎◌, false, List, [], Option, Some, None, Ok, Err}
+use Rattle.opgen_command.specs.declared.command.Command.{Command}
+use Rattle.opgen_command.specs.declared.command.Command.TheVariants.{Generate, Vectors, Simulate, Workload}
 use Rattle.opgen_io.specs.Answers.{fetched}
 use Rattle.opgen_io.specs.Files.{Files}
 use Rattle.opgen_io.specs.declared.folder.FetchFault.TheVariants as fetch
@@ -8,20 +10,19 @@ use Rattle.opgen_spec.specs.declared.fault.SpecFault.{SpecFault}
 use Rattle.opgen_spec.specs.Document.{tree}
 use Rattle.opgen_spec.specs.Faults.{read}
 use Rattle.opgen_target.specs.Delays.{Delays}
-use Rattle.opgen_top.specs.Answer.{Answer, refused, unsupported, unknown_target, not_adjustable}
-use Rattle.opgen_top.specs.Command.{Command, Generate, Vectors, Simulate}
+use Rattle.opgen_workload.specs.Filter.{workload_spec}
+use Rattle.opgen_top.specs.Answer.{Answer, refused, unknown_target, not_adjustable}
 use Rattle.opgen_top.specs.Due.{IsAnswerOf, most_bytes, most_simulated_bytes}
-use Rattle.opgen_top.specs.Kinds.{is_built}
 use Rattle.opgen_top.specs.Simulate.{RefusesVhdl, RefusesVectors, Runs}
 use Rattle.opgen_top.specs.Specified.{IsGenerated, IsVectors, IsTooShort, IsTooLarge}
 use Rattle.opgen_top.specs.Targets.{Device, IsTableOf, chosen}
+use Rattle.opgen_top.specs.Workload.{IsWorked}
 
--- a file holds a specification without a fault that can be generated
+-- a file holds a specification without a fault
 pub record HasSpec (file : List ℕ) (files : Files) (spec : Spec) : Type 0 where
   pub bytes : List ℕ
   pub stands : files file ≡ Some bytes
   pub reads : read (tree bytes) ≡ Ok spec
-  pub built : IsTrue (is_built spec)
 
 -- and there is a target for it, of whose table something is said
 pub record HasTable (file : List ℕ) (devices : List Device) (files : Files) (said : Spec → Delays → Type 0) : Type 0 where
@@ -39,20 +40,25 @@ pub record HasBoth (vhdl vectors : List ℕ) (files : Files) (said : (text rows 
   pub also_stands : files vectors ≡ Some rows
   pub says : said text rows
 
+-- there is a target for the filter of a number, of whose table something is said
+pub record HasFilter (n : ℕ) (devices : List Device) (said : Delays → Type 0) : Type 0 where
+  pub table : Delays
+  pub of_target : IsTableOf (workload_spec n) devices table
+  pub says : said table
+
 -- after 0: the command's files were there, and made what it stores
 abbrev pub IsMade : Option Command → List Device → Files → Answer → Type 0
 IsMade None devices files a = ⊥
-IsMade (Some (Generate spec)) devices files a = HasTable spec devices files (λ s table. IsGenerated s table a)
-IsMade (Some (Vectors spec)) devices files a = HasTable spec devices files (λ s table. IsVectors s table a)
+IsMade (Some (Generate spec workers enable)) devices files a = HasTable spec devices files (λ s table. IsGenerated enable s table a)
+IsMade (Some (Vectors spec seed cycles)) devices files a = HasTable spec devices files (λ s table. IsVectors seed cycles s table a)
 IsMade (Some (Simulate vhdl vectors out)) devices files a = HasBoth vhdl vectors files (λ text rows. Runs out text rows a)
+IsMade (Some (Workload n)) devices files a = HasFilter n devices (λ table. IsWorked n table a)
 
--- After 1: why a specification is refused. Its bytes have a fault, or it can't be generated; no target has the name that it
+-- After 1: why a specification is refused. Its bytes have a fault; no target has the name that it
 -- asks for, or the first of that name has a fixed table and there is a delay line; or its net needs a longer period, or would
 -- have too many signals.
 pub data IsRefusedSpec (file : List ℕ) (devices : List Device) (files : Files) (a : Answer) : Type 0 where
   faulty : (bytes : List ℕ) (fault : SpecFault) → files file ≡ Some bytes → read (tree bytes) ≡ Err fault → a ≡ refused fault
-      → IsRefusedSpec file devices files a
-  unbuilt : (bytes : List ℕ) (spec : Spec) → files file ≡ Some bytes → read (tree bytes) ≡ Ok spec → is_built spec ≡ false → a ≡ unsupported
       → IsRefusedSpec file devices files a
   no_target : (spec : Spec) → HasSpec file files spec → chosen spec.target devices ≡ None → a ≡ unknown_target → IsRefusedSpec file devices files a
   fixed_table : (spec : Spec) (device : Device) → HasSpec file files spec → chosen spec.target devices ≡ Some device → device.adjustable ≡ false
@@ -60,18 +66,27 @@ pub data IsRefusedSpec (file : List ℕ) (devices : List Device) (files : Files)
   short_period : HasTable file devices files (λ spec table. IsTooShort spec table a) → IsRefusedSpec file devices files a
   many_signals : HasTable file devices files (λ spec table. IsTooLarge spec table a) → IsRefusedSpec file devices files a
 
+-- after 1, without a file: no target has the name that the filter asks for, or its net needs a longer period, or would have
+-- too many signals
+pub data IsRefusedFilter (n : ℕ) (devices : List Device) (a : Answer) : Type 0 where
+  filter_without_target : chosen (workload_spec n).target devices ≡ None → a ≡ unknown_target → IsRefusedFilter n devices a
+  filter_of_long_need : HasFilter n devices (λ table. IsTooShort (workload_spec n) table a) → IsRefusedFilter n devices a
+  filter_of_many_signals : HasFilter n devices (λ table. IsTooLarge (workload_spec n) table a) → IsRefusedFilter n devices a
+
 abbrev pub IsRefused : Option Command → List Device → Files → Answer → Type 0
 IsRefused None devices files a = ⊥
-IsRefused (Some (Generate spec)) devices files a = IsRefusedSpec spec devices files a
-IsRefused (Some (Vectors spec)) devices files a = IsRefusedSpec spec devices files a
+IsRefused (Some (Generate spec workers enable)) devices files a = IsRefusedSpec spec devices files a
+IsRefused (Some (Vectors spec seed cycles)) devices files a = IsRefusedSpec spec devices files a
 IsRefused (Some (Simulate vhdl vectors out)) devices files a = ⊥
+IsRefused (Some (Workload n)) devices files a = IsRefusedFilter n devices a
 
 -- after 3: a file that the command takes is not there
 abbrev pub IsMissing : Option Command → Files → Type 0
 IsMissing None files = ⊥
-IsMissing (Some (Generate spec)) files = files spec ≡ None
-IsMissing (Some (Vectors spec)) files = files spec ≡ None
+IsMissing (Some (Generate spec workers enable)) files = files spec ≡ None
+IsMissing (Some (Vectors spec seed cycles)) files = files spec ≡ None
 IsMissing (Some (Simulate vhdl vectors out)) files = (files vhdl ≡ None) ⊎ (files vectors ≡ None)
+IsMissing (Some (Workload n)) files = ⊥
 
 -- after 6: the VHDL has a cause against it
 pub record IsRefusedVhdl (vhdl : List ℕ) (files : Files) (a : Answer) : Type 0 where
@@ -91,10 +106,11 @@ AreVectorsRefused _ files a = ⊥
 -- after 9: a file has more bytes than it may have
 abbrev pub IsTooLong : Option Command → Files → Type 0
 IsTooLong None files = ⊥
-IsTooLong (Some (Generate spec)) files = fetched (files spec) most_bytes ≡ Err fetch.TooLong
-IsTooLong (Some (Vectors spec)) files = fetched (files spec) most_bytes ≡ Err fetch.TooLong
+IsTooLong (Some (Generate spec workers enable)) files = fetched (files spec) most_bytes ≡ Err fetch.TooLong
+IsTooLong (Some (Vectors spec seed cycles)) files = fetched (files spec) most_bytes ≡ Err fetch.TooLong
 IsTooLong (Some (Simulate vhdl vectors out)) files =
     (fetched (files vhdl) most_simulated_bytes ≡ Err fetch.TooLong) ⊎ (fetched (files vectors) most_simulated_bytes ≡ Err fetch.TooLong)
+IsTooLong (Some (Workload n)) files = ⊥
 
 -- each status has its cause
 pub record HasCause (command : Option Command) (devices : List Device) (files : Files) (a : Answer) : Type 0 where
@@ -111,9 +127,9 @@ AnswersHaveCauses = (command : Option Command) (devices : List Device) (files : 
 
 -- a command on a specification
 abbrev pub IsOnSpec : Command → (file : List ℕ) → Type 0
-IsOnSpec (Generate spec) file = spec ≡ file
-IsOnSpec (Vectors spec) file = spec ≡ file
-IsOnSpec (Simulate vhdl vectors out) file = ⊥
+IsOnSpec (Generate spec workers enable) file = spec ≡ file
+IsOnSpec (Vectors spec seed cycles) file = spec ≡ file
+IsOnSpec _ file = ⊥
 
 -- and where the file is not too long, each cause makes its refusal the due answer
 abbrev pub RefusalsAreDue : Type 0

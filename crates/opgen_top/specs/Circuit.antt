@@ -34,7 +34,7 @@ abbrev pub ports_for : Spec → (enable : Bool) → List Port
 ports_for spec enable = map input_port (enable_inputs enable) ++ map (port_of In) (inputs_of spec) ++ map (port_of Out) (outputs_of spec)
 
 -- A design serves a specification at a latency where it has its ports, has a run over each list of words of its inputs, and
--- in each run the outputs of a cycle are good for the inputs up to so many cycles before, where these are in range. Cycles
+-- in each run the outputs of a cycle are good for the inputs up to the cycle so many before, where these are in range. Cycles
 -- are those that count: with a clock enable, the ones in which its word is 1, in their order.
 pub record Serves (spec : Spec) (latency : ℕ) (enable : Bool) (d : Design) : Type 0 where
   pub ports : d.ports ≡ ports_for spec enable

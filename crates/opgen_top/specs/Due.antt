@@ -1,16 +1,18 @@
 -- The answer that is due: by the words of the command line, then by the command's files and what they hold, and by the
 -- targets.
 use Rattle.std.specs.Prelude.{ℕ, ◌≡◌, List, ◌++◌, Option, Some, None, Result, Ok, Err}
+use Rattle.opgen_command.specs.declared.command.Command.{Command}
+use Rattle.opgen_command.specs.declared.command.Command.TheVariants.{Generate, Vectors, Simulate, Workload}
 use Rattle.opgen_io.specs.Answers.{fetched}
 use Rattle.opgen_io.specs.Files.{Files}
 use Rattle.opgen_io.specs.declared.folder.FetchFault.{FetchFault}
 use Rattle.opgen_io.specs.declared.folder.FetchFault.TheVariants as fetch
 use Rattle.opgen_top.specs.Answer.{Answer, usage, read_fault, too_long}
-use Rattle.opgen_top.specs.Command.{Command, Generate, Vectors, Simulate}
 use Rattle.opgen_top.specs.Simulate.{IsSimulated}
 use Rattle.opgen_top.specs.Specified.{IsAnswerToSpec, IsGenerated, IsVectors}
 use Rattle.opgen_top.specs.Stores.{stored_all}
 use Rattle.opgen_top.specs.Targets.{Device}
+use Rattle.opgen_top.specs.Workload.{IsAnswerToWorkload}
 
 -- the most bytes that a specification has
 abbrev pub most_bytes : ℕ
@@ -28,13 +30,14 @@ OnFetch (Err _) a said = a ≡ read_fault
 
 -- The answer of a command. The first file that is not fetched decides, then what the files hold.
 abbrev pub IsAnswerOfCommand : Command → List Device → Files → Answer → Type 0
-IsAnswerOfCommand (Generate spec) devices files a =
-    OnFetch (fetched (files spec) most_bytes) a (λ bytes. IsAnswerToSpec bytes devices IsGenerated a)
-IsAnswerOfCommand (Vectors spec) devices files a =
-    OnFetch (fetched (files spec) most_bytes) a (λ bytes. IsAnswerToSpec bytes devices IsVectors a)
+IsAnswerOfCommand (Generate spec workers enable) devices files a =
+    OnFetch (fetched (files spec) most_bytes) a (λ bytes. IsAnswerToSpec bytes devices (IsGenerated enable) a)
+IsAnswerOfCommand (Vectors spec seed cycles) devices files a =
+    OnFetch (fetched (files spec) most_bytes) a (λ bytes. IsAnswerToSpec bytes devices (IsVectors seed cycles) a)
 IsAnswerOfCommand (Simulate vhdl vectors out) devices files a =
     OnFetch (fetched (files vhdl) most_simulated_bytes) a (λ text.
     OnFetch (fetched (files vectors) most_simulated_bytes) a (λ rows. IsSimulated out text rows a))
+IsAnswerOfCommand (Workload n) devices files a = IsAnswerToWorkload n devices a
 
 abbrev pub IsAnswerOf : Option Command → List Device → Files → Answer → Type 0
 IsAnswerOf None devices files a = a ≡ usage

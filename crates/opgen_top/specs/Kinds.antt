@@ -1,5 +1,5 @@
--- The kinds that can be generated so far, and the net of each: one case a kind.
-use Rattle.std.specs.Prelude.{ℕ, ◌≡◌, Bool, true, false, List, []}
+-- The net of each kind: one case a kind.
+use Rattle.std.specs.Prelude.{ℕ, ◌≡◌, List, []}
 use Rattle.opgen_divide.specs.Recipe.{net_of_pair}
 use Rattle.opgen_fir.specs.Recipe.{net_of_sum}
 use Rattle.opgen_mult.specs.Recipe.{IsNetOfProduct}
@@ -9,19 +9,8 @@ use Rattle.opgen_operator.specs.declared.spec.Spec.{Spec}
 use Rattle.opgen_operator.specs.declared.spec.Operator.{Operator}
 use Rattle.opgen_operator.specs.declared.spec.Operator.TheVariants.{Scale, Fir, Multiply, Divide, Root, Mcm}
 use Rattle.opgen_operator.specs.Fits.{FitsSpec}
+use Rattle.opgen_search.specs.Recipe.{IsAdderSetOf, IsNetOfSeveral}
 use Rattle.opgen_sqrt.specs.Recipe.{net_of_single}
-
--- whether a specification can be generated, for some target and period
-abbrev pub is_built_operator : Operator → Bool
-is_built_operator (Scale sum) = true
-is_built_operator (Fir sum) = true
-is_built_operator (Multiply product) = true
-is_built_operator (Divide pair) = true
-is_built_operator (Root single) = true
-is_built_operator (Mcm several) = false
-
-abbrev pub is_built : Spec → Bool
-is_built spec = is_built_operator spec.op
 
 -- the net of a specification, by the recipe of its kind
 abbrev pub IsNetOfOperator : Operator → Net → Type 0
@@ -30,7 +19,7 @@ IsNetOfOperator (Fir sum) net = net ≡ net_of_sum sum
 IsNetOfOperator (Multiply product) net = IsNetOfProduct product net
 IsNetOfOperator (Divide pair) net = net ≡ net_of_pair pair
 IsNetOfOperator (Root single) net = net ≡ net_of_single single
-IsNetOfOperator (Mcm several) net = ⊥
+IsNetOfOperator (Mcm several) net = IsNetOfSeveral several net
 
 abbrev pub IsNetOf : Spec → Net → Type 0
 IsNetOf spec net = IsNetOfOperator spec.op net
@@ -39,9 +28,13 @@ IsNetOf spec net = IsNetOfOperator spec.op net
 abbrev pub HasOneNet : Type 0
 HasOneNet = (spec : Spec) (a b : Net) → IsNetOf spec a → IsNetOf spec b → a ≡ b
 
--- the numbers of its adder graph: so far no kind has one
+-- the numbers of its adder graph: several constants have one
+abbrev pub AreAddersOfOperator : Operator → List ℕ → Type 0
+AreAddersOfOperator (Mcm several) adders = IsAdderSetOf several adders
+AreAddersOfOperator _ adders = adders ≡ []
+
 abbrev pub AreAddersOf : Spec → List ℕ → Type 0
-AreAddersOf spec adders = adders ≡ []
+AreAddersOf spec adders = AreAddersOfOperator spec.op adders
 
 -- The net of a specification: that of its kind. It fits the specification, and its ports are named as a design asks.
 pub record IsFittingNet (spec : Spec) (net : Net) : Type 0 where

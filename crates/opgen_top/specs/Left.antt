@@ -3,7 +3,7 @@ use Rattle.std.specs.Prelude.{ℕ, ◌≡◌, ◌⊎◌, List, Option, Some}
 use Rattle.opgen_io.specs.Bytes.{TakesPrefix}
 use Rattle.opgen_io.specs.Files.{Files}
 use Rattle.opgen_top.specs.Answer.{Answer}
-use Rattle.opgen_top.specs.Command.{Command}
+use Rattle.opgen_command.specs.declared.command.Command.{Command}
 use Rattle.opgen_top.specs.Due.{IsAnswerOf}
 use Rattle.opgen_top.specs.Lines.{read_fault_line}
 use Rattle.opgen_top.specs.Stores.{stored_all, HasFirst, HasBroken}

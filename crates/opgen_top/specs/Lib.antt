@@ -1,4 +1,3 @@
-pub mod Command
 pub mod Targets
 pub mod Kinds
 pub mod Circuit
@@ -9,6 +8,7 @@ pub mod Stores
 pub mod Answer
 pub mod Specified
 pub mod Simulate
+pub mod Workload
 pub mod Due
 pub mod Headline
 pub mod Left

@@ -11,17 +11,18 @@ use Rattle.opgen_vec.specs.Fault.{fault_text as vectors_fault_text}
 abbrev pub wrote_line : (name : List ℕ) (latency : ℕ) → List ℕ
 wrote_line name latency = codes "wrote " ++ name ++ codes ".vhd and " ++ name ++ codes ".rpt, latency " ++ decimal latency ++ codes "\n"
 
-abbrev pub wrote_vectors_line : (name : List ℕ) → List ℕ
-wrote_vectors_line name = codes "wrote " ++ name ++ codes ".vec, 16 cycles\n"
+abbrev pub wrote_vectors_line : (name : List ℕ) (cycles : ℕ) → List ℕ
+wrote_vectors_line name cycles = codes "wrote " ++ name ++ codes ".vec, " ++ decimal cycles ++ codes " cycles\n"
 
 abbrev pub simulated_line : (rows : ℕ) → List ℕ
 simulated_line rows = codes "simulated " ++ decimal rows ++ codes " cycles\n"
 
+abbrev pub worked_line : (n signals latency good : ℕ) → List ℕ
+worked_line n signals latency good =
+    codes "workload " ++ decimal n ++ codes " signals " ++ decimal signals ++ codes " latency " ++ decimal latency ++ codes " good " ++ decimal good ++ codes "\n"
+
 abbrev pub refused_line : SpecFault → List ℕ
 refused_line fault = codes "specification: " ++ fault_text fault ++ codes "\n"
-
-abbrev pub unsupported_line : List ℕ
-unsupported_line = codes "specification: Unsupported\n"
 
 abbrev pub unknown_target_line : List ℕ
 unknown_target_line = codes "specification: UnknownTarget\n"

@@ -1,14 +1,16 @@
 -- For the functions of this crate alone: an answer before its stores, or why there is none yet.
-use Rattle.std.specs.Prelude.{ℕ, ◌≡◌, ◌⊎◌, ◌≤◌, false, IsTrue, List, [], length, map, Option, Some, None, Result, Ok, Err, Vec, string_bytes}
+use Rattle.std.specs.Prelude.{ℕ, ◌≡◌, ◌⊎◌, ◌≤◌, Bool, List, [], length, map, Option, Some, None, Result, Ok, Err, Vec, string_bytes}
 use Rattle.std.specs.declared.alloc.Global.{Global}
 use Rattle.std.specs.Str.Lines.{lines}
 use Rattle.opgen_io.specs.Answers.{fetched}
 use Rattle.opgen_io.specs.Counts.{Rose, Stood}
 use Rattle.opgen_io.specs.Files.{Files}
 use Rattle.opgen_io.specs.declared.folder.FetchFault.TheVariants as fetch
+use Rattle.opgen_command.specs.declared.command.Command.{Command}
 use Rattle.opgen_design.specs.declared.design.Design.{Design}
 use Rattle.opgen_operator.specs.declared.spec.Spec.{Spec}
 use Rattle.opgen_operator.specs.Valid.{IsValidSpec}
+use Rattle.opgen_pipe.specs.declared.planning.Planned.{Planned}
 use Rattle.opgen_spec.specs.Document.{tree}
 use Rattle.opgen_spec.specs.Faults.{read}
 use Rattle.opgen_target.specs.Delays.{Delays}
@@ -23,25 +25,22 @@ use Rattle.opgen_top.specs.declared.line.Line.{Line}
 use Rattle.opgen_top.specs.declared.line.Line.TheVariants as line
 use Rattle.opgen_top.specs.declared.run_rows.Rows.{Rows}
 use Rattle.opgen_top.specs.declared.specified.Specified.{Specified}
-use Rattle.opgen_top.specs.Answer.{Answer, read_fault, refusal, wrote_vectors}
+use Rattle.opgen_top.specs.Answer.{Answer, read_fault, refusal, worked, wrote_vectors}
 use Rattle.opgen_top.specs.Circuit.{IsCircuit}
-use Rattle.opgen_top.specs.Command.{Command}
 use Rattle.opgen_top.specs.Due.{IsAnswerOf}
-use Rattle.opgen_top.specs.Kinds.{is_built}
-use Rattle.opgen_top.specs.Lines.{not_adjustable_line, read_fault_line, too_large_line, too_long_line, unknown_target_line, unsupported_line, usage_line}
+use Rattle.opgen_top.specs.Lines.{not_adjustable_line, read_fault_line, too_large_line, too_long_line, unknown_target_line, usage_line}
 use Rattle.opgen_top.specs.Printed.{IsLineOf}
 use Rattle.opgen_top.specs.Running.{IsRunText}
-use Rattle.opgen_top.specs.Specified.{cycles, seed}
 use Rattle.opgen_top.specs.Statuses.{Refuses}
 use Rattle.opgen_top.specs.Stores.{Store}
 use Rattle.opgen_top.specs.Targets.{Device, IsTableOf}
+use Rattle.opgen_top.specs.Workload.{RunsGood}
 
 -- the status and the text of a line
 abbrev pub line_status : Line → ℕ
 line_status line.Usage = 2
 line_status line.ReadFault = 3
 line_status line.TooLong = 9
-line_status line.Unsupported = 1
 line_status line.UnknownTarget = 1
 line_status line.NotAdjustable = 1
 line_status line.TooLarge = 1
@@ -54,7 +53,6 @@ abbrev pub line_text : Line → List ℕ
 line_text line.Usage = usage_line
 line_text line.ReadFault = read_fault_line
 line_text line.TooLong = too_long_line
-line_text line.Unsupported = unsupported_line
 line_text line.UnknownTarget = unknown_target_line
 line_text line.NotAdjustable = not_adjustable_line
 line_text line.TooLarge = too_large_line
@@ -89,20 +87,32 @@ abbrev pub Refused : {X : Type 0} → Result X Refusal → (Answer → Type 0) �
 Refused (Ok x) said = Unit {0}
 Refused (Err refusal) said = OnRefusal refusal said
 
--- a specification that the bytes give and that can be built, and its circuit for the target that it names
-pub record IsSpecified (bytes : List ℕ) (devices : List Device) (made : Specified) : Type 0 where
+-- a specification, and its circuit for the target that it names
+pub record IsMadeFor (spec : Spec) (enable : Bool) (devices : List Device) (made : Specified) : Type 0 where
+  pub same : made.spec ≡ spec
+  pub table : Delays
+  pub of_target : IsTableOf spec devices table
+  pub circuit : IsCircuit spec table enable made.circuit.planned made.circuit.adders.items
+
+-- the same, of a specification that the bytes give
+pub record IsSpecified (bytes : List ℕ) (enable : Bool) (devices : List Device) (made : Specified) : Type 0 where
   pub reads : read (tree bytes) ≡ Ok made.spec
   pub valid : IsValidSpec made.spec
-  pub built : IsTrue (is_built made.spec)
   pub table : Delays
   pub of_target : IsTableOf made.spec devices table
-  pub circuit : IsCircuit made.spec table false made.circuit.planned made.circuit.adders.items
+  pub circuit : IsCircuit made.spec table enable made.circuit.planned made.circuit.adders.items
 
 -- an answer that stores the rows of a design over the stimulus of a specification
-pub record HasRows (spec : Spec) (design : Design) (a : Answer) : Type 0 where
+pub record HasRows (spec : Spec) (design : Design) (seed cycles : ℕ) (a : Answer) : Type 0 where
   pub rows : List ℕ
   pub run : IsRunText design cycles (stimulus_cells spec seed cycles) rows
-  pub answer : a ≡ wrote_vectors spec.name rows
+  pub answer : a ≡ wrote_vectors spec.name cycles rows
+
+-- an answer that tells of a run of the filter, and stores none
+pub record HasWorked (n : ℕ) (planned : Planned) (a : Answer) : Type 0 where
+  pub good : ℕ
+  pub judged : RunsGood n planned.design planned.latency good
+  pub answer : a ≡ worked n (length planned.design.signals) planned.latency good
 
 -- an answer has a line of its status, and none that refuses has a store
 pub record IsListed (a : Answer) : Type 0 where

@@ -9,17 +9,17 @@ use Rattle.opgen_spec.specs.declared.fault.SpecFault.{SpecFault}
 use Rattle.opgen_spec.specs.declared.fault.SpecFault.TheVariants as spec_faults
 use Rattle.opgen_vec.specs.declared.fault.VecFault.{VecFault}
 use Rattle.opgen_vec.specs.declared.fault.VecFault.TheVariants as vector_faults
-use Rattle.opgen_top.specs.Lines.{wrote_line, wrote_vectors_line, simulated_line, refused_line, unsupported_line, unknown_target_line, not_adjustable_line, period_too_short_line, too_large_line, usage_line, read_fault_line, vhdl_refused_line, vectors_refused_line, too_long_line}
+use Rattle.opgen_top.specs.Lines.{wrote_line, wrote_vectors_line, simulated_line, worked_line, refused_line, unknown_target_line, not_adjustable_line, period_too_short_line, too_large_line, usage_line, read_fault_line, vhdl_refused_line, vectors_refused_line, too_long_line}
 use Rattle.opgen_top.specs.Statuses.{HasLine}
 
 -- The lines of each status. A name is one that a specification may have, and a fault is one of a file, which want of memory
 -- is not.
 pub data IsLineOf (status : ℕ) (line : List ℕ) : Type 0 where
   wrote : (name : List ℕ) (latency : ℕ) → IsTrue (is_spec_name name) → status ≡ 0 → line ≡ wrote_line name latency → IsLineOf status line
-  wrote_vectors : (name : List ℕ) → IsTrue (is_spec_name name) → status ≡ 0 → line ≡ wrote_vectors_line name → IsLineOf status line
+  wrote_vectors : (name : List ℕ) (cycles : ℕ) → IsTrue (is_spec_name name) → status ≡ 0 → line ≡ wrote_vectors_line name cycles → IsLineOf status line
   simulated : (rows : ℕ) → status ≡ 0 → line ≡ simulated_line rows → IsLineOf status line
+  worked : (n signals latency good : ℕ) → status ≡ 0 → line ≡ worked_line n signals latency good → IsLineOf status line
   refused : (fault : SpecFault) → fault ≢ spec_faults.Memory → status ≡ 1 → line ≡ refused_line fault → IsLineOf status line
-  unsupported : status ≡ 1 → line ≡ unsupported_line → IsLineOf status line
   unknown_target : status ≡ 1 → line ≡ unknown_target_line → IsLineOf status line
   not_adjustable : status ≡ 1 → line ≡ not_adjustable_line → IsLineOf status line
   period_too_short : (need : ℕ) → status ≡ 1 → line ≡ period_too_short_line need → IsLineOf status line

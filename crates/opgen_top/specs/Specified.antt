@@ -12,34 +12,28 @@ use Rattle.opgen_spec.specs.Faults.{read}
 use Rattle.opgen_target.specs.Delays.{Delays}
 use Rattle.opgen_vhdl.specs.DesignText.{text_of}
 use Rattle.opgen_vec.specs.Stimulus.{stimulus_cells}
-use Rattle.opgen_top.specs.Answer.{Answer, refused, unsupported, unknown_target, not_adjustable, period_too_short, too_large, wrote, wrote_vectors}
+use Rattle.opgen_top.specs.Answer.{Answer, refused, unknown_target, not_adjustable, period_too_short, too_large, wrote, wrote_vectors}
 use Rattle.opgen_top.specs.Circuit.{IsCircuit, signals_of}
-use Rattle.opgen_top.specs.Kinds.{is_built, IsFittingNet}
+use Rattle.opgen_top.specs.Kinds.{IsFittingNet}
 use Rattle.opgen_top.specs.Running.{IsRunText}
 use Rattle.opgen_top.specs.Targets.{Device, chosen, takes_lines, tuned}
 
--- `generate` stores the text of the circuit and its report, and tells its latency
-pub record IsGenerated (spec : Spec) (table : Delays) (a : Answer) : Type 0 where
+-- `generate` stores the text of the circuit, which has the clock enable where that is asked for, and its report, and tells
+-- its latency
+pub record IsGenerated (enable : Bool) (spec : Spec) (table : Delays) (a : Answer) : Type 0 where
   pub planned : Planned
   pub adders : List ℕ
-  pub circuit : IsCircuit spec table false planned adders
+  pub circuit : IsCircuit spec table enable planned adders
   pub answer : a ≡ wrote spec.name planned.latency (text_of planned.design) (report spec planned adders)
 
--- so many cycles, drawn from this seed
-abbrev pub cycles : ℕ
-cycles = 16
-
-abbrev pub seed : ℕ
-seed = 0
-
--- `vectors` stores the rows of the stimulus and of the outputs, in the run of that circuit
-pub record IsVectors (spec : Spec) (table : Delays) (a : Answer) : Type 0 where
+-- `vectors` stores the rows of the stimulus and of the outputs, in the run of the circuit without a clock enable
+pub record IsVectors (seed cycles : ℕ) (spec : Spec) (table : Delays) (a : Answer) : Type 0 where
   pub planned : Planned
   pub adders : List ℕ
   pub circuit : IsCircuit spec table false planned adders
   pub rows : List ℕ
   pub run : IsRunText planned.design cycles (stimulus_cells spec seed cycles) rows
-  pub answer : a ≡ wrote_vectors spec.name rows
+  pub answer : a ≡ wrote_vectors spec.name cycles rows
 
 -- the period is too short for the net, which has a longer need
 pub record IsTooShort (spec : Spec) (table : Delays) (a : Answer) : Type 0 where
@@ -70,14 +64,9 @@ abbrev pub OnTarget : Option Device → Spec → Answer → (said : Delays → T
 OnTarget (Some device) spec a said = OnLines (takes_lines device.adjustable spec.delays) a (said (tuned device.delays spec.delays))
 OnTarget None spec a said = a ≡ unknown_target
 
--- by whether a specification can be generated: what is said, or the refusal
-abbrev pub OnBuilt : Bool → Answer → (said : Type 0) → Type 0
-OnBuilt true a said = said
-OnBuilt false a said = a ≡ unsupported
-
--- by what reading a document gives: the same of the specification, or the refusal of the first fault
+-- by what reading a document gives: what is said of the specification, or the refusal of the first fault
 abbrev pub OnReading : Result Spec SpecFault → Answer → (said : Spec → Type 0) → Type 0
-OnReading (Ok spec) a said = OnBuilt (is_built spec) a (said spec)
+OnReading (Ok spec) a said = said spec
 OnReading (Err fault) a said = a ≡ refused fault
 
 -- by the bytes and the targets, what is said of the specification and its target's table

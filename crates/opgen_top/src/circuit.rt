@@ -1,8 +1,8 @@
 //! The circuit of a specification.
-ghost use Rattle.std.specs.Prelude.{◌≡◌, [], false, IfOk, IsTrue, string_bytes};
+ghost use Rattle.std.specs.Prelude.{◌≡◌, ◌≤◌, [], IfOk, string_bytes};
 ghost use Rattle.opgen_operator.specs.Valid.{IsValidSpec};
 ghost use Rattle.opgen_top.specs.Circuit.{IsCircuit};
-ghost use Rattle.opgen_top.specs.Kinds.{is_built, AreAddersOf, IsFittingNet};
+ghost use Rattle.opgen_top.specs.Kinds.{AreAddersOf, IsFittingNet};
 ghost use Rattle.opgen_top.specs.Lines.{period_too_short_line};
 ghost use Rattle.opgen_top.specs.Prepared.{IsListed, Refused};
 ghost use Rattle.opgen_top.specs.Specified.{OnTable};
@@ -12,11 +12,13 @@ use crate::line::Line;
 use opgen_net::Net;
 use opgen_num::Memory;
 use opgen_pipe::{PlanFault, Planned, plan};
+use opgen_search::Gate;
 use opgen_spec::{Operator, Spec};
 use opgen_target::Target;
 use std::alloc::{AllocError, Global};
+use std::thread::Threads;
 
-/// The net of a specification, and the numbers that its constants share, if it has several.
+/// The net of a specification, and the numbers of its adder graph, if its kind has one.
 #[derive(Drop)]
 pub(crate) struct Built {
     pub net: Net,
@@ -41,10 +43,16 @@ fn alone(alloc: Global, net: Net) -> Built
     }
 }
 
-/// The net of a specification, by its kind.
-pub(crate) fn net_of(alloc: Global, spec: &Spec) -> Result<Built, Memory>
+/// The net of a specification, by its kind. A least set of adders is sought by so many workers.
+pub(crate) fn net_of<R: Threads + Sync, G: Gate + Sync>(
+    rt: &R,
+    alloc: Global,
+    spec: &Spec,
+    workers: u32,
+    gate: &G,
+) -> Result<Built, Memory>
     requires valid { IsValidSpec spec.now }
-    requires built { IsTrue (is_built spec.now) }
+    requires workers { (1 ≤ workers) × (workers ≤ 32) }
     ensures net { IfOk result (λ made. IsFittingNet spec.now made.net) }
     ensures adders { IfOk result (λ made. AreAddersOf spec.now made.adders.items) }
 {
@@ -54,7 +62,13 @@ pub(crate) fn net_of(alloc: Global, spec: &Spec) -> Result<Built, Memory>
         Operator::Multiply(product) => Ok(alone(alloc, opgen_mult::build(alloc, product)?)),
         Operator::Divide(pair) => Ok(alone(alloc, opgen_divide::build(alloc, pair)?)),
         Operator::Root(single) => Ok(alone(alloc, opgen_sqrt::build(alloc, single)?)),
-        Operator::Mcm(_) => unreachable!(),
+        Operator::Mcm(several) => {
+            let built = opgen_search::build(rt, alloc, several, workers, gate)?;
+            Ok(Built {
+                net: built.net,
+                adders: built.adders.into_vec(),
+            })
+        }
     }
 }
 
@@ -64,21 +78,25 @@ fn too_short_line(alloc: Global, need: u64) -> Result<String, AllocError>
     format!(in alloc; "specification: PeriodTooShort {need}\n")
 }
 
-/// The circuit of a specification that can be generated, for a target.
-pub(crate) fn circuit_of(
+/// The circuit of a specification, for a target.
+pub(crate) fn circuit_of<R: Threads + Sync, G: Gate + Sync>(
+    rt: &R,
     alloc: Global,
     spec: &Spec,
+    enable: bool,
+    workers: u32,
     target: &mut Box<dyn Target>,
+    gate: &G,
 ) -> Result<Circuit, Refusal>
     requires valid { IsValidSpec spec.now }
-    requires built { IsTrue (is_built spec.now) }
-    ensures circuit { IfOk result (λ c. IsCircuit spec.now (delays target.old) false c.planned c.adders.items) }
+    requires workers { (1 ≤ workers) × (workers ≤ 32) }
+    ensures circuit { IfOk result (λ c. IsCircuit spec.now (delays target.old) enable c.planned c.adders.items) }
     ensures refused { Refused result (λ a. OnTable spec.now (delays target.old) a ⊥) }
     ensures listed { Refused result IsListed }
 {
-    let made = net_of(alloc, spec)?;
+    let made = net_of(rt, alloc, spec, workers, gate)?;
     let name = spec.name.as_str();
-    match plan(alloc, &made.net, name, false, target, spec.period) {
+    match plan(alloc, &made.net, name, enable, target, spec.period) {
         Ok(planned) => Ok(Circuit {
             planned,
             adders: made.adders,

@@ -1,5 +1,5 @@
 //! From the bytes of a specification to what `generate` answers.
-ghost use Rattle.std.specs.Prelude.{◌≡◌, IfOk, string_bytes};
+ghost use Rattle.std.specs.Prelude.{◌≡◌, ◌≤◌, IfOk, string_bytes};
 ghost use Rattle.opgen_operator.specs.Valid.{IsValidSpec};
 ghost use Rattle.opgen_report.specs.Report.{report};
 ghost use Rattle.opgen_vhdl.specs.DesignText.{text_of};
@@ -13,9 +13,11 @@ use crate::answer::{Answer, NewFile, Refusal, with_files};
 use crate::specified::{Specified, specified_by};
 use opgen_num::Memory;
 use opgen_report::report_text;
+use opgen_search::Gate;
 use opgen_target::Target;
 use opgen_write::text;
 use std::alloc::{AllocError, Global};
+use std::thread::Threads;
 
 fn vhdl_name(alloc: Global, name: &str) -> Result<String, AllocError>
     ensures { IfOk result (λ file. string_bytes file ≡ vhdl_name name.now) }
@@ -60,15 +62,20 @@ fn written(alloc: Global, made: &Specified) -> Result<Answer, Memory>
 }
 
 /// What `generate` answers to the bytes of a specification.
-pub(crate) fn generated(
+pub(crate) fn generated<R: Threads + Sync, G: Gate + Sync>(
+    rt: &R,
     alloc: Global,
     bytes: &[u8],
+    enable: bool,
+    workers: u32,
     targets: Vec<Box<dyn Target>>,
+    gate: &G,
 ) -> Result<Answer, Refusal>
-    ensures answer { Answers result (IsAnswerToSpec bytes.now (devices_of target_name delays adjustable targets.items) IsGenerated) }
+    requires workers { (1 ≤ workers) × (workers ≤ 32) }
+    ensures answer { Answers result (IsAnswerToSpec bytes.now (devices_of target_name delays adjustable targets.items) (IsGenerated enable)) }
     ensures listed { Answers result IsListed }
 {
-    match specified_by(alloc, bytes, targets) {
+    match specified_by(rt, alloc, bytes, enable, workers, targets, gate) {
         Ok(made) => Ok(written(alloc, &made)?),
         Err(refusal) => Err(refusal),
     }

@@ -11,6 +11,8 @@ pub fn one_answer()
     ensures { HasOneAnswer }
 {
     opgen_mult::one_net();
+    opgen_search::one_net();
+    opgen_search::one_adder_set();
 }
 
 /// Each status of an answer that is due says what the words, the targets and the files are.
@@ -28,6 +30,8 @@ pub fn one_net()
     ensures { HasOneNet }
 {
     opgen_mult::one_net();
+    opgen_search::one_net();
+    opgen_search::one_adder_set();
 }
 
 /// A specification leaves at most one circuit for a table of delays: `generate` stores it, and `vectors` runs it.
@@ -35,6 +39,8 @@ pub fn one_circuit()
     ensures { HasOneCircuit }
 {
     opgen_mult::one_net();
+    opgen_search::one_net();
+    opgen_search::one_adder_set();
 }
 
 /// Each circuit is sound.

@@ -3,9 +3,7 @@
 
 mod answer;
 mod circuit;
-mod command;
 mod generate;
-mod kinds;
 mod laws;
 mod line;
 mod prepare;
@@ -17,13 +15,15 @@ mod status;
 mod store_all;
 mod targets;
 mod vectors;
+mod workload;
 
-pub use kinds::built;
 pub use laws::{
     answers_have_causes, circuits_are_sound, circuits_serve, lines_are_fixed, one_answer,
     one_circuit, one_net, refusals_are_due,
 };
+pub use opgen_search::{Gate, OpenGate};
 pub use opgen_target::Target;
+pub use opgen_workload::workload_spec;
 pub use opgen_write::{VecSink, WriteFault, write_design};
 pub use program::run;
 pub use status::Status;

@@ -7,7 +7,6 @@ pub enum Line {
     Usage,
     ReadFault,
     TooLong,
-    Unsupported,
     UnknownTarget,
     NotAdjustable,
     TooLarge,
@@ -17,7 +16,7 @@ pub enum Line {
     VhdlRefused(String),
     /// The whole line that names a fault of the vectors.
     VectorsRefused(String),
-    /// The whole line that tells of the stored files.
+    /// The whole line that tells of the stored files, or of the run that stored none.
     Wrote(String),
 }
 
@@ -32,11 +31,7 @@ impl Line {
     {
         match self {
             Line::Wrote(_) => 0,
-            Line::Unsupported
-            | Line::UnknownTarget
-            | Line::NotAdjustable
-            | Line::TooLarge
-            | Line::Refused(_) => 1,
+            Line::UnknownTarget | Line::NotAdjustable | Line::TooLarge | Line::Refused(_) => 1,
             Line::Usage => 2,
             Line::ReadFault => 3,
             Line::VhdlRefused(_) => 6,
@@ -53,7 +48,6 @@ impl Line {
             Line::Usage => "usage: opgen COMMAND (generate, vectors, simulate, workload, check)\n",
             Line::ReadFault => "read fault\n",
             Line::TooLong => "too long\n",
-            Line::Unsupported => "specification: Unsupported\n",
             Line::UnknownTarget => "specification: UnknownTarget\n",
             Line::NotAdjustable => "specification: NotAdjustable\n",
             Line::TooLarge => "specification: TooLarge\n",

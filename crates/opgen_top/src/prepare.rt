@@ -1,18 +1,22 @@
 //! Commands before their stores.
-ghost use Rattle.std.specs.Prelude.{◌≡◌, List, Some};
-ghost use Rattle.opgen_top.specs.Command.{plain, Generate, Vectors, Simulate};
+ghost use Rattle.std.specs.Prelude.{◌≡◌, ◌≤◌, List, Some};
+ghost use Rattle.opgen_command.specs.Command.{HasRanges};
+ghost use Rattle.opgen_command.specs.declared.command.Command.TheVariants.{Generate, Vectors, Simulate};
 ghost use Rattle.opgen_top.specs.Prepared.{Answers, Fetches, IsPrepared, Kept};
 ghost use Rattle.opgen_top.specs.Targets.{Device, devices_of};
 
 use crate::answer::{Answer, Refusal};
-use crate::command::Command;
 use crate::generate::generated;
 use crate::line::Line;
 use crate::simulate::simulated;
 use crate::vectors::vectors_of;
+use crate::workload::workload;
+use opgen_command::Command;
 use opgen_io::{FetchFault, Folder};
+use opgen_search::Gate;
 use opgen_target::Target;
 use std::alloc::Global;
+use std::thread::Threads;
 
 /// The most bytes that a specification has.
 const MAX_SPEC_LEN: usize = 1_048_576;
@@ -21,23 +25,39 @@ const MAX_SPEC_LEN: usize = 1_048_576;
 const MAX_SIMULATED_LEN: usize = 67_108_864;
 
 /// What a command answers to its files, before anything is stored. The folder's files stay as they are.
-pub(crate) fn prepare<F: Folder>(
+pub(crate) fn prepare<R: Threads + Sync, F: Folder, G: Gate + Sync>(
+    rt: &R,
     alloc: Global,
-    asked: Command<'_>,
+    asked: &Command,
     folder: &mut F,
     targets: Vec<Box<dyn Target>>,
+    gate: &G,
 ) -> Result<Answer, Refusal>
+    requires { HasRanges asked.now }
     ensures told_same { F.told folder.new ≡ F.told folder.old }
     ensures write_faults_same { F.write_faults folder.new ≡ F.write_faults folder.old }
-    ensures prepared { Answers result (IsPrepared (Some (plain asked.entry))
+    ensures prepared { Answers result (IsPrepared (Some asked.now)
         (devices_of target_name delays adjustable targets.items) (F.told folder.old)
         (record { faults = F.read_faults folder.old; lacks = F.lacks folder.old; longs = F.longs folder.old })
         (record { faults = F.read_faults folder.new; lacks = F.lacks folder.new; longs = F.longs folder.new })) }
 {
     match asked {
-        Command::Generate { spec } => generate(alloc, spec, folder, targets),
-        Command::Vectors { spec } => vectors(alloc, spec, folder, targets),
-        Command::Simulate { vhdl, vectors, out } => simulate(alloc, vhdl, vectors, out, folder),
+        Command::Generate {
+            spec,
+            workers,
+            enable,
+        } => {
+            let spec = spec.as_str();
+            generate(rt, alloc, spec, *workers, *enable, folder, targets, gate)
+        }
+        Command::Vectors { spec, seed, cycles } => {
+            let spec = spec.as_str();
+            vectors(rt, alloc, spec, *seed, *cycles, folder, targets, gate)
+        }
+        Command::Simulate { vhdl, vectors, out } => {
+            simulate(alloc, vhdl.as_str(), vectors.as_str(), out.as_str(), folder)
+        }
+        Command::Workload { n } => workload(rt, alloc, *n, targets, gate),
     }
 }
 
@@ -65,15 +85,20 @@ fn fetch<F: Folder>(
     }
 }
 
-fn generate<F: Folder>(
+fn generate<R: Threads + Sync, F: Folder, G: Gate + Sync>(
+    rt: &R,
     alloc: Global,
     spec: &str,
+    workers: u32,
+    enable: bool,
     folder: &mut F,
     targets: Vec<Box<dyn Target>>,
+    gate: &G,
 ) -> Result<Answer, Refusal>
+    requires { (1 ≤ workers) × (workers ≤ 32) }
     ensures told_same { F.told folder.new ≡ F.told folder.old }
     ensures write_faults_same { F.write_faults folder.new ≡ F.write_faults folder.old }
-    ensures prepared { Answers result (IsPrepared (Some (Generate spec.now))
+    ensures prepared { Answers result (IsPrepared (Some (Generate spec.now workers enable))
         (devices_of target_name delays adjustable targets.items) (F.told folder.old)
         (record { faults = F.read_faults folder.old; lacks = F.lacks folder.old; longs = F.longs folder.old })
         (record { faults = F.read_faults folder.new; lacks = F.lacks folder.new; longs = F.longs folder.new })) }
@@ -82,18 +107,22 @@ fn generate<F: Folder>(
         Ok(bytes) => bytes,
         Err(refusal) => return Err(refusal),
     };
-    generated(alloc, &bytes, targets)
+    generated(rt, alloc, &bytes, enable, workers, targets, gate)
 }
 
-fn vectors<F: Folder>(
+fn vectors<R: Threads + Sync, F: Folder, G: Gate + Sync>(
+    rt: &R,
     alloc: Global,
     spec: &str,
+    seed: u32,
+    cycles: u32,
     folder: &mut F,
     targets: Vec<Box<dyn Target>>,
+    gate: &G,
 ) -> Result<Answer, Refusal>
     ensures told_same { F.told folder.new ≡ F.told folder.old }
     ensures write_faults_same { F.write_faults folder.new ≡ F.write_faults folder.old }
-    ensures prepared { Answers result (IsPrepared (Some (Vectors spec.now))
+    ensures prepared { Answers result (IsPrepared (Some (Vectors spec.now seed cycles))
         (devices_of target_name delays adjustable targets.items) (F.told folder.old)
         (record { faults = F.read_faults folder.old; lacks = F.lacks folder.old; longs = F.longs folder.old })
         (record { faults = F.read_faults folder.new; lacks = F.lacks folder.new; longs = F.longs folder.new })) }
@@ -102,7 +131,7 @@ fn vectors<F: Folder>(
         Ok(bytes) => bytes,
         Err(refusal) => return Err(refusal),
     };
-    vectors_of(alloc, &document, targets)
+    vectors_of(rt, alloc, &document, seed, cycles, targets, gate)
 }
 
 fn simulate<F: Folder>(

@@ -1,9 +1,10 @@
 //! All that the program does.
-ghost use Rattle.std.specs.Prelude.{◌≡◌, ◌⊎◌, ◌++◌, ℕ, List, map, None, Some, is_some, string_bytes, IfOk, Ok};
+ghost use Rattle.std.specs.Prelude.{◌≡◌, ◌⊎◌, ◌++◌, ℕ, Bool, List, map, None, Some, is_some, string_bytes, IfOk, Ok};
+ghost use Rattle.opgen_command.specs.declared.command.Command.TheVariants.{Generate};
 ghost use Rattle.opgen_io.specs.Bytes.{TakesPrefix};
 ghost use Rattle.opgen_io.specs.Counts.{Rose, Stood};
 ghost use Rattle.opgen_io.specs.Files.{Files};
-ghost use Rattle.opgen_top.specs.Command.{command_of, Generate};
+ghost use Rattle.opgen_command.specs.Command.{command_of};
 ghost use Rattle.opgen_top.specs.Due.{IsAnswered};
 ghost use Rattle.opgen_top.specs.Headline.{Headline};
 ghost use Rattle.opgen_top.specs.Left.{LeftByFault, LeftByMemory};
@@ -13,22 +14,27 @@ ghost use Rattle.opgen_top.specs.Statuses.{IsDueStatus, IsSilent, IsStatus, Refu
 ghost use Rattle.opgen_top.specs.Targets.{devices_of};
 
 use crate::answer::{Answer, Refusal, without_file};
-use crate::command::command_of;
+use crate::laws::circuits_serve;
 use crate::line::Line;
 use crate::prepare::prepare;
 use crate::status::Status;
 use crate::store_all::store_all;
+use opgen_command::{CommandFault, read_command};
 use opgen_io::{Folder, PutFault, Sink, StoreFault};
 use opgen_num::Memory;
+use opgen_search::Gate;
 use opgen_target::Target;
 use std::alloc::Global;
+use std::thread::Threads;
 
 /// What is answered to the words. The folder's files stay as they are.
-fn answer<F: Folder>(
+fn answer<R: Threads + Sync, F: Folder, G: Gate + Sync>(
+    rt: &R,
     alloc: Global,
     words: &[String],
     folder: &mut F,
     targets: Vec<Box<dyn Target>>,
+    gate: &G,
 ) -> Result<Answer, Memory>
     ensures told_same { F.told folder.new ≡ F.told folder.old }
     ensures write_faults_same { F.write_faults folder.new ≡ F.write_faults folder.old }
@@ -40,10 +46,12 @@ fn answer<F: Folder>(
         (record { faults = F.read_faults folder.new; lacks = F.lacks folder.new; longs = F.longs folder.new })
         (answer_of a)) }
 {
-    let Some(asked) = command_of(words) else {
-        return Ok(without_file(alloc, Line::Usage));
+    let asked = match read_command(alloc, words) {
+        Ok(asked) => asked,
+        Err(CommandFault::Usage) => return Ok(without_file(alloc, Line::Usage)),
+        Err(CommandFault::Memory) => return Err(Memory),
     };
-    match prepare(alloc, asked, folder, targets) {
+    match prepare(rt, alloc, &asked, folder, targets, gate) {
         Ok(answer) => Ok(answer),
         Err(Refusal::Line(line)) => Ok(without_file(alloc, line)),
         Err(Refusal::Memory) => Err(Memory),
@@ -72,18 +80,28 @@ fn printed<K: Sink>(line: &Line, out: &mut K) -> Status
 ///
 /// - `generate SPEC` reads the specification SPEC from the folder, stores the VHDL of its circuit
 ///   under `<name>.vhd` and the report on it under `<name>.rpt`, and prints a line with its latency.
-/// - `vectors SPEC` stores the rows of that circuit over its stimulus under `<name>.vec`.
+///   With `--enable` the circuit has a port `ce` before the others, its registers hold where that is
+///   0, and its latency counts the cycles in which it is 1.
+/// - `vectors SPEC` stores the rows of the circuit without that port over its stimulus under
+///   `<name>.vec`.
 /// - `simulate VHDL VECTORS OUT` runs the design of VHDL over the rows of VECTORS and stores the rows
 ///   of its inputs and outputs under OUT.
+/// - `workload N` plans and runs a filter that is made from the number, stores nothing, and prints a
+///   line with the number of its signals, its latency, and how many cycles of the run are good.
 ///
 /// A circuit is planned for the first of `targets` that has the name in its specification, whose
 /// table of delays is changed by the delay lines there, in order. All targets are dropped.
-pub fn run<F: Folder, K: Sink>(
+///
+/// A least set of adders is sought on as many threads as `--workers` says, by default one; the
+/// answer does not depend on their number. The gate is told of each piece of that search.
+pub fn run<R: Threads + Sync, F: Folder, K: Sink, G: Gate + Sync>(
+    rt: &R,
     alloc: Global,
     words: &[String],
     folder: &mut F,
     out: &mut K,
     targets: Vec<Box<dyn Target>>,
+    gate: &G,
 ) -> Status
     ensures statuses { IsStatus result.0 }
 
@@ -130,12 +148,15 @@ pub fn run<F: Folder, K: Sink>(
         IsPrinted result.0 (K.faults out.old) (K.faults out.new) held (K.taken out.new) }
     ensures sink_tells { is_some (K.taken out.new) ≡ is_some (K.taken out.old) }
 
-    ensures headline { (file : List ℕ) → command_of (map string_bytes words.now) ≡ Some (Generate file) →
+    ensures headline { (file : List ℕ) (workers : ℕ) (enable : Bool) →
+        command_of (map string_bytes words.now) ≡ Some (Generate file workers enable) →
         (files : Files) → F.told folder.old ≡ Some files → result.0 ≡ 0 →
-        Headline file (devices_of target_name delays adjustable targets.items) files
+        Headline file enable (devices_of target_name delays adjustable targets.items) files
         (F.told folder.new) (K.taken out.old) (K.taken out.new) }
 {
-    let answer = match answer(alloc, words, folder, targets) {
+    // The headline says what the law says of the circuit.
+    circuits_serve();
+    let answer = match answer(rt, alloc, words, folder, targets, gate) {
         Ok(answer) => answer,
         Err(_) => return Status(5),
     };

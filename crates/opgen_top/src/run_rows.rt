@@ -38,7 +38,7 @@ pub(crate) fn port_widths(alloc: Global, ports: &[Port], dir: Dir) -> Result<Vec
 }
 
 /// The numbers at the output ports, cycle after cycle.
-fn run_rows(
+pub(crate) fn run_rows(
     alloc: Global,
     design: &Design,
     in_columns: usize,

@@ -13,13 +13,11 @@ use crate::answer::{Answer, Refusal, with_file};
 use crate::run_rows::{Rows, run_text};
 use crate::specified::{Specified, specified_by};
 use opgen_num::Memory;
+use opgen_search::Gate;
 use opgen_target::Target;
 use opgen_vec::stimulus;
 use std::alloc::{AllocError, Global};
-
-const SEED: u64 = 0;
-
-const CYCLES: u32 = 16;
+use std::thread::Threads;
 
 fn vectors_name(alloc: Global, name: &str) -> Result<String, AllocError>
     ensures { IfOk result (λ file. string_bytes file ≡ vectors_name name.now) }
@@ -27,44 +25,51 @@ fn vectors_name(alloc: Global, name: &str) -> Result<String, AllocError>
     format!(in alloc; "{name}.vec")
 }
 
-fn wrote_vectors_line(alloc: Global, name: &str) -> Result<String, AllocError>
-    ensures { IfOk result (λ line. string_bytes line ≡ wrote_vectors_line name.now) }
+fn wrote_vectors_line(alloc: Global, name: &str, cycles: u32) -> Result<String, AllocError>
+    ensures { IfOk result (λ line. string_bytes line ≡ wrote_vectors_line name.now cycles) }
 {
-    format!(in alloc; "wrote {name}.vec, 16 cycles\n")
+    let mut line = String::new(alloc);
+    write!(line, "wrote {name}.vec, ")?;
+    writeln!(line, "{cycles} cycles")?;
+    Ok(line)
 }
 
 /// The rows of a circuit over its stimulus, with the line that tells of them.
-fn ran(alloc: Global, made: &Specified) -> Result<Answer, Memory>
+fn ran(alloc: Global, made: &Specified, seed: u32, cycles: u32) -> Result<Answer, Memory>
     requires valid { IsValidSpec made.now.spec }
     requires sound { IsSound made.now.circuit.planned.design }
     requires numbers { HasNumbers made.now.circuit.planned.design }
     requires ports { made.now.circuit.planned.design.ports ≡ ports_for made.now.spec false }
-    ensures { IfOk result (λ a. HasRows made.now.spec made.now.circuit.planned.design (answer_of a)) }
+    ensures { IfOk result (λ a. HasRows made.now.spec made.now.circuit.planned.design seed cycles (answer_of a)) }
 {
     let rows = Rows {
-        count: CYCLES,
-        inputs: stimulus(alloc, &made.spec, SEED, CYCLES)?,
+        count: cycles,
+        inputs: stimulus(alloc, &made.spec, seed as u64, cycles)?,
     };
     let name = made.spec.name.as_str();
     Ok(with_file(
         alloc,
-        wrote_vectors_line(alloc, name)?,
+        wrote_vectors_line(alloc, name, cycles)?,
         vectors_name(alloc, name)?,
         run_text(alloc, &made.circuit.planned.design, &rows)?,
     )?)
 }
 
 /// What `vectors` answers to the bytes of a specification.
-pub(crate) fn vectors_of(
+pub(crate) fn vectors_of<R: Threads + Sync, G: Gate + Sync>(
+    rt: &R,
     alloc: Global,
     bytes: &[u8],
+    seed: u32,
+    cycles: u32,
     targets: Vec<Box<dyn Target>>,
+    gate: &G,
 ) -> Result<Answer, Refusal>
-    ensures answer { Answers result (IsAnswerToSpec bytes.now (devices_of target_name delays adjustable targets.items) IsVectors) }
+    ensures answer { Answers result (IsAnswerToSpec bytes.now (devices_of target_name delays adjustable targets.items) (IsVectors seed cycles)) }
     ensures listed { Answers result IsListed }
 {
-    match specified_by(alloc, bytes, targets) {
-        Ok(made) => Ok(ran(alloc, &made)?),
+    match specified_by(rt, alloc, bytes, false, 1, targets, gate) {
+        Ok(made) => Ok(ran(alloc, &made, seed, cycles)?),
         Err(refusal) => Err(refusal),
     }
 }

@@ -11,3 +11,4 @@ mod Bodies
 mod Writable
 pub mod Designs
 pub mod Lengths
+mod Paging

@@ -1,14 +1,18 @@
-//! The text of an architecture.
-ghost use Rattle.std.specs.Prelude.{◌≡◌, ◌++◌, OnOk, string_bytes};
+//! The text of an architecture, put statement by statement.
+ghost use Rattle.std.specs.Prelude.{◌≡◌, ◌++◌, OnOk, IfOk, string_bytes, codes};
 ghost use Rattle.std.specs.List.{flat_map, list_any};
 ghost use Rattle.opgen_design.specs.Order.{is_register};
-ghost use Rattle.opgen_vhdl.specs.DesignText.{initial_text, signal_text, is_output, is_neither, enable_text, end_enable_text, drivers_text, process_text, architecture_text};
+ghost use Rattle.opgen_vhdl.specs.DesignText.{initial_text, signal_text, is_output, enable_text, end_enable_text, driver_text, drivers_text, process_text, architecture_text};
+ghost use Rattle.opgen_write.specs.Pages.{Comes};
+ghost use Rattle.opgen_write.specs.Places.{stands_in};
 
 use crate::expression::{port_name, put_range, put_word};
+use crate::page::{Page, put_bytes, put_made};
 use crate::statement::put_driver;
 use opgen_design::{Design, Driver, Signal};
+use opgen_io::Sink;
 use opgen_num::Word;
-use std::alloc::AllocError;
+use std::alloc::{AllocError, Global};
 
 fn put_initial(out: &mut String, initial: Option<Word>) -> Result<(), AllocError>
     ensures { OnOk result (string_bytes out.new ≡ string_bytes out.old ++ initial_text initial) }
@@ -30,15 +34,6 @@ fn put_signal(out: &mut String, signal: &Signal) -> Result<(), AllocError>
     put_range(out, signal.width.saturating_sub(1), 0)?;
     put_initial(out, signal.initial)?;
     out.push_str(";\n")?;
-    Ok(())
-}
-
-fn put_signals(out: &mut String, design: &Design) -> Result<(), AllocError>
-    ensures { OnOk result (string_bytes out.new ≡ string_bytes out.old ++ flat_map signal_text design.now.signals) }
-{
-    'signals: for signal in design.signals.as_slice() {
-        put_signal(out, signal)?;
-    }
     Ok(())
 }
 
@@ -64,88 +59,107 @@ fn has_register(design: &Design) -> bool
         .any(|driver| is_register(driver))
 }
 
-// The drivers of signals outside the process.
-#[tactic(auto, unfolding(opgen_vhdl::specs::DesignText::drivers_text))]
-fn put_concurrent(out: &mut String, design: &Design) -> Result<(), AllocError>
-    ensures { OnOk result (string_bytes out.new ≡ string_bytes out.old ++ drivers_text design.now is_neither) }
+// Where a driver's statement stands: after `begin`, in the process of the registers, or before the end.
+#[derive(Clone, Copy)]
+enum Place {
+    Statements,
+    Process,
+    Outputs,
+}
+
+fn stands_in(place: Place, driver: &Driver) -> bool
+    ensures { result ≡ stands_in place driver.now }
+{
+    match place {
+        Place::Statements => !is_register(driver) && !is_output(driver),
+        Place::Process => is_register(driver),
+        Place::Outputs => is_output(driver),
+    }
+}
+
+fn signal_line(alloc: Global, signal: &Signal) -> Result<String, AllocError>
+    ensures { IfOk result (λ text. string_bytes text ≡ signal_text signal.now) }
+{
+    let mut text = String::new(alloc);
+    put_signal(&mut text, signal)?;
+    Ok(text)
+}
+
+fn statement(alloc: Global, design: &Design, driver: &Driver) -> Result<String, AllocError>
+    ensures { IfOk result (λ text. string_bytes text ≡ driver_text design.now driver.now) }
+{
+    let mut text = String::new(alloc);
+    put_driver(&mut text, design, driver)?;
+    Ok(text)
+}
+
+fn put_signals<K: Sink>(alloc: Global, design: &Design, page: &mut Page, out: &mut K)
+    ensures { Comes page.old (K.taken out.old) (K.faults out.old) (flat_map signal_text design.now.signals) page.new (K.taken out.new) (K.faults out.new) }
+{
+    'signals: for signal in design.signals.as_slice() {
+        put_made(page, out, signal_line(alloc, signal));
+    }
+}
+
+fn put_drivers<K: Sink>(alloc: Global, design: &Design, place: Place, page: &mut Page, out: &mut K)
+    ensures { Comes page.old (K.taken out.old) (K.faults out.old) (drivers_text design.now (stands_in place)) page.new (K.taken out.new) (K.faults out.new) }
 {
     'drivers: for driver in design.drivers.as_slice() {
-        if !is_register(driver) && !is_output(driver) {
-            put_driver(out, design, driver)?;
+        if stands_in(place, driver) {
+            put_made(page, out, statement(alloc, design, driver));
         }
     }
-    Ok(())
 }
 
-#[tactic(auto, unfolding(opgen_vhdl::specs::DesignText::drivers_text))]
-fn put_registers(out: &mut String, design: &Design) -> Result<(), AllocError>
-    ensures { OnOk result (string_bytes out.new ≡ string_bytes out.old ++ drivers_text design.now is_register) }
+// The head of the process, with the `if` round the registers of a design with an enable.
+fn process_head(alloc: Global, design: &Design) -> Result<String, AllocError>
+    ensures { IfOk result (λ text. string_bytes text ≡ codes "  process (clk)\n  begin\n    if rising_edge(clk) then\n" ++ enable_text design.now design.now.enable) }
 {
-    'drivers: for driver in design.drivers.as_slice() {
-        if is_register(driver) {
-            put_driver(out, design, driver)?;
-        }
+    let mut text = String::from_str(
+        alloc,
+        "  process (clk)\n  begin\n    if rising_edge(clk) then\n",
+    )?;
+    if let Some(port) = design.enable {
+        writeln!(text, "      if {} = \"1\" then", port_name(design, port))?;
     }
-    Ok(())
+    Ok(text)
 }
 
-#[tactic(auto, unfolding(opgen_vhdl::specs::DesignText::drivers_text))]
-fn put_outputs(out: &mut String, design: &Design) -> Result<(), AllocError>
-    ensures { OnOk result (string_bytes out.new ≡ string_bytes out.old ++ drivers_text design.now is_output) }
+fn put_end_enable<K: Sink>(design: &Design, page: &mut Page, out: &mut K)
+    ensures { Comes page.old (K.taken out.old) (K.faults out.old) (end_enable_text design.now.enable) page.new (K.taken out.new) (K.faults out.new) }
 {
-    'drivers: for driver in design.drivers.as_slice() {
-        if is_output(driver) {
-            put_driver(out, design, driver)?;
-        }
-    }
-    Ok(())
-}
-
-// The `if` round the registers of a design with an enable.
-fn put_enable(out: &mut String, design: &Design) -> Result<(), AllocError>
-    ensures { OnOk result (string_bytes out.new ≡ string_bytes out.old ++ enable_text design.now design.now.enable) }
-{
-    match design.enable {
-        Some(port) => writeln!(out, "      if {} = \"1\" then", port_name(design, port)),
-        None => Ok(()),
-    }
-}
-
-fn put_end_enable(out: &mut String, design: &Design) -> Result<(), AllocError>
-    ensures { OnOk result (string_bytes out.new ≡ string_bytes out.old ++ end_enable_text design.now.enable) }
-{
-    match design.enable {
-        Some(_) => out.push_str("      end if;\n"),
-        None => Ok(()),
+    if design.enable.is_some() {
+        put_bytes(page, out, b"      end if;\n");
     }
 }
 
 // The process of the registers, where there is one.
-#[tactic(auto, unfolding(opgen_vhdl::specs::DesignText::process_text))]
-fn put_process(out: &mut String, design: &Design) -> Result<(), AllocError>
-    ensures { OnOk result (string_bytes out.new ≡ string_bytes out.old ++ process_text design.now) }
+fn put_process<K: Sink>(alloc: Global, design: &Design, page: &mut Page, out: &mut K)
+    ensures { Comes page.old (K.taken out.old) (K.faults out.old) (process_text design.now) page.new (K.taken out.new) (K.faults out.new) }
 {
-    if !has_register(design) {
-        return Ok(());
+    if has_register(design) {
+        put_made(page, out, process_head(alloc, design));
+        put_drivers(alloc, design, Place::Process, page, out);
+        put_end_enable(design, page, out);
+        put_bytes(page, out, b"    end if;\n  end process;\n");
     }
-    out.push_str("  process (clk)\n  begin\n    if rising_edge(clk) then\n")?;
-    put_enable(out, design)?;
-    put_registers(out, design)?;
-    put_end_enable(out, design)?;
-    out.push_str("    end if;\n  end process;\n")?;
-    Ok(())
 }
 
-#[tactic(auto, unfolding(opgen_vhdl::specs::DesignText::architecture_text))]
-pub(crate) fn put_architecture(out: &mut String, design: &Design) -> Result<(), AllocError>
-    ensures { OnOk result (string_bytes out.new ≡ string_bytes out.old ++ architecture_text design.now) }
+pub(crate) fn put_architecture<K: Sink>(
+    alloc: Global,
+    design: &Design,
+    page: &mut Page,
+    out: &mut K,
+)
+    ensures { Comes page.old (K.taken out.old) (K.faults out.old) (architecture_text design.now) page.new (K.taken out.new) (K.faults out.new) }
 {
-    writeln!(out, "architecture rtl of {} is", design.name.as_str())?;
-    put_signals(out, design)?;
-    out.push_str("begin\n")?;
-    put_concurrent(out, design)?;
-    put_process(out, design)?;
-    put_outputs(out, design)?;
-    out.push_str("end architecture;\n")?;
-    Ok(())
+    put_bytes(page, out, b"architecture rtl of ");
+    put_bytes(page, out, design.name.as_str().as_bytes());
+    put_bytes(page, out, b" is\n");
+    put_signals(alloc, design, page, out);
+    put_bytes(page, out, b"begin\n");
+    put_drivers(alloc, design, Place::Statements, page, out);
+    put_process(alloc, design, page, out);
+    put_drivers(alloc, design, Place::Outputs, page, out);
+    put_bytes(page, out, b"end architecture;\n");
 }

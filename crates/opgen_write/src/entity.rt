@@ -1,11 +1,11 @@
 //! The text of an entity.
-ghost use Rattle.std.specs.Prelude.{◌≡◌, ◌++◌, OnOk, string_bytes};
+ghost use Rattle.std.specs.Prelude.{◌≡◌, ◌++◌, OnOk, IfOk, string_bytes};
 ghost use Rattle.std.specs.List.{flat_map};
 ghost use Rattle.opgen_vhdl.specs.DesignText.{direction_text, port_text, entity_text};
 
 use crate::expression::put_range;
 use opgen_design::{Design, Dir, Port};
-use std::alloc::AllocError;
+use std::alloc::{AllocError, Global};
 
 fn direction(dir: Dir) -> &'static str
     ensures { result.now ≡ direction_text dir }
@@ -37,13 +37,16 @@ fn put_ports(out: &mut String, design: &Design) -> Result<(), AllocError>
 }
 
 #[tactic(auto, unfolding(opgen_vhdl::specs::DesignText::entity_text))]
-pub(crate) fn put_entity(out: &mut String, design: &Design) -> Result<(), AllocError>
-    ensures { OnOk result (string_bytes out.new ≡ string_bytes out.old ++ entity_text design.now) }
+pub(crate) fn entity(alloc: Global, design: &Design) -> Result<String, AllocError>
+    ensures { IfOk result (λ text. string_bytes text ≡ entity_text design.now) }
 {
-    out.push_str("library ieee;\nuse ieee.std_logic_1164.all;\nuse ieee.numeric_std.all;\n\n")?;
+    let mut out = String::from_str(
+        alloc,
+        "library ieee;\nuse ieee.std_logic_1164.all;\nuse ieee.numeric_std.all;\n\n",
+    )?;
     let name = design.name.as_str();
     write!(out, "entity {name} is\n  port (\n    clk : in std_logic")?;
-    put_ports(out, design)?;
+    put_ports(&mut out, design)?;
     out.push_str("\n  );\nend entity;\n\n")?;
-    Ok(())
+    Ok(out)
 }

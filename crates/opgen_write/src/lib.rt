@@ -5,6 +5,7 @@ mod architecture;
 mod entity;
 mod expression;
 mod law;
+mod page;
 mod sink;
 mod statement;
 #[cfg(test)]

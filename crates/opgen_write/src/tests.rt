@@ -554,3 +554,59 @@ fn keeps_what_was_taken_before_a_fault(rt: HostRuntime) -> Result<(), Fail> {
     assert_eq!(rt; sink.bytes(), THIRD.as_bytes());
     Ok(())
 }
+
+fn one_input(alloc: Global, letters: usize) -> Result<Design, AllocError> {
+    let mut name = String::new(alloc);
+    for _ in 0..letters {
+        name.push_str("n")?;
+    }
+    let mut ports = Items::new(alloc);
+    ports.push(port(alloc, &name, Dir::In, 1)?)?;
+    Ok(Design {
+        name: Text::from_str(alloc, "input")?,
+        ports,
+        signals: Items::new(alloc),
+        drivers: Items::new(alloc),
+        enable: None,
+    })
+}
+
+// A design whose text has so many bytes.
+fn of_length(alloc: Global, length: usize) -> Result<Design, Fail> {
+    let others = text(alloc, &one_input(alloc, 0)?)?.len();
+    Ok(one_input(alloc, length.saturating_sub(others))?)
+}
+
+// How many bytes a sink takes of a text of so many, if its put of this number fails.
+fn taken(alloc: Global, length: usize, failing: u64) -> Result<(usize, bool), Fail> {
+    let design = of_length(alloc, length)?;
+    let mut sink = MemorySink::new(alloc, vec![in alloc; failing]?);
+    let written = write_design(alloc, &design, &mut sink);
+    Ok((sink.bytes().len(), written == Err(WriteFault::Failed)))
+}
+
+// A page more than is needed would fail, and the last page that is needed does.
+#[test]
+fn puts_whole_pages(rt: HostRuntime) -> Result<(), Fail> {
+    let alloc = rt.alloc();
+    assert!(rt; taken(alloc, 4095, 0)? == (0, true));
+    assert!(rt; taken(alloc, 4095, 1)? == (4095, false));
+    assert!(rt; taken(alloc, 4096, 0)? == (0, true));
+    assert!(rt; taken(alloc, 4096, 1)? == (4096, false));
+    assert!(rt; taken(alloc, 4097, 1)? == (4096, true));
+    assert!(rt; taken(alloc, 4097, 2)? == (4097, false));
+    assert!(rt; taken(alloc, 8193, 2)? == (8192, true));
+    Ok(())
+}
+
+#[test]
+fn keeps_the_order_of_pages(rt: HostRuntime) -> Result<(), Fail> {
+    let alloc = rt.alloc();
+    let design = many_inputs(alloc)?;
+    let mut sink = MemorySink::new(alloc, Vec::new(alloc));
+    write_design(alloc, &design, &mut sink)?;
+    let expected = many_inputs_text(alloc)?;
+    assert!(rt; expected.len() > 4096);
+    assert!(rt; sink.bytes() == expected.as_bytes());
+    Ok(())
+}

@@ -5,9 +5,11 @@ ghost use Rattle.opgen_io.specs.Counts.{Rose};
 ghost use Rattle.opgen_vhdl.specs.DesignText.{text_of};
 
 use crate::architecture::put_architecture;
-use crate::entity::put_entity;
+use crate::entity::entity;
+use crate::page::{blank_page, put_made, put_rest};
+use crate::sink::VecSink;
 use opgen_design::Design;
-use opgen_io::{PutFault, Sink};
+use opgen_io::Sink;
 use opgen_num::Memory;
 use std::alloc::Global;
 use thiserror::Error;
@@ -21,17 +23,7 @@ pub enum WriteFault {
     Memory,
 }
 
-/// The text of a design.
-pub fn text(alloc: Global, design: &Design) -> Result<Vec<u8>, Memory>
-    ensures { IfOk result (λ bytes. bytes.items ≡ text_of design.now) }
-{
-    let mut out = String::new(alloc);
-    put_entity(&mut out, design)?;
-    put_architecture(&mut out, design)?;
-    Ok(out.into_bytes())
-}
-
-/// Writes a design: its text is made whole and then put in one call.
+/// Writes a design: its text is put a page of 4,096 bytes at a time, and what is left of it last.
 pub fn write_design<K: Sink>(alloc: Global, design: &Design, out: &mut K) -> Result<(), WriteFault>
     ensures tells { is_some (K.taken out.new) ≡ is_some (K.taken out.old) }
     ensures faults_kept { K.faults out.old ≤ K.faults out.new }
@@ -40,12 +32,25 @@ pub fn write_design<K: Sink>(alloc: Global, design: &Design, out: &mut K) -> Res
     ensures failed_counted { result ≡ Err WriteFault.Failed → Rose (K.faults out.old) (K.faults out.new) }
     ensures err { OnErr result (TakesPrefix (K.taken out.old) (text_of design.now) (K.taken out.new)) }
 {
-    let Ok(bytes) = text(alloc, design) else {
+    let Ok(mut page) = blank_page(alloc) else {
         return Err(WriteFault::Memory);
     };
-    match out.put(bytes.as_slice()) {
-        Ok(()) => Ok(()),
-        Err(PutFault::Failed) => Err(WriteFault::Failed),
-        Err(PutFault::Memory) => Err(WriteFault::Memory),
+    put_made(&mut page, out, entity(alloc, design));
+    put_architecture(alloc, design, &mut page, out);
+    put_rest(&mut page, out);
+    match page.fault {
+        None => Ok(()),
+        Some(fault) => Err(fault),
+    }
+}
+
+/// The text of a design.
+pub fn text(alloc: Global, design: &Design) -> Result<Vec<u8>, Memory>
+    ensures { IfOk result (λ bytes. bytes.items ≡ text_of design.now) }
+{
+    let mut sink = VecSink::new(alloc);
+    match write_design(alloc, design, &mut sink) {
+        Ok(()) => Ok(sink.into_bytes()),
+        Err(_) => Err(Memory),
     }
 }

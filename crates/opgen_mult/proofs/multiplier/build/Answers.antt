@@ -3,7 +3,7 @@ use Rattle.std.specs.Prelude.{pos, ◌+ℤ◌}
 use Rattle.std.specs.Int.{w128}
 use Rattle.std.proofs.lemmas.Int.{to_z-of_z}
 use Rattle.opgen_num.specs.declared.format.Format.{Format}
-use Rattle.opgen_compress.specs.Recipe.{Answer}
+use Rattle.opgen_net.specs.Placed.{Placed}
 use Rattle.opgen_heap.specs.Adding.{residue}
 use Rattle.opgen_heap.specs.Contents.{Contents}
 use Rattle.opgen_heap.specs.Standing.{AllThere}
@@ -56,7 +56,7 @@ returns-clause-fits c =
     λ words. c.add_constant.ensures.sum words ∙ ap (λ z. residue (pos (heap_sum words w.heap) +ℤ z) (2 ^ w.heap.width)) constant_is in
     let wide = c.in_ok-sum.ensures.width ∙ ap (λ (h : Contents). h.width) c.add_constant.ensures.value ∙ has.width in
     let above = subst (λ z. IsAboveZeros two place z three.nodes node) c.zeros_below.ensures.value c.in_ok-node.ensures.shifted in
-    let s : Answer = record { net = two; place = place } in
+    let s : Placed = record { net = two; place = place } in
     let ports = ap (λ (n : Net). n.inputs) c.in_ok-node.ensures.ok ∙ zeros-inputs c.heap_width.result c.zeros_below.result s in
     let outs = ap (λ (n : Net). n.outputs) c.in_ok-node.ensures.ok ∙ zeros-outputs c.heap_width.result c.zeros_below.result s in
     let is : c.output-2.new.self ≡ record three { outputs = three.outputs ++ output_of node (bits_below p) (product_format p).width ∷ [] } =

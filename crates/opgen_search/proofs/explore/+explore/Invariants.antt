@@ -1,4 +1,4 @@
-use Rattle.std.proofs.Common.{◌+◌, ◌*◌}
+use Rattle.std.proofs.Common.{◌+◌, ◌*◌, take}
 use Rattle.opgen_search.proofs.Trying.{Tried}
 use Rattle.opgen_search.proofs.explore.+explore.Given as goal
 
@@ -11,5 +11,5 @@ decreases-try_members l = 3 * l.more + 1
 abbrev pub decreases-try_member : goal.decreases-try_member
 decreases-try_member l = 3 * l.more
 
-abbrev pub invariant-try_members-loop-half : goal.invariant-try_members-loop-half
-invariant-try_members-loop-half l = Tried l.search l.fn.hunt l.hunt l.node.placed.items l.node.left.items l.more l.half
+abbrev pub invariant-try_members-loop-member : goal.invariant-try_members-loop-member
+invariant-try_members-loop-member l = Tried l.piece l.fn.hunt l.hunt l.node.placed.items l.node.left.items l.more (take l.member-index l.member-items)

@@ -16,7 +16,8 @@ pub hand_all_on-requires-clause-widths : goal.hand_all_on-requires-clause-widths
 hand_all_on-requires-clause-widths c =
     let d = c.args.design.now in
     let v : Words = record { signals = c.args.signals.now; ports = c.args.ports.now } in
-    let e = words-eq c.settle.new.signals c.settle.new.ports (settle d.drivers c.args.order.now v) c.settle.ensures.signals c.settle.ensures.ports in
+    let e = words-eq c.settle.new.signals c.settle.new.ports (settle d.drivers c.args.order.now v) c.settle.ensures.signals
+    c.settle.ensures.ports in
     subst (HaveWidths d) (sym e) (settle-widths d c.requires.sound c.args.order.now v c.requires.widths)
 
 pub returns-clause-cycle : goal.returns-clause-cycle

@@ -9,7 +9,8 @@ returns-clause-prepared g c =
     let few = fetched.0 in
     generate-prepared c.args.spec.now _ (g.F.Folder.told c.args.folder.now) _ _ c.deref.result.now
     (λ files told. fetched.1 files told ∙ ap Some (sym c.deref.ensures.value)) (omega (arith, few, ap length c.deref.ensures.value))
-    c.generated.result said.answer said.listed
+    c.args.workers c.args.enable c.generated.result said.answer said.listed
 
 pub returns-in-Err-clause-prepared : goal.returns-in-Err-clause-prepared
-returns-in-Err-clause-prepared g c = generate-unfetched c.args.spec.now _ (g.F.Folder.told c.args.folder.now) _ _ c.in-Err.refusal c.in-Err.ensures.fetched
+returns-in-Err-clause-prepared g c =
+    generate-unfetched c.args.spec.now _ (g.F.Folder.told c.args.folder.now) _ _ c.args.workers c.args.enable c.in-Err.refusal c.in-Err.ensures.fetched

@@ -58,7 +58,7 @@ returns-in-Ok-store_all-clause-printed g c held holds =
     (listed_status _ _ c.in-Ok.ensures.prepared.listed.line) said.none said.silent held holds
 
 pub returns-in-Ok-store_all-clause-headline : goal.returns-in-Ok-store_all-clause-headline
-returns-in-Ok-store_all-clause-headline g c file asked files told ok =
+returns-in-Ok-store_all-clause-headline g c file workers enable asked files told ok =
     let prepared = later_reads _ _ _ _ _ _ _ _ _ c.store_all.ensures.read_faults_same c.in-Ok.ensures.prepared in
     let said = c.printed.ensures in
     let a = answer_of c.in-Ok.answer in
@@ -68,7 +68,7 @@ returns-in-Ok-store_all-clause-headline g c file asked files told ok =
     files told ok in
     let targets = c.args.targets.items in
     let devices = devices_of (λ t. (goal.Target-dyn g (t.vtable, t.value)).target_name t.value) (λ t. (goal.Target-dyn g (t.vtable, t.value)).delays t.value) (λ t. (goal.Target-dyn g (t.vtable, t.value)).adjustable t.value) targets in
-    heading file devices files a _ _ _ (subst (λ command. IsAnswerOf command devices files a) asked due.0) due.1 stores
+    heading c.circuits_serve.ensures file workers enable devices files a _ _ _ (subst (λ command. IsAnswerOf command devices files a) asked due.0) due.1 stores
     (λ held holds. line_taken _ held a.line _ (inl ok) (said.taken held holds))
 
 pub returns-in-Err-Failed-clause-left_by_fault : goal.returns-in-Err-Failed-clause-left_by_fault

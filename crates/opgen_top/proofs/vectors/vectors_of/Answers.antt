@@ -14,10 +14,10 @@ pub ran-requires-clause-ports : goal.ran-requires-clause-ports
 ran-requires-clause-ports g c = let made = c.in-Ok.ensures.specified in circuit_ports c.in-Ok.made.spec made.table false c.in-Ok.made.circuit.planned _ made.circuit
 
 pub returns-in-Err-clause-answer : goal.returns-in-Err-clause-answer
-returns-in-Err-clause-answer g c = refused_answers c.args.bytes.now _ IsVectors c.in-Err.refusal c.in-Err.ensures.refused
+returns-in-Err-clause-answer g c = refused_answers c.args.bytes.now _ (IsVectors c.args.seed c.args.cycles) c.in-Err.refusal c.in-Err.ensures.refused
 
 pub returns-in_ok-ran-in-Ok-clause-answer : goal.returns-in_ok-ran-in-Ok-clause-answer
-returns-in_ok-ran-in-Ok-clause-answer g c = made_vectors c.args.bytes.now _ c.in-Ok.made c.in-Ok.ensures.specified _ c.in_ok-ran-in-Ok.ensures
+returns-in_ok-ran-in-Ok-clause-answer g c = made_vectors c.args.bytes.now _ c.in-Ok.made c.in-Ok.ensures.specified _ c.args.seed c.args.cycles c.in_ok-ran-in-Ok.ensures
 
 pub returns-in_ok-ran-in-Ok-clause-listed : goal.returns-in_ok-ran-in-Ok-clause-listed
-returns-in_ok-ran-in-Ok-clause-listed g c = rows_of_listed _ c.in-Ok.made.spec _ c.in-Ok.ensures.specified.valid.name c.in_ok-ran-in-Ok.ensures
+returns-in_ok-ran-in-Ok-clause-listed g c = rows_of_listed _ c.in-Ok.made.spec _ c.args.seed c.args.cycles c.in-Ok.ensures.specified.valid.name c.in_ok-ran-in-Ok.ensures

@@ -1,0 +1,4 @@
+mod Numbers
+mod Found
+mod Meaning
+mod Names

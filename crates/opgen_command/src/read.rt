@@ -1,0 +1,134 @@
+ghost use Rattle.std.specs.Prelude.{◌≡◌, IsTrue, IfOk, IfErr, Some, None, map, string_bytes, option_and_then};
+ghost use Rattle.clap.specs.Words.{app_of, found_of, is_simple_and_free, rows_of};
+ghost use Rattle.opgen_command.specs.Apps.{generate_app, vectors_app, simulate_app, workload_app};
+ghost use Rattle.opgen_command.specs.Command.{command_of, found_by, HasRanges, generate_of, vectors_of, simulate_of, workload_of};
+
+use crate::apps;
+use crate::command::Command;
+use crate::fault::CommandFault;
+use crate::values::{is_set, number, word};
+use clap::ArgMatches;
+use clap::error::ErrorKind;
+use opgen_list::Text;
+use std::alloc::Global;
+
+/// What a command of `clap` finds in the words.
+fn matched<'a>(app: clap::Command<'a>, words: &'a [String]) -> Result<ArgMatches<'a>, CommandFault>
+    requires { IsTrue (is_simple_and_free (app_of app)) }
+    ensures found { IfOk result (λ m. found_by (app_of app.entry) (map string_bytes words.entry.now) ≡ Some (rows_of (found_of m))) }
+    ensures usage { IfErr result (λ fault. fault ≡ CommandFault.Usage →
+        found_by (app_of app.entry) (map string_bytes words.entry.now) ≡ None) }
+{
+    match app.try_get_matches_from(words) {
+        Ok(found) => Ok(found),
+        Err(error) => match error.kind() {
+            ErrorKind::OutOfMemory => Err(CommandFault::Memory),
+            _ => Err(CommandFault::Usage),
+        },
+    }
+}
+
+fn generate(alloc: Global, words: &[String]) -> Result<Command, CommandFault>
+    ensures command { IfOk result (λ c. option_and_then generate_of (found_by generate_app (map string_bytes words.now)) ≡ Some c) }
+    ensures usage { IfErr result (λ fault. fault ≡ CommandFault.Usage →
+        option_and_then generate_of (found_by generate_app (map string_bytes words.now)) ≡ None) }
+    ensures ranges { IfOk result HasRanges }
+{
+    let found = matched(apps::generate(alloc)?, words)?;
+    let Some(spec) = word(&found, "SPEC") else {
+        return Err(CommandFault::Usage);
+    };
+    let Some(workers) = number(&found, "workers", 1, 32, Some(1)) else {
+        return Err(CommandFault::Usage);
+    };
+    Ok(Command::Generate {
+        spec: Text::from_str(alloc, spec)?,
+        workers,
+        enable: is_set(&found, "enable"),
+    })
+}
+
+fn vectors(alloc: Global, words: &[String]) -> Result<Command, CommandFault>
+    ensures command { IfOk result (λ c. option_and_then vectors_of (found_by vectors_app (map string_bytes words.now)) ≡ Some c) }
+    ensures usage { IfErr result (λ fault. fault ≡ CommandFault.Usage →
+        option_and_then vectors_of (found_by vectors_app (map string_bytes words.now)) ≡ None) }
+    ensures ranges { IfOk result HasRanges }
+{
+    let found = matched(apps::vectors(alloc)?, words)?;
+    let Some(spec) = word(&found, "SPEC") else {
+        return Err(CommandFault::Usage);
+    };
+    let Some(seed) = number(&found, "seed", 0, u32::MAX, Some(0)) else {
+        return Err(CommandFault::Usage);
+    };
+    let Some(cycles) = number(&found, "cycles", 1, 100_000, Some(16)) else {
+        return Err(CommandFault::Usage);
+    };
+    Ok(Command::Vectors {
+        spec: Text::from_str(alloc, spec)?,
+        seed,
+        cycles,
+    })
+}
+
+fn simulate(alloc: Global, words: &[String]) -> Result<Command, CommandFault>
+    ensures command { IfOk result (λ c. option_and_then simulate_of (found_by simulate_app (map string_bytes words.now)) ≡ Some c) }
+    ensures usage { IfErr result (λ fault. fault ≡ CommandFault.Usage →
+        option_and_then simulate_of (found_by simulate_app (map string_bytes words.now)) ≡ None) }
+    ensures ranges { IfOk result HasRanges }
+{
+    let found = matched(apps::simulate(alloc)?, words)?;
+    let Some(vhdl) = word(&found, "VHDL") else {
+        return Err(CommandFault::Usage);
+    };
+    let Some(vectors) = word(&found, "VECTORS") else {
+        return Err(CommandFault::Usage);
+    };
+    let Some(out) = word(&found, "OUT") else {
+        return Err(CommandFault::Usage);
+    };
+    Ok(Command::Simulate {
+        vhdl: Text::from_str(alloc, vhdl)?,
+        vectors: Text::from_str(alloc, vectors)?,
+        out: Text::from_str(alloc, out)?,
+    })
+}
+
+fn workload(alloc: Global, words: &[String]) -> Result<Command, CommandFault>
+    ensures command { IfOk result (λ c. option_and_then workload_of (found_by workload_app (map string_bytes words.now)) ≡ Some c) }
+    ensures usage { IfErr result (λ fault. fault ≡ CommandFault.Usage →
+        option_and_then workload_of (found_by workload_app (map string_bytes words.now)) ≡ None) }
+    ensures ranges { IfOk result HasRanges }
+{
+    let found = matched(apps::workload(alloc)?, words)?;
+    match number(&found, "N", 1, 32, None) {
+        Some(n) => Ok(Command::Workload { n }),
+        None => Err(CommandFault::Usage),
+    }
+}
+
+/// The command that the words after the program's name are. The first names it as it is spelled
+/// here, and `clap` reads the others, so an option may stand before or after the files, as
+/// `--seed 5` or `--seed=5`, and after a word `--` nothing is an option.
+///
+/// - `generate SPEC [--workers N] [--enable]`, with 1 to 32 workers, by default 1
+/// - `vectors SPEC [--seed N] [--cycles N]`, with a seed of 32 bits, by default 0, and 1 to 100,000
+///   cycles, by default 16
+/// - `simulate VHDL VECTORS OUT`
+/// - `workload N`, with N from 1 to 32
+pub fn read_command(alloc: Global, words: &[String]) -> Result<Command, CommandFault>
+    ensures command { IfOk result (λ c. command_of (map string_bytes words.now) ≡ Some c) }
+    ensures usage { IfErr result (λ fault. fault ≡ CommandFault.Usage → command_of (map string_bytes words.now) ≡ None) }
+    ensures ranges { IfOk result HasRanges }
+{
+    let Some(name) = words.first() else {
+        return Err(CommandFault::Usage);
+    };
+    match name.as_str() {
+        "generate" => generate(alloc, words),
+        "vectors" => vectors(alloc, words),
+        "simulate" => simulate(alloc, words),
+        "workload" => workload(alloc, words),
+        _ => Err(CommandFault::Usage),
+    }
+}

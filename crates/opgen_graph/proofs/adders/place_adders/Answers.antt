@@ -1,0 +1,70 @@
+use Rattle.std.proofs.Common.{◌≡◌, ◌+◌, List, [], ◌∷◌, ◌++◌, drop, sym, ap, ◌∙◌, subst, rules}
+use Rattle.std.specs.Prelude.{Contains, slice_index_or}
+use Rattle.std.proofs.lemmas.List.{drop_more}
+use Rattle.opgen_net.specs.declared.net.Net.{Net}
+use Rattle.opgen_graph.specs.declared.forms.Form.TheVariants.{A}
+use Rattle.opgen_graph.specs.declared.multiples.Multiple.{Multiple}
+use Rattle.opgen_graph.specs.declared.ranks.Adder.{Adder}
+use Rattle.opgen_graph.specs.Placing.{factors}
+use Rattle.opgen_graph.specs.Recipe.{Multiples, with_adder, with_adders}
+use Rattle.opgen_graph.proofs.Standing.{AreLeft, is_narrow, can_stand, left-at, left-next}
+use Rattle.opgen_graph.proofs.adders.place_adders.Goals as goal
+
+abbrev none : Adder
+none = record { value = 0; u = 0; v = 0; step = record { form = A; shift = 0 } }
+
+pub place_adder-requires-clause-u : goal.place_adder-requires-clause-u
+place_adder-requires-clause-u c =
+    let known : c.as_slice.result.now ≡ c.adders.known = search rules in
+    let b : Multiples = record { net = c.adders.net; known = c.adders.known } in
+    let k = c.adders.adder-index in
+    let a = slice_index_or c.args.adders.now k none in
+    let left = left-at c.args.input b c.args.adders.now k none c.adders-test.true c.adders.invariant.left in
+    subst (λ ks. Contains (factors ks) a.u) (sym known) (can_stand c.args.input b a (drop (k + 1) c.args.adders.now) left).u
+
+pub place_adder-requires-clause-v : goal.place_adder-requires-clause-v
+place_adder-requires-clause-v c =
+    let known : c.as_slice.result.now ≡ c.adders.known = search rules in
+    let b : Multiples = record { net = c.adders.net; known = c.adders.known } in
+    let k = c.adders.adder-index in
+    let a = slice_index_or c.args.adders.now k none in
+    let left = left-at c.args.input b c.args.adders.now k none c.adders-test.true c.adders.invariant.left in
+    subst (λ ks. Contains (factors ks) a.v) (sym known) (can_stand c.args.input b a (drop (k + 1) c.args.adders.now) left).v
+
+pub place_adder-requires-clause-narrow : goal.place_adder-requires-clause-narrow
+place_adder-requires-clause-narrow c =
+    let b : Multiples = record { net = c.adders.net; known = c.adders.known } in
+    let k = c.adders.adder-index in
+    let a = slice_index_or c.args.adders.now k none in
+    let left = left-at c.args.input b c.args.adders.now k none c.adders-test.true c.adders.invariant.left in
+    is_narrow c.args.input b a left.stands (can_stand c.args.input b a (drop (k + 1) c.args.adders.now) left)
+
+pub adders-preserved : goal.adders-preserved
+adders-preserved c =
+    let input = c.args.input in
+    let all = c.args.adders.now in
+    let b : Multiples = record { net = c.adders.net; known = c.adders.known } in
+    let k = c.adders.adder-index in
+    let a = slice_index_or all k none in
+    let more = drop (k + 1) all in
+    let left : AreLeft input b (a ∷ more) = left-at input b all k none c.adders-test.true c.adders.invariant.left in
+    let known : c.as_slice.result.now ≡ c.adders.known = search rules in
+    let pushed : c.push-in-adders.new.self ≡ c.adders.known ++ c.in_ok-made.made ∷ [] = search rules in
+    let net : c.place_adder.new.net ≡ (with_adder input b a).net =
+    c.in_ok-made.ensures.ok ∙ ap (λ (ks : List Multiple). (with_adder input (record { net = c.adders.net; known = ks }) a).net) known in
+    let list : c.push-in-adders.new.self ≡ (with_adder input b a).known =
+    pushed
+    ∙ ap (λ (ks : List Multiple). ks ++ c.in_ok-made.made ∷ []) (sym known)
+    ∙ c.in_ok-made.ensures.multiple
+    ∙ ap (λ (ks : List Multiple). (with_adder input (record { net = c.adders.net; known = ks }) a).known) known in
+    let next : Multiples = record { net = c.place_adder.new.net; known = c.push-in-adders.new.self } in
+    let same : next ≡ with_adder input b a =
+    ap (λ (n : Net). record { net = n; known = c.push-in-adders.new.self }) net
+    ∙ ap (λ (ks : List Multiple). record { net = (with_adder input b a).net; known = ks }) list in
+    record {
+      valid = c.in_ok-made.ensures.valid;
+      left = subst (λ (x : Multiples). AreLeft input x more) (sym same) (left-next input b a more left);
+      same = ap (λ (x : Multiples). with_adders input x more) same
+          ∙ ap (with_adders input b) (sym (drop_more all k none c.adders-test.true))
+          ∙ c.adders.invariant.same;
+    }

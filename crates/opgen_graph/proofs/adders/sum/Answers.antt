@@ -1,0 +1,40 @@
+use Rattle.std.proofs.Common.{◌≡◌, ℕ, sym, ap, ◌∙◌, subst}
+use Rattle.opgen_design.specs.Plain.{plain}
+use Rattle.opgen_design.specs.Tree.{Tree}
+use Rattle.opgen_net.specs.declared.net.Net.{Net}
+use Rattle.opgen_net.specs.Valid.{widths, FitsNodes}
+use Rattle.opgen_net.specs.Placed.{with_bits}
+use Rattle.opgen_graph.specs.Placing.{IsNode}
+use Rattle.opgen_graph.specs.Recipe.{operand, added}
+use Rattle.opgen_graph.proofs.Sums.{first, second, v-kept, node-fits}
+use Rattle.opgen_graph.proofs.adders.sum.Goals as goal
+
+pub operand-requires-2-clause-node : goal.operand-requires-2-clause-node
+operand-requires-2-clause-node c =
+    let a = c.args in
+    let one = first a.signed a.width a.net.now a.adder a.u a.v c.requires.net c.requires.width c.requires.u c.requires.v in
+    let to : c.operand.new.net ≡ one.net =
+    c.in_ok-a.ensures.ok ∙ ap (λ (z : ℕ). (with_bits a.net.now (operand a.signed z a.width a.u)).net) c.zeros_below.ensures in
+    subst (λ (n : Net). IsNode n a.v) (sym to)
+    (v-kept a.signed a.width a.net.now a.adder a.u a.v c.requires.net c.requires.width c.requires.u c.requires.v)
+
+pub cells-requires-clause-fits : goal.cells-requires-clause-fits
+cells-requires-clause-fits c =
+    let a = c.args in
+    let one = first a.signed a.width a.net.now a.adder a.u a.v c.requires.net c.requires.width c.requires.u c.requires.v in
+    let two = second a.signed a.width a.net.now a.adder a.u a.v c.requires.net c.requires.width c.requires.u c.requires.v in
+    let to_one : c.operand.new.net ≡ one.net =
+    c.in_ok-a.ensures.ok ∙ ap (λ (z : ℕ). (with_bits a.net.now (operand a.signed z a.width a.u)).net) c.zeros_below.ensures in
+    let at_one : c.in_ok-a.a ≡ one.place =
+    c.in_ok-a.ensures.place ∙ ap (λ (z : ℕ). (with_bits a.net.now (operand a.signed z a.width a.u)).place) c.zeros_below.ensures in
+    let to_two : c.operand-2.new.net ≡ two.net =
+    c.in_ok-b.ensures.ok ∙ ap (λ (n : Net). (with_bits n (operand a.signed 0 a.width a.v)).net) to_one in
+    let at_two : c.in_ok-b.b ≡ two.place =
+    c.in_ok-b.ensures.place ∙ ap (λ (n : Net). (with_bits n (operand a.signed 0 a.width a.v)).place) to_one in
+    let tree =
+    c.in_ok-added.ensures
+    ∙ ap (λ (k : ℕ). added a.adder.step.form a.adder.u a.adder.v k c.in_ok-b.b) at_one
+    ∙ ap (λ (k : ℕ). added a.adder.step.form a.adder.u a.adder.v one.place k) at_two in
+    subst (λ (n : Net). FitsNodes (widths n.nodes) a.width (plain c.in_ok-added.field-0)) (sym to_two)
+    (subst (λ (e : Tree). FitsNodes (widths two.net.nodes) a.width e) (sym tree)
+    (node-fits a.signed a.width a.net.now a.adder a.u a.v c.requires.net c.requires.width c.requires.u c.requires.v))

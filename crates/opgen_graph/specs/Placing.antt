@@ -1,0 +1,40 @@
+-- What the steps of the net of several constants ask for.
+use Rattle.std.specs.Prelude.{◌≡◌, ◌≢◌, ℕ, ◌+◌, ◌≤◌, ℤ, pos, unsigned_abs, List, [], ◌∷◌, map, slice_index, All, Contains}
+use Rattle.opgen_num.specs.declared.TheConstants.{MAX_INPUT, MAX_WIDTH}
+use Rattle.opgen_num.specs.declared.format.Format.{Format}
+use Rattle.opgen_net.specs.declared.net.Net.{Net}
+use Rattle.opgen_net.specs.Valid.{widths}
+use Rattle.opgen_graph.specs.declared.multiples.Multiple.{Multiple}
+use Rattle.opgen_graph.specs.declared.ranks.Adder.{Adder}
+use Rattle.opgen_graph.specs.GraphLaws.{IsWired}
+use Rattle.opgen_graph.specs.Graphs.{values}
+use Rattle.opgen_graph.specs.Reach.{IsMember}
+use Rattle.opgen_graph.specs.Recipe.{dropped}
+use Rattle.opgen_graph.specs.SetCost.{bit_length}
+use Rattle.opgen_graph.specs.Targets.{odd_part}
+
+abbrev pub factors : List Multiple → List ℕ
+factors known = map (λ m. m.factor) known
+
+-- a node of the net that has the width
+pub record IsNode (net : Net) (m : Multiple) : Type 0 where
+  pub some : 1 ≤ m.width
+  pub most : m.width ≤ MAX_WIDTH
+  pub width : slice_index (widths net.nodes) m.node ≡ m.width
+
+-- the sum of an adder has no more bits than a signal
+pub record IsNarrow (input : Format) (a : Adder) : Type 0 where
+  pub some : 1 ≤ input.width
+  pub sum : input.width + bit_length a.value + dropped a.step.form a.step.shift ≤ MAX_WIDTH
+  pub shift : a.step.shift ≤ MAX_WIDTH
+
+-- adders over an input, each of the values before it
+pub record AreAdders (input : Format) (adders : List Adder) : Type 0 where
+  pub some : 1 ≤ input.width
+  pub most : input.width ≤ MAX_INPUT
+  pub members : All IsMember (values adders)
+  pub wired : IsWired (1 ∷ []) adders
+
+-- the multiple by the odd part of a constant, unless that is 0
+abbrev pub HasOddPart : List Multiple → ℤ → Type 0
+HasOddPart known t = t ≢ pos 0 → Contains (factors known) (odd_part (unsigned_abs t))

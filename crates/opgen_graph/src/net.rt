@@ -1,0 +1,49 @@
+ghost use Rattle.std.specs.Prelude.{◌≡◌, ℕ, List, IsTrue, IfOk};
+ghost use Rattle.opgen_design.specs.Names.{is_allowed_name};
+ghost use Rattle.opgen_net.specs.Named.{IsNamed};
+ghost use Rattle.opgen_net.specs.Valid.{IsValid};
+ghost use Rattle.opgen_operator.specs.Accepted.{IsAcceptedSeveral};
+ghost use Rattle.opgen_operator.specs.Fits.{FitsSpecsOf};
+ghost use Rattle.opgen_operator.specs.declared.spec.Operator.TheVariants.{Mcm};
+ghost use Rattle.opgen_graph.specs.Recipe.{with_input, net_of_graph};
+ghost use Rattle.opgen_graph.specs.Served.{Serves};
+
+use crate::adders::place_adders;
+use crate::constants::place_outputs;
+use crate::ranks::Graph;
+use opgen_net::Net;
+use opgen_num::Memory;
+use opgen_operator::{Several, outputs_are_wide, outputs_hold};
+use std::alloc::Global;
+
+// The net of the input.
+fn input(alloc: Global, several: &Several) -> Result<Net, Memory>
+    requires { IsAcceptedSeveral several.now }
+    ensures net { IfOk result (λ net. net ≡ with_input several.now.input) }
+    ensures valid { IfOk result IsValid }
+{
+    let mut net = Net::new(alloc);
+    let _x = net.input("x", several.input.width)?;
+    Ok(net)
+}
+
+/// The net of several constants times the input `x`, with the outputs `y0`, `y1` and so on, by the
+/// adders of a graph.
+///
+/// Each adder is one addition or subtraction of shifted nodes. A constant is read off the node of
+/// its odd part, and taken off zeros where it is below 0.
+pub fn graph_net(alloc: Global, graph: &Graph, several: &Several) -> Result<Net, Memory>
+    requires several { IsAcceptedSeveral several.now }
+    requires graph { Serves several.now.constants graph.now }
+    ensures net { IfOk result (λ net. net ≡ net_of_graph graph.now several.now) }
+    ensures fits { IfOk result (FitsSpecsOf (Mcm several.now)) }
+    ensures named { IfOk result (λ net. (name : List ℕ) → IsTrue (is_allowed_name name) → IsNamed name net) }
+{
+    outputs_hold();
+    outputs_are_wide();
+    let mut net = input(alloc, several)?;
+    let adders = graph.adders.as_slice();
+    let known = place_adders(alloc, &mut net, several.input, adders)?;
+    place_outputs(alloc, &mut net, several, known.as_slice())?;
+    Ok(net)
+}

@@ -1,0 +1,8 @@
+use Rattle.std.proofs.Common.{take}
+use Rattle.opgen_steps.specs.Programs.{widths_of}
+use Rattle.opgen_machine.specs.Moves.{HandsOn}
+use Rattle.opgen_machine.proofs.registers.moves.Given as goal
+
+abbrev pub invariant-loop-driver : goal.invariant-loop-driver
+invariant-loop-driver l = HandsOn l.base (record { signals = l.signals; ports = l.ports }) l.enable (widths_of l.signals)
+    (take l.driver-index l.drivers) l.fn.steps.items l.steps.items l.moves.items

@@ -1,0 +1,5 @@
+pub mod Layout
+pub mod Laid
+pub mod Settles
+pub mod Moves
+pub mod Machines

@@ -1,0 +1,14 @@
+//! Machines: designs of words of at most 64 bits as flat lists of steps over one memory.
+#![tactic(auto)]
+
+mod drivers;
+mod layout;
+mod machine;
+mod program;
+mod registers;
+mod tables;
+
+pub use machine::Machine;
+pub use program::Program;
+pub use registers::Move;
+pub use tables::is_flat;

@@ -1,0 +1,87 @@
+ghost use Rattle.std.specs.Prelude.{◌≡◌, ◌<◌, ◌^◌, IfOk};
+ghost use Rattle.std.specs.List.{AllZip};
+ghost use Rattle.opgen_design.specs.Order.{IsOrderOf};
+ghost use Rattle.opgen_design.specs.Sound.{HasNumbers, IsSound};
+ghost use Rattle.opgen_machine.specs.Laid.{HasRoom, IsFlat};
+ghost use Rattle.opgen_machine.specs.Layout.{first_spots, rest_of};
+ghost use Rattle.opgen_machine.specs.Machines.{IsProgramOf};
+
+use crate::drivers::settle;
+use crate::layout::{output_places, port_spots, signal_spots};
+use crate::registers::{Move, moves};
+use opgen_design::Design;
+use opgen_steps::{Spot, Step};
+use std::alloc::{AllocError, Global};
+
+/// The steps of a design's cycle, the moves at its end, and the places of the numbers of the output ports.
+#[derive(Drop)]
+pub struct Program {
+    pub steps: Vec<Step>,
+    pub moves: Vec<Move>,
+    pub outputs: Vec<usize>,
+}
+
+// The program of a design over the spots of its words before a cycle.
+fn compile_on(
+    alloc: Global,
+    design: &Design,
+    order: &[usize],
+    base: usize,
+    tables: &[usize],
+    signals: &mut [Spot],
+    ports: &mut [Spot],
+) -> Result<Program, AllocError>
+    requires sound { IsSound design.now }
+    requires order { IsOrderOf design.now order.now }
+    requires flat { IsFlat design.now }
+    requires base { base < 2 ^ 63 }
+    requires behind { rest_of design.now < base }
+    requires room { AllZip (HasRoom base) design.now.drivers tables.now }
+    requires signals { signals.old ≡ (first_spots design.now).signals }
+    requires ports { ports.old ≡ (first_spots design.now).ports }
+    ensures { IfOk result (λ p. IsProgramOf design.now tables.now base p) }
+{
+    let mut steps = Vec::new(alloc);
+    let drivers = design.drivers.as_slice();
+    settle(&mut steps, base, signals, ports, drivers, tables, order)?;
+    let moves = moves(
+        alloc,
+        &mut steps,
+        base,
+        signals,
+        ports,
+        design.enable,
+        drivers,
+    )?;
+    let outputs = output_places(alloc, design.ports.as_slice(), ports)?;
+    Ok(Program {
+        steps,
+        moves,
+        outputs,
+    })
+}
+
+/// Translates a design, whose words before a cycle stand first among `base` numbers: those of the signals, those of the inputs, and
+/// at `rest` one for the outputs. Behind them stand the tables at their places.
+pub(crate) fn compile(
+    alloc: Global,
+    design: &Design,
+    order: &[usize],
+    base: usize,
+    rest: usize,
+    tables: &[usize],
+) -> Result<Program, AllocError>
+    requires sound { IsSound design.now }
+    requires numbers { HasNumbers design.now }
+    requires order { IsOrderOf design.now order.now }
+    requires flat { IsFlat design.now }
+    requires base { base < 2 ^ 63 }
+    requires rest { rest ≡ rest_of design.now }
+    requires behind { rest < base }
+    requires room { AllZip (HasRoom base) design.now.drivers tables.now }
+    ensures { IfOk result (λ p. IsProgramOf design.now tables.now base p) }
+{
+    let mut signals = signal_spots(alloc, design.signals.as_slice())?;
+    let mut ports = port_spots(alloc, design.ports.as_slice(), signals.len(), rest)?;
+    compile_on(alloc, design, order, base, tables, &mut signals, &mut ports)
+}

@@ -1,0 +1,83 @@
+ghost use Rattle.std.specs.Prelude.{◌≡◌, ◌^◌, ◌≤◌, ◌<◌, ℕ, length, IfOk, IfSome, OnOk, IsOk};
+ghost use Rattle.std.specs.Thread.{IsSync};
+ghost use Rattle.opgen_bound.specs.Passes.{view, IsPassOf};
+ghost use Rattle.opgen_bound.specs.Steps.{joined};
+ghost use Rattle.opgen_search.specs.Covered.{best_of, IsLesser};
+ghost use Rattle.opgen_search.specs.Forks.{IsAnswered, IsAsked, IsFound, IsShort};
+
+use crate::gate::Gate;
+use crate::hunt::Search;
+use crate::piece::{Found, run_piece};
+use crate::take::lesser;
+use opgen_bound::{Bound, Pass};
+use std::alloc::{AllocError, Global};
+use std::thread::{Threads, join};
+
+type Best = Result<Option<Vec<u32>>, AllocError>;
+
+// The lesser of two answers, if there was memory for both.
+fn lesser_of(one: Best, other: Best, width: u32) -> Best
+    requires one { IfOk one (λ best. IfSome (best_of best) (λ set. length set < 2 ^ 31)) }
+    requires other { IfOk other (λ best. IfSome (best_of best) (λ set. length set < 2 ^ 31)) }
+    ensures count { IfOk result (λ best. IfSome (best_of best) (λ set. length set < 2 ^ 31)) }
+    ensures lesser { IfOk result (λ best. IfOk one (λ first. IfOk other (λ second. IsLesser width (best_of first) (best_of second) (best_of best)))) }
+    ensures one { OnOk result (IsOk one) }
+    ensures other { OnOk result (IsOk other) }
+{
+    Ok(lesser(one?, other?, width))
+}
+
+// What two lots of pieces found together: it covers the parts of both.
+fn merge(bound: &Bound, search: &Search, left: Found, right: Found) -> Found
+    requires bounds { IsPassOf bound.now left.pass × IsPassOf bound.now right.pass }
+    requires counts { IsShort left × IsShort right }
+    ensures bound { IsPassOf bound.now result.pass }
+    ensures view { view result.pass ≡ joined (view left.pass) (view right.pass) }
+    ensures count { IsShort result }
+    ensures answered { (low middle high : ℕ) → low ≤ middle → middle ≤ high → IsAnswered search.now low middle left → IsAnswered search.now middle high right → IsAnswered search.now low high result }
+{
+    let Found {
+        best: one,
+        mut pass,
+    } = left;
+    let Found {
+        best: other,
+        pass: second,
+    } = right;
+    bound.join(&mut pass, second);
+    let best = lesser_of(one, other, search.width);
+    Found { best, pass }
+}
+
+/// The pieces from `low` up to `high`, forked by `join`.
+pub fn run_pieces<R: Threads + Sync, G: Gate + Sync>(
+    rt: &R,
+    alloc: Global,
+    bound: &Bound,
+    search: &Search,
+    gate: &G,
+    mut pass: Pass,
+    low: u32,
+    high: u32,
+) -> Found
+    requires { IsAsked bound.now search.now pass low high }
+    ensures { IsFound bound.now search.now pass low high result }
+{
+    if high - low == 1 {
+        return run_piece(alloc, bound, search, gate, pass, low);
+    }
+    let middle = low + (high - low) / 2;
+    let other = bound.split(&mut pass);
+    let (left, right) = join(
+        rt,
+        move || -> Found
+            requires { IsSync R.row × IsSync G.row × IsAsked bound.now search.now other low middle }
+            ensures { IsFound bound.entry.now search.entry.now other low middle result }
+        { run_pieces(rt, alloc, bound, search, gate, other, low, middle) },
+        move || -> Found
+            requires { IsSync R.row × IsSync G.row × IsAsked bound.now search.now pass middle high }
+            ensures { IsFound bound.entry.now search.entry.now pass middle high result }
+        { run_pieces(rt, alloc, bound, search, gate, pass, middle, high) },
+    );
+    merge(bound, search, left, right)
+}

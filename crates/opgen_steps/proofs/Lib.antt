@@ -1,0 +1,6 @@
+pub mod Exec
+pub mod Numbers
+pub mod Narrow
+pub mod Gives
+pub mod Emitted
+pub mod Puts

@@ -1,0 +1,77 @@
+-- From what a number gives to what `workload` answers.
+use Rattle.std.proofs.Common.{◌≡◌, ◌⊎◌, inl, inr, ℕ, false, List, length, Option, Some, Result, Ok, Err, refl, sym, ap, subst, arith}
+use Rattle.opgen_command.specs.declared.command.Command.TheVariants.{Workload}
+use Rattle.opgen_io.specs.Files.{Files}
+use Rattle.opgen_operator.specs.declared.spec.Spec.{Spec}
+use Rattle.opgen_pipe.specs.declared.planning.Planned.{Planned}
+use Rattle.opgen_workload.specs.Filter.{workload_spec}
+use Rattle.opgen_top.specs.declared.answer.Answer.{Answer as Held}
+use Rattle.opgen_top.specs.declared.answer.Refusal.{Refusal}
+use Rattle.opgen_top.specs.declared.answer.Refusal.TheVariants as refusals
+use Rattle.opgen_top.specs.declared.specified.Specified.{Specified}
+use Rattle.opgen_top.specs.Answer.{Answer, worked}
+use Rattle.opgen_top.specs.Prepared.{Reads, Answers, HasWorked, IsListed, IsMadeFor, IsPrepared, OnRefusal, answer_of, refusal_of}
+use Rattle.opgen_top.specs.Printed as printed
+use Rattle.opgen_top.specs.Specified.{OnTable, OnTarget}
+use Rattle.opgen_top.specs.Targets.{Device, chosen}
+use Rattle.opgen_top.specs.Workload.{IsAnswerToWorkload, IsWorked}
+use Rattle.opgen_top.proofs.Listed.{listed_success}
+use Rattle.opgen_top.proofs.PreparingSpecs.{status_of}
+use Rattle.opgen_top.proofs.SpecCases.{cases_of_target, on_table-map, on_table_of, on_target-map}
+
+module _ (n : ℕ) (devices : List Device) where
+  -- a refusal of the filter answers the number
+  filter_refused : (refusal : Refusal)
+      → OnRefusal refusal (λ a. OnTarget (chosen (workload_spec n).target devices) (workload_spec n) a (λ table. OnTable (workload_spec n) table a ⊥))
+      → OnRefusal refusal (IsAnswerToWorkload n devices)
+  filter_refused (refusals.Line line) h =
+      let spec = workload_spec n in
+      on_target-map (chosen spec.target devices) spec (refusal_of line) _ _
+      (λ table. on_table-map spec table (refusal_of line) ⊥ (IsWorked n table (refusal_of line)) (λ none. absurd none)) h
+  filter_refused refusals.Memory h = tt
+
+  pub spec_refused : (spec : Spec) → spec ≡ workload_spec n → (refusal : Refusal)
+      → OnRefusal refusal (λ a. OnTarget (chosen spec.target devices) spec a (λ table. OnTable spec table a ⊥)) → OnRefusal refusal (IsAnswerToWorkload n devices)
+  spec_refused spec filter refusal h =
+      filter_refused refusal (subst (λ s. OnRefusal refusal (λ a. OnTarget (chosen s.target devices) s a (λ table. OnTable s table a ⊥))) filter h)
+
+  -- and so does a run of its circuit
+  pub spec_worked : (spec : Spec) → spec ≡ workload_spec n → (made : Specified) → IsMadeFor spec false devices made → (a : Answer) → HasWorked n made.circuit.planned a
+      → IsAnswerToWorkload n devices a
+  spec_worked spec filter made is a h =
+      let same : IsMadeFor (workload_spec n) false devices made = subst (λ s. IsMadeFor s false devices made) filter is in
+      on_table_of (workload_spec n) devices a (λ table. OnTable (workload_spec n) table a (IsWorked n table a)) same.table same.of_target
+      (inr (inr record { planned = made.circuit.planned; adders = made.circuit.adders.items; circuit = same.circuit; good = h.good; judged = h.judged; answer = h.answer }))
+
+  -- the answer to a number has status 0 or 1
+  number_status : (a : Answer) → IsAnswerToWorkload n devices a → (a.status ≡ 0) ⊎ (a.status ≡ 1)
+  number_status a h =
+      cases_of_target devices (workload_spec n) a (λ table. OnTable (workload_spec n) table a (IsWorked n table a)) ((a.status ≡ 0) ⊎ (a.status ≡ 1))
+      (λ found is. inr (ap status_of is))
+      (λ device found takes is. inr (ap status_of is))
+      (λ table of on. elim on [
+        | inl short ↦ inr (ap status_of short.answer)
+        | inr (inl large) ↦ inr (ap status_of large.answer)
+        | inr (inr made) ↦ inl (ap status_of made.answer)
+      ]) h
+
+  module _ (told : Option Files) (before now : Reads) where
+    answers : (a : Answer) → IsAnswerToWorkload n devices a → IsListed a → IsPrepared (Some (Workload n)) devices told before now a
+    answers a is listed =
+        let status = number_status a is in record {
+          listed = listed;
+          usage = λ other. absurd (elim status [ inl e ↦ omega (arith, e, other) | inr e ↦ omega (arith, e, other) ]);
+          read_counted = λ other. absurd (elim status [ inl e ↦ omega (arith, e, other) | inr e ↦ omega (arith, e, other) ]);
+          long_counted = λ other. absurd (elim status [ inl e ↦ omega (arith, e, other) | inr e ↦ omega (arith, e, other) ]);
+          due = λ files there. inr is;
+        }
+
+    pub workload-prepared : (r : Result Held Refusal) → Answers r (IsAnswerToWorkload n devices) → Answers r IsListed → Answers r (IsPrepared (Some (Workload n)) devices told before now)
+    workload-prepared (Ok held) is listed = answers (answer_of held) is listed
+    workload-prepared (Err (refusals.Line line)) is listed = answers (refusal_of line) is listed
+    workload-prepared (Err refusals.Memory) is listed = tt
+
+pub worked_listed : (n : ℕ) (planned : Planned) (a : Answer) → HasWorked n planned a → IsListed a
+worked_listed n planned a h =
+    subst IsListed (sym h.answer)
+    (listed_success (worked n (length planned.design.signals) planned.latency h.good) (printed.worked n (length planned.design.signals) planned.latency h.good refl refl) refl)

@@ -1,0 +1,3 @@
+mod Drawn
+mod Valid
+pub mod Counting

@@ -1,0 +1,36 @@
+-- The filter that is made from a number.
+use Rattle.std.specs.Prelude.{ℕ, zero, suc, ◌*◌, true, false, List, [], ◌∷◌, codes, ℤ, pos, negsuc, ◌-ℤ◌}
+use Rattle.opgen_operator.specs.declared.spec.Operator.TheVariants.{Fir}
+use Rattle.opgen_operator.specs.declared.spec.Spec.{Spec}
+use Rattle.opgen_operator.specs.declared.spec.Sum.{Sum}
+use Rattle.opgen_vec.specs.Stimulus.{drawn, next}
+
+-- a number of 15 bits from a state of the generator, with 0 in the middle
+abbrev pub coefficient : (state : ℕ) → ℤ
+coefficient state = pos (drawn 15 state) -ℤ pos 16384
+
+-- one draw after another, each from the next state
+abbrev pub coefficients : (taps state : ℕ) → List ℤ
+coefficients zero state = []
+coefficients (suc taps) state = coefficient (next state) ∷ coefficients taps (next state)
+
+-- eight taps for each unit of the number, over inputs from -1 to 1 of 12 bits
+abbrev pub workload_sum : (n : ℕ) → Sum
+workload_sum n = record {
+  input = record { signed = true; width = 12; lsb = negsuc 10 };
+  out_lsb = negsuc 10;
+  coefs = coefficients (8 * n) n;
+  den = pos 65536;
+  exact = false;
+}
+
+abbrev pub workload_spec : (n : ℕ) → Spec
+workload_spec n = record {
+  version = 1;
+  name = codes "workload";
+  op = Fir (workload_sum n);
+  exact = false;
+  target = codes "plain";
+  period = 4000;
+  delays = [];
+}
