@@ -25,7 +25,11 @@ smooth = record { input = signed_bits; out_lsb = pos 0; coefs = pos 1 ∷ pos 2 
 
 -- two signed numbers of two bits
 abbrev pub square : Product
-square = record { a = record { signed = true; width = 2; lsb = pos 0 }; b = record { signed = true; width = 2; lsb = pos 0 }; out_lsb = pos 0 }
+square = record {
+  a = record { signed = true; width = 2; lsb = pos 0 };
+  b = record { signed = true; width = 2; lsb = pos 0 };
+  out_lsb = pos 0;
+}
 
 abbrev pub quotient : Pair
 quotient = record { a = unsigned 7 (pos 0); b = unsigned 3 (pos 0); out_lsb = pos 0; exact = true }

@@ -55,7 +55,9 @@ inputs = (bit_word true ∷ []) ∷ (bit_word false ∷ []) ∷ []
 
 -- `a - (a + "01") - not (a & "0")(2 downto 1)`, where a is 2; each part by its words
 abbrev pub expression : Tree
-expression = chain Minus (more (name 0) (more (chain Plus (more (name 0) (more (bits (true ∷ false ∷ [])) none))) (more (inverse (part 1 2 1)) none)))
+expression =
+    chain Minus (more (name 0) (more (chain Plus (more (name 0) (more (bits (true ∷ false ∷ [])) none)))
+    (more (inverse (part 1 2 1)) none)))
 
 abbrev pub scope : Scope
 scope = record { names = λ n. false ∷ true ∷ true ∷ []; ports = λ n. [] }
@@ -70,8 +72,10 @@ pub record TimesThree : Type 0 where
   pub flow_before : flow times3_net.nodes inputs 1 (negsuc 6) ≡ zero_word
   pub cycle : Cycle times3_design [] (bit_word true ∷ []) cycle_words []
   -- 2 + 1 = 3 and 2 - 3 = -1 on two bits; `not` turns each bit
-  pub sum : value (record { names = λ n. false ∷ true ∷ []; ports = λ n. [] }) (chain Plus (more (name 0) (more (bits (true ∷ false ∷ [])) none))) ≡ true ∷ true ∷ []
-  pub difference : value (record { names = λ n. false ∷ true ∷ []; ports = λ n. [] }) (chain Minus (more (name 0) (more (bits (true ∷ true ∷ [])) none))) ≡ true ∷ true ∷ []
+  pub sum : value (record { names = λ n. false ∷ true ∷ []; ports = λ n. [] })
+      (chain Plus (more (name 0) (more (bits (true ∷ false ∷ [])) none))) ≡ true ∷ true ∷ []
+  pub difference : value (record { names = λ n. false ∷ true ∷ []; ports = λ n. [] })
+      (chain Minus (more (name 0) (more (bits (true ∷ true ∷ [])) none))) ≡ true ∷ true ∷ []
   pub cat : value scope (chain Cat (more (bits (true ∷ [])) (more (part 0 2 1) none))) ≡ true ∷ true ∷ true ∷ []
   pub width_of : width (2 ∷ 3 ∷ []) [] expression ≡ Some 2
   pub nesting_of : nesting expression ≡ 1

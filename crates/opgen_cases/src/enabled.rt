@@ -1,6 +1,6 @@
 //! Circuits with a clock enable: the port `ce` before the others, and registers that hold where it is 0.
 use crate::running::{ran, ran_over};
-use opgen_harness::documents::{SCALE, changed};
+use opgen_harness::documents::{SCALE, THIRD, changed};
 use opgen_harness::running::{Outcome, holds};
 use opgen_harness::texts::{TIMES3, TIMES3_REPORT};
 use std::alloc::{AllocError, Global};
@@ -19,20 +19,6 @@ fn generated(
     ran(rt, &words, "spec.toml", spec.as_bytes(), &[], &[])
 }
 
-/// A third of four bits, which has a register at a period of 900 ps.
-fn third(alloc: Global) -> Result<String, AllocError> {
-    changed(
-        alloc,
-        SCALE,
-        &[
-            ("name = \"times3\"", "name = \"third\""),
-            ("exact = true", "exact = false"),
-            ("period = 10000", "period = 900"),
-            ("coefficients = [3]", "coefficients = [1]\ndenominator = 3"),
-        ],
-    )
-}
-
 fn simulated(
     rt: &(impl Threads + Sync + Alloc<A = Global>),
     vhdl: &[u8],
@@ -45,8 +31,7 @@ fn simulated(
 
 #[test]
 fn registers_hold(rt: HostRuntime) -> Result<(), Fail> {
-    let spec = third(rt.alloc())?;
-    let made = generated(&rt, &spec)?;
+    let made = generated(&rt, THIRD)?;
     assert!(rt; made.out.bytes() == "wrote third.vhd and third.rpt, latency 1\n".as_bytes());
     let text = made.folder.get("third.vhd").unwrap_or(b"");
     let ran = simulated(&rt, text, "1 1\n0 f\n1 2\n0 0\n1 4\n1 f\n1 0\n")?;
@@ -69,8 +54,7 @@ fn no_register(rt: HostRuntime) -> Result<(), Fail> {
 
 #[test]
 fn other_enables(rt: HostRuntime) -> Result<(), Fail> {
-    let spec = third(rt.alloc())?;
-    let made = generated(&rt, &spec)?;
+    let made = generated(&rt, THIRD)?;
     let text = made.folder.get("third.vhd").unwrap_or(b"");
     let text = std::str::from_utf8(text).unwrap_or("");
     let test = "      if ce = \"1\" then";

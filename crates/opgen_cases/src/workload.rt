@@ -26,6 +26,14 @@ fn other_numbers(rt: HostRuntime) -> Result<(), Fail> {
 }
 
 #[test]
+fn the_largest_filter(rt: HostRuntime) -> Result<(), Fail> {
+    let ran = ran_over(&rt, &["workload", "32"], &[], &[], &[])?;
+    assert_eq!(rt; ran.status, 0);
+    assert!(rt; ran.out.bytes() == "workload 32 signals 17738 latency 2 good 62\n".as_bytes());
+    Ok(())
+}
+
+#[test]
 fn refusals(rt: HostRuntime) -> Result<(), Fail> {
     let none: Vec<Box<dyn Target>> = Vec::new(rt.alloc());
     let words = ["workload", "1"];

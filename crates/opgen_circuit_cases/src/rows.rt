@@ -4,7 +4,7 @@ use crate::running::{Case, first_wrong};
 use opgen_harness::documents::{DIVIDE, FILTER, MULTIPLY, ROOT, SCALE};
 use std::test::Fail;
 
-static SUMS: [Case; 15] = [
+static SUMS: [Case; 16] = [
     Case {
         name: "a third of four bits",
         document: SCALE,
@@ -109,6 +109,21 @@ static SUMS: [Case; 15] = [
         line: "wrote times3.vhd and times3.rpt, latency 0\n",
         inputs: "1\n2\n4\nf\n0\n",
         rows: Some("1 : 1\n2 : 1\n4 : 2\nf : 5\n0 : 0\n"),
+    },
+    Case {
+        name: "a third at 1039 whose last line of a class holds",
+        document: SCALE,
+        changes: &[
+            ("exact = true", "exact = false"),
+            ("period = 10000", "period = 1039"),
+            (
+                "coefficients = [3]",
+                "coefficients = [1]\ndenominator = 3\n[[delay]]\nclass = \"add\"\nbase = 900\nper_bit = 0\n[[delay]]\nclass = \"add\"\nbase = 100\nper_bit = 10",
+            ),
+        ],
+        line: "wrote times3.vhd and times3.rpt, latency 1\n",
+        inputs: "1\n2\n4\nf\n0\n",
+        rows: Some("1 : 0\n2 : 1\n4 : 1\nf : 2\n0 : 5\n"),
     },
     Case {
         name: "a third whose table is slow",

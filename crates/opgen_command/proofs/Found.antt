@@ -6,7 +6,8 @@ use Rattle.clap.specs.declared.error.kind.ErrorKind.TheVariants.{OutOfMemory}
 use Rattle.opgen_command.specs.Command.{unless_fault}
 
 -- an error that is no want of memory is a fault
-pub refused : (kinds : Kinds) (found : List Row) (e : Error) → HasKind kinds e → (kind_of e ≡ OutOfMemory → ⊥) → unless_fault kinds found ≡ None
+pub refused : (kinds : Kinds) (found : List Row) (e : Error) → HasKind kinds e → (kind_of e ≡ OutOfMemory → ⊥)
+    → unless_fault kinds found ≡ None
 refused [] found e (inl memory) other = absurd (other memory)
 refused [] found e (inr h) other = absurd h
 refused (k ∷ ks) found e h other = refl

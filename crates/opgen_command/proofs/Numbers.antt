@@ -28,7 +28,8 @@ numeral_from ds e =
     (ltb-true _ _ parts.0, digits_from ds parts.1)
 
 -- nothing was found
-pub none_found : (least most : ℕ) (default : Option ℕ) (found : Option (List ℕ)) → ((t : List ℕ) → found ≡ Some t → ⊥) → default ≡ option_map_or (number_in least most) found default
+pub none_found : (least most : ℕ) (default : Option ℕ) (found : Option (List ℕ)) → ((t : List ℕ) → found ≡ Some t → ⊥)
+    → default ≡ option_map_or (number_in least most) found default
 none_found least most default None none = refl
 none_found least most default (Some text) none = absurd (none text refl)
 
@@ -44,21 +45,24 @@ module _ (least most : ℕ) (small : most < 2 ^ 32) where
     -- and one that does not parse gives none: its number is too large, if it has one
     gives_none : (text : List ℕ) (e : E) → ParsesUnsigned {E = E} 32 10 text (Err e) → None ≡ number_in least most text
     gives_none text e bad = elim (cases_Bool (is_numeral (without_leading_plus text))) [
-      | inl digits ↦ rw digits (past_most (digits_value 10 (without_leading_plus text)) (elim (cases_Bool (nat_lt (digits_value 10 (without_leading_plus text)) (2 ^ 32))) [
-        | inl fits ↦ absurd (bad (numeral_from (without_leading_plus text) digits, ltb-true _ _ fits))
-        | inr large ↦ grind (arith, nat_tests)
-      ]))
+      | inl digits ↦ rw digits (past_most (digits_value 10 (without_leading_plus text))
+          (elim (cases_Bool (nat_lt (digits_value 10 (without_leading_plus text)) (2 ^ 32))) [
+            | inl fits ↦ absurd (bad (numeral_from (without_leading_plus text) digits, ltb-true _ _ fits))
+            | inr large ↦ grind (arith, nat_tests)
+          ]))
       | inr other ↦ rw other refl
     ]
 
     -- by the text that was found, if there was one
     module _ (default : Option ℕ) where
-      pub number_found : (found : Option (List ℕ)) (n : ℕ) → (found ≡ None → ◌≡◌ {A = Result (Option ℕ) E} (Ok (Some n)) (Ok None)) → ((t : List ℕ) → found ≡ Some t → ParsesUnsigned {E = E} 32 10 t (Ok n))
+      pub number_found : (found : Option (List ℕ)) (n : ℕ) → (found ≡ None → ◌≡◌ {A = Result (Option ℕ) E} (Ok (Some n)) (Ok None))
+          → ((t : List ℕ) → found ≡ Some t → ParsesUnsigned {E = E} 32 10 t (Ok n))
           → within least most n ≡ option_map_or (number_in least most) found default
       number_found None n none some = let bad = none refl in cc
       number_found (Some text) n none some = gives text n (some text refl)
 
-      pub no_number_found : (found : Option (List ℕ)) (e : E) → (found ≡ None → ◌≡◌ {A = Result (Option ℕ) E} (Err e) (Ok None)) → ((t : List ℕ) → found ≡ Some t → ParsesUnsigned {E = E} 32 10 t (Err e))
+      pub no_number_found : (found : Option (List ℕ)) (e : E) → (found ≡ None → ◌≡◌ {A = Result (Option ℕ) E} (Err e) (Ok None))
+          → ((t : List ℕ) → found ≡ Some t → ParsesUnsigned {E = E} 32 10 t (Err e))
           → None ≡ option_map_or (number_in least most) found default
       no_number_found None e none some = let bad = none refl in cc
       no_number_found (Some text) e none some = gives_none text e (some text refl)

@@ -46,7 +46,8 @@ vectors_app = with_rule (with_rule (with_rule (new_app (codes "vectors")) (word 
 
 -- `simulate VHDL VECTORS OUT`
 abbrev pub simulate_app : App
-simulate_app = with_rule (with_rule (with_rule (new_app (codes "simulate")) (word (codes "VHDL"))) (word (codes "VECTORS"))) (word (codes "OUT"))
+simulate_app = with_rule (with_rule (with_rule (new_app (codes "simulate")) (word (codes "VHDL"))) (word (codes "VECTORS")))
+    (word (codes "OUT"))
 
 -- `workload N`
 abbrev pub workload_app : App

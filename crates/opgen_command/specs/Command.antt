@@ -28,7 +28,8 @@ within least most number = if nat_le least number && nat_le number most then Som
 
 -- the same, of the number that a text writes in decimal, perhaps after a plus
 abbrev pub number_in : (least most : ℕ) → List ℕ → Option ℕ
-number_in least most text = if is_numeral (without_leading_plus text) then within least most (digits_value 10 (without_leading_plus text)) else None
+number_in least most text = if is_numeral (without_leading_plus text) then within least most
+    (digits_value 10 (without_leading_plus text)) else None
 
 -- the number that was found under a name, or else the default
 abbrev pub number_of : (name : List ℕ) (least most : ℕ) (default : Option ℕ) → List Row → Option ℕ
@@ -45,7 +46,8 @@ generate_of found = option_and_then (λ spec. option_map (λ workers. Generate s
 
 abbrev pub vectors_of : List Row → Option Command
 vectors_of found = option_and_then (λ spec. option_and_then (λ seed. option_map (λ cycles. Vectors spec seed cycles)
-    (number_of (codes "cycles") 1 100000 (Some 16) found)) (number_of (codes "seed") 0 4294967295 (Some 0) found)) (word_of (codes "SPEC") found)
+    (number_of (codes "cycles") 1 100000 (Some 16) found)) (number_of (codes "seed") 0 4294967295 (Some 0) found))
+    (word_of (codes "SPEC") found)
 
 abbrev pub simulate_of : List Row → Option Command
 simulate_of found = option_and_then (λ vhdl. option_and_then (λ vectors. option_map (λ out. Simulate vhdl vectors out)

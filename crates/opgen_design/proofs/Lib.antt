@@ -1,4 +1,3 @@
-mod Underscores
 pub mod ValueLaws
 pub mod WidthLaws
 pub mod ReadLaws

@@ -9,4 +9,3 @@ pub mod Enabled
 pub mod Sound
 pub mod Rules
 pub mod Order
-pub mod Names

@@ -6,7 +6,6 @@ mod design;
 mod expr;
 mod formula;
 pub mod laws;
-pub mod names;
 mod order;
 mod reads;
 mod rules;

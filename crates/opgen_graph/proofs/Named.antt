@@ -8,7 +8,7 @@ use Rattle.std.proofs.lemmas.List.{map-append, append-nil}
 use Rattle.std.proofs.lemmas.List.Elements.{All-nil, All-cons}
 use Rattle.std.proofs.lemmas.List.Kept.{AllPairs-cons}
 use Rattle.opgen_num.specs.declared.format.Format.{Format}
-use Rattle.opgen_design.specs.Names.{is_allowed_name, refused_words}
+use Rattle.opgen_names.specs.Names.{is_allowed_name, refused_words}
 use Rattle.opgen_net.specs.declared.net.Output.{Output}
 use Rattle.opgen_net.specs.Named.{port_names, IsFree, IsNamed}
 use Rattle.opgen_operator.specs.Accepted.{IsAcceptedSeveral}

@@ -42,17 +42,24 @@ suc_climbs (x ∷ y ∷ ys) h =
 pub climbs : (xs : List ℕ) → IsStrictlyIncreasing xs → Climbs xs
 climbs xs h = suc_climbs xs (λ k lt. subst (λ n. get_or xs k 0 < get_or xs n 0) (add-one k) (h k (omega (arith, lt))))
 
-built_up : (placed xs : List ℕ) → Contains placed 1 → Climbs xs → ((x : ℕ) → Contains xs x → (y : ℕ) × (y < x) × (Contains placed y ⊎ Contains xs y) × Comb 1 y x) → Built placed xs
+built_up : (placed xs : List ℕ) → Contains placed 1 → Climbs xs
+    → ((x : ℕ) → Contains xs x → (y : ℕ) × (y < x) × (Contains placed y ⊎ Contains xs y) × Comb 1 y x) → Built placed xs
 built_up placed [] one h each = tt
 built_up placed (f ∷ fs) one h each =
     let (y, lt, from, comb) = each f (here f fs) in
-    let y_placed : Contains placed y = ⊎_elim (λ (k : Contains placed y). k) (λ (k : Contains (f ∷ fs) y). ⊎_elim (λ (e : f ≡ y). absurd (omega (arith, e, lt))) (λ (m : Contains fs y). absurd (omega (arith, h.0 y m, lt))) (of_cons f y fs k)) from in
+    let y_placed : Contains placed y =
+    ⊎_elim (λ (k : Contains placed y). k) (λ (k : Contains (f ∷ fs) y). ⊎_elim (λ (e : f ≡ y). absurd (omega (arith, e, lt)))
+    (λ (m : Contains fs y). absurd (omega (arith, h.0 y m, lt))) (of_cons f y fs k)) from in
     let next = λ (x : ℕ) (c : Contains fs x). later x (each x (there f x fs c)) in
     ((1, y, one, y_placed, comb), built_up (placed ++ f ∷ []) fs (Contains-append_left placed (f ∷ []) 1 one) h.1 next)
   where
-    later : (x : ℕ) → (y : ℕ) × (y < x) × (Contains placed y ⊎ Contains (f ∷ fs) y) × Comb 1 y x → (y : ℕ) × (y < x) × (Contains (placed ++ f ∷ []) y ⊎ Contains fs y) × Comb 1 y x
+    later : (x : ℕ) → (y : ℕ) × (y < x) × (Contains placed y ⊎ Contains (f ∷ fs) y) × Comb 1 y x
+        → (y : ℕ) × (y < x) × (Contains (placed ++ f ∷ []) y ⊎ Contains fs y) × Comb 1 y x
     later x (y, lt, from, comb) =
-        let moved = λ (k : Contains (f ∷ fs) y). ⊎_elim (λ (e : f ≡ y). inl (Contains-append_right placed (f ∷ []) y (subst (Contains (f ∷ [])) e (here f [])))) (λ (m : Contains fs y). inr m) (of_cons f y fs k) in
+        let moved =
+        λ (k : Contains (f ∷ fs) y). ⊎_elim
+        (λ (e : f ≡ y). inl (Contains-append_right placed (f ∷ []) y (subst (Contains (f ∷ [])) e (here f []))))
+        (λ (m : Contains fs y). inr m) (of_cons f y fs k) in
         (y, lt, ⊎_elim (λ (k : Contains placed y). inl (Contains-append_left placed (f ∷ []) y k)) moved from, comb)
 
 -- ---- the laws
@@ -63,9 +70,14 @@ pub digit_sets_reach : (targets set : List ℕ) → All IsTarget targets → IsD
 digit_sets_reach targets set ht d =
     let member = λ (x : ℕ) (c : Contains set x). from x ((d.members x).0 c) in
     record {
-      adders = record { increasing = d.increasing; members = all_of IsMember set (λ x c. let m = member x c in (m.0, m.1, omega (arith, m.2))) };
+      adders = record {
+        increasing = d.increasing;
+        members = all_of IsMember set (λ x c. let m = member x c in
+            (m.0, m.1, omega (arith, m.2)));
+      };
       has_targets = λ t c. let m = All-contains IsTarget targets t ht c in (d.members t).1 (t, c, own t m);
-      reachable = (set, IsPermutation-refl set, built_up (1 ∷ []) set (here 1 []) (climbs set d.increasing) (λ x c. stands x ((d.members x).0 c)));
+      reachable =
+          (set, IsPermutation-refl set, built_up (1 ∷ []) set (here 1 []) (climbs set d.increasing) (λ x c. stands x ((d.members x).0 c)));
     }
   where
     from : (x : ℕ) → (t : ℕ) × Contains targets t × IsPartialOf t x → (x % 2 ≡ 1) × (1 < x) × (x ≤ 2047)
@@ -74,39 +86,62 @@ digit_sets_reach targets set ht d =
     own : (t : ℕ) → IsTarget t → IsPartialOf t t
     own t m = let (ds, h, v) = some_form (pos t) in (ds, h, v, partials_end ds t h v m.0 m.1)
 
-    stands : (x : ℕ) → (t : ℕ) × Contains targets t × IsPartialOf t x → (y : ℕ) × (y < x) × (Contains (1 ∷ []) y ⊎ Contains set y) × Comb 1 y x
+    stands : (x : ℕ) → (t : ℕ) × Contains targets t × IsPartialOf t x → (y : ℕ) × (y < x) × (Contains (1 ∷ []) y ⊎ Contains set y)
+        × Comb 1 y x
     stands x (t, c, (ds, h, v, k)) =
         let m = All-contains IsTarget targets t ht c in
         let s = sum_of t x m (ds, h, v, k) in
-        let (i, y, le, lt, below, power) = s.step in
-        (y, lt, ⊎_elim (λ (e : y ≡ 1). inl (subst (Contains (1 ∷ [])) (sym e) (here 1 []))) (λ (j : Contains (partials ds) y). inr ((d.members y).1 (t, c, (ds, h, v, j)))) below, comb_of i y x le power)
+        let (i, y, le, lt, below, power) = s.step in (
+          y,
+          lt,
+          ⊎_elim (λ (e : y ≡ 1). inl (subst (Contains (1 ∷ [])) (sym e) (here 1 [])))
+              (λ (j : Contains (partials ds) y). inr ((d.members y).1 (t, c, (ds, h, v, j)))) below,
+          comb_of i y x le power,
+        )
 
 -- ---- the loops of `csd_set`
 pub unique_partial : (t x : ℕ) (ds : List ℤ) → IsCanonical ds → value_of ds ≡ pos t → IsPartialOf t x → Contains (partials ds) x
 unique_partial t x ds h v (es, k, w, c) = subst (λ xs. Contains (partials xs) x) (unique es ds k h (w ∙ sym v)) c
 
-pub partials_small : (t : ℕ) (ds : List ℤ) → IsTarget t → IsCanonical ds → value_of ds ≡ pos t → (k : ℕ) → k < length (partials ds) → get_or (partials ds) k 0 ≤ 2047
-partials_small t ds ht h v k lt = let s = partials_step_up ds t h v ht.0 (get_or (partials ds) k 0) (Contains-get_or (partials ds) k 0 lt) in omega (arith, s.most, ht)
+pub partials_small : (t : ℕ) (ds : List ℤ) → IsTarget t → IsCanonical ds → value_of ds ≡ pos t → (k : ℕ) → k < length (partials ds)
+    → get_or (partials ds) k 0 ≤ 2047
+partials_small t ds ht h v k lt = let s = partials_step_up ds t h v ht.0 (get_or (partials ds) k 0)
+    (Contains-get_or (partials ds) k 0 lt) in omega (arith, s.most, ht)
 
-pub appended : (t : ℕ) (ds : List ℤ) (old new : List ℕ) → IsCanonical ds → value_of ds ≡ pos t → new ≡ old ++ partials ds → (x : ℕ) → Contains new x ↔ (Contains old x ⊎ IsPartialOf t x)
+pub appended : (t : ℕ) (ds : List ℤ) (old new : List ℕ) → IsCanonical ds → value_of ds ≡ pos t → new ≡ old ++ partials ds → (x : ℕ)
+    → Contains new x ↔ (Contains old x ⊎ IsPartialOf t x)
 appended t ds old new h v e x = (
-  λ c. ⊎_elim (λ (k : Contains old x). inl k) (λ (k : Contains (partials ds) x). inr (ds, h, v, k)) (Contains-append_cases old (partials ds) x (subst (λ xs. Contains xs x) e c)),
-  λ o. subst (λ xs. Contains xs x) (sym e) (⊎_elim (λ (k : Contains old x). Contains-append_left old (partials ds) x k) (λ (p : IsPartialOf t x). Contains-append_right old (partials ds) x (unique_partial t x ds h v p)) o),
+  λ c. ⊎_elim (λ (k : Contains old x). inl k) (λ (k : Contains (partials ds) x). inr (ds, h, v, k))
+      (Contains-append_cases old (partials ds) x (subst (λ xs. Contains xs x) e c)),
+  λ o. subst (λ xs. Contains xs x) (sym e) (⊎_elim (λ (k : Contains old x). Contains-append_left old (partials ds) x k)
+      (λ (p : IsPartialOf t x). Contains-append_right old (partials ds) x (unique_partial t x ds h v p)) o),
 )
 
 abbrev pub Covers : List ℕ → List ℕ → Type 0
 Covers set targets = (x : ℕ) → Contains set x ↔ ((t : ℕ) × Contains targets t × IsPartialOf t x)
 
-pub covers_more : (old new targets : List ℕ) (i : ℕ) → i < length targets → Covers old (take i targets) → ((x : ℕ) → Contains new x ↔ (Contains old x ⊎ IsPartialOf (get_or targets i 0) x)) → Covers new (take (i + 1) targets)
+pub covers_more : (old new targets : List ℕ) (i : ℕ) → i < length targets → Covers old (take i targets)
+    → ((x : ℕ) → Contains new x ↔ (Contains old x ⊎ IsPartialOf (get_or targets i 0) x)) → Covers new (take (i + 1) targets)
 covers_more old new targets i lt before more x = rw (take_more targets i 0 lt) (
-  λ c. ⊎_elim (λ (k : Contains old x). let (t, m, p) = (before x).0 k in (t, Contains-append_left (take i targets) (get_or targets i 0 ∷ []) t m, p)) (λ (p : IsPartialOf (get_or targets i 0) x). (get_or targets i 0, Contains-append_right (take i targets) (get_or targets i 0 ∷ []) (get_or targets i 0) (here (get_or targets i 0) []), p)) ((more x).0 c),
+  λ c. ⊎_elim (λ (k : Contains old x). let (t, m, p) = (before x).0 k in
+      (t, Contains-append_left (take i targets) (get_or targets i 0 ∷ []) t m, p))
+      (λ (p : IsPartialOf (get_or targets i 0) x). (
+        get_or targets i 0,
+        Contains-append_right (take i targets) (get_or targets i 0 ∷ []) (get_or targets i 0) (here (get_or targets i 0) []),
+        p,
+      ))
+      ((more x).0 c),
   λ o. (more x).1 (known o),
 )
   where
-    known : (t : ℕ) × Contains (take i targets ++ get_or targets i 0 ∷ []) t × IsPartialOf t x → Contains old x ⊎ IsPartialOf (get_or targets i 0) x
-    known (t, m, p) = ⊎_elim (λ (k : Contains (take i targets) t). inl ((before x).1 (t, k, p))) (λ (k : Contains (get_or targets i 0 ∷ []) t). inr (subst (λ n. IsPartialOf n x) (sym (of_one (get_or targets i 0) t k)) p)) (Contains-append_cases (take i targets) (get_or targets i 0 ∷ []) t m)
+    known : (t : ℕ) × Contains (take i targets ++ get_or targets i 0 ∷ []) t × IsPartialOf t x → Contains old x
+        ⊎ IsPartialOf (get_or targets i 0) x
+    known (t, m, p) = ⊎_elim (λ (k : Contains (take i targets) t). inl ((before x).1 (t, k, p)))
+        (λ (k : Contains (get_or targets i 0 ∷ []) t). inr (subst (λ n. IsPartialOf n x) (sym (of_one (get_or targets i 0) t k)) p))
+        (Contains-append_cases (take i targets) (get_or targets i 0 ∷ []) t m)
 
-pub digit_set : (targets set sorted : List ℕ) (n : ℕ) → length targets ≤ n → Covers set (take n targets) → IsPermutation set sorted → IsSorted nat_cmp sorted → IsDigitSet targets (dedup eqb sorted)
+pub digit_set : (targets set sorted : List ℕ) (n : ℕ) → length targets ≤ n → Covers set (take n targets) → IsPermutation set sorted
+    → IsSorted nat_cmp sorted → IsDigitSet targets (dedup eqb sorted)
 digit_set targets set sorted n le covers perm up = record {
   increasing = IsStrictlyIncreasing-dedup sorted up;
   members = λ x.

@@ -41,18 +41,23 @@ one_step u v f s t hs ht =
 same_adder : (a b : Adder) → a.value ≡ b.value → a.u ≡ b.u → a.v ≡ b.v → a.step ≡ b.step → a ≡ b
 same_adder a b e u v s =
     let make : ℕ → ℕ → ℕ → Step → Adder = λ w x y z. record { value = w; u = x; v = y; step = z } in
-    ap (λ w. make w a.u a.v a.step) e ∙ ap (λ x. make b.value x a.v a.step) u ∙ ap (λ y. make b.value b.u y a.step) v ∙ ap (λ z. make b.value b.u b.v z) s
+    ap (λ w. make w a.u a.v a.step) e ∙ ap (λ x. make b.value x a.v a.step) u ∙ ap (λ y. make b.value b.u y a.step) v
+    ∙ ap (λ z. make b.value b.u b.v z) s
 
 comb_of : (u v f : ℕ) (s : Step) → IsFirstStep u v f s → Comb u v f
 comb_of u v f s h = (s.form, s.shift, h.shifted, h.makes)
 
 one_adder : (placed : List ℕ) (a b : Adder) → IsFirstAdder placed a → IsFirstAdder placed b → a.value ≡ b.value → a ≡ b
 one_adder placed a b ha hb e =
-    let below : (a.u < b.u) ⊎ ((a.u ≡ b.u) × (a.v ≤ b.v)) = ha.least b.u b.v hb.u_placed hb.v_placed (subst (Comb b.u b.v) (sym e) (comb_of b.u b.v b.value b.step hb.step)) in
-    let above : (b.u < a.u) ⊎ ((b.u ≡ a.u) × (b.v ≤ a.v)) = hb.least a.u a.v ha.u_placed ha.v_placed (subst (Comb a.u a.v) e (comb_of a.u a.v a.value a.step ha.step)) in
+    let below : (a.u < b.u) ⊎ ((a.u ≡ b.u) × (a.v ≤ b.v)) =
+    ha.least b.u b.v hb.u_placed hb.v_placed (subst (Comb b.u b.v) (sym e) (comb_of b.u b.v b.value b.step hb.step)) in
+    let above : (b.u < a.u) ⊎ ((b.u ≡ a.u) × (b.v ≤ a.v)) =
+    hb.least a.u a.v ha.u_placed ha.v_placed (subst (Comb a.u a.v) e (comb_of a.u a.v a.value a.step ha.step)) in
     let u : a.u ≡ b.u = omega arith in
     let v : a.v ≡ b.v = omega arith in
-    let moved : IsFirstStep a.u a.v a.value b.step = subst (λ f. IsFirstStep a.u a.v f b.step) (sym e) (subst (λ y. IsFirstStep a.u y b.value b.step) (sym v) (subst (λ x. IsFirstStep x b.v b.value b.step) (sym u) hb.step)) in
+    let moved : IsFirstStep a.u a.v a.value b.step =
+    subst (λ f. IsFirstStep a.u a.v f b.step) (sym e)
+    (subst (λ y. IsFirstStep a.u y b.value b.step) (sym v) (subst (λ x. IsFirstStep x b.v b.value b.step) (sym u) hb.step)) in
     same_adder a b e u v (one_step a.u a.v a.value a.step b.step ha.step moved)
 
 -- ---- one round
@@ -61,7 +66,8 @@ IsNext placed f fs fresh rest =
     ((a : Adder) × (more : List Adder) × (a.value ≡ f) × (fresh ≡ a ∷ more) × IsFirstAdder placed a × Round placed fs more rest)
     ⊎ ((others : List ℕ) × (rest ≡ f ∷ others) × (Among placed f → ⊥) × Round placed fs fresh others)
 
-next_of : (placed xs : List ℕ) (fresh : List Adder) (rest : List ℕ) → Round placed xs fresh rest → (f : ℕ) (fs : List ℕ) → xs ≡ f ∷ fs → IsNext placed f fs fresh rest
+next_of : (placed xs : List ℕ) (fresh : List Adder) (rest : List ℕ) → Round placed xs fresh rest → (f : ℕ) (fs : List ℕ) → xs ≡ f ∷ fs
+    → IsNext placed f fs fresh rest
 next_of placed _ _ _ over f fs e = cc
 next_of placed _ _ rest (made a {left = left} {fresh = fresh} first r) f fs e =
     let head : a.value ≡ f = cc in
@@ -80,14 +86,18 @@ none_of placed _ fresh _ (stays g none r) e = cc
 among_of : (placed : List ℕ) (a : Adder) (f : ℕ) → a.value ≡ f → IsFirstAdder placed a → Among placed f
 among_of placed a f e h = subst (Among placed) e (a.u, a.v, h.u_placed, h.v_placed, comb_of a.u a.v a.value a.step h.step)
 
-one_round : (placed left : List ℕ) (fresh others : List Adder) (rest least : List ℕ) → Round placed left fresh rest → Round placed left others least → (fresh ≡ others) × (rest ≡ least)
+one_round : (placed left : List ℕ) (fresh others : List Adder) (rest least : List ℕ) → Round placed left fresh rest
+    → Round placed left others least → (fresh ≡ others) × (rest ≡ least)
 one_round placed [] fresh others rest least r s =
     let a = none_of placed [] fresh rest r refl in
     let b = none_of placed [] others least s refl in
     (a.0 ∙ sym b.0, a.1 ∙ sym b.1)
-one_round placed (f ∷ fs) fresh others rest least r s = both (next_of placed (f ∷ fs) fresh rest r f fs refl) (next_of placed (f ∷ fs) others least s f fs refl) (one_round placed fs)
+one_round placed (f ∷ fs) fresh others rest least r s =
+    both (next_of placed (f ∷ fs) fresh rest r f fs refl) (next_of placed (f ∷ fs) others least s f fs refl) (one_round placed fs)
   where
-    both : IsNext placed f fs fresh rest → IsNext placed f fs others least → ((x y : List Adder) (v w : List ℕ) → Round placed fs x v → Round placed fs y w → (x ≡ y) × (v ≡ w)) → (fresh ≡ others) × (rest ≡ least)
+    both : IsNext placed f fs fresh rest → IsNext placed f fs others least
+        → ((x y : List Adder) (v w : List ℕ) → Round placed fs x v → Round placed fs y w → (x ≡ y) × (v ≡ w))
+        → (fresh ≡ others) × (rest ≡ least)
     both (inl (a, more, av, e, ha, ra)) (inl (b, less, bv, d, hb, rb)) ih =
         let tails = ih more less rest least ra rb in
         (e ∙ ap (λ x. x ∷ more) (one_adder placed a b ha hb (av ∙ sym bv)) ∙ ap (λ xs. b ∷ xs) tails.0 ∙ sym d, tails.1)
@@ -101,7 +111,8 @@ one_round placed (f ∷ fs) fresh others rest least r s = both (next_of placed (
 abbrev IsFirstRound : List ℕ → List ℕ → List Adder → Type 0
 IsFirstRound placed left adders =
     ((left ≡ []) × (adders ≡ []))
-    ⊎ ((fresh : List Adder) × (later : List Adder) × (rest : List ℕ) × (adders ≡ fresh ++ later) × Round placed left fresh rest × (fresh ≢ []) × Rounds (placed ++ values fresh) rest later)
+    ⊎ ((fresh : List Adder) × (later : List Adder) × (rest : List ℕ) × (adders ≡ fresh ++ later) × Round placed left fresh rest
+    × (fresh ≢ []) × Rounds (placed ++ values fresh) rest later)
 
 first_round : (placed left : List ℕ) (adders : List Adder) → Rounds placed left adders → IsFirstRound placed left adders
 first_round placed _ _ done = inl (refl, refl)
@@ -113,13 +124,17 @@ one_rounds placed _ _ others done s = ended (first_round placed [] others s)
     ended : IsFirstRound placed [] others → [] ≡ others
     ended (inl (_, e)) = sym e
     ended (inr (fresh, later, rest, e, r, some, next)) = absurd (some (none_of placed [] fresh rest r refl).0)
-one_rounds placed left _ others (round {rest = rest} {fresh = fresh} {later = later} r some next) s = same (first_round placed left others s) (λ x more. one_rounds (placed ++ values fresh) rest later x next more)
+one_rounds placed left _ others (round {rest = rest} {fresh = fresh} {later = later} r some next) s =
+    same (first_round placed left others s) (λ x more. one_rounds (placed ++ values fresh) rest later x next more)
   where
-    same : IsFirstRound placed left others → ((x : List Adder) → Rounds (placed ++ values fresh) rest x → later ≡ x) → fresh ++ later ≡ others
+    same : IsFirstRound placed left others → ((x : List Adder) → Rounds (placed ++ values fresh) rest x → later ≡ x)
+        → fresh ++ later ≡ others
     same (inl (e, d)) ih = absurd (some (none_of placed left fresh rest r e).0)
     same (inr (first, after, kept, e, t, _, more)) ih =
         let one = one_round placed left fresh first rest kept r t in
-        let moved : Rounds (placed ++ values fresh) rest after = subst (λ xs. Rounds (placed ++ values xs) rest after) (sym one.0) (subst (λ ys. Rounds (placed ++ values first) ys after) (sym one.1) more) in
+        let moved : Rounds (placed ++ values fresh) rest after =
+        subst (λ xs. Rounds (placed ++ values xs) rest after) (sym one.0)
+        (subst (λ ys. Rounds (placed ++ values first) ys after) (sym one.1) more) in
         ap (λ xs. fresh ++ xs) (ih after moved) ∙ ap (λ xs. xs ++ after) one.0 ∙ sym e
 
 pub one_graph : (set : List ℕ) (adders others : List Adder) → IsRanks set adders → IsRanks set others → adders ≡ others

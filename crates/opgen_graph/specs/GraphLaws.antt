@@ -9,7 +9,8 @@ use Rattle.opgen_graph.specs.Graphs.{IsRanks, values}
 abbrev pub IsWired : (placed : List ℕ) → List Adder → Type 0
 IsWired placed [] = Unit {0}
 IsWired placed (a ∷ adders) =
-    Contains placed a.u × Contains placed a.v × (1 ≤ a.step.shift) × Makes a.step.form a.step.shift a.u a.v a.value × IsWired (placed ++ a.value ∷ []) adders
+    Contains placed a.u × Contains placed a.v × (1 ≤ a.step.shift) × Makes a.step.form a.step.shift a.u a.v a.value
+    × IsWired (placed ++ a.value ∷ []) adders
 
 -- an adder for each member and no other, wired from 1 on
 pub record IsGraphOf (set : List ℕ) (adders : List Adder) : Type 0 where

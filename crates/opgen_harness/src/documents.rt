@@ -5,6 +5,10 @@ use std::alloc::{AllocError, Global};
 pub const SCALE: &str =
     "version = 1\nname = \"times3\"\nkind = \"scale\"\nexact = true\ntarget = \"plain\"\nperiod = 10000\nsigned = false\nwidth = 4\nlsb = 0\nout_lsb = 0\ncoefficients = [3]\n";
 
+/// A third of four bits, which has a register at its period of 900 ps for the target `plain`.
+pub const THIRD: &str =
+    "version = 1\nname = \"third\"\nkind = \"scale\"\nexact = false\ntarget = \"plain\"\nperiod = 900\nsigned = false\nwidth = 4\nlsb = 0\nout_lsb = 0\ncoefficients = [1]\ndenominator = 3\n";
+
 /// A filter of four taps.
 pub const FILTER: &str =
     "version = 1\nname = \"times3\"\nkind = \"fir\"\nexact = true\ntarget = \"plain\"\nperiod = 10000\nsigned = false\nwidth = 4\nlsb = 0\nout_lsb = 0\ncoefficients = [4, 8, 3, 1]\ndenominator = 4\n";

@@ -180,6 +180,13 @@ fn front_of(bytes: &[u8]) -> Option<Front>
     }
 }
 
+/// What the bytes begin with, if anything stands there.
+pub fn leading(bytes: &[u8]) -> Option<Front>
+    ensures { FrontStands bytes.now result }
+{
+    front_of(bytes)
+}
+
 /// What stands at that offset of the text, if anything does.
 pub fn front_at(bytes: &[u8], at: usize) -> Option<Front>
     requires { at ≤ length bytes.now }

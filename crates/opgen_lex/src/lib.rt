@@ -1,14 +1,15 @@
 // The lexer of the VHDL subset.
 #![tactic(auto)]
 
-ghost use Rattle.std.specs.Prelude.{◌≡◌, length, All, IfOk, IfErr};
-ghost use Rattle.opgen_vhdl.specs.Tokens.{Tokens};
+ghost use Rattle.std.specs.Prelude.{◌≡◌, length, All, IfOk, IfErr, IfSome, IfNone};
+ghost use Rattle.opgen_vhdl.specs.Tokens.{Tokens, LexicalAt};
 ghost use Rattle.opgen_vhdl.specs.Spans.{InOrder, IsWithin};
 ghost use Rattle.opgen_lex.specs.Fault.{IsLexical};
+ghost use Rattle.opgen_lex.specs.First.{HasTokens, IsFirstToken, HasNoToken};
 
 mod front;
 
-use front::front_at;
+use front::{front_at, leading};
 use opgen_vhdl::Front;
 pub use opgen_vhdl::{Token, TokenKind};
 use std::alloc::{AllocFailed, Global};
@@ -68,6 +69,45 @@ pub fn tokens(alloc: Global, bytes: &[u8]) -> Result<Vec<Token>, LexFault>
         }
     }
     Ok(found)
+}
+
+/// The first offset of a text at which neither a token nor white space nor a comment starts, where
+/// there is one. Otherwise the text has tokens.
+pub fn first_fault(bytes: &[u8]) -> Option<u64>
+    ensures some { IfSome result (LexicalAt bytes.now) }
+    ensures none { IfNone result (HasTokens bytes.now) }
+{
+    let mut at = 0;
+    'elements: while at < bytes.len() {
+        match front_at(bytes, at) {
+            Some(Front::Gap(len)) => at += len,
+            Some(Front::Token(_kind, len)) => at += len,
+            None => return Some(at as u64),
+        }
+    }
+    None
+}
+
+/// The kind and the bytes of the first token, and the bytes behind it. There is none where only white
+/// space and comments stand before the end, or before an offset at which nothing starts.
+pub fn first_token(bytes: &[u8]) -> Option<(TokenKind, &[u8], &[u8])>
+    ensures some { IfSome result (λ x. IsFirstToken bytes.now x.0 x.1.now x.2.now) }
+    ensures none { IfNone result (HasNoToken bytes.now) }
+{
+    let mut rest = bytes;
+    'gaps: while let Some(front) = leading(rest) {
+        match front {
+            Front::Gap(len) => {
+                let (_gap, behind) = rest.split_at(len);
+                rest = behind;
+            }
+            Front::Token(kind, len) => {
+                let (text, behind) = rest.split_at(len);
+                return Some((kind, text, behind));
+            }
+        }
+    }
+    None
 }
 
 #[cfg(test)]

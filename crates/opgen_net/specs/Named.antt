@@ -3,7 +3,7 @@ use Rattle.std.specs.Prelude.{ℕ, ◌+◌, ◌≤◌, ◌≢◌, ◌==◌, ◌&
 use Rattle.std.specs.Char.{is_ascii_digit}
 use Rattle.std.specs.List.{AllPairs}
 use Rattle.opgen_net.specs.declared.net.Net.{Net}
-use Rattle.opgen_design.specs.Names.{is_allowed_name}
+use Rattle.opgen_names.specs.Names.{is_allowed_name}
 
 -- the names of the ports beside `clk`: those of the inputs, then those of the outputs
 abbrev pub port_names : Net → List (List ℕ)

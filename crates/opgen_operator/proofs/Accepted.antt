@@ -2,7 +2,7 @@
 use Rattle.std.proofs.Common.{◌≡◌, ℕ, zero, suc, ◌+◌, ◌≤◌, ◌&&◌, not, length, nat_le, ap, subst, ⊎_elim, inl, inr, Some, arith}
 use Rattle.std.specs.Prelude.{IsTrue, ◌≤ℤ◌}
 use Rattle.std.proofs.lemmas.Bool.{and_parts, leb-true}
-use Rattle.opgen_design.specs.Names.{is_allowed_name}
+use Rattle.opgen_names.specs.Names.{is_allowed_name}
 use Rattle.opgen_num.specs.declared.TheConstants.{MAX_WIDTH}
 use Rattle.opgen_operator.specs.declared.spec.Spec.{Spec}
 use Rattle.opgen_operator.specs.declared.TheConstants.{MAX_SHIFT}

@@ -3,7 +3,7 @@ use Rattle.std.specs.Prelude.{ℕ, ◌==◌, ◌&&◌, Bool, false, not, List, [
 use Rattle.std.specs.Char.{is_ascii_digit}
 use Rattle.std.specs.List.{list_all, list_any}
 use Rattle.std.specs.Str.{bytes_eq}
-use Rattle.opgen_design.specs.Names.{is_allowed_name}
+use Rattle.opgen_names.specs.Names.{is_allowed_name}
 
 -- What a written design names itself: its architecture, the clock, its enable and the ports.
 unfoldable pub taken_names : List (List ℕ)

@@ -3,10 +3,10 @@
 ghost use Rattle.std.specs.Prelude.{◌≡◌, ◌≤◌, length, IsTrue};
 ghost use Rattle.std.specs.List.{list_all};
 ghost use Rattle.std.specs.Char.{is_ascii_digit};
-ghost use Rattle.opgen_design.specs.Names.{is_allowed_name};
+ghost use Rattle.opgen_names.specs.Names.{is_allowed_name};
 ghost use Rattle.opgen_operator.specs.SpecName.{is_spec_name, is_taken, is_signal_name};
 
-use opgen_design::names::is_allowed_name;
+use opgen_names::is_allowed_name;
 
 /// The most bytes that a specification's name has.
 pub const MAX_SPEC_NAME_LEN: usize = 32;

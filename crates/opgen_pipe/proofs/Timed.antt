@@ -19,4 +19,5 @@ plan-is_least least table period net valid s f = least net.nodes (net_delays tab
 
 pub plan-paths_fit : StageFits → PathsFit → PlanPathsFit
 plan-paths_fit fits paths table period net valid short =
-    paths net.nodes (net_delays table net) (setup table) period (slot_at (slots_of table period net)) (plan-fits fits table period net valid short)
+    paths net.nodes (net_delays table net) (setup table) period (slot_at (slots_of table period net))
+    (plan-fits fits table period net valid short)

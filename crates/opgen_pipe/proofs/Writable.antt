@@ -10,7 +10,7 @@ use Rattle.std.proofs.lemmas.Fmt.{decimal_is_IsNumeral, length-decimal-le}
 use Rattle.std.proofs.lemmas.List.{append_assoc, length-append, length-map}
 use Rattle.std.proofs.lemmas.List.Elements.{All-contains_itself}
 use Rattle.std.proofs.lemmas.Option.{get_or_from_slice_get, slice_get-get_or, slice_get_within}
-use Rattle.opgen_design.specs.Names.{refused_words, is_refused, is_underscore, is_name_byte, ends_with_underscore, has_double_underscore, is_allowed_name}
+use Rattle.opgen_names.specs.Names.{refused_words, is_refused, is_underscore, is_name_byte, ends_with_underscore, has_double_underscore, is_allowed_name}
 use Rattle.opgen_design.specs.declared.design.Port.{Port}
 use Rattle.opgen_design.specs.declared.design.Signal.{Signal}
 use Rattle.opgen_net.specs.declared.net.Net.{Net}

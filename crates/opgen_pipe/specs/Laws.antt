@@ -17,7 +17,8 @@ use Rattle.opgen_pipe.specs.Times.{ago}
 
 -- it is sound, where the names of the net can stand in it; numbers below 2 ^ 64 have decimals of their own
 abbrev pub DesignIsSound : Type 0
-DesignIsSound = (name : List ℕ) (enable : Bool) (net : Net) (delays : List ℕ) (setup period : ℕ) (s : Schedule) → IsValid net → IsNamed name net
+DesignIsSound = (name : List ℕ) (enable : Bool) (net : Net) (delays : List ℕ) (setup period : ℕ) (s : Schedule) → IsValid net
+    → IsNamed name net
     → Fits net.nodes delays setup period s → signal_count net s ≤ 2 ^ 64 → IsSound (design_of name enable net s)
 
 -- it has the form of the subset, at any schedule
@@ -26,13 +27,16 @@ DesignIsShaped = (name : List ℕ) (enable : Bool) (net : Net) (s : Schedule) �
 
 -- it has a run over each list of inputs of its ports' widths
 abbrev pub DesignRuns : Type 0
-DesignRuns = (name : List ℕ) (enable : Bool) (net : Net) (delays : List ℕ) (setup period : ℕ) (s : Schedule) → IsValid net → IsNamed name net
+DesignRuns = (name : List ℕ) (enable : Bool) (net : Net) (delays : List ℕ) (setup period : ℕ) (s : Schedule) → IsValid net
+    → IsNamed name net
     → Fits net.nodes delays setup period s → signal_count net s ≤ 2 ^ 64
-    → (inputs : Inputs) → All (AreWords (input_widths (design_of name enable net s))) inputs → (vs : List Words) × Run (design_of name enable net s) inputs vs
+    → (inputs : Inputs) → All (AreWords (input_widths (design_of name enable net s))) inputs
+    → (vs : List Words) × Run (design_of name enable net s) inputs vs
 
 -- it can be written: besides, its names are allowed, and it has a port
 abbrev pub DesignIsWritable : Type 0
-DesignIsWritable = (name : List ℕ) (enable : Bool) (net : Net) (delays : List ℕ) (setup period : ℕ) (s : Schedule) → IsValid net → IsNamed name net
+DesignIsWritable = (name : List ℕ) (enable : Bool) (net : Net) (delays : List ℕ) (setup period : ℕ) (s : Schedule) → IsValid net
+    → IsNamed name net
     → Fits net.nodes delays setup period s → signal_count net s ≤ 2 ^ 64 → IsWritable (design_of name enable net s)
 
 -- the words of the net's inputs among those of its design's: all but that of the enable
@@ -44,7 +48,8 @@ pub record FollowsFlow (name : List ℕ) (enable : Bool) (net : Net) (s : Schedu
   pub nodes : (i copy : ℕ) → i < length net.nodes → copy ≤ copies net s i
       → word_at v.signals (signal_of net s i copy) ≡ flow net.nodes inputs i (ago u ((s i).cycle + copy))
   pub constants : (i : ℕ) (w : List Bool) → slice_get net.nodes i ≡ Some (Constant w) → word_at v.signals (signal_of net s i 0) ≡ w
-  pub outputs : outputs_of (design_of name enable net s) v ≡ map (λ o. slice_flow net.nodes inputs o.from (ago u (net_latency net s))) net.outputs
+  pub outputs : outputs_of (design_of name enable net s) v
+      ≡ map (λ o. slice_flow net.nodes inputs o.from (ago u (net_latency net s))) net.outputs
 
 -- the cycles of a run that count, in their order: where the enable was asked for, those in which its word is 1
 abbrev pub counted : {X : Type 0} → (enable : Bool) → List Words → List X → List X
@@ -52,6 +57,8 @@ counted enable vs xs = if enable then marked (ones_at 0 vs) xs else xs
 
 -- in every run it does so in every cycle that counts
 abbrev pub RunFollowsFlow : Type 0
-RunFollowsFlow = (name : List ℕ) (enable : Bool) (net : Net) (delays : List ℕ) (setup period : ℕ) (s : Schedule) → IsValid net → Fits net.nodes delays setup period s
+RunFollowsFlow = (name : List ℕ) (enable : Bool) (net : Net) (delays : List ℕ) (setup period : ℕ) (s : Schedule) → IsValid net
+    → Fits net.nodes delays setup period s
     → (inputs : Inputs) (vs : List Words) → Run (design_of name enable net s) inputs vs
-    → (u : ℕ) (v : Words) → slice_get (counted enable vs vs) u ≡ Some v → FollowsFlow name enable net s (net_inputs enable (counted enable vs inputs)) u v
+    → (u : ℕ) (v : Words) → slice_get (counted enable vs vs) u ≡ Some v
+    → FollowsFlow name enable net s (net_inputs enable (counted enable vs inputs)) u v

@@ -55,7 +55,8 @@ abbrev pub own_driver : (first : ℕ) → List Standing → Standing → Node �
 own_driver first ps o (node.Input place w) = Assign o.signal (port (first + place))
 own_driver first ps o (node.Constant w) = Assign o.signal (bits w)
 own_driver first ps o (node.Cells class w e) = Assign o.signal (tree_in ps o.cycle e)
-own_driver first ps o (node.Choice on one other) = Choice o.signal (name (read_in ps o.cycle on)) (slice_in ps o.cycle one) (slice_in ps o.cycle other)
+own_driver first ps o (node.Choice on one other) =
+    Choice o.signal (name (read_in ps o.cycle on)) (slice_in ps o.cycle one) (slice_in ps o.cycle other)
 own_driver first ps o (node.Table address rows) =
     Table o.signal (name (read_in ps o.cycle address)) (addressed (standing_at ps address).width 0 rows) (last_row rows)
 own_driver first ps o (node.Delay of) = Register o.signal (name (read_in ps o.cycle of))
@@ -88,7 +89,8 @@ drivers_of enable net s =
     let first = length (enable_inputs enable) in
     let ps = standings net s in
     let nodes = all_of (node_drivers first ps) 0 net.nodes in
-    filter (λ k. not (is_register k)) nodes ++ filter is_register nodes ++ output_drivers ps (net_latency net s) (first + length net.inputs) net.outputs
+    filter (λ k. not (is_register k)) nodes ++ filter is_register nodes ++ output_drivers ps (net_latency net s)
+    (first + length net.inputs) net.outputs
 
 -- the port of the enable lets the registers move, where there is one
 abbrev pub enable_of : (enable : Bool) → List Driver → Option ℕ

@@ -31,7 +31,9 @@ pub record IsPlanOf (name : List ℕ) (enable : Bool) (net : Net) (table : Delay
 -- a plan where the period is long enough and the signals are few enough; of these two causes the first that fails; and want of memory at any time
 abbrev pub IsOutcome : (name : List ℕ) → (enable : Bool) → Net → (table : Delays) → (period : ℕ) → Result Planned PlanFault → Type 0
 IsOutcome name enable net table period (Ok p) =
-    (need table net ≤ period) × (signal_count net (slot_at (slots_of table period net)) ≤ most_signals) × IsPlanOf name enable net table period p
+    (need table net ≤ period) × (signal_count net (slot_at (slots_of table period net)) ≤ most_signals)
+    × IsPlanOf name enable net table period p
 IsOutcome name enable net table period (Err (PeriodTooShort n)) = (n ≡ need table net) × (period < need table net)
-IsOutcome name enable net table period (Err TooLarge) = (need table net ≤ period) × (most_signals < signal_count net (slot_at (slots_of table period net)))
+IsOutcome name enable net table period (Err TooLarge) = (need table net ≤ period)
+    × (most_signals < signal_count net (slot_at (slots_of table period net)))
 IsOutcome name enable net table period (Err Memory) = Unit {0}

@@ -11,7 +11,8 @@ read_in ps c n = (standing_at ps n).signal + (if (standing_at ps n).constant the
 
 -- a part that is a whole node is read by name
 abbrev pub part_in : List Standing → (cycle node high low : ℕ) → Tree
-part_in ps c n high low = if nat_eq low 0 && nat_eq (high + 1) (standing_at ps n).width then name (read_in ps c n) else part (read_in ps c n) high low
+part_in ps c n high low = if nat_eq low 0 && nat_eq (high + 1) (standing_at ps n).width then name (read_in ps c n)
+    else part (read_in ps c n) high low
 
 abbrev pub slice_in : List Standing → (cycle : ℕ) → Slice → Tree
 slice_in ps c s = part_in ps c s.node s.high s.low

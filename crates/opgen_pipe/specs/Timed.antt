@@ -17,7 +17,8 @@ PlanFits = (table : Delays) (period : ℕ) (net : Net) → IsValid net → need 
 
 -- no schedule that fits has a smaller latency
 abbrev pub PlanIsLeast : Type 0
-PlanIsLeast = (table : Delays) (period : ℕ) (net : Net) → IsValid net → (s : Schedule) → Fits net.nodes (net_delays table net) (setup table) period s
+PlanIsLeast = (table : Delays) (period : ℕ) (net : Net) → IsValid net → (s : Schedule)
+    → Fits net.nodes (net_delays table net) (setup table) period s
     → net_latency net (slot_at (slots_of table period net)) ≤ net_latency net s
 
 -- a node has its word after the delay of each path of cells that ends in it within its cycle, and the setup before the end of the cycle

@@ -13,7 +13,8 @@ abbrev pub still_word : List (List Bool) → Node → List Bool
 still_word ws (Input port w) = replicate w false
 still_word ws (Constant w) = w
 still_word ws (Cells class w e) = value (record { names = word_at ws; ports = word_at [] }) e
-still_word ws (Choice on one other) = chosen (word_at ws on) (cut one.high one.low (word_at ws one.node)) (cut other.high other.low (word_at ws other.node))
+still_word ws (Choice on one other) = chosen (word_at ws on) (cut one.high one.low (word_at ws one.node))
+    (cut other.high other.low (word_at ws other.node))
 still_word ws (Table address rows) = word_at rows (nat (word_at ws address))
 still_word ws (Delay of) = word_at ws of
 

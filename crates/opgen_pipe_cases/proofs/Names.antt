@@ -6,7 +6,7 @@ use Rattle.std.proofs.lemmas.Bool.{false≢true}
 use Rattle.std.proofs.lemmas.List.{length-map}
 use Rattle.std.proofs.lemmas.List.Elements.{All-nil, All-cons}
 use Rattle.opgen_net.specs.declared.net.Net.{Net}
-use Rattle.opgen_design.specs.Names.{refused_words, is_allowed_name}
+use Rattle.opgen_names.specs.Names.{refused_words, is_allowed_name}
 use Rattle.opgen_net.specs.Named.{port_names, IsFree, IsNamed}
 
 x_allowed : is_allowed_name (codes "x") ≡ true

@@ -6,7 +6,7 @@ use Rattle.std.proofs.Common.{◌≡◌, inl, inr, ℕ, zero, suc, ◌<◌, ◌&
 use Rattle.std.proofs.lemmas.Bool.{and_parts, or_cases, leb-true, eqb-true, false_from_ne_true}
 use Rattle.std.proofs.lemmas.Str.{IsUtf8-from_ascii}
 use Rattle.std.specs.Prelude.{slice_index}
-use Rattle.opgen_design.specs.Names.{is_allowed_name, is_name_byte, is_identifier, starts_with_letter, has_single_underscores, is_underscore}
+use Rattle.opgen_names.specs.Names.{is_allowed_name, is_name_byte, is_identifier, starts_with_letter, has_single_underscores, is_underscore}
 
 byte-below : (b : ℕ) → is_name_byte b ≡ true → b < 128
 byte-below b h = elim (or_cases (is_ascii_lowercase b || is_ascii_digit b) (is_underscore b) h) [

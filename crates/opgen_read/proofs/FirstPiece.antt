@@ -1,28 +1,83 @@
 -- The first piece of what is left.
-use Rattle.std.proofs.Common.{◌≡◌, ℕ, ◌<◌, List, [], ◌∷◌, length, map, take, drop, refl, ap, ◌∙◌, arith}
-use Rattle.std.proofs.lemmas.List.{take-map, drop-map}
-use Rattle.opgen_vhdl.specs.declared.kind.Token.{Token}
-use Rattle.opgen_vhdl.specs.Spans.{spelled, spelling_of}
-use Rattle.opgen_vhdl.specs.Symbols.{symbol_of, symbols, pieces}
+use Rattle.std.proofs.Common.{◌≡◌, ℕ, ◌+◌, ◌-◌, ◌<◌, ◌≤◌, inl, inr, true, false, List, [], ◌∷◌, ◌++◌, length, map, take, drop, refl, ap, sym, ◌∙◌, arith, length-drop, length-append}
+use Rattle.std.proofs.lemmas.Bool.{cases_Bool}
+use Rattle.std.proofs.lemmas.List.{length-map}
+use Rattle.std.proofs.Math.Seq.{take-append_seam, drop-append_seam}
+use Rattle.opgen_vhdl.specs.declared.kind.TokenKind.{TokenKind}
+use Rattle.opgen_vhdl.specs.declared.kind.TokenKind.TheVariants.{Semicolon}
+use Rattle.opgen_vhdl.specs.Reader.{same_kind}
+use Rattle.opgen_vhdl.specs.Spans.{spellings_of}
+use Rattle.opgen_vhdl.specs.Symbols.{Symbol, symbol_of, pieces, is_semicolon}
+use Rattle.opgen_vhdl.specs.Tokens.{Element, Cut}
 use Rattle.opgen_vhdl.proofs.Walks.{first_len, pieces-first}
-use Rattle.opgen_read.specs.Fits.{piece_len}
+use Rattle.opgen_lex.specs.First.{IsFirstToken, HasNoToken}
+use Rattle.opgen_lex.proofs.Cuts.{cut-append, spellings-append}
+use Rattle.opgen_read.specs.Left.{symbols_in}
+use Rattle.opgen_read.specs.PieceLen.{IsPieceLen}
 use Rattle.opgen_read.proofs.FirstSymbol.{semicolon_first}
+use Rattle.opgen_read.proofs.SymbolsIn.{symbols_in-behind, symbols_in-first, symbols_in-none, splits, cut-within}
 
-first_len-tokens : (bytes : List ℕ) (ts : List Token) → first_len (symbols bytes ts) ≡ piece_len ts
-first_len-tokens bytes [] = refl
-first_len-tokens bytes (t ∷ ts) = rw (semicolon_first t.kind (spelling_of bytes t), first_len-tokens bytes ts) refl
+-- the tokens before the rest all belong to the first piece
+pub record InFirst (bytes rest : List ℕ) : Type 0 where
+  pub elements : List Element
+  pub cut : Cut elements bytes rest
+  pub count : first_len (symbols_in bytes) ≡ length (spellings_of elements) + first_len (symbols_in rest)
 
-symbols-take : (bytes : List ℕ) (n : ℕ) (ts : List Token) → take n (symbols bytes ts) ≡ symbols bytes (take n ts)
-symbols-take bytes n ts = take-map symbol_of n (map (spelled bytes) ts) ∙ ap (map symbol_of) (take-map (spelled bytes) n ts)
+pub in_first-start : (bytes : List ℕ) → InFirst bytes bytes
+in_first-start bytes = record { elements = []; cut = refl; count = omega arith }
 
-symbols-drop : (bytes : List ℕ) (n : ℕ) (ts : List Token) → drop n (symbols bytes ts) ≡ symbols bytes (drop n ts)
-symbols-drop bytes n ts = drop-map symbol_of n (map (spelled bytes) ts) ∙ ap (map symbol_of) (drop-map (spelled bytes) n ts)
+-- where the tokens before the rest are those of the first piece, it ends there
+ends_there : (es : List Element) (bytes rest : List ℕ) → Cut es bytes rest → first_len (symbols_in bytes) ≡ length (spellings_of es)
+    → IsPieceLen bytes (length bytes - length rest)
+ends_there es bytes rest c e =
+    let s = splits es bytes rest c in
+    let ss = map symbol_of (spellings_of es) in
+    let whole : symbols_in bytes ≡ ss ++ symbols_in rest = symbols_in-behind es bytes rest c in
+    let n : first_len (symbols_in bytes) ≡ length ss = e ∙ sym (length-map (spellings_of es) symbol_of) in
+    record {
+      within = s.within;
+      piece = s.front ∙ sym (rw (n, whole) (take-append_seam ss (symbols_in rest)));
+      others = ap symbols_in s.back ∙ sym (rw (n, whole) (drop-append_seam ss (symbols_in rest)));
+    }
 
-pub first_piece : (bytes : List ℕ) (ts : List Token) → 0 < length ts →
-    pieces (symbols bytes ts) ≡ symbols bytes (take (piece_len ts) ts) ∷ pieces (symbols bytes (drop (piece_len ts) ts))
-first_piece bytes [] h = absurd (omega arith)
-first_piece bytes (t ∷ ts) h =
-    pieces-first (symbol_of (spelled bytes t)) (symbols bytes ts)
-    ∙ ap (λ n. take n (symbols bytes (t ∷ ts)) ∷ pieces (drop n (symbols bytes (t ∷ ts)))) (first_len-tokens bytes (t ∷ ts))
-    ∙ ap (λ u. u ∷ pieces (drop (piece_len (t ∷ ts)) (symbols bytes (t ∷ ts)))) (symbols-take bytes (piece_len (t ∷ ts)) (t ∷ ts))
-    ∙ ap (λ u. symbols bytes (take (piece_len (t ∷ ts)) (t ∷ ts)) ∷ pieces u) (symbols-drop bytes (piece_len (t ∷ ts)) (t ∷ ts))
+module _ (bytes rest : List ℕ) (f : InFirst bytes rest) where
+  pub in_first-none : HasNoToken rest → IsPieceLen bytes (length bytes - length rest)
+  in_first-none h = ends_there f.elements bytes rest f.cut (f.count ∙ rw (symbols_in-none rest h) (omega arith))
+
+  pub in_first-within : length rest ≤ length bytes
+  in_first-within = cut-within f.elements bytes rest f.cut
+
+  module _ (kind : TokenKind) (text behind : List ℕ) (t : IsFirstToken rest kind text behind) where
+    through : Cut (f.elements ++ t.elements) bytes behind
+    through = cut-append f.elements t.elements bytes rest behind f.cut t.cut
+
+    one_more : length (spellings_of (f.elements ++ t.elements)) ≡ length (spellings_of f.elements) + 1
+    one_more = rw (spellings-append f.elements t.elements, t.alone) (length-append (spellings_of f.elements) ((kind, text) ∷ []))
+
+    pub through-within : length behind ≤ length bytes
+    through-within = cut-within (f.elements ++ t.elements) bytes behind through
+
+    pub in_first-semicolon : same_kind kind Semicolon ≡ true → IsPieceLen bytes (length bytes - length behind)
+    in_first-semicolon s = ends_there (f.elements ++ t.elements) bytes behind through
+        (f.count ∙ rw (symbols_in-first rest kind text behind t, semicolon_first kind text, s) (sym one_more))
+
+    pub in_first-more : same_kind kind Semicolon ≡ false → InFirst bytes behind
+    in_first-more s = record {
+      elements = f.elements ++ t.elements;
+      cut = through;
+      count = f.count ∙ rw (symbols_in-first rest kind text behind t, semicolon_first kind text, s) (omega (arith, one_more));
+    }
+
+pub behind-shorter : (rest : List ℕ) (kind : TokenKind) (text behind : List ℕ) → IsFirstToken rest kind text behind
+    → length (symbols_in behind) < length (symbols_in rest)
+behind-shorter rest kind text behind t = rw (symbols_in-first rest kind text behind t) (omega arith)
+
+module _ (bytes : List ℕ) (n : ℕ) (p : IsPieceLen bytes n) (s : Symbol) (ss : List Symbol) (e : symbols_in bytes ≡ s ∷ ss) where
+  pub first_piece : pieces (symbols_in bytes) ≡ symbols_in (take n bytes) ∷ pieces (symbols_in (drop n bytes))
+  first_piece = rw (p.piece, p.others) (rw e (pieces-first s ss))
+
+  some_first : 0 < first_len (s ∷ ss)
+  some_first = elim (cases_Bool (is_semicolon s)) [ inl y ↦ rw y (omega arith) | inr m ↦ rw m (omega arith) ]
+
+  pub others-shorter : length (symbols_in (drop n bytes)) < length (symbols_in bytes)
+  others-shorter = rw (p.others, e, length-drop (first_len (s ∷ ss)) (s ∷ ss)) (omega (arith, some_first))

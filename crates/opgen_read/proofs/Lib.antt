@@ -5,9 +5,11 @@ pub mod AllowedNames
 pub mod Operands
 pub mod Zeros
 pub mod TableRows
+pub mod SymbolsIn
 pub mod FirstPiece
 pub mod Reaching
 pub mod FittingTokens
+pub mod WholeTexts
 pub mod DriverCount
 pub mod Judging
 pub mod FirstCause

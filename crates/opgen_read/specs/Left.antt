@@ -1,7 +1,21 @@
 -- The symbols that are left to read.
-use Rattle.std.specs.Prelude.{List}
-use Rattle.opgen_vhdl.specs.Symbols.{Symbol, symbols}
+use Rattle.std.specs.Prelude.{ℕ, List, map, ◌⊎◌}
+use Rattle.std.proofs.Common.{inl, inr}
+use Rattle.opgen_vhdl.specs.declared.kind.Token.{Token}
+use Rattle.opgen_vhdl.specs.Spans.{spellings_of}
+use Rattle.opgen_vhdl.specs.Symbols.{Symbol, symbol_of}
+use Rattle.opgen_vhdl.specs.Tokens.{Element, Tokens, LexicalAt}
+use Rattle.opgen_vhdl.proofs.CutLemmas.{has_reading}
 use Rattle.opgen_read.specs.declared.cursor.Cursor.{Cursor}
 
+-- the elements of a text up to its end, or up to where nothing starts
+abbrev pub elements_of : {bytes : List ℕ} → ((ts : List Token) × Tokens bytes ts) ⊎ ((n : ℕ) × LexicalAt bytes n) → List Element
+elements_of (inl t) = t.1.elements
+elements_of (inr l) = l.1.elements
+
+-- the symbols of a text up to its end, or up to where nothing starts
+unfoldable pub symbols_in : List ℕ → List Symbol
+symbols_in bytes = map symbol_of (spellings_of (elements_of (has_reading bytes)))
+
 abbrev pub left : Cursor → List Symbol
-left c = symbols c.bytes.now c.tokens.now
+left c = symbols_in c.bytes.now

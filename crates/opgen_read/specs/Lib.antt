@@ -1,5 +1,6 @@
 pub mod Fits
 pub mod Left
+pub mod PieceLen
 pub mod Gives
 pub mod Places
 pub mod Names

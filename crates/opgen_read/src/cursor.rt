@@ -1,34 +1,28 @@
-ghost use Rattle.std.specs.Prelude.{IsTrue, length};
-ghost use Rattle.std.specs.List.{list_all};
-ghost use Rattle.opgen_read.specs.Fits.{fits};
-
-use crate::token_text::{index_of, piece_len, same_kind, same_word, word_of};
+use crate::piece_len::piece_len;
+use crate::token_text::{index_of, same_kind, same_word, word_of};
+use opgen_lex::first_token;
 use opgen_num::Word;
-use opgen_vhdl::{Token, TokenKind};
+use opgen_vhdl::TokenKind;
 
-/// What is left to read of a text: the tokens that are left, with the bytes that they stand in.
+/// What is left to read of a text: the bytes from which the next tokens are cut.
 #[derive(Clone, Copy)]
 pub struct Cursor<'a> {
     bytes: &'a [u8],
-    tokens: &'a [Token],
-    ghost tokens_fit: { IsTrue (list_all (fits bytes.now) tokens.now) },
 }
 
 impl<'a> Cursor<'a> {
     ghost use Rattle.std.specs.Prelude.{◌≡◌, IsTrue, IfSome, IfNone, ◌+◌, ◌≤◌, ◌<◌, ◌∷◌, [], length, map, option_map, codes};
     ghost use Rattle.std.specs.Char.{to_ascii_lowercase};
-    ghost use Rattle.std.specs.List.{list_all};
     ghost use Rattle.opgen_num.specs.declared.TheConstants.{MAX_WIDTH};
-    ghost use Rattle.opgen_vhdl.specs.Symbols.{symbols, symbol_of, pieces, mark, word, number};
+    ghost use Rattle.opgen_vhdl.specs.Symbols.{symbol_of, pieces, mark, word, number};
     ghost use Rattle.opgen_vhdl.specs.Reader.{eat, is_mark, index_at, string_at, end_at};
-    ghost use Rattle.opgen_read.specs.Fits.{fits, is_numeral};
-    ghost use Rattle.opgen_read.specs.Left.{left};
+    ghost use Rattle.opgen_read.specs.Fits.{is_numeral};
+    ghost use Rattle.opgen_read.specs.Left.{left, symbols_in};
 
-    pub fn new(bytes: &'a [u8], tokens: &'a [Token]) -> Cursor<'a>
-        requires { IsTrue (list_all (fits bytes.now) tokens.now) }
-        ensures { left result ≡ symbols bytes.now tokens.now }
+    pub fn new(bytes: &'a [u8]) -> Cursor<'a>
+        ensures { left result ≡ symbols_in bytes.now }
     {
-        Cursor { bytes, tokens }
+        Cursor { bytes }
     }
 
     /// The kind and the text of the first token, and what is left behind it.
@@ -38,10 +32,8 @@ impl<'a> Cursor<'a> {
         ensures short { IfSome result (λ x. length x.1.now ≤ MAX_WIDTH + 2) }
         ensures numeral { IfSome result (λ x. IsTrue (is_numeral x.0 x.1.now)) }
     {
-        let (token, tokens) = self.tokens.split_first()?;
-        let text = &self.bytes[token.start..token.end];
-        let bytes = self.bytes;
-        Some((token.kind, text, Cursor { bytes, tokens }))
+        let (kind, text, bytes) = first_token(self.bytes)?;
+        Some((kind, text, Cursor { bytes }))
     }
 
     /// What is left behind this word of the language.
@@ -129,20 +121,8 @@ impl<'a> Cursor<'a> {
         ensures shorter { IfSome result (λ x. length (left x.1) < length (left self.entry)) }
         ensures none { IfNone result (left self.entry ≡ []) }
     {
-        if self.tokens.is_empty() {
-            return None;
-        }
-        let (piece, more) = self.tokens.split_at(piece_len(self.tokens));
-        let bytes = self.bytes;
-        Some((
-            Cursor {
-                bytes,
-                tokens: piece,
-            },
-            Cursor {
-                bytes,
-                tokens: more,
-            },
-        ))
+        let _first = self.next()?;
+        let (piece, more) = self.bytes.split_at(piece_len(self.bytes));
+        Some((Cursor { bytes: piece }, Cursor { bytes: more }))
     }
 }

@@ -60,7 +60,7 @@ impl<T: Named> Model for Declared<T> {
 
 impl<T: Named + Drop> Declared<T> {
     ghost use Rattle.std.specs.Prelude.{◌≡◌, IfOk, IsTrue, ◌++◌, ◌∷◌, [], map};
-    ghost use Rattle.opgen_design.specs.Names.{is_allowed_name};
+    ghost use Rattle.opgen_names.specs.Names.{is_allowed_name};
     ghost use Rattle.opgen_vhdl.specs.Grammar.{place_of};
 
     pub fn new(alloc: Global) -> Result<Declared<T>, AllocError>

@@ -1,7 +1,7 @@
 // What was read of a text so far.
 
 ghost use Rattle.std.specs.Prelude.{◌≡◌, IfOk, IsTrue, option_map};
-ghost use Rattle.opgen_design.specs.Names.{is_allowed_name};
+ghost use Rattle.opgen_names.specs.Names.{is_allowed_name};
 ghost use Rattle.opgen_vhdl.specs.Statements.{with_entity, with_port, with_signal, with_driver, with_enable, with_name, with_architecture, nothing, scope};
 ghost use Rattle.opgen_read.specs.Seen.{seen};
 ghost use Rattle.opgen_read.specs.Names.{names_in};

@@ -26,7 +26,7 @@ pub struct Scope<'n> {
 
 impl Scope<'_> {
     ghost use Rattle.std.specs.Prelude.{IsTrue};
-    ghost use Rattle.opgen_design.specs.Names.{is_allowed_name};
+    ghost use Rattle.opgen_names.specs.Names.{is_allowed_name};
 
     /// Whether a signal or a port has this name, which is allowed then.
     pub fn has(self, name: &str) -> bool

@@ -8,6 +8,7 @@ mod expression;
 mod fault;
 mod law;
 mod name;
+mod piece_len;
 mod pieces;
 mod read;
 mod refusal;

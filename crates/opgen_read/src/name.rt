@@ -2,7 +2,7 @@
 
 ghost use Rattle.std.specs.Prelude.{◌≡◌, IfOk, IsTrue, map, Some, None, if◌then◌else◌};
 ghost use Rattle.std.specs.Char.{to_ascii_lowercase};
-ghost use Rattle.opgen_design.specs.Names.{is_allowed_name};
+ghost use Rattle.opgen_names.specs.Names.{is_allowed_name};
 ghost use Rattle.opgen_vhdl.specs.Reader.{name_at};
 ghost use Rattle.opgen_read.specs.Left.{left};
 ghost use Rattle.opgen_read.specs.Gives.{Gives};
@@ -11,8 +11,8 @@ use crate::cursor::Cursor;
 use crate::expression::Scope;
 use crate::refusal::Refusal;
 use crate::token_text::same_kind;
-use opgen_design::names::is_allowed_name;
 use opgen_list::Text;
+use opgen_names::is_allowed_name;
 use opgen_vhdl::TokenKind;
 use std::alloc::{AllocError, Global};
 

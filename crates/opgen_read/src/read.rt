@@ -12,7 +12,7 @@ use crate::draft::Draft;
 use crate::fault::ReadFault;
 use crate::pieces::{PieceFault, read_pieces};
 use opgen_design::{Design, SoundFault};
-use opgen_lex::{LexFault, tokens};
+use opgen_lex::first_fault;
 use std::alloc::Global;
 
 /// The most signals of a design that is read.
@@ -28,12 +28,10 @@ fn statements(alloc: Global, bytes: &[u8]) -> Result<Draft, ReadFault>
     ensures few { IfOk result (λ d. HasFew (seen d).design) }
     ensures err { IfErr result (IsTextFault bytes.now) }
 {
-    let tokens = match tokens(alloc, bytes) {
-        Ok(tokens) => tokens,
-        Err(LexFault::Lexical { offset }) => return Err(ReadFault::Lexical { offset }),
-        Err(LexFault::Memory) => return Err(ReadFault::Memory),
-    };
-    match read_pieces(alloc, Cursor::new(bytes, &tokens)) {
+    if let Some(offset) = first_fault(bytes) {
+        return Err(ReadFault::Lexical { offset });
+    }
+    match read_pieces(alloc, Cursor::new(bytes)) {
         Ok(draft) => Ok(draft),
         Err(PieceFault::Syntax { piece }) => Err(ReadFault::Syntax { piece }),
         Err(PieceFault::Memory) => Err(ReadFault::Memory),
@@ -79,7 +77,7 @@ fn judged(alloc: Global, design: &Design, agrees: bool) -> Result<(), ReadFault>
 /// nothing of themselves. Names are compared without case and stand in lower case; a name means its
 /// first declaration.
 ///
-/// Time goes with the number of bytes, and memory with the number of tokens.
+/// Each byte is passed over a few times, and no list of tokens is kept; no clause speaks of time or memory.
 ///
 /// # Errors
 ///

@@ -9,10 +9,9 @@ ghost use Rattle.opgen_vhdl.specs.Bytes.{is_bit};
 ghost use Rattle.opgen_vhdl.specs.Grammar.{value};
 ghost use Rattle.opgen_vhdl.specs.Reader.{same_kind, rank};
 ghost use Rattle.opgen_vhdl.specs.Symbols.{bits_in};
-ghost use Rattle.opgen_read.specs.Fits.{piece_len};
 
 use opgen_num::{MAX_WIDTH, Word};
-use opgen_vhdl::{Token, TokenKind};
+use opgen_vhdl::TokenKind;
 
 // The number of the highest bit of a signal.
 const MAX_INDEX: u32 = MAX_WIDTH - 1;
@@ -78,18 +77,4 @@ pub fn word_of(text: &[u8]) -> Word
         }
     }
     word
-}
-
-/// How many tokens stand up to the first semicolon, with it.
-pub fn piece_len(tokens: &[Token]) -> usize
-    ensures value { result ≡ piece_len tokens.now }
-    ensures most { result ≤ length tokens.now }
-    ensures some { 0 < length tokens.now → 0 < result }
-{
-    'tokens: for (i, token) in tokens.iter().enumerate() {
-        if same_kind(token.kind, TokenKind::Semicolon) {
-            return i + 1;
-        }
-    }
-    tokens.len()
 }

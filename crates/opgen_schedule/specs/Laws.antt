@@ -10,12 +10,14 @@ use Rattle.opgen_schedule.specs.Stage.{slot_at, stage}
 
 -- where no cell's delay with the setup is more than the period, the schedule of one pass fits it
 abbrev pub StageFits : Type 0
-StageFits = (nodes : List Node) (delays : List ℕ) (setup period : ℕ) → AllMayStand [] nodes → length delays ≡ length nodes → greatest delays + setup ≤ period
+StageFits = (nodes : List Node) (delays : List ℕ) (setup period : ℕ) → AllMayStand [] nodes → length delays ≡ length nodes
+    → greatest delays + setup ≤ period
     → Fits nodes delays setup period (slot_at (stage delays setup period nodes))
 
 -- no schedule that fits has a smaller latency
 abbrev pub StageIsLeast : Type 0
-StageIsLeast = (nodes : List Node) (delays : List ℕ) (setup period : ℕ) → AllMayStand [] nodes → (s : Schedule) → Fits nodes delays setup period s
+StageIsLeast = (nodes : List Node) (delays : List ℕ) (setup period : ℕ) → AllMayStand [] nodes → (s : Schedule)
+    → Fits nodes delays setup period s
     → (outputs : List Output) → latency nodes (slot_at (stage delays setup period nodes)) outputs ≤ latency nodes s outputs
 
 -- nodes of cells, which a path goes through

@@ -25,7 +25,8 @@ latest p ps (j ∷ js) = latest (later p (slot_at ps j)) ps js
 -- after operands of which the latest stands here: in its cycle, or where there is no room in the next one
 abbrev pub after : (setup period delay : ℕ) → Slot → Slot
 after setup period delay p =
-    if nat_le (p.time + delay + setup) period then record { cycle = p.cycle; time = p.time + delay } else record { cycle = p.cycle + 1; time = delay }
+    if nat_le (p.time + delay + setup) period then record { cycle = p.cycle; time = p.time + delay }
+    else record { cycle = p.cycle + 1; time = delay }
 
 -- inputs and constants stand at the start, and a delay at the begin of its operand's cycle
 abbrev pub slot_of : (setup period : ℕ) → List Slot → (delay : ℕ) → Node → Slot
@@ -37,7 +38,8 @@ slot_of setup period ps delay n = after setup period delay (latest start ps (rea
 -- the slots of further nodes, after those of the nodes before them
 abbrev pub slots_on : (delays : List ℕ) → (setup period : ℕ) → List Slot → List Node → List Slot
 slots_on delays setup period ps [] = ps
-slots_on delays setup period ps (n ∷ ns) = slots_on delays setup period (ps ++ slot_of setup period ps (slice_index delays (length ps)) n ∷ []) ns
+slots_on delays setup period ps (n ∷ ns) =
+    slots_on delays setup period (ps ++ slot_of setup period ps (slice_index delays (length ps)) n ∷ []) ns
 
 -- the slot of each node, over the delays of the nodes
 abbrev pub stage : (delays : List ℕ) → (setup period : ℕ) → List Node → List Slot

@@ -24,7 +24,8 @@ snoc P xs x all p = All-append P xs (x ∷ []) all (All-cons P x [] p (All-nil P
 last : (xs : List ℕ) (x : ℕ) → Contains (xs ++ x ∷ []) x
 last xs x = Contains-append_right xs (x ∷ []) x (here x [])
 
-pub more_odds : (limit half m : ℕ) (odds : List ℕ) → 1 ≤ half → half < limit / 2 → m ≡ 2 * half + 1 → HasOdds limit half odds → HasOdds limit (half + 1) (odds ++ m ∷ [])
+pub more_odds : (limit half m : ℕ) (odds : List ℕ) → 1 ≤ half → half < limit / 2 → m ≡ 2 * half + 1 → HasOdds limit half odds
+    → HasOdds limit (half + 1) (odds ++ m ∷ [])
 more_odds limit half m odds low high e h = (
   snoc (IsChoice limit) odds m h.0 (omega (arith, e), omega (arith, e, low), omega (arith, e, high)),
   λ x c lt.
@@ -40,31 +41,44 @@ all_odds limit half odds le h = record { each = h.0; every = λ x c. h.1 x c (om
 
 -- ---- those of a piece
 abbrev pub HasOwn : Search → (piece : ℕ) → (done own : List ℕ) → Type 0
-HasOwn search piece done own = All (IsChoice search.limit) own × ((x : ℕ) → Contains done x → number search.targets.items x % search.pieces ≡ piece → Contains own x)
+HasOwn search piece done own = All (IsChoice search.limit) own × ((x : ℕ) → Contains done x
+    → number search.targets.items x % search.pieces ≡ piece → Contains own x)
 
 pub no_own : (search : Search) (piece : ℕ) → HasOwn search piece [] []
 no_own search piece = (All-nil (IsChoice search.limit), λ x c e. absurd (of_nil x c))
 
-pub own_more : (search : Search) (piece : ℕ) (odds own : List ℕ) (i : ℕ) → i < length odds → All (IsChoice search.limit) odds → HasOwn search piece (take i odds) own → HasOwn search piece (take (i + 1) odds) (own ++ get_or odds i 0 ∷ [])
+pub own_more : (search : Search) (piece : ℕ) (odds own : List ℕ) (i : ℕ) → i < length odds → All (IsChoice search.limit) odds
+    → HasOwn search piece (take i odds) own → HasOwn search piece (take (i + 1) odds) (own ++ get_or odds i 0 ∷ [])
 own_more search piece odds own i lt all h = (
-  snoc (IsChoice search.limit) own (get_or odds i 0) h.0 (All-contains (IsChoice search.limit) odds (get_or odds i 0) all (Contains-get_or odds i 0 lt)),
+  snoc (IsChoice search.limit) own (get_or odds i 0) h.0
+      (All-contains (IsChoice search.limit) odds (get_or odds i 0) all (Contains-get_or odds i 0 lt)),
   λ x c e.
-      ⊎_elim (λ (k : Contains (take i odds) x). Contains-append_left own (get_or odds i 0 ∷ []) x (h.1 x k e)) (λ (k : Contains (get_or odds i 0 ∷ []) x). Contains-append_right own (get_or odds i 0 ∷ []) x k) (Contains-append_cases (take i odds) (get_or odds i 0 ∷ []) x (subst (λ xs. Contains xs x) (take_more odds i 0 lt) c)),
+      ⊎_elim (λ (k : Contains (take i odds) x). Contains-append_left own (get_or odds i 0 ∷ []) x (h.1 x k e))
+      (λ (k : Contains (get_or odds i 0 ∷ []) x). Contains-append_right own (get_or odds i 0 ∷ []) x k)
+      (Contains-append_cases (take i odds) (get_or odds i 0 ∷ []) x (subst (λ xs. Contains xs x) (take_more odds i 0 lt) c)),
 )
 
-pub own_same : (search : Search) (piece : ℕ) (odds own : List ℕ) (i : ℕ) → i < length odds → (number search.targets.items (get_or odds i 0) % search.pieces ≡ piece → ⊥) → HasOwn search piece (take i odds) own → HasOwn search piece (take (i + 1) odds) own
+pub own_same : (search : Search) (piece : ℕ) (odds own : List ℕ) (i : ℕ) → i < length odds
+    → (number search.targets.items (get_or odds i 0) % search.pieces ≡ piece → ⊥) → HasOwn search piece (take i odds) own
+    → HasOwn search piece (take (i + 1) odds) own
 own_same search piece odds own i lt non h = (
   h.0,
   λ x c e.
-      ⊎_elim (λ (k : Contains (take i odds) x). h.1 x k e) (λ (k : Contains (get_or odds i 0 ∷ []) x). absurd (non (subst (λ y. number search.targets.items y % search.pieces ≡ piece) (sym (of_one (get_or odds i 0) x k)) e))) (Contains-append_cases (take i odds) (get_or odds i 0 ∷ []) x (subst (λ xs. Contains xs x) (take_more odds i 0 lt) c)),
+      ⊎_elim (λ (k : Contains (take i odds) x). h.1 x k e)
+      (λ (k : Contains (get_or odds i 0 ∷ []) x). absurd
+      (non (subst (λ y. number search.targets.items y % search.pieces ≡ piece) (sym (of_one (get_or odds i 0) x k)) e)))
+      (Contains-append_cases (take i odds) (get_or odds i 0 ∷ []) x (subst (λ xs. Contains xs x) (take_more odds i 0 lt) c)),
 )
 
-pub all_own : (search : Search) (piece : ℕ) (own : List ℕ) (i : ℕ) → AreOdds search.limit search.odds.items → length search.odds.items ≤ i → HasOwn search piece (take i search.odds.items) own → AreOwnOdds search piece own
-all_own search piece own i odds le h = record { each = h.0; every = λ x c e. h.1 x (subst (λ xs. Contains xs x) (sym (take_all i search.odds.items le)) (odds.every x c)) e }
+pub all_own : (search : Search) (piece : ℕ) (own : List ℕ) (i : ℕ) → AreOdds search.limit search.odds.items
+    → length search.odds.items ≤ i → HasOwn search piece (take i search.odds.items) own → AreOwnOdds search piece own
+all_own search piece own i odds le h =
+    record { each = h.0; every = λ x c e. h.1 x (subst (λ xs. Contains xs x) (sym (take_all i search.odds.items le)) (odds.every x c)) e }
 
 -- ---- the last further member
 -- where the piece does not take the least further member so far, a last one that makes a set of the piece is less, and one of its own
-pub own_last : (piece : Piece) (least : Option ℕ) (x : ℕ) → IsPiece piece → ((m : ℕ) → least ≡ Some m → takes piece (Some m) → ⊥) → IsChoice piece.search.now.limit x → takes piece (Some (least_with least x)) → Contains piece.own.items x
+pub own_last : (piece : Piece) (least : Option ℕ) (x : ℕ) → IsPiece piece → ((m : ℕ) → least ≡ Some m → takes piece (Some m) → ⊥)
+    → IsChoice piece.search.now.limit x → takes piece (Some (least_with least x)) → Contains piece.own.items x
 own_last piece None x s non c t = s.own.every x c t
 own_last piece (Some m) x s non c t =
     ⊎_elim

@@ -22,20 +22,30 @@ use Rattle.opgen_search.proofs.Merging.{closed}
 -- ---- the whole space
 pub digits_cost : (search : Search) → IsSearch search → set_cost search.width search.digits.items < most
 digits_cost search s =
-    let bound = sum_by-le (adder_cost search.width) (2 ^ 32) search.digits.items (all_of (λ x. adder_cost search.width x ≤ 2 ^ 32) search.digits.items (λ x _. omega (arith, s.width))) in
+    let bound = sum_by-le (adder_cost search.width) (2 ^ 32) search.digits.items
+    (all_of (λ x. adder_cost search.width x ≤ 2 ^ 32) search.digits.items (λ x _. omega (arith, s.width))) in
     omega (arith, bound, s.digit_count)
 
 abbrev pub IsFirst : Search → List ℕ → Type 0
-IsFirst search set = parts_of search 0 search.pieces set × ((other : List ℕ) → parts_of search 0 search.pieces other → IsBefore search.width other set → ⊥)
+IsFirst search set = parts_of search 0 search.pieces set × ((other : List ℕ) → parts_of search 0 search.pieces other
+    → IsBefore search.width other set → ⊥)
 
-pub some_first : (search : Search) (best : Option (List ℕ)) (v : View) (word : ℕ) → IsSearch search → Covered (parts_of search 0 search.pieces) search.width best v → v.start ≡ set_cost search.width search.digits.items → word ≡ min v.start v.published → word ≤ v.seen → IsSomeAnd best (IsFirst search)
+pub some_first : (search : Search) (best : Option (List ℕ)) (v : View) (word : ℕ) → IsSearch search
+    → Covered (parts_of search 0 search.pieces) search.width best v → v.start ≡ set_cost search.width search.digits.items
+    → word ≡ min v.start v.published → word ≤ v.seen → IsSomeAnd best (IsFirst search)
 some_first search best v word s c start w le =
-    closed (parts_of search 0 search.pieces) search.width best v search.digits.items word c (all_parts search.targets.items search.extra search.pieces search.digits.items s.pieces.0 (inr s.digits)) (digits_cost search s) (w ∙ ap (λ n. min n v.published) start) le
+    closed (parts_of search 0 search.pieces) search.width best v search.digits.items word c
+    (all_parts search.targets.items search.extra search.pieces search.digits.items s.pieces.0 (inr s.digits)) (digits_cost search s)
+    (w ∙ ap (λ n. min n v.published) start) le
 
-pub first_least : (search : Search) (best : Option (List ℕ)) (set : List ℕ) → IsSearch search → best ≡ Some set → IsSomeAnd best (IsFirst search) → IsLeast search.targets.items search.width search.extra set
+pub first_least : (search : Search) (best : Option (List ℕ)) (set : List ℕ) → IsSearch search → best ≡ Some set
+    → IsSomeAnd best (IsFirst search) → IsLeast search.targets.items search.width search.extra set
 first_least search best set s e h =
     let one : IsFirst search set = subst (λ (b : Option (List ℕ)). IsSomeAnd b (IsFirst search)) e h in
-    record { member = part_space search.targets.items search.extra search.pieces 0 search.pieces set one.0; least = λ other space b. one.1 other (all_parts search.targets.items search.extra search.pieces other s.pieces.0 space) b }
+    record {
+      member = part_space search.targets.items search.extra search.pieces 0 search.pieces set one.0;
+      least = λ other space b. one.1 other (all_parts search.targets.items search.extra search.pieces other s.pieces.0 space) b;
+    }
 
 -- ---- no target
 lowest_limit : limit [] ≤ 2 ^ 1
@@ -48,7 +58,14 @@ empty_space extra (x ∷ xs) (inr d) = absurd (of_nil _ ((d.members x).0 (here x
 
 pub empty_least : (targets : List ℕ) (width extra : ℕ) (set : List ℕ) → targets ≡ [] → set ≡ [] → IsLeast targets width extra set
 empty_least targets width extra set none e = rw (none, e) (record {
-  member = inl (record { increasing = λ k lt. absurd (omega (arith, lt)); has_targets = λ t c. c; few = omega arith; range = All-nil (IsChoice (limit [])); reachable = ([], IsPermutation-refl [], tt) });
+  member =
+      inl (record {
+        increasing = λ k lt. absurd (omega (arith, lt));
+        has_targets = λ t c. c;
+        few = omega arith;
+        range = All-nil (IsChoice (limit []));
+        reachable = ([], IsPermutation-refl [], tt);
+      });
   least = λ other space. rw (empty_space extra other space) (before_irrefl width []);
 })
 

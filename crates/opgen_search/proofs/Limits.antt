@@ -15,7 +15,8 @@ greatest_most (x ∷ xs) n h = let low = All-head (λ y. y ≤ n) x xs h in omeg
 
 greatest_above : (xs : List ℕ) (x : ℕ) → Contains xs x → x ≤ greatest xs
 greatest_above [] x c = absurd (of_nil x c)
-greatest_above (y ∷ ys) x c = ⊎_elim (λ (e : y ≡ x). omega (arith, e)) (λ (k : Contains ys x). omega (arith, greatest_above ys x k)) (of_cons y x ys c)
+greatest_above (y ∷ ys) x c = ⊎_elim (λ (e : y ≡ x). omega (arith, e)) (λ (k : Contains ys x). omega (arith, greatest_above ys x k))
+    (of_cons y x ys c)
 
 pub greatest-snoc : (xs : List ℕ) (x : ℕ) → greatest (xs ++ x ∷ []) ≡ max (greatest xs) x
 greatest-snoc [] x = omega arith
@@ -31,15 +32,21 @@ enough_bits : (n : ℕ) → n ≤ 2047 → n < 2 ^ bit_length n
 enough_bits n h = length_holds 32 n (omega arith)
 
 pub limit_small : (targets : List ℕ) → AreTargets targets → limit targets ≤ 2 ^ 12
-limit_small targets h = let few = few_bits (greatest targets) (greatest_target targets h) in power_order (bit_length (greatest targets) + 1) 12 (omega (arith, few))
+limit_small targets h = let few = few_bits (greatest targets) (greatest_target targets h) in
+    power_order (bit_length (greatest targets) + 1) 12 (omega (arith, few))
 
 pub below_limit : (targets : List ℕ) → AreTargets targets → All (λ x. x < limit targets) targets
-below_limit targets h = all_of (λ x. x < limit targets) targets (λ x c. let low = greatest_above targets x c in let high = enough_bits (greatest targets) (greatest_target targets h) in let twice : limit targets ≡ 2 ^ bit_length (greatest targets) * 2 = ap (λ k. 2 ^ k) (add-one (bit_length (greatest targets))) ∙ pow-suc 2 (bit_length (greatest targets)) in omega (arith, low, high, twice))
+below_limit targets h = all_of (λ x. x < limit targets) targets (λ x c. let low = greatest_above targets x c in
+    let high = enough_bits (greatest targets) (greatest_target targets h) in
+    let twice : limit targets ≡ 2 ^ bit_length (greatest targets) * 2 =
+    ap (λ k. 2 ^ k) (add-one (bit_length (greatest targets))) ∙ pow-suc 2 (bit_length (greatest targets)) in
+    omega (arith, low, high, twice))
 
 pub shifted_limit : (targets : List ℕ) (n : ℕ) → AreTargets targets → n ≡ greatest targets → (2 * 2 ^ bit_length n) % 2 ^ 32 ≡ limit targets
 shifted_limit targets n h e =
     let few = few_bits (greatest targets) (greatest_target targets h) in
-    let twice : limit targets ≡ 2 ^ bit_length (greatest targets) * 2 = ap (λ k. 2 ^ k) (add-one (bit_length (greatest targets))) ∙ pow-suc 2 (bit_length (greatest targets)) in
+    let twice : limit targets ≡ 2 ^ bit_length (greatest targets) * 2 = ap (λ k. 2 ^ k) (add-one (bit_length (greatest targets)))
+    ∙ pow-suc 2 (bit_length (greatest targets)) in
     rw e (omega (arith, limit_small targets h, twice))
 
 pub all_taken : (targets : List ℕ) (n g : ℕ) → length targets ≤ n → g ≡ greatest (take n targets) → g ≡ greatest targets

@@ -25,13 +25,15 @@ hit : (x : ℕ) → List ℕ → ℕ
 hit x ts = if list_any (λ t. nat_eq t x) ts then 1 else 0
 
 no_hit : (x : ℕ) (ts : List ℕ) → ((t : ℕ) → Contains ts t → x < t) → list_any (λ t. nat_eq t x) ts ≡ false
-no_hit x ts above = list_any_none (λ t. nat_eq t x) ts (all_of (λ t. nat_eq t x ≡ false) ts (λ t c. let lt = above t c in grind (arith, nat_tests)))
+no_hit x ts above =
+    list_any_none (λ t. nat_eq t x) ts (all_of (λ t. nat_eq t x ≡ false) ts (λ t c. let lt = above t c in grind (arith, nat_tests)))
 
 count_below : (m t : ℕ) (ts : List ℕ) → count_by (λ t. nat_lt t m) (t ∷ ts) ≡ one_below m t + count_by (λ t. nat_lt t m) ts
 count_below m t ts = sum_by-cons (one_below m) t ts
 
 -- one odd number more: it is a target or it is none
-below_more : (k : ℕ) (ts : List ℕ) → Climbs ts → All (λ t. t % 2 ≡ 1) ts → count_by (λ t. nat_lt t (2 * k + 5)) ts ≡ count_by (λ t. nat_lt t (2 * k + 3)) ts + hit (2 * k + 3) ts
+below_more : (k : ℕ) (ts : List ℕ) → Climbs ts → All (λ t. t % 2 ≡ 1) ts
+    → count_by (λ t. nat_lt t (2 * k + 5)) ts ≡ count_by (λ t. nat_lt t (2 * k + 3)) ts + hit (2 * k + 3) ts
 unfolding hit
 below_more k [] h odd = refl
 below_more k (t ∷ ts) h odd =
@@ -44,20 +46,47 @@ below_more k (t ∷ ts) h odd =
     let any : list_any (λ x. nat_eq x (2 * k + 3)) (t ∷ ts) ≡ true = rw first refl in
     let now : hit (2 * k + 3) (t ∷ ts) ≡ 1 = ap (λ b. if b then 1 else 0) any in
     let later : hit (2 * k + 3) ts ≡ 0 = ap (λ b. if b then 1 else 0) none in
-    omega (arith, rest, now, later, count_below (2 * k + 5) t ts, count_below (2 * k + 3) t ts, is_below (2 * k + 5) t (omega (arith, e)), is_above (2 * k + 3) t (omega (arith, e))))
+    omega (
+      arith,
+      rest,
+      now,
+      later,
+      count_below (2 * k + 5) t ts,
+      count_below (2 * k + 3) t ts,
+      is_below (2 * k + 5) t (omega (arith, e)),
+      is_above (2 * k + 3) t (omega (arith, e)),
+    ))
     (λ (ne : t ≢ 2 * k + 3).
     let first : nat_eq t (2 * k + 3) ≡ false = grind (arith, nat_tests) in
     let any : list_any (λ x. nat_eq x (2 * k + 3)) (t ∷ ts) ≡ list_any (λ x. nat_eq x (2 * k + 3)) ts = rw first refl in
     let same : hit (2 * k + 3) (t ∷ ts) ≡ hit (2 * k + 3) ts = ap (λ b. if b then 1 else 0) any in
-    ⊎_elim (λ (lt : t < 2 * k + 3). omega (arith, rest, same, count_below (2 * k + 5) t ts, count_below (2 * k + 3) t ts, is_below (2 * k + 5) t (omega (arith, lt)), is_below (2 * k + 3) t lt))
+    ⊎_elim (λ (lt : t < 2 * k + 3). omega (
+      arith,
+      rest,
+      same,
+      count_below (2 * k + 5) t ts,
+      count_below (2 * k + 3) t ts,
+      is_below (2 * k + 5) t (omega (arith, lt)),
+      is_below (2 * k + 3) t lt,
+    ))
     (λ (ge : 2 * k + 3 ≤ t).
-    let high : 2 * k + 5 ≤ t = omega (arith, ge, one, ne) in omega (arith, rest, same, count_below (2 * k + 5) t ts, count_below (2 * k + 3) t ts, is_above (2 * k + 5) t high, is_above (2 * k + 3) t ge))
+    let high : 2 * k + 5 ≤ t = omega (arith, ge, one, ne) in
+    omega (
+      arith,
+      rest,
+      same,
+      count_below (2 * k + 5) t ts,
+      count_below (2 * k + 3) t ts,
+      is_above (2 * k + 5) t high,
+      is_above (2 * k + 3) t ge,
+    ))
     (cases_lt t (2 * k + 3)))
     (cases_eq t (2 * k + 3))
 
 none_below : (ts : List ℕ) → All IsTarget ts → count_by (λ t. nat_lt t 3) ts ≡ 0
 none_below [] all = refl
-none_below (t ∷ ts) all = let one = All-head IsTarget t ts all in let rest = none_below ts (All-tail IsTarget t ts all) in omega (arith, rest, count_below 3 t ts, is_above 3 t (omega (arith, one.0, one.1)))
+none_below (t ∷ ts) all = let one = All-head IsTarget t ts all in let rest = none_below ts (All-tail IsTarget t ts all) in
+    omega (arith, rest, count_below 3 t ts, is_above 3 t (omega (arith, one.0, one.1)))
 
 either : (b : Bool) → (if b then 0 else 1) + (if b then 1 else 0) ≡ 1
 either true = refl
@@ -68,7 +97,8 @@ unfolding hit
 free_count targets zero h = zero-add (count_by (λ t. nat_lt t 3) targets) ∙ none_below targets h.each
 free_count targets (suc k) h =
     let more = below_more k targets (climbs targets h.increasing) (All-weaker IsTarget (λ t. t % 2 ≡ 1) (λ t i. i.0) targets h.each) in
-    let next : count_by (λ t. nat_lt t (2 * suc k + 3)) targets ≡ count_by (λ t. nat_lt t (2 * k + 5)) targets = ap (λ m. count_by (λ t. nat_lt t m) targets) (omega arith) in
+    let next : count_by (λ t. nat_lt t (2 * suc k + 3)) targets ≡ count_by (λ t. nat_lt t (2 * k + 5)) targets =
+    ap (λ m. count_by (λ t. nat_lt t m) targets) (omega arith) in
     omega (arith, free_count targets k h, next, more, either (list_any (λ t. nat_eq t (2 * k + 3)) targets))
 
 pub numbers_count : NumbersCount

@@ -35,7 +35,8 @@ unfolding order
 cost_before width F G h = grind (arith, nat_tests)
 
 -- a set that is no better than the best settles all that are that set or cost more
-pub settles : (width : ℕ) (best : Option (List ℕ)) (F G : List ℕ) → IsNotBefore width F best → (F ≡ G) ⊎ (set_cost width F < set_cost width G) → IsNotBefore width G best
+pub settles : (width : ℕ) (best : Option (List ℕ)) (F G : List ℕ) → IsNotBefore width F best → (F ≡ G)
+    ⊎ (set_cost width F < set_cost width G) → IsNotBefore width G best
 settles width None F G non same = non
 settles width (Some H) F G non (inl e) = λ b. non (subst (λ x. IsBefore width x H) (sym e) b)
 settles width (Some H) F G non (inr lt) = λ b. non (before_trans width F G H (before_cheaper width F G lt) b)
@@ -58,4 +59,5 @@ neither_less Greater Equal e n m = cc
 neither_less Greater Greater e n m = cc
 
 pub neither_before : (width : ℕ) (F G : List ℕ) → (IsBefore width F G → ⊥) → (IsBefore width G F → ⊥) → F ≡ G
-neither_before width F G n m = equal_sets width F G (neither_less (order width F G) (order width G F) ((order_total width).antisymm F G) n m)
+neither_before width F G n m =
+    equal_sets width F G (neither_less (order width F G) (order width G F) ((order_total width).antisymm F G) n m)

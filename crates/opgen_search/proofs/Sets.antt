@@ -18,14 +18,19 @@ use Rattle.opgen_search.specs.Members.{Within}
 -- ---- lists in which no number stands twice
 pub apart : (x : ℕ) (xs : List ℕ) → IsDistinct eqb (x ∷ xs) → Contains xs x → ⊥
 apart x xs d c =
-    let differs : eqb x x ≡ false = All-contains (λ y. eqb x y ≡ false) xs x (All-from_recursion (λ y. eqb x y ≡ false) xs (IsDistinct-head eqb x xs d)) c in
+    let differs : eqb x x ≡ false =
+    All-contains (λ y. eqb x y ≡ false) xs x (All-from_recursion (λ y. eqb x y ≡ false) xs (IsDistinct-head eqb x xs d)) c in
     let not : x ≢ x = grind (arith, nat_tests, differs) in not refl
 
 pub distinct_cons : (x : ℕ) (xs : List ℕ) → (Contains xs x → ⊥) → IsDistinct eqb xs → IsDistinct eqb (x ∷ xs)
-distinct_cons x xs out d = IsDistinct-cons eqb x xs (recursion_from_All (λ y. eqb x y ≡ false) xs (all_of (λ y. eqb x y ≡ false) xs (λ y c. let ne : x ≢ y = λ e. out (subst (Contains xs) (sym e) c) in grind (arith, nat_tests)))) d
+distinct_cons x xs out d =
+    IsDistinct-cons eqb x xs (recursion_from_All (λ y. eqb x y ≡ false) xs
+    (all_of (λ y. eqb x y ≡ false) xs (λ y c. let ne : x ≢ y = λ e. out (subst (Contains xs) (sym e) c) in
+    grind (arith, nat_tests)))) d
 
 flips : (x y : ℕ) → eqb x y ≡ eqb y x
-flips x y = ⊎_elim (λ (e : x ≡ y). rw e refl) (λ (ne : x ≢ y). let a : eqb x y ≡ false = grind (arith, nat_tests) in let ne2 : y ≢ x = λ e. ne (sym e) in let b : eqb y x ≡ false = grind (arith, nat_tests) in a ∙ sym b) (cases_eq x y)
+flips x y = ⊎_elim (λ (e : x ≡ y). rw e refl) (λ (ne : x ≢ y). let a : eqb x y ≡ false = grind (arith, nat_tests) in
+    let ne2 : y ≢ x = λ e. ne (sym e) in let b : eqb y x ≡ false = grind (arith, nat_tests) in a ∙ sym b) (cases_eq x y)
 
 pub distinct_moved : (xs ys : List ℕ) → IsPermutation xs ys → IsDistinct eqb xs → IsDistinct eqb ys
 distinct_moved xs ys p d = IsDistinct-IsPermutation eqb flips xs ys p d
@@ -43,7 +48,8 @@ pub difference : (xs ys : List ℕ) → IsDistinct eqb xs → Within xs ys → (
 difference [] ys d w = (ys, IsPermutation-refl ys)
 difference (x ∷ xs) ys d w =
     let (zs, p) = taken x ys (w x (here x xs)) in
-    let inside : Within xs zs = λ y c. ⊎_elim (λ (e : x ≡ y). absurd (apart x xs d (subst (Contains xs) (sym e) c))) (λ (k : Contains zs y). k) (of_cons x y zs (Contains-permutation ys (x ∷ zs) y p (w y (there x y xs c)))) in
+    let inside : Within xs zs = λ y c. ⊎_elim (λ (e : x ≡ y). absurd (apart x xs d (subst (Contains xs) (sym e) c)))
+    (λ (k : Contains zs y). k) (of_cons x y zs (Contains-permutation ys (x ∷ zs) y p (w y (there x y xs c)))) in
     let (rest, q) = difference xs zs (IsDistinct-tail eqb x xs d) inside in
     (rest, IsPermutation-trans _ _ _ p (IsPermutation-cons x _ _ q))
 
@@ -59,14 +65,20 @@ grown width xs ys one d w = more (difference xs ys d w)
     more (r ∷ rs, p) =
         let long = length_permutation _ _ p in
         let dear = sum_by-IsPermutation (adder_cost width) _ _ p in
-        inr (omega (arith, long, length-append xs (r ∷ rs)), omega (arith, dear, one, sum_by-append (adder_cost width) xs (r ∷ rs), sum_by-cons (adder_cost width) r rs))
+        inr (
+          omega (arith, long, length-append xs (r ∷ rs)),
+          omega (arith, dear, one, sum_by-append (adder_cost width) xs (r ∷ rs), sum_by-cons (adder_cost width) r rs),
+        )
 
 pub distinct_append : (xs ys : List ℕ) (x : ℕ) → IsDistinct eqb (xs ++ ys) → Contains xs x → Contains ys x → ⊥
 distinct_append [] ys x d cx cy = of_nil x cx
-distinct_append (z ∷ xs) ys x d cx cy = ⊎_elim (λ (e : z ≡ x). apart z (xs ++ ys) d (Contains-append_right xs ys z (subst (Contains ys) (sym e) cy))) (λ (k : Contains xs x). distinct_append xs ys x (IsDistinct-tail eqb z (xs ++ ys) d) k cy) (of_cons z x xs cx)
+distinct_append (z ∷ xs) ys x d cx cy =
+    ⊎_elim (λ (e : z ≡ x). apart z (xs ++ ys) d (Contains-append_right xs ys z (subst (Contains ys) (sym e) cy)))
+    (λ (k : Contains xs x). distinct_append xs ys x (IsDistinct-tail eqb z (xs ++ ys) d) k cy) (of_cons z x xs cx)
 
 -- a larger list that is not the same set has a member besides
-pub one_more : (xs ys : List ℕ) → IsDistinct eqb xs → IsDistinct eqb ys → Within xs ys → (IsPermutation ys xs → ⊥) → (x : ℕ) × Contains ys x × (Contains xs x → ⊥)
+pub one_more : (xs ys : List ℕ) → IsDistinct eqb xs → IsDistinct eqb ys → Within xs ys → (IsPermutation ys xs → ⊥)
+    → (x : ℕ) × Contains ys x × (Contains xs x → ⊥)
 one_more xs ys dx dy w non = besides (difference xs ys dx w)
   where
     besides : (rest : List ℕ) × IsPermutation ys (xs ++ rest) → (x : ℕ) × Contains ys x × (Contains xs x → ⊥)
@@ -83,11 +95,15 @@ same_climbs [] [] hx hy to from = refl
 same_climbs [] (y ∷ ys) hx hy to from = absurd (of_nil y (from y (here y ys)))
 same_climbs (x ∷ xs) [] hx hy to from = absurd (of_nil x (to x (here x xs)))
 same_climbs (x ∷ xs) (y ∷ ys) hx hy to from =
-    let low : y ≤ x = ⊎_elim (λ (e : y ≡ x). omega (arith, e)) (λ (k : Contains ys x). omega (arith, hy.0 x k)) (of_cons y x ys (to x (here x xs))) in
-    let high : x ≤ y = ⊎_elim (λ (e : x ≡ y). omega (arith, e)) (λ (k : Contains xs y). omega (arith, hx.0 y k)) (of_cons x y xs (from y (here y ys))) in
+    let low : y ≤ x = ⊎_elim (λ (e : y ≡ x). omega (arith, e)) (λ (k : Contains ys x). omega (arith, hy.0 x k))
+    (of_cons y x ys (to x (here x xs))) in
+    let high : x ≤ y = ⊎_elim (λ (e : x ≡ y). omega (arith, e)) (λ (k : Contains xs y). omega (arith, hx.0 y k))
+    (of_cons x y xs (from y (here y ys))) in
     let e : x ≡ y = omega (arith, low, high) in
-    let to_tail : Within xs ys = λ z c. ⊎_elim (λ (s : y ≡ z). absurd (omega (arith, hx.0 z c, s, e))) (λ (k : Contains ys z). k) (of_cons y z ys (to z (there x z xs c))) in
-    let from_tail : Within ys xs = λ z c. ⊎_elim (λ (s : x ≡ z). absurd (omega (arith, hy.0 z c, s, e))) (λ (k : Contains xs z). k) (of_cons x z xs (from z (there y z ys c))) in
+    let to_tail : Within xs ys = λ z c. ⊎_elim (λ (s : y ≡ z). absurd (omega (arith, hx.0 z c, s, e))) (λ (k : Contains ys z). k)
+    (of_cons y z ys (to z (there x z xs c))) in
+    let from_tail : Within ys xs = λ z c. ⊎_elim (λ (s : x ≡ z). absurd (omega (arith, hy.0 z c, s, e))) (λ (k : Contains xs z). k)
+    (of_cons x z xs (from z (there y z ys c))) in
     ap (λ zs. x ∷ zs) (same_climbs xs ys hx.1 hy.1 to_tail from_tail) ∙ ap (λ z. z ∷ ys) e
 
 pub same_set : (xs ys : List ℕ) → IsStrictlyIncreasing xs → IsStrictlyIncreasing ys → Within xs ys → Within ys xs → xs ≡ ys

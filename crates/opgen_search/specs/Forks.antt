@@ -23,7 +23,8 @@ pub record IsAsked (bound : Bound) (search : Search) (pass : Pass) (low high : �
 
 -- their parts are covered, or memory ran out
 abbrev pub IsAnswered : Search → (low high : ℕ) → Found → Type 0
-IsAnswered search low high found = IfOk found.best (λ best. Covered (parts_of search low high) search.width (best_of best) (view found.pass))
+IsAnswered search low high found =
+    IfOk found.best (λ best. Covered (parts_of search low high) search.width (best_of best) (view found.pass))
 
 abbrev pub IsShort : Found → Type 0
 IsShort found = IfOk found.best (λ best. IfSome (best_of best) (λ set. length set < 2 ^ 31))

@@ -52,7 +52,8 @@ pub record IsHunt (piece : Piece) (hunt : Hunt) : Type 0 where
   pub seen : hunt.known ≡ (view hunt.pass).seen
   pub member : IfSome (best_of hunt.best) (part_of piece)
   pub count : IfSome (best_of hunt.best) (λ set. length set < 2 ^ 31)
-  pub published : (most ≤ (view hunt.pass).published) ⊎ IsSomeAnd (best_of hunt.best) (λ set. set_cost piece.search.now.width set ≤ (view hunt.pass).published)
+  pub published : (most ≤ (view hunt.pass).published)
+      ⊎ IsSomeAnd (best_of hunt.best) (λ set. set_cost piece.search.now.width set ≤ (view hunt.pass).published)
 
 -- a set that need not be tried any more
 abbrev pub IsSettled : Piece → Hunt → List ℕ → Type 0
@@ -66,7 +67,8 @@ pub record IsLater (piece : Piece) (before after : Hunt) : Type 0 where
 
 -- each set of the piece that has these members and at most so many more is settled
 abbrev pub IsCovered : Piece → Hunt → (set : List ℕ) → (more : ℕ) → Type 0
-IsCovered piece hunt set more = (other : List ℕ) → own_of piece other → Within set other → length other ≤ length set + more → IsSettled piece hunt other
+IsCovered piece hunt set more = (other : List ℕ) → own_of piece other → Within set other → length other ≤ length set + more
+    → IsSettled piece hunt other
 
 -- the least further member so far, or none
 abbrev pub IsLeastOf : (targets set : List ℕ) → (least : Option ℕ) → Type 0

@@ -21,4 +21,5 @@ pub record IsLeast (targets : List ℕ) (width extra : ℕ) (set : List ℕ) : T
 
 -- there is one least set
 abbrev pub OneLeast : Type 0
-OneLeast = (targets : List ℕ) (width extra : ℕ) (set other : List ℕ) → IsLeast targets width extra set → IsLeast targets width extra other → set ≡ other
+OneLeast = (targets : List ℕ) (width extra : ℕ) (set other : List ℕ) → IsLeast targets width extra set
+    → IsLeast targets width extra other → set ≡ other

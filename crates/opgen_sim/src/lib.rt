@@ -1,7 +1,6 @@
 //! The simulator: designs run cycle by cycle.
 #![tactic(auto)]
 
-mod copies;
 mod cycle;
 mod engine;
 mod evaluate;
@@ -14,4 +13,5 @@ mod tests;
 mod walker;
 
 pub use laws::steps_are_runs;
+pub use opgen_lanes::Lanes;
 pub use sim::Sim;

@@ -5,9 +5,9 @@ ghost use Rattle.opgen_design.specs.Sound.{HasNumbers, IsSound, port_widths};
 ghost use Rattle.opgen_runs.specs.Step.{IsStep};
 ghost use Rattle.opgen_sim.specs.Sims.{IsNew};
 
-use crate::copies::copy;
 use crate::engine::Engine;
 use opgen_design::Design;
+use opgen_lanes::copy;
 use opgen_num::Memory;
 use std::alloc::Global;
 use std::marker::Model;

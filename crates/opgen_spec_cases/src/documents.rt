@@ -433,12 +433,11 @@ static OTHERS: [Case; 9] = [
     ),
 ];
 
-/// A document, its changes, and the fault or the line that is printed.
-type Further = (&'static str, &'static [Change], &'static str);
+/// Changes of a document, and the fault or the line that is printed.
+type Further = (&'static [Change], &'static str);
 
 static SCALES: [Further; 15] = [
     (
-        SCALE,
         &[
             ("period = 10000", ""),
             ("coefficients = [3]", "coefficients = [3]\ncolour = 1"),
@@ -446,7 +445,6 @@ static SCALES: [Further; 15] = [
         "UnknownKey 0 1",
     ),
     (
-        SCALE,
         &[
             ("kind = \"scale\"", ""),
             ("coefficients = [3]", "coefficients = [3]\nconstants = [1]"),
@@ -454,7 +452,6 @@ static SCALES: [Further; 15] = [
         "MissingKey kind",
     ),
     (
-        SCALE,
         &[
             ("kind = \"scale\"", "kind = 7"),
             ("coefficients = [3]", "coefficients = [3]\nconstants = [1]"),
@@ -462,12 +459,10 @@ static SCALES: [Further; 15] = [
         "WrongType kind",
     ),
     (
-        SCALE,
         &[("version = 1", "version = 2"), ("width = 4", "width = 33")],
         "wrote times3.vhd and times3.rpt, latency 0",
     ),
     (
-        SCALE,
         &[
             ("signed = false", "signed = true"),
             ("width = 4", "width = 1"),
@@ -475,12 +470,10 @@ static SCALES: [Further; 15] = [
         "OutOfRange width 1",
     ),
     (
-        SCALE,
         &[("lsb = 0", "lsb = -32"), ("out_lsb = 0", "out_lsb = 17")],
         "NotExact 0",
     ),
     (
-        SCALE,
         &[
             ("exact = true", "exact = false"),
             ("lsb = 0", "lsb = -24"),
@@ -489,7 +482,6 @@ static SCALES: [Further; 15] = [
         "wrote times3.vhd and times3.rpt, latency 0",
     ),
     (
-        SCALE,
         &[
             ("exact = true", "exact = false"),
             ("lsb = 0", "lsb = -24"),
@@ -498,22 +490,18 @@ static SCALES: [Further; 15] = [
         "Coarse -49",
     ),
     (
-        SCALE,
         &[("lsb = 0", "lsb = 24"), ("out_lsb = 0", "out_lsb = -24")],
         "wrote times3.vhd and times3.rpt, latency 0",
     ),
     (
-        SCALE,
         &[("lsb = 0", "lsb = 24"), ("out_lsb = 0", "out_lsb = -25")],
         "Coarse 49",
     ),
     (
-        SCALE,
         &[("lsb = 0", "lsb = 32"), ("out_lsb = 0", "out_lsb = -32")],
         "Coarse 64",
     ),
     (
-        SCALE,
         &[
             ("width = 4", "width = 32"),
             ("lsb = 0", "lsb = 3"),
@@ -522,7 +510,6 @@ static SCALES: [Further; 15] = [
         "TooWide 65",
     ),
     (
-        SCALE,
         &[
             ("width = 4", "width = 32"),
             ("lsb = 0", "lsb = 32"),
@@ -532,7 +519,6 @@ static SCALES: [Further; 15] = [
         "TooWide 110",
     ),
     (
-        SCALE,
         &[
             ("width = 4", "width = 33"),
             (
@@ -543,7 +529,6 @@ static SCALES: [Further; 15] = [
         "OutOfRange width 33",
     ),
     (
-        SCALE,
         &[
             ("width = 4", "width = \"x\""),
             (
@@ -557,7 +542,6 @@ static SCALES: [Further; 15] = [
 
 static DECIMALS: [Further; 19] = [
     (
-        SCALE,
         &[
             ("exact = true", "exact = false"),
             ("coefficients = [3]", "coefficients = [\"0.5\"]"),
@@ -565,7 +549,6 @@ static DECIMALS: [Further; 19] = [
         "wrote times3.vhd and times3.rpt, latency 0",
     ),
     (
-        SCALE,
         &[
             ("exact = true", "exact = false"),
             ("coefficients = [3]", "coefficients = [\"-0.5\"]"),
@@ -573,7 +556,6 @@ static DECIMALS: [Further; 19] = [
         "wrote times3.vhd and times3.rpt, latency 0",
     ),
     (
-        SCALE,
         &[
             ("exact = true", "exact = false"),
             ("coefficients = [3]", "coefficients = [\".5\"]"),
@@ -581,7 +563,6 @@ static DECIMALS: [Further; 19] = [
         "WrongType coefficients",
     ),
     (
-        SCALE,
         &[
             ("exact = true", "exact = false"),
             ("coefficients = [3]", "coefficients = [\"1.\"]"),
@@ -589,7 +570,6 @@ static DECIMALS: [Further; 19] = [
         "WrongType coefficients",
     ),
     (
-        SCALE,
         &[
             ("exact = true", "exact = false"),
             ("coefficients = [3]", "coefficients = [\"1.0000000000\"]"),
@@ -597,7 +577,6 @@ static DECIMALS: [Further; 19] = [
         "WrongType coefficients",
     ),
     (
-        SCALE,
         &[
             ("exact = true", "exact = false"),
             ("coefficients = [3]", "coefficients = [\"123456789\"]"),
@@ -605,7 +584,6 @@ static DECIMALS: [Further; 19] = [
         "wrote times3.vhd and times3.rpt, latency 0",
     ),
     (
-        SCALE,
         &[
             ("exact = true", "exact = false"),
             ("coefficients = [3]", "coefficients = [\"1234567890\"]"),
@@ -613,7 +591,6 @@ static DECIMALS: [Further; 19] = [
         "WrongType coefficients",
     ),
     (
-        SCALE,
         &[
             ("exact = true", "exact = false"),
             ("coefficients = [3]", "coefficients = [\"0.00000001\"]"),
@@ -621,7 +598,6 @@ static DECIMALS: [Further; 19] = [
         "wrote times3.vhd and times3.rpt, latency 0",
     ),
     (
-        SCALE,
         &[
             ("exact = true", "exact = false"),
             ("coefficients = [3]", "coefficients = [\"-\"]"),
@@ -629,7 +605,6 @@ static DECIMALS: [Further; 19] = [
         "WrongType coefficients",
     ),
     (
-        SCALE,
         &[
             ("exact = true", "exact = false"),
             ("coefficients = [3]", "coefficients = [\"+1\"]"),
@@ -637,7 +612,6 @@ static DECIMALS: [Further; 19] = [
         "WrongType coefficients",
     ),
     (
-        SCALE,
         &[
             ("exact = true", "exact = false"),
             ("coefficients = [3]", "coefficients = [\"1e3\"]"),
@@ -645,7 +619,6 @@ static DECIMALS: [Further; 19] = [
         "WrongType coefficients",
     ),
     (
-        SCALE,
         &[
             ("exact = true", "exact = false"),
             ("coefficients = [3]", "coefficients = [\" 1\"]"),
@@ -653,7 +626,6 @@ static DECIMALS: [Further; 19] = [
         "WrongType coefficients",
     ),
     (
-        SCALE,
         &[
             ("exact = true", "exact = false"),
             ("coefficients = [3]", "coefficients = [\"\"]"),
@@ -661,7 +633,6 @@ static DECIMALS: [Further; 19] = [
         "WrongType coefficients",
     ),
     (
-        SCALE,
         &[
             ("exact = true", "exact = false"),
             ("coefficients = [3]", "coefficients = [\"--1\"]"),
@@ -669,7 +640,6 @@ static DECIMALS: [Further; 19] = [
         "WrongType coefficients",
     ),
     (
-        SCALE,
         &[
             ("exact = true", "exact = false"),
             ("coefficients = [3]", "coefficients = [\"00.5\"]"),
@@ -677,7 +647,6 @@ static DECIMALS: [Further; 19] = [
         "wrote times3.vhd and times3.rpt, latency 0",
     ),
     (
-        SCALE,
         &[
             ("exact = true", "exact = false"),
             ("coefficients = [3]", "coefficients = [\"-0\"]"),
@@ -685,7 +654,6 @@ static DECIMALS: [Further; 19] = [
         "wrote times3.vhd and times3.rpt, latency 0",
     ),
     (
-        SCALE,
         &[
             ("exact = true", "exact = false"),
             ("coefficients = [3]", "coefficients = [\"1073741825\"]"),
@@ -693,7 +661,6 @@ static DECIMALS: [Further; 19] = [
         "WrongType coefficients",
     ),
     (
-        SCALE,
         &[
             ("exact = true", "exact = false"),
             ("coefficients = [3]", "coefficients = [\"107.374183\"]"),
@@ -701,7 +668,6 @@ static DECIMALS: [Further; 19] = [
         "wrote times3.vhd and times3.rpt, latency 0",
     ),
     (
-        SCALE,
         &[
             ("exact = true", "exact = false"),
             ("coefficients = [3]", "coefficients = [\"٣\"]"),
@@ -712,7 +678,6 @@ static DECIMALS: [Further; 19] = [
 
 static FILTERS: [Further; 3] = [
     (
-        FILTER,
         &[
             ("exact = true", "exact = false"),
             (
@@ -724,7 +689,6 @@ static FILTERS: [Further; 3] = [
         "wrote times3.vhd and times3.rpt, latency 0",
     ),
     (
-        FILTER,
         &[
             ("exact = true", "exact = false"),
             (
@@ -735,12 +699,11 @@ static FILTERS: [Further; 3] = [
         ],
         "OutOfRange coefficients 1100000000",
     ),
-    (FILTER, &[], "NotExact 2"),
+    (&[], "NotExact 2"),
 ];
 
 static PRODUCTS: [Further; 6] = [
     (
-        MULTIPLY,
         &[
             ("lsb_a = 24", "lsb_a = -24"),
             ("out_lsb = -24", "out_lsb = 24"),
@@ -748,7 +711,6 @@ static PRODUCTS: [Further; 6] = [
         "wrote product.vhd and product.rpt, latency 0",
     ),
     (
-        MULTIPLY,
         &[
             ("lsb_a = 24", "lsb_a = -24"),
             ("lsb_b = 0", "lsb_b = -1"),
@@ -756,14 +718,9 @@ static PRODUCTS: [Further; 6] = [
         ],
         "Coarse -49",
     ),
+    (&[], "wrote product.vhd and product.rpt, latency 0"),
+    (&[("lsb_b = 0", "lsb_b = 1")], "Coarse 49"),
     (
-        MULTIPLY,
-        &[],
-        "wrote product.vhd and product.rpt, latency 0",
-    ),
-    (MULTIPLY, &[("lsb_b = 0", "lsb_b = 1")], "Coarse 49"),
-    (
-        MULTIPLY,
         &[
             ("exact = false", "exact = true"),
             ("lsb_a = 24", "lsb_a = 0"),
@@ -772,7 +729,6 @@ static PRODUCTS: [Further; 6] = [
         "NotExact 0",
     ),
     (
-        MULTIPLY,
         &[
             ("width_a = 4", "width_a = 32"),
             ("lsb_a = 24", "lsb_a = 1"),
@@ -783,15 +739,10 @@ static PRODUCTS: [Further; 6] = [
     ),
 ];
 
-static QUOTIENTS_AND_ROOTS: [Further; 11] = [
-    (DIVIDE, &[("lsb_b = 0", "lsb_b = 1")], "Coarse -1"),
+static QUOTIENTS: [Further; 7] = [
+    (&[("lsb_b = 0", "lsb_b = 1")], "Coarse -1"),
+    (&[], "wrote quotient.vhd and quotient.rpt, latency 0"),
     (
-        DIVIDE,
-        &[],
-        "wrote quotient.vhd and quotient.rpt, latency 0",
-    ),
-    (
-        DIVIDE,
         &[
             ("lsb_a = 0", "lsb_a = 24"),
             ("out_lsb = 0", "out_lsb = -24"),
@@ -799,7 +750,6 @@ static QUOTIENTS_AND_ROOTS: [Further; 11] = [
         "wrote quotient.vhd and quotient.rpt, latency 0",
     ),
     (
-        DIVIDE,
         &[
             ("lsb_a = 0", "lsb_a = 24"),
             ("lsb_b = 0", "lsb_b = -1"),
@@ -807,25 +757,11 @@ static QUOTIENTS_AND_ROOTS: [Further; 11] = [
         ],
         "Coarse 49",
     ),
-    (ROOT, &[("lsb = 0", "lsb = -1")], "Coarse -1"),
-    (ROOT, &[], "wrote root8.vhd and root8.rpt, latency 0"),
     (
-        ROOT,
-        &[("out_lsb = 0", "out_lsb = -24")],
-        "wrote root8.vhd and root8.rpt, latency 0",
-    ),
-    (
-        ROOT,
-        &[("lsb = 0", "lsb = 1"), ("out_lsb = 0", "out_lsb = -24")],
-        "Coarse 49",
-    ),
-    (
-        DIVIDE,
         &[("width_a = 4", "width_a = 32"), ("lsb_a = 0", "lsb_a = 32")],
         "wrote quotient.vhd and quotient.rpt, latency 0",
     ),
     (
-        DIVIDE,
         &[
             ("width_a = 4", "width_a = 17"),
             ("lsb_a = 0", "lsb_a = 32"),
@@ -834,51 +770,55 @@ static QUOTIENTS_AND_ROOTS: [Further; 11] = [
         "TooWide 65",
     ),
     (
-        DIVIDE,
         &[("out_lsb = 0", "out_lsb = 0\nsigned = false")],
         "UnknownKey 0 7",
     ),
 ];
 
+static ROOTS: [Further; 4] = [
+    (&[("lsb = 0", "lsb = -1")], "Coarse -1"),
+    (&[], "wrote root8.vhd and root8.rpt, latency 0"),
+    (
+        &[("out_lsb = 0", "out_lsb = -24")],
+        "wrote root8.vhd and root8.rpt, latency 0",
+    ),
+    (
+        &[("lsb = 0", "lsb = 1"), ("out_lsb = 0", "out_lsb = -24")],
+        "Coarse 49",
+    ),
+];
+
+/// What `generate` prints for constants that it takes.
+pub const MULTIPLES_MADE: &str = "wrote mcm45.vhd and mcm45.rpt, latency 0";
+
 static MULTIPLES: [Further; 13] = [
     (
-        MCM,
         &[("constants = [0]", "constants = []")],
         "OutOfRange constants 0",
     ),
-    (MCM, &[], "wrote mcm45.vhd and mcm45.rpt, latency 0"),
+    (&[], MULTIPLES_MADE),
+    (&[("constants = [0]", "constants = [2047]")], MULTIPLES_MADE),
     (
-        MCM,
-        &[("constants = [0]", "constants = [2047]")],
-        "wrote mcm45.vhd and mcm45.rpt, latency 0",
-    ),
-    (
-        MCM,
         &[("constants = [0]", "constants = [2048]")],
         "OutOfRange constants 2048",
     ),
     (
-        MCM,
         &[("constants = [0]", "constants = [-2047]")],
-        "wrote mcm45.vhd and mcm45.rpt, latency 0",
+        MULTIPLES_MADE,
     ),
     (
-        MCM,
         &[("constants = [0]", "constants = [-2048]")],
         "OutOfRange constants -2048",
     ),
     (
-        MCM,
         &[("constants = [0]", "constants = [1, 2, 3, 4, 5, 6, 7, 8, 9]")],
         "OutOfRange constants 9",
     ),
     (
-        MCM,
         &[("constants = [0]", "constants = [\"1\"]")],
         "WrongType constants",
     ),
     (
-        MCM,
         &[
             ("constants = [0]", "constants = [45]"),
             ("extra = 1", "extra = -1"),
@@ -886,23 +826,20 @@ static MULTIPLES: [Further; 13] = [
         "OutOfRange extra -1",
     ),
     (
-        MCM,
         &[
             ("constants = [0]", "constants = [45]"),
             ("extra = 1", "extra = 0"),
         ],
-        "wrote mcm45.vhd and mcm45.rpt, latency 0",
+        MULTIPLES_MADE,
     ),
     (
-        MCM,
         &[
             ("constants = [0]", "constants = [45]"),
             ("extra = 1", "extra = 2"),
         ],
-        "wrote mcm45.vhd and mcm45.rpt, latency 0",
+        MULTIPLES_MADE,
     ),
     (
-        MCM,
         &[
             ("constants = [0]", "constants = [45]"),
             ("extra = 1", "extra = 3"),
@@ -910,7 +847,6 @@ static MULTIPLES: [Further; 13] = [
         "OutOfRange extra 3",
     ),
     (
-        MCM,
         &[
             ("constants = [0]", "constants = [45]"),
             ("extra = 1", "extra = 1\nout_lsb = 0"),
@@ -987,13 +923,14 @@ fn others(rt: HostRuntime) -> Result<(), Fail> {
     Ok(())
 }
 
-/// The number of the first of further cases that is answered otherwise.
+/// The number of the first changes of a document that are answered otherwise.
 fn first_further_wrong(
     rt: &(impl Threads + Sync + Alloc<A = Global>),
+    document: &str,
     cases: &[Further],
 ) -> Result<Option<usize>, AllocError> {
     let alloc = rt.alloc();
-    for (number, (document, changes, answer)) in cases.iter().enumerate() {
+    for (number, (changes, answer)) in cases.iter().enumerate() {
         let spec = changed(alloc, document, changes)?;
         if !answers(rt, &spec, answer)? {
             return Ok(Some(number));
@@ -1004,37 +941,38 @@ fn first_further_wrong(
 
 #[test]
 fn scales(rt: HostRuntime) -> Result<(), Fail> {
-    assert_eq!(rt; first_further_wrong(&rt, &SCALES)?, None);
+    assert_eq!(rt; first_further_wrong(&rt, SCALE, &SCALES)?, None);
     Ok(())
 }
 
 #[test]
 fn decimals(rt: HostRuntime) -> Result<(), Fail> {
-    assert_eq!(rt; first_further_wrong(&rt, &DECIMALS)?, None);
+    assert_eq!(rt; first_further_wrong(&rt, SCALE, &DECIMALS)?, None);
     Ok(())
 }
 
 #[test]
 fn filters(rt: HostRuntime) -> Result<(), Fail> {
-    assert_eq!(rt; first_further_wrong(&rt, &FILTERS)?, None);
+    assert_eq!(rt; first_further_wrong(&rt, FILTER, &FILTERS)?, None);
     Ok(())
 }
 
 #[test]
 fn products(rt: HostRuntime) -> Result<(), Fail> {
-    assert_eq!(rt; first_further_wrong(&rt, &PRODUCTS)?, None);
+    assert_eq!(rt; first_further_wrong(&rt, MULTIPLY, &PRODUCTS)?, None);
     Ok(())
 }
 
 #[test]
 fn quotients_and_roots(rt: HostRuntime) -> Result<(), Fail> {
-    assert_eq!(rt; first_further_wrong(&rt, &QUOTIENTS_AND_ROOTS)?, None);
+    assert_eq!(rt; first_further_wrong(&rt, DIVIDE, &QUOTIENTS)?, None);
+    assert_eq!(rt; first_further_wrong(&rt, ROOT, &ROOTS)?, None);
     Ok(())
 }
 
 #[test]
 fn multiples(rt: HostRuntime) -> Result<(), Fail> {
-    assert_eq!(rt; first_further_wrong(&rt, &MULTIPLES)?, None);
+    assert_eq!(rt; first_further_wrong(&rt, MCM, &MULTIPLES)?, None);
     Ok(())
 }
 

@@ -3,7 +3,7 @@ use Rattle.std.proofs.Common.{◌≡◌, ℕ, zero, suc, ◌≤◌, ◌≢◌, B
 use Rattle.std.specs.Prelude.{All, IsTrue, slice_index}
 use Rattle.std.specs.List.{AllPairs}
 use Rattle.std.proofs.lemmas.List.Elements.{All-nil, All-cons}
-use Rattle.opgen_design.specs.Names.{is_allowed_name, refused_words}
+use Rattle.opgen_names.specs.Names.{is_allowed_name, refused_words}
 use Rattle.opgen_net.specs.Named.{port_names, IsFree, IsNamed}
 use Rattle.opgen_operator.specs.declared.spec.Single.{Single}
 use Rattle.opgen_operator.specs.Ports.{root_width}

@@ -8,7 +8,7 @@ ghost use Rattle.opgen_net.specs.declared.word_bits.WordBit.TheVariants.{Zero, O
 ghost use Rattle.opgen_net.specs.Valid.{IsValid, widths};
 ghost use Rattle.opgen_net.specs.Named.{IsNamed};
 ghost use Rattle.opgen_net.specs.WordRule.{IsThere};
-ghost use Rattle.opgen_design.specs.Names.{is_allowed_name};
+ghost use Rattle.opgen_names.specs.Names.{is_allowed_name};
 ghost use Rattle.opgen_operator.specs.Accepted.{IsAcceptedSingle};
 ghost use Rattle.opgen_operator.specs.Fits.{FitsSpecsOf};
 ghost use Rattle.opgen_operator.specs.Ports.{root_width};

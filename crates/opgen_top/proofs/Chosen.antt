@@ -12,33 +12,44 @@ module _ {T : Type 0} (name_of : T → List ℕ) (delays_of : T → Delays) (adj
   abbrev device_of : T → Device
   device_of t = record { name = name_of t; delays = delays_of t; adjustable = adjustable_of t }
 
-  chosen_is : (name : List ℕ) (ts : List T) → chosen name (devices_of name_of delays_of adjustable_of ts) ≡ option_map (λ t. record { name = name_of t; delays = delays_of t; adjustable = adjustable_of t }) (find (λ t. bytes_eq (name_of t) name) ts)
+  chosen_is : (name : List ℕ) (ts : List T) → chosen name (devices_of name_of delays_of adjustable_of ts)
+      ≡ option_map (λ t. record { name = name_of t; delays = delays_of t; adjustable = adjustable_of t })
+      (find (λ t. bytes_eq (name_of t) name) ts)
   chosen_is name [] = refl
   chosen_is name (t ∷ ts) = go (bytes_eq (name_of t) name) (chosen_is name ts)
     where
-      go : (b : Bool) → chosen name (devices_of name_of delays_of adjustable_of ts) ≡ option_map device_of (find (λ x. bytes_eq (name_of x) name) ts)
-          → cond b (Some (device_of t)) (chosen name (devices_of name_of delays_of adjustable_of ts)) ≡ option_map device_of (cond b (Some t) (find (λ x. bytes_eq (name_of x) name) ts))
+      go : (b : Bool) → chosen name (devices_of name_of delays_of adjustable_of ts)
+          ≡ option_map device_of (find (λ x. bytes_eq (name_of x) name) ts)
+          → cond b (Some (device_of t)) (chosen name (devices_of name_of delays_of adjustable_of ts))
+          ≡ option_map device_of (cond b (Some t) (find (λ x. bytes_eq (name_of x) name) ts))
       go true e = refl
       go false e = e
 
   -- what was found among the targets decides
   module _ (spec : Spec) (ts : List T) (name : List ℕ) (called : name ≡ spec.target) where
-    chosen_from : (r : Option T) → r ≡ find (λ t. bytes_eq (name_of t) name) ts → chosen spec.target (devices_of name_of delays_of adjustable_of ts) ≡ option_map (λ t. record { name = name_of t; delays = delays_of t; adjustable = adjustable_of t }) r
+    chosen_from : (r : Option T) → r ≡ find (λ t. bytes_eq (name_of t) name) ts
+        → chosen spec.target (devices_of name_of delays_of adjustable_of ts) ≡ option_map
+        (λ t. record { name = name_of t; delays = delays_of t; adjustable = adjustable_of t }) r
     chosen_from r found =
-        ap (λ n. chosen n (devices_of name_of delays_of adjustable_of ts)) (sym called) ∙ chosen_is name ts ∙ ap (option_map (λ t. record { name = name_of t; delays = delays_of t; adjustable = adjustable_of t })) (sym found)
+        ap (λ n. chosen n (devices_of name_of delays_of adjustable_of ts)) (sym called) ∙ chosen_is name ts
+        ∙ ap (option_map (λ t. record { name = name_of t; delays = delays_of t; adjustable = adjustable_of t })) (sym found)
 
     pub none_chosen : (r : Option T) → ((t : T) → r ≡ Some t → ⊥) → r ≡ find (λ t. bytes_eq (name_of t) name) ts
         → OnTarget (chosen spec.target (devices_of name_of delays_of adjustable_of ts)) spec unknown_target (λ table. ⊥)
     none_chosen None none found = subst (λ d. OnTarget d spec unknown_target (λ table. ⊥)) (sym (chosen_from None found)) refl
     none_chosen (Some t) none found = absurd (none t refl)
 
-    module _ (t : T) (found : Some t ≡ find (λ x. bytes_eq (name_of x) name) ts) (lines : List DelayLine) (are_lines : lines ≡ spec.delays) where
-      pub fixed_chosen : false ≡ takes_lines (adjustable_of t) lines → OnTarget (chosen spec.target (devices_of name_of delays_of adjustable_of ts)) spec not_adjustable (λ table. ⊥)
+    module _ (t : T) (found : Some t ≡ find (λ x. bytes_eq (name_of x) name) ts) (lines : List DelayLine)
+        (are_lines : lines ≡ spec.delays) where
+      pub fixed_chosen : false ≡ takes_lines (adjustable_of t) lines
+          → OnTarget (chosen spec.target (devices_of name_of delays_of adjustable_of ts)) spec not_adjustable (λ table. ⊥)
       fixed_chosen takes =
           let takes_none : false ≡ takes_lines (adjustable_of t) spec.delays = takes ∙ ap (takes_lines (adjustable_of t)) are_lines in
-          subst (λ d. OnTarget d spec not_adjustable (λ table. ⊥)) (sym (chosen_from (Some t) found)) (subst (λ b. OnLines b not_adjustable ⊥) takes_none refl)
+          subst (λ d. OnTarget d spec not_adjustable (λ table. ⊥)) (sym (chosen_from (Some t) found))
+          (subst (λ b. OnLines b not_adjustable ⊥) takes_none refl)
 
-      pub table_chosen : true ≡ takes_lines (adjustable_of t) lines → (table : Delays) → table ≡ tuned (delays_of t) lines → IsTableOf spec (devices_of name_of delays_of adjustable_of ts) table
+      pub table_chosen : true ≡ takes_lines (adjustable_of t) lines → (table : Delays) → table ≡ tuned (delays_of t) lines
+          → IsTableOf spec (devices_of name_of delays_of adjustable_of ts) table
       table_chosen takes table is = record {
         device = device_of t;
         is_chosen = chosen_from (Some t) found;
@@ -51,12 +62,14 @@ pub takes_some : (adjustable : Bool) (lines : List DelayLine) (i : ℕ) → i < 
 takes_some adjustable [] i h = absurd (omega (arith, h))
 takes_some adjustable (line ∷ lines) i h = refl
 
-pub takes_all : (adjustable : Bool) (lines : List DelayLine) (i : ℕ) → length lines ≤ i → (i ≡ 0) ⊎ (adjustable ≡ true) → takes_lines adjustable lines ≡ true
+pub takes_all : (adjustable : Bool) (lines : List DelayLine) (i : ℕ) → length lines ≤ i → (i ≡ 0) ⊎ (adjustable ≡ true)
+    → takes_lines adjustable lines ≡ true
 takes_all adjustable [] i h begun = refl
 takes_all adjustable (line ∷ lines) i h (inl e) = absurd (omega (arith, h, e))
 takes_all adjustable (line ∷ lines) i h (inr e) = e
 
 -- one line more
 pub tuned_next : (delays now : Delays) (lines : List DelayLine) (i : ℕ) (d : DelayLine) → i < length lines
-    → now ≡ with_line (get_or lines i d).class (get_or lines i d).base (get_or lines i d).per_bit delays → tuned now (drop (i + 1) lines) ≡ tuned delays (drop i lines)
+    → now ≡ with_line (get_or lines i d).class (get_or lines i d).base (get_or lines i d).per_bit delays
+    → tuned now (drop (i + 1) lines) ≡ tuned delays (drop i lines)
 tuned_next delays now lines i d here is = ap (λ t. tuned t (drop (i + 1) lines)) is ∙ ap (tuned delays) (sym (drop_more lines i d here))

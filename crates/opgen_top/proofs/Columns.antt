@@ -29,7 +29,8 @@ module _ (is : Dir → Bool) (ps : List Port) (i : ℕ) (p : Port) (here : i < l
   pub port_kept : is p.dir ≡ true → all ≡ (seen ++ p.width ∷ []) ++ widths_on is (drop (i + 1) ps)
   port_kept kept =
       let rest = widths_on is (drop (i + 1) ps) in
-      so_far ∙ ap (λ ws. seen ++ ws) (next_port ∙ ap (λ b. if b then p.width ∷ rest else rest) kept) ∙ sym (append_assoc seen (p.width ∷ []) rest)
+      so_far ∙ ap (λ ws. seen ++ ws) (next_port ∙ ap (λ b. if b then p.width ∷ rest else rest) kept)
+      ∙ sym (append_assoc seen (p.width ∷ []) rest)
 
   pub port_passed : is p.dir ≡ false → all ≡ seen ++ widths_on is (drop (i + 1) ps)
   port_passed passed =
@@ -37,13 +38,16 @@ module _ (is : Dir → Bool) (ps : List Port) (i : ℕ) (p : Port) (here : i < l
       so_far ∙ ap (λ ws. seen ++ ws) (next_port ∙ ap (λ b. if b then p.width ∷ rest else rest) passed)
 
 -- a port stands on one side
-one_side : (dir : Dir) (w : ℕ) (is os : List ℕ) → length (if is_in dir then w ∷ is else is) + length (if is_out dir then w ∷ os else os) ≡ suc (length is + length os)
+one_side : (dir : Dir) (w : ℕ) (is os : List ℕ) → length (if is_in dir then w ∷ is else is) + length (if is_out dir then w ∷ os else os)
+    ≡ suc (length is + length os)
 one_side In w is os = omega arith
 one_side Out w is os = omega arith
 
-both_sides : (ps : List Port) → length (at_ports is_in ps (map (λ p. p.width) ps)) + length (at_ports is_out ps (map (λ p. p.width) ps)) ≡ length ps
+both_sides : (ps : List Port) → length (at_ports is_in ps (map (λ p. p.width) ps)) + length (at_ports is_out ps (map (λ p. p.width) ps))
+    ≡ length ps
 both_sides [] = refl
-both_sides (p ∷ ps) = one_side p.dir p.width (at_ports is_in ps (map (λ p. p.width) ps)) (at_ports is_out ps (map (λ p. p.width) ps)) ∙ ap suc (both_sides ps)
+both_sides (p ∷ ps) = one_side p.dir p.width (at_ports is_in ps (map (λ p. p.width) ps)) (at_ports is_out ps (map (λ p. p.width) ps))
+    ∙ ap suc (both_sides ps)
 
 pub sides : (d : Design) → length (input_widths d) + length (output_widths d) ≡ length d.ports
 sides d = both_sides d.ports
@@ -58,26 +62,32 @@ few_outputs d few = omega (arith, few, sides d)
 abbrev IsNarrow : ℕ → Type 0
 IsNarrow width = width ≤ MAX_WIDTH
 
-narrow_side : (dir : Dir) (w : ℕ) (is : List ℕ) → IsNarrow w → All IsNarrow is → All IsNarrow (if is_in dir then w ∷ is else is)
-narrow_side In w is h all = All-cons IsNarrow w is h all
-narrow_side Out w is h all = all
+narrow_side : (b : Bool) (w : ℕ) (ws : List ℕ) → IsNarrow w → All IsNarrow ws → All IsNarrow (if b then w ∷ ws else ws)
+narrow_side true w ws h all = All-cons IsNarrow w ws h all
+narrow_side false w ws h all = all
 
-narrow_on : (ps : List Port) → ((i : ℕ) (p : Port) → slice_get ps i ≡ Some p → IsNarrow p.width) → All IsNarrow (at_ports is_in ps (map (λ p. p.width) ps))
-narrow_on [] h = All-nil IsNarrow
-narrow_on (p ∷ ps) h = narrow_side p.dir p.width (at_ports is_in ps (map (λ p. p.width) ps)) (h 0 p refl) (narrow_on ps (λ i q e. h (suc i) q e))
+narrow_on : (is : Dir → Bool) (ps : List Port) → ((i : ℕ) (p : Port) → slice_get ps i ≡ Some p → IsNarrow p.width)
+    → All IsNarrow (at_ports is ps (map (λ p. p.width) ps))
+narrow_on is [] h = All-nil IsNarrow
+narrow_on is (p ∷ ps) h = narrow_side (is p.dir) p.width (at_ports is ps (map (λ p. p.width) ps)) (h 0 p refl)
+    (narrow_on is ps (λ i q e. h (suc i) q e))
 
-pub narrow_inputs : (d : Design) → IsSound d → All (λ width. width ≤ MAX_WIDTH) (input_widths d)
-narrow_inputs d sound = narrow_on d.ports (λ i p e. (subst (λ o. IfSome o (PortPasses d Width i)) e (sound.widths (at_port i))).1)
+-- no port of a direction
+pub narrow_ports : (is : Dir → Bool) (d : Design) → IsSound d → All (λ width. width ≤ MAX_WIDTH) (at_ports is d.ports (map (λ p. p.width) d.ports))
+narrow_ports is d sound = narrow_on is d.ports (λ i p e. (subst (λ o. IfSome o (PortPasses d Width i)) e (sound.widths (at_port i))).1)
 
 pub row_room : (widths cells : List ℕ) (rows : ℕ) → 0 < rows → AreRowsOfCells widths rows cells → length widths ≤ length cells
 row_room widths cells zero some are = absurd (omega (arith, some))
-row_room widths cells (suc rows) some (is, are) = omega (arith, length-cells widths (take (length widths) cells) is, length-take (length widths) cells)
+row_room widths cells (suc rows) some (is, are) =
+    omega (arith, length-cells widths (take (length widths) cells) is, length-take (length widths) cells)
 
-pub first_fits : (widths cells : List ℕ) (rows : ℕ) → 0 < rows → AreRowsOfCells widths rows cells → FitWidths widths (take (length widths) cells)
+pub first_fits : (widths cells : List ℕ) (rows : ℕ) → 0 < rows → AreRowsOfCells widths rows cells
+    → FitWidths widths (take (length widths) cells)
 first_fits widths cells zero some are = absurd (omega (arith, some))
 first_fits widths cells (suc rows) some (is, are) = is
 
-pub later_rows : (widths cells : List ℕ) (rows : ℕ) → 0 < rows → AreRowsOfCells widths rows cells → AreRowsOfCells widths (rows - 1) (drop (length widths) cells)
+pub later_rows : (widths cells : List ℕ) (rows : ℕ) → 0 < rows → AreRowsOfCells widths rows cells
+    → AreRowsOfCells widths (rows - 1) (drop (length widths) cells)
 later_rows widths cells zero some are = absurd (omega (arith, some))
 later_rows widths cells (suc rows) some (is, are) =
     let less : rows ≡ suc rows - 1 = omega arith in
@@ -92,7 +102,7 @@ length-rows_of_cells widths cells (suc rows) are =
     omega (arith, room, rest, whole, length-drop (length widths) cells)
 
 -- how many rows cells make
-counted : (columns rows : ℕ) (cells : List ℕ) → length cells ≡ rows * suc columns → row_count (suc columns) cells ≡ rows
+pub counted : (columns rows : ℕ) (cells : List ℕ) → length cells ≡ rows * suc columns → row_count (suc columns) cells ≡ rows
 counted columns rows cells len =
     let turned : length cells ≡ suc columns * rows = omega (arith, len) in
     ap (λ n. n / suc columns) turned ∙ mul-div_cancel_left rows (omega arith)
@@ -101,12 +111,14 @@ pub whole_rows : (columns rows : ℕ) (cells : List ℕ) → length cells ≡ ro
 whole_rows zero rows cells len = omega (arith, len)
 whole_rows (suc columns) rows cells len = ap (λ n. suc columns * n) (counted columns rows cells len) ∙ omega (arith, len)
 
-pub same_rows : (m n rows : ℕ) (inputs outputs : List ℕ) → length inputs ≡ rows * m → length outputs ≡ rows * n → HaveSameRows m n inputs outputs
+pub same_rows : (m n rows : ℕ) (inputs outputs : List ℕ) → length inputs ≡ rows * m → length outputs ≡ rows * n
+    → HaveSameRows m n inputs outputs
 same_rows zero n rows inputs outputs e f = tt
 same_rows (suc m) zero rows inputs outputs e f = tt
 same_rows (suc m) (suc n) rows inputs outputs e f = counted m rows inputs e ∙ sym (counted n rows outputs f)
 
-pub all_rows : (m n rows : ℕ) (inputs outputs : List ℕ) → 0 < m + n → length inputs ≡ rows * m → length outputs ≡ rows * n → row_count_of m n inputs outputs ≡ rows
+pub all_rows : (m n rows : ℕ) (inputs outputs : List ℕ) → 0 < m + n → length inputs ≡ rows * m → length outputs ≡ rows * n
+    → row_count_of m n inputs outputs ≡ rows
 all_rows zero zero rows inputs outputs some e f = absurd (omega (arith, some))
 all_rows zero (suc n) rows inputs outputs some e f = let c = counted n rows outputs f in omega (arith, c)
 all_rows (suc m) zero rows inputs outputs some e f = let c = counted m rows inputs e in omega (arith, c)

@@ -21,23 +21,28 @@ abbrev pub status_of : Answer → ℕ
 status_of a = a.status
 
 -- the line that was put is the one more
-pub line_taken : (result : ℕ) (held line : List ℕ) (now : Option (List ℕ)) → HasLine result → IsSilent result ⊎ (now ≡ Some (held ++ line)) → now ≡ Some (held ++ line)
+pub line_taken : (result : ℕ) (held line : List ℕ) (now : Option (List ℕ)) → HasLine result → IsSilent result
+    ⊎ (now ≡ Some (held ++ line)) → now ≡ Some (held ++ line)
 line_taken result held line now has (inl silent) = absurd (not_silent result has silent)
 line_taken result held line now has (inr taken) = taken
 
 -- stores change no count of reading
-pub later_reads : (command : Option Command) (devices : List Device) (told : Option Files) (before : Reads) (faults lacks longs later : ℕ) (a : Answer) → later ≡ faults
-    → IsPrepared command devices told before (record { faults = faults; lacks = lacks; longs = longs }) a → IsPrepared command devices told before (record { faults = later; lacks = lacks; longs = longs }) a
+pub later_reads : (command : Option Command) (devices : List Device) (told : Option Files) (before : Reads)
+    (faults lacks longs later : ℕ) (a : Answer) → later ≡ faults
+    → IsPrepared command devices told before (record { faults = faults; lacks = lacks; longs = longs }) a
+    → IsPrepared command devices told before (record { faults = later; lacks = lacks; longs = longs }) a
 later_reads command devices told before faults lacks longs later a same prepared =
     subst (λ n. IsPrepared command devices told before (record { faults = n; lacks = lacks; longs = longs }) a) (sym same) prepared
 
 -- an answer whose line was put, or was to be
-module _ (command : Option Command) (devices : List Device) (told : Option Files) (reads reads_now : Reads) (a : Answer) (prepared : IsPrepared command devices told reads reads_now a)
+module _ (command : Option Command) (devices : List Device) (told : Option Files) (reads reads_now : Reads) (a : Answer)
+    (prepared : IsPrepared command devices told reads reads_now a)
     (result : ℕ) (after : Option Files) (before now : Option (List ℕ)) (puts puts_now : ℕ) (tells : TellsOr a.status puts puts_now result)
     (taken : (held : List ℕ) → before ≡ Some held → IsSilent result ⊎ (now ≡ Some (held ++ a.line)))
     (part : result ≡ 4 → TakesPrefix before a.line now)
     (stores : (files : Files) → told ≡ Some files → after ≡ Some (stored_all a.stores files)) where
-  gives : (files : Files) → told ≡ Some files → IsAnswerOf command devices files a → HasLine result → IsAnswered command devices files result after before now
+  gives : (files : Files) → told ≡ Some files → IsAnswerOf command devices files a → HasLine result
+      → IsAnswered command devices files result after before now
   gives files is due has = record {
     answer = a;
     due = due;
@@ -48,17 +53,20 @@ module _ (command : Option Command) (devices : List Device) (told : Option Files
 
   pub gives_due : (files : Files) → told ≡ Some files → IsDueStatus result → IsAnswered command devices files result after before now
   gives_due files is status = elim (prepared.due files is) [
-    | inl fault ↦ absurd (not_three result status (told_status a.status puts puts_now result tells (due_line result status) ∙ ap status_of fault.0))
+    | inl fault ↦ absurd (not_three result status (told_status a.status puts puts_now result tells (due_line result status)
+        ∙ ap status_of fault.0))
     | inr due ↦ gives files is due (due_line result status)
   ]
 
-  pub gives_missing : (files : Files) → told ≡ Some files → Stood reads.faults reads_now.faults → result ≡ 3 → IsAnswered command devices files result after before now
+  pub gives_missing : (files : Files) → told ≡ Some files → Stood reads.faults reads_now.faults → result ≡ 3
+      → IsAnswered command devices files result after before now
   gives_missing files is stood e = elim (prepared.due files is) [
     | inl fault ↦ let rose = fault.1 in absurd (omega (arith, stood, rose))
     | inr due ↦ gives files is due (inr (inr (inr (inl e))))
   ]
 
-  pub gives_all : (files : Files) → told ≡ Some files → Stood reads.faults reads_now.faults → Stood puts puts_now → HasLine a.status → (result ≡ 5) ⊎ IsAnswered command devices files result after before now
+  pub gives_all : (files : Files) → told ≡ Some files → Stood reads.faults reads_now.faults → Stood puts puts_now → HasLine a.status
+      → (result ≡ 5) ⊎ IsAnswered command devices files result after before now
   gives_all files is stood put has = elim (prepared.due files is) [
     | inl fault ↦ let rose = fault.1 in absurd (omega (arith, stood, rose))
     | inr due ↦ elim tells [
@@ -101,7 +109,8 @@ module _ (command : Option Command) (devices : List Device) (told : Option Files
     | inr due ↦ inr (a, due, all_done a.stores files after (stores files is))
   ]
 
-  pub is_printed : HasLine a.status → (result ≡ 5 → now ≡ before) → (Stood puts puts_now → result ≡ 4 → ⊥) → (held : List ℕ) → before ≡ Some held → IsPrinted result puts puts_now held now
+  pub is_printed : HasLine a.status → (result ≡ 5 → now ≡ before) → (Stood puts puts_now → result ≡ 4 → ⊥) → (held : List ℕ)
+      → before ≡ Some held → IsPrinted result puts puts_now held now
   is_printed has memory silent held holds = record {
     line = λ h.
         let status = told_status a.status puts puts_now result tells h in record {
@@ -120,7 +129,8 @@ module _ (command : Option Command) (devices : List Device) (told : Option Files
   }
 
 -- a result of 4 or 5 with nothing printed
-pub nothing_printed : (result : ℕ) (puts puts_now : ℕ) (before now : Option (List ℕ)) → IsSilent result → now ≡ before → (held : List ℕ) → before ≡ Some held → IsPrinted result puts puts_now held now
+pub nothing_printed : (result : ℕ) (puts puts_now : ℕ) (before now : Option (List ℕ)) → IsSilent result → now ≡ before → (held : List ℕ)
+    → before ≡ Some held → IsPrinted result puts puts_now held now
 nothing_printed result puts puts_now before now silent same held holds = record {
   line = λ has. absurd (not_silent result has silent);
   part = λ four. record {
@@ -134,7 +144,8 @@ nothing_printed result puts puts_now before now silent same held holds = record 
 }
 
 -- a store of the answer failed
-module _ (command : Option Command) (devices : List Device) (told : Option Files) (reads reads_now : Reads) (a : Answer) (prepared : IsPrepared command devices told reads reads_now a)
+module _ (command : Option Command) (devices : List Device) (told : Option Files) (reads reads_now : Reads) (a : Answer)
+    (prepared : IsPrepared command devices told reads reads_now a)
     (after : Option Files) (before now : Option (List ℕ)) (some : a.stores ≡ [] → ⊥) where
   pub left_unstored : (files : Files) (write put : Type 0) → told ≡ Some files → write → HasBroken a.stores files after → now ≡ before
       → LeftByFault command devices files (Rose reads.faults reads_now.faults) write put after before now

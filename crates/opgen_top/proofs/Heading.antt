@@ -14,8 +14,10 @@ use Rattle.opgen_top.specs.Targets.{Device}
 use Rattle.opgen_top.proofs.Caused.{answers_have_causes}
 use Rattle.opgen_top.proofs.Planning.{circuit_sound, circuit_spells}
 
-pub heading : CircuitsServe → (file : List ℕ) (workers : ℕ) (enable : Bool) (devices : List Device) (files : Files) (a : Answer) (after : Option Files) (before now : Option (List ℕ)) → IsAnswerOf (Some (Generate file workers enable)) devices files a → a.status ≡ 0
-    → after ≡ Some (stored_all a.stores files) → ((held : List ℕ) → before ≡ Some held → now ≡ Some (held ++ a.line)) → Headline file enable devices files after before now
+pub heading : CircuitsServe → (file : List ℕ) (workers : ℕ) (enable : Bool) (devices : List Device) (files : Files) (a : Answer)
+    (after : Option Files) (before now : Option (List ℕ)) → IsAnswerOf (Some (Generate file workers enable)) devices files a → a.status ≡ 0
+    → after ≡ Some (stored_all a.stores files) → ((held : List ℕ) → before ≡ Some held → now ≡ Some (held ++ a.line))
+    → Headline file enable devices files after before now
 heading serves file workers enable devices files a after before now due ok stores line =
     let made = (answers_have_causes (Some (Generate file workers enable)) devices files a due).made ok in
     let spec = made.spec in

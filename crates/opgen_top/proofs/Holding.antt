@@ -11,7 +11,8 @@ empty_rows zero = refl
 empty_rows (suc rows) = (tt, empty_rows rows)
 
 -- without widths each line is empty
-pub holds_empty : (widths vectors : List ℕ) (rows : Rows) → length widths ≡ 0 → rows.count ≡ length (lines vectors) → AreVectors [] [] (lines vectors) → rows.inputs.columns ≡ 0 → rows.inputs.cells.items ≡ []
+pub holds_empty : (widths vectors : List ℕ) (rows : Rows) → length widths ≡ 0 → rows.count ≡ length (lines vectors)
+    → AreVectors [] [] (lines vectors) → rows.inputs.columns ≡ 0 → rows.inputs.cells.items ≡ []
     → HoldsRows widths vectors rows
 holds_empty [] vectors rows none count are columns cells = record {
   reading = subst (λ cs. AreVectors [] cs (lines vectors)) (sym cells) are;

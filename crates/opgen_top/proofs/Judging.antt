@@ -45,14 +45,17 @@ one_below width (w ∷ x ∷ ws) e = absurd (cc)
 
 module _ (d : Design) (width : ℕ) (one : output_widths d ≡ width ∷ []) where
   cycle_below : (now given next : List (List Bool)) (v : Words) → Cycle d now given v next → All (IsBelow width) (output_cells d v)
-  cycle_below now given next v c = one_below width (design_outputs d v) (at_ports-map length is_out d.ports v.ports ∙ ap (at_ports is_out d.ports) c.port_widths ∙ one)
+  cycle_below now given next v c = one_below width (design_outputs d v) (at_ports-map length is_out d.ports v.ports
+      ∙ ap (at_ports is_out d.ports) c.port_widths ∙ one)
 
-  run_below : (now : List (List Bool)) (inputs : List (List (List Bool))) (vs : List Words) → RunsOn d now inputs vs → All (IsBelow width) (concat (map (output_cells d) vs))
+  run_below : (now : List (List Bool)) (inputs : List (List (List Bool))) (vs : List Words) → RunsOn d now inputs vs
+      → All (IsBelow width) (concat (map (output_cells d) vs))
   run_below now [] [] r = All-nil (IsBelow width)
   run_below now [] (v ∷ vs) r = absurd r
   run_below now (given ∷ inputs) [] r = absurd r
   run_below now (given ∷ inputs) (v ∷ vs) (next, c, r) =
-      All-append (IsBelow width) (output_cells d v) (concat (map (output_cells d) vs)) (cycle_below now given next v c) (run_below next inputs vs r)
+      All-append (IsBelow width) (output_cells d v) (concat (map (output_cells d) vs)) (cycle_below now given next v c)
+      (run_below next inputs vs r)
 
   pub outputs_below : (rows : ℕ) (inputs outputs : List ℕ) → IsRunOf d rows inputs outputs → All (λ n. n < 2 ^ width) outputs
   outputs_below rows inputs outputs run = subst (All (IsBelow width)) (sym run.outputs_are) (run_below _ _ run.words run.runs)
@@ -78,7 +81,8 @@ module _ (n : ℕ) (spec : Spec) (filter : spec ≡ workload_spec n) (d : Design
     pub inputs_fit : All (λ x. x < 2 ^ (format_at (inputs_of spec) 0).width) cells
     inputs_fit =
         subst (λ (s : Spec). All (λ x. x < 2 ^ (format_at (inputs_of s) 0).width) cells) (sym filter)
-        (cells_below 12 rows cells (subst (λ (s : Spec). AreRowsOfCells (map (λ port. port.format.width) (inputs_of s)) rows cells) filter fit))
+        (cells_below 12 rows cells
+        (subst (λ (s : Spec). AreRowsOfCells (map (λ port. port.format.width) (inputs_of s)) rows cells) filter fit))
 
     pub cells-length : length cells ≡ rows
     cells-length = length-rows_of_cells (input_widths d) cells rows rows_fit ∙ (ap (λ ws. rows * length ws) one_in ∙ omega arith)
@@ -93,8 +97,10 @@ module _ (n : ℕ) (spec : Spec) (filter : spec ≡ workload_spec n) (d : Design
       outputs-length = length-run d rows cells outputs run ∙ (ap (λ ws. rows * length ws) one_out ∙ omega arith)
 
 -- the good cycles of a run over the numbers of the filter
-pub runs_good : (n : ℕ) (spec : Spec) → spec ≡ workload_spec n → (d : Design) (latency : ℕ) (cells outputs : List ℕ) (good : ℕ) → cells ≡ stimulus_cells spec n cycles
-    → IsRunOf d cycles cells outputs → length outputs ≡ cycles → Counts (IsGoodCycle spec cells outputs latency) (length outputs - latency) good → RunsGood n d latency good
+pub runs_good : (n : ℕ) (spec : Spec) → spec ≡ workload_spec n → (d : Design) (latency : ℕ) (cells outputs : List ℕ) (good : ℕ)
+    → cells ≡ stimulus_cells spec n cycles
+    → IsRunOf d cycles cells outputs → length outputs ≡ cycles
+    → Counts (IsGoodCycle spec cells outputs latency) (length outputs - latency) good → RunsGood n d latency good
 runs_good n spec filter d latency cells outputs good drawn run long counted =
     let given : cells ≡ workload_cells n = drawn ∙ ap (λ s. stimulus_cells s n cycles) filter in record {
       outputs = outputs;

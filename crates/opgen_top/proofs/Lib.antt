@@ -27,3 +27,6 @@ pub mod Heading
 pub mod Working
 pub mod Judging
 pub mod FixedLines
+pub mod FilterCells
+pub mod GoodWorkloads
+pub mod RunStreams

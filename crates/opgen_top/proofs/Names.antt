@@ -1,7 +1,7 @@
 -- A name that a specification may have is an allowed name.
 use Rattle.std.proofs.Common.{ℕ, Bool, true, false, List, refl}
 use Rattle.std.specs.Prelude.{◌&&◌, IsTrue}
-use Rattle.opgen_design.specs.Names.{is_allowed_name}
+use Rattle.opgen_names.specs.Names.{is_allowed_name}
 use Rattle.opgen_operator.specs.SpecName.{is_spec_name}
 
 first_true : (a b : Bool) → IsTrue (a && b) → IsTrue a

@@ -9,7 +9,7 @@ use Rattle.std.proofs.lemmas.List.Elements.{All-nil, All-cons}
 use Rattle.std.proofs.lemmas.Simd.{map-map}
 use Rattle.std.proofs.lemmas.Slice.Eq.{bytes_eq-Decides}
 use Rattle.opgen_num.specs.declared.format.Format.{Format}
-use Rattle.opgen_design.specs.Names.{is_allowed_name, refused_words}
+use Rattle.opgen_names.specs.Names.{is_allowed_name, refused_words}
 use Rattle.opgen_net.specs.declared.net.Net.{Net}
 use Rattle.opgen_net.specs.declared.net.Output.{Output}
 use Rattle.opgen_net.specs.Named.{begins_as_signal, port_names, IsFree, IsNamed}
@@ -52,11 +52,14 @@ free n h =
       no_signal = λ begins. let both : true ≡ false = sym begins ∙ falsified (begins_as_signal n) signal in cc;
     }
 
-all_of : (test : List ℕ → Bool) (P : List ℕ → Type 0) → ((n : List ℕ) → test n ≡ true → P n) → (ns : List (List ℕ)) → list_all test ns ≡ true → All P ns
+all_of : (test : List ℕ → Bool) (P : List ℕ → Type 0) → ((n : List ℕ) → test n ≡ true → P n) → (ns : List (List ℕ))
+    → list_all test ns ≡ true → All P ns
 all_of test P each [] h = All-nil P
-all_of test P each (n ∷ ns) h = let (first, rest) = and_parts (test n) (list_all test ns) h in All-cons P n ns (each n first) (all_of test P each ns rest)
+all_of test P each (n ∷ ns) h = let (first, rest) = and_parts (test n) (list_all test ns) h in
+    All-cons P n ns (each n first) (all_of test P each ns rest)
 
-none_of : (n : List ℕ) (ns : List (List ℕ)) → list_any (λ m. bytes_eq n m) ns ≡ false → (j : ℕ) (d : List ℕ) → j < length ns → n ≢ get_or ns j d
+none_of : (n : List ℕ) (ns : List (List ℕ)) → list_any (λ m. bytes_eq n m) ns ≡ false → (j : ℕ) (d : List ℕ) → j < length ns
+    → n ≢ get_or ns j d
 none_of n [] h j d k = absurd (omega (arith, k))
 none_of n (m ∷ ns) h zero d k = not_equal n m (or_parts (bytes_eq n m) (list_any (λ x. bytes_eq n x) ns) h).0
 none_of n (m ∷ ns) h (suc j) d k = none_of n ns (or_parts (bytes_eq n m) (list_any (λ x. bytes_eq n x) ns) h).1 j d (omega (arith, k))
@@ -65,8 +68,10 @@ pairs : (ns : List (List ℕ)) → differ ns ≡ true → AllPairs (λ a b. a �
 pairs [] h i j d l k = absurd (omega (arith, k))
 pairs (n ∷ ns) h i zero d l k = absurd (omega (arith, l))
 pairs (n ∷ ns) h zero (suc j) d l k =
-    none_of n ns (falsified (list_any (λ m. bytes_eq n m) ns) (and_parts (not (list_any (λ m. bytes_eq n m) ns)) (differ ns) h).0) j d (omega (arith, k))
-pairs (n ∷ ns) h (suc i) (suc j) d l k = pairs ns (and_parts (not (list_any (λ m. bytes_eq n m) ns)) (differ ns) h).1 i j d (omega (arith, l)) (omega (arith, k))
+    none_of n ns (falsified (list_any (λ m. bytes_eq n m) ns) (and_parts (not (list_any (λ m. bytes_eq n m) ns)) (differ ns) h).0) j d
+    (omega (arith, k))
+pairs (n ∷ ns) h (suc i) (suc j) d l k = pairs ns (and_parts (not (list_any (λ m. bytes_eq n m) ns)) (differ ns) h).1 i j d
+    (omega (arith, l)) (omega (arith, k))
 
 -- the names of the ports of each operator
 abbrev names : List PortFormat → List (List ℕ)
@@ -85,12 +90,16 @@ numbered_good g (a ∷ b ∷ c ∷ d ∷ e ∷ i ∷ j ∷ []) h = refl
 numbered_good g (a ∷ b ∷ c ∷ d ∷ e ∷ i ∷ j ∷ k ∷ []) h = refl
 numbered_good g (a ∷ b ∷ c ∷ d ∷ e ∷ i ∷ j ∷ k ∷ l ∷ ts) h = absurd (omega (arith, h))
 
-quotient_good : (exact : Bool) (q r : Format) → are_good (codes "a" ∷ codes "b" ∷ names (with_rest exact (record { name = codes "q"; format = q }) (record { name = codes "r"; format = r }))) ≡ true
+quotient_good : (exact : Bool) (q r : Format)
+    → are_good (codes "a" ∷ codes "b" ∷ names (with_rest exact (record { name = codes "q"; format = q })
+    (record { name = codes "r"; format = r }))) ≡ true
 unfolding refused_words
 quotient_good true q r = refl
 quotient_good false q r = refl
 
-root_good : (exact : Bool) (y r : Format) → are_good (codes "x" ∷ names (with_rest exact (record { name = codes "y"; format = y }) (record { name = codes "r"; format = r }))) ≡ true
+root_good : (exact : Bool) (y r : Format)
+    → are_good (codes "x" ∷ names (with_rest exact (record { name = codes "y"; format = y }) (record { name = codes "r"; format = r })))
+    ≡ true
 unfolding refused_words
 root_good true y r = refl
 root_good false y r = refl
@@ -114,14 +123,16 @@ some_input (Mcm m) = omega arith
 
 pub fitting_named : (spec : Spec) (net : Net) → IsValidSpec spec → FitsSpec spec net → IsNamed spec.name net
 fitting_named spec net valid fits =
-    let inputs : map (λ i. i.0) net.inputs ≡ names (operator_inputs spec.op) = ap (map (λ i. i.0)) fits.inputs ∙ map-map (λ (i : List ℕ × ℕ). i.0) name_and_width (operator_inputs spec.op) in
+    let inputs : map (λ i. i.0) net.inputs ≡ names (operator_inputs spec.op) =
+    ap (map (λ i. i.0)) fits.inputs ∙ map-map (λ (i : List ℕ × ℕ). i.0) name_and_width (operator_inputs spec.op) in
     let outputs : map (λ o. o.name) net.outputs ≡ names (operator_outputs spec.op) =
     sym (map-map (λ (i : List ℕ × ℕ). i.0) (λ (o : Output). (o.name, slice_width o.from)) net.outputs) ∙ ap (map (λ i. i.0)) fits.outputs
     ∙ map-map (λ (i : List ℕ × ℕ). i.0) name_and_width (operator_outputs spec.op) in
     let same : port_names net ≡ names (operator_inputs spec.op) ++ names (operator_outputs spec.op) =
     ap (λ ns. ns ++ map (λ o. o.name) net.outputs) inputs ∙ ap (λ ns. names (operator_inputs spec.op) ++ ns) outputs in
     let good : are_good (port_names net) ≡ true = ap are_good same ∙ operator_good spec.op valid.op.ranges in
-    let (allowed, rest) = and_parts (list_all is_allowed_name (port_names net)) (list_all is_free (port_names net) && differ (port_names net)) good in
+    let (allowed, rest) = and_parts (list_all is_allowed_name (port_names net))
+    (list_all is_free (port_names net) && differ (port_names net)) good in
     let (all_free, apart) = and_parts (list_all is_free (port_names net)) (differ (port_names net)) rest in
     let long = length-map net.inputs (λ i. i.0) in record {
       has_port = omega (arith, long, ap length inputs, length-map (operator_inputs spec.op) (λ p. p.name), some_input spec.op);

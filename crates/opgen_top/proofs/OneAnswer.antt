@@ -32,21 +32,25 @@ use Rattle.opgen_top.proofs.OneSimulated.{one_outputs, one_text, one_simulated}
 use Rattle.opgen_top.proofs.Planning.{circuit_sound}
 
 -- what is said of the bytes leaves one answer
-one_on_fetch : (r : Result (List ℕ) FetchFault) (a b : Answer) (said other : List ℕ → Type 0) → ((bytes : List ℕ) → said bytes → other bytes → a ≡ b) → OnFetch r a said → OnFetch r b other → a ≡ b
+one_on_fetch : (r : Result (List ℕ) FetchFault) (a b : Answer) (said other : List ℕ → Type 0)
+    → ((bytes : List ℕ) → said bytes → other bytes → a ≡ b) → OnFetch r a said → OnFetch r b other → a ≡ b
 one_on_fetch (Ok bytes) a b said other one h k = one bytes h k
 one_on_fetch (Err fetch.Failed) a b said other one h k = h ∙ sym k
 one_on_fetch (Err fetch.TooLong) a b said other one h k = h ∙ sym k
 one_on_fetch (Err fetch.Memory) a b said other one h k = h ∙ sym k
 
-one_on_reading : (r : Result Spec SpecFault) (a b : Answer) (said other : Spec → Type 0) → ((spec : Spec) → said spec → other spec → a ≡ b) → OnReading r a said → OnReading r b other → a ≡ b
+one_on_reading : (r : Result Spec SpecFault) (a b : Answer) (said other : Spec → Type 0)
+    → ((spec : Spec) → said spec → other spec → a ≡ b) → OnReading r a said → OnReading r b other → a ≡ b
 one_on_reading (Ok spec) a b said other one h k = one spec h k
 one_on_reading (Err fault) a b said other one h k = h ∙ sym k
 
-one_on_lines : (takes : Bool) (a b : Answer) (said other : Type 0) → (said → other → a ≡ b) → OnLines takes a said → OnLines takes b other → a ≡ b
+one_on_lines : (takes : Bool) (a b : Answer) (said other : Type 0) → (said → other → a ≡ b) → OnLines takes a said
+    → OnLines takes b other → a ≡ b
 one_on_lines true a b said other one h k = one h k
 one_on_lines false a b said other one h k = h ∙ sym k
 
-one_on_target : (found : Option Device) (spec : Spec) (a b : Answer) (said other : Delays → Type 0) → ((table : Delays) → said table → other table → a ≡ b)
+one_on_target : (found : Option Device) (spec : Spec) (a b : Answer) (said other : Delays → Type 0)
+    → ((table : Delays) → said table → other table → a ≡ b)
     → OnTarget found spec a said → OnTarget found spec b other → a ≡ b
 one_on_target (Some device) spec a b said other one h k =
     let table = tuned device.delays spec.delays in
@@ -60,7 +64,8 @@ Has spec table = (enable : Bool) × (planned : Planned) × (adders : List ℕ) �
 -- the period, the number of signals and the circuit decide one after the other
 module _ (each : OneOfEach) (spec : Spec) (table : Delays) where
   one_short : (a b : Answer) → IsTooShort spec table a → IsTooShort spec table b → a ≡ b
-  one_short a b h k = h.answer ∙ ap (λ n. period_too_short (need table n)) (one_fitting each spec h.net k.net h.fitting k.fitting) ∙ sym k.answer
+  one_short a b h k = h.answer ∙ ap (λ n. period_too_short (need table n)) (one_fitting each spec h.net k.net h.fitting k.fitting)
+      ∙ sym k.answer
 
   not_short_large : (a b : Answer) → IsTooShort spec table a → IsTooLarge spec table b → ⊥
   not_short_large a b h k =
@@ -80,7 +85,8 @@ module _ (each : OneOfEach) (spec : Spec) (table : Delays) where
       let many = h.many_signals in
       let few = c.few_signals in omega (arith, same, many, few)
 
-  one_on_table : (a b : Answer) (said other : Type 0) → (said → Has spec table) → (other → Has spec table) → (said → other → a ≡ b) → OnTable spec table a said → OnTable spec table b other → a ≡ b
+  one_on_table : (a b : Answer) (said other : Type 0) → (said → Has spec table) → (other → Has spec table) → (said → other → a ≡ b)
+      → OnTable spec table a said → OnTable spec table b other → a ≡ b
   one_on_table a b said other has also one (inl h) (inl k) = one_short a b h k
   one_on_table a b said other has also one (inl h) (inr (inl k)) = absurd (not_short_large a b h k)
   one_on_table a b said other has also one (inl h) (inr (inr k)) = absurd (not_short_circuit a h (also k))
@@ -108,13 +114,15 @@ module _ (each : OneOfEach) (spec : Spec) (table : Delays) where
       h.answer ∙ ap (wrote_vectors spec.name cycles) (one_text k.planned.design sound cycles cells h.rows k.rows run k.run) ∙ sym k.answer
 
 -- one number of good cycles
-one_judged : (n : ℕ) (p q : Planned) (g h : ℕ) → IsSound q.design → p ≡ q → RunsGood n p.design p.latency g → RunsGood n q.design q.latency h → g ≡ h
+one_judged : (n : ℕ) (p q : Planned) (g h : ℕ) → IsSound q.design → p ≡ q → RunsGood n p.design p.latency g
+    → RunsGood n q.design q.latency h → g ≡ h
 one_judged n p q g h sound same a b =
     let moved : RunsGood n q.design q.latency g = subst (λ (x : Planned). RunsGood n x.design x.latency g) same a in
     let cells = workload_cells n in
     let outputs = one_outputs q.design sound workload_cycles cells moved.outputs b.outputs moved.run b.run in
     one_count (IsGoodCycle (workload_spec n) cells b.outputs q.latency) (workload_cycles - q.latency) g h
-    (subst (λ os. Counts (IsGoodCycle (workload_spec n) cells os q.latency) (workload_cycles - q.latency) g) outputs moved.counted) b.counted
+    (subst (λ os. Counts (IsGoodCycle (workload_spec n) cells os q.latency)
+    (workload_cycles - q.latency) g) outputs moved.counted) b.counted
 
 one_worked : OneOfEach → (n : ℕ) (table : Delays) (a b : Answer) → IsWorked n table a → IsWorked n table b → a ≡ b
 one_worked each n table a b h k =
@@ -122,31 +130,41 @@ one_worked each n table a b h k =
     let sound = circuit_sound (workload_spec n) table false k.planned k.adders k.circuit in
     h.answer
     ∙ ap (λ (p : Planned). worked n (length p.design.signals) p.latency h.good) same
-    ∙ ap (worked n (length k.planned.design.signals) k.planned.latency) (one_judged n h.planned k.planned h.good k.good sound same h.judged k.judged)
+    ∙ ap (worked n (length k.planned.design.signals) k.planned.latency)
+    (one_judged n h.planned k.planned h.good k.good sound same h.judged k.judged)
     ∙ sym k.answer
 
-one_of_spec : OneOfEach → (said : Spec → Delays → Answer → Type 0) → ((spec : Spec) (table : Delays) (a : Answer) → said spec table a → Has spec table)
+one_of_spec : OneOfEach → (said : Spec → Delays → Answer → Type 0)
+    → ((spec : Spec) (table : Delays) (a : Answer) → said spec table a → Has spec table)
     → ((spec : Spec) (table : Delays) (a b : Answer) → said spec table a → said spec table b → a ≡ b)
-    → (devices : List Device) (under : Option (List ℕ)) (a b : Answer) → OnFetch (fetched under most_bytes) a (λ bytes. IsAnswerToSpec bytes devices said a)
+    → (devices : List Device) (under : Option (List ℕ)) (a b : Answer)
+    → OnFetch (fetched under most_bytes) a (λ bytes. IsAnswerToSpec bytes devices said a)
     → OnFetch (fetched under most_bytes) b (λ bytes. IsAnswerToSpec bytes devices said b) → a ≡ b
 one_of_spec each said has one devices under a b h k =
-    one_on_fetch (fetched under most_bytes) a b (λ bytes. IsAnswerToSpec bytes devices said a) (λ bytes. IsAnswerToSpec bytes devices said b)
+    one_on_fetch (fetched under most_bytes) a b (λ bytes. IsAnswerToSpec bytes devices said a)
+    (λ bytes. IsAnswerToSpec bytes devices said b)
     (λ bytes. one_on_reading (read (tree bytes)) a b _ _
     (λ spec. one_on_target (chosen spec.target devices) spec a b _ _
-    (λ table. one_on_table each spec table a b (said spec table a) (said spec table b) (has spec table a) (has spec table b) (one spec table a b)))) h k
+    (λ table. one_on_table each spec table a b (said spec table a) (said spec table b) (has spec table a) (has spec table b)
+    (one spec table a b)))) h k
 
 pub one_answer : OneOfEach → HasOneAnswer
 one_answer each None devices files a b h k = h ∙ sym k
 one_answer each (Some (Generate spec workers enable)) devices files a b h k =
-    one_of_spec each (IsGenerated enable) (λ s table a g. (enable, g.planned, g.adders, g.circuit)) (λ s table. one_generated each s table enable) devices (files spec) a b h k
+    one_of_spec each (IsGenerated enable) (λ s table a g. (enable, g.planned, g.adders, g.circuit))
+    (λ s table. one_generated each s table enable) devices (files spec) a b h k
 one_answer each (Some (Vectors spec seed cycles)) devices files a b h k =
-    one_of_spec each (IsVectors seed cycles) (λ s table a g. (false, g.planned, g.adders, g.circuit)) (λ s table. one_vectors each s table seed cycles) devices (files spec) a b h k
+    one_of_spec each (IsVectors seed cycles) (λ s table a g. (false, g.planned, g.adders, g.circuit))
+    (λ s table. one_vectors each s table seed cycles) devices (files spec) a b h k
 one_answer each (Some (Workload n)) devices files a b h k =
     let spec = workload_spec n in
     one_on_target (chosen spec.target devices) spec a b _ _
-    (λ table. one_on_table each spec table a b (IsWorked n table a) (IsWorked n table b) (λ g. (false, g.planned, g.adders, g.circuit)) (λ g. (false, g.planned, g.adders, g.circuit))
+    (λ table. one_on_table each spec table a b (IsWorked n table a) (IsWorked n table b) (λ g. (false, g.planned, g.adders, g.circuit))
+    (λ g. (false, g.planned, g.adders, g.circuit))
     (one_worked each n table a b)) h k
 one_answer each (Some (Simulate vhdl vectors out)) devices files a b h k =
     let rows = fetched (files vectors) most_simulated_bytes in
-    one_on_fetch (fetched (files vhdl) most_simulated_bytes) a b (λ text. OnFetch rows a (λ given. IsSimulated out text given a)) (λ text. OnFetch rows b (λ given. IsSimulated out text given b))
-    (λ text. one_on_fetch rows a b (λ given. IsSimulated out text given a) (λ given. IsSimulated out text given b) (λ given. one_simulated out text given a b)) h k
+    one_on_fetch (fetched (files vhdl) most_simulated_bytes) a b (λ text. OnFetch rows a (λ given. IsSimulated out text given a))
+    (λ text. OnFetch rows b (λ given. IsSimulated out text given b))
+    (λ text. one_on_fetch rows a b (λ given. IsSimulated out text given a) (λ given. IsSimulated out text given b)
+    (λ given. one_simulated out text given a b)) h k

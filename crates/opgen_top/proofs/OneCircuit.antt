@@ -52,9 +52,11 @@ plan_with design latency slack cells = record { design = design; latency = laten
 same_parts : (d e : Design) (l m s t : ℕ) (c n : List ℕ) → d ≡ e → l ≡ m → s ≡ t → c ≡ n → plan_with d l s c ≡ plan_with e m t n
 same_parts d e l m s t c n is_d is_l is_s is_c = rw (is_d, is_l, is_s, is_c) refl
 
-one_plan : (name : List ℕ) (enable : Bool) (net : Net) (table : Delays) (period : ℕ) (p q : Planned) → IsPlanOf name enable net table period p → IsPlanOf name enable net table period q → p ≡ q
+one_plan : (name : List ℕ) (enable : Bool) (net : Net) (table : Delays) (period : ℕ) (p q : Planned)
+    → IsPlanOf name enable net table period p → IsPlanOf name enable net table period q → p ≡ q
 one_plan name enable net table period p q h k =
-    same_parts p.design q.design p.latency q.latency p.slack q.slack p.cells q.cells (h.design ∙ sym k.design) (h.latency ∙ sym k.latency) (h.slack ∙ sym k.slack) (h.cells ∙ sym k.cells)
+    same_parts p.design q.design p.latency q.latency p.slack q.slack p.cells q.cells (h.design ∙ sym k.design) (h.latency
+    ∙ sym k.latency) (h.slack ∙ sym k.slack) (h.cells ∙ sym k.cells)
 
 pub one_circuit : OneOfEach → HasOneCircuit
 one_circuit one spec table enable p q a b h k =

@@ -17,13 +17,15 @@ use Rattle.opgen_top.specs.Running.{rows_words, output_widths, output_cells, IsR
 use Rattle.opgen_top.specs.Simulate.{GivesDesign, RefusesVhdl, RefusesVectors, Runs, IsSimulated}
 
 -- a sound design has at most one run over these inputs, and one text of it
-pub one_outputs : (d : Design) → IsSound d → (rows : ℕ) (inputs outputs other : List ℕ) → IsRunOf d rows inputs outputs → IsRunOf d rows inputs other → outputs ≡ other
+pub one_outputs : (d : Design) → IsSound d → (rows : ℕ) (inputs outputs other : List ℕ) → IsRunOf d rows inputs outputs
+    → IsRunOf d rows inputs other → outputs ≡ other
 one_outputs d sound rows inputs outputs other h k =
     let start = initial_words d.signals in
     let words = runs-one d sound (rows_words (input_widths d) rows inputs) start start (λ i to e g. refl) h.words k.words h.runs k.runs in
     h.outputs_are ∙ ap (λ vs. concat (map (output_cells d) vs)) words ∙ sym k.outputs_are
 
-pub one_text : (d : Design) → IsSound d → (rows : ℕ) (inputs text other : List ℕ) → IsRunText d rows inputs text → IsRunText d rows inputs other → text ≡ other
+pub one_text : (d : Design) → IsSound d → (rows : ℕ) (inputs text other : List ℕ) → IsRunText d rows inputs text
+    → IsRunText d rows inputs other → text ≡ other
 one_text d sound rows inputs text other h k =
     let outputs = one_outputs d sound rows inputs h.outputs k.outputs h.run k.run in
     h.written ∙ ap (λ os. rows_text (input_widths d) (output_widths d) rows inputs os) outputs ∙ sym k.written
@@ -31,10 +33,12 @@ one_text d sound rows inputs text other h k =
 module _ (out text vectors : List ℕ) where
   -- a text that gives a design has no cause against it
   not_both : (design : Design) (a : Answer) → GivesDesign text design → RefusesVhdl text a → ⊥
-  not_both design a gives refused = refused.of_text (no_cause text design refused.fault gives.spelled gives.within gives.sound refused.cause)
+  not_both design a gives refused =
+      refused.of_text (no_cause text design refused.fault gives.spelled gives.within gives.sound refused.cause)
 
   -- two readings under one design are one
-  one_read : (c d : Design) → GivesDesign text c → GivesDesign text d → (r s : Result (List ℕ) VecFault) → IsReading (input_widths c) (lines vectors) r → IsReading (input_widths d) (lines vectors) s → r ≡ s
+  one_read : (c d : Design) → GivesDesign text c → GivesDesign text d → (r s : Result (List ℕ) VecFault)
+      → IsReading (input_widths c) (lines vectors) r → IsReading (input_widths d) (lines vectors) s → r ≡ s
   one_read c d gc gd r s h k =
       let same = one_design text c d gc.spelled gd.spelled in
       one_reading (input_widths d) (lines vectors) r s (subst (λ x. IsReading (input_widths x) (lines vectors) r) same h) k

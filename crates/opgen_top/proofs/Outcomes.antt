@@ -15,8 +15,10 @@ use Rattle.opgen_top.specs.Printed as printed
 use Rattle.opgen_top.specs.Specified.{OnTable}
 use Rattle.opgen_top.proofs.Listed.{listed_refusal}
 
-module _ (spec : Spec) (enable : Bool) (table : Delays) (net : Net) (name : List ℕ) (called : name ≡ spec.name) (fitting : IsFittingNet spec net) where
-  pub planned_circuit : (planned : Planned) (adders : List ℕ) → AreAddersOf spec adders → IsOutcome name enable net table spec.period (Ok planned) → IsCircuit spec table enable planned adders
+module _ (spec : Spec) (enable : Bool) (table : Delays) (net : Net) (name : List ℕ) (called : name ≡ spec.name)
+    (fitting : IsFittingNet spec net) where
+  pub planned_circuit : (planned : Planned) (adders : List ℕ) → AreAddersOf spec adders
+      → IsOutcome name enable net table spec.period (Ok planned) → IsCircuit spec table enable planned adders
   planned_circuit planned adders are (long, few, plan) = record {
     net = net;
     fitting = fitting;
@@ -26,7 +28,8 @@ module _ (spec : Spec) (enable : Bool) (table : Delays) (net : Net) (name : List
     plan = subst (λ n. IsPlanOf n enable net table spec.period planned) called plan;
   }
 
-  pub planned_too_short : (need : ℕ) (line : List ℕ) → IsOutcome name enable net table spec.period (Err (PeriodTooShort need)) → line ≡ period_too_short_line need
+  pub planned_too_short : (need : ℕ) (line : List ℕ) → IsOutcome name enable net table spec.period (Err (PeriodTooShort need))
+      → line ≡ period_too_short_line need
       → OnTable spec table (refusal 1 line) ⊥
   planned_too_short need line (is, short) said =
       inl record { net = net; fitting = fitting; short = short; answer = ap (refusal 1) (said ∙ ap period_too_short_line is) }

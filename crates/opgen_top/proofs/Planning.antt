@@ -85,7 +85,8 @@ other_kind (Register to e) = refl
 other_kind (Output place e) = refl
 
 -- the design of a net with few ports and signals has few of all
-few_places : (name : List ℕ) (enable : Bool) (net : Net) (s : Schedule) → length net.inputs ≤ 2 → length net.outputs ≤ 8 → signal_count net s ≤ 65536 → HasNumbers (design_of name enable net s)
+few_places : (name : List ℕ) (enable : Bool) (net : Net) (s : Schedule) → length net.inputs ≤ 2 → length net.outputs ≤ 8
+    → signal_count net s ≤ 65536 → HasNumbers (design_of name enable net s)
 few_places name enable net s inputs outputs few =
     let first = length (enable_inputs enable) in
     let nodes = all_of (node_drivers first (standings net s)) 0 net.nodes in
@@ -95,10 +96,17 @@ few_places name enable net s inputs outputs few =
     let kept = length-filter_both (λ k. not (is_register k)) is_register other_kind nodes in
     let drivers : length ((others ++ registers) ++ last) ≡ signal_count net s + length net.outputs =
     length-append (others ++ registers) last
-    ∙ omega (arith, length-append others registers, kept, length-drivers net s enable, length-output_drivers (standings net s) (net_latency net s) (first + length net.inputs) net.outputs) in
+    ∙ omega (
+      arith,
+      length-append others registers,
+      kept,
+      length-drivers net s enable,
+      length-output_drivers (standings net s) (net_latency net s) (first + length net.inputs) net.outputs,
+    ) in
     omega (arith, few, inputs, outputs, drivers, few_enables enable, length-ports enable net, length-signals net s)
 
-module _ (spec : Spec) (table : Delays) (enable : Bool) (planned : Planned) (adders : List ℕ) (c : IsCircuit spec table enable planned adders) where
+module _ (spec : Spec) (table : Delays) (enable : Bool) (planned : Planned) (adders : List ℕ)
+    (c : IsCircuit spec table enable planned adders) where
   pub fit : Fits c.net.nodes (net_delays table c.net) (setup table) spec.period (slot_at (slots_of table spec.period c.net))
   fit = plan-fits schedule_law.stage_fits table spec.period c.net c.fitting.fits.valid c.long_enough
 
@@ -106,14 +114,18 @@ module _ (spec : Spec) (table : Delays) (enable : Bool) (planned : Planned) (add
   few = omega (arith, c.few_signals)
 
   pub circuit_sound : IsSound planned.design
-  circuit_sound = subst IsSound (sym c.plan.design) (design_sound spec.name enable c.net (net_delays table c.net) (setup table) spec.period _ c.fitting.fits.valid c.fitting.named fit few)
+  circuit_sound =
+      subst IsSound (sym c.plan.design) (design_sound spec.name enable c.net (net_delays table c.net)
+      (setup table) spec.period _ c.fitting.fits.valid c.fitting.named fit few)
 
   -- its text spells it
   pub circuit_spells : Spells (text_of planned.design) planned.design
   circuit_spells =
       let s = slot_at (slots_of table spec.period c.net) in
-      let writable = design-writable spec.name enable c.net (net_delays table c.net) (setup table) spec.period s c.fitting.fits.valid c.fitting.named fit few in
-      subst (λ d. Spells (text_of d) d) (sym c.plan.design) (spells (design_of spec.name enable c.net s) writable (design-shaped spec.name enable c.net s c.fitting.fits.valid))
+      let writable = design-writable spec.name enable c.net (net_delays table c.net)
+      (setup table) spec.period s c.fitting.fits.valid c.fitting.named fit few in
+      subst (λ d. Spells (text_of d) d) (sym c.plan.design)
+      (spells (design_of spec.name enable c.net s) writable (design-shaped spec.name enable c.net s c.fitting.fits.valid))
 
   pub circuit_ports : planned.design.ports ≡ ports_for spec enable
   circuit_ports = ap (λ d. d.ports) c.plan.design ∙ made_ports spec c.net c.fitting.fits enable
@@ -121,18 +133,28 @@ module _ (spec : Spec) (table : Delays) (enable : Bool) (planned : Planned) (add
   pub circuit_numbers : IsValidSpec spec → HasNumbers planned.design
   circuit_numbers valid =
       let net = c.net in
-      let inputs : length net.inputs ≤ 2 = omega (arith, ap length c.fitting.fits.inputs, length-map (operator_inputs spec.op) name_and_width, few_inputs spec.op) in
+      let inputs : length net.inputs ≤ 2 =
+      omega (arith, ap length c.fitting.fits.inputs, length-map (operator_inputs spec.op) name_and_width, few_inputs spec.op) in
       let named = ap length c.fitting.fits.outputs in
       let pair : net_output.Output → List ℕ × ℕ = λ o. (o.name, slice_width o.from) in
       let outputs : length net.outputs ≤ 8 =
-      omega (arith, length-map net.outputs pair, named, length-map (operator_outputs spec.op) name_and_width, few_outputs spec.op valid.op.ranges) in
-      subst HasNumbers (sym c.plan.design) (few_places spec.name enable net (slot_at (slots_of table spec.period net)) inputs outputs c.few_signals)
+      omega (
+        arith,
+        length-map net.outputs pair,
+        named,
+        length-map (operator_outputs spec.op) name_and_width,
+        few_outputs spec.op valid.op.ranges,
+      ) in
+      subst HasNumbers (sym c.plan.design)
+      (few_places spec.name enable net (slot_at (slots_of table spec.period net)) inputs outputs c.few_signals)
 
   -- it serves the specification where its words follow the flow of its net
-  pub circuit_serves : ((inputs : Inputs) (vs : List Words) → Run (design_of spec.name enable c.net (slot_at (slots_of table spec.period c.net))) inputs vs
+  pub circuit_serves : ((inputs : Inputs) (vs : List Words)
+      → Run (design_of spec.name enable c.net (slot_at (slots_of table spec.period c.net))) inputs vs
       → (u : ℕ) (v : Words) → slice_get (counted enable vs vs) u ≡ Some v
       → FollowsFlow spec.name enable c.net (slot_at (slots_of table spec.period c.net)) (net_inputs enable (counted enable vs inputs)) u v)
       → Serves spec planned.latency enable planned.design
   circuit_serves follows =
-      let whole = serves spec c.net c.fitting.fits enable spec.name c.fitting.named (net_delays table c.net) (setup table) spec.period (slot_at (slots_of table spec.period c.net)) fit few follows in
+      let whole = serves spec c.net c.fitting.fits enable spec.name c.fitting.named (net_delays table c.net) (setup table) spec.period
+      (slot_at (slots_of table spec.period c.net)) fit few follows in
       subst (λ l. Serves spec l enable planned.design) (sym c.plan.latency) (subst (Serves spec _ enable) (sym c.plan.design) whole)

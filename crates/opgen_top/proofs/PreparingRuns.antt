@@ -30,30 +30,37 @@ pub names_fault : (widths vectors : List ℕ) (a : Answer) (cause : RefusesRows 
 names_fault widths vectors a cause = λ e. subst (λ f. IsReading widths (lines vectors) (Err f)) e cause.cause
 
 -- VHDL that is refused answers the command
-pub vhdl_answers : (out text rows : List ℕ) (refusal : Refusal) → Refused {X = Design} (Err refusal) (RefusesVhdl text) → Answers (Err refusal) (IsSimulated out text rows)
+pub vhdl_answers : (out text rows : List ℕ) (refusal : Refusal) → Refused {X = Design} (Err refusal) (RefusesVhdl text)
+    → Answers (Err refusal) (IsSimulated out text rows)
 vhdl_answers out text rows (refusals.Line line) h = inl h
 vhdl_answers out text rows refusals.Memory h = tt
 
-pub vhdl_listed : (text : List ℕ) (refusal : Refusal) → Refused {X = Design} (Err refusal) (RefusesVhdl text) → Answers (Err refusal) IsListed
+pub vhdl_listed : (text : List ℕ) (refusal : Refusal) → Refused {X = Design} (Err refusal) (RefusesVhdl text)
+    → Answers (Err refusal) IsListed
 vhdl_listed text (refusals.Line line) h =
     subst IsListed (sym h.answer) (listed_refusal (vhdl_refused h.fault) (printed.vhdl_refused h.fault h.of_text refl refl) refl)
 vhdl_listed text refusals.Memory h = tt
 
 -- so do vectors
-pub rows_answer : (out text vectors widths : List ℕ) (design : Design) (refusal : Refusal) → GivesDesign text design → widths ≡ input_widths design → Refused {X = Rows} (Err refusal) (RefusesRows widths vectors)
+pub rows_answer : (out text vectors widths : List ℕ) (design : Design) (refusal : Refusal) → GivesDesign text design
+    → widths ≡ input_widths design → Refused {X = Rows} (Err refusal) (RefusesRows widths vectors)
     → Answers (Err refusal) (IsSimulated out text vectors)
 rows_answer out text vectors widths design (refusals.Line line) gives same h =
     inr (inl record { design = design; gives = gives; refused = subst (λ ws. RefusesRows ws vectors (refusal_of line)) same h })
 rows_answer out text vectors widths design refusals.Memory gives same h = tt
 
-pub rows_listed : (widths vectors : List ℕ) (refusal : Refusal) → Refused {X = Rows} (Err refusal) (RefusesRows widths vectors) → Answers (Err refusal) IsListed
+pub rows_listed : (widths vectors : List ℕ) (refusal : Refusal) → Refused {X = Rows} (Err refusal) (RefusesRows widths vectors)
+    → Answers (Err refusal) IsListed
 rows_listed widths vectors (refusals.Line line) h =
-    subst IsListed (sym h.answer) (listed_refusal (vectors_refused h.fault) (printed.vectors_refused h.fault (names_fault widths vectors (refusal_of line) h) refl refl) refl)
+    subst IsListed (sym h.answer) (listed_refusal (vectors_refused h.fault)
+    (printed.vectors_refused h.fault (names_fault widths vectors (refusal_of line) h) refl refl) refl)
 rows_listed widths vectors refusals.Memory h = tt
 
 -- and so do rows
-pub made_run : (out text vectors widths : List ℕ) (a : Answer) (design : Design) (held : Rows) (line file rows : List ℕ) → GivesDesign text design → widths ≡ input_widths design → HoldsRows widths vectors held
-    → IsRunText design held.count held.inputs.cells.items rows → line ≡ simulated_line held.count → file ≡ out → a ≡ success line (stored_file file rows ∷ []) → IsSimulated out text vectors a
+pub made_run : (out text vectors widths : List ℕ) (a : Answer) (design : Design) (held : Rows) (line file rows : List ℕ)
+    → GivesDesign text design → widths ≡ input_widths design → HoldsRows widths vectors held
+    → IsRunText design held.count held.inputs.cells.items rows → line ≡ simulated_line held.count → file ≡ out
+    → a ≡ success line (stored_file file rows ∷ []) → IsSimulated out text vectors a
 made_run out text vectors widths a design held line file rows gives same holds run said filed e =
     inr (inr record {
       design = design;
@@ -65,8 +72,10 @@ made_run out text vectors widths a design held line file rows gives same holds r
       answer = rw (e, said, filed, holds.count) refl;
     })
 
-pub run_listed : (a : Answer) (count : ℕ) (line file rows : List ℕ) → line ≡ simulated_line count → a ≡ success line (stored_file file rows ∷ []) → IsListed a
-run_listed a count line file rows said e = subst IsListed (sym e) (listed_success (success line (stored_file file rows ∷ [])) (printed.simulated count refl said) refl)
+pub run_listed : (a : Answer) (count : ℕ) (line file rows : List ℕ) → line ≡ simulated_line count
+    → a ≡ success line (stored_file file rows ∷ []) → IsListed a
+run_listed a count line file rows said e =
+    subst IsListed (sym e) (listed_success (success line (stored_file file rows ∷ [])) (printed.simulated count refl said) refl)
 
 -- the answer to both files has status 0, 6 or 7
 simulated_status : (out text rows : List ℕ) (a : Answer) → IsSimulated out text rows a → (a.status ≡ 6) ⊎ ((a.status ≡ 7) ⊎ (a.status ≡ 0))
@@ -87,12 +96,15 @@ module _ (devices : List Device) (vhdl vectors out : List ℕ) (told : Option Fi
       (λ files is e. on_longer (files vhdl) most_simulated_bytes (SaysOf files _) e) line cause
   vhdl-unfetched before now refusals.Memory cause = tt
 
-  module _ (text : List ℕ) (stands : (files : Files) → told ≡ Some files → files vhdl ≡ Some text) (few : length text ≤ most_simulated_bytes) where
-    on_vhdl : (files : Files) (a : Answer) → told ≡ Some files → SaysOf files a text → IsAnswerOf (Some (Simulate vhdl vectors out)) devices files a
+  module _ (text : List ℕ) (stands : (files : Files) → told ≡ Some files → files vhdl ≡ Some text)
+      (few : length text ≤ most_simulated_bytes) where
+    on_vhdl : (files : Files) (a : Answer) → told ≡ Some files → SaysOf files a text
+        → IsAnswerOf (Some (Simulate vhdl vectors out)) devices files a
     on_vhdl files a is said = on_fetch (files vhdl) most_simulated_bytes text a (SaysOf files a) (stands files is) few said
 
     -- vectors that were not fetched, after VHDL that was
-    pub rows-unfetched : (before mid now : Reads) (refusal : Refusal) → Kept before mid → Fetches vectors most_simulated_bytes told mid now (Err refusal)
+    pub rows-unfetched : (before mid now : Reads) (refusal : Refusal) → Kept before mid
+        → Fetches vectors most_simulated_bytes told mid now (Err refusal)
         → Answers (Err refusal) (IsPrepared (Some (Simulate vhdl vectors out)) devices told before now)
     rows-unfetched before mid now (refusals.Line line) kept cause =
         unfetched (Some (Simulate vhdl vectors out)) devices told before now vectors most_simulated_bytes
@@ -101,19 +113,43 @@ module _ (devices : List Device) (vhdl vectors out : List ℕ) (told : Option Fi
         line (unfetched-before vectors most_simulated_bytes told before mid now line kept cause)
     rows-unfetched before mid now refusals.Memory kept cause = tt
 
-    module _ (rows : List ℕ) (before now : Reads) (also : (files : Files) → told ≡ Some files → files vectors ≡ Some rows) (short : length rows ≤ most_simulated_bytes) where
-      answers : (a : Answer) → IsSimulated out text rows a → IsListed a → IsPrepared (Some (Simulate vhdl vectors out)) devices told before now a
+    module _ (rows : List ℕ) (before now : Reads) (also : (files : Files) → told ≡ Some files → files vectors ≡ Some rows)
+        (short : length rows ≤ most_simulated_bytes) where
+      answers : (a : Answer) → IsSimulated out text rows a → IsListed a
+          → IsPrepared (Some (Simulate vhdl vectors out)) devices told before now a
       answers a is listed =
           let status = simulated_status out text rows a is in record {
             listed = listed;
-            usage = λ other. absurd (elim status [ inl e ↦ omega (arith, e, other) | inr (inl e) ↦ omega (arith, e, other) | inr (inr e) ↦ omega (arith, e, other) ]);
-            read_counted = λ other. absurd (elim status [ inl e ↦ omega (arith, e, other) | inr (inl e) ↦ omega (arith, e, other) | inr (inr e) ↦ omega (arith, e, other) ]);
-            long_counted = λ other. absurd (elim status [ inl e ↦ omega (arith, e, other) | inr (inl e) ↦ omega (arith, e, other) | inr (inr e) ↦ omega (arith, e, other) ]);
+            usage = λ other. absurd
+                (elim status [
+                  | inl e ↦ omega (arith, e, other)
+                  | inr (inl e) ↦ omega (arith, e, other)
+                  | inr (inr e) ↦ omega
+                      (arith, e, other)
+                ]);
+            read_counted =
+                λ other. absurd
+                (elim status [
+                  | inl e ↦ omega (arith, e, other)
+                  | inr (inl e) ↦ omega (arith, e, other)
+                  | inr (inr e) ↦ omega
+                      (arith, e, other)
+                ]);
+            long_counted =
+                λ other. absurd
+                (elim status [
+                  | inl e ↦ omega (arith, e, other)
+                  | inr (inl e) ↦ omega (arith, e, other)
+                  | inr (inr e) ↦ omega
+                      (arith, e, other)
+                ]);
             due = λ files there.
-                inr (on_vhdl files a there (on_fetch (files vectors) most_simulated_bytes rows a (λ given. IsSimulated out text given a) (also files there) short is));
+                inr (on_vhdl files a there (on_fetch (files vectors) most_simulated_bytes rows a (λ given. IsSimulated out text given a)
+                (also files there) short is));
           }
 
-      pub simulate-prepared : (r : Result Held Refusal) → Answers r (IsSimulated out text rows) → Answers r IsListed → Answers r (IsPrepared (Some (Simulate vhdl vectors out)) devices told before now)
+      pub simulate-prepared : (r : Result Held Refusal) → Answers r (IsSimulated out text rows) → Answers r IsListed
+          → Answers r (IsPrepared (Some (Simulate vhdl vectors out)) devices told before now)
       simulate-prepared (Ok held) is listed = answers (answer_of held) is listed
       simulate-prepared (Err (refusals.Line line)) is listed = answers (refusal_of line) is listed
       simulate-prepared (Err refusals.Memory) is listed = tt

@@ -38,22 +38,26 @@ pub read_gives : (fault : SpecFault) (r : Result Spec SpecFault) → fault ≢ s
 read_gives spec_faults.Memory r named h = absurd (named refl)
 read_gives fault r named h = h
 
-pub fault_refused : (bytes line : List ℕ) (fault : SpecFault) → read (tree bytes) ≡ Err fault → line ≡ refused_line fault → OnReading (read (tree bytes)) (refusal 1 line) (λ spec. ⊥)
+pub fault_refused : (bytes line : List ℕ) (fault : SpecFault) → read (tree bytes) ≡ Err fault → line ≡ refused_line fault
+    → OnReading (read (tree bytes)) (refusal 1 line) (λ spec. ⊥)
 fault_refused bytes line fault e said = subst (λ r. OnReading r (refusal 1 line) (λ spec. ⊥)) (sym e) (ap (refusal 1) said)
 
 pub fault_listed : (line : List ℕ) (fault : SpecFault) → fault ≢ spec_faults.Memory → line ≡ refused_line fault → IsListed (refusal 1 line)
 fault_listed line fault named said = listed_refusal (refusal 1 line) (printed.refused fault named refl said) refl
 
 -- a refusal by the bytes, by the targets and by the table is one of the specification
-pub bytes_refused : (bytes : List ℕ) (devices : List Device) (refusal : Refusal) → OnRefusal refusal (λ a. OnReading (read (tree bytes)) a (λ spec. ⊥))
+pub bytes_refused : (bytes : List ℕ) (devices : List Device) (refusal : Refusal)
+    → OnRefusal refusal (λ a. OnReading (read (tree bytes)) a (λ spec. ⊥))
     → OnRefusal refusal (IsAnswerToSpec bytes devices (λ spec table a. ⊥))
-bytes_refused bytes devices (refusals.Line line) h = on_reading-map (read (tree bytes)) (refusal_of line) (λ spec. ⊥) _ (λ spec no. absurd no) h
+bytes_refused bytes devices (refusals.Line line) h =
+    on_reading-map (read (tree bytes)) (refusal_of line) (λ spec. ⊥) _ (λ spec no. absurd no) h
 bytes_refused bytes devices refusals.Memory h = tt
 
 module _ (devices : List Device) (spec : Spec) where
   pub target_refused : (refusal : Refusal) → OnRefusal refusal (λ a. OnTarget (chosen spec.target devices) spec a (λ table. ⊥))
       → OnRefusal refusal (λ a. OnTarget (chosen spec.target devices) spec a (λ table. OnTable spec table a ⊥))
-  target_refused (refusals.Line line) h = on_target-map (chosen spec.target devices) spec (refusal_of line) (λ table. ⊥) _ (λ table no. absurd no) h
+  target_refused (refusals.Line line) h = on_target-map (chosen spec.target devices) spec (refusal_of line) (λ table. ⊥) _
+      (λ table no. absurd no) h
   target_refused refusals.Memory h = tt
 
   pub plan_refused : (table : Delays) → IsTableOf spec devices table → (refusal : Refusal) → OnRefusal refusal (λ a. OnTable spec table a ⊥)
@@ -62,7 +66,8 @@ module _ (devices : List Device) (spec : Spec) where
   plan_refused table of refusals.Memory h = tt
 
   pub made_refused : (bytes : List ℕ) → read (tree bytes) ≡ Ok spec → (refusal : Refusal)
-      → OnRefusal refusal (λ a. OnTarget (chosen spec.target devices) spec a (λ table. OnTable spec table a ⊥)) → OnRefusal refusal (IsAnswerToSpec bytes devices (λ spec table a. ⊥))
+      → OnRefusal refusal (λ a. OnTarget (chosen spec.target devices) spec a (λ table. OnTable spec table a ⊥))
+      → OnRefusal refusal (IsAnswerToSpec bytes devices (λ spec table a. ⊥))
   made_refused bytes reads (refusals.Line line) h = reading_ok (read (tree bytes)) (refusal_of line) _ spec reads h
   made_refused bytes reads refusals.Memory h = tt
 
@@ -78,29 +83,44 @@ want_says (refusals.Line line) said e = absurd (cc)
 want_says refusals.Memory said e = tt
 
 -- the lines of success are listed
-pub wrote_listed : (a : Answer) (name : List ℕ) (latency : ℕ) (text facts : List ℕ) → IsTrue (is_spec_name name) → a ≡ wrote name latency text facts → IsListed a
-wrote_listed a name latency text facts allowed e = subst IsListed (sym e) (listed_success (wrote name latency text facts) (printed.wrote name latency allowed refl refl) refl)
+pub wrote_listed : (a : Answer) (name : List ℕ) (latency : ℕ) (text facts : List ℕ) → IsTrue (is_spec_name name)
+    → a ≡ wrote name latency text facts → IsListed a
+wrote_listed a name latency text facts allowed e =
+    subst IsListed (sym e) (listed_success (wrote name latency text facts) (printed.wrote name latency allowed refl refl) refl)
 
-pub rows_of_listed : (a : Answer) (spec : Spec) (design : Design) (seed cycles : ℕ) → IsTrue (is_spec_name spec.name) → HasRows spec design seed cycles a → IsListed a
+pub rows_of_listed : (a : Answer) (spec : Spec) (design : Design) (seed cycles : ℕ) → IsTrue (is_spec_name spec.name)
+    → HasRows spec design seed cycles a → IsListed a
 rows_of_listed a spec design seed cycles allowed h =
-    subst IsListed (sym h.answer) (listed_success (wrote_vectors spec.name cycles h.rows) (printed.wrote_vectors spec.name cycles allowed refl refl) refl)
+    subst IsListed (sym h.answer) (listed_success (wrote_vectors spec.name cycles h.rows)
+    (printed.wrote_vectors spec.name cycles allowed refl refl) refl)
 
 -- what is made of a specification answers the command
-module _ (bytes : List ℕ) (enable : Bool) (devices : List Device) (made : Specified) (is : IsSpecified bytes enable devices made) (a : Answer) where
-  pub made_circuit : a ≡ wrote made.spec.name made.circuit.planned.latency (text_of made.circuit.planned.design) (report made.spec made.circuit.planned made.circuit.adders.items)
+module _ (bytes : List ℕ) (enable : Bool) (devices : List Device) (made : Specified) (is : IsSpecified bytes enable devices made)
+    (a : Answer) where
+  pub made_circuit : a ≡ wrote made.spec.name made.circuit.planned.latency (text_of made.circuit.planned.design)
+      (report made.spec made.circuit.planned made.circuit.adders.items)
       → IsAnswerToSpec bytes devices (IsGenerated enable) a
   made_circuit e =
       answers_table bytes devices (IsGenerated enable) a made.spec is.table is.reads is.of_target
       (inr (inr record { planned = made.circuit.planned; adders = made.circuit.adders.items; circuit = is.circuit; answer = e }))
 
-pub made_vectors : (bytes : List ℕ) (devices : List Device) (made : Specified) → IsSpecified bytes false devices made → (a : Answer) (seed cycles : ℕ)
+pub made_vectors : (bytes : List ℕ) (devices : List Device) (made : Specified) → IsSpecified bytes false devices made
+    → (a : Answer) (seed cycles : ℕ)
     → HasRows made.spec made.circuit.planned.design seed cycles a → IsAnswerToSpec bytes devices (IsVectors seed cycles) a
 made_vectors bytes devices made is a seed cycles h =
     answers_table bytes devices (IsVectors seed cycles) a made.spec is.table is.reads is.of_target
-    (inr (inr record { planned = made.circuit.planned; adders = made.circuit.adders.items; circuit = is.circuit; rows = h.rows; run = h.run; answer = h.answer }))
+    (inr (inr record {
+      planned = made.circuit.planned;
+      adders = made.circuit.adders.items;
+      circuit = is.circuit;
+      rows = h.rows;
+      run = h.run;
+      answer = h.answer;
+    }))
 
 -- the answer to a specification has status 0 or 1
-spec_status : (bytes : List ℕ) (devices : List Device) (said : Spec → Delays → Answer → Type 0) (a : Answer) → ((spec : Spec) (table : Delays) → said spec table a → a.status ≡ 0)
+spec_status : (bytes : List ℕ) (devices : List Device) (said : Spec → Delays → Answer → Type 0) (a : Answer)
+    → ((spec : Spec) (table : Delays) → said spec table a → a.status ≡ 0)
     → IsAnswerToSpec bytes devices said a → (a.status ≡ 0) ⊎ (a.status ≡ 1)
 spec_status bytes devices said a ok h =
     cases_of_spec bytes devices said a ((a.status ≡ 0) ⊎ (a.status ≡ 1))
@@ -113,16 +133,20 @@ spec_status bytes devices said a ok h =
       | inr (inr made) ↦ inl (ok spec table made)
     ]) h
 
-module _ (command : Command) (said : Spec → Delays → Answer → Type 0) (spec : List ℕ) (devices : List Device) (told : Option Files) (before now : Reads)
-    (due : (files : Files) (a : Answer) → OnFetch (fetched (files spec) most_bytes) a (λ bytes. IsAnswerToSpec bytes devices said a) → IsAnswerOf (Some command) devices files a) where
-  spec-unfetched : (refusal : Refusal) → Fetches spec most_bytes told before now (Err refusal) → Answers (Err refusal) (IsPrepared (Some command) devices told before now)
+module _ (command : Command) (said : Spec → Delays → Answer → Type 0) (spec : List ℕ) (devices : List Device) (told : Option Files)
+    (before now : Reads)
+    (due : (files : Files) (a : Answer) → OnFetch (fetched (files spec) most_bytes) a (λ bytes. IsAnswerToSpec bytes devices said a)
+    → IsAnswerOf (Some command) devices files a) where
+  spec-unfetched : (refusal : Refusal) → Fetches spec most_bytes told before now (Err refusal)
+      → Answers (Err refusal) (IsPrepared (Some command) devices told before now)
   spec-unfetched (refusals.Line line) cause =
       unfetched (Some command) devices told before now spec most_bytes
       (λ files is e. due files _ (on_missing (files spec) most_bytes (λ bytes. IsAnswerToSpec bytes devices said _) e))
       (λ files is e. due files _ (on_longer (files spec) most_bytes (λ bytes. IsAnswerToSpec bytes devices said _) e)) line cause
   spec-unfetched refusals.Memory cause = tt
 
-  module _ (ok : (s : Spec) (table : Delays) (a : Answer) → said s table a → a.status ≡ 0) (bytes : List ℕ) (stands : (files : Files) → told ≡ Some files → files spec ≡ Some bytes) (few : length bytes ≤ most_bytes) where
+  module _ (ok : (s : Spec) (table : Delays) (a : Answer) → said s table a → a.status ≡ 0) (bytes : List ℕ) (stands : (files : Files)
+      → told ≡ Some files → files spec ≡ Some bytes) (few : length bytes ≤ most_bytes) where
     answers : (a : Answer) → IsAnswerToSpec bytes devices said a → IsListed a → IsPrepared (Some command) devices told before now a
     answers a is listed =
         let status = spec_status bytes devices said a (λ s table. ok s table a) is in record {
@@ -130,10 +154,12 @@ module _ (command : Command) (said : Spec → Delays → Answer → Type 0) (spe
           usage = λ other. absurd (elim status [ inl e ↦ omega (arith, e, other) | inr e ↦ omega (arith, e, other) ]);
           read_counted = λ other. absurd (elim status [ inl e ↦ omega (arith, e, other) | inr e ↦ omega (arith, e, other) ]);
           long_counted = λ other. absurd (elim status [ inl e ↦ omega (arith, e, other) | inr e ↦ omega (arith, e, other) ]);
-          due = λ files there. inr (due files a (on_fetch (files spec) most_bytes bytes a (λ b. IsAnswerToSpec b devices said a) (stands files there) few is));
+          due = λ files there. inr
+              (due files a (on_fetch (files spec) most_bytes bytes a (λ b. IsAnswerToSpec b devices said a) (stands files there) few is));
         }
 
-    spec-prepared : (r : Result Held Refusal) → Answers r (IsAnswerToSpec bytes devices said) → Answers r IsListed → Answers r (IsPrepared (Some command) devices told before now)
+    spec-prepared : (r : Result Held Refusal) → Answers r (IsAnswerToSpec bytes devices said) → Answers r IsListed
+        → Answers r (IsPrepared (Some command) devices told before now)
     spec-prepared (Ok held) is listed = answers (answer_of held) is listed
     spec-prepared (Err (refusals.Line line)) is listed = answers (refusal_of line) is listed
     spec-prepared (Err refusals.Memory) is listed = tt
@@ -141,17 +167,23 @@ module _ (command : Command) (said : Spec → Delays → Answer → Type 0) (spe
 module _ (spec : List ℕ) (devices : List Device) (told : Option Files) (before now : Reads) where
   pub generate-unfetched : (workers : ℕ) (enable : Bool) (refusal : Refusal) → Fetches spec most_bytes told before now (Err refusal)
       → Answers (Err refusal) (IsPrepared (Some (Generate spec workers enable)) devices told before now)
-  generate-unfetched workers enable = spec-unfetched (Generate spec workers enable) (IsGenerated enable) spec devices told before now (λ files a h. h)
+  generate-unfetched workers enable = spec-unfetched (Generate spec workers enable) (IsGenerated enable) spec devices told before now
+      (λ files a h. h)
 
   pub vectors-unfetched : (seed cycles : ℕ) (refusal : Refusal) → Fetches spec most_bytes told before now (Err refusal)
       → Answers (Err refusal) (IsPrepared (Some (Vectors spec seed cycles)) devices told before now)
-  vectors-unfetched seed cycles = spec-unfetched (Vectors spec seed cycles) (IsVectors seed cycles) spec devices told before now (λ files a h. h)
+  vectors-unfetched seed cycles = spec-unfetched (Vectors spec seed cycles) (IsVectors seed cycles) spec devices told before now
+      (λ files a h. h)
 
   module _ (bytes : List ℕ) (stands : (files : Files) → told ≡ Some files → files spec ≡ Some bytes) (few : length bytes ≤ most_bytes) where
-    pub generate-prepared : (workers : ℕ) (enable : Bool) (r : Result Held Refusal) → Answers r (IsAnswerToSpec bytes devices (IsGenerated enable)) → Answers r IsListed
+    pub generate-prepared : (workers : ℕ) (enable : Bool) (r : Result Held Refusal)
+        → Answers r (IsAnswerToSpec bytes devices (IsGenerated enable)) → Answers r IsListed
         → Answers r (IsPrepared (Some (Generate spec workers enable)) devices told before now)
-    generate-prepared workers enable = spec-prepared (Generate spec workers enable) (IsGenerated enable) spec devices told before now (λ files a h. h) (λ s table a g. ap status_of g.answer) bytes stands few
+    generate-prepared workers enable = spec-prepared (Generate spec workers enable) (IsGenerated enable) spec devices told before now
+        (λ files a h. h) (λ s table a g. ap status_of g.answer) bytes stands few
 
-    pub vectors-prepared : (seed cycles : ℕ) (r : Result Held Refusal) → Answers r (IsAnswerToSpec bytes devices (IsVectors seed cycles)) → Answers r IsListed
+    pub vectors-prepared : (seed cycles : ℕ) (r : Result Held Refusal) → Answers r (IsAnswerToSpec bytes devices (IsVectors seed cycles))
+        → Answers r IsListed
         → Answers r (IsPrepared (Some (Vectors spec seed cycles)) devices told before now)
-    vectors-prepared seed cycles = spec-prepared (Vectors spec seed cycles) (IsVectors seed cycles) spec devices told before now (λ files a h. h) (λ s table a g. ap status_of g.answer) bytes stands few
+    vectors-prepared seed cycles = spec-prepared (Vectors spec seed cycles) (IsVectors seed cycles) spec devices told before now
+        (λ files a h. h) (λ s table a g. ap status_of g.answer) bytes stands few

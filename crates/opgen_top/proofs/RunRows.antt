@@ -19,7 +19,8 @@ use Rattle.opgen_top.proofs.Columns.{all_rows, length-rows_of_cells, sides}
 no_rows : (d : Design) (now : List (List Bool)) (inputs : List ℕ) → RunsRows d now 0 inputs []
 no_rows d now inputs = record { words = []; runs = tt; outputs_are = refl }
 
-first_row : (d : Design) (now next : List (List Bool)) (v : Words) (rows : ℕ) (inputs outputs : List ℕ) → Cycle d now (words_of (input_widths d) (take (length (input_widths d)) inputs)) v next
+first_row : (d : Design) (now next : List (List Bool)) (v : Words) (rows : ℕ) (inputs outputs : List ℕ)
+    → Cycle d now (words_of (input_widths d) (take (length (input_widths d)) inputs)) v next
     → RunsRows d next rows (drop (length (input_widths d)) inputs) outputs → RunsRows d now (suc rows) inputs (output_cells d v ++ outputs)
 first_row d now next v rows inputs outputs cycle later = record {
   words = v ∷ later.words;
@@ -31,7 +32,8 @@ first_row d now next v rows inputs outputs cycle later = record {
 abbrev pub HasRun : (d : Design) (all : ℕ) (given : List ℕ) (now : List (List Bool)) (left : ℕ) (inputs cells : List ℕ) → Type 0
 HasRun d all given now left inputs cells = (outputs : List ℕ) → RunsRows d now left inputs outputs → IsRunOf d all given (cells ++ outputs)
 
-pub one_cycle : (d : Design) (all : ℕ) (given : List ℕ) (now next : List (List Bool)) (v : Words) (left : ℕ) (inputs cells new : List ℕ) → HasRun d all given now left inputs cells → 0 < left
+pub one_cycle : (d : Design) (all : ℕ) (given : List ℕ) (now next : List (List Bool)) (v : Words) (left : ℕ) (inputs cells new : List ℕ)
+    → HasRun d all given now left inputs cells → 0 < left
     → Cycle d now (words_of (input_widths d) (take (length (input_widths d)) inputs)) v next → new ≡ cells ++ output_cells d v
     → HasRun d all given next (left - 1) (drop (length (input_widths d)) inputs) new
 one_cycle d all given now next v zero inputs cells new so_far some cycle e outputs later = absurd (omega (arith, some))
@@ -41,19 +43,23 @@ one_cycle d all given now next v (suc left) inputs cells new so_far some cycle e
     let whole = so_far (output_cells d v ++ outputs) (first_row d now next v left inputs outputs cycle later') in
     subst (IsRunOf d all given) (sym (append_assoc cells (output_cells d v) outputs) ∙ ap (λ xs. xs ++ outputs) (sym e)) whole
 
-pub whole_run : (d : Design) (all : ℕ) (given : List ℕ) (now : List (List Bool)) (left : ℕ) (inputs cells : List ℕ) → HasRun d all given now left inputs cells → left ≡ 0 → IsRunOf d all given cells
+pub whole_run : (d : Design) (all : ℕ) (given : List ℕ) (now : List (List Bool)) (left : ℕ) (inputs cells : List ℕ)
+    → HasRun d all given now left inputs cells → left ≡ 0 → IsRunOf d all given cells
 whole_run d all given now left inputs cells so_far end =
     subst (IsRunOf d all given) (append-nil cells) (so_far [] (subst (λ n. RunsRows d now n inputs []) (sym end) (no_rows d now inputs)))
 
-pub one_step : (d e : Design) (all : ℕ) (given : List ℕ) (now next : List (List Bool)) (left : ℕ) (inputs cells row numbers new : List ℕ) → HasRun d all given now left inputs cells → 0 < left → e ≡ d
-    → row ≡ take (length (input_widths d)) inputs → IsStep e now row next numbers → new ≡ cells ++ numbers → HasRun d all given next (left - 1) (drop (length (input_widths d)) inputs) new
+pub one_step : (d e : Design) (all : ℕ) (given : List ℕ) (now next : List (List Bool)) (left : ℕ) (inputs cells row numbers new : List ℕ)
+    → HasRun d all given now left inputs cells → 0 < left → e ≡ d
+    → row ≡ take (length (input_widths d)) inputs → IsStep e now row next numbers → new ≡ cells ++ numbers
+    → HasRun d all given next (left - 1) (drop (length (input_widths d)) inputs) new
 one_step d e all given now next left inputs cells row numbers new so_far some same first step put =
     let here : IsStep d now row next numbers = subst (λ x. IsStep x now row next numbers) same step in
     let cycle = subst (λ r. Cycle d now (words_of (input_widths d) r) here.words next) first here.cycle in
     one_cycle d all given now next here.words left inputs cells new so_far some cycle (put ∙ ap (λ xs. cells ++ xs) here.outputs_are)
 
 -- a run asks of the words before it only those of the registers
-run_kept : (d : Design) (now others : List (List Bool)) (inputs : List (List (List Bool))) (vs : List Words) → SameRegisters d now others → RunsOn d now inputs vs → RunsOn d others inputs vs
+run_kept : (d : Design) (now others : List (List Bool)) (inputs : List (List (List Bool))) (vs : List Words) → SameRegisters d now others
+    → RunsOn d now inputs vs → RunsOn d others inputs vs
 run_kept d now others [] [] same r = tt
 run_kept d now others [] (v ∷ vs) same r = absurd r
 run_kept d now others (given ∷ inputs) [] same r = absurd r
@@ -67,13 +73,15 @@ run_start d s rows inputs new outputs run = record {
   outputs_are = run.outputs_are;
 }
 
-pub length-cells : (d : Design) (now given next : List (List Bool)) (v : Words) → Cycle d now given v next → length (output_cells d v) ≡ length (output_widths d)
+pub length-cells : (d : Design) (now given next : List (List Bool)) (v : Words) → Cycle d now given v next
+    → length (output_cells d v) ≡ length (output_widths d)
 length-cells d now given next v cycle =
     let widths = map (λ p. p.width) d.ports in
     let ports : length v.ports ≡ length widths = sym (length-map v.ports length) ∙ ap length cycle.port_widths in
     length-map (outputs_of d v) nat ∙ at_ports-length is_out d.ports v.ports widths ports
 
-length-outputs : (d : Design) (now : List (List Bool)) (rows : ℕ) (inputs : List ℕ) (vs : List Words) → RunsOn d now (rows_words (input_widths d) rows inputs) vs
+length-outputs : (d : Design) (now : List (List Bool)) (rows : ℕ) (inputs : List ℕ) (vs : List Words)
+    → RunsOn d now (rows_words (input_widths d) rows inputs) vs
     → length (concat (map (output_cells d) vs)) ≡ rows * length (output_widths d)
 length-outputs d now zero inputs [] r = omega arith
 length-outputs d now zero inputs (v ∷ vs) r = absurd r
@@ -86,29 +94,35 @@ length-outputs d now (suc rows) inputs (v ∷ vs) (next, cycle, r) =
     length-append (output_cells d v) (concat (map (output_cells d) vs)) ∙ omega (arith, first, rest, whole)
 
 -- a run has a number for each output port in each cycle
-pub length-run : (d : Design) (rows : ℕ) (inputs outputs : List ℕ) → IsRunOf d rows inputs outputs → length outputs ≡ rows * length (output_widths d)
+pub length-run : (d : Design) (rows : ℕ) (inputs outputs : List ℕ) → IsRunOf d rows inputs outputs
+    → length outputs ≡ rows * length (output_widths d)
 length-run d rows inputs outputs run = ap length run.outputs_are ∙ length-outputs d (initial_words d.signals) rows inputs run.words run.runs
 
 -- a step gives a number for each output port
-pub length-step : (d e : Design) (now next : List (List Bool)) (row numbers : List ℕ) → e ≡ d → IsStep e now row next numbers → length numbers ≡ length (output_widths d)
+pub length-step : (d e : Design) (now next : List (List Bool)) (row numbers : List ℕ) → e ≡ d → IsStep e now row next numbers
+    → length numbers ≡ length (output_widths d)
 length-step d e now next row numbers same step =
     let here : IsStep d now row next numbers = subst (λ x. IsStep x now row next numbers) same step in
     ap length here.outputs_are ∙ length-cells d now (words_of (input_widths d) row) next here.words here.cycle
 
 -- a buffer that is written whole
-pub written_back : (len : ℕ) (new old : List ℕ) → len ≡ length old → length new ≡ length old → take len (new ++ drop (length new) old) ≡ new
+pub written_back : {X : Type 0} (len : ℕ) (new old : List X) → len ≡ length old → length new ≡ length old
+    → take len (new ++ drop (length new) old) ≡ new
 written_back len new old e f =
     ap (λ xs. take len (new ++ xs)) (drop_of_length-le old (omega (arith, f)))
     ∙ ap (take len) (append-nil new)
     ∙ take_all len new (omega (arith, e, f))
 
 -- the text of a run
-pub run_written : (d : Design) (rows : ℕ) (inputs outputs text ws us outs : List ℕ) → ws ≡ input_widths d → us ≡ output_widths d → outs ≡ outputs → 0 < length d.ports → AreRowsOfCells (input_widths d) rows inputs
-    → IsRunOf d rows inputs outputs → text ≡ rows_text ws us (row_count_of (length ws) (length us) inputs outs) inputs outs → IsRunText d rows inputs text
+pub run_written : (d : Design) (rows : ℕ) (inputs outputs text ws us outs : List ℕ) → ws ≡ input_widths d → us ≡ output_widths d
+    → outs ≡ outputs → 0 < length d.ports → AreRowsOfCells (input_widths d) rows inputs
+    → IsRunOf d rows inputs outputs → text ≡ rows_text ws us (row_count_of (length ws) (length us) inputs outs) inputs outs
+    → IsRunText d rows inputs text
 run_written d rows inputs outputs text ws us outs e f g some fit run is =
     let is' = input_widths d in
     let os = output_widths d in
-    let all = all_rows (length is') (length os) rows inputs outputs (omega (arith, some, sides d)) (length-rows_of_cells is' inputs rows fit) (length-run d rows inputs outputs run) in
+    let all = all_rows (length is') (length os) rows inputs outputs (omega (arith, some, sides d))
+    (length-rows_of_cells is' inputs rows fit) (length-run d rows inputs outputs run) in
     record {
       outputs = outputs;
       run = run;

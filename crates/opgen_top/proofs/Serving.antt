@@ -41,12 +41,14 @@ ago_back t (suc l) =
     ap (λ u. ago u (suc l)) e ∙ ago_next (t + l) l ∙ ago_back t l
 
 widths_in : (is : List (List ℕ × ℕ)) (os : List Output)
-    → at_ports is_in (map input_port is ++ map output_port os) (map (λ p. p.width) (map input_port is ++ map output_port os)) ≡ map (λ i. i.1) is
+    → at_ports is_in (map input_port is ++ map output_port os) (map (λ p. p.width) (map input_port is ++ map output_port os))
+    ≡ map (λ i. i.1) is
 widths_in [] [] = refl
 widths_in [] (o ∷ os) = widths_in [] os
 widths_in (i ∷ is) os = ap (λ ws. i.1 ∷ ws) (widths_in is os)
 
-first_width : (enable : Bool) (is : List (List ℕ × ℕ)) → map (λ i. i.1) (enable_inputs enable ++ is) ≡ widths_after enable (map (λ i. i.1) is)
+first_width : (enable : Bool) (is : List (List ℕ × ℕ)) → map (λ i. i.1) (enable_inputs enable ++ is)
+    ≡ widths_after enable (map (λ i. i.1) is)
 first_width true is = refl
 first_width false is = refl
 
@@ -67,38 +69,52 @@ module _ (spec : Spec) (net : Net) (fits : FitsSpec spec net) (enable : Bool) wh
   -- the ports are those that the specification asks for
   pub made_ports : ports_of enable net ≡ ports_for spec enable
   made_ports =
-      ap (λ ps. ps ++ map output_port net.outputs) (map-append input_port (enable_inputs enable) net.inputs ∙ ap (λ ps. map input_port (enable_inputs enable) ++ ps) inputs_are)
+      ap (λ ps. ps ++ map output_port net.outputs) (map-append input_port (enable_inputs enable) net.inputs
+      ∙ ap (λ ps. map input_port (enable_inputs enable) ++ ps) inputs_are)
       ∙ ap (λ ps. (map input_port (enable_inputs enable) ++ map (port_of In) (spec_inputs spec)) ++ ps) outputs_are
 
-  module _ (name : List ℕ) (named : IsNamed name net) (delays : List ℕ) (setup period : ℕ) (s : Schedule) (fit : Fits net.nodes delays setup period s) (few : signal_count net s ≤ 2 ^ 64)
+  module _ (name : List ℕ) (named : IsNamed name net) (delays : List ℕ) (setup period : ℕ) (s : Schedule)
+      (fit : Fits net.nodes delays setup period s) (few : signal_count net s ≤ 2 ^ 64)
       (follows : (inputs : Inputs) (vs : List Words) → Run (design_of name enable net s) inputs vs
-      → (u : ℕ) (v : Words) → slice_get (counted enable vs vs) u ≡ Some v → FollowsFlow name enable net s (net_inputs enable (counted enable vs inputs)) u v) where
+      → (u : ℕ) (v : Words) → slice_get (counted enable vs vs) u ≡ Some v
+      → FollowsFlow name enable net s (net_inputs enable (counted enable vs inputs)) u v) where
     abbrev design : Design
     design = design_of name enable net s
 
     -- inputs of a run, in the cycles that count, are inputs of the net
-    net_words : (inputs : Inputs) (vs : List Words) → Run (design_of name enable net s) inputs vs → All (AreWords (net_widths net)) (net_inputs enable (counted enable vs inputs))
+    net_words : (inputs : Inputs) (vs : List Words) → Run (design_of name enable net s) inputs vs
+        → All (AreWords (net_widths net)) (net_inputs enable (counted enable vs inputs))
     net_words inputs vs run =
         taken_words enable (net_widths net) inputs vs
-        (subst (λ ws. All (AreWords ws) inputs) (widths_in (enable_inputs enable ++ net.inputs) net.outputs ∙ first_width enable net.inputs) (run_words (design_of name enable net s) _ inputs vs run))
+        (subst (λ ws. All (AreWords ws) inputs) (widths_in (enable_inputs enable ++ net.inputs) net.outputs
+        ∙ first_width enable net.inputs) (run_words (design_of name enable net s) _ inputs vs run))
 
-    good : (inputs : Inputs) (vs : List Words) → Run (design_of name enable net s) inputs vs → (t : ℕ) (v : Words) → slice_get (counted enable vs vs) (t + net_latency net s) ≡ Some v
+    good : (inputs : Inputs) (vs : List Words) → Run (design_of name enable net s) inputs vs → (t : ℕ) (v : Words)
+        → slice_get (counted enable vs vs) (t + net_latency net s) ≡ Some v
         → IsInRange spec (recent_words (spec_inputs spec) (net_inputs enable (counted enable vs inputs)) t)
-        → IsGood spec (recent_words (spec_inputs spec) (net_inputs enable (counted enable vs inputs)) t) (output_words (spec_outputs spec) (outputs_of (design_of name enable net s) v))
+        → IsGood spec (recent_words (spec_inputs spec) (net_inputs enable (counted enable vs inputs)) t)
+        (output_words (spec_outputs spec) (outputs_of (design_of name enable net s) v))
     good inputs vs run t v there range =
         let l = net_latency net s in
         let taken = net_inputs enable (counted enable vs inputs) in
         let within : t < length taken =
-        omega (arith, slice_get_within (counted enable vs vs) (t + l) v there, taken_long enable inputs vs (run_long (design_of name enable net s) _ inputs vs run)) in
+        omega (
+          arith,
+          slice_get_within (counted enable vs vs) (t + l) v there,
+          taken_long enable inputs vs (run_long (design_of name enable net s) _ inputs vs run),
+        ) in
         let words : outputs_of (design_of name enable net s) v ≡ map (λ o. slice_flow net.nodes taken o.from (pos t)) net.outputs =
-        (follows inputs vs run (t + l) v there).outputs ∙ ap (λ time. map (λ o. slice_flow net.nodes taken o.from time) net.outputs) (ago_back t l) in
-        subst (λ ws. IsGood spec (recent_words (spec_inputs spec) taken t) (output_words (spec_outputs spec) ws)) (sym words) (fits.good taken t (net_words inputs vs run) within range)
+        (follows inputs vs run (t + l) v there).outputs
+        ∙ ap (λ time. map (λ o. slice_flow net.nodes taken o.from time) net.outputs) (ago_back t l) in
+        subst (λ ws. IsGood spec (recent_words (spec_inputs spec) taken t) (output_words (spec_outputs spec) ws)) (sym words)
+        (fits.good taken t (net_words inputs vs run) within range)
 
     pub serves : Serves spec (net_latency net s) enable (design_of name enable net s)
     serves = record {
       ports = made_ports;
       runs = λ inputs words.
-          let r = one-run (design_of name enable net s) (design_sound name enable net delays setup period s fits.valid named fit few) inputs words in
+          let r = one-run (design_of name enable net s)
+          (design_sound name enable net delays setup period s fits.valid named fit few) inputs words in
           (r.0, r.1.run);
       good = good;
     }

@@ -10,7 +10,8 @@ use Rattle.opgen_top.specs.Specified.{IsAnswerToSpec, OnLines, OnReading, OnTabl
 use Rattle.opgen_top.specs.Targets.{Device, IsTableOf, chosen, takes_lines, tuned}
 
 -- what is said of a specification and a table may be exchanged
-pub on_table-map : (spec : Spec) (table : Delays) (a : Answer) (said other : Type 0) → (said → other) → OnTable spec table a said → OnTable spec table a other
+pub on_table-map : (spec : Spec) (table : Delays) (a : Answer) (said other : Type 0) → (said → other) → OnTable spec table a said
+    → OnTable spec table a other
 on_table-map spec table a said other f (inl short) = inl short
 on_table-map spec table a said other f (inr (inl large)) = inr (inl large)
 on_table-map spec table a said other f (inr (inr h)) = inr (inr (f h))
@@ -19,40 +20,51 @@ on_lines-map : (b : Bool) (a : Answer) (said other : Type 0) → (said → other
 on_lines-map true a said other f h = f h
 on_lines-map false a said other f h = h
 
-pub on_target-map : (found : Option Device) (spec : Spec) (a : Answer) (said other : Delays → Type 0) → ((table : Delays) → said table → other table)
+pub on_target-map : (found : Option Device) (spec : Spec) (a : Answer) (said other : Delays → Type 0)
+    → ((table : Delays) → said table → other table)
     → OnTarget found spec a said → OnTarget found spec a other
 on_target-map (Some device) spec a said other f h =
-    on_lines-map (takes_lines device.adjustable spec.delays) a (said (tuned device.delays spec.delays)) (other (tuned device.delays spec.delays)) (f (tuned device.delays spec.delays)) h
+    on_lines-map (takes_lines device.adjustable spec.delays) a (said (tuned device.delays spec.delays))
+    (other (tuned device.delays spec.delays)) (f (tuned device.delays spec.delays)) h
 on_target-map None spec a said other f h = h
 
-pub on_reading-map : (r : Result Spec SpecFault) (a : Answer) (said other : Spec → Type 0) → ((spec : Spec) → said spec → other spec) → OnReading r a said → OnReading r a other
+pub on_reading-map : (r : Result Spec SpecFault) (a : Answer) (said other : Spec → Type 0) → ((spec : Spec) → said spec → other spec)
+    → OnReading r a said → OnReading r a other
 on_reading-map (Ok spec) a said other f h = f spec h
 on_reading-map (Err fault) a said other f h = h
 
 -- a refusal is one whatever is said of a circuit
-pub refusal_answers : (bytes : List ℕ) (devices : List Device) (said : Spec → Delays → Answer → Type 0) (a : Answer) → IsAnswerToSpec bytes devices (λ spec table b. ⊥) a
+pub refusal_answers : (bytes : List ℕ) (devices : List Device) (said : Spec → Delays → Answer → Type 0) (a : Answer)
+    → IsAnswerToSpec bytes devices (λ spec table b. ⊥) a
     → IsAnswerToSpec bytes devices said a
 refusal_answers bytes devices said a h =
-    on_reading-map (read (tree bytes)) a _ _ (λ spec. on_target-map (chosen spec.target devices) spec a _ _ (λ table. on_table-map spec table a ⊥ (said spec table a) (λ no. absurd no))) h
+    on_reading-map (read (tree bytes)) a _ _ (λ spec. on_target-map (chosen spec.target devices) spec a _ _
+    (λ table. on_table-map spec table a ⊥ (said spec table a) (λ no. absurd no))) h
 
 -- by what reads as a specification
-pub reading_ok : (r : Result Spec SpecFault) (a : Answer) (said : Spec → Type 0) (spec : Spec) → r ≡ Ok spec → said spec → OnReading r a said
+pub reading_ok : (r : Result Spec SpecFault) (a : Answer) (said : Spec → Type 0) (spec : Spec) → r ≡ Ok spec → said spec
+    → OnReading r a said
 reading_ok r a said spec reads h = subst (λ x. OnReading x a said) (sym reads) h
 
 -- by the table of the specification's target
-pub on_table_of : (spec : Spec) (devices : List Device) (a : Answer) (said : Delays → Type 0) (table : Delays) → IsTableOf spec devices table → said table
+pub on_table_of : (spec : Spec) (devices : List Device) (a : Answer) (said : Delays → Type 0) (table : Delays)
+    → IsTableOf spec devices table → said table
     → OnTarget (chosen spec.target devices) spec a said
 on_table_of spec devices a said table of h =
     let device = of.device in
-    subst (λ found. OnTarget found spec a said) (sym of.is_chosen) (subst (λ b. OnLines b a (said (tuned device.delays spec.delays))) (sym of.takes) (subst said of.is_tuned h))
+    subst (λ found. OnTarget found spec a said) (sym of.is_chosen)
+    (subst (λ b. OnLines b a (said (tuned device.delays spec.delays))) (sym of.takes) (subst said of.is_tuned h))
 
 -- by the targets one of these cases holds
-module _ (devices : List Device) (spec : Spec) (a : Answer) (said : Delays → Type 0) (P : Type 0) (by_unknown : chosen spec.target devices ≡ None → a ≡ unknown_target → P)
-    (by_fixed : (device : Device) → chosen spec.target devices ≡ Some device → takes_lines device.adjustable spec.delays ≡ false → a ≡ not_adjustable → P)
+module _ (devices : List Device) (spec : Spec) (a : Answer) (said : Delays → Type 0) (P : Type 0)
+    (by_unknown : chosen spec.target devices ≡ None → a ≡ unknown_target → P)
+    (by_fixed : (device : Device) → chosen spec.target devices ≡ Some device → takes_lines device.adjustable spec.delays ≡ false
+    → a ≡ not_adjustable → P)
     (by_table : (table : Delays) → IsTableOf spec devices table → said table → P) where
   of_lines : (device : Device) → chosen spec.target devices ≡ Some device → (b : Bool) → takes_lines device.adjustable spec.delays ≡ b
       → OnLines b a (said (tuned device.delays spec.delays)) → P
-  of_lines device found true takes h = by_table (tuned device.delays spec.delays) record { device = device; is_chosen = found; takes = takes; is_tuned = refl } h
+  of_lines device found true takes h =
+      by_table (tuned device.delays spec.delays) record { device = device; is_chosen = found; takes = takes; is_tuned = refl } h
   of_lines device found false takes h = by_fixed device found takes h
 
   of_target : (found : Option Device) → chosen spec.target devices ≡ found → OnTarget found spec a said → P
@@ -69,18 +81,22 @@ module _ (bytes : List ℕ) (devices : List Device) (said : Spec → Delays → 
   pub answers_fault : (fault : SpecFault) → read (tree bytes) ≡ Err fault → a ≡ refused fault → IsAnswerToSpec bytes devices said a
   answers_fault fault reads is = subst (λ r. OnReading r a Said) (sym reads) is
 
-  pub answers_unknown : (spec : Spec) → read (tree bytes) ≡ Ok spec → chosen spec.target devices ≡ None → a ≡ unknown_target → IsAnswerToSpec bytes devices said a
+  pub answers_unknown : (spec : Spec) → read (tree bytes) ≡ Ok spec → chosen spec.target devices ≡ None → a ≡ unknown_target
+      → IsAnswerToSpec bytes devices said a
   answers_unknown spec reads found is =
-      reading_ok (read (tree bytes)) a Said spec reads (subst (λ d. OnTarget d spec a (λ table. OnTable spec table a (said spec table a))) (sym found) is)
+      reading_ok (read (tree bytes)) a Said spec reads
+      (subst (λ d. OnTarget d spec a (λ table. OnTable spec table a (said spec table a))) (sym found) is)
 
   pub answers_fixed : (spec : Spec) (device : Device) → read (tree bytes) ≡ Ok spec → chosen spec.target devices ≡ Some device
       → takes_lines device.adjustable spec.delays ≡ false → a ≡ not_adjustable → IsAnswerToSpec bytes devices said a
   answers_fixed spec device reads found takes is =
       let table = tuned device.delays spec.delays in
       reading_ok (read (tree bytes)) a Said spec reads
-      (subst (λ d. OnTarget d spec a (λ t. OnTable spec t a (said spec t a))) (sym found) (subst (λ b. OnLines b a (OnTable spec table a (said spec table a))) (sym takes) is))
+      (subst (λ d. OnTarget d spec a (λ t. OnTable spec t a (said spec t a))) (sym found)
+      (subst (λ b. OnLines b a (OnTable spec table a (said spec table a))) (sym takes) is))
 
-  pub answers_table : (spec : Spec) (table : Delays) → read (tree bytes) ≡ Ok spec → IsTableOf spec devices table → OnTable spec table a (said spec table a)
+  pub answers_table : (spec : Spec) (table : Delays) → read (tree bytes) ≡ Ok spec → IsTableOf spec devices table
+      → OnTable spec table a (said spec table a)
       → IsAnswerToSpec bytes devices said a
   answers_table spec table reads of h =
       reading_ok (read (tree bytes)) a Said spec reads (on_table_of spec devices a (λ t. OnTable spec t a (said spec t a)) table of h)
@@ -90,10 +106,12 @@ module _ (bytes : List ℕ) (devices : List Device) (said : Spec → Delays → 
       (by_unknown : (spec : Spec) → read (tree bytes) ≡ Ok spec → chosen spec.target devices ≡ None → a ≡ unknown_target → P)
       (by_fixed : (spec : Spec) (device : Device) → read (tree bytes) ≡ Ok spec → chosen spec.target devices ≡ Some device
       → takes_lines device.adjustable spec.delays ≡ false → a ≡ not_adjustable → P)
-      (by_table : (spec : Spec) (table : Delays) → read (tree bytes) ≡ Ok spec → IsTableOf spec devices table → OnTable spec table a (said spec table a) → P) where
+      (by_table : (spec : Spec) (table : Delays) → read (tree bytes) ≡ Ok spec → IsTableOf spec devices table
+      → OnTable spec table a (said spec table a) → P) where
     of_reading : (r : Result Spec SpecFault) → read (tree bytes) ≡ r → OnReading r a Said → P
     of_reading (Ok spec) reads h =
-        cases_of_target devices spec a (λ table. OnTable spec table a (said spec table a)) P (by_unknown spec reads) (λ device. by_fixed spec device reads)
+        cases_of_target devices spec a (λ table. OnTable spec table a (said spec table a)) P (by_unknown spec reads)
+        (λ device. by_fixed spec device reads)
         (λ table. by_table spec table reads) h
     of_reading (Err fault) reads h = by_fault fault reads h
 

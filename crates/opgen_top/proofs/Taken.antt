@@ -21,7 +21,8 @@ module _ {X Y : Type 0} (f : X → Y) (is : Dir → Bool) where
       put false ys zs e = e
 
 -- the inputs of a run have the widths of its input ports
-pub run_words : (d : Design) (now : List (List Bool)) (inputs : List (List (List Bool))) (vs : List Words) → RunsOn d now inputs vs → All (AreWords (input_widths d)) inputs
+pub run_words : (d : Design) (now : List (List Bool)) (inputs : List (List (List Bool))) (vs : List Words) → RunsOn d now inputs vs
+    → All (AreWords (input_widths d)) inputs
 run_words d now [] vs r = All-nil (AreWords (input_widths d))
 run_words d now (given ∷ inputs) [] r = absurd r
 run_words d now (given ∷ inputs) (v ∷ vs) (next, c, r) =
@@ -29,14 +30,16 @@ run_words d now (given ∷ inputs) (v ∷ vs) (next, c, r) =
     All-cons (AreWords (input_widths d)) given inputs words (run_words d next inputs vs r)
 
 -- a run has a cycle for each of its inputs
-pub run_long : (d : Design) (now : List (List Bool)) (inputs : List (List (List Bool))) (vs : List Words) → RunsOn d now inputs vs → length vs ≡ length inputs
+pub run_long : (d : Design) (now : List (List Bool)) (inputs : List (List (List Bool))) (vs : List Words) → RunsOn d now inputs vs
+    → length vs ≡ length inputs
 run_long d now [] [] r = refl
 run_long d now [] (v ∷ vs) r = absurd r
 run_long d now (given ∷ inputs) [] r = absurd r
 run_long d now (given ∷ inputs) (v ∷ vs) (next, c, r) = ap suc (run_long d next inputs vs r)
 
 -- the same items are marked in lists of one length
-marked_long : {X Y : Type 0} (marks : List Bool) (xs : List X) (ys : List Y) → length xs ≡ length ys → length (marked marks xs) ≡ length (marked marks ys)
+marked_long : {X Y : Type 0} (marks : List Bool) (xs : List X) (ys : List Y) → length xs ≡ length ys
+    → length (marked marks xs) ≡ length (marked marks ys)
 marked_long [] xs ys e = refl
 marked_long (m ∷ marks) [] [] e = refl
 marked_long (m ∷ marks) [] (y ∷ ys) e = absurd (omega (arith, e))
@@ -60,7 +63,8 @@ first_dropped : (w : ℕ) (ws : List ℕ) (given : List (List Bool)) → AreWord
 first_dropped w ws [] e = absurd (cc)
 first_dropped w ws (g ∷ given) e = ap (drop 1) e
 
-all_dropped : (w : ℕ) (ws : List ℕ) (inputs : List (List (List Bool))) → All (AreWords (w ∷ ws)) inputs → All (AreWords ws) (map (drop 1) inputs)
+all_dropped : (w : ℕ) (ws : List ℕ) (inputs : List (List (List Bool))) → All (AreWords (w ∷ ws)) inputs
+    → All (AreWords ws) (map (drop 1) inputs)
 all_dropped w ws [] h = All-nil (AreWords ws)
 all_dropped w ws (given ∷ inputs) h =
     All-cons (AreWords ws) (drop 1 given) (map (drop 1) inputs) (first_dropped w ws given (All-head (AreWords (w ∷ ws)) given inputs h))
@@ -71,7 +75,8 @@ abbrev pub widths_after : (enable : Bool) → List ℕ → List ℕ
 widths_after true ws = 1 ∷ ws
 widths_after false ws = ws
 
-pub taken_words : (enable : Bool) (ws : List ℕ) (inputs : List (List (List Bool))) (vs : List Words) → All (AreWords (widths_after enable ws)) inputs
+pub taken_words : (enable : Bool) (ws : List ℕ) (inputs : List (List (List Bool))) (vs : List Words)
+    → All (AreWords (widths_after enable ws)) inputs
     → All (AreWords ws) (net_inputs enable (counted enable vs inputs))
 taken_words false ws inputs vs h = h
 taken_words true ws inputs vs h = all_dropped 1 ws (marked (ones_at 0 vs) inputs) (marked_all (AreWords (1 ∷ ws)) (ones_at 0 vs) inputs h)

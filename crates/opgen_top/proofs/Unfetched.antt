@@ -21,7 +21,8 @@ pub rose_or_stood : (before now : ℕ) → Rose before now ⊎ Stood before now
 rose_or_stood before now = elim (cases_lt now _) [ inl stood ↦ inr stood | inr rose ↦ inl rose ]
 
 -- a file that was fetched whole
-pub on_fetch : (under : Option (List ℕ)) (most : ℕ) (bytes : List ℕ) (a : Answer) (said : List ℕ → Type 0) → under ≡ Some bytes → length bytes ≤ most → said bytes → OnFetch (fetched under most) a said
+pub on_fetch : (under : Option (List ℕ)) (most : ℕ) (bytes : List ℕ) (a : Answer) (said : List ℕ → Type 0) → under ≡ Some bytes
+    → length bytes ≤ most → said bytes → OnFetch (fetched under most) a said
 on_fetch under most bytes a said e few h =
     let fits : nat_le (length bytes) most ≡ true = grind (arith, nat_tests, few) in
     let whole : fetched under most ≡ Ok bytes = ap (λ o. fetched o most) e ∙ ap (λ b. cond b (Ok bytes) (Err fetch.TooLong)) fits in
@@ -32,7 +33,8 @@ pub on_missing : (under : Option (List ℕ)) (most : ℕ) (said : List ℕ → T
 on_missing under most said e = subst (λ o. OnFetch (fetched o most) read_fault said) (sym e) refl
 
 -- a file that is too long
-pub on_longer : (under : Option (List ℕ)) (most : ℕ) (said : List ℕ → Type 0) → fetched under most ≡ Err fetch.TooLong → OnFetch (fetched under most) too_long said
+pub on_longer : (under : Option (List ℕ)) (most : ℕ) (said : List ℕ → Type 0) → fetched under most ≡ Err fetch.TooLong
+    → OnFetch (fetched under most) too_long said
 on_longer under most said e = subst (λ r. OnFetch r too_long said) (sym e) refl
 
 -- what a later fetch counts was counted since before
@@ -42,7 +44,8 @@ rose-before before mid now le rose = omega (arith, le, rose)
 stood-after : (before mid now : ℕ) → before ≤ mid → Stood before now → Stood mid now
 stood-after before mid now le stood = omega (arith, le, stood)
 
-pub unfetched-before : (name : List ℕ) (most : ℕ) (told : Option Files) (before mid now : Reads) (line : Line) → Kept before mid → IsUnfetched name most told mid now line → IsUnfetched name most told before now line
+pub unfetched-before : (name : List ℕ) (most : ℕ) (told : Option Files) (before mid now : Reads) (line : Line) → Kept before mid
+    → IsUnfetched name most told mid now line → IsUnfetched name most told before now line
 unfetched-before name most told before mid now line kept cause = record {
   either = cause.either;
   read_counted = λ h. elim (cause.read_counted h) [
@@ -56,9 +59,11 @@ unfetched-before name most told before mid now line kept cause = record {
 
 module _ (command : Option Command) (devices : List Device) (told : Option Files) (before now : Reads) (name : List ℕ) (most : ℕ)
     (missing_due : (files : Files) → told ≡ Some files → files name ≡ None → IsAnswerOf command devices files read_fault)
-    (longer_due : (files : Files) → told ≡ Some files → fetched (files name) most ≡ Err fetch.TooLong → IsAnswerOf command devices files too_long) where
+    (longer_due : (files : Files) → told ≡ Some files → fetched (files name) most ≡ Err fetch.TooLong
+    → IsAnswerOf command devices files too_long) where
   unread : Rose before.faults now.faults ⊎ Rose before.lacks now.lacks
-      → ((files : Files) → told ≡ Some files → Stood before.faults now.faults → files name ≡ None) → IsPrepared command devices told before now read_fault
+      → ((files : Files) → told ≡ Some files → Stood before.faults now.faults → files name ≡ None)
+      → IsPrepared command devices told before now read_fault
   unread counted missing = record {
     listed = listed_refusal read_fault (printed.read_fault refl refl) refl;
     usage = λ other. absurd (omega (arith, other));
@@ -70,7 +75,8 @@ module _ (command : Option Command) (devices : List Device) (told : Option Files
     ];
   }
 
-  exceeds : Rose before.longs now.longs → ((files : Files) → told ≡ Some files → fetched (files name) most ≡ Err fetch.TooLong) → IsPrepared command devices told before now too_long
+  exceeds : Rose before.longs now.longs → ((files : Files) → told ≡ Some files → fetched (files name) most ≡ Err fetch.TooLong)
+      → IsPrepared command devices told before now too_long
   exceeds counted longer = record {
     listed = listed_refusal too_long (printed.too_long refl refl) refl;
     usage = λ other. absurd (omega (arith, other));
@@ -81,6 +87,8 @@ module _ (command : Option Command) (devices : List Device) (told : Option Files
 
   pub unfetched : (line : Line) → IsUnfetched name most told before now line → IsPrepared command devices told before now (refusal_of line)
   unfetched line cause = elim cause.either [
-    | inl e ↦ subst (λ l. IsPrepared command devices told before now (refusal_of l)) (sym e) (unread (cause.read_counted e) (λ files is stood. cause.missing files is stood e))
-    | inr e ↦ subst (λ l. IsPrepared command devices told before now (refusal_of l)) (sym e) (exceeds (cause.long_counted e) (λ files is. cause.longer files is e))
+    | inl e ↦ subst (λ l. IsPrepared command devices told before now (refusal_of l)) (sym e)
+        (unread (cause.read_counted e) (λ files is stood. cause.missing files is stood e))
+    | inr e ↦ subst (λ l. IsPrepared command devices told before now (refusal_of l)) (sym e)
+        (exceeds (cause.long_counted e) (λ files is. cause.longer files is e))
   ]

@@ -22,7 +22,8 @@ use Rattle.opgen_top.proofs.SpecCases.{cases_of_target, on_table-map, on_table_o
 module _ (n : ℕ) (devices : List Device) where
   -- a refusal of the filter answers the number
   filter_refused : (refusal : Refusal)
-      → OnRefusal refusal (λ a. OnTarget (chosen (workload_spec n).target devices) (workload_spec n) a (λ table. OnTable (workload_spec n) table a ⊥))
+      → OnRefusal refusal (λ a. OnTarget (chosen (workload_spec n).target devices) (workload_spec n) a
+      (λ table. OnTable (workload_spec n) table a ⊥))
       → OnRefusal refusal (IsAnswerToWorkload n devices)
   filter_refused (refusals.Line line) h =
       let spec = workload_spec n in
@@ -31,22 +32,33 @@ module _ (n : ℕ) (devices : List Device) where
   filter_refused refusals.Memory h = tt
 
   pub spec_refused : (spec : Spec) → spec ≡ workload_spec n → (refusal : Refusal)
-      → OnRefusal refusal (λ a. OnTarget (chosen spec.target devices) spec a (λ table. OnTable spec table a ⊥)) → OnRefusal refusal (IsAnswerToWorkload n devices)
+      → OnRefusal refusal (λ a. OnTarget (chosen spec.target devices) spec a (λ table. OnTable spec table a ⊥))
+      → OnRefusal refusal (IsAnswerToWorkload n devices)
   spec_refused spec filter refusal h =
-      filter_refused refusal (subst (λ s. OnRefusal refusal (λ a. OnTarget (chosen s.target devices) s a (λ table. OnTable s table a ⊥))) filter h)
+      filter_refused refusal
+      (subst (λ s. OnRefusal refusal (λ a. OnTarget (chosen s.target devices) s a (λ table. OnTable s table a ⊥))) filter h)
 
   -- and so does a run of its circuit
-  pub spec_worked : (spec : Spec) → spec ≡ workload_spec n → (made : Specified) → IsMadeFor spec false devices made → (a : Answer) → HasWorked n made.circuit.planned a
+  pub spec_worked : (spec : Spec) → spec ≡ workload_spec n → (made : Specified) → IsMadeFor spec false devices made → (a : Answer)
+      → HasWorked n made.circuit.planned a
       → IsAnswerToWorkload n devices a
   spec_worked spec filter made is a h =
       let same : IsMadeFor (workload_spec n) false devices made = subst (λ s. IsMadeFor s false devices made) filter is in
       on_table_of (workload_spec n) devices a (λ table. OnTable (workload_spec n) table a (IsWorked n table a)) same.table same.of_target
-      (inr (inr record { planned = made.circuit.planned; adders = made.circuit.adders.items; circuit = same.circuit; good = h.good; judged = h.judged; answer = h.answer }))
+      (inr (inr record {
+        planned = made.circuit.planned;
+        adders = made.circuit.adders.items;
+        circuit = same.circuit;
+        good = h.good;
+        judged = h.judged;
+        answer = h.answer;
+      }))
 
   -- the answer to a number has status 0 or 1
   number_status : (a : Answer) → IsAnswerToWorkload n devices a → (a.status ≡ 0) ⊎ (a.status ≡ 1)
   number_status a h =
-      cases_of_target devices (workload_spec n) a (λ table. OnTable (workload_spec n) table a (IsWorked n table a)) ((a.status ≡ 0) ⊎ (a.status ≡ 1))
+      cases_of_target devices (workload_spec n) a (λ table. OnTable (workload_spec n) table a (IsWorked n table a)) ((a.status ≡ 0)
+      ⊎ (a.status ≡ 1))
       (λ found is. inr (ap status_of is))
       (λ device found takes is. inr (ap status_of is))
       (λ table of on. elim on [
@@ -66,7 +78,8 @@ module _ (n : ℕ) (devices : List Device) where
           due = λ files there. inr is;
         }
 
-    pub workload-prepared : (r : Result Held Refusal) → Answers r (IsAnswerToWorkload n devices) → Answers r IsListed → Answers r (IsPrepared (Some (Workload n)) devices told before now)
+    pub workload-prepared : (r : Result Held Refusal) → Answers r (IsAnswerToWorkload n devices) → Answers r IsListed
+        → Answers r (IsPrepared (Some (Workload n)) devices told before now)
     workload-prepared (Ok held) is listed = answers (answer_of held) is listed
     workload-prepared (Err (refusals.Line line)) is listed = answers (refusal_of line) is listed
     workload-prepared (Err refusals.Memory) is listed = tt
@@ -74,4 +87,5 @@ module _ (n : ℕ) (devices : List Device) where
 pub worked_listed : (n : ℕ) (planned : Planned) (a : Answer) → HasWorked n planned a → IsListed a
 worked_listed n planned a h =
     subst IsListed (sym h.answer)
-    (listed_success (worked n (length planned.design.signals) planned.latency h.good) (printed.worked n (length planned.design.signals) planned.latency h.good refl refl) refl)
+    (listed_success (worked n (length planned.design.signals) planned.latency h.good)
+    (printed.worked n (length planned.design.signals) planned.latency h.good refl refl) refl)

@@ -60,8 +60,10 @@ IsMade (Some (Workload n)) devices files a = HasFilter n devices (λ table. IsWo
 pub data IsRefusedSpec (file : List ℕ) (devices : List Device) (files : Files) (a : Answer) : Type 0 where
   faulty : (bytes : List ℕ) (fault : SpecFault) → files file ≡ Some bytes → read (tree bytes) ≡ Err fault → a ≡ refused fault
       → IsRefusedSpec file devices files a
-  no_target : (spec : Spec) → HasSpec file files spec → chosen spec.target devices ≡ None → a ≡ unknown_target → IsRefusedSpec file devices files a
-  fixed_table : (spec : Spec) (device : Device) → HasSpec file files spec → chosen spec.target devices ≡ Some device → device.adjustable ≡ false
+  no_target : (spec : Spec) → HasSpec file files spec → chosen spec.target devices ≡ None → a ≡ unknown_target
+      → IsRefusedSpec file devices files a
+  fixed_table : (spec : Spec) (device : Device) → HasSpec file files spec → chosen spec.target devices ≡ Some device
+      → device.adjustable ≡ false
       → spec.delays ≢ [] → a ≡ not_adjustable → IsRefusedSpec file devices files a
   short_period : HasTable file devices files (λ spec table. IsTooShort spec table a) → IsRefusedSpec file devices files a
   many_signals : HasTable file devices files (λ spec table. IsTooLarge spec table a) → IsRefusedSpec file devices files a
@@ -123,7 +125,8 @@ pub record HasCause (command : Option Command) (devices : List Device) (files : 
   pub longer : a.status ≡ 9 → IsTooLong command files
 
 abbrev pub AnswersHaveCauses : Type 0
-AnswersHaveCauses = (command : Option Command) (devices : List Device) (files : Files) (a : Answer) → IsAnswerOf command devices files a → HasCause command devices files a
+AnswersHaveCauses = (command : Option Command) (devices : List Device) (files : Files) (a : Answer) → IsAnswerOf command devices files a
+    → HasCause command devices files a
 
 -- a command on a specification
 abbrev pub IsOnSpec : Command → (file : List ℕ) → Type 0
@@ -134,4 +137,5 @@ IsOnSpec _ file = ⊥
 -- and where the file is not too long, each cause makes its refusal the due answer
 abbrev pub RefusalsAreDue : Type 0
 RefusalsAreDue = (command : Command) (file : List ℕ) → IsOnSpec command file → (devices : List Device) (files : Files) (a : Answer)
-    → (fetched (files file) most_bytes ≡ Err fetch.TooLong → ⊥) → IsRefusedSpec file devices files a → IsAnswerOf (Some command) devices files a
+    → (fetched (files file) most_bytes ≡ Err fetch.TooLong → ⊥) → IsRefusedSpec file devices files a
+    → IsAnswerOf (Some command) devices files a

@@ -50,7 +50,8 @@ HasOneAnswer = (command : Option Command) (devices : List Device) (files : Files
 
 -- The answer that is due was given: the result is its status, the folder has its stores more or anew, and a sink that tells
 -- what it takes has its line more.
-pub record IsAnswered (command : Option Command) (devices : List Device) (files : Files) (result : ℕ) (after : Option Files) (before now : Option (List ℕ)) : Type 0 where
+pub record IsAnswered (command : Option Command) (devices : List Device) (files : Files) (result : ℕ) (after : Option Files)
+    (before now : Option (List ℕ)) : Type 0 where
   pub answer : Answer
   pub due : IsAnswerOf command devices files answer
   pub status : result ≡ answer.status

@@ -15,7 +15,8 @@ use Rattle.opgen_top.specs.Circuit.{IsCircuit, Serves}
 use Rattle.opgen_top.specs.Lines.{wrote_line}
 use Rattle.opgen_top.specs.Targets.{Device, IsTableOf}
 
-pub record Headline (file : List ℕ) (enable : Bool) (devices : List Device) (files : Files) (after : Option Files) (before now : Option (List ℕ)) : Type 0 where
+pub record Headline (file : List ℕ) (enable : Bool) (devices : List Device) (files : Files) (after : Option Files)
+    (before now : Option (List ℕ)) : Type 0 where
   -- First: nothing refuses the file. It holds a specification without a fault; a target has the
   -- name that it asks for and takes its delay lines; and there is a circuit for that target's table and the period.
   pub bytes : List ℕ

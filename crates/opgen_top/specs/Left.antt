@@ -16,23 +16,28 @@ pub record IsUnread (counted : Type 0) (files : Files) (after : Option Files) (b
   pub part : TakesPrefix before read_fault_line now
 
 -- A fault of writing was counted: a store broke, those before it stand, and nothing was printed.
-pub record IsUnstored (counted : Type 0) (answer : Answer) (files : Files) (after : Option Files) (before now : Option (List ℕ)) : Type 0 where
+pub record IsUnstored (counted : Type 0) (answer : Answer) (files : Files) (after : Option Files)
+    (before now : Option (List ℕ)) : Type 0 where
   pub why : counted
   pub broken : HasBroken answer.stores files after
   pub unprinted : now ≡ before
 
 -- The sink counted a fault: all stores stand, and it has at most a first part of the line more.
-pub record IsUnprinted (counted : Type 0) (answer : Answer) (files : Files) (after : Option Files) (before now : Option (List ℕ)) : Type 0 where
+pub record IsUnprinted (counted : Type 0) (answer : Answer) (files : Files) (after : Option Files)
+    (before now : Option (List ℕ)) : Type 0 where
   pub why : counted
   pub stores : after ≡ Some (stored_all answer.stores files)
   pub part : TakesPrefix before answer.line now
 
 -- After 4, by the counts that rose: a file was not read, or the answer that is due was not stored or not printed.
-abbrev pub LeftByFault : Option Command → List Device → Files → (read write put : Type 0) (after : Option Files) (before now : Option (List ℕ)) → Type 0
+abbrev pub LeftByFault : Option Command → List Device → Files
+    → (read write put : Type 0) (after : Option Files) (before now : Option (List ℕ)) → Type 0
 LeftByFault command devices files read write put after before now =
     IsUnread read files after before now
-    ⊎ ((a : Answer) × IsAnswerOf command devices files a × (IsUnstored write a files after before now ⊎ IsUnprinted put a files after before now))
+    ⊎ ((a : Answer) × IsAnswerOf command devices files a × (IsUnstored write a files after before now
+    ⊎ IsUnprinted put a files after before now))
 
 -- After 5: nothing has changed, or a first part of the stores of the answer that is due stands.
 abbrev pub LeftByMemory : Option Command → List Device → Files → (after : Option Files) → Type 0
-LeftByMemory command devices files after = (after ≡ Some files) ⊎ ((a : Answer) × IsAnswerOf command devices files a × HasFirst a.stores files after)
+LeftByMemory command devices files after = (after ≡ Some files)
+    ⊎ ((a : Answer) × IsAnswerOf command devices files a × HasFirst a.stores files after)

@@ -19,7 +19,8 @@ simulated_line rows = codes "simulated " ++ decimal rows ++ codes " cycles\n"
 
 abbrev pub worked_line : (n signals latency good : ℕ) → List ℕ
 worked_line n signals latency good =
-    codes "workload " ++ decimal n ++ codes " signals " ++ decimal signals ++ codes " latency " ++ decimal latency ++ codes " good " ++ decimal good ++ codes "\n"
+    codes "workload " ++ decimal n ++ codes " signals " ++ decimal signals ++ codes " latency " ++ decimal latency ++ codes " good "
+    ++ decimal good ++ codes "\n"
 
 abbrev pub refused_line : SpecFault → List ℕ
 refused_line fault = codes "specification: " ++ fault_text fault ++ codes "\n"

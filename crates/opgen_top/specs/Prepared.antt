@@ -132,7 +132,8 @@ pub record Kept (before now : Reads) : Type 0 where
   pub longs : before.longs ≤ now.longs
 
 -- the answer of a command: that which is due, or `read fault` where a fault of reading was counted
-pub record IsPrepared (command : Option Command) (devices : List Device) (told : Option Files) (before now : Reads) (a : Answer) : Type 0 where
+pub record IsPrepared (command : Option Command) (devices : List Device) (told : Option Files) (before now : Reads)
+    (a : Answer) : Type 0 where
   pub listed : IsListed a
   pub usage : a.status ≡ 2 → command ≡ None
   pub read_counted : a.status ≡ 3 → Rose before.faults now.faults ⊎ Rose before.lacks now.lacks
@@ -149,7 +150,8 @@ pub record IsUnfetched (name : List ℕ) (most : ℕ) (told : Option Files) (bef
 
 -- the bytes of a file, or why there are none
 abbrev pub Fetches : (name : List ℕ) (most : ℕ) (told : Option Files) (before now : Reads) → Result (Vec ℕ Global) Refusal → Type 0
-Fetches name most told before now (Ok bytes) = (length bytes.items ≤ most) × ((files : Files) → told ≡ Some files → files name ≡ Some bytes.items)
+Fetches name most told before now (Ok bytes) = (length bytes.items ≤ most)
+    × ((files : Files) → told ≡ Some files → files name ≡ Some bytes.items)
 Fetches name most told before now (Err (refusals.Line line)) = IsUnfetched name most told before now line
 Fetches name most told before now (Err refusals.Memory) = Unit {0}
 

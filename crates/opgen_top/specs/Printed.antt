@@ -16,7 +16,8 @@ use Rattle.opgen_top.specs.Statuses.{HasLine}
 -- is not.
 pub data IsLineOf (status : ℕ) (line : List ℕ) : Type 0 where
   wrote : (name : List ℕ) (latency : ℕ) → IsTrue (is_spec_name name) → status ≡ 0 → line ≡ wrote_line name latency → IsLineOf status line
-  wrote_vectors : (name : List ℕ) (cycles : ℕ) → IsTrue (is_spec_name name) → status ≡ 0 → line ≡ wrote_vectors_line name cycles → IsLineOf status line
+  wrote_vectors : (name : List ℕ) (cycles : ℕ) → IsTrue (is_spec_name name) → status ≡ 0 → line ≡ wrote_vectors_line name cycles
+      → IsLineOf status line
   simulated : (rows : ℕ) → status ≡ 0 → line ≡ simulated_line rows → IsLineOf status line
   worked : (n signals latency good : ℕ) → status ≡ 0 → line ≡ worked_line n signals latency good → IsLineOf status line
   refused : (fault : SpecFault) → fault ≢ spec_faults.Memory → status ≡ 1 → line ≡ refused_line fault → IsLineOf status line
@@ -27,7 +28,8 @@ pub data IsLineOf (status : ℕ) (line : List ℕ) : Type 0 where
   usage : status ≡ 2 → line ≡ usage_line → IsLineOf status line
   read_fault : status ≡ 3 → line ≡ read_fault_line → IsLineOf status line
   vhdl_refused : (fault : ReadFault) → fault ≢ read_faults.Memory → status ≡ 6 → line ≡ vhdl_refused_line fault → IsLineOf status line
-  vectors_refused : (fault : VecFault) → fault ≢ vector_faults.Memory → status ≡ 7 → line ≡ vectors_refused_line fault → IsLineOf status line
+  vectors_refused : (fault : VecFault) → fault ≢ vector_faults.Memory → status ≡ 7 → line ≡ vectors_refused_line fault
+      → IsLineOf status line
   too_long : status ≡ 9 → line ≡ too_long_line → IsLineOf status line
 
 -- the statuses 2, 3 and 9 have one line each

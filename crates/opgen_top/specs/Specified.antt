@@ -71,7 +71,8 @@ OnReading (Err fault) a said = a ≡ refused fault
 
 -- by the bytes and the targets, what is said of the specification and its target's table
 abbrev pub OnSpec : (bytes : List ℕ) → List Device → Answer → (said : Spec → Delays → Type 0) → Type 0
-OnSpec bytes devices a said = OnReading (read (tree bytes)) a (λ spec. OnTarget (chosen spec.target devices) spec a (λ table. said spec table))
+OnSpec bytes devices a said =
+    OnReading (read (tree bytes)) a (λ spec. OnTarget (chosen spec.target devices) spec a (λ table. said spec table))
 
 -- the answer to a specification: a refusal, or what is said of it and of its target's table
 abbrev pub IsAnswerToSpec : (bytes : List ℕ) → List Device → (said : Spec → Delays → Answer → Type 0) → Answer → Type 0

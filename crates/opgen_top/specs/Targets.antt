@@ -12,7 +12,8 @@ pub record Device : Type 0 where
   pub adjustable : Bool
 
 -- targets in order, each with the name, the table and the mark that it has
-abbrev pub devices_of : {Target : Type 0} → (name : Target → List ℕ) → (delays : Target → Delays) → (adjustable : Target → Bool) → List Target → List Device
+abbrev pub devices_of : {Target : Type 0} → (name : Target → List ℕ) → (delays : Target → Delays) → (adjustable : Target → Bool)
+    → List Target → List Device
 devices_of name delays adjustable targets = map (λ t. record { name = name t; delays = delays t; adjustable = adjustable t }) targets
 
 -- the first of a name

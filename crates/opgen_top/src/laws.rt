@@ -3,6 +3,7 @@ ghost use Rattle.opgen_top.specs.Circuit.{CircuitsAreSound, CircuitsServe, HasOn
 ghost use Rattle.opgen_top.specs.Due.{HasOneAnswer};
 ghost use Rattle.opgen_top.specs.Kinds.{HasOneNet};
 ghost use Rattle.opgen_top.specs.Printed.{LinesAreFixed};
+ghost use Rattle.opgen_top.specs.Workload.{WorkloadsAreGood};
 
 use opgen_pipe::run_follows_flow;
 
@@ -53,6 +54,13 @@ pub fn circuits_serve()
     ensures { CircuitsServe }
 {
     run_follows_flow();
+}
+
+/// In the line of a workload all cycles from the latency on are good.
+pub fn workloads_are_good()
+    ensures { WorkloadsAreGood }
+{
+    circuits_serve();
 }
 
 /// The statuses 2, 3 and 9 have one line each.

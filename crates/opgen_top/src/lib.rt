@@ -9,6 +9,7 @@ mod line;
 mod prepare;
 mod program;
 mod run_rows;
+mod run_streams;
 mod simulate;
 mod specified;
 mod status;
@@ -19,7 +20,7 @@ mod workload;
 
 pub use laws::{
     answers_have_causes, circuits_are_sound, circuits_serve, lines_are_fixed, one_answer,
-    one_circuit, one_net, refusals_are_due,
+    one_circuit, one_net, refusals_are_due, workloads_are_good,
 };
 pub use opgen_search::{Gate, OpenGate};
 pub use opgen_target::Target;

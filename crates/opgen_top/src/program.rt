@@ -93,7 +93,7 @@ fn printed<K: Sink>(line: &Line, out: &mut K) -> Status
 /// table of delays is changed by the delay lines there, in order. All targets are dropped.
 ///
 /// A least set of adders is sought on as many threads as `--workers` says, by default one; the
-/// answer does not depend on their number. The gate is told of each piece of that search.
+/// answer does not depend on their number. The gate, an observer, is told of each piece of that search.
 pub fn run<R: Threads + Sync, F: Folder, K: Sink, G: Gate + Sync>(
     rt: &R,
     alloc: Global,

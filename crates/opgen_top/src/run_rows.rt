@@ -5,6 +5,7 @@ ghost use Rattle.opgen_design.specs.Sound.{HasNumbers, IsSound};
 ghost use Rattle.opgen_vec.specs.Rows.{AreRowsOfCells};
 ghost use Rattle.opgen_top.specs.Running.{is_of, output_widths, IsRunOf, IsRunText};
 
+use crate::run_streams::{is_for_streams, run_streams};
 use opgen_design::{Design, Dir, Port};
 use opgen_num::Memory;
 use opgen_sim::Sim;
@@ -67,6 +68,29 @@ pub(crate) fn run_rows(
     Ok(cells)
 }
 
+// The numbers at the output ports, cycle after cycle, in the way that is faster.
+fn cells(
+    alloc: Global,
+    design: &Design,
+    in_widths: &[u32],
+    out_widths: &[u32],
+    rows: &Rows,
+) -> Result<Vec<u128>, Memory>
+    requires sound { IsSound design.now }
+    requires numbers { HasNumbers design.now }
+    requires in_widths { in_widths.now ≡ input_widths design.now }
+    requires out_widths { out_widths.now ≡ output_widths design.now }
+    requires columns { rows.now.inputs.columns ≡ length (input_widths design.now) }
+    requires rows { AreRowsOfCells (input_widths design.now) rows.now.count rows.now.inputs.cells.items }
+    ensures { IfOk result (λ cells. IsRunOf design.now rows.now.count rows.now.inputs.cells.items cells.items) }
+{
+    if !in_widths.is_empty() && !out_widths.is_empty() && is_for_streams(design) {
+        run_streams(alloc, design, in_widths, out_widths, rows)
+    } else {
+        run_rows(alloc, design, in_widths.len(), out_widths.len(), rows)
+    }
+}
+
 /// The text of the run of a design over rows of its inputs.
 pub(crate) fn run_text(alloc: Global, design: &Design, rows: &Rows) -> Result<Vec<u8>, Memory>
     requires sound { IsSound design.now }
@@ -78,7 +102,7 @@ pub(crate) fn run_text(alloc: Global, design: &Design, rows: &Rows) -> Result<Ve
 {
     let in_widths = port_widths(alloc, design.ports.as_slice(), Dir::In)?;
     let out_widths = port_widths(alloc, design.ports.as_slice(), Dir::Out)?;
-    let cells = run_rows(alloc, design, in_widths.len(), out_widths.len(), rows)?;
+    let cells = cells(alloc, design, &in_widths, &out_widths, rows)?;
     let outputs = Vectors {
         columns: out_widths.len() as u32,
         cells,

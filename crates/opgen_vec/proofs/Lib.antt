@@ -6,3 +6,4 @@ pub mod Rows
 pub mod Writing
 pub mod Draws
 pub mod OneReading
+pub mod RowsInStreams

@@ -4,4 +4,5 @@ pub mod Reading
 pub mod Writing
 pub mod Fault
 pub mod Stimulus
+pub mod Streams
 pub mod Worked

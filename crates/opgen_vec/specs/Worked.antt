@@ -1,10 +1,12 @@
 -- The definitions on worked rows.
-use Rattle.std.specs.Prelude.{◌≡◌, [], ◌∷◌, map, codes}
+use Rattle.std.specs.Prelude.{◌≡◌, ℕ, true, false, List, [], ◌∷◌, map, codes}
 use Rattle.std.specs.Str.{str_to_ascii_lowercase}
 use Rattle.std.specs.Str.Lines.{lines}
+use Rattle.opgen_streams.specs.Streams.{words_in}
 use Rattle.opgen_vec.specs.Rows.{row_text}
 use Rattle.opgen_vec.specs.Writing.{rows_text}
 use Rattle.opgen_vec.specs.Stimulus.{next, drawn}
+use Rattle.opgen_vec.specs.Streams.{words, row_or_zeros, row_in, rows_in}
 
 -- rows of one and of two ports, lines with and without a carriage return, and texts of runs with and without inputs
 pub record TextsCompute : Type 0 where
@@ -18,3 +20,18 @@ pub record TextsCompute : Type 0 where
 -- the first draws of four bits from the seed 0
 abbrev pub DrawsCompute : Type 0
 DrawsCompute = map (drawn 4) (next 0 ∷ next (next 0) ∷ next (next (next 0)) ∷ []) ≡ 1 ∷ 1 ∷ 9 ∷ []
+
+-- the rows 1 1 and 2 0 of a column of two bits and a column of one, in the streams 0 and 1
+abbrev pub worked_cells : List ℕ
+worked_cells = 1 ∷ 1 ∷ 2 ∷ 0 ∷ []
+
+abbrev pub worked_lanes : List (List ℕ)
+worked_lanes = (1 ∷ 0 ∷ 0 ∷ 0 ∷ []) ∷ (2 ∷ 0 ∷ 0 ∷ 0 ∷ []) ∷ (1 ∷ 0 ∷ 0 ∷ 0 ∷ []) ∷ []
+
+pub record StreamsCompute : Type 0 where
+  pub row : row_or_zeros 2 1 worked_cells ≡ 2 ∷ 0 ∷ []
+  pub no_row : row_or_zeros 2 2 worked_cells ≡ 0 ∷ 0 ∷ []
+  pub words : words (2 ∷ 1 ∷ []) (2 ∷ 0 ∷ []) ≡ (false ∷ true ∷ []) ∷ (false ∷ []) ∷ []
+  pub stream : words_in (2 ∷ 1 ∷ []) worked_lanes 1 ≡ (false ∷ true ∷ []) ∷ (false ∷ []) ∷ []
+  pub rows : rows_in (2 ∷ 1 ∷ []) worked_lanes 2 ≡ worked_cells
+  pub second_word : row_in (1 ∷ []) ((0 ∷ 2 ∷ 0 ∷ 0 ∷ []) ∷ []) 65 ≡ 1 ∷ []

@@ -1,5 +1,5 @@
 ghost use Rattle.opgen_vec.specs.Reading.{HasOneReading};
-ghost use Rattle.opgen_vec.specs.Worked.{TextsCompute, DrawsCompute};
+ghost use Rattle.opgen_vec.specs.Worked.{TextsCompute, DrawsCompute, StreamsCompute};
 
 /// A file of vectors has one reading: its cells, or one fault.
 pub fn one_reading()
@@ -10,4 +10,5 @@ pub fn one_reading()
 pub fn definitions_compute()
     ensures texts { TextsCompute }
     ensures draws { DrawsCompute }
+    ensures streams { StreamsCompute }
 {}

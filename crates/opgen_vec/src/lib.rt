@@ -7,6 +7,7 @@ mod hex;
 mod laws;
 mod read;
 mod row;
+mod streams;
 mod vectors;
 mod write;
 
@@ -14,6 +15,7 @@ pub use draw::{drawn, next, stimulus};
 pub use fault::VecFault;
 pub use laws::{definitions_compute, one_reading};
 pub use read::{read_empty_rows, read_vectors};
+pub use streams::{pack, unpack};
 pub use vectors::Vectors;
 pub use write::write_rows;
 

@@ -1,7 +1,9 @@
-ghost use Rattle.std.specs.Prelude.{◌≡◌, [], IfOk};
+ghost use Rattle.std.specs.Prelude.{◌≡◌, ◌≤◌, [], IfOk};
 
 use crate::*;
 use std::alloc::{AllocError, Global};
+use std::process::Abort;
+use std::simd::u64x4;
 use std::test::Fail;
 
 #[test]
@@ -139,5 +141,70 @@ fn prints_faults(rt: HostRuntime) -> Result<(), Fail> {
     assert_eq!(rt; format!(in rt.alloc(); "{bad}")?.as_str(), "BadLine 3");
     let many = VecFault::TooMany;
     assert_eq!(rt; format!(in rt.alloc(); "{many}")?.as_str(), "TooMany");
+    Ok(())
+}
+
+// 257 rows, each of four bits that count down.
+fn falling(alloc: Global) -> Result<Vectors, AllocError>
+    ensures columns { IfOk result (λ v. v.columns ≡ 1) }
+{
+    let cells = (0..257u32).map(|row| 15 - row as u128 % 16).collect(alloc)?;
+    Ok(Vectors { columns: 1, cells })
+}
+
+#[test]
+fn packs_rows_and_zeros(rt: HostRuntime) -> Result<(), Fail> {
+    let rows = falling(rt.alloc())?;
+    assert_eq!(rt; rows.row_count(), 257);
+    let mut lanes = [u64x4::splat(u64::MAX); 4];
+    pack(&rows, 0, &[4], &mut lanes);
+    assert_eq!(rt; lanes[0].to_array(), [0x5555_5555_5555_5555; 4]);
+    assert_eq!(rt; lanes[1].to_array(), [0x3333_3333_3333_3333; 4]);
+    assert_eq!(rt; lanes[2].to_array(), [0x0f0f_0f0f_0f0f_0f0f; 4]);
+    assert_eq!(rt; lanes[3].to_array(), [0x00ff_00ff_00ff_00ff; 4]);
+    pack(&rows, 256, &[4], &mut lanes);
+    for lane in lanes.iter() {
+        assert_eq!(rt; lane.to_array(), [1, 0, 0, 0]);
+    }
+    Ok(())
+}
+
+fn unpacks(rt: &impl Abort, alloc: Global, lanes: &[u64x4; 4], count: u32) -> Result<(), Fail>
+    requires { count ≤ 256 }
+{
+    let mut rows = column(alloc, &[7])?;
+    unpack(lanes, count, &[4], &mut rows)?;
+    assert_eq!(rt; rows.cells.first(), Some(&7));
+    assert_eq!(rt; rows.row_count(), 1 + count as usize);
+    for (row, cell) in rows.cells.iter().skip(1).enumerate() {
+        assert_eq!(rt; *cell, 15 - row as u128 % 16);
+    }
+    Ok(())
+}
+
+#[test]
+fn unpacks_after_rows(rt: HostRuntime) -> Result<(), Fail> {
+    let rows = falling(rt.alloc())?;
+    let mut lanes = [u64x4::splat(0); 4];
+    pack(&rows, 0, &[4], &mut lanes);
+    unpacks(&rt, rt.alloc(), &lanes, 0)?;
+    unpacks(&rt, rt.alloc(), &lanes, 1)?;
+    unpacks(&rt, rt.alloc(), &lanes, 255)?;
+    unpacks(&rt, rt.alloc(), &lanes, 256)
+}
+
+#[test]
+fn unpacks_two_columns(rt: HostRuntime) -> Result<(), Fail> {
+    let text = b"1f 800000000000000000000001\n02 0123456789abcdef01234567\n";
+    let rows = read_vectors(rt.alloc(), text, &[5, 96])?;
+    let mut lanes = [u64x4::splat(u64::MAX); 101];
+    pack(&rows, 0, &[5, 96], &mut lanes);
+    let mut gives = read_vectors(rt.alloc(), b"", &[5, 96])?;
+    unpack(&lanes, 2, &[5, 96], &mut gives)?;
+    assert_eq!(rt; gives.cells.as_slice(), rows.cells.as_slice());
+    unpack(&lanes, 3, &[5, 96], &mut gives)?;
+    assert_eq!(rt; gives.cells.len(), 10);
+    assert_eq!(rt; gives.cells[8], 0);
+    assert_eq!(rt; gives.cells[9], 0);
     Ok(())
 }

@@ -5,7 +5,7 @@ use Rattle.opgen_vhdl.specs.declared.place.Place.TheVariants.{Library, End}
 use Rattle.opgen_design.specs.declared.design.Design.{Design}
 use Rattle.opgen_design.specs.declared.design.Dir.TheVariants.{In, Out}
 use Rattle.opgen_design.specs.declared.design.Driver.TheVariants.{Assign, Output}
-use Rattle.opgen_design.specs.Names.{refused_words}
+use Rattle.opgen_names.specs.Names.{refused_words}
 use Rattle.opgen_design.specs.Tree as tree
 use Rattle.opgen_vhdl.specs.Symbols.{Symbol, word, number, string, mark, symbol_of, pieces}
 use Rattle.opgen_vhdl.specs.Grammar.{whole, signal, input, plain, single}

@@ -7,7 +7,7 @@ use Rattle.std.proofs.lemmas.Slice.Eq.{bytes_eq-Decides}
 use Rattle.opgen_num.specs.declared.TheConstants.{MAX_WIDTH}
 use Rattle.opgen_vhdl.specs.declared.kind.TokenKind.{TokenKind}
 use Rattle.opgen_vhdl.specs.declared.kind.TokenKind.TheVariants.{Word, Number, Bits, ZeroChar, LeftParen, RightParen, Semicolon, Colon, Comma, Dot, Ampersand, Plus, Minus, Equal, LessEqual, Arrow, Becomes}
-use Rattle.opgen_design.specs.Names.{is_allowed_name, refused_words}
+use Rattle.opgen_names.specs.Names.{is_allowed_name, refused_words}
 use Rattle.opgen_vhdl.specs.Symbols.{Symbol, word, number, string, mark}
 use Rattle.opgen_vhdl.specs.Grammar.{IsName, IsIndex, value}
 use Rattle.opgen_vhdl.specs.Reader.{◌>>=◌, and_then, choice, rank, same_kind, same_symbol, eat, eat_all, name_at, index_at, string_at, no_more, end_at, phrase_at}

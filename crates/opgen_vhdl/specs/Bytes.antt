@@ -1,7 +1,7 @@
 -- Tests of the bytes of a text, in ASCII.
 use Rattle.std.specs.Prelude.{ℕ, ◌==◌, ◌||◌, Bool, false, not, List, [], ◌∷◌}
 use Rattle.std.specs.Char.{is_ascii_alphabetic, is_ascii_digit}
-pub use Rattle.opgen_design.specs.Names.{is_underscore, ends_with_underscore, has_double_underscore, has_single_underscores}
+pub use Rattle.opgen_names.specs.Names.{is_underscore, ends_with_underscore, has_double_underscore, has_single_underscores}
 
 -- space, tab, carriage return, line feed
 abbrev pub is_white : ℕ → Bool

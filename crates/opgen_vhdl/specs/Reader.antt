@@ -16,7 +16,7 @@ use Rattle.opgen_design.specs.declared.design.Driver.TheVariants.{Assign, Choice
 use Rattle.opgen_design.specs.declared.expr.Op.{Op}
 use Rattle.opgen_design.specs.declared.expr.Op.TheVariants as op
 use Rattle.opgen_design.specs.Enabled.{is_one}
-use Rattle.opgen_design.specs.Names.{is_allowed_name}
+use Rattle.opgen_names.specs.Names.{is_allowed_name}
 use Rattle.opgen_design.specs.Tree.{Tree, Trees, name, part, bits, port, inverse, chain, none, more}
 use Rattle.opgen_vhdl.specs.Symbols.{Symbol, word, number, string, mark}
 use Rattle.opgen_vhdl.specs.Grammar.{Names, place_of, value, max_depth, operator}

@@ -8,7 +8,7 @@ use Rattle.opgen_design.specs.Tree.{Tree, Trees, name, part, inverse, chain, non
 use Rattle.opgen_design.specs.Width.{nesting, max_nesting}
 use Rattle.opgen_design.specs.Sound.{IsSound}
 use Rattle.opgen_design.specs.Order.{is_register}
-use Rattle.opgen_design.specs.Names.{is_allowed_name}
+use Rattle.opgen_names.specs.Names.{is_allowed_name}
 use Rattle.opgen_vhdl.specs.DesignText.{is_neither, is_output}
 
 -- a signal, or a part of one

@@ -13,7 +13,7 @@ static THIRD: &str =
     "library ieee;\nuse ieee.std_logic_1164.all;\nuse ieee.numeric_std.all;\n\nentity third is\n  port (\n    clk : in std_logic;\n    x : in std_logic_vector(3 downto 0);\n    y : out std_logic_vector(2 downto 0)\n  );\nend entity;\n\narchitecture rtl of third is\n  signal s0 : unsigned(3 downto 0);\n  signal s1 : unsigned(3 downto 0);\n  signal s1_1 : unsigned(3 downto 0) := \"0000\";\n  signal s2 : unsigned(3 downto 0);\n  signal s3 : unsigned(3 downto 0);\nbegin\n  s0 <= unsigned(x);\n  with s0 select s1 <=\n    \"0000\" when \"0000\",\n    \"0001\" when \"0001\",\n    \"0001\" when \"0010\",\n    \"0010\" when \"0011\",\n    \"0011\" when \"0100\",\n    \"0011\" when \"0101\",\n    \"0100\" when \"0110\",\n    \"0101\" when \"0111\",\n    \"0101\" when \"1000\",\n    \"0110\" when \"1001\",\n    \"0111\" when \"1010\",\n    \"0111\" when \"1011\",\n    \"1000\" when \"1100\",\n    \"1001\" when \"1101\",\n    \"1001\" when \"1110\",\n    \"1010\" when others;\n  s2 <= \"0001\";\n  s3 <= s1_1 + s2;\n  process (clk)\n  begin\n    if rising_edge(clk) then\n      s1_1 <= s1;\n    end if;\n  end process;\n  y <= std_logic_vector(s3(3 downto 1));\nend architecture;\n";
 
 /// What stands in the text, what is put in its place, and the answer.
-static TIMES3_EDITS: [(&str, &str, &str); 22] = [
+static TIMES3_EDITS: [(&str, &str, &str); 23] = [
     (
         "end architecture;\n",
         "end architecture;\nbegin ;",
@@ -91,6 +91,11 @@ static TIMES3_EDITS: [(&str, &str, &str); 22] = [
         "  signal s1 : unsigned(5 downto 0);\nbegin\n  s0 <= unsigned(x);\n",
         "  signal default : unsigned(3 downto 0);\n  signal s1 : unsigned(5 downto 0);\nbegin\n  s0 <= unsigned(x);\n  default <= s0;\n",
         "Ok: 2 ports, 3 signals, 4 drivers",
+    ),
+    (
+        "  signal s1 : unsigned(5 downto 0);\nbegin\n  s0 <= unsigned(x);\n",
+        "  signal s2 : unsigned(5 downto 0);\n  signal s1 : unsigned(5 downto 0);\nbegin\n  s0 <= unsigned(x);\n  s2 <= unsigned(y);\n",
+        "Unsound 7 7",
     ),
     (
         "  signal s0 : unsigned(3 downto 0);\n",

@@ -31,7 +31,8 @@ coefficient-within state = omega (arith, ints, drawn-small state)
 pub coefficients-within : (taps state : ℕ) → All (IsWithin (2 ^ 14)) (coefficients taps state)
 coefficients-within zero state = All-nil (IsWithin (2 ^ 14))
 coefficients-within (suc taps) state =
-    All-cons (IsWithin (2 ^ 14)) (coefficient (next state)) (coefficients taps (next state)) (coefficient-within state) (coefficients-within taps (next state))
+    All-cons (IsWithin (2 ^ 14)) (coefficient (next state)) (coefficients taps (next state)) (coefficient-within state)
+    (coefficients-within taps (next state))
 
 pub wider : (cs : List ℤ) → All (IsWithin (2 ^ 14)) cs → All (IsWithin (2 ^ 30)) cs
 wider cs h = λ k d within. omega (arith, h k d within)

@@ -4,7 +4,7 @@ use Rattle.std.specs.Prelude.{IsTrue, codes, ℤ}
 use Rattle.std.proofs.Math.Nat.{div-le_self}
 use Rattle.std.proofs.lemmas.Int.{ints}
 use Rattle.std.proofs.lemmas.List.Elements.{All-nil}
-use Rattle.opgen_design.specs.Names.{refused_words}
+use Rattle.opgen_names.specs.Names.{refused_words}
 use Rattle.opgen_operator.specs.declared.spec.Operator.TheVariants.{Fir}
 use Rattle.opgen_operator.specs.Accepted.{IsAcceptedBy}
 use Rattle.opgen_operator.specs.Outputs.{rises, falls, sum_need, sum_places, sum_reach, width_of}
@@ -50,10 +50,12 @@ module _ (n : ℕ) (some : 1 ≤ n) (few : n ≤ 32) where
 
   width_small : width_of (sum_places (workload_sum n)) ≤ 40
   width_small =
-      let reach = reach_small (rises taps) (falls taps) (small (rises taps) (rises-within taps (coefficients-within (8 * n) n))) (small (falls taps) (falls-within taps (coefficients-within (8 * n) n))) in
+      let reach = reach_small (rises taps) (falls taps) (small (rises taps) (rises-within taps (coefficients-within (8 * n) n)))
+      (small (falls taps) (falls-within taps (coefficients-within (8 * n) n))) in
       let below = rounded ((sum_reach (workload_sum n)).below * 1) 65536 (omega arith) in
       let above = rounded ((sum_reach (workload_sum n)).above * 1) 65536 (omega arith) in
-      width_within (sum_places (workload_sum n)).below (sum_places (workload_sum n)).above 38 (omega (arith, reach.0, below)) (omega (arith, reach.1, above))
+      width_within (sum_places (workload_sum n)).below (sum_places (workload_sum n)).above 38 (omega (arith, reach.0, below))
+      (omega (arith, reach.1, above))
 
   accepted : IsAcceptedBy 1 (Fir (workload_sum n))
   accepted = record {
@@ -65,7 +67,8 @@ module _ (n : ℕ) (some : 1 ≤ n) (few : n ≤ 32) where
   }
     where
       narrow_by : (bits : ℕ) → Some (sum_need (workload_sum n)) ≡ Some bits → bits ≤ 64
-      narrow_by bits e = let same : sum_need (workload_sum n) ≡ bits = cc in omega (arith, same, width_small, guard_small (workload_sum n) sum_valid)
+      narrow_by bits e = let same : sum_need (workload_sum n) ≡ bits = cc in
+          omega (arith, same, width_small, guard_small (workload_sum n) sum_valid)
 
   pub workload_valid : IsValidSpec (workload_spec n)
   workload_valid = record {

@@ -20,4 +20,5 @@ Counts P (suc most) (suc count) = (P most × Counts P most count) ⊎ ((P most �
 -- the output, the latency after a cycle, is good for the inputs up to that cycle
 abbrev pub IsGoodCycle : Spec → (inputs outputs : List ℕ) (latency : ℕ) → (cycle : ℕ) → Type 0
 IsGoodCycle spec inputs outputs latency cycle =
-    IsGood spec (recent_numbers (inputs_of spec) (take (cycle + 1) inputs)) (output_numbers (outputs_of spec) (slice_index outputs (cycle + latency) ∷ []))
+    IsGood spec (recent_numbers (inputs_of spec) (take (cycle + 1) inputs))
+    (output_numbers (outputs_of spec) (slice_index outputs (cycle + latency) ∷ []))

@@ -8,7 +8,7 @@ use Rattle.opgen_design.specs.declared.design.Driver.{Driver}
 use Rattle.opgen_design.specs.declared.design.Port.{Port}
 use Rattle.opgen_design.specs.declared.design.Signal.{Signal}
 use Rattle.opgen_design.specs.Order.{is_register}
-use Rattle.opgen_design.specs.Names.{refused_words, is_allowed_name}
+use Rattle.opgen_names.specs.Names.{refused_words, is_allowed_name}
 use Rattle.opgen_vhdl.specs.Symbols.{word, mark}
 use Rattle.opgen_vhdl.specs.DesignText.{is_neither, is_output, port_text, entity_text, signal_text, driver_text, drivers_text, architecture_text, text_of}
 use Rattle.opgen_vhdl.specs.Shaped.{IsShaped, IsWritable}
@@ -50,25 +50,33 @@ module _ (d : Design) (allowed : IsTrue (is_allowed_name d.name)) where
   module _ (rest : List ℕ) (q : Reading) where
     head_leads : Leads Ports (in_ports []) rest q
         → Leads Library nothing
-        (codes "library ieee;\nuse ieee.std_logic_1164.all;\nuse ieee.numeric_std.all;\n\nentity " ++ (d.name ++ (codes " is\n  port (\n    clk : in std_logic;" ++ rest))) q
+        (codes "library ieee;\nuse ieee.std_logic_1164.all;\nuse ieee.numeric_std.all;\n\nentity " ++
+        (d.name ++ (codes " is\n  port (\n    clk : in std_logic;" ++ rest))) q
     head_leads l =
         let named = d.name ++ (codes " is\n  port (\n    clk : in std_logic;" ++ rest) in
         let third = codes "\n\nentity " ++ named in
         let second = codes "\nuse ieee.numeric_std.all;" ++ third in
         let first = codes "\nuse ieee.std_logic_1164.all;" ++ second in
-        leads_on Library UseLogic nothing nothing q (codes "library ieee;" ++ first) first (word (codes "library") ∷ word (codes "ieee") ∷ []) refl
-        (λ us m. lexes_found 4 (codes "library ieee;" ++ first) first (word (codes "library") ∷ word (codes "ieee") ∷ end_of_piece) us refl m) library_clause
+        leads_on Library UseLogic nothing nothing q (codes "library ieee;" ++ first) first
+        (word (codes "library") ∷ word (codes "ieee") ∷ []) refl
+        (λ us m. lexes_found 4 (codes "library ieee;" ++ first) first
+        (word (codes "library") ∷ word (codes "ieee") ∷ end_of_piece) us refl m) library_clause
         (leads_on UseLogic UseNumeric nothing nothing q first second
         (word (codes "use") ∷ word (codes "ieee") ∷ mark Dot ∷ word (codes "std_logic_1164") ∷ mark Dot ∷ word (codes "all") ∷ []) refl
-        (λ us m. lexes_found 9 first second (word (codes "use") ∷ word (codes "ieee") ∷ mark Dot ∷ word (codes "std_logic_1164") ∷ mark Dot ∷ word (codes "all") ∷ end_of_piece) us refl m) use_logic
+        (λ us m. lexes_found 9 first second (word (codes "use") ∷ word (codes "ieee") ∷ mark Dot ∷ word
+        (codes "std_logic_1164") ∷ mark Dot ∷ word (codes "all") ∷ end_of_piece) us refl m) use_logic
         (leads_on UseNumeric Entity nothing nothing q second third
         (word (codes "use") ∷ word (codes "ieee") ∷ mark Dot ∷ word (codes "numeric_std") ∷ mark Dot ∷ word (codes "all") ∷ []) refl
-        (λ us m. lexes_found 9 second third (word (codes "use") ∷ word (codes "ieee") ∷ mark Dot ∷ word (codes "numeric_std") ∷ mark Dot ∷ word (codes "all") ∷ end_of_piece) us refl m) use_numeric
+        (λ us m. lexes_found 9 second third (word (codes "use") ∷ word (codes "ieee") ∷ mark Dot ∷ word
+        (codes "numeric_std") ∷ mark Dot ∷ word (codes "all") ∷ end_of_piece) us refl m) use_numeric
         (leads_on Entity Ports nothing (in_ports []) q third rest
-        (word (codes "entity") ∷ word d.name ∷ word (codes "is") ∷ word (codes "port") ∷ mark LeftParen ∷ word (codes "clk") ∷ mark Colon ∷ word (codes "in") ∷ word (codes "std_logic") ∷ []) refl
+        (word (codes "entity") ∷ word d.name ∷ word (codes "is") ∷ word (codes "port") ∷ mark LeftParen ∷ word
+        (codes "clk") ∷ mark Colon ∷ word (codes "in") ∷ word (codes "std_logic") ∷ []) refl
         (λ us m.
         let clock = codes " is\n  port (\n    clk : in std_logic;" ++ rest in
-        let behind = lexes_found 21 clock rest (word (codes "is") ∷ word (codes "port") ∷ mark LeftParen ∷ word (codes "clk") ∷ mark Colon ∷ word (codes "in") ∷ word (codes "std_logic") ∷ end_of_piece) us refl m in
+        let behind =
+        lexes_found 21 clock rest (word (codes "is") ∷ word (codes "port") ∷ mark LeftParen ∷ word
+        (codes "clk") ∷ mark Colon ∷ word (codes "in") ∷ word (codes "std_logic") ∷ end_of_piece) us refl m in
         lexes_found 4 third named (word (codes "entity") ∷ []) _ refl (lexes_name d.name clock allowed refl _ behind))
         (entity allowed) l)))
 
@@ -84,12 +92,15 @@ module _ (d : Design) (allowed : IsTrue (is_allowed_name d.name)) where
     ports_lead p (p2 ∷ ps) done good l =
         let f = all_first PortFits p (p2 ∷ ps) good in
         let behind = flat_map port_text ps ++ (codes "\n  );" ++ rest) in
-        let later = ports_lead p2 ps (done ++ p ∷ []) (all_rest PortFits p (p2 ∷ ps) good) (subst (λ u. Leads EndEntity (in_ports u) rest q) (sym (append_assoc done (p ∷ []) (p2 ∷ ps))) l) in
+        let later = ports_lead p2 ps (done ++ p ∷ []) (all_rest PortFits p (p2 ∷ ps) good)
+        (subst (λ u. Leads EndEntity (in_ports u) rest q) (sym (append_assoc done (p ∷ []) (p2 ∷ ps))) l) in
         let text : flat_map port_text (p2 ∷ ps) ++ (codes "\n  );" ++ rest) ≡ codes ";" ++ (port_behind p2 ++ behind)
         = append_assoc (port_text p2) (flat_map port_text ps) (codes "\n  );" ++ rest) ∙ ap (λ u. u ++ behind) (port_text-behind p2) in
         subst (λ u. Leads Ports (in_ports done) (port_behind p ++ u) q) (sym text)
-        (leads_on Ports Ports (in_ports done) (in_ports (done ++ p ∷ [])) q (port_behind p ++ (codes ";" ++ (port_behind p2 ++ behind))) (port_behind p2 ++ behind) (port_symbols p) refl
-        (λ us m. lexes_port p (codes ";" ++ (port_behind p2 ++ behind)) (mark Semicolon ∷ us) f (lexes_found 1 (codes ";" ++ (port_behind p2 ++ behind)) (port_behind p2 ++ behind) end_of_piece us refl m))
+        (leads_on Ports Ports (in_ports done) (in_ports (done ++ p ∷ [])) q (port_behind p ++ (codes ";" ++ (port_behind p2 ++ behind)))
+        (port_behind p2 ++ behind) (port_symbols p) refl
+        (λ us m. lexes_port p (codes ";" ++ (port_behind p2 ++ behind)) (mark Semicolon ∷ us) f
+        (lexes_found 1 (codes ";" ++ (port_behind p2 ++ behind)) (port_behind p2 ++ behind) end_of_piece us refl m))
         (port (port_is p end_of_piece f)) later)
 
     -- the end of the entity, and the head of the architecture
@@ -98,35 +109,44 @@ module _ (d : Design) (allowed : IsTrue (is_allowed_name d.name)) where
     between_leads l =
         let named = d.name ++ (codes " is\n" ++ rest) in
         let behind = codes "\n\narchitecture rtl of " ++ named in
-        leads_on EndEntity Architecture (in_ports d.ports) (in_ports d.ports) q (codes "\nend entity;" ++ behind) behind (word (codes "end") ∷ word (codes "entity") ∷ []) refl
-        (λ us m. lexes_found 5 (codes "\nend entity;" ++ behind) behind (word (codes "end") ∷ word (codes "entity") ∷ end_of_piece) us refl m) (end_entity of_unit)
+        leads_on EndEntity Architecture (in_ports d.ports) (in_ports d.ports) q (codes "\nend entity;" ++ behind) behind
+        (word (codes "end") ∷ word (codes "entity") ∷ []) refl
+        (λ us m. lexes_found 5 (codes "\nend entity;" ++ behind) behind
+        (word (codes "end") ∷ word (codes "entity") ∷ end_of_piece) us refl m) (end_entity of_unit)
         (leads_behind Architecture Declarations (in_ports d.ports) (in_signals []) q behind rest
         (word (codes "architecture") ∷ word (codes "rtl") ∷ word (codes "of") ∷ word d.name ∷ word (codes "is") ∷ []) refl
         (λ us m. lexes_found 8 behind named (word (codes "architecture") ∷ word (codes "rtl") ∷ word (codes "of") ∷ []) _ refl
-        (lexes_name d.name (codes " is\n" ++ rest) allowed refl _ (lexes_found 3 (codes " is\n" ++ rest) rest (word (codes "is") ∷ []) us refl m)))
+        (lexes_name d.name (codes " is\n" ++ rest) allowed refl _
+        (lexes_found 3 (codes " is\n" ++ rest) rest (word (codes "is") ∷ []) us refl m)))
         (λ ss next after t. architecture rtl_allowed allowed t) l)
 
     begin_leads : Leads Body (in_body d None []) rest q → Leads Declarations (in_signals d.signals) (codes "begin\n" ++ rest) q
     begin_leads l =
-        leads_behind Declarations Body (in_signals d.signals) (in_body d None []) q (codes "begin\n" ++ rest) rest (word (codes "begin") ∷ []) refl
+        leads_behind Declarations Body (in_signals d.signals) (in_body d None []) q (codes "begin\n" ++ rest) rest
+        (word (codes "begin") ∷ []) refl
         (λ us m. lexes_found 2 (codes "begin\n" ++ rest) rest (word (codes "begin") ∷ []) us refl m) (λ ss next after t. begin t) l
 
-    signals_lead : (ss done : List Signal) → All SignalFits ss → Leads Declarations (in_signals (done ++ ss)) rest q → Leads Declarations (in_signals done) (flat_map signal_text ss ++ rest) q
-    signals_lead = each_leads Declarations in_signals signal_text SignalFits Declares signal_written (λ done s ss t. t (in_signals done)) rest q
+    signals_lead : (ss done : List Signal) → All SignalFits ss → Leads Declarations (in_signals (done ++ ss)) rest q
+        → Leads Declarations (in_signals done) (flat_map signal_text ss ++ rest) q
+    signals_lead = each_leads Declarations in_signals signal_text SignalFits Declares signal_written
+        (λ done s ss t. t (in_signals done)) rest q
 
 module _ (d : Design) (p : Port) (ps : List Port) (e : d.ports ≡ p ∷ ps) where
   abbrev statements_text : List ℕ
   statements_text =
       flat_map (driver_text d) (filter is_neither d.drivers)
-      ++ (process_of d (filter is_register d.drivers) ++ (flat_map (driver_text d) (filter is_output d.drivers) ++ codes "end architecture;\n"))
+      ++ (process_of d (filter is_register d.drivers) ++
+      (flat_map (driver_text d) (filter is_output d.drivers) ++ codes "end architecture;\n"))
 
   abbrev behind_ports : List ℕ
-  behind_ports = codes "\nend entity;\n\narchitecture rtl of " ++ (d.name ++ (codes " is\n" ++ (flat_map signal_text d.signals ++ (codes "begin\n" ++ statements_text))))
+  behind_ports =
+      codes "\nend entity;\n\narchitecture rtl of " ++ (d.name ++ (codes " is\n" ++ (flat_map signal_text d.signals ++ (codes "begin\n" ++ statements_text))))
 
   ports_text : flat_map port_text d.ports ≡ codes ";" ++ (port_behind p ++ flat_map port_text ps)
   ports_text = ap (flat_map port_text) e ∙ ap (λ u. u ++ flat_map port_text ps) (port_text-behind p)
 
-  architecture-text : architecture_text d ≡ codes "architecture rtl of " ++ (d.name ++ (codes " is\n" ++ (flat_map signal_text d.signals ++ (codes "begin\n" ++ statements_text))))
+  architecture-text : architecture_text d
+      ≡ codes "architecture rtl of " ++ (d.name ++ (codes " is\n" ++ (flat_map signal_text d.signals ++ (codes "begin\n" ++ statements_text))))
   unfolding architecture_text drivers_text
   architecture-text = rw (sym (process_text-of d)) (simp append_assoc)
 
@@ -142,14 +162,18 @@ module _ (d : Design) (p : Port) (ps : List Port) (e : d.ports ≡ p ∷ ps) whe
       ∙ ap (λ u. codes ";" ++ u) (append_assoc (port_behind p) (flat_map port_text ps) (codes "\n  );" ++ rest))
 
   entity-text : (rest : List ℕ) → entity_text d ++ rest
-      ≡ head_text ++ (d.name ++ (codes " is\n  port (\n    clk : in std_logic" ++ (flat_map port_text d.ports ++ (codes "\n  );\nend entity;\n\n" ++ rest))))
+      ≡ head_text ++
+      (d.name ++ (codes " is\n  port (\n    clk : in std_logic" ++
+      (flat_map port_text d.ports ++ (codes "\n  );\nend entity;\n\n" ++ rest))))
   unfolding entity_text
   entity-text rest = simp append_assoc
 
   whole-text : text_of d ≡ head_text ++ (d.name ++ (codes " is\n  port (\n    clk : in std_logic;" ++ ports_behind behind_ports))
   whole-text =
       entity-text (architecture_text d)
-      ∙ ap (λ u. head_text ++ (d.name ++ (codes " is\n  port (\n    clk : in std_logic" ++ (flat_map port_text d.ports ++ (codes "\n  );\nend entity;\n\n" ++ u))))) architecture-text
+      ∙ ap (λ u. head_text ++
+      (d.name ++ (codes " is\n  port (\n    clk : in std_logic" ++
+      (flat_map port_text d.ports ++ (codes "\n  );\nend entity;\n\n" ++ u))))) architecture-text
       ∙ ap (λ u. head_text ++ (d.name ++ (codes " is\n  port (\n    clk : in std_logic" ++ u))) (listed_ports behind_ports)
 
 first_port : (ps : List Port) → 1 ≤ length ps → (p : Port) × (more : List Port) × (ps ≡ p ∷ more)
@@ -178,9 +202,11 @@ module _ (d : Design) (w : IsWritable d) (shape : IsShaped d) where
   statements_lead : (p : Port) (ps : List Port) (e : d.ports ≡ p ∷ ps) → Leads Body (in_body d None []) (statements_text d p ps e) read_last
   statements_lead p ps e =
       body_leads d found neither registers outputs
-      (kept is_neither (DriverFits d) (λ k. (is_register k ≡ false) × DriverFits d k) (λ k h f. (neither-no_register k h, f)) d.drivers drivers_fit)
+      (kept is_neither (DriverFits d) (λ k. (is_register k ≡ false) × DriverFits d k)
+      (λ k h f. (neither-no_register k h, f)) d.drivers drivers_fit)
       (kept is_register (DriverFits d) (λ k. (is_register k ≡ true) × DriverFits d k) (λ k h f. (h, f)) d.drivers drivers_fit)
-      (kept is_output (DriverFits d) (λ k. (is_register k ≡ false) × DriverFits d k) (λ k h f. (output-no_register k h, f)) d.drivers drivers_fit)
+      (kept is_output (DriverFits d) (λ k. (is_register k ≡ false) × DriverFits d k)
+      (λ k h f. (output-no_register k h, f)) d.drivers drivers_fit)
       (enable_fits d w.sound shape w.names) (λ some. subst IsTrue (some_passes is_register d.drivers) (shape.enabled some))
 
   design_leads : (p : Port) (ps : List Port) (e : d.ports ≡ p ∷ ps) → Leads Library nothing (text_of d) read_last
@@ -190,11 +216,14 @@ module _ (d : Design) (w : IsWritable d) (shape : IsShaped d) where
       let declared = signals_lead d entity _ read_last d.signals [] (all_signals d w.sound shape w.names) begun in
       let between = between_leads d entity _ read_last declared in
       let fits = subst (All PortFits) e (all_ports d w.sound shape w.names) in
-      let listed = ports_lead d entity (behind_ports d p ps e) read_last p ps [] fits (subst (λ u. Leads EndEntity (in_ports d entity u) (behind_ports d p ps e) read_last) e between) in
-      subst (λ u. Leads Library nothing u read_last) (sym (whole-text d p ps e)) (head_leads d entity (ports_behind d p ps e (behind_ports d p ps e)) read_last listed)
+      let listed = ports_lead d entity (behind_ports d p ps e) read_last p ps [] fits
+      (subst (λ u. Leads EndEntity (in_ports d entity u) (behind_ports d p ps e) read_last) e between) in
+      subst (λ u. Leads Library nothing u read_last) (sym (whole-text d p ps e))
+      (head_leads d entity (ports_behind d p ps e (behind_ports d p ps e)) read_last listed)
 
   pub spells : Spells (text_of d) d
   spells =
       let ports = first_port d.ports w.has_port in
-      subst (λ ks. Spells (text_of d) (record { name = d.name; ports = d.ports; signals = d.signals; drivers = ks; enable = d.enable })) (sym shape.in_order)
+      subst (λ ks. Spells (text_of d) (record { name = d.name; ports = d.ports; signals = d.signals; drivers = ks; enable = d.enable }))
+      (sym shape.in_order)
       (leads_spell (text_of d) read_last (design_leads ports.0 ports.1 ports.2) ((bytes_eq-Decides d.name d.name).1 refl))

@@ -6,7 +6,7 @@ use Rattle.std.proofs.lemmas.List.Folds.{list_all-append}
 use Rattle.opgen_design.specs.declared.design.Design.{Design}
 use Rattle.opgen_design.specs.declared.expr.Op.{Op}
 use Rattle.opgen_design.specs.declared.expr.Op.TheVariants as op
-use Rattle.opgen_design.specs.Names.{is_allowed_name}
+use Rattle.opgen_names.specs.Names.{is_allowed_name}
 use Rattle.opgen_design.specs.Tree as tree
 use Rattle.opgen_design.specs.Tree.{Tree, Trees}
 use Rattle.opgen_num.specs.declared.TheConstants.{MAX_WIDTH}
@@ -35,8 +35,14 @@ pub record Writes (R : List Symbol → List Symbol → Type 0) (text : List ℕ)
   pub lexes : (rest : List ℕ) (ks : List Symbol) → begins is_word_byte rest ≡ false → Lexes rest ks → Lexes (text ++ rest) (symbols ++ ks)
   pub reads : (ks : List Symbol) → R (symbols ++ ks) ks
 
-pub written_as : (R Q : List Symbol → List Symbol → Type 0) (text : List ℕ) → ((ss ks : List Symbol) → R ss ks → Q ss ks) → Writes R text → Writes Q text
-written_as R Q text f w = record { symbols = w.symbols; within_piece = w.within_piece; lexes = w.lexes; reads = λ ks. f (w.symbols ++ ks) ks (w.reads ks) }
+pub written_as : (R Q : List Symbol → List Symbol → Type 0) (text : List ℕ) → ((ss ks : List Symbol) → R ss ks → Q ss ks) → Writes R text
+    → Writes Q text
+written_as R Q text f w = record {
+  symbols = w.symbols;
+  within_piece = w.within_piece;
+  lexes = w.lexes;
+  reads = λ ks. f (w.symbols ++ ks) ks (w.reads ks);
+}
 
 -- the name is allowed, and stands first at the place
 pub record IsFound (names : List (List ℕ)) (n : List ℕ) (place : ℕ) : Type 0 where
@@ -108,7 +114,8 @@ module _ (d : Design) (found : AreFound d) where
         reads = λ ks. subst (λ k. IsSignalPart (names_of d) (tree.name k) (word n ∷ ks) ks) f.first (whole f.allowed);
       }
 
-  part_written : (s high low : ℕ) → s < length d.signals → high < MAX_WIDTH → low < MAX_WIDTH → Writes (IsSignalPart (names_of d) (tree.part s high low)) (signal_name d s ++ range_text high low)
+  part_written : (s high low : ℕ) → s < length d.signals → high < MAX_WIDTH → low < MAX_WIDTH
+      → Writes (IsSignalPart (names_of d) (tree.part s high low)) (signal_name d s ++ range_text high low)
   part_written s high low h i j =
       let n = signal_name d s in
       let f = found.signals s h in
@@ -121,7 +128,8 @@ module _ (d : Design) (found : AreFound d) where
             rw (append_assoc n (range_text high low) rest)
             (lexes_name n (range_text high low ++ rest) f.allowed (range-begins high low rest) _ (lexes_range high low rest ks i j l));
         reads = λ ks. subst
-            (λ t. IsSignalPart (names_of d) t (word n ∷ mark LeftParen ∷ number (decimal high) ∷ word (codes "downto") ∷ number (decimal low) ∷ mark RightParen ∷ ks) ks)
+            (λ t. IsSignalPart (names_of d) t (word n ∷ mark LeftParen ∷ number (decimal high) ∷ word (codes "downto") ∷ number
+            (decimal low) ∷ mark RightParen ∷ ks) ks)
             (same_part _ _ _ _ _ _ f.first v u)
             (slice f.allowed (omega (arith, v, i)) (omega (arith, u, j)));
       }
@@ -134,7 +142,8 @@ module _ (d : Design) (found : AreFound d) where
     reads = λ ks. literal;
   }
 
-  input_written : (depth p : ℕ) → p < length d.ports → Writes (IsPrimary (names_of d) depth (tree.port p)) (codes "unsigned(" ++ port_name d p ++ codes ")")
+  input_written : (depth p : ℕ) → p < length d.ports → Writes (IsPrimary (names_of d) depth (tree.port p))
+      (codes "unsigned(" ++ port_name d p ++ codes ")")
   input_written depth p h =
       let n = port_name d p in
       let f = found.ports p h in
@@ -144,9 +153,12 @@ module _ (d : Design) (found : AreFound d) where
         lexes = λ rest ks stops l.
             let closed = lexes_found 1 (codes ")" ++ rest) rest (mark RightParen ∷ []) ks refl l in
             let named = lexes_name n (codes ")" ++ rest) f.allowed refl _ closed in
-            let text : (codes "unsigned(" ++ n ++ codes ")") ++ rest ≡ codes "unsigned(" ++ (n ++ (codes ")" ++ rest)) = simp append_assoc in
-            rw text (lexes_found 2 (codes "unsigned(" ++ (n ++ (codes ")" ++ rest))) (n ++ (codes ")" ++ rest)) (word (codes "unsigned") ∷ mark LeftParen ∷ []) _ refl named);
-        reads = λ ks. subst (λ k. IsPrimary (names_of d) depth (tree.port k) (word (codes "unsigned") ∷ mark LeftParen ∷ word n ∷ mark RightParen ∷ ks) ks) f.first (input f.allowed);
+            let text : (codes "unsigned(" ++ n ++ codes ")") ++ rest ≡ codes "unsigned(" ++ (n ++ (codes ")" ++ rest)) =
+            simp append_assoc in
+            rw text (lexes_found 2 (codes "unsigned(" ++ (n ++ (codes ")" ++ rest))) (n ++ (codes ")" ++ rest))
+            (word (codes "unsigned") ∷ mark LeftParen ∷ []) _ refl named);
+        reads = λ ks. subst (λ k. IsPrimary (names_of d) depth (tree.port k)
+            (word (codes "unsigned") ∷ mark LeftParen ∷ word n ∷ mark RightParen ∷ ks) ks) f.first (input f.allowed);
       }
 
   -- a signal or a part of one
@@ -167,7 +179,8 @@ module _ (d : Design) (found : AreFound d) where
   primary_written depth (tree.inverse t) h f = absurd (omega (arith, h))
   primary_written depth (tree.chain o ts) h f = absurd (omega (arith, h))
 
-  group_written : (depth : ℕ) (t : Tree) (text : List ℕ) → Writes (IsExpression (names_of d) depth t) text → Writes (IsPrimary (names_of d) (suc depth) t) (codes "(" ++ text ++ codes ")")
+  group_written : (depth : ℕ) (t : Tree) (text : List ℕ) → Writes (IsExpression (names_of d) depth t) text
+      → Writes (IsPrimary (names_of d) (suc depth) t) (codes "(" ++ text ++ codes ")")
   group_written depth t text w = record {
     symbols = mark LeftParen ∷ (w.symbols ++ mark RightParen ∷ []);
     within_piece = within-append w.symbols (mark RightParen ∷ []) w.within_piece refl;
@@ -175,46 +188,59 @@ module _ (d : Design) (found : AreFound d) where
         let closed = lexes_found 1 (codes ")" ++ rest) rest (mark RightParen ∷ []) ks refl l in
         let inner = w.lexes (codes ")" ++ rest) (mark RightParen ∷ ks) refl closed in
         rw (append_assoc text (codes ")") rest, append_assoc w.symbols (mark RightParen ∷ []) ks)
-        (lexes_found 1 (codes "(" ++ (text ++ (codes ")" ++ rest))) (text ++ (codes ")" ++ rest)) (mark LeftParen ∷ []) (w.symbols ++ mark RightParen ∷ ks) refl inner);
+        (lexes_found 1 (codes "(" ++ (text ++ (codes ")" ++ rest))) (text ++ (codes ")" ++ rest)) (mark LeftParen ∷ [])
+        (w.symbols ++ mark RightParen ∷ ks) refl inner);
     reads = λ ks. group (rw (append_assoc w.symbols (mark RightParen ∷ []) ks) (w.reads (mark RightParen ∷ ks)));
   }
 
-  not_written : (depth : ℕ) (t : Tree) (text : List ℕ) → Writes (IsPrimary (names_of d) depth t) text → Writes (IsFactor (names_of d) depth (tree.inverse t)) (codes "not " ++ text)
+  not_written : (depth : ℕ) (t : Tree) (text : List ℕ) → Writes (IsPrimary (names_of d) depth t) text
+      → Writes (IsFactor (names_of d) depth (tree.inverse t)) (codes "not " ++ text)
   not_written depth t text w = record {
     symbols = word (codes "not") ∷ w.symbols;
     within_piece = w.within_piece;
-    lexes = λ rest ks stops l. lexes_found 2 (codes "not " ++ (text ++ rest)) (text ++ rest) (word (codes "not") ∷ []) (w.symbols ++ ks) refl (w.lexes rest ks stops l);
+    lexes = λ rest ks stops l. lexes_found 2 (codes "not " ++ (text ++ rest)) (text ++ rest) (word (codes "not") ∷ [])
+        (w.symbols ++ ks) refl (w.lexes rest ks stops l);
     reads = λ ks. opposite (w.reads ks);
   }
 
-  further-begins : (o : Op) (ts : Trees) (rest : List ℕ) → begins is_word_byte rest ≡ false → begins is_word_byte (further_text d o ts ++ rest) ≡ false
+  further-begins : (o : Op) (ts : Trees) (rest : List ℕ) → begins is_word_byte rest ≡ false
+      → begins is_word_byte (further_text d o ts ++ rest) ≡ false
   further-begins o tree.none rest h = h
   further-begins o (tree.more t ts) rest h =
-      subst (λ u. begins is_word_byte u ≡ false) (sym (regroup (operator_text o) (within (in_chain t) (expression_text d t)) (further_text d o ts) rest)) (operator-begins o _)
+      subst (λ u. begins is_word_byte u ≡ false)
+      (sym (regroup (operator_text o) (within (in_chain t) (expression_text d t)) (further_text d o ts) rest)) (operator-begins o _)
 
   -- the first operand, and those behind it
-  operands_lex : (depth : ℕ) (o : Op) (t : Tree) (ts : Trees) (text rest : List ℕ) (ks : List Symbol) (first : Writes (IsFactor (names_of d) depth t) text)
+  operands_lex : (depth : ℕ) (o : Op) (t : Tree) (ts : Trees) (text rest : List ℕ) (ks : List Symbol)
+      (first : Writes (IsFactor (names_of d) depth t) text)
       (others : Writes (AreOperands (names_of d) depth o ts) (further_text d o ts)) → begins is_word_byte rest ≡ false → Lexes rest ks
       → Lexes (text ++ (further_text d o ts ++ rest)) (first.symbols ++ (others.symbols ++ ks))
-  operands_lex depth o t ts text rest ks first others stops l = first.lexes (further_text d o ts ++ rest) (others.symbols ++ ks) (further-begins o ts rest stops) (others.lexes rest ks stops l)
+  operands_lex depth o t ts text rest ks first others stops l =
+      first.lexes (further_text d o ts ++ rest) (others.symbols ++ ks) (further-begins o ts rest stops) (others.lexes rest ks stops l)
 
-  next_written : (depth : ℕ) (o : Op) (t : Tree) (ts : Trees) → Writes (IsFactor (names_of d) depth t) (within (in_chain t) (expression_text d t))
-      → Writes (AreOperands (names_of d) depth o ts) (further_text d o ts) → Writes (AreOperands (names_of d) depth o (tree.more t ts)) (further_text d o (tree.more t ts))
+  next_written : (depth : ℕ) (o : Op) (t : Tree) (ts : Trees)
+      → Writes (IsFactor (names_of d) depth t) (within (in_chain t) (expression_text d t))
+      → Writes (AreOperands (names_of d) depth o ts) (further_text d o ts)
+      → Writes (AreOperands (names_of d) depth o (tree.more t ts)) (further_text d o (tree.more t ts))
   next_written depth o t ts first others =
       let text = within (in_chain t) (expression_text d t) in
       record {
         symbols = operator o ∷ (first.symbols ++ others.symbols);
-        within_piece = operator-within o (first.symbols ++ others.symbols) (within-append first.symbols others.symbols first.within_piece others.within_piece);
+        within_piece = operator-within o (first.symbols ++ others.symbols)
+            (within-append first.symbols others.symbols first.within_piece others.within_piece);
         lexes = λ rest ks stops l.
             let found = lexes_operator o _ _ (operands_lex depth o t ts text rest ks first others stops l) in
-            subst (λ u. Lexes u (operator o ∷ ((first.symbols ++ others.symbols) ++ ks))) (sym (regroup (operator_text o) text (further_text d o ts) rest))
+            subst (λ u. Lexes u (operator o ∷ ((first.symbols ++ others.symbols) ++ ks)))
+            (sym (regroup (operator_text o) text (further_text d o ts) rest))
             (rw (append_assoc first.symbols others.symbols ks) found);
         reads = λ ks. next (rw (append_assoc first.symbols others.symbols ks) (first.reads (others.symbols ++ ks))) (others.reads ks);
       }
 
-  several_written : (depth : ℕ) (o : Op) (t u : Tree) (ts : Trees) → Writes (IsFactor (names_of d) depth t) (within (in_chain t) (expression_text d t))
+  several_written : (depth : ℕ) (o : Op) (t u : Tree) (ts : Trees)
+      → Writes (IsFactor (names_of d) depth t) (within (in_chain t) (expression_text d t))
       → Writes (AreOperands (names_of d) depth o (tree.more u ts)) (further_text d o (tree.more u ts))
-      → Writes (IsExpression (names_of d) depth (tree.chain o (tree.more t (tree.more u ts)))) (expression_text d (tree.chain o (tree.more t (tree.more u ts))))
+      → Writes (IsExpression (names_of d) depth (tree.chain o (tree.more t (tree.more u ts))))
+      (expression_text d (tree.chain o (tree.more t (tree.more u ts))))
   several_written depth o t u ts first others =
       let text = within (in_chain t) (expression_text d t) in
       record {
@@ -228,34 +254,43 @@ module _ (d : Design) (found : AreFound d) where
 
   mutual
     -- an expression that fits, and whose parentheses nest at most so deep
-    pub expression_written : (t : Tree) (depth : ℕ) → Fits d t → nesting t ≤ depth → Writes (IsExpression (names_of d) depth t) (expression_text d t)
+    pub expression_written : (t : Tree) (depth : ℕ) → Fits d t → nesting t ≤ depth
+        → Writes (IsExpression (names_of d) depth t) (expression_text d t)
     expression_written (tree.name s) depth f h = written_as _ _ _ (λ ss ks i. single (plain i)) (primary_written depth (tree.name s) refl f)
-    expression_written (tree.part s high low) depth f h = written_as _ _ _ (λ ss ks i. single (plain i)) (primary_written depth (tree.part s high low) refl f)
+    expression_written (tree.part s high low) depth f h =
+        written_as _ _ _ (λ ss ks i. single (plain i)) (primary_written depth (tree.part s high low) refl f)
     expression_written (tree.bits w) depth f h = written_as _ _ _ (λ ss ks i. single (plain i)) (primary_written depth (tree.bits w) refl f)
     expression_written (tree.port p) depth f h = written_as _ _ _ (λ ss ks i. single (plain i)) (primary_written depth (tree.port p) refl f)
-    expression_written (tree.inverse t) depth f h = written_as _ _ _ (λ ss ks i. single i) (not_written depth t _ (after_not_written t depth f h))
+    expression_written (tree.inverse t) depth f h =
+        written_as _ _ _ (λ ss ks i. single i) (not_written depth t _ (after_not_written t depth f h))
     expression_written (tree.chain o ts) depth f h = chain_written o ts depth f.0 f.1 h
 
-    after_not_written : (t : Tree) (depth : ℕ) → Fits d t → in_not t + nesting t ≤ depth → Writes (IsPrimary (names_of d) depth t) (within (in_not t) (expression_text d t))
+    after_not_written : (t : Tree) (depth : ℕ) → Fits d t → in_not t + nesting t ≤ depth
+        → Writes (IsPrimary (names_of d) depth t) (within (in_not t) (expression_text d t))
     after_not_written (tree.name s) depth f h = primary_written depth (tree.name s) refl f
     after_not_written (tree.part s high low) depth f h = primary_written depth (tree.part s high low) refl f
     after_not_written (tree.bits w) depth f h = primary_written depth (tree.bits w) refl f
     after_not_written (tree.port p) depth f h = primary_written depth (tree.port p) refl f
     after_not_written (tree.inverse t) zero f h = absurd (omega (arith, h))
     after_not_written (tree.inverse t) (suc depth) f h =
-        group_written depth (tree.inverse t) _ (written_as _ _ _ (λ ss ks i. single i) (not_written depth t _ (after_not_written t depth f (omega (arith, h)))))
+        group_written depth (tree.inverse t) _ (written_as _ _ _ (λ ss ks i. single i)
+        (not_written depth t _ (after_not_written t depth f (omega (arith, h)))))
     after_not_written (tree.chain o ts) zero f h = absurd (omega (arith, h))
-    after_not_written (tree.chain o ts) (suc depth) f h = group_written depth (tree.chain o ts) _ (chain_written o ts depth f.0 f.1 (omega (arith, h)))
+    after_not_written (tree.chain o ts) (suc depth) f h =
+        group_written depth (tree.chain o ts) _ (chain_written o ts depth f.0 f.1 (omega (arith, h)))
 
-    operand_written : (t : Tree) (depth : ℕ) → Fits d t → in_chain t + nesting t ≤ depth → Writes (IsFactor (names_of d) depth t) (within (in_chain t) (expression_text d t))
+    operand_written : (t : Tree) (depth : ℕ) → Fits d t → in_chain t + nesting t ≤ depth
+        → Writes (IsFactor (names_of d) depth t) (within (in_chain t) (expression_text d t))
     operand_written (tree.name s) depth f h = written_as _ _ _ (λ ss ks i. plain i) (primary_written depth (tree.name s) refl f)
-    operand_written (tree.part s high low) depth f h = written_as _ _ _ (λ ss ks i. plain i) (primary_written depth (tree.part s high low) refl f)
+    operand_written (tree.part s high low) depth f h =
+        written_as _ _ _ (λ ss ks i. plain i) (primary_written depth (tree.part s high low) refl f)
     operand_written (tree.bits w) depth f h = written_as _ _ _ (λ ss ks i. plain i) (primary_written depth (tree.bits w) refl f)
     operand_written (tree.port p) depth f h = written_as _ _ _ (λ ss ks i. plain i) (primary_written depth (tree.port p) refl f)
     operand_written (tree.inverse t) depth f h = not_written depth t _ (after_not_written t depth f (omega (arith, h)))
     operand_written (tree.chain o ts) zero f h = absurd (omega (arith, h))
     operand_written (tree.chain o ts) (suc depth) f h =
-        written_as _ _ _ (λ ss ks i. plain i) (group_written depth (tree.chain o ts) _ (chain_written o ts depth f.0 f.1 (omega (arith, h))))
+        written_as _ _ _ (λ ss ks i. plain i) (group_written depth (tree.chain o ts) _
+        (chain_written o ts depth f.0 f.1 (omega (arith, h))))
 
     chain_written : (o : Op) (ts : Trees) (depth : ℕ) → AreTwoOrMore ts → FitAll d ts → operands_nesting ts ≤ depth
         → Writes (IsExpression (names_of d) depth (tree.chain o ts)) (expression_text d (tree.chain o ts))
@@ -265,6 +300,8 @@ module _ (d : Design) (found : AreFound d) where
         several_written depth o t u ts (operand_written t depth f.0 (omega (arith, h)))
         (next_written depth o u ts (operand_written u depth f.1.0 (omega (arith, h))) (further_written o ts depth f.1.1 (omega (arith, h))))
 
-    further_written : (o : Op) (ts : Trees) (depth : ℕ) → FitAll d ts → operands_nesting ts ≤ depth → Writes (AreOperands (names_of d) depth o ts) (further_text d o ts)
+    further_written : (o : Op) (ts : Trees) (depth : ℕ) → FitAll d ts → operands_nesting ts ≤ depth
+        → Writes (AreOperands (names_of d) depth o ts) (further_text d o ts)
     further_written o tree.none depth f h = record { symbols = []; within_piece = refl; lexes = λ rest ks stops l. l; reads = λ ks. done }
-    further_written o (tree.more t ts) depth f h = next_written depth o t ts (operand_written t depth f.0 (omega (arith, h))) (further_written o ts depth f.1 (omega (arith, h)))
+    further_written o (tree.more t ts) depth f h =
+        next_written depth o t ts (operand_written t depth f.0 (omega (arith, h))) (further_written o ts depth f.1 (omega (arith, h)))

@@ -19,7 +19,8 @@ module _ (d : Design) (short : (s w : ℕ) → slice_get (signal_widths d) s ≡
         → width (signal_widths d) (port_widths d) t ≡ Some w → Fits d t
     fits (tree.name s) w r c h = r
     fits (tree.part s high low) w r c h =
-        let a = some_before (slice_get (signal_widths d) s) (λ v. if nat_le low high && nat_lt high v then as_width (high + 1 - low) else None) w h in
+        let a = some_before (slice_get (signal_widths d) s) (λ v. if nat_le low high && nat_lt high v then as_width (high + 1 - low)
+        else None) w h in
         let p = part_fits high low a.0 w a.2 in
         let most = short s a.0 a.1 in
         (r, omega (arith, p.within, most), omega (arith, p.in_order, p.within, most))
@@ -35,13 +36,16 @@ module _ (d : Design) (short : (s w : ℕ) → slice_get (signal_widths d) s ≡
     fit_chain o tree.none w r c h = absurd cc
     fit_chain o (tree.more t tree.none) w r c h = absurd cc
     fit_chain o (tree.more t (tree.more u ts)) w r c h =
-        let a = some_before (width (signal_widths d) (port_widths d) t) (λ x. width_on (signal_widths d) (port_widths d) o x (tree.more u ts)) w h in
+        let a = some_before (width (signal_widths d) (port_widths d) t)
+        (λ x. width_on (signal_widths d) (port_widths d) o x (tree.more u ts)) w h in
         (fits t a.0 r.0 c.0 a.1, fit_on o a.0 (tree.more u ts) w r.1 c.1 a.2)
 
-    fit_on : (o : Op) (x : ℕ) (ts : Trees) (w : ℕ) → AllOperandsRead (λ s. s < length d.signals) (λ p. p < length d.ports) ts → HaveFullChains ts
+    fit_on : (o : Op) (x : ℕ) (ts : Trees) (w : ℕ) → AllOperandsRead (λ s. s < length d.signals) (λ p. p < length d.ports) ts
+        → HaveFullChains ts
         → width_on (signal_widths d) (port_widths d) o x ts ≡ Some w → FitAll d ts
     fit_on o x tree.none w r c h = tt
     fit_on o x (tree.more t ts) w r c h =
-        let a = some_before (width (signal_widths d) (port_widths d) t) (λ v. option_and_then (λ u. width_on (signal_widths d) (port_widths d) o u ts) (joined o x v)) w h in
+        let a = some_before (width (signal_widths d) (port_widths d) t)
+        (λ v. option_and_then (λ u. width_on (signal_widths d) (port_widths d) o u ts) (joined o x v)) w h in
         let b = some_before (joined o x a.0) (λ u. width_on (signal_widths d) (port_widths d) o u ts) w a.2 in
         (fits t a.0 r.0 c.0 a.1, fit_on o b.0 ts w r.1 c.1 b.2)

@@ -18,7 +18,8 @@ not_true true h = sym h
 not_true false h = refl
 
 -- symbols that end no piece stand in front of the first piece
-pieces-within : (ss ks first : List Symbol) (more : List (List Symbol)) → AreWithin ss → pieces ks ≡ first ∷ more → pieces (ss ++ ks) ≡ (ss ++ first) ∷ more
+pieces-within : (ss ks first : List Symbol) (more : List (List Symbol)) → AreWithin ss → pieces ks ≡ first ∷ more
+    → pieces (ss ++ ks) ≡ (ss ++ first) ∷ more
 pieces-within [] ks first more h e = e
 pieces-within (s ∷ ss) ks first more h e =
     let (here, later) = and_parts (not (is_semicolon s)) (list_all (λ s. not (is_semicolon s)) ss) h in
@@ -38,7 +39,8 @@ pub record Leads (p : Place) (r : Reading) (bytes : List ℕ) (q : Reading) : Ty
 
 module _ (p p2 : Place) (r r2 q : Reading) where
   -- a piece, and what leads on behind it
-  pub leads_on : (bytes rest : List ℕ) (piece : List Symbol) → AreWithin piece → ((ks : List Symbol) → Lexes rest ks → Lexes bytes (piece ++ mark Semicolon ∷ ks))
+  pub leads_on : (bytes rest : List ℕ) (piece : List Symbol) → AreWithin piece
+      → ((ks : List Symbol) → Lexes rest ks → Lexes bytes (piece ++ mark Semicolon ∷ ks))
       → Takes p r (piece ++ end_of_piece) p2 r2 → Leads p2 r2 rest q → Leads p r bytes q
   leads_on bytes rest piece within lexes takes l = record {
     symbols = piece ++ mark Semicolon ∷ l.symbols;
@@ -52,12 +54,15 @@ module _ (p p2 : Place) (r r2 q : Reading) where
     follows = subst (λ u. Follows p2 r2 u End q) (sym l.cut) (onward l.takes l.follows);
   }
 
-  pub leads_piece : (P : List Symbol → Type 0) (text rest : List ℕ) → WritesPiece P text → ((ss : List Symbol) → P ss → Takes p r ss p2 r2) → Leads p2 r2 rest q → Leads p r (text ++ rest) q
+  pub leads_piece : (P : List Symbol → Type 0) (text rest : List ℕ) → WritesPiece P text
+      → ((ss : List Symbol) → P ss → Takes p r ss p2 r2) → Leads p2 r2 rest q → Leads p r (text ++ rest) q
   leads_piece P text rest w takes l = leads_on (text ++ rest) rest w.symbols w.within_piece (λ ks m. w.lexes rest ks m) (takes _ w.says) l
 
   -- symbols within a piece, behind which another place leads on
-  pub leads_behind : (bytes rest : List ℕ) (head : List Symbol) → AreWithin head → ((ks : List Symbol) → Lexes rest ks → Lexes bytes (head ++ ks))
-      → ((ss : List Symbol) (next : Place) (after : Reading) → Takes p2 r2 ss next after → Takes p r (head ++ ss) next after) → Leads p2 r2 rest q → Leads p r bytes q
+  pub leads_behind : (bytes rest : List ℕ) (head : List Symbol) → AreWithin head
+      → ((ks : List Symbol) → Lexes rest ks → Lexes bytes (head ++ ks))
+      → ((ss : List Symbol) (next : Place) (after : Reading) → Takes p2 r2 ss next after → Takes p r (head ++ ss) next after)
+      → Leads p2 r2 rest q → Leads p r bytes q
   leads_behind bytes rest head within lexes takes l = record {
     symbols = head ++ l.symbols;
     lexes = lexes l.symbols l.lexes;
@@ -71,7 +76,8 @@ module _ (p p2 : Place) (r r2 q : Reading) where
   }
 
 -- the last piece
-pub leads_last : (p : Place) (r q : Reading) (bytes : List ℕ) (piece : List Symbol) → AreWithin piece → Lexes bytes (piece ++ end_of_piece) → Takes p r (piece ++ end_of_piece) End q → Leads p r bytes q
+pub leads_last : (p : Place) (r q : Reading) (bytes : List ℕ) (piece : List Symbol) → AreWithin piece
+    → Lexes bytes (piece ++ end_of_piece) → Takes p r (piece ++ end_of_piece) End q → Leads p r bytes q
 leads_last p r q bytes piece within lexes takes = record {
   symbols = piece ++ end_of_piece;
   lexes = lexes;
@@ -95,12 +101,15 @@ module _ {X : Type 0} (p : Place) (state : List X → Reading) (text : X → Lis
     (written : (x : X) → Good x → WritesPiece (P x) (text x))
     (takes : (done : List X) (x : X) (ss : List Symbol) → P x ss → Takes p (state done) ss p (state (done ++ x ∷ [])))
     (rest : List ℕ) (q : Reading) where
-  pub each_leads : (xs done : List X) → All Good xs → Leads p (state (done ++ xs)) rest q → Leads p (state done) (flat_map text xs ++ rest) q
+  pub each_leads : (xs done : List X) → All Good xs → Leads p (state (done ++ xs)) rest q
+      → Leads p (state done) (flat_map text xs ++ rest) q
   each_leads [] done good l = rw (append-nil done) at l
   each_leads (x ∷ xs) done good l =
-      let later = each_leads xs (done ++ x ∷ []) (all_rest Good x xs good) (subst (λ u. Leads p (state u) rest q) (sym (append_assoc done (x ∷ []) xs)) l) in
+      let later = each_leads xs (done ++ x ∷ []) (all_rest Good x xs good)
+      (subst (λ u. Leads p (state u) rest q) (sym (append_assoc done (x ∷ []) xs)) l) in
       subst (λ u. Leads p (state done) u q) (sym (append_assoc (text x) (flat_map text xs) rest))
-      (leads_piece p p (state done) (state (done ++ x ∷ [])) q (P x) (text x) (flat_map text xs ++ rest) (written x (all_first Good x xs good)) (takes done x) later)
+      (leads_piece p p (state done) (state (done ++ x ∷ [])) q (P x) (text x) (flat_map text xs ++ rest)
+      (written x (all_first Good x xs good)) (takes done x) later)
 
 -- what leads from the first place to the end spells the design that was read
 pub leads_spell : (bytes : List ℕ) (q : Reading) → Leads Library nothing bytes q → q.agrees ≡ true → Spells bytes q.design

@@ -25,4 +25,10 @@ text-parts d = simp append_assoc
 pub signals-fewer : (d : Design) → length d.signals ≤ length (text_of d)
 signals-fewer d =
     let signals = flat_map signal_text d.signals in
-    omega (arith, ap length (text-parts d), length-append (before d) (signals ++ behind d), length-append signals (behind d), signals-short d.signals)
+    omega (
+      arith,
+      ap length (text-parts d),
+      length-append (before d) (signals ++ behind d),
+      length-append signals (behind d),
+      signals-short d.signals,
+    )

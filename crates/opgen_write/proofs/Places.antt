@@ -11,7 +11,7 @@ use Rattle.opgen_design.specs.declared.design.Design.{Design}
 use Rattle.opgen_design.specs.declared.design.Dir.TheVariants.{In}
 use Rattle.opgen_design.specs.declared.design.Port.{Port}
 use Rattle.opgen_design.specs.declared.design.Signal.{Signal}
-use Rattle.opgen_design.specs.Names.{is_allowed_name}
+use Rattle.opgen_names.specs.Names.{is_allowed_name}
 use Rattle.opgen_design.specs.Sound as sound
 use Rattle.opgen_design.specs.Sound.{IsSound, IsNewName, DeclaredTwice, SignalPasses, PortPasses, at_port, at_signal}
 use Rattle.opgen_vhdl.specs.ExpressionText.{signal_name, port_name}
@@ -27,9 +27,11 @@ differs a b h = elim (cases_Bool (bytes_eq a b)) [
 ]
 
 -- a name that stands nowhere before its place is found there
-place-is : (names : List (List ℕ)) (n : List ℕ) (i : ℕ) → i < length names → get_or names i [] ≡ n → ((k : ℕ) → k < i → get_or names k [] ≢ n) → place_of names n ≡ i
+place-is : (names : List (List ℕ)) (n : List ℕ) (i : ℕ) → i < length names → get_or names i [] ≡ n
+    → ((k : ℕ) → k < i → get_or names k [] ≢ n) → place_of names n ≡ i
 place-is names n i h at before =
-    position_or_len_is (bytes_eq n) names i [] (omega (arith, h)) (λ k b. differs n (get_or names k []) (before k b)) (λ _. (bytes_eq-Decides n (get_or names i [])).1 (sym at))
+    position_or_len_is (bytes_eq n) names i [] (omega (arith, h)) (λ k b. differs n (get_or names k []) (before k b))
+    (λ _. (bytes_eq-Decides n (get_or names i [])).1 (sym at))
 
 pub no_signal : Signal
 no_signal = record { name = []; width = 0; initial = None }
@@ -62,7 +64,8 @@ module _ (d : Design) (s : IsSound d) (allowed : HasAllowedNames d) where
   signal_found i h = record {
     allowed = subst (λ n. IsTrue (is_allowed_name n)) (signal_name-here i h) (allowed.signals i no_signal h);
     first = place-is (names_of d).signals (signal_name d i) i (omega (arith, h, length-map d.signals (λ q. q.name))) (named_signal i h)
-        (λ k b e. (new_signal i h).not_before (length d.ports + k) (omega (arith, b)) (declared_signal k ∙ e ∙ sym (declared_signal i ∙ named_signal i h)));
+        (λ k b e. (new_signal i h).not_before (length d.ports + k) (omega (arith, b)) (declared_signal k ∙ e
+        ∙ sym (declared_signal i ∙ named_signal i h)));
   }
 
   abbrev port_here : ℕ → Port
@@ -78,7 +81,8 @@ module _ (d : Design) (s : IsSound d) (allowed : HasAllowedNames d) where
   new_port i h = subst (λ o. IfSome o (PortPasses d DeclaredTwice i)) (port_got i h) (s.declared_once (at_port i))
 
   declared_port : (k : ℕ) → k < length d.ports → get_or (sound.names_of d) k [] ≡ get_or (names_of d).ports k []
-  declared_port k h = get_or-append (map (λ p. p.name) d.ports) (map (λ q. q.name) d.signals) [] k (omega (arith, h, length-map d.ports (λ p. p.name)))
+  declared_port k h = get_or-append (map (λ p. p.name) d.ports) (map (λ q. q.name) d.signals) [] k
+      (omega (arith, h, length-map d.ports (λ p. p.name)))
 
   named_port : (i : ℕ) → i < length d.ports → get_or (names_of d).ports i [] ≡ port_name d i
   named_port i h = get_or-map (λ p. p.name) d.ports i no_port [] h ∙ port_name-here i h

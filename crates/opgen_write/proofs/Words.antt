@@ -11,7 +11,7 @@ use Rattle.std.proofs.lemmas.List.Elements.{filter-append}
 use Rattle.std.proofs.lemmas.List.Folds.{list_all-append}
 use Rattle.std.proofs.lemmas.List.Sums.{AllPass-from_list_all}
 use Rattle.opgen_num.specs.declared.TheConstants.{MAX_WIDTH}
-use Rattle.opgen_design.specs.Names.{is_allowed_name, is_name_byte, is_identifier, is_refused, starts_with_letter, has_single_underscores}
+use Rattle.opgen_names.specs.Names.{is_allowed_name, is_name_byte, is_identifier, is_refused, starts_with_letter, has_single_underscores}
 use Rattle.opgen_design.specs.Width.{IsWidth}
 use Rattle.opgen_vhdl.specs.Bytes.{is_word_byte, is_bit, begins}
 use Rattle.opgen_vhdl.specs.Tokens.{IsWord, IsBits}
@@ -81,10 +81,18 @@ module _ (n rest : List ℕ) (allowed : IsTrue (is_allowed_name n)) (stops : beg
   lexes_name ks l = subst (λ u. Lexes (n ++ rest) (word u ∷ ks)) (name_lowercase n bytes) (lexes_token Word n rest ks name_is_word l)
 
 -- a word in lower case, before a rest that begins with no word byte
-pub lexes_keyword : (n rest : List ℕ) (ks : List Symbol) → begins is_ascii_alphabetic n ≡ true → list_all is_word_byte n ≡ true → has_single_underscores n ≡ true → nat_le (length n) 64 ≡ true
+pub lexes_keyword : (n rest : List ℕ) (ks : List Symbol) → begins is_ascii_alphabetic n ≡ true → list_all is_word_byte n ≡ true
+    → has_single_underscores n ≡ true → nat_le (length n) 64 ≡ true
     → map to_ascii_lowercase n ≡ n → begins is_word_byte rest ≡ false → Lexes rest ks → Lexes (n ++ rest) (word n ∷ ks)
 lexes_keyword n rest ks letter bytes single short lowercase stops l =
-    let is_word : IsWord n rest = record { letter = letter; bytes = AllPass-from_list_all is_word_byte n bytes; single = single; short = below (length n) 64 short; stops = stops } in
+    let is_word : IsWord n rest =
+    record {
+      letter = letter;
+      bytes = AllPass-from_list_all is_word_byte n bytes;
+      single = single;
+      short = below (length n) 64 short;
+      stops = stops;
+    } in
     subst (λ u. Lexes (n ++ rest) (word u ∷ ks)) lowercase (lexes_token Word n rest ks is_word l)
 
 -- numbers
@@ -100,7 +108,8 @@ digits (c ∷ cs) h = rw (digit c h.0, digits cs h.1) refl
 pub value_of-decimal : (n : ℕ) → n < MAX_WIDTH → value (decimal n) ≡ n
 value_of-decimal n h = (decimal_is_IsNumeral n (omega (arith, h))).1
 
-pub lexes_number : (n : ℕ) (rest : List ℕ) (ks : List Symbol) → n < MAX_WIDTH → begins is_word_byte rest ≡ false → Lexes rest ks → Lexes (decimal n ++ rest) (number (decimal n) ∷ ks)
+pub lexes_number : (n : ℕ) (rest : List ℕ) (ks : List Symbol) → n < MAX_WIDTH → begins is_word_byte rest ≡ false → Lexes rest ks
+    → Lexes (decimal n ++ rest) (number (decimal n) ∷ ks)
 lexes_number n rest ks h stops l =
     let numeral = (decimal_is_IsNumeral n (omega (arith, h))).0 in
     let short = length-decimal-le 2 n (omega arith) (omega (arith, h)) (omega (arith, h)) in
@@ -113,15 +122,19 @@ lexes_number n rest ks h stops l =
 
 -- the range of bits, whose texts end themselves
 pub lexes_range : (high low : ℕ) (rest : List ℕ) (ks : List Symbol) → high < MAX_WIDTH → low < MAX_WIDTH → Lexes rest ks
-    → Lexes (range_text high low ++ rest) (mark LeftParen ∷ number (decimal high) ∷ word (codes "downto") ∷ number (decimal low) ∷ mark RightParen ∷ ks)
+    → Lexes (range_text high low ++ rest) (mark LeftParen ∷ number (decimal high) ∷ word (codes "downto") ∷ number
+    (decimal low) ∷ mark RightParen ∷ ks)
 unfolding range_text
 lexes_range high low rest ks h k l =
     let closed = lexes_found 1 (codes ")" ++ rest) rest (mark RightParen ∷ []) ks refl l in
     let second = lexes_number low (codes ")" ++ rest) _ k refl closed in
-    let middle = lexes_found 3 (codes " downto " ++ (decimal low ++ (codes ")" ++ rest))) (decimal low ++ (codes ")" ++ rest)) (word (codes "downto") ∷ []) _ refl second in
+    let middle = lexes_found 3 (codes " downto " ++ (decimal low ++ (codes ")" ++ rest))) (decimal low ++ (codes ")" ++ rest))
+    (word (codes "downto") ∷ []) _ refl second in
     let first = lexes_number high (codes " downto " ++ (decimal low ++ (codes ")" ++ rest))) _ h refl middle in
-    let whole = lexes_found 1 (codes "(" ++ (decimal high ++ (codes " downto " ++ (decimal low ++ (codes ")" ++ rest))))) _ (mark LeftParen ∷ []) _ refl first in
-    let text : range_text high low ++ rest ≡ codes "(" ++ (decimal high ++ (codes " downto " ++ (decimal low ++ (codes ")" ++ rest)))) = simp append_assoc in
+    let whole = lexes_found 1 (codes "(" ++ (decimal high ++ (codes " downto " ++ (decimal low ++ (codes ")" ++ rest))))) _
+    (mark LeftParen ∷ []) _ refl first in
+    let text : range_text high low ++ rest ≡ codes "(" ++ (decimal high ++ (codes " downto " ++ (decimal low ++ (codes ")" ++ rest)))) =
+    simp append_assoc in
     rw text whole
 
 -- bit strings
@@ -146,14 +159,17 @@ values-append a b = ap (map (λ b. b == 49)) (filter-append is_bit a b) ∙ map-
 values-bits_text : (w : List Bool) → values (bits_text w) ≡ reverse w
 unfolding values
 values-bits_text [] = refl
-values-bits_text (true ∷ w) = values-append (bits_text w) (codes "1") ∙ ap (λ u. u ++ true ∷ []) (values-bits_text w) ∙ sym (reverse-append (true ∷ []) w)
-values-bits_text (false ∷ w) = values-append (bits_text w) (codes "0") ∙ ap (λ u. u ++ false ∷ []) (values-bits_text w) ∙ sym (reverse-append (false ∷ []) w)
+values-bits_text (true ∷ w) = values-append (bits_text w) (codes "1") ∙ ap (λ u. u ++ true ∷ []) (values-bits_text w)
+    ∙ sym (reverse-append (true ∷ []) w)
+values-bits_text (false ∷ w) = values-append (bits_text w) (codes "0") ∙ ap (λ u. u ++ false ∷ []) (values-bits_text w)
+    ∙ sym (reverse-append (false ∷ []) w)
 
 -- the bit string of a word has its bits
 bits_in-word_text : (w : List Bool) → bits_in (word_text w) ≡ w
 unfolding word_text values
 bits_in-word_text w =
-    let read : values (bits_text w ++ codes "\"") ≡ reverse w = values-append (bits_text w) (codes "\"") ∙ append-nil (values (bits_text w)) ∙ values-bits_text w in
+    let read : values (bits_text w ++ codes "\"") ≡ reverse w = values-append (bits_text w) (codes "\"")
+    ∙ append-nil (values (bits_text w)) ∙ values-bits_text w in
     ap reverse read ∙ reverse-reverse w
 
 word_text-is_bits : (w : List Bool) → IsWidth (length w) → IsBits (word_text w)
@@ -166,6 +182,8 @@ word_text-is_bits w width = record {
   bytes = AllPass-from_list_all is_bit (bits_text w) (bits_are_bits w);
 }
 
-pub lexes_word : (w : List Bool) (rest : List ℕ) (ks : List Symbol) → IsWidth (length w) → Lexes rest ks → Lexes (word_text w ++ rest) (string w ∷ ks)
+pub lexes_word : (w : List Bool) (rest : List ℕ) (ks : List Symbol) → IsWidth (length w) → Lexes rest ks
+    → Lexes (word_text w ++ rest) (string w ∷ ks)
 lexes_word w rest ks width l =
-    subst (λ u. Lexes (word_text w ++ rest) (string u ∷ ks)) (bits_in-word_text w) (lexes_token Bits (word_text w) rest ks (word_text-is_bits w width) l)
+    subst (λ u. Lexes (word_text w ++ rest) (string u ∷ ks)) (bits_in-word_text w)
+    (lexes_token Bits (word_text w) rest ks (word_text-is_bits w width) l)

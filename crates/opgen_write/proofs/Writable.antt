@@ -60,7 +60,8 @@ module _ (d : Design) (s : IsSound d) (shape : IsShaped d) (names : HasAllowedNa
       let within : i < length d.signals = omega (arith, slice_get_within (signal_widths d) i w e, length-map d.signals (λ q. q.width)) in
       omega (arith, get_or_from_slice_get (signal_widths d) i w 0 e, (width_wide i within).1)
 
-  expression_fits : (e : Tree) (w : ℕ) → IsShapedExpression e → AllReads (λ q. q < length d.signals) (λ p. p < length d.ports) e → HasWidth d e w → FitsWhole d e
+  expression_fits : (e : Tree) (w : ℕ) → IsShapedExpression e → AllReads (λ q. q < length d.signals) (λ p. p < length d.ports) e
+      → HasWidth d e w → FitsWhole d e
   expression_fits e w shaped reads h = record { fits = fits d short e w reads shaped.chains h; nests = shaped.nests }
 
   rows_short : (to : ℕ) (on : Tree) (rows : List (List Bool × List Bool)) → to < length d.signals

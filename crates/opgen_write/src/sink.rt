@@ -7,7 +7,7 @@ use opgen_io::{PutFault, Sink};
 use std::alloc::{AllocError, Global};
 use std::marker::Model;
 
-/// A sink that keeps what it takes, and never fails. Contracts see it as the list of the bytes taken.
+/// A sink that keeps what it takes, and never answers Failed. Contracts see it as the list of the bytes taken.
 #[derive(Debug, Drop)]
 pub struct VecSink {
     bytes: Vec<u8>,

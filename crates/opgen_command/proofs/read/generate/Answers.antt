@@ -7,10 +7,15 @@ use Rattle.opgen_command.proofs.read.generate.Goals as goal
 
 pub returns-in_default-number-clause-usage : goal.returns-in_default-number-clause-usage
 returns-in_default-number-clause-usage c = λ _. let rows = rows_of (found_of c.in_ok-found.found) in
-    let found = subst (λ app. found_by app (map string_bytes c.args.words.now) ≡ Some rows) c.in_ok-generate.ensures c.in_ok-found.ensures.found in
+    let found =
+    subst (λ app. found_by app (map string_bytes c.args.words.now)
+    ≡ Some rows) c.in_ok-generate.ensures c.in_ok-found.ensures.found in
     ap (option_and_then generate_of) found ∙ no_workers rows _ c.in-Some.ensures c.in_default-number.ensures.value
 
 pub returns-clause-command : goal.returns-clause-command
 returns-clause-command c = let rows = rows_of (found_of c.in_ok-found.found) in
-    let found = subst (λ app. found_by app (map string_bytes c.args.words.now) ≡ Some rows) c.in_ok-generate.ensures c.in_ok-found.ensures.found in
-    ap (option_and_then generate_of) found ∙ generate rows _ _ _ _ c.in-Some.ensures c.in-Some-number.ensures.value c.in_ok-from_str.ensures c.is_set.ensures
+    let found =
+    subst (λ app. found_by app (map string_bytes c.args.words.now)
+    ≡ Some rows) c.in_ok-generate.ensures c.in_ok-found.ensures.found in
+    ap (option_and_then generate_of) found
+    ∙ generate rows _ _ _ _ c.in-Some.ensures c.in-Some-number.ensures.value c.in_ok-from_str.ensures c.is_set.ensures

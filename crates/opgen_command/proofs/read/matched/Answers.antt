@@ -12,5 +12,6 @@ returns-in-Ok-clause-found c =
 pub returns : goal.returns
 returns c = record {
   found = tt;
-  usage = λ _. refused _ _ c.in-Err.error (c.in-Err.ensures.kinds c.requires) (λ memory. c.in_default.not-OutOfMemory (c.kind.ensures ∙ memory));
+  usage = λ _. refused _ _ c.in-Err.error (c.in-Err.ensures.kinds c.requires)
+      (λ memory. c.in_default.not-OutOfMemory (c.kind.ensures ∙ memory));
 }

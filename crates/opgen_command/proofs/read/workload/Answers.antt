@@ -7,5 +7,7 @@ use Rattle.opgen_command.proofs.read.workload.Goals as goal
 
 pub returns-in-Some-clause-command : goal.returns-in-Some-clause-command
 returns-in-Some-clause-command c = let rows = rows_of (found_of c.in_ok-found.found) in
-    let found = subst (λ app. found_by app (map string_bytes c.args.words.now) ≡ Some rows) c.in_ok-workload.ensures c.in_ok-found.ensures.found in
+    let found =
+    subst (λ app. found_by app (map string_bytes c.args.words.now)
+    ≡ Some rows) c.in_ok-workload.ensures c.in_ok-found.ensures.found in
     ap (option_and_then workload_of) found ∙ workload rows _ c.in-Some.ensures.value

@@ -10,6 +10,8 @@ pub returns : goal.returns
 returns c = (
   λ t. inr (comb_of_operand _ _ _ (c.is_odd_part-3.ensures.0 t)),
   λ e. ⊎_elim (λ (p : IsOddPart c.args.f c.args.u c.args.v). absurd (refuted (c.if-is_odd_part.ensures.1 p)))
-      (λ (o : IsOddPart c.args.u c.args.v c.args.f ⊎ IsOddPart c.args.v c.args.u c.args.f). ⊎_elim (λ (p : IsOddPart c.args.u c.args.v c.args.f). absurd (refuted (c.if-is_odd_part-2.ensures.1 p))) (λ (p : IsOddPart c.args.v c.args.u c.args.f). c.is_odd_part-3.ensures.1 p) o)
+      (λ (o : IsOddPart c.args.u c.args.v c.args.f ⊎ IsOddPart c.args.v c.args.u c.args.f). ⊎_elim
+      (λ (p : IsOddPart c.args.u c.args.v c.args.f). absurd (refuted (c.if-is_odd_part-2.ensures.1 p)))
+      (λ (p : IsOddPart c.args.v c.args.u c.args.f). c.is_odd_part-3.ensures.1 p) o)
       (parts_of_either c.args.u c.args.v c.args.f e),
 )

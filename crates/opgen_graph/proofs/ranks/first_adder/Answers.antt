@@ -16,7 +16,8 @@ returns-in-Some-clause-first c =
     )
 
 pub loop-u-preserved : goal.loop-u-preserved
-loop-u-preserved c = λ k j lt in_range. below_more _ _ (λ i h. c.loop-u.invariant i j h in_range) (c.in_default.ensures.none j in_range) k lt
+loop-u-preserved c = λ k j lt in_range. below_more _ _ (λ i h. c.loop-u.invariant i j h in_range)
+    (c.in_default.ensures.none j in_range) k lt
 
 pub returns-clause-none : goal.returns-clause-none
 returns-clause-none c = no_pair _ _ _ c.loop-u-test.false c.loop-u.invariant

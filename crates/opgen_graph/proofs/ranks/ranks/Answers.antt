@@ -10,7 +10,8 @@ use Rattle.opgen_graph.proofs.ranks.ranks.Goals as goal
 pub returns-then-is_empty-clause-none : goal.returns-then-is_empty-clause-none
 returns-then-is_empty-clause-none c =
     let s = rw (c.as_slice.ensures.value, c.as_slice-in-rounds.ensures.value) at c.in_ok-made.ensures in
-    unreachable _ _ _ _ _ _ c.rounds.invariant.ranking (is_empty_false c.rounds.left c.rounds-test.ensures) s (is_empty_true c.in_ok-made.made.fresh c.if-is_empty.ensures)
+    unreachable _ _ _ _ _ _ c.rounds.invariant.ranking (is_empty_false c.rounds.left c.rounds-test.ensures) s
+    (is_empty_true c.in_ok-made.made.fresh c.if-is_empty.ensures)
 
 pub rounds-smaller : goal.rounds-smaller
 rounds-smaller c =
@@ -24,7 +25,8 @@ rounds-preserved c =
     let placed = rw slice at c.in_ok-place.ensures.placed in
     let adders = rw slice at c.in_ok-place.ensures.adders in
     let i = c.rounds.invariant in
-    let moved : IsPermutation (c.rounds.placed.items ++ values c.in_ok-made.made.fresh.items) c.sort_unstable.new.self.items = subst (λ xs. IsPermutation xs c.sort_unstable.new.self.items) placed c.sort_unstable.ensures.permutation in
+    let moved : IsPermutation (c.rounds.placed.items ++ values c.in_ok-made.made.fresh.items) c.sort_unstable.new.self.items =
+    subst (λ xs. IsPermutation xs c.sort_unstable.new.self.items) placed c.sort_unstable.ensures.permutation in
     record {
       terms = all_sorted IsTerm _ _ _ _ _ i.terms.1 i.terms.0 s moved;
       increasing = IsNonDecreasingBy-from_sort (λ n. n) _ c.sort_unstable.ensures.sorted;

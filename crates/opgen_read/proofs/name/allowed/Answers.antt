@@ -1,6 +1,6 @@
 use Rattle.std.proofs.Common.{◌≡◌, false, map, sym, ap, ◌∙◌, refl}
 use Rattle.std.specs.Char.{to_ascii_lowercase}
-use Rattle.opgen_design.specs.Names.{is_allowed_name}
+use Rattle.opgen_names.specs.Names.{is_allowed_name}
 use Rattle.opgen_read.proofs.AllowedNames.{no_name}
 use Rattle.opgen_read.proofs.name.allowed.Goals as goal
 

@@ -12,4 +12,5 @@ abbrev pub decreases-try_member : goal.decreases-try_member
 decreases-try_member l = 3 * l.more
 
 abbrev pub invariant-try_members-loop-member : goal.invariant-try_members-loop-member
-invariant-try_members-loop-member l = Tried l.piece l.fn.hunt l.hunt l.node.placed.items l.node.left.items l.more (take l.member-index l.member-items)
+invariant-try_members-loop-member l = Tried l.piece l.fn.hunt l.hunt l.node.placed.items l.node.left.items l.more
+    (take l.member-index l.member-items)

@@ -12,6 +12,10 @@ returns g c =
     let search = c.args.search.now in
     let v = view c.run_pieces-best.result.pass in
     let price : c.cost-start.result ≡ set_cost search.width search.digits.items = rw c.as_slice.ensures.value at c.cost-start.ensures in
-    let start : v.start ≡ set_cost search.width search.digits.items = c.run_pieces-best.ensures.start ∙ ap (λ (w : View). w.start) c.in_ok-bound.ensures.view ∙ price in
-    let covered : Covered (parts_of search 0 search.pieces) search.width (best_of c.in_ok-set.field-0) v = rw c.in_ok-set.was at c.run_pieces-best.ensures.answered in
-    first_least search (best_of c.in_ok-set.field-0) c.in-Some.set.items c.requires (ap best_of c.in-Some.is) (some_first search (best_of c.in_ok-set.field-0) v c.close.result c.requires covered start c.close.ensures.least c.close.ensures.falls)
+    let start : v.start ≡ set_cost search.width search.digits.items = c.run_pieces-best.ensures.start
+    ∙ ap (λ (w : View). w.start) c.in_ok-bound.ensures.view ∙ price in
+    let covered : Covered (parts_of search 0 search.pieces) search.width (best_of c.in_ok-set.field-0) v =
+    rw c.in_ok-set.was at c.run_pieces-best.ensures.answered in
+    first_least search (best_of c.in_ok-set.field-0) c.in-Some.set.items c.requires (ap best_of c.in-Some.is)
+    (some_first search
+    (best_of c.in_ok-set.field-0) v c.close.result c.requires covered start c.close.ensures.least c.close.ensures.falls)

@@ -8,4 +8,5 @@ pub loop-place-preserved : goal.loop-place-preserved
 loop-place-preserved c = below_more _ _ c.loop-place.invariant (λ a. refuted (c.if-makes_among.ensures.1 a))
 
 pub returns-clause-none : goal.returns-clause-none
-returns-clause-none c = λ x i a. c.loop-place.invariant i.0 (omega (arith, i.1, c.loop-place-test.false)) (subst (Among c.args.placed.now) (sym (read c.args.left.now x i)) a)
+returns-clause-none c = λ x i a. c.loop-place.invariant i.0 (omega (arith, i.1, c.loop-place-test.false))
+    (subst (Among c.args.placed.now) (sym (read c.args.left.now x i)) a)

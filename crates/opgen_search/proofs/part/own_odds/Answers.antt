@@ -12,9 +12,11 @@ loop-odd-preserved c =
     let member = rw c.as_slice.ensures.value at c.number.ensures in
     elim c.if-number-search.branch [
       | then-number-search+in_ok-push w ↦
-          rw (w.own-is, w.in_ok-push.ensures.items) (own_more c.args.search.now c.args.piece odds c.loop-odd.own.items i c.loop-odd-test.true all c.loop-odd.invariant)
+          rw (w.own-is, w.in_ok-push.ensures.items)
+          (own_more c.args.search.now c.args.piece odds c.loop-odd.own.items i c.loop-odd-test.true all c.loop-odd.invariant)
       | else-number-search w ↦
-          rw w.own-is (own_same c.args.search.now c.args.piece odds c.loop-odd.own.items i c.loop-odd-test.true (λ e. w.if-number-search.false (ap (λ n. n % c.args.search.now.pieces) member ∙ e)) c.loop-odd.invariant)
+          rw w.own-is (own_same c.args.search.now c.args.piece odds c.loop-odd.own.items i c.loop-odd-test.true
+          (λ e. w.if-number-search.false (ap (λ n. n % c.args.search.now.pieces) member ∙ e)) c.loop-odd.invariant)
     ]
 
 pub returns : goal.returns

@@ -15,14 +15,20 @@ returns-clause-hunt c =
       seen = c.min-hunt.ensures ∙ sym (ap (λ (w : View). w.seen) v);
       member = c.requires.member;
       count = c.requires.count;
-      published = subst (IsPublished c.args.piece.now.search.now.width (Some c.args.set.items)) (sym (ap (λ (w : View). w.published) v ∙ ap (min (view c.args.hunt.now.pass).published) price)) (published_taken c.args.piece.now.search.now.width (view c.args.hunt.now.pass).published (best_of c.args.hunt.now.best) c.args.set.items c.requires.better c.requires.hunt.published);
+      published = subst (IsPublished c.args.piece.now.search.now.width (Some c.args.set.items))
+          (sym (ap (λ (w : View). w.published) v ∙ ap (min (view c.args.hunt.now.pass).published) price))
+          (published_taken c.args.piece.now.search.now.width (view c.args.hunt.now.pass).published
+          (best_of c.args.hunt.now.best) c.args.set.items c.requires.better c.requires.hunt.published);
     }
 
 pub returns-clause-later : goal.returns-clause-later
 returns-clause-later c =
     let v = c.publish-before.ensures.view in
     record {
-      settled = λ set. done_later c.args.piece.now.search.now.width (Some c.args.set.items) (best_of c.args.hunt.now.best) _ c.args.hunt.now.known set (not_later_taken c.args.piece.now.search.now.width (best_of c.args.hunt.now.best) c.args.set.items c.requires.better) (omega (arith, c.min-hunt.ensures, c.publish-before.ensures.falls, c.requires.hunt.seen));
+      settled = λ set. done_later c.args.piece.now.search.now.width (Some c.args.set.items)
+          (best_of c.args.hunt.now.best) _ c.args.hunt.now.known set
+          (not_later_taken c.args.piece.now.search.now.width (best_of c.args.hunt.now.best) c.args.set.items c.requires.better)
+          (omega (arith, c.min-hunt.ensures, c.publish-before.ensures.falls, c.requires.hunt.seen));
       share = ap (λ (w : View). w.share) v;
       start = ap (λ (w : View). w.start) v;
     }

@@ -10,4 +10,5 @@ loop-n-preserved c = record {
 }
 
 pub returns : goal.returns
-returns c = λ _. All-from_get_or (λ n. (n % 2 ≡ 1) × (1 < n) × (n ≤ c.args.most)) _ 0 (λ i lt. (c.loop-n.invariant.odd i (omega arith), c.loop-n.invariant.large i (omega arith), c.loop-n.invariant.small i (omega arith)))
+returns c = λ _. All-from_get_or (λ n. (n % 2 ≡ 1) × (1 < n) × (n ≤ c.args.most)) _ 0
+    (λ i lt. (c.loop-n.invariant.odd i (omega arith), c.loop-n.invariant.large i (omega arith), c.loop-n.invariant.small i (omega arith)))

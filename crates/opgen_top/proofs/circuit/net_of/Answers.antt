@@ -23,7 +23,8 @@ pub returns-in_ok-build-in-Multiply-clause-net : goal.returns-in_ok-build-in-Mul
 returns-in_ok-build-in-Multiply-clause-net g c =
     let made = c.in_ok-build-in-Multiply in
     subst (IsFittingNet c.args.spec.now) (sym c.alone-in-Multiply.ensures.net)
-    (kind_fitting c.args.spec.now c.requires.valid (Multiply c.in-Multiply.product) made.field-0 c.in-Multiply.is made.ensures.net made.ensures.fits)
+    (kind_fitting c.args.spec.now c.requires.valid
+    (Multiply c.in-Multiply.product) made.field-0 c.in-Multiply.is made.ensures.net made.ensures.fits)
 
 pub returns-in_ok-build-in-Divide-clause-net : goal.returns-in_ok-build-in-Divide-clause-net
 returns-in_ok-build-in-Divide-clause-net g c =

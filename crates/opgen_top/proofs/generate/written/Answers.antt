@@ -6,4 +6,12 @@ pub returns : goal.returns
 returns c =
     let made = c.args.made.now in
     let facts = c.in_ok-report_text.ensures ∙ ap (report made.spec made.circuit.planned) c.deref.ensures.value in
-    rw (c.in_ok-with_files.ensures, c.in_ok-line.ensures, c.in_ok-vhdl_name.ensures, c.in_ok-text.ensures, c.in_ok-report_name.ensures, facts, c.as_str-name.ensures) refl
+    rw (
+      c.in_ok-with_files.ensures,
+      c.in_ok-line.ensures,
+      c.in_ok-vhdl_name.ensures,
+      c.in_ok-text.ensures,
+      c.in_ok-report_name.ensures,
+      facts,
+      c.as_str-name.ensures,
+    ) refl

@@ -8,5 +8,6 @@ use Rattle.opgen_top.proofs.laws.circuits_serve.Goals as goal
 pub returns : goal.returns
 returns c = λ spec table enable planned adders circuit.
     circuit_serves spec table enable planned adders circuit
-    (c.run_follows_flow.ensures spec.name enable circuit.net (net_delays table circuit.net) (setup table) spec.period (slot_at (slots_of table spec.period circuit.net)) circuit.fitting.fits.valid
+    (c.run_follows_flow.ensures spec.name enable circuit.net (net_delays table circuit.net) (setup table) spec.period
+    (slot_at (slots_of table spec.period circuit.net)) circuit.fitting.fits.valid
     (fit spec table enable planned adders circuit))

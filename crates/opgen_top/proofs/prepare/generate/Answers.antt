@@ -13,4 +13,5 @@ returns-clause-prepared g c =
 
 pub returns-in-Err-clause-prepared : goal.returns-in-Err-clause-prepared
 returns-in-Err-clause-prepared g c =
-    generate-unfetched c.args.spec.now _ (g.F.Folder.told c.args.folder.now) _ _ c.args.workers c.args.enable c.in-Err.refusal c.in-Err.ensures.fetched
+    generate-unfetched c.args.spec.now _
+    (g.F.Folder.told c.args.folder.now) _ _ c.args.workers c.args.enable c.in-Err.refusal c.in-Err.ensures.fetched

@@ -11,5 +11,6 @@ returns-clause-prepared g c = λ devices.
     let short = vectors.0 in
     simulate-prepared devices c.args.vhdl.now c.args.vectors.now c.args.out.now (g.F.Folder.told c.args.folder.now) c.deref.result.now
     (λ files told. vhdl.1 files told ∙ ap Some (sym c.deref.ensures.value)) (omega (arith, few, ap length c.deref.ensures.value))
-    c.deref-2.result.now _ _ (λ files told. vectors.1 files (c.fetch.ensures.told_same ∙ told) ∙ ap Some (sym c.deref-2.ensures.value)) (omega (arith, short, ap length c.deref-2.ensures.value))
+    c.deref-2.result.now _ _ (λ files told. vectors.1 files (c.fetch.ensures.told_same ∙ told) ∙ ap Some (sym c.deref-2.ensures.value))
+    (omega (arith, short, ap length c.deref-2.ensures.value))
     c.simulated.result said.answer said.listed

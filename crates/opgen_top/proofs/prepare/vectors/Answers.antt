@@ -12,4 +12,6 @@ returns-clause-prepared g c =
     c.args.seed c.args.cycles c.vectors_of.result said.answer said.listed
 
 pub returns-in-Err-clause-prepared : goal.returns-in-Err-clause-prepared
-returns-in-Err-clause-prepared g c = vectors-unfetched c.args.spec.now _ (g.F.Folder.told c.args.folder.now) _ _ c.args.seed c.args.cycles c.in-Err.refusal c.in-Err.ensures.fetched
+returns-in-Err-clause-prepared g c =
+    vectors-unfetched c.args.spec.now _
+    (g.F.Folder.told c.args.folder.now) _ _ c.args.seed c.args.cycles c.in-Err.refusal c.in-Err.ensures.fetched

@@ -14,7 +14,8 @@ returns-in-Ok-store_all-clause-answered g c files told due =
     let prepared = later_reads _ _ _ _ _ _ _ _ _ c.store_all.ensures.read_faults_same c.in-Ok.ensures.prepared in
     let said = c.printed.ensures in
     gives_due _ _ _ _ _ _ prepared _ _ _ _ _ _ said.status said.taken said.part
-    (λ fs is. c.in-Ok-store_all.ensures.ok fs (c.answer.ensures.told_same ∙ is) ∙ ap (λ xs. Some (stored_all (map store_of xs) fs)) c.deref.ensures.value)
+    (λ fs is. c.in-Ok-store_all.ensures.ok fs (c.answer.ensures.told_same ∙ is)
+    ∙ ap (λ xs. Some (stored_all (map store_of xs) fs)) c.deref.ensures.value)
     files told due
 
 pub returns-in-Ok-store_all-clause-missing : goal.returns-in-Ok-store_all-clause-missing
@@ -22,7 +23,8 @@ returns-in-Ok-store_all-clause-missing g c files told stood three =
     let prepared = later_reads _ _ _ _ _ _ _ _ _ c.store_all.ensures.read_faults_same c.in-Ok.ensures.prepared in
     let said = c.printed.ensures in
     gives_missing _ _ _ _ _ _ prepared _ _ _ _ _ _ said.status said.taken said.part
-    (λ fs is. c.in-Ok-store_all.ensures.ok fs (c.answer.ensures.told_same ∙ is) ∙ ap (λ xs. Some (stored_all (map store_of xs) fs)) c.deref.ensures.value)
+    (λ fs is. c.in-Ok-store_all.ensures.ok fs (c.answer.ensures.told_same ∙ is)
+    ∙ ap (λ xs. Some (stored_all (map store_of xs) fs)) c.deref.ensures.value)
     files told stood three
 
 pub returns-in-Ok-store_all-clause-complete : goal.returns-in-Ok-store_all-clause-complete
@@ -30,7 +32,8 @@ returns-in-Ok-store_all-clause-complete g c files told read write put =
     let prepared = later_reads _ _ _ _ _ _ _ _ _ c.store_all.ensures.read_faults_same c.in-Ok.ensures.prepared in
     let said = c.printed.ensures in
     gives_all _ _ _ _ _ _ prepared _ _ _ _ _ _ said.status said.taken said.part
-    (λ fs is. c.in-Ok-store_all.ensures.ok fs (c.answer.ensures.told_same ∙ is) ∙ ap (λ xs. Some (stored_all (map store_of xs) fs)) c.deref.ensures.value)
+    (λ fs is. c.in-Ok-store_all.ensures.ok fs (c.answer.ensures.told_same ∙ is)
+    ∙ ap (λ xs. Some (stored_all (map store_of xs) fs)) c.deref.ensures.value)
     files told read put (listed_status _ _ c.in-Ok.ensures.prepared.listed.line)
 
 pub returns-in-Ok-store_all-clause-left_by_fault : goal.returns-in-Ok-store_all-clause-left_by_fault
@@ -38,7 +41,8 @@ returns-in-Ok-store_all-clause-left_by_fault g c files told four =
     let prepared = later_reads _ _ _ _ _ _ _ _ _ c.store_all.ensures.read_faults_same c.in-Ok.ensures.prepared in
     let said = c.printed.ensures in
     left_unprinted _ _ _ _ _ _ prepared _ _ _ _ _ _ said.status said.taken said.part
-    (λ fs is. c.in-Ok-store_all.ensures.ok fs (c.answer.ensures.told_same ∙ is) ∙ ap (λ xs. Some (stored_all (map store_of xs) fs)) c.deref.ensures.value)
+    (λ fs is. c.in-Ok-store_all.ensures.ok fs (c.answer.ensures.told_same ∙ is)
+    ∙ ap (λ xs. Some (stored_all (map store_of xs) fs)) c.deref.ensures.value)
     files _ told (listed_status _ _ c.in-Ok.ensures.prepared.listed.line) four
 
 pub returns-in-Ok-store_all-clause-left_by_memory : goal.returns-in-Ok-store_all-clause-left_by_memory
@@ -46,7 +50,8 @@ returns-in-Ok-store_all-clause-left_by_memory g c files told five =
     let prepared = later_reads _ _ _ _ _ _ _ _ _ c.store_all.ensures.read_faults_same c.in-Ok.ensures.prepared in
     let said = c.printed.ensures in
     left_memory _ _ _ _ _ _ prepared _ _ _ _ _ _ said.status said.taken said.part
-    (λ fs is. c.in-Ok-store_all.ensures.ok fs (c.answer.ensures.told_same ∙ is) ∙ ap (λ xs. Some (stored_all (map store_of xs) fs)) c.deref.ensures.value)
+    (λ fs is. c.in-Ok-store_all.ensures.ok fs (c.answer.ensures.told_same ∙ is)
+    ∙ ap (λ xs. Some (stored_all (map store_of xs) fs)) c.deref.ensures.value)
     files told
 
 pub returns-in-Ok-store_all-clause-printed : goal.returns-in-Ok-store_all-clause-printed
@@ -54,7 +59,8 @@ returns-in-Ok-store_all-clause-printed g c held holds =
     let prepared = later_reads _ _ _ _ _ _ _ _ _ c.store_all.ensures.read_faults_same c.in-Ok.ensures.prepared in
     let said = c.printed.ensures in
     is_printed _ _ _ _ _ _ prepared _ _ _ _ _ _ said.status said.taken said.part
-    (λ fs is. c.in-Ok-store_all.ensures.ok fs (c.answer.ensures.told_same ∙ is) ∙ ap (λ xs. Some (stored_all (map store_of xs) fs)) c.deref.ensures.value)
+    (λ fs is. c.in-Ok-store_all.ensures.ok fs (c.answer.ensures.told_same ∙ is)
+    ∙ ap (λ xs. Some (stored_all (map store_of xs) fs)) c.deref.ensures.value)
     (listed_status _ _ c.in-Ok.ensures.prepared.listed.line) said.none said.silent held holds
 
 pub returns-in-Ok-store_all-clause-headline : goal.returns-in-Ok-store_all-clause-headline
@@ -62,23 +68,30 @@ returns-in-Ok-store_all-clause-headline g c file workers enable asked files told
     let prepared = later_reads _ _ _ _ _ _ _ _ _ c.store_all.ensures.read_faults_same c.in-Ok.ensures.prepared in
     let said = c.printed.ensures in
     let a = answer_of c.in-Ok.answer in
-    let stores = c.in-Ok-store_all.ensures.ok files (c.answer.ensures.told_same ∙ told) ∙ ap (λ xs. Some (stored_all (map store_of xs) files)) c.deref.ensures.value in
+    let stores = c.in-Ok-store_all.ensures.ok files (c.answer.ensures.told_same ∙ told)
+    ∙ ap (λ xs. Some (stored_all (map store_of xs) files)) c.deref.ensures.value in
     let due = due_now _ _ _ _ _ _ prepared _ _ _ _ _ _ said.status said.taken said.part
-    (λ fs is. c.in-Ok-store_all.ensures.ok fs (c.answer.ensures.told_same ∙ is) ∙ ap (λ xs. Some (stored_all (map store_of xs) fs)) c.deref.ensures.value)
+    (λ fs is. c.in-Ok-store_all.ensures.ok fs (c.answer.ensures.told_same ∙ is)
+    ∙ ap (λ xs. Some (stored_all (map store_of xs) fs)) c.deref.ensures.value)
     files told ok in
     let targets = c.args.targets.items in
-    let devices = devices_of (λ t. (goal.Target-dyn g (t.vtable, t.value)).target_name t.value) (λ t. (goal.Target-dyn g (t.vtable, t.value)).delays t.value) (λ t. (goal.Target-dyn g (t.vtable, t.value)).adjustable t.value) targets in
-    heading c.circuits_serve.ensures file workers enable devices files a _ _ _ (subst (λ command. IsAnswerOf command devices files a) asked due.0) due.1 stores
+    let devices = devices_of (λ t. (goal.Target-dyn g (t.vtable, t.value)).target_name t.value)
+    (λ t. (goal.Target-dyn g (t.vtable, t.value)).delays t.value)
+    (λ t. (goal.Target-dyn g (t.vtable, t.value)).adjustable t.value) targets in
+    heading c.circuits_serve.ensures file workers enable devices files a _ _ _
+    (subst (λ command. IsAnswerOf command devices files a) asked due.0) due.1 stores
     (λ held holds. line_taken _ held a.line _ (inl ok) (said.taken held holds))
 
 pub returns-in-Err-Failed-clause-left_by_fault : goal.returns-in-Err-Failed-clause-left_by_fault
 returns-in-Err-Failed-clause-left_by_fault g c files told four =
     let prepared = later_reads _ _ _ _ _ _ _ _ _ c.store_all.ensures.read_faults_same c.in-Ok.ensures.prepared in
     let failed = c.in-Err-Failed.ensures in
-    let why = subst (λ n. Rose n (g.F.Folder.write_faults c.store_all.new.folder)) c.answer.ensures.write_faults_same (failed.failed_counted (ap Err c.in-Err-Failed.field-0-is)) in
+    let why = subst (λ n. Rose n (g.F.Folder.write_faults c.store_all.new.folder)) c.answer.ensures.write_faults_same
+    (failed.failed_counted (ap Err c.in-Err-Failed.field-0-is)) in
     let broken = subst (λ xs. HasBroken (map store_of xs) files (g.F.Folder.told c.store_all.new.folder)) c.deref.ensures.value
     (failed.failed files (c.answer.ensures.told_same ∙ told) (ap Err c.in-Err-Failed.field-0-is)) in
-    left_unstored _ _ _ _ _ _ prepared _ _ _ (λ e. let bad = c.in-Err-Failed.ensures.none (ap (map store_of) c.deref.ensures.value ∙ e) in cc) files _ _ told why broken refl
+    left_unstored _ _ _ _ _ _ prepared _ _ _ (λ e. let bad = c.in-Err-Failed.ensures.none (ap (map store_of) c.deref.ensures.value
+    ∙ e) in cc) files _ _ told why broken refl
 
 pub returns-in-Err-Failed-clause-printed : goal.returns-in-Err-Failed-clause-printed
 returns-in-Err-Failed-clause-printed g c held holds = nothing_printed 4 _ _ _ _ (inl refl) refl held holds
@@ -88,4 +101,5 @@ returns-clause-left_by_memory g c files told five =
     let prepared = later_reads _ _ _ _ _ _ _ _ _ c.store_all.ensures.read_faults_same c.in-Ok.ensures.prepared in
     let first = subst (λ xs. HasFirst (map store_of xs) files (g.F.Folder.told c.store_all.new.folder)) c.deref.ensures.value
     (c.in-Err-Memory.ensures.memory files (c.answer.ensures.told_same ∙ told) (ap Err c.in-Err-Memory.field-0-is)) in
-    left_first _ _ _ _ _ _ prepared _ (g.K.Sink.taken c.args.out.now) (g.K.Sink.taken c.args.out.now) (λ e. let bad = c.in-Err-Memory.ensures.none (ap (map store_of) c.deref.ensures.value ∙ e) in cc) files told first
+    left_first _ _ _ _ _ _ prepared _ (g.K.Sink.taken c.args.out.now) (g.K.Sink.taken c.args.out.now)
+    (λ e. let bad = c.in-Err-Memory.ensures.none (ap (map store_of) c.deref.ensures.value ∙ e) in cc) files told first

@@ -17,7 +17,11 @@ rows-init c =
 
 pub split_at-requires : goal.split_at-requires
 split_at-requires c =
-    omega (arith, c.requires.in_columns, row_room (input_widths c.args.design.now) c.rows.inputs.now c.rows.left c.rows-test.true c.rows.invariant.fit)
+    omega (
+      arith,
+      c.requires.in_columns,
+      row_room (input_widths c.args.design.now) c.rows.inputs.now c.rows.left c.rows-test.true c.rows.invariant.fit,
+    )
 
 pub step-requires-clause-inputs : goal.step-requires-clause-inputs
 step-requires-clause-inputs c =
@@ -36,7 +40,8 @@ rows-preserved c =
     let numbers = c.step.new.outputs in
     let row = c.split_at.result.0.now in
     let wide = length-step d e c.rows.sim.registers c.step.new.self.registers row numbers now.same c.step.ensures.step in
-    let back = written_back c.rows.outputs.len numbers c.rows.outputs.items (omega (arith, c.rows.outputs.ok.0)) (omega (arith, wide, now.room)) in
+    let back = written_back c.rows.outputs.len numbers c.rows.outputs.items (omega (arith, c.rows.outputs.ok.0))
+    (omega (arith, wide, now.room)) in
     let first = c.split_at.ensures.front ∙ ap (λ n. take n c.rows.inputs.now) c.requires.in_columns in
     let later = c.split_at.ensures.back ∙ ap (λ n. drop n c.rows.inputs.now) c.requires.in_columns in
     let put = c.in_ok-extend_from_slice.ensures.items ∙ ap (λ xs. c.rows.cells.items ++ xs) (c.deref.ensures.value ∙ back) in

@@ -8,21 +8,25 @@ use Rattle.opgen_top.proofs.run_rows.run_text.Goals as goal
 pub overflow_cast-outputs : goal.overflow_cast-outputs
 overflow_cast-outputs c =
     let widths = c.in_ok-out_widths.ensures ∙ ap (widths_on is_out) c.as_slice-2.ensures in
-    omega (arith, c.len-3.ensures, c.in_ok-out_widths.out_widths.ok.0, ap length widths, few_outputs c.args.design.now c.requires.numbers)
+    omega (arith, c.len.ensures, c.in_ok-out_widths.out_widths.ok.0, ap length widths, few_outputs c.args.design.now c.requires.numbers)
 
 pub invariant_of-outputs : goal.invariant_of-outputs
 invariant_of-outputs c =
     let d = c.args.design.now in
     let rows = c.args.rows.now in
     let widths = c.in_ok-out_widths.ensures ∙ ap (widths_on is_out) c.as_slice-2.ensures in
-    let columns : length (output_widths d) ≡ c.len-3.result = omega (arith, c.len-3.ensures, c.in_ok-out_widths.out_widths.ok.0, ap length widths) in
+    let columns : length (output_widths d) ≡ c.len.result =
+    omega (arith, c.len.ensures, c.in_ok-out_widths.out_widths.ok.0, ap length widths) in
     let cells = c.in_ok-cells.cells.items in
-    record { whole = whole_rows c.len-3.result rows.count cells (length-run d rows.count rows.inputs.cells.items cells c.in_ok-cells.ensures ∙ ap (λ n. rows.count * n) columns) }
+    record {
+      whole = whole_rows c.len.result rows.count cells
+          (length-run d rows.count rows.inputs.cells.items cells c.in_ok-cells.ensures ∙ ap (λ n. rows.count * n) columns);
+    }
 
 pub write_rows-requires-clause-some : goal.write_rows-requires-clause-some
 write_rows-requires-clause-some c =
-    let ins = c.deref.ensures.value ∙ c.in_ok-in_widths.ensures ∙ ap (widths_on is_in) c.as_slice.ensures in
-    let outs = c.deref-2.ensures.value ∙ c.in_ok-out_widths.ensures ∙ ap (widths_on is_out) c.as_slice-2.ensures in
+    let ins = c.deref-3.ensures.value ∙ c.in_ok-in_widths.ensures ∙ ap (widths_on is_in) c.as_slice.ensures in
+    let outs = c.deref-4.ensures.value ∙ c.in_ok-out_widths.ensures ∙ ap (widths_on is_out) c.as_slice-2.ensures in
     omega (arith, ap length ins, ap length outs, sides c.args.design.now, c.requires.some_port)
 
 pub write_rows-requires-clause-same_rows : goal.write_rows-requires-clause-same_rows
@@ -30,8 +34,8 @@ write_rows-requires-clause-same_rows c =
     let d = c.args.design.now in
     let rows = c.args.rows.now in
     let cells = c.in_ok-cells.cells.items in
-    let ins = c.deref.ensures.value ∙ c.in_ok-in_widths.ensures ∙ ap (widths_on is_in) c.as_slice.ensures in
-    let outs = c.deref-2.ensures.value ∙ c.in_ok-out_widths.ensures ∙ ap (widths_on is_out) c.as_slice-2.ensures in
+    let ins = c.deref-3.ensures.value ∙ c.in_ok-in_widths.ensures ∙ ap (widths_on is_in) c.as_slice.ensures in
+    let outs = c.deref-4.ensures.value ∙ c.in_ok-out_widths.ensures ∙ ap (widths_on is_out) c.as_slice-2.ensures in
     rw (ins, outs) (same_rows (length (input_widths d)) (length (output_widths d)) rows.count rows.inputs.cells.items cells
     (length-rows_of_cells (input_widths d) rows.inputs.cells.items rows.count c.requires.rows)
     (length-run d rows.count rows.inputs.cells.items cells c.in_ok-cells.ensures))
@@ -40,7 +44,7 @@ pub returns : goal.returns
 returns c =
     let d = c.args.design.now in
     let rows = c.args.rows.now in
-    let ins = c.deref.ensures.value ∙ c.in_ok-in_widths.ensures ∙ ap (widths_on is_in) c.as_slice.ensures in
-    let outs = c.deref-2.ensures.value ∙ c.in_ok-out_widths.ensures ∙ ap (widths_on is_out) c.as_slice-2.ensures in
-    run_written d rows.count rows.inputs.cells.items c.in_ok-cells.cells.items c.in_ok-write_rows.field-0.items c.deref.result.now c.deref-2.result.now c.in_ok-cells.cells.items
+    let ins = c.deref-3.ensures.value ∙ c.in_ok-in_widths.ensures ∙ ap (widths_on is_in) c.as_slice.ensures in
+    let outs = c.deref-4.ensures.value ∙ c.in_ok-out_widths.ensures ∙ ap (widths_on is_out) c.as_slice-2.ensures in
+    run_written d rows.count rows.inputs.cells.items c.in_ok-cells.cells.items c.in_ok-write_rows.field-0.items c.deref-3.result.now c.deref-4.result.now c.in_ok-cells.cells.items
     ins outs refl c.requires.some_port c.requires.rows c.in_ok-cells.ensures c.in_ok-write_rows.ensures

@@ -11,5 +11,6 @@ lines-preserved g c =
     record {
       adjustable = c.takes.ensures.adjustable ∙ now.adjustable;
       begun = inr (sym now.adjustable ∙ sym c.takes.ensures.takes ∙ c.if-not-takes.false);
-      tuned = tuned_next _ _ c.args.lines.now c.lines.line-index d c.lines-test.true (c.takes.ensures.tuned c.if-not-takes.false) ∙ now.tuned;
+      tuned = tuned_next _ _ c.args.lines.now c.lines.line-index d c.lines-test.true (c.takes.ensures.tuned c.if-not-takes.false)
+          ∙ now.tuned;
     }

@@ -10,7 +10,8 @@ run_text-requires-clause-some_port c = let made = c.args.made.now in served_port
 pub run_text-requires-clause-rows : goal.run_text-requires-clause-rows
 run_text-requires-clause-rows c =
     let made = c.args.made.now in
-    subst (λ ws. AreRowsOfCells ws c.args.cycles c.in_ok-stimulus.field-0.cells.items) (sym (served_widths made.spec made.circuit.planned.design c.requires.ports)) c.in_ok-stimulus.ensures.fit
+    subst (λ ws. AreRowsOfCells ws c.args.cycles c.in_ok-stimulus.field-0.cells.items)
+    (sym (served_widths made.spec made.circuit.planned.design c.requires.ports)) c.in_ok-stimulus.ensures.fit
 
 pub run_text-requires-clause-columns : goal.run_text-requires-clause-columns
 run_text-requires-clause-columns c =
@@ -21,6 +22,7 @@ pub returns : goal.returns
 returns c =
     let made = c.args.made.now in record {
       rows = c.in_ok-run_text.field-0.items;
-      run = subst (λ cs. IsRunText made.circuit.planned.design c.args.cycles cs c.in_ok-run_text.field-0.items) c.in_ok-stimulus.ensures.cells c.in_ok-run_text.ensures;
+      run = subst
+          (λ cs. IsRunText made.circuit.planned.design c.args.cycles cs c.in_ok-run_text.field-0.items) c.in_ok-stimulus.ensures.cells c.in_ok-run_text.ensures;
       answer = rw (c.in_ok-with_file.ensures, c.in_ok-wrote_vectors_line.ensures, c.in_ok-vectors_name.ensures, c.as_str-name.ensures) refl;
     }

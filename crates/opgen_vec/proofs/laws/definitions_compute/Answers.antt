@@ -6,3 +6,6 @@ returns-clause-texts c = record { row = refl; capitals = refl; two_lines = refl;
 
 pub returns-clause-draws : goal.returns-clause-draws
 returns-clause-draws c = refl
+
+pub returns-clause-streams : goal.returns-clause-streams
+returns-clause-streams c = record { row = refl; no_row = refl; words = refl; stream = refl; rows = refl; second_word = refl }

@@ -4,4 +4,11 @@ use Rattle.opgen_write.proofs.statement.put_output.Goals as goal
 
 pub returns : goal.returns
 unfolding driver_text
-returns c = simp (append_assoc, c.in_ok-push_str.ensures.bytes, c.in_ok-put_expression.ensures, c.in_ok-write.ensures.bytes, c.port_name.ensures, c.expr.ensures) refl
+returns c = simp (
+  append_assoc,
+  c.in_ok-push_str.ensures.bytes,
+  c.in_ok-put_expression.ensures,
+  c.in_ok-write.ensures.bytes,
+  c.port_name.ensures,
+  c.expr.ensures,
+) refl

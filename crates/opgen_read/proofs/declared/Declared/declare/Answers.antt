@@ -1,6 +1,6 @@
 use Rattle.std.proofs.Common.{◌≡◌, ◌∙◌, true, ap}
 use Rattle.indexmap.specs.IndexMap.{get_by_text}
-use Rattle.opgen_design.specs.Names.{is_allowed_name}
+use Rattle.opgen_names.specs.Names.{is_allowed_name}
 use Rattle.opgen_read.proofs.FirstPlaces.{one_declared, still_allowed}
 use Rattle.opgen_read.proofs.declared.Declared.declare.Goals as goal
 

@@ -1,0 +1,180 @@
+use Rattle.std.proofs.Common.{◌≡◌, ◌<◌, ◌+◌, ◌-◌, ℕ, List, length, map, take, drop, get_or, not, Some, sym, ap, ◌∙◌, subst, arith}
+use Rattle.std.specs.Prelude.{IsSome}
+use Rattle.std.proofs.lemmas.List.{length-map, length-take-le, take_at}
+use Rattle.opgen_design.specs.declared.expr.Expr.{Expr}
+use Rattle.opgen_design.specs.declared.expr.Op.{Op}
+use Rattle.opgen_design.specs.Plain.{plain, plain_all}
+use Rattle.opgen_design.specs.Run.{scope}
+use Rattle.opgen_design.specs.Value.{value, chain_value, value_on, combined}
+use Rattle.opgen_design.specs.Width.{width_on, chain_width}
+use Rattle.opgen_design.proofs.WidthLaws.{width-is_width}
+use Rattle.opgen_streams.specs.Streams.{word_in}
+use Rattle.opgen_value.proofs.Plain.{plain-name, plain-part, plain-port, plain-not, plain-bits, more-at, first-and-rest}
+use Rattle.opgen_lanes.specs.Banks.{stream_words, widths_of}
+use Rattle.opgen_lanes.proofs.Bits.{cut-in}
+use Rattle.opgen_lanes.proofs.Fits.{name-read, port-read, part-read, bits-narrow, narrow-of, Next, chain-start, chain-next, both-is_width}
+use Rattle.opgen_lanes.proofs.evaluate.+evaluate.Goals as goal
+
+pub evaluate-word-requires-clause-at : goal.evaluate-word-requires-clause-at
+evaluate-word-requires-clause-at t c =
+    let ns = widths_of c.args.signals.now in
+    let r = name-read ns (widths_of c.args.ports.now) (plain c.args.expr.now) c.in-Name.signal
+    (ap plain c.in-Name.is ∙ plain-name c.in-Name.signal) c.requires.fits in
+    omega (arith, r.there, length-map c.args.signals.now.places.items (λ p. p.width))
+
+pub evaluate-put-requires : goal.evaluate-put-requires
+evaluate-put-requires t c =
+    let r = name-read (widths_of c.args.signals.now) (widths_of c.args.ports.now) (plain c.args.expr.now) c.in-Name.signal
+    (ap plain c.in-Name.is ∙ plain-name c.in-Name.signal) c.requires.fits in
+    omega (arith, r.narrow, c.word.ensures.width, c.requires.room)
+
+pub evaluate-returns-in-Name-clause-width : goal.evaluate-returns-in-Name-clause-width
+evaluate-returns-in-Name-clause-width t c =
+    let r = name-read (widths_of c.args.signals.now) (widths_of c.args.ports.now) (plain c.args.expr.now) c.in-Name.signal
+    (ap plain c.in-Name.is ∙ plain-name c.in-Name.signal) c.requires.fits in
+    r.is ∙ ap Some (sym (c.put.ensures.width ∙ c.word.ensures.width))
+
+pub evaluate-word-word-requires-clause-at : goal.evaluate-word-word-requires-clause-at
+evaluate-word-word-requires-clause-at t c =
+    let s = c.in-Part.slice in
+    let r = part-read (widths_of c.args.signals.now) (widths_of c.args.ports.now) (plain c.args.expr.now) s.node s.high s.low
+    (ap plain c.in-Part.is ∙ plain-part s) c.requires.fits in
+    omega (arith, r.there, length-map c.args.signals.now.places.items (λ p. p.width))
+
+pub evaluate-slice_bounds-put-end : goal.evaluate-slice_bounds-put-end
+evaluate-slice_bounds-put-end t c =
+    let s = c.in-Part.slice in
+    let r = part-read (widths_of c.args.signals.now) (widths_of c.args.ports.now) (plain c.args.expr.now) s.node s.high s.low
+    (ap plain c.in-Part.is ∙ plain-part s) c.requires.fits in
+    omega (arith, r.in_order, r.within, c.word-word.ensures.width)
+
+pub evaluate-returns-in-Part-clause-value : goal.evaluate-returns-in-Part-clause-value
+evaluate-returns-in-Part-clause-value t c = λ k h.
+    let s = c.in-Part.slice in
+    let v = scope (stream_words c.args.signals.now c.args.ports.now k) in
+    ap (λ xs. word_in xs k) c.put-in-Part.ensures.word
+    ∙ cut-in s.high s.low c.word-word.result.now k
+    ∙ ap (λ w. take (s.high + 1 - s.low) (drop s.low w)) (c.word-word.ensures.word k h)
+    ∙ sym (ap (value v) (ap plain c.in-Part.is ∙ plain-part s))
+
+pub evaluate-word-requires-in-Port-clause-at : goal.evaluate-word-requires-in-Port-clause-at
+evaluate-word-requires-in-Port-clause-at t c =
+    let r = port-read (widths_of c.args.signals.now) (widths_of c.args.ports.now) (plain c.args.expr.now) c.in-Port.place
+    (ap plain c.in-Port.is ∙ plain-port c.in-Port.place) c.requires.fits in
+    omega (arith, r.there, length-map c.args.ports.now.places.items (λ p. p.width))
+
+pub evaluate-put-requires-in-Port : goal.evaluate-put-requires-in-Port
+evaluate-put-requires-in-Port t c =
+    let r = port-read (widths_of c.args.signals.now) (widths_of c.args.ports.now) (plain c.args.expr.now) c.in-Port.place
+    (ap plain c.in-Port.is ∙ plain-port c.in-Port.place) c.requires.fits in
+    omega (arith, r.narrow, c.word-in-Port.ensures.width, c.requires.room)
+
+pub evaluate-returns-in-Port-clause-width : goal.evaluate-returns-in-Port-clause-width
+evaluate-returns-in-Port-clause-width t c =
+    let r = port-read (widths_of c.args.signals.now) (widths_of c.args.ports.now) (plain c.args.expr.now) c.in-Port.place
+    (ap plain c.in-Port.is ∙ plain-port c.in-Port.place) c.requires.fits in
+    r.is ∙ ap Some (sym (c.put-in-Port.ensures.width ∙ c.word-in-Port.ensures.width))
+
+pub evaluate-returns-in-Bits-clause-value : goal.evaluate-returns-in-Bits-clause-value
+evaluate-returns-in-Bits-clause-value t c = λ k h.
+    let v = scope (stream_words c.args.signals.now c.args.ports.now k) in
+    let m = bits-narrow (widths_of c.args.signals.now) (widths_of c.args.ports.now) (plain c.args.expr.now) c.in-Bits.word
+    (ap plain c.in-Bits.is ∙ plain-bits c.in-Bits.word) c.requires.fits in
+    let l = length-take-le c.width-width.result c.args.out.now (omega (arith, m, c.requires.room, c.width-width.ensures)) in
+    let n : length c.write.new.vectors ≡ c.width-width.result = omega (arith, c.write.auto.vectors, l) in
+    ap (λ xs. word_in xs k) (take_at c.write.new.vectors (drop c.width-width.result c.args.out.now) c.width-width.result n)
+    ∙ c.write.ensures k h
+    ∙ sym (ap (value v) (ap plain c.in-Bits.is ∙ plain-bits c.in-Bits.word))
+
+pub evaluate-slice_bounds-turn-end : goal.evaluate-slice_bounds-turn-end
+evaluate-slice_bounds-turn-end t c =
+    let n = narrow-of (widths_of c.args.signals.now) (widths_of c.args.ports.now) (plain c.deref.result.now) c.evaluate-width.result
+    c.evaluate-width.ensures.width in
+    omega (arith, n, c.requires.room, c.evaluate-width.auto.out)
+
+pub evaluate-slice_bounds-turn-end-in-Not : goal.evaluate-slice_bounds-turn-end-in-Not
+evaluate-slice_bounds-turn-end-in-Not t c =
+    let n = narrow-of (widths_of c.args.signals.now) (widths_of c.args.ports.now) (plain c.deref.result.now) c.evaluate-width.result
+    c.evaluate-width.ensures.width in
+    omega (arith, length-take-le c.evaluate-width.result c.evaluate-width.new.out (omega (arith, n, c.requires.room, c.evaluate-width.auto.out)))
+
+pub evaluate-returns-in-Not-clause-value : goal.evaluate-returns-in-Not-clause-value
+evaluate-returns-in-Not-clause-value t c = λ k h.
+    let v = scope (stream_words c.args.signals.now c.args.ports.now k) in
+    let w = c.evaluate-width.result in
+    let out = c.evaluate-width.new.out in
+    let m = narrow-of (widths_of c.args.signals.now) (widths_of c.args.ports.now) (plain c.deref.result.now) w
+    c.evaluate-width.ensures.width in
+    let n : length c.turn.new.word ≡ w = omega
+    (arith, c.turn.auto.word, length-take-le w out (omega (arith, m, c.requires.room, c.evaluate-width.auto.out))) in
+    ap (λ xs. word_in xs k) (take_at c.turn.new.word (drop w out) w n)
+    ∙ c.turn.ensures k h
+    ∙ ap (map not) (c.evaluate-width.ensures.value k h ∙ ap (λ e. value v (plain e)) c.deref.ensures)
+    ∙ sym (ap (value v) (ap plain c.in-Not.is ∙ plain-not c.in-Not.operand))
+
+pub evaluate_chain-loop-operand-init : goal.evaluate_chain-loop-operand-init
+evaluate_chain-loop-operand-init t c =
+    let ns = widths_of c.args.signals.now in
+    let ps = widths_of c.args.ports.now in
+    let xs = c.args.operands.now in
+    let op = c.args.op in
+    let ts = plain_all (take (length xs - 1) (drop 1 xs)) in
+    let e = plain c.first-item.result in
+    let split = first-and-rest xs c.first-item.result c.in-len1-up.len_at_least c.first-item.is in
+    let f = chain-start ns ps op e ts (subst (λ l. IsSome (chain_width ns ps op l)) split c.requires.fits) in
+    let w = c.evaluate-width.ensures.width in
+    let whole = f.rest c.evaluate-width.result w in
+    record {
+      value = λ k h.
+          let v = scope (stream_words c.args.signals.now c.args.ports.now k) in
+          ap (λ x. value_on v op x ts) (c.evaluate-width.ensures.value k h) ∙ sym (ap (chain_value v op) split);
+      fits = subst IsSome (ap (chain_width ns ps op) split ∙ whole) c.requires.fits;
+      whole = sym (ap (chain_width ns ps op) split ∙ whole);
+      width = width-is_width ns ps e c.evaluate-width.result w;
+    }
+
+next : (ns ps : List ℕ) (op : Op) (w : ℕ) (xs : List Expr) (i : ℕ) (x : Expr) → i < length xs → x ≡ get_or xs i x
+    → IsSome (width_on ns ps op w (plain_all (drop i xs))) → Next ns ps op w (plain x) (plain_all (drop (i + 1) xs))
+next ns ps op w xs i x l e h = chain-next ns ps op w (plain x) (plain_all (drop (i + 1) xs))
+    (subst (λ ts. IsSome (width_on ns ps op w ts)) (more-at xs i x l e) h)
+
+pub evaluate_chain-combine-width-requires-clause-fits : goal.evaluate_chain-combine-width-requires-clause-fits
+evaluate_chain-combine-width-requires-clause-fits t c =
+    let n = next (widths_of c.args.signals.now) (widths_of c.args.ports.now) c.args.op c.loop-operand.width
+    (take (length c.args.operands.now - 1) (drop 1 c.args.operands.now)) c.loop-operand.operand-index c.operand-item.result
+    c.loop-operand-test.true c.operand-item.is c.loop-operand.invariant.fits in
+    n.joins c.evaluate-added.result c.evaluate-added.ensures.width
+
+pub evaluate_chain-combine-width-requires-clause-second : goal.evaluate_chain-combine-width-requires-clause-second
+evaluate_chain-combine-width-requires-clause-second t c = width-is_width (widths_of c.args.signals.now) (widths_of c.args.ports.now)
+    (plain c.operand-item.result) c.evaluate-added.result c.evaluate-added.ensures.width
+
+pub evaluate_chain-loop-operand-preserved : goal.evaluate_chain-loop-operand-preserved
+evaluate_chain-loop-operand-preserved t c =
+    let ns = widths_of c.args.signals.now in
+    let ps = widths_of c.args.ports.now in
+    let xs = take (length c.args.operands.now - 1) (drop 1 c.args.operands.now) in
+    let op = c.args.op in
+    let i = c.loop-operand.operand-index in
+    let x = c.operand-item.result in
+    let ts = plain_all (drop (i + 1) xs) in
+    let old = c.loop-operand.invariant in
+    let n = next ns ps op c.loop-operand.width xs i x c.loop-operand-test.true c.operand-item.is old.fits in
+    let w = c.evaluate-added.ensures.width in
+    let j = c.combine-width.ensures.width in
+    let more = more-at xs i x c.loop-operand-test.true c.operand-item.is in
+    let step : width_on ns ps op c.loop-operand.width (plain_all (drop i xs)) ≡ width_on ns ps op c.combine-width.result ts =
+    ap (width_on ns ps op c.loop-operand.width) more ∙ n.rest c.evaluate-added.result c.combine-width.result w j in
+    record {
+      value = λ k h.
+          let v = scope (stream_words c.args.signals.now c.args.ports.now k) in
+          ap (λ y. value_on v op y ts) (c.combine-width.ensures.word k h)
+          ∙ ap (λ y. value_on v op (combined op (word_in (take c.loop-operand.width c.loop-operand.out) k) y) ts)
+          (c.evaluate-added.ensures.value k h)
+          ∙ sym (ap (value_on v op (word_in (take c.loop-operand.width c.loop-operand.out) k)) more)
+          ∙ old.value k h;
+      fits = subst IsSome step old.fits;
+      whole = sym step ∙ old.whole;
+      width = both-is_width op c.loop-operand.width c.evaluate-added.result c.combine-width.result old.width
+          (width-is_width ns ps (plain x) c.evaluate-added.result w) j;
+    }

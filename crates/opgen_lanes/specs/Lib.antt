@@ -1,0 +1,4 @@
+pub mod Banks
+pub mod Steps
+pub mod Runs
+pub mod Ready

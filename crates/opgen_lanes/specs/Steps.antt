@@ -1,0 +1,26 @@
+-- Many streams of a design, and a step of each.
+use Rattle.std.specs.Prelude.{ℕ, ◌≡◌, ◌<◌, List}
+use Rattle.opgen_design.specs.declared.design.Design.{Design}
+use Rattle.opgen_design.specs.Run.{Words, Cycle, at_ports, initial_words, input_widths, is_out, outputs_of}
+use Rattle.opgen_design.specs.Sound.{port_widths, signal_widths}
+use Rattle.opgen_runs.specs.Registers.{SameRegisters}
+use Rattle.opgen_streams.specs.Streams.{streams, words_in}
+
+-- the design that is run in each stream, and the vectors of the registers' bits now, at the places of their signals
+pub record Running : Type 0 where
+  pub design : Design
+  pub held : List (List ℕ)
+
+abbrev pub output_widths : Design → List ℕ
+output_widths d = at_ports is_out d.ports (port_widths d)
+
+-- streams before the first cycle of a design
+pub record AreNew (d : Design) (l : Running) : Type 0 where
+  pub design : l.design ≡ d
+  pub registers : (k : ℕ) → k < streams → SameRegisters d (words_in (signal_widths d) l.held k) (initial_words d.signals)
+
+-- a cycle of a stream from the registers' bits now to the next ones, with these bits at the input ports and at the output ports
+pub record IsStepIn (k : ℕ) (d : Design) (now inputs next outputs : List (List ℕ)) : Type 0 where
+  pub words : Words
+  pub cycle : Cycle d (words_in (signal_widths d) now k) (words_in (input_widths d) inputs k) words (words_in (signal_widths d) next k)
+  pub outputs_are : words_in (output_widths d) outputs k ≡ outputs_of d words

@@ -1,0 +1,96 @@
+ghost use Rattle.std.specs.Prelude.{ℕ, ◌≡◌, ◌<◌, ◌≤◌, ◌+◌, All, IfOk, length, map, slice_index, slice_set, take, ◌^◌};
+ghost use Rattle.opgen_num.specs.declared.TheConstants.{MAX_WIDTH};
+ghost use Rattle.opgen_design.specs.Value.{word_at};
+ghost use Rattle.opgen_streams.specs.Streams.{streams, word_in};
+ghost use Rattle.opgen_lanes.specs.Banks.{IsBank, words_at, widths_of};
+
+use opgen_design::{Port, Signal};
+use std::alloc::{AllocError, Global};
+use std::simd::prelude::*;
+
+/// Where the vectors of a word's bits stand.
+#[derive(Clone, Copy)]
+pub struct Place {
+    pub start: usize,
+    pub width: usize,
+}
+
+/// Words of 256 streams: a vector for each bit, one word after another.
+#[derive(Drop)]
+pub struct Bank {
+    pub places: Vec<Place>,
+    pub vectors: Vec<u64x4>,
+}
+
+/// Room for one word.
+pub fn room() -> [u64x4; 96]
+    ensures { length result ≡ MAX_WIDTH }
+{
+    [u64x4::splat(0); 96]
+}
+
+/// The widths of signals.
+pub fn signal_widths(alloc: Global, signals: &[Signal]) -> Result<Vec<u32>, AllocError>
+    ensures { IfOk result (λ ws. ws.items ≡ map (λ s. s.width) signals.now) }
+{
+    let mut widths = Vec::new(alloc);
+    for signal in signals {
+        widths.push(signal.width)?;
+    }
+    Ok(widths)
+}
+
+/// The widths of ports.
+pub fn port_widths(alloc: Global, ports: &[Port]) -> Result<Vec<u32>, AllocError>
+    ensures { IfOk result (λ ws. ws.items ≡ map (λ p. p.width) ports.now) }
+{
+    let mut widths = Vec::new(alloc);
+    for port in ports {
+        widths.push(port.width)?;
+    }
+    Ok(widths)
+}
+
+impl Bank {
+    /// Words of these widths.
+    pub fn new(alloc: Global, widths: &[u32]) -> Result<Bank, AllocError>
+        requires few { length widths.now < 2 ^ 32 }
+        requires narrow { All (λ w. w ≤ MAX_WIDTH) widths.now }
+        ensures bank { IfOk result (λ b. IsBank b) }
+        ensures widths { IfOk result (λ b. widths_of b ≡ widths.now) }
+    {
+        let mut places = Vec::new(alloc);
+        let mut start = 0;
+        for width in widths {
+            let width = *width as usize;
+            places.push(Place { start, width })?;
+            start += width;
+        }
+        let vectors = vec![in alloc; u64x4::splat(0); start]?;
+        Ok(Bank { places, vectors })
+    }
+
+    /// Puts the lowest vectors of a slice at a word's place.
+    pub fn store(&mut self, at: usize, word: &[u64x4])
+        requires bank { IsBank self.old }
+        requires at { at < length self.old.places.items }
+        requires room { slice_index (widths_of self.old) at ≤ length word.now }
+        ensures places { self.new.places ≡ self.old.places }
+        ensures bank { IsBank self.new }
+        ensures words { (k : ℕ) → k < streams → words_at self.new k ≡ slice_set (words_at self.old k) at (word_in (take (slice_index (widths_of self.old) at) word.now) k) }
+    {
+        let place = self.places[at];
+        self.vectors[place.start..place.start + place.width].copy_from_slice(&word[..place.width]);
+    }
+
+    /// The vectors of a word.
+    pub fn word(&self, at: usize) -> &[u64x4]
+        requires bank { IsBank self.now }
+        requires at { at < length self.now.places.items }
+        ensures width { length result.now ≡ slice_index (widths_of self.now) at }
+        ensures word { (k : ℕ) → k < streams → word_in result.now k ≡ word_at (words_at self.now k) at }
+    {
+        let place = self.places[at];
+        &self.vectors[place.start..place.start + place.width]
+    }
+}

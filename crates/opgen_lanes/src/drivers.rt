@@ -1,0 +1,172 @@
+//! The words that drivers give, in each stream.
+ghost use Rattle.std.specs.Prelude.{ℕ, ◌≡◌, ◌<◌, ◌≤◌, All, IsSome, Some, length, slice_get, take};
+ghost use Rattle.opgen_num.specs.declared.TheConstants.{MAX_WIDTH};
+ghost use Rattle.opgen_design.specs.declared.design.Driver.{Driver};
+ghost use Rattle.opgen_design.specs.Plain.{plain};
+ghost use Rattle.opgen_design.specs.Run.{scope};
+ghost use Rattle.opgen_design.specs.Sound.{IsSound, target};
+ghost use Rattle.opgen_design.specs.Value.{chosen, value};
+ghost use Rattle.opgen_design.specs.Width.{width};
+ghost use Rattle.opgen_runs.specs.Evaluate.{IsThere, driver_word, put_at, put_option, settle, table_word};
+ghost use Rattle.opgen_streams.specs.Streams.{streams, word_in};
+ghost use Rattle.opgen_lanes.specs.Banks.{IsBank, stream_words, width_at, widths_of};
+ghost use Rattle.opgen_lanes.specs.Ready.{AreBanksOf};
+
+use crate::bank::{Bank, room};
+use crate::evaluate::evaluate;
+use crate::words::{choose, equal, write, write_where};
+use opgen_design::{Design, Driver, Expr};
+use opgen_num::Word;
+use std::simd::prelude::*;
+
+// The word of the first row of each stream's address, and else the other word.
+fn look_up(rows: &[(Word, Word)], other: Word, address: &[u64x4], out: &mut [u64x4])
+    requires addresses { All (λ r. length r.0 ≡ length address.now) rows.now }
+    requires words { All (λ r. length r.1 ≡ length other) rows.now }
+    requires other { length other ≡ length out.old }
+    requires narrow_address { length address.now ≤ MAX_WIDTH }
+    requires narrow_word { length other ≤ MAX_WIDTH }
+    ensures { (k : ℕ) → k < streams → word_in out.new k ≡ table_word rows.now other (word_in address.now k) }
+{
+    write(other, out);
+    for past in 0..rows.len() {
+        let (from, word) = rows[rows.len() - 1 - past];
+        write_where(equal(from, address), word, out);
+    }
+}
+
+fn choice(
+    on: &Expr,
+    yes: &Expr,
+    no: &Expr,
+    signals: &Bank,
+    ports: &Bank,
+    out: &mut [u64x4],
+) -> usize
+    requires signals { IsBank signals.now }
+    requires ports { IsBank ports.now }
+    requires on { width (widths_of signals.now) (widths_of ports.now) (plain on.now) ≡ Some 1 }
+    requires yes { IsSome (width (widths_of signals.now) (widths_of ports.now) (plain yes.now)) }
+    requires no { width (widths_of signals.now) (widths_of ports.now) (plain no.now) ≡ width (widths_of signals.now) (widths_of ports.now) (plain yes.now) }
+    requires room { MAX_WIDTH ≤ length out.old }
+    ensures { (k : ℕ) → k < streams → word_in (take result out.new) k ≡ chosen (value (scope (stream_words signals.now ports.now k)) (plain on.now)) (value (scope (stream_words signals.now ports.now k)) (plain yes.now)) (value (scope (stream_words signals.now ports.now k)) (plain no.now)) }
+{
+    evaluate(on, signals, ports, out);
+    let on = out[0];
+    let width = evaluate(yes, signals, ports, out);
+    let mut second = room();
+    evaluate(no, signals, ports, &mut second);
+    choose(on, &mut out[..width], &second[..width]);
+    width
+}
+
+fn table(
+    on: &Expr,
+    rows: &[(Word, Word)],
+    other: Word,
+    signals: &Bank,
+    ports: &Bank,
+    out: &mut [u64x4],
+) -> usize
+    requires signals { IsBank signals.now }
+    requires ports { IsBank ports.now }
+    requires on { IsSome (width (widths_of signals.now) (widths_of ports.now) (plain on.now)) }
+    requires addresses { All (λ r. width (widths_of signals.now) (widths_of ports.now) (plain on.now) ≡ Some (length r.0)) rows.now }
+    requires words { All (λ r. length r.1 ≡ length other) rows.now }
+    requires narrow { length other ≤ MAX_WIDTH }
+    requires room { MAX_WIDTH ≤ length out.old }
+    ensures { (k : ℕ) → k < streams → word_in (take result out.new) k ≡ table_word rows.now other (value (scope (stream_words signals.now ports.now k)) (plain on.now)) }
+{
+    let mut address = room();
+    let width = evaluate(on, signals, ports, &mut address);
+    let places = other.width() as usize;
+    look_up(rows, other, &address[..width], &mut out[..places]);
+    places
+}
+
+// Puts what the driver's right side says at the front, and gives its width.
+fn driver_word(
+    design: &Design,
+    place: usize,
+    signals: &Bank,
+    ports: &Bank,
+    out: &mut [u64x4],
+) -> usize
+    requires sound { IsSound design.now }
+    requires place { place < length design.now.drivers }
+    requires banks { AreBanksOf design.now signals.now ports.now }
+    requires room { MAX_WIDTH ≤ length out.old }
+    ensures { (driver : Driver) → slice_get design.now.drivers place ≡ Some driver → (k : ℕ) → k < streams → word_in (take result out.new) k ≡ driver_word (scope (stream_words signals.now ports.now k)) driver }
+{
+    match design.drivers.get(place) {
+        Driver::Assign { to: _, expr }
+        | Driver::Register { to: _, expr }
+        | Driver::Output { port: _, expr } => evaluate(expr.expr(), signals, ports, out),
+        Driver::Choice { to: _, on, yes, no } => {
+            choice(on.expr(), yes.expr(), no.expr(), signals, ports, out)
+        }
+        Driver::Table {
+            to: _,
+            on,
+            rows,
+            other,
+        } => table(on.expr(), rows.as_slice(), *other, signals, ports, out),
+    }
+}
+
+// Puts a word at what the driver drives.
+fn put_at(driver: &Driver, word: &[u64x4], signals: &mut Bank, ports: &mut Bank)
+    requires signals { IsBank signals.old }
+    requires ports { IsBank ports.old }
+    requires there { IsThere (stream_words signals.old ports.old 0) (target driver.now) }
+    requires room { width_at signals.old ports.old (target driver.now) ≤ length word.now }
+    ensures signals { IsBank signals.new }
+    ensures ports { IsBank ports.new }
+    ensures signal_widths { widths_of signals.new ≡ widths_of signals.old }
+    ensures port_widths { widths_of ports.new ≡ widths_of ports.old }
+    ensures words { (k : ℕ) → k < streams → stream_words signals.new ports.new k ≡ put_at (target driver.now) (word_in (take (width_at signals.old ports.old (target driver.now)) word.now) k) (stream_words signals.old ports.old k) }
+{
+    match driver {
+        Driver::Assign { to, expr: _ } => signals.store(*to, word),
+        Driver::Choice {
+            to,
+            on: _,
+            yes: _,
+            no: _,
+        } => signals.store(*to, word),
+        Driver::Table {
+            to,
+            on: _,
+            rows: _,
+            other: _,
+        } => signals.store(*to, word),
+        Driver::Register { to, expr: _ } => signals.store(*to, word),
+        Driver::Output { port, expr: _ } => ports.store(*port, word),
+    }
+}
+
+// Puts the word of the driver at a place at what it drives.
+fn put(design: &Design, place: usize, signals: &mut Bank, ports: &mut Bank)
+    requires sound { IsSound design.now }
+    requires place { place < length design.now.drivers }
+    requires banks { AreBanksOf design.now signals.old ports.old }
+    ensures banks { AreBanksOf design.now signals.new ports.new }
+    ensures words { (k : ℕ) → k < streams → stream_words signals.new ports.new k ≡ put_option (slice_get design.now.drivers place) (stream_words signals.old ports.old k) }
+{
+    let mut word = room();
+    driver_word(design, place, signals, ports, &mut word);
+    put_at(design.drivers.get(place), &word, signals, ports);
+}
+
+/// Evaluates the drivers at these places in order, each over the words of those before it.
+pub fn settle(design: &Design, order: &[usize], signals: &mut Bank, ports: &mut Bank)
+    requires sound { IsSound design.now }
+    requires places { (p i : ℕ) → slice_get order.now p ≡ Some i → i < length design.now.drivers }
+    requires banks { AreBanksOf design.now signals.old ports.old }
+    ensures banks { AreBanksOf design.now signals.new ports.new }
+    ensures words { (k : ℕ) → k < streams → stream_words signals.new ports.new k ≡ settle design.now.drivers order.now (stream_words signals.old ports.old k) }
+{
+    for place in order {
+        put(design, *place, signals, ports);
+    }
+}

@@ -1,0 +1,141 @@
+ghost use Rattle.std.specs.Prelude.{ℕ, ◌≡◌, ◌<◌, ◌^◌, All, IfOk, length, map, unwrap_or};
+ghost use Rattle.std.specs.List.{sum};
+ghost use Rattle.opgen_num.specs.Words.{word};
+ghost use Rattle.opgen_design.specs.Order.{IsOrderOf};
+ghost use Rattle.opgen_design.specs.Run.{Cycle, at_ports, input_widths, is_in};
+ghost use Rattle.opgen_design.specs.Sound.{HasNumbers, IsSignalWide, IsSound};
+ghost use Rattle.opgen_streams.specs.Streams.{streams};
+ghost use Rattle.opgen_lanes.specs.Banks.{IsBank, stream_words, widths_of, words_at};
+ghost use Rattle.opgen_lanes.specs.Ready.{AreBanksOf};
+ghost use Rattle.opgen_lanes.specs.Steps.{AreNew, IsStepIn, output_widths};
+
+use crate::bank::{Bank, port_widths, room, signal_widths};
+use crate::copies::copy;
+use crate::drivers::settle;
+use crate::ports::{give_outputs, take_inputs};
+use crate::registers::hand_all_on;
+use crate::words::write;
+use opgen_design::{Design, Signal};
+use opgen_num::{Memory, Word};
+use std::alloc::{AllocError, Global};
+use std::marker::Model;
+use std::mem;
+use std::simd::prelude::*;
+
+/// A design that is run cycle by cycle, in 256 streams at a time. Stream k is bit k mod 64 of lane k / 64.
+#[derive(Drop)]
+pub struct Lanes {
+    design: Design,
+    order: Vec<usize>,
+    signals: Bank,
+    ports: Bank,
+    next: Bank,
+}
+
+impl Model for Lanes {
+    ghost use Rattle.std.specs.Coded.{codes};
+    ghost use Rattle.opgen_design.specs.TreeCode.{coded_tree};
+    ghost use Rattle.opgen_lanes.specs.Ready.{IsReady};
+    ghost use Rattle.opgen_lanes.specs.Steps.{Running};
+
+    ghost Value = { Running };
+
+    ghost coded = { Prim.hlevel (codes, coded_tree) };
+
+    ghost view = { λ l. record { design = l.design; held = l.signals.vectors.items } };
+
+    ghost invariant = { λ l. IsReady l.design l.order.items l.signals l.ports l.next };
+}
+
+// A signal's initial word, zeros where it has none.
+fn initial_word(signal: &Signal) -> Word
+    ensures { result ≡ unwrap_or signal.now.initial (word signal.now.width 0) }
+{
+    match signal.initial {
+        Some(word) => word,
+        None => Word::new(0, signal.width),
+    }
+}
+
+// The initial words in each stream.
+fn initial_words(alloc: Global, signals: &[Signal]) -> Result<Bank, AllocError>
+    requires few { length signals.now < 2 ^ 32 }
+    requires wide { All IsSignalWide signals.now }
+    ensures bank { IfOk result (λ b. IsBank b) }
+    ensures widths { IfOk result (λ b. widths_of b ≡ map (λ s. s.width) signals.now) }
+    ensures words { IfOk result (λ b. (k : ℕ) → k < streams → words_at b k ≡ map (λ s. unwrap_or s.initial (word s.width 0)) signals.now) }
+{
+    let widths = signal_widths(alloc, signals)?;
+    let mut bank = Bank::new(alloc, &widths)?;
+    for place in 0..signals.len() {
+        let word = initial_word(&signals[place]);
+        let mut vectors = room();
+        write(word, &mut vectors[..word.width() as usize]);
+        bank.store(place, &vectors);
+    }
+    Ok(bank)
+}
+
+// Runs one cycle in place: before it the registers' words stand in `signals` and the inputs in `ports`, after it both have the words
+// of the settled cycle, and `next` has the registers' next words.
+fn run_cycle(
+    design: &Design,
+    order: &[usize],
+    signals: &mut Bank,
+    ports: &mut Bank,
+    next: &mut Bank,
+)
+    requires sound { IsSound design.now }
+    requires order { IsOrderOf design.now order.now }
+    requires banks { AreBanksOf design.now signals.old ports.old }
+    requires next { AreBanksOf design.now next.old ports.old }
+    ensures banks { AreBanksOf design.now signals.new ports.new }
+    ensures next { AreBanksOf design.now next.new ports.new }
+    ensures cycle { (k : ℕ) → k < streams → Cycle design.now (words_at signals.old k) (at_ports is_in design.now.ports (words_at ports.old k)) (stream_words signals.new ports.new k) (words_at next.new k) }
+{
+    settle(design, order, signals, ports);
+    hand_all_on(design, signals, ports, next);
+}
+
+impl Lanes {
+    /// All streams before the first cycle of a sound design, with all the room that their steps use.
+    pub fn new(alloc: Global, design: &Design) -> Result<Lanes, Memory>
+        requires sound { IsSound design.now }
+        requires numbers { HasNumbers design.now }
+        ensures { IfOk result (λ l. AreNew design.now l) }
+    {
+        let order = design.order(alloc)?;
+        let signals = initial_words(alloc, design.signals.as_slice())?;
+        let next = initial_words(alloc, design.signals.as_slice())?;
+        let widths = port_widths(alloc, design.ports.as_slice())?;
+        let ports = Bank::new(alloc, &widths)?;
+        Ok(Lanes {
+            design: copy(alloc, design)?,
+            order,
+            signals,
+            ports,
+            next,
+        })
+    }
+
+    /// Runs one cycle of each stream: a vector for each bit of each input port gives one for each bit of each output port, ports in
+    /// order and the lowest bit first. Takes no memory.
+    pub fn step(&mut self, inputs: &[u64x4], outputs: &mut [u64x4])
+        requires inputs { length inputs.now ≡ sum (input_widths self.old.design) }
+        requires outputs { length outputs.old ≡ sum (output_widths self.old.design) }
+        ensures design { self.new.design ≡ self.old.design }
+        ensures steps { (k : ℕ) → k < streams → IsStepIn k self.old.design self.old.held inputs.now self.new.held outputs.new }
+        ensures length { length outputs.new ≡ length outputs.old }
+    {
+        take_inputs(self.design.ports.as_slice(), inputs, &mut self.ports);
+        run_cycle(
+            &self.design,
+            &self.order,
+            &mut self.signals,
+            &mut self.ports,
+            &mut self.next,
+        );
+        give_outputs(self.design.ports.as_slice(), &self.ports, outputs);
+        mem::swap(&mut self.signals, &mut self.next);
+    }
+}

@@ -1,0 +1,172 @@
+//! Operations on the words of all streams.
+ghost use Rattle.std.specs.Prelude.{ℕ, ◌≡◌, ◌<◌, ◌≤◌, ◌+◌, ◌&&◌, ◌||◌, Some, if◌then◌else◌, length, map, not, take, slice_index_or, false, true, nat_eq, ◌++◌};
+ghost use Rattle.opgen_num.specs.declared.TheConstants.{MAX_WIDTH};
+ghost use Rattle.opgen_num.specs.Sums.{pairwise, sum_with, xor};
+ghost use Rattle.opgen_num.specs.Words.{nat};
+ghost use Rattle.opgen_design.specs.Value.{combined};
+ghost use Rattle.opgen_design.specs.Width.{IsWidth, joined};
+ghost use Rattle.opgen_streams.specs.Streams.{bit_in, streams, word_in};
+
+use opgen_design::Op;
+use opgen_num::Word;
+use opgen_streams::{both, chosen, different, either, majority, splat, turned};
+use std::simd::prelude::*;
+
+/// Each bit turned.
+pub fn turn(word: &mut [u64x4])
+    ensures { (k : ℕ) → k < streams → word_in word.new k ≡ map not (word_in word.old k) }
+{
+    for place in 0..word.len() {
+        word[place] = turned(word[place]);
+    }
+}
+
+/// Bit by bit 1 where both are.
+pub fn keep_both(first: &mut [u64x4], second: &[u64x4])
+    requires { length first.old ≡ length second.now }
+    ensures { (k : ℕ) → k < streams → word_in first.new k ≡ pairwise ◌&&◌ (word_in first.old k) (word_in second.now k) }
+{
+    for place in 0..first.len() {
+        first[place] = both(first[place], second[place]);
+    }
+}
+
+/// Bit by bit 1 where one of the two is.
+pub fn keep_either(first: &mut [u64x4], second: &[u64x4])
+    requires { length first.old ≡ length second.now }
+    ensures { (k : ℕ) → k < streams → word_in first.new k ≡ pairwise ◌||◌ (word_in first.old k) (word_in second.now k) }
+{
+    for place in 0..first.len() {
+        first[place] = either(first[place], second[place]);
+    }
+}
+
+/// Bit by bit 1 where they differ.
+pub fn keep_different(first: &mut [u64x4], second: &[u64x4])
+    requires { length first.old ≡ length second.now }
+    ensures { (k : ℕ) → k < streams → word_in first.new k ≡ pairwise xor (word_in first.old k) (word_in second.now k) }
+{
+    for place in 0..first.len() {
+        first[place] = different(first[place], second[place]);
+    }
+}
+
+/// Adds a word and a carry, without the last carry.
+pub fn add(first: &mut [u64x4], second: &[u64x4], carry: bool)
+    requires { length first.old ≡ length second.now }
+    ensures { (k : ℕ) → k < streams → word_in first.new k ≡ sum_with carry (word_in first.old k) (word_in second.now k) }
+{
+    let mut carried = splat(carry);
+    for place in 0..first.len() {
+        let one = first[place];
+        let other = second[place];
+        first[place] = different(different(one, other), carried);
+        carried = majority(one, other, carried);
+    }
+}
+
+/// The first word stays in the streams where the condition is 1, and else the second takes its place.
+pub fn choose(on: u64x4, first: &mut [u64x4], second: &[u64x4])
+    requires { length first.old ≡ length second.now }
+    ensures { (k : ℕ) → k < streams → word_in first.new k ≡ (if bit_in on k then word_in first.old k else word_in second.now k) }
+{
+    for place in 0..first.len() {
+        first[place] = chosen(on, first[place], second[place]);
+    }
+}
+
+// The bit at a place, from the lowest.
+fn bit_at(word: Word, place: usize) -> bool
+    requires place { place < length word }
+    requires width { length word < 128 }
+    ensures { result ≡ slice_index_or word place false }
+{
+    (word.bits() >> place) % 2 == 1
+}
+
+/// The same word in each stream.
+pub fn write(word: Word, vectors: &mut [u64x4])
+    requires same { length word ≡ length vectors.old }
+    requires width { length word < 128 }
+    ensures { (k : ℕ) → k < streams → word_in vectors.new k ≡ word }
+{
+    for place in 0..vectors.len() {
+        vectors[place] = splat(bit_at(word, place));
+    }
+}
+
+/// Puts a word in place of what stands in the streams where the condition is 1.
+pub fn write_where(on: u64x4, word: Word, vectors: &mut [u64x4])
+    requires same { length word ≡ length vectors.old }
+    requires width { length word < 128 }
+    ensures { (k : ℕ) → k < streams → word_in vectors.new k ≡ (if bit_in on k then word else word_in vectors.old k) }
+{
+    for place in 0..vectors.len() {
+        vectors[place] = chosen(on, splat(bit_at(word, place)), vectors[place]);
+    }
+}
+
+/// Where the streams' word is this one.
+pub fn equal(word: Word, vectors: &[u64x4]) -> u64x4
+    requires same { length word ≡ length vectors.now }
+    requires width { length word < 128 }
+    ensures { (k : ℕ) → k < streams → bit_in result k ≡ nat_eq (nat word) (nat (word_in vectors.now k)) }
+{
+    let mut same = splat(true);
+    for place in 0..vectors.len() {
+        let turn = splat(!bit_at(word, place));
+        same = both(same, different(turn, vectors[place]));
+    }
+    same
+}
+
+// Takes a word off, by the sum with its bits turned and a carry. The second one's vectors hold anything then.
+fn subtract(first: &mut [u64x4], second: &mut [u64x4])
+    requires { length first.old ≡ length second.old }
+    ensures { (k : ℕ) → k < streams → word_in first.new k ≡ sum_with true (word_in first.old k) (map not (word_in second.old k)) }
+{
+    turn(second);
+    add(first, second, true);
+}
+
+// Puts the second word below the first. The second one's vectors hold anything then.
+fn join(first: &mut [u64x4], width: usize, second: &mut [u64x4], added: usize) -> usize
+    requires first { width + added ≤ length first.old }
+    requires second { width + added ≤ length second.old }
+    requires narrow { width + added ≤ MAX_WIDTH }
+    ensures width { result ≡ width + added }
+    ensures word { (k : ℕ) → k < streams → word_in (take result first.new) k ≡ word_in (take added second.old) k ++ word_in (take width first.old) k }
+{
+    let whole = width + added;
+    second[added..whole].copy_from_slice(&first[..width]);
+    first[..whole].copy_from_slice(&second[..whole]);
+    whole
+}
+
+/// Puts the two operands together, in the place of the first, and gives the width of what stands there. The second one's vectors
+/// hold anything then.
+pub fn combine(
+    op: Op,
+    first: &mut [u64x4],
+    width: usize,
+    second: &mut [u64x4],
+    added: usize,
+) -> usize
+    requires fits { (w : ℕ) × (joined op width added ≡ Some w) }
+    requires first { IsWidth width }
+    requires second { IsWidth added }
+    requires room { MAX_WIDTH ≤ length first.old }
+    requires other_room { MAX_WIDTH ≤ length second.old }
+    ensures width { joined op width added ≡ Some result }
+    ensures word { (k : ℕ) → k < streams → word_in (take result first.new) k ≡ combined op (word_in (take width first.old) k) (word_in (take added second.old) k) }
+{
+    match op {
+        Op::And => keep_both(&mut first[..width], &second[..added]),
+        Op::Or => keep_either(&mut first[..width], &second[..added]),
+        Op::Xor => keep_different(&mut first[..width], &second[..added]),
+        Op::Plus => add(&mut first[..width], &second[..added], false),
+        Op::Minus => subtract(&mut first[..width], &mut second[..added]),
+        Op::Cat => return join(first, width, second, added),
+    }
+    width
+}

@@ -1,0 +1,72 @@
+-- Cuts one behind the other, and the first token of a text.
+use Rattle.std.proofs.Common.{◌≡◌, ℕ, ◌+◌, ◌≤◌, List, [], ◌∷◌, ◌++◌, length, take, drop, refl, ap, sym, ◌∙◌, take-append-drop}
+use Rattle.opgen_vhdl.specs.Fronts.{StandsFor}
+use Rattle.opgen_vhdl.specs.Spans.{spellings_of}
+use Rattle.opgen_vhdl.specs.Tokens.{Element, gap, token, text_of, Stands, Cut, NothingStarts}
+use Rattle.opgen_vhdl.specs.declared.kind.Token.{Token}
+use Rattle.opgen_vhdl.specs.declared.kind.TokenKind.{TokenKind}
+use Rattle.opgen_vhdl.proofs.CutLemmas.{CutTo, cut_to_start, cut_to_end, cut_to-gap, cut_to-token, spanned}
+use Rattle.opgen_lex.specs.First.{HasTokens, IsFirstToken, HasNoToken}
+
+pub cut-append : (es fs : List Element) (bytes rest end : List ℕ) → Cut es bytes rest → Cut fs rest end → Cut (es ++ fs) bytes end
+cut-append [] fs bytes rest end c d = rw c d
+cut-append (e ∷ es) fs bytes rest end c d = (c.0, c.1, c.2, cut-append es fs c.0 rest end c.3 d)
+
+pub spellings-append : (es fs : List Element) → spellings_of (es ++ fs) ≡ spellings_of es ++ spellings_of fs
+spellings-append [] fs = refl
+spellings-append (gap t ∷ es) fs = spellings-append es fs
+spellings-append (token k t ∷ es) fs = ap (λ u. (k, t) ∷ u) (spellings-append es fs)
+
+-- no token stands before the rest
+pub record Behind (bytes rest : List ℕ) : Type 0 where
+  pub elements : List Element
+  pub cut : Cut elements bytes rest
+  pub gaps : spellings_of elements ≡ []
+
+pub behind_start : (bytes : List ℕ) → Behind bytes bytes
+behind_start bytes = record { elements = []; cut = refl; gaps = refl }
+
+module _ (bytes rest : List ℕ) (b : Behind bytes rest) where
+  with_more : (n : ℕ) (e : Element) → text_of e ≡ take n rest → Stands e (drop n rest) → Cut (b.elements ++ e ∷ []) bytes (drop n rest)
+  with_more n e t s = cut-append b.elements (e ∷ []) bytes rest (drop n rest) b.cut
+      (drop n rest, sym (take-append-drop n rest) ∙ ap (λ u. u ++ drop n rest) (sym t), s, refl)
+
+  pub behind-gap : (n : ℕ) → StandsFor rest n (gap (take n rest)) → Behind bytes (drop n rest)
+  behind-gap n s = record {
+    elements = b.elements ++ gap (take n rest) ∷ [];
+    cut = with_more n (gap (take n rest)) refl s.2;
+    gaps = spellings-append b.elements (gap (take n rest) ∷ []) ∙ rw b.gaps refl;
+  }
+
+  pub behind-token : (kind : TokenKind) (n : ℕ) → StandsFor rest n (token kind (take n rest))
+      → IsFirstToken bytes kind (take n rest) (drop n rest)
+  behind-token kind n s = record {
+    elements = b.elements ++ token kind (take n rest) ∷ [];
+    cut = with_more n (token kind (take n rest)) refl s.2;
+    alone = spellings-append b.elements (token kind (take n rest) ∷ []) ∙ rw b.gaps refl;
+  }
+
+  pub behind-nothing : NothingStarts rest → HasNoToken bytes
+  behind-nothing h = record { elements = b.elements; rest = rest; cut = b.cut; gaps = b.gaps; nothing = h }
+
+-- the bytes before the offset are elements
+pub record IsCutTo (bytes : List ℕ) (at : ℕ) : Type 0 where
+  pub tokens : List Token
+  pub cut : CutTo bytes at tokens
+
+pub is_cut_to_start : (bytes : List ℕ) → IsCutTo bytes 0
+is_cut_to_start bytes = record { tokens = []; cut = cut_to_start bytes }
+
+pub is_cut_to-gap : (bytes : List ℕ) (at n : ℕ) → IsCutTo bytes at → StandsFor (drop at bytes) n (gap (take n (drop at bytes)))
+    → IsCutTo bytes (at + n)
+is_cut_to-gap bytes at n c s = record { tokens = c.tokens; cut = cut_to-gap bytes at n s.1 c.tokens c.cut s.2 }
+
+pub is_cut_to-token : (bytes : List ℕ) (at n : ℕ) (kind : TokenKind) → IsCutTo bytes at
+    → StandsFor (drop at bytes) n (token kind (take n (drop at bytes))) → IsCutTo bytes (at + n)
+is_cut_to-token bytes at n kind c s = record {
+  tokens = c.tokens ++ spanned kind at (at + n) ∷ [];
+  cut = cut_to-token bytes at n s.1 kind c.tokens c.cut s.2;
+}
+
+pub has_tokens : (bytes : List ℕ) (at : ℕ) → length bytes ≤ at → IsCutTo bytes at → HasTokens bytes
+has_tokens bytes at h c = record { tokens = c.tokens; cut = cut_to_end bytes at c.tokens h c.cut }

@@ -1,0 +1,25 @@
+-- Where the first token of a text stands.
+use Rattle.std.specs.Prelude.{◌≡◌, ℕ, List, [], ◌∷◌}
+use Rattle.opgen_vhdl.specs.Tokens.{Element, Cut, Tokens, NothingStarts}
+use Rattle.opgen_vhdl.specs.Spans.{spellings_of}
+use Rattle.opgen_vhdl.specs.declared.kind.Token.{Token}
+use Rattle.opgen_vhdl.specs.declared.kind.TokenKind.{TokenKind}
+
+-- the bytes are tokens, white space and comments up to the end
+pub record HasTokens (bytes : List ℕ) : Type 0 where
+  pub tokens : List Token
+  pub cut : Tokens bytes tokens
+
+-- the bytes are elements of which this one is the only token, and then the rest
+pub record IsFirstToken (bytes : List ℕ) (kind : TokenKind) (text rest : List ℕ) : Type 0 where
+  pub elements : List Element
+  pub cut : Cut elements bytes rest
+  pub alone : spellings_of elements ≡ (kind, text) ∷ []
+
+-- the bytes are white space and comments up to where nothing starts, as at the end
+pub record HasNoToken (bytes : List ℕ) : Type 0 where
+  pub elements : List Element
+  pub rest : List ℕ
+  pub cut : Cut elements bytes rest
+  pub gaps : spellings_of elements ≡ []
+  pub nothing : NothingStarts rest

@@ -1,0 +1,22 @@
+// Where the first piece of a text ends.
+
+ghost use Rattle.opgen_read.specs.PieceLen.{IsPieceLen};
+
+use crate::token_text::same_kind;
+use opgen_lex::first_token;
+use opgen_vhdl::TokenKind;
+
+/// How many bytes stand up to the first semicolon, with it, or up to the last token where there is no
+/// semicolon.
+pub fn piece_len(bytes: &[u8]) -> usize
+    ensures { IsPieceLen bytes.now result }
+{
+    let mut rest = bytes;
+    'tokens: while let Some((kind, _text, behind)) = first_token(rest) {
+        if same_kind(kind, TokenKind::Semicolon) {
+            return bytes.len() - behind.len();
+        }
+        rest = behind;
+    }
+    bytes.len() - rest.len()
+}

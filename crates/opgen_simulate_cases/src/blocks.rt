@@ -1,0 +1,48 @@
+//! More rows than a design without registers runs at a time, and some that fill its blocks.
+use crate::running::simulated;
+use opgen_harness::running::holds;
+use opgen_harness::texts::TIMES3;
+use std::alloc::{AllocError, Global};
+use std::test::Fail;
+
+/// So many rows of the numbers from 0 to 15, over and over.
+fn inputs(alloc: Global, count: u32) -> Result<String, AllocError> {
+    let mut text = String::new(alloc);
+    for row in 0..count {
+        let x = row % 16;
+        writeln!(text, "{x:x}")?;
+    }
+    Ok(text)
+}
+
+/// The same rows, each with three times its number.
+fn products(alloc: Global, count: u32) -> Result<String, AllocError> {
+    let mut text = String::new(alloc);
+    for row in 0..count {
+        let x = row % 16;
+        let product = 3 * x;
+        writeln!(text, "{x:x} : {product:02x}")?;
+    }
+    Ok(text)
+}
+
+#[test]
+fn blocks_of_rows(rt: HostRuntime) -> Result<(), Fail> {
+    for count in [0, 1, 255, 256, 257, 512, 513] {
+        let ran = simulated(&rt, TIMES3, &inputs(rt.alloc(), count)?)?;
+        assert_eq!(rt; ran.status, 0);
+        let wanted = products(rt.alloc(), count)?;
+        assert!(rt; holds(&ran.folder, "out.vec", Some(&wanted)));
+    }
+    Ok(())
+}
+
+#[test]
+fn the_last_of_257_rows(rt: HostRuntime) -> Result<(), Fail> {
+    let ran = simulated(&rt, TIMES3, &inputs(rt.alloc(), 257)?)?;
+    match ran.folder.get("out.vec") {
+        Some(stored) => assert!(rt; stored.ends_with("f : 2d\n0 : 00\n".as_bytes())),
+        None => assert!(rt; false),
+    }
+    Ok(())
+}
