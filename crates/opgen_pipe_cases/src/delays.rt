@@ -23,7 +23,7 @@ fn sum_of_three(alloc: Global) -> Result<Expr, AllocError>
 }
 
 // x of two cycles before.
-fn delay_of_delay(alloc: Global) -> Result<Net, Memory>
+pub fn delay_of_delay(alloc: Global) -> Result<Net, Memory>
     ensures inputs { IfOk result (λ net. net.inputs ≡ (codes "x", 4) ∷ []) }
     ensures outputs { IfOk result (λ net. net.outputs ≡ (record { name = codes "y"; from = record { node = 2; high = 3; low = 0 } }) ∷ []) }
     ensures valid { IfOk result IsValid }
@@ -38,7 +38,7 @@ fn delay_of_delay(alloc: Global) -> Result<Net, Memory>
 
 // Four times x, nine times x of a cycle before and four times x of two cycles before: the delay of x is read three cycles
 // later, and another delay stands in cycle 2.
-fn filter(alloc: Global) -> Result<Net, Memory>
+pub fn filter(alloc: Global) -> Result<Net, Memory>
     ensures inputs { IfOk result (λ net. net.inputs ≡ (codes "x", 4) ∷ []) }
     ensures outputs { IfOk result (λ net. net.outputs ≡ (record { name = codes "y"; from = record { node = 6; high = 3; low = 0 } }) ∷ []) }
     ensures valid { IfOk result IsValid }

@@ -4,6 +4,10 @@
 #[cfg(test)]
 mod delays;
 #[cfg(test)]
+mod flow;
+#[cfg(test)]
+mod flows;
+#[cfg(test)]
 mod large;
 #[cfg(test)]
 mod long;

@@ -11,7 +11,7 @@ use std::alloc::Global;
 use std::test::Fail;
 
 // Four times x, by three adders of which each adds x.
-fn four_times(alloc: Global) -> Result<Net, Memory>
+pub fn four_times(alloc: Global) -> Result<Net, Memory>
     ensures inputs { IfOk result (λ net. net.inputs ≡ (codes "x", 4) ∷ []) }
     ensures outputs { IfOk result (λ net. net.outputs ≡ (record { name = codes "y"; from = record { node = 3; high = 3; low = 0 } }) ∷ []) }
     ensures valid { IfOk result IsValid }
@@ -37,7 +37,7 @@ fn an_input_has_copies(rt: HostRuntime) -> Result<(), Fail> {
 }
 
 // A constant that is put out, and an adder that nothing reads.
-fn constant_out(alloc: Global) -> Result<Net, Memory>
+pub fn constant_out(alloc: Global) -> Result<Net, Memory>
     ensures inputs { IfOk result (λ net. net.inputs ≡ (codes "x", 4) ∷ []) }
     ensures outputs { IfOk result (λ net. net.outputs ≡ (record { name = codes "y"; from = record { node = 1; high = 3; low = 0 } }) ∷ []) }
     ensures valid { IfOk result IsValid }
@@ -59,7 +59,7 @@ fn a_constant_output_and_an_unread_node(rt: HostRuntime) -> Result<(), Fail> {
 }
 
 // A constant that is added to x, and to the sum in the next cycle.
-fn constant_twice(alloc: Global) -> Result<Net, Memory>
+pub fn constant_twice(alloc: Global) -> Result<Net, Memory>
     ensures inputs { IfOk result (λ net. net.inputs ≡ (codes "x", 4) ∷ []) }
     ensures outputs { IfOk result (λ net. net.outputs ≡ (record { name = codes "y"; from = record { node = 3; high = 3; low = 0 } }) ∷ []) }
     ensures valid { IfOk result IsValid }
@@ -81,7 +81,7 @@ fn a_constant_read_in_two_cycles(rt: HostRuntime) -> Result<(), Fail> {
     Ok(())
 }
 
-fn part_of_x(alloc: Global) -> Result<Net, Memory>
+pub fn part_of_x(alloc: Global) -> Result<Net, Memory>
     ensures inputs { IfOk result (λ net. net.inputs ≡ (codes "x", 4) ∷ []) }
     ensures outputs { IfOk result (λ net. net.outputs ≡ (record { name = codes "y"; from = record { node = 1; high = 3; low = 0 } }) ∷ []) }
     ensures valid { IfOk result IsValid }

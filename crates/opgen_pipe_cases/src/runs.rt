@@ -50,3 +50,33 @@ pub fn expect_enabled_run(
     }
     Ok(())
 }
+
+// The enable in ten cycles, and x and y in the first cycles in which it is 1; in the others x is its opposite.
+pub fn expect_moving_run(
+    rt: &impl Abort,
+    alloc: Global,
+    design: &Design,
+    enable: [u128; 10],
+    x: [u128; 10],
+    y: [u128; 10],
+) -> Result<(), Memory>
+    requires { design.now.ports ≡ (record { name = codes "ce"; dir = In; width = 1 }) ∷ (record { name = codes "x"; dir = In; width = 4 }) ∷ (record { name = codes "y"; dir = Out; width = 3 }) ∷ [] }
+{
+    assert!(rt; design.signals.len() < 100 && design.drivers.len() < 100);
+    assert!(rt; design.sound(alloc).is_ok());
+    let mut sim = Sim::new(alloc, design)?;
+    let mut outputs = [0];
+    let mut moves = 0;
+    for on in enable {
+        let given = x[moves % 10] % 16;
+        sim.step(
+            &[on % 2, if on == 1 { given } else { 15 - given }],
+            &mut outputs,
+        );
+        if on == 1 {
+            assert_eq!(rt; outputs[0], y[moves % 10]);
+            moves = moves.saturating_add(1);
+        }
+    }
+    Ok(())
+}

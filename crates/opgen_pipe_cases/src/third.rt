@@ -34,7 +34,7 @@ fn sum(alloc: Global) -> Result<Expr, AllocError>
 }
 
 // The table of a third of a number of four bits, rounded by half an ulp, in twice the output's ulps.
-fn third_net(alloc: Global) -> Result<Net, Memory>
+pub fn third_net(alloc: Global) -> Result<Net, Memory>
     ensures inputs { IfOk result (λ net. net.inputs ≡ (codes "x", 4) ∷ []) }
     ensures outputs { IfOk result (λ net. net.outputs ≡ (record { name = codes "y"; from = record { node = 3; high = 3; low = 1 } }) ∷ []) }
     ensures valid { IfOk result IsValid }
