@@ -1,5 +1,5 @@
 //! The words that drivers give, in each stream.
-ghost use Rattle.std.specs.Prelude.{ℕ, ◌≡◌, ◌<◌, ◌≤◌, All, IsSome, Some, length, slice_get, take};
+ghost use Rattle.std.specs.Prelude.{ℕ, ◌≡◌, ◌<◌, ◌≤◌, All, IsSome, Some, if◌then◌else◌, length, slice_get, take};
 ghost use Rattle.opgen_num.specs.declared.TheConstants.{MAX_WIDTH};
 ghost use Rattle.opgen_design.specs.declared.design.Driver.{Driver};
 ghost use Rattle.opgen_design.specs.Plain.{plain};
@@ -8,12 +8,12 @@ ghost use Rattle.opgen_design.specs.Sound.{IsSound, target};
 ghost use Rattle.opgen_design.specs.Value.{chosen, value};
 ghost use Rattle.opgen_design.specs.Width.{width};
 ghost use Rattle.opgen_runs.specs.Evaluate.{IsThere, driver_word, put_at, put_option, settle, table_word};
-ghost use Rattle.opgen_streams.specs.Streams.{streams, word_in};
+ghost use Rattle.opgen_streams.specs.Streams.{bit_in, streams, word_in};
 ghost use Rattle.opgen_lanes.specs.Banks.{IsBank, stream_words, width_at, widths_of};
 ghost use Rattle.opgen_lanes.specs.Ready.{AreBanksOf};
 
 use crate::bank::{Bank, room};
-use crate::evaluate::evaluate;
+use crate::evaluate::{evaluate, in_place};
 use crate::words::{choose, equal, write, write_where};
 use opgen_design::{Design, Driver, Expr};
 use opgen_num::Word;
@@ -35,6 +35,46 @@ fn look_up(rows: &[(Word, Word)], other: Word, address: &[u64x4], out: &mut [u64
     }
 }
 
+// The first word stays in the streams where the condition is 1, and else the value of the expression takes its place.
+fn choose_else(
+    on: u64x4,
+    first: &mut [u64x4],
+    no: &Expr,
+    signals: &Bank,
+    ports: &Bank,
+    spare: &mut [u64x4],
+)
+    requires signals { IsBank signals.now }
+    requires ports { IsBank ports.now }
+    requires no { width (widths_of signals.now) (widths_of ports.now) (plain no.now) ≡ Some (length first.old) }
+    requires spare { MAX_WIDTH ≤ length spare.old }
+    ensures { (k : ℕ) → k < streams → word_in first.new k ≡ (if bit_in on k then word_in first.old k else value (scope (stream_words signals.now ports.now k)) (plain no.now)) }
+{
+    match in_place(no, signals, ports) {
+        Some(word) => choose(on, first, word),
+        None => choose_nested(on, first, no, signals, ports, spare),
+    }
+}
+
+// The same of an expression that has to be evaluated first.
+fn choose_nested(
+    on: u64x4,
+    first: &mut [u64x4],
+    no: &Expr,
+    signals: &Bank,
+    ports: &Bank,
+    spare: &mut [u64x4],
+)
+    requires signals { IsBank signals.now }
+    requires ports { IsBank ports.now }
+    requires no { width (widths_of signals.now) (widths_of ports.now) (plain no.now) ≡ Some (length first.old) }
+    requires spare { MAX_WIDTH ≤ length spare.old }
+    ensures { (k : ℕ) → k < streams → word_in first.new k ≡ (if bit_in on k then word_in first.old k else value (scope (stream_words signals.now ports.now k)) (plain no.now)) }
+{
+    let width = evaluate(no, signals, ports, spare, &mut []);
+    choose(on, first, &spare[..width]);
+}
+
 fn choice(
     on: &Expr,
     yes: &Expr,
@@ -42,6 +82,7 @@ fn choice(
     signals: &Bank,
     ports: &Bank,
     out: &mut [u64x4],
+    spare: &mut [u64x4],
 ) -> usize
     requires signals { IsBank signals.now }
     requires ports { IsBank ports.now }
@@ -49,15 +90,64 @@ fn choice(
     requires yes { IsSome (width (widths_of signals.now) (widths_of ports.now) (plain yes.now)) }
     requires no { width (widths_of signals.now) (widths_of ports.now) (plain no.now) ≡ width (widths_of signals.now) (widths_of ports.now) (plain yes.now) }
     requires room { MAX_WIDTH ≤ length out.old }
+    requires spare { MAX_WIDTH ≤ length spare.old }
     ensures { (k : ℕ) → k < streams → word_in (take result out.new) k ≡ chosen (value (scope (stream_words signals.now ports.now k)) (plain on.now)) (value (scope (stream_words signals.now ports.now k)) (plain yes.now)) (value (scope (stream_words signals.now ports.now k)) (plain no.now)) }
 {
-    evaluate(on, signals, ports, out);
+    evaluate(on, signals, ports, out, spare);
     let on = out[0];
-    let width = evaluate(yes, signals, ports, out);
-    let mut second = room();
-    evaluate(no, signals, ports, &mut second);
-    choose(on, &mut out[..width], &second[..width]);
+    let width = evaluate(yes, signals, ports, out, spare);
+    choose_else(on, &mut out[..width], no, signals, ports, spare);
     width
+}
+
+// The word of the first row whose address is the value of the expression.
+fn look_up_at(
+    rows: &[(Word, Word)],
+    other: Word,
+    on: &Expr,
+    signals: &Bank,
+    ports: &Bank,
+    out: &mut [u64x4],
+    spare: &mut [u64x4],
+)
+    requires signals { IsBank signals.now }
+    requires ports { IsBank ports.now }
+    requires on { IsSome (width (widths_of signals.now) (widths_of ports.now) (plain on.now)) }
+    requires addresses { All (λ r. width (widths_of signals.now) (widths_of ports.now) (plain on.now) ≡ Some (length r.0)) rows.now }
+    requires words { All (λ r. length r.1 ≡ length other) rows.now }
+    requires other { length other ≡ length out.old }
+    requires narrow { length other ≤ MAX_WIDTH }
+    requires spare { MAX_WIDTH ≤ length spare.old }
+    ensures { (k : ℕ) → k < streams → word_in out.new k ≡ table_word rows.now other (value (scope (stream_words signals.now ports.now k)) (plain on.now)) }
+{
+    match in_place(on, signals, ports) {
+        Some(address) => look_up(rows, other, address, out),
+        None => look_up_nested(rows, other, on, signals, ports, out, spare),
+    }
+}
+
+// The same of an expression that has to be evaluated first.
+fn look_up_nested(
+    rows: &[(Word, Word)],
+    other: Word,
+    on: &Expr,
+    signals: &Bank,
+    ports: &Bank,
+    out: &mut [u64x4],
+    spare: &mut [u64x4],
+)
+    requires signals { IsBank signals.now }
+    requires ports { IsBank ports.now }
+    requires on { IsSome (width (widths_of signals.now) (widths_of ports.now) (plain on.now)) }
+    requires addresses { All (λ r. width (widths_of signals.now) (widths_of ports.now) (plain on.now) ≡ Some (length r.0)) rows.now }
+    requires words { All (λ r. length r.1 ≡ length other) rows.now }
+    requires other { length other ≡ length out.old }
+    requires narrow { length other ≤ MAX_WIDTH }
+    requires spare { MAX_WIDTH ≤ length spare.old }
+    ensures { (k : ℕ) → k < streams → word_in out.new k ≡ table_word rows.now other (value (scope (stream_words signals.now ports.now k)) (plain on.now)) }
+{
+    let width = evaluate(on, signals, ports, spare, &mut []);
+    look_up(rows, other, &spare[..width], out);
 }
 
 fn table(
@@ -67,6 +157,7 @@ fn table(
     signals: &Bank,
     ports: &Bank,
     out: &mut [u64x4],
+    spare: &mut [u64x4],
 ) -> usize
     requires signals { IsBank signals.now }
     requires ports { IsBank ports.now }
@@ -74,13 +165,12 @@ fn table(
     requires addresses { All (λ r. width (widths_of signals.now) (widths_of ports.now) (plain on.now) ≡ Some (length r.0)) rows.now }
     requires words { All (λ r. length r.1 ≡ length other) rows.now }
     requires narrow { length other ≤ MAX_WIDTH }
+    requires spare { MAX_WIDTH ≤ length spare.old }
     requires room { MAX_WIDTH ≤ length out.old }
     ensures { (k : ℕ) → k < streams → word_in (take result out.new) k ≡ table_word rows.now other (value (scope (stream_words signals.now ports.now k)) (plain on.now)) }
 {
-    let mut address = room();
-    let width = evaluate(on, signals, ports, &mut address);
     let places = other.width() as usize;
-    look_up(rows, other, &address[..width], &mut out[..places]);
+    look_up_at(rows, other, on, signals, ports, &mut out[..places], spare);
     places
 }
 
@@ -91,26 +181,36 @@ fn driver_word(
     signals: &Bank,
     ports: &Bank,
     out: &mut [u64x4],
+    spare: &mut [u64x4],
 ) -> usize
     requires sound { IsSound design.now }
     requires place { place < length design.now.drivers }
     requires banks { AreBanksOf design.now signals.now ports.now }
     requires room { MAX_WIDTH ≤ length out.old }
+    requires spare { MAX_WIDTH ≤ length spare.old }
     ensures { (driver : Driver) → slice_get design.now.drivers place ≡ Some driver → (k : ℕ) → k < streams → word_in (take result out.new) k ≡ driver_word (scope (stream_words signals.now ports.now k)) driver }
 {
     match design.drivers.get(place) {
         Driver::Assign { to: _, expr }
         | Driver::Register { to: _, expr }
-        | Driver::Output { port: _, expr } => evaluate(expr.expr(), signals, ports, out),
+        | Driver::Output { port: _, expr } => evaluate(expr.expr(), signals, ports, out, spare),
         Driver::Choice { to: _, on, yes, no } => {
-            choice(on.expr(), yes.expr(), no.expr(), signals, ports, out)
+            choice(on.expr(), yes.expr(), no.expr(), signals, ports, out, spare)
         }
         Driver::Table {
             to: _,
             on,
             rows,
             other,
-        } => table(on.expr(), rows.as_slice(), *other, signals, ports, out),
+        } => table(
+            on.expr(),
+            rows.as_slice(),
+            *other,
+            signals,
+            ports,
+            out,
+            spare,
+        ),
     }
 }
 
@@ -145,17 +245,25 @@ fn put_at(driver: &Driver, word: &[u64x4], signals: &mut Bank, ports: &mut Bank)
     }
 }
 
-// Puts the word of the driver at a place at what it drives.
-fn put(design: &Design, place: usize, signals: &mut Bank, ports: &mut Bank)
+// Puts the word of the driver at a place at what it drives, by way of the room.
+fn put(
+    design: &Design,
+    place: usize,
+    signals: &mut Bank,
+    ports: &mut Bank,
+    word: &mut [u64x4],
+    spare: &mut [u64x4],
+)
     requires sound { IsSound design.now }
     requires place { place < length design.now.drivers }
     requires banks { AreBanksOf design.now signals.old ports.old }
+    requires room { MAX_WIDTH ≤ length word.old }
+    requires spare { MAX_WIDTH ≤ length spare.old }
     ensures banks { AreBanksOf design.now signals.new ports.new }
     ensures words { (k : ℕ) → k < streams → stream_words signals.new ports.new k ≡ put_option (slice_get design.now.drivers place) (stream_words signals.old ports.old k) }
 {
-    let mut word = room();
-    driver_word(design, place, signals, ports, &mut word);
-    put_at(design.drivers.get(place), &word, signals, ports);
+    driver_word(design, place, signals, ports, word, spare);
+    put_at(design.drivers.get(place), word, signals, ports);
 }
 
 /// Evaluates the drivers at these places in order, each over the words of those before it.
@@ -166,7 +274,9 @@ pub fn settle(design: &Design, order: &[usize], signals: &mut Bank, ports: &mut 
     ensures banks { AreBanksOf design.now signals.new ports.new }
     ensures words { (k : ℕ) → k < streams → stream_words signals.new ports.new k ≡ settle design.now.drivers order.now (stream_words signals.old ports.old k) }
 {
+    let mut word = room();
+    let mut spare = room();
     for place in order {
-        put(design, *place, signals, ports);
+        put(design, *place, signals, ports, &mut word, &mut spare);
     }
 }

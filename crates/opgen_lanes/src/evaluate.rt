@@ -1,16 +1,17 @@
 //! The values of expressions in each stream.
-ghost use Rattle.std.specs.Prelude.{ℕ, ◌≡◌, ◌<◌, ◌≤◌, IsSome, Some, length, take};
+ghost use Rattle.std.specs.Prelude.{ℕ, ◌+◌, ◌-◌, ◌≡◌, ◌<◌, ◌≤◌, IfSome, IsSome, Some, length, slice_index, take};
 ghost use Rattle.opgen_num.specs.declared.TheConstants.{MAX_WIDTH};
 ghost use Rattle.opgen_design.specs.Plain.{plain, plain_all};
 ghost use Rattle.opgen_design.specs.Run.{scope};
-ghost use Rattle.opgen_design.specs.Value.{value, chain_value};
-ghost use Rattle.opgen_design.specs.Width.{chain_width, width};
+ghost use Rattle.opgen_design.specs.Value.{chain_value, combined, cut, value, word_at};
+ghost use Rattle.opgen_design.specs.Width.{IsWidth, chain_width, joined, width};
 ghost use Rattle.opgen_streams.specs.Streams.{streams, word_in};
-ghost use Rattle.opgen_lanes.specs.Banks.{IsBank, stream_words, widths_of};
+ghost use Rattle.opgen_lanes.specs.Banks.{IsBank, stream_words, widths_of, words_at};
 
 use crate::bank::{Bank, room};
 use crate::words::{combine, turn, write};
-use opgen_design::{Expr, Op};
+use opgen_design::{Expr, Op, Slice};
+use opgen_num::MAX_WIDTH;
 use std::simd::prelude::*;
 
 // Puts vectors at the front, and counts them.
@@ -23,9 +24,46 @@ fn put(word: &[u64x4], out: &mut [u64x4]) -> usize
     word.len()
 }
 
-/// Puts the value of an expression at the front, and gives its width. The vectors behind it hold anything then.
+// The vectors of a part of a signal's word.
+fn part(slice: Slice, signals: &Bank) -> &[u64x4]
+    requires signals { IsBank signals.now }
+    requires node { slice.node < length signals.now.places.items }
+    requires low { slice.low ≤ slice.high }
+    requires high { slice.high < slice_index (widths_of signals.now) slice.node }
+    ensures width { length result.now ≡ slice.high + 1 - slice.low }
+    ensures value { (k : ℕ) → k < streams → word_in result.now k ≡ cut slice.high slice.low (word_at (words_at signals.now k) slice.node) }
+{
+    let word = signals.word(slice.node);
+    &word[slice.low as usize..slice.high as usize + 1]
+}
+
+/// The value of a name, a part or a port, where it stands.
+pub fn in_place<'a>(expr: &Expr, signals: &'a Bank, ports: &'a Bank) -> Option<&'a [u64x4]>
+    requires signals { IsBank signals.now }
+    requires ports { IsBank ports.now }
+    requires fits { IsSome (width (widths_of signals.now) (widths_of ports.now) (plain expr.now)) }
+    ensures width { IfSome result (λ w. width (widths_of signals.now) (widths_of ports.now) (plain expr.now) ≡ Some (length w.now)) }
+    ensures value { IfSome result (λ w. (k : ℕ) → k < streams → word_in w.now k ≡ value (scope (stream_words signals.now ports.now k)) (plain expr.now)) }
+{
+    match expr {
+        Expr::Name(signal) => Some(signals.word(*signal)),
+        Expr::Part(slice) => Some(part(*slice, signals)),
+        Expr::Port(place) => Some(ports.word(*place)),
+        Expr::Bits(_) | Expr::Not(_) | Expr::Chain(_, _) => None,
+    }
+}
+
+/// Puts the value of an expression at the front, and gives its width. The vectors behind it and the spare ones hold anything then.
+///
+/// Spare vectors for a word save the time to clear some.
 #[cycle(evaluate)]
-pub fn evaluate(expr: &Expr, signals: &Bank, ports: &Bank, out: &mut [u64x4]) -> usize
+pub fn evaluate(
+    expr: &Expr,
+    signals: &Bank,
+    ports: &Bank,
+    out: &mut [u64x4],
+    spare: &mut [u64x4],
+) -> usize
     requires signals { IsBank signals.now }
     requires ports { IsBank ports.now }
     requires fits { IsSome (width (widths_of signals.now) (widths_of ports.now) (plain expr.now)) }
@@ -35,10 +73,7 @@ pub fn evaluate(expr: &Expr, signals: &Bank, ports: &Bank, out: &mut [u64x4]) ->
 {
     match expr {
         Expr::Name(signal) => put(signals.word(*signal), out),
-        Expr::Part(slice) => {
-            let word = signals.word(slice.node);
-            put(&word[slice.low as usize..slice.high as usize + 1], out)
-        }
+        Expr::Part(slice) => put(part(*slice, signals), out),
         Expr::Bits(word) => {
             let width = word.width() as usize;
             write(*word, &mut out[..width]);
@@ -46,11 +81,11 @@ pub fn evaluate(expr: &Expr, signals: &Bank, ports: &Bank, out: &mut [u64x4]) ->
         }
         Expr::Port(place) => put(ports.word(*place), out),
         Expr::Not(operand) => {
-            let width = evaluate(operand, signals, ports, out);
+            let width = evaluate(operand, signals, ports, out, spare);
             turn(&mut out[..width]);
             width
         }
-        Expr::Chain(op, operands) => evaluate_chain(*op, operands, signals, ports, out),
+        Expr::Chain(op, operands) => evaluate_chain(*op, operands, signals, ports, out, spare),
     }
 }
 
@@ -61,6 +96,7 @@ fn evaluate_chain(
     signals: &Bank,
     ports: &Bank,
     out: &mut [u64x4],
+    spare: &mut [u64x4],
 ) -> usize
     requires signals { IsBank signals.now }
     requires ports { IsBank ports.now }
@@ -72,13 +108,88 @@ fn evaluate_chain(
     match operands {
         [] => 0,
         [first, rest @ ..] => {
-            let mut width = evaluate(first, signals, ports, out);
-            let mut second = room();
+            let mut width = evaluate(first, signals, ports, out, spare);
             for operand in rest {
-                let added = evaluate(operand, signals, ports, &mut second);
-                width = combine(op, out, width, &mut second, added);
+                width = take_in(op, operand, signals, ports, out, width, spare);
             }
             width
         }
     }
+}
+
+// Puts a chain's word at the front and one more operand together, and gives the width of what stands there.
+#[cycle(evaluate)]
+fn take_in(
+    op: Op,
+    operand: &Expr,
+    signals: &Bank,
+    ports: &Bank,
+    out: &mut [u64x4],
+    before: usize,
+    spare: &mut [u64x4],
+) -> usize
+    requires signals { IsBank signals.now }
+    requires ports { IsBank ports.now }
+    requires operand { IsSome (width (widths_of signals.now) (widths_of ports.now) (plain operand.now)) }
+    requires fits { (a : ℕ) → width (widths_of signals.now) (widths_of ports.now) (plain operand.now) ≡ Some a → (w : ℕ) × (joined op before a ≡ Some w) }
+    requires before { IsWidth before }
+    requires room { MAX_WIDTH ≤ length out.old }
+    ensures width { (a : ℕ) → width (widths_of signals.now) (widths_of ports.now) (plain operand.now) ≡ Some a → joined op before a ≡ Some result }
+    ensures value { (k : ℕ) → k < streams → word_in (take result out.new) k ≡ combined op (word_in (take before out.old) k) (value (scope (stream_words signals.now ports.now k)) (plain operand.now)) }
+{
+    match in_place(operand, signals, ports) {
+        Some(word) => combine(op, out, before, word),
+        None => take_in_nested(op, operand, signals, ports, out, before, spare),
+    }
+}
+
+// The same of an operand that has to be evaluated first.
+#[cycle(evaluate)]
+fn take_in_nested(
+    op: Op,
+    operand: &Expr,
+    signals: &Bank,
+    ports: &Bank,
+    out: &mut [u64x4],
+    before: usize,
+    spare: &mut [u64x4],
+) -> usize
+    requires signals { IsBank signals.now }
+    requires ports { IsBank ports.now }
+    requires operand { IsSome (width (widths_of signals.now) (widths_of ports.now) (plain operand.now)) }
+    requires fits { (a : ℕ) → width (widths_of signals.now) (widths_of ports.now) (plain operand.now) ≡ Some a → (w : ℕ) × (joined op before a ≡ Some w) }
+    requires before { IsWidth before }
+    requires room { MAX_WIDTH ≤ length out.old }
+    ensures width { (a : ℕ) → width (widths_of signals.now) (widths_of ports.now) (plain operand.now) ≡ Some a → joined op before a ≡ Some result }
+    ensures value { (k : ℕ) → k < streams → word_in (take result out.new) k ≡ combined op (word_in (take before out.old) k) (value (scope (stream_words signals.now ports.now k)) (plain operand.now)) }
+{
+    if spare.len() < MAX_WIDTH as usize {
+        return take_in_apart(op, operand, signals, ports, out, before);
+    }
+    let added = evaluate(operand, signals, ports, spare, &mut []);
+    combine(op, out, before, &spare[..added])
+}
+
+// The same of an operand that has to be evaluated first, where no vectors are spare.
+#[cycle(evaluate)]
+fn take_in_apart(
+    op: Op,
+    operand: &Expr,
+    signals: &Bank,
+    ports: &Bank,
+    out: &mut [u64x4],
+    before: usize,
+) -> usize
+    requires signals { IsBank signals.now }
+    requires ports { IsBank ports.now }
+    requires operand { IsSome (width (widths_of signals.now) (widths_of ports.now) (plain operand.now)) }
+    requires fits { (a : ℕ) → width (widths_of signals.now) (widths_of ports.now) (plain operand.now) ≡ Some a → (w : ℕ) × (joined op before a ≡ Some w) }
+    requires before { IsWidth before }
+    requires room { MAX_WIDTH ≤ length out.old }
+    ensures width { (a : ℕ) → width (widths_of signals.now) (widths_of ports.now) (plain operand.now) ≡ Some a → joined op before a ≡ Some result }
+    ensures value { (k : ℕ) → k < streams → word_in (take result out.new) k ≡ combined op (word_in (take before out.old) k) (value (scope (stream_words signals.now ports.now k)) (plain operand.now)) }
+{
+    let mut second = room();
+    let added = evaluate(operand, signals, ports, &mut second, &mut []);
+    combine(op, out, before, &second[..added])
 }

@@ -1,5 +1,6 @@
 //! The registers' next words, in each stream.
-ghost use Rattle.std.specs.Prelude.{ℕ, ◌≡◌, ◌<◌, IfSome, Some, length, slice_get, slice_index};
+ghost use Rattle.std.specs.Prelude.{ℕ, ◌≡◌, ◌<◌, ◌≤◌, IfSome, Some, length, slice_get, slice_index};
+ghost use Rattle.opgen_num.specs.declared.TheConstants.{MAX_WIDTH};
 ghost use Rattle.opgen_design.specs.declared.design.Driver.{Driver};
 ghost use Rattle.opgen_design.specs.Run.{moved};
 ghost use Rattle.opgen_design.specs.Sound.{IsSound};
@@ -32,19 +33,27 @@ fn moved(enable: Option<usize>, to: usize, signals: &Bank, ports: &Bank, new: &m
 }
 
 // Puts a register's next word at its signal: the new word where there is no enable or its word is 1, and else the word that it holds.
-fn hand_on(design: &Design, place: usize, signals: &Bank, ports: &Bank, next: &mut Bank)
+// The new word comes by way of the room.
+fn hand_on(
+    design: &Design,
+    place: usize,
+    signals: &Bank,
+    ports: &Bank,
+    next: &mut Bank,
+    new: &mut [u64x4],
+)
     requires sound { IsSound design.now }
     requires place { place < length design.now.drivers }
     requires banks { AreBanksOf design.now signals.now ports.now }
     requires next { AreBanksOf design.now next.old ports.now }
+    requires room { MAX_WIDTH ≤ length new.old }
     ensures next { AreBanksOf design.now next.new ports.now }
     ensures words { (driver : Driver) → slice_get design.now.drivers place ≡ Some driver → (k : ℕ) → k < streams → words_at next.new k ≡ hand_on design.now.enable driver (stream_words signals.now ports.now k) (words_at next.old k) }
 {
     if let Driver::Register { to, expr } = design.drivers.get(place) {
-        let mut new = room();
-        let width = evaluate(expr.expr(), signals, ports, &mut new);
+        let width = evaluate(expr.expr(), signals, ports, new, &mut []);
         moved(design.enable, *to, signals, ports, &mut new[..width]);
-        next.store(*to, &new);
+        next.store(*to, new);
     }
 }
 
@@ -57,7 +66,8 @@ pub fn hand_all_on(design: &Design, signals: &Bank, ports: &Bank, next: &mut Ban
     ensures next { AreBanksOf design.now next.new ports.now }
     ensures words { (k : ℕ) → k < streams → words_at next.new k ≡ hand_all_on design.now.enable design.now.drivers (stream_words signals.now ports.now k) (words_at next.old k) }
 {
+    let mut new = room();
     for place in 0..design.drivers.len() {
-        hand_on(design, place, signals, ports, next);
+        hand_on(design, place, signals, ports, next, &mut new);
     }
 }

@@ -51,12 +51,12 @@ pub fn keep_different(first: &mut [u64x4], second: &[u64x4])
     }
 }
 
-/// Adds a word and a carry, without the last carry.
-pub fn add(first: &mut [u64x4], second: &[u64x4], carry: bool)
+/// Adds a word, without the last carry.
+pub fn add(first: &mut [u64x4], second: &[u64x4])
     requires { length first.old ≡ length second.now }
-    ensures { (k : ℕ) → k < streams → word_in first.new k ≡ sum_with carry (word_in first.old k) (word_in second.now k) }
+    ensures { (k : ℕ) → k < streams → word_in first.new k ≡ sum_with false (word_in first.old k) (word_in second.now k) }
 {
-    let mut carried = splat(carry);
+    let mut carried = splat(false);
     for place in 0..first.len() {
         let one = first[place];
         let other = second[place];
@@ -120,53 +120,49 @@ pub fn equal(word: Word, vectors: &[u64x4]) -> u64x4
     same
 }
 
-// Takes a word off, by the sum with its bits turned and a carry. The second one's vectors hold anything then.
-fn subtract(first: &mut [u64x4], second: &mut [u64x4])
-    requires { length first.old ≡ length second.old }
-    ensures { (k : ℕ) → k < streams → word_in first.new k ≡ sum_with true (word_in first.old k) (map not (word_in second.old k)) }
+// Takes a word off, by the sum with its bits turned and a carry.
+fn subtract(first: &mut [u64x4], second: &[u64x4])
+    requires { length first.old ≡ length second.now }
+    ensures { (k : ℕ) → k < streams → word_in first.new k ≡ sum_with true (word_in first.old k) (map not (word_in second.now k)) }
 {
-    turn(second);
-    add(first, second, true);
+    let mut carried = splat(true);
+    for place in 0..first.len() {
+        let one = first[place];
+        let off = turned(second[place]);
+        first[place] = different(different(one, off), carried);
+        carried = majority(one, off, carried);
+    }
 }
 
-// Puts the second word below the first. The second one's vectors hold anything then.
-fn join(first: &mut [u64x4], width: usize, second: &mut [u64x4], added: usize) -> usize
-    requires first { width + added ≤ length first.old }
-    requires second { width + added ≤ length second.old }
-    requires narrow { width + added ≤ MAX_WIDTH }
-    ensures width { result ≡ width + added }
-    ensures word { (k : ℕ) → k < streams → word_in (take result first.new) k ≡ word_in (take added second.old) k ++ word_in (take width first.old) k }
+// Puts the second word below the first.
+fn join(first: &mut [u64x4], width: usize, second: &[u64x4]) -> usize
+    requires room { width + length second.now ≤ length first.old }
+    requires narrow { width + length second.now ≤ MAX_WIDTH }
+    ensures width { result ≡ width + length second.now }
+    ensures word { (k : ℕ) → k < streams → word_in (take result first.new) k ≡ word_in second.now k ++ word_in (take width first.old) k }
 {
-    let whole = width + added;
-    second[added..whole].copy_from_slice(&first[..width]);
-    first[..whole].copy_from_slice(&second[..whole]);
-    whole
+    let added = second.len();
+    first.copy_within(0..width, added);
+    first[..added].copy_from_slice(second);
+    width + added
 }
 
-/// Puts the two operands together, in the place of the first, and gives the width of what stands there. The second one's vectors
-/// hold anything then.
-pub fn combine(
-    op: Op,
-    first: &mut [u64x4],
-    width: usize,
-    second: &mut [u64x4],
-    added: usize,
-) -> usize
-    requires fits { (w : ℕ) × (joined op width added ≡ Some w) }
+/// Puts the two operands together, in the place of the first, and gives the width of what stands there.
+pub fn combine(op: Op, first: &mut [u64x4], width: usize, second: &[u64x4]) -> usize
+    requires fits { (w : ℕ) × (joined op width (length second.now) ≡ Some w) }
     requires first { IsWidth width }
-    requires second { IsWidth added }
+    requires second { IsWidth (length second.now) }
     requires room { MAX_WIDTH ≤ length first.old }
-    requires other_room { MAX_WIDTH ≤ length second.old }
-    ensures width { joined op width added ≡ Some result }
-    ensures word { (k : ℕ) → k < streams → word_in (take result first.new) k ≡ combined op (word_in (take width first.old) k) (word_in (take added second.old) k) }
+    ensures width { joined op width (length second.now) ≡ Some result }
+    ensures word { (k : ℕ) → k < streams → word_in (take result first.new) k ≡ combined op (word_in (take width first.old) k) (word_in second.now k) }
 {
     match op {
-        Op::And => keep_both(&mut first[..width], &second[..added]),
-        Op::Or => keep_either(&mut first[..width], &second[..added]),
-        Op::Xor => keep_different(&mut first[..width], &second[..added]),
-        Op::Plus => add(&mut first[..width], &second[..added], false),
-        Op::Minus => subtract(&mut first[..width], &mut second[..added]),
-        Op::Cat => return join(first, width, second, added),
+        Op::And => keep_both(&mut first[..width], second),
+        Op::Or => keep_either(&mut first[..width], second),
+        Op::Xor => keep_different(&mut first[..width], second),
+        Op::Plus => add(&mut first[..width], second),
+        Op::Minus => subtract(&mut first[..width], second),
+        Op::Cat => return join(first, width, second),
     }
     width
 }

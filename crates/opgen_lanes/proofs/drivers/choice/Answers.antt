@@ -1,4 +1,4 @@
-use Rattle.std.proofs.Common.{◌≡◌, [], if◌then◌else◌, length, take, drop, get_or, sym, ap, ◌∙◌, arith}
+use Rattle.std.proofs.Common.{◌≡◌, Some, [], if◌then◌else◌, length, take, drop, get_or, sym, ap, ◌∙◌, arith}
 use Rattle.std.proofs.lemmas.List.{length-take-le, take_at}
 use Rattle.opgen_design.specs.Plain.{plain}
 use Rattle.opgen_design.specs.Run.{scope}
@@ -9,32 +9,18 @@ use Rattle.opgen_lanes.proofs.Fits.{within, same-width}
 use Rattle.opgen_lanes.proofs.DriverWords.{chosen-in}
 use Rattle.opgen_lanes.proofs.drivers.choice.Goals as goal
 
-pub slice_bounds-choose-end : goal.slice_bounds-choose-end
-slice_bounds-choose-end c = within (widths_of c.args.signals.now) (widths_of c.args.ports.now) (plain c.args.yes.now) c.evaluate-width.result
+pub slice_bounds-choose_else-end : goal.slice_bounds-choose_else-end
+slice_bounds-choose_else-end c = within (widths_of c.args.signals.now) (widths_of c.args.ports.now) (plain c.args.yes.now) c.evaluate-width.result
     c.evaluate-width.new.out c.evaluate-width.ensures.width (omega (arith, c.requires.room, c.evaluate.auto.out, c.evaluate-width.auto.out))
 
-pub slice_bounds-choose-end-2 : goal.slice_bounds-choose-end-2
-slice_bounds-choose-end-2 c = sym (length-take-le c.evaluate-width.result c.evaluate-width.new.out (within (widths_of c.args.signals.now) (widths_of c.args.ports.now) (plain c.args.yes.now) c.evaluate-width.result
+pub slice_bounds-choose_else-end-2 : goal.slice_bounds-choose_else-end-2
+slice_bounds-choose_else-end-2 c = sym (length-take-le c.evaluate-width.result c.evaluate-width.new.out (within (widths_of c.args.signals.now) (widths_of c.args.ports.now) (plain c.args.yes.now) c.evaluate-width.result
     c.evaluate-width.new.out c.evaluate-width.ensures.width (omega (arith, c.requires.room, c.evaluate.auto.out, c.evaluate-width.auto.out))))
 
-pub slice_bounds-second-end : goal.slice_bounds-second-end
-slice_bounds-second-end c = within (widths_of c.args.signals.now) (widths_of c.args.ports.now) (plain c.args.yes.now) c.evaluate-width.result
-    c.evaluate-2.new.out c.evaluate-width.ensures.width (omega (arith, c.evaluate-2.auto.out, c.room-second.ensures))
-
-pub slice_bounds-choose-end-3 : goal.slice_bounds-choose-end-3
-slice_bounds-choose-end-3 c = sym (length-take-le c.evaluate-width.result c.evaluate-2.new.out (within (widths_of c.args.signals.now) (widths_of c.args.ports.now) (plain c.args.yes.now) c.evaluate-width.result
-    c.evaluate-2.new.out c.evaluate-width.ensures.width (omega (arith, c.evaluate-2.auto.out, c.room-second.ensures))))
-
-pub choose-requires : goal.choose-requires
-choose-requires c =
-    let ns = widths_of c.args.signals.now in
-    let ps = widths_of c.args.ports.now in
-    let w = c.evaluate-width.result in
-    let one = within ns ps (plain c.args.yes.now) w c.evaluate-width.new.out c.evaluate-width.ensures.width
-    (omega (arith, c.requires.room, c.evaluate.auto.out, c.evaluate-width.auto.out)) in
-    let two = within ns ps (plain c.args.yes.now) w c.evaluate-2.new.out c.evaluate-width.ensures.width
-    (omega (arith, c.evaluate-2.auto.out, c.room-second.ensures)) in
-    length-take-le w c.evaluate-width.new.out one ∙ sym (length-take-le w c.evaluate-2.new.out two)
+pub choose_else-requires-clause-no : goal.choose_else-requires-clause-no
+choose_else-requires-clause-no c = c.requires.no ∙ c.evaluate-width.ensures.width
+    ∙ ap Some (sym (length-take-le c.evaluate-width.result c.evaluate-width.new.out (within (widths_of c.args.signals.now) (widths_of c.args.ports.now) (plain c.args.yes.now) c.evaluate-width.result
+    c.evaluate-width.new.out c.evaluate-width.ensures.width (omega (arith, c.requires.room, c.evaluate.auto.out, c.evaluate-width.auto.out)))))
 
 pub returns : goal.returns
 returns c = λ k h.
@@ -43,18 +29,14 @@ returns c = λ k h.
     let out = c.evaluate-width.new.out in
     let first = c.evaluate.new.out in
     let bit = bit_in (get_or first 0 []) k in
-    let l = within (widths_of c.args.signals.now) (widths_of c.args.ports.now) (plain c.args.yes.now) w out c.evaluate-width.ensures.width
-    (omega (arith, c.requires.room, c.evaluate.auto.out, c.evaluate-width.auto.out)) in
-    let n : length c.choose.new.first ≡ w = omega (arith, c.choose.auto.first, length-take-le w out l) in
+    let l = within (widths_of c.args.signals.now) (widths_of c.args.ports.now) (plain c.args.yes.now) c.evaluate-width.result
+    c.evaluate-width.new.out c.evaluate-width.ensures.width (omega (arith, c.requires.room, c.evaluate.auto.out, c.evaluate-width.auto.out)) in
+    let n : length c.choose_else.new.first ≡ w = omega (arith, c.choose_else.auto.first, length-take-le w out l) in
     let one : c.evaluate.result ≡ 1 = same-width (sym c.evaluate.ensures.width ∙ c.requires.on) in
-    let same : c.evaluate-2.result ≡ w = same-width (sym c.evaluate-2.ensures.width ∙ c.requires.no ∙ c.evaluate-width.ensures.width) in
-    let no : word_in (take w c.evaluate-2.new.out) k ≡ value v (plain c.args.no.now) =
-    ap (λ m. word_in (take m c.evaluate-2.new.out) k) (sym same) ∙ c.evaluate-2.ensures.value k h in
     let on : word_in (take 1 first) k ≡ value v (plain c.args.on.now) =
     ap (λ m. word_in (take m first) k) (sym one) ∙ c.evaluate.ensures.value k h in
-    ap (λ xs. word_in xs k) (take_at c.choose.new.first (drop w out) w n)
-    ∙ c.choose.ensures k h
-    ∙ ap (λ x. if bit then x else word_in (take w c.evaluate-2.new.out) k) (c.evaluate-width.ensures.value k h)
-    ∙ ap (λ x. if bit then value v (plain c.args.yes.now) else x) no
+    ap (λ xs. word_in xs k) (take_at c.choose_else.new.first (drop w out) w n)
+    ∙ c.choose_else.ensures k h
+    ∙ ap (λ x. if bit then x else value v (plain c.args.no.now)) (c.evaluate-width.ensures.value k h)
     ∙ chosen-in first k (value v (plain c.args.on.now)) (value v (plain c.args.yes.now)) (value v (plain c.args.no.now))
     (omega (arith, c.requires.room, c.evaluate.auto.out)) on

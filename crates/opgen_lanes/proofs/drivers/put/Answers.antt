@@ -19,7 +19,7 @@ put_at-requires-clause-room c =
     let n = target-narrow d s p c.requires.banks c.requires.sound k
     (there-at d s p c.requires.banks c.requires.sound c.args.place k c.get.ensures)
     (agree-at d c.requires.sound c.args.place k c.get.ensures) in
-    omega (arith, n, c.driver_word.auto.out, c.room-word.ensures)
+    omega (arith, n, c.driver_word.auto.out, c.requires.room)
 
 pub returns-clause-words : goal.returns-clause-words
 returns-clause-words c = λ k h.

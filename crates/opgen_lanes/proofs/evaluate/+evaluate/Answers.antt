@@ -6,13 +6,13 @@ use Rattle.opgen_design.specs.declared.expr.Op.{Op}
 use Rattle.opgen_design.specs.Plain.{plain, plain_all}
 use Rattle.opgen_design.specs.Run.{scope}
 use Rattle.opgen_design.specs.Value.{value, chain_value, value_on, combined}
-use Rattle.opgen_design.specs.Width.{width_on, chain_width}
+use Rattle.opgen_design.specs.Width.{IsWidth, joined, width, width_on, chain_width}
 use Rattle.opgen_design.proofs.WidthLaws.{width-is_width}
 use Rattle.opgen_streams.specs.Streams.{word_in}
+use Rattle.opgen_value.proofs.Fitting.{some-of}
 use Rattle.opgen_value.proofs.Plain.{plain-name, plain-part, plain-port, plain-not, plain-bits, more-at, first-and-rest}
 use Rattle.opgen_lanes.specs.Banks.{stream_words, widths_of}
-use Rattle.opgen_lanes.proofs.Bits.{cut-in}
-use Rattle.opgen_lanes.proofs.Fits.{name-read, port-read, part-read, bits-narrow, narrow-of, Next, chain-start, chain-next, both-is_width}
+use Rattle.opgen_lanes.proofs.Fits.{name-read, port-read, part-read, bits-narrow, narrow-of, Next, chain-start, chain-next, both-is_width, same-width, within}
 use Rattle.opgen_lanes.proofs.evaluate.+evaluate.Goals as goal
 
 pub evaluate-word-requires-clause-at : goal.evaluate-word-requires-clause-at
@@ -34,28 +34,24 @@ evaluate-returns-in-Name-clause-width t c =
     (ap plain c.in-Name.is ∙ plain-name c.in-Name.signal) c.requires.fits in
     r.is ∙ ap Some (sym (c.put.ensures.width ∙ c.word.ensures.width))
 
-pub evaluate-word-word-requires-clause-at : goal.evaluate-word-word-requires-clause-at
-evaluate-word-word-requires-clause-at t c =
+pub evaluate-part-requires-clause-node : goal.evaluate-part-requires-clause-node
+evaluate-part-requires-clause-node t c =
     let s = c.in-Part.slice in
     let r = part-read (widths_of c.args.signals.now) (widths_of c.args.ports.now) (plain c.args.expr.now) s.node s.high s.low
     (ap plain c.in-Part.is ∙ plain-part s) c.requires.fits in
     omega (arith, r.there, length-map c.args.signals.now.places.items (λ p. p.width))
 
-pub evaluate-slice_bounds-put-end : goal.evaluate-slice_bounds-put-end
-evaluate-slice_bounds-put-end t c =
+pub evaluate-part-requires-clause-low : goal.evaluate-part-requires-clause-low
+evaluate-part-requires-clause-low t c =
     let s = c.in-Part.slice in
-    let r = part-read (widths_of c.args.signals.now) (widths_of c.args.ports.now) (plain c.args.expr.now) s.node s.high s.low
-    (ap plain c.in-Part.is ∙ plain-part s) c.requires.fits in
-    omega (arith, r.in_order, r.within, c.word-word.ensures.width)
+    (part-read (widths_of c.args.signals.now) (widths_of c.args.ports.now) (plain c.args.expr.now) s.node s.high s.low
+    (ap plain c.in-Part.is ∙ plain-part s) c.requires.fits).in_order
 
-pub evaluate-returns-in-Part-clause-value : goal.evaluate-returns-in-Part-clause-value
-evaluate-returns-in-Part-clause-value t c = λ k h.
+pub evaluate-part-requires-clause-high : goal.evaluate-part-requires-clause-high
+evaluate-part-requires-clause-high t c =
     let s = c.in-Part.slice in
-    let v = scope (stream_words c.args.signals.now c.args.ports.now k) in
-    ap (λ xs. word_in xs k) c.put-in-Part.ensures.word
-    ∙ cut-in s.high s.low c.word-word.result.now k
-    ∙ ap (λ w. take (s.high + 1 - s.low) (drop s.low w)) (c.word-word.ensures.word k h)
-    ∙ sym (ap (value v) (ap plain c.in-Part.is ∙ plain-part s))
+    (part-read (widths_of c.args.signals.now) (widths_of c.args.ports.now) (plain c.args.expr.now) s.node s.high s.low
+    (ap plain c.in-Part.is ∙ plain-part s) c.requires.fits).within
 
 pub evaluate-word-requires-in-Port-clause-at : goal.evaluate-word-requires-in-Port-clause-at
 evaluate-word-requires-in-Port-clause-at t c =
@@ -138,17 +134,6 @@ next : (ns ps : List ℕ) (op : Op) (w : ℕ) (xs : List Expr) (i : ℕ) (x : Ex
 next ns ps op w xs i x l e h = chain-next ns ps op w (plain x) (plain_all (drop (i + 1) xs))
     (subst (λ ts. IsSome (width_on ns ps op w ts)) (more-at xs i x l e) h)
 
-pub evaluate_chain-combine-width-requires-clause-fits : goal.evaluate_chain-combine-width-requires-clause-fits
-evaluate_chain-combine-width-requires-clause-fits t c =
-    let n = next (widths_of c.args.signals.now) (widths_of c.args.ports.now) c.args.op c.loop-operand.width
-    (take (length c.args.operands.now - 1) (drop 1 c.args.operands.now)) c.loop-operand.operand-index c.operand-item.result
-    c.loop-operand-test.true c.operand-item.is c.loop-operand.invariant.fits in
-    n.joins c.evaluate-added.result c.evaluate-added.ensures.width
-
-pub evaluate_chain-combine-width-requires-clause-second : goal.evaluate_chain-combine-width-requires-clause-second
-evaluate_chain-combine-width-requires-clause-second t c = width-is_width (widths_of c.args.signals.now) (widths_of c.args.ports.now)
-    (plain c.operand-item.result) c.evaluate-added.result c.evaluate-added.ensures.width
-
 pub evaluate_chain-loop-operand-preserved : goal.evaluate_chain-loop-operand-preserved
 evaluate_chain-loop-operand-preserved t c =
     let ns = widths_of c.args.signals.now in
@@ -160,21 +145,70 @@ evaluate_chain-loop-operand-preserved t c =
     let ts = plain_all (drop (i + 1) xs) in
     let old = c.loop-operand.invariant in
     let n = next ns ps op c.loop-operand.width xs i x c.loop-operand-test.true c.operand-item.is old.fits in
-    let w = c.evaluate-added.ensures.width in
-    let j = c.combine-width.ensures.width in
+    let a = some-of (width ns ps (plain x)) n.fits in
+    let j = c.take_in-width.ensures.width a.0 a.1 in
     let more = more-at xs i x c.loop-operand-test.true c.operand-item.is in
-    let step : width_on ns ps op c.loop-operand.width (plain_all (drop i xs)) ≡ width_on ns ps op c.combine-width.result ts =
-    ap (width_on ns ps op c.loop-operand.width) more ∙ n.rest c.evaluate-added.result c.combine-width.result w j in
+    let step : width_on ns ps op c.loop-operand.width (plain_all (drop i xs)) ≡ width_on ns ps op c.take_in-width.result ts =
+    ap (width_on ns ps op c.loop-operand.width) more ∙ n.rest a.0 c.take_in-width.result a.1 j in
     record {
       value = λ k h.
           let v = scope (stream_words c.args.signals.now c.args.ports.now k) in
-          ap (λ y. value_on v op y ts) (c.combine-width.ensures.word k h)
-          ∙ ap (λ y. value_on v op (combined op (word_in (take c.loop-operand.width c.loop-operand.out) k) y) ts)
-          (c.evaluate-added.ensures.value k h)
+          ap (λ y. value_on v op y ts) (c.take_in-width.ensures.value k h)
           ∙ sym (ap (value_on v op (word_in (take c.loop-operand.width c.loop-operand.out) k)) more)
           ∙ old.value k h;
       fits = subst IsSome step old.fits;
       whole = sym step ∙ old.whole;
-      width = both-is_width op c.loop-operand.width c.evaluate-added.result c.combine-width.result old.width
-          (width-is_width ns ps (plain x) c.evaluate-added.result w) j;
+      width = both-is_width op c.loop-operand.width a.0 c.take_in-width.result old.width
+          (width-is_width ns ps (plain x) a.0 a.1) j;
     }
+
+pub take_in-combine-requires-clause-fits : goal.take_in-combine-requires-clause-fits
+take_in-combine-requires-clause-fits t c = c.requires.fits (length c.in-Some.word.now) c.in-Some.ensures.width
+
+pub take_in-combine-requires-clause-second : goal.take_in-combine-requires-clause-second
+take_in-combine-requires-clause-second t c = width-is_width (widths_of c.args.signals.now) (widths_of c.args.ports.now)
+    (plain c.args.operand.now) (length c.in-Some.word.now) c.in-Some.ensures.width
+
+pub take_in-returns-in-Some-clause-width : goal.take_in-returns-in-Some-clause-width
+take_in-returns-in-Some-clause-width t c = λ a e.
+    subst (λ n. joined c.args.op c.args.before n ≡ Some c.combine.result) (same-width (sym c.in-Some.ensures.width ∙ e))
+    c.combine.ensures.width
+
+pub take_in-returns-in-Some-clause-value : goal.take_in-returns-in-Some-clause-value
+take_in-returns-in-Some-clause-value t c = λ k h.
+    c.combine.ensures.word k h
+    ∙ ap (combined c.args.op (word_in (take c.args.before c.args.out.now) k)) (c.in-Some.ensures.value k h)
+
+pub take_in_nested-slice_bounds-combine-end : goal.take_in_nested-slice_bounds-combine-end
+take_in_nested-slice_bounds-combine-end t c = within (widths_of c.args.signals.now) (widths_of c.args.ports.now) (plain c.args.operand.now)
+    c.evaluate-added.result c.evaluate-added.new.out c.evaluate-added.ensures.width
+    (omega (arith, c.evaluate-added.auto.out, c.if-spare.false))
+
+pub take_in_nested-slice_bounds-combine-end-2 : goal.take_in_nested-slice_bounds-combine-end-2
+take_in_nested-slice_bounds-combine-end-2 t c = sym (length-take-le c.evaluate-added.result c.evaluate-added.new.out
+    (within (widths_of c.args.signals.now) (widths_of c.args.ports.now) (plain c.args.operand.now)
+    c.evaluate-added.result c.evaluate-added.new.out c.evaluate-added.ensures.width
+    (omega (arith, c.evaluate-added.auto.out, c.if-spare.false))))
+
+pub take_in_nested-combine-requires-clause-second : goal.take_in_nested-combine-requires-clause-second
+take_in_nested-combine-requires-clause-second t c =
+    let w = c.evaluate-added.result in
+    let out = c.evaluate-added.new.out in
+    let l = within (widths_of c.args.signals.now) (widths_of c.args.ports.now) (plain c.args.operand.now) w out c.evaluate-added.ensures.width
+    (omega (arith, c.evaluate-added.auto.out, c.if-spare.false)) in
+    subst IsWidth (sym (length-take-le w out l))
+    (width-is_width (widths_of c.args.signals.now) (widths_of c.args.ports.now) (plain c.args.operand.now) w c.evaluate-added.ensures.width)
+
+pub take_in_apart-slice_bounds-second-end : goal.take_in_apart-slice_bounds-second-end
+take_in_apart-slice_bounds-second-end t c = within (widths_of c.args.signals.now) (widths_of c.args.ports.now) (plain c.args.operand.now)
+    c.evaluate-added.result c.evaluate-added.new.out c.evaluate-added.ensures.width
+    (omega (arith, c.evaluate-added.auto.out, c.room-second.ensures))
+
+pub take_in_apart-combine-requires-clause-second : goal.take_in_apart-combine-requires-clause-second
+take_in_apart-combine-requires-clause-second t c =
+    let w = c.evaluate-added.result in
+    let out = c.evaluate-added.new.out in
+    let l = within (widths_of c.args.signals.now) (widths_of c.args.ports.now) (plain c.args.operand.now) w out c.evaluate-added.ensures.width
+    (omega (arith, c.evaluate-added.auto.out, c.room-second.ensures)) in
+    subst IsWidth (sym (length-take-le w out l))
+    (width-is_width (widths_of c.args.signals.now) (widths_of c.args.ports.now) (plain c.args.operand.now) w c.evaluate-added.ensures.width)

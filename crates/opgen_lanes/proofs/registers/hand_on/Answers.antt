@@ -22,14 +22,14 @@ evaluate-width-requires-clause-fits c =
     fits-width d c.args.signals.now c.args.ports.now c.requires.banks (plain c.expr.result.now) c.in-Register.expr
     (get_or (signal_widths d) c.in-Register.to 0) c.expr.ensures a
 
-pub slice_bounds-new-end : goal.slice_bounds-new-end
-slice_bounds-new-end c = within (widths_of c.args.signals.now) (widths_of c.args.ports.now) (plain c.expr.result.now) c.evaluate-width.result
-    c.evaluate-width.new.out c.evaluate-width.ensures.width (omega (arith, c.evaluate-width.auto.out, c.room-new.ensures))
-
 pub slice_bounds-moved-end : goal.slice_bounds-moved-end
-slice_bounds-moved-end c = sym (length-take-le c.evaluate-width.result c.evaluate-width.new.out
+slice_bounds-moved-end c = within (widths_of c.args.signals.now) (widths_of c.args.ports.now) (plain c.expr.result.now) c.evaluate-width.result
+    c.evaluate-width.new.out c.evaluate-width.ensures.width (omega (arith, c.evaluate-width.auto.out, c.requires.room))
+
+pub slice_bounds-moved-end-in-Register : goal.slice_bounds-moved-end-in-Register
+slice_bounds-moved-end-in-Register c = sym (length-take-le c.evaluate-width.result c.evaluate-width.new.out
     (within (widths_of c.args.signals.now) (widths_of c.args.ports.now) (plain c.expr.result.now) c.evaluate-width.result
-    c.evaluate-width.new.out c.evaluate-width.ensures.width (omega (arith, c.evaluate-width.auto.out, c.room-new.ensures))))
+    c.evaluate-width.new.out c.evaluate-width.ensures.width (omega (arith, c.evaluate-width.auto.out, c.requires.room))))
 
 pub moved-requires-clause-enable : goal.moved-requires-clause-enable
 moved-requires-clause-enable c = enable-place c.args.design.now c.requires.sound c.args.signals.now c.args.ports.now c.requires.banks
@@ -54,7 +54,7 @@ moved-requires-clause-width c =
     let n : w ≡ get_or (signal_widths d) c.in-Register.to 0 = same-width (sym c.evaluate-width.ensures.width
     ∙ has-width d s p c.requires.banks e c.in-Register.expr (get_or (signal_widths d) c.in-Register.to 0) c.expr.ensures a) in
     length-take-le w c.evaluate-width.new.out (within (widths_of s) (widths_of p) e w c.evaluate-width.new.out c.evaluate-width.ensures.width
-    (omega (arith, c.evaluate-width.auto.out, c.room-new.ensures)))
+    (omega (arith, c.evaluate-width.auto.out, c.requires.room)))
     ∙ n ∙ ap (λ ws. get_or ws c.in-Register.to 0) (sym c.requires.banks.signal_widths)
 
 pub store-requires-clause-at : goal.store-requires-clause-at
@@ -75,7 +75,7 @@ store-requires-clause-room c =
     (agree-at d c.requires.sound c.args.place k c.get.ensures) in
     let m = subst (λ k. width_at s p (target k) ≤ 96) c.in-Register.is n in
     let l = within (widths_of c.args.signals.now) (widths_of p) (plain c.expr.result.now) w out c.evaluate-width.ensures.width
-    (omega (arith, c.evaluate-width.auto.out, c.room-new.ensures)) in
+    (omega (arith, c.evaluate-width.auto.out, c.requires.room)) in
     omega (
       arith,
       m,
@@ -85,7 +85,7 @@ store-requires-clause-room c =
       length-take-le w out l,
       c.moved.auto.new,
       c.evaluate-width.auto.out,
-      c.room-new.ensures,
+      c.requires.room,
     )
 
 pub returns-in-Register-clause-words : goal.returns-in-Register-clause-words
@@ -102,7 +102,7 @@ returns-in-Register-clause-words c = λ driver g k h.
     let same : Some driver ≡ Some (Register to c.in-Register.expr) = sym g ∙ c.get.ensures ∙ ap Some c.in-Register.is in
     let is : driver ≡ Register to c.in-Register.expr = cc in
     let l = within (widths_of s) (widths_of p) e w out c.evaluate-width.ensures.width
-    (omega (arith, c.evaluate-width.auto.out, c.room-new.ensures)) in
+    (omega (arith, c.evaluate-width.auto.out, c.requires.room)) in
     let a = subst (WidthsAgree d) c.in-Register.is (agree-at d c.requires.sound c.args.place c.get.result.now c.get.ensures) in
     let n : w ≡ get_or (signal_widths d) to 0 = same-width (sym c.evaluate-width.ensures.width
     ∙ has-width d s p c.requires.banks e c.in-Register.expr (get_or (signal_widths d) to 0) c.expr.ensures a) in

@@ -1,4 +1,4 @@
-use Rattle.std.proofs.Common.{ℕ, ◌≡◌, ◌<◌, ◌++◌, take, drop}
+use Rattle.std.proofs.Common.{ℕ, ◌≡◌, ◌<◌, ◌++◌, false, take, drop}
 use Rattle.opgen_num.specs.Sums.{sum_with}
 use Rattle.opgen_streams.specs.Streams.{bit_in, streams, word_in}
 use Rattle.opgen_lanes.proofs.words.add.Given as goal
@@ -7,4 +7,4 @@ abbrev pub invariant-loop-place : goal.invariant-loop-place
 invariant-loop-place l = (k : ℕ) → k < streams
     → word_in (take l.place l.first) k
     ++ sum_with (bit_in l.carried k) (word_in (drop l.place l.first) k) (word_in (drop l.place l.second) k)
-    ≡ sum_with l.carry (word_in l.initial.first k) (word_in l.second k)
+    ≡ sum_with false (word_in l.initial.first k) (word_in l.second k)
