@@ -15,7 +15,7 @@ use Rattle.opgen_num.specs.Words.{FitWidths}
 use Rattle.opgen_vec.specs.Rows.{AreRowsOfCells}
 use Rattle.opgen_vec.specs.Writing.{row_count, row_count_of, HaveSameRows}
 use Rattle.opgen_vec.proofs.Rows.{length-cells}
-use Rattle.opgen_top.specs.Running.{output_widths}
+use Rattle.opgen_lanes.specs.Steps.{output_widths}
 
 -- the widths of the ports of one direction, port after port
 abbrev pub widths_on : (is : Dir → Bool) → List Port → List ℕ

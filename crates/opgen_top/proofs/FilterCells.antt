@@ -20,7 +20,8 @@ use Rattle.opgen_operator.specs.Good.{IsGoodRatio}
 use Rattle.opgen_operator.specs.Judged.{recent_words, recent_numbers, output_words, output_numbers}
 use Rattle.opgen_operator.specs.Outputs.{sum_shift, up, down}
 use Rattle.opgen_operator.specs.Ports.{one_input, port, sum_format}
-use Rattle.opgen_top.specs.Running.{output_cells, output_widths, rows_words}
+use Rattle.opgen_lanes.specs.Steps.{output_widths}
+use Rattle.opgen_top.specs.Running.{output_cells, rows_words}
 use Rattle.opgen_top.proofs.Taken.{at_ports-map}
 
 pub same_weighted : (ago : ℕ) (coefs : List ℤ) (x y : Recent) → ((k : ℕ) → x k ≡ y k) → weighted_from ago coefs x ≡ weighted_from ago coefs y

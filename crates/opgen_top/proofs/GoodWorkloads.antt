@@ -13,7 +13,8 @@ use Rattle.opgen_workload.specs.Judged.{IsGoodCycle}
 use Rattle.opgen_workload.proofs.Counting.{all_count, one_count}
 use Rattle.opgen_top.specs.Answer.{Answer}
 use Rattle.opgen_top.specs.Circuit.{CircuitsServe, Serves}
-use Rattle.opgen_top.specs.Running.{output_cells, output_widths, rows_words}
+use Rattle.opgen_lanes.specs.Steps.{output_widths}
+use Rattle.opgen_top.specs.Running.{output_cells, rows_words}
 use Rattle.opgen_top.specs.Workload.{IsWorked, WorkloadsAreGood, cycles, workload_cells}
 use Rattle.opgen_top.proofs.Columns.{length-rows_of_cells}
 use Rattle.opgen_top.proofs.FilterCells.{good_cells}

@@ -17,7 +17,8 @@ use Rattle.opgen_vec.specs.Stimulus.{stimulus_cells}
 use Rattle.opgen_workload.specs.Filter.{workload_spec}
 use Rattle.opgen_workload.specs.Judged.{Counts, IsFilter, IsGoodCycle}
 use Rattle.opgen_top.specs.Circuit.{ports_for}
-use Rattle.opgen_top.specs.Running.{IsRunOf, output_cells, output_widths}
+use Rattle.opgen_lanes.specs.Steps.{output_widths}
+use Rattle.opgen_top.specs.Running.{IsRunOf, output_cells}
 use Rattle.opgen_top.specs.Workload.{RunsGood, cycles, workload_cells}
 use Rattle.opgen_top.proofs.Columns.{length-rows_of_cells, widths_on}
 use Rattle.opgen_top.proofs.RunRows.{length-run}

@@ -13,7 +13,8 @@ use Rattle.opgen_vec.proofs.OneReading.{one_reading}
 use Rattle.opgen_top.specs.Answer.{Answer, simulated, vhdl_refused, vectors_refused}
 use Rattle.opgen_runs.proofs.OneRun.{runs-one}
 use Rattle.opgen_vec.specs.Writing.{rows_text}
-use Rattle.opgen_top.specs.Running.{rows_words, output_widths, output_cells, IsRunOf, IsRunText}
+use Rattle.opgen_lanes.specs.Steps.{output_widths}
+use Rattle.opgen_top.specs.Running.{rows_words, output_cells, IsRunOf, IsRunText}
 use Rattle.opgen_top.specs.Simulate.{GivesDesign, RefusesVhdl, RefusesVectors, Runs, IsSimulated}
 
 -- a sound design has at most one run over these inputs, and one text of it

@@ -13,7 +13,8 @@ use Rattle.opgen_runs.proofs.Kept.{cycle-kept}
 use Rattle.opgen_runs.proofs.Starts.{at_ports-length}
 use Rattle.opgen_vec.specs.Rows.{AreRowsOfCells}
 use Rattle.opgen_vec.specs.Writing.{row_count_of, rows_text}
-use Rattle.opgen_top.specs.Running.{output_cells, output_widths, RunsRows, IsRunOf, IsRunText, rows_words}
+use Rattle.opgen_lanes.specs.Steps.{output_widths}
+use Rattle.opgen_top.specs.Running.{output_cells, RunsRows, IsRunOf, IsRunText, rows_words}
 use Rattle.opgen_top.proofs.Columns.{all_rows, length-rows_of_cells, sides}
 
 no_rows : (d : Design) (now : List (List Bool)) (inputs : List ℕ) → RunsRows d now 0 inputs []

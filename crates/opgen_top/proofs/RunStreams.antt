@@ -13,13 +13,13 @@ use Rattle.opgen_design.specs.Enabled.{IsNoRegister}
 use Rattle.opgen_design.specs.Order.{is_register}
 use Rattle.opgen_design.specs.Run.{Words, Cycle, Meets, input_widths}
 use Rattle.opgen_design.specs.Sound.{signal_widths}
-use Rattle.opgen_lanes.specs.Steps.{IsStepIn}
+use Rattle.opgen_lanes.specs.Steps.{IsStepIn, output_widths}
 use Rattle.opgen_runs.specs.Step.{words_of}
 use Rattle.opgen_streams.specs.Streams.{streams, words_in}
 use Rattle.opgen_vec.specs.Streams.{words, row_or_zeros, row_in, rows_in}
 use Rattle.opgen_vec.specs.Rows.{AreRowsOfCells}
 use Rattle.opgen_vec.specs.Writing.{row_count}
-use Rattle.opgen_top.specs.Running.{output_cells, output_widths}
+use Rattle.opgen_top.specs.Running.{output_cells}
 use Rattle.opgen_top.proofs.Columns.{counted, length-rows_of_cells}
 use Rattle.opgen_top.proofs.RunRows.{HasRun, one_cycle}
 

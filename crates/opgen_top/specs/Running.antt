@@ -7,6 +7,7 @@ use Rattle.opgen_design.specs.declared.design.Dir.{Dir}
 use Rattle.opgen_design.specs.declared.design.Dir.TheVariants.{In, Out}
 use Rattle.opgen_design.specs.Run.{Words, RunsOn, initial_words, at_ports, is_in, is_out, input_widths, outputs_of}
 use Rattle.opgen_runs.specs.Step.{words_of}
+use Rattle.opgen_lanes.specs.Steps.{output_widths}
 use Rattle.opgen_vec.specs.Writing.{rows_text}
 
 -- the words of so many rows, row after row
@@ -18,9 +19,6 @@ rows_words widths (suc rows) cells = words_of widths (take (length widths) cells
 abbrev pub is_of : Dir → Dir → Bool
 is_of In = is_in
 is_of Out = is_out
-
-abbrev pub output_widths : Design → List ℕ
-output_widths d = at_ports is_out d.ports (map (λ p. p.width) d.ports)
 
 -- the numbers of the output ports in a cycle
 abbrev pub output_cells : Design → Words → List ℕ

@@ -3,7 +3,8 @@ ghost use Rattle.std.specs.Prelude.{◌≡◌, ◌<◌, IfOk, length, map};
 ghost use Rattle.opgen_design.specs.Run.{at_ports, input_widths};
 ghost use Rattle.opgen_design.specs.Sound.{HasNumbers, IsSound};
 ghost use Rattle.opgen_vec.specs.Rows.{AreRowsOfCells};
-ghost use Rattle.opgen_top.specs.Running.{is_of, output_widths, IsRunOf, IsRunText};
+ghost use Rattle.opgen_lanes.specs.Steps.{output_widths};
+ghost use Rattle.opgen_top.specs.Running.{is_of, IsRunOf, IsRunText};
 
 use crate::run_streams::{is_for_streams, run_streams};
 use opgen_design::{Design, Dir, Port};

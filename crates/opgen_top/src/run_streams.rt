@@ -5,7 +5,8 @@ ghost use Rattle.opgen_design.specs.Order.{is_register};
 ghost use Rattle.opgen_design.specs.Run.{input_widths};
 ghost use Rattle.opgen_design.specs.Sound.{HasNumbers, IsSound};
 ghost use Rattle.opgen_vec.specs.Rows.{AreRowsOfCells};
-ghost use Rattle.opgen_top.specs.Running.{output_widths, IsRunOf};
+ghost use Rattle.opgen_lanes.specs.Steps.{output_widths};
+ghost use Rattle.opgen_top.specs.Running.{IsRunOf};
 
 use crate::run_rows::Rows;
 use opgen_design::{Design, Driver};

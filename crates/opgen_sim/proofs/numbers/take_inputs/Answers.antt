@@ -1,9 +1,10 @@
 use Rattle.std.proofs.Common.{◌≡◌, ◌+◌, ◌<◌, [], ◌∷◌, ◌++◌, if◌then◌else◌, take, drop, length, map, get_or, sym, ap, ◌∙◌, subst, arith}
-use Rattle.std.proofs.lemmas.List.{length-map, length-take-le}
+use Rattle.std.proofs.lemmas.List.{length-map}
 use Rattle.opgen_num.specs.Words.{word}
 use Rattle.opgen_design.specs.Run.{at_ports, is_in}
 use Rattle.opgen_runs.specs.Step.{words_of}
-use Rattle.opgen_sim.proofs.Ports.{Taken, taken-now, taken-room, taken-below, taken-step, front-more, widths-stay}
+use Rattle.opgen_lanes.proofs.PortWords.{ports-set}
+use Rattle.opgen_sim.proofs.Ports.{Taken, taken-now, taken-room, taken-below, taken-step, widths-stay}
 use Rattle.opgen_sim.proofs.numbers.take_inputs.Goals as goal
 
 pub take_one-at-requires-clause-at : goal.take_one-at-requires-clause-at
@@ -46,10 +47,7 @@ loop-place-preserved c =
     (taken-now ps i p c.loop-place-test.true c.index-ports-place.is all front (drop at ns) c.loop-place.invariant.taken) in
     let same : length ws ≡ length ps = omega
     (arith, ap length c.loop-place.invariant.widths, length-map ws length, length-map ps (λ p. p.width)) in
-    let l : i < length ws = omega (arith, same, c.loop-place-test.true) in
-    let n : length (take i ps) ≡ length (take i ws) = omega
-    (arith, length-take-le i ps (omega (arith, c.loop-place-test.true)), length-take-le i ws (omega (arith, l))) in
-    let f = front-more is_in ps ws i p w c.loop-place-test.true c.index-ports-place.is l n in
+    let f = ports-set is_in ps ws i p w c.loop-place-test.true c.index-ports-place.is (sym same) in
     let e : at_ports is_in (take (i + 1) ps) (take (i + 1) c.take_one-at.new.words) ≡ front ++ (if is_in p.dir then w ∷ [] else []) = ap
     (λ xs. at_ports is_in (take (i + 1) ps) (take (i + 1) xs)) c.take_one-at.ensures.words ∙ f in
     record {

@@ -1,7 +1,7 @@
 use Rattle.std.proofs.Common.{◌≡◌, length}
 use Rattle.opgen_design.specs.Run.{input_widths}
 use Rattle.opgen_vec.specs.Rows.{AreRowsOfCells}
-use Rattle.opgen_top.specs.Running.{output_widths}
+use Rattle.opgen_lanes.specs.Steps.{output_widths}
 use Rattle.opgen_top.proofs.RunRows.{HasRun}
 use Rattle.opgen_top.proofs.run_rows.run_rows.Given as goal
 

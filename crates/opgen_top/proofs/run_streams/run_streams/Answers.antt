@@ -2,10 +2,9 @@ use Rattle.std.proofs.Common.{◌≡◌, ℕ, ◌+◌, ◌-◌, ◌*◌, ◌<◌
 use Rattle.std.specs.Prelude.{All}
 use Rattle.std.specs.List.{sum}
 use Rattle.opgen_design.specs.Run.{initial_words, input_widths, is_out}
-use Rattle.opgen_lanes.specs.Steps.{IsStepIn}
+use Rattle.opgen_lanes.specs.Steps.{IsStepIn, output_widths}
 use Rattle.opgen_streams.specs.Streams.{streams, words_in}
 use Rattle.opgen_vec.specs.Streams.{words, row_or_zeros, rows_in}
-use Rattle.opgen_top.specs.Running.{output_widths}
 use Rattle.opgen_top.proofs.Columns.{few_outputs, narrow_ports}
 use Rattle.opgen_top.proofs.RunRows.{HasRun, whole_run, written_back}
 use Rattle.opgen_top.proofs.RunStreams.{no_registers, one_block, rows_counted}

@@ -1,7 +1,7 @@
 use Rattle.std.proofs.Common.{◌≡◌, ◌-◌, ◌*◌, ◌≤◌, drop, length}
 use Rattle.std.specs.List.{sum}
 use Rattle.opgen_design.specs.Run.{initial_words, input_widths}
-use Rattle.opgen_top.specs.Running.{output_widths}
+use Rattle.opgen_lanes.specs.Steps.{output_widths}
 use Rattle.opgen_top.proofs.RunRows.{HasRun}
 use Rattle.opgen_top.proofs.run_streams.run_streams.Given as goal
 
