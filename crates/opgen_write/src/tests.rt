@@ -6,44 +6,6 @@ use opgen_num::Word;
 use std::alloc::{AllocError, Global};
 use std::test::Fail;
 
-const TIMES3: &str = r#"library ieee;
-use ieee.std_logic_1164.all;
-use ieee.numeric_std.all;
-
-entity times3 is
-  port (
-    clk : in std_logic;
-    x : in std_logic_vector(3 downto 0);
-    y : out std_logic_vector(5 downto 0)
-  );
-end entity;
-
-architecture rtl of times3 is
-  signal s0 : unsigned(3 downto 0);
-  signal s1 : unsigned(5 downto 0);
-begin
-  s0 <= unsigned(x);
-  with s0 select s1 <=
-    "000000" when "0000",
-    "000011" when "0001",
-    "000110" when "0010",
-    "001001" when "0011",
-    "001100" when "0100",
-    "001111" when "0101",
-    "010010" when "0110",
-    "010101" when "0111",
-    "011000" when "1000",
-    "011011" when "1001",
-    "011110" when "1010",
-    "100001" when "1011",
-    "100100" when "1100",
-    "100111" when "1101",
-    "101010" when "1110",
-    "101101" when others;
-  y <= std_logic_vector(s1);
-end architecture;
-"#;
-
 const MIXED: &str = r#"library ieee;
 use ieee.std_logic_1164.all;
 use ieee.numeric_std.all;
@@ -81,55 +43,6 @@ begin
   end process;
   y <= std_logic_vector(s5);
   z <= std_logic_vector(s6(0 downto 0));
-end architecture;
-"#;
-
-const THIRD: &str = r#"library ieee;
-use ieee.std_logic_1164.all;
-use ieee.numeric_std.all;
-
-entity third is
-  port (
-    clk : in std_logic;
-    x : in std_logic_vector(3 downto 0);
-    y : out std_logic_vector(2 downto 0)
-  );
-end entity;
-
-architecture rtl of third is
-  signal s0 : unsigned(3 downto 0);
-  signal s1 : unsigned(3 downto 0);
-  signal s1_1 : unsigned(3 downto 0) := "0000";
-  signal s2 : unsigned(3 downto 0);
-  signal s3 : unsigned(3 downto 0);
-begin
-  s0 <= unsigned(x);
-  with s0 select s1 <=
-    "0000" when "0000",
-    "0001" when "0001",
-    "0001" when "0010",
-    "0010" when "0011",
-    "0011" when "0100",
-    "0011" when "0101",
-    "0100" when "0110",
-    "0101" when "0111",
-    "0101" when "1000",
-    "0110" when "1001",
-    "0111" when "1010",
-    "0111" when "1011",
-    "1000" when "1100",
-    "1001" when "1101",
-    "1001" when "1110",
-    "1010" when others;
-  s2 <= "0001";
-  s3 <= s1_1 + s2;
-  process (clk)
-  begin
-    if rising_edge(clk) then
-      s1_1 <= s1;
-    end if;
-  end process;
-  y <= std_logic_vector(s3(3 downto 1));
 end architecture;
 "#;
 
@@ -256,36 +169,6 @@ fn part(node: usize, high: u32, low: u32) -> Expr {
     Expr::Part(Slice { node, high, low })
 }
 
-// The first fifteen rows of a table of the triples of 4 bits.
-fn triples(alloc: Global) -> Result<Vec<(Word, Word)>, AllocError> {
-    let mut rows = Vec::new(alloc);
-    for x in 0..15u8 {
-        rows.push((Word::new(x.into(), 4), Word::new((3 * x).into(), 6)))?;
-    }
-    Ok(rows)
-}
-
-fn times3(alloc: Global) -> Result<Design, AllocError> {
-    let x = port(alloc, "x", Dir::In, 4)?;
-    let y = port(alloc, "y", Dir::Out, 6)?;
-    let s0 = signal(alloc, "s0", 4, None)?;
-    let s1 = signal(alloc, "s1", 6, None)?;
-    let table = Driver::Table {
-        to: 1,
-        on: Formula::new(Expr::Name(0)),
-        rows: Items::from_vec(triples(alloc)?),
-        other: Word::new(45, 6),
-    };
-    let drivers = vec![in alloc; assign(0, Expr::Port(0)), table, output(1, Expr::Name(1))]?;
-    Ok(Design {
-        name: Text::from_str(alloc, "times3")?,
-        ports: Items::from_vec(vec![in alloc; x, y]?),
-        signals: Items::from_vec(vec![in alloc; s0, s1]?),
-        drivers: Items::from_vec(drivers),
-        enable: None,
-    })
-}
-
 fn mixed_signals(alloc: Global) -> Result<Vec<Signal>, AllocError> {
     let mut signals = Vec::new(alloc);
     signals.push(signal(alloc, "s0", 4, None)?)?;
@@ -380,10 +263,9 @@ fn third_signals(alloc: Global) -> Result<Vec<Signal>, AllocError> {
     Ok(signals)
 }
 
-// The input and the output stand at these places among the ports.
-fn third_drivers(alloc: Global, x: usize, y: usize) -> Result<Vec<Driver>, AllocError> {
+fn third_drivers(alloc: Global) -> Result<Vec<Driver>, AllocError> {
     let mut drivers = Vec::new(alloc);
-    drivers.push(assign(0, Expr::Port(x)))?;
+    drivers.push(assign(0, Expr::Port(1)))?;
     drivers.push(third_table(alloc)?)?;
     drivers.push(assign(3, Expr::Bits(Word::new(1, 4))))?;
     drivers.push(assign(4, pair(alloc, Op::Plus, Expr::Name(2), Expr::Name(3))?))?;
@@ -391,20 +273,8 @@ fn third_drivers(alloc: Global, x: usize, y: usize) -> Result<Vec<Driver>, Alloc
         to: 2,
         expr: Formula::new(Expr::Name(1)),
     })?;
-    drivers.push(output(y, part(4, 3, 1)))?;
+    drivers.push(output(2, part(4, 3, 1)))?;
     Ok(drivers)
-}
-
-fn third(alloc: Global) -> Result<Design, AllocError> {
-    let x = port(alloc, "x", Dir::In, 4)?;
-    let y = port(alloc, "y", Dir::Out, 3)?;
-    Ok(Design {
-        name: Text::from_str(alloc, "third")?,
-        ports: Items::from_vec(vec![in alloc; x, y]?),
-        signals: Items::from_vec(third_signals(alloc)?),
-        drivers: Items::from_vec(third_drivers(alloc, 0, 1)?),
-        enable: None,
-    })
 }
 
 fn enabled_third(alloc: Global) -> Result<Design, AllocError> {
@@ -415,7 +285,7 @@ fn enabled_third(alloc: Global) -> Result<Design, AllocError> {
         name: Text::from_str(alloc, "third")?,
         ports: Items::from_vec(vec![in alloc; ce, x, y]?),
         signals: Items::from_vec(third_signals(alloc)?),
-        drivers: Items::from_vec(third_drivers(alloc, 1, 2)?),
+        drivers: Items::from_vec(third_drivers(alloc)?),
         enable: Some(0),
     })
 }
@@ -484,42 +354,25 @@ fn many_inputs_text(alloc: Global) -> Result<String, AllocError> {
 }
 
 #[test]
-fn writes_a_table(rt: HostRuntime) -> Result<(), Fail> {
-    let design = times3(rt.alloc())?;
-    let mut sink = VecSink::new(rt.alloc());
-    write_design(rt.alloc(), &design, &mut sink)?;
-    let bytes = sink.into_bytes();
-    assert_eq!(rt; str::from_utf8(&bytes)?, TIMES3);
-    assert!(rt; text(rt.alloc(), &design)? == bytes);
-    Ok(())
-}
-
-#[test]
 fn writes_each_kind_of_driver(rt: HostRuntime) -> Result<(), Fail> {
     let design = mixed(rt.alloc())?;
     let mut sink = VecSink::new(rt.alloc());
     write_design(rt.alloc(), &design, &mut sink)?;
     let bytes = sink.into_bytes();
     assert_eq!(rt; str::from_utf8(&bytes)?, MIXED);
+    assert!(rt; text(rt.alloc(), &design)? == bytes);
     Ok(())
 }
 
 #[test]
 fn tells_of_a_sink_that_fails(rt: HostRuntime) -> Result<(), Fail> {
-    let design = times3(rt.alloc())?;
+    let design = held(rt.alloc())?;
     let mut sink = MemorySink::new(rt.alloc(), vec![in rt.alloc(); 0]?);
     let written = write_design(rt.alloc(), &design, &mut sink);
     assert_eq!(rt; written, Err(WriteFault::Failed));
     assert!(rt; sink.bytes().is_empty());
     write_design(rt.alloc(), &design, &mut sink)?;
-    assert_eq!(rt; sink.bytes(), TIMES3.as_bytes());
-    Ok(())
-}
-
-#[test]
-fn writes_a_pipelined_table(rt: HostRuntime) -> Result<(), Fail> {
-    let bytes = text(rt.alloc(), &third(rt.alloc())?)?;
-    assert_eq!(rt; str::from_utf8(&bytes)?, THIRD);
+    assert_eq!(rt; sink.bytes(), HELD.as_bytes());
     Ok(())
 }
 
@@ -548,10 +401,10 @@ fn writes_many_ports_and_no_signal(rt: HostRuntime) -> Result<(), Fail> {
 #[test]
 fn keeps_what_was_taken_before_a_fault(rt: HostRuntime) -> Result<(), Fail> {
     let mut sink = MemorySink::new(rt.alloc(), vec![in rt.alloc(); 1]?);
-    write_design(rt.alloc(), &third(rt.alloc())?, &mut sink)?;
-    let written = write_design(rt.alloc(), &times3(rt.alloc())?, &mut sink);
+    write_design(rt.alloc(), &held(rt.alloc())?, &mut sink)?;
+    let written = write_design(rt.alloc(), &mixed(rt.alloc())?, &mut sink);
     assert_eq!(rt; written, Err(WriteFault::Failed));
-    assert_eq!(rt; sink.bytes(), THIRD.as_bytes());
+    assert_eq!(rt; sink.bytes(), HELD.as_bytes());
     Ok(())
 }
 
