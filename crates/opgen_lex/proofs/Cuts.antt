@@ -1,11 +1,15 @@
 -- Cuts one behind the other, and the first token of a text.
-use Rattle.std.proofs.Common.{◌≡◌, ℕ, ◌+◌, ◌≤◌, List, [], ◌∷◌, ◌++◌, length, take, drop, refl, ap, sym, ◌∙◌, take-append-drop}
+use Rattle.std.proofs.Common.{◌≡◌, ℕ, ◌+◌, ◌-◌, ◌≤◌, ◌<◌, List, [], ◌∷◌, ◌++◌, suc, inl, inr, length, take, drop, refl, ap, sym, ◌∙◌, arith, take-append-drop}
+use Rattle.std.specs.List.{prefix_len}
+use Rattle.std.proofs.lemmas.Bool.{cases_Bool}
+use Rattle.opgen_vhdl.specs.Bytes.{is_white}
 use Rattle.opgen_vhdl.specs.Fronts.{StandsFor}
 use Rattle.opgen_vhdl.specs.Spans.{spellings_of}
-use Rattle.opgen_vhdl.specs.Tokens.{Element, gap, token, text_of, Stands, Cut, NothingStarts}
+use Rattle.opgen_vhdl.specs.Tokens.{Element, gap, token, text_of, Stands, Cut, size_of, tokens_from, NothingStarts, LexicalAt}
 use Rattle.opgen_vhdl.specs.declared.kind.Token.{Token}
 use Rattle.opgen_vhdl.specs.declared.kind.TokenKind.{TokenKind}
 use Rattle.opgen_vhdl.proofs.CutLemmas.{CutTo, cut_to_start, cut_to_end, cut_to-gap, cut_to-token, spanned}
+use Rattle.opgen_vhdl.proofs.SpanLemmas.{length-cut, token_some}
 use Rattle.opgen_lex.specs.First.{HasTokens, IsFirstToken, HasNoToken}
 
 pub cut-append : (es fs : List Element) (bytes rest end : List ℕ) → Cut es bytes rest → Cut fs rest end → Cut (es ++ fs) bytes end
@@ -49,6 +53,17 @@ module _ (bytes rest : List ℕ) (b : Behind bytes rest) where
   pub behind-nothing : NothingStarts rest → HasNoToken bytes
   behind-nothing h = record { elements = b.elements; rest = rest; cut = b.cut; gaps = b.gaps; nothing = h }
 
+-- white space at the front of the rest
+pub behind-white : (bytes rest : List ℕ) → Behind bytes rest → Behind bytes (drop (prefix_len is_white rest) rest)
+behind-white bytes [] b = b
+behind-white bytes (x ∷ rest) b = elim (cases_Bool (is_white x)) [
+  | inl white ↦
+      let n : prefix_len is_white (x ∷ rest) ≡ suc (prefix_len is_white rest) = rw white (omega arith) in
+      let stands : StandsFor (x ∷ rest) 1 (gap (x ∷ [])) = (omega arith, omega arith, inl (record { byte = x; alone = refl; white = white })) in
+      rw n (behind-white bytes rest (behind-gap bytes (x ∷ rest) b 1 stands))
+  | inr other ↦ rw other b
+]
+
 -- the bytes before the offset are elements
 pub record IsCutTo (bytes : List ℕ) (at : ℕ) : Type 0 where
   pub tokens : List Token
@@ -70,3 +85,56 @@ is_cut_to-token bytes at n kind c s = record {
 
 pub has_tokens : (bytes : List ℕ) (at : ℕ) → length bytes ≤ at → IsCutTo bytes at → HasTokens bytes
 has_tokens bytes at h c = record { tokens = c.tokens; cut = cut_to_end bytes at c.tokens h c.cut }
+
+-- the bytes before the rest are elements
+pub record IsPassed (bytes rest : List ℕ) : Type 0 where
+  pub elements : List Element
+  pub cut : Cut elements bytes rest
+
+pub passed_start : (bytes : List ℕ) → IsPassed bytes bytes
+passed_start bytes = record { elements = []; cut = refl }
+
+size_of-append : (es fs : List Element) → size_of (es ++ fs) ≡ size_of es + size_of fs
+size_of-append [] fs = omega arith
+size_of-append (e ∷ es) fs = omega (arith, size_of-append es fs)
+
+some_size : (es : List Element) (bytes rest : List ℕ) (kind : TokenKind) (text : List ℕ) → Cut es bytes rest
+    → spellings_of es ≡ (kind, text) ∷ [] → 0 < size_of es
+some_size [] bytes rest kind text c h = absurd cc
+some_size (gap t ∷ es) bytes rest kind text c h = omega (arith, some_size es c.0 rest kind text c.3 h)
+some_size (token k t ∷ es) bytes rest kind text c h = omega (arith, token_some k t c.0 c.2)
+
+pub behind-shorter : (rest : List ℕ) (kind : TokenKind) (text behind : List ℕ) → IsFirstToken rest kind text behind
+    → length behind < length rest
+behind-shorter rest kind text behind t =
+    omega (arith, length-cut t.elements rest behind t.cut, some_size t.elements rest behind kind text t.cut t.alone)
+
+module _ (bytes rest : List ℕ) (p : IsPassed bytes rest) where
+  pub passed-token : (kind : TokenKind) (text behind : List ℕ) → IsFirstToken rest kind text behind → IsPassed bytes behind
+  passed-token kind text behind t = record {
+    elements = p.elements ++ t.elements;
+    cut = cut-append p.elements t.elements bytes rest behind p.cut t.cut;
+  }
+
+  pub passed-within : length rest ≤ length bytes
+  passed-within = omega (arith, length-cut p.elements bytes rest p.cut)
+
+  pub passed-fault : (at : ℕ) → LexicalAt rest at → LexicalAt bytes (length bytes - length rest + at)
+  passed-fault at l = record {
+    elements = p.elements ++ l.elements;
+    rest = l.rest;
+    cut = cut-append p.elements l.elements bytes rest l.rest p.cut l.cut;
+    place = omega (arith, size_of-append p.elements l.elements, length-cut p.elements bytes rest p.cut, l.place);
+    more = l.more;
+    nothing = l.nothing;
+  }
+
+  pub passed-whole : HasTokens rest → HasTokens bytes
+  passed-whole h = record {
+    tokens = tokens_from 0 (p.elements ++ h.cut.elements);
+    cut = record {
+      elements = p.elements ++ h.cut.elements;
+      cut = cut-append p.elements h.cut.elements bytes rest [] p.cut h.cut.cut;
+      listed = refl;
+    };
+  }

@@ -1,9 +1,9 @@
 // What stands at the front of a text: white space, a comment or a token.
 
-ghost use Rattle.std.specs.Prelude.{◌≡◌, ◌==◌, ◌≤◌, length, drop};
+ghost use Rattle.std.specs.Prelude.{◌≡◌, ◌==◌, ◌≤◌, length, take, drop, ◌&&◌, Some, None, if◌then◌else◌};
 ghost use Rattle.std.specs.Char.{is_ascii_digit};
 ghost use Rattle.std.specs.List.{prefix_len};
-ghost use Rattle.opgen_vhdl.specs.Bytes.{is_white, is_word_byte, is_bit, is_in_line, has_single_underscores, begins};
+ghost use Rattle.opgen_vhdl.specs.Bytes.{is_white, is_word_byte, is_bit, is_in_line, is_underscore, has_single_underscores, begins};
 ghost use Rattle.opgen_vhdl.specs.Fronts.{front_of, word_front, number_front, bits_front, char_front, hyphen_front, mark_front, FrontStands};
 
 use opgen_num::MAX_WIDTH;
@@ -31,11 +31,59 @@ fn is_bit(byte: u8) -> bool
     byte == b'0' || byte == b'1'
 }
 
-fn word_len(bytes: &[u8]) -> usize
-    ensures value { result ≡ prefix_len is_word_byte bytes.now }
+fn white_len(bytes: &[u8]) -> usize
+    ensures value { result ≡ prefix_len is_white bytes.now }
     ensures within { result ≤ length bytes.now }
 {
-    bytes.iter().take_while(|b| is_word_byte(**b)).count()
+    bytes.iter().take_while(|b| is_white(**b)).count()
+}
+
+/// The bytes behind the white space at the front.
+pub fn behind_white(bytes: &[u8]) -> &[u8]
+    ensures { result.now ≡ drop (prefix_len is_white bytes.now) bytes.now }
+{
+    let (_white, behind) = bytes.split_at(white_len(bytes));
+    behind
+}
+
+// Whether an underscore stands behind another.
+fn is_second(byte: u8, underscore: bool) -> bool
+    ensures { result ≡ (is_underscore byte && underscore) }
+{
+    byte == b'_' && underscore
+}
+
+fn is_underscore(byte: u8) -> bool
+    ensures { result ≡ is_underscore byte }
+{
+    byte == b'_'
+}
+
+// The length of a word that ends behind an underscore or another byte.
+fn ended(len: usize, underscore: bool) -> Option<usize>
+    ensures { result ≡ (if underscore then None else Some len) }
+{
+    if underscore { None } else { Some(len) }
+}
+
+// The length of the word at the front, if its underscores are single.
+fn word_len(bytes: &[u8]) -> Option<usize>
+    ensures { let n = prefix_len is_word_byte bytes.now in result ≡ (if has_single_underscores (take n bytes.now) then Some n else None) }
+{
+    let mut len = 0;
+    let mut underscore = false;
+    'bytes: while len < bytes.len() {
+        let byte = bytes[len];
+        if !is_word_byte(byte) {
+            return ended(len, underscore);
+        }
+        if is_second(byte, underscore) {
+            return None;
+        }
+        underscore = is_underscore(byte);
+        len += 1;
+    }
+    ended(len, underscore)
 }
 
 fn digits_len(bytes: &[u8]) -> usize
@@ -60,22 +108,12 @@ fn line_len(bytes: &[u8]) -> usize
     bytes.iter().take_while(|b| **b != b'\n').count()
 }
 
-fn has_single_underscores(word: &[u8]) -> bool
-    ensures { result ≡ has_single_underscores word.now }
-{
-    match word {
-        [] => true,
-        [b] => *b != b'_',
-        [b, rest @ ..] => !(*b == b'_' && rest[0] == b'_') && has_single_underscores(rest),
-    }
-}
-
 // The word at the front of bytes that begin with a letter.
 fn word_front(bytes: &[u8]) -> Option<Front>
     ensures { result ≡ word_front bytes.now }
 {
-    let len = word_len(bytes);
-    if len <= MAX_WORD_LEN && has_single_underscores(&bytes[..len]) {
+    let len = word_len(bytes)?;
+    if len <= MAX_WORD_LEN {
         Some(Front::Token(TokenKind::Word, len))
     } else {
         None

@@ -1,7 +1,7 @@
 // The lexer of the VHDL subset.
 #![tactic(auto)]
 
-ghost use Rattle.std.specs.Prelude.{◌≡◌, length, All, IfOk, IfErr, IfSome, IfNone};
+ghost use Rattle.std.specs.Prelude.{◌≡◌, ◌≤◌, length, All, IfOk, IfErr, IfSome, IfNone};
 ghost use Rattle.opgen_vhdl.specs.Tokens.{Tokens, LexicalAt};
 ghost use Rattle.opgen_vhdl.specs.Spans.{InOrder, IsWithin};
 ghost use Rattle.opgen_lex.specs.Fault.{IsLexical};
@@ -9,7 +9,7 @@ ghost use Rattle.opgen_lex.specs.First.{HasTokens, IsFirstToken, HasNoToken};
 
 mod front;
 
-use front::{front_at, leading};
+use front::{behind_white, front_at, leading};
 use opgen_vhdl::Front;
 pub use opgen_vhdl::{Token, TokenKind};
 use std::alloc::{AllocFailed, Global};
@@ -77,12 +77,26 @@ pub fn first_fault(bytes: &[u8]) -> Option<u64>
     ensures some { IfSome result (LexicalAt bytes.now) }
     ensures none { IfNone result (HasTokens bytes.now) }
 {
+    let mut rest = bytes;
+    'tokens: while let Some((_kind, _text, behind)) = first_token(rest) {
+        rest = behind;
+    }
+    let at = fault_in(rest)?;
+    Some((bytes.len() - rest.len() + at) as u64)
+}
+
+// The first offset at which nothing starts, where the elements are passed one by one.
+fn fault_in(bytes: &[u8]) -> Option<usize>
+    ensures some { IfSome result (LexicalAt bytes.now) }
+    ensures within { IfSome result (λ at. at ≤ length bytes.now) }
+    ensures none { IfNone result (HasTokens bytes.now) }
+{
     let mut at = 0;
     'elements: while at < bytes.len() {
         match front_at(bytes, at) {
             Some(Front::Gap(len)) => at += len,
             Some(Front::Token(_kind, len)) => at += len,
-            None => return Some(at as u64),
+            None => return Some(at),
         }
     }
     None
@@ -94,12 +108,12 @@ pub fn first_token(bytes: &[u8]) -> Option<(TokenKind, &[u8], &[u8])>
     ensures some { IfSome result (λ x. IsFirstToken bytes.now x.0 x.1.now x.2.now) }
     ensures none { IfNone result (HasNoToken bytes.now) }
 {
-    let mut rest = bytes;
+    let mut rest = behind_white(bytes);
     'gaps: while let Some(front) = leading(rest) {
         match front {
             Front::Gap(len) => {
                 let (_gap, behind) = rest.split_at(len);
-                rest = behind;
+                rest = behind_white(behind);
             }
             Front::Token(kind, len) => {
                 let (text, behind) = rest.split_at(len);

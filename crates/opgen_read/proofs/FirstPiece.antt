@@ -1,21 +1,20 @@
 -- The first piece of what is left.
-use Rattle.std.proofs.Common.{◌≡◌, ℕ, ◌+◌, ◌-◌, ◌<◌, ◌≤◌, inl, inr, true, false, List, [], ◌∷◌, ◌++◌, length, map, take, drop, refl, ap, sym, ◌∙◌, arith, length-drop, length-append}
-use Rattle.std.proofs.lemmas.Bool.{cases_Bool}
+use Rattle.std.proofs.Common.{◌≡◌, ℕ, ◌+◌, ◌-◌, ◌<◌, ◌≤◌, true, false, List, [], ◌∷◌, ◌++◌, length, map, take, drop, refl, ap, sym, ◌∙◌, arith, length-drop, length-append}
 use Rattle.std.proofs.lemmas.List.{length-map}
 use Rattle.std.proofs.Math.Seq.{take-append_seam, drop-append_seam}
 use Rattle.opgen_vhdl.specs.declared.kind.TokenKind.{TokenKind}
 use Rattle.opgen_vhdl.specs.declared.kind.TokenKind.TheVariants.{Semicolon}
 use Rattle.opgen_vhdl.specs.Reader.{same_kind}
 use Rattle.opgen_vhdl.specs.Spans.{spellings_of}
-use Rattle.opgen_vhdl.specs.Symbols.{Symbol, symbol_of, pieces, is_semicolon}
+use Rattle.opgen_vhdl.specs.Symbols.{Symbol, symbol_of, pieces, onto, is_semicolon}
 use Rattle.opgen_vhdl.specs.Tokens.{Element, Cut}
 use Rattle.opgen_vhdl.proofs.Walks.{first_len, pieces-first}
 use Rattle.opgen_lex.specs.First.{IsFirstToken, HasNoToken}
 use Rattle.opgen_lex.proofs.Cuts.{cut-append, spellings-append}
 use Rattle.opgen_read.specs.Left.{symbols_in}
-use Rattle.opgen_read.specs.PieceLen.{IsPieceLen}
+use Rattle.opgen_read.specs.PieceLen.{IsPieceLen, IsRestLen}
 use Rattle.opgen_read.proofs.FirstSymbol.{semicolon_first}
-use Rattle.opgen_read.proofs.SymbolsIn.{symbols_in-behind, symbols_in-first, symbols_in-none, splits, cut-within}
+use Rattle.opgen_read.proofs.SymbolsIn.{symbols_in-empty, symbols_in-behind, symbols_in-first, symbols_in-none, splits, cut-within}
 
 -- the tokens before the rest all belong to the first piece
 pub record InFirst (bytes rest : List ℕ) : Type 0 where
@@ -72,12 +71,17 @@ pub behind-shorter : (rest : List ℕ) (kind : TokenKind) (text behind : List �
     → length (symbols_in behind) < length (symbols_in rest)
 behind-shorter rest kind text behind t = rw (symbols_in-first rest kind text behind t) (omega arith)
 
-module _ (bytes : List ℕ) (n : ℕ) (p : IsPieceLen bytes n) (s : Symbol) (ss : List Symbol) (e : symbols_in bytes ≡ s ∷ ss) where
-  pub first_piece : pieces (symbols_in bytes) ≡ symbols_in (take n bytes) ∷ pieces (symbols_in (drop n bytes))
-  first_piece = rw (p.piece, p.others) (rw e (pieces-first s ss))
+onto-first : (s : Symbol) (ss : List Symbol) → onto s (pieces ss) ≡ (s ∷ take (first_len ss) ss) ∷ pieces (drop (first_len ss) ss)
+onto-first s [] = refl
+onto-first s (t ∷ ss) = rw (pieces-first t ss) refl
 
-  some_first : 0 < first_len (s ∷ ss)
-  some_first = elim (cases_Bool (is_semicolon s)) [ inl y ↦ rw y (omega arith) | inr m ↦ rw m (omega arith) ]
+module _ (s : Symbol) (bytes : List ℕ) where
+  pub rest-none : is_semicolon s ≡ true → IsRestLen s bytes 0
+  rest-none h = record { within = omega arith; cut = rw (h, symbols_in-empty) refl; shorter = omega arith }
 
-  pub others-shorter : length (symbols_in (drop n bytes)) < length (symbols_in bytes)
-  others-shorter = rw (p.others, e, length-drop (first_len (s ∷ ss)) (s ∷ ss)) (omega (arith, some_first))
+  pub rest-some : (n : ℕ) → IsPieceLen bytes n → is_semicolon s ≡ false → IsRestLen s bytes n
+  rest-some n p h = record {
+    within = p.within;
+    cut = rw (h, p.piece, p.others) (onto-first s (symbols_in bytes));
+    shorter = rw p.others (omega (arith, length-drop (first_len (symbols_in bytes)) (symbols_in bytes)));
+  }

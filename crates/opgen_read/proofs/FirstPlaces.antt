@@ -1,5 +1,5 @@
 -- The first place of a name in a list.
-use Rattle.std.specs.Prelude.{position, is_some}
+use Rattle.std.specs.Prelude.{position, is_some, IfSome}
 use Rattle.std.specs.Option.{option_copied}
 use Rattle.std.specs.List.{position_or_len}
 use Rattle.std.proofs.Common.{Bor, map, ◌≡◌, inl, inr, ℕ, ◌+◌, ◌≤◌, Bool, true, false, cond, List, [], ◌∷◌, ◌++◌, length, Option, Some, None, refl, ap, sym, ◌∙◌, arith, length-append}
@@ -22,6 +22,10 @@ module _ {X : Type 0} (p : X → Bool) where
     | inl h ↦ let s : Some k ≡ Some (position_or_len p xs) = rw (lt-ltb (position_or_len p xs) (length xs) h) at e in cc
     | inr h ↦ let s : Some k ≡ None = rw (le-ltb (position_or_len p xs) (length xs) h) at e in cc
   ]
+
+  pub places_found : (xs : List X) (o : Option ℕ) → o ≡ position p xs → IfSome o (λ k. k ≡ position_or_len p xs)
+  places_found xs None e = tt
+  places_found xs (Some k) e = place_found xs k e
 
   pub no_place : (xs : List X) → None ≡ position p xs → length xs ≡ position_or_len p xs
   no_place xs e = elim (cases_lt (position_or_len p xs) (length xs)) [
@@ -115,3 +119,9 @@ one_declared name_of items more item f m n k e named count finds noted q =
     ∙ ap (noted_at (position (bytes_eq q) names) (bytes_eq q (name_of item))) (count ∙ sym (length-map items name_of))
     ∙ sym (position_push (bytes_eq q) names (name_of item))
     ∙ ap (position (bytes_eq q)) (sym (map_push name_of items item) ∙ ap (map name_of) (sym e))
+
+-- a name that is found in a map that knows allowed names alone
+pub found_allowed : (f : List ℕ → Option ℕ) (n : List ℕ) (o : Option ℕ)
+    → ((q : List ℕ) (k : ℕ) → f q ≡ Some k → is_allowed_name q ≡ true) → o ≡ f n → IfSome o (λ _. is_allowed_name n ≡ true)
+found_allowed f n None known e = tt
+found_allowed f n (Some k) known e = known n k (sym e)

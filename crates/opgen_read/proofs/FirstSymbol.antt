@@ -2,7 +2,7 @@
 use Rattle.std.specs.Prelude.{if◌then◌else◌, nat_lt}
 use Rattle.std.specs.Char.{to_ascii_lowercase}
 use Rattle.std.specs.Str.{bytes_eq}
-use Rattle.std.proofs.Common.{◌≡◌, ℕ, Bool, true, false, ◌&&◌, List, ◌∷◌, map, Some, None, refl, ap, sym, ◌∙◌}
+use Rattle.std.proofs.Common.{◌≡◌, ℕ, Bool, true, false, ◌&&◌, List, ◌∷◌, map, Some, None, refl, ap, sym, subst, ◌∙◌}
 use Rattle.opgen_num.specs.declared.TheConstants.{MAX_WIDTH}
 use Rattle.opgen_vhdl.specs.declared.kind.TokenKind.{TokenKind}
 use Rattle.opgen_vhdl.specs.declared.kind.TokenKind.TheVariants.{Word, Number, Bits, ZeroChar, LeftParen, RightParen, Semicolon, Colon, Comma, Dot, Ampersand, Plus, Minus, Equal, LessEqual, Arrow, Becomes}
@@ -11,6 +11,7 @@ use Rattle.opgen_vhdl.specs.Symbols.{Symbol, symbol_of, bits_in, word, number, m
 use Rattle.opgen_vhdl.specs.Grammar.{value}
 use Rattle.opgen_vhdl.proofs.Steps.{found, some_is}
 use Rattle.opgen_vhdl.specs.Reader.{eat, name_at, index_at, string_at, same_kind, is_mark}
+use Rattle.opgen_read.proofs.AllowedNames.{allowed-lower}
 
 pub eat_word : (w : List ℕ) (k : TokenKind) (text : List ℕ) (rest : List Symbol) → eat (word w) (symbol_of (k, text) ∷ rest)
     ≡ (if same_kind k Word && bytes_eq w (map to_ascii_lowercase text) then Some rest else None)
@@ -192,3 +193,14 @@ pub name_refused : (ss : List Symbol) (k : TokenKind) (text : List ℕ) (rest : 
     None ≡ (if is_allowed_name (map to_ascii_lowercase text) then Some (map to_ascii_lowercase text) else None) → name_at ss ≡ None
 name_refused ss k text rest e h allowed = ap name_at e ∙ name_first k text rest
     ∙ rw h (choose_none (is_allowed_name (map to_ascii_lowercase text)) (map to_ascii_lowercase text) rest allowed)
+
+some_if : (b : Bool) (n : List ℕ) → b ≡ true → Some n ≡ (if b then Some n else None)
+some_if b n h = rw h refl
+
+-- a name that stands as it was declared
+pub name_declared : (ss : List Symbol) (k : TokenKind) (text : List ℕ) (rest : List Symbol) (n : List ℕ) → ss ≡ symbol_of (k, text) ∷ rest
+    → same_kind k Word ≡ true → n ≡ text → is_allowed_name n ≡ true → name_at ss ≡ Some (n, rest)
+name_declared ss k text rest n e h same allowed =
+    let lower : map to_ascii_lowercase text ≡ n = ap (map to_ascii_lowercase) (sym same) ∙ allowed-lower n allowed in
+    name_read ss k text rest n e h
+    (subst (λ u. Some n ≡ (if is_allowed_name u then Some u else None)) (sym lower) (some_if (is_allowed_name n) n allowed))

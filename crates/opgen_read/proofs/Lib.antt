@@ -9,6 +9,7 @@ pub mod SymbolsIn
 pub mod FirstPiece
 pub mod Reaching
 pub mod FittingTokens
+pub mod HeldToken
 pub mod WholeTexts
 pub mod DriverCount
 pub mod Judging

@@ -28,6 +28,9 @@ module _ (es : List Element) (bytes rest : List ℕ) (c : Cut es bytes rest) (no
   unfolding symbols_in
   symbols_in-cut = ap symbols_of (same_elements (has_reading bytes))
 
+pub symbols_in-empty : symbols_in [] ≡ []
+symbols_in-empty = symbols_in-cut [] [] [] refl nothing_starts_at_end
+
 pub symbols_in-tokens : (bytes : List ℕ) (ts : List Token) → Tokens bytes ts → symbols_in bytes ≡ symbols bytes ts
 symbols_in-tokens bytes ts t = symbols_in-cut t.elements bytes [] t.cut nothing_starts_at_end
     ∙ ap (map symbol_of) (sym (tokens-spellings bytes ts t))

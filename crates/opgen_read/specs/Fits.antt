@@ -1,7 +1,9 @@
 -- What a reader of tokens relies on.
-use Rattle.std.specs.Prelude.{ℕ, ◌||◌, Bool, not, List}
+use Rattle.std.specs.Prelude.{ℕ, ◌+◌, ◌&&◌, ◌||◌, Bool, true, not, List, length, nat_le, Option, Some, None}
+use Rattle.std.specs.Borrow.{Bor}
 use Rattle.std.specs.Char.{is_ascii_digit}
 use Rattle.std.specs.List.{list_all}
+use Rattle.opgen_num.specs.declared.TheConstants.{MAX_WIDTH}
 use Rattle.opgen_vhdl.specs.declared.kind.TokenKind.{TokenKind}
 use Rattle.opgen_vhdl.specs.declared.kind.TokenKind.TheVariants.{Number}
 use Rattle.opgen_vhdl.specs.Reader.{same_kind}
@@ -9,3 +11,9 @@ use Rattle.opgen_vhdl.specs.Reader.{same_kind}
 -- a number has digits alone
 abbrev pub is_numeral : TokenKind → List ℕ → Bool
 is_numeral kind text = not (same_kind kind Number) || list_all is_ascii_digit text
+
+-- where there is a first token, by its kind, its text and the bytes behind it, it is no longer than the longest bit string, and
+-- a number has digits alone
+abbrev pub fits : Option (TokenKind × Bor (List ℕ) × Bor (List ℕ)) → Bool
+fits None = true
+fits (Some t) = nat_le (length t.1.now) (MAX_WIDTH + 2) && is_numeral t.0 t.1.now

@@ -1,7 +1,9 @@
 -- The symbols that are left to read.
-use Rattle.std.specs.Prelude.{ℕ, List, map, ◌⊎◌}
+use Rattle.std.specs.Prelude.{ℕ, List, [], ◌∷◌, map, ◌⊎◌, Option, Some, None}
+use Rattle.std.specs.Borrow.{Bor}
 use Rattle.std.proofs.Common.{inl, inr}
 use Rattle.opgen_vhdl.specs.declared.kind.Token.{Token}
+use Rattle.opgen_vhdl.specs.declared.kind.TokenKind.{TokenKind}
 use Rattle.opgen_vhdl.specs.Spans.{spellings_of}
 use Rattle.opgen_vhdl.specs.Symbols.{Symbol, symbol_of}
 use Rattle.opgen_vhdl.specs.Tokens.{Element, Tokens, LexicalAt}
@@ -17,5 +19,10 @@ elements_of (inr l) = l.1.elements
 unfoldable pub symbols_in : List ℕ → List Symbol
 symbols_in bytes = map symbol_of (spellings_of (elements_of (has_reading bytes)))
 
+-- the symbols from the first token on, which is given by its kind, its text and the bytes behind it
+unfoldable pub symbols_from : Option (TokenKind × Bor (List ℕ) × Bor (List ℕ)) → List Symbol
+symbols_from None = []
+symbols_from (Some t) = symbol_of (t.0, t.1.now) ∷ symbols_in t.2.now
+
 abbrev pub left : Cursor → List Symbol
-left c = symbols_in c.bytes.now
+left c = symbols_from c.first

@@ -1,9 +1,13 @@
 -- The names that are declared, as an expression is read under them.
-use Rattle.std.specs.Prelude.{◌∷◌, [], List, Option, Some, None, map}
+use Rattle.std.specs.Prelude.{◌≡◌, ◌∷◌, [], ℕ, List, Option, Some, None, Result, Ok, Err, map}
 use Rattle.opgen_design.specs.Tree.{Tree, Trees, more}
-use Rattle.opgen_vhdl.specs.Grammar.{Names}
+use Rattle.opgen_vhdl.specs.Grammar.{Names, place_of}
 use Rattle.opgen_vhdl.specs.Symbols.{Symbol}
+use Rattle.opgen_read.specs.declared.cursor.Cursor.{Cursor}
 use Rattle.opgen_read.specs.declared.expression.Scope.{Scope}
+use Rattle.opgen_read.specs.declared.refusal.Refusal.{Refusal}
+use Rattle.opgen_read.specs.Gives.{Fails}
+use Rattle.opgen_read.specs.Left.{left}
 
 abbrev pub names_in : Scope → Names
 names_in s = record { signals = map (λ x. x.name) s.signals.now; ports = map (λ x. x.name) s.ports.now }
@@ -17,3 +21,12 @@ onto_trees (t ∷ front) ts = more t (onto_trees front ts)
 abbrev pub joined : List Tree → Option (Trees × List Symbol) → Option (Trees × List Symbol)
 joined front None = None
 joined front (Some x) = Some (onto_trees front x.0, x.1)
+
+-- the place among the names of the one that was read, and what is left behind it
+abbrev pub IsPlace : List (List ℕ) → Option (List ℕ × List Symbol) → ℕ × Cursor → Type 0
+IsPlace names read x = (n : List ℕ) × (read ≡ Some (n, left x.1)) × (x.0 ≡ place_of names n)
+
+-- that place, unless nothing was read or memory ran out
+abbrev pub GivesPlace : List (List ℕ) → Result (ℕ × Cursor) Refusal → Option (List ℕ × List Symbol) → Type 0
+GivesPlace names (Ok x) read = IsPlace names read x
+GivesPlace names (Err e) read = Fails e read

@@ -1,13 +1,18 @@
-use crate::piece_len::piece_len;
+ghost use Rattle.std.specs.Prelude.{IsTrue};
+ghost use Rattle.opgen_read.specs.Fits.{fits};
+
+use crate::piece_len::rest_len;
 use crate::token_text::{index_of, same_kind, same_word, word_of};
 use opgen_lex::first_token;
 use opgen_num::Word;
 use opgen_vhdl::TokenKind;
 
-/// What is left to read of a text: the bytes from which the next tokens are cut.
+/// What is left to read of a text: its first token, by its kind, its text and the bytes behind it. A token is cut once, when
+/// the cursor before it is made.
 #[derive(Clone, Copy)]
 pub struct Cursor<'a> {
-    bytes: &'a [u8],
+    first: Option<(TokenKind, &'a [u8], &'a [u8])>,
+    ghost fitting: { IsTrue (fits first) },
 }
 
 impl<'a> Cursor<'a> {
@@ -22,7 +27,19 @@ impl<'a> Cursor<'a> {
     pub fn new(bytes: &'a [u8]) -> Cursor<'a>
         ensures { left result ≡ symbols_in bytes.now }
     {
-        Cursor { bytes }
+        Cursor {
+            first: first_token(bytes),
+        }
+    }
+
+    /// The kind and the text of the first token, and the bytes behind it.
+    pub fn token(self) -> Option<(TokenKind, &'a [u8], &'a [u8])>
+        ensures some { IfSome result (λ x. left self.entry ≡ symbol_of (x.0, x.1.now) ∷ symbols_in x.2.now) }
+        ensures none { IfNone result (left self.entry ≡ []) }
+        ensures short { IfSome result (λ x. length x.1.now ≤ MAX_WIDTH + 2) }
+        ensures numeral { IfSome result (λ x. IsTrue (is_numeral x.0 x.1.now)) }
+    {
+        self.first
     }
 
     /// The kind and the text of the first token, and what is left behind it.
@@ -32,8 +49,8 @@ impl<'a> Cursor<'a> {
         ensures short { IfSome result (λ x. length x.1.now ≤ MAX_WIDTH + 2) }
         ensures numeral { IfSome result (λ x. IsTrue (is_numeral x.0 x.1.now)) }
     {
-        let (kind, text, bytes) = first_token(self.bytes)?;
-        Some((kind, text, Cursor { bytes }))
+        let (kind, text, behind) = self.token()?;
+        Some((kind, text, Cursor::new(behind)))
     }
 
     /// What is left behind this word of the language.
@@ -41,9 +58,9 @@ impl<'a> Cursor<'a> {
     pub fn word(self, text: &str) -> Option<Cursor<'a>>
         ensures { option_map left result ≡ eat (word (map to_ascii_lowercase text.now)) (left self.entry) }
     {
-        let (kind, found, rest) = self.next()?;
+        let (kind, found, behind) = self.token()?;
         if same_kind(kind, TokenKind::Word) && same_word(text, found) {
-            Some(rest)
+            Some(Cursor::new(behind))
         } else {
             None
         }
@@ -55,9 +72,9 @@ impl<'a> Cursor<'a> {
         requires { IsTrue (is_mark kind) }
         ensures { option_map left result ≡ eat (mark kind) (left self.entry) }
     {
-        let (found, _text, rest) = self.next()?;
+        let (found, _text, behind) = self.token()?;
         if same_kind(kind, found) {
-            Some(rest)
+            Some(Cursor::new(behind))
         } else {
             None
         }
@@ -68,9 +85,9 @@ impl<'a> Cursor<'a> {
     pub fn zero(self) -> Option<Cursor<'a>>
         ensures { option_map left result ≡ eat (number (codes "0")) (left self.entry) }
     {
-        let (kind, text, rest) = self.next()?;
+        let (kind, text, behind) = self.token()?;
         if same_kind(kind, TokenKind::Number) && text == b"0".as_slice() {
-            Some(rest)
+            Some(Cursor::new(behind))
         } else {
             None
         }
@@ -82,9 +99,9 @@ impl<'a> Cursor<'a> {
         ensures value { option_map (λ x. (x.0, left x.1)) result ≡ index_at (left self.entry) }
         ensures most { IfSome result (λ x. x.0 < MAX_WIDTH) }
     {
-        let (kind, text, rest) = self.next()?;
+        let (kind, text, behind) = self.token()?;
         if same_kind(kind, TokenKind::Number) {
-            Some((index_of(text)?, rest))
+            Some((index_of(text)?, Cursor::new(behind)))
         } else {
             None
         }
@@ -95,9 +112,9 @@ impl<'a> Cursor<'a> {
     pub fn string(self) -> Option<(Word, Cursor<'a>)>
         ensures { option_map (λ x. (x.0, left x.1)) result ≡ string_at (left self.entry) }
     {
-        let (kind, text, rest) = self.next()?;
+        let (kind, text, behind) = self.token()?;
         if same_kind(kind, TokenKind::Bits) {
-            Some((word_of(text), rest))
+            Some((word_of(text), Cursor::new(behind)))
         } else {
             None
         }
@@ -109,7 +126,7 @@ impl<'a> Cursor<'a> {
         ensures { option_map left result ≡ end_at (left self.entry) }
     {
         let rest = self.mark(TokenKind::Semicolon)?;
-        match rest.next() {
+        match rest.token() {
             None => Some(rest),
             Some(_) => None,
         }
@@ -121,8 +138,11 @@ impl<'a> Cursor<'a> {
         ensures shorter { IfSome result (λ x. length (left x.1) < length (left self.entry)) }
         ensures none { IfNone result (left self.entry ≡ []) }
     {
-        let _first = self.next()?;
-        let (piece, more) = self.bytes.split_at(piece_len(self.bytes));
-        Some((Cursor { bytes: piece }, Cursor { bytes: more }))
+        let (kind, text, behind) = self.token()?;
+        let (piece, more) = behind.split_at(rest_len(kind, behind));
+        let piece = Cursor {
+            first: Some((kind, text, piece)),
+        };
+        Some((piece, Cursor::new(more)))
     }
 }

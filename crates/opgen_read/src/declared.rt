@@ -59,7 +59,7 @@ impl<T: Named> Model for Declared<T> {
 }
 
 impl<T: Named + Drop> Declared<T> {
-    ghost use Rattle.std.specs.Prelude.{◌≡◌, IfOk, IsTrue, ◌++◌, ◌∷◌, [], map};
+    ghost use Rattle.std.specs.Prelude.{◌≡◌, IfOk, IfSome, IsTrue, ◌++◌, ◌∷◌, [], map};
     ghost use Rattle.opgen_names.specs.Names.{is_allowed_name};
     ghost use Rattle.opgen_vhdl.specs.Grammar.{place_of};
 
@@ -80,6 +80,14 @@ impl<T: Named + Drop> Declared<T> {
             Some(place) => *place,
             None => self.items.len(),
         }
+    }
+
+    /// The place of the first declaration of this name, which is allowed then.
+    pub fn find(&self, name: &str) -> Option<usize>
+        ensures place { IfSome result (λ k. k ≡ place_of (map T.name_of self.now) name.now) }
+        ensures allowed { IfSome result (λ _. IsTrue (is_allowed_name name.now)) }
+    {
+        self.first.get(name).copied()
     }
 
     /// Whether there is a declaration of this name, which is allowed then.

@@ -11,7 +11,7 @@ ghost use Rattle.opgen_read.specs.Names.{names_in, joined};
 
 use crate::cursor::Cursor;
 use crate::declared::Declared;
-use crate::name::name;
+use crate::name::{name, signal_place};
 use crate::refusal::Refusal;
 use opgen_design::{Expr, Op, Port, Signal, Slice};
 use opgen_vhdl::TokenKind;
@@ -55,8 +55,7 @@ fn range(rest: Cursor<'_>) -> Option<(u32, u32, Cursor<'_>)>
 pub fn part<'a>(alloc: Global, scope: Scope<'_>, rest: Cursor<'a>) -> Read<'a, Expr>
     ensures { Gives (λ x. (plain x.0, left x.1)) result (part_at (names_in scope.entry) (left rest.entry)) }
 {
-    let (name, rest) = name(alloc, Some(scope), rest)?;
-    let node = scope.signals.place(name.as_str());
+    let (node, rest) = signal_place(alloc, scope, rest)?;
     match rest.mark(TokenKind::LeftParen) {
         None => Ok((Expr::Name(node), rest)),
         Some(rest) => match range(rest) {

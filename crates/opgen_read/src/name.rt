@@ -1,16 +1,19 @@
 // Names at the front of what is left.
 
-ghost use Rattle.std.specs.Prelude.{◌≡◌, IfOk, IsTrue, map, Some, None, if◌then◌else◌};
+ghost use Rattle.std.specs.Prelude.{◌≡◌, IfOk, IfSome, IsTrue, map, Some, None, if◌then◌else◌};
 ghost use Rattle.std.specs.Char.{to_ascii_lowercase};
 ghost use Rattle.opgen_names.specs.Names.{is_allowed_name};
 ghost use Rattle.opgen_vhdl.specs.Reader.{name_at};
 ghost use Rattle.opgen_read.specs.Left.{left};
 ghost use Rattle.opgen_read.specs.Gives.{Gives};
+ghost use Rattle.opgen_read.specs.Names.{names_in, IsPlace, GivesPlace};
 
 use crate::cursor::Cursor;
+use crate::declared::Declared;
 use crate::expression::Scope;
 use crate::refusal::Refusal;
 use crate::token_text::same_kind;
+use opgen_design::Signal;
 use opgen_list::Text;
 use opgen_names::is_allowed_name;
 use opgen_vhdl::TokenKind;
@@ -63,5 +66,38 @@ pub fn name<'a>(
     match allowed(alloc, declared, text)? {
         Some(name) => Ok((name, rest)),
         None => Err(Refusal::Refused),
+    }
+}
+
+// The place of the signal whose name stands at the front just as it was declared, and what is left behind it.
+fn as_declared<'a>(signals: &Declared<Signal>, rest: Cursor<'a>) -> Option<(usize, Cursor<'a>)>
+    ensures { IfSome result (IsPlace (map (λ s. s.name) signals.now) (name_at (left rest.entry))) }
+{
+    let (kind, text, behind) = rest.token()?;
+    if !same_kind(kind, TokenKind::Word) {
+        return None;
+    }
+    let Ok(name) = str::from_utf8(text) else {
+        return None;
+    };
+    let place = signals.find(name)?;
+    Some((place, Cursor::new(behind)))
+}
+
+/// The place of the signal whose name stands at the front, and what is left behind the name. Most names stand as they were
+/// declared, and are looked up as they stand.
+pub fn signal_place<'a>(
+    alloc: Global,
+    scope: Scope<'_>,
+    rest: Cursor<'a>,
+) -> Result<(usize, Cursor<'a>), Refusal>
+    ensures { GivesPlace (names_in scope.entry).signals result (name_at (left rest.entry)) }
+{
+    match as_declared(scope.signals, rest) {
+        Some(found) => Ok(found),
+        None => {
+            let (name, rest) = name(alloc, Some(scope), rest)?;
+            Ok((scope.signals.place(name.as_str()), rest))
+        }
     }
 }

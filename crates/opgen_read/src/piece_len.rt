@@ -1,14 +1,16 @@
 // Where the first piece of a text ends.
 
-ghost use Rattle.opgen_read.specs.PieceLen.{IsPieceLen};
+ghost use Rattle.std.specs.Prelude.{ℕ, List};
+ghost use Rattle.opgen_vhdl.specs.Symbols.{symbol_of};
+ghost use Rattle.opgen_read.specs.PieceLen.{IsPieceLen, IsRestLen};
 
 use crate::token_text::same_kind;
 use opgen_lex::first_token;
 use opgen_vhdl::TokenKind;
 
-/// How many bytes stand up to the first semicolon, with it, or up to the last token where there is no
-/// semicolon.
-pub fn piece_len(bytes: &[u8]) -> usize
+// How many bytes stand up to the first semicolon, with it, or up to the last token where there is no
+// semicolon.
+fn piece_len(bytes: &[u8]) -> usize
     ensures { IsPieceLen bytes.now result }
 {
     let mut rest = bytes;
@@ -19,4 +21,15 @@ pub fn piece_len(bytes: &[u8]) -> usize
         rest = behind;
     }
     bytes.len() - rest.len()
+}
+
+/// How many bytes behind a token of this kind are the rest of its piece: none behind a semicolon.
+pub fn rest_len(kind: TokenKind, behind: &[u8]) -> usize
+    ensures { (text : List ℕ) → IsRestLen (symbol_of (kind, text)) behind.now result }
+{
+    if same_kind(kind, TokenKind::Semicolon) {
+        0
+    } else {
+        piece_len(behind)
+    }
 }

@@ -1,19 +1,24 @@
-use Rattle.std.proofs.Common.{arith, length-drop}
-use Rattle.opgen_lex.proofs.Cuts.{is_cut_to-gap, is_cut_to-token}
+use Rattle.opgen_lex.proofs.Cuts.{behind-shorter, passed_start, passed-token, passed-within, passed-fault, passed-whole}
 use Rattle.opgen_lex.proofs.first_fault.Goals as goal
 
-pub elements-preserved-in-Some-Gap : goal.elements-preserved-in-Some-Gap
-elements-preserved-in-Some-Gap c =
-    let stands = rw c.in-Some-Gap.field-0-is at c.in-Some-Gap.ensures in
-    record {
-      cut = is_cut_to-gap c.args.bytes.now c.elements.at c.in-Some-Gap.len c.elements.invariant.cut stands;
-      within = omega (arith, stands.1, length-drop c.elements.at c.args.bytes.now, c.elements.invariant.within);
-    }
+pub tokens-init : goal.tokens-init
+tokens-init c = passed_start c.args.bytes.now
 
-pub elements-preserved : goal.elements-preserved
-elements-preserved c =
-    let stands = rw c.in-Some-Token.field-0-is at c.in-Some-Token.ensures in
-    record {
-      cut = is_cut_to-token c.args.bytes.now c.elements.at c.in-Some-Token.len c.in-Some-Token._kind c.elements.invariant.cut stands;
-      within = omega (arith, stands.1, length-drop c.elements.at c.args.bytes.now, c.elements.invariant.within);
-    }
+pub tokens-smaller : goal.tokens-smaller
+tokens-smaller c =
+    behind-shorter c.tokens.rest.now c.in-Some._kind c.in-Some._text.now c.in-Some.behind.now c.in-Some.ensures.some
+
+pub tokens-preserved : goal.tokens-preserved
+tokens-preserved c =
+    passed-token c.args.bytes.now c.tokens.rest.now c.tokens.invariant c.in-Some._kind c.in-Some._text.now c.in-Some.behind.now
+    c.in-Some.ensures.some
+
+pub returns-in_err-at-clause-none : goal.returns-in_err-at-clause-none
+returns-in_err-at-clause-none c =
+    rw c.from_residual.ensures (passed-whole c.args.bytes.now c.tokens.rest.now c.tokens.invariant c.in_err-at.ensures.none)
+
+pub overflow_sub-result : goal.overflow_sub-result
+overflow_sub-result c = passed-within c.args.bytes.now c.tokens.rest.now c.tokens.invariant
+
+pub returns-clause-some : goal.returns-clause-some
+returns-clause-some c = passed-fault c.args.bytes.now c.tokens.rest.now c.tokens.invariant c.in_ok-at.at c.in_ok-at.ensures.some

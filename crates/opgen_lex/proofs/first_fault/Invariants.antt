@@ -1,12 +1,9 @@
-use Rattle.std.proofs.Common.{length, ◌-◌, ◌≤◌}
-use Rattle.opgen_lex.proofs.Cuts.{IsCutTo}
+use Rattle.std.proofs.Common.{length}
+use Rattle.opgen_lex.proofs.Cuts.{IsPassed}
 use Rattle.opgen_lex.proofs.first_fault.Given as goal
 
-abbrev pub invariant-elements : goal.invariant-elements
-invariant-elements l = record {
-  cut : IsCutTo l.bytes l.at;
-  within : l.at ≤ length l.bytes;
-}
+abbrev pub invariant-tokens : goal.invariant-tokens
+invariant-tokens l = IsPassed l.bytes l.rest
 
-abbrev pub decreases-elements : goal.decreases-elements
-decreases-elements l = length l.bytes - l.at
+abbrev pub decreases-tokens : goal.decreases-tokens
+decreases-tokens l = length l.rest

@@ -1,0 +1,65 @@
+-- The first token of a text, as a cursor holds it.
+use Rattle.std.specs.Prelude.{IfSome, IfNone, nat_le}
+use Rattle.std.proofs.Common.{Bor, ◌≡◌, ℕ, ◌+◌, ◌≤◌, ◌<◌, ◌&&◌, Bool, true, List, [], ◌∷◌, length, take, drop, Option, Some, None, refl, sym}
+use Rattle.std.proofs.lemmas.Bool.{and_parts, leb-true, le-leb}
+use Rattle.opgen_num.specs.declared.TheConstants.{MAX_WIDTH}
+use Rattle.opgen_vhdl.specs.declared.kind.TokenKind.{TokenKind}
+use Rattle.opgen_vhdl.specs.Symbols.{Symbol, symbol_of, pieces}
+use Rattle.opgen_lex.specs.First.{IsFirstToken, HasNoToken}
+use Rattle.opgen_read.specs.Fits.{is_numeral, fits}
+use Rattle.opgen_read.specs.Left.{symbols_in, symbols_from}
+use Rattle.opgen_read.specs.PieceLen.{IsRestLen}
+use Rattle.opgen_read.proofs.FittingTokens.{first-short, first-numeral}
+use Rattle.opgen_read.proofs.SymbolsIn.{symbols_in-first, symbols_in-none}
+
+abbrev Held : Type 0
+Held = Option (TokenKind × Bor (List ℕ) × Bor (List ℕ))
+
+both : (a b : Bool) → a ≡ true → b ≡ true → (a && b) ≡ true
+both a b h k = rw (h, k) refl
+
+pub token-fits : (kind : TokenKind) (text behind : Bor (List ℕ)) → length text.now ≤ MAX_WIDTH + 2 → is_numeral kind text.now ≡ true
+    → fits (Some (kind, text, behind)) ≡ true
+token-fits kind text behind short numeral = both (nat_le (length text.now) (MAX_WIDTH + 2)) (is_numeral kind text.now)
+    (le-leb (length text.now) (MAX_WIDTH + 2) short) numeral
+
+-- what was cut first is held
+module _ (bytes : List ℕ) where
+  pub cut-fits : (t : Held) → IfSome t (λ x. IsFirstToken bytes x.0 x.1.now x.2.now) → fits t ≡ true
+  cut-fits None h = refl
+  cut-fits (Some x) h = token-fits x.0 x.1 x.2 (first-short bytes x.0 x.1.now x.2.now h) (first-numeral bytes x.0 x.1.now x.2.now h)
+
+  pub cut-left : (t : Held) → IfSome t (λ x. IsFirstToken bytes x.0 x.1.now x.2.now) → IfNone t (HasNoToken bytes)
+      → symbols_from t ≡ symbols_in bytes
+  unfolding symbols_from
+  cut-left None h none = sym (symbols_in-none bytes none)
+  cut-left (Some x) h none = sym (symbols_in-first bytes x.0 x.1.now x.2.now h)
+
+-- what is held
+pub held-some : (t : Held) → IfSome t (λ x. symbols_from t ≡ symbol_of (x.0, x.1.now) ∷ symbols_in x.2.now)
+unfolding symbols_from
+held-some None = tt
+held-some (Some x) = refl
+
+pub held-none : (t : Held) → IfNone t (symbols_from t ≡ [])
+unfolding symbols_from
+held-none None = refl
+held-none (Some x) = tt
+
+pub held-short : (t : Held) → fits t ≡ true → IfSome t (λ x. length x.1.now ≤ MAX_WIDTH + 2)
+held-short None h = tt
+held-short (Some x) h = leb-true (length x.1.now) (MAX_WIDTH + 2)
+    (and_parts (nat_le (length x.1.now) (MAX_WIDTH + 2)) (is_numeral x.0 x.1.now) h).0
+
+pub held-numeral : (t : Held) → fits t ≡ true → IfSome t (λ x. is_numeral x.0 x.1.now ≡ true)
+held-numeral None h = tt
+held-numeral (Some x) h = (and_parts (nat_le (length x.1.now) (MAX_WIDTH + 2)) (is_numeral x.0 x.1.now) h).1
+
+-- the first piece, which holds the same token
+pub held-piece : (ss more : List Symbol) (kind : TokenKind) (text piece : Bor (List ℕ)) (behind next : List ℕ) (n : ℕ)
+    → ss ≡ symbol_of (kind, text.now) ∷ symbols_in behind → IsRestLen (symbol_of (kind, text.now)) behind n → piece.now ≡ take n behind
+    → next ≡ drop n behind → more ≡ symbols_in next
+    → (pieces ss ≡ symbols_from (Some (kind, text, piece)) ∷ pieces more) × (length more < length ss)
+unfolding symbols_from
+held-piece ss more kind text piece behind next n first r front back rest =
+    (rw (first, rest, front, back) r.cut, rw (first, rest, back) r.shorter)
