@@ -4,5 +4,5 @@
 mod bits;
 mod gates;
 
-pub use bits::{STREAMS, bit_in, with_bit};
+pub use bits::{STREAMS, bit_in};
 pub use gates::{both, chosen, different, either, majority, splat, turned};

@@ -5,6 +5,7 @@ ghost use Rattle.opgen_num.specs.declared.TheConstants.{MAX_WIDTH};
 ghost use Rattle.opgen_vec.specs.Rows.{digit_count, word_text};
 ghost use Rattle.opgen_vec.specs.Digits.{hex_value, word_at};
 
+use crate::WORD_NUMBERS;
 use std::alloc::AllocError;
 
 /// How many digits a word of so many bits has.
@@ -44,23 +45,23 @@ pub(crate) fn word_at(text: &[u8], width: u32) -> Option<u128>
     }
 }
 
+const DIGITS: [u8; 16] = *b"0123456789abcdef";
+
 fn digit_char(digit: u8) -> u8
     requires { digit < 16 }
     ensures { result ≡ digit_char digit }
 {
-    if digit < 10 {
-        b'0' + digit
-    } else {
-        b'a' - 10 + digit
-    }
+    DIGITS[digit as usize]
 }
 
 // The digit at a place, counted from the lowest.
 fn digit_at(cell: u128, place: usize) -> u8
     ensures { result ≡ cell / 16 ^ place % 16 }
 {
-    if place < 32 {
-        ((cell >> (4 * place)) % 16) as u8
+    if place < 16 {
+        (((cell % WORD_NUMBERS) as u64 >> (4 * place)) % 16) as u8
+    } else if place < 32 {
+        (((cell / WORD_NUMBERS) as u64 >> (4 * (place - 16))) % 16) as u8
     } else {
         0
     }

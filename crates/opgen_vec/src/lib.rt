@@ -22,5 +22,8 @@ pub use write::write_rows;
 /// The most rows of a file of vectors.
 pub const MAX_ROWS: u32 = 100_000;
 
+// How many numbers 64 bits may say.
+const WORD_NUMBERS: u128 = 1 << 64;
+
 #[cfg(test)]
 mod tests;

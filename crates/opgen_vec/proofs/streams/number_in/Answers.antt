@@ -1,18 +1,15 @@
-use Rattle.std.proofs.Common.{◌<◌, ◌^◌, Bool, true, false, arith}
-use mir.Val.{bool_byte}
-use Rattle.opgen_vec.proofs.RowsInStreams.{number_below}
+use Rattle.std.proofs.Common.{◌≡◌, take, drop, ap, ◌∙◌, arith}
+use Rattle.opgen_num.specs.Words.{nat}
+use Rattle.opgen_streams.specs.Streams.{word_in}
+use Rattle.opgen_vec.proofs.RowsInStreams.{nat-halves}
 use Rattle.opgen_vec.proofs.streams.number_in.Goals as goal
 
-bool_byte-small : (b : Bool) → bool_byte b < 2
-bool_byte-small false = omega arith
-bool_byte-small true = omega arith
-
-pub overflow_mul-number : goal.overflow_mul-number
-overflow_mul-number c =
-    let small : c.bits.number < 2 ^ 127 = number_below _ _ _ _ c.bits.invariant.value c.requires.narrow c.bits-test.true in
-    omega (arith, small)
-
-pub overflow_add-number : goal.overflow_add-number
-overflow_add-number c =
-    let small : c.bits.number < 2 ^ 127 = number_below _ _ _ _ c.bits.invariant.value c.requires.narrow c.bits-test.true in
-    omega (arith, small, bool_byte-small c.bit_in.result)
+pub returns-else-lanes-le-WORD_BITS : goal.returns-else-lanes-le-WORD_BITS
+returns-else-lanes-le-WORD_BITS c =
+    let lanes = c.args.lanes.now in
+    let stream = c.args.stream in
+    let low : c.low_number_in-low.result ≡ nat (word_in (take 64 lanes) stream)
+    = c.low_number_in-low.ensures ∙ ap (λ ls. nat (word_in ls stream)) c.split_at.ensures.front in
+    let high : c.low_number_in-high.result ≡ nat (word_in (drop 64 lanes) stream)
+    = c.low_number_in-high.ensures ∙ ap (λ ls. nat (word_in ls stream)) c.split_at.ensures.back in
+    omega (arith, low, high, nat-halves lanes stream (omega arith))

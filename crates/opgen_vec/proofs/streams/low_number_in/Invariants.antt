@@ -1,7 +1,7 @@
 use Rattle.std.proofs.Common.{◌≡◌, ◌≤◌, length, drop}
 use Rattle.opgen_num.specs.Words.{nat}
 use Rattle.opgen_streams.specs.Streams.{word_in}
-use Rattle.opgen_vec.proofs.streams.number_in.Given as goal
+use Rattle.opgen_vec.proofs.streams.low_number_in.Given as goal
 
 abbrev pub invariant-bits : goal.invariant-bits
 invariant-bits l = record {
