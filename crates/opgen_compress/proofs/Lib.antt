@@ -5,3 +5,5 @@ mod Heights
 mod Passed
 mod Ones
 mod Finished
+pub mod Heaps
+pub mod Compressing

@@ -1,4 +1,4 @@
 mod Arithmetic
 mod Steps
-mod Whole
+pub mod Whole
 mod Named

@@ -9,3 +9,4 @@ mod OneCut
 mod AboveZeros
 mod Fits
 mod Built
+pub mod ProductNets

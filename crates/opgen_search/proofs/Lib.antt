@@ -12,3 +12,7 @@ pub mod Forking
 pub mod Ending
 pub mod Building
 pub mod Numbering
+pub mod SomeRanks
+pub mod SomeListing
+pub mod SomeAdderSet
+pub mod SomeNet

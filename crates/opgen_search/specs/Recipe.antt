@@ -1,7 +1,10 @@
 -- The net of several constants times an input, by the least set of adders.
 use Rattle.std.specs.Prelude.{◌≡◌, ℕ, List}
 use Rattle.opgen_net.specs.declared.net.Net.{Net}
+use Rattle.opgen_operator.specs.declared.spec.Operator.TheVariants.{Mcm}
 use Rattle.opgen_operator.specs.declared.spec.Several.{Several}
+use Rattle.opgen_operator.specs.Accepted.{IsAcceptedSeveral}
+use Rattle.opgen_operator.specs.Fits.{FitsSpecsOf}
 use Rattle.opgen_graph.specs.declared.ranks.Graph.{Graph}
 use Rattle.opgen_graph.specs.Graphs.{IsRanks}
 use Rattle.opgen_graph.specs.Targets.{AreTargetsOf}
@@ -28,3 +31,15 @@ OneAdderSet = (several : Several) (set other : List ℕ) → IsAdderSetOf severa
 
 abbrev pub OneNet : Type 0
 OneNet = (several : Several) (net other : Net) → IsNetOfSeveral several net → IsNetOfSeveral several other → net ≡ other
+
+-- such a set, and such a net, which fits
+pub record HasNet (several : Several) : Type 0 where
+  pub set : List ℕ
+  pub net : Net
+  pub adders : IsAdderSetOf several set
+  pub is : IsNetOfSeveral several net
+  pub fits : FitsSpecsOf (Mcm several) net
+
+-- that several accepted constants have none is impossible
+abbrev pub SomeNet : Type 0
+SomeNet = (several : Several) → IsAcceptedSeveral several → (HasNet several → ⊥) → ⊥

@@ -14,7 +14,7 @@ mod take;
 
 pub use gate::{Gate, OpenGate};
 pub use least::{least_set, numbers_count, one_least};
-pub use several::{Built, build, one_adder_set, one_net};
+pub use several::{Built, build, one_adder_set, one_net, some_net};
 
 #[cfg(test)]
 mod tests {

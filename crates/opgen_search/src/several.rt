@@ -4,7 +4,7 @@ ghost use Rattle.opgen_net.specs.Named.{IsNamed};
 ghost use Rattle.opgen_operator.specs.Accepted.{IsAcceptedSeveral};
 ghost use Rattle.opgen_operator.specs.Fits.{FitsSpecsOf};
 ghost use Rattle.opgen_operator.specs.declared.spec.Operator.TheVariants.{Mcm};
-ghost use Rattle.opgen_search.specs.Recipe.{IsAdderSetOf, IsNetOfSeveral, OneAdderSet, OneNet};
+ghost use Rattle.opgen_search.specs.Recipe.{IsAdderSetOf, IsNetOfSeveral, OneAdderSet, OneNet, SomeNet};
 
 use crate::gate::Gate;
 use crate::least::least_set;
@@ -12,7 +12,7 @@ use opgen_graph::{graph_net, reach, targets};
 use opgen_list::Items;
 use opgen_net::Net;
 use opgen_num::Memory;
-use opgen_operator::Several;
+use opgen_operator::{Several, outputs_are_wide, outputs_hold};
 use std::alloc::Global;
 use std::thread::Threads;
 
@@ -71,3 +71,12 @@ pub fn one_adder_set()
 pub fn one_net()
     ensures { OneNet }
 {}
+
+/// A law: that several accepted constants have no such set, or no such net that fits their specifications, is impossible. Which
+/// set it is, is not said.
+pub fn some_net()
+    ensures { SomeNet }
+{
+    outputs_hold();
+    outputs_are_wide();
+}

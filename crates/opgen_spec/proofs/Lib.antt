@@ -3,5 +3,5 @@ mod Decimals
 mod Trees
 mod Reading
 mod Fields
-mod Validity
+pub mod Validity
 mod Written

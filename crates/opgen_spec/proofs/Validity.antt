@@ -1,6 +1,6 @@
 -- A document without a fault gives a valid specification.
-use Rattle.std.proofs.Common.{◌≡◌, ℕ, zero, suc, ◌+◌, ◌≤◌, Bool, true, false, List, [], ◌∷◌, length, Option, Some, None, is_some, option_map, option_and_then, nat_lt, ◌==◌, ◌||◌, ◌⊎◌, ⊎_elim, inl, inr, refl, ap, sym, ◌∙◌, arith, lit<, if◌then◌else◌}
-use Rattle.std.specs.Prelude.{ℤ, pos, negsuc, All, IsTrue}
+use Rattle.std.proofs.Common.{◌≡◌, ℕ, zero, suc, ◌+◌, ◌≤◌, Bool, true, false, List, [], ◌∷◌, length, Option, Some, None, Ok, subst, is_some, option_map, option_and_then, nat_lt, ◌==◌, ◌||◌, ◌⊎◌, ⊎_elim, inl, inr, refl, ap, sym, ◌∙◌, arith, lit<, if◌then◌else◌}
+use Rattle.std.specs.Prelude.{ℤ, pos, negsuc, All, IsTrue, unwrap_or}
 use borrow.Author.Tests.{eqb-true}
 use Rattle.std.proofs.lemmas.Int.{ints}
 use Rattle.toml.specs.Data.{Data, string, integer, float, boolean, datetime, array, table, Items, no_items, item, Members}
@@ -14,16 +14,16 @@ use Rattle.opgen_spec.specs.declared.lines.Check.TheVariants.{Range}
 use Rattle.opgen_operator.specs.declared.spec.DelayLine.{DelayLine}
 use Rattle.opgen_spec.specs.Keys.{line_keys, is_needed}
 use Rattle.opgen_spec.specs.Document.{list_of, items_in, value_at, number_at, text_at, flag_at, items_at, count, kind_of}
-use Rattle.opgen_spec.specs.Spec.{line_of, lines_of, operator_of, spec_with}
+use Rattle.opgen_spec.specs.Spec.{line_of, lines_of, operator_of, spec_of, spec_with}
 use Rattle.opgen_operator.specs.SpecName.{is_spec_name}
 use Rattle.opgen_operator.specs.Valid.{AgreesOnExact, IsDelayLine, IsValidSpec}
-use Rattle.opgen_spec.specs.Faults.{first_of, outside, length_outside, found, out_of_range, outside_among, is_version, among_line, among_lines, not_exact, coarse, over_limit, too_wide, limit_fault}
+use Rattle.opgen_spec.specs.Faults.{first_of, outside, length_outside, found, out_of_range, outside_among, is_version, among_line, among_lines, not_exact, coarse, over_limit, too_wide, field_fault, limit_fault, read}
 use Rattle.opgen_operator.specs.declared.spec.Spec.{Spec}
 use Rattle.opgen_operator.specs.Accepted.{marks_exact}
 use Rattle.opgen_operator.specs.Limits.{IsVersion, most_signal, least_shift, most_shift}
 use Rattle.opgen_operator.specs.Outputs.{inexact, shift}
-use Rattle.opgen_spec.proofs.Reading.{or_none}
-use Rattle.opgen_spec.proofs.Fields.{AreFine, map_none, first_none, present, needs, there_inside, inside, zero_inside, counted, operator_in, inputs_in}
+use Rattle.opgen_spec.proofs.Reading.{or_none, field_first, limit_first, none_first}
+use Rattle.opgen_spec.proofs.Fields.{AreFine, fine, map_none, first_none, present, needs, there_inside, inside, zero_inside, counted, operator_in, inputs_in}
 
 -- what a choice without a fault says of its test
 pub passed : (b : Bool) (f : SpecFault) → (if b then None else Some f) ≡ None → b ≡ true
@@ -179,3 +179,27 @@ valid_in ms one f e h =
       lines = delays_in 1 (items_at ms key.Delay) f.lines;
       has_exact = asked_exact spec exact;
     }
+
+-- what reading gives is valid
+valid_members : (ms : Members) → field_fault ms ≡ None → limit_fault (spec_of ms) ≡ None → IsValidSpec (spec_of ms)
+valid_members ms none clear = by (kind_of ms) refl
+  where
+    by : (o : Option Kind) → kind_of ms ≡ o → IsValidSpec (spec_with (unwrap_or o kind.Scale) ms)
+    by (Some one) e =
+        valid_in ms one (fine ms none) e (subst (λ k. limit_fault (spec_with (unwrap_or k kind.Scale) ms) ≡ None) e clear)
+    by None e = absurd (no_kind (kind_of ms) (fine ms none).kind e)
+
+valid_of : (ms : Members) (spec : Spec) → read (Some ms) ≡ Ok spec → IsValidSpec spec
+valid_of ms spec reads = by (field_fault ms) refl (limit_fault (spec_of ms)) refl
+  where
+    by : (f : Option SpecFault) → field_fault ms ≡ f → (l : Option SpecFault) → limit_fault (spec_of ms) ≡ l → IsValidSpec spec
+    by (Some fault) e l d = let both = sym (field_first ms fault e) ∙ reads in let no : ⊥ = cc in absurd no
+    by None e (Some fault) d = let both = sym (limit_first ms fault e d) ∙ reads in let no : ⊥ = cc in absurd no
+    by None e None d =
+        let both = sym (none_first ms e d) ∙ reads in
+        let same : spec_of ms ≡ spec = cc in
+        subst IsValidSpec same (valid_members ms e d)
+
+pub valid_read : (o : Option Members) (spec : Spec) → read o ≡ Ok spec → IsValidSpec spec
+valid_read None spec reads = let no : ⊥ = cc in absurd no
+valid_read (Some ms) spec reads = valid_of ms spec reads

@@ -30,3 +30,8 @@ pub mod FixedLines
 pub mod FilterCells
 pub mod GoodWorkloads
 pub mod RunStreams
+pub mod SomeRun
+pub mod SomeCircuit
+pub mod SomeReading
+pub mod SomeSimulated
+pub mod SomeAnswer

@@ -1,6 +1,7 @@
 -- The answer that is due: by the words of the command line, then by the command's files and what they hold, and by the
 -- targets.
 use Rattle.std.specs.Prelude.{ℕ, ◌≡◌, List, ◌++◌, Option, Some, None, Result, Ok, Err}
+use Rattle.opgen_command.specs.Command.{command_of}
 use Rattle.opgen_command.specs.declared.command.Command.{Command}
 use Rattle.opgen_command.specs.declared.command.Command.TheVariants.{Generate, Vectors, Simulate, Workload}
 use Rattle.opgen_io.specs.Answers.{fetched}
@@ -47,6 +48,11 @@ IsAnswerOf (Some command) devices files a = IsAnswerOfCommand command devices fi
 abbrev pub HasOneAnswer : Type 0
 HasOneAnswer = (command : Option Command) (devices : List Device) (files : Files) (a b : Answer)
     → IsAnswerOf command devices files a → IsAnswerOf command devices files b → a ≡ b
+
+-- and that they leave none is impossible
+abbrev pub HasSomeAnswer : Type 0
+HasSomeAnswer = (words : List (List ℕ)) (devices : List Device) (files : Files)
+    → ((a : Answer) → IsAnswerOf (command_of words) devices files a → ⊥) → ⊥
 
 -- The answer that is due was given: the result is its status, the folder has its stores more or anew, and a sink that tells
 -- what it takes has its line more.

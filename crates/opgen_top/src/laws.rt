@@ -1,10 +1,11 @@
 ghost use Rattle.opgen_top.specs.Causes.{AnswersHaveCauses, RefusalsAreDue};
 ghost use Rattle.opgen_top.specs.Circuit.{CircuitsAreSound, CircuitsServe, HasOneCircuit};
-ghost use Rattle.opgen_top.specs.Due.{HasOneAnswer};
+ghost use Rattle.opgen_top.specs.Due.{HasOneAnswer, HasSomeAnswer};
 ghost use Rattle.opgen_top.specs.Kinds.{HasOneNet};
 ghost use Rattle.opgen_top.specs.Printed.{LinesAreFixed};
 ghost use Rattle.opgen_top.specs.Workload.{WorkloadsAreGood};
 
+use opgen_operator::{outputs_are_wide, outputs_hold, products_have_width};
 use opgen_pipe::run_follows_flow;
 
 /// The words, the targets and the files leave at most one answer: its status, its line and its stores.
@@ -14,6 +15,17 @@ pub fn one_answer()
     opgen_mult::one_net();
     opgen_search::one_net();
     opgen_search::one_adder_set();
+}
+
+/// That the words, the targets and the files leave no answer is impossible. Which one is due is not said, since nothing here
+/// computes it: `run` gives it where it answers.
+pub fn some_answer()
+    ensures { HasSomeAnswer }
+{
+    outputs_hold();
+    outputs_are_wide();
+    products_have_width();
+    circuits_serve();
 }
 
 /// Each status of an answer that is due says what the words, the targets and the files are.

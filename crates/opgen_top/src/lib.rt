@@ -20,7 +20,7 @@ mod workload;
 
 pub use laws::{
     answers_have_causes, circuits_are_sound, circuits_serve, lines_are_fixed, one_answer,
-    one_circuit, one_net, refusals_are_due, workloads_are_good,
+    one_circuit, one_net, refusals_are_due, some_answer, workloads_are_good,
 };
 pub use opgen_search::{Gate, OpenGate};
 pub use opgen_target::Target;

@@ -1,3 +1,3 @@
 mod Drawn
-mod Valid
+pub mod Valid
 pub mod Counting

@@ -1,0 +1,5 @@
+pub mod Classical
+mod FirstPlaces
+mod Counting
+mod Numbering
+pub mod Verdict
