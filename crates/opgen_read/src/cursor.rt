@@ -42,17 +42,6 @@ impl<'a> Cursor<'a> {
         self.first
     }
 
-    /// The kind and the text of the first token, and what is left behind it.
-    pub fn next(self) -> Option<(TokenKind, &'a [u8], Cursor<'a>)>
-        ensures some { IfSome result (λ x. left self.entry ≡ symbol_of (x.0, x.1.now) ∷ left x.2) }
-        ensures none { IfNone result (left self.entry ≡ []) }
-        ensures short { IfSome result (λ x. length x.1.now ≤ MAX_WIDTH + 2) }
-        ensures numeral { IfSome result (λ x. IsTrue (is_numeral x.0 x.1.now)) }
-    {
-        let (kind, text, behind) = self.token()?;
-        Some((kind, text, Cursor::new(behind)))
-    }
-
     /// What is left behind this word of the language.
     #[tactic(auto, using(crate::proofs::FirstSymbol::eat_word))]
     pub fn word(self, text: &str) -> Option<Cursor<'a>>

@@ -59,12 +59,12 @@ pub fn name<'a>(
     ensures value { Gives (λ x. (x.0, left x.1)) result (name_at (left rest.entry)) }
     ensures allowed { IfOk result (λ x. IsTrue (is_allowed_name x.0)) }
 {
-    let (kind, text, rest) = rest.next().ok_or(Refusal::Refused)?;
+    let (kind, text, behind) = rest.token().ok_or(Refusal::Refused)?;
     if !same_kind(kind, TokenKind::Word) {
         return Err(Refusal::Refused);
     }
     match allowed(alloc, declared, text)? {
-        Some(name) => Ok((name, rest)),
+        Some(name) => Ok((name, Cursor::new(behind))),
         None => Err(Refusal::Refused),
     }
 }
