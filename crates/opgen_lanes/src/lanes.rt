@@ -98,11 +98,11 @@ fn run_cycle(
 }
 
 impl Lanes {
-    /// All streams before the first cycle of a sound design, with all the room that their steps use.
-    pub fn new(alloc: Global, design: &Design) -> Result<Lanes, Memory>
-        requires sound { IsSound design.now }
-        requires numbers { HasNumbers design.now }
-        ensures { IfOk result (λ l. AreNew design.now l) }
+    /// All streams before the first cycle of a sound design, which the lanes keep, with all the room that their steps use.
+    pub fn from_design(alloc: Global, design: Design) -> Result<Lanes, Memory>
+        requires sound { IsSound design }
+        requires numbers { HasNumbers design }
+        ensures { IfOk result (λ l. AreNew design l) }
     {
         let order = design.order(alloc)?;
         let signals = initial_words(alloc, design.signals.as_slice())?;
@@ -110,12 +110,21 @@ impl Lanes {
         let widths = port_widths(alloc, design.ports.as_slice())?;
         let ports = Bank::new(alloc, &widths)?;
         Ok(Lanes {
-            design: copy(alloc, design)?,
+            design,
             order,
             signals,
             ports,
             next,
         })
+    }
+
+    /// The same of a copy of a design.
+    pub fn new(alloc: Global, design: &Design) -> Result<Lanes, Memory>
+        requires sound { IsSound design.now }
+        requires numbers { HasNumbers design.now }
+        ensures { IfOk result (λ l. AreNew design.now l) }
+    {
+        Lanes::from_design(alloc, copy(alloc, design)?)
     }
 
     /// Runs one cycle of each stream: a vector for each bit of each input port gives one for each bit of each output port, ports in

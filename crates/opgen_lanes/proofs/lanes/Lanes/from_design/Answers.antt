@@ -1,4 +1,4 @@
-use Rattle.std.proofs.Common.{◌≡◌, ◌≤◌, All, map, sym, ap, ◌∙◌, subst}
+use Rattle.std.proofs.Common.{◌≡◌, ◌≤◌, All, map, refl, sym, ap, ◌∙◌, subst}
 use Rattle.opgen_num.specs.declared.TheConstants.{MAX_WIDTH}
 use Rattle.opgen_design.specs.Run.{initial_words}
 use Rattle.opgen_design.specs.Sound.{IsSignalWide, signal_widths}
@@ -6,27 +6,27 @@ use Rattle.opgen_runs.specs.Registers.{SameRegisters}
 use Rattle.opgen_runs.proofs.Starts.{starts-registers}
 use Rattle.opgen_streams.specs.Streams.{words_in}
 use Rattle.opgen_lanes.proofs.Beginning.{initial, signals-wide, ports-narrow}
-use Rattle.opgen_lanes.proofs.lanes.Lanes.new.Goals as goal
+use Rattle.opgen_lanes.proofs.lanes.Lanes.from_design.Goals as goal
 
 pub initial_words-requires-clause-wide : goal.initial_words-requires-clause-wide
 initial_words-requires-clause-wide c = subst (λ ss. All IsSignalWide ss) (sym c.as_slice.ensures)
-    (signals-wide c.args.design.now c.requires.sound)
+    (signals-wide c.args.design c.requires.sound)
 
 pub initial_words-requires-2-clause-wide : goal.initial_words-requires-2-clause-wide
 initial_words-requires-2-clause-wide c = subst (λ ss. All IsSignalWide ss) (sym c.as_slice-2.ensures)
-    (signals-wide c.args.design.now c.requires.sound)
+    (signals-wide c.args.design c.requires.sound)
 
 pub new-requires-clause-narrow : goal.new-requires-clause-narrow
 new-requires-clause-narrow c = subst (λ ws. All (λ w. w ≤ MAX_WIDTH) ws)
     (sym (c.deref.ensures.value ∙ c.in_ok-widths.ensures ∙ ap (map (λ p. p.width)) c.as_slice-3.ensures))
-    (ports-narrow c.args.design.now c.requires.sound)
+    (ports-narrow c.args.design c.requires.sound)
 
 pub returns : goal.returns
 returns c =
-    let d = c.args.design.now in
+    let d = c.args.design in
     let bank = c.in_ok-signals.signals in
     record {
-      design = c.in_ok-copy.ensures;
+      design = refl;
       registers = λ k h.
           let e : words_in (signal_widths d) bank.vectors.items k ≡ map initial d.signals =
           ap (λ ws. words_in ws bank.vectors.items k) (sym (c.in_ok-signals.ensures.widths ∙ ap (map (λ s. s.width)) c.as_slice.ensures))
