@@ -12,7 +12,12 @@ use opgen_design::Design;
 use opgen_machine::{Machine, is_flat};
 use std::alloc::{AllocError, Global};
 
-/// What runs a design: a machine where its words and tables are small, and else a walk over its drivers.
+/// Fewer cycles than these are run by a walk over the drivers: making a list of steps, or vectors of 256 streams, takes longer than
+/// walking the drivers so few times.
+pub const FEW_CYCLES: u32 = 4;
+
+/// What runs a design: a machine where its words and tables are small and more than a few cycles are to be run, and else a walk over
+/// its drivers.
 #[derive(Drop)]
 pub enum Engine {
     Flat(Machine),
@@ -20,15 +25,20 @@ pub enum Engine {
 }
 
 impl Engine {
-    /// Before the first cycle of a sound design.
-    pub fn new(alloc: Global, design: &Design, order: Vec<usize>) -> Result<Engine, AllocError>
+    /// Before the first cycle of a sound design, of which so many cycles are to be run.
+    pub fn new(
+        alloc: Global,
+        design: &Design,
+        order: Vec<usize>,
+        cycles: u32,
+    ) -> Result<Engine, AllocError>
         requires sound { IsSound design.now }
         requires numbers { HasNumbers design.now }
         requires order { IsOrderOf design.now order.items }
         ensures engine { IfOk result (λ e. IsEngineOf design.now e) }
         ensures registers { IfOk result (λ e. SameRegisters design.now (registers_of design.now e) (initial_words design.now.signals)) }
     {
-        if is_flat(design) {
+        if cycles >= FEW_CYCLES && is_flat(design) {
             Ok(Engine::Flat(Machine::new(alloc, design, &order)?))
         } else {
             Ok(Engine::Wide(Walker::new(alloc, design, order)?))

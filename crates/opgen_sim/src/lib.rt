@@ -12,6 +12,7 @@ mod tables;
 mod tests;
 mod walker;
 
+pub use engine::FEW_CYCLES;
 pub use laws::steps_are_runs;
 pub use opgen_lanes::Lanes;
 pub use sim::Sim;

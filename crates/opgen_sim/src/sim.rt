@@ -35,18 +35,27 @@ impl Model for Sim {
 }
 
 impl Sim {
-    /// A simulator before the first cycle of a sound design, with all the room that its steps use.
+    /// A simulator before the first cycle of a sound design, which it keeps, with all the room that its steps use.
+    ///
+    /// `cycles` says how many cycles are to be run, so that it runs them in the way that is faster. Whatever it says, any number of
+    /// cycles may be run.
+    pub fn from_design(alloc: Global, design: Design, cycles: u32) -> Result<Sim, Memory>
+        requires sound { IsSound design }
+        requires numbers { HasNumbers design }
+        ensures { IfOk result (λ s. IsNew design s) }
+    {
+        let order = design.order(alloc)?;
+        let engine = Engine::new(alloc, &design, order, cycles)?;
+        Ok(Sim { design, engine })
+    }
+
+    /// The same of a copy of a design, for many cycles.
     pub fn new(alloc: Global, design: &Design) -> Result<Sim, Memory>
         requires sound { IsSound design.now }
         requires numbers { HasNumbers design.now }
         ensures { IfOk result (λ s. IsNew design.now s) }
     {
-        let order = design.order(alloc)?;
-        let engine = Engine::new(alloc, design, order)?;
-        Ok(Sim {
-            design: copy(alloc, design)?,
-            engine,
-        })
+        Sim::from_design(alloc, copy(alloc, design)?, u32::MAX)
     }
 
     /// Runs one cycle: a number for each input port, below 2 to its width, gives a number for each output port. Takes no memory.

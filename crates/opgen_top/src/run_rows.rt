@@ -9,7 +9,7 @@ ghost use Rattle.opgen_top.specs.Running.{is_of, IsRunOf, IsRunText};
 use crate::run_streams::{is_for_streams, run_streams};
 use opgen_design::{Design, Dir, Port};
 use opgen_num::Memory;
-use opgen_sim::Sim;
+use opgen_sim::{FEW_CYCLES, Sim};
 use opgen_vec::{Vectors, write_rows};
 use std::alloc::{AllocError, Global};
 
@@ -42,19 +42,19 @@ pub(crate) fn port_widths(alloc: Global, ports: &[Port], dir: Dir) -> Result<Vec
 /// The numbers at the output ports, cycle after cycle.
 pub(crate) fn run_rows(
     alloc: Global,
-    design: &Design,
+    design: Design,
     in_columns: usize,
     out_columns: usize,
     rows: &Rows,
 ) -> Result<Vec<u128>, Memory>
-    requires sound { IsSound design.now }
-    requires numbers { HasNumbers design.now }
-    requires in_columns { in_columns ≡ length (input_widths design.now) }
-    requires out_columns { out_columns ≡ length (output_widths design.now) }
-    requires rows { AreRowsOfCells (input_widths design.now) rows.now.count rows.now.inputs.cells.items }
-    ensures { IfOk result (λ cells. IsRunOf design.now rows.now.count rows.now.inputs.cells.items cells.items) }
+    requires sound { IsSound design }
+    requires numbers { HasNumbers design }
+    requires in_columns { in_columns ≡ length (input_widths design) }
+    requires out_columns { out_columns ≡ length (output_widths design) }
+    requires rows { AreRowsOfCells (input_widths design) rows.now.count rows.now.inputs.cells.items }
+    ensures { IfOk result (λ cells. IsRunOf design rows.now.count rows.now.inputs.cells.items cells.items) }
 {
-    let mut sim = Sim::new(alloc, design)?;
+    let mut sim = Sim::from_design(alloc, design, rows.count)?;
     let mut outputs = vec![in alloc; 0; out_columns]?;
     let mut cells = Vec::new(alloc);
     let mut inputs = rows.inputs.cells.as_slice();
@@ -72,20 +72,21 @@ pub(crate) fn run_rows(
 // The numbers at the output ports, cycle after cycle, in the way that is faster.
 fn cells(
     alloc: Global,
-    design: &Design,
+    design: Design,
     in_widths: &[u32],
     out_widths: &[u32],
     rows: &Rows,
 ) -> Result<Vec<u128>, Memory>
-    requires sound { IsSound design.now }
-    requires numbers { HasNumbers design.now }
-    requires in_widths { in_widths.now ≡ input_widths design.now }
-    requires out_widths { out_widths.now ≡ output_widths design.now }
-    requires columns { rows.now.inputs.columns ≡ length (input_widths design.now) }
-    requires rows { AreRowsOfCells (input_widths design.now) rows.now.count rows.now.inputs.cells.items }
-    ensures { IfOk result (λ cells. IsRunOf design.now rows.now.count rows.now.inputs.cells.items cells.items) }
+    requires sound { IsSound design }
+    requires numbers { HasNumbers design }
+    requires in_widths { in_widths.now ≡ input_widths design }
+    requires out_widths { out_widths.now ≡ output_widths design }
+    requires columns { rows.now.inputs.columns ≡ length (input_widths design) }
+    requires rows { AreRowsOfCells (input_widths design) rows.now.count rows.now.inputs.cells.items }
+    ensures { IfOk result (λ cells. IsRunOf design rows.now.count rows.now.inputs.cells.items cells.items) }
 {
-    if !in_widths.is_empty() && !out_widths.is_empty() && is_for_streams(design) {
+    let some = !in_widths.is_empty() && !out_widths.is_empty();
+    if some && rows.count >= FEW_CYCLES && is_for_streams(&design) {
         run_streams(alloc, design, in_widths, out_widths, rows)
     } else {
         run_rows(alloc, design, in_widths.len(), out_widths.len(), rows)
@@ -93,13 +94,13 @@ fn cells(
 }
 
 /// The text of the run of a design over rows of its inputs.
-pub(crate) fn run_text(alloc: Global, design: &Design, rows: &Rows) -> Result<Vec<u8>, Memory>
-    requires sound { IsSound design.now }
-    requires numbers { HasNumbers design.now }
-    requires some_port { 0 < length design.now.ports }
-    requires columns { rows.now.inputs.columns ≡ length (input_widths design.now) }
-    requires rows { AreRowsOfCells (input_widths design.now) rows.now.count rows.now.inputs.cells.items }
-    ensures { IfOk result (λ text. IsRunText design.now rows.now.count rows.now.inputs.cells.items text.items) }
+pub(crate) fn run_text(alloc: Global, design: Design, rows: &Rows) -> Result<Vec<u8>, Memory>
+    requires sound { IsSound design }
+    requires numbers { HasNumbers design }
+    requires some_port { 0 < length design.ports }
+    requires columns { rows.now.inputs.columns ≡ length (input_widths design) }
+    requires rows { AreRowsOfCells (input_widths design) rows.now.count rows.now.inputs.cells.items }
+    ensures { IfOk result (λ text. IsRunText design rows.now.count rows.now.inputs.cells.items text.items) }
 {
     let in_widths = port_widths(alloc, design.ports.as_slice(), Dir::In)?;
     let out_widths = port_widths(alloc, design.ports.as_slice(), Dir::Out)?;

@@ -68,22 +68,22 @@ fn vectors(alloc: Global, widths: &[u32]) -> Result<Vec<u64x4>, AllocError>
 /// The numbers at the output ports of a design without registers, cycle after cycle.
 pub(crate) fn run_streams(
     alloc: Global,
-    design: &Design,
+    design: Design,
     in_widths: &[u32],
     out_widths: &[u32],
     rows: &Rows,
 ) -> Result<Vec<u128>, Memory>
-    requires sound { IsSound design.now }
-    requires numbers { HasNumbers design.now }
-    requires no_register { list_all (λ k. not (is_register k)) design.now.drivers ≡ true }
-    requires in_widths { in_widths.now ≡ input_widths design.now }
-    requires out_widths { out_widths.now ≡ output_widths design.now }
+    requires sound { IsSound design }
+    requires numbers { HasNumbers design }
+    requires no_register { list_all (λ k. not (is_register k)) design.drivers ≡ true }
+    requires in_widths { in_widths.now ≡ input_widths design }
+    requires out_widths { out_widths.now ≡ output_widths design }
     requires some { 0 < length in_widths.now }
-    requires columns { rows.now.inputs.columns ≡ length (input_widths design.now) }
-    requires rows { AreRowsOfCells (input_widths design.now) rows.now.count rows.now.inputs.cells.items }
-    ensures { IfOk result (λ cells. IsRunOf design.now rows.now.count rows.now.inputs.cells.items cells.items) }
+    requires columns { rows.now.inputs.columns ≡ length (input_widths design) }
+    requires rows { AreRowsOfCells (input_widths design) rows.now.count rows.now.inputs.cells.items }
+    ensures { IfOk result (λ cells. IsRunOf design rows.now.count rows.now.inputs.cells.items cells.items) }
 {
-    let mut lanes = Lanes::new(alloc, design)?;
+    let mut lanes = Lanes::from_design(alloc, design)?;
     let mut inputs = vectors(alloc, in_widths)?;
     let mut outputs = vectors(alloc, out_widths)?;
     let mut results = Vectors {

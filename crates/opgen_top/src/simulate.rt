@@ -109,6 +109,6 @@ pub(crate) fn simulated(
         alloc,
         simulated_line(alloc, rows.count)?,
         String::from_str(alloc, out)?,
-        run_text(alloc, &design, &rows)?,
+        run_text(alloc, design, &rows)?,
     )?)
 }

@@ -35,23 +35,25 @@ fn wrote_vectors_line(alloc: Global, name: &str, cycles: u32) -> Result<String, 
 }
 
 /// The rows of a circuit over its stimulus, with the line that tells of them.
-fn ran(alloc: Global, made: &Specified, seed: u32, cycles: u32) -> Result<Answer, Memory>
-    requires valid { IsValidSpec made.now.spec }
-    requires sound { IsSound made.now.circuit.planned.design }
-    requires numbers { HasNumbers made.now.circuit.planned.design }
-    requires ports { made.now.circuit.planned.design.ports ≡ ports_for made.now.spec false }
-    ensures { IfOk result (λ a. HasRows made.now.spec made.now.circuit.planned.design seed cycles (answer_of a)) }
+fn ran(alloc: Global, made: Specified, seed: u32, cycles: u32) -> Result<Answer, Memory>
+    requires valid { IsValidSpec made.spec }
+    requires sound { IsSound made.circuit.planned.design }
+    requires numbers { HasNumbers made.circuit.planned.design }
+    requires ports { made.circuit.planned.design.ports ≡ ports_for made.spec false }
+    ensures { IfOk result (λ a. HasRows made.spec made.circuit.planned.design seed cycles (answer_of a)) }
 {
+    let Specified { spec, circuit } = made;
+    let planned = circuit.planned;
     let rows = Rows {
         count: cycles,
-        inputs: stimulus(alloc, &made.spec, seed as u64, cycles)?,
+        inputs: stimulus(alloc, &spec, seed as u64, cycles)?,
     };
-    let name = made.spec.name.as_str();
+    let name = spec.name.as_str();
     Ok(with_file(
         alloc,
         wrote_vectors_line(alloc, name, cycles)?,
         vectors_name(alloc, name)?,
-        run_text(alloc, &made.circuit.planned.design, &rows)?,
+        run_text(alloc, planned.design, &rows)?,
     )?)
 }
 
@@ -69,7 +71,7 @@ pub(crate) fn vectors_of<R: Threads + Sync, G: Gate + Sync>(
     ensures listed { Answers result IsListed }
 {
     match specified_by(rt, alloc, bytes, false, 1, targets, gate) {
-        Ok(made) => Ok(ran(alloc, &made, seed, cycles)?),
+        Ok(made) => Ok(ran(alloc, made, seed, cycles)?),
         Err(refusal) => Err(refusal),
     }
 }

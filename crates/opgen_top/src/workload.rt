@@ -42,22 +42,23 @@ fn worked_line(
 }
 
 /// How many cycles of the filter's run over its stimulus are good, in a line with its size.
-fn judged(alloc: Global, n: u32, made: &Specified) -> Result<Answer, Memory>
-    requires filter { made.now.spec ≡ workload_spec n }
-    requires valid { IsValidSpec made.now.spec }
-    requires sound { IsSound made.now.circuit.planned.design }
-    requires numbers { HasNumbers made.now.circuit.planned.design }
-    requires ports { made.now.circuit.planned.design.ports ≡ ports_for made.now.spec false }
-    ensures { IfOk result (λ a. HasWorked n made.now.circuit.planned (answer_of a)) }
+fn judged(alloc: Global, n: u32, made: Specified) -> Result<Answer, Memory>
+    requires filter { made.spec ≡ workload_spec n }
+    requires valid { IsValidSpec made.spec }
+    requires sound { IsSound made.circuit.planned.design }
+    requires numbers { HasNumbers made.circuit.planned.design }
+    requires ports { made.circuit.planned.design.ports ≡ ports_for made.spec false }
+    ensures { IfOk result (λ a. HasWorked n made.circuit.planned (answer_of a)) }
 {
-    let planned = &made.circuit.planned;
+    let Specified { spec, circuit } = made;
+    let planned = circuit.planned;
     let rows = Rows {
         count: CYCLES,
-        inputs: stimulus(alloc, &made.spec, n as u64, CYCLES)?,
+        inputs: stimulus(alloc, &spec, n as u64, CYCLES)?,
     };
-    let outputs = run_rows(alloc, &planned.design, 1, 1, &rows)?;
-    let good = good_cycles(&made.spec, &rows.inputs.cells, &outputs, planned.latency);
     let signals = planned.design.signals.len();
+    let outputs = run_rows(alloc, planned.design, 1, 1, &rows)?;
+    let good = good_cycles(&spec, &rows.inputs.cells, &outputs, planned.latency);
     let line = worked_line(alloc, n, signals, planned.latency, good)?;
     Ok(without_file(alloc, Line::Wrote(line)))
 }
@@ -76,7 +77,7 @@ pub(crate) fn workload<R: Threads + Sync, G: Gate + Sync>(
 {
     let spec = workload_spec(alloc, n)?;
     match made_for(rt, alloc, spec, false, 1, targets, gate) {
-        Ok(made) => Ok(judged(alloc, n, &made)?),
+        Ok(made) => Ok(judged(alloc, n, made)?),
         Err(refusal) => Err(refusal),
     }
 }

@@ -12,7 +12,7 @@ rows-init c =
       same = new.design;
       fit = c.requires.rows;
       room = omega (arith, c.in_ok-outputs.ensures.len, c.in_ok-outputs.outputs.ok.0, c.requires.out_columns);
-      run = run_start c.args.design.now c.in_ok-sim.sim c.args.rows.now.count c.args.rows.now.inputs.cells.items new;
+      run = run_start c.args.design c.in_ok-sim.sim c.args.rows.now.count c.args.rows.now.inputs.cells.items new;
     }
 
 pub split_at-requires : goal.split_at-requires
@@ -20,12 +20,12 @@ split_at-requires c =
     omega (
       arith,
       c.requires.in_columns,
-      row_room (input_widths c.args.design.now) c.rows.inputs.now c.rows.left c.rows-test.true c.rows.invariant.fit,
+      row_room (input_widths c.args.design) c.rows.inputs.now c.rows.left c.rows-test.true c.rows.invariant.fit,
     )
 
 pub step-requires-clause-inputs : goal.step-requires-clause-inputs
 step-requires-clause-inputs c =
-    let d = c.args.design.now in
+    let d = c.args.design in
     let now = c.rows.invariant in
     let first = c.split_at.ensures.front ∙ ap (λ n. take n c.rows.inputs.now) c.requires.in_columns in
     let fits = first_fits (input_widths d) c.rows.inputs.now c.rows.left c.rows-test.true now.fit in
@@ -34,7 +34,7 @@ step-requires-clause-inputs c =
 
 pub rows-preserved : goal.rows-preserved
 rows-preserved c =
-    let d = c.args.design.now in
+    let d = c.args.design in
     let e = c.rows.sim.design in
     let now = c.rows.invariant in
     let numbers = c.step.new.outputs in
@@ -55,4 +55,4 @@ rows-preserved c =
 
 pub returns : goal.returns
 returns c =
-    whole_run c.args.design.now c.args.rows.now.count c.args.rows.now.inputs.cells.items c.rows.sim.registers c.rows.left c.rows.inputs.now c.rows.cells.items c.rows.invariant.run (omega (arith, c.rows-test.false))
+    whole_run c.args.design c.args.rows.now.count c.args.rows.now.inputs.cells.items c.rows.sim.registers c.rows.left c.rows.inputs.now c.rows.cells.items c.rows.invariant.run (omega (arith, c.rows-test.false))

@@ -7,10 +7,10 @@ use Rattle.opgen_top.proofs.run_rows.run_rows.Given as goal
 
 abbrev pub invariant-rows : goal.invariant-rows
 invariant-rows l = record {
-  same : l.sim.design ≡ l.design;
-  fit : AreRowsOfCells (input_widths l.design) l.left l.inputs;
-  room : length l.outputs.items ≡ length (output_widths l.design);
-  run : HasRun l.design l.fn.rows.count l.fn.rows.inputs.cells.items l.sim.registers l.left l.inputs l.cells.items;
+  same : l.sim.design ≡ l.fn.design;
+  fit : AreRowsOfCells (input_widths l.fn.design) l.left l.inputs;
+  room : length l.outputs.items ≡ length (output_widths l.fn.design);
+  run : HasRun l.fn.design l.fn.rows.count l.fn.rows.inputs.cells.items l.sim.registers l.left l.inputs l.cells.items;
 }
 
 abbrev pub decreases-rows : goal.decreases-rows

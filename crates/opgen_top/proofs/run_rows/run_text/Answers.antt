@@ -8,11 +8,11 @@ use Rattle.opgen_top.proofs.run_rows.run_text.Goals as goal
 pub overflow_cast-outputs : goal.overflow_cast-outputs
 overflow_cast-outputs c =
     let widths = c.in_ok-out_widths.ensures ∙ ap (widths_on is_out) c.as_slice-2.ensures in
-    omega (arith, c.len.ensures, c.in_ok-out_widths.out_widths.ok.0, ap length widths, few_outputs c.args.design.now c.requires.numbers)
+    omega (arith, c.len.ensures, c.in_ok-out_widths.out_widths.ok.0, ap length widths, few_outputs c.args.design c.requires.numbers)
 
 pub invariant_of-outputs : goal.invariant_of-outputs
 invariant_of-outputs c =
-    let d = c.args.design.now in
+    let d = c.args.design in
     let rows = c.args.rows.now in
     let widths = c.in_ok-out_widths.ensures ∙ ap (widths_on is_out) c.as_slice-2.ensures in
     let columns : length (output_widths d) ≡ c.len.result =
@@ -27,11 +27,11 @@ pub write_rows-requires-clause-some : goal.write_rows-requires-clause-some
 write_rows-requires-clause-some c =
     let ins = c.deref-3.ensures.value ∙ c.in_ok-in_widths.ensures ∙ ap (widths_on is_in) c.as_slice.ensures in
     let outs = c.deref-4.ensures.value ∙ c.in_ok-out_widths.ensures ∙ ap (widths_on is_out) c.as_slice-2.ensures in
-    omega (arith, ap length ins, ap length outs, sides c.args.design.now, c.requires.some_port)
+    omega (arith, ap length ins, ap length outs, sides c.args.design, c.requires.some_port)
 
 pub write_rows-requires-clause-same_rows : goal.write_rows-requires-clause-same_rows
 write_rows-requires-clause-same_rows c =
-    let d = c.args.design.now in
+    let d = c.args.design in
     let rows = c.args.rows.now in
     let cells = c.in_ok-cells.cells.items in
     let ins = c.deref-3.ensures.value ∙ c.in_ok-in_widths.ensures ∙ ap (widths_on is_in) c.as_slice.ensures in
@@ -42,7 +42,7 @@ write_rows-requires-clause-same_rows c =
 
 pub returns : goal.returns
 returns c =
-    let d = c.args.design.now in
+    let d = c.args.design in
     let rows = c.args.rows.now in
     let ins = c.deref-3.ensures.value ∙ c.in_ok-in_widths.ensures ∙ ap (widths_on is_in) c.as_slice.ensures in
     let outs = c.deref-4.ensures.value ∙ c.in_ok-out_widths.ensures ∙ ap (widths_on is_out) c.as_slice-2.ensures in

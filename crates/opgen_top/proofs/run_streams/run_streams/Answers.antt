@@ -12,25 +12,25 @@ use Rattle.opgen_top.proofs.run_streams.run_streams.Goals as goal
 
 pub overflow_cast-results : goal.overflow_cast-results
 overflow_cast-results c =
-    omega (arith, ap length c.requires.out_widths, few_outputs c.args.design.now c.requires.numbers)
+    omega (arith, ap length c.requires.out_widths, few_outputs c.args.design c.requires.numbers)
 
 pub pack-requires-clause-first : goal.pack-requires-clause-first
 pack-requires-clause-first c =
     let rows = c.args.rows.now in
     let some = ap length c.requires.in_widths in
-    let count = rows_counted (input_widths c.args.design.now) rows.inputs.columns rows.count rows.inputs.cells.items
+    let count = rows_counted (input_widths c.args.design) rows.inputs.columns rows.count rows.inputs.cells.items
     (omega (arith, some, c.requires.some)) c.requires.columns c.requires.rows in
     omega (arith, count, c.blocks-2-test.true)
 
 pub unpack-requires-clause-narrow : goal.unpack-requires-clause-narrow
 unpack-requires-clause-narrow c =
-    let narrow = narrow_ports is_out c.args.design.now c.requires.sound in
+    let narrow = narrow_ports is_out c.args.design c.requires.sound in
     subst (λ ws. All (λ width. width ≤ 128) ws) (sym c.requires.out_widths)
     (λ k w lt. omega (arith, narrow k w lt))
 
 pub blocks-2-preserved : goal.blocks-2-preserved
 blocks-2-preserved c =
-    let d = c.args.design.now in
+    let d = c.args.design in
     let rows = c.args.rows.now in
     let cells = rows.inputs.cells.items in
     let now = c.blocks-2.invariant in
@@ -75,7 +75,7 @@ blocks-2-preserved c =
 
 pub returns : goal.returns
 returns c =
-    let d = c.args.design.now in
+    let d = c.args.design in
     let rows = c.args.rows.now in
     whole_run d rows.count rows.inputs.cells.items (initial_words d.signals) (rows.count - c.blocks-2.first) _
     c.blocks-2.results.cells.items c.blocks-2.invariant.run (omega (arith, c.blocks-2-test.false))

@@ -7,13 +7,13 @@ use Rattle.opgen_top.proofs.run_streams.run_streams.Given as goal
 
 abbrev pub invariant-blocks-2 : goal.invariant-blocks-2
 invariant-blocks-2 l = record {
-  same : l.lanes.design ≡ l.design;
+  same : l.lanes.design ≡ l.fn.design;
   within : l.first ≤ l.rows.count;
-  ins : length l.inputs.items ≡ sum (input_widths l.design);
-  outs : length l.outputs.items ≡ sum (output_widths l.design);
-  columns : l.results.columns ≡ length (output_widths l.design);
-  run : HasRun l.design l.rows.count l.rows.inputs.cells.items (initial_words l.design.signals) (l.rows.count - l.first)
-      (drop (l.first * length (input_widths l.design)) l.rows.inputs.cells.items) l.results.cells.items;
+  ins : length l.inputs.items ≡ sum (input_widths l.fn.design);
+  outs : length l.outputs.items ≡ sum (output_widths l.fn.design);
+  columns : l.results.columns ≡ length (output_widths l.fn.design);
+  run : HasRun l.fn.design l.rows.count l.rows.inputs.cells.items (initial_words l.fn.design.signals) (l.rows.count - l.first)
+      (drop (l.first * length (input_widths l.fn.design)) l.rows.inputs.cells.items) l.results.cells.items;
 }
 
 abbrev pub decreases-blocks-2 : goal.decreases-blocks-2

@@ -5,22 +5,22 @@ use Rattle.opgen_top.proofs.ServedPorts.{served_widths, served_columns, served_p
 use Rattle.opgen_top.proofs.vectors.ran.Goals as goal
 
 pub run_text-requires-clause-some_port : goal.run_text-requires-clause-some_port
-run_text-requires-clause-some_port c = let made = c.args.made.now in served_port made.spec made.circuit.planned.design c.requires.ports
+run_text-requires-clause-some_port c = let made = c.args.made in served_port made.spec made.circuit.planned.design c.requires.ports
 
 pub run_text-requires-clause-rows : goal.run_text-requires-clause-rows
 run_text-requires-clause-rows c =
-    let made = c.args.made.now in
+    let made = c.args.made in
     subst (λ ws. AreRowsOfCells ws c.args.cycles c.in_ok-stimulus.field-0.cells.items)
     (sym (served_widths made.spec made.circuit.planned.design c.requires.ports)) c.in_ok-stimulus.ensures.fit
 
 pub run_text-requires-clause-columns : goal.run_text-requires-clause-columns
 run_text-requires-clause-columns c =
-    let made = c.args.made.now in
+    let made = c.args.made in
     c.in_ok-stimulus.ensures.columns ∙ sym (served_columns made.spec made.circuit.planned.design c.requires.ports)
 
 pub returns : goal.returns
 returns c =
-    let made = c.args.made.now in record {
+    let made = c.args.made in record {
       rows = c.in_ok-run_text.field-0.items;
       run = subst
           (λ cs. IsRunText made.circuit.planned.design c.args.cycles cs c.in_ok-run_text.field-0.items) c.in_ok-stimulus.ensures.cells c.in_ok-run_text.ensures;
