@@ -1,11 +1,15 @@
 ghost use Rattle.std.specs.Prelude.{◌≡◌, ◌<◌, ◌^◌, ◌∷◌, [], IfOk, codes, length};
 ghost use Rattle.opgen_design.specs.declared.design.Dir.TheVariants.{In, Out};
+ghost use Rattle.opgen_design.specs.Sound.{HasNumbers, IsSound};
+ghost use Rattle.opgen_sim.specs.Sims.{IsNew};
 
-use crate::Sim;
+use crate::{Lanes, Sim};
 use opgen_design::{Design, Dir, Driver, Expr, Formula, Op, Port, Signal, Slice};
+use opgen_lanes::copy;
 use opgen_list::{Items, Text};
 use opgen_num::{Memory, Word};
 use std::alloc::{AllocError, Global};
+use std::simd::prelude::*;
 use std::test::Fail;
 
 /// The widths of two inputs, of a register and of an output.
@@ -373,6 +377,70 @@ fn a_register_holds_its_initial_word(rt: HostRuntime) -> Result<(), Fail> {
         assert_eq!(rt; outputs[0], 6);
         sim.step(&[0, 0], &mut outputs);
         assert_eq!(rt; outputs[0], 5);
+    }
+    assert!(rt; sound.is_ok());
+    Ok(())
+}
+
+// A simulator of a copy of the design, made for so many cycles.
+fn made_for(alloc: Global, design: &Design, cycles: u32) -> Result<Sim, Memory>
+    requires sound { IsSound design.now }
+    requires numbers { HasNumbers design.now }
+    ensures { IfOk result (λ s. IsNew design.now s) }
+{
+    Sim::from_design(alloc, copy(alloc, design)?, cycles)
+}
+
+#[test]
+fn one_cycle_or_ten_give_the_rows_of_many(rt: HostRuntime) -> Result<(), Fail> {
+    let design = enabled_third(rt.alloc(), Word::new(6, 3))?;
+    let sound = design.sound(rt.alloc());
+    if sound.is_ok() {
+        let mut many = Sim::new(rt.alloc(), &design)?;
+        let mut ten = made_for(rt.alloc(), &design, 10)?;
+        let mut one = made_for(rt.alloc(), &design, 1)?;
+        let mut outputs = [0];
+        let rows = [
+            (1, 1, 6),
+            (0, 15, 1),
+            (1, 2, 1),
+            (0, 0, 1),
+            (1, 4, 1),
+            (1, 15, 2),
+            (1, 0, 5),
+            (0, 3, 0),
+            (1, 1, 0),
+            (1, 0, 1),
+        ];
+        for (enable, x, y) in rows {
+            many.step(&[enable % 2, x % 16], &mut outputs);
+            assert_eq!(rt; outputs[0], y);
+            ten.step(&[enable % 2, x % 16], &mut outputs);
+            assert_eq!(rt; outputs[0], y);
+            one.step(&[enable % 2, x % 16], &mut outputs);
+            assert_eq!(rt; outputs[0], y);
+        }
+    }
+    assert!(rt; sound.is_ok());
+    Ok(())
+}
+
+#[test]
+fn lanes_of_a_design_give_the_bits_of_lanes_of_its_copy(rt: HostRuntime) -> Result<(), Fail> {
+    let design = enabled_third(rt.alloc(), Word::new(6, 3))?;
+    let sound = design.sound(rt.alloc());
+    if sound.is_ok() {
+        let mut copied = Lanes::new(rt.alloc(), &design)?;
+        let mut lanes = Lanes::from_design(rt.alloc(), design)?;
+        let inputs = [u64x4::splat(u64::MAX); 5];
+        let mut bits = [u64x4::splat(0); 3];
+        let mut same = [u64x4::splat(0); 3];
+        copied.step(&inputs, &mut bits);
+        lanes.step(&inputs, &mut same);
+        assert_eq!(rt; bits[0].to_array(), [0; 4]);
+        assert_eq!(rt; bits[2].to_array(), [u64::MAX; 4]);
+        assert_eq!(rt; same[0].to_array(), [0; 4]);
+        assert_eq!(rt; same[2].to_array(), [u64::MAX; 4]);
     }
     assert!(rt; sound.is_ok());
     Ok(())
