@@ -10,7 +10,7 @@ use Rattle.opgen_vhdl.specs.declared.kind.Token.{Token}
 use Rattle.opgen_vhdl.specs.declared.kind.TokenKind.{TokenKind}
 use Rattle.opgen_vhdl.proofs.CutLemmas.{CutTo, cut_to_start, cut_to_end, cut_to-gap, cut_to-token, spanned}
 use Rattle.opgen_vhdl.proofs.SpanLemmas.{length-cut, token_some}
-use Rattle.opgen_lex.specs.First.{HasTokens, IsFirstToken, HasNoToken}
+use Rattle.opgen_lex.specs.First.{IsPassed, HasTokens, IsFirstToken, HasNoToken}
 
 pub cut-append : (es fs : List Element) (bytes rest end : List ℕ) → Cut es bytes rest → Cut fs rest end → Cut (es ++ fs) bytes end
 cut-append [] fs bytes rest end c d = rw c d
@@ -86,13 +86,17 @@ is_cut_to-token bytes at n kind c s = record {
 pub has_tokens : (bytes : List ℕ) (at : ℕ) → length bytes ≤ at → IsCutTo bytes at → HasTokens bytes
 has_tokens bytes at h c = record { tokens = c.tokens; cut = cut_to_end bytes at c.tokens h c.cut }
 
--- the bytes before the rest are elements
-pub record IsPassed (bytes rest : List ℕ) : Type 0 where
-  pub elements : List Element
-  pub cut : Cut elements bytes rest
-
 pub passed_start : (bytes : List ℕ) → IsPassed bytes bytes
 passed_start bytes = record { elements = []; cut = refl }
+
+pub passed-on : (bytes rest later : List ℕ) → IsPassed bytes rest → IsPassed rest later → IsPassed bytes later
+passed-on bytes rest later p q = record {
+  elements = p.elements ++ q.elements;
+  cut = cut-append p.elements q.elements bytes rest later p.cut q.cut;
+}
+
+pub first-passed : (bytes : List ℕ) (kind : TokenKind) (text behind : List ℕ) → IsFirstToken bytes kind text behind → IsPassed bytes behind
+first-passed bytes kind text behind t = record { elements = t.elements; cut = t.cut }
 
 size_of-append : (es fs : List Element) → size_of (es ++ fs) ≡ size_of es + size_of fs
 size_of-append [] fs = omega arith
@@ -109,12 +113,12 @@ pub behind-shorter : (rest : List ℕ) (kind : TokenKind) (text behind : List �
 behind-shorter rest kind text behind t =
     omega (arith, length-cut t.elements rest behind t.cut, some_size t.elements rest behind kind text t.cut t.alone)
 
+pub fault-within : (bytes : List ℕ) (at : ℕ) → LexicalAt bytes at → at ≤ length bytes
+fault-within bytes at l = omega (arith, l.place, length-cut l.elements bytes l.rest l.cut)
+
 module _ (bytes rest : List ℕ) (p : IsPassed bytes rest) where
   pub passed-token : (kind : TokenKind) (text behind : List ℕ) → IsFirstToken rest kind text behind → IsPassed bytes behind
-  passed-token kind text behind t = record {
-    elements = p.elements ++ t.elements;
-    cut = cut-append p.elements t.elements bytes rest behind p.cut t.cut;
-  }
+  passed-token kind text behind t = passed-on bytes rest behind p (first-passed rest kind text behind t)
 
   pub passed-within : length rest ≤ length bytes
   passed-within = omega (arith, length-cut p.elements bytes rest p.cut)

@@ -1,9 +1,14 @@
--- Where the first token of a text stands.
+-- Where the first token of a text stands, and how far a text was cut.
 use Rattle.std.specs.Prelude.{◌≡◌, ℕ, List, [], ◌∷◌}
 use Rattle.opgen_vhdl.specs.Tokens.{Element, Cut, Tokens, NothingStarts}
 use Rattle.opgen_vhdl.specs.Spans.{spellings_of}
 use Rattle.opgen_vhdl.specs.declared.kind.Token.{Token}
 use Rattle.opgen_vhdl.specs.declared.kind.TokenKind.{TokenKind}
+
+-- the bytes before the rest are tokens, white space and comments
+pub record IsPassed (bytes rest : List ℕ) : Type 0 where
+  pub elements : List Element
+  pub cut : Cut elements bytes rest
 
 -- the bytes are tokens, white space and comments up to the end
 pub record HasTokens (bytes : List ℕ) : Type 0 where

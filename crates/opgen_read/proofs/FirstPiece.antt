@@ -1,5 +1,6 @@
 -- The first piece of what is left.
-use Rattle.std.proofs.Common.{◌≡◌, ℕ, ◌+◌, ◌-◌, ◌<◌, ◌≤◌, true, false, List, [], ◌∷◌, ◌++◌, length, map, take, drop, refl, ap, sym, ◌∙◌, arith, length-drop, length-append}
+use Rattle.std.proofs.Common.{◌≡◌, subst, ℕ, ◌+◌, ◌-◌, ◌<◌, ◌≤◌, true, false, inl, inr, List, [], ◌∷◌, ◌++◌, length, map, take, drop, refl, ap, sym, ◌∙◌, arith, length-append}
+use Rattle.std.proofs.lemmas.Bool.{cases_Bool}
 use Rattle.std.proofs.lemmas.List.{length-map}
 use Rattle.std.proofs.Math.Seq.{take-append_seam, drop-append_seam}
 use Rattle.opgen_vhdl.specs.declared.kind.TokenKind.{TokenKind}
@@ -10,9 +11,9 @@ use Rattle.opgen_vhdl.specs.Symbols.{Symbol, symbol_of, pieces, onto, is_semicol
 use Rattle.opgen_vhdl.specs.Tokens.{Element, Cut}
 use Rattle.opgen_vhdl.proofs.Walks.{first_len, pieces-first}
 use Rattle.opgen_lex.specs.First.{IsFirstToken, HasNoToken}
-use Rattle.opgen_lex.proofs.Cuts.{cut-append, spellings-append}
+use Rattle.opgen_lex.proofs.Cuts.{cut-append, spellings-append, passed_start}
 use Rattle.opgen_read.specs.Left.{symbols_in}
-use Rattle.opgen_read.specs.PieceLen.{IsPieceLen, IsRestLen}
+use Rattle.opgen_read.specs.PieceLen.{IsRestLen}
 use Rattle.opgen_read.proofs.FirstSymbol.{semicolon_first}
 use Rattle.opgen_read.proofs.SymbolsIn.{symbols_in-empty, symbols_in-behind, symbols_in-first, symbols_in-none, splits, cut-within}
 
@@ -25,18 +26,30 @@ pub record InFirst (bytes rest : List ℕ) : Type 0 where
 pub in_first-start : (bytes : List ℕ) → InFirst bytes bytes
 in_first-start bytes = record { elements = []; cut = refl; count = omega arith }
 
+onto-first : (s : Symbol) (ss : List Symbol) → onto s (pieces ss) ≡ (s ∷ take (first_len ss) ss) ∷ pieces (drop (first_len ss) ss)
+onto-first s [] = refl
+onto-first s (t ∷ ss) = rw (pieces-first t ss) refl
+
+-- so many bytes are the rest of each piece that begins before them
+abbrev IsPieceLen : List ℕ → ℕ → Type 0
+IsPieceLen bytes n = (first : Symbol) → is_semicolon first ≡ false → IsRestLen first bytes n
+
 -- where the tokens before the rest are those of the first piece, it ends there
 ends_there : (es : List Element) (bytes rest : List ℕ) → Cut es bytes rest → first_len (symbols_in bytes) ≡ length (spellings_of es)
     → IsPieceLen bytes (length bytes - length rest)
-ends_there es bytes rest c e =
+ends_there es bytes rest c e = λ first h.
     let s = splits es bytes rest c in
     let ss = map symbol_of (spellings_of es) in
     let whole : symbols_in bytes ≡ ss ++ symbols_in rest = symbols_in-behind es bytes rest c in
     let n : first_len (symbols_in bytes) ≡ length ss = e ∙ sym (length-map (spellings_of es) symbol_of) in
+    let piece : symbols_in (take (length bytes - length rest) bytes) ≡ take (first_len (symbols_in bytes)) (symbols_in bytes)
+    = s.front ∙ sym (rw (n, whole) (take-append_seam ss (symbols_in rest))) in
+    let others : symbols_in (drop (length bytes - length rest) bytes) ≡ drop (first_len (symbols_in bytes)) (symbols_in bytes)
+    = ap symbols_in s.back ∙ sym (rw (n, whole) (drop-append_seam ss (symbols_in rest))) in
     record {
       within = s.within;
-      piece = s.front ∙ sym (rw (n, whole) (take-append_seam ss (symbols_in rest)));
-      others = ap symbols_in s.back ∙ sym (rw (n, whole) (drop-append_seam ss (symbols_in rest)));
+      passed = record { elements = es; cut = subst (Cut es bytes) (sym s.back) c };
+      cut = rw (h, piece, others) (onto-first first (symbols_in bytes));
     }
 
 module _ (bytes rest : List ℕ) (f : InFirst bytes rest) where
@@ -71,17 +84,26 @@ pub behind-shorter : (rest : List ℕ) (kind : TokenKind) (text behind : List �
     → length (symbols_in behind) < length (symbols_in rest)
 behind-shorter rest kind text behind t = rw (symbols_in-first rest kind text behind t) (omega arith)
 
-onto-first : (s : Symbol) (ss : List Symbol) → onto s (pieces ss) ≡ (s ∷ take (first_len ss) ss) ∷ pieces (drop (first_len ss) ss)
-onto-first s [] = refl
-onto-first s (t ∷ ss) = rw (pieces-first t ss) refl
+-- a piece that is its semicolon alone
+pub rest-none : (s : Symbol) (bytes : List ℕ) → is_semicolon s ≡ true → IsRestLen s bytes 0
+rest-none s bytes h = record { within = omega arith; passed = passed_start bytes; cut = rw (h, symbols_in-empty) refl }
 
-module _ (s : Symbol) (bytes : List ℕ) where
-  pub rest-none : is_semicolon s ≡ true → IsRestLen s bytes 0
-  rest-none h = record { within = omega arith; cut = rw (h, symbols_in-empty) refl; shorter = omega arith }
+-- the symbols behind the first piece are fewer
 
-  pub rest-some : (n : ℕ) → IsPieceLen bytes n → is_semicolon s ≡ false → IsRestLen s bytes n
-  rest-some n p h = record {
-    within = p.within;
-    cut = rw (h, p.piece, p.others) (onto-first s (symbols_in bytes));
-    shorter = rw p.others (omega (arith, length-drop (first_len (symbols_in bytes)) (symbols_in bytes)));
-  }
+abbrev total : List (List Symbol) → ℕ
+total [] = 0
+total (piece ∷ more) = length piece + total more
+
+total-onto : (s : Symbol) (ps : List (List Symbol)) → total (onto s ps) ≡ total ps + 1
+total-onto s [] = refl
+total-onto s (p ∷ ps) = omega arith
+
+total-pieces : (ss : List Symbol) → total (pieces ss) ≡ length ss
+total-pieces [] = refl
+total-pieces (s ∷ ss) = elim (cases_Bool (is_semicolon s)) [
+  | inl y ↦ rw y (omega (arith, total-pieces ss))
+  | inr n ↦ rw n (omega (arith, total-onto s (pieces ss), total-pieces ss))
+]
+
+pub others-shorter : (s : Symbol) (ss piece more : List Symbol) → pieces ss ≡ (s ∷ piece) ∷ pieces more → length more < length ss
+others-shorter s ss piece more e = omega (arith, total-pieces ss, ap total e, total-pieces more)

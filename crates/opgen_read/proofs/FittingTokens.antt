@@ -1,21 +1,15 @@
 -- What the tokens of a text are.
 use Rattle.std.specs.Prelude.{codes}
 use Rattle.std.specs.Char.{is_ascii_digit}
-use Rattle.std.proofs.Common.{◌≡◌, ℕ, ◌+◌, ◌≤◌, true, List, [], ◌∷◌, length, map, refl, arith, length-append}
-use Rattle.std.proofs.lemmas.List.{length-map}
+use Rattle.std.proofs.Common.{◌≡◌, ℕ, ◌+◌, ◌≤◌, true, List, length, refl, arith, length-append}
 use Rattle.std.proofs.lemmas.List.Sums.{list_all-from_AllPass}
 use Rattle.opgen_num.specs.declared.TheConstants.{MAX_WIDTH}
-use Rattle.opgen_vhdl.specs.declared.kind.Token.{Token}
 use Rattle.opgen_vhdl.specs.declared.kind.TokenKind.{TokenKind}
 use Rattle.opgen_vhdl.specs.declared.kind.TokenKind.TheVariants.{Word, Number, Bits, ZeroChar, LeftParen, RightParen, Semicolon, Colon, Comma, Dot, Ampersand, Plus, Minus, Equal, LessEqual, Arrow, Becomes}
-use Rattle.opgen_vhdl.specs.Spans.{InOrder, spelled}
-use Rattle.opgen_vhdl.specs.Symbols.{symbol_of}
 use Rattle.opgen_vhdl.specs.Tokens.{IsToken}
-use Rattle.opgen_vhdl.proofs.SpanLemmas.{tokens-in_order}
-use Rattle.opgen_lex.specs.First.{HasTokens, IsFirstToken}
-use Rattle.opgen_read.specs.Left.{symbols_in}
-use Rattle.opgen_read.specs.Fits.{is_numeral}
-use Rattle.opgen_read.proofs.SymbolsIn.{first-stands, symbols_in-tokens}
+use Rattle.opgen_lex.specs.First.{IsFirstToken}
+use Rattle.opgen_read.specs.Fits.{has_digits_if_number}
+use Rattle.opgen_read.proofs.SymbolsIn.{first-stands}
 
 short : (kind : TokenKind) (text rest : List ℕ) → IsToken kind text rest → length text ≤ MAX_WIDTH + 2
 short Word text rest t = omega (arith, t.short)
@@ -36,7 +30,7 @@ short LessEqual text rest t = rw t (omega arith)
 short Arrow text rest t = rw t (omega arith)
 short Becomes text rest t = rw t (omega arith)
 
-numeral : (kind : TokenKind) (text rest : List ℕ) → IsToken kind text rest → is_numeral kind text ≡ true
+numeral : (kind : TokenKind) (text rest : List ℕ) → IsToken kind text rest → has_digits_if_number kind text ≡ true
 numeral Word text rest t = refl
 numeral Number text rest t = list_all-from_AllPass is_ascii_digit text t.bytes
 numeral Bits text rest t = refl
@@ -60,18 +54,5 @@ pub first-short : (bytes : List ℕ) (kind : TokenKind) (text rest : List ℕ) �
 first-short bytes kind text rest f = let s = first-stands bytes kind text rest f in short kind text s.next s.stands
 
 pub first-numeral : (bytes : List ℕ) (kind : TokenKind) (text rest : List ℕ) → IsFirstToken bytes kind text rest
-    → is_numeral kind text ≡ true
+    → has_digits_if_number kind text ≡ true
 first-numeral bytes kind text rest f = let s = first-stands bytes kind text rest f in numeral kind text s.next s.stands
-
--- a text has no more tokens than bytes
-pub few_tokens : (low high : ℕ) (ts : List Token) → InOrder low high ts → low + length ts ≤ high
-few_tokens low high [] h = omega (arith, h)
-few_tokens low high (t ∷ ts) h = omega (arith, h.0, h.1, few_tokens t.end high ts h.2)
-
-pub few_symbols : (bytes : List ℕ) → HasTokens bytes → length (symbols_in bytes) ≤ length bytes
-few_symbols bytes h = rw (symbols_in-tokens bytes h.tokens h.cut) (omega (
-  arith,
-  few_tokens 0 (length bytes) h.tokens (tokens-in_order bytes h.tokens h.cut),
-  length-map (map (spelled bytes) h.tokens) symbol_of,
-  length-map h.tokens (spelled bytes),
-))

@@ -1,14 +1,16 @@
 -- The first token of a text, as a cursor holds it.
 use Rattle.std.specs.Prelude.{IfSome, IfNone, nat_le}
-use Rattle.std.proofs.Common.{Bor, ◌≡◌, ℕ, ◌+◌, ◌≤◌, ◌<◌, ◌&&◌, Bool, true, List, [], ◌∷◌, length, take, drop, Option, Some, None, refl, sym}
+use Rattle.std.proofs.Common.{Bor, ◌≡◌, subst, ℕ, ◌+◌, ◌≤◌, ◌<◌, ◌&&◌, Bool, true, List, [], ◌∷◌, length, take, drop, Option, Some, None, refl, sym}
 use Rattle.std.proofs.lemmas.Bool.{and_parts, leb-true, le-leb}
 use Rattle.opgen_num.specs.declared.TheConstants.{MAX_WIDTH}
 use Rattle.opgen_vhdl.specs.declared.kind.TokenKind.{TokenKind}
-use Rattle.opgen_vhdl.specs.Symbols.{Symbol, symbol_of, pieces}
-use Rattle.opgen_lex.specs.First.{IsFirstToken, HasNoToken}
-use Rattle.opgen_read.specs.Fits.{is_numeral, fits}
+use Rattle.opgen_vhdl.specs.Symbols.{symbol_of, pieces}
+use Rattle.opgen_lex.specs.First.{IsPassed, IsFirstToken, HasNoToken}
+use Rattle.opgen_lex.proofs.Cuts.{passed-on, first-passed}
+use Rattle.opgen_read.specs.Fits.{has_digits_if_number, fits}
 use Rattle.opgen_read.specs.Left.{symbols_in, symbols_from}
 use Rattle.opgen_read.specs.PieceLen.{IsRestLen}
+use Rattle.opgen_read.proofs.FirstPiece.{others-shorter}
 use Rattle.opgen_read.proofs.FittingTokens.{first-short, first-numeral}
 use Rattle.opgen_read.proofs.SymbolsIn.{symbols_in-first, symbols_in-none}
 
@@ -18,9 +20,9 @@ Held = Option (TokenKind × Bor (List ℕ) × Bor (List ℕ))
 both : (a b : Bool) → a ≡ true → b ≡ true → (a && b) ≡ true
 both a b h k = rw (h, k) refl
 
-pub token-fits : (kind : TokenKind) (text behind : Bor (List ℕ)) → length text.now ≤ MAX_WIDTH + 2 → is_numeral kind text.now ≡ true
+pub token-fits : (kind : TokenKind) (text behind : Bor (List ℕ)) → length text.now ≤ MAX_WIDTH + 2 → has_digits_if_number kind text.now ≡ true
     → fits (Some (kind, text, behind)) ≡ true
-token-fits kind text behind short numeral = both (nat_le (length text.now) (MAX_WIDTH + 2)) (is_numeral kind text.now)
+token-fits kind text behind short numeral = both (nat_le (length text.now) (MAX_WIDTH + 2)) (has_digits_if_number kind text.now)
     (le-leb (length text.now) (MAX_WIDTH + 2) short) numeral
 
 -- what was cut first is held
@@ -49,17 +51,27 @@ held-none (Some x) = tt
 pub held-short : (t : Held) → fits t ≡ true → IfSome t (λ x. length x.1.now ≤ MAX_WIDTH + 2)
 held-short None h = tt
 held-short (Some x) h = leb-true (length x.1.now) (MAX_WIDTH + 2)
-    (and_parts (nat_le (length x.1.now) (MAX_WIDTH + 2)) (is_numeral x.0 x.1.now) h).0
+    (and_parts (nat_le (length x.1.now) (MAX_WIDTH + 2)) (has_digits_if_number x.0 x.1.now) h).0
 
-pub held-numeral : (t : Held) → fits t ≡ true → IfSome t (λ x. is_numeral x.0 x.1.now ≡ true)
+pub held-numeral : (t : Held) → fits t ≡ true → IfSome t (λ x. has_digits_if_number x.0 x.1.now ≡ true)
 held-numeral None h = tt
-held-numeral (Some x) h = (and_parts (nat_le (length x.1.now) (MAX_WIDTH + 2)) (is_numeral x.0 x.1.now) h).1
+held-numeral (Some x) h = (and_parts (nat_le (length x.1.now) (MAX_WIDTH + 2)) (has_digits_if_number x.0 x.1.now) h).1
 
 -- the first piece, which holds the same token
-pub held-piece : (ss more : List Symbol) (kind : TokenKind) (text piece : Bor (List ℕ)) (behind next : List ℕ) (n : ℕ)
-    → ss ≡ symbol_of (kind, text.now) ∷ symbols_in behind → IsRestLen (symbol_of (kind, text.now)) behind n → piece.now ≡ take n behind
-    → next ≡ drop n behind → more ≡ symbols_in next
-    → (pieces ss ≡ symbols_from (Some (kind, text, piece)) ∷ pieces more) × (length more < length ss)
-unfolding symbols_from
-held-piece ss more kind text piece behind next n first r front back rest =
-    (rw (first, rest, front, back) r.cut, rw (first, rest, back) r.shorter)
+module _ (bytes : List ℕ) (kind : TokenKind) (text behind piece next : Bor (List ℕ)) (n : ℕ)
+    (first : IsFirstToken bytes kind text.now behind.now) (r : IsRestLen (symbol_of (kind, text.now)) behind.now n)
+    (front : piece.now ≡ take n behind.now) (back : next.now ≡ drop n behind.now) where
+  pub piece-cut : pieces (symbols_in bytes) ≡ symbols_from (Some (kind, text, piece)) ∷ pieces (symbols_in next.now)
+  unfolding symbols_from
+  piece-cut = rw (symbols_in-first bytes kind text.now behind.now first, front, back) r.cut
+
+  pub piece-shorter : length (symbols_in next.now) < length (symbols_in bytes)
+  piece-shorter = others-shorter (symbol_of (kind, text.now)) (symbols_in bytes) (symbols_in (take n behind.now)) (symbols_in next.now)
+      (rw (symbols_in-first bytes kind text.now behind.now first, back) r.cut)
+
+  pub piece-passed : IsPassed bytes next.now
+  piece-passed = passed-on bytes behind.now next.now (first-passed bytes kind text.now behind.now first)
+      (subst (IsPassed behind.now) (sym back) r.passed)
+
+  pub piece-fits : fits (Some (kind, text, piece)) ≡ true
+  piece-fits = token-fits kind text piece (first-short bytes kind text.now behind.now first) (first-numeral bytes kind text.now behind.now first)

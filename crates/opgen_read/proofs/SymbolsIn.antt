@@ -1,16 +1,16 @@
 -- The symbols of a text, by its elements.
 use Rattle.std.proofs.Common.{◌≡◌, ◌⊎◌, inl, inr, ℕ, List, [], ◌∷◌, ◌++◌, length, map, take, drop, refl, ap, sym, ◌∙◌, subst, arith, length-append, append_assoc, ◌-◌, ◌≤◌, Bool, false, get_or}
-use Rattle.std.proofs.lemmas.List.{map-append}
+use Rattle.std.proofs.lemmas.List.{map-append, length-map}
 use Rattle.std.proofs.Math.Seq.{take-append_seam, drop-append_seam}
 use Rattle.opgen_vhdl.specs.Bytes.{begins}
 use Rattle.opgen_vhdl.specs.Spans.{spellings_of}
 use Rattle.opgen_vhdl.specs.Symbols.{Symbol, symbols, symbol_of}
-use Rattle.opgen_vhdl.specs.Tokens.{Element, gap, token, text_of, Stands, IsToken, Cut, Tokens, LexicalAt, NothingStarts}
+use Rattle.opgen_vhdl.specs.Tokens.{Element, gap, token, text_of, size_of, Stands, IsToken, Cut, Tokens, LexicalAt, NothingStarts}
 use Rattle.opgen_vhdl.specs.declared.kind.Token.{Token}
 use Rattle.opgen_vhdl.specs.declared.kind.TokenKind.{TokenKind}
 use Rattle.opgen_vhdl.specs.declared.kind.TokenKind.TheVariants.{Word, Number, Bits, ZeroChar, LeftParen, RightParen, Semicolon, Colon, Comma, Dot, Ampersand, Plus, Minus, Equal, LessEqual, Arrow, Becomes}
 use Rattle.opgen_vhdl.proofs.CutLemmas.{one_cut, has_reading, nothing_starts_at_end}
-use Rattle.opgen_vhdl.proofs.SpanLemmas.{tokens-spellings}
+use Rattle.opgen_vhdl.proofs.SpanLemmas.{tokens-spellings, length-cut, token_some}
 use Rattle.opgen_lex.specs.First.{IsFirstToken, HasNoToken}
 use Rattle.opgen_lex.proofs.Cuts.{cut-append, spellings-append}
 use Rattle.opgen_read.specs.Left.{elements_of, symbols_in}
@@ -31,10 +31,6 @@ module _ (es : List Element) (bytes rest : List ℕ) (c : Cut es bytes rest) (no
 pub symbols_in-empty : symbols_in [] ≡ []
 symbols_in-empty = symbols_in-cut [] [] [] refl nothing_starts_at_end
 
-pub symbols_in-tokens : (bytes : List ℕ) (ts : List Token) → Tokens bytes ts → symbols_in bytes ≡ symbols bytes ts
-symbols_in-tokens bytes ts t = symbols_in-cut t.elements bytes [] t.cut nothing_starts_at_end
-    ∙ ap (map symbol_of) (sym (tokens-spellings bytes ts t))
-
 -- each text has a cut up to where nothing starts
 record CutOf (bytes : List ℕ) : Type 0 where
   elements : List Element
@@ -45,6 +41,27 @@ record CutOf (bytes : List ℕ) : Type 0 where
 cut_of : (bytes : List ℕ) (r : ((ts : List Token) × Tokens bytes ts) ⊎ ((n : ℕ) × LexicalAt bytes n)) → CutOf bytes
 cut_of bytes (inl t) = record { elements = t.1.elements; rest = []; cut = t.1.cut; nothing = nothing_starts_at_end }
 cut_of bytes (inr l) = record { elements = l.1.elements; rest = l.1.rest; cut = l.1.cut; nothing = l.1.nothing }
+
+-- a text has no more symbols than bytes
+
+few_spellings : (es : List Element) (bytes rest : List ℕ) → Cut es bytes rest → length (spellings_of es) ≤ size_of es
+few_spellings [] bytes rest c = omega arith
+few_spellings (gap t ∷ es) bytes rest c = omega (arith, few_spellings es c.0 rest c.3)
+few_spellings (token k t ∷ es) bytes rest c = omega (arith, few_spellings es c.0 rest c.3, token_some k t c.0 c.2)
+
+pub few_symbols : (bytes : List ℕ) → length (symbols_in bytes) ≤ length bytes
+few_symbols bytes =
+    let d = cut_of bytes (has_reading bytes) in
+    rw (symbols_in-cut d.elements bytes d.rest d.cut d.nothing) (omega (
+      arith,
+      length-map (spellings_of d.elements) symbol_of,
+      few_spellings d.elements bytes d.rest d.cut,
+      length-cut d.elements bytes d.rest d.cut,
+    ))
+
+pub symbols_in-tokens : (bytes : List ℕ) (ts : List Token) → Tokens bytes ts → symbols_in bytes ≡ symbols bytes ts
+symbols_in-tokens bytes ts t = symbols_in-cut t.elements bytes [] t.cut nothing_starts_at_end
+    ∙ ap (map symbol_of) (sym (tokens-spellings bytes ts t))
 
 -- elements, and then the rest
 pub symbols_in-behind : (es : List Element) (bytes rest : List ℕ) → Cut es bytes rest → symbols_in bytes ≡ symbols_of es ++ symbols_in rest

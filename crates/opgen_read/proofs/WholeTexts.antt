@@ -6,7 +6,10 @@ use Rattle.opgen_vhdl.specs.Statements.{Reading, nothing, Follows}
 use Rattle.opgen_vhdl.specs.Symbols.{symbols, pieces}
 use Rattle.opgen_lex.specs.First.{HasTokens}
 use Rattle.opgen_read.specs.Left.{symbols_in}
-use Rattle.opgen_read.specs.Reached.{StopsAt}
+use Rattle.opgen_read.specs.Outcome.{IsTextFault}
+use Rattle.opgen_read.specs.Reached.{StopsAt, IsPieceFault, text_fault}
+use Rattle.opgen_read.specs.declared.pieces.PieceFault.{PieceFault}
+use Rattle.opgen_read.specs.declared.pieces.PieceFault.TheVariants.{Memory, Syntax}
 use Rattle.opgen_read.proofs.SymbolsIn.{symbols_in-tokens}
 
 module _ (bytes : List ℕ) (h : HasTokens bytes) where
@@ -20,7 +23,7 @@ module _ (bytes : List ℕ) (h : HasTokens bytes) where
     follow = subst (λ ss. Follows Library nothing (pieces ss) End r) same f;
   }
 
-  pub whole-stops : (k : ℕ) → StopsAt (symbols_in bytes) k → SyntaxAt bytes k
+  whole-stops : (k : ℕ) → StopsAt (symbols_in bytes) k → SyntaxAt bytes k
   whole-stops k s = record {
     tokens = h.tokens;
     cut = h.cut;
@@ -33,3 +36,7 @@ module _ (bytes : List ℕ) (h : HasTokens bytes) where
     stops = s.stops;
     piece = s.piece;
   }
+
+  pub whole-fault : (fault : PieceFault) → IsPieceFault (symbols_in bytes) fault → IsTextFault bytes (text_fault fault)
+  whole-fault Memory f = tt
+  whole-fault (Syntax k) f = whole-stops k f

@@ -9,11 +9,11 @@ use Rattle.opgen_vhdl.specs.declared.kind.TokenKind.TheVariants.{Number}
 use Rattle.opgen_vhdl.specs.Reader.{same_kind}
 
 -- a number has digits alone
-abbrev pub is_numeral : TokenKind → List ℕ → Bool
-is_numeral kind text = not (same_kind kind Number) || list_all is_ascii_digit text
+abbrev pub has_digits_if_number : TokenKind → List ℕ → Bool
+has_digits_if_number kind text = not (same_kind kind Number) || list_all is_ascii_digit text
 
 -- where there is a first token, by its kind, its text and the bytes behind it, it is no longer than the longest bit string, and
 -- a number has digits alone
 abbrev pub fits : Option (TokenKind × Bor (List ℕ) × Bor (List ℕ)) → Bool
 fits None = true
-fits (Some t) = nat_le (length t.1.now) (MAX_WIDTH + 2) && is_numeral t.0 t.1.now
+fits (Some t) = nat_le (length t.1.now) (MAX_WIDTH + 2) && has_digits_if_number t.0 t.1.now

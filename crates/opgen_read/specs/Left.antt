@@ -24,5 +24,6 @@ unfoldable pub symbols_from : Option (TokenKind × Bor (List ℕ) × Bor (List �
 symbols_from None = []
 symbols_from (Some t) = symbol_of (t.0, t.1.now) ∷ symbols_in t.2.now
 
+-- the symbols that a cursor has before it
 abbrev pub left : Cursor → List Symbol
 left c = symbols_from c.first

@@ -22,7 +22,8 @@ abbrev pub joined : List Tree → Option (Trees × List Symbol) → Option (Tree
 joined front None = None
 joined front (Some x) = Some (onto_trees front x.0, x.1)
 
--- the place among the names of the one that was read, and what is left behind it
+-- the place of the first of the names that is the one that was read, or how many names there are where none is, and what is left
+-- behind it
 abbrev pub IsPlace : List (List ℕ) → Option (List ℕ × List Symbol) → ℕ × Cursor → Type 0
 IsPlace names read x = (n : List ℕ) × (read ≡ Some (n, left x.1)) × (x.0 ≡ place_of names n)
 

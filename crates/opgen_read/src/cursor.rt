@@ -21,7 +21,8 @@ impl<'a> Cursor<'a> {
     ghost use Rattle.opgen_num.specs.declared.TheConstants.{MAX_WIDTH};
     ghost use Rattle.opgen_vhdl.specs.Symbols.{symbol_of, pieces, mark, word, number};
     ghost use Rattle.opgen_vhdl.specs.Reader.{eat, is_mark, index_at, string_at, end_at};
-    ghost use Rattle.opgen_read.specs.Fits.{is_numeral};
+    ghost use Rattle.opgen_lex.specs.First.{IsPassed};
+    ghost use Rattle.opgen_read.specs.Fits.{has_digits_if_number};
     ghost use Rattle.opgen_read.specs.Left.{left, symbols_in};
 
     pub fn new(bytes: &'a [u8]) -> Cursor<'a>
@@ -37,7 +38,7 @@ impl<'a> Cursor<'a> {
         ensures some { IfSome result (λ x. left self.entry ≡ symbol_of (x.0, x.1.now) ∷ symbols_in x.2.now) }
         ensures none { IfNone result (left self.entry ≡ []) }
         ensures short { IfSome result (λ x. length x.1.now ≤ MAX_WIDTH + 2) }
-        ensures numeral { IfSome result (λ x. IsTrue (is_numeral x.0 x.1.now)) }
+        ensures numeral { IfSome result (λ x. IsTrue (has_digits_if_number x.0 x.1.now)) }
     {
         self.first
     }
@@ -121,17 +122,18 @@ impl<'a> Cursor<'a> {
         }
     }
 
-    /// The tokens up to the first semicolon, with it, and what is left behind them.
-    pub fn piece(self) -> Option<(Cursor<'a>, Cursor<'a>)>
-        ensures some { IfSome result (λ x. pieces (left self.entry) ≡ left x.0 ∷ pieces (left x.1)) }
-        ensures shorter { IfSome result (λ x. length (left x.1) < length (left self.entry)) }
-        ensures none { IfNone result (left self.entry ≡ []) }
+    /// The tokens of a text up to the first semicolon, with it, and the bytes behind them.
+    pub fn piece(text: &'a [u8]) -> Option<(Cursor<'a>, &'a [u8])>
+        ensures some { IfSome result (λ x. pieces (symbols_in text.now) ≡ left x.0 ∷ pieces (symbols_in x.1.now)) }
+        ensures shorter { IfSome result (λ x. length (symbols_in x.1.now) < length (symbols_in text.now)) }
+        ensures passed { IfSome result (λ x. IsPassed text.now x.1.now) }
+        ensures none { IfNone result (symbols_in text.now ≡ []) }
     {
-        let (kind, text, behind) = self.token()?;
+        let (kind, first, behind) = first_token(text)?;
         let (piece, more) = behind.split_at(rest_len(kind, behind));
         let piece = Cursor {
-            first: Some((kind, text, piece)),
+            first: Some((kind, first, piece)),
         };
-        Some((piece, Cursor::new(more)))
+        Some((piece, more))
     }
 }

@@ -160,6 +160,7 @@ fn further<'a>(
         operands.push(operand)?;
         rest = more;
     }
+    operands.shrink_to_fit();
     Ok((operands, rest))
 }
 

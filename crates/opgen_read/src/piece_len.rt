@@ -1,8 +1,8 @@
 // Where the first piece of a text ends.
 
-ghost use Rattle.std.specs.Prelude.{ℕ, List};
-ghost use Rattle.opgen_vhdl.specs.Symbols.{symbol_of};
-ghost use Rattle.opgen_read.specs.PieceLen.{IsPieceLen, IsRestLen};
+ghost use Rattle.std.specs.Prelude.{◌≡◌, ℕ, List, false};
+ghost use Rattle.opgen_vhdl.specs.Symbols.{Symbol, symbol_of, is_semicolon};
+ghost use Rattle.opgen_read.specs.PieceLen.{IsRestLen};
 
 use crate::token_text::same_kind;
 use opgen_lex::first_token;
@@ -11,7 +11,7 @@ use opgen_vhdl::TokenKind;
 // How many bytes stand up to the first semicolon, with it, or up to the last token where there is no
 // semicolon.
 fn piece_len(bytes: &[u8]) -> usize
-    ensures { IsPieceLen bytes.now result }
+    ensures { (first : Symbol) → is_semicolon first ≡ false → IsRestLen first bytes.now result }
 {
     let mut rest = bytes;
     'tokens: while let Some((kind, _text, behind)) = first_token(rest) {

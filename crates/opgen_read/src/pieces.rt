@@ -5,13 +5,15 @@ ghost use Rattle.opgen_vhdl.specs.declared.place.Place.TheVariants.{Library, End
 ghost use Rattle.opgen_vhdl.specs.Reader.{takes_at};
 ghost use Rattle.opgen_vhdl.specs.Statements.{Follows, nothing};
 ghost use Rattle.opgen_vhdl.specs.Symbols.{pieces};
-ghost use Rattle.opgen_read.specs.Left.{left};
+ghost use Rattle.opgen_lex.specs.First.{IsPassed};
+ghost use Rattle.opgen_read.specs.Left.{left, symbols_in};
 ghost use Rattle.opgen_read.specs.Reached.{IsPieceFault};
 ghost use Rattle.opgen_read.specs.Seen.{seen};
 ghost use Rattle.opgen_read.specs.Stepped.{Steps};
 
 use crate::cursor::Cursor;
 use crate::draft::Draft;
+use crate::fault::ReadFault;
 use crate::refusal::Refusal;
 use crate::take::take;
 use opgen_vhdl::Place;
@@ -35,6 +37,19 @@ impl From<AllocError> for PieceFault {
     }
 }
 
+impl From<PieceFault> for ReadFault {
+    ghost use Rattle.opgen_read.specs.Reached.{text_fault};
+
+    ghost from_gives = { λ fault e. e ≡ text_fault fault };
+
+    fn from(fault: PieceFault) -> ReadFault {
+        match fault {
+            PieceFault::Memory => ReadFault::Memory,
+            PieceFault::Syntax { piece } => ReadFault::Syntax { piece },
+        }
+    }
+}
+
 // One piece at its place, by its number.
 fn step(
     alloc: Global,
@@ -52,19 +67,19 @@ fn step(
     }
 }
 
-/// What the pieces of a whole text say.
-pub fn read_pieces(alloc: Global, text: Cursor<'_>) -> Result<Draft, PieceFault>
-    requires { length (left text) ≤ 67108864 }
-    ensures ok { IfOk result (λ d. Follows Library nothing (pieces (left text.entry)) End (seen d)) }
-    ensures err { IfErr result (IsPieceFault (left text.entry)) }
+/// What the pieces of a text say. It is left at what stands behind the last that was read.
+pub fn read_pieces(alloc: Global, text: &mut &[u8]) -> Result<Draft, PieceFault>
+    requires { length text.old.now ≤ 67108864 }
+    ensures ok { IfOk result (λ d. Follows Library nothing (pieces (symbols_in text.old.now)) End (seen d)) }
+    ensures err { IfErr result (IsPieceFault (symbols_in text.old.now)) }
+    ensures passed { IsPassed text.old.now text.new.now }
 {
     let mut draft = Draft::new(alloc)?;
     let mut place = Place::Library;
-    let mut rest = text;
     let mut taken = 0;
-    'pieces: while let Some((piece, more)) = rest.piece() {
+    'pieces: while let Some((piece, more)) = Cursor::piece(text) {
+        *text = more;
         (place, draft) = step(alloc, draft, place, piece, taken + 1)?;
-        rest = more;
         taken += 1;
     }
     if place == Place::End {

@@ -7,10 +7,9 @@ ghost use Rattle.opgen_read.specs.Answer.{IsWithinLimits, IsReadFault};
 ghost use Rattle.opgen_read.specs.Outcome.{IsTextFault, IsOutcome, HasFew};
 ghost use Rattle.opgen_read.specs.Seen.{seen};
 
-use crate::cursor::Cursor;
 use crate::draft::Draft;
 use crate::fault::ReadFault;
-use crate::pieces::{PieceFault, read_pieces};
+use crate::pieces::read_pieces;
 use opgen_design::{Design, SoundFault};
 use opgen_lex::first_fault;
 use std::alloc::Global;
@@ -28,14 +27,13 @@ fn statements(alloc: Global, bytes: &[u8]) -> Result<Draft, ReadFault>
     ensures few { IfOk result (λ d. HasFew (seen d).design) }
     ensures err { IfErr result (IsTextFault bytes.now) }
 {
-    if let Some(offset) = first_fault(bytes) {
+    let mut rest = bytes;
+    let read = read_pieces(alloc, &mut rest);
+    if let Some(at) = first_fault(rest) {
+        let offset = (bytes.len() - rest.len()) as u64 + at;
         return Err(ReadFault::Lexical { offset });
     }
-    match read_pieces(alloc, Cursor::new(bytes)) {
-        Ok(draft) => Ok(draft),
-        Err(PieceFault::Syntax { piece }) => Err(ReadFault::Syntax { piece }),
-        Err(PieceFault::Memory) => Err(ReadFault::Memory),
-    }
+    Ok(read?)
 }
 
 fn is_within_limits(design: &Design) -> bool
@@ -77,7 +75,8 @@ fn judged(alloc: Global, design: &Design, agrees: bool) -> Result<(), ReadFault>
 /// nothing of themselves. Names are compared without case and stand in lower case; a name means its
 /// first declaration.
 ///
-/// Each byte is passed over a few times, and no list of tokens is kept; no clause speaks of time or memory.
+/// Each token is cut twice, once to find where its piece ends and once to read it, and no list of tokens is kept; no clause speaks
+/// of time or memory.
 ///
 /// # Errors
 ///

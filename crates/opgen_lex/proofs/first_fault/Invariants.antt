@@ -1,5 +1,5 @@
 use Rattle.std.proofs.Common.{length}
-use Rattle.opgen_lex.proofs.Cuts.{IsPassed}
+use Rattle.opgen_lex.specs.First.{IsPassed}
 use Rattle.opgen_lex.proofs.first_fault.Given as goal
 
 abbrev pub invariant-tokens : goal.invariant-tokens

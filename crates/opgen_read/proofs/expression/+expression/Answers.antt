@@ -19,8 +19,9 @@ further-operands-smaller t c =
 
 pub further-returns : goal.further-returns
 further-returns t c =
+    rw c.shrink_to_fit.ensures.items (
     sym c.operands.invariant.same ∙ operands-stop (names_in c.args.scope) (inside (names_in c.args.scope) c.args.depth) c.args.op
-    (length (left c.operands.rest)) (map plain c.operands.operands.items) (left c.operands.rest) (sym c.in_default.ensures)
+    (length (left c.operands.rest)) (map plain c.operands.operands.items) (left c.operands.rest) (sym c.in_default.ensures))
 
 pub further-returns-in_err-operand : goal.further-returns-in_err-operand
 further-returns-in_err-operand t c =

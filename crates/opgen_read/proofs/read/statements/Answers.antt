@@ -1,31 +1,42 @@
-use Rattle.std.proofs.Common.{◌≤◌, length, refl, arith, subst}
-use Rattle.opgen_vhdl.specs.declared.place.Place.TheVariants.{Library, End}
-use Rattle.opgen_vhdl.specs.Statements.{nothing, Follows}
-use Rattle.opgen_vhdl.specs.Symbols.{pieces}
-use Rattle.opgen_read.specs.Left.{left}
-use Rattle.opgen_read.specs.Reached.{StopsAt}
+use Rattle.std.proofs.Common.{refl, arith}
+use Rattle.std.proofs.lemmas.Result.{err_from_is_err_and}
+use Rattle.opgen_lex.proofs.Cuts.{passed-within, passed-fault, passed-whole, fault-within}
+use Rattle.opgen_read.specs.Left.{symbols_in}
 use Rattle.opgen_read.specs.Seen.{seen}
-use Rattle.opgen_read.proofs.FittingTokens.{few_symbols}
 use Rattle.opgen_read.proofs.DriverCount.{few_drivers}
-use Rattle.opgen_read.proofs.WholeTexts.{whole-read, whole-stops}
+use Rattle.opgen_read.proofs.SymbolsIn.{few_symbols}
+use Rattle.opgen_read.proofs.WholeTexts.{whole-read, whole-fault}
 use Rattle.opgen_read.proofs.read.statements.Goals as goal
 
-pub read_pieces-requires : goal.read_pieces-requires
-read_pieces-requires c = rw c.new.ensures (omega (arith, few_symbols c.args.bytes.now c.in_default.ensures.none, c.requires))
+pub overflow_sub-offset : goal.overflow_sub-offset
+overflow_sub-offset c = passed-within c.args.bytes.now c.read_pieces-read.new.text.now c.read_pieces-read.ensures.passed
 
-pub returns-in-Ok-clause-ok : goal.returns-in-Ok-clause-ok
-returns-in-Ok-clause-ok c =
-    whole-read c.args.bytes.now c.in_default.ensures.none (seen c.in-Ok.draft)
-    (subst (λ ss. Follows Library nothing (pieces ss) End (seen c.in-Ok.draft)) c.new.ensures c.in-Ok.ensures.ok)
+pub overflow_add-offset : goal.overflow_add-offset
+overflow_add-offset c =
+    omega (
+      arith,
+      c.requires,
+      passed-within c.args.bytes.now c.read_pieces-read.new.text.now c.read_pieces-read.ensures.passed,
+      fault-within c.read_pieces-read.new.text.now c.in-Some.at c.in-Some.ensures.some,
+    )
 
-pub returns-in-Ok-clause-few : goal.returns-in-Ok-clause-few
-returns-in-Ok-clause-few c =
-    let most : length (left c.new.result) ≤ 67108864 = rw c.new.ensures
-    (omega (arith, few_symbols c.args.bytes.now c.in_default.ensures.none, c.requires)) in
-    omega (arith, few_drivers (left c.new.result) c.in-Ok.ensures.ok refl, most)
+pub returns-in-Some-clause-err : goal.returns-in-Some-clause-err
+returns-in-Some-clause-err c =
+    passed-fault c.args.bytes.now c.read_pieces-read.new.text.now c.read_pieces-read.ensures.passed c.in-Some.at c.in-Some.ensures.some
 
-pub returns-in-Err-Syntax-clause-err : goal.returns-in-Err-Syntax-clause-err
-returns-in-Err-Syntax-clause-err c =
-    whole-stops c.args.bytes.now c.in_default.ensures.none c.in-Err-Syntax.piece
-    (subst (λ ss. StopsAt ss c.in-Err-Syntax.piece) c.new.ensures
-    (rw c.in-Err-Syntax.field-0-is at c.in-Err-Syntax.ensures.err))
+pub returns-in_err-read-clause-err : goal.returns-in_err-read-clause-err
+returns-in_err-read-clause-err c =
+    let p = err_from_is_err_and c.from_residual.result c.from_residual.ensures.1 in
+    rw (p.1, p.2) (whole-fault c.args.bytes.now
+    (passed-whole c.args.bytes.now c.read_pieces-read.new.text.now c.read_pieces-read.ensures.passed c.in_default.ensures.none)
+    c.in_err-read.field-0.0 c.in_err-read.ensures.err)
+
+pub returns-clause-ok : goal.returns-clause-ok
+returns-clause-ok c =
+    whole-read c.args.bytes.now
+    (passed-whole c.args.bytes.now c.read_pieces-read.new.text.now c.read_pieces-read.ensures.passed c.in_default.ensures.none)
+    (seen c.in_ok-read.field-0) c.in_ok-read.ensures.ok
+
+pub returns-clause-few : goal.returns-clause-few
+returns-clause-few c =
+    omega (arith, few_drivers (symbols_in c.args.bytes.now) c.in_ok-read.ensures.ok refl, few_symbols c.args.bytes.now, c.requires)
