@@ -203,6 +203,7 @@ fn mark_front(first: u8, bytes: &[u8]) -> Option<Front>
     }
 }
 
+#[inline(always)]
 fn front_of(bytes: &[u8]) -> Option<Front>
     ensures { result ≡ front_of bytes.now }
 {
@@ -219,6 +220,7 @@ fn front_of(bytes: &[u8]) -> Option<Front>
 }
 
 /// What the bytes begin with, if anything stands there.
+#[inline(always)]
 pub fn leading(bytes: &[u8]) -> Option<Front>
     ensures { FrontStands bytes.now result }
 {

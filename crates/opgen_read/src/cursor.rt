@@ -34,6 +34,7 @@ impl<'a> Cursor<'a> {
     }
 
     /// The kind and the text of the first token, and the bytes behind it.
+    #[inline(always)]
     pub fn token(self) -> Option<(TokenKind, &'a [u8], &'a [u8])>
         ensures some { IfSome result (λ x. left self.entry ≡ symbol_of (x.0, x.1.now) ∷ symbols_in x.2.now) }
         ensures none { IfNone result (left self.entry ≡ []) }
@@ -45,6 +46,7 @@ impl<'a> Cursor<'a> {
 
     /// What is left behind this word of the language.
     #[tactic(auto, using(crate::proofs::FirstSymbol::eat_word))]
+    #[inline(always)]
     pub fn word(self, text: &str) -> Option<Cursor<'a>>
         ensures { option_map left result ≡ eat (word (map to_ascii_lowercase text.now)) (left self.entry) }
     {
@@ -58,6 +60,7 @@ impl<'a> Cursor<'a> {
 
     /// What is left behind this mark.
     #[tactic(auto, using(crate::proofs::FirstSymbol::eat_mark))]
+    #[inline(always)]
     pub fn mark(self, kind: TokenKind) -> Option<Cursor<'a>>
         requires { IsTrue (is_mark kind) }
         ensures { option_map left result ≡ eat (mark kind) (left self.entry) }
@@ -99,6 +102,7 @@ impl<'a> Cursor<'a> {
 
     /// The word of a bit string, and what is left behind it.
     #[tactic(auto, using(crate::proofs::FirstSymbol::string_first))]
+    #[inline(always)]
     pub fn string(self) -> Option<(Word, Cursor<'a>)>
         ensures { option_map (λ x. (x.0, left x.1)) result ≡ string_at (left self.entry) }
     {
