@@ -1,11 +1,13 @@
 -- The bits of a column's cells, gathered into words.
-use Rattle.std.proofs.Common.{◌≡◌, ℕ, zero, suc, ◌+◌, ◌-◌, ◌*◌, ◌/◌, ◌%◌, ◌^◌, ◌<◌, ◌≤◌, List, [], ◌∷◌, ◌++◌, Bool, cond, length, take, drop, set, get_or, eqb, replicate, refl, sym, ap, ◌∙◌, ⊎_elim, arith, lit<}
+use Rattle.std.proofs.Common.{◌≡◌, ℕ, zero, suc, ◌+◌, ◌-◌, ◌*◌, ◌/◌, ◌%◌, ◌^◌, ◌<◌, ◌≤◌, List, [], ◌∷◌, ◌++◌, Bool, cond, length, take, drop, set, get_or, eqb, replicate, refl, sym, ap, ◌∙◌, ⊎_elim, arith, bit_and, bit_or}
 use Rattle.std.specs.Int.{bit_at}
-use Rattle.std.proofs.Math.Nat.{mul-le-mul_right, suc-mul, add-mul, mul_comm, two-pow-succ, pow-le-pow_right}
+use Rattle.std.proofs.Math.Nat.{mul-le-mul_right, add-mul, mul_comm}
 use Rattle.std.proofs.lemmas.Bool.{cases_lt, lt-ltb, le-ltb}
-use Rattle.std.proofs.lemmas.Nat.{shr-shr, shr_split, mod_below, div-add-mod', div_below}
-use Rattle.std.proofs.lemmas.Nat.Bits.{bit_at_lowest, bit_at-suc, bit_at-zero, bit_at_cat_low, bit_at-lt}
-use Rattle.std.proofs.lemmas.List.{append-nil, take_all, get_or_past, get_or-take, get_or-drop, get_or-replicate, length-take, length-drop, length-replicate}
+use Rattle.std.proofs.lemmas.Nat.{shr-shr, shr_split}
+use Rattle.std.proofs.lemmas.Nat.Bits.{bit_at_lowest, bit_at-suc, bit_at_or, bit_at_above, bit_at_cat_low, bit_at-lt, shr_and_one}
+use Rattle.std.proofs.lemmas.List.{append-nil, take_all, get_or_past, get_or-take, get_or-drop, get_or-replicate, get_or-set_same, get_or-set_other, length-take, length-drop, length-replicate}
+use Rattle.std.specs.Simd.Lanes.{zip2}
+use Rattle.std.proofs.lemmas.Simd.{get_or-zip2, length-zip2}
 use Rattle.opgen_num.specs.Words.{word}
 use Rattle.opgen_streams.specs.Streams.{streams, bit_in, word_in}
 use Rattle.opgen_vec.specs.Writing.{row_count}
@@ -23,97 +25,108 @@ high_bit_at n place above =
     let same : 64 + (place - 64) ≡ place = omega (arith, above) in
     ap (λ m. m % 2) (shr-shr n 64 (place - 64)) ∙ ap (λ k. n / 2 ^ k % 2) same
 
--- one more bit below those of a word
-lowest : (word bit : ℕ) → bit < 2 → bit_at (2 * word + bit) 0 ≡ bit
-lowest word bit small = bit_at_lowest (2 * word + bit) ∙ (let e : (2 * word + bit) % 2 ≡ bit = omega (arith, small) in e)
+-- a word moved up by a bit, and a bit of another below it
+abbrev moved_up : (word other place : ℕ) → ℕ
+moved_up word other place = bit_or (word * 2 ^ 1 % 2 ^ 64) (bit_and (other / 2 ^ place) 1)
 
-above : (word bit k : ℕ) → bit < 2 → bit_at (2 * word + bit) (suc k) ≡ bit_at word k
-above word bit k small =
-    let half : (2 * word + bit) / 2 ≡ word = omega (arith, small) in
-    bit_at-suc (2 * word + bit) k ∙ ap (λ n. bit_at n k) half
+module _ (word other place : ℕ) where
+  small : bit_at other place < 2
+  small = bit_at-lt other place
 
-pub gathered_more : (cells : List ℕ) (columns place left word bit : ℕ) → 0 < left
-    → bit ≡ bit_at (get_or cells ((left - 1) * columns) 0) place
-    → ((k : ℕ) → bit_at word k ≡ bit_at (get_or cells ((left + k) * columns) 0) place) → (k : ℕ)
-    → bit_at (2 * word + bit) k ≡ bit_at (get_or cells ((left - 1 + k) * columns) 0) place
-gathered_more cells columns place left word bit some is before zero =
-    let same : left - 1 ≡ left - 1 + zero = omega arith in
-    let small : bit < 2 = omega (arith, is, bit_at-lt (get_or cells ((left - 1) * columns) 0) place) in
-    lowest word bit small ∙ is ∙ ap (λ n. bit_at (get_or cells (n * columns) 0) place) same
-gathered_more cells columns place left word bit some is before (suc k) =
-    let same : left + k ≡ left - 1 + suc k = omega (arith, some) in
-    let small : bit < 2 = omega (arith, is, bit_at-lt (get_or cells ((left - 1) * columns) 0) place) in
-    above word bit k small ∙ before k ∙ ap (λ n. bit_at (get_or cells (n * columns) 0) place) same
+  pub lowest_bit : bit_at (moved_up word other place) 0 ≡ bit_at other place
+  lowest_bit =
+      let even : bit_at (word * 2 ^ 1 % 2 ^ 64) 0 ≡ 0 = bit_at_lowest (word * 2 ^ 1 % 2 ^ 64) ∙ omega arith in
+      let bit : bit_at (bit_and (other / 2 ^ place) 1) 0 ≡ bit_at other place
+      = ap (λ n. bit_at n 0) (shr_and_one other place) ∙ bit_at_lowest (bit_at other place) ∙ omega (arith, small) in
+      bit_at_or (word * 2 ^ 1 % 2 ^ 64) (bit_and (other / 2 ^ place) 1) 0 ∙ omega (arith, even, bit)
 
--- how many rows have a cell
-module _ (n columns : ℕ) (some : 0 < columns) where
-  pub rows_reach : n ≤ (n + columns - 1) / columns * columns
-  rows_reach =
-      let t = n + columns - 1 in
-      omega (arith, some, div-add-mod' t columns, mod_below t columns some)
+  pub upper_bit : (j : ℕ) → j < 63 → bit_at (moved_up word other place) (suc j) ≡ bit_at word j
+  upper_bit j within =
+      let half : word * 2 ^ 1 / 2 ≡ word = omega arith in
+      let moved : bit_at (word * 2 ^ 1 % 2 ^ 64) (suc j) ≡ bit_at word j
+      = low_bit_at (word * 2 ^ 1) (suc j) (omega (arith, within)) ∙ bit_at-suc (word * 2 ^ 1) j ∙ ap (λ n. bit_at n j) half in
+      let none : bit_at (bit_and (other / 2 ^ place) 1) (suc j) ≡ 0
+      = ap (λ n. bit_at n (suc j)) (shr_and_one other place) ∙ bit_at_above (bit_at other place) 1 (suc j) small (omega arith) in
+      bit_at_or (word * 2 ^ 1 % 2 ^ 64) (bit_and (other / 2 ^ place) 1) (suc j) ∙ omega (arith, moved, none)
 
-  pub rows_stop : (n + columns - 1) / columns * columns < n + columns
-  rows_stop =
-      let t = n + columns - 1 in
-      omega (arith, some, div-add-mod' t columns)
+-- the same, word by word
+module _ (vector words : List ℕ) (place i : ℕ) (l : length vector ≡ 4) (m : length words ≡ 4) (lane : i < 4) where
+  lanes_of : (f : ℕ → ℕ → ℕ) (xs ys : List ℕ) → length xs ≡ 4 → length ys ≡ 4 → get_or (zip2 f xs ys) i 0 ≡ f (get_or xs i 0) (get_or ys i 0)
+  lanes_of f xs ys e e' = get_or-zip2 f xs ys i 0 0 0 (omega (arith, lane, e)) (omega (arith, lane, e'))
 
-  pub rows_few : n ≤ 64 * columns → (n + columns - 1) / columns ≤ 64
-  rows_few few =
-      let below : n + columns - 1 < 65 * columns = omega (arith, some, few) in
-      let less = div_below (n + columns - 1) columns 65 some below in
-      omega (arith, less)
+  pub word_moved : get_or (zip2 bit_or (zip2 (λ a b. a * 2 ^ b % 2 ^ 64) vector (1 ∷ 1 ∷ 1 ∷ 1 ∷ []))
+      (zip2 bit_and (zip2 (λ a b. a / 2 ^ b) words (place ∷ place ∷ place ∷ place ∷ [])) (1 ∷ 1 ∷ 1 ∷ 1 ∷ []))) i 0
+      ≡ moved_up (get_or vector i 0) (get_or words i 0) place
+  word_moved =
+      let up = zip2 (λ a b. a * 2 ^ b % 2 ^ 64) vector (1 ∷ 1 ∷ 1 ∷ 1 ∷ []) in
+      let down = zip2 (λ a b. a / 2 ^ b) words (place ∷ place ∷ place ∷ place ∷ []) in
+      let low = zip2 bit_and down (1 ∷ 1 ∷ 1 ∷ 1 ∷ []) in
+      let one : get_or (1 ∷ 1 ∷ 1 ∷ 1 ∷ []) i 0 ≡ 1 = get_or-replicate 4 i 1 0 lane in
+      let up_len : length up ≡ 4 = length-zip2 (λ a b. a * 2 ^ b % 2 ^ 64) vector (1 ∷ 1 ∷ 1 ∷ 1 ∷ []) l ∙ l in
+      let down_len : length down ≡ 4 = length-zip2 (λ a b. a / 2 ^ b) words (place ∷ place ∷ place ∷ place ∷ []) m ∙ m in
+      let low_len : length low ≡ 4 = length-zip2 bit_and down (1 ∷ 1 ∷ 1 ∷ 1 ∷ []) down_len ∙ down_len in
+      let first : get_or up i 0 ≡ get_or vector i 0 * 2 ^ 1 % 2 ^ 64
+      = lanes_of (λ a b. a * 2 ^ b % 2 ^ 64) vector (1 ∷ 1 ∷ 1 ∷ 1 ∷ []) l refl ∙ ap (λ n. get_or vector i 0 * 2 ^ n % 2 ^ 64) one in
+      let shifted : get_or down i 0 ≡ get_or words i 0 / 2 ^ place
+      = lanes_of (λ a b. a / 2 ^ b) words (place ∷ place ∷ place ∷ place ∷ []) m refl
+      ∙ ap (λ n. get_or words i 0 / 2 ^ n) (get_or-replicate 4 i place 0 lane) in
+      let second : get_or low i 0 ≡ bit_and (get_or words i 0 / 2 ^ place) 1
+      = lanes_of bit_and down (1 ∷ 1 ∷ 1 ∷ 1 ∷ []) down_len refl ∙ ap (λ n. bit_and (get_or down i 0) n) one
+      ∙ ap (λ n. bit_and n 1) shifted in
+      lanes_of bit_or up low up_len low_len ∙ ap (λ n. bit_or n (get_or low i 0)) first
+      ∙ ap (λ n. bit_or (get_or vector i 0 * 2 ^ 1 % 2 ^ 64) n) second
 
--- no row has a cell from there on
-pub gathered_none : (cells : List ℕ) (columns place rows k : ℕ) → length cells ≤ rows * columns
-    → bit_at 0 k ≡ bit_at (get_or cells ((rows + k) * columns) 0) place
-gathered_none cells columns place rows k reach =
-    let past : length cells ≤ (rows + k) * columns = omega (arith, reach, add-mul rows k columns) in
-    bit_at-zero k ∙ sym (ap (λ n. bit_at n place) (get_or_past cells ((rows + k) * columns) 0 past) ∙ bit_at-zero place)
-
--- the cell of the row before is there
-pub row_before : (columns left n : ℕ) → 0 < left → left * columns < n + columns → (left - 1) * columns < n
-row_before columns zero n some stop = absurd (omega (arith, some))
-row_before columns (suc left) n some stop =
-    let less : suc left - 1 ≡ left = omega arith in
-    let product : suc left * columns ≡ left * columns + columns = suc-mul left columns in
-    rw less (omega (arith, stop, product))
-
-pub row_more_before : (columns left n : ℕ) → 0 < left → left * columns < n + columns → (left - 1) * columns < n + columns
-row_more_before columns left n some stop = omega (arith, row_before columns left n some stop)
-
--- a word has room for one more bit
-pub room_for_bit : (left word bit : ℕ) → 0 < left → left ≤ 64 → word < 2 ^ (64 - left) → bit < 2 → 2 * word + bit < 2 ^ (64 - (left - 1))
-room_for_bit left word bit some few small binary =
-    let more : 64 - (left - 1) ≡ suc (64 - left) = omega (arith, some, few) in
-    rw more (omega (arith, small, binary, two-pow-succ (64 - left)))
-
-pub half_room : (left word : ℕ) → 0 < left → word < 2 ^ (64 - left) → word < 2 ^ 63
-half_room left word some small =
-    let few : 64 - left ≤ 63 = omega (arith, some) in
-    omega (arith, small, pow-le-pow_right {n = 2} (lit< tt) few)
-
--- the cells of a block of 64 rows
-pub block_cell : (cells : List ℕ) (columns start k : ℕ) → 0 < columns → k < 64
-    → get_or (take (64 * columns) (drop start cells)) (k * columns) 0 ≡ get_or cells (start + k * columns) 0
-block_cell cells columns start k some within =
-    let more : suc k * columns ≤ 64 * columns = mul-le-mul_right columns (omega (arith, within)) in
-    let here : k * columns < 64 * columns = omega (arith, more, some, suc-mul k columns) in
-    get_or-take (64 * columns) (drop start cells) (k * columns) 0 here ∙ get_or-drop start cells (k * columns) 0
-
--- a vector of four words
-pub four_words : (a b c d : ℕ) (f : ℕ → ℕ) → ((k : ℕ) → k < 64 → bit_at a k ≡ f k) → ((k : ℕ) → k < 64 → bit_at b k ≡ f (64 + k))
-    → ((k : ℕ) → k < 64 → bit_at c k ≡ f (128 + k)) → ((k : ℕ) → k < 64 → bit_at d k ≡ f (192 + k)) → (k : ℕ) → k < streams
-    → bit_in (a ∷ b ∷ c ∷ d ∷ []) k ≡ eqb (f k) 1
-four_words a b c d f first second third fourth k within =
-    let split : 64 * (k / 64) + k % 64 ≡ k = omega arith in
-    ap (λ n. eqb n 1) (go (k / 64) (k % 64) (omega (arith, within)) (omega arith) ∙ ap f split)
+-- the words of four rows, 64 apart
+pub four_rows : (a b c d row : ℕ) (f : ℕ → ℕ → ℕ) → row < 64 → ((j : ℕ) → j < 64 → bit_at a j ≡ f row j)
+    → ((j : ℕ) → j < 64 → bit_at b j ≡ f (64 + row) j) → ((j : ℕ) → j < 64 → bit_at c j ≡ f (128 + row) j)
+    → ((j : ℕ) → j < 64 → bit_at d j ≡ f (192 + row) j) → (k j : ℕ) → k < streams → k % 64 ≡ row → j < 64
+    → bit_at (get_or (a ∷ b ∷ c ∷ d ∷ []) (k / 64) 0) j ≡ f k j
+four_rows a b c d row f small first second third fourth k j within here bit =
+    let split : 64 * (k / 64) + row ≡ k = omega (arith, here) in
+    go (k / 64) (omega (arith, within)) ∙ ap (λ n. f n j) split
   where
-    go : (i j : ℕ) → i < 4 → j < 64 → bit_at (get_or (a ∷ b ∷ c ∷ d ∷ []) i 0) j ≡ f (64 * i + j)
-    go zero j l m = first j m ∙ ap f (omega arith)
-    go (suc zero) j l m = second j m ∙ ap f (omega arith)
-    go (suc (suc zero)) j l m = third j m ∙ ap f (omega arith)
-    go (suc (suc (suc zero))) j l m = fourth j m ∙ ap f (omega arith)
-    go (suc (suc (suc (suc i)))) j l m = absurd (omega (arith, l))
+    go : (i : ℕ) → i < 4 → bit_at (get_or (a ∷ b ∷ c ∷ d ∷ []) i 0) j ≡ f (64 * i + row) j
+    go zero l = first j bit ∙ ap (λ n. f n j) (omega arith)
+    go (suc zero) l = second j bit ∙ ap (λ n. f n j) (omega arith)
+    go (suc (suc zero)) l = third j bit ∙ ap (λ n. f n j) (omega arith)
+    go (suc (suc (suc zero))) l = fourth j bit ∙ ap (λ n. f n j) (omega arith)
+    go (suc (suc (suc (suc i)))) l = absurd (omega (arith, l))
+
+-- one more row of words
+pub row_placed : (f : ℕ → ℕ → ℕ) (words : List (List ℕ)) (new : List ℕ) (row : ℕ) → length words ≡ 64 → row < 64
+    → ((k j : ℕ) → k < streams → k % 64 < row → j < 64 → bit_at (get_or (get_or words (k % 64) []) (k / 64) 0) j ≡ f k j)
+    → ((k j : ℕ) → k < streams → k % 64 ≡ row → j < 64 → bit_at (get_or new (k / 64) 0) j ≡ f k j) → (k j : ℕ) → k < streams
+    → k % 64 < row + 1 → j < 64 → bit_at (get_or (get_or (set words row new) (k % 64) []) (k / 64) 0) j ≡ f k j
+row_placed f words new row len within before here k j stream reached bit = ⊎_elim earlier last (cases_lt (k % 64) row)
+  where
+    at : List ℕ → ℕ
+    at lanes = bit_at (get_or lanes (k / 64) 0) j
+
+    earlier : k % 64 < row → at (get_or (set words row new) (k % 64) []) ≡ f k j
+    earlier h =
+        let other : k % 64 ≡ row → ⊥ = λ e. omega (arith, h, e) in
+        ap at (get_or-set_other words row (k % 64) new [] other) ∙ before k j stream h bit
+
+    last : row ≤ k % 64 → at (get_or (set words row new) (k % 64) []) ≡ f k j
+    last h =
+        let same : k % 64 ≡ row = omega (arith, h, reached) in
+        ap (λ n. at (get_or (set words row new) n [])) same ∙ ap at (get_or-set_same words row new [] (omega (arith, len, within)))
+        ∙ here k j stream same bit
+
+-- one more bit of each word
+pub bits_more : (words : List (List ℕ)) (old new : List ℕ) (place left : ℕ) → 0 < left
+    → ((i : ℕ) → i < 4 → bit_at (get_or new i 0) 0 ≡ bit_at (get_or (get_or words (left - 1) []) i 0) place)
+    → ((i j : ℕ) → i < 4 → j < 63 → bit_at (get_or new i 0) (suc j) ≡ bit_at (get_or old i 0) j)
+    → ((i j : ℕ) → i < 4 → j < 64 - left → bit_at (get_or old i 0) j ≡ bit_at (get_or (get_or words (left + j) []) i 0) place)
+    → (i j : ℕ) → i < 4 → j < 64 - (left - 1)
+    → bit_at (get_or new i 0) j ≡ bit_at (get_or (get_or words (left - 1 + j) []) i 0) place
+bits_more words old new place left some lowest above before i zero lane within =
+    let same : left - 1 ≡ left - 1 + zero = omega arith in
+    lowest i lane ∙ ap (λ n. bit_at (get_or (get_or words n []) i 0) place) same
+bits_more words old new place left some lowest above before i (suc j) lane within =
+    let same : left + j ≡ left - 1 + suc j = omega (arith, some) in
+    above i j lane (omega (arith, within, some)) ∙ before i j lane (omega (arith, within, some))
+    ∙ ap (λ n. bit_at (get_or (get_or words n []) i 0) place) same
 
 -- one more bit of a column
 pub column_more : (all : List Bool) (lanes : List (List ℕ)) (place count k cell : ℕ) (lane : List ℕ) → length lanes ≡ count → place < count

@@ -1,12 +1,11 @@
 //! Words in hexadecimal.
-ghost use Rattle.std.specs.Prelude.{◌≡◌, ◌/◌, ◌%◌, ◌++◌, OnOk, ◌≤◌, ◌<◌, ◌^◌, ◌*◌, ◌+◌, length, IfSome};
+ghost use Rattle.std.specs.Prelude.{◌≡◌, ◌/◌, ◌%◌, ◌++◌, ◌≤◌, ◌<◌, ◌^◌, ◌*◌, ◌+◌, length, vec_len, vec_capacity, IfSome};
 ghost use Rattle.std.specs.Char.{digit_char};
 ghost use Rattle.opgen_num.specs.declared.TheConstants.{MAX_WIDTH};
 ghost use Rattle.opgen_vec.specs.Rows.{digit_count, word_text};
 ghost use Rattle.opgen_vec.specs.Digits.{hex_value, word_at};
 
 use crate::WORD_NUMBERS;
-use std::alloc::AllocError;
 
 /// How many digits a word of so many bits has.
 pub(crate) fn digit_count(width: u32) -> usize
@@ -67,14 +66,14 @@ fn digit_at(cell: u128, place: usize) -> u8
     }
 }
 
-/// Appends the word of this width.
-pub(crate) fn put_word(out: &mut Vec<u8>, width: u32, cell: u128) -> Result<(), AllocError>
-    ensures { OnOk result (out.new.items ≡ out.old.items ++ word_text width cell) }
+/// Appends the word of this width. There is room for its digits.
+pub(crate) fn put_word(out: &mut Vec<u8>, width: u32, cell: u128)
+    requires room { vec_len out.old + digit_count width ≤ vec_capacity out.old }
+    ensures { out.new.items ≡ out.old.items ++ word_text width cell }
 {
     let mut place = digit_count(width);
     'places: while place > 0 {
         place -= 1;
-        out.push(digit_char(digit_at(cell, place)))?;
+        out.push_reserved(digit_char(digit_at(cell, place)));
     }
-    Ok(())
 }

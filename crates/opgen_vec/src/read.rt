@@ -14,7 +14,7 @@ use std::alloc::Global;
 
 /// The cells of a file of vectors for ports of these widths, one column for each.
 ///
-/// Time and memory go with the number of bytes.
+/// Time goes with the number of bytes, and memory with that and the number of widths.
 ///
 /// # Errors
 ///

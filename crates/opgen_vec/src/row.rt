@@ -67,13 +67,14 @@ pub(crate) fn read_row(
     let Some(cell) = word_at(line, *first) else {
         return Ok(false);
     };
-    cells.push(cell)?;
+    cells.reserve(widths.len())?;
+    cells.push_reserved(cell);
     let mut rest = &line[digit_count(*first)..];
     for width in others {
         let Some(cell) = spaced_word_at(rest, *width) else {
             return Ok(false);
         };
-        cells.push(cell)?;
+        cells.push_reserved(cell);
         rest = &rest[1 + digit_count(*width)..];
     }
     Ok(rest.is_empty())

@@ -1,8 +1,8 @@
 //! Rows of cells as 256 streams of bits: a vector for each bit of each column, columns in order, the lowest bit first.
-ghost use Rattle.std.specs.Prelude.{◌≡◌, ◌≤◌, ◌<◌, ◌+◌, ◌*◌, ◌^◌, ◌++◌, ℕ, All, length, take, drop, map, sum, nat_eq, slice_index, OnOk, OnErr};
+ghost use Rattle.std.specs.Prelude.{◌≡◌, ◌≤◌, ◌<◌, ◌+◌, ◌*◌, ◌/◌, ◌%◌, ◌^◌, ◌++◌, ℕ, suc, [], All, length, take, map, sum, slice_index, slice_index_or, OnOk, OnErr};
 ghost use Rattle.std.specs.Int.{bit_at};
 ghost use Rattle.opgen_num.specs.Words.{nat, word};
-ghost use Rattle.opgen_streams.specs.Streams.{streams, bit_in, word_in, words_in};
+ghost use Rattle.opgen_streams.specs.Streams.{streams, word_in, words_in};
 ghost use Rattle.opgen_vec.specs.Writing.{row_count};
 ghost use Rattle.opgen_vec.specs.Streams.{words, row_or_zeros, row_in, rows_in};
 
@@ -15,63 +15,83 @@ use std::simd::u64x4;
 
 const WORD_BITS: usize = 64;
 
-fn bit_of(number: u128, place: usize) -> u64
-    ensures { result ≡ bit_at number place }
+// The word of 64 bits at an index of a number, the lowest first.
+fn word_of(number: u128, index: usize) -> u64
+    ensures { (j : ℕ) → j < 64 → bit_at result j ≡ bit_at number (64 * index + j) }
 {
-    if place < WORD_BITS {
-        (number % WORD_NUMBERS) as u64 >> place & 1
-    } else if place < 2 * WORD_BITS {
-        (number / WORD_NUMBERS) as u64 >> (place - WORD_BITS) & 1
+    if index == 0 {
+        (number % WORD_NUMBERS) as u64
+    } else if index == 1 {
+        (number / WORD_NUMBERS) as u64
     } else {
         0
     }
 }
 
-// At most so many cells, from a place on.
-fn part(cells: &[u128], start: usize, most: usize) -> &[u128]
-    ensures { result.now ≡ take most (drop start cells.now) }
+// The same of a cell, or 0 where there is none.
+fn word_of_cell(cells: &[u128], place: usize, index: usize) -> u64
+    ensures { (j : ℕ) → j < 64 → bit_at result j ≡ bit_at (slice_index cells.now place) (64 * index + j) }
 {
-    let rest = &cells[start.min(cells.len())..];
-    &rest[..most.min(rest.len())]
-}
-
-// The bit at a place of the first cell of each row, as a word: the first row's bit is the lowest.
-fn gather(cells: &[u128], columns: usize, place: usize) -> u64
-    requires some { 0 < columns }
-    requires small { columns < 2 ^ 32 }
-    requires few { length cells.now ≤ 64 * columns }
-    ensures { (k : ℕ) → bit_at result k ≡ bit_at (slice_index cells.now (k * columns)) place }
-{
-    let mut left = (cells.len() + columns - 1) / columns;
-    let mut word = 0;
-    'rows: while left > 0 {
-        left -= 1;
-        word = 2 * word + bit_of(cells[left * columns], place);
+    match cells.get(place) {
+        Some(cell) => word_of(*cell, index),
+        None => 0,
     }
-    word
 }
 
-fn word_at(cells: &[u128], start: usize, columns: usize, place: usize) -> u64
-    requires some { 0 < columns }
-    requires small { columns < 2 ^ 32 }
-    ensures { (k : ℕ) → k < 64 → bit_at result k ≡ bit_at (slice_index cells.now (start + k * columns)) place }
-{
-    gather(part(cells, start, WORD_BITS * columns), columns, place)
-}
-
-// The vector of the bits at a place of a column's cells.
-fn vector_at(cells: &[u128], columns: usize, column: usize, place: usize) -> u64x4
+// The words of a column's cells in four rows: this one, and those 64, 128 and 192 further on.
+fn words_of_rows(cells: &[u128], columns: usize, column: usize, row: usize, index: usize) -> u64x4
     requires column { column < columns }
     requires small { columns < 2 ^ 32 }
-    ensures { (k : ℕ) → k < streams → bit_in result k ≡ nat_eq (bit_at (slice_index cells.now (k * columns + column)) place) 1 }
+    requires row { row < 64 }
+    ensures { (k j : ℕ) → k < streams → k % 64 ≡ row → j < 64
+        → bit_at (slice_index result (k / 64)) j ≡ bit_at (slice_index cells.now (k * columns + column)) (64 * index + j) }
 {
+    let place = row * columns + column;
     let rows = WORD_BITS * columns;
     u64x4::from_array([
-        word_at(cells, column, columns, place),
-        word_at(cells, column + rows, columns, place),
-        word_at(cells, column + 2 * rows, columns, place),
-        word_at(cells, column + 3 * rows, columns, place),
+        word_of_cell(cells, place, index),
+        word_of_cell(cells, place + rows, index),
+        word_of_cell(cells, place + 2 * rows, index),
+        word_of_cell(cells, place + 3 * rows, index),
     ])
+}
+
+// The words of a column's cells in all rows, a word of each cell.
+fn words_of_column(cells: &[u128], columns: usize, column: usize, index: usize) -> [u64x4; 64]
+    requires column { column < columns }
+    requires small { columns < 2 ^ 32 }
+    ensures { (k j : ℕ) → k < streams → j < 64 → bit_at (slice_index (slice_index_or result (k % 64) []) (k / 64)) j
+        ≡ bit_at (slice_index cells.now (k * columns + column)) (64 * index + j) }
+{
+    let mut words = [u64x4::splat(0); WORD_BITS];
+    for row in 0..WORD_BITS {
+        words[row] = words_of_rows(cells, columns, column, row, index);
+    }
+    words
+}
+
+// Each word moved up by a bit, and below it the bit at a place of the other.
+fn with_bits(vector: u64x4, words: u64x4, place: usize) -> u64x4
+    requires { place < 64 }
+    ensures lowest { (i : ℕ) → i < 4 → bit_at (slice_index result i) 0 ≡ bit_at (slice_index words i) place }
+    ensures above { (i j : ℕ) → i < 4 → j < 63 → bit_at (slice_index result i) (suc j) ≡ bit_at (slice_index vector i) j }
+{
+    (vector << u64x4::splat(1)) | ((words >> u64x4::splat(place as u64)) & u64x4::splat(1))
+}
+
+// The bits at a place of words, as a vector.
+fn vector_at(words: &[u64x4; 64], place: usize) -> u64x4
+    requires { place < 64 }
+    ensures { (k : ℕ) → k < streams
+        → bit_at (slice_index result (k / 64)) (k % 64) ≡ bit_at (slice_index (slice_index_or words.now (k % 64) []) (k / 64)) place }
+{
+    let mut left = WORD_BITS;
+    let mut vector = u64x4::splat(0);
+    'rows: while left > 0 {
+        left -= 1;
+        vector = with_bits(vector, words[left], place);
+    }
+    vector
 }
 
 fn pack_column(cells: &[u128], columns: usize, column: usize, lanes: &mut [u64x4])
@@ -79,8 +99,12 @@ fn pack_column(cells: &[u128], columns: usize, column: usize, lanes: &mut [u64x4
     requires small { columns < 2 ^ 32 }
     ensures { (k : ℕ) → k < streams → word_in lanes.new k ≡ word (length lanes.old) (slice_index cells.now (k * columns + column)) }
 {
+    let mut words = [u64x4::splat(0); WORD_BITS];
     for (place, lane) in lanes.iter_mut().enumerate() {
-        *lane = vector_at(cells, columns, column, place);
+        if place % WORD_BITS == 0 {
+            words = words_of_column(cells, columns, column, place / WORD_BITS);
+        }
+        *lane = vector_at(&words, place % WORD_BITS);
     }
 }
 
@@ -147,10 +171,11 @@ fn push_row(
     ensures cells { OnOk result (cells.new.items ≡ cells.old.items ++ row_in widths.now lanes.now stream) }
     ensures kept { take (length cells.old.items) cells.new.items ≡ cells.old.items }
 {
+    cells.reserve(widths.len())?;
     let mut rest = lanes;
     for width in widths {
         let (word, later) = rest.split_at(*width as usize);
-        cells.push(number_in(word, stream))?;
+        cells.push_reserved(number_in(word, stream));
         rest = later;
     }
     Ok(())

@@ -3,7 +3,7 @@ ghost use Rattle.std.specs.Prelude.{◌≡◌, ◌+◌, ◌<◌, ◌++◌, lengt
 ghost use Rattle.opgen_vec.specs.Rows.{spaced_text, row_text};
 ghost use Rattle.opgen_vec.specs.Writing.{line_text, rows_text, HaveSameRows, row_count_of};
 
-use crate::hex::put_word;
+use crate::hex::{digit_count, put_word};
 use crate::vectors::Vectors;
 use opgen_num::Memory;
 use std::alloc::{AllocError, Global};
@@ -13,8 +13,9 @@ fn put_spaced(out: &mut Vec<u8>, widths: &[u32], cells: &[u128]) -> Result<(), A
     ensures { OnOk result (out.new.items ≡ out.old.items ++ spaced_text widths.now cells.now) }
 {
     for (index, width) in widths.iter().enumerate() {
-        out.push(b' ')?;
-        put_word(out, *width, cells[index])?;
+        out.reserve(1 + digit_count(*width))?;
+        out.push_reserved(b' ');
+        put_word(out, *width, cells[index]);
     }
     Ok(())
 }
@@ -26,7 +27,8 @@ fn put_row(out: &mut Vec<u8>, widths: &[u32], cells: &[u128]) -> Result<(), Allo
     let Some((width, widths)) = widths.split_first() else {
         return Ok(());
     };
-    put_word(out, *width, cells[0])?;
+    out.reserve(digit_count(*width))?;
+    put_word(out, *width, cells[0]);
     put_spaced(out, widths, &cells[1..])
 }
 

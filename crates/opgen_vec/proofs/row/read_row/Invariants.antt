@@ -1,5 +1,5 @@
-use Rattle.std.proofs.Common.{◌≡◌, ◌≤◌, length, take, drop}
-use Rattle.std.specs.Prelude.{All}
+use Rattle.std.proofs.Common.{◌≡◌, ◌+◌, ◌-◌, ◌≤◌, length, take, drop}
+use Rattle.std.specs.Prelude.{All, vec_len, vec_capacity}
 use Rattle.opgen_num.specs.declared.TheConstants.{MAX_WIDTH}
 use Rattle.opgen_vec.specs.Digits.{row_cells, spaced_cells}
 use Rattle.opgen_vec.proofs.Words.{before}
@@ -11,5 +11,6 @@ invariant-loop-width l = record {
       l.others) l.rest);
   same : take (length l.fn.cells.items) l.cells.items ≡ l.fn.cells.items;
   kept : length l.fn.cells.items ≤ length l.cells.items;
+  room : vec_len l.cells + (length l.others - l.width-index) ≤ vec_capacity l.cells;
   narrow : All (λ width. width ≤ MAX_WIDTH) l.others;
 }

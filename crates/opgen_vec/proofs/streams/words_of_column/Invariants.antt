@@ -1,0 +1,11 @@
+use Rattle.std.proofs.Common.{◌≡◌, ℕ, ◌+◌, ◌*◌, ◌/◌, ◌%◌, ◌<◌, [], length, get_or}
+use Rattle.std.specs.Int.{bit_at}
+use Rattle.opgen_streams.specs.Streams.{streams}
+use Rattle.opgen_vec.proofs.streams.words_of_column.Given as goal
+
+abbrev pub invariant-loop-row : goal.invariant-loop-row
+invariant-loop-row l = record {
+  all : length l.words ≡ 64;
+  bits : (k j : ℕ) → k < streams → k % 64 < l.row → j < 64 → bit_at (get_or (get_or l.words (k % 64) []) (k / 64) 0) j
+      ≡ bit_at (get_or l.cells (k * l.columns + l.column) 0) (64 * l.index + j);
+}
