@@ -4,7 +4,7 @@ use Rattle.std.specs.Int.{bit_at}
 use Rattle.std.proofs.Math.Nat.{mul-le-mul_right, add-mul, mul_comm}
 use Rattle.std.proofs.lemmas.Bool.{cases_lt, lt-ltb, le-ltb}
 use Rattle.std.proofs.lemmas.Nat.{shr-shr, shr_split}
-use Rattle.std.proofs.lemmas.Nat.Bits.{bit_at_lowest, bit_at-suc, bit_at_or, bit_at_above, bit_at_cat_low, bit_at-lt, shr_and_one}
+use Rattle.std.proofs.lemmas.Nat.Bits.{bit_at_lowest, bit_at-suc, bit_at_or, bit_at_above, bit_at_cat_low, bit_at-lt, bit_at-zero, shr_and_one}
 use Rattle.std.proofs.lemmas.List.{append-nil, take_all, get_or_past, get_or-take, get_or-drop, get_or-replicate, get_or-set_same, get_or-set_other, length-take, length-drop, length-replicate}
 use Rattle.std.specs.Simd.Lanes.{zip2}
 use Rattle.std.proofs.lemmas.Simd.{get_or-zip2, length-zip2}
@@ -93,39 +93,45 @@ four_rows a b c d row f small first second third fourth k j within here bit =
     go (suc (suc (suc (suc i)))) l = absurd (omega (arith, l))
 
 -- one more row of words
-pub row_placed : (f : ℕ → ℕ → ℕ) (words : List (List ℕ)) (new : List ℕ) (row : ℕ) → length words ≡ 64 → row < 64
-    → ((k j : ℕ) → k < streams → k % 64 < row → j < 64 → bit_at (get_or (get_or words (k % 64) []) (k / 64) 0) j ≡ f k j)
-    → ((k j : ℕ) → k < streams → k % 64 ≡ row → j < 64 → bit_at (get_or new (k / 64) 0) j ≡ f k j) → (k j : ℕ) → k < streams
-    → k % 64 < row + 1 → j < 64 → bit_at (get_or (get_or (set words row new) (k % 64) []) (k / 64) 0) j ≡ f k j
-row_placed f words new row len within before here k j stream reached bit = ⊎_elim earlier last (cases_lt (k % 64) row)
+pub row_placed : (g f : ℕ → ℕ) (words : List (List ℕ)) (new : List ℕ) (row : ℕ) → length words ≡ 64 → row < 64
+    → ((k : ℕ) → k < streams → k % 64 < row → g (get_or (get_or words (k % 64) []) (k / 64) 0) ≡ f k)
+    → ((k : ℕ) → k < streams → k % 64 ≡ row → g (get_or new (k / 64) 0) ≡ f k) → (k : ℕ) → k < streams → k % 64 < row + 1
+    → g (get_or (get_or (set words row new) (k % 64) []) (k / 64) 0) ≡ f k
+row_placed g f words new row len within before here k stream reached = ⊎_elim earlier last (cases_lt (k % 64) row)
   where
     at : List ℕ → ℕ
-    at lanes = bit_at (get_or lanes (k / 64) 0) j
+    at lanes = g (get_or lanes (k / 64) 0)
 
-    earlier : k % 64 < row → at (get_or (set words row new) (k % 64) []) ≡ f k j
+    earlier : k % 64 < row → at (get_or (set words row new) (k % 64) []) ≡ f k
     earlier h =
         let other : k % 64 ≡ row → ⊥ = λ e. omega (arith, h, e) in
-        ap at (get_or-set_other words row (k % 64) new [] other) ∙ before k j stream h bit
+        ap at (get_or-set_other words row (k % 64) new [] other) ∙ before k stream h
 
-    last : row ≤ k % 64 → at (get_or (set words row new) (k % 64) []) ≡ f k j
+    last : row ≤ k % 64 → at (get_or (set words row new) (k % 64) []) ≡ f k
     last h =
         let same : k % 64 ≡ row = omega (arith, h, reached) in
         ap (λ n. at (get_or (set words row new) n [])) same ∙ ap at (get_or-set_same words row new [] (omega (arith, len, within)))
-        ∙ here k j stream same bit
+        ∙ here k stream same
 
--- one more bit of each word
+-- bits of words
+pub bits_none : (words : List (List ℕ)) (place i j : ℕ) → i < 4
+    → bit_at (get_or (0 ∷ 0 ∷ 0 ∷ 0 ∷ []) i 0) j ≡ bit_at (get_or (get_or words (length words + j) []) i 0) place
+bits_none words place i j lane =
+    ap (λ n. bit_at n j) (get_or-replicate 4 i 0 0 lane) ∙ bit_at-zero j ∙ sym (bit_at-zero place)
+    ∙ sym (ap (λ xs. bit_at (get_or xs i 0) place) (get_or_past words (length words + j) [] (omega arith)))
+
 pub bits_more : (words : List (List ℕ)) (old new : List ℕ) (place left : ℕ) → 0 < left
     → ((i : ℕ) → i < 4 → bit_at (get_or new i 0) 0 ≡ bit_at (get_or (get_or words (left - 1) []) i 0) place)
     → ((i j : ℕ) → i < 4 → j < 63 → bit_at (get_or new i 0) (suc j) ≡ bit_at (get_or old i 0) j)
-    → ((i j : ℕ) → i < 4 → j < 64 - left → bit_at (get_or old i 0) j ≡ bit_at (get_or (get_or words (left + j) []) i 0) place)
-    → (i j : ℕ) → i < 4 → j < 64 - (left - 1)
+    → ((i j : ℕ) → i < 4 → j < 64 → bit_at (get_or old i 0) j ≡ bit_at (get_or (get_or words (left + j) []) i 0) place)
+    → (i j : ℕ) → i < 4 → j < 64
     → bit_at (get_or new i 0) j ≡ bit_at (get_or (get_or words (left - 1 + j) []) i 0) place
 bits_more words old new place left some lowest above before i zero lane within =
     let same : left - 1 ≡ left - 1 + zero = omega arith in
     lowest i lane ∙ ap (λ n. bit_at (get_or (get_or words n []) i 0) place) same
 bits_more words old new place left some lowest above before i (suc j) lane within =
     let same : left + j ≡ left - 1 + suc j = omega (arith, some) in
-    above i j lane (omega (arith, within, some)) ∙ before i j lane (omega (arith, within, some))
+    above i j lane (omega (arith, within)) ∙ before i j lane (omega (arith, within))
     ∙ ap (λ n. bit_at (get_or (get_or words n []) i 0) place) same
 
 -- one more bit of a column

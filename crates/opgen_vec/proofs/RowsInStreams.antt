@@ -1,5 +1,5 @@
 -- Rows of cells, and the streams that hold them.
-use Rattle.std.proofs.Common.{◌≡◌, ℕ, zero, suc, ◌+◌, ◌-◌, ◌*◌, ◌%◌, ◌/◌, ◌^◌, ◌<◌, ◌≤◌, Bool, List, [], ◌∷◌, ◌++◌, length, take, drop, set, get_or, eqb, sum, refl, sym, ap, ◌∙◌, arith, append_assoc, zero-add, lit<}
+use Rattle.std.proofs.Common.{◌≡◌, ℕ, zero, suc, ◌+◌, ◌-◌, ◌*◌, ◌%◌, ◌/◌, ◌^◌, ◌<◌, ◌≤◌, Bool, List, [], ◌∷◌, ◌++◌, length, take, drop, set, get_or, eqb, sum, refl, sym, ap, ◌∙◌, arith, append_assoc, zero-add, lit<, min, ⊎_elim}
 use Rattle.std.specs.List.{flat_map, range_with_len}
 use Rattle.std.proofs.Math.Nat.{mul-add, mul-suc, mul-div_cancel_left, pow-le-pow_right}
 use Rattle.std.proofs.lemmas.List.{append-nil, map-append, map-id, map_push, length-map, length-take, length-take-le, length-drop, length-append, take-map, drop-map, take_at, drop_at, take_all, drop_all, take-take, drop_more, take-append-drop, take_more_set, flat_map_more}
@@ -7,11 +7,14 @@ use Rattle.std.proofs.lemmas.List.Sums.{sum_by-drop_more}
 use Rattle.std.proofs.lemmas.List.FromFn.{map-range_with_len_more}
 use Rattle.std.proofs.lemmas.Slice.{take-put_mid}
 use borrow.Rule.Slice.PartMut.{put_mid}
-use Rattle.opgen_num.specs.Words.{nat, word}
+use Rattle.std.specs.Int.{bit_at}
+use Rattle.std.proofs.lemmas.Bool.{cases_lt}
+use Rattle.std.proofs.lemmas.Nat.Bits.{bit_at_lowest, bit_at-suc, bit_at-zero, bit_at-lt, same_from_bits_below}
+use Rattle.opgen_num.specs.Words.{digit, nat, word}
 use Rattle.opgen_num.specs.WordLaws.{length-word}
-use Rattle.opgen_num.proofs.Words.{nat-below}
+use Rattle.opgen_num.proofs.Words.{digit-below, nat-below}
 use Rattle.opgen_num.proofs.Cuts.{nat-append}
-use Rattle.opgen_streams.specs.Streams.{bit_in, word_in, words_in}
+use Rattle.opgen_streams.specs.Streams.{streams, bit_in, word_in, words_in}
 use Rattle.opgen_vec.specs.Streams.{words, row_in, rows_in}
 
 -- words, one after another
@@ -122,14 +125,35 @@ row_put widths row lanes start column stream place end len e =
     ∙ e in
     words_in-bits widths row lanes stream len bits
 
--- what a stream holds has room
-pub number_below : (lanes : List (List ℕ)) (left stream number : ℕ) → number ≡ nat (word_in (drop left lanes) stream)
-    → length lanes ≤ 64 → 0 < left → number < 2 ^ 63
-number_below lanes left stream number is narrow some =
-    let bits = word_in (drop left lanes) stream in
-    let few : length bits ≤ 63
-    = omega (arith, length-map (drop left lanes) (λ vector. bit_in vector stream), length-drop left lanes, narrow, some) in
-    omega (arith, is, nat-below bits, pow-le-pow_right {n = 2} (lit< tt) few)
+-- a bit of the number that a stream holds
+digit-bit : (n : ℕ) → n < 2 → digit (eqb n 1) ≡ n
+digit-bit zero small = refl
+digit-bit (suc zero) small = refl
+digit-bit (suc (suc n)) small = absurd (omega (arith, small))
+
+bit_of_number : (lanes : List (List ℕ)) (k j : ℕ)
+    → bit_at (nat (word_in lanes k)) j ≡ bit_at (get_or (get_or lanes j []) (k / 64) 0) (k % 64)
+bit_of_number [] k j = bit_at-zero j ∙ sym (bit_at-zero (k % 64))
+bit_of_number (lane ∷ lanes) k zero =
+    let bit = bit_at (get_or lane (k / 64) 0) (k % 64) in
+    let is : digit (bit_in lane k) ≡ bit = digit-bit bit (bit_at-lt (get_or lane (k / 64) 0) (k % 64)) in
+    let low : (digit (bit_in lane k) + 2 * nat (word_in lanes k)) % 2 ≡ bit
+    = omega (arith, is, bit_at-lt (get_or lane (k / 64) 0) (k % 64)) in
+    bit_at_lowest (digit (bit_in lane k) + 2 * nat (word_in lanes k)) ∙ low
+bit_of_number (lane ∷ lanes) k (suc j) =
+    let half : (digit (bit_in lane k) + 2 * nat (word_in lanes k)) / 2 ≡ nat (word_in lanes k)
+    = omega (arith, digit-below (bit_in lane k)) in
+    bit_at-suc (digit (bit_in lane k) + 2 * nat (word_in lanes k)) j ∙ ap (λ n. bit_at n j) half ∙ bit_of_number lanes k j
+
+pub number_of_stream : (lanes : List (List ℕ)) (vector : List ℕ) (k row : ℕ) → length lanes ≤ 64 → k < streams → k % 64 ≡ row
+    → ((i j : ℕ) → i < 4 → j < 64 → bit_at (get_or vector i 0) j ≡ bit_at (get_or (get_or lanes j []) i 0) row)
+    → ((i : ℕ) → i < 4 → get_or vector i 0 < 2 ^ 64) → get_or vector (k / 64) 0 ≡ nat (word_in lanes k)
+number_of_stream lanes vector k row few within here bits small =
+    let lane : k / 64 < 4 = omega (arith, within) in
+    let len : length (word_in lanes k) ≤ 64 = omega (arith, few, length-map lanes (λ vector. bit_in vector k)) in
+    let fits : nat (word_in lanes k) < 2 ^ 64 = omega (arith, nat-below (word_in lanes k), pow-le-pow_right {n = 2} (lit< tt) len) in
+    same_from_bits_below 64 (get_or vector (k / 64) 0) (nat (word_in lanes k)) (small (k / 64) lane) fits (λ j bit.
+    bits (k / 64) j lane bit ∙ ap (bit_at (get_or (get_or lanes j []) (k / 64) 0)) (sym here) ∙ sym (bit_of_number lanes k j))
 
 -- the lowest 64 bits, and those above
 pub nat-halves : (lanes : List (List ℕ)) (stream : ℕ) → 64 ≤ length lanes
@@ -142,6 +166,26 @@ nat-halves lanes stream wide =
     ∙ ap nat (map-append (λ vector. bit_in vector stream) (take 64 lanes) (drop 64 lanes))
     ∙ nat-append low high
     ∙ ap (λ n. nat low + 2 ^ n * nat high) len
+
+pub nat-parts : (lanes : List (List ℕ)) (stream most : ℕ) → most ≡ min (length lanes) 64
+    → nat (word_in (take most lanes) stream) + 2 ^ 64 * nat (word_in (drop most lanes) stream) ≡ nat (word_in lanes stream)
+nat-parts lanes stream most is = ⊎_elim short long (cases_lt (length lanes) 64)
+  where
+    parts : ℕ → ℕ
+    parts n = nat (word_in (take n lanes) stream) + 2 ^ 64 * nat (word_in (drop n lanes) stream)
+
+    short : length lanes < 64 → parts most ≡ nat (word_in lanes stream)
+    short h =
+        let all : length lanes ≤ most = omega (arith, is, h) in
+        let none : nat (word_in (drop most lanes) stream) ≡ 0 = ap (λ ls. nat (word_in ls stream)) (drop_all most lanes all) in
+        let whole : nat (word_in (take most lanes) stream) ≡ nat (word_in lanes stream)
+        = ap (λ ls. nat (word_in ls stream)) (take_all most lanes all) in
+        omega (arith, none, whole)
+
+    long : 64 ≤ length lanes → parts most ≡ nat (word_in lanes stream)
+    long h =
+        let same : most ≡ 64 = omega (arith, is, h) in
+        ap parts same ∙ sym (nat-halves lanes stream h)
 
 -- a list that only grows
 pub still_begins : (old more now new : List ℕ) → now ≡ old ++ more → take (length now) new ≡ now → take (length old) new ≡ old

@@ -1,16 +1,15 @@
 //! Rows of cells as 256 streams of bits: a vector for each bit of each column, columns in order, the lowest bit first.
-ghost use Rattle.std.specs.Prelude.{◌≡◌, ◌≤◌, ◌<◌, ◌+◌, ◌*◌, ◌/◌, ◌%◌, ◌^◌, ◌++◌, ℕ, suc, [], All, length, take, map, sum, slice_index, slice_index_or, OnOk, OnErr};
+ghost use Rattle.std.specs.Prelude.{◌≡◌, ◌≤◌, ◌<◌, ◌+◌, ◌*◌, ◌/◌, ◌%◌, ◌^◌, ◌++◌, ℕ, suc, [], All, length, take, map, sum, slice_index, slice_index_or, OnOk, OnErr, IfOk};
 ghost use Rattle.std.specs.Int.{bit_at};
 ghost use Rattle.opgen_num.specs.Words.{nat, word};
 ghost use Rattle.opgen_streams.specs.Streams.{streams, word_in, words_in};
 ghost use Rattle.opgen_vec.specs.Writing.{row_count};
-ghost use Rattle.opgen_vec.specs.Streams.{words, row_or_zeros, row_in, rows_in};
+ghost use Rattle.opgen_vec.specs.Streams.{words, row_or_zeros, row_in, rows_in, number_at};
 
 use crate::WORD_NUMBERS;
 use crate::vectors::Vectors;
 use opgen_num::Memory;
-use opgen_streams::bit_in;
-use std::alloc::AllocError;
+use std::alloc::{AllocError, Global};
 use std::simd::u64x4;
 
 const WORD_BITS: usize = 64;
@@ -79,13 +78,14 @@ fn with_bits(vector: u64x4, words: u64x4, place: usize) -> u64x4
     (vector << u64x4::splat(1)) | ((words >> u64x4::splat(place as u64)) & u64x4::splat(1))
 }
 
-// The bits at a place of words, as a vector.
-fn vector_at(words: &[u64x4; 64], place: usize) -> u64x4
+// The bits at a place of each word, as a vector: bit j of a word is that of the word at j.
+fn vector_at(words: &[u64x4], place: usize) -> u64x4
     requires { place < 64 }
-    ensures { (k : ℕ) → k < streams
-        → bit_at (slice_index result (k / 64)) (k % 64) ≡ bit_at (slice_index (slice_index_or words.now (k % 64) []) (k / 64)) place }
+    ensures bits { (i j : ℕ) → i < 4 → j < 64
+        → bit_at (slice_index result i) j ≡ bit_at (slice_index (slice_index_or words.now j []) i) place }
+    ensures small { (i : ℕ) → i < 4 → slice_index result i < 2 ^ 64 }
 {
-    let mut left = WORD_BITS;
+    let mut left = words.len();
     let mut vector = u64x4::splat(0);
     'rows: while left > 0 {
         left -= 1;
@@ -129,54 +129,82 @@ pub fn pack(rows: &Vectors, first: u32, widths: &[u32], lanes: &mut [u64x4])
     }
 }
 
-fn low_number_in(lanes: &[u64x4], stream: usize) -> u64
-    requires stream { stream < streams }
-    requires narrow { length lanes.now ≤ 64 }
-    ensures { result ≡ nat (word_in lanes.now stream) }
+// The number that each stream holds: that of the streams at a row, and 64, 128 and 192 further on, stand at the row.
+fn words_in_streams(lanes: &[u64x4]) -> [u64x4; 64]
+    requires { length lanes.now ≤ 64 }
+    ensures { (k : ℕ) → k < streams → slice_index (slice_index_or result (k % 64) []) (k / 64) ≡ nat (word_in lanes.now k) }
 {
-    let mut number = 0;
-    let mut left = lanes.len();
-    'bits: while left > 0 {
-        left -= 1;
-        number = 2 * number + bit_in(&lanes[left], stream) as u64;
+    let mut words = [u64x4::splat(0); WORD_BITS];
+    for row in 0..WORD_BITS {
+        words[row] = vector_at(lanes, row);
     }
-    number
+    words
 }
 
-// The number whose bits a stream holds.
-fn number_in(lanes: &[u64x4], stream: usize) -> u128
-    requires stream { stream < streams }
-    requires narrow { length lanes.now ≤ 128 }
-    ensures { result ≡ nat (word_in lanes.now stream) }
+fn word_of_stream(words: &[u64x4], stream: usize) -> u64
+    requires { stream < streams }
+    ensures { result ≡ slice_index (slice_index_or words.now (stream % 64) []) (stream / 64) }
 {
-    if lanes.len() <= WORD_BITS {
-        low_number_in(lanes, stream) as u128
-    } else {
-        let (low, high) = lanes.split_at(WORD_BITS);
-        let low = low_number_in(low, stream) as u128;
-        let high = low_number_in(high, stream) as u128;
+    match words.get(stream % WORD_BITS) {
+        Some(vector) => vector.as_array()[stream / WORD_BITS],
+        None => 0,
+    }
+}
+
+// The numbers of a column in all streams: of each the lowest 64 bits, and those above.
+#[derive(Drop)]
+struct Numbers {
+    low: Vec<u64x4>,
+    high: Vec<u64x4>,
+}
+
+impl Numbers {
+    // Those that the streams hold.
+    fn of(alloc: Global, lanes: &[u64x4]) -> Result<Numbers, AllocError>
+        requires { length lanes.now ≤ 128 }
+        ensures { IfOk result (λ numbers. (k : ℕ) → k < streams → number_at numbers k ≡ nat (word_in lanes.now k)) }
+    {
+        let (low, high) = lanes.split_at(lanes.len().min(WORD_BITS));
+        Ok(Numbers {
+            low: Vec::from_slice(alloc, &words_in_streams(low))?,
+            high: Vec::from_slice(alloc, &words_in_streams(high))?,
+        })
+    }
+
+    fn at(&self, stream: usize) -> u128
+        requires { stream < streams }
+        ensures { result ≡ number_at self.now stream }
+    {
+        let low = word_of_stream(&self.low, stream) as u128;
+        let high = word_of_stream(&self.high, stream) as u128;
         high * WORD_NUMBERS + low
     }
 }
 
-fn push_row(
-    lanes: &[u64x4],
-    stream: usize,
-    widths: &[u32],
-    cells: &mut Vec<u128>,
-) -> Result<(), AllocError>
-    requires stream { stream < streams }
+// The numbers of each column.
+fn numbers_in(alloc: Global, lanes: &[u64x4], widths: &[u32]) -> Result<Vec<Numbers>, AllocError>
     requires narrow { All (λ width. width ≤ 128) widths.now }
     requires lanes { length lanes.now ≡ sum widths.now }
-    ensures cells { OnOk result (cells.new.items ≡ cells.old.items ++ row_in widths.now lanes.now stream) }
-    ensures kept { take (length cells.old.items) cells.new.items ≡ cells.old.items }
+    ensures { IfOk result (λ numbers. (k : ℕ) → k < streams → map (λ n. number_at n k) numbers.items ≡ row_in widths.now lanes.now k) }
 {
-    cells.reserve(widths.len())?;
+    let mut numbers = Vec::with_capacity(alloc, widths.len())?;
     let mut rest = lanes;
     for width in widths {
-        let (word, later) = rest.split_at(*width as usize);
-        cells.push_reserved(number_in(word, stream));
+        let (column, later) = rest.split_at(*width as usize);
+        numbers.push(Numbers::of(alloc, column)?)?;
         rest = later;
+    }
+    Ok(numbers)
+}
+
+fn push_row(numbers: &[Numbers], stream: usize, cells: &mut Vec<u128>) -> Result<(), AllocError>
+    requires stream { stream < streams }
+    ensures cells { OnOk result (cells.new.items ≡ cells.old.items ++ map (λ n. number_at n stream) numbers.now) }
+    ensures kept { take (length cells.old.items) cells.new.items ≡ cells.old.items }
+{
+    cells.reserve(numbers.len())?;
+    for column in numbers {
+        cells.push_reserved(column.at(stream));
     }
     Ok(())
 }
@@ -193,8 +221,9 @@ fn push_rows(
     ensures cells { OnOk result (cells.new.items ≡ cells.old.items ++ rows_in widths.now lanes.now count) }
     ensures kept { take (length cells.old.items) cells.new.items ≡ cells.old.items }
 {
+    let numbers = numbers_in(*cells.allocator(), lanes, widths)?;
     for stream in 0..count as usize {
-        push_row(lanes, stream, widths, cells)?;
+        push_row(&numbers, stream, cells)?;
     }
     Ok(())
 }

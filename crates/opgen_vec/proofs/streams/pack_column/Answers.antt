@@ -24,7 +24,7 @@ loop-place-preserved c =
     record {
       packed = λ k within.
           let bit : bit_in c.vector_at.result k ≡ eqb (bit_at (cell k) place) 1
-          = ap (λ n. eqb n 1) (c.vector_at.ensures k within ∙ words k (place % 64) within (omega arith) ∙ ap (bit_at (cell k)) whole) in
+          = ap (λ n. eqb n 1) (c.vector_at.ensures.bits (k / 64) (k % 64) (omega (arith, within)) (omega arith) ∙ words k (place % 64) within (omega arith) ∙ ap (bit_at (cell k)) whole) in
           column_more _ c.loop-place.lanes place (length c.args.lanes.now) k _ c.vector_at.result (omega arith) (omega arith)
           (c.loop-place.invariant.packed k within) bit;
       words = λ some k j stream bit.

@@ -1,12 +1,10 @@
-use Rattle.std.proofs.Common.{◌≡◌, ◌+◌, ◌-◌, ◌≤◌, ◌++◌, length, take, drop, sum}
+use Rattle.std.proofs.Common.{◌≡◌, ◌+◌, ◌-◌, ◌≤◌, ◌++◌, length, map, take}
 use Rattle.std.specs.Prelude.{vec_len, vec_capacity}
-use Rattle.opgen_vec.specs.Streams.{row_in}
+use Rattle.opgen_vec.specs.Streams.{number_at}
 use Rattle.opgen_vec.proofs.streams.push_row.Given as goal
 
-abbrev pub invariant-loop-width : goal.invariant-loop-width
-invariant-loop-width l = record {
-  lanes : length l.rest ≡ sum (drop l.width-index l.widths);
-  cells : l.fn.cells.items ++ row_in l.widths l.lanes l.stream ≡ l.cells.items ++ row_in (drop l.width-index l.widths) l.rest l.stream;
-  kept : take (length l.fn.cells.items) l.cells.items ≡ l.fn.cells.items;
-  room : vec_len l.cells + (length l.widths - l.width-index) ≤ vec_capacity l.cells;
+abbrev pub invariant-loop-column : goal.invariant-loop-column
+invariant-loop-column l = record {
+  cells : l.cells.items ≡ l.fn.cells.items ++ map (λ n. number_at n l.stream) (take l.column-index l.numbers);
+  room : vec_len l.cells + (length l.numbers - l.column-index) ≤ vec_capacity l.cells;
 }
