@@ -145,6 +145,10 @@ bit_of_number (lane ∷ lanes) k (suc j) =
     = omega (arith, digit-below (bit_in lane k)) in
     bit_at-suc (digit (bit_in lane k) + 2 * nat (word_in lanes k)) j ∙ ap (λ n. bit_at n j) half ∙ bit_of_number lanes k j
 
+pub no_number : (lanes : List (List ℕ)) (k : ℕ) → length lanes ≡ 0 → 0 ≡ nat (word_in lanes k)
+no_number [] k none = refl
+no_number (lane ∷ lanes) k none = absurd (omega (arith, none))
+
 pub number_of_stream : (lanes : List (List ℕ)) (vector : List ℕ) (k row : ℕ) → length lanes ≤ 64 → k < streams → k % 64 ≡ row
     → ((i j : ℕ) → i < 4 → j < 64 → bit_at (get_or vector i 0) j ≡ bit_at (get_or (get_or lanes j []) i 0) row)
     → ((i : ℕ) → i < 4 → get_or vector i 0 < 2 ^ 64) → get_or vector (k / 64) 0 ≡ nat (word_in lanes k)

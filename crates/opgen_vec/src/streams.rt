@@ -129,16 +129,20 @@ pub fn pack(rows: &Vectors, first: u32, widths: &[u32], lanes: &mut [u64x4])
     }
 }
 
-// The number that each stream holds: that of the streams at a row, and 64, 128 and 192 further on, stand at the row.
-fn words_in_streams(lanes: &[u64x4]) -> [u64x4; 64]
+// The number that each stream holds, four at an index as `words_of_rows` has them; none where all are 0 for want of lanes.
+fn words_in_streams(alloc: Global, lanes: &[u64x4]) -> Result<Vec<u64x4>, AllocError>
     requires { length lanes.now ≤ 64 }
-    ensures { (k : ℕ) → k < streams → slice_index (slice_index_or result (k % 64) []) (k / 64) ≡ nat (word_in lanes.now k) }
+    ensures { IfOk result (λ words. (k : ℕ) → k < streams
+        → slice_index (slice_index_or words.items (k % 64) []) (k / 64) ≡ nat (word_in lanes.now k)) }
 {
+    if lanes.is_empty() {
+        return Ok(Vec::new(alloc));
+    }
     let mut words = [u64x4::splat(0); WORD_BITS];
     for row in 0..WORD_BITS {
         words[row] = vector_at(lanes, row);
     }
-    words
+    Vec::from_slice(alloc, &words)
 }
 
 fn word_of_stream(words: &[u64x4], stream: usize) -> u64
@@ -166,8 +170,8 @@ impl Numbers {
     {
         let (low, high) = lanes.split_at(lanes.len().min(WORD_BITS));
         Ok(Numbers {
-            low: Vec::from_slice(alloc, &words_in_streams(low))?,
-            high: Vec::from_slice(alloc, &words_in_streams(high))?,
+            low: words_in_streams(alloc, low)?,
+            high: words_in_streams(alloc, high)?,
         })
     }
 

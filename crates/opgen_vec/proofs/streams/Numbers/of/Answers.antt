@@ -8,11 +8,9 @@ pub returns : goal.returns
 returns c k stream =
     let lanes = c.args.lanes.now in
     let most = c.min.result in
-    let low : get_or (get_or c.in_ok-from_slice.field-0.items (k % 64) []) (k / 64) 0 ≡ nat (word_in (take most lanes) k)
-    = ap (λ ws. get_or (get_or ws (k % 64) []) (k / 64) 0) c.in_ok-from_slice.ensures.items ∙ c.words_in_streams.ensures k stream
-    ∙ ap (λ ls. nat (word_in ls k)) c.split_at.ensures.front in
-    let high : get_or (get_or c.in_ok-from_slice-2.field-0.items (k % 64) []) (k / 64) 0 ≡ nat (word_in (drop most lanes) k)
-    = ap (λ ws. get_or (get_or ws (k % 64) []) (k / 64) 0) c.in_ok-from_slice-2.ensures.items ∙ c.words_in_streams-2.ensures k stream
-    ∙ ap (λ ls. nat (word_in ls k)) c.split_at.ensures.back in
-    ap (λ n. n + 2 ^ 64 * get_or (get_or c.in_ok-from_slice-2.field-0.items (k % 64) []) (k / 64) 0) low
+    let low : get_or (get_or c.in_ok-words_in_streams.field-0.items (k % 64) []) (k / 64) 0 ≡ nat (word_in (take most lanes) k)
+    = c.in_ok-words_in_streams.ensures k stream ∙ ap (λ ls. nat (word_in ls k)) c.split_at.ensures.front in
+    let high : get_or (get_or c.in_ok-words_in_streams-2.field-0.items (k % 64) []) (k / 64) 0 ≡ nat (word_in (drop most lanes) k)
+    = c.in_ok-words_in_streams-2.ensures k stream ∙ ap (λ ls. nat (word_in ls k)) c.split_at.ensures.back in
+    ap (λ n. n + 2 ^ 64 * get_or (get_or c.in_ok-words_in_streams-2.field-0.items (k % 64) []) (k / 64) 0) low
     ∙ ap (λ n. nat (word_in (take most lanes) k) + 2 ^ 64 * n) high ∙ nat-parts lanes k most c.min.ensures
