@@ -129,7 +129,8 @@ pub fn pack(rows: &Vectors, first: u32, widths: &[u32], lanes: &mut [u64x4])
     }
 }
 
-// The number that each stream holds, four at an index as `words_of_rows` has them; none where all are 0 for want of lanes.
+// The number that each stream holds: at an index those of four streams, as in `words_of_rows`. Without
+// lanes each is 0, and nothing stands there.
 fn words_in_streams(alloc: Global, lanes: &[u64x4]) -> Result<Vec<u64x4>, AllocError>
     requires { length lanes.now ≤ 64 }
     ensures { IfOk result (λ words. (k : ℕ) → k < streams
