@@ -38,7 +38,7 @@ AreLaid low m drivers places = AllZip (IsLaid low m) drivers places
 abbrev pub FitRows : ℕ → List Row → Type 0
 FitRows bits rows = All (λ r. (length r.0 ≡ bits) × (length r.1 ≤ 64)) rows
 
--- the addresses of a table are short
+-- the addresses of a table have at most 32 bits
 abbrev pub IsSmall : Driver → Type 0
 IsSmall (Table to on rows other) = All (λ r. length r.0 ≤ 32) rows
 IsSmall _ = Unit {0}
@@ -53,7 +53,7 @@ pub record Grown (old new : List ℕ) : Type 0 where
   pub longer : length old ≤ length new
   pub kept : (i : ℕ) → i < length old → slice_index new i ≡ slice_index old i
 
--- a design whose words have at most 64 bits, and whose tables have short addresses
+-- a design whose words have at most 64 bits, and whose tables have addresses of at most 32
 pub record IsFlat (d : Design) : Type 0 where
   pub signals : All (λ s. s.width ≤ 64) d.signals
   pub ports : All (λ p. p.width ≤ 64) d.ports

@@ -32,6 +32,6 @@ first_spots d = record { signals = spots_from 0 (signal_widths d); ports = port_
 abbrev pub start_number : Signal → ℕ
 start_number s = nat (unwrap_or s.initial [])
 
--- the numbers before the first cycle: those of the initial words, zeros at the inputs, and one for the outputs
+-- the numbers before the first cycle: those of the initial words, zeros at the inputs, and one more 0, which stands for all outputs
 abbrev pub start_of : Design → List ℕ
 start_of d = map start_number d.signals ++ replicate (length (input_widths d) + 1) 0

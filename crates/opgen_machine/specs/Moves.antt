@@ -19,7 +19,7 @@ use Rattle.opgen_steps.specs.Emit.{Extends}
 abbrev pub next_over : (enable : Option ℕ) → (to : ℕ) → Tree → Words → List Bool
 next_over enable to e v = moved enable v (value_over e v) (word_at v.signals to)
 
--- the steps after leave what a register holds next at a spot behind those before the first step
+-- the steps after leave what a register holds next at a spot behind the numbers before the first step
 pub record IsNext (base : ℕ) (spots : Spots) (enable : Option ℕ) (to : ℕ) (e : Tree) (before after : List Step) (spot : Spot) : Type 0 where
   pub extends : Extends before after
   pub fine : AreFine base after
@@ -32,7 +32,7 @@ abbrev pub move_all : List Move → List ℕ → List ℕ
 move_all [] m = m
 move_all (x ∷ moves) m = move_all moves (slice_set m x.to (slice_index m x.from))
 
--- each number comes from behind a place, and goes below another
+-- each move takes from a place from `base` up to `end`, and puts below `low`
 abbrev pub AreMoves : (low base end : ℕ) → List Move → Type 0
 AreMoves low base end moves = All (λ x. (x.to < low) × (base ≤ x.from) × (x.from < end)) moves
 

@@ -53,7 +53,8 @@ fn have_small_tables(drivers: &[Driver]) -> bool
     drivers.iter().all(|driver| has_small_table(driver))
 }
 
-/// Whether a machine can run the design: its words have at most 64 bits, and its tables short addresses or many rows.
+/// A true answer says that a machine can run the design: its words have at most 64 bits and its addresses 32. It is given where each
+/// table has short addresses or rows for a quarter of them.
 pub fn is_flat(design: &Design) -> bool
     ensures { IsTrue result → IsFlat design.now }
 {

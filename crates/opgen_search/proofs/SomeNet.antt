@@ -26,9 +26,7 @@ module _ (hold : OutputsHold) (wide : OutputsAreWide) (m : Several) (accepted : 
       let reaches = space_reaches is.targets m.extra set (targets_of m ranges is.targets is.parts) is.least.member in
       let serves = reached_serve m.constants is.targets set graph is.parts reaches ranks in
       record {
-        set = set;
         net = net_of_graph graph m;
-        adders = is;
         is = record { set = set; graph = graph; adders = is; ranks = ranks; by = refl };
         fits = fits_specs m accepted graph serves hold wide;
       }

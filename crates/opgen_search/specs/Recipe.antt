@@ -32,11 +32,9 @@ OneAdderSet = (several : Several) (set other : List ℕ) → IsAdderSetOf severa
 abbrev pub OneNet : Type 0
 OneNet = (several : Several) (net other : Net) → IsNetOfSeveral several net → IsNetOfSeveral several other → net ≡ other
 
--- such a set, and such a net, which fits
+-- a net by the graph of the least set, which fits
 pub record HasNet (several : Several) : Type 0 where
-  pub set : List ℕ
   pub net : Net
-  pub adders : IsAdderSetOf several set
   pub is : IsNetOfSeveral several net
   pub fits : FitsSpecsOf (Mcm several) net
 

@@ -1,4 +1,4 @@
-//! More rows than a design without registers runs at a time, and some that fill its blocks.
+//! Fewer rows than streams are worth, more than a design without registers runs at a time, and some that fill its blocks.
 use crate::running::simulated;
 use opgen_harness::running::holds;
 use opgen_harness::texts::TIMES3;
@@ -28,7 +28,7 @@ fn products(alloc: Global, count: u32) -> Result<String, AllocError> {
 
 #[test]
 fn blocks_of_rows(rt: HostRuntime) -> Result<(), Fail> {
-    for count in [0, 1, 255, 256, 257, 512, 513] {
+    for count in [0, 1, 3, 4, 255, 256, 257, 512, 513] {
         let ran = simulated(&rt, TIMES3, &inputs(rt.alloc(), count)?)?;
         assert_eq!(rt; ran.status, 0);
         let wanted = products(rt.alloc(), count)?;

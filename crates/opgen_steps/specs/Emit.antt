@@ -40,7 +40,7 @@ pub record Combined (base : ℕ) (spots : Spots) (op : Op) (a b : Spot) (before 
   pub gives : (f g : Words → List Bool) → Gives base spots before a f → Gives base spots before b g
       → Gives base spots after spot (λ v. combined op (f v) (g v))
 
--- the steps after leave the choice of two words at a spot behind those before, whatever the words are
+-- the steps after leave the choice of two words at a spot behind the numbers before the first step, whatever the words are
 pub record Chosen (base : ℕ) (spots : Spots) (on one other : Spot) (before after : List Step) (spot : Spot) : Type 0 where
   pub extends : Extends before after
   pub fine : AreFine base after
@@ -49,7 +49,7 @@ pub record Chosen (base : ℕ) (spots : Spots) (on one other : Spot) (before aft
   pub gives : (f g h : Words → List Bool) → Gives base spots before on f → Gives base spots before one g → Gives base spots before other h
       → Gives base spots after spot (λ v. chosen (f v) (g v) (h v))
 
--- the steps after leave a word once more at a spot behind those before, whatever the word is
+-- the steps after leave a word once more at a spot behind the numbers before the first step, whatever the word is
 pub record Copied (base : ℕ) (spots : Spots) (of : Spot) (before after : List Step) (spot : Spot) : Type 0 where
   pub extends : Extends before after
   pub fine : AreFine base after

@@ -18,6 +18,7 @@ pub enum Step {
         on: usize,
         mask: u64,
     },
+    /// The mask less the number: its bits turned round.
     Turn {
         of: usize,
         mask: u64,
@@ -44,11 +45,13 @@ pub enum Step {
         second: usize,
         mask: u64,
     },
+    /// The number shifted down to its bit `low`, and masked.
     Part {
         of: usize,
         low: u32,
         mask: u64,
     },
+    /// The number at `high`, shifted up, over that at `low`.
     Join {
         high: usize,
         low: usize,

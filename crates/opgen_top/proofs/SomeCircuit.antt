@@ -83,7 +83,7 @@ module _ (laws : NetLaws) (spec : Spec) (valid : IsValidSpec spec)
   of_kind (Root r) e = with_net (Root r) (net_of_single r) [] e refl (roots.fits_specs r (accepted_kind spec valid (Root r) e)) refl
   of_kind (Mcm m) e =
       several_net laws.hold laws.wide m (accepted_kind spec valid (Mcm m) e)
-      (λ made. with_net (Mcm m) made.net made.set e made.is made.fits made.adders)
+      (λ made. with_net (Mcm m) made.net made.is.set e made.is made.fits made.is.adders)
 
   some_fitting : ⊥
   some_fitting = of_kind spec.op refl
