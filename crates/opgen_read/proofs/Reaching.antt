@@ -10,8 +10,8 @@ use Rattle.opgen_vhdl.proofs.Takes.{takes-is}
 use Rattle.opgen_vhdl.proofs.Walks.{Follows-push, refuses}
 use Rattle.opgen_read.specs.Reached.{Reached, StopsAt, IsPieceFault}
 use Rattle.opgen_read.specs.Stepped.{Steps}
-use Rattle.opgen_read.specs.declared.pieces.PieceFault.{PieceFault}
-use Rattle.opgen_read.specs.declared.pieces.PieceFault.TheVariants.{Memory, Syntax}
+use Rattle.opgen_read.specs.declared.fault.ReadFault.{ReadFault}
+use Rattle.opgen_read.specs.declared.fault.ReadFault.TheVariants.{Lexical, Syntax, TooLarge, Unsound, Memory}
 
 pub reached_start : (ss : List Symbol) (r : Reading) → r ≡ nothing → Reached ss ss Library r 0
 reached_start ss r e = record { taken = []; split = refl; follow = rw e stay; count = refl }
@@ -38,10 +38,13 @@ reached_fault whole rest p r n piece more reached e t = record {
   piece = ap (λ u. u + 1) reached.count;
 }
 
-pub step_fault : (whole rest : List Symbol) (p : Place) (r : Reading) (n : ℕ) (piece more : List Symbol) (fault : PieceFault)
+pub step_fault : (whole rest : List Symbol) (p : Place) (r : Reading) (n : ℕ) (piece more : List Symbol) (fault : ReadFault)
     → Reached whole rest p r n →
     pieces rest ≡ piece ∷ pieces more → Steps (Err fault) (n + 1) (takes_at p r piece) → IsPieceFault whole fault
 step_fault whole rest p r n piece more Memory reached e t = tt
+step_fault whole rest p r n piece more (Lexical offset) reached e t = t
+step_fault whole rest p r n piece more TooLarge reached e t = t
+step_fault whole rest p r n piece more (Unsound rule item) reached e t = t
 step_fault whole rest p r n piece more (Syntax k) reached e t = rw t.1 (reached_fault whole rest p r n piece more reached e t.0)
 
 pub reached_end : (whole rest : List Symbol) (p : Place) (r : Reading) (n : ℕ) → Reached whole rest p r n → rest ≡ [] → p ≡ End

@@ -1,22 +1,26 @@
 -- What the pieces of a whole text say of it.
-use Rattle.std.proofs.Common.{◌≡◌, ℕ, List, ap, sym, ◌∙◌, subst}
+use Rattle.std.specs.Prelude.{IfOk, IfErr, Result, Ok, Err}
+use Rattle.std.proofs.Common.{◌≡◌, ℕ, ◌≤◌, List, length, refl, arith, ap, sym, ◌∙◌, subst}
 use Rattle.opgen_vhdl.specs.declared.place.Place.TheVariants.{Library, End}
 use Rattle.opgen_vhdl.specs.Spelled.{Statements, SyntaxAt}
 use Rattle.opgen_vhdl.specs.Statements.{Reading, nothing, Follows}
 use Rattle.opgen_vhdl.specs.Symbols.{symbols, pieces}
 use Rattle.opgen_lex.specs.First.{HasTokens}
 use Rattle.opgen_read.specs.Left.{symbols_in}
-use Rattle.opgen_read.specs.Outcome.{IsTextFault}
-use Rattle.opgen_read.specs.Reached.{StopsAt, IsPieceFault, text_fault}
-use Rattle.opgen_read.specs.declared.pieces.PieceFault.{PieceFault}
-use Rattle.opgen_read.specs.declared.pieces.PieceFault.TheVariants.{Memory, Syntax}
-use Rattle.opgen_read.proofs.SymbolsIn.{symbols_in-tokens}
+use Rattle.opgen_read.specs.Outcome.{IsTextFault, HasFew}
+use Rattle.opgen_read.specs.Reached.{StopsAt, IsPieceFault}
+use Rattle.opgen_read.specs.Seen.{seen}
+use Rattle.opgen_read.specs.declared.draft.Draft.{Draft}
+use Rattle.opgen_read.specs.declared.fault.ReadFault.{ReadFault}
+use Rattle.opgen_read.specs.declared.fault.ReadFault.TheVariants.{Lexical, Syntax, TooLarge, Unsound, Memory}
+use Rattle.opgen_read.proofs.DriverCount.{few_drivers}
+use Rattle.opgen_read.proofs.SymbolsIn.{symbols_in-tokens, few_symbols}
 
 module _ (bytes : List ℕ) (h : HasTokens bytes) where
   same : symbols_in bytes ≡ symbols bytes h.tokens
   same = symbols_in-tokens bytes h.tokens h.cut
 
-  pub whole-read : (r : Reading) → Follows Library nothing (pieces (symbols_in bytes)) End r → Statements bytes r
+  whole-read : (r : Reading) → Follows Library nothing (pieces (symbols_in bytes)) End r → Statements bytes r
   whole-read r f = record {
     tokens = h.tokens;
     cut = h.cut;
@@ -37,6 +41,24 @@ module _ (bytes : List ℕ) (h : HasTokens bytes) where
     piece = s.piece;
   }
 
-  pub whole-fault : (fault : PieceFault) → IsPieceFault (symbols_in bytes) fault → IsTextFault bytes (text_fault fault)
-  whole-fault Memory f = tt
-  whole-fault (Syntax k) f = whole-stops k f
+  fault_of : (fault : ReadFault) → IsPieceFault (symbols_in bytes) fault → IsTextFault bytes fault
+  fault_of (Lexical offset) f = absurd f
+  fault_of (Syntax k) f = whole-stops k f
+  fault_of TooLarge f = f
+  fault_of (Unsound rule item) f = f
+  fault_of Memory f = tt
+
+  abbrev HasRead : Result Draft ReadFault → Type 0
+  HasRead read = IfOk read (λ d. Follows Library nothing (pieces (symbols_in bytes)) End (seen d))
+
+  pub read_ok : (read : Result Draft ReadFault) → HasRead read → IfOk read (λ d. Statements bytes (seen d))
+  read_ok (Ok d) f = whole-read (seen d) f
+  read_ok (Err e) f = tt
+
+  pub read_few : (read : Result Draft ReadFault) → HasRead read → length bytes ≤ 67108864 → IfOk read (λ d. HasFew (seen d).design)
+  read_few (Ok d) f few = omega (arith, few_drivers (symbols_in bytes) f refl, few_symbols bytes, few)
+  read_few (Err e) f few = tt
+
+  pub read_err : (read : Result Draft ReadFault) → IfErr read (IsPieceFault (symbols_in bytes)) → IfErr read (IsTextFault bytes)
+  read_err (Ok d) f = tt
+  read_err (Err e) f = fault_of e f

@@ -4,10 +4,8 @@ use Rattle.opgen_vhdl.specs.declared.place.Place.{Place}
 use Rattle.opgen_vhdl.specs.declared.place.Place.TheVariants.{Library}
 use Rattle.opgen_vhdl.specs.Symbols.{Symbol, pieces}
 use Rattle.opgen_vhdl.specs.Statements.{Reading, nothing, Follows, Stops}
-use Rattle.opgen_read.specs.declared.pieces.PieceFault.{PieceFault}
-use Rattle.opgen_read.specs.declared.pieces.PieceFault.TheVariants.{Memory, Syntax}
 use Rattle.opgen_read.specs.declared.fault.ReadFault.{ReadFault}
-use Rattle.opgen_read.specs.declared.fault.ReadFault.TheVariants as faults
+use Rattle.opgen_read.specs.declared.fault.ReadFault.TheVariants.{Lexical, Syntax, TooLarge, Unsound, Memory}
 
 -- so many pieces were taken, and these symbols are left
 pub record Reached (whole rest : List Symbol) (place : Place) (r : Reading) (n : ℕ) : Type 0 where
@@ -27,11 +25,10 @@ pub record StopsAt (whole : List Symbol) (k : ℕ) : Type 0 where
   pub stops : Stops place read left
   pub piece : k ≡ length taken + 1
 
--- the fault of a text that a fault of its pieces is
-abbrev pub text_fault : PieceFault → ReadFault
-text_fault Memory = faults.Memory
-text_fault (Syntax k) = faults.Syntax k
-
-abbrev pub IsPieceFault : List Symbol → PieceFault → Type 0
-IsPieceFault whole Memory = Unit {0}
+-- a fault of the pieces; want of memory says nothing of them
+abbrev pub IsPieceFault : List Symbol → ReadFault → Type 0
+IsPieceFault whole (Lexical offset) = ⊥
 IsPieceFault whole (Syntax k) = StopsAt whole k
+IsPieceFault whole TooLarge = ⊥
+IsPieceFault whole (Unsound rule item) = ⊥
+IsPieceFault whole Memory = Unit {0}

@@ -17,38 +17,7 @@ use crate::fault::ReadFault;
 use crate::refusal::Refusal;
 use crate::take::take;
 use opgen_vhdl::Place;
-use std::alloc::{AllocError, Global};
-
-/// Why pieces were not read: memory ran out, or a piece, by its number from 1, is none that its
-/// place takes.
-#[derive(Clone, Copy, Debug, PartialEq, Eq, Drop)]
-pub enum PieceFault {
-    Memory,
-    Syntax { piece: u32 },
-}
-
-impl From<AllocError> for PieceFault {
-    ghost use Rattle.opgen_read.specs.declared.pieces.PieceFault.TheVariants as faults;
-
-    ghost from_gives = { λ _ e. e ≡ faults.Memory };
-
-    fn from(_e: AllocError) -> PieceFault {
-        PieceFault::Memory
-    }
-}
-
-impl From<PieceFault> for ReadFault {
-    ghost use Rattle.opgen_read.specs.Reached.{text_fault};
-
-    ghost from_gives = { λ fault e. e ≡ text_fault fault };
-
-    fn from(fault: PieceFault) -> ReadFault {
-        match fault {
-            PieceFault::Memory => ReadFault::Memory,
-            PieceFault::Syntax { piece } => ReadFault::Syntax { piece },
-        }
-    }
-}
+use std::alloc::Global;
 
 // One piece at its place, by its number.
 fn step(
@@ -57,18 +26,18 @@ fn step(
     place: Place,
     piece: Cursor<'_>,
     number: u32,
-) -> Result<(Place, Draft), PieceFault>
+) -> Result<(Place, Draft), ReadFault>
     ensures { Steps result number (takes_at place (seen draft) (left piece.entry)) }
 {
     match take(alloc, draft, place, piece) {
         Ok(next) => Ok(next),
-        Err(Refusal::Memory) => Err(PieceFault::Memory),
-        Err(Refusal::Refused) => Err(PieceFault::Syntax { piece: number }),
+        Err(Refusal::Memory) => Err(ReadFault::Memory),
+        Err(Refusal::Refused) => Err(ReadFault::Syntax { piece: number }),
     }
 }
 
 /// What the pieces of a text say. It is left at what stands behind the last that was read.
-pub fn read_pieces(alloc: Global, text: &mut &[u8]) -> Result<Draft, PieceFault>
+pub fn read_pieces(alloc: Global, text: &mut &[u8]) -> Result<Draft, ReadFault>
     requires { length text.old.now ≤ 67108864 }
     ensures ok { IfOk result (λ d. Follows Library nothing (pieces (symbols_in text.old.now)) End (seen d)) }
     ensures err { IfErr result (IsPieceFault (symbols_in text.old.now)) }
@@ -85,6 +54,6 @@ pub fn read_pieces(alloc: Global, text: &mut &[u8]) -> Result<Draft, PieceFault>
     if place == Place::End {
         Ok(draft)
     } else {
-        Err(PieceFault::Syntax { piece: taken + 1 })
+        Err(ReadFault::Syntax { piece: taken + 1 })
     }
 }

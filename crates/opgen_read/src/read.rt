@@ -33,7 +33,7 @@ fn statements(alloc: Global, bytes: &[u8]) -> Result<Draft, ReadFault>
         let offset = (bytes.len() - rest.len()) as u64 + at;
         return Err(ReadFault::Lexical { offset });
     }
-    Ok(read?)
+    read
 }
 
 fn is_within_limits(design: &Design) -> bool
