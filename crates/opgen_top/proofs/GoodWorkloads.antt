@@ -1,10 +1,9 @@
 -- All cycles of a workload from the latency on are good.
-use Rattle.std.proofs.Common.{◌≡◌, ℕ, zero, suc, ◌+◌, ◌-◌, ◌*◌, ◌<◌, ◌≤◌, false, List, [], ◌∷◌, length, map, drop, Some, refl, sym, ap, ◌∙◌, subst, arith}
-use Rattle.std.specs.Prelude.{slice_get, slice_index, pos, codes}
-use Rattle.std.specs.List.{concat}
+use Rattle.std.proofs.Common.{◌≡◌, ℕ, zero, suc, ◌+◌, ◌-◌, ◌<◌, ◌≤◌, false, List, [], ◌∷◌, length, map, drop, Some, refl, sym, ap, ◌∙◌, subst, arith}
+use Rattle.std.specs.Prelude.{slice_get, codes}
 use Rattle.std.proofs.lemmas.List.Elements.{All-cons, All-nil}
 use Rattle.opgen_design.specs.declared.design.Design.{Design}
-use Rattle.opgen_design.specs.Run.{Words, at_ports, is_in, is_out, initial_words, input_widths}
+use Rattle.opgen_design.specs.Run.{at_ports, is_in, is_out, initial_words, input_widths}
 use Rattle.opgen_operator.specs.Ports.{inputs_of, port, sum_format}
 use Rattle.opgen_target.specs.Delays.{Delays}
 use Rattle.opgen_vec.proofs.Draws.{rows_fit}
@@ -14,7 +13,7 @@ use Rattle.opgen_workload.proofs.Counting.{all_count, one_count}
 use Rattle.opgen_top.specs.Answer.{Answer}
 use Rattle.opgen_top.specs.Circuit.{CircuitsServe, Serves}
 use Rattle.opgen_lanes.specs.Steps.{output_widths}
-use Rattle.opgen_top.specs.Running.{output_cells, rows_words}
+use Rattle.opgen_top.specs.Running.{rows_words}
 use Rattle.opgen_top.specs.Workload.{IsWorked, WorkloadsAreGood, cycles, workload_cells}
 use Rattle.opgen_top.proofs.Columns.{length-rows_of_cells}
 use Rattle.opgen_top.proofs.FilterCells.{good_cells}

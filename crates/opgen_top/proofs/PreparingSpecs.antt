@@ -1,5 +1,5 @@
 -- From what a specification gives to what the command answers to its file.
-use Rattle.std.proofs.Common.{◌≡◌, ◌⊎◌, inl, inr, ℕ, ◌≤◌, Bool, true, false, List, length, Option, Some, Result, Ok, Err, refl, sym, ap, subst, arith}
+use Rattle.std.proofs.Common.{◌≡◌, ◌⊎◌, inl, inr, ℕ, ◌≤◌, Bool, false, List, length, Option, Some, Result, Ok, Err, refl, sym, ap, subst, arith}
 use Rattle.std.specs.Prelude.{◌≢◌, IsTrue}
 use Rattle.opgen_command.specs.declared.command.Command.{Command}
 use Rattle.opgen_command.specs.declared.command.Command.TheVariants.{Generate, Vectors}

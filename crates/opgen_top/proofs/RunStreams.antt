@@ -1,5 +1,5 @@
 -- Runs over rows, many cycles at a time: without registers a cycle says nothing of the words before it and after it.
-use Rattle.std.proofs.Common.{◌≡◌, ℕ, zero, suc, ◌+◌, ◌-◌, ◌*◌, ◌<◌, ◌≤◌, Bool, true, false, not, Option, List, [], ◌∷◌, ◌++◌, length, map, take, drop, refl, sym, ap, ◌∙◌, subst, arith, append_assoc, append-nil, get_or}
+use Rattle.std.proofs.Common.{◌≡◌, ℕ, zero, suc, ◌+◌, ◌-◌, ◌*◌, ◌<◌, ◌≤◌, Bool, true, not, Option, List, [], ◌∷◌, ◌++◌, length, map, take, drop, refl, sym, ap, ◌∙◌, subst, arith, append_assoc, append-nil, get_or}
 use Rattle.std.specs.Prelude.{All, nat_lt}
 use Rattle.std.specs.List.{flat_map, range_with_len, list_all}
 use Rattle.std.proofs.lemmas.List.Elements.{All-nil, All-cons}

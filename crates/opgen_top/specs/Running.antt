@@ -5,7 +5,7 @@ use Rattle.opgen_num.specs.Words.{nat}
 use Rattle.opgen_design.specs.declared.design.Design.{Design}
 use Rattle.opgen_design.specs.declared.design.Dir.{Dir}
 use Rattle.opgen_design.specs.declared.design.Dir.TheVariants.{In, Out}
-use Rattle.opgen_design.specs.Run.{Words, RunsOn, initial_words, at_ports, is_in, is_out, input_widths, outputs_of}
+use Rattle.opgen_design.specs.Run.{Words, RunsOn, initial_words, is_in, is_out, input_widths, outputs_of}
 use Rattle.opgen_runs.specs.Step.{words_of}
 use Rattle.opgen_lanes.specs.Steps.{output_widths}
 use Rattle.opgen_vec.specs.Writing.{rows_text}

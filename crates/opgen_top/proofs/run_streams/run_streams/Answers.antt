@@ -1,6 +1,5 @@
 use Rattle.std.proofs.Common.{◌≡◌, ℕ, ◌+◌, ◌-◌, ◌*◌, ◌<◌, ◌≤◌, ◌++◌, drop, length, sym, subst, ap, ◌∙◌, arith}
 use Rattle.std.specs.Prelude.{All}
-use Rattle.std.specs.List.{sum}
 use Rattle.opgen_design.specs.Run.{initial_words, input_widths, is_out}
 use Rattle.opgen_lanes.specs.Steps.{IsStepIn, output_widths}
 use Rattle.opgen_streams.specs.Streams.{streams, words_in}
