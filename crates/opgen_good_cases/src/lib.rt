@@ -1,6 +1,8 @@
-//! Judged cycles and drawn stimuli of specifications: tests alone.
+//! Documents, judged cycles and drawn stimuli of specifications: tests alone.
 #![tactic(auto)]
 
+#[cfg(test)]
+mod documents;
 #[cfg(test)]
 mod draws;
 #[cfg(test)]

@@ -8,8 +8,6 @@ mod laws;
 mod numbers;
 mod sim;
 mod tables;
-#[cfg(test)]
-mod tests;
 mod walker;
 
 pub use engine::FEW_CYCLES;

@@ -24,6 +24,3 @@ pub const MAX_ROWS: u32 = 100_000;
 
 // How many numbers 64 bits may say.
 const WORD_NUMBERS: u128 = 1 << 64;
-
-#[cfg(test)]
-mod tests;

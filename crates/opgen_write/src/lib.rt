@@ -8,8 +8,6 @@ mod law;
 mod page;
 mod sink;
 mod statement;
-#[cfg(test)]
-mod tests;
 mod write;
 
 pub use law::{text_lengths, text_spells};

@@ -1,5 +1,5 @@
 use Rattle.std.proofs.Common.{◌≡◌}
-use Rattle.opgen_sim.proofs.tests.one_cycle_or_ten_give_the_rows_of_many.Given as goal
+use Rattle.opgen_design_cases.proofs.runs.one_cycle_or_ten_give_the_rows_of_many.Given as goal
 
 abbrev pub invariant-loop-enable : goal.invariant-loop-enable
 invariant-loop-enable g l = record {

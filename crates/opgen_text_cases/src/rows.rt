@@ -1,6 +1,9 @@
+//! Rows of words: read, refused by their first bad line, written, and put into streams and taken out of them.
 ghost use Rattle.std.specs.Prelude.{◌≡◌, ◌≤◌, [], IfOk};
 
-use crate::*;
+use opgen_vec::{
+    MAX_ROWS, VecFault, Vectors, pack, read_empty_rows, read_vectors, unpack, write_rows,
+};
 use std::alloc::{AllocError, Global};
 use std::process::Abort;
 use std::simd::u64x4;

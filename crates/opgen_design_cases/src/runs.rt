@@ -1,14 +1,16 @@
+//! Designs with one register, run cycle by cycle beside words that were worked out by hand.
 ghost use Rattle.std.specs.Prelude.{◌≡◌, ◌<◌, ◌^◌, ◌∷◌, [], IfOk, codes, length};
 ghost use Rattle.opgen_design.specs.declared.design.Dir.TheVariants.{In, Out};
 ghost use Rattle.opgen_design.specs.Sound.{HasNumbers, IsSound};
 ghost use Rattle.opgen_sim.specs.Sims.{IsNew};
 
-use crate::{Lanes, Sim};
+use crate::soundness::{assign, chain};
 use opgen_design::{Design, Dir, Driver, Expr, Formula, Op, Port, Signal, Slice};
 use opgen_lanes::copy;
 use opgen_list::{Items, Text};
 use opgen_num::{Memory, Word};
-use std::alloc::{AllocError, Global};
+use opgen_sim::{Lanes, Sim};
+use std::alloc::Global;
 use std::simd::prelude::*;
 use std::test::Fail;
 
@@ -99,23 +101,9 @@ fn circuit(
     })
 }
 
-fn assigned(expr: Expr) -> Driver {
-    Driver::Assign {
-        to: 0,
-        expr: Formula::new(expr),
-    }
-}
-
 // The register's word, as it stands at the output.
 fn register() -> Expr {
     Expr::Name(1)
-}
-
-fn chain(alloc: Global, op: Op, first: Expr, second: Expr) -> Result<Expr, AllocError> {
-    let mut operands = Vec::new(alloc);
-    operands.push(first)?;
-    operands.push(second)?;
-    Ok(Expr::Chain(op, operands))
 }
 
 #[test]
@@ -126,7 +114,7 @@ fn a_register_gives_its_input_a_cycle_later(rt: HostRuntime) -> Result<(), Fail>
         held: 2,
         y: 2,
     };
-    let input = assigned(Expr::Port(0));
+    let input = assign(0, Expr::Port(0));
     let design = circuit(rt.alloc(), widths, Word::new(1, 2), input, register(), None)?;
     let sound = design.sound(rt.alloc());
     if sound.is_ok() {
@@ -276,7 +264,7 @@ fn sums_and_differences_of_more_than_64_bits(rt: HostRuntime) -> Result<(), Fail
             case.b,
             width,
             width,
-            assigned(expr),
+            assign(0, expr),
             register(),
         )?;
         assert_eq!(rt; output, Some(case.gives));
@@ -294,7 +282,7 @@ fn joined_words_and_parts_of_96_bits(rt: HostRuntime) -> Result<(), Fail> {
         high: 94,
         low: 62,
     });
-    let output = output_of(rt.alloc(), high, low, 96, 33, assigned(joined), part)?;
+    let output = output_of(rt.alloc(), high, low, 96, 33, assign(0, joined), part)?;
     assert_eq!(rt; output, Some(0x468a_cf13));
     Ok(())
 }

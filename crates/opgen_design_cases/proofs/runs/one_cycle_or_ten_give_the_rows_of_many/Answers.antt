@@ -1,7 +1,7 @@
 use Rattle.std.proofs.Common.{◌≡◌, true, sym, ◌∙◌}
 use Rattle.std.specs.Prelude.{Result, Ok, Err, OnOk, is_ok}
 use Rattle.opgen_design.specs.Sound.{IsSound}
-use Rattle.opgen_sim.proofs.tests.one_cycle_or_ten_give_the_rows_of_many.Goals as goal
+use Rattle.opgen_design_cases.proofs.runs.one_cycle_or_ten_give_the_rows_of_many.Goals as goal
 
 -- what an `Ok` says holds where the answer is one
 where_ok : {T E : Type 0} (P : Type 0) (r : Result T E) → OnOk r P → is_ok r ≡ true → P

@@ -1,8 +1,9 @@
-use super::*;
+//! Designs made by hand, the texts that they are written as, and what a sink that fails was given of them.
 use opgen_design::{Design, Dir, Driver, Expr, Formula, Op, Port, Signal, Slice};
 use opgen_io::MemorySink;
 use opgen_list::{Items, Text};
 use opgen_num::Word;
+use opgen_write::{VecSink, WriteFault, text, write_design};
 use std::alloc::{AllocError, Global};
 use std::test::Fail;
 
