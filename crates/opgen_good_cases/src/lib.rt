@@ -1,9 +1,11 @@
-//! Judged cycles and drawn stimuli of specifications: tests alone.
+//! Judged cycles and drawn stimuli of specifications, and good roundings and least formats of numbers: tests alone.
 #![tactic(auto)]
 
 #[cfg(test)]
 mod draws;
 #[cfg(test)]
 mod good;
+#[cfg(test)]
+mod numbers;
 #[cfg(test)]
 mod wide;
