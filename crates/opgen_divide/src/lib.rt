@@ -15,9 +15,6 @@ ghost use Rattle.opgen_operator.specs.declared.spec.Operator.TheVariants.{Divide
 ghost use Rattle.opgen_divide.specs.Recipe.{with_inputs, numerator as numerator_of, digit_count, with_divisor, minuend as minuend_of, stepped, after, net_of_pair};
 ghost use Rattle.opgen_divide.specs.Steps.{HoldsAfterEachStep};
 
-#[cfg(test)]
-mod tests;
-
 use opgen_digits::{Digits, output_results, push_all, try_digit};
 use opgen_list::Items;
 use opgen_net::{Net, WordBit, push_bits, push_zeros};

@@ -8,6 +8,3 @@ mod taps;
 mod terms;
 
 pub use filter::build;
-
-#[cfg(test)]
-mod tests;

@@ -1,4 +1,4 @@
-//! Documents, judged cycles and drawn stimuli of specifications: tests alone.
+//! Documents, judged cycles and drawn stimuli of specifications, and good roundings and least formats of numbers: tests alone.
 #![tactic(auto)]
 
 #[cfg(test)]
@@ -7,5 +7,7 @@ mod documents;
 mod draws;
 #[cfg(test)]
 mod good;
+#[cfg(test)]
+mod numbers;
 #[cfg(test)]
 mod wide;

@@ -148,27 +148,3 @@ impl Heap {
         self.width
     }
 }
-
-#[cfg(test)]
-mod tests {
-    use super::*;
-    use std::test::Fail;
-
-    #[test]
-    fn bits_by_weight(rt: HostRuntime) -> Result<(), Fail> {
-        let mut heap = Heap::new(rt.alloc(), 3);
-        heap.add_bit(4, 1, 1)?;
-        heap.add_bit(4, 2, 3)?;
-        heap.add_row(5, 3, 1)?;
-        heap.add_constant(-3);
-        assert_eq!(rt; heap.columns().len(), 3);
-        assert_eq!(rt; heap.columns()[0].len(), 0);
-        assert_eq!(rt; heap.columns()[1].len(), 2);
-        assert_eq!(rt;
-            *heap.columns()[2].get(0),
-            WordBit::Of { node: 5, index: 1 }
-        );
-        assert_eq!(rt; heap.constant(), 5);
-        Ok(())
-    }
-}

@@ -1,15 +1,20 @@
 //! Words of bits of nodes: the node that answers, its expression and its number.
 use crate::evaluation::words_of;
-use opgen_net::{Net, Node, WordBit};
+use opgen_net::{Class, Net, Node, WordBit};
 use std::alloc::AllocError;
 use std::test::Fail;
 
-// The expression of a node of cells, or no text.
-fn shown(net: &Net, place: usize) -> Result<String, AllocError> {
-    let alloc = net.nodes.allocator();
+/// The expression of a node of one class, or no text.
+pub fn shown(rt: &HostRuntime, net: &Net, place: usize, of: Class) -> Result<String, AllocError> {
     match net.nodes.as_slice().get(place) {
-        Some(Node::Cells { expr, .. }) => format!(in alloc; "{:?}", expr.expr()),
-        _ => Ok(String::new(alloc)),
+        Some(
+            Node::Cells {
+                class,
+                width: _,
+                expr,
+            },
+        ) if *class == of => format!(in rt.alloc(); "{:?}", expr.expr()),
+        _ => Ok(String::new(rt.alloc())),
     }
 }
 
@@ -46,19 +51,19 @@ fn runs_of_bits(rt: HostRuntime) -> Result<(), Fail> {
     // One that falls, one that rises, and one that repeats.
     let falling = net.word(&[bit(3), bit(2), bit(1)])?;
     assert_eq!(rt;
-        *shown(&net, falling)?.as_str(),
+        *shown(&rt, &net, falling, Class::Wire)?.as_str(),
         *"Part(Slice { node: 0, high: 3, low: 1 })"
     );
     assert_eq!(rt; number(&net, falling)?, 5);
     let rising = net.word(&[bit(1), bit(2), bit(3)])?;
     assert_eq!(rt;
-        *shown(&net, rising)?.as_str(),
+        *shown(&rt, &net, rising, Class::Wire)?.as_str(),
         *"Chain(Cat, [Part(Slice { node: 0, high: 1, low: 1 }), Part(Slice { node: 0, high: 2, low: 2 }), Part(Slice { node: 0, high: 3, low: 3 })])"
     );
     assert_eq!(rt; number(&net, rising)?, 5);
     let repeated = net.word(&[bit(1), bit(1), WordBit::Of { node: y, index: 0 }])?;
     assert_eq!(rt;
-        *shown(&net, repeated)?.as_str(),
+        *shown(&rt, &net, repeated, Class::Wire)?.as_str(),
         *"Chain(Cat, [Part(Slice { node: 0, high: 1, low: 1 }), Part(Slice { node: 0, high: 1, low: 1 }), Name(1)])"
     );
     assert_eq!(rt; number(&net, repeated)?, 6);
@@ -66,7 +71,7 @@ fn runs_of_bits(rt: HostRuntime) -> Result<(), Fail> {
     // A run of constants between two runs of one node.
     let mixed = net.word(&[bit(3), bit(2), WordBit::Zero, WordBit::One, bit(1), bit(0)])?;
     assert_eq!(rt;
-        *shown(&net, mixed)?.as_str(),
+        *shown(&rt, &net, mixed, Class::Wire)?.as_str(),
         *"Chain(Cat, [Part(Slice { node: 0, high: 3, low: 2 }), Bits(Word { bits: 1, width: 2 }), Part(Slice { node: 0, high: 1, low: 0 })])"
     );
     assert_eq!(rt; number(&net, mixed)?, 38);

@@ -8,6 +8,3 @@ mod rows;
 mod table;
 
 pub use rows::rows_of;
-
-#[cfg(test)]
-mod tests;

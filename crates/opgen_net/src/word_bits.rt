@@ -218,23 +218,3 @@ impl Net {
         }
     }
 }
-
-#[cfg(test)]
-mod tests {
-    use super::*;
-    use std::test::Fail;
-
-    #[test]
-    fn words_of_an_input(rt: HostRuntime) -> Result<(), Fail> {
-        let mut net = Net::new(rt.alloc());
-        let x = net.input("x", 2)?;
-        let low = WordBit::Of { node: x, index: 0 };
-        let high = WordBit::Of { node: x, index: 1 };
-        assert_eq!(rt; net.word(&[high, low])?, 0);
-        assert_eq!(rt; net.word(&[WordBit::One, WordBit::Zero])?, 1);
-        assert_eq!(rt; net.word(&[WordBit::Zero, high, low])?, 2);
-        assert_eq!(rt; net.word(&[low])?, 3);
-        assert_eq!(rt; net.nodes.len(), 4);
-        Ok(())
-    }
-}

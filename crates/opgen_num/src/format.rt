@@ -131,28 +131,3 @@ fn magnitude(lo: i128, hi: i128) -> u128
 {
     (!lo).max(hi).unsigned_abs()
 }
-
-#[cfg(test)]
-mod tests {
-    use super::*;
-    use std::test::Fail;
-
-    fn format(signed: bool, width: u32, lsb: i32) -> Option<Format> {
-        Some(Format { signed, width, lsb })
-    }
-
-    #[test]
-    fn least_formats(rt: HostRuntime) -> Result<(), Fail> {
-        let half: i128 = 1 << 95;
-        assert_eq!(rt; cover(0, 0, 0), format(false, 1, 0));
-        assert_eq!(rt; cover(-1, 0, 0), format(true, 2, 0));
-        assert_eq!(rt; cover(-half, half - 1, 64), format(true, 96, 64));
-        assert_eq!(rt; cover(-half, half, 0), None);
-        assert_eq!(rt; cover(0, 2 * half - 1, -64), format(false, 96, -64));
-        assert_eq!(rt; cover(0, 2 * half, 0), None);
-        assert_eq!(rt; cover(i128::MIN, i128::MAX, 0), None);
-        assert_eq!(rt; least_width(i128::MIN, i128::MAX), 128);
-        assert_eq!(rt; least_width(i128::MAX, i128::MAX), 127);
-        Ok(())
-    }
-}

@@ -16,9 +16,6 @@ ghost use Rattle.opgen_operator.specs.declared.spec.Operator.TheVariants.{Root};
 ghost use Rattle.opgen_sqrt.specs.Recipe.{with_input, radicand as radicand_of, stepped, after, net_of_single};
 ghost use Rattle.opgen_sqrt.specs.Steps.{HoldsAfterEachStep};
 
-#[cfg(test)]
-mod tests;
-
 use opgen_digits::{Digits, output_results, push_all, try_digit};
 use opgen_list::Items;
 use opgen_net::{Net, WordBit, push_bits, push_zeros};

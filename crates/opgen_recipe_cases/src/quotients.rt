@@ -1,23 +1,10 @@
-use crate::build;
-use opgen_net::{Class, Net, Node};
+//! The net of a quotient, worked out by hand.
+use crate::printing::shown;
+use opgen_divide::build;
+use opgen_net::{Class, Node};
 use opgen_num::Format;
 use opgen_operator::Pair;
-use std::alloc::AllocError;
 use std::test::Fail;
-
-// The expression of a node of one class, as it is printed for a reader of tests.
-fn shown(rt: &HostRuntime, net: &Net, place: usize, of: Class) -> Result<String, AllocError> {
-    match net.nodes.as_slice().get(place) {
-        Some(
-            Node::Cells {
-                class,
-                width: _,
-                expr,
-            },
-        ) if *class == of => format!(in rt.alloc(); "{:?}", expr.expr()),
-        _ => Ok(String::new(rt.alloc())),
-    }
-}
 
 // One bit by one bit: two inputs, the divisor's word, and one step.
 #[test]

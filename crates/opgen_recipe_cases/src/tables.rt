@@ -1,7 +1,6 @@
-// Tables worked out by hand.
-
-use crate::rows_of;
+//! Tables of a coefficient, worked out by hand.
 use opgen_heap::Heap;
+use opgen_kcm::rows_of;
 use opgen_net::{Net, Node, WordBit};
 use opgen_num::Ratio;
 use std::test::Fail;

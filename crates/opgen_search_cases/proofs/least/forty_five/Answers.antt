@@ -7,7 +7,7 @@ use Rattle.opgen_operator.specs.declared.spec.Several.{Several}
 use Rattle.opgen_operator.specs.Accepted.{IsAcceptedSeveral}
 use Rattle.opgen_operator.specs.Outputs.{inexact, need}
 use Rattle.opgen_operator.specs.Ranges.{IsWithin}
-use Rattle.opgen_search.proofs.tests.forty_five.Goals as goal
+use Rattle.opgen_search_cases.proofs.least.forty_five.Goals as goal
 
 abbrev by : List ℤ → Several
 by constants = record { input = record { signed = false; width = 4; lsb = pos 0 }; constants = constants; extra = 1 }

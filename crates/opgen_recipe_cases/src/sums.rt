@@ -1,6 +1,5 @@
-// A net worked out by hand.
-
-use crate::build;
+//! The net of a scale, worked out by hand.
+use opgen_fir::build;
 use opgen_list::Items;
 use opgen_net::{Class, Node};
 use opgen_num::Format;

@@ -7,7 +7,7 @@ use Rattle.opgen_operator.specs.declared.spec.Sum.{Sum}
 use Rattle.opgen_operator.specs.Accepted.{IsAcceptedSum}
 use Rattle.opgen_operator.specs.Outputs.{inexact, need}
 use Rattle.opgen_operator.specs.Ranges.{IsWithin}
-use Rattle.opgen_fir.proofs.tests.third.Goals as goal
+use Rattle.opgen_recipe_cases.proofs.sums.third.Goals as goal
 
 abbrev third : List ℤ → Sum
 third coefs = record {

@@ -6,7 +6,7 @@ use Rattle.opgen_net.specs.Valid.{widths}
 use Rattle.opgen_kcm.specs.Entries.{in_guard_units}
 use Rattle.opgen_kcm.specs.Recipe.{input_width, HasNarrowRows}
 use Rattle.opgen_kcm.proofs.Narrow.{narrow}
-use Rattle.opgen_kcm.proofs.tests.third.Goals as goal
+use Rattle.opgen_recipe_cases.proofs.tables.third.Goals as goal
 
 -- the greatest multiple is 30 / 3, which has four bits
 pub rows_of-requires-clause-narrow : goal.rows_of-requires-clause-narrow
