@@ -2,7 +2,7 @@
 use Rattle.std.specs.Str.{IsUtf8}
 use Rattle.std.specs.List.{list_all}
 use Rattle.std.specs.Char.{is_ascii_lowercase, is_ascii_digit, to_ascii_lowercase}
-use Rattle.std.proofs.Common.{◌≡◌, inl, inr, ℕ, zero, suc, ◌<◌, ◌&&◌, ◌||◌, true, false, nat_le, List, [], ◌∷◌, length, map, refl, arith}
+use Rattle.std.proofs.Common.{◌≡◌, inl, inr, ℕ, zero, suc, ◌<◌, ◌≤◌, ◌&&◌, ◌||◌, true, false, nat_le, List, [], ◌∷◌, length, map, refl, arith}
 use Rattle.std.proofs.lemmas.Bool.{and_parts, or_cases, leb-true, eqb-true, false_from_ne_true}
 use Rattle.std.proofs.lemmas.Str.{IsUtf8-from_ascii}
 use Rattle.std.proofs.lemmas.Str.Ascii.{lowercase_is}
@@ -29,6 +29,12 @@ name-ascii bs h =
     let (r, s) = and_parts (nat_le (length bs) 64) (is_identifier bs) p in
     let (t, u) = and_parts (starts_with_letter bs && list_all is_name_byte bs) (has_single_underscores bs) s in
     (and_parts (starts_with_letter bs) (list_all is_name_byte bs) t).1
+
+-- a name has at most 64 bytes
+pub allowed-short : (bs : List ℕ) → is_allowed_name bs ≡ true → length bs ≤ 64
+allowed-short bs h =
+    let (p, q) = and_parts (nat_le (length bs) 64 && is_identifier bs) _ h in
+    leb-true (length bs) 64 (and_parts (nat_le (length bs) 64) (is_identifier bs) p).0
 
 -- what is no UTF-8 is no name
 pub no_name : (bs : List ℕ) → (IsUtf8 bs → ⊥) → is_allowed_name bs ≡ false

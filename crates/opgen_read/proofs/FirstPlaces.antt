@@ -2,7 +2,7 @@
 use Rattle.std.specs.Prelude.{position, is_some, IfSome}
 use Rattle.std.specs.Option.{option_copied}
 use Rattle.std.specs.List.{position_or_len}
-use Rattle.std.proofs.Common.{Bor, map, ◌≡◌, inl, inr, ℕ, ◌+◌, ◌≤◌, Bool, true, false, cond, List, [], ◌∷◌, ◌++◌, length, Option, Some, None, refl, ap, sym, ◌∙◌, arith, length-append}
+use Rattle.std.proofs.Common.{Bor, map, ◌≡◌, inl, inr, ℕ, ◌+◌, ◌<◌, ◌≤◌, Bool, true, false, cond, List, [], ◌∷◌, ◌++◌, length, Option, Some, None, refl, ap, sym, ◌∙◌, arith, length-append}
 use Rattle.std.specs.Map.{update}
 use Rattle.std.specs.Str.{bytes_eq}
 use Rattle.std.proofs.lemmas.Slice.Eq.{bytes_eq-Decides}
@@ -11,6 +11,7 @@ use Rattle.std.proofs.lemmas.List.Sums.{prefix_len-le-length}
 use Rattle.std.proofs.lemmas.List.Folds.{position_or_len_push}
 use Rattle.std.proofs.lemmas.List.{length-map, map_push}
 use Rattle.opgen_names.specs.Names.{is_allowed_name}
+use Rattle.opgen_read.proofs.AllowedNames.{allowed-short}
 use Rattle.opgen_read.specs.Places.{noted_at}
 
 module _ {X : Type 0} (p : X → Bool) where
@@ -119,6 +120,15 @@ one_declared name_of items more item f m n k e named count finds noted q =
     ∙ ap (noted_at (position (bytes_eq q) names) (bytes_eq q (name_of item))) (count ∙ sym (length-map items name_of))
     ∙ sym (position_push (bytes_eq q) names (name_of item))
     ∙ ap (position (bytes_eq q)) (sym (map_push name_of items item) ∙ ap (map name_of) (sym e))
+
+-- a map that knows allowed names alone leads from no longer name to any place
+pub none_of_long : (f : List ℕ → Option ℕ) (n : List ℕ) → ((q : List ℕ) (k : ℕ) → f q ≡ Some k → is_allowed_name q ≡ true)
+    → 64 < length n → f n ≡ None
+none_of_long f n known long = go (f n) refl
+  where
+    go : (o : Option ℕ) → f n ≡ o → o ≡ None
+    go None e = refl
+    go (Some k) e = absurd (omega (arith, allowed-short n (known n k e), long))
 
 -- a name that is found in a map that knows allowed names alone
 pub found_allowed : (f : List ℕ → Option ℕ) (n : List ℕ) (o : Option ℕ)

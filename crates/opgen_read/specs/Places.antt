@@ -1,16 +1,21 @@
 -- The places of names in a list, as a map finds them.
-use Rattle.std.specs.Prelude.{◌≡◌, ℕ, Bool, List, Option, Some, None, IsTrue, position, String, if◌then◌else◌}
+use Rattle.std.specs.Prelude.{◌≡◌, ℕ, Bool, List, Option, Some, None, IsTrue, position, if◌then◌else◌}
 use Rattle.std.specs.Str.{bytes_eq}
-use Rattle.indexmap.specs.IndexMap.{IndexMap, get_by_text}
+use Rattle.arrayvec.specs.ArrayString.{ArrayString}
+use Rattle.indexmap.specs.IndexMap.{IndexMap, get_by}
 use Rattle.opgen_names.specs.Names.{is_allowed_name}
 
+-- where the map leads from a name
+abbrev pub leads : {S : Type 0} → IndexMap ArrayString ℕ S → List ℕ → Option ℕ
+leads first q = get_by (λ k. bytes_eq q k.bytes) first
+
 -- the map leads from each name to its first place in the list, and from no other name to any
-abbrev pub FindsEach : {A S : Type 0} → IndexMap (String A) ℕ S → List (List ℕ) → Type 0
-FindsEach first names = (q : List ℕ) → get_by_text first q ≡ position (bytes_eq q) names
+abbrev pub FindsEach : {S : Type 0} → IndexMap ArrayString ℕ S → List (List ℕ) → Type 0
+FindsEach first names = (q : List ℕ) → leads first q ≡ position (bytes_eq q) names
 
 -- each name that the map knows is an allowed one
-abbrev pub KnowsAllowed : {A S : Type 0} → IndexMap (String A) ℕ S → Type 0
-KnowsAllowed first = (q : List ℕ) (k : ℕ) → get_by_text first q ≡ Some k → IsTrue (is_allowed_name q)
+abbrev pub KnowsAllowed : {S : Type 0} → IndexMap ArrayString ℕ S → Type 0
+KnowsAllowed first = (q : List ℕ) (k : ℕ) → leads first q ≡ Some k → IsTrue (is_allowed_name q)
 
 -- where a name is found once another declaration stands at a place, under the same name or not
 abbrev pub noted_at : Option ℕ → (same : Bool) → ℕ → Option ℕ

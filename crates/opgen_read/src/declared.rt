@@ -1,15 +1,21 @@
 // Declarations in order, found by their names.
 
-ghost use Rattle.std.specs.Prelude.{◌≡◌, IfOk, List, ℕ};
+ghost use Rattle.std.specs.Prelude.{◌≡◌, ◌≤◌, IfOk, List, ℕ, length};
 ghost use Rattle.std.specs.Str.{bytes_eq};
-ghost use Rattle.indexmap.specs.IndexMap.{get_by_text};
-ghost use Rattle.opgen_read.specs.Places.{noted_at};
+ghost use Rattle.opgen_names.specs.declared.TheConstants.{MAX_NAME_LEN};
+ghost use Rattle.opgen_read.specs.Places.{leads, noted_at};
 
+use crate::read::MAX_SIGNALS;
+use arrayvec::ArrayString;
 use indexmap::IndexMap;
 use opgen_design::{Port, Signal};
 use opgen_list::Items;
+use opgen_names::MAX_NAME_LEN;
 use std::alloc::{AllocError, Global};
 use std::marker::Model;
+
+/// A name as a key that holds its bytes itself, so that no look-up follows a pointer to them.
+type Key = ArrayString<MAX_NAME_LEN>;
 
 /// What is declared under a name.
 pub trait Named {
@@ -41,7 +47,7 @@ impl Named for Signal {
 #[derive(Drop)]
 pub struct Declared<T: Named> {
     items: Items<T>,
-    first: IndexMap<String, usize>,
+    first: IndexMap<Key, usize>,
 }
 
 impl<T: Named> Model for Declared<T> {
@@ -59,7 +65,7 @@ impl<T: Named> Model for Declared<T> {
 }
 
 impl<T: Named + Drop> Declared<T> {
-    ghost use Rattle.std.specs.Prelude.{◌≡◌, IfOk, IfSome, IsTrue, ◌++◌, ◌∷◌, [], map};
+    ghost use Rattle.std.specs.Prelude.{◌≡◌, IfOk, IfSome, IsTrue, ◌++◌, ◌∷◌, [], map, position};
     ghost use Rattle.opgen_names.specs.Names.{is_allowed_name};
     ghost use Rattle.opgen_vhdl.specs.Grammar.{place_of};
 
@@ -76,34 +82,53 @@ impl<T: Named + Drop> Declared<T> {
     pub fn place(&self, name: &str) -> usize
         ensures { result ≡ place_of (map T.name_of self.now) name.now }
     {
-        match self.first.get(name) {
-            Some(place) => *place,
+        match self.find(name) {
+            Some(place) => place,
             None => self.items.len(),
         }
     }
 
     /// The place of the first declaration of this name, which is allowed then.
     pub fn find(&self, name: &str) -> Option<usize>
+        ensures value { result ≡ position (bytes_eq name.now) (map T.name_of self.now) }
         ensures place { IfSome result (λ k. k ≡ place_of (map T.name_of self.now) name.now) }
         ensures allowed { IfSome result (λ _. IsTrue (is_allowed_name name.now)) }
     {
-        self.first.get(name).copied()
+        let first = &self.first;
+        if name.len() > MAX_NAME_LEN {
+            return None;
+        }
+        first.get(&key_of(name)).copied()
+    }
+
+    /// The place of the first declaration of this name, which is allowed then, where the name ends in its own number among the
+    /// names. Texts that a generator wrote mostly number their signals in order, and such a name is found without its hash.
+    pub fn find_by_number(&self, name: &[u8]) -> Option<usize>
+        ensures place { IfSome result (λ k. k ≡ place_of (map T.name_of self.now) name.now) }
+        ensures allowed { IfSome result (λ _. IsTrue (is_allowed_name name.now)) }
+    {
+        let (key, place) = self.first.get_index(number_behind(name)?)?;
+        if key.as_str().as_bytes() == name {
+            Some(*place)
+        } else {
+            None
+        }
     }
 
     /// Whether there is a declaration of this name, which is allowed then.
     pub fn has(&self, name: &str) -> bool
         ensures { IsTrue result → IsTrue (is_allowed_name name.now) }
     {
-        self.first.get(name).is_some()
+        self.find(name).is_some()
     }
 
     /// The declarations with one more.
-    pub fn declare(self, alloc: Global, item: T) -> Result<Declared<T>, AllocError>
+    pub fn declare(self, item: T) -> Result<Declared<T>, AllocError>
         requires { IsTrue (is_allowed_name (T.name_of item)) }
         ensures { IfOk result (λ d. d ≡ self ++ item ∷ []) }
     {
         let Declared { mut items, first } = self;
-        let first = noted(alloc, first, item.name(), items.len())?;
+        let first = noted(first, item.name(), items.len())?;
         items.push(item)?;
         Ok(Declared { items, first })
     }
@@ -115,20 +140,42 @@ impl<T: Named + Drop> Declared<T> {
     }
 }
 
+fn key_of(name: &str) -> Key
+    requires { length name.now ≤ MAX_NAME_LEN }
+    ensures { result.bytes ≡ name.now }
+{
+    let mut key = ArrayString::new();
+    key.push_str(name);
+    key
+}
+
+// The number that stands behind a letter, where it can be that of a signal.
+fn number_behind(name: &[u8]) -> Option<usize> {
+    let (_letter, digits) = name.split_first()?;
+    let mut number = 0;
+    'digits: for digit in digits {
+        if !digit.is_ascii_digit() || number > MAX_SIGNALS {
+            return None;
+        }
+        number = number * 10 + (*digit - b'0') as usize;
+    }
+    Some(number)
+}
+
 /// The map with a place for a name, unless it leads somewhere already.
 fn noted(
-    alloc: Global,
-    first: IndexMap<String, usize>,
+    first: IndexMap<Key, usize>,
     name: &str,
     place: usize,
-) -> Result<IndexMap<String, usize>, AllocError>
-    ensures { IfOk result (λ m. (q : List ℕ) → get_by_text m q ≡ noted_at (get_by_text first q) (bytes_eq q name.now) place) }
+) -> Result<IndexMap<Key, usize>, AllocError>
+    requires { length name.now ≤ MAX_NAME_LEN }
+    ensures { IfOk result (λ m. (q : List ℕ) → leads m q ≡ noted_at (leads first q) (bytes_eq q name.now) place) }
 {
     let mut first = first;
-    if first.get(name).is_some() {
+    let key = key_of(name);
+    if first.get(&key).is_some() {
         return Ok(first);
     }
-    let key = String::from_str(alloc, name)?;
     first.insert(key, place)?;
     Ok(first)
 }

@@ -58,21 +58,21 @@ impl Draft {
         draft
     }
 
-    pub fn with_port(self, alloc: Global, port: Port) -> Result<Draft, AllocError>
+    pub fn with_port(self, port: Port) -> Result<Draft, AllocError>
         requires { IsTrue (is_allowed_name port.name) }
         ensures { IfOk result (λ d. seen d ≡ with_port (seen self) port) }
     {
         let mut draft = self;
-        draft.ports = draft.ports.declare(alloc, port)?;
+        draft.ports = draft.ports.declare(port)?;
         Ok(draft)
     }
 
-    pub fn with_signal(self, alloc: Global, signal: Signal) -> Result<Draft, AllocError>
+    pub fn with_signal(self, signal: Signal) -> Result<Draft, AllocError>
         requires { IsTrue (is_allowed_name signal.name) }
         ensures { IfOk result (λ d. seen d ≡ with_signal (seen self) signal) }
     {
         let mut draft = self;
-        draft.signals = draft.signals.declare(alloc, signal)?;
+        draft.signals = draft.signals.declare(signal)?;
         Ok(draft)
     }
 

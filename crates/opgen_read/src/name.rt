@@ -3,6 +3,7 @@
 ghost use Rattle.std.specs.Prelude.{◌≡◌, IfOk, IfSome, IsTrue, map, Some, None, if◌then◌else◌};
 ghost use Rattle.std.specs.Char.{to_ascii_lowercase};
 ghost use Rattle.opgen_names.specs.Names.{is_allowed_name};
+ghost use Rattle.opgen_vhdl.specs.Grammar.{place_of};
 ghost use Rattle.opgen_vhdl.specs.Reader.{name_at};
 ghost use Rattle.opgen_read.specs.Left.{left};
 ghost use Rattle.opgen_read.specs.Gives.{Gives};
@@ -69,6 +70,20 @@ pub fn name<'a>(
     }
 }
 
+// The place of the signal that is declared under just these bytes, which are an allowed name then.
+fn declared_place(signals: &Declared<Signal>, text: &[u8]) -> Option<usize>
+    ensures place { IfSome result (λ k. k ≡ place_of (map (λ s. s.name) signals.now) text.now) }
+    ensures allowed { IfSome result (λ _. IsTrue (is_allowed_name text.now)) }
+{
+    match signals.find_by_number(text) {
+        Some(place) => Some(place),
+        None => match str::from_utf8(text) {
+            Ok(name) => signals.find(name),
+            Err(_) => None,
+        },
+    }
+}
+
 // The place of the signal whose name stands at the front just as it was declared, and what is left behind it.
 fn as_declared<'a>(signals: &Declared<Signal>, rest: Cursor<'a>) -> Option<(usize, Cursor<'a>)>
     ensures { IfSome result (IsPlace (map (λ s. s.name) signals.now) (name_at (left rest.entry))) }
@@ -77,10 +92,7 @@ fn as_declared<'a>(signals: &Declared<Signal>, rest: Cursor<'a>) -> Option<(usiz
     if !same_kind(kind, TokenKind::Word) {
         return None;
     }
-    let Ok(name) = str::from_utf8(text) else {
-        return None;
-    };
-    let place = signals.find(name)?;
+    let place = declared_place(signals, text)?;
     Some((place, Cursor::new(behind)))
 }
 

@@ -70,7 +70,7 @@ fn ports(alloc: Global, draft: Draft, piece: Cursor<'_>) -> Step
     };
     match end {
         None => Err(Refusal::Refused),
-        Some(_end) => Ok((next, draft.with_port(alloc, port)?)),
+        Some(_end) => Ok((next, draft.with_port(port)?)),
     }
 }
 
@@ -122,7 +122,7 @@ fn declarations(alloc: Global, draft: Draft, piece: Cursor<'_>) -> Step
         Some(rest) => body(alloc, draft, rest),
         None => {
             let signal = signal(alloc, piece)?;
-            Ok((Place::Declarations, draft.with_signal(alloc, signal)?))
+            Ok((Place::Declarations, draft.with_signal(signal)?))
         }
     }
 }

@@ -1,6 +1,7 @@
 //! Rows of words: read, refused by their first bad line, written, and put into streams and taken out of them.
 ghost use Rattle.std.specs.Prelude.{◌≡◌, ◌≤◌, [], IfOk};
 
+use opgen_streams::{STREAMS, bit_in};
 use opgen_vec::{
     MAX_ROWS, VecFault, Vectors, pack, read_empty_rows, read_vectors, unpack, write_rows,
 };
@@ -168,6 +169,21 @@ fn packs_rows_and_zeros(rt: HostRuntime) -> Result<(), Fail> {
     pack(&rows, 256, &[4], &mut lanes);
     for lane in lanes.iter() {
         assert_eq!(rt; lane.to_array(), [1, 0, 0, 0]);
+    }
+    Ok(())
+}
+
+#[test]
+fn packs_each_bit_of_each_row(rt: HostRuntime) -> Result<(), Fail> {
+    let rows = falling(rt.alloc())?;
+    let mut lanes = [u64x4::splat(0); 4];
+    pack(&rows, 0, &[4], &mut lanes);
+    for stream in 0..STREAMS {
+        let number = 15 - stream % 16;
+        assert_eq!(rt; bit_in(&lanes[0], stream), number % 2 == 1);
+        assert_eq!(rt; bit_in(&lanes[1], stream), number / 2 % 2 == 1);
+        assert_eq!(rt; bit_in(&lanes[2], stream), number / 4 % 2 == 1);
+        assert_eq!(rt; bit_in(&lanes[3], stream), number / 8 % 2 == 1);
     }
     Ok(())
 }

@@ -1,13 +1,13 @@
 use Rattle.std.proofs.Common.{◌≡◌, ◌∙◌, true, ap}
-use Rattle.indexmap.specs.IndexMap.{get_by_text}
 use Rattle.opgen_names.specs.Names.{is_allowed_name}
+use Rattle.opgen_read.specs.Places.{leads}
 use Rattle.opgen_read.proofs.FirstPlaces.{one_declared, still_allowed}
 use Rattle.opgen_read.proofs.declared.Declared.declare.Goals as goal
 
 pub invariant_of-result : goal.invariant_of-result
 invariant_of-result g c =
-    let before = get_by_text c.self.inside.first in
-    let after = get_by_text c.in_ok-first.first in
+    let before = leads c.self.inside.first in
+    let after = leads c.in_ok-first.first in
     let allowed : is_allowed_name c.name.result.now ≡ true = ap is_allowed_name c.name.ensures ∙ c.requires in (
       one_declared g.T.Named.name_of c.self.inside.items c.push.new.self c.args.item before after c.name.result.now c.len.result
           c.in_ok-push.ensures.ok c.name.ensures c.len.ensures c.self.invariant.0 c.in_ok-first.ensures,
