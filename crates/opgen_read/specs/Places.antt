@@ -17,7 +17,8 @@ FindsEach first names = (q : List ℕ) → leads first q ≡ position (bytes_eq 
 abbrev pub KnowsAllowed : {S : Type 0} → IndexMap ArrayString ℕ S → Type 0
 KnowsAllowed first = (q : List ℕ) (k : ℕ) → leads first q ≡ Some k → IsTrue (is_allowed_name q)
 
--- where a name is found once another declaration stands at a place, under the same name or not
-abbrev pub noted_at : Option ℕ → (same : Bool) → ℕ → Option ℕ
-noted_at (Some first) same place = Some first
+-- where the map leads from a name after one more declaration, under this name or another, at a place: where it led already, or
+-- else to that place from its own name alone
+abbrev pub noted_at : Option ℕ → (same : Bool) → (place : ℕ) → Option ℕ
+noted_at (Some earlier) same place = Some earlier
 noted_at None same place = if same then Some place else None

@@ -7,14 +7,14 @@ use Rattle.opgen_vhdl.specs.Statements.{Reading, nothing, Follows, Stops}
 use Rattle.opgen_read.specs.declared.fault.ReadFault.{ReadFault}
 use Rattle.opgen_read.specs.declared.fault.ReadFault.TheVariants.{Lexical, Syntax, TooLarge, Unsound, Memory}
 
--- so many pieces were taken, and these symbols are left
+-- so many pieces of the whole were taken, which led to this place with this read of them, and these symbols are left
 pub record Reached (whole rest : List Symbol) (place : Place) (r : Reading) (n : ℕ) : Type 0 where
   pub taken : List (List Symbol)
   pub split : pieces whole ≡ taken ++ pieces rest
   pub follow : Follows Library nothing taken place r
   pub count : n ≡ length taken
 
--- piece k, from 1, is the first that its place does not take
+-- piece k, from 1, is the first that its place does not take, or comes behind the last where the text ends too early
 pub record StopsAt (whole : List Symbol) (k : ℕ) : Type 0 where
   pub taken : List (List Symbol)
   pub left : List (List Symbol)
