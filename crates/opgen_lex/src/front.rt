@@ -25,7 +25,7 @@ fn is_word_byte(byte: u8) -> bool
     byte.is_ascii_alphabetic() || byte.is_ascii_digit() || byte == b'_'
 }
 
-fn is_bit(byte: u8) -> bool
+pub fn is_bit(byte: u8) -> bool
     ensures { result ≡ is_bit byte }
 {
     byte == b'0' || byte == b'1'

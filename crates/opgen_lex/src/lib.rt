@@ -8,12 +8,14 @@ ghost use Rattle.opgen_lex.specs.Fault.{IsLexical};
 ghost use Rattle.opgen_lex.specs.First.{HasTokens, IsFirstToken, HasNoToken};
 
 mod front;
+mod token_text;
 
 use front::{behind_white, front_at, leading};
 use opgen_vhdl::Front;
 pub use opgen_vhdl::{Token, TokenKind};
 use std::alloc::{AllocFailed, Global};
 use thiserror::Error;
+pub use token_text::{index_of, same_kind, same_word, word_of};
 
 /// Why a text has no tokens.
 #[derive(Clone, Copy, Debug, PartialEq, Eq, Error)]

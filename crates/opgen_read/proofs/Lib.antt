@@ -1,5 +1,4 @@
 pub mod FirstSymbol
-pub mod DigitValues
 pub mod FirstPlaces
 pub mod AllowedNames
 pub mod Operands

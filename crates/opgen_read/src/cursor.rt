@@ -2,8 +2,7 @@ ghost use Rattle.std.specs.Prelude.{IsTrue};
 ghost use Rattle.opgen_read.specs.Fits.{fits};
 
 use crate::piece_len::rest_len;
-use crate::token_text::{index_of, same_kind, same_word, word_of};
-use opgen_lex::first_token;
+use opgen_lex::{first_token, index_of, same_kind, same_word, word_of};
 use opgen_num::Word;
 use opgen_vhdl::TokenKind;
 

@@ -48,6 +48,8 @@ impl Named for Signal {
 pub struct Declared<T: Named> {
     items: Items<T>,
     first: IndexMap<Key, usize>,
+    /// Whether each name is a letter and its own place.
+    are_numbered: bool,
 }
 
 impl<T: Named> Model for Declared<T> {
@@ -75,6 +77,7 @@ impl<T: Named + Drop> Declared<T> {
         Ok(Declared {
             items: Items::new(alloc),
             first: IndexMap::new(alloc),
+            are_numbered: true,
         })
     }
 
@@ -101,12 +104,15 @@ impl<T: Named + Drop> Declared<T> {
         first.get(&key_of(name)).copied()
     }
 
-    /// The place of the first declaration of this name, which is allowed then, where the name ends in its own number among the
-    /// names. Texts that a generator wrote mostly number their signals in order, and such a name is found without its hash.
+    /// The place of the first declaration of this name, which is allowed then, where all names are a letter and their places, as in
+    /// generated texts without copies. Such a name is found without its hash.
     pub fn find_by_number(&self, name: &[u8]) -> Option<usize>
         ensures place { IfSome result (λ k. k ≡ place_of (map T.name_of self.now) name.now) }
         ensures allowed { IfSome result (λ _. IsTrue (is_allowed_name name.now)) }
     {
+        if !self.are_numbered {
+            return None;
+        }
         let (key, place) = self.first.get_index(number_behind(name)?)?;
         if key.as_str().as_bytes() == name {
             Some(*place)
@@ -127,10 +133,20 @@ impl<T: Named + Drop> Declared<T> {
         requires { IsTrue (is_allowed_name (T.name_of item)) }
         ensures { IfOk result (λ d. d ≡ self ++ item ∷ []) }
     {
-        let Declared { mut items, first } = self;
+        let Declared {
+            mut items,
+            first,
+            are_numbered,
+        } = self;
+        let are_numbered = are_numbered
+            && number_behind(item.name().as_bytes()) == Some(items.len());
         let first = noted(first, item.name(), items.len())?;
         items.push(item)?;
-        Ok(Declared { items, first })
+        Ok(Declared {
+            items,
+            first,
+            are_numbered,
+        })
     }
 
     pub fn into_items(self) -> Items<T>

@@ -14,7 +14,6 @@ mod read;
 mod refusal;
 mod statement;
 mod take;
-mod token_text;
 mod unit;
 
 pub use fault::ReadFault;

@@ -4,8 +4,7 @@ ghost use Rattle.std.specs.Prelude.{◌≡◌, ℕ, List, false};
 ghost use Rattle.opgen_vhdl.specs.Symbols.{Symbol, symbol_of, is_semicolon};
 ghost use Rattle.opgen_read.specs.PieceLen.{IsRestLen};
 
-use crate::token_text::same_kind;
-use opgen_lex::first_token;
+use opgen_lex::{first_token, same_kind};
 use opgen_vhdl::TokenKind;
 
 // How many bytes stand up to the first semicolon, with it, or up to the last token where there is no

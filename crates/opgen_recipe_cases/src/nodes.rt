@@ -1,7 +1,8 @@
 //! The numbers of the nodes that are appended to a net.
 ghost use Rattle.std.specs.Prelude.{◌≡◌};
 
-use opgen_net::{Class, Expr, Net, Op, Slice, WordBit};
+use opgen_design::{Expr, Op, Slice};
+use opgen_net::{Class, Net, WordBit};
 use opgen_num::Word;
 use std::test::Fail;
 

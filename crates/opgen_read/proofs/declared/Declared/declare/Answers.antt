@@ -8,8 +8,8 @@ pub invariant_of-result : goal.invariant_of-result
 invariant_of-result g c =
     let before = leads c.self.inside.first in
     let after = leads c.in_ok-first.first in
-    let allowed : is_allowed_name c.name.result.now ≡ true = ap is_allowed_name c.name.ensures ∙ c.requires in (
-      one_declared g.T.Named.name_of c.self.inside.items c.push.new.self c.args.item before after c.name.result.now c.len.result
-          c.in_ok-push.ensures.ok c.name.ensures c.len.ensures c.self.invariant.0 c.in_ok-first.ensures,
-      still_allowed before after c.name.result.now c.len.result allowed c.self.invariant.1 c.in_ok-first.ensures,
+    let allowed : is_allowed_name c.name-2.result.now ≡ true = ap is_allowed_name c.name-2.ensures ∙ c.requires in (
+      one_declared g.T.Named.name_of c.self.inside.items c.push.new.self c.args.item before after c.name-2.result.now c.len-2.result
+          c.in_ok-push.ensures.ok c.name-2.ensures c.len-2.ensures c.self.invariant.0 c.in_ok-first.ensures,
+      still_allowed before after c.name-2.result.now c.len-2.result allowed c.self.invariant.1 c.in_ok-first.ensures,
     )

@@ -5,11 +5,11 @@ ghost use Rattle.std.specs.Char.{to_ascii_lowercase, is_ascii_digit};
 ghost use Rattle.std.specs.List.{list_all};
 ghost use Rattle.std.specs.Str.{bytes_eq};
 ghost use Rattle.opgen_num.specs.declared.TheConstants.{MAX_WIDTH};
-ghost use Rattle.opgen_vhdl.specs.Bytes.{is_bit};
 ghost use Rattle.opgen_vhdl.specs.Grammar.{value};
 ghost use Rattle.opgen_vhdl.specs.Reader.{same_kind, rank};
 ghost use Rattle.opgen_vhdl.specs.Symbols.{bits_in};
 
+use crate::front::is_bit;
 use opgen_num::{MAX_WIDTH, Word};
 use opgen_vhdl::TokenKind;
 
@@ -22,6 +22,7 @@ fn rank(kind: TokenKind) -> u8
     kind as u8
 }
 
+/// Whether two tokens are of one kind.
 pub fn same_kind(a: TokenKind, b: TokenKind) -> bool
     ensures { result ≡ same_kind a b }
 {
@@ -49,12 +50,6 @@ pub fn index_of(digits: &[u8]) -> Option<u32>
         }
     }
     Some(index)
-}
-
-fn is_bit(byte: u8) -> bool
-    ensures { result ≡ is_bit byte }
-{
-    byte == b'0' || byte == b'1'
 }
 
 // A word with a bit below its lowest.

@@ -1,6 +1,6 @@
 use Rattle.std.proofs.Common.{◌+◌, ◌-◌, ◌*◌, suc, get_or, ◌∙◌, sym, arith}
-use Rattle.opgen_read.proofs.DigitValues.{read_digit, no_index}
-use Rattle.opgen_read.proofs.token_text.index_of.Goals as goal
+use Rattle.opgen_lex.proofs.DigitValues.{read_digit, no_index}
+use Rattle.opgen_lex.proofs.token_text.index_of.Goals as goal
 
 pub returns-then-index-gt-MAX_INDEX-clause-value : goal.returns-then-index-gt-MAX_INDEX-clause-value
 returns-then-index-gt-MAX_INDEX-clause-value c =

@@ -3,7 +3,7 @@ use Rattle.std.proofs.Math.Nat.{pow-le-pow_right}
 use Rattle.opgen_num.specs.Words.{digit, word, nat}
 use Rattle.opgen_num.proofs.Words.{nat-below, word-nat}
 use mir.Val.{bool_byte}
-use Rattle.opgen_read.proofs.token_text.with_lowest.Goals as goal
+use Rattle.opgen_lex.proofs.token_text.with_lowest.Goals as goal
 
 bit_number : (b : Bool) → bool_byte b ≡ digit b
 bit_number false = refl
