@@ -10,7 +10,7 @@ from pathlib import Path
 
 sys.dont_write_bytecode = True
 
-import vhdl
+from opgenlib import answer_help, vhdl
 
 WORDS = {"and": "&", "or": "|", "xor": "^", "+": "+", "-": "-"}
 
@@ -85,6 +85,7 @@ def text_of(design):
 
 
 def main():
+    answer_help(__doc__)
     if len(sys.argv) != 2:
         sys.exit("usage: tools/verilog.py FILE.vhd")
     try:

@@ -1,11 +1,8 @@
 //! The generator of fixed-point operators.
 #![tactic(auto)]
 
-mod targets;
-
-use crate::targets::{fixed, plain};
 use opgen_io::{DiskFolder, StdSink};
-use opgen_target::Target;
+use opgen_target::{Target, fixed, plain};
 use opgen_top::{OpenGate, Status, run};
 use std::alloc::{AllocError, Global};
 use std::env;

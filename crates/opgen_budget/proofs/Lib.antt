@@ -1,3 +1,4 @@
 pub mod Sums
 pub mod Weights
 mod Heights
+pub mod NearestNumbers

@@ -17,11 +17,12 @@ signed_bits = record { signed = true; width = 8; lsb = pos 0 }
 
 -- a third of four unsigned bits
 abbrev pub third : Sum
-third = record { input = unsigned 4 (pos 0); out_lsb = pos 0; coefs = pos 1 ∷ []; den = pos 3; exact = false }
+third = record { input = unsigned 4 (pos 0); out_lsb = pos 0; coefs = pos 1 ∷ []; den = pos 3; exact = false; counters = false }
 
 -- a quarter, a half and a quarter of three samples
 abbrev pub smooth : Sum
-smooth = record { input = signed_bits; out_lsb = pos 0; coefs = pos 1 ∷ pos 2 ∷ pos 1 ∷ []; den = pos 4; exact = false }
+smooth =
+    record { input = signed_bits; out_lsb = pos 0; coefs = pos 1 ∷ pos 2 ∷ pos 1 ∷ []; den = pos 4; exact = false; counters = false }
 
 -- two signed numbers of two bits
 abbrev pub square : Product
@@ -29,6 +30,7 @@ square = record {
   a = record { signed = true; width = 2; lsb = pos 0 };
   b = record { signed = true; width = 2; lsb = pos 0 };
   out_lsb = pos 0;
+  counters = false;
 }
 
 abbrev pub quotient : Pair

@@ -48,7 +48,7 @@ fn whole_documents(rt: HostRuntime) -> Result<(), Fail> {
 }
 
 /// Words that are not taken.
-static WORDS: [&[&str]; 11] = [
+static WORDS: [&[&str]; 16] = [
     &[],
     &["generate"],
     &["generate", "-spec.toml"],
@@ -60,6 +60,11 @@ static WORDS: [&[&str]; 11] = [
     &["simulate", "spec.toml", "spec.toml", "-out"],
     &["simulate", "spec.toml", "spec.toml", "out", "out"],
     &["workload", "33"],
+    &["generate", "spec.toml", "--workers", "33"],
+    &["check", "spec.toml", "a.vhd", "a.vec"],
+    &["check", "spec.toml", "a.vhd", "a.vec", "-1"],
+    &["check", "spec.toml", "a.vhd", "a.vec", "100001"],
+    &["check", "spec.toml", "a.vhd", "a.vec", "a.vec", "0"],
 ];
 
 #[test]

@@ -2,13 +2,17 @@
 #![tactic(auto)]
 
 #[cfg(test)]
+mod blocks;
+#[cfg(test)]
+mod check;
+#[cfg(test)]
+mod documents;
+#[cfg(test)]
 mod enabled;
 #[cfg(test)]
 mod faults;
 #[cfg(test)]
 mod generate;
-#[cfg(test)]
-mod pipelined;
 #[cfg(test)]
 mod running;
 #[cfg(test)]

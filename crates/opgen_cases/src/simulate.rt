@@ -1,7 +1,8 @@
 //! Runs of VHDL over vectors, as `simulate` stores them.
 use crate::running::ran_over;
-use opgen_harness::running::{Outcome, holds};
-use opgen_harness::texts::TIMES3;
+use opgen_harness::documents::changed;
+use opgen_harness::running::{Outcome, expect, holds};
+use opgen_harness::texts::{THIRD, TIMES3};
 use std::alloc::{AllocError, Global};
 use std::test::Fail;
 use std::thread::Threads;
@@ -32,7 +33,13 @@ const FIVE: &str =
     "library ieee;\nuse ieee.std_logic_1164.all;\nuse ieee.numeric_std.all;\nentity five is\nport (clk : in std_logic;\ny : out std_logic_vector(3 downto 0));\nend five;\narchitecture rtl of five is\nsignal s : unsigned(3 downto 0);\nbegin\ns <= \"0101\";\ny <= std_logic_vector(s);\nend rtl;\n";
 
 /// VHDL and vectors, and the rows and the line that they give.
-static ROWS: [(&str, &str, &str, &str); 6] = [
+static ROWS: [(&str, &str, &str, &str); 7] = [
+    (
+        THIRD,
+        "1\n2\n4\nf\n0\n",
+        "1 : 0\n2 : 1\n4 : 1\nf : 2\n0 : 5\n",
+        "simulated 5 cycles\n",
+    ),
     (
         TIMES3,
         "0\n1\nf\n",
@@ -85,6 +92,54 @@ fn refusals(rt: HostRuntime) -> Result<(), Fail> {
         assert_eq!(rt; ran.status, *status);
         assert!(rt; ran.folder.get("out.vec").is_none());
         assert!(rt; ran.out.bytes() == line.as_bytes());
+    }
+    Ok(())
+}
+
+#[test]
+fn in_capitals_with_comments(rt: HostRuntime) -> Result<(), Fail> {
+    let capitals = TIMES3.to_ascii_uppercase(rt.alloc())?;
+    let loud = capitals.replace(rt.alloc(), "\n", " -- as before\n")?;
+    let ran = simulated(&rt, &loud, "0\n1\nf\n")?;
+    let stored = ran.folder.get("out.vec").unwrap_or(b"");
+    expect("in capitals", stored, "0 : 00\n1 : 03\nf : 2d\n")?;
+    expect("in capitals", ran.out.bytes(), "simulated 3 cycles\n")
+}
+
+#[test]
+fn cut_off(rt: HostRuntime) -> Result<(), Fail> {
+    let part = TIMES3.strip_suffix(";\n").unwrap_or("");
+    let ran = simulated(&rt, part, "0\n")?;
+    expect("cut off", ran.out.bytes(), "vhdl: Syntax 13\n")
+}
+
+/// A line of three times four bits, what is put in its place, and the line that is printed.
+static EDITED: [(&str, &str, &str); 3] = [
+    (
+        "  s0 <= unsigned(x);",
+        "  s0 <= s1(3 downto 0);",
+        "vhdl: Unsound 6 5\n",
+    ),
+    (
+        "  s0 <= unsigned(x);",
+        "  s0 <= unsigned(x);\n  s0 <= unsigned(x);",
+        "vhdl: Unsound 4 6\n",
+    ),
+    (
+        "    \"101101\" when others;",
+        "    \"101101\" when \"1111\";",
+        "vhdl: Syntax 11\n",
+    ),
+];
+
+#[test]
+fn edited_texts(rt: HostRuntime) -> Result<(), Fail> {
+    for (old, new, line) in &EDITED {
+        let text = changed(rt.alloc(), TIMES3, &[(old, new)])?;
+        let ran = simulated(&rt, &text, "0\n1\nf\n")?;
+        assert_eq!(rt; ran.status, 6);
+        assert!(rt; ran.folder.get("out.vec").is_none());
+        expect(new, ran.out.bytes(), line)?;
     }
     Ok(())
 }

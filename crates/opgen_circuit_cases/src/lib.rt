@@ -1,11 +1,15 @@
-//! Circuits of each kind over inputs: tests alone.
+//! Circuits of the worked cases, run over rows: tests alone.
 #![tactic(auto)]
 
 #[cfg(test)]
-mod ends;
+mod counters;
 #[cfg(test)]
-mod multiples;
+mod polynomials;
 #[cfg(test)]
 mod rows;
 #[cfg(test)]
 mod running;
+#[cfg(test)]
+mod small_quotients;
+#[cfg(test)]
+mod transposed;

@@ -1,541 +1,472 @@
-//! Circuits of each kind, and what they give: `generate` on a specification, and `simulate` of its VHDL over inputs. The answers
-//! were worked out by hand or by a program of another make.
-use crate::running::{Case, first_wrong};
-use opgen_harness::documents::{DIVIDE, FILTER, MULTIPLY, ROOT, SCALE};
+//! Circuits of the worked cases: `generate` on a specification, and `simulate` of its VHDL over the inputs of some rows.
+use crate::running::{expect_rows, generated};
+use opgen_harness::documents::{DIVIDE, FILTER, MCM, MULTIPLY, ROOT, SCALE, THIRD, changed};
+use opgen_harness::running::expect;
+use std::alloc::Global;
 use std::test::Fail;
+use std::thread::Threads;
 
-static SUMS: [Case; 16] = [
-    Case {
-        name: "a third of four bits",
-        document: SCALE,
-        changes: &[
-            ("exact = true", "exact = false"),
-            ("period = 10000", "period = 1000000"),
-            ("coefficients = [3]", "coefficients = [1]\ndenominator = 3"),
-        ],
-        line: "wrote times3.vhd and times3.rpt, latency 0\n",
-        inputs: "0\n1\n2\n4\nf\n",
-        rows: Some("0 : 0\n1 : 1\n2 : 1\n4 : 2\nf : 5\n"),
-    },
-    Case {
-        name: "a third at 900",
-        document: SCALE,
-        changes: &[
-            ("exact = true", "exact = false"),
-            ("period = 10000", "period = 900"),
-            ("coefficients = [3]", "coefficients = [1]\ndenominator = 3"),
-        ],
-        line: "wrote times3.vhd and times3.rpt, latency 1\n",
-        inputs: "1\n2\n4\nf\n0\n",
-        rows: Some("1 : 0\n2 : 1\n4 : 1\nf : 2\n0 : 5\n"),
-    },
-    Case {
-        name: "a third at 899",
-        document: SCALE,
-        changes: &[
-            ("exact = true", "exact = false"),
-            ("period = 10000", "period = 899"),
-            ("coefficients = [3]", "coefficients = [1]\ndenominator = 3"),
-        ],
-        line: "specification: PeriodTooShort 900\n",
-        inputs: "",
-        rows: None,
-    },
-    Case {
-        name: "a third at 1519",
-        document: SCALE,
-        changes: &[
-            ("exact = true", "exact = false"),
-            ("period = 10000", "period = 1519"),
-            ("coefficients = [3]", "coefficients = [1]\ndenominator = 3"),
-        ],
-        line: "wrote times3.vhd and times3.rpt, latency 1\n",
-        inputs: "1\n2\n4\nf\n0\n",
-        rows: Some("1 : 0\n2 : 1\n4 : 1\nf : 2\n0 : 5\n"),
-    },
-    Case {
-        name: "a third at 1520",
-        document: SCALE,
-        changes: &[
-            ("exact = true", "exact = false"),
-            ("period = 10000", "period = 1520"),
-            ("coefficients = [3]", "coefficients = [1]\ndenominator = 3"),
-        ],
-        line: "wrote times3.vhd and times3.rpt, latency 0\n",
-        inputs: "1\n2\n4\nf\n0\n",
-        rows: Some("1 : 1\n2 : 1\n4 : 2\nf : 5\n0 : 0\n"),
-    },
-    Case {
-        name: "a third at 1040 with a faster sum",
-        document: SCALE,
-        changes: &[
-            ("exact = true", "exact = false"),
-            ("period = 10000", "period = 1040"),
-            (
-                "coefficients = [3]",
-                "coefficients = [1]\ndenominator = 3\n[[delay]]\nclass = \"add\"\nbase = 100\nper_bit = 10",
-            ),
-        ],
-        line: "wrote times3.vhd and times3.rpt, latency 0\n",
-        inputs: "1\n2\n4\nf\n0\n",
-        rows: Some("1 : 1\n2 : 1\n4 : 2\nf : 5\n0 : 0\n"),
-    },
-    Case {
-        name: "a third at 1039 with a faster sum",
-        document: SCALE,
-        changes: &[
-            ("exact = true", "exact = false"),
-            ("period = 10000", "period = 1039"),
-            (
-                "coefficients = [3]",
-                "coefficients = [1]\ndenominator = 3\n[[delay]]\nclass = \"add\"\nbase = 100\nper_bit = 10",
-            ),
-        ],
-        line: "wrote times3.vhd and times3.rpt, latency 1\n",
-        inputs: "1\n2\n4\nf\n0\n",
-        rows: Some("1 : 0\n2 : 1\n4 : 1\nf : 2\n0 : 5\n"),
-    },
-    Case {
-        name: "a third whose last line of a class holds",
-        document: SCALE,
-        changes: &[
-            ("exact = true", "exact = false"),
-            ("period = 10000", "period = 1040"),
-            (
-                "coefficients = [3]",
-                "coefficients = [1]\ndenominator = 3\n[[delay]]\nclass = \"add\"\nbase = 900\nper_bit = 0\n[[delay]]\nclass = \"add\"\nbase = 100\nper_bit = 10",
-            ),
-        ],
-        line: "wrote times3.vhd and times3.rpt, latency 0\n",
-        inputs: "1\n2\n4\nf\n0\n",
-        rows: Some("1 : 1\n2 : 1\n4 : 2\nf : 5\n0 : 0\n"),
-    },
-    Case {
-        name: "a third at 1039 whose last line of a class holds",
-        document: SCALE,
-        changes: &[
-            ("exact = true", "exact = false"),
-            ("period = 10000", "period = 1039"),
-            (
-                "coefficients = [3]",
-                "coefficients = [1]\ndenominator = 3\n[[delay]]\nclass = \"add\"\nbase = 900\nper_bit = 0\n[[delay]]\nclass = \"add\"\nbase = 100\nper_bit = 10",
-            ),
-        ],
-        line: "wrote times3.vhd and times3.rpt, latency 1\n",
-        inputs: "1\n2\n4\nf\n0\n",
-        rows: Some("1 : 0\n2 : 1\n4 : 1\nf : 2\n0 : 5\n"),
-    },
-    Case {
-        name: "a third whose table is slow",
-        document: SCALE,
-        changes: &[
-            ("exact = true", "exact = false"),
-            ("period = 10000", "period = 1000000"),
-            (
-                "coefficients = [3]",
-                "coefficients = [1]\ndenominator = 3\n[[delay]]\nclass = \"table\"\nbase = 1000000\nper_bit = 10000",
-            ),
-        ],
-        line: "specification: PeriodTooShort 1040100\n",
-        inputs: "",
-        rows: None,
-    },
-    Case {
-        name: "nothing",
-        document: SCALE,
-        changes: &[("coefficients = [3]", "coefficients = [0]")],
-        line: "wrote times3.vhd and times3.rpt, latency 0\n",
-        inputs: "0\nf\n",
-        rows: Some("0 : 0\nf : 0\n"),
-    },
-    Case {
-        name: "a half",
-        document: SCALE,
-        changes: &[
-            ("exact = true", "exact = false"),
-            ("period = 10000", "period = 1000000"),
-            ("coefficients = [3]", "coefficients = [\"0.5\"]"),
-        ],
-        line: "wrote times3.vhd and times3.rpt, latency 0\n",
-        inputs: "1\nf\n",
-        rows: Some("1 : 1\nf : 8\n"),
-    },
-    Case {
-        name: "a half of even numbers",
-        document: SCALE,
-        changes: &[
-            ("exact = true", "exact = false"),
-            ("lsb = 0", "lsb = 1"),
-            ("period = 10000", "period = 1000000"),
-            ("coefficients = [3]", "coefficients = [\"0.5\"]"),
-        ],
-        line: "wrote times3.vhd and times3.rpt, latency 0\n",
-        inputs: "1\nf\n",
-        rows: Some("1 : 1\nf : f\n"),
-    },
-    Case {
-        name: "a negative coefficient",
-        document: SCALE,
-        changes: &[("coefficients = [3]", "coefficients = [-5]")],
-        line: "wrote times3.vhd and times3.rpt, latency 0\n",
-        inputs: "0\n1\nf\n",
-        rows: Some("0 : 00\n1 : fb\nf : b5\n"),
-    },
-    Case {
-        name: "seven signed bits",
-        document: SCALE,
-        changes: &[
-            ("signed = false", "signed = true"),
-            ("width = 4", "width = 7"),
-            ("exact = true", "exact = false"),
-            ("coefficients = [3]", "coefficients = [-2]\ndenominator = 7"),
-        ],
-        line: "wrote times3.vhd and times3.rpt, latency 0\n",
-        inputs: "00\n01\n3f\n40\n7f\n",
-        rows: Some("00 : 00\n01 : 00\n3f : 2e\n40 : 12\n7f : 00\n"),
-    },
-    Case {
-        name: "48 bits of version 2",
-        document: SCALE,
-        changes: &[
-            ("version = 1", "version = 2"),
-            ("width = 4", "width = 48"),
-            ("coefficients = [3]", "coefficients = [1]"),
-            ("period = 10000", "period = 1000000"),
-        ],
-        line: "wrote times3.vhd and times3.rpt, latency 0\n",
-        inputs: "ffffffffffff\n000000000001\n",
-        rows: Some("ffffffffffff : ffffffffffff\n000000000001 : 000000000001\n"),
-    },
+/// A line of a document, and what stands in its place.
+pub(crate) type Change = (&'static str, &'static str);
+
+/// A name, changes of a document, the line of `generate`, and rows of its circuit, of which there are none where it is refused.
+pub(crate) type Case = (&'static str, &'static [Change], &'static str, &'static str);
+
+const THIRD_AT_ONCE: &str = "wrote third.vhd and third.rpt, latency 0\n";
+
+const THIRD_LATER: &str = "wrote third.vhd and third.rpt, latency 1\n";
+
+const AT_ONCE: &str = "1 : 1\n2 : 1\n4 : 2\nf : 5\n0 : 0\n";
+
+const A_CYCLE_LATER: &str = "1 : 0\n2 : 1\n4 : 1\nf : 2\n0 : 5\n";
+
+const FASTER_SUM: Change = (
+    "denominator = 3",
+    "denominator = 3\n[[delay]]\nclass = \"add\"\nbase = 100\nper_bit = 10",
+);
+
+const FASTER_SUM_LAST: Change = (
+    "denominator = 3",
+    "denominator = 3\n[[delay]]\nclass = \"add\"\nbase = 900\nper_bit = 0\n[[delay]]\nclass = \"add\"\nbase = 100\nper_bit = 10",
+);
+
+const SLOW_TABLE: Change = (
+    "denominator = 3",
+    "denominator = 3\n[[delay]]\nclass = \"table\"\nbase = 1000000\nper_bit = 10000",
+);
+
+static THIRDS: [Case; 12] = [
+    (
+        "a third of four bits",
+        &[("period = 900", "period = 1000000")],
+        THIRD_AT_ONCE,
+        "0 : 0\n1 : 1\n2 : 1\n4 : 2\nf : 5\n",
+    ),
+    ("a third at 900", &[], THIRD_LATER, A_CYCLE_LATER),
+    (
+        "a third at 899",
+        &[("period = 900", "period = 899")],
+        "specification: PeriodTooShort 900\n",
+        "",
+    ),
+    (
+        "a third at 1519",
+        &[("period = 900", "period = 1519")],
+        THIRD_LATER,
+        A_CYCLE_LATER,
+    ),
+    (
+        "a third at 1520",
+        &[("period = 900", "period = 1520")],
+        THIRD_AT_ONCE,
+        AT_ONCE,
+    ),
+    (
+        "a faster sum at 1040",
+        &[("period = 900", "period = 1040"), FASTER_SUM],
+        THIRD_AT_ONCE,
+        AT_ONCE,
+    ),
+    (
+        "a faster sum at 1039",
+        &[("period = 900", "period = 1039"), FASTER_SUM],
+        THIRD_LATER,
+        A_CYCLE_LATER,
+    ),
+    (
+        "the last line of a class holds, at 1040",
+        &[("period = 900", "period = 1040"), FASTER_SUM_LAST],
+        THIRD_AT_ONCE,
+        AT_ONCE,
+    ),
+    (
+        "the last line of a class holds, at 1039",
+        &[("period = 900", "period = 1039"), FASTER_SUM_LAST],
+        THIRD_LATER,
+        A_CYCLE_LATER,
+    ),
+    (
+        "a slow table",
+        &[("period = 900", "period = 1000000"), SLOW_TABLE],
+        "specification: PeriodTooShort 1040100\n",
+        "",
+    ),
+    (
+        "a target that takes no delay line",
+        &[("target = \"plain\"", "target = \"fixed\""), FASTER_SUM],
+        "specification: NotAdjustable\n",
+        "",
+    ),
+    (
+        "no target of the name",
+        &[("target = \"plain\"", "target = \"none\""), FASTER_SUM],
+        "specification: UnknownTarget\n",
+        "",
+    ),
 ];
 
-#[test]
-fn sums(rt: HostRuntime) -> Result<(), Fail> {
-    assert_eq!(rt; first_wrong(&rt, &SUMS)?, None);
-    Ok(())
-}
+const FAITHFUL: Change = ("exact = true", "exact = false");
 
-static FILTERS: [Case; 6] = [
-    Case {
-        name: "a smoothing filter",
-        document: FILTER,
-        changes: &[
-            ("exact = true", "exact = false"),
+const EXACT: Change = ("exact = false", "exact = true");
+
+const SIGNED: Change = ("signed = false", "signed = true");
+
+const VERSION_2: Change = ("version = 1", "version = 2");
+
+const SCALED: &str = "wrote times3.vhd and times3.rpt, latency 0\n";
+
+static SCALES: [Case; 4] = [
+    (
+        "nothing",
+        &[("coefficients = [3]", "coefficients = [0]")],
+        SCALED,
+        "0 : 0\nf : 0\n",
+    ),
+    (
+        "a half",
+        &[FAITHFUL, ("coefficients = [3]", "coefficients = [\"0.5\"]")],
+        SCALED,
+        "1 : 1\nf : 8\n",
+    ),
+    (
+        "a half of even numbers",
+        &[
+            FAITHFUL,
+            ("lsb = 0", "lsb = 1"),
+            ("coefficients = [3]", "coefficients = [\"0.5\"]"),
+        ],
+        SCALED,
+        "1 : 1\nf : f\n",
+    ),
+    (
+        "48 bits of version 2",
+        &[
+            VERSION_2,
+            ("width = 4", "width = 48"),
+            ("coefficients = [3]", "coefficients = [1]"),
+        ],
+        SCALED,
+        "ffffffffffff : ffffffffffff\n000000000001 : 000000000001\n",
+    ),
+];
+
+const LOW_PASS: Change = (
+    "coefficients = [4, 8, 3, 1]",
+    "coefficients = [-83, -214, -188, 412, 1669, 3413, 5066, 6309, 6309, 5066, 3413, 1669, 412, -188, -214, -83]",
+);
+
+static FILTERS: [Case; 4] = [
+    (
+        "a smoothing filter",
+        &[
+            FAITHFUL,
             ("period = 10000", "period = 1000000"),
-            ("signed = false", "signed = true"),
+            SIGNED,
             ("width = 4", "width = 8"),
             ("coefficients = [4, 8, 3, 1]", "coefficients = [1, 2, 1]"),
         ],
-        line: "wrote times3.vhd and times3.rpt, latency 0\n",
-        inputs: "0a\n14\nfd\n",
-        rows: Some("0a : 03\n14 : 0a\nfd : 0c\n"),
-    },
-    Case {
-        name: "a low pass in one cycle",
-        document: FILTER,
-        changes: &[
-            ("exact = true", "exact = false"),
+        SCALED,
+        "0a : 03\n14 : 0a\nfd : 0c\n",
+    ),
+    (
+        "a low pass in one cycle",
+        &[
+            FAITHFUL,
             ("period = 10000", "period = 1000000"),
-            ("signed = false", "signed = true"),
+            SIGNED,
             ("width = 4", "width = 12"),
             ("lsb = 0", "lsb = -11"),
             ("out_lsb = 0", "out_lsb = -11"),
-            (
-                "coefficients = [4, 8, 3, 1]",
-                "coefficients = [-83, -214, -188, 412, 1669, 3413, 5066, 6309, 6309, 5066, 3413, 1669, 412, -188, -214, -83]",
-            ),
+            LOW_PASS,
             ("denominator = 4", "denominator = 32768"),
         ],
-        line: "wrote times3.vhd and times3.rpt, latency 0\n",
-        inputs: "3e8\n3e8\n3e8\n3e8\n3e8\n3e8\n3e8\n3e8\n3e8\n3e8\n3e8\n3e8\n3e8\n3e8\n3e8\n3e8\n3e8\n3e8\n",
-        rows: Some(
-            "3e8 : 1ffd\n3e8 : 1ff7\n3e8 : 1ff1\n3e8 : 1ffe\n3e8 : 0031\n3e8 : 0099\n3e8 : 0133\n3e8 : 01f4\n3e8 : 02b5\n3e8 : 034f\n3e8 : 03b7\n3e8 : 03ea\n3e8 : 03f7\n3e8 : 03f1\n3e8 : 03eb\n3e8 : 03e8\n3e8 : 03e8\n3e8 : 03e8\n",
-        ),
-    },
-    Case {
-        name: "a low pass at 4000",
-        document: FILTER,
-        changes: &[
-            ("exact = true", "exact = false"),
+        SCALED,
+        "3e8 : 1ffd\n3e8 : 1ff7\n3e8 : 1ff1\n3e8 : 1ffe\n3e8 : 0031\n3e8 : 0099\n3e8 : 0133\n3e8 : 01f4\n3e8 : 02b5\n3e8 : 034f\n3e8 : 03b7\n3e8 : 03ea\n3e8 : 03f7\n3e8 : 03f1\n3e8 : 03eb\n3e8 : 03e8\n3e8 : 03e8\n3e8 : 03e8\n",
+    ),
+    (
+        "a low pass at 4000",
+        &[
+            FAITHFUL,
             ("period = 10000", "period = 4000"),
-            ("signed = false", "signed = true"),
+            SIGNED,
             ("width = 4", "width = 12"),
             ("lsb = 0", "lsb = -11"),
             ("out_lsb = 0", "out_lsb = -11"),
-            (
-                "coefficients = [4, 8, 3, 1]",
-                "coefficients = [-83, -214, -188, 412, 1669, 3413, 5066, 6309, 6309, 5066, 3413, 1669, 412, -188, -214, -83]",
-            ),
+            LOW_PASS,
             ("denominator = 4", "denominator = 32768"),
         ],
-        line: "wrote times3.vhd and times3.rpt, latency 1\n",
-        inputs: "3e8\n3e8\n3e8\n3e8\n3e8\n3e8\n3e8\n3e8\n3e8\n3e8\n3e8\n3e8\n3e8\n3e8\n3e8\n3e8\n3e8\n3e8\n",
-        rows: Some(
-            "3e8 : 0000\n3e8 : 1ffd\n3e8 : 1ff7\n3e8 : 1ff1\n3e8 : 1ffe\n3e8 : 0031\n3e8 : 0099\n3e8 : 0133\n3e8 : 01f4\n3e8 : 02b5\n3e8 : 034f\n3e8 : 03b7\n3e8 : 03ea\n3e8 : 03f7\n3e8 : 03f1\n3e8 : 03eb\n3e8 : 03e8\n3e8 : 03e8\n",
-        ),
-    },
-    Case {
-        name: "zeros first, within and last",
-        document: FILTER,
-        changes: &[(
-            "coefficients = [4, 8, 3, 1]",
-            "coefficients = [0, 4, 0, 8, 0]",
-        )],
-        line: "wrote times3.vhd and times3.rpt, latency 0\n",
-        inputs: "1\n2\nf\n0\n3\n0\n0\n",
-        rows: Some("1 : 00\n2 : 01\nf : 02\n0 : 11\n3 : 04\n0 : 21\n0 : 00\n"),
-    },
-    Case {
-        name: "coefficients whose sum is 0",
-        document: FILTER,
-        changes: &[("coefficients = [4, 8, 3, 1]", "coefficients = [4, -4]")],
-        line: "wrote times3.vhd and times3.rpt, latency 0\n",
-        inputs: "1\nf\nf\n0\n",
-        rows: Some("1 : 01\nf : 0e\nf : 00\n0 : 11\n"),
-    },
-    Case {
-        name: "one bit",
-        document: FILTER,
-        changes: &[
-            ("width = 4", "width = 1"),
-            ("exact = true", "exact = false"),
+        "wrote times3.vhd and times3.rpt, latency 1\n",
+        "3e8 : 0000\n3e8 : 1ffd\n3e8 : 1ff7\n3e8 : 1ff1\n3e8 : 1ffe\n3e8 : 0031\n3e8 : 0099\n3e8 : 0133\n3e8 : 01f4\n3e8 : 02b5\n3e8 : 034f\n3e8 : 03b7\n3e8 : 03ea\n3e8 : 03f7\n3e8 : 03f1\n3e8 : 03eb\n3e8 : 03e8\n3e8 : 03e8\n",
+    ),
+    (
+        "sixteen large coefficients",
+        &[
+            ("period = 10000", "period = 1000000"),
+            ("width = 4", "width = 32"),
+            (
+                "coefficients = [4, 8, 3, 1]",
+                "coefficients = [16777215, 16777215, 16777215, 16777215, 16777215, 16777215, 16777215, 16777215, 16777215, 16777215, 16777215, 16777215, 16777215, 16777215, 16777215, 16777215]",
+            ),
+            ("denominator = 4", ""),
         ],
-        line: "wrote times3.vhd and times3.rpt, latency 0\n",
-        inputs: "1\n0\n1\n1\n1\n1\n",
-        rows: Some("1 : 1\n0 : 2\n1 : 2\n1 : 3\n1 : 4\n1 : 4\n"),
-    },
+        SCALED,
+        "ffffffff : 0fffffeff000001\n00000000 : 0fffffeff000001\n00000001 : 0ffffff00000000\n80000000 : 17ffffe80000000\n",
+    ),
 ];
 
-#[test]
-fn filters(rt: HostRuntime) -> Result<(), Fail> {
-    assert_eq!(rt; first_wrong(&rt, &FILTERS)?, None);
-    Ok(())
-}
+const MULTIPLIED: &str = "wrote product.vhd and product.rpt, latency 0\n";
 
-static PRODUCTS: [Case; 8] = [
-    Case {
-        name: "four by four bits cut to four",
-        document: MULTIPLY,
-        changes: &[
+const AT_ZERO: Change = ("out_lsb = -24", "out_lsb = 0");
+
+static PRODUCTS: [Case; 6] = [
+    (
+        "four by four bits cut to four",
+        &[
             ("lsb_a = 24", "lsb_a = 0"),
             ("out_lsb = -24", "out_lsb = 4"),
         ],
-        line: "wrote product.vhd and product.rpt, latency 0\n",
-        inputs: "f f\nf 1\n5 1\n",
-        rows: Some("f f : e\nf 1 : 1\n5 1 : 0\n"),
-    },
-    Case {
-        name: "two by two signed bits",
-        document: MULTIPLY,
-        changes: &[
-            ("exact = false", "exact = true"),
-            ("signed = false", "signed = true"),
+        MULTIPLIED,
+        "f f : e\nf 1 : 1\n5 1 : 0\n",
+    ),
+    (
+        "two by two signed bits",
+        &[
+            EXACT,
+            SIGNED,
             ("width_a = 4", "width_a = 2"),
             ("lsb_a = 24", "lsb_a = 0"),
             ("width_b = 4", "width_b = 2"),
-            ("out_lsb = -24", "out_lsb = 0"),
+            AT_ZERO,
         ],
-        line: "wrote product.vhd and product.rpt, latency 0\n",
-        inputs: "2 2\n2 1\n1 1\n3 3\n",
-        rows: Some("2 2 : 4\n2 1 : e\n1 1 : 1\n3 3 : 1\n"),
-    },
-    Case {
-        name: "one by one bit two places up",
-        document: MULTIPLY,
-        changes: &[
-            ("exact = false", "exact = true"),
+        MULTIPLIED,
+        "2 2 : 4\n2 1 : e\n1 1 : 1\n3 3 : 1\n",
+    ),
+    (
+        "one by one bit two places up",
+        &[
+            EXACT,
             ("width_a = 4", "width_a = 1"),
             ("lsb_a = 24", "lsb_a = 2"),
             ("width_b = 4", "width_b = 1"),
-            ("out_lsb = -24", "out_lsb = 0"),
+            AT_ZERO,
         ],
-        line: "wrote product.vhd and product.rpt, latency 0\n",
-        inputs: "1 1\n0 1\n",
-        rows: Some("1 1 : 4\n0 1 : 0\n"),
-    },
-    Case {
-        name: "an exact product with places below",
-        document: MULTIPLY,
-        changes: &[
-            ("exact = false", "exact = true"),
+        MULTIPLIED,
+        "1 1 : 4\n0 1 : 0\n",
+    ),
+    (
+        "an exact product with places below",
+        &[
+            EXACT,
             ("lsb_a = 24", "lsb_a = 0"),
             ("out_lsb = -24", "out_lsb = 4"),
         ],
-        line: "specification: NotExact 0\n",
-        inputs: "",
-        rows: None,
-    },
-    Case {
-        name: "32 by 32 signed bits",
-        document: MULTIPLY,
-        changes: &[
-            ("exact = false", "exact = true"),
-            ("signed = false", "signed = true"),
-            ("width_a = 4", "width_a = 32"),
-            ("lsb_a = 24", "lsb_a = 0"),
-            ("width_b = 4", "width_b = 32"),
-            ("out_lsb = -24", "out_lsb = 0"),
-        ],
-        line: "wrote product.vhd and product.rpt, latency 0\n",
-        inputs: "80000000 80000000\n7fffffff 80000000\nffffffff 00000001\n",
-        rows: Some(
-            "80000000 80000000 : 4000000000000000\n7fffffff 80000000 : c000000080000000\nffffffff 00000001 : ffffffffffffffff\n",
-        ),
-    },
-    Case {
-        name: "48 by 48 bits of version 2",
-        document: MULTIPLY,
-        changes: &[
-            ("version = 1", "version = 2"),
-            ("exact = false", "exact = true"),
+        "specification: NotExact 0\n",
+        "",
+    ),
+    (
+        "48 by 48 bits of version 2",
+        &[
+            VERSION_2,
+            EXACT,
             ("width_a = 4", "width_a = 48"),
             ("lsb_a = 24", "lsb_a = 0"),
             ("width_b = 4", "width_b = 48"),
-            ("out_lsb = -24", "out_lsb = 0"),
+            AT_ZERO,
         ],
-        line: "wrote product.vhd and product.rpt, latency 0\n",
-        inputs: "ffffffffffff ffffffffffff\n",
-        rows: Some("ffffffffffff ffffffffffff : fffffffffffe000000000001\n"),
-    },
-    Case {
-        name: "97 bits",
-        document: MULTIPLY,
-        changes: &[
-            ("version = 1", "version = 2"),
-            ("exact = false", "exact = true"),
+        MULTIPLIED,
+        "ffffffffffff ffffffffffff : fffffffffffe000000000001\n",
+    ),
+    (
+        "97 bits",
+        &[
+            VERSION_2,
+            EXACT,
             ("width_a = 4", "width_a = 48"),
             ("lsb_a = 24", "lsb_a = 1"),
             ("width_b = 4", "width_b = 48"),
-            ("out_lsb = -24", "out_lsb = 0"),
+            AT_ZERO,
         ],
-        line: "specification: TooWide 97\n",
-        inputs: "",
-        rows: None,
-    },
-    Case {
-        name: "signed, cut, in stages",
-        document: MULTIPLY,
-        changes: &[
-            ("signed = false", "signed = true"),
-            ("width_a = 4", "width_a = 6"),
-            ("lsb_a = 24", "lsb_a = 0"),
-            ("width_b = 4", "width_b = 5"),
-            ("out_lsb = -24", "out_lsb = 3"),
-            ("period = 1000000", "period = 1200"),
-        ],
-        line: "wrote product.vhd and product.rpt, latency 2\n",
-        inputs: "20 10\n1f 0f\n3f 01\n00 07\n05 03\n2a 15\n00 00\n",
-        rows: Some(
-            "20 10 : 00\n1f 0f : 00\n3f 01 : 40\n00 07 : 3a\n05 03 : 00\n2a 15 : 00\n00 00 : 02\n",
-        ),
-    },
+        "specification: TooWide 97\n",
+        "",
+    ),
 ];
 
-#[test]
-fn products(rt: HostRuntime) -> Result<(), Fail> {
-    assert_eq!(rt; first_wrong(&rt, &PRODUCTS)?, None);
-    Ok(())
-}
+const DIVIDED: &str = "wrote quotient.vhd and quotient.rpt, latency 0\n";
 
-static QUOTIENTS_AND_ROOTS: [Case; 8] = [
-    Case {
-        name: "seven by three bits",
-        document: DIVIDE,
-        changes: &[
-            ("exact = false", "exact = true"),
+static QUOTIENTS: [Case; 3] = [
+    (
+        "seven by three bits",
+        &[
+            EXACT,
             ("width_a = 4", "width_a = 7"),
             ("width_b = 4", "width_b = 3"),
         ],
-        line: "wrote quotient.vhd and quotient.rpt, latency 0\n",
-        inputs: "64 7\n05 0\n06 3\n",
-        rows: Some("64 7 : 0e 2\n05 0 : 7f 5\n06 3 : 02 0\n"),
-    },
-    Case {
-        name: "seven by three bits, two places down",
-        document: DIVIDE,
-        changes: &[
+        DIVIDED,
+        "64 7 : 0e 2\n05 0 : 7f 5\n06 3 : 02 0\n",
+    ),
+    (
+        "seven by three bits, two places down",
+        &[
             ("width_a = 4", "width_a = 7"),
             ("width_b = 4", "width_b = 3"),
             ("out_lsb = 0", "out_lsb = -2"),
         ],
-        line: "wrote quotient.vhd and quotient.rpt, latency 0\n",
-        inputs: "64 7\n",
-        rows: Some("64 7 : 039\n"),
-    },
-    Case {
-        name: "one by one bit",
-        document: DIVIDE,
-        changes: &[
-            ("exact = false", "exact = true"),
+        DIVIDED,
+        "64 7 : 039\n",
+    ),
+    (
+        "one by one bit",
+        &[
+            EXACT,
             ("width_a = 4", "width_a = 1"),
             ("width_b = 4", "width_b = 1"),
         ],
-        line: "wrote quotient.vhd and quotient.rpt, latency 0\n",
-        inputs: "1 1\n0 1\n",
-        rows: Some("1 1 : 1 0\n0 1 : 0 0\n"),
-    },
-    Case {
-        name: "48 by 48 bits of version 2",
-        document: DIVIDE,
-        changes: &[
-            ("version = 1", "version = 2"),
-            ("exact = false", "exact = true"),
-            ("width_a = 4", "width_a = 48"),
-            ("lsb_a = 0", "lsb_a = 24"),
-            ("width_b = 4", "width_b = 48"),
-            ("out_lsb = 0", "out_lsb = -24"),
+        DIVIDED,
+        "1 1 : 1 0\n0 1 : 0 0\n",
+    ),
+];
+
+const ROOTED: &str = "wrote root8.vhd and root8.rpt, latency 0\n";
+
+static ROOTS: [Case; 3] = [
+    (
+        "a root of eight bits",
+        &[],
+        ROOTED,
+        "c8 : e 04\nc4 : e 00\n00 : 0 00\nff : f 1e\n",
+    ),
+    (
+        "a root of one bit",
+        &[("width = 8", "width = 1")],
+        ROOTED,
+        "1 : 1 0\n0 : 0 0\n",
+    ),
+    (
+        "a root, one place down",
+        &[FAITHFUL, ("out_lsb = 0", "out_lsb = -1")],
+        ROOTED,
+        "c8 : 1c\n",
+    ),
+];
+
+static MULTIPLES: [Case; 3] = [
+    (
+        "45",
+        &[("constants = [0]", "constants = [45]")],
+        "wrote mcm45.vhd and mcm45.rpt, latency 0\n",
+        "1 : 02d\nf : 2a3\n",
+    ),
+    (
+        "39",
+        &[("constants = [0]", "constants = [39]")],
+        "wrote mcm45.vhd and mcm45.rpt, latency 0\n",
+        "1 : 027\nf : 249\n",
+    ),
+    (
+        "nothing, a power below zero and one",
+        &[
+            ("constants = [0]", "constants = [0, -8, 1]"),
+            ("extra = 1", "extra = 0"),
         ],
-        line: "wrote quotient.vhd and quotient.rpt, latency 0\n",
-        inputs: "ffffffffffff 000000000001\nffffffffffff ffffffffffff\n",
-        rows: Some(
-            "ffffffffffff 000000000001 : ffffffffffff000000000000 000000000000\nffffffffffff ffffffffffff : 000000000001000000000000 000000000000\n",
-        ),
-    },
-    Case {
-        name: "a root of eight bits",
-        document: ROOT,
-        changes: &[],
-        line: "wrote root8.vhd and root8.rpt, latency 0\n",
-        inputs: "c8\nc4\n00\nff\n",
-        rows: Some("c8 : e 04\nc4 : e 00\n00 : 0 00\nff : f 1e\n"),
-    },
-    Case {
-        name: "a root of one bit",
-        document: ROOT,
-        changes: &[("width = 8", "width = 1")],
-        line: "wrote root8.vhd and root8.rpt, latency 0\n",
-        inputs: "1\n0\n",
-        rows: Some("1 : 1 0\n0 : 0 0\n"),
-    },
-    Case {
-        name: "a root, one place down",
-        document: ROOT,
-        changes: &[
-            ("exact = true", "exact = false"),
-            ("out_lsb = 0", "out_lsb = -1"),
-        ],
-        line: "wrote root8.vhd and root8.rpt, latency 0\n",
-        inputs: "c8\n",
-        rows: Some("c8 : 1c\n"),
-    },
-    Case {
-        name: "a root of 48 bits, 24 places down",
-        document: ROOT,
-        changes: &[
-            ("version = 1", "version = 2"),
-            ("width = 8", "width = 48"),
-            ("out_lsb = 0", "out_lsb = -24"),
-        ],
-        line: "wrote root8.vhd and root8.rpt, latency 0\n",
-        inputs: "ffffffffffff\n000000000000\n000000000001\n",
-        rows: Some(
-            "ffffffffffff : ffffffffffff 0ffffffffffff\n000000000000 : 000000000000 0000000000000\n000000000001 : 000001000000 0000000000000\n",
-        ),
-    },
+        "wrote mcm45.vhd and mcm45.rpt, latency 0\n",
+        "5 : 0 d8 5\n",
+    ),
+];
+
+/// Fails with the name of the first case whose line or rows are others; the circuit of a document has this file.
+pub(crate) fn expect_circuits(
+    rt: &(impl Threads + Sync + Alloc<A = Global>),
+    document: &str,
+    file: &str,
+    cases: &[Case],
+) -> Result<(), Fail> {
+    for (name, changes, line, rows) in cases {
+        let spec = changed(rt.alloc(), document, changes)?;
+        let made = generated(rt, &spec)?;
+        expect(name, made.out.bytes(), line)?;
+        match made.folder.get(file) {
+            Some(vhdl) if !rows.is_empty() => expect_rows(rt, name, vhdl, rows)?,
+            None if rows.is_empty() => {}
+            _ => return Err(Fail::new(format_args!("{name}: a circuit, or none"))),
+        }
+    }
+    Ok(())
+}
+
+#[test]
+fn thirds(rt: HostRuntime) -> Result<(), Fail> {
+    expect_circuits(&rt, THIRD, "third.vhd", &THIRDS)
+}
+
+#[test]
+fn scales(rt: HostRuntime) -> Result<(), Fail> {
+    expect_circuits(&rt, SCALE, "times3.vhd", &SCALES)
+}
+
+#[test]
+fn filters(rt: HostRuntime) -> Result<(), Fail> {
+    expect_circuits(&rt, FILTER, "times3.vhd", &FILTERS)
+}
+
+#[test]
+fn products(rt: HostRuntime) -> Result<(), Fail> {
+    expect_circuits(&rt, MULTIPLY, "product.vhd", &PRODUCTS)
+}
+
+#[test]
+fn quotients(rt: HostRuntime) -> Result<(), Fail> {
+    expect_circuits(&rt, DIVIDE, "quotient.vhd", &QUOTIENTS)
+}
+
+#[test]
+fn roots(rt: HostRuntime) -> Result<(), Fail> {
+    expect_circuits(&rt, ROOT, "root8.vhd", &ROOTS)
+}
+
+#[test]
+fn multiples(rt: HostRuntime) -> Result<(), Fail> {
+    expect_circuits(&rt, MCM, "mcm45.vhd", &MULTIPLES)
+}
+
+/// Constants, how many further members a set may have, and the last line of the report.
+static GRAPHS: [(&str, &str, &str); 4] = [
+    ("constants = [45]", "extra = 1", "graph 3 45"),
+    ("constants = [45]", "extra = 0", "graph 3 19 45"),
+    ("constants = [39]", "extra = 1", "graph 5 39"),
+    ("constants = [0, -8, 1]", "extra = 0", "graph"),
 ];
 
 #[test]
-fn quotients_and_roots(rt: HostRuntime) -> Result<(), Fail> {
-    assert_eq!(rt; first_wrong(&rt, &QUOTIENTS_AND_ROOTS)?, None);
+fn graphs_of_reports(rt: HostRuntime) -> Result<(), Fail> {
+    for (constants, extra, last) in &GRAPHS {
+        let changes = [("constants = [0]", *constants), ("extra = 1", *extra)];
+        let spec = changed(rt.alloc(), MCM, &changes)?;
+        let made = generated(&rt, &spec)?;
+        let report = made.folder.get("mcm45.rpt").ok_or("no report")?;
+        let line = std::str::from_utf8(report)?.lines().last();
+        assert_eq!(rt; line, Some(*last));
+    }
     Ok(())
+}
+
+/// The report of a third of four bits, whose sum stands in the cycle of its table.
+const THIRD_REPORT: &str = "operator third
+kind scale
+mode faithful
+target plain
+period 1000000
+latency 0
+slack 998480
+input x unsigned 4 0
+output y unsigned 3 0
+cells wire 0 logic 0 add 4 choice 0 table 4 register 0
+signals 4
+";
+
+#[test]
+fn report_of_a_third(rt: HostRuntime) -> Result<(), Fail> {
+    let spec = changed(rt.alloc(), THIRD, &[("period = 900", "period = 1000000")])?;
+    let made = generated(&rt, &spec)?;
+    let report = made.folder.get("third.rpt").unwrap_or(b"");
+    expect("a third of four bits", report, THIRD_REPORT)
 }

@@ -2,8 +2,8 @@
 use Rattle.std.proofs.Common.{◌≡◌, ℕ, Bool, List, Some, None, refl}
 use Rattle.std.specs.Prelude.{codes}
 use Rattle.clap.specs.Words.{Row}
-use Rattle.opgen_command.specs.Command.{word_of, number_of, is_set, generate_of, vectors_of, simulate_of, workload_of}
-use Rattle.opgen_command.specs.declared.command.Command.TheVariants.{Generate, Vectors, Simulate, Workload}
+use Rattle.opgen_command.specs.Command.{word_of, number_of, is_set, generate_of, vectors_of, simulate_of, workload_of, check_of}
+use Rattle.opgen_command.specs.declared.command.Command.TheVariants.{Generate, Vectors, Simulate, Workload, Check}
 
 module _ (found : List Row) where
   pub generate : (spec text : List ℕ) (workers : ℕ) (enable : Bool) → Some spec ≡ word_of (codes "SPEC") found
@@ -45,3 +45,20 @@ module _ (found : List Row) where
 
   pub workload : (n : ℕ) → Some n ≡ number_of (codes "N") 1 32 None found → workload_of found ≡ Some (Workload n)
   workload n w = rw (← w) refl
+
+  pub check : (spec vhdl vectors a b c : List ℕ) (latency : ℕ) → Some spec ≡ word_of (codes "SPEC") found
+      → Some vhdl ≡ word_of (codes "VHDL") found → Some vectors ≡ word_of (codes "VECTORS") found
+      → Some latency ≡ number_of (codes "LATENCY") 0 100000 None found
+      → a ≡ spec → b ≡ vhdl → c ≡ vectors → check_of found ≡ Some (Check a b c latency)
+  check spec vhdl vectors a b c latency s v w n same also too = rw (← s, ← v, ← w, ← n, same, also, too) refl
+
+  pub no_vhdl : (spec : List ℕ) → Some spec ≡ word_of (codes "SPEC") found → None ≡ word_of (codes "VHDL") found → check_of found ≡ None
+  no_vhdl spec s v = rw (← s, ← v) refl
+
+  pub no_rows : (spec vhdl : List ℕ) → Some spec ≡ word_of (codes "SPEC") found → Some vhdl ≡ word_of (codes "VHDL") found
+      → None ≡ word_of (codes "VECTORS") found → check_of found ≡ None
+  no_rows spec vhdl s v w = rw (← s, ← v, ← w) refl
+
+  pub no_latency : (spec vhdl vectors : List ℕ) → Some spec ≡ word_of (codes "SPEC") found → Some vhdl ≡ word_of (codes "VHDL") found
+      → Some vectors ≡ word_of (codes "VECTORS") found → None ≡ number_of (codes "LATENCY") 0 100000 None found → check_of found ≡ None
+  no_latency spec vhdl vectors s v w n = rw (← s, ← v, ← w, ← n) refl

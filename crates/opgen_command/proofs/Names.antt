@@ -11,8 +11,8 @@ differ a b other = false_from_ne_true (bytes_eq a b) (λ same. other ((bytes_eq-
 
 pub no_command : {S : Type 0} (text : S → List ℕ) (words : List S) (s : S) (name : List ℕ) → Some s ≡ slice_get words 0 → name ≡ text s
     → (name ≡ codes "generate" → ⊥) → (name ≡ codes "vectors" → ⊥) → (name ≡ codes "simulate" → ⊥) → (name ≡ codes "workload" → ⊥)
-    → command_of (map text words) ≡ None
-no_command text [] s name first is a b c d = cc
-no_command text (word ∷ words) s name first is a b c d =
+    → (name ≡ codes "check" → ⊥) → command_of (map text words) ≡ None
+no_command text [] s name first is a b c d e = cc
+no_command text (word ∷ words) s name first is a b c d e =
     let same : text word ≡ name = cc in
-    rw (same, differ name _ a, differ name _ b, differ name _ c, differ name _ d) refl
+    rw (same, differ name _ a, differ name _ b, differ name _ c, differ name _ d, differ name _ e) refl

@@ -6,10 +6,10 @@ use Rattle.std.specs.Str.Parse.{digits_value, without_leading_plus}
 use Rattle.std.proofs.lemmas.Bool.{and_parts}
 use Rattle.clap.specs.ValueTests.{is_numeral}
 use Rattle.clap.specs.Words.{Row, one_of}
-use Rattle.opgen_command.specs.Apps.{generate_app, vectors_app, simulate_app, workload_app}
-use Rattle.opgen_command.specs.Command.{HasRanges, command_of, found_by, generate_of, is_set, number_in, number_of, simulate_of, vectors_of, within, word_of, workload_of}
+use Rattle.opgen_command.specs.Apps.{generate_app, vectors_app, simulate_app, workload_app, check_app}
+use Rattle.opgen_command.specs.Command.{HasRanges, command_of, found_by, generate_of, is_set, number_in, number_of, simulate_of, vectors_of, within, word_of, workload_of, check_of}
 use Rattle.opgen_command.specs.declared.command.Command.{Command}
-use Rattle.opgen_command.specs.declared.command.Command.TheVariants.{Generate, Vectors, Simulate, Workload}
+use Rattle.opgen_command.specs.declared.command.Command.TheVariants.{Generate, Vectors, Simulate, Workload, Check}
 
 abbrev IsBetween : (least most n : ℕ) → Type 0
 IsBetween least most n = (least ≤ n) × (n ≤ most)
@@ -89,14 +89,27 @@ module _ (found : List Row) where
       with_number (IsBetween 1 32) (λ n. Workload n) (number_of (codes "N") 1 32 None found)
       (number_of-range (codes "N") 1 32 None found tt) (λ n h. h)
 
-one_of_four : (a b c d : Bool) (g v s w : Option Command) → IfSome g HasRanges → IfSome v HasRanges → IfSome s HasRanges
-    → IfSome w HasRanges
-    → IfSome (if a then g else if b then v else if c then s else if d then w else None) HasRanges
-one_of_four true b c d g v s w hg hv hs hw = hg
-one_of_four false true c d g v s w hg hv hs hw = hv
-one_of_four false false true d g v s w hg hv hs hw = hs
-one_of_four false false false true g v s w hg hv hs hw = hw
-one_of_four false false false false g v s w hg hv hs hw = tt
+  check-ranges : IfSome (check_of found) HasRanges
+  check-ranges =
+      let vhdl = word_of (codes "VHDL") found in
+      let vectors = word_of (codes "VECTORS") found in
+      let latency = number_of (codes "LATENCY") 0 100000 None found in
+      after (λ s. option_and_then (λ v. option_and_then (λ r. option_map (λ n. Check s v r n) latency) vectors) vhdl)
+      (word_of (codes "SPEC") found) (λ s.
+      after (λ v. option_and_then (λ r. option_map (λ n. Check s v r n) latency) vectors) vhdl (λ v.
+      after (λ r. option_map (λ n. Check s v r n) latency) vectors (λ r.
+      with_number (IsBetween 0 100000) (λ n. Check s v r n) latency
+      (number_of-range (codes "LATENCY") 0 100000 None found tt) (λ n h. h.1))))
+
+one_of_five : (a b c d e : Bool) (g v s w k : Option Command) → IfSome g HasRanges → IfSome v HasRanges → IfSome s HasRanges
+    → IfSome w HasRanges → IfSome k HasRanges
+    → IfSome (if a then g else if b then v else if c then s else if d then w else if e then k else None) HasRanges
+one_of_five true b c d e g v s w k hg hv hs hw hk = hg
+one_of_five false true c d e g v s w k hg hv hs hw hk = hv
+one_of_five false false true d e g v s w k hg hv hs hw hk = hs
+one_of_five false false false true e g v s w k hg hv hs hw hk = hw
+one_of_five false false false false true g v s w k hg hv hs hw hk = hk
+one_of_five false false false false false g v s w k hg hv hs hw hk = tt
 
 pub ranges : (words : List (List ℕ)) → IfSome (command_of words) HasRanges
 ranges [] = tt
@@ -105,8 +118,10 @@ ranges (name ∷ words) =
     let vectors = found_by vectors_app (name ∷ words) in
     let simulate = found_by simulate_app (name ∷ words) in
     let workload = found_by workload_app (name ∷ words) in
-    one_of_four (bytes_eq name (codes "generate")) (bytes_eq name (codes "vectors")) (bytes_eq name (codes "simulate"))
-    (bytes_eq name (codes "workload")) (option_and_then generate_of generate) (option_and_then vectors_of vectors)
-    (option_and_then simulate_of simulate) (option_and_then workload_of workload)
+    let check = found_by check_app (name ∷ words) in
+    one_of_five (bytes_eq name (codes "generate")) (bytes_eq name (codes "vectors")) (bytes_eq name (codes "simulate"))
+    (bytes_eq name (codes "workload")) (bytes_eq name (codes "check")) (option_and_then generate_of generate)
+    (option_and_then vectors_of vectors) (option_and_then simulate_of simulate) (option_and_then workload_of workload)
+    (option_and_then check_of check)
     (after generate_of generate generate-ranges) (after vectors_of vectors vectors-ranges)
-    (after simulate_of simulate simulate-ranges) (after workload_of workload workload-ranges)
+    (after simulate_of simulate simulate-ranges) (after workload_of workload workload-ranges) (after check_of check check-ranges)

@@ -33,6 +33,9 @@ cycles = number_option (codes "cycles") 1 100000
 abbrev pub count : Rule
 count = number_word (codes "N") 1 32
 
+abbrev pub latency : Rule
+latency = number_word (codes "LATENCY") 0 100000
+
 abbrev pub enable : Rule
 enable = flag (codes "enable")
 
@@ -52,3 +55,8 @@ simulate_app = with_rule (with_rule (with_rule (new_app (codes "simulate")) (wor
 -- `workload N`
 abbrev pub workload_app : App
 workload_app = with_rule (new_app (codes "workload")) count
+
+-- `check SPEC VHDL VECTORS LATENCY`
+abbrev pub check_app : App
+check_app = with_rule (with_rule (with_rule (with_rule (new_app (codes "check")) (word (codes "SPEC"))) (word (codes "VHDL")))
+    (word (codes "VECTORS"))) latency

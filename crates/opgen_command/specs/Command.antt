@@ -5,9 +5,9 @@ use Rattle.std.specs.Str.{bytes_eq}
 use Rattle.std.specs.Str.Parse.{digits_value, without_leading_plus}
 use Rattle.clap.specs.ValueTests.{is_numeral}
 use Rattle.clap.specs.Words.{App, Kinds, Row, fault_of, first_of, matches_of, one_of}
-use Rattle.opgen_command.specs.Apps.{generate_app, vectors_app, simulate_app, workload_app}
+use Rattle.opgen_command.specs.Apps.{generate_app, vectors_app, simulate_app, workload_app, check_app}
 use Rattle.opgen_command.specs.declared.command.Command.{Command}
-use Rattle.opgen_command.specs.declared.command.Command.TheVariants.{Generate, Vectors, Simulate, Workload}
+use Rattle.opgen_command.specs.declared.command.Command.TheVariants.{Generate, Vectors, Simulate, Workload, Check}
 
 -- what was found, where there is no fault
 abbrev pub unless_fault : Kinds → List Row → Option (List Row)
@@ -56,6 +56,11 @@ simulate_of found = option_and_then (λ vhdl. option_and_then (λ vectors. optio
 abbrev pub workload_of : List Row → Option Command
 workload_of found = option_map (λ n. Workload n) (number_of (codes "N") 1 32 None found)
 
+abbrev pub check_of : List Row → Option Command
+check_of found = option_and_then (λ spec. option_and_then (λ vhdl. option_and_then (λ vectors. option_map
+    (λ latency. Check spec vhdl vectors latency) (number_of (codes "LATENCY") 0 100000 None found)) (word_of (codes "VECTORS") found))
+    (word_of (codes "VHDL") found)) (word_of (codes "SPEC") found)
+
 -- the command of a name
 abbrev pub command_named : (name : List ℕ) (words : List (List ℕ)) → Option Command
 command_named name words =
@@ -63,6 +68,7 @@ command_named name words =
     else if bytes_eq name (codes "vectors") then option_and_then vectors_of (found_by vectors_app words)
     else if bytes_eq name (codes "simulate") then option_and_then simulate_of (found_by simulate_app words)
     else if bytes_eq name (codes "workload") then option_and_then workload_of (found_by workload_app words)
+    else if bytes_eq name (codes "check") then option_and_then check_of (found_by check_app words)
     else None
 
 -- the command that the words are
@@ -76,3 +82,4 @@ HasRanges (Generate spec workers enable) = (1 ≤ workers) × (workers ≤ 32)
 HasRanges (Vectors spec seed cycles) = (seed ≤ 4294967295) × (1 ≤ cycles) × (cycles ≤ 100000)
 HasRanges (Simulate vhdl vectors out) = Unit {0}
 HasRanges (Workload n) = (1 ≤ n) × (n ≤ 32)
+HasRanges (Check spec vhdl vectors latency) = latency ≤ 100000

@@ -1,7 +1,7 @@
 //! What each command takes, as commands of `clap`.
 ghost use Rattle.std.specs.Prelude.{◌≡◌, IfOk, false};
 ghost use Rattle.clap.specs.Words.{app_of, rule_of};
-ghost use Rattle.opgen_command.specs.Apps.{generate_app, vectors_app, simulate_app, workload_app, word, workers, enable, seed, cycles, count};
+ghost use Rattle.opgen_command.specs.Apps.{generate_app, vectors_app, simulate_app, workload_app, check_app, word, workers, enable, seed, cycles, count, latency};
 
 use clap::{Arg, ArgAction, Command, value_parser};
 use std::alloc::{AllocError, Global};
@@ -58,6 +58,15 @@ fn count<'a>(alloc: Global) -> Arg<'a>
         .value_parser(value_parser!(u32).range(1..=32))
 }
 
+fn latency<'a>(alloc: Global) -> Arg<'a>
+    ensures rule { rule_of result ≡ latency }
+    ensures local { result.global ≡ false }
+{
+    Arg::new(alloc, "LATENCY")
+        .required(true)
+        .value_parser(value_parser!(u32).range(0..=100_000))
+}
+
 /// `generate SPEC [--workers N] [--enable]`.
 pub(crate) fn generate<'a>(alloc: Global) -> Result<Command<'a>, AllocError>
     ensures { IfOk result (λ c. app_of c ≡ generate_app) }
@@ -93,4 +102,15 @@ pub(crate) fn workload<'a>(alloc: Global) -> Result<Command<'a>, AllocError>
     ensures { IfOk result (λ c. app_of c ≡ workload_app) }
 {
     Command::new(alloc, "workload").arg(count(alloc))
+}
+
+/// `check SPEC VHDL VECTORS LATENCY`.
+pub(crate) fn check<'a>(alloc: Global) -> Result<Command<'a>, AllocError>
+    ensures { IfOk result (λ c. app_of c ≡ check_app) }
+{
+    Command::new(alloc, "check")
+        .arg(word(alloc, "SPEC"))?
+        .arg(word(alloc, "VHDL"))?
+        .arg(word(alloc, "VECTORS"))?
+        .arg(latency(alloc))
 }

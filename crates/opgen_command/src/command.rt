@@ -26,4 +26,12 @@ pub enum Command {
     Workload {
         n: u32,
     },
+    /// Run VHDL of any make over rows of inputs, and judge its outputs by a specification.
+    Check {
+        spec: Text,
+        vhdl: Text,
+        vectors: Text,
+        /// How many rows the outputs come after their inputs.
+        latency: u32,
+    },
 }

@@ -1,7 +1,7 @@
 ghost use Rattle.std.specs.Prelude.{◌≡◌, IsTrue, IfOk, IfErr, Some, None, map, string_bytes, option_and_then};
 ghost use Rattle.clap.specs.Words.{app_of, found_of, is_simple_and_free, rows_of};
-ghost use Rattle.opgen_command.specs.Apps.{generate_app, vectors_app, simulate_app, workload_app};
-ghost use Rattle.opgen_command.specs.Command.{command_of, found_by, HasRanges, generate_of, vectors_of, simulate_of, workload_of};
+ghost use Rattle.opgen_command.specs.Apps.{generate_app, vectors_app, simulate_app, workload_app, check_app};
+ghost use Rattle.opgen_command.specs.Command.{command_of, found_by, HasRanges, generate_of, vectors_of, simulate_of, workload_of, check_of};
 
 use crate::apps;
 use crate::command::Command;
@@ -107,6 +107,33 @@ fn workload(alloc: Global, words: &[String]) -> Result<Command, CommandFault>
     }
 }
 
+fn check(alloc: Global, words: &[String]) -> Result<Command, CommandFault>
+    ensures command { IfOk result (λ c. option_and_then check_of (found_by check_app (map string_bytes words.now)) ≡ Some c) }
+    ensures usage { IfErr result (λ fault. fault ≡ CommandFault.Usage →
+        option_and_then check_of (found_by check_app (map string_bytes words.now)) ≡ None) }
+    ensures ranges { IfOk result HasRanges }
+{
+    let found = matched(apps::check(alloc)?, words)?;
+    let Some(spec) = word(&found, "SPEC") else {
+        return Err(CommandFault::Usage);
+    };
+    let Some(vhdl) = word(&found, "VHDL") else {
+        return Err(CommandFault::Usage);
+    };
+    let Some(vectors) = word(&found, "VECTORS") else {
+        return Err(CommandFault::Usage);
+    };
+    let Some(latency) = number(&found, "LATENCY", 0, 100_000, None) else {
+        return Err(CommandFault::Usage);
+    };
+    Ok(Command::Check {
+        spec: Text::from_str(alloc, spec)?,
+        vhdl: Text::from_str(alloc, vhdl)?,
+        vectors: Text::from_str(alloc, vectors)?,
+        latency,
+    })
+}
+
 /// The command that the words after the program's name are. The first names it as it is spelled
 /// here, and `clap` reads the others, so an option may stand before or after the files, as
 /// `--seed 5` or `--seed=5`, and after a word `--` nothing is an option.
@@ -116,6 +143,7 @@ fn workload(alloc: Global, words: &[String]) -> Result<Command, CommandFault>
 ///   cycles, by default 16
 /// - `simulate VHDL VECTORS OUT`
 /// - `workload N`, with N from 1 to 32
+/// - `check SPEC VHDL VECTORS LATENCY`, with a latency of 0 to 100,000
 pub fn read_command(alloc: Global, words: &[String]) -> Result<Command, CommandFault>
     ensures command { IfOk result (λ c. command_of (map string_bytes words.now) ≡ Some c) }
     ensures usage { IfErr result (λ fault. fault ≡ CommandFault.Usage → command_of (map string_bytes words.now) ≡ None) }
@@ -129,6 +157,7 @@ pub fn read_command(alloc: Global, words: &[String]) -> Result<Command, CommandF
         "vectors" => vectors(alloc, words),
         "simulate" => simulate(alloc, words),
         "workload" => workload(alloc, words),
+        "check" => check(alloc, words),
         _ => Err(CommandFault::Usage),
     }
 }

@@ -28,6 +28,21 @@ fn read(alloc: Global, words: &[&str]) -> Result<String, AllocError> {
             )
         }
         Ok(Command::Workload { n }) => format!(in alloc; "workload {n}"),
+        Ok(
+            Command::Check {
+                spec,
+                vhdl,
+                vectors,
+                latency,
+            },
+        ) => {
+            format!(in alloc;
+                "check {} {} {} {latency}",
+                spec.as_str(),
+                vhdl.as_str(),
+                vectors.as_str()
+            )
+        }
         Err(CommandFault::Usage) => String::from_str(alloc, "usage"),
         Err(CommandFault::Memory) => String::from_str(alloc, "memory"),
     }
@@ -36,7 +51,7 @@ fn read(alloc: Global, words: &[&str]) -> Result<String, AllocError> {
 #[test]
 fn each_command(rt: HostRuntime) -> Result<(), Fail> {
     let alloc = rt.alloc();
-    let cases: [(&[&str], &str); 4] = [
+    let cases: [(&[&str], &str); 7] = [
         (
             &["generate", "--enable", "a.toml", "--workers=+3"],
             "generate a.toml 3 true",
@@ -47,6 +62,12 @@ fn each_command(rt: HostRuntime) -> Result<(), Fail> {
         ),
         (&["simulate", "a", "--", "-b", "c"], "simulate a -b c"),
         (&["workload", "32"], "workload 32"),
+        (&["check", "a", "b", "c", "+0"], "check a b c 0"),
+        (
+            &["check", "a", "--", "-b", "c", "100000"],
+            "check a -b c 100000",
+        ),
+        (&["check", "a", "b", "c", "100001"], "usage"),
     ];
     for case in cases.iter() {
         assert_eq!(rt; read(alloc, case.0)?.as_str(), case.1);

@@ -14,3 +14,8 @@ pub(crate) const PACED: &str = "exact = false\nperiod = 1600\n";
 pub(crate) fn document(alloc: Global, mode: &str, keys: &str) -> Result<String, AllocError> {
     format!(in alloc; "version = 1\nname = \"tried\"\ntarget = \"plain\"\n{mode}{keys}")
 }
+
+/// The same in version 2, which has the further kinds and keys.
+pub(crate) fn further(alloc: Global, mode: &str, keys: &str) -> Result<String, AllocError> {
+    format!(in alloc; "version = 2\nname = \"tried\"\ntarget = \"plain\"\n{mode}{keys}")
+}

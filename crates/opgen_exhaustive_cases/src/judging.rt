@@ -3,7 +3,7 @@ ghost use Rattle.opgen_operator.specs.Valid.{IsValidSpec};
 
 use crate::rows::{outputs_of, vectors_of};
 use crate::running::{Circuit, circuit_of, run_of};
-use crate::stimuli::{Cycles, all_cycles, put_drawn};
+use crate::stimuli::{Cycles, all_cycles, all_runs, put_drawn};
 use opgen_operator::{Spec, is_cycle, is_history};
 use opgen_spec::{PortFormat, read_spec};
 use std::alloc::{AllocError, Global};
@@ -17,6 +17,8 @@ pub(crate) enum Stimulus {
     All,
     /// So many cycles of drawn words.
     Drawn(usize),
+    /// Each run of three cycles of a port of 3 bits.
+    Runs,
 }
 
 /// The inputs, and after them drawn ones for so many cycles more, in which their last outputs come.
@@ -30,6 +32,7 @@ fn cycles_of(
     match stimulus {
         Stimulus::All => cycles = all_cycles(alloc, ports)?,
         Stimulus::Drawn(count) => put_drawn(alloc, &mut cycles, ports, count)?,
+        Stimulus::Runs => cycles = all_runs(alloc)?,
     }
     put_drawn(alloc, &mut cycles, ports, more)?;
     Ok(cycles)

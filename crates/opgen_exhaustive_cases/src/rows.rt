@@ -4,7 +4,7 @@ use opgen_spec::PortFormat;
 use std::alloc::{AllocError, Global};
 use std::test::Fail;
 
-/// Puts a row of words of at most twelve bits.
+/// Puts a row of words of at most twelve bits, or of 29 to 32.
 fn put_row(text: &mut String, ports: &[PortFormat], words: &[u128]) -> Result<(), AllocError> {
     for (place, (port, word)) in ports.iter().zip(words).enumerate() {
         if place != 0 {
@@ -13,7 +13,8 @@ fn put_row(text: &mut String, ports: &[PortFormat], words: &[u128]) -> Result<()
         match port.format.width {
             0..=4 => write!(text, "{word:x}")?,
             5..=8 => write!(text, "{word:02x}")?,
-            _ => write!(text, "{word:03x}")?,
+            9..=12 => write!(text, "{word:03x}")?,
+            _ => write!(text, "{word:08x}")?,
         }
     }
     text.push('\n')

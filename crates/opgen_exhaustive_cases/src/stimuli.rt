@@ -47,7 +47,50 @@ pub(crate) fn all_cycles(alloc: Global, ports: &[PortFormat]) -> Result<Cycles, 
     Ok(cycles)
 }
 
-/// Puts so many cycles of drawn words of at most twelve bits.
+static LETTERS: [u128; 8] = [0, 1, 2, 3, 4, 5, 6, 7];
+
+/// Puts a cycle of one word of 3 bits, which is this letter of the words from the highest down.
+fn put_letter(alloc: Global, cycles: &mut Cycles, letter: u128) -> Result<(), AllocError> {
+    let mut words = Vec::new(alloc);
+    words.push(letter ^ 7)?;
+    cycles.push(words)?;
+    Ok(())
+}
+
+/// Puts each run of three letters that begins with these two and is less than its rotations.
+fn put_ends(alloc: Global, cycles: &mut Cycles, first: u128, next: u128) -> Result<(), AllocError> {
+    for last in &LETTERS {
+        if first <= next && first < *last {
+            put_letter(alloc, cycles, first)?;
+            put_letter(alloc, cycles, next)?;
+            put_letter(alloc, cycles, *last)?;
+        }
+    }
+    Ok(())
+}
+
+/// Puts each run of three letters that begins with this one and is less than its rotations.
+fn put_runs(alloc: Global, cycles: &mut Cycles, first: u128) -> Result<(), AllocError> {
+    for next in &LETTERS {
+        put_ends(alloc, cycles, first, *next)?;
+    }
+    Ok(())
+}
+
+/// Cycles of a port of 3 bits in which each run of three comes: a de Bruijn sequence, of the letters
+/// and the runs of three less than their rotations in their order, and its first two words again.
+pub(crate) fn all_runs(alloc: Global) -> Result<Cycles, AllocError> {
+    let mut cycles = Vec::new(alloc);
+    for first in &LETTERS {
+        put_letter(alloc, &mut cycles, *first)?;
+        put_runs(alloc, &mut cycles, *first)?;
+    }
+    put_letter(alloc, &mut cycles, 0)?;
+    put_letter(alloc, &mut cycles, 0)?;
+    Ok(cycles)
+}
+
+/// Puts so many cycles of drawn words of at most 31 bits.
 pub(crate) fn put_drawn(
     alloc: Global,
     cycles: &mut Cycles,

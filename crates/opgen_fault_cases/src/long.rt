@@ -52,7 +52,7 @@ struct Case {
     most: usize,
 }
 
-static CASES: [Case; 4] = [
+static CASES: [Case; 7] = [
     Case {
         name: "the specification of generate",
         words: &["generate", "spec.toml"],
@@ -74,6 +74,24 @@ static CASES: [Case; 4] = [
     Case {
         name: "the vectors",
         words: &["simulate", "a.vhd", "in.vec", "out.vec"],
+        long: "in.vec",
+        most: 67_108_864,
+    },
+    Case {
+        name: "the specification of check",
+        words: &["check", "spec.toml", "a.vhd", "in.vec", "0"],
+        long: "spec.toml",
+        most: 1_048_576,
+    },
+    Case {
+        name: "the VHDL of check",
+        words: &["check", "spec.toml", "a.vhd", "in.vec", "0"],
+        long: "a.vhd",
+        most: 67_108_864,
+    },
+    Case {
+        name: "the vectors of check",
+        words: &["check", "spec.toml", "a.vhd", "in.vec", "0"],
         long: "in.vec",
         most: 67_108_864,
     },

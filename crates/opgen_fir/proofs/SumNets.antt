@@ -1,13 +1,15 @@
 -- The net of an accepted sum fits its specifications.
-use Rattle.std.proofs.Common.{◌≡◌, ℕ, zero, suc, ◌+◌, ◌-◌, ◌^◌, ◌<◌, ◌≤◌, Bool, true, false, [], ◌∷◌, length, get_or, codes, refl, sym, ◌∙◌, subst, arith}
+use Rattle.std.proofs.Common.{◌≡◌, ℕ, zero, suc, ◌+◌, ◌-◌, ◌^◌, ◌<◌, ◌≤◌, Bool, true, false, [], ◌∷◌, length, get_or, codes, refl, sym, ap, ◌∙◌, subst, arith}
 use Rattle.std.specs.Prelude.{ℤ, pos, ◌<ℤ◌, All, if◌then◌else◌}
 use Rattle.std.proofs.lemmas.Int.{ints}
 use Rattle.std.proofs.lemmas.List.Elements.{All-nil}
 use Rattle.std.proofs.lemmas.Nat.{pow_pos}
+use Rattle.opgen_num.specs.Words.{nat}
+use Rattle.opgen_compress.specs.Kept.{IsSumOf}
 use Rattle.opgen_compress.specs.Recipe.{compressed}
 use Rattle.opgen_design.specs.Run.{AreWords}
 use Rattle.opgen_design.specs.Width.{IsWidth}
-use Rattle.opgen_fir.specs.Recipe.{above_guard, factor, is_zero, net_of_sum, no_terms, sum_width, taps, tapped, with_half, with_term, with_terms}
+use Rattle.opgen_fir.specs.Recipe.{above_guard, counted_sum, factor, is_zero, net_of_sum, no_terms, sum_width, taps, tapped, with_half, with_term, with_terms}
 use Rattle.opgen_fir.specs.Summed.{HasSum, HasTerm, recent}
 use Rattle.opgen_fir.proofs.Delays.{length-line, line}
 use Rattle.opgen_fir.proofs.Factors.{den-units, units-some}
@@ -15,6 +17,8 @@ use Rattle.opgen_fir.proofs.Fits.{fits-sum, half-width}
 use Rattle.opgen_fir.proofs.Narrow.{fewest-some, narrow-terms}
 use Rattle.opgen_fir.proofs.Steps.{half-columns, step-sum, tap-number, tap-there, tap-width, term-input}
 use Rattle.opgen_fir.proofs.Summed.{none-summed}
+use Rattle.opgen_gpc.specs.Recipe.{Counting}
+use Rattle.opgen_gpc.proofs.Counting.{IsCounted, counted_if-is, sum-before}
 use Rattle.opgen_heap.specs.Contents.{Contents}
 use Rattle.opgen_heap.specs.Standing.{AllThere}
 use Rattle.opgen_heap.specs.Sum.{columns_sum}
@@ -33,6 +37,7 @@ use Rattle.opgen_net.specs.Valid.{IsValid, input_widths, widths}
 use Rattle.opgen_net.specs.WordRule.{IsThere}
 use Rattle.opgen_net.proofs.Appending.{valid-append, valid-output}
 use Rattle.opgen_net.proofs.FlowLaws.{length-widths}
+use Rattle.opgen_net.proofs.Grown.{grown-then}
 use Rattle.opgen_net.proofs.Later.{words-grown}
 use Rattle.opgen_operator.specs.declared.spec.Operator.TheVariants.{Fir}
 use Rattle.opgen_operator.specs.declared.spec.Sum.{Sum}
@@ -199,13 +204,22 @@ module _ (s : Sum) (accepted : IsAcceptedSum s) where
       let t = with_terms s (length s.coefs) in
       let all = all-terms (length s.coefs) (omega arith) in
       let heap = with_half g t.heap in
-      let p : Placed = compressed t.net heap in
       let wide : heap.width ≡ sum_width s = half-width g t.heap ∙ all.more.width in
-      let is_width : IsWidth heap.width = (omega (arith, wide, some), omega (arith, wide, fits)) in
       let there : AllThere t.net heap.columns = subst (AllThere t.net) (sym (half-columns g t.heap)) all.there in
-      let c : IsCompressed t.net heap p = compressed-is t.net heap all.valid is_width (half-heap g t.heap all.heap) there in
-      let place = c.wide ∙ wide in
+      let u : Counting = counted_sum s in
+      let counted : IsCounted t.net heap u = counted_if-is s.counters t.net heap all.valid there in
+      let width : u.heap.width ≡ sum_width s = counted.width ∙ wide in
+      let is_width : IsWidth u.heap.width = (omega (arith, width, some), omega (arith, width, fits)) in
+      let before : IsHeap heap = half-heap g t.heap all.heap in
+      let below : u.heap.constant < 2 ^ u.heap.width =
+      omega (arith, before.below, counted.constant, ap (λ w. 2 ^ w) counted.width) in
+      let p : Placed = compressed u.net u.heap in
+      let c : IsCompressed u.net u.heap p =
+      compressed-is u.net u.heap counted.later.valid is_width (record { below = below; few = counted.few before.few }) counted.there in
+      let sum : IsSumOf t.net heap p.net.nodes p.place =
+      sum-before t.net heap u.net u.heap counted.later.grown counted.sum (λ inputs t. nat (flow p.net.nodes inputs p.place t)) c.sum in
+      let place = c.wide ∙ width in
       let y : Output = record { name = codes "y"; from = above_guard s p.place } in
       let valid = valid-output p.net y c.later.valid (omega (arith, some), omega (arith, some, place)) in
-      fits-sum s ranges hold some t all.more all.sum p.net p.place c.sum place c.later.grown c.later.valid
-      (net_of_sum s) refl valid
+      fits-sum s ranges hold some t all.more all.sum p.net p.place sum place (grown-then t.net u.net p.net counted.later.grown c.later.grown)
+      c.later.valid (net_of_sum s) refl valid

@@ -1,4 +1,5 @@
--- The net of a sum: a delay for each cycle that a coefficient reaches back, tables on the input and the delays, and a compressor.
+-- The net of a sum: a delay for each cycle that a coefficient reaches back, tables on the input and the delays, larger counters where they
+-- are asked for, and a compressor.
 use Rattle.std.specs.Prelude.{ℕ, zero, suc, ◌+◌, ◌-◌, ◌^◌, Bool, List, [], ◌∷◌, ◌++◌, length, codes, ℤ, pos, ◌*ℤ◌, get_or, unsigned_abs, ◌==◌, if◌then◌else◌}
 use Rattle.opgen_num.specs.declared.format.Ratio.{Ratio}
 use Rattle.opgen_design.specs.declared.expr.Slice.{Slice}
@@ -12,6 +13,7 @@ use Rattle.opgen_heap.specs.Contents.{Contents}
 use Rattle.opgen_heap.specs.Adding.{with_constant}
 use Rattle.opgen_net.specs.Placed.{Placed}
 use Rattle.opgen_compress.specs.Recipe.{compressed}
+use Rattle.opgen_gpc.specs.Recipe.{Counting, counted_if}
 use Rattle.opgen_kcm.specs.Recipe.{Terms, with_rows}
 
 abbrev pub is_zero : ℤ → Bool
@@ -69,7 +71,9 @@ above_guard s node = record { node = node; high = sum_width s - 1; low = guard_b
 abbrev pub with_output : Sum → Placed → Net
 with_output s a = record a.net { outputs = a.net.outputs ++ record { name = codes "y"; from = above_guard s a.place } ∷ [] }
 
+-- all terms and half a unit, after larger counters where they are asked for
+abbrev pub counted_sum : Sum → Counting
+counted_sum s = let t = with_terms s (length s.coefs) in counted_if s.counters t.net (with_half (guard_bits s) t.heap)
+
 abbrev pub net_of_sum : Sum → Net
-net_of_sum s =
-    let t = with_terms s (length s.coefs) in
-    with_output s (compressed t.net (with_half (guard_bits s) t.heap))
+net_of_sum s = let c = counted_sum s in with_output s (compressed c.net c.heap)

@@ -6,6 +6,7 @@ ghost use Rattle.opgen_fir.specs.Recipe.{net_of_sum};
 use crate::taps::tapped;
 use crate::terms::{add_half, add_terms};
 use opgen_compress::compress;
+use opgen_gpc::count_if;
 use opgen_heap::Heap;
 use opgen_net::{Net, Slice};
 use opgen_num::Memory;
@@ -16,7 +17,8 @@ use std::alloc::Global;
 ///
 /// The input has a delay for each cycle that a coefficient reaches back. Each coefficient that is
 /// not 0 has its tables on the input of its cycle. Tables that round have guard bits below the
-/// output's last place, and half a unit of it is added before they are dropped.
+/// output's last place, and half a unit of it is added before they are dropped. Larger counters go
+/// before the compressor where they are asked for.
 pub fn build(alloc: Global, sum: &Sum) -> Result<Net, Memory>
     requires sum { IsAcceptedSum sum.now }
     ensures net { IfOk result (λ net. net ≡ net_of_sum sum.now) }
@@ -31,7 +33,8 @@ pub fn build(alloc: Global, sum: &Sum) -> Result<Net, Memory>
     let mut heap = Heap::new(alloc, width);
     add_terms(alloc, sum, &mut net, &mut heap)?;
     add_half(guard, &mut heap);
-    let node = compress(alloc, heap, &mut net)?;
+    let counted = count_if(alloc, sum.counters, heap, &mut net)?;
+    let node = compress(alloc, counted, &mut net)?;
     net.output(
         "y",
         Slice {

@@ -6,6 +6,8 @@ mod documents;
 #[cfg(test)]
 mod draws;
 #[cfg(test)]
+mod further;
+#[cfg(test)]
 mod good;
 #[cfg(test)]
 mod numbers;

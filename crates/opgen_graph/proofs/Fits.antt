@@ -1,18 +1,14 @@
 -- The net of several constants fits every valid specification of them, and its ports are named as a design asks.
-use Rattle.std.proofs.Common.{◌≡◌, ℕ, ◌<◌, ◌≤◌, Bool, true, false, ◌∷◌, ◌++◌, map, refl, sym, ap, ◌∙◌, subst, ⊎_elim, arith}
-use Rattle.std.specs.Prelude.{ℤ, pos, ◌-ℤ◌, ◌*ℤ◌, unsigned_abs, All, Contains}
-use Rattle.std.proofs.lemmas.Bool.{cases_lt}
+use Rattle.std.proofs.Common.{◌≡◌, ℕ, Bool, true, false, ◌++◌, map, sym, ap, ◌∙◌, subst, arith}
+use Rattle.std.specs.Prelude.{ℤ, pos, ◌-ℤ◌, ◌*ℤ◌, All}
 use Rattle.std.proofs.lemmas.Int.{ints}
-use Rattle.std.proofs.lemmas.List.Elements.{All-contains, All-contains_itself, All-weaker}
-use Rattle.std.proofs.lemmas.List.Sorted.{All-permutation, Contains-permutation}
+use Rattle.std.proofs.lemmas.List.Elements.{All-weaker}
 use Rattle.opgen_num.specs.declared.TheConstants.{MAX_WIDTH}
-use Rattle.opgen_num.specs.Formats.{fewest_bits}
 use Rattle.opgen_num.specs.Rounding.{IsGoodLinear}
 use Rattle.opgen_num.specs.Values.{val}
 use Rattle.opgen_num.proofs.Quotients.{within_one}
 use Rattle.opgen_net.specs.declared.net.Net.{Net}
 use Rattle.opgen_net.specs.Flow.{flow, input_at, slice_flow}
-use Rattle.opgen_net.specs.Valid.{IsValid}
 use Rattle.opgen_operator.specs.Accepted.{IsAcceptedSeveral}
 use Rattle.opgen_operator.specs.Bounded.{HasWidth, OutputsAreWide}
 use Rattle.opgen_operator.specs.declared.spec.Operator.TheVariants.{Mcm}
@@ -23,33 +19,24 @@ use Rattle.opgen_operator.specs.Held.{OutputsHold}
 use Rattle.opgen_operator.specs.Judged.{recent_words, output_words}
 use Rattle.opgen_operator.specs.Limits.{most_signal}
 use Rattle.opgen_operator.specs.Ports.{operator_outputs, one_input, multiple_ports}
-use Rattle.opgen_operator.specs.Ranges.{IsSeveral, IsWithin}
+use Rattle.opgen_operator.specs.Ranges.{IsSeveral}
 use Rattle.opgen_operator.proofs.Accepted.{accepted_ranges}
 use Rattle.opgen_operator.proofs.Versions.{signal_limit}
 use Rattle.opgen_graph.specs.declared.ranks.Graph.{Graph}
-use Rattle.opgen_graph.specs.Graphs.{values}
-use Rattle.opgen_graph.specs.Placing.{factors, AreAdders, HasOddPart}
-use Rattle.opgen_graph.specs.Reach.{IsMember}
-use Rattle.opgen_graph.specs.Recipe.{with_input, Multiples, with_adders, net_of_graph}
+use Rattle.opgen_graph.specs.Placing.{AreAdders, HasOddPart}
+use Rattle.opgen_graph.specs.Recipe.{with_input, Multiples, multiples_of, net_of_graph}
 use Rattle.opgen_graph.specs.Served.{Serves}
-use Rattle.opgen_graph.specs.Targets.{odd_part}
 use Rattle.opgen_graph.proofs.Kept.{Keeps, keeps-later, keeps-then}
-use Rattle.opgen_graph.proofs.Members.{here, there}
 use Rattle.opgen_graph.proofs.Outputs.{HasOutputs, all-outputs, right-at}
 use Rattle.opgen_graph.proofs.Products.{Ready}
-use Rattle.opgen_graph.proofs.Reaching.{ranks_are_graphs}
-use Rattle.opgen_graph.proofs.Standing.{Stands, at_first, first-left, all-stand}
-use Rattle.opgen_graph.proofs.TargetLists.{part_odd, some_number}
+use Rattle.opgen_graph.proofs.ServedNets as served
+use Rattle.opgen_graph.proofs.Standing.{Stands}
 
-some_bits : (signed : Bool) (width : ℕ) → fewest_bits signed ≤ width → 1 ≤ width
-some_bits false width h = h
-some_bits true width h = omega (arith, h)
-
-now : (t : ℕ) → pos t -ℤ pos 0 ≡ pos t
+pub now : (t : ℕ) → pos t -ℤ pos 0 ≡ pos t
 now t = omega (arith, ints)
 
 -- the exact value is a good output
-exact_good : (exact : Bool) (n y : ℤ) → y ≡ n → IsGoodLinear n (pos 1) y exact
+pub exact_good : (exact : Bool) (n y : ℤ) → y ≡ n → IsGoodLinear n (pos 1) y exact
 exact_good true n y e = omega (arith, ints, e)
 exact_good false n y e = within_one n (pos 1) y (omega (arith, ints, e)) (omega (arith, ints, e))
 
@@ -57,58 +44,20 @@ module _ (m : Several) (is : IsAcceptedSeveral m) (graph : Graph) (serves : Serv
   ranges : IsSeveral m
   ranges = accepted_ranges (Mcm m) is
 
-  pub some_input : 1 ≤ m.input.width
-  some_input = some_bits m.input.signed m.input.width ranges.input.fewest
-
-  pub input-valid : IsValid (with_input m.input)
-  input-valid = record {
-    nodes = ((some_input, omega (arith, ranges.input.most)), tt);
-    inputs = refl;
-    outputs = λ k d l. absurd (omega (arith, l));
-  }
-
   pub are_adders : AreAdders m.input graph.adders
-  are_adders =
-      let is = ranks_are_graphs serves.set graph.adders serves.ranks in
-      record {
-        some = some_input;
-        most = ranges.input.most;
-        members = All-permutation IsMember serves.set (values graph.adders) is.members serves.adders.members;
-        wired = is.wired;
-      }
+  are_adders = served.are_adders m.input ranges.input m.constants ranges.constants graph serves
 
   abbrev pub multiples : Multiples
-  multiples = with_adders m.input (at_first m.input) graph.adders
-
-  stood : Stands m.input multiples × (factors multiples.known ≡ 1 ∷ values graph.adders)
-  stood = all-stand m.input (at_first m.input) graph.adders (first-left m.input graph.adders input-valid are_adders)
+  multiples = multiples_of m.input graph
 
   pub stands : Stands m.input multiples
-  stands = stood.0
+  stands = served.stands m.input ranges.input m.constants ranges.constants graph serves
 
   pub ready : Ready m.input multiples
-  ready = record { valid = stands.later.valid; has_input = stands.has_input; each = stands.each }
-
-  has_part : (t : ℤ) → Contains m.constants t → HasOddPart multiples.known t
-  has_part t c some =
-      let n = unsigned_abs t in
-      let small : n ≤ 2047 = All-contains (IsWithin 2047) m.constants t ranges.constants c in
-      let odd = part_odd n (some_number t some) (omega (arith, small)) in
-      subst (λ fs. Contains fs (odd_part n)) (sym stood.1)
-      (⊎_elim
-      (λ (lt : 1 < odd_part n).
-      let in_set = serves.has_targets (odd_part n) (t, c, record { some = some; part = refl; above = lt }) in
-      let in_values =
-      Contains-permutation serves.set (values graph.adders) (odd_part n)
-      (ranks_are_graphs serves.set graph.adders serves.ranks).members in_set in
-      there 1 (odd_part n) (values graph.adders) in_values)
-      (λ (le : odd_part n ≤ 1).
-      let one : 1 ≡ odd_part n = omega (arith, odd) in
-      subst (Contains (1 ∷ values graph.adders)) one (here 1 (values graph.adders)))
-      (cases_lt 1 (odd_part n)))
+  ready = served.ready m.input ranges.input m.constants ranges.constants graph serves
 
   pub odd_parts : All (HasOddPart multiples.known) m.constants
-  odd_parts = All-weaker (Contains m.constants) (HasOddPart multiples.known) has_part m.constants (All-contains_itself m.constants)
+  odd_parts = served.odd_parts m.input ranges.input m.constants ranges.constants graph serves
 
   abbrev net : Net
   net = net_of_graph graph m

@@ -1,17 +1,17 @@
 -- Nets that keep the nodes of a net, and the multiples of the input that stand in them.
 use Rattle.std.proofs.Common.{◌≡◌, ℕ, ◌<◌, ◌≤◌, List, length, map, sym, ap, ◌∙◌, subst, arith}
-use Rattle.std.specs.Prelude.{ℤ, pos, ◌*ℤ◌, All, slice_index}
+use Rattle.std.specs.Prelude.{pos, ◌*ℤ◌, All}
 use Rattle.opgen_num.specs.declared.format.Format.{Format}
 use Rattle.opgen_num.specs.Values.{val}
 use Rattle.opgen_design.specs.Run.{AreWords}
 use Rattle.opgen_net.specs.declared.net.Net.{Net}
-use Rattle.opgen_net.specs.Flow.{Inputs, flow}
+use Rattle.opgen_net.specs.Flow.{Inputs}
 use Rattle.opgen_net.specs.Grown.{KeepsNodes}
-use Rattle.opgen_net.specs.Valid.{IsValid, input_widths, widths}
+use Rattle.opgen_net.specs.Valid.{IsValid, input_widths}
 use Rattle.opgen_net.proofs.Grown.{flow-then, grown-count, grown_nets_keep}
 use Rattle.opgen_net.proofs.Later.{Later, node_there}
 use Rattle.opgen_graph.specs.declared.multiples.Multiple.{Multiple}
-use Rattle.opgen_graph.specs.Placing.{IsNode}
+use Rattle.opgen_graph.specs.Placing.{IsNode, HasInput, IsMultiple}
 
 -- a valid net of the same inputs, which has at least the nodes
 pub record Keeps (old new : Net) : Type 0 where
@@ -48,11 +48,6 @@ pub words-back : (old new : Net) → Keeps old new → (inputs : Inputs) → All
     → All (AreWords (input_widths old)) inputs
 words-back old new keeps inputs words = subst (λ is. All (AreWords (map (λ (i : List ℕ × ℕ). i.1) is)) inputs) keeps.inputs words
 
--- a net whose node 0 has the width of the input
-pub record HasInput (input : Format) (net : Net) : Type 0 where
-  pub some : 1 ≤ input.width
-  pub width : slice_index (widths net.nodes) 0 ≡ input.width
-
 pub input_there : (input : Format) (net : Net) → HasInput input net → 0 < length net.nodes
 input_there input net has = node_there net 0 input.width has.some has.width
 
@@ -63,12 +58,6 @@ input-kept input old new keeps has =
 pub node-kept : (old new : Net) → Keeps old new → (m : Multiple) → IsNode old m → IsNode new m
 node-kept old new keeps m h =
     record { some = h.some; most = h.most; width = keeps.nodes.widths m.node (node_there old m.node m.width h.some h.width) ∙ h.width }
-
--- a node that has at every time the input times the factor
-pub record IsMultiple (input : Format) (net : Net) (m : Multiple) : Type 0 where
-  pub node : IsNode net m
-  pub product : (inputs : Inputs) (t : ℤ) → All (AreWords (input_widths net)) inputs
-      → val (flow net.nodes inputs m.node t) input ≡ val (flow net.nodes inputs 0 t) input *ℤ pos m.factor
 
 pub multiple-kept : (input : Format) (old new : Net) → Keeps old new → HasInput input old
     → (m : Multiple) → IsMultiple input old m → IsMultiple input new m

@@ -15,8 +15,12 @@ pub mod Kept
 pub mod Sums
 pub mod Standing
 pub mod TargetLists
+pub mod PartLists
 pub mod Products
 pub mod Outputs
+pub mod ServedNets
+pub mod PartNodes
 pub mod Fits
 pub mod Named
 pub mod Serving
+pub mod Resting

@@ -20,7 +20,7 @@ use Rattle.opgen_net.proofs.BitLists.{length-bits_from, bits_from-there, zeros-t
 use Rattle.opgen_net.proofs.Numbers.{at-append, at-zeros, at-node}
 use Rattle.opgen_graph.specs.declared.multiples.Multiple.{Multiple}
 use Rattle.opgen_graph.specs.Recipe.{top_bit, extended, operand}
-use Rattle.opgen_graph.proofs.Residues.{IsResidue}
+use Rattle.opgen_graph.specs.Residues.{IsResidue}
 
 highest-last : (w : List Bool) → 1 ≤ length w → slice_index_or w (length w - 1) false ≡ highest w
 highest-last [] h = absurd (omega (arith, h))

@@ -26,9 +26,9 @@ use Rattle.opgen_operator.specs.Ports.{constant_format, numbered}
 use Rattle.opgen_operator.specs.Ranges.{IsWithin}
 use Rattle.opgen_net.specs.Placed.{Placed, whole}
 use Rattle.opgen_net.proofs.Later.{node_there, words-later}
-use Rattle.opgen_graph.specs.Placing.{IsNode, HasOddPart}
+use Rattle.opgen_graph.specs.Placing.{IsNode, HasOddPart, HasInput, IsMultiple}
 use Rattle.opgen_graph.specs.Recipe.{Multiples, with_constant, with_output, with_outputs}
-use Rattle.opgen_graph.proofs.Kept.{Keeps, keeps-later, keeps-then, words-back, HasInput, input_there, input-kept, node-kept, IsMultiple, multiple-kept}
+use Rattle.opgen_graph.proofs.Kept.{Keeps, keeps-later, keeps-then, words-back, input_there, input-kept, node-kept, multiple-kept}
 use Rattle.opgen_graph.proofs.Products.{Ready, ready_nodes, constant-answers, constant-value}
 use Rattle.opgen_graph.proofs.Sums.{Answers}
 

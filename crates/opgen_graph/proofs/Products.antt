@@ -27,10 +27,9 @@ use Rattle.opgen_operator.specs.Ranges.{IsWithin}
 use Rattle.opgen_net.specs.Placed.{Placed, difference_of, with_last}
 use Rattle.opgen_net.proofs.Later.{Later, later-node, later-then, node_there}
 use Rattle.opgen_graph.specs.declared.multiples.Multiple.{Multiple}
-use Rattle.opgen_graph.specs.Placing.{factors, IsNode, HasOddPart}
+use Rattle.opgen_graph.specs.Placing.{factors, IsNode, HasOddPart, HasInput, IsMultiple}
 use Rattle.opgen_graph.specs.Recipe.{multiple_of, Multiples, negated, with_magnitude, with_constant}
-use Rattle.opgen_graph.specs.Targets.{power_of, odd_part}
-use Rattle.opgen_graph.proofs.Kept.{HasInput, IsMultiple}
+use Rattle.opgen_operator.specs.OddParts.{power_of, odd_part}
 use Rattle.opgen_graph.proofs.Residues.{Has, has, difference-has, settled}
 use Rattle.opgen_graph.proofs.Standing.{multiple_of-all, multiple_of-factor}
 use Rattle.opgen_graph.proofs.Sums.{pair-fits, Answers, operand-answers, operand-has}
@@ -54,7 +53,7 @@ zero_width input =
     let above : reach.above ≡ 0 = omega arith in
     ap (λ n. range_width (neg_ℤ (pos n)) (pos reach.above)) below ∙ ap (λ n. range_width (pos 0) (pos n)) above
 
-zeros-has : (bits : ℕ) → Has bits (pos 0) (word bits 0)
+pub zeros-has : (bits : ℕ) → Has bits (pos 0) (word bits 0)
 zeros-has bits = record {
   width = length-word bits 0;
   residue = record { more = 0; less = 0; same = omega (arith, ints, nat-word bits 0 (pow_pos bits)) };
@@ -128,7 +127,7 @@ module _ (signed : Bool) (b : Multiples) (valid : IsValid b.net) (nodes : All (I
 -- and has the input times the constant
 
 module _ (input : Format) (b : Multiples) (ready : Ready input b) (bits : ℕ) (wide : IsWidth bits) where
-  magnitude-has : (n : ℕ) → 0 < n → n < 2 ^ 32 → Contains (factors b.known) (odd_part n)
+  pub magnitude-has : (n : ℕ) → 0 < n → n < 2 ^ 32 → Contains (factors b.known) (odd_part n)
       → (inputs : Inputs) (t : ℤ) → All (AreWords (input_widths b.net)) inputs
       → Has bits (val (flow b.net.nodes inputs 0 t) input *ℤ pos n)
       (flow (with_magnitude input.signed bits b n).net.nodes inputs (with_magnitude input.signed bits b n).place t)

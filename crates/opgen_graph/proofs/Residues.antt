@@ -15,12 +15,7 @@ use Rattle.opgen_num.proofs.Integers.{commuted, product-difference, product-sum,
 use Rattle.opgen_num.proofs.Residues.{value_from_residue}
 use Rattle.opgen_num.proofs.Rounded.{floor_dropped}
 use Rattle.opgen_design.proofs.WidthLaws.{length-sum_with}
-
--- n is z, up to a multiple of 2 ^ bits
-pub record IsResidue (bits : ℕ) (z : ℤ) (n : ℕ) : Type 0 where
-  pub more : ℕ
-  pub less : ℕ
-  pub same : z +ℤ pos (2 ^ bits * more) ≡ pos (n + 2 ^ bits * less)
+use Rattle.opgen_graph.specs.Residues.{IsResidue}
 
 -- so many bits, whose number is z up to a multiple of 2 to them
 pub record Has (bits : ℕ) (z : ℤ) (w : List Bool) : Type 0 where

@@ -27,11 +27,11 @@ use Rattle.opgen_graph.specs.declared.ranks.Adder.{Adder}
 use Rattle.opgen_graph.specs.Adders.{IsTerm, Makes}
 use Rattle.opgen_graph.specs.GraphLaws.{IsWired}
 use Rattle.opgen_graph.specs.Graphs.{values}
-use Rattle.opgen_graph.specs.Placing.{factors, IsNarrow, AreAdders}
+use Rattle.opgen_graph.specs.Placing.{factors, IsNarrow, AreAdders, HasInput, IsMultiple}
 use Rattle.opgen_graph.specs.Reach.{IsMember}
-use Rattle.opgen_graph.specs.Recipe.{with_input, input_multiple, multiple_of, dropped, with_sum, without_lowest, Multiples, with_adder, with_adders}
+use Rattle.opgen_graph.specs.Recipe.{with_input, input_multiple, multiple_of, dropped, with_sum, without_lowest, Multiples, with_adder, with_adders, at_first}
 use Rattle.opgen_graph.specs.SetCost.{bit_length}
-use Rattle.opgen_graph.proofs.Kept.{keeps-later, words-back, HasInput, input_there, input-kept, IsMultiple, multiple-kept}
+use Rattle.opgen_graph.proofs.Kept.{keeps-later, words-back, input_there, input-kept, multiple-kept}
 use Rattle.opgen_graph.proofs.Members.{of_cons, of_nil}
 use Rattle.opgen_graph.proofs.Ranges.{product_holds}
 use Rattle.opgen_graph.proofs.Residues.{has, settled, scaled}
@@ -244,9 +244,6 @@ all-stand input b (a ∷ more) h =
     (stands, known ∙ ap (λ vs. vs ++ values more) (next-factors input b a) ∙ append_assoc (factors b.known) (a.value ∷ []) (values more))
 
 -- at first
-
-abbrev pub at_first : Format → Multiples
-at_first input = record { net = with_input input; known = input_multiple input ∷ [] }
 
 pub first-left : (input : Format) (adders : List Adder) → IsValid (with_input input) → AreAdders input adders
     → AreLeft input (at_first input) adders

@@ -37,11 +37,12 @@ use Rattle.opgen_graph.specs.declared.forms.Form.TheVariants.{A, B, C, D, E}
 use Rattle.opgen_graph.specs.declared.multiples.Multiple.{Multiple}
 use Rattle.opgen_graph.specs.declared.ranks.Adder.{Adder}
 use Rattle.opgen_graph.specs.Adders.{Makes}
-use Rattle.opgen_graph.specs.Placing.{IsNode}
+use Rattle.opgen_graph.specs.Placing.{IsNode, HasInput, IsMultiple}
 use Rattle.opgen_graph.specs.Recipe.{operand, zeros_below, dropped, added, with_sum, without_lowest}
-use Rattle.opgen_graph.proofs.Kept.{keeps-later, HasInput, input_there, IsMultiple, multiple-kept}
+use Rattle.opgen_graph.proofs.Kept.{keeps-later, input_there, multiple-kept}
 use Rattle.opgen_graph.proofs.Operands.{length-operand, operand-there, operand-residue}
-use Rattle.opgen_graph.proofs.Residues.{IsResidue, Has, has, dropped-has, scaled}
+use Rattle.opgen_graph.specs.Residues.{IsResidue}
+use Rattle.opgen_graph.proofs.Residues.{Has, has, dropped-has, scaled}
 use Rattle.opgen_graph.proofs.Steps.{added-has}
 
 -- a net that has grown by nodes, of which one has so many bits

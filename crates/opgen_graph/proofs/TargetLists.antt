@@ -13,7 +13,8 @@ use Rattle.std.proofs.lemmas.List.Elements.{All-contains, Contains-append_left, 
 use Rattle.std.proofs.lemmas.List.Sorted.{IsPermutation-sym, Contains-permutation}
 use Rattle.opgen_operator.specs.Ranges.{IsWithin}
 use Rattle.opgen_graph.specs.SignedDigits.{IsTarget}
-use Rattle.opgen_graph.specs.Targets.{power_of, odd_part, HasTarget, IsTargetOf, AreTargetsOf}
+use Rattle.opgen_operator.specs.OddParts.{power_of, odd_part}
+use Rattle.opgen_graph.specs.Targets.{HasTarget, IsTargetOf, AreTargetsOf}
 use Rattle.opgen_graph.proofs.Members.{here, of_one, all_of}
 use Rattle.opgen_graph.proofs.Powers.{shifted}
 

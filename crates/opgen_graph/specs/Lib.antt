@@ -6,5 +6,8 @@ pub mod SetCost
 pub mod SignedDigits
 pub mod Targets
 pub mod Served
+pub mod Residues
 pub mod Recipe
 pub mod Placing
+pub mod Parts
+pub mod Resting

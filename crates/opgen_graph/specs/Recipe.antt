@@ -22,7 +22,7 @@ use Rattle.opgen_graph.specs.declared.multiples.Multiple.{Multiple}
 use Rattle.opgen_graph.specs.declared.ranks.Adder.{Adder}
 use Rattle.opgen_graph.specs.declared.ranks.Graph.{Graph}
 use Rattle.opgen_graph.specs.SetCost.{bit_length}
-use Rattle.opgen_graph.specs.Targets.{power_of, odd_part}
+use Rattle.opgen_operator.specs.OddParts.{power_of, odd_part}
 
 -- A Multiple is a node that has the input times a factor. The input is node 0, and the multiple by 1.
 abbrev pub with_input : Format → Net
@@ -104,6 +104,14 @@ abbrev pub with_adders : Format → Multiples → List Adder → Multiples
 with_adders input before [] = before
 with_adders input before (a ∷ more) = with_adders input (with_adder input before a) more
 
+-- the input alone
+abbrev pub at_first : Format → Multiples
+at_first input = record { net = with_input input; known = input_multiple input ∷ [] }
+
+-- all adders of a graph, in their order
+abbrev pub multiples_of : Format → Graph → Multiples
+multiples_of input graph = with_adders input (at_first input) graph.adders
+
 -- Constants.
 
 -- a node taken off zeros
@@ -135,8 +143,6 @@ abbrev pub with_outputs : Format → (k : ℕ) → Multiples → List ℤ → Ne
 with_outputs input k m [] = m.net
 with_outputs input k m (t ∷ more) = with_outputs input (k + 1) (with_output input k m t) more
 
--- The adders in their order, and then the constants.
+-- The adders, and then the constants.
 abbrev pub net_of_graph : Graph → Several → Net
-net_of_graph graph m =
-    let one : Multiples = record { net = with_input m.input; known = input_multiple m.input ∷ [] } in
-    with_outputs m.input 0 (with_adders m.input one graph.adders) m.constants
+net_of_graph graph m = with_outputs m.input 0 (multiples_of m.input graph) m.constants

@@ -1,14 +1,7 @@
 -- The numbers that an adder graph has to make for some constants: their odd parts above 1.
-use Rattle.std.specs.Prelude.{◌≡◌, ◌≢◌, ◌↔◌, ℕ, ◌*◌, ◌/◌, ◌%◌, ◌^◌, ◌<◌, ℤ, pos, unsigned_abs, List, Contains}
-use Rattle.std.specs.Int.{trailing_zeros, w32}
+use Rattle.std.specs.Prelude.{◌≡◌, ◌≢◌, ◌↔◌, ℕ, ◌*◌, ◌%◌, ◌^◌, ◌<◌, ℤ, pos, unsigned_abs, List, Contains}
 use Rattle.std.specs.List.Sorted.{IsStrictlyIncreasing}
-
--- how often 2 divides a number above 0 and below 2 ^ 32, and what is left of it
-abbrev pub power_of : ℕ → ℕ
-power_of n = trailing_zeros w32 n
-
-abbrev pub odd_part : ℕ → ℕ
-odd_part n = n / 2 ^ power_of n
+use Rattle.opgen_operator.specs.OddParts.{power_of, odd_part}
 
 -- the odd part of a constant other than 0, without its sign, is above 1
 pub record HasTarget (constant : ℤ) (x : ℕ) : Type 0 where

@@ -6,7 +6,7 @@ ghost use Rattle.opgen_design.specs.Plain.{trees_of};
 ghost use Rattle.opgen_net.specs.Valid.{IsValid, widths};
 ghost use Rattle.opgen_num.specs.declared.TheConstants.{MAX_WIDTH};
 ghost use Rattle.opgen_graph.specs.Recipe.{zeros_below as zeros_of, dropped as dropped_of, added as added_of, input_multiple, with_input, with_sum, without_lowest, with_adder, with_adders};
-ghost use Rattle.opgen_graph.specs.Placing.{AreAdders, IsNarrow, IsNode, factors};
+ghost use Rattle.opgen_graph.specs.Placing.{AreAdders, AreMultiples, IsNarrow, IsNode, factors};
 
 use crate::forms::{Form, Step};
 use crate::multiples::{Multiple, multiple_of, operand};
@@ -155,6 +155,7 @@ pub fn place_adders(
     requires adders { AreAdders input adders.now }
     ensures ok { IfOk result (λ known. record { net = net.new; known = known } ≡
         with_adders input (record { net = net.old; known = input_multiple input ∷ [] }) adders.now) }
+    ensures multiples { IfOk result (AreMultiples input net.new) }
     ensures valid { IfOk result (λ known. IsValid net.new) }
 {
     let one = Multiple {

@@ -5,7 +5,7 @@ ghost use Rattle.opgen_operator.specs.Accepted.{IsAcceptedSeveral};
 ghost use Rattle.opgen_operator.specs.Ranges.{IsWithin};
 ghost use Rattle.opgen_graph.specs.Placing.{IsNode, HasOddPart, factors};
 ghost use Rattle.opgen_graph.specs.Recipe.{negated as negated_of, with_magnitude, with_constant, with_output, with_outputs};
-ghost use Rattle.opgen_graph.specs.Targets.{odd_part};
+ghost use Rattle.opgen_operator.specs.OddParts.{odd_part};
 
 use crate::adders::chain;
 use crate::multiples::{Multiple, multiple_of, operand};
@@ -27,8 +27,8 @@ fn negated(alloc: Global, net: &mut Net, width: u32, node: usize) -> Result<usiz
     net.cells(Class::Add, width, chain(alloc, Op::Minus, zeros, node)?)
 }
 
-// Makes the input times a number above 0.
-fn magnitude(
+/// Makes the input times a number above 0, in a width.
+pub fn magnitude(
     alloc: Global,
     net: &mut Net,
     signed: bool,
@@ -50,8 +50,8 @@ fn magnitude(
     operand(alloc, net, signed, power, width, odd)
 }
 
-// Makes the input times a constant.
-fn constant_node(
+/// Makes the input times a constant, in a width.
+pub fn constant_node(
     alloc: Global,
     net: &mut Net,
     signed: bool,

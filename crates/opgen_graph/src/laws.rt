@@ -2,6 +2,7 @@ ghost use Rattle.opgen_graph.specs.SignedDigits.{DigitSetsReach};
 ghost use Rattle.opgen_graph.specs.Targets.{PartsAreOdd};
 ghost use Rattle.opgen_graph.specs.GraphLaws.{RanksAreGraphs, OneGraph};
 ghost use Rattle.opgen_graph.specs.Served.{ReachedSetsServe};
+ghost use Rattle.opgen_graph.specs.Resting.{MultiplesRest};
 
 /// A law: the set of signed-digit partial sums of some targets has the targets, and can be reached from 1.
 pub fn digit_sets_reach()
@@ -26,4 +27,9 @@ pub fn reached_sets_serve()
 /// A law: a number is a power of two times its odd part, which is odd.
 pub fn parts_are_odd()
     ensures { PartsAreOdd }
+{}
+
+/// A law: the multiples of an input are zero before cycle 0.
+pub fn multiples_rest()
+    ensures { MultiplesRest }
 {}

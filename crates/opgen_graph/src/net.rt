@@ -4,6 +4,7 @@ ghost use Rattle.opgen_net.specs.Named.{IsNamed};
 ghost use Rattle.opgen_net.specs.Valid.{IsValid};
 ghost use Rattle.opgen_operator.specs.Accepted.{IsAcceptedSeveral};
 ghost use Rattle.opgen_operator.specs.Fits.{FitsSpecsOf};
+ghost use Rattle.opgen_operator.specs.Ranges.{IsInput};
 ghost use Rattle.opgen_operator.specs.declared.spec.Operator.TheVariants.{Mcm};
 ghost use Rattle.opgen_graph.specs.Recipe.{with_input, net_of_graph};
 ghost use Rattle.opgen_graph.specs.Served.{Serves};
@@ -12,18 +13,18 @@ use crate::adders::place_adders;
 use crate::constants::place_outputs;
 use crate::ranks::Graph;
 use opgen_net::Net;
-use opgen_num::Memory;
+use opgen_num::{Format, Memory};
 use opgen_operator::{Several, outputs_are_wide, outputs_hold};
 use std::alloc::Global;
 
-// The net of the input.
-fn input(alloc: Global, several: &Several) -> Result<Net, Memory>
-    requires { IsAcceptedSeveral several.now }
-    ensures net { IfOk result (λ net. net ≡ with_input several.now.input) }
+/// The net of an input `x` alone.
+pub fn input_net(alloc: Global, input: Format) -> Result<Net, Memory>
+    requires { IsInput input }
+    ensures net { IfOk result (λ net. net ≡ with_input input) }
     ensures valid { IfOk result IsValid }
 {
     let mut net = Net::new(alloc);
-    let _x = net.input("x", several.input.width)?;
+    let _x = net.input("x", input.width)?;
     Ok(net)
 }
 
@@ -41,7 +42,7 @@ pub fn graph_net(alloc: Global, graph: &Graph, several: &Several) -> Result<Net,
 {
     outputs_hold();
     outputs_are_wide();
-    let mut net = input(alloc, several)?;
+    let mut net = input_net(alloc, several.input)?;
     let adders = graph.adders.as_slice();
     let known = place_adders(alloc, &mut net, several.input, adders)?;
     place_outputs(alloc, &mut net, several, known.as_slice())?;

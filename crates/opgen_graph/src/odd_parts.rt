@@ -1,4 +1,5 @@
 ghost use Rattle.std.specs.Prelude.{◌≡◌, ◌↔◌, ℕ, ◌≤◌, length, All, Contains, IfOk, IfSome, IfNone};
+ghost use Rattle.opgen_operator.specs.OddParts.{odd_part_count};
 ghost use Rattle.opgen_operator.specs.Ranges.{IsWithin};
 ghost use Rattle.opgen_graph.specs.SignedDigits.{IsTarget};
 ghost use Rattle.opgen_graph.specs.Targets.{AreTargetsOf, HasTarget, IsTargetOf};
@@ -41,7 +42,7 @@ pub fn targets(alloc: Global, constants: &[i64]) -> Result<Vec<u32>, Memory>
     requires { All (IsWithin 2047) constants.now }
     ensures targets { IfOk result (λ found. AreTargetsOf constants.now found.items) }
     ensures each { IfOk result (λ found. All IsTarget found.items) }
-    ensures few { IfOk result (λ found. length found.items ≤ length constants.now) }
+    ensures few { IfOk result (λ found. length found.items ≤ odd_part_count constants.now) }
 {
     let mut found = odd_parts(alloc, constants)?;
     found.sort_unstable();

@@ -29,6 +29,10 @@ pub const ROOT: &str =
 pub const MCM: &str =
     "version = 1\nname = \"mcm45\"\nkind = \"mcm\"\nexact = true\ntarget = \"plain\"\nperiod = 1000000\nsigned = false\nwidth = 4\nlsb = 0\nconstants = [0]\nextra = 1\n";
 
+/// A seventh of seven bits, with its remainder.
+pub const CONSTDIV: &str =
+    "version = 2\nname = \"seventh\"\nkind = \"constdiv\"\nexact = true\ntarget = \"plain\"\nperiod = 1000000\nwidth = 7\nlsb = 0\ndivisor = 7\n";
+
 /// The document with its changes, each of a line by a new one; an empty text takes a line away.
 pub fn changed(
     alloc: Global,

@@ -1,6 +1,7 @@
 //! Words, folders and sinks in memory, and what a run of the program leaves in them.
 use opgen_io::{MemoryFolder, MemorySink};
 use std::alloc::{AllocError, Global};
+use std::test::Fail;
 
 /// What a run of the program leaves.
 #[derive(Drop)]
@@ -46,4 +47,13 @@ pub fn holds(folder: &MemoryFolder, name: &str, bytes: Option<&str>) -> bool {
         (None, None) => true,
         _ => false,
     }
+}
+
+/// Fails with the name of a case, with what was expected and what came, where that is another text.
+pub fn expect(name: &str, found: &[u8], wanted: &str) -> Result<(), Fail> {
+    if found == wanted.as_bytes() {
+        return Ok(());
+    }
+    let found = std::str::from_utf8(found)?;
+    Err(Fail::new(format_args!("{name}: expected {wanted:?}, found {found:?}")))
 }

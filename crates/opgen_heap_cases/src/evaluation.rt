@@ -1,6 +1,7 @@
-//! The words of a net without choices, tables and delays, for given inputs.
+//! The words of a net without choices and delays, for given inputs.
 use opgen_design::{Expr, Op, Slice};
 use opgen_net::{Net, Node};
+use opgen_num::Word;
 use std::alloc::AllocError;
 
 /// A number and its width in bits.
@@ -92,6 +93,18 @@ fn value(words: &[Sized], expr: &Expr) -> Sized {
     all.fold(first, |left, right| joined(*op, left, right))
 }
 
+/// The row that a number names.
+fn row_of(rows: &[Word], address: u128) -> Sized {
+    let place = usize::try_from(address).unwrap_or(usize::MAX);
+    rows.get(place).map_or(
+        NOTHING,
+        |row| Sized {
+            bits: row.bits,
+            width: row.width,
+        },
+    )
+}
+
 /// The words of all nodes where the input ports have these.
 pub fn words_of(net: &Net, inputs: &[u128]) -> Result<Vec<Sized>, AllocError> {
     let mut words: Vec<Sized> = Vec::new(net.nodes.allocator());
@@ -109,6 +122,9 @@ pub fn words_of(net: &Net, inputs: &[u128]) -> Result<Vec<Sized>, AllocError> {
                 bits: lowest(value(&words, expr.expr()).bits, *width),
                 width: *width,
             },
+            Node::Table { address, rows } => {
+                row_of(rows.as_slice(), word_of(&words, *address).bits)
+            }
             _ => NOTHING,
         };
         words.push(word)?;

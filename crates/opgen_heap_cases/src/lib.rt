@@ -1,6 +1,8 @@
-//! Bit heaps of a few bits, the nodes that they are compressed to, and compressed heaps beside plain addition: tests alone.
+//! Bit heaps of a few bits, their counters, the nodes that they are compressed to, and compressed heaps beside plain addition: tests alone.
 #![tactic(auto)]
 
+#[cfg(test)]
+mod counters;
 #[cfg(test)]
 mod evaluation;
 #[cfg(test)]

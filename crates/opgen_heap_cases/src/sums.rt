@@ -1,4 +1,4 @@
-//! Heaps are compressed, and their sums for ones, zeros and drawn words are compared with plain addition.
+//! Heaps are compressed, as they are and after larger counters, and their sums for ones, zeros and drawn words are compared with plain addition.
 ghost use Rattle.std.specs.Prelude.{IfOk};
 ghost use Rattle.opgen_design.specs.Width.{IsWidth};
 ghost use Rattle.opgen_net.specs.Valid.{IsValid};
@@ -6,6 +6,7 @@ ghost use Rattle.opgen_heap.specs.Standing.{AllThere};
 
 use crate::evaluation::{Sized, lowest, words_of};
 use opgen_compress::compress;
+use opgen_gpc::count;
 use opgen_heap::Heap;
 use opgen_net::Net;
 use opgen_num::Memory;
@@ -21,7 +22,7 @@ struct Case {
     input_width: u32,
 }
 
-static CASES: [Case; 17] = [
+static CASES: [Case; 19] = [
     Case {
         width: 5,
         columns: &[],
@@ -95,6 +96,18 @@ static CASES: [Case; 17] = [
         input_width: 1,
     },
     Case {
+        width: 20,
+        columns: &[5, 0, 6, 1, 7, 0, 11, 1, 12, 0, 13, 1, 5, 1],
+        constant: 3,
+        input_width: 1,
+    },
+    Case {
+        width: 6,
+        columns: &[13, 12, 11, 7, 6, 5],
+        constant: 9,
+        input_width: 7,
+    },
+    Case {
         width: 64,
         columns: &[0, 9, 2, 17, 1, 0, 5, 5],
         constant: 1 << 63,
@@ -128,14 +141,14 @@ static CASES: [Case; 17] = [
 
 /// One bit of the heap: that of an input's word, and its column.
 #[derive(Clone, Copy)]
-struct Placed {
-    node: usize,
-    index: u32,
-    weight: u32,
+pub struct Placed {
+    pub node: usize,
+    pub index: u32,
+    pub weight: u32,
 }
 
 /// A net of inputs, as many as the bits need.
-fn inputs_of(alloc: Global, placed: &[Placed], width: u32) -> Result<Net, Memory>
+pub fn inputs_of(alloc: Global, placed: &[Placed], width: u32) -> Result<Net, Memory>
     requires width { IsWidth width }
     ensures valid { IfOk result IsValid }
 {
@@ -147,15 +160,15 @@ fn inputs_of(alloc: Global, placed: &[Placed], width: u32) -> Result<Net, Memory
 }
 
 /// The places of all bits in order, from column 0 up, each input's bits from its highest.
-fn places(alloc: Global, case: &Case) -> Result<Vec<Placed>, AllocError> {
+pub fn places(alloc: Global, columns: &[u32], input_width: u32) -> Result<Vec<Placed>, AllocError> {
     let mut placed = Vec::new(alloc);
     let mut node: usize = 0;
-    let mut left = case.input_width;
-    for (weight, count) in (0..96).zip(case.columns) {
+    let mut left = input_width;
+    for (weight, count) in (0..96).zip(columns) {
         for _ in 0..*count {
             if left == 0 {
                 node = node.saturating_add(1);
-                left = case.input_width;
+                left = input_width;
             }
             left = left.saturating_sub(1);
             placed.push(Placed {
@@ -181,7 +194,7 @@ fn add(net: &Net, heap: &mut Heap, bit: Placed) -> Result<(), Memory>
 }
 
 /// The heap of the bits and the constant.
-fn heap_of(
+pub fn heap_of(
     alloc: Global,
     net: &Net,
     placed: &[Placed],
@@ -238,13 +251,16 @@ fn agrees(
     Ok(sum == plain_sum(&words, filled, case.constant, case.width))
 }
 
-fn case_holds(alloc: Global, case: &Case) -> Result<bool, Memory> {
+fn case_holds(alloc: Global, case: &Case, counters: bool) -> Result<bool, Memory> {
     let width = case.width.clamp(1, 96);
     let input_width = case.input_width.clamp(1, 96);
-    let placed = places(alloc, case)?;
+    let placed = places(alloc, case.columns, case.input_width)?;
     let mut net = inputs_of(alloc, &placed, input_width)?;
     let ports = net.inputs.len();
-    let heap = heap_of(alloc, &net, &placed, width, case.constant)?;
+    let mut heap = heap_of(alloc, &net, &placed, width, case.constant)?;
+    if counters {
+        heap = count(alloc, heap, &mut net)?;
+    }
     let answer = compress(alloc, heap, &mut net)?;
     let ones = vec![in alloc; lowest(u128::MAX, case.input_width); ports]?;
     let zeros = vec![in alloc; 0; ports]?;
@@ -260,7 +276,8 @@ fn case_holds(alloc: Global, case: &Case) -> Result<bool, Memory> {
 #[test]
 fn sums_of_heaps(rt: HostRuntime) -> Result<(), Fail> {
     for case in &CASES {
-        assert!(rt; case_holds(rt.alloc(), case)?);
+        assert!(rt; case_holds(rt.alloc(), case, false)?);
+        assert!(rt; case_holds(rt.alloc(), case, true)?);
     }
     Ok(())
 }
@@ -273,6 +290,6 @@ fn a_thousand_bits_in_each_of_64_columns(rt: HostRuntime) -> Result<(), Fail> {
         constant: 0,
         input_width: 64,
     };
-    assert!(rt; case_holds(rt.alloc(), &case)?);
+    assert!(rt; case_holds(rt.alloc(), &case, false)?);
     Ok(())
 }

@@ -2,15 +2,15 @@
 ghost use Rattle.std.specs.Prelude.{◌≡◌, ◌≤◌, None, IfOk, vec_len};
 
 use crate::counts::raise;
-use crate::whole::{read_within, write_whole};
+use crate::replace::store_file;
+use crate::whole::read_within;
 use crate::{FetchFault, Folder, StoreFault};
 use std::alloc::Global;
 use std::fs::File;
-use std::io;
 use std::marker::Model;
 use std::rt::Files;
 
-/// The files of the working directory, each under its path. What they hold is not told, and each failure raises a count. A missing file counts as a read fault.
+/// The files of the working directory, each under its path. What they hold is not told, and each failure raises a count. A missing file counts as a read fault. A store that fails leaves the old file, and one that does not replaces it whole.
 #[derive(Drop)]
 pub struct DiskFolder<'a, R> {
     rt: &'a R,
@@ -64,13 +64,7 @@ fn read_file<R: Files>(
     Ok(bytes)
 }
 
-// Makes the file, or makes it anew, with these bytes.
-fn write_file<R: Files>(rt: &R, name: &str, bytes: &[u8]) -> io::Result<()> {
-    let mut file = File::create(rt, name)?;
-    write_whole(&mut file, bytes)
-}
-
-impl<'a, R: Files> Folder for DiskFolder<'a, R> {
+impl<'a, R: Files + AllocGlobal> Folder for DiskFolder<'a, R> {
     ghost told = { λ _. None };
 
     ghost read_faults = { λ s. s.read_faults };
@@ -92,12 +86,10 @@ impl<'a, R: Files> Folder for DiskFolder<'a, R> {
     }
 
     fn store(&mut self, name: &str, bytes: &[u8]) -> Result<(), StoreFault> {
-        match write_file(self.rt, name, bytes) {
-            Ok(()) => Ok(()),
-            Err(_) => {
-                raise(&mut self.write_faults);
-                Err(StoreFault::Failed)
-            }
+        let answer = store_file(self.rt, name, bytes);
+        if answer == Err(StoreFault::Failed) {
+            raise(&mut self.write_faults);
         }
+        answer
     }
 }

@@ -8,6 +8,7 @@ mod counts;
 mod disk;
 mod folder;
 mod memory;
+mod replace;
 mod sink;
 mod stdout;
 mod whole;
@@ -18,5 +19,9 @@ pub use memory::{MemoryFolder, MemorySink};
 pub use sink::{PutFault, Sink};
 pub use stdout::StdSink;
 
+#[cfg(test)]
+mod faulty;
+#[cfg(test)]
+mod store_tests;
 #[cfg(test)]
 mod tests;

@@ -15,7 +15,7 @@ use Rattle.opgen_design.specs.Sound.{IsSound, HasWidth, WidthsAgree, Target, sig
 use Rattle.opgen_design.specs.Tree.{Tree}
 use Rattle.opgen_design.specs.Value.{chosen}
 use Rattle.opgen_design.specs.Width.{width}
-use Rattle.opgen_value.proofs.Fitting.{some-of}
+use Rattle.opgen_runs.proofs.Fitting.{some-of}
 use Rattle.opgen_runs.proofs.Widths.{declared-there, narrow, width_of, word-length}
 use Rattle.opgen_runs.specs.Evaluate.{HaveWidths, IsThere, driver_word, table_word}
 use Rattle.opgen_runs.specs.Tables.{row_word}

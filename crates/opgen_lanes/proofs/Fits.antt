@@ -9,7 +9,7 @@ use Rattle.opgen_design.specs.declared.expr.Op.{Op}
 use Rattle.opgen_design.specs.Tree.{Tree, Trees, name, part, bits, port, more, none}
 use Rattle.opgen_design.specs.Width.{IsWidth, as_width, width, width_on, chain_width, joined}
 use Rattle.opgen_design.proofs.WidthLaws.{part_fits, some_before, as_width-some, width-is_width}
-use Rattle.opgen_value.proofs.Fitting.{some-of, pair-is_width}
+use Rattle.opgen_runs.proofs.Fitting.{some-of, pair-is_width}
 
 -- the width that is read, of a signal or a port
 pub record IsRead (widths : List ℕ) (n : ℕ) (whole : Option ℕ) : Type 0 where

@@ -15,12 +15,12 @@ use Rattle.opgen_runs.specs.Evaluate.{hand_all_on, settle}
 use Rattle.opgen_runs.specs.Step.{words_of}
 use Rattle.opgen_runs.proofs.Cycles.{is-cycle}
 use Rattle.opgen_runs.proofs.Equations.{placed}
-use Rattle.opgen_steps.specs.declared.step.Step.{Step}
-use Rattle.opgen_steps.specs.declared.step.Spot.{Spot}
-use Rattle.opgen_steps.specs.Steps.{exec}
-use Rattle.opgen_steps.specs.Programs.{Fit, Spots, seen, word_of}
-use Rattle.opgen_steps.proofs.Exec.{exec-kept, exec-length}
-use Rattle.opgen_steps.proofs.Gives.{fit-along, longer, seen-along}
+use Rattle.opgen_machine.specs.declared.step.Step.{Step}
+use Rattle.opgen_machine.specs.declared.step.Spot.{Spot}
+use Rattle.opgen_machine.specs.Steps.{exec}
+use Rattle.opgen_machine.specs.Programs.{Fit, Spots, seen, word_of}
+use Rattle.opgen_machine.proofs.Exec.{exec-kept, exec-length}
+use Rattle.opgen_machine.proofs.Gives.{fit-along, longer, seen-along}
 use Rattle.opgen_machine.specs.declared.program.Program.{Program}
 use Rattle.opgen_machine.specs.Laid.{IsFlat}
 use Rattle.opgen_machine.specs.Layout.{first_spots, rest_of}

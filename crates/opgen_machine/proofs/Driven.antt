@@ -12,12 +12,12 @@ use Rattle.opgen_design.specs.Width.{IsWidth}
 use Rattle.opgen_design.proofs.WidthLaws.{as_width-of}
 use Rattle.opgen_runs.specs.Evaluate.{driver_word}
 use Rattle.opgen_runs.specs.Tables.{row_word}
-use Rattle.opgen_steps.specs.declared.step.Step.{Step}
-use Rattle.opgen_steps.specs.declared.step.Spot.{Spot}
-use Rattle.opgen_steps.specs.Steps.{exec}
-use Rattle.opgen_steps.specs.Programs.{AreSpots, Holds, Spots, seen, value_over}
-use Rattle.opgen_steps.specs.Emit.{Chosen, Emitted, Extends, IsNarrow, Looked, width_over}
-use Rattle.opgen_steps.proofs.Gives.{extends-trans, fit-back, gives-along, longer, seen-along, spots-more}
+use Rattle.opgen_machine.specs.declared.step.Step.{Step}
+use Rattle.opgen_machine.specs.declared.step.Spot.{Spot}
+use Rattle.opgen_machine.specs.Steps.{exec}
+use Rattle.opgen_machine.specs.Programs.{AreSpots, Holds, Spots, seen, value_over}
+use Rattle.opgen_machine.specs.Emit.{Chosen, Emitted, Extends, IsNarrow, Looked, width_over}
+use Rattle.opgen_machine.proofs.Gives.{extends-trans, fit-back, gives-along, longer, seen-along, spots-more}
 use Rattle.opgen_machine.specs.Laid.{HasRoom, Row}
 use Rattle.opgen_machine.specs.Settles.{Agrees, AgreesTable, HasNarrow, Leaves, Left, chosen_over, width_at}
 

@@ -21,8 +21,8 @@ use Rattle.opgen_runs.specs.Evaluate.{HaveWidths}
 use Rattle.opgen_runs.specs.Step.{words_of}
 use Rattle.opgen_runs.proofs.Reading.{there-some}
 use Rattle.opgen_runs.proofs.Widths.{agree-at}
-use Rattle.opgen_steps.specs.declared.step.Spot.{Spot}
-use Rattle.opgen_steps.specs.Programs.{AreBelow, AreSpots, Fit, Spots, seen, widths_of, word_of}
+use Rattle.opgen_machine.specs.declared.step.Spot.{Spot}
+use Rattle.opgen_machine.specs.Programs.{AreBelow, AreSpots, Fit, Spots, seen, widths_of, word_of}
 use Rattle.opgen_machine.specs.Laid.{CanBeLaid, IsFlat, IsSmall}
 use Rattle.opgen_machine.specs.Layout.{first_spots, port_spots, rest_of, spots_from}
 use Rattle.opgen_machine.specs.Moves.{FitFirst}

@@ -15,12 +15,12 @@ use Rattle.opgen_design.specs.Width.{as_width}
 use Rattle.opgen_design.proofs.WidthLaws.{as_width-of, width-is_width}
 use Rattle.opgen_runs.specs.Evaluate.{hand_on, hand_all_on}
 use Rattle.opgen_runs.specs.Step.{words_of}
-use Rattle.opgen_steps.specs.declared.step.Step.{Step}
-use Rattle.opgen_steps.specs.declared.step.Spot.{Spot}
-use Rattle.opgen_steps.specs.Steps.{AreFine, exec}
-use Rattle.opgen_steps.specs.Programs.{AreSpots, Spots, seen, value_over, widths_of}
-use Rattle.opgen_steps.specs.Emit.{Chosen, Copied, Emitted, width_over}
-use Rattle.opgen_steps.proofs.Gives.{extends-refl, extends-trans, fit-back, kept, longer, seen-along, spots-more}
+use Rattle.opgen_machine.specs.declared.step.Step.{Step}
+use Rattle.opgen_machine.specs.declared.step.Spot.{Spot}
+use Rattle.opgen_machine.specs.Steps.{AreFine, exec}
+use Rattle.opgen_machine.specs.Programs.{AreSpots, Spots, seen, value_over, widths_of}
+use Rattle.opgen_machine.specs.Emit.{Chosen, Copied, Emitted, width_over}
+use Rattle.opgen_machine.proofs.Gives.{extends-refl, extends-trans, fit-back, kept, longer, seen-along, spots-more}
 use Rattle.opgen_machine.specs.declared.registers.Move.{Move}
 use Rattle.opgen_machine.specs.Moves.{AreMoves, FitFirst, HandsOn, IsNext, SameFrom, move_all, next_over}
 use Rattle.opgen_machine.specs.Settles.{HasNarrow, width_at}

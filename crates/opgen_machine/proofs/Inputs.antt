@@ -10,8 +10,8 @@ use Rattle.opgen_design.specs.Run.{Cycle, at_ports, input_widths, is_in, is_out,
 use Rattle.opgen_design.specs.Sound.{port_widths, signal_widths}
 use Rattle.opgen_runs.specs.Step.{words_of}
 use Rattle.opgen_runs.proofs.Starts.{at_ports-length}
-use Rattle.opgen_steps.specs.Programs.{Fit, word_of}
-use Rattle.opgen_steps.proofs.Exec.{exec-length}
+use Rattle.opgen_machine.specs.Programs.{Fit, word_of}
+use Rattle.opgen_machine.proofs.Exec.{exec-length}
 use Rattle.opgen_machine.specs.declared.machine.Machine.{Machine}
 use Rattle.opgen_machine.specs.declared.program.Program.{Program}
 use Rattle.opgen_machine.specs.Layout.{port_spots, rest_of}

@@ -1,3 +1,9 @@
+pub mod Exec
+pub mod Numbers
+pub mod Narrow
+pub mod Gives
+pub mod Emitted
+pub mod Puts
 pub mod Driven
 pub mod Settling
 pub mod Handing

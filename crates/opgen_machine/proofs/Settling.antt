@@ -14,11 +14,11 @@ use Rattle.opgen_design.specs.Sound.{Target, signal, port_of, target}
 use Rattle.opgen_design.specs.Tree.{Tree}
 use Rattle.opgen_design.specs.Width.{width}
 use Rattle.opgen_runs.specs.Evaluate.{driver_word, put, put_at, put_option, settle}
-use Rattle.opgen_steps.specs.declared.step.Step.{Step}
-use Rattle.opgen_steps.specs.declared.step.Spot.{Spot}
-use Rattle.opgen_steps.specs.Steps.{AreFine, exec}
-use Rattle.opgen_steps.specs.Programs.{AllFit, AreSpots, Holds, Spots, seen, widths_of, word_of}
-use Rattle.opgen_steps.proofs.Gives.{fit-along, longer, seen-along, seen-eq, spots-more}
+use Rattle.opgen_machine.specs.declared.step.Step.{Step}
+use Rattle.opgen_machine.specs.declared.step.Spot.{Spot}
+use Rattle.opgen_machine.specs.Steps.{AreFine, exec}
+use Rattle.opgen_machine.specs.Programs.{AllFit, AreSpots, Holds, Spots, seen, widths_of, word_of}
+use Rattle.opgen_machine.proofs.Gives.{fit-along, longer, seen-along, seen-eq, spots-more}
 use Rattle.opgen_machine.specs.Laid.{AreLaid, IsLaid}
 use Rattle.opgen_machine.specs.Settles.{Agrees, HasNarrow, IsPut, IsThere, Settles, put_spot, width_at}
 

@@ -6,8 +6,8 @@ use Rattle.opgen_design.specs.declared.design.Port.{Port}
 use Rattle.opgen_design.specs.declared.design.Signal.{Signal}
 use Rattle.opgen_design.specs.Run.{is_in, input_widths}
 use Rattle.opgen_design.specs.Sound.{signal_widths}
-use Rattle.opgen_steps.specs.declared.step.Spot.{Spot}
-use Rattle.opgen_steps.specs.Programs.{Spots}
+use Rattle.opgen_machine.specs.declared.step.Spot.{Spot}
+use Rattle.opgen_machine.specs.Programs.{Spots}
 
 -- spots one after another, from a place on
 abbrev pub spots_from : ℕ → List ℕ → List Spot

@@ -1,3 +1,6 @@
+pub mod Steps
+pub mod Programs
+pub mod Emit
 pub mod Layout
 pub mod Laid
 pub mod Settles

@@ -5,8 +5,8 @@ use Rattle.opgen_design.specs.declared.design.Design.{Design}
 use Rattle.opgen_design.specs.Run.{Words, Cycle, at_ports, input_widths, is_in, is_out, outputs_of}
 use Rattle.opgen_design.specs.Sound.{port_widths, signal_widths}
 use Rattle.opgen_runs.specs.Step.{IsStep, words_of}
-use Rattle.opgen_steps.specs.Steps.{AreFine, exec}
-use Rattle.opgen_steps.specs.Programs.{AllFit, seen}
+use Rattle.opgen_machine.specs.Steps.{AreFine, exec}
+use Rattle.opgen_machine.specs.Programs.{AllFit, seen}
 use Rattle.opgen_machine.specs.declared.machine.Machine.{Machine}
 use Rattle.opgen_machine.specs.declared.program.Program.{Program}
 use Rattle.opgen_machine.specs.Laid.{AreLaid, IsFlat}

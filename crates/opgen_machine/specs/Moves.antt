@@ -9,11 +9,11 @@ use Rattle.opgen_runs.specs.Evaluate.{hand_all_on}
 use Rattle.opgen_runs.specs.Step.{words_of}
 use Rattle.opgen_machine.specs.declared.registers.Move.{Move}
 use Rattle.opgen_machine.specs.Settles.{width_at}
-use Rattle.opgen_steps.specs.declared.step.Step.{Step}
-use Rattle.opgen_steps.specs.declared.step.Spot.{Spot}
-use Rattle.opgen_steps.specs.Steps.{AreFine, exec}
-use Rattle.opgen_steps.specs.Programs.{AllFit, Gives, Spots, seen, value_over}
-use Rattle.opgen_steps.specs.Emit.{Extends}
+use Rattle.opgen_machine.specs.declared.step.Step.{Step}
+use Rattle.opgen_machine.specs.declared.step.Spot.{Spot}
+use Rattle.opgen_machine.specs.Steps.{AreFine, exec}
+use Rattle.opgen_machine.specs.Programs.{AllFit, Gives, Spots, seen, value_over}
+use Rattle.opgen_machine.specs.Emit.{Extends}
 
 -- what a register holds next, over the words of a cycle
 abbrev pub next_over : (enable : Option ℕ) → (to : ℕ) → Tree → Words → List Bool

@@ -8,11 +8,11 @@ use Rattle.opgen_design.specs.Tree.{Tree}
 use Rattle.opgen_design.specs.Value.{chosen}
 use Rattle.opgen_design.specs.Width.{IsWidth}
 use Rattle.opgen_runs.specs.Evaluate.{driver_word, settle}
-use Rattle.opgen_steps.specs.declared.step.Step.{Step}
-use Rattle.opgen_steps.specs.declared.step.Spot.{Spot}
-use Rattle.opgen_steps.specs.Steps.{AreFine, exec}
-use Rattle.opgen_steps.specs.Programs.{AllFit, AreSpots, Gives, Holds, Spots, seen, value_over, widths_of}
-use Rattle.opgen_steps.specs.Emit.{Extends, width_over}
+use Rattle.opgen_machine.specs.declared.step.Step.{Step}
+use Rattle.opgen_machine.specs.declared.step.Spot.{Spot}
+use Rattle.opgen_machine.specs.Steps.{AreFine, exec}
+use Rattle.opgen_machine.specs.Programs.{AllFit, AreSpots, Gives, Holds, Spots, seen, value_over, widths_of}
+use Rattle.opgen_machine.specs.Emit.{Extends, width_over}
 use Rattle.opgen_machine.specs.Laid.{AreLaid, IsLaid, Row}
 
 -- the width of what a driver drives

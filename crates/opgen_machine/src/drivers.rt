@@ -3,15 +3,16 @@ ghost use Rattle.std.specs.Prelude.{ℕ, ◌≡◌, ◌+◌, ◌<◌, ◌^◌, [
 ghost use Rattle.std.specs.List.{AllZip};
 ghost use Rattle.opgen_design.specs.declared.design.Driver.TheVariants.{Table};
 ghost use Rattle.opgen_design.specs.Sound.{target};
-ghost use Rattle.opgen_steps.specs.Steps.{AreFine};
-ghost use Rattle.opgen_steps.specs.Programs.{AreSpots, Spots};
-ghost use Rattle.opgen_steps.specs.Emit.{IsNarrow, width_over};
+ghost use Rattle.opgen_machine.specs.Steps.{AreFine};
+ghost use Rattle.opgen_machine.specs.Programs.{AreSpots, Spots};
+ghost use Rattle.opgen_machine.specs.Emit.{IsNarrow, width_over};
 ghost use Rattle.opgen_machine.specs.Laid.{HasRoom};
 ghost use Rattle.opgen_machine.specs.Settles.{Agrees, AgreesTable, HasNarrow, IsPut, IsThere, Leaves, Left, Settles, chosen_over, width_at};
 
+use crate::expression::{choose, constant, emit, look_up};
+use crate::step::{Spot, Step};
 use opgen_design::{Driver, Formula};
 use opgen_num::Word;
-use opgen_steps::{Spot, Step, choose, constant, emit, look_up};
 use std::alloc::AllocError;
 
 // A choice of two expressions of one width by a bit.

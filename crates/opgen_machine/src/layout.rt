@@ -3,9 +3,9 @@ ghost use Rattle.std.specs.Prelude.{◌≡◌, ◌<◌, ◌≤◌, ◌^◌, ◌+
 ghost use Rattle.opgen_design.specs.Run.{at_ports, is_in, is_out};
 ghost use Rattle.opgen_machine.specs.Layout.{port_spots, spots_from, start_number};
 
+use crate::step::Spot;
 use crate::tables::number;
 use opgen_design::{Dir, Port, Signal};
-use opgen_steps::Spot;
 use std::alloc::{AllocError, Global};
 
 // The number of a signal's initial word; 0 where it has none.

@@ -1,3 +1,4 @@
+//! A design as one list of steps over a memory, run cycle by cycle.
 ghost use Rattle.std.specs.Prelude.{◌≡◌, ◌+◌, ◌<◌, ◌≤◌, ◌^◌, ◌++◌, All, IfOk, OnOk, drop, length, map, replicate, slice_index, take};
 ghost use Rattle.opgen_design.specs.declared.design.Design.{Design};
 ghost use Rattle.opgen_design.specs.Order.{IsOrderOf};
@@ -11,9 +12,9 @@ ghost use Rattle.opgen_machine.specs.Machines.{CanRun, CanStep, HasStepped, IsMa
 use crate::layout::{count_inputs, start_numbers};
 use crate::program::{Program, compile};
 use crate::registers::move_all;
+use crate::running::run;
 use crate::tables::lay_all;
 use opgen_design::Design;
-use opgen_steps::run;
 use std::alloc::{AllocError, Global};
 
 /// A design as steps over one memory, with the numbers before its next cycle.

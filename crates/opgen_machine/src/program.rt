@@ -1,3 +1,4 @@
+//! The program of a design: its cycle as steps.
 ghost use Rattle.std.specs.Prelude.{◌≡◌, ◌<◌, ◌^◌, IfOk};
 ghost use Rattle.std.specs.List.{AllZip};
 ghost use Rattle.opgen_design.specs.Order.{IsOrderOf};
@@ -9,8 +10,8 @@ ghost use Rattle.opgen_machine.specs.Machines.{IsProgramOf};
 use crate::drivers::settle;
 use crate::layout::{output_places, port_spots, signal_spots};
 use crate::registers::{Move, moves};
+use crate::step::{Spot, Step};
 use opgen_design::Design;
-use opgen_steps::{Spot, Step};
 use std::alloc::{AllocError, Global};
 
 /// The steps of a design's cycle, the moves at its end, and the places of the numbers of the output ports.

@@ -1,14 +1,15 @@
 //! Registers as steps, and the moves of their next numbers.
 ghost use Rattle.std.specs.Prelude.{ℕ, ◌≡◌, ◌+◌, ◌<◌, ◌^◌, All, IfOk, IfSome, Some, length};
 ghost use Rattle.opgen_design.specs.Tree.{Tree, port};
-ghost use Rattle.opgen_steps.specs.Steps.{AreFine};
-ghost use Rattle.opgen_steps.specs.Programs.{AreSpots, Spots, widths_of};
+ghost use Rattle.opgen_machine.specs.Steps.{AreFine};
+ghost use Rattle.opgen_machine.specs.Programs.{AreSpots, Spots, widths_of};
 ghost use Rattle.opgen_machine.specs.Moves.{AreWithin, HandsOn, IsNext, move_all};
 ghost use Rattle.opgen_machine.specs.Settles.{Agrees, HasNarrow, IsThere, width_at};
 ghost use Rattle.opgen_design.specs.Sound.{signal, target};
 
+use crate::expression::{choose, copy, emit, name, port};
+use crate::step::{Spot, Step};
 use opgen_design::{Driver, Formula};
-use opgen_steps::{Spot, Step, choose, copy, emit, name, port};
 use std::alloc::{AllocError, Global};
 
 /// The number at one place is put at another when a cycle ends.

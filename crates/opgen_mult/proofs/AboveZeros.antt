@@ -1,5 +1,5 @@
 -- A node's bits above zeros: that they stand in a net, how many they are, and the word that they make.
-use Rattle.std.proofs.Common.{◌≡◌, ℕ, zero, suc, ◌+◌, ◌≤◌, Bool, false, List, [], ◌∷◌, ◌++◌, length, length-append, map, reverse, replicate, refl, sym, ap, ◌∙◌, arith}
+use Rattle.std.proofs.Common.{◌≡◌, ℕ, zero, suc, ◌+◌, Bool, false, List, [], ◌∷◌, ◌++◌, length, length-append, map, reverse, replicate, refl, ap, ◌∙◌, arith}
 use Rattle.std.specs.Prelude.{ℤ, All, slice_index}
 use Rattle.std.proofs.lemmas.List.{length-replicate, map-append, reverse-append}
 use Rattle.std.proofs.lemmas.List.Elements.{All-append}

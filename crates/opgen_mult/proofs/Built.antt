@@ -1,6 +1,7 @@
 -- The net of a product, by the nets that lead to it: its output is good at every time.
 use Rattle.std.proofs.Common.{◌≡◌, ℕ, zero, suc, ◌+◌, ◌-◌, ◌%◌, ◌^◌, Bool, true, List, [], ◌∷◌, ◌++◌, length, map, codes, None, refl, sym, ap, ◌∙◌, subst, arith}
 use Rattle.std.specs.Prelude.{ℤ, pos, ◌+ℤ◌, ◌-ℤ◌, All, slice_index}
+use Rattle.std.proofs.Math.Nat.{zero-mod}
 use Rattle.std.proofs.lemmas.Int.{ints}
 use Rattle.opgen_num.specs.Values.{val}
 use Rattle.opgen_num.specs.Words.{nat}
@@ -27,11 +28,13 @@ use Rattle.opgen_operator.specs.Good.{IsGoodRatio}
 use Rattle.opgen_operator.specs.Held.{OutputsHold}
 use Rattle.opgen_operator.specs.Outputs.{inexact}
 use Rattle.opgen_operator.specs.Ports.{product_format}
-use Rattle.opgen_mult.specs.declared.partial.Work.{Work}
-use Rattle.opgen_mult.specs.Recipe.{IsLeftOut, inputs, above_zeros, bits_below, zeros_below, heap_width, constant}
+use Rattle.opgen_partial.specs.declared.pairs.Work.{Work}
+use Rattle.opgen_partial.specs.Law.{HasProducts}
+use Rattle.opgen_partial.proofs.Laws.{IsRounded, rounded_sum}
+use Rattle.opgen_mult.specs.Recipe.{IsLeftOut, inputs, pairs, above_zeros, bits_below, zeros_below, heap_width, constant, rounding}
 use Rattle.opgen_mult.specs.Shifted.{IsAboveZeros}
 use Rattle.opgen_mult.proofs.Fits.{exact_whole, output_is_good}
-use Rattle.opgen_mult.proofs.HeapSums.{HasSum, AreInputs, first, second, first-length, second-length, kept_sum}
+use Rattle.opgen_mult.proofs.InputWords.{AreInputs, first_word, second_word, first-length, second-length}
 use Rattle.opgen_mult.proofs.HeapWidth.{Layout}
 
 -- a word more changes no port
@@ -49,7 +52,7 @@ output_of node low width = record { name = codes "y"; from = record { node = nod
 
 module _ (p : Product) (accepted : IsAcceptedProduct p) (fit : Layout p) (hold : OutputsHold)
     (left : ℕ) (cut_is : IsLeftOut p.a.width p.b.width (bits_below p) left)
-    (w : Work) (has : HasSum p w (kept_sum p left p.a.width))
+    (w : Work) (has : HasProducts (pairs p left) (inputs p) w)
     (heap : Contents)
     (added : (words : Words) → heap_sum words heap ≡ residue (pos (heap_sum words w.heap) +ℤ constant p) (2 ^ w.heap.width))
     (two : Net) (place : ℕ) (sums : IsSumOf w.net heap two.nodes place) (valid_two : IsValid two)
@@ -63,7 +66,7 @@ module _ (p : Product) (accepted : IsAcceptedProduct p) (fit : Layout p) (hold :
 
   -- the output's word is a good product of the inputs' words
   good_flow : (exact : Bool) → (exact ≡ true → bits_below p ≡ 0) → (ins : Inputs) (t : ℤ) → AreInputs p ins
-      → IsGoodRatio exact (exact_product p (val (first p ins t) p.a) (val (second p ins t) p.b))
+      → IsGoodRatio exact (exact_product p (val (first_word p ins t) p.a) (val (second_word p ins t) p.b))
       (val (slice_flow three.nodes ins (output_of node (bits_below p) W).from t) (product_format p))
   good_flow exact whole ins t words =
       subst (λ v. IsGoodRatio exact (exact_product p (val a p.a) (val b p.b)) (val (kept_bits v) (product_format p)))
@@ -71,19 +74,19 @@ module _ (p : Product) (accepted : IsAcceptedProduct p) (fit : Layout p) (hold :
       (output_is_good p accepted fit hold left cut_is exact whole a b sum long_a long_b long number)
     where
       a : List Bool
-      a = first p ins t
+      a = first_word p ins t
 
       b : List Bool
-      b = second p ins t
+      b = second_word p ins t
 
       kept_bits : List Bool → List Bool
       kept_bits = cut (bits_below p + W - 1) (bits_below p)
 
       long_a : length a ≡ p.a.width
-      long_a = first-length p w.net has.grown has.valid ins t words
+      long_a = first-length p accepted ins t words
 
       long_b : length b ≡ p.b.width
-      long_b = second-length p w.net has.grown has.valid ins t words
+      long_b = second-length p accepted ins t words
 
       sum : List Bool
       sum = flow two.nodes ins place t
@@ -91,12 +94,19 @@ module _ (p : Product) (accepted : IsAcceptedProduct p) (fit : Layout p) (hold :
       long : length sum ≡ heap_width p
       long = flow-width two valid_two ins (of_ports two (grown.inputs ∙ has.grown.inputs) ins words) place t ∙ wide
 
-      number : nat sum ≡ residue (pos (kept_sum p left p.a.width a b % 2 ^ heap_width p) +ℤ constant p) (2 ^ heap_width p)
-      number =
+      kept : ℕ
+      kept = heap_sum (words_at w.net.nodes ins t) w.heap
+
+      is : nat sum ≡ residue (pos kept +ℤ constant p) (2 ^ heap_width p)
+      is =
           sums ins t (of_ports w.net has.grown.inputs ins words)
           ∙ added (words_at w.net.nodes ins t)
-          ∙ ap (λ s. residue (pos s +ℤ constant p) (2 ^ w.heap.width)) (has.sum ins t words)
-          ∙ ap (λ k. residue (pos (kept_sum p left p.a.width a b % 2 ^ k) +ℤ constant p) (2 ^ k)) has.width
+          ∙ ap (λ k. residue (pos kept +ℤ constant p) (2 ^ k)) has.width
+
+      number : IsRounded (pairs p left) a b (heap_width p) (pos (rounding (bits_below p))) (nat sum)
+      number =
+          rounded_sum (pairs p left) a b (heap_width p) (0 % 2 ^ heap_width p) kept (nat sum) (pos (rounding (bits_below p)))
+          (zero-mod (2 ^ heap_width p)) (has.sum ins t words) is
 
   -- the first of some outputs of a net, by inputs that are good for it
   abbrev Good : (exact : Bool) (now : ℤ) (t : ℕ) (ins : Inputs) (ns : List Node) (os : List Output) → Type 0

@@ -1,20 +1,16 @@
 -- The net of a product fits every valid specification of it.
-use Rattle.std.proofs.Common.{◌≡◌, ℕ, zero, suc, ◌+◌, ◌-◌, ◌*◌, ◌%◌, ◌^◌, ◌≤◌, Bool, true, false, ◌&&◌, if◌then◌else◌, List, ◌++◌, length, replicate, Option, Some, None, refl, sym, ap, ◌∙◌, subst, arith}
+use Rattle.std.proofs.Common.{◌≡◌, ℕ, zero, suc, ◌+◌, ◌-◌, ◌^◌, ◌≤◌, Bool, true, false, if◌then◌else◌, List, ◌++◌, length, replicate, Option, Some, None, refl, sym, ap, ◌∙◌, subst, arith}
 use Rattle.std.specs.Prelude.{ℤ, pos, negsuc, ◌+ℤ◌, ◌-ℤ◌, ◌*ℤ◌, int_lt}
-use Rattle.std.proofs.Math.Nat.{two-pow-succ}
 use Rattle.std.proofs.lemmas.Int.{ints}
-use Rattle.std.proofs.lemmas.Nat.{pow-add, pow_pos}
 use Rattle.opgen_num.specs.declared.format.Format.{Format}
 use Rattle.opgen_num.specs.Formats.{Holds}
 use Rattle.opgen_num.specs.Rounding.{IsWithinOne, IsGoodLinear}
-use Rattle.opgen_num.specs.Values.{int, val}
-use Rattle.opgen_num.specs.Words.{digit, nat}
+use Rattle.opgen_num.specs.Values.{val}
+use Rattle.opgen_num.specs.Words.{nat}
 use Rattle.opgen_num.proofs.Values.{val_holds}
 use Rattle.opgen_budget.specs.Columns.{weight_below}
-use Rattle.opgen_budget.specs.Sums.{sum_over_pairs}
 use Rattle.opgen_budget.proofs.Weights.{weight_below-zero}
 use Rattle.opgen_design.specs.Value.{cut}
-use Rattle.opgen_heap.specs.Adding.{residue}
 use Rattle.opgen_operator.specs.declared.spec.Operator.TheVariants.{Multiply}
 use Rattle.opgen_operator.specs.declared.spec.Product.{Product}
 use Rattle.opgen_operator.specs.Accepted.{IsAcceptedProduct}
@@ -25,36 +21,11 @@ use Rattle.opgen_operator.specs.Outputs.{product_shift, places_up, places_down, 
 use Rattle.opgen_operator.specs.Ports.{product_format}
 use Rattle.opgen_operator.specs.Ranges.{IsProduct}
 use Rattle.opgen_operator.proofs.Accepted.{accepted_ranges}
-use Rattle.opgen_mult.specs.Recipe.{IsLeftOut, bits_below, zeros_below, heap_width, has_one_sign, sign_correction, rounding, constant}
-use Rattle.opgen_mult.proofs.HeapSums.{input-width, kept_sum}
+use Rattle.opgen_partial.proofs.Laws.{IsRounded}
+use Rattle.opgen_mult.specs.Recipe.{IsLeftOut, bits_below, zeros_below, heap_width, pairs, rounding}
+use Rattle.opgen_mult.proofs.InputWords.{input-width}
 use Rattle.opgen_mult.proofs.HeapWidth.{Layout}
-use Rattle.opgen_mult.proofs.Kept.{out, past, in_three, out_below, past_multiple}
-use Rattle.opgen_mult.proofs.PartialSums.{piece, pieces, signs, unsigned-product, signed-product}
-use Rattle.opgen_mult.proofs.Rounding.{heap_number, cut_down, above_zeros}
-
--- the product of the words' numbers, by the products of their bits
-product_is : (signed : Bool) (a b : List Bool) (m n : ℕ) → 1 ≤ m → 1 ≤ n → length a ≡ m → length b ≡ n
-    → (if signed then int a else pos (nat a)) *ℤ (if signed then int b else pos (nat b))
-    ≡ pos (sum_over_pairs m n (pieces (λ i j. signed && signs m n i j) a b)) +ℤ sign_correction signed m n
-product_is true a b zero n some_a some_b wide_a wide_b = absurd (omega (arith, some_a))
-product_is true a b (suc m) zero some_a some_b wide_a wide_b = absurd (omega (arith, some_b))
-product_is true a b (suc m) (suc n) some_a some_b wide_a wide_b =
-    let S = pos (sum_over_pairs (suc m) (suc n) (pieces (signs (suc m) (suc n)) a b)) in
-    let first : m ≡ suc m - 1 = omega arith in
-    let second : n ≡ suc n - 1 = omega arith in
-    let both : suc (m + n) ≡ suc m + suc n - 1 = omega arith in
-    let M = ap (λ k. 2 ^ k) first in
-    let N = ap (λ k. 2 ^ k) second in
-    let P : 2 ^ (suc m + suc n - 1) ≡ 2 * (2 ^ m * 2 ^ n) =
-    sym (ap (λ k. 2 ^ k) both) ∙ two-pow-succ (m + n) ∙ omega (arith, pow-add 2 m n) in
-    signed-product a b m n wide_a wide_b ∙ omega (arith, ints, M, N, P)
-product_is false a b m n some_a some_b wide_a wide_b =
-    let turned : ℕ → ℕ → Bool = λ i j. false && signs m n i j in
-    let all : sum_over_pairs m n (pieces turned a b) ≡ nat a * nat b =
-    ap (λ k. sum_over_pairs k n (pieces turned a b)) (sym wide_a)
-    ∙ ap (λ k. sum_over_pairs (length a) k (pieces turned a b)) (sym wide_b)
-    ∙ unsigned-product a b turned (λ i j. refl) in
-    omega (arith, ints, all)
+use Rattle.opgen_mult.proofs.Rounding.{cut_down, above_zeros}
 
 -- the rounded output, by its places: those below the output, and the zeros below the product
 good_at : (below zeros : ℕ) (exact : Bool) (product : ℤ) (sum : List Bool) (format : Format) (left_out : ℕ) (k : ℤ)
@@ -107,20 +78,16 @@ exact_whole p h = by (product_shift p) h
 
 module _ (p : Product) (accepted : IsAcceptedProduct p) (fit : Layout p) (hold : OutputsHold)
     (left : ℕ) (cut_is : IsLeftOut p.a.width p.b.width (bits_below p) left) where
-  digit-small : (b : Bool) → digit b ≤ 1
-  digit-small true = omega arith
-  digit-small false = omega arith
-
   -- From words of the inputs and the heap's: the output is good.
   pub output_is_good : (exact : Bool) → (exact ≡ true → bits_below p ≡ 0) → (a b sum : List Bool)
       → length a ≡ p.a.width → length b ≡ p.b.width → length sum ≡ heap_width p
-      → nat sum ≡ residue (pos (kept_sum p left p.a.width a b % 2 ^ heap_width p) +ℤ constant p) (2 ^ heap_width p)
+      → IsRounded (pairs p left) a b (heap_width p) (pos (rounding (bits_below p))) (nat sum)
       → IsGoodRatio exact (exact_product p (val a p.a) (val b p.b))
       (val (cut (bits_below p + (product_format p).width - 1) (bits_below p) (replicate (zeros_below p) false ++ sum)) (product_format p))
   output_is_good exact whole a b sum wide_a wide_b wide is =
-      good_at (bits_below p) (zeros_below p) exact P sum (product_format p) O number.0 whole (one_way (product_shift p))
+      good_at (bits_below p) (zeros_below p) exact P sum (product_format p) is.missing is.turns whole (one_way (product_shift p))
       (omega (arith, wide, fit.room)) fit.output
-      (omega (arith, out_below left H m n d small, little m n (bits_below p) left cut_is)) number_is
+      (omega (arith, is.light, little m n (bits_below p) left cut_is)) number_is
       (λ y h. hold.products p ranges A B of_a of_b y h)
     where
       m : ℕ
@@ -128,9 +95,6 @@ module _ (p : Product) (accepted : IsAcceptedProduct p) (fit : Layout p) (hold :
 
       n : ℕ
       n = p.b.width
-
-      H : ℕ
-      H = heap_width p
 
       A : ℤ
       A = val a p.a
@@ -140,24 +104,6 @@ module _ (p : Product) (accepted : IsAcceptedProduct p) (fit : Layout p) (hold :
 
       P : ℤ
       P = A *ℤ B
-
-      d : ℕ → ℕ → ℕ
-      d i j = digit (piece (has_one_sign p) a b i j)
-
-      small : (i j : ℕ) → d i j ≤ 1
-      small i j = digit-small (piece (has_one_sign p) a b i j)
-
-      O : ℕ
-      O = sum_over_pairs m n (λ i j. out left H (i + j) (d i j * 2 ^ (i + j)))
-
-      F : ℕ
-      F = sum_over_pairs m n (λ i j. past left H (i + j) (d i j * 2 ^ (i + j - H)))
-
-      K : ℕ
-      K = kept_sum p left m a b
-
-      all : ℕ
-      all = sum_over_pairs m n (pieces (has_one_sign p) a b)
 
       ranges : IsProduct p
       ranges = accepted_ranges (Multiply p) accepted
@@ -174,17 +120,6 @@ module _ (p : Product) (accepted : IsAcceptedProduct p) (fit : Layout p) (hold :
       of_b : Holds p.b.signed n B
       of_b = subst (λ k. Holds p.b.signed k B) wide_b (val_holds b p.b (omega (arith, wide_b, some_b)))
 
-      product : P ≡ pos all +ℤ sign_correction p.a.signed m n
-      product =
-          ap (λ s. A *ℤ (if s then int b else pos (nat b))) (sym ranges.alike)
-          ∙ product_is p.a.signed a b m n some_a some_b wide_a wide_b
-
-      parts : all ≡ K + (O + F * 2 ^ H)
-      parts = in_three left H m n d small ∙ omega (arith, past_multiple left H m n d small)
-
-      number : (k : ℤ) × (((P -ℤ pos O) +ℤ pos (rounding (bits_below p))) +ℤ (pos (2 ^ H) *ℤ k) ≡ pos (nat sum))
-      number =
-          heap_number P (sign_correction p.a.signed m n) all K O F (rounding (bits_below p)) (nat sum) (2 ^ H) (pow_pos H) product parts is
-
-      number_is : ((P -ℤ pos O) +ℤ pos (rounding (bits_below p))) +ℤ (pos (2 ^ length sum) *ℤ number.0) ≡ pos (nat sum)
-      number_is = ap (λ w. ((P -ℤ pos O) +ℤ pos (rounding (bits_below p))) +ℤ (pos (2 ^ w) *ℤ number.0)) wide ∙ number.1
+      number_is : ((P -ℤ pos is.missing) +ℤ pos (rounding (bits_below p))) +ℤ (pos (2 ^ length sum) *ℤ is.turns) ≡ pos (nat sum)
+      number_is =
+          ap (λ w. ((P -ℤ pos is.missing) +ℤ pos (rounding (bits_below p))) +ℤ (pos (2 ^ w) *ℤ is.turns)) wide ∙ is.number_is

@@ -1,8 +1,5 @@
-mod PartialSums
 mod Faithful
-mod Kept
-mod Operands
-mod HeapSums
+mod InputWords
 mod HeapWidth
 mod Rounding
 mod OneCut

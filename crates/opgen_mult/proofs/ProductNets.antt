@@ -1,29 +1,32 @@
 -- An accepted product has a net that fits its specifications.
-use Rattle.std.proofs.Common.{◌≡◌, ℕ, zero, suc, ◌+◌, ◌-◌, ◌^◌, ◌<◌, ◌≤◌, ◌&&◌, Bool, true, false, length, ⊎_elim, leb, ltb, refl, ◌∙◌, subst, arith}
-use Rattle.std.specs.Prelude.{slice_index, if◌then◌else◌}
+use Rattle.std.proofs.Common.{◌≡◌, ℕ, zero, suc, ◌+◌, ◌-◌, ◌^◌, ◌<◌, ◌≤◌, length, ⊎_elim, refl, ap, ◌∙◌, subst, arith}
+use Rattle.std.specs.Prelude.{slice_index}
 use Rattle.std.proofs.lemmas.Bool.{cases_lt}
 use Rattle.std.proofs.lemmas.Nat.{pow_pos}
 use Rattle.opgen_budget.specs.Columns.{weight_below}
 use Rattle.opgen_budget.proofs.Weights.{weight_below-zero}
+use Rattle.opgen_num.specs.Words.{nat}
+use Rattle.opgen_compress.specs.Kept.{IsSumOf}
 use Rattle.opgen_compress.specs.Recipe.{compressed}
 use Rattle.opgen_design.specs.Width.{IsWidth}
-use Rattle.opgen_heap.specs.Adding.{with_bit, with_constant}
+use Rattle.opgen_gpc.specs.Recipe.{Counting}
+use Rattle.opgen_gpc.proofs.Counting.{IsCounted, counted_if-is, sum-before}
+use Rattle.opgen_heap.specs.Adding.{with_constant}
 use Rattle.opgen_heap.proofs.Sums.{with_constant-sum}
-use Rattle.opgen_mult.specs.declared.partial.Work.{Work}
-use Rattle.opgen_mult.specs.Recipe.{IsLeftOut, IsNetOfProduct, above_zeros, bits_below, constant, heap_width, inputs, net_without, partial_product, products, with_product, with_row, with_rows, zeros_below}
+use Rattle.opgen_partial.specs.Law.{HasProducts}
+use Rattle.opgen_mult.specs.Recipe.{IsLeftOut, IsNetOfProduct, above_zeros, bits_below, constant, counted_product, heap_width, inputs, net_without, pairs, products, zeros_below}
 use Rattle.opgen_mult.specs.Shifted.{IsAboveZeros}
 use Rattle.opgen_mult.proofs.AboveZeros.{given, given-above, given-count, given-there}
 use Rattle.opgen_mult.proofs.Built.{net_fits, output_of, zeros-inputs, zeros-outputs}
-use Rattle.opgen_mult.proofs.HeapSums.{HasSum, kept_sum, products-sum}
+use Rattle.opgen_mult.proofs.InputWords.{products-are}
 use Rattle.opgen_mult.proofs.HeapWidth.{Layout, layout}
-use Rattle.opgen_net.specs.declared.cell.Class.TheVariants.{Logic}
 use Rattle.opgen_net.specs.declared.net.Net.{Net}
-use Rattle.opgen_net.specs.declared.node.Node.TheVariants.{Cells}
-use Rattle.opgen_net.specs.declared.word_bits.WordBit.TheVariants.{Of}
-use Rattle.opgen_net.specs.Placed.{Placed, with_last}
+use Rattle.opgen_net.specs.Flow.{flow}
+use Rattle.opgen_net.specs.Placed.{Placed}
 use Rattle.opgen_net.specs.Valid.{IsValid, widths}
 use Rattle.opgen_net.specs.WordRule.{with_word}
 use Rattle.opgen_net.proofs.Appending.{valid-output}
+use Rattle.opgen_net.proofs.Grown.{grown-then}
 use Rattle.opgen_net.proofs.Later.{bits-later}
 use Rattle.opgen_net.proofs.WordLaws.{word-found_width, word-has_bits}
 use Rattle.opgen_operator.specs.declared.spec.Operator.TheVariants.{Multiply}
@@ -34,7 +37,7 @@ use Rattle.opgen_operator.specs.Fits.{FitsSpecsOf}
 use Rattle.opgen_operator.specs.Held.{OutputsHold}
 use Rattle.opgen_operator.specs.Ports.{product_format}
 use Rattle.opgen_compress.proofs.Compressing.{IsCompressed, compressed-is}
-use Rattle.opgen_compress.proofs.Heaps.{IsHeap, bit-heap, constant-heap}
+use Rattle.opgen_compress.proofs.Heaps.{IsHeap, constant-heap}
 
 -- ---- the columns that are left out
 record Greatest (m n limit most : ℕ) : Type 0 where
@@ -105,39 +108,31 @@ shifted-up net place width (suc z) valid at wide =
 module _ (p : Product) (accepted : IsAcceptedProduct p) (left : ℕ)
     (cut_is : IsLeftOut p.a.width p.b.width (bits_below p) left) where
   -- ---- the heap
-  abbrev with_cells : (i j : ℕ) → Work → Work
-  with_cells i j w = record {
-    net = with_last w.net (Cells Logic 1 (partial_product p i j));
-    heap = with_bit w.heap (Of (length w.net.nodes) 0) (i + j);
-  }
-
-  product-heap : (i j : ℕ) (w : Work) → IsHeap w.heap → IsHeap (with_product p left i j w).heap
-  product-heap i j w h = by (leb left (i + j) && ltb (i + j) w.heap.width)
-    where
-      by : (c : Bool) → IsHeap (if c then with_cells i j w else w).heap
-      by true = bit-heap w.heap (Of (length w.net.nodes) 0) (i + j) h
-      by false = h
-
-  row-heaps : (i j : ℕ) (w : Work) → IsHeap w.heap → IsHeap (with_row p left i j w).heap
-  row-heaps i zero w h = h
-  row-heaps i (suc j) w h = product-heap i j (with_row p left i j w) (row-heaps i j w h)
-
-  rows-heap : (i : ℕ) → IsHeap (with_rows p left i (inputs p)).heap
-  rows-heap zero = record { below = pow_pos (heap_width p); few = omega arith }
-  rows-heap (suc i) = row-heaps i p.b.width (with_rows p left i (inputs p)) (rows-heap i)
+  is_heap : HasProducts (pairs p left) (inputs p) (products p left) → IsHeap (products p left).heap
+  is_heap has =
+      let below : 2 ^ (products p left).heap.width ≡ 2 ^ heap_width p = ap (λ k. 2 ^ k) has.width in
+      record { below = omega (arith, has.constant, below, pow_pos (heap_width p)); few = has.few (omega arith) }
 
   -- ---- the net
   product-fits : ProductsHaveWidth → OutputsHold → FitsSpecsOf (Multiply p) (net_without p left)
   product-fits widths_of hold =
       let fit : Layout p = layout widths_of p accepted in
       let w = products p left in
-      let has : HasSum p w (kept_sum p left p.a.width) = products-sum p accepted left w refl in
+      let has : HasProducts (pairs p left) (inputs p) w = products-are p accepted left in
       let heap = with_constant w.heap (constant p) in
-      let is_width : IsWidth heap.width = (omega (arith, has.width, fit.some), omega (arith, has.width, fit.few)) in
-      let two : Placed = compressed w.net heap in
-      let c : IsCompressed w.net heap two =
-      compressed-is w.net heap has.valid is_width (constant-heap w.heap (constant p) (rows-heap p.a.width)) has.there in
-      let wide : slice_index (widths two.net.nodes) two.place ≡ heap_width p = c.wide ∙ has.width in
+      let u : Counting = counted_product p left in
+      let counted : IsCounted w.net heap u = counted_if-is p.counters w.net heap has.valid has.there in
+      let width : u.heap.width ≡ heap_width p = counted.width ∙ has.width in
+      let is_width : IsWidth u.heap.width = (omega (arith, width, fit.some), omega (arith, width, fit.few)) in
+      let before : IsHeap heap = constant-heap w.heap (constant p) (is_heap has) in
+      let below : u.heap.constant < 2 ^ u.heap.width =
+      omega (arith, before.below, counted.constant, ap (λ k. 2 ^ k) counted.width) in
+      let two : Placed = compressed u.net u.heap in
+      let c : IsCompressed u.net u.heap two =
+      compressed-is u.net u.heap counted.later.valid is_width (record { below = below; few = counted.few before.few }) counted.there in
+      let sum : IsSumOf w.net heap two.net.nodes two.place =
+      sum-before w.net heap u.net u.heap counted.later.grown counted.sum (λ ins t. nat (flow two.net.nodes ins two.place t)) c.sum in
+      let wide : slice_index (widths two.net.nodes) two.place ≡ heap_width p = c.wide ∙ width in
       let zeros = zeros_below p in
       let three : Placed = above_zeros (heap_width p) zeros two in
       let total : IsWidth (heap_width p + zeros) = (omega (arith, fit.some), omega (arith, fit.room, fit.total)) in
@@ -147,7 +142,8 @@ module _ (p : Product) (accepted : IsAcceptedProduct p) (left : ℕ)
       let valid = valid-output three.net y s.valid (omega (arith, fit.output), omega (arith, s.wide, fit.output, fit.room)) in
       net_fits p accepted fit hold left cut_is w has heap
       (λ words. with_constant-sum words w.heap (constant p) (pow_pos w.heap.width))
-      two.net two.place c.sum c.later.valid c.later.grown wide three.net three.place s.above (net_without p left) refl
+      two.net two.place sum c.later.valid (grown-then w.net u.net two.net counted.later.grown c.later.grown) wide three.net three.place
+      s.above (net_without p left) refl
       (zeros-inputs (heap_width p) zeros two) (zeros-outputs (heap_width p) zeros two) valid
 
 pub product_net : ProductsHaveWidth → OutputsHold → (p : Product) → IsAcceptedProduct p

@@ -1,11 +1,11 @@
 -- The output of a product, by the sum of its heap.
-use Rattle.std.proofs.Common.{◌≡◌, ℕ, zero, suc, ◌+◌, ◌-◌, ◌*◌, ◌/◌, ◌%◌, ◌^◌, ◌<◌, ◌≤◌, Bool, false, List, ◌++◌, length, length-append, drop, replicate, pow-add, refl, sym, ap, ◌∙◌, subst, arith}
-use Rattle.std.specs.Prelude.{ℤ, pos, negsuc, ◌+ℤ◌, ◌-ℤ◌, ◌*ℤ◌, unsigned_abs}
-use Rattle.std.specs.Int.{int_div_euclid, int_rem_euclid}
-use Rattle.std.proofs.Math.Nat.{two-pow-succ, mod-lt}
+use Rattle.std.proofs.Common.{◌≡◌, ℕ, zero, suc, ◌+◌, ◌-◌, ◌*◌, ◌^◌, ◌≤◌, Bool, false, List, ◌++◌, length, length-append, drop, replicate, pow-add, refl, sym, ap, ◌∙◌, subst, arith}
+use Rattle.std.specs.Prelude.{ℤ, pos, ◌+ℤ◌, ◌-ℤ◌, ◌*ℤ◌}
+use Rattle.std.specs.Int.{int_div_euclid}
+use Rattle.std.proofs.Math.Nat.{two-pow-succ}
 use Rattle.std.proofs.lemmas.Int.{ints}
 use Rattle.std.proofs.lemmas.List.{take_all, length-replicate, length-drop}
-use Rattle.std.proofs.lemmas.Nat.{div-add-mod', pow_pos}
+use Rattle.std.proofs.lemmas.Nat.{pow_pos}
 use Rattle.opgen_num.specs.declared.format.Format.{Format}
 use Rattle.opgen_num.specs.Floors.{IsFloor}
 use Rattle.opgen_num.specs.Formats.{Holds}
@@ -13,40 +13,11 @@ use Rattle.opgen_num.specs.Rounding.{IsWithinOne}
 use Rattle.opgen_num.specs.Values.{val}
 use Rattle.opgen_num.specs.Words.{nat}
 use Rattle.opgen_num.proofs.Cuts.{nat-append}
-use Rattle.opgen_num.proofs.Integers.{product-sum, product_assoc}
-use Rattle.opgen_num.proofs.Quotients.{quotient_and_rest}
+use Rattle.opgen_num.proofs.Integers.{commuted, product-sum, product_assoc}
 use Rattle.opgen_num.proofs.Residues.{value_from_residue}
 use Rattle.opgen_num.proofs.Rounded.{floor_is, floor_dropped}
-use Rattle.opgen_heap.specs.Adding.{residue}
 use Rattle.opgen_design.specs.Value.{cut}
 use Rattle.opgen_mult.proofs.Faithful.{cut_is_near}
-use Rattle.opgen_mult.proofs.PartialSums.{commuted}
-
--- what is left of a whole number differs from it by a multiple
-pub residue-is : (z : ℤ) (m : ℕ) → 0 < m → pos (residue z m) ≡ z -ℤ (int_div_euclid z (pos m) *ℤ pos m)
-residue-is z m some = omega (arith, ints, quotient_and_rest z (pos m) (omega (arith, ints, some)), rest z)
-  where
-    rest : (z : ℤ) → pos (unsigned_abs (int_rem_euclid z (pos m))) ≡ int_rem_euclid z (pos m)
-    rest (pos n) = omega (arith, ints)
-    rest (negsuc n) = omega (arith, ints, mod-lt n some)
-
--- The heap's number, from the sum of what is kept: it differs by a multiple of 2 to the heap's width from the product without
--- what is left out, with the constant.
-pub heap_number : (product correction : ℤ) (all kept out past rounding sum M : ℕ) → 0 < M
-    → product ≡ pos all +ℤ correction → all ≡ kept + (out + past * M)
-    → sum ≡ residue (pos (kept % M) +ℤ (correction +ℤ pos rounding)) M
-    → (k : ℤ) × (((product -ℤ pos out) +ℤ pos rounding) +ℤ (pos M *ℤ k) ≡ pos sum)
-heap_number product correction all kept out past rounding sum M some whole parts is =
-    let z = pos (kept % M) +ℤ (correction +ℤ pos rounding) in
-    let q = int_div_euclid z (pos M) in
-    let k = pos 0 -ℤ (pos (kept / M + past) +ℤ q) in
-    let none : k +ℤ (pos (kept / M + past) +ℤ q) ≡ pos 0 = omega (arith, ints) in
-    let total : pos M *ℤ (k +ℤ (pos (kept / M + past) +ℤ q)) ≡ pos 0 = ap (λ x. pos M *ℤ x) none ∙ omega (arith, ints) in
-    let split : (pos M *ℤ k) +ℤ ((pos M *ℤ pos (kept / M + past)) +ℤ (pos M *ℤ q)) ≡ pos 0 = sums k (pos (kept / M + past)) q ∙ total in
-    (k, omega (arith, ints, whole, parts, is, residue-is z M some, div-add-mod' kept M, split))
-  where
-    sums : (a b c : ℤ) → (pos M *ℤ a) +ℤ ((pos M *ℤ b) +ℤ (pos M *ℤ c)) ≡ pos M *ℤ (a +ℤ (b +ℤ c))
-    sums a b c = omega (arith, ints, product-sum (pos M) a (b +ℤ c), product-sum (pos M) b c)
 
 nat-zeros : (k : ℕ) → nat (replicate k false) ≡ 0
 nat-zeros zero = refl

@@ -1,23 +1,22 @@
 -- The net of a product: a bit heap of the products of the bits of its factors, with a constant (de Dinechin and Kumm,
 -- Application-Specific Arithmetic: multiplication, and truncated multipliers).
-use Rattle.std.specs.Prelude.{ℕ, zero, suc, ◌≡◌, ◌+◌, ◌-◌, ◌^◌, ◌&&◌, Bool, true, false, if◌then◌else◌, nat_eq, nat_le, nat_lt, List, [], ◌∷◌, ◌++◌, length, replicate, codes, ℤ, pos, ◌+ℤ◌, ◌-ℤ◌}
-use Rattle.opgen_num.specs.declared.format.Format.{Format}
-use Rattle.opgen_num.specs.Sums.{xor}
+use Rattle.std.specs.Prelude.{ℕ, zero, suc, ◌≡◌, ◌+◌, ◌-◌, ◌^◌, [], ◌∷◌, ◌++◌, replicate, codes, ℤ, pos, ◌+ℤ◌}
 use Rattle.opgen_budget.specs.Columns.{IsGreatestCut}
-use Rattle.opgen_design.specs.declared.expr.Op.TheVariants.{And}
-use Rattle.opgen_design.specs.Tree.{Tree, name, part, inverse, chain, more, none}
-use Rattle.opgen_net.specs.declared.cell.Class.TheVariants.{Logic}
 use Rattle.opgen_net.specs.declared.net.Net.{Net}
-use Rattle.opgen_net.specs.declared.node.Node.TheVariants.{Input, Cells}
-use Rattle.opgen_net.specs.declared.word_bits.WordBit.TheVariants.{Zero, Of}
-use Rattle.opgen_net.specs.Placed.{Placed, with_bits, with_last}
+use Rattle.opgen_net.specs.declared.node.Node.TheVariants.{Input}
+use Rattle.opgen_net.specs.declared.word_bits.WordBit.TheVariants.{Zero}
+use Rattle.opgen_net.specs.Placed.{Placed, with_bits}
 use Rattle.opgen_net.specs.WordRule.{bits_from}
-use Rattle.opgen_heap.specs.Adding.{with_bit, with_constant}
+use Rattle.opgen_heap.specs.Adding.{with_constant}
 use Rattle.opgen_compress.specs.Recipe.{compressed}
-use Rattle.opgen_mult.specs.declared.partial.Work.{Work}
+use Rattle.opgen_gpc.specs.Recipe.{Counting, counted_if}
 use Rattle.opgen_operator.specs.declared.spec.Product.{Product}
 use Rattle.opgen_operator.specs.Outputs.{product_shift, places_up, places_down}
 use Rattle.opgen_operator.specs.Ports.{product_format}
+use Rattle.opgen_partial.specs.declared.pairs.Factor.{Factor}
+use Rattle.opgen_partial.specs.declared.pairs.Products.{Products}
+use Rattle.opgen_partial.specs.declared.pairs.Work.{Work}
+use Rattle.opgen_partial.specs.Recipe.{sign_correction, with_products}
 
 -- the product's bits below the output's lowest, and the zeros below the product's lowest
 abbrev pub bits_below : Product → ℕ
@@ -36,36 +35,16 @@ abbrev pub IsLeftOut : (m n below columns : ℕ) → Type 0
 IsLeftOut m n zero columns = columns ≡ 0
 IsLeftOut m n (suc below) columns = IsGreatestCut m n (suc below) columns
 
--- bit i of a times bit j of b: a is node 0, b node 1, and an input of one bit is read by its name
+-- the factors: a is node 0, b node 1
 
-abbrev pub bit_of : (node : ℕ) → Format → (index : ℕ) → Tree
-bit_of node f index = if nat_eq f.width 1 then name node else part node index index
+abbrev pub first : Product → Factor
+first p = record { node = 0; width = p.a.width; signed = p.a.signed }
 
-abbrev pub both : Product → (i j : ℕ) → Tree
-both p i j = chain And (more (bit_of 0 p.a i) (more (bit_of 1 p.b j) none))
+abbrev pub second : Product → Factor
+second p = record { node = 1; width = p.b.width; signed = p.b.signed }
 
--- one of the two bits is a sign, and not both
-abbrev pub has_one_sign : Product → (i j : ℕ) → Bool
-has_one_sign p i j = p.a.signed && xor (nat_eq (i + 1) p.a.width) (nat_eq (j + 1) p.b.width)
-
-abbrev pub partial_product : Product → (i j : ℕ) → Tree
-partial_product p i j = if has_one_sign p i j then inverse (both p i j) else both p i j
-
--- a partial product in its column, if that is neither left out nor past the heap's width
-abbrev pub with_product : Product → (left_out i j : ℕ) → Work → Work
-with_product p left_out i j w =
-    if nat_le left_out (i + j) && nat_lt (i + j) w.heap.width
-    then record { net = with_last w.net (Cells Logic 1 (partial_product p i j)); heap = with_bit w.heap (Of (length w.net.nodes) 0) (i + j) }
-    else w
-
--- those of bit i of a and the first bits of b, and those of the first bits of a
-abbrev pub with_row : Product → (left_out i count : ℕ) → Work → Work
-with_row p left_out i zero w = w
-with_row p left_out i (suc j) w = with_product p left_out i j (with_row p left_out i j w)
-
-abbrev pub with_rows : Product → (left_out count : ℕ) → Work → Work
-with_rows p left_out zero w = w
-with_rows p left_out (suc i) w = with_row p left_out i p.b.width (with_rows p left_out i w)
+abbrev pub pairs : Product → (left_out : ℕ) → Products
+pairs p left_out = record { a = first p; b = second p; left_out = left_out }
 
 abbrev pub inputs : Product → Work
 inputs p = record {
@@ -78,12 +57,7 @@ inputs p = record {
 }
 
 abbrev pub products : Product → (left_out : ℕ) → Work
-products p left_out = with_rows p left_out p.a.width (inputs p)
-
--- what makes good that turned bits stand for negative ones
-abbrev pub sign_correction : (signed : Bool) (m n : ℕ) → ℤ
-sign_correction false m n = pos 0
-sign_correction true m n = (pos (2 ^ (m - 1)) +ℤ pos (2 ^ (n - 1))) -ℤ pos (2 ^ (m + n - 1))
+products p left_out = with_products (pairs p left_out) (inputs p)
 
 -- half a unit of the output's last place, where the product has bits below it
 abbrev pub rounding : (below : ℕ) → ℕ
@@ -91,10 +65,14 @@ rounding zero = 0
 rounding (suc k) = 2 ^ k
 
 abbrev pub constant : Product → ℤ
-constant p = sign_correction p.a.signed p.a.width p.b.width +ℤ pos (rounding (bits_below p))
+constant p = sign_correction p.a.signed p.b.signed p.a.width p.b.width +ℤ pos (rounding (bits_below p))
+
+-- the partial products and the constant, after larger counters where they are asked for
+abbrev pub counted_product : Product → (left_out : ℕ) → Counting
+counted_product p left_out = let w = products p left_out in counted_if p.counters w.net (with_constant w.heap (constant p))
 
 abbrev pub summed : Product → (left_out : ℕ) → Placed
-summed p left_out = let w = products p left_out in compressed w.net (with_constant w.heap (constant p))
+summed p left_out = let c = counted_product p left_out in compressed c.net c.heap
 
 -- the word of a node's bits above zeros, where there are any
 abbrev pub above_zeros : (width zeros : ℕ) → Placed → Placed

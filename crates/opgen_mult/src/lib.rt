@@ -2,10 +2,10 @@
 //! (de Dinechin and Kumm, Application-Specific Arithmetic: multiplication, and truncated multipliers).
 #![tactic(auto)]
 
+mod factors;
 mod laws;
 mod multiplier;
 mod output;
-mod partial;
 mod places;
 
 pub use laws::one_net;

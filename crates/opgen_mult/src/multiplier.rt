@@ -4,20 +4,23 @@ ghost use Rattle.opgen_operator.specs.Fits.{FitsSpecsOf};
 ghost use Rattle.opgen_operator.specs.declared.spec.Operator.TheVariants.{Multiply};
 ghost use Rattle.opgen_mult.specs.Recipe.{IsNetOfProduct};
 
+use crate::factors::products;
 use crate::output::above_zeros;
-use crate::partial::{Work, products};
 use crate::places::{bits_below, constant, cut_of, heap_width, zeros_below};
 use opgen_compress::compress;
 use opgen_design::Slice;
+use opgen_gpc::count_if;
 use opgen_net::Net;
 use opgen_num::Memory;
 use opgen_operator::{Product, outputs_hold, products_have_width};
+use opgen_partial::Work;
 use std::alloc::Global;
 
 /// The net of the product `y` of the inputs `a` and `b`.
 ///
 /// Where the output has not every bit of the product, its lowest columns are left out, as many as weigh at most half a unit of the
-/// output's last place, and half a unit is added: the output is then less than one unit from the product.
+/// output's last place, and half a unit is added: the output is then less than one unit from the product. Larger counters go before
+/// the compressor where they are asked for.
 pub fn build(alloc: Global, product: &Product) -> Result<Net, Memory>
     requires { IsAcceptedProduct product.now }
     ensures net { IfOk result (IsNetOfProduct product.now) }
@@ -29,7 +32,8 @@ pub fn build(alloc: Global, product: &Product) -> Result<Net, Memory>
     let cut = cut_of(product);
     let Work { mut net, mut heap } = products(alloc, product, cut.columns)?;
     heap.add_constant(constant(product, cut));
-    let sum = compress(alloc, heap, &mut net)?;
+    let counted = count_if(alloc, product.counters, heap, &mut net)?;
+    let sum = compress(alloc, counted, &mut net)?;
     let node = above_zeros(
         alloc,
         &mut net,

@@ -1,11 +1,13 @@
 //! Where the bits of a product stand: in its heap, and in the output.
-ghost use Rattle.std.specs.Prelude.{◌≡◌, ◌≤◌, ◌+◌, ◌-◌, ◌^◌, pos, neg_ℤ, ◌+ℤ◌, ◌-ℤ◌, ◌≤ℤ◌};
-ghost use Rattle.opgen_num.specs.declared.TheConstants.{MAX_INPUT, MAX_WIDTH};
+ghost use Rattle.std.specs.Prelude.{◌≡◌, ◌≤◌, ◌+◌, ◌-◌, ◌^◌};
+ghost use Rattle.opgen_num.specs.declared.TheConstants.{MAX_WIDTH};
 ghost use Rattle.opgen_operator.specs.Accepted.{IsAcceptedProduct};
-ghost use Rattle.opgen_mult.specs.Recipe.{bits_below, zeros_below, heap_width, sign_correction, rounding, constant, IsLeftOut};
+ghost use Rattle.opgen_mult.specs.Recipe.{bits_below, zeros_below, heap_width, rounding, constant, IsLeftOut};
 
+use crate::factors::{first, second};
 use opgen_budget::{Cut, drop_columns};
 use opgen_operator::{Product, products_have_width};
+use opgen_partial::sign_correction;
 
 /// How many bits of the product stand below the output's lowest.
 pub(crate) fn bits_below(product: &Product) -> u32
@@ -56,34 +58,6 @@ pub(crate) fn cut_of(product: &Product) -> Cut
     drop_columns(product.a.width, product.b.width, below)
 }
 
-fn power(places: u32) -> i128
-    requires { places ≤ MAX_WIDTH }
-    ensures { result ≡ pos (2 ^ places) }
-{
-    1 << places
-}
-
-// The product of two bits is turned where one of them is a sign, which is as if its negative were added, and some powers of two.
-fn signed_correction(m: u32, n: u32) -> i128
-    requires m { (1 ≤ m) × (m ≤ MAX_INPUT) }
-    requires n { (1 ≤ n) × (n ≤ MAX_INPUT) }
-    ensures { result ≡ (pos (2 ^ (m - 1)) +ℤ pos (2 ^ (n - 1))) -ℤ pos (2 ^ (m + n - 1)) }
-{
-    power(m - 1) + power(n - 1) - power(m + n - 1)
-}
-
-fn sign_correction(product: &Product) -> i128
-    requires { IsAcceptedProduct product.now }
-    ensures value { result ≡ sign_correction product.now.a.signed product.now.a.width product.now.b.width }
-    ensures low { neg_ℤ (pos (2 ^ 96)) ≤ℤ result }
-    ensures high { result ≤ℤ pos (2 ^ 96) }
-{
-    if !product.a.signed {
-        return 0;
-    }
-    signed_correction(product.a.width, product.b.width)
-}
-
 /// What is added to the products of bits.
 pub(crate) fn constant(product: &Product, cut: Cut) -> i128
     requires product { IsAcceptedProduct product.now }
@@ -91,5 +65,5 @@ pub(crate) fn constant(product: &Product, cut: Cut) -> i128
     requires small { cut.constant ≤ 2 ^ 48 }
     ensures { result ≡ constant product.now }
 {
-    sign_correction(product) + cut.constant as i128
+    sign_correction(first(product), second(product)) + cut.constant as i128
 }

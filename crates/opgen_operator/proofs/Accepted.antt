@@ -1,5 +1,5 @@
 -- What holds of a valid specification, for the crates that build its operator.
-use Rattle.std.proofs.Common.{◌≡◌, ℕ, zero, suc, ◌+◌, ◌≤◌, ◌&&◌, not, length, nat_le, ap, subst, ⊎_elim, inl, inr, Some, arith}
+use Rattle.std.proofs.Common.{◌≡◌, ℕ, zero, suc, ◌+◌, ◌≤◌, ◌&&◌, not, length, nat_le, ap, subst, ⊎_elim, inl, inr, Bool, true, false, Some, None, refl, arith}
 use Rattle.std.specs.Prelude.{IsTrue, ◌≤ℤ◌}
 use Rattle.std.proofs.lemmas.Bool.{and_parts, leb-true}
 use Rattle.opgen_names.specs.Names.{is_allowed_name}
@@ -7,8 +7,9 @@ use Rattle.opgen_num.specs.declared.TheConstants.{MAX_WIDTH}
 use Rattle.opgen_operator.specs.declared.spec.Spec.{Spec}
 use Rattle.opgen_operator.specs.declared.TheConstants.{MAX_SHIFT}
 use Rattle.opgen_operator.specs.declared.spec.Operator.{Operator}
-use Rattle.opgen_operator.specs.declared.spec.Operator.TheVariants.{Scale, Fir, Multiply, Divide}
+use Rattle.opgen_operator.specs.declared.spec.Operator.TheVariants.{Scale, Fir, Multiply, Divide, Poly}
 use Rattle.opgen_operator.specs.declared.spec.Sum.{Sum}
+use Rattle.opgen_operator.specs.declared.spec.Poly.{Poly as Polynomial}
 use Rattle.opgen_operator.specs.declared.spec.Product.{Product}
 use Rattle.opgen_operator.specs.declared.spec.Pair.{Pair}
 use Rattle.opgen_operator.specs.declared.outputs.Reach.{Reach}
@@ -16,7 +17,7 @@ use Rattle.opgen_operator.specs.Accepted.{IsAcceptedBy, IsAccepted, IsAcceptedSu
 use Rattle.opgen_operator.specs.Bounded.{ValidAreAccepted}
 use Rattle.opgen_operator.specs.Limits.{least_shift}
 use Rattle.opgen_operator.specs.Ranges.{IsOperator}
-use Rattle.opgen_operator.specs.Outputs.{width_of, sum_places, product_places, guard_bits, places_down, places_up, shift, product_shift, pair_shift, need, HasRoom}
+use Rattle.opgen_operator.specs.Outputs.{inexact, width_of, sum_places, product_places, guard_bits, places_down, places_up, shift, product_shift, pair_shift, need, HasRoom}
 use Rattle.opgen_operator.specs.SpecName.{is_taken, is_signal_name}
 use Rattle.opgen_operator.specs.Valid.{IsValidSpec}
 use Rattle.opgen_operator.proofs.Versions.{room, shift_limit, signal_limit}
@@ -79,6 +80,17 @@ quotient_fits spec p valid e = omega (
   valid.op.narrow (p.a.width + places_up (pair_shift p)) (ap need e),
   (signal_limit spec.version).1,
 )
+
+-- a polynomial is never asked for exactly
+pub poly_faithful : (spec : Spec) (p : Polynomial) → IsValidSpec spec → spec.op ≡ Poly p → spec.exact ≡ false
+poly_faithful spec p valid e = go spec.exact valid.has_exact
+  where
+    go : (exact : Bool) → (IsTrue exact → inexact spec.op ≡ None) → exact ≡ false
+    go false whole = refl
+    go true whole =
+        let never : inexact spec.op ≡ None = whole refl in
+        let always : inexact spec.op ≡ Some 0 = ap inexact e in
+        cc
 
 -- sums have room in 128 bits, and no shift is above the greatest
 pub operator_room : (spec : Spec) → IsValidSpec spec → HasRoom spec.op × (shift spec.op ≤ℤ MAX_SHIFT)

@@ -1,7 +1,7 @@
 -- The formats of outputs hold every exact value.
 use Rattle.std.proofs.Common.{◌≡◌, ◌≢◌, ℕ, zero, suc, ◌+◌, ◌-◌, ◌*◌, ◌^◌, ◌≤◌, ◌<◌, Bool, true, false, [], ◌∷◌, nat_lt, refl, ⊎_elim, arith}
 use Rattle.std.specs.Prelude.{ℤ, pos, negsuc, neg_ℤ, ◌+ℤ◌, ◌*ℤ◌, ◌≤ℤ◌, ◌<ℤ◌, unsigned_abs}
-use Rattle.std.proofs.Math.Nat.{mul-le-mul, mul-le-mul_right}
+use Rattle.std.proofs.Math.Nat.{mul-le-mul, mul-le-mul_left, mul-le-mul_right}
 use Rattle.std.proofs.lemmas.Bool.{cases_lt}
 use Rattle.std.proofs.lemmas.Int.{ints}
 use Rattle.std.proofs.lemmas.Nat.{pow-add, pow_pos}
@@ -11,18 +11,20 @@ use Rattle.opgen_num.specs.Rounding.{IsWithinOne, IsQuotient, IsRoot}
 use Rattle.opgen_num.proofs.BitLength.{power_order}
 use Rattle.opgen_num.proofs.Integers.{products, product_cancel}
 use Rattle.opgen_num.proofs.Quotients.{within_one-bounds}
-use Rattle.opgen_num.proofs.RangeWidth.{range_width-least}
+use Rattle.opgen_num.proofs.RangeWidth.{count-holds, range_width-least}
 use Rattle.opgen_operator.specs.declared.outputs.Reach.{Reach}
 use Rattle.opgen_operator.specs.declared.spec.Pair.{Pair}
 use Rattle.opgen_operator.specs.declared.spec.Product.{Product}
 use Rattle.opgen_operator.specs.declared.spec.Single.{Single}
+use Rattle.opgen_operator.specs.declared.spec.SmallDiv.{SmallDiv}
 use Rattle.opgen_operator.specs.declared.spec.Sum.{Sum}
-use Rattle.opgen_operator.specs.Exact.{Recent, exact_sum, exact_product, exact_quotient, dividend, square}
+use Rattle.opgen_operator.specs.declared.spec.Taps.{Taps}
+use Rattle.opgen_operator.specs.Exact.{Recent, weighted, exact_sum, exact_product, exact_quotient, dividend, square}
 use Rattle.opgen_operator.specs.Good.{IsGoodRatio}
 use Rattle.opgen_operator.specs.Held.{OutputsHold}
 use Rattle.opgen_operator.specs.Outputs.{reach_of, reach_over, sum_shift, product_shift, pair_shift, root_shift, places_up, places_down, sum_places, product_places}
-use Rattle.opgen_operator.specs.Ports.{covering, sum_format, product_format, constant_format, quotient_format, remainder_format, root_width, root_format, rest_format}
-use Rattle.opgen_operator.specs.Ranges.{IsSum, IsPair, IsSingle}
+use Rattle.opgen_operator.specs.Ports.{covering, sum_format, product_format, constant_format, quotient_format, remainder_format, root_width, root_format, rest_format, small_quotient_format, small_rest_format, taps_format}
+use Rattle.opgen_operator.specs.Ranges.{IsSum, IsPair, IsSingle, IsSmallDiv}
 use Rattle.opgen_operator.specs.Reached.{IsOf}
 use Rattle.opgen_operator.proofs.Reached.{IsWithinReach, held-within, sum_within, sums_span, products_span}
 use Rattle.opgen_operator.proofs.Roundings.{positive_units}
@@ -134,6 +136,20 @@ roots_held r fits x of y rest (whole, few) =
     let twice : 2 ^ (k + 1) ≡ 2 ^ k * 2 ^ 1 = pow-add 2 k 1 in
     ((omega (arith, ints), omega (arith, ints, below)), (omega (arith, ints), omega (arith, ints, below, few, twice)))
 
+-- a quotient by a small divisor is no greater than the input, and the remainder no greater than the greatest one
+small_quotients_held : (c : SmallDiv) → IsSmallDiv c → (x : ℤ) → IsOf c.input x → (q r : ℕ) → IsQuotient (unsigned_abs x) c.divisor q r
+    → IsOf (small_quotient_format c) (pos q) × IsOf (small_rest_format c) (pos r)
+small_quotients_held c fits x of q r (whole, less) =
+    let (low, high) = unsigned_of c.input.signed c.input.width x fits.unsigned of in
+    let most : q * 1 ≤ q * c.divisor = mul-le-mul_left q (omega (arith, fits.least)) in
+    let rest = count-holds (c.divisor - 1) in
+    ((omega (arith, ints), omega (arith, ints, low, high, whole, most)), (omega (arith, ints), omega (arith, ints, less, rest)))
+
+taps_held : (f : Taps) (x : Recent) → ((ago : ℕ) → IsOf f.input (x ago)) → IsOf (taps_format f) (weighted f.taps x)
+taps_held f x of =
+    covered (reach_over f.input f.taps) f.input.lsb (weighted f.taps x)
+    (sum_within (reach_of f.input).below (reach_of f.input).above 0 f.taps x (λ k. held-within f.input.signed f.input.width (x k) (of k)))
+
 pub outputs_held : OutputsHold
 outputs_held = record {
   sums = sums_held;
@@ -142,4 +158,6 @@ outputs_held = record {
   quotients = λ p fits up a b of_a of_b some y good. quotients_held p fits a b of_a of_b some y good;
   remainders = remainders_held;
   roots = roots_held;
+  small_quotients = small_quotients_held;
+  taps = taps_held;
 }

@@ -9,19 +9,22 @@ use Rattle.opgen_num.specs.declared.format.Format.{Format}
 use Rattle.opgen_num.proofs.BitLength.{power_order}
 use Rattle.opgen_num.proofs.RangeWidth.{count-least}
 use Rattle.opgen_operator.specs.declared.spec.Operator.{Operator}
-use Rattle.opgen_operator.specs.declared.spec.Operator.TheVariants.{Scale, Fir, Multiply, Divide, Root, Mcm}
+use Rattle.opgen_operator.specs.declared.spec.Operator.TheVariants.{Scale, Fir, Multiply, Divide, Root, Mcm, Constdiv, Poly, Tfir}
+use Rattle.opgen_operator.specs.declared.spec.Poly.{Poly as Polynomial}
 use Rattle.opgen_operator.specs.declared.spec.Sum.{Sum}
 use Rattle.opgen_operator.specs.Accepted.{IsAcceptedBy}
 use Rattle.opgen_operator.specs.Bounded.{IsIn128, IsRatioIn128, IsExactIn128, ExactValuesAreIn128, IsEntrySmall, EntriesAreSmall}
-use Rattle.opgen_operator.specs.Exact.{Recent, weighted_from, weighted, exact_sum, exact_multiple}
+use Rattle.opgen_operator.specs.Exact.{Recent, weighted_from, weighted, exact_sum, exact_multiple, terms_from, exact_poly}
+use Rattle.opgen_operator.specs.Horner.{degree, result_places}
 use Rattle.opgen_operator.specs.Judged.{format_at}
 use Rattle.opgen_operator.specs.Outputs.{sum_shift, product_shift, pair_shift, root_shift, places_up, places_down, up, down, product_need, HasSumRoom, guard_bits, guard_for, first_inexact, tables, terms}
 use Rattle.opgen_operator.specs.Ports.{operator_inputs}
-use Rattle.opgen_operator.specs.Ranges.{IsWithin, IsSum}
+use Rattle.opgen_operator.specs.Ranges.{IsWithin, IsSum, IsPoly}
 use Rattle.opgen_operator.specs.Reached.{IsOf}
 use Rattle.opgen_operator.proofs.Bounds.{products, few_up, few_down, few_units}
 use Rattle.opgen_operator.proofs.Magnitudes.{product_within, raised_within, holds_within, number_small, unsigned_abs-product}
 use Rattle.opgen_operator.proofs.ProductWidths.{product_room}
+use Rattle.opgen_operator.proofs.Terms.{poly_terms_small, few_powers, few_places, wide_taps}
 use Rattle.opgen_operator.proofs.Versions.{signal_limit, sum_room}
 use Rattle.opgen_operator.proofs.WeightedSums.{bound_step, taps_bound}
 
@@ -77,6 +80,26 @@ multiple_in128 t x few small =
     let bound : unsigned_abs (x *ℤ t) ≤ 2 ^ 59 = product_within x t 48 11 small (omega (arith, few)) in
     (small_in128 (x *ℤ t) (omega (arith, bound)), small_in128 (pos 1) (omega arith))
 
+-- A polynomial: coefficients of 30 bits, five at most, and an input and a denominator of 64 bits by their powers, since its width
+-- is 16 at most and its degree 4; there are 16 places after the point at most.
+poly_in128 : (p : Polynomial) (x : ℤ) → IsPoly p → IsOf p.input x → IsRatioIn128 (exact_poly p x)
+poly_in128 p x fits of =
+    let terms = poly_terms_small p (unsigned_abs x) fits (input_small p.input x of) in
+    let places = power_order (result_places p) 16 (few_places p fits) in
+    let num = mul-le-mul {n₁ = unsigned_abs (terms_from 0 p.coefs p.input.width (degree p) (unsigned_abs x))} {m₁ = 2 ^ result_places p}
+    {n₂ = 5 * 2 ^ 94} {m₂ = 2 ^ 16} terms places in
+    let den = products (unsigned_abs p.den) (2 ^ (p.input.width * degree p)) 30 64 (few_units (2 ^ 30) p.den fits.positive fits.small)
+    (power_order (p.input.width * degree p) 64 (few_powers p fits)) in (
+      small_in128 (terms_from 0 p.coefs p.input.width (degree p) (unsigned_abs x) *ℤ pos (2 ^ result_places p))
+          (omega (
+            arith,
+            num,
+            unsigned_abs-product (terms_from 0 p.coefs p.input.width (degree p) (unsigned_abs x)) (pos (2 ^ result_places p)),
+          )),
+      small_in128 (p.den *ℤ pos (2 ^ (p.input.width * degree p)))
+          (omega (arith, den, unsigned_abs-product p.den (pos (2 ^ (p.input.width * degree p))))),
+    )
+
 pub exact_in128 : ExactValuesAreIn128
 exact_in128 spec valid inputs of = go spec.version spec.op valid.op of
   where
@@ -110,6 +133,21 @@ exact_in128 spec valid inputs of = go spec.version spec.op valid.op of
     go version (Mcm m) is of =
         let x = number_small m.input (inputs 0 0) is.ranges.input (of 0 0 (omega arith)) in
         λ k t below. multiple_in128 (get_or m.constants k t) (inputs 0 0) (is.ranges.constants k t below) x
+    go version (Constdiv c) is of =
+        let x = number_small c.input (inputs 0 0) is.ranges.input (of 0 0 (omega arith)) in (
+          small_in128 (inputs 0 0) (omega (arith, x)),
+          small_in128 (pos c.divisor) (omega (arith, is.ranges.most)),
+        )
+    go version (Poly p) is of = poly_in128 p (inputs 0 0) is.ranges (of 0 0 (omega arith))
+    go version (Tfir f) is of =
+        let taps = weighted_small f.input.width 0 f.taps (inputs 0) (wide_taps f is.ranges)
+        (λ k. input_small f.input (inputs 0 k) (of 0 k (omega arith))) in
+        let bound = taps_bound (unsigned_abs (weighted f.taps (inputs 0))) (length f.taps) f.input.width taps
+        (omega (arith, is.ranges.few)) in (
+          small_in128 (weighted f.taps (inputs 0))
+              (omega (arith, bound, power_order (f.input.width + 38) 126 (omega (arith, is.ranges.input.most)))),
+          small_in128 (pos 1) (omega arith),
+        )
 
 -- the guard bits of a sum
 few_terms : (coefs : List ℤ) → terms coefs ≤ length coefs

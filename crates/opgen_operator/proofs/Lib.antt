@@ -2,6 +2,8 @@ mod Bounds
 pub mod Versions
 mod Magnitudes
 mod WeightedSums
+pub mod Terms
+pub mod Results
 mod Roundings
 pub mod Widths
 mod ProductWidths

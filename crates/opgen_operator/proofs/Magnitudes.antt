@@ -3,6 +3,7 @@ use Rattle.std.proofs.Common.{◌≡◌, ℕ, ◌+◌, ◌-◌, ◌*◌, ◌^◌
 use Rattle.std.specs.Prelude.{ℤ, pos, negsuc, ◌*ℤ◌, unsigned_abs}
 use Rattle.std.specs.Int.{w128}
 use Rattle.std.proofs.lemmas.Int.{ints}
+use Rattle.std.proofs.lemmas.Nat.{pow_pos}
 use Rattle.opgen_num.specs.declared.format.Format.{Format}
 use Rattle.opgen_num.specs.Formats.{Holds}
 use Rattle.opgen_operator.specs.declared.spec.Single.{Single}
@@ -41,3 +42,11 @@ number_fits f n fits of = fits_small n (omega (arith, number_small f n fits of))
 
 pub root_input_fits : (r : Single) (n : ℤ) → IsSingle r → unsigned_abs n ≤ 2 ^ r.input.width → FitsSigned w128 n
 root_input_fits r n fits small = fits_small n (omega (arith, small, power_order r.input.width 48 fits.input.most))
+
+-- 0 is a number of every format
+zero_held : (signed : Bool) (width : ℕ) → Holds signed width (pos 0)
+zero_held false width = (omega (arith, ints), omega (arith, ints, pow_pos width))
+zero_held true width = (omega (arith, ints), omega (arith, ints, pow_pos (width - 1)))
+
+pub zero_of : (f : Format) → IsOf f (pos 0)
+zero_of f = zero_held f.signed f.width

@@ -5,20 +5,22 @@ use Rattle.opgen_operator.specs.declared.TheConstants.{MAX_SHIFT}
 use Rattle.opgen_num.specs.declared.format.Format.{Format}
 use Rattle.opgen_num.specs.Formats.{fewest_bits}
 use Rattle.opgen_operator.specs.declared.spec.Operator.{Operator}
-use Rattle.opgen_operator.specs.declared.spec.Operator.TheVariants.{Scale, Fir, Multiply, Divide, Root, Mcm}
+use Rattle.opgen_operator.specs.declared.spec.Operator.TheVariants.{Scale, Fir, Multiply, Divide, Root, Mcm, Constdiv, Poly, Tfir}
 use Rattle.opgen_operator.specs.declared.spec.Pair.{Pair}
 use Rattle.opgen_operator.specs.declared.spec.PortFormat.{PortFormat}
 use Rattle.opgen_operator.specs.declared.spec.Several.{Several}
 use Rattle.opgen_operator.specs.declared.spec.Single.{Single}
+use Rattle.opgen_operator.specs.declared.spec.SmallDiv.{SmallDiv}
 use Rattle.opgen_operator.specs.Accepted.{HasInputsWithin, IsAcceptedBy}
-use Rattle.opgen_operator.specs.Bounded.{HasWidth, InputsAreWide, OutputsAreWide, LimitsAreWithin, ShiftsAreSmall, IsShiftSmall, RootsAreNarrow}
-use Rattle.opgen_operator.specs.Limits.{most_input, most_signal, least_shift, most_shift}
-use Rattle.opgen_operator.specs.Outputs.{places_up, pair_shift, root_shift, reach_over, sum_need, product_need, sum_places, product_places, shift}
-use Rattle.opgen_operator.specs.Ports.{numbered, constant_format, multiple_ports, quotient_ports, root_ports, operator_inputs, operator_outputs}
-use Rattle.opgen_operator.specs.Ranges.{IsOperator, IsInput, IsPair, IsSeveral, IsSingle}
+use Rattle.opgen_operator.specs.Bounded.{HasWidth, InputsAreWide, OutputsAreWide, LimitsAreWithin, ShiftsAreSmall, RootsAreNarrow}
+use Rattle.opgen_operator.specs.Limits.{most_input, most_signal}
+use Rattle.opgen_operator.specs.Outputs.{places_up, pair_shift, root_shift, reach_over, sum_need, product_need, sum_places, product_places}
+use Rattle.opgen_operator.specs.Ports.{numbered, constant_format, multiple_ports, quotient_ports, root_ports, small_ports, operator_inputs, operator_outputs}
+use Rattle.opgen_operator.specs.Ranges.{IsOperator, IsInput, IsPair, IsSeveral, IsSingle, IsSmallDiv}
 use Rattle.opgen_operator.proofs.Accepted.{some_width}
-use Rattle.opgen_operator.proofs.Versions.{input_limit, signal_limit, shift_limit}
-use Rattle.opgen_operator.proofs.Widths.{multiple_width, root_bits}
+use Rattle.opgen_operator.proofs.Versions.{input_limit, signal_limit, input_room, shift_limit, shift_least}
+use Rattle.opgen_operator.proofs.Widths.{multiple_width, root_bits, taps_width, small_rest_width}
+use Rattle.opgen_operator.proofs.Results.{poly_width}
 
 -- of one port, and of two
 all_one : (P : PortFormat → Type 0) (p : PortFormat) → P p → All P (p ∷ [])
@@ -60,6 +62,14 @@ roots_wide false r fits high =
     let (some, few) = root_bits r fits high in
     all_one (HasWidth 64) _ (some, omega (arith, few))
 
+smalls_wide : (exact : Bool) (c : SmallDiv) → IsSmallDiv c → All (HasWidth 64) (small_ports exact c)
+smalls_wide true c fits =
+    let (some, few) = small_rest_width c fits in
+    all_two (HasWidth 64) _ _ (some_bits c.input.signed c.input.width fits.input.fewest, omega (arith, fits.input.most))
+    (some, omega (arith, few))
+smalls_wide false c fits =
+    all_one (HasWidth 64) _ (some_bits c.input.signed c.input.width fits.input.fewest, omega (arith, fits.input.most))
+
 multiples_wide : (m : Several) → IsSeveral m → All (HasWidth 64) (multiple_ports m)
 multiples_wide m fits =
     all_numbered 0 (constant_format m.input) m.constants
@@ -80,6 +90,9 @@ inputs_wide spec valid = go (most_input spec.version) spec.op valid.op.ranges va
         (input_wide most (codes "b") p.b fits.b more)
     go most (Root r) fits few = all_one (HasWidth most) _ (input_wide most (codes "x") r.input fits.input few)
     go most (Mcm m) fits few = all_one (HasWidth most) _ (input_wide most (codes "x") m.input fits.input few)
+    go most (Constdiv c) fits few = all_one (HasWidth most) _ (input_wide most (codes "x") c.input fits.input few)
+    go most (Poly p) fits few = all_one (HasWidth most) _ (input_wide most (codes "x") p.input fits.input few)
+    go most (Tfir f) fits few = all_one (HasWidth most) _ (input_wide most (codes "x") f.input fits.input few)
 
 pub operator_wide : (version : ℕ) (op : Operator) → IsAcceptedBy version op → All (HasWidth (most_signal version)) (operator_outputs op)
 operator_wide version (Scale s) is = all_one (HasWidth (most_signal version)) _
@@ -93,6 +106,13 @@ operator_wide version (Divide p) is = quotients_wide (most_signal version) p.exa
 operator_wide version (Root r) is = wider (most_signal version) (root_ports r.exact r) (signal_limit version).0
     (roots_wide r.exact r is.ranges (shift_limit version (Root r) is.fine.1))
 operator_wide version (Mcm m) is = wider (most_signal version) (multiple_ports m) (signal_limit version).0 (multiples_wide m is.ranges)
+operator_wide version (Constdiv c) is = wider (most_signal version) (small_ports c.exact c) (signal_limit version).0
+    (smalls_wide c.exact c is.ranges)
+operator_wide version (Poly p) is =
+    let (some, few) = poly_width p is.ranges in
+    all_one (HasWidth (most_signal version)) _ (some, omega (arith, few, (signal_limit version).0))
+operator_wide version (Tfir f) is = all_one (HasWidth (most_signal version)) _
+    (some_width (reach_over f.input f.taps), omega (arith, taps_width f is.ranges, is.inputs, input_room version))
 
 pub outputs_wide : OutputsAreWide
 outputs_wide spec valid = operator_wide spec.version spec.op valid.op
@@ -101,15 +121,10 @@ pub limits_within : LimitsAreWithin
 limits_within version = (input_limit version, (signal_limit version).1)
 
 pub shifts_small : ShiftsAreSmall
-shifts_small spec valid = go spec.version spec.op valid.op.fine
-  where
-    go : (version : ℕ) (op : Operator) → (least_shift op ≤ℤ shift op) × (shift op ≤ℤ most_shift version op) → IsShiftSmall version op
-    go version (Scale s) fine = fine
-    go version (Fir s) fine = fine
-    go version (Multiply p) fine = fine
-    go version (Divide p) fine = fine
-    go version (Root r) fine = fine
-    go version (Mcm m) fine = tt
+shifts_small spec valid = record {
+  within = valid.op.fine;
+  small = (shift_least spec.op valid.op.fine.0, shift_limit spec.version spec.op valid.op.fine.1);
+}
 
 pub roots_narrow : RootsAreNarrow
 roots_narrow version r is =

@@ -65,10 +65,10 @@ fold-from : (a : ℕ) (ns : List ℕ) → fold (λ m n. m + n) a ns ≡ a + sum 
 fold-from a [] = omega arith
 fold-from a (n ∷ ns) = omega (arith, fold-from (a + n) ns, fold-from (0 + n) ns)
 
-rises-cons : (c : ℤ) (cs : List ℤ) → rises (c ∷ cs) ≡ above_zero c + rises cs
+pub rises-cons : (c : ℤ) (cs : List ℤ) → rises (c ∷ cs) ≡ above_zero c + rises cs
 rises-cons c cs = fold-from (0 + above_zero c) (map above_zero cs) ∙ omega arith
 
-falls-cons : (c : ℤ) (cs : List ℤ) → falls (c ∷ cs) ≡ below_zero c + falls cs
+pub falls-cons : (c : ℤ) (cs : List ℤ) → falls (c ∷ cs) ≡ below_zero c + falls cs
 falls-cons c cs = fold-from (0 + below_zero c) (map below_zero cs) ∙ omega arith
 
 module _ (below above : ℕ) where

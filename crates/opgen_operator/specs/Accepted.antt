@@ -1,13 +1,16 @@
 -- Operators that can be built. Their fields know no version: they are accepted where one version accepts all of them, so
 -- where widths, shift and widest signal are within the limits of the same version.
-use Rattle.std.specs.Prelude.{ℕ, ◌≡◌, ◌≤◌, ◌⊎◌, ◌≤ℤ◌, Bool, false, IsTrue, Some, None}
+use Rattle.std.specs.Prelude.{ℕ, ◌≡◌, ◌≤◌, ◌⊎◌, ◌≤ℤ◌, Bool, false, IsTrue, Option, Some, None}
 use Rattle.opgen_operator.specs.declared.spec.Operator.{Operator}
-use Rattle.opgen_operator.specs.declared.spec.Operator.TheVariants.{Scale, Fir, Multiply, Divide, Root, Mcm}
+use Rattle.opgen_operator.specs.declared.spec.Operator.TheVariants.{Scale, Fir, Multiply, Divide, Root, Mcm, Constdiv, Poly, Tfir}
 use Rattle.opgen_operator.specs.declared.spec.Pair.{Pair}
+use Rattle.opgen_operator.specs.declared.spec.Poly.{Poly as Polynomial}
 use Rattle.opgen_operator.specs.declared.spec.Product.{Product}
 use Rattle.opgen_operator.specs.declared.spec.Several.{Several}
 use Rattle.opgen_operator.specs.declared.spec.Single.{Single}
+use Rattle.opgen_operator.specs.declared.spec.SmallDiv.{SmallDiv}
 use Rattle.opgen_operator.specs.declared.spec.Sum.{Sum}
+use Rattle.opgen_operator.specs.declared.spec.Taps.{Taps}
 use Rattle.opgen_operator.specs.Limits.{most_input, most_signal, least_shift, most_shift}
 use Rattle.opgen_operator.specs.Outputs.{inexact, shift, need}
 use Rattle.opgen_operator.specs.Ranges.{IsOperator}
@@ -20,15 +23,28 @@ HasInputsWithin most (Multiply p) = (p.a.width ≤ most) × (p.b.width ≤ most)
 HasInputsWithin most (Divide p) = (p.a.width ≤ most) × (p.b.width ≤ most)
 HasInputsWithin most (Root r) = r.input.width ≤ most
 HasInputsWithin most (Mcm m) = m.input.width ≤ most
+HasInputsWithin most (Constdiv c) = c.input.width ≤ most
+HasInputsWithin most (Poly p) = p.input.width ≤ most
+HasInputsWithin most (Tfir f) = f.input.width ≤ most
 
--- the operator's own mark of exact outputs; a product and several constants have none
+-- the operator's own mark of exact outputs, where it has one
+abbrev pub own_mark : Operator → Option Bool
+own_mark (Scale s) = Some s.exact
+own_mark (Fir s) = Some s.exact
+own_mark (Multiply p) = None
+own_mark (Divide p) = Some p.exact
+own_mark (Root r) = Some r.exact
+own_mark (Mcm m) = None
+own_mark (Constdiv c) = Some c.exact
+own_mark (Poly p) = None
+own_mark (Tfir f) = None
+
+abbrev pub is_marked : Option Bool → Bool
+is_marked (Some mark) = mark
+is_marked None = false
+
 abbrev pub marks_exact : Operator → Bool
-marks_exact (Scale s) = s.exact
-marks_exact (Fir s) = s.exact
-marks_exact (Multiply p) = false
-marks_exact (Divide p) = p.exact
-marks_exact (Root r) = r.exact
-marks_exact (Mcm m) = false
+marks_exact op = is_marked (own_mark op)
 
 pub record IsAcceptedBy (version : ℕ) (op : Operator) : Type 0 where
   -- the fields are within the ranges of their keys
@@ -58,3 +74,12 @@ IsAcceptedSingle r = IsAccepted (Root r)
 
 abbrev pub IsAcceptedSeveral : Several → Type 0
 IsAcceptedSeveral m = IsAccepted (Mcm m)
+
+abbrev pub IsAcceptedSmallDiv : SmallDiv → Type 0
+IsAcceptedSmallDiv c = IsAccepted (Constdiv c)
+
+abbrev pub IsAcceptedPoly : Polynomial → Type 0
+IsAcceptedPoly p = IsAccepted (Poly p)
+
+abbrev pub IsAcceptedTaps : Taps → Type 0
+IsAcceptedTaps f = IsAccepted (Tfir f)

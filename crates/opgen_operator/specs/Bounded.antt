@@ -1,23 +1,26 @@
 -- The bounds that every valid specification keeps: of the widths of its ports, of its shift, and of its exact values; and those
 -- of the numbers that builders of nets compute.
-use Rattle.std.specs.Prelude.{ℕ, ◌≡◌, ◌+◌, ◌*◌, ◌^◌, ◌<◌, ◌≤◌, ℤ, pos, neg_ℤ, ◌≤ℤ◌, ◌<ℤ◌, unsigned_abs, length, All}
+use Rattle.std.specs.Prelude.{ℕ, ◌≡◌, ◌+◌, ◌*◌, ◌^◌, ◌<◌, ◌≤◌, ℤ, pos, neg_ℤ, ◌≤ℤ◌, ◌<ℤ◌, unsigned_abs, length, drop, All}
 use Rattle.opgen_num.specs.declared.TheConstants.{MAX_INPUT, MAX_WIDTH}
 use Rattle.opgen_num.specs.declared.format.Ratio.{Ratio}
 use Rattle.opgen_operator.specs.declared.TheConstants.{MAX_SHIFT}
 use Rattle.opgen_operator.specs.declared.spec.Operator.{Operator}
-use Rattle.opgen_operator.specs.declared.spec.Operator.TheVariants.{Scale, Fir, Multiply, Divide, Root, Mcm}
+use Rattle.opgen_operator.specs.declared.spec.Operator.TheVariants.{Scale, Fir, Multiply, Divide, Root, Mcm, Constdiv, Poly, Tfir}
+use Rattle.opgen_operator.specs.declared.spec.Poly.{Poly as Polynomial}
 use Rattle.opgen_operator.specs.declared.spec.PortFormat.{PortFormat}
 use Rattle.opgen_operator.specs.declared.spec.Product.{Product}
 use Rattle.opgen_operator.specs.declared.spec.Single.{Single}
 use Rattle.opgen_operator.specs.declared.spec.Spec.{Spec}
 use Rattle.opgen_operator.specs.declared.spec.Sum.{Sum}
+use Rattle.opgen_operator.specs.declared.spec.Taps.{Taps}
 use Rattle.opgen_operator.specs.Accepted.{IsAcceptedBy, IsAccepted, IsAcceptedSum}
-use Rattle.opgen_operator.specs.Exact.{Recent, exact_sum, exact_product, exact_quotient, exact_multiple, dividend, square}
+use Rattle.opgen_operator.specs.Exact.{Recent, exact_sum, exact_product, exact_quotient, exact_multiple, exact_small, exact_poly, exact_taps, dividend, square}
+use Rattle.opgen_operator.specs.Horner.{poly_guard, guarded, partial_width, all_guarded}
 use Rattle.opgen_operator.specs.Judged.{format_at}
-use Rattle.opgen_operator.specs.Limits.{most_input, most_signal, most_sum_shift}
-use Rattle.opgen_operator.specs.Outputs.{sum_shift, product_shift, pair_shift, root_shift, places_up, up, down, product_reach, product_places, width_of, guard_bits, HasRoom}
-use Rattle.opgen_operator.specs.Ports.{root_width, product_format, inputs_of, outputs_of}
-use Rattle.opgen_operator.specs.Ranges.{IsProduct}
+use Rattle.opgen_operator.specs.Limits.{most_input, most_signal, least_shift, most_shift}
+use Rattle.opgen_operator.specs.Outputs.{shift, sum_shift, product_shift, places_up, up, down, product_reach, product_places, width_of, guard_bits, HasRoom}
+use Rattle.opgen_operator.specs.Ports.{root_width, product_format, poly_format, taps_format, inputs_of, outputs_of}
+use Rattle.opgen_operator.specs.Ranges.{IsProduct, IsPoly, IsTaps}
 use Rattle.opgen_operator.specs.Reached.{IsOf}
 use Rattle.opgen_operator.specs.Valid.{IsValidSpec}
 
@@ -40,15 +43,10 @@ OutputsAreWide = (spec : Spec) → IsValidSpec spec → All (HasWidth (most_sign
 abbrev pub IsFromTo : (low high n : ℤ) → Type 0
 IsFromTo low high n = (low ≤ℤ n) × (n ≤ℤ high)
 
--- The shift is from -48 to 48, but of sums in version 2 to 32, and not below 0 for quotients and roots. Several constants
--- have none.
-abbrev pub IsShiftSmall : (version : ℕ) → Operator → Type 0
-IsShiftSmall version (Scale s) = IsFromTo (neg_ℤ MAX_SHIFT) (most_sum_shift version) (sum_shift s)
-IsShiftSmall version (Fir s) = IsFromTo (neg_ℤ MAX_SHIFT) (most_sum_shift version) (sum_shift s)
-IsShiftSmall version (Multiply p) = IsFromTo (neg_ℤ MAX_SHIFT) MAX_SHIFT (product_shift p)
-IsShiftSmall version (Divide p) = IsFromTo (pos 0) MAX_SHIFT (pair_shift p)
-IsShiftSmall version (Root r) = IsFromTo (pos 0) MAX_SHIFT (root_shift r)
-IsShiftSmall version (Mcm m) = Unit {0}
+-- the shift is within the limits of the kind in the version, which are from -48 to 48
+pub record IsShiftSmall (version : ℕ) (op : Operator) : Type 0 where
+  pub within : IsFromTo (least_shift op) (most_shift version op) (shift op)
+  pub small : IsFromTo (neg_ℤ MAX_SHIFT) MAX_SHIFT (shift op)
 
 abbrev pub ShiftsAreSmall : Type 0
 ShiftsAreSmall = (spec : Spec) → IsValidSpec spec → IsShiftSmall spec.version spec.op
@@ -75,6 +73,9 @@ IsExactIn128 (Multiply p) inputs = IsRatioIn128 (exact_product p (inputs 0 0) (i
 IsExactIn128 (Divide p) inputs = IsRatioIn128 (exact_quotient p (inputs 0 0) (inputs 1 0)) × IsIn128 (pos (dividend p (inputs 0 0)))
 IsExactIn128 (Root r) inputs = IsIn128 (pos (square r (inputs 0 0)))
 IsExactIn128 (Mcm m) inputs = All (λ t. IsRatioIn128 (exact_multiple t (inputs 0 0))) m.constants
+IsExactIn128 (Constdiv c) inputs = IsRatioIn128 (exact_small c (inputs 0 0))
+IsExactIn128 (Poly p) inputs = IsRatioIn128 (exact_poly p (inputs 0 0))
+IsExactIn128 (Tfir f) inputs = IsRatioIn128 (exact_taps f (inputs 0))
 
 abbrev pub ExactValuesAreIn128 : Type 0
 ExactValuesAreIn128 =
@@ -112,3 +113,19 @@ pub record IsProductWidth (p : Product) : Type 0 where
 
 abbrev pub ProductsHaveWidth : Type 0
 ProductsHaveWidth = (p : Product) → IsProduct p → IsProductWidth p
+
+-- The numbers of a polynomial: a coefficient has 30 bits, 16 places after the point and 4 guard bits, so 50 in units of the lowest guard
+-- bit; five of them reach 2 ^ 53, and a partial value has 54 bits; a result, without the guard bits, has 50. With the 16 bits of the
+-- input a heap has 70 bits.
+pub record HasPolyRoom (p : Polynomial) : Type 0 where
+  pub guard : poly_guard p ≤ 4
+  pub guarded : All (λ c. unsigned_abs (guarded p c) ≤ 2 ^ 50) p.coefs
+  pub partial : (place : ℕ) → p.input.width + partial_width (drop place (all_guarded p)) ≤ 70
+  pub last : p.input.width + poly_guard p + (poly_format p).width ≤ 70
+
+abbrev pub PolynomialsHaveRoom : Type 0
+PolynomialsHaveRoom = (p : Polynomial) → IsPoly p → HasPolyRoom p
+
+-- The output of whole taps has 17 bits more than the input at most: 11 of a tap, 5 of their number and a sign; so 65 with an input of 48.
+abbrev pub TapsHaveRoom : Type 0
+TapsHaveRoom = (f : Taps) → IsTaps f → (taps_format f).width ≤ f.input.width + 17

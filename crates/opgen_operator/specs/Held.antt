@@ -5,12 +5,14 @@ use Rattle.opgen_num.specs.Rounding.{IsQuotient, IsRoot}
 use Rattle.opgen_operator.specs.declared.spec.Pair.{Pair}
 use Rattle.opgen_operator.specs.declared.spec.Product.{Product}
 use Rattle.opgen_operator.specs.declared.spec.Single.{Single}
+use Rattle.opgen_operator.specs.declared.spec.SmallDiv.{SmallDiv}
 use Rattle.opgen_operator.specs.declared.spec.Sum.{Sum}
-use Rattle.opgen_operator.specs.Exact.{Recent, exact_sum, exact_product, exact_quotient, dividend, square}
+use Rattle.opgen_operator.specs.declared.spec.Taps.{Taps}
+use Rattle.opgen_operator.specs.Exact.{Recent, weighted, exact_sum, exact_product, exact_quotient, dividend, square}
 use Rattle.opgen_operator.specs.Good.{IsGoodRatio}
 use Rattle.opgen_operator.specs.Outputs.{pair_shift}
-use Rattle.opgen_operator.specs.Ports.{sum_format, product_format, constant_format, quotient_format, remainder_format, root_format, rest_format}
-use Rattle.opgen_operator.specs.Ranges.{IsSum, IsProduct, IsPair, IsSingle}
+use Rattle.opgen_operator.specs.Ports.{sum_format, product_format, constant_format, quotient_format, remainder_format, root_format, rest_format, small_quotient_format, small_rest_format, taps_format}
+use Rattle.opgen_operator.specs.Ranges.{IsSum, IsProduct, IsPair, IsSingle, IsSmallDiv}
 use Rattle.opgen_operator.specs.Reached.{IsOf}
 
 -- Less than one away is rounded down or up. A root is rounded down alone: rounded up it can be 2 ^ k where its output has k
@@ -27,3 +29,6 @@ pub record OutputsHold : Type 0 where
       → (q r : ℕ) → IsQuotient (dividend p a) (unsigned_abs b) q r → IsOf (remainder_format p) (pos r)
   pub roots : (r : Single) → IsSingle r → (x : ℤ) → IsOf r.input x
       → (y rest : ℕ) → IsRoot (square r x) y rest → IsOf (root_format r) (pos y) × IsOf (rest_format r) (pos rest)
+  pub small_quotients : (c : SmallDiv) → IsSmallDiv c → (x : ℤ) → IsOf c.input x → (q r : ℕ) → IsQuotient (unsigned_abs x) c.divisor q r
+      → IsOf (small_quotient_format c) (pos q) × IsOf (small_rest_format c) (pos r)
+  pub taps : (f : Taps) (x : Recent) → ((ago : ℕ) → IsOf f.input (x ago)) → IsOf (taps_format f) (weighted f.taps x)

@@ -1,4 +1,7 @@
 pub mod SpecName
+pub mod Kinds
+pub mod OddParts
+pub mod Horner
 pub mod Outputs
 pub mod Limits
 pub mod Ports

@@ -5,14 +5,15 @@ use Rattle.std.specs.List.{position_from}
 use Rattle.opgen_num.specs.declared.format.Format.{Format}
 use Rattle.opgen_num.specs.Formats.{digit_count, range_width}
 use Rattle.opgen_operator.specs.declared.spec.Operator.{Operator}
-use Rattle.opgen_operator.specs.declared.spec.Operator.TheVariants.{Scale, Fir, Multiply, Divide, Root, Mcm}
+use Rattle.opgen_operator.specs.declared.spec.Operator.TheVariants.{Scale, Fir, Multiply, Divide, Root, Mcm, Constdiv, Poly, Tfir}
 use Rattle.opgen_operator.specs.declared.spec.Sum.{Sum}
 use Rattle.opgen_operator.specs.declared.spec.Product.{Product}
 use Rattle.opgen_operator.specs.declared.spec.Pair.{Pair}
 use Rattle.opgen_operator.specs.declared.spec.Single.{Single}
 use Rattle.opgen_operator.specs.declared.outputs.Reach.{Reach}
 
--- The power of two that brings the exact value into units of the output's last place.
+-- The power of two that brings the exact value into units of the output's last place. Several constants, a small divisor, a
+-- polynomial and whole taps have none, so 0.
 abbrev pub sum_shift : Sum → ℤ
 sum_shift s = s.input.lsb -ℤ s.out_lsb
 
@@ -32,6 +33,9 @@ shift (Multiply p) = product_shift p
 shift (Divide p) = pair_shift p
 shift (Root r) = root_shift r
 shift (Mcm m) = pos 0
+shift (Constdiv c) = pos 0
+shift (Poly p) = pos 0
+shift (Tfir f) = pos 0
 
 -- a shift as a factor of the numerator, and as one of the denominator
 abbrev pub places_up : ℤ → ℕ
@@ -57,12 +61,17 @@ abbrev pub first_inexact : Sum → Option ℕ
 first_inexact s = position_from (λ c. not (is_whole s c)) 0 s.coefs
 
 -- Of a sum the place of the first coefficient that is not whole, and 0 of a product that is not for every input: the exact
--- values are then not all whole.
+-- values are then not all whole. Those of a polynomial are never asked to be.
 abbrev pub inexact : Operator → Option ℕ
 inexact (Scale s) = first_inexact s
 inexact (Fir s) = first_inexact s
 inexact (Multiply p) = if int_lt (product_shift p) (pos 0) then Some 0 else None
-inexact _ = None
+inexact (Divide p) = None
+inexact (Root r) = None
+inexact (Mcm m) = None
+inexact (Constdiv c) = None
+inexact (Poly p) = Some 0
+inexact (Tfir f) = None
 
 -- how far the numbers of a format go below and above 0
 abbrev pub reach_with : (signed : Bool) (width : ℕ) → Reach
@@ -146,7 +155,7 @@ abbrev pub product_need : Product → ℕ
 product_need p = width_of (product_places p) + places_down (product_shift p)
 
 -- The width of the widest signal, of the kinds where it may be over the limit. That of a root has three bits more than the root,
--- for which there is always room; none is asked of several constants, whose outputs have always room.
+-- for which there is always room; none is asked of the others, whose signals have always room.
 abbrev pub need : Operator → Option ℕ
 need (Scale s) = Some (sum_need s)
 need (Fir s) = Some (sum_need s)
@@ -154,6 +163,9 @@ need (Multiply p) = Some (product_need p)
 need (Divide p) = Some (p.a.width + places_up (pair_shift p))
 need (Root r) = None
 need (Mcm m) = None
+need (Constdiv c) = None
+need (Poly p) = None
+need (Tfir f) = None
 
 -- A sum has room in 128 bits where its input and its shift up have 80 bits together: 32 and 48 in version 1, 48 and 32 in
 -- version 2.
@@ -164,4 +176,10 @@ HasSumRoom s = s.input.width + places_up (sum_shift s) ≤ 80
 abbrev pub HasRoom : Operator → Type 0
 HasRoom (Scale s) = HasSumRoom s
 HasRoom (Fir s) = HasSumRoom s
-HasRoom _ = Unit {0}
+HasRoom (Multiply p) = Unit {0}
+HasRoom (Divide p) = Unit {0}
+HasRoom (Root r) = Unit {0}
+HasRoom (Mcm m) = Unit {0}
+HasRoom (Constdiv c) = Unit {0}
+HasRoom (Poly p) = Unit {0}
+HasRoom (Tfir f) = Unit {0}

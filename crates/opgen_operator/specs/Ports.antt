@@ -1,19 +1,24 @@
 -- The ports of an operator: their names and formats, in order.
-use Rattle.std.specs.Prelude.{ℕ, ◌+◌, Bool, true, false, List, [], ◌∷◌, ◌++◌, codes, ℤ, pos, ◌+ℤ◌, ◌*ℤ◌, nat_lt, map}
+use Rattle.std.specs.Prelude.{ℕ, ◌+◌, ◌-◌, Bool, true, false, List, [], ◌∷◌, ◌++◌, codes, ℤ, pos, ◌+ℤ◌, ◌*ℤ◌, nat_lt, map}
 use Rattle.std.specs.Int.{div_ceil}
 use Rattle.std.specs.Fmt.{decimal}
 use Rattle.opgen_num.specs.declared.format.Format.{Format}
+use Rattle.opgen_num.specs.Formats.{digit_count, is_negative, range_width}
 use Rattle.opgen_operator.specs.declared.outputs.Reach.{Reach}
 use Rattle.opgen_operator.specs.declared.spec.Operator.{Operator}
-use Rattle.opgen_operator.specs.declared.spec.Operator.TheVariants.{Scale, Fir, Multiply, Divide, Root, Mcm}
+use Rattle.opgen_operator.specs.declared.spec.Operator.TheVariants.{Scale, Fir, Multiply, Divide, Root, Mcm, Constdiv, Poly, Tfir}
 use Rattle.opgen_operator.specs.declared.spec.Pair.{Pair}
+use Rattle.opgen_operator.specs.declared.spec.Poly.{Poly as Polynomial}
 use Rattle.opgen_operator.specs.declared.spec.PortFormat.{PortFormat}
 use Rattle.opgen_operator.specs.declared.spec.Product.{Product}
 use Rattle.opgen_operator.specs.declared.spec.Several.{Several}
 use Rattle.opgen_operator.specs.declared.spec.Single.{Single}
+use Rattle.opgen_operator.specs.declared.spec.SmallDiv.{SmallDiv}
 use Rattle.opgen_operator.specs.declared.spec.Spec.{Spec}
 use Rattle.opgen_operator.specs.declared.spec.Sum.{Sum}
+use Rattle.opgen_operator.specs.declared.spec.Taps.{Taps}
 use Rattle.opgen_operator.specs.Outputs.{width_of, sum_places, product_places, reach_over, places_up, pair_shift, root_shift}
+use Rattle.opgen_operator.specs.Horner.{result_low, result_high}
 
 abbrev pub port : (name : List ℕ) → Format → PortFormat
 port name format = record { name = name; format = format }
@@ -52,6 +57,20 @@ root_format r = unsigned (root_width r) r.out_lsb
 abbrev pub rest_format : Single → Format
 rest_format r = unsigned (root_width r + 1) (pos 2 *ℤ r.out_lsb)
 
+-- a quotient by a small divisor has the format of the input, and the remainder holds the greatest one
+abbrev pub small_quotient_format : SmallDiv → Format
+small_quotient_format c = unsigned c.input.width c.input.lsb
+
+abbrev pub small_rest_format : SmallDiv → Format
+small_rest_format c = unsigned (digit_count (c.divisor - 1)) c.input.lsb
+
+-- the least format that holds the least and the greatest result of a polynomial
+abbrev pub poly_format : Polynomial → Format
+poly_format p = record { signed = is_negative (result_low p); width = range_width (result_low p) (result_high p); lsb = p.out_lsb }
+
+abbrev pub taps_format : Taps → Format
+taps_format f = covering (reach_over f.input f.taps) f.input.lsb
+
 -- y0, y1 and so on, from a number on
 abbrev pub numbered : ℕ → List Format → List PortFormat
 numbered n [] = []
@@ -75,6 +94,9 @@ operator_inputs (Multiply p) = two_inputs p.a p.b
 operator_inputs (Divide p) = two_inputs p.a p.b
 operator_inputs (Root r) = one_input r.input
 operator_inputs (Mcm m) = one_input m.input
+operator_inputs (Constdiv c) = one_input c.input
+operator_inputs (Poly p) = one_input p.input
+operator_inputs (Tfir f) = one_input f.input
 
 abbrev pub quotient_ports : (exact : Bool) → Pair → List PortFormat
 quotient_ports exact p = with_rest exact (port (codes "q") (quotient_format p)) (port (codes "r") (remainder_format p))
@@ -85,6 +107,9 @@ root_ports exact r = with_rest exact (port (codes "y") (root_format r)) (port (c
 abbrev pub multiple_ports : Several → List PortFormat
 multiple_ports m = numbered 0 (map (constant_format m.input) m.constants)
 
+abbrev pub small_ports : (exact : Bool) → SmallDiv → List PortFormat
+small_ports exact c = with_rest exact (port (codes "q") (small_quotient_format c)) (port (codes "r") (small_rest_format c))
+
 abbrev pub operator_outputs : Operator → List PortFormat
 operator_outputs (Scale s) = port (codes "y") (sum_format s) ∷ []
 operator_outputs (Fir s) = port (codes "y") (sum_format s) ∷ []
@@ -92,6 +117,9 @@ operator_outputs (Multiply p) = port (codes "y") (product_format p) ∷ []
 operator_outputs (Divide p) = quotient_ports p.exact p
 operator_outputs (Root r) = root_ports r.exact r
 operator_outputs (Mcm m) = multiple_ports m
+operator_outputs (Constdiv c) = small_ports c.exact c
+operator_outputs (Poly p) = port (codes "y") (poly_format p) ∷ []
+operator_outputs (Tfir f) = port (codes "y") (taps_format f) ∷ []
 
 abbrev pub inputs_of : Spec → List PortFormat
 inputs_of spec = operator_inputs spec.op

@@ -1,22 +1,33 @@
 -- Valid specifications: their fields are within the ranges of their keys and the limits of their version.
-use Rattle.std.specs.Prelude.{◌≡◌, ◌≤◌, Bool, IsTrue, length, All, None}
+use Rattle.std.specs.Prelude.{◌≡◌, ◌≤◌, Bool, false, IsTrue, length, All, Option, Some, None}
 use Rattle.opgen_operator.specs.declared.spec.Spec.{Spec}
 use Rattle.opgen_operator.specs.declared.spec.DelayLine.{DelayLine}
 use Rattle.opgen_operator.specs.declared.spec.Operator.{Operator}
-use Rattle.opgen_operator.specs.declared.spec.Operator.TheVariants.{Scale, Fir, Multiply, Divide, Root, Mcm}
-use Rattle.opgen_operator.specs.Accepted.{IsAcceptedBy}
+use Rattle.opgen_operator.specs.declared.spec.Operator.TheVariants.{Scale, Fir, Multiply, Divide, Root, Mcm, Constdiv, Poly, Tfir}
+use Rattle.opgen_operator.specs.Accepted.{IsAcceptedBy, own_mark}
 use Rattle.opgen_operator.specs.Limits.{IsVersion}
 use Rattle.opgen_operator.specs.Outputs.{inexact}
 use Rattle.opgen_operator.specs.SpecName.{is_spec_name}
 
 -- the operator's own mark of exact outputs, where it has one, is that of the specification
+abbrev pub AgreesWith : Bool → Option Bool → Type 0
+AgreesWith exact (Some mark) = mark ≡ exact
+AgreesWith exact None = Unit {0}
+
 abbrev pub AgreesOnExact : Bool → Operator → Type 0
-AgreesOnExact exact (Scale s) = s.exact ≡ exact
-AgreesOnExact exact (Fir s) = s.exact ≡ exact
-AgreesOnExact exact (Multiply p) = Unit {0}
-AgreesOnExact exact (Divide p) = p.exact ≡ exact
-AgreesOnExact exact (Root r) = r.exact ≡ exact
-AgreesOnExact exact (Mcm m) = Unit {0}
+AgreesOnExact exact op = AgreesWith exact (own_mark op)
+
+-- version 1 has the first six kinds, without larger counters
+abbrev pub IsOfFirstVersion : Operator → Type 0
+IsOfFirstVersion (Scale s) = s.counters ≡ false
+IsOfFirstVersion (Fir s) = s.counters ≡ false
+IsOfFirstVersion (Multiply p) = p.counters ≡ false
+IsOfFirstVersion (Divide p) = Unit {0}
+IsOfFirstVersion (Root r) = Unit {0}
+IsOfFirstVersion (Mcm m) = Unit {0}
+IsOfFirstVersion (Constdiv c) = ⊥
+IsOfFirstVersion (Poly p) = ⊥
+IsOfFirstVersion (Tfir f) = ⊥
 
 abbrev pub IsDelayLine : DelayLine → Type 0
 IsDelayLine line = (line.base ≤ 1000000) × (line.per_bit ≤ 10000)
@@ -25,6 +36,7 @@ pub record IsValidSpec (spec : Spec) : Type 0 where
   pub version : IsVersion spec.version
   pub name : IsTrue (is_spec_name spec.name)
   pub op : IsAcceptedBy spec.version spec.op
+  pub first : spec.version ≡ 1 → IsOfFirstVersion spec.op
   pub agrees : AgreesOnExact spec.exact spec.op
   pub target : (1 ≤ length spec.target) × (length spec.target ≤ 32)
   pub period : (1 ≤ spec.period) × (spec.period ≤ 1000000)

@@ -1,15 +1,17 @@
 ghost use Rattle.std.specs.Prelude.{ℕ, false, ◌≡◌, ◌≢◌, ◌+◌, ◌*◌, ◌<◌, ◌≤◌, ◌^◌, ◌↔◌, ℤ, pos, neg_ℤ, ◌*ℤ◌, ◌≤ℤ◌, length, slice_index, unsigned_abs, All, IsTrue, Some};
 ghost use Rattle.opgen_num.specs.Rounding.{IsGoodRoot, IsQuotient, IsRoot};
-ghost use Rattle.opgen_operator.specs.Exact.{weighted, exact_sum, exact_product, exact_quotient, exact_multiple, dividend, square};
-ghost use Rattle.opgen_operator.specs.Good.{IsGoodRatio, IsGoodQuotient, IsGoodSquareRoot, AreGoodMultiples, IsGood, IsInRange};
+ghost use Rattle.opgen_operator.specs.Exact.{weighted, exact_sum, exact_product, exact_quotient, exact_multiple, exact_small, exact_taps, exact_poly, terms_from, dividend, square};
+ghost use Rattle.opgen_operator.specs.Good.{IsGoodRatio, IsGoodQuotient, IsGoodSmallQuotient, IsGoodSquareRoot, AreGoodMultiples, IsGood, IsInRange};
 ghost use Rattle.opgen_operator.specs.Judged.{number_of, recent_numbers, output_numbers, IsHistory, IsCycle};
 ghost use Rattle.opgen_operator.specs.Outputs.{sum_shift, product_shift, pair_shift, root_shift, HasSumRoom};
-ghost use Rattle.opgen_operator.specs.Ports.{one_input, two_inputs, sum_format, product_format, constant_format, quotient_format, remainder_format, root_format, rest_format, quotient_ports, root_ports, multiple_ports, inputs_of, outputs_of};
-ghost use Rattle.opgen_operator.specs.Ranges.{IsInput, IsWithin, IsSum, IsProduct, IsPair, IsSingle, IsSeveral};
+ghost use Rattle.opgen_operator.specs.Ports.{one_input, two_inputs, sum_format, product_format, constant_format, quotient_format, remainder_format, root_format, rest_format, small_quotient_format, small_rest_format, poly_format, taps_format, small_ports, quotient_ports, root_ports, multiple_ports, inputs_of, outputs_of};
+ghost use Rattle.opgen_operator.specs.Ranges.{IsInput, IsWithin, IsSum, IsProduct, IsPair, IsSingle, IsSeveral, IsSmallDiv, IsPoly, IsTaps};
+ghost use Rattle.opgen_operator.specs.Horner.{degree};
 ghost use Rattle.opgen_operator.specs.Reached.{IsOf};
 ghost use Rattle.opgen_operator.specs.Valid.{IsValidSpec};
 
 use crate::MAX_SHIFT;
+use crate::horner::{degree, result_places};
 use crate::outputs::{
     pair_shift, places_down, places_up, power, product_shift, root_shift, sum_shift,
 };
@@ -17,7 +19,7 @@ use crate::ports::{
     constant_format, product_format, quotient_format, remainder_format, rest_format, root_format,
     sum_format,
 };
-use crate::spec::{Operator, Pair, Product, Several, Single, Spec, Sum};
+use crate::spec::{Operator, Pair, Poly, Product, Several, Single, SmallDiv, Spec, Sum, Taps};
 use opgen_num::{Format, MAX_INPUT, MAX_WIDTH, Word, good_linear, good_root, is_quotient, is_root};
 
 /// The number of an input's word.
@@ -48,6 +50,7 @@ fn recent(format: Format, history: &[u128], ago: usize) -> i128
     requires history { IsHistory (one_input format) history.now }
     ensures value { result ≡ recent_numbers (one_input format) history.now 0 ago }
     ensures bound { unsigned_abs result ≤ 2 ^ format.width }
+    ensures of { IsOf format result }
 {
     if ago < history.len() {
         input(format, history[history.len() - 1 - ago])
@@ -81,16 +84,18 @@ fn raised(n: i128, places: u32) -> i128
 }
 
 /// The last inputs, each times its coefficient.
-fn weighted(sum: &Sum, history: &[u128]) -> i128
-    requires sum { IsSum 256 sum.now }
-    requires history { IsHistory (one_input sum.now.input) history.now }
-    ensures value { result ≡ weighted sum.now.coefs (recent_numbers (one_input sum.now.input) history.now 0) }
-    ensures bound { unsigned_abs result ≤ 2 ^ (sum.now.input.width + 38) }
+fn weighted(format: Format, coefs: &[i64], history: &[u128]) -> i128
+    requires format { IsInput format }
+    requires few { length coefs.now ≤ 256 }
+    requires small { All (IsWithin (2 ^ 30)) coefs.now }
+    requires history { IsHistory (one_input format) history.now }
+    ensures value { result ≡ weighted coefs.now (recent_numbers (one_input format) history.now 0) }
+    ensures bound { unsigned_abs result ≤ 2 ^ (format.width + 38) }
 {
     let mut total = 0;
     let mut ago = 0;
-    'coefs: for coef in sum.coefs.as_slice() {
-        total += product(recent(sum.input, history, ago), *coef);
+    'coefs: for coef in coefs {
+        total += product(recent(format, history, ago), *coef);
         ago += 1;
     }
     total
@@ -118,7 +123,8 @@ fn sum_is_good(exact: bool, sum: &Sum, history: &[u128], y: u128) -> bool
         (number_of (sum_format sum.now) y) }
 {
     let shift = sum_shift(sum);
-    let numerator = raised(weighted(sum, history), places_up(shift));
+    let total = weighted(sum.input, sum.coefs.as_slice(), history);
+    let numerator = raised(total, places_up(shift));
     let denominator = raised(i128::from(sum.den), places_down(shift));
     good_linear(numerator, denominator, output(sum_format(sum), y), exact)
 }
@@ -229,6 +235,83 @@ fn multiples_are_good(exact: bool, several: &Several, x: i128, outputs: &[u128])
     true
 }
 
+fn small_quotient_is_good(exact: bool, small: &SmallDiv, x: i128, outputs: &[u128]) -> bool
+    requires small { IsSmallDiv small.now }
+    requires x { IsOf small.now.input x }
+    requires outputs { IsCycle (small_ports exact small.now) outputs.now }
+    ensures { IsTrue result ↔ IsGoodSmallQuotient exact small.now x
+        (output_numbers (small_ports exact small.now) outputs.now 0)
+        (output_numbers (small_ports exact small.now) outputs.now 1) }
+{
+    let q = output(small.quotient(), outputs[0]);
+    if exact {
+        let r = output(small.remainder(), outputs[1]);
+        is_quotient(
+            x.unsigned_abs(),
+            small.divisor.into(),
+            q.unsigned_abs(),
+            r.unsigned_abs(),
+        )
+    } else {
+        good_linear(x, small.divisor.into(), q, false)
+    }
+}
+
+fn taps_are_good(exact: bool, taps: &Taps, history: &[u128], y: u128) -> bool
+    requires taps { IsTaps taps.now }
+    requires history { IsHistory (one_input taps.now.input) history.now }
+    requires y { y < 2 ^ (taps_format taps.now).width }
+    ensures { IsTrue result ↔ IsGoodRatio exact
+        (exact_taps taps.now (recent_numbers (one_input taps.now.input) history.now 0))
+        (number_of (taps_format taps.now) y) }
+{
+    let total = weighted(taps.input, taps.taps.as_slice(), history);
+    let format = taps.output();
+    good_linear(total, 1, output(format, y), exact)
+}
+
+/// A coefficient times a power of the input, over the common denominator.
+fn poly_term(coef: i64, factor: u128, places: u32) -> i128
+    requires coef { unsigned_abs coef ≤ 2 ^ 30 }
+    requires small { factor * 2 ^ places ≤ 2 ^ 64 }
+    requires few { places ≤ 64 }
+    ensures value { result ≡ coef *ℤ pos (factor * 2 ^ places) }
+    ensures bound { unsigned_abs result ≤ 2 ^ 94 }
+{
+    i128::from(coef) * ((factor * power(places)) as i128)
+}
+
+/// The terms of a polynomial over the common denominator.
+fn poly_terms(poly: &Poly, x: u128) -> i128
+    requires poly { IsPoly poly.now }
+    requires x { x < 2 ^ poly.now.input.width }
+    ensures value { result ≡ terms_from 0 poly.now.coefs poly.now.input.width (degree poly.now) x }
+    ensures bound { unsigned_abs result ≤ 5 * 2 ^ 94 }
+{
+    let mut total = 0;
+    let mut power = 1;
+    let mut places = poly.input.width * degree(poly);
+    'coefs: for coef in poly.coefs.as_slice() {
+        total += poly_term(*coef, power, places);
+        power *= x;
+        places = places.saturating_sub(poly.input.width);
+    }
+    total
+}
+
+fn poly_is_good(exact: bool, poly: &Poly, x: i128, y: u128) -> bool
+    requires poly { IsPoly poly.now }
+    requires x { IsOf poly.now.input x }
+    requires y { y < 2 ^ (poly_format poly.now).width }
+    ensures { IsTrue result ↔ IsGoodRatio exact (exact_poly poly.now x) (number_of (poly_format poly.now) y) }
+{
+    let total = poly_terms(poly, x.unsigned_abs());
+    let numerator = raised(total, result_places(poly));
+    let denominator = raised(i128::from(poly.den), poly.input.width * degree(poly));
+    let format = poly.output();
+    good_linear(numerator, denominator, output(format, y), exact)
+}
+
 impl Spec {
     /// Whether the outputs of a cycle are good, or its inputs are out of range.
     ///
@@ -266,6 +349,13 @@ impl Spec {
                 let x = recent(several.input, history, 0);
                 multiples_are_good(self.exact, several, x, outputs)
             }
+            Operator::Constdiv(small) => {
+                small_quotient_is_good(self.exact, small, recent(small.input, history, 0), outputs)
+            }
+            Operator::Poly(poly) => {
+                poly_is_good(self.exact, poly, recent(poly.input, history, 0), outputs[0])
+            }
+            Operator::Tfir(taps) => taps_are_good(self.exact, taps, history, outputs[0]),
         }
     }
 }

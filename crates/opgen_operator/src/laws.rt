@@ -1,4 +1,4 @@
-ghost use Rattle.opgen_operator.specs.Bounded.{AcceptedHaveRoom, EntriesAreSmall, ExactValuesAreIn128, InputsAreWide, LimitsAreWithin, OutputsAreWide, ProductsHaveWidth, RootsAreNarrow, ShiftsAreSmall, ValidAreAccepted};
+ghost use Rattle.opgen_operator.specs.Bounded.{AcceptedHaveRoom, EntriesAreSmall, ExactValuesAreIn128, InputsAreWide, LimitsAreWithin, OutputsAreWide, PolynomialsHaveRoom, ProductsHaveWidth, RootsAreNarrow, ShiftsAreSmall, TapsHaveRoom, ValidAreAccepted};
 ghost use Rattle.opgen_operator.specs.Held.{OutputsHold};
 ghost use Rattle.opgen_operator.specs.Reached.{SumsReach, ProductsReach};
 
@@ -33,8 +33,8 @@ pub fn outputs_are_wide()
     ensures { OutputsAreWide }
 {}
 
-/// The shift of a valid specification is from -48 to 48, for sums in version 2 up to 32, and from 0
-/// on for quotients and roots.
+/// The shift of a valid specification is from -48 to 48, for sums in version 2 up to 32, from 0 on
+/// for quotients and roots, and 0 for the kinds that have none.
 pub fn shifts_are_small()
     ensures { ShiftsAreSmall }
 {}
@@ -70,4 +70,14 @@ pub fn roots_are_narrow()
 /// The range of a product passes 128 bits only where it is shifted up, and how wide its output is there.
 pub fn products_have_width()
     ensures { ProductsHaveWidth }
+{}
+
+/// The numbers of a polynomial have 54 bits at most, and its heaps 70.
+pub fn polynomials_have_room()
+    ensures { PolynomialsHaveRoom }
+{}
+
+/// The output of whole taps has 17 bits more than the input at most.
+pub fn taps_have_room()
+    ensures { TapsHaveRoom }
 {}

@@ -33,8 +33,9 @@ impl Operator {
         ensures { result ≡ least_shift self.now }
     {
         match self {
-            Operator::Divide(_) | Operator::Root(_) => 0,
-            _ => -MAX_SHIFT,
+            Self::Scale(_) | Self::Fir(_) | Self::Multiply(_) => -MAX_SHIFT,
+            Self::Divide(_) | Self::Root(_) => 0,
+            Self::Mcm(_) | Self::Constdiv(_) | Self::Poly(_) | Self::Tfir(_) => 0,
         }
     }
 
@@ -43,8 +44,9 @@ impl Operator {
         ensures { result ≡ most_shift version self.now }
     {
         match self {
-            Operator::Scale(_) | Operator::Fir(_) => most_sum_shift(version),
-            _ => MAX_SHIFT,
+            Self::Scale(_) | Self::Fir(_) => most_sum_shift(version),
+            Self::Multiply(_) | Self::Divide(_) | Self::Root(_) => MAX_SHIFT,
+            Self::Mcm(_) | Self::Constdiv(_) | Self::Poly(_) | Self::Tfir(_) => 0,
         }
     }
 }

@@ -14,32 +14,34 @@ impl Operator {
         ensures { result ≡ shift self.now }
     {
         match self {
-            Operator::Scale(sum) => sum_shift(sum),
-            Operator::Fir(sum) => sum_shift(sum),
-            Operator::Multiply(product) => product_shift(product),
-            Operator::Divide(pair) => pair_shift(pair),
-            Operator::Root(single) => root_shift(single),
-            Operator::Mcm(_) => 0,
+            Self::Scale(sum) => sum_shift(sum),
+            Self::Fir(sum) => sum_shift(sum),
+            Self::Multiply(product) => product_shift(product),
+            Self::Divide(pair) => pair_shift(pair),
+            Self::Root(single) => root_shift(single),
+            Self::Mcm(_) | Self::Constdiv(_) | Self::Poly(_) | Self::Tfir(_) => 0,
         }
     }
 
     /// The place of the first coefficient that is not a whole number of units of the output's last
-    /// place, or 0 of a product that is not one for every input.
+    /// place, or 0 of a product that is not one for every input. Of a polynomial always 0.
     pub fn inexact(&self) -> Option<u32>
         requires { IsOperator self.now }
         ensures { result ≡ inexact self.now }
     {
         match self {
-            Operator::Scale(sum) => first_inexact(sum),
-            Operator::Fir(sum) => first_inexact(sum),
-            Operator::Multiply(product) => {
+            Self::Scale(sum) => first_inexact(sum),
+            Self::Fir(sum) => first_inexact(sum),
+            Self::Multiply(product) => {
                 if product_shift(product) < 0 {
                     Some(0)
                 } else {
                     None
                 }
             }
-            _ => None,
+            Self::Poly(_) => Some(0),
+            Self::Divide(_) | Self::Root(_) | Self::Mcm(_) | Self::Constdiv(_) | Self::Tfir(_) =>
+                None,
         }
     }
 
@@ -52,11 +54,12 @@ impl Operator {
         ensures { result ≡ need self.now }
     {
         match self {
-            Operator::Scale(sum) => Some(sum_need(sum)),
-            Operator::Fir(sum) => Some(sum_need(sum)),
-            Operator::Multiply(product) => Some(product_need(product)),
-            Operator::Divide(pair) => Some(pair.a.width + places_up(pair_shift(pair))),
-            _ => None,
+            Self::Scale(sum) => Some(sum_need(sum)),
+            Self::Fir(sum) => Some(sum_need(sum)),
+            Self::Multiply(product) => Some(product_need(product)),
+            Self::Divide(pair) => Some(pair.a.width + places_up(pair_shift(pair))),
+            Self::Root(_) | Self::Mcm(_) | Self::Constdiv(_) | Self::Poly(_) | Self::Tfir(_) =>
+                None,
         }
     }
 }

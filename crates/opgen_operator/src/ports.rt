@@ -1,8 +1,8 @@
 ghost use Rattle.std.specs.Prelude.{◌≡◌, ◌+◌, ◌*◌, ◌≤◌, ◌^◌, ◌++◌, [], ◌∷◌, ℤ, pos, neg_ℤ, ◌≤ℤ◌, length, map, codes, All, IfOk};
 ghost use Rattle.std.specs.Fmt.{decimal};
 ghost use Rattle.opgen_operator.specs.Outputs.{shift, sum_shift, product_shift, HasRoom, HasSumRoom};
-ghost use Rattle.opgen_operator.specs.Ports.{port, covering, unsigned, sum_format, product_format, constant_format, quotient_format, remainder_format, root_width, root_format, rest_format, numbered, with_rest, operator_inputs, operator_outputs, inputs_of, outputs_of};
-ghost use Rattle.opgen_operator.specs.Ranges.{IsInput, IsWithin, IsSum, IsProduct, IsPair, IsSingle, IsSeveral, IsOperator};
+ghost use Rattle.opgen_operator.specs.Ports.{port, covering, unsigned, sum_format, product_format, constant_format, quotient_format, remainder_format, root_width, root_format, rest_format, small_quotient_format, small_rest_format, taps_format, numbered, with_rest, operator_inputs, operator_outputs, inputs_of, outputs_of};
+ghost use Rattle.opgen_operator.specs.Ranges.{IsInput, IsWithin, IsSum, IsProduct, IsPair, IsSingle, IsSeveral, IsSmallDiv, IsTaps, IsOperator};
 ghost use Rattle.opgen_operator.specs.Valid.{IsValidSpec};
 
 use crate::MAX_SHIFT;
@@ -10,9 +10,11 @@ use crate::outputs::{
     Reach, pair_shift, places_up, product_reach, product_width, reach_over, root_shift, sum_places,
     width_of,
 };
-use crate::spec::{Operator, Pair, PortFormat, Product, Several, Single, Spec, Sum};
+use crate::spec::{
+    Operator, Pair, PortFormat, Product, Several, Single, SmallDiv, Spec, Sum, Taps,
+};
 use opgen_list::Text;
-use opgen_num::{Format, Memory};
+use opgen_num::{Format, Memory, bit_length};
 use std::alloc::{AllocError, Global};
 
 impl Spec {
@@ -66,6 +68,9 @@ fn operator_inputs(alloc: Global, op: &Operator) -> Result<Vec<PortFormat>, Allo
         Operator::Divide(pair) => operands(alloc, pair.a, pair.b),
         Operator::Root(single) => one(alloc, "x", single.input),
         Operator::Mcm(several) => one(alloc, "x", several.input),
+        Operator::Constdiv(small) => one(alloc, "x", small.input),
+        Operator::Poly(poly) => one(alloc, "x", poly.input),
+        Operator::Tfir(taps) => one(alloc, "x", taps.input),
     }
 }
 
@@ -159,6 +164,37 @@ pub(crate) fn rest_format(single: &Single) -> Format
     unsigned(root_width(single) + 1, 2 * single.out_lsb)
 }
 
+impl SmallDiv {
+    /// The format of the quotient.
+    pub fn quotient(&self) -> Format
+        ensures { result ≡ small_quotient_format self.now }
+    {
+        unsigned(self.input.width, self.input.lsb)
+    }
+
+    /// The format of the remainder, which has the bits of the greatest one.
+    pub fn remainder(&self) -> Format
+        requires { IsSmallDiv self.now }
+        ensures value { result ≡ small_rest_format self.now }
+        ensures some { 1 ≤ result.width }
+        ensures few { result.width ≤ 5 }
+    {
+        unsigned(bit_length((self.divisor - 1).into()), self.input.lsb)
+    }
+}
+
+impl Taps {
+    /// The format of the output.
+    pub fn output(&self) -> Format
+        requires { IsTaps self.now }
+        ensures value { result ≡ taps_format self.now }
+        ensures some { 1 ≤ result.width }
+        ensures few { result.width ≤ 65 }
+    {
+        covering(reach_over(self.input, self.taps.as_slice()), self.input.lsb)
+    }
+}
+
 /// A quotient or root, and its remainder where it is exact.
 fn with_rest(
     alloc: Global,
@@ -225,5 +261,14 @@ fn operator_outputs(alloc: Global, op: &Operator) -> Result<Vec<PortFormat>, All
             rest_format(single),
         ),
         Operator::Mcm(several) => constants(alloc, several),
+        Operator::Constdiv(small) => with_rest(
+            alloc,
+            small.exact,
+            "q",
+            small.quotient(),
+            small.remainder(),
+        ),
+        Operator::Poly(poly) => one(alloc, "y", poly.output()),
+        Operator::Tfir(taps) => one(alloc, "y", taps.output()),
     }
 }

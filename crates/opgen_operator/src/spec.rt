@@ -27,7 +27,7 @@ pub struct DelayLine {
     pub per_bit: u32,
 }
 
-/// An operator of one of the six kinds.
+/// An operator of one of the kinds.
 #[derive(Drop)]
 pub enum Operator {
     /// One input times a constant.
@@ -40,6 +40,12 @@ pub enum Operator {
     Root(Single),
     /// One input times several constants, with an output for each.
     Mcm(Several),
+    /// One input divided by a small constant.
+    Constdiv(SmallDiv),
+    /// A polynomial of one input.
+    Poly(Poly),
+    /// A filter of whole coefficients in transposed form.
+    Tfir(Taps),
 }
 
 /// A sum of the last inputs times `coefs`, over the common denominator `den`.
@@ -50,6 +56,8 @@ pub struct Sum {
     pub coefs: Items<i64>,
     pub den: i64,
     pub exact: bool,
+    /// Whether larger counters go before the compression of the heap.
+    pub counters: bool,
 }
 
 #[derive(Clone, Copy, Debug, PartialEq, Eq)]
@@ -57,6 +65,8 @@ pub struct Product {
     pub a: Format,
     pub b: Format,
     pub out_lsb: i32,
+    /// Whether larger counters go before the compression of the heap.
+    pub counters: bool,
 }
 
 /// The dividend `a` and the divisor `b`.
@@ -80,6 +90,33 @@ pub struct Several {
     pub input: Format,
     pub constants: Items<i64>,
     /// How many odd numbers beside those of the constants the adder graph may make.
+    pub extra: u32,
+}
+
+/// An unsigned input, and the constant by which it is divided.
+#[derive(Clone, Copy, Debug, PartialEq, Eq)]
+pub struct SmallDiv {
+    pub input: Format,
+    pub divisor: u32,
+    pub exact: bool,
+}
+
+/// The sum of `coefs` times powers of an unsigned input below 1, the constant one first, over the
+/// common denominator `den`.
+#[derive(Drop)]
+pub struct Poly {
+    pub input: Format,
+    pub out_lsb: i32,
+    pub coefs: Items<i64>,
+    pub den: i64,
+}
+
+/// The sum of the last inputs times `taps`.
+#[derive(Drop)]
+pub struct Taps {
+    pub input: Format,
+    pub taps: Items<i64>,
+    /// How many odd numbers beside those of the taps the adder graph may make.
     pub extra: u32,
 }
 

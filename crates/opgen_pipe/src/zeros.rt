@@ -2,13 +2,13 @@ ghost use Rattle.std.specs.Prelude.{◌≡◌, ◌<◌, ◌≤◌, ◌^◌, All,
 ghost use Rattle.opgen_num.specs.Words.{nat};
 ghost use Rattle.opgen_design.specs.Value.{chosen, cut, word_at};
 ghost use Rattle.opgen_net.specs.Valid.{IsValid, LiesWithin, MayStand};
-ghost use Rattle.opgen_value.specs.Fitting.{AreNarrow};
+ghost use Rattle.opgen_runs.specs.Fitting.{AreNarrow};
 ghost use Rattle.opgen_pipe.specs.Zeros.{still_word, zero_words};
 
 use opgen_design::Slice;
 use opgen_net::{Net, Node};
 use opgen_num::Word;
-use opgen_value::{cut, value};
+use opgen_runs::{cut, value};
 use std::alloc::{AllocError, Global};
 
 /// The first word where the condition is the bit 1, and else the second.

@@ -9,15 +9,11 @@ use opgen_design::{Expr, Op, Slice};
 use opgen_net::{Class, Net, Node};
 use opgen_num::Memory;
 use opgen_pipe::{PlanFault, Planned, plan};
-use opgen_target::{LinearTarget, Target};
+use opgen_target::Target;
+pub use opgen_target::plain;
 use std::alloc::{AllocError, Global};
 use std::process::Abort;
 use std::test::Fail;
-
-pub fn plain(alloc: Global) -> Result<LinearTarget, AllocError> {
-    let lines = [(0, 0), (400, 0), (500, 30), (450, 0), (600, 50), (100, 0)];
-    Ok(LinearTarget::new(String::from_str(alloc, "plain")?, lines))
-}
 
 // What a net of one output is planned as.
 pub fn planned(

@@ -19,6 +19,7 @@ fn four_by_four(rt: HostRuntime) -> Result<(), Fail> {
         a: four,
         b: four,
         out_lsb: 4,
+        counters: false,
     };
     let net = build(rt.alloc(), &product)?;
     assert_eq!(rt; net.nodes.len(), 32);

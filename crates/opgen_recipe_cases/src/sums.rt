@@ -22,6 +22,7 @@ fn third(rt: HostRuntime) -> Result<(), Fail> {
         coefs,
         den: 3,
         exact: false,
+        counters: false,
     };
     let net = build(rt.alloc(), &sum)?;
     assert_eq!(rt; net.nodes.len(), 4);

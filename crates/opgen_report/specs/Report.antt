@@ -4,19 +4,12 @@ use Rattle.std.specs.Fmt.{decimal, signed_decimal}
 use Rattle.std.specs.List.{flat_map}
 use Rattle.opgen_num.specs.declared.format.Format.{Format}
 use Rattle.opgen_operator.specs.declared.spec.Operator.{Operator}
-use Rattle.opgen_operator.specs.declared.spec.Operator.TheVariants.{Scale, Fir, Multiply, Divide, Root, Mcm}
+use Rattle.opgen_operator.specs.declared.spec.Operator.TheVariants.{Scale, Fir, Multiply, Divide, Root, Mcm, Constdiv, Poly, Tfir}
+use Rattle.opgen_operator.specs.Kinds.{kind, kind_name}
 use Rattle.opgen_operator.specs.declared.spec.PortFormat.{PortFormat}
 use Rattle.opgen_operator.specs.declared.spec.Spec.{Spec}
 use Rattle.opgen_pipe.specs.declared.planning.Planned.{Planned}
 use Rattle.opgen_operator.specs.Ports.{inputs_of, outputs_of}
-
-abbrev pub kind_word : Operator → List ℕ
-kind_word (Scale sum) = codes "scale"
-kind_word (Fir sum) = codes "fir"
-kind_word (Multiply product) = codes "multiply"
-kind_word (Divide pair) = codes "divide"
-kind_word (Root single) = codes "root"
-kind_word (Mcm several) = codes "mcm"
 
 abbrev pub mode_word : (exact : Bool) → List ℕ
 mode_word true = codes "exact"
@@ -30,7 +23,7 @@ sign_word false = codes "unsigned"
 unfoldable pub request_text : Spec → List ℕ
 request_text spec =
     codes "operator " ++ spec.name ++ codes "\n"
-    ++ codes "kind " ++ kind_word spec.op ++ codes "\n"
+    ++ codes "kind " ++ kind_name (kind spec.op) ++ codes "\n"
     ++ codes "mode " ++ mode_word spec.exact ++ codes "\n"
     ++ codes "target " ++ spec.target ++ codes "\n"
     ++ codes "period " ++ decimal spec.period ++ codes "\n"
@@ -61,10 +54,17 @@ member_text number = codes " " ++ decimal number
 abbrev pub members_line : (set : List ℕ) → List ℕ
 members_line set = codes "graph" ++ flat_map member_text set ++ codes "\n"
 
--- the members of the adder graph, of a kind that is made of one
+-- the members of the adder graph, of the kinds that are made of one
 abbrev pub graph_line : Operator → (set : List ℕ) → List ℕ
+graph_line (Scale sum) set = []
+graph_line (Fir sum) set = []
+graph_line (Multiply product) set = []
+graph_line (Divide pair) set = []
+graph_line (Root single) set = []
 graph_line (Mcm several) set = members_line set
-graph_line _ set = []
+graph_line (Constdiv small) set = []
+graph_line (Poly poly) set = []
+graph_line (Tfir taps) set = members_line set
 
 unfoldable pub report : Spec → Planned → (set : List ℕ) → List ℕ
 report spec planned set =

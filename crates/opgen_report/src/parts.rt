@@ -1,24 +1,11 @@
 //! The parts of a report.
 ghost use Rattle.std.specs.Prelude.{◌≡◌, ◌++◌, ℕ, codes, length, OnOk, string_bytes};
 ghost use Rattle.std.specs.List.{flat_map};
-ghost use Rattle.opgen_report.specs.Report.{kind_word, mode_word, sign_word, request_text, time_text, format_text, port_line, cells_line, member_text, members_line, graph_line};
+ghost use Rattle.opgen_report.specs.Report.{mode_word, sign_word, request_text, time_text, format_text, port_line, cells_line, member_text, members_line, graph_line};
 
 use opgen_num::Format;
 use opgen_operator::{Operator, PortFormat, Spec};
 use std::alloc::AllocError;
-
-fn kind_word(op: &Operator) -> &'static str
-    ensures { result.now ≡ kind_word op.now }
-{
-    match op {
-        Operator::Scale(_) => "scale",
-        Operator::Fir(_) => "fir",
-        Operator::Multiply(_) => "multiply",
-        Operator::Divide(_) => "divide",
-        Operator::Root(_) => "root",
-        Operator::Mcm(_) => "mcm",
-    }
-}
 
 fn mode_word(exact: bool) -> &'static str
     ensures { result.now ≡ mode_word exact }
@@ -37,7 +24,7 @@ pub(crate) fn put_request(out: &mut String, spec: &Spec) -> Result<(), AllocErro
     ensures { OnOk result (string_bytes out.new ≡ string_bytes out.old ++ request_text spec.now) }
 {
     writeln!(out, "operator {}", spec.name.as_str())?;
-    writeln!(out, "kind {}", kind_word(&spec.op))?;
+    writeln!(out, "kind {}", spec.op.kind().name())?;
     writeln!(out, "mode {}", mode_word(spec.exact))?;
     writeln!(out, "target {}", spec.target.as_str())?;
     writeln!(out, "period {}", spec.period)
@@ -111,7 +98,13 @@ pub(crate) fn put_graph(out: &mut String, op: &Operator, set: &[u32]) -> Result<
     ensures { OnOk result (string_bytes out.new ≡ string_bytes out.old ++ graph_line op.now set.now) }
 {
     match op {
-        Operator::Mcm(_) => put_members_line(out, set),
-        _ => Ok(()),
+        Operator::Mcm(_) | Operator::Tfir(_) => put_members_line(out, set),
+        Operator::Scale(_)
+        | Operator::Fir(_)
+        | Operator::Multiply(_)
+        | Operator::Divide(_)
+        | Operator::Root(_)
+        | Operator::Constdiv(_)
+        | Operator::Poly(_) => Ok(()),
     }
 }

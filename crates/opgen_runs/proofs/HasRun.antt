@@ -45,6 +45,14 @@ filled (p ∷ ps) given e =
     let r = fill-one p.dir p.width ps (filled ps) given e in
     (r.0 ∷ r.1, ap (λ n. n ∷ map length r.1) r.2 ∙ ap (λ ns. p.width ∷ ns) r.3, r.4)
 
+-- a run asks of the words before it only those of the registers
+pub run-kept : (d : Design) (inputs : List (List (List Bool))) (now others : List (List Bool)) (vs : List Words)
+    → SameRegisters d now others → RunsOn d now inputs vs → RunsOn d others inputs vs
+run-kept d [] now others [] same h = tt
+run-kept d [] now others (v ∷ vs) same h = absurd h
+run-kept d (given ∷ inputs) now others [] same h = absurd h
+run-kept d (given ∷ inputs) now others (v ∷ vs) same h = (h.0, cycle-kept d now others same given v h.0 h.1, h.2)
+
 module _ (d : Design) (sound : IsSound d) where
   handed-widths : (v : Words) → HaveWidths d v → (ks : List Driver) → ((i : ℕ) (k : Driver) → slice_get ks i ≡ Some k → WidthsAgree d k)
       → (next : List (List Bool)) → map length next ≡ signal_widths d → map length (hand_all_on d.enable ks v next) ≡ signal_widths d
@@ -75,14 +83,7 @@ module _ (d : Design) (sound : IsSound d) where
       let more = cycles inputs (λ i x l. words (suc i) x (omega (arith, l))) c.1 c.3 in
       (c.0 ∷ more.0, (c.1, c.2, more.1))
 
-  run-kept : (inputs : List (List (List Bool))) (now others : List (List Bool)) (vs : List Words) → SameRegisters d now others
-      → RunsOn d now inputs vs → RunsOn d others inputs vs
-  run-kept [] now others [] same h = tt
-  run-kept [] now others (v ∷ vs) same h = absurd h
-  run-kept (given ∷ inputs) now others [] same h = absurd h
-  run-kept (given ∷ inputs) now others (v ∷ vs) same h = (h.0, cycle-kept d now others same given v h.0 h.1, h.2)
-
   pub a-run : (inputs : List (List (List Bool))) → All (AreWords (input_widths d)) inputs → (vs : List Words) × Run d inputs vs
   a-run inputs words =
       let r = cycles inputs words (map start d.signals) (starts-widths d sound) in
-      (r.0, run-kept inputs (map start d.signals) (initial_words d.signals) r.0 (starts-registers d sound) r.1)
+      (r.0, run-kept d inputs (map start d.signals) (initial_words d.signals) r.0 (starts-registers d sound) r.1)

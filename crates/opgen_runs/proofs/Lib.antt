@@ -1,3 +1,6 @@
+pub mod Fitting
+pub mod Plain
+pub mod WordOps
 pub mod Widths
 pub mod Reading
 pub mod Equations
@@ -8,3 +11,4 @@ pub mod Kept
 pub mod Orders
 pub mod HasRun
 pub mod OneRun
+pub mod Rows

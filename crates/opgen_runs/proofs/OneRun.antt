@@ -193,7 +193,7 @@ module _ (d : Design) (sound : IsSound d) (now others given : List (List Bool)) 
       (ext_get_or [] v.signals u.signals (v-signals ∙ sym u-signals) (λ i l. signals-one i))
       (ext_get_or [] v.ports u.ports (v-ports ∙ sym u-ports) (λ i l. ports-one i))
 
-  next-one : SameRegisters d next after
+  pub next-one : SameRegisters d next after
   next-one i to e g =
       let l = slice_get_within d.drivers i (Register to e) g in
       let x = get_or_from_slice_get d.drivers i (Register to e) (Register to e) g in

@@ -16,10 +16,10 @@ use Rattle.opgen_design.specs.Value.{value, chosen}
 use Rattle.opgen_design.specs.Width.{IsWidth, width}
 use Rattle.opgen_design.specs.Sound.{IsSound, Width, Target, signal, port_of, target, Names, HasWidth, WidthsAgree, SignalPasses, DriverPasses, signal_widths, port_widths, at_signal, at_driver}
 use Rattle.opgen_design.proofs.SoundLaws.{declared-at}
-use Rattle.opgen_value.specs.Fitting.{AreNarrow, Fits}
+use Rattle.opgen_runs.specs.Fitting.{AreNarrow, Fits}
 use Rattle.opgen_runs.specs.Evaluate.{DriverFits, HaveWidths, IsThere, driver_word, table_word, put_at, put, put_option, settle}
 use Rattle.opgen_runs.specs.Tables.{row_word}
-use Rattle.opgen_value.proofs.Fitting.{value-fits}
+use Rattle.opgen_runs.proofs.Fitting.{value-fits}
 
 pub words-eq : (signals ports : List (List Bool)) (v : Words) → signals ≡ v.signals → ports ≡ v.ports
     → record { signals = signals; ports = ports } ≡ v

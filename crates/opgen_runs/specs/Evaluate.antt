@@ -7,7 +7,7 @@ use Rattle.opgen_design.specs.declared.design.Driver.TheVariants.{Assign, Choice
 use Rattle.opgen_design.specs.Run.{Words, scope, moved}
 use Rattle.opgen_design.specs.Sound.{Target, signal, port_of, target, signal_widths, port_widths}
 use Rattle.opgen_design.specs.Value.{Scope, value, chosen, word_at}
-use Rattle.opgen_value.specs.Fitting.{Fits}
+use Rattle.opgen_runs.specs.Fitting.{Fits}
 use Rattle.opgen_runs.specs.Tables.{row_word}
 
 -- the word of the first row of an address, and else the other word

@@ -5,7 +5,7 @@ use Rattle.opgen_graph.specs.Targets.{AreTargetsOf}
 use Rattle.opgen_graph.specs.Recipe.{net_of_graph}
 use Rattle.opgen_graph.proofs.Uniqueness.{one_graph}
 use Rattle.opgen_search.specs.Least.{IsLeast}
-use Rattle.opgen_search.specs.Recipe.{OneAdderSet, OneNet}
+use Rattle.opgen_search.specs.Recipe.{OneAdderSet, OneLeastGraph, OneNet}
 use Rattle.opgen_search.proofs.Order.{neither_before}
 use Rattle.opgen_search.proofs.Sets.{same_set}
 
@@ -14,15 +14,19 @@ one_targets constants xs ys a b = same_set xs ys a.increasing b.increasing (λ x
     (λ x c. (a.members x).1 ((b.members x).0 c))
 
 pub one_set : OneAdderSet
-one_set several set other a b =
-    let e = one_targets several.constants a.targets b.targets a.parts b.parts in
-    let l : IsLeast b.targets several.input.width several.extra set =
-    subst (λ xs. IsLeast xs several.input.width several.extra set) e a.least in
-    neither_before several.input.width set other (b.least.least set l.member) (l.least other b.least.member)
+one_set numbers width extra set other a b =
+    let e = one_targets numbers a.targets b.targets a.parts b.parts in
+    let l : IsLeast b.targets width extra set = subst (λ xs. IsLeast xs width extra set) e a.least in
+    neither_before width set other (b.least.least set l.member) (l.least other b.least.member)
+
+pub one_least_graph : OneLeastGraph
+one_least_graph numbers width extra set other graph another a b =
+    let e = one_set numbers width extra set other a.adders b.adders in
+    let same : graph.adders ≡ another.adders =
+    one_graph other graph.adders another.adders (subst (λ s. IsRanks s graph.adders) e a.ranks) b.ranks in
+    ap (λ adders. record { adders = adders }) same
 
 pub one_net : OneNet
 one_net several net other a b =
-    let e = one_set several a.set b.set a.adders b.adders in
-    let same : a.graph.adders ≡ b.graph.adders =
-    one_graph b.set a.graph.adders b.graph.adders (subst (λ s. IsRanks s a.graph.adders) e a.ranks) b.ranks in
-    a.by ∙ ap (λ adders. net_of_graph (record { adders = adders }) several) same ∙ sym b.by
+    let same = one_least_graph several.constants several.input.width several.extra a.set b.set a.graph b.graph a.least b.least in
+    a.by ∙ ap (λ graph. net_of_graph graph several) same ∙ sym b.by

@@ -8,8 +8,7 @@ use Rattle.std.specs.Cmp.Lexicographic.{slice_cmp}
 use Rattle.std.proofs.lemmas.Bool.{cases_lt, cases_order}
 use Rattle.std.proofs.lemmas.List.Elements.{All-contains}
 use Rattle.opgen_csd.specs.Partials.{partials}
-use Rattle.opgen_operator.specs.declared.spec.Several.{Several}
-use Rattle.opgen_operator.specs.Ranges.{IsSeveral, IsWithin}
+use Rattle.opgen_operator.specs.Ranges.{IsWithin}
 use Rattle.opgen_graph.specs.SetCost.{set_cost}
 use Rattle.opgen_graph.specs.SignedDigits.{IsTarget, IsPartialOf, IsDigitSet}
 use Rattle.opgen_graph.specs.Targets.{IsTargetOf, AreTargetsOf}
@@ -122,13 +121,13 @@ some_least targets width extra are found =
     }))))
 
 -- the targets of an adder set are targets
-pub targets_of : (m : Several) → IsSeveral m → (targets : List ℕ) → AreTargetsOf m.constants targets → AreTargets targets
-targets_of m ranges targets are =
-    record { increasing = are.increasing; each = each_target m.constants targets ranges.constants are }
+pub targets_of : (numbers : List ℤ) → All (IsWithin 2047) numbers → (targets : List ℕ) → AreTargetsOf numbers targets → AreTargets targets
+targets_of numbers small targets are = record { increasing = are.increasing; each = each_target numbers targets small are }
 
--- and so of several constants
-pub some_adder_set : (m : Several) → IsSeveral m → ((set : List ℕ) → IsAdderSetOf m set → ⊥) → ⊥
-some_adder_set m ranges found =
-    some_targets m.constants ranges.constants (
-    λ targets are. some_least targets m.input.width m.extra (targets_of m ranges targets are) (
+-- and so of some numbers
+pub some_adder_set : (numbers : List ℤ) (width extra : ℕ) → All (IsWithin 2047) numbers
+    → ((set : List ℕ) → IsAdderSetOf numbers width extra set → ⊥) → ⊥
+some_adder_set numbers width extra small found =
+    some_targets numbers small (
+    λ targets are. some_least targets width extra (targets_of numbers small targets are) (
     λ set is. found set (record { targets = targets; parts = are; least = is })))

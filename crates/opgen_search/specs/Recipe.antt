@@ -1,36 +1,58 @@
--- The net of several constants times an input, by the least set of adders.
-use Rattle.std.specs.Prelude.{◌≡◌, ℕ, List}
+-- The least set of adders for the odd parts of some numbers, its graph, and the net of several constants times an input by it.
+use Rattle.std.specs.Prelude.{◌≡◌, ℕ, ℤ, List, All}
 use Rattle.opgen_net.specs.declared.net.Net.{Net}
 use Rattle.opgen_operator.specs.declared.spec.Operator.TheVariants.{Mcm}
 use Rattle.opgen_operator.specs.declared.spec.Several.{Several}
 use Rattle.opgen_operator.specs.Accepted.{IsAcceptedSeveral}
 use Rattle.opgen_operator.specs.Fits.{FitsSpecsOf}
+use Rattle.opgen_operator.specs.Ranges.{IsWithin}
 use Rattle.opgen_graph.specs.declared.ranks.Graph.{Graph}
 use Rattle.opgen_graph.specs.Graphs.{IsRanks}
 use Rattle.opgen_graph.specs.Targets.{AreTargetsOf}
 use Rattle.opgen_graph.specs.Recipe.{net_of_graph}
+use Rattle.opgen_graph.specs.Served.{Serves}
 use Rattle.opgen_search.specs.Least.{IsLeast}
 
--- the least set for the odd parts of the constants
-pub record IsAdderSetOf (several : Several) (set : List ℕ) : Type 0 where
+-- the least set for the odd parts of some numbers
+pub record IsAdderSetOf (numbers : List ℤ) (width extra : ℕ) (set : List ℕ) : Type 0 where
   pub targets : List ℕ
-  pub parts : AreTargetsOf several.constants targets
-  pub least : IsLeast targets several.input.width several.extra set
+  pub parts : AreTargetsOf numbers targets
+  pub least : IsLeast targets width extra set
 
--- the net by the graph of that set
+-- and the graph of that set
+pub record IsLeastGraphOf (numbers : List ℤ) (width extra : ℕ) (set : List ℕ) (graph : Graph) : Type 0 where
+  pub adders : IsAdderSetOf numbers width extra set
+  pub ranks : IsRanks set graph.adders
+
+-- the net of several constants by the graph of their least set
 pub record IsNetOfSeveral (several : Several) (net : Net) : Type 0 where
   pub set : List ℕ
   pub graph : Graph
-  pub adders : IsAdderSetOf several set
-  pub ranks : IsRanks set graph.adders
+  pub least : IsLeastGraphOf several.constants several.input.width several.extra set graph
   pub by : net ≡ net_of_graph graph several
 
--- there is one such set, and one such net
+-- there is one such set, one such graph and one such net
 abbrev pub OneAdderSet : Type 0
-OneAdderSet = (several : Several) (set other : List ℕ) → IsAdderSetOf several set → IsAdderSetOf several other → set ≡ other
+OneAdderSet = (numbers : List ℤ) (width extra : ℕ) (set other : List ℕ) → IsAdderSetOf numbers width extra set
+    → IsAdderSetOf numbers width extra other → set ≡ other
+
+abbrev pub OneLeastGraph : Type 0
+OneLeastGraph = (numbers : List ℤ) (width extra : ℕ) (set other : List ℕ) (graph another : Graph)
+    → IsLeastGraphOf numbers width extra set graph → IsLeastGraphOf numbers width extra other another → graph ≡ another
 
 abbrev pub OneNet : Type 0
 OneNet = (several : Several) (net other : Net) → IsNetOfSeveral several net → IsNetOfSeveral several other → net ≡ other
+
+-- a least set whose graph serves the numbers
+pub record HasLeastGraph (numbers : List ℤ) (width extra : ℕ) : Type 0 where
+  pub set : List ℕ
+  pub graph : Graph
+  pub is : IsLeastGraphOf numbers width extra set graph
+  pub serves : Serves numbers graph
+
+-- that numbers from -2047 to 2047 have none is impossible
+abbrev pub SomeLeastGraph : Type 0
+SomeLeastGraph = (numbers : List ℤ) (width extra : ℕ) → All (IsWithin 2047) numbers → (HasLeastGraph numbers width extra → ⊥) → ⊥
 
 -- a net by the graph of the least set, which fits
 pub record HasNet (several : Several) : Type 0 where

@@ -4,11 +4,11 @@ ghost use Rattle.opgen_net.specs.Named.{IsNamed};
 ghost use Rattle.opgen_operator.specs.Accepted.{IsAcceptedSeveral};
 ghost use Rattle.opgen_operator.specs.Fits.{FitsSpecsOf};
 ghost use Rattle.opgen_operator.specs.declared.spec.Operator.TheVariants.{Mcm};
-ghost use Rattle.opgen_search.specs.Recipe.{IsAdderSetOf, IsNetOfSeveral, OneAdderSet, OneNet, SomeNet};
+ghost use Rattle.opgen_search.specs.Recipe.{IsAdderSetOf, IsNetOfSeveral, OneNet, SomeNet};
 
+use crate::adders::least_graph;
 use crate::gate::Gate;
-use crate::least::least_set;
-use opgen_graph::{graph_net, reach, targets};
+use opgen_graph::graph_net;
 use opgen_list::Items;
 use opgen_net::Net;
 use opgen_num::Memory;
@@ -37,35 +37,25 @@ pub fn build<R: Threads + Sync, G: Gate + Sync>(
     requires several { IsAcceptedSeveral several.now }
     requires workers { (1 ≤ workers) × (workers ≤ 32) }
     ensures net { IfOk result (λ built. IsNetOfSeveral several.now built.net) }
-    ensures adders { IfOk result (λ built. IsAdderSetOf several.now built.adders) }
+    ensures adders { IfOk result (λ built. IsAdderSetOf several.now.constants several.now.input.width several.now.extra built.adders) }
     ensures fits { IfOk result (λ built. FitsSpecsOf (Mcm several.now) built.net) }
     ensures named { IfOk result (λ built. (name : List ℕ) → IsTrue (is_allowed_name name) → IsNamed name built.net) }
 {
-    let parts = targets(alloc, several.constants.as_slice())?;
-    let width = several.input.width;
-    let set = least_set(
+    let found = least_graph(
         rt,
         alloc,
-        parts.as_slice(),
-        width,
+        several.constants.as_slice(),
+        several.input.width,
         several.extra,
         workers,
         gate,
     )?;
-    let Some(graph) = reach(alloc, set.as_slice())? else {
-        unreachable!()
-    };
-    let net = graph_net(alloc, &graph, several)?;
+    let net = graph_net(alloc, &found.graph, several)?;
     Ok(Built {
         net,
-        adders: Items::from_vec(set),
+        adders: Items::from_vec(found.set),
     })
 }
-
-/// A law: several constants have one such set of adders.
-pub fn one_adder_set()
-    ensures { OneAdderSet }
-{}
 
 /// A law: several constants have one such net.
 pub fn one_net()

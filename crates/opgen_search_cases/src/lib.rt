@@ -1,11 +1,8 @@
-//! Signed digits, adder graphs and least sets of a few numbers, and least sets beside a plain enumeration and beside
-//! answers from outside: tests alone.
+//! Signed digits, adder graphs and least sets of a few numbers, and least sets beside a plain enumeration: tests alone.
 #![tactic(auto)]
 
 #[cfg(test)]
 mod adders;
-#[cfg(test)]
-mod answers;
 #[cfg(test)]
 mod checks;
 #[cfg(test)]

@@ -2,14 +2,14 @@ ghost use Rattle.std.specs.Prelude.{ℕ, ◌≡◌, ◌<◌, IfSome, Some, lengt
 ghost use Rattle.opgen_design.specs.Run.{Words};
 ghost use Rattle.opgen_design.specs.Value.{chosen};
 ghost use Rattle.opgen_design.specs.Sound.{IsSound, signal_widths, target};
-ghost use Rattle.opgen_value.specs.Fitting.{AreNarrow, scope_of};
+ghost use Rattle.opgen_runs.specs.Fitting.{AreNarrow, scope_of};
 ghost use Rattle.opgen_runs.specs.Evaluate.{DriverFits, HaveWidths, IsThere, driver_word, hand_all_on, hand_on, put, settle};
 ghost use Rattle.opgen_sim.specs.Tables.{AreTables, HasRows, rows_of};
 
 use crate::tables::{Rows, look_up};
 use opgen_design::{Design, Driver};
 use opgen_num::Word;
-use opgen_value::value;
+use opgen_runs::value;
 
 // The first word where the condition is the bit 1, and else the second.
 fn chosen(on: Word, one: Word, other: Word) -> Word

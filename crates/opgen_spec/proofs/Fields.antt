@@ -1,6 +1,6 @@
 -- The fields that keys without a fault give are within their ranges.
-use Rattle.std.proofs.Common.{◌≡◌, ℕ, zero, suc, ◌+◌, ◌≤◌, ◌<◌, ◌^◌, ◌&&◌, ◌==◌, take, drop, position, Bool, true, false, cond, List, [], ◌∷◌, length, map, get_or, Option, Some, None, is_none, option_map, option_and_then, find, nat_le, nat_lt, refl, ap, ◌∙◌, sym, arith, lit<, if◌then◌else◌}
-use Rattle.std.specs.Prelude.{ℤ, pos, negsuc, ◌≤ℤ◌, int_le, int_lt, unsigned_abs, All}
+use Rattle.std.proofs.Common.{◌≡◌, ℕ, zero, suc, ◌+◌, ◌≤◌, ◌<◌, ◌^◌, ◌&&◌, ◌==◌, take, drop, position, Bool, true, false, cond, List, [], ◌∷◌, length, map, get_or, Option, Some, None, is_none, option_map, option_and_then, find, nat_le, nat_lt, refl, ap, ◌∙◌, sym, subst, arith, lit<, if◌then◌else◌, unwrap_or}
+use Rattle.std.specs.Prelude.{ℤ, pos, negsuc, neg_ℤ, ◌≤ℤ◌, int_le, int_lt, unsigned_abs, All}
 use Rattle.std.specs.Option.{option_map_or}
 use Rattle.std.proofs.lemmas.Bool.{and_parts, leb-true, lt-ltb}
 use Rattle.std.proofs.lemmas.Int.{ints}
@@ -8,6 +8,7 @@ use Rattle.std.proofs.lemmas.List.{length-map}
 use Rattle.std.proofs.Math.Nat.{one-le-pow, pow-le-pow_right}
 use Rattle.std.specs.Char.{is_ascii_digit}
 use Rattle.std.specs.List.{list_all}
+use Rattle.std.specs.Str.{bytes_eq}
 use Rattle.opgen_spec.specs.declared.decimal.Decimal.{Decimal}
 use Rattle.toml.specs.Data.{Data, string, Items, no_items, item, Members}
 use Rattle.opgen_num.specs.Formats.{fewest_bits}
@@ -15,18 +16,19 @@ use Rattle.opgen_spec.specs.declared.fault.SpecFault.{SpecFault}
 use Rattle.opgen_spec.specs.declared.fault.SpecFault.TheVariants as fault
 use Rattle.opgen_spec.specs.declared.key.Key.{Key}
 use Rattle.opgen_spec.specs.declared.key.Key.TheVariants as key
-use Rattle.opgen_spec.specs.declared.key.Kind.{Kind}
-use Rattle.opgen_spec.specs.declared.key.Kind.TheVariants as kind
+use Rattle.opgen_operator.specs.declared.kind.Kind.{Kind}
+use Rattle.opgen_operator.specs.declared.kind.Kind.TheVariants as kind
 use Rattle.opgen_spec.specs.declared.lines.Check.TheVariants.{Unknown, Missing, WrongType, Range}
-use Rattle.opgen_spec.specs.Keys.{document_keys, is_needed}
+use Rattle.opgen_spec.specs.Keys.{document_keys, key_name, is_needed}
 use Rattle.opgen_spec.specs.Document.{list_of, value_at, number_in, number_at, flag_at, count_at, items_at, count, small, kind_of}
 use Rattle.opgen_spec.specs.Numbers.{are_digits, digits_from, are_parts, decimal_with, cut_at, unsigned_decimal, decimal_of, coefficient, places_in, places_among, numerators, are_texts, denominator_of}
-use Rattle.opgen_spec.specs.Spec.{format_at, unsigned_at, sum_of, operator_of}
+use Rattle.opgen_spec.specs.Spec.{format_at, unsigned_at, sum_of, poly_of, operator_of}
 use Rattle.opgen_operator.specs.Accepted.{HasInputsWithin}
 use Rattle.opgen_operator.specs.Limits.{most_input}
 use Rattle.opgen_operator.proofs.Versions.{input_limit}
-use Rattle.opgen_operator.specs.Ranges.{IsPower, IsInput, IsWithin, IsSum, IsOperator}
-use Rattle.opgen_spec.specs.Faults.{first_of, check_fault, outside, is_beyond, first_beyond, length_outside, array_outside, most_coefficients, coefficients_outside, found, out_of_range, outside_among, is_missing, missing_among, wrong_among, among_keys, among_lines, bad_version, bad_name, bad_kind, form_fault, value_fault, field_fault}
+use Rattle.opgen_operator.specs.Ranges.{IsPower, IsInput, IsWithin, IsSum, IsPoly, IsOperator}
+use Rattle.opgen_operator.specs.OddParts.{odd_part_count}
+use Rattle.opgen_spec.specs.Faults.{first_of, check_fault, outside, is_beyond, first_beyond, length_outside, array_outside, is_poly, coefficient_counts, coefficients_outside, taps_outside, found, out_of_range, outside_among, is_missing, unknown_among, missing_among, wrong_among, among_keys, among_lines, bad_version, bad_name, bad_kind, form_fault, value_fault, field_fault}
 use Rattle.opgen_spec.proofs.Reading.{or_none}
 
 pub map_none : {A B : Type 0} (f : A → B) (o : Option A) → option_map f o ≡ None → o ≡ None
@@ -52,6 +54,10 @@ first_none f [] i d h lt = absurd (omega arith)
 first_none f (k ∷ ks) zero d h lt = (or_none (f k) (first_of (map f ks)) h).0
 first_none f (k ∷ ks) (suc i) d h lt = first_none f ks i d (or_none (f k) (first_of (map f ks)) h).1 (omega arith)
 
+-- where a key of the document stands among them
+abbrev pub place : Key → ℕ
+place k = unwrap_or (position (λ other. bytes_eq (key_name other) (key_name k)) document_keys) 0
+
 -- what is known of a document whose keys have no fault by themselves
 pub record Ranges (ms : Members) : Type 0 where
   pub target : found 0 ms key.Target ≡ None
@@ -67,30 +73,34 @@ pub record Ranges (ms : Members) : Type 0 where
   pub denominator : found 0 ms key.Denominator ≡ None
   pub constants : found 0 ms key.Constants ≡ None
   pub extra : found 0 ms key.Extra ≡ None
+  pub divisor : found 0 ms key.Divisor ≡ None
+  pub taps : found 0 ms key.Taps ≡ None
   pub delay : found 0 ms key.Delay ≡ None
 
 ranges : (ms : Members) → outside_among document_keys 0 ms ≡ None → Ranges ms
 unfolding document_keys
 ranges ms h =
     let f : Key → Option SpecFault = λ k. out_of_range 0 k (found 0 ms k) in
-    let at : (i : ℕ) → i < 19 → found 0 ms (get_or document_keys i key.Version)
+    let at : (i : ℕ) → i < length document_keys → found 0 ms (get_or document_keys i key.Version)
     ≡ None = λ i lt. map_none (fault.OutOfRange (get_or document_keys i key.Version) 0)
     (found 0 ms (get_or document_keys i key.Version)) (first_none f document_keys i key.Version h lt) in
     record {
-      target = at 4 (lit< tt);
-      period = at 5 (lit< tt);
-      width = at 7 (lit< tt);
-      lsb = at 8 (lit< tt);
-      width_a = at 9 (lit< tt);
-      lsb_a = at 10 (lit< tt);
-      width_b = at 11 (lit< tt);
-      lsb_b = at 12 (lit< tt);
-      out_lsb = at 13 (lit< tt);
-      coefficients = at 14 (lit< tt);
-      denominator = at 15 (lit< tt);
-      constants = at 16 (lit< tt);
-      extra = at 17 (lit< tt);
-      delay = at 18 (lit< tt);
+      target = at (place key.Target) (lit< tt);
+      period = at (place key.Period) (lit< tt);
+      width = at (place key.Width) (lit< tt);
+      lsb = at (place key.Lsb) (lit< tt);
+      width_a = at (place key.WidthA) (lit< tt);
+      lsb_a = at (place key.LsbA) (lit< tt);
+      width_b = at (place key.WidthB) (lit< tt);
+      lsb_b = at (place key.LsbB) (lit< tt);
+      out_lsb = at (place key.OutLsb) (lit< tt);
+      coefficients = at (place key.Coefficients) (lit< tt);
+      denominator = at (place key.Denominator) (lit< tt);
+      constants = at (place key.Constants) (lit< tt);
+      extra = at (place key.Extra) (lit< tt);
+      divisor = at (place key.Divisor) (lit< tt);
+      taps = at (place key.Taps) (lit< tt);
+      delay = at (place key.Delay) (lit< tt);
     }
 
 pub record Needed (ms : Members) : Type 0 where
@@ -101,21 +111,25 @@ pub record Needed (ms : Members) : Type 0 where
   pub width_b : is_missing ms key.WidthB ≡ false
   pub coefficients : is_missing ms key.Coefficients ≡ false
   pub constants : is_missing ms key.Constants ≡ false
+  pub divisor : is_missing ms key.Divisor ≡ false
+  pub taps : is_missing ms key.Taps ≡ false
 
 needed : (ms : Members) → missing_among document_keys 0 ms ≡ None → Needed ms
 unfolding document_keys
 needed ms h =
     let none : find (is_missing ms) document_keys ≡ None = map_none (λ k. fault.MissingKey k 0) (find (is_missing ms) document_keys) h in
-    let at : (i : ℕ) → i < 19 → is_missing ms (get_or document_keys i key.Version)
+    let at : (i : ℕ) → i < length document_keys → is_missing ms (get_or document_keys i key.Version)
     ≡ false = λ i lt. find_none (is_missing ms) document_keys i key.Version none lt in
     record {
-      target = at 4 (lit< tt);
-      period = at 5 (lit< tt);
-      width = at 7 (lit< tt);
-      width_a = at 9 (lit< tt);
-      width_b = at 11 (lit< tt);
-      coefficients = at 14 (lit< tt);
-      constants = at 16 (lit< tt);
+      target = at (place key.Target) (lit< tt);
+      period = at (place key.Period) (lit< tt);
+      width = at (place key.Width) (lit< tt);
+      width_a = at (place key.WidthA) (lit< tt);
+      width_b = at (place key.WidthB) (lit< tt);
+      coefficients = at (place key.Coefficients) (lit< tt);
+      constants = at (place key.Constants) (lit< tt);
+      divisor = at (place key.Divisor) (lit< tt);
+      taps = at (place key.Taps) (lit< tt);
     }
 
 pub record AreFine (ms : Members) : Type 0 where
@@ -145,6 +159,23 @@ fine ms h =
       kind = kind;
       lines = lines;
     }
+
+-- no key of the document is unknown, of a wrong type or out of range
+pub key_checks : (ms : Members) → field_fault ms ≡ None → (unknown_among document_keys 0 ms ≡ None)
+    × (wrong_among document_keys 0 ms ≡ None) × (outside_among document_keys 0 ms ≡ None)
+key_checks ms h =
+    let (forms, values) = or_none (form_fault ms) (value_fault ms) h in
+    let (unknown, later) = or_none (check_fault Unknown ms) (first_of (check_fault Missing ms ∷ check_fault WrongType ms ∷ [])) forms in
+    let (_, last) = or_none (check_fault Missing ms) (first_of (check_fault WrongType ms ∷ [])) later in
+    let (wrong, _) = or_none (check_fault WrongType ms) None last in
+    let (_, named) = or_none (bad_version ms) (first_of (bad_name ms ∷ bad_kind ms ∷ check_fault Range ms ∷ [])) values in
+    let (_, kinds) = or_none (bad_name ms) (first_of (bad_kind ms ∷ check_fault Range ms ∷ [])) named in
+    let (_, ranged) = or_none (bad_kind ms) (first_of (check_fault Range ms ∷ [])) kinds in
+    let (range, _) = or_none (check_fault Range ms) None ranged in
+    let (known, _) = or_none (among_keys Unknown ms) (among_lines Unknown 1 (items_at ms key.Delay)) unknown in
+    let (typed, _) = or_none (among_keys WrongType ms) (among_lines WrongType 1 (items_at ms key.Delay)) wrong in
+    let (within, _) = or_none (among_keys Range ms) (among_lines Range 1 (items_at ms key.Delay)) range in
+    (known, typed, within)
 
 pub nothing_wrong : (ms : Members) → field_fault ms ≡ None → (missing_among document_keys 0 ms ≡ None)
     × (wrong_among document_keys 0 ms ≡ None)
@@ -221,24 +252,81 @@ power_at : (ms : Members) (k : Key) → option_and_then (λ _. outside (negsuc 3
 power_at ms k h = power_small (number_at ms k)
     (zero_inside (value_at ms k) (negsuc 31) (pos 32) (omega (arith, ints)) (omega (arith, ints)) h)
 
--- the most bits of an input in the document's version
+-- the power of an output's lowest bit, within the bounds of the document's kind
+abbrev pub IsOutWithin : (poly : Bool) → ℤ → Type 0
+IsOutWithin true n = (negsuc 15 ≤ℤ n) × (n ≤ℤ pos 0)
+IsOutWithin false n = IsPower n
+
+pub out_at : (ms : Members) → found 0 ms key.OutLsb ≡ None → IsOutWithin (is_poly (kind_of ms)) (number_at ms key.OutLsb)
+out_at ms h = go (is_poly (kind_of ms)) h
+  where
+    range : Bool → ℤ × ℤ
+    range poly = if poly then (negsuc 15, pos 0) else (negsuc 31, pos 32)
+
+    go : (b : Bool) → option_and_then (λ _. outside (range b).0 (range b).1 (number_at ms key.OutLsb)) (value_at ms key.OutLsb) ≡ None
+        → IsOutWithin b (number_at ms key.OutLsb)
+    go true h = zero_inside (value_at ms key.OutLsb) (negsuc 15) (pos 0) (omega (arith, ints)) (omega (arith, ints)) h
+    go false h = zero_inside (value_at ms key.OutLsb) (negsuc 31) (pos 32) (omega (arith, ints)) (omega (arith, ints)) h
+
+pub out_within : (ms : Members) → found 0 ms key.OutLsb ≡ None → IsPower (number_at ms key.OutLsb)
+out_within ms h = go (is_poly (kind_of ms)) (out_at ms h)
+  where
+    go : (b : Bool) → IsOutWithin b (number_at ms key.OutLsb) → IsPower (number_at ms key.OutLsb)
+    go true within = (omega (arith, ints, within.0), omega (arith, ints, within.1))
+    go false within = within
+
+out_power : (ms : Members) → found 0 ms key.OutLsb ≡ None → IsPower (small (number_at ms key.OutLsb))
+out_power ms h = power_small (number_at ms key.OutLsb) (out_within ms h)
+
+pub small_same : (n : ℤ) → negsuc 31 ≤ℤ n → n ≤ℤ pos 32 → n ≡ small n
+small_same n least most =
+    let above : int_le (negsuc 2147483647) n ≡ true = grind (arith, ints) in
+    let below : int_lt n (pos 2147483648) ≡ true = grind (arith, ints) in
+    rw (above, below) refl
+
+poly_out : (ms : Members) → found 0 ms key.OutLsb ≡ None → kind_of ms ≡ Some kind.Poly → (negsuc 15 ≤ℤ small (number_at ms key.OutLsb))
+    × (small (number_at ms key.OutLsb) ≤ℤ pos 0)
+poly_out ms h e =
+    let within = subst (λ b. IsOutWithin b (number_at ms key.OutLsb)) (ap is_poly e) (out_at ms h) in
+    let (least, most) = out_within ms h in
+    subst (IsOutWithin true) (small_same (number_at ms key.OutLsb) least most) within
+
+-- the most bits of an input of the document's kind in its version
 abbrev pub widest_input : Members → ℕ
-widest_input ms = most_input (count_at ms key.Version)
+widest_input ms = if is_poly (kind_of ms) then 16 else most_input (count_at ms key.Version)
+
+sixteen : (version : ℕ) → 16 ≤ most_input version
+sixteen version = go (version == 1)
+  where
+    go : (b : Bool) → 16 ≤ (if b then 32 else 48)
+    go true = omega arith
+    go false = omega arith
+
+pub no_wider : (ms : Members) → widest_input ms ≤ most_input (count_at ms key.Version)
+no_wider ms = go (is_poly (kind_of ms))
+  where
+    go : (b : Bool) → (if b then 16 else most_input (count_at ms key.Version)) ≤ most_input (count_at ms key.Version)
+    go true = sixteen (count_at ms key.Version)
+    go false = omega arith
+
+pub width_few : (ms : Members) → widest_input ms < 2 ^ 32
+width_few ms = omega (arith, no_wider ms, input_limit (count_at ms key.Version))
+
+-- a polynomial has its own limit
+poly_width : (ms : Members) → kind_of ms ≡ Some kind.Poly → widest_input ms ≡ 16
+poly_width ms e = ap (λ o. if is_poly o then 16 else most_input (count_at ms key.Version)) e
 
 width_at : (ms : Members) (k : Key) → is_none (value_at ms k) ≡ false
     → option_and_then (λ _. outside (pos (if flag_at ms key.Signed then 2 else 1)) (pos (widest_input ms)) (number_at ms k)) (value_at ms k)
     ≡ None → (fewest_bits (flag_at ms key.Signed) ≤ count (number_at ms k)) × (count (number_at ms k) ≤ widest_input ms)
 width_at ms k there h = go (flag_at ms key.Signed) (there_inside (value_at ms k) _ there h)
   where
-    few : widest_input ms < 2 ^ 32
-    few = omega (arith, input_limit (count_at ms key.Version))
-
     go : (flag : Bool) → outside (pos (if flag then 2 else 1)) (pos (widest_input ms)) (number_at ms k) ≡ None
         → (fewest_bits flag ≤ count (number_at ms k)) × (count (number_at ms k) ≤ widest_input ms)
     go true none = let bounds = inside (pos 2) (pos (widest_input ms)) (number_at ms k) none in counted (number_at ms k) 2
-        (widest_input ms) bounds.0 bounds.1 few
+        (widest_input ms) bounds.0 bounds.1 (width_few ms)
     go false none = let bounds = inside (pos 1) (pos (widest_input ms)) (number_at ms k) none in counted (number_at ms k) 1
-        (widest_input ms) bounds.0 bounds.1 few
+        (widest_input ms) bounds.0 bounds.1 (width_few ms)
 
 one_bit : (flag : Bool) (w : ℕ) → fewest_bits flag ≤ w → 1 ≤ w
 one_bit true w h = omega arith
@@ -261,15 +349,15 @@ none_beyond limit (n ∷ ns) h k d lt = go (is_beyond limit n) refl k (λ j none
     go false e zero later lt = not_below limit (unsigned_abs n) e
     go false e (suc k) later lt = later k (ap (λ b. cond b (Some n) (find (is_beyond limit) ns)) (sym e) ∙ h) (omega arith)
 
-record IsArray (most limit : ℕ) (items : Items) : Type 0 where
-  some : 1 ≤ length (numerators items)
-  few : length (numerators items) ≤ most
-  each : All (IsWithin limit) (numerators items)
+pub record IsArray (least most limit : ℕ) (items : Items) : Type 0 where
+  pub some : least ≤ length (numerators items)
+  pub few : length (numerators items) ≤ most
+  pub each : All (IsWithin limit) (numerators items)
 
-array_in : (most limit : ℕ) (items : Items) → array_outside most limit items ≡ None → IsArray most limit items
-array_in most limit items h =
-    let (lengths, numbers) = or_none (length_outside 1 most items) (first_beyond limit items) h in
-    let (least, greatest) = inside (pos 1) (pos most) (pos (length (list_of items))) lengths in
+pub array_in : (least most limit : ℕ) (items : Items) → array_outside least most limit items ≡ None → IsArray least most limit items
+array_in least most limit items h =
+    let (lengths, numbers) = or_none (length_outside least most items) (first_beyond limit items) h in
+    let (fewest, greatest) = inside (pos least) (pos most) (pos (length (list_of items))) lengths in
     let same = length-map (list_of items) (coefficient (places_among items)) in
     record {
       some = omega (arith, ints, same);
@@ -342,23 +430,29 @@ denominator_in ms h = go (are_texts (items_at ms key.Coefficients))
 pub needs : (ms : Members) (one : Kind) (k : Key) → kind_of ms ≡ Some one → is_needed (Some one) k ≡ true → is_needed (kind_of ms) k ≡ true
 needs ms one k e h = ap (λ named. is_needed named k) e ∙ h
 
+coefs_in : (ms : Members) (one : Kind) (least most : ℕ) → AreFine ms → kind_of ms ≡ Some one
+    → is_needed (Some one) key.Coefficients ≡ true → coefficient_counts (Some one) ≡ (least, most)
+    → IsArray least most (2 ^ 30) (items_at ms key.Coefficients)
+coefs_in ms one least most f e needed same =
+    let numbers = there_inside (value_at ms key.Coefficients) (coefficients_outside ms)
+    (present ms key.Coefficients (needs ms one key.Coefficients e needed) f.needed.coefficients) f.ranges.coefficients in
+    let counts : coefficient_counts (kind_of ms) ≡ (least, most) = ap coefficient_counts e ∙ same in
+    array_in least most (2 ^ 30) (items_at ms key.Coefficients)
+    (ap (λ (counts : ℕ × ℕ). array_outside counts.0 counts.1 (2 ^ 30) (items_at ms key.Coefficients)) (sym counts) ∙ numbers)
+
 sum_in : (ms : Members) (one : Kind) (most : ℕ) → AreFine ms → kind_of ms ≡ Some one → is_needed (Some one) key.Width ≡ true
-    → is_needed (Some one) key.Coefficients ≡ true → most_coefficients (Some one) ≡ most → IsSum most (sum_of ms)
+    → is_needed (Some one) key.Coefficients ≡ true → coefficient_counts (Some one) ≡ (1, most) → IsSum most (sum_of ms)
 sum_in ms one most f e width coefs same =
     let (fewest, widest) = width_at ms key.Width (present ms key.Width (needs ms one key.Width e width) f.needed.width) f.ranges.width in
-    let numbers = there_inside (value_at ms key.Coefficients) (coefficients_outside ms)
-    (present ms key.Coefficients (needs ms one key.Coefficients e coefs) f.needed.coefficients) f.ranges.coefficients in
-    let limit : most_coefficients (kind_of ms) ≡ most = ap most_coefficients e ∙ same in
-    let array = array_in most (2 ^ 30) (items_at ms key.Coefficients)
-    (ap (λ m. array_outside m (2 ^ 30) (items_at ms key.Coefficients)) (sym limit) ∙ numbers) in
+    let array = coefs_in ms one 1 most f e coefs same in
     let (positive, small) = denominator_in ms f.ranges.denominator in
     record {
       input = record {
         fewest = fewest;
-        most = omega (arith, widest, input_limit (count_at ms key.Version));
+        most = omega (arith, widest, no_wider ms, input_limit (count_at ms key.Version));
         lsb = power_at ms key.Lsb f.ranges.lsb;
       };
-      out_lsb = power_at ms key.OutLsb f.ranges.out_lsb;
+      out_lsb = out_power ms f.ranges.out_lsb;
       some = array.some;
       few = array.few;
       coefs = array.each;
@@ -373,7 +467,7 @@ a_in ms one f e width =
     (present ms key.WidthA (needs ms one key.WidthA e width) f.needed.width_a) f.ranges.width_a in
     record {
       fewest = fewest;
-      most = omega (arith, widest, input_limit (count_at ms key.Version));
+      most = omega (arith, widest, no_wider ms, input_limit (count_at ms key.Version));
       lsb = power_at ms key.LsbA f.ranges.lsb_a;
     }
 
@@ -384,7 +478,7 @@ b_in ms one f e width =
     (present ms key.WidthB (needs ms one key.WidthB e width) f.needed.width_b) f.ranges.width_b in
     record {
       fewest = fewest;
-      most = omega (arith, widest, input_limit (count_at ms key.Version));
+      most = omega (arith, widest, no_wider ms, input_limit (count_at ms key.Version));
       lsb = power_at ms key.LsbB f.ranges.lsb_b;
     }
 
@@ -392,29 +486,89 @@ x_in : (ms : Members) (one : Kind) → AreFine ms → kind_of ms ≡ Some one �
     → IsInput (format_at ms key.Width key.Lsb)
 x_in ms one f e width =
     let (fewest, widest) = width_at ms key.Width (present ms key.Width (needs ms one key.Width e width) f.needed.width) f.ranges.width in
-    record { fewest = fewest; most = omega (arith, widest, input_limit (count_at ms key.Version)); lsb = power_at ms key.Lsb f.ranges.lsb }
+    record { fewest = fewest; most = omega (arith, widest, no_wider ms, input_limit (count_at ms key.Version)); lsb = power_at ms key.Lsb f.ranges.lsb }
 
 unsigned_in : (ms : Members) (w l : Key) → IsInput (format_at ms w l) → IsInput (unsigned_at ms w l)
 unsigned_in ms w l h = record { fewest = one_bit (flag_at ms key.Signed) (count (number_at ms w)) h.fewest; most = h.most; lsb = h.lsb }
 
+x_few : (ms : Members) (one : Kind) → AreFine ms → kind_of ms ≡ Some one → is_needed (Some one) key.Width ≡ true
+    → count_at ms key.Width ≤ most_input (count_at ms key.Version)
+x_few ms one f e width =
+    let (_, widest) = width_at ms key.Width (present ms key.Width (needs ms one key.Width e width) f.needed.width) f.ranges.width in
+    omega (arith, widest, no_wider ms)
+
+a_few : (ms : Members) (one : Kind) → AreFine ms → kind_of ms ≡ Some one → is_needed (Some one) key.WidthA ≡ true
+    → count_at ms key.WidthA ≤ most_input (count_at ms key.Version)
+a_few ms one f e width =
+    let (_, widest) = width_at ms key.WidthA
+    (present ms key.WidthA (needs ms one key.WidthA e width) f.needed.width_a) f.ranges.width_a in
+    omega (arith, widest, no_wider ms)
+
+b_few : (ms : Members) (one : Kind) → AreFine ms → kind_of ms ≡ Some one → is_needed (Some one) key.WidthB ≡ true
+    → count_at ms key.WidthB ≤ most_input (count_at ms key.Version)
+b_few ms one f e width =
+    let (_, widest) = width_at ms key.WidthB
+    (present ms key.WidthB (needs ms one key.WidthB e width) f.needed.width_b) f.ranges.width_b in
+    omega (arith, widest, no_wider ms)
+
 -- no input has more bits than the version lets it have
-pub inputs_in : (ms : Members) (one : Kind) → AreFine ms → kind_of ms ≡ Some one → HasInputsWithin (widest_input ms) (operator_of one ms)
-inputs_in ms kind.Scale f e = (width_at ms key.Width (present ms key.Width (needs ms kind.Scale key.Width e refl) f.needed.width)
-    f.ranges.width).1
-inputs_in ms kind.Fir f e = (width_at ms key.Width (present ms key.Width (needs ms kind.Fir key.Width e refl) f.needed.width)
-    f.ranges.width).1
-inputs_in ms kind.Multiply f e = (
-  (width_at ms key.WidthA (present ms key.WidthA (needs ms kind.Multiply key.WidthA e refl) f.needed.width_a) f.ranges.width_a).1,
-  (width_at ms key.WidthB (present ms key.WidthB (needs ms kind.Multiply key.WidthB e refl) f.needed.width_b) f.ranges.width_b).1,
-)
-inputs_in ms kind.Divide f e = (
-  (width_at ms key.WidthA (present ms key.WidthA (needs ms kind.Divide key.WidthA e refl) f.needed.width_a) f.ranges.width_a).1,
-  (width_at ms key.WidthB (present ms key.WidthB (needs ms kind.Divide key.WidthB e refl) f.needed.width_b) f.ranges.width_b).1,
-)
-inputs_in ms kind.Root f e = (width_at ms key.Width (present ms key.Width (needs ms kind.Root key.Width e refl) f.needed.width)
-    f.ranges.width).1
-inputs_in ms kind.Mcm f e = (width_at ms key.Width (present ms key.Width (needs ms kind.Mcm key.Width e refl) f.needed.width)
-    f.ranges.width).1
+pub inputs_in : (ms : Members) (one : Kind) → AreFine ms → kind_of ms ≡ Some one
+    → HasInputsWithin (most_input (count_at ms key.Version)) (operator_of one ms)
+inputs_in ms kind.Scale f e = x_few ms kind.Scale f e refl
+inputs_in ms kind.Fir f e = x_few ms kind.Fir f e refl
+inputs_in ms kind.Multiply f e = (a_few ms kind.Multiply f e refl, b_few ms kind.Multiply f e refl)
+inputs_in ms kind.Divide f e = (a_few ms kind.Divide f e refl, b_few ms kind.Divide f e refl)
+inputs_in ms kind.Root f e = x_few ms kind.Root f e refl
+inputs_in ms kind.Mcm f e = x_few ms kind.Mcm f e refl
+inputs_in ms kind.Constdiv f e = x_few ms kind.Constdiv f e refl
+inputs_in ms kind.Poly f e = x_few ms kind.Poly f e refl
+inputs_in ms kind.Tfir f e = x_few ms kind.Tfir f e refl
+
+-- an input below 1 of sixteen bits at most
+pub below_one : (w : ℕ) → w ≤ 16 → small (neg_ℤ (pos w)) ≡ neg_ℤ (pos w)
+below_one w few = sym (small_same (neg_ℤ (pos w)) (omega (arith, ints)) (omega (arith, ints)))
+
+pub poly_few : (ms : Members) → AreFine ms → kind_of ms ≡ Some kind.Poly → count_at ms key.Width ≤ 16
+poly_few ms f e =
+    let (_, widest) = width_at ms key.Width
+    (present ms key.Width (needs ms kind.Poly key.Width e refl) f.needed.width) f.ranges.width in
+    omega (arith, widest, poly_width ms e)
+
+poly_in : (ms : Members) → AreFine ms → kind_of ms ≡ Some kind.Poly → IsPoly (poly_of ms)
+poly_in ms f e =
+    let (fewest, widest) = width_at ms key.Width
+    (present ms key.Width (needs ms kind.Poly key.Width e refl) f.needed.width) f.ranges.width in
+    let narrow = poly_few ms f e in
+    let lsb = below_one (count_at ms key.Width) narrow in
+    let array = coefs_in ms kind.Poly 2 5 f e refl refl in
+    let (positive, small) = denominator_in ms f.ranges.denominator in
+    record {
+      input = record {
+        fewest = one_bit (flag_at ms key.Signed) (count_at ms key.Width) fewest;
+        most = omega (arith, narrow);
+        lsb = subst IsPower (sym lsb) (omega (arith, ints, narrow), omega (arith, ints));
+      };
+      unsigned = refl;
+      narrow = narrow;
+      below_one = lsb;
+      out_lsb = poly_out ms f.ranges.out_lsb e;
+      some = array.some;
+      few = array.few;
+      coefs = array.each;
+      positive = positive;
+      small = small;
+    }
+
+extra_in : (ms : Members) → found 0 ms key.Extra ≡ None → count_at ms key.Extra ≤ 2
+extra_in ms h =
+    let (least, most) = zero_inside (value_at ms key.Extra) (pos 0) (pos 2) (omega (arith, ints)) (omega (arith, ints)) h in
+    (counted (number_at ms key.Extra) 0 2 least most (omega arith)).1
+
+pub divisor_in : (ms : Members) → AreFine ms → kind_of ms ≡ Some kind.Constdiv
+    → (pos 2 ≤ℤ number_at ms key.Divisor) × (number_at ms key.Divisor ≤ℤ pos 32)
+divisor_in ms f e = inside (pos 2) (pos 32) (number_at ms key.Divisor)
+    (there_inside (value_at ms key.Divisor) (outside (pos 2) (pos 32) (number_at ms key.Divisor))
+    (present ms key.Divisor (needs ms kind.Constdiv key.Divisor e refl) f.needed.divisor) f.ranges.divisor)
 
 pub operator_in : (ms : Members) (one : Kind) → AreFine ms → kind_of ms ≡ Some one → IsOperator (operator_of one ms)
 operator_in ms kind.Scale f e = sum_in ms kind.Scale 1 f e refl refl refl
@@ -423,29 +577,54 @@ operator_in ms kind.Multiply f e = record {
   a = a_in ms kind.Multiply f e refl;
   b = b_in ms kind.Multiply f e refl;
   alike = refl;
-  out_lsb = power_at ms key.OutLsb f.ranges.out_lsb;
+  out_lsb = out_power ms f.ranges.out_lsb;
 }
 operator_in ms kind.Divide f e = record {
   a = unsigned_in ms key.WidthA key.LsbA (a_in ms kind.Divide f e refl);
   b = unsigned_in ms key.WidthB key.LsbB (b_in ms kind.Divide f e refl);
   a_unsigned = refl;
   b_unsigned = refl;
-  out_lsb = power_at ms key.OutLsb f.ranges.out_lsb;
+  out_lsb = out_power ms f.ranges.out_lsb;
 }
 operator_in ms kind.Root f e = record {
   input = unsigned_in ms key.Width key.Lsb (x_in ms kind.Root f e refl);
   unsigned = refl;
-  out_lsb = power_at ms key.OutLsb f.ranges.out_lsb;
+  out_lsb = out_power ms f.ranges.out_lsb;
 }
 operator_in ms kind.Mcm f e =
-    let numbers = there_inside (value_at ms key.Constants) (array_outside 8 2047 (items_at ms key.Constants))
+    let numbers = there_inside (value_at ms key.Constants) (array_outside 1 8 2047 (items_at ms key.Constants))
     (present ms key.Constants (needs ms kind.Mcm key.Constants e refl) f.needed.constants) f.ranges.constants in
-    let array = array_in 8 2047 (items_at ms key.Constants) numbers in
-    let (least, most) = zero_inside (value_at ms key.Extra) (pos 0) (pos 2) (omega (arith, ints)) (omega (arith, ints)) f.ranges.extra in
+    let array = array_in 1 8 2047 (items_at ms key.Constants) numbers in
     record {
       input = x_in ms kind.Mcm f e refl;
       some = array.some;
       few = array.few;
       constants = array.each;
-      extra = (counted (number_at ms key.Extra) 0 2 least most (omega arith)).1;
+      extra = extra_in ms f.ranges.extra;
+    }
+operator_in ms kind.Constdiv f e =
+    let (least, most) = divisor_in ms f e in
+    let divisor = counted (number_at ms key.Divisor) 2 32 least most (omega arith) in
+    record {
+      input = unsigned_in ms key.Width key.Lsb (x_in ms kind.Constdiv f e refl);
+      unsigned = refl;
+      least = divisor.0;
+      most = divisor.1;
+    }
+operator_in ms kind.Poly f e = poly_in ms f e
+operator_in ms kind.Tfir f e =
+    let taps = items_at ms key.Taps in
+    let fine = there_inside (value_at ms key.Taps) (taps_outside taps)
+    (present ms key.Taps (needs ms kind.Tfir key.Taps e refl) f.needed.taps) f.ranges.taps in
+    let (numbers, parts) = or_none (array_outside 1 32 2047 taps)
+    (outside (pos 0) (pos 8) (pos (odd_part_count (numerators taps)))) fine in
+    let array = array_in 1 32 2047 taps numbers in
+    let (_, few_parts) = inside (pos 0) (pos 8) (pos (odd_part_count (numerators taps))) parts in
+    record {
+      input = x_in ms kind.Tfir f e refl;
+      some = array.some;
+      few = array.few;
+      taps = array.each;
+      parts = omega (arith, ints, few_parts);
+      extra = extra_in ms f.ranges.extra;
     }

@@ -1,6 +1,6 @@
 -- A document without a fault gives the values that it writes.
-use Rattle.std.proofs.Common.{◌≡◌, sym, ◌&&◌, ℕ, ◌<◌, ◌^◌, ◌||◌, ⊎_elim, not, Bool, true, false, length, get_or, Option, Some, None, is_some, is_none, option_and_then, find, nat_lt, refl, ap, ◌∙◌, arith, lit<, if◌then◌else◌, List, [], ◌∷◌, cond, ◌+◌, unwrap_or}
-use Rattle.std.specs.Prelude.{ℤ, pos, negsuc, ◌≤ℤ◌, int_le, int_lt}
+use Rattle.std.proofs.Common.{◌≡◌, sym, ◌⊎◌, ◌&&◌, ℕ, ◌<◌, ◌^◌, ◌||◌, ⊎_elim, not, Bool, true, false, length, get_or, Option, Some, None, is_some, is_none, option_and_then, find, nat_lt, refl, ap, ◌∙◌, arith, lit<, if◌then◌else◌, List, [], ◌∷◌, cond, ◌+◌, unwrap_or}
+use Rattle.std.specs.Prelude.{ℤ, pos, negsuc, ◌≤ℤ◌}
 use Rattle.std.specs.Option.{option_map_or}
 use Rattle.std.proofs.lemmas.Bool.{lt-ltb}
 use Rattle.std.proofs.lemmas.Int.{ints}
@@ -10,15 +10,17 @@ use Rattle.toml.specs.Data.{Data, string, integer, boolean, Members, as_integer,
 use Rattle.opgen_spec.specs.declared.fault.SpecFault.TheVariants as fault
 use Rattle.opgen_spec.specs.declared.key.Key.{Key}
 use Rattle.opgen_spec.specs.declared.key.Key.TheVariants as key
-use Rattle.opgen_spec.specs.declared.key.Kind.{Kind}
-use Rattle.opgen_spec.specs.declared.key.Kind.TheVariants as kind
-use Rattle.opgen_spec.specs.Keys.{document_keys, kinds, kind_name, is_needed, line_keys, classes, class_name, class_named}
+use Rattle.opgen_operator.specs.declared.kind.Kind.{Kind}
+use Rattle.opgen_operator.specs.declared.kind.Kind.TheVariants as kind
+use Rattle.opgen_operator.specs.Kinds.{kind_name}
+use Rattle.opgen_spec.specs.Keys.{document_keys, kinds, is_needed, line_keys, classes, class_name, class_named}
 use Rattle.opgen_spec.specs.Document.{value_at, number_in, text_in, flag_in, number_at, text_at, flag_at, count_at, count, small, kind_of, items_of, items_in, items_at}
-use Rattle.opgen_spec.specs.Spec.{format_at, unsigned_at, operator_of, kind_in, spec_with, line_of, lines_of}
+use Rattle.opgen_spec.specs.Spec.{format_at, unsigned_at, operator_of, spec_with, line_of, lines_of}
 use Rattle.opgen_spec.specs.Written.{IsInputAsWritten, IsOperatorAsWritten, IsAsWritten, IsLineAsWritten, AreLinesAsWritten}
 use Rattle.opgen_spec.specs.Faults.{missing_among, wrong_among, is_missing, is_wrong, outside, is_version, field_fault, among_line, among_lines, are_tables, class_outside, found, out_of_range, outside_among}
-use Rattle.opgen_operator.proofs.Versions.{input_limit}
-use Rattle.opgen_spec.proofs.Fields.{widest_input, AreFine, fine, nothing_wrong, find_none, map_none, present, needs, there_inside, zero_inside, inside, first_none, no_wrong_line}
+use Rattle.opgen_spec.proofs.KindOf.{kind_of_operator}
+use Rattle.opgen_spec.proofs.Compressors.{IsTaken, compressor_written}
+use Rattle.opgen_spec.proofs.Fields.{place, widest_input, width_few, small_same, out_within, below_one, poly_few, divisor_in, AreFine, fine, nothing_wrong, find_none, map_none, present, needs, there_inside, zero_inside, inside, first_none, no_wrong_line}
 use Rattle.opgen_net.specs.declared.cell.Class.{Class}
 use Rattle.opgen_net.specs.declared.cell.Class.TheVariants as class
 use Rattle.opgen_spec.specs.declared.fault.SpecFault.{SpecFault}
@@ -27,7 +29,7 @@ use Rattle.opgen_spec.specs.Decimals.{AreNumerators, AreCoefficients}
 use Rattle.opgen_spec.specs.Numbers.{numerators, denominator_of}
 use Rattle.opgen_spec.proofs.Decimals.{coefficients_written, integers_written, numbers_typed}
 use Rattle.opgen_spec.proofs.Reading.{or_none}
-use Rattle.opgen_spec.proofs.Validity.{passed, common, version_is}
+use Rattle.opgen_spec.proofs.Validity.{passed, common, version_is, compressor_of}
 
 number_stands : (o : Option Data) → is_none o ≡ false → option_map_or (λ d. not (is_some (as_integer d)) || false) o false ≡ false → o
     ≡ Some (integer (number_in o))
@@ -54,12 +56,6 @@ count_same (pos n) low high least most few =
     let fits : nat_lt n 4294967296 ≡ true = lt-ltb n 4294967296 below in
     rw fits refl
 count_same (negsuc n) low high least most few = absurd (omega (arith, ints))
-
-small_same : (n : ℤ) → negsuc 31 ≤ℤ n → n ≤ℤ pos 32 → n ≡ small n
-small_same n least most =
-    let above : int_le (negsuc 2147483647) n ≡ true = grind (arith, ints) in
-    let below : int_lt n (pos 2147483648) ≡ true = grind (arith, ints) in
-    rw (above, below) refl
 
 -- what is known of each key of the document
 record AreTyped (ms : Members) : Type 0 where
@@ -99,40 +95,46 @@ power_written o there typed h =
     let (least, most) = zero_inside o (negsuc 31) (pos 32) (omega (arith, ints)) (omega (arith, ints)) h in
     number_stands o there typed ∙ ap (λ n. Some (integer n)) (small_same (number_in o) least most)
 
+width_written : (ms : Members) (one : Kind) → AreFine ms → AreTyped ms → kind_of ms ≡ Some one → is_needed (Some one) key.Width ≡ true
+    → value_at ms key.Width ≡ Some (integer (pos (count_at ms key.Width)))
+unfolding document_keys
+width_written ms one f t e width =
+    let there = present ms key.Width (needs ms one key.Width e width) (t.there (place key.Width) (lit< tt)) in
+    count_written (value_at ms key.Width) 1 (widest_input ms) there (t.typed (place key.Width) (lit< tt))
+    (width_bounds ms key.Width there f.ranges.width) (width_few ms)
+
 x_written : (ms : Members) (one : Kind) → AreFine ms → AreTyped ms → kind_of ms ≡ Some one → is_needed (Some one) key.Width ≡ true
     → is_needed (Some one) key.Lsb ≡ true → IsInputAsWritten ms key.Width key.Lsb (format_at ms key.Width key.Lsb)
 unfolding document_keys
 x_written ms one f t e width lsb =
-    let there = present ms key.Width (needs ms one key.Width e width) (t.there 7 (lit< tt)) in
-    let lsb_there = present ms key.Lsb (needs ms one key.Lsb e lsb) (t.there 8 (lit< tt)) in
+    let lsb_there = present ms key.Lsb (needs ms one key.Lsb e lsb) (t.there (place key.Lsb) (lit< tt)) in
     record {
-      width_written = count_written (value_at ms key.Width) 1 (widest_input ms) there (t.typed 7 (lit< tt))
-          (width_bounds ms key.Width there f.ranges.width) (omega (arith, input_limit (count_at ms key.Version)));
-      lsb_written = power_written (value_at ms key.Lsb) lsb_there (t.typed 8 (lit< tt)) f.ranges.lsb;
+      width_written = width_written ms one f t e width;
+      lsb_written = power_written (value_at ms key.Lsb) lsb_there (t.typed (place key.Lsb) (lit< tt)) f.ranges.lsb;
     }
 
 a_written : (ms : Members) (one : Kind) → AreFine ms → AreTyped ms → kind_of ms ≡ Some one → is_needed (Some one) key.WidthA ≡ true
     → is_needed (Some one) key.LsbA ≡ true → IsInputAsWritten ms key.WidthA key.LsbA (format_at ms key.WidthA key.LsbA)
 unfolding document_keys
 a_written ms one f t e width lsb =
-    let there = present ms key.WidthA (needs ms one key.WidthA e width) (t.there 9 (lit< tt)) in
-    let lsb_there = present ms key.LsbA (needs ms one key.LsbA e lsb) (t.there 10 (lit< tt)) in
+    let there = present ms key.WidthA (needs ms one key.WidthA e width) (t.there (place key.WidthA) (lit< tt)) in
+    let lsb_there = present ms key.LsbA (needs ms one key.LsbA e lsb) (t.there (place key.LsbA) (lit< tt)) in
     record {
-      width_written = count_written (value_at ms key.WidthA) 1 (widest_input ms) there (t.typed 9 (lit< tt))
-          (width_bounds ms key.WidthA there f.ranges.width_a) (omega (arith, input_limit (count_at ms key.Version)));
-      lsb_written = power_written (value_at ms key.LsbA) lsb_there (t.typed 10 (lit< tt)) f.ranges.lsb_a;
+      width_written = count_written (value_at ms key.WidthA) 1 (widest_input ms) there (t.typed (place key.WidthA) (lit< tt))
+          (width_bounds ms key.WidthA there f.ranges.width_a) (width_few ms);
+      lsb_written = power_written (value_at ms key.LsbA) lsb_there (t.typed (place key.LsbA) (lit< tt)) f.ranges.lsb_a;
     }
 
 b_written : (ms : Members) (one : Kind) → AreFine ms → AreTyped ms → kind_of ms ≡ Some one → is_needed (Some one) key.WidthB ≡ true
     → is_needed (Some one) key.LsbB ≡ true → IsInputAsWritten ms key.WidthB key.LsbB (format_at ms key.WidthB key.LsbB)
 unfolding document_keys
 b_written ms one f t e width lsb =
-    let there = present ms key.WidthB (needs ms one key.WidthB e width) (t.there 11 (lit< tt)) in
-    let lsb_there = present ms key.LsbB (needs ms one key.LsbB e lsb) (t.there 12 (lit< tt)) in
+    let there = present ms key.WidthB (needs ms one key.WidthB e width) (t.there (place key.WidthB) (lit< tt)) in
+    let lsb_there = present ms key.LsbB (needs ms one key.LsbB e lsb) (t.there (place key.LsbB) (lit< tt)) in
     record {
-      width_written = count_written (value_at ms key.WidthB) 1 (widest_input ms) there (t.typed 11 (lit< tt))
-          (width_bounds ms key.WidthB there f.ranges.width_b) (omega (arith, input_limit (count_at ms key.Version)));
-      lsb_written = power_written (value_at ms key.LsbB) lsb_there (t.typed 12 (lit< tt)) f.ranges.lsb_b;
+      width_written = count_written (value_at ms key.WidthB) 1 (widest_input ms) there (t.typed (place key.WidthB) (lit< tt))
+          (width_bounds ms key.WidthB there f.ranges.width_b) (width_few ms);
+      lsb_written = power_written (value_at ms key.LsbB) lsb_there (t.typed (place key.LsbB) (lit< tt)) f.ranges.lsb_b;
     }
 
 unsigned_written : (ms : Members) (w l : Key) → IsInputAsWritten ms w l (format_at ms w l) → IsInputAsWritten ms w l (unsigned_at ms w l)
@@ -142,65 +144,97 @@ out_written : (ms : Members) (one : Kind) → AreFine ms → AreTyped ms → kin
     → value_at ms key.OutLsb ≡ Some (integer (small (number_at ms key.OutLsb)))
 unfolding document_keys
 out_written ms one f t e h =
-    power_written (value_at ms key.OutLsb) (present ms key.OutLsb (needs ms one key.OutLsb e h) (t.there 13 (lit< tt)))
-    (t.typed 13 (lit< tt)) f.ranges.out_lsb
+    let (least, most) = out_within ms f.ranges.out_lsb in
+    number_stands (value_at ms key.OutLsb)
+    (present ms key.OutLsb (needs ms one key.OutLsb e h) (t.there (place key.OutLsb) (lit< tt))) (t.typed (place key.OutLsb) (lit< tt))
+    ∙ ap (λ n. Some (integer n)) (small_same (number_at ms key.OutLsb) least most)
 
 signed_written : (ms : Members) (one : Kind) → AreTyped ms → kind_of ms ≡ Some one → is_needed (Some one) key.Signed ≡ true
     → value_at ms key.Signed ≡ Some (boolean (flag_at ms key.Signed))
 unfolding document_keys
 signed_written ms one t e h =
-    flag_stands (value_at ms key.Signed) (present ms key.Signed (needs ms one key.Signed e h) (t.there 6 (lit< tt))) (t.typed 6 (lit< tt))
+    flag_stands (value_at ms key.Signed) (present ms key.Signed (needs ms one key.Signed e h) (t.there (place key.Signed) (lit< tt))) (t.typed (place key.Signed) (lit< tt))
 
-extra_written : (ms : Members) → AreFine ms → AreTyped ms → kind_of ms ≡ Some kind.Mcm → value_at ms key.Extra
-    ≡ Some (integer (pos (count (number_at ms key.Extra))))
+extra_written : (ms : Members) (one : Kind) → AreFine ms → AreTyped ms → kind_of ms ≡ Some one → is_needed (Some one) key.Extra ≡ true
+    → value_at ms key.Extra ≡ Some (integer (pos (count (number_at ms key.Extra))))
 unfolding document_keys
-extra_written ms f t e =
-    let there = present ms key.Extra (needs ms kind.Mcm key.Extra e refl) (t.there 17 (lit< tt)) in
-    count_written (value_at ms key.Extra) 0 2 there (t.typed 17 (lit< tt))
+extra_written ms one f t e h =
+    let there = present ms key.Extra (needs ms one key.Extra e h) (t.there (place key.Extra) (lit< tt)) in
+    count_written (value_at ms key.Extra) 0 2 there (t.typed (place key.Extra) (lit< tt))
     (zero_inside (value_at ms key.Extra) (pos 0) (pos 2) (omega (arith, ints)) (omega (arith, ints)) f.ranges.extra) (omega arith)
 
 coefs_written : (ms : Members) → AreTyped ms → AreCoefficients ms (numerators (items_at ms key.Coefficients)) (denominator_of ms)
 unfolding document_keys
-coefs_written ms t = coefficients_written ms (t.typed 14 (lit< tt)) (t.typed 15 (lit< tt))
+coefs_written ms t = coefficients_written ms (t.typed (place key.Coefficients) (lit< tt)) (t.typed (place key.Denominator) (lit< tt))
 
 constants_written : (ms : Members) → AreTyped ms → AreNumerators 0 (items_at ms key.Constants) (numerators (items_at ms key.Constants))
 unfolding document_keys
-constants_written ms t = integers_written (items_at ms key.Constants) (numbers_typed (value_at ms key.Constants) (t.typed 16 (lit< tt)))
+constants_written ms t = integers_written (items_at ms key.Constants) (numbers_typed (value_at ms key.Constants) (t.typed (place key.Constants) (lit< tt)))
 
-operator_written : (ms : Members) (one : Kind) → AreFine ms → AreTyped ms → kind_of ms ≡ Some one
-    → IsOperatorAsWritten ms (operator_of one ms)
-operator_written ms kind.Scale f t e = record {
+divisor_written : (ms : Members) → AreFine ms → AreTyped ms → kind_of ms ≡ Some kind.Constdiv
+    → value_at ms key.Divisor ≡ Some (integer (pos (count (number_at ms key.Divisor))))
+unfolding document_keys
+divisor_written ms f t e =
+    let there = present ms key.Divisor (needs ms kind.Constdiv key.Divisor e refl) (t.there (place key.Divisor) (lit< tt)) in
+    count_written (value_at ms key.Divisor) 2 32 there (t.typed (place key.Divisor) (lit< tt)) (divisor_in ms f e) (omega arith)
+
+taps_written : (ms : Members) → AreTyped ms → AreNumerators 0 (items_at ms key.Taps) (numerators (items_at ms key.Taps))
+unfolding document_keys
+taps_written ms t = integers_written (items_at ms key.Taps) (numbers_typed (value_at ms key.Taps) (t.typed (place key.Taps) (lit< tt)))
+
+operator_written : (ms : Members) (one : Kind) → AreFine ms → AreTyped ms → (value_at ms key.Compressor ≡ None) ⊎ IsTaken ms
+    → kind_of ms ≡ Some one → IsOperatorAsWritten ms (operator_of one ms)
+operator_written ms kind.Scale f t compressor e = record {
   signed = signed_written ms kind.Scale t e refl;
   input = x_written ms kind.Scale f t e refl refl;
   out_lsb = out_written ms kind.Scale f t e refl;
   coefs = coefs_written ms t;
+  compressor = compressor_written ms compressor;
 }
-operator_written ms kind.Fir f t e = record {
+operator_written ms kind.Fir f t compressor e = record {
   signed = signed_written ms kind.Fir t e refl;
   input = x_written ms kind.Fir f t e refl refl;
   out_lsb = out_written ms kind.Fir f t e refl;
   coefs = coefs_written ms t;
+  compressor = compressor_written ms compressor;
 }
-operator_written ms kind.Multiply f t e = record {
+operator_written ms kind.Multiply f t compressor e = record {
   signed = signed_written ms kind.Multiply t e refl;
   a = a_written ms kind.Multiply f t e refl refl;
   b = b_written ms kind.Multiply f t e refl refl;
   out_lsb = out_written ms kind.Multiply f t e refl;
+  compressor = compressor_written ms compressor;
 }
-operator_written ms kind.Divide f t e = record {
+operator_written ms kind.Divide f t compressor e = record {
   a = unsigned_written ms key.WidthA key.LsbA (a_written ms kind.Divide f t e refl refl);
   b = unsigned_written ms key.WidthB key.LsbB (b_written ms kind.Divide f t e refl refl);
   out_lsb = out_written ms kind.Divide f t e refl;
 }
-operator_written ms kind.Root f t e = record {
+operator_written ms kind.Root f t compressor e = record {
   input = unsigned_written ms key.Width key.Lsb (x_written ms kind.Root f t e refl refl);
   out_lsb = out_written ms kind.Root f t e refl;
 }
-operator_written ms kind.Mcm f t e = record {
+operator_written ms kind.Mcm f t compressor e = record {
   signed = signed_written ms kind.Mcm t e refl;
   input = x_written ms kind.Mcm f t e refl refl;
   constants = constants_written ms t;
-  extra = extra_written ms f t e;
+  extra = extra_written ms kind.Mcm f t e refl;
+}
+operator_written ms kind.Constdiv f t compressor e = record {
+  input = unsigned_written ms key.Width key.Lsb (x_written ms kind.Constdiv f t e refl refl);
+  divisor = divisor_written ms f t e;
+}
+operator_written ms kind.Poly f t compressor e = record {
+  width_written = width_written ms kind.Poly f t e refl;
+  below_one = below_one (count_at ms key.Width) (poly_few ms f e);
+  out_lsb = out_written ms kind.Poly f t e refl;
+  coefs = coefs_written ms t;
+}
+operator_written ms kind.Tfir f t compressor e = record {
+  signed = signed_written ms kind.Tfir t e refl;
+  input = x_written ms kind.Tfir f t e refl refl;
+  taps = taps_written ms t;
+  extra = extra_written ms kind.Tfir f t e refl;
 }
 
 -- every kind needs the first six keys
@@ -212,6 +246,9 @@ first_keys kind.Multiply = (refl, refl, refl, refl)
 first_keys kind.Divide = (refl, refl, refl, refl)
 first_keys kind.Root = (refl, refl, refl, refl)
 first_keys kind.Mcm = (refl, refl, refl, refl)
+first_keys kind.Constdiv = (refl, refl, refl, refl)
+first_keys kind.Poly = (refl, refl, refl, refl)
+first_keys kind.Tfir = (refl, refl, refl, refl)
 
 -- a kind that is found by a name has that name
 kind_found : (text : List ℕ) (ks : List Kind) (one : Kind) → find (λ k. bytes_eq (kind_name k) text) ks ≡ Some one → text ≡ kind_name one
@@ -225,14 +262,6 @@ kind_found text (k ∷ ks) one h = go (bytes_eq (kind_name k) text) refl (λ lat
         let same : k ≡ one = cc in
         sym ((bytes_eq-Decides (kind_name k) text).0 e) ∙ ap kind_name same
     go false e later = later (ap (λ b. cond b (Some k) (find (λ k. bytes_eq (kind_name k) text) ks)) (sym e) ∙ h)
-
-kind_of_operator : (one : Kind) (ms : Members) → kind_in (operator_of one ms) ≡ one
-kind_of_operator kind.Scale ms = refl
-kind_of_operator kind.Fir ms = refl
-kind_of_operator kind.Multiply ms = refl
-kind_of_operator kind.Divide ms = refl
-kind_of_operator kind.Root ms = refl
-kind_of_operator kind.Mcm ms = refl
 
 -- the same of classes
 class_found : (text : List ℕ) (cs : List Class) (one : Class) → find (λ c. bytes_eq (class_name c) text) cs ≡ Some one → text
@@ -329,25 +358,25 @@ written ms one h e =
     let (missing_lines, wrong_lines) = no_wrong_line ms h in
     let (version, name, exact, named) = first_keys one in
     let (target, period) = common one in
-    let time_there = present ms key.Period (needs ms one key.Period e period) (t.there 5 (lit< tt)) in
+    let time_there = present ms key.Period (needs ms one key.Period e period) (t.there (place key.Period) (lit< tt)) in
     let time = there_inside (value_at ms key.Period) (outside (pos 1) (pos 1000000) (number_at ms key.Period)) time_there f.ranges.period in
     record {
       version = count_written (value_at ms key.Version) 1 2
-          (present ms key.Version (needs ms one key.Version e version) (t.there 0 (lit< tt))) (t.typed 0 (lit< tt))
+          (present ms key.Version (needs ms one key.Version e version) (t.there (place key.Version) (lit< tt))) (t.typed (place key.Version) (lit< tt))
           (version_bounds (number_at ms key.Version)
           (passed (is_version (number_at ms key.Version)) (fault.BadVersion (number_at ms key.Version)) f.version)) (omega arith);
-      name = text_stands (value_at ms key.Name) (present ms key.Name (needs ms one key.Name e name) (t.there 1 (lit< tt)))
-          (t.typed 1 (lit< tt));
-      kind_written = text_stands (value_at ms key.Kind) (present ms key.Kind (needs ms one key.Kind e named) (t.there 2 (lit< tt)))
-          (t.typed 2 (lit< tt)) ∙ ap (λ text. Some (string text)) (kind_found (text_at ms key.Kind) kinds one e
+      name = text_stands (value_at ms key.Name) (present ms key.Name (needs ms one key.Name e name) (t.there (place key.Name) (lit< tt)))
+          (t.typed (place key.Name) (lit< tt));
+      kind_written = text_stands (value_at ms key.Kind) (present ms key.Kind (needs ms one key.Kind e named) (t.there (place key.Kind) (lit< tt)))
+          (t.typed (place key.Kind) (lit< tt)) ∙ ap (λ text. Some (string text)) (kind_found (text_at ms key.Kind) kinds one e
           ∙ ap kind_name (sym (kind_of_operator one ms)));
-      exact = flag_stands (value_at ms key.Exact) (present ms key.Exact (needs ms one key.Exact e exact) (t.there 3 (lit< tt)))
-          (t.typed 3 (lit< tt));
-      target = text_stands (value_at ms key.Target) (present ms key.Target (needs ms one key.Target e target) (t.there 4 (lit< tt)))
-          (t.typed 4 (lit< tt));
-      period = count_written (value_at ms key.Period) 1 1000000 time_there (t.typed 5 (lit< tt))
+      exact = flag_stands (value_at ms key.Exact) (present ms key.Exact (needs ms one key.Exact e exact) (t.there (place key.Exact) (lit< tt)))
+          (t.typed (place key.Exact) (lit< tt));
+      target = text_stands (value_at ms key.Target) (present ms key.Target (needs ms one key.Target e target) (t.there (place key.Target) (lit< tt)))
+          (t.typed (place key.Target) (lit< tt));
+      period = count_written (value_at ms key.Period) 1 1000000 time_there (t.typed (place key.Period) (lit< tt))
           (inside (pos 1) (pos 1000000) (number_at ms key.Period) time) (omega arith);
-      op = operator_written ms one f t e;
+      op = operator_written ms one f t (compressor_of ms one h e) e;
       delays = lines_written 1 (items_at ms key.Delay) missing_lines wrong_lines f.lines
-          (tables_typed (value_at ms key.Delay) (t.typed 18 (lit< tt)));
+          (tables_typed (value_at ms key.Delay) (t.typed (place key.Delay) (lit< tt)));
     }

@@ -5,7 +5,7 @@ use Rattle.toml.specs.Data.{Data, string, integer, boolean, array, Items, no_ite
 use Rattle.toml.specs.Parse.{parse_document}
 use Rattle.opgen_spec.specs.declared.key.Key.{Key}
 use Rattle.opgen_spec.specs.declared.key.Key.TheVariants as key
-use Rattle.opgen_spec.specs.declared.key.Kind.{Kind}
+use Rattle.opgen_operator.specs.declared.kind.Kind.{Kind}
 use Rattle.opgen_spec.specs.Keys.{key_name, kind_named}
 
 -- the tree of the bytes: none where they are not UTF-8, or no document
@@ -71,6 +71,14 @@ count_at ms k = count (number_at ms k)
 
 abbrev pub small_at : Members → Key → ℤ
 small_at ms k = small (number_at ms k)
+
+-- the document is of version 1
+abbrev pub is_one : ℤ → Bool
+is_one (pos n) = n == 1
+is_one (negsuc n) = false
+
+abbrev pub is_first : Members → Bool
+is_first ms = is_one (number_at ms key.Version)
 
 -- the kind that the document names
 abbrev pub kind_of : Members → Option Kind

@@ -8,8 +8,9 @@ use Rattle.opgen_spec.specs.declared.key.Key.{Key}
 use Rattle.opgen_spec.specs.declared.key.Key.TheVariants as key
 use Rattle.opgen_spec.specs.declared.key.Sort.{Sort}
 use Rattle.opgen_spec.specs.declared.key.Sort.TheVariants as sort
-use Rattle.opgen_spec.specs.declared.key.Kind.{Kind}
-use Rattle.opgen_spec.specs.declared.key.Kind.TheVariants as kind
+use Rattle.opgen_operator.specs.declared.kind.Kind.{Kind}
+use Rattle.opgen_operator.specs.declared.kind.Kind.TheVariants as kind
+use Rattle.opgen_operator.specs.Kinds.{kind_name}
 
 abbrev pub key_name : Key → List ℕ
 key_name key.Version = codes "version"
@@ -30,6 +31,9 @@ key_name key.Coefficients = codes "coefficients"
 key_name key.Denominator = codes "denominator"
 key_name key.Constants = codes "constants"
 key_name key.Extra = codes "extra"
+key_name key.Divisor = codes "divisor"
+key_name key.Taps = codes "taps"
+key_name key.Compressor = codes "compressor"
 key_name key.Delay = codes "delay"
 key_name key.Class = codes "class"
 key_name key.Base = codes "base"
@@ -40,22 +44,15 @@ unfoldable pub document_keys : List Key
 document_keys =
     key.Version ∷ key.Name ∷ key.Kind ∷ key.Exact ∷ key.Target ∷ key.Period ∷ key.Signed ∷ key.Width ∷ key.Lsb ∷
     key.WidthA ∷ key.LsbA ∷ key.WidthB ∷ key.LsbB ∷ key.OutLsb ∷ key.Coefficients ∷ key.Denominator ∷ key.Constants ∷
-    key.Extra ∷ key.Delay ∷ []
+    key.Extra ∷ key.Divisor ∷ key.Taps ∷ key.Compressor ∷ key.Delay ∷ []
 
 -- the keys of a delay line
 unfoldable pub line_keys : List Key
 line_keys = key.Class ∷ key.Base ∷ key.PerBit ∷ []
 
-abbrev pub kind_name : Kind → List ℕ
-kind_name kind.Scale = codes "scale"
-kind_name kind.Fir = codes "fir"
-kind_name kind.Multiply = codes "multiply"
-kind_name kind.Divide = codes "divide"
-kind_name kind.Root = codes "root"
-kind_name kind.Mcm = codes "mcm"
-
+-- the kinds that a document can name
 unfoldable pub kinds : List Kind
-kinds = kind.Scale ∷ kind.Fir ∷ kind.Multiply ∷ kind.Divide ∷ kind.Root ∷ kind.Mcm ∷ []
+kinds = kind.Scale ∷ kind.Fir ∷ kind.Multiply ∷ kind.Divide ∷ kind.Root ∷ kind.Mcm ∷ kind.Constdiv ∷ kind.Poly ∷ kind.Tfir ∷ []
 
 abbrev pub class_name : Class → List ℕ
 class_name class.Wire = codes "wire"
@@ -75,52 +72,47 @@ kind_named name = find (λ one. bytes_eq (kind_name one) name) kinds
 abbrev pub class_named : List ℕ → Option Class
 class_named name = find (λ one. bytes_eq (class_name one) name) classes
 
--- kinds with a sum of inputs times constants; with two inputs, a and b; with inputs that are always unsigned
-abbrev pub is_sum : Kind → Bool
-is_sum kind.Scale = true
-is_sum kind.Fir = true
-is_sum _ = false
+-- the kind is one of some kinds
+abbrev pub is_one_of : List Kind → Kind → Bool
+is_one_of ones one = list_any (λ other. bytes_eq (kind_name other) (kind_name one)) ones
 
-abbrev pub has_two_inputs : Kind → Bool
-has_two_inputs kind.Multiply = true
-has_two_inputs kind.Divide = true
-has_two_inputs _ = false
-
-abbrev pub is_unsigned : Kind → Bool
-is_unsigned kind.Divide = true
-is_unsigned kind.Root = true
-is_unsigned _ = false
-
-abbrev pub is_mcm : Kind → Bool
-is_mcm kind.Mcm = true
-is_mcm _ = false
-
--- An operator of the kind has the key. The keys that are not listed here are those of all kinds, and of all delay lines.
+-- The kinds that have a key, key by key. The keys that are not listed here are those of all kinds, and of all delay lines.
 abbrev pub has_key : Kind → Key → Bool
-has_key one key.Signed = not (is_unsigned one)
-has_key one key.Width = not (has_two_inputs one)
-has_key one key.Lsb = not (has_two_inputs one)
-has_key one key.WidthA = has_two_inputs one
-has_key one key.LsbA = has_two_inputs one
-has_key one key.WidthB = has_two_inputs one
-has_key one key.LsbB = has_two_inputs one
-has_key one key.OutLsb = not (is_mcm one)
-has_key one key.Coefficients = is_sum one
-has_key one key.Denominator = is_sum one
-has_key one key.Constants = is_mcm one
-has_key one key.Extra = is_mcm one
+has_key one key.Signed = is_one_of (kind.Scale ∷ kind.Fir ∷ kind.Multiply ∷ kind.Mcm ∷ kind.Tfir ∷ []) one
+has_key one key.Width =
+    is_one_of (kind.Scale ∷ kind.Fir ∷ kind.Root ∷ kind.Mcm ∷ kind.Constdiv ∷ kind.Poly ∷ kind.Tfir ∷ []) one
+has_key one key.Lsb = is_one_of (kind.Scale ∷ kind.Fir ∷ kind.Root ∷ kind.Mcm ∷ kind.Constdiv ∷ kind.Tfir ∷ []) one
+has_key one key.WidthA = is_one_of (kind.Multiply ∷ kind.Divide ∷ []) one
+has_key one key.LsbA = is_one_of (kind.Multiply ∷ kind.Divide ∷ []) one
+has_key one key.WidthB = is_one_of (kind.Multiply ∷ kind.Divide ∷ []) one
+has_key one key.LsbB = is_one_of (kind.Multiply ∷ kind.Divide ∷ []) one
+has_key one key.OutLsb =
+    is_one_of (kind.Scale ∷ kind.Fir ∷ kind.Multiply ∷ kind.Divide ∷ kind.Root ∷ kind.Poly ∷ []) one
+has_key one key.Coefficients = is_one_of (kind.Scale ∷ kind.Fir ∷ kind.Poly ∷ []) one
+has_key one key.Denominator = is_one_of (kind.Scale ∷ kind.Fir ∷ kind.Poly ∷ []) one
+has_key one key.Constants = is_one_of (kind.Mcm ∷ []) one
+has_key one key.Extra = is_one_of (kind.Mcm ∷ kind.Tfir ∷ []) one
+has_key one key.Divisor = is_one_of (kind.Constdiv ∷ []) one
+has_key one key.Taps = is_one_of (kind.Tfir ∷ []) one
+has_key one key.Compressor = is_one_of (kind.Scale ∷ kind.Fir ∷ kind.Multiply ∷ []) one
 has_key one _ = true
 
--- a document may leave these two out
+-- the first version has no compressor
+abbrev pub is_in_version : (first : Bool) → Key → Bool
+is_in_version first key.Compressor = not first
+is_in_version first _ = true
+
+-- a document may leave these out
 abbrev pub is_optional : Key → Bool
 is_optional key.Denominator = true
+is_optional key.Compressor = true
 is_optional key.Delay = true
 is_optional _ = false
 
 -- Which keys may and have to stand there. Where the document names no kind, all keys may, and those of all kinds have to.
-abbrev pub may_stand : Option Kind → Key → Bool
-may_stand (Some one) k = has_key one k
-may_stand None k = true
+abbrev pub may_stand : (first : Bool) → Option Kind → Key → Bool
+may_stand first (Some one) k = has_key one k && is_in_version first k
+may_stand first None k = true
 
 abbrev pub has_to_stand : Option Kind → Key → Bool
 has_to_stand (Some one) k = has_key one k
@@ -130,18 +122,20 @@ abbrev pub is_needed : Option Kind → Key → Bool
 is_needed named k = not (is_optional k) && has_to_stand named k
 
 -- one of the keys has the name, and may stand there
-abbrev pub is_known : List Key → Option Kind → List ℕ → Bool
-is_known ks named name = list_any (λ k. may_stand named k && bytes_eq (key_name k) name) ks
+abbrev pub is_known : List Key → (first : Bool) → Option Kind → List ℕ → Bool
+is_known ks first named name = list_any (λ k. may_stand first named k && bytes_eq (key_name k) name) ks
 
 -- what the value at a key has to be
 abbrev pub sort_of : Key → Sort
 sort_of key.Name = sort.Text
 sort_of key.Kind = sort.Text
 sort_of key.Target = sort.Text
+sort_of key.Compressor = sort.Text
 sort_of key.Class = sort.Text
 sort_of key.Exact = sort.Flag
 sort_of key.Signed = sort.Flag
 sort_of key.Coefficients = sort.Coefficients
 sort_of key.Constants = sort.Numbers
+sort_of key.Taps = sort.Numbers
 sort_of key.Delay = sort.Tables
 sort_of _ = sort.Number

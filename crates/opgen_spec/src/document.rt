@@ -1,8 +1,9 @@
 ghost use Rattle.std.specs.Prelude.{◌≡◌, option_map};
 ghost use Rattle.toml.specs.View.{view, items_view, table_view};
-ghost use Rattle.opgen_spec.specs.Document.{value_at, number_at, count_at, small_at, text_at, flag_at, items_of, items_at, kind_of};
+ghost use Rattle.opgen_spec.specs.Document.{value_at, number_at, count_at, small_at, text_at, flag_at, items_of, items_at, small, is_first, kind_of};
 
-use crate::key::{Key, Kind, kind_named};
+use crate::key::{Key, kind_named};
+use opgen_operator::Kind;
 use toml::{Table, Value};
 
 /// The value at a key.
@@ -34,16 +35,22 @@ pub(crate) fn count_at(table: &Table, key: Key) -> u32
     }
 }
 
-/// The number at a key in 32 bits with a sign, 0 where it does not fit.
-pub(crate) fn small_at(table: &Table, key: Key) -> i32
-    ensures { result ≡ small_at (table_view table.now) key }
+/// A number in 32 bits with a sign, 0 where it does not fit.
+pub(crate) fn small(n: i64) -> i32
+    ensures { result ≡ small n }
 {
-    let n = number_at(table, key);
     if -2_147_483_648 <= n && n < 2_147_483_648 {
         n as i32
     } else {
         0
     }
+}
+
+/// The number at a key in 32 bits with a sign, 0 where it does not fit.
+pub(crate) fn small_at(table: &Table, key: Key) -> i32
+    ensures { result ≡ small_at (table_view table.now) key }
+{
+    small(number_at(table, key))
 }
 
 /// The text at a key, empty where there is none.
@@ -84,6 +91,13 @@ pub(crate) fn items_at<'a>(table: &'a Table, key: Key) -> &'a [Value]
         Some(value) => items_of(value),
         None => &[],
     }
+}
+
+/// Whether the document is of version 1.
+pub(crate) fn is_first(table: &Table) -> bool
+    ensures { result ≡ is_first (table_view table.now) }
+{
+    number_at(table, Key::Version) == 1
 }
 
 /// The kind that the document names.

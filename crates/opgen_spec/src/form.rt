@@ -2,23 +2,25 @@ ghost use Rattle.std.specs.Prelude.{◌≡◌, find, not};
 ghost use Rattle.std.specs.List.{list_all, position_from};
 ghost use Rattle.toml.specs.View.{view, items_view, table_view};
 ghost use Rattle.opgen_spec.specs.Keys.{is_known};
-ghost use Rattle.opgen_spec.specs.Document.{names, list_of, kind_of};
+ghost use Rattle.opgen_spec.specs.Document.{names, list_of, is_first, kind_of};
 ghost use Rattle.opgen_spec.specs.Numbers.{are_texts};
 ghost use Rattle.opgen_spec.specs.Faults.{unknown_among, is_missing, missing_among, is_decimal, is_integer, is_table, are_coefficients, are_integers, are_tables, is_of, are_decimals, fits, clashes, is_wrong, wrong_among};
 
 use crate::decimal::decimal_of;
-use crate::document::{items_at, items_of, kind_of, value_at};
+use crate::document::{is_first, items_at, items_of, kind_of, value_at};
 use crate::fault::SpecFault;
-use crate::key::{Key, Kind, Sort, is_known, is_needed};
+use crate::key::{Key, Sort, is_known, is_needed};
+use opgen_operator::Kind;
 use toml::{Table, Value};
 
 /// The place of the first key, in byte order, that is none of the keys.
-fn first_unknown(keys: &[Key], kind: Option<Kind>, table: &Table) -> Option<u64>
-    ensures { result ≡ position_from (λ name. not (is_known keys.now kind name)) 0 (names (table_view table.now)) }
+fn first_unknown(keys: &[Key], first: bool, kind: Option<Kind>, table: &Table) -> Option<u64>
+    ensures { result
+        ≡ position_from (λ name. not (is_known keys.now first kind name)) 0 (names (table_view table.now)) }
 {
     let mut at = 0;
     'names: for name in table.keys() {
-        if !is_known(keys, kind, name.as_str()) {
+        if !is_known(keys, first, kind, name.as_str()) {
             return Some(at);
         }
         at += 1;
@@ -29,7 +31,7 @@ fn first_unknown(keys: &[Key], kind: Option<Kind>, table: &Table) -> Option<u64>
 pub(crate) fn unknown_among(keys: &[Key], line: u64, table: &Table) -> Option<SpecFault>
     ensures { result ≡ unknown_among keys.now line (table_view table.now) }
 {
-    let at = first_unknown(keys, kind_of(table), table)?;
+    let at = first_unknown(keys, is_first(table), kind_of(table), table)?;
     Some(SpecFault::UnknownKey { line, at })
 }
 

@@ -1,9 +1,11 @@
 ghost use Rattle.std.specs.Prelude.{◌≡◌, Some, find};
 ghost use Rattle.std.specs.List.{list_all};
 ghost use Rattle.std.specs.Str.{bytes_eq};
-ghost use Rattle.opgen_spec.specs.Keys.{key_name, kind_name, kind_named, class_name, class_named, has_key, may_stand, has_to_stand, is_known, is_needed, sort_of};
+ghost use Rattle.opgen_operator.specs.Kinds.{kind_name};
+ghost use Rattle.opgen_spec.specs.Keys.{key_name, kind_named, class_name, class_named, has_key, is_in_version, may_stand, has_to_stand, is_known, is_optional, is_needed, sort_of};
 
 use opgen_net::Class;
+use opgen_operator::Kind;
 use std::fmt;
 
 /// The keys of a document in the order in which they are judged, and then those of a delay line.
@@ -27,21 +29,13 @@ pub enum Key {
     Denominator,
     Constants,
     Extra,
+    Divisor,
+    Taps,
+    Compressor,
     Delay,
     Class,
     Base,
     PerBit,
-}
-
-/// The kinds of operators.
-#[derive(Clone, Copy, Debug, PartialEq, Eq)]
-pub enum Kind {
-    Scale,
-    Fir,
-    Multiply,
-    Divide,
-    Root,
-    Mcm,
 }
 
 /// What the value at a key has to be.
@@ -56,7 +50,8 @@ pub(crate) enum Sort {
     Tables,
 }
 
-pub(crate) static KEYS: [Key; 19] = [
+/// The keys of a document, in the order in which they are judged.
+pub(crate) static KEYS: [Key; 22] = [
     Key::Version,
     Key::Name,
     Key::Kind,
@@ -75,18 +70,25 @@ pub(crate) static KEYS: [Key; 19] = [
     Key::Denominator,
     Key::Constants,
     Key::Extra,
+    Key::Divisor,
+    Key::Taps,
+    Key::Compressor,
     Key::Delay,
 ];
 
 pub(crate) static LINE_KEYS: [Key; 3] = [Key::Class, Key::Base, Key::PerBit];
 
-static KINDS: [Kind; 6] = [
+/// The kinds, in the order of their words in the documents.
+static KINDS: [Kind; 9] = [
     Kind::Scale,
     Kind::Fir,
     Kind::Multiply,
     Kind::Divide,
     Kind::Root,
     Kind::Mcm,
+    Kind::Constdiv,
+    Kind::Poly,
+    Kind::Tfir,
 ];
 
 static CLASSES: [Class; 6] = [
@@ -122,6 +124,9 @@ impl Key {
             Key::Denominator => "denominator",
             Key::Constants => "constants",
             Key::Extra => "extra",
+            Key::Divisor => "divisor",
+            Key::Taps => "taps",
+            Key::Compressor => "compressor",
             Key::Delay => "delay",
             Key::Class => "class",
             Key::Base => "base",
@@ -135,10 +140,10 @@ impl Key {
         ensures { result ≡ sort_of self }
     {
         match self {
-            Key::Name | Key::Kind | Key::Target | Key::Class => Sort::Text,
+            Key::Name | Key::Kind | Key::Target | Key::Compressor | Key::Class => Sort::Text,
             Key::Exact | Key::Signed => Sort::Flag,
             Key::Coefficients => Sort::Coefficients,
-            Key::Constants => Sort::Numbers,
+            Key::Constants | Key::Taps => Sort::Numbers,
             Key::Delay => Sort::Tables,
             _ => Sort::Number,
         }
@@ -150,22 +155,6 @@ impl fmt::Display for Key {
 
     fn fmt<W: fmt::Write>(&self, f: &mut fmt::Formatter<W>) -> fmt::Result {
         f.write_str(self.name())
-    }
-}
-
-impl Kind {
-    /// The kind as a document writes it.
-    pub fn name(self) -> &'static str
-        ensures { result.now ≡ kind_name self }
-    {
-        match self {
-            Kind::Scale => "scale",
-            Kind::Fir => "fir",
-            Kind::Multiply => "multiply",
-            Kind::Divide => "divide",
-            Kind::Root => "root",
-            Kind::Mcm => "mcm",
-        }
     }
 }
 
@@ -211,39 +200,73 @@ pub(crate) fn class_named(name: &str) -> Option<Class>
     class_among(&CLASSES, name)
 }
 
-/// Whether an operator of the kind, or a delay line, has the key.
+/// Whether an operator of the kind has the key. The keys of all kinds are also those of all delay
+/// lines.
 fn has_key(kind: Kind, key: Key) -> bool
     ensures { result ≡ has_key kind key }
 {
     match key {
-        Key::Signed => !matches!(kind, Kind::Divide | Kind::Root),
-        Key::Width | Key::Lsb => !matches!(kind, Kind::Multiply | Kind::Divide),
+        Key::Signed => matches!(
+            kind,
+            Kind::Scale | Kind::Fir | Kind::Multiply | Kind::Mcm | Kind::Tfir
+        ),
+        Key::Width => matches!(
+            kind,
+            Kind::Scale
+                | Kind::Fir
+                | Kind::Root
+                | Kind::Mcm
+                | Kind::Constdiv
+                | Kind::Poly
+                | Kind::Tfir
+        ),
+        Key::Lsb => matches!(
+            kind,
+            Kind::Scale | Kind::Fir | Kind::Root | Kind::Mcm | Kind::Constdiv | Kind::Tfir
+        ),
         Key::WidthA | Key::LsbA | Key::WidthB | Key::LsbB => {
             matches!(kind, Kind::Multiply | Kind::Divide)
         }
-        Key::OutLsb => !matches!(kind, Kind::Mcm),
-        Key::Coefficients | Key::Denominator => matches!(kind, Kind::Scale | Kind::Fir),
-        Key::Constants | Key::Extra => matches!(kind, Kind::Mcm),
+        Key::OutLsb => matches!(
+            kind,
+            Kind::Scale | Kind::Fir | Kind::Multiply | Kind::Divide | Kind::Root | Kind::Poly
+        ),
+        Key::Coefficients | Key::Denominator => {
+            matches!(kind, Kind::Scale | Kind::Fir | Kind::Poly)
+        }
+        Key::Constants => matches!(kind, Kind::Mcm),
+        Key::Extra => matches!(kind, Kind::Mcm | Kind::Tfir),
+        Key::Divisor => matches!(kind, Kind::Constdiv),
+        Key::Taps => matches!(kind, Kind::Tfir),
+        Key::Compressor => matches!(kind, Kind::Scale | Kind::Fir | Kind::Multiply),
         _ => true,
     }
 }
 
-/// Whether one of the keys has the name, and the kind has that key. Where there is no kind, every
-/// key is known.
-pub(crate) fn is_known(keys: &[Key], kind: Option<Kind>, name: &str) -> bool
-    ensures { result ≡ is_known keys.now kind name.now }
+/// Whether documents of the first version, or of a later one, have the key: the first has no
+/// compressor.
+fn is_in_version(first: bool, key: Key) -> bool
+    ensures { result ≡ is_in_version first key }
 {
-    keys.iter()
-        .any(|key| may_stand(kind, *key) && key.name() == name)
+    !first || !matches!(key, Key::Compressor)
 }
 
-fn may_stand(kind: Option<Kind>, key: Key) -> bool
-    ensures { result ≡ may_stand kind key }
+fn may_stand(first: bool, kind: Option<Kind>, key: Key) -> bool
+    ensures { result ≡ may_stand first kind key }
 {
     match kind {
-        Some(kind) => has_key(kind, key),
+        Some(kind) => has_key(kind, key) && is_in_version(first, key),
         None => true,
     }
+}
+
+/// Whether one of the keys has the name, and a document of the version and the kind has that key.
+/// Where there is no kind, every key is known.
+pub(crate) fn is_known(keys: &[Key], first: bool, kind: Option<Kind>, name: &str) -> bool
+    ensures { result ≡ is_known keys.now first kind name.now }
+{
+    keys.iter()
+        .any(|key| may_stand(first, kind, *key) && key.name() == name)
 }
 
 fn all_have(kinds: &[Kind], key: Key) -> bool
@@ -261,9 +284,16 @@ fn has_to_stand(kind: Option<Kind>, key: Key) -> bool
     }
 }
 
+/// Whether a document may leave the key out.
+fn is_optional(key: Key) -> bool
+    ensures { result ≡ is_optional key }
+{
+    matches!(key, Key::Denominator | Key::Compressor | Key::Delay)
+}
+
 /// Whether the key has to stand there. Where there is no kind, only the keys of all kinds have to.
 pub(crate) fn is_needed(kind: Option<Kind>, key: Key) -> bool
     ensures { result ≡ is_needed kind key }
 {
-    !matches!(key, Key::Denominator | Key::Delay) && has_to_stand(kind, key)
+    !is_optional(key) && has_to_stand(kind, key)
 }

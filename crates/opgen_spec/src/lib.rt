@@ -11,11 +11,12 @@ mod lines;
 mod make;
 mod range;
 mod read;
+mod taps;
 
 pub use fault::SpecFault;
-pub use key::{Key, Kind};
+pub use key::Key;
 pub use opgen_operator::{
-    DelayLine, MAX_SPEC_NAME_LEN, Operator, Pair, PortFormat, Product, Several, Single, Spec, Sum,
-    is_cycle, is_history, is_spec_name,
+    DelayLine, Kind, MAX_SPEC_NAME_LEN, Operator, Pair, Poly, PortFormat, Product, Several, Single,
+    SmallDiv, Spec, Sum, Taps, is_cycle, is_history, is_spec_name,
 };
 pub use read::read_spec;

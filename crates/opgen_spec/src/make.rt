@@ -1,16 +1,18 @@
 ghost use Rattle.std.specs.Prelude.{◌≡◌, ◌≤◌, ◌^◌, pos, ◌++◌, IfOk, OnOk};
 ghost use Rattle.toml.specs.View.{view, items_view, table_view};
 ghost use Rattle.opgen_spec.specs.Numbers.{numerators, denominator_of};
-ghost use Rattle.opgen_spec.specs.Spec.{format_at, unsigned_at, sum_of, product_of, pair_of, single_of, several_of, operator_of, line_of, line_in, lines_of, spec_with};
+ghost use Rattle.opgen_spec.specs.Spec.{format_at, unsigned_at, counters_at, sum_of, product_of, pair_of, single_of, several_of, small_div_of, below_one_at, poly_of, taps_of, operator_of, line_of, line_in, lines_of, spec_with};
 
-use crate::document::{count_at, flag_at, items_at, number_at, small_at, text_at, value_at};
+use crate::document::{count_at, flag_at, items_at, number_at, small, small_at, text_at, value_at};
 use crate::form::are_texts;
-use crate::key::{Key, Kind, class_named};
+use crate::key::{Key, class_named};
 use crate::range::{coefficient, places_among};
 use opgen_list::{Items, Text};
 use opgen_net::Class;
 use opgen_num::Format;
-use opgen_operator::{DelayLine, Operator, Pair, Product, Several, Single, Spec, Sum};
+use opgen_operator::{
+    DelayLine, Kind, Operator, Pair, Poly, Product, Several, Single, SmallDiv, Spec, Sum, Taps,
+};
 use std::alloc::{AllocError, Global};
 use toml::{Table, Value};
 
@@ -69,6 +71,13 @@ fn denominator_of(table: &Table) -> i64
     }
 }
 
+/// Whether the document asks for larger counters.
+fn counters_at(table: &Table) -> bool
+    ensures { result ≡ counters_at (table_view table.now) }
+{
+    text_at(table, Key::Compressor) == "counters"
+}
+
 fn sum_of(alloc: Global, table: &Table) -> Result<Sum, AllocError>
     ensures { IfOk result (λ sum. sum ≡ sum_of (table_view table.now)) }
 {
@@ -78,6 +87,7 @@ fn sum_of(alloc: Global, table: &Table) -> Result<Sum, AllocError>
         coefs: numerators(alloc, items_at(table, Key::Coefficients))?,
         den: denominator_of(table),
         exact: flag_at(table, Key::Exact),
+        counters: counters_at(table),
     })
 }
 
@@ -88,6 +98,7 @@ fn product_of(table: &Table) -> Product
         a: format_at(table, Key::WidthA, Key::LsbA),
         b: format_at(table, Key::WidthB, Key::LsbB),
         out_lsb: small_at(table, Key::OutLsb),
+        counters: counters_at(table),
     }
 }
 
@@ -122,6 +133,49 @@ fn several_of(alloc: Global, table: &Table) -> Result<Several, AllocError>
     })
 }
 
+fn small_div_of(table: &Table) -> SmallDiv
+    ensures { result ≡ small_div_of (table_view table.now) }
+{
+    SmallDiv {
+        input: unsigned_at(table, Key::Width, Key::Lsb),
+        divisor: count_at(table, Key::Divisor),
+        exact: flag_at(table, Key::Exact),
+    }
+}
+
+/// The format of an unsigned input below 1.
+fn below_one_at(table: &Table) -> Format
+    ensures { result ≡ below_one_at (table_view table.now) }
+{
+    let width = count_at(table, Key::Width);
+    Format {
+        signed: false,
+        width,
+        lsb: small(-i64::from(width)),
+    }
+}
+
+fn poly_of(alloc: Global, table: &Table) -> Result<Poly, AllocError>
+    ensures { IfOk result (λ poly. poly ≡ poly_of (table_view table.now)) }
+{
+    Ok(Poly {
+        input: below_one_at(table),
+        out_lsb: small_at(table, Key::OutLsb),
+        coefs: numerators(alloc, items_at(table, Key::Coefficients))?,
+        den: denominator_of(table),
+    })
+}
+
+fn taps_of(alloc: Global, table: &Table) -> Result<Taps, AllocError>
+    ensures { IfOk result (λ taps. taps ≡ taps_of (table_view table.now)) }
+{
+    Ok(Taps {
+        input: format_at(table, Key::Width, Key::Lsb),
+        taps: numerators(alloc, items_at(table, Key::Taps))?,
+        extra: count_at(table, Key::Extra),
+    })
+}
+
 fn operator_of(alloc: Global, kind: Kind, table: &Table) -> Result<Operator, AllocError>
     ensures { IfOk result (λ op. op ≡ operator_of kind (table_view table.now)) }
 {
@@ -132,6 +186,9 @@ fn operator_of(alloc: Global, kind: Kind, table: &Table) -> Result<Operator, All
         Kind::Divide => Ok(Operator::Divide(pair_of(table))),
         Kind::Root => Ok(Operator::Root(single_of(table))),
         Kind::Mcm => Ok(Operator::Mcm(several_of(alloc, table)?)),
+        Kind::Constdiv => Ok(Operator::Constdiv(small_div_of(table))),
+        Kind::Poly => Ok(Operator::Poly(poly_of(alloc, table)?)),
+        Kind::Tfir => Ok(Operator::Tfir(taps_of(alloc, table)?)),
     }
 }
 

@@ -1,18 +1,22 @@
 ghost use Rattle.std.specs.Prelude.{◌≡◌, ◌<◌, ◌≤◌, ◌≤ℤ◌, ◌^◌, pos, negsuc, neg_ℤ, map, find, is_some};
 ghost use Rattle.toml.specs.View.{view, items_view, table_view};
-ghost use Rattle.opgen_spec.specs.Document.{list_of};
 ghost use Rattle.opgen_spec.specs.Numbers.{places_in, places_among, coefficient};
-ghost use Rattle.opgen_spec.specs.Faults.{outside, bounds, most_coefficients, is_beyond, first_beyond, length_outside, array_outside, number_outside, class_outside, coefficients_outside, value_outside, found, outside_among};
+ghost use Rattle.opgen_spec.specs.Document.{list_of, kind_of};
+ghost use Rattle.opgen_spec.specs.Faults.{outside, is_poly, width_bounds, out_bounds, bounds, coefficient_counts, is_beyond, first_beyond, length_outside, array_outside, number_outside, class_outside, compressor_outside, coefficients_outside, number_bounds, value_outside, found, outside_among};
 
 use crate::decimal::{decimal_of, numerator};
 use crate::document::{count_at, flag_at, items_at, kind_of, number_at, text_at, value_at};
 use crate::fault::SpecFault;
-use crate::key::{Key, Kind, class_named};
-use opgen_operator::most_input;
+use crate::key::{Key, class_named};
+use crate::taps::taps_outside;
+use opgen_operator::{Kind, most_input};
 use toml::{Table, Value};
 
 /// The greatest numerator of a coefficient, without its sign.
 const MAX_NUMERATOR: u64 = 1 << 30;
+
+/// The greatest constant or tap, without its sign.
+pub(crate) const MAX_CONSTANT: u64 = 2047;
 
 /// The number, where it is not within the bounds.
 pub(crate) fn outside(low: i64, high: i64, n: i64) -> Option<i64>
@@ -21,32 +25,62 @@ pub(crate) fn outside(low: i64, high: i64, n: i64) -> Option<i64>
     if low <= n && n <= high { None } else { Some(n) }
 }
 
+fn is_poly(kind: Option<Kind>) -> bool
+    ensures { result ≡ is_poly kind }
+{
+    matches!(kind, Some(Kind::Poly))
+}
+
+/// The bounds of an input's width: of a polynomial they are its own, and else they hang on the
+/// version.
+fn width_bounds(kind: Option<Kind>, version: u32, signed: bool) -> (i64, i64)
+    ensures { result ≡ width_bounds kind version signed }
+{
+    let fewest = if signed { 2 } else { 1 };
+    let most = if is_poly(kind) {
+        16
+    } else {
+        most_input(version)
+    };
+    (fewest, i64::from(most))
+}
+
+/// The bounds of the power of an output's lowest bit.
+fn out_bounds(kind: Option<Kind>) -> (i64, i64)
+    ensures { result ≡ out_bounds kind }
+{
+    if is_poly(kind) { (-16, 0) } else { (-32, 32) }
+}
+
 /// The bounds of the whole number at a key.
-fn bounds(version: u32, signed: bool, key: Key) -> Option<(i64, i64)>
-    ensures { result ≡ bounds version signed key }
+fn bounds(kind: Option<Kind>, version: u32, signed: bool, key: Key) -> Option<(i64, i64)>
+    ensures { result ≡ bounds kind version signed key }
 {
     match key {
         Key::Period => Some((1, 1_000_000)),
-        Key::Width | Key::WidthA | Key::WidthB => {
-            let fewest = if signed { 2 } else { 1 };
-            Some((fewest, i64::from(most_input(version))))
-        }
-        Key::Lsb | Key::LsbA | Key::LsbB | Key::OutLsb => Some((-32, 32)),
+        Key::Width | Key::WidthA | Key::WidthB => Some(width_bounds(kind, version, signed)),
+        Key::Lsb | Key::LsbA | Key::LsbB => Some((-32, 32)),
+        Key::OutLsb => Some(out_bounds(kind)),
         Key::Denominator => Some((1, 1 << 30)),
         Key::Extra => Some((0, 2)),
+        Key::Divisor => Some((2, 32)),
         Key::Base => Some((0, 1_000_000)),
         Key::PerBit => Some((0, 10_000)),
         _ => None,
     }
 }
 
-/// How many coefficients a kind may have.
-fn most_coefficients(kind: Option<Kind>) -> u32
-    ensures { result ≡ most_coefficients kind }
+/// How many coefficients a kind may have, at least and at most. The kinds that have none are not
+/// asked.
+fn coefficient_counts(kind: Option<Kind>) -> (u32, u32)
+    ensures { result ≡ coefficient_counts kind }
 {
     match kind {
-        Some(Kind::Fir) => 256,
-        _ => 1,
+        Some(Kind::Scale) => (1, 1),
+        Some(Kind::Fir) => (1, 256),
+        Some(Kind::Poly) => (2, 5),
+        Some(Kind::Multiply | Kind::Divide | Kind::Root | Kind::Mcm | Kind::Constdiv | Kind::Tfir)
+        | None => (1, 1),
     }
 }
 
@@ -119,10 +153,10 @@ fn length_outside(least: u32, most: u32, items: &[Value]) -> Option<i64>
 }
 
 /// The length of an array, or else its first number, that is out of bounds.
-fn array_outside(most: u32, limit: u64, items: &[Value]) -> Option<i64>
-    ensures { result ≡ array_outside most limit (items_view items.now) }
+pub(crate) fn array_outside(least: u32, most: u32, limit: u64, items: &[Value]) -> Option<i64>
+    ensures { result ≡ array_outside least most limit (items_view items.now) }
 {
-    match length_outside(1, most, items) {
+    match length_outside(least, most, items) {
         Some(length) => Some(length),
         None => first_beyond(limit, items),
     }
@@ -150,11 +184,35 @@ fn class_outside(line: u64, name: &str) -> Option<i64>
     }
 }
 
+/// The length of a compressor's name, if there is none of the name.
+fn compressor_outside(name: &str) -> Option<i64>
+    ensures { result ≡ compressor_outside name.now }
+{
+    if name == "dadda" || name == "counters" {
+        None
+    } else {
+        Some(name.len() as i64)
+    }
+}
+
 fn coefficients_outside(table: &Table) -> Option<i64>
     ensures { result ≡ coefficients_outside (table_view table.now) }
 {
-    let most = most_coefficients(kind_of(table));
-    array_outside(most, MAX_NUMERATOR, items_at(table, Key::Coefficients))
+    let (least, most) = coefficient_counts(kind_of(table));
+    array_outside(
+        least,
+        most,
+        MAX_NUMERATOR,
+        items_at(table, Key::Coefficients),
+    )
+}
+
+/// The bounds of the whole number at a key of the document, or of a delay line.
+fn number_bounds(table: &Table, key: Key) -> Option<(i64, i64)>
+    ensures { result ≡ number_bounds (table_view table.now) key }
+{
+    let version = count_at(table, Key::Version);
+    bounds(kind_of(table), version, flag_at(table, Key::Signed), key)
 }
 
 fn value_outside(line: u64, table: &Table, key: Key) -> Option<i64>
@@ -164,17 +222,12 @@ fn value_outside(line: u64, table: &Table, key: Key) -> Option<i64>
     match key {
         Key::Target => outside(1, 32, text_at(table, key).len() as i64),
         Key::Coefficients => coefficients_outside(table),
-        Key::Constants => array_outside(8, 2047, items_at(table, key)),
+        Key::Constants => array_outside(1, 8, MAX_CONSTANT, items_at(table, key)),
+        Key::Taps => taps_outside(items_at(table, key)),
+        Key::Compressor => compressor_outside(text_at(table, key)),
         Key::Delay => length_outside(0, 16, items_at(table, key)),
         Key::Class => class_outside(line, text_at(table, key)),
-        _ => number_outside(
-            bounds(
-                count_at(table, Key::Version),
-                flag_at(table, Key::Signed),
-                key,
-            ),
-            number_at(table, key),
-        ),
+        _ => number_outside(number_bounds(table, key), number_at(table, key)),
     }
 }
 

@@ -2,17 +2,17 @@ ghost use Rattle.std.specs.Prelude.{◌≡◌, IfOk, IsSomeAnd, MatchResult, Som
 ghost use Rattle.toml.specs.View.{table_view};
 ghost use Rattle.opgen_spec.specs.Document.{tree};
 ghost use Rattle.opgen_operator.specs.Ranges.{IsOperator};
-ghost use Rattle.opgen_spec.specs.Faults.{bad_version, bad_name, bad_kind, form_fault, value_fault, field_fault, read, Gives, IsNoTree};
+ghost use Rattle.opgen_spec.specs.Faults.{bad_version, bad_name, is_first_kind, has_kind, bad_kind, form_fault, value_fault, field_fault, read, Gives, IsNoTree};
 ghost use Rattle.opgen_operator.specs.Valid.{IsValidSpec};
 ghost use Rattle.opgen_spec.specs.Written.{IsAsWritten};
 
-use crate::document::{kind_of, number_at, text_at};
+use crate::document::{is_first, kind_of, number_at, text_at};
 use crate::fault::SpecFault;
 use crate::key::Key;
 use crate::limits::limit_fault;
 use crate::lines::{Check, check_fault};
 use crate::make::spec_with;
-use opgen_operator::{Spec, is_spec_name};
+use opgen_operator::{Kind, Spec, is_spec_name};
 use std::alloc::Global;
 use toml::Table;
 
@@ -51,13 +51,28 @@ fn bad_name(table: &Table) -> Option<SpecFault>
     }
 }
 
+fn is_first_kind(kind: Kind) -> bool
+    ensures { result ≡ is_first_kind kind }
+{
+    match kind {
+        Kind::Scale | Kind::Fir | Kind::Multiply | Kind::Divide | Kind::Root | Kind::Mcm => true,
+        Kind::Constdiv | Kind::Poly | Kind::Tfir => false,
+    }
+}
+
+/// Whether documents of the first version, or of a later one, have the kind: the first has six.
+fn has_kind(first: bool, kind: Kind) -> bool
+    ensures { result ≡ has_kind first kind }
+{
+    !first || is_first_kind(kind)
+}
+
 fn bad_kind(table: &Table) -> Option<SpecFault>
     ensures { result ≡ bad_kind (table_view table.now) }
 {
-    if kind_of(table).is_some() {
-        None
-    } else {
-        Some(SpecFault::BadKind)
+    match kind_of(table) {
+        Some(kind) if has_kind(is_first(table), kind) => None,
+        _ => Some(SpecFault::BadKind),
     }
 }
 

@@ -1,2 +1,3 @@
 pub mod Charging
 pub mod Lists
+pub mod FixedTable

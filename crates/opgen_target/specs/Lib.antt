@@ -1,4 +1,5 @@
 pub mod Classes
 pub mod Delays
 pub mod Ledger
+pub mod Program
 pub mod Tables

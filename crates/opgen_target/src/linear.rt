@@ -1,6 +1,8 @@
+//! Targets whose delays grow with the width by lines.
 ghost use Rattle.std.specs.Prelude.{◌≡◌, ◌*◌, ◌+◌, true, replicate, string_bytes};
 ghost use Rattle.opgen_target.specs.Tables.{AreLines, line_table, listed_ledger};
 
+use crate::ledger::Ledger;
 use crate::place::place_of;
 use crate::{Cell, Class, Target};
 use std::marker::Model;
@@ -10,7 +12,7 @@ use std::marker::Model;
 pub struct LinearTarget {
     name: String,
     lines: [(u32, u32); 6],
-    charged: [u64; 6],
+    ledger: Ledger,
 }
 
 impl Model for LinearTarget {
@@ -19,7 +21,7 @@ impl Model for LinearTarget {
 
     ghost Value = { LinearState };
 
-    ghost view = { λ t. record { name = string_bytes t.name; lines = t.lines; charged = t.charged } };
+    ghost view = { λ t. record { name = string_bytes t.name; lines = t.lines; charged = t.ledger.bits } };
 
     ghost invariant = { λ t. (length t.lines ≡ 6) × AreLines t.lines };
 }
@@ -33,7 +35,7 @@ impl LinearTarget {
         LinearTarget {
             name,
             lines,
-            charged: [0; 6],
+            ledger: Ledger::empty(),
         }
     }
 }
@@ -62,40 +64,14 @@ impl Target for LinearTarget {
     }
 
     fn clear(&mut self) {
-        self.charged = [0; 6];
+        self.ledger = Ledger::empty();
     }
 
     fn charge(&mut self, cell: Cell) {
-        let number = &mut self.charged[place_of(cell.class)];
-        *number = number.saturating_add(u64::from(cell.width));
+        self.ledger.charge(cell);
     }
 
     fn charged(&self, class: Class) -> u64 {
-        self.charged[place_of(class)]
-    }
-}
-
-#[cfg(test)]
-mod tests {
-    use super::*;
-    use std::test::Fail;
-
-    #[test]
-    fn ledger_ends(rt: HostRuntime) -> Result<(), Fail> {
-        let target = LinearTarget {
-            name: String::from_str(rt.alloc(), "full")?,
-            lines: [(0, 0); 6],
-            charged: [u64::MAX - 7; 6],
-        };
-        let mut target: Box<dyn Target> = Box::new(rt.alloc(), target)?;
-        for number in [u64::MAX - 2, u64::MAX, u64::MAX] {
-            target.charge(Cell {
-                class: Class::Add,
-                width: 5,
-            });
-            assert_eq!(rt; target.charged(Class::Add), number);
-        }
-        assert_eq!(rt; target.charged(Class::Table), u64::MAX - 7);
-        Ok(())
+        self.ledger.charged(class)
     }
 }

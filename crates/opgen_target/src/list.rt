@@ -1,6 +1,8 @@
+//! Targets whose delays are listed.
 ghost use Rattle.std.specs.Prelude.{◌≡◌, false, replicate, vec_len, string_bytes};
 ghost use Rattle.opgen_target.specs.Tables.{list_table, listed_ledger};
 
+use crate::ledger::Ledger;
 use crate::place::place_of;
 use crate::{Cell, Class, Target};
 use std::marker::Model;
@@ -10,7 +12,7 @@ use std::marker::Model;
 pub struct ListTarget {
     name: String,
     delays: Vec<u32>,
-    charged: [u64; 6],
+    ledger: Ledger,
 }
 
 impl Model for ListTarget {
@@ -19,7 +21,7 @@ impl Model for ListTarget {
 
     ghost Value = { ListState };
 
-    ghost view = { λ t. record { name = string_bytes t.name; delays = t.delays.items; charged = t.charged } };
+    ghost view = { λ t. record { name = string_bytes t.name; delays = t.delays.items; charged = t.ledger.bits } };
 
     ghost invariant = { λ t. vec_len t.delays ≡ 768 };
 }
@@ -33,7 +35,7 @@ impl ListTarget {
         ListTarget {
             name,
             delays: numbers,
-            charged: [0; 6],
+            ledger: Ledger::empty(),
         }
     }
 }
@@ -60,40 +62,14 @@ impl Target for ListTarget {
     }
 
     fn clear(&mut self) {
-        self.charged = [0; 6];
+        self.ledger = Ledger::empty();
     }
 
     fn charge(&mut self, cell: Cell) {
-        let number = &mut self.charged[place_of(cell.class)];
-        *number = number.saturating_add(u64::from(cell.width));
+        self.ledger.charge(cell);
     }
 
     fn charged(&self, class: Class) -> u64 {
-        self.charged[place_of(class)]
-    }
-}
-
-#[cfg(test)]
-mod tests {
-    use super::*;
-    use std::test::Fail;
-
-    #[test]
-    fn ledger_ends(rt: HostRuntime) -> Result<(), Fail> {
-        let target = ListTarget {
-            name: String::from_str(rt.alloc(), "full")?,
-            delays: vec![in rt.alloc(); 0; 768]?,
-            charged: [u64::MAX - 7; 6],
-        };
-        let mut target: Box<dyn Target> = Box::new(rt.alloc(), target)?;
-        for number in [u64::MAX - 2, u64::MAX, u64::MAX] {
-            target.charge(Cell {
-                class: Class::Register,
-                width: 5,
-            });
-            assert_eq!(rt; target.charged(Class::Register), number);
-        }
-        assert_eq!(rt; target.charged(Class::Wire), u64::MAX - 7);
-        Ok(())
+        self.ledger.charged(class)
     }
 }

@@ -29,33 +29,6 @@ fn listed(alloc: Global, name: &str, delays: Vec<u32>) -> Result<ListTarget, All
     Ok(ListTarget::new(name, delays))
 }
 
-fn plain(alloc: Global) -> Result<LinearTarget, AllocError> {
-    let lines = [(0, 0), (400, 0), (500, 30), (450, 0), (600, 50), (100, 0)];
-    linear(alloc, "plain", lines)
-}
-
-fn fixed_delay(class: Class, width: u32) -> u32
-    requires { width ≤ 128 }
-{
-    match class {
-        Class::Wire => 0,
-        Class::Logic => 350,
-        Class::Add => 400 + 100 * width.div_ceil(8),
-        Class::Choice => 400,
-        Class::Table => 700,
-        Class::Register => 80,
-    }
-}
-
-fn fixed(alloc: Global) -> Result<ListTarget, AllocError> {
-    let mut delays = Vec::new(alloc);
-    for place in 0..768 {
-        let width = place % 128 + 1;
-        delays.push(fixed_delay(CLASSES[place / 128], width as u32))?;
-    }
-    listed(alloc, "fixed", delays)
-}
-
 fn expect_delays(rt: &impl Abort, target: &Box<dyn Target>, rows: &[(Class, u32, u32)]) {
     for (class, width, delay) in rows {
         assert!(rt; (1..=128).contains(width));

@@ -1,8 +1,8 @@
 -- The widths of a design's ports, and rows of cells for them.
-use Rattle.std.proofs.Common.{◌≡◌, ℕ, zero, suc, ◌+◌, ◌-◌, ◌*◌, ◌/◌, ◌<◌, ◌≤◌, ◌^◌, Bool, true, false, List, [], ◌∷◌, ◌++◌, length, take, drop, get_or, map, Some, refl, sym, ap, ◌∙◌, subst, arith, append_assoc}
+use Rattle.std.proofs.Common.{◌≡◌, ℕ, zero, suc, ◌+◌, ◌*◌, ◌/◌, ◌<◌, ◌≤◌, ◌^◌, Bool, true, false, List, [], ◌∷◌, ◌++◌, length, drop, get_or, map, Some, refl, sym, ap, ◌∙◌, subst, arith, append_assoc}
 use Rattle.std.specs.Prelude.{All, IfSome, slice_get, if◌then◌else◌}
 use Rattle.std.proofs.Math.Nat.{mul-div_cancel_left}
-use Rattle.std.proofs.lemmas.List.{length-take, length-drop, drop_more}
+use Rattle.std.proofs.lemmas.List.{drop_more}
 use Rattle.std.proofs.lemmas.List.Elements.{All-nil, All-cons}
 use Rattle.opgen_design.specs.declared.design.Design.{Design}
 use Rattle.opgen_design.specs.declared.design.Dir.{Dir}
@@ -11,10 +11,7 @@ use Rattle.opgen_design.specs.declared.design.Port.{Port}
 use Rattle.opgen_design.specs.Run.{at_ports, is_in, is_out, input_widths}
 use Rattle.opgen_design.specs.Sound.{HasNumbers, IsSound, Width, PortPasses, at_port}
 use Rattle.opgen_num.specs.declared.TheConstants.{MAX_WIDTH}
-use Rattle.opgen_num.specs.Words.{FitWidths}
-use Rattle.opgen_vec.specs.Rows.{AreRowsOfCells}
 use Rattle.opgen_vec.specs.Writing.{row_count, row_count_of, HaveSameRows}
-use Rattle.opgen_vec.proofs.Rows.{length-cells}
 use Rattle.opgen_lanes.specs.Steps.{output_widths}
 
 -- the widths of the ports of one direction, port after port
@@ -75,31 +72,6 @@ narrow_on is (p ∷ ps) h = narrow_side (is p.dir) p.width (at_ports is ps (map 
 -- no port of a direction
 pub narrow_ports : (is : Dir → Bool) (d : Design) → IsSound d → All (λ width. width ≤ MAX_WIDTH) (at_ports is d.ports (map (λ p. p.width) d.ports))
 narrow_ports is d sound = narrow_on is d.ports (λ i p e. (subst (λ o. IfSome o (PortPasses d Width i)) e (sound.widths (at_port i))).1)
-
-pub row_room : (widths cells : List ℕ) (rows : ℕ) → 0 < rows → AreRowsOfCells widths rows cells → length widths ≤ length cells
-row_room widths cells zero some are = absurd (omega (arith, some))
-row_room widths cells (suc rows) some (is, are) =
-    omega (arith, length-cells widths (take (length widths) cells) is, length-take (length widths) cells)
-
-pub first_fits : (widths cells : List ℕ) (rows : ℕ) → 0 < rows → AreRowsOfCells widths rows cells
-    → FitWidths widths (take (length widths) cells)
-first_fits widths cells zero some are = absurd (omega (arith, some))
-first_fits widths cells (suc rows) some (is, are) = is
-
-pub later_rows : (widths cells : List ℕ) (rows : ℕ) → 0 < rows → AreRowsOfCells widths rows cells
-    → AreRowsOfCells widths (rows - 1) (drop (length widths) cells)
-later_rows widths cells zero some are = absurd (omega (arith, some))
-later_rows widths cells (suc rows) some (is, are) =
-    let less : rows ≡ suc rows - 1 = omega arith in
-    subst (λ n. AreRowsOfCells widths n (drop (length widths) cells)) less are
-
-pub length-rows_of_cells : (widths cells : List ℕ) (rows : ℕ) → AreRowsOfCells widths rows cells → length cells ≡ rows * length widths
-length-rows_of_cells widths cells zero none = omega (arith, ap length none)
-length-rows_of_cells widths cells (suc rows) are =
-    let room = row_room widths cells (suc rows) (omega arith) are in
-    let rest = length-rows_of_cells widths (drop (length widths) cells) rows are.1 in
-    let whole : suc rows * length widths ≡ length widths + rows * length widths = omega arith in
-    omega (arith, room, rest, whole, length-drop (length widths) cells)
 
 -- how many rows cells make
 pub counted : (columns rows : ℕ) (cells : List ℕ) → length cells ≡ rows * suc columns → row_count (suc columns) cells ≡ rows

@@ -21,8 +21,8 @@ use Rattle.opgen_operator.specs.Judged.{recent_words, recent_numbers, output_wor
 use Rattle.opgen_operator.specs.Outputs.{sum_shift, up, down}
 use Rattle.opgen_operator.specs.Ports.{one_input, port, sum_format}
 use Rattle.opgen_lanes.specs.Steps.{output_widths}
-use Rattle.opgen_top.specs.Running.{output_cells, rows_words}
-use Rattle.opgen_top.proofs.Taken.{at_ports-map}
+use Rattle.opgen_runs.specs.Rows.{output_cells, rows_words}
+use Rattle.opgen_runs.proofs.Rows.{at_ports-map}
 
 pub same_weighted : (ago : ℕ) (coefs : List ℤ) (x y : Recent) → ((k : ℕ) → x k ≡ y k) → weighted_from ago coefs x ≡ weighted_from ago coefs y
 same_weighted ago [] x y same = refl

@@ -28,6 +28,12 @@ lines_are_fixed status line (printed.worked n signals latency good e said) =
       read_fault = λ f. absurd (omega (arith, e, f));
       too_long = λ f. absurd (omega (arith, e, f));
     }
+lines_are_fixed status line (printed.all_good rows e said) =
+    record {
+      usage = λ f. absurd (omega (arith, e, f));
+      read_fault = λ f. absurd (omega (arith, e, f));
+      too_long = λ f. absurd (omega (arith, e, f));
+    }
 lines_are_fixed status line (printed.refused fault named e said) =
     record {
       usage = λ f. absurd (omega (arith, e, f));
@@ -68,7 +74,19 @@ lines_are_fixed status line (printed.vhdl_refused fault named e said) =
       read_fault = λ f. absurd (omega (arith, e, f));
       too_long = λ f. absurd (omega (arith, e, f));
     }
+lines_are_fixed status line (printed.ports_refused e said) =
+    record {
+      usage = λ f. absurd (omega (arith, e, f));
+      read_fault = λ f. absurd (omega (arith, e, f));
+      too_long = λ f. absurd (omega (arith, e, f));
+    }
 lines_are_fixed status line (printed.vectors_refused fault named e said) =
+    record {
+      usage = λ f. absurd (omega (arith, e, f));
+      read_fault = λ f. absurd (omega (arith, e, f));
+      too_long = λ f. absurd (omega (arith, e, f));
+    }
+lines_are_fixed status line (printed.bad_row row e said) =
     record {
       usage = λ f. absurd (omega (arith, e, f));
       read_fault = λ f. absurd (omega (arith, e, f));

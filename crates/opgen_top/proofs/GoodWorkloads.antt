@@ -13,9 +13,9 @@ use Rattle.opgen_workload.proofs.Counting.{all_count, one_count}
 use Rattle.opgen_top.specs.Answer.{Answer}
 use Rattle.opgen_top.specs.Circuit.{CircuitsServe, Serves}
 use Rattle.opgen_lanes.specs.Steps.{output_widths}
-use Rattle.opgen_top.specs.Running.{rows_words}
+use Rattle.opgen_runs.specs.Rows.{rows_words}
 use Rattle.opgen_top.specs.Workload.{IsWorked, WorkloadsAreGood, cycles, workload_cells}
-use Rattle.opgen_top.proofs.Columns.{length-rows_of_cells}
+use Rattle.opgen_vec.proofs.Rows.{length-rows_of_cells}
 use Rattle.opgen_top.proofs.FilterCells.{good_cells}
 use Rattle.opgen_top.proofs.Taken.{run_long}
 
@@ -60,7 +60,7 @@ module _ (n : ℕ) (table : Delays) (a : Answer) (w : IsWorked n table a)
       let words = serves.good inputs run.words run.runs place v at tt in
       let whole = good_cells (workload_sum n) false (codes "y") d cycles cells (omega (arith, length-cells n)) refl ins outs
       (initial_words d.signals) run.words run.runs place (place + w.planned.latency) v (omega (arith, lt)) at words in
-      subst (λ ys. IsGoodCycle (workload_spec n) cells ys w.planned.latency place) (sym run.outputs_are) whole
+      subst (λ ys. IsGoodCycle (workload_spec n) cells ys w.planned.latency place) (sym run.outputs_are) (λ _. whole)
 
 -- where every circuit serves, every workload is good
 pub workloads_good : CircuitsServe → WorkloadsAreGood

@@ -2,7 +2,6 @@
 use Rattle.std.proofs.Common.{◌≡◌, ℕ, Bool, List, ◌++◌, Option, Some, refl, ap, ◌∙◌}
 use Rattle.opgen_command.specs.declared.command.Command.TheVariants.{Generate}
 use Rattle.opgen_io.specs.Files.{Files}
-use Rattle.opgen_report.specs.Report.{report}
 use Rattle.opgen_vhdl.specs.DesignText.{text_of}
 use Rattle.opgen_vhdl.proofs.Walks.{one_design}
 use Rattle.opgen_top.specs.Answer.{Answer}
@@ -34,17 +33,13 @@ heading serves file workers enable devices files a after before now due ok store
       planned = planned;
       adders = g.adders;
       circuit = g.circuit;
-      text = text_of planned.design;
-      facts = report spec planned g.adders;
+      vhdl = text_of planned.design;
+      vhdl_is_text = refl;
       stores = stores ∙ ap (λ (b : Answer). Some (stored_all b.stores files)) g.answer;
-      design = planned.design;
       called = ap (λ d. d.name) g.circuit.plan.design;
       spelled = spelled;
       no_other = λ other s. one_design (text_of planned.design) other planned.design s spelled;
       sound = circuit_sound spec table enable planned g.adders g.circuit;
-      latency = planned.latency;
-      is_planned = (refl, refl);
-      reported = refl;
       line = λ held tells. line held tells ∙ ap (λ (b : Answer). Some (held ++ b.line)) g.answer;
       serves = serves spec table enable planned g.adders g.circuit;
     }

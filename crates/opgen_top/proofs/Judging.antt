@@ -4,8 +4,6 @@ use Rattle.std.specs.Prelude.{All}
 use Rattle.std.specs.List.{concat}
 use Rattle.std.proofs.lemmas.List.Elements.{All-nil, All-cons, All-append}
 use Rattle.opgen_num.specs.Words.{nat}
-use Rattle.opgen_num.proofs.Cuts.{take-below}
-use Rattle.std.proofs.lemmas.List.{take_all}
 use Rattle.opgen_design.specs.declared.design.Design.{Design}
 use Rattle.opgen_design.specs.Run.{Cycle, RunsOn, Words, at_ports, input_widths, is_in, is_out}
 use Rattle.opgen_design.specs.Run.{outputs_of as design_outputs}
@@ -18,12 +16,13 @@ use Rattle.opgen_workload.specs.Filter.{workload_spec}
 use Rattle.opgen_workload.specs.Judged.{Counts, IsFilter, IsGoodCycle}
 use Rattle.opgen_top.specs.Circuit.{ports_for}
 use Rattle.opgen_lanes.specs.Steps.{output_widths}
-use Rattle.opgen_top.specs.Running.{IsRunOf, output_cells}
+use Rattle.opgen_runs.specs.Rows.{IsRunOf, output_cells}
 use Rattle.opgen_top.specs.Workload.{RunsGood, cycles, workload_cells}
-use Rattle.opgen_top.proofs.Columns.{length-rows_of_cells, widths_on}
+use Rattle.opgen_vec.proofs.Rows.{length-rows_of_cells}
+use Rattle.opgen_top.proofs.Columns.{widths_on}
 use Rattle.opgen_top.proofs.RunRows.{length-run}
 use Rattle.opgen_top.proofs.ServedPorts.{served_widths}
-use Rattle.opgen_top.proofs.Taken.{at_ports-map}
+use Rattle.opgen_runs.proofs.Rows.{at_ports-map, nat-below}
 
 abbrev IsBelow : (width : ℕ) → ℕ → Type 0
 IsBelow width n = n < 2 ^ width
@@ -33,9 +32,6 @@ pub cells_below : (width rows : ℕ) (cells : List ℕ) → AreRowsOfCells (widt
 cells_below width zero cells none = subst (All (IsBelow width)) (sym none) (All-nil (IsBelow width))
 cells_below width (suc rows) [] are = absurd are.0
 cells_below width (suc rows) (c ∷ cells) are = All-cons (IsBelow width) c cells are.0.0 (cells_below width rows cells are.1)
-
-nat-below : (w : List Bool) → nat w < 2 ^ length w
-nat-below w = subst (λ v. nat v < 2 ^ length w) (take_all (length w) w (omega arith)) (take-below (length w) w)
 
 one_below : (width : ℕ) (ws : List (List Bool)) → map length ws ≡ width ∷ [] → All (IsBelow width) (map nat ws)
 one_below width [] e = absurd (cc)

@@ -11,6 +11,7 @@ pub mod Chosen
 pub mod Outcomes
 pub mod PreparingSpecs
 pub mod PreparingRuns
+pub mod PreparingChecks
 pub mod RunRows
 pub mod Unfetched
 pub mod Columns
@@ -19,6 +20,7 @@ pub mod ServedPorts
 pub mod Holding
 pub mod OneCircuit
 pub mod OneSimulated
+pub mod OneChecked
 pub mod OneAnswer
 pub mod Caused
 pub mod Storing
@@ -34,4 +36,5 @@ pub mod SomeRun
 pub mod SomeCircuit
 pub mod SomeReading
 pub mod SomeSimulated
+pub mod SomeChecked
 pub mod SomeAnswer

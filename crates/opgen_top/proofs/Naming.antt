@@ -15,7 +15,7 @@ use Rattle.opgen_net.specs.declared.net.Output.{Output}
 use Rattle.opgen_net.specs.Named.{begins_as_signal, port_names, IsFree, IsNamed}
 use Rattle.opgen_net.specs.Valid.{slice_width}
 use Rattle.opgen_operator.specs.declared.spec.Operator.{Operator}
-use Rattle.opgen_operator.specs.declared.spec.Operator.TheVariants.{Scale, Fir, Multiply, Divide, Root, Mcm}
+use Rattle.opgen_operator.specs.declared.spec.Operator.TheVariants.{Scale, Fir, Multiply, Divide, Root, Mcm, Constdiv, Poly, Tfir}
 use Rattle.opgen_operator.specs.declared.spec.PortFormat.{PortFormat}
 use Rattle.opgen_operator.specs.declared.spec.Spec.{Spec}
 use Rattle.opgen_operator.specs.Fits.{FitsSpec, name_and_width}
@@ -97,6 +97,13 @@ unfolding refused_words
 quotient_good true q r = refl
 quotient_good false q r = refl
 
+small_good : (exact : Bool) (q r : Format)
+    → are_good (codes "x" ∷ names (with_rest exact (record { name = codes "q"; format = q }) (record { name = codes "r"; format = r })))
+    ≡ true
+unfolding refused_words
+small_good true q r = refl
+small_good false q r = refl
+
 root_good : (exact : Bool) (y r : Format)
     → are_good (codes "x" ∷ names (with_rest exact (record { name = codes "y"; format = y }) (record { name = codes "r"; format = r })))
     ≡ true
@@ -112,14 +119,20 @@ operator_good (Multiply p) h = refl
 operator_good (Divide p) h = quotient_good p.exact _ _
 operator_good (Root r) h = root_good r.exact _ _
 operator_good (Mcm m) h = numbered_good (constant_format m.input) m.constants h.few
+operator_good (Constdiv c) h = small_good c.exact _ _
+operator_good (Poly p) h = refl
+operator_good (Tfir f) h = refl
 
-some_input : (op : Operator) → 1 ≤ length (operator_inputs op)
+pub some_input : (op : Operator) → 1 ≤ length (operator_inputs op)
 some_input (Scale s) = omega arith
 some_input (Fir s) = omega arith
 some_input (Multiply p) = omega arith
 some_input (Divide p) = omega arith
 some_input (Root r) = omega arith
 some_input (Mcm m) = omega arith
+some_input (Constdiv c) = omega arith
+some_input (Poly p) = omega arith
+some_input (Tfir f) = omega arith
 
 pub fitting_named : (spec : Spec) (net : Net) → IsValidSpec spec → FitsSpec spec net → IsNamed spec.name net
 fitting_named spec net valid fits =

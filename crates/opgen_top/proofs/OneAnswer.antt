@@ -1,6 +1,6 @@
 -- The words, the targets and the files leave at most one answer.
 use Rattle.std.proofs.Common.{◌≡◌, inl, inr, ℕ, ◌-◌, Bool, true, false, List, length, Option, Some, None, Result, Ok, Err, sym, ap, ◌∙◌, subst, arith}
-use Rattle.opgen_command.specs.declared.command.Command.TheVariants.{Generate, Vectors, Simulate, Workload}
+use Rattle.opgen_command.specs.declared.command.Command.TheVariants.{Generate, Vectors, Simulate, Workload, Check}
 use Rattle.opgen_io.specs.Answers.{fetched}
 use Rattle.opgen_design.specs.Sound.{IsSound}
 use Rattle.opgen_io.specs.declared.folder.FetchFault.{FetchFault}
@@ -20,6 +20,7 @@ use Rattle.opgen_workload.specs.Judged.{Counts, IsGoodCycle}
 use Rattle.opgen_workload.proofs.Counting.{one_count}
 use Rattle.opgen_top.specs.Answer.{Answer, period_too_short, worked, wrote, wrote_vectors}
 use Rattle.opgen_top.specs.Circuit.{IsCircuit, signals_of}
+use Rattle.opgen_top.specs.Check.{IsAnswerToCheck, IsAnswerToVhdl}
 use Rattle.opgen_top.specs.Due.{most_bytes, most_simulated_bytes, OnFetch, HasOneAnswer}
 use Rattle.opgen_top.specs.Running.{IsRunText}
 use Rattle.opgen_top.specs.Simulate.{IsSimulated}
@@ -28,7 +29,9 @@ use Rattle.opgen_top.specs.Targets.{Device, chosen, takes_lines, tuned}
 use Rattle.opgen_top.specs.Workload.{IsWorked, RunsGood, workload_cells}
 use Rattle.opgen_top.specs.Workload.{cycles as workload_cycles}
 use Rattle.opgen_top.proofs.OneCircuit.{OneOfEach, one_circuit, one_fitting}
-use Rattle.opgen_top.proofs.OneSimulated.{one_outputs, one_text, one_simulated}
+use Rattle.opgen_runs.proofs.Rows.{one_outputs}
+use Rattle.opgen_top.proofs.OneChecked.{one_to_vhdl}
+use Rattle.opgen_top.proofs.OneSimulated.{one_text, one_simulated}
 use Rattle.opgen_top.proofs.Planning.{circuit_sound}
 
 -- what is said of the bytes leaves one answer
@@ -168,3 +171,14 @@ one_answer each (Some (Simulate vhdl vectors out)) devices files a b h k =
     (λ text. OnFetch rows b (λ given. IsSimulated out text given b))
     (λ text. one_on_fetch rows a b (λ given. IsSimulated out text given a) (λ given. IsSimulated out text given b)
     (λ given. one_simulated out text given a b)) h k
+one_answer each (Some (Check spec vhdl vectors latency)) devices files a b h k =
+    let rows = fetched (files vectors) most_simulated_bytes in
+    let text = fetched (files vhdl) most_simulated_bytes in
+    one_on_fetch (fetched (files spec) most_bytes) a b
+    (λ s. OnFetch text a (λ t. OnFetch rows a (λ r. IsAnswerToCheck latency s t r a)))
+    (λ s. OnFetch text b (λ t. OnFetch rows b (λ r. IsAnswerToCheck latency s t r b)))
+    (λ s. one_on_fetch text a b (λ t. OnFetch rows a (λ r. IsAnswerToCheck latency s t r a))
+    (λ t. OnFetch rows b (λ r. IsAnswerToCheck latency s t r b))
+    (λ t. one_on_fetch rows a b (λ r. IsAnswerToCheck latency s t r a) (λ r. IsAnswerToCheck latency s t r b)
+    (λ r. one_on_reading (read (tree s)) a b (λ m. IsAnswerToVhdl m latency t r a) (λ m. IsAnswerToVhdl m latency t r b)
+    (λ m. one_to_vhdl m latency t r a b)))) h k

@@ -1,15 +1,16 @@
 -- A specification leaves at most one net, and one circuit for a table.
-use Rattle.std.proofs.Common.{◌≡◌, ℕ, Bool, List, refl, sym, ◌∙◌, subst}
+use Rattle.std.proofs.Common.{◌≡◌, ℕ, Bool, List, refl, sym, ap, ◌∙◌, subst}
 use Rattle.opgen_design.specs.declared.design.Design.{Design}
 use Rattle.opgen_net.specs.declared.net.Net.{Net}
 use Rattle.opgen_operator.specs.declared.spec.Operator.{Operator}
-use Rattle.opgen_operator.specs.declared.spec.Operator.TheVariants.{Scale, Fir, Multiply, Divide, Root, Mcm}
+use Rattle.opgen_operator.specs.declared.spec.Operator.TheVariants.{Scale, Fir, Multiply, Divide, Root, Mcm, Constdiv, Poly, Tfir}
 use Rattle.opgen_operator.specs.declared.spec.Spec.{Spec}
 use Rattle.opgen_pipe.specs.declared.planning.Planned.{Planned}
 use Rattle.opgen_pipe.specs.Planned.{IsPlanOf}
 use Rattle.opgen_mult.specs.OneNet.{HasOneNet as HasOneProduct}
-use Rattle.opgen_search.specs.Recipe.{OneAdderSet, OneNet}
+use Rattle.opgen_search.specs.Recipe.{OneAdderSet, OneLeastGraph, OneNet}
 use Rattle.opgen_target.specs.Delays.{Delays}
+use Rattle.opgen_tfir.specs.Recipe.{net_of_taps}
 use Rattle.opgen_top.specs.Circuit.{HasOneCircuit}
 use Rattle.opgen_top.specs.Kinds.{AreAddersOf, AreAddersOfOperator, IsNetOfOperator, IsFittingNet, HasOneNet}
 
@@ -18,6 +19,7 @@ pub record OneOfEach : Type 0 where
   pub products : HasOneProduct
   pub multiples : OneNet
   pub adders : OneAdderSet
+  pub graphs : OneLeastGraph
 
 module _ (one : OneOfEach) where
   one_of_operator : (op : Operator) (a b : Net) → IsNetOfOperator op a → IsNetOfOperator op b → a ≡ b
@@ -27,6 +29,10 @@ module _ (one : OneOfEach) where
   one_of_operator (Divide pair) a b h k = h ∙ sym k
   one_of_operator (Root single) a b h k = h ∙ sym k
   one_of_operator (Mcm several) a b h k = one.multiples several a b h k
+  one_of_operator (Constdiv small) a b h k = h ∙ sym k
+  one_of_operator (Poly poly) a b h k = h ∙ sym k
+  one_of_operator (Tfir taps) a b h k =
+      h.by ∙ ap (net_of_taps taps) (one.graphs taps.taps taps.input.width taps.extra h.set k.set h.graph k.graph h.least k.least) ∙ sym k.by
 
   one_adders_of : (op : Operator) (a b : List ℕ) → AreAddersOfOperator op a → AreAddersOfOperator op b → a ≡ b
   one_adders_of (Scale sum) a b h k = h ∙ sym k
@@ -34,7 +40,10 @@ module _ (one : OneOfEach) where
   one_adders_of (Multiply product) a b h k = h ∙ sym k
   one_adders_of (Divide pair) a b h k = h ∙ sym k
   one_adders_of (Root single) a b h k = h ∙ sym k
-  one_adders_of (Mcm several) a b h k = one.adders several a b h k
+  one_adders_of (Mcm several) a b h k = one.adders several.constants several.input.width several.extra a b h k
+  one_adders_of (Constdiv small) a b h k = h ∙ sym k
+  one_adders_of (Poly poly) a b h k = h ∙ sym k
+  one_adders_of (Tfir taps) a b h k = one.adders taps.taps taps.input.width taps.extra a b h k
 
   pub one_adders : (spec : Spec) (a b : List ℕ) → AreAddersOf spec a → AreAddersOf spec b → a ≡ b
   one_adders spec a b h k = one_adders_of spec.op a b h k

@@ -16,7 +16,8 @@ not_four result (inr (inr (inl e))) f = omega (arith, e, f)
 not_four result (inr (inr (inr (inl e)))) f = omega (arith, e, f)
 not_four result (inr (inr (inr (inr (inl e))))) f = omega (arith, e, f)
 not_four result (inr (inr (inr (inr (inr (inl e)))))) f = omega (arith, e, f)
-not_four result (inr (inr (inr (inr (inr (inr e)))))) f = omega (arith, e, f)
+not_four result (inr (inr (inr (inr (inr (inr (inl e))))))) f = omega (arith, e, f)
+not_four result (inr (inr (inr (inr (inr (inr (inr e))))))) f = omega (arith, e, f)
 
 not_five : (result : ℕ) → HasLine result → result ≡ 5 → ⊥
 not_five result (inl e) f = omega (arith, e, f)
@@ -25,7 +26,8 @@ not_five result (inr (inr (inl e))) f = omega (arith, e, f)
 not_five result (inr (inr (inr (inl e)))) f = omega (arith, e, f)
 not_five result (inr (inr (inr (inr (inl e))))) f = omega (arith, e, f)
 not_five result (inr (inr (inr (inr (inr (inl e)))))) f = omega (arith, e, f)
-not_five result (inr (inr (inr (inr (inr (inr e)))))) f = omega (arith, e, f)
+not_five result (inr (inr (inr (inr (inr (inr (inl e))))))) f = omega (arith, e, f)
+not_five result (inr (inr (inr (inr (inr (inr (inr e))))))) f = omega (arith, e, f)
 
 -- a status that comes with a line is that of the line that was put
 pub told_status : (status before now result : ℕ) → TellsOr status before now result → HasLine result → result ≡ status
@@ -44,7 +46,8 @@ due_line result (inr (inl e)) = inr (inl e)
 due_line result (inr (inr (inl e))) = inr (inr (inl e))
 due_line result (inr (inr (inr (inl e)))) = inr (inr (inr (inr (inl e))))
 due_line result (inr (inr (inr (inr (inl e))))) = inr (inr (inr (inr (inr (inl e)))))
-due_line result (inr (inr (inr (inr (inr e))))) = inr (inr (inr (inr (inr (inr e)))))
+due_line result (inr (inr (inr (inr (inr (inl e)))))) = inr (inr (inr (inr (inr (inr (inl e))))))
+due_line result (inr (inr (inr (inr (inr (inr e)))))) = inr (inr (inr (inr (inr (inr (inr e))))))
 
 pub not_three : (result : ℕ) → IsDueStatus result → result ≡ 3 → ⊥
 not_three result (inl e) f = omega (arith, e, f)
@@ -52,4 +55,5 @@ not_three result (inr (inl e)) f = omega (arith, e, f)
 not_three result (inr (inr (inl e))) f = omega (arith, e, f)
 not_three result (inr (inr (inr (inl e)))) f = omega (arith, e, f)
 not_three result (inr (inr (inr (inr (inl e))))) f = omega (arith, e, f)
-not_three result (inr (inr (inr (inr (inr e))))) f = omega (arith, e, f)
+not_three result (inr (inr (inr (inr (inr (inl e)))))) f = omega (arith, e, f)
+not_three result (inr (inr (inr (inr (inr (inr e)))))) f = omega (arith, e, f)

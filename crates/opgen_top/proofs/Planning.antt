@@ -14,11 +14,11 @@ use Rattle.opgen_net.specs.declared.net.Output as net_output
 use Rattle.opgen_net.specs.Flow.{Inputs}
 use Rattle.opgen_net.specs.Valid.{slice_width}
 use Rattle.opgen_operator.specs.declared.spec.Operator.{Operator}
-use Rattle.opgen_operator.specs.declared.spec.Operator.TheVariants.{Scale, Fir, Multiply, Divide, Root, Mcm}
+use Rattle.opgen_operator.specs.declared.spec.Operator.TheVariants.{Scale, Fir, Multiply, Divide, Root, Mcm, Constdiv, Poly, Tfir}
 use Rattle.opgen_operator.specs.declared.spec.PortFormat.{PortFormat}
 use Rattle.opgen_operator.specs.declared.spec.Spec.{Spec}
 use Rattle.opgen_operator.specs.Fits.{name_and_width}
-use Rattle.opgen_operator.specs.Ports.{constant_format, numbered, operator_inputs, operator_outputs, port, quotient_format, remainder_format, rest_format, root_format, with_rest}
+use Rattle.opgen_operator.specs.Ports.{constant_format, numbered, operator_inputs, operator_outputs, port, quotient_format, remainder_format, rest_format, root_format, small_quotient_format, small_rest_format, with_rest}
 use Rattle.opgen_operator.specs.Ranges.{IsOperator}
 use Rattle.opgen_operator.specs.Valid.{IsValidSpec}
 use Rattle.opgen_pipe.specs.declared.planning.Planned.{Planned}
@@ -59,6 +59,9 @@ few_inputs (Multiply p) = omega arith
 few_inputs (Divide p) = omega arith
 few_inputs (Root r) = omega arith
 few_inputs (Mcm m) = omega arith
+few_inputs (Constdiv c) = omega arith
+few_inputs (Poly p) = omega arith
+few_inputs (Tfir f) = omega arith
 
 few_outputs : (op : Operator) → IsOperator op → length (operator_outputs op) ≤ 8
 few_outputs (Scale s) h = omega arith
@@ -71,6 +74,11 @@ few_outputs (Root r) h =
 few_outputs (Mcm m) h =
     let few = h.few in
     omega (arith, few, numbered_long 0 (map (constant_format m.input) m.constants), length-map m.constants (constant_format m.input))
+few_outputs (Constdiv c) h =
+    let few = rest_few c.exact (port (codes "q") (small_quotient_format c)) (port (codes "r") (small_rest_format c)) in
+    omega (arith, few)
+few_outputs (Poly p) h = omega arith
+few_outputs (Tfir f) h = omega arith
 
 few_enables : (enable : Bool) → length (enable_inputs enable) ≤ 1
 few_enables true = omega arith

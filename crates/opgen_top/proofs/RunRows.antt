@@ -1,21 +1,21 @@
 -- Runs over rows, a cycle at a time.
 use Rattle.std.proofs.Common.{◌≡◌, ℕ, zero, suc, ◌+◌, ◌-◌, ◌*◌, ◌<◌, Bool, List, [], ◌∷◌, ◌++◌, length, map, take, drop, refl, sym, ap, ◌∙◌, subst, arith, append_assoc, append-nil, length-append}
 use Rattle.std.specs.List.{concat}
-use Rattle.std.proofs.Math.ListN.{drop_of_length-le}
-use Rattle.std.proofs.lemmas.List.{length-map, take_all}
+use Rattle.std.proofs.lemmas.List.{length-map}
 use Rattle.opgen_num.specs.Words.{nat}
 use Rattle.opgen_design.specs.declared.design.Design.{Design}
 use Rattle.opgen_design.specs.Run.{Words, Cycle, RunsOn, is_out, initial_words, input_widths, outputs_of}
 use Rattle.opgen_sim.specs.Sims.{Simulator, IsNew}
-use Rattle.opgen_runs.specs.Registers.{SameRegisters}
 use Rattle.opgen_runs.specs.Step.{IsStep, words_of}
-use Rattle.opgen_runs.proofs.Kept.{cycle-kept}
+use Rattle.opgen_runs.proofs.Rows.{rows-kept}
 use Rattle.opgen_runs.proofs.Starts.{at_ports-length}
 use Rattle.opgen_vec.specs.Rows.{AreRowsOfCells}
 use Rattle.opgen_vec.specs.Writing.{row_count_of, rows_text}
 use Rattle.opgen_lanes.specs.Steps.{output_widths}
-use Rattle.opgen_top.specs.Running.{output_cells, RunsRows, IsRunOf, IsRunText, rows_words}
-use Rattle.opgen_top.proofs.Columns.{all_rows, length-rows_of_cells, sides}
+use Rattle.opgen_runs.specs.Rows.{output_cells, RunsRows, IsRunOf, rows_words}
+use Rattle.opgen_top.specs.Running.{IsRunText}
+use Rattle.opgen_vec.proofs.Rows.{length-rows_of_cells}
+use Rattle.opgen_top.proofs.Columns.{all_rows, sides}
 
 no_rows : (d : Design) (now : List (List Bool)) (inputs : List ℕ) → RunsRows d now 0 inputs []
 no_rows d now inputs = record { words = []; runs = tt; outputs_are = refl }
@@ -58,21 +58,10 @@ one_step d e all given now next left inputs cells row numbers new so_far some sa
     let cycle = subst (λ r. Cycle d now (words_of (input_widths d) r) here.words next) first here.cycle in
     one_cycle d all given now next here.words left inputs cells new so_far some cycle (put ∙ ap (λ xs. cells ++ xs) here.outputs_are)
 
--- a run asks of the words before it only those of the registers
-run_kept : (d : Design) (now others : List (List Bool)) (inputs : List (List (List Bool))) (vs : List Words) → SameRegisters d now others
-    → RunsOn d now inputs vs → RunsOn d others inputs vs
-run_kept d now others [] [] same r = tt
-run_kept d now others [] (v ∷ vs) same r = absurd r
-run_kept d now others (given ∷ inputs) [] same r = absurd r
-run_kept d now others (given ∷ inputs) (v ∷ vs) same (next, cycle, r) = (next, cycle-kept d now others same given v next cycle, r)
-
 -- before the first cycle
 pub run_start : (d : Design) (s : Simulator) (rows : ℕ) (inputs : List ℕ) → IsNew d s → HasRun d rows inputs s.registers rows inputs []
-run_start d s rows inputs new outputs run = record {
-  words = run.words;
-  runs = run_kept d s.registers (initial_words d.signals) (rows_words (input_widths d) rows inputs) run.words new.registers run.runs;
-  outputs_are = run.outputs_are;
-}
+run_start d s rows inputs new outputs run =
+    rows-kept d s.registers (initial_words d.signals) rows inputs outputs new.registers run
 
 pub length-cells : (d : Design) (now given next : List (List Bool)) (v : Words) → Cycle d now given v next
     → length (output_cells d v) ≡ length (output_widths d)
@@ -105,14 +94,6 @@ pub length-step : (d e : Design) (now next : List (List Bool)) (row numbers : Li
 length-step d e now next row numbers same step =
     let here : IsStep d now row next numbers = subst (λ x. IsStep x now row next numbers) same step in
     ap length here.outputs_are ∙ length-cells d now (words_of (input_widths d) row) next here.words here.cycle
-
--- a buffer that is written whole
-pub written_back : {X : Type 0} (len : ℕ) (new old : List X) → len ≡ length old → length new ≡ length old
-    → take len (new ++ drop (length new) old) ≡ new
-written_back len new old e f =
-    ap (λ xs. take len (new ++ xs)) (drop_of_length-le old (omega (arith, f)))
-    ∙ ap (take len) (append-nil new)
-    ∙ take_all len new (omega (arith, e, f))
 
 -- the text of a run
 pub run_written : (d : Design) (rows : ℕ) (inputs outputs text ws us outs : List ℕ) → ws ≡ input_widths d → us ≡ output_widths d

@@ -19,8 +19,9 @@ use Rattle.opgen_streams.specs.Streams.{streams, words_in}
 use Rattle.opgen_vec.specs.Streams.{words, row_or_zeros, row_in, rows_in}
 use Rattle.opgen_vec.specs.Rows.{AreRowsOfCells}
 use Rattle.opgen_vec.specs.Writing.{row_count}
-use Rattle.opgen_top.specs.Running.{output_cells}
-use Rattle.opgen_top.proofs.Columns.{counted, length-rows_of_cells}
+use Rattle.opgen_runs.specs.Rows.{output_cells}
+use Rattle.opgen_vec.proofs.Rows.{length-rows_of_cells}
+use Rattle.opgen_top.proofs.Columns.{counted}
 use Rattle.opgen_top.proofs.RunRows.{HasRun, one_cycle}
 
 free : (enable : Option ℕ) (now later : List (List Bool)) (v : Words) (next after : List (List Bool)) (k : Driver) → IsNoRegister k

@@ -1,30 +1,35 @@
 -- That a specification or a workload has no answer is impossible: it has a circuit, or a refusal.
-use Rattle.std.proofs.Common.{◌≡◌, inl, inr, ⊎_elim, ℕ, zero, suc, ◌-◌, ◌<◌, ◌≤◌, Bool, true, false, List, [], length, map, Option, Some, None, Result, Ok, Err, refl, sym, subst}
+use Rattle.std.proofs.Common.{◌≡◌, inl, inr, ⊎_elim, ℕ, zero, suc, ◌-◌, ◌<◌, ◌≤◌, Bool, true, false, List, [], length, map, Option, Some, None, Result, Ok, Err, refl, sym, subst, arith}
 use Rattle.std.specs.List.{concat}
 use Rattle.std.proofs.lemmas.Bool.{cases_lt}
 use Rattle.opgen_design.specs.declared.design.Design.{Design}
 use Rattle.opgen_design.specs.Run.{input_widths}
+use Rattle.opgen_constdiv.specs.Recipe.{net_of as net_of_small}
+use Rattle.opgen_constdiv.proofs.Fits as divisions
 use Rattle.opgen_divide.specs.Recipe.{net_of_pair}
 use Rattle.opgen_divide.proofs.Whole as quotients
 use Rattle.opgen_fir.specs.Recipe.{net_of_sum}
 use Rattle.opgen_fir.proofs.SumNets.{sum-fits}
 use Rattle.opgen_verdict.proofs.Classical.{decided}
-use Rattle.opgen_search.proofs.SomeNet.{several_net}
+use Rattle.opgen_search.proofs.SomeNet.{several_net, some_least_graph}
 use Rattle.opgen_mult.proofs.ProductNets.{product_net}
 use Rattle.opgen_net.specs.declared.net.Net.{Net}
 use Rattle.opgen_operator.specs.declared.spec.Operator.{Operator}
-use Rattle.opgen_operator.specs.declared.spec.Operator.TheVariants.{Scale, Fir, Multiply, Divide, Root, Mcm}
+use Rattle.opgen_operator.specs.declared.spec.Operator.TheVariants.{Scale, Fir, Multiply, Divide, Root, Mcm, Constdiv, Poly, Tfir}
 use Rattle.opgen_operator.specs.declared.spec.Spec.{Spec}
 use Rattle.opgen_operator.specs.Bounded.{OutputsAreWide, ProductsHaveWidth}
 use Rattle.opgen_operator.specs.Fits.{FitsSpecsOf}
 use Rattle.opgen_operator.specs.Held.{OutputsHold}
 use Rattle.opgen_operator.specs.Ports.{inputs_of}
 use Rattle.opgen_operator.specs.Valid.{IsValidSpec}
+use Rattle.opgen_operator.proofs.Accepted.{accepted_ranges}
 use Rattle.opgen_pipe.specs.declared.planning.Planned.{Planned}
 use Rattle.opgen_pipe.specs.Cells.{classes, design_cells, need}
 use Rattle.opgen_pipe.specs.Copies.{net_latency}
 use Rattle.opgen_pipe.specs.Pipelined.{design_of}
 use Rattle.opgen_pipe.specs.Planned.{most_signals, slots_of}
+use Rattle.opgen_poly.specs.Recipe.{net_of_poly}
+use Rattle.opgen_poly.proofs.Fits as polynomials
 use Rattle.opgen_report.specs.Report.{report}
 use Rattle.opgen_lanes.specs.Steps.{output_widths}
 use Rattle.opgen_schedule.specs.Schedule.{greatest_time}
@@ -36,6 +41,8 @@ use Rattle.opgen_spec.proofs.Validity.{valid_read}
 use Rattle.opgen_sqrt.specs.Recipe.{net_of_single}
 use Rattle.opgen_sqrt.proofs.Whole as roots
 use Rattle.opgen_target.specs.Delays.{Delays, setup}
+use Rattle.opgen_tfir.specs.Recipe.{net_of_taps}
+use Rattle.opgen_tfir.proofs.Filters as filters
 use Rattle.opgen_target.specs.Ledger.{width_sum}
 use Rattle.opgen_vec.specs.Rows.{AreRowsOfCells}
 use Rattle.opgen_vec.specs.Stimulus.{stimulus_cells}
@@ -48,13 +55,14 @@ use Rattle.opgen_workload.proofs.Valid.{workload_valid}
 use Rattle.opgen_top.specs.Answer.{Answer, not_adjustable, period_too_short, refused, too_large, unknown_target, worked, wrote, wrote_vectors}
 use Rattle.opgen_top.specs.Circuit.{CircuitsServe, IsCircuit, Serves, signals_of}
 use Rattle.opgen_top.specs.Kinds.{AreAddersOf, AreAddersOfOperator, IsFittingNet, IsNetOfOperator}
-use Rattle.opgen_top.specs.Running.{IsRunOf, output_cells, rows_words}
+use Rattle.opgen_runs.specs.Rows.{IsRunOf, output_cells, rows_words}
 use Rattle.opgen_top.specs.Specified.{IsAnswerToSpec, IsGenerated, IsVectors, OnLines, OnReading, OnTable, OnTarget}
 use Rattle.opgen_top.specs.Targets.{Device, chosen, takes_lines, tuned}
 use Rattle.opgen_top.specs.Workload.{IsAnswerToWorkload, IsWorked, cycles, workload_cells}
 use Rattle.opgen_top.proofs.Building.{accepted_kind, accepted_scale, kind_fitting}
 use Rattle.opgen_top.proofs.ServedPorts.{served_widths}
-use Rattle.opgen_top.proofs.SomeRun.{rows_words-fit}
+use Rattle.opgen_runs.proofs.Rows.{rows_words-widths}
+use Rattle.opgen_vec.proofs.Rows.{length-rows_of_cells}
 
 -- ---- the net and the adders
 
@@ -83,7 +91,18 @@ module _ (laws : NetLaws) (spec : Spec) (valid : IsValidSpec spec)
   of_kind (Root r) e = with_net (Root r) (net_of_single r) [] e refl (roots.fits_specs r (accepted_kind spec valid (Root r) e)) refl
   of_kind (Mcm m) e =
       several_net laws.hold laws.wide m (accepted_kind spec valid (Mcm m) e)
-      (λ made. with_net (Mcm m) made.net made.is.set e made.is made.fits made.is.adders)
+      (λ made. with_net (Mcm m) made.net made.is.set e made.is made.fits made.is.least.adders)
+  of_kind (Constdiv c) e =
+      with_net (Constdiv c) (net_of_small c.exact c.input.width c.divisor) [] e refl
+      (divisions.fits_specs c (accepted_kind spec valid (Constdiv c) e)) refl
+  of_kind (Poly p) e =
+      with_net (Poly p) (net_of_poly p) [] e refl (polynomials.fits_specs p (accepted_kind spec valid (Poly p) e)) refl
+  of_kind (Tfir f) e =
+      let accepted = accepted_kind spec valid (Tfir f) e in
+      some_least_graph f.taps f.input.width f.extra (accepted_ranges (Tfir f) accepted).taps (
+      λ least. with_net (Tfir f) (net_of_taps f least.graph) least.set e
+      (record { set = least.set; graph = least.graph; least = least.is; by = refl })
+      (filters.fits_specs f accepted least.graph least.serves laws.hold) least.is.adders)
 
   some_fitting : ⊥
   some_fitting = of_kind spec.op refl
@@ -132,7 +151,7 @@ some_run spec valid latency d serves seed count =
     let fit : AreRowsOfCells ws count cells =
     subst (λ ks. AreRowsOfCells ks count cells) (sym (served_widths spec d serves.ports))
     (rows_fit spec.op (inputs_of spec) count seed (inputs_wide spec.op valid.op.ranges)) in
-    let run = serves.runs (rows_words ws count cells) (rows_words-fit ws count cells fit) in
+    let run = serves.runs (rows_words ws count cells) (rows_words-widths ws count cells (omega (arith, length-rows_of_cells ws cells count fit))) in
     (concat (map (output_cells d) run.0), record { words = run.0; runs = run.1; outputs_are = refl })
 
 some_count : (P : ℕ → Type 0) (most : ℕ) → ((count : ℕ) → Counts P most count → ⊥) → ⊥

@@ -1,24 +1,13 @@
 -- The cycles of a run that count, and their inputs.
-use Rattle.std.proofs.Common.{◌≡◌, ℕ, suc, Bool, true, false, cond, List, [], ◌∷◌, length, map, drop, refl, sym, ap, ◌∙◌, arith}
+use Rattle.std.proofs.Common.{◌≡◌, ℕ, suc, Bool, true, false, List, [], ◌∷◌, length, map, drop, refl, sym, ap, ◌∙◌, arith}
 use Rattle.std.specs.Prelude.{All}
 use Rattle.std.proofs.lemmas.List.{length-map}
 use Rattle.std.proofs.lemmas.List.Elements.{All-nil, All-cons, All-head, All-tail}
 use Rattle.opgen_design.specs.declared.design.Design.{Design}
-use Rattle.opgen_design.specs.declared.design.Dir.{Dir}
-use Rattle.opgen_design.specs.declared.design.Port.{Port}
 use Rattle.opgen_design.specs.Enabled.{marked, ones_at}
 use Rattle.opgen_design.specs.Run.{Words, RunsOn, AreWords, at_ports, is_in, input_widths}
+use Rattle.opgen_runs.proofs.Rows.{at_ports-map}
 use Rattle.opgen_pipe.specs.Laws.{counted, net_inputs}
-
-module _ {X Y : Type 0} (f : X → Y) (is : Dir → Bool) where
-  pub at_ports-map : (ps : List Port) (xs : List X) → map f (at_ports is ps xs) ≡ at_ports is ps (map f xs)
-  at_ports-map [] xs = refl
-  at_ports-map (p ∷ ps) [] = refl
-  at_ports-map (p ∷ ps) (x ∷ xs) = put (is p.dir) (at_ports is ps xs) (at_ports is ps (map f xs)) (at_ports-map ps xs)
-    where
-      put : (b : Bool) (ys : List X) (zs : List Y) → map f ys ≡ zs → map f (cond b (x ∷ ys) ys) ≡ cond b (f x ∷ zs) zs
-      put true ys zs e = ap (λ ks. f x ∷ ks) e
-      put false ys zs e = e
 
 -- the inputs of a run have the widths of its input ports
 pub run_words : (d : Design) (now : List (List Bool)) (inputs : List (List (List Bool))) (vs : List Words) → RunsOn d now inputs vs

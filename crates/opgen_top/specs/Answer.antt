@@ -3,7 +3,7 @@ use Rattle.std.specs.Prelude.{ℕ, List, [], ◌∷◌, ◌++◌, codes}
 use Rattle.opgen_read.specs.declared.fault.ReadFault.{ReadFault}
 use Rattle.opgen_spec.specs.declared.fault.SpecFault.{SpecFault}
 use Rattle.opgen_vec.specs.declared.fault.VecFault.{VecFault}
-use Rattle.opgen_top.specs.Lines.{wrote_line, wrote_vectors_line, simulated_line, worked_line, refused_line, unknown_target_line, not_adjustable_line, period_too_short_line, too_large_line, usage_line, read_fault_line, vhdl_refused_line, vectors_refused_line, too_long_line}
+use Rattle.opgen_top.specs.Lines.{wrote_line, wrote_vectors_line, simulated_line, worked_line, good_line, refused_line, unknown_target_line, not_adjustable_line, period_too_short_line, too_large_line, usage_line, read_fault_line, vhdl_refused_line, ports_refused_line, vectors_refused_line, bad_row_line, too_long_line}
 use Rattle.opgen_top.specs.Stores.{Store}
 
 pub record Answer : Type 0 where
@@ -46,6 +46,10 @@ simulated out count rows = success (simulated_line count) (file out rows ∷ [])
 abbrev pub worked : (n signals latency good : ℕ) → Answer
 worked n signals latency good = success (worked_line n signals latency good) []
 
+-- all rows that were judged are good
+abbrev pub all_good : (rows : ℕ) → Answer
+all_good rows = success (good_line rows) []
+
 abbrev pub refused : SpecFault → Answer
 refused fault = refusal 1 (refused_line fault)
 
@@ -70,8 +74,14 @@ read_fault = refusal 3 read_fault_line
 abbrev pub vhdl_refused : ReadFault → Answer
 vhdl_refused fault = refusal 6 (vhdl_refused_line fault)
 
+abbrev pub ports_refused : Answer
+ports_refused = refusal 6 ports_refused_line
+
 abbrev pub vectors_refused : VecFault → Answer
 vectors_refused fault = refusal 7 (vectors_refused_line fault)
+
+abbrev pub bad_row : (row : ℕ) → Answer
+bad_row row = refusal 8 (bad_row_line row)
 
 abbrev pub too_long : Answer
 too_long = refusal 9 too_long_line

@@ -39,11 +39,12 @@ ports_for spec enable = map input_port (enable_inputs enable) ++ map (port_of In
 pub record Serves (spec : Spec) (latency : ℕ) (enable : Bool) (d : Design) : Type 0 where
   pub ports : d.ports ≡ ports_for spec enable
   pub runs : (inputs : Inputs) → All (AreWords (input_widths d)) inputs → (vs : List Words) × Run d inputs vs
-  pub good : (inputs : Inputs) (vs : List Words) → Run d inputs vs
-      → (t : ℕ) (v : Words) → slice_get (counted enable vs vs) (t + latency) ≡ Some v
-      → IsInRange spec (recent_words (inputs_of spec) (net_inputs enable (counted enable vs inputs)) t)
-      → IsGood spec (recent_words (inputs_of spec) (net_inputs enable (counted enable vs inputs)) t)
-      (output_words (outputs_of spec) (design_outputs d v))
+  pub good : (inputs : Inputs) (vs : List Words) → Run d inputs vs → (t : ℕ) (v : Words)
+      → let enabled_cycles = counted enable vs vs in
+      let enabled_inputs = net_inputs enable (counted enable vs inputs) in
+      let history = recent_words (inputs_of spec) enabled_inputs t in
+      slice_get enabled_cycles (t + latency) ≡ Some v → IsInRange spec history
+      → IsGood spec history (output_words (outputs_of spec) (design_outputs d v))
 
 -- the signals of the design that a net has for a table and a period
 abbrev pub signals_of : Delays → (period : ℕ) → Net → ℕ

@@ -1,14 +1,15 @@
 -- The answer that is due: by the words of the command line, then by the command's files and what they hold, and by the
 -- targets.
-use Rattle.std.specs.Prelude.{ℕ, ◌≡◌, List, ◌++◌, Option, Some, None, Result, Ok, Err}
+use Rattle.std.specs.Prelude.{ℕ, ◌≡◌, Bool, List, ◌++◌, Option, Some, None, Result, Ok, Err}
 use Rattle.opgen_command.specs.Command.{command_of}
 use Rattle.opgen_command.specs.declared.command.Command.{Command}
-use Rattle.opgen_command.specs.declared.command.Command.TheVariants.{Generate, Vectors, Simulate, Workload}
+use Rattle.opgen_command.specs.declared.command.Command.TheVariants.{Generate, Vectors, Simulate, Workload, Check}
 use Rattle.opgen_io.specs.Answers.{fetched}
 use Rattle.opgen_io.specs.Files.{Files}
 use Rattle.opgen_io.specs.declared.folder.FetchFault.{FetchFault}
 use Rattle.opgen_io.specs.declared.folder.FetchFault.TheVariants as fetch
 use Rattle.opgen_top.specs.Answer.{Answer, usage, read_fault, too_long}
+use Rattle.opgen_top.specs.Check.{IsAnswerToCheck}
 use Rattle.opgen_top.specs.Simulate.{IsSimulated}
 use Rattle.opgen_top.specs.Specified.{IsAnswerToSpec, IsGenerated, IsVectors}
 use Rattle.opgen_top.specs.Stores.{stored_all}
@@ -19,7 +20,7 @@ use Rattle.opgen_top.specs.Workload.{IsAnswerToWorkload}
 abbrev pub most_bytes : ℕ
 most_bytes = 1048576
 
--- and each of the files that `simulate` takes
+-- and each of the files of VHDL and of vectors
 abbrev pub most_simulated_bytes : ℕ
 most_simulated_bytes = 67108864
 
@@ -39,6 +40,10 @@ IsAnswerOfCommand (Simulate vhdl vectors out) devices files a =
     OnFetch (fetched (files vhdl) most_simulated_bytes) a (λ text.
     OnFetch (fetched (files vectors) most_simulated_bytes) a (λ rows. IsSimulated out text rows a))
 IsAnswerOfCommand (Workload n) devices files a = IsAnswerToWorkload n devices a
+IsAnswerOfCommand (Check spec vhdl vectors latency) devices files a =
+    OnFetch (fetched (files spec) most_bytes) a (λ bytes.
+    OnFetch (fetched (files vhdl) most_simulated_bytes) a (λ text.
+    OnFetch (fetched (files vectors) most_simulated_bytes) a (λ rows. IsAnswerToCheck latency bytes text rows a)))
 
 abbrev pub IsAnswerOf : Option Command → List Device → Files → Answer → Type 0
 IsAnswerOf None devices files a = a ≡ usage
@@ -48,6 +53,11 @@ IsAnswerOf (Some command) devices files a = IsAnswerOfCommand command devices fi
 abbrev pub HasOneAnswer : Type 0
 HasOneAnswer = (command : Option Command) (devices : List Device) (files : Files) (a b : Answer)
     → IsAnswerOf command devices files a → IsAnswerOf command devices files b → a ≡ b
+
+-- the answer to `generate` with one number of workers is the answer with every other
+abbrev pub IsForAllWorkers : Type 0
+IsForAllWorkers = (file : List ℕ) (enable : Bool) (some others : ℕ) (devices : List Device) (files : Files) (a : Answer)
+    → IsAnswerOf (Some (Generate file some enable)) devices files a → IsAnswerOf (Some (Generate file others enable)) devices files a
 
 -- and that they leave none is impossible
 abbrev pub HasSomeAnswer : Type 0

@@ -1,5 +1,6 @@
 -- The net of each kind: one case a kind.
 use Rattle.std.specs.Prelude.{ℕ, ◌≡◌, List, []}
+use Rattle.opgen_constdiv.specs.Recipe.{net_of as net_of_small}
 use Rattle.opgen_divide.specs.Recipe.{net_of_pair}
 use Rattle.opgen_fir.specs.Recipe.{net_of_sum}
 use Rattle.opgen_mult.specs.Recipe.{IsNetOfProduct}
@@ -7,10 +8,21 @@ use Rattle.opgen_net.specs.declared.net.Net.{Net}
 use Rattle.opgen_net.specs.Named.{IsNamed}
 use Rattle.opgen_operator.specs.declared.spec.Spec.{Spec}
 use Rattle.opgen_operator.specs.declared.spec.Operator.{Operator}
-use Rattle.opgen_operator.specs.declared.spec.Operator.TheVariants.{Scale, Fir, Multiply, Divide, Root, Mcm}
+use Rattle.opgen_operator.specs.declared.spec.Operator.TheVariants.{Scale, Fir, Multiply, Divide, Root, Mcm, Constdiv, Poly, Tfir}
 use Rattle.opgen_operator.specs.Fits.{FitsSpec}
-use Rattle.opgen_search.specs.Recipe.{IsAdderSetOf, IsNetOfSeveral}
+use Rattle.opgen_poly.specs.Recipe.{net_of_poly}
+use Rattle.opgen_graph.specs.declared.ranks.Graph.{Graph}
+use Rattle.opgen_operator.specs.declared.spec.Taps.{Taps}
+use Rattle.opgen_search.specs.Recipe.{IsAdderSetOf, IsLeastGraphOf, IsNetOfSeveral}
 use Rattle.opgen_sqrt.specs.Recipe.{net_of_single}
+use Rattle.opgen_tfir.specs.Recipe.{net_of_taps}
+
+-- the net of a transposed filter by the graph of the least set for its taps
+pub record IsNetOfTaps (f : Taps) (net : Net) : Type 0 where
+  pub set : List ℕ
+  pub graph : Graph
+  pub least : IsLeastGraphOf f.taps f.input.width f.extra set graph
+  pub by : net ≡ net_of_taps f graph
 
 -- the net of a specification, by the recipe of its kind
 abbrev pub IsNetOfOperator : Operator → Net → Type 0
@@ -20,6 +32,9 @@ IsNetOfOperator (Multiply product) net = IsNetOfProduct product net
 IsNetOfOperator (Divide pair) net = net ≡ net_of_pair pair
 IsNetOfOperator (Root single) net = net ≡ net_of_single single
 IsNetOfOperator (Mcm several) net = IsNetOfSeveral several net
+IsNetOfOperator (Constdiv small) net = net ≡ net_of_small small.exact small.input.width small.divisor
+IsNetOfOperator (Poly poly) net = net ≡ net_of_poly poly
+IsNetOfOperator (Tfir taps) net = IsNetOfTaps taps net
 
 abbrev pub IsNetOf : Spec → Net → Type 0
 IsNetOf spec net = IsNetOfOperator spec.op net
@@ -28,10 +43,17 @@ IsNetOf spec net = IsNetOfOperator spec.op net
 abbrev pub HasOneNet : Type 0
 HasOneNet = (spec : Spec) (a b : Net) → IsNetOf spec a → IsNetOf spec b → a ≡ b
 
--- the numbers of its adder graph: several constants have one
+-- the numbers of its adder graph: several constants and transposed filters have one
 abbrev pub AreAddersOfOperator : Operator → List ℕ → Type 0
-AreAddersOfOperator (Mcm several) adders = IsAdderSetOf several adders
-AreAddersOfOperator _ adders = adders ≡ []
+AreAddersOfOperator (Scale sum) adders = adders ≡ []
+AreAddersOfOperator (Fir sum) adders = adders ≡ []
+AreAddersOfOperator (Multiply product) adders = adders ≡ []
+AreAddersOfOperator (Divide pair) adders = adders ≡ []
+AreAddersOfOperator (Root single) adders = adders ≡ []
+AreAddersOfOperator (Mcm several) adders = IsAdderSetOf several.constants several.input.width several.extra adders
+AreAddersOfOperator (Constdiv small) adders = adders ≡ []
+AreAddersOfOperator (Poly poly) adders = adders ≡ []
+AreAddersOfOperator (Tfir taps) adders = IsAdderSetOf taps.taps taps.input.width taps.extra adders
 
 abbrev pub AreAddersOf : Spec → List ℕ → Type 0
 AreAddersOf spec adders = AreAddersOfOperator spec.op adders

@@ -9,6 +9,7 @@ pub mod Answer
 pub mod Specified
 pub mod Simulate
 pub mod Workload
+pub mod Check
 pub mod Due
 pub mod Headline
 pub mod Left

@@ -22,6 +22,9 @@ worked_line n signals latency good =
     codes "workload " ++ decimal n ++ codes " signals " ++ decimal signals ++ codes " latency " ++ decimal latency ++ codes " good "
     ++ decimal good ++ codes "\n"
 
+abbrev pub good_line : (rows : ℕ) → List ℕ
+good_line rows = codes "good " ++ decimal rows ++ codes "\n"
+
 abbrev pub refused_line : SpecFault → List ℕ
 refused_line fault = codes "specification: " ++ fault_text fault ++ codes "\n"
 
@@ -46,8 +49,14 @@ read_fault_line = codes "read fault\n"
 abbrev pub vhdl_refused_line : ReadFault → List ℕ
 vhdl_refused_line fault = codes "vhdl: " ++ vhdl_fault_text fault ++ codes "\n"
 
+abbrev pub ports_refused_line : List ℕ
+ports_refused_line = codes "vhdl: Ports\n"
+
 abbrev pub vectors_refused_line : VecFault → List ℕ
 vectors_refused_line fault = codes "vectors: " ++ vectors_fault_text fault ++ codes "\n"
+
+abbrev pub bad_row_line : (row : ℕ) → List ℕ
+bad_row_line row = codes "row " ++ decimal row ++ codes " not good\n"
 
 abbrev pub too_long_line : List ℕ
 too_long_line = codes "too long\n"

@@ -2,6 +2,10 @@
 use Rattle.std.specs.Prelude.{ℕ, ◌≡◌, ◌⊎◌, ◌≤◌, Bool, List, [], length, map, Option, Some, None, Result, Ok, Err, Vec, string_bytes}
 use Rattle.std.specs.declared.alloc.Global.{Global}
 use Rattle.std.specs.Str.Lines.{lines}
+use Rattle.opgen_check.specs.declared.checked.Checked.{Checked}
+use Rattle.opgen_check.specs.declared.checked.Checked.TheVariants.{Good, Bad}
+use Rattle.opgen_check.specs.Ports.{PortsAgree}
+use Rattle.opgen_check.specs.Verdict.{IsChecked}
 use Rattle.opgen_io.specs.Answers.{fetched}
 use Rattle.opgen_io.specs.Counts.{Rose, Stood}
 use Rattle.opgen_io.specs.Files.{Files}
@@ -25,10 +29,10 @@ use Rattle.opgen_top.specs.declared.line.Line.{Line}
 use Rattle.opgen_top.specs.declared.line.Line.TheVariants as line
 use Rattle.opgen_top.specs.declared.run_rows.Rows.{Rows}
 use Rattle.opgen_top.specs.declared.specified.Specified.{Specified}
-use Rattle.opgen_top.specs.Answer.{Answer, read_fault, refusal, worked, wrote_vectors}
+use Rattle.opgen_top.specs.Answer.{Answer, all_good, bad_row, ports_refused, read_fault, refusal, worked, wrote_vectors}
 use Rattle.opgen_top.specs.Circuit.{IsCircuit}
 use Rattle.opgen_top.specs.Due.{IsAnswerOf}
-use Rattle.opgen_top.specs.Lines.{not_adjustable_line, read_fault_line, too_large_line, too_long_line, unknown_target_line, usage_line}
+use Rattle.opgen_top.specs.Lines.{not_adjustable_line, read_fault_line, ports_refused_line, too_large_line, too_long_line, unknown_target_line, usage_line}
 use Rattle.opgen_top.specs.Printed.{IsLineOf}
 use Rattle.opgen_top.specs.Running.{IsRunText}
 use Rattle.opgen_top.specs.Statuses.{Refuses}
@@ -45,8 +49,10 @@ line_status line.UnknownTarget = 1
 line_status line.NotAdjustable = 1
 line_status line.TooLarge = 1
 line_status (line.Refused text) = 1
+line_status line.Ports = 6
 line_status (line.VhdlRefused text) = 6
 line_status (line.VectorsRefused text) = 7
+line_status (line.BadRow text) = 8
 line_status (line.Wrote text) = 0
 
 abbrev pub line_text : Line → List ℕ
@@ -56,9 +62,11 @@ line_text line.TooLong = too_long_line
 line_text line.UnknownTarget = unknown_target_line
 line_text line.NotAdjustable = not_adjustable_line
 line_text line.TooLarge = too_large_line
+line_text line.Ports = ports_refused_line
 line_text (line.Refused text) = string_bytes text
 line_text (line.VhdlRefused text) = string_bytes text
 line_text (line.VectorsRefused text) = string_bytes text
+line_text (line.BadRow text) = string_bytes text
 line_text (line.Wrote text) = string_bytes text
 
 -- an answer as the program holds it
@@ -113,6 +121,23 @@ pub record HasWorked (n : ℕ) (planned : Planned) (a : Answer) : Type 0 where
   pub good : ℕ
   pub judged : RunsGood n planned.design planned.latency good
   pub answer : a ≡ worked n (length planned.design.signals) planned.latency good
+
+-- the answer of a verdict
+abbrev pub verdict_answer : Checked → Answer
+verdict_answer (Good judged) = all_good judged
+verdict_answer (Bad row) = bad_row row
+
+-- the ports of a design are the specification's, and this is the answer of the verdict on its run over rows
+pub record HasJudged (spec : Spec) (design : Design) (latency rows : ℕ) (cells : List ℕ) (a : Answer) : Type 0 where
+  pub agree : PortsAgree spec design
+  pub checked : Checked
+  pub verdict : IsChecked spec design latency rows cells checked
+  pub answer : a ≡ verdict_answer checked
+
+-- they are others, or that
+abbrev pub IsAnswerToDesign : Spec → Design → (latency rows : ℕ) (cells : List ℕ) → Answer → Type 0
+IsAnswerToDesign spec design latency rows cells a =
+    ((PortsAgree spec design → ⊥) × (a ≡ ports_refused)) ⊎ HasJudged spec design latency rows cells a
 
 -- an answer has a line of its status, and none that refuses has a store
 pub record IsListed (a : Answer) : Type 0 where

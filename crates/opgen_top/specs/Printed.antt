@@ -9,7 +9,7 @@ use Rattle.opgen_spec.specs.declared.fault.SpecFault.{SpecFault}
 use Rattle.opgen_spec.specs.declared.fault.SpecFault.TheVariants as spec_faults
 use Rattle.opgen_vec.specs.declared.fault.VecFault.{VecFault}
 use Rattle.opgen_vec.specs.declared.fault.VecFault.TheVariants as vector_faults
-use Rattle.opgen_top.specs.Lines.{wrote_line, wrote_vectors_line, simulated_line, worked_line, refused_line, unknown_target_line, not_adjustable_line, period_too_short_line, too_large_line, usage_line, read_fault_line, vhdl_refused_line, vectors_refused_line, too_long_line}
+use Rattle.opgen_top.specs.Lines.{wrote_line, wrote_vectors_line, simulated_line, worked_line, good_line, refused_line, unknown_target_line, not_adjustable_line, period_too_short_line, too_large_line, usage_line, read_fault_line, vhdl_refused_line, ports_refused_line, vectors_refused_line, bad_row_line, too_long_line}
 use Rattle.opgen_top.specs.Statuses.{HasLine}
 
 -- The lines of each status. A name is one that a specification may have, and a fault is one of a file, which want of memory
@@ -20,6 +20,7 @@ pub data IsLineOf (status : ℕ) (line : List ℕ) : Type 0 where
       → IsLineOf status line
   simulated : (rows : ℕ) → status ≡ 0 → line ≡ simulated_line rows → IsLineOf status line
   worked : (n signals latency good : ℕ) → status ≡ 0 → line ≡ worked_line n signals latency good → IsLineOf status line
+  all_good : (rows : ℕ) → status ≡ 0 → line ≡ good_line rows → IsLineOf status line
   refused : (fault : SpecFault) → fault ≢ spec_faults.Memory → status ≡ 1 → line ≡ refused_line fault → IsLineOf status line
   unknown_target : status ≡ 1 → line ≡ unknown_target_line → IsLineOf status line
   not_adjustable : status ≡ 1 → line ≡ not_adjustable_line → IsLineOf status line
@@ -28,8 +29,10 @@ pub data IsLineOf (status : ℕ) (line : List ℕ) : Type 0 where
   usage : status ≡ 2 → line ≡ usage_line → IsLineOf status line
   read_fault : status ≡ 3 → line ≡ read_fault_line → IsLineOf status line
   vhdl_refused : (fault : ReadFault) → fault ≢ read_faults.Memory → status ≡ 6 → line ≡ vhdl_refused_line fault → IsLineOf status line
+  ports_refused : status ≡ 6 → line ≡ ports_refused_line → IsLineOf status line
   vectors_refused : (fault : VecFault) → fault ≢ vector_faults.Memory → status ≡ 7 → line ≡ vectors_refused_line fault
       → IsLineOf status line
+  bad_row : (row : ℕ) → status ≡ 8 → line ≡ bad_row_line row → IsLineOf status line
   too_long : status ≡ 9 → line ≡ too_long_line → IsLineOf status line
 
 -- the statuses 2, 3 and 9 have one line each

@@ -8,7 +8,7 @@ use Rattle.opgen_workload.specs.Filter.{workload_spec}
 use Rattle.opgen_workload.specs.Judged.{Counts, IsGoodCycle}
 use Rattle.opgen_top.specs.Answer.{Answer, worked}
 use Rattle.opgen_top.specs.Circuit.{IsCircuit}
-use Rattle.opgen_top.specs.Running.{IsRunOf}
+use Rattle.opgen_runs.specs.Rows.{IsRunOf}
 use Rattle.opgen_top.specs.Specified.{OnTable, OnTarget}
 use Rattle.opgen_top.specs.Targets.{Device, chosen}
 

@@ -1,8 +1,12 @@
 //! The circuit of a specification.
 ghost use Rattle.std.specs.Prelude.{◌≡◌, ◌≤◌, [], IfOk, string_bytes};
+ghost use Rattle.opgen_operator.specs.Accepted.{IsAcceptedTaps};
+ghost use Rattle.opgen_operator.specs.Fits.{FitsSpecsOf};
+ghost use Rattle.opgen_operator.specs.declared.spec.Operator.TheVariants.{Tfir};
 ghost use Rattle.opgen_operator.specs.Valid.{IsValidSpec};
 ghost use Rattle.opgen_top.specs.Circuit.{IsCircuit};
-ghost use Rattle.opgen_top.specs.Kinds.{AreAddersOf, IsFittingNet};
+ghost use Rattle.opgen_search.specs.Recipe.{IsAdderSetOf};
+ghost use Rattle.opgen_top.specs.Kinds.{AreAddersOf, IsFittingNet, IsNetOfTaps};
 ghost use Rattle.opgen_top.specs.Lines.{period_too_short_line};
 ghost use Rattle.opgen_top.specs.Prepared.{IsListed, Refused};
 ghost use Rattle.opgen_top.specs.Specified.{OnTable};
@@ -12,8 +16,8 @@ use crate::line::Line;
 use opgen_net::Net;
 use opgen_num::Memory;
 use opgen_pipe::{PlanFault, Planned, plan};
-use opgen_search::Gate;
-use opgen_spec::{Operator, Spec};
+use opgen_search::{Gate, least_graph};
+use opgen_spec::{Operator, Spec, Taps};
 use opgen_target::Target;
 use std::alloc::{AllocError, Global};
 use std::thread::Threads;
@@ -43,6 +47,36 @@ fn alone(alloc: Global, net: Net) -> Built
     }
 }
 
+/// The net of a transposed filter, by the graph of the least set of adders for its taps.
+fn transposed<R: Threads + Sync, G: Gate + Sync>(
+    rt: &R,
+    alloc: Global,
+    taps: &Taps,
+    workers: u32,
+    gate: &G,
+) -> Result<Built, Memory>
+    requires taps { IsAcceptedTaps taps.now }
+    requires workers { (1 ≤ workers) × (workers ≤ 32) }
+    ensures net { IfOk result (λ made. IsNetOfTaps taps.now made.net) }
+    ensures fits { IfOk result (λ made. FitsSpecsOf (Tfir taps.now) made.net) }
+    ensures adders { IfOk result (λ made. IsAdderSetOf taps.now.taps taps.now.input.width taps.now.extra made.adders.items) }
+{
+    let found = least_graph(
+        rt,
+        alloc,
+        taps.taps.as_slice(),
+        taps.input.width,
+        taps.extra,
+        workers,
+        gate,
+    )?;
+    let net = opgen_tfir::build(alloc, taps, &found.graph)?;
+    Ok(Built {
+        net,
+        adders: found.set,
+    })
+}
+
 /// The net of a specification, by its kind. A least set of adders is sought by so many workers.
 pub(crate) fn net_of<R: Threads + Sync, G: Gate + Sync>(
     rt: &R,
@@ -68,6 +102,12 @@ pub(crate) fn net_of<R: Threads + Sync, G: Gate + Sync>(
                 net: built.net,
                 adders: built.adders.into_vec(),
             })
+        }
+        Operator::Constdiv(small) => Ok(alone(alloc, opgen_constdiv::build(alloc, small)?)),
+        Operator::Poly(poly) => Ok(alone(alloc, opgen_poly::build(alloc, poly)?)),
+        Operator::Tfir(taps) => {
+            let filter = transposed(rt, alloc, taps, workers, gate)?;
+            Ok(filter)
         }
     }
 }

@@ -1,6 +1,6 @@
 ghost use Rattle.opgen_top.specs.Causes.{AnswersHaveCauses, RefusalsAreDue};
 ghost use Rattle.opgen_top.specs.Circuit.{CircuitsAreSound, CircuitsServe, HasOneCircuit};
-ghost use Rattle.opgen_top.specs.Due.{HasOneAnswer, HasSomeAnswer};
+ghost use Rattle.opgen_top.specs.Due.{HasOneAnswer, HasSomeAnswer, IsForAllWorkers};
 ghost use Rattle.opgen_top.specs.Kinds.{HasOneNet};
 ghost use Rattle.opgen_top.specs.Printed.{LinesAreFixed};
 ghost use Rattle.opgen_top.specs.Workload.{WorkloadsAreGood};
@@ -15,6 +15,7 @@ pub fn one_answer()
     opgen_mult::one_net();
     opgen_search::one_net();
     opgen_search::one_adder_set();
+    opgen_search::one_least_graph();
 }
 
 /// That the words, the targets and the files leave no answer is impossible. Which one is due is not said, since nothing here
@@ -27,6 +28,11 @@ pub fn some_answer()
     products_have_width();
     circuits_serve();
 }
+
+/// The number of workers changes no answer: `generate` stores the same bytes and prints the same line for each.
+pub fn any_workers()
+    ensures { IsForAllWorkers }
+{}
 
 /// Each status of an answer that is due says what the words, the targets and the files are.
 pub fn answers_have_causes()
@@ -45,6 +51,7 @@ pub fn one_net()
     opgen_mult::one_net();
     opgen_search::one_net();
     opgen_search::one_adder_set();
+    opgen_search::one_least_graph();
 }
 
 /// A specification leaves at most one circuit for a table of delays: `generate` stores it, and `vectors` runs it.
@@ -54,6 +61,7 @@ pub fn one_circuit()
     opgen_mult::one_net();
     opgen_search::one_net();
     opgen_search::one_adder_set();
+    opgen_search::one_least_graph();
 }
 
 /// Each circuit is sound.

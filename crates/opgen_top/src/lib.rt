@@ -2,6 +2,7 @@
 #![tactic(auto)]
 
 mod answer;
+mod check;
 mod circuit;
 mod generate;
 mod laws;
@@ -19,8 +20,8 @@ mod vectors;
 mod workload;
 
 pub use laws::{
-    answers_have_causes, circuits_are_sound, circuits_serve, lines_are_fixed, one_answer,
-    one_circuit, one_net, refusals_are_due, some_answer, workloads_are_good,
+    answers_have_causes, any_workers, circuits_are_sound, circuits_serve, lines_are_fixed,
+    one_answer, one_circuit, one_net, refusals_are_due, some_answer, workloads_are_good,
 };
 pub use opgen_search::{Gate, OpenGate};
 pub use opgen_target::Target;

@@ -10,12 +10,16 @@ pub enum Line {
     UnknownTarget,
     NotAdjustable,
     TooLarge,
+    /// The ports of the VHDL are not those of the specification.
+    Ports,
     /// The whole line that names a fault of the specification, or the period that its net needs.
     Refused(String),
     /// The whole line that names a fault of the VHDL.
     VhdlRefused(String),
     /// The whole line that names a fault of the vectors.
     VectorsRefused(String),
+    /// The whole line that names a row that is not good.
+    BadRow(String),
     /// The whole line that tells of the stored files, or of the run that stored none.
     Wrote(String),
 }
@@ -34,8 +38,9 @@ impl Line {
             Line::UnknownTarget | Line::NotAdjustable | Line::TooLarge | Line::Refused(_) => 1,
             Line::Usage => 2,
             Line::ReadFault => 3,
-            Line::VhdlRefused(_) => 6,
+            Line::Ports | Line::VhdlRefused(_) => 6,
             Line::VectorsRefused(_) => 7,
+            Line::BadRow(_) => 8,
             Line::TooLong => 9,
         }
     }
@@ -51,9 +56,11 @@ impl Line {
             Line::UnknownTarget => "specification: UnknownTarget\n",
             Line::NotAdjustable => "specification: NotAdjustable\n",
             Line::TooLarge => "specification: TooLarge\n",
+            Line::Ports => "vhdl: Ports\n",
             Line::Refused(line)
             | Line::VhdlRefused(line)
             | Line::VectorsRefused(line)
+            | Line::BadRow(line)
             | Line::Wrote(line) => line.as_str(),
         }
     }

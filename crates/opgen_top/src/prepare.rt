@@ -1,11 +1,12 @@
 //! Commands before their stores.
 ghost use Rattle.std.specs.Prelude.{◌≡◌, ◌≤◌, List, Some};
 ghost use Rattle.opgen_command.specs.Command.{HasRanges};
-ghost use Rattle.opgen_command.specs.declared.command.Command.TheVariants.{Generate, Vectors, Simulate};
+ghost use Rattle.opgen_command.specs.declared.command.Command.TheVariants.{Generate, Vectors, Simulate, Check};
 ghost use Rattle.opgen_top.specs.Prepared.{Answers, Fetches, IsPrepared, Kept};
 ghost use Rattle.opgen_top.specs.Targets.{Device, devices_of};
 
 use crate::answer::{Answer, Refusal};
+use crate::check::checked;
 use crate::generate::generated;
 use crate::line::Line;
 use crate::simulate::simulated;
@@ -58,6 +59,19 @@ pub(crate) fn prepare<R: Threads + Sync, F: Folder, G: Gate + Sync>(
             simulate(alloc, vhdl.as_str(), vectors.as_str(), out.as_str(), folder)
         }
         Command::Workload { n } => workload(rt, alloc, *n, targets, gate),
+        Command::Check {
+            spec,
+            vhdl,
+            vectors,
+            latency,
+        } => check(
+            alloc,
+            spec.as_str(),
+            vhdl.as_str(),
+            vectors.as_str(),
+            *latency,
+            folder,
+        ),
     }
 }
 
@@ -157,4 +171,34 @@ fn simulate<F: Folder>(
         Err(refusal) => return Err(refusal),
     };
     simulated(alloc, &text, &rows, out)
+}
+
+fn check<F: Folder>(
+    alloc: Global,
+    spec: &str,
+    vhdl: &str,
+    vectors: &str,
+    latency: u32,
+    folder: &mut F,
+) -> Result<Answer, Refusal>
+    ensures told_same { F.told folder.new ≡ F.told folder.old }
+    ensures write_faults_same { F.write_faults folder.new ≡ F.write_faults folder.old }
+    ensures prepared { (devices : List Device) → Answers result (IsPrepared (Some (Check spec.now vhdl.now vectors.now latency))
+        devices (F.told folder.old)
+        (record { faults = F.read_faults folder.old; lacks = F.lacks folder.old; longs = F.longs folder.old })
+        (record { faults = F.read_faults folder.new; lacks = F.lacks folder.new; longs = F.longs folder.new })) }
+{
+    let asked = match fetch(alloc, spec, MAX_SPEC_LEN, folder) {
+        Ok(bytes) => bytes,
+        Err(refusal) => return Err(refusal),
+    };
+    let foreign = match fetch(alloc, vhdl, MAX_SIMULATED_LEN, folder) {
+        Ok(bytes) => bytes,
+        Err(refusal) => return Err(refusal),
+    };
+    let inputs = match fetch(alloc, vectors, MAX_SIMULATED_LEN, folder) {
+        Ok(bytes) => bytes,
+        Err(refusal) => return Err(refusal),
+    };
+    checked(alloc, &asked, &foreign, &inputs, latency)
 }

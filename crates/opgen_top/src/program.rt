@@ -88,6 +88,10 @@ fn printed<K: Sink>(line: &Line, out: &mut K) -> Status
 ///   of its inputs and outputs under OUT.
 /// - `workload N` plans and runs a filter that is made from the number, stores nothing, and prints a
 ///   line with the number of its signals, its latency, and how many cycles of the run are good.
+/// - `check SPEC VHDL VECTORS LATENCY` runs the design of VHDL, by whomever it was written, over the
+///   rows of VECTORS, judges each row of outputs from LATENCY on by the specification SPEC and the
+///   inputs so many rows before, stores nothing, and prints how many rows are good, or the first that
+///   is not. It builds no circuit and asks for no target.
 ///
 /// A circuit is planned for the first of `targets` that has the name in its specification, whose
 /// table of delays is changed by the delay lines there, in order. All targets are dropped.

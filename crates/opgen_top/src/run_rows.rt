@@ -4,7 +4,8 @@ ghost use Rattle.opgen_design.specs.Run.{at_ports, input_widths};
 ghost use Rattle.opgen_design.specs.Sound.{HasNumbers, IsSound};
 ghost use Rattle.opgen_vec.specs.Rows.{AreRowsOfCells};
 ghost use Rattle.opgen_lanes.specs.Steps.{output_widths};
-ghost use Rattle.opgen_top.specs.Running.{is_of, IsRunOf, IsRunText};
+ghost use Rattle.opgen_runs.specs.Rows.{IsRunOf};
+ghost use Rattle.opgen_top.specs.Running.{is_of, IsRunText};
 
 use crate::run_streams::{is_for_streams, run_streams};
 use opgen_design::{Design, Dir, Port};

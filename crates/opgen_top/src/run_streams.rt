@@ -6,7 +6,7 @@ ghost use Rattle.opgen_design.specs.Run.{input_widths};
 ghost use Rattle.opgen_design.specs.Sound.{HasNumbers, IsSound};
 ghost use Rattle.opgen_vec.specs.Rows.{AreRowsOfCells};
 ghost use Rattle.opgen_lanes.specs.Steps.{output_widths};
-ghost use Rattle.opgen_top.specs.Running.{IsRunOf};
+ghost use Rattle.opgen_runs.specs.Rows.{IsRunOf};
 
 use crate::run_rows::Rows;
 use opgen_design::{Design, Driver};

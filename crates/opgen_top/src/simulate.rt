@@ -35,7 +35,7 @@ fn simulated_line(alloc: Global, rows: u32) -> Result<String, AllocError>
 }
 
 /// The design that the VHDL spells.
-fn vhdl_design(alloc: Global, bytes: &[u8]) -> Result<Design, Refusal>
+pub(crate) fn vhdl_design(alloc: Global, bytes: &[u8]) -> Result<Design, Refusal>
     requires { length bytes.now ≤ 67108864 }
     ensures gives { IfOk result (GivesDesign bytes.now) }
     ensures numbers { IfOk result HasNumbers }
@@ -72,7 +72,7 @@ fn read_rows(alloc: Global, bytes: &[u8], widths: &[u32]) -> Result<Rows, VecFau
 }
 
 /// The rows that the vectors hold for inputs of these widths.
-fn vectors_rows(alloc: Global, bytes: &[u8], widths: &[u32]) -> Result<Rows, Refusal>
+pub(crate) fn vectors_rows(alloc: Global, bytes: &[u8], widths: &[u32]) -> Result<Rows, Refusal>
     requires few { length widths.now < 2 ^ 32 }
     requires narrow { All (λ width. width ≤ MAX_WIDTH) widths.now }
     ensures rows { IfOk result (HoldsRows widths.now bytes.now) }

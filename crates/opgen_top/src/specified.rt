@@ -32,7 +32,7 @@ fn refused_line(alloc: Global, fault: SpecFault) -> Result<String, AllocError>
 }
 
 /// The specification that the bytes give, where it has no fault.
-fn judged(alloc: Global, bytes: &[u8]) -> Result<Spec, Refusal>
+pub(crate) fn judged(alloc: Global, bytes: &[u8]) -> Result<Spec, Refusal>
     ensures reads { IfOk result (λ spec. read (tree bytes.now) ≡ Ok spec) }
     ensures valid { IfOk result IsValidSpec }
     ensures refused { Refused result (λ a. OnReading (read (tree bytes.now)) a (λ spec. ⊥)) }

@@ -11,7 +11,7 @@ use Rattle.opgen_vec.specs.Rows.{AreRowsOfCells}
 use Rattle.opgen_operator.specs.declared.spec.Operator.{Operator}
 use Rattle.opgen_operator.specs.declared.spec.PortFormat.{PortFormat}
 use Rattle.opgen_num.specs.Formats.{fewest_bits}
-use Rattle.opgen_operator.specs.declared.spec.Operator.TheVariants.{Scale, Fir, Multiply, Divide, Root, Mcm}
+use Rattle.opgen_operator.specs.declared.spec.Operator.TheVariants.{Scale, Fir, Multiply, Divide, Root, Mcm, Constdiv, Poly, Tfir}
 use Rattle.opgen_operator.specs.Ports.{operator_inputs}
 use Rattle.opgen_operator.specs.Ranges.{IsOperator}
 use Rattle.opgen_vec.specs.Writing.{row_count}
@@ -138,6 +138,9 @@ inputs_wide (Multiply p) is = two_ports _ _ (one_bit p.a.signed p.a.width is.a.f
 inputs_wide (Divide p) is = two_ports _ _ (one_bit p.a.signed p.a.width is.a.fewest) (one_bit p.b.signed p.b.width is.b.fewest)
 inputs_wide (Root r) is = one_port _ (one_bit r.input.signed r.input.width is.input.fewest)
 inputs_wide (Mcm m) is = one_port _ (one_bit m.input.signed m.input.width is.input.fewest)
+inputs_wide (Constdiv c) is = one_port _ (one_bit c.input.signed c.input.width is.input.fewest)
+inputs_wide (Poly p) is = one_port _ (one_bit p.input.signed p.input.width is.input.fewest)
+inputs_wide (Tfir f) is = one_port _ (one_bit f.input.signed f.input.width is.input.fewest)
 
 pub some_input : (op : Operator) → 0 < length (operator_inputs op)
 some_input (Scale s) = omega arith
@@ -146,3 +149,6 @@ some_input (Multiply p) = omega arith
 some_input (Divide p) = omega arith
 some_input (Root r) = omega arith
 some_input (Mcm m) = omega arith
+some_input (Constdiv c) = omega arith
+some_input (Poly p) = omega arith
+some_input (Tfir f) = omega arith

@@ -8,3 +8,4 @@ pub mod Draws
 pub mod OneReading
 pub mod RowsInStreams
 pub mod ColumnBits
+pub mod GoodRows

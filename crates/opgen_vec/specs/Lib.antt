@@ -5,4 +5,5 @@ pub mod Writing
 pub mod Fault
 pub mod Stimulus
 pub mod Streams
+pub mod Judged
 pub mod Worked

@@ -3,7 +3,7 @@
 use Rattle.std.specs.Prelude.{ℕ, zero, suc, ◌+◌, ◌-◌, ◌*◌, ◌/◌, ◌%◌, ◌^◌, ◌==◌, ◌&&◌, Bool, false, List, [], ◌∷◌, ◌++◌, codes, if◌then◌else◌}
 use Rattle.std.specs.Str.{bytes_eq}
 use Rattle.opgen_operator.specs.declared.spec.Operator.{Operator}
-use Rattle.opgen_operator.specs.declared.spec.Operator.TheVariants.{Divide}
+use Rattle.opgen_operator.specs.declared.spec.Operator.TheVariants.{Scale, Fir, Multiply, Divide, Root, Mcm, Constdiv, Poly, Tfir}
 use Rattle.opgen_operator.specs.declared.spec.PortFormat.{PortFormat}
 use Rattle.opgen_operator.specs.declared.spec.Spec.{Spec}
 use Rattle.opgen_operator.specs.Ports.{inputs_of}
@@ -15,10 +15,17 @@ next state = (state * 6364136223846793005 + 1442695040888963407) % 2 ^ 64
 abbrev pub drawn : (width state : ℕ) → ℕ
 drawn width state = state / 2 ^ (64 - width)
 
--- the port `b` of a division
+-- the port `b` of a division; a constant divisor is no port
 abbrev pub is_divisor : Operator → PortFormat → Bool
-is_divisor (Divide _) port = bytes_eq port.name (codes "b")
-is_divisor _ port = false
+is_divisor (Scale sum) port = false
+is_divisor (Fir sum) port = false
+is_divisor (Multiply product) port = false
+is_divisor (Divide pair) port = bytes_eq port.name (codes "b")
+is_divisor (Root single) port = false
+is_divisor (Mcm several) port = false
+is_divisor (Constdiv small) port = false
+is_divisor (Poly poly) port = false
+is_divisor (Tfir taps) port = false
 
 -- what a port is given: what is drawn, but 1 for a divisor of 0
 abbrev pub given : Operator → PortFormat → (state : ℕ) → ℕ

@@ -35,7 +35,14 @@ fn is_divisor(op: &Operator, port: &PortFormat) -> bool
 {
     match op {
         Operator::Divide(_) => port.name.as_str() == "b",
-        _ => false,
+        Operator::Scale(_)
+        | Operator::Fir(_)
+        | Operator::Multiply(_)
+        | Operator::Root(_)
+        | Operator::Mcm(_)
+        | Operator::Constdiv(_)
+        | Operator::Poly(_)
+        | Operator::Tfir(_) => false,
     }
 }
 

@@ -4,6 +4,7 @@
 mod draw;
 mod fault;
 mod hex;
+mod judged;
 mod laws;
 mod read;
 mod row;
@@ -13,6 +14,7 @@ mod write;
 
 pub use draw::{drawn, next, stimulus};
 pub use fault::VecFault;
+pub use judged::is_good_row;
 pub use laws::{definitions_compute, one_reading};
 pub use read::{read_empty_rows, read_vectors};
 pub use streams::{pack, unpack};

@@ -2,6 +2,4 @@
 #![tactic(auto)]
 
 #[cfg(test)]
-mod enables;
-#[cfg(test)]
 mod texts;

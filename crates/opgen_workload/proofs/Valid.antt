@@ -75,6 +75,7 @@ module _ (n : ℕ) (some : 1 ≤ n) (few : n ≤ 32) where
     version = inl refl;
     name = name_allowed;
     op = accepted;
+    first = λ _. refl;
     agrees = refl;
     target = (omega arith, omega arith);
     period = (omega arith, omega arith);

@@ -22,6 +22,7 @@ workload_sum n = record {
   coefs = coefficients (8 * n) n;
   den = pos 65536;
   exact = false;
+  counters = false;
 }
 
 abbrev pub workload_spec : (n : ℕ) → Spec

@@ -1,15 +1,20 @@
 -- How many cycles of a run of a filter are good.
 use Rattle.std.specs.Prelude.{ℕ, zero, suc, ◌≡◌, ◌+◌, ◌⊎◌, List, [], ◌∷◌, take, slice_index}
 use Rattle.opgen_operator.specs.declared.spec.Operator.{Operator}
-use Rattle.opgen_operator.specs.declared.spec.Operator.TheVariants.{Fir}
+use Rattle.opgen_operator.specs.declared.spec.Operator.TheVariants.{Scale, Fir, Multiply, Divide, Root, Mcm, Constdiv, Poly, Tfir}
 use Rattle.opgen_operator.specs.declared.spec.Spec.{Spec}
-use Rattle.opgen_operator.specs.Good.{IsGood}
-use Rattle.opgen_operator.specs.Judged.{recent_numbers, output_numbers}
-use Rattle.opgen_operator.specs.Ports.{inputs_of, outputs_of}
+use Rattle.opgen_vec.specs.Judged.{IsGoodRow}
 
 abbrev pub IsFilter : Operator → Type 0
+IsFilter (Scale sum) = ⊥
 IsFilter (Fir sum) = Unit {0}
-IsFilter _ = ⊥
+IsFilter (Multiply product) = ⊥
+IsFilter (Divide pair) = ⊥
+IsFilter (Root single) = ⊥
+IsFilter (Mcm several) = ⊥
+IsFilter (Constdiv small) = ⊥
+IsFilter (Poly poly) = ⊥
+IsFilter (Tfir taps) = ⊥
 
 -- so many of the numbers below `most` have a property
 abbrev pub Counts : (P : ℕ → Type 0) (most count : ℕ) → Type 0
@@ -19,6 +24,4 @@ Counts P (suc most) (suc count) = (P most × Counts P most count) ⊎ ((P most �
 
 -- the output, the latency after a cycle, is good for the inputs up to that cycle
 abbrev pub IsGoodCycle : Spec → (inputs outputs : List ℕ) (latency : ℕ) → (cycle : ℕ) → Type 0
-IsGoodCycle spec inputs outputs latency cycle =
-    IsGood spec (recent_numbers (inputs_of spec) (take (cycle + 1) inputs))
-    (output_numbers (outputs_of spec) (slice_index outputs (cycle + latency) ∷ []))
+IsGoodCycle spec inputs outputs latency cycle = IsGoodRow spec (take (cycle + 1) inputs) (slice_index outputs (cycle + latency) ∷ [])

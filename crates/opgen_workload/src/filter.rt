@@ -43,6 +43,7 @@ fn workload_sum(alloc: Global, n: u32) -> Result<Sum, AllocError>
         coefs: coefficients(alloc, n, 8 * n)?,
         den: 65_536,
         exact: false,
+        counters: false,
     })
 }
 

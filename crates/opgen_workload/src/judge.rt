@@ -5,6 +5,7 @@ ghost use Rattle.opgen_operator.specs.Valid.{IsValidSpec};
 ghost use Rattle.opgen_workload.specs.Judged.{Counts, IsFilter, IsGoodCycle};
 
 use opgen_operator::Spec;
+use opgen_vec::is_good_row;
 
 /// How many cycles of a filter are good, of those from the latency on, each judged by the inputs up
 /// to the cycle so many before.
@@ -21,7 +22,7 @@ pub fn good_cycles(spec: &Spec, inputs: &[u128], outputs: &[u128], latency: u32)
     let mut good = 0;
     let mut cycle = 0;
     'cycles: while cycle + latency < outputs.len() {
-        if spec.good(&inputs[..cycle + 1], &[outputs[cycle + latency]]) {
+        if is_good_row(spec, &inputs[..cycle + 1], &[outputs[cycle + latency]]) {
             good += 1;
         }
         cycle += 1;

@@ -6,4 +6,4 @@ pub returns-in_default-as_str-clause-usage : goal.returns-in_default-as_str-clau
 returns-in_default-as_str-clause-usage c = λ _.
     let other = c.in_default-as_str in
     no_command string_bytes c.args.words.now c.in-Some.name.now c.as_str.result.now c.in-Some.ensures.value c.as_str.ensures.value
-    other.not-generate other.not-vectors other.not-simulate other.not-workload
+    other.not-generate other.not-vectors other.not-simulate other.not-workload other.not-check

@@ -68,3 +68,8 @@ adders-preserved c =
           ∙ ap (with_adders input b) (sym (drop_more all k none c.adders-test.true))
           ∙ c.adders.invariant.same;
     }
+
+pub returns-clause-multiples : goal.returns-clause-multiples
+returns-clause-multiples c =
+    let stands = c.adders.invariant.left.stands in
+    record { has_input = stands.has_input; each = stands.each }

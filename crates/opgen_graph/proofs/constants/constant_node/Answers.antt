@@ -6,7 +6,7 @@ use Rattle.opgen_net.specs.declared.net.Net.{Net}
 use Rattle.opgen_net.specs.Valid.{widths}
 use Rattle.opgen_graph.specs.Placing.{factors}
 use Rattle.opgen_graph.specs.Recipe.{Multiples, with_magnitude}
-use Rattle.opgen_graph.specs.Targets.{odd_part}
+use Rattle.opgen_operator.specs.OddParts.{odd_part}
 use Rattle.opgen_graph.proofs.Products.{magnitude-answers}
 use Rattle.opgen_graph.proofs.constants.constant_node.Goals as goal
 

@@ -9,8 +9,8 @@ use Rattle.opgen_design.specs.Value.{value, chain_value, value_on, combined}
 use Rattle.opgen_design.specs.Width.{IsWidth, joined, width, width_on, chain_width}
 use Rattle.opgen_design.proofs.WidthLaws.{width-is_width}
 use Rattle.opgen_streams.specs.Streams.{word_in}
-use Rattle.opgen_value.proofs.Fitting.{some-of}
-use Rattle.opgen_value.proofs.Plain.{plain-name, plain-part, plain-port, plain-not, plain-bits, more-at, first-and-rest}
+use Rattle.opgen_runs.proofs.Fitting.{some-of}
+use Rattle.opgen_runs.proofs.Plain.{plain-name, plain-part, plain-port, plain-not, plain-bits, more-at, first-and-rest}
 use Rattle.opgen_lanes.specs.Banks.{stream_words, widths_of}
 use Rattle.opgen_lanes.proofs.Fits.{name-read, port-read, part-read, bits-narrow, narrow-of, Next, chain-start, chain-next, both-is_width, same-width, within}
 use Rattle.opgen_lanes.proofs.evaluate.+evaluate.Goals as goal

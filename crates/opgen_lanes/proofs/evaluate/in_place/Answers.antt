@@ -1,7 +1,7 @@
 use Rattle.std.proofs.Common.{Some, sym, ap, ◌∙◌, arith}
 use Rattle.std.proofs.lemmas.List.{length-map}
 use Rattle.opgen_design.specs.Plain.{plain}
-use Rattle.opgen_value.proofs.Plain.{plain-name, plain-part, plain-port}
+use Rattle.opgen_runs.proofs.Plain.{plain-name, plain-part, plain-port}
 use Rattle.opgen_lanes.specs.Banks.{widths_of}
 use Rattle.opgen_lanes.proofs.Fits.{name-read, part-read, port-read}
 use Rattle.opgen_lanes.proofs.evaluate.in_place.Goals as goal

@@ -1,7 +1,7 @@
 use Rattle.std.proofs.Common.{ℕ}
 use Rattle.opgen_design.specs.Plain.{plain}
-use Rattle.opgen_steps.specs.Programs.{Spots}
-use Rattle.opgen_steps.specs.Emit.{Chosen}
+use Rattle.opgen_machine.specs.Programs.{Spots}
+use Rattle.opgen_machine.specs.Emit.{Chosen}
 use Rattle.opgen_machine.specs.Settles.{HasNarrow, Left, chosen_over}
 use Rattle.opgen_machine.proofs.Driven.{choice-left, if-ok, plain-left}
 use Rattle.opgen_machine.proofs.drivers.choice_spot.Goals as goal

@@ -1,7 +1,7 @@
 use Rattle.std.proofs.Common.{ℕ, length, subst}
 use Rattle.opgen_design.specs.declared.design.Driver.TheVariants.{Table}
 use Rattle.opgen_design.specs.Sound.{target}
-use Rattle.opgen_steps.specs.Programs.{Spots}
+use Rattle.opgen_machine.specs.Programs.{Spots}
 use Rattle.opgen_machine.specs.Settles.{Leaves, width_at}
 use Rattle.opgen_machine.proofs.Driven.{if-ok, table-driver}
 use Rattle.opgen_machine.proofs.drivers.driver_spot.Goals as goal

@@ -1,6 +1,6 @@
 use Rattle.std.proofs.Common.{sym, ap}
 use Rattle.opgen_design.specs.Sound.{target}
-use Rattle.opgen_steps.specs.Programs.{Spots}
+use Rattle.opgen_machine.specs.Programs.{Spots}
 use Rattle.opgen_machine.specs.Settles.{put_spot}
 use Rattle.opgen_machine.proofs.drivers.put.Goals as goal
 

@@ -5,7 +5,7 @@ use Rattle.std.proofs.lemmas.Option.{slice_get-get_or}
 use Rattle.std.proofs.lemmas.Slice.Zip.{AllZip-long}
 use Rattle.opgen_design.specs.declared.design.Driver.{Driver}
 use Rattle.opgen_design.specs.Sound.{target}
-use Rattle.opgen_steps.specs.Programs.{Spots}
+use Rattle.opgen_machine.specs.Programs.{Spots}
 use Rattle.opgen_machine.specs.Laid.{HasRoom}
 use Rattle.opgen_machine.specs.Settles.{Agrees, IsThere, Settles}
 use Rattle.opgen_machine.proofs.Settling.{agrees-same, settles-more, settles-none, there-same, zip-at}

@@ -1,8 +1,8 @@
 use Rattle.std.proofs.Common.{ℕ, length, sym, subst}
 use Rattle.opgen_design.specs.declared.design.Driver.TheVariants.{Table}
 use Rattle.opgen_design.specs.Plain.{plain}
-use Rattle.opgen_steps.specs.Programs.{Spots}
-use Rattle.opgen_steps.specs.Emit.{IsNarrow, Looked, width_over}
+use Rattle.opgen_machine.specs.Programs.{Spots}
+use Rattle.opgen_machine.specs.Emit.{IsNarrow, Looked, width_over}
 use Rattle.opgen_machine.specs.Settles.{Leaves}
 use Rattle.opgen_machine.proofs.Driven.{if-ok, not-empty, plain-left, rows-leave, rows-narrow, rows-room}
 use Rattle.opgen_machine.proofs.drivers.table_spot.Goals as goal

@@ -2,7 +2,7 @@ use Rattle.std.proofs.Common.{◌≡◌, ◌+◌, ◌<◌, ◌++◌, ◌∷◌, 
 use Rattle.std.proofs.lemmas.List.{drop_more}
 use Rattle.opgen_design.specs.declared.design.Port.{Port}
 use Rattle.opgen_design.specs.Run.{at_ports, is_out}
-use Rattle.opgen_steps.specs.declared.step.Spot.{Spot}
+use Rattle.opgen_machine.specs.declared.step.Spot.{Spot}
 use Rattle.opgen_machine.proofs.layout.output_places.Goals as goal
 use Rattle.opgen_machine.proofs.layout.output_places.Goals.{then-is_output+in_ok-push, else-is_output}
 

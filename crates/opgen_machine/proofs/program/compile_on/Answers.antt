@@ -4,8 +4,8 @@ use Rattle.std.proofs.lemmas.List.{length-map}
 use Rattle.opgen_design.specs.declared.design.Driver.{Driver}
 use Rattle.opgen_design.specs.Run.{at_ports, is_out}
 use Rattle.opgen_design.specs.Sound.{signal_widths, target}
-use Rattle.opgen_steps.specs.declared.step.Spot.{Spot}
-use Rattle.opgen_steps.specs.Programs.{AreSpots, Spots, widths_of}
+use Rattle.opgen_machine.specs.declared.step.Spot.{Spot}
+use Rattle.opgen_machine.specs.Programs.{AreSpots, Spots, widths_of}
 use Rattle.opgen_machine.specs.declared.program.Program.{Program}
 use Rattle.opgen_machine.specs.Layout.{first_spots, rest_of}
 use Rattle.opgen_machine.specs.Moves.{HandsOn}

@@ -6,8 +6,8 @@ use Rattle.opgen_design.specs.Run.{Words}
 use Rattle.opgen_design.specs.Sound.{target}
 use Rattle.opgen_design.specs.Tree.{Tree}
 use Rattle.opgen_runs.specs.Evaluate.{hand_on}
-use Rattle.opgen_steps.specs.Programs.{Spots, widths_of}
-use Rattle.opgen_steps.specs.declared.step.Spot.{Spot}
+use Rattle.opgen_machine.specs.Programs.{Spots, widths_of}
+use Rattle.opgen_machine.specs.declared.step.Spot.{Spot}
 use Rattle.opgen_machine.specs.Moves.{HandsOn}
 use Rattle.opgen_machine.specs.Settles.{IsThere}
 use Rattle.opgen_machine.proofs.Handing.{hands-more, hands-skip}

@@ -1,5 +1,5 @@
 use Rattle.std.proofs.Common.{take}
-use Rattle.opgen_steps.specs.Programs.{widths_of}
+use Rattle.opgen_machine.specs.Programs.{widths_of}
 use Rattle.opgen_machine.specs.Moves.{HandsOn}
 use Rattle.opgen_machine.proofs.registers.moves.Given as goal
 

@@ -3,8 +3,8 @@ use Rattle.std.specs.Prelude.{IsSome}
 use Rattle.opgen_design.specs.Tree.{name}
 use Rattle.opgen_design.specs.Plain.{plain}
 use Rattle.opgen_design.specs.Sound.{signal}
-use Rattle.opgen_steps.specs.Programs.{Spots}
-use Rattle.opgen_steps.specs.Emit.{Chosen, Copied}
+use Rattle.opgen_machine.specs.Programs.{Spots}
+use Rattle.opgen_machine.specs.Emit.{Chosen, Copied}
 use Rattle.opgen_machine.specs.Moves.{IsNext}
 use Rattle.opgen_machine.specs.Settles.{width_at}
 use Rattle.opgen_machine.proofs.Driven.{has-size, if-ok, plain-left}

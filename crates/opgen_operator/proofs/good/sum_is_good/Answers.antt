@@ -13,14 +13,14 @@ pub raised-numerator-requires-clause-small : goal.raised-numerator-requires-clau
 raised-numerator-requires-clause-small c =
     let sum = c.args.sum.now in
     let width = sum.input.width in
-    let few : unsigned_abs c.weighted.result ≤ 2 ^ 86 = omega
-    (arith, c.weighted.ensures.bound, power_order (width + 38) 86 (omega (arith, c.requires.sum.input.most))) in
-    let fits_weighted : FitsSigned w128 c.weighted.result = fits_small _ (omega (arith, few)) in
+    let few : unsigned_abs c.weighted-total.result ≤ 2 ^ 86 = omega
+    (arith, c.weighted-total.ensures.bound, power_order (width + 38) 86 (omega (arith, c.requires.sum.input.most))) in
+    let fits_weighted : FitsSigned w128 c.weighted-total.result = fits_small _ (omega (arith, few)) in
     let fits_shift : FitsSigned w32 c.sum_shift-shift.result = search rules in
     let raised_up : c.places_up.result ≡ places_up (sum_shift sum) = rw c.sum_shift-shift.ensures.value at simp to_z-of_z at
     c.places_up.ensures in
-    let all = products (unsigned_abs c.weighted.result) (2 ^ places_up (sum_shift sum)) (width + 38)
-    (places_up (sum_shift sum)) c.weighted.ensures.bound (omega arith) in
+    let all = products (unsigned_abs c.weighted-total.result) (2 ^ places_up (sum_shift sum)) (width + 38)
+    (places_up (sum_shift sum)) c.weighted-total.ensures.bound (omega arith) in
     simp to_z-of_z (rw raised_up (omega (
       arith,
       all,
@@ -58,7 +58,7 @@ pub returns : goal.returns
 returns c =
     let fits_den : FitsSigned w64 c.args.sum.now.den = omega (arith, ints, c.requires.sum.positive, c.requires.sum.small) in
     let fits_from : FitsSigned w128 c.from.result = search rules in
-    let fits_weighted : FitsSigned w128 c.weighted.result = search rules in
+    let fits_weighted : FitsSigned w128 c.weighted-total.result = search rules in
     let fits_numerator : FitsSigned w128 c.raised-numerator.result = search rules in
     let fits_denominator : FitsSigned w128 c.raised-denominator.result = search rules in
     let fits_output : FitsSigned w128 c.output.result = search rules in
@@ -69,7 +69,8 @@ returns c =
     let raised_down : c.places_down.result ≡ places_down (sum_shift c.args.sum.now) = rw c.sum_shift-shift.ensures.value at simp to_z-of_z
     at c.places_down.ensures in
     let den = rw (from, raised_down) at simp to_z-of_z at c.raised-denominator.ensures.value in
-    let num = rw (c.weighted.ensures.value, raised_up) at simp to_z-of_z at c.raised-numerator.ensures.value in
+    let weighted = rw c.as_slice.ensures at c.weighted-total.ensures.value in
+    let num = rw (weighted, raised_up) at simp to_z-of_z at c.raised-numerator.ensures.value in
     let out = rw c.sum_format.ensures at c.output.ensures in
     good-along c.good_linear.result c.args.exact c.raised-numerator.result _ c.raised-denominator.result _ c.output.result _ num den out
     (simp to_z-of_z at c.good_linear.ensures)

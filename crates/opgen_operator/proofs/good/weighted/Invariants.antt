@@ -7,8 +7,8 @@ use Rattle.opgen_operator.proofs.good.weighted.Given as goal
 
 abbrev pub invariant-coefs : goal.invariant-coefs
 invariant-coefs l = record {
-  value : (l.total +ℤ weighted_from l.ago (drop l.coef-index l.sum.coefs) (recent_numbers (one_input l.sum.input) l.history 0))
-      ≡ weighted l.sum.coefs (recent_numbers (one_input l.sum.input) l.history 0);
+  value : (l.total +ℤ weighted_from l.ago (drop l.coef-index l.coefs) (recent_numbers (one_input l.format) l.history 0))
+      ≡ weighted l.coefs (recent_numbers (one_input l.format) l.history 0);
   place : l.ago ≡ l.coef-index;
-  bound : unsigned_abs l.total ≤ l.coef-index * 2 ^ (l.sum.input.width + 30);
+  bound : unsigned_abs l.total ≤ l.coef-index * 2 ^ (l.format.width + 30);
 }

@@ -1,6 +1,6 @@
 use Rattle.std.proofs.Common.{◌≡◌, ◌+◌, ap, ◌∙◌, arith}
 use Rattle.opgen_design.specs.declared.design.Driver.TheVariants.{Register}
-use Rattle.opgen_value.proofs.Plain.{plain-name}
+use Rattle.opgen_runs.proofs.Plain.{plain-name}
 use Rattle.opgen_pipe.specs.Pipelined.{copy_register}
 use Rattle.opgen_pipe.proofs.Steps.{range-more}
 use Rattle.opgen_pipe.proofs.drivers.push_copies.Goals as goal

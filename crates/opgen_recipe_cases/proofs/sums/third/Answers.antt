@@ -16,6 +16,7 @@ third coefs = record {
   coefs = coefs;
   den = pos 3;
   exact = false;
+  counters = false;
 }
 
 not-asked : IsTrue false → inexact (Fir (third (pos 1 ∷ []))) ≡ None

@@ -1,9 +1,12 @@
-use Rattle.opgen_graph.proofs.Serving.{reached_serve}
+use Rattle.std.proofs.Common.{◌≤◌, arith, sym, subst}
+use Rattle.opgen_operator.specs.declared.spec.Operator.TheVariants.{Mcm}
+use Rattle.opgen_operator.specs.OddParts.{odd_part_count}
+use Rattle.opgen_operator.proofs.Accepted.{accepted_ranges}
+use Rattle.opgen_graph.proofs.PartLists.{count-within}
 use Rattle.opgen_search.proofs.several.build.Goals as goal
 
-pub graph_net-requires-clause-graph : goal.graph_net-requires-clause-graph
-graph_net-requires-clause-graph g c =
-    let parts = rw c.as_slice.ensures at c.in_ok-parts.ensures.targets in
-    let reaches = rw c.as_slice-2.ensures.value at c.in_ok-set.ensures.reaches in
-    let ranks = rw (c.in-Some.is, c.as_slice-3.ensures.value) at c.in_ok-graph.ensures.ranks in
-    reached_serve c.args.several.now.constants c.in_ok-parts.parts.items c.in_ok-set.set.items c.in-Some.graph parts reaches ranks
+pub least_graph-requires-clause-few : goal.least_graph-requires-clause-few
+least_graph-requires-clause-few g c κs within =
+    let m = c.args.several.now in
+    let ranges = accepted_ranges (Mcm m) c.requires.several in
+    subst (λ ts. odd_part_count ts ≤ 8) (sym c.as_slice.ensures) (omega (arith, count-within m.constants, ranges.few))

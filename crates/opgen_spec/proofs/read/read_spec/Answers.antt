@@ -1,12 +1,12 @@
 use Rattle.std.proofs.Common.{◌≡◌, ◌∙◌, ap, sym, None, Ok, unwrap_or}
 use Rattle.toml.specs.View.{table_view}
-use Rattle.opgen_spec.specs.declared.key.Kind.TheVariants as kind
+use Rattle.opgen_operator.specs.declared.kind.Kind.TheVariants as kind
 use Rattle.opgen_spec.specs.Document.{tree, kind_of}
 use Rattle.opgen_spec.specs.Faults.{read, field_fault, limit_fault}
 use Rattle.opgen_spec.specs.Spec.{spec_with, spec_of}
 use Rattle.opgen_spec.proofs.Reading.{field_first, limit_first, none_first, gives_fault}
 use Rattle.opgen_spec.proofs.Fields.{fine, operator_in, inputs_in}
-use Rattle.opgen_spec.proofs.Validity.{no_kind, valid_in}
+use Rattle.opgen_spec.proofs.Validity.{no_kind, valid_in, compressor_of}
 use Rattle.opgen_spec.proofs.Written.{written}
 use Rattle.opgen_spec.proofs.read.read_spec.Goals as goal
 
@@ -20,7 +20,7 @@ returns-in_default-kind_of-clause-gives c =
     let ms = table_view c.in_ok-table.table in
     let none : field_fault ms ≡ None = sym c.field_fault.ensures ∙ c.in_default.is in
     let no_name : kind_of ms ≡ None = sym c.kind_of.ensures ∙ c.in_default-kind_of.is in
-    absurd (no_kind (kind_of ms) (fine ms none).kind no_name)
+    absurd (no_kind ms (fine ms none).kind no_name)
 
 pub limit_fault-requires : goal.limit_fault-requires
 unfolding spec_with
@@ -58,7 +58,9 @@ returns-clause-valid c =
     let none : field_fault ms ≡ None = sym c.field_fault.ensures ∙ c.in_default.is in
     let clear : limit_fault (spec_with c.in-Some-kind_of.kind ms) ≡ None = ap limit_fault (sym c.in_ok-spec.ensures)
     ∙ (sym c.limit_fault.ensures ∙ c.in_default-limit_fault.is) in
-    rw c.in_ok-spec.ensures (valid_in ms c.in-Some-kind_of.kind (fine ms none) (sym c.in-Some-kind_of.ensures) clear)
+    let named = sym c.in-Some-kind_of.ensures in
+    rw c.in_ok-spec.ensures (valid_in ms c.in-Some-kind_of.kind (fine ms none)
+    (compressor_of ms c.in-Some-kind_of.kind none named) named clear)
 
 pub returns-clause-written : goal.returns-clause-written
 returns-clause-written c =

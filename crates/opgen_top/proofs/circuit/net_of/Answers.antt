@@ -1,5 +1,5 @@
 use Rattle.std.proofs.Common.{sym, subst}
-use Rattle.opgen_operator.specs.declared.spec.Operator.TheVariants.{Scale, Fir, Multiply, Divide, Root, Mcm}
+use Rattle.opgen_operator.specs.declared.spec.Operator.TheVariants.{Scale, Fir, Multiply, Divide, Root, Mcm, Constdiv, Poly, Tfir}
 use Rattle.opgen_top.specs.Kinds.{IsFittingNet}
 use Rattle.opgen_top.proofs.Building.{accepted_scale, kind_fitting}
 use Rattle.opgen_top.proofs.circuit.net_of.Goals as goal
@@ -42,3 +42,20 @@ pub returns-in_ok-built-in-Mcm-clause-net : goal.returns-in_ok-built-in-Mcm-clau
 returns-in_ok-built-in-Mcm-clause-net g c =
     let made = c.in_ok-built-in-Mcm in
     kind_fitting c.args.spec.now c.requires.valid (Mcm c.in-Mcm.several) made.built.net c.in-Mcm.is made.ensures.net made.ensures.fits
+
+pub returns-in_ok-build-in-Constdiv-clause-net : goal.returns-in_ok-build-in-Constdiv-clause-net
+returns-in_ok-build-in-Constdiv-clause-net g c =
+    let made = c.in_ok-build-in-Constdiv in
+    subst (IsFittingNet c.args.spec.now) (sym c.alone-in-Constdiv.ensures.net)
+    (kind_fitting c.args.spec.now c.requires.valid (Constdiv c.in-Constdiv.small) made.field-0 c.in-Constdiv.is made.ensures.net made.ensures.fits)
+
+pub returns-in_ok-build-in-Poly-clause-net : goal.returns-in_ok-build-in-Poly-clause-net
+returns-in_ok-build-in-Poly-clause-net g c =
+    let made = c.in_ok-build-in-Poly in
+    subst (IsFittingNet c.args.spec.now) (sym c.alone-in-Poly.ensures.net)
+    (kind_fitting c.args.spec.now c.requires.valid (Poly c.in-Poly.poly) made.field-0 c.in-Poly.is made.ensures.net made.ensures.fits)
+
+pub returns-in_ok-filter-in-Tfir-clause-net : goal.returns-in_ok-filter-in-Tfir-clause-net
+returns-in_ok-filter-in-Tfir-clause-net g c =
+    let made = c.in_ok-filter-in-Tfir in
+    kind_fitting c.args.spec.now c.requires.valid (Tfir c.in-Tfir.taps) made.filter.net c.in-Tfir.is made.ensures.net made.ensures.fits

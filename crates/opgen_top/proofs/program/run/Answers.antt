@@ -1,12 +1,14 @@
-use Rattle.std.proofs.Common.{Some, Err, map, inl, refl, ap, ◌∙◌, subst}
+use Rattle.std.proofs.Common.{Some, Err, map, inl, inr, refl, ap, ◌∙◌, subst}
 use Rattle.opgen_io.specs.Counts.{Rose}
 use Rattle.opgen_top.specs.Due.{IsAnswerOf}
 use Rattle.opgen_top.specs.Prepared.{answer_of, store_of}
+use Rattle.opgen_top.specs.Statuses.{Refuses}
 use Rattle.opgen_top.specs.Stores.{stored_all, HasBroken, HasFirst}
 use Rattle.opgen_top.specs.Targets.{devices_of}
 use Rattle.opgen_top.proofs.Ending.{later_reads, line_taken, gives_due, gives_missing, gives_all, due_now, left_unprinted, left_memory, is_printed, nothing_printed, left_unstored, left_first}
 use Rattle.opgen_top.proofs.Heading.{heading}
 use Rattle.opgen_top.proofs.Listed.{listed_status}
+use Rattle.opgen_top.proofs.Parts.{told_status}
 use Rattle.opgen_top.proofs.program.run.Goals as goal
 
 pub returns-in-Ok-store_all-clause-answered : goal.returns-in-Ok-store_all-clause-answered
@@ -35,6 +37,13 @@ returns-in-Ok-store_all-clause-complete g c files told read write put =
     (λ fs is. c.in-Ok-store_all.ensures.ok fs (c.answer.ensures.told_same ∙ is)
     ∙ ap (λ xs. Some (stored_all (map store_of xs) fs)) c.deref.ensures.value)
     files told read put (listed_status _ _ c.in-Ok.ensures.prepared.listed.line)
+
+-- an answer that refuses has no store
+pub returns-in-Ok-store_all-clause-unchanged : goal.returns-in-Ok-store_all-clause-unchanged
+returns-in-Ok-store_all-clause-unchanged g c refuses =
+    let status = told_status _ _ _ _ c.printed.ensures.status (inr refuses) in
+    let none = c.in-Ok.ensures.prepared.listed.no_store (subst Refuses status refuses) in
+    c.in-Ok-store_all.ensures.none_same (ap (map store_of) c.deref.ensures.value ∙ none) ∙ c.answer.ensures.told_same
 
 pub returns-in-Ok-store_all-clause-left_by_fault : goal.returns-in-Ok-store_all-clause-left_by_fault
 returns-in-Ok-store_all-clause-left_by_fault g c files told four =

@@ -1,8 +1,9 @@
 use Rattle.std.proofs.Common.{◌++◌, length, take, drop, sym, subst, ap, ◌∙◌, arith}
 use Rattle.opgen_design.specs.Run.{input_widths}
 use Rattle.opgen_num.specs.Words.{FitWidths}
-use Rattle.opgen_top.proofs.Columns.{row_room, first_fits, later_rows}
-use Rattle.opgen_top.proofs.RunRows.{run_start, one_step, whole_run, length-step, written_back}
+use Rattle.opgen_vec.proofs.Rows.{row_room, first_fits, later_rows}
+use Rattle.opgen_runs.proofs.Rows.{written_back}
+use Rattle.opgen_top.proofs.RunRows.{run_start, one_step, whole_run, length-step}
 use Rattle.opgen_top.proofs.run_rows.run_rows.Goals as goal
 
 pub rows-init : goal.rows-init

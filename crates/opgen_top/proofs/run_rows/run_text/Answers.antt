@@ -1,7 +1,8 @@
 use Rattle.std.proofs.Common.{◌≡◌, ◌*◌, length, refl, ap, ◌∙◌, arith}
 use Rattle.opgen_design.specs.Run.{input_widths, is_in, is_out}
 use Rattle.opgen_lanes.specs.Steps.{output_widths}
-use Rattle.opgen_top.proofs.Columns.{widths_on, sides, few_outputs, length-rows_of_cells, whole_rows, same_rows}
+use Rattle.opgen_vec.proofs.Rows.{length-rows_of_cells}
+use Rattle.opgen_top.proofs.Columns.{widths_on, sides, few_outputs, whole_rows, same_rows}
 use Rattle.opgen_top.proofs.RunRows.{length-run, run_written}
 use Rattle.opgen_top.proofs.run_rows.run_text.Goals as goal
 

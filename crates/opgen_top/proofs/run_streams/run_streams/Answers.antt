@@ -5,7 +5,8 @@ use Rattle.opgen_lanes.specs.Steps.{IsStepIn, output_widths}
 use Rattle.opgen_streams.specs.Streams.{streams, words_in}
 use Rattle.opgen_vec.specs.Streams.{words, row_or_zeros, rows_in}
 use Rattle.opgen_top.proofs.Columns.{few_outputs, narrow_ports}
-use Rattle.opgen_top.proofs.RunRows.{HasRun, whole_run, written_back}
+use Rattle.opgen_runs.proofs.Rows.{written_back}
+use Rattle.opgen_top.proofs.RunRows.{HasRun, whole_run}
 use Rattle.opgen_top.proofs.RunStreams.{no_registers, one_block, rows_counted}
 use Rattle.opgen_top.proofs.run_streams.run_streams.Goals as goal
 

@@ -1,0 +1,107 @@
+//! A design's run over rows of inputs, judged row by row.
+ghost use Rattle.std.specs.Prelude.{◌≡◌, ◌<◌, ◌^◌, ◌↔◌, Err, IfOk, IsTrue, length, map};
+ghost use Rattle.opgen_design.specs.Run.{input_widths};
+ghost use Rattle.opgen_design.specs.Sound.{HasNumbers, IsSound};
+ghost use Rattle.opgen_num.specs.Words.{FitWidths};
+ghost use Rattle.opgen_operator.specs.Ports.{inputs_of, outputs_of};
+ghost use Rattle.opgen_operator.specs.Valid.{IsValidSpec};
+ghost use Rattle.opgen_vec.specs.Judged.{IsGoodRow};
+ghost use Rattle.opgen_vec.specs.Rows.{AreRowsOfCells};
+ghost use Rattle.opgen_vec.specs.Writing.{row_count};
+ghost use Rattle.opgen_check.specs.Ports.{PortsAgree};
+ghost use Rattle.opgen_check.specs.Verdict.{IsChecked, rows_up_to};
+
+use crate::checked::{CheckFault, Checked};
+use crate::ports::agree;
+use opgen_design::Design;
+use opgen_num::Memory;
+use opgen_operator::Spec;
+use opgen_sim::Sim;
+use opgen_vec::{Vectors, is_good_row};
+use std::alloc::Global;
+
+/// Whether outputs are good for the inputs up to a row.
+fn are_good_for(spec: &Spec, inputs: &Vectors, row: u32, outputs: &[u128]) -> bool
+    requires valid { IsValidSpec spec.now }
+    requires columns { inputs.now.columns ≡ length (inputs_of spec.now) }
+    requires rows { AreRowsOfCells (map (λ p. p.format.width) (inputs_of spec.now)) (row_count inputs.now.columns inputs.now.cells.items) inputs.now.cells.items }
+    requires there { row < row_count inputs.now.columns inputs.now.cells.items }
+    requires outputs { FitWidths (map (λ p. p.format.width) (outputs_of spec.now)) outputs.now }
+    ensures { IsTrue result ↔ IsGoodRow spec.now (rows_up_to (length (inputs_of spec.now)) row inputs.now.cells.items) outputs.now }
+{
+    let cells = inputs.cells.as_slice();
+    is_good_row(
+        spec,
+        &cells[..(row as usize + 1) * inputs.columns as usize],
+        outputs,
+    )
+}
+
+/// The verdict on a design's run over rows, where it has the specification's ports.
+fn judge(
+    alloc: Global,
+    spec: &Spec,
+    design: &Design,
+    inputs: &Vectors,
+    latency: u32,
+) -> Result<Checked, Memory>
+    requires valid { IsValidSpec spec.now }
+    requires sound { IsSound design.now }
+    requires numbers { HasNumbers design.now }
+    requires ports { PortsAgree spec.now design.now }
+    requires columns { inputs.now.columns ≡ length (input_widths design.now) }
+    requires rows { AreRowsOfCells (input_widths design.now) (row_count inputs.now.columns inputs.now.cells.items) inputs.now.cells.items }
+    requires few { row_count inputs.now.columns inputs.now.cells.items < 2 ^ 32 }
+    ensures { IfOk result (IsChecked spec.now design.now latency (row_count inputs.now.columns inputs.now.cells.items) inputs.now.cells.items) }
+{
+    let rows = inputs.row_count() as u32;
+    let columns = inputs.columns as usize;
+    let mut sim = Sim::new(alloc, design)?;
+    let mut outputs = vec![in alloc; 0; design.ports.len() - columns]?;
+    let mut left = inputs.cells.as_slice();
+    let mut row = 0;
+    'rows: while row < rows {
+        let (given, later) = left.split_at(columns);
+        sim.step(given, &mut outputs);
+        if row >= latency && !are_good_for(spec, inputs, row - latency, &outputs) {
+            return Ok(Checked::Bad { row });
+        }
+        left = later;
+        row += 1;
+    }
+    Ok(Checked::Good {
+        rows: rows.saturating_sub(latency),
+    })
+}
+
+/// Runs a design over rows of its inputs, and judges each row of outputs from the latency on by the inputs up to so many rows
+/// before it.
+///
+/// The latency is the caller's word: a row is good or not for that latency alone. A row whose divisor is 0 is good.
+///
+/// # Errors
+///
+/// `Ports` comes exactly where a port differs from that of the specification at its place in name, direction or width, or there
+/// are more or fewer.
+pub fn check_rows(
+    alloc: Global,
+    spec: &Spec,
+    design: &Design,
+    inputs: &Vectors,
+    latency: u32,
+) -> Result<Checked, CheckFault>
+    requires valid { IsValidSpec spec.now }
+    requires sound { IsSound design.now }
+    requires numbers { HasNumbers design.now }
+    requires columns { inputs.now.columns ≡ length (input_widths design.now) }
+    requires rows { AreRowsOfCells (input_widths design.now) (row_count inputs.now.columns inputs.now.cells.items) inputs.now.cells.items }
+    requires few { row_count inputs.now.columns inputs.now.cells.items < 2 ^ 32 }
+    ensures ports { result ≡ Err CheckFault.Ports → ¬ PortsAgree spec.now design.now }
+    ensures agree { IfOk result (λ checked. PortsAgree spec.now design.now) }
+    ensures checked { IfOk result (IsChecked spec.now design.now latency (row_count inputs.now.columns inputs.now.cells.items) inputs.now.cells.items) }
+{
+    if !agree(alloc, spec, design.ports.as_slice())? {
+        return Err(CheckFault::Ports);
+    }
+    Ok(judge(alloc, spec, design, inputs, latency)?)
+}

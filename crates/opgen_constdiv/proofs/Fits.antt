@@ -1,0 +1,113 @@
+-- The net fits every valid specification of its operator.
+use Rattle.std.proofs.Common.{◌≡◌, ℕ, ◌≤◌, Bool, true, false, List, map, refl, sym, ap, ◌∙◌, subst, arith}
+use Rattle.std.specs.Prelude.{ℤ, pos, ◌-ℤ◌, if◌then◌else◌}
+use Rattle.std.proofs.lemmas.Int.{ints}
+use Rattle.opgen_num.specs.declared.format.Format.{Format}
+use Rattle.opgen_num.specs.Formats.{fewest_bits}
+use Rattle.opgen_num.specs.Rounding.{IsWithinOne}
+use Rattle.opgen_num.specs.Values.{int, val}
+use Rattle.opgen_num.specs.Words.{nat}
+use Rattle.opgen_net.specs.Flow.{Inputs, input_at}
+use Rattle.opgen_net.specs.Placed.{number_at}
+use Rattle.opgen_operator.specs.declared.spec.Operator.TheVariants.{Constdiv}
+use Rattle.opgen_operator.specs.declared.spec.SmallDiv.{SmallDiv}
+use Rattle.opgen_operator.specs.Accepted.{IsAcceptedSmallDiv}
+use Rattle.opgen_operator.specs.Exact.{Recent}
+use Rattle.opgen_operator.specs.Fits.{FitsOperator, FitsSpecsOf, name_and_width}
+use Rattle.opgen_operator.specs.Good.{IsGoodSmallQuotient}
+use Rattle.opgen_operator.specs.Judged.{recent_words, output_words}
+use Rattle.opgen_operator.specs.Ports.{operator_inputs, small_ports}
+use Rattle.opgen_operator.specs.Ranges.{IsSmallDiv}
+use Rattle.opgen_operator.specs.Valid.{AgreesOnExact}
+use Rattle.opgen_operator.proofs.Accepted.{accepted_ranges}
+use Rattle.opgen_constdiv.specs.Rows.{IsSmall}
+use Rattle.opgen_constdiv.specs.Recipe.{digit_number, Divided, after, net_of}
+use Rattle.opgen_constdiv.specs.Steps.{IsInput}
+use Rattle.opgen_constdiv.proofs.Division.{base, AreFor}
+use Rattle.opgen_constdiv.proofs.Whole.{near, results-valid, made-inputs, for_inputs, divided-right, output_ports, outputs-shown, result_words, quotient-word, rest-word}
+
+some_bits : (signed : Bool) (width : ℕ) → signed ≡ false → fewest_bits signed ≤ width → 1 ≤ width
+some_bits false width e h = h
+some_bits true width e h = omega (arith, h)
+
+pub accepted : (s : SmallDiv) → IsAcceptedSmallDiv s → IsSmallDiv s
+accepted s is = accepted_ranges (Constdiv s) is
+
+pub has_input : (s : SmallDiv) → IsSmallDiv s → IsInput s.input.width
+has_input s is = record { some = some_bits s.input.signed s.input.width is.unsigned is.input.fewest; few = is.input.most }
+
+pub has_divisor : (s : SmallDiv) → IsSmallDiv s → IsSmall s.divisor
+has_divisor s is = record { some = is.least; few = is.most }
+
+-- unsigned words, in the last cycle
+
+unsigned : (v : List Bool) (f : Format) → f.signed ≡ false → val v f ≡ pos (nat v)
+unsigned v f e = ap (λ (c : Bool). if c then int v else pos (nat v)) e
+
+now : (t : ℕ) → pos t -ℤ pos 0 ≡ pos t
+now t = omega (arith, ints)
+
+module _ (s : SmallDiv) (is : IsSmallDiv s) where
+  abbrev w : ℕ
+  w = s.input.width
+
+  abbrev c : ℕ
+  c = s.divisor
+
+  abbrev input : IsInput w
+  input = has_input s is
+
+  abbrev small : IsSmall c
+  small = has_divisor s is
+
+  abbrev last : Divided
+  last = after w c (digit_number w c)
+
+  abbrev inputs_now : Inputs → ℕ → (port : ℕ) → Recent
+  inputs_now inputs t = recent_words (operator_inputs (Constdiv s)) inputs t
+
+  abbrev input_number : Inputs → ℕ → ℕ
+  input_number inputs t = nat (input_at inputs 0 w (pos t))
+
+  input_now : (inputs : Inputs) (t : ℕ) → inputs_now inputs t 0 0 ≡ pos (input_number inputs t)
+  input_now inputs t =
+      ap (λ u. val (input_at inputs 0 w u) s.input) (now t) ∙ unsigned (input_at inputs 0 w (pos t)) s.input is.unsigned
+
+  same_ports : (exact : Bool) → output_ports w c input small exact ≡ map name_and_width (small_ports exact s)
+  same_ports true = refl
+  same_ports false = refl
+
+  abbrev outputs_now : (exact : Bool) → Inputs → ℕ → (port : ℕ) → ℤ
+  outputs_now exact inputs t = output_words (small_ports exact s) (result_words w c input small exact inputs (pos t))
+
+  good : (exact : Bool) (inputs : Inputs) (t : ℕ) → AreFor w c input small (base w c input small) inputs
+      → IsGoodSmallQuotient exact s (inputs_now inputs t 0 0) (outputs_now exact inputs t 0) (outputs_now exact inputs t 1)
+  good true inputs t words =
+      let q = ap pos (quotient-word w c input small true inputs (pos t) words) in
+      let r = ap pos (rest-word w c input small inputs (pos t) words) in
+      let held = divided-right w c input small inputs (pos t) words in
+      subst (λ z. IsGoodSmallQuotient true s z (outputs_now true inputs t 0) (outputs_now true inputs t 1)) (sym (input_now inputs t))
+      (subst (λ z. IsGoodSmallQuotient true s (pos (input_number inputs t)) z (outputs_now true inputs t 1)) (sym q)
+      (subst (λ z. IsGoodSmallQuotient true s (pos (input_number inputs t)) (pos (number_at last.net.nodes inputs (pos t) last.quotient)) z)
+      (sym r) held))
+  good false inputs t words =
+      let q = ap pos (quotient-word w c input small false inputs (pos t) words) in
+      let held = divided-right w c input small inputs (pos t) words in
+      subst (λ z. IsWithinOne z (pos c) (outputs_now false inputs t 0)) (sym (input_now inputs t))
+      (subst (λ z. IsWithinOne (pos (input_number inputs t)) (pos c) z) (sym q)
+      (near (input_number inputs t) c (number_at last.net.nodes inputs (pos t) last.quotient)
+      (number_at last.net.nodes inputs (pos t) last.rest) held))
+
+  pub fits : FitsOperator s.exact (Constdiv s) (net_of s.exact w c)
+  fits = record {
+    valid = results-valid w c input small s.exact;
+    inputs = made-inputs w c input small s.exact;
+    outputs = outputs-shown w c input small s.exact ∙ same_ports s.exact;
+    good = λ inputs t words within range. good s.exact inputs t (for_inputs w c input small s.exact inputs words);
+  }
+
+pub fits_specs : (s : SmallDiv) → IsAcceptedSmallDiv s → FitsSpecsOf (Constdiv s) (net_of s.exact s.input.width s.divisor)
+fits_specs s is spec valid e =
+    let made = net_of s.exact s.input.width s.divisor in
+    let agrees : s.exact ≡ spec.exact = subst (λ op. AgreesOnExact spec.exact op) e valid.agrees in
+    subst (λ op. FitsOperator spec.exact op made) (sym e) (subst (λ x. FitsOperator x (Constdiv s) made) agrees (fits s (accepted s is)))

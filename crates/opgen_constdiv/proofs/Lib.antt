@@ -1,0 +1,5 @@
+mod TableRows
+mod Division
+mod Whole
+pub mod Fits
+mod Named

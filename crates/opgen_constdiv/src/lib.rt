@@ -1,0 +1,38 @@
+//! The net of a division by a small constant: a table for each digit of the input, from the
+//! highest (Ugurdag, de Dinechin and others, Hardware division by small integer constants).
+#![tactic(auto)]
+
+ghost use Rattle.std.specs.Prelude.{ℕ, ◌≡◌, List, IsTrue, IfOk};
+ghost use Rattle.opgen_names.specs.Names.{is_allowed_name};
+ghost use Rattle.opgen_net.specs.Named.{IsNamed};
+ghost use Rattle.opgen_operator.specs.Accepted.{IsAcceptedSmallDiv};
+ghost use Rattle.opgen_operator.specs.Fits.{FitsSpecsOf};
+ghost use Rattle.opgen_operator.specs.declared.spec.Operator.TheVariants.{Constdiv};
+ghost use Rattle.opgen_constdiv.specs.Recipe.{net_of};
+ghost use Rattle.opgen_constdiv.specs.Steps.{HoldsAfterEachDigit};
+
+mod digits;
+mod rows;
+
+use digits::division_net;
+use opgen_net::Net;
+use opgen_num::Memory;
+use opgen_operator::SmallDiv;
+use std::alloc::Global;
+
+/// The net of the quotient `q` of the input `x` by a constant of 2 to 32, and where it is exact of
+/// the remainder `r`.
+///
+/// The input is cut into digits of as many bits as a remainder leaves of six. From the highest
+/// digit down, the remainder before it and the digit are the address of a table, which has the next
+/// digit of the quotient and the next remainder.
+pub fn build(alloc: Global, small: &SmallDiv) -> Result<Net, Memory>
+    requires { IsAcceptedSmallDiv small.now }
+    ensures net { IfOk result (λ net. net ≡ net_of small.now.exact small.now.input.width small.now.divisor) }
+    ensures digits { IfOk result (HoldsAfterEachDigit small.now.input.width small.now.divisor) }
+    ensures fits { IfOk result (FitsSpecsOf (Constdiv small.now)) }
+    ensures named { IfOk result (λ net. (name : List ℕ) → IsTrue (is_allowed_name name) → IsNamed name net) }
+{
+    let net = division_net(alloc, small.input.width, small.divisor, small.exact)?;
+    Ok(net)
+}

@@ -1,0 +1,3 @@
+mod Taking
+mod Tables
+pub mod Counting

@@ -1,0 +1,3 @@
+pub mod Counters
+pub mod Recipe
+pub mod Kept

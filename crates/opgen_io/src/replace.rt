@@ -1,0 +1,185 @@
+//! Files that are replaced whole: the bytes go into a new file beside the old one, which takes its name once they are synced.
+ghost use Rattle.std.specs.Prelude.{◌≡◌, ◌≤◌, length, take};
+
+use crate::StoreFault;
+use crate::whole::write_whole;
+use std::alloc::{AllocError, Global};
+use std::fs::{File, Metadata, OpenFile, OpenOptions, Permissions};
+use std::io::ErrorKind;
+use std::os::unix::fs::{MetadataExt, PermissionsExt, chown};
+use std::path::{Path, PathBuf};
+use std::rt::Files;
+use std::{fs, io};
+
+/// How many links are followed, one to the next, before a name is given up: as many as Linux follows.
+const LINKS: u32 = 40;
+
+/// How many names are tried for a new file.
+const TRIES: u32 = 100;
+
+/// How many bytes of a file's name its new file's name has at most. A name of Linux has at most 255.
+const KEPT: usize = 240;
+
+/// Who may read, write and run a file, without what else a mode says.
+const ACCESS: u32 = 0o777;
+
+/// Lets the name stand for these bytes. Where it stands for a file, or for nothing, it does so until it stands for all of
+/// the bytes. What is no regular file takes the bytes straight, and so does a file by a link of a process that has it open.
+pub fn store_file<R: Files + AllocGlobal>(
+    rt: &R,
+    name: &str,
+    bytes: &[u8],
+) -> Result<(), StoreFault> {
+    let standing = open_standing(rt, name).or(Err(StoreFault::Failed))?;
+    let Some((mut file, about)) = standing else {
+        let path = end_of_links(rt, name)?.ok_or(StoreFault::Failed)?;
+        return replace(rt, path.as_path(), None, bytes);
+    };
+    if about.is_file()
+        && let Some(path) = end_of_links(rt, name)?
+    {
+        return replace(rt, path.as_path(), Some(&about), bytes);
+    }
+    write_straight(&mut file, &about, bytes).or(Err(StoreFault::Failed))
+}
+
+// What stands under the name, opened to be written as it is, if anything does.
+fn open_standing<R: Files>(rt: &R, name: &str) -> io::Result<Option<(R::File, Metadata)>> {
+    match OpenOptions::new().write(true).open(rt, name) {
+        Ok(file) => {
+            let about = file.metadata()?;
+            Ok(Some((file, about)))
+        }
+        Err(fault) if fault.kind() == ErrorKind::NotFound => Ok(None),
+        Err(fault) => Err(fault),
+    }
+}
+
+// The bytes in place of what the file holds. Only a regular file holds any.
+fn write_straight<F: OpenFile + io::Write>(
+    file: &mut F,
+    about: &Metadata,
+    bytes: &[u8],
+) -> io::Result<()> {
+    if about.is_file() {
+        file.set_len(0)?;
+    }
+    write_whole(file, bytes)
+}
+
+// The name that links lead to, the first of which is this name; or none where one of them names an open file of a process, as
+// `/dev/stdout` does.
+fn end_of_links<R: Files + AllocGlobal>(rt: &R, name: &str) -> Result<Option<PathBuf>, StoreFault> {
+    let mut path = PathBuf::from_str(rt.alloc(), name).or(Err(StoreFault::Memory))?;
+    for _ in 0..LINKS {
+        match fs::symlink_metadata(rt, path.as_str()) {
+            Ok(about) if !about.is_symlink() => return Ok(Some(path)),
+            Ok(about) if is_of_process(rt, &about) => return Ok(None),
+            Ok(_) => path = follow(rt, path.as_path())?,
+            Err(fault) if fault.kind() == ErrorKind::NotFound => return Ok(Some(path)),
+            Err(_) => return Err(StoreFault::Failed),
+        }
+    }
+    Err(StoreFault::Failed)
+}
+
+// Whether this is about a link of the file system of processes.
+fn is_of_process<R: Files>(rt: &R, link: &Metadata) -> bool {
+    match fs::symlink_metadata(rt, "/proc/self") {
+        Ok(own) => own.dev() == link.dev(),
+        Err(_) => false,
+    }
+}
+
+// What the link says, from the folder in which it stands.
+fn follow<R: Files + AllocGlobal>(rt: &R, link: Path<'_>) -> Result<PathBuf, StoreFault> {
+    match fs::read_link(rt, link) {
+        Ok(text) => link
+            .with_file_name(rt.alloc(), text.as_str())
+            .or(Err(StoreFault::Memory)),
+        Err(fault) if fault.kind() == ErrorKind::OutOfMemory => Err(StoreFault::Memory),
+        Err(_) => Err(StoreFault::Failed),
+    }
+}
+
+// Lets a new file with these bytes take the place of what stands under the path.
+fn replace<R: Files + AllocGlobal>(
+    rt: &R,
+    path: Path<'_>,
+    old: Option<&Metadata>,
+    bytes: &[u8],
+) -> Result<(), StoreFault> {
+    let (new, file) = make_beside(rt, path)?;
+    let moved = match fill(rt, file, new.as_path(), old, bytes) {
+        Ok(()) => fs::rename(rt, new.as_path(), path),
+        Err(fault) => Err(fault),
+    };
+    if moved.is_err() {
+        let _removed = fs::remove_file(rt, new.as_path());
+        return Err(StoreFault::Failed);
+    }
+    Ok(())
+}
+
+// A new file in the same folder, under the first of its names that is free.
+fn make_beside<R: Files + AllocGlobal>(
+    rt: &R,
+    path: Path<'_>,
+) -> Result<(PathBuf, R::File), StoreFault> {
+    let name = cut(path.file_name().ok_or(StoreFault::Failed)?);
+    for number in 1..=TRIES {
+        let new = beside(rt.alloc(), path, name, number).or(Err(StoreFault::Memory))?;
+        match File::create_new(rt, new.as_path()) {
+            Ok(file) => return Ok((new, file)),
+            Err(fault) if fault.kind() == ErrorKind::AlreadyExists => {}
+            Err(_) => return Err(StoreFault::Failed),
+        }
+    }
+    Err(StoreFault::Failed)
+}
+
+// The name, or as many of its first letters as a new file's name has room for.
+fn cut(name: &str) -> &str
+    ensures at_most { length result.now ≤ 240 }
+    ensures starts { result.now ≡ take (length result.now) name.now }
+{
+    for end in (0..=KEPT).rev() {
+        if let Some(part) = name.get(..end) {
+            return part;
+        }
+    }
+    ""
+}
+
+// Puts the bytes into the new file, and has the disk take them.
+fn fill<R: Files>(
+    rt: &R,
+    mut file: R::File,
+    new: Path<'_>,
+    old: Option<&Metadata>,
+    bytes: &[u8],
+) -> io::Result<()> {
+    if let Some(old) = old {
+        take_after(rt, &file, new, old)?;
+    }
+    write_whole(&mut file, bytes)?;
+    file.sync_all()
+}
+
+// Gives the new file the mode of the old one, and its owner and group where the system lets it.
+fn take_after<R: Files>(rt: &R, file: &R::File, new: Path<'_>, old: &Metadata) -> io::Result<()> {
+    let about = file.metadata()?;
+    if (about.uid(), about.gid()) != (old.uid(), old.gid()) {
+        let _given = chown(rt, new, Some(old.uid()), Some(old.gid()));
+    }
+    let access = old.mode() & ACCESS;
+    if about.mode() & ACCESS != access {
+        file.set_permissions(Permissions::from_mode(access))?;
+    }
+    Ok(())
+}
+
+fn beside(alloc: Global, path: Path<'_>, name: &str, number: u32) -> Result<PathBuf, AllocError> {
+    let new = format!(in alloc; ".{name}.opgen-{number}")?;
+    path.with_file_name(alloc, new.as_str())
+}

@@ -1,0 +1,16 @@
+use Rattle.std.proofs.Common.{subst, sym}
+use Rattle.opgen_design.specs.Tree.{port}
+use Rattle.opgen_machine.specs.Programs.{Spots}
+use Rattle.opgen_machine.specs.Emit.{Emitted}
+use Rattle.opgen_machine.proofs.Emitted.{at-spots, spot-there, emitted-port}
+use Rattle.opgen_machine.proofs.expression.port.Goals as goal
+
+pub spot_at-requires : goal.spot_at-requires
+spot_at-requires c = let a = at-spots c.args.ports.now c.args.place c.requires.fits in spot-there c.args.ports.now c.args.place a.0 a.2
+
+pub returns : goal.returns
+returns c =
+    let spots : Spots = record { signals = c.args.signals.now; ports = c.args.ports.now } in
+    let steps = c.args.steps.now.items in
+    subst (Emitted c.args.base spots (port c.args.place) steps steps) (sym c.spot_at.ensures)
+    (emitted-port c.args.base spots steps c.requires.fine c.requires.spots c.args.place c.requires.fits)

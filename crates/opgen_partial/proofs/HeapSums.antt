@@ -1,0 +1,224 @@
+-- The products of bits in a heap: the sum that they give it, and the net that they stand in.
+use Rattle.std.proofs.Common.{◌≡◌, ℕ, zero, suc, ◌+◌, ◌*◌, ◌%◌, ◌^◌, ◌<◌, ◌≤◌, Bool, true, false, ◌&&◌, leb, ltb, cond, List, [], ◌∷◌, length, refl, sym, ap, ◌∙◌, subst, if◌then◌else◌, arith}
+use Rattle.std.specs.Prelude.{ℤ, All, nat_lt, slice_index, slice_index_or}
+use Rattle.std.proofs.Math.Nat.{mod-add-mod}
+use Rattle.std.proofs.lemmas.Bool.{ltb-true}
+use Rattle.opgen_num.specs.Words.{digit}
+use Rattle.opgen_heap.specs.Contents.{Contents}
+use Rattle.opgen_heap.specs.Sum.{bit_under, columns_sum, heap_sum}
+use Rattle.opgen_heap.specs.Adding.{with_bit_at, with_bit}
+use Rattle.opgen_heap.specs.Standing.{AllThere}
+use Rattle.opgen_heap.proofs.Bits.{with_bit-all}
+use Rattle.opgen_heap.proofs.Columns.{length-with_bit_at}
+use Rattle.opgen_heap.proofs.Kept.{sum-kept}
+use Rattle.opgen_heap.proofs.Standing.{columns-still_there}
+use Rattle.opgen_heap.proofs.Sums.{with_bit-sum, with_bit-width}
+use Rattle.opgen_design.specs.Run.{AreWords}
+use Rattle.opgen_net.specs.declared.cell.Class.TheVariants.{Logic}
+use Rattle.opgen_net.specs.declared.net.Net.{Net}
+use Rattle.opgen_net.specs.declared.node.Node.{Node}
+use Rattle.opgen_net.specs.declared.node.Node.TheVariants.{Cells}
+use Rattle.opgen_net.specs.declared.word_bits.WordBit.{WordBit}
+use Rattle.opgen_net.specs.declared.word_bits.WordBit.TheVariants.{Of}
+use Rattle.opgen_net.specs.Flow.{Inputs, flow}
+use Rattle.opgen_net.specs.Grown.{HasGrown}
+use Rattle.opgen_net.specs.Placed.{with_last}
+use Rattle.opgen_net.specs.Valid.{widths, input_widths, IsValid, FitsNodes}
+use Rattle.opgen_net.specs.WordRule.{IsThere}
+use Rattle.opgen_net.proofs.Appending.{valid-append, flow-append_last, width-append_last}
+use Rattle.opgen_net.proofs.FlowWidths.{flow-width}
+use Rattle.opgen_net.proofs.Grown.{grown-more, grown-then, grown-same, grown-flow, grown-width}
+use Rattle.opgen_net.proofs.Later.{node_there, words-grown}
+use Rattle.opgen_budget.specs.Sums.{sum_to, sum_over_pairs}
+use Rattle.opgen_partial.specs.declared.pairs.Factor.{Factor}
+use Rattle.opgen_partial.specs.declared.pairs.Products.{Products}
+use Rattle.opgen_partial.specs.declared.pairs.Work.{Work}
+use Rattle.opgen_partial.specs.Law.{IsFactor, AreFactors, words_at}
+use Rattle.opgen_partial.specs.Recipe.{partial_product, has_one_sign, with_product, with_row, with_rows}
+use Rattle.opgen_partial.proofs.Kept.{kept}
+use Rattle.opgen_partial.proofs.Operands.{product-fits, product-value}
+use Rattle.opgen_partial.proofs.PartialSums.{piece, pieces}
+
+-- a bit more leaves no more columns than the heap is wide
+pub bit-few : (heap : Contents) (b : WordBit) (weight : ℕ) → length heap.columns ≤ heap.width
+    → length (with_bit heap b weight).columns ≤ (with_bit heap b weight).width
+bit-few heap b weight h = by (nat_lt weight heap.width) (ltb-true weight heap.width)
+  where
+    given : Bool → Contents
+    given c = if c then record heap { columns = with_bit_at heap.columns weight b } else heap
+
+    by : (c : Bool) → (c ≡ true → weight < heap.width) → length (given c).columns ≤ (given c).width
+    by true within = length-with_bit_at heap.columns weight b heap.width h (within refl)
+    by false within = h
+
+pub bit-constant : (heap : Contents) (b : WordBit) (weight : ℕ) → (with_bit heap b weight).constant ≡ heap.constant
+bit-constant heap b weight = by (nat_lt weight heap.width)
+  where
+    by : (c : Bool) → (if c then record heap { columns = with_bit_at heap.columns weight b } else heap).constant ≡ heap.constant
+    by true = refl
+    by false = refl
+
+-- a factor of a net is one of the net that has grown from it
+pub factor-later : (f : Factor) (old new : Net) → HasGrown old new → IsFactor f old → IsFactor f new
+factor-later f old new grown is = record {
+  width = grown-width old new grown f.node (node_there old f.node f.width is.is_width.0 is.width) ∙ is.width;
+  is_width = is.is_width;
+}
+
+module _ (p : Products) (start : Work) (valid_start : IsValid start.net) (factors : AreFactors p start.net)
+    (there_start : AllThere start.net start.heap.columns) where
+  abbrev pub AreInputs : Inputs → Type 0
+  AreInputs ins = All (AreWords (input_widths start.net)) ins
+
+  -- the words of the factors
+  abbrev pub first : Inputs → ℤ → List Bool
+  first ins t = flow start.net.nodes ins p.a.node t
+
+  abbrev pub second : Inputs → ℤ → List Bool
+  second ins t = flow start.net.nodes ins p.b.node t
+
+  first-there : p.a.node < length start.net.nodes
+  first-there = node_there start.net p.a.node p.a.width factors.first.is_width.0 factors.first.width
+
+  second-there : p.b.node < length start.net.nodes
+  second-there = node_there start.net p.b.node p.b.width factors.second.is_width.0 factors.second.width
+
+  pub first-length : (ins : Inputs) (t : ℤ) → AreInputs ins → length (first ins t) ≡ p.a.width
+  first-length ins t h = flow-width start.net valid_start ins h p.a.node t ∙ factors.first.width
+
+  pub second-length : (ins : Inputs) (t : ℤ) → AreInputs ins → length (second ins t) ≡ p.b.width
+  second-length ins t h = flow-width start.net valid_start ins h p.b.node t ∙ factors.second.width
+
+  -- a net and a heap that have grown from the first ones: the heap's sum has grown by a total over the factors' words
+  pub record HasSum (w : Work) (total : (a b : List Bool) → ℕ) : Type 0 where
+    pub valid : IsValid w.net
+    pub grown : HasGrown start.net w.net
+    pub there : AllThere w.net w.heap.columns
+    pub width : w.heap.width ≡ start.heap.width
+    pub constant : w.heap.constant ≡ start.heap.constant
+    pub few : length start.heap.columns ≤ start.heap.width → length w.heap.columns ≤ w.heap.width
+    pub sum : (ins : Inputs) (t : ℤ) → AreInputs ins
+        → heap_sum (words_at w.net.nodes ins t) w.heap
+        ≡ (heap_sum (words_at start.net.nodes ins t) start.heap + total (first ins t) (second ins t)) % 2 ^ w.heap.width
+
+  same_total : (w : Work) (f g : (a b : List Bool) → ℕ) → ((a b : List Bool) → f a b ≡ g a b) → HasSum w f → HasSum w g
+  same_total w f g e h = record {
+    valid = h.valid;
+    grown = h.grown;
+    there = h.there;
+    width = h.width;
+    constant = h.constant;
+    few = h.few;
+    sum = λ ins t words.
+        h.sum ins t words
+        ∙ ap (λ n. (heap_sum (words_at start.net.nodes ins t) start.heap + n) % 2 ^ w.heap.width) (e (first ins t) (second ins t));
+  }
+
+  -- the product of two bits, turned where one of them is a sign
+  abbrev pub bit_product : (a b : List Bool) (i j : ℕ) → ℕ
+  bit_product a b i j = pieces (has_one_sign p) a b i j
+
+  module _ (w : Work) (total : (a b : List Bool) → ℕ) (h : HasSum w total) (i j : ℕ) (low : i < p.a.width) (high : j < p.b.width) where
+    abbrev cells : Node
+    cells = Cells Logic 1 (partial_product p i j)
+
+    abbrev larger : Net
+    larger = with_last w.net cells
+
+    abbrev bit : WordBit
+    bit = Of (length w.net.nodes) 0
+
+    fits : FitsNodes (widths w.net.nodes) 1 (partial_product p i j)
+    fits =
+        product-fits p i j low high (widths w.net.nodes) (factor-later p.a start.net w.net h.grown factors.first).width
+        (factor-later p.b start.net w.net h.grown factors.second).width
+
+    value-of : (ins : Inputs) (t : ℤ) → AreInputs ins
+        → bit_under (words_at larger.nodes ins t) bit ≡ piece (has_one_sign p) (first ins t) (second ins t) i j
+    value-of ins t words =
+        let a = grown-flow start.net w.net h.grown ins p.a.node t first-there in
+        let b = grown-flow start.net w.net h.grown ins p.b.node t second-there in
+        let value = product-value p i j low high (record { names = λ n. flow w.net.nodes ins n t; ports = λ n. [] })
+        (ap length a ∙ first-length ins t words) (ap length b ∙ second-length ins t words) in
+        ap (λ v. slice_index_or v 0 false) (flow-append_last w.net.nodes cells ins t ∙ value)
+        ∙ ap (λ v. piece (has_one_sign p) v (flow w.net.nodes ins p.b.node t) i j) a
+        ∙ ap (λ v. piece (has_one_sign p) (first ins t) v i j) b
+
+    added : HasSum (record { net = larger; heap = with_bit w.heap bit (i + j) }) (λ a b. total a b + bit_product a b i j)
+    added =
+        let grown = grown-more w.net (cells ∷ []) in
+        let wide : slice_index (widths larger.nodes) (length w.net.nodes) ≡ 1 = width-append_last w.net.nodes cells in
+        let same : (with_bit w.heap bit (i + j)).width ≡ w.heap.width = with_bit-width w.heap bit (i + j) in
+        record {
+          valid = valid-append w.net cells h.valid (tt, fits) refl;
+          grown = grown-then start.net w.net larger h.grown grown;
+          there = with_bit-all (IsThere (widths larger.nodes)) w.heap bit (i + j) (omega (arith, wide))
+              (columns-still_there w.net larger grown w.heap.columns h.there);
+          width = same ∙ h.width;
+          constant = bit-constant w.heap bit (i + j) ∙ h.constant;
+          few = λ le. bit-few w.heap bit (i + j) (h.few le);
+          sum = λ ins t words.
+              let W = 2 ^ w.heap.width in
+              let x = digit (bit_under (words_at larger.nodes ins t) bit) * 2 ^ (i + j) in
+              let base = heap_sum (words_at start.net.nodes ins t) start.heap in
+              let before = total (first ins t) (second ins t) in
+              let of_words = words-grown start.net w.net h.grown ins words in
+              with_bit-sum (words_at larger.nodes ins t) w.heap bit (i + j)
+              ∙ ap (λ s. (s + x) % W) (sum-kept w.net larger grown ins t w.heap h.there ∙ h.sum ins t words)
+              ∙ mod-add-mod (base + before) W x
+              ∙ ap (λ v. (base + before + digit v * 2 ^ (i + j)) % W) (value-of ins t words)
+              ∙ ap (λ n. n % W) (omega arith)
+              ∙ ap (λ k. (base + (before + bit_product (first ins t) (second ins t) i j)) % 2 ^ k) (sym same);
+        }
+
+    pub product-sum : HasSum (with_product p i j w) (λ a b. total a b + kept p.left_out start.heap.width (i + j) (bit_product a b i j))
+    product-sum =
+        subst (λ k. HasSum (with_product p i j w) (λ a b. total a b + kept p.left_out k (i + j) (bit_product a b i j))) h.width
+        (by (leb p.left_out (i + j) && ltb (i + j) w.heap.width))
+      where
+        by : (c : Bool)
+            → HasSum (if c then record { net = larger; heap = with_bit w.heap bit (i + j) } else w)
+            (λ a b. total a b + cond c (bit_product a b i j) 0)
+        by true = added
+        by false = same_total w total (λ a b. total a b + 0) (λ a b. omega arith) h
+
+  abbrev pub weight : (a b : List Bool) (i j : ℕ) → ℕ
+  weight a b i j = kept p.left_out start.heap.width (i + j) (bit_product a b i j)
+
+  -- the products of the first bits of a with those of b, in the columns that are kept
+  abbrev pub kept_sum : (count : ℕ) (a b : List Bool) → ℕ
+  kept_sum count a b = sum_over_pairs count p.b.width (weight a b)
+
+  row-sum : (i j : ℕ) (w : Work) (total : (a b : List Bool) → ℕ) → i < p.a.width → j ≤ p.b.width → HasSum w total
+      → HasSum (with_row p i j w) (λ a b. total a b + sum_to j (weight a b i))
+  row-sum i zero w total low high h = same_total w total (λ a b. total a b + 0) (λ a b. omega arith) h
+  row-sum i (suc j) w total low high h =
+      let before : (a b : List Bool) → ℕ = λ a b. total a b + sum_to j (weight a b i) in
+      let row = row-sum i j w total low (omega (arith, high)) h in
+      same_total (with_row p i (suc j) w) (λ a b. before a b + weight a b i j) (λ a b. total a b + sum_to (suc j) (weight a b i))
+      (λ a b. omega arith) (product-sum (with_row p i j w) before row i j low (omega (arith, high)))
+
+  rows-sum : (i : ℕ) → i ≤ p.a.width → HasSum start (λ a b. 0) → HasSum (with_rows p i start) (kept_sum i)
+  rows-sum zero low h = h
+  rows-sum (suc i) low h =
+      let before = rows-sum i (omega (arith, low)) h in
+      row-sum i p.b.width (with_rows p i start) (kept_sum i) (omega (arith, low)) (omega arith) before
+
+  -- at first
+  none-sum : HasSum start (λ a b. 0)
+  none-sum = record {
+    valid = valid_start;
+    grown = grown-same start.net;
+    there = there_start;
+    width = refl;
+    constant = refl;
+    few = λ le. le;
+    sum = λ ins t words.
+        let all = columns_sum (words_at start.net.nodes ins t) start.heap.columns + start.heap.constant in
+        let same : all + 0 ≡ all = omega arith in
+        sym (mod-add-mod all (2 ^ start.heap.width) 0 ∙ ap (λ n. n % 2 ^ start.heap.width) same);
+  }
+
+  -- all products of bits
+  pub products-sum : HasSum (with_rows p p.a.width start) (kept_sum p.a.width)
+  products-sum = rows-sum p.a.width (omega arith) none-sum

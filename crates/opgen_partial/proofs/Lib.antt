@@ -1,0 +1,5 @@
+mod PartialSums
+mod Kept
+mod Operands
+mod HeapSums
+pub mod Laws

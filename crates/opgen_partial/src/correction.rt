@@ -1,0 +1,34 @@
+//! What makes good that turned bits stand for negative ones.
+ghost use Rattle.std.specs.Prelude.{◌≡◌, ◌≤◌, ◌+◌, ◌-◌, ◌^◌, pos, neg_ℤ, ◌+ℤ◌, ◌-ℤ◌, ◌≤ℤ◌};
+ghost use Rattle.opgen_num.specs.declared.TheConstants.{MAX_WIDTH};
+ghost use Rattle.opgen_partial.specs.Recipe.{sign_correction};
+
+use crate::pairs::Factor;
+use opgen_num::MAX_WIDTH;
+
+fn power(places: u32) -> i128
+    requires { places ≤ MAX_WIDTH }
+    ensures value { result ≡ pos (2 ^ places) }
+    ensures small { result ≤ℤ pos (2 ^ 96) }
+    ensures some { pos 0 ≤ℤ result }
+{
+    1 << places
+}
+
+/// What is to be added to the products of the bits of two factors, so that they make the product of the factors' numbers: a turned
+/// bit is as if its negative and a power of two were added.
+pub fn sign_correction(a: Factor, b: Factor) -> i128
+    requires a { 1 ≤ a.width }
+    requires b { 1 ≤ b.width }
+    requires room { a.width + b.width ≤ MAX_WIDTH }
+    ensures value { result ≡ sign_correction a.signed b.signed a.width b.width }
+    ensures low { neg_ℤ (pos (2 ^ 96)) ≤ℤ result }
+    ensures high { result ≤ℤ pos (2 ^ 97) }
+{
+    match (a.signed, b.signed) {
+        (false, false) => 0,
+        (true, false) => power(a.width - 1) - power(a.width + b.width - 1),
+        (false, true) => power(b.width - 1) - power(a.width + b.width - 1),
+        (true, true) => power(a.width - 1) + power(b.width - 1) - power(a.width + b.width - 1),
+    }
+}

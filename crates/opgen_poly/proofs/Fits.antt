@@ -1,0 +1,66 @@
+-- The net of a polynomial fits every valid specification of it.
+use Rattle.std.proofs.Common.{◌≡◌, ℕ, Bool, false, List, [], ◌∷◌, map, codes, sym, ap, ◌∙◌, subst, arith}
+use Rattle.std.specs.Prelude.{ℤ, pos, ◌-ℤ◌, if◌then◌else◌}
+use Rattle.std.proofs.lemmas.Int.{ints}
+use Rattle.opgen_num.specs.declared.format.Format.{Format}
+use Rattle.opgen_num.specs.Values.{int, val}
+use Rattle.opgen_num.specs.Words.{nat}
+use Rattle.opgen_design.specs.Value.{word_at}
+use Rattle.opgen_net.specs.declared.net.Output.{Output}
+use Rattle.opgen_net.specs.Flow.{Inputs, input_at, slice_flow}
+use Rattle.opgen_net.specs.Valid.{slice_width}
+use Rattle.opgen_operator.specs.declared.spec.Operator.TheVariants.{Poly}
+use Rattle.opgen_operator.specs.declared.spec.Poly.{Poly as Polynomial}
+use Rattle.opgen_operator.specs.Accepted.{IsAcceptedPoly}
+use Rattle.opgen_operator.specs.Exact.{exact_poly}
+use Rattle.opgen_operator.specs.Fits.{FitsOperator, FitsSpecsOf}
+use Rattle.opgen_operator.specs.Good.{IsGoodRatio}
+use Rattle.opgen_operator.specs.Ports.{poly_format}
+use Rattle.opgen_operator.specs.Ranges.{IsPoly}
+use Rattle.opgen_operator.proofs.Accepted.{accepted_ranges, poly_faithful}
+use Rattle.opgen_poly.specs.Near.{input_number}
+use Rattle.opgen_poly.specs.Recipe.{net_of_poly}
+use Rattle.opgen_poly.proofs.Runs.{output, out, made-inputs, made-outputs, made-valid, output-wide, output-value, output-near, words-for}
+
+pub accepted : (p : Polynomial) → IsAcceptedPoly p → IsPoly p
+accepted p is = accepted_ranges (Poly p) is
+
+unsigned : (v : List Bool) (f : Format) → f.signed ≡ false → val v f ≡ pos (nat v)
+unsigned v f e = ap (λ (c : Bool). if c then int v else pos (nat v)) e
+
+now : (t : ℕ) → pos t -ℤ pos 0 ≡ pos t
+now t = omega (arith, ints)
+
+module _ (p : Polynomial) (fits : IsPoly p) where
+  -- of the first of some outputs
+  abbrev shown : Inputs → ℕ → List Output → ℤ
+  shown ins t os = val (word_at (map (λ o. slice_flow (net_of_poly p).nodes ins o.from (pos t)) os) 0) (poly_format p)
+
+  abbrev entered : Inputs → ℕ → ℤ
+  entered ins t = val (input_at ins 0 p.input.width (pos t -ℤ pos 0)) p.input
+
+  input-now : (ins : Inputs) (t : ℕ) → entered ins t ≡ pos (input_number p ins (pos t))
+  input-now ins t =
+      ap (λ u. val (input_at ins 0 p.input.width u) p.input) (now t)
+      ∙ unsigned (input_at ins 0 p.input.width (pos t)) p.input fits.unsigned
+
+  pub net-fits : FitsOperator false (Poly p) (net_of_poly p)
+  net-fits = record {
+    valid = made-valid p fits;
+    inputs = made-inputs p fits;
+    outputs = ap (λ os. map (λ (o : Output). (o.name, slice_width o.from)) os) (made-outputs p fits)
+        ∙ ap (λ k. (codes "y", k) ∷ []) (output-wide p fits);
+    good = λ ins t words less ranges.
+        let inside = words-for p fits ins words in
+        let value : shown ins t (output p fits ∷ []) ≡ out p fits ins (pos t) inside = output-value p fits ins (pos t) inside in
+        let all : shown ins t (net_of_poly p).outputs ≡ out p fits ins (pos t) inside = ap (shown ins t) (made-outputs p fits) ∙ value in
+        subst (λ z. IsGoodRatio false (exact_poly p z) (shown ins t (net_of_poly p).outputs)) (sym (input-now ins t))
+        (subst (λ z. IsGoodRatio false (exact_poly p (pos (input_number p ins (pos t)))) z) (sym all)
+        (output-near p fits ins (pos t) inside));
+  }
+
+pub fits_specs : (p : Polynomial) → IsAcceptedPoly p → FitsSpecsOf (Poly p) (net_of_poly p)
+fits_specs p is spec valid e =
+    let faithful = poly_faithful spec p valid e in
+    subst (λ op. FitsOperator spec.exact op (net_of_poly p)) (sym e)
+    (subst (λ x. FitsOperator x (Poly p) (net_of_poly p)) (sym faithful) (net-fits p (accepted p is)))

@@ -1,0 +1,10 @@
+mod Sizes
+mod Cores
+mod Cuts
+mod Terms
+mod Values
+mod StepLaws
+mod FirstLaws
+mod Runs
+pub mod Fits
+mod Named

@@ -1,0 +1,37 @@
+//! The net of a polynomial by Horner's rule in fixed point, with rounded products and some guard bits
+//! (de Dinechin and Kumm, Application-Specific Arithmetic: polynomials, Horner's rule).
+#![tactic(auto)]
+
+ghost use Rattle.std.specs.Prelude.{ℕ, ◌≡◌, List, IsTrue, IfOk};
+ghost use Rattle.opgen_names.specs.Names.{is_allowed_name};
+ghost use Rattle.opgen_net.specs.Named.{IsNamed};
+ghost use Rattle.opgen_operator.specs.Accepted.{IsAcceptedPoly};
+ghost use Rattle.opgen_operator.specs.Fits.{FitsSpecsOf};
+ghost use Rattle.opgen_operator.specs.declared.spec.Operator.TheVariants.{Poly};
+ghost use Rattle.opgen_poly.specs.Near.{ArePartialsNear};
+ghost use Rattle.opgen_poly.specs.Recipe.{net_of_poly};
+
+mod numbers;
+mod steps;
+
+use opgen_net::Net;
+use opgen_num::Memory;
+use opgen_operator::Poly as Polynomial;
+use std::alloc::Global;
+use steps::polynomial_net;
+
+/// The net of the value `y` of a polynomial at the input `x`.
+///
+/// From the last coefficient down, the partial value so far is multiplied by the input, without the lowest columns of the product,
+/// and the next coefficient is added, in units of the lowest guard bit. The output is rounded to its last place; it is less than one
+/// unit from the polynomial's value.
+pub fn build(alloc: Global, poly: &Polynomial) -> Result<Net, Memory>
+    requires { IsAcceptedPoly poly.now }
+    ensures net { IfOk result (λ net. net ≡ net_of_poly poly.now) }
+    ensures near { IfOk result (ArePartialsNear poly.now) }
+    ensures fits { IfOk result (FitsSpecsOf (Poly poly.now)) }
+    ensures named { IfOk result (λ net. (name : List ℕ) → IsTrue (is_allowed_name name) → IsNamed name net) }
+{
+    let net = polynomial_net(alloc, poly)?;
+    Ok(net)
+}

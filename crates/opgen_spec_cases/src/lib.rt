@@ -1,9 +1,0 @@
-//! Documents of specifications: tests alone.
-#![tactic(auto)]
-
-#[cfg(test)]
-mod documents;
-#[cfg(test)]
-mod running;
-#[cfg(test)]
-mod versions;

@@ -1,0 +1,6 @@
+pub mod Zeros
+pub mod Chains
+pub mod Steps
+pub mod Values
+pub mod Filters
+pub mod Named

@@ -1,0 +1,356 @@
+"""Explains the faults of a specification: what is where, what is expected there and what to do."""
+import re
+from collections.abc import Callable, Iterator
+from fractions import Fraction
+from pathlib import Path
+from typing import Any
+
+from .. import schema
+from ..places import Place
+from ..specification import SHIFTS, NotToml, Specification, load, most_signal, shift_of
+
+MOST_WRITTEN = 40
+TYPES = {bool: "a truth value", int: "a whole number", float: "a float", str: "a text", list: "an array", dict: "a table"}
+
+
+def type_name(value: Any) -> str:
+    return TYPES.get(type(value), "a date or time")
+
+
+def short(text: str) -> str:
+    line = text.split("\n")[0]
+    return line if line == text and len(line) <= MOST_WRITTEN else f"{line[:MOST_WRITTEN]}.."
+
+
+class Explainer:
+    """The explanations of one specification's faults: a method for each, named as the fault."""
+
+    def __init__(self, file: str, specification: Specification) -> None:
+        self.file, self.spec, self.table = file, specification, specification.table
+
+    def at(self, place: Place | None) -> str:
+        """The file, with the place if that is known."""
+        return f"{self.file}:{place}" if place else self.file
+
+    @property
+    def of_kind(self) -> str:
+        return f" of kind {self.table['kind']}" if schema.has_kind(self.table) else ""
+
+    @property
+    def for_kind(self) -> str:
+        return f" for kind {self.table['kind']}" if schema.has_kind(self.table) else ""
+
+    @property
+    def version(self) -> int:
+        return 1 if self.table.get("version") == 1 else 2
+
+    def is_version(self) -> bool:
+        return self.table.get("version") in (1, 2)
+
+    def line_table(self, line: int) -> dict[str, Any]:
+        """The document, or a delay line by its number."""
+        return self.table["delay"][line - 1] if line else self.table
+
+    def path(self, key: str, line: int) -> tuple[str | int, ...]:
+        return ("delay", line - 1, key) if line else (key,)
+
+    def rules(self, key: str, line: int) -> dict:
+        return schema.line_rules_of(key) if line else schema.rules_of(key, self.table)
+
+    def written(self, *path: str | int) -> str:
+        """What is written at a path, or else the value."""
+        spot = self.spec.spot(*path)
+        return short(spot.written) if spot and spot.written else ""
+
+    def unknown_key(self, line: int, at: int) -> Iterator[str]:
+        table = self.line_table(line)
+        key = sorted(table, key=str.encode)[at]
+        place = self.spec.key_place(*self.path(key, line))
+        if line:
+            known = list(schema.LINE["properties"])
+            yield f'{self.at(place)}: unknown key "{key}" of delay line {line}; its keys are {", ".join(known)}'
+            return
+        known = [one for one in schema.keys_of(self.table) if one != key]
+        its = "its keys" if self.of_kind else "the keys"
+        yield f'{self.at(place)}: unknown key "{key}"{self.of_kind}; {its} are {", ".join(known)}'
+        if key in schema.keys_of(self.table | {"version": 2}) and self.version == 1:
+            yield f"  {key} is a key of version 2: take it out, or write version = 2"
+        elif others := schema.kinds_with(key):
+            yield f"  {key} is a key of {', '.join(others)}: take it out, or change kind"
+
+    def missing_key(self, key: str, line: int = 0) -> Iterator[str]:
+        if line:
+            place = self.spec.key_place("delay", line - 1)
+            yield f'{self.at(place)}: delay line {line} has no key "{key}"'
+        else:
+            yield f'{self.file}: the key "{key}"{self.of_kind} is missing'
+        if example := self.example(key, line):
+            yield f"  add {'it' if line else 'a line'} as: {example}"
+
+    def example(self, key: str, line: int) -> str:
+        """How a template writes a key, with its comment."""
+        kind = self.table["kind"] if self.of_kind else "scale"
+        path = schema.TOP / "templates" / ("delay.toml" if line else f"{kind}.toml")
+        try:
+            place = load(path).key_place(*self.path(key, 1 if line else 0))
+            return path.read_text(encoding="utf-8").splitlines()[place.line - 1] if place else ""
+        except (OSError, NotToml):
+            return ""
+
+    def wrong_type(self, key: str, line: int = 0) -> Iterator[str]:
+        path, rules = self.path(key, line), self.rules(key, line)
+        value = self.line_table(line)[key]
+        if key == "denominator" and type(value) is int:
+            yield f"{self.at(self.spec.key_place(*path))}: denominator is beside decimal texts, which have their own"
+            yield "  take the denominator out, or write the coefficients as whole numbers"
+            return
+        expected = schema.expected(rules)
+        if isinstance(value, list) and (index := self.wrong_element(value, rules)) is not None:
+            path, value = (*path, index), value[index]
+            name, hint = f"element {index + 1} of {key}", ""
+        else:
+            name = f"{key} of delay line {line}" if line else key
+            hint = self.instead(value, rules, self.written(*path))
+        written = self.written(*path)
+        found = f"{written}, {type_name(value)}" if written else type_name(value)
+        yield f"{self.at(self.spec.value_place(*path))}: {name} is {found}; expected {expected}{hint}"
+
+    def wrong_element(self, items: list, rules: dict) -> int | None:
+        """The first element that is not of the form which the first has, or of none."""
+        forms = schema.forms_of(rules)
+        form = next((form for form in forms if items and schema.is_type(items[0], form["type"])), None)
+        if form is None:
+            return 0 if items else None
+        return next((index for index, one in enumerate(items) if not is_of(one, form)), None)
+
+    def instead(self, value: Any, rules: dict, written: str) -> str:
+        """How the same may be written in the right type, where that is plain."""
+        match rules.get("type"), value:
+            case "integer", float() if value.is_integer():
+                return f", as {int(value)}"
+            case "integer", str() if re.fullmatch(r"[+-]?(0|[1-9][0-9]*)", value):
+                return f", as {value}"
+            case "boolean", ("true" | "false"):
+                return f", as {value}"
+            case "string", (int() | float()) if written:
+                return f', as "{written}"'
+            case "array", (int() | str()) if written:
+                return f", as [{written}]"
+        return ""
+
+    def bad_version(self, found: int) -> Iterator[str]:
+        expected = schema.expected(schema.SCHEMA["properties"]["version"])
+        yield f"{self.at(self.spec.value_place('version'))}: version is {found}; expected {expected}"
+        yield f"  {schema.SCHEMA['properties']['version']['description']}"
+
+    def bad_name(self) -> Iterator[str]:
+        name = self.table["name"]
+        why = why_bad(name)
+        found = self.written("name") or repr(name)
+        yield f"{self.at(self.spec.value_place('name'))}: name is {found}" + (f": {why}" if why else "")
+        yield "  expected 1 to 32 of small letters, digits and single _, a letter first, and no word of VHDL or port"
+
+    def bad_kind(self) -> Iterator[str]:
+        kinds = schema.rules_of("kind", self.table).get("enum", schema.kinds())
+        kind = self.table["kind"]
+        yield f"{self.at(self.spec.value_place('kind'))}: kind is {self.written('kind')}; expected one of {', '.join(kinds)}"
+        if kind in schema.kinds():
+            yield f"  kind {kind} asks for version = 2"
+
+    def out_of_range(self, key: str, *numbers: int) -> Iterator[str]:
+        line, found = numbers if len(numbers) == 2 else (0, numbers[0])
+        value, rules = self.line_table(line)[key], self.rules(key, line)
+        name = f"{key} of delay line {line}" if line else key
+        if isinstance(value, list):
+            yield from self.array_out_of_range(key, value, rules, found)
+            return
+        spot = self.spec.value_place(*self.path(key, line))
+        if isinstance(value, str):
+            yield from self.text_out_of_range(name, value, rules, found, spot)
+            return
+        expected = schema.bounds(rules)
+        yield f"{self.at(spot)}: {name} is {found}" + (f"; expected {expected}" if expected else "")
+        if "maximum" in rules and key.startswith("width") and self.version == 1 and found > rules["maximum"]:
+            most = schema.rules_of(key, self.table | {"version": 2})["maximum"]
+            if found <= most:
+                yield f"  version = 2 takes inputs of up to {most} bits"
+        if "minimum" in rules and key.startswith("width") and found == 1 and self.table.get("signed") is True:
+            yield "  a signed input has two bits or more"
+
+    def text_out_of_range(self, name: str, value: str, rules: dict, found: int, place: Place | None) -> Iterator[str]:
+        words = ", ".join(rules.get("enum", []))
+        length = len(value.encode())
+        if words:
+            yield f'{self.at(place)}: {name} is "{short(value)}"; expected one of {words}'
+        if length == found and length not in range(1, 33):
+            yield f"{'  ' if words else self.at(place) + ': '}{name} has {length} bytes; expected 1 to 32"
+
+    def array_out_of_range(self, key: str, items: list, rules: dict, found: int) -> Iterator[str]:
+        least, most = rules.get("minItems", 0), rules.get("maxItems", len(items))
+        place = self.spec.value_place(key)
+        if found == len(items) and not least <= len(items) <= most:
+            yield f"{self.at(place)}: found {found} {key}; expected {schema.bounds(length_rules(rules))}{self.for_kind}"
+            return
+        numerators, form = numerators_of(items), schema.forms_of(rules)[0]
+        low, high = form.get("minimum"), form.get("maximum")
+        for index, number in enumerate(numerators):
+            if number == found and low is not None and not low <= number <= high:
+                place = self.spec.value_place(key, index)
+                over = f", {number} over the common denominator" if isinstance(items[index], str) else ""
+                written = self.written(key, index) or items[index]
+                yield f"{self.at(place)}: element {index + 1} of {key} is {written}{over}; expected {low} to {high}"
+                return
+        if key == "taps" and found == len(odd_parts(items)):
+            yield f"{self.at(place)}: taps have {found} different odd parts; expected at most 8"
+            return
+        yield f"{self.at(place)}: {key} is out of range: {found}"
+
+    def not_exact(self, index: int) -> Iterator[str]:
+        if "coefficients" in self.table and self.table.get("kind") in ("scale", "fir"):
+            yield from self.coefficient_not_exact(index)
+        elif self.table.get("kind") == "multiply":
+            least = self.table["lsb_a"] + self.table["lsb_b"]
+            out = self.table["out_lsb"]
+            place = self.spec.value_place("out_lsb")
+            most = f"at most lsb_a + lsb_b = {least}"
+            yield f"{self.at(place)}: out_lsb is {out}, so the exact product does not fit; expected {most}"
+            yield f"  write {f'out_lsb = {least}, or ' if -32 <= least <= 32 else ''}exact = false"
+        else:
+            place = self.spec.value_place("exact")
+            yield f"{self.at(place)}: exact outputs are not possible{self.for_kind}; write exact = false"
+
+    def coefficient_not_exact(self, index: int) -> Iterator[str]:
+        items, out = self.table["coefficients"], self.table["out_lsb"]
+        texts = isinstance(items[index], str)
+        value = Fraction(items[index]) if texts else Fraction(items[index], self.table.get("denominator", 1))
+        place = self.spec.value_place("coefficients", index)
+        below = "" if texts or value.denominator == 1 else f" / {self.table['denominator']}"
+        found = f"coefficient {index}, from 0, is {self.written('coefficients', index)}{below}"
+        yield f"{self.at(place)}: {found}, not whole in units of the output's last place, 2^{out}"
+        power = value.denominator.bit_length() - 1
+        least = self.table["lsb"] - power
+        if value.denominator == 1 << power and -32 <= least < out:
+            yield f"  write out_lsb = {least} or less, or exact = false"
+        else:
+            yield "  write exact = false: no out_lsb makes it whole"
+
+    def coarse(self, shift: int) -> Iterator[str]:
+        place = self.spec.value_place("out_lsb")
+        formula, limits = SHIFTS.get(self.table.get("kind", ""), ("", {}))
+        if shift_of(self.table) != shift or not self.is_version():
+            yield f"{self.at(place)}: the places of input and output are too far apart: the shift is {shift}"
+            return
+        least, most = limits[self.version]
+        now = self.table["out_lsb"]
+        yield f"{self.at(place)}: {formula} is {shift}; expected {least} to {most}{self.for_kind}"
+        yield f"  {'raise' if shift > most else 'lower'} out_lsb, now {now}, or bring the lsb of the input nearer to it"
+
+    def too_wide(self, need: int) -> Iterator[str]:
+        most = most_signal(self.version)
+        yield f"{self.file}: a signal would need {need} bits; expected at most {most} in version {self.version}"
+        ways = "fewer bits of input, fewer coefficients, or a higher out_lsb"
+        more = f"version = 2, which has {most_signal(2)}; or " if self.version == 1 and need <= most_signal(2) else ""
+        yield f"  {more}{ways}"
+
+    def unknown_target(self) -> Iterator[str]:
+        place = self.spec.value_place("target")
+        targets = schema.SCHEMA["properties"]["target"]["enum"]
+        yield f"{self.at(place)}: target is {self.written('target')}; expected one of {', '.join(targets)}"
+
+    def not_adjustable(self) -> Iterator[str]:
+        place = self.spec.key_place("delay", 0)
+        yield f"{self.at(place)}: target {self.written('target')} takes no delay lines"
+        yield '  write target = "plain", or take the delay lines out'
+
+    def period_too_short(self, need: int) -> Iterator[str]:
+        place, period = self.spec.value_place("period"), self.table["period"]
+        yield f"{self.at(place)}: period {period} is too short: the slowest cell and the setup time need {need} ps"
+        yield f"  write period = {need} or more, or make the operator narrower"
+
+    def too_large(self) -> Iterator[str]:
+        yield f"{self.file}: the design would have more than 65,536 signals"
+        yield "  fewer coefficients or bits, a longer period (fewer registers), or a higher out_lsb"
+
+
+def is_of(value: Any, form: dict) -> bool:
+    """Whether an element has a form's type and, of a text, its pattern."""
+    return schema.is_type(value, form["type"]) and not (isinstance(value, str) and any(schema.faults(value, form)))
+
+
+def odd_parts(items: list) -> set[int]:
+    return {abs(item) // (item & -item) for item in items if isinstance(item, int) and item}
+
+
+def length_rules(rules: dict) -> dict:
+    return {word: rule for word, rule in rules.items() if word in ("minItems", "maxItems")}
+
+
+def numerators_of(items: list) -> list[int]:
+    """The elements as numbers: decimal texts over their common denominator."""
+    if not items or not isinstance(items[0], str):
+        return [item for item in items if isinstance(item, int)]
+    places = max(len(text.partition(".")[2]) for text in items)
+    return [int(Fraction(text) * 10**places) for text in items]
+
+
+def why_bad(name: str) -> str:
+    """Which part of the rule of names a name breaks."""
+    rule = schema.SCHEMA["properties"]["name"]
+    if name in rule["not"]["anyOf"][1]["enum"]:
+        return "a word of VHDL, or a name of a port of some operator"
+    for pattern, why in (
+        (r"\Z", "it is empty"),
+        (r"(?s:.{33})", "it is longer than 32"),
+        (r".*[A-Z]", "it has a capital letter"),
+        (r"(?s:.*)[^a-z0-9_]", "it has another letter than a to z, 0 to 9 and _"),
+        (r"[^a-z]", "it does not begin with a letter"),
+        (r".*__", "it has two _ in a row"),
+        (r".*_\Z", "it ends with _"),
+        (r"s[0-9]+\Z", "signals are called s and a number"),
+    ):
+        if re.match(pattern, name):
+            return why
+    return ""
+
+
+def explain_not_toml(file: str, path: Path) -> list[str]:
+    try:
+        load(path)
+    except NotToml as fault:
+        where = f"{file}:{fault.place}" if fault.place else file
+        if fault.what:
+            return [f"{where}: no TOML: {fault.what}"]
+    except RecursionError:
+        return [f"{file}: no TOML: too many brackets in one another"]
+    return [f"{file}: no TOML document as opgen reads it"]
+
+
+FAULTS: dict[str, Callable[..., Iterator[str]]] = {
+    "UnknownKey": Explainer.unknown_key,
+    "MissingKey": Explainer.missing_key,
+    "WrongType": Explainer.wrong_type,
+    "BadVersion": Explainer.bad_version,
+    "BadName": Explainer.bad_name,
+    "BadKind": Explainer.bad_kind,
+    "OutOfRange": Explainer.out_of_range,
+    "NotExact": Explainer.not_exact,
+    "Coarse": Explainer.coarse,
+    "TooWide": Explainer.too_wide,
+    "UnknownTarget": Explainer.unknown_target,
+    "NotAdjustable": Explainer.not_adjustable,
+    "PeriodTooShort": Explainer.period_too_short,
+    "TooLarge": Explainer.too_large,
+}
+
+
+def explain(file: str, fault: list[str]) -> list[str]:
+    """What a fault with its fields means in a file."""
+    path = Path(file)
+    if fault == ["NotToml"]:
+        return explain_not_toml(file, path)
+    fields = [int(word) if re.fullmatch(r"-?[0-9]+", word) else word for word in fault[1:]]
+    try:
+        specification = load(path)
+    except NotToml:
+        return [f"{file}: no closer look, as Python reads TOML 1.0 and this document has what TOML 1.1 alone has"]
+    return list(FAULTS[fault[0]](Explainer(file, specification), *fields))

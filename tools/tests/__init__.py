@@ -1,0 +1,1 @@
+"""Unit tests of the tools, run by .ci/tools."""

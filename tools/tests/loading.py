@@ -1,0 +1,39 @@
+"""Loads a tool as a module and runs it in this process, as a shell would."""
+import contextlib
+import io
+import sys
+from importlib.machinery import SourceFileLoader
+from importlib.util import module_from_spec, spec_from_loader
+from pathlib import Path
+from types import ModuleType
+from unittest import mock
+
+sys.dont_write_bytecode = True
+TOOLS = Path(__file__).resolve().parent.parent
+EXAMPLES = TOOLS.parent / "examples"
+sys.path.insert(0, str(TOOLS))
+
+
+def tool_of(name: str) -> ModuleType:
+    """A tool as a module."""
+    loader = SourceFileLoader(f"tool_{name}", str(TOOLS / name))
+    module = module_from_spec(spec_from_loader(loader.name, loader))
+    sys.modules[loader.name] = module
+    loader.exec_module(module)
+    return module
+
+
+def run(tool: ModuleType, *words: object, text: str = "") -> tuple[int, str, str]:
+    """The status, the output and the error output of a tool over words and standard input."""
+    out, said = io.StringIO(), io.StringIO()
+    with (
+        mock.patch("sys.argv", [tool.__name__, *map(str, words)]),
+        mock.patch("sys.stdin", io.StringIO(text)),
+        contextlib.redirect_stdout(out),
+        contextlib.redirect_stderr(said),
+    ):
+        try:
+            status = tool.main()
+        except SystemExit as end:
+            status = end.code or 0
+    return status, out.getvalue(), said.getvalue()

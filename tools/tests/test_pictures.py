@@ -1,0 +1,156 @@
+"""Pictures of long runs, of many stages and of many cells; graphs as DOT; refusals."""
+import re
+import shutil
+import tempfile
+import unittest
+from pathlib import Path
+
+from tests import loading
+from tests.loading import EXAMPLES
+
+TOOL = loading.tool_of("pictures")
+SCALE = """version = 1
+name = "same"
+kind = "scale"
+exact = true
+target = "plain"
+period = 1000
+signed = false
+width = 4
+lsb = 0
+out_lsb = 0
+coefficients = [1]
+"""
+SCALE_REPORT = """operator same
+kind scale
+mode exact
+target plain
+period 1000
+latency 0
+slack 900
+input x unsigned 4 0
+output y unsigned 4 0
+cells wire 0 logic 0 add 0 choice 0 table 0 register 0
+signals 1
+"""
+
+
+def run(*words):
+    return loading.run(TOOL, *words)
+
+
+class Pictures(unittest.TestCase):
+    def setUp(self):
+        self.folder = Path(tempfile.mkdtemp())
+        self.addCleanup(shutil.rmtree, self.folder)
+
+    def scale(self, rows):
+        """A scale by 1 with these rows of outputs."""
+        (self.folder / "same.toml").write_text(SCALE)
+        (self.folder / "same.rpt").write_text(SCALE_REPORT)
+        (self.folder / "same.out").write_text(rows)
+        return run("error", self.folder / "same.toml")
+
+    def test_long_run(self):
+        """20,000 cycles are bars that can be seen, of the least and greatest error of each group."""
+        (self.folder / "third.toml").write_text((EXAMPLES / "third.toml").read_text())
+        (self.folder / "third.rpt").write_text((EXAMPLES / "third.rpt").read_text())
+        rows = [f"{cycle % 16:x} : {((cycle - 1) % 16 + 1) // 3 if cycle else 0:x}" for cycle in range(20_000)]
+        (self.folder / "third.out").write_text("\n".join(rows) + "\n")
+        status, out, _ = run("error", self.folder / "third.toml")
+        self.assertEqual(status, 0)
+        bars = re.findall(r'<rect .* width="([\d.]+)" height="([\d.]+)" fill="steelblue"', out)
+        self.assertTrue(300 <= len(bars) <= TOOL.MOST_BARS)
+        self.assertTrue(all(float(width) >= 1 and float(height) > 60 for width, height in bars))
+        self.assertIn("each 59 outputs, over 19999 cycles: from -0.333 to 0.333 ulp", out)
+
+    def test_error_of_none(self):
+        self.assertIn("over 2 cycles: from 0.000 to 0.000 ulp", self.scale("1 : 1\n2 : 2\n")[1])
+
+    def test_error_refusals(self):
+        for rows, words in (
+            ("", "no row"),
+            ("1\n", "rows without outputs"),
+            ("1 : 2\n", "output 0 is off by 1 units"),
+            ("1 : 1\n1 : 3\n", "output 1 is off by 2 units"),
+            ("1 : 1 1\n", "2 words of outputs"),
+        ):
+            status, out, said = self.scale(rows)
+            self.assertEqual((status, out), (1, ""), rows)
+            self.assertIn(words, said)
+
+    def test_panels(self):
+        """Of 36 cycles with three bars each there are three panels, each with its own cycles."""
+        bars = [TOOL.Bar(f"s{at}", TOOL.Slot(at // 3, at % 3, at % 3 + 1, ("add", 8))) for at in range(108)]
+        panels = TOOL.panels_of(bars, 35)
+        found = [(cycles.start, cycles.stop, len(rows)) for cycles, rows in panels]
+        self.assertEqual(found, [(0, 12, 36), (12, 24, 36), (24, 36, 36)])
+
+    def test_tall(self):
+        bars = [TOOL.Bar(f"s{at}", TOOL.Slot(at // 50, 0, 1, ("add", at))) for at in range(100)]
+        panels = TOOL.panels_of(bars, 1)
+        self.assertEqual([(list(cycles), len(rows)) for cycles, rows in panels], [([0], 50), ([1], 50)])
+
+    def test_groups(self):
+        """A hundred cells of one kind and time are one bar."""
+        slots = {f"s{at}": TOOL.Slot(0, 0, 400, ("logic", 1)) for at in range(100)} | {"s100": TOOL.Slot(0, 400, 900, ("add", 8))}
+        self.assertEqual([bar.words for bar in TOOL.bars_of(slots)], ["100 of 1 bit", "s100"])
+
+    def test_weights(self):
+        out = run("heap", EXAMPLES / "volume.toml")[1]
+        self.assertIn("weight 2^", out)
+        self.assertIn(">-16</text>", out)
+
+    def test_graph(self):
+        out = run("graph", EXAMPLES / "transform.toml")[1]
+        self.assertIn('n1 -> n25 [label="+ << 4"];', out)
+        self.assertIn('n9 -> n25 [label="+"];', out)
+        self.assertIn('n9 -> y2 [label="<< 2"];', out)
+
+    def test_chain(self):
+        """36524 = 5217 * 7 + 5, digit by digit of three bits: 1, 0, 7, 2, 5, 4."""
+        out = run("chain", EXAMPLES / "weeks.toml")[1]
+        for words in ("x(15) = 1", "x(14..12) = 0", "q(14..12) = 1", "x(2..0) = 4", "q(2..0) = 1", "r = 5", "cycle 2",
+                      "the first row: 36524 = 5217 * 7 + 5"):
+            self.assertIn(f">{words}</text>", out)
+
+    def test_chain_without_a_run(self):
+        for ending in ("toml", "vhd", "rpt"):
+            shutil.copy(EXAMPLES / f"weeks.{ending}", self.folder)
+        status, out, _ = run("chain", self.folder / "weeks.toml")
+        self.assertEqual((status, "the first row" in out, ">r</text>" in out), (0, False, True))
+
+    def test_graph_of_a_filter(self):
+        out = run("graph", EXAMPLES / "halfband.toml")[1]
+        self.assertIn('z7 [label="tap 7: 2047"', out)
+        self.assertIn('n103 -> z4 [label="- << 1"];', out)
+        self.assertIn('z2 -> z0 [label="2 cycles", style=dashed];', out)
+        self.assertIn("  z0 -> y;", out)
+
+    def test_sums(self):
+        self.assertEqual(TOOL.sum_of(1, 1, 7), TOOL.Sum(1, 3, False, 1, True))
+        self.assertEqual(TOOL.sum_of(1, 11, 9), TOOL.Sum(1, 1, True, 11, False))
+        self.assertEqual(TOOL.sum_of(5, 7, 3), TOOL.Sum(5, 1, False, 7, True))
+        self.assertEqual(TOOL.sum_of(11, 13, 3), TOOL.Sum(11, 0, False, 13, False, 3))
+        self.assertIsNone(TOOL.sum_of(1, 1, 11))
+
+    def test_output(self):
+        self.assertEqual(run("heap", EXAMPLES / "volume.toml", "-o", self.folder / "heap.svg"), (0, "", ""))
+        self.assertTrue((self.folder / "heap.svg").read_text().startswith("<svg"))
+
+    def test_refusals(self):
+        for words, status in (
+            (("heap", EXAMPLES / "third.toml"), 1),
+            (("error", EXAMPLES / "missing.toml"), 1),
+            (("error", EXAMPLES / "third.vhd"), 1),
+            (("error",), 2),
+            ((), 2),
+            (("--examples",), 2),
+            (("shape", EXAMPLES / "third.toml"), 2),
+        ):
+            self.assertEqual(run(*words)[0], status, words)
+        self.assertIn("DRAWING SPEC", run("--help")[1])
+
+
+if __name__ == "__main__":
+    unittest.main()

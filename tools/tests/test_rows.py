@@ -1,0 +1,130 @@
+"""Rows are read and written, and numbers become rows and come back, by the formats of a report."""
+import tempfile
+import unittest
+from fractions import Fraction
+from pathlib import Path
+
+from opgenlib import rows
+from opgenlib.report import Port
+from tests import loading
+from tests.loading import EXAMPLES
+
+SAMPLE = Port("x", True, True, 12, -11)
+TOOL = loading.tool_of("rows")
+
+
+def run(*words, text=""):
+    """The status, the output and the error line of the tool."""
+    return loading.run(TOOL, *words, text=text)
+
+
+class Lines(unittest.TestCase):
+    def test_read(self):
+        found = list(rows.read_rows("0f 1 : 3\nFF 0 : 0\n", (8, 1), (2,)))
+        self.assertEqual(found, [([15, 1], [3]), ([255, 0], [0])])
+        self.assertEqual(list(rows.read_rows("0f 1", (8, 1), (2,))), [([15, 1], None)])
+
+    def test_written(self):
+        self.assertEqual(rows.row_text([15, 1, 5], (8, 1, 13)), "0f 1 0005")
+
+    def test_refusals(self):
+        for text, line in (("0f\n", 1), ("0f 1\n0f 2\n", 2), ("f 1\n", 1), ("0g 1\n", 1), ("0f 1 : 4\n", 1), ("0f 1 :\n", 1)):
+            with self.assertRaises(rows.BadRow) as caught:
+                list(rows.read_rows(text, (8, 1), (2,)))
+            self.assertEqual(caught.exception.line, line, text)
+
+
+class Numbers(unittest.TestCase):
+    def test_words(self):
+        self.assertEqual(rows.unit_count(0x800, SAMPLE), -2048)
+        self.assertEqual(rows.unit_count(0x7FF, SAMPLE), 2047)
+        self.assertEqual(rows.word_in(-1, SAMPLE), 0xFFF)
+
+    def test_texts(self):
+        for units, lsb, text in ((3, 2, "12"), (-1, -1, "-0.5"), (-3, -2, "-0.75"), (5, 0, "5"), (8, -3, "1"), (1, -4, "0.0625")):
+            self.assertEqual(rows.value_text(units, lsb), text)
+
+    def test_nearest(self):
+        self.assertEqual(rows.nearest(Fraction(3, 4096), SAMPLE), (2, Fraction(-1, 4096)))
+        self.assertEqual(rows.nearest(Fraction(1, 4096), SAMPLE), (0, Fraction(1, 4096)))
+
+
+class Encoding(unittest.TestCase):
+    def test_values(self):
+        status, out, said = run("encode", EXAMPLES / "lowpass.rpt", text="x\n0.5\n-1\n3e-4\n")
+        self.assertEqual((status, out), (0, "400\n800\n001\n"))
+        self.assertIn("3 rows, greatest rounding 0.000188 of x in line 4", said)
+
+    def test_columns(self):
+        self.assertEqual(run("encode", EXAMPLES / "quotient.rpt", text="b,a\n3,100\n")[1], "64 3\n")
+        self.assertEqual(run("encode", EXAMPLES / "quotient.rpt", text="100,3\n")[1], "64 3\n")
+        self.assertEqual(run("encode", EXAMPLES / "held.rpt", text="# ce,x,y\n1,4,0\n")[1], "1 4\n")
+
+    def test_whole(self):
+        self.assertEqual(run("encode", "--whole", EXAMPLES / "lowpass.rpt", text="-1\n5\n")[1], "fff\n005\n")
+
+    def test_refusals(self):
+        cases = (
+            ("encode", "lowpass.rpt", "x\n1\n", "line 2: 1.0 for x is not between -1 and 0.99951171875"),
+            ("encode", "lowpass.rpt", "z\n1\n", "no port 'z'"),
+            ("encode", "lowpass.rpt", "x\nnan\n", "'nan' is no number"),
+            ("encode", "lowpass.rpt", "0.5,1\n", "2 numbers in place of 1"),
+            ("encode", "quotient.rpt", "a\n1\n", "no column for the input b"),
+            ("decode", "lowpass.rpt", "zzz\n", "line 1: 'zzz' is no word of 3"),
+        )
+        for command, name, text, words in cases:
+            status, out, said = run(command, EXAMPLES / name, text=text)
+            self.assertEqual((status, out), (1, ""), text)
+            self.assertIn(words, said)
+        self.assertEqual(run("encode", "--exact", EXAMPLES / "lowpass.rpt", text="0.3\n")[0], 1)
+        self.assertEqual(run("encode", EXAMPLES / "lowpass.toml", text="0.3\n")[0], 1)
+        self.assertEqual(run("encode", EXAMPLES / "missing.rpt", text="0.3\n")[0], 1)
+
+    def test_saturation(self):
+        status, out, said = run("encode", "--saturate", EXAMPLES / "lowpass.rpt", text="1\n-2\n")
+        self.assertEqual((status, out), (0, "7ff\n800\n"))
+        self.assertIn("2 numbers out of range", said)
+
+
+class Decoding(unittest.TestCase):
+    def test_aligned(self):
+        lines = run("decode", "--align", EXAMPLES / "third.rpt", EXAMPLES / "third.out")[1].split()
+        self.assertEqual(lines, ["x,y", "1,1", "2,1", "4,2", "15,5"])
+
+    def test_enable(self):
+        """The row with the enable 0 is left out where outputs are moved."""
+        lines = run("decode", "--align", EXAMPLES / "held.rpt", EXAMPLES / "held.out")[1].split()
+        self.assertEqual(lines[:3], ["ce,x,y", "1,1,1", "1,2,1"])
+
+    def test_back(self):
+        """Of each example the rows become numbers, and these the same rows."""
+        with tempfile.TemporaryDirectory() as folder:
+            for path in sorted(EXAMPLES.glob("*.rpt")):
+                for more in ((), ("--whole",)):
+                    numbers, back = Path(folder) / "numbers.csv", Path(folder) / "back.in"
+                    self.assertEqual(run("decode", path, path.with_suffix(".out"), "-o", numbers, *more)[0], 0)
+                    self.assertEqual(run("encode", "--exact", path, numbers, "-o", back, *more)[0], 0)
+                    self.assertEqual(back.read_text(), path.with_suffix(".in").read_text(), path.name)
+
+
+class Coefficients(unittest.TestCase):
+    def test_power(self):
+        status, out, said = run("coefficients", "--power", "10", text="0.1, 0.25\n1/3\n")
+        self.assertEqual((status, out), (0, "coefficients = [102, 256, 341]\ndenominator = 1024\n"))
+        self.assertIn("greatest rounding 0.000391 of number 0", said)
+
+    def test_least_denominator(self):
+        self.assertEqual(run("coefficients", text="0.5\n-0.25\n")[1], "coefficients = [2, -1]\ndenominator = 4\n")
+        self.assertEqual(run("coefficients", text="6\n4\n")[1], "coefficients = [6, 4]\ndenominator = 1\n")
+
+    def test_most(self):
+        self.assertEqual(run("coefficients", "--most", "2047", text="0.7007\n")[1], "coefficients = [1435]\ndenominator = 2048\n")
+
+    def test_refusals(self):
+        for text in ("", "0.5,x\n", "1/0\n", "2e9\n"):
+            self.assertEqual(run("coefficients", text=text)[0], 1, text)
+        self.assertEqual(run("coefficients", "--power", "31", text="1\n")[0], 2)
+
+
+if __name__ == "__main__":
+    unittest.main()
