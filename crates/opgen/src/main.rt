@@ -1,4 +1,8 @@
-//! The generator of fixed-point operators.
+//! The program's entry point: passes the command line, the files, standard output and the two targets to `run`.
+//!
+//! Proved: No contract of its own, only that it meets the contracts of what it calls.
+//!
+//! By: the proof of `main`.
 #![tactic(auto)]
 
 use opgen_io::{DiskFolder, StdSink};

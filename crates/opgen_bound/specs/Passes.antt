@@ -1,4 +1,4 @@
--- What contracts say of a pass.
+-- What a pass knows of the shared bound, and which bound a pass belongs to.
 use Rattle.std.specs.Prelude.{◌≡◌}
 use Rattle.opgen_bound.specs.declared.view.View.{View}
 use Rattle.opgen_bound.specs.declared.bound.Pass.{Pass}

@@ -1,4 +1,4 @@
--- What holds of a bound between any two steps, whoever makes them.
+-- The invariant of the shared bound: what holds between any two steps, whichever thread makes them.
 use Rattle.std.specs.Prelude.{◌≡◌, ℕ, ◌≤◌, ◌<◌, List, [], ◌∷◌}
 use Rattle.atomic_table.specs.Table.{State}
 use Rattle.opgen_bound.specs.declared.view.View.{View}

@@ -1,5 +1,5 @@
--- The six kinds of step. Two of them find a number in the word: a load leaves the word as it is, and publishing lowers it to the cost where that is less.
--- Making begins with the root, splitting and joining change views alone, and closing hands out the word.
+-- The six kinds of step on the shared bound (create, load, publish, split, join, close): only publishing changes the word, and it
+-- only lowers it.
 use Rattle.std.specs.Prelude.{◌≡◌, ℕ, ◌+◌, ◌-◌, ◌/◌, ◌≤◌, min}
 use Rattle.atomic_table.specs.Table.{Me}
 use Rattle.opgen_bound.specs.declared.view.View.{View}

@@ -1,4 +1,4 @@
--- What the passes of a bound know, taken together.
+-- What all passes of the shared bound know together: the least cost that was published, and the sum of their shares.
 use Rattle.std.specs.Prelude.{◌≡◌, ℕ, ◌+◌, min, List, [], ◌∷◌}
 use mathlib.Core.Option.{some}
 use lib.ListN.{get_elem?}

@@ -1,3 +1,4 @@
+//! The shared bound of a search, one word that threads read and lower without a lock, and the pass that lets a thread use it.
 ghost use Rattle.std.specs.Prelude.{◌≡◌, ◌≤◌, []};
 
 use crate::view::{BoundRule, View};

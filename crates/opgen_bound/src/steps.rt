@@ -1,3 +1,4 @@
+//! The operations on the shared bound: create it, read the least cost, publish a cost, split and join passes, and close it.
 ghost use Rattle.std.specs.Prelude.{◌≡◌, ◌≤◌, min, IfOk};
 ghost use Rattle.opgen_bound.specs.Views.{whole};
 ghost use Rattle.opgen_bound.specs.Steps.{root, looked, lowered, kept, given, joined};

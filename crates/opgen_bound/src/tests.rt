@@ -1,3 +1,4 @@
+//! Tests of the shared bound: two passes in one thread, and two threads that publish at the same time.
 ghost use Rattle.std.specs.Prelude.{◌≡◌, ◌≤◌};
 ghost use Rattle.opgen_bound.specs.Passes.{view, IsPassOf};
 
@@ -5,7 +6,7 @@ use crate::{Bound, Pass};
 use std::test::Fail;
 use std::thread::{Threads, join};
 
-// A `look` that answers what its pass has seen, without a load, keeps every clause: here it would answer 25.
+// The contract of `look` also holds if it returns the last cost that its pass has seen, here 25, without a load. This test asks for the load.
 #[test]
 fn one_pass_sees_what_the_other_published(rt: HostRuntime) -> Result<(), Fail> {
     let (bound, mut old) = Bound::new(rt.alloc(), 25)?;

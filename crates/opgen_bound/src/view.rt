@@ -1,3 +1,4 @@
+//! What each pass knows of the shared bound, and how each atomic step changes that; used by contracts only.
 use atomic_table::{Join, Play, Split, TableRule};
 
 /// What a pass knows of its bound. Contracts alone speak of it: no value of it is made.

@@ -1,4 +1,4 @@
--- Sums over places, and over pairs of places.
+-- Sums over the bit places of a word, and over all pairs of bit places of two factors.
 use Rattle.std.specs.Prelude.{ℕ, zero, suc, ◌+◌}
 
 -- f 0 + f 1 + .. + f (n - 1)

@@ -1,3 +1,4 @@
+//! How many of the lowest columns a truncated multiplier leaves out, and the constant that it adds in their place.
 ghost use Rattle.std.specs.Prelude.{◌≡◌, ◌+◌, ◌-◌, ◌*◌, ◌^◌, ◌<◌, ◌≤◌};
 ghost use Rattle.opgen_budget.specs.Columns.{bits_in_column, IsGreatestCut};
 

@@ -1,3 +1,4 @@
+//! The law of how many partial product bits each column of a product has.
 ghost use Rattle.opgen_budget.specs.Columns.{HasColumns};
 
 /// How many bits each column of a product has.

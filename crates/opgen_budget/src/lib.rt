@@ -1,5 +1,11 @@
-//! How many bits an operator computes beyond those of its output, and how many of a product it leaves out
-//! (de Dinechin and Kumm, Application-Specific Arithmetic).
+//! How many guard bits an operator computes with, and how many columns a truncated product leaves out (de Dinechin and Kumm,
+//! Application-Specific Arithmetic).
+//!
+//! Proved: The number of guard bits for n rounded terms is the least whose power of two is greater than n. The number of
+//! columns left out of a product is the greatest whose bits, over all pairs of places, together weigh at most half a unit of
+//! what is kept. How many bits a column has.
+//!
+//! By: `guard`, `drop_columns`; the law `columns_have_bits`.
 #![tactic(auto)]
 
 ghost use Rattle.std.specs.Prelude.{ℕ, ◌<◌, ◌≤◌, ◌^◌};

@@ -1,4 +1,4 @@
-//! Rounding of fractions to the nearest whole number.
+//! Rounds a fraction to the nearest whole number.
 ghost use Rattle.std.specs.Prelude.{◌≡◌, ◌+◌, ◌*◌, ◌<◌, ◌≤◌, ◌^◌, pos, ◌<ℤ◌, unsigned_abs};
 ghost use Rattle.opgen_budget.specs.Nearest.{nearest};
 

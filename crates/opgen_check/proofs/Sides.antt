@@ -52,9 +52,6 @@ module _ (spec : Spec) (d : Design) (agree : PortsAgree spec d) where
   pub in_columns : length (input_widths d) ≡ length (inputs_of spec)
   in_columns = ap length in_widths ∙ length-map (inputs_of spec) (λ p. p.format.width)
 
-  pub out_columns : length (at_ports is_out d.ports (port_widths d)) ≡ length (outputs_of spec)
-  out_columns = ap length out_widths ∙ length-map (outputs_of spec) (λ p. p.format.width)
-
   pub all_ports : length d.ports ≡ length (inputs_of spec) + length (outputs_of spec)
   all_ports =
       let is = map (port_of In) (inputs_of spec) in

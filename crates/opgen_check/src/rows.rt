@@ -9,14 +9,15 @@ ghost use Rattle.opgen_vec.specs.Judged.{IsGoodRow};
 ghost use Rattle.opgen_vec.specs.Rows.{AreRowsOfCells};
 ghost use Rattle.opgen_vec.specs.Writing.{row_count};
 ghost use Rattle.opgen_check.specs.Ports.{PortsAgree};
-ghost use Rattle.opgen_check.specs.Verdict.{IsChecked, rows_up_to};
+ghost use Rattle.opgen_check.specs.Verdict.{IsChecked, IsVerdict, rows_up_to};
 
 use crate::checked::{CheckFault, Checked};
 use crate::ports::agree;
 use opgen_design::Design;
+use opgen_lanes::copy;
 use opgen_num::Memory;
 use opgen_operator::Spec;
-use opgen_sim::Sim;
+use opgen_sim::run_rows;
 use opgen_vec::{Vectors, is_good_row};
 use std::alloc::Global;
 
@@ -37,6 +38,38 @@ fn are_good_for(spec: &Spec, inputs: &Vectors, row: u32, outputs: &[u128]) -> bo
     )
 }
 
+/// The verdict on rows of outputs.
+fn judge_rows(
+    spec: &Spec,
+    inputs: &Vectors,
+    latency: u32,
+    columns: usize,
+    outputs: &[u128],
+) -> Checked
+    requires valid { IsValidSpec spec.now }
+    requires in_columns { inputs.now.columns ≡ length (inputs_of spec.now) }
+    requires inputs { AreRowsOfCells (map (λ p. p.format.width) (inputs_of spec.now)) (row_count inputs.now.columns inputs.now.cells.items) inputs.now.cells.items }
+    requires few { row_count inputs.now.columns inputs.now.cells.items < 2 ^ 32 }
+    requires columns { columns ≡ length (outputs_of spec.now) }
+    requires outputs { AreRowsOfCells (map (λ p. p.format.width) (outputs_of spec.now)) (row_count inputs.now.columns inputs.now.cells.items) outputs.now }
+    ensures { IsVerdict spec.now latency (row_count inputs.now.columns inputs.now.cells.items) inputs.now.cells.items outputs.now result }
+{
+    let rows = inputs.row_count() as u32;
+    let mut left = outputs;
+    let mut row = 0;
+    'rows: while row < rows {
+        let (given, later) = left.split_at(columns);
+        if row >= latency && !are_good_for(spec, inputs, row - latency, given) {
+            return Checked::Bad { row };
+        }
+        left = later;
+        row += 1;
+    }
+    Checked::Good {
+        rows: rows.saturating_sub(latency),
+    }
+}
+
 /// The verdict on a design's run over rows, where it has the specification's ports.
 fn judge(
     alloc: Global,
@@ -55,23 +88,9 @@ fn judge(
     ensures { IfOk result (IsChecked spec.now design.now latency (row_count inputs.now.columns inputs.now.cells.items) inputs.now.cells.items) }
 {
     let rows = inputs.row_count() as u32;
-    let columns = inputs.columns as usize;
-    let mut sim = Sim::new(alloc, design)?;
-    let mut outputs = vec![in alloc; 0; design.ports.len() - columns]?;
-    let mut left = inputs.cells.as_slice();
-    let mut row = 0;
-    'rows: while row < rows {
-        let (given, later) = left.split_at(columns);
-        sim.step(given, &mut outputs);
-        if row >= latency && !are_good_for(spec, inputs, row - latency, &outputs) {
-            return Ok(Checked::Bad { row });
-        }
-        left = later;
-        row += 1;
-    }
-    Ok(Checked::Good {
-        rows: rows.saturating_sub(latency),
-    })
+    let outputs = run_rows(alloc, copy(alloc, design)?, rows, &inputs.cells)?;
+    let columns = design.ports.len() - inputs.columns as usize;
+    Ok(judge_rows(spec, inputs, latency, columns, &outputs))
 }
 
 /// Runs a design over rows of its inputs, and judges each row of outputs from the latency on by the inputs up to so many rows

@@ -1,4 +1,4 @@
--- Which command the words of a command line are: the first names it, and `clap` reads the others.
+-- Which command a command line means: its first word names the command, and `clap` parses the others.
 use Rattle.std.specs.Prelude.{ℕ, ◌≤◌, ◌&&◌, nat_le, Bool, false, List, [], ◌∷◌, Option, Some, None, codes, option_map, option_and_then, if◌then◌else◌}
 use Rattle.std.specs.Option.{option_map_or}
 use Rattle.std.specs.Str.{bytes_eq}

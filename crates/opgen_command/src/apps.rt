@@ -1,4 +1,4 @@
-//! What each command takes, as commands of `clap`.
+//! Defines for `clap` the arguments and options of each command.
 ghost use Rattle.std.specs.Prelude.{◌≡◌, IfOk, false};
 ghost use Rattle.clap.specs.Words.{app_of, rule_of};
 ghost use Rattle.opgen_command.specs.Apps.{generate_app, vectors_app, simulate_app, workload_app, check_app, word, workers, enable, seed, cycles, count, latency};

@@ -1,3 +1,4 @@
+//! The commands of the program as a type, each with its file names and numbers.
 use opgen_list::Text;
 
 /// What is to be done, with the names of the files that it takes and its numbers.

@@ -1,3 +1,4 @@
+//! Why a command line is rejected: wrong usage, or out of memory.
 use std::alloc::AllocError;
 use thiserror::Error;
 

@@ -1,4 +1,9 @@
-//! The words of the command line, and the command that they are.
+//! The command line: from its words to a command.
+//!
+//! Proved: The command that the words write: the first word names it, the others are what `clap` finds in them, and each
+//! number is in its range. A usage error is returned exactly if the words write no command.
+//!
+//! By: `read_command`.
 #![tactic(auto)]
 
 mod apps;

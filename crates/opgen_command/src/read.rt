@@ -1,3 +1,4 @@
+//! Reads the words of a command line: the first word names the command, and `clap` parses the other words.
 ghost use Rattle.std.specs.Prelude.{◌≡◌, IsTrue, IfOk, IfErr, Some, None, map, string_bytes, option_and_then};
 ghost use Rattle.clap.specs.Words.{app_of, found_of, is_simple_and_free, rows_of};
 ghost use Rattle.opgen_command.specs.Apps.{generate_app, vectors_app, simulate_app, workload_app, check_app};

@@ -1,3 +1,4 @@
+//! Tests of command lines: words that are read as a command, and words that are rejected.
 use crate::{Command, CommandFault, read_command};
 use std::alloc::{AllocError, Global};
 use std::test::Fail;

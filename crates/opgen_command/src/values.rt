@@ -1,4 +1,4 @@
-//! What `clap` found.
+//! Takes words, numbers in a range, and flags out of what `clap` has parsed.
 ghost use Rattle.std.specs.Prelude.{◌≡◌, ◌≤◌, IfSome, option_map};
 ghost use Rattle.clap.specs.Words.{found_of, rows_of};
 ghost use Rattle.opgen_command.specs.Command.{is_set, number_of, within, word_of};

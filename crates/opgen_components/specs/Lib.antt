@@ -1,2 +1,3 @@
+-- Definitions of opgen_components: directed graphs, their strongly connected components, and the invariant of the walk.
 pub mod Graph
 pub mod Walk

@@ -1,4 +1,4 @@
--- The walk along the links of a graph: what holds between its steps.
+-- The depth-first walk that finds strongly connected components: what holds between its steps.
 use Rattle.std.specs.Prelude.{ℕ, ◌≡◌, ◌≢◌, ◌+◌, ◌-◌, ◌*◌, ◌<◌, ◌≤◌, ◌⊎◌, Bool, true, false, List, [], ◌∷◌, ◌++◌, length, take, drop, slice_index, slice_index_or, slice_set, slice_get, Contains, Some}
 use Rattle.std.specs.List.{AllPairs}
 use Rattle.opgen_components.specs.declared.Component.{Component}

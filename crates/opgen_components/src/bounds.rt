@@ -1,3 +1,4 @@
+//! Stacks of places on the path of the depth-first walk: reads the top, and pops the places above a given one.
 ghost use Rattle.std.specs.Prelude.{◌≡◌, ◌≤◌, ◌<◌, ℕ, Contains, slice_get, length, ◌-◌};
 ghost use Rattle.opgen_components.specs.Walk.{IsAscending};
 

@@ -1,4 +1,9 @@
 //! The strongly connected components of a directed graph.
+//!
+//! Proved: Each node gets the number of its component: nodes with the same number have paths to each other, links never lead
+//! to greater numbers, and a node is cyclic exactly if a path leads from it back to it.
+//!
+//! By: `components`.
 #![tactic(auto)]
 
 ghost use Rattle.std.specs.Prelude.{IfOk};

@@ -1,4 +1,4 @@
--- What a compression keeps: the sum of the heap.
+-- Compression keeps the sum of the heap.
 use Rattle.std.specs.Prelude.{ℕ, ◌≡◌, ◌%◌, ◌^◌, ℤ, All, List}
 use Rattle.opgen_num.specs.Words.{nat}
 use Rattle.opgen_heap.specs.Contents.{Contents}

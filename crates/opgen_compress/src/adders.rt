@@ -1,3 +1,4 @@
+//! Full and half adders as nodes of a net: each takes bits from one column of a heap and returns a sum bit and a carry.
 ghost use Rattle.std.specs.Prelude.{◌≡◌, ◌≤◌, ◌+◌, [], ◌∷◌, ◌++◌, length, All, IfOk, OnOk};
 ghost use Rattle.opgen_design.specs.Plain.{plain};
 ghost use Rattle.opgen_net.specs.Valid.{IsValid, FitsNodes, widths};

@@ -1,3 +1,4 @@
+//! The passes of a compressor tree: each pass reduces all columns to the next smaller height, until two bits are left in each.
 ghost use Rattle.std.specs.Prelude.{◌≡◌, ◌≤◌, ◌<◌, ◌^◌, ◌-◌, ◌++◌, [], ◌∷◌, length, reverse, All, IfOk};
 ghost use Rattle.opgen_net.specs.Valid.{IsValid, widths};
 ghost use Rattle.opgen_net.specs.WordRule.{IsThere};

@@ -1,3 +1,4 @@
+//! A column of a heap during compression: a queue of bits, taken from the front and appended at the end.
 ghost use Rattle.std.specs.Prelude.{◌≡◌, ◌<◌, ◌^◌, [], ◌∷◌, ◌++◌, length, slice_index_or, OnOk, OnErr};
 ghost use Rattle.opgen_net.specs.declared.word_bits.WordBit.TheVariants.{Zero};
 

@@ -1,3 +1,4 @@
+//! The last step of a compressor tree: adds the two rows of bits that are left by one carry-propagate adder.
 ghost use Rattle.std.specs.Prelude.{◌≡◌, ◌≤◌, ◌%◌, ◌^◌, ℕ, ℤ, length, slice_index, All, IfOk, OnOk};
 ghost use Rattle.opgen_num.specs.Words.{nat};
 ghost use Rattle.opgen_net.specs.Flow.{Inputs, flow};

@@ -1,3 +1,4 @@
+//! Compresses a bit heap to one node of a net that has its sum, by a compressor tree and a final adder.
 ghost use Rattle.std.specs.Prelude.{◌≡◌, ◌≤◌, ◌<◌, ◌^◌, ◌++◌, Bool, length, slice_index, slice_index_or, IfOk, OnOk, []};
 ghost use Rattle.opgen_net.specs.Flow.{KeepsFlow};
 ghost use Rattle.opgen_net.specs.Grown.{HasGrown};

@@ -1,5 +1,5 @@
--- What holds after each digit of a division: the digits so far, as a number, are the quotient so far times the divisor and a
--- remainder below it.
+-- The invariant of a division by a small constant: after each digit, the digits so far as a number are the quotient so far times
+-- the divisor, plus a remainder below the divisor.
 use Rattle.std.specs.Prelude.{ℕ, ◌*◌, ◌≤◌, ℤ, take, All}
 use Rattle.opgen_num.specs.declared.TheConstants.{MAX_INPUT}
 use Rattle.opgen_num.specs.Rounding.{IsQuotient}

@@ -1,4 +1,4 @@
-//! The digits of an input, and their division one after another.
+//! Splits the input into digits, and divides them one after another from the highest, each with the remainder so far.
 ghost use Rattle.std.specs.Prelude.{◌≡◌, ◌+◌, ◌*◌, ◌≤◌, ◌<◌, ◌++◌, ◌-◌, All, IfOk, OnOk, length, take, drop, replicate, slice_index, []};
 ghost use Rattle.opgen_num.specs.declared.TheConstants.{MAX_WIDTH};
 ghost use Rattle.opgen_net.specs.declared.word_bits.WordBit.TheVariants.{Zero};

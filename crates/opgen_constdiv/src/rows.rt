@@ -1,4 +1,4 @@
-//! The table that divides a remainder and a digit.
+//! The rows of the table that divides a remainder and one digit by the constant.
 ghost use Rattle.std.specs.Prelude.{◌≡◌, ◌≤◌, ◌<◌, ◌^◌, IfOk};
 ghost use Rattle.opgen_constdiv.specs.Rows.{IsSmall, rest_width as rest_width_of, digit_width as digit_width_of, row as row_of, rows as rows_of};
 

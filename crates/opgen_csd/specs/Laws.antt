@@ -1,4 +1,4 @@
--- Laws on canonical forms and their partial sums.
+-- Laws of canonical signed digits and of their partial sums.
 use Rattle.std.specs.Prelude.{◌≡◌, ◌⊎◌, ℕ, ◌+◌, ◌^◌, ◌%◌, ◌≤◌, ◌<◌, ℤ, pos, List, Contains}
 use Rattle.opgen_csd.specs.Digits.{IsCanonical, AllDigits, value_of, nonzeros}
 use Rattle.opgen_csd.specs.Partials.{partials}

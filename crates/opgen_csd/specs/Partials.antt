@@ -1,4 +1,4 @@
--- The partial sums of a signed-digit form.
+-- The partial sums of the signed digits of a number.
 use Rattle.std.specs.Prelude.{◌≡◌, ℕ, ◌≤◌, ℤ, List, [], ◌∷◌, ◌++◌, map, drop, slice_index, unsigned_abs, if◌then◌else◌}
 use Rattle.opgen_csd.specs.Digits.{value_of, is_zero}
 

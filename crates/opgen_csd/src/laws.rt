@@ -1,3 +1,4 @@
+//! Laws of canonical signed digits: each number has exactly one form, with the fewest nonzero digits, and its partial sums.
 ghost use Rattle.opgen_csd.specs.Laws.{SomeForm, OneForm, FewestNonzeros, PartialsStepUp, PartialsEndInNumber};
 
 /// A law: each whole number has one canonical form and no other.

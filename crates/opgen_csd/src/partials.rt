@@ -1,3 +1,4 @@
+//! The partial sums of the signed digits of a number: the multiples that a chain of adders makes on the way to it.
 ghost use Rattle.std.specs.Prelude.{◌≡◌, ◌%◌, unsigned_abs};
 ghost use Rattle.opgen_csd.specs.Partials as spec;
 ghost use Rattle.opgen_csd.specs.Digits.{value_of};

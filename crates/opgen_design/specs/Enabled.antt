@@ -1,4 +1,4 @@
--- Runs of designs with an enable, seen as runs of designs without one.
+-- Runs of a design with a clock enable, as runs of the same design without one.
 use Rattle.std.specs.Prelude.{ℕ, ◌≡◌, Bool, true, false, List, [], ◌∷◌, map, All, Some, None}
 use Rattle.opgen_design.specs.declared.design.Design.{Design}
 use Rattle.opgen_design.specs.declared.design.Driver.{Driver}

@@ -1,3 +1,4 @@
+-- Definitions of opgen_design: expressions and their values and widths, sound designs, cycles and runs.
 pub mod Tree
 pub mod Plain
 pub mod TreeCode

@@ -1,4 +1,4 @@
--- Orders in which the drivers of a design give their words of a cycle.
+-- Orders in which the drivers of a design can be evaluated within a clock cycle.
 use Rattle.std.specs.Prelude.{ℕ, ◌+◌, ◌^◌, ◌≡◌, ◌<◌, if◌then◌else◌, Bool, true, false, List, [], ◌∷◌, length, slice_get, Some}
 use Rattle.std.specs.List.Sorted.{IsPermutation}
 use Rattle.opgen_components.specs.declared.Component.{Component}

@@ -1,4 +1,4 @@
--- What an expression of the program is as plain data.
+-- The plain data that contracts use for an expression of the code.
 use Rattle.std.specs.Prelude.{List, [], ◌∷◌, map}
 use Rattle.opgen_design.specs.declared.expr.Expr.{Expr, fold-Expr}
 use Rattle.opgen_design.specs.declared.expr.Expr.TheOpen.{Expr-F}

@@ -1,4 +1,5 @@
--- How the rules of sound designs are tried: walks over lists, and a table of what drives what.
+-- How the code checks the rules of sound designs: the first place of a list that breaks a rule, and the first driver of each signal
+-- and port.
 use Rattle.std.specs.Prelude.{ℕ, ◌+◌, ◌≡◌, ◌≢◌, ◌<◌, Bool, List, [], length, slice_get, slice_set, slice_index_or, Contains, Option, Some, None, IfSome, IsTrue, ◌↔◌, Result, Ok, Err}
 use Rattle.opgen_design.specs.declared.design.Design.{Design}
 use Rattle.opgen_design.specs.declared.design.Driver.{Driver}

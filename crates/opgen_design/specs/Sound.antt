@@ -1,4 +1,4 @@
--- Sound designs: ten rules, and the first place at which a rule fails.
+-- Sound designs: ten rules, and the first port, signal or driver that breaks one.
 use Rattle.std.specs.Prelude.{ℕ, ◌+◌, ◌^◌, ◌≡◌, ◌≢◌, ◌<◌, ◌⊎◌, Bool, List, [], ◌++◌, length, map, codes, All, Contains, Some, IfSome, IsSome, slice_get, slice_index, slice_index_or}
 use Rattle.opgen_design.specs.declared.design.Design.{Design}
 use Rattle.opgen_design.specs.declared.design.Dir.TheVariants.{In, Out}

@@ -1,4 +1,4 @@
--- Expressions as plain data.
+-- Expressions as plain data: signals, slices, constants, ports, `not`, and chains of one operator.
 use Rattle.std.specs.Prelude.{ℕ, Bool, List}
 use Rattle.opgen_design.specs.declared.expr.Op.{Op}
 

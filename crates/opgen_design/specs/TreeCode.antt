@@ -1,4 +1,4 @@
--- A code of expressions as numbers in nested pairs, by which a proof tells their values apart.
+-- Expressions encoded as numbers in nested pairs and decoded again, by which a proof tells two expressions apart.
 use Rattle.std.specs.Prelude.{◌≡◌, ℕ, zero, suc, Bool, true, false, List, [], ◌∷◌, refl}
 use Rattle.std.proofs.Common.{ap, ◌∙◌}
 use Rattle.std.specs.Coded.{Coded, code_by}

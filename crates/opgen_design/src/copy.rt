@@ -1,3 +1,4 @@
+//! Copies an expression.
 ghost use Rattle.std.specs.Prelude.{◌≡◌, IfOk};
 ghost use Rattle.opgen_design.specs.Plain.{plain, plain_all};
 

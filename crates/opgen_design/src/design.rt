@@ -1,3 +1,4 @@
+//! Designs as types: an entity with its ports, and an architecture with its signals and drivers.
 use crate::Formula;
 use opgen_list::{Items, Text};
 use opgen_num::Word;

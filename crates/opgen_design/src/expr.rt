@@ -1,3 +1,4 @@
+//! Expressions over bits as types: signals, slices, constants, input ports, `not`, and chains of one operator.
 use opgen_num::Word;
 
 /// The bits `high` down to `low` of a node, or of a signal in a design.

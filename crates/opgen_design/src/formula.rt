@@ -1,3 +1,4 @@
+//! An expression as a field of a node or driver: contracts see it as plain data.
 ghost use Rattle.std.specs.Prelude.{◌≡◌};
 ghost use Rattle.opgen_design.specs.Plain.{plain};
 

@@ -1,4 +1,4 @@
-//! Laws of runs.
+//! Laws of runs: leaving out the cycles in which the enable is 0, and picking any cycles if there are no registers.
 
 ghost use Rattle.opgen_design.specs.Enabled.{EnabledCyclesAreRuns, AnyCyclesAreRuns};
 

@@ -1,4 +1,10 @@
-//! Designs: ports, signals and the drivers that give them their words, and when a design is sound.
+//! Designs: ports, signals and the drivers that assign them, and when a design is sound.
+//!
+//! Proved: A design is sound, or the first of ten rules that fails and the first place at which it fails. An order of all
+//! drivers but the registers: each once, after those that it reads. A copy of an expression is the same expression. With an
+//! enable, the cycles of a run in which it is 1 are a run of the design without it. Without registers, any cycles are a run.
+//!
+//! By: `Design::sound`, `order`; `Expr::copy`; the laws `enabled_cycles_are_runs`, `any_cycles_are_runs`.
 #![tactic(auto)]
 
 mod copy;

@@ -1,3 +1,4 @@
+//! Finds an order in which the drivers of a design can be evaluated within a clock cycle.
 ghost use Rattle.std.specs.Prelude.{◌≡◌, ◌++◌, ◌<◌, ◌^◌, [], ◌∷◌, if◌then◌else◌, IfOk, OnOk, length, slice_index};
 ghost use Rattle.opgen_components.specs.Graph.{component_of};
 ghost use Rattle.opgen_design.specs.Order.{is_register, AreRanks, IsOrderOf, IsSmallAt, rank_at, waiting};

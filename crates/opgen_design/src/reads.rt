@@ -1,3 +1,4 @@
+//! Lists the signals and ports that the expressions of a driver read.
 ghost use Rattle.std.specs.Prelude.{◌≡◌, ◌++◌, IfOk, OnOk};
 ghost use Rattle.opgen_design.specs.Plain.{plain, plain_all};
 ghost use Rattle.opgen_design.specs.Reads.{names_read, operand_names, ports_read, operand_ports, driver_names, driver_ports};

@@ -1,3 +1,4 @@
+//! The rules of sound designs, one function for each: the first port, signal or driver that breaks the rule.
 ghost use Rattle.std.specs.Prelude.{◌≡◌, ◌≢◌, ◌+◌, ◌<◌, ℕ, Some, None, All, IfOk, IfSome, IsSome, IsTrue, ◌↔◌, length, slice_get, slice_index_or, []};
 ghost use Rattle.std.specs.List.{AllPairs};
 ghost use Rattle.opgen_components.specs.Graph.{graph_of};

@@ -1,3 +1,4 @@
+//! Checks whether a design is sound: runs the ten rules in order, and reports the first one that fails and where.
 ghost use Rattle.std.specs.Prelude.{◌≡◌, ◌+◌, ◌<◌, ◌^◌, ℕ, Some, OnOk, IfErr, length};
 ghost use Rattle.opgen_design.specs.Rules.{AreFirstDrivers, IsFaultAt, PortsPass, SignalsPass, DriversPass, fault_at};
 ghost use Rattle.opgen_design.specs.Sound.{Undeclared, DeclaredTwice, Width, DrivenTwice, NotDriven, Cyclic, ReadsOutput, NoInitial, ChoiceTwice, BadEnable, DesignPasses, Holds, HasNumbers, IsOrdered, IsSound, IsFaultOf};

@@ -1,3 +1,4 @@
+//! Which signal or output port each driver drives, and the first driver of each of them.
 ghost use Rattle.std.specs.Prelude.{◌≡◌, ◌<◌, ◌^◌, IfOk, IsTrue, ◌↔◌, length};
 ghost use Rattle.opgen_design.specs.Rules.{AreFirstDrivers, noted, slot};
 ghost use Rattle.opgen_design.specs.Sound.{Undeclared, Holds, HasNumbers, Names, IsInput, target};

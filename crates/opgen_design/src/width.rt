@@ -1,3 +1,4 @@
+//! The width in bits of an expression over the signals and ports of a design, if its parts fit together.
 ghost use Rattle.std.specs.Prelude.{◌≡◌, ◌+◌, ◌-◌, ◌&&◌, nat_le, nat_lt, if◌then◌else◌, None, slice_get};
 ghost use Rattle.opgen_design.specs.Plain.{plain, plain_all};
 ghost use Rattle.opgen_design.specs.Sound.{signal_widths, port_widths};

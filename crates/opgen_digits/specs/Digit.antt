@@ -1,5 +1,5 @@
--- A digit of a quotient or of a root: what the digit 1 takes off is tried, and the number is restored where it was too much
--- (de Dinechin and Kumm, Application-Specific Arithmetic: digit recurrences).
+-- One digit of a quotient or root: a subtraction is tried, and the number is restored if too much was taken off (de Dinechin and
+-- Kumm, Application-Specific Arithmetic: digit recurrences).
 use Rattle.std.specs.Prelude.{ℕ, ◌≡◌, ◌+◌, ◌-◌, ◌*◌, ◌%◌, ◌^◌, ◌<◌, ◌≤◌, ℤ, Bool, true, false, List, [], ◌∷◌, ◌++◌, length, All, nat_le, slice_index, if◌then◌else◌}
 use Rattle.opgen_num.specs.declared.TheConstants.{MAX_WIDTH}
 use Rattle.opgen_num.specs.Words.{digit, nat}

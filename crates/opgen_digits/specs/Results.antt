@@ -1,4 +1,4 @@
--- The digits, and what is left, as outputs of a net.
+-- The digits of a quotient or root, and the remainder, as outputs of a net.
 use Rattle.std.specs.Prelude.{ℕ, ◌≡◌, Bool, true, false, List, length, codes, All}
 use Rattle.opgen_design.specs.Width.{IsWidth}
 use Rattle.opgen_net.specs.declared.net.Net.{Net}

@@ -1,6 +1,10 @@
-//! Digits of quotients and roots, one at a time from the highest: what the digit 1 takes off is
-//! tried, and the number is restored where that was too much (de Dinechin and Kumm,
-//! Application-Specific Arithmetic).
+//! Digits of quotients and roots, one at a time from the highest: the step subtracts what the digit 1 takes off, and
+//! restores the number if that was too much (de Dinechin and Kumm, Application-Specific Arithmetic).
+//!
+//! Proved: A digit is 1 exactly if the number is not less than what the digit takes off. The rest is what is left of the
+//! number after it.
+//!
+//! By: `try_digit`, `output_results`; the law `digits_are_right`.
 #![tactic(auto)]
 
 ghost use Rattle.std.specs.Prelude.{◌≡◌, ◌+◌, ◌≤◌, ℤ, [], ◌∷◌, ◌++◌, All, IfOk, OnOk, length, slice_index};

@@ -1,5 +1,5 @@
--- What holds after each step of a division: the bits of the numerator that were taken, as a number, are the quotient so far
--- times the divisor, and what is left, which is less than the divisor.
+-- The invariant of a division: after each step, the bits of the numerator so far, as a number, are the quotient so far times the
+-- divisor, plus a remainder below the divisor.
 use Rattle.std.specs.Prelude.{ℕ, ◌<◌, ◌≤◌, ℤ, Bool, true, false, take, All}
 use Rattle.opgen_num.specs.Rounding.{IsQuotient}
 use Rattle.opgen_num.specs.Words.{nat}

@@ -1,5 +1,11 @@
-//! The net of a quotient: one digit for each bit of the numerator, from the highest (de Dinechin and
-//! Kumm, Application-Specific Arithmetic: restoring division).
+//! The net of a quotient: one digit for each bit of the numerator, from the highest (de Dinechin and Kumm,
+//! Application-Specific Arithmetic: restoring division).
+//!
+//! Proved: For every pair that a version accepts, the net is that of the recipe. After each step, at every time and for all
+//! inputs whose divisor is not 0, the numerator so far is the quotient so far times the divisor plus a rest below the
+//! divisor. The net fits every valid specification of that pair.
+//!
+//! By: `build`.
 #![tactic(auto)]
 
 ghost use Rattle.std.specs.Prelude.{ℕ, ◌≡◌, ◌+◌, ◌≤◌, List, IsTrue, [], ◌∷◌, ◌++◌, All, IfOk, OnOk, length, slice_index};

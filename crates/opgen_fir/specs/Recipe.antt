@@ -1,5 +1,5 @@
--- The net of a sum: a delay for each cycle that a coefficient reaches back, tables on the input and the delays, larger counters where they
--- are asked for, and a compressor.
+-- The net of a scale or filter: a delay for each cycle that a coefficient reaches back, tables on the input and the delays, larger
+-- counters if they are asked for, and a compressor.
 use Rattle.std.specs.Prelude.{ℕ, zero, suc, ◌+◌, ◌-◌, ◌^◌, Bool, List, [], ◌∷◌, ◌++◌, length, codes, ℤ, pos, ◌*ℤ◌, get_or, unsigned_abs, ◌==◌, if◌then◌else◌}
 use Rattle.opgen_num.specs.declared.format.Ratio.{Ratio}
 use Rattle.opgen_design.specs.declared.expr.Slice.{Slice}

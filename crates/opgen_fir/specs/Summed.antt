@@ -1,4 +1,4 @@
--- What the tables of coefficients add to a sum, in guard units.
+-- What the tables of all coefficients add up to, in units of the lowest guard bit.
 use Rattle.std.specs.Prelude.{ℕ, zero, suc, ◌≡◌, ◌*◌, ◌^◌, true, false, List, take, get_or, ℤ, pos, ◌+ℤ◌, ◌-ℤ◌, ◌*ℤ◌, ◌≤ℤ◌, unsigned_abs, None}
 use Rattle.opgen_heap.specs.Adding.{residue}
 use Rattle.opgen_net.specs.Flow.{Inputs, before, input_at}

@@ -1,4 +1,4 @@
-// The coefficients of a sum in units of the output's last place.
+//! Converts a coefficient of a scale or filter to units of the output's last place (ulp).
 
 ghost use Rattle.std.specs.Prelude.{◌≡◌, ◌+◌, ◌*◌, ◌^◌, ◌<◌, ◌≤◌, ℤ, pos, ◌*ℤ◌, unsigned_abs};
 ghost use Rattle.opgen_operator.specs.Accepted.{IsAcceptedSum};

@@ -1,3 +1,4 @@
+//! Builds the net of a scale or filter: delayed inputs, tables of coefficients, a bit heap, its compression, and the output.
 ghost use Rattle.std.specs.Prelude.{◌≡◌, ◌∷◌, [], map, codes, IfOk};
 ghost use Rattle.opgen_operator.specs.Accepted.{IsAcceptedSum};
 ghost use Rattle.opgen_operator.specs.Fits.{FitsSpecsOfSum};

@@ -1,5 +1,10 @@
-//! The nets of sums: multiples of an input, and filters of finite response, by tables of their
-//! coefficients (de Dinechin and Kumm, Application-Specific Arithmetic).
+//! The nets of scales and filters of finite response: tables of the coefficients' multiples, added in a bit heap (de
+//! Dinechin and Kumm, Application-Specific Arithmetic).
+//!
+//! Proved: For every sum that a version accepts, with either compressor: the net is that of the recipe, and it fits every
+//! valid specification of that sum, scales and filters, the first cycles with their past of zeros included.
+//!
+//! By: `build`.
 #![tactic(auto)]
 
 mod factor;

@@ -1,4 +1,4 @@
-// The input of a sum, and its delays.
+//! The input of a scale or filter, and a delay for each cycle that its coefficients reach back.
 
 ghost use Rattle.std.specs.Prelude.{◌≡◌, ◌≤◌, ◌<◌, ◌-◌, length, IfOk, get_or, pos, ◌≢◌};
 ghost use Rattle.opgen_net.specs.Valid.{IsValid};

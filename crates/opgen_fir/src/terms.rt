@@ -1,4 +1,4 @@
-// The tables of a sum, and what they add up to.
+//! Adds the tables of all coefficients and the rounding constant to the bit heap of a scale or filter.
 
 ghost use Rattle.std.specs.Prelude.{◌≡◌, ◌<◌, ◌≤◌, ◌^◌, [], ℤ, ℕ, pos, false, length, get_or, All, OnOk};
 ghost use Rattle.opgen_num.specs.Words.{nat};

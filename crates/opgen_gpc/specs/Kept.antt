@@ -1,4 +1,4 @@
--- Counters that stand in a net, and what they keep: the sum of the heap.
+-- Counters in a net, and that they keep the sum of the heap.
 use Rattle.std.specs.Prelude.{◌≡◌, ℤ, All, List, length}
 use Rattle.opgen_design.specs.Run.{AreWords}
 use Rattle.opgen_heap.specs.Contents.{Contents}

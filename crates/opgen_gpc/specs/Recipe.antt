@@ -1,4 +1,4 @@
--- The nodes of counters, and the heap after them: each counter is a table of three bits on the word of its six bits.
+-- The nodes of counters, and the heap after them: each counter is a table of three bits that its six bits address.
 use Rattle.std.specs.Prelude.{ℕ, zero, suc, ◌+◌, ◌/◌, Bool, true, false, List, [], ◌∷◌, ◌++◌, length}
 use Rattle.opgen_num.specs.Words.{digit, word}
 use Rattle.opgen_heap.specs.Contents.{Contents}

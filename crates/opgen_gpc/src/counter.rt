@@ -1,4 +1,4 @@
-//! A counter of six bits of a heap.
+//! A larger counter: six bits of a heap that one table of three bits counts.
 use opgen_list::Items;
 use opgen_net::WordBit;
 

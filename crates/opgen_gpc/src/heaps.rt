@@ -1,4 +1,4 @@
-//! Heaps whose bits are counted.
+//! Replaces bits of a heap by the outputs of larger counters, before the heap is compressed.
 ghost use Rattle.std.specs.Prelude.{◌≡◌, [], IfOk, OnOk};
 ghost use Rattle.opgen_net.specs.Flow.{KeepsFlow};
 ghost use Rattle.opgen_net.specs.Grown.{HasGrown};

@@ -1,4 +1,4 @@
-//! The rows of a counter's table.
+//! The rows of a counter's table: for each address, how many of its bits are 1; the highest bit may count twice.
 ghost use Rattle.std.specs.Prelude.{◌≡◌, ◌≤◌, ◌<◌, IfOk};
 ghost use Rattle.opgen_num.specs.Words.{word};
 ghost use Rattle.opgen_gpc.specs.Recipe.{ones_of, counted_at, rows as rows_of};

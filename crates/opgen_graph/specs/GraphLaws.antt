@@ -1,4 +1,4 @@
--- Laws on graphs by ranks.
+-- Laws of the graph of a set: it has one adder for each member, wired from 1 on, and no other graph is the set's.
 use Rattle.std.specs.Prelude.{◌≡◌, ℕ, ◌≤◌, List, [], ◌∷◌, ◌++◌, Contains, IsPermutation}
 use Rattle.opgen_graph.specs.declared.ranks.Adder.{Adder}
 use Rattle.opgen_graph.specs.Adders.{Makes}

@@ -1,4 +1,4 @@
--- The graph of a reachable set, by ranks.
+-- The graph of a set of adders, built in rounds: each round makes all members that earlier numbers give.
 use Rattle.std.specs.Prelude.{◌≡◌, ◌≢◌, ◌⊎◌, ℕ, ◌≤◌, ◌<◌, List, [], ◌∷◌, ◌++◌, map, Contains}
 use Rattle.opgen_graph.specs.declared.ranks.Adder.{Adder}
 use Rattle.opgen_graph.specs.Adders.{Comb, IsFirstStep}

@@ -1,3 +1,4 @@
+-- Definitions of opgen_graph: what one adder makes, sets of adders and their graphs and costs, and the net of several constants.
 pub mod Adders
 pub mod Reach
 pub mod Graphs

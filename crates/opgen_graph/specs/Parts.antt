@@ -1,4 +1,4 @@
--- The nodes of odd parts: what the net of several constants has for the output of each, without the output.
+-- The nodes of odd parts in the net of several constants, without the outputs.
 use Rattle.std.specs.Prelude.{ℕ, zero, suc, List, [], ◌∷◌, ◌++◌, ℤ, pos, if◌then◌else◌}
 use Rattle.std.specs.List.{list_any}
 use Rattle.opgen_num.specs.declared.format.Format.{Format}

@@ -1,4 +1,5 @@
--- What the steps of the net of several constants ask for.
+-- What the steps that build the net of several constants need: nodes that are exact multiples of the input, and sums narrow enough
+-- for a signal.
 use Rattle.std.specs.Prelude.{◌≡◌, ◌≢◌, ℕ, ◌+◌, ◌≤◌, ◌<◌, ℤ, pos, ◌*ℤ◌, unsigned_abs, List, [], ◌∷◌, map, slice_index, All, Contains}
 use Rattle.opgen_num.specs.declared.TheConstants.{MAX_INPUT, MAX_WIDTH}
 use Rattle.opgen_num.specs.declared.format.Format.{Format}

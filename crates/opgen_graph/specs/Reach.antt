@@ -1,4 +1,4 @@
--- Sets of numbers that adders make from 1.
+-- Sets of numbers that adders can make from 1, one after another.
 use Rattle.std.specs.Prelude.{◌≡◌, ℕ, ◌<◌, ◌^◌, ◌%◌, List, [], ◌∷◌, ◌++◌, All, Contains, IsPermutation}
 use Rattle.std.specs.List.Sorted.{IsStrictlyIncreasing}
 use Rattle.opgen_graph.specs.Adders.{Comb}

@@ -1,4 +1,4 @@
--- What the multiples of an input have before cycle 0.
+-- Multiples of an input are zero before cycle 0.
 use Rattle.std.specs.Prelude.{◌≡◌, ℕ, pos, negsuc, All}
 use Rattle.opgen_num.specs.declared.format.Format.{Format}
 use Rattle.opgen_num.specs.Values.{val}

@@ -1,4 +1,4 @@
--- Graphs of which the net of several constants can be made.
+-- Adder graphs from which the net of several constants can be built.
 use Rattle.std.specs.Prelude.{ℕ, ℤ, List, Contains}
 use Rattle.opgen_graph.specs.declared.ranks.Graph.{Graph}
 use Rattle.opgen_graph.specs.Reach.{IsAdderSet, Reaches}

@@ -1,4 +1,4 @@
--- What a set of adders costs.
+-- The cost of a set of adders in bits: the width of each sum, for an input of a given width.
 use Rattle.std.specs.Prelude.{ℕ, ◌+◌, ◌-◌, List, sum_by}
 use Rattle.std.specs.Int.{leading_zeros, w32}
 

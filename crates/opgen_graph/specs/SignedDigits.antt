@@ -1,4 +1,4 @@
--- The adders that the signed digits of some targets give.
+-- The set of adders that the signed digits of the constants give.
 use Rattle.std.specs.Prelude.{◌≡◌, ◌↔◌, ℕ, ◌≤◌, ◌<◌, ◌%◌, ℤ, pos, List, All, Contains}
 use Rattle.std.specs.List.Sorted.{IsStrictlyIncreasing}
 use Rattle.opgen_csd.specs.Digits.{IsCanonical, value_of}

@@ -1,3 +1,4 @@
+//! Builds one adder node for each adder of a graph: shifts its two operands, adds or subtracts them, and drops low zeros.
 ghost use Rattle.std.specs.Prelude.{◌≡◌, ◌≤◌, ◌+◌, ◌++◌, ◌∷◌, [], slice_index, All, Contains, IfOk, OnOk};
 ghost use Rattle.opgen_design.specs.Plain.{plain};
 ghost use Rattle.opgen_design.specs.Width.{IsWidth};

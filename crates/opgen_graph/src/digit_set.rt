@@ -1,3 +1,4 @@
+//! The set of adders that the signed digits of the constants give, whose cost the search starts with.
 ghost use Rattle.std.specs.Prelude.{◌↔◌, ◌⊎◌, ℕ, All, Contains, IfOk, OnOk};
 ghost use Rattle.opgen_graph.specs.Reach.{Reaches};
 ghost use Rattle.opgen_graph.specs.SignedDigits.{IsTarget, IsPartialOf, IsDigitSet};

@@ -1,3 +1,4 @@
+//! The five ways in which one adder makes a number from two others by a shift, and the first way that makes a given number.
 ghost use Rattle.std.specs.Prelude.{IfSome, IfNone};
 ghost use Rattle.opgen_graph.specs.Adders.{IsTerm, Comb, IsFirstStep};
 

@@ -1,3 +1,4 @@
+//! Laws of adder graphs: which sets can be built, the single graph of a set, odd parts, and multiples before cycle 0.
 ghost use Rattle.opgen_graph.specs.SignedDigits.{DigitSetsReach};
 ghost use Rattle.opgen_graph.specs.Targets.{PartsAreOdd};
 ghost use Rattle.opgen_graph.specs.GraphLaws.{RanksAreGraphs, OneGraph};

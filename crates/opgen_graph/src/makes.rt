@@ -1,3 +1,4 @@
+//! Tests whether one adder can make a number from two numbers that are already there.
 ghost use Rattle.std.specs.Prelude.{◌↔◌, ℕ, All, Contains, IsTrue};
 ghost use Rattle.opgen_graph.specs.Adders.{IsTerm, CombEither, IsOddPart};
 ghost use Rattle.opgen_graph.specs.Reach.{Among};

@@ -1,3 +1,4 @@
+//! Multiples of the input that nodes of a net have: looks one up, shifts it, and extends it to a width.
 ghost use Rattle.std.specs.Prelude.{◌≡◌, ◌≤◌, ◌++◌, replicate, Contains, IfOk, OnOk};
 ghost use Rattle.opgen_num.specs.declared.TheConstants.{MAX_WIDTH};
 ghost use Rattle.opgen_net.specs.Valid.{IsValid};

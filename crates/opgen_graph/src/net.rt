@@ -1,3 +1,4 @@
+//! Builds the net of several constants times one input by the adders of a graph.
 ghost use Rattle.std.specs.Prelude.{◌≡◌, ℕ, List, IsTrue, IfOk};
 ghost use Rattle.opgen_names.specs.Names.{is_allowed_name};
 ghost use Rattle.opgen_net.specs.Named.{IsNamed};

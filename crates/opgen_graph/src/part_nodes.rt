@@ -1,4 +1,4 @@
-//! The odd parts of numbers, and their nodes.
+//! The odd parts of some numbers, and a node of the net for each of them.
 ghost use Rattle.std.specs.Prelude.{◌≡◌, ◌<◌, ◌≤◌, [], pos, All, Contains, IfOk};
 ghost use Rattle.std.specs.List.{list_any};
 ghost use Rattle.opgen_design.specs.Width.{IsWidth};

@@ -1,3 +1,4 @@
+//! Builds the adder graph of a set, round by round: each round makes every number that two earlier ones give.
 ghost use Rattle.std.specs.Prelude.{◌≡◌, ℕ, ◌≤◌, IfSome, IfNone, IfOk, OnOk, ◌++◌, All, Contains, EachIndex, slice_index};
 ghost use Rattle.std.specs.List.Sorted.{IsNonDecreasing};
 ghost use Rattle.opgen_graph.specs.Adders.{IsTerm, Comb, IsFirstStep};

@@ -1,4 +1,5 @@
--- What a bit heap holds (de Dinechin and Kumm, Application-Specific Arithmetic, "Bit heaps").
+-- What a bit heap contains: columns of weighted bits, and a constant (de Dinechin and Kumm, Application-Specific Arithmetic, "Bit
+-- heaps").
 use Rattle.std.specs.Prelude.{ℕ, List}
 use Rattle.opgen_net.specs.declared.word_bits.WordBit.{WordBit}
 

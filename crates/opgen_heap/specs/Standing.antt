@@ -1,4 +1,4 @@
--- The bits of a heap as bits of nodes of a net.
+-- When the bits of a heap are bits of a net's nodes.
 use Rattle.std.specs.Prelude.{All, List}
 use Rattle.opgen_heap.specs.Contents.{Contents}
 use Rattle.opgen_net.specs.declared.net.Net.{Net}

@@ -1,4 +1,4 @@
--- The sum of a bit heap.
+-- The sum of a bit heap: its bits by their weights, and its constant, modulo a power of two.
 use Rattle.std.specs.Prelude.{ℕ, ◌+◌, ◌*◌, ◌%◌, ◌^◌, Bool, true, false, List, [], ◌∷◌, slice_index_or}
 use Rattle.opgen_num.specs.Words.{digit}
 use Rattle.opgen_net.specs.declared.word_bits.WordBit.{WordBit}

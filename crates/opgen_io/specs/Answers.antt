@@ -1,4 +1,4 @@
--- The answers of a fetch.
+-- What fetching a file by name returns: its bytes, or an error.
 use Rattle.std.specs.Prelude.{◌≡◌, ◌⊎◌, ℕ, List, length, Option, Some, None, Result, Ok, Err, Vec, MatchResult, nat_le, if◌then◌else◌}
 use Rattle.std.specs.declared.alloc.Global.{Global}
 use Rattle.opgen_io.specs.declared.folder.FetchFault.{FetchFault}

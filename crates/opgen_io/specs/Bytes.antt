@@ -1,4 +1,4 @@
--- Bytes that were put.
+-- Bytes that a sink has taken: those before, and then a first part or all of what was put.
 use Rattle.std.specs.Prelude.{◌≡◌, ℕ, ◌-◌, List, ◌++◌, Option, Some, None, length, take}
 
 -- the later bytes are those held before and then the first of these bytes: none, some or all

@@ -1,4 +1,4 @@
--- Counts that never fall and end at 2 ^ 64 - 1, and lists of call numbers.
+-- Error counts that never fall and stop at 2 ^ 64 - 1, and the numbers of calls that fail.
 use Rattle.std.specs.Prelude.{ℕ, ◌+◌, ◌≤◌, ◌<◌, min, List, Bool, nat_eq, nat_lt, if◌then◌else◌}
 use Rattle.std.specs.List.{list_any}
 

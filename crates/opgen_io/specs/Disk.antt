@@ -1,4 +1,4 @@
--- The counts of the files on disk.
+-- The error counts of the folder on disk.
 use Rattle.std.specs.Prelude.{ℕ}
 
 -- how many reads have failed, how many files were too long, and how many writes have failed

@@ -1,4 +1,4 @@
--- Files by name.
+-- The files of a folder as a function from names to bytes, and what one store changes.
 use Rattle.std.specs.Prelude.{◌≡◌, ◌≢◌, ℕ, List, Option, Some, None, if◌then◌else◌}
 use Rattle.std.specs.Str.{bytes_eq}
 

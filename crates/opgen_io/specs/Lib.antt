@@ -1,3 +1,4 @@
+-- Definitions of opgen_io: files by name, what fetching and storing change, bytes that a sink took, and error counts.
 pub mod Answers
 pub mod Bytes
 pub mod Counts

@@ -1,4 +1,4 @@
--- A folder and a sink in memory, as their users see them.
+-- A folder and a sink in memory as contracts see them.
 use Rattle.std.specs.Prelude.{ℕ, Bool, List, [], ◌∷◌, ◌++◌, None, Result, Ok, Err, String, Vec, string_bytes, map}
 use Rattle.std.specs.Str.{bytes_eq}
 use Rattle.std.specs.declared.alloc.Global.{Global}

@@ -1,4 +1,4 @@
-//! The calls of a fake, of which some are to fail.
+//! Counts the calls of a folder or sink in memory, and decides which of them fail.
 ghost use Rattle.std.specs.Prelude.{◌≡◌};
 ghost use Rattle.opgen_io.specs.Counts.{next_count, is_listed};
 

@@ -1,4 +1,4 @@
-//! Counts that end at the largest number.
+//! Counts that stop at the largest 64-bit number.
 ghost use Rattle.std.specs.Prelude.{◌≡◌};
 ghost use Rattle.opgen_io.specs.Counts.{next_count};
 

@@ -1,4 +1,4 @@
-//! The files of the working directory.
+//! The folder on disk: reads and stores the files of the working directory.
 ghost use Rattle.std.specs.Prelude.{◌≡◌, ◌≤◌, None, IfOk, vec_len};
 
 use crate::counts::raise;

@@ -1,4 +1,4 @@
-//! The file system for tests: of the calls that change something, one fails, alone or with all that come after it.
+//! A file system for tests in which one changing call fails, alone or with every call after it.
 use std::alloc::{Allocator, Global};
 use std::cell::Cell;
 use std::fs::{File, Metadata, OpenFile, OpenOptions, Permissions};

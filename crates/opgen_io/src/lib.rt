@@ -1,6 +1,14 @@
-//! Where files are read and stored, and where lines are put: two traits, fakes in memory for tests, and the file system and standard output behind them.
+//! Where files are read and stored, and where lines are printed: two traits, both in memory for tests, and both for the file
+//! system and standard output.
 //!
-//! A folder and a sink may *tell* what they hold. Their clauses say what a call did to the contents only where they are told, and tie each failure to a count that rose, so that no failure comes from nowhere.
+//! A folder or a sink is observable if contracts can refer to its contents (`told`). Clauses say what a call did to the
+//! contents only of observable ones. Each failure raises a count, so every failure has a cause.
+//!
+//! Proved: A fetch returns the bytes of the file, a store changes the file of one name, and a put appends to the sink. Each
+//! failure other than out of memory raises a count. In memory: which calls fail, and what each leaves.
+//!
+//! By: the traits `Folder` and `Sink`, `MemoryFolder`, `MemorySink`; `DiskFolder` and `StdSink` keep the traits and are not
+//! observable.
 #![tactic(auto)]
 
 mod calls;

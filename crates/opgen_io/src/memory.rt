@@ -1,4 +1,4 @@
-//! A folder and a sink in memory, some of whose calls are made to fail.
+//! A folder and a sink in memory, in which chosen calls fail.
 ghost use Rattle.std.specs.Prelude.{◌≡◌, [], Some, true, false, IsSome, IfErr, OnOk, OnErr, position, length, vec_len, option_copied, option_map};
 ghost use Rattle.opgen_io.specs.Answers.{fetched, Answers};
 ghost use Rattle.opgen_io.specs.Files.{stored};

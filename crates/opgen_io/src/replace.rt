@@ -1,4 +1,4 @@
-//! Files that are replaced whole: the bytes go into a new file beside the old one, which takes its name once they are synced.
+//! Replaces a file as a whole: writes a new file beside it, syncs it, and renames it over the old one.
 ghost use Rattle.std.specs.Prelude.{◌≡◌, ◌≤◌, length, take};
 
 use crate::StoreFault;

@@ -1,4 +1,4 @@
-//! Where bytes are put one after another.
+//! The trait of a sink: takes bytes one after another, as standard output does.
 ghost use Rattle.std.specs.Prelude.{◌≡◌, ℕ, ◌≤◌, List, ◌++◌, Option, Some, is_some, OnOk};
 ghost use Rattle.opgen_io.specs.Bytes.{TakesPrefix};
 ghost use Rattle.opgen_io.specs.Counts.{Rose};

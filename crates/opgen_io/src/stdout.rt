@@ -1,4 +1,4 @@
-//! Standard output.
+//! Standard output as a sink.
 ghost use Rattle.std.specs.Prelude.{◌≡◌, None};
 
 use crate::counts::raise;

@@ -1,4 +1,4 @@
-//! Stores over real files, of which some calls fail.
+//! Tests of storing files on a real file system in which some calls fail.
 use crate::faulty::{Fault, FaultyFiles};
 use crate::{DiskFolder, Folder, StoreFault};
 use std::fs::File;

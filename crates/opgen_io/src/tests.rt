@@ -1,3 +1,4 @@
+//! Tests of folders and sinks: in memory, on disk, standard output, and files that fail while they are read or written.
 use super::*;
 use crate::whole::{read_within, write_whole};
 use std::io::{Error, ErrorKind, Read, Write};

@@ -1,4 +1,4 @@
-//! Whole texts through readers and writers that move a part at a time.
+//! Reads and writes whole texts through files that move a part at a time.
 ghost use Rattle.std.specs.Prelude.{◌≡◌, ◌≢◌, ◌≤◌, IfOk, IfSome, OnOk, Err, vec_len, take};
 ghost use Rattle.std.specs.Io.{ReadsAtMost};
 ghost use Rattle.std.specs.Io.KnownBytes.{Appends, ReadConsumes};

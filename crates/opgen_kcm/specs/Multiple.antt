@@ -1,4 +1,4 @@
--- What the tables of a coefficient add: a multiple of the input, at most half a unit off for each chunk.
+-- What the tables of a coefficient add: a multiple of the input, with an error of at most half a unit for each chunk.
 use Rattle.std.specs.Prelude.{ℕ, ◌≡◌, ◌*◌, ◌^◌, ◌≤◌, ℤ, pos, ◌+ℤ◌, ◌*ℤ◌, unsigned_abs}
 use Rattle.opgen_num.specs.declared.format.Ratio.{Ratio}
 use Rattle.opgen_num.specs.Rounding.{distance}

@@ -1,4 +1,4 @@
-// An input as chunks of six bits.
+//! Cuts an input into chunks of six bits, each of which addresses one table.
 
 ghost use Rattle.std.specs.Prelude.{◌≡◌, ◌+◌, ◌*◌, ◌^◌, ◌<◌, ◌≤◌, length, unsigned_abs, IfOk};
 ghost use Rattle.opgen_num.specs.declared.TheConstants.{MAX_INPUT};

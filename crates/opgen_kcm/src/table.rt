@@ -1,4 +1,4 @@
-// The entries of a table, and how they stand in its rows.
+//! The entries of a table, which are multiples rounded to whole units, and the width and trailing zeros of its rows.
 
 ghost use Rattle.std.specs.Prelude.{◌≡◌, ◌+◌, ◌*◌, ◌/◌, ◌^◌, ◌<◌, ◌≤◌, ℤ, pos, ◌<ℤ◌, ◌*ℤ◌, map, length, unsigned_abs, All, IfOk};
 ghost use Rattle.opgen_num.specs.declared.TheConstants.{MAX_INPUT};

@@ -1,11 +1,8 @@
 -- The words of drivers in a stream.
-use Rattle.std.proofs.Common.{◌≡◌, ℕ, zero, suc, ◌+◌, ◌-◌, ◌<◌, ◌≤◌, Bool, true, false, if◌then◌else◌, List, [], ◌∷◌, length, take, drop, get_or, Option, Some, refl, sym, ap, ◌∙◌, subst, arith}
-use Rattle.std.specs.Prelude.{IsSome, nat_eq, unwrap_or, slice_get}
-use Rattle.std.proofs.lemmas.List.{drop_more, length-map, get_or-map}
+use Rattle.std.proofs.Common.{◌≡◌, ℕ, zero, suc, ◌<◌, ◌≤◌, Bool, true, false, if◌then◌else◌, List, [], ◌∷◌, length, take, get_or, Some, refl, sym, ap, ◌∙◌, subst, arith}
+use Rattle.std.specs.Prelude.{IsSome, slice_get}
+use Rattle.std.proofs.lemmas.List.{length-map, get_or-map}
 use Rattle.std.proofs.Math.Seq.{take-nil}
-use Rattle.std.proofs.Math.ListN.{drop_of_length-le}
-use Rattle.std.proofs.lemmas.Option.{slice_get-get_or, get_or_from_slice_get}
-use Rattle.opgen_num.specs.Words.{nat}
 use Rattle.opgen_num.specs.declared.TheConstants.{MAX_WIDTH}
 use Rattle.opgen_design.specs.declared.design.Design.{Design}
 use Rattle.opgen_design.specs.declared.design.Driver.{Driver}
@@ -17,52 +14,13 @@ use Rattle.opgen_design.specs.Value.{chosen}
 use Rattle.opgen_design.specs.Width.{width}
 use Rattle.opgen_runs.proofs.Fitting.{some-of}
 use Rattle.opgen_runs.proofs.Widths.{declared-there, narrow, width_of, word-length}
-use Rattle.opgen_runs.specs.Evaluate.{HaveWidths, IsThere, driver_word, table_word}
-use Rattle.opgen_runs.specs.Tables.{row_word}
+use Rattle.opgen_runs.specs.Evaluate.{HaveWidths, IsThere, driver_word}
 use Rattle.opgen_streams.specs.Streams.{bit_in, word_in}
 use Rattle.opgen_lanes.specs.declared.bank.Bank.{Bank}
 use Rattle.opgen_lanes.specs.Banks.{stream_words, width_at, widths_of}
 use Rattle.opgen_lanes.specs.Ready.{AreBanksOf}
 use Rattle.opgen_lanes.proofs.Fits.{narrow-of}
 use Rattle.opgen_lanes.proofs.Places.{words-length, words-widths}
-
-abbrev Row : Type 0
-Row = List Bool × List Bool
-
-pub all-rows : (rows : List Row) (other address : List Bool) → table_word (drop (length rows - 0) rows) other address ≡ other
-all-rows rows other address = ap (λ rs. table_word rs other address) (drop_of_length-le rows (omega arith))
-
-found : (b : Bool) (word other : List Bool) (rest : Option (List Bool))
-    → (if b then word else unwrap_or rest other) ≡ unwrap_or (if b then Some word else rest) other
-found true word other rest = refl
-found false word other rest = refl
-
-any-else : (rows : List Row) (i : ℕ) (x y : Row) → i < length rows → get_or rows i x ≡ get_or rows i y
-any-else rows i x y l = get_or_from_slice_get rows i (get_or rows i y) x (slice_get-get_or rows i y l)
-
--- one row more, before those that were looked at
-pub row-before : (rows : List Row) (other address : List Bool) (x y : Row) (past : ℕ) → past < length rows
-    → (if nat_eq (nat (get_or rows (length rows - 1 - past) x).0) (nat address) then (get_or rows (length rows - 1 - past) y).1
-    else table_word (drop (length rows - past) rows) other address)
-    ≡ table_word (drop (length rows - (past + 1)) rows) other address
-row-before rows other address x y past l =
-    let j = length rows - 1 - past in
-    let b : j < length rows = omega (arith, l) in
-    let r = get_or rows j x in
-    let rest = table_word (drop (length rows - past) rows) other address in
-    let n : length rows - (past + 1) ≡ j = omega arith in
-    let m : j + 1 ≡ length rows - past = omega (arith, l) in
-    let split : drop (length rows - (past + 1)) rows ≡ r ∷ drop (length rows - past) rows =
-    ap (λ i. drop i rows) n ∙ drop_more rows j x b ∙ ap (λ i. r ∷ drop i rows) m in
-    ap (λ q. if nat_eq (nat r.0) (nat address) then q.1 else rest) (any-else rows j y x b)
-    ∙ found (nat_eq (nat r.0) (nat address)) r.1 other (row_word (drop (length rows - past) rows) (nat address))
-    ∙ sym (ap (λ rs. table_word rs other address) split)
-
-pub no-rows-left : (rows : List Row) (other address : List Bool) (past : ℕ) → length rows ≤ past
-    → table_word (drop (length rows - past) rows) other address ≡ table_word rows other address
-no-rows-left rows other address past l =
-    let n : length rows - past ≡ 0 = omega (arith, l) in
-    ap (λ i. table_word (drop i rows) other address) n
 
 -- a choice by a bit
 chosen-bit : (b : Bool) (first second : List Bool) → (if b then first else second) ≡ chosen (b ∷ []) first second

@@ -2,6 +2,8 @@ pub mod Bits
 pub mod Places
 pub mod Fits
 pub mod DriverWords
+pub mod TableWords
+pub mod PairWords
 pub mod PortWords
 pub mod RegisterWords
 pub mod Beginning

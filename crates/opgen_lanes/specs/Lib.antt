@@ -1,4 +1,6 @@
+-- What it means to run a design in 256 streams.
 pub mod Banks
 pub mod Steps
 pub mod Runs
 pub mod Ready
+pub mod Tables

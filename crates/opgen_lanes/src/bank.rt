@@ -1,3 +1,4 @@
+//! Words of 256 streams, a vector for each bit.
 ghost use Rattle.std.specs.Prelude.{ℕ, ◌≡◌, ◌<◌, ◌≤◌, ◌+◌, All, IfOk, length, map, slice_index, slice_set, take, ◌^◌};
 ghost use Rattle.opgen_num.specs.declared.TheConstants.{MAX_WIDTH};
 ghost use Rattle.opgen_design.specs.Value.{word_at};

@@ -1,3 +1,4 @@
+//! Copies of designs, for a simulator to keep.
 ghost use Rattle.std.specs.Prelude.{◌≡◌, IfOk};
 
 use opgen_design::{Design, Driver, Formula, Port, Signal};

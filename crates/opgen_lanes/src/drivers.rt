@@ -13,67 +13,12 @@ ghost use Rattle.opgen_lanes.specs.Banks.{IsBank, stream_words, width_at, widths
 ghost use Rattle.opgen_lanes.specs.Ready.{AreBanksOf};
 
 use crate::bank::{Bank, room};
-use crate::evaluate::{evaluate, in_place};
-use crate::words::{choose, equal, write, write_where};
+use crate::evaluate::{evaluate, lend};
+use crate::tables::look_up;
+use crate::words::choose;
 use opgen_design::{Design, Driver, Expr};
 use opgen_num::Word;
 use std::simd::prelude::*;
-
-// The word of the first row of each stream's address, and else the other word.
-fn look_up(rows: &[(Word, Word)], other: Word, address: &[u64x4], out: &mut [u64x4])
-    requires addresses { All (λ r. length r.0 ≡ length address.now) rows.now }
-    requires words { All (λ r. length r.1 ≡ length other) rows.now }
-    requires other { length other ≡ length out.old }
-    requires narrow_address { length address.now ≤ MAX_WIDTH }
-    requires narrow_word { length other ≤ MAX_WIDTH }
-    ensures { (k : ℕ) → k < streams → word_in out.new k ≡ table_word rows.now other (word_in address.now k) }
-{
-    write(other, out);
-    for past in 0..rows.len() {
-        let (from, word) = rows[rows.len() - 1 - past];
-        write_where(equal(from, address), word, out);
-    }
-}
-
-// The first word stays in the streams where the condition is 1, and else the value of the expression takes its place.
-fn choose_else(
-    on: u64x4,
-    first: &mut [u64x4],
-    no: &Expr,
-    signals: &Bank,
-    ports: &Bank,
-    spare: &mut [u64x4],
-)
-    requires signals { IsBank signals.now }
-    requires ports { IsBank ports.now }
-    requires no { width (widths_of signals.now) (widths_of ports.now) (plain no.now) ≡ Some (length first.old) }
-    requires spare { MAX_WIDTH ≤ length spare.old }
-    ensures { (k : ℕ) → k < streams → word_in first.new k ≡ (if bit_in on k then word_in first.old k else value (scope (stream_words signals.now ports.now k)) (plain no.now)) }
-{
-    match in_place(no, signals, ports) {
-        Some(word) => choose(on, first, word),
-        None => choose_nested(on, first, no, signals, ports, spare),
-    }
-}
-
-// The same of an expression that has to be evaluated first.
-fn choose_nested(
-    on: u64x4,
-    first: &mut [u64x4],
-    no: &Expr,
-    signals: &Bank,
-    ports: &Bank,
-    spare: &mut [u64x4],
-)
-    requires signals { IsBank signals.now }
-    requires ports { IsBank ports.now }
-    requires no { width (widths_of signals.now) (widths_of ports.now) (plain no.now) ≡ Some (length first.old) }
-    requires spare { MAX_WIDTH ≤ length spare.old }
-    ensures { (k : ℕ) → k < streams → word_in first.new k ≡ (if bit_in on k then word_in first.old k else value (scope (stream_words signals.now ports.now k)) (plain no.now)) }
-{
-    let width = evaluate(no, signals, ports, spare, &mut []);
-    choose(on, first, &spare[..width]);
-}
 
 fn choice(
     on: &Expr,
@@ -96,58 +41,9 @@ fn choice(
     evaluate(on, signals, ports, out, spare);
     let on = out[0];
     let width = evaluate(yes, signals, ports, out, spare);
-    choose_else(on, &mut out[..width], no, signals, ports, spare);
+    let no = lend(no, signals, ports, spare);
+    choose(on, &mut out[..width], no);
     width
-}
-
-// The word of the first row whose address is the value of the expression.
-fn look_up_at(
-    rows: &[(Word, Word)],
-    other: Word,
-    on: &Expr,
-    signals: &Bank,
-    ports: &Bank,
-    out: &mut [u64x4],
-    spare: &mut [u64x4],
-)
-    requires signals { IsBank signals.now }
-    requires ports { IsBank ports.now }
-    requires on { IsSome (width (widths_of signals.now) (widths_of ports.now) (plain on.now)) }
-    requires addresses { All (λ r. width (widths_of signals.now) (widths_of ports.now) (plain on.now) ≡ Some (length r.0)) rows.now }
-    requires words { All (λ r. length r.1 ≡ length other) rows.now }
-    requires other { length other ≡ length out.old }
-    requires narrow { length other ≤ MAX_WIDTH }
-    requires spare { MAX_WIDTH ≤ length spare.old }
-    ensures { (k : ℕ) → k < streams → word_in out.new k ≡ table_word rows.now other (value (scope (stream_words signals.now ports.now k)) (plain on.now)) }
-{
-    match in_place(on, signals, ports) {
-        Some(address) => look_up(rows, other, address, out),
-        None => look_up_nested(rows, other, on, signals, ports, out, spare),
-    }
-}
-
-// The same of an expression that has to be evaluated first.
-fn look_up_nested(
-    rows: &[(Word, Word)],
-    other: Word,
-    on: &Expr,
-    signals: &Bank,
-    ports: &Bank,
-    out: &mut [u64x4],
-    spare: &mut [u64x4],
-)
-    requires signals { IsBank signals.now }
-    requires ports { IsBank ports.now }
-    requires on { IsSome (width (widths_of signals.now) (widths_of ports.now) (plain on.now)) }
-    requires addresses { All (λ r. width (widths_of signals.now) (widths_of ports.now) (plain on.now) ≡ Some (length r.0)) rows.now }
-    requires words { All (λ r. length r.1 ≡ length other) rows.now }
-    requires other { length other ≡ length out.old }
-    requires narrow { length other ≤ MAX_WIDTH }
-    requires spare { MAX_WIDTH ≤ length spare.old }
-    ensures { (k : ℕ) → k < streams → word_in out.new k ≡ table_word rows.now other (value (scope (stream_words signals.now ports.now k)) (plain on.now)) }
-{
-    let width = evaluate(on, signals, ports, spare, &mut []);
-    look_up(rows, other, &spare[..width], out);
 }
 
 fn table(
@@ -170,7 +66,8 @@ fn table(
     ensures { (k : ℕ) → k < streams → word_in (take result out.new) k ≡ table_word rows.now other (value (scope (stream_words signals.now ports.now k)) (plain on.now)) }
 {
     let places = other.width() as usize;
-    look_up_at(rows, other, on, signals, ports, &mut out[..places], spare);
+    let address = lend(on, signals, ports, spare);
+    look_up(rows, other, address, &mut out[..places]);
     places
 }
 

@@ -37,8 +37,8 @@ fn part(slice: Slice, signals: &Bank) -> &[u64x4]
     &word[slice.low as usize..slice.high as usize + 1]
 }
 
-/// The value of a name, a part or a port, where it stands.
-pub fn in_place<'a>(expr: &Expr, signals: &'a Bank, ports: &'a Bank) -> Option<&'a [u64x4]>
+// The value of a name, a part or a port, where it stands.
+fn in_place<'a>(expr: &Expr, signals: &'a Bank, ports: &'a Bank) -> Option<&'a [u64x4]>
     requires signals { IsBank signals.now }
     requires ports { IsBank ports.now }
     requires fits { IsSome (width (widths_of signals.now) (widths_of ports.now) (plain expr.now)) }
@@ -50,6 +50,29 @@ pub fn in_place<'a>(expr: &Expr, signals: &'a Bank, ports: &'a Bank) -> Option<&
         Expr::Part(slice) => Some(part(*slice, signals)),
         Expr::Port(place) => Some(ports.word(*place)),
         Expr::Bits(_) | Expr::Not(_) | Expr::Chain(_, _) => None,
+    }
+}
+
+/// The vectors of an expression's value: where they stand, or else in the spare vectors, into which the expression is evaluated.
+pub fn lend<'a>(
+    expr: &Expr,
+    signals: &'a Bank,
+    ports: &'a Bank,
+    spare: &'a mut [u64x4],
+) -> &'a [u64x4]
+    requires signals { IsBank signals.now }
+    requires ports { IsBank ports.now }
+    requires fits { IsSome (width (widths_of signals.now) (widths_of ports.now) (plain expr.now)) }
+    requires spare { MAX_WIDTH ≤ length spare.old }
+    ensures width { width (widths_of signals.now) (widths_of ports.now) (plain expr.now) ≡ Some (length result.now) }
+    ensures value { (k : ℕ) → k < streams → word_in result.now k ≡ value (scope (stream_words signals.now ports.now k)) (plain expr.now) }
+{
+    match in_place(expr, signals, ports) {
+        Some(word) => word,
+        None => {
+            let width = evaluate(expr, signals, ports, spare, &mut []);
+            &spare[..width]
+        }
     }
 }
 

@@ -1,3 +1,4 @@
+//! A design that is run cycle by cycle in 256 streams.
 ghost use Rattle.std.specs.Prelude.{ℕ, ◌≡◌, ◌<◌, ◌^◌, All, IfOk, length, map, unwrap_or};
 ghost use Rattle.std.specs.List.{sum};
 ghost use Rattle.opgen_num.specs.Words.{word};

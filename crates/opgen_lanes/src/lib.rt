@@ -1,4 +1,10 @@
 //! Designs run cycle by cycle, 256 streams at a time.
+//!
+//! Proved: New lanes of a sound design have the registers' initial words in each stream. Each step is a cycle of the design
+//! in each of the 256 streams, by that stream's own bit of an enable. The steps of new lanes are a run in each stream. A
+//! copy of a design is the same design.
+//!
+//! By: `Lanes::new`, `Lanes::from_design`, `Lanes::step` (also exported by `opgen_sim`), `copy`; the law `steps_are_runs`.
 #![tactic(auto)]
 
 mod bank;
@@ -9,6 +15,7 @@ mod lanes;
 mod laws;
 mod ports;
 mod registers;
+mod tables;
 mod words;
 
 pub use copies::copy;

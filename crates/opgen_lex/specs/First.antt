@@ -1,4 +1,4 @@
--- Where the first token of a text stands, and how far a text was cut.
+-- The first token of a text, and how far a text was cut into tokens.
 use Rattle.std.specs.Prelude.{◌≡◌, ℕ, List, [], ◌∷◌}
 use Rattle.opgen_vhdl.specs.Tokens.{Element, Cut, Tokens, NothingStarts}
 use Rattle.opgen_vhdl.specs.Spans.{spellings_of}

@@ -1,4 +1,4 @@
-// What stands at the front of a text: white space, a comment or a token.
+//! Recognizes what is at the front of a text: white space, a comment, or one token of the VHDL subset.
 
 ghost use Rattle.std.specs.Prelude.{◌≡◌, ◌==◌, ◌≤◌, length, take, drop, ◌&&◌, Some, None, if◌then◌else◌};
 ghost use Rattle.std.specs.Char.{is_ascii_digit};

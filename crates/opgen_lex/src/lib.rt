@@ -1,4 +1,10 @@
-// The lexer of the VHDL subset.
+//! The lexer of the VHDL subset, and what the texts of its tokens mean.
+//!
+//! Proved: The tokens of a text, or the offset at which no token starts, also without a list of the tokens. The first token
+//! of a text. Whether two tokens are of one kind, and whether a token is a given word, upper and lower case being the same.
+//! The number of a bit that digits write, and the word that a bit string writes.
+//!
+//! By: `tokens`, `first_fault`, `first_token`; `same_kind`, `same_word`, `index_of`, `word_of`.
 #![tactic(auto)]
 
 ghost use Rattle.std.specs.Prelude.{◌≡◌, ◌≤◌, length, All, IfOk, IfErr, IfSome, IfNone};

@@ -1,4 +1,4 @@
-// What the texts of tokens say.
+//! Reads the texts of tokens: compares words in any case, and converts numbers and bit strings.
 
 ghost use Rattle.std.specs.Prelude.{◌≡◌, ◌+◌, ◌≤◌, ◌<◌, IsTrue, IfSome, map, length, nat_lt, Some, None, if◌then◌else◌, ◌∷◌};
 ghost use Rattle.std.specs.Char.{to_ascii_lowercase, is_ascii_digit};

@@ -1,0 +1,1 @@
+-- Definitions of opgen_list: none, because contracts see its lists and texts as plain lists.

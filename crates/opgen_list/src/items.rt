@@ -1,3 +1,4 @@
+//! `Items`: a `Vec` that contracts see as a plain list.
 ghost use Rattle.std.specs.Prelude.{◌≡◌, ◌<◌, ◌-◌, ◌↔◌, ◌++◌, [], ◌∷◌, length, slice_get, take, option_to_list, IsTrue, OnOk, OnErr, Some};
 
 use std::alloc::{AllocError, Global};

@@ -1,3 +1,4 @@
+//! `Text`: a `String` that contracts see as the list of its bytes.
 ghost use Rattle.std.specs.Prelude.{◌≡◌, IfOk, length, string_bytes};
 
 use std::alloc::{AllocError, Global};

@@ -1,4 +1,4 @@
--- Tables by their addresses, as numbers that stand one after another.
+-- Tables laid out in memory: one number for each address, in order.
 use Rattle.std.specs.Prelude.{ℕ, ◌≡◌, ◌+◌, ◌^◌, ◌<◌, ◌≤◌, All, Bool, List, ◌∷◌, length, slice_index, unwrap_or}
 use Rattle.std.specs.List.{AllZip}
 use Rattle.opgen_num.specs.Words.{nat}

@@ -1,4 +1,4 @@
--- Where the words of a design stand among the numbers of a machine: those of the signals first, then those of the inputs.
+-- Where the words of a design are in a machine's memory: first those of the signals, then those of the inputs.
 use Rattle.std.specs.Prelude.{ℕ, ◌+◌, if◌then◌else◌, List, [], ◌∷◌, ◌++◌, length, map, replicate, unwrap_or}
 use Rattle.opgen_num.specs.Words.{nat}
 use Rattle.opgen_design.specs.declared.design.Design.{Design}

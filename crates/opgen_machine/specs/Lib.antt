@@ -1,3 +1,4 @@
+-- Definitions of opgen_machine: steps over a memory of numbers, where a design's words are in it, and when steps run a cycle.
 pub mod Steps
 pub mod Programs
 pub mod Emit

@@ -1,4 +1,4 @@
--- Machines of designs: numbers, and steps over them that run a cycle.
+-- The machine of a design: a memory, and steps over it that run one cycle.
 use Rattle.std.specs.Prelude.{ℕ, ◌≡◌, ◌+◌, ◌<◌, ◌++◌, All, Bool, List, drop, length, map, slice_index, take}
 use Rattle.opgen_num.specs.Words.{FitWidths, nat}
 use Rattle.opgen_design.specs.declared.design.Design.{Design}

@@ -1,4 +1,4 @@
--- Registers: what they hold next, and how it comes to their places.
+-- The registers of a machine: their next words, and the moves that store them.
 use Rattle.std.specs.Prelude.{ℕ, ◌≡◌, ◌+◌, ◌<◌, ◌≤◌, ◌^◌, All, Option, Bool, List, [], ◌∷◌, length, slice_index, slice_set}
 use Rattle.opgen_design.specs.declared.design.Driver.{Driver}
 use Rattle.opgen_design.specs.Run.{Words, moved}

@@ -1,4 +1,4 @@
--- What a list of steps gives, over all numbers before it.
+-- What a list of steps computes for a design, whatever numbers are in memory before it.
 use Rattle.std.specs.Prelude.{◌≡◌, ℕ, ◌+◌, ◌^◌, ◌<◌, ◌≤◌, All, Bool, List, length, map, slice_index}
 use Rattle.opgen_num.specs.Words.{nat, word}
 use Rattle.opgen_design.specs.Run.{Words, scope}

@@ -1,4 +1,4 @@
--- What the steps of drivers leave, over all numbers before them.
+-- What the steps of a design's drivers compute, whatever numbers are in memory before them.
 use Rattle.std.specs.Prelude.{ℕ, ◌≡◌, ◌+◌, ◌<◌, ◌≤◌, All, Bool, List, length, slice_index, slice_set, Some}
 use Rattle.opgen_design.specs.declared.design.Driver.{Driver}
 use Rattle.opgen_design.specs.declared.design.Driver.TheVariants.{Assign, Choice, Table, Register, Output}

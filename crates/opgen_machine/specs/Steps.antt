@@ -1,4 +1,4 @@
--- Steps over numbers of 64 bits: each appends one number to those before it.
+-- The steps of a machine: each computes one number of 64 bits from earlier ones and appends it.
 use Rattle.std.specs.Prelude.{ℕ, ◌+◌, ◌-◌, ◌*◌, ◌/◌, ◌%◌, ◌^◌, ◌<◌, List, [], ◌∷◌, ◌++◌, slice_index, bit_and, bit_or, bit_xor, if◌then◌else◌, nat_eq}
 use Rattle.opgen_machine.specs.declared.step.Step.{Step}
 use Rattle.opgen_machine.specs.declared.step.Step.TheVariants.{Constant, Copy, Choose, Look, Turn, Both, Either, Differ, Add, Subtract, Part, Join}

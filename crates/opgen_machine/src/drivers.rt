@@ -1,4 +1,4 @@
-//! Drivers as steps.
+//! Translates the drivers of a design to steps.
 ghost use Rattle.std.specs.Prelude.{ℕ, ◌≡◌, ◌+◌, ◌<◌, ◌^◌, [], All, IfOk, OnOk, Some, length, slice_get};
 ghost use Rattle.std.specs.List.{AllZip};
 ghost use Rattle.opgen_design.specs.declared.design.Driver.TheVariants.{Table};

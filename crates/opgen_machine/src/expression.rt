@@ -1,4 +1,4 @@
-//! Expressions as steps.
+//! Translates an expression to steps, and reuses an equal step among the last ones.
 ghost use Rattle.std.specs.Prelude.{◌≡◌, ◌+◌, ◌-◌, ◌^◌, ◌<◌, ◌≤◌, ◌++◌, ◌∷◌, [], ℕ, Some, IfOk, IfSome, OnOk, IsSome, length, slice_get, slice_index_or};
 ghost use Rattle.opgen_design.specs.Plain.{plain, plain_all};
 ghost use Rattle.opgen_design.specs.Tree.{bits, chain, name, part, port};

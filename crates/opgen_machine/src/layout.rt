@@ -1,4 +1,4 @@
-//! Where the words of a design stand among the numbers of a machine.
+//! Assigns a place in memory to each signal and port of a design.
 ghost use Rattle.std.specs.Prelude.{◌≡◌, ◌<◌, ◌≤◌, ◌^◌, ◌+◌, All, IfOk, IfSome, length, map};
 ghost use Rattle.opgen_design.specs.Run.{at_ports, is_in, is_out};
 ghost use Rattle.opgen_machine.specs.Layout.{port_spots, spots_from, start_number};

@@ -1,4 +1,4 @@
-//! A design as one list of steps over a memory, run cycle by cycle.
+//! Runs a design cycle by cycle as one list of steps over a memory.
 ghost use Rattle.std.specs.Prelude.{◌≡◌, ◌+◌, ◌<◌, ◌≤◌, ◌^◌, ◌++◌, All, IfOk, OnOk, drop, length, map, replicate, slice_index, take};
 ghost use Rattle.opgen_design.specs.declared.design.Design.{Design};
 ghost use Rattle.opgen_design.specs.Order.{IsOrderOf};

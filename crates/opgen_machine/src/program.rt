@@ -1,4 +1,4 @@
-//! The program of a design: its cycle as steps.
+//! Translates a design to a program: the steps of one cycle, the moves of its registers, and the places of its outputs.
 ghost use Rattle.std.specs.Prelude.{◌≡◌, ◌<◌, ◌^◌, IfOk};
 ghost use Rattle.std.specs.List.{AllZip};
 ghost use Rattle.opgen_design.specs.Order.{IsOrderOf};

@@ -1,4 +1,4 @@
-//! Registers as steps, and the moves of their next numbers.
+//! Translates the registers of a design to steps, and to moves that store their next words when a cycle ends.
 ghost use Rattle.std.specs.Prelude.{ℕ, ◌≡◌, ◌+◌, ◌<◌, ◌^◌, All, IfOk, IfSome, Some, length};
 ghost use Rattle.opgen_design.specs.Tree.{Tree, port};
 ghost use Rattle.opgen_machine.specs.Steps.{AreFine};

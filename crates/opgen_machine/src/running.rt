@@ -1,4 +1,4 @@
-//! A list of steps run over a memory.
+//! Runs a list of steps over a memory.
 ghost use Rattle.std.specs.Prelude.{◌≡◌, ◌+◌, length, take};
 ghost use Rattle.opgen_machine.specs.Steps.{exec, AreFine};
 

@@ -1,4 +1,4 @@
-//! Steps over a memory of numbers of 64 bits: what each reads, and the number that it gives.
+//! The steps of a machine as a type: each reads numbers of 64 bits from memory and appends one.
 ghost use Rattle.std.specs.Prelude.{◌≡◌, ◌-◌, ◌^◌, ◌≤◌, length, if◌then◌else◌, nat_eq};
 ghost use Rattle.opgen_machine.specs.Steps.{act, Reads};
 

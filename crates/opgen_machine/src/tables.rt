@@ -1,4 +1,4 @@
-//! Tables by their addresses, and the designs whose words and tables are small.
+//! Lays tables out by their addresses, and decides for which designs that takes little enough memory.
 ghost use Rattle.std.specs.Prelude.{◌≡◌, ◌≤◌, ◌<◌, ◌^◌, ℕ, All, IfOk, IsTrue, OnOk, length, slice_index};
 ghost use Rattle.opgen_num.specs.Words.{nat};
 ghost use Rattle.opgen_machine.specs.Laid.{AreLaid, CanBeLaid, FitRows, Grown, IsFlat, IsLaid, IsSmall, number_at};

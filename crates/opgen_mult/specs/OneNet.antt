@@ -1,4 +1,4 @@
--- A product leaves one net.
+-- A product has only one net.
 use Rattle.std.specs.Prelude.{◌≡◌}
 use Rattle.opgen_net.specs.declared.net.Net.{Net}
 use Rattle.opgen_operator.specs.declared.spec.Product.{Product}

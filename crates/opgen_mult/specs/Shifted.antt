@@ -1,4 +1,4 @@
--- A node's word above zeros.
+-- A node that has the word of another node with zeros below it.
 use Rattle.std.specs.Prelude.{◌≡◌, ℕ, ℤ, false, List, ◌++◌, All, replicate}
 use Rattle.opgen_design.specs.Run.{AreWords}
 use Rattle.opgen_net.specs.declared.net.Net.{Net}

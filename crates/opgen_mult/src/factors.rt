@@ -1,4 +1,4 @@
-//! The factors as inputs, and the products of their bits.
+//! The two factors as inputs of a net, and their partial products in a bit heap.
 ghost use Rattle.std.specs.Prelude.{◌≡◌, ◌≤◌, IfOk};
 ghost use Rattle.opgen_net.specs.Valid.{IsValid};
 ghost use Rattle.opgen_operator.specs.Accepted.{IsAcceptedProduct};

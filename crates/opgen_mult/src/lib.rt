@@ -1,5 +1,10 @@
-//! Nets of products: the bits of the factors are multiplied in pairs, and the products are added in a bit heap
-//! (de Dinechin and Kumm, Application-Specific Arithmetic: multiplication, and truncated multipliers).
+//! The nets of products: the factors' bits are multiplied in pairs and added in a bit heap (de Dinechin and Kumm,
+//! Application-Specific Arithmetic: multiplication, and truncated multipliers).
+//!
+//! Proved: For every product that a version accepts, with either compressor: the net is that of the recipe, of which there
+//! is one, and it fits every valid specification of that product, signed or not, exact or truncated, at every shift.
+//!
+//! By: `build`; the law `one_net`.
 #![tactic(auto)]
 
 mod factors;

@@ -1,4 +1,4 @@
-//! The output's bits.
+//! The output of a product: the bits of its sum, with zeros below them if the product is shifted up.
 ghost use Rattle.std.specs.Prelude.{◌≡◌, ◌≤◌, ◌+◌, ◌++◌, IfOk, OnOk, replicate, slice_index};
 ghost use Rattle.opgen_net.specs.declared.word_bits.WordBit.TheVariants.{Zero};
 ghost use Rattle.opgen_net.specs.Valid.{IsValid, widths};

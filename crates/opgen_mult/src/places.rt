@@ -1,4 +1,4 @@
-//! Where the bits of a product stand: in its heap, and in the output.
+//! Numbers of a product's circuit: the width of its heap, the columns that are left out, and which bits go to the output.
 ghost use Rattle.std.specs.Prelude.{◌≡◌, ◌≤◌, ◌+◌, ◌-◌, ◌^◌};
 ghost use Rattle.opgen_num.specs.declared.TheConstants.{MAX_WIDTH};
 ghost use Rattle.opgen_operator.specs.Accepted.{IsAcceptedProduct};

@@ -1,4 +1,4 @@
--- Names in the VHDL subset, written in lower case.
+-- Names of the VHDL subset, in lower case.
 use Rattle.std.specs.Prelude.{ℕ, ◌==◌, ◌&&◌, ◌||◌, Bool, false, not, List, [], ◌∷◌, length, codes, nat_le}
 use Rattle.std.specs.Char.{is_ascii_lowercase, is_ascii_digit}
 use Rattle.std.specs.List.{list_all, list_any}

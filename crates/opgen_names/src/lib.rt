@@ -1,4 +1,8 @@
-//! Which names the VHDL subset takes.
+//! Which names the VHDL subset accepts.
+//!
+//! Proved: A text is accepted exactly if it is a name of the VHDL subset in lower case. Such a name has 1 to 64 bytes.
+//!
+//! By: `is_allowed_name`.
 #![tactic(auto)]
 
 ghost use Rattle.std.specs.Prelude.{◌≡◌, ◌≤◌, length, IsTrue};

@@ -1,4 +1,4 @@
--- The words of a net's nodes at each whole time, negative times too.
+-- The words of a net's nodes at each whole time, also before cycle 0.
 use Rattle.std.specs.Prelude.{ℕ, zero, suc, ◌<◌, ◌≡◌, ℤ, pos, negsuc, Bool, false, List, [], ◌∷◌, ◌++◌, length, replicate, slice_index_or}
 use Rattle.opgen_num.specs.Words.{nat}
 use Rattle.opgen_design.specs.Value.{word_at, cut, value, chosen}

@@ -1,4 +1,4 @@
--- Nets that have grown, and what they keep.
+-- Nets to which nodes were appended: the earlier nodes keep their widths and words.
 use Rattle.std.specs.Prelude.{ℕ, ◌≡◌, ◌<◌, length, take, slice_index}
 use Rattle.opgen_net.specs.declared.net.Net.{Net}
 use Rattle.opgen_net.specs.Flow.{KeepsFlow}

@@ -1,3 +1,4 @@
+-- Definitions of opgen_net: valid nets, the words of their nodes over time, appended nodes, and nodes of given bits.
 pub mod Flow
 pub mod Valid
 pub mod Made

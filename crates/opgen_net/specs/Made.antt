@@ -1,4 +1,4 @@
--- Names, rows and ports that the design of a net has.
+-- The signal names, table rows and ports that the design of a net has.
 use Rattle.std.specs.Prelude.{ℕ, ◌+◌, ◌-◌, Bool, ◌&&◌, if◌then◌else◌, nat_eq, List, [], ◌∷◌, ◌++◌, length, slice_index, slice_index_or, codes, decimal}
 use Rattle.opgen_num.specs.Words.{word}
 use Rattle.opgen_design.specs.declared.expr.Slice.{Slice}

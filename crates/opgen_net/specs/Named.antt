@@ -1,4 +1,4 @@
--- Nets whose ports can stand in the text of a design.
+-- Nets whose names are allowed in the text of a design.
 use Rattle.std.specs.Prelude.{ℕ, ◌+◌, ◌≤◌, ◌≢◌, ◌==◌, ◌&&◌, Bool, false, List, ◌∷◌, ◌++◌, length, map, codes, All, IsTrue}
 use Rattle.std.specs.Char.{is_ascii_digit}
 use Rattle.std.specs.List.{AllPairs}

@@ -1,4 +1,4 @@
--- Numbers whose bits are bits of a net's nodes, given from the highest down, and nets with nodes of such bits.
+-- Nets with a node or an output of given bits, and the numbers that such bits stand for at each time.
 use Rattle.std.specs.Prelude.{ℕ, ◌-◌, ℤ, List, [], ◌∷◌, ◌++◌, length}
 use Rattle.opgen_num.specs.Words.{nat}
 use Rattle.opgen_design.specs.declared.expr.Op.TheVariants.{Minus}

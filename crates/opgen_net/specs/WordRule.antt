@@ -1,4 +1,5 @@
--- A node that has given bits: one that is there, or a new one of constants, parts of nodes and the operator &.
+-- How a node with given bits is made: an earlier node that has them, or a new one of constants, slices of nodes and the operator
+-- `&`.
 use Rattle.std.specs.Prelude.{ℕ, zero, suc, ◌≡◌, ◌+◌, ◌<◌, ◌≤◌, ℤ, Bool, true, false, ◌&&◌, if◌then◌else◌, nat_eq, All, List, [], ◌∷◌, ◌++◌, length, map, reverse, slice_index, slice_index_or, Option, Some, None}
 use Rattle.opgen_net.specs.declared.cell.Class.TheVariants.{Wire}
 use Rattle.opgen_design.specs.declared.expr.Op.TheVariants.{Cat}

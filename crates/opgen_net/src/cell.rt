@@ -1,3 +1,5 @@
+//! Cells as types: a class of hardware (wire, logic, adder, choice, table, register) and a width in bits.
+
 /// The class of a cell, which a table of delays goes by.
 #[derive(Clone, Copy, Debug, PartialEq, Eq)]
 pub enum Class {

@@ -1,4 +1,4 @@
-//! Lists of bits, the highest first.
+//! Appends bits of a node, or zeros, to a list of bits.
 ghost use Rattle.std.specs.Prelude.{◌≡◌, ◌+◌, ◌^◌, ◌<◌, ◌++◌, OnOk, replicate};
 ghost use Rattle.opgen_net.specs.declared.word_bits.WordBit.TheVariants.{Zero};
 ghost use Rattle.opgen_net.specs.WordRule.{bits_from};

@@ -1,3 +1,4 @@
+//! Nets as types, and their builder: appends inputs, constants, cells, choices, tables, delays and outputs.
 ghost use Rattle.std.specs.Prelude.{◌≡◌, ◌<◌, ◌++◌, [], ◌∷◌, length, slice_index, IfOk, OnOk, OnErr};
 ghost use Rattle.opgen_net.specs.Flow.{KeepsFlow};
 ghost use Rattle.opgen_design.specs.Plain.{plain};

@@ -1,3 +1,4 @@
+//! The nodes of a net as a type: each reads earlier nodes only.
 use crate::{Class, Formula, Slice};
 use opgen_list::Items;
 use opgen_num::Word;

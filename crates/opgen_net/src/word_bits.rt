@@ -1,3 +1,4 @@
+//! Makes a node from given bits: reuses a node that has just these bits, or appends one that joins constants and slices.
 ghost use Rattle.std.specs.Prelude.{◌≡◌, ◌*◌, ◌^◌, ◌<◌, ◌++◌, [], ◌∷◌, All, IfOk, OnOk, OnErr, length, map, reverse, slice_index};
 ghost use Rattle.opgen_num.specs.Words.{digit};
 ghost use Rattle.opgen_net.specs.Flow.{KeepsFlow};

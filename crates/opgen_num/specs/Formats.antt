@@ -1,4 +1,4 @@
--- What a format holds, and the least width that holds two numbers.
+-- Which numbers a format holds, and the least width that holds two numbers.
 use Rattle.std.specs.Prelude.{ℕ, zero, suc, ◌+◌, ◌-◌, ◌/◌, ◌^◌, ◌≤◌, ◌<◌, max, Bool, true, false, ℤ, pos, negsuc, unsigned_abs, neg_ℤ, ◌-ℤ◌, ◌≤ℤ◌, int_lt}
 use Rattle.opgen_num.specs.declared.TheConstants.{MAX_WIDTH, MAX_LSB}
 

@@ -1,3 +1,4 @@
+-- Definitions of opgen_num: words and their numbers, operations on them, formats, floors of fractions, and good roundings.
 pub mod Words
 pub mod WordLaws
 pub mod Sums

@@ -1,4 +1,4 @@
--- A word gives back the number and the width that it was made of.
+-- Laws of words: a word made of a number and a width returns both.
 use Rattle.std.specs.Prelude.{◌≡◌, ℕ, zero, suc, ◌/◌, ◌%◌, ◌^◌, ◌<◌, length, eqb, refl}
 use Rattle.std.proofs.Common.{ap, arith}
 use Rattle.std.proofs.Math.Nat.{two-pow-succ}

@@ -1,3 +1,5 @@
+//! Fixed-point formats (sign, width, weight of the lowest bit), the number that a word stands for, and the least format for a
+//! range.
 ghost use Rattle.std.specs.Prelude.{◌≡◌, ℕ, ◌≤◌, length, ◌↔◌, pos, negsuc, ◌<ℤ◌, ◌≤ℤ◌, IfOk, IfSome, IfNone};
 ghost use Rattle.opgen_num.specs.Formats.{IsWidthOf, IsLsb, is_negative, range_width, IsLeastWidth, IsTooWide, Holds};
 ghost use Rattle.opgen_num.specs.Values.{int, val};

@@ -1,5 +1,11 @@
-//! Words of bits, the formats that read them as numbers, and what a good rounding is.
-//! Also the limits and the error that every crate shares.
+//! Words of bits, the fixed-point formats that read them as numbers, when a rounded result is good, and the limits and the
+//! out-of-memory error that every crate shares.
+//!
+//! Proved: The value of a `Word` is below 2 to the power of its width. Formats, and the least width that holds two numbers,
+//! are computed as defined. For all numbers of 128 bits: whether a rounded fraction or root is good, and whether a quotient
+//! or a root with its remainder is exact.
+//!
+//! By: the invariant of `Word`; `Format::new`, `cover`, `least_width`; `good_linear`, `good_root`, `is_quotient`, `is_root`.
 #![tactic(auto)]
 
 mod format;

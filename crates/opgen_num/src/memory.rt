@@ -1,3 +1,4 @@
+//! The error for out of memory.
 use std::alloc::AllocError;
 use thiserror::Error;
 

@@ -1,3 +1,4 @@
+//! The bit length of a number.
 ghost use Rattle.std.specs.Prelude.{ℕ, ◌<◌, ◌≤◌, ◌^◌};
 
 /// The number of binary digits of a whole number, none for 0.

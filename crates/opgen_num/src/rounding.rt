@@ -1,3 +1,4 @@
+//! Tests whether a number is a good rounding of a fraction, quotient or square root, without products that could overflow.
 ghost use Rattle.std.specs.Prelude.{◌≡◌, ◌↔◌, IsTrue, pos, ◌<ℤ◌, ◌≤ℤ◌, ◌*ℤ◌, ◌+ℤ◌};
 ghost use Rattle.opgen_num.specs.Rounding.{IsExact, IsGoodLinear, IsGoodRoot, IsQuotient, IsRoot, IsWithinOne};
 

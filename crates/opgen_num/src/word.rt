@@ -1,3 +1,4 @@
+//! Words of bits: a number and a width.
 ghost use Rattle.std.specs.Prelude.{◌≡◌, ◌<◌, ◌^◌, length};
 ghost use Rattle.opgen_num.specs.Words.{nat, word};
 

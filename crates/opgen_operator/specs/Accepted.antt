@@ -1,5 +1,5 @@
--- Operators that can be built. Their fields know no version: they are accepted where one version accepts all of them, so
--- where widths, shift and widest signal are within the limits of the same version.
+-- Operators that can be built: those whose fields, shift, widths and widest signal are within the limits of one version of
+-- specifications.
 use Rattle.std.specs.Prelude.{ℕ, ◌≡◌, ◌≤◌, ◌⊎◌, ◌≤ℤ◌, Bool, false, IsTrue, Option, Some, None}
 use Rattle.opgen_operator.specs.declared.spec.Operator.{Operator}
 use Rattle.opgen_operator.specs.declared.spec.Operator.TheVariants.{Scale, Fir, Multiply, Divide, Root, Mcm, Constdiv, Poly, Tfir}

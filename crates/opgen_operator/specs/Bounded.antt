@@ -1,5 +1,4 @@
--- The bounds that every valid specification keeps: of the widths of its ports, of its shift, and of its exact values; and those
--- of the numbers that builders of nets compute.
+-- Bounds that every valid specification keeps: port widths, shift, exact values, and the numbers that builders of nets compute.
 use Rattle.std.specs.Prelude.{ℕ, ◌≡◌, ◌+◌, ◌*◌, ◌^◌, ◌<◌, ◌≤◌, ℤ, pos, neg_ℤ, ◌≤ℤ◌, ◌<ℤ◌, unsigned_abs, length, drop, All}
 use Rattle.opgen_num.specs.declared.TheConstants.{MAX_INPUT, MAX_WIDTH}
 use Rattle.opgen_num.specs.declared.format.Ratio.{Ratio}

@@ -1,4 +1,4 @@
--- Nets that fit an operator, and so a specification.
+-- When a net fits an operator or a specification: it is valid, has the operator's ports, and its outputs are good in each cycle.
 use Rattle.std.specs.Prelude.{ℕ, ◌≡◌, ◌<◌, Bool, List, length, map, pos, All}
 use Rattle.opgen_net.specs.declared.net.Net.{Net}
 use Rattle.opgen_net.specs.Flow.{Inputs, slice_flow}

@@ -1,5 +1,5 @@
--- The numbers of a polynomial by Horner's rule in fixed point (de Dinechin and Kumm, Application-Specific Arithmetic): its coefficients
--- in units of the lowest guard bit, and how far its partial values and its results go.
+-- The numbers of a polynomial by Horner's rule in fixed point (de Dinechin and Kumm, Application-Specific Arithmetic): its
+-- coefficients in units of the lowest guard bit, and the ranges of its partial values and results.
 use Rattle.std.specs.Prelude.{ℕ, ◌+◌, ◌-◌, ◌*◌, ◌^◌, List, [], ◌∷◌, ℤ, pos, negsuc, ◌+ℤ◌, ◌*ℤ◌, unsigned_abs, length, map}
 use Rattle.std.specs.Int.{int_min, int_max}
 use Rattle.opgen_num.specs.Formats.{digit_count, range_width}

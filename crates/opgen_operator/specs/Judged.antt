@@ -1,4 +1,4 @@
--- The numbers that the words of ports stand for, in the last cycle and before it.
+-- The numbers at the ports of a net or design by which a cycle is judged: inputs now and in earlier cycles, and outputs.
 use Rattle.std.specs.Prelude.{ℕ, zero, suc, ◌≡◌, ◌+◌, ◌-◌, ◌*◌, ◌%◌, ◌^◌, ◌<◌, Bool, false, List, [], ◌∷◌, length, slice_index, ℤ, pos, ◌-ℤ◌, nat_le, if◌then◌else◌}
 use Rattle.opgen_num.specs.declared.format.Format.{Format}
 use Rattle.opgen_num.specs.Words.{word}

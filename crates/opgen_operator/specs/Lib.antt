@@ -1,3 +1,4 @@
+-- Definitions of opgen_operator: specifications, their ranges and limits, ports, exact values, good outputs, and nets that fit.
 pub mod SpecName
 pub mod Kinds
 pub mod OddParts

@@ -1,4 +1,4 @@
--- The limits that the versions of specifications set: to inputs, to signals and to the shift.
+-- The limits that each version of specifications sets to inputs, signals and shifts.
 use Rattle.std.specs.Prelude.{ℕ, ◌≡◌, ◌==◌, ◌⊎◌, ℤ, pos, neg_ℤ, if◌then◌else◌}
 use Rattle.opgen_operator.specs.declared.spec.Operator.{Operator}
 use Rattle.opgen_operator.specs.declared.spec.Operator.TheVariants.{Scale, Fir, Multiply, Divide, Root, Mcm, Constdiv, Poly, Tfir}

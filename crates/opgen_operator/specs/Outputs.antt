@@ -1,4 +1,4 @@
--- Exact values in units of the output's last place: their shift, how far they reach, and the widths that hold them.
+-- Exact values in units of the output's last place: their shift, their range, and the widths that hold them.
 use Rattle.std.specs.Prelude.{ℕ, ◌+◌, ◌*◌, ◌-◌, ◌%◌, ◌^◌, ◌≤◌, ◌==◌, not, max, Bool, true, false, List, ℤ, pos, negsuc, neg_ℤ, ◌-ℤ◌, ◌+ℤ◌, ◌*ℤ◌, unsigned_abs, int_lt, if◌then◌else◌, Option, Some, None, sum, map, count_by}
 use Rattle.std.specs.Int.{div_ceil}
 use Rattle.std.specs.List.{position_from}

@@ -1,4 +1,4 @@
--- How far exact values go over all inputs: the formats of the outputs hold them, and no narrower ones do.
+-- The range of exact values over all inputs: output formats hold it, and no narrower ones do.
 use Rattle.std.specs.Prelude.{ℕ, ℤ, pos, neg_ℤ, ◌+ℤ◌, ◌-ℤ◌, ◌*ℤ◌, ◌≤ℤ◌, ◌<ℤ◌}
 use Rattle.opgen_num.specs.declared.format.Format.{Format}
 use Rattle.opgen_num.specs.declared.format.Ratio.{Ratio}

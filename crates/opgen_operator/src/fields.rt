@@ -1,4 +1,4 @@
-// What a builder of nets asks of an operator's fields. They are accepted where some version of specifications accepts them.
+//! What the builders of nets ask an operator for: its shift, its guard bits and the formats of its outputs.
 
 ghost use Rattle.std.specs.Prelude.{◌≡◌, ◌+◌, ◌≤◌, ◌<◌, ◌≤ℤ◌, pos, neg_ℤ, length, get_or};
 ghost use Rattle.opgen_operator.specs.Accepted.{IsAcceptedSum, IsAcceptedProduct, IsAcceptedPair, IsAcceptedSingle, IsAcceptedSeveral};

@@ -1,3 +1,4 @@
+//! Judges whether the outputs of one cycle are good for the inputs up to that cycle, for each kind of operator.
 ghost use Rattle.std.specs.Prelude.{ℕ, false, ◌≡◌, ◌≢◌, ◌+◌, ◌*◌, ◌<◌, ◌≤◌, ◌^◌, ◌↔◌, ℤ, pos, neg_ℤ, ◌*ℤ◌, ◌≤ℤ◌, length, slice_index, unsigned_abs, All, IsTrue, Some};
 ghost use Rattle.opgen_num.specs.Rounding.{IsGoodRoot, IsQuotient, IsRoot};
 ghost use Rattle.opgen_operator.specs.Exact.{weighted, exact_sum, exact_product, exact_quotient, exact_multiple, exact_small, exact_taps, exact_poly, terms_from, dividend, square};

@@ -1,4 +1,4 @@
-//! The numbers of a polynomial by Horner's rule in fixed point.
+//! The numbers of a polynomial's circuit by Horner's rule: degree, places after the point, guard bits, and the range of each step.
 ghost use Rattle.std.specs.Prelude.{◌≡◌, ◌*◌, ◌<◌, ◌≤◌, ◌^◌, pos, ◌≤ℤ◌, length, get_or, drop, unsigned_abs};
 ghost use Rattle.opgen_operator.specs.Horner.{degree, result_places, poly_guard, guarded, low_end, high_end, partial_width, all_guarded};
 ghost use Rattle.opgen_operator.specs.Ports.{poly_format};

@@ -1,4 +1,4 @@
-//! The kinds of operators, and the words that name them.
+//! The kinds of operators, and the words that name them in specifications.
 ghost use Rattle.std.specs.Prelude.{◌≡◌};
 ghost use Rattle.opgen_operator.specs.Kinds.{kind_name, kind};
 

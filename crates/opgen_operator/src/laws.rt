@@ -1,3 +1,4 @@
+//! Laws of specifications: output formats hold every exact value, and widths, shifts and exact values are bounded.
 ghost use Rattle.opgen_operator.specs.Bounded.{AcceptedHaveRoom, EntriesAreSmall, ExactValuesAreIn128, InputsAreWide, LimitsAreWithin, OutputsAreWide, PolynomialsHaveRoom, ProductsHaveWidth, RootsAreNarrow, ShiftsAreSmall, TapsHaveRoom, ValidAreAccepted};
 ghost use Rattle.opgen_operator.specs.Held.{OutputsHold};
 ghost use Rattle.opgen_operator.specs.Reached.{SumsReach, ProductsReach};

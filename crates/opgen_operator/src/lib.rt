@@ -1,4 +1,19 @@
-//! Operators: what a specification asks for, and what its good outputs are.
+//! Operators: what a specification asks for, its ports and formats, and when outputs are good.
+//!
+//! Proved: The ports of a specification and their formats. Whether the outputs of a cycle are good, exactly by the
+//! definition. The shift; the first coefficient that is not whole; the width that a version limits, if it may be over the
+//! limit; the limits of each version. For an operator's fields alone, if some version accepts them: the shift, the formats
+//! of the outputs and the guard bits. Whether numbers are the words of whole cycles. The width of an output of sums and
+//! products is made for their least and greatest exact value. The formats of all outputs hold every exact value rounded down
+//! or up, and of roots rounded down only. Of every valid specification, by its version: input ports have 1 to 32 or 48 bits,
+//! output ports 1 to 64 or 96, the shift is within the range of its kind, and the exact values are fractions of numbers of
+//! 128 bits. Entries of tables have at most 122 bits.
+//!
+//! By: `Spec::inputs`, `outputs`, `good`; `Operator::shift`, `inexact`, `need`, `least_shift`, `most_shift`; `most_input`,
+//! `most_signal`; the methods of `Sum`, `Product`, `Pair`, `Single`, `Several`; `is_history`, `is_cycle`; the laws
+//! `valid_are_accepted`, `sums_reach`, `products_reach`, `outputs_hold`, `limits_are_within`, `inputs_are_wide`,
+//! `outputs_are_wide`, `shifts_are_small`, `exact_values_are_in_128`, `accepted_have_room`, `entries_are_small`,
+//! `products_have_width`, `roots_are_narrow`.
 #![tactic(auto)]
 
 mod fields;

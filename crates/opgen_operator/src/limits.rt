@@ -1,4 +1,4 @@
-// The limits that the versions of specifications set.
+//! The limits that each version of specifications sets to inputs, signals and shifts.
 
 ghost use Rattle.std.specs.Prelude.{◌≡◌};
 ghost use Rattle.opgen_operator.specs.Limits.{most_input, most_signal, most_sum_shift, least_shift, most_shift};

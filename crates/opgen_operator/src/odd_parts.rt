@@ -1,4 +1,4 @@
-//! How many different odd parts some numbers have.
+//! Counts the different odd parts of some numbers.
 ghost use Rattle.std.specs.Prelude.{◌≡◌, ◌<◌, ◌≤◌, length, All};
 ghost use Rattle.std.specs.List.{list_any};
 ghost use Rattle.opgen_operator.specs.OddParts.{odd_part, has_part, has_part_alone, odd_part_count};

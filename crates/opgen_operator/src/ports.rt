@@ -1,3 +1,4 @@
+//! The input and output ports of an operator: their names, formats and order.
 ghost use Rattle.std.specs.Prelude.{◌≡◌, ◌+◌, ◌*◌, ◌≤◌, ◌^◌, ◌++◌, [], ◌∷◌, ℤ, pos, neg_ℤ, ◌≤ℤ◌, length, map, codes, All, IfOk};
 ghost use Rattle.std.specs.Fmt.{decimal};
 ghost use Rattle.opgen_operator.specs.Outputs.{shift, sum_shift, product_shift, HasRoom, HasSumRoom};

@@ -1,3 +1,4 @@
+//! Specifications as types: the operator with its fields, the target, the period and the delay lines.
 use opgen_list::{Items, Text};
 use opgen_net::Class;
 use opgen_num::Format;

@@ -1,4 +1,4 @@
-// The names that a specification may have.
+//! Which names a specification may have.
 
 ghost use Rattle.std.specs.Prelude.{◌≡◌, ◌≤◌, length, IsTrue};
 ghost use Rattle.std.specs.List.{list_all};

@@ -1,4 +1,4 @@
--- The products of the bits of two factors in a bit heap (de Dinechin and Kumm, Application-Specific Arithmetic: multiplication, and
+-- The partial products of two factors in a bit heap (de Dinechin and Kumm, Application-Specific Arithmetic: multiplication, and
 -- truncated multipliers).
 use Rattle.std.specs.Prelude.{ℕ, zero, suc, ◌+◌, ◌-◌, ◌^◌, ◌&&◌, Bool, true, false, if◌then◌else◌, nat_eq, nat_le, nat_lt, length, ℤ, pos, ◌+ℤ◌, ◌-ℤ◌}
 use Rattle.opgen_num.specs.Sums.{xor}

@@ -1,4 +1,4 @@
-//! What makes good that turned bits stand for negative ones.
+//! The constant that corrects partial products of signed factors, whose bits of negative weight were inverted.
 ghost use Rattle.std.specs.Prelude.{◌≡◌, ◌≤◌, ◌+◌, ◌-◌, ◌^◌, pos, neg_ℤ, ◌+ℤ◌, ◌-ℤ◌, ◌≤ℤ◌};
 ghost use Rattle.opgen_num.specs.declared.TheConstants.{MAX_WIDTH};
 ghost use Rattle.opgen_partial.specs.Recipe.{sign_correction};

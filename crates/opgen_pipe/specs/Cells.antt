@@ -1,4 +1,4 @@
--- What the nodes of a net are made of, and what they cost in time.
+-- The cells of a net's nodes, and their delays.
 use Rattle.std.specs.Prelude.{ℕ, ◌+◌, List, [], ◌∷◌, ◌++◌, map, replicate, slice_index, Option, Some, None, option_to_list}
 use Rattle.opgen_net.specs.declared.cell.Cell.{Cell}
 use Rattle.opgen_net.specs.declared.cell.Class.{Class}

@@ -1,4 +1,5 @@
--- How many copies a node of a net has, each a register that has the node's word one cycle later than the one before.
+-- How many copies each node needs at a schedule; each copy is a register that has the node's word one cycle later than the one
+-- before.
 use Rattle.std.specs.Prelude.{ℕ, zero, suc, ◌+◌, ◌-◌, List, [], ◌∷◌, length, map, max, nat_eq, if◌then◌else◌}
 use Rattle.opgen_net.specs.declared.net.Net.{Net}
 use Rattle.opgen_net.specs.declared.node.Node.{Node}

@@ -1,4 +1,4 @@
--- What the design of a net is made of: the slots of its nodes, how many copies each has, and bounds that its numbers stay in.
+-- Slots and copies of a net's nodes as lists, and bounds on the numbers of cycles and signals.
 use Rattle.std.specs.Prelude.{ℕ, ◌≡◌, ◌≤◌, ◌<◌, ◌+◌, ◌^◌, List, length, All, slice_index}
 use Rattle.opgen_net.specs.declared.net.Net.{Net}
 use Rattle.opgen_schedule.specs.declared.slot.Slot.{Slot}

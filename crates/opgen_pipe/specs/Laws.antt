@@ -1,4 +1,4 @@
--- What holds of the design of every valid net at every schedule that fits a period.
+-- Laws of the design of every valid net at every schedule that fits a period.
 use Rattle.std.specs.Prelude.{ℕ, ◌≡◌, ◌^◌, ◌<◌, ◌≤◌, ◌+◌, Bool, List, length, map, drop, slice_get, Some, All, if◌then◌else◌}
 use Rattle.opgen_design.specs.Enabled.{marked, ones_at}
 use Rattle.opgen_design.specs.Run.{AreWords, Words, Run, outputs_of, input_widths}

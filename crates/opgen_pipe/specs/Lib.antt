@@ -1,3 +1,4 @@
+-- Definitions of opgen_pipe: copies, signals, drivers and ports of the design of a net at a schedule, its laws, and plans.
 pub mod Times
 pub mod Copies
 pub mod Standings

@@ -1,4 +1,4 @@
--- What a plan gives: a design, its numbers and its cells, or why there is none.
+-- What a plan returns: a design with its latency, slack and cells, or why no such design exists.
 use Rattle.std.specs.Prelude.{ℕ, ◌≡◌, ◌-◌, ◌<◌, ◌≤◌, Bool, List, map, Result, Ok, Err}
 use Rattle.opgen_net.specs.declared.net.Net.{Net}
 use Rattle.opgen_schedule.specs.declared.slot.Slot.{Slot}

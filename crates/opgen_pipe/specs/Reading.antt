@@ -1,4 +1,4 @@
--- How nodes that are read in a cycle stand in the expressions of a design.
+-- Which signal an expression of the design reads for a node in a given cycle: the node's own signal, or that of a copy.
 use Rattle.std.specs.Prelude.{ℕ, ◌+◌, ◌-◌, ◌&&◌, List, nat_eq, if◌then◌else◌}
 use Rattle.opgen_design.specs.declared.expr.Slice.{Slice}
 use Rattle.opgen_design.specs.Tree.{Tree, Trees, name, part, bits, port, inverse, chain, none, more}

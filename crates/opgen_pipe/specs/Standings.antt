@@ -1,4 +1,4 @@
--- Where the nodes of a net stand in its design.
+-- What a design has for each node of a net: width, cycle, number of copies and signal.
 use Rattle.std.specs.Prelude.{ℕ, false, List, slice_index, slice_index_or}
 use Rattle.opgen_net.specs.declared.net.Net.{Net}
 use Rattle.opgen_net.specs.declared.node.Node.{Node}

@@ -1,4 +1,4 @@
--- What holds of the schedule of a plan under a table of delays.
+-- Laws of a plan's timing under a table of delays: its schedule fits the period and has the least latency.
 use Rattle.std.specs.Prelude.{ℕ, ◌+◌, ◌≤◌}
 use Rattle.opgen_net.specs.declared.net.Net.{Net}
 use Rattle.opgen_net.specs.Valid.{IsValid}

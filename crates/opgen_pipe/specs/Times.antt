@@ -1,4 +1,4 @@
--- Whole times, counted back from a cycle.
+-- Whole numbers as times, counted back from a cycle.
 use Rattle.std.specs.Prelude.{ℕ, zero, suc, ℤ, pos}
 use Rattle.opgen_net.specs.Flow.{before}
 

@@ -1,4 +1,4 @@
--- The words of nodes when all inputs are zeros, each over those of the nodes before it.
+-- The words of nodes when all inputs are zero, computed from the words of earlier nodes.
 use Rattle.std.specs.Prelude.{Bool, false, List, [], replicate}
 use Rattle.opgen_num.specs.Words.{nat}
 use Rattle.opgen_design.specs.Value.{word_at, cut, value, chosen}

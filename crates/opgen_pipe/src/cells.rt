@@ -1,3 +1,4 @@
+//! The cells of a net: the delay of each node on a target, the cells of the whole design, and their charge to the target's ledger.
 ghost use Rattle.std.specs.Prelude.{◌≡◌, ◌≤◌, ◌++◌, ◌∷◌, [], List, All, length, map, replicate, slice_index, option_to_list, IfOk, OnOk, IfSome};
 ghost use Rattle.opgen_net.specs.Valid.{IsValid, MayStand, widths as widths_of};
 ghost use Rattle.opgen_target.specs.Delays.{IsTableWidth, setup};

@@ -1,3 +1,4 @@
+//! Laws of the design of every net at every schedule: it is sound and can be written, its runs follow the net, and its timing.
 ghost use Rattle.opgen_pipe.specs.Laws.{DesignIsShaped, DesignIsSound, DesignIsWritable, DesignRuns, RunFollowsFlow};
 ghost use Rattle.opgen_pipe.specs.Timed.{PlanFits, PlanIsLeast, PlanPathsFit};
 

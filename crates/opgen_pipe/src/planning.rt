@@ -1,3 +1,4 @@
+//! Plans a net for a target and a period: schedule, design, latency, slack and cells, or why no such design exists.
 ghost use Rattle.std.specs.Prelude.{◌≡◌, ◌≤◌, All, length, map, IfOk};
 ghost use Rattle.opgen_net.specs.Named.{IsNamed};
 ghost use Rattle.opgen_net.specs.declared.cell.Class.{Class};

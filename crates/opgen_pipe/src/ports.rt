@@ -1,3 +1,4 @@
+//! The ports of a net's design: the clock enable if it is asked for, the inputs, and the outputs.
 ghost use Rattle.std.specs.Prelude.{◌≡◌, ◌++◌, IfOk, OnOk, All, map};
 ghost use Rattle.opgen_net.specs.Made.{input_port, output_port};
 ghost use Rattle.opgen_net.specs.Valid.{IsValid, LiesWithin, widths as widths_of};

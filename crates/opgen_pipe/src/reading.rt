@@ -1,3 +1,4 @@
+//! Translates expressions over nodes to expressions over signals: in each cycle the copy of a node that is valid there is read.
 ghost use Rattle.std.specs.Prelude.{◌≡◌, ◌≤◌, ◌<◌, ◌^◌, IfOk, length};
 ghost use Rattle.opgen_design.specs.Plain.{plain, plain_all};
 ghost use Rattle.opgen_design.specs.Reads.{AllReads, AllOperandsRead};

@@ -1,3 +1,5 @@
+//! What a design has for one node of a net: its width, cycle, number of copies and signal.
+
 /// Where a node stands in a design: its width in bits, whether it is a constant, its cycle, how many copies it has, and its own
 /// signal, which those of its copies come after.
 #[derive(Clone, Copy, Debug, PartialEq, Eq)]

@@ -1,3 +1,4 @@
+//! Lists what a design has for each node of a net: width, cycle, number of copies and first signal.
 ghost use Rattle.std.specs.Prelude.{◌≡◌, ◌≤◌, ◌^◌, IfOk};
 ghost use Rattle.opgen_net.specs.Valid.{widths as widths_of};
 ghost use Rattle.opgen_schedule.specs.Stage.{slot_at};

@@ -1,3 +1,4 @@
+//! The width in bits of each node of a net.
 ghost use Rattle.std.specs.Prelude.{◌≡◌, ◌<◌, IfOk};
 ghost use Rattle.opgen_net.specs.Valid.{IsValid, LiesWithin, MayStand, node_width, slice_width, widths};
 

@@ -1,4 +1,4 @@
--- How near the partial values of Horner's rule in fixed point are to the exact ones.
+-- Error bounds of Horner's rule in fixed point: how near its partial values are to the exact ones.
 use Rattle.std.specs.Prelude.{ℕ, ◌≡◌, ◌+◌, ◌-◌, ◌*◌, ◌^◌, ◌<◌, [], ◌∷◌, All, drop, slice_index, ℤ, pos, ◌*ℤ◌, ◌<ℤ◌, ◌≤ℤ◌}
 use Rattle.opgen_num.specs.declared.format.Ratio.{Ratio}
 use Rattle.opgen_num.specs.Rounding.{distance}

@@ -1,5 +1,12 @@
-//! The net of a polynomial by Horner's rule in fixed point, with rounded products and some guard bits
-//! (de Dinechin and Kumm, Application-Specific Arithmetic: polynomials, Horner's rule).
+//! The net of a polynomial by Horner's rule in fixed point, with rounded products and some guard bits (de Dinechin and Kumm,
+//! Application-Specific Arithmetic: polynomials, Horner's rule).
+//!
+//! Proved: For every polynomial that a version accepts, the net is that of the recipe. Each partial value between the first
+//! and the last is less than (3 (n - i) + 1) / 2 units of the lowest guard bit from the exact one, at every time and for all
+//! inputs; i is the place of its coefficient, n the last place. The net fits every valid specification of that polynomial,
+//! and a design may have its port names.
+//!
+//! By: `build`.
 #![tactic(auto)]
 
 ghost use Rattle.std.specs.Prelude.{ℕ, ◌≡◌, List, IsTrue, IfOk};

@@ -1,4 +1,4 @@
--- What reading a text answers: the design that it spells, or the first cause against it, and how that prints.
+-- What reading a text returns: the design that it spells, or the first error and how it prints.
 use Rattle.std.specs.Prelude.{◌≡◌, ◌⊎◌, ℕ, ◌≤◌, true, false, List, ◌++◌, codes, length}
 use Rattle.std.specs.Fmt.{decimal}
 use Rattle.opgen_design.specs.declared.design.Design.{Design}

@@ -1,4 +1,4 @@
--- What a reader of tokens relies on.
+-- What the reader relies on in a token: its length is bounded, and a number has only digits.
 use Rattle.std.specs.Prelude.{ℕ, ◌+◌, ◌&&◌, ◌||◌, Bool, true, not, List, length, nat_le, Option, Some, None}
 use Rattle.std.specs.Borrow.{Bor}
 use Rattle.std.specs.Char.{is_ascii_digit}

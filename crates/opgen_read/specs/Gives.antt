@@ -1,4 +1,4 @@
--- What a function returned is what reading gives, unless memory ran out.
+-- A function of the reader returns what the grammar says, unless memory runs out.
 use Rattle.std.specs.Prelude.{◌≡◌, Option, Some, None, Result, Ok, Err}
 use Rattle.opgen_read.specs.declared.refusal.Refusal.{Refusal}
 use Rattle.opgen_read.specs.declared.refusal.Refusal.TheVariants as refusals

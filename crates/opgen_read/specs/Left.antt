@@ -1,4 +1,4 @@
--- The symbols that are left to read.
+-- The symbols that are left to read, up to the end of a text or its first faulty byte.
 use Rattle.std.specs.Prelude.{ℕ, List, [], ◌∷◌, map, ◌⊎◌, Option, Some, None}
 use Rattle.std.specs.Borrow.{Bor}
 use Rattle.std.proofs.Common.{inl, inr}

@@ -1,4 +1,4 @@
--- A phrase that changes nothing.
+-- The step of a piece that adds nothing to the design: only the place changes.
 use Rattle.std.specs.Prelude.{List, Option, Some, None}
 use Rattle.opgen_vhdl.specs.declared.place.Place.{Place}
 use Rattle.opgen_vhdl.specs.Statements.{Reading}

@@ -1,4 +1,4 @@
--- The names that are declared, as an expression is read under them.
+-- Declared names as the grammar of expressions sees them, and operands that were read before others.
 use Rattle.std.specs.Prelude.{◌≡◌, ◌∷◌, [], ℕ, List, Option, Some, None, Result, Ok, Err, map}
 use Rattle.opgen_design.specs.Tree.{Tree, Trees, more}
 use Rattle.opgen_vhdl.specs.Grammar.{Names, place_of}

@@ -1,4 +1,4 @@
--- Steps on the way to an answer.
+-- Results inside the reader: errors of the text, a bound on the number of drivers, and the verdict on the design.
 use Rattle.std.specs.Prelude.{◌≡◌, ℕ, ◌≤◌, Bool, true, List, length, Result, Ok, Err}
 use Rattle.opgen_design.specs.declared.design.Design.{Design}
 use Rattle.opgen_design.specs.Sound.{IsSound}

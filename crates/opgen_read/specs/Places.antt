@@ -1,4 +1,4 @@
--- The places of names in a list, as a map finds them.
+-- The first place of each name in a list, as the reader's hash map finds it.
 use Rattle.std.specs.Prelude.{◌≡◌, ℕ, Bool, List, Option, Some, None, IsTrue, position, if◌then◌else◌}
 use Rattle.std.specs.Str.{bytes_eq}
 use Rattle.arrayvec.specs.ArrayString.{ArrayString}

@@ -1,4 +1,4 @@
--- How far the pieces of a text were read.
+-- How far a text was read: the pieces that were taken, and the first one that is not.
 use Rattle.std.specs.Prelude.{◌≡◌, ℕ, ◌+◌, List, ◌++◌, length}
 use Rattle.opgen_vhdl.specs.declared.place.Place.{Place}
 use Rattle.opgen_vhdl.specs.declared.place.Place.TheVariants.{Library}

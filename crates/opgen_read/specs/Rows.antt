@@ -1,4 +1,4 @@
--- Rows of a table that stand already.
+-- Rows of a table that were read already, in front of the rest.
 use Rattle.std.specs.Prelude.{Bool, List, ◌++◌, Option, Some, None}
 
 -- what was read behind rows that stand already

@@ -1,4 +1,4 @@
--- What a draft says.
+-- What a draft contains: the design so far, the architecture's name, and whether repeated names agree.
 use Rattle.opgen_vhdl.specs.Statements.{Reading}
 use Rattle.opgen_read.specs.declared.draft.Draft.{Draft}
 

@@ -1,4 +1,4 @@
--- What one piece does.
+-- What reading one piece returns: the next place and the draft, or the number of the piece that is rejected.
 use Rattle.std.specs.Prelude.{◌≡◌, ℕ, Result, Ok, Err, Some, None}
 use Rattle.opgen_vhdl.specs.declared.place.Place.{Place}
 use Rattle.opgen_vhdl.specs.Reader.{Step}

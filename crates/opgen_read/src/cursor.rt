@@ -1,3 +1,4 @@
+//! A cursor over the tokens of a text: takes a given word, mark, number or bit string from the front.
 ghost use Rattle.std.specs.Prelude.{IsTrue};
 ghost use Rattle.opgen_read.specs.Fits.{fits};
 

@@ -1,4 +1,4 @@
-// Declarations in order, found by their names.
+//! Declared ports and signals in order, which are looked up by number or by hashing their names.
 
 ghost use Rattle.std.specs.Prelude.{◌≡◌, ◌≤◌, IfOk, List, ℕ, length};
 ghost use Rattle.std.specs.Str.{bytes_eq};

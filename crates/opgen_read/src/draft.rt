@@ -1,4 +1,4 @@
-// What was read of a text so far.
+//! The design as far as a text was read: each statement adds a port, a signal or a driver to it.
 
 ghost use Rattle.std.specs.Prelude.{◌≡◌, IfOk, IsTrue, option_map};
 ghost use Rattle.opgen_names.specs.Names.{is_allowed_name};

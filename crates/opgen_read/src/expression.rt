@@ -1,4 +1,4 @@
-// Expressions, read by descent.
+//! Reads expressions by recursive descent.
 
 ghost use Rattle.std.specs.Prelude.{◌≡◌, length, map, option_map};
 ghost use Rattle.opgen_design.specs.Plain.{plain, plain_all, trees_of};

@@ -1,3 +1,4 @@
+//! Why a text of VHDL is rejected, and how the error prints.
 ghost use Rattle.std.specs.Prelude.{◌≡◌, Some};
 ghost use Rattle.opgen_read.specs.Answer.{fault_text};
 

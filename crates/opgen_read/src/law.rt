@@ -1,4 +1,4 @@
-// Laws of what reading answers.
+//! The law that a text has at most one reason to be rejected, and none if it is a sound design within the limits.
 
 ghost use Rattle.std.specs.Prelude.{◌≡◌, ◌≢◌, ℕ, List};
 ghost use Rattle.opgen_design.specs.declared.design.Design.{Design};

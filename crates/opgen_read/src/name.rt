@@ -1,4 +1,4 @@
-// Names at the front of what is left.
+//! Reads names: those that are declared already, and new ones, which must be allowed.
 
 ghost use Rattle.std.specs.Prelude.{◌≡◌, IfOk, IfSome, IsTrue, map, Some, None, if◌then◌else◌};
 ghost use Rattle.std.specs.Char.{to_ascii_lowercase};

@@ -1,4 +1,4 @@
-// Where the first piece of a text ends.
+//! Finds where the first piece of a text ends: at its first semicolon.
 
 ghost use Rattle.std.specs.Prelude.{◌≡◌, ℕ, List, false};
 ghost use Rattle.opgen_vhdl.specs.Symbols.{Symbol, symbol_of, is_semicolon};

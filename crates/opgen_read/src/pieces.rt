@@ -1,4 +1,4 @@
-// The pieces of a text, one after the other.
+//! Reads the pieces of a text one after another; each piece ends with a semicolon.
 
 ghost use Rattle.std.specs.Prelude.{◌≡◌, ◌≤◌, ◌+◌, IfOk, IfErr, OnErr, length, Ok, Err};
 ghost use Rattle.opgen_vhdl.specs.declared.place.Place.TheVariants.{Library, End};

@@ -1,4 +1,4 @@
-// Whole texts.
+//! Reads a whole text of VHDL as a design: its pieces, the limits on its size, and the rules of sound designs.
 
 ghost use Rattle.std.specs.Prelude.{◌≡◌, ◌≤◌, IfOk, IfErr, IsTrue, ◌↔◌, length};
 ghost use Rattle.opgen_design.specs.Sound.{HasNumbers, IsSound};

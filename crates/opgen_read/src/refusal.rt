@@ -1,3 +1,4 @@
+//! Why the reader took nothing: out of memory, or no rule of the grammar fits.
 use std::alloc::{AllocError, AllocFailed};
 
 /// Why nothing was read: memory ran out, or no production takes what stands there.

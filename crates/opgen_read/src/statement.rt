@@ -1,4 +1,4 @@
-// The statements of an architecture.
+//! Reads the statements of an architecture: assignments, choices, tables, registers and outputs.
 
 ghost use Rattle.std.specs.Prelude.{◌≡◌, length, map, option_map};
 ghost use Rattle.std.specs.Char.{to_ascii_lowercase};

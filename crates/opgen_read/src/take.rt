@@ -1,4 +1,4 @@
-// Pieces in their places.
+//! The table of places in a text: which piece each place takes, and which place comes next.
 
 ghost use Rattle.std.specs.Prelude.{◌≡◌, option_map, map};
 ghost use Rattle.std.specs.Char.{to_ascii_lowercase};

@@ -1,4 +1,4 @@
-// Names, ports and signals of an entity and its architecture.
+//! Reads the heads and ends of an entity and its architecture, and the declarations of ports and signals.
 
 ghost use Rattle.std.specs.Prelude.{◌≡◌, IfOk, IsTrue, map, option_map, replicate, false};
 ghost use Rattle.std.specs.Char.{to_ascii_lowercase};

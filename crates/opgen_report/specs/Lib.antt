@@ -1,1 +1,2 @@
+-- Definitions of opgen_report: the text of a report.
 pub mod Report

@@ -1,4 +1,4 @@
--- The text of a report: what was built, its ports, its time and its cells, a line for each fact.
+-- The text of a report: the operator, its ports, its timing and its cells, one line for each fact.
 use Rattle.std.specs.Prelude.{ℕ, Bool, true, false, List, [], ◌++◌, codes, length, slice_index}
 use Rattle.std.specs.Fmt.{decimal, signed_decimal}
 use Rattle.std.specs.List.{flat_map}

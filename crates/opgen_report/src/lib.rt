@@ -1,4 +1,8 @@
 //! The report of a planned operator.
+//!
+//! Proved: The text of the report, byte for byte.
+//!
+//! By: `report_text`.
 #![tactic(auto)]
 
 mod parts;

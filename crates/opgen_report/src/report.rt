@@ -1,3 +1,4 @@
+//! Writes the report of an operator: its request, ports, latency, slack, cells and adder graph.
 ghost use Rattle.std.specs.Prelude.{◌≡◌, IfOk};
 ghost use Rattle.opgen_operator.specs.Valid.{IsValidSpec};
 ghost use Rattle.opgen_report.specs.Report.{report};

@@ -1,4 +1,4 @@
--- The drivers of a design evaluated one after another.
+-- The drivers of a design, evaluated one after another.
 use Rattle.std.specs.Prelude.{ℕ, ◌≡◌, ◌<◌, Bool, List, [], ◌∷◌, map, length, slice_get, slice_set, Option, Some, None, unwrap_or}
 use Rattle.opgen_num.specs.Words.{nat}
 use Rattle.opgen_design.specs.declared.design.Design.{Design}

@@ -1,4 +1,4 @@
--- Expressions over words: the words of the signals, and those of the ports.
+-- Expressions over words of signals and ports, and when their widths fit.
 use Rattle.std.specs.Prelude.{ℕ, ◌≤◌, Bool, List, length, map, All, IsSome}
 use Rattle.opgen_num.specs.declared.TheConstants.{MAX_WIDTH}
 use Rattle.opgen_design.specs.Tree.{Tree}

@@ -1,3 +1,4 @@
+-- Definitions of opgen_runs: drivers evaluated in order, one step of a design, its runs over rows, and that it has one run.
 pub mod Fitting
 pub mod Tables
 pub mod Evaluate

@@ -1,4 +1,4 @@
--- A sound design has one run over each list of inputs.
+-- A sound design has exactly one run over each list of inputs.
 use Rattle.std.specs.Prelude.{◌≡◌, Bool, List, All}
 use Rattle.opgen_design.specs.declared.design.Design.{Design}
 use Rattle.opgen_design.specs.Run.{Words, Run, AreWords, input_widths}

@@ -1,4 +1,4 @@
--- The registers' words.
+-- Lists of words that agree at every register of a design.
 use Rattle.std.specs.Prelude.{ℕ, ◌≡◌, Bool, List, Some, slice_get}
 use Rattle.opgen_design.specs.declared.design.Design.{Design}
 use Rattle.opgen_design.specs.declared.design.Driver.TheVariants.{Register}

@@ -1,4 +1,4 @@
--- One step of the simulator: numbers at the ports, and a cycle between them.
+-- One cycle of a design, with numbers at its input and output ports.
 use Rattle.std.specs.Prelude.{ℕ, ◌≡◌, Bool, List, [], ◌∷◌, map}
 use Rattle.opgen_num.specs.Words.{nat, word}
 use Rattle.opgen_design.specs.declared.design.Design.{Design}

@@ -1,4 +1,4 @@
--- Tables by their addresses.
+-- The word that a table has at an address.
 use Rattle.std.specs.Prelude.{ℕ, Bool, List, [], ◌∷◌, nat_eq, if◌then◌else◌, Option, Some, None}
 use Rattle.opgen_num.specs.Words.{nat}
 

@@ -1,4 +1,4 @@
-//! The value of an expression over a word for each signal and each port.
+//! Evaluates an expression over a word for each signal and each port.
 ghost use Rattle.std.specs.Prelude.{◌≡◌, ◌<◌, IsSome, length};
 ghost use Rattle.opgen_design.specs.Plain.{plain, plain_all};
 ghost use Rattle.opgen_design.specs.Value.{value, chain_value, word_at};

@@ -1,4 +1,9 @@
-//! Values of expressions over words; runs of designs: their drivers evaluated in order, and the law that a sound design has one run over each list of inputs.
+//! Values of expressions over words, and runs of designs: their drivers evaluated in one order, cycle by cycle.
+//!
+//! Proved: The value of an expression over words, and each operation on words. A sound design has exactly one run over each
+//! list of inputs of its ports' widths.
+//!
+//! By: `value`, `cut`; the law `one_run`.
 #![tactic(auto)]
 
 mod evaluate;

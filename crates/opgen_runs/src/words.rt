@@ -1,4 +1,4 @@
-//! The operations of expressions on words.
+//! The operators of expressions as operations on words: `not`, `and`, `or`, `xor`, `&`, `+`, `-`, and slices.
 ghost use Rattle.std.specs.Prelude.{ℕ, ◌≡◌, ◌^◌, ◌+◌, ◌-◌, ◌<◌, ◌≤◌, ◌++◌, ◌&&◌, ◌||◌, Some, false, true, length, map, not};
 ghost use Rattle.opgen_num.specs.declared.TheConstants.{MAX_WIDTH};
 ghost use Rattle.opgen_num.specs.Sums.{pairwise, sum_with, xor};

@@ -1,4 +1,4 @@
--- What holds of the schedule of one pass, and of every schedule that fits.
+-- Laws of the schedule of one pass (it fits the period, with the least latency), and of the paths in every schedule that fits.
 use Rattle.std.specs.Prelude.{ℕ, ◌≡◌, ◌+◌, ◌≤◌, List, [], length, slice_get, slice_index, Some, Contains}
 use Rattle.opgen_net.specs.declared.net.Output.{Output}
 use Rattle.opgen_net.specs.declared.node.Node.{Node}

@@ -1,4 +1,4 @@
--- What the nodes of a net read.
+-- Which nodes each node of a net reads.
 use Rattle.std.specs.Prelude.{ℕ, Bool, true, false, List, [], ◌∷◌, Option, Some, None, slice_get}
 use Rattle.opgen_design.specs.Reads.{names_read}
 use Rattle.opgen_net.specs.declared.node.Node.{Node}

@@ -1,4 +1,4 @@
--- Schedules of a net, as inequalities: each node stands in a cycle of the clock, at a time in picoseconds within it.
+-- When a schedule of a net fits a period, as inequalities: each node has a clock cycle, and a time in picoseconds within it.
 use Rattle.std.specs.Prelude.{ℕ, ◌≡◌, ◌+◌, ◌≤◌, false, List, [], ◌∷◌, All, length, max, if◌then◌else◌, slice_get, slice_index, Some}
 use Rattle.opgen_net.specs.declared.net.Output.{Output}
 use Rattle.opgen_net.specs.declared.node.Node.{Node}

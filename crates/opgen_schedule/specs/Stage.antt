@@ -1,4 +1,4 @@
--- The schedule of one pass: each node stands as early as its operands allow, and where there is no room in their cycle, at the begin of the next one.
+-- The schedule of one pass: each node is as early as its operands allow, and at the start of the next cycle if theirs has no room.
 use Rattle.std.specs.Prelude.{ℕ, ◌+◌, List, [], ◌∷◌, ◌++◌, length, nat_lt, nat_le, if◌then◌else◌, slice_index, slice_index_or}
 use Rattle.opgen_net.specs.declared.node.Node.{Node}
 use Rattle.opgen_net.specs.declared.node.Node.TheVariants.{Input, Constant, Delay}

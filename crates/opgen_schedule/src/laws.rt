@@ -1,3 +1,4 @@
+//! Laws of schedules: the one that is made fits the period and has the least latency, and every path within a cycle fits.
 ghost use Rattle.opgen_schedule.specs.Laws.{PathsFit, StageFits, StageIsLeast};
 
 /// The schedule of one pass fits the period.

@@ -1,4 +1,10 @@
-//! Schedules of a net under a table of delays: the clock cycle in which each node stands, and its time within it.
+//! Schedules of a net under a table of delays: the clock cycle of each node, and its time within the cycle.
+//!
+//! Proved: The cycle and the time of each node under a table of delays, a setup time and a period. That schedule fits the
+//! period, and no schedule that fits has a smaller latency. In a schedule that fits, each path of cells within a cycle ends
+//! a setup time before the end of the cycle.
+//!
+//! By: `stage`, `latency`, `greatest_time`; the laws `stage_fits`, `stage_is_least`, `paths_fit`.
 #![tactic(auto)]
 
 mod laws;

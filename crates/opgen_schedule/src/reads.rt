@@ -1,3 +1,4 @@
+//! Lists the nodes that each node of a net reads.
 ghost use Rattle.std.specs.Prelude.{◌≡◌, ◌++◌, IfOk, OnOk};
 ghost use Rattle.opgen_design.specs.Plain.{plain, plain_all};
 ghost use Rattle.opgen_design.specs.Reads.{names_read, operand_names};

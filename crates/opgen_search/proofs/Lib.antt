@@ -12,6 +12,7 @@ pub mod Forking
 pub mod Ending
 pub mod Building
 pub mod Numbering
+pub mod Classical
 pub mod SomeRanks
 pub mod SomeListing
 pub mod SomeAdderSet

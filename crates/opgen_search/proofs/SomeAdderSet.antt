@@ -20,7 +20,7 @@ use Rattle.opgen_search.specs.Recipe.{IsAdderSetOf}
 use Rattle.opgen_search.specs.Space.{AreTargets, InSpace}
 use Rattle.opgen_search.proofs.Closing.{one_digit_set}
 use Rattle.opgen_search.proofs.Order.{cost_before}
-use Rattle.opgen_verdict.proofs.Classical.{decided, least}
+use Rattle.opgen_search.proofs.Classical.{decided, least}
 use Rattle.opgen_search.proofs.SomeListing.{some_list}
 
 -- ---- the targets, and the partial sums of their digits

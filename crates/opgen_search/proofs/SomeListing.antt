@@ -5,7 +5,7 @@ use Rattle.std.specs.List.Sorted.{IsStrictlyIncreasing}
 use Rattle.std.proofs.lemmas.Bool.{cases_lt}
 use Rattle.opgen_graph.proofs.Members.{here, there, of_cons, of_nil}
 use Rattle.opgen_graph.proofs.SignedSets.{Climbs}
-use Rattle.opgen_verdict.proofs.Classical.{decided}
+use Rattle.opgen_search.proofs.Classical.{decided}
 
 climbs_increasing : (xs : List ℕ) → Climbs xs → IsStrictlyIncreasing xs
 climbs_increasing [] h k lt = absurd (omega (arith, lt))

@@ -9,7 +9,7 @@ use Rattle.opgen_graph.specs.Adders.{Makes, Comb, place, IsFirstStep}
 use Rattle.opgen_graph.specs.Reach.{Among, Reachable}
 use Rattle.opgen_graph.specs.Graphs.{IsFirstAdder, Round, over, made, stays, done, IsRanks, values}
 use Rattle.opgen_graph.proofs.Reaching.{Ranking, ranking_none, ranking_more, unreachable, shorter}
-use Rattle.opgen_verdict.proofs.Classical.{decided, least}
+use Rattle.opgen_search.proofs.Classical.{decided, least}
 
 -- ---- the first step
 abbrev MadeAt : (u v f n : ℕ) → Type 0

@@ -1,4 +1,4 @@
--- What a piece of the search answers of its part, and what is kept where two answers become one.
+-- What a piece of the search guarantees for its part, and which of two answers is kept.
 use Rattle.std.specs.Prelude.{◌≡◌, ◌⊎◌, ℕ, ◌≤◌, ◌<◌, List, Vec, Option, Some, None, IfSome, IsSomeAnd}
 use Rattle.std.specs.Global.{Global}
 use Rattle.opgen_bound.specs.declared.view.View.{View}

@@ -1,4 +1,4 @@
--- What a fork of the search asks, and what comes back.
+-- What a fork of the search receives, and what it returns.
 use Rattle.std.specs.Prelude.{◌≡◌, ℕ, ◌-◌, ◌^◌, ◌≤◌, ◌<◌, List, length, IfSome, IfOk}
 use Rattle.opgen_bound.specs.declared.bound.Bound.{Bound}
 use Rattle.opgen_bound.specs.declared.bound.Pass.{Pass}

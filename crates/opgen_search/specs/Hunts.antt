@@ -1,4 +1,4 @@
--- What the search keeps from step to step.
+-- The invariants of the search: what holds of a search, of a piece, and of the best set so far.
 use Rattle.std.specs.Prelude.{◌≡◌, ◌⊎◌, ℕ, ◌+◌, ◌%◌, ◌^◌, ◌≤◌, ◌<◌, min, List, length, All, Contains, Option, Some, None, IfSome, IsSomeAnd}
 use Rattle.opgen_bound.specs.Views.{most}
 use Rattle.opgen_bound.specs.Passes.{view, IsPassOf}

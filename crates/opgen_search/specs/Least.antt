@@ -1,4 +1,4 @@
--- The order of sets, and the least.
+-- The order of sets of adders, by cost and then as lists, and the least set.
 use Rattle.std.specs.Prelude.{◌≡◌, ℕ, List}
 use Rattle.std.specs.declared.cmp.Ordering.{Ordering}
 use Rattle.std.specs.declared.cmp.Ordering.TheVariants.{Less}

@@ -1,4 +1,4 @@
--- Lists that stand for sets.
+-- Lists that are used as sets: one has all members of another.
 use Rattle.std.specs.Prelude.{ℕ, List, Contains}
 
 -- each member of one stands in the other

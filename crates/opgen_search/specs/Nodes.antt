@@ -1,4 +1,4 @@
--- A set in the making, inside the search.
+-- Partial sets inside the search: the members that are placed, in an order in which they can be made, and those that are left.
 use Rattle.std.specs.Prelude.{◌≡◌, ℕ, ◌+◌, ◌≤◌, ◌<◌, List, [], ◌∷◌, ◌++◌, length, drop, nat_eq, All, Contains}
 use Rattle.std.specs.List.{IsDistinct}
 use Rattle.opgen_graph.specs.Reach.{Among, Built, IsMember}

@@ -1,4 +1,4 @@
--- The parts of the space, one for each piece of a search.
+-- How the space of sets is divided into parts, one for each piece of a search.
 use Rattle.std.specs.Prelude.{◌≡◌, ◌⊎◌, ℕ, zero, suc, ◌+◌, ◌*◌, ◌-◌, ◌/◌, ◌%◌, ◌≤◌, ◌<◌, nat_eq, nat_lt, if◌then◌else◌, List, count_by, Contains}
 use Rattle.std.specs.List.{list_any}
 use Rattle.opgen_graph.specs.SignedDigits.{IsDigitSet}

@@ -1,4 +1,4 @@
--- The least set of adders for the odd parts of some numbers, its graph, and the net of several constants times an input by it.
+-- The least set of adders for the odd parts of some numbers, its graph, and the net of several constants by that graph.
 use Rattle.std.specs.Prelude.{◌≡◌, ℕ, ℤ, List, All}
 use Rattle.opgen_net.specs.declared.net.Net.{Net}
 use Rattle.opgen_operator.specs.declared.spec.Operator.TheVariants.{Mcm}

@@ -1,4 +1,4 @@
--- The sets among which the least is sought.
+-- The space of a search: the sets of adders among which the least one is sought.
 use Rattle.std.specs.Prelude.{◌≡◌, ◌⊎◌, ℕ, ◌+◌, ◌^◌, ◌%◌, ◌≤◌, ◌<◌, max, List, [], ◌∷◌, length, All, Contains}
 use Rattle.std.specs.List.Sorted.{IsStrictlyIncreasing}
 use Rattle.opgen_graph.specs.Reach.{Reachable}

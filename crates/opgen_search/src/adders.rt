@@ -1,4 +1,4 @@
-//! The least set of adders for some numbers, and its graph.
+//! The least set of adders for the odd parts of some numbers, and its graph.
 ghost use Rattle.std.specs.Prelude.{◌≤◌, All, IfOk};
 ghost use Rattle.opgen_num.specs.declared.TheConstants.{MAX_INPUT};
 ghost use Rattle.opgen_operator.specs.OddParts.{odd_part_count};

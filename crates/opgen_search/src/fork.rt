@@ -1,3 +1,4 @@
+//! Splits the pieces of the search between threads, and merges what they found.
 ghost use Rattle.std.specs.Prelude.{◌≡◌, ◌^◌, ◌≤◌, ◌<◌, ℕ, length, IfOk, IfSome, OnOk, IsOk};
 ghost use Rattle.std.specs.Thread.{IsSync};
 ghost use Rattle.opgen_bound.specs.Passes.{view, IsPassOf};

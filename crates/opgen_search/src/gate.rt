@@ -1,3 +1,5 @@
+//! The trait of a gate, which tests use to hold and observe the pieces of a search without changing its result.
+
 /// Is told when a piece of a search begins and when it has ended. It cannot change what the search answers.
 pub trait Gate {
     /// The piece begins: it has not looked at the least cost known yet.

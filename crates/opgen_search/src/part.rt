@@ -1,3 +1,4 @@
+//! Which sets belong to which piece of the search, by their least member that is no target.
 ghost use Rattle.std.specs.Prelude.{◌≡◌, ◌↔◌, ◌^◌, ◌≤◌, ◌<◌, ℕ, length, All, Contains, Some, IfOk, IsTrue};
 ghost use Rattle.opgen_search.specs.Parts as parts;
 ghost use Rattle.opgen_search.specs.Hunts as hunts;

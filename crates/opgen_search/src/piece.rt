@@ -1,3 +1,4 @@
+//! Runs one piece of the search from its first look at the shared bound to its best set.
 ghost use Rattle.std.specs.Prelude.{◌≡◌, ◌+◌, ◌^◌, ◌≤◌, ◌<◌, ◌∷◌, [], length, None, IfOk, IfSome, OnOk};
 ghost use Rattle.opgen_bound.specs.Views.{most};
 ghost use Rattle.opgen_bound.specs.Passes.{view, IsPassOf};

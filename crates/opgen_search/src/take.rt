@@ -1,3 +1,4 @@
+//! Takes a set as the best so far, and publishes its cost to the shared bound.
 ghost use Rattle.std.specs.Prelude.{◌≡◌, ◌^◌, ◌<◌, ℕ, List, length, Some, None, IfSome, IsTrue, IsFalse};
 ghost use Rattle.opgen_search.specs.Least.{IsBefore};
 ghost use Rattle.opgen_search.specs.Covered.{best_of, IsNotBefore, IsLesser};

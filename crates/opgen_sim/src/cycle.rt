@@ -1,3 +1,4 @@
+//! Runs one cycle of a design over words: the drivers in order, then the next words of the registers.
 ghost use Rattle.std.specs.Prelude.{◌≡◌, length, map};
 ghost use Rattle.opgen_design.specs.Order.{IsOrderOf};
 ghost use Rattle.opgen_design.specs.Run.{Cycle, Words, at_ports, is_in};

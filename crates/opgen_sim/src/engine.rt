@@ -1,3 +1,4 @@
+//! Chooses what runs a design: a machine with a list of steps, or a walk over the drivers.
 ghost use Rattle.std.specs.Prelude.{◌≡◌, IfOk, length};
 ghost use Rattle.opgen_num.specs.Words.{FitWidths};
 ghost use Rattle.opgen_design.specs.Order.{IsOrderOf};

@@ -1,3 +1,4 @@
+//! The simulator: runs a sound design cycle by cycle, numbers in and numbers out.
 ghost use Rattle.std.specs.Prelude.{◌≡◌, IfOk, length};
 ghost use Rattle.opgen_num.specs.Words.{FitWidths};
 ghost use Rattle.opgen_design.specs.Run.{at_ports, input_widths, is_out};

@@ -1,3 +1,4 @@
+//! Runs a design by a walk over its drivers with words of up to 128 bits, in an order that is found once.
 ghost use Rattle.std.specs.Prelude.{◌≡◌, IfOk, length, map, unwrap_or};
 ghost use Rattle.opgen_num.specs.Words.{FitWidths, word};
 ghost use Rattle.opgen_design.specs.Order.{IsOrderOf};

@@ -1,4 +1,4 @@
--- The first fault of a document.
+-- The first error of a document, in the order in which the checks are made.
 use Rattle.std.specs.Prelude.{◌≡◌, ℕ, ◌+◌, ◌^◌, ◌==◌, ◌&&◌, ◌||◌, not, Bool, false, List, [], ◌∷◌, length, map, codes, ℤ, pos, negsuc, int_le, unsigned_abs, Option, Some, None, is_some, is_none, option_map, option_and_then, find, if◌then◌else◌, nat_lt, Result, Ok, Err}
 use Rattle.std.specs.List.{list_all, position_from}
 use Rattle.std.specs.Option.{option_or, option_map_or}

@@ -95,7 +95,16 @@ has_key one key.Extra = is_one_of (kind.Mcm ∷ kind.Tfir ∷ []) one
 has_key one key.Divisor = is_one_of (kind.Constdiv ∷ []) one
 has_key one key.Taps = is_one_of (kind.Tfir ∷ []) one
 has_key one key.Compressor = is_one_of (kind.Scale ∷ kind.Fir ∷ kind.Multiply ∷ []) one
-has_key one _ = true
+has_key one key.Version = true
+has_key one key.Name = true
+has_key one key.Kind = true
+has_key one key.Exact = true
+has_key one key.Target = true
+has_key one key.Period = true
+has_key one key.Delay = true
+has_key one key.Class = true
+has_key one key.Base = true
+has_key one key.PerBit = true
 
 -- the first version has no compressor
 abbrev pub is_in_version : (first : Bool) → Key → Bool
@@ -138,4 +147,17 @@ sort_of key.Coefficients = sort.Coefficients
 sort_of key.Constants = sort.Numbers
 sort_of key.Taps = sort.Numbers
 sort_of key.Delay = sort.Tables
-sort_of _ = sort.Number
+sort_of key.Version = sort.Number
+sort_of key.Period = sort.Number
+sort_of key.Width = sort.Number
+sort_of key.Lsb = sort.Number
+sort_of key.WidthA = sort.Number
+sort_of key.LsbA = sort.Number
+sort_of key.WidthB = sort.Number
+sort_of key.LsbB = sort.Number
+sort_of key.OutLsb = sort.Number
+sort_of key.Denominator = sort.Number
+sort_of key.Extra = sort.Number
+sort_of key.Divisor = sort.Number
+sort_of key.Base = sort.Number
+sort_of key.PerBit = sort.Number

@@ -1,3 +1,4 @@
+-- Definitions of opgen_spec: the keys of a document, their values, its first error, and the specification that it gives.
 pub mod Keys
 pub mod Document
 pub mod Numbers

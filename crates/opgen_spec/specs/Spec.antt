@@ -1,4 +1,4 @@
--- The specification that the keys of a document give.
+-- The specification that a document gives, field by field.
 use Rattle.std.specs.Prelude.{Bool, false, List, [], ◌∷◌, ◌++◌, codes, pos, neg_ℤ, unwrap_or}
 use Rattle.std.specs.Str.{bytes_eq}
 use Rattle.toml.specs.Data.{Data, table, Items, no_items, item, Members}

@@ -1,4 +1,4 @@
--- How a fault prints: its name, and then its fields, each after a space (32).
+-- How an error of a specification prints: its name, and then its fields, each after a space.
 use Rattle.std.specs.Prelude.{ℕ, ◌==◌, List, ◌++◌, codes, if◌then◌else◌}
 use Rattle.std.specs.Fmt.{decimal, signed_decimal}
 use Rattle.opgen_spec.specs.declared.fault.Place.{Place}

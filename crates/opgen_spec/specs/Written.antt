@@ -1,4 +1,4 @@
--- A specification has the values that its document writes at its keys.
+-- Each field of a specification has the value that its document writes.
 use Rattle.std.specs.Prelude.{◌≡◌, ◌⊎◌, Bool, true, false, pos, neg_ℤ, Some, None, List, [], ◌∷◌, codes}
 use Rattle.toml.specs.Data.{string, integer, boolean, Members, table, Items, no_items, item}
 use Rattle.opgen_num.specs.declared.format.Format.{Format}

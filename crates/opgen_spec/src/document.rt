@@ -1,3 +1,4 @@
+//! Reads the value at a key of a TOML document as a number, text, flag or list.
 ghost use Rattle.std.specs.Prelude.{◌≡◌, option_map};
 ghost use Rattle.toml.specs.View.{view, items_view, table_view};
 ghost use Rattle.opgen_spec.specs.Document.{value_at, number_at, count_at, small_at, text_at, flag_at, items_of, items_at, small, is_first, kind_of};

@@ -1,3 +1,4 @@
+//! Why a specification is rejected, and how the error prints.
 ghost use Rattle.std.specs.Prelude.{◌≡◌, Some};
 ghost use Rattle.opgen_spec.specs.Texts.{place_text, fault_text};
 

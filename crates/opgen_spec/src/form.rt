@@ -1,3 +1,4 @@
+//! Checks the form of a document: unknown keys, missing keys, and values of the wrong type.
 ghost use Rattle.std.specs.Prelude.{◌≡◌, find, not};
 ghost use Rattle.std.specs.List.{list_all, position_from};
 ghost use Rattle.toml.specs.View.{view, items_view, table_view};

@@ -1,3 +1,4 @@
+//! The keys of a specification: their names and types, and which kinds of operator have them.
 ghost use Rattle.std.specs.Prelude.{◌≡◌, Some, find};
 ghost use Rattle.std.specs.List.{list_all};
 ghost use Rattle.std.specs.Str.{bytes_eq};
@@ -145,7 +146,20 @@ impl Key {
             Key::Coefficients => Sort::Coefficients,
             Key::Constants | Key::Taps => Sort::Numbers,
             Key::Delay => Sort::Tables,
-            _ => Sort::Number,
+            Key::Version
+            | Key::Period
+            | Key::Width
+            | Key::Lsb
+            | Key::WidthA
+            | Key::LsbA
+            | Key::WidthB
+            | Key::LsbB
+            | Key::OutLsb
+            | Key::Denominator
+            | Key::Extra
+            | Key::Divisor
+            | Key::Base
+            | Key::PerBit => Sort::Number,
         }
     }
 }
@@ -239,7 +253,16 @@ fn has_key(kind: Kind, key: Key) -> bool
         Key::Divisor => matches!(kind, Kind::Constdiv),
         Key::Taps => matches!(kind, Kind::Tfir),
         Key::Compressor => matches!(kind, Kind::Scale | Kind::Fir | Kind::Multiply),
-        _ => true,
+        Key::Version
+        | Key::Name
+        | Key::Kind
+        | Key::Exact
+        | Key::Target
+        | Key::Period
+        | Key::Delay
+        | Key::Class
+        | Key::Base
+        | Key::PerBit => true,
     }
 }
 

@@ -1,4 +1,9 @@
-//! The reader of specifications of operators, which are TOML documents.
+//! The reader of specifications: from the bytes of a TOML document to the specification, or to its first fault.
+//!
+//! Proved: The specification of the bytes, exactly if they have no fault; otherwise the first fault in order, with its
+//! fields. An accepted specification is valid and has the values that the document writes. How a fault prints.
+//!
+//! By: `read_spec`, the `Display` of `SpecFault`.
 #![tactic(auto)]
 
 mod decimal;

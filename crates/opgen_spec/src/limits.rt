@@ -1,3 +1,4 @@
+//! Checks a specification whose fields are in range against the limits that concern several fields: shift, width and exactness.
 ghost use Rattle.std.specs.Prelude.{◌≡◌, None};
 ghost use Rattle.opgen_operator.specs.Accepted.{HasInputsWithin};
 ghost use Rattle.opgen_operator.specs.Limits.{most_input};

@@ -1,3 +1,4 @@
+//! Runs one check over the keys of a document, and then over the keys of its delay lines.
 ghost use Rattle.std.specs.Prelude.{◌≡◌, ◌+◌, ◌<◌, ◌^◌};
 ghost use Rattle.toml.specs.View.{view, items_view, table_view};
 ghost use Rattle.opgen_spec.specs.Faults.{among, among_line_keys, among_line, among_keys, among_lines, check_fault};

@@ -1,3 +1,4 @@
+//! Makes the specification from a document that passed its checks, field by field.
 ghost use Rattle.std.specs.Prelude.{◌≡◌, ◌≤◌, ◌^◌, pos, ◌++◌, IfOk, OnOk};
 ghost use Rattle.toml.specs.View.{view, items_view, table_view};
 ghost use Rattle.opgen_spec.specs.Numbers.{numerators, denominator_of};

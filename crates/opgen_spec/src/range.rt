@@ -1,3 +1,4 @@
+//! Checks that the number at each key, or the length of its list, is within its range.
 ghost use Rattle.std.specs.Prelude.{◌≡◌, ◌<◌, ◌≤◌, ◌≤ℤ◌, ◌^◌, pos, negsuc, neg_ℤ, map, find, is_some};
 ghost use Rattle.toml.specs.View.{view, items_view, table_view};
 ghost use Rattle.opgen_spec.specs.Numbers.{places_in, places_among, coefficient};

@@ -1,4 +1,4 @@
-//! The taps of a filter: their numbers, and how many different odd parts these have.
+//! Checks the taps of a transposed filter: how many there are, the range of each, and how many different odd parts they have.
 ghost use Rattle.std.specs.Prelude.{◌≡◌, ◌≤◌, length, All};
 ghost use Rattle.toml.specs.View.{items_view};
 ghost use Rattle.opgen_operator.specs.OddParts.{odd_part_count};

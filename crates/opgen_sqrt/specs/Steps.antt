@@ -1,5 +1,5 @@
--- What holds after each step of a square root: the bits of the radicand that were taken, as a number, are the square of the root
--- so far, and what is left, which is at most twice the root.
+-- The invariant of a square root: after each step, the bits of the radicand so far, as a number, are the square of the root so far,
+-- plus a remainder of at most twice the root.
 use Rattle.std.specs.Prelude.{ℕ, ◌*◌, ◌≤◌, ℤ, Bool, true, false, take, All}
 use Rattle.opgen_num.specs.Rounding.{IsRoot}
 use Rattle.opgen_design.specs.Run.{AreWords}

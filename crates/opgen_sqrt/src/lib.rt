@@ -1,5 +1,11 @@
-//! The net of a square root: one digit for each two bits of the radicand, from the highest (de
-//! Dinechin and Kumm, Application-Specific Arithmetic: restoring square root).
+//! The net of a square root: one digit for each two bits of the radicand, from the highest (de Dinechin and Kumm,
+//! Application-Specific Arithmetic: restoring square root).
+//!
+//! Proved: For every root that a version accepts, the net is that of the recipe. After each step and at every time, the
+//! radicand so far is the square of the root so far plus a rest of at most twice that root. The net fits every valid
+//! specification of that root.
+//!
+//! By: `build`.
 #![tactic(auto)]
 
 ghost use Rattle.std.specs.Prelude.{ℕ, ◌≡◌, ◌+◌, ◌≤◌, List, IsTrue, [], ◌∷◌, ◌++◌, All, IfOk, OnOk, length};

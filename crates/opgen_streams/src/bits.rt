@@ -2,12 +2,11 @@
 ghost use Rattle.std.specs.Prelude.{◌≡◌, ◌<◌};
 ghost use Rattle.opgen_streams.specs.Streams.{streams, bit_in};
 
+use crate::WORD_BITS;
 use std::simd::u64x4;
 
 /// How many streams there are.
 pub const STREAMS: usize = 256;
-
-const WORD_BITS: usize = 64;
 
 /// The bit of a stream.
 pub fn bit_in(vector: &u64x4, stream: usize) -> bool

@@ -1,4 +1,4 @@
--- The classes of cells in their order.
+-- The classes of cells in their fixed order.
 use Rattle.std.specs.Prelude.{ℕ, Bool, nat_eq}
 use Rattle.opgen_net.specs.declared.cell.Class.{Class}
 use Rattle.opgen_net.specs.declared.cell.Class.TheVariants.{Wire, Logic, Add, Choice, Table, Register}

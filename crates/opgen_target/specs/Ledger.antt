@@ -1,4 +1,4 @@
--- Ledgers: how many bits of cells of each class were charged.
+-- Ledgers: how many bits of cells of each class were used.
 use Rattle.std.specs.Prelude.{ℕ, ◌+◌, min, List, sum_by, if◌then◌else◌}
 use Rattle.opgen_net.specs.declared.cell.Cell.{Cell}
 use Rattle.opgen_net.specs.declared.cell.Class.{Class}

@@ -1,4 +1,4 @@
-//! Targets whose delays grow with the width by lines.
+//! A target whose delays are lines, a base and a step per bit for each class of cells, which a specification can change.
 ghost use Rattle.std.specs.Prelude.{◌≡◌, ◌*◌, ◌+◌, true, replicate, string_bytes};
 ghost use Rattle.opgen_target.specs.Tables.{AreLines, line_table, listed_ledger};
 

@@ -1,4 +1,4 @@
-//! Targets whose delays are listed.
+//! A target with a fixed list of delays, for each class of cells and each width.
 ghost use Rattle.std.specs.Prelude.{◌≡◌, false, replicate, vec_len, string_bytes};
 ghost use Rattle.opgen_target.specs.Tables.{list_table, listed_ledger};
 

@@ -1,3 +1,4 @@
+//! The place of a class of cells in the fixed order of the classes.
 ghost use Rattle.std.specs.Prelude.{◌≡◌};
 ghost use Rattle.opgen_target.specs.Classes.{place_of};
 

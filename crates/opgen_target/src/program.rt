@@ -1,4 +1,4 @@
-//! The two targets of the program, with their delays in picoseconds.
+//! The two targets of the program, `plain` and `fixed`, with their delays in picoseconds.
 ghost use Rattle.std.specs.Prelude.{ℕ, ◌≡◌, ◌++◌, IfOk, codes, replicate};
 ghost use Rattle.opgen_target.specs.Delays.{IsTableWidth};
 ghost use Rattle.opgen_target.specs.Program.{plain_lines, fixed_delay, delays_of, fixed_delays};

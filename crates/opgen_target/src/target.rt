@@ -1,3 +1,4 @@
+//! The trait of a target: the delays of its cells in picoseconds, and a ledger of the cells that were used.
 ghost use Rattle.std.specs.Prelude.{◌≡◌, ℕ, List, Bool, if◌then◌else◌};
 ghost use Rattle.opgen_target.specs.Delays.{Delays, IsTableWidth, IsLine, delay_of, with_line};
 ghost use Rattle.opgen_target.specs.Ledger.{Ledger, empty_ledger, with_cell};

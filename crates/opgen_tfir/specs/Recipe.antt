@@ -1,5 +1,5 @@
--- The net of a transposed filter: the sum from each tap on is the sum from the next tap on, a cycle later, and the input times the
--- tap. The products of all taps stand on one adder graph (de Dinechin and Kumm, Application-Specific Arithmetic).
+-- The net of a transposed filter: the sum from each tap on is the sum from the next tap on, one cycle later, plus the input times
+-- the tap. The products of all taps share one adder graph (de Dinechin and Kumm, Application-Specific Arithmetic).
 use Rattle.std.specs.Prelude.{ℕ, zero, suc, Bool, true, false, ◌&&◌, ◌==◌, if◌then◌else◌, List, [], ◌∷◌, ◌++◌, length, codes, ℤ, pos, negsuc, unsigned_abs}
 use Rattle.opgen_design.specs.Tree.{Tree}
 use Rattle.opgen_net.specs.declared.cell.Class.TheVariants.{Add}

@@ -1,4 +1,4 @@
--- What the steps of the sums ask for.
+-- What each step that builds a transposed filter needs: the last tap that is not 0, and a node for the odd part of each tap.
 use Rattle.std.specs.Prelude.{◌≡◌, ℕ, ◌+◌, ◌<◌, ℤ, List, length, drop, true, false, All}
 use Rattle.opgen_design.specs.Width.{IsWidth}
 use Rattle.opgen_net.specs.declared.net.Net.{Net}

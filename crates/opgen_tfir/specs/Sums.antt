@@ -1,4 +1,4 @@
--- What the nodes of a transposed filter have.
+-- The invariant of a transposed filter: the node at each tap has the weighted sum of the inputs for this tap and all later ones.
 use Rattle.std.specs.Prelude.{◌≡◌, ℕ, ℤ, pos, ◌-ℤ◌, false, drop, All}
 use Rattle.opgen_num.specs.declared.format.Format.{Format}
 use Rattle.opgen_num.specs.Values.{val}

@@ -1,4 +1,4 @@
-//! The net of a transposed filter.
+//! Builds the net of a transposed filter from the adder graph of its taps.
 ghost use Rattle.std.specs.Prelude.{◌≡◌, ℕ, List, IsTrue, IfOk};
 ghost use Rattle.opgen_names.specs.Names.{is_allowed_name};
 ghost use Rattle.opgen_net.specs.Named.{IsNamed};

@@ -1,4 +1,4 @@
-//! The sums of a transposed filter, from the last tap on.
+//! The chain of sums of a transposed filter, from the last tap to the first, with a delay between neighbouring taps.
 ghost use Rattle.std.specs.Prelude.{◌≡◌, ◌<◌, length, All, IfOk, OnOk, slice_index};
 ghost use Rattle.opgen_design.specs.Plain.{plain};
 ghost use Rattle.opgen_design.specs.Width.{IsWidth};

@@ -26,7 +26,7 @@ use Rattle.opgen_top.specs.declared.run_rows.Rows.{Rows}
 use Rattle.opgen_top.specs.Answer.{Answer, all_good, bad_row, ports_refused}
 use Rattle.opgen_top.specs.Check.{GivesRows, IsAnswerToCheck, IsAnswerToVhdl}
 use Rattle.opgen_top.specs.Due.{most_bytes, most_simulated_bytes, OnFetch, IsAnswerOf}
-use Rattle.opgen_top.specs.Prepared.{Reads, Kept, Answers, Fetches, HoldsRows, IsAnswerToDesign, IsListed, IsPrepared, OnRefusal, answer_of, refusal_of, verdict_answer}
+use Rattle.opgen_top.specs.Prepared.{Reads, Kept, OnAnswer, Fetches, HoldsRows, IsAnswerToDesign, IsListed, IsPrepared, OnRefusal, answer_of, refusal_of, verdict_answer}
 use Rattle.opgen_top.specs.Printed as printed
 use Rattle.opgen_top.specs.Simulate.{GivesDesign, RefusesRows, RefusesVhdl}
 use Rattle.opgen_top.specs.Specified.{OnReading}
@@ -97,8 +97,8 @@ refusal-map : (refusal : Refusal) (said other : Answer → Type 0) → ((a : Ans
 refusal-map (refusals.Line line) said other f h = f (refusal_of line) h
 refusal-map refusals.Memory said other f h = tt
 
-answers-map : (r : Result Held Refusal) (said other : Answer → Type 0) → ((a : Answer) → said a → other a) → Answers r said
-    → Answers r other
+answers-map : (r : Result Held Refusal) (said other : Answer → Type 0) → ((a : Answer) → said a → other a) → OnAnswer r said
+    → OnAnswer r other
 answers-map (Ok held) said other f h = f (answer_of held) h
 answers-map (Err refusal) said other f h = refusal-map refusal said other f h
 
@@ -161,8 +161,8 @@ module _ (latency : ℕ) (bytes text vectors : List ℕ) where
 
       pub rows_judged : (widths : List ℕ) (held : Rows) (r : Result Held Refusal) → widths ≡ input_widths design
           → HoldsRows widths vectors held
-          → Answers r (IsAnswerToDesign spec design latency held.count held.inputs.cells.items)
-          → Answers r (IsAnswerToCheck latency bytes text vectors)
+          → OnAnswer r (IsAnswerToDesign spec design latency held.count held.inputs.cells.items)
+          → OnAnswer r (IsAnswerToCheck latency bytes text vectors)
       rows_judged widths held r same holds h = answers-map r _ _ (λ a k. design_answers widths held a same holds k) h
 
 -- ---- from the folder
@@ -202,7 +202,7 @@ module _ (devices : List Device) (spec vhdl vectors : List ℕ) (latency : ℕ) 
 
   -- a specification that was not fetched
   pub check_spec-unfetched : (before now : Reads) (refusal : Refusal) → Fetches spec most_bytes told before now (Err refusal)
-      → Answers (Err refusal) (IsPrepared (Some (Check spec vhdl vectors latency)) devices told before now)
+      → OnAnswer (Err refusal) (IsPrepared (Some (Check spec vhdl vectors latency)) devices told before now)
   check_spec-unfetched before now (refusals.Line line) cause =
       unfetched (Some (Check spec vhdl vectors latency)) devices told before now spec most_bytes
       (λ files is e. on_missing (files spec) most_bytes (SaysOfSpec files _) e)
@@ -217,7 +217,7 @@ module _ (devices : List Device) (spec vhdl vectors : List ℕ) (latency : ℕ) 
     -- VHDL that was not fetched, after a specification that was
     pub check_vhdl-unfetched : (before mid now : Reads) (refusal : Refusal) → Kept before mid
         → Fetches vhdl most_simulated_bytes told mid now (Err refusal)
-        → Answers (Err refusal) (IsPrepared (Some (Check spec vhdl vectors latency)) devices told before now)
+        → OnAnswer (Err refusal) (IsPrepared (Some (Check spec vhdl vectors latency)) devices told before now)
     check_vhdl-unfetched before mid now (refusals.Line line) kept cause =
         unfetched (Some (Check spec vhdl vectors latency)) devices told before now vhdl most_simulated_bytes
         (λ files is e. on_spec files _ is (on_missing (files vhdl) most_simulated_bytes (SaysOfVhdl files _ bytes) e))
@@ -235,7 +235,7 @@ module _ (devices : List Device) (spec vhdl vectors : List ℕ) (latency : ℕ) 
       -- vectors that were not fetched, after both
       pub check_rows-unfetched : (before mid now : Reads) (refusal : Refusal) → Kept before mid
           → Fetches vectors most_simulated_bytes told mid now (Err refusal)
-          → Answers (Err refusal) (IsPrepared (Some (Check spec vhdl vectors latency)) devices told before now)
+          → OnAnswer (Err refusal) (IsPrepared (Some (Check spec vhdl vectors latency)) devices told before now)
       check_rows-unfetched before mid now (refusals.Line line) kept cause =
           unfetched (Some (Check spec vhdl vectors latency)) devices told before now vectors most_simulated_bytes
           (λ files is e. on_vhdl files _ is
@@ -260,8 +260,8 @@ module _ (devices : List Device) (spec vhdl vectors : List ℕ) (latency : ℕ) 
                   (λ given. IsAnswerToCheck latency bytes text given a) (too files there) brief is));
             }
 
-        pub check-prepared : (r : Result Held Refusal) → Answers r (IsAnswerToCheck latency bytes text rows) → Answers r IsListed
-            → Answers r (IsPrepared (Some (Check spec vhdl vectors latency)) devices told before now)
+        pub check-prepared : (r : Result Held Refusal) → OnAnswer r (IsAnswerToCheck latency bytes text rows) → OnAnswer r IsListed
+            → OnAnswer r (IsPrepared (Some (Check spec vhdl vectors latency)) devices told before now)
         check-prepared (Ok held) is listed = answers (answer_of held) is listed
         check-prepared (Err (refusals.Line line)) is listed = answers (refusal_of line) is listed
         check-prepared (Err refusals.Memory) is listed = tt

@@ -16,7 +16,7 @@ use Rattle.opgen_top.specs.declared.run_rows.Rows.{Rows}
 use Rattle.opgen_top.specs.Answer.{Answer, file as stored_file, success, vhdl_refused, vectors_refused}
 use Rattle.opgen_top.specs.Due.{most_simulated_bytes, OnFetch, IsAnswerOf}
 use Rattle.opgen_top.specs.Lines.{simulated_line}
-use Rattle.opgen_top.specs.Prepared.{Reads, Kept, Answers, Fetches, Refused, HoldsRows, IsListed, IsPrepared, answer_of, refusal_of}
+use Rattle.opgen_top.specs.Prepared.{Reads, Kept, OnAnswer, Fetches, IfRefused, HoldsRows, IsListed, IsPrepared, answer_of, refusal_of}
 use Rattle.opgen_top.specs.Printed as printed
 use Rattle.opgen_top.specs.Running.{IsRunText}
 use Rattle.opgen_top.specs.Simulate.{GivesDesign, IsSimulated, RefusesRows, RefusesVhdl}
@@ -30,27 +30,27 @@ pub names_fault : (widths vectors : List ℕ) (a : Answer) (cause : RefusesRows 
 names_fault widths vectors a cause = λ e. subst (λ f. IsReading widths (lines vectors) (Err f)) e cause.cause
 
 -- VHDL that is refused answers the command
-pub vhdl_answers : (out text rows : List ℕ) (refusal : Refusal) → Refused {X = Design} (Err refusal) (RefusesVhdl text)
-    → Answers (Err refusal) (IsSimulated out text rows)
+pub vhdl_answers : (out text rows : List ℕ) (refusal : Refusal) → IfRefused {X = Design} (Err refusal) (RefusesVhdl text)
+    → OnAnswer (Err refusal) (IsSimulated out text rows)
 vhdl_answers out text rows (refusals.Line line) h = inl h
 vhdl_answers out text rows refusals.Memory h = tt
 
-pub vhdl_listed : (text : List ℕ) (refusal : Refusal) → Refused {X = Design} (Err refusal) (RefusesVhdl text)
-    → Answers (Err refusal) IsListed
+pub vhdl_listed : (text : List ℕ) (refusal : Refusal) → IfRefused {X = Design} (Err refusal) (RefusesVhdl text)
+    → OnAnswer (Err refusal) IsListed
 vhdl_listed text (refusals.Line line) h =
     subst IsListed (sym h.answer) (listed_refusal (vhdl_refused h.fault) (printed.vhdl_refused h.fault h.of_text refl refl) refl)
 vhdl_listed text refusals.Memory h = tt
 
 -- so do vectors
 pub rows_answer : (out text vectors widths : List ℕ) (design : Design) (refusal : Refusal) → GivesDesign text design
-    → widths ≡ input_widths design → Refused {X = Rows} (Err refusal) (RefusesRows widths vectors)
-    → Answers (Err refusal) (IsSimulated out text vectors)
+    → widths ≡ input_widths design → IfRefused {X = Rows} (Err refusal) (RefusesRows widths vectors)
+    → OnAnswer (Err refusal) (IsSimulated out text vectors)
 rows_answer out text vectors widths design (refusals.Line line) gives same h =
     inr (inl record { design = design; gives = gives; refused = subst (λ ws. RefusesRows ws vectors (refusal_of line)) same h })
 rows_answer out text vectors widths design refusals.Memory gives same h = tt
 
-pub rows_listed : (widths vectors : List ℕ) (refusal : Refusal) → Refused {X = Rows} (Err refusal) (RefusesRows widths vectors)
-    → Answers (Err refusal) IsListed
+pub rows_listed : (widths vectors : List ℕ) (refusal : Refusal) → IfRefused {X = Rows} (Err refusal) (RefusesRows widths vectors)
+    → OnAnswer (Err refusal) IsListed
 rows_listed widths vectors (refusals.Line line) h =
     subst IsListed (sym h.answer) (listed_refusal (vectors_refused h.fault)
     (printed.vectors_refused h.fault (names_fault widths vectors (refusal_of line) h) refl refl) refl)
@@ -89,7 +89,7 @@ module _ (devices : List Device) (vhdl vectors out : List ℕ) (told : Option Fi
 
   -- VHDL that was not fetched
   pub vhdl-unfetched : (before now : Reads) (refusal : Refusal) → Fetches vhdl most_simulated_bytes told before now (Err refusal)
-      → Answers (Err refusal) (IsPrepared (Some (Simulate vhdl vectors out)) devices told before now)
+      → OnAnswer (Err refusal) (IsPrepared (Some (Simulate vhdl vectors out)) devices told before now)
   vhdl-unfetched before now (refusals.Line line) cause =
       unfetched (Some (Simulate vhdl vectors out)) devices told before now vhdl most_simulated_bytes
       (λ files is e. on_missing (files vhdl) most_simulated_bytes (SaysOf files _) e)
@@ -105,7 +105,7 @@ module _ (devices : List Device) (vhdl vectors out : List ℕ) (told : Option Fi
     -- vectors that were not fetched, after VHDL that was
     pub rows-unfetched : (before mid now : Reads) (refusal : Refusal) → Kept before mid
         → Fetches vectors most_simulated_bytes told mid now (Err refusal)
-        → Answers (Err refusal) (IsPrepared (Some (Simulate vhdl vectors out)) devices told before now)
+        → OnAnswer (Err refusal) (IsPrepared (Some (Simulate vhdl vectors out)) devices told before now)
     rows-unfetched before mid now (refusals.Line line) kept cause =
         unfetched (Some (Simulate vhdl vectors out)) devices told before now vectors most_simulated_bytes
         (λ files is e. on_vhdl files _ is (on_missing (files vectors) most_simulated_bytes (λ rows. IsSimulated out text rows _) e))
@@ -148,8 +148,8 @@ module _ (devices : List Device) (vhdl vectors out : List ℕ) (told : Option Fi
                 (also files there) short is));
           }
 
-      pub simulate-prepared : (r : Result Held Refusal) → Answers r (IsSimulated out text rows) → Answers r IsListed
-          → Answers r (IsPrepared (Some (Simulate vhdl vectors out)) devices told before now)
+      pub simulate-prepared : (r : Result Held Refusal) → OnAnswer r (IsSimulated out text rows) → OnAnswer r IsListed
+          → OnAnswer r (IsPrepared (Some (Simulate vhdl vectors out)) devices told before now)
       simulate-prepared (Ok held) is listed = answers (answer_of held) is listed
       simulate-prepared (Err (refusals.Line line)) is listed = answers (refusal_of line) is listed
       simulate-prepared (Err refusals.Memory) is listed = tt

@@ -1,6 +1,7 @@
 -- From what a specification gives to what the command answers to its file.
-use Rattle.std.proofs.Common.{◌≡◌, ◌⊎◌, inl, inr, ℕ, ◌≤◌, Bool, false, List, length, Option, Some, Result, Ok, Err, refl, sym, ap, subst, arith}
-use Rattle.std.specs.Prelude.{◌≢◌, IsTrue}
+use Rattle.std.proofs.Common.{◌≡◌, ◌⊎◌, inl, inr, ℕ, ◌≤◌, Bool, false, List, length, Option, Some, Result, Ok, Err, refl, sym, ap, ◌∙◌, subst, arith}
+use Rattle.std.specs.Prelude.{◌≢◌, IsTrue, Vec}
+use Rattle.std.specs.declared.alloc.Global.{Global}
 use Rattle.opgen_command.specs.declared.command.Command.{Command}
 use Rattle.opgen_command.specs.declared.command.Command.TheVariants.{Generate, Vectors}
 use Rattle.opgen_design.specs.declared.design.Design.{Design}
@@ -18,11 +19,11 @@ use Rattle.opgen_vhdl.specs.DesignText.{text_of}
 use Rattle.opgen_top.specs.declared.answer.Answer.{Answer as Held}
 use Rattle.opgen_top.specs.declared.answer.Refusal.{Refusal}
 use Rattle.opgen_top.specs.declared.answer.Refusal.TheVariants as refusals
-use Rattle.opgen_top.specs.declared.specified.Specified.{Specified}
+use Rattle.opgen_top.specs.declared.circuit.Circuit.{Circuit}
 use Rattle.opgen_top.specs.Answer.{Answer, refusal, wrote, wrote_vectors}
 use Rattle.opgen_top.specs.Due.{most_bytes, OnFetch, IsAnswerOf}
 use Rattle.opgen_top.specs.Lines.{refused_line}
-use Rattle.opgen_top.specs.Prepared.{Reads, Answers, Fetches, OnRefusal, HasRows, IsListed, IsPrepared, IsSpecified, answer_of, refusal_of}
+use Rattle.opgen_top.specs.Prepared.{Reads, OnAnswer, Fetches, OnRefusal, HasRows, IsCircuitFor, IsListed, IsPrepared, answer_of, refusal_of}
 use Rattle.opgen_top.specs.Printed as printed
 use Rattle.opgen_top.specs.Specified.{IsAnswerToSpec, IsGenerated, IsVectors, OnReading, OnTable, OnTarget}
 use Rattle.opgen_top.specs.Targets.{Device, IsTableOf, chosen}
@@ -94,25 +95,24 @@ rows_of_listed a spec design seed cycles allowed h =
     subst IsListed (sym h.answer) (listed_success (wrote_vectors spec.name cycles h.rows)
     (printed.wrote_vectors spec.name cycles allowed refl refl) refl)
 
--- what is made of a specification answers the command
-module _ (bytes : List ℕ) (enable : Bool) (devices : List Device) (made : Specified) (is : IsSpecified bytes enable devices made)
-    (a : Answer) where
-  pub made_circuit : a ≡ wrote made.spec.name made.circuit.planned.latency (text_of made.circuit.planned.design)
-      (report made.spec made.circuit.planned made.circuit.adders.items)
-      → IsAnswerToSpec bytes devices (IsGenerated enable) a
-  made_circuit e =
-      answers_table bytes devices (IsGenerated enable) a made.spec is.table is.reads is.of_target
-      (inr (inr record { planned = made.circuit.planned; adders = made.circuit.adders.items; circuit = is.circuit; answer = e }))
+-- what is made of a circuit answers the command
+pub made_circuit : (bytes : List ℕ) (enable : Bool) (devices : List Device) (spec : Spec) → read (tree bytes) ≡ Ok spec → (circuit : Circuit)
+    → IsCircuitFor spec enable devices circuit → (a : Answer)
+    → a ≡ wrote spec.name circuit.planned.latency (text_of circuit.planned.design) (report spec circuit.planned circuit.adders.items)
+    → IsAnswerToSpec bytes devices (IsGenerated enable) a
+made_circuit bytes enable devices spec reads circuit is a e =
+    answers_table bytes devices (IsGenerated enable) a spec is.table reads is.of_target
+    (inr (inr record { planned = circuit.planned; adders = circuit.adders.items; circuit = is.of_table; answer = e }))
 
-pub made_vectors : (bytes : List ℕ) (devices : List Device) (made : Specified) → IsSpecified bytes false devices made
-    → (a : Answer) (seed cycles : ℕ)
-    → HasRows made.spec made.circuit.planned.design seed cycles a → IsAnswerToSpec bytes devices (IsVectors seed cycles) a
-made_vectors bytes devices made is a seed cycles h =
-    answers_table bytes devices (IsVectors seed cycles) a made.spec is.table is.reads is.of_target
+pub made_vectors : (bytes : List ℕ) (devices : List Device) (spec : Spec) → read (tree bytes) ≡ Ok spec → (circuit : Circuit)
+    → IsCircuitFor spec false devices circuit → (a : Answer) (seed cycles : ℕ)
+    → HasRows spec circuit.planned.design seed cycles a → IsAnswerToSpec bytes devices (IsVectors seed cycles) a
+made_vectors bytes devices spec reads circuit is a seed cycles h =
+    answers_table bytes devices (IsVectors seed cycles) a spec is.table reads is.of_target
     (inr (inr record {
-      planned = made.circuit.planned;
-      adders = made.circuit.adders.items;
-      circuit = is.circuit;
+      planned = circuit.planned;
+      adders = circuit.adders.items;
+      circuit = is.of_table;
       rows = h.rows;
       run = h.run;
       answer = h.answer;
@@ -138,7 +138,7 @@ module _ (command : Command) (said : Spec → Delays → Answer → Type 0) (spe
     (due : (files : Files) (a : Answer) → OnFetch (fetched (files spec) most_bytes) a (λ bytes. IsAnswerToSpec bytes devices said a)
     → IsAnswerOf (Some command) devices files a) where
   spec-unfetched : (refusal : Refusal) → Fetches spec most_bytes told before now (Err refusal)
-      → Answers (Err refusal) (IsPrepared (Some command) devices told before now)
+      → OnAnswer (Err refusal) (IsPrepared (Some command) devices told before now)
   spec-unfetched (refusals.Line line) cause =
       unfetched (Some command) devices told before now spec most_bytes
       (λ files is e. due files _ (on_missing (files spec) most_bytes (λ bytes. IsAnswerToSpec bytes devices said _) e))
@@ -158,32 +158,52 @@ module _ (command : Command) (said : Spec → Delays → Answer → Type 0) (spe
               (due files a (on_fetch (files spec) most_bytes bytes a (λ b. IsAnswerToSpec b devices said a) (stands files there) few is));
         }
 
-    spec-prepared : (r : Result Held Refusal) → Answers r (IsAnswerToSpec bytes devices said) → Answers r IsListed
-        → Answers r (IsPrepared (Some command) devices told before now)
+    spec-prepared : (r : Result Held Refusal) → OnAnswer r (IsAnswerToSpec bytes devices said) → OnAnswer r IsListed
+        → OnAnswer r (IsPrepared (Some command) devices told before now)
     spec-prepared (Ok held) is listed = answers (answer_of held) is listed
     spec-prepared (Err (refusals.Line line)) is listed = answers (refusal_of line) is listed
     spec-prepared (Err refusals.Memory) is listed = tt
 
 module _ (spec : List ℕ) (devices : List Device) (told : Option Files) (before now : Reads) where
   pub generate-unfetched : (workers : ℕ) (enable : Bool) (refusal : Refusal) → Fetches spec most_bytes told before now (Err refusal)
-      → Answers (Err refusal) (IsPrepared (Some (Generate spec workers enable)) devices told before now)
+      → OnAnswer (Err refusal) (IsPrepared (Some (Generate spec workers enable)) devices told before now)
   generate-unfetched workers enable = spec-unfetched (Generate spec workers enable) (IsGenerated enable) spec devices told before now
       (λ files a h. h)
 
   pub vectors-unfetched : (seed cycles : ℕ) (refusal : Refusal) → Fetches spec most_bytes told before now (Err refusal)
-      → Answers (Err refusal) (IsPrepared (Some (Vectors spec seed cycles)) devices told before now)
+      → OnAnswer (Err refusal) (IsPrepared (Some (Vectors spec seed cycles)) devices told before now)
   vectors-unfetched seed cycles = spec-unfetched (Vectors spec seed cycles) (IsVectors seed cycles) spec devices told before now
       (λ files a h. h)
 
-  module _ (bytes : List ℕ) (stands : (files : Files) → told ≡ Some files → files spec ≡ Some bytes) (few : length bytes ≤ most_bytes) where
+  module _ (document : Vec ℕ Global) (fetched : Fetches spec most_bytes told before now (Ok document)) (bytes : List ℕ)
+      (same : bytes ≡ document.items) where
+    stands : (files : Files) → told ≡ Some files → files spec ≡ Some bytes
+    stands files there = fetched.1 files there ∙ ap Some (sym same)
+
+    few : length bytes ≤ most_bytes
+    few = let short = fetched.0 in omega (arith, short, ap length same)
+
     pub generate-prepared : (workers : ℕ) (enable : Bool) (r : Result Held Refusal)
-        → Answers r (IsAnswerToSpec bytes devices (IsGenerated enable)) → Answers r IsListed
-        → Answers r (IsPrepared (Some (Generate spec workers enable)) devices told before now)
+        → OnAnswer r (IsAnswerToSpec bytes devices (IsGenerated enable)) → OnAnswer r IsListed
+        → OnAnswer r (IsPrepared (Some (Generate spec workers enable)) devices told before now)
     generate-prepared workers enable = spec-prepared (Generate spec workers enable) (IsGenerated enable) spec devices told before now
         (λ files a h. h) (λ s table a g. ap status_of g.answer) bytes stands few
 
-    pub vectors-prepared : (seed cycles : ℕ) (r : Result Held Refusal) → Answers r (IsAnswerToSpec bytes devices (IsVectors seed cycles))
-        → Answers r IsListed
-        → Answers r (IsPrepared (Some (Vectors spec seed cycles)) devices told before now)
+    pub vectors-prepared : (seed cycles : ℕ) (r : Result Held Refusal) → OnAnswer r (IsAnswerToSpec bytes devices (IsVectors seed cycles))
+        → OnAnswer r IsListed
+        → OnAnswer r (IsPrepared (Some (Vectors spec seed cycles)) devices told before now)
     vectors-prepared seed cycles = spec-prepared (Vectors spec seed cycles) (IsVectors seed cycles) spec devices told before now
         (λ files a h. h) (λ s table a g. ap status_of g.answer) bytes stands few
+
+    -- a refusal by the bytes, by the targets or by the table answers both commands
+    pub generate-refused : (workers : ℕ) (enable : Bool) (refusal : Refusal)
+        → OnRefusal refusal (IsAnswerToSpec bytes devices (λ spec table a. ⊥)) → OnRefusal refusal IsListed
+        → OnRefusal refusal (IsPrepared (Some (Generate spec workers enable)) devices told before now)
+    generate-refused workers enable refusal h listed =
+        generate-prepared workers enable (Err refusal) (refused_answers bytes devices (IsGenerated enable) refusal h) listed
+
+    pub vectors-refused : (seed cycles : ℕ) (refusal : Refusal)
+        → OnRefusal refusal (IsAnswerToSpec bytes devices (λ spec table a. ⊥)) → OnRefusal refusal IsListed
+        → OnRefusal refusal (IsPrepared (Some (Vectors spec seed cycles)) devices told before now)
+    vectors-refused seed cycles refusal h listed =
+        vectors-prepared seed cycles (Err refusal) (refused_answers bytes devices (IsVectors seed cycles) refusal h) listed

@@ -78,23 +78,6 @@ module _ (bytes : List ℕ) (devices : List Device) (said : Spec → Delays → 
   abbrev Said : Spec → Type 0
   Said spec = OnTarget (chosen spec.target devices) spec a (λ table. OnTable spec table a (said spec table a))
 
-  pub answers_fault : (fault : SpecFault) → read (tree bytes) ≡ Err fault → a ≡ refused fault → IsAnswerToSpec bytes devices said a
-  answers_fault fault reads is = subst (λ r. OnReading r a Said) (sym reads) is
-
-  pub answers_unknown : (spec : Spec) → read (tree bytes) ≡ Ok spec → chosen spec.target devices ≡ None → a ≡ unknown_target
-      → IsAnswerToSpec bytes devices said a
-  answers_unknown spec reads found is =
-      reading_ok (read (tree bytes)) a Said spec reads
-      (subst (λ d. OnTarget d spec a (λ table. OnTable spec table a (said spec table a))) (sym found) is)
-
-  pub answers_fixed : (spec : Spec) (device : Device) → read (tree bytes) ≡ Ok spec → chosen spec.target devices ≡ Some device
-      → takes_lines device.adjustable spec.delays ≡ false → a ≡ not_adjustable → IsAnswerToSpec bytes devices said a
-  answers_fixed spec device reads found takes is =
-      let table = tuned device.delays spec.delays in
-      reading_ok (read (tree bytes)) a Said spec reads
-      (subst (λ d. OnTarget d spec a (λ t. OnTable spec t a (said spec t a))) (sym found)
-      (subst (λ b. OnLines b a (OnTable spec table a (said spec table a))) (sym takes) is))
-
   pub answers_table : (spec : Spec) (table : Delays) → read (tree bytes) ≡ Ok spec → IsTableOf spec devices table
       → OnTable spec table a (said spec table a)
       → IsAnswerToSpec bytes devices said a

@@ -8,9 +8,9 @@ use Rattle.opgen_workload.specs.Filter.{workload_spec}
 use Rattle.opgen_top.specs.declared.answer.Answer.{Answer as Held}
 use Rattle.opgen_top.specs.declared.answer.Refusal.{Refusal}
 use Rattle.opgen_top.specs.declared.answer.Refusal.TheVariants as refusals
-use Rattle.opgen_top.specs.declared.specified.Specified.{Specified}
+use Rattle.opgen_top.specs.declared.circuit.Circuit.{Circuit}
 use Rattle.opgen_top.specs.Answer.{Answer, worked}
-use Rattle.opgen_top.specs.Prepared.{Reads, Answers, HasWorked, IsListed, IsMadeFor, IsPrepared, OnRefusal, answer_of, refusal_of}
+use Rattle.opgen_top.specs.Prepared.{Reads, OnAnswer, HasWorked, IsCircuitFor, IsListed, IsPrepared, OnRefusal, answer_of, refusal_of}
 use Rattle.opgen_top.specs.Printed as printed
 use Rattle.opgen_top.specs.Specified.{OnTable, OnTarget}
 use Rattle.opgen_top.specs.Targets.{Device, chosen}
@@ -39,16 +39,16 @@ module _ (n : ℕ) (devices : List Device) where
       (subst (λ s. OnRefusal refusal (λ a. OnTarget (chosen s.target devices) s a (λ table. OnTable s table a ⊥))) filter h)
 
   -- and so does a run of its circuit
-  pub spec_worked : (spec : Spec) → spec ≡ workload_spec n → (made : Specified) → IsMadeFor spec false devices made → (a : Answer)
-      → HasWorked n made.circuit.planned a
+  pub spec_worked : (spec : Spec) → spec ≡ workload_spec n → (circuit : Circuit) → IsCircuitFor spec false devices circuit → (a : Answer)
+      → HasWorked n circuit.planned a
       → IsAnswerToWorkload n devices a
-  spec_worked spec filter made is a h =
-      let same : IsMadeFor (workload_spec n) false devices made = subst (λ s. IsMadeFor s false devices made) filter is in
+  spec_worked spec filter circuit is a h =
+      let same : IsCircuitFor (workload_spec n) false devices circuit = subst (λ s. IsCircuitFor s false devices circuit) filter is in
       on_table_of (workload_spec n) devices a (λ table. OnTable (workload_spec n) table a (IsWorked n table a)) same.table same.of_target
       (inr (inr record {
-        planned = made.circuit.planned;
-        adders = made.circuit.adders.items;
-        circuit = same.circuit;
+        planned = circuit.planned;
+        adders = circuit.adders.items;
+        circuit = same.of_table;
         good = h.good;
         judged = h.judged;
         answer = h.answer;
@@ -78,8 +78,8 @@ module _ (n : ℕ) (devices : List Device) where
           due = λ files there. inr is;
         }
 
-    pub workload-prepared : (r : Result Held Refusal) → Answers r (IsAnswerToWorkload n devices) → Answers r IsListed
-        → Answers r (IsPrepared (Some (Workload n)) devices told before now)
+    pub workload-prepared : (r : Result Held Refusal) → OnAnswer r (IsAnswerToWorkload n devices) → OnAnswer r IsListed
+        → OnAnswer r (IsPrepared (Some (Workload n)) devices told before now)
     workload-prepared (Ok held) is listed = answers (answer_of held) is listed
     workload-prepared (Err (refusals.Line line)) is listed = answers (refusal_of line) is listed
     workload-prepared (Err refusals.Memory) is listed = tt

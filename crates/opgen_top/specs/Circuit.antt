@@ -6,7 +6,6 @@ use Rattle.opgen_design.specs.declared.design.Dir.TheVariants.{In, Out}
 use Rattle.opgen_design.specs.declared.design.Port.{Port}
 use Rattle.opgen_design.specs.Run.{AreWords, Words, Run, input_widths}
 use Rattle.opgen_design.specs.Run.{outputs_of as design_outputs}
-use Rattle.opgen_design.specs.Sound.{IsSound}
 use Rattle.opgen_net.specs.declared.net.Net.{Net}
 use Rattle.opgen_net.specs.Flow.{Inputs}
 use Rattle.opgen_net.specs.Made.{input_port}
@@ -60,17 +59,7 @@ pub record IsCircuit (spec : Spec) (table : Delays) (enable : Bool) (planned : P
   pub few_signals : signals_of table spec.period net ≤ most_signals
   pub plan : IsPlanOf spec.name enable net table spec.period planned
 
--- every circuit is sound
-abbrev pub CircuitsAreSound : Type 0
-CircuitsAreSound = (spec : Spec) (table : Delays) (enable : Bool) (planned : Planned) (adders : List ℕ)
-    → IsCircuit spec table enable planned adders → IsSound planned.design
-
 -- every circuit serves its specification, at its latency
 abbrev pub CircuitsServe : Type 0
 CircuitsServe = (spec : Spec) (table : Delays) (enable : Bool) (planned : Planned) (adders : List ℕ)
     → IsCircuit spec table enable planned adders → Serves spec planned.latency enable planned.design
-
--- a specification leaves at most one circuit for a table
-abbrev pub HasOneCircuit : Type 0
-HasOneCircuit = (spec : Spec) (table : Delays) (enable : Bool) (p q : Planned) (a b : List ℕ)
-    → IsCircuit spec table enable p a → IsCircuit spec table enable q b → (p ≡ q) × (a ≡ b)

@@ -1,7 +1,6 @@
 -- The answer that is due: by the words of the command line, then by the command's files and what they hold, and by the
 -- targets.
-use Rattle.std.specs.Prelude.{ℕ, ◌≡◌, Bool, List, ◌++◌, Option, Some, None, Result, Ok, Err}
-use Rattle.opgen_command.specs.Command.{command_of}
+use Rattle.std.specs.Prelude.{ℕ, ◌≡◌, List, ◌++◌, Option, Some, None, Result, Ok, Err}
 use Rattle.opgen_command.specs.declared.command.Command.{Command}
 use Rattle.opgen_command.specs.declared.command.Command.TheVariants.{Generate, Vectors, Simulate, Workload, Check}
 use Rattle.opgen_io.specs.Answers.{fetched}
@@ -48,21 +47,6 @@ IsAnswerOfCommand (Check spec vhdl vectors latency) devices files a =
 abbrev pub IsAnswerOf : Option Command → List Device → Files → Answer → Type 0
 IsAnswerOf None devices files a = a ≡ usage
 IsAnswerOf (Some command) devices files a = IsAnswerOfCommand command devices files a
-
--- the words, the targets and the files leave at most one answer
-abbrev pub HasOneAnswer : Type 0
-HasOneAnswer = (command : Option Command) (devices : List Device) (files : Files) (a b : Answer)
-    → IsAnswerOf command devices files a → IsAnswerOf command devices files b → a ≡ b
-
--- the answer to `generate` with one number of workers is the answer with every other
-abbrev pub IsForAllWorkers : Type 0
-IsForAllWorkers = (file : List ℕ) (enable : Bool) (some others : ℕ) (devices : List Device) (files : Files) (a : Answer)
-    → IsAnswerOf (Some (Generate file some enable)) devices files a → IsAnswerOf (Some (Generate file others enable)) devices files a
-
--- and that they leave none is impossible
-abbrev pub HasSomeAnswer : Type 0
-HasSomeAnswer = (words : List (List ℕ)) (devices : List Device) (files : Files)
-    → ((a : Answer) → IsAnswerOf (command_of words) devices files a → ⊥) → ⊥
 
 -- The answer that is due was given: the result is its status, the folder has its stores more or anew, and a sink that tells
 -- what it takes has its line more.

@@ -39,10 +39,6 @@ IsNetOfOperator (Tfir taps) net = IsNetOfTaps taps net
 abbrev pub IsNetOf : Spec → Net → Type 0
 IsNetOf spec net = IsNetOfOperator spec.op net
 
--- a specification leaves at most one net
-abbrev pub HasOneNet : Type 0
-HasOneNet = (spec : Spec) (a b : Net) → IsNetOf spec a → IsNetOf spec b → a ≡ b
-
 -- the numbers of its adder graph: several constants and transposed filters have one
 abbrev pub AreAddersOfOperator : Operator → List ℕ → Type 0
 AreAddersOfOperator (Scale sum) adders = adders ≡ []

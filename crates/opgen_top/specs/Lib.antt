@@ -1,3 +1,4 @@
+-- Definitions of opgen_top: the correct answer to words, files and targets, circuits and what they serve, and what `run` leaves.
 pub mod Targets
 pub mod Kinds
 pub mod Circuit
@@ -14,5 +15,4 @@ pub mod Due
 pub mod Headline
 pub mod Left
 pub mod Printed
-pub mod Causes
 pub mod Prepared

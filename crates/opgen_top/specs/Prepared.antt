@@ -13,10 +13,7 @@ use Rattle.opgen_io.specs.declared.folder.FetchFault.TheVariants as fetch
 use Rattle.opgen_command.specs.declared.command.Command.{Command}
 use Rattle.opgen_design.specs.declared.design.Design.{Design}
 use Rattle.opgen_operator.specs.declared.spec.Spec.{Spec}
-use Rattle.opgen_operator.specs.Valid.{IsValidSpec}
 use Rattle.opgen_pipe.specs.declared.planning.Planned.{Planned}
-use Rattle.opgen_spec.specs.Document.{tree}
-use Rattle.opgen_spec.specs.Faults.{read}
 use Rattle.opgen_target.specs.Delays.{Delays}
 use Rattle.opgen_vec.specs.Reading.{IsReading}
 use Rattle.opgen_vec.specs.Rows.{AreRowsOfCells}
@@ -28,7 +25,7 @@ use Rattle.opgen_top.specs.declared.answer.Refusal.TheVariants as refusals
 use Rattle.opgen_top.specs.declared.line.Line.{Line}
 use Rattle.opgen_top.specs.declared.line.Line.TheVariants as line
 use Rattle.opgen_top.specs.declared.run_rows.Rows.{Rows}
-use Rattle.opgen_top.specs.declared.specified.Specified.{Specified}
+use Rattle.opgen_top.specs.declared.circuit.Circuit.{Circuit}
 use Rattle.opgen_top.specs.Answer.{Answer, all_good, bad_row, ports_refused, read_fault, refusal, worked, wrote_vectors}
 use Rattle.opgen_top.specs.Circuit.{IsCircuit}
 use Rattle.opgen_top.specs.Due.{IsAnswerOf}
@@ -86,29 +83,20 @@ OnRefusal (refusals.Line line) said = said (refusal_of line)
 OnRefusal refusals.Memory said = Unit {0}
 
 -- the same of an answer or a refusal
-abbrev pub Answers : Result Held Refusal → (Answer → Type 0) → Type 0
-Answers (Ok a) said = said (answer_of a)
-Answers (Err refusal) said = OnRefusal refusal said
+abbrev pub OnAnswer : Result Held Refusal → (Answer → Type 0) → Type 0
+OnAnswer (Ok a) said = said (answer_of a)
+OnAnswer (Err refusal) said = OnRefusal refusal said
 
 -- and of a refusal alone
-abbrev pub Refused : {X : Type 0} → Result X Refusal → (Answer → Type 0) → Type 0
-Refused (Ok x) said = Unit {0}
-Refused (Err refusal) said = OnRefusal refusal said
+abbrev pub IfRefused : {X : Type 0} → Result X Refusal → (Answer → Type 0) → Type 0
+IfRefused (Ok x) said = Unit {0}
+IfRefused (Err refusal) said = OnRefusal refusal said
 
--- a specification, and its circuit for the target that it names
-pub record IsMadeFor (spec : Spec) (enable : Bool) (devices : List Device) (made : Specified) : Type 0 where
-  pub same : made.spec ≡ spec
+-- the circuit of a specification, for the target that it names
+pub record IsCircuitFor (spec : Spec) (enable : Bool) (devices : List Device) (circuit : Circuit) : Type 0 where
   pub table : Delays
   pub of_target : IsTableOf spec devices table
-  pub circuit : IsCircuit spec table enable made.circuit.planned made.circuit.adders.items
-
--- the same, of a specification that the bytes give
-pub record IsSpecified (bytes : List ℕ) (enable : Bool) (devices : List Device) (made : Specified) : Type 0 where
-  pub reads : read (tree bytes) ≡ Ok made.spec
-  pub valid : IsValidSpec made.spec
-  pub table : Delays
-  pub of_target : IsTableOf made.spec devices table
-  pub circuit : IsCircuit made.spec table enable made.circuit.planned made.circuit.adders.items
+  pub of_table : IsCircuit spec table enable circuit.planned circuit.adders.items
 
 -- an answer that stores the rows of a design over the stimulus of a specification
 pub record HasRows (spec : Spec) (design : Design) (seed cycles : ℕ) (a : Answer) : Type 0 where
@@ -149,6 +137,10 @@ pub record Reads : Type 0 where
   pub faults : ℕ
   pub lacks : ℕ
   pub longs : ℕ
+
+-- the counts of a folder, by what it counts
+abbrev pub reads_of : {Folder : Type 0} → (faults lacks longs : Folder → ℕ) → Folder → Reads
+reads_of faults lacks longs folder = record { faults = faults folder; lacks = lacks folder; longs = longs folder }
 
 -- the counts did not fall
 pub record Kept (before now : Reads) : Type 0 where

@@ -35,15 +35,6 @@ pub data IsLineOf (status : ℕ) (line : List ℕ) : Type 0 where
   bad_row : (row : ℕ) → status ≡ 8 → line ≡ bad_row_line row → IsLineOf status line
   too_long : status ≡ 9 → line ≡ too_long_line → IsLineOf status line
 
--- the statuses 2, 3 and 9 have one line each
-pub record HasFixedLine (status : ℕ) (line : List ℕ) : Type 0 where
-  pub usage : status ≡ 2 → line ≡ usage_line
-  pub read_fault : status ≡ 3 → line ≡ read_fault_line
-  pub too_long : status ≡ 9 → line ≡ too_long_line
-
-abbrev pub LinesAreFixed : Type 0
-LinesAreFixed = (status : ℕ) (line : List ℕ) → IsLineOf status line → HasFixedLine status line
-
 -- a line of this status more
 pub record TakesLine (status : ℕ) (held : List ℕ) (now : Option (List ℕ)) : Type 0 where
   pub line : List ℕ

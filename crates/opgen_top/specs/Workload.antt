@@ -39,7 +39,3 @@ pub record IsWorked (n : ℕ) (table : Delays) (a : Answer) : Type 0 where
 abbrev pub IsAnswerToWorkload : (n : ℕ) → List Device → Answer → Type 0
 IsAnswerToWorkload n devices a =
     OnTarget (chosen (workload_spec n).target devices) (workload_spec n) a (λ table. OnTable (workload_spec n) table a (IsWorked n table a))
-
--- all cycles from the latency on are good
-abbrev pub WorkloadsAreGood : Type 0
-WorkloadsAreGood = (n : ℕ) (table : Delays) (a : Answer) (w : IsWorked n table a) → w.good ≡ cycles - w.planned.latency

@@ -1,33 +1,67 @@
-//! From the bytes of a specification, of VHDL and of vectors to what `check` answers.
-ghost use Rattle.std.specs.Prelude.{◌≡◌, ◌≤◌, ◌<◌, ◌^◌, IfOk, length};
+//! The command `check`: judges a design by a specification, over rows of its inputs.
+ghost use Rattle.std.specs.Prelude.{◌≡◌, ◌≤◌, ◌<◌, ◌^◌, IfOk, List, Some, length};
+ghost use Rattle.opgen_command.specs.declared.command.Command.TheVariants.{Check};
 ghost use Rattle.opgen_design.specs.Run.{input_widths};
 ghost use Rattle.opgen_design.specs.Sound.{HasNumbers, IsSound};
 ghost use Rattle.opgen_operator.specs.Valid.{IsValidSpec};
 ghost use Rattle.opgen_vec.specs.Rows.{AreRowsOfCells};
 ghost use Rattle.opgen_top.specs.Check.{IsAnswerToCheck};
-ghost use Rattle.opgen_top.specs.Prepared.{Answers, IsAnswerToDesign, IsListed, refusal_of, verdict_answer};
+ghost use Rattle.opgen_top.specs.Prepared.{reads_of, refusal_of, verdict_answer, IsAnswerToDesign, IsListed, IsPrepared, OnAnswer};
+ghost use Rattle.opgen_top.specs.Targets.{Device};
 
 use crate::answer::{Answer, Refusal, without_file};
+use crate::fetch::{MAX_SIMULATED_LEN, MAX_SPEC_LEN, fetch};
 use crate::line::Line;
+use crate::read::{read_rows, read_specification, read_vhdl};
 use crate::run_rows::{Rows, port_widths};
-use crate::simulate::{vectors_rows, vhdl_design};
-use crate::specified::judged;
 use opgen_check::{CheckFault, Checked, check_rows};
 use opgen_design::{Design, Dir};
+use opgen_io::Folder;
 use opgen_spec::Spec;
 use std::alloc::{AllocError, Global};
 
-fn verdict_line(alloc: Global, checked: Checked) -> Result<Line, AllocError>
-    ensures { IfOk result (λ line. refusal_of line ≡ verdict_answer checked) }
+/// Fetches a specification, VHDL and vectors, and answers with the verdict on the rows, for a latency.
+pub(crate) fn check<F: Folder>(
+    alloc: Global,
+    spec: &str,
+    vhdl: &str,
+    vectors: &str,
+    latency: u32,
+    folder: &mut F,
+) -> Result<Answer, Refusal>
+    ensures told_same { F.told folder.new ≡ F.told folder.old }
+    ensures write_faults_same { F.write_faults folder.new ≡ F.write_faults folder.old }
+    ensures prepared { (devices : List Device) → OnAnswer result (IsPrepared (Some (Check spec.now vhdl.now vectors.now latency))
+        devices (F.told folder.old)
+        (reads_of F.read_faults F.lacks F.longs folder.old) (reads_of F.read_faults F.lacks F.longs folder.new)) }
 {
-    match checked {
-        Checked::Good { rows } => Ok(Line::Wrote(format!(in alloc; "good {rows}\n")?)),
-        Checked::Bad { row } => Ok(Line::BadRow(format!(in alloc; "row {row} not good\n")?)),
-    }
+    let document = fetch(alloc, spec, MAX_SPEC_LEN, folder)?;
+    let text = fetch(alloc, vhdl, MAX_SIMULATED_LEN, folder)?;
+    let rows = fetch(alloc, vectors, MAX_SIMULATED_LEN, folder)?;
+    judge_vhdl(alloc, &document, &text, &rows, latency)
 }
 
-/// What `check` answers to a design and rows of its inputs.
-fn verdict(
+/// Reads a specification, VHDL and vectors, and answers with the verdict.
+fn judge_vhdl(
+    alloc: Global,
+    document: &[u8],
+    vhdl: &[u8],
+    vectors: &[u8],
+    latency: u32,
+) -> Result<Answer, Refusal>
+    requires { length vhdl.now ≤ 67108864 }
+    ensures answer { OnAnswer result (IsAnswerToCheck latency document.now vhdl.now vectors.now) }
+    ensures listed { OnAnswer result IsListed }
+{
+    let spec = read_specification(alloc, document)?;
+    let design = read_vhdl(alloc, vhdl)?;
+    let widths = port_widths(alloc, design.ports.as_slice(), Dir::In)?;
+    let rows = read_rows(alloc, vectors, &widths)?;
+    judge_rows(alloc, &spec, &design, &rows, latency)
+}
+
+/// Runs a design over rows of its inputs, and answers with the verdict.
+fn judge_rows(
     alloc: Global,
     spec: &Spec,
     design: &Design,
@@ -40,8 +74,8 @@ fn verdict(
     requires columns { rows.now.inputs.columns ≡ length (input_widths design.now) }
     requires rows { AreRowsOfCells (input_widths design.now) rows.now.count rows.now.inputs.cells.items }
     requires few { rows.now.count < 2 ^ 32 }
-    ensures answer { Answers result (IsAnswerToDesign spec.now design.now latency rows.now.count rows.now.inputs.cells.items) }
-    ensures listed { Answers result IsListed }
+    ensures answer { OnAnswer result (IsAnswerToDesign spec.now design.now latency rows.now.count rows.now.inputs.cells.items) }
+    ensures listed { OnAnswer result IsListed }
 {
     match check_rows(alloc, spec, design, &rows.inputs, latency) {
         Ok(checked) => Ok(without_file(alloc, verdict_line(alloc, checked)?)),
@@ -50,30 +84,11 @@ fn verdict(
     }
 }
 
-/// What `check` answers to the bytes of a specification, of VHDL and of vectors, for a latency.
-pub(crate) fn checked(
-    alloc: Global,
-    document: &[u8],
-    vhdl: &[u8],
-    vectors: &[u8],
-    latency: u32,
-) -> Result<Answer, Refusal>
-    requires { length vhdl.now ≤ 67108864 }
-    ensures answer { Answers result (IsAnswerToCheck latency document.now vhdl.now vectors.now) }
-    ensures listed { Answers result IsListed }
+fn verdict_line(alloc: Global, checked: Checked) -> Result<Line, AllocError>
+    ensures { IfOk result (λ line. refusal_of line ≡ verdict_answer checked) }
 {
-    let spec = match judged(alloc, document) {
-        Ok(spec) => spec,
-        Err(refusal) => return Err(refusal),
-    };
-    let design = match vhdl_design(alloc, vhdl) {
-        Ok(design) => design,
-        Err(refusal) => return Err(refusal),
-    };
-    let widths = port_widths(alloc, design.ports.as_slice(), Dir::In)?;
-    let rows = match vectors_rows(alloc, vectors, &widths) {
-        Ok(rows) => rows,
-        Err(refusal) => return Err(refusal),
-    };
-    verdict(alloc, &spec, &design, &rows, latency)
+    match checked {
+        Checked::Good { rows } => Ok(Line::Wrote(format!(in alloc; "good {rows}\n")?)),
+        Checked::Bad { row } => Ok(Line::BadRow(format!(in alloc; "row {row} not good\n")?)),
+    }
 }

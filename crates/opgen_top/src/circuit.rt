@@ -4,21 +4,22 @@ ghost use Rattle.opgen_operator.specs.Accepted.{IsAcceptedTaps};
 ghost use Rattle.opgen_operator.specs.Fits.{FitsSpecsOf};
 ghost use Rattle.opgen_operator.specs.declared.spec.Operator.TheVariants.{Tfir};
 ghost use Rattle.opgen_operator.specs.Valid.{IsValidSpec};
-ghost use Rattle.opgen_top.specs.Circuit.{IsCircuit};
 ghost use Rattle.opgen_search.specs.Recipe.{IsAdderSetOf};
 ghost use Rattle.opgen_top.specs.Kinds.{AreAddersOf, IsFittingNet, IsNetOfTaps};
 ghost use Rattle.opgen_top.specs.Lines.{period_too_short_line};
-ghost use Rattle.opgen_top.specs.Prepared.{IsListed, Refused};
-ghost use Rattle.opgen_top.specs.Specified.{OnTable};
+ghost use Rattle.opgen_top.specs.Prepared.{IfRefused, IsCircuitFor, IsListed};
+ghost use Rattle.opgen_top.specs.Specified.{OnTable, OnTarget};
+ghost use Rattle.opgen_top.specs.Targets.{chosen, devices_of};
 
 use crate::answer::Refusal;
+use crate::context::Context;
 use crate::line::Line;
+use crate::targets::choose_target;
 use opgen_net::Net;
 use opgen_num::Memory;
 use opgen_pipe::{PlanFault, Planned, plan};
 use opgen_search::{Gate, least_graph};
 use opgen_spec::{Operator, Spec, Taps};
-use opgen_target::Target;
 use std::alloc::{AllocError, Global};
 use std::thread::Threads;
 
@@ -37,7 +38,7 @@ pub(crate) struct Circuit {
 }
 
 /// A net with no shared numbers.
-fn alone(alloc: Global, net: Net) -> Built
+fn without_adders(alloc: Global, net: Net) -> Built
     ensures net { result.net ≡ net }
     ensures adders { result.adders.items ≡ [] }
 {
@@ -48,7 +49,7 @@ fn alone(alloc: Global, net: Net) -> Built
 }
 
 /// The net of a transposed filter, by the graph of the least set of adders for its taps.
-fn transposed<R: Threads + Sync, G: Gate + Sync>(
+fn build_transposed<R: Threads + Sync, G: Gate + Sync>(
     rt: &R,
     alloc: Global,
     taps: &Taps,
@@ -78,7 +79,7 @@ fn transposed<R: Threads + Sync, G: Gate + Sync>(
 }
 
 /// The net of a specification, by its kind. A least set of adders is sought by so many workers.
-pub(crate) fn net_of<R: Threads + Sync, G: Gate + Sync>(
+fn build_net<R: Threads + Sync, G: Gate + Sync>(
     rt: &R,
     alloc: Global,
     spec: &Spec,
@@ -91,11 +92,14 @@ pub(crate) fn net_of<R: Threads + Sync, G: Gate + Sync>(
     ensures adders { IfOk result (λ made. AreAddersOf spec.now made.adders.items) }
 {
     match &spec.op {
-        Operator::Scale(sum) => Ok(alone(alloc, opgen_fir::build(alloc, sum)?)),
-        Operator::Fir(sum) => Ok(alone(alloc, opgen_fir::build(alloc, sum)?)),
-        Operator::Multiply(product) => Ok(alone(alloc, opgen_mult::build(alloc, product)?)),
-        Operator::Divide(pair) => Ok(alone(alloc, opgen_divide::build(alloc, pair)?)),
-        Operator::Root(single) => Ok(alone(alloc, opgen_sqrt::build(alloc, single)?)),
+        Operator::Scale(sum) => Ok(without_adders(alloc, opgen_fir::build(alloc, sum)?)),
+        Operator::Fir(sum) => Ok(without_adders(alloc, opgen_fir::build(alloc, sum)?)),
+        Operator::Multiply(product) => Ok(without_adders(
+            alloc,
+            opgen_mult::build(alloc, product)?,
+        )),
+        Operator::Divide(pair) => Ok(without_adders(alloc, opgen_divide::build(alloc, pair)?)),
+        Operator::Root(single) => Ok(without_adders(alloc, opgen_sqrt::build(alloc, single)?)),
         Operator::Mcm(several) => {
             let built = opgen_search::build(rt, alloc, several, workers, gate)?;
             Ok(Built {
@@ -103,10 +107,13 @@ pub(crate) fn net_of<R: Threads + Sync, G: Gate + Sync>(
                 adders: built.adders.into_vec(),
             })
         }
-        Operator::Constdiv(small) => Ok(alone(alloc, opgen_constdiv::build(alloc, small)?)),
-        Operator::Poly(poly) => Ok(alone(alloc, opgen_poly::build(alloc, poly)?)),
+        Operator::Constdiv(small) => Ok(without_adders(
+            alloc,
+            opgen_constdiv::build(alloc, small)?,
+        )),
+        Operator::Poly(poly) => Ok(without_adders(alloc, opgen_poly::build(alloc, poly)?)),
         Operator::Tfir(taps) => {
-            let filter = transposed(rt, alloc, taps, workers, gate)?;
+            let filter = build_transposed(rt, alloc, taps, workers, gate)?;
             Ok(filter)
         }
     }
@@ -118,28 +125,33 @@ fn too_short_line(alloc: Global, need: u64) -> Result<String, AllocError>
     format!(in alloc; "specification: PeriodTooShort {need}\n")
 }
 
-/// The circuit of a specification, for a target.
-pub(crate) fn circuit_of<R: Threads + Sync, G: Gate + Sync>(
-    rt: &R,
-    alloc: Global,
+/// The circuit of a specification, for the target that it names.
+pub(crate) fn make_circuit<R: Threads + Sync, G: Gate + Sync>(
     spec: &Spec,
     enable: bool,
     workers: u32,
-    target: &mut Box<dyn Target>,
-    gate: &G,
+    context: Context<'_, R, G>,
 ) -> Result<Circuit, Refusal>
     requires valid { IsValidSpec spec.now }
     requires workers { (1 ≤ workers) × (workers ≤ 32) }
-    ensures circuit { IfOk result (λ c. IsCircuit spec.now (delays target.old) enable c.planned c.adders.items) }
-    ensures refused { Refused result (λ a. OnTable spec.now (delays target.old) a ⊥) }
-    ensures listed { Refused result IsListed }
+    ensures circuit { IfOk result (IsCircuitFor spec.now enable (devices_of target_name delays adjustable context.entry.targets.items)) }
+    ensures refused { IfRefused result (λ a. OnTarget (chosen spec.now.target (devices_of target_name delays adjustable context.entry.targets.items)) spec.now a
+        (λ table. OnTable spec.now table a ⊥)) }
+    ensures listed { IfRefused result IsListed }
 {
-    let made = net_of(rt, alloc, spec, workers, gate)?;
+    let Context {
+        rt,
+        alloc,
+        targets,
+        gate,
+    } = context;
+    let mut target = choose_target(targets, spec)?;
+    let built = build_net(rt, alloc, spec, workers, gate)?;
     let name = spec.name.as_str();
-    match plan(alloc, &made.net, name, enable, target, spec.period) {
+    match plan(alloc, &built.net, name, enable, &mut target, spec.period) {
         Ok(planned) => Ok(Circuit {
             planned,
-            adders: made.adders,
+            adders: built.adders,
         }),
         Err(PlanFault::PeriodTooShort { need }) => {
             Err(Refusal::Line(Line::Refused(too_short_line(alloc, need)?)))

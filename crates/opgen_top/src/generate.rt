@@ -1,23 +1,69 @@
-//! From the bytes of a specification to what `generate` answers.
-ghost use Rattle.std.specs.Prelude.{◌≡◌, ◌≤◌, IfOk, string_bytes};
-ghost use Rattle.opgen_operator.specs.Valid.{IsValidSpec};
+//! The command `generate`: from a specification to the VHDL of its circuit and a report.
+ghost use Rattle.std.specs.Prelude.{◌≡◌, ◌≤◌, IfOk, Some, string_bytes};
+ghost use Rattle.opgen_command.specs.declared.command.Command.TheVariants.{Generate};
 ghost use Rattle.opgen_report.specs.Report.{report};
+ghost use Rattle.opgen_operator.specs.Valid.{IsValidSpec};
 ghost use Rattle.opgen_vhdl.specs.DesignText.{text_of};
 ghost use Rattle.opgen_top.specs.Answer.{report_name, vhdl_name, wrote};
 ghost use Rattle.opgen_top.specs.Lines.{wrote_line};
-ghost use Rattle.opgen_top.specs.Prepared.{answer_of, Answers, IsListed};
-ghost use Rattle.opgen_top.specs.Specified.{IsAnswerToSpec, IsGenerated};
+ghost use Rattle.opgen_top.specs.Prepared.{answer_of, reads_of, IsPrepared, OnAnswer};
 ghost use Rattle.opgen_top.specs.Targets.{devices_of};
 
 use crate::answer::{Answer, NewFile, Refusal, with_files};
-use crate::specified::{Specified, specified_by};
+use crate::circuit::{Circuit, make_circuit};
+use crate::context::Context;
+use crate::fetch::{MAX_SPEC_LEN, fetch};
+use crate::read::read_specification;
+use opgen_io::Folder;
 use opgen_num::Memory;
 use opgen_report::report_text;
 use opgen_search::Gate;
-use opgen_target::Target;
+use opgen_spec::Spec;
 use opgen_write::text;
 use std::alloc::{AllocError, Global};
 use std::thread::Threads;
+
+/// Reads a specification, makes its circuit, and answers with the VHDL and the report.
+pub(crate) fn generate<R: Threads + Sync, F: Folder, G: Gate + Sync>(
+    file: &str,
+    workers: u32,
+    enable: bool,
+    folder: &mut F,
+    context: Context<'_, R, G>,
+) -> Result<Answer, Refusal>
+    requires { (1 ≤ workers) × (workers ≤ 32) }
+    ensures told_same { F.told folder.new ≡ F.told folder.old }
+    ensures write_faults_same { F.write_faults folder.new ≡ F.write_faults folder.old }
+    ensures prepared { OnAnswer result (IsPrepared (Some (Generate file.now workers enable))
+        (devices_of target_name delays adjustable context.entry.targets.items) (F.told folder.old)
+        (reads_of F.read_faults F.lacks F.longs folder.old) (reads_of F.read_faults F.lacks F.longs folder.new)) }
+{
+    let alloc = context.alloc;
+    let document = fetch(alloc, file, MAX_SPEC_LEN, folder)?;
+    let spec = read_specification(alloc, &document)?;
+    let circuit = make_circuit(&spec, enable, workers, context)?;
+    Ok(make_files(alloc, &spec, &circuit)?)
+}
+
+/// The answer that stores the text of a circuit and the report on it.
+fn make_files(alloc: Global, spec: &Spec, circuit: &Circuit) -> Result<Answer, Memory>
+    requires { IsValidSpec spec.now }
+    ensures { IfOk result (λ a. answer_of a ≡ wrote spec.now.name circuit.now.planned.latency
+        (text_of circuit.now.planned.design) (report spec.now circuit.now.planned circuit.now.adders.items)) }
+{
+    let name = spec.name.as_str();
+    let planned = &circuit.planned;
+    let vhdl = NewFile {
+        name: vhdl_name(alloc, name)?,
+        bytes: text(alloc, &planned.design)?,
+    };
+    let report = NewFile {
+        name: report_name(alloc, name)?,
+        bytes: report_text(alloc, spec, planned, &circuit.adders)?,
+    };
+    let line = wrote_line(alloc, name, planned.latency)?;
+    Ok(with_files(alloc, line, vhdl, report)?)
+}
 
 fn vhdl_name(alloc: Global, name: &str) -> Result<String, AllocError>
     ensures { IfOk result (λ file. string_bytes file ≡ vhdl_name name.now) }
@@ -39,44 +85,4 @@ fn wrote_line(alloc: Global, name: &str, latency: u32) -> Result<String, AllocEr
     write!(line, "{name}.rpt, latency ")?;
     writeln!(line, "{latency}")?;
     Ok(line)
-}
-
-/// The text of a circuit and the report on it, with the line that tells of them.
-fn written(alloc: Global, made: &Specified) -> Result<Answer, Memory>
-    requires { IsValidSpec made.now.spec }
-    ensures { IfOk result (λ a. answer_of a ≡ wrote made.now.spec.name made.now.circuit.planned.latency
-        (text_of made.now.circuit.planned.design) (report made.now.spec made.now.circuit.planned made.now.circuit.adders.items)) }
-{
-    let name = made.spec.name.as_str();
-    let planned = &made.circuit.planned;
-    let vhdl = NewFile {
-        name: vhdl_name(alloc, name)?,
-        bytes: text(alloc, &planned.design)?,
-    };
-    let report = NewFile {
-        name: report_name(alloc, name)?,
-        bytes: report_text(alloc, &made.spec, planned, &made.circuit.adders)?,
-    };
-    let line = wrote_line(alloc, name, planned.latency)?;
-    Ok(with_files(alloc, line, vhdl, report)?)
-}
-
-/// What `generate` answers to the bytes of a specification.
-pub(crate) fn generated<R: Threads + Sync, G: Gate + Sync>(
-    rt: &R,
-    alloc: Global,
-    bytes: &[u8],
-    enable: bool,
-    workers: u32,
-    targets: Vec<Box<dyn Target>>,
-    gate: &G,
-) -> Result<Answer, Refusal>
-    requires workers { (1 ≤ workers) × (workers ≤ 32) }
-    ensures answer { Answers result (IsAnswerToSpec bytes.now (devices_of target_name delays adjustable targets.items) (IsGenerated enable)) }
-    ensures listed { Answers result IsListed }
-{
-    match specified_by(rt, alloc, bytes, enable, workers, targets, gate) {
-        Ok(made) => Ok(written(alloc, &made)?),
-        Err(refusal) => Err(refusal),
-    }
 }

@@ -1,28 +1,30 @@
-//! The program, from the words of its command line to its status.
+//! The program: from the words of the command line, the files and the targets to files, a line and a status.
+//!
+//! Proved: The clauses in docs/GUARANTEES.md. The net of a specification.
+//!
+//! By: `run`, and inside the crate `build_net`; the law `circuits_serve`.
 #![tactic(auto)]
 
 mod answer;
 mod check;
 mod circuit;
+mod context;
+mod dispatch;
+mod fetch;
 mod generate;
 mod laws;
 mod line;
-mod prepare;
 mod program;
+mod read;
 mod run_rows;
-mod run_streams;
 mod simulate;
-mod specified;
 mod status;
 mod store_all;
 mod targets;
 mod vectors;
 mod workload;
 
-pub use laws::{
-    answers_have_causes, any_workers, circuits_are_sound, circuits_serve, lines_are_fixed,
-    one_answer, one_circuit, one_net, refusals_are_due, some_answer, workloads_are_good,
-};
+pub use laws::circuits_serve;
 pub use opgen_search::{Gate, OpenGate};
 pub use opgen_target::Target;
 pub use opgen_workload::workload_spec;

@@ -8,15 +8,16 @@ ghost use Rattle.opgen_command.specs.Command.{command_of};
 ghost use Rattle.opgen_top.specs.Due.{IsAnswered};
 ghost use Rattle.opgen_top.specs.Headline.{Headline};
 ghost use Rattle.opgen_top.specs.Left.{LeftByFault, LeftByMemory};
-ghost use Rattle.opgen_top.specs.Prepared.{answer_of, line_status, line_text, refusal_of, IsPrepared};
+ghost use Rattle.opgen_top.specs.Prepared.{answer_of, line_status, line_text, reads_of, refusal_of, IsPrepared};
 ghost use Rattle.opgen_top.specs.Printed.{IsPrinted};
 ghost use Rattle.opgen_top.specs.Statuses.{IsDueStatus, IsSilent, IsStatus, Refuses, TellsOr};
 ghost use Rattle.opgen_top.specs.Targets.{devices_of};
 
 use crate::answer::{Answer, Refusal, without_file};
+use crate::context::Context;
+use crate::dispatch::answer_command;
 use crate::laws::circuits_serve;
 use crate::line::Line;
-use crate::prepare::prepare;
 use crate::status::Status;
 use crate::store_all::store_all;
 use opgen_command::{CommandFault, read_command};
@@ -26,55 +27,6 @@ use opgen_search::Gate;
 use opgen_target::Target;
 use std::alloc::Global;
 use std::thread::Threads;
-
-/// What is answered to the words. The folder's files stay as they are.
-fn answer<R: Threads + Sync, F: Folder, G: Gate + Sync>(
-    rt: &R,
-    alloc: Global,
-    words: &[String],
-    folder: &mut F,
-    targets: Vec<Box<dyn Target>>,
-    gate: &G,
-) -> Result<Answer, Memory>
-    ensures told_same { F.told folder.new ≡ F.told folder.old }
-    ensures write_faults_same { F.write_faults folder.new ≡ F.write_faults folder.old }
-    ensures usage_due { command_of (map string_bytes words.now) ≡ None →
-        IfOk result (λ a. answer_of a ≡ refusal_of Line.Usage) }
-    ensures prepared { IfOk result (λ a. IsPrepared (command_of (map string_bytes words.now))
-        (devices_of target_name delays adjustable targets.items) (F.told folder.old)
-        (record { faults = F.read_faults folder.old; lacks = F.lacks folder.old; longs = F.longs folder.old })
-        (record { faults = F.read_faults folder.new; lacks = F.lacks folder.new; longs = F.longs folder.new })
-        (answer_of a)) }
-{
-    let asked = match read_command(alloc, words) {
-        Ok(asked) => asked,
-        Err(CommandFault::Usage) => return Ok(without_file(alloc, Line::Usage)),
-        Err(CommandFault::Memory) => return Err(Memory),
-    };
-    match prepare(rt, alloc, &asked, folder, targets, gate) {
-        Ok(answer) => Ok(answer),
-        Err(Refusal::Line(line)) => Ok(without_file(alloc, line)),
-        Err(Refusal::Memory) => Err(Memory),
-    }
-}
-
-/// Prints the line, and gives the status that comes with it; where the line is refused, 4 or 5.
-fn printed<K: Sink>(line: &Line, out: &mut K) -> Status
-    ensures status { TellsOr (line_status line.now) (K.faults out.old) (K.faults out.new) result.0 }
-    ensures listed { IsStatus result.0 }
-    ensures taken { (held : List ℕ) → K.taken out.old ≡ Some held →
-        IsSilent result.0 ⊎ (K.taken out.new ≡ Some (held ++ line_text line.now)) }
-    ensures part { result.0 ≡ 4 → TakesPrefix (K.taken out.old) (line_text line.now) (K.taken out.new) }
-    ensures silent { Stood (K.faults out.old) (K.faults out.new) → (result.0 ≡ 4 → ⊥) }
-    ensures none { result.0 ≡ 5 → K.taken out.new ≡ K.taken out.old }
-    ensures tells { is_some (K.taken out.new) ≡ is_some (K.taken out.old) }
-{
-    match out.put(line.as_str().as_bytes()) {
-        Ok(()) => Status(line.status()),
-        Err(PutFault::Failed) => Status(4),
-        Err(PutFault::Memory) => Status(5),
-    }
-}
 
 /// Runs the program: `words` are the words after its name.
 ///
@@ -160,13 +112,65 @@ pub fn run<R: Threads + Sync, F: Folder, K: Sink, G: Gate + Sync>(
 {
     // The headline says what the law says of the circuit.
     circuits_serve();
-    let answer = match answer(rt, alloc, words, folder, targets, gate) {
+    let context = Context {
+        rt,
+        alloc,
+        targets,
+        gate,
+    };
+    let answer = match answer_words(words, folder, context) {
         Ok(answer) => answer,
         Err(_) => return Status(5),
     };
     match store_all(&answer.stores, folder) {
-        Ok(()) => printed(&answer.line, out),
+        Ok(()) => print_line(&answer.line, out),
         Err(StoreFault::Failed) => Status(4),
         Err(StoreFault::Memory) => Status(5),
+    }
+}
+
+/// The answer to the words, before anything is stored. The folder's files stay as they are.
+fn answer_words<R: Threads + Sync, F: Folder, G: Gate + Sync>(
+    words: &[String],
+    folder: &mut F,
+    context: Context<'_, R, G>,
+) -> Result<Answer, Memory>
+    ensures told_same { F.told folder.new ≡ F.told folder.old }
+    ensures write_faults_same { F.write_faults folder.new ≡ F.write_faults folder.old }
+    ensures usage_due { command_of (map string_bytes words.now) ≡ None →
+        IfOk result (λ a. answer_of a ≡ refusal_of Line.Usage) }
+    ensures prepared { IfOk result (λ a. IsPrepared (command_of (map string_bytes words.now))
+        (devices_of target_name delays adjustable context.entry.targets.items) (F.told folder.old)
+        (reads_of F.read_faults F.lacks F.longs folder.old) (reads_of F.read_faults F.lacks F.longs folder.new)
+        (answer_of a)) }
+{
+    let alloc = context.alloc;
+    let asked = match read_command(alloc, words) {
+        Ok(asked) => asked,
+        Err(CommandFault::Usage) => return Ok(without_file(alloc, Line::Usage)),
+        Err(CommandFault::Memory) => return Err(Memory),
+    };
+    match answer_command(&asked, folder, context) {
+        Ok(answer) => Ok(answer),
+        Err(Refusal::Line(line)) => Ok(without_file(alloc, line)),
+        Err(Refusal::Memory) => Err(Memory),
+    }
+}
+
+/// Prints the line, and returns the status that comes with it; where the line is refused, 4 or 5.
+fn print_line<K: Sink>(line: &Line, out: &mut K) -> Status
+    ensures status { TellsOr (line_status line.now) (K.faults out.old) (K.faults out.new) result.0 }
+    ensures listed { IsStatus result.0 }
+    ensures taken { (held : List ℕ) → K.taken out.old ≡ Some held →
+        IsSilent result.0 ⊎ (K.taken out.new ≡ Some (held ++ line_text line.now)) }
+    ensures part { result.0 ≡ 4 → TakesPrefix (K.taken out.old) (line_text line.now) (K.taken out.new) }
+    ensures silent { Stood (K.faults out.old) (K.faults out.new) → (result.0 ≡ 4 → ⊥) }
+    ensures none { result.0 ≡ 5 → K.taken out.new ≡ K.taken out.old }
+    ensures tells { is_some (K.taken out.new) ≡ is_some (K.taken out.old) }
+{
+    match out.put(line.as_str().as_bytes()) {
+        Ok(()) => Status(line.status()),
+        Err(PutFault::Failed) => Status(4),
+        Err(PutFault::Memory) => Status(5),
     }
 }

@@ -3,7 +3,7 @@ ghost use Rattle.std.specs.Prelude.{◌≡◌, find, All, IfOk, true};
 ghost use Rattle.std.specs.Str.{bytes_eq};
 ghost use Rattle.opgen_operator.specs.Valid.{IsDelayLine, IsValidSpec};
 ghost use Rattle.opgen_target.specs.Delays.{with_line};
-ghost use Rattle.opgen_top.specs.Prepared.{IsListed, Refused};
+ghost use Rattle.opgen_top.specs.Prepared.{IfRefused, IsListed};
 ghost use Rattle.opgen_top.specs.Specified.{OnTarget};
 ghost use Rattle.opgen_top.specs.Targets.{chosen, devices_of, takes_lines, tuned, IsTableOf};
 
@@ -56,14 +56,14 @@ fn takes_all(target: &mut Box<dyn Target>, lines: &[DelayLine]) -> bool
 }
 
 /// The target of a specification, with its table after the delay lines.
-pub(crate) fn target_of(
+pub(crate) fn choose_target(
     targets: Vec<Box<dyn Target>>,
     spec: &Spec,
 ) -> Result<Box<dyn Target>, Refusal>
     requires { IsValidSpec spec.now }
     ensures table { IfOk result (λ t. IsTableOf spec.now (devices_of target_name delays adjustable targets.items) (delays t)) }
-    ensures refused { Refused result (λ a. OnTarget (chosen spec.now.target (devices_of target_name delays adjustable targets.items)) spec.now a (λ table. ⊥)) }
-    ensures listed { Refused result IsListed }
+    ensures refused { IfRefused result (λ a. OnTarget (chosen spec.now.target (devices_of target_name delays adjustable targets.items)) spec.now a (λ table. ⊥)) }
+    ensures listed { IfRefused result IsListed }
 {
     let Some(mut target) = first_of_name(targets, spec.target.as_str()) else {
         return Err(Refusal::Line(Line::UnknownTarget));

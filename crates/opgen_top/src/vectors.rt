@@ -1,23 +1,76 @@
-//! From the bytes of a specification to what `vectors` answers.
-ghost use Rattle.std.specs.Prelude.{◌≡◌, false, IfOk, string_bytes};
+//! The command `vectors`: from a specification to rows of drawn inputs and the outputs of its circuit.
+ghost use Rattle.std.specs.Prelude.{◌≡◌, false, IfOk, Some, string_bytes};
+ghost use Rattle.opgen_command.specs.declared.command.Command.TheVariants.{Vectors};
 ghost use Rattle.opgen_design.specs.Sound.{HasNumbers, IsSound};
 ghost use Rattle.opgen_operator.specs.Valid.{IsValidSpec};
 ghost use Rattle.opgen_top.specs.Answer.{vectors_name};
 ghost use Rattle.opgen_top.specs.Circuit.{ports_for};
 ghost use Rattle.opgen_top.specs.Lines.{wrote_vectors_line};
-ghost use Rattle.opgen_top.specs.Prepared.{answer_of, Answers, HasRows, IsListed};
-ghost use Rattle.opgen_top.specs.Specified.{IsAnswerToSpec, IsVectors};
+ghost use Rattle.opgen_top.specs.Prepared.{answer_of, reads_of, HasRows, IsPrepared, OnAnswer};
 ghost use Rattle.opgen_top.specs.Targets.{devices_of};
 
 use crate::answer::{Answer, Refusal, with_file};
+use crate::circuit::make_circuit;
+use crate::context::Context;
+use crate::fetch::{MAX_SPEC_LEN, fetch};
+use crate::read::read_specification;
 use crate::run_rows::{Rows, run_text};
-use crate::specified::{Specified, specified_by};
+use opgen_design::Design;
+use opgen_io::Folder;
 use opgen_num::Memory;
 use opgen_search::Gate;
-use opgen_target::Target;
+use opgen_spec::Spec;
 use opgen_vec::stimulus;
 use std::alloc::{AllocError, Global};
 use std::thread::Threads;
+
+/// Reads a specification, makes its circuit, and answers with the rows of its run over drawn inputs.
+pub(crate) fn make_vectors<R: Threads + Sync, F: Folder, G: Gate + Sync>(
+    file: &str,
+    seed: u32,
+    cycles: u32,
+    folder: &mut F,
+    context: Context<'_, R, G>,
+) -> Result<Answer, Refusal>
+    ensures told_same { F.told folder.new ≡ F.told folder.old }
+    ensures write_faults_same { F.write_faults folder.new ≡ F.write_faults folder.old }
+    ensures prepared { OnAnswer result (IsPrepared (Some (Vectors file.now seed cycles))
+        (devices_of target_name delays adjustable context.entry.targets.items) (F.told folder.old)
+        (reads_of F.read_faults F.lacks F.longs folder.old) (reads_of F.read_faults F.lacks F.longs folder.new)) }
+{
+    let alloc = context.alloc;
+    let document = fetch(alloc, file, MAX_SPEC_LEN, folder)?;
+    let spec = read_specification(alloc, &document)?;
+    let circuit = make_circuit(&spec, false, 1, context)?;
+    Ok(run_stimulus(alloc, &spec, circuit.planned.design, seed, cycles)?)
+}
+
+/// The answer that stores the rows of a design over the stimulus of its specification.
+fn run_stimulus(
+    alloc: Global,
+    spec: &Spec,
+    design: Design,
+    seed: u32,
+    cycles: u32,
+) -> Result<Answer, Memory>
+    requires valid { IsValidSpec spec.now }
+    requires sound { IsSound design }
+    requires numbers { HasNumbers design }
+    requires ports { design.ports ≡ ports_for spec.now false }
+    ensures { IfOk result (λ a. HasRows spec.now design seed cycles (answer_of a)) }
+{
+    let rows = Rows {
+        count: cycles,
+        inputs: stimulus(alloc, spec, seed as u64, cycles)?,
+    };
+    let name = spec.name.as_str();
+    Ok(with_file(
+        alloc,
+        wrote_vectors_line(alloc, name, cycles)?,
+        vectors_name(alloc, name)?,
+        run_text(alloc, design, &rows)?,
+    )?)
+}
 
 fn vectors_name(alloc: Global, name: &str) -> Result<String, AllocError>
     ensures { IfOk result (λ file. string_bytes file ≡ vectors_name name.now) }
@@ -32,46 +85,4 @@ fn wrote_vectors_line(alloc: Global, name: &str, cycles: u32) -> Result<String, 
     write!(line, "wrote {name}.vec, ")?;
     writeln!(line, "{cycles} cycles")?;
     Ok(line)
-}
-
-/// The rows of a circuit over its stimulus, with the line that tells of them.
-fn ran(alloc: Global, made: Specified, seed: u32, cycles: u32) -> Result<Answer, Memory>
-    requires valid { IsValidSpec made.spec }
-    requires sound { IsSound made.circuit.planned.design }
-    requires numbers { HasNumbers made.circuit.planned.design }
-    requires ports { made.circuit.planned.design.ports ≡ ports_for made.spec false }
-    ensures { IfOk result (λ a. HasRows made.spec made.circuit.planned.design seed cycles (answer_of a)) }
-{
-    let Specified { spec, circuit } = made;
-    let planned = circuit.planned;
-    let rows = Rows {
-        count: cycles,
-        inputs: stimulus(alloc, &spec, seed as u64, cycles)?,
-    };
-    let name = spec.name.as_str();
-    Ok(with_file(
-        alloc,
-        wrote_vectors_line(alloc, name, cycles)?,
-        vectors_name(alloc, name)?,
-        run_text(alloc, planned.design, &rows)?,
-    )?)
-}
-
-/// What `vectors` answers to the bytes of a specification.
-pub(crate) fn vectors_of<R: Threads + Sync, G: Gate + Sync>(
-    rt: &R,
-    alloc: Global,
-    bytes: &[u8],
-    seed: u32,
-    cycles: u32,
-    targets: Vec<Box<dyn Target>>,
-    gate: &G,
-) -> Result<Answer, Refusal>
-    ensures answer { Answers result (IsAnswerToSpec bytes.now (devices_of target_name delays adjustable targets.items) (IsVectors seed cycles)) }
-    ensures listed { Answers result IsListed }
-{
-    match specified_by(rt, alloc, bytes, false, 1, targets, gate) {
-        Ok(made) => Ok(ran(alloc, made, seed, cycles)?),
-        Err(refusal) => Err(refusal),
-    }
 }

@@ -1,21 +1,23 @@
-//! What `workload` answers.
+//! The command `workload`: plans and runs a filter that is made from a number.
 ghost use Rattle.std.specs.Prelude.{◌≡◌, ◌≤◌, false, IfOk, string_bytes};
 ghost use Rattle.opgen_design.specs.Sound.{HasNumbers, IsSound};
 ghost use Rattle.opgen_operator.specs.Valid.{IsValidSpec};
 ghost use Rattle.opgen_workload.specs.Filter.{workload_spec};
 ghost use Rattle.opgen_top.specs.Circuit.{ports_for};
 ghost use Rattle.opgen_top.specs.Lines.{worked_line};
-ghost use Rattle.opgen_top.specs.Prepared.{answer_of, Answers, HasWorked, IsListed};
+ghost use Rattle.opgen_top.specs.Prepared.{answer_of, HasWorked, IsListed, OnAnswer};
 ghost use Rattle.opgen_top.specs.Targets.{devices_of};
 ghost use Rattle.opgen_top.specs.Workload.{IsAnswerToWorkload};
 
 use crate::answer::{Answer, Refusal, without_file};
+use crate::circuit::make_circuit;
+use crate::context::Context;
 use crate::line::Line;
-use crate::run_rows::{Rows, run_rows};
-use crate::specified::{Specified, made_for};
 use opgen_num::Memory;
+use opgen_pipe::Planned;
 use opgen_search::Gate;
-use opgen_target::Target;
+use opgen_sim::run_rows;
+use opgen_spec::Spec;
 use opgen_vec::stimulus;
 use opgen_workload::{good_cycles, workload_spec};
 use std::alloc::{AllocError, Global};
@@ -23,6 +25,38 @@ use std::thread::Threads;
 
 /// How many cycles the filter runs.
 const CYCLES: u32 = 64;
+
+/// Makes the filter of a number and its circuit, and answers with the line on its run.
+pub(crate) fn run_workload<R: Threads + Sync, G: Gate + Sync>(
+    n: u32,
+    context: Context<'_, R, G>,
+) -> Result<Answer, Refusal>
+    requires { (1 ≤ n) × (n ≤ 32) }
+    ensures answer { OnAnswer result (IsAnswerToWorkload n (devices_of target_name delays adjustable context.entry.targets.items)) }
+    ensures listed { OnAnswer result IsListed }
+{
+    let alloc = context.alloc;
+    let spec = workload_spec(alloc, n)?;
+    let circuit = make_circuit(&spec, false, 1, context)?;
+    Ok(run_filter(alloc, n, &spec, circuit.planned)?)
+}
+
+/// How many cycles of the filter's run over its stimulus are good, in a line with its size.
+fn run_filter(alloc: Global, n: u32, spec: &Spec, planned: Planned) -> Result<Answer, Memory>
+    requires filter { spec.now ≡ workload_spec n }
+    requires valid { IsValidSpec spec.now }
+    requires sound { IsSound planned.design }
+    requires numbers { HasNumbers planned.design }
+    requires ports { planned.design.ports ≡ ports_for spec.now false }
+    ensures { IfOk result (λ a. HasWorked n planned (answer_of a)) }
+{
+    let inputs = stimulus(alloc, spec, n as u64, CYCLES)?;
+    let signals = planned.design.signals.len();
+    let outputs = run_rows(alloc, planned.design, CYCLES, &inputs.cells)?;
+    let good = good_cycles(spec, &inputs.cells, &outputs, planned.latency);
+    let line = worked_line(alloc, n, signals, planned.latency, good)?;
+    Ok(without_file(alloc, Line::Wrote(line)))
+}
 
 fn worked_line(
     alloc: Global,
@@ -39,45 +73,4 @@ fn worked_line(
     write!(line, "{latency} good ")?;
     writeln!(line, "{good}")?;
     Ok(line)
-}
-
-/// How many cycles of the filter's run over its stimulus are good, in a line with its size.
-fn judged(alloc: Global, n: u32, made: Specified) -> Result<Answer, Memory>
-    requires filter { made.spec ≡ workload_spec n }
-    requires valid { IsValidSpec made.spec }
-    requires sound { IsSound made.circuit.planned.design }
-    requires numbers { HasNumbers made.circuit.planned.design }
-    requires ports { made.circuit.planned.design.ports ≡ ports_for made.spec false }
-    ensures { IfOk result (λ a. HasWorked n made.circuit.planned (answer_of a)) }
-{
-    let Specified { spec, circuit } = made;
-    let planned = circuit.planned;
-    let rows = Rows {
-        count: CYCLES,
-        inputs: stimulus(alloc, &spec, n as u64, CYCLES)?,
-    };
-    let signals = planned.design.signals.len();
-    let outputs = run_rows(alloc, planned.design, 1, 1, &rows)?;
-    let good = good_cycles(&spec, &rows.inputs.cells, &outputs, planned.latency);
-    let line = worked_line(alloc, n, signals, planned.latency, good)?;
-    Ok(without_file(alloc, Line::Wrote(line)))
-}
-
-/// What `workload` answers to a number.
-pub(crate) fn workload<R: Threads + Sync, G: Gate + Sync>(
-    rt: &R,
-    alloc: Global,
-    n: u32,
-    targets: Vec<Box<dyn Target>>,
-    gate: &G,
-) -> Result<Answer, Refusal>
-    requires { (1 ≤ n) × (n ≤ 32) }
-    ensures answer { Answers result (IsAnswerToWorkload n (devices_of target_name delays adjustable targets.items)) }
-    ensures listed { Answers result IsListed }
-{
-    let spec = workload_spec(alloc, n)?;
-    match made_for(rt, alloc, spec, false, 1, targets, gate) {
-        Ok(made) => Ok(judged(alloc, n, made)?),
-        Err(refusal) => Err(refusal),
-    }
 }

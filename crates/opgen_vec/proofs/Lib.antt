@@ -7,5 +7,4 @@ pub mod Writing
 pub mod Draws
 pub mod OneReading
 pub mod RowsInStreams
-pub mod ColumnBits
 pub mod GoodRows

@@ -1,3 +1,4 @@
+-- Definitions of opgen_vec: files of vectors, their reading and writing, drawn stimuli, and rows of outputs that are good.
 pub mod Rows
 pub mod Digits
 pub mod Reading

@@ -2,11 +2,12 @@
 use Rattle.std.specs.Prelude.{◌≡◌, ℕ, true, false, List, [], ◌∷◌, map, codes}
 use Rattle.std.specs.Str.{str_to_ascii_lowercase}
 use Rattle.std.specs.Str.Lines.{lines}
+use Rattle.opgen_streams.specs.Rows.{row_in, words}
 use Rattle.opgen_streams.specs.Streams.{words_in}
 use Rattle.opgen_vec.specs.Rows.{row_text}
 use Rattle.opgen_vec.specs.Writing.{rows_text}
 use Rattle.opgen_vec.specs.Stimulus.{next, drawn}
-use Rattle.opgen_vec.specs.Streams.{words, row_or_zeros, row_in, rows_in}
+use Rattle.opgen_vec.specs.Streams.{row_or_zeros, rows_in}
 
 -- rows of one and of two ports, lines with and without a carriage return, and texts of runs with and without inputs
 pub record TextsCompute : Type 0 where

@@ -1,3 +1,4 @@
+//! Why a text is rejected as a file of vectors, and how that prints.
 ghost use Rattle.std.specs.Prelude.{◌≡◌, Some};
 ghost use Rattle.opgen_vec.specs.Fault.{fault_text};
 

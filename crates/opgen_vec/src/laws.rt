@@ -1,3 +1,4 @@
+//! Laws of files of vectors: a file has one reading, and the definitions give what was worked out by hand.
 ghost use Rattle.opgen_vec.specs.Reading.{HasOneReading};
 ghost use Rattle.opgen_vec.specs.Worked.{TextsCompute, DrawsCompute, StreamsCompute};
 

@@ -1,4 +1,13 @@
 //! Files of vectors: rows of words in hexadecimal, one line for each cycle.
+//!
+//! Proved: The cells of a file of vectors, exactly if its lines are rows; otherwise the first bad line, or that there are
+//! too many lines. A file has at most one reading. The text of a run. The draws of the stimulus. Rows put into streams, with
+//! zeros if there is no row, and taken out of them. Whether a row of outputs is good, exactly by the definition. How a fault
+//! prints.
+//!
+//! By: `read_vectors`, `read_empty_rows`, `one_reading`, `write_rows`, `stimulus`, `next`, `drawn`, `row_count`, `pack`,
+//! `unpack`, `is_good_row`, the `Display` of `VecFault`; the law `definitions_compute`, by which definitions return what was
+//! worked out by hand.
 #![tactic(auto)]
 
 mod draw;

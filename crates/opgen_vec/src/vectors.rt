@@ -1,3 +1,4 @@
+//! Rows of words as one list of numbers, row after row.
 ghost use Rattle.std.specs.Prelude.{◌≡◌, ◌*◌, ◌/◌, length};
 
 /// Rows of words, row after row. Each cell is the number of a word.

@@ -1,4 +1,4 @@
--- Tests of the bytes of a text, in ASCII.
+-- Tests of single ASCII bytes: white space, bytes of words, bits, and the marks that begin longer tokens.
 use Rattle.std.specs.Prelude.{ℕ, ◌==◌, ◌||◌, Bool, false, not, List, [], ◌∷◌}
 use Rattle.std.specs.Char.{is_ascii_alphabetic, is_ascii_digit}
 pub use Rattle.opgen_names.specs.Names.{is_underscore, ends_with_underscore, has_double_underscore, has_single_underscores}

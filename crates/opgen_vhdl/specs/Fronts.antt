@@ -1,4 +1,4 @@
--- What stands at the front of a text, as a function of its bytes.
+-- What is at the front of a text (white space, a comment or a token), as a function of its bytes.
 use Rattle.std.specs.Prelude.{ℕ, ◌+◌, ◌==◌, ◌&&◌, ◌≤◌, ◌<◌, not, List, [], ◌∷◌, Option, Some, None, length, take, drop, nat_le, if◌then◌else◌}
 use Rattle.std.specs.Char.{is_ascii_alphabetic, is_ascii_digit}
 use Rattle.std.specs.List.{prefix_len}

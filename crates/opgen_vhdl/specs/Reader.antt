@@ -1,5 +1,5 @@
--- Reading by descent, as functions of the symbols that are left: what was read and what follows it, or nothing. A reader of
--- texts is held against these functions; the grammar itself is in Grammar and Statements.
+-- Recursive descent as functions of the symbols that are left: what was read and what follows it, or nothing. The contracts of
+-- opgen_read cite them; the grammar itself is in Grammar and Statements.
 use Rattle.std.specs.Prelude.{ℕ, zero, suc, ◌+◌, Bool, true, false, List, [], ◌∷◌, length, replicate, codes, Option, Some, None, is_some, nat_eq, nat_lt, if◌then◌else◌}
 use Rattle.std.specs.Str.{bytes_eq}
 use Rattle.opgen_num.specs.declared.TheConstants.{MAX_WIDTH}

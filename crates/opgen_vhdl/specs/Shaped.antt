@@ -1,4 +1,4 @@
--- Designs whose text is one of the VHDL subset.
+-- Designs whose text is in the VHDL subset.
 use Rattle.std.specs.Prelude.{◌≡◌, ◌≤◌, ◌++◌, length, filter, All, IsTrue, IsSome}
 use Rattle.std.specs.List.{list_any}
 use Rattle.opgen_design.specs.declared.design.Design.{Design}

@@ -1,4 +1,4 @@
--- Where the tokens of a text stand in it.
+-- The place of each token in a text.
 use Rattle.std.specs.Prelude.{ℕ, ◌-◌, ◌≤◌, ◌<◌, List, [], ◌∷◌, take, drop}
 use Rattle.opgen_vhdl.specs.Tokens.{Element, gap, token, IsToken}
 use Rattle.opgen_vhdl.specs.declared.kind.TokenKind.{TokenKind}

@@ -1,4 +1,4 @@
--- Which design a text spells, and the first piece at which a text is none of the VHDL subset.
+-- Which design a text spells, and the first piece at which a text leaves the VHDL subset.
 use Rattle.std.specs.Prelude.{◌≡◌, ℕ, ◌+◌, true, List, ◌++◌, length}
 use Rattle.opgen_design.specs.declared.design.Design.{Design}
 use Rattle.opgen_vhdl.specs.declared.kind.Token.{Token}

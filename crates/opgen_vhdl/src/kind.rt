@@ -1,3 +1,5 @@
+//! The tokens of the VHDL subset as types: their kinds, and where they start and end in a text.
+
 /// The kinds of tokens of the VHDL subset (IEEE 1076-1993, clause 13).
 #[derive(Clone, Copy, Debug, PartialEq, Eq)]
 pub enum TokenKind {

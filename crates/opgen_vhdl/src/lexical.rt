@@ -1,4 +1,4 @@
-// Laws of the tokens of a text.
+//! Laws of tokens: a text is cut into tokens in only one way, and each token is the longest that starts at its offset.
 
 ghost use Rattle.std.specs.Prelude.{◌≡◌, ◌⊎◌, ℕ, ◌<◌, ◌≤◌, List, [], ◌++◌, All, length, map};
 ghost use Rattle.opgen_vhdl.specs.declared.kind.Token.{Token};

@@ -1,3 +1,5 @@
+//! The places in a text of the VHDL subset, such as the ports of the entity or the body of the process.
+
 /// The places of a text of the VHDL subset, between which its pieces lead. A piece ends with `;`.
 #[derive(Clone, Copy, Debug, PartialEq, Eq)]
 pub enum Place {

@@ -1,4 +1,4 @@
-// Laws of what a text spells.
+//! The law that a text spells at most one design, and otherwise has one first error.
 
 ghost use Rattle.std.specs.Prelude.{◌≡◌, ◌⊎◌, ℕ, List};
 ghost use Rattle.opgen_design.specs.declared.design.Design.{Design};

@@ -1,4 +1,4 @@
--- The filter that is made from a number.
+-- The filter that `workload` makes from a number.
 use Rattle.std.specs.Prelude.{ℕ, zero, suc, ◌*◌, true, false, List, [], ◌∷◌, codes, ℤ, pos, negsuc, ◌-ℤ◌}
 use Rattle.opgen_operator.specs.declared.spec.Operator.TheVariants.{Fir}
 use Rattle.opgen_operator.specs.declared.spec.Spec.{Spec}

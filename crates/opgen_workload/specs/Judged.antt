@@ -1,4 +1,4 @@
--- How many cycles of a run of a filter are good.
+-- In how many cycles of a filter's run the output is good.
 use Rattle.std.specs.Prelude.{ℕ, zero, suc, ◌≡◌, ◌+◌, ◌⊎◌, List, [], ◌∷◌, take, slice_index}
 use Rattle.opgen_operator.specs.declared.spec.Operator.{Operator}
 use Rattle.opgen_operator.specs.declared.spec.Operator.TheVariants.{Scale, Fir, Multiply, Divide, Root, Mcm, Constdiv, Poly, Tfir}

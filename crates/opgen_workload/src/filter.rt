@@ -1,3 +1,4 @@
+//! Makes the filter of `workload N`: 8 N taps whose coefficients are drawn from the seed N.
 ghost use Rattle.std.specs.Prelude.{◌≡◌, ◌≤◌, IfOk};
 ghost use Rattle.opgen_operator.specs.Valid.{IsValidSpec};
 ghost use Rattle.opgen_workload.specs.Filter.{coefficient, coefficients, workload_spec, workload_sum};

@@ -1,4 +1,9 @@
-//! The filter that is made from a number, and how many cycles of a run of a filter are good.
+//! The filter of the command `workload`, made from a number, and how many cycles of a filter's run are good.
+//!
+//! Proved: The filter made from a number is a valid specification. How many cycles of a filter's run, from the latency on,
+//! are good.
+//!
+//! By: `workload_spec`, `good_cycles`.
 #![tactic(auto)]
 
 mod filter;

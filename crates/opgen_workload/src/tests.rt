@@ -1,3 +1,4 @@
+//! Tests of the filters of `workload`: their first coefficients, and the count of good cycles.
 use crate::{good_cycles, workload_spec};
 use opgen_operator::Operator;
 use std::test::Fail;

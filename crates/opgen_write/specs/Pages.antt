@@ -1,4 +1,4 @@
--- A text on its way into a sink, page by page.
+-- Text on its way into a sink, page by page.
 use Rattle.std.specs.Prelude.{◌≡◌, ℕ, ◌≤◌, List, ◌++◌, Option, Some, None, is_some, IsSome}
 use Rattle.opgen_io.specs.Bytes.{TakesPrefix}
 use Rattle.opgen_io.specs.Counts.{Rose}

@@ -1,4 +1,4 @@
--- Where the statements of drivers stand.
+-- In which part of an architecture the statement of each driver is written.
 use Rattle.std.specs.Prelude.{Bool}
 use Rattle.opgen_design.specs.declared.design.Driver.{Driver}
 use Rattle.opgen_design.specs.Order.{is_register}

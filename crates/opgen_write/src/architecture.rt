@@ -1,4 +1,4 @@
-//! The text of an architecture, put statement by statement.
+//! Writes the text of an architecture, statement by statement.
 ghost use Rattle.std.specs.Prelude.{◌≡◌, ◌++◌, OnOk, IfOk, string_bytes, codes};
 ghost use Rattle.std.specs.List.{flat_map, list_any};
 ghost use Rattle.opgen_design.specs.Order.{is_register};

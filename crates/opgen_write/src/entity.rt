@@ -1,4 +1,4 @@
-//! The text of an entity.
+//! Writes the text of an entity.
 ghost use Rattle.std.specs.Prelude.{◌≡◌, ◌++◌, OnOk, IfOk, string_bytes};
 ghost use Rattle.std.specs.List.{flat_map};
 ghost use Rattle.opgen_vhdl.specs.DesignText.{direction_text, port_text, entity_text};

@@ -1,4 +1,4 @@
-//! The text of an expression.
+//! Writes the text of an expression.
 ghost use Rattle.std.specs.Prelude.{◌≡◌, ◌++◌, OnOk, decimal, string_bytes};
 ghost use Rattle.opgen_num.specs.Words.{word};
 ghost use Rattle.opgen_design.specs.Plain.{plain, plain_all};

@@ -1,4 +1,4 @@
-//! The laws of written designs.
+//! Laws of written designs: the text of a design spells that design, and its length.
 
 ghost use Rattle.std.specs.Prelude.{◌≤◌, length};
 ghost use Rattle.opgen_design.specs.declared.design.Design.{Design};

@@ -1,4 +1,4 @@
-//! A text's way into a sink, a page at a time.
+//! Collects text in pages of 4,096 bytes and passes each full page to a sink.
 ghost use Rattle.std.specs.Prelude.{◌≡◌, ◌++◌, ◌∷◌, [], ℕ, List, None, IfOk, string_bytes};
 ghost use Rattle.opgen_write.specs.Pages.{Comes};
 

@@ -1,4 +1,4 @@
-//! The texts of statements, one for each driver.
+//! Writes the statement of each driver: an assignment, a choice, a table, a register or an output.
 ghost use Rattle.std.specs.Prelude.{◌≡◌, ◌++◌, OnOk, string_bytes, List, Bool};
 ghost use Rattle.std.specs.List.{flat_map};
 ghost use Rattle.opgen_design.specs.Tree.{Tree};

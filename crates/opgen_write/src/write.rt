@@ -1,4 +1,4 @@
-//! A design's whole text, and its way into a sink.
+//! Writes the whole text of a design into a sink.
 ghost use Rattle.std.specs.Prelude.{◌≡◌, ◌≤◌, ◌++◌, ℕ, List, Some, is_some, OnOk, OnErr, IfOk};
 ghost use Rattle.opgen_io.specs.Bytes.{TakesPrefix};
 ghost use Rattle.opgen_io.specs.Counts.{Rose};

@@ -1,2 +1,0 @@
-pub mod TimesThree
-pub mod Operators

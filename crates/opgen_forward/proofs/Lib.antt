@@ -1,0 +1,3 @@
+pub mod Cycles
+mod RankLaws
+mod Law

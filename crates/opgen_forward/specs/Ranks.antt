@@ -1,0 +1,35 @@
+-- What a driver asks of the rank of its signal.
+use Rattle.std.specs.Prelude.{ℕ, ◌+◌, max, Bool, true, nat_le}
+use Rattle.opgen_design.specs.declared.design.Driver.{Driver}
+use Rattle.opgen_design.specs.declared.design.Driver.TheVariants.{Assign, Choice, Table, Register, Output}
+use Rattle.opgen_design.specs.Tree.{Tree, Trees, name, part, bits, port, inverse, chain, none, more}
+
+abbrev mutual
+  -- the highest rank of the signals that an expression reads, and 0 if it reads none
+  pub highest : (rank : ℕ → ℕ) → Tree → ℕ
+  highest rank (name n) = rank n
+  highest rank (part n high low) = rank n
+  highest rank (bits w) = 0
+  highest rank (port n) = 0
+  highest rank (inverse t) = highest rank t
+  highest rank (chain op ts) = highest_of rank ts
+
+  pub highest_of : (rank : ℕ → ℕ) → Trees → ℕ
+  highest_of rank none = 0
+  highest_of rank (more t ts) = max (highest rank t) (highest_of rank ts)
+
+-- the least rank that is allowed at what a driver drives
+abbrev pub least_rank : (rank : ℕ → ℕ) → Driver → ℕ
+least_rank rank (Assign to e) = highest rank e
+least_rank rank (Choice to on one other) = max (highest rank on) (max (highest rank one) (highest rank other))
+least_rank rank (Table to on rows other) = highest rank on
+least_rank rank (Register to e) = highest rank e + 1
+least_rank rank (Output place e) = highest rank e
+
+-- whether its signal has at least that rank; a port has none
+abbrev pub is_ranked : (rank : ℕ → ℕ) → Driver → Bool
+is_ranked rank (Assign to e) = nat_le (least_rank rank (Assign to e)) (rank to)
+is_ranked rank (Choice to on one other) = nat_le (least_rank rank (Choice to on one other)) (rank to)
+is_ranked rank (Table to on rows other) = nat_le (least_rank rank (Table to on rows other)) (rank to)
+is_ranked rank (Register to e) = nat_le (least_rank rank (Register to e)) (rank to)
+is_ranked rank (Output place e) = true

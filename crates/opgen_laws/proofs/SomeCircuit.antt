@@ -1,0 +1,240 @@
+-- That a specification or a workload has no answer is impossible: it has a circuit, or a refusal.
+use Rattle.std.proofs.Common.{◌≡◌, inl, inr, ⊎_elim, ℕ, zero, suc, ◌-◌, ◌<◌, ◌≤◌, Bool, true, false, List, [], length, map, Option, Some, None, Result, Ok, Err, refl, sym, subst, arith}
+use Rattle.std.specs.List.{concat}
+use Rattle.std.proofs.lemmas.Bool.{cases_lt}
+use Rattle.opgen_design.specs.declared.design.Design.{Design}
+use Rattle.opgen_design.specs.Run.{input_widths}
+use Rattle.opgen_constdiv.specs.Recipe.{net_of as net_of_small}
+use Rattle.opgen_constdiv.proofs.Fits as divisions
+use Rattle.opgen_divide.specs.Recipe.{net_of_pair}
+use Rattle.opgen_divide.proofs.Whole as quotients
+use Rattle.opgen_fir.specs.Recipe.{net_of_sum}
+use Rattle.opgen_fir.proofs.SumNets.{sum-fits}
+use Rattle.opgen_search.proofs.Classical.{decided}
+use Rattle.opgen_search.proofs.SomeNet.{several_net, some_least_graph}
+use Rattle.opgen_mult.proofs.ProductNets.{product_net}
+use Rattle.opgen_net.specs.declared.net.Net.{Net}
+use Rattle.opgen_operator.specs.declared.spec.Operator.{Operator}
+use Rattle.opgen_operator.specs.declared.spec.Operator.TheVariants.{Scale, Fir, Multiply, Divide, Root, Mcm, Constdiv, Poly, Tfir}
+use Rattle.opgen_operator.specs.declared.spec.Spec.{Spec}
+use Rattle.opgen_operator.specs.Bounded.{OutputsAreWide, ProductsHaveWidth}
+use Rattle.opgen_operator.specs.Fits.{FitsSpecsOf}
+use Rattle.opgen_operator.specs.Held.{OutputsHold}
+use Rattle.opgen_operator.specs.Ports.{inputs_of}
+use Rattle.opgen_operator.specs.Valid.{IsValidSpec}
+use Rattle.opgen_operator.proofs.Accepted.{accepted_ranges}
+use Rattle.opgen_pipe.specs.declared.planning.Planned.{Planned}
+use Rattle.opgen_pipe.specs.Cells.{classes, design_cells, need}
+use Rattle.opgen_pipe.specs.Copies.{net_latency}
+use Rattle.opgen_pipe.specs.Pipelined.{design_of}
+use Rattle.opgen_pipe.specs.Planned.{most_signals, slots_of}
+use Rattle.opgen_poly.specs.Recipe.{net_of_poly}
+use Rattle.opgen_poly.proofs.Fits as polynomials
+use Rattle.opgen_report.specs.Report.{report}
+use Rattle.opgen_lanes.specs.Steps.{output_widths}
+use Rattle.opgen_schedule.specs.Schedule.{greatest_time}
+use Rattle.opgen_schedule.specs.Stage.{slot_at}
+use Rattle.opgen_spec.specs.declared.fault.SpecFault.{SpecFault}
+use Rattle.opgen_spec.specs.Document.{tree}
+use Rattle.opgen_spec.specs.Faults.{read}
+use Rattle.opgen_spec.proofs.Validity.{valid_read}
+use Rattle.opgen_sqrt.specs.Recipe.{net_of_single}
+use Rattle.opgen_sqrt.proofs.Whole as roots
+use Rattle.opgen_target.specs.Delays.{Delays, setup}
+use Rattle.opgen_tfir.specs.Recipe.{net_of_taps}
+use Rattle.opgen_tfir.proofs.Filters as filters
+use Rattle.opgen_target.specs.Ledger.{width_sum}
+use Rattle.opgen_vec.specs.Rows.{AreRowsOfCells}
+use Rattle.opgen_vec.specs.Stimulus.{stimulus_cells}
+use Rattle.opgen_vec.specs.Writing.{rows_text}
+use Rattle.opgen_vec.proofs.Draws.{inputs_wide, rows_fit}
+use Rattle.opgen_vhdl.specs.DesignText.{text_of}
+use Rattle.opgen_workload.specs.Filter.{workload_spec}
+use Rattle.opgen_workload.specs.Judged.{Counts, IsGoodCycle}
+use Rattle.opgen_workload.proofs.Valid.{workload_valid}
+use Rattle.opgen_top.specs.Answer.{Answer, not_adjustable, period_too_short, refused, too_large, unknown_target, worked, wrote, wrote_vectors}
+use Rattle.opgen_top.specs.Circuit.{CircuitsServe, IsCircuit, Serves, signals_of}
+use Rattle.opgen_top.specs.Kinds.{AreAddersOf, AreAddersOfOperator, IsFittingNet, IsNetOfOperator}
+use Rattle.opgen_runs.specs.Rows.{IsRunOf, output_cells, rows_words}
+use Rattle.opgen_top.specs.Specified.{IsAnswerToSpec, IsGenerated, IsVectors, OnLines, OnReading, OnTable, OnTarget}
+use Rattle.opgen_top.specs.Targets.{Device, chosen, takes_lines, tuned}
+use Rattle.opgen_top.specs.Workload.{IsAnswerToWorkload, IsWorked, cycles, workload_cells}
+use Rattle.opgen_top.proofs.Building.{accepted_kind, accepted_scale, kind_fitting}
+use Rattle.opgen_top.proofs.ServedPorts.{served_widths}
+use Rattle.opgen_runs.proofs.Rows.{rows_words-widths}
+use Rattle.opgen_vec.proofs.Rows.{length-rows_of_cells}
+
+-- ---- the net and the adders
+
+-- laws that the nets rest on
+pub record NetLaws : Type 0 where
+  pub hold : OutputsHold
+  pub wide : OutputsAreWide
+  pub widths : ProductsHaveWidth
+  pub serve : CircuitsServe
+
+module _ (laws : NetLaws) (spec : Spec) (valid : IsValidSpec spec)
+    (found : (net : Net) (adders : List ℕ) → IsFittingNet spec net → AreAddersOf spec adders → ⊥) where
+  with_net : (op : Operator) (net : Net) (adders : List ℕ) → spec.op ≡ op → IsNetOfOperator op net → FitsSpecsOf op net
+      → AreAddersOfOperator op adders → ⊥
+  with_net op net adders e of fits are =
+      found net adders (kind_fitting spec valid op net e of fits) (subst (λ o. AreAddersOfOperator o adders) (sym e) are)
+
+  of_kind : (op : Operator) → spec.op ≡ op → ⊥
+  of_kind (Scale s) e = with_net (Scale s) (net_of_sum s) [] e refl (sum-fits s (accepted_scale spec valid s e) laws.hold).0 refl
+  of_kind (Fir s) e = with_net (Fir s) (net_of_sum s) [] e refl (sum-fits s (accepted_kind spec valid (Fir s) e) laws.hold).1 refl
+  of_kind (Multiply p) e =
+      let made = product_net laws.widths laws.hold p (accepted_kind spec valid (Multiply p) e) in
+      with_net (Multiply p) made.0 [] e made.1 made.2 refl
+  of_kind (Divide p) e =
+      with_net (Divide p) (net_of_pair p) [] e refl (quotients.fits_specs p (accepted_kind spec valid (Divide p) e)) refl
+  of_kind (Root r) e = with_net (Root r) (net_of_single r) [] e refl (roots.fits_specs r (accepted_kind spec valid (Root r) e)) refl
+  of_kind (Mcm m) e =
+      several_net laws.hold laws.wide m (accepted_kind spec valid (Mcm m) e)
+      (λ made. with_net (Mcm m) made.net made.is.set e made.is made.fits made.is.least.adders)
+  of_kind (Constdiv c) e =
+      with_net (Constdiv c) (net_of_small c.exact c.input.width c.divisor) [] e refl
+      (divisions.fits_specs c (accepted_kind spec valid (Constdiv c) e)) refl
+  of_kind (Poly p) e =
+      with_net (Poly p) (net_of_poly p) [] e refl (polynomials.fits_specs p (accepted_kind spec valid (Poly p) e)) refl
+  of_kind (Tfir f) e =
+      let accepted = accepted_kind spec valid (Tfir f) e in
+      some_least_graph f.taps f.input.width f.extra (accepted_ranges (Tfir f) accepted).taps (
+      λ least. with_net (Tfir f) (net_of_taps f least.graph) least.set e
+      (record { set = least.set; graph = least.graph; least = least.is; by = refl })
+      (filters.fits_specs f accepted least.graph least.serves laws.hold) least.is.adders)
+
+  some_fitting : ⊥
+  some_fitting = of_kind spec.op refl
+
+-- ---- the circuit, or a refusal by the table
+abbrev plan_for : (spec : Spec) (enable : Bool) (net : Net) (table : Delays) → Planned
+plan_for spec enable net table = record {
+  design = design_of spec.name enable net (slot_at (slots_of table spec.period net));
+  latency = net_latency net (slot_at (slots_of table spec.period net));
+  slack = spec.period - setup table - greatest_time (slots_of table spec.period net);
+  cells = map (width_sum (design_cells net (slot_at (slots_of table spec.period net)))) classes;
+}
+
+module _ (laws : NetLaws) (spec : Spec) (valid : IsValidSpec spec) (table : Delays) (enable : Bool) (said : Answer → Type 0)
+    (made : (planned : Planned) (adders : List ℕ) → IsCircuit spec table enable planned adders → ((a : Answer) → said a → ⊥) → ⊥)
+    (found : (a : Answer) → OnTable spec table a (said a) → ⊥) where
+  on_net : (net : Net) (adders : List ℕ) → IsFittingNet spec net → AreAddersOf spec adders → ⊥
+  on_net net adders fitting are =
+      ⊎_elim
+      (λ (short : spec.period < need table net).
+      found (period_too_short (need table net)) (inl (record { net = net; fitting = fitting; short = short; answer = refl })))
+      (λ (long : need table net ≤ spec.period). ⊎_elim
+      (λ (many : most_signals < signals_of table spec.period net).
+      found too_large (inr (inl (record { net = net; fitting = fitting; long_enough = long; many_signals = many; answer = refl }))))
+      (λ (few : signals_of table spec.period net ≤ most_signals).
+      made (plan_for spec enable net table) adders (record {
+        net = net;
+        fitting = fitting;
+        are_adders = are;
+        long_enough = long;
+        few_signals = few;
+        plan = record { design = refl; latency = refl; slack = refl; cells = refl };
+      }) (λ a h. found a (inr (inr h))))
+      (cases_lt most_signals (signals_of table spec.period net)))
+      (cases_lt spec.period (need table net))
+
+  some_table : ⊥
+  some_table = some_fitting laws spec valid on_net
+
+-- ---- the run of a circuit
+some_run : (spec : Spec) → IsValidSpec spec → (latency : ℕ) (d : Design) → Serves spec latency false d → (seed count : ℕ)
+    → (outputs : List ℕ) × IsRunOf d count (stimulus_cells spec seed count) outputs
+some_run spec valid latency d serves seed count =
+    let cells = stimulus_cells spec seed count in
+    let ws = input_widths d in
+    let fit : AreRowsOfCells ws count cells =
+    subst (λ ks. AreRowsOfCells ks count cells) (sym (served_widths spec d serves.ports))
+    (rows_fit spec.op (inputs_of spec) count seed (inputs_wide spec.op valid.op.ranges)) in
+    let run = serves.runs (rows_words ws count cells) (rows_words-widths ws count cells (omega (arith, length-rows_of_cells ws cells count fit))) in
+    (concat (map (output_cells d) run.0), record { words = run.0; runs = run.1; outputs_are = refl })
+
+some_count : (P : ℕ → Type 0) (most : ℕ) → ((count : ℕ) → Counts P most count → ⊥) → ⊥
+some_count P zero found = found 0 refl
+some_count P (suc most) found =
+    some_count P most (λ count h. decided {P = P most} (λ d. elim d [
+      | inl p ↦ found (suc count) (inl (p, h))
+      | inr none ↦ without none count h
+    ]))
+  where
+    without : (P most → ⊥) → (count : ℕ) → Counts P most count → ⊥
+    without none zero h = found 0 (none, h)
+    without none (suc count) h = found (suc count) (inr (none, h))
+
+-- ---- from the bytes and the targets to the answer
+on_lines : (b : Bool) (said : Answer → Type 0) → (((a : Answer) → said a → ⊥) → ⊥) → ((a : Answer) → OnLines b a (said a) → ⊥) → ⊥
+on_lines true said some found = some found
+on_lines false said some found = found not_adjustable refl
+
+on_target : (o : Option Device) (spec : Spec) (said : Delays → Answer → Type 0)
+    → ((table : Delays) → ((a : Answer) → said table a → ⊥) → ⊥)
+    → ((a : Answer) → OnTarget o spec a (λ table. said table a) → ⊥) → ⊥
+on_target (Some device) spec said some found =
+    let table = tuned device.delays spec.delays in
+    on_lines (takes_lines device.adjustable spec.delays) (said table) (some table) found
+on_target None spec said some found = found unknown_target refl
+
+module _ (bytes : List ℕ) (devices : List Device) (said : Spec → Delays → Answer → Type 0)
+    (some : (spec : Spec) → IsValidSpec spec → (table : Delays) → ((a : Answer) → OnTable spec table a (said spec table a) → ⊥) → ⊥)
+  where
+    on_reading : (r : Result Spec SpecFault) → ((spec : Spec) → r ≡ Ok spec → IsValidSpec spec)
+        → ((a : Answer) → OnReading r a (λ spec. OnTarget (chosen spec.target devices) spec a
+        (λ table. OnTable spec table a (said spec table a))) → ⊥) → ⊥
+    on_reading (Ok spec) valid found =
+        on_target (chosen spec.target devices) spec (λ table a. OnTable spec table a (said spec table a))
+        (some spec (valid spec refl)) found
+    on_reading (Err fault) valid found = found (refused fault) refl
+
+    on_bytes : ((a : Answer) → IsAnswerToSpec bytes devices said a → ⊥) → ⊥
+    on_bytes found = on_reading (read (tree bytes)) (valid_read (tree bytes)) found
+
+module _ (laws : NetLaws) where
+  pub some_generated : (bytes : List ℕ) (devices : List Device) (enable : Bool)
+      → ((a : Answer) → IsAnswerToSpec bytes devices (IsGenerated enable) a → ⊥) → ⊥
+  some_generated bytes devices enable found =
+      on_bytes bytes devices (IsGenerated enable) (
+      λ spec valid table. some_table laws spec valid table enable (IsGenerated enable spec table) (
+      λ planned adders circuit made. made (wrote spec.name planned.latency (text_of planned.design) (report spec planned adders))
+      (record { planned = planned; adders = adders; circuit = circuit; answer = refl }))) found
+
+  pub some_vectors : (bytes : List ℕ) (devices : List Device) (seed count : ℕ)
+      → ((a : Answer) → IsAnswerToSpec bytes devices (IsVectors seed count) a → ⊥) → ⊥
+  some_vectors bytes devices seed count found =
+      on_bytes bytes devices (IsVectors seed count) (
+      λ spec valid table. some_table laws spec valid table false (IsVectors seed count spec table) (
+      λ planned adders circuit made.
+      let d = planned.design in
+      let ran = some_run spec valid planned.latency d (laws.serve spec table false planned adders circuit) seed count in
+      let rows = rows_text (input_widths d) (output_widths d) count (stimulus_cells spec seed count) ran.0 in
+      made (wrote_vectors spec.name count rows) (record {
+        planned = planned;
+        adders = adders;
+        circuit = circuit;
+        rows = rows;
+        run = record { outputs = ran.0; run = ran.1; written = refl };
+        answer = refl;
+      }))) found
+
+  pub some_worked : (n : ℕ) → 1 ≤ n → n ≤ 32 → (devices : List Device) → ((a : Answer) → IsAnswerToWorkload n devices a → ⊥) → ⊥
+  some_worked n some few devices found =
+      let spec = workload_spec n in
+      let valid = workload_valid n some few in
+      on_target (chosen spec.target devices) spec (λ table a. OnTable spec table a (IsWorked n table a)) (
+      λ table. some_table laws spec valid table false (IsWorked n table) (
+      λ planned adders circuit made.
+      let d = planned.design in
+      let ran = some_run spec valid planned.latency d (laws.serve spec table false planned adders circuit) n cycles in
+      some_count (IsGoodCycle spec (workload_cells n) ran.0 planned.latency) (cycles - planned.latency) (
+      λ good counts. made (worked n (length d.signals) planned.latency good) (record {
+        planned = planned;
+        adders = adders;
+        circuit = circuit;
+        good = good;
+        judged = record { outputs = ran.0; run = ran.1; counted = counts };
+        answer = refl;
+      })))) found

@@ -1,0 +1,23 @@
+-- What holds of every net and every circuit of a specification: there is at most one, and the circuit is sound.
+use Rattle.std.specs.Prelude.{ℕ, ◌≡◌, Bool, List}
+use Rattle.opgen_design.specs.Sound.{IsSound}
+use Rattle.opgen_net.specs.declared.net.Net.{Net}
+use Rattle.opgen_operator.specs.declared.spec.Spec.{Spec}
+use Rattle.opgen_pipe.specs.declared.planning.Planned.{Planned}
+use Rattle.opgen_target.specs.Delays.{Delays}
+use Rattle.opgen_top.specs.Circuit.{IsCircuit}
+use Rattle.opgen_top.specs.Kinds.{IsNetOf}
+
+-- a specification leaves at most one net
+abbrev pub HasOneNet : Type 0
+HasOneNet = (spec : Spec) (a b : Net) → IsNetOf spec a → IsNetOf spec b → a ≡ b
+
+-- a specification leaves at most one circuit for a table
+abbrev pub HasOneCircuit : Type 0
+HasOneCircuit = (spec : Spec) (table : Delays) (enable : Bool) (p q : Planned) (a b : List ℕ)
+    → IsCircuit spec table enable p a → IsCircuit spec table enable q b → (p ≡ q) × (a ≡ b)
+
+-- every circuit is sound
+abbrev pub CircuitsAreSound : Type 0
+CircuitsAreSound = (spec : Spec) (table : Delays) (enable : Bool) (planned : Planned) (adders : List ℕ)
+    → IsCircuit spec table enable planned adders → IsSound planned.design

@@ -1,0 +1,56 @@
+//! Laws on answers: how many there are, what each says, and what leads to each.
+ghost use Rattle.opgen_laws.specs.Answers.{HasOneAnswer, HasSomeAnswer, IsForAllWorkers};
+ghost use Rattle.opgen_laws.specs.Causes.{AnswersHaveCauses, RefusalsAreDue};
+ghost use Rattle.opgen_laws.specs.Lines.{LinesAreFixed};
+ghost use Rattle.opgen_laws.specs.Workloads.{WorkloadsAreGood};
+
+use opgen_operator::{outputs_are_wide, outputs_hold, products_have_width};
+use opgen_top::circuits_serve;
+
+/// The words, the targets and the files leave at most one answer: its status, its line and its stores.
+pub fn one_answer()
+    ensures { HasOneAnswer }
+{
+    opgen_mult::one_net();
+    opgen_search::one_net();
+    opgen_search::one_adder_set();
+    opgen_search::one_least_graph();
+}
+
+/// That the words, the targets and the files leave no answer is impossible. Which one is due is not said, since nothing here
+/// computes it: `run` gives it where it answers.
+pub fn some_answer()
+    ensures { HasSomeAnswer }
+{
+    outputs_hold();
+    outputs_are_wide();
+    products_have_width();
+    circuits_serve();
+}
+
+/// The number of workers changes no answer: `generate` stores the same bytes and prints the same line for each.
+pub fn any_workers()
+    ensures { IsForAllWorkers }
+{}
+
+/// Each status of an answer that is due says what the words, the targets and the files are.
+pub fn answers_have_causes()
+    ensures { AnswersHaveCauses }
+{}
+
+/// Each cause for which a specification is refused makes that refusal the answer that is due.
+pub fn refusals_are_due()
+    ensures { RefusalsAreDue }
+{}
+
+/// The statuses 2, 3 and 9 have one line each.
+pub fn lines_are_fixed()
+    ensures { LinesAreFixed }
+{}
+
+/// In the line of a workload all cycles from the latency on are good.
+pub fn workloads_are_good()
+    ensures { WorkloadsAreGood }
+{
+    circuits_serve();
+}

@@ -1,5 +1,0 @@
-//! Reports of specifications, with texts that were written by hand.
-#![tactic(auto)]
-
-#[cfg(test)]
-mod reports;

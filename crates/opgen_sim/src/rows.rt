@@ -1,0 +1,108 @@
+//! The outputs of a design over rows of inputs, in the way that is faster.
+ghost use Rattle.std.specs.Prelude.{◌≡◌, IfOk, IfSome, length};
+ghost use Rattle.opgen_design.specs.Run.{input_widths};
+ghost use Rattle.opgen_design.specs.Sound.{HasNumbers, IsSound};
+ghost use Rattle.opgen_runs.specs.Rows.{IsRunOf};
+ghost use Rattle.opgen_sim.specs.Rows.{AreWidths, FitRows, IsForStreams};
+
+use crate::engine::FEW_CYCLES;
+use crate::sim::Sim;
+use crate::streams::run_streams;
+use crate::widths::Widths;
+use opgen_design::{Design, Driver};
+use opgen_forward::depth;
+use opgen_num::Memory;
+use std::alloc::Global;
+
+/// The most rows of a table that is run in streams.
+const MOST_ROWS: usize = 64;
+
+/// Each stream runs as many rows more as the design is deep: streams are taken if those are few beside all rows.
+const ROWS_TO_DEPTH: u32 = 16;
+
+// Each row of a table is compared with the addresses of all streams: many rows are looked up faster one cycle at a time.
+fn has_few_rows(driver: &Driver) -> bool {
+    match driver {
+        Driver::Table {
+            to: _,
+            on: _,
+            rows,
+            other: _,
+        } => rows.len() <= MOST_ROWS,
+        Driver::Assign { .. }
+        | Driver::Choice { .. }
+        | Driver::Register { .. }
+        | Driver::Output { .. } => true,
+    }
+}
+
+// The depth of a design for which streams are the faster way.
+fn depth_for_streams(
+    alloc: Global,
+    design: &Design,
+    widths: &Widths,
+    rows: u32,
+) -> Result<Option<u32>, Memory>
+    requires sound { IsSound design.now }
+    requires numbers { HasNumbers design.now }
+    requires widths { AreWidths design.now widths.now }
+    ensures { IfOk result (λ o. IfSome o (λ depth. IsForStreams design.now rows depth)) }
+{
+    let drivers = design.drivers.as_slice();
+    let some = !widths.inputs.is_empty() && !widths.outputs.is_empty();
+    if some && rows >= FEW_CYCLES && drivers.iter().all(|driver| has_few_rows(driver)) {
+        depth(alloc, design, rows / ROWS_TO_DEPTH)
+    } else {
+        Ok(None)
+    }
+}
+
+// The numbers at the output ports, cycle after cycle.
+fn run_cycles(
+    alloc: Global,
+    design: Design,
+    widths: &Widths,
+    rows: u32,
+    cells: &[u128],
+) -> Result<Vec<u128>, Memory>
+    requires sound { IsSound design }
+    requires numbers { HasNumbers design }
+    requires widths { AreWidths design widths.now }
+    requires rows { FitRows (input_widths design) rows cells.now }
+    ensures { IfOk result (λ outputs. IsRunOf design rows cells.now outputs.items) }
+{
+    let columns = widths.inputs.len();
+    let mut sim = Sim::from_design(alloc, design, rows)?;
+    let mut outputs = vec![in alloc; 0; widths.outputs.len()]?;
+    let mut results = Vec::new(alloc);
+    let mut inputs = cells;
+    let mut left = rows;
+    'rows: while left > 0 {
+        let (given, later) = inputs.split_at(columns);
+        sim.step(given, &mut outputs);
+        results.extend_from_slice(&outputs)?;
+        inputs = later;
+        left -= 1;
+    }
+    Ok(results)
+}
+
+/// The numbers at the output ports of a design over rows of numbers at its input ports, row after row, in the way that is faster: a
+/// cycle at a time; or, if the design only feeds forward, in 256 streams, each of which runs a part of the rows.
+pub fn run_rows(
+    alloc: Global,
+    design: Design,
+    rows: u32,
+    cells: &[u128],
+) -> Result<Vec<u128>, Memory>
+    requires sound { IsSound design }
+    requires numbers { HasNumbers design }
+    requires rows { FitRows (input_widths design) rows cells.now }
+    ensures { IfOk result (λ outputs. IsRunOf design rows cells.now outputs.items) }
+{
+    let widths = Widths::of(alloc, &design)?;
+    match depth_for_streams(alloc, &design, &widths, rows)? {
+        Some(depth) => run_streams(alloc, design, &widths, rows, cells, depth),
+        None => run_cycles(alloc, design, &widths, rows, cells),
+    }
+}

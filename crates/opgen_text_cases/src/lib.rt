@@ -1,9 +1,0 @@
-//! Texts that are cut, written and read as rows, with what was worked out by hand: tests alone.
-#![tactic(auto)]
-
-#[cfg(test)]
-mod cut;
-#[cfg(test)]
-mod rows;
-#[cfg(test)]
-mod written;

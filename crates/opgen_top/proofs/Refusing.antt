@@ -1,0 +1,23 @@
+-- A refusal that is passed on as it is, and a fetch from a folder that has the same files.
+use Rattle.std.proofs.Common.{◌≡◌, Result, subst}
+use Rattle.std.specs.Prelude.{ℕ, List, Option, Vec}
+use Rattle.std.specs.declared.alloc.Global.{Global}
+use Rattle.std.specs.Result.{IsErrAnd}
+use Rattle.std.proofs.lemmas.Result.{err_from_is_err_and}
+use Rattle.opgen_top.specs.declared.answer.Answer.{Answer as Held}
+use Rattle.opgen_top.specs.declared.answer.Refusal.{Refusal}
+use Rattle.opgen_io.specs.Files.{Files}
+use Rattle.opgen_top.specs.Answer.{Answer}
+use Rattle.opgen_top.specs.Prepared.{Fetches, IfRefused, OnAnswer, OnRefusal, Reads}
+
+pub answer_passed : (r : Result Held Refusal) (refusal : Refusal) (said : Answer → Type 0) → IsErrAnd r (λ other. other ≡ refusal)
+    → OnRefusal refusal said → OnAnswer r said
+answer_passed r refusal said is h = let p = err_from_is_err_and r is in rw (p.1, p.2) h
+
+pub refusal_passed : {X : Type 0} (r : Result X Refusal) (refusal : Refusal) (said : Answer → Type 0) → IsErrAnd r (λ other. other ≡ refusal)
+    → OnRefusal refusal said → IfRefused r said
+refusal_passed r refusal said is h = let p = err_from_is_err_and r is in rw (p.1, p.2) h
+
+pub fetched_alike : (name : List ℕ) (most : ℕ) (told other : Option Files) (before now : Reads) (r : Result (Vec ℕ Global) Refusal)
+    → told ≡ other → Fetches name most told before now r → Fetches name most other before now r
+fetched_alike name most told other before now r same h = subst (λ it. Fetches name most it before now r) same h

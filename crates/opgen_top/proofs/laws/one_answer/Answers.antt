@@ -1,5 +1,0 @@
-use Rattle.opgen_top.proofs.OneAnswer.{one_answer}
-use Rattle.opgen_top.proofs.laws.one_answer.Goals as goal
-
-pub returns : goal.returns
-returns c = one_answer (record { products = c.one_net.ensures; multiples = c.one_net-2.ensures; adders = c.one_adder_set.ensures; graphs = c.one_least_graph.ensures })

@@ -1,4 +1,0 @@
-use Rattle.opgen_top.proofs.prepare.prepare.Goals as goal
-
-pub returns-in-Generate-clause-prepared : goal.returns-in-Generate-clause-prepared
-returns-in-Generate-clause-prepared g c = rw (c.in-Generate.is, ← c.as_str-spec.ensures) c.generate.ensures.prepared

@@ -1,0 +1,105 @@
+//! Reads the bytes of a command's files, as a specification, a design or rows, or refuses them.
+ghost use Rattle.std.specs.Prelude.{◌≡◌, ◌≢◌, ◌≤◌, ◌<◌, ◌^◌, All, IfOk, IfErr, Ok, Err, length, string_bytes};
+ghost use Rattle.std.specs.Str.Lines.{lines};
+ghost use Rattle.opgen_num.specs.declared.TheConstants.{MAX_WIDTH};
+ghost use Rattle.opgen_design.specs.Sound.{HasNumbers};
+ghost use Rattle.opgen_operator.specs.Valid.{IsValidSpec};
+ghost use Rattle.opgen_spec.specs.Document.{tree};
+ghost use Rattle.opgen_spec.specs.Faults.{read};
+ghost use Rattle.opgen_vec.specs.Reading.{IsReading};
+ghost use Rattle.opgen_top.specs.Lines.{refused_line, vectors_refused_line, vhdl_refused_line};
+ghost use Rattle.opgen_top.specs.Prepared.{HoldsRows, IfRefused, IsListed};
+ghost use Rattle.opgen_top.specs.Simulate.{GivesDesign, RefusesRows, RefusesVhdl};
+ghost use Rattle.opgen_top.specs.Specified.{OnReading};
+
+use crate::answer::Refusal;
+use crate::line::Line;
+use crate::run_rows::Rows;
+use opgen_design::Design;
+use opgen_read::{ReadFault, read_design};
+use opgen_spec::{Spec, SpecFault, read_spec};
+use opgen_vec::{VecFault, Vectors, read_empty_rows, read_vectors};
+use std::alloc::{AllocError, Global};
+
+fn refused_line(alloc: Global, fault: SpecFault) -> Result<String, AllocError>
+    ensures { IfOk result (λ line. string_bytes line ≡ refused_line fault) }
+{
+    format!(in alloc; "specification: {fault}\n")
+}
+
+/// The specification that the bytes give, where it has no fault.
+pub(crate) fn read_specification(alloc: Global, bytes: &[u8]) -> Result<Spec, Refusal>
+    ensures reads { IfOk result (λ spec. read (tree bytes.now) ≡ Ok spec) }
+    ensures valid { IfOk result IsValidSpec }
+    ensures refused { IfRefused result (λ a. OnReading (read (tree bytes.now)) a (λ spec. ⊥)) }
+    ensures listed { IfRefused result IsListed }
+{
+    match read_spec(alloc, bytes) {
+        Ok(spec) => Ok(spec),
+        Err(SpecFault::Memory) => Err(Refusal::Memory),
+        Err(fault) => Err(Refusal::Line(Line::Refused(refused_line(alloc, fault)?))),
+    }
+}
+
+fn vhdl_refused_line(alloc: Global, fault: ReadFault) -> Result<String, AllocError>
+    ensures { IfOk result (λ line. string_bytes line ≡ vhdl_refused_line fault) }
+{
+    format!(in alloc; "vhdl: {fault}\n")
+}
+
+/// The design that the VHDL spells.
+pub(crate) fn read_vhdl(alloc: Global, bytes: &[u8]) -> Result<Design, Refusal>
+    requires { length bytes.now ≤ 67108864 }
+    ensures gives { IfOk result (GivesDesign bytes.now) }
+    ensures numbers { IfOk result HasNumbers }
+    ensures refused { IfRefused result (RefusesVhdl bytes.now) }
+{
+    match read_design(alloc, bytes) {
+        Ok(design) => Ok(design),
+        Err(ReadFault::Memory) => Err(Refusal::Memory),
+        Err(fault) => Err(Refusal::Line(Line::VhdlRefused(vhdl_refused_line(alloc, fault)?))),
+    }
+}
+
+fn vectors_refused_line(alloc: Global, fault: VecFault) -> Result<String, AllocError>
+    ensures { IfOk result (λ line. string_bytes line ≡ vectors_refused_line fault) }
+{
+    format!(in alloc; "vectors: {fault}\n")
+}
+
+/// The rows of a file of vectors; without widths each line is empty.
+fn rows_of_lines(alloc: Global, bytes: &[u8], widths: &[u32]) -> Result<Rows, VecFault>
+    requires few { length widths.now < 2 ^ 32 }
+    requires narrow { All (λ width. width ≤ MAX_WIDTH) widths.now }
+    ensures rows { IfOk result (HoldsRows widths.now bytes.now) }
+    ensures fault { IfErr result (λ fault. fault ≢ VecFault.Memory → IsReading widths.now (lines bytes.now) (Err fault)) }
+{
+    if widths.is_empty() {
+        return Ok(Rows {
+            count: read_empty_rows(bytes)?,
+            inputs: Vectors {
+                columns: 0,
+                cells: Vec::new(alloc),
+            },
+        });
+    }
+    let inputs = read_vectors(alloc, bytes, widths)?;
+    Ok(Rows {
+        count: inputs.row_count() as u32,
+        inputs,
+    })
+}
+
+/// The rows that the vectors hold for inputs of these widths.
+pub(crate) fn read_rows(alloc: Global, bytes: &[u8], widths: &[u32]) -> Result<Rows, Refusal>
+    requires few { length widths.now < 2 ^ 32 }
+    requires narrow { All (λ width. width ≤ MAX_WIDTH) widths.now }
+    ensures rows { IfOk result (HoldsRows widths.now bytes.now) }
+    ensures refused { IfRefused result (RefusesRows widths.now bytes.now) }
+{
+    match rows_of_lines(alloc, bytes, widths) {
+        Ok(rows) => Ok(rows),
+        Err(VecFault::Memory) => Err(Refusal::Memory),
+        Err(fault) => Err(Refusal::Line(Line::VectorsRefused(vectors_refused_line(alloc, fault)?))),
+    }
+}

@@ -1,5 +1,0 @@
-pub mod Classical
-mod FirstPlaces
-mod Counting
-mod Numbering
-pub mod Verdict

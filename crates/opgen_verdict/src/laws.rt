@@ -1,7 +1,0 @@
-ghost use Rattle.opgen_verdict.specs.Verdict.{HasVerdict};
-
-/// No design is neither sound nor has a first rule that fails: that it has no verdict is impossible. Which of the two holds is not
-/// said, since nothing here decides it.
-pub fn has_verdict()
-    ensures { HasVerdict }
-{}

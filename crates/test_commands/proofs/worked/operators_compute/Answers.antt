@@ -1,0 +1,25 @@
+use Rattle.std.proofs.Common.{refl, arith}
+use Rattle.std.proofs.lemmas.Int.{ints}
+use Rattle.test_commands.proofs.worked.operators_compute.Goals as goal
+
+pub returns : goal.returns
+returns c = record {
+  third_format = refl;
+  third_guard = refl;
+  third_value = refl;
+  third_floor = omega (arith, ints);
+  third_ceiling = omega (arith, ints);
+  third_above = λ h. omega (arith, ints, h);
+  smooth_value = refl;
+  smooth_start = refl;
+  smooth_format = refl;
+  square_format = refl;
+  square_value = refl;
+  quotient_named = refl;
+  quotient_good = (omega arith, omega arith);
+  quotient_rest = λ h. omega (arith, h.1);
+  root_named = refl;
+  root_good = (omega arith, omega arith);
+  root_rest = λ h. omega (arith, h.1);
+  multiple_format = refl;
+}

@@ -1,0 +1,1 @@
+-- Definitions of test_pipe: none, because its tests use those of other crates.

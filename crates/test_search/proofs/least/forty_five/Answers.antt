@@ -1,0 +1,39 @@
+use Rattle.std.proofs.Common.{◌≡◌, ◌≤◌, ◌^◌, ℕ, true, false, [], ◌∷◌, ◌++◌, inl, sym, ap, ◌∙◌, subst, arith}
+use Rattle.std.specs.Prelude.{ℤ, pos, List, Some, None, IsTrue}
+use Rattle.std.proofs.lemmas.Int.{ints}
+use Rattle.std.proofs.lemmas.List.Elements.{All-cons, All-nil}
+use Rattle.opgen_operator.specs.declared.spec.Operator.TheVariants.{Mcm}
+use Rattle.opgen_operator.specs.declared.spec.Several.{Several}
+use Rattle.opgen_operator.specs.Accepted.{IsAcceptedSeveral}
+use Rattle.opgen_operator.specs.Outputs.{inexact, need}
+use Rattle.opgen_operator.specs.Ranges.{IsWithin}
+use Rattle.test_search.proofs.least.forty_five.Goals as goal
+
+abbrev by : List ℤ → Several
+by constants = record { input = record { signed = false; width = 4; lsb = pos 0 }; constants = constants; extra = 1 }
+
+not_asked : IsTrue false → inexact (Mcm (by (pos 45 ∷ []))) ≡ None
+not_asked h = let clash : false ≡ true = h in let wrong : ⊥ = cc in absurd wrong
+
+narrow : (bits : ℕ) → need (Mcm (by (pos 45 ∷ []))) ≡ Some bits → bits ≤ 64
+narrow bits e = let wrong : ⊥ = cc in absurd wrong
+
+accepted : IsAcceptedSeveral (by (pos 45 ∷ []))
+accepted = inl (record {
+  ranges = record {
+    input = record { fewest = omega arith; most = omega arith; lsb = (omega (arith, ints), omega (arith, ints)) };
+    some = omega arith;
+    few = omega arith;
+    constants = All-cons (IsWithin 2047) (pos 45) [] (omega arith) (All-nil (IsWithin 2047));
+    extra = omega arith;
+  };
+  inputs = omega arith;
+  fine = (omega (arith, ints), omega (arith, ints));
+  narrow = narrow;
+  whole = not_asked;
+})
+
+pub build-requires-clause-several : goal.build-requires-clause-several
+build-requires-clause-several g c =
+    let list : c.push.new.self ≡ pos 45 ∷ [] = c.in_ok-push.ensures.ok ∙ ap (λ l. l ++ pos 45 ∷ []) c.new-constants.ensures in
+    λ _. subst (λ l. IsAcceptedSeveral (by l)) (sym list) accepted

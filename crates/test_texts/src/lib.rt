@@ -1,0 +1,11 @@
+//! Texts that are cut, written, reported and read as rows, with what was worked out by hand: tests alone.
+#![tactic(auto)]
+
+#[cfg(test)]
+mod cut;
+#[cfg(test)]
+mod reports;
+#[cfg(test)]
+mod rows;
+#[cfg(test)]
+mod written;
