@@ -6,8 +6,9 @@ TOP is the checkout, COPIES an empty folder. A command of `rt` locks the folders
 each library is built in a copy of the sources under COPIES. The other copies take what was built there as links, and at last so
 does TOP, in which the program is built.
 
-The next library is the one with the longest way to the program: its own lines of code and proofs, and those of the crates above
-it along the longest chain. Processors for which no other library is ready become further jobs of one. The first job of a crate
+The next library is the one with the longest way to the program: its own processor seconds, as they were last measured, and those
+of the crates above it along the longest chain. The measured seconds are in seconds.txt beside this file; a crate that is not
+there counts by its lines of code and proofs. Processors for which no other library is ready become further jobs of one. The first job of a crate
 is left 6 GiB of memory, each further one 3 GiB. RT_JOBS, as for `rt ci`, is the number of processors, whatever memory is free.
 """
 from __future__ import annotations
@@ -21,6 +22,7 @@ from dataclasses import dataclass, field
 from pathlib import Path
 
 PROGRAM = "opgen"
+MEASURED = "tools/opgenlib/seconds.txt"
 # The status is 0 only if the program was proved, built and run.
 RUN = ("--", "workload", "1")
 FIRST_JOB, FURTHER_JOB = 6 << 20, 3 << 20  # KiB of memory
@@ -52,11 +54,21 @@ def lines_of(crate: Path) -> int:
     return sum(path.read_bytes().count(b"\n") for path in files)
 
 
-def ways(crates: dict[str, list[str]], weights: dict[str, int]) -> dict[str, int]:
-    """The weight from each crate to the program: its own and those of the crates above it, along the heaviest chain."""
-    known: dict[str, int] = {}
+def weights_of(top: Path, names: set[str]) -> dict[str, float]:
+    """The processor seconds that proving and building each crate takes: as measured, or else by its lines, at the mean rate."""
+    text = (top / MEASURED).read_text() if (top / MEASURED).exists() else ""
+    rows = [line.split() for line in text.splitlines() if line and not line.startswith("#")]
+    measured = {name: float(seconds) for name, seconds in rows if name in names}
+    lines = {name: lines_of(top / "crates" / name) for name in names}
+    rate = sum(measured.values()) / sum(lines[name] for name in measured) if measured else 1
+    return {name: measured.get(name, lines[name] * rate) for name in names}
 
-    def way(name: str) -> int:
+
+def ways(crates: dict[str, list[str]], weights: dict[str, float]) -> dict[str, float]:
+    """The weight from each crate to the program: its own and those of the crates above it, along the heaviest chain."""
+    known: dict[str, float] = {}
+
+    def way(name: str) -> float:
         if name not in known:
             known[name] = weights[name] + max((way(other) for other in weights if name in crates[other]), default=0)
         return known[name]
@@ -69,7 +81,7 @@ class Schedule:
     """Which crate starts next, and with how many jobs. It has no clock and no processes."""
 
     crates: dict[str, list[str]]
-    way: dict[str, int]
+    way: dict[str, float]
     processors: int
     memory: int  # KiB
     running: dict[str, int] = field(default_factory=dict)
@@ -210,7 +222,7 @@ def main() -> int:
         signal.signal(number, signal.SIG_DFL)
     top, copies = map(Path, sys.argv[1:])
     crates = dependencies(top)
-    weights = {name: lines_of(top / "crates" / name) for name in {PROGRAM, *below(PROGRAM, crates)}}
+    weights = weights_of(top, {PROGRAM, *below(PROGRAM, crates)})
     builder = Builder(top, copies, Schedule(crates, ways(crates, weights), *machine()))
     return 0 if builder.run() else 1
 

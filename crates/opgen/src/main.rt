@@ -20,12 +20,12 @@ fn words(rt: &(impl Env + Alloc<A = Global>)) -> Result<Vec<String>, Status> {
     let mut words = Vec::new(rt.alloc());
     let args = match env::args(rt) {
         Ok(args) => args,
-        Err(fault) if fault.kind() == ErrorKind::OutOfMemory => return Err(Status(5)),
+        Err(fault) if fault.kind() == ErrorKind::OutOfMemory => return Err(Status::OUT_OF_MEMORY),
         Err(_) => return Ok(words),
     };
     for word in args.skip(1) {
         if words.push(word).is_err() {
-            return Err(Status(5));
+            return Err(Status::OUT_OF_MEMORY);
         }
     }
     Ok(words)
@@ -50,7 +50,7 @@ fn status(rt: &(impl Env + Files + Print + Threads + Sync + Alloc<A = Global>)) 
         Ok(words) => words,
         Err(status) => return status,
     };
-    ran(rt, &words).unwrap_or(Status(5))
+    ran(rt, &words).unwrap_or(Status::OUT_OF_MEMORY)
 }
 
 fn main(rt: HostRuntime) -> ExitCode {

@@ -15,7 +15,7 @@ least_of_spent start (x ∷ vs) fits empty none =
     let rest = least_of_spent start vs fits (λ j u at. empty (suc j) u at) (omega (arith, none)) in
     omega (arith, rest, fits, ap (λ (u : View). u.published) x_spent)
 
-least_of_one : (start : ℕ) (vs : List View) (i : ℕ) (v : View) → start ≤ most → EmptyIsSpent vs → get_elem? vs i ≡ some v → shares_of vs
+pub least_of_one : (start : ℕ) (vs : List View) (i : ℕ) (v : View) → start ≤ most → EmptyIsSpent vs → get_elem? vs i ≡ some v → shares_of vs
     ≡ v.share → least_of start vs ≡ min start v.published
 least_of_one start [] i v fits empty at all = absurd (some-ne-none v (sym at))
 least_of_one start (x ∷ vs) zero v fits empty at all =

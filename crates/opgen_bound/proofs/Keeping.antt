@@ -9,6 +9,7 @@ use Rattle.opgen_bound.specs.declared.view.View.{View}
 use Rattle.opgen_bound.specs.Views.{spent, least_of, shares_of, Each}
 use Rattle.opgen_bound.specs.Rule.{IsBound}
 use Rattle.opgen_bound.specs.Steps.{looked, lowered, kept, given, joined, Learns, Looks, Publishes}
+use Rattle.opgen_bound.proofs.Closing.{least_of_one}
 use Rattle.opgen_bound.proofs.Lists.{least_start, least_at, least_set, least_snoc, least_lowered, set_there, shares_set, shares_snoc, each_set, each_snoc}
 
 -- the parts of the rule that speak of one view, where the least number is n
@@ -62,7 +63,12 @@ module _ {S : Type 0} (start : ℕ) (s : State S View) (h : IsBound S start s) (
   start_is = mine.known (omega (arith, some_share))
 
   learns : Learns v (slice_index s.words 0)
-  learns = (omega (arith, found_is start s h, mine.above), omega (arith, start_is, low), own)
+  learns = (
+    omega (arith, found_is start s h, mine.above),
+    omega (arith, start_is, low),
+    own,
+    λ all. omega (arith, found_is start s h, least_of_one start s.views id v h.fits h.empty at (h.shares ∙ sym all), start_is),
+  )
 
   look_keeps : IsBound S start (record {
     words = slice_set s.words 0 (slice_index s.words 0);

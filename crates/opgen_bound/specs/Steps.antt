@@ -29,9 +29,13 @@ given v = record { published = most; seen = v.seen; share = v.share / 2; start =
 abbrev pub joined : View → View → View
 joined v w = record { published = min v.published w.published; seen = min v.seen w.seen; share = v.share + w.share; start = v.start }
 
+-- a pass that holds the whole is the only one: what it finds is the least of the start and what it published
+abbrev pub FindsOwn : View → ℕ → Type 0
+FindsOwn v found = v.share ≡ whole → found ≡ min v.start v.published
+
 -- what a pass learns where it finds a number: it is at most what it saw, which is at most the start and what it published
 abbrev pub Learns : View → ℕ → Type 0
-Learns v found = (found ≤ v.seen) × (v.seen ≤ v.start) × (v.seen ≤ v.published)
+Learns v found = (found ≤ v.seen) × (v.seen ≤ v.start) × (v.seen ≤ v.published) × FindsOwn v found
 
 -- a load and publishing, as steps of a seat of the table
 abbrev pub Looks : {S : Type 0} → Me S View → ℕ → Me S View → Type 0

@@ -1,7 +1,7 @@
 //! The operations on the shared bound: create it, read the least cost, publish a cost, split and join passes, and close it.
 ghost use Rattle.std.specs.Prelude.{◌≡◌, ◌≤◌, min, IfOk};
 ghost use Rattle.opgen_bound.specs.Views.{whole};
-ghost use Rattle.opgen_bound.specs.Steps.{root, looked, lowered, kept, given, joined};
+ghost use Rattle.opgen_bound.specs.Steps.{root, looked, lowered, kept, given, joined, FindsOwn};
 ghost use Rattle.opgen_bound.specs.Passes.{view, IsPassOf};
 
 use crate::bound::{Bound, Pass};
@@ -28,6 +28,7 @@ impl Bound {
         ensures falls { result ≤ (view pass.old).seen }
         ensures seen_start { (view pass.old).seen ≤ (view pass.old).start }
         ensures seen_own { (view pass.old).seen ≤ (view pass.old).published }
+        ensures alone { FindsOwn (view pass.old) result }
     {
         self.table.shared.load::<Look>(&mut pass.seat, 0)
     }
@@ -38,6 +39,7 @@ impl Bound {
         ensures bound { IsPassOf self.now pass.new }
         ensures view { view pass.new ≡ lowered (view pass.old) cost result }
         ensures falls { result ≤ (view pass.old).seen }
+        ensures alone { FindsOwn (view pass.old) result }
     {
         self.table
             .shared

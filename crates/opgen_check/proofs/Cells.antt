@@ -3,12 +3,10 @@ use Rattle.std.proofs.Common.{◌≡◌, inl, inr, ℕ, zero, suc, ◌+◌, ◌-
 use Rattle.std.proofs.Math.Nat.{mod-eq_of_lt, mod-eq-sub-mod, mul-mod_left, mul-le-mul}
 use Rattle.std.proofs.lemmas.Bool.{cases_lt}
 use Rattle.std.proofs.lemmas.List.{length-map, length-take-le, get_or-take, get_or-drop, length-drop}
-use Rattle.opgen_num.specs.Words.{FitWidths}
+use Rattle.opgen_num.proofs.RowsOfCells.{length-cells, length-rows_of_cells}
+use Rattle.opgen_num.specs.Words.{FitWidths, AreRowsOfCells}
 use Rattle.opgen_operator.specs.declared.spec.PortFormat.{PortFormat}
-use Rattle.opgen_operator.specs.Judged.{format_at, IsCycle, IsHistory}
-use Rattle.opgen_sim.specs.Rows.{FitRows}
-use Rattle.opgen_vec.specs.Rows.{AreRowsOfCells}
-use Rattle.opgen_vec.proofs.Rows.{length-cells, length-rows_of_cells}
+use Rattle.opgen_operator.specs.PortNumbers.{format_at, IsCycle, IsHistory}
 
 abbrev widths_of : List PortFormat → List ℕ
 widths_of ports = map (λ p. p.format.width) ports
@@ -73,8 +71,3 @@ module _ (ports : List PortFormat) (some : 0 < length ports) where
             let same : get_or (take (count * n) cells) k 0 ≡ get_or cells k 0 = get_or-take (count * n) cells k 0 within in
             rw same (cell_fits rows cells are k (omega (arith, within, room, all)));
       }
-
--- rows of cells, in the words of the simulator
-pub fit_rows : (widths : List ℕ) (rows : ℕ) (cells : List ℕ) → AreRowsOfCells widths rows cells → FitRows widths rows cells
-fit_rows widths zero cells none = none
-fit_rows widths (suc rows) cells (first, later) = (first, fit_rows widths rows (drop (length widths) cells) later)

@@ -3,16 +3,14 @@ use Rattle.std.proofs.Common.{◌≡◌, inl, inr, ℕ, zero, suc, ◌+◌, ◌<
 use Rattle.std.specs.List.{concat}
 use Rattle.std.proofs.lemmas.Bool.{cases_lt}
 use Rattle.std.proofs.lemmas.List.{take_at, drop_at}
+use Rattle.opgen_num.proofs.RowsOfCells.{length-cells}
 use Rattle.opgen_design.specs.declared.design.Design.{Design}
 use Rattle.opgen_design.specs.Run.{Words, RunsOn, at_ports, input_widths, is_out}
 use Rattle.opgen_design.specs.Sound.{port_widths}
 use Rattle.opgen_operator.specs.declared.spec.Spec.{Spec}
-use Rattle.opgen_num.specs.Words.{FitWidths}
+use Rattle.opgen_num.specs.Words.{FitWidths, AreRowsOfCells, words_of}
 use Rattle.opgen_runs.specs.Rows.{RunsRows, output_cells, rows_words}
-use Rattle.opgen_runs.specs.Step.{words_of}
 use Rattle.opgen_runs.proofs.Rows.{cells-fit, one_outputs}
-use Rattle.opgen_vec.specs.Rows.{AreRowsOfCells}
-use Rattle.opgen_vec.proofs.Rows.{length-cells}
 use Rattle.opgen_check.specs.declared.checked.Checked.{Checked}
 use Rattle.opgen_check.specs.declared.checked.Checked.TheVariants.{Good, Bad}
 use Rattle.opgen_check.specs.Verdict.{HasOneVerdict, IsFirstBad, IsGoodAt, IsJudged, IsVerdict}

@@ -11,7 +11,7 @@ use Rattle.opgen_design.specs.Sound.{port_widths}
 use Rattle.opgen_operator.specs.declared.spec.PortFormat.{PortFormat}
 use Rattle.opgen_operator.specs.declared.spec.Spec.{Spec}
 use Rattle.opgen_operator.specs.Ports.{inputs_of, outputs_of}
-use Rattle.opgen_check.specs.Ports.{IsSamePort, PortsAgree, port_of, ports_for}
+use Rattle.opgen_check.specs.Ports.{IsSamePort, PortsAgree, port_of, operator_ports}
 
 pub zip-length : {X Y : Type 0} (R : X → Y → Type 0) (xs : List X) (ys : List Y) → AllZip R xs ys → length xs ≡ length ys
 zip-length R [] [] all = refl
@@ -44,10 +44,10 @@ outputs_last (i ∷ is) os = outputs_last is os
 
 module _ (spec : Spec) (d : Design) (agree : PortsAgree spec d) where
   pub in_widths : input_widths d ≡ map (λ p. p.format.width) (inputs_of spec)
-  in_widths = same_side is_in d.ports (ports_for spec) agree ∙ inputs_first (inputs_of spec) (outputs_of spec)
+  in_widths = same_side is_in d.ports (operator_ports spec) agree ∙ inputs_first (inputs_of spec) (outputs_of spec)
 
   pub out_widths : at_ports is_out d.ports (port_widths d) ≡ map (λ p. p.format.width) (outputs_of spec)
-  out_widths = same_side is_out d.ports (ports_for spec) agree ∙ outputs_last (inputs_of spec) (outputs_of spec)
+  out_widths = same_side is_out d.ports (operator_ports spec) agree ∙ outputs_last (inputs_of spec) (outputs_of spec)
 
   pub in_columns : length (input_widths d) ≡ length (inputs_of spec)
   in_columns = ap length in_widths ∙ length-map (inputs_of spec) (λ p. p.format.width)
@@ -58,7 +58,7 @@ module _ (spec : Spec) (d : Design) (agree : PortsAgree spec d) where
       let os = map (port_of Out) (outputs_of spec) in
       omega (
         arith,
-        zip-length IsSamePort d.ports (ports_for spec) agree,
+        zip-length IsSamePort d.ports (operator_ports spec) agree,
         length-append is os,
         length-map (inputs_of spec) (port_of In),
         length-map (outputs_of spec) (port_of Out),

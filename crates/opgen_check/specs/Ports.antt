@@ -15,8 +15,8 @@ abbrev pub port_of : Dir → PortFormat → Port
 port_of dir p = record { name = p.name; dir = dir; width = p.format.width }
 
 -- the inputs, and then the outputs
-abbrev pub ports_for : Spec → List Port
-ports_for spec = map (port_of In) (inputs_of spec) ++ map (port_of Out) (outputs_of spec)
+abbrev pub operator_ports : Spec → List Port
+operator_ports spec = map (port_of In) (inputs_of spec) ++ map (port_of Out) (outputs_of spec)
 
 -- two ports with one name in lower case, one direction and one width
 pub record IsSamePort (p q : Port) : Type 0 where
@@ -26,4 +26,4 @@ pub record IsSamePort (p q : Port) : Type 0 where
 
 -- as many ports, and each the same as that at its place
 abbrev pub PortsAgree : Spec → Design → Type 0
-PortsAgree spec d = AllZip IsSamePort d.ports (ports_for spec)
+PortsAgree spec d = AllZip IsSamePort d.ports (operator_ports spec)

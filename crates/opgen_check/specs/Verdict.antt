@@ -5,7 +5,7 @@ use Rattle.opgen_design.specs.Sound.{IsSound}
 use Rattle.opgen_operator.specs.declared.spec.Spec.{Spec}
 use Rattle.opgen_operator.specs.Ports.{inputs_of, outputs_of}
 use Rattle.opgen_runs.specs.Rows.{IsRunOf}
-use Rattle.opgen_vec.specs.Judged.{IsGoodRow}
+use Rattle.opgen_vec.specs.GoodRow.{IsGoodRow}
 use Rattle.opgen_check.specs.declared.checked.Checked.{Checked}
 use Rattle.opgen_check.specs.declared.checked.Checked.TheVariants.{Good, Bad}
 

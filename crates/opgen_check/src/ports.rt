@@ -3,7 +3,7 @@ ghost use Rattle.std.specs.Prelude.{◌≡◌, ◌↔◌, ◌++◌, IfOk, IsTrue
 ghost use Rattle.std.specs.List.{AllZip};
 ghost use Rattle.opgen_design.specs.declared.design.Dir.TheVariants.{In, Out};
 ghost use Rattle.opgen_operator.specs.Valid.{IsValidSpec};
-ghost use Rattle.opgen_check.specs.Ports.{IsSamePort, port_of, ports_for};
+ghost use Rattle.opgen_check.specs.Ports.{IsSamePort, port_of, operator_ports};
 
 use opgen_design::{Dir, Port};
 use opgen_num::Memory;
@@ -50,7 +50,7 @@ fn are_ports(ports: &[Port], inputs: &[PortFormat], outputs: &[PortFormat]) -> b
 /// Whether the ports of a design are those that a specification asks for: its inputs and then its outputs, place by place.
 pub(crate) fn agree(alloc: Global, spec: &Spec, ports: &[Port]) -> Result<bool, Memory>
     requires { IsValidSpec spec.now }
-    ensures { IfOk result (λ agree. IsTrue agree ↔ AllZip IsSamePort ports.now (ports_for spec.now)) }
+    ensures { IfOk result (λ agree. IsTrue agree ↔ AllZip IsSamePort ports.now (operator_ports spec.now)) }
 {
     let inputs = spec.inputs(alloc)?;
     let outputs = spec.outputs(alloc)?;

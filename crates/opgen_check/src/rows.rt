@@ -2,11 +2,10 @@
 ghost use Rattle.std.specs.Prelude.{◌≡◌, ◌<◌, ◌^◌, ◌↔◌, Err, IfOk, IsTrue, length, map};
 ghost use Rattle.opgen_design.specs.Run.{input_widths};
 ghost use Rattle.opgen_design.specs.Sound.{HasNumbers, IsSound};
-ghost use Rattle.opgen_num.specs.Words.{FitWidths};
+ghost use Rattle.opgen_num.specs.Words.{FitWidths, AreRowsOfCells};
 ghost use Rattle.opgen_operator.specs.Ports.{inputs_of, outputs_of};
 ghost use Rattle.opgen_operator.specs.Valid.{IsValidSpec};
-ghost use Rattle.opgen_vec.specs.Judged.{IsGoodRow};
-ghost use Rattle.opgen_vec.specs.Rows.{AreRowsOfCells};
+ghost use Rattle.opgen_vec.specs.GoodRow.{IsGoodRow};
 ghost use Rattle.opgen_vec.specs.Writing.{row_count};
 ghost use Rattle.opgen_check.specs.Ports.{PortsAgree};
 ghost use Rattle.opgen_check.specs.Verdict.{IsChecked, IsVerdict, rows_up_to};
@@ -14,7 +13,6 @@ ghost use Rattle.opgen_check.specs.Verdict.{IsChecked, IsVerdict, rows_up_to};
 use crate::checked::{CheckFault, Checked};
 use crate::ports::agree;
 use opgen_design::Design;
-use opgen_lanes::copy;
 use opgen_num::Memory;
 use opgen_operator::Spec;
 use opgen_sim::run_rows;
@@ -88,7 +86,7 @@ fn judge(
     ensures { IfOk result (IsChecked spec.now design.now latency (row_count inputs.now.columns inputs.now.cells.items) inputs.now.cells.items) }
 {
     let rows = inputs.row_count() as u32;
-    let outputs = run_rows(alloc, copy(alloc, design)?, rows, &inputs.cells)?;
+    let outputs = run_rows(alloc, design.copy(alloc)?, rows, &inputs.cells)?;
     let columns = design.ports.len() - inputs.columns as usize;
     Ok(judge_rows(spec, inputs, latency, columns, &outputs))
 }

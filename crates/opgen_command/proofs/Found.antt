@@ -6,11 +6,11 @@ use Rattle.clap.specs.declared.error.kind.ErrorKind.TheVariants.{OutOfMemory}
 use Rattle.opgen_command.specs.Command.{unless_fault}
 
 -- an error that is no want of memory is a fault
-pub refused : (kinds : Kinds) (found : List Row) (e : Error) → HasKind kinds e → (kind_of e ≡ OutOfMemory → ⊥)
+pub usage_error : (kinds : Kinds) (found : List Row) (e : Error) → HasKind kinds e → (kind_of e ≡ OutOfMemory → ⊥)
     → unless_fault kinds found ≡ None
-refused [] found e (inl memory) other = absurd (other memory)
-refused [] found e (inr h) other = absurd h
-refused (k ∷ ks) found e h other = refl
+usage_error [] found e (inl memory) other = absurd (other memory)
+usage_error [] found e (inr h) other = absurd h
+usage_error (k ∷ ks) found e h other = refl
 
 pub taken : (kinds : Kinds) (found rows : List Row) → kinds ≡ [] → rows ≡ found → unless_fault kinds found ≡ Some rows
 taken kinds found rows none same = rw (none, same) refl

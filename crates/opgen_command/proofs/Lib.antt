@@ -2,4 +2,3 @@ mod Numbers
 mod Found
 mod Meaning
 mod Names
-pub mod Ranges

@@ -1,64 +1,74 @@
 -- The command that was found, by its words and its numbers.
-use Rattle.std.proofs.Common.{◌≡◌, ℕ, Bool, List, Some, None, refl}
-use Rattle.std.specs.Prelude.{codes}
-use Rattle.clap.specs.Words.{Row}
-use Rattle.opgen_command.specs.Command.{word_of, number_of, is_set, generate_of, vectors_of, simulate_of, workload_of, check_of}
-use Rattle.opgen_command.specs.declared.command.Command.TheVariants.{Generate, Vectors, Simulate, Workload, Check}
+use Rattle.std.proofs.Common.{◌≡◌, ℕ, Bool, List, Option, Some, None, Result, refl}
+use Rattle.std.specs.Prelude.{codes, option_and_then}
+use Rattle.std.specs.Result.{IsErrAnd}
+use Rattle.std.proofs.lemmas.Result.{err_from_is_err_and}
+use Rattle.clap.specs.Words.{App, Row}
+use Rattle.opgen_command.specs.Command.{found_by, word_of, number_of, is_set, generate_of, vectors_of, simulate_of, check_of, IsRead}
+use Rattle.opgen_command.specs.declared.command.Command.{Command}
+use Rattle.opgen_command.specs.declared.command.Command.TheVariants.{Generate, Vectors, Simulate, Check}
+use Rattle.opgen_command.specs.declared.fault.CommandFault.{CommandFault}
+use Rattle.opgen_command.specs.declared.fault.CommandFault.TheVariants.{Usage}
+
+-- what the rows mean that a command of `clap` finds
+pub meaning : (meant : List Row → Option Command) (app same : App) (words : List (List ℕ)) (found : List Row) → same ≡ app
+    → found_by same words ≡ Some found → option_and_then meant (found_by app words) ≡ meant found
+meaning meant app same words found e is = rw (← e, is) refl
+
+-- a fault that is passed on: a usage error where the words mean no command
+pub passed : (r : Result Command CommandFault) (fault : CommandFault) (meant : Option Command) → IsErrAnd r (λ other. other ≡ fault)
+    → (fault ≡ Usage → meant ≡ None) → IsRead meant r
+passed r fault meant is h = let p = err_from_is_err_and r is in rw (p.1, p.2) h
 
 module _ (found : List Row) where
-  pub generate : (spec text : List ℕ) (workers : ℕ) (enable : Bool) → Some spec ≡ word_of (codes "SPEC") found
-      → Some workers ≡ number_of (codes "workers") 1 32 (Some 1) found
-      → text ≡ spec → enable ≡ is_set (codes "enable") found → generate_of found ≡ Some (Generate text workers enable)
-  generate spec text workers enable w n same set = rw (← w, ← n, same, set) refl
+  pub generate : (spec : List ℕ) (workers : ℕ) (enable : Bool) → word_of (codes "SPEC") found ≡ Some spec
+      → Some workers ≡ number_of (codes "workers") 1 32 (Some 1) found → enable ≡ is_set (codes "enable") found
+      → generate_of found ≡ Some (Generate spec workers enable)
+  generate spec workers enable w n set = rw (w, ← n, set) refl
 
-  pub no_workers : (spec : List ℕ) → Some spec ≡ word_of (codes "SPEC") found → None ≡ number_of (codes "workers") 1 32 (Some 1) found
+  pub no_workers : (spec : List ℕ) → word_of (codes "SPEC") found ≡ Some spec → None ≡ number_of (codes "workers") 1 32 (Some 1) found
       → generate_of found ≡ None
-  no_workers spec w n = rw (← w, ← n) refl
+  no_workers spec w n = rw (w, ← n) refl
 
-  pub vectors : (spec text : List ℕ) (seed cycles : ℕ) → Some spec ≡ word_of (codes "SPEC") found
+  pub vectors : (spec : List ℕ) (seed cycles : ℕ) → word_of (codes "SPEC") found ≡ Some spec
       → Some seed ≡ number_of (codes "seed") 0 4294967295 (Some 0) found
-      → Some cycles ≡ number_of (codes "cycles") 1 100000 (Some 16) found → text ≡ spec → vectors_of found ≡ Some (Vectors text seed cycles)
-  vectors spec text seed cycles w s n same = rw (← w, ← s, ← n, same) refl
+      → Some cycles ≡ number_of (codes "cycles") 1 100000 (Some 16) found → vectors_of found ≡ Some (Vectors spec seed cycles)
+  vectors spec seed cycles w s n = rw (w, ← s, ← n) refl
 
-  pub no_seed : (spec : List ℕ) → Some spec ≡ word_of (codes "SPEC") found → None ≡ number_of (codes "seed") 0 4294967295 (Some 0) found
+  pub no_seed : (spec : List ℕ) → word_of (codes "SPEC") found ≡ Some spec → None ≡ number_of (codes "seed") 0 4294967295 (Some 0) found
       → vectors_of found ≡ None
-  no_seed spec w s = rw (← w, ← s) refl
+  no_seed spec w s = rw (w, ← s) refl
 
-  pub no_cycles : (spec : List ℕ) (seed : ℕ) → Some spec ≡ word_of (codes "SPEC") found
+  pub no_cycles : (spec : List ℕ) (seed : ℕ) → word_of (codes "SPEC") found ≡ Some spec
       → Some seed ≡ number_of (codes "seed") 0 4294967295 (Some 0) found
       → None ≡ number_of (codes "cycles") 1 100000 (Some 16) found → vectors_of found ≡ None
-  no_cycles spec seed w s n = rw (← w, ← s, ← n) refl
+  no_cycles spec seed w s n = rw (w, ← s, ← n) refl
 
-  pub simulate : (vhdl vectors out a b c : List ℕ) → Some vhdl ≡ word_of (codes "VHDL") found
-      → Some vectors ≡ word_of (codes "VECTORS") found → Some out ≡ word_of (codes "OUT") found
-      → a ≡ vhdl → b ≡ vectors → c ≡ out → simulate_of found ≡ Some (Simulate a b c)
-  simulate vhdl vectors out a b c v w o same also too = rw (← v, ← w, ← o, same, also, too) refl
+  pub simulate : (vhdl vectors out : List ℕ) → word_of (codes "VHDL") found ≡ Some vhdl
+      → word_of (codes "VECTORS") found ≡ Some vectors → word_of (codes "OUT") found ≡ Some out
+      → simulate_of found ≡ Some (Simulate vhdl vectors out)
+  simulate vhdl vectors out v w o = rw (v, w, o) refl
 
-  pub no_vectors : (vhdl : List ℕ) → Some vhdl ≡ word_of (codes "VHDL") found → None ≡ word_of (codes "VECTORS") found
+  pub no_vectors : (vhdl : List ℕ) → word_of (codes "VHDL") found ≡ Some vhdl → word_of (codes "VECTORS") found ≡ None
       → simulate_of found ≡ None
-  no_vectors vhdl v w = rw (← v, ← w) refl
+  no_vectors vhdl v w = rw (v, w) refl
 
-  pub no_out : (vhdl vectors : List ℕ) → Some vhdl ≡ word_of (codes "VHDL") found → Some vectors ≡ word_of (codes "VECTORS") found
-      → None ≡ word_of (codes "OUT") found
-      → simulate_of found ≡ None
-  no_out vhdl vectors v w o = rw (← v, ← w, ← o) refl
+  pub no_out : (vhdl vectors : List ℕ) → word_of (codes "VHDL") found ≡ Some vhdl → word_of (codes "VECTORS") found ≡ Some vectors
+      → word_of (codes "OUT") found ≡ None → simulate_of found ≡ None
+  no_out vhdl vectors v w o = rw (v, w, o) refl
 
-  pub workload : (n : ℕ) → Some n ≡ number_of (codes "N") 1 32 None found → workload_of found ≡ Some (Workload n)
-  workload n w = rw (← w) refl
+  pub check : (spec vhdl vectors : List ℕ) (latency : ℕ) → word_of (codes "SPEC") found ≡ Some spec
+      → word_of (codes "VHDL") found ≡ Some vhdl → word_of (codes "VECTORS") found ≡ Some vectors
+      → Some latency ≡ number_of (codes "LATENCY") 0 100000 None found → check_of found ≡ Some (Check spec vhdl vectors latency)
+  check spec vhdl vectors latency s v w n = rw (s, v, w, ← n) refl
 
-  pub check : (spec vhdl vectors a b c : List ℕ) (latency : ℕ) → Some spec ≡ word_of (codes "SPEC") found
-      → Some vhdl ≡ word_of (codes "VHDL") found → Some vectors ≡ word_of (codes "VECTORS") found
-      → Some latency ≡ number_of (codes "LATENCY") 0 100000 None found
-      → a ≡ spec → b ≡ vhdl → c ≡ vectors → check_of found ≡ Some (Check a b c latency)
-  check spec vhdl vectors a b c latency s v w n same also too = rw (← s, ← v, ← w, ← n, same, also, too) refl
+  pub no_vhdl : (spec : List ℕ) → word_of (codes "SPEC") found ≡ Some spec → word_of (codes "VHDL") found ≡ None → check_of found ≡ None
+  no_vhdl spec s v = rw (s, v) refl
 
-  pub no_vhdl : (spec : List ℕ) → Some spec ≡ word_of (codes "SPEC") found → None ≡ word_of (codes "VHDL") found → check_of found ≡ None
-  no_vhdl spec s v = rw (← s, ← v) refl
+  pub no_rows : (spec vhdl : List ℕ) → word_of (codes "SPEC") found ≡ Some spec → word_of (codes "VHDL") found ≡ Some vhdl
+      → word_of (codes "VECTORS") found ≡ None → check_of found ≡ None
+  no_rows spec vhdl s v w = rw (s, v, w) refl
 
-  pub no_rows : (spec vhdl : List ℕ) → Some spec ≡ word_of (codes "SPEC") found → Some vhdl ≡ word_of (codes "VHDL") found
-      → None ≡ word_of (codes "VECTORS") found → check_of found ≡ None
-  no_rows spec vhdl s v w = rw (← s, ← v, ← w) refl
-
-  pub no_latency : (spec vhdl vectors : List ℕ) → Some spec ≡ word_of (codes "SPEC") found → Some vhdl ≡ word_of (codes "VHDL") found
-      → Some vectors ≡ word_of (codes "VECTORS") found → None ≡ number_of (codes "LATENCY") 0 100000 None found → check_of found ≡ None
-  no_latency spec vhdl vectors s v w n = rw (← s, ← v, ← w, ← n) refl
+  pub no_latency : (spec vhdl vectors : List ℕ) → word_of (codes "SPEC") found ≡ Some spec → word_of (codes "VHDL") found ≡ Some vhdl
+      → word_of (codes "VECTORS") found ≡ Some vectors → None ≡ number_of (codes "LATENCY") 0 100000 None found → check_of found ≡ None
+  no_latency spec vhdl vectors s v w n = rw (s, v, w, ← n) refl

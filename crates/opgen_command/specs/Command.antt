@@ -1,5 +1,5 @@
 -- Which command a command line means: its first word names the command, and `clap` parses the others.
-use Rattle.std.specs.Prelude.{ℕ, ◌≤◌, ◌&&◌, nat_le, Bool, false, List, [], ◌∷◌, Option, Some, None, codes, option_map, option_and_then, if◌then◌else◌}
+use Rattle.std.specs.Prelude.{ℕ, ◌≡◌, ◌≤◌, ◌&&◌, nat_le, Bool, false, List, [], ◌∷◌, Option, Some, None, codes, option_map, option_and_then, Result, Ok, Err, if◌then◌else◌}
 use Rattle.std.specs.Option.{option_map_or}
 use Rattle.std.specs.Str.{bytes_eq}
 use Rattle.std.specs.Str.Parse.{digits_value, without_leading_plus}
@@ -8,6 +8,8 @@ use Rattle.clap.specs.Words.{App, Kinds, Row, fault_of, first_of, matches_of, on
 use Rattle.opgen_command.specs.Apps.{generate_app, vectors_app, simulate_app, workload_app, check_app}
 use Rattle.opgen_command.specs.declared.command.Command.{Command}
 use Rattle.opgen_command.specs.declared.command.Command.TheVariants.{Generate, Vectors, Simulate, Workload, Check}
+use Rattle.opgen_command.specs.declared.fault.CommandFault.{CommandFault}
+use Rattle.opgen_command.specs.declared.fault.CommandFault.TheVariants as faults
 
 -- what was found, where there is no fault
 abbrev pub unless_fault : Kinds → List Row → Option (List Row)
@@ -83,3 +85,8 @@ HasRanges (Vectors spec seed cycles) = (seed ≤ 4294967295) × (1 ≤ cycles) �
 HasRanges (Simulate vhdl vectors out) = Unit {0}
 HasRanges (Workload n) = (1 ≤ n) × (n ≤ 32)
 HasRanges (Check spec vhdl vectors latency) = latency ≤ 100000
+
+-- what reading a command line returns, by the command that it means: that command, or a usage error if it means none
+abbrev pub IsRead : Option Command → Result Command CommandFault → Type 0
+IsRead meant (Ok command) = (meant ≡ Some command) × HasRanges command
+IsRead meant (Err fault) = fault ≡ faults.Usage → meant ≡ None

@@ -2,7 +2,7 @@
 ghost use Rattle.std.specs.Prelude.{◌≡◌, IsTrue, IfOk, IfErr, Some, None, map, string_bytes, option_and_then};
 ghost use Rattle.clap.specs.Words.{app_of, found_of, is_simple_and_free, rows_of};
 ghost use Rattle.opgen_command.specs.Apps.{generate_app, vectors_app, simulate_app, workload_app, check_app};
-ghost use Rattle.opgen_command.specs.Command.{command_of, found_by, HasRanges, generate_of, vectors_of, simulate_of, workload_of, check_of};
+ghost use Rattle.opgen_command.specs.Command.{command_of, found_by, word_of, HasRanges, IsRead, generate_of, vectors_of, simulate_of, workload_of, check_of};
 
 use crate::apps;
 use crate::command::Command;
@@ -29,109 +29,66 @@ fn matched<'a>(app: clap::Command<'a>, words: &'a [String]) -> Result<ArgMatches
     }
 }
 
+/// The word of a name, as a text.
+fn text(alloc: Global, found: &ArgMatches<'_>, name: &str) -> Result<Text, CommandFault>
+    ensures text { IfOk result (λ text. word_of name.now (rows_of (found_of found.now)) ≡ Some text) }
+    ensures usage { IfErr result (λ fault. fault ≡ CommandFault.Usage → word_of name.now (rows_of (found_of found.now)) ≡ None) }
+{
+    let word = word(found, name).ok_or(CommandFault::Usage)?;
+    Ok(Text::from_str(alloc, word)?)
+}
+
 fn generate(alloc: Global, words: &[String]) -> Result<Command, CommandFault>
-    ensures command { IfOk result (λ c. option_and_then generate_of (found_by generate_app (map string_bytes words.now)) ≡ Some c) }
-    ensures usage { IfErr result (λ fault. fault ≡ CommandFault.Usage →
-        option_and_then generate_of (found_by generate_app (map string_bytes words.now)) ≡ None) }
-    ensures ranges { IfOk result HasRanges }
+    ensures { IsRead (option_and_then generate_of (found_by generate_app (map string_bytes words.now))) result }
 {
     let found = matched(apps::generate(alloc)?, words)?;
-    let Some(spec) = word(&found, "SPEC") else {
-        return Err(CommandFault::Usage);
-    };
-    let Some(workers) = number(&found, "workers", 1, 32, Some(1)) else {
-        return Err(CommandFault::Usage);
-    };
     Ok(Command::Generate {
-        spec: Text::from_str(alloc, spec)?,
-        workers,
+        spec: text(alloc, &found, "SPEC")?,
+        workers: number(&found, "workers", 1, 32, Some(1))?,
         enable: is_set(&found, "enable"),
     })
 }
 
 fn vectors(alloc: Global, words: &[String]) -> Result<Command, CommandFault>
-    ensures command { IfOk result (λ c. option_and_then vectors_of (found_by vectors_app (map string_bytes words.now)) ≡ Some c) }
-    ensures usage { IfErr result (λ fault. fault ≡ CommandFault.Usage →
-        option_and_then vectors_of (found_by vectors_app (map string_bytes words.now)) ≡ None) }
-    ensures ranges { IfOk result HasRanges }
+    ensures { IsRead (option_and_then vectors_of (found_by vectors_app (map string_bytes words.now))) result }
 {
     let found = matched(apps::vectors(alloc)?, words)?;
-    let Some(spec) = word(&found, "SPEC") else {
-        return Err(CommandFault::Usage);
-    };
-    let Some(seed) = number(&found, "seed", 0, u32::MAX, Some(0)) else {
-        return Err(CommandFault::Usage);
-    };
-    let Some(cycles) = number(&found, "cycles", 1, 100_000, Some(16)) else {
-        return Err(CommandFault::Usage);
-    };
     Ok(Command::Vectors {
-        spec: Text::from_str(alloc, spec)?,
-        seed,
-        cycles,
+        spec: text(alloc, &found, "SPEC")?,
+        seed: number(&found, "seed", 0, u32::MAX, Some(0))?,
+        cycles: number(&found, "cycles", 1, 100_000, Some(16))?,
     })
 }
 
 fn simulate(alloc: Global, words: &[String]) -> Result<Command, CommandFault>
-    ensures command { IfOk result (λ c. option_and_then simulate_of (found_by simulate_app (map string_bytes words.now)) ≡ Some c) }
-    ensures usage { IfErr result (λ fault. fault ≡ CommandFault.Usage →
-        option_and_then simulate_of (found_by simulate_app (map string_bytes words.now)) ≡ None) }
-    ensures ranges { IfOk result HasRanges }
+    ensures { IsRead (option_and_then simulate_of (found_by simulate_app (map string_bytes words.now))) result }
 {
     let found = matched(apps::simulate(alloc)?, words)?;
-    let Some(vhdl) = word(&found, "VHDL") else {
-        return Err(CommandFault::Usage);
-    };
-    let Some(vectors) = word(&found, "VECTORS") else {
-        return Err(CommandFault::Usage);
-    };
-    let Some(out) = word(&found, "OUT") else {
-        return Err(CommandFault::Usage);
-    };
     Ok(Command::Simulate {
-        vhdl: Text::from_str(alloc, vhdl)?,
-        vectors: Text::from_str(alloc, vectors)?,
-        out: Text::from_str(alloc, out)?,
+        vhdl: text(alloc, &found, "VHDL")?,
+        vectors: text(alloc, &found, "VECTORS")?,
+        out: text(alloc, &found, "OUT")?,
     })
 }
 
 fn workload(alloc: Global, words: &[String]) -> Result<Command, CommandFault>
-    ensures command { IfOk result (λ c. option_and_then workload_of (found_by workload_app (map string_bytes words.now)) ≡ Some c) }
-    ensures usage { IfErr result (λ fault. fault ≡ CommandFault.Usage →
-        option_and_then workload_of (found_by workload_app (map string_bytes words.now)) ≡ None) }
-    ensures ranges { IfOk result HasRanges }
+    ensures { IsRead (option_and_then workload_of (found_by workload_app (map string_bytes words.now))) result }
 {
     let found = matched(apps::workload(alloc)?, words)?;
-    match number(&found, "N", 1, 32, None) {
-        Some(n) => Ok(Command::Workload { n }),
-        None => Err(CommandFault::Usage),
-    }
+    Ok(Command::Workload {
+        n: number(&found, "N", 1, 32, None)?,
+    })
 }
 
 fn check(alloc: Global, words: &[String]) -> Result<Command, CommandFault>
-    ensures command { IfOk result (λ c. option_and_then check_of (found_by check_app (map string_bytes words.now)) ≡ Some c) }
-    ensures usage { IfErr result (λ fault. fault ≡ CommandFault.Usage →
-        option_and_then check_of (found_by check_app (map string_bytes words.now)) ≡ None) }
-    ensures ranges { IfOk result HasRanges }
+    ensures { IsRead (option_and_then check_of (found_by check_app (map string_bytes words.now))) result }
 {
     let found = matched(apps::check(alloc)?, words)?;
-    let Some(spec) = word(&found, "SPEC") else {
-        return Err(CommandFault::Usage);
-    };
-    let Some(vhdl) = word(&found, "VHDL") else {
-        return Err(CommandFault::Usage);
-    };
-    let Some(vectors) = word(&found, "VECTORS") else {
-        return Err(CommandFault::Usage);
-    };
-    let Some(latency) = number(&found, "LATENCY", 0, 100_000, None) else {
-        return Err(CommandFault::Usage);
-    };
     Ok(Command::Check {
-        spec: Text::from_str(alloc, spec)?,
-        vhdl: Text::from_str(alloc, vhdl)?,
-        vectors: Text::from_str(alloc, vectors)?,
-        latency,
+        spec: text(alloc, &found, "SPEC")?,
+        vhdl: text(alloc, &found, "VHDL")?,
+        vectors: text(alloc, &found, "VECTORS")?,
+        latency: number(&found, "LATENCY", 0, 100_000, None)?,
     })
 }
 

@@ -1,9 +1,8 @@
 -- The net fits every valid specification of its operator.
-use Rattle.std.proofs.Common.{◌≡◌, ℕ, ◌≤◌, Bool, true, false, List, map, refl, sym, ap, ◌∙◌, subst, arith}
+use Rattle.std.proofs.Common.{◌≡◌, ℕ, Bool, true, false, List, map, refl, sym, ap, ◌∙◌, subst, arith}
 use Rattle.std.specs.Prelude.{ℤ, pos, ◌-ℤ◌, if◌then◌else◌}
 use Rattle.std.proofs.lemmas.Int.{ints}
 use Rattle.opgen_num.specs.declared.format.Format.{Format}
-use Rattle.opgen_num.specs.Formats.{fewest_bits}
 use Rattle.opgen_num.specs.Rounding.{IsWithinOne}
 use Rattle.opgen_num.specs.Values.{int, val}
 use Rattle.opgen_num.specs.Words.{nat}
@@ -15,26 +14,23 @@ use Rattle.opgen_operator.specs.Accepted.{IsAcceptedSmallDiv}
 use Rattle.opgen_operator.specs.Exact.{Recent}
 use Rattle.opgen_operator.specs.Fits.{FitsOperator, FitsSpecsOf, name_and_width}
 use Rattle.opgen_operator.specs.Good.{IsGoodSmallQuotient}
-use Rattle.opgen_operator.specs.Judged.{recent_words, output_words}
+use Rattle.opgen_operator.specs.PortNumbers.{recent_words, output_words}
 use Rattle.opgen_operator.specs.Ports.{operator_inputs, small_ports}
 use Rattle.opgen_operator.specs.Ranges.{IsSmallDiv}
 use Rattle.opgen_operator.specs.Valid.{AgreesOnExact}
 use Rattle.opgen_operator.proofs.Accepted.{accepted_ranges}
+use Rattle.opgen_operator.proofs.InputPorts.{input_bit}
 use Rattle.opgen_constdiv.specs.Rows.{IsSmall}
 use Rattle.opgen_constdiv.specs.Recipe.{digit_number, Divided, after, net_of}
 use Rattle.opgen_constdiv.specs.Steps.{IsInput}
 use Rattle.opgen_constdiv.proofs.Division.{base, AreFor}
 use Rattle.opgen_constdiv.proofs.Whole.{near, results-valid, made-inputs, for_inputs, divided-right, output_ports, outputs-shown, result_words, quotient-word, rest-word}
 
-some_bits : (signed : Bool) (width : ℕ) → signed ≡ false → fewest_bits signed ≤ width → 1 ≤ width
-some_bits false width e h = h
-some_bits true width e h = omega (arith, h)
-
 pub accepted : (s : SmallDiv) → IsAcceptedSmallDiv s → IsSmallDiv s
 accepted s is = accepted_ranges (Constdiv s) is
 
 pub has_input : (s : SmallDiv) → IsSmallDiv s → IsInput s.input.width
-has_input s is = record { some = some_bits s.input.signed s.input.width is.unsigned is.input.fewest; few = is.input.most }
+has_input s is = record { some = input_bit s.input is.input; few = is.input.most }
 
 pub has_divisor : (s : SmallDiv) → IsSmallDiv s → IsSmall s.divisor
 has_divisor s is = record { some = is.least; few = is.most }

@@ -2,4 +2,3 @@ mod TableRows
 mod Division
 mod Whole
 pub mod Fits
-mod Named

@@ -5,7 +5,8 @@ use Rattle.opgen_design.specs.declared.design.Design.{Design}
 use Rattle.opgen_design.specs.declared.design.Dir.TheVariants.{In}
 use Rattle.opgen_design.specs.declared.design.Port.{Port}
 use Rattle.opgen_design.specs.Rules.{IsFirstFailing}
-use Rattle.opgen_design.specs.Sound.{BadEnable, IsEnableDeclared, PortPasses}
+use Rattle.opgen_design.specs.declared.sound.Rule.TheVariants.{BadEnable}
+use Rattle.opgen_design.specs.Sound.{IsEnableDeclared, PortPasses}
 use Rattle.opgen_design.proofs.FirstFailing.{failing-at}
 
 module _ (d : Design) (port : ℕ) (is : d.enable ≡ Some port) where

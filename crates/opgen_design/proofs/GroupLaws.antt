@@ -1,5 +1,5 @@
 -- The needs of signals as a graph, and what its components say of a design.
-use Rattle.std.proofs.Common.{◌≡◌, ℕ, ◌<◌, List, [], ◌++◌, length, get_or, Option, Some, None, refl, sym, ap, ◌∙◌, subst, inl, inr, arith}
+use Rattle.std.proofs.Common.{◌≡◌, ℕ, ◌<◌, List, [], ◌++◌, length, get_or, Option, Some, None, IsTrue, refl, sym, ap, ◌∙◌, subst, inl, inr, arith}
 use Rattle.std.specs.Prelude.{Contains}
 use Rattle.std.proofs.lemmas.Bool.{cases_lt}
 use Rattle.std.proofs.lemmas.List.{get_or_past}
@@ -12,8 +12,11 @@ use Rattle.opgen_design.specs.declared.design.Design.{Design}
 use Rattle.opgen_design.specs.declared.design.Driver.{Driver}
 use Rattle.opgen_design.specs.declared.design.Driver.TheVariants.{Assign, Choice, Table, Register, Output}
 use Rattle.opgen_design.specs.Reads.{driver_names, names_read}
-use Rattle.opgen_design.specs.Rules.{AreFirstDrivers, AreNeeds, AreGroups, IsRegister, IsRegisterAt, IsRegisterIn, slot, needs_of, needs_if, needs_at}
-use Rattle.opgen_design.specs.Sound.{signal, target, Needs, Names, IsRegisterOf, IsOffCycles, IsOrdered, DependsOn, at_once, through, Holds, Undeclared, DrivenTwice}
+use Rattle.opgen_design.specs.Order.{is_register}
+use Rattle.opgen_design.specs.Rules.{AreFirstDrivers, AreNeeds, AreGroups, IsRegisterAt, IsRegisterIn, slot, needs_of, needs_if, needs_at}
+use Rattle.opgen_design.specs.declared.design.Target.TheVariants.{Signal as signal}
+use Rattle.opgen_design.specs.declared.sound.Rule.TheVariants.{Undeclared, DrivenTwice}
+use Rattle.opgen_design.specs.Sound.{target, Needs, Names, IsRegisterOf, IsOffCycles, IsOrdered, DependsOn, at_once, through, Holds}
 use Rattle.opgen_design.proofs.UseLaws.{reads-contains, contains-reads}
 use Rattle.opgen_design.proofs.SoundLaws.{at-contains, declared-in, is-signal, first-at, driver-lists}
 
@@ -55,19 +58,19 @@ needs-names r (Table to on rows other) h = h
 needs-names r (Register to e) h = absurd (omega (arith, h.1))
 needs-names r (Output place e) h = h
 
-register-of : (k : Driver) (s : ℕ) → IsRegisterOf s k → (target k ≡ signal s) × IsRegister k
+register-of : (k : Driver) (s : ℕ) → IsRegisterOf s k → (target k ≡ signal s) × IsTrue (is_register k)
 register-of (Assign to e) s h = absurd h
 register-of (Choice to on one other) s h = absurd h
 register-of (Table to on rows other) s h = absurd h
-register-of (Register to e) s h = (ap signal h, tt)
+register-of (Register to e) s h = (ap signal h, refl)
 register-of (Output place e) s h = absurd h
 
-of-register : (k : Driver) (s count : ℕ) → IsRegister k → slot count (target k) ≡ s → IsRegisterOf s k
-of-register (Assign to e) s count h g = absurd h
-of-register (Choice to on one other) s count h g = absurd h
-of-register (Table to on rows other) s count h g = absurd h
+of-register : (k : Driver) (s count : ℕ) → IsTrue (is_register k) → slot count (target k) ≡ s → IsRegisterOf s k
+of-register (Assign to e) s count h g = absurd (cc)
+of-register (Choice to on one other) s count h g = absurd (cc)
+of-register (Table to on rows other) s count h g = absurd (cc)
 of-register (Register to e) s count h g = g
-of-register (Output place e) s count h g = absurd h
+of-register (Output place e) s count h g = absurd (cc)
 
 module _ (d : Design) (declared : Holds d Undeclared) (once : Holds d DrivenTwice) (firsts : List (Option ℕ))
     (h : AreFirstDrivers d (length d.drivers) firsts) where

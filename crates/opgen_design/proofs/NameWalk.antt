@@ -9,7 +9,8 @@ use Rattle.opgen_design.specs.declared.design.Port.{Port}
 use Rattle.opgen_design.specs.declared.design.Signal.{Signal}
 use Rattle.opgen_design.specs.declared.sound.SoundFault.{SoundFault}
 use Rattle.opgen_design.specs.Rules.{HoldsBefore, IsFirstFailing, IsFaultAt, fault_at}
-use Rattle.opgen_design.specs.Sound.{IsNewName, names_of, DeclaredTwice, Place, at_design, at_port, at_signal, at_driver, item, Holds, PassesAt}
+use Rattle.opgen_design.specs.declared.sound.Rule.TheVariants.{DeclaredTwice}
+use Rattle.opgen_design.specs.Sound.{IsNewName, names_of, Place, at_design, at_port, at_signal, at_driver, item, Holds, PassesAt}
 use Rattle.opgen_design.proofs.FirstFailing.{before-more, of-item}
 
 pub unit-if : {X : Type 0} (o : Option X) → IfSome o (λ x. Unit {0})

@@ -11,7 +11,9 @@ use Rattle.opgen_design.specs.declared.design.Design.{Design}
 use Rattle.opgen_design.specs.declared.design.Driver.{Driver}
 use Rattle.opgen_design.specs.Order.{is_register, IsOrderOf, AreRanks, IsSmallAt, rank_at, waiting}
 use Rattle.opgen_design.specs.Rules.{AreGroups}
-use Rattle.opgen_design.specs.Sound.{Target, signal, port_of, target, Needs, DependsOn, at_once, through, IsOrdered}
+use Rattle.opgen_design.specs.declared.design.Target.{Target}
+use Rattle.opgen_design.specs.declared.design.Target.TheVariants.{Signal as signal, Port as port_of}
+use Rattle.opgen_design.specs.Sound.{target, Needs, DependsOn, at_once, through, IsOrdered}
 use Rattle.opgen_design.proofs.SoundLaws.{at-contains}
 
 -- in a numbered design no signal depends on itself

@@ -6,7 +6,9 @@ use Rattle.opgen_components.specs.Graph.{component_of}
 use Rattle.opgen_design.specs.declared.design.Design.{Design}
 use Rattle.opgen_design.specs.declared.design.Driver.{Driver}
 use Rattle.opgen_design.specs.declared.design.Driver.TheVariants.{Register}
-use Rattle.opgen_design.specs.Sound.{Target, signal, port_of, target, Needs}
+use Rattle.opgen_design.specs.declared.design.Target.{Target}
+use Rattle.opgen_design.specs.declared.design.Target.TheVariants.{Signal as signal, Port as port_of}
+use Rattle.opgen_design.specs.Sound.{target, Needs}
 
 abbrev pub is_register : Driver → Bool
 is_register (Register to e) = true

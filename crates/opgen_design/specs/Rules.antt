@@ -1,15 +1,18 @@
 -- How the code checks the rules of sound designs: the first place of a list that breaks a rule, and the first driver of each signal
 -- and port.
-use Rattle.std.specs.Prelude.{ℕ, ◌+◌, ◌≡◌, ◌≢◌, ◌<◌, Bool, List, [], length, slice_get, slice_set, slice_index_or, Contains, Option, Some, None, IfSome, IsTrue, ◌↔◌, Result, Ok, Err}
+use Rattle.std.specs.Prelude.{ℕ, if◌then◌else◌, ◌+◌, ◌≡◌, ◌≢◌, ◌<◌, Bool, List, [], length, slice_get, slice_set, slice_index_or, Contains, Option, Some, None, IfSome, IsTrue, ◌↔◌, Result, Ok, Err}
 use Rattle.opgen_design.specs.declared.design.Design.{Design}
 use Rattle.opgen_design.specs.declared.design.Driver.{Driver}
-use Rattle.opgen_design.specs.declared.design.Driver.TheVariants.{Register}
 use Rattle.opgen_design.specs.declared.sound.SoundFault.{SoundFault}
 use Rattle.opgen_design.specs.declared.sound.SoundFault.TheVariants.{Unsound, Memory}
 use Rattle.opgen_components.specs.declared.Component.{Component}
 use Rattle.opgen_components.specs.Graph.{component_of}
+use Rattle.opgen_design.specs.Order.{is_register}
 use Rattle.opgen_design.specs.Reads.{driver_names}
-use Rattle.opgen_design.specs.Sound.{Rule, rule_number, Target, signal, port_of, target, Place, item, Needs, DependsOn, PassesAt, PortPasses, SignalPasses, DriverPasses}
+use Rattle.opgen_design.specs.declared.design.Target.{Target}
+use Rattle.opgen_design.specs.declared.design.Target.TheVariants.{Signal as signal, Port as port_of}
+use Rattle.opgen_design.specs.declared.sound.Rule.{Rule}
+use Rattle.opgen_design.specs.Sound.{rule_number, target, Place, item, Needs, DependsOn, PassesAt, PortPasses, SignalPasses, DriverPasses}
 
 -- P holds of each item of a list before a place
 abbrev pub HoldsBefore : {X : Type 0} → (P : ℕ → X → Type 0) → List X → ℕ → Type 0
@@ -54,8 +57,7 @@ noted firsts t i = noted_at (slice_index_or firsts t None) firsts t i
 
 -- the signals whose words of a cycle a driver's word needs
 abbrev pub needs_of : Driver → List ℕ
-needs_of (Register to e) = []
-needs_of k = driver_names k
+needs_of k = if is_register k then [] else driver_names k
 
 abbrev pub needs_if : Option Driver → List ℕ
 needs_if None = []
@@ -65,13 +67,9 @@ needs_if (Some k) = needs_of k
 abbrev pub DifferentAddresses : List (List Bool × List Bool) → Type 0
 DifferentAddresses rows = (i j : ℕ) (r q : List Bool × List Bool) → i < j → slice_get rows i ≡ Some r → slice_get rows j ≡ Some q → r.0 ≢ q.0
 
-abbrev pub IsRegister : Driver → Type 0
-IsRegister (Register to e) = Unit {0}
-IsRegister _ = ⊥
-
 abbrev pub IsRegisterIn : Option Driver → Type 0
 IsRegisterIn None = ⊥
-IsRegisterIn (Some k) = IsRegister k
+IsRegisterIn (Some k) = IsTrue (is_register k)
 
 -- the driver of that number, if there is one, is a register
 abbrev pub IsRegisterAt : Design → Option ℕ → Type 0

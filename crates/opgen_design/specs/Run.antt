@@ -71,8 +71,8 @@ abbrev pub Run : Design → (inputs : List (List (List Bool))) → List Words �
 Run d inputs vs = RunsOn d (initial_words d.signals) inputs vs
 
 -- the words of the output ports in a cycle, in order
-abbrev pub outputs_of : Design → Words → List (List Bool)
-outputs_of d v = at_ports is_out d.ports v.ports
+abbrev pub words_at_outputs : Design → Words → List (List Bool)
+words_at_outputs d v = at_ports is_out d.ports v.ports
 
 -- words of these widths, one for each
 abbrev pub AreWords : List ℕ → List (List Bool) → Type 0

@@ -11,11 +11,12 @@ use Rattle.opgen_design.specs.declared.sound.SoundFault.TheVariants.{Unsound, Me
 use Rattle.opgen_design.specs.Tree.{Tree}
 use Rattle.opgen_design.specs.Width.{IsWidth, width}
 use Rattle.opgen_design.specs.Reads.{AllReads, ReadsName}
+use Rattle.opgen_design.specs.declared.sound.Rule.{Rule}
+use Rattle.opgen_design.specs.declared.sound.Rule.TheVariants.{Undeclared, DeclaredTwice, Width, DrivenTwice, NotDriven, Cyclic, ReadsOutput, NoInitial, ChoiceTwice, BadEnable}
+use Rattle.opgen_design.specs.declared.design.Target.{Target}
+use Rattle.opgen_design.specs.declared.design.Target.TheVariants.{Signal as signal, Port as port_of}
 
--- the rules, in the order in which they are tried
-pub data Rule : Type 0 where
-  Undeclared DeclaredTwice Width DrivenTwice NotDriven Cyclic ReadsOutput NoInitial ChoiceTwice BadEnable : Rule
-
+-- the rules have numbers in the order in which they are tried
 abbrev pub rule_number : Rule → ℕ
 rule_number Undeclared = 1
 rule_number DeclaredTwice = 2
@@ -29,9 +30,6 @@ rule_number ChoiceTwice = 9
 rule_number BadEnable = 10
 
 -- what a driver drives
-pub data Target : Type 0 where
-  signal port_of : ℕ → Target
-
 abbrev pub target : Driver → Target
 target (Assign to e) = signal to
 target (Choice to on one other) = signal to

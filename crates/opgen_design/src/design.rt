@@ -24,6 +24,16 @@ pub struct Signal {
     pub initial: Option<Word>,
 }
 
+/// The most signals that a design may have when it is planned or read.
+pub const MAX_SIGNALS: usize = 65_536;
+
+/// What a driver drives: a signal or a port, by its place.
+#[derive(Clone, Copy, Debug, PartialEq, Eq)]
+pub enum Target {
+    Signal(usize),
+    Port(usize),
+}
+
 /// What gives a signal or an output port its words.
 #[derive(Drop)]
 pub enum Driver {

@@ -3,9 +3,10 @@ ghost use Rattle.std.specs.Prelude.{◌≡◌, ◌++◌, ◌<◌, ◌^◌, [], �
 ghost use Rattle.opgen_components.specs.Graph.{component_of};
 ghost use Rattle.opgen_design.specs.Order.{is_register, AreRanks, IsOrderOf, IsSmallAt, rank_at, waiting};
 ghost use Rattle.opgen_design.specs.Rules.{AreGroups};
-ghost use Rattle.opgen_design.specs.Sound.{Undeclared, Holds, HasNumbers, IsSound, Names, target};
+ghost use Rattle.opgen_design.specs.declared.sound.Rule.TheVariants.{Undeclared};
+ghost use Rattle.opgen_design.specs.Sound.{Holds, HasNumbers, IsSound, Names, target};
 
-use crate::{Design, Driver};
+use crate::{Design, Driver, Target};
 use opgen_components::Component;
 use opgen_num::Memory;
 use std::alloc::{AllocError, Global};
@@ -30,13 +31,10 @@ fn number_of(groups: &[Component], signal: usize) -> u128
 fn add_waiting(found: &mut Vec<usize>, driver: &Driver, place: usize) -> Result<(), AllocError>
     ensures { OnOk result (found.new.items ≡ found.old.items ++ (if is_register driver.now then [] else place ∷ [])) }
 {
-    match driver {
-        Driver::Register { to: _, expr: _ } => Ok(()),
-        _ => {
-            found.push(place)?;
-            Ok(())
-        }
+    if !driver.is_register() {
+        found.push(place)?;
     }
+    Ok(())
 }
 
 impl Design {
@@ -47,22 +45,9 @@ impl Design {
         ensures rank { result ≡ rank_at groups.now (target driver.now) }
         ensures small { IsSmallAt groups.now (target driver.now) }
     {
-        match driver {
-            Driver::Assign { to, expr: _ } => number_of(groups, *to),
-            Driver::Choice {
-                to,
-                on: _,
-                yes: _,
-                no: _,
-            } => number_of(groups, *to),
-            Driver::Table {
-                to,
-                on: _,
-                rows: _,
-                other: _,
-            } => number_of(groups, *to),
-            Driver::Register { to, expr: _ } => number_of(groups, *to),
-            Driver::Output { port: _, expr: _ } => 1 << 64,
+        match driver.target() {
+            Target::Signal(signal) => number_of(groups, signal),
+            Target::Port(_) => 1 << 64,
         }
     }
 

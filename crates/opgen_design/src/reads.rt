@@ -1,5 +1,5 @@
 //! Lists the signals and ports that the expressions of a driver read.
-ghost use Rattle.std.specs.Prelude.{◌≡◌, ◌++◌, IfOk, OnOk};
+ghost use Rattle.std.specs.Prelude.{◌≡◌, ◌++◌, [], IfOk, OnOk};
 ghost use Rattle.opgen_design.specs.Plain.{plain, plain_all};
 ghost use Rattle.opgen_design.specs.Reads.{names_read, operand_names, ports_read, operand_ports, driver_names, driver_ports};
 
@@ -13,7 +13,28 @@ pub struct Uses {
     pub ports: Vec<usize>,
 }
 
+impl Uses {
+    fn new(alloc: Global) -> Uses
+        ensures names { result.names.items ≡ [] }
+        ensures ports { result.ports.items ≡ [] }
+    {
+        Uses {
+            names: Vec::new(alloc),
+            ports: Vec::new(alloc),
+        }
+    }
+}
+
 impl Expr {
+    /// The signals that the expression reads, in order.
+    pub fn names(&self, alloc: Global) -> Result<Vec<usize>, AllocError>
+        ensures { IfOk result (λ v. v.items ≡ names_read (plain self.now)) }
+    {
+        let mut uses = Uses::new(alloc);
+        self.add_uses(&mut uses)?;
+        Ok(uses.names)
+    }
+
     /// Appends what the expression reads.
     #[cycle(reads)]
     fn add_uses(&self, uses: &mut Uses) -> Result<(), AllocError>
@@ -57,10 +78,7 @@ impl Driver {
         ensures names { IfOk result (λ u. u.names.items ≡ driver_names self.now) }
         ensures ports { IfOk result (λ u. u.ports.items ≡ driver_ports self.now) }
     {
-        let mut uses = Uses {
-            names: Vec::new(alloc),
-            ports: Vec::new(alloc),
-        };
+        let mut uses = Uses::new(alloc);
         match self {
             Driver::Assign { to: _, expr }
             | Driver::Register { to: _, expr }

@@ -3,12 +3,14 @@ ghost use Rattle.std.specs.Prelude.{◌≡◌, ◌≢◌, ◌+◌, ◌<◌, ℕ,
 ghost use Rattle.std.specs.List.{AllPairs};
 ghost use Rattle.opgen_components.specs.Graph.{graph_of};
 ghost use Rattle.opgen_design.specs.Rules.{IsFirstFailing, AreFirstDrivers, AreNeeds, AreGroups, DifferentAddresses, IsDrivenAt, IsRegisterAt, needs_at};
-ghost use Rattle.opgen_design.specs.Sound.{Undeclared, Width, DrivenTwice, NotDriven, Cyclic, ReadsOutput, NoInitial, ChoiceTwice, BadEnable, Holds, HasNumbers, IsDeclared, IsNewName, IsSignalWide, IsOnlyDriver, IsDriven, IsOffCycles, IsOrdered, ReadsInputs, HasInitial, AddressesDiffer, Names, WidthsAgree, PortPasses, SignalPasses, DriverPasses, names_of, signal, port_of, target};
+ghost use Rattle.opgen_design.specs.declared.design.Target.TheVariants.{Signal as signal, Port as port_of};
+ghost use Rattle.opgen_design.specs.declared.sound.Rule.TheVariants.{Undeclared, Width, DrivenTwice, NotDriven, Cyclic, ReadsOutput, NoInitial, ChoiceTwice, BadEnable};
+ghost use Rattle.opgen_design.specs.Sound.{Holds, HasNumbers, IsDeclared, IsNewName, IsSignalWide, IsOnlyDriver, IsDriven, IsOffCycles, IsOrdered, ReadsInputs, HasInitial, AddressesDiffer, Names, WidthsAgree, PortPasses, SignalPasses, DriverPasses, names_of, target};
 ghost use Rattle.opgen_design.specs.Width.{IsWidth};
 ghost use Rattle.opgen_design.specs.declared.design.Dir.TheVariants.{In};
 
 use crate::reads::Uses;
-use crate::{Design, Dir, Driver, Port, Signal};
+use crate::{Design, Dir, Driver, Port, Signal, Target};
 use opgen_components::{Component, components};
 use opgen_num::{MAX_WIDTH, Word};
 use std::alloc::{AllocError, Global};
@@ -83,22 +85,9 @@ impl Design {
     fn has_target(&self, driver: &Driver) -> bool
         ensures { IsTrue result ↔ Names self.now (target driver.now) }
     {
-        match driver {
-            Driver::Assign { to, expr: _ } => *to < self.signals.len(),
-            Driver::Choice {
-                to,
-                on: _,
-                yes: _,
-                no: _,
-            } => *to < self.signals.len(),
-            Driver::Table {
-                to,
-                on: _,
-                rows: _,
-                other: _,
-            } => *to < self.signals.len(),
-            Driver::Register { to, expr: _ } => *to < self.signals.len(),
-            Driver::Output { port, expr: _ } => *port < self.ports.len(),
+        match driver.target() {
+            Target::Signal(signal) => signal < self.signals.len(),
+            Target::Port(port) => port < self.ports.len(),
         }
     }
 
@@ -310,7 +299,7 @@ impl Design {
             return Ok(Vec::new(alloc));
         };
         let driver = self.drivers.get(driver);
-        if matches!(driver, Driver::Register { .. }) {
+        if driver.is_register() {
             Ok(Vec::new(alloc))
         } else {
             Ok(driver.uses(alloc)?.names)
@@ -409,7 +398,7 @@ impl Design {
         ensures { IsTrue result ↔ IsRegisterAt self.now driver }
     {
         match driver {
-            Some(i) => matches!(self.drivers.get(i), Driver::Register { .. }),
+            Some(i) => self.drivers.get(i).is_register(),
             None => false,
         }
     }

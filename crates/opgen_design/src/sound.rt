@@ -1,11 +1,57 @@
 //! Checks whether a design is sound: runs the ten rules in order, and reports the first one that fails and where.
 ghost use Rattle.std.specs.Prelude.{◌≡◌, ◌+◌, ◌<◌, ◌^◌, ℕ, Some, OnOk, IfErr, length};
 ghost use Rattle.opgen_design.specs.Rules.{AreFirstDrivers, IsFaultAt, PortsPass, SignalsPass, DriversPass, fault_at};
-ghost use Rattle.opgen_design.specs.Sound.{Undeclared, DeclaredTwice, Width, DrivenTwice, NotDriven, Cyclic, ReadsOutput, NoInitial, ChoiceTwice, BadEnable, DesignPasses, Holds, HasNumbers, IsOrdered, IsSound, IsFaultOf};
+ghost use Rattle.opgen_design.specs.declared.sound.Rule.TheVariants.{Undeclared, DeclaredTwice, Width, DrivenTwice, NotDriven, Cyclic, ReadsOutput, NoInitial, ChoiceTwice, BadEnable};
+ghost use Rattle.opgen_design.specs.Sound.{DesignPasses, Holds, HasNumbers, IsOrdered, IsSound, IsFaultOf, rule_number};
 
 use crate::Design;
 use std::alloc::{AllocError, Global};
 use thiserror::Error;
+
+/// The rules of sound designs, in the order in which they are tried. Each has the name of what breaks it.
+#[derive(Clone, Copy, Debug, PartialEq, Eq)]
+pub enum Rule {
+    /// Each number in a driver names a signal or a port, and the enable names a port.
+    Undeclared,
+    /// Names differ, and none is `clk`.
+    DeclaredTwice,
+    /// Widths are those that signals may have, and the two sides of each assignment agree.
+    Width,
+    /// Nothing has two drivers, and no input port has one.
+    DrivenTwice,
+    /// Each signal and each output port has a driver.
+    NotDriven,
+    /// No signal depends on itself without a register between.
+    Cyclic,
+    /// Output ports are not read.
+    ReadsOutput,
+    /// Signals of registers have an initial value.
+    NoInitial,
+    /// No table has an address twice.
+    ChoiceTwice,
+    /// The enable is an input port of one bit.
+    BadEnable,
+}
+
+impl Rule {
+    /// The number of the rule, from 1.
+    pub fn number(self) -> u8
+        ensures { result ≡ rule_number self }
+    {
+        match self {
+            Rule::Undeclared => 1,
+            Rule::DeclaredTwice => 2,
+            Rule::Width => 3,
+            Rule::DrivenTwice => 4,
+            Rule::NotDriven => 5,
+            Rule::Cyclic => 6,
+            Rule::ReadsOutput => 7,
+            Rule::NoInitial => 8,
+            Rule::ChoiceTwice => 9,
+            Rule::BadEnable => 10,
+        }
+    }
+}
 
 /// Why a design is not sound.
 #[derive(Clone, Copy, Debug, PartialEq, Eq, Error)]
@@ -30,13 +76,13 @@ impl From<AllocError> for SoundFault {
 }
 
 // The fault of a rule that fails at a place, if it does.
-fn failing(rule: u8, before: usize, place: Option<usize>) -> Result<(), SoundFault>
+fn failing(rule: Rule, before: usize, place: Option<usize>) -> Result<(), SoundFault>
     requires { (n : ℕ) → place ≡ Some n → before + n + 1 < 2 ^ 32 }
-    ensures { result ≡ fault_at rule before place }
+    ensures { result ≡ fault_at (rule_number rule) before place }
 {
     match place {
         Some(place) => Err(SoundFault::Unsound {
-            rule,
+            rule: rule.number(),
             item: (before + place + 1) as u32,
         }),
         None => Ok(()),
@@ -86,7 +132,10 @@ impl Design {
     {
         match self.enable {
             Some(port) if port >= self.ports.len() => {
-                Err(SoundFault::Unsound { rule: 1, item: 0 })
+                Err(SoundFault::Unsound {
+                    rule: Rule::Undeclared.number(),
+                    item: 0,
+                })
             }
             _ => Ok(()),
         }
@@ -98,7 +147,11 @@ impl Design {
         ensures holds { OnOk result (Holds self.now Undeclared) }
         ensures fault { IfErr result (IsFaultAt self.now Undeclared) }
     {
-        failing(1, self.before_drivers(), self.undeclared(alloc)?)
+        failing(
+            Rule::Undeclared,
+            self.before_drivers(),
+            self.undeclared(alloc)?,
+        )
     }
 
     fn check_declared(&self, alloc: Global) -> Result<(), SoundFault>
@@ -115,7 +168,7 @@ impl Design {
         ensures holds { OnOk result (Holds self.now DeclaredTwice) }
         ensures fault { IfErr result (IsFaultAt self.now DeclaredTwice) }
     {
-        failing(2, 0, self.declared_twice(alloc)?)
+        failing(Rule::DeclaredTwice, 0, self.declared_twice(alloc)?)
     }
 
     fn check_port_widths(&self) -> Result<(), SoundFault>
@@ -123,7 +176,7 @@ impl Design {
         ensures holds { OnOk result (PortsPass self.now Width) }
         ensures fault { IfErr result (IsFaultAt self.now Width) }
     {
-        failing(3, 0, self.wrong_port())
+        failing(Rule::Width, 0, self.wrong_port())
     }
 
     fn check_signal_widths(&self) -> Result<(), SoundFault>
@@ -132,7 +185,7 @@ impl Design {
         ensures holds { OnOk result (SignalsPass self.now Width) }
         ensures fault { IfErr result (IsFaultAt self.now Width) }
     {
-        failing(3, self.ports.len(), self.wrong_signal())
+        failing(Rule::Width, self.ports.len(), self.wrong_signal())
     }
 
     fn check_driver_widths(&self) -> Result<(), SoundFault>
@@ -143,7 +196,7 @@ impl Design {
         ensures holds { OnOk result (Holds self.now Width) }
         ensures fault { IfErr result (IsFaultAt self.now Width) }
     {
-        failing(3, self.before_drivers(), self.wrong_driver())
+        failing(Rule::Width, self.before_drivers(), self.wrong_driver())
     }
 
     fn check_widths(&self) -> Result<(), SoundFault>
@@ -164,7 +217,11 @@ impl Design {
         ensures holds { OnOk result (Holds self.now DrivenTwice) }
         ensures fault { IfErr result (IsFaultAt self.now DrivenTwice) }
     {
-        failing(4, self.before_drivers(), self.driven_twice(firsts))
+        failing(
+            Rule::DrivenTwice,
+            self.before_drivers(),
+            self.driven_twice(firsts),
+        )
     }
 
     fn check_driven_ports(&self, firsts: &[Option<usize>]) -> Result<(), SoundFault>
@@ -174,7 +231,7 @@ impl Design {
         ensures holds { OnOk result (PortsPass self.now NotDriven) }
         ensures fault { IfErr result (IsFaultAt self.now NotDriven) }
     {
-        failing(5, 0, self.undriven_port(firsts))
+        failing(Rule::NotDriven, 0, self.undriven_port(firsts))
     }
 
     fn check_driven_signals(&self, firsts: &[Option<usize>]) -> Result<(), SoundFault>
@@ -185,7 +242,11 @@ impl Design {
         ensures holds { OnOk result (Holds self.now NotDriven) }
         ensures fault { IfErr result (IsFaultAt self.now NotDriven) }
     {
-        failing(5, self.ports.len(), self.undriven_signal(firsts))
+        failing(
+            Rule::NotDriven,
+            self.ports.len(),
+            self.undriven_signal(firsts),
+        )
     }
 
     fn check_driven(&self, firsts: &[Option<usize>]) -> Result<(), SoundFault>
@@ -208,7 +269,11 @@ impl Design {
         ensures ordered { OnOk result (IsOrdered self.now) }
         ensures fault { IfErr result (IsFaultAt self.now Cyclic) }
     {
-        failing(6, self.before_drivers(), self.cyclic(alloc, firsts)?)
+        failing(
+            Rule::Cyclic,
+            self.before_drivers(),
+            self.cyclic(alloc, firsts)?,
+        )
     }
 
     fn check_inputs(&self, alloc: Global) -> Result<(), SoundFault>
@@ -217,7 +282,11 @@ impl Design {
         ensures holds { OnOk result (Holds self.now ReadsOutput) }
         ensures fault { IfErr result (IsFaultAt self.now ReadsOutput) }
     {
-        failing(7, self.before_drivers(), self.reads_output(alloc)?)
+        failing(
+            Rule::ReadsOutput,
+            self.before_drivers(),
+            self.reads_output(alloc)?,
+        )
     }
 
     fn check_initials(&self, firsts: &[Option<usize>]) -> Result<(), SoundFault>
@@ -228,7 +297,7 @@ impl Design {
         ensures holds { OnOk result (Holds self.now NoInitial) }
         ensures fault { IfErr result (IsFaultAt self.now NoInitial) }
     {
-        failing(8, self.ports.len(), self.no_initial(firsts))
+        failing(Rule::NoInitial, self.ports.len(), self.no_initial(firsts))
     }
 
     fn check_addresses(&self, alloc: Global) -> Result<(), SoundFault>
@@ -237,7 +306,11 @@ impl Design {
         ensures holds { OnOk result (Holds self.now ChoiceTwice) }
         ensures fault { IfErr result (IsFaultAt self.now ChoiceTwice) }
     {
-        failing(9, self.before_drivers(), self.choice_twice(alloc)?)
+        failing(
+            Rule::ChoiceTwice,
+            self.before_drivers(),
+            self.choice_twice(alloc)?,
+        )
     }
 
     fn check_enable(&self) -> Result<(), SoundFault>
@@ -246,6 +319,6 @@ impl Design {
         ensures holds { OnOk result (Holds self.now BadEnable) }
         ensures fault { IfErr result (IsFaultAt self.now BadEnable) }
     {
-        failing(10, 0, self.bad_enable())
+        failing(Rule::BadEnable, 0, self.bad_enable())
     }
 }

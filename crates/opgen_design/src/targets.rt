@@ -1,33 +1,42 @@
 //! Which signal or output port each driver drives, and the first driver of each of them.
 ghost use Rattle.std.specs.Prelude.{◌≡◌, ◌<◌, ◌^◌, IfOk, IsTrue, ◌↔◌, length};
+ghost use Rattle.opgen_design.specs.Order.{is_register};
 ghost use Rattle.opgen_design.specs.Rules.{AreFirstDrivers, noted, slot};
-ghost use Rattle.opgen_design.specs.Sound.{Undeclared, Holds, HasNumbers, Names, IsInput, target};
+ghost use Rattle.opgen_design.specs.declared.sound.Rule.TheVariants.{Undeclared};
+ghost use Rattle.opgen_design.specs.Sound.{Holds, HasNumbers, Names, IsInput, target};
 
-use crate::{Design, Dir, Driver};
+use crate::{Design, Dir, Driver, Target};
 use std::alloc::{AllocError, Global};
 
 impl Driver {
+    /// What the driver drives.
+    pub fn target(&self) -> Target
+        ensures { result ≡ target self.now }
+    {
+        match self {
+            Driver::Assign { to, .. }
+            | Driver::Choice { to, .. }
+            | Driver::Table { to, .. }
+            | Driver::Register { to, .. } => Target::Signal(*to),
+            Driver::Output { port, .. } => Target::Port(*port),
+        }
+    }
+
+    /// Whether the driver is a register.
+    pub fn is_register(&self) -> bool
+        ensures { result ≡ is_register self.now }
+    {
+        matches!(self, Driver::Register { .. })
+    }
+
     /// The slot of what the driver drives, in a design of so many signals: that of a signal, or after those that of a port.
     pub(crate) fn slot(&self, signals: usize) -> usize
         requires { slot signals (target self.now) < 2 ^ 64 }
         ensures { result ≡ slot signals (target self.now) }
     {
-        match self {
-            Driver::Assign { to, expr: _ } => *to,
-            Driver::Choice {
-                to,
-                on: _,
-                yes: _,
-                no: _,
-            } => *to,
-            Driver::Table {
-                to,
-                on: _,
-                rows: _,
-                other: _,
-            } => *to,
-            Driver::Register { to, expr: _ } => *to,
-            Driver::Output { port, expr: _ } => signals + *port,
+        match self.target() {
+            Target::Signal(signal) => signal,
+            Target::Port(port) => signals + port,
         }
     }
 }
@@ -62,9 +71,9 @@ impl Design {
         requires { Names self.now (target driver.now) }
         ensures { IsTrue result ↔ IsInput self.now (target driver.now) }
     {
-        match driver {
-            Driver::Output { port, expr: _ } => matches!(self.ports.get(*port).dir, Dir::In),
-            _ => false,
+        match driver.target() {
+            Target::Signal(_) => false,
+            Target::Port(port) => matches!(self.ports.get(port).dir, Dir::In),
         }
     }
 }

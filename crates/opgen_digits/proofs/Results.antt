@@ -26,10 +26,6 @@ abbrev pub result_ports : (exact : Bool) → (name : List ℕ) → (width rest :
 result_ports true name width rest = (name, width) ∷ (codes "r", rest) ∷ []
 result_ports false name width rest = (name, width) ∷ []
 
-abbrev pub result_names : (exact : Bool) → (name : List ℕ) → List (List ℕ)
-result_names true name = name ∷ codes "r" ∷ []
-result_names false name = name ∷ []
-
 -- their words at a time
 abbrev pub result_words : Net → Inputs → ℤ → List (List Bool)
 result_words net inputs t = map (λ o. slice_flow net.nodes inputs o.from t) net.outputs
@@ -99,10 +95,6 @@ module _ (name : List ℕ) (known : Known) (valid : IsValid known.net) where
         (whole-width (length known.rest) rest_output.from.node (are.rest_width refl).0)
     results-shown false are =
         ap (map shown) one-outputs ∙ ap (λ m. (name, m) ∷ []) (whole-width (length known.digits) digit_output.from.node are.width.0)
-
-    pub results-names : (exact : Bool) → map (λ o. o.name) (with_results exact name known).outputs ≡ result_names exact name
-    results-names true = ap (map (λ (o : Output). o.name)) two-outputs
-    results-names false = ap (map (λ (o : Output). o.name)) one-outputs
 
     module _ (inputs : Inputs) (t : ℤ) (words : All (AreWords (input_widths known.net)) inputs) where
       abbrev in_net : Net → Output → List Bool

@@ -1,4 +1,3 @@
 mod Arithmetic
 mod Steps
 pub mod Whole
-mod Named

@@ -7,7 +7,6 @@ use Rattle.std.proofs.lemmas.Int.{ints}
 use Rattle.std.proofs.lemmas.List.{length-replicate}
 use Rattle.std.proofs.lemmas.List.Elements.{All-take}
 use Rattle.opgen_num.specs.declared.format.Format.{Format}
-use Rattle.opgen_num.specs.Formats.{fewest_bits}
 use Rattle.opgen_num.specs.Rounding.{IsWithinOne}
 use Rattle.opgen_num.specs.Values.{int, val}
 use Rattle.opgen_num.specs.Words.{nat}
@@ -26,12 +25,13 @@ use Rattle.opgen_operator.specs.Accepted.{IsAcceptedPair}
 use Rattle.opgen_operator.specs.Exact.{Recent}
 use Rattle.opgen_operator.specs.Fits.{FitsOperator, FitsSpecsOf, name_and_width}
 use Rattle.opgen_operator.specs.Good.{IsGoodQuotient}
-use Rattle.opgen_operator.specs.Judged.{recent_words, output_words}
+use Rattle.opgen_operator.specs.PortNumbers.{recent_words, output_words}
 use Rattle.opgen_operator.specs.Outputs.{places_up, pair_shift, up}
 use Rattle.opgen_operator.specs.Ports.{operator_inputs, quotient_ports}
 use Rattle.opgen_operator.specs.Ranges.{IsPair}
 use Rattle.opgen_operator.specs.Valid.{AgreesOnExact}
 use Rattle.opgen_operator.proofs.Accepted.{accepted_ranges, accepted_width}
+use Rattle.opgen_operator.proofs.InputPorts.{input_bit}
 use Rattle.opgen_net.specs.Placed.{number_at}
 use Rattle.opgen_digits.specs.Digit.{Known}
 use Rattle.opgen_digits.specs.Results.{AreResults, with_results}
@@ -45,18 +45,12 @@ use Rattle.opgen_divide.proofs.Steps.{HasWidths, base, AreFor, divisor_at, Stand
 
 -- accepted pairs
 
-some_bits : (signed : Bool) (width : ℕ) → signed ≡ false → fewest_bits signed ≤ width → 1 ≤ width
-some_bits false width e h = h
-some_bits true width e h = omega (arith, h)
-
 pub has_widths : (p : Pair) → IsAcceptedPair p → HasWidths p
 has_widths p is =
     let ranges : IsPair p = accepted_ranges (Divide p) is in
-    let a : 1 ≤ p.a.width = some_bits p.a.signed p.a.width ranges.a_unsigned ranges.a.fewest in
-    let b : 1 ≤ p.b.width = some_bits p.b.signed p.b.width ranges.b_unsigned ranges.b.fewest in
     record {
-      some_a = a;
-      some_b = b;
+      some_a = input_bit p.a ranges.a;
+      some_b = input_bit p.b ranges.b;
       few_a = omega (arith, ranges.a.most);
       few_b = omega (arith, ranges.b.most);
       few = accepted_width (Divide p) (digit_count p) is refl;

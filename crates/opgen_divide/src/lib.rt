@@ -8,13 +8,11 @@
 //! By: `build`.
 #![tactic(auto)]
 
-ghost use Rattle.std.specs.Prelude.{ℕ, ◌≡◌, ◌+◌, ◌≤◌, List, IsTrue, [], ◌∷◌, ◌++◌, All, IfOk, OnOk, length, slice_index};
+ghost use Rattle.std.specs.Prelude.{◌≡◌, ◌+◌, ◌≤◌, [], ◌∷◌, ◌++◌, All, IfOk, OnOk, length, slice_index};
 ghost use Rattle.opgen_num.specs.declared.TheConstants.{MAX_WIDTH};
 ghost use Rattle.opgen_net.specs.declared.word_bits.WordBit.TheVariants.{Zero};
 ghost use Rattle.opgen_net.specs.Valid.{IsValid, widths};
-ghost use Rattle.opgen_net.specs.Named.{IsNamed};
 ghost use Rattle.opgen_net.specs.WordRule.{IsThere};
-ghost use Rattle.opgen_names.specs.Names.{is_allowed_name};
 ghost use Rattle.opgen_operator.specs.Accepted.{IsAcceptedPair};
 ghost use Rattle.opgen_operator.specs.Fits.{FitsSpecsOf};
 ghost use Rattle.opgen_operator.specs.declared.spec.Operator.TheVariants.{Divide};
@@ -146,7 +144,6 @@ pub fn build(alloc: Global, pair: &Pair) -> Result<Net, Memory>
     ensures net { IfOk result (λ net. net ≡ net_of_pair pair.now) }
     ensures steps { IfOk result (HoldsAfterEachStep pair.now) }
     ensures fits { IfOk result (FitsSpecsOf (Divide pair.now)) }
-    ensures named { IfOk result (λ net. (name : List ℕ) → IsTrue (is_allowed_name name) → IsNamed name net) }
 {
     let mut net = inputs(alloc, pair)?;
     let divisor = divisor(alloc, pair, &mut net)?;

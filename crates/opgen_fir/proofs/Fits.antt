@@ -32,11 +32,12 @@ use Rattle.opgen_operator.specs.Exact.{Recent, exact_sum}
 use Rattle.opgen_operator.specs.Fits.{FitsOperator, FitsSpecsOfSum}
 use Rattle.opgen_operator.specs.Good.{IsGoodRatio}
 use Rattle.opgen_operator.specs.Held.{OutputsHold}
-use Rattle.opgen_operator.specs.Judged.{recent_words}
+use Rattle.opgen_operator.specs.PortNumbers.{recent_words}
 use Rattle.opgen_operator.specs.Outputs.{inexact, first_inexact, guard_bits}
 use Rattle.opgen_operator.specs.Ports.{sum_format, one_input}
 use Rattle.opgen_operator.specs.Ranges.{IsSum}
 use Rattle.opgen_operator.specs.Reached.{IsOf}
+use Rattle.opgen_operator.proofs.InputPorts.{input_bit}
 use Rattle.opgen_kcm.specs.Recipe.{Terms, HasTermsMore}
 use Rattle.opgen_kcm.specs.Multiple.{sum_at}
 use Rattle.opgen_heap.proofs.Residues.{residue-then}
@@ -44,7 +45,6 @@ use Rattle.opgen_fir.specs.Recipe.{tapped, no_terms, with_half, sum_width, above
 use Rattle.opgen_fir.specs.Summed.{back, recent, HasSum}
 use Rattle.opgen_fir.proofs.Delays.{back-is}
 use Rattle.opgen_fir.proofs.Good.{half_of, rounded, rounded-floor, sum-good}
-use Rattle.opgen_fir.proofs.Narrow.{fewest-some}
 
 -- what is left of a number is the number less a multiple of the divisor
 residue-congruent : (z : ℤ) (m : ℕ) → 0 < m → z +ℤ (pos m *ℤ (pos 0 -ℤ int_div_euclid z (pos m))) ≡ pos (residue z m)
@@ -88,7 +88,7 @@ module _ (s : Sum) (ranges : IsSum 256 s) (hold : OutputsHold) (some : 1 ≤ (su
         let x = input_at inputs 0 s.input.width (back ago u) in
         let size : length x ≡ s.input.width = input_at-width (s.input.width ∷ []) inputs words 0 s.input.width refl (back ago u) in
         subst (λ k. Holds s.input.signed k (val x s.input)) size
-        (val_holds x s.input (omega (arith, size, fewest-some s.input.signed, ranges.input.fewest)))
+        (val_holds x s.input (omega (arith, size, input_bit s.input ranges.input)))
 
     long : length (flow after.nodes inputs n u) ≡ sum_width s
     long =

@@ -7,5 +7,3 @@ pub mod Narrow
 pub mod Good
 pub mod Fits
 pub mod Steps
-pub mod Tables
-pub mod SumNets

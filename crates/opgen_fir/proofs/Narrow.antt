@@ -6,8 +6,9 @@ use Rattle.std.proofs.lemmas.Grind.{div_ceil_times}
 use Rattle.std.proofs.lemmas.Int.{ints, unsigned_abs-mul}
 use Rattle.std.proofs.lemmas.Nat.{pow-add, pow_pos}
 use Rattle.opgen_num.specs.declared.TheConstants.{MAX_WIDTH}
-use Rattle.opgen_num.specs.Formats.{fewest_bits, range_width}
+use Rattle.opgen_num.specs.Formats.{range_width}
 use Rattle.opgen_num.proofs.RangeWidth.{range_width-least}
+use Rattle.opgen_operator.proofs.InputPorts.{input_bit}
 use Rattle.opgen_operator.proofs.Totals.{sum-cons}
 use Rattle.opgen_operator.specs.declared.spec.Sum.{Sum}
 use Rattle.opgen_operator.specs.Outputs.{sum_shift, up, reach_with, reach_of, above_zero, below_zero, rises, falls, sum_reach, sum_places, guard_bits}
@@ -69,10 +70,6 @@ units-span s sum k h =
     let some = mul-le-mul_left (u * (r.below + r.above)) (coef-within s.coefs k h) in
     omega (arith, low, high, some)
 
-pub fewest-some : (signed : Bool) → 1 ≤ fewest_bits signed
-fewest-some true = omega arith
-fewest-some false = omega arith
-
 one_more : (a b : ℕ) → 0 < b → a * (b - 1) + a ≡ a * b
 one_more a zero h = absurd (omega (arith, h))
 one_more a (suc b) h = let e : suc b - 1 ≡ b = omega arith in omega (arith, ap (λ n. a * n) e)
@@ -89,8 +86,7 @@ narrow-terms s sum k h fits =
     let out = (sum_format s).width in
     let q = in_guard_units (factor s c) (guard_bits s) in
     let r = reach_of s.input in
-    let some : 1 ≤ w = omega (arith, fewest-some s.input.signed, sum.input.fewest) in
-    let span : r.below + r.above ≡ 2 ^ w - 1 = omega (arith, reach-span s.input.signed w some) in
+    let span : r.below + r.above ≡ 2 ^ w - 1 = omega (arith, reach-span s.input.signed w (input_bit s.input sum.input)) in
     let size : unsigned_abs q.num ≡ unsigned_abs c * u * g =
     unsigned_abs-mul (c *ℤ pos u) (pos g) ∙ ap (λ n. n * g) (unsigned_abs-mul c (pos u)) in
     let range : (sum_places s).below + (sum_places s).above ≤ 2 ^ out - 1 =

@@ -3,7 +3,7 @@ use Rattle.std.proofs.Common.{◌≡◌, ℕ, zero, suc, ◌+◌, ◌<◌, ◌�
 use Rattle.std.specs.Prelude.{slice_get}
 use Rattle.std.proofs.lemmas.Option.{slice_get_within}
 use Rattle.opgen_design.specs.declared.design.Design.{Design}
-use Rattle.opgen_design.specs.Run.{Words, Cycle, RunsOn, initial_words, outputs_of}
+use Rattle.opgen_design.specs.Run.{Words, Cycle, RunsOn, initial_words, words_at_outputs}
 use Rattle.opgen_design.specs.Sound.{IsSound}
 use Rattle.opgen_runs.proofs.Reading.{there-some}
 use Rattle.opgen_forward.specs.Depth.{HasDepth, AgreeFrom, OutputsDependOnDepth}
@@ -76,6 +76,6 @@ module _ (d : Design) (depth : ℕ) (sound : IsSound d) (has : HasDepth d depth)
 pub outputs-depend : OutputsDependOnDepth
 outputs-depend d depth sound has inputs others vs us h k t u v w agree e f =
     let start = initial_words d.signals in
-    ap (outputs_of d)
+    ap (words_at_outputs d)
     (same-words d depth sound has inputs others vs us t u agree (slice_get_within vs (t + depth) v e) (slice_get_within us (u + depth) w f)
     start start (states d inputs start vs h) (states d others start us k) v w e f)

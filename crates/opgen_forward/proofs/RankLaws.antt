@@ -12,10 +12,11 @@ use Rattle.opgen_design.specs.declared.design.Driver.TheVariants.{Assign, Choice
 use Rattle.opgen_design.specs.declared.expr.Expr.{Expr}
 use Rattle.opgen_design.specs.Plain.{plain, plain_all}
 use Rattle.opgen_design.specs.Reads.{ReadsName, SomeOperandReads}
-use Rattle.opgen_design.specs.Sound.{signal, target}
+use Rattle.opgen_design.specs.declared.design.Target.TheVariants.{Signal as signal}
+use Rattle.opgen_design.specs.Sound.{target}
 use Rattle.opgen_design.specs.Tree.{Tree, Trees, name, part, bits, port, inverse, chain, none, more}
-use Rattle.opgen_forward.specs.Depth.{Reads, registers_in, AreRanks}
-use Rattle.opgen_forward.specs.Ranks.{highest, highest_of, least_rank, is_ranked}
+use Rattle.opgen_forward.specs.Depth.{Reads, registers_in, CountRegisters}
+use Rattle.opgen_forward.specs.Ranks.{highest, highest_of, least_rank, is_at_most, is_ranked}
 
 module _ (rank : ℕ → ℕ) where
   -- one operand more
@@ -63,17 +64,12 @@ module _ (rank : ℕ → ℕ) where
   register-least (Output place e) = omega arith
 
   least-rank : (k : Driver) (s : ℕ) → is_ranked rank k ≡ true → target k ≡ signal s → least_rank rank k ≤ rank s
-  least-rank (Assign to e) s h t = let is : to ≡ s = cc in subst (λ n. highest rank e ≤ rank n) is (leb-true _ _ h)
-  least-rank (Choice to on one other) s h t =
-      let is : to ≡ s = cc in subst (λ n. least_rank rank (Choice to on one other) ≤ rank n) is (leb-true _ _ h)
-  least-rank (Table to on rows other) s h t = let is : to ≡ s = cc in subst (λ n. highest rank on ≤ rank n) is (leb-true _ _ h)
-  least-rank (Register to e) s h t = let is : to ≡ s = cc in subst (λ n. highest rank e + 1 ≤ rank n) is (leb-true _ _ h)
-  least-rank (Output place e) s h t = absurd (cc)
+  least-rank k s h t = leb-true _ _ (subst (λ x. is_at_most (least_rank rank k) rank x ≡ true) t h)
 
   ranked-at : (ks : List Driver) → list_all (is_ranked rank) ks ≡ true → (k : Driver) → Contains ks k → is_ranked rank k ≡ true
   ranked-at ks h k c = subst (λ x. is_ranked rank x ≡ true) c.2 (AllPass-from_list_all (is_ranked rank) ks h c.0 k c.1)
 
-  pub checked-ranks : (d : Design) → list_all (is_ranked rank) d.drivers ≡ true → AreRanks d rank
+  pub checked-ranks : (d : Design) → list_all (is_ranked rank) d.drivers ≡ true → CountRegisters d rank
   checked-ranks d h = record {
     reads = λ s r k c t z. omega (arith, read-least k r z, least-rank k s (ranked-at d.drivers h k c) t);
     registers = λ s k c t. omega (arith, register-least k, least-rank k s (ranked-at d.drivers h k c) t);

@@ -4,8 +4,9 @@ use Rattle.opgen_design.specs.declared.design.Design.{Design}
 use Rattle.opgen_design.specs.declared.design.Driver.{Driver}
 use Rattle.opgen_design.specs.declared.design.Driver.TheVariants.{Assign, Choice, Table, Register, Output}
 use Rattle.opgen_design.specs.Reads.{ReadsName}
-use Rattle.opgen_design.specs.Run.{Words, Run, outputs_of}
-use Rattle.opgen_design.specs.Sound.{IsSound, signal, target}
+use Rattle.opgen_design.specs.Run.{Words, Run, words_at_outputs}
+use Rattle.opgen_design.specs.declared.design.Target.TheVariants.{Signal as signal}
+use Rattle.opgen_design.specs.Sound.{IsSound, target}
 
 -- a driver reads a signal, in this cycle or, as a register, for the next one
 abbrev pub Reads : ℕ → Driver → Type 0
@@ -21,7 +22,7 @@ registers_in (Register to e) = 1
 registers_in _ = 0
 
 -- a number for each signal: at least that of each signal that its driver reads, for a register one more, and a register's is at least 1
-pub record AreRanks (d : Design) (rank : ℕ → ℕ) : Type 0 where
+pub record CountRegisters (d : Design) (rank : ℕ → ℕ) : Type 0 where
   pub reads : (s r : ℕ) (k : Driver) → Contains d.drivers k → target k ≡ signal s → Reads r k → rank r + registers_in k ≤ rank s
   pub registers : (s : ℕ) (k : Driver) → Contains d.drivers k → target k ≡ signal s → registers_in k ≤ rank s
 
@@ -29,7 +30,7 @@ pub record AreRanks (d : Design) (rank : ℕ → ℕ) : Type 0 where
 pub record HasDepth (d : Design) (depth : ℕ) : Type 0 where
   pub no_enable : d.enable ≡ None
   pub rank : ℕ → ℕ
-  pub ranks : AreRanks d rank
+  pub ranks : CountRegisters d rank
   pub most : (s : ℕ) → rank s ≤ depth
 
 -- the inputs of so many cycles, from one on in each list, are the same
@@ -41,4 +42,4 @@ AgreeFrom cycles t u inputs others = (i : ℕ) → i ≤ cycles → slice_get in
 abbrev pub OutputsDependOnDepth : Type 0
 OutputsDependOnDepth = (d : Design) (depth : ℕ) → IsSound d → HasDepth d depth → (inputs others : List (List (List Bool))) (vs us : List Words)
     → Run d inputs vs → Run d others us → (t u : ℕ) (v w : Words) → AgreeFrom depth t u inputs others
-    → slice_get vs (t + depth) ≡ Some v → slice_get us (u + depth) ≡ Some w → outputs_of d v ≡ outputs_of d w
+    → slice_get vs (t + depth) ≡ Some v → slice_get us (u + depth) ≡ Some w → words_at_outputs d v ≡ words_at_outputs d w

@@ -2,6 +2,9 @@
 use Rattle.std.specs.Prelude.{ℕ, ◌+◌, max, Bool, true, nat_le}
 use Rattle.opgen_design.specs.declared.design.Driver.{Driver}
 use Rattle.opgen_design.specs.declared.design.Driver.TheVariants.{Assign, Choice, Table, Register, Output}
+use Rattle.opgen_design.specs.declared.design.Target.{Target}
+use Rattle.opgen_design.specs.declared.design.Target.TheVariants.{Signal as signal, Port as port_of}
+use Rattle.opgen_design.specs.Sound.{target}
 use Rattle.opgen_design.specs.Tree.{Tree, Trees, name, part, bits, port, inverse, chain, none, more}
 
 abbrev mutual
@@ -26,10 +29,11 @@ least_rank rank (Table to on rows other) = highest rank on
 least_rank rank (Register to e) = highest rank e + 1
 least_rank rank (Output place e) = highest rank e
 
--- whether its signal has at least that rank; a port has none
+-- whether a number is at most the rank of a signal; a port has none
+abbrev pub is_at_most : ℕ → (rank : ℕ → ℕ) → Target → Bool
+is_at_most least rank (signal s) = nat_le least (rank s)
+is_at_most least rank (port_of p) = true
+
+-- whether what a driver drives has at least the least rank that is allowed
 abbrev pub is_ranked : (rank : ℕ → ℕ) → Driver → Bool
-is_ranked rank (Assign to e) = nat_le (least_rank rank (Assign to e)) (rank to)
-is_ranked rank (Choice to on one other) = nat_le (least_rank rank (Choice to on one other)) (rank to)
-is_ranked rank (Table to on rows other) = nat_le (least_rank rank (Table to on rows other)) (rank to)
-is_ranked rank (Register to e) = nat_le (least_rank rank (Register to e)) (rank to)
-is_ranked rank (Output place e) = true
+is_ranked rank k = is_at_most (least_rank rank k) rank (target k)

@@ -1,4 +1,4 @@
-//! The depth of a design: the most registers on a way from an input.
+//! The depth of a design: the most registers on a way to a signal.
 ghost use Rattle.std.specs.Prelude.{ℕ, ◌≡◌, ◌≤◌, IfOk, IfSome, slice_index, true};
 ghost use Rattle.std.specs.List.{list_all};
 ghost use Rattle.opgen_design.specs.Sound.{HasNumbers, IsSound};
@@ -6,7 +6,7 @@ ghost use Rattle.opgen_forward.specs.Depth.{HasDepth};
 ghost use Rattle.opgen_forward.specs.Ranks.{is_ranked};
 
 use crate::ranks::{is_ranked, least_rank};
-use opgen_design::{Design, Driver};
+use opgen_design::{Design, Driver, Target};
 use opgen_num::Memory;
 use std::alloc::{AllocError, Global};
 
@@ -18,39 +18,20 @@ enum Raised {
     TooHigh,
 }
 
-fn signal_of(driver: &Driver) -> Option<usize> {
-    match driver {
-        Driver::Assign { to, expr: _ }
-        | Driver::Choice {
-            to,
-            on: _,
-            yes: _,
-            no: _,
-        }
-        | Driver::Table {
-            to,
-            on: _,
-            rows: _,
-            other: _,
-        }
-        | Driver::Register { to, expr: _ } => Some(*to),
-        Driver::Output { port: _, expr: _ } => None,
-    }
-}
-
 // Raises the rank of the driver's signal to the least that is allowed, unless that is above the most.
 fn raise(driver: &Driver, most: u32, ranks: &mut [u32]) -> Raised {
+    let Target::Signal(signal) = driver.target() else {
+        return Raised::No;
+    };
     let least = least_rank(driver, ranks);
-    match signal_of(driver) {
-        Some(signal) if signal < ranks.len() && u64::from(ranks[signal]) < least => {
-            if least > u64::from(most) {
-                return Raised::TooHigh;
-            }
-            ranks[signal] = least as u32;
-            Raised::Yes
-        }
-        _ => Raised::No,
+    if signal >= ranks.len() || least <= u64::from(ranks[signal]) {
+        return Raised::No;
     }
+    if least > u64::from(most) {
+        return Raised::TooHigh;
+    }
+    ranks[signal] = least as u32;
+    Raised::Yes
 }
 
 // One pass over the drivers in this order.
@@ -68,24 +49,18 @@ fn raise_all(drivers: &[Driver], order: &[usize], most: u32, ranks: &mut [u32]) 
     raised
 }
 
-// Raises ranks until they stay, in no more passes than the most rank asks for.
-fn settle(drivers: &[Driver], order: &[usize], most: u32, ranks: &mut [u32]) -> Raised {
+// Raises ranks until they stay or one is too high, in no more passes than the most rank asks for.
+fn settle(drivers: &[Driver], order: &[usize], most: u32, ranks: &mut [u32]) {
     for _ in 0..u64::from(most) + 2 {
-        let raised = raise_all(drivers, order, most, ranks);
-        if raised != Raised::Yes {
-            return raised;
+        if raise_all(drivers, order, most, ranks) != Raised::Yes {
+            return;
         }
     }
-    Raised::Yes
-}
-
-fn is_register(driver: &Driver) -> bool {
-    matches!(driver, Driver::Register { .. })
 }
 
 fn add_registers(drivers: &[Driver], places: &mut Vec<usize>) -> Result<(), AllocError> {
     for (place, driver) in drivers.iter().enumerate() {
-        if is_register(driver) {
+        if driver.is_register() {
             places.push(place)?;
         }
     }

@@ -3,7 +3,7 @@ ghost use Rattle.std.specs.Prelude.{◌≡◌, slice_index};
 ghost use Rattle.opgen_design.specs.Plain.{plain, plain_all};
 ghost use Rattle.opgen_forward.specs.Ranks.{highest, highest_of, is_ranked, least_rank};
 
-use opgen_design::{Driver, Expr};
+use opgen_design::{Driver, Expr, Target};
 
 fn rank_at(ranks: &[u32], signal: usize) -> u32
     ensures { result ≡ slice_index ranks.now signal }
@@ -63,23 +63,8 @@ pub(crate) fn least_rank(driver: &Driver, ranks: &[u32]) -> u64
 pub(crate) fn is_ranked(driver: &Driver, ranks: &[u32]) -> bool
     ensures { result ≡ is_ranked (slice_index ranks.now) driver.now }
 {
-    match driver {
-        Driver::Assign { to, expr: _ }
-        | Driver::Choice {
-            to,
-            on: _,
-            yes: _,
-            no: _,
-        }
-        | Driver::Table {
-            to,
-            on: _,
-            rows: _,
-            other: _,
-        }
-        | Driver::Register { to, expr: _ } => {
-            least_rank(driver, ranks) <= u64::from(rank_at(ranks, *to))
-        }
-        Driver::Output { port: _, expr: _ } => true,
+    match driver.target() {
+        Target::Signal(signal) => { least_rank(driver, ranks) <= u64::from(rank_at(ranks, signal)) }
+        Target::Port(_) => true,
     }
 }

@@ -1,4 +1,4 @@
--- The net of several constants fits every valid specification of them, and its ports are named as a design asks.
+-- The net of several constants fits every valid specification of them.
 use Rattle.std.proofs.Common.{◌≡◌, ℕ, Bool, true, false, ◌++◌, map, sym, ap, ◌∙◌, subst, arith}
 use Rattle.std.specs.Prelude.{ℤ, pos, ◌-ℤ◌, ◌*ℤ◌, All}
 use Rattle.std.proofs.lemmas.Int.{ints}
@@ -16,7 +16,7 @@ use Rattle.opgen_operator.specs.declared.spec.PortFormat.{PortFormat}
 use Rattle.opgen_operator.specs.declared.spec.Several.{Several}
 use Rattle.opgen_operator.specs.Fits.{FitsOperator, FitsSpecsOf}
 use Rattle.opgen_operator.specs.Held.{OutputsHold}
-use Rattle.opgen_operator.specs.Judged.{recent_words, output_words}
+use Rattle.opgen_operator.specs.PortNumbers.{recent_words, output_words}
 use Rattle.opgen_operator.specs.Limits.{most_signal}
 use Rattle.opgen_operator.specs.Ports.{operator_outputs, one_input, multiple_ports}
 use Rattle.opgen_operator.specs.Ranges.{IsSeveral}
@@ -50,7 +50,7 @@ module _ (m : Several) (is : IsAcceptedSeveral m) (graph : Graph) (serves : Serv
   abbrev pub multiples : Multiples
   multiples = multiples_of m.input graph
 
-  pub stands : Stands m.input multiples
+  stands : Stands m.input multiples
   stands = served.stands m.input ranges.input m.constants ranges.constants graph serves
 
   pub ready : Ready m.input multiples

@@ -21,6 +21,5 @@ pub mod Outputs
 pub mod ServedNets
 pub mod PartNodes
 pub mod Fits
-pub mod Named
 pub mod Serving
 pub mod Resting

@@ -21,7 +21,7 @@ use Rattle.opgen_operator.specs.Bounded.{HasWidth}
 use Rattle.opgen_operator.specs.declared.spec.PortFormat.{PortFormat}
 use Rattle.opgen_operator.specs.Fits.{name_and_width}
 use Rattle.opgen_operator.specs.Held.{OutputsHold}
-use Rattle.opgen_operator.specs.Judged.{format_at}
+use Rattle.opgen_operator.specs.PortNumbers.{format_at}
 use Rattle.opgen_operator.specs.Ports.{constant_format, numbered}
 use Rattle.opgen_operator.specs.Ranges.{IsWithin}
 use Rattle.opgen_net.specs.Placed.{Placed, whole}
@@ -29,8 +29,8 @@ use Rattle.opgen_net.proofs.Later.{node_there, words-later}
 use Rattle.opgen_graph.specs.Placing.{IsNode, HasOddPart, HasInput, IsMultiple}
 use Rattle.opgen_graph.specs.Recipe.{Multiples, with_constant, with_output, with_outputs}
 use Rattle.opgen_graph.proofs.Kept.{Keeps, keeps-later, keeps-then, words-back, input_there, input-kept, node-kept, multiple-kept}
-use Rattle.opgen_graph.proofs.Products.{Ready, ready_nodes, constant-answers, constant-value}
-use Rattle.opgen_graph.proofs.Sums.{Answers}
+use Rattle.opgen_graph.proofs.Products.{Ready, ready_nodes, constant-placed, constant-value}
+use Rattle.opgen_graph.proofs.Sums.{IsPlacedNode}
 
 whole-width : (bits place : ℕ) → 1 ≤ bits → slice_width (whole bits place) ≡ bits
 whole-width bits place some = omega (arith, some)
@@ -47,15 +47,10 @@ keeps-same net valid = record {
 }
 
 -- the node of a constant brings no port
-pub constant-outputs : (signed : Bool) (bits : ℕ) (b : Multiples) (t : ℤ) → (with_constant signed bits b t).net.outputs ≡ b.net.outputs
+constant-outputs : (signed : Bool) (bits : ℕ) (b : Multiples) (t : ℤ) → (with_constant signed bits b t).net.outputs ≡ b.net.outputs
 constant-outputs signed bits b (pos zero) = refl
 constant-outputs signed bits b (pos (suc n)) = refl
 constant-outputs signed bits b (negsuc n) = refl
-
-pub constant-inputs : (signed : Bool) (bits : ℕ) (b : Multiples) (t : ℤ) → (with_constant signed bits b t).net.inputs ≡ b.net.inputs
-constant-inputs signed bits b (pos zero) = refl
-constant-inputs signed bits b (pos (suc n)) = refl
-constant-inputs signed bits b (negsuc n) = refl
 
 -- an output of a net that is, in its format, the input times a constant
 pub record IsRight (input : Format) (net : Net) (o : Output) (t : ℤ) : Type 0 where
@@ -90,16 +85,16 @@ module _ (input : Format) (k : ℕ) (b : Multiples) (t : ℤ) (odd : HasOddPart 
   next = with_output input k b t
 
   module _ (valid : IsValid b.net) (nodes : All (IsNode b.net) b.known) where
-    node-answers : Answers b.net bits node
-    node-answers = constant-answers input.signed b valid nodes bits wide input t odd refl
+    node-placed : IsPlacedNode b.net bits node
+    node-placed = constant-placed input.signed b valid nodes bits wide input t odd refl
 
     pub output-lies : LiesWithin (widths node.net.nodes) output.from
-    output-lies = (omega arith, omega (arith, node-answers.width, wide.0))
+    output-lies = (omega arith, omega (arith, node-placed.width, wide.0))
 
     pub next-keeps : Keeps b.net next.net
     next-keeps =
-        keeps-then b.net node.net next.net (keeps-later b.net node.net node-answers.later) record {
-          valid = valid-output node.net output node-answers.later.valid output-lies;
+        keeps-then b.net node.net next.net (keeps-later b.net node.net node-placed.later) record {
+          valid = valid-output node.net output node-placed.later.valid output-lies;
           inputs = refl;
           count = omega arith;
           nodes = record { widths = λ n h. refl; flow = λ inputs n time h. refl };
@@ -125,7 +120,7 @@ module _ (input : Format) (k : ℕ) (b : Multiples) (t : ℤ) (odd : HasOddPart 
     next-right : OutputsHold → IsRight input next.net output t
     next-right hold =
         let keeps = next-keeps ready.valid nodes in
-        let answers = node-answers ready.valid nodes in
+        let answers = node-placed ready.valid nodes in
         record {
           there = node_there node.net node.place bits wide.0 answers.width;
           value = λ inputs time words.

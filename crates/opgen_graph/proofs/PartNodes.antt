@@ -30,9 +30,9 @@ use Rattle.opgen_graph.specs.Parts.{part_width, part_node, with_part, with_parts
 use Rattle.opgen_graph.specs.Placing.{factors, IsPart, IsMultiple}
 use Rattle.opgen_graph.specs.Recipe.{Multiples}
 use Rattle.opgen_graph.proofs.Kept.{keeps-later, words-back, input_there, input-kept, multiple-kept}
-use Rattle.opgen_graph.proofs.Products.{Ready, ready_nodes, magnitude-answers, magnitude-has}
+use Rattle.opgen_graph.proofs.Products.{Ready, ready_nodes, magnitude-placed, magnitude-has}
 use Rattle.opgen_graph.proofs.Residues.{settled}
-use Rattle.opgen_graph.proofs.Sums.{Answers}
+use Rattle.opgen_graph.proofs.Sums.{IsPlacedNode}
 
 -- ---- the output of a constant above 0 is signed where the input is
 
@@ -65,8 +65,8 @@ module _ (input : Format) (known : List Multiple) (net : Net) (ready : Ready inp
   abbrev multiple : Multiple
   multiple = record { factor = part; node = made.place; width = bits }
 
-  pub part-answers : Answers net bits made
-  part-answers = magnitude-answers input.signed b ready.valid (ready_nodes input b ready) bits wide part is.made
+  pub part-placed : IsPlacedNode net bits made
+  part-placed = magnitude-placed input.signed b ready.valid (ready_nodes input b ready) bits wide part is.made
 
   part-value : OutputsHold → (inputs : Inputs) (t : ℤ) → All (AreWords (input_widths net)) inputs
       → val (flow made.net.nodes inputs made.place t) input ≡ val (flow net.nodes inputs 0 t) input *ℤ pos part
@@ -83,18 +83,18 @@ module _ (input : Format) (known : List Multiple) (net : Net) (ready : Ready inp
 
   pub part-multiple : OutputsHold → IsMultiple input made.net multiple
   part-multiple hold =
-      let keeps = keeps-later net made.net part-answers.later in
+      let keeps = keeps-later net made.net part-placed.later in
       record {
-        node = record { some = wide.0; most = wide.1; width = part-answers.width };
+        node = record { some = wide.0; most = wide.1; width = part-placed.width };
         product = λ inputs t words.
             part-value hold inputs t (words-back net made.net keeps inputs words)
             ∙ ap (λ w. val w input *ℤ pos part)
-            (sym (grown-flow net made.net part-answers.later.grown inputs 0 t (input_there input net ready.has_input)));
+            (sym (grown-flow net made.net part-placed.later.grown inputs 0 t (input_there input net ready.has_input)));
       }
 
   pub part-ready : Ready input (record { net = made.net; known = known })
   part-ready =
-      let keeps = keeps-later net made.net part-answers.later in
+      let keeps = keeps-later net made.net part-placed.later in
       record {
         valid = keeps.valid;
         has_input = input-kept input net made.net keeps ready.has_input;
@@ -129,7 +129,7 @@ all-made hold input fits known before (p ∷ more) ready each stand =
     let wide = part-wide input known p fits one in
     let next = with_part input known before p in
     let m : Multiple = record { factor = p; node = (part_node input known before.net p).place; width = part_width input p } in
-    let answers = part-answers input known before.net ready p one wide in
+    let answers = part-placed input known before.net ready p one wide in
     let keeps = keeps-later before.net next.net answers.later in
     let kept = All-weaker (IsMultiple input before.net) (IsMultiple input next.net)
     (multiple-kept input before.net next.net keeps ready.has_input) before.known each in

@@ -32,7 +32,7 @@ use Rattle.opgen_graph.specs.Recipe.{multiple_of, Multiples, negated, with_magni
 use Rattle.opgen_operator.specs.OddParts.{power_of, odd_part}
 use Rattle.opgen_graph.proofs.Residues.{Has, has, difference-has, settled}
 use Rattle.opgen_graph.proofs.Standing.{multiple_of-all, multiple_of-factor}
-use Rattle.opgen_graph.proofs.Sums.{pair-fits, Answers, operand-answers, operand-has}
+use Rattle.opgen_graph.proofs.Sums.{pair-fits, IsPlacedNode, operand-placed, operand-has}
 use Rattle.opgen_graph.proofs.TargetLists.{parts_product}
 
 -- a valid net with its input and multiples
@@ -81,8 +81,8 @@ module _ (bits : ℕ) (p : Placed) (valid : IsValid p.net) (wide : IsWidth bits)
       (width-append_last p.net.nodes (Constant (word bits 0)) ∙ length-word bits 0)
       (width-append_before p.net.nodes (Constant (word bits 0)) p.place place_there ∙ width)
 
-  pub negated-answers : Answers p.net bits (negated bits p)
-  negated-answers =
+  pub negated-placed : IsPlacedNode p.net bits (negated bits p)
+  negated-placed =
       let node = Cells Add bits (difference_of (length p.net.nodes) p.place) in
       record {
         later = later-then p.net zeros (negated bits p).net zeros-later (later-node zeros node zeros-later.valid (tt, negated-fits) refl);
@@ -106,22 +106,22 @@ small_number t h = omega (arith, h)
 -- the node of a constant has the width
 
 module _ (signed : Bool) (b : Multiples) (valid : IsValid b.net) (nodes : All (IsNode b.net) b.known) (bits : ℕ) (wide : IsWidth bits) where
-  pub magnitude-answers : (n : ℕ) → Contains (factors b.known) (odd_part n) → Answers b.net bits (with_magnitude signed bits b n)
-  magnitude-answers n odd =
+  pub magnitude-placed : (n : ℕ) → Contains (factors b.known) (odd_part n) → IsPlacedNode b.net bits (with_magnitude signed bits b n)
+  magnitude-placed n odd =
       let of = multiple_of b.known (odd_part n) in
-      operand-answers signed (power_of n) bits b.net of valid wide (multiple_of-all (IsNode b.net) b.known (odd_part n) nodes odd)
+      operand-placed signed (power_of n) bits b.net of valid wide (multiple_of-all (IsNode b.net) b.known (odd_part n) nodes odd)
 
-  pub constant-answers : (input : Format) (t : ℤ) → HasOddPart b.known t → bits ≡ (constant_format input t).width
-      → Answers b.net bits (with_constant signed bits b t)
-  constant-answers input (pos zero) odd e = record {
+  pub constant-placed : (input : Format) (t : ℤ) → HasOddPart b.known t → bits ≡ (constant_format input t).width
+      → IsPlacedNode b.net bits (with_constant signed bits b t)
+  constant-placed input (pos zero) odd e = record {
     later = later-node b.net (Constant (word 1 0)) valid (omega arith, omega arith) refl;
     width = width-append_last b.net.nodes (Constant (word 1 0)) ∙ sym (e ∙ zero_width input);
   }
-  constant-answers input (pos (suc n)) odd e = magnitude-answers (suc n) (odd (λ z. cc))
-  constant-answers input (negsuc n) odd e =
+  constant-placed input (pos (suc n)) odd e = magnitude-placed (suc n) (odd (λ z. cc))
+  constant-placed input (negsuc n) odd e =
       let magnitude = with_magnitude signed bits b (suc n) in
-      let one = magnitude-answers (suc n) (odd (λ z. cc)) in
-      let two = negated-answers bits magnitude one.later.valid wide one.width in
+      let one = magnitude-placed (suc n) (odd (λ z. cc)) in
+      let two = negated-placed bits magnitude one.later.valid wide one.width in
       record { later = later-then b.net magnitude.net (negated bits magnitude).net one.later two.later; width = two.width }
 
 -- and has the input times the constant
@@ -157,7 +157,7 @@ module _ (input : Format) (b : Multiples) (ready : Ready input b) (bits : ℕ) (
   constant-has (negsuc n) small odd e inputs time words =
       let magnitude = with_magnitude input.signed bits b (suc n) in
       let nodes = ready_nodes input b ready in
-      let one = magnitude-answers input.signed b ready.valid nodes bits wide (suc n) (odd (λ z. cc)) in
+      let one = magnitude-placed input.signed b ready.valid nodes bits wide (suc n) (odd (λ z. cc)) in
       let x = val (flow b.net.nodes inputs 0 time) input in
       has bits _ _ _ (opposite x n)
       (negated-has bits magnitude one.later.valid wide one.width (x *ℤ pos (suc n)) inputs time

@@ -4,7 +4,7 @@ use Rattle.std.proofs.lemmas.List.{append-nil}
 use Rattle.std.proofs.lemmas.List.Elements.{Contains-append_left, Contains-append_right, Contains-append_cases, All-contains, All-append}
 use Rattle.std.proofs.lemmas.List.Sorted.{Contains-permutation, IsPermutation-refl, IsPermutation-cons, IsPermutation-middle, IsPermutation-trans, IsPermutation-sym, IsPermutation-append_right, All-permutation, length_permutation}
 use Rattle.opgen_graph.specs.declared.ranks.Adder.{Adder}
-use Rattle.opgen_graph.specs.Reach.{Among, Built, Reachable}
+use Rattle.opgen_graph.specs.Reach.{Among, IsBuiltFrom, Reachable}
 use Rattle.opgen_graph.specs.Graphs.{IsFirstAdder, Round, over, made, stays, Rounds, done, round, IsRanks, values}
 use Rattle.opgen_graph.specs.GraphLaws.{IsWired, IsGraphOf}
 use Rattle.opgen_graph.proofs.Members.{here, there, of_cons, of_nil, of_one, Within, wider, within_more, all_of}
@@ -14,7 +14,7 @@ more_among p q f w (u, v, cu, cv, makes) = (u, v, w u cu, w v cv, makes)
 
 -- nothing that is left can be made, so an order that begins within what is placed never comes to what is left
 pub stuck : (placed left p order : List ℕ) → Within p placed → ((x : ℕ) → Contains order x → Contains placed x ⊎ Contains left x)
-    → ((x : ℕ) → Contains left x → Among placed x → ⊥) → Built p order → (x : ℕ) → Contains order x → Contains left x → ⊥
+    → ((x : ℕ) → Contains left x → Among placed x → ⊥) → IsBuiltFrom p order → (x : ℕ) → Contains order x → Contains left x → ⊥
 stuck placed left p [] w each none b x c l = of_nil x c
 stuck placed left p (f ∷ fs) w each none b x c l =
     let makes = more_among p placed f w b.0 in
@@ -161,7 +161,7 @@ ranked placed left _ (round {rest = rest} {fresh = fresh} {later = later} s some
       wired_round placed placed left fresh rest later (λ x c. c) s tail.1,
     )
 
-built : (placed : List ℕ) (adders : List Adder) → IsWired placed adders → Built placed (values adders)
+built : (placed : List ℕ) (adders : List Adder) → IsWired placed adders → IsBuiltFrom placed (values adders)
 built placed [] h = tt
 built placed (a ∷ adders) h = ((a.u, a.v, h.0, h.1, (a.step.form, a.step.shift, h.2, h.3)), built (placed ++ a.value ∷ []) adders h.4)
 

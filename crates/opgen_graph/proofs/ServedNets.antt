@@ -1,14 +1,14 @@
 -- The nodes that a graph makes for constants which it serves: each is the input times its factor, and each odd part has one.
-use Rattle.std.proofs.Common.{◌≡◌, ℕ, ◌<◌, ◌≤◌, Bool, true, false, ◌∷◌, refl, sym, subst, ⊎_elim, arith}
+use Rattle.std.proofs.Common.{◌≡◌, ◌<◌, ◌≤◌, ◌∷◌, refl, sym, subst, ⊎_elim, arith}
 use Rattle.std.specs.Prelude.{ℤ, List, unsigned_abs, All, Contains}
 use Rattle.std.proofs.lemmas.Bool.{cases_lt}
 use Rattle.std.proofs.lemmas.List.Elements.{All-contains, All-contains_itself, All-weaker}
 use Rattle.std.proofs.lemmas.List.Sorted.{All-permutation, Contains-permutation}
 use Rattle.opgen_num.specs.declared.format.Format.{Format}
-use Rattle.opgen_num.specs.Formats.{fewest_bits}
 use Rattle.opgen_net.specs.Valid.{IsValid}
 use Rattle.opgen_operator.specs.OddParts.{odd_part}
 use Rattle.opgen_operator.specs.Ranges.{IsInput, IsWithin}
+use Rattle.opgen_operator.proofs.InputPorts.{input_bit}
 use Rattle.opgen_graph.specs.declared.ranks.Graph.{Graph}
 use Rattle.opgen_graph.specs.Graphs.{values}
 use Rattle.opgen_graph.specs.Placing.{factors, AreAdders, HasOddPart}
@@ -21,17 +21,10 @@ use Rattle.opgen_graph.proofs.Reaching.{ranks_are_graphs}
 use Rattle.opgen_graph.proofs.Standing.{Stands, first-left, all-stand}
 use Rattle.opgen_graph.proofs.TargetLists.{part_odd, some_number}
 
-some_bits : (signed : Bool) (width : ℕ) → fewest_bits signed ≤ width → 1 ≤ width
-some_bits false width h = h
-some_bits true width h = omega (arith, h)
-
 module _ (input : Format) (is : IsInput input) where
-  pub some_input : 1 ≤ input.width
-  some_input = some_bits input.signed input.width is.fewest
-
   pub input-valid : IsValid (with_input input)
   input-valid = record {
-    nodes = ((some_input, omega (arith, is.most)), tt);
+    nodes = ((input_bit input is, omega (arith, is.most)), tt);
     inputs = refl;
     outputs = λ k d l. absurd (omega (arith, l));
   }
@@ -41,7 +34,7 @@ module _ (input : Format) (is : IsInput input) where
     are_adders =
         let of = ranks_are_graphs serves.set graph.adders serves.ranks in
         record {
-          some = some_input;
+          some = input_bit input is;
           most = is.most;
           members = All-permutation IsMember serves.set (values graph.adders) of.members serves.adders.members;
           wired = of.wired;

@@ -17,7 +17,7 @@ use Rattle.opgen_csd.proofs.Existence.{some_form}
 use Rattle.opgen_csd.proofs.StepUp.{partials_step_up, partials_end}
 use Rattle.opgen_graph.specs.declared.forms.Form.TheVariants.{A, B}
 use Rattle.opgen_graph.specs.Adders.{Comb}
-use Rattle.opgen_graph.specs.Reach.{Built, IsMember, Reaches}
+use Rattle.opgen_graph.specs.Reach.{IsBuiltFrom, IsMember, Reaches}
 use Rattle.opgen_graph.specs.SignedDigits.{IsTarget, IsPartialOf, IsDigitSet}
 use Rattle.opgen_graph.proofs.Members.{here, there, of_cons, of_nil, of_one, all_of}
 
@@ -43,7 +43,7 @@ pub climbs : (xs : List ℕ) → IsStrictlyIncreasing xs → Climbs xs
 climbs xs h = suc_climbs xs (λ k lt. subst (λ n. get_or xs k 0 < get_or xs n 0) (add-one k) (h k (omega (arith, lt))))
 
 built_up : (placed xs : List ℕ) → Contains placed 1 → Climbs xs
-    → ((x : ℕ) → Contains xs x → (y : ℕ) × (y < x) × (Contains placed y ⊎ Contains xs y) × Comb 1 y x) → Built placed xs
+    → ((x : ℕ) → Contains xs x → (y : ℕ) × (y < x) × (Contains placed y ⊎ Contains xs y) × Comb 1 y x) → IsBuiltFrom placed xs
 built_up placed [] one h each = tt
 built_up placed (f ∷ fs) one h each =
     let (y, lt, from, comb) = each f (here f fs) in

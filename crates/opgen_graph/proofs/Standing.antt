@@ -35,7 +35,7 @@ use Rattle.opgen_graph.proofs.Kept.{keeps-later, words-back, input_there, input-
 use Rattle.opgen_graph.proofs.Members.{of_cons, of_nil}
 use Rattle.opgen_graph.proofs.Ranges.{product_holds}
 use Rattle.opgen_graph.proofs.Residues.{has, settled, scaled}
-use Rattle.opgen_graph.proofs.Sums.{Answers, sum-answers, sum-has, lowest-answers, lowest-has}
+use Rattle.opgen_graph.proofs.Sums.{IsPlacedNode, sum-placed, sum-has, lowest-placed, lowest-has}
 
 -- the multiple by a factor that is there
 
@@ -151,11 +151,11 @@ module _ (input : Format) (b : Multiples) (a : Adder) (s : Stands input b) (can 
   pub wide : IsWidth (bits + low)
   wide = (omega (arith, some), few)
 
-  pub to_sum : Answers b.net (bits + low) sum
-  to_sum = sum-answers input.signed (bits + low) b.net a u v s.later.valid wide of_u.node of_v.node
+  pub to_sum : IsPlacedNode b.net (bits + low) sum
+  to_sum = sum-placed input.signed (bits + low) b.net a u v s.later.valid wide of_u.node of_v.node
 
-  to_next : Answers sum.net bits (without_lowest low bits sum)
-  to_next = lowest-answers sum.net sum.place bits to_sum.later.valid some low few to_sum.width
+  to_next : IsPlacedNode sum.net bits (without_lowest low bits sum)
+  to_next = lowest-placed sum.net sum.place bits to_sum.later.valid some low few to_sum.width
 
   pub next-later : Later b.net next.net
   next-later = later-then b.net sum.net next.net to_sum.later to_next.later

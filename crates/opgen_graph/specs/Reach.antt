@@ -8,13 +8,13 @@ abbrev pub Among : List ℕ → ℕ → Type 0
 Among placed f = (u : ℕ) × (v : ℕ) × Contains placed u × Contains placed v × Comb u v f
 
 -- each number is made of two that were placed before it
-abbrev pub Built : List ℕ → List ℕ → Type 0
-Built placed [] = Unit {0}
-Built placed (f ∷ fs) = Among placed f × Built (placed ++ f ∷ []) fs
+abbrev pub IsBuiltFrom : List ℕ → List ℕ → Type 0
+IsBuiltFrom placed [] = Unit {0}
+IsBuiltFrom placed (f ∷ fs) = Among placed f × IsBuiltFrom (placed ++ f ∷ []) fs
 
 -- the members can be ordered so that each is made of two among 1 and the earlier ones
 abbrev pub Reachable : List ℕ → Type 0
-Reachable set = (order : List ℕ) × IsPermutation set order × Built (1 ∷ []) order
+Reachable set = (order : List ℕ) × IsPermutation set order × IsBuiltFrom (1 ∷ []) order
 
 -- an odd number above 1 of at most 13 bits
 abbrev pub IsMember : ℕ → Type 0

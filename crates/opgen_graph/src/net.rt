@@ -1,7 +1,5 @@
 //! Builds the net of several constants times one input by the adders of a graph.
-ghost use Rattle.std.specs.Prelude.{◌≡◌, ℕ, List, IsTrue, IfOk};
-ghost use Rattle.opgen_names.specs.Names.{is_allowed_name};
-ghost use Rattle.opgen_net.specs.Named.{IsNamed};
+ghost use Rattle.std.specs.Prelude.{◌≡◌, IfOk};
 ghost use Rattle.opgen_net.specs.Valid.{IsValid};
 ghost use Rattle.opgen_operator.specs.Accepted.{IsAcceptedSeveral};
 ghost use Rattle.opgen_operator.specs.Fits.{FitsSpecsOf};
@@ -39,7 +37,6 @@ pub fn graph_net(alloc: Global, graph: &Graph, several: &Several) -> Result<Net,
     requires graph { Serves several.now.constants graph.now }
     ensures net { IfOk result (λ net. net ≡ net_of_graph graph.now several.now) }
     ensures fits { IfOk result (FitsSpecsOf (Mcm several.now)) }
-    ensures named { IfOk result (λ net. (name : List ℕ) → IsTrue (is_allowed_name name) → IsNamed name net) }
 {
     outputs_hold();
     outputs_are_wide();

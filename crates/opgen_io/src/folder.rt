@@ -1,6 +1,6 @@
 //! The trait of a folder: fetches and stores files by name, and counts its errors.
 ghost use Rattle.std.specs.Prelude.{◌≡◌, ◌⊎◌, ℕ, ◌≤◌, Option, Some, None, is_some, IfOk, OnOk, vec_len};
-ghost use Rattle.opgen_io.specs.Answers.{fetched, FetchFails};
+ghost use Rattle.opgen_io.specs.Fetched.{fetched, FetchFails};
 ghost use Rattle.opgen_io.specs.Counts.{Rose, Stood};
 ghost use Rattle.opgen_io.specs.Files.{Files, stored, KeepsOthers};
 

@@ -1,6 +1,6 @@
 //! A folder and a sink in memory, in which chosen calls fail.
 ghost use Rattle.std.specs.Prelude.{◌≡◌, [], Some, true, false, IsSome, IfErr, OnOk, OnErr, position, length, vec_len, option_copied, option_map};
-ghost use Rattle.opgen_io.specs.Answers.{fetched, Answers};
+ghost use Rattle.opgen_io.specs.Fetched.{fetched, IsAnswer};
 ghost use Rattle.opgen_io.specs.Files.{stored};
 ghost use Rattle.opgen_io.specs.Memory.{files_of, is_named, found, folder_fails, sink_fails, called, read_failed, write_failed, after_fetch, after_store, after_put, put_failed};
 
@@ -113,7 +113,7 @@ impl Folder for MemoryFolder {
         ensures fails { folder_fails self.old ≡ true → result ≡ Err FetchFault.Failed }
         ensures fails_counted { folder_fails self.old ≡ true → self.new ≡ read_failed self.old }
         ensures answers { folder_fails self.old ≡ false →
-            Answers result (fetched (found self.old.files name.now) most) }
+            IsAnswer result (fetched (found self.old.files name.now) most) }
         ensures counted { folder_fails self.old ≡ false →
             self.new ≡ after_fetch (fetched (found self.old.files name.now) most) self.old }
     {

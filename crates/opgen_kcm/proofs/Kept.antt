@@ -1,12 +1,13 @@
 -- What a table adds to the sum of a heap, and that a net that grows keeps the sum.
-use Rattle.std.proofs.Common.{◌≡◌, ℕ, zero, suc, ◌+◌, ◌*◌, ◌%◌, ◌^◌, ◌<◌, ◌≤◌, Bool, true, false, List, [], ◌∷◌, ◌++◌, length, map, take, drop, get_or, refl, sym, ap, ◌∙◌, subst, arith}
-use Rattle.std.specs.Prelude.{ℤ, pos, ◌+ℤ◌, ◌==◌, All, slice_index, slice_index_or, if◌then◌else◌}
+use Rattle.std.proofs.Common.{◌≡◌, ℕ, ◌+◌, ◌*◌, ◌%◌, ◌^◌, ◌<◌, ◌≤◌, Bool, true, false, List, [], ◌∷◌, length, map, take, drop, get_or, refl, sym, ap, ◌∙◌, subst, arith}
+use Rattle.std.specs.Prelude.{ℤ, pos, ◌+ℤ◌, ◌==◌, All, slice_index, if◌then◌else◌}
 use Rattle.std.proofs.Math.Nat.{mod-add-mod}
 use Rattle.std.proofs.lemmas.Bool.{eqb-true}
 use Rattle.std.proofs.lemmas.Int.{ints}
 use Rattle.std.proofs.lemmas.List.{length-drop, length-take-le, take_all}
 use Rattle.std.proofs.lemmas.Nat.{pow_pos}
 use Rattle.opgen_num.specs.declared.format.Ratio.{Ratio}
+use Rattle.opgen_num.specs.Rounding.{distance}
 use Rattle.opgen_num.specs.Words.{nat}
 use Rattle.opgen_num.proofs.Words.{nat-below}
 use Rattle.opgen_heap.specs.Adding.{residue, with_constant}
@@ -182,6 +183,15 @@ more-then a b c p q = record {
 
 pub more-same : (s : Terms) → HasTermsMore s s
 more-same s = record { net = grown-same s.net; bits = λ there. there; width = refl }
+
+-- the least of a chunk's entries and the offsets over it, as found on the way
+pub chunk-numbers : (q : Ratio) (c : Chunk) (first found : List ℤ) (z : ℤ) (ns : List ℕ) → first ≡ all_entries q c
+    → found ≡ all_entries q c → z ≡ least_of first → ns ≡ map (λ e. distance e z) found
+    → (z ≡ least_of (all_entries q c)) × (ns ≡ offsets (all_entries q c))
+chunk-numbers q c first found z ns is_first is_found least numbers =
+    let es = all_entries q c in
+    let z_is : z ≡ least_of es = least ∙ ap least_of is_first in
+    (z_is, numbers ∙ ap (λ y. map (λ e. distance e y) found) z_is ∙ ap (λ l. map (λ e. distance e (least_of es)) l) is_found)
 
 -- the steps of a chunk
 pub chunk-added : (old now : Terms) (base : Contents) (input : ℕ) (c : Chunk) (q : Ratio) (ns : List ℕ) → ns ≡ offsets (all_entries q c)

@@ -9,7 +9,8 @@ use Rattle.opgen_num.specs.WordLaws.{length-word}
 use Rattle.opgen_design.specs.declared.design.Design.{Design}
 use Rattle.opgen_design.specs.declared.design.Port.{Port}
 use Rattle.opgen_design.specs.declared.design.Signal.{Signal}
-use Rattle.opgen_design.specs.Sound.{IsSound, IsSignalWide, Width, PortPasses, SignalPasses, at_port, at_signal}
+use Rattle.opgen_design.specs.declared.sound.Rule.TheVariants.{Width}
+use Rattle.opgen_design.specs.Sound.{IsSound, IsSignalWide, PortPasses, SignalPasses, at_port, at_signal}
 use Rattle.opgen_design.specs.Width.{IsWidth}
 
 abbrev pub initial : Signal → List Bool

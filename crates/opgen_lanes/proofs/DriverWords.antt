@@ -8,7 +8,9 @@ use Rattle.opgen_design.specs.declared.design.Design.{Design}
 use Rattle.opgen_design.specs.declared.design.Driver.{Driver}
 use Rattle.opgen_design.specs.declared.design.Driver.TheVariants.{Assign, Choice, Table, Register, Output}
 use Rattle.opgen_design.specs.Run.{scope}
-use Rattle.opgen_design.specs.Sound.{IsSound, HasWidth, WidthsAgree, Target, signal, port_of, target, signal_widths, port_widths}
+use Rattle.opgen_design.specs.declared.design.Target.{Target}
+use Rattle.opgen_design.specs.declared.design.Target.TheVariants.{Signal as signal, Port as port_of}
+use Rattle.opgen_design.specs.Sound.{IsSound, HasWidth, WidthsAgree, target, signal_widths, port_widths}
 use Rattle.opgen_design.specs.Tree.{Tree}
 use Rattle.opgen_design.specs.Value.{chosen}
 use Rattle.opgen_design.specs.Width.{width}

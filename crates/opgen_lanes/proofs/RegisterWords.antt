@@ -9,7 +9,7 @@ use Rattle.opgen_design.specs.declared.design.Driver.{Driver}
 use Rattle.opgen_design.specs.declared.design.Port.{Port}
 use Rattle.opgen_design.specs.Run.{Words}
 use Rattle.opgen_design.specs.Sound.{IsSound, PortPasses, at_port, port_widths}
-use Rattle.opgen_design.specs.Sound.{BadEnable}
+use Rattle.opgen_design.specs.declared.sound.Rule.TheVariants.{BadEnable}
 use Rattle.opgen_runs.specs.Evaluate.{hand_all_on, hand_on}
 use Rattle.opgen_runs.proofs.Registers.{enable-there}
 use Rattle.opgen_lanes.specs.declared.bank.Bank.{Bank}

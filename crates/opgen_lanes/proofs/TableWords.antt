@@ -10,9 +10,9 @@ use Rattle.opgen_num.specs.Words.{digit, nat}
 use Rattle.opgen_num.proofs.Cuts.{nat-append}
 use Rattle.opgen_num.proofs.Words.{nat-below}
 use Rattle.opgen_runs.specs.Evaluate.{table_word}
-use Rattle.opgen_runs.specs.Tables.{row_word}
+use Rattle.opgen_runs.specs.Tables.{Row, row_word}
 use Rattle.opgen_streams.specs.Streams.{bit_in, word_in}
-use Rattle.opgen_lanes.specs.Tables.{Row, word_of}
+use Rattle.opgen_lanes.specs.Tables.{word_of}
 
 pub all-rows : (rows : List Row) (other address : List Bool) → table_word (drop (length rows - 0) rows) other address ≡ other
 all-rows rows other address = ap (λ rs. table_word rs other address) (drop_of_length-le rows (omega arith))

@@ -2,7 +2,8 @@
 use Rattle.std.specs.Prelude.{ℕ, ◌+◌, ◌≡◌, Bool, List, [], ◌∷◌, length, map, slice_index}
 use Rattle.std.specs.List.{sum}
 use Rattle.opgen_design.specs.Run.{Words}
-use Rattle.opgen_design.specs.Sound.{Target, signal, port_of}
+use Rattle.opgen_design.specs.declared.design.Target.{Target}
+use Rattle.opgen_design.specs.declared.design.Target.TheVariants.{Signal as signal, Port as port_of}
 use Rattle.opgen_streams.specs.Streams.{words_in}
 use Rattle.opgen_lanes.specs.declared.bank.Bank.{Bank}
 use Rattle.opgen_lanes.specs.declared.bank.Place.{Place}

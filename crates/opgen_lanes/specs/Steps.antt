@@ -1,7 +1,7 @@
 -- Many streams of a design, and a step of each.
 use Rattle.std.specs.Prelude.{ℕ, ◌≡◌, ◌<◌, List}
 use Rattle.opgen_design.specs.declared.design.Design.{Design}
-use Rattle.opgen_design.specs.Run.{Words, Cycle, at_ports, initial_words, input_widths, is_out, outputs_of}
+use Rattle.opgen_design.specs.Run.{Words, Cycle, at_ports, initial_words, input_widths, is_out, words_at_outputs}
 use Rattle.opgen_design.specs.Sound.{port_widths, signal_widths}
 use Rattle.opgen_runs.specs.Registers.{SameRegisters}
 use Rattle.opgen_streams.specs.Streams.{streams, words_in}
@@ -23,4 +23,4 @@ pub record AreNew (d : Design) (l : Running) : Type 0 where
 pub record IsStepIn (k : ℕ) (d : Design) (now inputs next outputs : List (List ℕ)) : Type 0 where
   pub words : Words
   pub cycle : Cycle d (words_in (signal_widths d) now k) (words_in (input_widths d) inputs k) words (words_in (signal_widths d) next k)
-  pub outputs_are : words_in (output_widths d) outputs k ≡ outputs_of d words
+  pub outputs_are : words_in (output_widths d) outputs k ≡ words_at_outputs d words

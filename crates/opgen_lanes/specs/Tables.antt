@@ -1,9 +1,7 @@
 -- Tables whose rows are at the addresses 0, 1, 2 and so on.
-use Rattle.std.specs.Prelude.{ℕ, zero, suc, ◌≡◌, ◌<◌, Bool, List, [], ◌∷◌, length, map, slice_index}
+use Rattle.std.specs.Prelude.{ℕ, ◌≡◌, ◌<◌, Bool, List, length, map, slice_index, slice_index_or}
 use Rattle.opgen_num.specs.Words.{nat}
-
-abbrev pub Row : Type 0
-Row = List Bool × List Bool
+use Rattle.opgen_runs.specs.Tables.{Row}
 
 -- the row at a place has that place as its address
 abbrev pub AreInOrder : List Row → Type 0
@@ -11,6 +9,4 @@ AreInOrder rows = (i : ℕ) → i < length rows → slice_index (map (λ r. nat 
 
 -- the word of the row at a place, and past the rows the other word
 abbrev pub word_of : (rows : List Row) (other : List Bool) (place : ℕ) → List Bool
-word_of [] other place = other
-word_of (r ∷ rows) other zero = r.1
-word_of (r ∷ rows) other (suc place) = word_of rows other place
+word_of rows other place = slice_index_or (map (λ r. r.1) rows) place other

@@ -16,7 +16,7 @@ use crate::bank::{Bank, room};
 use crate::evaluate::{evaluate, lend};
 use crate::tables::look_up;
 use crate::words::choose;
-use opgen_design::{Design, Driver, Expr};
+use opgen_design::{Design, Driver, Expr, Target};
 use opgen_num::Word;
 use std::simd::prelude::*;
 
@@ -123,22 +123,9 @@ fn put_at(driver: &Driver, word: &[u64x4], signals: &mut Bank, ports: &mut Bank)
     ensures port_widths { widths_of ports.new ≡ widths_of ports.old }
     ensures words { (k : ℕ) → k < streams → stream_words signals.new ports.new k ≡ put_at (target driver.now) (word_in (take (width_at signals.old ports.old (target driver.now)) word.now) k) (stream_words signals.old ports.old k) }
 {
-    match driver {
-        Driver::Assign { to, expr: _ } => signals.store(*to, word),
-        Driver::Choice {
-            to,
-            on: _,
-            yes: _,
-            no: _,
-        } => signals.store(*to, word),
-        Driver::Table {
-            to,
-            on: _,
-            rows: _,
-            other: _,
-        } => signals.store(*to, word),
-        Driver::Register { to, expr: _ } => signals.store(*to, word),
-        Driver::Output { port, expr: _ } => ports.store(*port, word),
+    match driver.target() {
+        Target::Signal(place) => signals.store(place, word),
+        Target::Port(place) => ports.store(place, word),
     }
 }
 

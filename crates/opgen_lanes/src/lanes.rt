@@ -11,7 +11,6 @@ ghost use Rattle.opgen_lanes.specs.Ready.{AreBanksOf};
 ghost use Rattle.opgen_lanes.specs.Steps.{AreNew, IsStepIn, output_widths};
 
 use crate::bank::{Bank, port_widths, room, signal_widths};
-use crate::copies::copy;
 use crate::drivers::settle;
 use crate::ports::{give_outputs, take_inputs};
 use crate::registers::hand_all_on;
@@ -125,7 +124,7 @@ impl Lanes {
         requires numbers { HasNumbers design.now }
         ensures { IfOk result (λ l. AreNew design.now l) }
     {
-        Lanes::from_design(alloc, copy(alloc, design)?)
+        Lanes::from_design(alloc, design.copy(alloc)?)
     }
 
     /// Runs one cycle of each stream: a vector for each bit of each input port gives one for each bit of each output port, ports in

@@ -1,14 +1,12 @@
 //! Designs run cycle by cycle, 256 streams at a time.
 //!
 //! Proved: New lanes of a sound design have the registers' initial words in each stream. Each step is a cycle of the design
-//! in each of the 256 streams, by that stream's own bit of an enable. The steps of new lanes are a run in each stream. A
-//! copy of a design is the same design.
+//! in each of the 256 streams, by that stream's own bit of an enable. The steps of new lanes are a run in each stream.
 //!
-//! By: `Lanes::new`, `Lanes::from_design`, `Lanes::step` (also exported by `opgen_sim`), `copy`; the law `steps_are_runs`.
+//! By: `Lanes::new`, `Lanes::from_design`, `Lanes::step`; the law `steps_are_runs`.
 #![tactic(auto)]
 
 mod bank;
-mod copies;
 mod drivers;
 mod evaluate;
 mod lanes;
@@ -18,6 +16,5 @@ mod registers;
 mod tables;
 mod words;
 
-pub use copies::copy;
 pub use lanes::Lanes;
 pub use laws::steps_are_runs;

@@ -10,14 +10,14 @@ use Rattle.opgen_num.specs.Values.{val}
 use Rattle.opgen_num.specs.Words.{nat, word}
 use Rattle.opgen_num.proofs.Words.{word-nat}
 use Rattle.opgen_design.specs.declared.design.Design.{Design}
-use Rattle.opgen_design.specs.Run.{Words, Cycle, RunsOn, at_ports, is_out, input_widths, outputs_of}
+use Rattle.opgen_design.specs.Run.{Words, Cycle, RunsOn, at_ports, is_out, input_widths, words_at_outputs}
 use Rattle.opgen_design.specs.Value.{word_at}
 use Rattle.opgen_net.specs.Flow.{input_from}
 use Rattle.opgen_operator.specs.declared.spec.PortFormat.{PortFormat}
 use Rattle.opgen_operator.specs.declared.spec.Sum.{Sum}
 use Rattle.opgen_operator.specs.Exact.{Recent, exact_sum, weighted_from}
 use Rattle.opgen_operator.specs.Good.{IsGoodRatio}
-use Rattle.opgen_operator.specs.Judged.{recent_words, recent_numbers, output_words, output_numbers}
+use Rattle.opgen_operator.specs.PortNumbers.{recent_words, recent_numbers, output_words, output_numbers}
 use Rattle.opgen_operator.specs.Outputs.{sum_shift, up, down}
 use Rattle.opgen_operator.specs.Ports.{one_input, port, sum_format}
 use Rattle.opgen_lanes.specs.Steps.{output_widths}
@@ -47,23 +47,23 @@ one_word (o ∷ p ∷ words) w e = absurd (omega (arith, ap length e))
 
 module _ (d : Design) (w : ℕ) (one : output_widths d ≡ w ∷ []) where
   one_output : (now given next : List (List Bool)) (v : Words) → Cycle d now given v next
-      → (outputs_of d v ≡ word_at (outputs_of d v) 0 ∷ []) × (length (word_at (outputs_of d v) 0) ≡ w)
+      → (words_at_outputs d v ≡ word_at (words_at_outputs d v) 0 ∷ []) × (length (word_at (words_at_outputs d v) 0) ≡ w)
   one_output now given next v cycle =
-      one_word (outputs_of d v) w (at_ports-map length is_out d.ports v.ports ∙ ap (at_ports is_out d.ports) cycle.port_widths ∙ one)
+      one_word (words_at_outputs d v) w (at_ports-map length is_out d.ports v.ports ∙ ap (at_ports is_out d.ports) cycle.port_widths ∙ one)
 
   -- the number of the only output in a cycle of a run
   pub output_of_run : (now : List (List Bool)) (inputs : List (List (List Bool))) (vs : List Words) → RunsOn d now inputs vs
       → (u : ℕ) (v : Words) → slice_get vs u ≡ Some v
-      → (slice_index (concat (map (output_cells d) vs)) u ≡ nat (word_at (outputs_of d v) 0)) × (length (word_at (outputs_of d v) 0) ≡ w)
+      → (slice_index (concat (map (output_cells d) vs)) u ≡ nat (word_at (words_at_outputs d v) 0)) × (length (word_at (words_at_outputs d v) 0) ≡ w)
   output_of_run now [] [] run u v at = absurd (cc)
   output_of_run now [] (x ∷ vs) run u v at = absurd run
   output_of_run now (given ∷ inputs) [] run u v at = absurd run
   output_of_run now (given ∷ inputs) (x ∷ vs) (next, cycle, run) zero v at =
       let here = one_output now given next x cycle in
       let same : x ≡ v = cc in
-      let number : slice_index (concat (map (output_cells d) (x ∷ vs))) 0 ≡ nat (word_at (outputs_of d x) 0) =
+      let number : slice_index (concat (map (output_cells d) (x ∷ vs))) 0 ≡ nat (word_at (words_at_outputs d x) 0) =
       ap (λ ws. slice_index (map nat ws ++ concat (map (output_cells d) vs)) 0) here.0 in
-      subst (λ y. (slice_index (concat (map (output_cells d) (x ∷ vs))) 0 ≡ nat (word_at (outputs_of d y) 0)) × (length (word_at (outputs_of d y) 0) ≡ w)) same (number, here.1)
+      subst (λ y. (slice_index (concat (map (output_cells d) (x ∷ vs))) 0 ≡ nat (word_at (words_at_outputs d y) 0)) × (length (word_at (words_at_outputs d y) 0) ≡ w)) same (number, here.1)
   output_of_run now (given ∷ inputs) (x ∷ vs) (next, cycle, run) (suc u) v at =
       let here = one_output now given next x cycle in
       let rest = output_of_run next inputs vs run u v at in
@@ -109,10 +109,10 @@ module _ (s : Sum) (exact : Bool) (name : List ℕ) (d : Design) (rows : ℕ) (c
   all = concat (map (output_cells d) vs)
 
   same_output : (u : ℕ) (v : Words) → slice_get vs u ≡ Some v
-      → output_words outputs (outputs_of d v) 0 ≡ output_numbers outputs (slice_index all u ∷ []) 0
+      → output_words outputs (words_at_outputs d v) 0 ≡ output_numbers outputs (slice_index all u ∷ []) 0
   same_output u v at =
       let (number, wide) = output_of_run d (sum_format s).width outs now (rows_words (input_widths d) rows cells) vs run u v at in
-      let o = word_at (outputs_of d v) 0 in
+      let o = word_at (words_at_outputs d v) 0 in
       let same : word (sum_format s).width (slice_index all u) ≡ o =
       ap (word (sum_format s).width) number ∙ ap (λ w. word w (nat o)) (sym wide) ∙ word-nat o in
       ap (λ w. val w (sum_format s)) (sym same)
@@ -127,9 +127,9 @@ module _ (s : Sum) (exact : Bool) (name : List ℕ) (d : Design) (rows : ℕ) (c
 
   pub good_cells : (t u : ℕ) (v : Words) → t < rows → slice_get vs u ≡ Some v
       → IsGoodRatio exact (exact_sum s (recent_words (one_input s.input) (rows_words (input_widths d) rows cells) t 0))
-      (output_words outputs (outputs_of d v) 0)
+      (output_words outputs (words_at_outputs d v) 0)
       → IsGoodRatio exact (exact_sum s (recent_numbers (one_input s.input) (take (t + 1) cells) 0))
       (output_numbers outputs (slice_index all u ∷ []) 0)
   good_cells t u v lt at good =
       subst (λ y. IsGoodRatio exact (exact_sum s (recent_numbers (one_input s.input) (take (t + 1) cells) 0)) y) (same_output u v at)
-      (subst (λ r. IsGoodRatio exact r (output_words outputs (outputs_of d v) 0)) (same_sum t lt) good)
+      (subst (λ r. IsGoodRatio exact r (output_words outputs (words_at_outputs d v) 0)) (same_sum t lt) good)

@@ -5,7 +5,8 @@ use Rattle.std.proofs.lemmas.Bool.{cases_eq}
 use Rattle.opgen_design.specs.declared.design.Design.{Design}
 use Rattle.opgen_design.specs.declared.sound.SoundFault.TheVariants.{Unsound}
 use Rattle.opgen_design.specs.Rules.{HoldsBefore, IsFirstFailing, IsFaultAt, FailsFirst, PortsPass, SignalsPass, fault_at}
-use Rattle.opgen_design.specs.Sound.{Rule, rule_number, Holds, DesignPasses, PortPasses, SignalPasses, DriverPasses, at_design}
+use Rattle.opgen_design.specs.declared.sound.Rule.{Rule}
+use Rattle.opgen_design.specs.Sound.{rule_number, Holds, DesignPasses, PortPasses, SignalPasses, DriverPasses, at_design}
 use Rattle.opgen_design.proofs.FirstFailing.{before-none, none-failing}
 use Rattle.opgen_design.proofs.SoundLaws.{holds-of, port-fault, signal-fault, driver-fault}
 use Rattle.opgen_search.proofs.Classical.{decided}

@@ -2,6 +2,7 @@
 use Rattle.std.proofs.Common.{◌≡◌, ℕ, zero, suc, ◌+◌, ◌-◌, ◌<◌, ◌≤◌, false, List, [], ◌∷◌, length, map, drop, Some, refl, sym, ap, ◌∙◌, subst, arith}
 use Rattle.std.specs.Prelude.{slice_get, codes}
 use Rattle.std.proofs.lemmas.List.Elements.{All-cons, All-nil}
+use Rattle.opgen_num.proofs.RowsOfCells.{length-rows_of_cells}
 use Rattle.opgen_design.specs.declared.design.Design.{Design}
 use Rattle.opgen_design.specs.Run.{at_ports, is_in, is_out, initial_words, input_widths}
 use Rattle.opgen_operator.specs.Ports.{inputs_of, port, sum_format}
@@ -15,7 +16,6 @@ use Rattle.opgen_top.specs.Circuit.{CircuitsServe, Serves}
 use Rattle.opgen_lanes.specs.Steps.{output_widths}
 use Rattle.opgen_runs.specs.Rows.{rows_words}
 use Rattle.opgen_top.specs.Workload.{IsWorked, cycles, workload_cells}
-use Rattle.opgen_vec.proofs.Rows.{length-rows_of_cells}
 use Rattle.opgen_laws.proofs.FilterCells.{good_cells}
 use Rattle.opgen_top.proofs.Taken.{run_long}
 use Rattle.opgen_laws.specs.Workloads.{WorkloadsAreGood}

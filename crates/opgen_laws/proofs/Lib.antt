@@ -10,6 +10,10 @@ pub mod Counting
 pub mod Numbering
 pub mod FirstPlaces
 pub mod Verdict
+pub mod SumTables
+pub mod SumNets
+pub mod ProductNets
+pub mod CommandRanges
 pub mod SomeRun
 pub mod SomeCircuit
 pub mod SomeReading

@@ -5,7 +5,9 @@ use Rattle.std.proofs.lemmas.Bool.{cases_eq, cases_lt}
 use Rattle.std.proofs.lemmas.List.{length_push, get_or_append_left, get_or_push, get_or_past}
 use Rattle.opgen_design.specs.declared.design.Design.{Design}
 use Rattle.opgen_design.specs.declared.design.Driver.{Driver}
-use Rattle.opgen_design.specs.Sound.{signal, target, Needs, Names, IsOffCycles, IsOrdered, DependsOn, at_once, through, Holds, DriverPasses, Undeclared, Cyclic, at_driver}
+use Rattle.opgen_design.specs.declared.design.Target.TheVariants.{Signal as signal}
+use Rattle.opgen_design.specs.declared.sound.Rule.TheVariants.{Undeclared, Cyclic}
+use Rattle.opgen_design.specs.Sound.{target, Needs, Names, IsOffCycles, IsOrdered, DependsOn, at_once, through, Holds, DriverPasses, at_driver}
 use Rattle.opgen_design.proofs.FirstFailing.{of-item}
 use Rattle.opgen_design.proofs.SoundLaws.{contains-at, declared-in}
 use Rattle.opgen_laws.proofs.Counting.{IsCount, some_count, no_count, fewer}

@@ -1,10 +1,10 @@
 -- That the words, the targets and the files leave no answer is impossible.
 use Rattle.std.proofs.Common.{ℕ, List, Option, Some, None, IfSome, Result, Ok, Err, refl}
 use Rattle.opgen_command.specs.Command.{HasRanges, command_of}
-use Rattle.opgen_command.proofs.Ranges.{ranges}
+use Rattle.opgen_laws.proofs.CommandRanges.{ranges}
 use Rattle.opgen_command.specs.declared.command.Command.{Command}
 use Rattle.opgen_command.specs.declared.command.Command.TheVariants.{Generate, Vectors, Simulate, Workload, Check}
-use Rattle.opgen_io.specs.Answers.{fetched}
+use Rattle.opgen_io.specs.Fetched.{fetched}
 use Rattle.opgen_io.specs.Files.{Files}
 use Rattle.opgen_io.specs.declared.folder.FetchFault.{FetchFault}
 use Rattle.opgen_io.specs.declared.folder.FetchFault.TheVariants as fetch

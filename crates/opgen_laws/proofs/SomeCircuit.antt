@@ -2,17 +2,20 @@
 use Rattle.std.proofs.Common.{◌≡◌, inl, inr, ⊎_elim, ℕ, zero, suc, ◌-◌, ◌<◌, ◌≤◌, Bool, true, false, List, [], length, map, Option, Some, None, Result, Ok, Err, refl, sym, subst, arith}
 use Rattle.std.specs.List.{concat}
 use Rattle.std.proofs.lemmas.Bool.{cases_lt}
+use Rattle.opgen_num.specs.Words.{AreRowsOfCells}
+use Rattle.opgen_num.proofs.RowsOfCells.{length-rows_of_cells}
 use Rattle.opgen_design.specs.declared.design.Design.{Design}
+use Rattle.opgen_design.specs.declared.design.TheConstants.{MAX_SIGNALS}
 use Rattle.opgen_design.specs.Run.{input_widths}
 use Rattle.opgen_constdiv.specs.Recipe.{net_of as net_of_small}
 use Rattle.opgen_constdiv.proofs.Fits as divisions
 use Rattle.opgen_divide.specs.Recipe.{net_of_pair}
 use Rattle.opgen_divide.proofs.Whole as quotients
 use Rattle.opgen_fir.specs.Recipe.{net_of_sum}
-use Rattle.opgen_fir.proofs.SumNets.{sum-fits}
+use Rattle.opgen_laws.proofs.SumNets.{sum-fits}
 use Rattle.opgen_search.proofs.Classical.{decided}
 use Rattle.opgen_search.proofs.SomeNet.{several_net, some_least_graph}
-use Rattle.opgen_mult.proofs.ProductNets.{product_net}
+use Rattle.opgen_laws.proofs.ProductNets.{product_net}
 use Rattle.opgen_net.specs.declared.net.Net.{Net}
 use Rattle.opgen_operator.specs.declared.spec.Operator.{Operator}
 use Rattle.opgen_operator.specs.declared.spec.Operator.TheVariants.{Scale, Fir, Multiply, Divide, Root, Mcm, Constdiv, Poly, Tfir}
@@ -27,7 +30,7 @@ use Rattle.opgen_pipe.specs.declared.planning.Planned.{Planned}
 use Rattle.opgen_pipe.specs.Cells.{classes, design_cells, need}
 use Rattle.opgen_pipe.specs.Copies.{net_latency}
 use Rattle.opgen_pipe.specs.Pipelined.{design_of}
-use Rattle.opgen_pipe.specs.Planned.{most_signals, slots_of}
+use Rattle.opgen_pipe.specs.Planned.{slots_of}
 use Rattle.opgen_poly.specs.Recipe.{net_of_poly}
 use Rattle.opgen_poly.proofs.Fits as polynomials
 use Rattle.opgen_report.specs.Report.{report}
@@ -44,10 +47,10 @@ use Rattle.opgen_target.specs.Delays.{Delays, setup}
 use Rattle.opgen_tfir.specs.Recipe.{net_of_taps}
 use Rattle.opgen_tfir.proofs.Filters as filters
 use Rattle.opgen_target.specs.Ledger.{width_sum}
-use Rattle.opgen_vec.specs.Rows.{AreRowsOfCells}
 use Rattle.opgen_vec.specs.Stimulus.{stimulus_cells}
 use Rattle.opgen_vec.specs.Writing.{rows_text}
-use Rattle.opgen_vec.proofs.Draws.{inputs_wide, rows_fit}
+use Rattle.opgen_operator.proofs.InputPorts.{input_bits}
+use Rattle.opgen_vec.proofs.Draws.{rows_fit}
 use Rattle.opgen_vhdl.specs.DesignText.{text_of}
 use Rattle.opgen_workload.specs.Filter.{workload_spec}
 use Rattle.opgen_workload.specs.Judged.{Counts, IsGoodCycle}
@@ -62,7 +65,6 @@ use Rattle.opgen_top.specs.Workload.{IsAnswerToWorkload, IsWorked, cycles, workl
 use Rattle.opgen_top.proofs.Building.{accepted_kind, accepted_scale, kind_fitting}
 use Rattle.opgen_top.proofs.ServedPorts.{served_widths}
 use Rattle.opgen_runs.proofs.Rows.{rows_words-widths}
-use Rattle.opgen_vec.proofs.Rows.{length-rows_of_cells}
 
 -- ---- the net and the adders
 
@@ -125,9 +127,9 @@ module _ (laws : NetLaws) (spec : Spec) (valid : IsValidSpec spec) (table : Dela
       (λ (short : spec.period < need table net).
       found (period_too_short (need table net)) (inl (record { net = net; fitting = fitting; short = short; answer = refl })))
       (λ (long : need table net ≤ spec.period). ⊎_elim
-      (λ (many : most_signals < signals_of table spec.period net).
+      (λ (many : MAX_SIGNALS < signals_of table spec.period net).
       found too_large (inr (inl (record { net = net; fitting = fitting; long_enough = long; many_signals = many; answer = refl }))))
-      (λ (few : signals_of table spec.period net ≤ most_signals).
+      (λ (few : signals_of table spec.period net ≤ MAX_SIGNALS).
       made (plan_for spec enable net table) adders (record {
         net = net;
         fitting = fitting;
@@ -136,7 +138,7 @@ module _ (laws : NetLaws) (spec : Spec) (valid : IsValidSpec spec) (table : Dela
         few_signals = few;
         plan = record { design = refl; latency = refl; slack = refl; cells = refl };
       }) (λ a h. found a (inr (inr h))))
-      (cases_lt most_signals (signals_of table spec.period net)))
+      (cases_lt MAX_SIGNALS (signals_of table spec.period net)))
       (cases_lt spec.period (need table net))
 
   some_table : ⊥
@@ -150,7 +152,7 @@ some_run spec valid latency d serves seed count =
     let ws = input_widths d in
     let fit : AreRowsOfCells ws count cells =
     subst (λ ks. AreRowsOfCells ks count cells) (sym (served_widths spec d serves.ports))
-    (rows_fit spec.op (inputs_of spec) count seed (inputs_wide spec.op valid.op.ranges)) in
+    (rows_fit spec.op (inputs_of spec) count seed (input_bits spec.op valid.op.ranges)) in
     let run = serves.runs (rows_words ws count cells) (rows_words-widths ws count cells (omega (arith, length-rows_of_cells ws cells count fit))) in
     (concat (map (output_cells d) run.0), record { words = run.0; runs = run.1; outputs_are = refl })
 

@@ -4,12 +4,12 @@ use Rattle.std.specs.Prelude.{slice_get, IsSomeAnd}
 use Rattle.std.proofs.Math.Seq.{take-append_seam, drop-append_seam}
 use Rattle.std.proofs.lemmas.Bool.{cases_lt}
 use Rattle.std.proofs.lemmas.List.{take_all}
+use Rattle.opgen_num.proofs.RowsOfCells.{length-cells}
 use Rattle.opgen_vec.specs.declared.TheConstants.{MAX_ROWS}
 use Rattle.opgen_vec.specs.declared.fault.VecFault.{VecFault}
 use Rattle.opgen_vec.specs.declared.fault.VecFault.TheVariants as faults
 use Rattle.opgen_vec.specs.Digits.{row_cells}
 use Rattle.opgen_vec.specs.Reading.{IsRow, AreRows, AreGood, IsBad, IsReading}
-use Rattle.opgen_vec.proofs.Rows.{length-cells}
 use Rattle.opgen_vec.proofs.RowTexts.{bad-line, row-row_cells}
 
 -- the first lines are rows, or one of them is the first that is none

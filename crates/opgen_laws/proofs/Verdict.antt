@@ -3,7 +3,9 @@ use Rattle.std.proofs.Common.{◌≡◌, ℕ, suc, ◌<◌, ◌⊎◌, List, [],
 use Rattle.std.proofs.lemmas.Bool.{cases_eq}
 use Rattle.opgen_design.specs.declared.design.Design.{Design}
 use Rattle.opgen_design.specs.Rules.{FailsFirst}
-use Rattle.opgen_design.specs.Sound.{Rule, Undeclared, DeclaredTwice, Width, DrivenTwice, NotDriven, Cyclic, ReadsOutput, NoInitial, ChoiceTwice, BadEnable, rule_number, Holds}
+use Rattle.opgen_design.specs.declared.sound.Rule.{Rule}
+use Rattle.opgen_design.specs.declared.sound.Rule.TheVariants.{Undeclared, DeclaredTwice, Width, DrivenTwice, NotDriven, Cyclic, ReadsOutput, NoInitial, ChoiceTwice, BadEnable}
+use Rattle.opgen_design.specs.Sound.{rule_number, Holds}
 use Rattle.opgen_laws.specs.Verdict.{IsJudged, HasVerdict}
 use Rattle.opgen_laws.proofs.FirstPlaces.{judged}
 use Rattle.opgen_laws.proofs.Numbering.{ordered}

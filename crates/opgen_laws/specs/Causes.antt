@@ -2,7 +2,7 @@
 use Rattle.std.specs.Prelude.{ℕ, ◌≡◌, ◌≢◌, ◌⊎◌, false, List, [], Option, Some, None, Ok, Err}
 use Rattle.opgen_command.specs.declared.command.Command.{Command}
 use Rattle.opgen_command.specs.declared.command.Command.TheVariants.{Generate, Vectors, Simulate, Workload, Check}
-use Rattle.opgen_io.specs.Answers.{fetched}
+use Rattle.opgen_io.specs.Fetched.{fetched}
 use Rattle.opgen_io.specs.Files.{Files}
 use Rattle.opgen_io.specs.declared.folder.FetchFault.TheVariants as fetch
 use Rattle.opgen_operator.specs.declared.spec.Spec.{Spec}

@@ -1,7 +1,8 @@
 -- The verdict on a design: it is sound, or it has a first rule that fails.
 use Rattle.std.specs.Prelude.{ℕ, ◌⊎◌}
 use Rattle.opgen_design.specs.declared.design.Design.{Design}
-use Rattle.opgen_design.specs.Sound.{Rule, IsSound, IsFirstUnsound}
+use Rattle.opgen_design.specs.declared.sound.Rule.{Rule}
+use Rattle.opgen_design.specs.Sound.{IsSound, IsFirstUnsound}
 
 -- it is sound, or a rule is the first that fails, with the number of the first place at which it does
 abbrev pub IsJudged : Design → Type 0

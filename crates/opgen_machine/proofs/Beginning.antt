@@ -4,16 +4,16 @@ use Rattle.std.specs.Prelude.{IfSome, replicate, slice_get, unwrap_or}
 use Rattle.std.specs.List.{AllZip}
 use Rattle.std.proofs.lemmas.Nat.{pow_pos}
 use Rattle.std.proofs.lemmas.List.{get_or_append_left, length-map, length-replicate, get_or-replicate}
-use Rattle.opgen_num.specs.Words.{nat, word}
+use Rattle.opgen_num.specs.Words.{nat, word, words_of}
 use Rattle.opgen_num.proofs.Words.{nat-below, word-nat}
 use Rattle.opgen_design.specs.declared.design.Design.{Design}
 use Rattle.opgen_design.specs.declared.design.Driver.{Driver}
 use Rattle.opgen_design.specs.declared.design.Driver.TheVariants.{Assign, Choice, Table, Register, Output}
 use Rattle.opgen_design.specs.declared.design.Signal.{Signal}
 use Rattle.opgen_design.specs.Run.{initial_words, input_widths}
-use Rattle.opgen_design.specs.Sound.{IsSound, IsSignalWide, SignalPasses, Width, at_signal, signal_widths}
+use Rattle.opgen_design.specs.declared.sound.Rule.TheVariants.{Width}
+use Rattle.opgen_design.specs.Sound.{IsSound, IsSignalWide, SignalPasses, at_signal, signal_widths}
 use Rattle.opgen_runs.specs.Registers.{SameRegisters}
-use Rattle.opgen_runs.specs.Step.{words_of}
 use Rattle.opgen_runs.proofs.Starts.{start, starts-registers}
 use Rattle.opgen_machine.specs.Laid.{AreLaid, Grown, HasRoom, IsFlat, IsLaid}
 use Rattle.opgen_machine.specs.Layout.{rest_of, start_number, start_of}

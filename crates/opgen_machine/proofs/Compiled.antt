@@ -3,7 +3,7 @@ use Rattle.std.proofs.Common.{◌≡◌, ℕ, zero, suc, ◌+◌, ◌^◌, ◌<�
 use Rattle.std.specs.Prelude.{All, slice_get}
 use Rattle.std.proofs.lemmas.List.{get_or-take, length-map, length-take-le}
 use Rattle.std.proofs.lemmas.Option.{slice_get-get_or, slice_get_within}
-use Rattle.opgen_num.specs.Words.{nat, word}
+use Rattle.opgen_num.specs.Words.{nat, word, words_of}
 use Rattle.opgen_num.specs.WordLaws.{nat-word}
 use Rattle.opgen_design.specs.declared.design.Design.{Design}
 use Rattle.opgen_design.specs.declared.design.Dir.{Dir}
@@ -12,7 +12,6 @@ use Rattle.opgen_design.specs.Order.{IsOrderOf}
 use Rattle.opgen_design.specs.Run.{Cycle, Words, at_ports, is_in, is_out}
 use Rattle.opgen_design.specs.Sound.{IsSound, signal_widths, target}
 use Rattle.opgen_runs.specs.Evaluate.{hand_all_on, settle}
-use Rattle.opgen_runs.specs.Step.{words_of}
 use Rattle.opgen_runs.proofs.Cycles.{is-cycle}
 use Rattle.opgen_runs.proofs.Equations.{placed}
 use Rattle.opgen_machine.specs.declared.step.Step.{Step}

@@ -6,19 +6,20 @@ use Rattle.opgen_num.proofs.Words.{nat-below}
 use Rattle.opgen_design.specs.declared.design.Driver.{Driver}
 use Rattle.opgen_design.specs.declared.design.Driver.TheVariants.{Table}
 use Rattle.opgen_design.specs.Run.{Words, scope}
-use Rattle.opgen_design.specs.Sound.{signal, target}
+use Rattle.opgen_design.specs.declared.design.Target.TheVariants.{Signal as signal}
+use Rattle.opgen_design.specs.Sound.{target}
 use Rattle.opgen_design.specs.Tree.{Tree, bits}
 use Rattle.opgen_design.specs.Width.{IsWidth}
 use Rattle.opgen_design.proofs.WidthLaws.{as_width-of}
 use Rattle.opgen_runs.specs.Evaluate.{driver_word}
-use Rattle.opgen_runs.specs.Tables.{row_word}
+use Rattle.opgen_runs.specs.Tables.{Row, row_word}
 use Rattle.opgen_machine.specs.declared.step.Step.{Step}
 use Rattle.opgen_machine.specs.declared.step.Spot.{Spot}
 use Rattle.opgen_machine.specs.Steps.{exec}
 use Rattle.opgen_machine.specs.Programs.{AreSpots, Holds, Spots, seen, value_over}
 use Rattle.opgen_machine.specs.Emit.{Chosen, Emitted, Extends, IsNarrow, Looked, width_over}
 use Rattle.opgen_machine.proofs.Gives.{extends-trans, fit-back, gives-along, longer, seen-along, spots-more}
-use Rattle.opgen_machine.specs.Laid.{HasRoom, Row}
+use Rattle.opgen_machine.specs.Laid.{HasRoom}
 use Rattle.opgen_machine.specs.Settles.{Agrees, AgreesTable, HasNarrow, Leaves, Left, chosen_over, width_at}
 
 some-one : (a b : ℕ) → Some a ≡ Some b → a ≡ b

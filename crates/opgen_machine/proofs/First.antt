@@ -4,7 +4,7 @@ use Rattle.std.specs.Prelude.{All, IfSome, option_and_then, option_map, slice_ge
 use Rattle.std.proofs.lemmas.List.{drop_more, length-map}
 use Rattle.std.proofs.lemmas.Nat.{pow_pos}
 use Rattle.std.proofs.lemmas.Option.{slice_get-map, slice_get-get_or, slice_get_within}
-use Rattle.opgen_num.specs.Words.{word}
+use Rattle.opgen_num.specs.Words.{word, words_of}
 use Rattle.opgen_num.specs.WordLaws.{length-word}
 use Rattle.opgen_design.specs.declared.design.Design.{Design}
 use Rattle.opgen_design.specs.declared.design.Driver.{Driver}
@@ -12,13 +12,15 @@ use Rattle.opgen_design.specs.declared.design.Driver.TheVariants.{Assign, Choice
 use Rattle.opgen_design.specs.declared.design.Port.{Port}
 use Rattle.opgen_design.specs.declared.design.Signal.{Signal}
 use Rattle.opgen_design.specs.Run.{at_ports, is_in}
-use Rattle.opgen_design.specs.Sound.{IsSound, BadEnable, Width, HasWidth, Target, signal, port_of, target, Names, PortPasses, SignalPasses, at_design, at_port, at_signal, signal_widths, port_widths}
+use Rattle.opgen_design.specs.declared.design.Target.{Target}
+use Rattle.opgen_design.specs.declared.design.Target.TheVariants.{Signal as signal, Port as port_of}
+use Rattle.opgen_design.specs.declared.sound.Rule.TheVariants.{BadEnable, Width}
+use Rattle.opgen_design.specs.Sound.{IsSound, HasWidth, target, Names, PortPasses, SignalPasses, at_design, at_port, at_signal, signal_widths, port_widths}
 use Rattle.opgen_design.specs.Tree.{Tree, port}
 use Rattle.opgen_design.specs.Width.{IsWidth, as_width, width}
 use Rattle.opgen_design.proofs.SoundLaws.{declared-at}
 use Rattle.opgen_design.proofs.WidthLaws.{as_width-of}
 use Rattle.opgen_runs.specs.Evaluate.{HaveWidths}
-use Rattle.opgen_runs.specs.Step.{words_of}
 use Rattle.opgen_runs.proofs.Reading.{there-some}
 use Rattle.opgen_runs.proofs.Widths.{agree-at}
 use Rattle.opgen_machine.specs.declared.step.Spot.{Spot}

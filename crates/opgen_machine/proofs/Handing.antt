@@ -4,17 +4,16 @@ use Rattle.std.specs.Prelude.{option_and_then, slice_get, slice_set}
 use Rattle.std.proofs.lemmas.Option.{slice_get-get_or}
 use Rattle.std.proofs.lemmas.Bool.{cases_eq}
 use Rattle.std.proofs.lemmas.List.{length-map, length-set, get_or-set_other}
-use Rattle.opgen_num.specs.Words.{word}
+use Rattle.opgen_num.specs.Words.{word, words_of}
 use Rattle.opgen_num.proofs.Words.{word-nat}
 use Rattle.opgen_design.specs.declared.design.Driver.{Driver}
 use Rattle.opgen_design.specs.declared.design.Driver.TheVariants.{Register}
 use Rattle.opgen_design.specs.Run.{Words}
-use Rattle.opgen_design.specs.Sound.{signal}
+use Rattle.opgen_design.specs.declared.design.Target.TheVariants.{Signal as signal}
 use Rattle.opgen_design.specs.Tree.{Tree, name, port}
 use Rattle.opgen_design.specs.Width.{as_width}
 use Rattle.opgen_design.proofs.WidthLaws.{as_width-of, width-is_width}
 use Rattle.opgen_runs.specs.Evaluate.{hand_on, hand_all_on}
-use Rattle.opgen_runs.specs.Step.{words_of}
 use Rattle.opgen_machine.specs.declared.step.Step.{Step}
 use Rattle.opgen_machine.specs.declared.step.Spot.{Spot}
 use Rattle.opgen_machine.specs.Steps.{AreFine, exec}

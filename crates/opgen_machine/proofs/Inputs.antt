@@ -3,12 +3,12 @@ use Rattle.std.proofs.Common.{◌≡◌, ℕ, zero, suc, ◌+◌, ◌-◌, ◌^�
 use Rattle.std.specs.Prelude.{All}
 use Rattle.std.proofs.lemmas.List.{get_or_append_left, get_or-take, get_or-drop, length-drop, length-map, length-take-le}
 use Rattle.std.proofs.Math.Nat.{pow-le-pow_right}
-use Rattle.opgen_num.specs.Words.{FitWidths, nat, word}
+use Rattle.opgen_num.proofs.RowsOfCells.{length-cells}
+use Rattle.opgen_num.specs.Words.{FitWidths, nat, word, words_of}
 use Rattle.opgen_design.specs.declared.design.Design.{Design}
 use Rattle.opgen_design.specs.declared.design.Port.{Port}
-use Rattle.opgen_design.specs.Run.{Cycle, at_ports, input_widths, is_in, is_out, outputs_of}
+use Rattle.opgen_design.specs.Run.{Cycle, at_ports, input_widths, is_in, is_out, words_at_outputs}
 use Rattle.opgen_design.specs.Sound.{port_widths, signal_widths}
-use Rattle.opgen_runs.specs.Step.{words_of}
 use Rattle.opgen_runs.proofs.Starts.{at_ports-length}
 use Rattle.opgen_machine.specs.Programs.{Fit, word_of}
 use Rattle.opgen_machine.proofs.Exec.{exec-length}
@@ -26,12 +26,6 @@ abbrev in_widths : List Port → List ℕ
 in_widths ps = at_ports is_in ps (map (λ p. p.width) ps)
 
 -- numbers that fit widths
-pub fits-length : (ws ns : List ℕ) → FitWidths ws ns → length ns ≡ length ws
-fits-length [] [] h = refl
-fits-length [] (n ∷ ns) h = absurd h
-fits-length (w ∷ ws) [] h = absurd h
-fits-length (w ∷ ws) (n ∷ ns) h = omega (arith, fits-length ws ns h.1)
-
 fits-small : (ws ns : List ℕ) → All (λ w. w ≤ 64) ws → FitWidths ws ns → All (λ n. n < 2 ^ 64) ns
 fits-small [] [] a h i d l = absurd (omega (arith, l))
 fits-small [] (n ∷ ns) a h i d l = absurd h
@@ -127,7 +121,7 @@ module _ (d : Design) (c : Machine) (h : IsMachineOf d c) (ns : List ℕ) (f : F
   m1 = with_inputs c ns
 
   count : length ns ≡ length (input_widths d)
-  count = fits-length (input_widths d) ns f
+  count = length-cells (input_widths d) ns f
 
   wide : length ws ≡ n
   wide = length-map d.signals (λ s. s.width)
@@ -224,7 +218,7 @@ module _ (d : Design) (c : Machine) (h : IsMachineOf d c) (ns : List ℕ) (f : F
       let ports : length v.ports ≡ length (port_widths d) = sym (length-map v.ports length) ∙ ap length runs.cycle.port_widths in
       sym (length-map c.program.outputs.items (λ i. get_or (run_on c.program m1) i 0))
       ∙ ap length runs.outputs
-      ∙ length-map (outputs_of d v) nat
+      ∙ length-map (words_at_outputs d v) nat
       ∙ at_ports-length is_out d.ports v.ports (port_widths d) ports
 
   pub stepped : (e : Machine) (outputs : List ℕ) → IsSameProgram c e → e.memory.items ≡ after c.program m1

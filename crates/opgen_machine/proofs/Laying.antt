@@ -9,8 +9,8 @@ use Rattle.opgen_num.specs.Words.{nat}
 use Rattle.opgen_num.proofs.Words.{nat-below}
 use Rattle.opgen_design.specs.declared.design.Driver.{Driver}
 use Rattle.opgen_design.specs.declared.design.Driver.TheVariants.{Assign, Choice, Table, Register, Output}
-use Rattle.opgen_runs.specs.Tables.{row_word}
-use Rattle.opgen_machine.specs.Laid.{AreLaid, FitRows, Grown, IsLaid, Row, number_at}
+use Rattle.opgen_runs.specs.Tables.{Row, row_word}
+use Rattle.opgen_machine.specs.Laid.{AreLaid, FitRows, Grown, IsLaid, number_at}
 
 -- numbers that are the same where tables may stand
 module _ (low : ℕ) (m k : List ℕ) (longer : length m ≤ length k) (same : (i : ℕ) → low ≤ i → i < length m → get_or k i 0 ≡ get_or m i 0)

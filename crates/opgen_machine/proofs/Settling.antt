@@ -10,7 +10,9 @@ use Rattle.opgen_num.proofs.Words.{nat-below, word-nat}
 use Rattle.opgen_design.specs.declared.design.Driver.{Driver}
 use Rattle.opgen_design.specs.declared.design.Driver.TheVariants.{Assign, Choice, Table, Register, Output}
 use Rattle.opgen_design.specs.Run.{Words, scope}
-use Rattle.opgen_design.specs.Sound.{Target, signal, port_of, target}
+use Rattle.opgen_design.specs.declared.design.Target.{Target}
+use Rattle.opgen_design.specs.declared.design.Target.TheVariants.{Signal as signal, Port as port_of}
+use Rattle.opgen_design.specs.Sound.{target}
 use Rattle.opgen_design.specs.Tree.{Tree}
 use Rattle.opgen_design.specs.Width.{width}
 use Rattle.opgen_runs.specs.Evaluate.{driver_word, put, put_at, put_option, settle}

@@ -5,10 +5,7 @@ use Rattle.opgen_num.specs.Words.{nat}
 use Rattle.opgen_design.specs.declared.design.Design.{Design}
 use Rattle.opgen_design.specs.declared.design.Driver.{Driver}
 use Rattle.opgen_design.specs.declared.design.Driver.TheVariants.{Table}
-use Rattle.opgen_runs.specs.Tables.{row_word}
-
-abbrev pub Row : Type 0
-Row = List Bool × List Bool
+use Rattle.opgen_runs.specs.Tables.{Row, row_word}
 
 -- the number of a table's word at an address
 abbrev pub number_at : List Row → (other : List Bool) → (address : ℕ) → ℕ

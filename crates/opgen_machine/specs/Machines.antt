@@ -1,10 +1,10 @@
 -- The machine of a design: a memory, and steps over it that run one cycle.
 use Rattle.std.specs.Prelude.{ℕ, ◌≡◌, ◌+◌, ◌<◌, ◌++◌, All, Bool, List, drop, length, map, slice_index, take}
-use Rattle.opgen_num.specs.Words.{FitWidths, nat}
+use Rattle.opgen_num.specs.Words.{FitWidths, nat, words_of}
 use Rattle.opgen_design.specs.declared.design.Design.{Design}
-use Rattle.opgen_design.specs.Run.{Words, Cycle, at_ports, input_widths, is_in, is_out, outputs_of}
+use Rattle.opgen_design.specs.Run.{Words, Cycle, at_ports, input_widths, is_in, is_out, words_at_outputs}
 use Rattle.opgen_design.specs.Sound.{port_widths, signal_widths}
-use Rattle.opgen_runs.specs.Step.{IsStep, words_of}
+use Rattle.opgen_runs.specs.Step.{IsStep}
 use Rattle.opgen_machine.specs.Steps.{AreFine, exec}
 use Rattle.opgen_machine.specs.Programs.{AllFit, seen}
 use Rattle.opgen_machine.specs.declared.machine.Machine.{Machine}
@@ -37,7 +37,7 @@ after p m = move_all p.moves.items (run_on p m)
 pub record RunsCycle (d : Design) (tables : List ℕ) (base : ℕ) (p : Program) (m : List ℕ) : Type 0 where
   pub words : Words
   pub cycle : Cycle d (registers d m) (given d m) words (registers d (after p m))
-  pub outputs : map (λ i. slice_index (run_on p m) i) p.outputs.items ≡ map nat (outputs_of d words)
+  pub outputs : map (λ i. slice_index (run_on p m) i) p.outputs.items ≡ map nat (words_at_outputs d words)
   pub state : IsState d tables base (take base (after p m))
 
 -- a program may be run over so many numbers

@@ -1,12 +1,12 @@
 -- The registers of a machine: their next words, and the moves that store them.
 use Rattle.std.specs.Prelude.{ℕ, ◌≡◌, ◌+◌, ◌<◌, ◌≤◌, ◌^◌, All, Option, Bool, List, [], ◌∷◌, length, slice_index, slice_set}
+use Rattle.opgen_num.specs.Words.{words_of}
 use Rattle.opgen_design.specs.declared.design.Driver.{Driver}
 use Rattle.opgen_design.specs.Run.{Words, moved}
-use Rattle.opgen_design.specs.Sound.{signal}
+use Rattle.opgen_design.specs.declared.design.Target.TheVariants.{Signal as signal}
 use Rattle.opgen_design.specs.Tree.{Tree}
 use Rattle.opgen_design.specs.Value.{word_at}
 use Rattle.opgen_runs.specs.Evaluate.{hand_all_on}
-use Rattle.opgen_runs.specs.Step.{words_of}
 use Rattle.opgen_machine.specs.declared.registers.Move.{Move}
 use Rattle.opgen_machine.specs.Settles.{width_at}
 use Rattle.opgen_machine.specs.declared.step.Step.{Step}

@@ -3,17 +3,20 @@ use Rattle.std.specs.Prelude.{ℕ, ◌≡◌, ◌+◌, ◌<◌, ◌≤◌, All, 
 use Rattle.opgen_design.specs.declared.design.Driver.{Driver}
 use Rattle.opgen_design.specs.declared.design.Driver.TheVariants.{Assign, Choice, Table, Register, Output}
 use Rattle.opgen_design.specs.Run.{Words, scope}
-use Rattle.opgen_design.specs.Sound.{Target, signal, port_of, target}
+use Rattle.opgen_design.specs.declared.design.Target.{Target}
+use Rattle.opgen_design.specs.declared.design.Target.TheVariants.{Signal as signal, Port as port_of}
+use Rattle.opgen_design.specs.Sound.{target}
 use Rattle.opgen_design.specs.Tree.{Tree}
 use Rattle.opgen_design.specs.Value.{chosen}
 use Rattle.opgen_design.specs.Width.{IsWidth}
 use Rattle.opgen_runs.specs.Evaluate.{driver_word, settle}
+use Rattle.opgen_runs.specs.Tables.{Row}
 use Rattle.opgen_machine.specs.declared.step.Step.{Step}
 use Rattle.opgen_machine.specs.declared.step.Spot.{Spot}
 use Rattle.opgen_machine.specs.Steps.{AreFine, exec}
 use Rattle.opgen_machine.specs.Programs.{AllFit, AreSpots, Gives, Holds, Spots, seen, value_over, widths_of}
 use Rattle.opgen_machine.specs.Emit.{Extends, width_over}
-use Rattle.opgen_machine.specs.Laid.{AreLaid, IsLaid, Row}
+use Rattle.opgen_machine.specs.Laid.{AreLaid, IsLaid}
 
 -- the width of what a driver drives
 abbrev pub width_at : Spots → Target → ℕ

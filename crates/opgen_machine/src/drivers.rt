@@ -11,7 +11,7 @@ ghost use Rattle.opgen_machine.specs.Settles.{Agrees, AgreesTable, HasNarrow, Is
 
 use crate::expression::{choose, constant, emit, look_up};
 use crate::step::{Spot, Step};
-use opgen_design::{Driver, Formula};
+use opgen_design::{Driver, Formula, Target};
 use opgen_num::Word;
 use std::alloc::AllocError;
 
@@ -123,22 +123,9 @@ fn put(
     ensures { OnOk result ((low : ℕ) → IsPut low base driver.now from (record { signals = signals.old; ports = ports.old }) steps.old.items steps.new.items (record { signals = signals.new; ports = ports.new })) }
 {
     let spot = driver_spot(steps, base, signals, ports, driver, from)?;
-    match driver {
-        Driver::Assign { to, expr: _ } => signals[*to] = spot,
-        Driver::Choice {
-            to,
-            on: _,
-            yes: _,
-            no: _,
-        } => signals[*to] = spot,
-        Driver::Table {
-            to,
-            on: _,
-            rows: _,
-            other: _,
-        } => signals[*to] = spot,
-        Driver::Register { to, expr: _ } => signals[*to] = spot,
-        Driver::Output { port, expr: _ } => ports[*port] = spot,
+    match driver.target() {
+        Target::Signal(place) => signals[place] = spot,
+        Target::Port(place) => ports[place] = spot,
     }
     Ok(())
 }

@@ -5,7 +5,8 @@ ghost use Rattle.opgen_machine.specs.Steps.{AreFine};
 ghost use Rattle.opgen_machine.specs.Programs.{AreSpots, Spots, widths_of};
 ghost use Rattle.opgen_machine.specs.Moves.{AreWithin, HandsOn, IsNext, move_all};
 ghost use Rattle.opgen_machine.specs.Settles.{Agrees, HasNarrow, IsThere, width_at};
-ghost use Rattle.opgen_design.specs.Sound.{signal, target};
+ghost use Rattle.opgen_design.specs.declared.design.Target.TheVariants.{Signal as signal};
+ghost use Rattle.opgen_design.specs.Sound.{target};
 
 use crate::expression::{choose, copy, emit, name, port};
 use crate::step::{Spot, Step};

@@ -1,9 +1,8 @@
 -- The factors of a product as nodes of its net, and their words.
-use Rattle.std.proofs.Common.{◌≡◌, ℕ, Bool, true, false, List, [], ◌∷◌, length, refl, ◌≤◌, arith}
+use Rattle.std.proofs.Common.{◌≡◌, ℕ, Bool, List, [], ◌∷◌, length, refl, arith}
 use Rattle.std.specs.Prelude.{ℤ, All}
 use Rattle.std.proofs.lemmas.List.Elements.{All-nil}
 use Rattle.opgen_num.specs.declared.format.Format.{Format}
-use Rattle.opgen_num.specs.Formats.{fewest_bits}
 use Rattle.opgen_design.specs.Run.{AreWords}
 use Rattle.opgen_design.specs.Width.{IsWidth}
 use Rattle.opgen_net.specs.Flow.{Inputs, input_at}
@@ -14,16 +13,13 @@ use Rattle.opgen_operator.specs.declared.spec.Product.{Product}
 use Rattle.opgen_operator.specs.Accepted.{IsAcceptedProduct}
 use Rattle.opgen_operator.specs.Ranges.{IsInput}
 use Rattle.opgen_operator.proofs.Accepted.{accepted_ranges}
+use Rattle.opgen_operator.proofs.InputPorts.{input_bit}
 use Rattle.opgen_partial.specs.Law.{AreFactors, HasProducts}
 use Rattle.opgen_partial.proofs.Laws.{products-law}
 use Rattle.opgen_mult.specs.Recipe.{inputs, pairs, products}
 
 pub input-width : (f : Format) → IsInput f → IsWidth f.width
-input-width f h = (fewest f.signed f.width h.fewest, omega (arith, h.most))
-  where
-    fewest : (s : Bool) (w : ℕ) → fewest_bits s ≤ w → 1 ≤ w
-    fewest true w h = omega (arith, h)
-    fewest false w h = omega (arith, h)
+input-width f h = (input_bit f h, omega (arith, h.most))
 
 module _ (p : Product) where
   abbrev pub AreInputs : Inputs → Type 0

@@ -1,9 +1,8 @@
 mod Faithful
-mod InputWords
-mod HeapWidth
+pub mod InputWords
+pub mod HeapWidth
 mod Rounding
 mod OneCut
-mod AboveZeros
+pub mod AboveZeros
 mod Fits
-mod Built
-pub mod ProductNets
+pub mod NetFits

@@ -1,5 +1,5 @@
 -- Sums of words with a last carry.
-use Rattle.std.proofs.Common.{◌≡◌, ℕ, suc, ◌+◌, ◌*◌, ◌^◌, Bool, true, false, List, [], ◌∷◌, length, map, refl, ap, ◌∙◌, arith, not}
+use Rattle.std.proofs.Common.{◌≡◌, ℕ, ◌+◌, ◌*◌, ◌^◌, Bool, true, false, List, [], ◌∷◌, length, map, refl, ap, ◌∙◌, arith, not}
 use Rattle.std.proofs.Math.Nat.{two-pow-succ}
 use Rattle.opgen_num.specs.Words.{digit, nat}
 use Rattle.opgen_num.specs.Sums.{xor, majority, sum_with}

@@ -16,12 +16,13 @@ use Rattle.opgen_operator.specs.Accepted.{IsAcceptedBy}
 use Rattle.opgen_operator.specs.Bounded.{IsIn128, IsRatioIn128, IsExactIn128, ExactValuesAreIn128, IsEntrySmall, EntriesAreSmall}
 use Rattle.opgen_operator.specs.Exact.{Recent, weighted_from, weighted, exact_sum, exact_multiple, terms_from, exact_poly}
 use Rattle.opgen_operator.specs.Horner.{degree, result_places}
-use Rattle.opgen_operator.specs.Judged.{format_at}
+use Rattle.opgen_operator.specs.PortNumbers.{format_at}
 use Rattle.opgen_operator.specs.Outputs.{sum_shift, product_shift, pair_shift, root_shift, places_up, places_down, up, down, product_need, HasSumRoom, guard_bits, guard_for, first_inexact, tables, terms}
 use Rattle.opgen_operator.specs.Ports.{operator_inputs}
 use Rattle.opgen_operator.specs.Ranges.{IsWithin, IsSum, IsPoly}
 use Rattle.opgen_operator.specs.Reached.{IsOf}
 use Rattle.opgen_operator.proofs.Bounds.{products, few_up, few_down, few_units}
+use Rattle.opgen_operator.proofs.InputPorts.{only_within}
 use Rattle.opgen_operator.proofs.Magnitudes.{product_within, raised_within, holds_within, number_small, unsigned_abs-product}
 use Rattle.opgen_operator.proofs.ProductWidths.{product_room}
 use Rattle.opgen_operator.proofs.Terms.{poly_terms_small, few_powers, few_places, wide_taps}
@@ -106,9 +107,9 @@ exact_in128 spec valid inputs of = go spec.version spec.op valid.op of
     go : (version : ℕ) (op : Operator) → IsAcceptedBy version op
         → ((port ago : ℕ) → port < length (operator_inputs op) → IsOf (format_at (operator_inputs op) port) (inputs port ago))
         → IsExactIn128 op inputs
-    go version (Scale s) is of = sum_in128 1 s (inputs 0) (omega arith) is.ranges is.fine.0 (sum_room version s is.inputs is.fine.1)
+    go version (Scale s) is of = sum_in128 1 s (inputs 0) (omega arith) is.ranges is.fine.0 (sum_room version s (only_within _ s.input is.inputs) is.fine.1)
         (λ ago. of 0 ago (omega arith))
-    go version (Fir s) is of = sum_in128 256 s (inputs 0) (omega arith) is.ranges is.fine.0 (sum_room version s is.inputs is.fine.1)
+    go version (Fir s) is of = sum_in128 256 s (inputs 0) (omega arith) is.ranges is.fine.0 (sum_room version s (only_within _ s.input is.inputs) is.fine.1)
         (λ ago. of 0 ago (omega arith))
     go version (Multiply p) is of =
         let narrow : product_need p ≤ 96 = omega (arith, is.narrow (product_need p) refl, (signal_limit version).1) in
@@ -189,5 +190,5 @@ entries_small s is = ⊎_elim (λ (by : IsAcceptedBy 1 (Fir s)). go 1 by) (λ (b
     go version by = (
       guard_small s by.ranges,
       λ k d below. entry_small s (get_or s.coefs k d) by.ranges (by.ranges.coefs k d below) by.fine.0
-          (sum_room version s by.inputs by.fine.1),
+          (sum_room version s (only_within _ s.input by.inputs) by.fine.1),
     )

@@ -1,4 +1,5 @@
 mod Bounds
+pub mod InputPorts
 pub mod Versions
 mod Magnitudes
 mod WeightedSums
@@ -14,3 +15,4 @@ mod Reached
 mod Held
 pub mod Accepted
 pub mod Totals
+pub mod PortNames

@@ -9,7 +9,7 @@ use Rattle.opgen_operator.specs.declared.spec.PortFormat.{PortFormat}
 use Rattle.opgen_operator.specs.declared.spec.Several.{Several}
 use Rattle.opgen_operator.specs.Exact.{exact_multiple}
 use Rattle.opgen_operator.specs.Good.{IsGoodRatio}
-use Rattle.opgen_operator.specs.Judged.{format_at, number_of, output_numbers, IsCycle}
+use Rattle.opgen_operator.specs.PortNumbers.{format_at, number_of, output_numbers, IsCycle}
 use Rattle.opgen_operator.specs.Ports.{numbered, constant_format, multiple_ports}
 
 length-numbered : (n : ℕ) (fs : List Format) → length (numbered n fs) ≡ length fs

@@ -1,9 +1,8 @@
 -- The widths of ports of a valid specification.
 use Rattle.std.proofs.Common.{ℕ, zero, suc, ◌+◌, ◌≤◌, Bool, true, false, List, [], ◌∷◌, map, get_or, refl, arith}
-use Rattle.std.specs.Prelude.{ℤ, ◌≤ℤ◌, codes, All}
+use Rattle.std.specs.Prelude.{ℤ, ◌≤ℤ◌, All}
 use Rattle.opgen_operator.specs.declared.TheConstants.{MAX_SHIFT}
 use Rattle.opgen_num.specs.declared.format.Format.{Format}
-use Rattle.opgen_num.specs.Formats.{fewest_bits}
 use Rattle.opgen_operator.specs.declared.spec.Operator.{Operator}
 use Rattle.opgen_operator.specs.declared.spec.Operator.TheVariants.{Scale, Fir, Multiply, Divide, Root, Mcm, Constdiv, Poly, Tfir}
 use Rattle.opgen_operator.specs.declared.spec.Pair.{Pair}
@@ -11,25 +10,17 @@ use Rattle.opgen_operator.specs.declared.spec.PortFormat.{PortFormat}
 use Rattle.opgen_operator.specs.declared.spec.Several.{Several}
 use Rattle.opgen_operator.specs.declared.spec.Single.{Single}
 use Rattle.opgen_operator.specs.declared.spec.SmallDiv.{SmallDiv}
-use Rattle.opgen_operator.specs.Accepted.{HasInputsWithin, IsAcceptedBy}
+use Rattle.opgen_operator.specs.Accepted.{IsAcceptedBy}
 use Rattle.opgen_operator.specs.Bounded.{HasWidth, InputsAreWide, OutputsAreWide, LimitsAreWithin, ShiftsAreSmall, RootsAreNarrow}
 use Rattle.opgen_operator.specs.Limits.{most_input, most_signal}
 use Rattle.opgen_operator.specs.Outputs.{places_up, pair_shift, root_shift, reach_over, sum_need, product_need, sum_places, product_places}
-use Rattle.opgen_operator.specs.Ports.{numbered, constant_format, multiple_ports, quotient_ports, root_ports, small_ports, operator_inputs, operator_outputs}
-use Rattle.opgen_operator.specs.Ranges.{IsOperator, IsInput, IsPair, IsSeveral, IsSingle, IsSmallDiv}
+use Rattle.opgen_operator.specs.Ports.{numbered, constant_format, multiple_ports, quotient_ports, root_ports, small_ports, operator_outputs}
+use Rattle.opgen_operator.specs.Ranges.{IsPair, IsSeveral, IsSingle, IsSmallDiv}
 use Rattle.opgen_operator.proofs.Accepted.{some_width}
+use Rattle.opgen_operator.proofs.InputPorts.{all_one, all_two, only_within, input_bit, input_bits}
 use Rattle.opgen_operator.proofs.Versions.{input_limit, signal_limit, input_room, shift_limit, shift_least}
 use Rattle.opgen_operator.proofs.Widths.{multiple_width, root_bits, taps_width, small_rest_width}
 use Rattle.opgen_operator.proofs.Results.{poly_width}
-
--- of one port, and of two
-all_one : (P : PortFormat → Type 0) (p : PortFormat) → P p → All P (p ∷ [])
-all_one P p h zero d _ = h
-all_one P p h (suc k) d below = absurd (omega arith)
-
-all_two : (P : PortFormat → Type 0) (p r : PortFormat) → P p → P r → All P (p ∷ r ∷ [])
-all_two P p r h g zero d _ = h
-all_two P p r h g (suc k) d below = all_one P r g k d (omega arith)
 
 all_numbered : (n : ℕ) (g : ℤ → Format) (ts : List ℤ) → All (λ t. (1 ≤ (g t).width) × ((g t).width ≤ 64)) ts
     → All (HasWidth 64) (numbered n (map g ts))
@@ -37,22 +28,15 @@ all_numbered n g [] each k d below = absurd (omega arith)
 all_numbered n g (t ∷ ts) each zero d below = each zero t (omega arith)
 all_numbered n g (t ∷ ts) each (suc k) d below = all_numbered (n + 1) g ts (λ j e h. each (suc j) e (omega arith)) k d (omega arith)
 
-some_bits : (signed : Bool) (width : ℕ) → fewest_bits signed ≤ width → 1 ≤ width
-some_bits false width h = h
-some_bits true width h = omega arith
-
-input_wide : (most : ℕ) (name : List ℕ) (f : Format) → IsInput f → f.width ≤ most → HasWidth most (record { name = name; format = f })
-input_wide most name f fits few = (some_bits f.signed f.width fits.fewest, few)
-
 wider : (most : ℕ) (ports : List PortFormat) → 64 ≤ most → All (HasWidth 64) ports → All (HasWidth most) ports
 wider most ports far each k d below = let (some, few) = each k d below in (some, omega (arith, few, far))
 
 quotients_wide : (most : ℕ) (exact : Bool) (p : Pair) → 64 ≤ most → IsPair p → p.a.width + places_up (pair_shift p) ≤ most
     → All (HasWidth most) (quotient_ports exact p)
 quotients_wide most true p far fits few =
-    all_two (HasWidth most) _ _ (omega (arith, some_bits p.a.signed p.a.width fits.a.fewest), few)
-    (some_bits p.b.signed p.b.width fits.b.fewest, omega (arith, fits.b.most, far))
-quotients_wide most false p far fits few = all_one (HasWidth most) _ (omega (arith, some_bits p.a.signed p.a.width fits.a.fewest), few)
+    all_two (HasWidth most) _ _ (omega (arith, input_bit p.a fits.a), few)
+    (input_bit p.b fits.b, omega (arith, fits.b.most, far))
+quotients_wide most false p far fits few = all_one (HasWidth most) _ (omega (arith, input_bit p.a fits.a), few)
 
 roots_wide : (exact : Bool) (r : Single) → IsSingle r → root_shift r ≤ℤ MAX_SHIFT → All (HasWidth 64) (root_ports exact r)
 roots_wide true r fits high =
@@ -65,10 +49,10 @@ roots_wide false r fits high =
 smalls_wide : (exact : Bool) (c : SmallDiv) → IsSmallDiv c → All (HasWidth 64) (small_ports exact c)
 smalls_wide true c fits =
     let (some, few) = small_rest_width c fits in
-    all_two (HasWidth 64) _ _ (some_bits c.input.signed c.input.width fits.input.fewest, omega (arith, fits.input.most))
+    all_two (HasWidth 64) _ _ (input_bit c.input fits.input, omega (arith, fits.input.most))
     (some, omega (arith, few))
 smalls_wide false c fits =
-    all_one (HasWidth 64) _ (some_bits c.input.signed c.input.width fits.input.fewest, omega (arith, fits.input.most))
+    all_one (HasWidth 64) _ (input_bit c.input fits.input, omega (arith, fits.input.most))
 
 multiples_wide : (m : Several) → IsSeveral m → All (HasWidth 64) (multiple_ports m)
 multiples_wide m fits =
@@ -79,20 +63,7 @@ multiples_wide m fits =
     ))
 
 pub inputs_wide : InputsAreWide
-inputs_wide spec valid = go (most_input spec.version) spec.op valid.op.ranges valid.op.inputs
-  where
-    go : (most : ℕ) (op : Operator) → IsOperator op → HasInputsWithin most op → All (HasWidth most) (operator_inputs op)
-    go most (Scale s) fits few = all_one (HasWidth most) _ (input_wide most (codes "x") s.input fits.input few)
-    go most (Fir s) fits few = all_one (HasWidth most) _ (input_wide most (codes "x") s.input fits.input few)
-    go most (Multiply p) fits (few, more) = all_two (HasWidth most) _ _ (input_wide most (codes "a") p.a fits.a few)
-        (input_wide most (codes "b") p.b fits.b more)
-    go most (Divide p) fits (few, more) = all_two (HasWidth most) _ _ (input_wide most (codes "a") p.a fits.a few)
-        (input_wide most (codes "b") p.b fits.b more)
-    go most (Root r) fits few = all_one (HasWidth most) _ (input_wide most (codes "x") r.input fits.input few)
-    go most (Mcm m) fits few = all_one (HasWidth most) _ (input_wide most (codes "x") m.input fits.input few)
-    go most (Constdiv c) fits few = all_one (HasWidth most) _ (input_wide most (codes "x") c.input fits.input few)
-    go most (Poly p) fits few = all_one (HasWidth most) _ (input_wide most (codes "x") p.input fits.input few)
-    go most (Tfir f) fits few = all_one (HasWidth most) _ (input_wide most (codes "x") f.input fits.input few)
+inputs_wide spec valid k d below = (input_bits spec.op valid.op.ranges k d below, valid.op.inputs k d below)
 
 pub operator_wide : (version : ℕ) (op : Operator) → IsAcceptedBy version op → All (HasWidth (most_signal version)) (operator_outputs op)
 operator_wide version (Scale s) is = all_one (HasWidth (most_signal version)) _
@@ -112,7 +83,7 @@ operator_wide version (Poly p) is =
     let (some, few) = poly_width p is.ranges in
     all_one (HasWidth (most_signal version)) _ (some, omega (arith, few, (signal_limit version).0))
 operator_wide version (Tfir f) is = all_one (HasWidth (most_signal version)) _
-    (some_width (reach_over f.input f.taps), omega (arith, taps_width f is.ranges, is.inputs, input_room version))
+    (some_width (reach_over f.input f.taps), omega (arith, taps_width f is.ranges, only_within (most_input version) f.input is.inputs, input_room version))
 
 pub outputs_wide : OutputsAreWide
 outputs_wide spec valid = operator_wide spec.version spec.op valid.op

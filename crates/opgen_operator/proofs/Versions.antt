@@ -11,6 +11,7 @@ use Rattle.opgen_operator.specs.Accepted.{HasInputsWithin}
 use Rattle.opgen_operator.specs.Limits.{most_input, most_signal, most_sum_shift, least_shift, most_shift}
 use Rattle.opgen_operator.specs.Outputs.{shift, sum_shift, places_up, HasSumRoom, HasRoom}
 use Rattle.opgen_operator.proofs.Bounds.{few_up}
+use Rattle.opgen_operator.proofs.InputPorts.{only_within}
 
 pub input_limit : (version : ℕ) → most_input version ≤ MAX_INPUT
 input_limit version = go (version == 1)
@@ -72,8 +73,8 @@ sum_room version s few high = go (version == 1) few high
     go false few high = omega (arith, few_up 32 (sum_shift s) high)
 
 pub room : (version : ℕ) (op : Operator) → HasInputsWithin (most_input version) op → shift op ≤ℤ most_shift version op → HasRoom op
-room version (Scale s) few high = sum_room version s few high
-room version (Fir s) few high = sum_room version s few high
+room version (Scale s) few high = sum_room version s (only_within (most_input version) s.input few) high
+room version (Fir s) few high = sum_room version s (only_within (most_input version) s.input few) high
 room version (Multiply p) few high = tt
 room version (Divide p) few high = tt
 room version (Root r) few high = tt

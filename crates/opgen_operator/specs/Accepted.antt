@@ -1,10 +1,11 @@
 -- Operators that can be built: those whose fields, shift, widths and widest signal are within the limits of one version of
 -- specifications.
-use Rattle.std.specs.Prelude.{ℕ, ◌≡◌, ◌≤◌, ◌⊎◌, ◌≤ℤ◌, Bool, false, IsTrue, Option, Some, None}
+use Rattle.std.specs.Prelude.{ℕ, ◌≡◌, ◌≤◌, ◌⊎◌, ◌≤ℤ◌, Bool, false, IsTrue, All, Option, Some, None}
 use Rattle.opgen_operator.specs.declared.spec.Operator.{Operator}
 use Rattle.opgen_operator.specs.declared.spec.Operator.TheVariants.{Scale, Fir, Multiply, Divide, Root, Mcm, Constdiv, Poly, Tfir}
 use Rattle.opgen_operator.specs.declared.spec.Pair.{Pair}
 use Rattle.opgen_operator.specs.declared.spec.Poly.{Poly as Polynomial}
+use Rattle.opgen_operator.specs.declared.spec.PortFormat.{PortFormat}
 use Rattle.opgen_operator.specs.declared.spec.Product.{Product}
 use Rattle.opgen_operator.specs.declared.spec.Several.{Several}
 use Rattle.opgen_operator.specs.declared.spec.Single.{Single}
@@ -13,19 +14,12 @@ use Rattle.opgen_operator.specs.declared.spec.Sum.{Sum}
 use Rattle.opgen_operator.specs.declared.spec.Taps.{Taps}
 use Rattle.opgen_operator.specs.Limits.{most_input, most_signal, least_shift, most_shift}
 use Rattle.opgen_operator.specs.Outputs.{inexact, shift, need}
+use Rattle.opgen_operator.specs.Ports.{operator_inputs}
 use Rattle.opgen_operator.specs.Ranges.{IsOperator}
 
 -- no input has more bits
 abbrev pub HasInputsWithin : (most : ℕ) → Operator → Type 0
-HasInputsWithin most (Scale s) = s.input.width ≤ most
-HasInputsWithin most (Fir s) = s.input.width ≤ most
-HasInputsWithin most (Multiply p) = (p.a.width ≤ most) × (p.b.width ≤ most)
-HasInputsWithin most (Divide p) = (p.a.width ≤ most) × (p.b.width ≤ most)
-HasInputsWithin most (Root r) = r.input.width ≤ most
-HasInputsWithin most (Mcm m) = m.input.width ≤ most
-HasInputsWithin most (Constdiv c) = c.input.width ≤ most
-HasInputsWithin most (Poly p) = p.input.width ≤ most
-HasInputsWithin most (Tfir f) = f.input.width ≤ most
+HasInputsWithin most op = All (λ (p : PortFormat). p.format.width ≤ most) (operator_inputs op)
 
 -- the operator's own mark of exact outputs, where it has one
 abbrev pub own_mark : Operator → Option Bool

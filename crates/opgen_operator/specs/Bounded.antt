@@ -15,7 +15,7 @@ use Rattle.opgen_operator.specs.declared.spec.Taps.{Taps}
 use Rattle.opgen_operator.specs.Accepted.{IsAcceptedBy, IsAccepted, IsAcceptedSum}
 use Rattle.opgen_operator.specs.Exact.{Recent, exact_sum, exact_product, exact_quotient, exact_multiple, exact_small, exact_poly, exact_taps, dividend, square}
 use Rattle.opgen_operator.specs.Horner.{poly_guard, guarded, partial_width, all_guarded}
-use Rattle.opgen_operator.specs.Judged.{format_at}
+use Rattle.opgen_operator.specs.PortNumbers.{format_at}
 use Rattle.opgen_operator.specs.Limits.{most_input, most_signal, least_shift, most_shift}
 use Rattle.opgen_operator.specs.Outputs.{shift, sum_shift, product_shift, places_up, up, down, product_reach, product_places, width_of, guard_bits, HasRoom}
 use Rattle.opgen_operator.specs.Ports.{root_width, product_format, poly_format, taps_format, inputs_of, outputs_of}

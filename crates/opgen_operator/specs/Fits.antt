@@ -10,7 +10,7 @@ use Rattle.opgen_operator.specs.declared.spec.PortFormat.{PortFormat}
 use Rattle.opgen_operator.specs.declared.spec.Spec.{Spec}
 use Rattle.opgen_operator.specs.declared.spec.Sum.{Sum}
 use Rattle.opgen_operator.specs.Good.{IsGoodOf, IsInRangeOf}
-use Rattle.opgen_operator.specs.Judged.{recent_words, output_words}
+use Rattle.opgen_operator.specs.PortNumbers.{recent_words, output_words}
 use Rattle.opgen_operator.specs.Ports.{operator_inputs, operator_outputs}
 use Rattle.opgen_operator.specs.Valid.{IsValidSpec}
 

@@ -11,8 +11,9 @@ pub mod Accepted
 pub mod Valid
 pub mod Exact
 pub mod Good
-pub mod Judged
+pub mod PortNumbers
 pub mod Fits
 pub mod Reached
 pub mod Held
 pub mod Bounded
+pub mod PortNames

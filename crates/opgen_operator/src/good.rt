@@ -3,7 +3,7 @@ ghost use Rattle.std.specs.Prelude.{ℕ, false, ◌≡◌, ◌≢◌, ◌+◌, �
 ghost use Rattle.opgen_num.specs.Rounding.{IsGoodRoot, IsQuotient, IsRoot};
 ghost use Rattle.opgen_operator.specs.Exact.{weighted, exact_sum, exact_product, exact_quotient, exact_multiple, exact_small, exact_taps, exact_poly, terms_from, dividend, square};
 ghost use Rattle.opgen_operator.specs.Good.{IsGoodRatio, IsGoodQuotient, IsGoodSmallQuotient, IsGoodSquareRoot, AreGoodMultiples, IsGood, IsInRange};
-ghost use Rattle.opgen_operator.specs.Judged.{number_of, recent_numbers, output_numbers, IsHistory, IsCycle};
+ghost use Rattle.opgen_operator.specs.PortNumbers.{number_of, recent_numbers, output_numbers, IsHistory, IsCycle};
 ghost use Rattle.opgen_operator.specs.Outputs.{sum_shift, product_shift, pair_shift, root_shift, HasSumRoom};
 ghost use Rattle.opgen_operator.specs.Ports.{one_input, two_inputs, sum_format, product_format, constant_format, quotient_format, remainder_format, root_format, rest_format, small_quotient_format, small_rest_format, poly_format, taps_format, small_ports, quotient_ports, root_ports, multiple_ports, inputs_of, outputs_of};
 ghost use Rattle.opgen_operator.specs.Ranges.{IsInput, IsWithin, IsSum, IsProduct, IsPair, IsSingle, IsSeveral, IsSmallDiv, IsPoly, IsTaps};
@@ -14,7 +14,7 @@ ghost use Rattle.opgen_operator.specs.Valid.{IsValidSpec};
 use crate::MAX_SHIFT;
 use crate::horner::{degree, result_places};
 use crate::outputs::{
-    pair_shift, places_down, places_up, power, product_shift, root_shift, sum_shift,
+    pair_shift, places_down, places_up, power, product_shift, raised, root_shift, sum_shift,
 };
 use crate::ports::{
     constant_format, product_format, quotient_format, remainder_format, rest_format, root_format,
@@ -73,15 +73,6 @@ fn operands(a: Format, b: Format, history: &[u128]) -> (i128, i128)
 {
     let last = history.len() - 1;
     (input(a, history[last - 1]), input(b, history[last]))
-}
-
-/// A number times two to a power.
-fn raised(n: i128, places: u32) -> i128
-    requires small { unsigned_abs n * 2 ^ places ≤ 2 ^ 126 }
-    requires few { places ≤ MAX_WIDTH }
-    ensures value { result ≡ n *ℤ pos (2 ^ places) }
-{
-    n * (power(places) as i128)
 }
 
 /// The last inputs, each times its coefficient.
@@ -144,12 +135,8 @@ fn product_is_good(exact: bool, product: &Product, a: i128, b: i128, y: u128) ->
     let shift = product_shift(product);
     let numerator = raised(a * b, places_up(shift));
     let denominator = raised(1, places_down(shift));
-    good_linear(
-        numerator,
-        denominator,
-        output(product_format(product), y),
-        exact,
-    )
+    let y = output(product_format(product), y);
+    good_linear(numerator, denominator, y, exact)
 }
 
 fn quotient_is_good(exact: bool, pair: &Pair, a: i128, b: i128, outputs: &[u128]) -> bool
@@ -211,12 +198,8 @@ fn multiple_is_good(exact: bool, input: Format, constant: i64, x: i128, y: u128)
     ensures { IsTrue result ↔ IsGoodRatio exact (exact_multiple constant x)
         (number_of (constant_format input constant) y) }
 {
-    good_linear(
-        product(x, constant),
-        1,
-        output(constant_format(input, constant), y),
-        exact,
-    )
+    let y = output(constant_format(input, constant), y);
+    good_linear(product(x, constant), 1, y, exact)
 }
 
 fn multiples_are_good(exact: bool, several: &Several, x: i128, outputs: &[u128]) -> bool
@@ -339,12 +322,8 @@ impl Spec {
                 quotient_is_good(self.exact, pair, a, b, outputs)
             }
             Operator::Root(single) => {
-                root_is_good(
-                    self.exact,
-                    single,
-                    recent(single.input, history, 0),
-                    outputs,
-                )
+                let x = recent(single.input, history, 0);
+                root_is_good(self.exact, single, x, outputs)
             }
             Operator::Mcm(several) => {
                 let x = recent(several.input, history, 0);

@@ -4,6 +4,7 @@ ghost use Rattle.opgen_operator.specs.Horner.{degree, result_places, poly_guard,
 ghost use Rattle.opgen_operator.specs.Ports.{poly_format};
 ghost use Rattle.opgen_operator.specs.Ranges.{IsPoly};
 
+use crate::outputs::raised;
 use crate::spec::Poly;
 use opgen_budget::{guard, nearest};
 use opgen_num::{Format, least_width};
@@ -13,14 +14,6 @@ use opgen_num::{Format, least_width};
 pub struct Ends {
     pub low: i128,
     pub high: i128,
-}
-
-/// Two to a power.
-fn unit(places: u32) -> i128
-    requires { places ≤ 20 }
-    ensures { result ≡ pos (2 ^ places) }
-{
-    1 << places
 }
 
 pub(crate) fn degree(poly: &Poly) -> u32
@@ -61,7 +54,7 @@ impl Poly {
     {
         let coef = self.coefs.as_slice()[place];
         let places = result_places(self) + self.guard_bits();
-        nearest(i128::from(coef) * unit(places), self.den.into())
+        nearest(raised(i128::from(coef), places), self.den.into())
     }
 
     /// How far the partial value of the coefficients from a place on goes, in units of the lowest
@@ -108,7 +101,7 @@ impl Poly {
         ensures few { result.width ≤ 50 }
     {
         let ends = self.ends(0);
-        let unit = unit(self.guard_bits());
+        let unit = raised(1, self.guard_bits());
         let low = nearest(ends.low, unit);
         let high = nearest(ends.high, unit);
         Format {

@@ -1,6 +1,7 @@
 //! Laws of specifications: output formats hold every exact value, and widths, shifts and exact values are bounded.
 ghost use Rattle.opgen_operator.specs.Bounded.{AcceptedHaveRoom, EntriesAreSmall, ExactValuesAreIn128, InputsAreWide, LimitsAreWithin, OutputsAreWide, PolynomialsHaveRoom, ProductsHaveWidth, RootsAreNarrow, ShiftsAreSmall, TapsHaveRoom, ValidAreAccepted};
 ghost use Rattle.opgen_operator.specs.Held.{OutputsHold};
+ghost use Rattle.opgen_operator.specs.PortNames.{FittingNetsAreNamed};
 ghost use Rattle.opgen_operator.specs.Reached.{SumsReach, ProductsReach};
 
 /// The output of a sum goes from the floor of its least exact value to the ceiling of its greatest.
@@ -81,4 +82,10 @@ pub fn polynomials_have_room()
 /// The output of whole taps has 17 bits more than the input at most.
 pub fn taps_have_room()
     ensures { TapsHaveRoom }
+{}
+
+/// A net that fits an operator whose fields are in range has ports that a design may have, whatever
+/// allowed name the design has.
+pub fn fitting_nets_are_named()
+    ensures { FittingNetsAreNamed }
 {}

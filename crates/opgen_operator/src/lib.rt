@@ -7,13 +7,13 @@
 //! products is made for their least and greatest exact value. The formats of all outputs hold every exact value rounded down
 //! or up, and of roots rounded down only. Of every valid specification, by its version: input ports have 1 to 32 or 48 bits,
 //! output ports 1 to 64 or 96, the shift is within the range of its kind, and the exact values are fractions of numbers of
-//! 128 bits. Entries of tables have at most 122 bits.
+//! 128 bits. Entries of tables have at most 122 bits. A net that fits an operator has ports that a design may have.
 //!
 //! By: `Spec::inputs`, `outputs`, `good`; `Operator::shift`, `inexact`, `need`, `least_shift`, `most_shift`; `most_input`,
 //! `most_signal`; the methods of `Sum`, `Product`, `Pair`, `Single`, `Several`; `is_history`, `is_cycle`; the laws
 //! `valid_are_accepted`, `sums_reach`, `products_reach`, `outputs_hold`, `limits_are_within`, `inputs_are_wide`,
 //! `outputs_are_wide`, `shifts_are_small`, `exact_values_are_in_128`, `accepted_have_room`, `entries_are_small`,
-//! `products_have_width`, `roots_are_narrow`.
+//! `products_have_width`, `roots_are_narrow`, `fitting_nets_are_named`.
 #![tactic(auto)]
 
 mod fields;
@@ -32,10 +32,10 @@ mod words;
 pub use horner::Ends;
 pub use kind::Kind;
 pub use laws::{
-    accepted_have_room, entries_are_small, exact_values_are_in_128, inputs_are_wide,
-    limits_are_within, outputs_are_wide, outputs_hold, polynomials_have_room, products_have_width,
-    products_reach, roots_are_narrow, shifts_are_small, sums_reach, taps_have_room,
-    valid_are_accepted,
+    accepted_have_room, entries_are_small, exact_values_are_in_128, fitting_nets_are_named,
+    inputs_are_wide, limits_are_within, outputs_are_wide, outputs_hold, polynomials_have_room,
+    products_have_width, products_reach, roots_are_narrow, shifts_are_small, sums_reach,
+    taps_have_room, valid_are_accepted,
 };
 pub use limits::{most_input, most_signal};
 pub use odd_parts::odd_part_count;

@@ -1,12 +1,12 @@
 //! The shift of an operator, the range of its exact values, its first inexact coefficient, and its widest signal.
-ghost use Rattle.std.specs.Prelude.{◌≡◌, ◌+◌, ◌*◌, ◌<◌, ◌≤◌, ◌^◌, ℤ, pos, negsuc, neg_ℤ, ◌≤ℤ◌, length, All, unsigned_abs};
+ghost use Rattle.std.specs.Prelude.{◌≡◌, ◌+◌, ◌*◌, ◌<◌, ◌≤◌, ◌^◌, ℤ, pos, negsuc, neg_ℤ, ◌*ℤ◌, ◌≤ℤ◌, length, All, unsigned_abs};
 ghost use Rattle.opgen_operator.specs.Ranges.{IsInput, IsWithin, IsSum, IsProduct, IsPair, IsSingle, IsOperator};
-ghost use Rattle.opgen_operator.specs.Outputs.{sum_shift, product_shift, pair_shift, root_shift, shift, inexact, HasRoom, HasSumRoom, need, places_up, places_down, up, down, is_whole, first_inexact, reach_of, rises, falls, above_zero, below_zero, reach_over, sum_reach, product_reach, in_units, in_places, sum_places, product_places, width_of, terms, tables, guard_for, guard_bits, sum_need, product_need};
+ghost use Rattle.opgen_operator.specs.Outputs.{sum_shift, product_shift, pair_shift, root_shift, shift, inexact, HasRoom, HasSumRoom, need, places_up, places_down, up, down, is_whole, first_inexact, reach_of, rises, falls, reach_over, sum_reach, product_reach, in_units, in_places, sum_places, product_places, width_of, terms, tables, guard_for, guard_bits, sum_need, product_need};
 
 use crate::MAX_SHIFT;
 use crate::spec::{Operator, Pair, Product, Single, Sum};
 use opgen_budget::guard;
-use opgen_num::{Format, least_width};
+use opgen_num::{Format, MAX_WIDTH, least_width};
 
 impl Operator {
     /// The power of two that brings the exact value into units of the output's last place.
@@ -117,6 +117,15 @@ pub(crate) fn power(places: u32) -> u128
     1 << places
 }
 
+/// A number times two to a power.
+pub(crate) fn raised(n: i128, places: u32) -> i128
+    requires small { unsigned_abs n * 2 ^ places ≤ 2 ^ 126 }
+    requires few { places ≤ MAX_WIDTH }
+    ensures value { result ≡ n *ℤ pos (2 ^ places) }
+{
+    n * (power(places) as i128)
+}
+
 /// The numerator in units of the output's last place, over `units`.
 fn scaled(numerator: u128, shift: i32) -> u128
     requires small { numerator * up shift ≤ 2 ^ 120 }
@@ -190,46 +199,25 @@ fn reach_of(format: Format) -> Reach
     }
 }
 
-fn above_zero(coef: i64) -> u64
-    ensures value { result ≡ above_zero coef }
-    ensures bound { result ≤ unsigned_abs coef }
-{
-    if coef < 0 { 0 } else { coef.unsigned_abs() }
-}
-
-fn below_zero(coef: i64) -> u64
-    ensures value { result ≡ below_zero coef }
-    ensures bound { result ≤ unsigned_abs coef }
-{
-    if coef < 0 { coef.unsigned_abs() } else { 0 }
-}
-
-/// The sum of the coefficients above 0.
-fn rises(coefs: &[i64]) -> u64
+/// The sum of the coefficients below 0, without its sign, and of those above 0.
+fn sides(coefs: &[i64]) -> Reach
     requires few { length coefs.now ≤ 256 }
     requires small { All (IsWithin (2 ^ 30)) coefs.now }
-    ensures value { result ≡ rises coefs.now }
-    ensures bound { result ≤ 2 ^ 38 }
+    ensures falls { result.below ≡ falls coefs.now }
+    ensures rises { result.above ≡ rises coefs.now }
+    ensures below { result.below ≤ 2 ^ 38 }
+    ensures above { result.above ≤ 2 ^ 38 }
 {
-    let mut total = 0;
+    let mut below = 0;
+    let mut above = 0;
     'coefs: for coef in coefs {
-        total += above_zero(*coef);
+        if *coef < 0 {
+            below += u128::from(coef.unsigned_abs());
+        } else {
+            above += u128::from(coef.unsigned_abs());
+        }
     }
-    total
-}
-
-/// The sum of the coefficients below 0, without its sign.
-fn falls(coefs: &[i64]) -> u64
-    requires few { length coefs.now ≤ 256 }
-    requires small { All (IsWithin (2 ^ 30)) coefs.now }
-    ensures value { result ≡ falls coefs.now }
-    ensures bound { result ≤ 2 ^ 38 }
-{
-    let mut total = 0;
-    'coefs: for coef in coefs {
-        total += below_zero(*coef);
-    }
-    total
+    Reach { below, above }
 }
 
 /// How far a sum of inputs times coefficients goes.
@@ -242,11 +230,10 @@ pub(crate) fn reach_over(input: Format, coefs: &[i64]) -> Reach
     ensures above { result.above ≤ 2 ^ (input.width + 39) }
 {
     let input = reach_of(input);
-    let rises = u128::from(rises(coefs));
-    let falls = u128::from(falls(coefs));
+    let coefs = sides(coefs);
     Reach {
-        below: rises * input.below + falls * input.above,
-        above: rises * input.above + falls * input.below,
+        below: coefs.above * input.below + coefs.below * input.above,
+        above: coefs.above * input.above + coefs.below * input.below,
     }
 }
 

@@ -6,6 +6,7 @@ use Rattle.std.proofs.lemmas.List.{length-append, length-replicate}
 use Rattle.std.proofs.lemmas.List.Elements.{All-nil, All-cons, All-head, All-tail, All-append, All-replicate, All-same}
 use Rattle.std.proofs.lemmas.List.Sums.{sum_by-cons}
 use Rattle.std.proofs.lemmas.Option.{slice_get-get_or, slice_get_read, slice_get_within, get_or_from_slice_get}
+use Rattle.opgen_design.specs.declared.design.TheConstants.{MAX_SIGNALS}
 use Rattle.opgen_net.specs.declared.cell.Cell.{Cell}
 use Rattle.opgen_net.specs.declared.cell.Class.{Class}
 use Rattle.opgen_net.specs.declared.net.Net.{Net}
@@ -126,7 +127,7 @@ width_sum-most (c ∷ cs) h class =
     one false l = omega arith
 
 -- so a ledger of them is their sum, which does not come near its end
-module _ (net : Net) (valid : IsValid net) (s : Schedule) (few : signal_count net s ≤ 65536) (cells : List Cell)
+module _ (net : Net) (valid : IsValid net) (s : Schedule) (few : signal_count net s ≤ MAX_SIGNALS) (cells : List Cell)
     (are : cells ≡ design_cells net s) (l : Ledger) (is : l ≡ ledger_of cells) where
   pub ledger-whole : (class : Class) → l class ≡ width_sum (design_cells net s) class
   ledger-whole class =

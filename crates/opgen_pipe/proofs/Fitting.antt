@@ -1,10 +1,15 @@
 -- What the parts of a design ask of standings, slots and ports.
 use Rattle.std.proofs.Common.{◌≡◌, ℕ, ◌<◌, ◌≤◌, ◌^◌, Bool, true, false, List, [], ◌∷◌, length, map, get_or, Some, sym, ap, ◌∙◌, subst, arith, inl, inr}
-use Rattle.std.specs.Prelude.{max, if◌then◌else◌, All, slice_get, slice_index}
+use Rattle.std.specs.Prelude.{max, if◌then◌else◌, All, Option, ◌+◌, ◌++◌, filter, not, slice_get, slice_index}
 use Rattle.std.proofs.lemmas.Bool.{cases_lt}
 use Rattle.std.proofs.lemmas.List.{length-map, ext_get_or, get_or_past}
 use Rattle.std.proofs.lemmas.List.Elements.{All-same, All-weaker}
 use Rattle.std.proofs.lemmas.Option.{slice_get-get_or, slice_get_within, get_or_from_slice_get}
+use Rattle.opgen_design.specs.declared.design.Design.{Design}
+use Rattle.opgen_design.specs.declared.design.Driver.{Driver}
+use Rattle.opgen_design.specs.declared.design.Port.{Port}
+use Rattle.opgen_design.specs.declared.design.Signal.{Signal}
+use Rattle.opgen_design.specs.Order.{is_register}
 use Rattle.opgen_net.specs.declared.net.Net.{Net}
 use Rattle.opgen_net.specs.declared.net.Output.{Output}
 use Rattle.opgen_net.specs.declared.node.Node.{Node}
@@ -17,9 +22,12 @@ use Rattle.opgen_schedule.specs.declared.slot.Slot.{Slot}
 use Rattle.opgen_schedule.specs.Reads.{is_constant_at}
 use Rattle.opgen_schedule.specs.Schedule.{Schedule, latency}
 use Rattle.opgen_schedule.specs.Stage.{start, slot_at}
+use Rattle.opgen_pipe.specs.declared.layout.Layout.{Layout}
 use Rattle.opgen_pipe.specs.declared.standing.Standing.{Standing}
-use Rattle.opgen_pipe.specs.Copies.{copies, signal_count}
+use Rattle.opgen_pipe.specs.Copies.{copies, net_latency, signal_count}
 use Rattle.opgen_pipe.specs.Counts.{IsSmall, AreSmall, AreSlots}
+use Rattle.opgen_pipe.specs.Layouts.{IsLayout, schedule_of}
+use Rattle.opgen_pipe.specs.Pipelined.{all_of, design_of, drivers_of, enable_inputs, enable_of, node_drivers, node_signals, output_drivers, ports_of}
 use Rattle.opgen_pipe.specs.Standings.{standing_of, standings}
 use Rattle.opgen_pipe.proofs.Lists.{length-each, get-each, get-mapped}
 use Rattle.opgen_pipe.proofs.Blocks.{before-most, before-within}
@@ -96,17 +104,83 @@ outputs-within net valid count e os f =
     (λ o h. omega (arith, lies_within (widths net.nodes) o.from h, length-widths net.nodes, e)) net.outputs valid.outputs
     )
 
--- slots whose cycles are below the number of nodes, of which there are few
-pub slots-early : (net : Net) (slots : List Slot) → length slots ≡ length net.nodes → All (λ p. p.cycle ≤ length net.nodes) slots
-    → signal_count net (slot_at slots) ≤ 65536 → AreSlots net slots
-slots-early net slots count early few = record {
-  one_each = count;
-  early = All-weaker (λ p. p.cycle ≤ length net.nodes) (λ p. p.cycle ≤ 2 ^ 32)
-      (λ p l. omega (arith, l, few, before-most (copies net (slot_at slots)) (length net.nodes))) slots early;
-}
+-- a layout of few signals
+module _ (net : Net) (l : Layout) (is : IsLayout net l) (most : ℕ) (few : signal_count net (schedule_of l) ≤ most) where
+  nodes-few : length net.nodes ≤ most
+  nodes-few = omega (arith, few, before-most (copies net (schedule_of l)) (length net.nodes))
 
-pub latency-few : (net : Net) (slots : List Slot) → All (λ p. p.cycle ≤ length net.nodes) slots → signal_count net (slot_at slots) ≤ 65536
-    → (nodes : List Node) (os : List Output)
-    → latency nodes (slot_at slots) os ≤ 65536
-latency-few net slots early few nodes os =
-    omega (arith, latency-early (length net.nodes) nodes slots early os, few, before-most (copies net (slot_at slots)) (length net.nodes))
+  pub layout-slots : most ≤ 2 ^ 32 → AreSlots net l.slots.items
+  layout-slots small = record {
+    one_each = is.one_each;
+    early = All-weaker (λ p. p.cycle ≤ length net.nodes) (λ p. p.cycle ≤ 2 ^ 32) (λ p m. omega (arith, m, nodes-few, small)) l.slots.items
+        is.early;
+  }
+
+  pub layout-small : most ≤ 2 ^ 32 → AreSmall (standings net (schedule_of l))
+  layout-small small = standings-small net l.slots.items (layout-slots small) (omega (arith, few, small))
+
+  pub latency-few : l.latency ≤ most
+  latency-few = omega (
+    arith,
+    is.latency,
+    latency-early (length net.nodes) net.nodes l.slots.items is.early net.outputs,
+    nodes-few,
+  )
+
+-- a design of the parts that are found one after the other
+pub parts-design : (called : List ℕ) (enable : Bool) (net : Net) (s : Schedule) (ps qs : List Standing) → ps ≡ standings net s
+    → qs ≡ standings net s
+    → (first last : ℕ) → first ≡ length (enable_inputs enable) → last ≡ net_latency net s
+    → (d : Design) → d.name ≡ called → d.ports ≡ ports_of enable net
+    → d.signals ≡ all_of (node_signals net ps) 0 net.nodes
+    → d.drivers ≡ filter (λ k. not (is_register k)) (all_of (node_drivers first qs) 0 net.nodes)
+    ++ filter is_register (all_of (node_drivers first qs) 0 net.nodes)
+    ++ output_drivers qs last (first + length net.inputs) net.outputs
+    → d.enable ≡ enable_of enable d.drivers → d ≡ design_of called enable net s
+parts-design called enable net s ps qs p q first last f l d n ports signals drivers moves =
+    let xs = standings net s in
+    let made : ℕ → ℕ → List Standing → List Driver = λ a b x.
+    filter (λ k. not (is_register k)) (all_of (node_drivers a x) 0 net.nodes)
+    ++ filter is_register (all_of (node_drivers a x) 0 net.nodes)
+    ++ output_drivers x b (a + length net.inputs) net.outputs in
+    let are : d.drivers ≡ drivers_of enable net s =
+    drivers ∙ ap (made first last) q ∙ ap (λ a. made a last xs) f ∙ ap (λ b. made (length (enable_inputs enable)) b xs) l in
+    let own : List ℕ → Design = λ x. record {
+      name = x;
+      ports = d.ports;
+      signals = d.signals;
+      drivers = d.drivers;
+      enable = d.enable;
+    } in
+    let with_ports : List Port → Design = λ x. record {
+      name = called;
+      ports = x;
+      signals = d.signals;
+      drivers = d.drivers;
+      enable = d.enable;
+    } in
+    let with_signals : List Signal → Design = λ x. record {
+      name = called;
+      ports = ports_of enable net;
+      signals = x;
+      drivers = d.drivers;
+      enable = d.enable;
+    } in
+    let all : List Signal = all_of (node_signals net xs) 0 net.nodes in
+    let with_drivers : List Driver → Design = λ x. record {
+      name = called;
+      ports = ports_of enable net;
+      signals = all;
+      drivers = x;
+      enable = d.enable;
+    } in
+    let moving : Option ℕ → Design = λ x. record {
+      name = called;
+      ports = ports_of enable net;
+      signals = all;
+      drivers = drivers_of enable net s;
+      enable = x;
+    } in
+    ap own n ∙ ap with_ports ports
+    ∙ ap with_signals (signals ∙ ap (λ x. all_of (node_signals net x) 0 net.nodes) p)
+    ∙ ap with_drivers are ∙ ap moving (moves ∙ ap (enable_of enable) are)

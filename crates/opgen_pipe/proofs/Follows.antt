@@ -20,7 +20,7 @@ use Rattle.opgen_design.specs.Value.{Scope, word_at, chosen}
 use Rattle.opgen_net.specs.Flow.{Inputs, before, input_from, flow, slice_flow, stream_of, streams_on}
 use Rattle.opgen_net.specs.Valid.{widths, MayStand, IsValid}
 use Rattle.opgen_net.specs.Valid as valid_net
-use Rattle.opgen_design.specs.Run.{Words, scope, Meets, Cycle, RunsOn, Run, initial_words, outputs_of}
+use Rattle.opgen_design.specs.Run.{Words, scope, Meets, Cycle, RunsOn, Run, initial_words, words_at_outputs}
 use Rattle.opgen_design.proofs.UseLaws.{reads-lists, lists-reads}
 use Rattle.opgen_design.proofs.ReadLaws.{reads-weaker}
 use Rattle.opgen_design.proofs.WidthLaws.{width-reads}
@@ -264,7 +264,7 @@ module _ (called : List ℕ) (enable : Bool) (net : Net) (s : Schedule) (delays 
         (has_output_driver net s enable j o h)
         ∙ part-value (standings net s) l (scope v) r o.from.node o.from.high o.from.low x
 
-    output_words : outputs_of (design_of called enable net s) v
+    output_words : words_at_outputs (design_of called enable net s) v
         ≡ map (λ o. slice_flow net.nodes inputs o.from (ago u (net_latency net s))) net.outputs
     output_words =
         let f : net_output.Output → List Bool = λ o. slice_flow net.nodes inputs o.from (ago u (net_latency net s)) in

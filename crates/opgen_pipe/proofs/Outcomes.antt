@@ -1,11 +1,10 @@
 -- From the parts of a plan to its outcome.
-use Rattle.std.proofs.Common.{◌≡◌, ℕ, ◌+◌, List, length, ap, ◌∙◌}
+use Rattle.std.proofs.Common.{◌≡◌, ℕ, ◌+◌, List, ap, ◌∙◌}
 use Rattle.opgen_net.specs.declared.net.Net.{Net}
 use Rattle.opgen_net.specs.declared.node.Node.{Node}
 use Rattle.opgen_schedule.specs.declared.slot.Slot.{Slot}
 use Rattle.opgen_schedule.specs.Schedule.{greatest}
 use Rattle.opgen_schedule.specs.Stage.{stage}
-use Rattle.opgen_schedule.proofs.Equation.{length-stage}
 use Rattle.opgen_target.specs.Delays.{Delays, setup}
 use Rattle.opgen_pipe.specs.Cells.{net_delays, need}
 use Rattle.opgen_pipe.specs.Planned.{slots_of}
@@ -21,7 +20,3 @@ module _ (net : Net) (table : Delays) (period : ℕ) (delays : List ℕ) (before
 
   pub need-is : greatest delays + before ≡ need table net
   need-is = ap (λ ds. greatest ds + before) d ∙ ap (λ u. greatest (net_delays table net) + u) b
-
-pub slots-count : (net : Net) (table : Delays) (period : ℕ) (slots : List Slot) → slots ≡ slots_of table period net → length slots
-    ≡ length net.nodes
-slots-count net table period slots e = ap length e ∙ length-stage (net_delays table net) (setup table) period net.nodes

@@ -20,7 +20,9 @@ use Rattle.opgen_design.specs.Reads.{AllReads}
 use Rattle.opgen_net.specs.Valid.{widths, IsValid}
 use Rattle.opgen_net.specs.Made.{addressed, output_port}
 use Rattle.opgen_design.specs.Order.{is_register}
-use Rattle.opgen_design.specs.Sound.{Names, signal, port_of, target, DriverReads, Needs, IsEnableDeclared, IsDeclared, IsInput, IsDriven, IsOrdered, ReadsInputs, IsRegisterOf, HasInitial, AddressesDiffer, IsFitForEnable, Undeclared, DrivenTwice, NotDriven, ReadsOutput, NoInitial, ChoiceTwice, BadEnable, Holds}
+use Rattle.opgen_design.specs.declared.design.Target.TheVariants.{Signal as signal, Port as port_of}
+use Rattle.opgen_design.specs.declared.sound.Rule.TheVariants.{Undeclared, DrivenTwice, NotDriven, ReadsOutput, NoInitial, ChoiceTwice, BadEnable}
+use Rattle.opgen_design.specs.Sound.{Names, target, DriverReads, Needs, IsEnableDeclared, IsDeclared, IsInput, IsDriven, IsOrdered, ReadsInputs, IsRegisterOf, HasInitial, AddressesDiffer, IsFitForEnable, Holds}
 use Rattle.opgen_design.proofs.ReadLaws.{reads-weaker, holds_of_read}
 use Rattle.opgen_net.proofs.InputLaws.{input-width}
 use Rattle.opgen_net.proofs.Standing.{may_stand}

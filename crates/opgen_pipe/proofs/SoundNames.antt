@@ -16,7 +16,8 @@ use Rattle.opgen_net.specs.declared.net.Net.{Net}
 use Rattle.opgen_net.specs.declared.net.Output as net_output
 use Rattle.opgen_net.specs.Named.{port_names, begins_as_signal, IsFree, IsNamed}
 use Rattle.opgen_net.specs.Made.{signal_name, input_port, output_port}
-use Rattle.opgen_design.specs.Sound.{names_of, IsNewName, DeclaredTwice, Holds}
+use Rattle.opgen_design.specs.declared.sound.Rule.TheVariants.{DeclaredTwice}
+use Rattle.opgen_design.specs.Sound.{names_of, IsNewName, Holds}
 use Rattle.opgen_schedule.specs.Schedule.{Schedule}
 use Rattle.opgen_pipe.specs.Copies.{copies, signal_of, signal_count}
 use Rattle.opgen_pipe.specs.Standings.{standing_of, standings}

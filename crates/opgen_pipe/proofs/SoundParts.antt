@@ -5,7 +5,8 @@ use Rattle.opgen_design.specs.declared.design.Design.{Design}
 use Rattle.opgen_design.specs.declared.design.Driver.{Driver}
 use Rattle.opgen_design.specs.declared.design.Port.{Port}
 use Rattle.opgen_design.specs.declared.design.Signal.{Signal}
-use Rattle.opgen_design.specs.Sound.{Rule, at_design, at_port, at_signal, at_driver, DesignPasses, PortPasses, SignalPasses, DriverPasses, Holds}
+use Rattle.opgen_design.specs.declared.sound.Rule.{Rule}
+use Rattle.opgen_design.specs.Sound.{at_design, at_port, at_signal, at_driver, DesignPasses, PortPasses, SignalPasses, DriverPasses, Holds}
 
 if_there : {X : Type 0} (o : Option X) (P : X → Type 0) → ((x : X) → o ≡ Some x → P x) → IfSome o P
 if_there None P h = tt

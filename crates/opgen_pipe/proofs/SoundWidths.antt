@@ -20,7 +20,8 @@ use Rattle.opgen_net.specs.Flow.{flow}
 use Rattle.opgen_net.specs.Valid as valid_net
 use Rattle.opgen_net.specs.Valid.{widths, slice_width, node_width, LiesWithin, IsValid}
 use Rattle.opgen_net.specs.Made.{addressed, input_port, output_port}
-use Rattle.opgen_design.specs.Sound.{signal_widths, port_widths, HasWidth, WidthsAgree, IsSignalWide, Width, Holds}
+use Rattle.opgen_design.specs.declared.sound.Rule.TheVariants.{Width}
+use Rattle.opgen_design.specs.Sound.{signal_widths, port_widths, HasWidth, WidthsAgree, IsSignalWide, Holds}
 use Rattle.opgen_design.proofs.WidthLaws.{as_width-of}
 use Rattle.opgen_net.proofs.FlowLaws.{lies_within, length-widths}
 use Rattle.opgen_net.proofs.InputLaws.{input-width, input_node}

@@ -1,5 +1,4 @@
 -- The schedule of a plan fits, and has the least latency.
-use Rattle.std.proofs.Common.{◌≡◌, ℕ, length, map}
 use Rattle.std.proofs.lemmas.List.{length-map}
 use Rattle.opgen_net.specs.Valid.{widths}
 use Rattle.opgen_schedule.specs.Laws.{PathsFit, StageFits, StageIsLeast}

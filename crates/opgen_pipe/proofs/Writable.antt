@@ -1,27 +1,24 @@
 -- The design of a net whose names can stand in it can be written: its names are allowed, and it has a port.
-use Rattle.std.proofs.Common.{◌≡◌, ℕ, suc, zero, ◌+◌, ◌^◌, ◌<◌, ◌≤◌, Bool, true, false, nat_le, nat_eq, List, [], ◌∷◌, ◌++◌, length, map, get_or, Some, decimal, IsTrue, refl, sym, ap, ◌∙◌, subst, arith, inl, inr}
-use Rattle.std.specs.Prelude.{All, codes, slice_get}
+use Rattle.std.proofs.Common.{◌≡◌, ℕ, suc, zero, ◌+◌, ◌^◌, ◌<◌, ◌≤◌, Bool, true, false, nat_le, nat_eq, List, [], ◌∷◌, ◌++◌, length, map, Some, decimal, IsTrue, refl, sym, ap, ◌∙◌, subst, arith, inl, inr}
+use Rattle.std.specs.Prelude.{codes, slice_get}
 use Rattle.std.specs.Char.{digit_value}
 use Rattle.std.specs.List.{list_all}
 use Rattle.std.specs.Str.Parse.{AllDigits}
 use Rattle.std.proofs.lemmas.Bool.{le-leb}
 use Rattle.std.proofs.lemmas.Bool.Decides.{nat_tests}
 use Rattle.std.proofs.lemmas.Fmt.{decimal_is_IsNumeral, length-decimal-le}
-use Rattle.std.proofs.lemmas.List.{append_assoc, length-append, length-map}
-use Rattle.std.proofs.lemmas.List.Elements.{All-contains_itself}
+use Rattle.std.proofs.lemmas.List.{append_assoc, length-append}
 use Rattle.std.proofs.lemmas.Option.{get_or_from_slice_get, slice_get-get_or, slice_get_within}
 use Rattle.opgen_names.specs.Names.{refused_words, is_refused, is_underscore, is_name_byte, ends_with_underscore, has_double_underscore, is_allowed_name}
 use Rattle.opgen_design.specs.declared.design.Port.{Port}
 use Rattle.opgen_design.specs.declared.design.Signal.{Signal}
 use Rattle.opgen_net.specs.declared.net.Net.{Net}
-use Rattle.opgen_net.specs.declared.net.Output as net_output
-use Rattle.opgen_net.specs.declared.node.Node.{Node}
-use Rattle.opgen_net.specs.Made.{signal_name, input_port, output_port}
+use Rattle.opgen_net.specs.Made.{signal_name}
 use Rattle.opgen_net.specs.Named.{port_names, IsNamed}
 use Rattle.opgen_schedule.specs.Schedule.{Schedule}
-use Rattle.opgen_pipe.specs.Copies.{copies, signals_before, signal_count}
+use Rattle.opgen_pipe.specs.Copies.{copies, signal_count}
 use Rattle.opgen_pipe.specs.Laws.{DesignIsWritable}
-use Rattle.opgen_pipe.specs.Pipelined.{all_of, node_signals, copy_name, enable_inputs, ports_of, design_of}
+use Rattle.opgen_pipe.specs.Pipelined.{all_of, node_signals, copy_name, enable_inputs, ports_of}
 use Rattle.opgen_pipe.specs.Standings.{standings}
 use Rattle.opgen_pipe.proofs.Blocks.{before-most, before-within}
 use Rattle.opgen_pipe.proofs.Lists.{get-left, get-right, get-append, get-mapped}

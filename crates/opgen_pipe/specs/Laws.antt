@@ -1,7 +1,7 @@
 -- Laws of the design of every valid net at every schedule that fits a period.
 use Rattle.std.specs.Prelude.{ℕ, ◌≡◌, ◌^◌, ◌<◌, ◌≤◌, ◌+◌, Bool, List, length, map, drop, slice_get, Some, All, if◌then◌else◌}
 use Rattle.opgen_design.specs.Enabled.{marked, ones_at}
-use Rattle.opgen_design.specs.Run.{AreWords, Words, Run, outputs_of, input_widths}
+use Rattle.opgen_design.specs.Run.{AreWords, Words, Run, words_at_outputs, input_widths}
 use Rattle.opgen_design.specs.Sound.{IsSound}
 use Rattle.opgen_design.specs.Value.{word_at}
 use Rattle.opgen_net.specs.declared.net.Net.{Net}
@@ -48,7 +48,7 @@ pub record FollowsFlow (name : List ℕ) (enable : Bool) (net : Net) (s : Schedu
   pub nodes : (i copy : ℕ) → i < length net.nodes → copy ≤ copies net s i
       → word_at v.signals (signal_of net s i copy) ≡ flow net.nodes inputs i (ago u ((s i).cycle + copy))
   pub constants : (i : ℕ) (w : List Bool) → slice_get net.nodes i ≡ Some (Constant w) → word_at v.signals (signal_of net s i 0) ≡ w
-  pub outputs : outputs_of (design_of name enable net s) v
+  pub outputs : words_at_outputs (design_of name enable net s) v
       ≡ map (λ o. slice_flow net.nodes inputs o.from (ago u (net_latency net s))) net.outputs
 
 -- the cycles of a run that count, in their order: where the enable was asked for, those in which its word is 1

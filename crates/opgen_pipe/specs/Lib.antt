@@ -9,4 +9,5 @@ pub mod Zeros
 pub mod Counts
 pub mod Cells
 pub mod Planned
+pub mod Layouts
 pub mod Timed

@@ -1,5 +1,6 @@
 -- What a plan returns: a design with its latency, slack and cells, or why no such design exists.
 use Rattle.std.specs.Prelude.{ℕ, ◌≡◌, ◌-◌, ◌<◌, ◌≤◌, Bool, List, map, Result, Ok, Err}
+use Rattle.opgen_design.specs.declared.design.TheConstants.{MAX_SIGNALS}
 use Rattle.opgen_net.specs.declared.net.Net.{Net}
 use Rattle.opgen_schedule.specs.declared.slot.Slot.{Slot}
 use Rattle.opgen_schedule.specs.Schedule.{greatest_time}
@@ -13,10 +14,6 @@ use Rattle.opgen_pipe.specs.Cells.{classes, net_delays, need, design_cells}
 use Rattle.opgen_pipe.specs.Copies.{net_latency, signal_count}
 use Rattle.opgen_pipe.specs.Pipelined.{design_of}
 
--- the most signals that a design may have
-abbrev pub most_signals : ℕ
-most_signals = 65536
-
 -- the slots of the schedule of one pass under a table of delays
 abbrev pub slots_of : Delays → (period : ℕ) → Net → List Slot
 slots_of table period net = stage (net_delays table net) (setup table) period net.nodes
@@ -28,12 +25,16 @@ pub record IsPlanOf (name : List ℕ) (enable : Bool) (net : Net) (table : Delay
   pub slack : p.slack ≡ period - setup table - greatest_time (slots_of table period net)
   pub cells : p.cells ≡ map (width_sum (design_cells net (slot_at (slots_of table period net)))) classes
 
--- a plan where the period is long enough and the signals are few enough; of these two causes the first that fails; and want of memory at any time
+-- why there is no plan: of these two causes the first that holds; and want of memory at any time
+abbrev pub IsCause : Net → (table : Delays) → (period : ℕ) → PlanFault → Type 0
+IsCause net table period (PeriodTooShort n) = (n ≡ need table net) × (period < need table net)
+IsCause net table period TooLarge = (need table net ≤ period)
+    × (MAX_SIGNALS < signal_count net (slot_at (slots_of table period net)))
+IsCause net table period Memory = Unit {0}
+
+-- a plan where the period is long enough and the signals are few enough, and else why there is none
 abbrev pub IsOutcome : (name : List ℕ) → (enable : Bool) → Net → (table : Delays) → (period : ℕ) → Result Planned PlanFault → Type 0
 IsOutcome name enable net table period (Ok p) =
-    (need table net ≤ period) × (signal_count net (slot_at (slots_of table period net)) ≤ most_signals)
+    (need table net ≤ period) × (signal_count net (slot_at (slots_of table period net)) ≤ MAX_SIGNALS)
     × IsPlanOf name enable net table period p
-IsOutcome name enable net table period (Err (PeriodTooShort n)) = (n ≡ need table net) × (period < need table net)
-IsOutcome name enable net table period (Err TooLarge) = (need table net ≤ period)
-    × (most_signals < signal_count net (slot_at (slots_of table period net)))
-IsOutcome name enable net table period (Err Memory) = Unit {0}
+IsOutcome name enable net table period (Err fault) = IsCause net table period fault

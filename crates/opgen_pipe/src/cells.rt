@@ -1,12 +1,17 @@
 //! The cells of a net: the delay of each node on a target, the cells of the whole design, and their charge to the target's ledger.
 ghost use Rattle.std.specs.Prelude.{◌≡◌, ◌≤◌, ◌++◌, ◌∷◌, [], List, All, length, map, replicate, slice_index, option_to_list, IfOk, OnOk, IfSome};
+ghost use Rattle.opgen_design.specs.declared.design.TheConstants.{MAX_SIGNALS};
 ghost use Rattle.opgen_net.specs.Valid.{IsValid, MayStand, widths as widths_of};
+ghost use Rattle.opgen_net.specs.declared.cell.Class.{Class};
 ghost use Rattle.opgen_target.specs.Delays.{IsTableWidth, setup};
-ghost use Rattle.opgen_target.specs.Ledger.{ledger_of, with_cell};
+ghost use Rattle.opgen_target.specs.Ledger.{ledger_of, width_sum, with_cell};
 ghost use Rattle.opgen_schedule.specs.Stage.{slot_at};
-ghost use Rattle.opgen_pipe.specs.Cells.{cell_of, design_cells, net_delays, node_cells, node_delay, register_of};
+ghost use Rattle.opgen_pipe.specs.Cells.{cell_of, classes, design_cells, net_delays, node_cells, node_delay, register_of};
+ghost use Rattle.opgen_pipe.specs.Copies.{signal_count};
 ghost use Rattle.opgen_pipe.specs.Counts.{AreCopies};
+ghost use Rattle.opgen_pipe.specs.Layouts.{IsLayout, schedule_of};
 
+use crate::layout::Layout;
 use crate::widths::slice_width;
 use opgen_net::{Cell, Class, Net, Node};
 use opgen_schedule::Slot;
@@ -106,7 +111,7 @@ fn push_cells(
 }
 
 /// The cells of a net's design.
-pub(crate) fn design_cells(
+fn design_cells(
     alloc: Global,
     net: &Net,
     widths: &[u32],
@@ -143,7 +148,7 @@ fn charge(target: &mut Box<dyn Target>, cell: Cell)
 }
 
 /// Charges these cells, and no others, to the ledger of a target.
-pub(crate) fn charge_all(target: &mut Box<dyn Target>, cells: &[Cell])
+fn charge_all(target: &mut Box<dyn Target>, cells: &[Cell])
     requires { All (λ c. IsTableWidth c.width) cells.now }
     ensures ledger { ledger target.new ≡ ledger_of cells.now }
     ensures target_name { target_name target.new ≡ target_name target.old }
@@ -154,4 +159,39 @@ pub(crate) fn charge_all(target: &mut Box<dyn Target>, cells: &[Cell])
     'cells: for cell in cells {
         charge(target, *cell);
     }
+}
+
+/// The number of each class in the ledger.
+fn ledger(target: &Box<dyn Target>) -> [u64; 6]
+    ensures { result ≡ map (ledger target.now) classes }
+{
+    [
+        target.charged(Class::Wire),
+        target.charged(Class::Logic),
+        target.charged(Class::Add),
+        target.charged(Class::Choice),
+        target.charged(Class::Table),
+        target.charged(Class::Register),
+    ]
+}
+
+/// Charges the cells of a net's design, and no others, to the ledger of a target. Returns the number of each class.
+pub(crate) fn charge_design(
+    alloc: Global,
+    net: &Net,
+    layout: &Layout,
+    target: &mut Box<dyn Target>,
+) -> Result<[u64; 6], AllocError>
+    requires valid { IsValid net.now }
+    requires layout { IsLayout net.now layout.now }
+    requires few { signal_count net.now (schedule_of layout.now) ≤ MAX_SIGNALS }
+    ensures cells { IfOk result (λ cells. cells ≡ map (width_sum (design_cells net.now (schedule_of layout.now))) classes) }
+    ensures ledger { IfOk result (λ _. (class : Class) → ledger target.new class ≡ width_sum (design_cells net.now (schedule_of layout.now)) class) }
+    ensures target_name { target_name target.new ≡ target_name target.old }
+    ensures delays { delays target.new ≡ delays target.old }
+    ensures adjustable { adjustable target.new ≡ adjustable target.old }
+{
+    let cells = design_cells(alloc, net, &layout.widths, &layout.slots, &layout.copies)?;
+    charge_all(target, &cells);
+    Ok(ledger(target))
 }

@@ -3,11 +3,13 @@ ghost use Rattle.std.specs.Prelude.{◌≡◌, ◌≤◌, ◌<◌, ◌+◌, ◌-
 ghost use Rattle.opgen_net.specs.Valid.{IsValid};
 ghost use Rattle.opgen_schedule.specs.Reads.{is_constant_at};
 ghost use Rattle.opgen_schedule.specs.Stage.{slot_at};
-ghost use Rattle.opgen_pipe.specs.Copies.{copy_read, signal_count as signal_count_of};
+ghost use Rattle.opgen_pipe.specs.Copies.{copy_read, net_latency, signal_count as signal_count_of};
 ghost use Rattle.opgen_pipe.specs.Counts.{AreCopies};
+ghost use Rattle.opgen_pipe.specs.Layouts.{IsLayout, schedule_of};
 
+use crate::layout::Layout;
 use opgen_net::{Net, Node, Output};
-use opgen_schedule::{Slot, is_constant, latency, reads_of};
+use opgen_schedule::{Slot, is_constant, reads_of};
 use std::alloc::{AllocError, Global};
 
 /// Raises the number of copies of a node that is read in a cycle.
@@ -53,34 +55,34 @@ fn output_nodes(alloc: Global, outputs: &[Output]) -> Result<Vec<usize>, AllocEr
 }
 
 /// How many copies each node has: those that nodes and outputs read.
-pub fn copies(alloc: Global, net: &Net, slots: &[Slot]) -> Result<Vec<usize>, AllocError>
+pub(crate) fn copies(
+    alloc: Global,
+    net: &Net,
+    slots: &[Slot],
+    latency: usize,
+) -> Result<Vec<usize>, AllocError>
     requires valid { IsValid net.now }
     requires slots { length slots.now ≡ length net.now.nodes }
+    requires latency { latency ≡ net_latency net.now (slot_at slots.now) }
     ensures { IfOk result (λ v. AreCopies net.now slots.now v.items) }
 {
     let nodes = net.nodes.as_slice();
-    let outputs = net.outputs.as_slice();
     let mut counts = vec![in alloc; 0; nodes.len()]?;
     'nodes: for (place, node) in nodes.iter().enumerate() {
         let reads = reads_of(alloc, node)?;
         raise_all(nodes, slots, slots[place].cycle, &reads, &mut counts);
     }
-    let last = output_nodes(alloc, outputs)?;
-    raise_all(
-        nodes,
-        slots,
-        latency(nodes, slots, outputs),
-        &last,
-        &mut counts,
-    );
+    let last = output_nodes(alloc, net.outputs.as_slice())?;
+    raise_all(nodes, slots, latency, &last, &mut counts);
     Ok(counts)
 }
 
 /// The number of signals of a net's design: one for each node and copy, or the greatest number where there are more.
-pub fn signal_count(net: &Net, slots: &[Slot], copies: &[usize]) -> usize
-    requires { AreCopies net.now slots.now copies.now }
-    ensures { result ≡ min (signal_count_of net.now (slot_at slots.now)) 18446744073709551615 }
+pub(crate) fn signal_count(net: &Net, layout: &Layout) -> usize
+    requires { IsLayout net.now layout.now }
+    ensures { result ≡ min (signal_count_of net.now (schedule_of layout.now)) 18446744073709551615 }
 {
+    let copies = layout.copies.as_slice();
     let mut count: usize = 0;
     'nodes: for own in copies {
         count = count.saturating_add(1).saturating_add(*own);

@@ -177,7 +177,5 @@ pub(crate) fn push_outputs(
 pub(crate) fn has_register(drivers: &[Driver]) -> bool
     ensures { result ≡ list_any is_register drivers.now }
 {
-    drivers
-        .iter()
-        .any(|driver| matches!(driver, Driver::Register { .. }))
+    drivers.iter().any(|driver| driver.is_register())
 }

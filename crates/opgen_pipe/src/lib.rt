@@ -16,6 +16,7 @@ mod cells;
 mod counts;
 mod drivers;
 mod laws;
+mod layout;
 mod pipelined;
 mod planning;
 mod ports;
@@ -26,12 +27,9 @@ mod standings;
 mod widths;
 mod zeros;
 
-pub use counts::{copies, signal_count};
 pub use laws::{
     design_is_shaped, design_is_sound, design_is_writable, design_runs, plan_fits, plan_is_least,
     plan_paths_fit, run_follows_flow,
 };
-pub use pipelined::design;
-pub use planning::{MAX_SIGNALS, PlanFault, Planned, plan};
+pub use planning::{PlanFault, Planned, plan};
 pub use standing::Standing;
-pub use widths::node_widths;

@@ -2,23 +2,21 @@
 ghost use Rattle.std.specs.Prelude.{◌≡◌, ◌≤◌, ◌<◌, ◌+◌, ◌++◌, ◌^◌, ℕ, List, length, map, filter, not, IfOk, All};
 ghost use Rattle.opgen_design.specs.Order.{is_register};
 ghost use Rattle.opgen_net.specs.Valid.{IsValid, MayStand};
-ghost use Rattle.opgen_schedule.specs.Stage.{slot_at};
 ghost use Rattle.opgen_pipe.specs.Copies.{signal_count};
-ghost use Rattle.opgen_pipe.specs.Counts.{AreCopies, AreSlots, AreSmall};
+ghost use Rattle.opgen_pipe.specs.Counts.{AreSmall};
+ghost use Rattle.opgen_pipe.specs.Layouts.{IsLayout, schedule_of};
 ghost use Rattle.opgen_pipe.specs.Pipelined.{all_of, design_of, enable_inputs, enable_of, node_drivers, output_drivers};
 
 use crate::drivers::{has_register, push_outputs, push_plain, push_registers};
+use crate::layout::Layout;
 use crate::ports::all_ports;
 use crate::signals::all_signals;
 use crate::standing::Standing;
 use crate::standings::standings;
-use crate::widths::node_widths;
 use crate::zeros::zero_words;
 use opgen_design::{Design, Driver};
 use opgen_list::{Items, Text};
 use opgen_net::Net;
-use opgen_num::Memory;
-use opgen_schedule::{Slot, latency};
 use std::alloc::{AllocError, Global};
 
 /// The drivers of a net's design: what is no register, then the registers, then the outputs.
@@ -51,6 +49,14 @@ fn all_drivers(
     Ok(drivers)
 }
 
+/// The place of the first input's port: after that of the clock enable, where it is asked for.
+fn first_input(enable: bool) -> usize
+    ensures place { result ≡ length (enable_inputs enable) }
+    ensures few { result ≤ 1 }
+{
+    if enable { 1 } else { 0 }
+}
+
 /// The place of the port that lets the registers move, if it is asked for and there is one.
 fn enable_of(enable: bool, drivers: &[Driver]) -> Option<usize>
     ensures { result ≡ enable_of enable drivers.now }
@@ -63,28 +69,24 @@ fn enable_of(enable: bool, drivers: &[Driver]) -> Option<usize>
 }
 
 /// The design of a net at a schedule, under a name: with the port of a clock enable where it is asked for.
-pub fn design(
+pub(crate) fn design(
     alloc: Global,
     net: &Net,
     name: &str,
     enable: bool,
-    slots: &[Slot],
-    copies: &[usize],
-) -> Result<Design, Memory>
+    layout: &Layout,
+) -> Result<Design, AllocError>
     requires valid { IsValid net.now }
-    requires slots { AreSlots net.now slots.now }
-    requires copies { AreCopies net.now slots.now copies.now }
-    requires few { signal_count net.now (slot_at slots.now) ≤ 2 ^ 32 }
-    ensures { IfOk result (λ d. d ≡ design_of name.now enable net.now (slot_at slots.now)) }
+    requires layout { IsLayout net.now layout.now }
+    requires few { signal_count net.now (schedule_of layout.now) ≤ 2 ^ 32 }
+    ensures { IfOk result (λ d. d ≡ design_of name.now enable net.now (schedule_of layout.now)) }
 {
-    let widths = node_widths(alloc, net)?;
-    let standings = standings(alloc, net, &widths, slots, copies)?;
+    let standings = standings(alloc, net, &layout.widths, &layout.slots, &layout.copies)?;
     let zeros = zero_words(alloc, net)?;
-    let last = latency(net.nodes.as_slice(), slots, net.outputs.as_slice());
-    let first = if enable { 1 } else { 0 };
-    let ports = all_ports(alloc, net, &widths, enable)?;
+    let first = first_input(enable);
+    let ports = all_ports(alloc, net, &layout.widths, enable)?;
     let signals = all_signals(alloc, net, &standings, &zeros)?;
-    let drivers = all_drivers(alloc, net, first, &standings, last)?;
+    let drivers = all_drivers(alloc, net, first, &standings, layout.latency)?;
     let enable = enable_of(enable, drivers.as_slice());
     Ok(Design {
         name: Text::from_str(alloc, name)?,

@@ -7,7 +7,7 @@ use opgen_net::{Net, Node};
 use std::alloc::{AllocError, Global};
 
 /// The number of bits of a slice of a node, over the widths of the nodes.
-pub fn slice_width(widths: &[u32], slice: Slice) -> u32
+pub(crate) fn slice_width(widths: &[u32], slice: Slice) -> u32
     requires { LiesWithin widths.now slice }
     ensures { result ≡ slice_width slice }
 {
@@ -32,7 +32,7 @@ fn node_width(widths: &[u32], node: &Node) -> u32
 }
 
 /// The width of each node of a net.
-pub fn node_widths(alloc: Global, net: &Net) -> Result<Vec<u32>, AllocError>
+pub(crate) fn node_widths(alloc: Global, net: &Net) -> Result<Vec<u32>, AllocError>
     requires { IsValid net.now }
     ensures { IfOk result (λ v. v.items ≡ widths net.now.nodes) }
 {

@@ -19,6 +19,9 @@ times a b = omega (arith, ints)
 pub twice : (a b : ℕ) (z : ℤ) → pos a *ℤ (pos b *ℤ z) ≡ pos (a * b) *ℤ z
 twice a b z = sym (product_assoc (pos a) (pos b) z) ∙ ap (λ y. y *ℤ z) (times a b)
 
+negated : (k : ℕ) (z : ℤ) → pos k *ℤ (pos 0 -ℤ z) ≡ pos 0 -ℤ (pos k *ℤ z)
+negated k z = product-difference (pos k) (pos 0) z ∙ omega (arith, ints)
+
 scaled : (k : ℕ) (a b : ℤ) → a ≤ℤ b → (pos k *ℤ a) ≤ℤ (pos k *ℤ b)
 scaled k a b h = product_order (pos k) a b (omega (arith, ints)) h
 
@@ -106,76 +109,28 @@ module _ (W P d k x E : ℕ) (h y A C N : ℤ) where
         some,
       )
 
-  -- and the other
-  pub below : 0 < d * P → x ≤ W → E < W
-      → (((pos W *ℤ A) +ℤ (pos x *ℤ h)) -ℤ pos E) ≤ℤ (pos W *ℤ y)
-      → ((pos 2 *ℤ C) -ℤ pos d) ≤ℤ (pos (2 * d) *ℤ A)
-      → ((pos 2 *ℤ N) -ℤ pos (d * P * k)) ≤ℤ (pos (2 * (d * P)) *ℤ h)
-      → ((pos 2 *ℤ M) -ℤ pos (d * P * W * (k + 3))) <ℤ (pos (2 * (d * P * W)) *ℤ y)
-  below some narrow small cut coefficient before =
-      let one = scaled (2 * D) (((pos W *ℤ A) +ℤ (pos x *ℤ h)) -ℤ pos E) (pos W *ℤ y) cut in
-      let of_y = twice (2 * D) W y in
-      let of_cut = product-difference (pos (2 * D)) ((pos W *ℤ A) +ℤ (pos x *ℤ h)) (pos E) in
-      let of_parts = product-sum (pos (2 * D)) (pos W *ℤ A) (pos x *ℤ h) in
-      let of_a = twice (2 * D) W A in
-      let of_h = twice (2 * D) x h in
-      let of_e = times (2 * D) E in
-      let two = scaled (P * W) ((pos 2 *ℤ C) -ℤ pos d) (pos (2 * d) *ℤ A) coefficient in
-      let of_a2 = twice (P * W) (2 * d) A in
-      let of_c = product-difference (pos (P * W)) (pos 2 *ℤ C) (pos d) in
-      let of_c2 = twice (P * W) 2 C in
-      let of_d = times (P * W) d in
-      let three = scaled x ((pos 2 *ℤ N) -ℤ pos (D * k)) (pos (2 * D) *ℤ h) before in
-      let of_h2 = twice x (2 * D) h in
-      let of_n = product-difference (pos x) (pos 2 *ℤ N) (pos (D * k)) in
-      let of_n2 = twice x 2 N in
-      let of_k = times x (D * k) in
-      let whole = product-sum (pos 2) (pos (P * W) *ℤ C) (pos x *ℤ N) in
-      let whole_c = twice 2 (P * W) C in
-      let whole_n = twice 2 x N in
-      let y_is = same (2 * D * W) (2 * (D * W)) y (omega arith) in
-      let a_is = same (2 * D * W) (P * W * (2 * d)) A (omega arith) in
-      let h_is = same (2 * D * x) (x * (2 * D)) h (omega arith) in
-      let c_is = same (P * W * 2) (2 * (P * W)) C (omega arith) in
-      let n_is = same (x * 2) (2 * x) N (omega arith) in
-      let room : x * (D * k) ≤ W * (D * k) = mul-le-mul_right (D * k) narrow in
-      let cost : 2 * D * (E + 1) ≤ 2 * D * W = mul-le-mul_left (2 * D) (omega (arith, small)) in
-      let total : P * W * d + W * (D * k) + 2 * D * W ≡ D * W * (k + 3) = omega arith in
-      let spread : 2 * D * (E + 1) ≡ 2 * D * E + 2 * D = omega arith in
-      omega (
-        arith,
-        ints,
-        one,
-        of_y,
-        of_cut,
-        of_parts,
-        of_a,
-        of_h,
-        of_e,
-        two,
-        of_a2,
-        of_c,
-        of_c2,
-        of_d,
-        three,
-        of_h2,
-        of_n,
-        of_n2,
-        of_k,
-        whole,
-        whole_c,
-        whole_n,
-        y_is,
-        a_is,
-        h_is,
-        c_is,
-        n_is,
-        room,
-        cost,
-        total,
-        spread,
-        some,
-      )
+-- and the other: it is the first of the numbers below 0
+pub below : (W P d k x E : ℕ) (h y A C N : ℤ) → 0 < d * P → x ≤ W → E < W
+    → (((pos W *ℤ A) +ℤ (pos x *ℤ h)) -ℤ pos E) ≤ℤ (pos W *ℤ y)
+    → ((pos 2 *ℤ C) -ℤ pos d) ≤ℤ (pos (2 * d) *ℤ A)
+    → ((pos 2 *ℤ N) -ℤ pos (d * P * k)) ≤ℤ (pos (2 * (d * P)) *ℤ h)
+    → ((pos 2 *ℤ M W P d k x E h y A C N) -ℤ pos (d * P * W * (k + 3))) <ℤ (pos (2 * (d * P * W)) *ℤ y)
+below W P d k x E h y A C N some narrow small cut coefficient before =
+    let minus : ℤ → ℤ = λ z. pos 0 -ℤ z in
+    let partial : (pos (P * W) *ℤ minus C) +ℤ (pos x *ℤ minus N) ≡ minus (M W P d k x E h y A C N) =
+    omega (arith, ints, negated (P * W) C, negated x N) in
+    let other = above W P d k x E (minus h) (minus y) (minus A) (minus C) (minus N) some narrow small
+    (omega (arith, ints, negated W y, negated W A, negated x h, cut))
+    (omega (arith, ints, negated (2 * d) A, negated 2 C, coefficient))
+    (omega (arith, ints, negated (2 * (d * P)) h, negated 2 N, before)) in
+    omega (
+      arith,
+      ints,
+      other,
+      negated (2 * (d * P * W)) y,
+      ap (λ z. pos 2 *ℤ z) partial,
+      negated 2 (M W P d k x E h y A C N),
+    )
 
 -- The floor of a step: y is the floor of (W * A + x * h + e) / W. It stands between the ends.
 module _ (W x e : ℕ) (h y A : ℤ) (narrow : x ≤ W) (small : e < W)

@@ -25,12 +25,12 @@ use Rattle.opgen_operator.specs.declared.spec.Poly.{Poly as Polynomial}
 use Rattle.opgen_operator.specs.Exact.{terms_from}
 use Rattle.opgen_operator.specs.Horner.{degree, all_guarded, guarded, low_end, high_end}
 use Rattle.opgen_operator.specs.Ranges.{IsPoly}
+use Rattle.opgen_operator.proofs.InputPorts.{input_bit}
 use Rattle.opgen_operator.proofs.Results.{ends_step, partial_bits}
 use Rattle.opgen_partial.proofs.Laws.{residue_number}
 use Rattle.opgen_poly.specs.Near.{IsPartial, exact_from, halves_from, input_number, IsAtMostHalves}
 use Rattle.opgen_poly.specs.Recipe.{coefficient_at, first, last_word, width_at, with_input}
 use Rattle.opgen_poly.proofs.Cores.{twice}
-use Rattle.opgen_poly.proofs.StepLaws.{some_input}
 use Rattle.opgen_poly.proofs.Values.{den_of, scale_of, at_most, coefficient_near, den_is, signed-held}
 
 nothing : (l : List ℤ) → length l ≡ 0 → l ≡ []
@@ -124,7 +124,7 @@ module _ (p : Polynomial) (fits : IsPoly p) where
       unit w = omega (arith, unit-power w)
 
   pub input-valid : IsValid (with_input p)
-  input-valid = record { nodes = ((some_input p fits, omega (arith, fits.narrow)), tt); inputs = refl; outputs = All-nil _ }
+  input-valid = record { nodes = ((input_bit p.input fits.input, omega (arith, fits.narrow)), tt); inputs = refl; outputs = All-nil _ }
 
   pub word-width : IsWidth (length (last_word p))
   word-width = (omega (arith, word-long, (partial_bits p n fits).0), omega (arith, word-long, (partial_bits p n fits).1))

@@ -7,4 +7,3 @@ mod StepLaws
 mod FirstLaws
 mod Runs
 pub mod Fits
-mod Named

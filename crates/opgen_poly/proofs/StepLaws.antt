@@ -1,5 +1,5 @@
 -- A step of Horner's rule keeps what holds of a partial value.
-use Rattle.std.proofs.Common.{◌≡◌, ℕ, zero, suc, ◌+◌, ◌-◌, ◌%◌, ◌^◌, ◌<◌, ◌≤◌, Bool, true, false, List, [], ◌∷◌, length, drop, map, refl, sym, ap, ◌∙◌, subst, arith}
+use Rattle.std.proofs.Common.{◌≡◌, ℕ, zero, suc, ◌+◌, ◌-◌, ◌%◌, ◌^◌, ◌<◌, ◌≤◌, Bool, true, List, [], ◌∷◌, length, drop, map, refl, sym, ap, ◌∙◌, subst, arith}
 use Rattle.std.specs.Prelude.{ℤ, pos, ◌+ℤ◌, ◌*ℤ◌, ◌≤ℤ◌, All, slice_index}
 use Rattle.std.specs.Int.{int_div_euclid}
 use Rattle.std.proofs.Math.Nat.{zero-mod, two-pow-succ}
@@ -9,7 +9,7 @@ use Rattle.std.proofs.lemmas.List.Elements.{All-nil}
 use Rattle.std.proofs.lemmas.Nat.{pow_pos}
 use Rattle.opgen_num.specs.declared.format.Ratio.{Ratio}
 use Rattle.opgen_num.specs.Floors.{IsFloor}
-use Rattle.opgen_num.specs.Formats.{Holds, fewest_bits}
+use Rattle.opgen_num.specs.Formats.{Holds}
 use Rattle.opgen_num.specs.Values.{int}
 use Rattle.opgen_num.specs.Words.{nat}
 use Rattle.opgen_num.proofs.Integers.{commuted}
@@ -40,6 +40,7 @@ use Rattle.opgen_net.proofs.WordLaws.{word-found_width, word-has_bits}
 use Rattle.opgen_operator.specs.declared.spec.Poly.{Poly as Polynomial}
 use Rattle.opgen_operator.specs.Horner.{all_guarded, low_end, high_end}
 use Rattle.opgen_operator.specs.Ranges.{IsPoly}
+use Rattle.opgen_operator.proofs.InputPorts.{input_bit}
 use Rattle.opgen_operator.proofs.Results.{guard_few, partial_bits, poly_width}
 use Rattle.opgen_partial.specs.declared.pairs.Work.{Work}
 use Rattle.opgen_partial.specs.Law.{AreFactors, HasProducts, words_at}
@@ -50,21 +51,13 @@ use Rattle.opgen_poly.specs.Recipe.{added, coefficient_at, heap_width, kept_part
 use Rattle.opgen_poly.proofs.Cuts.{cut-light}
 use Rattle.opgen_poly.proofs.Values.{unit_of, signed-held, step-near, step-between}
 
--- the input has a bit
-pub some_input : (p : Polynomial) → IsPoly p → 1 ≤ p.input.width
-some_input p fits = some p.input.signed p.input.width fits.input.fewest
-  where
-    some : (s : Bool) (w : ℕ) → fewest_bits s ≤ w → 1 ≤ w
-    some true w h = omega (arith, h)
-    some false w h = omega (arith, h)
-
 abbrev pub AreInputs : Polynomial → Inputs → Type 0
 AreInputs p ins = All (AreWords (p.input.width ∷ [])) ins
 
 -- the widths of heaps
 pub heap-room : (p : Polynomial) (place : ℕ) → IsPoly p → (1 ≤ heap_width p place) × (heap_width p place ≤ 70)
-heap-room p zero fits = (omega (arith, some_input p fits), omega (arith, fits.narrow, guard_few p fits, (poly_width p fits).1))
-heap-room p (suc k) fits = (omega (arith, some_input p fits), omega (arith, fits.narrow, (partial_bits p (suc k) fits).1))
+heap-room p zero fits = (omega (arith, input_bit p.input fits.input), omega (arith, fits.narrow, guard_few p fits, (poly_width p fits).1))
+heap-room p (suc k) fits = (omega (arith, input_bit p.input fits.input), omega (arith, fits.narrow, (partial_bits p (suc k) fits).1))
 
 pub heap-next : (p : Polynomial) (place : ℕ) → 1 ≤ place → heap_width p place ≡ p.input.width + width_at p place
 heap-next p zero h = absurd (omega (arith, h))
@@ -92,7 +85,7 @@ module _ (p : Polynomial) (fits : IsPoly p) (place : ℕ) (within : place + 1 < 
     };
     second = record {
       width = grown-width (with_input p) s.net is.grown 0 (omega arith);
-      is_width = (some_input p fits, omega (arith, fits.narrow));
+      is_width = (input_bit p.input fits.input, omega (arith, fits.narrow));
     };
   }
 
@@ -168,7 +161,7 @@ module _ (p : Polynomial) (fits : IsPoly p) (place : ℕ) (within : place + 1 < 
 
     two-halves : unit_of p ≡ half + half
     two-halves =
-        let whole : suc (w - 1) ≡ w = omega (arith, some_input p fits) in
+        let whole : suc (w - 1) ≡ w = omega (arith, input_bit p.input fits.input) in
         sym (ap (λ k. 2 ^ k) whole) ∙ two-pow-succ (w - 1)
 
     light : rounded.missing ≤ half
@@ -204,7 +197,7 @@ module _ (p : Polynomial) (fits : IsPoly p) (place : ℕ) (within : place + 1 < 
         omega (arith, below, ap (λ k. 2 ^ k) long)
       where
         valid_input : IsValid (with_input p)
-        valid_input = record { nodes = ((some_input p fits, omega (arith, fits.narrow)), tt); inputs = refl; outputs = All-nil _ }
+        valid_input = record { nodes = ((input_bit p.input fits.input, omega (arith, fits.narrow)), tt); inputs = refl; outputs = All-nil _ }
 
     pub ends : (low_end (drop place (all_guarded p)) ≤ℤ y) × (y ≤ℤ high_end (drop place (all_guarded p)))
     ends = step-between p fits place within x step-sum.e (int before) y narrow step-sum.small floor (is.low ins t words) (is.high ins t words)

@@ -2,7 +2,7 @@
 -- coefficient down, the partial value times the input and the next coefficient, each in a bit heap.
 use Rattle.std.specs.Prelude.{ℕ, zero, suc, ◌+◌, ◌-◌, ◌^◌, Bool, true, false, if◌then◌else◌, nat_le, List, [], ◌∷◌, ◌++◌, codes, drop, get_or, ℤ, pos, ◌+ℤ◌, ◌*ℤ◌}
 use Rattle.opgen_num.specs.Words.{word}
-use Rattle.opgen_budget.specs.Columns.{weight_below}
+use Rattle.opgen_budget.specs.Columns.{weight_below, IsGreatestCut}
 use Rattle.opgen_net.specs.declared.net.Net.{Net}
 use Rattle.opgen_net.specs.declared.node.Node.TheVariants.{Input, Constant}
 use Rattle.opgen_net.specs.Placed.{with_bits, with_last}
@@ -32,6 +32,10 @@ greatest_light m n limit (suc k) = if nat_le (weight_below m n (suc k)) limit th
 
 abbrev pub left_out : (m n : ℕ) → ℕ
 left_out m n = greatest_light m n (2 ^ (n - 1)) (m + n - 1)
+
+-- that is the greatest number of columns whose bits together weigh at most half a unit of the lowest column that is kept
+abbrev pub LeavesOutMost : Type 0
+LeavesOutMost = (m n : ℕ) → IsGreatestCut m n n (left_out m n)
 
 -- the partial value of the coefficients after a place, which is signed, and the input, which is node 0
 abbrev pub pairs : Polynomial → (place node : ℕ) → Products

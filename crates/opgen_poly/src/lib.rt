@@ -3,24 +3,24 @@
 //!
 //! Proved: For every polynomial that a version accepts, the net is that of the recipe. Each partial value between the first
 //! and the last is less than (3 (n - i) + 1) / 2 units of the lowest guard bit from the exact one, at every time and for all
-//! inputs; i is the place of its coefficient, n the last place. The net fits every valid specification of that polynomial,
-//! and a design may have its port names.
+//! inputs; i is the place of its coefficient, n the last place. The net fits every valid specification of that polynomial.
+//! Each product leaves out the greatest number of columns that weigh at most half a unit.
 //!
-//! By: `build`.
+//! By: `build`; the law `most_are_left_out`.
 #![tactic(auto)]
 
-ghost use Rattle.std.specs.Prelude.{ℕ, ◌≡◌, List, IsTrue, IfOk};
-ghost use Rattle.opgen_names.specs.Names.{is_allowed_name};
-ghost use Rattle.opgen_net.specs.Named.{IsNamed};
+ghost use Rattle.std.specs.Prelude.{◌≡◌, IfOk};
 ghost use Rattle.opgen_operator.specs.Accepted.{IsAcceptedPoly};
 ghost use Rattle.opgen_operator.specs.Fits.{FitsSpecsOf};
 ghost use Rattle.opgen_operator.specs.declared.spec.Operator.TheVariants.{Poly};
 ghost use Rattle.opgen_poly.specs.Near.{ArePartialsNear};
 ghost use Rattle.opgen_poly.specs.Recipe.{net_of_poly};
 
+mod laws;
 mod numbers;
 mod steps;
 
+pub use laws::most_are_left_out;
 use opgen_net::Net;
 use opgen_num::Memory;
 use opgen_operator::Poly as Polynomial;
@@ -37,7 +37,6 @@ pub fn build(alloc: Global, poly: &Polynomial) -> Result<Net, Memory>
     ensures net { IfOk result (λ net. net ≡ net_of_poly poly.now) }
     ensures near { IfOk result (ArePartialsNear poly.now) }
     ensures fits { IfOk result (FitsSpecsOf (Poly poly.now)) }
-    ensures named { IfOk result (λ net. (name : List ℕ) → IsTrue (is_allowed_name name) → IsNamed name net) }
 {
     let net = polynomial_net(alloc, poly)?;
     Ok(net)

@@ -3,7 +3,9 @@ use Rattle.std.specs.Prelude.{IfSome, slice_get}
 use Rattle.std.proofs.Common.{◌≡◌, ◌≢◌, inl, inr, ℕ, ◌<◌, true, false, List, [], ◌∷◌, length, Option, Some, None, refl, ap, sym, ◌∙◌, subst, arith}
 use Rattle.std.proofs.lemmas.Bool.{cases_order}
 use Rattle.opgen_design.specs.declared.design.Design.{Design}
-use Rattle.opgen_design.specs.Sound.{Rule, Undeclared, DeclaredTwice, Width, DrivenTwice, NotDriven, Cyclic, ReadsOutput, NoInitial, ChoiceTwice, BadEnable, rule_number, Holds, at_design, at_port, at_signal, at_driver, DependsOn, at_once, through, IsOrderedBy, IsOrdered, IsSound, IsFirstUnsound}
+use Rattle.opgen_design.specs.declared.sound.Rule.{Rule}
+use Rattle.opgen_design.specs.declared.sound.Rule.TheVariants.{Undeclared, DeclaredTwice, Width, DrivenTwice, NotDriven, Cyclic, ReadsOutput, NoInitial, ChoiceTwice, BadEnable}
+use Rattle.opgen_design.specs.Sound.{rule_number, Holds, at_design, at_port, at_signal, at_driver, DependsOn, at_once, through, IsOrderedBy, IsOrdered, IsSound, IsFirstUnsound}
 use Rattle.opgen_vhdl.specs.declared.kind.Token.{Token}
 use Rattle.opgen_vhdl.specs.Tokens.{Tokens, LexicalAt}
 use Rattle.opgen_vhdl.specs.Statements.{Reading}

@@ -8,8 +8,10 @@ use Rattle.opgen_vhdl.specs.Reader.{takes_at}
 use Rattle.opgen_vhdl.specs.Statements.{Reading, nothing, Follows, stay}
 use Rattle.opgen_vhdl.proofs.Takes.{takes-is}
 use Rattle.opgen_vhdl.proofs.Walks.{Follows-push, refuses}
-use Rattle.opgen_read.specs.Reached.{Reached, StopsAt, IsPieceFault}
+use Rattle.opgen_vhdl.specs.Spelled.{StopsAt}
+use Rattle.opgen_read.specs.Reached.{Reached, IsPieceFault}
 use Rattle.opgen_read.specs.Stepped.{Steps}
+use Rattle.opgen_read.specs.declared.draft.Draft.{Draft}
 use Rattle.opgen_read.specs.declared.fault.ReadFault.{ReadFault}
 use Rattle.opgen_read.specs.declared.fault.ReadFault.TheVariants.{Lexical, Syntax, TooLarge, Unsound, Memory}
 
@@ -26,7 +28,7 @@ reached_more whole rest p q r r2 n piece more reached e t = record {
 }
 
 reached_fault : (whole rest : List Symbol) (p : Place) (r : Reading) (n : ℕ) (piece more : List Symbol) → Reached whole rest p r n →
-    pieces rest ≡ piece ∷ pieces more → takes_at p r piece ≡ None → StopsAt whole (n + 1)
+    pieces rest ≡ piece ∷ pieces more → takes_at p r piece ≡ None → StopsAt (pieces whole) (n + 1)
 reached_fault whole rest p r n piece more reached e t = record {
   taken = reached.taken;
   left = piece ∷ pieces more;
@@ -38,14 +40,14 @@ reached_fault whole rest p r n piece more reached e t = record {
   piece = ap (λ u. u + 1) reached.count;
 }
 
-pub step_fault : (whole rest : List Symbol) (p : Place) (r : Reading) (n : ℕ) (piece more : List Symbol) (fault : ReadFault)
+pub step_fault : (whole rest : List Symbol) (p : Place) (r : Reading) (n : ℕ) (piece more : List Symbol) (draft : Draft) (fault : ReadFault)
     → Reached whole rest p r n →
-    pieces rest ≡ piece ∷ pieces more → Steps (Err fault) (n + 1) (takes_at p r piece) → IsPieceFault whole fault
-step_fault whole rest p r n piece more Memory reached e t = tt
-step_fault whole rest p r n piece more (Lexical offset) reached e t = t
-step_fault whole rest p r n piece more TooLarge reached e t = t
-step_fault whole rest p r n piece more (Unsound rule item) reached e t = t
-step_fault whole rest p r n piece more (Syntax k) reached e t = rw t.1 (reached_fault whole rest p r n piece more reached e t.0)
+    pieces rest ≡ piece ∷ pieces more → Steps draft (Err fault) (n + 1) (takes_at p r piece) → IsPieceFault whole fault
+step_fault whole rest p r n piece more draft Memory reached e t = tt
+step_fault whole rest p r n piece more draft (Lexical offset) reached e t = t
+step_fault whole rest p r n piece more draft TooLarge reached e t = t
+step_fault whole rest p r n piece more draft (Unsound rule item) reached e t = t
+step_fault whole rest p r n piece more draft (Syntax k) reached e t = rw t.1 (reached_fault whole rest p r n piece more reached e t.0)
 
 pub reached_end : (whole rest : List Symbol) (p : Place) (r : Reading) (n : ℕ) → Reached whole rest p r n → rest ≡ [] → p ≡ End
     → Follows Library nothing (pieces whole) End r
@@ -53,7 +55,7 @@ reached_end whole rest p r n reached e h =
     rw (reached.split ∙ ap (λ u. reached.taken ++ pieces u) e ∙ append-nil reached.taken, ← h) reached.follow
 
 pub reached_early : (whole rest : List Symbol) (p : Place) (r : Reading) (n : ℕ) → Reached whole rest p r n → rest ≡ [] → p ≢ End
-    → StopsAt whole (n + 1)
+    → StopsAt (pieces whole) (n + 1)
 reached_early whole rest p r n reached e h = record {
   taken = reached.taken;
   left = [];

@@ -1,16 +1,17 @@
 -- What the pieces of a whole text say of it.
 use Rattle.std.specs.Prelude.{IfOk, IfErr, Result, Ok, Err}
-use Rattle.std.proofs.Common.{◌≡◌, ℕ, ◌≤◌, List, length, refl, arith, ap, sym, ◌∙◌, subst}
+use Rattle.std.proofs.Common.{◌≡◌, ℕ, ◌≤◌, List, length, refl, arith, subst}
 use Rattle.opgen_vhdl.specs.declared.place.Place.TheVariants.{Library, End}
-use Rattle.opgen_vhdl.specs.Spelled.{Statements, SyntaxAt}
+use Rattle.opgen_vhdl.specs.Spelled.{Statements, StopsAt, SyntaxAt}
 use Rattle.opgen_vhdl.specs.Statements.{Reading, nothing, Follows}
 use Rattle.opgen_vhdl.specs.Symbols.{symbols, pieces}
 use Rattle.opgen_lex.specs.First.{HasTokens}
 use Rattle.opgen_read.specs.Left.{symbols_in}
 use Rattle.opgen_read.specs.Outcome.{IsTextFault, HasFew}
-use Rattle.opgen_read.specs.Reached.{StopsAt, IsPieceFault}
+use Rattle.opgen_read.specs.Reached.{IsPieceFault}
 use Rattle.opgen_read.specs.Seen.{seen}
 use Rattle.opgen_read.specs.declared.draft.Draft.{Draft}
+use Rattle.opgen_read.specs.declared.read.TheConstants.{MAX_TEXT_LEN}
 use Rattle.opgen_read.specs.declared.fault.ReadFault.{ReadFault}
 use Rattle.opgen_read.specs.declared.fault.ReadFault.TheVariants.{Lexical, Syntax, TooLarge, Unsound, Memory}
 use Rattle.opgen_read.proofs.DriverCount.{few_drivers}
@@ -27,19 +28,8 @@ module _ (bytes : List ℕ) (h : HasTokens bytes) where
     follow = subst (λ ss. Follows Library nothing (pieces ss) End r) same f;
   }
 
-  whole-stops : (k : ℕ) → StopsAt (symbols_in bytes) k → SyntaxAt bytes k
-  whole-stops k s = record {
-    tokens = h.tokens;
-    cut = h.cut;
-    taken = s.taken;
-    left = s.left;
-    split = ap pieces (sym same) ∙ s.split;
-    place = s.place;
-    read = s.read;
-    follow = s.follow;
-    stops = s.stops;
-    piece = s.piece;
-  }
+  whole-stops : (k : ℕ) → StopsAt (pieces (symbols_in bytes)) k → SyntaxAt bytes k
+  whole-stops k s = record { tokens = h.tokens; cut = h.cut; stop = subst (λ ss. StopsAt (pieces ss) k) same s }
 
   fault_of : (fault : ReadFault) → IsPieceFault (symbols_in bytes) fault → IsTextFault bytes fault
   fault_of (Lexical offset) f = absurd f
@@ -55,7 +45,7 @@ module _ (bytes : List ℕ) (h : HasTokens bytes) where
   read_ok (Ok d) f = whole-read (seen d) f
   read_ok (Err e) f = tt
 
-  pub read_few : (read : Result Draft ReadFault) → HasRead read → length bytes ≤ 67108864 → IfOk read (λ d. HasFew (seen d).design)
+  pub read_few : (read : Result Draft ReadFault) → HasRead read → length bytes ≤ MAX_TEXT_LEN → IfOk read (λ d. HasFew (seen d).design)
   read_few (Ok d) f few = omega (arith, few_drivers (symbols_in bytes) f refl, few_symbols bytes, few)
   read_few (Err e) f few = tt
 

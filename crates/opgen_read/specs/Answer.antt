@@ -2,7 +2,9 @@
 use Rattle.std.specs.Prelude.{◌≡◌, ◌⊎◌, ℕ, ◌≤◌, true, false, List, ◌++◌, codes, length}
 use Rattle.std.specs.Fmt.{decimal}
 use Rattle.opgen_design.specs.declared.design.Design.{Design}
-use Rattle.opgen_design.specs.Sound.{Rule, rule_number, IsFirstUnsound}
+use Rattle.opgen_design.specs.declared.design.TheConstants.{MAX_SIGNALS}
+use Rattle.opgen_design.specs.declared.sound.Rule.{Rule}
+use Rattle.opgen_design.specs.Sound.{rule_number, IsFirstUnsound}
 use Rattle.opgen_vhdl.specs.Tokens.{LexicalAt}
 use Rattle.opgen_vhdl.specs.Statements.{Reading}
 use Rattle.opgen_vhdl.specs.Spelled.{Statements, SyntaxAt}
@@ -11,7 +13,7 @@ use Rattle.opgen_read.specs.declared.fault.ReadFault.TheVariants.{Lexical, Synta
 
 -- at most 65,536 signals and 64 ports
 pub record IsWithinLimits (d : Design) : Type 0 where
-  pub signals : length d.signals ≤ 65536
+  pub signals : length d.signals ≤ MAX_SIGNALS
   pub ports : length d.ports ≤ 64
 
 -- Names that do not agree are item 0 of rule 1, as is an enable that names no port; where they agree, it is the first rule that fails.

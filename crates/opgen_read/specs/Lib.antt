@@ -7,7 +7,6 @@ pub mod Places
 pub mod Names
 pub mod Rows
 pub mod Seen
-pub mod Moved
 pub mod Reached
 pub mod Stepped
 pub mod Answer

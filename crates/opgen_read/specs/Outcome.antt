@@ -6,6 +6,7 @@ use Rattle.opgen_vhdl.specs.Tokens.{LexicalAt}
 use Rattle.opgen_vhdl.specs.Spelled.{SyntaxAt}
 use Rattle.opgen_read.specs.declared.fault.ReadFault.{ReadFault}
 use Rattle.opgen_read.specs.declared.fault.ReadFault.TheVariants.{Lexical, Syntax, TooLarge, Unsound, Memory}
+use Rattle.opgen_read.specs.declared.read.TheConstants.{MAX_TEXT_LEN}
 use Rattle.opgen_read.specs.Answer.{FailsAt}
 
 -- a fault of the tokens or the pieces of a text
@@ -18,7 +19,7 @@ IsTextFault bytes Memory = Unit {0}
 
 -- as many drivers as a text of that length can give
 abbrev pub HasFew : Design → Type 0
-HasFew d = length d.drivers ≤ 67108864
+HasFew d = length d.drivers ≤ MAX_TEXT_LEN
 
 -- the names agree and the design is sound, or what fails first
 abbrev pub IsOutcome : (agrees : Bool) → Design → Result (Unit {0}) ReadFault → Type 0

@@ -1,9 +1,10 @@
--- How far a text was read: the pieces that were taken, and the first one that is not.
-use Rattle.std.specs.Prelude.{◌≡◌, ℕ, ◌+◌, List, ◌++◌, length}
+-- How far a text was read: the pieces that were taken, and the fault of the first one that is not.
+use Rattle.std.specs.Prelude.{◌≡◌, ℕ, List, ◌++◌, length}
 use Rattle.opgen_vhdl.specs.declared.place.Place.{Place}
 use Rattle.opgen_vhdl.specs.declared.place.Place.TheVariants.{Library}
 use Rattle.opgen_vhdl.specs.Symbols.{Symbol, pieces}
-use Rattle.opgen_vhdl.specs.Statements.{Reading, nothing, Follows, Stops}
+use Rattle.opgen_vhdl.specs.Statements.{Reading, nothing, Follows}
+use Rattle.opgen_vhdl.specs.Spelled.{StopsAt}
 use Rattle.opgen_read.specs.declared.fault.ReadFault.{ReadFault}
 use Rattle.opgen_read.specs.declared.fault.ReadFault.TheVariants.{Lexical, Syntax, TooLarge, Unsound, Memory}
 
@@ -14,21 +15,10 @@ pub record Reached (whole rest : List Symbol) (place : Place) (r : Reading) (n :
   pub follow : Follows Library nothing taken place r
   pub count : n ≡ length taken
 
--- piece k, from 1, is the first that its place does not take, or comes behind the last where the text ends too early
-pub record StopsAt (whole : List Symbol) (k : ℕ) : Type 0 where
-  pub taken : List (List Symbol)
-  pub left : List (List Symbol)
-  pub split : pieces whole ≡ taken ++ left
-  pub place : Place
-  pub read : Reading
-  pub follow : Follows Library nothing taken place read
-  pub stops : Stops place read left
-  pub piece : k ≡ length taken + 1
-
 -- a fault of the pieces; want of memory says nothing of them
 abbrev pub IsPieceFault : List Symbol → ReadFault → Type 0
 IsPieceFault whole (Lexical offset) = ⊥
-IsPieceFault whole (Syntax k) = StopsAt whole k
+IsPieceFault whole (Syntax k) = StopsAt (pieces whole) k
 IsPieceFault whole TooLarge = ⊥
 IsPieceFault whole (Unsound rule item) = ⊥
 IsPieceFault whole Memory = Unit {0}

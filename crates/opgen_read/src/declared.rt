@@ -5,10 +5,9 @@ ghost use Rattle.std.specs.Str.{bytes_eq};
 ghost use Rattle.opgen_names.specs.declared.TheConstants.{MAX_NAME_LEN};
 ghost use Rattle.opgen_read.specs.Places.{leads, noted_at};
 
-use crate::read::MAX_SIGNALS;
 use arrayvec::ArrayString;
 use indexmap::IndexMap;
-use opgen_design::{Port, Signal};
+use opgen_design::{MAX_SIGNALS, Port, Signal};
 use opgen_list::Items;
 use opgen_names::MAX_NAME_LEN;
 use std::alloc::{AllocError, Global};
@@ -71,14 +70,14 @@ impl<T: Named + Drop> Declared<T> {
     ghost use Rattle.opgen_names.specs.Names.{is_allowed_name};
     ghost use Rattle.opgen_vhdl.specs.Grammar.{place_of};
 
-    pub fn new(alloc: Global) -> Result<Declared<T>, AllocError>
-        ensures { IfOk result (λ d. d ≡ []) }
+    pub fn new(alloc: Global) -> Declared<T>
+        ensures { result ≡ [] }
     {
-        Ok(Declared {
+        Declared {
             items: Items::new(alloc),
             first: IndexMap::new(alloc),
             are_numbered: true,
-        })
+        }
     }
 
     /// The place of the first declaration of this name, or how many declarations there are.

@@ -11,6 +11,7 @@ use crate::expression::Scope;
 use opgen_design::{Driver, Port, Signal};
 use opgen_list::{Items, Text};
 use std::alloc::{AllocError, Global};
+use std::mem;
 
 /// A design that is not complete, the name of its architecture, and whether the names that have to
 /// agree do.
@@ -31,8 +32,8 @@ impl Draft {
     {
         Ok(Draft {
             name: Text::from_str(alloc, "")?,
-            ports: Declared::new(alloc)?,
-            signals: Declared::new(alloc)?,
+            ports: Declared::new(alloc),
+            signals: Declared::new(alloc),
             drivers: Items::new(alloc),
             enable: None,
             architecture: Text::from_str(alloc, "")?,
@@ -50,75 +51,65 @@ impl Draft {
         }
     }
 
-    pub fn with_entity(self, name: Text) -> Draft
-        ensures { seen result ≡ with_entity (seen self) name }
+    pub fn set_entity(&mut self, name: Text)
+        ensures { seen self.new ≡ with_entity (seen self.old) name }
     {
-        let mut draft = self;
-        draft.name = name;
-        draft
+        self.name = name;
     }
 
-    pub fn with_port(self, port: Port) -> Result<Draft, AllocError>
+    pub fn add_port(&mut self, alloc: Global, port: Port) -> Result<(), AllocError>
         requires { IsTrue (is_allowed_name port.name) }
-        ensures { IfOk result (λ d. seen d ≡ with_port (seen self) port) }
+        ensures { IfOk result (λ _. seen self.new ≡ with_port (seen self.old) port) }
     {
-        let mut draft = self;
-        draft.ports = draft.ports.declare(port)?;
-        Ok(draft)
+        let ports = mem::replace(&mut self.ports, Declared::new(alloc));
+        self.ports = ports.declare(port)?;
+        Ok(())
     }
 
-    pub fn with_signal(self, signal: Signal) -> Result<Draft, AllocError>
+    pub fn add_signal(&mut self, alloc: Global, signal: Signal) -> Result<(), AllocError>
         requires { IsTrue (is_allowed_name signal.name) }
-        ensures { IfOk result (λ d. seen d ≡ with_signal (seen self) signal) }
+        ensures { IfOk result (λ _. seen self.new ≡ with_signal (seen self.old) signal) }
     {
-        let mut draft = self;
-        draft.signals = draft.signals.declare(signal)?;
-        Ok(draft)
+        let signals = mem::replace(&mut self.signals, Declared::new(alloc));
+        self.signals = signals.declare(signal)?;
+        Ok(())
     }
 
-    pub fn with_driver(self, driver: Driver) -> Result<Draft, AllocError>
-        ensures { IfOk result (λ d. seen d ≡ with_driver (seen self) driver) }
+    pub fn add_driver(&mut self, driver: Driver) -> Result<(), AllocError>
+        ensures { IfOk result (λ _. seen self.new ≡ with_driver (seen self.old) driver) }
     {
-        let mut draft = self;
-        draft.drivers.push(driver)?;
-        Ok(draft)
+        self.drivers.push(driver)?;
+        Ok(())
     }
 
-    pub fn with_enable(self, enable: Option<usize>) -> Draft
-        ensures { seen result ≡ with_enable (seen self) enable }
+    pub fn set_enable(&mut self, enable: Option<usize>)
+        ensures { seen self.new ≡ with_enable (seen self.old) enable }
     {
-        let mut draft = self;
-        draft.enable = enable;
-        draft
+        self.enable = enable;
     }
 
     /// Notes whether the entity's name agrees, where it is written again.
-    pub fn with_entity_again(self, name: Option<Text>) -> Draft
-        ensures { seen result ≡ with_name (seen self) self.name name }
+    pub fn compare_entity(&mut self, name: Option<Text>)
+        ensures { seen self.new ≡ with_name (seen self.old) self.old.name name }
     {
-        let mut draft = self;
         if let Some(name) = name {
-            draft.agrees = draft.agrees && draft.name.as_str() == name.as_str();
+            self.agrees = self.agrees && self.name.as_str() == name.as_str();
         }
-        draft
     }
 
     /// Notes whether the architecture's name agrees, where it is written again.
-    pub fn with_architecture_again(self, name: Option<Text>) -> Draft
-        ensures { seen result ≡ with_name (seen self) self.architecture name }
+    pub fn compare_architecture(&mut self, name: Option<Text>)
+        ensures { seen self.new ≡ with_name (seen self.old) self.old.architecture name }
     {
-        let mut draft = self;
         if let Some(name) = name {
-            draft.agrees = draft.agrees && draft.architecture.as_str() == name.as_str();
+            self.agrees = self.agrees && self.architecture.as_str() == name.as_str();
         }
-        draft
     }
 
-    pub fn with_architecture(self, own: Text, entity: Text) -> Draft
-        ensures { seen result ≡ with_architecture (seen self) own entity }
+    pub fn set_architecture(&mut self, own: Text, entity: Text)
+        ensures { seen self.new ≡ with_architecture (seen self.old) own entity }
     {
-        let mut draft = self;
-        draft.architecture = own;
-        draft.with_entity_again(Some(entity))
+        self.architecture = own;
+        self.compare_entity(Some(entity));
     }
 }

@@ -24,4 +24,4 @@ mod unit;
 
 pub use fault::ReadFault;
 pub use law::one_cause;
-pub use read::{MAX_PORTS, MAX_SIGNALS, read_design};
+pub use read::{MAX_PORTS, MAX_TEXT_LEN, read_design};

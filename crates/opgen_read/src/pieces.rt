@@ -10,6 +10,7 @@ ghost use Rattle.opgen_read.specs.Left.{left, symbols_in};
 ghost use Rattle.opgen_read.specs.Reached.{IsPieceFault};
 ghost use Rattle.opgen_read.specs.Seen.{seen};
 ghost use Rattle.opgen_read.specs.Stepped.{Steps};
+ghost use Rattle.opgen_read.specs.declared.read.TheConstants.{MAX_TEXT_LEN};
 
 use crate::cursor::Cursor;
 use crate::draft::Draft;
@@ -22,12 +23,12 @@ use std::alloc::Global;
 // One piece at its place, by its number.
 fn step(
     alloc: Global,
-    draft: Draft,
+    draft: &mut Draft,
     place: Place,
     piece: Cursor<'_>,
     number: u32,
-) -> Result<(Place, Draft), ReadFault>
-    ensures { Steps result number (takes_at place (seen draft) (left piece.entry)) }
+) -> Result<Place, ReadFault>
+    ensures { Steps draft.new result number (takes_at place (seen draft.old) (left piece.entry)) }
 {
     match take(alloc, draft, place, piece) {
         Ok(next) => Ok(next),
@@ -38,7 +39,7 @@ fn step(
 
 /// What the pieces of a text say. It is left at what stands behind the last that was read.
 pub fn read_pieces(alloc: Global, text: &mut &[u8]) -> Result<Draft, ReadFault>
-    requires { length text.old.now ≤ 67108864 }
+    requires { length text.old.now ≤ MAX_TEXT_LEN }
     ensures ok { IfOk result (λ d. Follows Library nothing (pieces (symbols_in text.old.now)) End (seen d)) }
     ensures err { IfErr result (IsPieceFault (symbols_in text.old.now)) }
     ensures passed { IsPassed text.old.now text.new.now }
@@ -48,7 +49,7 @@ pub fn read_pieces(alloc: Global, text: &mut &[u8]) -> Result<Draft, ReadFault>
     let mut taken = 0;
     'pieces: while let Some((piece, more)) = Cursor::piece(text) {
         *text = more;
-        (place, draft) = step(alloc, draft, place, piece, taken + 1)?;
+        place = step(alloc, &mut draft, place, piece, taken + 1)?;
         taken += 1;
     }
     if place == Place::End {

@@ -6,23 +6,24 @@ ghost use Rattle.opgen_vhdl.specs.Spelled.{Statements, Spells};
 ghost use Rattle.opgen_read.specs.Answer.{IsWithinLimits, IsReadFault};
 ghost use Rattle.opgen_read.specs.Outcome.{IsTextFault, IsOutcome, HasFew};
 ghost use Rattle.opgen_read.specs.Seen.{seen};
+ghost use Rattle.opgen_read.specs.declared.read.TheConstants.{MAX_TEXT_LEN};
 
 use crate::draft::Draft;
 use crate::fault::ReadFault;
 use crate::pieces::read_pieces;
-use opgen_design::{Design, SoundFault};
+use opgen_design::{Design, MAX_SIGNALS, SoundFault};
 use opgen_lex::first_fault;
 use std::alloc::Global;
-
-/// The most signals of a design that is read.
-pub const MAX_SIGNALS: usize = 65_536;
 
 /// The most ports of a design that is read.
 pub const MAX_PORTS: usize = 64;
 
+/// The most bytes of a text that is read.
+pub const MAX_TEXT_LEN: usize = 67_108_864;
+
 // What the statements of a text say.
 fn statements(alloc: Global, bytes: &[u8]) -> Result<Draft, ReadFault>
-    requires { length bytes.now ≤ 67108864 }
+    requires { length bytes.now ≤ MAX_TEXT_LEN }
     ensures ok { IfOk result (λ d. Statements bytes.now (seen d)) }
     ensures few { IfOk result (λ d. HasFew (seen d).design) }
     ensures err { IfErr result (IsTextFault bytes.now) }
@@ -55,8 +56,8 @@ fn design_of(draft: Draft) -> Design
     }
 }
 
-// The fault of a design that is within the limits, if it has one.
-fn judged(alloc: Global, design: &Design, agrees: bool) -> Result<(), ReadFault>
+// Returns the first fault of a design that is within the limits.
+fn check_design(alloc: Global, design: &Design, agrees: bool) -> Result<(), ReadFault>
     requires limits { IsWithinLimits design.now }
     requires few { HasFew design.now }
     ensures { IsOutcome agrees design.now result }
@@ -84,7 +85,7 @@ fn judged(alloc: Global, design: &Design, agrees: bool) -> Result<(), ReadFault>
 /// its place does not take, more signals or ports than the limits, a rule of sound designs that
 /// fails.
 pub fn read_design(alloc: Global, bytes: &[u8]) -> Result<Design, ReadFault>
-    requires { length bytes.now ≤ 67108864 }
+    requires { length bytes.now ≤ MAX_TEXT_LEN }
     ensures spelled { IfOk result (λ d. Spells bytes.now d) }
     ensures within_limits { IfOk result (λ d. IsWithinLimits d) }
     ensures sound { IfOk result (λ d. IsSound d) }
@@ -97,6 +98,6 @@ pub fn read_design(alloc: Global, bytes: &[u8]) -> Result<Design, ReadFault>
     if !is_within_limits(&design) {
         return Err(ReadFault::TooLarge);
     }
-    judged(alloc, &design, agrees)?;
+    check_design(alloc, &design, agrees)?;
     Ok(design)
 }

@@ -14,10 +14,11 @@ use Rattle.opgen_design.specs.declared.design.Driver.{Driver}
 use Rattle.opgen_design.specs.declared.design.Driver.TheVariants.{Assign, Choice, Table, Register, Output}
 use Rattle.opgen_design.specs.Order.{IsOrderOf}
 use Rattle.opgen_design.specs.Run.{Words, scope, moved, at_ports, is_in, IsTableWord, Meets, Cycle}
-use Rattle.opgen_design.specs.Sound.{IsSound, ChoiceTwice, DriverPasses, HasWidth, signal_widths, at_driver}
+use Rattle.opgen_design.specs.declared.sound.Rule.TheVariants.{ChoiceTwice}
+use Rattle.opgen_design.specs.Sound.{IsSound, DriverPasses, HasWidth, signal_widths, at_driver}
 use Rattle.opgen_design.specs.Value.{value, word_at}
 use Rattle.opgen_runs.specs.Evaluate.{HaveWidths, table_word, settle, hand_all_on}
-use Rattle.opgen_runs.specs.Tables.{row_word}
+use Rattle.opgen_runs.specs.Tables.{Row, row_word}
 use Rattle.opgen_runs.proofs.Widths.{agree-at, declared-there, long, settle-widths}
 use Rattle.opgen_runs.proofs.Equations.{stands, register-kept, input-kept, targets-differ}
 use Rattle.opgen_runs.proofs.Registers.{handed}
@@ -32,9 +33,6 @@ nat_eq-false false m n e f = e
 nat_eq-true : (b : Bool) (n : ℕ) → nat_eq n n ≡ b → nat_eq n n ≡ true
 nat_eq-true true n e = e
 nat_eq-true false n e = absurd (eqb-false n n e refl)
-
-abbrev Row : Type 0
-Row = List Bool × List Bool
 
 module _ (other address : List Bool) where
   pub at-first : (r : Row) (rows : List Row) → nat_eq (nat r.0) (nat address) ≡ true → table_word (r ∷ rows) other address ≡ r.1

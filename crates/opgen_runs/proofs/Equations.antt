@@ -12,7 +12,10 @@ use Rattle.opgen_design.specs.declared.design.Driver.TheVariants.{Register}
 use Rattle.opgen_design.specs.Tree.{Tree}
 use Rattle.opgen_design.specs.Order.{is_register, IsOrderOf, waiting}
 use Rattle.opgen_design.specs.Run.{Words, scope}
-use Rattle.opgen_design.specs.Sound.{IsSound, ReadsOutput, Target, signal, port_of, target, ReadsInputs, DriverPasses, at_driver, IsInput}
+use Rattle.opgen_design.specs.declared.design.Target.{Target}
+use Rattle.opgen_design.specs.declared.design.Target.TheVariants.{Signal as signal, Port as port_of}
+use Rattle.opgen_design.specs.declared.sound.Rule.TheVariants.{ReadsOutput}
+use Rattle.opgen_design.specs.Sound.{IsSound, target, ReadsInputs, DriverPasses, at_driver, IsInput}
 use Rattle.opgen_design.proofs.SoundLaws.{declared-at, once-at, at-contains, contains-at}
 use Rattle.opgen_runs.specs.Evaluate.{HaveWidths, IsThere, driver_word, put_at, put, put_option, settle}
 use Rattle.opgen_runs.proofs.Reading.{at, driver-same}

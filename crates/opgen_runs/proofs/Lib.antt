@@ -8,7 +8,9 @@ pub mod Registers
 pub mod Cycles
 pub mod Starts
 pub mod Kept
+pub mod Steps
 pub mod Orders
 pub mod HasRun
+pub mod TwoCycles
 pub mod OneRun
 pub mod Rows

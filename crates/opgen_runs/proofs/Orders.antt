@@ -9,7 +9,9 @@ use Rattle.std.proofs.lemmas.Option.{slice_get_within, get_or_from_slice_get}
 use Rattle.opgen_design.specs.declared.design.Design.{Design}
 use Rattle.opgen_design.specs.declared.design.Driver.{Driver}
 use Rattle.opgen_design.specs.Order.{IsOrderOf, waiting}
-use Rattle.opgen_design.specs.Sound.{Target, signal, port_of, target, Needs, IsOrdered}
+use Rattle.opgen_design.specs.declared.design.Target.{Target}
+use Rattle.opgen_design.specs.declared.design.Target.TheVariants.{Signal as signal, Port as port_of}
+use Rattle.opgen_design.specs.Sound.{target, Needs, IsOrdered}
 use Rattle.opgen_design.proofs.SoundLaws.{at-contains}
 
 -- numbers sorted by rank

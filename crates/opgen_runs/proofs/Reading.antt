@@ -9,7 +9,9 @@ use Rattle.opgen_design.specs.declared.design.Driver.TheVariants.{Assign, Choice
 use Rattle.opgen_design.specs.Order.{is_register}
 use Rattle.opgen_design.specs.Reads.{AllReads, AllOperandsRead, ReadsName, SomeOperandReads}
 use Rattle.opgen_design.specs.Run.{Words, scope}
-use Rattle.opgen_design.specs.Sound.{Target, signal, port_of, Needs, IsInput, ReadsInputs, Names}
+use Rattle.opgen_design.specs.declared.design.Target.{Target}
+use Rattle.opgen_design.specs.declared.design.Target.TheVariants.{Signal as signal, Port as port_of}
+use Rattle.opgen_design.specs.Sound.{Needs, IsInput, ReadsInputs, Names}
 use Rattle.opgen_design.specs.Tree.{Tree, Trees, name, part, bits, port, inverse, chain, none, more}
 use Rattle.opgen_design.specs.Value.{value, chosen, word_at}
 use Rattle.opgen_design.proofs.ValueLaws.{same_value}

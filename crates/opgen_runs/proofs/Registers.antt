@@ -8,7 +8,8 @@ use Rattle.opgen_design.specs.declared.design.Design.{Design}
 use Rattle.opgen_design.specs.declared.design.Driver.{Driver}
 use Rattle.opgen_design.specs.declared.design.Driver.TheVariants.{Assign, Choice, Table, Register, Output}
 use Rattle.opgen_design.specs.Run.{Words, scope, moved}
-use Rattle.opgen_design.specs.Sound.{IsSound, WidthsAgree, signal, target, signal_widths, at_design}
+use Rattle.opgen_design.specs.declared.design.Target.TheVariants.{Signal as signal}
+use Rattle.opgen_design.specs.Sound.{IsSound, WidthsAgree, target, signal_widths, at_design}
 use Rattle.opgen_design.specs.Tree.{Tree}
 use Rattle.opgen_design.specs.Value.{value, word_at}
 use Rattle.opgen_runs.specs.Evaluate.{HaveWidths, hand_on, hand_all_on}

@@ -6,16 +6,16 @@ use Rattle.std.proofs.Math.ListN.{drop_of_length-le}
 use Rattle.std.proofs.lemmas.List.{length-take-le, length-drop, take_all, take_at, drop_at}
 use Rattle.std.proofs.lemmas.List.Elements.{All-nil, All-cons}
 use Rattle.opgen_num.specs.WordLaws.{length-word}
-use Rattle.opgen_num.specs.Words.{nat, FitWidths}
+use Rattle.opgen_num.specs.Words.{nat, FitWidths, words_of}
 use Rattle.opgen_num.proofs.Cuts.{take-below}
 use Rattle.opgen_design.specs.declared.design.Design.{Design}
 use Rattle.opgen_design.specs.declared.design.Dir.{Dir}
 use Rattle.opgen_design.specs.declared.design.Port.{Port}
-use Rattle.opgen_design.specs.Run.{Words, Cycle, RunsOn, AreWords, at_ports, is_out, initial_words, input_widths, outputs_of}
+use Rattle.opgen_design.specs.Run.{Words, Cycle, RunsOn, AreWords, at_ports, is_out, initial_words, input_widths, words_at_outputs}
 use Rattle.opgen_design.specs.Sound.{IsSound, port_widths}
 use Rattle.opgen_runs.specs.Registers.{SameRegisters}
 use Rattle.opgen_runs.specs.Rows.{IsRunOf, RunsRows, output_cells, rows_words}
-use Rattle.opgen_runs.specs.Step.{IsStep, words_of}
+use Rattle.opgen_runs.specs.Step.{IsStep}
 use Rattle.opgen_runs.proofs.HasRun.{a-run, run-kept}
 use Rattle.opgen_runs.proofs.OneRun.{runs-one, next-one}
 
@@ -83,9 +83,9 @@ nats-fit (w ∷ ws) = (nat-below w, nats-fit ws)
 pub cells-fit : (d : Design) (now given next : List (List Bool)) (v : Words) → Cycle d now given v next
     → FitWidths (at_ports is_out d.ports (port_widths d)) (output_cells d v)
 cells-fit d now given next v cycle =
-    let widths : map length (outputs_of d v) ≡ at_ports is_out d.ports (port_widths d) =
+    let widths : map length (words_at_outputs d v) ≡ at_ports is_out d.ports (port_widths d) =
     at_ports-map length is_out d.ports v.ports ∙ ap (at_ports is_out d.ports) cycle.port_widths in
-    subst (λ ws. FitWidths ws (output_cells d v)) widths (nats-fit (outputs_of d v))
+    subst (λ ws. FitWidths ws (output_cells d v)) widths (nats-fit (words_at_outputs d v))
 
 pub step-fits : (d : Design) (now next : List (List Bool)) (row numbers : List ℕ) → IsStep d now row next numbers
     → FitWidths (at_ports is_out d.ports (port_widths d)) numbers

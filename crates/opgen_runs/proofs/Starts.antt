@@ -9,7 +9,8 @@ use Rattle.opgen_design.specs.declared.design.Driver.TheVariants.{Register}
 use Rattle.opgen_design.specs.declared.design.Port.{Port}
 use Rattle.opgen_design.specs.declared.design.Signal.{Signal}
 use Rattle.opgen_design.specs.Run.{at_ports, initial_words}
-use Rattle.opgen_design.specs.Sound.{IsSound, Width, NoInitial, IsSignalWide, SignalPasses, signal_widths, at_signal}
+use Rattle.opgen_design.specs.declared.sound.Rule.TheVariants.{Width, NoInitial}
+use Rattle.opgen_design.specs.Sound.{IsSound, IsSignalWide, SignalPasses, signal_widths, at_signal}
 use Rattle.opgen_design.specs.Value.{word_at}
 use Rattle.opgen_design.proofs.SoundLaws.{at-contains}
 use Rattle.opgen_runs.specs.Registers.{SameRegisters}

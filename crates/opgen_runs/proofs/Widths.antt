@@ -14,7 +14,10 @@ use Rattle.opgen_design.specs.Run.{Words, scope}
 use Rattle.opgen_design.specs.Tree.{Tree}
 use Rattle.opgen_design.specs.Value.{value, chosen}
 use Rattle.opgen_design.specs.Width.{IsWidth, width}
-use Rattle.opgen_design.specs.Sound.{IsSound, Width, Target, signal, port_of, target, Names, HasWidth, WidthsAgree, SignalPasses, DriverPasses, signal_widths, port_widths, at_signal, at_driver}
+use Rattle.opgen_design.specs.declared.design.Target.{Target}
+use Rattle.opgen_design.specs.declared.design.Target.TheVariants.{Signal as signal, Port as port_of}
+use Rattle.opgen_design.specs.declared.sound.Rule.TheVariants.{Width}
+use Rattle.opgen_design.specs.Sound.{IsSound, target, Names, HasWidth, WidthsAgree, SignalPasses, DriverPasses, signal_widths, port_widths, at_signal, at_driver}
 use Rattle.opgen_design.proofs.SoundLaws.{declared-at}
 use Rattle.opgen_runs.specs.Fitting.{AreNarrow, Fits}
 use Rattle.opgen_runs.specs.Evaluate.{DriverFits, HaveWidths, IsThere, driver_word, table_word, put_at, put, put_option, settle}

@@ -5,13 +5,15 @@ use Rattle.opgen_design.specs.declared.design.Design.{Design}
 use Rattle.opgen_design.specs.declared.design.Driver.{Driver}
 use Rattle.opgen_design.specs.declared.design.Driver.TheVariants.{Assign, Choice, Table, Register, Output}
 use Rattle.opgen_design.specs.Run.{Words, scope, moved}
-use Rattle.opgen_design.specs.Sound.{Target, signal, port_of, target, signal_widths, port_widths}
+use Rattle.opgen_design.specs.declared.design.Target.{Target}
+use Rattle.opgen_design.specs.declared.design.Target.TheVariants.{Signal as signal, Port as port_of}
+use Rattle.opgen_design.specs.Sound.{target, signal_widths, port_widths}
 use Rattle.opgen_design.specs.Value.{Scope, value, chosen, word_at}
 use Rattle.opgen_runs.specs.Fitting.{Fits}
-use Rattle.opgen_runs.specs.Tables.{row_word}
+use Rattle.opgen_runs.specs.Tables.{Row, row_word}
 
 -- the word of the first row of an address, and else the other word
-abbrev pub table_word : List (List Bool × List Bool) → (other address : List Bool) → List Bool
+abbrev pub table_word : List Row → (other address : List Bool) → List Bool
 table_word rows other address = unwrap_or (row_word rows (nat address)) other
 
 -- what a driver's right side says over words

@@ -3,6 +3,7 @@ pub mod Fitting
 pub mod Tables
 pub mod Evaluate
 pub mod Step
+pub mod Steps
 pub mod Registers
 pub mod OneRun
 pub mod Rows

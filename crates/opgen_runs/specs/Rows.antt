@@ -1,10 +1,9 @@
 -- Runs of a design over rows of numbers: a list of outputs is the design's run over the rows of a list of inputs.
 use Rattle.std.specs.Prelude.{ℕ, zero, suc, ◌≡◌, Bool, List, [], ◌∷◌, length, map, take, drop}
 use Rattle.std.specs.List.{concat}
-use Rattle.opgen_num.specs.Words.{nat}
+use Rattle.opgen_num.specs.Words.{nat, words_of}
 use Rattle.opgen_design.specs.declared.design.Design.{Design}
-use Rattle.opgen_design.specs.Run.{Words, RunsOn, initial_words, input_widths, outputs_of}
-use Rattle.opgen_runs.specs.Step.{words_of}
+use Rattle.opgen_design.specs.Run.{Words, RunsOn, initial_words, input_widths, words_at_outputs}
 
 -- the words of so many rows, row after row
 abbrev pub rows_words : (widths : List ℕ) (rows : ℕ) (cells : List ℕ) → List (List (List Bool))
@@ -13,7 +12,7 @@ rows_words widths (suc rows) cells = words_of widths (take (length widths) cells
 
 -- the numbers of the output ports in a cycle
 abbrev pub output_cells : Design → Words → List ℕ
-output_cells d v = map nat (outputs_of d v)
+output_cells d v = map nat (words_at_outputs d v)
 
 -- in so many cycles from these words of the registers, the outputs are those of the inputs
 pub record RunsRows (d : Design) (now : List (List Bool)) (rows : ℕ) (inputs outputs : List ℕ) : Type 0 where

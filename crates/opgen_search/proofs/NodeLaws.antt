@@ -6,7 +6,7 @@ use Rattle.std.proofs.lemmas.List.{append-nil}
 use Rattle.std.proofs.lemmas.List.Elements.{All-contains, All-cons, Contains-get_or, Contains-append_left, Contains-append_right, Contains-append_cases}
 use Rattle.std.proofs.lemmas.List.Sorted.{IsPermutation-refl, IsPermutation-sym, IsPermutation-trans, IsPermutation-more, IsPermutation-middle, Contains-permutation, All-permutation}
 use Rattle.opgen_graph.specs.Adders.{IsTerm, Comb, CombEither}
-use Rattle.opgen_graph.specs.Reach.{Among, Built, Reachable, IsMember}
+use Rattle.opgen_graph.specs.Reach.{Among, IsBuiltFrom, Reachable, IsMember}
 use Rattle.opgen_graph.proofs.Members.{here, there, of_cons, of_nil, of_one, all_of, is_in, read, within_more}
 use Rattle.opgen_graph.proofs.Reaching.{more_among}
 use Rattle.opgen_search.specs.Members.{Within}
@@ -44,13 +44,13 @@ after_first placed x e = ap (λ xs. drop 1 (xs ++ x ∷ [])) e
 starts_more : (placed : List ℕ) (x : ℕ) → placed ≡ 1 ∷ drop 1 placed → placed ++ x ∷ [] ≡ 1 ∷ drop 1 (placed ++ x ∷ [])
 starts_more placed x e = ap (λ xs. xs ++ x ∷ []) e ∙ ap (λ xs. 1 ∷ xs) (sym (after_first placed x e))
 
-built_snoc : (p xs : List ℕ) (x : ℕ) → Built p xs → Among (p ++ xs) x → Built p (xs ++ x ∷ [])
+built_snoc : (p xs : List ℕ) (x : ℕ) → IsBuiltFrom p xs → Among (p ++ xs) x → IsBuiltFrom p (xs ++ x ∷ [])
 built_snoc p [] x b a = (subst (λ ys. Among ys x) (append-nil p) a, tt)
 built_snoc p (f ∷ fs) x b a = (b.0, built_snoc (p ++ f ∷ []) fs x b.1 (subst (λ ys. Among ys x) (sym (append_assoc p (f ∷ []) fs)) a))
 
-built_more : (placed : List ℕ) (x : ℕ) → placed ≡ 1 ∷ drop 1 placed → Built (1 ∷ []) (drop 1 placed) → Among placed x
-    → Built (1 ∷ []) (drop 1 (placed ++ x ∷ []))
-built_more placed x e b a = subst (Built (1 ∷ [])) (sym (after_first placed x e))
+built_more : (placed : List ℕ) (x : ℕ) → placed ≡ 1 ∷ drop 1 placed → IsBuiltFrom (1 ∷ []) (drop 1 placed) → Among placed x
+    → IsBuiltFrom (1 ∷ []) (drop 1 (placed ++ x ∷ []))
+built_more placed x e b a = subst (IsBuiltFrom (1 ∷ [])) (sym (after_first placed x e))
     (built_snoc (1 ∷ []) (drop 1 placed) x b (subst (λ ys. Among ys x) e a))
 
 -- ---- a member that was left is placed
@@ -102,7 +102,7 @@ added placed left x n out m a =
     }
 
 -- ---- the next member of a larger set that can be reached
-first_new : (placed p order : List ℕ) → Within p placed → Built p order → (x : ℕ) → Contains order x → (Contains placed x → ⊥)
+first_new : (placed p order : List ℕ) → Within p placed → IsBuiltFrom p order → (x : ℕ) → Contains order x → (Contains placed x → ⊥)
     → (f : ℕ) × Contains order f × (Contains placed f → ⊥) × Among placed f
 first_new placed p [] w b x c out = absurd (of_nil x c)
 first_new placed p (f ∷ fs) w b x c out =

@@ -1,7 +1,7 @@
 -- Partial sets inside the search: the members that are placed, in an order in which they can be made, and those that are left.
 use Rattle.std.specs.Prelude.{◌≡◌, ℕ, ◌+◌, ◌≤◌, ◌<◌, List, [], ◌∷◌, ◌++◌, length, drop, nat_eq, All, Contains}
 use Rattle.std.specs.List.{IsDistinct}
-use Rattle.opgen_graph.specs.Reach.{Among, Built, IsMember}
+use Rattle.opgen_graph.specs.Reach.{Among, IsBuiltFrom, IsMember}
 use Rattle.opgen_search.specs.Space.{limit}
 use Rattle.opgen_search.specs.Members.{Within}
 
@@ -12,7 +12,7 @@ members placed left = drop 1 placed ++ left
 -- the placed members stand in an order in which they can be made, and no member stands twice
 pub record IsNode (placed left : List ℕ) : Type 0 where
   pub starts : placed ≡ 1 ∷ drop 1 placed
-  pub built : Built (1 ∷ []) (drop 1 placed)
+  pub built : IsBuiltFrom (1 ∷ []) (drop 1 placed)
   pub distinct : IsDistinct nat_eq (members placed left)
   pub adders : All IsMember (members placed left)
 

@@ -1,7 +1,5 @@
 //! Builds the net of several constants by the least set of adders.
-ghost use Rattle.std.specs.Prelude.{◌≤◌, ℕ, List, IsTrue, IfOk};
-ghost use Rattle.opgen_names.specs.Names.{is_allowed_name};
-ghost use Rattle.opgen_net.specs.Named.{IsNamed};
+ghost use Rattle.std.specs.Prelude.{◌≤◌, IfOk};
 ghost use Rattle.opgen_operator.specs.Accepted.{IsAcceptedSeveral};
 ghost use Rattle.opgen_operator.specs.Fits.{FitsSpecsOf};
 ghost use Rattle.opgen_operator.specs.declared.spec.Operator.TheVariants.{Mcm};
@@ -40,7 +38,6 @@ pub fn build<R: Threads + Sync, G: Gate + Sync>(
     ensures net { IfOk result (λ built. IsNetOfSeveral several.now built.net) }
     ensures adders { IfOk result (λ built. IsAdderSetOf several.now.constants several.now.input.width several.now.extra built.adders) }
     ensures fits { IfOk result (λ built. FitsSpecsOf (Mcm several.now) built.net) }
-    ensures named { IfOk result (λ built. (name : List ℕ) → IsTrue (is_allowed_name name) → IsNamed name built.net) }
 {
     let found = least_graph(
         rt,

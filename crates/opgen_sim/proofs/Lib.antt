@@ -1,8 +1,7 @@
 pub mod TableLaws
 pub mod Ports
 pub mod Runs
-mod FitLaws
-mod PortWidths
+pub mod PortWidths
 mod RunRows
 mod RowRuns
 mod Progress

@@ -7,7 +7,8 @@ use Rattle.opgen_design.specs.declared.design.Dir.{Dir}
 use Rattle.opgen_design.specs.declared.design.Dir.TheVariants.{In, Out}
 use Rattle.opgen_design.specs.declared.design.Port.{Port}
 use Rattle.opgen_design.specs.Run.{at_ports, is_in, is_out, input_widths}
-use Rattle.opgen_design.specs.Sound.{HasNumbers, IsSound, Width, PortPasses, at_port}
+use Rattle.opgen_design.specs.declared.sound.Rule.TheVariants.{Width}
+use Rattle.opgen_design.specs.Sound.{HasNumbers, IsSound, PortPasses, at_port}
 use Rattle.opgen_num.specs.declared.TheConstants.{MAX_WIDTH}
 use Rattle.opgen_lanes.specs.Steps.{output_widths}
 
@@ -29,6 +30,9 @@ both_sides (p ∷ ps) = one_side p.dir p.width (at_ports is_in ps (map (λ p. p.
 
 pub sides : (d : Design) → length (input_widths d) + length (output_widths d) ≡ length d.ports
 sides d = both_sides d.ports
+
+pub few_inputs : (d : Design) → HasNumbers d → length (input_widths d) < 2 ^ 32
+few_inputs d few = omega (arith, few, sides d)
 
 pub few_outputs : (d : Design) → HasNumbers d → length (output_widths d) < 2 ^ 32
 few_outputs d few = omega (arith, few, sides d)

@@ -3,11 +3,10 @@ use Rattle.std.proofs.Common.{◌≡◌, ℕ, zero, suc, ◌+◌, ◌^◌, ◌<�
 use Rattle.std.specs.Prelude.{slice_set}
 use Rattle.std.proofs.Math.Seq.{take-length, map-set_same}
 use Rattle.std.proofs.lemmas.List.{append_assoc, append-nil, length-set, length-drop, drop_more, take_more_set}
-use Rattle.opgen_num.specs.Words.{FitWidths, nat, word}
+use Rattle.opgen_num.specs.Words.{FitWidths, nat, word, words_of}
 use Rattle.opgen_num.specs.WordLaws.{length-word}
 use Rattle.opgen_design.specs.declared.design.Port.{Port}
 use Rattle.opgen_design.specs.Run.{at_ports, is_in}
-use Rattle.opgen_runs.specs.Step.{words_of}
 use Rattle.opgen_lanes.proofs.PortWords.{width-here, widths-split}
 
 at-map : {X Y : Type 0} (f : X → Y) (xs : List X) (i : ℕ) (x : X) → get_or (map f xs) i (f x) ≡ f (get_or xs i x)

@@ -1,11 +1,10 @@
 -- How far the streams have come: what each holds of the run's registers, and which rows are done.
-use Rattle.std.proofs.Common.{◌≡◌, ℕ, suc, ◌+◌, ◌-◌, ◌*◌, ◌/◌, ◌%◌, ◌<◌, ◌≤◌, Bool, true, false, List, [], ◌∷◌, length, map, take, drop, refl, sym, ap, ◌∙◌, subst, inl, inr, arith}
+use Rattle.std.proofs.Common.{◌≡◌, ℕ, suc, ◌+◌, ◌-◌, ◌*◌, ◌/◌, ◌%◌, ◌<◌, ◌≤◌, Bool, true, false, List, length, map, refl, sym, ap, ◌∙◌, subst, inl, inr, arith}
 use Rattle.std.specs.Prelude.{◌⊎◌, nat_lt, if◌then◌else◌}
 use Rattle.std.proofs.Math.Nat.{mul-le-mul}
 use Rattle.std.proofs.lemmas.Bool.{cases_lt, cases_eq, ltb-true}
-use Rattle.std.proofs.lemmas.List.{length-take-le, length-drop, take_all, take-append-le}
 use Rattle.std.proofs.lemmas.Nat.{div-add-mod', div_below, mod_below}
-use Rattle.opgen_num.specs.Words.{nat, word}
+use Rattle.opgen_num.specs.Words.{nat, words_of}
 use Rattle.opgen_design.specs.declared.design.Design.{Design}
 use Rattle.opgen_design.specs.Run.{Cycle, initial_words, input_widths}
 use Rattle.opgen_design.specs.Sound.{IsSound, signal_widths}
@@ -15,8 +14,7 @@ use Rattle.opgen_lanes.specs.Steps.{Running, AreNew, IsStepIn, output_widths}
 use Rattle.opgen_runs.proofs.OneRun.{next-one}
 use Rattle.opgen_runs.specs.Registers.{SameRegisters}
 use Rattle.opgen_runs.specs.Rows.{output_cells, IsRunOf}
-use Rattle.opgen_runs.specs.Step.{words_of}
-use Rattle.opgen_streams.specs.Rows.{words, row_at, row_in, row_with_zeros}
+use Rattle.opgen_streams.specs.Rows.{row_at, row_in}
 use Rattle.opgen_streams.specs.Streams.{streams, words_in}
 use Rattle.opgen_sim.proofs.RowRuns.{columns, out_columns, RowRun, has_row_run}
 
@@ -175,30 +173,8 @@ module _ (d : Design) (rows depth apart row : ℕ) (cells : List ℕ) (held : Li
   pub finished : IsRunOf d rows cells results
   finished = p.run.whole results room each
 
--- the words of a row, if it is there
-same_words : (widths numbers : List ℕ) → words widths numbers ≡ words_of widths numbers
-same_words [] numbers = refl
-same_words (w ∷ widths) [] = refl
-same_words (w ∷ widths) (n ∷ numbers) = ap (λ ws. word w n ∷ ws) (same_words widths numbers)
-
-room_at : (wide rows t : ℕ) (cells : List ℕ) → length cells ≡ rows * wide → t < rows → wide ≤ length (drop (t * wide) cells)
-room_at wide rows t cells len l =
-    let more : suc t * wide ≤ rows * wide = mul-le-mul l (omega arith) in
-    omega (arith, len, more, length-drop (t * wide) cells)
-
-pub row_there : (widths : List ℕ) (rows t : ℕ) (cells : List ℕ) → length cells ≡ rows * length widths → t < rows
-    → words widths (row_with_zeros (length widths) t cells) ≡ words_of widths (row_at (length widths) t cells)
-row_there widths rows t cells len l =
-    ap (words widths) (take-append-le (length widths) (drop (t * length widths) cells) _ (room_at (length widths) rows t cells len l))
-    ∙ same_words widths (row_at (length widths) t cells)
-
-pub row_whole : (widths : List ℕ) (rows t : ℕ) (cells : List ℕ) (lanes : List (List ℕ)) (k : ℕ) → length cells ≡ rows * length widths → t < rows
-    → take (length (row_at (length widths) t cells)) (row_in widths lanes k) ≡ row_in widths lanes k
-row_whole widths rows t cells lanes k len l =
-    let wide : length (row_at (length widths) t cells) ≡ length widths
-    = length-take-le (length widths) (drop (t * length widths) cells) (room_at (length widths) rows t cells len l) in
-    take_all _ (row_in widths lanes k) (omega (arith, wide, length-row_in widths lanes k))
-  where
-    length-row_in : (widths : List ℕ) (lanes : List (List ℕ)) (k : ℕ) → length (row_in widths lanes k) ≡ length widths
-    length-row_in [] lanes k = refl
-    length-row_in (w ∷ widths) lanes k = ap suc (length-row_in widths (drop w lanes) k)
+-- a row that is there
+pub row_within : (columns rows t : ℕ) (cells : List ℕ) → length cells ≡ rows * columns → t < rows → (t + 1) * columns ≤ length cells
+row_within columns rows t cells len l =
+    let more : (t + 1) * columns ≤ rows * columns = mul-le-mul (omega (arith, l)) (omega arith) in
+    omega (arith, len, more)

@@ -1,11 +1,11 @@
 -- Runs over rows, a cycle at a time.
 use Rattle.std.proofs.Common.{◌≡◌, ℕ, zero, suc, ◌-◌, ◌<◌, Bool, List, [], ◌∷◌, ◌++◌, length, map, take, drop, refl, sym, ap, ◌∙◌, subst, arith, append_assoc, append-nil}
 use Rattle.std.proofs.lemmas.List.{length-map}
-use Rattle.opgen_num.specs.Words.{nat}
+use Rattle.opgen_num.specs.Words.{nat, words_of}
 use Rattle.opgen_design.specs.declared.design.Design.{Design}
-use Rattle.opgen_design.specs.Run.{Words, Cycle, is_out, initial_words, input_widths, outputs_of}
+use Rattle.opgen_design.specs.Run.{Words, Cycle, is_out, initial_words, input_widths, words_at_outputs}
 use Rattle.opgen_sim.specs.Sims.{Simulator, IsNew}
-use Rattle.opgen_runs.specs.Step.{IsStep, words_of}
+use Rattle.opgen_runs.specs.Step.{IsStep}
 use Rattle.opgen_runs.proofs.Rows.{rows-kept}
 use Rattle.opgen_runs.proofs.Starts.{at_ports-length}
 use Rattle.opgen_lanes.specs.Steps.{output_widths}
@@ -62,7 +62,7 @@ pub length-cells : (d : Design) (now given next : List (List Bool)) (v : Words) 
 length-cells d now given next v cycle =
     let widths = map (λ p. p.width) d.ports in
     let ports : length v.ports ≡ length widths = sym (length-map v.ports length) ∙ ap length cycle.port_widths in
-    length-map (outputs_of d v) nat ∙ at_ports-length is_out d.ports v.ports widths ports
+    length-map (words_at_outputs d v) nat ∙ at_ports-length is_out d.ports v.ports widths ports
 
 -- a step gives a number for each output port
 pub length-step : (d e : Design) (now next : List (List Bool)) (row numbers : List ℕ) → e ≡ d → IsStep e now row next numbers

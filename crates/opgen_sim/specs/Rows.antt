@@ -1,6 +1,5 @@
--- Rows of numbers at the ports of a design, one row for each cycle.
-use Rattle.std.specs.Prelude.{ℕ, zero, suc, ◌≡◌, ◌<◌, Bool, List, [], length, take, drop}
-use Rattle.opgen_num.specs.Words.{FitWidths}
+-- The widths of the ports of a design, and what streams ask of it.
+use Rattle.std.specs.Prelude.{ℕ, ◌≡◌, ◌<◌, Bool, length}
 use Rattle.opgen_design.specs.declared.design.Design.{Design}
 use Rattle.opgen_design.specs.declared.design.Dir.{Dir}
 use Rattle.opgen_design.specs.declared.design.Dir.TheVariants.{In, Out}
@@ -8,11 +7,6 @@ use Rattle.opgen_design.specs.Run.{is_in, is_out, input_widths}
 use Rattle.opgen_forward.specs.Depth.{HasDepth}
 use Rattle.opgen_lanes.specs.Steps.{output_widths}
 use Rattle.opgen_sim.specs.declared.widths.Widths.{Widths}
-
--- so many rows of cells, each below two to its width, and no cell more
-abbrev pub FitRows : (widths : List ℕ) (rows : ℕ) (cells : List ℕ) → Type 0
-FitRows widths zero cells = cells ≡ []
-FitRows widths (suc rows) cells = FitWidths widths (take (length widths) cells) × FitRows widths rows (drop (length widths) cells)
 
 -- whether a port has a direction
 abbrev pub is_of : Dir → Dir → Bool

@@ -5,7 +5,7 @@
 //! output ports. The steps of a new simulator are a run. The outputs of a design over rows of inputs are those of its one
 //! run, whichever way they are computed: a cycle at a time, or in 256 streams.
 //!
-//! By: `Sim::new`, `Sim::from_design`, `Sim::step`, `run_rows`; the law `steps_are_runs`.
+//! By: `Sim::new`, `Sim::from_design`, `Sim::step`, `run_rows`, `port_widths`; the law `steps_are_runs`.
 #![tactic(auto)]
 
 mod cycle;
@@ -20,8 +20,7 @@ mod tables;
 mod walker;
 mod widths;
 
-pub use engine::FEW_CYCLES;
 pub use laws::steps_are_runs;
-pub use opgen_lanes::Lanes;
 pub use rows::run_rows;
 pub use sim::Sim;
+pub use widths::port_widths;

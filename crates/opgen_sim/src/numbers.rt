@@ -1,8 +1,7 @@
 //! Numbers at the ports of a design.
 ghost use Rattle.std.specs.Prelude.{◌≡◌, ◌<◌, ◌^◌, ◌+◌, true, if◌then◌else◌, length, map, slice_index, slice_set};
-ghost use Rattle.opgen_num.specs.Words.{FitWidths, nat, word};
+ghost use Rattle.opgen_num.specs.Words.{FitWidths, nat, word, words_of};
 ghost use Rattle.opgen_design.specs.Run.{at_ports, is_in, is_out};
-ghost use Rattle.opgen_runs.specs.Step.{words_of};
 
 use opgen_design::{Dir, Port};
 use opgen_num::Word;

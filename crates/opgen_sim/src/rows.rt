@@ -1,9 +1,10 @@
 //! The outputs of a design over rows of inputs, in the way that is faster.
 ghost use Rattle.std.specs.Prelude.{◌≡◌, IfOk, IfSome, length};
+ghost use Rattle.opgen_num.specs.Words.{AreRowsOfCells};
 ghost use Rattle.opgen_design.specs.Run.{input_widths};
 ghost use Rattle.opgen_design.specs.Sound.{HasNumbers, IsSound};
 ghost use Rattle.opgen_runs.specs.Rows.{IsRunOf};
-ghost use Rattle.opgen_sim.specs.Rows.{AreWidths, FitRows, IsForStreams};
+ghost use Rattle.opgen_sim.specs.Rows.{AreWidths, IsForStreams};
 
 use crate::engine::FEW_CYCLES;
 use crate::sim::Sim;
@@ -17,10 +18,12 @@ use std::alloc::Global;
 /// The most rows of a table that is run in streams.
 const MOST_ROWS: usize = 64;
 
-/// Each stream runs as many rows more as the design is deep: streams are taken if those are few beside all rows.
-const ROWS_TO_DEPTH: u32 = 16;
+/// Streams are taken if there are at least so many rows for each cycle of the depth. A step of all streams takes about as long as 18
+/// rows one cycle at a time, and the first stream takes as many steps more as the design is deep.
+const ROWS_TO_DEPTH: u32 = 32;
 
-// Each row of a table is compared with the addresses of all streams: many rows are looked up faster one cycle at a time.
+// In streams a table takes time for each of its rows, by halving or one row after another; a cycle at a time it takes one access. Many
+// rows are looked up faster one cycle at a time.
 fn has_few_rows(driver: &Driver) -> bool {
     match driver {
         Driver::Table {
@@ -68,7 +71,7 @@ fn run_cycles(
     requires sound { IsSound design }
     requires numbers { HasNumbers design }
     requires widths { AreWidths design widths.now }
-    requires rows { FitRows (input_widths design) rows cells.now }
+    requires rows { AreRowsOfCells (input_widths design) rows cells.now }
     ensures { IfOk result (λ outputs. IsRunOf design rows cells.now outputs.items) }
 {
     let columns = widths.inputs.len();
@@ -97,7 +100,7 @@ pub fn run_rows(
 ) -> Result<Vec<u128>, Memory>
     requires sound { IsSound design }
     requires numbers { HasNumbers design }
-    requires rows { FitRows (input_widths design) rows cells.now }
+    requires rows { AreRowsOfCells (input_widths design) rows cells.now }
     ensures { IfOk result (λ outputs. IsRunOf design rows cells.now outputs.items) }
 {
     let widths = Widths::of(alloc, &design)?;

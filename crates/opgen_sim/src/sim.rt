@@ -8,7 +8,6 @@ ghost use Rattle.opgen_sim.specs.Sims.{IsNew};
 
 use crate::engine::Engine;
 use opgen_design::Design;
-use opgen_lanes::copy;
 use opgen_num::Memory;
 use std::alloc::Global;
 use std::marker::Model;
@@ -56,7 +55,7 @@ impl Sim {
         requires numbers { HasNumbers design.now }
         ensures { IfOk result (λ s. IsNew design.now s) }
     {
-        Sim::from_design(alloc, copy(alloc, design)?, u32::MAX)
+        Sim::from_design(alloc, design.copy(alloc)?, u32::MAX)
     }
 
     /// Runs one cycle: a number for each input port, below 2 to its width, gives a number for each output port. Takes no memory.

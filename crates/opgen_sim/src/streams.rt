@@ -1,11 +1,12 @@
 //! The outputs of a design that only feeds forward over rows of inputs, in 256 streams: each runs a part of the rows.
 ghost use Rattle.std.specs.Prelude.{◌≡◌, ◌+◌, ◌*◌, ◌^◌, ◌<◌, ◌≤◌, if◌then◌else◌, IfOk, length, nat_lt};
 ghost use Rattle.std.specs.List.{sum};
+ghost use Rattle.opgen_num.specs.Words.{AreRowsOfCells};
 ghost use Rattle.opgen_design.specs.Run.{input_widths};
 ghost use Rattle.opgen_design.specs.Sound.{HasNumbers, IsSound};
 ghost use Rattle.opgen_runs.specs.Rows.{IsRunOf};
 ghost use Rattle.opgen_streams.specs.Streams.{streams};
-ghost use Rattle.opgen_sim.specs.Rows.{AreWidths, FitRows, IsForStreams};
+ghost use Rattle.opgen_sim.specs.Rows.{AreWidths, IsForStreams};
 
 use crate::widths::Widths;
 use opgen_design::Design;
@@ -59,7 +60,7 @@ pub(crate) fn run_streams(
     requires sound { IsSound design }
     requires numbers { HasNumbers design }
     requires widths { AreWidths design widths.now }
-    requires rows { FitRows (input_widths design) rows cells.now }
+    requires rows { AreRowsOfCells (input_widths design) rows cells.now }
     requires depth { IsForStreams design rows depth }
     ensures { IfOk result (λ outputs. IsRunOf design rows cells.now outputs.items) }
 {

@@ -19,8 +19,8 @@ fn is_of(dir: Dir, port: &Port) -> bool
     port.dir == dir
 }
 
-// The widths of the ports of a direction, in order.
-fn port_widths(alloc: Global, ports: &[Port], dir: Dir) -> Result<Vec<u32>, AllocError>
+/// The widths of the ports of a direction, in order.
+pub fn port_widths(alloc: Global, ports: &[Port], dir: Dir) -> Result<Vec<u32>, AllocError>
     ensures { IfOk result (λ widths. widths.items ≡ at_ports (is_of dir) ports.now (map (λ p. p.width) ports.now)) }
 {
     let mut widths = Vec::new(alloc);

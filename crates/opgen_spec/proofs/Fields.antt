@@ -18,6 +18,7 @@ use Rattle.opgen_spec.specs.declared.key.Key.{Key}
 use Rattle.opgen_spec.specs.declared.key.Key.TheVariants as key
 use Rattle.opgen_operator.specs.declared.kind.Kind.{Kind}
 use Rattle.opgen_operator.specs.declared.kind.Kind.TheVariants as kind
+use Rattle.opgen_operator.specs.declared.spec.PortFormat.{PortFormat}
 use Rattle.opgen_spec.specs.declared.lines.Check.TheVariants.{Unknown, Missing, WrongType, Range}
 use Rattle.opgen_spec.specs.Keys.{document_keys, key_name, is_needed}
 use Rattle.opgen_spec.specs.Document.{list_of, value_at, number_in, number_at, flag_at, count_at, items_at, count, small, kind_of}
@@ -25,6 +26,7 @@ use Rattle.opgen_spec.specs.Numbers.{are_digits, digits_from, are_parts, decimal
 use Rattle.opgen_spec.specs.Spec.{format_at, unsigned_at, sum_of, poly_of, operator_of}
 use Rattle.opgen_operator.specs.Accepted.{HasInputsWithin}
 use Rattle.opgen_operator.specs.Limits.{most_input}
+use Rattle.opgen_operator.proofs.InputPorts.{all_one, all_two, some_bits, input_bit}
 use Rattle.opgen_operator.proofs.Versions.{input_limit}
 use Rattle.opgen_operator.specs.Ranges.{IsPower, IsInput, IsWithin, IsSum, IsPoly, IsOperator}
 use Rattle.opgen_operator.specs.OddParts.{odd_part_count}
@@ -328,10 +330,6 @@ width_at ms k there h = go (flag_at ms key.Signed) (there_inside (value_at ms k)
     go false none = let bounds = inside (pos 1) (pos (widest_input ms)) (number_at ms k) none in counted (number_at ms k) 1
         (widest_input ms) bounds.0 bounds.1 (width_few ms)
 
-one_bit : (flag : Bool) (w : ℕ) → fewest_bits flag ≤ w → 1 ≤ w
-one_bit true w h = omega arith
-one_bit false w h = h
-
 not_below : (a b : ℕ) → nat_lt a b ≡ false → b ≤ a
 not_below a b h = grind arith
 
@@ -489,7 +487,7 @@ x_in ms one f e width =
     record { fewest = fewest; most = omega (arith, widest, no_wider ms, input_limit (count_at ms key.Version)); lsb = power_at ms key.Lsb f.ranges.lsb }
 
 unsigned_in : (ms : Members) (w l : Key) → IsInput (format_at ms w l) → IsInput (unsigned_at ms w l)
-unsigned_in ms w l h = record { fewest = one_bit (flag_at ms key.Signed) (count (number_at ms w)) h.fewest; most = h.most; lsb = h.lsb }
+unsigned_in ms w l h = record { fewest = input_bit (format_at ms w l) h; most = h.most; lsb = h.lsb }
 
 x_few : (ms : Members) (one : Kind) → AreFine ms → kind_of ms ≡ Some one → is_needed (Some one) key.Width ≡ true
     → count_at ms key.Width ≤ most_input (count_at ms key.Version)
@@ -512,17 +510,20 @@ b_few ms one f e width =
     omega (arith, widest, no_wider ms)
 
 -- no input has more bits than the version lets it have
+abbrev IsFew : Members → PortFormat → Type 0
+IsFew ms p = p.format.width ≤ most_input (count_at ms key.Version)
+
 pub inputs_in : (ms : Members) (one : Kind) → AreFine ms → kind_of ms ≡ Some one
     → HasInputsWithin (most_input (count_at ms key.Version)) (operator_of one ms)
-inputs_in ms kind.Scale f e = x_few ms kind.Scale f e refl
-inputs_in ms kind.Fir f e = x_few ms kind.Fir f e refl
-inputs_in ms kind.Multiply f e = (a_few ms kind.Multiply f e refl, b_few ms kind.Multiply f e refl)
-inputs_in ms kind.Divide f e = (a_few ms kind.Divide f e refl, b_few ms kind.Divide f e refl)
-inputs_in ms kind.Root f e = x_few ms kind.Root f e refl
-inputs_in ms kind.Mcm f e = x_few ms kind.Mcm f e refl
-inputs_in ms kind.Constdiv f e = x_few ms kind.Constdiv f e refl
-inputs_in ms kind.Poly f e = x_few ms kind.Poly f e refl
-inputs_in ms kind.Tfir f e = x_few ms kind.Tfir f e refl
+inputs_in ms kind.Scale f e = all_one (IsFew ms) _ (x_few ms kind.Scale f e refl)
+inputs_in ms kind.Fir f e = all_one (IsFew ms) _ (x_few ms kind.Fir f e refl)
+inputs_in ms kind.Multiply f e = all_two (IsFew ms) _ _ (a_few ms kind.Multiply f e refl) (b_few ms kind.Multiply f e refl)
+inputs_in ms kind.Divide f e = all_two (IsFew ms) _ _ (a_few ms kind.Divide f e refl) (b_few ms kind.Divide f e refl)
+inputs_in ms kind.Root f e = all_one (IsFew ms) _ (x_few ms kind.Root f e refl)
+inputs_in ms kind.Mcm f e = all_one (IsFew ms) _ (x_few ms kind.Mcm f e refl)
+inputs_in ms kind.Constdiv f e = all_one (IsFew ms) _ (x_few ms kind.Constdiv f e refl)
+inputs_in ms kind.Poly f e = all_one (IsFew ms) _ (x_few ms kind.Poly f e refl)
+inputs_in ms kind.Tfir f e = all_one (IsFew ms) _ (x_few ms kind.Tfir f e refl)
 
 -- an input below 1 of sixteen bits at most
 pub below_one : (w : ℕ) → w ≤ 16 → small (neg_ℤ (pos w)) ≡ neg_ℤ (pos w)
@@ -544,7 +545,7 @@ poly_in ms f e =
     let (positive, small) = denominator_in ms f.ranges.denominator in
     record {
       input = record {
-        fewest = one_bit (flag_at ms key.Signed) (count_at ms key.Width) fewest;
+        fewest = some_bits (flag_at ms key.Signed) (count_at ms key.Width) fewest;
         most = omega (arith, narrow);
         lsb = subst IsPower (sym lsb) (omega (arith, ints, narrow), omega (arith, ints));
       };

@@ -286,13 +286,13 @@ fault_of ms = first_of (
     too_wide (spec_of ms) ∷ [])
 
 -- What reading the bytes gives: the specification where there is no fault.
-abbrev pub judged : Members → Option SpecFault → Result Spec SpecFault
-judged ms None = Ok (spec_of ms)
-judged ms (Some fault) = Err fault
+abbrev pub spec_or_fault : Members → Option SpecFault → Result Spec SpecFault
+spec_or_fault ms None = Ok (spec_of ms)
+spec_or_fault ms (Some fault) = Err fault
 
 abbrev pub read : Option Members → Result Spec SpecFault
 read None = Err fault.NotToml
-read (Some ms) = judged ms (fault_of ms)
+read (Some ms) = spec_or_fault ms (fault_of ms)
 
 -- what was returned is what reading gives, unless memory ran out
 abbrev pub Gives : Result Spec SpecFault → (answer : Result Spec SpecFault) → Type 0

@@ -7,7 +7,6 @@ use Rattle.std.proofs.lemmas.Int.{ints}
 use Rattle.std.proofs.lemmas.List.{length-replicate}
 use Rattle.std.proofs.lemmas.List.Elements.{All-take}
 use Rattle.opgen_num.specs.declared.format.Format.{Format}
-use Rattle.opgen_num.specs.Formats.{fewest_bits}
 use Rattle.opgen_num.specs.Rounding.{IsGoodRoot}
 use Rattle.opgen_num.specs.Values.{int, val}
 use Rattle.opgen_num.specs.Words.{nat}
@@ -27,12 +26,13 @@ use Rattle.opgen_operator.specs.Accepted.{IsAcceptedSingle}
 use Rattle.opgen_operator.specs.Exact.{Recent, square}
 use Rattle.opgen_operator.specs.Fits.{FitsOperator, FitsSpecsOf, name_and_width}
 use Rattle.opgen_operator.specs.Good.{IsGoodSquareRoot}
-use Rattle.opgen_operator.specs.Judged.{recent_words, output_words}
+use Rattle.opgen_operator.specs.PortNumbers.{recent_words, output_words}
 use Rattle.opgen_operator.specs.Outputs.{places_up, root_shift, up}
 use Rattle.opgen_operator.specs.Ports.{operator_inputs, root_width, root_ports}
 use Rattle.opgen_operator.specs.Ranges.{IsSingle}
 use Rattle.opgen_operator.specs.Valid.{AgreesOnExact}
 use Rattle.opgen_operator.proofs.Accepted.{accepted_ranges, accepted_shift}
+use Rattle.opgen_operator.proofs.InputPorts.{input_bit}
 use Rattle.opgen_net.specs.Placed.{number_at}
 use Rattle.opgen_digits.specs.Digit.{Known}
 use Rattle.opgen_digits.specs.Results.{AreResults, with_results}
@@ -46,31 +46,21 @@ use Rattle.opgen_sqrt.proofs.Steps.{HasWidths, base, AreFor, Stands, stands, lat
 
 -- accepted singles
 
-some_bits : (signed : Bool) (width : ℕ) → signed ≡ false → fewest_bits signed ≤ width → 1 ≤ width
-some_bits false width e h = h
-some_bits true width e h = omega (arith, h)
-
 up_within : (s : ℤ) → s ≤ℤ MAX_SHIFT → places_up s ≤ 48
 up_within (pos n) h = omega (arith, ints)
 up_within (negsuc n) h = omega arith
-
-some_input : (r : Single) → IsAcceptedSingle r → 1 ≤ r.input.width
-some_input r is =
-    let ranges : IsSingle r = accepted_ranges (Root r) is in
-    some_bits r.input.signed r.input.width ranges.unsigned ranges.input.fewest
 
 -- the root has half the bits of input and shift
 pub root_bits : (r : Single) → IsAcceptedSingle r → (1 ≤ root_width r) × (root_width r ≤ 48)
 root_bits r is =
     let ranges : IsSingle r = accepted_ranges (Root r) is in
     let few = up_within (root_shift r) (accepted_shift (Root r) is).1 in
-    let some = some_input r is in
-    (omega (arith, few, some), omega (arith, few, ranges.input.most))
+    (omega (arith, few, input_bit r.input ranges.input), omega (arith, few, ranges.input.most))
 
 pub has_widths : (r : Single) → IsAcceptedSingle r → HasWidths r
 has_widths r is =
     let ranges : IsSingle r = accepted_ranges (Root r) is in
-    record { some = some_input r is; few_x = omega (arith, ranges.input.most); few = omega (arith, (root_bits r is).1) }
+    record { some = input_bit r.input ranges.input; few_x = omega (arith, ranges.input.most); few = omega (arith, (root_bits r is).1) }
 
 -- unsigned words, in the last cycle
 

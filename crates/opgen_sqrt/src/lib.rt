@@ -8,13 +8,11 @@
 //! By: `build`.
 #![tactic(auto)]
 
-ghost use Rattle.std.specs.Prelude.{ℕ, ◌≡◌, ◌+◌, ◌≤◌, List, IsTrue, [], ◌∷◌, ◌++◌, All, IfOk, OnOk, length};
+ghost use Rattle.std.specs.Prelude.{◌≡◌, ◌+◌, ◌≤◌, [], ◌∷◌, ◌++◌, All, IfOk, OnOk, length};
 ghost use Rattle.opgen_num.specs.declared.TheConstants.{MAX_WIDTH};
 ghost use Rattle.opgen_net.specs.declared.word_bits.WordBit.TheVariants.{Zero, One};
 ghost use Rattle.opgen_net.specs.Valid.{IsValid, widths};
-ghost use Rattle.opgen_net.specs.Named.{IsNamed};
 ghost use Rattle.opgen_net.specs.WordRule.{IsThere};
-ghost use Rattle.opgen_names.specs.Names.{is_allowed_name};
 ghost use Rattle.opgen_operator.specs.Accepted.{IsAcceptedSingle};
 ghost use Rattle.opgen_operator.specs.Fits.{FitsSpecsOf};
 ghost use Rattle.opgen_operator.specs.Ports.{root_width};
@@ -155,7 +153,6 @@ pub fn build(alloc: Global, single: &Single) -> Result<Net, Memory>
     ensures net { IfOk result (λ net. net ≡ net_of_single single.now) }
     ensures steps { IfOk result (HoldsAfterEachStep single.now) }
     ensures fits { IfOk result (FitsSpecsOf (Root single.now)) }
-    ensures named { IfOk result (λ net. (name : List ℕ) → IsTrue (is_allowed_name name) → IsNamed name net) }
 {
     let mut net = input(alloc, single)?;
     let radicand = radicand(alloc, single)?;

@@ -1,10 +1,12 @@
 -- Rows of cells: those that are there, and those that are not.
 use Rattle.std.proofs.Common.{◌≡◌, ℕ, suc, ◌+◌, ◌-◌, ◌*◌, ◌<◌, ◌≤◌, List, [], ◌∷◌, ◌++◌, length, take, drop, get_or, replicate, refl, sym, ap, ◌∙◌, ⊎_elim, arith}
 use Rattle.std.proofs.lemmas.Bool.{cases_lt}
+use Rattle.std.proofs.lemmas.Grind.{same_number_lists}
 use Rattle.std.proofs.lemmas.List.{drop_all, take_all, take-append-le, get_or_past, get_or-take, get_or-drop, get_or-replicate, get_or_append_left, get_or-append_right, length-append, length-drop, length-map, length-replicate, length-take}
 use Rattle.opgen_num.specs.Words.{nat}
 use Rattle.opgen_streams.specs.Rows.{row_at, row_in, row_with_zeros}
 use Rattle.opgen_streams.specs.Streams.{words_in}
+use Rattle.opgen_streams.proofs.Places.{same_row}
 
 module _ (columns row : ℕ) (cells : List ℕ) where
   pub whole_row : (row + 1) * columns ≤ length cells → row_with_zeros columns row cells ≡ row_at columns row cells
@@ -45,6 +47,36 @@ module _ (columns row : ℕ) (cells : List ℕ) where
           ∙ get_or-replicate columns (column - length rest) 0 0 (omega (arith, within))
           ∙ sym (get_or_past rest column 0 h)
           ∙ get_or-drop (row * columns) cells column 0
+
+-- the cells of a row, one by one
+pub same_length : (columns row : ℕ) (old new : List ℕ) → length new ≡ length old → length (row_at columns row new) ≡ length (row_at columns row old)
+same_length columns row old new all =
+    omega (
+      arith,
+      all,
+      length-take columns (drop (row * columns) new),
+      length-take columns (drop (row * columns) old),
+      length-drop (row * columns) new,
+      length-drop (row * columns) old,
+    )
+
+pub cell_at : (columns row : ℕ) (cells : List ℕ) (i : ℕ) → i < length (row_at columns row cells)
+    → get_or (row_at columns row cells) i 0 ≡ get_or cells (row * columns + i) 0
+cell_at columns row cells i there =
+    get_or-take columns (drop (row * columns) cells) i 0 (omega (arith, there, length-take columns (drop (row * columns) cells)))
+    ∙ get_or-drop (row * columns) cells i 0
+
+-- the rows of which no cell was written
+pub rows_kept : (columns count first apart : ℕ) (old new : List ℕ) → length new ≡ length old
+    → ((i : ℕ) → ((k column : ℕ) → k < count → column < columns → i ≡ (first + k * apart) * columns + column → ⊥) → get_or new i 0 ≡ get_or old i 0)
+    → (row : ℕ) → ((k : ℕ) → k < count → row ≡ first + k * apart → ⊥) → row_at columns row new ≡ row_at columns row old
+rows_kept columns count first apart old new all kept row none =
+    same_number_lists (row_at columns row new) (row_at columns row old) (same_length columns row old new all) (λ i there.
+    let here : i < length (row_at columns row old) = omega (arith, there, same_length columns row old new all) in
+    let within : i < columns = omega (arith, here, length-take columns (drop (row * columns) old)) in
+    cell_at columns row new i there
+    ∙ kept (row * columns + i) (λ k column less m e. none k less (same_row columns row i (first + k * apart) column within m e))
+    ∙ sym (cell_at columns row old i here))
 
 -- the row in a stream
 length-words_in : (widths : List ℕ) (lanes : List (List ℕ)) (k : ℕ) → length (words_in widths lanes k) ≡ length widths

@@ -8,12 +8,12 @@ use borrow.Rule.Slice.PartMut.{put_mid}
 use Rattle.std.specs.Int.{bit_at}
 use Rattle.std.proofs.lemmas.Bool.{cases_lt}
 use Rattle.std.proofs.lemmas.Nat.Bits.{bit_at_lowest, bit_at-suc, bit_at-zero, bit_at-lt, same_from_bits_below}
-use Rattle.opgen_num.specs.Words.{digit, nat, word}
+use Rattle.opgen_num.specs.Words.{digit, nat, word, words_of}
 use Rattle.opgen_num.specs.WordLaws.{length-word}
 use Rattle.opgen_num.proofs.Words.{digit-below, nat-below}
 use Rattle.opgen_num.proofs.Cuts.{nat-append}
 use Rattle.opgen_streams.specs.Streams.{streams, bit_in, word_in, words_in}
-use Rattle.opgen_streams.specs.Rows.{row_in, words}
+use Rattle.opgen_streams.specs.Rows.{row_in}
 
 -- words, one after another
 abbrev pub bits_of : List (List Bool) → List Bool
@@ -38,11 +38,11 @@ words_in-same (width ∷ widths) a b k e =
     ∙ ap (λ ws. word_in (take width b) k ∷ ws) (words_in-same widths (drop width a) (drop width b) k others)
 
 pub words_in-bits : (widths numbers : List ℕ) (lanes : List (List ℕ)) (k : ℕ) → length numbers ≡ length widths
-    → word_in lanes k ≡ bits_of (words widths numbers) → words_in widths lanes k ≡ words widths numbers
+    → word_in lanes k ≡ bits_of (words_of widths numbers) → words_in widths lanes k ≡ words_of widths numbers
 words_in-bits [] numbers lanes k len e = refl
 words_in-bits (width ∷ widths) [] lanes k len e = absurd (omega (arith, len))
 words_in-bits (width ∷ widths) (n ∷ numbers) lanes k len e =
-    let rest = bits_of (words widths numbers) in
+    let rest = bits_of (words_of widths numbers) in
     let first : word_in (take width lanes) k ≡ word width n
     = word_in-take width lanes k ∙ ap (take width) e ∙ take_at (word width n) rest width (length-word width n) in
     let others : word_in (drop width lanes) k ≡ rest
@@ -85,14 +85,14 @@ pub word_more : (all : List Bool) (widths row : List ℕ) (lanes new : List (Lis
     → start + sum (drop column widths) ≡ length lanes → column < length widths → length row ≡ length widths → size ≡ get_or widths column 0
     → length new ≡ length (take size (drop start lanes))
     → word_in new stream ≡ word (length (take size (drop start lanes))) (get_or row column 0)
-    → take start (word_in lanes stream) ++ bits_of (words (drop column widths) (drop column row)) ≡ all
+    → take start (word_in lanes stream) ++ bits_of (words_of (drop column widths) (drop column row)) ≡ all
     → take (start + get_or widths column 0) (word_in (put_mid start size lanes new) stream)
-    ++ bits_of (words (drop (column + 1) widths) (drop (column + 1) row)) ≡ all
+    ++ bits_of (words_of (drop (column + 1) widths) (drop (column + 1) row)) ≡ all
 word_more all widths row lanes new start size column stream place within len k same put e =
     let width = get_or widths column 0 in
     let number = get_or row column 0 in
     let before = take start (word_in lanes stream) in
-    let later = bits_of (words (drop (column + 1) widths) (drop (column + 1) row)) in
+    let later = bits_of (words_of (drop (column + 1) widths) (drop (column + 1) row)) in
     let here : column < length row = omega (arith, len, within) in
     let total = sum_by-drop_more (λ n. n) widths column 0 within in
     let size_is : length (take size (drop start lanes)) ≡ width
@@ -103,23 +103,23 @@ word_more all widths row lanes new start size column stream place within len k s
     ∙ map-append (λ vector. bit_in vector stream) (take start lanes) new
     ∙ ap (λ w. w ++ word_in new stream) (word_in-take start lanes stream)
     ∙ ap (λ w. before ++ w) (put ∙ ap (λ n. word n number) size_is) in
-    let next : bits_of (words (drop column widths) (drop column row)) ≡ word width number ++ later
-    = ap (λ ws. bits_of (words ws (drop column row))) (drop_more widths column 0 within)
-    ∙ ap (λ ns. bits_of (words (width ∷ drop (column + 1) widths) ns)) (drop_more row column 0 here) in
+    let next : bits_of (words_of (drop column widths) (drop column row)) ≡ word width number ++ later
+    = ap (λ ws. bits_of (words_of ws (drop column row))) (drop_more widths column 0 within)
+    ∙ ap (λ ns. bits_of (words_of (width ∷ drop (column + 1) widths) ns)) (drop_more row column 0 here) in
     ap (λ w. w ++ later) front ∙ append_assoc before (word width number) later ∙ ap (λ w. before ++ w) (sym next) ∙ e
 
 -- all words of a row
 pub row_put : (widths row : List ℕ) (lanes : List (List ℕ)) (start column stream : ℕ) → start + sum (drop column widths) ≡ length lanes
     → length widths ≤ column → length row ≡ length widths
-    → take start (word_in lanes stream) ++ bits_of (words (drop column widths) (drop column row)) ≡ bits_of (words widths row)
-    → words_in widths lanes stream ≡ words widths row
+    → take start (word_in lanes stream) ++ bits_of (words_of (drop column widths) (drop column row)) ≡ bits_of (words_of widths row)
+    → words_in widths lanes stream ≡ words_of widths row
 row_put widths row lanes start column stream place end len e =
     let none : drop column widths ≡ [] = drop_all column widths end in
     let all : length lanes ≤ start = omega (arith, place, ap sum none) in
-    let bits : word_in lanes stream ≡ bits_of (words widths row)
+    let bits : word_in lanes stream ≡ bits_of (words_of widths row)
     = sym (take_all start (word_in lanes stream) (omega (arith, all, length-map lanes (λ vector. bit_in vector stream))))
     ∙ sym (append-nil (take start (word_in lanes stream)))
-    ∙ ap (λ ws. take start (word_in lanes stream) ++ bits_of (words ws (drop column row))) (sym none)
+    ∙ ap (λ ws. take start (word_in lanes stream) ++ bits_of (words_of ws (drop column row))) (sym none)
     ∙ e in
     words_in-bits widths row lanes stream len bits
 

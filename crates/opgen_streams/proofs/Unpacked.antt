@@ -3,9 +3,10 @@ use Rattle.std.proofs.Common.{◌≡◌, ℕ, ◌+◌, ◌-◌, ◌*◌, ◌^◌
 use Rattle.std.proofs.Math.Nat.{mul-lt-mul_of_pos_right}
 use Rattle.std.proofs.lemmas.Bool.{cases_lt, cases_eq}
 use Rattle.std.proofs.lemmas.Grind.{same_number_lists}
-use Rattle.std.proofs.lemmas.List.{get_or_past, get_or-take, get_or-drop, get_or-set_same, get_or-set_other, length-drop, length-set, length-take}
+use Rattle.std.proofs.lemmas.List.{get_or_past, get_or-take, get_or-set_same, get_or-set_other, length-drop, length-set, length-take}
 use Rattle.opgen_streams.specs.Rows.{row_at}
-use Rattle.opgen_streams.proofs.Places.{saturated, same_column, same_row}
+use Rattle.opgen_streams.proofs.Rows.{cell_at, same_length}
+use Rattle.opgen_streams.proofs.Places.{saturated, same_column}
 
 -- the numbers of the first streams are at places of equal distances, and each other cell is as before
 pub record ArePut (start distance done : ℕ) (numbers : ℕ → ℕ) (old new : List ℕ) : Type 0 where
@@ -127,24 +128,7 @@ module _ (n count first apart : ℕ) (rows : ℕ → List ℕ) (old : List ℕ) 
       past_kept i past = get_or_past new i 0 (omega (arith, past, column.all, before.all)) ∙ sym (get_or_past old i 0 past)
 
 -- all columns
-module _ (n count first apart done : ℕ) (rows : ℕ → List ℕ) (old new : List ℕ) (end : n ≤ done) (limit : done ≤ n)
-    (are : AreUnpacked n count first apart done rows old new) where
-  same_length : (row : ℕ) → length (row_at n row new) ≡ length (row_at n row old)
-  same_length row =
-      omega (
-        arith,
-        are.all,
-        length-take n (drop (row * n) new),
-        length-take n (drop (row * n) old),
-        length-drop (row * n) new,
-        length-drop (row * n) old,
-      )
-
-  cell : (cells : List ℕ) (row i : ℕ) → i < length (row_at n row cells) → get_or (row_at n row cells) i 0 ≡ get_or cells (row * n + i) 0
-  cell cells row i there =
-      get_or-take n (drop (row * n) cells) i 0 (omega (arith, there, length-take n (drop (row * n) cells)))
-      ∙ get_or-drop (row * n) cells i 0
-
+module _ (n count first apart done : ℕ) (rows : ℕ → List ℕ) (old new : List ℕ) (end : n ≤ done) (are : AreUnpacked n count first apart done rows old new) where
   pub rows_put : ((k : ℕ) → length (rows k) ≡ n) → (k : ℕ) → k < count
       → row_at n (first + k * apart) new ≡ take (length (row_at n (first + k * apart) old)) (rows k)
   rows_put wide k within =
@@ -152,20 +136,10 @@ module _ (n count first apart done : ℕ) (rows : ℕ → List ℕ) (old new : L
       let many = length (row_at n row old) in
       let most = length-take n (drop (row * n) old) in
       let rest = length-drop (row * n) old in
+      let same = same_length n row old new are.all in
       same_number_lists (row_at n row new) (take many (rows k))
-      (omega (arith, same_length row, length-take many (rows k), wide k, most))
+      (omega (arith, same, length-take many (rows k), wide k, most))
       (λ i there.
-      let here : i < many = omega (arith, there, same_length row) in
-      cell new row i there ∙ are.put k i within (omega (arith, here, most, end)) (omega (arith, here, most, rest))
+      let here : i < many = omega (arith, there, same) in
+      cell_at n row new i there ∙ are.put k i within (omega (arith, here, most, end)) (omega (arith, here, most, rest))
       ∙ sym (get_or-take many (rows k) i 0 here))
-
-  pub rows_kept : (row : ℕ) → ((k : ℕ) → k < count → row ≡ first + k * apart → ⊥) → row_at n row new ≡ row_at n row old
-  rows_kept row h =
-      let most = length-take n (drop (row * n) old) in
-      same_number_lists (row_at n row new) (row_at n row old) (same_length row) (λ i there.
-      let here : i < length (row_at n row old) = omega (arith, there, same_length row) in
-      let within : i < n = omega (arith, here, most) in
-      cell new row i there
-      ∙ are.kept (row * n + i) (λ k column l m e.
-      h k l (same_row n row i (first + k * apart) column within (omega (arith, m, limit)) e))
-      ∙ sym (cell old row i here))

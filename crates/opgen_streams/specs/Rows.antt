@@ -1,12 +1,7 @@
--- Rows of numbers in streams, one row in a stream: the words of its numbers one after another.
-use Rattle.std.specs.Prelude.{ℕ, ◌*◌, Bool, List, [], ◌∷◌, ◌++◌, map, take, drop, replicate}
-use Rattle.opgen_num.specs.Words.{nat, word}
+-- Rows of numbers, and the row in a stream: the numbers of its words one after another.
+use Rattle.std.specs.Prelude.{ℕ, ◌*◌, List, ◌++◌, map, take, drop, replicate}
+use Rattle.opgen_num.specs.Words.{nat}
 use Rattle.opgen_streams.specs.Streams.{words_in}
-
--- the words of numbers, one for each width
-abbrev pub words : (widths numbers : List ℕ) → List (List Bool)
-words (width ∷ widths) (n ∷ numbers) = word width n ∷ words widths numbers
-words _ _ = []
 
 -- the numbers of the words in a stream
 abbrev pub row_in : (widths : List ℕ) (lanes : List (List ℕ)) (k : ℕ) → List ℕ

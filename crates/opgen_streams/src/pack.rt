@@ -1,8 +1,8 @@
 //! Rows of numbers put into streams: a vector for each bit of each column, columns in order, the lowest bit first.
 ghost use Rattle.std.specs.Prelude.{ℕ, ◌≡◌, ◌<◌, ◌+◌, ◌*◌, ◌/◌, ◌%◌, [], length, sum, slice_index, slice_index_or};
 ghost use Rattle.std.specs.Int.{bit_at};
-ghost use Rattle.opgen_num.specs.Words.{word};
-ghost use Rattle.opgen_streams.specs.Rows.{row_with_zeros, words};
+ghost use Rattle.opgen_num.specs.Words.{word, words_of};
+ghost use Rattle.opgen_streams.specs.Rows.{row_with_zeros};
 ghost use Rattle.opgen_streams.specs.Streams.{streams, word_in, words_in};
 
 use crate::gather::vector_at;
@@ -82,7 +82,7 @@ fn pack_column(cells: &[u128], start: usize, distance: usize, lanes: &mut [u64x4
 pub fn pack_apart(cells: &[u128], first: usize, apart: usize, widths: &[u32], lanes: &mut [u64x4])
     requires lanes { length lanes.old ≡ sum widths.now }
     ensures rows { (k : ℕ) → k < streams → words_in widths.now lanes.new k
-        ≡ words widths.now (row_with_zeros (length widths.now) (first + k * apart) cells.now) }
+        ≡ words_of widths.now (row_with_zeros (length widths.now) (first + k * apart) cells.now) }
     ensures length { length lanes.new ≡ length lanes.old }
 {
     let columns = widths.len();

@@ -88,8 +88,8 @@ pub fn unpack_apart(
     requires apart { 0 < apart }
     ensures put { (k : ℕ) → k < count → row_at (length widths.now) (first + k * apart) cells.new
         ≡ take (length (row_at (length widths.now) (first + k * apart) cells.old)) (row_in widths.now lanes.now k) }
-    ensures kept { (row : ℕ) → ((k : ℕ) → k < count → ¬ row ≡ first + k * apart)
-        → row_at (length widths.now) row cells.new ≡ row_at (length widths.now) row cells.old }
+    ensures kept { (i : ℕ) → ((k column : ℕ) → k < count → column < length widths.now → ¬ i ≡ (first + k * apart) * length widths.now + column)
+        → slice_index cells.new i ≡ slice_index cells.old i }
     ensures length { length cells.new ≡ length cells.old }
 {
     let columns = widths.len();

@@ -26,12 +26,13 @@ use Rattle.opgen_operator.specs.declared.spec.Taps.{Taps}
 use Rattle.opgen_operator.specs.Exact.{weighted}
 use Rattle.opgen_operator.specs.Fits.{FitsOperator, FitsSpecsOf}
 use Rattle.opgen_operator.specs.Held.{OutputsHold}
-use Rattle.opgen_operator.specs.Judged.{output_words}
+use Rattle.opgen_operator.specs.PortNumbers.{output_words}
 use Rattle.opgen_operator.specs.OddParts.{odd_part}
 use Rattle.opgen_operator.specs.Outputs.{reach_of, reach_over, rises, falls, above_zero, below_zero}
 use Rattle.opgen_operator.specs.Ports.{taps_format, operator_outputs}
 use Rattle.opgen_operator.specs.Ranges.{IsTaps, IsWithin}
 use Rattle.opgen_operator.proofs.Accepted.{accepted_ranges, some_width}
+use Rattle.opgen_operator.proofs.InputPorts.{input_bit}
 use Rattle.opgen_operator.proofs.Widths.{taps_width}
 use Rattle.opgen_graph.specs.declared.ranks.Graph.{Graph}
 use Rattle.opgen_graph.specs.Parts.{parts_of, with_parts}
@@ -47,12 +48,12 @@ use Rattle.opgen_graph.proofs.PartNodes.{all-made}
 use Rattle.opgen_graph.proofs.Products.{Ready, ready_nodes, zeros-has}
 use Rattle.opgen_graph.proofs.Residues.{Has, has, settled}
 use Rattle.opgen_graph.proofs.ServedNets as served
-use Rattle.opgen_graph.proofs.Sums.{Answers}
+use Rattle.opgen_graph.proofs.Sums.{IsPlacedNode}
 use Rattle.opgen_tfir.specs.declared.sums.Products.{Products}
 use Rattle.opgen_tfir.specs.Recipe.{all_zero, with_taps, with_multiples, products_of, sum_from, net_of_taps}
 use Rattle.opgen_tfir.specs.Steps.{HasProducts, IsTap}
 use Rattle.opgen_tfir.specs.Sums.{recent, HasSums}
-use Rattle.opgen_tfir.proofs.Chains.{taps-answers, taps-last, taps-later}
+use Rattle.opgen_tfir.proofs.Chains.{taps-placed, taps-last, taps-later}
 use Rattle.opgen_tfir.proofs.Values.{taps-has}
 use Rattle.opgen_tfir.proofs.Zeros.{all-zeros, zeros-weighted}
 
@@ -138,7 +139,7 @@ module _ (f : Taps) (accepted : IsAcceptedTaps f) (graph : Graph) (serves : Serv
           later = later-same (with_input f.input) valid;
           ready = record {
             valid = valid;
-            has_input = record { some = served.some_input f.input ranges.input; width = refl };
+            has_input = record { some = input_bit f.input ranges.input; width = refl };
             each = All-nil (IsMultiple f.input (with_input f.input));
           };
           taps = All-weaker (λ t. t ≡ pos 0) (HasOddPart []) (λ t z some. absurd (some z)) f.taps (all-zeros f.taps e);
@@ -191,16 +192,16 @@ module _ (f : Taps) (accepted : IsAcceptedTaps f) (graph : Graph) (serves : Serv
             taps-last p wide made.net start.ready.valid nodes t ts rest
             ∙ ap (with_constant p.signed p.width made) (zeros 0 (pos 0) (omega arith))
 
-    pub sum-answers : Answers made.net bits whole_sum
-    sum-answers = go (all_zero f.taps) refl
+    pub sum-placed : IsPlacedNode made.net bits whole_sum
+    sum-placed = go (all_zero f.taps) refl
       where
-        go : (b : Bool) → all_zero f.taps ≡ b → Answers made.net bits whole_sum
+        go : (b : Bool) → all_zero f.taps ≡ b → IsPlacedNode made.net bits whole_sum
         go true e =
-            subst (Answers made.net bits) (sym (zero-sum e)) (record {
+            subst (IsPlacedNode made.net bits) (sym (zero-sum e)) (record {
               later = later-node made.net (Constant (word 1 0)) start.ready.valid (omega arith, omega arith) refl;
               width = width-append_last made.net.nodes (Constant (word 1 0)) ∙ sym (zero-width f e);
             })
-        go false e = taps-answers p wide made.net start.ready.valid nodes f.taps start.taps e
+        go false e = taps-placed p wide made.net start.ready.valid nodes f.taps start.taps e
 
     pub sum-has : (inputs : Inputs) (t : ℤ) → All (AreWords (input_widths made.net)) inputs
         → Has bits (weighted f.taps (recent f.input inputs t)) (flow whole_sum.net.nodes inputs whole_sum.place t)
@@ -226,13 +227,13 @@ module _ (f : Taps) (accepted : IsAcceptedTaps f) (graph : Graph) (serves : Serv
     output = record { name = codes "y"; from = whole bits whole_sum.place }
 
     pub output-lies : LiesWithin (widths whole_sum.net.nodes) output.from
-    output-lies = (omega arith, omega (arith, sum-answers.width, wide.0))
+    output-lies = (omega arith, omega (arith, sum-placed.width, wide.0))
 
     pub net-valid : IsValid net
-    net-valid = valid-output whole_sum.net output sum-answers.later.valid output-lies
+    net-valid = valid-output whole_sum.net output sum-placed.later.valid output-lies
 
     whole-later : Later (with_input f.input) whole_sum.net
-    whole-later = later-then (with_input f.input) made.net whole_sum.net start.later sum-answers.later
+    whole-later = later-then (with_input f.input) made.net whole_sum.net start.later sum-placed.later
 
     pub net-inputs : net.inputs ≡ (codes "x", f.input.width) ∷ []
     net-inputs = whole-later.grown.inputs
@@ -243,7 +244,7 @@ module _ (f : Taps) (accepted : IsAcceptedTaps f) (graph : Graph) (serves : Serv
     -- the words of the net's inputs are those of the net before the sums
     for_made : (inputs : Inputs) → All (AreWords (input_widths net)) inputs → All (AreWords (input_widths made.net)) inputs
     for_made inputs words =
-        words-back made.net whole_sum.net (keeps-later made.net whole_sum.net sum-answers.later) inputs words
+        words-back made.net whole_sum.net (keeps-later made.net whole_sum.net sum-placed.later) inputs words
 
     pub sums-hold : HasSums f graph net
     sums-hold k some inputs t words =
@@ -252,7 +253,7 @@ module _ (f : Taps) (accepted : IsAcceptedTaps f) (graph : Graph) (serves : Serv
         let odd = All-drop (HasOddPart made.known) k f.taps start.taps in
         let small = All-drop (IsWithin 2047) k f.taps ranges.taps in
         let h = taps-has f.input bits made.known wide made.net start.later start.ready ts odd small some inputs t (for_made inputs words) in
-        let answers = taps-answers p wide made.net start.ready.valid nodes ts odd some in
+        let answers = taps-placed p wide made.net start.ready.valid nodes ts odd some in
         let later = taps-later p wide made.net start.ready.valid nodes f.taps k start.taps some in
         let there = node_there z.net z.place bits wide.0 answers.width in
         subst (λ w. IsResidue bits (weighted ts (recent f.input inputs t)) (nat w))
@@ -278,7 +279,7 @@ module _ (f : Taps) (accepted : IsAcceptedTaps f) (graph : Graph) (serves : Serv
             let now = words-back old made.net (keeps-later old made.net start.later) inputs (for_made inputs words) in
             let long : length v ≡ f.input.width = flow-width old valid inputs now 0 u in
             subst (λ n. Holds f.input.signed n (val v f.input)) long
-            (val_holds v f.input (omega (arith, long, served.some_input f.input ranges.input)))
+            (val_holds v f.input (omega (arith, long, input_bit f.input ranges.input)))
 
     whole-width : slice_width output.from ≡ bits
     whole-width = omega (arith, wide.0)

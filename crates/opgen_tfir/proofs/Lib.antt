@@ -3,4 +3,3 @@ pub mod Chains
 pub mod Steps
 pub mod Values
 pub mod Filters
-pub mod Named

@@ -8,11 +8,11 @@ use Rattle.opgen_net.specs.Placed.{Placed}
 use Rattle.opgen_net.specs.Valid.{IsValid}
 use Rattle.opgen_net.proofs.Later.{later-then}
 use Rattle.opgen_graph.specs.Placing.{HasOddPart}
-use Rattle.opgen_graph.proofs.Sums.{Answers}
+use Rattle.opgen_graph.proofs.Sums.{IsPlacedNode}
 use Rattle.opgen_tfir.specs.declared.sums.Products.{Products}
 use Rattle.opgen_tfir.specs.Recipe.{all_zero, with_product, delayed, with_taps}
 use Rattle.opgen_tfir.specs.Steps.{HasProducts, IsLast, IsTap}
-use Rattle.opgen_tfir.proofs.Chains.{delayed-answers, nodes-later, taps-answers, taps-more}
+use Rattle.opgen_tfir.proofs.Chains.{delayed-placed, nodes-later, taps-placed, taps-more}
 
 module _ (p : Products) (net : Net) (valid : IsValid net) (has : HasProducts net p) (taps : List ℤ) (are : All (IsTap p) taps)
     (last : ℕ) (is : IsLast taps last) (k : ℕ) (low : 0 < k) (high : k ≤ last) where
@@ -24,19 +24,19 @@ module _ (p : Products) (net : Net) (valid : IsValid net) (has : HasProducts net
       let next : k - 1 + 1 ≡ k = omega (arith, low) in
       subst (λ n. all_zero (drop n taps) ≡ false) next (is.some (k - 1) (omega (arith, low, high)))
 
-  pub sum-answers : Answers net p.width sum
-  sum-answers =
-      taps-answers p has.wide net valid has.nodes (drop k taps)
+  pub sum-placed : IsPlacedNode net p.width sum
+  sum-placed =
+      taps-placed p has.wide net valid has.nodes (drop k taps)
       (All-drop (HasOddPart p.parts) k taps (All-weaker (IsTap p) (HasOddPart p.parts) (λ (t : ℤ) (h : IsTap p t). h.odd) taps are)) some_later
 
-  pub delay-answers : Answers sum.net p.width (delayed sum)
-  delay-answers = delayed-answers p.width sum sum-answers.later.valid has.wide sum-answers.width
+  pub delay-placed : IsPlacedNode sum.net p.width (delayed sum)
+  delay-placed = delayed-placed p.width sum sum-placed.later.valid has.wide sum-placed.width
 
   pub products-now : HasProducts (delayed sum).net p
   products-now = record {
     wide = has.wide;
     nodes = nodes-later p has.wide net valid has.nodes (delayed sum).net
-        (later-then net sum.net (delayed sum).net sum-answers.later delay-answers.later);
+        (later-then net sum.net (delayed sum).net sum-placed.later delay-placed.later);
   }
 
   pub next-sum : with_product p (get_or taps (k - 1) (pos 0)) (delayed sum) ≡ with_taps p net (drop (k - 1) taps)

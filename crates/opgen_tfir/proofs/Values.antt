@@ -22,14 +22,14 @@ use Rattle.opgen_graph.specs.declared.multiples.Multiple.{Multiple}
 use Rattle.opgen_graph.specs.Placing.{HasOddPart, IsMultiple}
 use Rattle.opgen_graph.specs.Recipe.{Multiples, with_input, with_magnitude, with_constant}
 use Rattle.opgen_graph.proofs.Kept.{keeps-later, input-kept, multiple-kept}
-use Rattle.opgen_graph.proofs.Products.{Ready, ready_nodes, magnitude-answers, magnitude-has, negated-has}
+use Rattle.opgen_graph.proofs.Products.{Ready, ready_nodes, magnitude-placed, magnitude-has, negated-has}
 use Rattle.opgen_graph.proofs.Residues.{Has, has, sum-has, difference-has}
-use Rattle.opgen_graph.proofs.Sums.{Answers}
+use Rattle.opgen_graph.proofs.Sums.{IsPlacedNode}
 use Rattle.opgen_tfir.specs.declared.sums.Products.{Products}
 use Rattle.opgen_tfir.specs.Recipe.{all_zero, result, joined, with_product, delayed, with_taps}
 use Rattle.opgen_tfir.specs.Sums.{recent}
 use Rattle.opgen_tfir.proofs.Zeros.{first-some, zeros-weighted, weighted-later}
-use Rattle.opgen_tfir.proofs.Chains.{delayed-answers, taps-answers}
+use Rattle.opgen_tfir.proofs.Chains.{delayed-placed, taps-placed}
 
 before-is : (t : ℤ) (k : ℕ) → before t -ℤ pos k ≡ t -ℤ pos (k + 1)
 before-is (pos zero) k = omega (arith, ints)
@@ -68,7 +68,7 @@ module _ (input : Format) (bits : ℕ) (parts : List Multiple) (wide : IsWidth b
     abbrev x : ℤ
     x = val (flow d.net.nodes inputs 0 t) input
 
-    kept-has : (m : Placed) → Answers d.net bits m → (z : ℤ) → d.place < length d.net.nodes → Has bits z (flow d.net.nodes inputs d.place t)
+    kept-has : (m : Placed) → IsPlacedNode d.net bits m → (z : ℤ) → d.place < length d.net.nodes → Has bits z (flow d.net.nodes inputs d.place t)
         → Has bits z (flow m.net.nodes inputs d.place t)
     kept-has m made z there h = subst (Has bits z) (sym (grown-flow d.net m.net made.later.grown inputs d.place t there)) h
 
@@ -99,13 +99,13 @@ module _ (input : Format) (bits : ℕ) (parts : List Multiple) (wide : IsWidth b
     product-has (pos (suc n)) z small odd there h =
         let m = with_magnitude input.signed bits b (suc n) in
         let part = odd (λ e. cc) in
-        let made = magnitude-answers input.signed b ready.valid (ready_nodes input b ready) bits wide (suc n) part in
+        let made = magnitude-placed input.signed b ready.valid (ready_nodes input b ready) bits wide (suc n) part in
         joined-has false m (x *ℤ pos (suc n)) z (kept-has m made z there h)
         (magnitude-has input b ready bits wide (suc n) (omega arith) (small_number (pos (suc n)) small) part inputs t words)
     product-has (negsuc n) z small odd there h =
         let m = with_magnitude input.signed bits b (suc n) in
         let part = odd (λ e. cc) in
-        let made = magnitude-answers input.signed b ready.valid (ready_nodes input b ready) bits wide (suc n) part in
+        let made = magnitude-placed input.signed b ready.valid (ready_nodes input b ready) bits wide (suc n) part in
         has bits _ _ _ (added z n)
         (joined-has true m (x *ℤ pos (suc n)) z (kept-has m made z there h)
         (magnitude-has input b ready bits wide (suc n) (omega arith) (small_number (negsuc n) small) part inputs t words))
@@ -122,7 +122,7 @@ module _ (input : Format) (bits : ℕ) (parts : List Multiple) (wide : IsWidth b
     end-has (negsuc n) some small odd =
         let m = with_magnitude input.signed bits b (suc n) in
         let part = odd (λ e. cc) in
-        let made = magnitude-answers input.signed b ready.valid (ready_nodes input b ready) bits wide (suc n) part in
+        let made = magnitude-placed input.signed b ready.valid (ready_nodes input b ready) bits wide (suc n) part in
         has bits _ _ _ (opposite n)
         (negated-has bits m made.later.valid wide made.width (x *ℤ pos (suc n)) inputs t
         (magnitude-has input b ready bits wide (suc n) (omega arith) (small_number (negsuc n) small) part inputs t words))
@@ -165,8 +165,8 @@ module _ (input : Format) (bits : ℕ) (parts : List Multiple) (wide : IsWidth b
             let r = recent input inputs t in
             let z = with_taps p net ts in
             let d = delayed z in
-            let of_z = taps-answers p wide net ready.valid (ready_nodes input start ready) ts (All-tail (HasOddPart parts) c ts odd) e in
-            let of_d = delayed-answers bits z of_z.later.valid wide of_z.width in
+            let of_z = taps-placed p wide net ready.valid (ready_nodes input start ready) ts (All-tail (HasOddPart parts) c ts odd) e in
+            let of_d = delayed-placed bits z of_z.later.valid wide of_z.width in
             let later = later-then net z.net d.net of_z.later of_d.later in
             let w = weighted ts (recent input inputs (before t)) in
             let h : Has bits w (flow d.net.nodes inputs d.place t) =

@@ -1,7 +1,5 @@
 //! Builds the net of a transposed filter from the adder graph of its taps.
-ghost use Rattle.std.specs.Prelude.{◌≡◌, ℕ, List, IsTrue, IfOk};
-ghost use Rattle.opgen_names.specs.Names.{is_allowed_name};
-ghost use Rattle.opgen_net.specs.Named.{IsNamed};
+ghost use Rattle.std.specs.Prelude.{◌≡◌, IfOk};
 ghost use Rattle.opgen_net.specs.Valid.{IsValid};
 ghost use Rattle.opgen_operator.specs.Accepted.{IsAcceptedTaps};
 ghost use Rattle.opgen_operator.specs.Fits.{FitsSpecsOf};
@@ -52,7 +50,6 @@ pub fn build(alloc: Global, taps: &Taps, graph: &Graph) -> Result<Net, Memory>
     ensures net { IfOk result (λ net. net ≡ net_of_taps taps.now graph.now) }
     ensures sums { IfOk result (HasSums taps.now graph.now) }
     ensures fits { IfOk result (FitsSpecsOf (Tfir taps.now)) }
-    ensures named { IfOk result (λ net. (name : List ℕ) → IsTrue (is_allowed_name name) → IsNamed name net) }
 {
     outputs_hold();
     let width = taps.output().width;

@@ -2,7 +2,7 @@
 use Rattle.std.proofs.Common.{◌≡◌, inl, inr, ℕ, Bool, true, false, cond, List, ◌++◌, length, Option, Some, None, Ok, Err, refl, ap, ◌∙◌, arith}
 use Rattle.std.specs.Prelude.{nat_le}
 use Rattle.opgen_command.specs.declared.command.Command.TheVariants.{Generate}
-use Rattle.opgen_io.specs.Answers.{fetched}
+use Rattle.opgen_io.specs.Fetched.{fetched}
 use Rattle.opgen_io.specs.Files.{Files}
 use Rattle.opgen_io.specs.declared.folder.FetchFault.TheVariants as fetch
 use Rattle.opgen_operator.specs.declared.spec.Spec.{Spec}

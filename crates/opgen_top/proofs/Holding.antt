@@ -1,9 +1,9 @@
 -- The rows of vectors without cells.
 use Rattle.std.proofs.Common.{◌≡◌, ℕ, zero, suc, List, [], ◌∷◌, length, refl, sym, subst, arith}
 use Rattle.std.specs.Str.Lines.{lines}
+use Rattle.opgen_num.specs.Words.{AreRowsOfCells}
 use Rattle.opgen_vec.specs.Reading.{AreVectors}
-use Rattle.opgen_vec.specs.Rows.{AreRowsOfCells}
-use Rattle.opgen_top.specs.declared.run_rows.Rows.{Rows}
+use Rattle.opgen_top.specs.declared.rows.Rows.{Rows}
 use Rattle.opgen_top.specs.Prepared.{HoldsRows}
 
 empty_rows : (rows : ℕ) → AreRowsOfCells [] rows []

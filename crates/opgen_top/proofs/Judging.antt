@@ -3,13 +3,13 @@ use Rattle.std.proofs.Common.{◌≡◌, ℕ, zero, suc, ◌*◌, ◌^◌, ◌<�
 use Rattle.std.specs.Prelude.{All}
 use Rattle.std.specs.List.{concat}
 use Rattle.std.proofs.lemmas.List.Elements.{All-nil, All-cons, All-append}
-use Rattle.opgen_num.specs.Words.{nat}
+use Rattle.opgen_num.proofs.RowsOfCells.{length-rows_of_cells}
+use Rattle.opgen_num.specs.Words.{nat, AreRowsOfCells}
 use Rattle.opgen_design.specs.declared.design.Design.{Design}
 use Rattle.opgen_design.specs.Run.{Cycle, RunsOn, Words, at_ports, input_widths, is_in, is_out}
-use Rattle.opgen_design.specs.Run.{outputs_of as design_outputs}
-use Rattle.opgen_vec.specs.Rows.{AreRowsOfCells}
+use Rattle.opgen_design.specs.Run.{words_at_outputs}
 use Rattle.opgen_operator.specs.declared.spec.Spec.{Spec}
-use Rattle.opgen_operator.specs.Judged.{format_at}
+use Rattle.opgen_operator.specs.PortNumbers.{format_at}
 use Rattle.opgen_operator.specs.Ports.{inputs_of, outputs_of}
 use Rattle.opgen_vec.specs.Stimulus.{stimulus_cells}
 use Rattle.opgen_workload.specs.Filter.{workload_spec}
@@ -18,8 +18,7 @@ use Rattle.opgen_top.specs.Circuit.{ports_for}
 use Rattle.opgen_lanes.specs.Steps.{output_widths}
 use Rattle.opgen_runs.specs.Rows.{IsRunOf, output_cells}
 use Rattle.opgen_top.specs.Workload.{RunsGood, cycles, workload_cells}
-use Rattle.opgen_vec.proofs.Rows.{length-rows_of_cells}
-use Rattle.opgen_top.proofs.Columns.{widths_on}
+use Rattle.opgen_sim.proofs.PortWidths.{widths_on}
 use Rattle.opgen_top.proofs.RunRows.{length-run}
 use Rattle.opgen_top.proofs.ServedPorts.{served_widths}
 use Rattle.opgen_runs.proofs.Rows.{at_ports-map, nat-below}
@@ -42,7 +41,7 @@ one_below width (w ∷ x ∷ ws) e = absurd (cc)
 
 module _ (d : Design) (width : ℕ) (one : output_widths d ≡ width ∷ []) where
   cycle_below : (now given next : List (List Bool)) (v : Words) → Cycle d now given v next → All (IsBelow width) (output_cells d v)
-  cycle_below now given next v c = one_below width (design_outputs d v) (at_ports-map length is_out d.ports v.ports
+  cycle_below now given next v c = one_below width (words_at_outputs d v) (at_ports-map length is_out d.ports v.ports
       ∙ ap (at_ports is_out d.ports) c.port_widths ∙ one)
 
   run_below : (now : List (List Bool)) (inputs : List (List (List Bool))) (vs : List Words) → RunsOn d now inputs vs

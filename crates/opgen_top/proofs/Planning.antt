@@ -4,6 +4,7 @@ use Rattle.std.specs.Prelude.{codes, slice_get}
 use Rattle.std.proofs.lemmas.List.{length-map}
 use Rattle.std.proofs.lemmas.List.Filters.{length-filter_both}
 use Rattle.opgen_num.specs.declared.format.Format.{Format}
+use Rattle.opgen_design.specs.declared.design.TheConstants.{MAX_SIGNALS}
 use Rattle.opgen_design.specs.declared.design.Driver.{Driver}
 use Rattle.opgen_design.specs.declared.design.Driver.TheVariants.{Assign, Choice, Table, Register, Output}
 use Rattle.opgen_design.specs.Order.{is_register}
@@ -94,7 +95,7 @@ other_kind (Output place e) = refl
 
 -- the design of a net with few ports and signals has few of all
 few_places : (name : List ℕ) (enable : Bool) (net : Net) (s : Schedule) → length net.inputs ≤ 2 → length net.outputs ≤ 8
-    → signal_count net s ≤ 65536 → HasNumbers (design_of name enable net s)
+    → signal_count net s ≤ MAX_SIGNALS → HasNumbers (design_of name enable net s)
 few_places name enable net s inputs outputs few =
     let first = length (enable_inputs enable) in
     let nodes = all_of (node_drivers first (standings net s)) 0 net.nodes in

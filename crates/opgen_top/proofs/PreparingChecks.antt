@@ -1,6 +1,8 @@
 -- From what a specification, VHDL and vectors give to what `check` answers to its files.
 use Rattle.std.proofs.Common.{◌≡◌, ◌⊎◌, inl, inr, ℕ, zero, suc, ◌*◌, ◌≤◌, List, [], ◌∷◌, length, Option, Some, Result, Ok, Err, refl, sym, ap, ◌∙◌, subst, arith}
 use Rattle.std.specs.Str.Lines.{lines}
+use Rattle.opgen_num.specs.Words.{AreRowsOfCells}
+use Rattle.opgen_num.proofs.RowsOfCells.{length-rows_of_cells}
 use Rattle.opgen_check.specs.declared.checked.Checked.{Checked}
 use Rattle.opgen_check.specs.declared.checked.Checked.TheVariants.{Good, Bad}
 use Rattle.opgen_check.specs.Ports.{PortsAgree}
@@ -9,20 +11,19 @@ use Rattle.opgen_check.proofs.Sides.{in_columns}
 use Rattle.opgen_command.specs.declared.command.Command.TheVariants.{Check}
 use Rattle.opgen_design.specs.declared.design.Design.{Design}
 use Rattle.opgen_design.specs.Run.{input_widths}
-use Rattle.opgen_io.specs.Answers.{fetched}
+use Rattle.opgen_io.specs.Fetched.{fetched}
 use Rattle.opgen_io.specs.Files.{Files}
 use Rattle.opgen_operator.specs.declared.spec.Spec.{Spec}
+use Rattle.opgen_operator.proofs.InputPorts.{some_input}
 use Rattle.opgen_spec.specs.declared.fault.SpecFault.{SpecFault}
 use Rattle.opgen_spec.specs.Document.{tree}
 use Rattle.opgen_spec.specs.Faults.{read}
 use Rattle.opgen_vec.specs.Reading.{IsReading}
-use Rattle.opgen_vec.specs.Rows.{AreRowsOfCells}
 use Rattle.opgen_vec.specs.Writing.{row_count}
-use Rattle.opgen_vec.proofs.Rows.{length-rows_of_cells}
 use Rattle.opgen_top.specs.declared.answer.Answer.{Answer as Held}
 use Rattle.opgen_top.specs.declared.answer.Refusal.{Refusal}
 use Rattle.opgen_top.specs.declared.answer.Refusal.TheVariants as refusals
-use Rattle.opgen_top.specs.declared.run_rows.Rows.{Rows}
+use Rattle.opgen_top.specs.declared.rows.Rows.{Rows}
 use Rattle.opgen_top.specs.Answer.{Answer, all_good, bad_row, ports_refused}
 use Rattle.opgen_top.specs.Check.{GivesRows, IsAnswerToCheck, IsAnswerToVhdl}
 use Rattle.opgen_top.specs.Due.{most_bytes, most_simulated_bytes, OnFetch, IsAnswerOf}
@@ -33,7 +34,6 @@ use Rattle.opgen_top.specs.Specified.{OnReading}
 use Rattle.opgen_top.specs.Targets.{Device}
 use Rattle.opgen_top.proofs.Columns.{counted}
 use Rattle.opgen_top.proofs.Listed.{listed_refusal, listed_success}
-use Rattle.opgen_top.proofs.Naming.{some_input}
 use Rattle.opgen_top.proofs.PreparingSpecs.{status_of}
 use Rattle.opgen_top.proofs.SpecCases.{on_reading-map, reading_ok}
 use Rattle.opgen_top.proofs.Unfetched.{on_fetch, on_missing, on_longer, unfetched, unfetched-before}

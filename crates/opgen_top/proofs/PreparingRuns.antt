@@ -5,14 +5,14 @@ use Rattle.std.specs.Str.Lines.{lines}
 use Rattle.opgen_command.specs.declared.command.Command.TheVariants.{Simulate}
 use Rattle.opgen_design.specs.declared.design.Design.{Design}
 use Rattle.opgen_design.specs.Run.{input_widths}
-use Rattle.opgen_io.specs.Answers.{fetched}
+use Rattle.opgen_io.specs.Fetched.{fetched}
 use Rattle.opgen_io.specs.Files.{Files}
 use Rattle.opgen_vec.specs.declared.fault.VecFault.TheVariants as vector_faults
 use Rattle.opgen_vec.specs.Reading.{IsReading}
 use Rattle.opgen_top.specs.declared.answer.Answer.{Answer as Held}
 use Rattle.opgen_top.specs.declared.answer.Refusal.{Refusal}
 use Rattle.opgen_top.specs.declared.answer.Refusal.TheVariants as refusals
-use Rattle.opgen_top.specs.declared.run_rows.Rows.{Rows}
+use Rattle.opgen_top.specs.declared.rows.Rows.{Rows}
 use Rattle.opgen_top.specs.Answer.{Answer, file as stored_file, success, vhdl_refused, vectors_refused}
 use Rattle.opgen_top.specs.Due.{most_simulated_bytes, OnFetch, IsAnswerOf}
 use Rattle.opgen_top.specs.Lines.{simulated_line}

@@ -5,7 +5,7 @@ use Rattle.std.specs.declared.alloc.Global.{Global}
 use Rattle.opgen_command.specs.declared.command.Command.{Command}
 use Rattle.opgen_command.specs.declared.command.Command.TheVariants.{Generate, Vectors}
 use Rattle.opgen_design.specs.declared.design.Design.{Design}
-use Rattle.opgen_io.specs.Answers.{fetched}
+use Rattle.opgen_io.specs.Fetched.{fetched}
 use Rattle.opgen_io.specs.Files.{Files}
 use Rattle.opgen_operator.specs.declared.spec.Spec.{Spec}
 use Rattle.opgen_operator.specs.SpecName.{is_spec_name}

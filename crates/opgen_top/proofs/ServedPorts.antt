@@ -8,8 +8,9 @@ use Rattle.opgen_design.specs.Run.{at_ports, is_in, input_widths}
 use Rattle.opgen_operator.specs.declared.spec.PortFormat.{PortFormat}
 use Rattle.opgen_operator.specs.declared.spec.Spec.{Spec}
 use Rattle.opgen_operator.specs.Ports.{inputs_of, outputs_of}
-use Rattle.opgen_vec.proofs.Draws.{some_input}
-use Rattle.opgen_top.specs.Circuit.{port_of, ports_for}
+use Rattle.opgen_operator.proofs.InputPorts.{some_input}
+use Rattle.opgen_check.specs.Ports.{port_of}
+use Rattle.opgen_top.specs.Circuit.{ports_for}
 
 abbrev side : List Port → List ℕ
 side ps = at_ports is_in ps (map (λ p. p.width) ps)

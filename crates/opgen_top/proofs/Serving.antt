@@ -1,13 +1,13 @@
 -- The design of a net that fits a specification serves it, at each schedule that fits a period.
 use Rattle.std.proofs.Common.{◌≡◌, ℕ, zero, suc, ◌+◌, ◌<◌, ◌≤◌, ◌^◌, Bool, true, false, List, [], ◌∷◌, ◌++◌, length, map, Some, refl, sym, ap, ◌∙◌, subst, arith}
 use Rattle.std.specs.Prelude.{pos, All, slice_get}
-use Rattle.std.proofs.lemmas.List.{map-append}
+use Rattle.std.proofs.lemmas.List.{append_assoc, map-append}
 use Rattle.std.proofs.lemmas.Option.{slice_get_within}
 use Rattle.std.proofs.lemmas.Simd.{map-map}
 use Rattle.opgen_design.specs.declared.design.Design.{Design}
 use Rattle.opgen_design.specs.declared.design.Dir.TheVariants.{In, Out}
 use Rattle.opgen_design.specs.declared.design.Port.{Port}
-use Rattle.opgen_design.specs.Run.{Words, Run, AreWords, at_ports, is_in, outputs_of}
+use Rattle.opgen_design.specs.Run.{Words, Run, AreWords, at_ports, is_in, words_at_outputs}
 use Rattle.opgen_net.specs.declared.net.Net.{Net}
 use Rattle.opgen_net.specs.declared.net.Output.{Output}
 use Rattle.opgen_net.specs.Flow.{Inputs, before, slice_flow}
@@ -17,8 +17,8 @@ use Rattle.opgen_net.specs.Valid.{slice_width, input_widths as net_widths}
 use Rattle.opgen_operator.specs.declared.spec.Spec.{Spec}
 use Rattle.opgen_operator.specs.Fits.{FitsSpec, name_and_width}
 use Rattle.opgen_operator.specs.Good.{IsGood, IsInRange}
-use Rattle.opgen_operator.specs.Judged.{recent_words, output_words}
-use Rattle.opgen_operator.specs.Ports.{inputs_of as spec_inputs, outputs_of as spec_outputs}
+use Rattle.opgen_operator.specs.PortNumbers.{recent_words, output_words}
+use Rattle.opgen_operator.specs.Ports.{inputs_of as spec_inputs, outputs_of}
 use Rattle.opgen_pipe.specs.Copies.{net_latency, signal_count}
 use Rattle.opgen_pipe.specs.Laws.{FollowsFlow, counted, net_inputs}
 use Rattle.opgen_pipe.specs.Pipelined.{design_of, enable_inputs, ports_of}
@@ -26,7 +26,8 @@ use Rattle.opgen_pipe.specs.Times.{ago}
 use Rattle.opgen_pipe.proofs.Soundness.{design_sound}
 use Rattle.opgen_schedule.specs.Schedule.{Schedule, Fits}
 use Rattle.opgen_runs.proofs.OneRun.{one-run}
-use Rattle.opgen_top.specs.Circuit.{port_of, ports_for, Serves}
+use Rattle.opgen_check.specs.Ports.{port_of}
+use Rattle.opgen_top.specs.Circuit.{ports_for, Serves}
 use Rattle.opgen_top.proofs.Taken.{run_words, run_long, taken_long, taken_words, widths_after}
 
 -- so many cycles back from as many cycles on
@@ -60,11 +61,11 @@ module _ (spec : Spec) (net : Net) (fits : FitsSpec spec net) (enable : Bool) wh
   inputs_are : map input_port net.inputs ≡ map (port_of In) (spec_inputs spec)
   inputs_are = ap (map input_port) fits.inputs ∙ map-map input_port name_and_width (spec_inputs spec)
 
-  outputs_are : map output_port net.outputs ≡ map (port_of Out) (spec_outputs spec)
+  outputs_are : map output_port net.outputs ≡ map (port_of Out) (outputs_of spec)
   outputs_are =
       sym (map-map out_port (λ (o : Output). (o.name, slice_width o.from)) net.outputs)
       ∙ ap (map out_port) fits.outputs
-      ∙ map-map out_port name_and_width (spec_outputs spec)
+      ∙ map-map out_port name_and_width (outputs_of spec)
 
   -- the ports are those that the specification asks for
   pub made_ports : ports_of enable net ≡ ports_for spec enable
@@ -72,6 +73,7 @@ module _ (spec : Spec) (net : Net) (fits : FitsSpec spec net) (enable : Bool) wh
       ap (λ ps. ps ++ map output_port net.outputs) (map-append input_port (enable_inputs enable) net.inputs
       ∙ ap (λ ps. map input_port (enable_inputs enable) ++ ps) inputs_are)
       ∙ ap (λ ps. (map input_port (enable_inputs enable) ++ map (port_of In) (spec_inputs spec)) ++ ps) outputs_are
+      ∙ append_assoc (map input_port (enable_inputs enable)) (map (port_of In) (spec_inputs spec)) (map (port_of Out) (outputs_of spec))
 
   module _ (name : List ℕ) (named : IsNamed name net) (delays : List ℕ) (setup period : ℕ) (s : Schedule)
       (fit : Fits net.nodes delays setup period s) (few : signal_count net s ≤ 2 ^ 64)
@@ -93,7 +95,7 @@ module _ (spec : Spec) (net : Net) (fits : FitsSpec spec net) (enable : Bool) wh
         → slice_get (counted enable vs vs) (t + net_latency net s) ≡ Some v
         → IsInRange spec (recent_words (spec_inputs spec) (net_inputs enable (counted enable vs inputs)) t)
         → IsGood spec (recent_words (spec_inputs spec) (net_inputs enable (counted enable vs inputs)) t)
-        (output_words (spec_outputs spec) (outputs_of (design_of name enable net s) v))
+        (output_words (outputs_of spec) (words_at_outputs (design_of name enable net s) v))
     good inputs vs run t v there range =
         let l = net_latency net s in
         let taken = net_inputs enable (counted enable vs inputs) in
@@ -103,10 +105,10 @@ module _ (spec : Spec) (net : Net) (fits : FitsSpec spec net) (enable : Bool) wh
           slice_get_within (counted enable vs vs) (t + l) v there,
           taken_long enable inputs vs (run_long (design_of name enable net s) _ inputs vs run),
         ) in
-        let words : outputs_of (design_of name enable net s) v ≡ map (λ o. slice_flow net.nodes taken o.from (pos t)) net.outputs =
+        let words : words_at_outputs (design_of name enable net s) v ≡ map (λ o. slice_flow net.nodes taken o.from (pos t)) net.outputs =
         (follows inputs vs run (t + l) v there).outputs
         ∙ ap (λ time. map (λ o. slice_flow net.nodes taken o.from time) net.outputs) (ago_back t l) in
-        subst (λ ws. IsGood spec (recent_words (spec_inputs spec) taken t) (output_words (spec_outputs spec) ws)) (sym words)
+        subst (λ ws. IsGood spec (recent_words (spec_inputs spec) taken t) (output_words (outputs_of spec) ws)) (sym words)
         (fits.good taken t (net_words inputs vs run) within range)
 
     pub serves : Serves spec (net_latency net s) enable (design_of name enable net s)

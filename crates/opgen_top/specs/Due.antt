@@ -3,7 +3,7 @@
 use Rattle.std.specs.Prelude.{ℕ, ◌≡◌, List, ◌++◌, Option, Some, None, Result, Ok, Err}
 use Rattle.opgen_command.specs.declared.command.Command.{Command}
 use Rattle.opgen_command.specs.declared.command.Command.TheVariants.{Generate, Vectors, Simulate, Workload, Check}
-use Rattle.opgen_io.specs.Answers.{fetched}
+use Rattle.opgen_io.specs.Fetched.{fetched}
 use Rattle.opgen_io.specs.Files.{Files}
 use Rattle.opgen_io.specs.declared.folder.FetchFault.{FetchFault}
 use Rattle.opgen_io.specs.declared.folder.FetchFault.TheVariants as fetch

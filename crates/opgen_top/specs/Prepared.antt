@@ -2,11 +2,12 @@
 use Rattle.std.specs.Prelude.{ℕ, ◌≡◌, ◌⊎◌, ◌≤◌, Bool, List, [], length, map, Option, Some, None, Result, Ok, Err, Vec, string_bytes}
 use Rattle.std.specs.declared.alloc.Global.{Global}
 use Rattle.std.specs.Str.Lines.{lines}
+use Rattle.opgen_num.specs.Words.{AreRowsOfCells}
 use Rattle.opgen_check.specs.declared.checked.Checked.{Checked}
 use Rattle.opgen_check.specs.declared.checked.Checked.TheVariants.{Good, Bad}
 use Rattle.opgen_check.specs.Ports.{PortsAgree}
 use Rattle.opgen_check.specs.Verdict.{IsChecked}
-use Rattle.opgen_io.specs.Answers.{fetched}
+use Rattle.opgen_io.specs.Fetched.{fetched}
 use Rattle.opgen_io.specs.Counts.{Rose, Stood}
 use Rattle.opgen_io.specs.Files.{Files}
 use Rattle.opgen_io.specs.declared.folder.FetchFault.TheVariants as fetch
@@ -16,7 +17,6 @@ use Rattle.opgen_operator.specs.declared.spec.Spec.{Spec}
 use Rattle.opgen_pipe.specs.declared.planning.Planned.{Planned}
 use Rattle.opgen_target.specs.Delays.{Delays}
 use Rattle.opgen_vec.specs.Reading.{IsReading}
-use Rattle.opgen_vec.specs.Rows.{AreRowsOfCells}
 use Rattle.opgen_vec.specs.Stimulus.{stimulus_cells}
 use Rattle.opgen_top.specs.declared.answer.Answer.{Answer as Held}
 use Rattle.opgen_top.specs.declared.answer.NewFile.{NewFile}
@@ -24,7 +24,7 @@ use Rattle.opgen_top.specs.declared.answer.Refusal.{Refusal}
 use Rattle.opgen_top.specs.declared.answer.Refusal.TheVariants as refusals
 use Rattle.opgen_top.specs.declared.line.Line.{Line}
 use Rattle.opgen_top.specs.declared.line.Line.TheVariants as line
-use Rattle.opgen_top.specs.declared.run_rows.Rows.{Rows}
+use Rattle.opgen_top.specs.declared.rows.Rows.{Rows}
 use Rattle.opgen_top.specs.declared.circuit.Circuit.{Circuit}
 use Rattle.opgen_top.specs.Answer.{Answer, all_good, bad_row, ports_refused, read_fault, refusal, worked, wrote_vectors}
 use Rattle.opgen_top.specs.Circuit.{IsCircuit}

@@ -1,17 +1,10 @@
 -- The text of a design's run over rows of numbers.
-use Rattle.std.specs.Prelude.{ℕ, ◌≡◌, Bool, List}
+use Rattle.std.specs.Prelude.{ℕ, ◌≡◌, List}
 use Rattle.opgen_design.specs.declared.design.Design.{Design}
-use Rattle.opgen_design.specs.declared.design.Dir.{Dir}
-use Rattle.opgen_design.specs.declared.design.Dir.TheVariants.{In, Out}
-use Rattle.opgen_design.specs.Run.{is_in, is_out, input_widths}
+use Rattle.opgen_design.specs.Run.{input_widths}
 use Rattle.opgen_runs.specs.Rows.{IsRunOf}
 use Rattle.opgen_lanes.specs.Steps.{output_widths}
 use Rattle.opgen_vec.specs.Writing.{rows_text}
-
--- the ports of a direction
-abbrev pub is_of : Dir → Dir → Bool
-is_of In = is_in
-is_of Out = is_out
 
 -- a line for each cycle of the run over these inputs, with the row of the inputs and the row of the outputs
 pub record IsRunText (d : Design) (rows : ℕ) (inputs text : List ℕ) : Type 0 where

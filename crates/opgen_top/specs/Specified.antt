@@ -1,10 +1,10 @@
 -- What `generate` and `vectors` answer, by the bytes of their specification and by the targets.
 use Rattle.std.specs.Prelude.{ℕ, ◌≡◌, ◌⊎◌, ◌≤◌, ◌<◌, Bool, true, false, List, Option, Some, None, Result, Ok, Err}
+use Rattle.opgen_design.specs.declared.design.TheConstants.{MAX_SIGNALS}
 use Rattle.opgen_net.specs.declared.net.Net.{Net}
 use Rattle.opgen_operator.specs.declared.spec.Spec.{Spec}
 use Rattle.opgen_pipe.specs.declared.planning.Planned.{Planned}
 use Rattle.opgen_pipe.specs.Cells.{need}
-use Rattle.opgen_pipe.specs.Planned.{most_signals}
 use Rattle.opgen_report.specs.Report.{report}
 use Rattle.opgen_spec.specs.declared.fault.SpecFault.{SpecFault}
 use Rattle.opgen_spec.specs.Document.{tree}
@@ -47,7 +47,7 @@ pub record IsTooLarge (spec : Spec) (table : Delays) (a : Answer) : Type 0 where
   pub net : Net
   pub fitting : IsFittingNet spec net
   pub long_enough : need table net ≤ spec.period
-  pub many_signals : most_signals < signals_of table spec.period net
+  pub many_signals : MAX_SIGNALS < signals_of table spec.period net
   pub answer : a ≡ too_large
 
 -- by the table of the target: one of these two refusals, or what is said

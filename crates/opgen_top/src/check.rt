@@ -1,11 +1,12 @@
 //! The command `check`: judges a design by a specification, over rows of its inputs.
 ghost use Rattle.std.specs.Prelude.{◌≡◌, ◌≤◌, ◌<◌, ◌^◌, IfOk, List, Some, length};
+ghost use Rattle.opgen_num.specs.Words.{AreRowsOfCells};
 ghost use Rattle.opgen_command.specs.declared.command.Command.TheVariants.{Check};
 ghost use Rattle.opgen_design.specs.Run.{input_widths};
 ghost use Rattle.opgen_design.specs.Sound.{HasNumbers, IsSound};
 ghost use Rattle.opgen_operator.specs.Valid.{IsValidSpec};
-ghost use Rattle.opgen_vec.specs.Rows.{AreRowsOfCells};
 ghost use Rattle.opgen_top.specs.Check.{IsAnswerToCheck};
+ghost use Rattle.opgen_top.specs.Due.{most_simulated_bytes};
 ghost use Rattle.opgen_top.specs.Prepared.{reads_of, refusal_of, verdict_answer, IsAnswerToDesign, IsListed, IsPrepared, OnAnswer};
 ghost use Rattle.opgen_top.specs.Targets.{Device};
 
@@ -13,10 +14,11 @@ use crate::answer::{Answer, Refusal, without_file};
 use crate::fetch::{MAX_SIMULATED_LEN, MAX_SPEC_LEN, fetch};
 use crate::line::Line;
 use crate::read::{read_rows, read_specification, read_vhdl};
-use crate::run_rows::{Rows, port_widths};
+use crate::rows::Rows;
 use opgen_check::{CheckFault, Checked, check_rows};
 use opgen_design::{Design, Dir};
 use opgen_io::Folder;
+use opgen_sim::port_widths;
 use opgen_spec::Spec;
 use std::alloc::{AllocError, Global};
 
@@ -49,7 +51,7 @@ fn judge_vhdl(
     vectors: &[u8],
     latency: u32,
 ) -> Result<Answer, Refusal>
-    requires { length vhdl.now ≤ 67108864 }
+    requires { length vhdl.now ≤ most_simulated_bytes }
     ensures answer { OnAnswer result (IsAnswerToCheck latency document.now vhdl.now vectors.now) }
     ensures listed { OnAnswer result IsListed }
 {

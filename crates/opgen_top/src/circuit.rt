@@ -25,7 +25,7 @@ use std::thread::Threads;
 
 /// The net of a specification, and the numbers of its adder graph, if its kind has one.
 #[derive(Drop)]
-pub(crate) struct Built {
+pub(crate) struct KindNet {
     pub net: Net,
     pub adders: Vec<u32>,
 }
@@ -38,11 +38,11 @@ pub(crate) struct Circuit {
 }
 
 /// A net with no shared numbers.
-fn without_adders(alloc: Global, net: Net) -> Built
+fn without_adders(alloc: Global, net: Net) -> KindNet
     ensures net { result.net ≡ net }
     ensures adders { result.adders.items ≡ [] }
 {
-    Built {
+    KindNet {
         net,
         adders: Vec::new(alloc),
     }
@@ -55,7 +55,7 @@ fn build_transposed<R: Threads + Sync, G: Gate + Sync>(
     taps: &Taps,
     workers: u32,
     gate: &G,
-) -> Result<Built, Memory>
+) -> Result<KindNet, Memory>
     requires taps { IsAcceptedTaps taps.now }
     requires workers { (1 ≤ workers) × (workers ≤ 32) }
     ensures net { IfOk result (λ made. IsNetOfTaps taps.now made.net) }
@@ -72,7 +72,7 @@ fn build_transposed<R: Threads + Sync, G: Gate + Sync>(
         gate,
     )?;
     let net = opgen_tfir::build(alloc, taps, &found.graph)?;
-    Ok(Built {
+    Ok(KindNet {
         net,
         adders: found.set,
     })
@@ -85,7 +85,7 @@ fn build_net<R: Threads + Sync, G: Gate + Sync>(
     spec: &Spec,
     workers: u32,
     gate: &G,
-) -> Result<Built, Memory>
+) -> Result<KindNet, Memory>
     requires valid { IsValidSpec spec.now }
     requires workers { (1 ≤ workers) × (workers ≤ 32) }
     ensures net { IfOk result (λ made. IsFittingNet spec.now made.net) }
@@ -102,7 +102,7 @@ fn build_net<R: Threads + Sync, G: Gate + Sync>(
         Operator::Root(single) => Ok(without_adders(alloc, opgen_sqrt::build(alloc, single)?)),
         Operator::Mcm(several) => {
             let built = opgen_search::build(rt, alloc, several, workers, gate)?;
-            Ok(Built {
+            Ok(KindNet {
                 net: built.net,
                 adders: built.adders.into_vec(),
             })
@@ -112,10 +112,7 @@ fn build_net<R: Threads + Sync, G: Gate + Sync>(
             opgen_constdiv::build(alloc, small)?,
         )),
         Operator::Poly(poly) => Ok(without_adders(alloc, opgen_poly::build(alloc, poly)?)),
-        Operator::Tfir(taps) => {
-            let filter = build_transposed(rt, alloc, taps, workers, gate)?;
-            Ok(filter)
-        }
+        Operator::Tfir(taps) => Ok(build_transposed(rt, alloc, taps, workers, gate)?),
     }
 }
 

@@ -16,7 +16,7 @@ mod laws;
 mod line;
 mod program;
 mod read;
-mod run_rows;
+mod rows;
 mod simulate;
 mod status;
 mod store_all;

@@ -1,6 +1,8 @@
 //! The lines that the program prints.
 ghost use Rattle.std.specs.Prelude.{◌≡◌};
 
+use crate::status::Status;
+
 /// The line that an answer prints. It decides the status.
 #[derive(Drop)]
 pub enum Line {
@@ -29,19 +31,21 @@ impl Line {
     ghost use Rattle.opgen_top.specs.Statuses.{HasLine};
 
     /// The status that comes with the line.
-    pub fn status(&self) -> u8
-        ensures value { result ≡ line_status self.now }
-        ensures listed { HasLine result }
+    pub fn status(&self) -> Status
+        ensures value { result.0 ≡ line_status self.now }
+        ensures listed { HasLine result.0 }
     {
         match self {
-            Line::Wrote(_) => 0,
-            Line::UnknownTarget | Line::NotAdjustable | Line::TooLarge | Line::Refused(_) => 1,
-            Line::Usage => 2,
-            Line::ReadFault => 3,
-            Line::Ports | Line::VhdlRefused(_) => 6,
-            Line::VectorsRefused(_) => 7,
-            Line::BadRow(_) => 8,
-            Line::TooLong => 9,
+            Line::Wrote(_) => Status::OK,
+            Line::UnknownTarget | Line::NotAdjustable | Line::TooLarge | Line::Refused(_) => {
+                Status::SPEC_REFUSED
+            }
+            Line::Usage => Status::USAGE,
+            Line::ReadFault => Status::READ_FAULT,
+            Line::Ports | Line::VhdlRefused(_) => Status::VHDL_REFUSED,
+            Line::VectorsRefused(_) => Status::VECTORS_REFUSED,
+            Line::BadRow(_) => Status::BAD_ROW,
+            Line::TooLong => Status::TOO_LONG,
         }
     }
 

@@ -120,12 +120,12 @@ pub fn run<R: Threads + Sync, F: Folder, K: Sink, G: Gate + Sync>(
     };
     let answer = match answer_words(words, folder, context) {
         Ok(answer) => answer,
-        Err(_) => return Status(5),
+        Err(_) => return Status::OUT_OF_MEMORY,
     };
     match store_all(&answer.stores, folder) {
         Ok(()) => print_line(&answer.line, out),
-        Err(StoreFault::Failed) => Status(4),
-        Err(StoreFault::Memory) => Status(5),
+        Err(StoreFault::Failed) => Status::WRITE_FAULT,
+        Err(StoreFault::Memory) => Status::OUT_OF_MEMORY,
     }
 }
 
@@ -169,8 +169,8 @@ fn print_line<K: Sink>(line: &Line, out: &mut K) -> Status
     ensures tells { is_some (K.taken out.new) ≡ is_some (K.taken out.old) }
 {
     match out.put(line.as_str().as_bytes()) {
-        Ok(()) => Status(line.status()),
-        Err(PutFault::Failed) => Status(4),
-        Err(PutFault::Memory) => Status(5),
+        Ok(()) => line.status(),
+        Err(PutFault::Failed) => Status::WRITE_FAULT,
+        Err(PutFault::Memory) => Status::OUT_OF_MEMORY,
     }
 }

@@ -7,6 +7,7 @@ ghost use Rattle.opgen_operator.specs.Valid.{IsValidSpec};
 ghost use Rattle.opgen_spec.specs.Document.{tree};
 ghost use Rattle.opgen_spec.specs.Faults.{read};
 ghost use Rattle.opgen_vec.specs.Reading.{IsReading};
+ghost use Rattle.opgen_top.specs.Due.{most_simulated_bytes};
 ghost use Rattle.opgen_top.specs.Lines.{refused_line, vectors_refused_line, vhdl_refused_line};
 ghost use Rattle.opgen_top.specs.Prepared.{HoldsRows, IfRefused, IsListed};
 ghost use Rattle.opgen_top.specs.Simulate.{GivesDesign, RefusesRows, RefusesVhdl};
@@ -14,7 +15,7 @@ ghost use Rattle.opgen_top.specs.Specified.{OnReading};
 
 use crate::answer::Refusal;
 use crate::line::Line;
-use crate::run_rows::Rows;
+use crate::rows::Rows;
 use opgen_design::Design;
 use opgen_read::{ReadFault, read_design};
 use opgen_spec::{Spec, SpecFault, read_spec};
@@ -49,7 +50,7 @@ fn vhdl_refused_line(alloc: Global, fault: ReadFault) -> Result<String, AllocErr
 
 /// The design that the VHDL spells.
 pub(crate) fn read_vhdl(alloc: Global, bytes: &[u8]) -> Result<Design, Refusal>
-    requires { length bytes.now ≤ 67108864 }
+    requires { length bytes.now ≤ most_simulated_bytes }
     ensures gives { IfOk result (GivesDesign bytes.now) }
     ensures numbers { IfOk result HasNumbers }
     ensures refused { IfRefused result (RefusesVhdl bytes.now) }

@@ -1,6 +1,7 @@
 //! The command `simulate`: from VHDL and vectors to the rows of the design's run.
 ghost use Rattle.std.specs.Prelude.{◌≡◌, ◌≤◌, IfOk, List, Some, length, string_bytes};
 ghost use Rattle.opgen_command.specs.declared.command.Command.TheVariants.{Simulate};
+ghost use Rattle.opgen_top.specs.Due.{most_simulated_bytes};
 ghost use Rattle.opgen_top.specs.Lines.{simulated_line};
 ghost use Rattle.opgen_top.specs.Prepared.{reads_of, IsListed, IsPrepared, OnAnswer};
 ghost use Rattle.opgen_top.specs.Simulate.{IsSimulated};
@@ -9,9 +10,10 @@ ghost use Rattle.opgen_top.specs.Targets.{Device};
 use crate::answer::{Answer, Refusal, with_file};
 use crate::fetch::{MAX_SIMULATED_LEN, fetch};
 use crate::read::{read_rows, read_vhdl};
-use crate::run_rows::{port_widths, run_text};
+use crate::rows::run_text;
 use opgen_design::Dir;
 use opgen_io::Folder;
+use opgen_sim::port_widths;
 use std::alloc::{AllocError, Global};
 
 /// Fetches VHDL and vectors, and answers with the rows of the run, to be stored under `out`.
@@ -35,7 +37,7 @@ pub(crate) fn simulate<F: Folder>(
 
 /// Reads VHDL and vectors, and answers with the rows of the run.
 fn run_vhdl(alloc: Global, vhdl: &[u8], vectors: &[u8], out: &str) -> Result<Answer, Refusal>
-    requires { length vhdl.now ≤ 67108864 }
+    requires { length vhdl.now ≤ most_simulated_bytes }
     ensures answer { OnAnswer result (IsSimulated out.now vhdl.now vectors.now) }
     ensures listed { OnAnswer result IsListed }
 {

@@ -14,7 +14,7 @@ use crate::circuit::make_circuit;
 use crate::context::Context;
 use crate::fetch::{MAX_SPEC_LEN, fetch};
 use crate::read::read_specification;
-use crate::run_rows::{Rows, run_text};
+use crate::rows::{Rows, run_text};
 use opgen_design::Design;
 use opgen_io::Folder;
 use opgen_num::Memory;

@@ -5,15 +5,10 @@ use Rattle.std.proofs.lemmas.Nat.{shr_below}
 use Rattle.std.specs.Prelude.{All, ◌&&◌, ◌==◌}
 use Rattle.std.proofs.Math.Seq.{take-append_seam, drop-append_seam}
 use Rattle.std.proofs.lemmas.List.{length-map}
-use Rattle.std.proofs.lemmas.List.Elements.{All-head, All-tail, All-cons, All-nil}
-use Rattle.opgen_num.specs.Words.{FitWidths}
-use Rattle.opgen_vec.specs.Rows.{AreRowsOfCells}
+use Rattle.std.proofs.lemmas.List.Elements.{All-head, All-tail}
+use Rattle.opgen_num.specs.Words.{FitWidths, AreRowsOfCells}
 use Rattle.opgen_operator.specs.declared.spec.Operator.{Operator}
 use Rattle.opgen_operator.specs.declared.spec.PortFormat.{PortFormat}
-use Rattle.opgen_num.specs.Formats.{fewest_bits}
-use Rattle.opgen_operator.specs.declared.spec.Operator.TheVariants.{Scale, Fir, Multiply, Divide, Root, Mcm, Constdiv, Poly, Tfir}
-use Rattle.opgen_operator.specs.Ports.{operator_inputs}
-use Rattle.opgen_operator.specs.Ranges.{IsOperator}
 use Rattle.opgen_vec.specs.Writing.{row_count}
 use Rattle.opgen_vec.specs.Stimulus.{next, drawn, is_divisor, given, draws, state_after, repeated}
 
@@ -116,39 +111,3 @@ rows_counted op ports cycles seed (suc m) cells c some e =
     let len : length cells ≡ suc m * cycles = ap length (sym e) ∙ length-draws op (repeated cycles ports) seed
     ∙ length-repeated cycles ports ∙ ap (λ n. n * cycles) (sym c) in
     ap (λ n. n / suc m) len ∙ mul-div_cancel_left cycles (omega arith)
-
--- each input has a bit
-one_bit : (signed : Bool) (width : ℕ) → fewest_bits signed ≤ width → 1 ≤ width
-one_bit false width h = h
-one_bit true width h = omega (arith, h)
-
-abbrev HasBit : PortFormat → Type 0
-HasBit port = 1 ≤ port.format.width
-
-one_port : (port : PortFormat) → HasBit port → All HasBit (port ∷ [])
-one_port port h = All-cons HasBit port [] h (All-nil HasBit)
-
-two_ports : (port other : PortFormat) → HasBit port → HasBit other → All HasBit (port ∷ other ∷ [])
-two_ports port other h k = All-cons HasBit port (other ∷ []) h (one_port other k)
-
-pub inputs_wide : (op : Operator) → IsOperator op → All HasBit (operator_inputs op)
-inputs_wide (Scale s) is = one_port _ (one_bit s.input.signed s.input.width is.input.fewest)
-inputs_wide (Fir s) is = one_port _ (one_bit s.input.signed s.input.width is.input.fewest)
-inputs_wide (Multiply p) is = two_ports _ _ (one_bit p.a.signed p.a.width is.a.fewest) (one_bit p.b.signed p.b.width is.b.fewest)
-inputs_wide (Divide p) is = two_ports _ _ (one_bit p.a.signed p.a.width is.a.fewest) (one_bit p.b.signed p.b.width is.b.fewest)
-inputs_wide (Root r) is = one_port _ (one_bit r.input.signed r.input.width is.input.fewest)
-inputs_wide (Mcm m) is = one_port _ (one_bit m.input.signed m.input.width is.input.fewest)
-inputs_wide (Constdiv c) is = one_port _ (one_bit c.input.signed c.input.width is.input.fewest)
-inputs_wide (Poly p) is = one_port _ (one_bit p.input.signed p.input.width is.input.fewest)
-inputs_wide (Tfir f) is = one_port _ (one_bit f.input.signed f.input.width is.input.fewest)
-
-pub some_input : (op : Operator) → 0 < length (operator_inputs op)
-some_input (Scale s) = omega arith
-some_input (Fir s) = omega arith
-some_input (Multiply p) = omega arith
-some_input (Divide p) = omega arith
-some_input (Root r) = omega arith
-some_input (Mcm m) = omega arith
-some_input (Constdiv c) = omega arith
-some_input (Poly p) = omega arith
-some_input (Tfir f) = omega arith

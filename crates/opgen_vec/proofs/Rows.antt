@@ -7,18 +7,12 @@ use Rattle.std.proofs.Math.Nat.{mul-div_cancel_left}
 use Rattle.std.proofs.lemmas.List.{take_all, length-take, length-drop, take-append-le, drop-append-le, take-append-drop}
 use Rattle.std.proofs.lemmas.Bool.{ne_eqb}
 use Rattle.std.specs.Str.Lines.{lines}
-use Rattle.opgen_num.specs.Words.{FitWidths}
+use Rattle.opgen_num.specs.Words.{AreRowsOfCells}
+use Rattle.opgen_num.proofs.RowsOfCells.{length-cells}
 use Rattle.opgen_vec.proofs.RowTexts.{bad-line}
-use Rattle.opgen_vec.specs.Rows.{AreRowsOfCells}
 use Rattle.opgen_vec.specs.Writing.{row_count}
 use Rattle.opgen_vec.specs.declared.TheConstants.{MAX_ROWS}
 use Rattle.opgen_vec.specs.Reading.{IsRow, AreRows, IsBad, AreVectors, IsFirstBad, AreTooMany}
-
-pub length-cells : (widths cells : List ℕ) → FitWidths widths cells → length cells ≡ length widths
-length-cells [] [] are = refl
-length-cells [] (c ∷ cells) are = absurd are
-length-cells (w ∷ widths) [] are = absurd are
-length-cells (w ∷ widths) (c ∷ cells) (small, are) = ap suc (length-cells widths cells are)
 
 -- a row after others
 pub AreRows-push : (widths cells row : List ℕ) (lines : List (List ℕ)) (line : List ℕ) → AreRows widths cells lines → IsRow widths row line
@@ -147,29 +141,3 @@ row_count-rows zero widths cells lines e some are = absurd (omega (arith, e, som
 row_count-rows (suc m) widths cells lines e some are =
     let len : length cells ≡ suc m * length lines = length-rows widths cells lines are ∙ ap (λ n. n * length lines) (sym e) in
     ap (λ n. n / suc m) len ∙ mul-div_cancel_left (length lines) (omega arith)
-
--- the first row of rows of cells, the rows after it, and how many cells they are
-pub row_room : (widths cells : List ℕ) (rows : ℕ) → 0 < rows → AreRowsOfCells widths rows cells → length widths ≤ length cells
-row_room widths cells zero some are = absurd (omega (arith, some))
-row_room widths cells (suc rows) some (is, are) =
-    omega (arith, length-cells widths (take (length widths) cells) is, length-take (length widths) cells)
-
-pub first_fits : (widths cells : List ℕ) (rows : ℕ) → 0 < rows → AreRowsOfCells widths rows cells
-    → FitWidths widths (take (length widths) cells)
-first_fits widths cells zero some are = absurd (omega (arith, some))
-first_fits widths cells (suc rows) some (is, are) = is
-
-pub later_rows : (widths cells : List ℕ) (rows : ℕ) → 0 < rows → AreRowsOfCells widths rows cells
-    → AreRowsOfCells widths (rows - 1) (drop (length widths) cells)
-later_rows widths cells zero some are = absurd (omega (arith, some))
-later_rows widths cells (suc rows) some (is, are) =
-    let less : rows ≡ suc rows - 1 = omega arith in
-    subst (λ n. AreRowsOfCells widths n (drop (length widths) cells)) less are
-
-pub length-rows_of_cells : (widths cells : List ℕ) (rows : ℕ) → AreRowsOfCells widths rows cells → length cells ≡ rows * length widths
-length-rows_of_cells widths cells zero none = omega (arith, ap length none)
-length-rows_of_cells widths cells (suc rows) are =
-    let room = row_room widths cells (suc rows) (omega arith) are in
-    let rest = length-rows_of_cells widths (drop (length widths) cells) rows are.1 in
-    let whole : suc rows * length widths ≡ length widths + rows * length widths = omega arith in
-    omega (arith, room, rest, whole, length-drop (length widths) cells)

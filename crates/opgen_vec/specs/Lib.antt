@@ -6,5 +6,5 @@ pub mod Writing
 pub mod Fault
 pub mod Stimulus
 pub mod Streams
-pub mod Judged
+pub mod GoodRow
 pub mod Worked

@@ -1,7 +1,6 @@
 -- Rows of words: in hexadecimal, highest digit first, with one space between two words.
-use Rattle.std.specs.Prelude.{ℕ, ◌≡◌, zero, suc, ◌+◌, ◌/◌, ◌%◌, ◌^◌, List, [], ◌∷◌, ◌++◌, length, take, drop, codes}
+use Rattle.std.specs.Prelude.{ℕ, zero, suc, ◌+◌, ◌/◌, ◌%◌, ◌^◌, List, [], ◌∷◌, ◌++◌, codes}
 use Rattle.std.specs.Char.{digit_char}
-use Rattle.opgen_num.specs.Words.{FitWidths}
 
 -- how many digits a word of so many bits has: a quarter, rounded up
 abbrev pub digit_count : (width : ℕ) → ℕ
@@ -24,8 +23,3 @@ spaced_text _ _ = []
 abbrev pub row_text : (widths cells : List ℕ) → List ℕ
 row_text (width ∷ widths) (cell ∷ cells) = word_text width cell ++ spaced_text widths cells
 row_text _ _ = []
-
--- so many rows of cells, and no cell more
-abbrev pub AreRowsOfCells : (widths : List ℕ) (rows : ℕ) (cells : List ℕ) → Type 0
-AreRowsOfCells widths zero cells = cells ≡ []
-AreRowsOfCells widths (suc rows) cells = FitWidths widths (take (length widths) cells) × AreRowsOfCells widths rows (drop (length widths) cells)

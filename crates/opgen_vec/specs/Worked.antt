@@ -2,7 +2,8 @@
 use Rattle.std.specs.Prelude.{◌≡◌, ℕ, true, false, List, [], ◌∷◌, map, codes}
 use Rattle.std.specs.Str.{str_to_ascii_lowercase}
 use Rattle.std.specs.Str.Lines.{lines}
-use Rattle.opgen_streams.specs.Rows.{row_in, words}
+use Rattle.opgen_num.specs.Words.{words_of}
+use Rattle.opgen_streams.specs.Rows.{row_in}
 use Rattle.opgen_streams.specs.Streams.{words_in}
 use Rattle.opgen_vec.specs.Rows.{row_text}
 use Rattle.opgen_vec.specs.Writing.{rows_text}
@@ -32,7 +33,7 @@ worked_lanes = (1 ∷ 0 ∷ 0 ∷ 0 ∷ []) ∷ (2 ∷ 0 ∷ 0 ∷ 0 ∷ []) ∷
 pub record StreamsCompute : Type 0 where
   pub row : row_or_zeros 2 1 worked_cells ≡ 2 ∷ 0 ∷ []
   pub no_row : row_or_zeros 2 2 worked_cells ≡ 0 ∷ 0 ∷ []
-  pub words : words (2 ∷ 1 ∷ []) (2 ∷ 0 ∷ []) ≡ (false ∷ true ∷ []) ∷ (false ∷ []) ∷ []
+  pub words : words_of (2 ∷ 1 ∷ []) (2 ∷ 0 ∷ []) ≡ (false ∷ true ∷ []) ∷ (false ∷ []) ∷ []
   pub stream : words_in (2 ∷ 1 ∷ []) worked_lanes 1 ≡ (false ∷ true ∷ []) ∷ (false ∷ []) ∷ []
   pub rows : rows_in (2 ∷ 1 ∷ []) worked_lanes 2 ≡ worked_cells
   pub second_word : row_in (1 ∷ []) ((0 ∷ 2 ∷ 0 ∷ 0 ∷ []) ∷ []) 65 ≡ 1 ∷ []

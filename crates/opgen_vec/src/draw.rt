@@ -1,14 +1,14 @@
 //! The stimulus of a specification.
 ghost use Rattle.std.specs.Prelude.{◌≡◌, ◌++◌, length, map, IfOk, OnOk};
+ghost use Rattle.opgen_num.specs.Words.{AreRowsOfCells};
 ghost use Rattle.opgen_operator.specs.Ports.{inputs_of};
 ghost use Rattle.opgen_operator.specs.Valid.{IsValidSpec};
-ghost use Rattle.opgen_vec.specs.Rows.{AreRowsOfCells};
 ghost use Rattle.opgen_vec.specs.Writing.{row_count};
 ghost use Rattle.opgen_vec.specs.Stimulus.{next, drawn, is_divisor, given, draws, state_after, stimulus_cells};
 
 use crate::vectors::Vectors;
 use opgen_num::Memory;
-use opgen_operator::{Operator, PortFormat, Spec};
+use opgen_operator::{Operator, PortFormat, Spec, inputs_are_wide};
 use std::alloc::{AllocError, Global};
 
 const MULTIPLIER: u128 = 6364136223846793005;
@@ -83,6 +83,7 @@ pub fn stimulus(alloc: Global, spec: &Spec, seed: u64, cycles: u32) -> Result<Ve
     ensures fit { IfOk result (λ v. AreRowsOfCells (map (λ port. port.format.width) (inputs_of spec.now)) cycles v.cells.items) }
     ensures count { IfOk result (λ v. row_count v.columns v.cells.items ≡ cycles) }
 {
+    inputs_are_wide();
     let ports = spec.inputs(alloc)?;
     let mut cells = Vec::new(alloc);
     let mut state = seed;

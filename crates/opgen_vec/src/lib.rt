@@ -12,8 +12,8 @@
 
 mod draw;
 mod fault;
+mod good_row;
 mod hex;
-mod judged;
 mod laws;
 mod read;
 mod row;
@@ -23,7 +23,7 @@ mod write;
 
 pub use draw::{drawn, next, stimulus};
 pub use fault::VecFault;
-pub use judged::is_good_row;
+pub use good_row::is_good_row;
 pub use laws::{definitions_compute, one_reading};
 pub use read::{read_empty_rows, read_vectors};
 pub use streams::{pack, unpack};

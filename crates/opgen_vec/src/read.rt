@@ -1,8 +1,8 @@
 //! Files of vectors.
 ghost use Rattle.std.specs.Prelude.{◌≡◌, ◌≤◌, ◌<◌, ◌^◌, ℕ, [], All, length, IfOk, Err};
 ghost use Rattle.std.specs.Str.Lines.{lines};
+ghost use Rattle.opgen_num.specs.Words.{AreRowsOfCells};
 ghost use Rattle.opgen_num.specs.declared.TheConstants.{MAX_WIDTH};
-ghost use Rattle.opgen_vec.specs.Rows.{AreRowsOfCells};
 ghost use Rattle.opgen_vec.specs.Writing.{row_count};
 ghost use Rattle.opgen_vec.specs.Reading.{AreVectors, IsFirstBad, AreTooMany};
 

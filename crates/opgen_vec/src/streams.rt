@@ -1,6 +1,6 @@
 //! Rows of vectors as 256 streams of bits, one row after another in one stream after another.
 ghost use Rattle.std.specs.Prelude.{ℕ, ◌≡◌, ◌≤◌, ◌<◌, ◌+◌, ◌++◌, All, length, sum, OnOk, OnErr};
-ghost use Rattle.opgen_streams.specs.Rows.{words};
+ghost use Rattle.opgen_num.specs.Words.{words_of};
 ghost use Rattle.opgen_streams.specs.Streams.{streams, words_in};
 ghost use Rattle.opgen_vec.specs.Streams.{row_or_zeros, rows_in};
 ghost use Rattle.opgen_vec.specs.Writing.{row_count};
@@ -18,7 +18,7 @@ pub fn pack(rows: &Vectors, first: u32, widths: &[u32], lanes: &mut [u64x4])
     requires lanes { length lanes.old ≡ sum widths.now }
     requires first { first ≤ row_count rows.now.columns rows.now.cells.items }
     ensures rows { (k : ℕ) → k < streams → words_in widths.now lanes.new k
-        ≡ words widths.now (row_or_zeros rows.now.columns (first + k) rows.now.cells.items) }
+        ≡ words_of widths.now (row_or_zeros rows.now.columns (first + k) rows.now.cells.items) }
     ensures length { length lanes.new ≡ length lanes.old }
 {
     pack_apart(&rows.cells, first as usize, 1, widths, lanes);

@@ -10,7 +10,7 @@ use Rattle.opgen_vhdl.specs.declared.place.Place.TheVariants.{Library, UseLogic,
 use Rattle.opgen_vhdl.specs.Tokens.{Tokens, LexicalAt, tokens_from}
 use Rattle.opgen_vhdl.specs.Symbols.{Symbol, symbols, pieces, is_semicolon}
 use Rattle.opgen_vhdl.specs.Statements.{Reading, nothing, Takes, Follows, stay, onward, Stops}
-use Rattle.opgen_vhdl.specs.Spelled.{Statements, Spells, SyntaxAt}
+use Rattle.opgen_vhdl.specs.Spelled.{Statements, Spells, StopsAt, SyntaxAt}
 use Rattle.opgen_vhdl.specs.Reader.{◌>>=◌, and_then, choice, Step, takes_at}
 use Rattle.opgen_vhdl.proofs.Steps.{some_is, found, found_is, cases_option}
 use Rattle.opgen_vhdl.proofs.Takes.{takes-reads, takes-is}
@@ -121,8 +121,8 @@ same_tokens bytes a b s t = sym s.listed ∙ ap (tokens_from 0) (cuts.one_cut s.
     cuts.nothing_starts_at_end cuts.nothing_starts_at_end).0 ∙ t.listed
 
 syntax-fault : (bytes : List ℕ) (k : ℕ) (x : SyntaxAt bytes k) → fault_at Library nothing (pieces (symbols bytes x.tokens)) ≡ Some k
-syntax-fault bytes k x = ap (fault_at Library nothing) x.split ∙ stops-fault x.follow x.left x.stops
-    ∙ ap Some (suc-one (length x.taken) ∙ sym x.piece)
+syntax-fault bytes k x = ap (fault_at Library nothing) x.stop.split ∙ stops-fault x.stop.follow x.stop.left x.stop.stops
+    ∙ ap Some (suc-one (length x.stop.taken) ∙ sym x.stop.piece)
 
 pub one_list : (bytes : List ℕ) (q r : Reading) → Statements bytes q → Statements bytes r → q ≡ r
 one_list bytes q r f g =
@@ -144,24 +144,29 @@ not_both bytes r k f g =
 pub one_design : (bytes : List ℕ) (c d : Design) → Spells bytes c → Spells bytes d → c ≡ d
 one_design bytes c d f g = sym f.design ∙ ap (λ (r : Reading). r.design) (one_list bytes f.read g.read f.statements g.statements) ∙ g.design
 
--- the first piece at which reading stops, and what was read before it
-pub record Stopped (ps : List (List Symbol)) : Type 0 where
-  pub taken : List (List Symbol)
-  pub left : List (List Symbol)
-  pub split : ps ≡ taken ++ left
-  pub place : Place
-  pub read : Reading
-  pub follow : Follows Library nothing taken place read
-  pub stops : Stops place read left
-
 reaches : (done left : List (List Symbol)) (p : Place) (r : Reading) → Follows Library nothing done p r
-    → ((q : Reading) × Follows Library nothing (done ++ left) End q) ⊎ Stopped (done ++ left)
+    → ((q : Reading) × Follows Library nothing (done ++ left) End q) ⊎ ((k : ℕ) × StopsAt (done ++ left) k)
 reaches done [] p r f = elim (end_or_not p) [
   | inl e ↦ inl (r, rw (append-empty done, ← e) f)
-  | inr h ↦ inr (record { taken = done; left = []; split = refl; place = p; read = r; follow = f; stops = h })
+  | inr h ↦ inr (
+    length done + 1,
+    record { taken = done; left = []; split = refl; place = p; read = r; follow = f; stops = h; piece = refl },
+  )
 ]
 reaches done (piece ∷ left) p r f = elim (cases_option (takes_at p r piece)) [
-  | inl e ↦ inr (record { taken = done; left = piece ∷ left; split = refl; place = p; read = r; follow = f; stops = refuses p r piece e })
+  | inl e ↦ inr (
+    length done + 1,
+    record {
+      taken = done;
+      left = piece ∷ left;
+      split = refl;
+      place = p;
+      read = r;
+      follow = f;
+      stops = refuses p r piece e;
+      piece = refl;
+    },
+  )
   | inr x ↦ rw (append_assoc done (piece ∷ []) left) at
       (reaches (done ++ piece ∷ []) left x.0.0 x.0.1 (Follows-push f (takes-is p x.0.0 r x.0.1 piece x.1)))
 ]
@@ -170,21 +175,7 @@ reaches done (piece ∷ left) p r f = elim (cases_option (takes_at p r piece)) [
 reads_or_not : (bytes : List ℕ) → (ts : List Token) × Tokens bytes ts → ((r : Reading) × Statements bytes r) ⊎ ((k : ℕ) × SyntaxAt bytes k)
 reads_or_not bytes (ts, t) = elim (reaches [] (pieces (symbols bytes ts)) Library nothing stay) [
   | inl f ↦ inl (f.0, record { tokens = ts; cut = t; follow = f.1 })
-  | inr x ↦ inr (
-    length x.taken + 1,
-    record {
-      tokens = ts;
-      cut = t;
-      taken = x.taken;
-      left = x.left;
-      split = x.split;
-      place = x.place;
-      read = x.read;
-      follow = x.follow;
-      stops = x.stops;
-      piece = refl;
-    },
-  )
+  | inr x ↦ inr (x.0, record { tokens = ts; cut = t; stop = x.1 })
 ]
 
 pub one_answer : (bytes : List ℕ) → ((r : Reading) × Statements bytes r) ⊎ (((k : ℕ) × SyntaxAt bytes k) ⊎ ((n : ℕ) × LexicalAt bytes n))

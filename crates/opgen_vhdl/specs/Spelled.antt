@@ -21,15 +21,19 @@ pub record Spells (bytes : List ℕ) (d : Design) : Type 0 where
   pub names_agree : read.agrees ≡ true
   pub design : read.design ≡ d
 
--- Piece k, from 1, is the first that its place does not take; it is one past the last where the text ends too early.
-pub record SyntaxAt (bytes : List ℕ) (k : ℕ) : Type 0 where
-  pub tokens : List Token
-  pub cut : Tokens bytes tokens
+-- Piece k, from 1, is the first that its place does not take; it is one past the last where the pieces end too early.
+pub record StopsAt (ps : List (List Symbol)) (k : ℕ) : Type 0 where
   pub taken : List (List Symbol)
   pub left : List (List Symbol)
-  pub split : pieces (symbols bytes tokens) ≡ taken ++ left
+  pub split : ps ≡ taken ++ left
   pub place : Place
   pub read : Reading
   pub follow : Follows Library nothing taken place read
   pub stops : Stops place read left
   pub piece : k ≡ length taken + 1
+
+-- Reading the text stops at its piece k.
+pub record SyntaxAt (bytes : List ℕ) (k : ℕ) : Type 0 where
+  pub tokens : List Token
+  pub cut : Tokens bytes tokens
+  pub stop : StopsAt (pieces (symbols bytes tokens)) k

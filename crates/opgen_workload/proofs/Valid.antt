@@ -6,12 +6,14 @@ use Rattle.std.proofs.lemmas.Int.{ints}
 use Rattle.std.proofs.lemmas.List.Elements.{All-nil}
 use Rattle.opgen_names.specs.Names.{refused_words}
 use Rattle.opgen_operator.specs.declared.spec.Operator.TheVariants.{Fir}
+use Rattle.opgen_operator.specs.declared.spec.PortFormat.{PortFormat}
 use Rattle.opgen_operator.specs.Accepted.{IsAcceptedBy}
 use Rattle.opgen_operator.specs.Outputs.{rises, falls, sum_need, sum_places, sum_reach, width_of}
 use Rattle.opgen_operator.specs.Ranges.{IsSum}
 use Rattle.opgen_operator.specs.SpecName.{is_spec_name, taken_names}
 use Rattle.opgen_operator.specs.Valid.{IsDelayLine, IsValidSpec}
 use Rattle.opgen_operator.proofs.In128.{guard_small}
+use Rattle.opgen_operator.proofs.InputPorts.{all_one}
 use Rattle.opgen_operator.proofs.Widths.{width_within}
 use Rattle.opgen_workload.specs.Filter.{coefficients, workload_spec, workload_sum}
 use Rattle.opgen_workload.proofs.Drawn.{coefficients-length, coefficients-within, wider, rises-within, falls-within}
@@ -60,7 +62,7 @@ module _ (n : ℕ) (some : 1 ≤ n) (few : n ≤ 32) where
   accepted : IsAcceptedBy 1 (Fir (workload_sum n))
   accepted = record {
     ranges = sum_valid;
-    inputs = omega arith;
+    inputs = all_one (λ (p : PortFormat). p.format.width ≤ 32) _ (omega arith);
     fine = (omega (arith, ints), omega (arith, ints));
     narrow = λ bits e. narrow_by bits e;
     whole = λ bad. let no_mark : false ≡ true = bad in cc;

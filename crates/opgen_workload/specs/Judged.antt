@@ -3,7 +3,7 @@ use Rattle.std.specs.Prelude.{ℕ, zero, suc, ◌≡◌, ◌+◌, ◌⊎◌, Lis
 use Rattle.opgen_operator.specs.declared.spec.Operator.{Operator}
 use Rattle.opgen_operator.specs.declared.spec.Operator.TheVariants.{Scale, Fir, Multiply, Divide, Root, Mcm, Constdiv, Poly, Tfir}
 use Rattle.opgen_operator.specs.declared.spec.Spec.{Spec}
-use Rattle.opgen_vec.specs.Judged.{IsGoodRow}
+use Rattle.opgen_vec.specs.GoodRow.{IsGoodRow}
 
 abbrev pub IsFilter : Operator → Type 0
 IsFilter (Scale sum) = ⊥

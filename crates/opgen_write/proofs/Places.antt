@@ -13,7 +13,8 @@ use Rattle.opgen_design.specs.declared.design.Port.{Port}
 use Rattle.opgen_design.specs.declared.design.Signal.{Signal}
 use Rattle.opgen_names.specs.Names.{is_allowed_name}
 use Rattle.opgen_design.specs.Sound as sound
-use Rattle.opgen_design.specs.Sound.{IsSound, IsNewName, DeclaredTwice, SignalPasses, PortPasses, at_port, at_signal}
+use Rattle.opgen_design.specs.declared.sound.Rule.TheVariants.{DeclaredTwice}
+use Rattle.opgen_design.specs.Sound.{IsSound, IsNewName, SignalPasses, PortPasses, at_port, at_signal}
 use Rattle.opgen_vhdl.specs.ExpressionText.{signal_name, port_name}
 use Rattle.opgen_vhdl.specs.Grammar.{place_of}
 use Rattle.opgen_vhdl.specs.Shaped.{HasAllowedNames}

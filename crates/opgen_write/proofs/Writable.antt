@@ -11,7 +11,8 @@ use Rattle.opgen_design.specs.Tree as tree
 use Rattle.opgen_design.specs.Tree.{Tree}
 use Rattle.opgen_design.specs.Reads.{AllReads}
 use Rattle.opgen_design.specs.Width.{IsWidth, width}
-use Rattle.opgen_design.specs.Sound.{IsSound, IsDeclared, Undeclared, Width, signal_widths, port_widths, HasWidth, WidthsAgree, PortPasses, SignalPasses, DriverPasses, at_design, at_port, at_signal, at_driver}
+use Rattle.opgen_design.specs.declared.sound.Rule.TheVariants.{Undeclared, Width}
+use Rattle.opgen_design.specs.Sound.{IsSound, IsDeclared, signal_widths, port_widths, HasWidth, WidthsAgree, PortPasses, SignalPasses, DriverPasses, at_design, at_port, at_signal, at_driver}
 use Rattle.opgen_design.proofs.WidthLaws.{width-is_width}
 use Rattle.opgen_vhdl.specs.Shaped.{IsPart, HasFullChains, IsShapedExpression, IsShapedDriver, IsShaped, HasAllowedNames}
 use Rattle.opgen_write.proofs.Fitting.{fits}

@@ -1,5 +1,5 @@
 -- Operators, their ports and one cycle of each, worked out by hand.
-use Rattle.std.specs.Prelude.{◌≡◌, ◌∷◌, [], codes, true, false, ℤ, pos, negsuc}
+use Rattle.std.specs.Prelude.{◌≡◌, ◌∷◌, [], codes, true, false, pos, negsuc}
 use Rattle.opgen_operator.specs.declared.spec.Pair.{Pair}
 use Rattle.opgen_operator.specs.declared.spec.Product.{Product}
 use Rattle.opgen_operator.specs.declared.spec.Single.{Single}
@@ -7,7 +7,7 @@ use Rattle.opgen_operator.specs.declared.spec.Sum.{Sum}
 use Rattle.opgen_num.specs.declared.format.Format.{Format}
 use Rattle.opgen_operator.specs.Exact.{exact_sum, exact_product}
 use Rattle.opgen_operator.specs.Good.{IsGoodRatio, IsGoodQuotient, IsGoodSquareRoot}
-use Rattle.opgen_operator.specs.Judged.{recent_numbers}
+use Rattle.opgen_operator.specs.PortNumbers.{recent_numbers}
 use Rattle.opgen_operator.specs.Outputs.{guard_bits}
 use Rattle.opgen_operator.specs.Ports.{one_input, port, unsigned, sum_format, product_format, constant_format, quotient_ports, root_ports}
 

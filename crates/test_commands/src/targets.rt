@@ -66,16 +66,6 @@ signals 2
 ";
 
 #[test]
-fn the_slowest_target(rt: HostRuntime) -> Result<(), Fail> {
-    let mut targets: Vec<Box<dyn Target>> = Vec::new(rt.alloc());
-    targets.push(Box::new(rt.alloc(), listed(rt.alloc(), "plain", u32::MAX)?)?)?;
-    let ran = generated_with(&rt, "period = 1000000", targets)?;
-    assert_eq!(rt; ran.status, 1);
-    assert!(rt; ran.out.bytes() == "specification: PeriodTooShort 8589934590\n".as_bytes());
-    Ok(())
-}
-
-#[test]
 fn workloads(rt: HostRuntime) -> Result<(), Fail> {
     let words = ["workload", "1"];
     let unknown = ran_with(&rt, &words, &[], Vec::new(rt.alloc()))?;

@@ -1,15 +1,14 @@
-//! Tests of designs with one register: run cycle by cycle and compared with words worked out by hand.
-ghost use Rattle.std.specs.Prelude.{◌≡◌, ◌<◌, ◌^◌, ◌∷◌, [], IfOk, codes, length};
+//! Tests of simulators and lanes that are made from a design and from a copy of it, and for few cycles and for many.
+ghost use Rattle.std.specs.Prelude.{◌≡◌, ◌∷◌, [], IfOk, codes, length};
 ghost use Rattle.opgen_design.specs.declared.design.Dir.TheVariants.{In, Out};
 ghost use Rattle.opgen_design.specs.Sound.{HasNumbers, IsSound};
 ghost use Rattle.opgen_sim.specs.Sims.{IsNew};
 
-use crate::soundness::{assign, chain};
-use opgen_design::{Design, Dir, Driver, Expr, Formula, Op, Port, Signal, Slice};
-use opgen_lanes::copy;
+use opgen_design::{Design, Dir, Driver, Expr, Formula, Port, Signal};
+use opgen_lanes::Lanes;
 use opgen_list::{Items, Text};
 use opgen_num::{Memory, Word};
-use opgen_sim::{Lanes, Sim};
+use opgen_sim::Sim;
 use std::alloc::Global;
 use std::simd::prelude::*;
 use std::test::Fail;
@@ -106,31 +105,6 @@ fn register() -> Expr {
     Expr::Name(1)
 }
 
-#[test]
-fn a_register_gives_its_input_a_cycle_later(rt: HostRuntime) -> Result<(), Fail> {
-    let widths = Widths {
-        a: 2,
-        b: 1,
-        held: 2,
-        y: 2,
-    };
-    let input = assign(0, Expr::Port(0));
-    let design = circuit(rt.alloc(), widths, Word::new(1, 2), input, register(), None)?;
-    let sound = design.sound(rt.alloc());
-    if sound.is_ok() {
-        let mut sim = Sim::new(rt.alloc(), &design)?;
-        let mut outputs = [0];
-        sim.step(&[2, 0], &mut outputs);
-        assert_eq!(rt; outputs[0], 1);
-        sim.step(&[3, 0], &mut outputs);
-        assert_eq!(rt; outputs[0], 2);
-        sim.step(&[0, 0], &mut outputs);
-        assert_eq!(rt; outputs[0], 3);
-    }
-    assert!(rt; sound.is_ok());
-    Ok(())
-}
-
 // A table of an input, with these rows.
 fn table(
     alloc: Global,
@@ -148,159 +122,6 @@ fn table(
         rows,
         other,
     })
-}
-
-#[test]
-fn a_table_gives_its_row_or_the_other_word(rt: HostRuntime) -> Result<(), Fail> {
-    let widths = Widths {
-        a: 2,
-        b: 1,
-        held: 2,
-        y: 2,
-    };
-    let rows = [
-        (Word::new(2, 2), Word::new(3, 2)),
-        (Word::new(0, 2), Word::new(1, 2)),
-    ];
-    let first = table(rt.alloc(), 0, &rows, Word::new(2, 2))?;
-    let design = circuit(rt.alloc(), widths, Word::new(1, 2), first, register(), None)?;
-    let sound = design.sound(rt.alloc());
-    if sound.is_ok() {
-        let mut sim = Sim::new(rt.alloc(), &design)?;
-        let mut outputs = [0];
-        sim.step(&[2, 0], &mut outputs);
-        assert_eq!(rt; outputs[0], 1);
-        sim.step(&[3, 0], &mut outputs);
-        assert_eq!(rt; outputs[0], 3);
-        sim.step(&[0, 0], &mut outputs);
-        assert_eq!(rt; outputs[0], 2);
-        sim.step(&[0, 0], &mut outputs);
-        assert_eq!(rt; outputs[0], 1);
-    }
-    assert!(rt; sound.is_ok());
-    Ok(())
-}
-
-/// The output over two inputs one cycle after they were given, or none where the design is not sound.
-fn output_of(
-    alloc: Global,
-    a: Word,
-    b: Word,
-    held: u32,
-    y: u32,
-    first: Driver,
-    output: Expr,
-) -> Result<Option<u128>, Memory> {
-    let widths = Widths {
-        a: a.width(),
-        b: b.width(),
-        held,
-        y,
-    };
-    let design = circuit(alloc, widths, Word::new(0, held), first, output, None)?;
-    let sound = design.sound(alloc);
-    if sound.is_err() {
-        return Ok(None);
-    }
-    let mut sim = Sim::new(alloc, &design)?;
-    let mut outputs = [0];
-    sim.step(&[a.bits(), b.bits()], &mut outputs);
-    sim.step(&[a.bits(), b.bits()], &mut outputs);
-    Ok(Some(outputs[0]))
-}
-
-/// Two words of a width, and the result of an operator.
-#[derive(Clone, Copy)]
-struct Case {
-    width: u32,
-    op: Op,
-    a: Word,
-    b: Word,
-    gives: u128,
-}
-
-fn applied(op: Op, width: u32, a: u128, b: u128, gives: u128) -> Case
-    requires a { a < 2 ^ width }
-    requires b { b < 2 ^ width }
-{
-    Case {
-        width,
-        op,
-        a: Word::new(a, width),
-        b: Word::new(b, width),
-        gives,
-    }
-}
-
-const ALL_64: u128 = 0xffff_ffff_ffff_ffff;
-
-const ALL_65: u128 = 0x1_ffff_ffff_ffff_ffff;
-
-const ALL_95: u128 = 0x7fff_ffff_ffff_ffff_ffff_ffff;
-
-const ALL_96: u128 = 0xffff_ffff_ffff_ffff_ffff_ffff;
-
-#[test]
-fn sums_and_differences_of_more_than_64_bits(rt: HostRuntime) -> Result<(), Fail> {
-    let cases = [
-        applied(Op::Plus, 65, ALL_64, 1, 0x1_0000_0000_0000_0000),
-        applied(Op::Plus, 65, ALL_65, 1, 0),
-        applied(Op::Plus, 95, ALL_95, 2, 1),
-        applied(Op::Plus, 96, ALL_96, ALL_96, ALL_96 - 1),
-        applied(Op::Plus, 96, ALL_64, ALL_64, 0x1_ffff_ffff_ffff_fffe),
-        applied(Op::Minus, 65, 0x1_0000_0000_0000_0000, 1, ALL_64),
-        applied(Op::Minus, 65, 0, 1, ALL_65),
-        applied(Op::Minus, 95, 1, 2, ALL_95),
-        applied(Op::Minus, 96, 0, ALL_96, 1),
-        applied(Op::And, 96, ALL_96, ALL_65, ALL_65),
-        applied(Op::Xor, 95, ALL_95, ALL_65, 0x7fff_fffe_0000_0000_0000_0000),
-    ];
-    for case in cases {
-        let expr = chain(rt.alloc(), case.op, Expr::Port(0), Expr::Port(1))?;
-        let width = case.width;
-        let output = output_of(
-            rt.alloc(),
-            case.a,
-            case.b,
-            width,
-            width,
-            assign(0, expr),
-            register(),
-        )?;
-        assert_eq!(rt; output, Some(case.gives));
-    }
-    Ok(())
-}
-
-#[test]
-fn joined_words_and_parts_of_96_bits(rt: HostRuntime) -> Result<(), Fail> {
-    let joined = chain(rt.alloc(), Op::Cat, Expr::Port(0), Expr::Port(1))?;
-    let high = Word::new(0x1_2345_6789_abcd_ef01, 65);
-    let low = Word::new(0x7654_3210, 31);
-    let part = Expr::Part(Slice {
-        node: 1,
-        high: 94,
-        low: 62,
-    });
-    let output = output_of(rt.alloc(), high, low, 96, 33, assign(0, joined), part)?;
-    assert_eq!(rt; output, Some(0x468a_cf13));
-    Ok(())
-}
-
-#[test]
-fn rows_of_96_bits(rt: HostRuntime) -> Result<(), Fail> {
-    let rows = [
-        (Word::new(1, 2), Word::new(ALL_96, 96)),
-        (Word::new(3, 2), Word::new(ALL_96 - ALL_64, 96)),
-    ];
-    let results = [ALL_64, ALL_96, ALL_64, ALL_96 - ALL_64];
-    for (address, result) in (0..4u128).zip(results) {
-        let first = table(rt.alloc(), 0, &rows, Word::new(ALL_64, 96))?;
-        let a = Word::new(address % 4, 2);
-        let output = output_of(rt.alloc(), a, Word::new(0, 1), 96, 96, first, register())?;
-        assert_eq!(rt; output, Some(result));
-    }
-    Ok(())
 }
 
 // A third of four bits in a table, and a register that moves where the first input is 1.
@@ -325,58 +146,13 @@ fn enabled_third(alloc: Global, initial: Word) -> Result<Design, Memory>
     circuit(alloc, widths, initial, third, register(), Some(0))
 }
 
-#[test]
-fn registers_move_where_the_enable_is_1(rt: HostRuntime) -> Result<(), Fail> {
-    let design = enabled_third(rt.alloc(), Word::new(0, 3))?;
-    let sound = design.sound(rt.alloc());
-    if sound.is_ok() {
-        let mut sim = Sim::new(rt.alloc(), &design)?;
-        let mut outputs = [0];
-        let rows = [
-            (1, 1, 0),
-            (0, 15, 1),
-            (1, 2, 1),
-            (0, 0, 1),
-            (1, 4, 1),
-            (1, 15, 2),
-            (1, 0, 5),
-        ];
-        for (enable, x, y) in rows {
-            sim.step(&[enable % 2, x % 16], &mut outputs);
-            assert_eq!(rt; outputs[0], y);
-        }
-    }
-    assert!(rt; sound.is_ok());
-    Ok(())
-}
-
-#[test]
-fn a_register_holds_its_initial_word(rt: HostRuntime) -> Result<(), Fail> {
-    let design = enabled_third(rt.alloc(), Word::new(6, 3))?;
-    let sound = design.sound(rt.alloc());
-    if sound.is_ok() {
-        let mut sim = Sim::new(rt.alloc(), &design)?;
-        let mut outputs = [0];
-        for cycle in 0..100u32 {
-            sim.step(&[0, u128::from(cycle % 16)], &mut outputs);
-            assert_eq!(rt; outputs[0], 6);
-        }
-        sim.step(&[1, 15], &mut outputs);
-        assert_eq!(rt; outputs[0], 6);
-        sim.step(&[0, 0], &mut outputs);
-        assert_eq!(rt; outputs[0], 5);
-    }
-    assert!(rt; sound.is_ok());
-    Ok(())
-}
-
 // A simulator of a copy of the design, made for so many cycles.
 fn made_for(alloc: Global, design: &Design, cycles: u32) -> Result<Sim, Memory>
     requires sound { IsSound design.now }
     requires numbers { HasNumbers design.now }
     ensures { IfOk result (λ s. IsNew design.now s) }
 {
-    Sim::from_design(alloc, copy(alloc, design)?, cycles)
+    Sim::from_design(alloc, design.copy(alloc)?, cycles)
 }
 
 #[test]

@@ -11,5 +11,3 @@ mod extreme;
 mod long;
 #[cfg(test)]
 mod running;
-#[cfg(test)]
-mod targets;

@@ -191,6 +191,13 @@ fn number_in(text: Option<&str>) -> u32 {
     text.and_then(|word| word.parse::<u32>().ok()).unwrap_or(0)
 }
 
+/// The number of a node where all inputs are this one.
+fn number(net: &Net, node: usize, input: u128) -> Result<u128, AllocError> {
+    let inputs = vec![in net.nodes.allocator(); input; net.inputs.len()]?;
+    let words = words_of(net, &inputs)?;
+    Ok(words.get(node).map_or(0, |word| word.bits))
+}
+
 /// The row of the heap that another row names.
 fn row_of(alloc: Global, given: &str) -> Result<String, Memory> {
     let mut fields = given.split(" / ");
@@ -207,8 +214,7 @@ fn row_of(alloc: Global, given: &str) -> Result<String, Memory> {
     let columns = columns_text(alloc, &net, &heap)?;
     let answer = compress(alloc, heap, &mut net)?;
     let all = net.nodes.len().saturating_sub(inputs);
-    let words = words_of(&net, &vec![in alloc; 1; inputs]?)?;
-    let sum = words.get(answer).map_or(0, |word| word.bits);
+    let sum = number(&net, answer, 1)?;
     Ok(format!(in alloc;
         "{width} / {bits} / {constant} / {tables} / {columns} / {made} {all} / {sum}"
     )?)
@@ -235,9 +241,7 @@ fn a_bit_seven_times(rt: HostRuntime) -> Result<(), Fail> {
     let columns = columns_text(rt.alloc(), &net, &heap)?;
     assert_eq!(rt; *columns.as_str(), *"i0 t0.0 | t0.1 | t0.2 | -");
     let answer = compress(rt.alloc(), heap, &mut net)?;
-    for (bit, sum) in [(0, 0), (1, 7)] {
-        let words = words_of(&net, &[bit])?;
-        assert_eq!(rt; words.get(answer).map(|word| word.bits), Some(sum));
-    }
+    assert_eq!(rt; number(&net, answer, 0)?, 0);
+    assert_eq!(rt; number(&net, answer, 1)?, 7);
     Ok(())
 }

@@ -1,5 +1,4 @@
-//! Heaps of a few bits, their counters and the nodes that they are compressed to; compressed heaps against plain addition;
-//! words as nodes.
+//! Heaps of a few bits, their counters, the nodes that they are compressed to and sums; words as nodes: tests alone.
 #![tactic(auto)]
 
 #[cfg(test)]

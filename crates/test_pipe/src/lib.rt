@@ -1,10 +1,8 @@
-//! Plans of nets made by hand at several periods, and runs of eight of them against the flow of their nets.
+//! Plans of nets made by hand at several periods, and runs of seven of them beside words worked out by hand.
 #![tactic(auto)]
 
 #[cfg(test)]
 mod delays;
-#[cfg(test)]
-mod flow;
 #[cfg(test)]
 mod flows;
 #[cfg(test)]
@@ -19,5 +17,3 @@ mod readers;
 mod runs;
 #[cfg(test)]
 mod spread;
-#[cfg(test)]
-mod third;

@@ -1,4 +1,4 @@
-//! Nets of the kinds' recipes, worked out by hand: tables, columns left out, numbers of nodes, and words as nodes.
+//! Nets of a product and of a quotient and what recipes rest on, worked out by hand: columns left out, and numbers of nodes.
 #![tactic(auto)]
 
 #[cfg(test)]
@@ -6,14 +6,6 @@ mod columns;
 #[cfg(test)]
 mod nodes;
 #[cfg(test)]
-mod printing;
-#[cfg(test)]
 mod products;
 #[cfg(test)]
 mod quotients;
-#[cfg(test)]
-mod roots;
-#[cfg(test)]
-mod sums;
-#[cfg(test)]
-mod tables;

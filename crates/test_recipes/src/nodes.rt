@@ -2,7 +2,7 @@
 ghost use Rattle.std.specs.Prelude.{◌≡◌};
 
 use opgen_design::{Expr, Op, Slice};
-use opgen_net::{Class, Net, WordBit};
+use opgen_net::{Class, Net};
 use opgen_num::Word;
 use std::test::Fail;
 
@@ -33,19 +33,5 @@ fn numbers_of_nodes(rt: HostRuntime) -> Result<(), Fail> {
     net.output("y", part(5, 1, 0))?;
     assert_eq!(rt; net.outputs.len(), 1);
     assert_eq!(rt; net.width_of(5), 2);
-    Ok(())
-}
-
-#[test]
-fn words_of_an_input(rt: HostRuntime) -> Result<(), Fail> {
-    let mut net = Net::new(rt.alloc());
-    let x = net.input("x", 2)?;
-    let low = WordBit::Of { node: x, index: 0 };
-    let high = WordBit::Of { node: x, index: 1 };
-    assert_eq!(rt; net.word(&[high, low])?, 0);
-    assert_eq!(rt; net.word(&[WordBit::One, WordBit::Zero])?, 1);
-    assert_eq!(rt; net.word(&[WordBit::Zero, high, low])?, 2);
-    assert_eq!(rt; net.word(&[low])?, 3);
-    assert_eq!(rt; net.nodes.len(), 4);
     Ok(())
 }

@@ -1,12 +1,43 @@
 //! Tests of the net of a quotient, worked out by hand.
-use crate::printing::shown;
 use opgen_divide::build;
-use opgen_net::{Class, Node};
+use opgen_net::{Net, Node};
 use opgen_num::Format;
 use opgen_operator::Pair;
+use std::alloc::{AllocError, Global};
+use std::process::Abort;
 use std::test::Fail;
 
-// One bit by one bit: two inputs, the divisor's word, and one step.
+/// Two inputs, the divisor's word, and one step.
+static NODES: [&str; 7] = [
+    "Input 0 of width 1",
+    "Input 1 of width 1",
+    "Wire of width 3: Chain(Cat, [Bits(Word { bits: 0, width: 2 }), Name(1)])",
+    "Wire of width 3: Chain(Cat, [Bits(Word { bits: 0, width: 2 }), Name(0)])",
+    "Add of width 3: Chain(Minus, [Name(3), Name(2)])",
+    "Logic of width 1: Not(Part(Slice { node: 4, high: 2, low: 2 }))",
+    "Choice on 5: Slice { node: 4, high: 0, low: 0 } or Slice { node: 3, high: 0, low: 0 }",
+];
+
+fn text_of(alloc: Global, node: &Node) -> Result<String, AllocError> {
+    match node {
+        Node::Input { port, width } => format!(in alloc; "Input {port} of width {width}"),
+        Node::Cells { class, width, expr } => {
+            format!(in alloc; "{class:?} of width {width}: {:?}", expr.expr())
+        }
+        Node::Choice { on, yes, no } => format!(in alloc; "Choice on {on}: {yes:?} or {no:?}"),
+        Node::Constant(_) | Node::Table { .. } | Node::Delay { .. } => Ok(String::new(alloc)),
+    }
+}
+
+fn expect_outputs(rt: &impl Abort, net: &Net) {
+    let [q, r] = net.outputs.as_slice() else {
+        panic!(rt; "two outputs")
+    };
+    assert_eq!(rt; (q.from.node, q.from.high, q.from.low), (5, 0, 0));
+    assert_eq!(rt; (r.from.node, r.from.high, r.from.low), (6, 0, 0));
+    assert!(rt; *q.name.as_str() == *"q" && *r.name.as_str() == *"r");
+}
+
 #[test]
 fn one_bit_by_one(rt: HostRuntime) -> Result<(), Fail> {
     let bit = Format {
@@ -21,33 +52,10 @@ fn one_bit_by_one(rt: HostRuntime) -> Result<(), Fail> {
         exact: true,
     };
     let net = build(rt.alloc(), &pair)?;
-    assert_eq!(rt; net.nodes.len(), 7);
-    assert_eq!(rt;
-        *shown(&rt, &net, 2, Class::Wire)?.as_str(),
-        *"Chain(Cat, [Bits(Word { bits: 0, width: 2 }), Name(1)])"
-    );
-    assert_eq!(rt;
-        *shown(&rt, &net, 3, Class::Wire)?.as_str(),
-        *"Chain(Cat, [Bits(Word { bits: 0, width: 2 }), Name(0)])"
-    );
-    assert_eq!(rt;
-        *shown(&rt, &net, 4, Class::Add)?.as_str(),
-        *"Chain(Minus, [Name(3), Name(2)])"
-    );
-    assert_eq!(rt;
-        *shown(&rt, &net, 5, Class::Logic)?.as_str(),
-        *"Not(Part(Slice { node: 4, high: 2, low: 2 }))"
-    );
-    let Some(Node::Choice { on, yes, no }) = net.nodes.as_slice().get(6) else {
-        panic!(rt; "a choice")
-    };
-    assert_eq!(rt; (*on, yes.node, yes.high, yes.low), (5, 4, 0, 0));
-    assert_eq!(rt; (no.node, no.high, no.low), (3, 0, 0));
-    let [q, r] = net.outputs.as_slice() else {
-        panic!(rt; "two outputs")
-    };
-    assert_eq!(rt; (q.from.node, q.from.high, q.from.low), (5, 0, 0));
-    assert_eq!(rt; (r.from.node, r.from.high, r.from.low), (6, 0, 0));
-    assert!(rt; *q.name.as_str() == *"q" && *r.name.as_str() == *"r");
+    assert_eq!(rt; net.nodes.len(), NODES.len());
+    for (node, text) in net.nodes.as_slice().iter().zip(&NODES) {
+        assert_eq!(rt; *text_of(rt.alloc(), node)?.as_str(), **text);
+    }
+    expect_outputs(&rt, &net);
     Ok(())
 }

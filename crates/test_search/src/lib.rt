@@ -1,15 +1,10 @@
-//! Signed digits, adder graphs and least sets of a few numbers; least sets against an enumeration, for several numbers of
-//! workers.
+//! Signed digits, adder graphs and least sets of a few numbers; pieces of a search that run side by side: tests alone.
 #![tactic(auto)]
 
 #[cfg(test)]
 mod adders;
 #[cfg(test)]
-mod checks;
-#[cfg(test)]
 mod digits;
-#[cfg(test)]
-mod enumeration;
 #[cfg(test)]
 mod gates;
 #[cfg(test)]

@@ -1,4 +1,4 @@
-//! Texts that are cut, written, reported and read as rows, with what was worked out by hand: tests alone.
+//! Texts of designs and reports, tokens, and rows in streams, with what was worked out by hand: tests alone.
 #![tactic(auto)]
 
 #[cfg(test)]

@@ -1,81 +1,11 @@
-//! Tests of files of vectors: rows that are read, rejected at their first bad line, written, and put into parallel streams.
+//! Tests of rows of words: too many of them, and rows that are put into parallel streams and taken out of them.
 ghost use Rattle.std.specs.Prelude.{◌≡◌, ◌≤◌, [], IfOk};
 
-use opgen_streams::{STREAMS, bit_in};
-use opgen_vec::{
-    MAX_ROWS, VecFault, Vectors, pack, read_empty_rows, read_vectors, unpack, write_rows,
-};
+use opgen_vec::{MAX_ROWS, VecFault, Vectors, pack, read_empty_rows, read_vectors, unpack};
 use std::alloc::{AllocError, Global};
 use std::process::Abort;
 use std::simd::u64x4;
 use std::test::Fail;
-
-#[test]
-fn reads_rows(rt: HostRuntime) -> Result<(), Fail> {
-    let cases: [(&[u8], &[u32], &[u128]); 9] = [
-        (b"", &[4], &[]),
-        (b"0\n1\nf\n", &[4], &[0, 1, 15]),
-        (b"F\r\na", &[4], &[15, 10]),
-        (b"1f 3\n00 0", &[5, 2], &[31, 3, 0, 0]),
-        (b"1\r\n0\n", &[1], &[1, 0]),
-        (b"ffffffffffffffff\n", &[64], &[0xffff_ffff_ffff_ffff]),
-        (b"1ffffffffffffffff\n", &[65], &[0x1_ffff_ffff_ffff_ffff]),
-        (
-            b"800000000000000000000000 0F\n",
-            &[96, 5],
-            &[0x8000_0000_0000_0000_0000_0000, 15],
-        ),
-        (b"aBcD 7 0\n", &[16, 3, 1], &[0xabcd, 7, 0]),
-    ];
-    for (bytes, widths, cells) in cases {
-        let found = read_vectors(rt.alloc(), bytes, widths)?;
-        assert_eq!(rt; found.columns as usize, widths.len());
-        assert_eq!(rt; found.cells.as_slice(), cells);
-    }
-    Ok(())
-}
-
-#[test]
-fn refuses_the_first_bad_line(rt: HostRuntime) {
-    let cases: [(&[u8], &[u32], u32); 17] = [
-        (b"f\ng\n", &[4], 2),
-        (b"\n", &[4], 1),
-        (b"1\n\n2\n", &[4], 2),
-        (b"1\r", &[4], 1),
-        (b"1\n2\n3\r", &[4], 3),
-        (b"1 \n", &[4], 1),
-        (b" 1\n", &[4], 1),
-        (b"1  2\n", &[4, 4], 1),
-        (b"1\t2\n", &[4, 4], 1),
-        (b"1 2 3\n", &[4, 4], 1),
-        (b"1\n", &[5], 1),
-        (b"20\n", &[5], 1),
-        (b"1f\n010\n", &[5], 2),
-        (b"1 : 03\n", &[4], 1),
-        (b"20000000000000000\n", &[65], 1),
-        (b"00000000000000000000000\n", &[96], 1),
-        (b"0000000000000000000000000\n", &[96], 1),
-    ];
-    for (bytes, widths, line) in cases {
-        let fault = read_vectors(rt.alloc(), bytes, widths).err();
-        assert_eq!(rt; fault, Some(VecFault::BadLine { line }));
-    }
-}
-
-#[test]
-fn counts_empty_rows(rt: HostRuntime) {
-    let cases: [(&[u8], Result<u32, VecFault>); 6] = [
-        (b"", Ok(0)),
-        (b"\n", Ok(1)),
-        (b"\r\n\n", Ok(2)),
-        (b"\r", Err(VecFault::BadLine { line: 1 })),
-        (b"\n\n0\n", Err(VecFault::BadLine { line: 3 })),
-        (b"\n \n", Err(VecFault::BadLine { line: 2 })),
-    ];
-    for (bytes, want) in cases {
-        assert_eq!(rt; read_empty_rows(bytes), want);
-    }
-}
 
 #[test]
 fn refuses_too_many_rows(rt: HostRuntime) -> Result<(), Fail> {
@@ -96,56 +26,6 @@ fn column(alloc: Global, cells: &[u128]) -> Result<Vectors, AllocError>
         columns: 1,
         cells: Vec::from_slice(alloc, cells)?,
     })
-}
-
-fn no_columns(alloc: Global) -> Vectors
-    ensures { result.columns ≡ 0 }
-{
-    Vectors {
-        columns: 0,
-        cells: Vec::new(alloc),
-    }
-}
-
-#[test]
-fn writes_rows(rt: HostRuntime) -> Result<(), Fail> {
-    let inputs = column(rt.alloc(), &[0, 1, 15])?;
-    let outputs = column(rt.alloc(), &[0, 3, 45])?;
-    assert_eq!(rt; inputs.row_count(), outputs.row_count());
-    let text = write_rows(rt.alloc(), &inputs, &outputs, &[4], &[6])?;
-    assert_eq!(rt; text.as_slice(), b"0 : 00\n1 : 03\nf : 2d\n".as_slice());
-    Ok(())
-}
-
-#[test]
-fn writes_rows_of_one_side(rt: HostRuntime) -> Result<(), Fail> {
-    let vectors = read_vectors(rt.alloc(), b"1F 3\n00 0", &[5, 2])?;
-    let none = no_columns(rt.alloc());
-    let text = write_rows(rt.alloc(), &vectors, &none, &[5, 2], &[])?;
-    assert_eq!(rt; text.as_slice(), b"1f 3 : \n00 0 : \n".as_slice());
-    let text = write_rows(rt.alloc(), &none, &vectors, &[], &[5, 2])?;
-    assert_eq!(rt; text.as_slice(), b" : 1f 3\n : 00 0\n".as_slice());
-    Ok(())
-}
-
-#[test]
-fn writes_24_digits(rt: HostRuntime) -> Result<(), Fail> {
-    let inputs = column(rt.alloc(), &[0xfedc_ba98_7654_3210_0123_4567, 10])?;
-    let outputs = column(rt.alloc(), &[0x1_0000_0000_0000_0000, 0])?;
-    let text = write_rows(rt.alloc(), &inputs, &outputs, &[96], &[65])?;
-    let rows =
-        b"fedcba987654321001234567 : 10000000000000000\n00000000000000000000000a : 00000000000000000\n";
-    assert_eq!(rt; text.as_slice(), rows.as_slice());
-    Ok(())
-}
-
-#[test]
-fn prints_faults(rt: HostRuntime) -> Result<(), Fail> {
-    let bad = VecFault::BadLine { line: 3 };
-    assert_eq!(rt; format!(in rt.alloc(); "{bad}")?.as_str(), "BadLine 3");
-    let many = VecFault::TooMany;
-    assert_eq!(rt; format!(in rt.alloc(); "{many}")?.as_str(), "TooMany");
-    Ok(())
 }
 
 // 257 rows, each of four bits that count down.
@@ -169,21 +49,6 @@ fn packs_rows_and_zeros(rt: HostRuntime) -> Result<(), Fail> {
     pack(&rows, 256, &[4], &mut lanes);
     for lane in lanes.iter() {
         assert_eq!(rt; lane.to_array(), [1, 0, 0, 0]);
-    }
-    Ok(())
-}
-
-#[test]
-fn packs_each_bit_of_each_row(rt: HostRuntime) -> Result<(), Fail> {
-    let rows = falling(rt.alloc())?;
-    let mut lanes = [u64x4::splat(0); 4];
-    pack(&rows, 0, &[4], &mut lanes);
-    for stream in 0..STREAMS {
-        let number = 15 - stream % 16;
-        assert_eq!(rt; bit_in(&lanes[0], stream), number % 2 == 1);
-        assert_eq!(rt; bit_in(&lanes[1], stream), number / 2 % 2 == 1);
-        assert_eq!(rt; bit_in(&lanes[2], stream), number / 4 % 2 == 1);
-        assert_eq!(rt; bit_in(&lanes[3], stream), number / 8 % 2 == 1);
     }
     Ok(())
 }

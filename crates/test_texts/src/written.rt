@@ -47,58 +47,6 @@ begin
 end architecture;
 "#;
 
-const ENABLED_THIRD: &str = r#"library ieee;
-use ieee.std_logic_1164.all;
-use ieee.numeric_std.all;
-
-entity third is
-  port (
-    clk : in std_logic;
-    ce : in std_logic_vector(0 downto 0);
-    x : in std_logic_vector(3 downto 0);
-    y : out std_logic_vector(2 downto 0)
-  );
-end entity;
-
-architecture rtl of third is
-  signal s0 : unsigned(3 downto 0);
-  signal s1 : unsigned(3 downto 0);
-  signal s1_1 : unsigned(3 downto 0) := "0000";
-  signal s2 : unsigned(3 downto 0);
-  signal s3 : unsigned(3 downto 0);
-begin
-  s0 <= unsigned(x);
-  with s0 select s1 <=
-    "0000" when "0000",
-    "0001" when "0001",
-    "0001" when "0010",
-    "0010" when "0011",
-    "0011" when "0100",
-    "0011" when "0101",
-    "0100" when "0110",
-    "0101" when "0111",
-    "0101" when "1000",
-    "0110" when "1001",
-    "0111" when "1010",
-    "0111" when "1011",
-    "1000" when "1100",
-    "1001" when "1101",
-    "1001" when "1110",
-    "1010" when others;
-  s2 <= "0001";
-  s3 <= s1_1 + s2;
-  process (clk)
-  begin
-    if rising_edge(clk) then
-      if ce = "1" then
-        s1_1 <= s1;
-      end if;
-    end if;
-  end process;
-  y <= std_logic_vector(s3(3 downto 1));
-end architecture;
-"#;
-
 const HELD: &str = r#"library ieee;
 use ieee.std_logic_1164.all;
 use ieee.numeric_std.all;
@@ -239,58 +187,6 @@ fn mixed(alloc: Global) -> Result<Design, AllocError> {
     })
 }
 
-// Twice a third of 4 bits, rounded.
-fn third_table(alloc: Global) -> Result<Driver, AllocError> {
-    let words = [0, 1, 1, 2, 3, 3, 4, 5, 5, 6, 7, 7, 8, 9, 9];
-    let mut rows = Vec::new(alloc);
-    for (address, word) in words.iter().enumerate() {
-        rows.push((Word::new(address as u128, 4), Word::new(*word, 4)))?;
-    }
-    Ok(Driver::Table {
-        to: 1,
-        on: Formula::new(Expr::Name(0)),
-        rows: Items::from_vec(rows),
-        other: Word::new(10, 4),
-    })
-}
-
-fn third_signals(alloc: Global) -> Result<Vec<Signal>, AllocError> {
-    let mut signals = Vec::new(alloc);
-    signals.push(signal(alloc, "s0", 4, None)?)?;
-    signals.push(signal(alloc, "s1", 4, None)?)?;
-    signals.push(signal(alloc, "s1_1", 4, Some(Word::new(0, 4)))?)?;
-    signals.push(signal(alloc, "s2", 4, None)?)?;
-    signals.push(signal(alloc, "s3", 4, None)?)?;
-    Ok(signals)
-}
-
-fn third_drivers(alloc: Global) -> Result<Vec<Driver>, AllocError> {
-    let mut drivers = Vec::new(alloc);
-    drivers.push(assign(0, Expr::Port(1)))?;
-    drivers.push(third_table(alloc)?)?;
-    drivers.push(assign(3, Expr::Bits(Word::new(1, 4))))?;
-    drivers.push(assign(4, pair(alloc, Op::Plus, Expr::Name(2), Expr::Name(3))?))?;
-    drivers.push(Driver::Register {
-        to: 2,
-        expr: Formula::new(Expr::Name(1)),
-    })?;
-    drivers.push(output(2, part(4, 3, 1)))?;
-    Ok(drivers)
-}
-
-fn enabled_third(alloc: Global) -> Result<Design, AllocError> {
-    let ce = port(alloc, "ce", Dir::In, 1)?;
-    let x = port(alloc, "x", Dir::In, 4)?;
-    let y = port(alloc, "y", Dir::Out, 3)?;
-    Ok(Design {
-        name: Text::from_str(alloc, "third")?,
-        ports: Items::from_vec(vec![in alloc; ce, x, y]?),
-        signals: Items::from_vec(third_signals(alloc)?),
-        drivers: Items::from_vec(third_drivers(alloc)?),
-        enable: Some(0),
-    })
-}
-
 // Two registers behind each other, the second inverted; the enable is the second port.
 fn held_drivers(alloc: Global) -> Result<Vec<Driver>, AllocError> {
     let first = Driver::Register {
@@ -378,23 +274,10 @@ fn tells_of_a_sink_that_fails(rt: HostRuntime) -> Result<(), Fail> {
 }
 
 #[test]
-fn writes_an_enable(rt: HostRuntime) -> Result<(), Fail> {
-    let bytes = text(rt.alloc(), &enabled_third(rt.alloc())?)?;
-    assert_eq!(rt; str::from_utf8(&bytes)?, ENABLED_THIRD);
-    Ok(())
-}
-
-#[test]
-fn writes_an_enable_by_its_place(rt: HostRuntime) -> Result<(), Fail> {
-    let bytes = text(rt.alloc(), &held(rt.alloc())?)?;
-    assert_eq!(rt; str::from_utf8(&bytes)?, HELD);
-    Ok(())
-}
-
-#[test]
 fn writes_many_ports_and_no_signal(rt: HostRuntime) -> Result<(), Fail> {
     let bytes = text(rt.alloc(), &many_inputs(rt.alloc())?)?;
     let expected = many_inputs_text(rt.alloc())?;
+    assert!(rt; expected.len() > 4096);
     assert_eq!(rt; str::from_utf8(&bytes)?, expected.as_str());
     Ok(())
 }
@@ -450,17 +333,5 @@ fn puts_whole_pages(rt: HostRuntime) -> Result<(), Fail> {
     assert!(rt; taken(alloc, 4097, 1)? == (4096, true));
     assert!(rt; taken(alloc, 4097, 2)? == (4097, false));
     assert!(rt; taken(alloc, 8193, 2)? == (8192, true));
-    Ok(())
-}
-
-#[test]
-fn keeps_the_order_of_pages(rt: HostRuntime) -> Result<(), Fail> {
-    let alloc = rt.alloc();
-    let design = many_inputs(alloc)?;
-    let mut sink = MemorySink::new(alloc, Vec::new(alloc));
-    write_design(alloc, &design, &mut sink)?;
-    let expected = many_inputs_text(alloc)?;
-    assert!(rt; expected.len() > 4096);
-    assert!(rt; sink.bytes() == expected.as_bytes());
     Ok(())
 }

@@ -1,14 +1,9 @@
-use Rattle.std.proofs.Common.{ℕ, List, sym, ap, ◌∙◌, subst, codes}
-use Rattle.std.specs.Prelude.{IsTrue}
-use Rattle.opgen_names.specs.Names.{is_allowed_name}
-use Rattle.opgen_net.specs.declared.net.Net.{Net}
-use Rattle.opgen_net.specs.Named.{IsNamed}
+use Rattle.std.proofs.Common.{sym, ap, ◌∙◌, subst, codes}
 use Rattle.opgen_operator.specs.Fits.{FitsSpecsOf}
 use Rattle.opgen_operator.specs.declared.spec.Operator.TheVariants.{Divide}
 use Rattle.opgen_digits.specs.Digit.{Known}
 use Rattle.opgen_digits.specs.Results.{AreResults, with_results}
 use Rattle.opgen_divide.specs.Steps.{HoldsAfterEachStep}
-use Rattle.opgen_divide.proofs.Named.{named}
 use Rattle.opgen_divide.proofs.Whole.{has_widths, results, fits_specs, all_steps}
 use Rattle.opgen_divide.proofs.build.Goals as goal
 
@@ -33,9 +28,3 @@ returns-clause-fits c =
     let p = c.args.pair.now in
     let made = c.in_ok-output_results.ensures.ok ∙ ap (with_results p.exact (codes "q")) (sym c.in_ok-digits.ensures.ok) in
     subst (FitsSpecsOf (Divide p)) (sym made) (fits_specs p c.requires)
-
-pub returns-clause-named : goal.returns-clause-named
-returns-clause-named c =
-    let p = c.args.pair.now in
-    let made = c.in_ok-output_results.ensures.ok ∙ ap (with_results p.exact (codes "q")) (sym c.in_ok-digits.ensures.ok) in
-    subst (λ (net : Net). (name : List ℕ) → IsTrue (is_allowed_name name) → IsNamed name net) (sym made) (named p (has_widths p c.requires))

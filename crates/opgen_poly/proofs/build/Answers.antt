@@ -1,13 +1,8 @@
-use Rattle.std.proofs.Common.{ℕ, List, sym, subst}
-use Rattle.std.specs.Prelude.{IsTrue}
-use Rattle.opgen_names.specs.Names.{is_allowed_name}
-use Rattle.opgen_net.specs.declared.net.Net.{Net}
-use Rattle.opgen_net.specs.Named.{IsNamed}
+use Rattle.std.proofs.Common.{sym, subst}
 use Rattle.opgen_operator.specs.Fits.{FitsSpecsOf}
 use Rattle.opgen_operator.specs.declared.spec.Operator.TheVariants.{Poly}
 use Rattle.opgen_poly.specs.Near.{ArePartialsNear}
 use Rattle.opgen_poly.proofs.Fits.{accepted, fits_specs}
-use Rattle.opgen_poly.proofs.Named.{named}
 use Rattle.opgen_poly.proofs.Runs.{partials-near}
 use Rattle.opgen_poly.proofs.build.Goals as goal
 
@@ -23,9 +18,3 @@ pub returns-clause-fits : goal.returns-clause-fits
 returns-clause-fits c =
     let p = c.args.poly.now in
     subst (FitsSpecsOf (Poly p)) (sym c.in_ok-net.ensures.net) (fits_specs p c.requires)
-
-pub returns-clause-named : goal.returns-clause-named
-returns-clause-named c =
-    let p = c.args.poly.now in
-    subst (λ (net : Net). (name : List ℕ) → IsTrue (is_allowed_name name) → IsNamed name net) (sym c.in_ok-net.ensures.net)
-    (named p (accepted p c.requires))

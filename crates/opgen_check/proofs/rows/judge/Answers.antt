@@ -1,12 +1,10 @@
 use Rattle.std.proofs.Common.{map, sym, ◌∙◌, subst, arith}
+use Rattle.opgen_num.specs.Words.{AreRowsOfCells}
 use Rattle.opgen_design.specs.Run.{initial_words, input_widths}
 use Rattle.opgen_operator.specs.Ports.{outputs_of}
 use Rattle.opgen_runs.specs.Rows.{IsRunOf}
-use Rattle.opgen_sim.specs.Rows.{FitRows}
-use Rattle.opgen_vec.specs.Rows.{AreRowsOfCells}
 use Rattle.opgen_vec.specs.Writing.{row_count}
 use Rattle.opgen_check.specs.Verdict.{IsVerdict}
-use Rattle.opgen_check.proofs.Cells.{fit_rows}
 use Rattle.opgen_check.proofs.Judging.{outputs_fit}
 use Rattle.opgen_check.proofs.Sides.{all_ports, in_columns, in_widths, out_widths}
 use Rattle.opgen_check.proofs.rows.judge.Goals as goal
@@ -22,10 +20,9 @@ run_rows-requires-clause-rows c =
     let d = c.args.design.now in
     let cells = c.args.inputs.now.cells.items in
     let all = row_count c.args.inputs.now.columns cells in
-    let fit : FitRows (input_widths d) all cells = fit_rows (input_widths d) all cells c.requires.rows in
-    let lent = subst (FitRows (input_widths d) all) (sym c.deref.ensures.value) fit in
-    let counted = subst (λ n. FitRows (input_widths d) n c.deref.result.now) (sym c.row_count-rows.ensures) lent in
-    subst (λ x. FitRows (input_widths x) c.row_count-rows.result c.deref.result.now) (sym c.in_ok-copy.ensures) counted
+    let lent = subst (AreRowsOfCells (input_widths d) all) (sym c.deref.ensures.value) c.requires.rows in
+    let counted = subst (λ n. AreRowsOfCells (input_widths d) n c.deref.result.now) (sym c.row_count-rows.ensures) lent in
+    subst (λ x. AreRowsOfCells (input_widths x) c.row_count-rows.result c.deref.result.now) (sym c.in_ok-copy.ensures) counted
 
 pub judge_rows-requires-clause-in_columns : goal.judge_rows-requires-clause-in_columns
 judge_rows-requires-clause-in_columns c = c.requires.columns ∙ in_columns c.args.spec.now c.args.design.now c.requires.ports

@@ -1,11 +1,10 @@
 use Rattle.std.proofs.Common.{◌≡◌, ◌+◌, ◌-◌, ◌*◌, false, true, length, take, drop, map, sym, ap, ◌∙◌, subst, arith}
 use Rattle.std.proofs.lemmas.List.{drop-drop, length-map}
-use Rattle.opgen_num.specs.Words.{FitWidths}
+use Rattle.opgen_num.proofs.RowsOfCells.{first_fits, later_rows, row_room}
+use Rattle.opgen_num.specs.Words.{FitWidths, AreRowsOfCells}
 use Rattle.opgen_operator.specs.Ports.{inputs_of, outputs_of}
-use Rattle.opgen_vec.specs.Judged.{IsGoodRow}
-use Rattle.opgen_vec.specs.Rows.{AreRowsOfCells}
+use Rattle.opgen_vec.specs.GoodRow.{IsGoodRow}
 use Rattle.opgen_vec.specs.Writing.{row_count}
-use Rattle.opgen_vec.proofs.Rows.{first_fits, later_rows, row_room}
 use Rattle.opgen_check.specs.declared.checked.Checked.TheVariants.{Bad, Good}
 use Rattle.opgen_check.specs.Verdict.{IsGoodAt, IsJudged, IsVerdict, rows_up_to}
 use Rattle.opgen_check.proofs.Judging.{passed}

@@ -1,21 +1,18 @@
-use Rattle.std.proofs.Common.{◌≡◌, ◌∙◌, Some, ap, map, string_bytes, subst}
-use Rattle.std.specs.Prelude.{option_and_then}
+use Rattle.std.proofs.Common.{rules, ◌∙◌}
 use Rattle.clap.specs.Words.{found_of, rows_of}
-use Rattle.opgen_command.specs.Command.{found_by, generate_of}
-use Rattle.opgen_command.proofs.Meaning.{generate, no_workers}
+use Rattle.opgen_command.proofs.Meaning.{meaning, passed, generate, no_workers}
 use Rattle.opgen_command.proofs.read.generate.Goals as goal
 
-pub returns-in_default-number-clause-usage : goal.returns-in_default-number-clause-usage
-returns-in_default-number-clause-usage c = λ _. let rows = rows_of (found_of c.in_ok-found.found) in
-    let found =
-    subst (λ app. found_by app (map string_bytes c.args.words.now)
-    ≡ Some rows) c.in_ok-generate.ensures c.in_ok-found.ensures.found in
-    ap (option_and_then generate_of) found ∙ no_workers rows _ c.in-Some.ensures c.in_default-number.ensures.value
+pub returns-in_err-number : goal.returns-in_err-number
+returns-in_err-number c =
+    let rows = rows_of (found_of c.in_ok-found.found) in
+    passed _ _ _ c.from_residual-in_err-number.ensures.1 (λ usage. meaning _ _ _ _ rows c.in_ok-generate.ensures c.in_ok-found.ensures.found
+    ∙ no_workers rows _ c.in_ok-text.ensures.text c.in_err-number.ensures.value)
 
-pub returns-clause-command : goal.returns-clause-command
-returns-clause-command c = let rows = rows_of (found_of c.in_ok-found.found) in
-    let found =
-    subst (λ app. found_by app (map string_bytes c.args.words.now)
-    ≡ Some rows) c.in_ok-generate.ensures c.in_ok-found.ensures.found in
-    ap (option_and_then generate_of) found
-    ∙ generate rows _ _ _ _ c.in-Some.ensures c.in-Some-number.ensures.value c.in_ok-from_str.ensures c.is_set.ensures
+pub returns : goal.returns
+returns c =
+    let rows = rows_of (found_of c.in_ok-found.found) in (
+      meaning _ _ _ _ rows c.in_ok-generate.ensures c.in_ok-found.ensures.found
+          ∙ generate rows _ _ _ c.in_ok-text.ensures.text c.in_ok-number.ensures.value c.is_set.ensures,
+      search rules,
+    )

@@ -1,6 +1,6 @@
 use Rattle.std.proofs.Common.{◌∙◌}
 use Rattle.std.proofs.lemmas.Bool.{and_parts}
-use Rattle.opgen_command.proofs.Found.{refused, taken}
+use Rattle.opgen_command.proofs.Found.{usage_error, taken}
 use Rattle.opgen_command.proofs.read.matched.Goals as goal
 
 pub returns-in-Ok-clause-found : goal.returns-in-Ok-clause-found
@@ -12,6 +12,6 @@ returns-in-Ok-clause-found c =
 pub returns : goal.returns
 returns c = record {
   found = tt;
-  usage = λ _. refused _ _ c.in-Err.error (c.in-Err.ensures.kinds c.requires)
+  usage = λ _. usage_error _ _ c.in-Err.error (c.in-Err.ensures.kinds c.requires)
       (λ memory. c.in_default.not-OutOfMemory (c.kind.ensures ∙ memory));
 }

@@ -9,7 +9,7 @@ use Rattle.opgen_command.proofs.values.number.Goals as goal
 pub returns-in-Ok-Some-clause-value : goal.returns-in-Ok-Some-clause-value
 returns-in-Ok-Some-clause-value c =
     let text = one_text (found_of c.args.found.now) c.args.name.now in
-    c.within.ensures.value
+    sym c.ok_or.ensures.ok_part ∙ c.within.ensures.value
     ∙ number_found c.args.least c.args.most (omega (arith, c.ranges.most.fits)) _ c.args.default text c.in-Ok-Some.number
     (λ e. sym (ap Ok c.in-Ok-Some.field-0-is) ∙ c.in-Ok-Some.ensures.none e)
     (λ t e. let said = rw c.in-Ok-Some.field-0-is at c.in-Ok-Some.ensures.value t e in said.0)
@@ -19,7 +19,8 @@ returns-in-Ok-Some-clause-value c =
 pub returns-in-Ok-None-clause-value : goal.returns-in-Ok-None-clause-value
 returns-in-Ok-None-clause-value c =
     let text = one_text (found_of c.args.found.now) c.args.name.now in
-    none_found c.args.least c.args.most c.args.default text (λ t e. rw c.in-Ok-None.field-0-is at c.in-Ok-None.ensures.value t e)
+    sym c.ok_or-in-Ok-None.ensures.ok_part
+    ∙ none_found c.args.least c.args.most c.args.default text (λ t e. rw c.in-Ok-None.field-0-is at c.in-Ok-None.ensures.value t e)
     ∙ ap (λ o. option_map_or (number_in c.args.least c.args.most) o c.args.default)
     (one_text-rows (found_of c.args.found.now) c.args.name.now)
 

@@ -7,7 +7,7 @@ use Rattle.opgen_graph.specs.Placing.{IsNode}
 use Rattle.opgen_graph.specs.Recipe.{with_sum}
 use Rattle.opgen_graph.specs.SetCost.{bit_length}
 use Rattle.opgen_graph.proofs.Standing.{multiple_of-all}
-use Rattle.opgen_graph.proofs.Sums.{sum-answers}
+use Rattle.opgen_graph.proofs.Sums.{sum-placed}
 use Rattle.opgen_graph.proofs.adders.place_adder.Goals as goal
 
 pub sum-requires-clause-u : goal.sum-requires-clause-u
@@ -29,7 +29,7 @@ without_low-requires-clause-sum c =
     let wide : IsWidth bits =
     (omega (arith, c.requires.narrow.some), omega (arith, c.requires.narrow.sum, c.dropped-low.ensures)) in
     let answers =
-    sum-answers a.input.signed bits a.net.now a.adder c.multiple_of-u.result c.multiple_of-v.result c.requires.net wide
+    sum-placed a.input.signed bits a.net.now a.adder c.multiple_of-u.result c.multiple_of-v.result c.requires.net wide
     (subst (IsNode a.net.now) (sym c.multiple_of-u.ensures)
     (multiple_of-all (IsNode a.net.now) a.known.now a.adder.u c.requires.nodes c.requires.u))
     (subst (IsNode a.net.now) (sym c.multiple_of-v.ensures)

@@ -1,14 +1,10 @@
-use Rattle.std.proofs.Common.{◌≡◌, ℕ, List, sym, subst, rules}
-use Rattle.std.specs.Prelude.{All, IsTrue}
-use Rattle.opgen_names.specs.Names.{is_allowed_name}
-use Rattle.opgen_net.specs.declared.net.Net.{Net}
-use Rattle.opgen_net.specs.Named.{IsNamed}
+use Rattle.std.proofs.Common.{◌≡◌, sym, subst, rules}
+use Rattle.std.specs.Prelude.{All}
 use Rattle.opgen_operator.specs.declared.spec.Operator.TheVariants.{Mcm}
 use Rattle.opgen_operator.specs.Fits.{FitsSpecsOf}
 use Rattle.opgen_graph.specs.Placing.{AreAdders, IsNode, HasOddPart}
 use Rattle.opgen_graph.specs.Recipe.{Multiples, net_of_graph}
 use Rattle.opgen_graph.proofs.Fits.{multiples, are_adders, ready, odd_parts, fits_specs}
-use Rattle.opgen_graph.proofs.Named.{named}
 use Rattle.opgen_graph.proofs.Products.{ready_nodes}
 use Rattle.opgen_graph.proofs.net.graph_net.Goals as goal
 
@@ -46,11 +42,3 @@ returns-clause-fits c =
     let net : c.place_outputs.new.net ≡ net_of_graph graph m = search rules in
     subst (FitsSpecsOf (Mcm m)) (sym net)
     (fits_specs m c.requires.several graph c.requires.graph c.outputs_hold.ensures c.outputs_are_wide.ensures)
-
-pub returns-clause-named : goal.returns-clause-named
-returns-clause-named c =
-    let m = c.args.several.now in
-    let graph = c.args.graph.now in
-    let net : c.place_outputs.new.net ≡ net_of_graph graph m = search rules in
-    subst (λ (n : Net). (name : List ℕ) → IsTrue (is_allowed_name name) → IsNamed name n) (sym net)
-    (named m c.requires.several graph c.requires.graph)

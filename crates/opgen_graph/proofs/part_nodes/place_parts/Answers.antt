@@ -14,7 +14,7 @@ use Rattle.opgen_graph.specs.Parts.{part_width, part_node, with_part, with_parts
 use Rattle.opgen_graph.specs.Placing.{IsNode, IsPart, IsMultiple, AreMultiples, factors}
 use Rattle.opgen_graph.specs.Recipe.{Multiples}
 use Rattle.opgen_graph.proofs.Kept.{keeps-later, node-kept}
-use Rattle.opgen_graph.proofs.Products.{magnitude-answers}
+use Rattle.opgen_graph.proofs.Products.{magnitude-placed}
 use Rattle.opgen_graph.proofs.part_nodes.place_parts.Goals as goal
 
 pub parts-preserved : goal.parts-preserved
@@ -30,7 +30,7 @@ parts-preserved c =
     let before : Multiples = record { net = old; known = c.parts.made } in
     let made : Placed = part_node input known old p in
     let answers =
-    magnitude-answers input.signed b c.parts.invariant.valid c.parts.invariant.nodes (part_width input p) c.in_ok-multiple.ensures.wide p is.made in
+    magnitude-placed input.signed b c.parts.invariant.valid c.parts.invariant.nodes (part_width input p) c.in_ok-multiple.ensures.wide p is.made in
     let to : c.place_part.new.net ≡ made.net = c.in_ok-multiple.ensures.ok in
     let next : Multiples = record { net = c.place_part.new.net; known = c.push.new.self } in
     let list : c.push.new.self ≡ (with_part input known before p).known =

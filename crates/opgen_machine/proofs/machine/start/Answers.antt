@@ -3,7 +3,8 @@ use Rattle.std.specs.Prelude.{All, IfSome}
 use Rattle.std.proofs.lemmas.Option.{slice_get-get_or}
 use Rattle.opgen_design.specs.declared.design.Design.{Design}
 use Rattle.opgen_design.specs.declared.design.Signal.{Signal}
-use Rattle.opgen_design.specs.Sound.{IsSound, SignalPasses, Width, at_signal}
+use Rattle.opgen_design.specs.declared.sound.Rule.TheVariants.{Width}
+use Rattle.opgen_design.specs.Sound.{IsSound, SignalPasses, at_signal}
 use Rattle.opgen_machine.specs.Laid.{IsFlat}
 use Rattle.opgen_machine.proofs.machine.start.Goals as goal
 

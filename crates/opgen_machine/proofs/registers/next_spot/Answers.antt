@@ -2,7 +2,7 @@ use Rattle.std.proofs.Common.{◌∙◌, refl, sym, subst}
 use Rattle.std.specs.Prelude.{IsSome}
 use Rattle.opgen_design.specs.Tree.{name}
 use Rattle.opgen_design.specs.Plain.{plain}
-use Rattle.opgen_design.specs.Sound.{signal}
+use Rattle.opgen_design.specs.declared.design.Target.TheVariants.{Signal as signal}
 use Rattle.opgen_machine.specs.Programs.{Spots}
 use Rattle.opgen_machine.specs.Emit.{Chosen, Copied}
 use Rattle.opgen_machine.specs.Moves.{IsNext}

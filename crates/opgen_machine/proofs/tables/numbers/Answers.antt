@@ -1,6 +1,6 @@
 use Rattle.std.proofs.Common.{ap, ◌-◌, arith}
 use Rattle.opgen_num.specs.Words.{nat}
-use Rattle.opgen_machine.specs.Laid.{Row}
+use Rattle.opgen_runs.specs.Tables.{Row}
 use Rattle.opgen_machine.proofs.Laying.{row-below, row-fits}
 use Rattle.opgen_machine.proofs.tables.numbers.Goals as goal
 

@@ -5,7 +5,7 @@ use Rattle.std.specs.Int.{w64}
 use Rattle.std.proofs.lemmas.Int.{ints, to_z-of_z}
 use Rattle.opgen_operator.specs.Exact.{exact_multiple}
 use Rattle.opgen_operator.specs.Good.{IsGoodRatio}
-use Rattle.opgen_operator.specs.Judged.{output_numbers}
+use Rattle.opgen_operator.specs.PortNumbers.{output_numbers}
 use Rattle.opgen_operator.specs.Ports.{multiple_ports}
 use Rattle.opgen_operator.proofs.Numbered.{multiple-count, multiple-fits, multiple-judged, each_more}
 use Rattle.opgen_operator.proofs.good.multiples_are_good.Goals as goal

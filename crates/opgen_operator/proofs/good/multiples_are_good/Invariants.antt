@@ -2,7 +2,7 @@ use Rattle.std.proofs.Common.{ℕ, ◌≡◌, ◌<◌, Some}
 use Rattle.std.specs.Prelude.{ℤ, slice_get}
 use Rattle.opgen_operator.specs.Exact.{exact_multiple}
 use Rattle.opgen_operator.specs.Good.{IsGoodRatio}
-use Rattle.opgen_operator.specs.Judged.{output_numbers}
+use Rattle.opgen_operator.specs.PortNumbers.{output_numbers}
 use Rattle.opgen_operator.specs.Ports.{multiple_ports}
 use Rattle.opgen_operator.proofs.good.multiples_are_good.Given as goal
 

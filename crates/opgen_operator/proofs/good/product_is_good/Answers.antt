@@ -42,8 +42,8 @@ raised-denominator-requires-clause-small c =
     c.places_down.ensures in
     rw raised_down (omega (arith, power_order (places_down (product_shift p)) 48 (few_down 47 (product_shift p) c.requires.low)))
 
-pub output-requires-clause-least : goal.output-requires-clause-least
-output-requires-clause-least c = rw c.product_format.ensures (some_width (product_places c.args.product.now))
+pub output-y-requires-clause-least : goal.output-y-requires-clause-least
+output-y-requires-clause-least c = rw c.product_format.ensures (some_width (product_places c.args.product.now))
 
 pub returns : goal.returns
 returns c =
@@ -54,7 +54,7 @@ returns c =
     (omega (arith, product_small p c.args.a c.args.b c.requires.product c.requires.a c.requires.b)) in
     let fits_numerator : FitsSigned w128 c.raised-numerator.result = search rules in
     let fits_denominator : FitsSigned w128 c.raised-denominator.result = search rules in
-    let fits_output : FitsSigned w128 c.output.result = search rules in
+    let fits_output : FitsSigned w128 c.output-y.result = search rules in
     let fits_shift : FitsSigned w32 c.product_shift-shift.result = search rules in
     let raised_up : c.places_up.result ≡ places_up (product_shift c.args.product.now) = rw c.product_shift-shift.ensures.value at simp
     to_z-of_z at c.places_up.ensures in
@@ -62,6 +62,6 @@ returns c =
     to_z-of_z at c.places_down.ensures in
     let den : c.raised-denominator.result ≡ pos (2 ^ c.places_down.result) = omega (arith, ints, c.raised-denominator.ensures.value) in
     let num = rw raised_up at simp to_z-of_z at c.raised-numerator.ensures.value in
-    let out = rw c.product_format.ensures at c.output.ensures in
-    good-along c.good_linear.result c.args.exact c.raised-numerator.result _ c.raised-denominator.result _ c.output.result _ num
+    let out = rw c.product_format.ensures at c.output-y.ensures in
+    good-along c.good_linear.result c.args.exact c.raised-numerator.result _ c.raised-denominator.result _ c.output-y.result _ num
     (rw raised_down at den) out (simp to_z-of_z at c.good_linear.ensures)

@@ -1,7 +1,7 @@
 use Rattle.std.proofs.Common.{◌≡◌, ◌+◌, ◌≤◌, ◌*◌, ◌^◌, drop}
 use Rattle.std.specs.Prelude.{◌+ℤ◌, unsigned_abs}
 use Rattle.opgen_operator.specs.Exact.{weighted, weighted_from}
-use Rattle.opgen_operator.specs.Judged.{recent_numbers}
+use Rattle.opgen_operator.specs.PortNumbers.{recent_numbers}
 use Rattle.opgen_operator.specs.Ports.{one_input}
 use Rattle.opgen_operator.proofs.good.weighted.Given as goal
 

@@ -5,22 +5,22 @@ use Rattle.opgen_operator.proofs.outputs.reach_over.Goals as goal
 
 pub overflow_add-result : goal.overflow_add-result
 overflow_add-result c =
-    let bound = reach_bound c.from-rises.result c.from-falls.result c.reach_of-input.result.below c.reach_of-input.result.above
+    let bound = reach_bound c.sides-coefs.result.above c.sides-coefs.result.below c.reach_of-input.result.below c.reach_of-input.result.above
     c.args.input.width (omega arith) (omega arith) c.reach_of-input.ensures.below c.reach_of-input.ensures.above in
     omega (arith, bound, power_order (c.args.input.width + 39) 87 (omega (arith, c.requires.input.most)))
 
 pub overflow_add-result-2 : goal.overflow_add-result-2
 overflow_add-result-2 c =
-    let bound = reach_bound c.from-rises.result c.from-falls.result c.reach_of-input.result.above c.reach_of-input.result.below
+    let bound = reach_bound c.sides-coefs.result.above c.sides-coefs.result.below c.reach_of-input.result.above c.reach_of-input.result.below
     c.args.input.width (omega arith) (omega arith) c.reach_of-input.ensures.above c.reach_of-input.ensures.below in
     omega (arith, bound, power_order (c.args.input.width + 39) 87 (omega (arith, c.requires.input.most)))
 
 pub returns-clause-below : goal.returns-clause-below
 returns-clause-below c =
-    reach_bound c.from-rises.result c.from-falls.result c.reach_of-input.result.below c.reach_of-input.result.above c.args.input.width
+    reach_bound c.sides-coefs.result.above c.sides-coefs.result.below c.reach_of-input.result.below c.reach_of-input.result.above c.args.input.width
     (omega arith) (omega arith) c.reach_of-input.ensures.below c.reach_of-input.ensures.above
 
 pub returns-clause-above : goal.returns-clause-above
 returns-clause-above c =
-    reach_bound c.from-rises.result c.from-falls.result c.reach_of-input.result.above c.reach_of-input.result.below c.args.input.width
+    reach_bound c.sides-coefs.result.above c.sides-coefs.result.below c.reach_of-input.result.above c.reach_of-input.result.below c.args.input.width
     (omega arith) (omega arith) c.reach_of-input.ensures.above c.reach_of-input.ensures.below

@@ -1,6 +1,6 @@
 use Rattle.std.proofs.Common.{ℕ, ◌≡◌, ◌<◌, ◌%◌, ◌^◌, length}
 use Rattle.std.specs.Prelude.{slice_index}
-use Rattle.opgen_operator.specs.Judged.{format_at}
+use Rattle.opgen_operator.specs.PortNumbers.{format_at}
 use Rattle.opgen_operator.proofs.words.is_history.Given as goal
 
 abbrev pub invariant-words : goal.invariant-words

@@ -16,8 +16,8 @@ pieces-init c = record {
 
 pub pieces-preserved : goal.pieces-preserved
 pieces-preserved c = record {
-  reached = reached_more (symbols_in c.args.text.now.now) (symbols_in c.pieces.text.now) c.pieces.place c.in_ok-place.field-0-0
-      (seen c.pieces.draft) (seen c.in_ok-place.field-0-1) c.pieces.taken (left c.in-Some.piece) (symbols_in c.in-Some.more.now)
+  reached = reached_more (symbols_in c.args.text.now.now) (symbols_in c.pieces.text.now) c.pieces.place c.in_ok-place.place
+      (seen c.pieces.draft) (seen c.step.new.draft) c.pieces.taken (left c.in-Some.piece) (symbols_in c.in-Some.more.now)
       c.pieces.invariant.reached c.in-Some.ensures.some c.in_ok-place.ensures;
   within = omega (arith, c.in-Some.ensures.shorter, c.pieces.invariant.within);
   passed = passed-on c.args.text.now.now c.pieces.text.now c.in-Some.more.now c.pieces.invariant.passed c.in-Some.ensures.passed;
@@ -27,7 +27,7 @@ pub returns-in_err-place-clause-err : goal.returns-in_err-place-clause-err
 returns-in_err-place-clause-err c =
     let p = err_from_is_err_and c.from_residual-in_err-place.result c.from_residual-in_err-place.ensures.1 in
     rw (p.1, p.2) (step_fault (symbols_in c.args.text.now.now) (symbols_in c.pieces.text.now) c.pieces.place (seen c.pieces.draft)
-    c.pieces.taken (left c.in-Some.piece) (symbols_in c.in-Some.more.now) c.in_err-place.field-0.0
+    c.pieces.taken (left c.in-Some.piece) (symbols_in c.in-Some.more.now) c.step.new.draft c.in_err-place.field-0.0
     c.pieces.invariant.reached c.in-Some.ensures.some c.in_err-place.ensures)
 
 pub returns-in_err-place-clause-passed : goal.returns-in_err-place-clause-passed

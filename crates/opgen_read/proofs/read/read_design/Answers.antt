@@ -6,13 +6,13 @@ use Rattle.opgen_read.specs.Seen.{seen}
 use Rattle.opgen_read.proofs.Judging.{judged_fault}
 use Rattle.opgen_read.proofs.read.read_design.Goals as goal
 
-pub returns-in_err-judged-clause-fault : goal.returns-in_err-judged-clause-fault
-returns-in_err-judged-clause-fault c =
-    let p = err_from_is_err_and c.from_residual-in_err-judged.result c.from_residual-in_err-judged.ensures.1 in
-    let fault = c.in_err-judged.field-0.0 in
+pub returns-in_err-check_design-clause-fault : goal.returns-in_err-check_design-clause-fault
+returns-in_err-check_design-clause-fault c =
+    let p = err_from_is_err_and c.from_residual-in_err-check_design.result c.from_residual-in_err-check_design.ensures.1 in
+    let fault = c.in_err-check_design.field-0.0 in
     let r = seen c.in_ok-draft.draft in
     let within : IsWithinLimits c.design_of-design.result = c.is_within_limits.ensures.0 c.if-not-is_within_limits.false in
-    let outcome : IsOutcome r.agrees c.design_of-design.result (Err fault) = c.in_err-judged.ensures in
+    let outcome : IsOutcome r.agrees c.design_of-design.result (Err fault) = c.in_err-check_design.ensures in
     rw (p.1, p.2) (judged_fault c.args.bytes.now r fault c.in_ok-draft.ensures.ok
     (subst IsWithinLimits c.design_of-design.ensures within)
     (subst (λ d. IsOutcome r.agrees d (Err fault)) c.design_of-design.ensures outcome))

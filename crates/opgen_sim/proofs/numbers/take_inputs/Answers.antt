@@ -1,8 +1,7 @@
 use Rattle.std.proofs.Common.{◌≡◌, ◌+◌, [], ◌∷◌, ◌++◌, if◌then◌else◌, take, drop, length, map, get_or, sym, ap, ◌∙◌, subst, arith}
 use Rattle.std.proofs.lemmas.List.{length-map}
-use Rattle.opgen_num.specs.Words.{word}
+use Rattle.opgen_num.specs.Words.{word, words_of}
 use Rattle.opgen_design.specs.Run.{at_ports, is_in}
-use Rattle.opgen_runs.specs.Step.{words_of}
 use Rattle.opgen_lanes.proofs.PortWords.{ports-set}
 use Rattle.opgen_sim.proofs.Ports.{Taken, taken-now, taken-room, taken-below, taken-step, widths-stay}
 use Rattle.opgen_sim.proofs.numbers.take_inputs.Goals as goal

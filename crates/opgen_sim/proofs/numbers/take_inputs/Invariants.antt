@@ -1,6 +1,6 @@
 use Rattle.std.proofs.Common.{◌≡◌, take, drop, length, map}
+use Rattle.opgen_num.specs.Words.{words_of}
 use Rattle.opgen_design.specs.Run.{at_ports, is_in}
-use Rattle.opgen_runs.specs.Step.{words_of}
 use Rattle.opgen_sim.proofs.Ports.{Taken}
 use Rattle.opgen_sim.proofs.numbers.take_inputs.Given as goal
 

@@ -1,8 +1,8 @@
 use Rattle.std.proofs.Common.{◌++◌, length, take, drop, sym, subst, ap, ◌∙◌, arith}
 use Rattle.opgen_design.specs.Run.{input_widths}
 use Rattle.opgen_num.specs.Words.{FitWidths}
+use Rattle.opgen_num.proofs.RowsOfCells.{row_room, first_fits, later_rows}
 use Rattle.opgen_runs.proofs.Rows.{written_back}
-use Rattle.opgen_sim.proofs.FitLaws.{row_room, first_fits, later_rows}
 use Rattle.opgen_sim.proofs.RunRows.{run_start, one_step, whole_run, length-step}
 use Rattle.opgen_sim.proofs.rows.run_cycles.Goals as goal
 

@@ -2,15 +2,16 @@ use Rattle.std.proofs.Common.{◌≡◌, ℕ, ◌+◌, ◌*◌, ◌^◌, ◌<◌
 use Rattle.std.specs.List.{sum}
 use Rattle.std.specs.Prelude.{All, nat_lt, if◌then◌else◌}
 use Rattle.std.proofs.lemmas.Nat.{mul-lt}
+use Rattle.opgen_num.proofs.RowsOfCells.{length-rows_of_cells}
+use Rattle.opgen_num.specs.Words.{words_of}
 use Rattle.opgen_design.specs.Run.{input_widths, is_out}
 use Rattle.opgen_lanes.specs.Steps.{IsStepIn, output_widths}
 use Rattle.opgen_runs.proofs.Rows.{written_back}
-use Rattle.opgen_runs.specs.Step.{words_of}
-use Rattle.opgen_streams.specs.Rows.{words, row_at, row_in, row_with_zeros}
+use Rattle.opgen_streams.proofs.Rows.{rows_kept, whole_row, whole_row_in}
+use Rattle.opgen_streams.specs.Rows.{row_at, row_in, row_with_zeros}
 use Rattle.opgen_streams.specs.Streams.{streams, words_in}
-use Rattle.opgen_sim.proofs.FitLaws.{length-rows}
 use Rattle.opgen_sim.proofs.PortWidths.{few_outputs, narrow_ports}
-use Rattle.opgen_sim.proofs.Progress.{Progress, begun, further, finished, row_there, row_whole}
+use Rattle.opgen_sim.proofs.Progress.{Progress, begun, further, finished, row_within}
 use Rattle.opgen_sim.proofs.streams.run_streams.Goals as goal
 
 pub overflow_mul-rows : goal.overflow_mul-rows
@@ -37,7 +38,7 @@ steps-init c =
       outs = c.in_ok-outputs.ensures ∙ ap sum (c.deref-2.ensures.value ∙ c.requires.widths.outputs);
       room = omega (arith, c.in_ok-results.ensures.len, c.in_ok-results.results.ok.0, ap (λ n. c.args.rows * n) wide);
       run = begun d c.requires.sound c.args.rows c.args.depth c.rows_apart-apart.result c.args.cells.now c.in_ok-lanes.lanes
-          c.in_ok-results.results.items c.requires.depth.has (length-rows (input_widths d) c.args.cells.now c.args.rows c.requires.rows) new;
+          c.in_ok-results.results.items c.requires.depth.has (length-rows_of_cells (input_widths d) c.args.cells.now c.args.rows c.requires.rows) new;
     }
 
 pub unpack_apart-requires-clause-narrow : goal.unpack_apart-requires-clause-narrow
@@ -72,13 +73,14 @@ steps-preserved c =
     let in_widths : c.deref-in-steps.result.now ≡ input_widths d = c.deref-in-steps.ensures.value ∙ c.requires.widths.inputs in
     let out_widths : c.deref-in-steps-4.result.now ≡ output_widths d = c.deref-in-steps-4.ensures.value ∙ c.requires.widths.outputs in
     let count = c.streams_at-count.ensures in
-    let len = length-rows (input_widths d) cells rows c.requires.rows in
+    let len = length-rows_of_cells (input_widths d) cells rows c.requires.rows in
+    let n = length (input_widths d) in
     let m = length (output_widths d) in
     let given : (k : ℕ) → k < streams → row + k * apart < rows
-    → words_in (input_widths d) packed k ≡ words_of (input_widths d) (row_at (length (input_widths d)) (row + k * apart) cells)
+    → words_in (input_widths d) packed k ≡ words_of (input_widths d) (row_at n (row + k * apart) cells)
     = λ k few l. ap (λ ws. words_in ws packed k) (sym in_widths) ∙ c.pack_apart.ensures.rows k few
-    ∙ ap (λ ws. words ws (row_with_zeros (length ws) (row + k * apart) cells)) in_widths
-    ∙ row_there (input_widths d) rows (row + k * apart) cells len l in
+    ∙ ap (λ ws. words_of ws (row_with_zeros (length ws) (row + k * apart) cells)) in_widths
+    ∙ ap (words_of (input_widths d)) (whole_row n (row + k * apart) cells (row_within n rows (row + k * apart) cells len l)) in
     let steps : (k : ℕ) → k < streams → IsStepIn k d held packed next stepped
     = λ k few. subst (λ is. IsStepIn k d held is next stepped) inputs
     (subst (λ x. IsStepIn k x held c.deref-in-steps-2.result.now next stepped) now.same (c.step.ensures.steps k few)) in
@@ -91,12 +93,13 @@ steps-preserved c =
     ∙ ap (λ ws. take (length (row_at (length ws) t c.deref_mut-in-steps-2.result.now)) (row_in ws c.deref-in-steps-3.result.now k)) out_widths
     ∙ ap (λ xs. take (length (row_at m t xs)) (row_in (output_widths d) c.deref-in-steps-3.result.now k)) olds
     ∙ ap (λ ls. take (length (row_at m t results)) (row_in (output_widths d) ls k)) outputs
-    ∙ row_whole (output_widths d) rows t results stepped k now.room l in
+    ∙ whole_row_in (output_widths d) stepped k t results (row_within m rows t results now.room l) in
     let kept : (t : ℕ) → ((k : ℕ) → k < (if nat_lt row c.args.depth then 1 else streams) → ¬ t ≡ row + k * apart)
     → row_at m t new ≡ row_at m t results
     = λ t none.
     ap (λ ws. row_at (length ws) t new) (sym out_widths)
-    ∙ c.unpack_apart.ensures.kept t (λ k few. none k (subst (λ n. k < n) count few))
+    ∙ rows_kept _ _ row apart c.deref_mut-in-steps-2.result.now new c.unpack_apart.ensures.length c.unpack_apart.ensures.kept t
+    (λ k few. none k (subst (λ n. k < n) count few))
     ∙ ap (λ ws. row_at (length ws) t c.deref_mut-in-steps-2.result.now) out_widths
     ∙ ap (row_at m t) olds in
     record {

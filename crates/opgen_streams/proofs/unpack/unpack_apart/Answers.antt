@@ -5,7 +5,7 @@ use Rattle.opgen_streams.specs.Rows.{row_in}
 use Rattle.opgen_streams.specs.Streams.{word_in}
 use Rattle.opgen_streams.proofs.Rows.{length-row_in}
 use Rattle.opgen_streams.proofs.RowsInStreams.{column_left, column_taken}
-use Rattle.opgen_streams.proofs.Unpacked.{none_unpacked, one_unpacked, rows_kept, rows_put}
+use Rattle.opgen_streams.proofs.Unpacked.{none_unpacked, one_unpacked, rows_put}
 use Rattle.opgen_streams.proofs.unpack.unpack_apart.Goals as goal
 
 pub loop-width-init : goal.loop-width-init
@@ -42,10 +42,8 @@ pub returns-clause-put : goal.returns-clause-put
 returns-clause-put c =
     let widths = c.args.widths.now in
     rows_put (length widths) c.args.count c.args.first c.args.apart c.loop-width.width-index (row_in widths c.args.lanes.now) c.args.cells.now
-    c.loop-width.cells (omega arith) (omega arith) c.loop-width.invariant.unpacked (λ k. length-row_in widths c.args.lanes.now k)
+    c.loop-width.cells (omega arith) c.loop-width.invariant.unpacked (λ k. length-row_in widths c.args.lanes.now k)
 
 pub returns-clause-kept : goal.returns-clause-kept
-returns-clause-kept c =
-    let widths = c.args.widths.now in
-    rows_kept (length widths) c.args.count c.args.first c.args.apart c.loop-width.width-index (row_in widths c.args.lanes.now) c.args.cells.now
-    c.loop-width.cells (omega arith) (omega arith) c.loop-width.invariant.unpacked
+returns-clause-kept c i none =
+    c.loop-width.invariant.unpacked.kept i (λ k column within done. none k column within (omega (arith, done)))

@@ -1,9 +1,7 @@
 use Rattle.std.proofs.Common.{◌≡◌, ℕ, List, sym, ap, ◌∙◌, subst, rules, arith}
-use Rattle.std.specs.Prelude.{ℤ, All, IsTrue, slice_index}
+use Rattle.std.specs.Prelude.{ℤ, All, slice_index}
 use Rattle.opgen_num.specs.declared.format.Format.{Format}
-use Rattle.opgen_names.specs.Names.{is_allowed_name}
 use Rattle.opgen_net.specs.declared.net.Net.{Net}
-use Rattle.opgen_net.specs.Named.{IsNamed}
 use Rattle.opgen_net.specs.Placed.{Placed}
 use Rattle.opgen_net.specs.Valid.{widths}
 use Rattle.opgen_operator.specs.declared.spec.Operator.TheVariants.{Tfir}
@@ -16,7 +14,6 @@ use Rattle.opgen_tfir.specs.Recipe.{net_of_taps, with_multiples, with_taps, sum_
 use Rattle.opgen_tfir.specs.Steps.{HasProducts, IsTap}
 use Rattle.opgen_tfir.specs.Sums.{HasSums}
 use Rattle.opgen_tfir.proofs.Filters.{products, are_taps, output-lies, sums-hold, fits_specs}
-use Rattle.opgen_tfir.proofs.Named.{named}
 use Rattle.opgen_tfir.proofs.filter.build.Goals as goal
 
 pub place_taps-requires-clause-products : goal.place_taps-requires-clause-products
@@ -81,11 +78,3 @@ returns-clause-fits c =
     let graph = c.args.graph.now in
     let net : c.output.new.self ≡ net_of_taps f graph = search rules in
     subst (FitsSpecsOf (Tfir f)) (sym net) (fits_specs f c.requires.taps graph c.requires.graph c.outputs_hold.ensures)
-
-pub returns-clause-named : goal.returns-clause-named
-returns-clause-named c =
-    let f = c.args.taps.now in
-    let graph = c.args.graph.now in
-    let net : c.output.new.self ≡ net_of_taps f graph = search rules in
-    subst (λ (n : Net). (name : List ℕ) → IsTrue (is_allowed_name name) → IsNamed name n) (sym net)
-    (named c.outputs_hold.ensures f c.requires.taps graph c.requires.graph)

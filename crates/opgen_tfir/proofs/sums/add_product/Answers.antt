@@ -8,7 +8,7 @@ use Rattle.opgen_net.specs.Valid.{widths}
 use Rattle.opgen_operator.specs.OddParts.{odd_part}
 use Rattle.opgen_graph.specs.Placing.{factors}
 use Rattle.opgen_graph.specs.Recipe.{Multiples, with_magnitude}
-use Rattle.opgen_graph.proofs.Products.{magnitude-answers}
+use Rattle.opgen_graph.proofs.Products.{magnitude-placed}
 use Rattle.opgen_tfir.proofs.Chains.{node-kept_width}
 use Rattle.opgen_tfir.proofs.sums.add_product.Goals as goal
 
@@ -22,7 +22,7 @@ joined-requires-clause-node c =
     let n = unsigned_abs a.tap in
     let odd : Contains (factors b.known) (odd_part n) = c.requires.tap.odd (λ (e : a.tap ≡ pos 0). c.if-tap-eq0.false (ap (of_z w64) e)) in
     let made = with_magnitude p.signed p.width b n in
-    let answers = magnitude-answers p.signed b c.requires.net c.requires.products.nodes p.width c.requires.products.wide n odd in
+    let answers = magnitude-placed p.signed b c.requires.net c.requires.products.nodes p.width c.requires.products.wide n odd in
     let to : c.magnitude.new.net ≡ made.net = search rules in
     ap (λ (m : Net). slice_index (widths m.nodes) a.node) to
     ∙ node-kept_width p c.requires.products.wide d c.requires.net c.requires.node made answers
@@ -35,7 +35,7 @@ joined-requires-clause-product c =
     let n = unsigned_abs a.tap in
     let odd : Contains (factors b.known) (odd_part n) = c.requires.tap.odd (λ (e : a.tap ≡ pos 0). c.if-tap-eq0.false (ap (of_z w64) e)) in
     let made = with_magnitude p.signed p.width b n in
-    let answers = magnitude-answers p.signed b c.requires.net c.requires.products.nodes p.width c.requires.products.wide n odd in
+    let answers = magnitude-placed p.signed b c.requires.net c.requires.products.nodes p.width c.requires.products.wide n odd in
     let to : c.magnitude.new.net ≡ made.net = search rules in
     let at : c.in_ok-product.product ≡ made.place = search rules in
     ap (λ (m : Net). slice_index (widths m.nodes) c.in_ok-product.product) to

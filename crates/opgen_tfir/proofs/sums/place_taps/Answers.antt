@@ -12,7 +12,7 @@ use Rattle.opgen_graph.specs.Recipe.{with_constant}
 use Rattle.opgen_tfir.specs.Recipe.{with_product, delayed, with_taps}
 use Rattle.opgen_tfir.specs.Steps.{HasProducts}
 use Rattle.opgen_tfir.proofs.Chains.{taps-last}
-use Rattle.opgen_tfir.proofs.Steps.{sum, sum-answers, delay-answers, products-now, next-sum}
+use Rattle.opgen_tfir.proofs.Steps.{sum, sum-placed, delay-placed, products-now, next-sum}
 use Rattle.opgen_tfir.proofs.sums.place_taps.Goals as goal
 
 abbrev placed : Net → ℕ → Placed
@@ -52,7 +52,7 @@ delay-requires-clause-there c =
     let net = c.args.net.now in
     let taps = c.args.taps.now in
     let last = c.last_tap-last.result in
-    let made = sum-answers p net c.requires.net c.requires.products taps c.requires.taps last c.last_tap-last.ensures c.taps.place
+    let made = sum-placed p net c.requires.net c.requires.products taps c.requires.taps last c.last_tap-last.ensures c.taps.place
     c.taps-test.true c.taps.auto.place in
     let z = sum p net c.requires.net c.requires.products taps c.requires.taps last c.last_tap-last.ensures c.taps.place
     c.taps-test.true c.taps.auto.place in
@@ -87,7 +87,7 @@ add_product-requires-clause-node c =
     let net = c.args.net.now in
     let taps = c.args.taps.now in
     let last = c.last_tap-last.result in
-    let made = delay-answers p net c.requires.net c.requires.products taps c.requires.taps last c.last_tap-last.ensures c.taps.place
+    let made = delay-placed p net c.requires.net c.requires.products taps c.requires.taps last c.last_tap-last.ensures c.taps.place
     c.taps-test.true c.taps.auto.place in
     let z = sum p net c.requires.net c.requires.products taps c.requires.taps last c.last_tap-last.ensures c.taps.place
     c.taps-test.true c.taps.auto.place in

@@ -1,7 +1,7 @@
 use Rattle.std.proofs.Common.{ap, ◌∙◌, length, subst, arith}
+use Rattle.opgen_num.specs.Words.{AreRowsOfCells}
 use Rattle.opgen_design.specs.Run.{is_in}
-use Rattle.opgen_vec.specs.Rows.{AreRowsOfCells}
-use Rattle.opgen_top.proofs.Columns.{widths_on, few_inputs, narrow_ports}
+use Rattle.opgen_sim.proofs.PortWidths.{widths_on, few_inputs, narrow_ports}
 use Rattle.opgen_top.proofs.PreparingChecks.{fault_answers, vhdl_answers_check, rows_answer_check, rows_judged}
 use Rattle.opgen_top.proofs.PreparingRuns.{vhdl_listed, rows_listed}
 use Rattle.opgen_top.proofs.Refusing.{answer_passed}

@@ -55,7 +55,7 @@ returns-in_ok-build-in-Poly-clause-net g c =
     subst (IsFittingNet c.args.spec.now) (sym c.without_adders-in-Poly.ensures.net)
     (kind_fitting c.args.spec.now c.requires.valid (Poly c.in-Poly.poly) made.field-0 c.in-Poly.is made.ensures.net made.ensures.fits)
 
-pub returns-in_ok-filter-in-Tfir-clause-net : goal.returns-in_ok-filter-in-Tfir-clause-net
-returns-in_ok-filter-in-Tfir-clause-net g c =
-    let made = c.in_ok-filter-in-Tfir in
-    kind_fitting c.args.spec.now c.requires.valid (Tfir c.in-Tfir.taps) made.filter.net c.in-Tfir.is made.ensures.net made.ensures.fits
+pub returns-in_ok-build_transposed-in-Tfir-clause-net : goal.returns-in_ok-build_transposed-in-Tfir-clause-net
+returns-in_ok-build_transposed-in-Tfir-clause-net g c =
+    let made = c.in_ok-build_transposed-in-Tfir in
+    kind_fitting c.args.spec.now c.requires.valid (Tfir c.in-Tfir.taps) made.field-0.net c.in-Tfir.is made.ensures.net made.ensures.fits

@@ -1,6 +1,6 @@
 use Rattle.std.proofs.Common.{ap, ◌∙◌}
 use Rattle.opgen_design.specs.Run.{is_in}
-use Rattle.opgen_top.proofs.Columns.{widths_on, few_inputs, narrow_ports}
+use Rattle.opgen_sim.proofs.PortWidths.{widths_on, few_inputs, narrow_ports}
 use Rattle.opgen_top.proofs.PreparingRuns.{vhdl_answers, vhdl_listed, rows_answer, rows_listed, run_listed}
 use Rattle.opgen_top.proofs.Refusing.{answer_passed}
 use Rattle.opgen_top.proofs.SomePort.{some_port}

@@ -1,5 +1,5 @@
 use Rattle.std.proofs.Common.{refl, sym, ◌∙◌, subst}
-use Rattle.opgen_vec.specs.Rows.{AreRowsOfCells}
+use Rattle.opgen_num.specs.Words.{AreRowsOfCells}
 use Rattle.opgen_top.specs.Running.{IsRunText}
 use Rattle.opgen_top.proofs.ServedPorts.{served_widths, served_columns, served_port}
 use Rattle.opgen_top.proofs.vectors.run_stimulus.Goals as goal

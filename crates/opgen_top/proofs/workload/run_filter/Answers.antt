@@ -1,8 +1,7 @@
 use Rattle.std.proofs.Common.{length, refl, sym, subst, ap, arith}
+use Rattle.opgen_num.specs.Words.{AreRowsOfCells}
 use Rattle.opgen_design.specs.Run.{input_widths}
 use Rattle.opgen_runs.specs.Rows.{IsRunOf}
-use Rattle.opgen_sim.specs.Rows.{FitRows}
-use Rattle.opgen_check.proofs.Cells.{fit_rows}
 use Rattle.opgen_top.specs.Workload.{cycles}
 use Rattle.opgen_top.proofs.Judging.{rows_fit, inputs_fit, cells-length, outputs_fit, outputs-length, runs_good}
 use Rattle.opgen_top.proofs.workload.run_filter.Goals as goal
@@ -10,9 +9,8 @@ use Rattle.opgen_top.proofs.workload.run_filter.Goals as goal
 pub run_rows-requires-clause-rows : goal.run_rows-requires-clause-rows
 run_rows-requires-clause-rows c =
     let design = c.args.planned.design in
-    subst (FitRows (input_widths design) cycles) (sym c.deref.ensures.value)
-    (fit_rows (input_widths design) cycles c.in_ok-inputs.inputs.cells.items
-    (rows_fit c.args.n c.args.spec.now c.requires.filter design c.requires.ports cycles _ c.in_ok-inputs.ensures.fit))
+    subst (AreRowsOfCells (input_widths design) cycles) (sym c.deref.ensures.value)
+    (rows_fit c.args.n c.args.spec.now c.requires.filter design c.requires.ports cycles _ c.in_ok-inputs.ensures.fit)
 
 pub good_cycles-good-requires-clause-cycles : goal.good_cycles-good-requires-clause-cycles
 good_cycles-good-requires-clause-cycles c =

@@ -1,8 +1,8 @@
 use Rattle.std.proofs.Common.{◌≡◌, ap, subst, length, map, arith}
-use Rattle.opgen_operator.specs.Accepted.{IsAcceptedBy}
 use Rattle.opgen_operator.specs.Ports.{inputs_of}
-use Rattle.opgen_vec.specs.Rows.{AreRowsOfCells}
-use Rattle.opgen_vec.proofs.Draws.{cycle_more, all_drawn, whole, rows_fit, inputs_wide, rows_counted, some_input}
+use Rattle.opgen_operator.proofs.InputPorts.{some_input}
+use Rattle.opgen_num.specs.Words.{AreRowsOfCells}
+use Rattle.opgen_vec.proofs.Draws.{cycle_more, all_drawn, whole, rows_fit, rows_counted}
 use Rattle.opgen_vec.proofs.draw.stimulus.Goals as goal
 
 pub cycles-preserved : goal.cycles-preserved
@@ -29,11 +29,11 @@ invariant_of-result c =
 pub returns-clause-fit : goal.returns-clause-fit
 returns-clause-fit c =
     let op = c.args.spec.now.op in
-    let accepted : IsAcceptedBy c.args.spec.now.version op = c.requires.op in
     let all = all_drawn op (inputs_of c.args.spec.now) c.cycles.cells.items c.args.cycles c.args.seed c.cycles.left c.cycles.state
     c.cycles.invariant c.cycles-test.false in
     subst (AreRowsOfCells (map (λ port. port.format.width) (inputs_of c.args.spec.now)) c.args.cycles) all
-    (rows_fit op (inputs_of c.args.spec.now) c.args.cycles c.args.seed (inputs_wide op accepted.ranges))
+    (rows_fit op (inputs_of c.args.spec.now) c.args.cycles c.args.seed
+    (λ k d below. (c.inputs_are_wide.ensures c.args.spec.now c.requires k d below).0))
 
 pub returns-clause-count : goal.returns-clause-count
 returns-clause-count c =

@@ -1,12 +1,14 @@
-use Rattle.std.proofs.Common.{◌≡◌, ◌≤◌, ◌^◌, ℕ, true, false, [], ◌∷◌, ◌++◌, inl, sym, ap, ◌∙◌, subst, arith}
+use Rattle.std.proofs.Common.{◌≡◌, ◌≤◌, ℕ, true, false, [], ◌∷◌, ◌++◌, inl, sym, ap, ◌∙◌, subst, arith}
 use Rattle.std.specs.Prelude.{ℤ, pos, List, Some, None, IsTrue}
 use Rattle.std.proofs.lemmas.Int.{ints}
 use Rattle.std.proofs.lemmas.List.Elements.{All-cons, All-nil}
 use Rattle.opgen_operator.specs.declared.spec.Operator.TheVariants.{Mcm}
+use Rattle.opgen_operator.specs.declared.spec.PortFormat.{PortFormat}
 use Rattle.opgen_operator.specs.declared.spec.Several.{Several}
 use Rattle.opgen_operator.specs.Accepted.{IsAcceptedSeveral}
 use Rattle.opgen_operator.specs.Outputs.{inexact, need}
 use Rattle.opgen_operator.specs.Ranges.{IsWithin}
+use Rattle.opgen_operator.proofs.InputPorts.{all_one}
 use Rattle.test_search.proofs.least.forty_five.Goals as goal
 
 abbrev by : List ℤ → Several
@@ -27,7 +29,7 @@ accepted = inl (record {
     constants = All-cons (IsWithin 2047) (pos 45) [] (omega arith) (All-nil (IsWithin 2047));
     extra = omega arith;
   };
-  inputs = omega arith;
+  inputs = all_one (λ (p : PortFormat). p.format.width ≤ 32) _ (omega arith);
   fine = (omega (arith, ints), omega (arith, ints));
   narrow = narrow;
   whole = not_asked;

@@ -1,4 +1,4 @@
-use Rattle.opgen_design.specs.Sound.{NotDriven}
+use Rattle.opgen_design.specs.declared.sound.Rule.TheVariants.{NotDriven}
 use Rattle.opgen_design.proofs.SoundLaws.{port-fault}
 use Rattle.opgen_design.proofs.design.Design.check_driven_ports.Goals as goal
 

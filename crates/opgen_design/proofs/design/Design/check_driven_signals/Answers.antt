@@ -1,6 +1,6 @@
 use Rattle.std.proofs.Common.{ap, ◌∙◌}
 use Rattle.opgen_design.specs.Rules.{fault_at}
-use Rattle.opgen_design.specs.Sound.{NotDriven}
+use Rattle.opgen_design.specs.declared.sound.Rule.TheVariants.{NotDriven}
 use Rattle.opgen_design.proofs.SoundLaws.{signal-fault}
 use Rattle.opgen_design.proofs.design.Design.check_driven_signals.Goals as goal
 

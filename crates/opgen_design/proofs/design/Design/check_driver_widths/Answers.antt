@@ -1,6 +1,6 @@
 use Rattle.std.proofs.Common.{ap, ◌∙◌}
 use Rattle.opgen_design.specs.Rules.{fault_at}
-use Rattle.opgen_design.specs.Sound.{Width}
+use Rattle.opgen_design.specs.declared.sound.Rule.TheVariants.{Width}
 use Rattle.opgen_design.proofs.SoundLaws.{driver-fault}
 use Rattle.opgen_design.proofs.design.Design.check_driver_widths.Goals as goal
 

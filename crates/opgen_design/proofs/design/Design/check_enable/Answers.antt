@@ -1,4 +1,4 @@
-use Rattle.opgen_design.specs.Sound.{BadEnable}
+use Rattle.opgen_design.specs.declared.sound.Rule.TheVariants.{BadEnable}
 use Rattle.opgen_design.proofs.SoundLaws.{port-fault}
 use Rattle.opgen_design.proofs.design.Design.check_enable.Goals as goal
 

@@ -1,7 +1,7 @@
 use Rattle.std.proofs.Common.{ap, ◌∙◌}
 use Rattle.std.specs.Prelude.{slice_get}
 use Rattle.opgen_design.specs.Rules.{fault_at}
-use Rattle.opgen_design.specs.Sound.{ReadsOutput}
+use Rattle.opgen_design.specs.declared.sound.Rule.TheVariants.{ReadsOutput}
 use Rattle.opgen_design.proofs.SoundLaws.{driver-fault}
 use Rattle.opgen_design.proofs.NameWalk.{unit-if}
 use Rattle.opgen_design.proofs.design.Design.check_inputs.Goals as goal

@@ -1,4 +1,4 @@
-use Rattle.opgen_design.specs.Sound.{Width}
+use Rattle.opgen_design.specs.declared.sound.Rule.TheVariants.{Width}
 use Rattle.opgen_design.proofs.SoundLaws.{port-fault}
 use Rattle.opgen_design.proofs.design.Design.check_port_widths.Goals as goal
 

@@ -1,5 +1,6 @@
 use Rattle.std.proofs.Common.{arith}
-use Rattle.opgen_design.specs.Sound.{Width, ChoiceTwice, DriverPasses, at_driver}
+use Rattle.opgen_design.specs.declared.sound.Rule.TheVariants.{Width, ChoiceTwice}
+use Rattle.opgen_design.specs.Sound.{DriverPasses, at_driver}
 use Rattle.opgen_design.proofs.FirstFailing.{none-failing, of-item}
 use Rattle.opgen_design.proofs.design.Design.choice_twice.Goals as goal
 

@@ -1,5 +1,6 @@
 use Rattle.std.proofs.Common.{arith}
-use Rattle.opgen_design.specs.Sound.{Cyclic, DriverPasses}
+use Rattle.opgen_design.specs.declared.sound.Rule.TheVariants.{Cyclic}
+use Rattle.opgen_design.specs.Sound.{DriverPasses}
 use Rattle.opgen_design.proofs.FirstFailing.{none-failing, of-item}
 use Rattle.opgen_design.proofs.SoundLaws.{declared-at, contains-at}
 use Rattle.opgen_design.proofs.GroupLaws.{is-ordered}

@@ -1,6 +1,6 @@
 use Rattle.std.proofs.Common.{sym, ap, ◌≡◌, ◌+◌, subst, length}
 use Rattle.opgen_design.specs.Rules.{IsDrivenAt}
-use Rattle.opgen_design.specs.Sound.{port_of}
+use Rattle.opgen_design.specs.declared.design.Target.TheVariants.{Port as port_of}
 use Rattle.opgen_design.proofs.SoundLaws.{driven-target}
 use Rattle.opgen_design.proofs.design.Design.is_port_driven.Goals as goal
 

@@ -1,4 +1,4 @@
-use Rattle.opgen_design.specs.Sound.{signal}
+use Rattle.opgen_design.specs.declared.design.Target.TheVariants.{Signal as signal}
 use Rattle.opgen_design.proofs.SoundLaws.{driven-target}
 use Rattle.opgen_design.proofs.design.Design.is_signal_driven.Goals as goal
 

@@ -1,5 +1,6 @@
 use Rattle.opgen_design.specs.Rules.{HoldsBefore}
-use Rattle.opgen_design.specs.Sound.{NoInitial, SignalPasses}
+use Rattle.opgen_design.specs.declared.sound.Rule.TheVariants.{NoInitial}
+use Rattle.opgen_design.specs.Sound.{SignalPasses}
 use Rattle.opgen_design.proofs.design.Design.no_initial.Given as goal
 
 abbrev pub invariant-loop-i : goal.invariant-loop-i

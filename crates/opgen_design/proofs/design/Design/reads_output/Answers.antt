@@ -1,5 +1,6 @@
 use Rattle.std.proofs.Common.{arith}
-use Rattle.opgen_design.specs.Sound.{ReadsOutput, DriverPasses}
+use Rattle.opgen_design.specs.declared.sound.Rule.TheVariants.{ReadsOutput}
+use Rattle.opgen_design.specs.Sound.{DriverPasses}
 use Rattle.opgen_design.proofs.FirstFailing.{none-failing}
 use Rattle.opgen_design.proofs.SoundLaws.{declared-at}
 use Rattle.opgen_design.proofs.design.Design.reads_output.Goals as goal

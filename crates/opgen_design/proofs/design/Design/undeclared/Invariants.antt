@@ -1,5 +1,6 @@
 use Rattle.opgen_design.specs.Rules.{HoldsBefore}
-use Rattle.opgen_design.specs.Sound.{Undeclared, DriverPasses}
+use Rattle.opgen_design.specs.declared.sound.Rule.TheVariants.{Undeclared}
+use Rattle.opgen_design.specs.Sound.{DriverPasses}
 use Rattle.opgen_design.proofs.design.Design.undeclared.Given as goal
 
 abbrev pub invariant-loop-i : goal.invariant-loop-i

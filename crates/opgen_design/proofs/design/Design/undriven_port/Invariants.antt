@@ -1,5 +1,6 @@
 use Rattle.opgen_design.specs.Rules.{HoldsBefore}
-use Rattle.opgen_design.specs.Sound.{NotDriven, PortPasses}
+use Rattle.opgen_design.specs.declared.sound.Rule.TheVariants.{NotDriven}
+use Rattle.opgen_design.specs.Sound.{PortPasses}
 use Rattle.opgen_design.proofs.design.Design.undriven_port.Given as goal
 
 abbrev pub invariant-loop-i : goal.invariant-loop-i

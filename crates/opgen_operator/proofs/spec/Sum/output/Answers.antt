@@ -1,8 +1,11 @@
 use Rattle.std.proofs.Common.{refl, arith}
 use Rattle.opgen_operator.specs.declared.spec.Operator.TheVariants.{Fir}
 use Rattle.opgen_operator.specs.Outputs.{sum_need}
-use Rattle.opgen_operator.proofs.Accepted.{accepted_width}
+use Rattle.opgen_operator.proofs.Accepted.{accepted_room, accepted_width}
 use Rattle.opgen_operator.proofs.spec.Sum.output.Goals as goal
+
+pub sum_format-requires-clause-room : goal.sum_format-requires-clause-room
+sum_format-requires-clause-room c = accepted_room (Fir c.args.self.now) c.requires
 
 pub returns-clause-few : goal.returns-clause-few
 returns-clause-few c =

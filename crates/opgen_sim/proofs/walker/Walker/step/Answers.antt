@@ -1,10 +1,9 @@
 use Rattle.std.proofs.Common.{◌≡◌, length, map, sym, ap, ◌∙◌, subst, arith}
 use Rattle.std.specs.Vec.{with_items}
 use Rattle.std.proofs.lemmas.List.{length-map, with_items_is}
-use Rattle.opgen_num.specs.Words.{nat}
+use Rattle.opgen_num.specs.Words.{nat, words_of}
 use Rattle.opgen_design.specs.Run.{Cycle, Words, at_ports, is_in, is_out, input_widths}
 use Rattle.opgen_design.specs.Sound.{port_widths}
-use Rattle.opgen_runs.specs.Step.{words_of}
 use Rattle.opgen_runs.proofs.Starts.{at_ports-length}
 use Rattle.opgen_sim.proofs.walker.Walker.step.Goals as goal
 

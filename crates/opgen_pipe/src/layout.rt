@@ -1,0 +1,79 @@
+//! Lays out a net for a target and a period: what its design needs of each node, found once, or why there is no such design.
+ghost use Rattle.std.specs.Prelude.{◌≡◌, ◌≤◌, All, length, IfOk};
+ghost use Rattle.opgen_net.specs.Valid.{IsValid, widths as widths_of};
+ghost use Rattle.opgen_pipe.specs.Layouts.{IsLaidOut, IsLayout};
+
+use crate::cells::{net_delays, setup_time};
+use crate::counts::{copies, signal_count};
+use crate::planning::PlanFault;
+use crate::widths::node_widths;
+use opgen_design::MAX_SIGNALS;
+use opgen_net::Net;
+use opgen_schedule::{Slot, greatest, greatest_time, latency, stage};
+use opgen_target::Target;
+use std::alloc::{AllocError, Global};
+
+/// What the design of a net at a schedule needs: of each node the width in bits, the slot and the number of copies; the latency in
+/// cycles; and what the longest cycle leaves of the period, in picoseconds.
+#[derive(Drop)]
+pub struct Layout {
+    pub widths: Vec<u32>,
+    pub slots: Vec<Slot>,
+    pub copies: Vec<usize>,
+    pub latency: usize,
+    pub slack: u64,
+}
+
+/// The layout of a net at these slots, over the widths of its nodes.
+fn layout_at(
+    alloc: Global,
+    net: &Net,
+    widths: Vec<u32>,
+    slots: Vec<Slot>,
+    slack: u64,
+) -> Result<Layout, AllocError>
+    requires valid { IsValid net.now }
+    requires widths { widths.items ≡ widths_of net.now.nodes }
+    requires slots { length slots.items ≡ length net.now.nodes }
+    requires early { All (λ p. p.cycle ≤ length net.now.nodes) slots.items }
+    ensures layout { IfOk result (IsLayout net.now) }
+    ensures slots { IfOk result (λ layout. layout.slots.items ≡ slots.items) }
+    ensures slack { IfOk result (λ layout. layout.slack ≡ slack) }
+{
+    let latency = latency(net.nodes.as_slice(), &slots, net.outputs.as_slice());
+    let copies = copies(alloc, net, &slots, latency)?;
+    Ok(Layout {
+        widths,
+        slots,
+        copies,
+        latency,
+        slack,
+    })
+}
+
+/// The layout of a net in which each node stands as early as the delays of the target allow.
+pub(crate) fn lay_out(
+    alloc: Global,
+    net: &Net,
+    target: &Box<dyn Target>,
+    period: u32,
+) -> Result<Layout, PlanFault>
+    requires { IsValid net.now }
+    ensures layout { IfOk result (IsLayout net.now) }
+    ensures outcome { IsLaidOut net.now (delays target.now) period result }
+{
+    let widths = node_widths(alloc, net)?;
+    let delays = net_delays(alloc, net, &widths, target)?;
+    let setup = setup_time(target);
+    let need = u64::from(greatest(&delays)) + u64::from(setup);
+    if need > u64::from(period) {
+        return Err(PlanFault::PeriodTooShort { need });
+    }
+    let slots = stage(alloc, net.nodes.as_slice(), &delays, setup, period)?;
+    let slack = u64::from(period - setup - greatest_time(&slots));
+    let layout = layout_at(alloc, net, widths, slots, slack)?;
+    if signal_count(net, &layout) > MAX_SIGNALS {
+        return Err(PlanFault::TooLarge);
+    }
+    Ok(layout)
+}
