@@ -6,10 +6,11 @@ TOP is the checkout, COPIES an empty folder. A command of `rt` locks the folders
 each library is built in a copy of the sources under COPIES. The other copies take what was built there as links, and at last so
 does TOP, in which the program is built.
 
-The next library is the one with the longest way to the program: its own processor seconds, as they were last measured, and those
-of the crates above it along the longest chain. The measured seconds are in seconds.txt beside this file; a crate that is not
-there counts by its lines of code and proofs. Processors for which no other library is ready become further jobs of one. The first job of a crate
-is left 6 GiB of memory, each further one 3 GiB. RT_JOBS, as for `rt ci`, is the number of processors, whatever memory is free.
+The next library is the one with the longest way to the program: its own processor seconds, as they were last measured, and
+those of the crates above it along the longest chain. The measured seconds are in seconds.txt beside this file; a crate that
+is not there counts by its lines of code and proofs. Processors for which no other library is ready become further jobs of
+one. The first job of a crate is left 4 GiB of memory, each further one 2 GiB. RT_JOBS, as for `rt ci`, is the number of
+processors, whatever memory is free.
 """
 from __future__ import annotations
 
@@ -25,7 +26,7 @@ PROGRAM = "opgen"
 MEASURED = "tools/opgenlib/seconds.txt"
 # The status is 0 only if the program was proved, built and run.
 RUN = ("--", "workload", "1")
-FIRST_JOB, FURTHER_JOB = 6 << 20, 3 << 20  # KiB of memory
+FIRST_JOB, FURTHER_JOB = 4 << 20, 2 << 20  # KiB of memory: twice what was seen
 # The signals that end a build, and the one that says that a process has ended. They are waited for and so have no handlers.
 ENDING = {signal.SIGHUP, signal.SIGINT, signal.SIGQUIT, signal.SIGTERM}
 AWAITED = {*ENDING, signal.SIGCHLD}
