@@ -9,8 +9,9 @@ does TOP, in which the program is built.
 The next library is the one with the longest way to the program: its own processor seconds, as they were last measured, and
 those of the crates above it along the longest chain. The measured seconds are in seconds.txt beside this file; a crate that
 is not there counts by its lines of code and proofs. Processors for which no other library is ready become further jobs of
-one. The first job of a crate is left 4 GiB of memory, each further one 2 GiB. RT_JOBS, as for `rt ci`, is the number of
-processors, whatever memory is free.
+one. A library that would still run when all that does not wait for it is done has further jobs from its start. The first job of a
+crate is left 4 GiB of memory, each further one 2 GiB. RT_JOBS, as for `rt ci`, is the number of processors, whatever memory is
+free.
 """
 from __future__ import annotations
 
@@ -20,6 +21,7 @@ import signal
 import subprocess
 import sys
 from dataclasses import dataclass, field
+from math import ceil
 from pathlib import Path
 
 PROGRAM = "opgen"
@@ -82,14 +84,21 @@ class Schedule:
     """Which crate starts next, and with how many jobs. It has no clock and no processes."""
 
     crates: dict[str, list[str]]
-    way: dict[str, float]
+    weights: dict[str, float]
     processors: int
     memory: int  # KiB
     running: dict[str, int] = field(default_factory=dict)
     built: set[str] = field(default_factory=set)
 
     def __post_init__(self) -> None:
-        self.waiting = sorted(self.way, key=lambda name: (-self.way[name], name))
+        way = ways(self.crates, self.weights)
+        self.waiting = sorted(way, key=lambda name: (-way[name], name))
+
+    def share(self, name: str) -> int:
+        """The processors with which a crate ends no later than what is left to do beside it."""
+        weight, left = self.weights[name], set(self.weights) - self.built - {name}
+        beside = sum(self.weights[other] for other in left if name not in below(other, self.crates))
+        return ceil(self.processors * weight / (weight + beside))
 
     def begin(self) -> tuple[str, int] | None:
         """Starts the next crate, if one is ready and has a processor and memory: its name and number of jobs."""
@@ -100,7 +109,8 @@ class Schedule:
             return None
         # What is idle is shared by the crates that can start now.
         sharing = max(1, min(len(ready), idle, room // FIRST_JOB))
-        jobs = max(1, min(idle // sharing, 1 + (room // sharing - FIRST_JOB) // FURTHER_JOB))
+        wanted = max(idle // sharing, self.share(ready[0]))
+        jobs = max(1, min(wanted, 1 + (room // sharing - FIRST_JOB) // FURTHER_JOB))
         self.waiting.remove(ready[0])
         self.running[ready[0]] = jobs
         return ready[0], jobs
@@ -224,7 +234,7 @@ def main() -> int:
     top, copies = map(Path, sys.argv[1:])
     crates = dependencies(top)
     weights = weights_of(top, {PROGRAM, *below(PROGRAM, crates)})
-    builder = Builder(top, copies, Schedule(crates, ways(crates, weights), *machine()))
+    builder = Builder(top, copies, Schedule(crates, weights, *machine()))
     return 0 if builder.run() else 1
 
 

@@ -1,4 +1,3 @@
--- Definitions of opgen_budget: sums over bit places, the columns of a product, and rounding to the nearest whole number.
+-- Definitions of opgen_budget: sums over bit places, and the columns of a product.
 pub mod Sums
 pub mod Columns
-pub mod Nearest

@@ -2,3 +2,4 @@ mod Numbers
 mod Found
 mod Meaning
 mod Names
+mod Added

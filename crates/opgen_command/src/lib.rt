@@ -9,6 +9,7 @@
 mod apps;
 mod command;
 mod fault;
+mod name;
 mod read;
 mod values;
 

@@ -1,12 +1,13 @@
 //! Reads the words of a command line: the first word names the command, and `clap` parses the other words.
 ghost use Rattle.std.specs.Prelude.{◌≡◌, IsTrue, IfOk, IfErr, Some, None, map, string_bytes, option_and_then};
 ghost use Rattle.clap.specs.Words.{app_of, found_of, is_simple_and_free, rows_of};
-ghost use Rattle.opgen_command.specs.Apps.{generate_app, vectors_app, simulate_app, workload_app, check_app};
 ghost use Rattle.opgen_command.specs.Command.{command_of, found_by, word_of, HasRanges, IsRead, generate_of, vectors_of, simulate_of, workload_of, check_of};
+ghost use Rattle.opgen_command.specs.Names.{app_named, found_as};
 
-use crate::apps;
+use crate::apps::app;
 use crate::command::Command;
 use crate::fault::CommandFault;
+use crate::name::{CommandName, command_name};
 use crate::values::{is_set, number, word};
 use clap::ArgMatches;
 use clap::error::ErrorKind;
@@ -38,58 +39,81 @@ fn text(alloc: Global, found: &ArgMatches<'_>, name: &str) -> Result<Text, Comma
     Ok(Text::from_str(alloc, word)?)
 }
 
-fn generate(alloc: Global, words: &[String]) -> Result<Command, CommandFault>
-    ensures { IsRead (option_and_then generate_of (found_by generate_app (map string_bytes words.now))) result }
+fn generate(alloc: Global, found: &ArgMatches<'_>) -> Result<Command, CommandFault>
+    ensures { IsRead (generate_of (rows_of (found_of found.now))) result }
 {
-    let found = matched(apps::generate(alloc)?, words)?;
+    let workers = number(found, "workers", 1, 32, Some(1))?;
+    let spec = text(alloc, found, "SPEC")?;
     Ok(Command::Generate {
-        spec: text(alloc, &found, "SPEC")?,
-        workers: number(&found, "workers", 1, 32, Some(1))?,
-        enable: is_set(&found, "enable"),
+        spec,
+        workers,
+        enable: is_set(found, "enable"),
     })
 }
 
-fn vectors(alloc: Global, words: &[String]) -> Result<Command, CommandFault>
-    ensures { IsRead (option_and_then vectors_of (found_by vectors_app (map string_bytes words.now))) result }
+fn vectors(alloc: Global, found: &ArgMatches<'_>) -> Result<Command, CommandFault>
+    ensures { IsRead (vectors_of (rows_of (found_of found.now))) result }
 {
-    let found = matched(apps::vectors(alloc)?, words)?;
-    Ok(Command::Vectors {
-        spec: text(alloc, &found, "SPEC")?,
-        seed: number(&found, "seed", 0, u32::MAX, Some(0))?,
-        cycles: number(&found, "cycles", 1, 100_000, Some(16))?,
-    })
+    let seed = number(found, "seed", 0, u32::MAX, Some(0))?;
+    let cycles = number(found, "cycles", 1, 100_000, Some(16))?;
+    let spec = text(alloc, found, "SPEC")?;
+    Ok(Command::Vectors { spec, seed, cycles })
 }
 
-fn simulate(alloc: Global, words: &[String]) -> Result<Command, CommandFault>
-    ensures { IsRead (option_and_then simulate_of (found_by simulate_app (map string_bytes words.now))) result }
+fn simulate(alloc: Global, found: &ArgMatches<'_>) -> Result<Command, CommandFault>
+    ensures { IsRead (simulate_of (rows_of (found_of found.now))) result }
 {
-    let found = matched(apps::simulate(alloc)?, words)?;
-    Ok(Command::Simulate {
-        vhdl: text(alloc, &found, "VHDL")?,
-        vectors: text(alloc, &found, "VECTORS")?,
-        out: text(alloc, &found, "OUT")?,
-    })
+    let vhdl = text(alloc, found, "VHDL")?;
+    let vectors = text(alloc, found, "VECTORS")?;
+    let out = text(alloc, found, "OUT")?;
+    Ok(Command::Simulate { vhdl, vectors, out })
 }
 
-fn workload(alloc: Global, words: &[String]) -> Result<Command, CommandFault>
-    ensures { IsRead (option_and_then workload_of (found_by workload_app (map string_bytes words.now))) result }
+fn workload(found: &ArgMatches<'_>) -> Result<Command, CommandFault>
+    ensures { IsRead (workload_of (rows_of (found_of found.now))) result }
 {
-    let found = matched(apps::workload(alloc)?, words)?;
-    Ok(Command::Workload {
-        n: number(&found, "N", 1, 32, None)?,
-    })
+    let n = number(found, "N", 1, 32, None)?;
+    Ok(Command::Workload { n })
 }
 
-fn check(alloc: Global, words: &[String]) -> Result<Command, CommandFault>
-    ensures { IsRead (option_and_then check_of (found_by check_app (map string_bytes words.now))) result }
+fn check(alloc: Global, found: &ArgMatches<'_>) -> Result<Command, CommandFault>
+    ensures { IsRead (check_of (rows_of (found_of found.now))) result }
 {
-    let found = matched(apps::check(alloc)?, words)?;
+    let latency = number(found, "LATENCY", 0, 100_000, None)?;
+    let spec = text(alloc, found, "SPEC")?;
+    let vhdl = text(alloc, found, "VHDL")?;
+    let vectors = text(alloc, found, "VECTORS")?;
     Ok(Command::Check {
-        spec: text(alloc, &found, "SPEC")?,
-        vhdl: text(alloc, &found, "VHDL")?,
-        vectors: text(alloc, &found, "VECTORS")?,
-        latency: number(&found, "LATENCY", 0, 100_000, None)?,
+        spec,
+        vhdl,
+        vectors,
+        latency,
     })
+}
+
+/// The command of a name, by what was found in its words.
+fn command(
+    alloc: Global,
+    name: CommandName,
+    found: &ArgMatches<'_>,
+) -> Result<Command, CommandFault>
+    ensures { IsRead (found_as name (rows_of (found_of found.now))) result }
+{
+    match name {
+        CommandName::Generate => generate(alloc, found),
+        CommandName::Vectors => vectors(alloc, found),
+        CommandName::Simulate => simulate(alloc, found),
+        CommandName::Workload => workload(found),
+        CommandName::Check => check(alloc, found),
+    }
+}
+
+/// The command of the words, of which the first is `name`.
+fn named(alloc: Global, name: CommandName, words: &[String]) -> Result<Command, CommandFault>
+    ensures { IsRead (option_and_then (found_as name) (found_by (app_named name) (map string_bytes words.now))) result }
+{
+    let found = matched(app(alloc, name)?, words)?;
+    command(alloc, name, &found)
 }
 
 /// The command that the words after the program's name are. The first names it as it is spelled
@@ -107,15 +131,11 @@ pub fn read_command(alloc: Global, words: &[String]) -> Result<Command, CommandF
     ensures usage { IfErr result (λ fault. fault ≡ CommandFault.Usage → command_of (map string_bytes words.now) ≡ None) }
     ensures ranges { IfOk result HasRanges }
 {
-    let Some(name) = words.first() else {
+    let Some(word) = words.first() else {
         return Err(CommandFault::Usage);
     };
-    match name.as_str() {
-        "generate" => generate(alloc, words),
-        "vectors" => vectors(alloc, words),
-        "simulate" => simulate(alloc, words),
-        "workload" => workload(alloc, words),
-        "check" => check(alloc, words),
-        _ => Err(CommandFault::Usage),
+    match command_name(word.as_str()) {
+        Some(name) => named(alloc, name, words),
+        None => Err(CommandFault::Usage),
     }
 }

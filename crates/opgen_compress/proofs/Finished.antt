@@ -1,7 +1,7 @@
 -- The two rows that are left, and their sum.
-use Rattle.std.proofs.Common.{◌≡◌, ℕ, zero, suc, ◌+◌, ◌-◌, ◌*◌, ◌%◌, ◌^◌, ◌<◌, ◌≤◌, Bool, true, false, List, [], ◌∷◌, ◌++◌, length, length-append, map, reverse, Some, refl, sym, ap, ◌∙◌, subst, arith}
-use Rattle.std.specs.Prelude.{ℤ, All, max, slice_index, slice_index_or, slice_get, option_and_then, None, if◌then◌else◌}
-use Rattle.std.proofs.Math.Nat.{two-pow-succ, add-mul-mod_self_left, mod-eq_of_lt}
+use Rattle.std.proofs.Common.{◌≡◌, ℕ, zero, suc, ◌+◌, ◌*◌, ◌%◌, ◌^◌, ◌<◌, ◌≤◌, Bool, true, false, List, [], ◌∷◌, ◌++◌, length, map, reverse, Some, refl, sym, ap, ◌∙◌, subst, arith}
+use Rattle.std.specs.Prelude.{ℤ, All, slice_index, slice_index_or, slice_get, option_and_then, None, if◌then◌else◌}
+use Rattle.std.proofs.Math.Nat.{add-mul-mod_self_left, mod-eq_of_lt}
 use Rattle.std.proofs.lemmas.List.{append-nil, length-map, length-reverse, map-append, reverse-append}
 use Rattle.std.proofs.lemmas.List.Elements.{All-cons, All-nil, All-push}
 use Rattle.std.proofs.lemmas.Option.{slice_get-get_or}
@@ -9,12 +9,11 @@ use Rattle.std.proofs.lemmas.Bool.{eq-eqb}
 use Rattle.opgen_num.proofs.Carries.{sum-carry}
 use Rattle.opgen_num.specs.Words.{digit, nat, word}
 use Rattle.opgen_num.specs.WordLaws.{nat-word, length-word}
-use Rattle.opgen_num.specs.Sums.{xor, majority, sum_with}
+use Rattle.opgen_num.specs.Sums.{sum_with}
 use Rattle.opgen_num.proofs.Words.{nat-below}
 use Rattle.opgen_heap.specs.Contents.{Contents}
 use Rattle.opgen_heap.specs.Sum.{Words, bit_under, ones, columns_sum}
 use Rattle.opgen_net.specs.declared.cell.Class.TheVariants.{Wire, Add}
-use Rattle.opgen_design.specs.declared.expr.Slice.{Slice}
 use Rattle.opgen_design.specs.declared.expr.Op.TheVariants.{Plus}
 use Rattle.opgen_net.specs.declared.net.Net.{Net}
 use Rattle.opgen_net.specs.declared.node.Node.{Node}
@@ -27,8 +26,7 @@ use Rattle.opgen_design.specs.Tree.{name, none, more}
 use Rattle.opgen_net.specs.Flow.{Inputs, flow}
 use Rattle.opgen_net.specs.Grown.{HasGrown}
 use Rattle.opgen_net.specs.Made.{slice_tree}
-use Rattle.opgen_design.specs.Run.{AreWords}
-use Rattle.opgen_net.specs.Valid.{widths, input_widths, IsValid, FitsNodes}
+use Rattle.opgen_net.specs.Valid.{widths, IsValid, FitsNodes}
 use Rattle.opgen_design.specs.Width.{IsWidth, as_width, joined, width, width_on}
 use Rattle.opgen_net.specs.WordRule.{IsThere, HasBits, bit_flow, word_flow, runs, is_whole, word_tree, with_node, with_runs, with_word}
 use Rattle.opgen_net.proofs.Appending.{flow-append_last}

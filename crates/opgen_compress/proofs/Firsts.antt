@@ -1,5 +1,5 @@
 -- The first of a list, and the rest.
-use Rattle.std.proofs.Common.{◌+◌, ◌<◌, ◌≤◌, suc, List, ◌∷◌, length, arith}
+use Rattle.std.proofs.Common.{suc, List, ◌∷◌, arith}
 use Rattle.std.specs.Prelude.{All}
 use Rattle.opgen_net.specs.declared.word_bits.WordBit.{WordBit}
 

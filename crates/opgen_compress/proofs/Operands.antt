@@ -1,6 +1,6 @@
 -- The expressions of adders: their width, how deep they nest, and what they give.
 use Rattle.std.proofs.Common.{◌≡◌, ℕ, suc, ◌+◌, ◌-◌, ◌*◌, ◌<◌, ◌≤◌, Bool, true, false, nat_eq, ◌&&◌, ◌||◌, List, [], ◌∷◌, length, take, drop, Some, refl, sym, ap, ◌∙◌, arith}
-use Rattle.std.specs.Prelude.{ℤ, All, slice_index, slice_index_or, max, option_and_then, if◌then◌else◌}
+use Rattle.std.specs.Prelude.{ℤ, All, slice_index, slice_index_or, option_and_then, if◌then◌else◌}
 use Rattle.std.proofs.Math.Seq.{take-suc}
 use Rattle.std.proofs.lemmas.Bool.{eqb-true, and_parts}
 use Rattle.std.proofs.lemmas.List.{length-drop, get_or-drop}
@@ -15,7 +15,7 @@ use Rattle.opgen_net.specs.declared.word_bits.WordBit.{WordBit}
 use Rattle.opgen_net.specs.declared.word_bits.WordBit.TheVariants.{Zero, One, Of}
 use Rattle.opgen_design.specs.Tree.{Tree, Trees, none, more, name, part}
 use Rattle.opgen_design.specs.Value.{Scope, value, combined, cut}
-use Rattle.opgen_design.specs.Width.{IsWidth, joined, width, width_on, nesting, in_chain}
+use Rattle.opgen_design.specs.Width.{joined, width, width_on, nesting, in_chain}
 use Rattle.opgen_net.specs.Flow.{Inputs, flow}
 use Rattle.opgen_design.specs.Run.{AreWords}
 use Rattle.opgen_net.specs.Valid.{widths, input_widths, IsValid, FitsNodes}

@@ -1,13 +1,12 @@
 -- Passes over all columns keep their sum, but for what weighs twice the highest column or more, and bring them down to two bits.
-use Rattle.std.proofs.Common.{◌≡◌, ℕ, zero, suc, ◌+◌, ◌-◌, ◌*◌, ◌^◌, ◌<◌, ◌≤◌, Bool, true, false, List, [], ◌∷◌, ◌++◌, length, length-append, append_assoc, refl, sym, ap, ◌∙◌, subst, arith}
-use Rattle.std.specs.Prelude.{ℤ, All, filter, max, nat_lt, if◌then◌else◌}
+use Rattle.std.proofs.Common.{◌≡◌, ℕ, zero, suc, ◌+◌, ◌-◌, ◌*◌, ◌^◌, ◌<◌, ◌≤◌, Bool, true, false, List, [], ◌∷◌, ◌++◌, length, refl, sym, ap, ◌∙◌, subst, arith}
+use Rattle.std.specs.Prelude.{ℤ, All, filter, nat_lt, if◌then◌else◌}
 use Rattle.std.proofs.Math.Nat.{two-pow-succ}
 use Rattle.std.proofs.lemmas.Bool.{ltb-true, ltb-false, lt-ltb}
 use Rattle.std.proofs.lemmas.List.Elements.{All-append, All-cons, All-nil}
 use Rattle.opgen_heap.specs.Sum.{ones, columns_sum}
 use Rattle.opgen_heap.proofs.Sums.{ones-append}
 use Rattle.opgen_net.specs.declared.net.Net.{Net}
-use Rattle.opgen_net.specs.declared.word_bits.WordBit.{WordBit}
 use Rattle.opgen_net.specs.Flow.{Inputs}
 use Rattle.opgen_design.specs.Run.{AreWords}
 use Rattle.opgen_net.specs.Valid.{widths, input_widths, IsValid}

@@ -4,6 +4,7 @@ pub mod ReadLaws
 pub mod UseLaws
 pub mod FirstFailing
 pub mod SoundLaws
+mod RuleOrder
 pub mod GroupLaws
 pub mod NameWalk
 pub mod OrderLaws

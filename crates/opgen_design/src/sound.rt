@@ -109,11 +109,24 @@ impl Design {
         self.check_names(alloc)?;
         self.check_widths()?;
         let firsts = self.first_drivers(alloc)?;
-        self.check_driven_once(&firsts)?;
-        self.check_driven(&firsts)?;
-        self.check_ordered(alloc, &firsts)?;
+        self.check_drivers(alloc, &firsts)
+    }
+
+    // The rules after that on widths: those on what drives each signal and port come first.
+    fn check_drivers(&self, alloc: Global, firsts: &[Option<usize>]) -> Result<(), SoundFault>
+        requires numbers { HasNumbers self.now }
+        requires declared { Holds self.now Undeclared }
+        requires declared_once { Holds self.now DeclaredTwice }
+        requires widths { Holds self.now Width }
+        requires firsts { AreFirstDrivers self.now (length self.now.drivers) firsts.now }
+        ensures sound { OnOk result (IsSound self.now) }
+        ensures first { IfErr result (IsFaultOf self.now) }
+    {
+        self.check_driven_once(firsts)?;
+        self.check_driven(firsts)?;
+        self.check_ordered(alloc, firsts)?;
         self.check_inputs(alloc)?;
-        self.check_initials(&firsts)?;
+        self.check_initials(firsts)?;
         self.check_addresses(alloc)?;
         self.check_enable()
     }

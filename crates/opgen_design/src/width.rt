@@ -1,7 +1,8 @@
 //! The width in bits of an expression over the signals and ports of a design, if its parts fit together.
-ghost use Rattle.std.specs.Prelude.{◌≡◌, ◌+◌, ◌-◌, ◌&&◌, nat_le, nat_lt, if◌then◌else◌, None, slice_get};
+ghost use Rattle.std.specs.Prelude.{◌≡◌, ◌+◌, ◌-◌, ◌&&◌, nat_le, nat_lt, if◌then◌else◌, None};
 ghost use Rattle.opgen_design.specs.Plain.{plain, plain_all};
 ghost use Rattle.opgen_design.specs.Sound.{signal_widths, port_widths};
+ghost use Rattle.opgen_design.specs.Tree.{name, part, port};
 ghost use Rattle.opgen_design.specs.Width.{as_width, joined, joined_options, width, chain_width};
 
 use crate::{Design, Expr, Op, Slice};
@@ -52,20 +53,32 @@ fn joined_options(op: Op, first: Option<u32>, second: Option<u32>) -> Option<u32
 }
 
 impl Design {
-    fn signal_width(&self, node: usize) -> Option<u32>
-        ensures { result ≡ slice_get (signal_widths self.now) node }
+    // The width of a signal, if it is there and has an allowed width.
+    fn name_width(&self, node: usize) -> Option<u32>
+        ensures { result ≡ width (signal_widths self.now) (port_widths self.now) (name node) }
     {
         match self.signals.as_slice().get(node) {
-            Some(signal) => Some(signal.width),
+            Some(signal) => as_width(signal.width),
             None => None,
         }
     }
 
+    // The width of a slice of a signal, if it lies within it.
+    fn slice_width(&self, slice: Slice) -> Option<u32>
+        ensures { result ≡ width (signal_widths self.now) (port_widths self.now) (part slice.node slice.high slice.low) }
+    {
+        match self.signals.as_slice().get(slice.node) {
+            Some(signal) => part_width(signal.width, slice),
+            None => None,
+        }
+    }
+
+    // The width of a port, if it is there and has an allowed width.
     fn port_width(&self, place: usize) -> Option<u32>
-        ensures { result ≡ slice_get (port_widths self.now) place }
+        ensures { result ≡ width (signal_widths self.now) (port_widths self.now) (port place) }
     {
         match self.ports.as_slice().get(place) {
-            Some(port) => Some(port.width),
+            Some(port) => as_width(port.width),
             None => None,
         }
     }
@@ -78,19 +91,10 @@ impl Expr {
         ensures { result ≡ width (signal_widths design.now) (port_widths design.now) (plain self.now) }
     {
         match self {
-            Expr::Name(node) => match design.signal_width(*node) {
-                Some(width) => as_width(width),
-                None => None,
-            },
-            Expr::Part(slice) => match design.signal_width(slice.node) {
-                Some(width) => part_width(width, *slice),
-                None => None,
-            },
+            Expr::Name(node) => design.name_width(*node),
+            Expr::Part(slice) => design.slice_width(*slice),
             Expr::Bits(word) => as_width(word.width()),
-            Expr::Port(place) => match design.port_width(*place) {
-                Some(width) => as_width(width),
-                None => None,
-            },
+            Expr::Port(place) => design.port_width(*place),
             Expr::Not(operand) => operand.width(design),
             Expr::Chain(op, operands) => chain_width(*op, operands, design),
         }

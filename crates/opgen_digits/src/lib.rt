@@ -33,6 +33,16 @@ pub struct Digits {
     pub rest: Items<WordBit>,
 }
 
+/// A trial subtraction, of two nodes that have two bits more than the rest and are meant to have a
+/// highest bit of 0.
+#[derive(Clone, Copy)]
+pub struct Trial {
+    pub minuend: usize,
+    pub subtrahend: usize,
+    /// How many bits the rest has.
+    pub rest: u32,
+}
+
 /// Appends further bits.
 pub fn push_all(bits: &mut Items<WordBit>, more: &[WordBit]) -> Result<(), AllocError>
     ensures { OnOk result (bits.new ≡ bits.old ++ more.now) }
@@ -43,13 +53,13 @@ pub fn push_all(bits: &mut Items<WordBit>, more: &[WordBit]) -> Result<(), Alloc
     Ok(())
 }
 
-// The difference of two nodes.
-fn difference(alloc: Global, a: usize, b: usize) -> Result<Expr, AllocError>
-    ensures { IfOk result (λ e. plain e ≡ difference_of a b) }
+// The difference of the two nodes.
+fn difference(alloc: Global, trial: Trial) -> Result<Expr, AllocError>
+    ensures { IfOk result (λ e. plain e ≡ difference_of trial.minuend trial.subtrahend) }
 {
     let mut operands = Vec::new(alloc);
-    operands.push(Expr::Name(a))?;
-    operands.push(Expr::Name(b))?;
+    operands.push(Expr::Name(trial.minuend))?;
+    operands.push(Expr::Name(trial.subtrahend))?;
     Ok(Expr::Chain(Op::Minus, operands))
 }
 
@@ -77,35 +87,40 @@ fn lowest(node: usize, rest: u32) -> Slice
     }
 }
 
-/// Tries to take node `b` off node `a`, and so makes the next digit: 1 where that leaves no less
-/// than 0. What is left is kept only where it is asked for, in so many bits.
+/// Tries a subtraction, and so makes the next digit: 1 where that leaves no less than 0. What is left
+/// is kept only where it is asked for, in as many bits as the rest has.
 ///
-/// Both nodes have two bits more than the rest, and are meant to have a highest bit of 0. After
-/// want of memory the net is valid, and has some of the nodes.
+/// After want of memory the net is valid, and has some of the nodes.
 pub fn try_digit(
     alloc: Global,
     net: &mut Net,
     digits: &mut Digits,
-    rest: u32,
-    a: usize,
-    b: usize,
+    trial: Trial,
     keep: bool,
 ) -> Result<(), Memory>
     requires net { IsValid net.old }
-    requires operands { AreOperands rest net.old a b }
-    ensures ok { OnOk result (tried keep rest net.old a b digits.old.known ≡ record { net = net.new; digits = digits.new.known; rest = digits.new.rest }) }
+    requires operands { AreOperands trial.rest net.old trial.minuend trial.subtrahend }
+    ensures ok { OnOk result (tried keep trial.rest net.old trial.minuend trial.subtrahend digits.old.known ≡ record { net = net.new; digits = digits.new.known; rest = digits.new.rest }) }
     ensures valid { IsValid net.new }
 {
-    let difference = net.cells(Class::Add, rest + 2, difference(alloc, a, b)?)?;
-    let digit = net.cells(Class::Logic, 1, not_negative(alloc, difference, rest)?)?;
+    let difference = net.cells(Class::Add, trial.rest + 2, difference(alloc, trial)?)?;
+    let digit = net.cells(
+        Class::Logic,
+        1,
+        not_negative(alloc, difference, trial.rest)?,
+    )?;
     digits.known.push(WordBit::Of {
         node: digit,
         index: 0,
     })?;
     digits.rest = Items::new(alloc);
     if keep {
-        let left = net.choice(digit, lowest(difference, rest), lowest(a, rest))?;
-        push_bits(&mut digits.rest, left, 0, rest)?;
+        let left = net.choice(
+            digit,
+            lowest(difference, trial.rest),
+            lowest(trial.minuend, trial.rest),
+        )?;
+        push_bits(&mut digits.rest, left, 0, trial.rest)?;
     }
     Ok(())
 }

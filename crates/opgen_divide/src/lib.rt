@@ -19,7 +19,7 @@ ghost use Rattle.opgen_operator.specs.declared.spec.Operator.TheVariants.{Divide
 ghost use Rattle.opgen_divide.specs.Recipe.{with_inputs, numerator as numerator_of, digit_count, with_divisor, minuend as minuend_of, stepped, after, net_of_pair};
 ghost use Rattle.opgen_divide.specs.Steps.{HoldsAfterEachStep};
 
-use opgen_digits::{Digits, output_results, push_all, try_digit};
+use opgen_digits::{Digits, Trial, output_results, push_all, try_digit};
 use opgen_list::Items;
 use opgen_net::{Net, WordBit, push_bits, push_zeros};
 use opgen_num::Memory;
@@ -75,28 +75,39 @@ fn minuend(alloc: Global, rest: &[WordBit], bit: WordBit) -> Result<Items<WordBi
     Ok(bits)
 }
 
+// The node of the divisor with two zeros above it, and how many bits the divisor has.
+#[derive(Clone, Copy)]
+struct DivisorNode {
+    node: usize,
+    width: u32,
+}
+
 // One step: the next bit of the numerator.
 fn step(
     alloc: Global,
     net: &mut Net,
     digits: &mut Digits,
-    width: u32,
-    divisor: usize,
+    divisor: DivisorNode,
     bit: WordBit,
     keep: bool,
 ) -> Result<(), Memory>
     requires net { IsValid net.old }
-    requires some { 1 ≤ width }
-    requires few { width + 2 ≤ MAX_WIDTH }
-    requires rest { length digits.old.rest ≡ width }
+    requires some { 1 ≤ divisor.width }
+    requires few { divisor.width + 2 ≤ MAX_WIDTH }
+    requires rest { length digits.old.rest ≡ divisor.width }
     requires there { All (IsThere (widths net.old.nodes)) (Zero ∷ (digits.old.rest ++ bit ∷ [])) }
-    requires divisor { slice_index (widths net.old.nodes) divisor ≡ width + 2 }
-    ensures ok { OnOk result (stepped keep width divisor (record { net = net.old; digits = digits.old.known; rest = digits.old.rest }) bit ≡ record { net = net.new; digits = digits.new.known; rest = digits.new.rest }) }
+    requires divisor { slice_index (widths net.old.nodes) divisor.node ≡ divisor.width + 2 }
+    ensures ok { OnOk result (stepped keep divisor.width divisor.node (record { net = net.old; digits = digits.old.known; rest = digits.old.rest }) bit ≡ record { net = net.new; digits = digits.new.known; rest = digits.new.rest }) }
     ensures valid { IsValid net.new }
 {
     let bits = minuend(alloc, digits.rest.as_slice(), bit)?;
-    let a = net.word(bits.as_slice())?;
-    try_digit(alloc, net, digits, width, a, divisor, keep)
+    let minuend = net.word(bits.as_slice())?;
+    let trial = Trial {
+        minuend,
+        subtrahend: divisor.node,
+        rest: divisor.width,
+    };
+    try_digit(alloc, net, digits, trial, keep)
 }
 
 // Divides: as many steps as the numerator has bits.
@@ -125,8 +136,10 @@ fn divide(
             alloc,
             net,
             &mut digits,
-            pair.b.width,
-            divisor,
+            DivisorNode {
+                node: divisor,
+                width: pair.b.width,
+            },
             numerator[k],
             keep,
         )?;

@@ -6,7 +6,7 @@ ghost use Rattle.opgen_design.specs.Tree.{name, chain as chain_of};
 ghost use Rattle.opgen_design.specs.Plain.{trees_of};
 ghost use Rattle.opgen_net.specs.Valid.{IsValid, widths};
 ghost use Rattle.opgen_num.specs.declared.TheConstants.{MAX_WIDTH};
-ghost use Rattle.opgen_graph.specs.Recipe.{zeros_below as zeros_of, dropped as dropped_of, added as added_of, input_multiple, with_input, with_sum, without_lowest, with_adder, with_adders};
+ghost use Rattle.opgen_graph.specs.Recipe.{zeros_below as zeros_of, dropped as dropped_of, added as added_of, input_multiple, with_input, with_sum, without_lowest, with_adder, with_adders, multiple_of as multiple_with};
 ghost use Rattle.opgen_graph.specs.Placing.{AreAdders, AreMultiples, IsNarrow, IsNode, factors};
 
 use crate::forms::{Form, Step};
@@ -65,26 +65,28 @@ fn added(alloc: Global, adder: Adder, a: usize, b: usize) -> Result<Expr, AllocE
     }
 }
 
-// Appends the Add node of an adder, after its operands.
+// Appends the Add node of an adder, after its operands, which are known multiples.
 fn sum(
     alloc: Global,
     net: &mut Net,
     signed: bool,
     width: u32,
+    known: &[Multiple],
     adder: Adder,
-    u: Multiple,
-    v: Multiple,
 ) -> Result<usize, Memory>
     requires net { IsValid net.old }
     requires width { IsWidth width }
-    requires u { IsNode net.old u }
-    requires v { IsNode net.old v }
+    requires nodes { All (IsNode net.old) known.now }
+    requires u { Contains (factors known.now) adder.u }
+    requires v { Contains (factors known.now) adder.v }
     requires few { adder.step.shift ≤ MAX_WIDTH }
-    ensures ok { OnOk result (net.new ≡ (with_sum signed width net.old adder u v).net) }
-    ensures place { IfOk result (λ n. n ≡ (with_sum signed width net.old adder u v).place) }
+    ensures ok { OnOk result (net.new ≡ (with_sum signed width net.old adder (multiple_with known.now adder.u) (multiple_with known.now adder.v)).net) }
+    ensures place { IfOk result (λ n. n ≡ (with_sum signed width net.old adder (multiple_with known.now adder.u) (multiple_with known.now adder.v)).place) }
     ensures valid { IsValid net.new }
 {
+    let u = multiple_of(known, adder.u);
     let a = operand(alloc, net, signed, zeros_below(adder.step), width, u)?;
+    let v = multiple_of(known, adder.v);
     let b = operand(alloc, net, signed, 0, width, v)?;
     net.cells(Class::Add, width, added(alloc, adder, a, b)?)
 }
@@ -133,9 +135,7 @@ fn place_adder(
 {
     let width = input.width + (32 - adder.value.leading_zeros());
     let low = dropped(adder.step);
-    let u = multiple_of(known, adder.u);
-    let v = multiple_of(known, adder.v);
-    let sum = sum(alloc, net, input.signed, width + low, adder, u, v)?;
+    let sum = sum(alloc, net, input.signed, width + low, known, adder)?;
     let node = without_low(alloc, net, low, width, sum)?;
     Ok(Multiple {
         factor: adder.value,

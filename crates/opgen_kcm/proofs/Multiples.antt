@@ -1,17 +1,14 @@
 -- The entries of a word's chunks together are a multiple of its number, half a unit off for each at most.
-use Rattle.std.proofs.Common.{◌≡◌, ℕ, zero, suc, ◌+◌, ◌*◌, ◌/◌, ◌^◌, ◌<◌, ◌≤◌, Bool, List, length, sym, ap, ◌∙◌, arith}
+use Rattle.std.proofs.Common.{◌≡◌, ℕ, zero, suc, ◌+◌, ◌*◌, ◌^◌, ◌≤◌, Bool, List, length, sym, ap, ◌∙◌, arith}
 use Rattle.std.specs.Prelude.{ℤ, pos, negsuc, ◌+ℤ◌, ◌-ℤ◌, ◌*ℤ◌, ◌<ℤ◌, ◌≤ℤ◌, unsigned_abs}
-use Rattle.std.specs.Int.{int_div_euclid}
-use Rattle.std.proofs.Math.Nat.{mul-le-mul_left}
 use Rattle.std.proofs.lemmas.Int.{ints}
-use Rattle.std.proofs.lemmas.Nat.{div-add-mod'}
 use Rattle.opgen_num.specs.declared.format.Ratio.{Ratio}
+use Rattle.opgen_num.specs.Nearest.{nearest}
 use Rattle.opgen_num.specs.Rounding.{distance}
-use Rattle.opgen_num.proofs.Floors.{one_floor}
 use Rattle.opgen_num.proofs.Integers.{product-sum, product_assoc, commuted, sum-product}
-use Rattle.opgen_num.proofs.Rounded.{floor_is, half_away}
+use Rattle.opgen_num.proofs.NearestNumbers.{nearest-floor, nearest-whole}
 use Rattle.opgen_kcm.specs.Chunks.{chunk_count, chunk_at, number, chunk_word, digit_of}
-use Rattle.opgen_kcm.specs.Entries.{in_guard_units, nearest, entry}
+use Rattle.opgen_kcm.specs.Entries.{in_guard_units, entry}
 use Rattle.opgen_kcm.specs.Multiple.{IsMultiple}
 use Rattle.opgen_kcm.proofs.ChunkWords.{value_of, chunks-value}
 
@@ -19,22 +16,6 @@ use Rattle.opgen_kcm.proofs.ChunkWords.{value_of, chunks-value}
 abbrev pub IsWithinHalves : (halves : ℕ) (n m e : ℤ) → Type 0
 IsWithinHalves halves n m e =
     ((pos 2 *ℤ (m *ℤ e)) ≤ℤ ((pos 2 *ℤ n) +ℤ (pos halves *ℤ m))) × (((pos 2 *ℤ n) -ℤ (pos halves *ℤ m)) ≤ℤ (pos 2 *ℤ (m *ℤ e)))
-
-pub nearest-floor : (n m : ℤ) → pos 0 <ℤ m
-    → ((pos 2 *ℤ (m *ℤ nearest n m)) ≤ℤ ((pos 2 *ℤ n) +ℤ m)) × (((pos 2 *ℤ n) -ℤ m) <ℤ (pos 2 *ℤ (m *ℤ nearest n m)))
-nearest-floor n m h = half_away n m (nearest n m) (floor_is ((pos 2 *ℤ n) +ℤ m) (pos 2 *ℤ m) (omega (arith, ints, h)))
-
--- a whole number is its own nearest
-pub nearest-whole : (n m y : ℤ) → pos 0 <ℤ m → n ≡ m *ℤ y → nearest n m ≡ y
-nearest-whole n m y h e =
-    let twice = pos 2 *ℤ m in
-    let some : pos 0 <ℤ twice = omega (arith, ints, h) in
-    let same = product_assoc (pos 2) m y in
-    let more = product_assoc (pos 2) m (y +ℤ pos 1) in
-    let split = ap (λ z. pos 2 *ℤ z) (product-sum m y (pos 1)) in
-    let apart = product-sum (pos 2) (m *ℤ y) (m *ℤ pos 1) in
-    one_floor twice some ((pos 2 *ℤ n) +ℤ m) (nearest n m) y (floor_is ((pos 2 *ℤ n) +ℤ m) twice some)
-    (omega (arith, ints, h, e, same), omega (arith, ints, h, e, same, more, split, apart))
 
 -- the entries of the chunks so far
 abbrev pub total : Ratio → (width : ℕ) (signed : Bool) (count : ℕ) → List Bool → ℤ
@@ -98,16 +79,3 @@ total-multiple q guard width signed x positive long some =
         → 2 * distance (m *ℤ e) n ≤ count * unsigned_abs m
     halves-distance count n (pos m) e h under over = omega (arith, ints, under, over)
     halves-distance count n (negsuc m) e h under over = absurd (omega (arith, ints, h))
-
--- a nearest number is no greater than what its floor is taken of
-pub nearest-small : (n m : ℤ) (bound : ℕ) → pos 0 <ℤ m → 2 * unsigned_abs n + unsigned_abs m < bound → unsigned_abs (nearest n m) < bound
-nearest-small n m bound h small = quotient ((pos 2 *ℤ n) +ℤ m) (pos 2 *ℤ m) (omega (arith, ints, h)) (omega (arith, ints, h, small))
-  where
-    quotient : (a b : ℤ) → pos 0 <ℤ b → unsigned_abs a < bound → unsigned_abs (int_div_euclid a b) < bound
-    quotient (pos a) (pos b) some below =
-        let least : a / b * 1 ≤ a / b * b = mul-le-mul_left (a / b) (omega (arith, ints, some)) in
-        omega (arith, ints, below, least, div-add-mod' a b)
-    quotient (negsuc a) (pos b) some below =
-        let least : a / b * 1 ≤ a / b * b = mul-le-mul_left (a / b) (omega (arith, ints, some)) in
-        omega (arith, ints, below, least, div-add-mod' a b)
-    quotient a (negsuc b) some below = absurd (omega (arith, ints, some))

@@ -12,18 +12,19 @@ use Rattle.opgen_num.specs.declared.TheConstants.{MAX_WIDTH}
 use Rattle.opgen_num.specs.declared.format.Format.{Format}
 use Rattle.opgen_num.specs.declared.format.Ratio.{Ratio}
 use Rattle.opgen_num.specs.Formats.{Holds}
+use Rattle.opgen_num.specs.Nearest.{nearest}
 use Rattle.opgen_num.specs.Rounding.{distance}
 use Rattle.opgen_num.specs.Words.{word}
 use Rattle.opgen_num.specs.WordLaws.{length-word}
 use Rattle.opgen_num.proofs.BitLength.{power_order}
 use Rattle.opgen_num.proofs.Integers.{product-sum, product_cancel, product-difference, difference-product}
+use Rattle.opgen_num.proofs.NearestNumbers.{nearest-floor}
 use Rattle.opgen_num.proofs.Values.{val_holds}
 use Rattle.opgen_kcm.specs.declared.chunk.Chunk.{Chunk}
 use Rattle.opgen_kcm.specs.Chunks.{chunk_count, chunk_at, digit_of}
-use Rattle.opgen_kcm.specs.Entries.{nearest, entry, all_entries, least_of, offsets, greatest_of}
+use Rattle.opgen_kcm.specs.Entries.{entry, all_entries, least_of, offsets, greatest_of}
 use Rattle.opgen_kcm.specs.Recipe.{HasNarrowRows}
 use Rattle.opgen_kcm.proofs.Entries.{length-entries, get_or-entries, length-offsets}
-use Rattle.opgen_kcm.proofs.Multiples.{nearest-floor}
 use Rattle.opgen_kcm.proofs.Shapes.{fold-below, narrow-rows}
 
 -- two numbers of one width are less than 2 to it apart

@@ -1,10 +1,11 @@
 -- The entries of a table: the multiples of a fraction by the digits of a chunk, each rounded to the nearest whole number
 -- (K. D. Chapman's constant multiplier; de Dinechin and Kumm, Application-Specific Arithmetic, "Multiplication by a constant").
 use Rattle.std.specs.Prelude.{ℕ, zero, suc, ◌/◌, ◌%◌, ◌^◌, ◌==◌, Bool, List, [], ◌∷◌, ◌++◌, map, max, ℤ, pos, ◌+ℤ◌, ◌*ℤ◌, slice_index_or, if◌then◌else◌}
-use Rattle.std.specs.Int.{int_div_euclid, int_min}
+use Rattle.std.specs.Int.{int_min}
 use Rattle.std.specs.List.{fold, list_all}
 use Rattle.opgen_num.specs.declared.format.Ratio.{Ratio}
 use Rattle.opgen_num.specs.Formats.{digit_count}
+use Rattle.opgen_num.specs.Nearest.{nearest}
 use Rattle.opgen_num.specs.Rounding.{distance}
 use Rattle.opgen_num.specs.Words.{word}
 use Rattle.opgen_kcm.specs.declared.chunk.Chunk.{Chunk}
@@ -14,10 +15,6 @@ use Rattle.opgen_kcm.specs.Chunks.{digit_of}
 -- a fraction in units that are 2 ^ guard times smaller
 abbrev pub in_guard_units : Ratio → (guard : ℕ) → Ratio
 in_guard_units q guard = record { num = q.num *ℤ pos (2 ^ guard); den = q.den }
-
--- n / m to the nearest whole number, half a unit up: the floor of n / m + 1/2
-abbrev pub nearest : (n m : ℤ) → ℤ
-nearest n m = int_div_euclid ((pos 2 *ℤ n) +ℤ m) (pos 2 *ℤ m)
 
 -- the multiple of a chunk's digit
 abbrev pub entry : Ratio → Chunk → (digit : ℤ) → ℤ

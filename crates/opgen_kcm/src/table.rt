@@ -4,11 +4,11 @@ ghost use Rattle.std.specs.Prelude.{◌≡◌, ◌+◌, ◌*◌, ◌/◌, ◌^�
 ghost use Rattle.opgen_num.specs.declared.TheConstants.{MAX_INPUT};
 ghost use Rattle.opgen_num.specs.Formats.{digit_count};
 ghost use Rattle.opgen_num.specs.Rounding.{distance};
-ghost use Rattle.opgen_kcm.specs.Entries.{in_guard_units, nearest, entry, all_entries, least_of, offsets, greatest_of, divides_all, zeros_of, shape_of, rows_in};
+ghost use Rattle.opgen_kcm.specs.Entries.{in_guard_units, entry, all_entries, least_of, offsets, greatest_of, divides_all, zeros_of, shape_of, rows_in};
 ghost use Rattle.opgen_kcm.specs.Recipe.{HasRoom};
 
 use crate::chunk::Chunk;
-use opgen_num::{Ratio, Word, bit_length};
+use opgen_num::{Ratio, Word, bit_length, nearest};
 use std::alloc::{AllocError, Global};
 
 // Two to a power.
@@ -47,16 +47,6 @@ pub(crate) fn in_guard_units(q: Ratio, guard: u32) -> Ratio
         num: times(q.num, weight(guard)),
         den: q.den,
     }
-}
-
-// The whole number that is nearest to `n / m`, the greater of two.
-fn nearest(n: i128, m: i128) -> i128
-    requires positive { pos 0 <ℤ m }
-    requires small { 2 * unsigned_abs n + unsigned_abs m < 2 ^ 126 }
-    ensures value { result ≡ nearest n m }
-    ensures small { unsigned_abs result < 2 ^ 126 }
-{
-    (2 * n + m).div_euclid(2 * m)
 }
 
 // The multiple of a fraction by a digit of a chunk.

@@ -13,6 +13,12 @@ use Rattle.opgen_design.specs.declared.sound.Rule.TheVariants.{Width}
 use Rattle.opgen_design.specs.Sound.{IsSound, IsSignalWide, PortPasses, SignalPasses, at_port, at_signal}
 use Rattle.opgen_design.specs.Width.{IsWidth}
 
+-- one more of a list, each by a function
+pub listed : {X Y : Type 0} (f : X → Y) (xs : List X) (i : ℕ) (x : X) → i < length xs → x ≡ get_or xs i x
+    → map f (take i xs) ++ f x ∷ [] ≡ map f (take (i + 1) xs)
+listed f xs i x l e = ap (λ y. map f (take i xs) ++ f y ∷ []) e
+    ∙ sym (ap (map f) (take_more xs i x l) ∙ map-append f (take i xs) (get_or xs i x ∷ []))
+
 abbrev pub initial : Signal → List Bool
 initial s = unwrap_or s.initial (word s.width 0)
 
@@ -38,20 +44,16 @@ pub record IsNarrow (w : List Bool) (width : ℕ) : Type 0 where
   pub same : length w ≡ width
   pub narrow : width ≤ MAX_WIDTH
 
-pub initial-narrow : (ss : List Signal) → All IsSignalWide ss → (i : ℕ) (s : Signal) → i < length ss → s ≡ get_or ss i s → (w : List Bool)
-    → w ≡ initial s → IsNarrow w s.width
-initial-narrow ss h i s l e w f =
-    let wide : IsSignalWide s = subst IsSignalWide (sym e) (h i s l) in
-    record { same = ap length f ∙ initial-length s.initial s.width wide.1; narrow = wide.0.1 }
+pub initial-narrow : (s : Signal) → IsSignalWide s → (w : List Bool) → w ≡ initial s → IsNarrow w s.width
+initial-narrow s wide w f = record { same = ap length f ∙ initial-length s.initial s.width wide.1; narrow = wide.0.1 }
 
-pub one-more : (ss : List Signal) (ws : List (List Bool)) (i : ℕ) (s : Signal) (y : List Bool) → i < length ss → s ≡ get_or ss i s
-    → i < length ws → take i ws ≡ map initial (take i ss) → y ≡ initial s
-    → take (i + 1) (slice_set ws i y) ≡ map initial (take (i + 1) ss)
-one-more ss ws i s y m e l h f =
-    take_more_set ws i y l
-    ∙ ap (λ xs. xs ++ y ∷ []) h
-    ∙ ap (λ x. map initial (take i ss) ++ x ∷ []) (f ∙ ap initial e)
-    ∙ sym (ap (map initial) (take_more ss i s m) ∙ map-append initial (take i ss) (get_or ss i s ∷ []))
+pub one-more : (ss : List Signal) (ws : List (List Bool)) (i : ℕ) (s : Signal) → i < length ss → s ≡ get_or ss i s
+    → i < length ws → take i ws ≡ map initial (take i ss)
+    → take (i + 1) (slice_set ws i (initial s)) ≡ map initial (take (i + 1) ss)
+one-more ss ws i s m e l h =
+    take_more_set ws i (initial s) l
+    ∙ ap (λ xs. xs ++ initial s ∷ []) h
+    ∙ listed initial ss i s m e
 
 pub all-begun : (ss : List Signal) (ws : List (List Bool)) (i : ℕ) → length ss ≤ i → length ws ≡ length ss
     → take i ws ≡ map initial (take i ss) → ws ≡ map initial ss

@@ -23,6 +23,13 @@ pub struct Bank {
     pub vectors: Vec<u64x4>,
 }
 
+/// The words of a design's signals, and those of its ports.
+#[derive(Drop)]
+pub struct Banks {
+    pub signals: Bank,
+    pub ports: Bank,
+}
+
 /// Room for one word.
 pub fn room() -> [u64x4; 96]
     ensures { length result ≡ MAX_WIDTH }

@@ -12,7 +12,7 @@ ghost use Rattle.opgen_streams.specs.Streams.{bit_in, streams, word_in};
 ghost use Rattle.opgen_lanes.specs.Banks.{IsBank, stream_words, width_at, widths_of};
 ghost use Rattle.opgen_lanes.specs.Ready.{AreBanksOf};
 
-use crate::bank::{Bank, room};
+use crate::bank::{Banks, room};
 use crate::evaluate::{evaluate, lend};
 use crate::tables::look_up;
 use crate::words::choose;
@@ -24,24 +24,23 @@ fn choice(
     on: &Expr,
     yes: &Expr,
     no: &Expr,
-    signals: &Bank,
-    ports: &Bank,
+    banks: &Banks,
     out: &mut [u64x4],
     spare: &mut [u64x4],
 ) -> usize
-    requires signals { IsBank signals.now }
-    requires ports { IsBank ports.now }
-    requires on { width (widths_of signals.now) (widths_of ports.now) (plain on.now) ≡ Some 1 }
-    requires yes { IsSome (width (widths_of signals.now) (widths_of ports.now) (plain yes.now)) }
-    requires no { width (widths_of signals.now) (widths_of ports.now) (plain no.now) ≡ width (widths_of signals.now) (widths_of ports.now) (plain yes.now) }
+    requires signals { IsBank banks.now.signals }
+    requires ports { IsBank banks.now.ports }
+    requires on { width (widths_of banks.now.signals) (widths_of banks.now.ports) (plain on.now) ≡ Some 1 }
+    requires yes { IsSome (width (widths_of banks.now.signals) (widths_of banks.now.ports) (plain yes.now)) }
+    requires no { width (widths_of banks.now.signals) (widths_of banks.now.ports) (plain no.now) ≡ width (widths_of banks.now.signals) (widths_of banks.now.ports) (plain yes.now) }
     requires room { MAX_WIDTH ≤ length out.old }
     requires spare { MAX_WIDTH ≤ length spare.old }
-    ensures { (k : ℕ) → k < streams → word_in (take result out.new) k ≡ chosen (value (scope (stream_words signals.now ports.now k)) (plain on.now)) (value (scope (stream_words signals.now ports.now k)) (plain yes.now)) (value (scope (stream_words signals.now ports.now k)) (plain no.now)) }
+    ensures { (k : ℕ) → k < streams → word_in (take result out.new) k ≡ chosen (value (scope (stream_words banks.now.signals banks.now.ports k)) (plain on.now)) (value (scope (stream_words banks.now.signals banks.now.ports k)) (plain yes.now)) (value (scope (stream_words banks.now.signals banks.now.ports k)) (plain no.now)) }
 {
-    evaluate(on, signals, ports, out, spare);
+    evaluate(on, &banks.signals, &banks.ports, out, spare);
     let on = out[0];
-    let width = evaluate(yes, signals, ports, out, spare);
-    let no = lend(no, signals, ports, spare);
+    let width = evaluate(yes, &banks.signals, &banks.ports, out, spare);
+    let no = lend(no, &banks.signals, &banks.ports, spare);
     choose(on, &mut out[..width], no);
     width
 }
@@ -50,23 +49,22 @@ fn table(
     on: &Expr,
     rows: &[(Word, Word)],
     other: Word,
-    signals: &Bank,
-    ports: &Bank,
+    banks: &Banks,
     out: &mut [u64x4],
     spare: &mut [u64x4],
 ) -> usize
-    requires signals { IsBank signals.now }
-    requires ports { IsBank ports.now }
-    requires on { IsSome (width (widths_of signals.now) (widths_of ports.now) (plain on.now)) }
-    requires addresses { All (λ r. width (widths_of signals.now) (widths_of ports.now) (plain on.now) ≡ Some (length r.0)) rows.now }
+    requires signals { IsBank banks.now.signals }
+    requires ports { IsBank banks.now.ports }
+    requires on { IsSome (width (widths_of banks.now.signals) (widths_of banks.now.ports) (plain on.now)) }
+    requires addresses { All (λ r. width (widths_of banks.now.signals) (widths_of banks.now.ports) (plain on.now) ≡ Some (length r.0)) rows.now }
     requires words { All (λ r. length r.1 ≡ length other) rows.now }
     requires narrow { length other ≤ MAX_WIDTH }
     requires spare { MAX_WIDTH ≤ length spare.old }
     requires room { MAX_WIDTH ≤ length out.old }
-    ensures { (k : ℕ) → k < streams → word_in (take result out.new) k ≡ table_word rows.now other (value (scope (stream_words signals.now ports.now k)) (plain on.now)) }
+    ensures { (k : ℕ) → k < streams → word_in (take result out.new) k ≡ table_word rows.now other (value (scope (stream_words banks.now.signals banks.now.ports k)) (plain on.now)) }
 {
     let places = other.width() as usize;
-    let address = lend(on, signals, ports, spare);
+    let address = lend(on, &banks.signals, &banks.ports, spare);
     look_up(rows, other, address, &mut out[..places]);
     places
 }
@@ -75,92 +73,82 @@ fn table(
 fn driver_word(
     design: &Design,
     place: usize,
-    signals: &Bank,
-    ports: &Bank,
+    banks: &Banks,
     out: &mut [u64x4],
     spare: &mut [u64x4],
 ) -> usize
     requires sound { IsSound design.now }
     requires place { place < length design.now.drivers }
-    requires banks { AreBanksOf design.now signals.now ports.now }
+    requires banks { AreBanksOf design.now banks.now.signals banks.now.ports }
     requires room { MAX_WIDTH ≤ length out.old }
     requires spare { MAX_WIDTH ≤ length spare.old }
-    ensures { (driver : Driver) → slice_get design.now.drivers place ≡ Some driver → (k : ℕ) → k < streams → word_in (take result out.new) k ≡ driver_word (scope (stream_words signals.now ports.now k)) driver }
+    ensures { (driver : Driver) → slice_get design.now.drivers place ≡ Some driver → (k : ℕ) → k < streams → word_in (take result out.new) k ≡ driver_word (scope (stream_words banks.now.signals banks.now.ports k)) driver }
 {
     match design.drivers.get(place) {
         Driver::Assign { to: _, expr }
         | Driver::Register { to: _, expr }
-        | Driver::Output { port: _, expr } => evaluate(expr.expr(), signals, ports, out, spare),
+        | Driver::Output { port: _, expr } => evaluate(
+            expr.expr(),
+            &banks.signals,
+            &banks.ports,
+            out,
+            spare,
+        ),
         Driver::Choice { to: _, on, yes, no } => {
-            choice(on.expr(), yes.expr(), no.expr(), signals, ports, out, spare)
+            choice(on.expr(), yes.expr(), no.expr(), banks, out, spare)
         }
         Driver::Table {
             to: _,
             on,
             rows,
             other,
-        } => table(
-            on.expr(),
-            rows.as_slice(),
-            *other,
-            signals,
-            ports,
-            out,
-            spare,
-        ),
+        } => table(on.expr(), rows.as_slice(), *other, banks, out, spare),
     }
 }
 
 // Puts a word at what the driver drives.
-fn put_at(driver: &Driver, word: &[u64x4], signals: &mut Bank, ports: &mut Bank)
-    requires signals { IsBank signals.old }
-    requires ports { IsBank ports.old }
-    requires there { IsThere (stream_words signals.old ports.old 0) (target driver.now) }
-    requires room { width_at signals.old ports.old (target driver.now) ≤ length word.now }
-    ensures signals { IsBank signals.new }
-    ensures ports { IsBank ports.new }
-    ensures signal_widths { widths_of signals.new ≡ widths_of signals.old }
-    ensures port_widths { widths_of ports.new ≡ widths_of ports.old }
-    ensures words { (k : ℕ) → k < streams → stream_words signals.new ports.new k ≡ put_at (target driver.now) (word_in (take (width_at signals.old ports.old (target driver.now)) word.now) k) (stream_words signals.old ports.old k) }
+fn put_at(driver: &Driver, word: &[u64x4], banks: &mut Banks)
+    requires signals { IsBank banks.old.signals }
+    requires ports { IsBank banks.old.ports }
+    requires there { IsThere (stream_words banks.old.signals banks.old.ports 0) (target driver.now) }
+    requires room { width_at banks.old.signals banks.old.ports (target driver.now) ≤ length word.now }
+    ensures signals { IsBank banks.new.signals }
+    ensures ports { IsBank banks.new.ports }
+    ensures signal_widths { widths_of banks.new.signals ≡ widths_of banks.old.signals }
+    ensures port_widths { widths_of banks.new.ports ≡ widths_of banks.old.ports }
+    ensures words { (k : ℕ) → k < streams → stream_words banks.new.signals banks.new.ports k ≡ put_at (target driver.now) (word_in (take (width_at banks.old.signals banks.old.ports (target driver.now)) word.now) k) (stream_words banks.old.signals banks.old.ports k) }
 {
     match driver.target() {
-        Target::Signal(place) => signals.store(place, word),
-        Target::Port(place) => ports.store(place, word),
+        Target::Signal(place) => banks.signals.store(place, word),
+        Target::Port(place) => banks.ports.store(place, word),
     }
 }
 
 // Puts the word of the driver at a place at what it drives, by way of the room.
-fn put(
-    design: &Design,
-    place: usize,
-    signals: &mut Bank,
-    ports: &mut Bank,
-    word: &mut [u64x4],
-    spare: &mut [u64x4],
-)
+fn put(design: &Design, place: usize, banks: &mut Banks, word: &mut [u64x4], spare: &mut [u64x4])
     requires sound { IsSound design.now }
     requires place { place < length design.now.drivers }
-    requires banks { AreBanksOf design.now signals.old ports.old }
+    requires banks { AreBanksOf design.now banks.old.signals banks.old.ports }
     requires room { MAX_WIDTH ≤ length word.old }
     requires spare { MAX_WIDTH ≤ length spare.old }
-    ensures banks { AreBanksOf design.now signals.new ports.new }
-    ensures words { (k : ℕ) → k < streams → stream_words signals.new ports.new k ≡ put_option (slice_get design.now.drivers place) (stream_words signals.old ports.old k) }
+    ensures banks { AreBanksOf design.now banks.new.signals banks.new.ports }
+    ensures words { (k : ℕ) → k < streams → stream_words banks.new.signals banks.new.ports k ≡ put_option (slice_get design.now.drivers place) (stream_words banks.old.signals banks.old.ports k) }
 {
-    driver_word(design, place, signals, ports, word, spare);
-    put_at(design.drivers.get(place), word, signals, ports);
+    driver_word(design, place, banks, word, spare);
+    put_at(design.drivers.get(place), word, banks);
 }
 
 /// Evaluates the drivers at these places in order, each over the words of those before it.
-pub fn settle(design: &Design, order: &[usize], signals: &mut Bank, ports: &mut Bank)
+pub fn settle(design: &Design, order: &[usize], banks: &mut Banks)
     requires sound { IsSound design.now }
     requires places { (p i : ℕ) → slice_get order.now p ≡ Some i → i < length design.now.drivers }
-    requires banks { AreBanksOf design.now signals.old ports.old }
-    ensures banks { AreBanksOf design.now signals.new ports.new }
-    ensures words { (k : ℕ) → k < streams → stream_words signals.new ports.new k ≡ settle design.now.drivers order.now (stream_words signals.old ports.old k) }
+    requires banks { AreBanksOf design.now banks.old.signals banks.old.ports }
+    ensures banks { AreBanksOf design.now banks.new.signals banks.new.ports }
+    ensures words { (k : ℕ) → k < streams → stream_words banks.new.signals banks.new.ports k ≡ settle design.now.drivers order.now (stream_words banks.old.signals banks.old.ports k) }
 {
     let mut word = room();
     let mut spare = room();
     for place in order {
-        put(design, *place, signals, ports, &mut word, &mut spare);
+        put(design, *place, banks, &mut word, &mut spare);
     }
 }

@@ -1,16 +1,17 @@
 //! A design that is run cycle by cycle in 256 streams.
-ghost use Rattle.std.specs.Prelude.{ℕ, ◌≡◌, ◌<◌, ◌^◌, All, IfOk, length, map, unwrap_or};
+ghost use Rattle.std.specs.Prelude.{ℕ, ◌≡◌, ◌<◌, ◌^◌, All, IfOk, length, map, slice_index, slice_set, unwrap_or};
 ghost use Rattle.std.specs.List.{sum};
 ghost use Rattle.opgen_num.specs.Words.{word};
 ghost use Rattle.opgen_design.specs.Order.{IsOrderOf};
-ghost use Rattle.opgen_design.specs.Run.{Cycle, at_ports, input_widths, is_in};
-ghost use Rattle.opgen_design.specs.Sound.{HasNumbers, IsSignalWide, IsSound};
-ghost use Rattle.opgen_streams.specs.Streams.{streams};
+ghost use Rattle.opgen_design.specs.Run.{Cycle, at_ports, initial_words, input_widths, is_in};
+ghost use Rattle.opgen_design.specs.Sound.{HasNumbers, IsSignalWide, IsSound, signal_widths};
+ghost use Rattle.opgen_runs.specs.Registers.{SameRegisters};
+ghost use Rattle.opgen_streams.specs.Streams.{streams, words_in};
 ghost use Rattle.opgen_lanes.specs.Banks.{IsBank, stream_words, widths_of, words_at};
-ghost use Rattle.opgen_lanes.specs.Ready.{AreBanksOf};
+ghost use Rattle.opgen_lanes.specs.Ready.{AreBanksOf, IsReady};
 ghost use Rattle.opgen_lanes.specs.Steps.{AreNew, IsStepIn, output_widths};
 
-use crate::bank::{Bank, port_widths, room, signal_widths};
+use crate::bank::{Bank, Banks, port_widths, room, signal_widths};
 use crate::drivers::settle;
 use crate::ports::{give_outputs, take_inputs};
 use crate::registers::hand_all_on;
@@ -27,8 +28,7 @@ use std::simd::prelude::*;
 pub struct Lanes {
     design: Design,
     order: Vec<usize>,
-    signals: Bank,
-    ports: Bank,
+    banks: Banks,
     next: Bank,
 }
 
@@ -42,9 +42,9 @@ impl Model for Lanes {
 
     ghost coded = { Prim.hlevel (codes, coded_tree) };
 
-    ghost view = { λ l. record { design = l.design; held = l.signals.vectors.items } };
+    ghost view = { λ l. record { design = l.design; held = l.banks.signals.vectors.items } };
 
-    ghost invariant = { λ l. IsReady l.design l.order.items l.signals l.ports l.next };
+    ghost invariant = { λ l. IsReady l.design l.order.items l.banks.signals l.banks.ports l.next };
 }
 
 // A signal's initial word, zeros where it has none.
@@ -55,6 +55,22 @@ fn initial_word(signal: &Signal) -> Word
         Some(word) => word,
         None => Word::new(0, signal.width),
     }
+}
+
+// Puts a signal's initial word at its place, in each stream.
+fn put_initial(signal: &Signal, place: usize, bank: &mut Bank)
+    requires bank { IsBank bank.old }
+    requires wide { IsSignalWide signal.now }
+    requires place { place < length bank.old.places.items }
+    requires width { slice_index (widths_of bank.old) place ≡ signal.now.width }
+    ensures bank { IsBank bank.new }
+    ensures widths { widths_of bank.new ≡ widths_of bank.old }
+    ensures words { (k : ℕ) → k < streams → words_at bank.new k ≡ slice_set (words_at bank.old k) place (unwrap_or signal.now.initial (word signal.now.width 0)) }
+{
+    let word = initial_word(signal);
+    let mut vectors = room();
+    write(word, &mut vectors[..word.width() as usize]);
+    bank.store(place, &vectors);
 }
 
 // The initial words in each stream.
@@ -68,33 +84,39 @@ fn initial_words(alloc: Global, signals: &[Signal]) -> Result<Bank, AllocError>
     let widths = signal_widths(alloc, signals)?;
     let mut bank = Bank::new(alloc, &widths)?;
     for place in 0..signals.len() {
-        let word = initial_word(&signals[place]);
-        let mut vectors = room();
-        write(word, &mut vectors[..word.width() as usize]);
-        bank.store(place, &vectors);
+        put_initial(&signals[place], place, &mut bank);
     }
     Ok(bank)
 }
 
-// Runs one cycle in place: before it the registers' words stand in `signals` and the inputs in `ports`, after it both have the words
-// of the settled cycle, and `next` has the registers' next words.
-fn run_cycle(
-    design: &Design,
-    order: &[usize],
-    signals: &mut Bank,
-    ports: &mut Bank,
-    next: &mut Bank,
-)
+// An order of the drivers, the words before the first cycle, and room for the registers' next words.
+fn begin(alloc: Global, design: &Design) -> Result<(Vec<usize>, Banks, Bank), Memory>
+    requires sound { IsSound design.now }
+    requires numbers { HasNumbers design.now }
+    ensures ready { IfOk result (λ b. IsReady design.now b.0.items b.1.signals b.1.ports b.2) }
+    ensures registers { IfOk result (λ b. (k : ℕ) → k < streams → SameRegisters design.now (words_in (signal_widths design.now) b.1.signals.vectors.items k) (initial_words design.now.signals)) }
+{
+    let order = design.order(alloc)?;
+    let signals = initial_words(alloc, design.signals.as_slice())?;
+    let next = initial_words(alloc, design.signals.as_slice())?;
+    let widths = port_widths(alloc, design.ports.as_slice())?;
+    let ports = Bank::new(alloc, &widths)?;
+    Ok((order, Banks { signals, ports }, next))
+}
+
+// Runs one cycle in place: before it the banks have the registers' words and the inputs, after it those of the settled cycle, and `next`
+// has the registers' next words.
+fn run_cycle(design: &Design, order: &[usize], banks: &mut Banks, next: &mut Bank)
     requires sound { IsSound design.now }
     requires order { IsOrderOf design.now order.now }
-    requires banks { AreBanksOf design.now signals.old ports.old }
-    requires next { AreBanksOf design.now next.old ports.old }
-    ensures banks { AreBanksOf design.now signals.new ports.new }
-    ensures next { AreBanksOf design.now next.new ports.new }
-    ensures cycle { (k : ℕ) → k < streams → Cycle design.now (words_at signals.old k) (at_ports is_in design.now.ports (words_at ports.old k)) (stream_words signals.new ports.new k) (words_at next.new k) }
+    requires banks { AreBanksOf design.now banks.old.signals banks.old.ports }
+    requires next { AreBanksOf design.now next.old banks.old.ports }
+    ensures banks { AreBanksOf design.now banks.new.signals banks.new.ports }
+    ensures next { AreBanksOf design.now next.new banks.new.ports }
+    ensures cycle { (k : ℕ) → k < streams → Cycle design.now (words_at banks.old.signals k) (at_ports is_in design.now.ports (words_at banks.old.ports k)) (stream_words banks.new.signals banks.new.ports k) (words_at next.new k) }
 {
-    settle(design, order, signals, ports);
-    hand_all_on(design, signals, ports, next);
+    settle(design, order, banks);
+    hand_all_on(design, banks, next);
 }
 
 impl Lanes {
@@ -104,16 +126,11 @@ impl Lanes {
         requires numbers { HasNumbers design }
         ensures { IfOk result (λ l. AreNew design l) }
     {
-        let order = design.order(alloc)?;
-        let signals = initial_words(alloc, design.signals.as_slice())?;
-        let next = initial_words(alloc, design.signals.as_slice())?;
-        let widths = port_widths(alloc, design.ports.as_slice())?;
-        let ports = Bank::new(alloc, &widths)?;
+        let (order, banks, next) = begin(alloc, &design)?;
         Ok(Lanes {
             design,
             order,
-            signals,
-            ports,
+            banks,
             next,
         })
     }
@@ -136,15 +153,9 @@ impl Lanes {
         ensures steps { (k : ℕ) → k < streams → IsStepIn k self.old.design self.old.held inputs.now self.new.held outputs.new }
         ensures length { length outputs.new ≡ length outputs.old }
     {
-        take_inputs(self.design.ports.as_slice(), inputs, &mut self.ports);
-        run_cycle(
-            &self.design,
-            &self.order,
-            &mut self.signals,
-            &mut self.ports,
-            &mut self.next,
-        );
-        give_outputs(self.design.ports.as_slice(), &self.ports, outputs);
-        mem::swap(&mut self.signals, &mut self.next);
+        take_inputs(self.design.ports.as_slice(), inputs, &mut self.banks.ports);
+        run_cycle(&self.design, &self.order, &mut self.banks, &mut self.next);
+        give_outputs(self.design.ports.as_slice(), &self.banks.ports, outputs);
+        mem::swap(&mut self.banks.signals, &mut self.next);
     }
 }

@@ -52,6 +52,16 @@ below-more n k spots l h = λ i x j. let a = h i x j in (omega (arith, a.0, l), 
 pub spots-more : (n k : ℕ) (spots : Spots) → n ≤ k → AreSpots n spots → AreSpots k spots
 spots-more n k spots l h = (below-more n k spots.signals l h.0, below-more n k spots.ports l h.1)
 
+pub spots-along : (base : ℕ) (spots : Spots) (before after : List Step) → AreSpots (base + length before) spots → Extends before after
+    → AreSpots (base + length after) spots
+spots-along base spots before after are e = spots-more (base + length before) (base + length after) spots
+    (omega (arith, longer before after e)) are
+
+-- a place of a step is one under more steps
+pub there-along : (base place : ℕ) (before after : List Step) → Extends before after → place < base + length before
+    → place < base + length after
+there-along base place before after e l = omega (arith, longer before after e, l)
+
 -- what stands after steps stays under others
 pub kept : (base : ℕ) (steps others : List Step) (m : List ℕ) (place : ℕ) → length m ≡ base → place < base + length steps
     → get_or (exec (steps ++ others) m) place 0 ≡ get_or (exec steps m) place 0

@@ -1,8 +1,9 @@
 -- Tables that stand among numbers.
-use Rattle.std.proofs.Common.{◌≡◌, ℕ, ◌+◌, ◌^◌, ◌<◌, ◌≤◌, Bool, true, false, List, [], ◌∷◌, ◌++◌, length, take, get_or, Some, refl, sym, ap, ◌∙◌, subst, inl, inr, arith}
+use Rattle.std.proofs.Common.{◌≡◌, ℕ, ◌+◌, ◌^◌, ◌<◌, ◌≤◌, Bool, true, false, List, [], ◌∷◌, ◌++◌, length, take, drop, get_or, Some, refl, sym, ap, ◌∙◌, subst, inl, inr, arith}
 use Rattle.std.specs.Prelude.{nat_eq, slice_set, unwrap_or}
 use Rattle.std.proofs.lemmas.Bool.{cond-true, cond-false, cases_eq, eqb-false, eqb-true}
-use Rattle.std.proofs.lemmas.List.{take_more, get_or-set_same, get_or-set_other}
+use Rattle.std.proofs.lemmas.List.{drop_more, take_more, get_or-set_same, get_or-set_other}
+use Rattle.std.proofs.lemmas.Option.{slice_get-get_or}
 use Rattle.std.proofs.lemmas.Slice.Zip.{all_zipped_more}
 use Rattle.std.proofs.Math.Nat.{pow-le-pow_right}
 use Rattle.opgen_num.specs.Words.{nat}
@@ -87,3 +88,19 @@ row-fits bits rows i r h l is = subst (λ (x : Row). (length x.0 ≡ bits) × (l
 
 pub row-below : (bits : ℕ) (r : Row) → length r.0 ≡ bits → nat r.0 < 2 ^ bits
 row-below bits r e = subst (λ n. nat r.0 < 2 ^ n) e (nat-below r.0)
+
+some-row : (x y : Row) → Some x ≡ Some y → x ≡ y
+some-row x y h = cc
+
+-- the numbers of the rows from one on, where those behind it are there
+pub row-before : (ns : List ℕ) (rows : List Row) (other : List Bool) (bits i address number : ℕ) (d e : Row) → FitRows bits rows
+    → i < length rows → length ns ≡ 2 ^ bits → address ≡ nat (get_or rows i d).0 → number ≡ nat (get_or rows i e).1
+    → ((n : ℕ) → n < 2 ^ bits → get_or ns n 0 ≡ number_at (drop (i + 1) rows) other n)
+    → (n : ℕ) → n < 2 ^ bits → get_or (slice_set ns address number) n 0 ≡ number_at (drop i rows) other n
+row-before ns rows other bits i address number d e fits l long p q h n j =
+    let r = get_or rows i d in
+    let same : get_or rows i e ≡ r = some-row (get_or rows i e) r (sym (slice_get-get_or rows i e l) ∙ slice_get-get_or rows i d l) in
+    ap (λ x. get_or (slice_set ns x number) n 0) p
+    ∙ ap (λ x. get_or (slice_set ns (nat r.0) x) n 0) (q ∙ ap (λ (x : Row). nat x.1) same)
+    ∙ row-more ns (drop (i + 1) rows) r other (2 ^ bits) long (row-below bits r (fits i d l).0) h n j
+    ∙ sym (ap (λ rs. number_at rs other n) (drop_more rows i d l))

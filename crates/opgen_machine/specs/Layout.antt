@@ -6,8 +6,13 @@ use Rattle.opgen_design.specs.declared.design.Port.{Port}
 use Rattle.opgen_design.specs.declared.design.Signal.{Signal}
 use Rattle.opgen_design.specs.Run.{is_in, input_widths}
 use Rattle.opgen_design.specs.Sound.{signal_widths}
+use Rattle.opgen_machine.specs.declared.layout.WordSpots.{WordSpots}
 use Rattle.opgen_machine.specs.declared.step.Spot.{Spot}
 use Rattle.opgen_machine.specs.Programs.{Spots}
+
+-- the spots of words, as lists
+abbrev pub spots_of : WordSpots → Spots
+spots_of s = record { signals = s.signals.items; ports = s.ports.items }
 
 -- spots one after another, from a place on
 abbrev pub spots_from : ℕ → List ℕ → List Spot

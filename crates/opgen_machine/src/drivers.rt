@@ -1,15 +1,18 @@
 //! Translates the drivers of a design to steps.
-ghost use Rattle.std.specs.Prelude.{ℕ, ◌≡◌, ◌+◌, ◌<◌, ◌^◌, [], All, IfOk, OnOk, Some, length, slice_get};
+ghost use Rattle.std.specs.Prelude.{ℕ, ◌≡◌, ◌+◌, ◌<◌, ◌≤◌, ◌^◌, Bool, List, [], All, IfOk, IfSome, OnOk, Some, length, slice_get};
 ghost use Rattle.std.specs.List.{AllZip};
 ghost use Rattle.opgen_design.specs.declared.design.Driver.TheVariants.{Table};
 ghost use Rattle.opgen_design.specs.Sound.{target};
+ghost use Rattle.opgen_runs.specs.Tables.{Row};
 ghost use Rattle.opgen_machine.specs.Steps.{AreFine};
-ghost use Rattle.opgen_machine.specs.Programs.{AreSpots, Spots};
+ghost use Rattle.opgen_machine.specs.Programs.{AreSpots};
+ghost use Rattle.opgen_machine.specs.Layout.{spots_of};
 ghost use Rattle.opgen_machine.specs.Emit.{IsNarrow, width_over};
 ghost use Rattle.opgen_machine.specs.Laid.{HasRoom};
 ghost use Rattle.opgen_machine.specs.Settles.{Agrees, AgreesTable, HasNarrow, IsPut, IsThere, Leaves, Left, Settles, chosen_over, width_at};
 
 use crate::expression::{choose, constant, emit, look_up};
+use crate::layout::WordSpots;
 use crate::step::{Spot, Step};
 use opgen_design::{Driver, Formula, Target};
 use opgen_num::Word;
@@ -19,89 +22,77 @@ use std::alloc::AllocError;
 fn choice_spot(
     steps: &mut Vec<Step>,
     base: usize,
-    signals: &[Spot],
-    ports: &[Spot],
+    spots: &WordSpots,
     on: &Formula,
     yes: &Formula,
     no: &Formula,
 ) -> Result<Spot, AllocError>
     requires base { base < 2 ^ 63 }
-    requires spots { AreSpots (base + length steps.old.items) (record { signals = signals.now; ports = ports.now }) }
+    requires spots { AreSpots (base + length steps.old.items) (spots_of spots.now) }
     requires fine { AreFine base steps.old.items }
-    requires on { HasNarrow (record { signals = signals.now; ports = ports.now }) on.now 1 }
-    requires yes { IsNarrow (width_over (record { signals = signals.now; ports = ports.now }) yes.now) }
-    requires no { width_over (record { signals = signals.now; ports = ports.now }) no.now ≡ width_over (record { signals = signals.now; ports = ports.now }) yes.now }
-    ensures { IfOk result (λ s. (size : ℕ) → HasNarrow (record { signals = signals.now; ports = ports.now }) yes.now size → Left base (record { signals = signals.now; ports = ports.now }) (chosen_over on.now yes.now no.now) size steps.old.items steps.new.items s) }
+    requires on { HasNarrow (spots_of spots.now) on.now 1 }
+    requires yes { IsNarrow (width_over (spots_of spots.now) yes.now) }
+    requires no { width_over (spots_of spots.now) no.now ≡ width_over (spots_of spots.now) yes.now }
+    ensures { IfOk result (λ s. (size : ℕ) → HasNarrow (spots_of spots.now) yes.now size → Left base (spots_of spots.now) (chosen_over on.now yes.now no.now) size steps.old.items steps.new.items s) }
 {
-    let on = emit(steps, base, signals, ports, on.expr())?;
-    let yes = emit(steps, base, signals, ports, yes.expr())?;
-    let no = emit(steps, base, signals, ports, no.expr())?;
-    choose(steps, base, signals, ports, on, yes, no)
+    let on = emit(steps, base, spots, on.expr())?;
+    let yes = emit(steps, base, spots, yes.expr())?;
+    let no = emit(steps, base, spots, no.expr())?;
+    choose(steps, base, on, yes, no)
 }
 
-// A table: the word at the address where there are rows, and else always the same.
-fn table_spot(
+// The word of a table at an address, whose numbers are from a place on: the word of its first row, or else the other.
+fn row_spot(
     steps: &mut Vec<Step>,
     base: usize,
-    signals: &[Spot],
-    ports: &[Spot],
+    spots: &WordSpots,
     on: &Formula,
-    rows: &[(Word, Word)],
-    other: Word,
     from: usize,
+    width: u32,
 ) -> Result<Spot, AllocError>
     requires base { base < 2 ^ 63 }
-    requires spots { AreSpots (base + length steps.old.items) (record { signals = signals.now; ports = ports.now }) }
+    requires spots { AreSpots (base + length steps.old.items) (spots_of spots.now) }
     requires fine { AreFine base steps.old.items }
-    requires agrees { AgreesTable (record { signals = signals.now; ports = ports.now }) on.now rows.now other (length other) }
-    requires room { HasRoom base (Table 0 on.now rows.now other) from }
-    ensures { IfOk result (λ s. (low : ℕ) → Leaves low base (record { signals = signals.now; ports = ports.now }) (Table 0 on.now rows.now other) from (length other) steps.old.items steps.new.items s) }
+    requires on { IsNarrow (width_over (spots_of spots.now) on.now) }
+    requires room { IfSome (width_over (spots_of spots.now) on.now) (λ w. from + 2 ^ w ≤ base) }
+    ensures { IfOk result (λ s. (low : ℕ) (rows : List Row) (other : List Bool) → 1 ≤ length rows → length other ≡ width → AgreesTable (spots_of spots.now) on.now rows other width → Leaves low base (spots_of spots.now) (Table 0 on.now rows other) from width steps.old.items steps.new.items s) }
 {
-    if rows.is_empty() {
-        return constant(steps, base, signals, ports, other);
-    }
-    let on = emit(steps, base, signals, ports, on.expr())?;
-    look_up(steps, base, on, from, other.width())
+    let on = emit(steps, base, spots, on.expr())?;
+    look_up(steps, base, on, from, width)
 }
 
 // The word of a driver, and the spot at which it stands.
 fn driver_spot(
     steps: &mut Vec<Step>,
     base: usize,
-    signals: &[Spot],
-    ports: &[Spot],
+    spots: &WordSpots,
     driver: &Driver,
     from: usize,
 ) -> Result<Spot, AllocError>
     requires base { base < 2 ^ 63 }
-    requires spots { AreSpots (base + length steps.old.items) (record { signals = signals.now; ports = ports.now }) }
+    requires spots { AreSpots (base + length steps.old.items) (spots_of spots.now) }
     requires fine { AreFine base steps.old.items }
-    requires agrees { Agrees (record { signals = signals.now; ports = ports.now }) driver.now }
+    requires agrees { Agrees (spots_of spots.now) driver.now }
     requires room { HasRoom base driver.now from }
-    ensures { IfOk result (λ s. (low : ℕ) → Leaves low base (record { signals = signals.now; ports = ports.now }) driver.now from (width_at (record { signals = signals.now; ports = ports.now }) (target driver.now)) steps.old.items steps.new.items s) }
+    ensures { IfOk result (λ s. (low : ℕ) → Leaves low base (spots_of spots.now) driver.now from (width_at (spots_of spots.now) (target driver.now)) steps.old.items steps.new.items s) }
 {
     match driver {
         Driver::Assign { to: _, expr }
         | Driver::Register { to: _, expr }
-        | Driver::Output { port: _, expr } => emit(steps, base, signals, ports, expr.expr()),
-        Driver::Choice { to: _, on, yes, no } => {
-            choice_spot(steps, base, signals, ports, on, yes, no)
-        }
+        | Driver::Output { port: _, expr } => emit(steps, base, spots, expr.expr()),
+        Driver::Choice { to: _, on, yes, no } => { choice_spot(steps, base, spots, on, yes, no) }
         Driver::Table {
             to: _,
             on,
             rows,
             other,
-        } => table_spot(
-            steps,
-            base,
-            signals,
-            ports,
-            on,
-            rows.as_slice(),
-            *other,
-            from,
-        ),
+        } => {
+            if rows.as_slice().is_empty() {
+                constant(steps, base, spots, *other)
+            } else {
+                row_spot(steps, base, spots, on, from, other.width())
+            }
+        }
     }
 }
 
@@ -109,23 +100,22 @@ fn driver_spot(
 fn put(
     steps: &mut Vec<Step>,
     base: usize,
-    signals: &mut [Spot],
-    ports: &mut [Spot],
+    spots: &mut WordSpots,
     driver: &Driver,
     from: usize,
 ) -> Result<(), AllocError>
     requires base { base < 2 ^ 63 }
-    requires spots { AreSpots (base + length steps.old.items) (record { signals = signals.old; ports = ports.old }) }
+    requires spots { AreSpots (base + length steps.old.items) (spots_of spots.old) }
     requires fine { AreFine base steps.old.items }
-    requires agrees { Agrees (record { signals = signals.old; ports = ports.old }) driver.now }
-    requires there { IsThere (record { signals = signals.old; ports = ports.old }) (target driver.now) }
+    requires agrees { Agrees (spots_of spots.old) driver.now }
+    requires there { IsThere (spots_of spots.old) (target driver.now) }
     requires room { HasRoom base driver.now from }
-    ensures { OnOk result ((low : ℕ) → IsPut low base driver.now from (record { signals = signals.old; ports = ports.old }) steps.old.items steps.new.items (record { signals = signals.new; ports = ports.new })) }
+    ensures { OnOk result ((low : ℕ) → IsPut low base driver.now from (spots_of spots.old) steps.old.items steps.new.items (spots_of spots.new)) }
 {
-    let spot = driver_spot(steps, base, signals, ports, driver, from)?;
+    let spot = driver_spot(steps, base, spots, driver, from)?;
     match driver.target() {
-        Target::Signal(place) => signals[place] = spot,
-        Target::Port(place) => ports[place] = spot,
+        Target::Signal(place) => spots.signals[place] = spot,
+        Target::Port(place) => spots.ports[place] = spot,
     }
     Ok(())
 }
@@ -136,30 +126,22 @@ fn put(
 pub(crate) fn settle(
     steps: &mut Vec<Step>,
     base: usize,
-    signals: &mut [Spot],
-    ports: &mut [Spot],
+    spots: &mut WordSpots,
     drivers: &[Driver],
     tables: &[usize],
     order: &[usize],
 ) -> Result<(), AllocError>
     requires base { base < 2 ^ 63 }
-    requires spots { AreSpots base (record { signals = signals.old; ports = ports.old }) }
+    requires spots { AreSpots base (spots_of spots.old) }
     requires first { steps.old.items ≡ [] }
     requires places { (p i : ℕ) → slice_get order.now p ≡ Some i → i < length drivers.now }
-    requires agrees { All (Agrees (record { signals = signals.old; ports = ports.old })) drivers.now }
-    requires there { All (λ k. IsThere (record { signals = signals.old; ports = ports.old }) (target k)) drivers.now }
+    requires agrees { All (Agrees (spots_of spots.old)) drivers.now }
+    requires there { All (λ k. IsThere (spots_of spots.old) (target k)) drivers.now }
     requires room { AllZip (HasRoom base) drivers.now tables.now }
-    ensures { OnOk result ((low : ℕ) → Settles low base drivers.now tables.now order.now (record { signals = signals.old; ports = ports.old }) steps.new.items (record { signals = signals.new; ports = ports.new })) }
+    ensures { OnOk result ((low : ℕ) → Settles low base drivers.now tables.now order.now (spots_of spots.old) steps.new.items (spots_of spots.new)) }
 {
     for place in order {
-        put(
-            steps,
-            base,
-            signals,
-            ports,
-            &drivers[*place],
-            tables[*place],
-        )?;
+        put(steps, base, spots, &drivers[*place], tables[*place])?;
     }
     Ok(())
 }

@@ -1,12 +1,14 @@
 //! Translates an expression to steps, and reuses an equal step among the last ones.
-ghost use Rattle.std.specs.Prelude.{◌≡◌, ◌+◌, ◌-◌, ◌^◌, ◌<◌, ◌≤◌, ◌++◌, ◌∷◌, [], ℕ, Some, IfOk, IfSome, OnOk, IsSome, length, slice_get, slice_index_or};
+ghost use Rattle.std.specs.Prelude.{◌≡◌, ◌+◌, ◌-◌, ◌^◌, ◌<◌, ◌≤◌, ◌++◌, ◌∷◌, [], ℕ, Some, IfOk, IfSome, OnOk, IsSome, IsTrue, length, slice_get, slice_index_or};
 ghost use Rattle.opgen_design.specs.Plain.{plain, plain_all};
 ghost use Rattle.opgen_design.specs.Tree.{bits, chain, name, part, port};
 ghost use Rattle.opgen_design.specs.Width.{IsWidth, chain_width, joined};
 ghost use Rattle.opgen_machine.specs.Steps.{AreFine};
 ghost use Rattle.opgen_machine.specs.Programs.{AreSpots, Spots, widths_of};
+ghost use Rattle.opgen_machine.specs.Layout.{spots_of};
 ghost use Rattle.opgen_machine.specs.Emit.{Chosen, Combined, Copied, Emitted, IsNarrow, Looked, step_of, width_of, width_over};
 
+use crate::layout::WordSpots;
 use crate::step::{Spot, Step, mask};
 use opgen_design::{Expr, Op, Slice};
 use opgen_num::Word;
@@ -76,48 +78,40 @@ fn width_of(op: Op, first: u32, second: u32) -> u32
 fn combine(
     steps: &mut Vec<Step>,
     base: usize,
-    signals: &[Spot],
-    ports: &[Spot],
     op: Op,
     first: Spot,
     second: Spot,
 ) -> Result<Spot, AllocError>
     requires base { base < 2 ^ 63 }
-    requires spots { AreSpots (base + length steps.old.items) (record { signals = signals.now; ports = ports.now }) }
     requires fine { AreFine base steps.old.items }
     requires joins { IsNarrow (joined op first.width second.width) }
     requires width { IsWidth first.width }
     requires second_width { IsWidth second.width }
     requires first { first.place < base + length steps.old.items }
     requires second { second.place < base + length steps.old.items }
-    ensures { IfOk result (λ s. Combined base (record { signals = signals.now; ports = ports.now }) op first second steps.old.items steps.new.items s) }
+    ensures { IfOk result (λ s. (spots : Spots) → AreSpots (base + length steps.old.items) spots → Combined base spots op first second steps.old.items steps.new.items s) }
 {
     let width = width_of(op, first.width, second.width);
     let step = step_of(op, first, second);
     put(steps, base, step, width)
 }
 
-/// Appends the choice of two words by a bit: the first where it is 1.
-///
-/// The numbers before the first step are `base`, and `signals` and `ports` have the spots of the words that are read.
+/// Appends the choice of two words by a bit: the first where it is 1. The numbers before the first step are `base`.
 pub(crate) fn choose(
     steps: &mut Vec<Step>,
     base: usize,
-    signals: &[Spot],
-    ports: &[Spot],
     on: Spot,
     one: Spot,
     other: Spot,
 ) -> Result<Spot, AllocError>
     requires base { base < 2 ^ 63 }
-    requires spots { AreSpots (base + length steps.old.items) (record { signals = signals.now; ports = ports.now }) }
     requires fine { AreFine base steps.old.items }
     requires bit { on.width ≡ 1 }
     requires same { one.width ≡ other.width }
     requires on { on.place < base + length steps.old.items }
     requires one { one.place < base + length steps.old.items }
     requires other { other.place < base + length steps.old.items }
-    ensures { IfOk result (λ s. Chosen base (record { signals = signals.now; ports = ports.now }) on one other steps.old.items steps.new.items s) }
+    ensures { IfOk result (λ s. (spots : Spots) → AreSpots (base + length steps.old.items) spots → Chosen base spots on one other steps.old.items steps.new.items s) }
 {
     let step = Step::Choose {
         on: on.place,
@@ -128,18 +122,11 @@ pub(crate) fn choose(
 }
 
 /// Appends a word once more, behind the numbers before the first step.
-pub(crate) fn copy(
-    steps: &mut Vec<Step>,
-    base: usize,
-    signals: &[Spot],
-    ports: &[Spot],
-    of: Spot,
-) -> Result<Spot, AllocError>
+pub(crate) fn copy(steps: &mut Vec<Step>, base: usize, of: Spot) -> Result<Spot, AllocError>
     requires base { base < 2 ^ 63 }
-    requires spots { AreSpots (base + length steps.old.items) (record { signals = signals.now; ports = ports.now }) }
     requires fine { AreFine base steps.old.items }
     requires of { of.place < base + length steps.old.items }
-    ensures { IfOk result (λ s. Copied base (record { signals = signals.now; ports = ports.now }) of steps.old.items steps.new.items s) }
+    ensures { IfOk result (λ s. (spots : Spots) → AreSpots (base + length steps.old.items) spots → Copied base spots of steps.old.items steps.new.items s) }
 {
     put(steps, base, Step::Copy(of.place), of.width)
 }
@@ -175,46 +162,48 @@ fn spot_at(spots: &[Spot], node: usize) -> Spot
 }
 
 /// The spot of a signal's word.
-pub(crate) fn name(
-    steps: &Vec<Step>,
-    base: usize,
-    signals: &[Spot],
-    ports: &[Spot],
-    node: usize,
-) -> Spot
-    requires spots { AreSpots (base + length steps.now.items) (record { signals = signals.now; ports = ports.now }) }
+pub(crate) fn name(steps: &Vec<Step>, base: usize, spots: &WordSpots, node: usize) -> Spot
+    requires spots { AreSpots (base + length steps.now.items) (spots_of spots.now) }
     requires fine { AreFine base steps.now.items }
-    requires fits { IsSome (width_over (record { signals = signals.now; ports = ports.now }) (name node)) }
-    ensures { Emitted base (record { signals = signals.now; ports = ports.now }) (name node) steps.now.items steps.now.items result }
+    requires fits { IsSome (width_over (spots_of spots.now) (name node)) }
+    ensures { Emitted base (spots_of spots.now) (name node) steps.now.items steps.now.items result }
 {
-    spot_at(signals, node)
+    spot_at(&spots.signals, node)
 }
 
 /// The spot of a port's word.
-pub(crate) fn port(
-    steps: &Vec<Step>,
-    base: usize,
-    signals: &[Spot],
-    ports: &[Spot],
-    place: usize,
-) -> Spot
-    requires spots { AreSpots (base + length steps.now.items) (record { signals = signals.now; ports = ports.now }) }
+pub(crate) fn port(steps: &Vec<Step>, base: usize, spots: &WordSpots, place: usize) -> Spot
+    requires spots { AreSpots (base + length steps.now.items) (spots_of spots.now) }
     requires fine { AreFine base steps.now.items }
-    requires fits { IsSome (width_over (record { signals = signals.now; ports = ports.now }) (port place)) }
-    ensures { Emitted base (record { signals = signals.now; ports = ports.now }) (port place) steps.now.items steps.now.items result }
+    requires fits { IsSome (width_over (spots_of spots.now) (port place)) }
+    ensures { Emitted base (spots_of spots.now) (port place) steps.now.items steps.now.items result }
 {
-    spot_at(ports, place)
+    spot_at(&spots.ports, place)
 }
 
-// Where an equal step stands among the last ones: neighbouring drivers often read the same parts.
-fn near(steps: &[Step], step: Step) -> Option<usize>
-    ensures { IfSome result (λ i. slice_get steps.now i ≡ Some step) }
+// Whether a step takes the part from bit `low` on, under a mask, of the number at a place.
+fn is_part(step: &Step, of: usize, low: u32, mask: u64) -> bool
+    ensures { IsTrue result → step.now ≡ Step.Part of low mask }
+{
+    match *step {
+        Step::Part {
+            of: place,
+            low: first,
+            mask: bits,
+        } => place == of && first == low && bits == mask,
+        _ => false,
+    }
+}
+
+// Where an equal part is among the last steps: neighbouring drivers often read the same parts.
+fn near(steps: &[Step], of: usize, low: u32, mask: u64) -> Option<usize>
+    ensures { IfSome result (λ i. slice_get steps.now i ≡ Some (Step.Part of low mask)) }
 {
     let first = steps.len().saturating_sub(NEAR);
     let mut index = steps.len();
     while index > first {
         index -= 1;
-        if steps[index] == step {
+        if is_part(&steps[index], of, low, mask) {
             return Some(index);
         }
     }
@@ -224,29 +213,33 @@ fn near(steps: &[Step], step: Step) -> Option<usize>
 fn emit_part(
     steps: &mut Vec<Step>,
     base: usize,
-    signals: &[Spot],
-    ports: &[Spot],
+    spots: &WordSpots,
     slice: Slice,
 ) -> Result<Spot, AllocError>
     requires base { base < 2 ^ 63 }
-    requires spots { AreSpots (base + length steps.old.items) (record { signals = signals.now; ports = ports.now }) }
+    requires spots { AreSpots (base + length steps.old.items) (spots_of spots.now) }
     requires fine { AreFine base steps.old.items }
-    requires fits { IsSome (width_over (record { signals = signals.now; ports = ports.now }) (part slice.node slice.high slice.low)) }
-    ensures { IfOk result (λ s. Emitted base (record { signals = signals.now; ports = ports.now }) (part slice.node slice.high slice.low) steps.old.items steps.new.items s) }
+    requires fits { IsSome (width_over (spots_of spots.now) (part slice.node slice.high slice.low)) }
+    ensures { IfOk result (λ s. Emitted base (spots_of spots.now) (part slice.node slice.high slice.low) steps.old.items steps.new.items s) }
 {
     let width = slice.high + 1 - slice.low;
-    let of = spot_at(signals, slice.node);
-    let step = Step::Part {
-        of: of.place,
-        low: slice.low,
-        mask: mask(width),
-    };
-    match near(steps, step) {
+    let of = spot_at(&spots.signals, slice.node);
+    let mask = mask(width);
+    match near(steps, of.place, slice.low, mask) {
         Some(index) => Ok(Spot {
             place: base + index,
             width,
         }),
-        None => put(steps, base, step, width),
+        None => put(
+            steps,
+            base,
+            Step::Part {
+                of: of.place,
+                low: slice.low,
+                mask,
+            },
+            width,
+        ),
     }
 }
 
@@ -254,15 +247,14 @@ fn emit_part(
 pub(crate) fn constant(
     steps: &mut Vec<Step>,
     base: usize,
-    signals: &[Spot],
-    ports: &[Spot],
+    spots: &WordSpots,
     word: Word,
 ) -> Result<Spot, AllocError>
     requires base { base < 2 ^ 63 }
-    requires spots { AreSpots (base + length steps.old.items) (record { signals = signals.now; ports = ports.now }) }
+    requires spots { AreSpots (base + length steps.old.items) (spots_of spots.now) }
     requires fine { AreFine base steps.old.items }
-    requires fits { IsNarrow (width_over (record { signals = signals.now; ports = ports.now }) (bits word)) }
-    ensures { IfOk result (λ s. Emitted base (record { signals = signals.now; ports = ports.now }) (bits word) steps.old.items steps.new.items s) }
+    requires fits { IsNarrow (width_over (spots_of spots.now) (bits word)) }
+    ensures { IfOk result (λ s. Emitted base (spots_of spots.now) (bits word) steps.old.items steps.new.items s) }
 {
     put(
         steps,
@@ -291,31 +283,30 @@ fn emit_not(steps: &mut Vec<Step>, base: usize, of: Spot) -> Result<Spot, AllocE
 
 /// Appends the steps of an expression of at most 64 bits, and gives the spot of its value.
 ///
-/// The numbers before the first step are `base`, and `signals` and `ports` have the spots of the words that are read.
+/// The numbers before the first step are `base`, and `spots` has the spots of the words that are read.
 #[cycle(emit)]
 pub(crate) fn emit(
     steps: &mut Vec<Step>,
     base: usize,
-    signals: &[Spot],
-    ports: &[Spot],
+    spots: &WordSpots,
     expr: &Expr,
 ) -> Result<Spot, AllocError>
     requires base { base < 2 ^ 63 }
-    requires spots { AreSpots (base + length steps.old.items) (record { signals = signals.now; ports = ports.now }) }
+    requires spots { AreSpots (base + length steps.old.items) (spots_of spots.now) }
     requires fine { AreFine base steps.old.items }
-    requires fits { IsNarrow (width_over (record { signals = signals.now; ports = ports.now }) (plain expr.now)) }
-    ensures { IfOk result (λ s. Emitted base (record { signals = signals.now; ports = ports.now }) (plain expr.now) steps.old.items steps.new.items s) }
+    requires fits { IsNarrow (width_over (spots_of spots.now) (plain expr.now)) }
+    ensures { IfOk result (λ s. Emitted base (spots_of spots.now) (plain expr.now) steps.old.items steps.new.items s) }
 {
     match expr {
-        Expr::Name(node) => Ok(name(steps, base, signals, ports, *node)),
-        Expr::Part(slice) => emit_part(steps, base, signals, ports, *slice),
-        Expr::Bits(word) => constant(steps, base, signals, ports, *word),
-        Expr::Port(place) => Ok(port(steps, base, signals, ports, *place)),
+        Expr::Name(node) => Ok(name(steps, base, spots, *node)),
+        Expr::Part(slice) => emit_part(steps, base, spots, *slice),
+        Expr::Bits(word) => constant(steps, base, spots, *word),
+        Expr::Port(place) => Ok(port(steps, base, spots, *place)),
         Expr::Not(operand) => {
-            let of = emit(steps, base, signals, ports, operand)?;
+            let of = emit(steps, base, spots, operand)?;
             emit_not(steps, base, of)
         }
-        Expr::Chain(op, operands) => emit_chain(steps, base, signals, ports, *op, operands),
+        Expr::Chain(op, operands) => emit_chain(steps, base, spots, *op, operands),
     }
 }
 
@@ -323,24 +314,23 @@ pub(crate) fn emit(
 fn emit_chain(
     steps: &mut Vec<Step>,
     base: usize,
-    signals: &[Spot],
-    ports: &[Spot],
+    spots: &WordSpots,
     op: Op,
     operands: &[Expr],
 ) -> Result<Spot, AllocError>
     requires base { base < 2 ^ 63 }
-    requires spots { AreSpots (base + length steps.old.items) (record { signals = signals.now; ports = ports.now }) }
+    requires spots { AreSpots (base + length steps.old.items) (spots_of spots.now) }
     requires fine { AreFine base steps.old.items }
-    requires fits { IsNarrow (chain_width (widths_of signals.now) (widths_of ports.now) op (plain_all operands.now)) }
-    ensures { IfOk result (λ s. Emitted base (record { signals = signals.now; ports = ports.now }) (chain op (plain_all operands.now)) steps.old.items steps.new.items s) }
+    requires fits { IsNarrow (chain_width (widths_of spots.now.signals.items) (widths_of spots.now.ports.items) op (plain_all operands.now)) }
+    ensures { IfOk result (λ s. Emitted base (spots_of spots.now) (chain op (plain_all operands.now)) steps.old.items steps.new.items s) }
 {
     match operands {
         [] => unreachable!(),
         [first, rest @ ..] => {
-            let mut spot = emit(steps, base, signals, ports, first)?;
+            let mut spot = emit(steps, base, spots, first)?;
             for operand in rest {
-                let second = emit(steps, base, signals, ports, operand)?;
-                spot = combine(steps, base, signals, ports, op, spot, second)?;
+                let second = emit(steps, base, spots, operand)?;
+                spot = combine(steps, base, op, spot, second)?;
             }
             Ok(spot)
         }

@@ -8,6 +8,13 @@ use crate::tables::number;
 use opgen_design::{Dir, Port, Signal};
 use std::alloc::{AllocError, Global};
 
+/// The spots of a design's words: one for each signal, and one for each port.
+#[derive(Drop)]
+pub(crate) struct WordSpots {
+    pub signals: Vec<Spot>,
+    pub ports: Vec<Spot>,
+}
+
 // The number of a signal's initial word; 0 where it has none.
 fn start_number(signal: &Signal) -> u64
     requires { IfSome signal.now.initial (λ w. length w ≤ 64) }

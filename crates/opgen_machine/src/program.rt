@@ -4,13 +4,13 @@ ghost use Rattle.std.specs.List.{AllZip};
 ghost use Rattle.opgen_design.specs.Order.{IsOrderOf};
 ghost use Rattle.opgen_design.specs.Sound.{HasNumbers, IsSound};
 ghost use Rattle.opgen_machine.specs.Laid.{HasRoom, IsFlat};
-ghost use Rattle.opgen_machine.specs.Layout.{first_spots, rest_of};
+ghost use Rattle.opgen_machine.specs.Layout.{first_spots, rest_of, spots_of};
 ghost use Rattle.opgen_machine.specs.Machines.{IsProgramOf};
 
 use crate::drivers::settle;
-use crate::layout::{output_places, port_spots, signal_spots};
+use crate::layout::{WordSpots, output_places, port_spots, signal_spots};
 use crate::registers::{Move, moves};
-use crate::step::{Spot, Step};
+use crate::step::Step;
 use opgen_design::Design;
 use std::alloc::{AllocError, Global};
 
@@ -29,8 +29,7 @@ fn compile_on(
     order: &[usize],
     base: usize,
     tables: &[usize],
-    signals: &mut [Spot],
-    ports: &mut [Spot],
+    spots: &mut WordSpots,
 ) -> Result<Program, AllocError>
     requires sound { IsSound design.now }
     requires order { IsOrderOf design.now order.now }
@@ -38,23 +37,14 @@ fn compile_on(
     requires base { base < 2 ^ 63 }
     requires behind { rest_of design.now < base }
     requires room { AllZip (HasRoom base) design.now.drivers tables.now }
-    requires signals { signals.old ≡ (first_spots design.now).signals }
-    requires ports { ports.old ≡ (first_spots design.now).ports }
+    requires spots { spots_of spots.old ≡ first_spots design.now }
     ensures { IfOk result (λ p. IsProgramOf design.now tables.now base p) }
 {
     let mut steps = Vec::new(alloc);
     let drivers = design.drivers.as_slice();
-    settle(&mut steps, base, signals, ports, drivers, tables, order)?;
-    let moves = moves(
-        alloc,
-        &mut steps,
-        base,
-        signals,
-        ports,
-        design.enable,
-        drivers,
-    )?;
-    let outputs = output_places(alloc, design.ports.as_slice(), ports)?;
+    settle(&mut steps, base, spots, drivers, tables, order)?;
+    let moves = moves(alloc, &mut steps, base, spots, design.enable, drivers)?;
+    let outputs = output_places(alloc, design.ports.as_slice(), &spots.ports)?;
     Ok(Program {
         steps,
         moves,
@@ -82,7 +72,8 @@ pub(crate) fn compile(
     requires room { AllZip (HasRoom base) design.now.drivers tables.now }
     ensures { IfOk result (λ p. IsProgramOf design.now tables.now base p) }
 {
-    let mut signals = signal_spots(alloc, design.signals.as_slice())?;
-    let mut ports = port_spots(alloc, design.ports.as_slice(), signals.len(), rest)?;
-    compile_on(alloc, design, order, base, tables, &mut signals, &mut ports)
+    let signals = signal_spots(alloc, design.signals.as_slice())?;
+    let ports = port_spots(alloc, design.ports.as_slice(), signals.len(), rest)?;
+    let mut spots = WordSpots { signals, ports };
+    compile_on(alloc, design, order, base, tables, &mut spots)
 }

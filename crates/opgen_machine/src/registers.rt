@@ -2,13 +2,15 @@
 ghost use Rattle.std.specs.Prelude.{ℕ, ◌≡◌, ◌+◌, ◌<◌, ◌^◌, All, IfOk, IfSome, Some, length};
 ghost use Rattle.opgen_design.specs.Tree.{Tree, port};
 ghost use Rattle.opgen_machine.specs.Steps.{AreFine};
-ghost use Rattle.opgen_machine.specs.Programs.{AreSpots, Spots, widths_of};
+ghost use Rattle.opgen_machine.specs.Programs.{AreSpots, widths_of};
+ghost use Rattle.opgen_machine.specs.Layout.{spots_of};
 ghost use Rattle.opgen_machine.specs.Moves.{AreWithin, HandsOn, IsNext, move_all};
 ghost use Rattle.opgen_machine.specs.Settles.{Agrees, HasNarrow, IsThere, width_at};
 ghost use Rattle.opgen_design.specs.declared.design.Target.TheVariants.{Signal as signal};
 ghost use Rattle.opgen_design.specs.Sound.{target};
 
 use crate::expression::{choose, copy, emit, name, port};
+use crate::layout::WordSpots;
 use crate::step::{Spot, Step};
 use opgen_design::{Driver, Formula};
 use std::alloc::{AllocError, Global};
@@ -24,27 +26,26 @@ pub struct Move {
 fn next_spot(
     steps: &mut Vec<Step>,
     base: usize,
-    signals: &[Spot],
-    ports: &[Spot],
+    spots: &WordSpots,
     enable: Option<usize>,
     to: usize,
     expr: &Formula,
 ) -> Result<Spot, AllocError>
     requires base { base < 2 ^ 63 }
-    requires spots { AreSpots (base + length steps.old.items) (record { signals = signals.now; ports = ports.now }) }
+    requires spots { AreSpots (base + length steps.old.items) (spots_of spots.now) }
     requires fine { AreFine base steps.old.items }
-    requires there { to < length signals.now }
-    requires agrees { HasNarrow (record { signals = signals.now; ports = ports.now }) expr.now (width_at (record { signals = signals.now; ports = ports.now }) (signal to)) }
-    requires enable { IfSome enable (λ p. HasNarrow (record { signals = signals.now; ports = ports.now }) (port p) 1) }
-    ensures { IfOk result (λ s. IsNext base (record { signals = signals.now; ports = ports.now }) enable to expr.now steps.old.items steps.new.items s) }
+    requires there { to < length spots.now.signals.items }
+    requires agrees { HasNarrow (spots_of spots.now) expr.now (width_at (spots_of spots.now) (signal to)) }
+    requires enable { IfSome enable (λ p. HasNarrow (spots_of spots.now) (port p) 1) }
+    ensures { IfOk result (λ s. IsNext base (spots_of spots.now) enable to expr.now steps.old.items steps.new.items s) }
 {
-    let new = emit(steps, base, signals, ports, expr.expr())?;
+    let new = emit(steps, base, spots, expr.expr())?;
     match enable {
-        None => copy(steps, base, signals, ports, new),
+        None => copy(steps, base, new),
         Some(place) => {
-            let on = port(steps, base, signals, ports, place);
-            let held = name(steps, base, signals, ports, to);
-            choose(steps, base, signals, ports, on, new, held)
+            let on = port(steps, base, spots, place);
+            let held = name(steps, base, spots, to);
+            choose(steps, base, on, new, held)
         }
     }
 }
@@ -54,24 +55,23 @@ pub(crate) fn moves(
     alloc: Global,
     steps: &mut Vec<Step>,
     base: usize,
-    signals: &[Spot],
-    ports: &[Spot],
+    spots: &WordSpots,
     enable: Option<usize>,
     drivers: &[Driver],
 ) -> Result<Vec<Move>, AllocError>
     requires base { base < 2 ^ 63 }
-    requires spots { AreSpots (base + length steps.old.items) (record { signals = signals.now; ports = ports.now }) }
+    requires spots { AreSpots (base + length steps.old.items) (spots_of spots.now) }
     requires fine { AreFine base steps.old.items }
-    requires first { length signals.now < base }
-    requires agrees { All (Agrees (record { signals = signals.now; ports = ports.now })) drivers.now }
-    requires there { All (λ k. IsThere (record { signals = signals.now; ports = ports.now }) (target k)) drivers.now }
-    requires enable { IfSome enable (λ p. HasNarrow (record { signals = signals.now; ports = ports.now }) (port p) 1) }
-    ensures { IfOk result (λ v. HandsOn base (record { signals = signals.now; ports = ports.now }) enable (widths_of signals.now) drivers.now steps.old.items steps.new.items v.items) }
+    requires first { length spots.now.signals.items < base }
+    requires agrees { All (Agrees (spots_of spots.now)) drivers.now }
+    requires there { All (λ k. IsThere (spots_of spots.now) (target k)) drivers.now }
+    requires enable { IfSome enable (λ p. HasNarrow (spots_of spots.now) (port p) 1) }
+    ensures { IfOk result (λ v. HandsOn base (spots_of spots.now) enable (widths_of spots.now.signals.items) drivers.now steps.old.items steps.new.items v.items) }
 {
     let mut moves = Vec::new(alloc);
     for driver in drivers {
         if let Driver::Register { to, expr } = driver {
-            let spot = next_spot(steps, base, signals, ports, enable, *to, expr)?;
+            let spot = next_spot(steps, base, spots, enable, *to, expr)?;
             moves.push(Move {
                 to: *to,
                 from: spot.place,

@@ -3,7 +3,7 @@ ghost use Rattle.std.specs.Prelude.{◌≡◌, ◌-◌, ◌^◌, ◌≤◌, leng
 ghost use Rattle.opgen_machine.specs.Steps.{act, Reads};
 
 /// One step: it reads numbers at places of a memory, and gives one number.
-#[derive(Clone, Copy, Debug, PartialEq, Eq)]
+#[derive(Clone, Copy, Debug)]
 pub enum Step {
     Constant(u64),
     Copy(usize),

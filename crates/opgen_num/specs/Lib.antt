@@ -1,4 +1,4 @@
--- Definitions of opgen_num: words and their numbers, operations on them, formats, floors of fractions, and good roundings.
+-- Definitions of opgen_num: words and their numbers, operations on them, formats, floors of fractions, nearest whole numbers, and good roundings.
 pub mod Words
 pub mod WordLaws
 pub mod Sums
@@ -6,3 +6,4 @@ pub mod Values
 pub mod Formats
 pub mod Rounding
 pub mod Floors
+pub mod Nearest

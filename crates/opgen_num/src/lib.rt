@@ -2,10 +2,11 @@
 //! out-of-memory error that every crate shares.
 //!
 //! Proved: The value of a `Word` is below 2 to the power of its width. Formats, and the least width that holds two numbers,
-//! are computed as defined. For all numbers of 128 bits: whether a rounded fraction or root is good, and whether a quotient
-//! or a root with its remainder is exact.
+//! are computed as defined, and so is the whole number nearest to a fraction. For all numbers of 128 bits: whether a rounded
+//! fraction or root is good, and whether a quotient or a root with its remainder is exact.
 //!
-//! By: the invariant of `Word`; `Format::new`, `cover`, `least_width`; `good_linear`, `good_root`, `is_quotient`, `is_root`.
+//! By: the invariant of `Word`; `Format::new`, `cover`, `least_width`, `nearest`; `good_linear`, `good_root`, `is_quotient`,
+//! `is_root`.
 #![tactic(auto)]
 
 mod format;
@@ -17,7 +18,7 @@ mod word;
 pub use format::{Format, FormatFault, Ratio, cover, least_width};
 pub use memory::Memory;
 pub use number::bit_length;
-pub use rounding::{good_linear, good_root, is_quotient, is_root};
+pub use rounding::{good_linear, good_root, is_quotient, is_root, nearest};
 pub use word::Word;
 
 /// The greatest width of a signal, in bits.

@@ -1,6 +1,18 @@
-//! Tests whether a number is a good rounding of a fraction, quotient or square root, without products that could overflow.
-ghost use Rattle.std.specs.Prelude.{◌≡◌, ◌↔◌, IsTrue, pos, ◌<ℤ◌, ◌≤ℤ◌, ◌*ℤ◌, ◌+ℤ◌};
+//! Rounds a fraction to the nearest whole number, and tests whether a number is a good rounding of a fraction, quotient or square
+//! root, without products that could overflow.
+ghost use Rattle.std.specs.Prelude.{◌≡◌, ◌↔◌, IsTrue, ◌+◌, ◌*◌, ◌<◌, ◌^◌, pos, ◌<ℤ◌, ◌≤ℤ◌, ◌*ℤ◌, ◌+ℤ◌, unsigned_abs};
+ghost use Rattle.opgen_num.specs.Nearest.{nearest};
 ghost use Rattle.opgen_num.specs.Rounding.{IsExact, IsGoodLinear, IsGoodRoot, IsQuotient, IsRoot, IsWithinOne};
+
+/// The whole number that is nearest to `n / m`, the greater of two.
+pub fn nearest(n: i128, m: i128) -> i128
+    requires positive { pos 0 <ℤ m }
+    requires small { 2 * unsigned_abs n + unsigned_abs m < 2 ^ 126 }
+    ensures value { result ≡ nearest n m }
+    ensures small { unsigned_abs result < 2 ^ 126 }
+{
+    (2 * n + m).div_euclid(2 * m)
+}
 
 /// Whether `y` is a good rounding of `n / m`: equal to it, or else less than one away from it.
 ///

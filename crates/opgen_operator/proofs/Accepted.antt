@@ -16,7 +16,7 @@ use Rattle.opgen_operator.specs.declared.outputs.Reach.{Reach}
 use Rattle.opgen_operator.specs.Accepted.{IsAcceptedBy, IsAccepted, IsAcceptedSum}
 use Rattle.opgen_operator.specs.Bounded.{ValidAreAccepted}
 use Rattle.opgen_operator.specs.Limits.{least_shift}
-use Rattle.opgen_operator.specs.Ranges.{IsOperator}
+use Rattle.opgen_operator.specs.Ranges.{IsSum, IsOperator}
 use Rattle.opgen_operator.specs.Outputs.{inexact, width_of, sum_places, product_places, guard_bits, places_down, places_up, shift, product_shift, pair_shift, need, HasRoom}
 use Rattle.opgen_operator.specs.SpecName.{is_taken, is_signal_name}
 use Rattle.opgen_operator.specs.Valid.{IsValidSpec}
@@ -105,17 +105,20 @@ pub some_width : (r : Reach) → 1 ≤ width_of r
 some_width r = width_above r.below r.above
 
 -- a sum of one coefficient is accepted as a filter where it is as a multiple
+pub single_sum : (s : Sum) → IsSum 1 s → IsSum 256 s
+single_sum s is = record {
+  input = is.input;
+  out_lsb = is.out_lsb;
+  some = is.some;
+  few = omega (arith, is.few);
+  coefs = is.coefs;
+  positive = is.positive;
+  small = is.small;
+}
+
 one_more : (version : ℕ) (s : Sum) → IsAcceptedBy version (Scale s) → IsAcceptedBy version (Fir s)
 one_more version s by = record {
-  ranges = record {
-    input = by.ranges.input;
-    out_lsb = by.ranges.out_lsb;
-    some = by.ranges.some;
-    few = omega (arith, by.ranges.few);
-    coefs = by.ranges.coefs;
-    positive = by.ranges.positive;
-    small = by.ranges.small;
-  };
+  ranges = single_sum s by.ranges;
   inputs = by.inputs;
   fine = by.fine;
   narrow = λ bits e. by.narrow bits e;

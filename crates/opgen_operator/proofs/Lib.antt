@@ -10,6 +10,7 @@ pub mod Widths
 mod ProductWidths
 mod PortWidths
 pub mod In128
+mod Cycles
 mod Numbered
 mod Reached
 mod Held

@@ -1,6 +1,7 @@
 -- Ports that are numbered, and their formats.
-use Rattle.std.proofs.Common.{◌≡◌, ℕ, zero, suc, ◌+◌, ◌^◌, ◌<◌, ◌≤◌, ◌↔◌, Bool, IsTrue, List, [], ◌∷◌, length, map, get_or, Some, refl, ap, ◌∙◌, sym, subst, ⊎_elim, arith}
-use Rattle.std.specs.Prelude.{ℤ, pos, slice_get, slice_index}
+use Rattle.std.proofs.Common.{◌≡◌, ℕ, zero, suc, ◌+◌, ◌^◌, ◌<◌, ◌≤◌, ◌↔◌, Bool, IsTrue, List, [], ◌∷◌, ◌++◌, length, map, get_or, drop, Some, refl, ap, add-one, append_assoc, drop-cons, ◌∙◌, sym, subst, ⊎_elim, arith}
+use Rattle.std.specs.Prelude.{ℤ, pos, codes, slice_get, slice_index}
+use Rattle.std.specs.Fmt.{decimal}
 use Rattle.std.proofs.lemmas.Bool.{cases_lt}
 use Rattle.std.proofs.lemmas.Option.{get_or_from_slice_get}
 use Rattle.std.proofs.lemmas.List.{length-map}
@@ -10,7 +11,7 @@ use Rattle.opgen_operator.specs.declared.spec.Several.{Several}
 use Rattle.opgen_operator.specs.Exact.{exact_multiple}
 use Rattle.opgen_operator.specs.Good.{IsGoodRatio}
 use Rattle.opgen_operator.specs.PortNumbers.{format_at, number_of, output_numbers, IsCycle}
-use Rattle.opgen_operator.specs.Ports.{numbered, constant_format, multiple_ports}
+use Rattle.opgen_operator.specs.Ports.{port, numbered, constant_format, multiple_ports}
 
 length-numbered : (n : ℕ) (fs : List Format) → length (numbered n fs) ≡ length fs
 length-numbered n [] = refl
@@ -21,6 +22,19 @@ format_at-numbered : (n k : ℕ) (g : ℤ → Format) (ts : List ℤ) (d : ℤ) 
 format_at-numbered n k g [] d h = absurd (omega arith)
 format_at-numbered n zero g (t ∷ ts) d h = refl
 format_at-numbered n (suc k) g (t ∷ ts) d h = format_at-numbered (n + 1) k g ts d (omega arith)
+
+-- one port more
+pub numbered_more : (g : ℤ → Format) (ts : List ℤ) (i n : ℕ) (made : PortFormat) (ports whole : List PortFormat) → i < length ts
+    → made ≡ port (codes "y" ++ decimal n) (g (get_or ts i (pos 0))) → ports ++ numbered n (map g (drop i ts)) ≡ whole
+    → (ports ++ made ∷ []) ++ numbered (n + 1) (map g (drop (i + 1) ts)) ≡ whole
+numbered_more g ts i n made ports whole here is so_far =
+    let rest = numbered (n + 1) (map g (drop (i + 1) ts)) in
+    let first : PortFormat = port (codes "y" ++ decimal n) (g (get_or ts i (pos 0))) in
+    let next : numbered n (map g (drop i ts)) ≡ first ∷ rest =
+    ap (λ (us : List ℤ). numbered n (map g us)) (drop-cons ts i (pos 0) here)
+    ∙ ap (λ (k : ℕ). first ∷ numbered (n + 1) (map g (drop k ts))) (sym (add-one i)) in
+    append_assoc ports (made ∷ []) rest ∙ ap (λ (p : PortFormat). ports ++ p ∷ rest) is
+    ∙ ap (λ (ps : List PortFormat). ports ++ ps) (sym next) ∙ so_far
 
 pub multiple-count : (m : Several) (outputs : List ℕ) → IsCycle (multiple_ports m) outputs → length outputs ≡ length m.constants
 multiple-count m outputs h = h.whole ∙ length-numbered 0 (map (constant_format m.input) m.constants)

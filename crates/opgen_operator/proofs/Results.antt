@@ -12,8 +12,8 @@ use Rattle.std.proofs.lemmas.Nat.{pow-add, pow_pos}
 use Rattle.opgen_num.specs.Formats.{range_width}
 use Rattle.opgen_num.proofs.BitLength.{power_order}
 use Rattle.opgen_num.proofs.RangeWidth.{count-holds, count-least}
-use Rattle.opgen_budget.specs.Nearest.{nearest}
-use Rattle.opgen_budget.proofs.NearestNumbers.{nearest-at_most, nearest-at_least, nearest-order}
+use Rattle.opgen_num.specs.Nearest.{nearest}
+use Rattle.opgen_num.proofs.NearestNumbers.{nearest-at_most, nearest-at_least, nearest-order}
 use Rattle.opgen_operator.specs.declared.spec.Poly.{Poly as Polynomial}
 use Rattle.opgen_operator.specs.Bounded.{PolynomialsHaveRoom}
 use Rattle.opgen_operator.specs.Horner.{degree, result_places, poly_guard, guarded, low_end, high_end, partial_width, all_guarded, result_low, result_high}

@@ -3,7 +3,7 @@
 use Rattle.std.specs.Prelude.{ℕ, ◌+◌, ◌-◌, ◌*◌, ◌^◌, List, [], ◌∷◌, ℤ, pos, negsuc, ◌+ℤ◌, ◌*ℤ◌, unsigned_abs, length, map}
 use Rattle.std.specs.Int.{int_min, int_max}
 use Rattle.opgen_num.specs.Formats.{digit_count, range_width}
-use Rattle.opgen_budget.specs.Nearest.{nearest}
+use Rattle.opgen_num.specs.Nearest.{nearest}
 use Rattle.opgen_operator.specs.declared.spec.Poly.{Poly as Polynomial}
 
 -- the number of coefficients less one, also where the last of them are 0

@@ -71,8 +71,8 @@ fn operands(a: Format, b: Format, history: &[u128]) -> (i128, i128)
     ensures second_of { IsOf b result.1 }
     ensures unsigned { b.signed ≡ false → pos 0 ≤ℤ result.1 }
 {
-    let last = history.len() - 1;
-    (input(a, history[last - 1]), input(b, history[last]))
+    let first = history.len() - 2;
+    (input(a, history[first]), input(b, history[first + 1]))
 }
 
 /// The last inputs, each times its coefficient.

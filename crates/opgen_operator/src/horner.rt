@@ -6,8 +6,8 @@ ghost use Rattle.opgen_operator.specs.Ranges.{IsPoly};
 
 use crate::outputs::raised;
 use crate::spec::Poly;
-use opgen_budget::{guard, nearest};
-use opgen_num::{Format, least_width};
+use opgen_budget::guard;
+use opgen_num::{Format, least_width, nearest};
 
 /// The least and the greatest of some values.
 #[derive(Clone, Copy, Debug, PartialEq, Eq)]

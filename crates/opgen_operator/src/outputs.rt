@@ -211,10 +211,11 @@ fn sides(coefs: &[i64]) -> Reach
     let mut below = 0;
     let mut above = 0;
     'coefs: for coef in coefs {
+        let size = u128::from(coef.unsigned_abs());
         if *coef < 0 {
-            below += u128::from(coef.unsigned_abs());
+            below += size;
         } else {
-            above += u128::from(coef.unsigned_abs());
+            above += size;
         }
     }
     Reach { below, above }

@@ -9,7 +9,7 @@ use Rattle.opgen_num.specs.Rounding.{IsWithinOne}
 use Rattle.opgen_num.proofs.Floors.{one_floor}
 use Rattle.opgen_num.proofs.Quotients.{within_one}
 use Rattle.opgen_num.proofs.Rounded.{floor_is}
-use Rattle.opgen_budget.specs.Nearest.{nearest}
+use Rattle.opgen_num.specs.Nearest.{nearest}
 use Rattle.opgen_num.proofs.Integers.{commuted, product-sum, product-difference, product_assoc, product_order, product_cancel}
 
 pub times : (a b : ℕ) → pos a *ℤ pos b ≡ pos (a * b)

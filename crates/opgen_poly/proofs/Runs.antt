@@ -15,8 +15,8 @@ use Rattle.opgen_num.proofs.Integers.{product_assoc}
 use Rattle.opgen_num.proofs.RangeWidth.{count-holds}
 use Rattle.opgen_num.proofs.Residues.{value_from_residue}
 use Rattle.opgen_num.proofs.Rounded.{floor_is, floor_dropped}
-use Rattle.opgen_budget.specs.Nearest.{nearest}
-use Rattle.opgen_budget.proofs.NearestNumbers.{nearest-order}
+use Rattle.opgen_num.specs.Nearest.{nearest}
+use Rattle.opgen_num.proofs.NearestNumbers.{nearest-order}
 use Rattle.opgen_design.specs.Run.{AreWords}
 use Rattle.opgen_design.specs.Value.{cut}
 use Rattle.opgen_net.specs.declared.net.Output.{Output}

@@ -10,7 +10,7 @@ use Rattle.opgen_num.specs.Formats.{Holds, HoldsBoth, is_negative, least, range_
 use Rattle.opgen_num.specs.Rounding.{distance}
 use Rattle.opgen_num.proofs.Integers.{product-sum}
 use Rattle.opgen_num.proofs.RangeWidth.{range_width-least}
-use Rattle.opgen_budget.proofs.NearestNumbers.{nearest-floor}
+use Rattle.opgen_num.proofs.NearestNumbers.{nearest-floor}
 use Rattle.opgen_operator.specs.declared.spec.Poly.{Poly as Polynomial}
 use Rattle.opgen_operator.specs.Exact.{terms_from}
 use Rattle.opgen_operator.specs.Horner.{degree, result_places, poly_guard, all_guarded, low_end, high_end, signed_width}

@@ -33,7 +33,7 @@ greatest_light m n limit (suc k) = if nat_le (weight_below m n (suc k)) limit th
 abbrev pub left_out : (m n : ℕ) → ℕ
 left_out m n = greatest_light m n (2 ^ (n - 1)) (m + n - 1)
 
--- that is the greatest number of columns whose bits together weigh at most half a unit of the lowest column that is kept
+-- that is the greatest number of columns whose bits together weigh at most half a unit of bit n, the lowest that a step keeps
 abbrev pub LeavesOutMost : Type 0
 LeavesOutMost = (m n : ℕ) → IsGreatestCut m n n (left_out m n)
 

@@ -1,4 +1,5 @@
 pub mod FirstSymbol
+pub mod Phrases
 pub mod FirstPlaces
 pub mod AllowedNames
 pub mod Operands

@@ -27,18 +27,18 @@ pub struct Draft {
 }
 
 impl Draft {
-    pub fn new(alloc: Global) -> Result<Draft, AllocError>
-        ensures { IfOk result (λ d. seen d ≡ nothing) }
+    pub fn new(alloc: Global) -> Draft
+        ensures { seen result ≡ nothing }
     {
-        Ok(Draft {
-            name: Text::from_str(alloc, "")?,
+        Draft {
+            name: Text::from_string(String::new(alloc)),
             ports: Declared::new(alloc),
             signals: Declared::new(alloc),
             drivers: Items::new(alloc),
             enable: None,
-            architecture: Text::from_str(alloc, "")?,
+            architecture: Text::from_string(String::new(alloc)),
             agrees: true,
-        })
+        }
     }
 
     /// What names stand for.

@@ -1,6 +1,6 @@
 //! Reads expressions by recursive descent.
 
-ghost use Rattle.std.specs.Prelude.{◌≡◌, length, map, option_map};
+ghost use Rattle.std.specs.Prelude.{◌≡◌, is_some, length, map, option_map};
 ghost use Rattle.opgen_design.specs.Plain.{plain, plain_all, trees_of};
 ghost use Rattle.opgen_design.specs.Tree.{chain};
 ghost use Rattle.opgen_vhdl.specs.Grammar.{operator};
@@ -90,22 +90,29 @@ fn behind(rest: Cursor<'_>, op: Op) -> Option<Cursor<'_>>
     }
 }
 
+// Whether this operator is at the front.
+fn is_at(rest: Cursor<'_>, op: Op) -> bool
+    ensures { result ≡ is_some (eat (operator op) (left rest.entry)) }
+{
+    behind(rest, op).is_some()
+}
+
 // The operator at the front.
 #[tactic(auto, unfolding(opgen_vhdl::specs::Reader::op_at))]
 fn operator(rest: Cursor<'_>) -> Option<Op>
     ensures { result ≡ op_at (left rest.entry) }
 {
-    if behind(rest, Op::And).is_some() {
+    if is_at(rest, Op::And) {
         Some(Op::And)
-    } else if behind(rest, Op::Or).is_some() {
+    } else if is_at(rest, Op::Or) {
         Some(Op::Or)
-    } else if behind(rest, Op::Xor).is_some() {
+    } else if is_at(rest, Op::Xor) {
         Some(Op::Xor)
-    } else if behind(rest, Op::Cat).is_some() {
+    } else if is_at(rest, Op::Cat) {
         Some(Op::Cat)
-    } else if behind(rest, Op::Plus).is_some() {
+    } else if is_at(rest, Op::Plus) {
         Some(Op::Plus)
-    } else if behind(rest, Op::Minus).is_some() {
+    } else if is_at(rest, Op::Minus) {
         Some(Op::Minus)
     } else {
         None

@@ -14,6 +14,7 @@ mod expression;
 mod fault;
 mod law;
 mod name;
+mod phrase;
 mod piece_len;
 mod pieces;
 mod read;

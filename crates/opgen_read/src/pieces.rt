@@ -37,6 +37,28 @@ fn step(
     }
 }
 
+// Reads the pieces of a text into an empty draft. The text is left at what stands behind the last that was read.
+fn take_pieces(alloc: Global, draft: &mut Draft, text: &mut &[u8]) -> Result<(), ReadFault>
+    requires size { length text.old.now ≤ MAX_TEXT_LEN }
+    requires empty { seen draft.old ≡ nothing }
+    ensures ok { IfOk result (λ _. Follows Library nothing (pieces (symbols_in text.old.now)) End (seen draft.new)) }
+    ensures err { IfErr result (IsPieceFault (symbols_in text.old.now)) }
+    ensures passed { IsPassed text.old.now text.new.now }
+{
+    let mut place = Place::Library;
+    let mut taken = 0;
+    'pieces: while let Some((piece, more)) = Cursor::piece(text) {
+        *text = more;
+        place = step(alloc, draft, place, piece, taken + 1)?;
+        taken += 1;
+    }
+    if place == Place::End {
+        Ok(())
+    } else {
+        Err(ReadFault::Syntax { piece: taken + 1 })
+    }
+}
+
 /// What the pieces of a text say. It is left at what stands behind the last that was read.
 pub fn read_pieces(alloc: Global, text: &mut &[u8]) -> Result<Draft, ReadFault>
     requires { length text.old.now ≤ MAX_TEXT_LEN }
@@ -44,17 +66,9 @@ pub fn read_pieces(alloc: Global, text: &mut &[u8]) -> Result<Draft, ReadFault>
     ensures err { IfErr result (IsPieceFault (symbols_in text.old.now)) }
     ensures passed { IsPassed text.old.now text.new.now }
 {
-    let mut draft = Draft::new(alloc)?;
-    let mut place = Place::Library;
-    let mut taken = 0;
-    'pieces: while let Some((piece, more)) = Cursor::piece(text) {
-        *text = more;
-        place = step(alloc, &mut draft, place, piece, taken + 1)?;
-        taken += 1;
-    }
-    if place == Place::End {
-        Ok(draft)
-    } else {
-        Err(ReadFault::Syntax { piece: taken + 1 })
+    let mut draft = Draft::new(alloc);
+    match take_pieces(alloc, &mut draft, text) {
+        Ok(()) => Ok(draft),
+        Err(fault) => Err(fault),
     }
 }

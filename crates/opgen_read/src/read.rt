@@ -1,8 +1,10 @@
 //! Reads a whole text of VHDL as a design: its pieces, the limits on its size, and the rules of sound designs.
 
-ghost use Rattle.std.specs.Prelude.{◌≡◌, ◌≤◌, IfOk, IfErr, IsTrue, ◌↔◌, length};
+ghost use Rattle.std.specs.Prelude.{◌≡◌, ◌≤◌, IfOk, IfErr, IfSome, IfNone, IsTrue, ◌↔◌, length};
 ghost use Rattle.opgen_design.specs.Sound.{HasNumbers, IsSound};
 ghost use Rattle.opgen_vhdl.specs.Spelled.{Statements, Spells};
+ghost use Rattle.opgen_vhdl.specs.Tokens.{LexicalAt};
+ghost use Rattle.opgen_lex.specs.First.{IsPassed, HasTokens};
 ghost use Rattle.opgen_read.specs.Answer.{IsWithinLimits, IsReadFault};
 ghost use Rattle.opgen_read.specs.Outcome.{IsTextFault, IsOutcome, HasFew};
 ghost use Rattle.opgen_read.specs.Seen.{seen};
@@ -21,6 +23,21 @@ pub const MAX_PORTS: usize = 64;
 /// The most bytes of a text that is read.
 pub const MAX_TEXT_LEN: usize = 67_108_864;
 
+// The offset in a text at which no token starts, where it is behind the pieces that were read.
+fn fault_behind(bytes: &[u8], rest: &[u8]) -> Option<u64>
+    requires size { length bytes.now ≤ MAX_TEXT_LEN }
+    requires passed { IsPassed bytes.now rest.now }
+    ensures some { IfSome result (LexicalAt bytes.now) }
+    ensures none { IfNone result (HasTokens bytes.now) }
+{
+    if let Some(at) = first_fault(rest) {
+        let start = (bytes.len() - rest.len()) as u64;
+        Some(start + at)
+    } else {
+        None
+    }
+}
+
 // What the statements of a text say.
 fn statements(alloc: Global, bytes: &[u8]) -> Result<Draft, ReadFault>
     requires { length bytes.now ≤ MAX_TEXT_LEN }
@@ -30,11 +47,10 @@ fn statements(alloc: Global, bytes: &[u8]) -> Result<Draft, ReadFault>
 {
     let mut rest = bytes;
     let read = read_pieces(alloc, &mut rest);
-    if let Some(at) = first_fault(rest) {
-        let offset = (bytes.len() - rest.len()) as u64 + at;
-        return Err(ReadFault::Lexical { offset });
+    match fault_behind(bytes, rest) {
+        Some(offset) => Err(ReadFault::Lexical { offset }),
+        None => read,
     }
-    read
 }
 
 fn is_within_limits(design: &Design) -> bool

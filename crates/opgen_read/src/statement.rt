@@ -11,7 +11,7 @@ ghost use Rattle.opgen_read.specs.Names.{names_in};
 
 use crate::cursor::Cursor;
 use crate::expression::{Scope, expression, part};
-use crate::name::name;
+use crate::name::{name, signal_place};
 use crate::refusal::Refusal;
 use opgen_design::{Driver, Expr, Formula};
 use opgen_list::{Items, Text};
@@ -78,11 +78,11 @@ fn table(alloc: Global, scope: Scope<'_>, rest: Cursor<'_>) -> Result<Driver, Re
 {
     let (on, rest) = part(alloc, scope, rest)?;
     let rest = rest.word("select").ok_or(Refusal::Refused)?;
-    let (name, rest) = name(alloc, Some(scope), rest)?;
+    let (to, rest) = signal_place(alloc, scope, rest)?;
     let rest = rest.mark(TokenKind::LessEqual).ok_or(Refusal::Refused)?;
     let (rows, other) = rows(alloc, rest)?;
     Ok(Driver::Table {
-        to: scope.signals.place(name.as_str()),
+        to,
         on: Formula::new(on),
         rows,
         other,
@@ -204,16 +204,17 @@ pub fn concurrent(alloc: Global, scope: Scope<'_>, piece: Cursor<'_>) -> Result<
 }
 
 /// The driver of an assignment within the process.
-#[tactic(auto, unfolding(opgen_vhdl::specs::Reader::clocked_at, opgen_vhdl::specs::Reader::and_then))]
+#[tactic(auto, unfolding(opgen_vhdl::specs::Reader::clocked_at, opgen_vhdl::specs::Reader::target_at, opgen_vhdl::specs::Reader::and_then))]
 pub fn clocked(alloc: Global, scope: Scope<'_>, piece: Cursor<'_>) -> Result<Driver, Refusal>
     ensures { Gives (λ x. x) result (clocked_at (names_in scope.entry) (left piece.entry)) }
 {
-    let (name, rest) = target(alloc, scope, piece)?;
+    let (to, rest) = signal_place(alloc, scope, piece)?;
+    let rest = rest.mark(TokenKind::LessEqual).ok_or(Refusal::Refused)?;
     let (value, rest) = expression(alloc, scope, MAX_DEPTH, rest)?;
     match rest.end() {
         None => Err(Refusal::Refused),
         Some(_end) => Ok(Driver::Register {
-            to: scope.signals.place(name.as_str()),
+            to,
             expr: Formula::new(value),
         }),
     }

@@ -11,6 +11,7 @@ ghost use Rattle.opgen_read.specs.Seen.{seen};
 
 use crate::cursor::Cursor;
 use crate::draft::Draft;
+use crate::phrase::Phrase;
 use crate::refusal::Refusal;
 use crate::statement::{clocked, concurrent, enable, process};
 use crate::unit::{entity, heading, port, signal, unit_end};
@@ -19,26 +20,29 @@ use std::alloc::Global;
 
 type Step = Result<Place, Refusal>;
 
-#[tactic(auto, unfolding(opgen_vhdl::specs::Reader::and_then))]
 fn library_clause(piece: Cursor<'_>) -> Option<Cursor<'_>>
     ensures { option_map left result ≡ phrase_at (word (codes "library") ∷ word (codes "ieee") ∷ []) (left piece.entry) }
 {
-    piece.word("library")?.word("ieee")?.end()
+    Phrase::new(piece).word("library").word("ieee").end()
 }
 
-#[tactic(auto, unfolding(opgen_vhdl::specs::Reader::and_then))]
 fn use_clause<'a>(piece: Cursor<'a>, unit: &str) -> Option<Cursor<'a>>
     ensures { option_map left result ≡ phrase_at (use_clause (map to_ascii_lowercase unit.now)) (left piece.entry) }
 {
-    let rest = piece.word("use")?.word("ieee")?.mark(TokenKind::Dot)?;
-    rest.word(unit)?.mark(TokenKind::Dot)?.word("all")?.end()
+    Phrase::new(piece)
+        .word("use")
+        .word("ieee")
+        .mark(TokenKind::Dot)
+        .word(unit)
+        .mark(TokenKind::Dot)
+        .word("all")
+        .end()
 }
 
-#[tactic(auto, unfolding(opgen_vhdl::specs::Reader::and_then))]
 fn end_process(piece: Cursor<'_>) -> Option<Cursor<'_>>
     ensures { option_map left result ≡ phrase_at (word (codes "end") ∷ word (codes "process") ∷ []) (left piece.entry) }
 {
-    piece.word("end")?.word("process")?.end()
+    Phrase::new(piece).word("end").word("process").end()
 }
 
 #[tactic(auto, unfolding(opgen_vhdl::specs::Reader::and_then))]

@@ -9,6 +9,7 @@ ghost use Rattle.opgen_read.specs.Gives.{Gives};
 
 use crate::cursor::Cursor;
 use crate::name::name;
+use crate::phrase::Phrase;
 use crate::refusal::Refusal;
 use opgen_design::{Dir, Port, Signal};
 use opgen_list::Text;
@@ -17,17 +18,17 @@ use opgen_vhdl::TokenKind;
 use std::alloc::Global;
 
 // The port of the clock, and the piece is over.
-#[tactic(auto, unfolding(opgen_vhdl::specs::Reader::and_then))]
 fn clock_port(rest: Cursor<'_>) -> Option<Cursor<'_>>
     ensures { option_map left result ≡ phrase_at clock_port (left rest.entry) }
 {
-    rest.word("is")?
-        .word("port")?
-        .mark(TokenKind::LeftParen)?
-        .word("clk")?
-        .mark(TokenKind::Colon)?
-        .word("in")?
-        .word("std_logic")?
+    Phrase::new(rest)
+        .word("is")
+        .word("port")
+        .mark(TokenKind::LeftParen)
+        .word("clk")
+        .mark(TokenKind::Colon)
+        .word("in")
+        .word("std_logic")
         .end()
 }
 
@@ -125,14 +126,14 @@ pub fn heading<'a>(alloc: Global, piece: Cursor<'a>) -> Result<(Text, Text, Curs
 }
 
 // Zeros for all bits, behind the opening parenthesis, and the piece is over.
-#[tactic(auto, unfolding(opgen_vhdl::specs::Reader::and_then))]
 fn others_zero(rest: Cursor<'_>) -> Option<Cursor<'_>>
     ensures { option_map left result ≡ phrase_at others_zero (left rest.entry) }
 {
-    rest.word("others")?
-        .mark(TokenKind::Arrow)?
-        .mark(TokenKind::ZeroChar)?
-        .mark(TokenKind::RightParen)?
+    Phrase::new(rest)
+        .word("others")
+        .mark(TokenKind::Arrow)
+        .mark(TokenKind::ZeroChar)
+        .mark(TokenKind::RightParen)
         .end()
 }
 

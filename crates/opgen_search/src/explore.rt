@@ -26,7 +26,7 @@ fn set_of(alloc: Global, placed: &[u32]) -> Result<Vec<u32>, AllocError>
 }
 
 // Takes the set of a node with nothing left that is of the piece, if it is the first or before the best so far.
-fn consider(alloc: Global, piece: &Piece, hunt: &mut Hunt, node: &Node) -> Result<(), AllocError>
+fn consider(piece: &Piece, hunt: &mut Hunt, node: &Node) -> Result<(), AllocError>
     requires piece { IsPiece piece.now }
     requires hunt { IsHunt piece.now hunt.old }
     requires node { IsNode node.now.placed.items [] }
@@ -37,7 +37,7 @@ fn consider(alloc: Global, piece: &Piece, hunt: &mut Hunt, node: &Node) -> Resul
     ensures later { IsLater piece.now hunt.old hunt.new }
     ensures all { OnOk result ((other : List ℕ) → own_of piece.now other → Within (members node.now.placed.items []) other → IsSettled piece.now hunt.new other) }
 {
-    let set = set_of(alloc, node.placed.as_slice())?;
+    let set = set_of(piece.alloc, node.placed.as_slice())?;
     if is_better(piece, hunt, set.as_slice()) {
         take(piece, hunt, set);
     }
@@ -55,13 +55,7 @@ fn is_whole(piece: &Piece, node: &Node) -> bool
 
 /// Tries each set of the piece that has the node's members and at most so many more.
 #[cycle(explore)]
-pub fn explore(
-    alloc: Global,
-    piece: &Piece,
-    hunt: &mut Hunt,
-    mut node: Node,
-    more: u32,
-) -> Result<(), AllocError>
+pub fn explore(piece: &Piece, hunt: &mut Hunt, mut node: Node, more: u32) -> Result<(), AllocError>
     requires piece { IsPiece piece.now }
     requires hunt { IsHunt piece.now hunt.old }
     requires node { IsNode node.placed.items node.left.items }
@@ -73,23 +67,17 @@ pub fn explore(
 {
     close(&mut node)?;
     if is_whole(piece, &node) {
-        return consider(alloc, piece, hunt, &node);
+        return consider(piece, hunt, &node);
     }
     if more == 0 {
         return Ok(());
     }
-    try_members(alloc, piece, hunt, &node, more)
+    try_members(piece, hunt, &node, more)
 }
 
 // The same for a node that is no set of the piece, and of which nothing that is left can be made.
 #[cycle(explore)]
-fn try_members(
-    alloc: Global,
-    piece: &Piece,
-    hunt: &mut Hunt,
-    node: &Node,
-    more: u32,
-) -> Result<(), AllocError>
+fn try_members(piece: &Piece, hunt: &mut Hunt, node: &Node, more: u32) -> Result<(), AllocError>
     requires piece { IsPiece piece.now }
     requires hunt { IsHunt piece.now hunt.old }
     requires node { IsNode node.now.placed.items node.now.left.items }
@@ -106,7 +94,7 @@ fn try_members(
     let width = piece.search.width;
     let spent = cost(&node.placed[1..], width) + cost(node.left.as_slice(), width);
     for member in choices(piece, node.least, more) {
-        try_member(alloc, piece, hunt, node, spent, more, *member)?;
+        try_member(piece, hunt, node, spent, more, *member)?;
     }
     Ok(())
 }
@@ -114,7 +102,6 @@ fn try_members(
 // The same for the sets that have one further member, which can be made of what is placed.
 #[cycle(explore)]
 fn try_member(
-    alloc: Global,
     piece: &Piece,
     hunt: &mut Hunt,
     node: &Node,
@@ -147,6 +134,6 @@ fn try_member(
     if !is_worth(node.placed.as_slice(), node.left.as_slice(), member, more) {
         return Ok(());
     }
-    let next = with_member(alloc, node, member)?;
-    explore(alloc, piece, hunt, next, more - 1)
+    let next = with_member(piece.alloc, node, member)?;
+    explore(piece, hunt, next, more - 1)
 }

@@ -50,20 +50,31 @@ fn merge(bound: &Bound, search: &Search, left: Found, right: Found) -> Found
     Found { best, pass }
 }
 
-/// The pieces from `low` up to `high`, forked by `join`.
+/// A task of the search: the pieces from `low` up to `high`, under a pass.
+#[derive(Drop)]
+pub struct Task {
+    pub pass: Pass,
+    pub low: u32,
+    pub high: u32,
+}
+
+/// The pieces of a task, forked by `join`.
 pub fn run_pieces<R: Threads + Sync, G: Gate + Sync>(
     rt: &R,
     alloc: Global,
     bound: &Bound,
     search: &Search,
     gate: &G,
-    mut pass: Pass,
-    low: u32,
-    high: u32,
+    task: Task,
 ) -> Found
-    requires { IsAsked bound.now search.now pass low high }
-    ensures { IsFound bound.now search.now pass low high result }
+    requires { IsAsked bound.now search.now task.pass task.low task.high }
+    ensures { IsFound bound.now search.now task.pass task.low task.high result }
 {
+    let Task {
+        mut pass,
+        low,
+        high,
+    } = task;
     if high - low == 1 {
         return run_piece(alloc, bound, search, gate, pass, low);
     }
@@ -74,11 +85,25 @@ pub fn run_pieces<R: Threads + Sync, G: Gate + Sync>(
         move || -> Found
             requires { IsSync R.row × IsSync G.row × IsAsked bound.now search.now other low middle }
             ensures { IsFound bound.entry.now search.entry.now other low middle result }
-        { run_pieces(rt, alloc, bound, search, gate, other, low, middle) },
+        {
+            let task = Task {
+                pass: other,
+                low,
+                high: middle,
+            };
+            run_pieces(rt, alloc, bound, search, gate, task)
+        },
         move || -> Found
             requires { IsSync R.row × IsSync G.row × IsAsked bound.now search.now pass middle high }
             ensures { IsFound bound.entry.now search.entry.now pass middle high result }
-        { run_pieces(rt, alloc, bound, search, gate, pass, middle, high) },
+        {
+            let task = Task {
+                pass,
+                low: middle,
+                high,
+            };
+            run_pieces(rt, alloc, bound, search, gate, task)
+        },
     );
     merge(bound, search, left, right)
 }

@@ -4,6 +4,7 @@ ghost use Rattle.opgen_search.specs.Least.{IsBefore};
 
 use opgen_bound::{Bound, Pass};
 use opgen_graph::cost;
+use std::alloc::Global;
 use std::cmp::Ordering;
 
 /// What is sought, and by how many pieces. Members are `odds`, which are the odd numbers above 1 and below `limit`.
@@ -22,6 +23,8 @@ pub struct Search {
 /// One piece of a search, by its number. Those of `odds` that its number takes are its own.
 #[derive(Drop)]
 pub struct Piece<'a> {
+    /// Allocates its sets.
+    pub alloc: Global,
     pub search: &'a Search,
     pub bound: &'a Bound,
     pub number: u32,

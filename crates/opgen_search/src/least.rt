@@ -8,7 +8,7 @@ ghost use Rattle.opgen_search.specs.Least.{IsLeast, OneLeast};
 ghost use Rattle.opgen_search.specs.Hunts.{IsSearch};
 ghost use Rattle.opgen_search.specs.Parts.{NumbersCount};
 
-use crate::fork::run_pieces;
+use crate::fork::{Task, run_pieces};
 use crate::gate::Gate;
 use crate::hunt::Search;
 use crate::part::odds_below;
@@ -77,7 +77,12 @@ fn least_of<R: Threads + Sync, G: Gate + Sync>(
 {
     let start = cost(search.digits.as_slice(), search.width);
     let (bound, pass) = Bound::new(alloc, start)?;
-    let Found { best, pass } = run_pieces(rt, alloc, &bound, search, gate, pass, 0, search.pieces);
+    let task = Task {
+        pass,
+        low: 0,
+        high: search.pieces,
+    };
+    let Found { best, pass } = run_pieces(rt, alloc, &bound, search, gate, task);
     bound.close(pass);
     match best? {
         Some(set) => Ok(set),

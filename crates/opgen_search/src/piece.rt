@@ -38,7 +38,7 @@ fn root(alloc: Global, targets: &[u32]) -> Result<Node, AllocError>
 }
 
 // Takes the set of the signed digits, if it is of the piece.
-fn try_digits(alloc: Global, piece: &Piece, hunt: &mut Hunt) -> Result<(), AllocError>
+fn try_digits(piece: &Piece, hunt: &mut Hunt) -> Result<(), AllocError>
     requires piece { IsPiece piece.now }
     requires hunt { IsHunt piece.now hunt.old }
     requires none { hunt.old.best ≡ None }
@@ -47,7 +47,7 @@ fn try_digits(alloc: Global, piece: &Piece, hunt: &mut Hunt) -> Result<(), Alloc
     ensures digits { OnOk result (piece.now.number ≡ 0 → IsSettled piece.now hunt.new piece.now.search.now.digits.items) }
 {
     if piece.number == 0 {
-        let digits = piece.search.digits.to_vec(alloc)?;
+        let digits = piece.search.digits.to_vec(piece.alloc)?;
         take(piece, hunt, digits);
     }
     Ok(())
@@ -75,14 +75,15 @@ fn try_piece(
 {
     let own = own_odds(alloc, search, number)?;
     let piece = Piece {
+        alloc,
         search,
         bound,
         number,
         own,
     };
-    try_digits(alloc, &piece, hunt)?;
+    try_digits(&piece, hunt)?;
     let node = root(alloc, search.targets.as_slice())?;
-    explore(alloc, &piece, hunt, node, search.extra)
+    explore(&piece, hunt, node, search.extra)
 }
 
 /// One piece: its first look, and then its sets.

@@ -4,6 +4,7 @@ ghost use Rattle.std.specs.List.{sum};
 ghost use Rattle.opgen_num.specs.Words.{AreRowsOfCells};
 ghost use Rattle.opgen_design.specs.Run.{input_widths};
 ghost use Rattle.opgen_design.specs.Sound.{HasNumbers, IsSound};
+ghost use Rattle.opgen_lanes.specs.Steps.{AreNew};
 ghost use Rattle.opgen_runs.specs.Rows.{IsRunOf};
 ghost use Rattle.opgen_streams.specs.Streams.{streams};
 ghost use Rattle.opgen_sim.specs.Rows.{AreWidths, IsForStreams};
@@ -45,10 +46,43 @@ fn streams_at(row: usize, depth: u32) -> usize
     if row < depth as usize { 1 } else { STREAMS }
 }
 
+// The numbers at the output ports of the lanes' design, which has this depth, row after row.
+//
+// The streams begin with the initial words, at rows that are `apart` rows apart, and each runs on over the first `depth` rows of the
+// next stream. Of each stream but the first, the outputs of its first `depth` rows are left out: the stream before it gives them.
+fn run_lanes(
+    alloc: Global,
+    lanes: &mut Lanes,
+    widths: &Widths,
+    rows: u32,
+    cells: &[u128],
+    depth: u32,
+) -> Result<Vec<u128>, AllocError>
+    requires new { AreNew lanes.old.design lanes.old }
+    requires sound { IsSound lanes.old.design }
+    requires numbers { HasNumbers lanes.old.design }
+    requires widths { AreWidths lanes.old.design widths.now }
+    requires rows { AreRowsOfCells (input_widths lanes.old.design) rows cells.now }
+    requires depth { IsForStreams lanes.old.design rows depth }
+    ensures { IfOk result (λ outputs. IsRunOf lanes.old.design rows cells.now outputs.items) }
+{
+    let mut inputs = vectors(alloc, &widths.inputs)?;
+    let mut outputs = vectors(alloc, &widths.outputs)?;
+    let mut results = vec![in alloc; 0; rows as usize * widths.outputs.len()]?;
+    let apart = rows_apart(rows, depth);
+    let end = depth as usize + apart;
+    let mut row = 0;
+    'steps: while row < end {
+        pack_apart(cells, row, apart, &widths.inputs, &mut inputs);
+        lanes.step(&inputs, &mut outputs);
+        let count = streams_at(row, depth);
+        unpack_apart(&outputs, count, row, apart, &widths.outputs, &mut results);
+        row += 1;
+    }
+    Ok(results)
+}
+
 /// The numbers at the output ports of a design of this depth, row after row.
-///
-/// The streams begin with the initial words, at rows that are `apart` rows apart, and each runs on over the first `depth` rows of the
-/// next stream. Of each stream but the first, the outputs of its first `depth` rows are left out: the stream before it gives them.
 pub(crate) fn run_streams(
     alloc: Global,
     design: Design,
@@ -65,18 +99,5 @@ pub(crate) fn run_streams(
     ensures { IfOk result (λ outputs. IsRunOf design rows cells.now outputs.items) }
 {
     let mut lanes = Lanes::from_design(alloc, design)?;
-    let mut inputs = vectors(alloc, &widths.inputs)?;
-    let mut outputs = vectors(alloc, &widths.outputs)?;
-    let mut results = vec![in alloc; 0; rows as usize * widths.outputs.len()]?;
-    let apart = rows_apart(rows, depth);
-    let end = depth as usize + apart;
-    let mut row = 0;
-    'steps: while row < end {
-        pack_apart(cells, row, apart, &widths.inputs, &mut inputs);
-        lanes.step(&inputs, &mut outputs);
-        let count = streams_at(row, depth);
-        unpack_apart(&outputs, count, row, apart, &widths.outputs, &mut results);
-        row += 1;
-    }
-    Ok(results)
+    Ok(run_lanes(alloc, &mut lanes, widths, rows, cells, depth)?)
 }

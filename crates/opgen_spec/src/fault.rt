@@ -1,5 +1,6 @@
 //! Why a specification is rejected, and how the error prints.
-ghost use Rattle.std.specs.Prelude.{◌≡◌, Some};
+ghost use Rattle.std.specs.Prelude.{◌≡◌, ◌++◌, codes, Some};
+ghost use Rattle.std.specs.Fmt.{decimal, signed_decimal, WritesOnOk};
 ghost use Rattle.opgen_spec.specs.Texts.{place_text, fault_text};
 
 use crate::key::Key;
@@ -49,27 +50,56 @@ impl fmt::Display for Place {
     }
 }
 
+/// Writes the name of an error and its number.
+fn write_number<W: fmt::Write>(f: &mut fmt::Formatter<W>, name: &str, number: i64) -> fmt::Result
+    ensures { WritesOnOk W.write_str_gives f.old result (name.now ++ codes " " ++ signed_decimal number) f.new }
+{
+    write!(f, "{name} {number}")
+}
+
+/// Writes the name of an error and its key.
+fn write_place<W: fmt::Write>(f: &mut fmt::Formatter<W>, name: &str, place: Place) -> fmt::Result
+    ensures { WritesOnOk W.write_str_gives f.old result (name.now ++ codes " " ++ place_text place) f.new }
+{
+    write!(f, "{name} {place}")
+}
+
+fn write_unknown<W: fmt::Write>(f: &mut fmt::Formatter<W>, line: u64, at: u64) -> fmt::Result
+    ensures { WritesOnOk W.write_str_gives f.old result (codes "UnknownKey " ++ decimal line ++ codes " " ++ decimal at) f.new }
+{
+    write!(f, "UnknownKey {line} {at}")
+}
+
+fn write_found<W: fmt::Write>(f: &mut fmt::Formatter<W>, place: Place, found: i64) -> fmt::Result
+    ensures { WritesOnOk W.write_str_gives f.old result
+        (codes "OutOfRange " ++ place_text place ++ codes " " ++ signed_decimal found) f.new }
+{
+    write!(f, "OutOfRange {place} {found}")
+}
+
 impl fmt::Display for SpecFault {
     ghost output = { λ fault. Some (fault_text fault) };
 
     fn fmt<W: fmt::Write>(&self, f: &mut fmt::Formatter<W>) -> fmt::Result {
         match *self {
-            SpecFault::NotToml => write!(f, "NotToml"),
-            SpecFault::UnknownKey { line, at } => write!(f, "UnknownKey {line} {at}"),
-            SpecFault::MissingKey { key, line } => {
-                write!(f, "MissingKey {}", Place { key, line })
-            }
-            SpecFault::WrongType { key, line } => write!(f, "WrongType {}", Place { key, line }),
-            SpecFault::BadVersion { found } => write!(f, "BadVersion {found}"),
-            SpecFault::BadName => write!(f, "BadName"),
-            SpecFault::BadKind => write!(f, "BadKind"),
+            SpecFault::NotToml => f.write_str("NotToml"),
+            SpecFault::UnknownKey { line, at } => write_unknown(f, line, at),
+            SpecFault::MissingKey { key, line } => write_place(
+                f,
+                "MissingKey",
+                Place { key, line },
+            ),
+            SpecFault::WrongType { key, line } => write_place(f, "WrongType", Place { key, line }),
+            SpecFault::BadVersion { found } => write_number(f, "BadVersion", found),
+            SpecFault::BadName => f.write_str("BadName"),
+            SpecFault::BadKind => f.write_str("BadKind"),
             SpecFault::OutOfRange { key, line, found } => {
-                write!(f, "OutOfRange {} {found}", Place { key, line })
+                write_found(f, Place { key, line }, found)
             }
-            SpecFault::NotExact { index } => write!(f, "NotExact {index}"),
-            SpecFault::Coarse { shift } => write!(f, "Coarse {shift}"),
-            SpecFault::TooWide { need } => write!(f, "TooWide {need}"),
-            SpecFault::Memory => write!(f, "out of memory"),
+            SpecFault::NotExact { index } => write_number(f, "NotExact", i64::from(index)),
+            SpecFault::Coarse { shift } => write_number(f, "Coarse", i64::from(shift)),
+            SpecFault::TooWide { need } => write_number(f, "TooWide", i64::from(need)),
+            SpecFault::Memory => f.write_str("out of memory"),
         }
     }
 }

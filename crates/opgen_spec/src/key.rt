@@ -214,6 +214,22 @@ pub(crate) fn class_named(name: &str) -> Option<Class>
     class_among(&CLASSES, name)
 }
 
+/// Whether an operator of the kind has one input.
+fn has_one_input(kind: Kind) -> bool
+    ensures { result ≡ has_key kind Key.Width }
+{
+    match kind {
+        Kind::Multiply | Kind::Divide => false,
+        Kind::Scale
+        | Kind::Fir
+        | Kind::Root
+        | Kind::Mcm
+        | Kind::Constdiv
+        | Kind::Poly
+        | Kind::Tfir => true,
+    }
+}
+
 /// Whether an operator of the kind has the key. The keys of all kinds are also those of all delay
 /// lines.
 fn has_key(kind: Kind, key: Key) -> bool
@@ -224,16 +240,7 @@ fn has_key(kind: Kind, key: Key) -> bool
             kind,
             Kind::Scale | Kind::Fir | Kind::Multiply | Kind::Mcm | Kind::Tfir
         ),
-        Key::Width => matches!(
-            kind,
-            Kind::Scale
-                | Kind::Fir
-                | Kind::Root
-                | Kind::Mcm
-                | Kind::Constdiv
-                | Kind::Poly
-                | Kind::Tfir
-        ),
+        Key::Width => has_one_input(kind),
         Key::Lsb => matches!(
             kind,
             Kind::Scale | Kind::Fir | Kind::Root | Kind::Mcm | Kind::Constdiv | Kind::Tfir

@@ -1,6 +1,7 @@
 //! Makes the specification from a document that passed its checks, field by field.
 ghost use Rattle.std.specs.Prelude.{◌≡◌, ◌≤◌, ◌^◌, pos, ◌++◌, IfOk, OnOk};
 ghost use Rattle.toml.specs.View.{view, items_view, table_view};
+ghost use Rattle.opgen_spec.specs.Document.{text_at, items_at};
 ghost use Rattle.opgen_spec.specs.Numbers.{numerators, denominator_of};
 ghost use Rattle.opgen_spec.specs.Spec.{format_at, unsigned_at, counters_at, sum_of, product_of, pair_of, single_of, several_of, small_div_of, below_one_at, poly_of, taps_of, operator_of, line_of, line_in, lines_of, spec_with};
 
@@ -223,18 +224,42 @@ fn lines_of(alloc: Global, items: &[Value]) -> Result<Items<DelayLine>, AllocErr
     Ok(lines)
 }
 
+/// The texts and delay lines of a specification.
+#[derive(Drop)]
+struct Texts {
+    name: Text,
+    target: Text,
+    delays: Items<DelayLine>,
+}
+
+fn texts_of(alloc: Global, table: &Table) -> Result<Texts, AllocError>
+    ensures name { IfOk result (λ texts. texts.name ≡ text_at (table_view table.now) Key.Name) }
+    ensures target { IfOk result (λ texts. texts.target ≡ text_at (table_view table.now) Key.Target) }
+    ensures delays { IfOk result (λ texts. texts.delays ≡ lines_of (items_at (table_view table.now) Key.Delay)) }
+{
+    let name = Text::from_str(alloc, text_at(table, Key::Name))?;
+    let target = Text::from_str(alloc, text_at(table, Key::Target))?;
+    let delays = lines_of(alloc, items_at(table, Key::Delay))?;
+    Ok(Texts {
+        name,
+        target,
+        delays,
+    })
+}
+
 /// The specification that the keys give.
 pub(crate) fn spec_with(alloc: Global, kind: Kind, table: &Table) -> Result<Spec, AllocError>
     ensures { IfOk result (λ spec. spec ≡ spec_with kind (table_view table.now)) }
 {
-    let exact = flag_at(table, Key::Exact);
+    let texts = texts_of(alloc, table)?;
+    let op = operator_of(alloc, kind, table)?;
     Ok(Spec {
         version: count_at(table, Key::Version),
-        name: Text::from_str(alloc, text_at(table, Key::Name))?,
-        op: operator_of(alloc, kind, table)?,
-        exact,
-        target: Text::from_str(alloc, text_at(table, Key::Target))?,
+        name: texts.name,
+        op,
+        exact: flag_at(table, Key::Exact),
+        target: texts.target,
         period: count_at(table, Key::Period),
-        delays: lines_of(alloc, items_at(table, Key::Delay))?,
+        delays: texts.delays,
     })
 }

@@ -20,7 +20,7 @@ ghost use Rattle.opgen_operator.specs.declared.spec.Operator.TheVariants.{Root};
 ghost use Rattle.opgen_sqrt.specs.Recipe.{with_input, radicand as radicand_of, stepped, after, net_of_single};
 ghost use Rattle.opgen_sqrt.specs.Steps.{HoldsAfterEachStep};
 
-use opgen_digits::{Digits, output_results, push_all, try_digit};
+use opgen_digits::{Digits, Trial, output_results, push_all, try_digit};
 use opgen_list::Items;
 use opgen_net::{Net, WordBit, push_bits, push_zeros};
 use opgen_num::Memory;
@@ -52,20 +52,22 @@ fn radicand(alloc: Global, single: &Single) -> Result<Items<WordBit>, AllocError
     Ok(bits)
 }
 
-// What is left, two bits of the radicand below it and a zero above it.
-fn minuend(
-    alloc: Global,
-    rest: &[WordBit],
+// Two bits of the radicand.
+#[derive(Clone, Copy)]
+struct BitPair {
     high: WordBit,
     low: WordBit,
-) -> Result<Items<WordBit>, AllocError>
-    ensures { IfOk result (λ bits. bits ≡ Zero ∷ (rest.now ++ high ∷ low ∷ [])) }
+}
+
+// What is left, two bits of the radicand below it and a zero above it.
+fn minuend(alloc: Global, rest: &[WordBit], pair: BitPair) -> Result<Items<WordBit>, AllocError>
+    ensures { IfOk result (λ bits. bits ≡ Zero ∷ (rest.now ++ pair.high ∷ pair.low ∷ [])) }
 {
     let mut bits = Items::new(alloc);
     bits.push(WordBit::Zero)?;
     push_all(&mut bits, rest)?;
-    bits.push(high)?;
-    bits.push(low)?;
+    bits.push(pair.high)?;
+    bits.push(pair.low)?;
     Ok(bits)
 }
 
@@ -87,8 +89,7 @@ fn step(
     net: &mut Net,
     digits: &mut Digits,
     rest: u32,
-    high: WordBit,
-    low: WordBit,
+    pair: BitPair,
     keep: bool,
 ) -> Result<(), Memory>
     requires net { IsValid net.old }
@@ -96,16 +97,21 @@ fn step(
     requires few { rest + 2 ≤ MAX_WIDTH }
     requires rest { length digits.old.rest + 1 ≡ rest }
     requires known { length digits.old.known + 2 ≡ rest }
-    requires there { All (IsThere (widths net.old.nodes)) (Zero ∷ (digits.old.rest ++ high ∷ low ∷ [])) }
+    requires there { All (IsThere (widths net.old.nodes)) (Zero ∷ (digits.old.rest ++ pair.high ∷ pair.low ∷ [])) }
     requires digits { All (IsThere (widths net.old.nodes)) digits.old.known }
-    ensures ok { OnOk result (stepped keep rest (record { net = net.old; digits = digits.old.known; rest = digits.old.rest }) high low ≡ record { net = net.new; digits = digits.new.known; rest = digits.new.rest }) }
+    ensures ok { OnOk result (stepped keep rest (record { net = net.old; digits = digits.old.known; rest = digits.old.rest }) pair.high pair.low ≡ record { net = net.new; digits = digits.new.known; rest = digits.new.rest }) }
     ensures valid { IsValid net.new }
 {
-    let minuend = minuend(alloc, digits.rest.as_slice(), high, low)?;
+    let minuend = minuend(alloc, digits.rest.as_slice(), pair)?;
     let a = net.word(minuend.as_slice())?;
     let subtrahend = subtrahend(alloc, digits.known.as_slice())?;
     let b = net.word(subtrahend.as_slice())?;
-    try_digit(alloc, net, digits, rest, a, b, keep)
+    let trial = Trial {
+        minuend: a,
+        subtrahend: b,
+        rest,
+    };
+    try_digit(alloc, net, digits, trial, keep)
 }
 
 // Takes the root: as many steps as it has digits.
@@ -130,15 +136,11 @@ fn root(
     'steps: for k in 0..count {
         let place = 2 * k as usize;
         let keep = single.exact || k + 1 < count;
-        step(
-            alloc,
-            net,
-            &mut digits,
-            k + 2,
-            radicand[place],
-            radicand[place + 1],
-            keep,
-        )?;
+        let pair = BitPair {
+            high: radicand[place],
+            low: radicand[place + 1],
+        };
+        step(alloc, net, &mut digits, k + 2, pair, keep)?;
     }
     Ok(digits)
 }

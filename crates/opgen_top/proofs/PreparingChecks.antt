@@ -34,6 +34,7 @@ use Rattle.opgen_top.specs.Specified.{OnReading}
 use Rattle.opgen_top.specs.Targets.{Device}
 use Rattle.opgen_top.proofs.Columns.{counted}
 use Rattle.opgen_top.proofs.Listed.{listed_refusal, listed_success}
+use Rattle.opgen_top.proofs.Refusing.{answers-map, refusal-map}
 use Rattle.opgen_top.proofs.PreparingSpecs.{status_of}
 use Rattle.opgen_top.proofs.SpecCases.{on_reading-map, reading_ok}
 use Rattle.opgen_top.proofs.Unfetched.{on_fetch, on_missing, on_longer, unfetched, unfetched-before}
@@ -91,17 +92,6 @@ ports_listed = listed_refusal ports_refused (printed.ports_refused refl refl) re
 
 -- ---- from the three files
 
--- what is said of a refusal may be exchanged
-refusal-map : (refusal : Refusal) (said other : Answer → Type 0) → ((a : Answer) → said a → other a) → OnRefusal refusal said
-    → OnRefusal refusal other
-refusal-map (refusals.Line line) said other f h = f (refusal_of line) h
-refusal-map refusals.Memory said other f h = tt
-
-answers-map : (r : Result Held Refusal) (said other : Answer → Type 0) → ((a : Answer) → said a → other a) → OnAnswer r said
-    → OnAnswer r other
-answers-map (Ok held) said other f h = f (answer_of held) h
-answers-map (Err refusal) said other f h = refusal-map refusal said other f h
-
 module _ (latency : ℕ) (bytes text vectors : List ℕ) where
   pub fault_answers : (refusal : Refusal) → OnRefusal refusal (λ a. OnReading (read (tree bytes)) a (λ spec. ⊥))
       → OnRefusal refusal (IsAnswerToCheck latency bytes text vectors)
@@ -117,21 +107,17 @@ module _ (latency : ℕ) (bytes text vectors : List ℕ) where
     vhdl_answers_check refusal h = refusal-map refusal _ _ (λ a k. of_spec a (inl k)) h
 
     module _ (design : Design) (gives : GivesDesign text design) where
-      pub rows_answer_check : (widths : List ℕ) (refusal : Refusal) → widths ≡ input_widths design
-          → OnRefusal refusal (RefusesRows widths vectors) → OnRefusal refusal (IsAnswerToCheck latency bytes text vectors)
-      rows_answer_check widths refusal same h = refusal-map refusal _ _
-          (λ a k. of_spec a (inr (inl record {
-            design = design;
-            gives = gives;
-            refused = subst (λ ws. RefusesRows ws vectors a) same k;
-          }))) h
+      pub rows_answer_check : (refusal : Refusal) → OnRefusal refusal (RefusesRows (input_widths design) vectors)
+          → OnRefusal refusal (IsAnswerToCheck latency bytes text vectors)
+      rows_answer_check refusal h = refusal-map refusal _ _
+          (λ a k. of_spec a (inr (inl record { design = design; gives = gives; refused = k }))) h
 
-      design_answers : (widths : List ℕ) (held : Rows) (a : Answer) → widths ≡ input_widths design → HoldsRows widths vectors held
+      design_answers : (held : Rows) (a : Answer) → HoldsRows (input_widths design) vectors held
           → IsAnswerToDesign spec design latency held.count held.inputs.cells.items a → IsAnswerToCheck latency bytes text vectors a
-      design_answers widths held a same holds is =
+      design_answers held a holds is =
           let rows : GivesRows text vectors design held.inputs.cells.items = record {
             gives = gives;
-            reads = subst (λ ws. IsReading ws (lines vectors) (Ok held.inputs.cells.items)) same holds.reading;
+            reads = holds.reading;
           } in
           of_spec a (elim is [
             | inl other ↦ inr (inr (inl (record {
@@ -159,11 +145,10 @@ module _ (latency : ℕ) (bytes text vectors : List ℕ) where
             answer = said;
           }))))
 
-      pub rows_judged : (widths : List ℕ) (held : Rows) (r : Result Held Refusal) → widths ≡ input_widths design
-          → HoldsRows widths vectors held
+      pub rows_judged : (held : Rows) (r : Result Held Refusal) → HoldsRows (input_widths design) vectors held
           → OnAnswer r (IsAnswerToDesign spec design latency held.count held.inputs.cells.items)
           → OnAnswer r (IsAnswerToCheck latency bytes text vectors)
-      rows_judged widths held r same holds h = answers-map r _ _ (λ a k. design_answers widths held a same holds k) h
+      rows_judged held r holds h = answers-map r _ _ (λ a k. design_answers held a holds k) h
 
 -- ---- from the folder
 

@@ -1,5 +1,5 @@
 -- From what VHDL and vectors give to what `simulate` answers to its files.
-use Rattle.std.proofs.Common.{◌≡◌, ◌⊎◌, inl, inr, ℕ, ◌≤◌, List, [], ◌∷◌, length, Option, Some, Result, Ok, Err, refl, sym, ap, subst, arith}
+use Rattle.std.proofs.Common.{◌≡◌, ◌⊎◌, inl, inr, ℕ, ◌≤◌, List, [], ◌∷◌, length, Option, Some, Result, Ok, Err, refl, sym, ap, ◌∙◌, subst, arith}
 use Rattle.std.specs.Prelude.{◌≢◌}
 use Rattle.std.specs.Str.Lines.{lines}
 use Rattle.opgen_command.specs.declared.command.Command.TheVariants.{Simulate}
@@ -13,10 +13,10 @@ use Rattle.opgen_top.specs.declared.answer.Answer.{Answer as Held}
 use Rattle.opgen_top.specs.declared.answer.Refusal.{Refusal}
 use Rattle.opgen_top.specs.declared.answer.Refusal.TheVariants as refusals
 use Rattle.opgen_top.specs.declared.rows.Rows.{Rows}
-use Rattle.opgen_top.specs.Answer.{Answer, file as stored_file, success, vhdl_refused, vectors_refused}
-use Rattle.opgen_top.specs.Due.{most_simulated_bytes, OnFetch, IsAnswerOf}
+use Rattle.opgen_top.specs.Answer.{Answer, file as stored_file, simulated, success, vhdl_refused, vectors_refused}
 use Rattle.opgen_top.specs.Lines.{simulated_line}
-use Rattle.opgen_top.specs.Prepared.{Reads, Kept, OnAnswer, Fetches, IfRefused, HoldsRows, IsListed, IsPrepared, answer_of, refusal_of}
+use Rattle.opgen_top.specs.Due.{most_simulated_bytes, OnFetch, IsAnswerOf}
+use Rattle.opgen_top.specs.Prepared.{Reads, Kept, OnAnswer, Fetches, IfRefused, HasRun, HoldsRows, IsListed, IsPrepared, answer_of, refusal_of}
 use Rattle.opgen_top.specs.Printed as printed
 use Rattle.opgen_top.specs.Running.{IsRunText}
 use Rattle.opgen_top.specs.Simulate.{GivesDesign, IsSimulated, RefusesRows, RefusesVhdl}
@@ -42,12 +42,10 @@ vhdl_listed text (refusals.Line line) h =
 vhdl_listed text refusals.Memory h = tt
 
 -- so do vectors
-pub rows_answer : (out text vectors widths : List ℕ) (design : Design) (refusal : Refusal) → GivesDesign text design
-    → widths ≡ input_widths design → IfRefused {X = Rows} (Err refusal) (RefusesRows widths vectors)
-    → OnAnswer (Err refusal) (IsSimulated out text vectors)
-rows_answer out text vectors widths design (refusals.Line line) gives same h =
-    inr (inl record { design = design; gives = gives; refused = subst (λ ws. RefusesRows ws vectors (refusal_of line)) same h })
-rows_answer out text vectors widths design refusals.Memory gives same h = tt
+pub rows_answer : (out text vectors : List ℕ) (design : Design) (refusal : Refusal) → GivesDesign text design
+    → IfRefused {X = Rows} (Err refusal) (RefusesRows (input_widths design) vectors) → OnAnswer (Err refusal) (IsSimulated out text vectors)
+rows_answer out text vectors design (refusals.Line line) gives h = inr (inl record { design = design; gives = gives; refused = h })
+rows_answer out text vectors design refusals.Memory gives h = tt
 
 pub rows_listed : (widths vectors : List ℕ) (refusal : Refusal) → IfRefused {X = Rows} (Err refusal) (RefusesRows widths vectors)
     → OnAnswer (Err refusal) IsListed
@@ -57,25 +55,27 @@ rows_listed widths vectors (refusals.Line line) h =
 rows_listed widths vectors refusals.Memory h = tt
 
 -- and so do rows
-pub made_run : (out text vectors widths : List ℕ) (a : Answer) (design : Design) (held : Rows) (line file rows : List ℕ)
-    → GivesDesign text design → widths ≡ input_widths design → HoldsRows widths vectors held
-    → IsRunText design held.count held.inputs.cells.items rows → line ≡ simulated_line held.count → file ≡ out
-    → a ≡ success line (stored_file file rows ∷ []) → IsSimulated out text vectors a
-made_run out text vectors widths a design held line file rows gives same holds run said filed e =
+pub run_made : (out : List ℕ) (design : Design) (count : ℕ) (cells : List ℕ) (a : Answer) (line name rows : List ℕ)
+    → IsRunText design count cells rows → line ≡ simulated_line count → name ≡ out → a ≡ success line (stored_file name rows ∷ [])
+    → HasRun out design count cells a
+run_made out design count cells a line name rows run said named e = record { rows = rows; run = run; answer = rw (e, said, named) refl }
+
+pub run_answers : (out text vectors : List ℕ) (a : Answer) (design : Design) (held : Rows) → GivesDesign text design
+    → HoldsRows (input_widths design) vectors held → HasRun out design held.count held.inputs.cells.items a → IsSimulated out text vectors a
+run_answers out text vectors a design held gives holds h =
     inr (inr record {
       design = design;
       gives = gives;
       cells = held.inputs.cells.items;
-      read = subst (λ ws. IsReading ws (lines vectors) (Ok held.inputs.cells.items)) same holds.reading;
-      rows = rows;
-      run = subst (λ n. IsRunText design n held.inputs.cells.items rows) holds.count run;
-      answer = rw (e, said, filed, holds.count) refl;
+      read = holds.reading;
+      rows = h.rows;
+      run = subst (λ n. IsRunText design n held.inputs.cells.items h.rows) holds.count h.run;
+      answer = h.answer ∙ ap (λ n. simulated out n h.rows) holds.count;
     })
 
-pub run_listed : (a : Answer) (count : ℕ) (line file rows : List ℕ) → line ≡ simulated_line count
-    → a ≡ success line (stored_file file rows ∷ []) → IsListed a
-run_listed a count line file rows said e =
-    subst IsListed (sym e) (listed_success (success line (stored_file file rows ∷ [])) (printed.simulated count refl said) refl)
+pub run_listed : (out : List ℕ) (design : Design) (count : ℕ) (cells : List ℕ) (a : Answer) → HasRun out design count cells a → IsListed a
+run_listed out design count cells a h =
+    subst IsListed (sym h.answer) (listed_success (simulated out count h.rows) (printed.simulated count refl refl) refl)
 
 -- the answer to both files has status 0, 6 or 7
 simulated_status : (out text rows : List ℕ) (a : Answer) → IsSimulated out text rows a → (a.status ≡ 6) ⊎ ((a.status ≡ 7) ⊎ (a.status ≡ 0))

@@ -28,7 +28,8 @@ use Rattle.opgen_top.specs.Printed as printed
 use Rattle.opgen_top.specs.Specified.{IsAnswerToSpec, IsGenerated, IsVectors, OnReading, OnTable, OnTarget}
 use Rattle.opgen_top.specs.Targets.{Device, IsTableOf, chosen}
 use Rattle.opgen_top.proofs.Listed.{listed_refusal, listed_success}
-use Rattle.opgen_top.proofs.SpecCases.{answers_table, cases_of_spec, on_reading-map, on_table_of, on_target-map, reading_ok, refusal_answers}
+use Rattle.opgen_top.proofs.Refusing.{answers-map, refusal-map}
+use Rattle.opgen_top.proofs.SpecCases.{cases_of_spec, on_reading-map, on_table-map, on_table_of, on_target-map, reading_ok, refusal_answers}
 use Rattle.opgen_top.proofs.Unfetched.{on_fetch, on_missing, on_longer, unfetched}
 
 abbrev pub status_of : Answer → ℕ
@@ -66,12 +67,6 @@ module _ (devices : List Device) (spec : Spec) where
   plan_refused table of (refusals.Line line) h = on_table_of spec devices (refusal_of line) (λ t. OnTable spec t (refusal_of line) ⊥) table of h
   plan_refused table of refusals.Memory h = tt
 
-  pub made_refused : (bytes : List ℕ) → read (tree bytes) ≡ Ok spec → (refusal : Refusal)
-      → OnRefusal refusal (λ a. OnTarget (chosen spec.target devices) spec a (λ table. OnTable spec table a ⊥))
-      → OnRefusal refusal (IsAnswerToSpec bytes devices (λ spec table a. ⊥))
-  made_refused bytes reads (refusals.Line line) h = reading_ok (read (tree bytes)) (refusal_of line) _ spec reads h
-  made_refused bytes reads refusals.Memory h = tt
-
 -- a refusal of a specification answers a command on it
 pub refused_answers : (bytes : List ℕ) (devices : List Device) (said : Spec → Delays → Answer → Type 0) (refusal : Refusal)
     → OnRefusal refusal (IsAnswerToSpec bytes devices (λ spec table a. ⊥)) → OnRefusal refusal (IsAnswerToSpec bytes devices said)
@@ -95,28 +90,49 @@ rows_of_listed a spec design seed cycles allowed h =
     subst IsListed (sym h.answer) (listed_success (wrote_vectors spec.name cycles h.rows)
     (printed.wrote_vectors spec.name cycles allowed refl refl) refl)
 
--- what is made of a circuit answers the command
-pub made_circuit : (bytes : List ℕ) (enable : Bool) (devices : List Device) (spec : Spec) → read (tree bytes) ≡ Ok spec → (circuit : Circuit)
-    → IsCircuitFor spec enable devices circuit → (a : Answer)
-    → a ≡ wrote spec.name circuit.planned.latency (text_of circuit.planned.design) (report spec circuit.planned circuit.adders.items)
-    → IsAnswerToSpec bytes devices (IsGenerated enable) a
-made_circuit bytes enable devices spec reads circuit is a e =
-    answers_table bytes devices (IsGenerated enable) a spec is.table reads is.of_target
-    (inr (inr record { planned = circuit.planned; adders = circuit.adders.items; circuit = is.of_table; answer = e }))
+-- what is said of a specification that was read, and of its circuit, answers the command
+module _ (devices : List Device) (spec : Spec) where
+  pub read_answers : (bytes : List ℕ) (said : Spec → Delays → Answer → Type 0) → read (tree bytes) ≡ Ok spec → (r : Result Held Refusal)
+      → OnAnswer r (λ a. OnTarget (chosen spec.target devices) spec a (λ table. OnTable spec table a (said spec table a)))
+      → OnAnswer r (IsAnswerToSpec bytes devices said)
+  read_answers bytes said reads r h =
+      answers-map r _ _
+      (λ a k. reading_ok (read (tree bytes)) a
+      (λ s. OnTarget (chosen s.target devices) s a (λ table. OnTable s table a (said s table a))) spec reads k) h
 
-pub made_vectors : (bytes : List ℕ) (devices : List Device) (spec : Spec) → read (tree bytes) ≡ Ok spec → (circuit : Circuit)
-    → IsCircuitFor spec false devices circuit → (a : Answer) (seed cycles : ℕ)
-    → HasRows spec circuit.planned.design seed cycles a → IsAnswerToSpec bytes devices (IsVectors seed cycles) a
-made_vectors bytes devices spec reads circuit is a seed cycles h =
-    answers_table bytes devices (IsVectors seed cycles) a spec is.table reads is.of_target
-    (inr (inr record {
+  pub circuit_refused : (said : Delays → Answer → Type 0) (refusal : Refusal)
+      → OnRefusal refusal (λ a. OnTarget (chosen spec.target devices) spec a (λ table. OnTable spec table a ⊥))
+      → OnRefusal refusal (λ a. OnTarget (chosen spec.target devices) spec a (λ table. OnTable spec table a (said table a)))
+  circuit_refused said refusal h =
+      refusal-map refusal _ _
+      (λ a k. on_target-map (chosen spec.target devices) spec a _ _ (λ table. on_table-map spec table a ⊥ (said table a) (λ no. absurd no)) k) h
+
+  module _ (enable : Bool) (circuit : Circuit) (is : IsCircuitFor spec enable devices circuit) (r : Result Held Refusal) where
+    circuit_answers : (said : Delays → Answer → Type 0) (made : Answer → Type 0) → ((a : Answer) → made a → said is.table a) → OnAnswer r made
+        → OnAnswer r (λ a. OnTarget (chosen spec.target devices) spec a (λ table. OnTable spec table a (said table a)))
+    circuit_answers said made f h =
+        answers-map r _ _
+        (λ a k. on_table_of spec devices a (λ table. OnTable spec table a (said table a)) is.table is.of_target (inr (inr (f a k)))) h
+
+    pub generated : OnAnswer r (λ a. a ≡ wrote spec.name circuit.planned.latency (text_of circuit.planned.design)
+        (report spec circuit.planned circuit.adders.items))
+        → OnAnswer r (λ a. OnTarget (chosen spec.target devices) spec a (λ table. OnTable spec table a (IsGenerated enable spec table a)))
+    generated h = circuit_answers (IsGenerated enable spec) _
+        (λ a e. record { planned = circuit.planned; adders = circuit.adders.items; circuit = is.of_table; answer = e }) h
+
+pub vectors_made : (devices : List Device) (spec : Spec) (circuit : Circuit) → IsCircuitFor spec false devices circuit
+    → (r : Result Held Refusal) (seed cycles : ℕ) → OnAnswer r (HasRows spec circuit.planned.design seed cycles)
+    → OnAnswer r (λ a. OnTarget (chosen spec.target devices) spec a (λ table. OnTable spec table a (IsVectors seed cycles spec table a)))
+vectors_made devices spec circuit is r seed cycles h =
+    circuit_answers devices spec false circuit is r (IsVectors seed cycles spec) _
+    (λ a k. record {
       planned = circuit.planned;
       adders = circuit.adders.items;
       circuit = is.of_table;
-      rows = h.rows;
-      run = h.run;
-      answer = h.answer;
-    }))
+      rows = k.rows;
+      run = k.run;
+      answer = k.answer;
+    }) h
 
 -- the answer to a specification has status 0 or 1
 spec_status : (bytes : List ℕ) (devices : List Device) (said : Spec → Delays → Answer → Type 0) (a : Answer)

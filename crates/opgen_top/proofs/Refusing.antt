@@ -1,14 +1,15 @@
 -- A refusal that is passed on as it is, and a fetch from a folder that has the same files.
-use Rattle.std.proofs.Common.{◌≡◌, Result, subst}
+use Rattle.std.proofs.Common.{◌≡◌, Result, Ok, Err, subst}
 use Rattle.std.specs.Prelude.{ℕ, List, Option, Vec}
 use Rattle.std.specs.declared.alloc.Global.{Global}
 use Rattle.std.specs.Result.{IsErrAnd}
 use Rattle.std.proofs.lemmas.Result.{err_from_is_err_and}
 use Rattle.opgen_top.specs.declared.answer.Answer.{Answer as Held}
 use Rattle.opgen_top.specs.declared.answer.Refusal.{Refusal}
+use Rattle.opgen_top.specs.declared.answer.Refusal.TheVariants as refusals
 use Rattle.opgen_io.specs.Files.{Files}
 use Rattle.opgen_top.specs.Answer.{Answer}
-use Rattle.opgen_top.specs.Prepared.{Fetches, IfRefused, OnAnswer, OnRefusal, Reads}
+use Rattle.opgen_top.specs.Prepared.{Fetches, IfRefused, OnAnswer, OnRefusal, Reads, answer_of, refusal_of}
 
 pub answer_passed : (r : Result Held Refusal) (refusal : Refusal) (said : Answer → Type 0) → IsErrAnd r (λ other. other ≡ refusal)
     → OnRefusal refusal said → OnAnswer r said
@@ -21,3 +22,14 @@ refusal_passed r refusal said is h = let p = err_from_is_err_and r is in rw (p.1
 pub fetched_alike : (name : List ℕ) (most : ℕ) (told other : Option Files) (before now : Reads) (r : Result (Vec ℕ Global) Refusal)
     → told ≡ other → Fetches name most told before now r → Fetches name most other before now r
 fetched_alike name most told other before now r same h = subst (λ it. Fetches name most it before now r) same h
+
+-- what is said of a refusal, or of an answer, may be exchanged for what follows from it
+pub refusal-map : (refusal : Refusal) (said other : Answer → Type 0) → ((a : Answer) → said a → other a) → OnRefusal refusal said
+    → OnRefusal refusal other
+refusal-map (refusals.Line line) said other f h = f (refusal_of line) h
+refusal-map refusals.Memory said other f h = tt
+
+pub answers-map : (r : Result Held Refusal) (said other : Answer → Type 0) → ((a : Answer) → said a → other a) → OnAnswer r said
+    → OnAnswer r other
+answers-map (Ok held) said other f h = f (answer_of held) h
+answers-map (Err refusal) said other f h = refusal-map refusal said other f h

@@ -26,7 +26,7 @@ use Rattle.opgen_top.specs.declared.line.Line.{Line}
 use Rattle.opgen_top.specs.declared.line.Line.TheVariants as line
 use Rattle.opgen_top.specs.declared.rows.Rows.{Rows}
 use Rattle.opgen_top.specs.declared.circuit.Circuit.{Circuit}
-use Rattle.opgen_top.specs.Answer.{Answer, all_good, bad_row, ports_refused, read_fault, refusal, worked, wrote_vectors}
+use Rattle.opgen_top.specs.Answer.{Answer, all_good, bad_row, ports_refused, read_fault, refusal, simulated, worked, wrote_vectors}
 use Rattle.opgen_top.specs.Circuit.{IsCircuit}
 use Rattle.opgen_top.specs.Due.{IsAnswerOf}
 use Rattle.opgen_top.specs.Lines.{not_adjustable_line, read_fault_line, ports_refused_line, too_large_line, too_long_line, unknown_target_line, usage_line}
@@ -103,6 +103,12 @@ pub record HasRows (spec : Spec) (design : Design) (seed cycles : ℕ) (a : Answ
   pub rows : List ℕ
   pub run : IsRunText design cycles (stimulus_cells spec seed cycles) rows
   pub answer : a ≡ wrote_vectors spec.name cycles rows
+
+-- an answer that stores the rows of a design's run over rows of its inputs
+pub record HasRun (out : List ℕ) (design : Design) (count : ℕ) (cells : List ℕ) (a : Answer) : Type 0 where
+  pub rows : List ℕ
+  pub run : IsRunText design count cells rows
+  pub answer : a ≡ simulated out count rows
 
 -- an answer that tells of a run of the filter, and stores none
 pub record HasWorked (n : ℕ) (planned : Planned) (a : Answer) : Type 0 where

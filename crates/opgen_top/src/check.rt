@@ -13,12 +13,11 @@ ghost use Rattle.opgen_top.specs.Targets.{Device};
 use crate::answer::{Answer, Refusal, without_file};
 use crate::fetch::{MAX_SIMULATED_LEN, MAX_SPEC_LEN, fetch};
 use crate::line::Line;
-use crate::read::{read_rows, read_specification, read_vhdl};
+use crate::read::{read_inputs, read_specification, read_vhdl};
 use crate::rows::Rows;
 use opgen_check::{CheckFault, Checked, check_rows};
-use opgen_design::{Design, Dir};
+use opgen_design::Design;
 use opgen_io::Folder;
-use opgen_sim::port_widths;
 use opgen_spec::Spec;
 use std::alloc::{AllocError, Global};
 
@@ -57,8 +56,7 @@ fn judge_vhdl(
 {
     let spec = read_specification(alloc, document)?;
     let design = read_vhdl(alloc, vhdl)?;
-    let widths = port_widths(alloc, design.ports.as_slice(), Dir::In)?;
-    let rows = read_rows(alloc, vectors, &widths)?;
+    let rows = read_inputs(alloc, &design, vectors)?;
     judge_rows(alloc, &spec, &design, &rows, latency)
 }
 

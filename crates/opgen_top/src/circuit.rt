@@ -1,10 +1,10 @@
 //! The circuit of a specification.
-ghost use Rattle.std.specs.Prelude.{◌≡◌, ◌≤◌, [], IfOk, string_bytes};
-ghost use Rattle.opgen_operator.specs.Accepted.{IsAcceptedTaps};
+ghost use Rattle.std.specs.Prelude.{◌≡◌, ◌≤◌, [], IfOk, Ok, string_bytes};
+ghost use Rattle.opgen_operator.specs.Accepted.{IsAcceptedSeveral, IsAcceptedTaps};
 ghost use Rattle.opgen_operator.specs.Fits.{FitsSpecsOf};
-ghost use Rattle.opgen_operator.specs.declared.spec.Operator.TheVariants.{Tfir};
+ghost use Rattle.opgen_operator.specs.declared.spec.Operator.TheVariants.{Mcm, Tfir};
 ghost use Rattle.opgen_operator.specs.Valid.{IsValidSpec};
-ghost use Rattle.opgen_search.specs.Recipe.{IsAdderSetOf};
+ghost use Rattle.opgen_search.specs.Recipe.{IsAdderSetOf, IsNetOfSeveral};
 ghost use Rattle.opgen_top.specs.Kinds.{AreAddersOf, IsFittingNet, IsNetOfTaps};
 ghost use Rattle.opgen_top.specs.Lines.{period_too_short_line};
 ghost use Rattle.opgen_top.specs.Prepared.{IfRefused, IsCircuitFor, IsListed};
@@ -19,7 +19,7 @@ use opgen_net::Net;
 use opgen_num::Memory;
 use opgen_pipe::{PlanFault, Planned, plan};
 use opgen_search::{Gate, least_graph};
-use opgen_spec::{Operator, Spec, Taps};
+use opgen_spec::{Operator, Several, Spec, Taps};
 use std::alloc::{AllocError, Global};
 use std::thread::Threads;
 
@@ -38,14 +38,36 @@ pub(crate) struct Circuit {
 }
 
 /// A net with no shared numbers.
-fn without_adders(alloc: Global, net: Net) -> KindNet
-    ensures net { result.net ≡ net }
-    ensures adders { result.adders.items ≡ [] }
+fn without_adders(alloc: Global, built: Result<Net, Memory>) -> Result<KindNet, Memory>
+    ensures net { IfOk result (λ made. built ≡ Ok made.net) }
+    ensures adders { IfOk result (λ made. made.adders.items ≡ []) }
 {
-    KindNet {
+    let net = built?;
+    Ok(KindNet {
         net,
         adders: Vec::new(alloc),
-    }
+    })
+}
+
+/// The net of several constants, by the graph of the least set of adders for them.
+fn build_several<R: Threads + Sync, G: Gate + Sync>(
+    rt: &R,
+    alloc: Global,
+    several: &Several,
+    workers: u32,
+    gate: &G,
+) -> Result<KindNet, Memory>
+    requires several { IsAcceptedSeveral several.now }
+    requires workers { (1 ≤ workers) × (workers ≤ 32) }
+    ensures net { IfOk result (λ made. IsNetOfSeveral several.now made.net) }
+    ensures fits { IfOk result (λ made. FitsSpecsOf (Mcm several.now) made.net) }
+    ensures adders { IfOk result (λ made. IsAdderSetOf several.now.constants several.now.input.width several.now.extra made.adders.items) }
+{
+    let built = opgen_search::build(rt, alloc, several, workers, gate)?;
+    Ok(KindNet {
+        net: built.net,
+        adders: built.adders.into_vec(),
+    })
 }
 
 /// The net of a transposed filter, by the graph of the least set of adders for its taps.
@@ -92,27 +114,15 @@ fn build_net<R: Threads + Sync, G: Gate + Sync>(
     ensures adders { IfOk result (λ made. AreAddersOf spec.now made.adders.items) }
 {
     match &spec.op {
-        Operator::Scale(sum) => Ok(without_adders(alloc, opgen_fir::build(alloc, sum)?)),
-        Operator::Fir(sum) => Ok(without_adders(alloc, opgen_fir::build(alloc, sum)?)),
-        Operator::Multiply(product) => Ok(without_adders(
-            alloc,
-            opgen_mult::build(alloc, product)?,
-        )),
-        Operator::Divide(pair) => Ok(without_adders(alloc, opgen_divide::build(alloc, pair)?)),
-        Operator::Root(single) => Ok(without_adders(alloc, opgen_sqrt::build(alloc, single)?)),
-        Operator::Mcm(several) => {
-            let built = opgen_search::build(rt, alloc, several, workers, gate)?;
-            Ok(KindNet {
-                net: built.net,
-                adders: built.adders.into_vec(),
-            })
-        }
-        Operator::Constdiv(small) => Ok(without_adders(
-            alloc,
-            opgen_constdiv::build(alloc, small)?,
-        )),
-        Operator::Poly(poly) => Ok(without_adders(alloc, opgen_poly::build(alloc, poly)?)),
-        Operator::Tfir(taps) => Ok(build_transposed(rt, alloc, taps, workers, gate)?),
+        Operator::Scale(sum) => without_adders(alloc, opgen_fir::build(alloc, sum)),
+        Operator::Fir(sum) => without_adders(alloc, opgen_fir::build(alloc, sum)),
+        Operator::Multiply(product) => without_adders(alloc, opgen_mult::build(alloc, product)),
+        Operator::Divide(pair) => without_adders(alloc, opgen_divide::build(alloc, pair)),
+        Operator::Root(single) => without_adders(alloc, opgen_sqrt::build(alloc, single)),
+        Operator::Mcm(several) => build_several(rt, alloc, several, workers, gate),
+        Operator::Constdiv(small) => without_adders(alloc, opgen_constdiv::build(alloc, small)),
+        Operator::Poly(poly) => without_adders(alloc, opgen_poly::build(alloc, poly)),
+        Operator::Tfir(taps) => build_transposed(rt, alloc, taps, workers, gate),
     }
 }
 

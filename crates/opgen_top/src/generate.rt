@@ -6,8 +6,9 @@ ghost use Rattle.opgen_operator.specs.Valid.{IsValidSpec};
 ghost use Rattle.opgen_vhdl.specs.DesignText.{text_of};
 ghost use Rattle.opgen_top.specs.Answer.{report_name, vhdl_name, wrote};
 ghost use Rattle.opgen_top.specs.Lines.{wrote_line};
-ghost use Rattle.opgen_top.specs.Prepared.{answer_of, reads_of, IsPrepared, OnAnswer};
-ghost use Rattle.opgen_top.specs.Targets.{devices_of};
+ghost use Rattle.opgen_top.specs.Prepared.{reads_of, IsListed, IsPrepared, OnAnswer};
+ghost use Rattle.opgen_top.specs.Specified.{IsAnswerToSpec, IsGenerated, OnTable, OnTarget};
+ghost use Rattle.opgen_top.specs.Targets.{chosen, devices_of};
 
 use crate::answer::{Answer, NewFile, Refusal, with_files};
 use crate::circuit::{Circuit, make_circuit};
@@ -15,7 +16,6 @@ use crate::context::Context;
 use crate::fetch::{MAX_SPEC_LEN, fetch};
 use crate::read::read_specification;
 use opgen_io::Folder;
-use opgen_num::Memory;
 use opgen_report::report_text;
 use opgen_search::Gate;
 use opgen_spec::Spec;
@@ -23,7 +23,7 @@ use opgen_write::text;
 use std::alloc::{AllocError, Global};
 use std::thread::Threads;
 
-/// Reads a specification, makes its circuit, and answers with the VHDL and the report.
+/// Fetches a specification, and answers with the VHDL of its circuit and the report.
 pub(crate) fn generate<R: Threads + Sync, F: Folder, G: Gate + Sync>(
     file: &str,
     workers: u32,
@@ -38,17 +38,48 @@ pub(crate) fn generate<R: Threads + Sync, F: Folder, G: Gate + Sync>(
         (devices_of target_name delays adjustable context.entry.targets.items) (F.told folder.old)
         (reads_of F.read_faults F.lacks F.longs folder.old) (reads_of F.read_faults F.lacks F.longs folder.new)) }
 {
+    let document = fetch(context.alloc, file, MAX_SPEC_LEN, folder)?;
+    generate_document(&document, workers, enable, context)
+}
+
+/// Reads a specification, makes its circuit, and answers with the VHDL and the report.
+fn generate_document<R: Threads + Sync, G: Gate + Sync>(
+    document: &[u8],
+    workers: u32,
+    enable: bool,
+    context: Context<'_, R, G>,
+) -> Result<Answer, Refusal>
+    requires { (1 ≤ workers) × (workers ≤ 32) }
+    ensures answer { OnAnswer result (IsAnswerToSpec document.now
+        (devices_of target_name delays adjustable context.entry.targets.items) (IsGenerated enable)) }
+    ensures listed { OnAnswer result IsListed }
+{
+    let spec = read_specification(context.alloc, document)?;
+    generate_circuit(&spec, workers, enable, context)
+}
+
+/// Makes the circuit of a specification, and answers with the VHDL and the report.
+fn generate_circuit<R: Threads + Sync, G: Gate + Sync>(
+    spec: &Spec,
+    workers: u32,
+    enable: bool,
+    context: Context<'_, R, G>,
+) -> Result<Answer, Refusal>
+    requires valid { IsValidSpec spec.now }
+    requires workers { (1 ≤ workers) × (workers ≤ 32) }
+    ensures answer { OnAnswer result (λ a. OnTarget (chosen spec.now.target (devices_of target_name delays adjustable context.entry.targets.items)) spec.now a
+        (λ table. OnTable spec.now table a (IsGenerated enable spec.now table a))) }
+    ensures listed { OnAnswer result IsListed }
+{
     let alloc = context.alloc;
-    let document = fetch(alloc, file, MAX_SPEC_LEN, folder)?;
-    let spec = read_specification(alloc, &document)?;
-    let circuit = make_circuit(&spec, enable, workers, context)?;
-    Ok(make_files(alloc, &spec, &circuit)?)
+    let circuit = make_circuit(spec, enable, workers, context)?;
+    make_files(alloc, spec, &circuit)
 }
 
 /// The answer that stores the text of a circuit and the report on it.
-fn make_files(alloc: Global, spec: &Spec, circuit: &Circuit) -> Result<Answer, Memory>
+fn make_files(alloc: Global, spec: &Spec, circuit: &Circuit) -> Result<Answer, Refusal>
     requires { IsValidSpec spec.now }
-    ensures { IfOk result (λ a. answer_of a ≡ wrote spec.now.name circuit.now.planned.latency
+    ensures { OnAnswer result (λ a. a ≡ wrote spec.now.name circuit.now.planned.latency
         (text_of circuit.now.planned.design) (report spec.now circuit.now.planned circuit.now.adders.items)) }
 {
     let name = spec.name.as_str();

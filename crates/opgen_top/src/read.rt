@@ -2,7 +2,8 @@
 ghost use Rattle.std.specs.Prelude.{◌≡◌, ◌≢◌, ◌≤◌, ◌<◌, ◌^◌, All, IfOk, IfErr, Ok, Err, length, string_bytes};
 ghost use Rattle.std.specs.Str.Lines.{lines};
 ghost use Rattle.opgen_num.specs.declared.TheConstants.{MAX_WIDTH};
-ghost use Rattle.opgen_design.specs.Sound.{HasNumbers};
+ghost use Rattle.opgen_design.specs.Run.{input_widths};
+ghost use Rattle.opgen_design.specs.Sound.{HasNumbers, IsSound};
 ghost use Rattle.opgen_operator.specs.Valid.{IsValidSpec};
 ghost use Rattle.opgen_spec.specs.Document.{tree};
 ghost use Rattle.opgen_spec.specs.Faults.{read};
@@ -16,8 +17,9 @@ ghost use Rattle.opgen_top.specs.Specified.{OnReading};
 use crate::answer::Refusal;
 use crate::line::Line;
 use crate::rows::Rows;
-use opgen_design::Design;
+use opgen_design::{Design, Dir};
 use opgen_read::{ReadFault, read_design};
+use opgen_sim::port_widths;
 use opgen_spec::{Spec, SpecFault, read_spec};
 use opgen_vec::{VecFault, Vectors, read_empty_rows, read_vectors};
 use std::alloc::{AllocError, Global};
@@ -92,7 +94,7 @@ fn rows_of_lines(alloc: Global, bytes: &[u8], widths: &[u32]) -> Result<Rows, Ve
 }
 
 /// The rows that the vectors hold for inputs of these widths.
-pub(crate) fn read_rows(alloc: Global, bytes: &[u8], widths: &[u32]) -> Result<Rows, Refusal>
+fn read_rows(alloc: Global, bytes: &[u8], widths: &[u32]) -> Result<Rows, Refusal>
     requires few { length widths.now < 2 ^ 32 }
     requires narrow { All (λ width. width ≤ MAX_WIDTH) widths.now }
     ensures rows { IfOk result (HoldsRows widths.now bytes.now) }
@@ -103,4 +105,15 @@ pub(crate) fn read_rows(alloc: Global, bytes: &[u8], widths: &[u32]) -> Result<R
         Err(VecFault::Memory) => Err(Refusal::Memory),
         Err(fault) => Err(Refusal::Line(Line::VectorsRefused(vectors_refused_line(alloc, fault)?))),
     }
+}
+
+/// The rows that the vectors hold for the inputs of a design.
+pub(crate) fn read_inputs(alloc: Global, design: &Design, vectors: &[u8]) -> Result<Rows, Refusal>
+    requires sound { IsSound design.now }
+    requires numbers { HasNumbers design.now }
+    ensures rows { IfOk result (HoldsRows (input_widths design.now) vectors.now) }
+    ensures refused { IfRefused result (RefusesRows (input_widths design.now) vectors.now) }
+{
+    let widths = port_widths(alloc, design.ports.as_slice(), Dir::In)?;
+    read_rows(alloc, vectors, &widths)
 }

@@ -1,19 +1,22 @@
 //! The command `simulate`: from VHDL and vectors to the rows of the design's run.
-ghost use Rattle.std.specs.Prelude.{◌≡◌, ◌≤◌, IfOk, List, Some, length, string_bytes};
+ghost use Rattle.std.specs.Prelude.{◌≡◌, ◌≤◌, ◌<◌, IfOk, List, Some, length, string_bytes};
+ghost use Rattle.opgen_num.specs.Words.{AreRowsOfCells};
 ghost use Rattle.opgen_command.specs.declared.command.Command.TheVariants.{Simulate};
+ghost use Rattle.opgen_design.specs.Run.{input_widths};
+ghost use Rattle.opgen_design.specs.Sound.{HasNumbers, IsSound};
 ghost use Rattle.opgen_top.specs.Due.{most_simulated_bytes};
 ghost use Rattle.opgen_top.specs.Lines.{simulated_line};
-ghost use Rattle.opgen_top.specs.Prepared.{reads_of, IsListed, IsPrepared, OnAnswer};
+ghost use Rattle.opgen_top.specs.Prepared.{answer_of, reads_of, HasRun, IsListed, IsPrepared, OnAnswer};
 ghost use Rattle.opgen_top.specs.Simulate.{IsSimulated};
 ghost use Rattle.opgen_top.specs.Targets.{Device};
 
 use crate::answer::{Answer, Refusal, with_file};
 use crate::fetch::{MAX_SIMULATED_LEN, fetch};
-use crate::read::{read_rows, read_vhdl};
-use crate::rows::run_text;
-use opgen_design::Dir;
+use crate::read::{read_inputs, read_vhdl};
+use crate::rows::{Rows, run_text};
+use opgen_design::Design;
 use opgen_io::Folder;
-use opgen_sim::port_widths;
+use opgen_num::Memory;
 use std::alloc::{AllocError, Global};
 
 /// Fetches VHDL and vectors, and answers with the rows of the run, to be stored under `out`.
@@ -42,13 +45,24 @@ fn run_vhdl(alloc: Global, vhdl: &[u8], vectors: &[u8], out: &str) -> Result<Ans
     ensures listed { OnAnswer result IsListed }
 {
     let design = read_vhdl(alloc, vhdl)?;
-    let widths = port_widths(alloc, design.ports.as_slice(), Dir::In)?;
-    let rows = read_rows(alloc, vectors, &widths)?;
+    let rows = read_inputs(alloc, &design, vectors)?;
+    Ok(store_run(alloc, design, &rows, out)?)
+}
+
+/// The answer that stores the rows of a design's run under `out`.
+fn store_run(alloc: Global, design: Design, rows: &Rows, out: &str) -> Result<Answer, Memory>
+    requires sound { IsSound design }
+    requires numbers { HasNumbers design }
+    requires some_port { 0 < length design.ports }
+    requires columns { rows.now.inputs.columns ≡ length (input_widths design) }
+    requires rows { AreRowsOfCells (input_widths design) rows.now.count rows.now.inputs.cells.items }
+    ensures { IfOk result (λ a. HasRun out.now design rows.now.count rows.now.inputs.cells.items (answer_of a)) }
+{
     Ok(with_file(
         alloc,
         simulated_line(alloc, rows.count)?,
         String::from_str(alloc, out)?,
-        run_text(alloc, design, &rows)?,
+        run_text(alloc, design, rows)?,
     )?)
 }
 

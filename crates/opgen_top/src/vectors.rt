@@ -6,8 +6,9 @@ ghost use Rattle.opgen_operator.specs.Valid.{IsValidSpec};
 ghost use Rattle.opgen_top.specs.Answer.{vectors_name};
 ghost use Rattle.opgen_top.specs.Circuit.{ports_for};
 ghost use Rattle.opgen_top.specs.Lines.{wrote_vectors_line};
-ghost use Rattle.opgen_top.specs.Prepared.{answer_of, reads_of, HasRows, IsPrepared, OnAnswer};
-ghost use Rattle.opgen_top.specs.Targets.{devices_of};
+ghost use Rattle.opgen_top.specs.Prepared.{reads_of, HasRows, IsListed, IsPrepared, OnAnswer};
+ghost use Rattle.opgen_top.specs.Specified.{IsAnswerToSpec, IsVectors, OnTable, OnTarget};
+ghost use Rattle.opgen_top.specs.Targets.{chosen, devices_of};
 
 use crate::answer::{Answer, Refusal, with_file};
 use crate::circuit::make_circuit;
@@ -17,14 +18,13 @@ use crate::read::read_specification;
 use crate::rows::{Rows, run_text};
 use opgen_design::Design;
 use opgen_io::Folder;
-use opgen_num::Memory;
 use opgen_search::Gate;
 use opgen_spec::Spec;
 use opgen_vec::stimulus;
 use std::alloc::{AllocError, Global};
 use std::thread::Threads;
 
-/// Reads a specification, makes its circuit, and answers with the rows of its run over drawn inputs.
+/// Fetches a specification, and answers with the rows of its circuit's run over drawn inputs.
 pub(crate) fn make_vectors<R: Threads + Sync, F: Folder, G: Gate + Sync>(
     file: &str,
     seed: u32,
@@ -38,11 +38,40 @@ pub(crate) fn make_vectors<R: Threads + Sync, F: Folder, G: Gate + Sync>(
         (devices_of target_name delays adjustable context.entry.targets.items) (F.told folder.old)
         (reads_of F.read_faults F.lacks F.longs folder.old) (reads_of F.read_faults F.lacks F.longs folder.new)) }
 {
+    let document = fetch(context.alloc, file, MAX_SPEC_LEN, folder)?;
+    run_document(&document, seed, cycles, context)
+}
+
+/// Reads a specification, makes its circuit, and answers with the rows of its run over drawn inputs.
+fn run_document<R: Threads + Sync, G: Gate + Sync>(
+    document: &[u8],
+    seed: u32,
+    cycles: u32,
+    context: Context<'_, R, G>,
+) -> Result<Answer, Refusal>
+    ensures answer { OnAnswer result (IsAnswerToSpec document.now
+        (devices_of target_name delays adjustable context.entry.targets.items) (IsVectors seed cycles)) }
+    ensures listed { OnAnswer result IsListed }
+{
+    let spec = read_specification(context.alloc, document)?;
+    run_circuit(&spec, seed, cycles, context)
+}
+
+/// Makes the circuit of a specification, and answers with the rows of its run over drawn inputs.
+fn run_circuit<R: Threads + Sync, G: Gate + Sync>(
+    spec: &Spec,
+    seed: u32,
+    cycles: u32,
+    context: Context<'_, R, G>,
+) -> Result<Answer, Refusal>
+    requires { IsValidSpec spec.now }
+    ensures answer { OnAnswer result (λ a. OnTarget (chosen spec.now.target (devices_of target_name delays adjustable context.entry.targets.items)) spec.now a
+        (λ table. OnTable spec.now table a (IsVectors seed cycles spec.now table a))) }
+    ensures listed { OnAnswer result IsListed }
+{
     let alloc = context.alloc;
-    let document = fetch(alloc, file, MAX_SPEC_LEN, folder)?;
-    let spec = read_specification(alloc, &document)?;
-    let circuit = make_circuit(&spec, false, 1, context)?;
-    Ok(run_stimulus(alloc, &spec, circuit.planned.design, seed, cycles)?)
+    let circuit = make_circuit(spec, false, 1, context)?;
+    run_stimulus(alloc, spec, circuit.planned.design, seed, cycles)
 }
 
 /// The answer that stores the rows of a design over the stimulus of its specification.
@@ -52,12 +81,12 @@ fn run_stimulus(
     design: Design,
     seed: u32,
     cycles: u32,
-) -> Result<Answer, Memory>
+) -> Result<Answer, Refusal>
     requires valid { IsValidSpec spec.now }
     requires sound { IsSound design }
     requires numbers { HasNumbers design }
     requires ports { design.ports ≡ ports_for spec.now false }
-    ensures { IfOk result (λ a. HasRows spec.now design seed cycles (answer_of a)) }
+    ensures { OnAnswer result (HasRows spec.now design seed cycles) }
 {
     let rows = Rows {
         count: cycles,

@@ -5,7 +5,7 @@ ghost use Rattle.opgen_operator.specs.Valid.{IsValidSpec};
 ghost use Rattle.opgen_workload.specs.Filter.{workload_spec};
 ghost use Rattle.opgen_top.specs.Circuit.{ports_for};
 ghost use Rattle.opgen_top.specs.Lines.{worked_line};
-ghost use Rattle.opgen_top.specs.Prepared.{answer_of, HasWorked, IsListed, OnAnswer};
+ghost use Rattle.opgen_top.specs.Prepared.{HasWorked, IsListed, OnAnswer};
 ghost use Rattle.opgen_top.specs.Targets.{devices_of};
 ghost use Rattle.opgen_top.specs.Workload.{IsAnswerToWorkload};
 
@@ -13,7 +13,6 @@ use crate::answer::{Answer, Refusal, without_file};
 use crate::circuit::make_circuit;
 use crate::context::Context;
 use crate::line::Line;
-use opgen_num::Memory;
 use opgen_pipe::Planned;
 use opgen_search::Gate;
 use opgen_sim::run_rows;
@@ -35,20 +34,34 @@ pub(crate) fn run_workload<R: Threads + Sync, G: Gate + Sync>(
     ensures answer { OnAnswer result (IsAnswerToWorkload n (devices_of target_name delays adjustable context.entry.targets.items)) }
     ensures listed { OnAnswer result IsListed }
 {
+    let spec = workload_spec(context.alloc, n)?;
+    run_circuit(n, &spec, context)
+}
+
+/// Makes the circuit of the filter, and answers with the line on its run.
+fn run_circuit<R: Threads + Sync, G: Gate + Sync>(
+    n: u32,
+    spec: &Spec,
+    context: Context<'_, R, G>,
+) -> Result<Answer, Refusal>
+    requires filter { spec.now ≡ workload_spec n }
+    requires valid { IsValidSpec spec.now }
+    ensures answer { OnAnswer result (IsAnswerToWorkload n (devices_of target_name delays adjustable context.entry.targets.items)) }
+    ensures listed { OnAnswer result IsListed }
+{
     let alloc = context.alloc;
-    let spec = workload_spec(alloc, n)?;
-    let circuit = make_circuit(&spec, false, 1, context)?;
-    Ok(run_filter(alloc, n, &spec, circuit.planned)?)
+    let circuit = make_circuit(spec, false, 1, context)?;
+    run_filter(alloc, n, spec, circuit.planned)
 }
 
 /// How many cycles of the filter's run over its stimulus are good, in a line with its size.
-fn run_filter(alloc: Global, n: u32, spec: &Spec, planned: Planned) -> Result<Answer, Memory>
+fn run_filter(alloc: Global, n: u32, spec: &Spec, planned: Planned) -> Result<Answer, Refusal>
     requires filter { spec.now ≡ workload_spec n }
     requires valid { IsValidSpec spec.now }
     requires sound { IsSound planned.design }
     requires numbers { HasNumbers planned.design }
     requires ports { planned.design.ports ≡ ports_for spec.now false }
-    ensures { IfOk result (λ a. HasWorked n planned (answer_of a)) }
+    ensures { OnAnswer result (HasWorked n planned) }
 {
     let inputs = stimulus(alloc, spec, n as u64, CYCLES)?;
     let signals = planned.design.signals.len();

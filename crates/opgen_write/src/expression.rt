@@ -1,5 +1,5 @@
 //! Writes the text of an expression.
-ghost use Rattle.std.specs.Prelude.{◌≡◌, ◌++◌, OnOk, decimal, string_bytes};
+ghost use Rattle.std.specs.Prelude.{◌≡◌, ◌++◌, OnOk, codes, decimal, string_bytes};
 ghost use Rattle.opgen_num.specs.Words.{word};
 ghost use Rattle.opgen_design.specs.Plain.{plain, plain_all};
 ghost use Rattle.opgen_design.specs.Width.{in_chain, in_not};
@@ -63,6 +63,19 @@ pub(crate) fn put_range(out: &mut String, high: u32, low: u32) -> Result<(), All
     write!(out, "({high} downto {low})")
 }
 
+fn put_part(out: &mut String, name: &str, high: u32, low: u32) -> Result<(), AllocError>
+    ensures { OnOk result (string_bytes out.new ≡ string_bytes out.old ++ name.now ++ range_text high low) }
+{
+    out.push_str(name)?;
+    put_range(out, high, low)
+}
+
+fn put_port(out: &mut String, name: &str) -> Result<(), AllocError>
+    ensures { OnOk result (string_bytes out.new ≡ string_bytes out.old ++ codes "unsigned(" ++ name.now ++ codes ")") }
+{
+    write!(out, "unsigned({name})")
+}
+
 fn operator(op: Op) -> &'static str
     ensures { result.now ≡ operator_text op }
 {
@@ -86,16 +99,9 @@ pub(crate) fn put_expression(
 {
     match expression {
         Expr::Name(signal) => out.push_str(signal_name(design, *signal)),
-        Expr::Part(part) => {
-            out.push_str(signal_name(design, part.node))?;
-            put_range(out, part.high, part.low)
-        }
+        Expr::Part(part) => put_part(out, signal_name(design, part.node), part.high, part.low),
         Expr::Bits(word) => put_word(out, *word),
-        Expr::Port(port) => {
-            out.push_str("unsigned(")?;
-            out.push_str(port_name(design, *port))?;
-            out.push_str(")")
-        }
+        Expr::Port(port) => put_port(out, port_name(design, *port)),
         Expr::Not(operand) => {
             out.push_str("not ")?;
             put_after_not(out, design, operand)

@@ -14,20 +14,24 @@ use Rattle.opgen_digits.proofs.try_digit.Goals as goal
 pub cells-requires-clause-fits : goal.cells-requires-clause-fits
 cells-requires-clause-fits c =
     let ws = widths c.args.net.now.nodes in
+    let a = c.args.trial.minuend in
+    let b = c.args.trial.subtrahend in
     let are = c.requires.operands in
-    subst (FitsNodes ws (c.args.rest + 2)) (sym c.in_ok-difference.ensures)
-    (difference-fits ws c.args.a c.args.b (c.args.rest + 2) (omega arith, are.few) are.wide_a are.wide_b)
+    subst (FitsNodes ws (c.args.trial.rest + 2)) (sym c.in_ok-difference.ensures)
+    (difference-fits ws a b (c.args.trial.rest + 2) (omega arith, are.few) are.wide_a are.wide_b)
 
 pub cells-requires-2-clause-fits : goal.cells-requires-2-clause-fits
 cells-requires-2-clause-fits c =
     let net = c.args.net.now in
-    let rest = c.args.rest in
-    let one : c.cells.new.self ≡ with_difference rest net c.args.a c.args.b =
+    let rest = c.args.trial.rest in
+    let a = c.args.trial.minuend in
+    let b = c.args.trial.subtrahend in
+    let one : c.cells.new.self ≡ with_difference rest net a b =
     c.in_ok-difference-2.ensures.ok ∙ ap (λ (e : Tree). with_last net (node.Cells class.Add (rest + 2) e)) c.in_ok-difference.ensures in
     let place : length net.nodes ≡ c.in_ok-difference-2.difference = sym c.in_ok-difference-2.ensures.place in
     let fits =
-    not_negative-fits (widths (with_difference rest net c.args.a c.args.b).nodes) rest (length net.nodes)
-    (one-width rest net c.args.a c.args.b c.requires.net c.requires.operands) in
+    not_negative-fits (widths (with_difference rest net a b).nodes) rest (length net.nodes)
+    (one-width rest net a b c.requires.net c.requires.operands) in
     subst (FitsNodes (widths c.cells.new.self.nodes) 1) (sym c.in_ok-not_negative.ensures)
     (subst (λ (n : ℕ). FitsNodes (widths c.cells.new.self.nodes) 1 (is_not_negative rest n)) place
     (subst (λ (n : Net). FitsNodes (widths n.nodes) 1 (is_not_negative rest (length net.nodes))) (sym one) fits))
@@ -35,21 +39,23 @@ cells-requires-2-clause-fits c =
 pub choice-requires-clause-fits : goal.choice-requires-clause-fits
 choice-requires-clause-fits c =
     let net = c.args.net.now in
-    let rest = c.args.rest in
-    let one : c.cells.new.self ≡ with_difference rest net c.args.a c.args.b =
+    let rest = c.args.trial.rest in
+    let a = c.args.trial.minuend in
+    let b = c.args.trial.subtrahend in
+    let one : c.cells.new.self ≡ with_difference rest net a b =
     c.in_ok-difference-2.ensures.ok ∙ ap (λ (e : Tree). with_last net (node.Cells class.Add (rest + 2) e)) c.in_ok-difference.ensures in
     let place : c.in_ok-difference-2.difference ≡ length net.nodes = c.in_ok-difference-2.ensures.place in
-    let two : c.cells-2.new.self ≡ with_digit rest net c.args.a c.args.b =
+    let two : c.cells-2.new.self ≡ with_digit rest net a b =
     c.in_ok-digit.ensures.ok
     ∙ ap (λ (e : Tree). with_last c.cells.new.self (node.Cells class.Logic 1 e))
     (c.in_ok-not_negative.ensures ∙ ap (is_not_negative rest) place)
     ∙ ap (λ (n : Net). with_last n (node.Cells class.Logic 1 (is_not_negative rest (length net.nodes)))) one in
-    let place_q = digit_place rest net c.args.a c.args.b in
+    let place_q = digit_place rest net a b in
     let digit : c.in_ok-digit.digit ≡ place_q =
     c.in_ok-digit.ensures.place ∙ ap (λ (n : Net). length n.nodes) one in
     let first : c.lowest.result ≡ lowest rest (length net.nodes) = c.lowest.ensures ∙ ap (lowest rest) place in
-    let fits = choice-fits rest net c.args.a c.args.b c.requires.net c.requires.operands in
+    let fits = choice-fits rest net a b c.requires.net c.requires.operands in
     subst (FitsChoice (widths c.cells-2.new.self.nodes) c.in_ok-digit.digit c.lowest.result) (sym c.lowest-then-keep.ensures)
-    (subst (λ (s : Slice). FitsChoice (widths c.cells-2.new.self.nodes) c.in_ok-digit.digit s (lowest rest c.args.a)) (sym first)
-    (subst (λ (q : ℕ). FitsChoice (widths c.cells-2.new.self.nodes) q (lowest rest (length net.nodes)) (lowest rest c.args.a)) (sym digit)
-    (subst (λ (n : Net). FitsChoice (widths n.nodes) place_q (lowest rest (length net.nodes)) (lowest rest c.args.a)) (sym two) fits)))
+    (subst (λ (s : Slice). FitsChoice (widths c.cells-2.new.self.nodes) c.in_ok-digit.digit s (lowest rest a)) (sym first)
+    (subst (λ (q : ℕ). FitsChoice (widths c.cells-2.new.self.nodes) q (lowest rest (length net.nodes)) (lowest rest a)) (sym digit)
+    (subst (λ (n : Net). FitsChoice (widths n.nodes) place_q (lowest rest (length net.nodes)) (lowest rest a)) (sym two) fits)))

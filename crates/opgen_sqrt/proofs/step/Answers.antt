@@ -33,12 +33,12 @@ pub word-requires-2-clause-there : goal.word-requires-2-clause-there
 word-requires-2-clause-there c =
     let net = c.args.net.now in
     let digits = c.args.digits.now in
-    let given : List WordBit = raised digits.rest c.args.high c.args.low in
+    let given : List WordBit = raised digits.rest c.args.pair.high c.args.pair.low in
     let bits : c.as_slice-2.result.now ≡ given = search rules in
     let more : c.as_slice-4.result.now ≡ taken digits.known = search rules in
     let after : c.word.new.self ≡ (with_bits net given).net =
     c.in_ok-a.ensures.ok ∙ ap (λ (bs : List WordBit). (with_bits net bs).net) bits in
-    let long = raised-length digits.rest c.args.high c.args.low c.args.rest c.requires.rest in
+    let long = raised-length digits.rest c.args.pair.high c.args.pair.low c.args.rest c.requires.rest in
     subst (All (IsThere (widths c.word.new.self.nodes))) (sym more)
     (subst (λ (n : Net). All (IsThere (widths n.nodes)) (taken digits.known)) (sym after)
     (digits-there net given digits.known c.args.rest c.requires.net c.requires.few long c.requires.there c.requires.digits))
@@ -48,11 +48,11 @@ try_digit-requires-clause-operands c =
     let net = c.args.net.now in
     let rest = c.args.rest in
     let digits = c.args.digits.now in
-    let given : List WordBit = raised digits.rest c.args.high c.args.low in
+    let given : List WordBit = raised digits.rest c.args.pair.high c.args.pair.low in
     let less : List WordBit = taken digits.known in
     let bits : c.as_slice-2.result.now ≡ given = search rules in
     let more : c.as_slice-4.result.now ≡ less = search rules in
-    let long = raised-length digits.rest c.args.high c.args.low rest c.requires.rest in
+    let long = raised-length digits.rest c.args.pair.high c.args.pair.low rest c.requires.rest in
     let same : length less ≡ rest + 2 = omega (arith, length-append digits.known (Zero ∷ One ∷ []), c.requires.known) in
     let some : 1 ≤ rest = omega (arith, c.requires.some) in
     let first : Net = (with_bits net given).net in

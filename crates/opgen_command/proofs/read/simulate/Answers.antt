@@ -1,24 +1,20 @@
-use Rattle.std.proofs.Common.{rules, ◌∙◌}
 use Rattle.clap.specs.Words.{found_of, rows_of}
-use Rattle.opgen_command.proofs.Meaning.{meaning, passed, simulate, no_vectors, no_out}
+use Rattle.opgen_command.proofs.Meaning.{passed, simulate, no_vectors, no_out}
 use Rattle.opgen_command.proofs.read.simulate.Goals as goal
 
-pub returns-in_err-text-2 : goal.returns-in_err-text-2
-returns-in_err-text-2 c =
-    let rows = rows_of (found_of c.in_ok-found.found) in
-    passed _ _ _ c.from_residual-in_err-text-2.ensures.1 (λ usage. meaning _ _ _ _ rows c.in_ok-simulate.ensures c.in_ok-found.ensures.found
-    ∙ no_vectors rows _ c.in_ok-text.ensures.text (c.in_err-text-2.ensures.usage usage))
+pub returns-in_err-vectors : goal.returns-in_err-vectors
+returns-in_err-vectors c =
+    let rows = rows_of (found_of c.args.found.now) in
+    passed _ _ _ c.from_residual-in_err-vectors.ensures.1
+    (λ usage. no_vectors rows _ c.in_ok-vhdl.ensures.text (c.in_err-vectors.ensures.usage usage))
 
-pub returns-in_err-text-3 : goal.returns-in_err-text-3
-returns-in_err-text-3 c =
-    let rows = rows_of (found_of c.in_ok-found.found) in
-    passed _ _ _ c.from_residual-in_err-text-3.ensures.1 (λ usage. meaning _ _ _ _ rows c.in_ok-simulate.ensures c.in_ok-found.ensures.found
-    ∙ no_out rows _ _ c.in_ok-text.ensures.text c.in_ok-text-2.ensures.text (c.in_err-text-3.ensures.usage usage))
+pub returns-in_err-out : goal.returns-in_err-out
+returns-in_err-out c =
+    let rows = rows_of (found_of c.args.found.now) in
+    passed _ _ _ c.from_residual-in_err-out.ensures.1
+    (λ usage. no_out rows _ _ c.in_ok-vhdl.ensures.text c.in_ok-vectors.ensures.text (c.in_err-out.ensures.usage usage))
 
 pub returns : goal.returns
 returns c =
-    let rows = rows_of (found_of c.in_ok-found.found) in (
-      meaning _ _ _ _ rows c.in_ok-simulate.ensures c.in_ok-found.ensures.found
-          ∙ simulate rows _ _ _ c.in_ok-text.ensures.text c.in_ok-text-2.ensures.text c.in_ok-text-3.ensures.text,
-      search rules,
-    )
+    let rows = rows_of (found_of c.args.found.now) in
+    (simulate rows _ _ _ c.in_ok-vhdl.ensures.text c.in_ok-vectors.ensures.text c.in_ok-out.ensures.text, tt)

@@ -1,5 +1,5 @@
-use Rattle.std.proofs.Common.{[], ◌∷◌, ◌/◌, ◌+◌, sym, subst, arith}
-use Rattle.opgen_compress.proofs.Heights.{Rising, one_height, all_heights, height-above}
+use Rattle.std.proofs.Common.{◌/◌, ◌+◌, sym, subst, arith}
+use Rattle.opgen_compress.proofs.Heights.{Rising, one_height, all_heights}
 use Rattle.opgen_compress.proofs.passes.heights.Goals as goal
 
 pub rising-preserved : goal.rising-preserved

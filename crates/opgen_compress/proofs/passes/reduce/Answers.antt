@@ -1,4 +1,4 @@
-use Rattle.std.proofs.Common.{◌≡◌, ◌-◌, sym, ap, ◌∙◌, arith, rules}
+use Rattle.std.proofs.Common.{◌≡◌, ◌-◌, sym, ap, ◌∙◌, arith}
 use Rattle.opgen_compress.specs.Adder.{Work, full_adder}
 use Rattle.opgen_compress.specs.Recipe.{reduced}
 use Rattle.opgen_compress.proofs.Reduced.{reduced-next}

@@ -1,6 +1,4 @@
-use Rattle.std.proofs.Common.{◌≡◌, ◌<◌, ◌≤◌, ◌^◌, [], length, sym, ap, ◌∙◌, subst, arith, rules}
-use Rattle.std.specs.Prelude.{slice_index}
-use Rattle.opgen_net.specs.Valid.{widths}
+use Rattle.std.proofs.Common.{◌≡◌, ◌≤◌, [], sym, ◌∙◌, subst, rules}
 use Rattle.opgen_net.proofs.Grown.{grown-then, grown-flow}
 use Rattle.opgen_compress.specs.Recipe.{State, all_columns, fullest, lowered}
 use Rattle.opgen_heap.specs.Standing.{AllThere}

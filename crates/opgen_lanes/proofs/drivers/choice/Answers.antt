@@ -10,28 +10,28 @@ use Rattle.opgen_lanes.proofs.DriverWords.{chosen-in}
 use Rattle.opgen_lanes.proofs.drivers.choice.Goals as goal
 
 pub slice_bounds-choose-end : goal.slice_bounds-choose-end
-slice_bounds-choose-end c = within (widths_of c.args.signals.now) (widths_of c.args.ports.now) (plain c.args.yes.now) c.evaluate-width.result
+slice_bounds-choose-end c = within (widths_of c.args.banks.now.signals) (widths_of c.args.banks.now.ports) (plain c.args.yes.now) c.evaluate-width.result
     c.evaluate-width.new.out c.evaluate-width.ensures.width (omega (arith, c.requires.room, c.evaluate.auto.out, c.evaluate-width.auto.out))
 
 pub slice_bounds-choose-end-2 : goal.slice_bounds-choose-end-2
-slice_bounds-choose-end-2 c = sym (length-take-le c.evaluate-width.result c.evaluate-width.new.out (within (widths_of c.args.signals.now) (widths_of c.args.ports.now) (plain c.args.yes.now) c.evaluate-width.result
+slice_bounds-choose-end-2 c = sym (length-take-le c.evaluate-width.result c.evaluate-width.new.out (within (widths_of c.args.banks.now.signals) (widths_of c.args.banks.now.ports) (plain c.args.yes.now) c.evaluate-width.result
     c.evaluate-width.new.out c.evaluate-width.ensures.width (omega (arith, c.requires.room, c.evaluate.auto.out, c.evaluate-width.auto.out))))
 
 pub choose-requires : goal.choose-requires
 choose-requires c =
-    let l = within (widths_of c.args.signals.now) (widths_of c.args.ports.now) (plain c.args.yes.now) c.evaluate-width.result
+    let l = within (widths_of c.args.banks.now.signals) (widths_of c.args.banks.now.ports) (plain c.args.yes.now) c.evaluate-width.result
     c.evaluate-width.new.out c.evaluate-width.ensures.width (omega (arith, c.requires.room, c.evaluate.auto.out, c.evaluate-width.auto.out)) in
     length-take-le c.evaluate-width.result c.evaluate-width.new.out l
     ∙ same-width (sym c.evaluate-width.ensures.width ∙ sym c.requires.no ∙ c.lend-no.ensures.width)
 
 pub returns : goal.returns
 returns c = λ k h.
-    let v = scope (stream_words c.args.signals.now c.args.ports.now k) in
+    let v = scope (stream_words c.args.banks.now.signals c.args.banks.now.ports k) in
     let w = c.evaluate-width.result in
     let out = c.evaluate-width.new.out in
     let first = c.evaluate.new.out in
     let bit = bit_in (get_or first 0 []) k in
-    let l = within (widths_of c.args.signals.now) (widths_of c.args.ports.now) (plain c.args.yes.now) c.evaluate-width.result
+    let l = within (widths_of c.args.banks.now.signals) (widths_of c.args.banks.now.ports) (plain c.args.yes.now) c.evaluate-width.result
     c.evaluate-width.new.out c.evaluate-width.ensures.width (omega (arith, c.requires.room, c.evaluate.auto.out, c.evaluate-width.auto.out)) in
     let n : length c.choose.new.first ≡ w = omega (arith, c.choose.auto.first, length-take-le w out l) in
     let one : c.evaluate.result ≡ 1 = same-width (sym c.evaluate.ensures.width ∙ c.requires.on) in

@@ -7,14 +7,14 @@ use Rattle.opgen_lanes.proofs.DriverWords.{there-at, target-narrow, driven-word}
 use Rattle.opgen_lanes.proofs.drivers.put.Goals as goal
 
 pub put_at-requires-clause-there : goal.put_at-requires-clause-there
-put_at-requires-clause-there c = there-at c.args.design.now c.args.signals.now c.args.ports.now c.requires.banks c.requires.sound
+put_at-requires-clause-there c = there-at c.args.design.now c.args.banks.now.signals c.args.banks.now.ports c.requires.banks c.requires.sound
     c.args.place c.get.result.now c.get.ensures
 
 pub put_at-requires-clause-room : goal.put_at-requires-clause-room
 put_at-requires-clause-room c =
     let d = c.args.design.now in
-    let s = c.args.signals.now in
-    let p = c.args.ports.now in
+    let s = c.args.banks.now.signals in
+    let p = c.args.banks.now.ports in
     let k = c.get.result.now in
     let n = target-narrow d s p c.requires.banks c.requires.sound k
     (there-at d s p c.requires.banks c.requires.sound c.args.place k c.get.ensures)
@@ -24,8 +24,8 @@ put_at-requires-clause-room c =
 pub returns-clause-words : goal.returns-clause-words
 returns-clause-words c = λ k h.
     let d = c.args.design.now in
-    let s = c.args.signals.now in
-    let p = c.args.ports.now in
+    let s = c.args.banks.now.signals in
+    let p = c.args.banks.now.ports in
     let m = c.get.result.now in
     let v = stream_words s p k in
     let e = driven-word d s p c.requires.banks c.requires.sound m (agree-at d c.requires.sound c.args.place m c.get.ensures)

@@ -11,7 +11,7 @@ pub look_up-requires-clause-addresses : goal.look_up-requires-clause-addresses
 look_up-requires-clause-addresses c = λ k d l. same-width (sym (c.requires.addresses k d l) ∙ c.lend-address.ensures.width)
 
 pub look_up-requires-clause-narrow_address : goal.look_up-requires-clause-narrow_address
-look_up-requires-clause-narrow_address c = narrow-of (widths_of c.args.signals.now) (widths_of c.args.ports.now) (plain c.args.on.now)
+look_up-requires-clause-narrow_address c = narrow-of (widths_of c.args.banks.now.signals) (widths_of c.args.banks.now.ports) (plain c.args.on.now)
     (length c.lend-address.result.now) c.lend-address.ensures.width
 
 pub returns : goal.returns

@@ -12,7 +12,7 @@ loop-place-preserved c =
     let n : i + 1 ≡ suc i = omega arith in
     record {
       same = λ k h.
-          let v = stream_words c.args.signals.now c.args.ports.now k in
+          let v = stream_words c.args.banks.now.signals c.args.banks.now.ports k in
           ap (λ j. hand_all_on d.enable (drop j d.drivers) v (words_at c.hand_on.new.next k)) n
           ∙ handed-one d.enable d.drivers i v (words_at c.loop-place.next k) (words_at c.hand_on.new.next k) l
           (λ m e. c.hand_on.ensures.words m e k h)

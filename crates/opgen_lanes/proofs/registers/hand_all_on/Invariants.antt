@@ -8,7 +8,7 @@ use Rattle.opgen_lanes.proofs.registers.hand_all_on.Given as goal
 abbrev pub invariant-loop-place : goal.invariant-loop-place
 invariant-loop-place l = record {
   same : (k : ℕ) → k < streams
-      → hand_all_on l.design.enable (drop l.place l.design.drivers) (stream_words l.signals l.ports k) (words_at l.next k)
-      ≡ hand_all_on l.design.enable l.design.drivers (stream_words l.signals l.ports k) (words_at l.initial.next k);
-  next : AreBanksOf l.design l.next l.ports;
+      → hand_all_on l.design.enable (drop l.place l.design.drivers) (stream_words l.banks.signals l.banks.ports k) (words_at l.next k)
+      ≡ hand_all_on l.design.enable l.design.drivers (stream_words l.banks.signals l.banks.ports k) (words_at l.initial.next k);
+  next : AreBanksOf l.design l.next l.banks.ports;
 }

@@ -19,35 +19,35 @@ pub evaluate-width-requires-clause-fits : goal.evaluate-width-requires-clause-fi
 evaluate-width-requires-clause-fits c =
     let d = c.args.design.now in
     let a = subst (WidthsAgree d) c.in-Register.is (agree-at d c.requires.sound c.args.place c.get.result.now c.get.ensures) in
-    fits-width d c.args.signals.now c.args.ports.now c.requires.banks (plain c.expr.result.now) c.in-Register.expr
+    fits-width d c.args.banks.now.signals c.args.banks.now.ports c.requires.banks (plain c.expr.result.now) c.in-Register.expr
     (get_or (signal_widths d) c.in-Register.to 0) c.expr.ensures a
 
 pub slice_bounds-moved-end : goal.slice_bounds-moved-end
-slice_bounds-moved-end c = within (widths_of c.args.signals.now) (widths_of c.args.ports.now) (plain c.expr.result.now) c.evaluate-width.result
+slice_bounds-moved-end c = within (widths_of c.args.banks.now.signals) (widths_of c.args.banks.now.ports) (plain c.expr.result.now) c.evaluate-width.result
     c.evaluate-width.new.out c.evaluate-width.ensures.width (omega (arith, c.evaluate-width.auto.out, c.requires.room))
 
 pub slice_bounds-moved-end-in-Register : goal.slice_bounds-moved-end-in-Register
 slice_bounds-moved-end-in-Register c = sym (length-take-le c.evaluate-width.result c.evaluate-width.new.out
-    (within (widths_of c.args.signals.now) (widths_of c.args.ports.now) (plain c.expr.result.now) c.evaluate-width.result
+    (within (widths_of c.args.banks.now.signals) (widths_of c.args.banks.now.ports) (plain c.expr.result.now) c.evaluate-width.result
     c.evaluate-width.new.out c.evaluate-width.ensures.width (omega (arith, c.evaluate-width.auto.out, c.requires.room))))
 
 pub moved-requires-clause-enable : goal.moved-requires-clause-enable
-moved-requires-clause-enable c = enable-place c.args.design.now c.requires.sound c.args.signals.now c.args.ports.now c.requires.banks
+moved-requires-clause-enable c = enable-place c.args.design.now c.requires.sound c.args.banks.now.signals c.args.banks.now.ports c.requires.banks
 
 pub moved-requires-clause-one_bit : goal.moved-requires-clause-one_bit
-moved-requires-clause-one_bit c = enable-bit c.args.design.now c.requires.sound c.args.signals.now c.args.ports.now c.requires.banks
+moved-requires-clause-one_bit c = enable-bit c.args.design.now c.requires.sound c.args.banks.now.signals c.args.banks.now.ports c.requires.banks
 
 pub moved-requires-clause-to : goal.moved-requires-clause-to
-moved-requires-clause-to c = signal-there c.args.signals.now c.args.ports.now (target c.get.result.now) c.in-Register.to
+moved-requires-clause-to c = signal-there c.args.banks.now.signals c.args.banks.now.ports (target c.get.result.now) c.in-Register.to
     (ap target c.in-Register.is)
-    (there-at c.args.design.now c.args.signals.now c.args.ports.now c.requires.banks c.requires.sound c.args.place c.get.result.now
+    (there-at c.args.design.now c.args.banks.now.signals c.args.banks.now.ports c.requires.banks c.requires.sound c.args.place c.get.result.now
     c.get.ensures)
 
 pub moved-requires-clause-width : goal.moved-requires-clause-width
 moved-requires-clause-width c =
     let d = c.args.design.now in
-    let s = c.args.signals.now in
-    let p = c.args.ports.now in
+    let s = c.args.banks.now.signals in
+    let p = c.args.banks.now.ports in
     let e = plain c.expr.result.now in
     let w = c.evaluate-width.result in
     let a = subst (WidthsAgree d) c.in-Register.is (agree-at d c.requires.sound c.args.place c.get.result.now c.get.ensures) in
@@ -58,23 +58,23 @@ moved-requires-clause-width c =
     ∙ n ∙ ap (λ ws. get_or ws c.in-Register.to 0) (sym c.requires.banks.signal_widths)
 
 pub store-requires-clause-at : goal.store-requires-clause-at
-store-requires-clause-at c = signal-there c.args.next.now c.args.ports.now (target c.get.result.now) c.in-Register.to
+store-requires-clause-at c = signal-there c.args.next.now c.args.banks.now.ports (target c.get.result.now) c.in-Register.to
     (ap target c.in-Register.is)
-    (there-at c.args.design.now c.args.next.now c.args.ports.now c.requires.next c.requires.sound c.args.place c.get.result.now
+    (there-at c.args.design.now c.args.next.now c.args.banks.now.ports c.requires.next c.requires.sound c.args.place c.get.result.now
     c.get.ensures)
 
 pub store-requires-clause-room : goal.store-requires-clause-room
 store-requires-clause-room c =
     let d = c.args.design.now in
     let s = c.args.next.now in
-    let p = c.args.ports.now in
+    let p = c.args.banks.now.ports in
     let k = c.get.result.now in
     let w = c.evaluate-width.result in
     let out = c.evaluate-width.new.out in
     let n = target-narrow d s p c.requires.next c.requires.sound k (there-at d s p c.requires.next c.requires.sound c.args.place k c.get.ensures)
     (agree-at d c.requires.sound c.args.place k c.get.ensures) in
     let m = subst (λ k. width_at s p (target k) ≤ 96) c.in-Register.is n in
-    let l = within (widths_of c.args.signals.now) (widths_of p) (plain c.expr.result.now) w out c.evaluate-width.ensures.width
+    let l = within (widths_of c.args.banks.now.signals) (widths_of p) (plain c.expr.result.now) w out c.evaluate-width.ensures.width
     (omega (arith, c.evaluate-width.auto.out, c.requires.room)) in
     omega (
       arith,
@@ -91,8 +91,8 @@ store-requires-clause-room c =
 pub returns-in-Register-clause-words : goal.returns-in-Register-clause-words
 returns-in-Register-clause-words c = λ driver g k h.
     let d = c.args.design.now in
-    let s = c.args.signals.now in
-    let p = c.args.ports.now in
+    let s = c.args.banks.now.signals in
+    let p = c.args.banks.now.ports in
     let to = c.in-Register.to in
     let e = plain c.expr.result.now in
     let w = c.evaluate-width.result in

@@ -5,6 +5,7 @@ use Rattle.std.proofs.lemmas.Option.{slice_get-get_or}
 use Rattle.std.proofs.lemmas.Slice.Zip.{AllZip-long}
 use Rattle.opgen_design.specs.declared.design.Driver.{Driver}
 use Rattle.opgen_design.specs.Sound.{target}
+use Rattle.opgen_machine.specs.Layout.{spots_of}
 use Rattle.opgen_machine.specs.Programs.{Spots}
 use Rattle.opgen_machine.specs.Laid.{HasRoom}
 use Rattle.opgen_machine.specs.Settles.{Agrees, IsThere, Settles}
@@ -20,6 +21,9 @@ at-place : (ks : List Driver) (order : List ℕ) (p : ℕ) (k : Driver) → p < 
     → slice_get ks (get_or order p 0) ≡ Some k
 at-place ks order p k l h e = slice_get-get_or ks (get_or order p 0) k (in-list ks order p l h) ∙ ap Some (sym e)
 
+pub bounds-drivers-place : goal.bounds-drivers-place
+bounds-drivers-place c = in-list c.args.drivers.now c.args.order.now c.loop-place.place-index c.loop-place-test.true c.requires.places
+
 pub bounds-tables-place : goal.bounds-tables-place
 bounds-tables-place c =
     let l = in-list c.args.drivers.now c.args.order.now c.loop-place.place-index c.loop-place-test.true c.requires.places in
@@ -27,7 +31,7 @@ bounds-tables-place c =
 
 pub loop-place-init : goal.loop-place-init
 loop-place-init c = λ low. settles-none low c.args.base c.args.drivers.now c.args.tables.now
-    (record { signals = c.args.signals.now; ports = c.args.ports.now }) c.args.steps.now.items c.requires.first c.requires.spots
+    (spots_of c.args.spots.now) c.args.steps.now.items c.requires.first c.requires.spots
 
 pub put-requires-clause-spots : goal.put-requires-clause-spots
 put-requires-clause-spots c = (c.loop-place.invariant 0).are
@@ -37,8 +41,8 @@ put-requires-clause-fine c = (c.loop-place.invariant 0).fine
 
 pub put-requires-clause-agrees : goal.put-requires-clause-agrees
 put-requires-clause-agrees c =
-    let first : Spots = record { signals = c.args.signals.now; ports = c.args.ports.now } in
-    let spots : Spots = record { signals = c.loop-place.signals; ports = c.loop-place.ports } in
+    let first : Spots = spots_of c.args.spots.now in
+    let spots : Spots = spots_of c.loop-place.spots in
     let ks = c.args.drivers.now in
     let i = get_or c.args.order.now c.loop-place.place-index 0 in
     let k = c.index-drivers-place.result in
@@ -48,8 +52,8 @@ put-requires-clause-agrees c =
 
 pub put-requires-clause-there : goal.put-requires-clause-there
 put-requires-clause-there c =
-    let first : Spots = record { signals = c.args.signals.now; ports = c.args.ports.now } in
-    let spots : Spots = record { signals = c.loop-place.signals; ports = c.loop-place.ports } in
+    let first : Spots = spots_of c.args.spots.now in
+    let spots : Spots = spots_of c.loop-place.spots in
     let ks = c.args.drivers.now in
     let i = get_or c.args.order.now c.loop-place.place-index 0 in
     let k = c.index-drivers-place.result in
@@ -68,9 +72,9 @@ put-requires-clause-room c =
 
 pub loop-place-preserved : goal.loop-place-preserved
 loop-place-preserved c =
-    let first : Spots = record { signals = c.args.signals.now; ports = c.args.ports.now } in
-    let spots : Spots = record { signals = c.loop-place.signals; ports = c.loop-place.ports } in
-    let later : Spots = record { signals = c.put.new.signals; ports = c.put.new.ports } in
+    let first : Spots = spots_of c.args.spots.now in
+    let spots : Spots = spots_of c.loop-place.spots in
+    let later : Spots = spots_of c.put.new.spots in
     let ks = c.args.drivers.now in
     let order = c.args.order.now in
     let p = c.loop-place.place-index in
@@ -89,8 +93,8 @@ loop-place-preserved c =
 
 pub returns : goal.returns
 returns c =
-    let first : Spots = record { signals = c.args.signals.now; ports = c.args.ports.now } in
-    let spots : Spots = record { signals = c.loop-place.signals; ports = c.loop-place.ports } in
+    let first : Spots = spots_of c.args.spots.now in
+    let spots : Spots = spots_of c.loop-place.spots in
     let order = c.args.order.now in
     let p = c.loop-place.place-index in
     let l : length order ≤ p = omega (arith, c.loop-place-test.false) in

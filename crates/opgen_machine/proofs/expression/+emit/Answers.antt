@@ -1,15 +1,19 @@
-use Rattle.std.proofs.Common.{◌≡◌, ◌+◌, ◌-◌, ◌^◌, ◌≤◌, ℕ, [], ◌∷◌, ◌++◌, length, take, drop, Some, refl, sym, ap, ◌∙◌, subst, arith, rules}
+use Rattle.std.proofs.Common.{◌≡◌, ◌+◌, ◌-◌, ◌^◌, ◌≤◌, ℕ, [], ◌∷◌, ◌++◌, length, take, drop, Some, refl, sym, ap, ◌∙◌, subst, arith, rules, List, Result}
+use Rattle.std.specs.Prelude.{IfOk, IsSome}
 use Rattle.std.proofs.Math.ListN.{drop_of_length-le}
-use Rattle.opgen_design.specs.Tree.{Tree, inverse, more}
+use Rattle.opgen_design.specs.Tree.{Tree, bits, inverse, more, name, part, port}
 use Rattle.opgen_design.specs.Plain.{plain, plain_all}
 use Rattle.opgen_design.specs.Width.{chain_width}
 use Rattle.opgen_design.proofs.WidthLaws.{width-is_width}
-use Rattle.opgen_runs.proofs.Plain.{plain-not, more-at, first-and-rest}
+use Rattle.opgen_runs.proofs.Plain.{plain-bits, plain-name, plain-not, plain-part, plain-port, more-at, first-and-rest}
+use Rattle.opgen_machine.specs.Layout.{spots_of}
+use Rattle.opgen_machine.specs.declared.step.Step.{Step}
 use Rattle.opgen_machine.specs.declared.step.Step.TheVariants.{Turn}
+use Rattle.opgen_machine.specs.declared.step.Spot.{Spot}
 use Rattle.opgen_machine.specs.Programs.{Spots, widths_of}
 use Rattle.opgen_machine.specs.Emit.{Emitted, Chained, IsNarrow, width_over}
 use Rattle.opgen_machine.proofs.Emitted.{emitted-not, chained-first, chained-more, chained-last}
-use Rattle.opgen_machine.proofs.Gives.{spots-more, longer}
+use Rattle.opgen_machine.proofs.Gives.{spots-along, there-along}
 use Rattle.opgen_machine.proofs.Narrow.{narrow-of, narrow-some, chain-first, chain-rest, chain-join, joined-is_width}
 use Rattle.opgen_machine.proofs.Puts.{put-gives}
 use Rattle.opgen_machine.proofs.expression.+emit.Goals as goal
@@ -21,9 +25,58 @@ turned-narrow spots t e w is h k =
     let same : n.0 ≡ w = cc in
     omega (arith, same, n.2)
 
+as-some : (spots : Spots) (t e : Tree) → t ≡ e → IsNarrow (width_over spots t) → IsSome (width_over spots e)
+as-some spots t e is h = narrow-some (width_over spots e) (subst (λ x. IsNarrow (width_over spots x)) is h)
+
+as-plain : (base : ℕ) (spots : Spots) (t e : Tree) (old new : List Step) {E : Type 0} (r : Result Spot E) → t ≡ e
+    → IfOk r (λ s. Emitted base spots e old new s) → IfOk r (λ s. Emitted base spots t old new s)
+as-plain base spots t e old new r is h = subst (λ x. IfOk r (λ s. Emitted base spots x old new s)) (sym is) h
+
+pub emit-name-requires-clause-fits : goal.emit-name-requires-clause-fits
+emit-name-requires-clause-fits t c = as-some (spots_of c.args.spots.now) (plain c.args.expr.now) (name c.in-Name.node)
+    (ap plain c.in-Name.is ∙ plain-name c.in-Name.node) c.requires.fits
+
+pub emit-returns-in-Name : goal.emit-returns-in-Name
+emit-returns-in-Name t c =
+    let old = c.args.steps.now.items in
+    subst (λ x. Emitted c.args.base (spots_of c.args.spots.now) x old old c.name.result)
+    (sym (ap plain c.in-Name.is ∙ plain-name c.in-Name.node)) c.name.ensures
+
+pub emit-port-requires-clause-fits : goal.emit-port-requires-clause-fits
+emit-port-requires-clause-fits t c = as-some (spots_of c.args.spots.now) (plain c.args.expr.now) (port c.in-Port.place)
+    (ap plain c.in-Port.is ∙ plain-port c.in-Port.place) c.requires.fits
+
+pub emit-returns-in-Port : goal.emit-returns-in-Port
+emit-returns-in-Port t c =
+    let old = c.args.steps.now.items in
+    subst (λ x. Emitted c.args.base (spots_of c.args.spots.now) x old old c.port.result)
+    (sym (ap plain c.in-Port.is ∙ plain-port c.in-Port.place)) c.port.ensures
+
+pub emit-emit_part-requires-clause-fits : goal.emit-emit_part-requires-clause-fits
+emit-emit_part-requires-clause-fits t c =
+    let s = c.in-Part.slice in
+    as-some (spots_of c.args.spots.now) (plain c.args.expr.now) (part s.node s.high s.low) (ap plain c.in-Part.is ∙ plain-part s)
+    c.requires.fits
+
+pub emit-returns-in-Part : goal.emit-returns-in-Part
+emit-returns-in-Part t c =
+    let s = c.in-Part.slice in
+    as-plain c.args.base (spots_of c.args.spots.now) (plain c.args.expr.now) (part s.node s.high s.low) c.args.steps.now.items
+    c.emit_part.new.steps.items c.emit_part.result (ap plain c.in-Part.is ∙ plain-part s) c.emit_part.ensures
+
+pub emit-constant-requires-clause-fits : goal.emit-constant-requires-clause-fits
+emit-constant-requires-clause-fits t c = subst (λ x. IsNarrow (width_over (spots_of c.args.spots.now) x))
+    (ap plain c.in-Bits.is ∙ plain-bits c.in-Bits.word) c.requires.fits
+
+pub emit-returns-in-Bits : goal.emit-returns-in-Bits
+emit-returns-in-Bits t c =
+    let w = c.in-Bits.word in
+    as-plain c.args.base (spots_of c.args.spots.now) (plain c.args.expr.now) (bits w) c.args.steps.now.items c.constant.new.steps.items
+    c.constant.result (ap plain c.in-Bits.is ∙ plain-bits w) c.constant.ensures
+
 pub emit-emit_not-requires-clause-width : goal.emit-emit_not-requires-clause-width
 emit-emit_not-requires-clause-width t c =
-    let spots : Spots = record { signals = c.args.signals.now; ports = c.args.ports.now } in
+    let spots : Spots = spots_of c.args.spots.now in
     turned-narrow spots (plain c.args.expr.now) (plain c.deref.result.now) c.in_ok-of-in-Not.of.width
     (ap (λ x. inverse (plain x)) c.deref.ensures ∙ sym (ap plain c.in-Not.is ∙ plain-not c.in-Not.operand)) c.requires.fits
     c.in_ok-of-in-Not.ensures.width
@@ -31,7 +84,7 @@ emit-emit_not-requires-clause-width t c =
 pub emit-returns-in_ok-of-in-Not : goal.emit-returns-in_ok-of-in-Not
 emit-returns-in_ok-of-in-Not t c =
     let base = c.args.base in
-    let spots : Spots = record { signals = c.args.signals.now; ports = c.args.ports.now } in
+    let spots : Spots = spots_of c.args.spots.now in
     let before = c.args.steps.now.items in
     let after = c.emit.new.steps.items in
     let of = c.in_ok-of-in-Not.of in
@@ -49,14 +102,14 @@ emit-returns-in_ok-of-in-Not t c =
 pub emit_chain-emit-requires : goal.emit_chain-emit-requires
 emit_chain-emit-requires t c =
     let xs = c.args.operands.now in
-    let narrow = chain-first (widths_of c.args.signals.now) (widths_of c.args.ports.now) c.args.op xs c.first-item.result
+    let narrow = chain-first (widths_of c.args.spots.now.signals.items) (widths_of c.args.spots.now.ports.items) c.args.op xs c.first-item.result
     c.in-len1-up.len_at_least c.first-item.is c.requires.fits in
     (search rules, (c.requires.base, (c.requires.spots, (c.requires.fine, narrow))))
 
 pub emit_chain-loop-operand-init : goal.emit_chain-loop-operand-init
 emit_chain-loop-operand-init t c =
     let base = c.args.base in
-    let spots : Spots = record { signals = c.args.signals.now; ports = c.args.ports.now } in
+    let spots : Spots = spots_of c.args.spots.now in
     let ns = widths_of spots.signals in
     let ps = widths_of spots.ports in
     let before = c.args.steps.now.items in
@@ -73,12 +126,20 @@ emit_chain-loop-operand-init t c =
     record {
       chained = subst (λ all. Chained base spots c.args.op all before after spot ts) (sym split) first;
       narrow = chain-rest ns ps c.args.op spot.width (take (length xs - 1) (drop 1 xs)) h;
+      are = spots-along base spots before after c.requires.spots c.in_ok-spot-in-len1-up.ensures.extends;
     }
+
+pub emit_chain-combine-requires-clause-fine : goal.emit_chain-combine-requires-clause-fine
+emit_chain-combine-requires-clause-fine t c = c.in_ok-second-in-len1-up.ensures.fine
+
+pub emit_chain-combine-requires-clause-first : goal.emit_chain-combine-requires-clause-first
+emit_chain-combine-requires-clause-first t c = there-along c.args.base c.loop-operand.spot.place c.loop-operand.steps.items
+    c.emit-in-loop-operand.new.steps.items c.in_ok-second-in-len1-up.ensures.extends c.loop-operand.invariant.chained.gives.there
 
 pub emit_chain-combine-requires-clause-joins : goal.emit_chain-combine-requires-clause-joins
 emit_chain-combine-requires-clause-joins t c =
-    let ns = widths_of c.args.signals.now in
-    let ps = widths_of c.args.ports.now in
+    let ns = widths_of c.args.spots.now.signals.items in
+    let ps = widths_of c.args.spots.now.ports.items in
     let op = c.args.op in
     let all = plain_all c.args.operands.now in
     let xs = take (length c.args.operands.now - 1) (drop 1 c.args.operands.now) in
@@ -88,13 +149,13 @@ emit_chain-combine-requires-clause-joins t c =
 
 pub emit_chain-combine-requires-clause-second_width : goal.emit_chain-combine-requires-clause-second_width
 emit_chain-combine-requires-clause-second_width t c =
-    width-is_width (widths_of c.args.signals.now) (widths_of c.args.ports.now) (plain c.operand-item.result)
+    width-is_width (widths_of c.args.spots.now.signals.items) (widths_of c.args.spots.now.ports.items) (plain c.operand-item.result)
     c.in_ok-second-in-len1-up.second.width c.in_ok-second-in-len1-up.ensures.width
 
 pub emit_chain-loop-operand-preserved : goal.emit_chain-loop-operand-preserved
 emit_chain-loop-operand-preserved t c =
     let base = c.args.base in
-    let spots : Spots = record { signals = c.args.signals.now; ports = c.args.ports.now } in
+    let spots : Spots = spots_of c.args.spots.now in
     let op = c.args.op in
     let before = c.args.steps.now.items in
     let mid = c.loop-operand.steps.items in
@@ -108,22 +169,24 @@ emit_chain-loop-operand-preserved t c =
     let ts = plain_all (drop (i + 1) xs) in
     let is = width-is_width (widths_of spots.signals) (widths_of spots.ports) (plain x) second.width
     c.in_ok-second-in-len1-up.ensures.width in
+    let two = c.emit-in-loop-operand.new.steps.items in
+    let are = spots-along base spots mid two c.loop-operand.invariant.are c.in_ok-second-in-len1-up.ensures.extends in
+    let together = c.in_ok-spot-in-len1-up-2.ensures spots are in
     record {
-      chained = chained-more base spots op before all mid c.emit-in-loop-operand.new.steps.items c.combine.new.steps.items acc second last
+      chained = chained-more base spots op before all mid two c.combine.new.steps.items acc second last
           (plain x) ts
-          (spots-more (base + length before) (base + length mid) spots
-          (omega (arith, longer before mid c.loop-operand.invariant.chained.extends)) c.requires.spots)
+          c.loop-operand.invariant.are
           (subst (Chained base spots op all before mid acc) (more-at xs i x c.loop-operand-test.true c.operand-item.is)
           c.loop-operand.invariant.chained)
-          c.in_ok-second-in-len1-up.ensures c.in_ok-spot-in-len1-up-2.ensures
-          (joined-is_width op acc.width second.width last.width c.loop-operand.invariant.chained.is_width is
-          c.in_ok-spot-in-len1-up-2.ensures.width);
+          c.in_ok-second-in-len1-up.ensures together
+          (joined-is_width op acc.width second.width last.width c.loop-operand.invariant.chained.is_width is together.width);
       narrow = c.loop-operand.invariant.narrow;
+      are = spots-along base spots two c.combine.new.steps.items are together.extends;
     }
 
 pub emit_chain-returns : goal.emit_chain-returns
 emit_chain-returns t c =
-    let spots : Spots = record { signals = c.args.signals.now; ports = c.args.ports.now } in
+    let spots : Spots = spots_of c.args.spots.now in
     let xs = take (length c.args.operands.now - 1) (drop 1 c.args.operands.now) in
     let i = c.loop-operand.operand-index in
     let l : length xs ≤ i = omega (arith, c.loop-operand-test.false) in

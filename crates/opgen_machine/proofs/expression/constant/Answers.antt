@@ -1,6 +1,7 @@
 use Rattle.std.proofs.Common.{◌+◌, length, ap}
 use Rattle.opgen_num.specs.Words.{nat}
 use Rattle.opgen_design.specs.Tree.{bits}
+use Rattle.opgen_machine.specs.Layout.{spots_of}
 use Rattle.opgen_machine.specs.declared.step.Step.TheVariants.{Constant}
 use Rattle.opgen_machine.specs.Programs.{Spots}
 use Rattle.opgen_machine.specs.Emit.{Emitted, width_over}
@@ -12,7 +13,7 @@ use Rattle.opgen_machine.proofs.expression.constant.Goals as goal
 pub returns : goal.returns
 returns c =
     let base = c.args.base in
-    let spots : Spots = record { signals = c.args.signals.now; ports = c.args.ports.now } in
+    let spots : Spots = spots_of c.args.spots.now in
     let old = c.args.steps.now.items in
     let x = c.args.word in
     put-gives c.put.result (Emitted base spots (bits x) old) old c.put.new.steps.items (Constant c.bits.result) (Constant (nat x))

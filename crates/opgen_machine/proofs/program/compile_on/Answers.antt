@@ -7,7 +7,7 @@ use Rattle.opgen_design.specs.Sound.{signal_widths, target}
 use Rattle.opgen_machine.specs.declared.step.Spot.{Spot}
 use Rattle.opgen_machine.specs.Programs.{AreSpots, Spots, widths_of}
 use Rattle.opgen_machine.specs.declared.program.Program.{Program}
-use Rattle.opgen_machine.specs.Layout.{first_spots, rest_of}
+use Rattle.opgen_machine.specs.Layout.{first_spots, rest_of, spots_of}
 use Rattle.opgen_machine.specs.Moves.{HandsOn}
 use Rattle.opgen_machine.specs.Settles.{Agrees, IsThere, Settles}
 use Rattle.opgen_machine.proofs.Compiled.{all-agree, all-there, in-drivers, program-of}
@@ -15,13 +15,10 @@ use Rattle.opgen_machine.proofs.First.{are-first, enable-first, first-ports, fir
 use Rattle.opgen_machine.proofs.Settling.{agrees-same, there-same}
 use Rattle.opgen_machine.proofs.program.compile_on.Goals as goal
 
-spots-eq : (a b : List Spot) (s : Spots) → a ≡ s.signals → b ≡ s.ports → record { signals = a; ports = b } ≡ s
-spots-eq a b s e f = ap (λ x. record { signals = x; ports = b }) e ∙ ap (λ x. record { signals = s.signals; ports = x }) f
-
 pub settle-requires-clause-spots : goal.settle-requires-clause-spots
 settle-requires-clause-spots c =
     let d = c.args.design.now in
-    let e = spots-eq c.args.signals.now c.args.ports.now (first_spots d) c.requires.signals c.requires.ports in
+    let e = c.requires.spots in
     subst (AreSpots c.args.base) (sym e) (are-first d c.requires.flat c.args.base c.requires.behind)
 
 pub settle-requires-clause-places : goal.settle-requires-clause-places
@@ -32,15 +29,15 @@ settle-requires-clause-places c = λ p i e.
 pub settle-requires-clause-agrees : goal.settle-requires-clause-agrees
 settle-requires-clause-agrees c =
     let d = c.args.design.now in
-    let e = spots-eq c.args.signals.now c.args.ports.now (first_spots d) c.requires.signals c.requires.ports in
-    subst (λ ks. All (Agrees (record { signals = c.args.signals.now; ports = c.args.ports.now })) ks) (sym c.as_slice-drivers.ensures)
+    let e = c.requires.spots in
+    subst (λ ks. All (Agrees (spots_of c.args.spots.now)) ks) (sym c.as_slice-drivers.ensures)
     (subst (λ s. All (Agrees s) d.drivers) (sym e) (all-agree d c.requires.sound c.requires.flat))
 
 pub settle-requires-clause-there : goal.settle-requires-clause-there
 settle-requires-clause-there c =
     let d = c.args.design.now in
-    let e = spots-eq c.args.signals.now c.args.ports.now (first_spots d) c.requires.signals c.requires.ports in
-    subst (λ ks. All (λ (k : Driver). IsThere (record { signals = c.args.signals.now; ports = c.args.ports.now }) (target k)) ks)
+    let e = c.requires.spots in
+    subst (λ ks. All (λ (k : Driver). IsThere (spots_of c.args.spots.now) (target k)) ks)
     (sym c.as_slice-drivers.ensures)
     (subst (λ s. All (λ (k : Driver). IsThere s (target k)) d.drivers) (sym e) (all-there d c.requires.sound c.requires.flat))
 
@@ -56,16 +53,16 @@ moves-requires-clause-fine c = (c.in_ok-settle.ensures 0).fine
 pub moves-requires-clause-first : goal.moves-requires-clause-first
 moves-requires-clause-first c =
     let d = c.args.design.now in
-    let n = length-widths c.settle.new.signals c.args.signals.now (c.in_ok-settle.ensures 0).signals in
-    omega (arith, n, ap length c.requires.signals, length-from 0 (signal_widths d), length-map d.signals (λ x. x.width), c.requires.behind)
+    let n = length-widths c.settle.new.spots.signals.items c.args.spots.now.signals.items (c.in_ok-settle.ensures 0).signals in
+    omega (arith, n, ap (λ (s : Spots). length s.signals) c.requires.spots, length-from 0 (signal_widths d), length-map d.signals (λ x. x.width), c.requires.behind)
 
 pub moves-requires-clause-agrees : goal.moves-requires-clause-agrees
 moves-requires-clause-agrees c =
     let d = c.args.design.now in
-    let spots : Spots = record { signals = c.settle.new.signals; ports = c.settle.new.ports } in
+    let spots : Spots = spots_of c.settle.new.spots in
     let s = c.in_ok-settle.ensures 0 in
-    let e = s.signals ∙ ap widths_of c.requires.signals in
-    let f = s.ports ∙ ap widths_of c.requires.ports in
+    let e = s.signals ∙ ap (λ (s : Spots). widths_of s.signals) c.requires.spots in
+    let f = s.ports ∙ ap (λ (s : Spots). widths_of s.ports) c.requires.spots in
     let all : All (Agrees spots) d.drivers = λ i x l. agrees-same (first_spots d) spots (sym e) (sym f) (get_or d.drivers i x)
     (all-agree d c.requires.sound c.requires.flat i x l) in
     subst (λ ks. All (Agrees spots) ks) (sym c.as_slice-drivers.ensures) all
@@ -73,10 +70,10 @@ moves-requires-clause-agrees c =
 pub moves-requires-clause-there : goal.moves-requires-clause-there
 moves-requires-clause-there c =
     let d = c.args.design.now in
-    let spots : Spots = record { signals = c.settle.new.signals; ports = c.settle.new.ports } in
+    let spots : Spots = spots_of c.settle.new.spots in
     let s = c.in_ok-settle.ensures 0 in
-    let e = s.signals ∙ ap widths_of c.requires.signals in
-    let f = s.ports ∙ ap widths_of c.requires.ports in
+    let e = s.signals ∙ ap (λ (s : Spots). widths_of s.signals) c.requires.spots in
+    let f = s.ports ∙ ap (λ (s : Spots). widths_of s.ports) c.requires.spots in
     let all : All (λ (k : Driver). IsThere spots (target k)) d.drivers = λ i x l. there-same (first_spots d) spots (sym e) (sym f)
     (target (get_or d.drivers i x)) (all-there d c.requires.sound c.requires.flat i x l) in
     subst (λ ks. All (λ (k : Driver). IsThere spots (target k)) ks) (sym c.as_slice-drivers.ensures) all
@@ -84,14 +81,14 @@ moves-requires-clause-there c =
 pub moves-requires-clause-enable : goal.moves-requires-clause-enable
 moves-requires-clause-enable c =
     let d = c.args.design.now in
-    let spots : Spots = record { signals = c.settle.new.signals; ports = c.settle.new.ports } in
-    enable-first d c.requires.flat c.requires.sound spots ((c.in_ok-settle.ensures 0).ports ∙ ap widths_of c.requires.ports ∙ first-ports d)
+    let spots : Spots = spots_of c.settle.new.spots in
+    enable-first d c.requires.flat c.requires.sound spots ((c.in_ok-settle.ensures 0).ports ∙ ap (λ (s : Spots). widths_of s.ports) c.requires.spots ∙ first-ports d)
 
 pub output_places-requires : goal.output_places-requires
 output_places-requires c =
     let d = c.args.design.now in
-    let f = (c.in_ok-settle.ensures 0).ports ∙ ap widths_of c.requires.ports ∙ first-ports d in
-    sym (length-map c.settle.new.ports (λ (s : Spot). s.width)) ∙ ap length f ∙ length-map d.ports (λ x. x.width)
+    let f = (c.in_ok-settle.ensures 0).ports ∙ ap (λ (s : Spots). widths_of s.ports) c.requires.spots ∙ first-ports d in
+    ap length c.deref.ensures.value ∙ sym (length-map c.settle.new.spots.ports.items (λ (s : Spot). s.width)) ∙ ap length f ∙ length-map d.ports (λ x. x.width)
     ∙ sym (ap length c.as_slice.ensures)
 
 pub returns : goal.returns
@@ -100,10 +97,10 @@ returns c =
     let base = c.args.base in
     let tables = c.args.tables.now in
     let order = c.args.order.now in
-    let spots : Spots = record { signals = c.settle.new.signals; ports = c.settle.new.ports } in
+    let spots : Spots = spots_of c.settle.new.spots in
     let mid = c.settle.new.steps.items in
     let p : Program = record { steps = c.moves.new.steps; moves = c.in_ok-moves.moves; outputs = c.in_ok-outputs.outputs } in
-    let e = spots-eq c.args.signals.now c.args.ports.now (first_spots d) c.requires.signals c.requires.ports in
+    let e = c.requires.spots in
     let low = rest_of d + 1 in
     let ks = c.as_slice-drivers.ensures in
     let s = subst (λ k. Settles low base k tables order (first_spots d) mid spots) ks
@@ -113,5 +110,6 @@ returns c =
     (subst (λ x. HandsOn base spots d.enable x c.as_slice-drivers.result.now mid p.steps.items p.moves.items) w c.in_ok-moves.ensures)
     in
     let outputs = c.in_ok-outputs.ensures
-    ∙ ap (λ qs. map (λ (x : Spot). x.place) (at_ports is_out qs c.settle.new.ports)) c.as_slice.ensures in
+    ∙ ap (λ ss. map (λ (x : Spot). x.place) (at_ports is_out c.as_slice.result.now ss)) c.deref.ensures.value
+    ∙ ap (λ qs. map (λ (x : Spot). x.place) (at_ports is_out qs c.settle.new.spots.ports.items)) c.as_slice.ensures in
     program-of d c.requires.sound c.requires.flat order c.requires.order base c.requires.behind tables spots mid p s h outputs

@@ -1,6 +1,11 @@
-use Rattle.std.proofs.Common.{length}
+use Rattle.std.proofs.Common.{length, sym, subst}
+use Rattle.opgen_machine.specs.Laid.{CanBeLaid}
 use Rattle.opgen_machine.proofs.Laying.{grown-more, laid-more}
 use Rattle.opgen_machine.proofs.tables.lay_all.Goals as goal
+
+pub lay-requires : goal.lay-requires
+lay-requires c = subst CanBeLaid (sym c.driver-item.is)
+    (c.requires c.loop-driver.driver-index c.driver-item.result c.loop-driver-test.true)
 
 pub loop-driver-preserved : goal.loop-driver-preserved
 loop-driver-preserved c =

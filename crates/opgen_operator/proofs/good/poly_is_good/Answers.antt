@@ -29,6 +29,12 @@ raised-denominator-requires-clause-small c =
     (power_order (p.input.width * degree p) 64 (few_powers p c.requires.poly)) in
     simp to_z-of_z (rw (from, c.degree.ensures.value) (omega (arith, all)))
 
+pub raised-denominator-requires-clause-few : goal.raised-denominator-requires-clause-few
+raised-denominator-requires-clause-few c = rw c.degree.ensures.value (omega (arith, few_powers c.args.poly.now c.requires.poly))
+
+pub output-requires-clause-bits : goal.output-requires-clause-bits
+output-requires-clause-bits c = rw c.output-format.ensures.value c.requires.y
+
 pub good_linear-requires : goal.good_linear-requires
 good_linear-requires c =
     let p = c.args.poly.now in

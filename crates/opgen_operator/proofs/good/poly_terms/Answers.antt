@@ -2,6 +2,7 @@ use Rattle.std.proofs.Common.{◌≡◌, ◌+◌, ◌-◌, ◌*◌, ◌<◌, ◌
 use Rattle.std.specs.Prelude.{ℤ, pos, ◌+ℤ◌, ◌*ℤ◌, unsigned_abs}
 use Rattle.std.specs.Int.{w64, w128}
 use Rattle.std.proofs.lemmas.Int.{ints, to_z-of_z}
+use Rattle.std.proofs.Math.Nat.{mul-le-mul_left}
 use Rattle.opgen_num.proofs.BitLength.{power_order}
 use Rattle.opgen_operator.specs.Exact.{terms_from}
 use Rattle.opgen_operator.specs.Horner.{degree}
@@ -20,6 +21,23 @@ poly_term-total-requires-clause-small c =
     rw (c.coefs.invariant.power, c.coefs.invariant.places)
     (omega (arith, factor, power_order (w * degree p) 64 (few_powers p c.requires.poly)))
 
+pub poly_term-total-requires-clause-coef : goal.poly_term-total-requires-clause-coef
+poly_term-total-requires-clause-coef c =
+    let p = c.args.poly.now in
+    let i = c.coefs.coef-index in
+    let same = c.as_slice-coef-items.ensures in
+    let here : i < length p.coefs = rw same at c.coefs-test.true in
+    let small : unsigned_abs (get_or p.coefs i (pos 0)) ≤ 2 ^ 30 = c.requires.poly.coefs i (pos 0) here in
+    let fits_coef : FitsSigned w64 (get_or p.coefs i (pos 0)) = omega (arith, ints) in
+    rw same (simp to_z-of_z small)
+
+pub poly_term-total-requires-clause-few : goal.poly_term-total-requires-clause-few
+poly_term-total-requires-clause-few c =
+    let p = c.args.poly.now in
+    let w = p.input.width in
+    let less : w * (degree p - c.coefs.coef-index) ≤ w * degree p = mul-le-mul_left w (omega arith) in
+    rw c.coefs.invariant.places (omega (arith, less, few_powers p c.requires.poly))
+
 pub overflow_mul-power : goal.overflow_mul-power
 overflow_mul-power c =
     let p = c.args.poly.now in
@@ -28,6 +46,16 @@ overflow_mul-power c =
     let small = next_power_small c.args.x p.input.width i (omega (arith, c.requires.x)) c.requires.poly.narrow
     (omega (arith, here, c.requires.poly.few)) in
     rw c.coefs.invariant.power (omega (arith, small))
+
+pub overflow_add-total : goal.overflow_add-total
+overflow_add-total c =
+    let p = c.args.poly.now in
+    let i = c.coefs.coef-index in
+    let here : i < length p.coefs = rw c.as_slice-coef-items.ensures at c.coefs-test.true in
+    let fits_term : FitsSigned w128 c.poly_term-total.result = search rules in
+    let term_bound : unsigned_abs c.poly_term-total.result ≤ 2 ^ 94 = c.poly_term-total.ensures.bound in
+    let bound = bound_step c.coefs.total c.poly_term-total.result i (2 ^ 94) (rw c.coefs.total-is at c.coefs.invariant.bound) term_bound in
+    rw c.coefs.total-is (simp to_z-of_z (fits_small _ (omega (arith, bound, here, c.requires.poly.few))))
 
 pub coefs-preserved : goal.coefs-preserved
 coefs-preserved c =

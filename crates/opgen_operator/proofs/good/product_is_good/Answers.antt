@@ -2,6 +2,7 @@ use Rattle.std.proofs.Common.{◌≡◌, ◌^◌, FitsSigned, rules, arith}
 use Rattle.std.specs.Prelude.{pos, ◌*ℤ◌}
 use Rattle.std.specs.Int.{w32, w128}
 use Rattle.std.proofs.lemmas.Int.{ints, to_z-of_z}
+use Rattle.std.proofs.lemmas.Nat.{pow_pos}
 use Rattle.opgen_operator.specs.Outputs.{places_up, places_down, product_shift, product_places}
 use Rattle.opgen_num.proofs.BitLength.{power_order}
 use Rattle.opgen_operator.proofs.Accepted.{some_width}
@@ -42,8 +43,26 @@ raised-denominator-requires-clause-small c =
     c.places_down.ensures in
     rw raised_down (omega (arith, power_order (places_down (product_shift p)) 48 (few_down 47 (product_shift p) c.requires.low)))
 
+pub raised-denominator-requires-clause-few : goal.raised-denominator-requires-clause-few
+raised-denominator-requires-clause-few c =
+    let fits_shift : FitsSigned w32 c.product_shift-shift.result = search rules in
+    let raised_down : c.places_down.result ≡ places_down (product_shift c.args.product.now) = rw c.product_shift-shift.ensures.value at simp
+    to_z-of_z at c.places_down.ensures in
+    omega (arith, raised_down, few_down 47 (product_shift c.args.product.now) c.requires.low)
+
+pub good_linear-requires : goal.good_linear-requires
+good_linear-requires c =
+    let fits_denominator : FitsSigned w128 c.raised-denominator.result = search rules in
+    simp to_z-of_z (omega (arith, ints, c.raised-denominator.ensures.value, pow_pos c.places_down.result))
+
 pub output-y-requires-clause-least : goal.output-y-requires-clause-least
 output-y-requires-clause-least c = rw c.product_format.ensures (some_width (product_places c.args.product.now))
+
+pub output-y-requires-clause-most : goal.output-y-requires-clause-most
+output-y-requires-clause-most c = rw c.product_format.ensures c.requires.narrow
+
+pub output-y-requires-clause-bits : goal.output-y-requires-clause-bits
+output-y-requires-clause-bits c = rw c.product_format.ensures c.requires.y
 
 pub returns : goal.returns
 returns c =

@@ -1,4 +1,4 @@
-use Rattle.std.proofs.Common.{◌≡◌, ◌+◌, ◌^◌, ◌∙◌, FitsSigned, rules, arith, ap, refl, false}
+use Rattle.std.proofs.Common.{◌≡◌, ◌+◌, ◌^◌, ◌∙◌, FitsSigned, of_z, rules, arith, ap, refl, false}
 use Rattle.std.specs.Prelude.{pos, unsigned_abs}
 use Rattle.std.specs.Int.{w32, w128}
 use Rattle.std.proofs.lemmas.Int.{to_z-of_z}
@@ -6,6 +6,8 @@ use Rattle.opgen_operator.specs.Exact.{dividend}
 use Rattle.opgen_operator.specs.Outputs.{places_up, pair_shift}
 use Rattle.opgen_num.proofs.BitLength.{power_order}
 use Rattle.opgen_operator.proofs.Bounds.{products}
+use Rattle.opgen_operator.proofs.Cycles.{quotient_word, remainder_word}
+use Rattle.opgen_operator.proofs.InputPorts.{input_bit}
 use Rattle.opgen_operator.proofs.Magnitudes.{holds_within, number_fits, unsigned_abs-product}
 use Rattle.opgen_operator.proofs.Roundings.{good-along, quotient-along}
 use Rattle.opgen_operator.proofs.good.quotient_is_good.Goals as goal
@@ -26,6 +28,36 @@ raised-shifted-requires-clause-small c =
         c.requires.narrow,
       )),
     )))
+
+pub bounds-outputs-0 : goal.bounds-outputs-0
+bounds-outputs-0 c = (quotient_word c.args.exact c.args.pair.now c.args.outputs.now c.requires.outputs).0
+
+pub output-q-requires-clause-least : goal.output-q-requires-clause-least
+output-q-requires-clause-least c =
+    rw c.quotient_format.ensures (omega (arith, input_bit c.args.pair.now.a c.requires.pair.a))
+
+pub output-q-requires-clause-most : goal.output-q-requires-clause-most
+output-q-requires-clause-most c = rw c.quotient_format.ensures c.requires.narrow
+
+pub output-q-requires-clause-bits : goal.output-q-requires-clause-bits
+output-q-requires-clause-bits c =
+    rw c.quotient_format.ensures (quotient_word c.args.exact c.args.pair.now c.args.outputs.now c.requires.outputs).1
+
+pub bounds-outputs-1 : goal.bounds-outputs-1
+bounds-outputs-1 c = (remainder_word c.args.exact c.args.pair.now c.args.outputs.now c.if-exact.true c.requires.outputs).0
+
+pub output-r-requires-clause-least : goal.output-r-requires-clause-least
+output-r-requires-clause-least c = rw c.remainder_format.ensures (input_bit c.args.pair.now.b c.requires.pair.b)
+
+pub output-r-requires-clause-most : goal.output-r-requires-clause-most
+output-r-requires-clause-most c = rw c.remainder_format.ensures (omega (arith, c.requires.pair.b.most))
+
+pub output-r-requires-clause-bits : goal.output-r-requires-clause-bits
+output-r-requires-clause-bits c =
+    rw c.remainder_format.ensures (remainder_word c.args.exact c.args.pair.now c.args.outputs.now c.if-exact.true c.requires.outputs).1
+
+pub returns-then-exact-clause-out_of_range : goal.returns-then-exact-clause-out_of_range
+returns-then-exact-clause-out_of_range c = λ none. absurd (c.if-b-eq0.false (ap (of_z w128) none))
 
 pub returns-then-exact-clause-in_range : goal.returns-then-exact-clause-in_range
 returns-then-exact-clause-in_range c =

@@ -6,8 +6,10 @@ use Rattle.opgen_operator.specs.Exact.{square}
 use Rattle.opgen_operator.specs.Outputs.{places_up, root_shift}
 use Rattle.opgen_num.proofs.BitLength.{power_order}
 use Rattle.opgen_operator.proofs.Bounds.{few_up, products}
+use Rattle.opgen_operator.proofs.Cycles.{root_word, square_rest_word}
 use Rattle.opgen_operator.proofs.Magnitudes.{root_input_fits, unsigned_abs-product}
 use Rattle.opgen_operator.proofs.Roundings.{root-along, good_root-along}
+use Rattle.opgen_operator.proofs.Widths.{root_bits}
 use Rattle.opgen_operator.proofs.good.root_is_good.Goals as goal
 
 pub raised-requires-clause-small : goal.raised-requires-clause-small
@@ -27,6 +29,34 @@ raised-requires-clause-small c =
         few_up 48 (root_shift r) c.requires.high,
       )),
     )))
+
+pub bounds-outputs-0 : goal.bounds-outputs-0
+bounds-outputs-0 c = (root_word c.args.exact c.args.single.now c.args.outputs.now c.requires.outputs).0
+
+pub output-requires-clause-least : goal.output-requires-clause-least
+output-requires-clause-least c = rw c.root_format.ensures (root_bits c.args.single.now c.requires.single c.requires.high).0
+
+pub output-requires-clause-most : goal.output-requires-clause-most
+output-requires-clause-most c =
+    rw c.root_format.ensures (omega (arith, (root_bits c.args.single.now c.requires.single c.requires.high).1))
+
+pub output-requires-clause-bits : goal.output-requires-clause-bits
+output-requires-clause-bits c =
+    rw c.root_format.ensures (root_word c.args.exact c.args.single.now c.args.outputs.now c.requires.outputs).1
+
+pub bounds-outputs-1 : goal.bounds-outputs-1
+bounds-outputs-1 c = (square_rest_word c.args.exact c.args.single.now c.args.outputs.now c.if-exact.true c.requires.outputs).0
+
+pub output-requires-then-exact-clause-least : goal.output-requires-then-exact-clause-least
+output-requires-then-exact-clause-least c = rw c.rest_format.ensures (omega arith)
+
+pub output-requires-then-exact-clause-most : goal.output-requires-then-exact-clause-most
+output-requires-then-exact-clause-most c =
+    rw c.rest_format.ensures (omega (arith, (root_bits c.args.single.now c.requires.single c.requires.high).1))
+
+pub output-requires-then-exact-clause-bits : goal.output-requires-then-exact-clause-bits
+output-requires-then-exact-clause-bits c =
+    rw c.rest_format.ensures (square_rest_word c.args.exact c.args.single.now c.args.outputs.now c.if-exact.true c.requires.outputs).1
 
 pub returns-then-exact : goal.returns-then-exact
 returns-then-exact c =

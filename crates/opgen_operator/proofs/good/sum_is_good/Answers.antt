@@ -2,8 +2,9 @@ use Rattle.std.proofs.Common.{◌≡◌, ◌+◌, ◌≤◌, ◌^◌, FitsSigned
 use Rattle.std.specs.Prelude.{pos, ◌*ℤ◌, unsigned_abs}
 use Rattle.std.specs.Int.{w32, w64, w128}
 use Rattle.std.proofs.lemmas.Int.{ints, to_z-of_z}
-use Rattle.opgen_operator.specs.Outputs.{places_up, places_down, sum_shift}
+use Rattle.opgen_operator.specs.Outputs.{places_up, places_down, sum_shift, sum_places}
 use Rattle.opgen_num.proofs.BitLength.{power_order}
+use Rattle.opgen_operator.proofs.Accepted.{some_width}
 use Rattle.opgen_operator.proofs.Bounds.{products, few_down, few_units}
 use Rattle.opgen_operator.proofs.Magnitudes.{fits_small}
 use Rattle.opgen_operator.proofs.Roundings.{good-along, positive_units}
@@ -43,6 +44,28 @@ raised-denominator-requires-clause-small c =
     (few_units (2 ^ 30) sum.den c.requires.sum.positive c.requires.sum.small)
     (power_order (places_down (sum_shift sum)) 48 (few_down 47 (sum_shift sum) c.requires.low)) in
     simp to_z-of_z (rw (from, raised_down) (omega (arith, all)))
+
+pub raised-denominator-requires-clause-few : goal.raised-denominator-requires-clause-few
+raised-denominator-requires-clause-few c =
+    let fits_shift : FitsSigned w32 c.sum_shift-shift.result = search rules in
+    let raised_down : c.places_down.result ≡ places_down (sum_shift c.args.sum.now) = rw c.sum_shift-shift.ensures.value at simp to_z-of_z
+    at c.places_down.ensures in
+    omega (arith, raised_down, few_down 47 (sum_shift c.args.sum.now) c.requires.low)
+
+pub weighted-total-requires-clause-small : goal.weighted-total-requires-clause-small
+weighted-total-requires-clause-small c = rw c.as_slice.ensures c.requires.sum.coefs
+
+pub sum_format-requires-clause-sum : goal.sum_format-requires-clause-sum
+sum_format-requires-clause-sum c = c.requires.sum
+
+pub output-requires-clause-least : goal.output-requires-clause-least
+output-requires-clause-least c = rw c.sum_format.ensures (some_width (sum_places c.args.sum.now))
+
+pub output-requires-clause-most : goal.output-requires-clause-most
+output-requires-clause-most c = rw c.sum_format.ensures c.requires.narrow
+
+pub output-requires-clause-bits : goal.output-requires-clause-bits
+output-requires-clause-bits c = rw c.sum_format.ensures c.requires.y
 
 pub good_linear-requires : goal.good_linear-requires
 good_linear-requires c =

@@ -17,6 +17,13 @@ product-total-requires-clause-input c =
     let fits_recent : FitsSigned w128 c.recent.result = fits_small _ (omega (arith, few)) in
     simp to_z-of_z (omega (arith, few))
 
+pub product-total-requires-clause-coef : goal.product-total-requires-clause-coef
+product-total-requires-clause-coef c =
+    let coef : ℤ = get_or c.args.coefs.now c.coefs.coef-index (pos 0) in
+    let small : unsigned_abs coef ≤ 2 ^ 30 = c.requires.small c.coefs.coef-index (pos 0) c.coefs-test.true in
+    let fits_coef : FitsSigned w64 coef = omega (arith, ints) in
+    simp to_z-of_z small
+
 pub overflow_add-total : goal.overflow_add-total
 overflow_add-total c =
     let coefs = c.args.coefs.now in

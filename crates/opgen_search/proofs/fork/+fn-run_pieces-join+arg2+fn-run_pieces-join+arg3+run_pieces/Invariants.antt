@@ -8,4 +8,4 @@ abbrev pub decreases-join+arg3 : goal.decreases-join+arg3
 decreases-join+arg3 g l = 2 * (l.high - l.middle) + 1
 
 abbrev pub decreases-run_pieces : goal.decreases-run_pieces
-decreases-run_pieces g l = 2 * (l.high - l.low)
+decreases-run_pieces g l = 2 * (l.task.high - l.task.low)

@@ -1,6 +1,3 @@
-use Rattle.std.proofs.Common.{◌≡◌, ap}
-use Rattle.opgen_target.specs.Program.{fixed_delay}
-use Rattle.opgen_target.specs.Tables.{list_table}
 use Rattle.opgen_target.proofs.FixedTable.{table-is}
 use Rattle.opgen_target.proofs.program.fixed.Goals as goal
 

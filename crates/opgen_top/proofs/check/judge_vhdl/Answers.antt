@@ -1,33 +1,8 @@
-use Rattle.std.proofs.Common.{ap, ◌∙◌, length, subst, arith}
-use Rattle.opgen_num.specs.Words.{AreRowsOfCells}
-use Rattle.opgen_design.specs.Run.{is_in}
-use Rattle.opgen_sim.proofs.PortWidths.{widths_on, few_inputs, narrow_ports}
+use Rattle.std.proofs.Common.{arith}
 use Rattle.opgen_top.proofs.PreparingChecks.{fault_answers, vhdl_answers_check, rows_answer_check, rows_judged}
 use Rattle.opgen_top.proofs.PreparingRuns.{vhdl_listed, rows_listed}
 use Rattle.opgen_top.proofs.Refusing.{answer_passed}
 use Rattle.opgen_top.proofs.check.judge_vhdl.Goals as goal
-
-pub read_rows-requires-clause-few : goal.read_rows-requires-clause-few
-read_rows-requires-clause-few c =
-    let widths = c.deref.ensures.value ∙ c.in_ok-widths.ensures ∙ ap (widths_on is_in) c.as_slice.ensures in
-    rw widths (few_inputs c.in_ok-design.design c.in_ok-design.ensures.numbers)
-
-pub read_rows-requires-clause-narrow : goal.read_rows-requires-clause-narrow
-read_rows-requires-clause-narrow c =
-    let widths = c.deref.ensures.value ∙ c.in_ok-widths.ensures ∙ ap (widths_on is_in) c.as_slice.ensures in
-    rw widths (narrow_ports is_in c.in_ok-design.design c.in_ok-design.ensures.gives.sound)
-
-pub judge_rows-requires-clause-columns : goal.judge_rows-requires-clause-columns
-judge_rows-requires-clause-columns c =
-    let widths = c.deref.ensures.value ∙ c.in_ok-widths.ensures ∙ ap (widths_on is_in) c.as_slice.ensures in
-    c.in_ok-rows.ensures.rows.columns ∙ ap length widths
-
-pub judge_rows-requires-clause-rows : goal.judge_rows-requires-clause-rows
-judge_rows-requires-clause-rows c =
-    let widths = c.deref.ensures.value ∙ c.in_ok-widths.ensures ∙ ap (widths_on is_in) c.as_slice.ensures in
-    let held = c.in_ok-rows.ensures.rows in
-    let rows = c.in_ok-rows.rows in
-    subst (λ ws. AreRowsOfCells ws rows.count rows.inputs.cells.items) widths held.fit
 
 pub judge_rows-requires-clause-few : goal.judge_rows-requires-clause-few
 judge_rows-requires-clause-few c =
@@ -61,10 +36,9 @@ returns-in_err-design-clause-listed c =
 pub returns-in_err-rows-clause-answer : goal.returns-in_err-rows-clause-answer
 returns-in_err-rows-clause-answer c =
     let refusal = c.in_err-rows.field-0.0 in
-    let widths = c.deref.ensures.value ∙ c.in_ok-widths.ensures ∙ ap (widths_on is_in) c.as_slice.ensures in
     answer_passed _ refusal _ c.from_residual-in_err-rows.ensures.1
     (rows_answer_check c.args.latency c.args.document.now c.args.vhdl.now c.args.vectors.now c.in_ok-spec.spec c.in_ok-spec.ensures.reads
-    c.in_ok-design.design c.in_ok-design.ensures.gives _ refusal widths c.in_err-rows.ensures.refused)
+    c.in_ok-design.design c.in_ok-design.ensures.gives refusal c.in_err-rows.ensures.refused)
 
 pub returns-in_err-rows-clause-listed : goal.returns-in_err-rows-clause-listed
 returns-in_err-rows-clause-listed c =
@@ -74,7 +48,6 @@ returns-in_err-rows-clause-listed c =
 
 pub returns-clause-answer : goal.returns-clause-answer
 returns-clause-answer c =
-    let widths = c.deref.ensures.value ∙ c.in_ok-widths.ensures ∙ ap (widths_on is_in) c.as_slice.ensures in
     rows_judged c.args.latency c.args.document.now c.args.vhdl.now c.args.vectors.now c.in_ok-spec.spec c.in_ok-spec.ensures.reads
-    c.in_ok-design.design c.in_ok-design.ensures.gives _ c.in_ok-rows.rows _ widths
+    c.in_ok-design.design c.in_ok-design.ensures.gives c.in_ok-rows.rows _
     c.in_ok-rows.ensures.rows c.judge_rows.ensures.answer

@@ -1,61 +1,111 @@
-use Rattle.std.proofs.Common.{sym, subst}
+use Rattle.std.proofs.lemmas.Result.{IfOk-weaker}
 use Rattle.opgen_operator.specs.declared.spec.Operator.TheVariants.{Scale, Fir, Multiply, Divide, Root, Mcm, Constdiv, Poly, Tfir}
-use Rattle.opgen_top.specs.Kinds.{IsFittingNet}
-use Rattle.opgen_top.proofs.Building.{accepted_scale, kind_fitting}
+use Rattle.opgen_top.proofs.Building.{accepted_scale, made_adders, made_fitting, plain_fitting}
 use Rattle.opgen_top.proofs.circuit.build_net.Goals as goal
 
 pub build-requires : goal.build-requires
 build-requires g c = record { sum = accepted_scale c.args.spec.now c.requires.valid c.in-Scale.sum c.in-Scale.is }
 
-pub returns-in_ok-build-in-Scale-clause-net : goal.returns-in_ok-build-in-Scale-clause-net
-returns-in_ok-build-in-Scale-clause-net g c =
-    let made = c.in_ok-build-in-Scale in
-    subst (IsFittingNet c.args.spec.now) (sym c.without_adders.ensures.net)
-    (kind_fitting c.args.spec.now c.requires.valid (Scale c.in-Scale.sum) made.field-0 c.in-Scale.is made.ensures.net made.ensures.fits.0)
+pub returns-in-Scale-clause-net : goal.returns-in-Scale-clause-net
+returns-in-Scale-clause-net g c =
+    let built = c.build in
+    let made = c.without_adders in
+    plain_fitting c.args.spec.now c.requires.valid (Scale c.in-Scale.sum) built.result made.result c.in-Scale.is made.ensures.net built.ensures.net
+    (IfOk-weaker built.result _ _ (λ net both. both.0) built.ensures.fits)
 
-pub returns-in_ok-build-in-Fir-clause-net : goal.returns-in_ok-build-in-Fir-clause-net
-returns-in_ok-build-in-Fir-clause-net g c =
-    let made = c.in_ok-build-in-Fir in
-    subst (IsFittingNet c.args.spec.now) (sym c.without_adders-in-Fir.ensures.net)
-    (kind_fitting c.args.spec.now c.requires.valid (Fir c.in-Fir.sum) made.field-0 c.in-Fir.is made.ensures.net made.ensures.fits.1)
+pub returns-in-Scale-clause-adders : goal.returns-in-Scale-clause-adders
+returns-in-Scale-clause-adders g c =
+    let made = c.without_adders in
+    made_adders c.args.spec.now c.requires.valid (Scale c.in-Scale.sum) made.result c.in-Scale.is made.ensures.adders
 
-pub returns-in_ok-build-in-Multiply-clause-net : goal.returns-in_ok-build-in-Multiply-clause-net
-returns-in_ok-build-in-Multiply-clause-net g c =
-    let made = c.in_ok-build-in-Multiply in
-    subst (IsFittingNet c.args.spec.now) (sym c.without_adders-in-Multiply.ensures.net)
-    (kind_fitting c.args.spec.now c.requires.valid
-    (Multiply c.in-Multiply.product) made.field-0 c.in-Multiply.is made.ensures.net made.ensures.fits)
+pub returns-in-Fir-clause-net : goal.returns-in-Fir-clause-net
+returns-in-Fir-clause-net g c =
+    let built = c.build-in-Fir in
+    let made = c.without_adders-in-Fir in
+    plain_fitting c.args.spec.now c.requires.valid (Fir c.in-Fir.sum) built.result made.result c.in-Fir.is made.ensures.net built.ensures.net
+    (IfOk-weaker built.result _ _ (λ net both. both.1) built.ensures.fits)
 
-pub returns-in_ok-build-in-Divide-clause-net : goal.returns-in_ok-build-in-Divide-clause-net
-returns-in_ok-build-in-Divide-clause-net g c =
-    let made = c.in_ok-build-in-Divide in
-    subst (IsFittingNet c.args.spec.now) (sym c.without_adders-in-Divide.ensures.net)
-    (kind_fitting c.args.spec.now c.requires.valid (Divide c.in-Divide.pair) made.field-0 c.in-Divide.is made.ensures.net made.ensures.fits)
+pub returns-in-Fir-clause-adders : goal.returns-in-Fir-clause-adders
+returns-in-Fir-clause-adders g c =
+    let made = c.without_adders-in-Fir in
+    made_adders c.args.spec.now c.requires.valid (Fir c.in-Fir.sum) made.result c.in-Fir.is made.ensures.adders
 
-pub returns-in_ok-build-in-Root-clause-net : goal.returns-in_ok-build-in-Root-clause-net
-returns-in_ok-build-in-Root-clause-net g c =
-    let made = c.in_ok-build-in-Root in
-    subst (IsFittingNet c.args.spec.now) (sym c.without_adders-in-Root.ensures.net)
-    (kind_fitting c.args.spec.now c.requires.valid (Root c.in-Root.single) made.field-0 c.in-Root.is made.ensures.net made.ensures.fits)
+pub returns-in-Multiply-clause-net : goal.returns-in-Multiply-clause-net
+returns-in-Multiply-clause-net g c =
+    let built = c.build-in-Multiply in
+    let made = c.without_adders-in-Multiply in
+    plain_fitting c.args.spec.now c.requires.valid (Multiply c.in-Multiply.product) built.result made.result c.in-Multiply.is made.ensures.net built.ensures.net
+    built.ensures.fits
 
-pub returns-in_ok-built-in-Mcm-clause-net : goal.returns-in_ok-built-in-Mcm-clause-net
-returns-in_ok-built-in-Mcm-clause-net g c =
-    let made = c.in_ok-built-in-Mcm in
-    kind_fitting c.args.spec.now c.requires.valid (Mcm c.in-Mcm.several) made.built.net c.in-Mcm.is made.ensures.net made.ensures.fits
+pub returns-in-Multiply-clause-adders : goal.returns-in-Multiply-clause-adders
+returns-in-Multiply-clause-adders g c =
+    let made = c.without_adders-in-Multiply in
+    made_adders c.args.spec.now c.requires.valid (Multiply c.in-Multiply.product) made.result c.in-Multiply.is made.ensures.adders
 
-pub returns-in_ok-build-in-Constdiv-clause-net : goal.returns-in_ok-build-in-Constdiv-clause-net
-returns-in_ok-build-in-Constdiv-clause-net g c =
-    let made = c.in_ok-build-in-Constdiv in
-    subst (IsFittingNet c.args.spec.now) (sym c.without_adders-in-Constdiv.ensures.net)
-    (kind_fitting c.args.spec.now c.requires.valid (Constdiv c.in-Constdiv.small) made.field-0 c.in-Constdiv.is made.ensures.net made.ensures.fits)
+pub returns-in-Divide-clause-net : goal.returns-in-Divide-clause-net
+returns-in-Divide-clause-net g c =
+    let built = c.build-in-Divide in
+    let made = c.without_adders-in-Divide in
+    plain_fitting c.args.spec.now c.requires.valid (Divide c.in-Divide.pair) built.result made.result c.in-Divide.is made.ensures.net built.ensures.net
+    built.ensures.fits
 
-pub returns-in_ok-build-in-Poly-clause-net : goal.returns-in_ok-build-in-Poly-clause-net
-returns-in_ok-build-in-Poly-clause-net g c =
-    let made = c.in_ok-build-in-Poly in
-    subst (IsFittingNet c.args.spec.now) (sym c.without_adders-in-Poly.ensures.net)
-    (kind_fitting c.args.spec.now c.requires.valid (Poly c.in-Poly.poly) made.field-0 c.in-Poly.is made.ensures.net made.ensures.fits)
+pub returns-in-Divide-clause-adders : goal.returns-in-Divide-clause-adders
+returns-in-Divide-clause-adders g c =
+    let made = c.without_adders-in-Divide in
+    made_adders c.args.spec.now c.requires.valid (Divide c.in-Divide.pair) made.result c.in-Divide.is made.ensures.adders
 
-pub returns-in_ok-build_transposed-in-Tfir-clause-net : goal.returns-in_ok-build_transposed-in-Tfir-clause-net
-returns-in_ok-build_transposed-in-Tfir-clause-net g c =
-    let made = c.in_ok-build_transposed-in-Tfir in
-    kind_fitting c.args.spec.now c.requires.valid (Tfir c.in-Tfir.taps) made.field-0.net c.in-Tfir.is made.ensures.net made.ensures.fits
+pub returns-in-Root-clause-net : goal.returns-in-Root-clause-net
+returns-in-Root-clause-net g c =
+    let built = c.build-in-Root in
+    let made = c.without_adders-in-Root in
+    plain_fitting c.args.spec.now c.requires.valid (Root c.in-Root.single) built.result made.result c.in-Root.is made.ensures.net built.ensures.net
+    built.ensures.fits
+
+pub returns-in-Root-clause-adders : goal.returns-in-Root-clause-adders
+returns-in-Root-clause-adders g c =
+    let made = c.without_adders-in-Root in
+    made_adders c.args.spec.now c.requires.valid (Root c.in-Root.single) made.result c.in-Root.is made.ensures.adders
+
+pub returns-in-Mcm-clause-net : goal.returns-in-Mcm-clause-net
+returns-in-Mcm-clause-net g c =
+    let made = c.build_several in
+    made_fitting c.args.spec.now c.requires.valid (Mcm c.in-Mcm.several) made.result c.in-Mcm.is made.ensures.net made.ensures.fits
+
+pub returns-in-Mcm-clause-adders : goal.returns-in-Mcm-clause-adders
+returns-in-Mcm-clause-adders g c =
+    let made = c.build_several in
+    made_adders c.args.spec.now c.requires.valid (Mcm c.in-Mcm.several) made.result c.in-Mcm.is made.ensures.adders
+
+pub returns-in-Constdiv-clause-net : goal.returns-in-Constdiv-clause-net
+returns-in-Constdiv-clause-net g c =
+    let built = c.build-in-Constdiv in
+    let made = c.without_adders-in-Constdiv in
+    plain_fitting c.args.spec.now c.requires.valid (Constdiv c.in-Constdiv.small) built.result made.result c.in-Constdiv.is made.ensures.net built.ensures.net
+    built.ensures.fits
+
+pub returns-in-Constdiv-clause-adders : goal.returns-in-Constdiv-clause-adders
+returns-in-Constdiv-clause-adders g c =
+    let made = c.without_adders-in-Constdiv in
+    made_adders c.args.spec.now c.requires.valid (Constdiv c.in-Constdiv.small) made.result c.in-Constdiv.is made.ensures.adders
+
+pub returns-in-Poly-clause-net : goal.returns-in-Poly-clause-net
+returns-in-Poly-clause-net g c =
+    let built = c.build-in-Poly in
+    let made = c.without_adders-in-Poly in
+    plain_fitting c.args.spec.now c.requires.valid (Poly c.in-Poly.poly) built.result made.result c.in-Poly.is made.ensures.net built.ensures.net
+    built.ensures.fits
+
+pub returns-in-Poly-clause-adders : goal.returns-in-Poly-clause-adders
+returns-in-Poly-clause-adders g c =
+    let made = c.without_adders-in-Poly in
+    made_adders c.args.spec.now c.requires.valid (Poly c.in-Poly.poly) made.result c.in-Poly.is made.ensures.adders
+
+pub returns-in-Tfir-clause-net : goal.returns-in-Tfir-clause-net
+returns-in-Tfir-clause-net g c =
+    let made = c.build_transposed in
+    made_fitting c.args.spec.now c.requires.valid (Tfir c.in-Tfir.taps) made.result c.in-Tfir.is made.ensures.net made.ensures.fits
+
+pub returns-in-Tfir-clause-adders : goal.returns-in-Tfir-clause-adders
+returns-in-Tfir-clause-adders g c =
+    let made = c.build_transposed in
+    made_adders c.args.spec.now c.requires.valid (Tfir c.in-Tfir.taps) made.result c.in-Tfir.is made.ensures.adders
