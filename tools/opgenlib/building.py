@@ -9,9 +9,10 @@ does TOP, in which the program is built.
 The next library is the one with the longest way to the program: its own processor seconds, as they were last measured, and
 those of the crates above it along the longest chain. The measured seconds are in seconds.txt beside this file; a crate that
 is not there counts by its lines of code and proofs. Processors for which no other library is ready become further jobs of
-one. A library that would still run when all that does not wait for it is done has further jobs from its start. The first job of a
-crate is left 4 GiB of memory, each further one 2 GiB. RT_JOBS, as for `rt ci`, is the number of processors, whatever memory is
-free.
+one. A library that would still run when all that does not wait for it is done has further jobs from its start. A library with
+many below it has one job: each further one would read them all, in each round of proofs anew. The program has all processors,
+which translate it. The first job of a crate is left 4 GiB of memory, each further one 2 GiB. RT_JOBS, as for `rt ci`, is the
+number of processors, whatever memory is free.
 """
 from __future__ import annotations
 
@@ -29,6 +30,7 @@ MEASURED = "tools/opgenlib/seconds.txt"
 # The status is 0 only if the program was proved, built and run.
 RUN = ("--", "workload", "1")
 FIRST_JOB, FURTHER_JOB = 4 << 20, 2 << 20  # KiB of memory: twice what was seen
+MANY = 20  # libraries below another one, with which further jobs take more time than they save
 # The signals that end a build, and the one that says that a process has ended. They are waited for and so have no handlers.
 ENDING = {signal.SIGHUP, signal.SIGINT, signal.SIGQUIT, signal.SIGTERM}
 AWAITED = {*ENDING, signal.SIGCHLD}
@@ -100,6 +102,10 @@ class Schedule:
         beside = sum(self.weights[other] for other in left if name not in below(other, self.crates))
         return ceil(self.processors * weight / (weight + beside))
 
+    def reads_many(self, name: str) -> bool:
+        """Whether a crate is a library that has many below it."""
+        return name != PROGRAM and len(below(name, self.crates)) >= MANY
+
     def begin(self) -> tuple[str, int] | None:
         """Starts the next crate, if one is ready and has a processor and memory: its name and number of jobs."""
         ready = [name for name in self.waiting if self.built.issuperset(self.crates[name])]
@@ -109,7 +115,7 @@ class Schedule:
             return None
         # What is idle is shared by the crates that can start now.
         sharing = max(1, min(len(ready), idle, room // FIRST_JOB))
-        wanted = max(idle // sharing, self.share(ready[0]))
+        wanted = 1 if self.reads_many(ready[0]) else max(idle // sharing, self.share(ready[0]))
         jobs = max(1, min(wanted, 1 + (room // sharing - FIRST_JOB) // FURTHER_JOB))
         self.waiting.remove(ready[0])
         self.running[ready[0]] = jobs

@@ -16,6 +16,3 @@ mod values;
 pub use command::Command;
 pub use fault::CommandFault;
 pub use read::read_command;
-
-#[cfg(test)]
-mod tests;

@@ -26,10 +26,3 @@ pub use folder::{FetchFault, Folder, StoreFault};
 pub use memory::{MemoryFolder, MemorySink};
 pub use sink::{PutFault, Sink};
 pub use stdout::StdSink;
-
-#[cfg(test)]
-mod faulty;
-#[cfg(test)]
-mod store_tests;
-#[cfg(test)]
-mod tests;

@@ -1,15 +1,10 @@
-pub mod FirstSymbol
-pub mod Phrases
+pub mod FirstName
 pub mod FirstPlaces
 pub mod AllowedNames
 pub mod Operands
 pub mod Zeros
 pub mod TableRows
-pub mod SymbolsIn
-pub mod FirstPiece
 pub mod Reaching
-pub mod FittingTokens
-pub mod HeldToken
 pub mod WholeTexts
 pub mod DriverCount
 pub mod Judging

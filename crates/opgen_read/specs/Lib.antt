@@ -1,7 +1,4 @@
 -- Definitions of opgen_read: what reading a text returns, and what holds between the steps of the reader.
-pub mod Fits
-pub mod Left
-pub mod PieceLen
 pub mod Gives
 pub mod Places
 pub mod Names

@@ -5,14 +5,14 @@ ghost use Rattle.opgen_design.specs.Plain.{plain, plain_all, trees_of};
 ghost use Rattle.opgen_design.specs.Tree.{chain};
 ghost use Rattle.opgen_vhdl.specs.Grammar.{operator};
 ghost use Rattle.opgen_vhdl.specs.Reader.{eat, range_at, part_at, input_at, closed, op_at, primary_at, factor_at, operands_at, expression_at, expression, inside};
-ghost use Rattle.opgen_read.specs.Left.{left};
+ghost use Rattle.opgen_cursor.specs.Left.{left};
 ghost use Rattle.opgen_read.specs.Gives.{Gives};
 ghost use Rattle.opgen_read.specs.Names.{names_in, joined};
 
-use crate::cursor::Cursor;
 use crate::declared::Declared;
 use crate::name::{name, signal_place};
 use crate::refusal::Refusal;
+use opgen_cursor::Cursor;
 use opgen_design::{Expr, Op, Port, Signal, Slice};
 use opgen_vhdl::TokenKind;
 use std::alloc::Global;

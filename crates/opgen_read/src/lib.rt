@@ -7,15 +7,12 @@
 //! By: `read_design`, `one_cause`, the `Display` of `ReadFault`.
 #![tactic(auto)]
 
-mod cursor;
 mod declared;
 mod draft;
 mod expression;
 mod fault;
 mod law;
 mod name;
-mod phrase;
-mod piece_len;
 mod pieces;
 mod read;
 mod refusal;

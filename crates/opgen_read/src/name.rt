@@ -5,14 +5,14 @@ ghost use Rattle.std.specs.Char.{to_ascii_lowercase};
 ghost use Rattle.opgen_names.specs.Names.{is_allowed_name};
 ghost use Rattle.opgen_vhdl.specs.Grammar.{place_of};
 ghost use Rattle.opgen_vhdl.specs.Reader.{name_at};
-ghost use Rattle.opgen_read.specs.Left.{left};
+ghost use Rattle.opgen_cursor.specs.Left.{left};
 ghost use Rattle.opgen_read.specs.Gives.{Gives};
 ghost use Rattle.opgen_read.specs.Names.{names_in, IsPlace, GivesPlace};
 
-use crate::cursor::Cursor;
 use crate::declared::Declared;
 use crate::expression::Scope;
 use crate::refusal::Refusal;
+use opgen_cursor::Cursor;
 use opgen_design::Signal;
 use opgen_lex::same_kind;
 use opgen_list::Text;
@@ -51,7 +51,7 @@ fn allowed(
 
 /// The name at the front, in lower case, and what is left behind it. Where names are used, those that are declared are given
 /// along: most uses are of one of these.
-#[tactic(auto, using(crate::proofs::FirstSymbol::name_first))]
+#[tactic(auto, using(crate::proofs::FirstName::name_first))]
 pub fn name<'a>(
     alloc: Global,
     declared: Option<Scope<'_>>,

@@ -6,17 +6,17 @@ ghost use Rattle.opgen_vhdl.specs.Reader.{takes_at};
 ghost use Rattle.opgen_vhdl.specs.Statements.{Follows, nothing};
 ghost use Rattle.opgen_vhdl.specs.Symbols.{pieces};
 ghost use Rattle.opgen_lex.specs.First.{IsPassed};
-ghost use Rattle.opgen_read.specs.Left.{left, symbols_in};
+ghost use Rattle.opgen_cursor.specs.Left.{left, symbols_in};
 ghost use Rattle.opgen_read.specs.Reached.{IsPieceFault};
 ghost use Rattle.opgen_read.specs.Seen.{seen};
 ghost use Rattle.opgen_read.specs.Stepped.{Steps};
 ghost use Rattle.opgen_read.specs.declared.read.TheConstants.{MAX_TEXT_LEN};
 
-use crate::cursor::Cursor;
 use crate::draft::Draft;
 use crate::fault::ReadFault;
 use crate::refusal::Refusal;
 use crate::take::take;
+use opgen_cursor::Cursor;
 use opgen_vhdl::Place;
 use std::alloc::Global;
 
@@ -67,8 +67,6 @@ pub fn read_pieces(alloc: Global, text: &mut &[u8]) -> Result<Draft, ReadFault>
     ensures passed { IsPassed text.old.now text.new.now }
 {
     let mut draft = Draft::new(alloc);
-    match take_pieces(alloc, &mut draft, text) {
-        Ok(()) => Ok(draft),
-        Err(fault) => Err(fault),
-    }
+    take_pieces(alloc, &mut draft, text)?;
+    Ok(draft)
 }

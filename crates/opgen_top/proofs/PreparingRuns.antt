@@ -16,7 +16,7 @@ use Rattle.opgen_top.specs.declared.rows.Rows.{Rows}
 use Rattle.opgen_top.specs.Answer.{Answer, file as stored_file, simulated, success, vhdl_refused, vectors_refused}
 use Rattle.opgen_top.specs.Lines.{simulated_line}
 use Rattle.opgen_top.specs.Due.{most_simulated_bytes, OnFetch, IsAnswerOf}
-use Rattle.opgen_top.specs.Prepared.{Reads, Kept, OnAnswer, Fetches, IfRefused, HasRun, HoldsRows, IsListed, IsPrepared, answer_of, refusal_of}
+use Rattle.opgen_top.specs.Prepared.{Reads, Kept, OnAnswer, Fetches, IfRefused, HasSimulated, HoldsRows, IsListed, IsPrepared, answer_of, refusal_of}
 use Rattle.opgen_top.specs.Printed as printed
 use Rattle.opgen_top.specs.Running.{IsRunText}
 use Rattle.opgen_top.specs.Simulate.{GivesDesign, IsSimulated, RefusesRows, RefusesVhdl}
@@ -57,11 +57,11 @@ rows_listed widths vectors refusals.Memory h = tt
 -- and so do rows
 pub run_made : (out : List ℕ) (design : Design) (count : ℕ) (cells : List ℕ) (a : Answer) (line name rows : List ℕ)
     → IsRunText design count cells rows → line ≡ simulated_line count → name ≡ out → a ≡ success line (stored_file name rows ∷ [])
-    → HasRun out design count cells a
+    → HasSimulated out design count cells a
 run_made out design count cells a line name rows run said named e = record { rows = rows; run = run; answer = rw (e, said, named) refl }
 
 pub run_answers : (out text vectors : List ℕ) (a : Answer) (design : Design) (held : Rows) → GivesDesign text design
-    → HoldsRows (input_widths design) vectors held → HasRun out design held.count held.inputs.cells.items a → IsSimulated out text vectors a
+    → HoldsRows (input_widths design) vectors held → HasSimulated out design held.count held.inputs.cells.items a → IsSimulated out text vectors a
 run_answers out text vectors a design held gives holds h =
     inr (inr record {
       design = design;
@@ -73,7 +73,7 @@ run_answers out text vectors a design held gives holds h =
       answer = h.answer ∙ ap (λ n. simulated out n h.rows) holds.count;
     })
 
-pub run_listed : (out : List ℕ) (design : Design) (count : ℕ) (cells : List ℕ) (a : Answer) → HasRun out design count cells a → IsListed a
+pub run_listed : (out : List ℕ) (design : Design) (count : ℕ) (cells : List ℕ) (a : Answer) → HasSimulated out design count cells a → IsListed a
 run_listed out design count cells a h =
     subst IsListed (sym h.answer) (listed_success (simulated out count h.rows) (printed.simulated count refl refl) refl)
 

@@ -105,7 +105,7 @@ pub record HasRows (spec : Spec) (design : Design) (seed cycles : ℕ) (a : Answ
   pub answer : a ≡ wrote_vectors spec.name cycles rows
 
 -- an answer that stores the rows of a design's run over rows of its inputs
-pub record HasRun (out : List ℕ) (design : Design) (count : ℕ) (cells : List ℕ) (a : Answer) : Type 0 where
+pub record HasSimulated (out : List ℕ) (design : Design) (count : ℕ) (cells : List ℕ) (a : Answer) : Type 0 where
   pub rows : List ℕ
   pub run : IsRunText design count cells rows
   pub answer : a ≡ simulated out count rows

@@ -6,7 +6,7 @@ ghost use Rattle.opgen_design.specs.Run.{input_widths};
 ghost use Rattle.opgen_design.specs.Sound.{HasNumbers, IsSound};
 ghost use Rattle.opgen_top.specs.Due.{most_simulated_bytes};
 ghost use Rattle.opgen_top.specs.Lines.{simulated_line};
-ghost use Rattle.opgen_top.specs.Prepared.{answer_of, reads_of, HasRun, IsListed, IsPrepared, OnAnswer};
+ghost use Rattle.opgen_top.specs.Prepared.{answer_of, reads_of, HasSimulated, IsListed, IsPrepared, OnAnswer};
 ghost use Rattle.opgen_top.specs.Simulate.{IsSimulated};
 ghost use Rattle.opgen_top.specs.Targets.{Device};
 
@@ -56,7 +56,7 @@ fn store_run(alloc: Global, design: Design, rows: &Rows, out: &str) -> Result<An
     requires some_port { 0 < length design.ports }
     requires columns { rows.now.inputs.columns ≡ length (input_widths design) }
     requires rows { AreRowsOfCells (input_widths design) rows.now.count rows.now.inputs.cells.items }
-    ensures { IfOk result (λ a. HasRun out.now design rows.now.count rows.now.inputs.cells.items (answer_of a)) }
+    ensures { IfOk result (λ a. HasSimulated out.now design rows.now.count rows.now.inputs.cells.items (answer_of a)) }
 {
     Ok(with_file(
         alloc,

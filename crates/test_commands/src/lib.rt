@@ -1,8 +1,14 @@
-//! The program with other targets and at its limits, and definitions computed on a small net and on operators.
+//! The program with calls that fail, files that are too long, and other targets; and definitions computed on small examples.
 #![tactic(auto)]
 
 #[cfg(test)]
-mod limits;
+mod calls;
+#[cfg(test)]
+mod extreme;
+#[cfg(test)]
+mod files;
+#[cfg(test)]
+mod long;
 #[cfg(test)]
 mod running;
 #[cfg(test)]

@@ -1,4 +1,4 @@
-//! Designs made by hand: numbers of nothing, long chains and an order; simulators and lanes of one: tests alone.
+//! Designs made by hand: numbers of nothing and an order; simulators and lanes of one: tests alone.
 #![tactic(auto)]
 
 #[cfg(test)]

@@ -1,4 +1,4 @@
-//! Tests of designs that no text of VHDL gives: numbers of nothing, long chains of signals; and one order of evaluation.
+//! Tests of designs that no text of VHDL gives, whose numbers name nothing; and one order of evaluation.
 use opgen_design::{Design, Dir, Driver, Expr, Formula, Op, Port, Signal, SoundFault};
 use opgen_list::{Items, Text};
 use opgen_num::Word;
@@ -106,28 +106,6 @@ fn with(alloc: Global, driver: Driver) -> Result<(u8, u32), AllocError> {
 fn an_undeclared_signal(rt: HostRuntime) -> Result<(), Fail> {
     let alloc = rt.alloc();
     assert_eq!(rt; with(alloc, assign(3, Expr::Port(0)))?, (1, 10));
-    Ok(())
-}
-
-// The sound design with 65,536 signals more in a row, each of which reads the next. The last reads a signal.
-fn in_a_row(alloc: Global, last: usize) -> Result<Design, Fail> {
-    let mut design = driven(alloc)?;
-    for i in 3..65539 {
-        let name = format!(in alloc; "s{i}")?;
-        design.signals.push(signal(alloc, &name, 4, None)?)?;
-    }
-    for i in 3..65538 {
-        design.drivers.push(assign(i, Expr::Name(i + 1)))?;
-    }
-    design.drivers.push(assign(65538, Expr::Name(last)))?;
-    Ok(design)
-}
-
-#[test]
-fn long_chains(rt: HostRuntime) -> Result<(), Fail> {
-    let alloc = rt.alloc();
-    assert_eq!(rt; verdict(alloc, &in_a_row(alloc, 0)?), (0, 0));
-    assert_eq!(rt; verdict(alloc, &in_a_row(alloc, 40003)?), (6, 105546));
     Ok(())
 }
 

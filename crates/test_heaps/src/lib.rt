@@ -1,13 +1,7 @@
-//! Heaps of a few bits, their counters, the nodes that they are compressed to and sums; words as nodes: tests alone.
+//! Heaps of a few bits and the nodes that they are compressed to; words as nodes: tests alone.
 #![tactic(auto)]
 
 #[cfg(test)]
-mod counters;
-#[cfg(test)]
-mod evaluation;
-#[cfg(test)]
 mod heaps;
-#[cfg(test)]
-mod sums;
 #[cfg(test)]
 mod words;

@@ -1,10 +1,8 @@
-//! Plans of nets made by hand at several periods, and runs of seven of them beside words worked out by hand.
+//! Plans of nets made by hand at several periods, and runs of two of them beside words worked out by hand.
 #![tactic(auto)]
 
 #[cfg(test)]
 mod delays;
-#[cfg(test)]
-mod flows;
 #[cfg(test)]
 mod large;
 #[cfg(test)]

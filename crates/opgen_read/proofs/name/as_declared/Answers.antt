@@ -1,7 +1,7 @@
 use Rattle.std.proofs.Common.{◌∷◌, ap, sym, ◌∙◌, refl}
 use Rattle.opgen_vhdl.specs.Symbols.{symbol_of}
-use Rattle.opgen_read.specs.Left.{left}
-use Rattle.opgen_read.proofs.FirstSymbol.{name_declared}
+use Rattle.opgen_cursor.specs.Left.{left}
+use Rattle.opgen_read.proofs.FirstName.{name_declared}
 use Rattle.opgen_read.proofs.name.as_declared.Goals as goal
 
 pub returns : goal.returns

@@ -1,8 +1,8 @@
 use Rattle.std.proofs.Common.{◌∷◌, ap, sym, ◌∙◌}
 use Rattle.opgen_vhdl.specs.Symbols.{symbol_of}
 use Rattle.opgen_vhdl.proofs.Steps.{name_some}
-use Rattle.opgen_read.specs.Left.{left, symbols_in}
-use Rattle.opgen_read.proofs.FirstSymbol.{name_read, name_refused}
+use Rattle.opgen_cursor.specs.Left.{left, symbols_in}
+use Rattle.opgen_read.proofs.FirstName.{name_read, name_refused}
 use Rattle.opgen_read.proofs.name.name.Goals as goal
 
 pub returns-in-Some-clause-value : goal.returns-in-Some-clause-value
