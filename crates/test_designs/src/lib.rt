@@ -1,7 +1,5 @@
-//! Designs made by hand: numbers of nothing and an order; simulators and lanes of one: tests alone.
+//! A simulator and lanes of a design that is lent to them: tests alone.
 #![tactic(auto)]
 
 #[cfg(test)]
 mod runs;
-#[cfg(test)]
-mod soundness;

@@ -1,10 +1,8 @@
-//! Texts of designs and reports, tokens, and rows in streams, with what was worked out by hand: tests alone.
+//! Texts that are put into a sink page by page, tokens, and rows in streams: tests alone.
 #![tactic(auto)]
 
 #[cfg(test)]
 mod cut;
-#[cfg(test)]
-mod reports;
 #[cfg(test)]
 mod rows;
 #[cfg(test)]

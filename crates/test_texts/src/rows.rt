@@ -1,22 +1,11 @@
-//! Tests of rows of words: too many of them, and rows that are put into parallel streams and taken out of them.
+//! Tests of rows of words that are put into parallel streams and taken out of them.
 ghost use Rattle.std.specs.Prelude.{◌≡◌, ◌≤◌, [], IfOk};
 
-use opgen_vec::{MAX_ROWS, VecFault, Vectors, pack, read_empty_rows, read_vectors, unpack};
+use opgen_vec::{Vectors, pack, unpack};
 use std::alloc::{AllocError, Global};
 use std::process::Abort;
 use std::simd::u64x4;
 use std::test::Fail;
-
-#[test]
-fn refuses_too_many_rows(rt: HostRuntime) -> Result<(), Fail> {
-    let mut rows = vec![in rt.alloc(); b'\n'; MAX_ROWS as usize]?;
-    assert_eq!(rt; read_empty_rows(&rows), Ok(MAX_ROWS));
-    rows.push(b'\n')?;
-    assert_eq!(rt; read_empty_rows(&rows), Err(VecFault::TooMany));
-    rows.push(b'?')?;
-    assert_eq!(rt; read_empty_rows(&rows), Err(VecFault::TooMany));
-    Ok(())
-}
 
 fn column(alloc: Global, cells: &[u128]) -> Result<Vectors, AllocError>
     ensures columns { IfOk result (λ v. v.columns ≡ 1) }
@@ -75,20 +64,4 @@ fn unpacks_after_rows(rt: HostRuntime) -> Result<(), Fail> {
     unpacks(&rt, rt.alloc(), &lanes, 1)?;
     unpacks(&rt, rt.alloc(), &lanes, 255)?;
     unpacks(&rt, rt.alloc(), &lanes, 256)
-}
-
-#[test]
-fn unpacks_two_columns(rt: HostRuntime) -> Result<(), Fail> {
-    let text = b"1f 800000000000000000000001\n02 0123456789abcdef01234567\n";
-    let rows = read_vectors(rt.alloc(), text, &[5, 96])?;
-    let mut lanes = [u64x4::splat(u64::MAX); 101];
-    pack(&rows, 0, &[5, 96], &mut lanes);
-    let mut gives = read_vectors(rt.alloc(), b"", &[5, 96])?;
-    unpack(&lanes, 2, &[5, 96], &mut gives)?;
-    assert_eq!(rt; gives.cells.as_slice(), rows.cells.as_slice());
-    unpack(&lanes, 3, &[5, 96], &mut gives)?;
-    assert_eq!(rt; gives.cells.len(), 10);
-    assert_eq!(rt; gives.cells[8], 0);
-    assert_eq!(rt; gives.cells[9], 0);
-    Ok(())
 }
