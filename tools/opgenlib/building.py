@@ -1,23 +1,22 @@
 """A part of bin/opgen: proves and builds the libraries of the program side by side, and then the program.
 
-    python3 tools/opgenlib/building.py TOP COPIES
+    python3 tools/opgenlib/building.py TOP KIT LINE
 
-TOP is the checkout, COPIES an empty folder. A command of `rt` locks the folders of its crate and of all crates below it. So
-each library is built in a copy of the sources under COPIES. The other copies take what was built there as links, and at last so
-does TOP, in which the program is built.
+TOP is the checkout, KIT the folder of Rattle's kit, LINE what `rt version` says of it. Each crate takes one `rattle build`. A
+library holds what other crates can cite of it, without its proofs, as in `rt ci`: each crate above reads it. The libraries stay in
+crates/opgen/out/libraries. Beside each is a digest of what it was made from, and a later build keeps those of the same.
 
 The next library is the one with the longest way to the program: its own processor seconds, as they were last measured, and
 those of the crates above it along the longest chain. The measured seconds are in seconds.txt beside this file; a crate that
 is not there counts by its lines of code and proofs. Processors for which no other library is ready become further jobs of
-one. A library that would still run when all that does not wait for it is done has further jobs from its start. A library with
-many below it has one job: each further one would read them all, in each round of proofs anew. The program has all processors,
-which translate it. The first job of a crate is left 4 GiB of memory, each further one 2 GiB. RT_JOBS, as for `rt ci`, is the
-number of processors, whatever memory is free.
+one. A library that would still run when all that does not wait for it is done has further jobs from its start. The first job of a
+crate is left 4 GiB of memory, each further one 2 GiB. RT_JOBS, as for `rt ci`, is the number of processors, whatever memory is
+free.
 """
 from __future__ import annotations
 
+import hashlib
 import os
-import shutil
 import signal
 import subprocess
 import sys
@@ -27,20 +26,24 @@ from pathlib import Path
 
 PROGRAM = "opgen"
 MEASURED = "tools/opgenlib/seconds.txt"
-# The status is 0 only if the program was proved, built and run.
-RUN = ("--", "workload", "1")
+LIBRARIES = "crates/opgen/out/libraries"
+PARTS = ("src", "specs", "proofs")
 FIRST_JOB, FURTHER_JOB = 4 << 20, 2 << 20  # KiB of memory: twice what was seen
-MANY = 20  # libraries below another one, with which further jobs take more time than they save
 # The signals that end a build, and the one that says that a process has ended. They are waited for and so have no handlers.
 ENDING = {signal.SIGHUP, signal.SIGINT, signal.SIGQUIT, signal.SIGTERM}
 AWAITED = {*ENDING, signal.SIGCHLD}
 
 
+def named(top: Path) -> dict[str, list[str]]:
+    """The crates of a checkout, each with the crates that it names, those of the kit among them."""
+    lines = [line.partition("#")[0] for line in (top / "crates.txt").read_text().splitlines()]
+    return {line.split(":")[0].split()[0]: line.split(":")[1].split() for line in lines if ":" in line}
+
+
 def dependencies(top: Path) -> dict[str, list[str]]:
     """The crates of a checkout, each with the crates of the checkout that it names."""
-    lines = [line.partition("#")[0] for line in (top / "crates.txt").read_text().splitlines()]
-    named = {line.split(":")[0].split()[0]: line.split(":")[1].split() for line in lines if ":" in line}
-    return {name: [other for other in others if other in named] for name, others in named.items()}
+    crates = named(top)
+    return {name: [other for other in others if other in crates] for name, others in crates.items()}
 
 
 def below(name: str, crates: dict[str, list[str]]) -> set[str]:
@@ -53,10 +56,14 @@ def below(name: str, crates: dict[str, list[str]]) -> set[str]:
     return found
 
 
+def files_of(crate: Path, parts: tuple[str, ...]) -> list[Path]:
+    """The files of some parts of a crate, by their names."""
+    return sorted(path for part in parts for path in (crate / part).rglob("*") if path.is_file())
+
+
 def lines_of(crate: Path) -> int:
     """The lines of a crate's code and proofs."""
-    files = [path for part in ("src", "proofs") for path in (crate / part).rglob("*") if path.is_file()]
-    return sum(path.read_bytes().count(b"\n") for path in files)
+    return sum(path.read_bytes().count(b"\n") for path in files_of(crate, ("src", "proofs")))
 
 
 def weights_of(top: Path, names: set[str]) -> dict[str, float]:
@@ -94,17 +101,13 @@ class Schedule:
 
     def __post_init__(self) -> None:
         way = ways(self.crates, self.weights)
-        self.waiting = sorted(way, key=lambda name: (-way[name], name))
+        self.waiting = sorted(self.weights.keys() - self.built, key=lambda name: (-way[name], name))
 
     def share(self, name: str) -> int:
         """The processors with which a crate ends no later than what is left to do beside it."""
         weight, left = self.weights[name], set(self.weights) - self.built - {name}
         beside = sum(self.weights[other] for other in left if name not in below(other, self.crates))
         return ceil(self.processors * weight / (weight + beside))
-
-    def reads_many(self, name: str) -> bool:
-        """Whether a crate is a library that has many below it."""
-        return name != PROGRAM and len(below(name, self.crates)) >= MANY
 
     def begin(self) -> tuple[str, int] | None:
         """Starts the next crate, if one is ready and has a processor and memory: its name and number of jobs."""
@@ -115,7 +118,7 @@ class Schedule:
             return None
         # What is idle is shared by the crates that can start now.
         sharing = max(1, min(len(ready), idle, room // FIRST_JOB))
-        wanted = 1 if self.reads_many(ready[0]) else max(idle // sharing, self.share(ready[0]))
+        wanted = max(idle // sharing, self.share(ready[0]))
         jobs = max(1, min(wanted, 1 + (room // sharing - FIRST_JOB) // FURTHER_JOB))
         self.waiting.remove(ready[0])
         self.running[ready[0]] = jobs
@@ -127,73 +130,125 @@ class Schedule:
         self.built.add(name)
 
 
-def link(source: Path, target: Path) -> None:
-    """Puts links to the files of a folder in the place of another folder."""
-    shutil.rmtree(target, ignore_errors=True)
-    shutil.copytree(source, target, symlinks=True, copy_function=os.link)
+def digest_of(crate: Path) -> str:
+    """The SHA-256 of the names and contents of a crate's files."""
+    total = hashlib.sha256()
+    for path in files_of(crate, PARTS):
+        total.update(f"{path.relative_to(crate)} {hashlib.sha256(path.read_bytes()).hexdigest()}\n".encode())
+    return total.hexdigest()
+
+
+class Sources:
+    """What each library is made from: its own files, the libraries that it names, and the kit."""
+
+    def __init__(self, top: Path, kit: Path, line: str) -> None:
+        self.top, self.kit, self.line = top, kit, line
+        self.named, self.crates = named(top), dependencies(top)
+        self.known: dict[str, str] = {}
+
+    def digest(self, name: str) -> str:
+        """The digest of a library, as its files were when it was first asked for."""
+        if name not in self.known:
+            others = [f"{other} {self.digest(other)}" for other in self.crates[name]]
+            text = "\n".join([self.line, *self.named[name], *others, digest_of(self.top / "crates" / name)])
+            self.known[name] = hashlib.sha256(text.encode()).hexdigest()
+        return self.known[name]
+
+    def are_same(self, name: str) -> bool:
+        """Whether the files that a library is made from are still those of its digest."""
+        return Sources(self.top, self.kit, self.line).digest(name) == self.digest(name)
+
+    def library(self, name: str) -> Path:
+        return self.top / LIBRARIES / f"{name}.rlib"
+
+    def record(self, name: str) -> Path:
+        """The file with the digest of a library that is built."""
+        return self.top / LIBRARIES / f"{name}.made"
+
+    def kept(self) -> set[str]:
+        """The libraries that were made from the sources of now, if those below them were too."""
+        made = {name for name in below(PROGRAM, self.crates) if self.library(name).is_dir() and self.record(name).is_file()
+                and self.record(name).read_text() == self.digest(name)}
+        return {name for name in made if below(name, self.crates) <= made}
+
+    def commands(self, name: str, jobs: int) -> list[list[str]]:
+        """The commands that prove and build a crate, in their order."""
+        known, others = self.kit / "rlibs", self.crates[name]
+        of_kit = ["std", *(other for other in self.named[name] if other not in others)]
+        words = ["--antt-project", f"{self.kit}/rattle/logic/antt-project.json", "--logic-built", f"{self.kit}/logic_built"]
+        for folder, libraries in ((known, of_kit), (self.top / LIBRARIES, others)):
+            words += [word for other in libraries for word in ("--extern", f"{other}={folder}/{other}.rlib")]
+            words += ["-L", f"dependency={folder}"]
+        words += ["--links", f"{name}=", "--jobs", str(jobs)]
+        if name == PROGRAM:
+            return [self.build(name, "src/main.rt", [*words, *self.toolchain(), "-o", str(self.object())]), self.link()]
+        return [self.build(name, "src/lib.rt", [*words, "--statements", "-o", str(self.library(name))])]
+
+    def build(self, name: str, root: str, words: list[str]) -> list[str]:
+        return [f"{self.kit}/bin/rattle", "build", "--crate-name", name, root, *words]
+
+    def toolchain(self) -> list[str]:
+        return ["--target", "x86_64-unknown-linux-gnu", "--toolchain", f"{self.kit}/toolchain"]
+
+    def object(self) -> Path:
+        return self.top / LIBRARIES / f"{PROGRAM}.o"
+
+    def link(self) -> list[str]:
+        """The command that links the program."""
+        of_c = [f"{self.kit}/c/{name}" for name in ("libos_c.a", "liblibc_c.a")]
+        return [f"{self.kit}/bin/rattle-link", *self.toolchain(), "-o", f"out/{PROGRAM}", str(self.object()), *of_c]
 
 
 class Builder:
-    """Runs `rt` as a schedule says, each crate in a copy of its own."""
+    """Builds each crate as a schedule says."""
 
-    def __init__(self, top: Path, copies: Path, schedule: Schedule) -> None:
-        self.top, self.copies, self.schedule = top, copies, schedule
+    def __init__(self, sources: Sources, schedule: Schedule) -> None:
+        self.sources, self.schedule = sources, schedule
         self.processes: dict[str, subprocess.Popen] = {}
-        self.places: dict[str, Path] = {}
-        self.free: list[Path] = []
-        self.made = 0
+        self.left: dict[str, list[list[str]]] = {}  # the further commands of a crate
+        # All that is started is in the process group of a shell, which ends it when this process ends, however that comes.
+        ends, self.held = os.pipe()
+        self.guard = subprocess.Popen(["sh", "-c", "read _; kill -9 0"], stdin=ends, preexec_fn=os.setpgrp)
+        os.close(ends)
 
-    def place(self) -> Path:
-        """A copy of the sources in which nothing runs. All copies have the sources of the first, also after an edit."""
-        if self.free:
-            return self.free.pop()
-        place, source = self.copies / str(self.made), self.copies / "0" if self.made else self.top
-        place.mkdir()
-        for name in ("HANDLES", "crates.txt"):
-            shutil.copy(source / name, place)
-        shutil.copytree(source / "crates", place / "crates", ignore=shutil.ignore_patterns("out"))
-        self.made += 1
-        return place
+    def log(self, name: str) -> Path:
+        return self.sources.top / LIBRARIES / f"{name}.log"
 
-    def library(self, name: str) -> Path:
-        """The folder of a built library, in the copy that built it or had it before."""
-        return self.copies / "built" / name
+    def join(self) -> None:
+        """Has a new process end with this one, and take signals as they come."""
+        os.setpgid(0, self.guard.pid)
+        signal.pthread_sigmask(signal.SIG_UNBLOCK, AWAITED)
 
-    def take(self, top: Path, names: set[str]) -> None:
-        """Gives a checkout or copy the libraries that were built for the others."""
-        for name in names:
-            link(self.library(name), top / "crates" / name / "out/rlib")
+    def launch(self, name: str) -> None:
+        """Starts the next command of a crate."""
+        how = {"stdin": subprocess.DEVNULL, "stderr": subprocess.STDOUT, "preexec_fn": self.join}
+        with open(self.log(name), "ab") as log:
+            place = self.sources.top / "crates" / name
+            self.processes[name] = subprocess.Popen(self.left[name].pop(0), cwd=place, stdout=log, **how)
 
     def start(self, name: str, jobs: int) -> None:
         """Starts to build a crate."""
         told = f" with {jobs} jobs" if jobs > 1 else ""
         print(f"opgen: building {name}{told}, {len(self.schedule.waiting)} left", file=sys.stderr, flush=True)
-        libraries = below(name, self.schedule.crates)
-        if name == PROGRAM:
-            place, words = self.top, ["run", "--jobs", str(jobs), *RUN]
-        else:
-            place, words = self.place(), ["lib", "--jobs", str(jobs)]
-            # `rt` keeps this one if its sources are the same.
-            kept = self.top / "crates" / name / "out/rlib"
-            if kept.is_dir():
-                link(kept, place / "crates" / name / "out/rlib")
-            libraries = {other for other in libraries if not (place / "crates" / other / "out/rlib").exists()}
-        self.take(place, libraries)
-        self.places[name] = place
-        how = {"stdin": subprocess.DEVNULL, "stderr": subprocess.STDOUT, "preexec_fn": let_signals}
-        with open(self.copies / f"{name}.log", "wb") as log:
-            self.processes[name] = subprocess.Popen(["rt", *words], cwd=place / "crates" / name, stdout=log, **how)
+        for path in (self.sources.record(name), self.log(name)):
+            path.unlink(missing_ok=True)
+        self.left[name] = self.sources.commands(name, jobs)
+        self.launch(name)
+
+    def fail(self, name: str, lines: list[str]) -> bool:
+        print(f"opgen: {name} failed:", *lines, sep="\n", file=sys.stderr, flush=True)
+        return False
 
     def finish(self, name: str) -> bool:
-        """Takes what was built of a crate whose process has ended, and returns whether it was built."""
-        status = self.processes.pop(name).returncode
-        if status != 0:
-            log = (self.copies / f"{name}.log").read_text(errors="replace").splitlines()
-            print(f"opgen: {name} failed:", *log[-20:], sep="\n", file=sys.stderr, flush=True)
-            return False
-        if name != PROGRAM:
-            link(self.places[name] / "crates" / name / "out/rlib", self.library(name))
-            self.free.append(self.places[name])
+        """Takes the end of a crate's command, and returns whether all went well."""
+        if self.processes.pop(name).returncode != 0:
+            return self.fail(name, self.log(name).read_text(errors="replace").splitlines()[-20:])
+        if self.left[name]:
+            self.launch(name)
+            return True
+        if not self.sources.are_same(name):
+            return self.fail(name, ["its sources changed while it was built"])
+        self.sources.record(name).write_text(self.sources.digest(name))
         self.schedule.end(name)
         return True
 
@@ -211,15 +266,9 @@ class Builder:
                 if not all([self.finish(name) for name in ended]):
                     return False
         finally:
-            for process in self.processes.values():
-                process.terminate()
+            os.killpg(self.guard.pid, signal.SIGKILL)
             for process in self.processes.values():
                 process.wait()
-
-
-def let_signals() -> None:
-    """Gives signals to this process as they come."""
-    signal.pthread_sigmask(signal.SIG_UNBLOCK, AWAITED)
 
 
 def machine() -> tuple[int, int]:
@@ -237,11 +286,11 @@ def main() -> int:
     # A shell has commands in the background ignore some of them.
     for number in ENDING:
         signal.signal(number, signal.SIG_DFL)
-    top, copies = map(Path, sys.argv[1:])
-    crates = dependencies(top)
-    weights = weights_of(top, {PROGRAM, *below(PROGRAM, crates)})
-    builder = Builder(top, copies, Schedule(crates, weights, *machine()))
-    return 0 if builder.run() else 1
+    sources = Sources(Path(sys.argv[1]), Path(sys.argv[2]), sys.argv[3])
+    (sources.top / LIBRARIES).mkdir(parents=True, exist_ok=True)
+    weights = weights_of(sources.top, {PROGRAM, *below(PROGRAM, sources.crates)})
+    schedule = Schedule(sources.crates, weights, *machine(), built=sources.kept())
+    return 0 if Builder(sources, schedule).run() else 1
 
 
 if __name__ == "__main__":
