@@ -206,7 +206,7 @@ class Builder:
         self.sources, self.schedule = sources, schedule
         self.processes: dict[str, subprocess.Popen] = {}
         self.left: dict[str, list[list[str]]] = {}  # the further commands of a crate
-        # All that is started is in the process group of a shell, which ends it when this process ends, however that comes.
+        # All that is started is in the process group of a shell, which ends it when the pipe closes: at the end of this process.
         ends, self.held = os.pipe()
         self.guard = subprocess.Popen(["sh", "-c", "read _; kill -9 0"], stdin=ends, preexec_fn=os.setpgrp)
         os.close(ends)
