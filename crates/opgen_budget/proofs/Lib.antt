@@ -1,3 +1,3 @@
 pub mod Sums
 pub mod Weights
-mod Heights
+pub mod Heights

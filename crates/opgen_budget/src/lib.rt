@@ -5,16 +5,14 @@
 //! columns left out of a product is the greatest whose bits, over all pairs of places, together weigh at most half a unit of
 //! what is kept. How many bits a column has.
 //!
-//! By: `guard`, `drop_columns`; the law `columns_have_bits`.
+//! By: `guard`, `drop_columns`; the law `columns_have_bits` of `opgen_part_laws`.
 #![tactic(auto)]
 
 ghost use Rattle.std.specs.Prelude.{ℕ, ◌<◌, ◌≤◌, ◌^◌};
 
 mod columns;
-mod laws;
 
 pub use columns::{Cut, drop_columns};
-pub use laws::columns_have_bits;
 use opgen_num::bit_length;
 
 /// The guard bits for `n` rounded terms: the least number whose power of two is greater than `n`.

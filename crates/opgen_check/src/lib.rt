@@ -6,14 +6,12 @@
 //! the latency on whose outputs are not good for the inputs up to LATENCY rows before, or that all are good, and how many.
 //! There is at most one verdict.
 //!
-//! By: `check_rows`; the law `one_verdict`.
+//! By: `check_rows`; the law `one_verdict` of `opgen_part_laws`.
 #![tactic(auto)]
 
 mod checked;
-mod laws;
 mod ports;
 mod rows;
 
 pub use checked::{CheckFault, Checked};
-pub use laws::one_verdict;
 pub use rows::check_rows;

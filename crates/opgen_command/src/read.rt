@@ -1,6 +1,6 @@
 //! Reads the words of a command line: the first word names the command, and `clap` parses the other words.
-ghost use Rattle.std.specs.Prelude.{◌≡◌, IsTrue, IfOk, IfErr, Some, None, map, string_bytes, option_and_then};
-ghost use Rattle.clap.specs.Words.{app_of, found_of, is_simple_and_free, rows_of};
+ghost use Rattle.std.specs.Prelude.{◌≡◌, IfOk, IfErr, Some, None, map, string_bytes, option_and_then};
+ghost use Rattle.clap.specs.Words.{found_of, rows_of};
 ghost use Rattle.opgen_command.specs.Command.{command_of, found_by, word_of, HasRanges, IsRead, generate_of, vectors_of, simulate_of, workload_of, check_of};
 ghost use Rattle.opgen_command.specs.Names.{app_named, found_as};
 
@@ -14,13 +14,19 @@ use clap::error::ErrorKind;
 use opgen_list::Text;
 use std::alloc::Global;
 
-/// What a command of `clap` finds in the words.
-fn matched<'a>(app: clap::Command<'a>, words: &'a [String]) -> Result<ArgMatches<'a>, CommandFault>
-    requires { IsTrue (is_simple_and_free (app_of app)) }
-    ensures found { IfOk result (λ m. found_by (app_of app.entry) (map string_bytes words.entry.now) ≡ Some (rows_of (found_of m))) }
+/// What `clap` finds in the words of a command of this name.
+fn matched<'a>(
+    alloc: Global,
+    name: CommandName,
+    words: &'a [String],
+) -> Result<ArgMatches<'a>, CommandFault>
+    ensures found { IfOk result (λ m. found_by (app_named name) (map string_bytes words.entry.now) ≡ Some (rows_of (found_of m))) }
     ensures usage { IfErr result (λ fault. fault ≡ CommandFault.Usage →
-        found_by (app_of app.entry) (map string_bytes words.entry.now) ≡ None) }
+        found_by (app_named name) (map string_bytes words.entry.now) ≡ None) }
 {
+    let Ok(app) = app(alloc, name) else {
+        return Err(CommandFault::Memory);
+    };
     match app.try_get_matches_from(words) {
         Ok(found) => Ok(found),
         Err(error) => match error.kind() {
@@ -112,7 +118,7 @@ fn command(
 fn named(alloc: Global, name: CommandName, words: &[String]) -> Result<Command, CommandFault>
     ensures { IsRead (option_and_then (found_as name) (found_by (app_named name) (map string_bytes words.now))) result }
 {
-    let found = matched(app(alloc, name)?, words)?;
+    let found = matched(alloc, name, words)?;
     command(alloc, name, &found)
 }
 

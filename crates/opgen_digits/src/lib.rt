@@ -4,7 +4,7 @@
 //! Proved: A digit is 1 exactly if the number is not less than what the digit takes off. The rest is what is left of the
 //! number after it.
 //!
-//! By: `try_digit`, `output_results`; the law `digits_are_right`.
+//! By: `try_digit`, `output_results`; the law `digits_are_right` of `opgen_part_laws`.
 #![tactic(auto)]
 
 ghost use Rattle.std.specs.Prelude.{◌≡◌, ◌+◌, ◌≤◌, ℤ, [], ◌∷◌, ◌++◌, All, IfOk, OnOk, length, slice_index};
@@ -18,9 +18,6 @@ ghost use Rattle.opgen_design.specs.Width.{IsWidth};
 ghost use Rattle.opgen_digits.specs.Results.{AreResults, with_results};
 ghost use Rattle.opgen_digits.specs.Digit.{AreOperands, is_not_negative, lowest as lowest_of, tried};
 
-mod laws;
-
-pub use laws::digits_are_right;
 use opgen_list::Items;
 use opgen_net::{Class, Expr, Net, Op, Slice, WordBit, push_bits};
 use opgen_num::Memory;

@@ -1,3 +1,2 @@
 pub mod Cycles
 mod RankLaws
-mod Law

@@ -6,7 +6,6 @@ pub mod Reaching
 pub mod Vectors
 pub mod SignedSets
 pub mod OddParts
-pub mod Uniqueness
 pub mod Residues
 pub mod Operands
 pub mod Ranges
@@ -22,4 +21,3 @@ pub mod ServedNets
 pub mod PartNodes
 pub mod Fits
 pub mod Serving
-pub mod Resting

@@ -8,7 +8,8 @@
 //! parts have, at every whole time, the input times their factor.
 //!
 //! By: `combine`, `reach`, `cost`, `csd_set`, `makes_with`, `makes_among`, `graph_net`, `targets`, `parts`, `place_adders`,
-//! `place_parts`; the laws `ranks_are_graphs`, `one_graph`, `digit_sets_reach`, `reached_sets_serve`, `parts_are_odd`.
+//! `place_parts`; the laws `ranks_are_graphs`, `one_graph`, `digit_sets_reach`, `reached_sets_serve`, `parts_are_odd` of
+//! `opgen_part_laws`.
 #![tactic(auto)]
 
 mod adders;
@@ -16,7 +17,6 @@ mod constants;
 mod costs;
 mod digit_set;
 mod forms;
-mod laws;
 mod makes;
 mod multiples;
 mod net;
@@ -30,10 +30,6 @@ pub use constants::{constant_node, magnitude};
 pub use costs::cost;
 pub use digit_set::csd_set;
 pub use forms::{Form, Step, combine};
-pub use laws::{
-    digit_sets_reach, multiples_rest, one_graph, parts_are_odd, ranks_are_graphs,
-    reached_sets_serve,
-};
 pub use makes::{makes_among, makes_with};
 pub use multiples::{Multiple, multiple_of, operand};
 pub use net::{graph_net, input_net};

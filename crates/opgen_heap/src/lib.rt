@@ -4,11 +4,10 @@
 //! what the heap holds exactly as stated. If memory runs out in `add_bit`, the heap is as before. A heap's bits stay valid
 //! while the net grows.
 //!
-//! By: `Heap::add_bit`, `add_row`, `add_constant`, `columns`, `constant`, `width`; the law `bits_still_stand`.
+//! By: `Heap::add_bit`, `add_row`, `add_constant`, `columns`, `constant`, `width`; the law `bits_still_stand` of
+//! `opgen_part_laws`.
 #![tactic(auto)]
 
 mod heap;
-mod laws;
 
 pub use heap::Heap;
-pub use laws::bits_still_stand;

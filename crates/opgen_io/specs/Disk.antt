@@ -1,8 +1,17 @@
 -- The error counts of the folder on disk.
 use Rattle.std.specs.Prelude.{ℕ}
+use Rattle.opgen_io.specs.Counts.{next_count}
+use Rattle.opgen_io.specs.declared.folder.FetchFault.{FetchFault}
+use Rattle.opgen_io.specs.declared.folder.FetchFault.TheVariants.{Failed, TooLong, Memory}
 
 -- how many reads have failed, how many files were too long, and how many writes have failed
 pub record DiskCounts : Type 0 where
   pub read_faults : ℕ
   pub longs : ℕ
   pub write_faults : ℕ
+
+-- the counts after a fetch of that fault
+abbrev pub counted : FetchFault → DiskCounts → DiskCounts
+counted Failed s = record s { read_faults = next_count s.read_faults }
+counted TooLong s = record s { longs = next_count s.longs }
+counted Memory s = s

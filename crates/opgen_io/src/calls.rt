@@ -5,7 +5,7 @@ ghost use Rattle.opgen_io.specs.Counts.{next_count, is_listed};
 use crate::counts::raise;
 
 /// How many calls were made, and the numbers, from 0, of those that fail.
-#[derive(Debug, Drop)]
+#[derive(Drop)]
 pub struct Calls {
     pub failing: Vec<u64>,
     pub made: u64,

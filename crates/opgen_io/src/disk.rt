@@ -1,5 +1,6 @@
 //! The folder on disk: reads and stores the files of the working directory.
 ghost use Rattle.std.specs.Prelude.{◌≡◌, ◌≤◌, None, IfOk, vec_len};
+ghost use Rattle.opgen_io.specs.Disk.{counted};
 
 use crate::counts::raise;
 use crate::replace::store_file;
@@ -45,6 +46,19 @@ impl<'a, R: Files> DiskFolder<'a, R> {
     }
 }
 
+impl<'a, R> DiskFolder<'a, R> {
+    // Raises the count that shows the fault.
+    fn count(&mut self, fault: FetchFault)
+        ensures { self.new ≡ counted fault self.old }
+    {
+        match fault {
+            FetchFault::Failed => raise(&mut self.read_faults),
+            FetchFault::TooLong => raise(&mut self.longs),
+            FetchFault::Memory => {}
+        }
+    }
+}
+
 // The bytes of the file, of which one more than `most` are read to find that there are more.
 fn read_file<R: Files>(
     rt: &R,
@@ -77,10 +91,8 @@ impl<'a, R: Files + AllocGlobal> Folder for DiskFolder<'a, R> {
 
     fn fetch(&mut self, alloc: Global, name: &str, most: usize) -> Result<Vec<u8>, FetchFault> {
         let answer = read_file(self.rt, alloc, name, most);
-        match &answer {
-            Err(FetchFault::Failed) => raise(&mut self.read_faults),
-            Err(FetchFault::TooLong) => raise(&mut self.longs),
-            Ok(_) | Err(FetchFault::Memory) => {}
+        if let Err(fault) = &answer {
+            self.count(*fault);
         }
         answer
     }

@@ -11,7 +11,7 @@ use std::alloc::{AllocError, Global};
 use std::marker::Model;
 
 /// Files in memory, for tests. The calls of `fetch` and `store` are counted together, from 0, and those whose numbers were listed fail.
-#[derive(Debug, Drop)]
+#[derive(Drop)]
 pub struct MemoryFolder {
     files: Vec<(String, Vec<u8>)>,
     calls: Calls,
@@ -160,7 +160,7 @@ impl Folder for MemoryFolder {
 }
 
 /// Bytes in memory, for tests. The calls of `put` are counted, from 0, and those whose numbers were listed fail.
-#[derive(Debug, Drop)]
+#[derive(Drop)]
 pub struct MemorySink {
     bytes: Vec<u8>,
     calls: Calls,

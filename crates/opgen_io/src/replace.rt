@@ -30,29 +30,37 @@ pub fn store_file<R: Files + AllocGlobal>(
     name: &str,
     bytes: &[u8],
 ) -> Result<(), StoreFault> {
-    let standing = open_standing(rt, name).or(Err(StoreFault::Failed))?;
-    let Some((mut file, about)) = standing else {
-        let path = end_of_links(rt, name)?.ok_or(StoreFault::Failed)?;
-        return replace(rt, path.as_path(), None, bytes);
+    match OpenOptions::new().write(true).open(rt, name) {
+        Ok(mut file) => store_over(rt, name, &mut file, bytes),
+        Err(fault) if fault.kind() == ErrorKind::NotFound => store_new(rt, name, bytes),
+        Err(_) => Err(StoreFault::Failed),
+    }
+}
+
+// Stores the bytes under a name that stands for nothing.
+fn store_new<R: Files + AllocGlobal>(rt: &R, name: &str, bytes: &[u8]) -> Result<(), StoreFault> {
+    match end_of_links(rt, name)? {
+        Some(path) => replace(rt, path.as_path(), None, bytes),
+        None => Err(StoreFault::Failed),
+    }
+}
+
+// Stores the bytes under a name that stands for this file, which is opened to be written as it is.
+fn store_over<R: Files + AllocGlobal>(
+    rt: &R,
+    name: &str,
+    file: &mut R::File,
+    bytes: &[u8],
+) -> Result<(), StoreFault> {
+    let Ok(about) = file.metadata() else {
+        return Err(StoreFault::Failed);
     };
     if about.is_file()
         && let Some(path) = end_of_links(rt, name)?
     {
         return replace(rt, path.as_path(), Some(&about), bytes);
     }
-    write_straight(&mut file, &about, bytes).or(Err(StoreFault::Failed))
-}
-
-// What stands under the name, opened to be written as it is, if anything does.
-fn open_standing<R: Files>(rt: &R, name: &str) -> io::Result<Option<(R::File, Metadata)>> {
-    match OpenOptions::new().write(true).open(rt, name) {
-        Ok(file) => {
-            let about = file.metadata()?;
-            Ok(Some((file, about)))
-        }
-        Err(fault) if fault.kind() == ErrorKind::NotFound => Ok(None),
-        Err(fault) => Err(fault),
-    }
+    write_straight(file, &about, bytes).or(Err(StoreFault::Failed))
 }
 
 // The bytes in place of what the file holds. Only a regular file holds any.
@@ -70,7 +78,9 @@ fn write_straight<F: OpenFile + io::Write>(
 // The name that links lead to, the first of which is this name; or none where one of them names an open file of a process, as
 // `/dev/stdout` does.
 fn end_of_links<R: Files + AllocGlobal>(rt: &R, name: &str) -> Result<Option<PathBuf>, StoreFault> {
-    let mut path = PathBuf::from_str(rt.alloc(), name).or(Err(StoreFault::Memory))?;
+    let Ok(mut path) = PathBuf::from_str(rt.alloc(), name) else {
+        return Err(StoreFault::Memory);
+    };
     for _ in 0..LINKS {
         match fs::symlink_metadata(rt, path.as_str()) {
             Ok(about) if !about.is_symlink() => return Ok(Some(path)),
@@ -102,40 +112,48 @@ fn follow<R: Files + AllocGlobal>(rt: &R, link: Path<'_>) -> Result<PathBuf, Sto
     }
 }
 
-// Lets a new file with these bytes take the place of what stands under the path.
+// Lets a new file with these bytes take the place of what stands under the path. It is made in the same folder, under the first
+// of its names that is free.
 fn replace<R: Files + AllocGlobal>(
     rt: &R,
     path: Path<'_>,
     old: Option<&Metadata>,
     bytes: &[u8],
 ) -> Result<(), StoreFault> {
-    let (new, file) = make_beside(rt, path)?;
-    let moved = match fill(rt, file, new.as_path(), old, bytes) {
-        Ok(()) => fs::rename(rt, new.as_path(), path),
-        Err(fault) => Err(fault),
-    };
-    if moved.is_err() {
-        let _removed = fs::remove_file(rt, new.as_path());
+    let Some(name) = path.file_name() else {
         return Err(StoreFault::Failed);
-    }
-    Ok(())
-}
-
-// A new file in the same folder, under the first of its names that is free.
-fn make_beside<R: Files + AllocGlobal>(
-    rt: &R,
-    path: Path<'_>,
-) -> Result<(PathBuf, R::File), StoreFault> {
-    let name = cut(path.file_name().ok_or(StoreFault::Failed)?);
+    };
     for number in 1..=TRIES {
-        let new = beside(rt.alloc(), path, name, number).or(Err(StoreFault::Memory))?;
+        let Ok(new) = beside(rt.alloc(), path, cut(name), number) else {
+            return Err(StoreFault::Memory);
+        };
         match File::create_new(rt, new.as_path()) {
-            Ok(file) => return Ok((new, file)),
+            Ok(file) => return replace_by(rt, path, file, new.as_path(), old, bytes),
             Err(fault) if fault.kind() == ErrorKind::AlreadyExists => {}
             Err(_) => return Err(StoreFault::Failed),
         }
     }
     Err(StoreFault::Failed)
+}
+
+// Puts the bytes into the new file, and lets it take the place of what stands under the path.
+fn replace_by<R: Files>(
+    rt: &R,
+    path: Path<'_>,
+    file: R::File,
+    new: Path<'_>,
+    old: Option<&Metadata>,
+    bytes: &[u8],
+) -> Result<(), StoreFault> {
+    let moved = match fill(rt, file, new, old, bytes) {
+        Ok(()) => fs::rename(rt, new, path),
+        Err(fault) => Err(fault),
+    };
+    if moved.is_err() {
+        let _removed = fs::remove_file(rt, new);
+        return Err(StoreFault::Failed);
+    }
+    Ok(())
 }
 
 // The name, or as many of its first letters as a new file's name has room for.

@@ -3,18 +3,16 @@
 //! Proved: New lanes of a sound design have the registers' initial words in each stream. Each step is a cycle of the design
 //! in each of the 256 streams, by that stream's own bit of an enable. The steps of new lanes are a run in each stream.
 //!
-//! By: `Lanes::new`, `Lanes::from_design`, `Lanes::step`; the law `steps_are_runs`.
+//! By: `Lanes::new`, `Lanes::from_design`, `Lanes::step`; the law `lane_steps_are_runs` of `opgen_part_laws`.
 #![tactic(auto)]
 
 mod bank;
 mod drivers;
 mod evaluate;
 mod lanes;
-mod laws;
 mod ports;
 mod registers;
 mod tables;
 mod words;
 
 pub use lanes::Lanes;
-pub use laws::steps_are_runs;

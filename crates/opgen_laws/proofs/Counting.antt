@@ -1,7 +1,7 @@
 -- How many numbers below a bound have a property.
 use Rattle.std.proofs.Common.{◌≡◌, ℕ, zero, suc, ◌<◌, ◌≤◌, ◌⊎◌, refl, sym, subst, inl, inr, arith}
 use Rattle.std.proofs.lemmas.Bool.{cases_eq}
-use Rattle.opgen_search.proofs.Classical.{decided}
+use Rattle.opgen_part_laws.proofs.Classical.{decided}
 
 abbrev pub IsCount : (P : ℕ → Type 0) (bound count : ℕ) → Type 0
 IsCount P zero count = count ≡ 0

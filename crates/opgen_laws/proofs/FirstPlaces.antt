@@ -9,7 +9,7 @@ use Rattle.opgen_design.specs.declared.sound.Rule.{Rule}
 use Rattle.opgen_design.specs.Sound.{rule_number, Holds, DesignPasses, PortPasses, SignalPasses, DriverPasses, at_design}
 use Rattle.opgen_design.proofs.FirstFailing.{before-none, none-failing}
 use Rattle.opgen_design.proofs.SoundLaws.{holds-of, port-fault, signal-fault, driver-fault}
-use Rattle.opgen_search.proofs.Classical.{decided}
+use Rattle.opgen_part_laws.proofs.Classical.{decided}
 
 -- a list has a first place at which P fails, or none
 module _ {X : Type 0} (P : ℕ → X → Type 0) (xs : List X) (neither : (o : Option ℕ) → IsFirstFailing P xs o → ⊥) where

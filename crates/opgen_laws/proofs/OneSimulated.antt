@@ -5,10 +5,10 @@ use Rattle.opgen_design.specs.declared.design.Design.{Design}
 use Rattle.opgen_design.specs.Run.{input_widths}
 use Rattle.opgen_design.specs.Sound.{IsSound}
 use Rattle.opgen_vhdl.proofs.Walks.{one_design}
-use Rattle.opgen_read.proofs.FirstCause.{one_cause, no_cause}
+use Rattle.opgen_part_laws.proofs.FirstCause.{one_cause, no_cause}
 use Rattle.opgen_vec.specs.declared.fault.VecFault.{VecFault}
 use Rattle.opgen_vec.specs.Reading.{IsReading}
-use Rattle.opgen_vec.proofs.OneReading.{one_reading}
+use Rattle.opgen_part_laws.proofs.OneReadingOfRows.{one_reading}
 use Rattle.opgen_top.specs.Answer.{Answer, simulated, vhdl_refused, vectors_refused}
 use Rattle.opgen_runs.proofs.Rows.{one_outputs}
 use Rattle.opgen_vec.specs.Writing.{rows_text}

@@ -17,7 +17,7 @@ use Rattle.opgen_spec.specs.Faults.{read as read_spec}
 use Rattle.opgen_vec.specs.declared.fault.VecFault.{VecFault}
 use Rattle.opgen_vec.specs.Reading.{IsReading}
 use Rattle.opgen_vec.proofs.Rows.{rows-of_cells}
-use Rattle.opgen_search.proofs.Classical.{decided}
+use Rattle.opgen_part_laws.proofs.Classical.{decided}
 use Rattle.opgen_top.specs.Answer.{Answer, all_good, bad_row, ports_refused, refused, vectors_refused, vhdl_refused}
 use Rattle.opgen_top.specs.Check.{GivesRows, IsAnswerToCheck, IsAnswerToVhdl}
 use Rattle.opgen_top.specs.Simulate.{GivesDesign}

@@ -13,8 +13,8 @@ use Rattle.opgen_divide.specs.Recipe.{net_of_pair}
 use Rattle.opgen_divide.proofs.Whole as quotients
 use Rattle.opgen_fir.specs.Recipe.{net_of_sum}
 use Rattle.opgen_laws.proofs.SumNets.{sum-fits}
-use Rattle.opgen_search.proofs.Classical.{decided}
-use Rattle.opgen_search.proofs.SomeNet.{several_net, some_least_graph}
+use Rattle.opgen_part_laws.proofs.Classical.{decided}
+use Rattle.opgen_part_laws.proofs.SomeNet.{several_net, some_least_graph}
 use Rattle.opgen_laws.proofs.ProductNets.{product_net}
 use Rattle.opgen_net.specs.declared.net.Net.{Net}
 use Rattle.opgen_operator.specs.declared.spec.Operator.{Operator}

@@ -14,7 +14,7 @@ use Rattle.opgen_vec.specs.declared.fault.VecFault.{VecFault}
 use Rattle.opgen_vec.specs.Reading.{IsReading}
 use Rattle.opgen_vec.proofs.Rows.{rows-of_cells}
 use Rattle.opgen_laws.specs.Verdict.{IsJudged}
-use Rattle.opgen_search.proofs.Classical.{decided}
+use Rattle.opgen_part_laws.proofs.Classical.{decided}
 use Rattle.opgen_laws.proofs.Verdict.{has_verdict}
 use Rattle.opgen_top.specs.Answer.{Answer, simulated, vhdl_refused, vectors_refused}
 use Rattle.opgen_top.specs.Simulate.{GivesDesign, IsSimulated}

@@ -5,16 +5,17 @@ ghost use Rattle.opgen_laws.specs.Lines.{LinesAreFixed};
 ghost use Rattle.opgen_laws.specs.Workloads.{WorkloadsAreGood};
 
 use opgen_operator::{outputs_are_wide, outputs_hold, products_have_width};
+use opgen_part_laws::{one_adder_set, one_least_graph, one_net_of_product, one_net_of_several};
 use opgen_top::circuits_serve;
 
 /// The words, the targets and the files leave at most one answer: its status, its line and its stores.
 pub fn one_answer()
     ensures { HasOneAnswer }
 {
-    opgen_mult::one_net();
-    opgen_search::one_net();
-    opgen_search::one_adder_set();
-    opgen_search::one_least_graph();
+    one_net_of_product();
+    one_net_of_several();
+    one_adder_set();
+    one_least_graph();
 }
 
 /// That the words, the targets and the files leave no answer is impossible. Which one is due is not said, since nothing here

@@ -4,14 +4,12 @@
 //! Proved: For every product that a version accepts, with either compressor: the net is that of the recipe, of which there
 //! is one, and it fits every valid specification of that product, signed or not, exact or truncated, at every shift.
 //!
-//! By: `build`; the law `one_net`.
+//! By: `build`; the law `one_net_of_product` of `opgen_part_laws`.
 #![tactic(auto)]
 
 mod factors;
-mod laws;
 mod multiplier;
 mod output;
 mod places;
 
-pub use laws::one_net;
 pub use multiplier::build;

@@ -5,18 +5,16 @@
 //! given number of bits of a node, the highest first, or of zeros.
 //!
 //! By: `Net::input`, `constant`, `cells`, `choice`, `table`, `delay`, `output`, `word`; `push_bits`, `push_zeros`; the law
-//! `grown_nets_keep_nodes`.
+//! `grown_nets_keep_nodes` of `opgen_part_laws`.
 #![tactic(auto)]
 
 mod cell;
-mod laws;
 mod lists;
 mod net;
 mod node;
 mod word_bits;
 
 pub use cell::{Cell, Class};
-pub use laws::grown_nets_keep_nodes;
 pub use lists::{push_bits, push_zeros};
 pub use net::{Net, Output};
 pub use node::Node;

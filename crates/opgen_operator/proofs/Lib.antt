@@ -8,11 +8,11 @@ pub mod Results
 mod Roundings
 pub mod Widths
 mod ProductWidths
-mod PortWidths
+pub mod PortWidths
 pub mod In128
 mod Cycles
 mod Numbered
-mod Reached
+pub mod Reached
 mod Held
 pub mod Accepted
 pub mod Totals

@@ -1,28 +1,10 @@
 //! Laws of specifications: output formats hold every exact value, and widths, shifts and exact values are bounded.
-ghost use Rattle.opgen_operator.specs.Bounded.{AcceptedHaveRoom, EntriesAreSmall, ExactValuesAreIn128, InputsAreWide, LimitsAreWithin, OutputsAreWide, PolynomialsHaveRoom, ProductsHaveWidth, RootsAreNarrow, ShiftsAreSmall, TapsHaveRoom, ValidAreAccepted};
+ghost use Rattle.opgen_operator.specs.Bounded.{EntriesAreSmall, InputsAreWide, OutputsAreWide, ProductsHaveWidth};
 ghost use Rattle.opgen_operator.specs.Held.{OutputsHold};
-ghost use Rattle.opgen_operator.specs.PortNames.{FittingNetsAreNamed};
-ghost use Rattle.opgen_operator.specs.Reached.{SumsReach, ProductsReach};
-
-/// The output of a sum goes from the floor of its least exact value to the ceiling of its greatest.
-pub fn sums_reach()
-    ensures { SumsReach }
-{}
-
-/// The output of a product goes from the floor of its least exact value to the ceiling of its
-/// greatest.
-pub fn products_reach()
-    ensures { ProductsReach }
-{}
 
 /// The formats of outputs hold every exact value, rounded down or up, but of roots rounded down.
 pub fn outputs_hold()
     ensures { OutputsHold }
-{}
-
-/// No version has inputs or signals of more bits than the program's.
-pub fn limits_are_within()
-    ensures { LimitsAreWithin }
 {}
 
 /// Each input port of a valid specification has 1 to 32 bits in version 1, and 1 to 48 in version 2.
@@ -35,57 +17,12 @@ pub fn outputs_are_wide()
     ensures { OutputsAreWide }
 {}
 
-/// The shift of a valid specification is from -48 to 48, for sums in version 2 up to 32, from 0 on
-/// for quotients and roots, and 0 for the kinds that have none.
-pub fn shifts_are_small()
-    ensures { ShiftsAreSmall }
-{}
-
-/// In every cycle, the exact values of a valid specification are fractions of numbers of 128 bits.
-///
-/// The shift is in them. The numbers lie strictly between -2^127 and 2^127, and so do the dividend
-/// of a quotient and the square of a root.
-pub fn exact_values_are_in_128()
-    ensures { ExactValuesAreIn128 }
-{}
-
-/// The operator of a valid specification is accepted, which is what builders of nets ask for.
-pub fn valid_are_accepted()
-    ensures { ValidAreAccepted }
-{}
-
-/// The input and a shift up of an accepted sum have 80 bits together at most.
-pub fn accepted_have_room()
-    ensures { AcceptedHaveRoom }
-{}
-
 /// The entries of tables of an accepted sum have 122 bits at most, 12 of them guard bits.
 pub fn entries_are_small()
     ensures { EntriesAreSmall }
 {}
 
-/// The widest signal of a root is within the limit of each version.
-pub fn roots_are_narrow()
-    ensures { RootsAreNarrow }
-{}
-
 /// The range of a product passes 128 bits only where it is shifted up, and how wide its output is there.
 pub fn products_have_width()
     ensures { ProductsHaveWidth }
-{}
-
-/// The numbers of a polynomial have 54 bits at most, and its heaps 70.
-pub fn polynomials_have_room()
-    ensures { PolynomialsHaveRoom }
-{}
-
-/// The output of whole taps has 17 bits more than the input at most.
-pub fn taps_have_room()
-    ensures { TapsHaveRoom }
-{}
-
-/// A net that fits an operator whose fields are in range has ports that a design may have, whatever
-/// allowed name the design has.
-pub fn fitting_nets_are_named()
-    ensures { FittingNetsAreNamed }
 {}

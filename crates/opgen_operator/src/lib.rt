@@ -11,9 +11,9 @@
 //!
 //! By: `Spec::inputs`, `outputs`, `good`; `Operator::shift`, `inexact`, `need`, `least_shift`, `most_shift`; `most_input`,
 //! `most_signal`; the methods of `Sum`, `Product`, `Pair`, `Single`, `Several`; `is_history`, `is_cycle`; the laws
-//! `valid_are_accepted`, `sums_reach`, `products_reach`, `outputs_hold`, `limits_are_within`, `inputs_are_wide`,
-//! `outputs_are_wide`, `shifts_are_small`, `exact_values_are_in_128`, `accepted_have_room`, `entries_are_small`,
-//! `products_have_width`, `roots_are_narrow`, `fitting_nets_are_named`.
+//! `outputs_hold`, `inputs_are_wide`, `outputs_are_wide`, `entries_are_small`, `products_have_width`; of `opgen_part_laws`
+//! the laws `valid_are_accepted`, `sums_reach`, `products_reach`, `limits_are_within`, `shifts_are_small`,
+//! `exact_values_are_in_128`, `accepted_have_room`, `roots_are_narrow`, `fitting_nets_are_named`.
 #![tactic(auto)]
 
 mod fields;
@@ -32,10 +32,7 @@ mod words;
 pub use horner::Ends;
 pub use kind::Kind;
 pub use laws::{
-    accepted_have_room, entries_are_small, exact_values_are_in_128, fitting_nets_are_named,
-    inputs_are_wide, limits_are_within, outputs_are_wide, outputs_hold, polynomials_have_room,
-    products_have_width, products_reach, roots_are_narrow, shifts_are_small, sums_reach,
-    taps_have_room, valid_are_accepted,
+    entries_are_small, inputs_are_wide, outputs_are_wide, outputs_hold, products_have_width,
 };
 pub use limits::{most_input, most_signal};
 pub use odd_parts::odd_part_count;

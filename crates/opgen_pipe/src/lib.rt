@@ -8,8 +8,8 @@
 //! before, and each output has its slice's word of the latency before; constants and the cycles before the latency are
 //! included.
 //!
-//! By: `plan`; the laws `design_is_sound`, `design_is_shaped`, `design_is_writable`, `design_runs`, `run_follows_flow`,
-//! `plan_fits`, `plan_is_least`, `plan_paths_fit`.
+//! By: `plan`; the law `run_follows_flow`; of `opgen_part_laws` the laws `design_is_sound`, `design_is_shaped`,
+//! `design_is_writable`, `design_runs`, `plan_fits`, `plan_is_least`, `plan_paths_fit`.
 #![tactic(auto)]
 
 mod cells;
@@ -27,9 +27,6 @@ mod standings;
 mod widths;
 mod zeros;
 
-pub use laws::{
-    design_is_shaped, design_is_sound, design_is_writable, design_runs, plan_fits, plan_is_least,
-    plan_paths_fit, run_follows_flow,
-};
+pub use laws::run_follows_flow;
 pub use planning::{PlanFault, Planned, plan};
 pub use standing::Standing;

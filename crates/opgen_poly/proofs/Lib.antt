@@ -1,6 +1,6 @@
 mod Sizes
 mod Cores
-mod Cuts
+pub mod Cuts
 mod Terms
 mod Values
 mod StepLaws

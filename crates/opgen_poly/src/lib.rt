@@ -6,7 +6,7 @@
 //! inputs; i is the place of its coefficient, n the last place. The net fits every valid specification of that polynomial.
 //! Each product leaves out the greatest number of columns that weigh at most half a unit.
 //!
-//! By: `build`; the law `most_are_left_out`.
+//! By: `build`; the law `most_are_left_out` of `opgen_part_laws`.
 #![tactic(auto)]
 
 ghost use Rattle.std.specs.Prelude.{◌≡◌, IfOk};
@@ -16,11 +16,9 @@ ghost use Rattle.opgen_operator.specs.declared.spec.Operator.TheVariants.{Poly};
 ghost use Rattle.opgen_poly.specs.Near.{ArePartialsNear};
 ghost use Rattle.opgen_poly.specs.Recipe.{net_of_poly};
 
-mod laws;
 mod numbers;
 mod steps;
 
-pub use laws::most_are_left_out;
 use opgen_net::Net;
 use opgen_num::Memory;
 use opgen_operator::Poly as Polynomial;

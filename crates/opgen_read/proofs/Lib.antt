@@ -8,4 +8,3 @@ pub mod Reaching
 pub mod WholeTexts
 pub mod DriverCount
 pub mod Judging
-pub mod FirstCause

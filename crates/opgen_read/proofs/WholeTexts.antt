@@ -9,8 +9,6 @@ use Rattle.opgen_lex.specs.First.{HasTokens}
 use Rattle.opgen_cursor.specs.Left.{symbols_in}
 use Rattle.opgen_read.specs.Outcome.{IsTextFault, HasFew}
 use Rattle.opgen_read.specs.Reached.{IsPieceFault}
-use Rattle.opgen_read.specs.Seen.{seen}
-use Rattle.opgen_read.specs.declared.draft.Draft.{Draft}
 use Rattle.opgen_read.specs.declared.read.TheConstants.{MAX_TEXT_LEN}
 use Rattle.opgen_read.specs.declared.fault.ReadFault.{ReadFault}
 use Rattle.opgen_read.specs.declared.fault.ReadFault.TheVariants.{Lexical, Syntax, TooLarge, Unsound, Memory}
@@ -38,17 +36,17 @@ module _ (bytes : List ℕ) (h : HasTokens bytes) where
   fault_of (Unsound rule item) f = f
   fault_of Memory f = tt
 
-  abbrev HasRead : Result Draft ReadFault → Type 0
-  HasRead read = IfOk read (λ d. Follows Library nothing (pieces (symbols_in bytes)) End (seen d))
+  abbrev HasRead : Result (Unit {0}) ReadFault → Reading → Type 0
+  HasRead read r = IfOk read (λ _. Follows Library nothing (pieces (symbols_in bytes)) End r)
 
-  pub read_ok : (read : Result Draft ReadFault) → HasRead read → IfOk read (λ d. Statements bytes (seen d))
-  read_ok (Ok d) f = whole-read (seen d) f
-  read_ok (Err e) f = tt
+  pub read_ok : (read : Result (Unit {0}) ReadFault) (r : Reading) → HasRead read r → IfOk read (λ _. Statements bytes r)
+  read_ok (Ok x) r f = whole-read r f
+  read_ok (Err e) r f = tt
 
-  pub read_few : (read : Result Draft ReadFault) → HasRead read → length bytes ≤ MAX_TEXT_LEN → IfOk read (λ d. HasFew (seen d).design)
-  read_few (Ok d) f few = omega (arith, few_drivers (symbols_in bytes) f refl, few_symbols bytes, few)
-  read_few (Err e) f few = tt
+  pub read_few : (read : Result (Unit {0}) ReadFault) (r : Reading) → HasRead read r → length bytes ≤ MAX_TEXT_LEN → IfOk read (λ _. HasFew r.design)
+  read_few (Ok x) r f few = omega (arith, few_drivers (symbols_in bytes) f refl, few_symbols bytes, few)
+  read_few (Err e) r f few = tt
 
-  pub read_err : (read : Result Draft ReadFault) → IfErr read (IsPieceFault (symbols_in bytes)) → IfErr read (IsTextFault bytes)
-  read_err (Ok d) f = tt
+  pub read_err : (read : Result (Unit {0}) ReadFault) → IfErr read (IsPieceFault (symbols_in bytes)) → IfErr read (IsTextFault bytes)
+  read_err (Ok x) f = tt
   read_err (Err e) f = fault_of e f

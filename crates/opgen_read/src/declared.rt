@@ -1,6 +1,6 @@
 //! Declared ports and signals in order, which are looked up by number or by hashing their names.
 
-ghost use Rattle.std.specs.Prelude.{◌≡◌, ◌≤◌, IfOk, List, ℕ, length};
+ghost use Rattle.std.specs.Prelude.{◌≡◌, ◌≤◌, IfOk, List, ℕ, ◌++◌, ◌∷◌, [], length};
 ghost use Rattle.std.specs.Str.{bytes_eq};
 ghost use Rattle.opgen_names.specs.declared.TheConstants.{MAX_NAME_LEN};
 ghost use Rattle.opgen_read.specs.Places.{leads, noted_at};
@@ -134,13 +134,12 @@ impl<T: Named + Drop> Declared<T> {
     {
         let Declared {
             mut items,
-            first,
+            mut first,
             are_numbered,
         } = self;
         let are_numbered = are_numbered
             && number_behind(item.name().as_bytes()) == Some(items.len());
-        let first = noted(first, item.name(), items.len())?;
-        items.push(item)?;
+        append(&mut items, &mut first, item)?;
         Ok(Declared {
             items,
             first,
@@ -177,20 +176,30 @@ fn number_behind(name: &[u8]) -> Option<usize> {
     Some(number)
 }
 
-/// The map with a place for a name, unless it leads somewhere already.
-fn noted(
-    first: IndexMap<Key, usize>,
-    name: &str,
-    place: usize,
-) -> Result<IndexMap<Key, usize>, AllocError>
+// Notes a place for a name, unless the map leads from it somewhere already.
+fn note(first: &mut IndexMap<Key, usize>, name: &str, place: usize) -> Result<(), AllocError>
     requires { length name.now ≤ MAX_NAME_LEN }
-    ensures { IfOk result (λ m. (q : List ℕ) → leads m q ≡ noted_at (leads first q) (bytes_eq q name.now) place) }
+    ensures { IfOk result (λ _. (q : List ℕ) → leads first.new q ≡ noted_at (leads first.old q) (bytes_eq q name.now) place) }
 {
-    let mut first = first;
     let key = key_of(name);
     if first.get(&key).is_some() {
-        return Ok(first);
+        return Ok(());
     }
     first.insert(key, place)?;
-    Ok(first)
+    Ok(())
+}
+
+// Puts an item behind the others, and notes its place for its name.
+fn append<T: Named + Drop>(
+    items: &mut Items<T>,
+    first: &mut IndexMap<Key, usize>,
+    item: T,
+) -> Result<(), AllocError>
+    requires { length (T.name_of item) ≤ MAX_NAME_LEN }
+    ensures items { IfOk result (λ _. items.new ≡ items.old ++ item ∷ []) }
+    ensures noted { IfOk result (λ _. (q : List ℕ) → leads first.new q ≡ noted_at (leads first.old q) (bytes_eq q (T.name_of item)) (length items.old)) }
+{
+    note(first, item.name(), items.len())?;
+    items.push(item)?;
+    Ok(())
 }

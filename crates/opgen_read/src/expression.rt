@@ -12,6 +12,7 @@ ghost use Rattle.opgen_read.specs.Names.{names_in, joined};
 use crate::declared::Declared;
 use crate::name::{name, signal_place};
 use crate::refusal::Refusal;
+use crate::required::mark;
 use opgen_cursor::Cursor;
 use opgen_design::{Expr, Op, Port, Signal, Slice};
 use opgen_vhdl::TokenKind;
@@ -70,9 +71,9 @@ pub fn part<'a>(alloc: Global, scope: Scope<'_>, rest: Cursor<'a>) -> Read<'a, E
 fn input<'a>(alloc: Global, scope: Scope<'_>, rest: Cursor<'a>) -> Read<'a, Expr>
     ensures { Gives (λ x. (plain x.0, left x.1)) result (input_at (names_in scope.entry) (left rest.entry)) }
 {
-    let rest = rest.mark(TokenKind::LeftParen).ok_or(Refusal::Refused)?;
+    let rest = mark(rest, TokenKind::LeftParen)?;
     let (name, rest) = name(alloc, Some(scope), rest)?;
-    let rest = rest.mark(TokenKind::RightParen).ok_or(Refusal::Refused)?;
+    let rest = mark(rest, TokenKind::RightParen)?;
     Ok((Expr::Port(scope.ports.place(name.as_str())), rest))
 }
 
@@ -212,6 +213,6 @@ fn group<'a>(alloc: Global, scope: Scope<'_>, depth: u32, rest: Cursor<'a>) -> R
         return Err(Refusal::Refused);
     }
     let (operand, rest) = expression(alloc, scope, depth - 1, rest)?;
-    let rest = rest.mark(TokenKind::RightParen).ok_or(Refusal::Refused)?;
+    let rest = mark(rest, TokenKind::RightParen)?;
     Ok((operand, rest))
 }

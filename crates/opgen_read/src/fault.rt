@@ -7,7 +7,7 @@ use std::error::Error;
 use std::fmt;
 
 /// Why a text gives no design.
-#[derive(Clone, Copy, Debug, PartialEq, Eq, Drop)]
+#[derive(Clone, Copy, Debug, Drop)]
 pub enum ReadFault {
     /// At that offset neither a token nor white space nor a comment starts.
     Lexical { offset: u64 },
@@ -30,9 +30,9 @@ impl fmt::Display for ReadFault {
         match *self {
             ReadFault::Lexical { offset } => write!(f, "Lexical {offset}"),
             ReadFault::Syntax { piece } => write!(f, "Syntax {piece}"),
-            ReadFault::TooLarge => write!(f, "TooLarge"),
+            ReadFault::TooLarge => f.write_str("TooLarge"),
             ReadFault::Unsound { rule, item } => write!(f, "Unsound {rule} {item}"),
-            ReadFault::Memory => write!(f, "out of memory"),
+            ReadFault::Memory => f.write_str("out of memory"),
         }
     }
 }

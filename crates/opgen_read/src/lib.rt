@@ -4,22 +4,21 @@
 //! fault is the first cause against the text: a text has at most one, and none if it spells such a design. How a fault
 //! prints.
 //!
-//! By: `read_design`, `one_cause`, the `Display` of `ReadFault`.
+//! By: `read_design`, the `Display` of `ReadFault`; the law `one_cause` of `opgen_part_laws`.
 #![tactic(auto)]
 
 mod declared;
 mod draft;
 mod expression;
 mod fault;
-mod law;
 mod name;
 mod pieces;
 mod read;
 mod refusal;
+mod required;
 mod statement;
 mod take;
 mod unit;
 
 pub use fault::ReadFault;
-pub use law::one_cause;
 pub use read::{MAX_PORTS, MAX_TEXT_LEN, read_design};

@@ -37,8 +37,8 @@ fn step(
     }
 }
 
-// Reads the pieces of a text into an empty draft. The text is left at what stands behind the last that was read.
-fn take_pieces(alloc: Global, draft: &mut Draft, text: &mut &[u8]) -> Result<(), ReadFault>
+/// Reads the pieces of a text into an empty draft. The text is left at what stands behind the last that was read.
+pub fn take_pieces(alloc: Global, draft: &mut Draft, text: &mut &[u8]) -> Result<(), ReadFault>
     requires size { length text.old.now ≤ MAX_TEXT_LEN }
     requires empty { seen draft.old ≡ nothing }
     ensures ok { IfOk result (λ _. Follows Library nothing (pieces (symbols_in text.old.now)) End (seen draft.new)) }
@@ -57,16 +57,4 @@ fn take_pieces(alloc: Global, draft: &mut Draft, text: &mut &[u8]) -> Result<(),
     } else {
         Err(ReadFault::Syntax { piece: taken + 1 })
     }
-}
-
-/// What the pieces of a text say. It is left at what stands behind the last that was read.
-pub fn read_pieces(alloc: Global, text: &mut &[u8]) -> Result<Draft, ReadFault>
-    requires { length text.old.now ≤ MAX_TEXT_LEN }
-    ensures ok { IfOk result (λ d. Follows Library nothing (pieces (symbols_in text.old.now)) End (seen d)) }
-    ensures err { IfErr result (IsPieceFault (symbols_in text.old.now)) }
-    ensures passed { IsPassed text.old.now text.new.now }
-{
-    let mut draft = Draft::new(alloc);
-    take_pieces(alloc, &mut draft, text)?;
-    Ok(draft)
 }

@@ -3,6 +3,7 @@
 ghost use Rattle.std.specs.Prelude.{◌≡◌, ◌≤◌, IfOk, IfErr, IfSome, IfNone, IsTrue, ◌↔◌, length};
 ghost use Rattle.opgen_design.specs.Sound.{HasNumbers, IsSound};
 ghost use Rattle.opgen_vhdl.specs.Spelled.{Statements, Spells};
+ghost use Rattle.opgen_vhdl.specs.Statements.{nothing};
 ghost use Rattle.opgen_vhdl.specs.Tokens.{LexicalAt};
 ghost use Rattle.opgen_lex.specs.First.{IsPassed, HasTokens};
 ghost use Rattle.opgen_read.specs.Answer.{IsWithinLimits, IsReadFault};
@@ -12,7 +13,7 @@ ghost use Rattle.opgen_read.specs.declared.read.TheConstants.{MAX_TEXT_LEN};
 
 use crate::draft::Draft;
 use crate::fault::ReadFault;
-use crate::pieces::read_pieces;
+use crate::pieces::take_pieces;
 use opgen_design::{Design, MAX_SIGNALS, SoundFault};
 use opgen_lex::first_fault;
 use std::alloc::Global;
@@ -38,6 +39,22 @@ fn fault_behind(bytes: &[u8], rest: &[u8]) -> Option<u64>
     }
 }
 
+// Reads the statements of a text into an empty draft.
+fn take_statements(alloc: Global, draft: &mut Draft, bytes: &[u8]) -> Result<(), ReadFault>
+    requires size { length bytes.now ≤ MAX_TEXT_LEN }
+    requires empty { seen draft.old ≡ nothing }
+    ensures ok { IfOk result (λ _. Statements bytes.now (seen draft.new)) }
+    ensures few { IfOk result (λ _. HasFew (seen draft.new).design) }
+    ensures err { IfErr result (IsTextFault bytes.now) }
+{
+    let mut rest = bytes;
+    let read = take_pieces(alloc, draft, &mut rest);
+    match fault_behind(bytes, rest) {
+        Some(offset) => Err(ReadFault::Lexical { offset }),
+        None => read,
+    }
+}
+
 // What the statements of a text say.
 fn statements(alloc: Global, bytes: &[u8]) -> Result<Draft, ReadFault>
     requires { length bytes.now ≤ MAX_TEXT_LEN }
@@ -45,12 +62,9 @@ fn statements(alloc: Global, bytes: &[u8]) -> Result<Draft, ReadFault>
     ensures few { IfOk result (λ d. HasFew (seen d).design) }
     ensures err { IfErr result (IsTextFault bytes.now) }
 {
-    let mut rest = bytes;
-    let read = read_pieces(alloc, &mut rest);
-    match fault_behind(bytes, rest) {
-        Some(offset) => Err(ReadFault::Lexical { offset }),
-        None => read,
-    }
+    let mut draft = Draft::new(alloc);
+    take_statements(alloc, &mut draft, bytes)?;
+    Ok(draft)
 }
 
 fn is_within_limits(design: &Design) -> bool

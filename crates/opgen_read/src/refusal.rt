@@ -2,7 +2,7 @@
 use std::alloc::{AllocError, AllocFailed};
 
 /// Why nothing was read: memory ran out, or no production takes what stands there.
-#[derive(Debug, Drop)]
+#[derive(Drop)]
 pub enum Refusal {
     Memory,
     Refused,

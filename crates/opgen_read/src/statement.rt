@@ -12,6 +12,7 @@ ghost use Rattle.opgen_read.specs.Names.{names_in};
 use crate::expression::{Scope, expression, part};
 use crate::name::{name, signal_place};
 use crate::refusal::Refusal;
+use crate::required::{mark, word};
 use opgen_cursor::Cursor;
 use opgen_design::{Driver, Expr, Formula};
 use opgen_list::{Items, Text};
@@ -77,9 +78,9 @@ fn table(alloc: Global, scope: Scope<'_>, rest: Cursor<'_>) -> Result<Driver, Re
     ensures { Gives (λ x. x) result (table_at (names_in scope.entry) (left rest.entry)) }
 {
     let (on, rest) = part(alloc, scope, rest)?;
-    let rest = rest.word("select").ok_or(Refusal::Refused)?;
+    let rest = word(rest, "select")?;
     let (to, rest) = signal_place(alloc, scope, rest)?;
-    let rest = rest.mark(TokenKind::LessEqual).ok_or(Refusal::Refused)?;
+    let rest = mark(rest, TokenKind::LessEqual)?;
     let (rows, other) = rows(alloc, rest)?;
     Ok(Driver::Table {
         to,
@@ -97,13 +98,13 @@ fn is_one(word: Word) -> bool
 
 // The rest of a comparison with "1", up to a word behind it.
 #[tactic(auto, unfolding(opgen_vhdl::specs::Reader::high_at, opgen_vhdl::specs::Reader::and_then))]
-fn high<'a>(rest: Cursor<'a>, next: &str) -> Option<Cursor<'a>>
-    ensures { option_map left result ≡ high_at (map to_ascii_lowercase next.now) (left rest.entry) }
+fn high<'a>(rest: Cursor<'a>, next: &str) -> Result<Cursor<'a>, Refusal>
+    ensures { Gives left result (high_at (map to_ascii_lowercase next.now) (left rest.entry)) }
 {
-    let rest = rest.mark(TokenKind::Equal)?;
+    let rest = mark(rest, TokenKind::Equal)?;
     match rest.string() {
-        None => None,
-        Some((word, rest)) => { if is_one(word) { rest.word(next) } else { None } }
+        Some((condition, rest)) if is_one(condition) => word(rest, next),
+        _ => Err(Refusal::Refused),
     }
 }
 
@@ -119,7 +120,7 @@ fn choice(
     ensures { Gives (λ x. x) result (choice_at (names_in scope.entry) to (plain yes) (left rest.entry)) }
 {
     let (on, rest) = part(alloc, scope, rest)?;
-    let rest = high(rest, "else").ok_or(Refusal::Refused)?;
+    let rest = high(rest, "else")?;
     let (no, rest) = expression(alloc, scope, MAX_DEPTH, rest)?;
     match rest.end() {
         None => Err(Refusal::Refused),
@@ -155,9 +156,9 @@ fn valued(alloc: Global, scope: Scope<'_>, to: usize, rest: Cursor<'_>) -> Resul
 fn output(alloc: Global, scope: Scope<'_>, port: usize, rest: Cursor<'_>) -> Result<Driver, Refusal>
     ensures { Gives (λ x. x) result (output_at (names_in scope.entry) port (left rest.entry)) }
 {
-    let rest = rest.mark(TokenKind::LeftParen).ok_or(Refusal::Refused)?;
+    let rest = mark(rest, TokenKind::LeftParen)?;
     let (value, rest) = expression(alloc, scope, MAX_DEPTH, rest)?;
-    let rest = rest.mark(TokenKind::RightParen).ok_or(Refusal::Refused)?;
+    let rest = mark(rest, TokenKind::RightParen)?;
     match rest.end() {
         None => Err(Refusal::Refused),
         Some(_end) => Ok(Driver::Output {
@@ -177,7 +178,7 @@ fn target<'a>(
     ensures { Gives (λ x. (x.0, left x.1)) result (target_at (left rest.entry)) }
 {
     let (name, rest) = name(alloc, Some(scope), rest)?;
-    let rest = rest.mark(TokenKind::LessEqual).ok_or(Refusal::Refused)?;
+    let rest = mark(rest, TokenKind::LessEqual)?;
     Ok((name, rest))
 }
 
@@ -209,7 +210,7 @@ pub fn clocked(alloc: Global, scope: Scope<'_>, piece: Cursor<'_>) -> Result<Dri
     ensures { Gives (λ x. x) result (clocked_at (names_in scope.entry) (left piece.entry)) }
 {
     let (to, rest) = signal_place(alloc, scope, piece)?;
-    let rest = rest.mark(TokenKind::LessEqual).ok_or(Refusal::Refused)?;
+    let rest = mark(rest, TokenKind::LessEqual)?;
     let (value, rest) = expression(alloc, scope, MAX_DEPTH, rest)?;
     match rest.end() {
         None => Err(Refusal::Refused),
@@ -259,7 +260,7 @@ fn port_high<'a>(
     ensures { Gives (λ x. (x.0, left x.1)) result (port_high_at (names_in scope.entry) (left rest.entry)) }
 {
     let (name, rest) = name(alloc, Some(scope), rest)?;
-    let rest = high(rest, "then").ok_or(Refusal::Refused)?;
+    let rest = high(rest, "then")?;
     Ok((scope.ports.place(name.as_str()), rest))
 }
 

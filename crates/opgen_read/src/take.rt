@@ -11,6 +11,7 @@ ghost use Rattle.opgen_read.specs.Seen.{seen};
 
 use crate::draft::Draft;
 use crate::refusal::Refusal;
+use crate::required::word;
 use crate::statement::{clocked, concurrent, enable, process};
 use crate::unit::{entity, heading, port, signal, unit_end};
 use opgen_cursor::{Cursor, Phrase};
@@ -44,18 +45,16 @@ fn end_process(piece: Cursor<'_>) -> Option<Cursor<'_>>
     Phrase::new(piece).word("end").word("process").end()
 }
 
-#[tactic(auto, unfolding(opgen_vhdl::specs::Reader::and_then))]
 fn end_if(rest: Cursor<'_>) -> Option<Cursor<'_>>
     ensures { option_map left result ≡ phrase_at (word (codes "if") ∷ []) (left rest.entry) }
 {
-    rest.word("if")?.end()
+    Phrase::new(rest).word("if").end()
 }
 
-#[tactic(auto, unfolding(opgen_vhdl::specs::Reader::and_then))]
 fn end_edge(piece: Cursor<'_>) -> Option<Cursor<'_>>
     ensures { option_map left result ≡ phrase_at (word (codes "end") ∷ word (codes "if") ∷ []) (left piece.entry) }
 {
-    end_if(piece.word("end")?)
+    Phrase::new(piece).word("end").word("if").end()
 }
 
 // The place next to a phrase that changes nothing.
@@ -99,7 +98,7 @@ fn ports(alloc: Global, draft: &mut Draft, piece: Cursor<'_>) -> Step
 fn end_of_entity(alloc: Global, draft: &mut Draft, piece: Cursor<'_>) -> Step
     ensures { Gives (λ p. (p, seen draft.new)) result (takes_at EndEntity (seen draft.old) (left piece.entry)) }
 {
-    let rest = piece.word("end").ok_or(Refusal::Refused)?;
+    let rest = word(piece, "end")?;
     let name = unit_end(alloc, "entity", rest)?;
     draft.compare_entity(name);
     Ok(Place::Architecture)

@@ -9,6 +9,7 @@ ghost use Rattle.opgen_read.specs.Gives.{Gives};
 
 use crate::name::name;
 use crate::refusal::Refusal;
+use crate::required::{mark, word};
 use opgen_cursor::{Cursor, Phrase};
 use opgen_design::{Dir, Port, Signal};
 use opgen_list::Text;
@@ -36,7 +37,7 @@ fn clock_port(rest: Cursor<'_>) -> Option<Cursor<'_>>
 pub fn entity(alloc: Global, piece: Cursor<'_>) -> Result<Text, Refusal>
     ensures { Gives (λ x. x) result (entity_at (left piece.entry)) }
 {
-    let rest = piece.word("entity").ok_or(Refusal::Refused)?;
+    let rest = word(piece, "entity")?;
     let (name, rest) = name(alloc, None, rest)?;
     match clock_port(rest) {
         Some(_end) => Ok(name),
@@ -75,9 +76,9 @@ pub fn port<'a>(alloc: Global, rest: Cursor<'a>) -> Result<(Port, Cursor<'a>), R
     ensures allowed { IfOk result (λ x. IsTrue (is_allowed_name x.0.name)) }
 {
     let (name, rest) = name(alloc, None, rest)?;
-    let rest = rest.mark(TokenKind::Colon).ok_or(Refusal::Refused)?;
+    let rest = mark(rest, TokenKind::Colon)?;
     let (dir, rest) = direction(rest).ok_or(Refusal::Refused)?;
-    let rest = rest.word("std_logic_vector").ok_or(Refusal::Refused)?;
+    let rest = word(rest, "std_logic_vector")?;
     let (width, rest) = width(rest).ok_or(Refusal::Refused)?;
     Ok((Port { name, dir, width }, rest))
 }
@@ -116,11 +117,11 @@ pub fn unit_end(alloc: Global, unit: &str, rest: Cursor<'_>) -> Result<Option<Te
 pub fn heading<'a>(alloc: Global, piece: Cursor<'a>) -> Result<(Text, Text, Cursor<'a>), Refusal>
     ensures { Gives (λ x. ((x.0, x.1), left x.2)) result (heading_at (left piece.entry)) }
 {
-    let rest = piece.word("architecture").ok_or(Refusal::Refused)?;
+    let rest = word(piece, "architecture")?;
     let (own, rest) = name(alloc, None, rest)?;
-    let rest = rest.word("of").ok_or(Refusal::Refused)?;
+    let rest = word(rest, "of")?;
     let (entity, rest) = name(alloc, None, rest)?;
-    let rest = rest.word("is").ok_or(Refusal::Refused)?;
+    let rest = word(rest, "is")?;
     Ok((own, entity, rest))
 }
 
@@ -186,10 +187,10 @@ pub fn signal(alloc: Global, piece: Cursor<'_>) -> Result<Signal, Refusal>
     ensures value { Gives (λ x. x) result (signal_at (left piece.entry)) }
     ensures allowed { IfOk result (λ x. IsTrue (is_allowed_name x.name)) }
 {
-    let rest = piece.word("signal").ok_or(Refusal::Refused)?;
+    let rest = word(piece, "signal")?;
     let (name, rest) = name(alloc, None, rest)?;
-    let rest = rest.mark(TokenKind::Colon).ok_or(Refusal::Refused)?;
-    let rest = rest.word("unsigned").ok_or(Refusal::Refused)?;
+    let rest = mark(rest, TokenKind::Colon)?;
+    let rest = word(rest, "unsigned")?;
     let (width, rest) = width(rest).ok_or(Refusal::Refused)?;
     let initial = initial(width, rest).ok_or(Refusal::Refused)?;
     Ok(Signal {

@@ -3,13 +3,11 @@
 //! Proved: The value of an expression over words, and each operation on words. A sound design has exactly one run over each
 //! list of inputs of its ports' widths.
 //!
-//! By: `value`, `cut`; the law `one_run`.
+//! By: `value`, `cut`; the law `one_run` of `opgen_part_laws`.
 #![tactic(auto)]
 
 mod evaluate;
-mod laws;
 mod words;
 
 pub use evaluate::value;
-pub use laws::one_run;
 pub use words::cut;

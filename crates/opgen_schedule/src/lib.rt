@@ -4,15 +4,13 @@
 //! period, and no schedule that fits has a smaller latency. In a schedule that fits, each path of cells within a cycle ends
 //! a setup time before the end of the cycle.
 //!
-//! By: `stage`, `latency`, `greatest_time`; the laws `stage_fits`, `stage_is_least`, `paths_fit`.
+//! By: `stage`, `latency`, `greatest_time`; the laws `stage_fits`, `stage_is_least`, `paths_fit` of `opgen_part_laws`.
 #![tactic(auto)]
 
-mod laws;
 mod reads;
 mod schedule;
 mod slot;
 
-pub use laws::{paths_fit, stage_fits, stage_is_least};
 pub use reads::reads_of;
 pub use schedule::{greatest, greatest_time, is_constant, latency, stage};
 pub use slot::Slot;

@@ -10,10 +10,3 @@ pub mod Closing
 pub mod Hunting
 pub mod Forking
 pub mod Ending
-pub mod Building
-pub mod Numbering
-pub mod Classical
-pub mod SomeRanks
-pub mod SomeListing
-pub mod SomeAdderSet
-pub mod SomeNet

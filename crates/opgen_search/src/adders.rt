@@ -4,7 +4,7 @@ ghost use Rattle.opgen_num.specs.declared.TheConstants.{MAX_INPUT};
 ghost use Rattle.opgen_operator.specs.OddParts.{odd_part_count};
 ghost use Rattle.opgen_operator.specs.Ranges.{IsWithin};
 ghost use Rattle.opgen_graph.specs.Served.{Serves};
-ghost use Rattle.opgen_search.specs.Recipe.{IsLeastGraphOf, OneAdderSet, OneLeastGraph, SomeLeastGraph};
+ghost use Rattle.opgen_search.specs.Recipe.{IsLeastGraphOf};
 
 use crate::gate::Gate;
 use crate::least::least_set;
@@ -48,19 +48,3 @@ pub fn least_graph<R: Threads + Sync, G: Gate + Sync>(
     };
     Ok(LeastGraph { set, graph })
 }
-
-/// A law: numbers have one such set of adders.
-pub fn one_adder_set()
-    ensures { OneAdderSet }
-{}
-
-/// A law: numbers have one such graph.
-pub fn one_least_graph()
-    ensures { OneLeastGraph }
-{}
-
-/// A law: that numbers from -2047 to 2047 have no such set, or none with a graph that serves them, is impossible. Which set it
-/// is, is not said.
-pub fn some_least_graph()
-    ensures { SomeLeastGraph }
-{}

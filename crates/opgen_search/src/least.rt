@@ -1,12 +1,11 @@
 //! Finds the least set of adders for some numbers, by all pieces of the search on several threads.
-ghost use Rattle.std.specs.Prelude.{◌≡◌, ◌≤◌, ◌∷◌, [], ◌<◌, length, IfOk};
+ghost use Rattle.std.specs.Prelude.{◌≡◌, ◌≤◌, ◌<◌, length, IfOk};
 ghost use Rattle.opgen_num.specs.declared.TheConstants.{MAX_INPUT};
 ghost use Rattle.opgen_graph.specs.Reach.{Reaches};
 ghost use Rattle.opgen_search.specs.Space as space;
 ghost use Rattle.opgen_search.specs.Space.{AreTargets};
-ghost use Rattle.opgen_search.specs.Least.{IsLeast, OneLeast};
+ghost use Rattle.opgen_search.specs.Least.{IsLeast};
 ghost use Rattle.opgen_search.specs.Hunts.{IsSearch};
-ghost use Rattle.opgen_search.specs.Parts.{NumbersCount};
 
 use crate::fork::{Task, run_pieces};
 use crate::gate::Gate;
@@ -118,13 +117,3 @@ pub fn least_set<R: Threads + Sync, G: Gate + Sync>(
     let search = search_of(alloc, targets, width, extra, workers)?;
     least_of(rt, alloc, &search, gate)
 }
-
-/// A law: there is no other least set.
-pub fn one_least()
-    ensures { OneLeast }
-{}
-
-/// A law: the number of a further member is how many odd numbers above 1 that are no targets stand below it.
-pub fn numbers_count()
-    ensures { NumbersCount }
-{}

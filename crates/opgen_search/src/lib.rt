@@ -6,8 +6,8 @@
 //! specification of them. Accepted constants have such a net (a classical proof). For numbers with up to eight odd parts:
 //! the least set and its graph, which serves them and of which there is one (that one exists is a classical proof).
 //!
-//! By: `least_set`, `least_graph`, `build`; the laws `one_least`, `one_adder_set`, `one_least_graph`, `some_least_graph`,
-//! `one_net`, `some_net`, `numbers_count`.
+//! By: `least_set`, `least_graph`, `build`; of `opgen_part_laws` the laws `one_least`, `one_adder_set`, `one_least_graph`,
+//! `some_least_graph`, `one_net_of_several`, `some_net_of_several`, `numbers_count`.
 #![tactic(auto)]
 
 mod adders;
@@ -22,7 +22,7 @@ mod piece;
 mod several;
 mod take;
 
-pub use adders::{LeastGraph, least_graph, one_adder_set, one_least_graph, some_least_graph};
+pub use adders::{LeastGraph, least_graph};
 pub use gate::{Gate, OpenGate};
-pub use least::{least_set, numbers_count, one_least};
-pub use several::{Built, build, one_net, some_net};
+pub use least::least_set;
+pub use several::{Built, build};

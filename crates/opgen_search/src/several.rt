@@ -3,7 +3,7 @@ ghost use Rattle.std.specs.Prelude.{◌≤◌, IfOk};
 ghost use Rattle.opgen_operator.specs.Accepted.{IsAcceptedSeveral};
 ghost use Rattle.opgen_operator.specs.Fits.{FitsSpecsOf};
 ghost use Rattle.opgen_operator.specs.declared.spec.Operator.TheVariants.{Mcm};
-ghost use Rattle.opgen_search.specs.Recipe.{IsAdderSetOf, IsNetOfSeveral, OneNet, SomeNet};
+ghost use Rattle.opgen_search.specs.Recipe.{IsAdderSetOf, IsNetOfSeveral};
 
 use crate::adders::least_graph;
 use crate::gate::Gate;
@@ -11,7 +11,7 @@ use opgen_graph::graph_net;
 use opgen_list::Items;
 use opgen_net::Net;
 use opgen_num::Memory;
-use opgen_operator::{Several, outputs_are_wide, outputs_hold};
+use opgen_operator::Several;
 use std::alloc::Global;
 use std::thread::Threads;
 
@@ -53,18 +53,4 @@ pub fn build<R: Threads + Sync, G: Gate + Sync>(
         net,
         adders: Items::from_vec(found.set),
     })
-}
-
-/// A law: several constants have one such net.
-pub fn one_net()
-    ensures { OneNet }
-{}
-
-/// A law: that several accepted constants have no such set, or no such net that fits their specifications, is impossible. Which
-/// set it is, is not said.
-pub fn some_net()
-    ensures { SomeNet }
-{
-    outputs_hold();
-    outputs_are_wide();
 }

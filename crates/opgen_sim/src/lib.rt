@@ -5,13 +5,13 @@
 //! output ports. The steps of a new simulator are a run. The outputs of a design over rows of inputs are those of its one
 //! run, whichever way they are computed: a cycle at a time, or in 256 streams.
 //!
-//! By: `Sim::new`, `Sim::from_design`, `Sim::step`, `run_rows`, `port_widths`; the law `steps_are_runs`.
+//! By: `Sim::new`, `Sim::from_design`, `Sim::step`, `run_rows`, `port_widths`; the law `steps_are_runs` of
+//! `opgen_part_laws`.
 #![tactic(auto)]
 
 mod cycle;
 mod engine;
 mod evaluate;
-mod laws;
 mod numbers;
 mod rows;
 mod sim;
@@ -20,7 +20,6 @@ mod tables;
 mod walker;
 mod widths;
 
-pub use laws::steps_are_runs;
 pub use rows::run_rows;
 pub use sim::Sim;
 pub use widths::port_widths;

@@ -10,7 +10,7 @@ use std::fmt;
 
 /// Why a document is no specification. `line` is 0 for a key of the document, and else the number
 /// of the delay line, from 1.
-#[derive(Clone, Copy, Debug, PartialEq, Eq, Drop)]
+#[derive(Clone, Copy, Debug, Drop)]
 pub enum SpecFault {
     NotToml,
     /// `at` is the place of the key among those of its table in byte order, from 0.

@@ -10,7 +10,7 @@ use opgen_operator::Kind;
 use std::fmt;
 
 /// The keys of a document in the order in which they are judged, and then those of a delay line.
-#[derive(Clone, Copy, Debug, PartialEq, Eq)]
+#[derive(Clone, Copy, Debug)]
 pub enum Key {
     Version,
     Name,

@@ -92,63 +92,68 @@ ports_listed = listed_refusal ports_refused (printed.ports_refused refl refl) re
 
 -- ---- from the three files
 
+-- by a specification
+module _ (spec : Spec) (latency : ℕ) (text vectors : List ℕ) where
+  pub vhdl_answers_check : (refusal : Refusal) → OnRefusal refusal (RefusesVhdl text)
+      → OnRefusal refusal (IsAnswerToVhdl spec latency text vectors)
+  vhdl_answers_check refusal h = refusal-map refusal _ _ (λ a k. inl k) h
+
+  module _ (design : Design) (gives : GivesDesign text design) where
+    pub rows_answer_check : (refusal : Refusal) → OnRefusal refusal (RefusesRows (input_widths design) vectors)
+        → OnRefusal refusal (IsAnswerToVhdl spec latency text vectors)
+    rows_answer_check refusal h = refusal-map refusal _ _
+        (λ a k. inr (inl record { design = design; gives = gives; refused = k })) h
+
+    design_answers : (held : Rows) (a : Answer) → HoldsRows (input_widths design) vectors held
+        → IsAnswerToDesign spec design latency held.count held.inputs.cells.items a → IsAnswerToVhdl spec latency text vectors a
+    design_answers held a holds is =
+        let rows : GivesRows text vectors design held.inputs.cells.items = record {
+          gives = gives;
+          reads = holds.reading;
+        } in
+        elim is [
+          | inl other ↦ inr (inr (inl (record {
+            design = design;
+            cells = held.inputs.cells.items;
+            rows = rows;
+            differ = other.0;
+            answer = other.1;
+          })))
+          | inr found ↦ judged rows found.agree found.checked
+              (subst (λ n. IsChecked spec design latency n held.inputs.cells.items found.checked) holds.count found.verdict) found.answer
+        ]
+      where
+        judged : GivesRows text vectors design held.inputs.cells.items → PortsAgree spec design → (checked : Checked)
+            → IsChecked spec design latency (length (lines vectors)) held.inputs.cells.items checked → a ≡ verdict_answer checked
+            → IsAnswerToVhdl spec latency text vectors a
+        judged rows agree (Good n) verdict said = inr (inr (inr (inr (record {
+          judged = n;
+          verdict = record { design = design; cells = held.inputs.cells.items; rows = rows; agree = agree; verdict = verdict };
+          answer = said;
+        }))))
+        judged rows agree (Bad row) verdict said = inr (inr (inr (inl (record {
+          row = row;
+          verdict = record { design = design; cells = held.inputs.cells.items; rows = rows; agree = agree; verdict = verdict };
+          answer = said;
+        }))))
+
+    pub rows_judged : (held : Rows) (r : Result Held Refusal) → HoldsRows (input_widths design) vectors held
+        → OnAnswer r (IsAnswerToDesign spec design latency held.count held.inputs.cells.items)
+        → OnAnswer r (IsAnswerToVhdl spec latency text vectors)
+    rows_judged held r holds h = answers-map r _ _ (λ a k. design_answers held a holds k) h
+
+-- by the bytes of one
 module _ (latency : ℕ) (bytes text vectors : List ℕ) where
   pub fault_answers : (refusal : Refusal) → OnRefusal refusal (λ a. OnReading (read (tree bytes)) a (λ spec. ⊥))
       → OnRefusal refusal (IsAnswerToCheck latency bytes text vectors)
   fault_answers refusal h =
       refusal-map refusal _ _ (λ a. on_reading-map (read (tree bytes)) a (λ spec. ⊥) _ (λ spec no. absurd no)) h
 
-  module _ (spec : Spec) (reads : read (tree bytes) ≡ Ok spec) where
-    of_spec : (a : Answer) → IsAnswerToVhdl spec latency text vectors a → IsAnswerToCheck latency bytes text vectors a
-    of_spec a h = reading_ok (read (tree bytes)) a (λ s. IsAnswerToVhdl s latency text vectors a) spec reads h
-
-    pub vhdl_answers_check : (refusal : Refusal) → OnRefusal refusal (RefusesVhdl text)
-        → OnRefusal refusal (IsAnswerToCheck latency bytes text vectors)
-    vhdl_answers_check refusal h = refusal-map refusal _ _ (λ a k. of_spec a (inl k)) h
-
-    module _ (design : Design) (gives : GivesDesign text design) where
-      pub rows_answer_check : (refusal : Refusal) → OnRefusal refusal (RefusesRows (input_widths design) vectors)
-          → OnRefusal refusal (IsAnswerToCheck latency bytes text vectors)
-      rows_answer_check refusal h = refusal-map refusal _ _
-          (λ a k. of_spec a (inr (inl record { design = design; gives = gives; refused = k }))) h
-
-      design_answers : (held : Rows) (a : Answer) → HoldsRows (input_widths design) vectors held
-          → IsAnswerToDesign spec design latency held.count held.inputs.cells.items a → IsAnswerToCheck latency bytes text vectors a
-      design_answers held a holds is =
-          let rows : GivesRows text vectors design held.inputs.cells.items = record {
-            gives = gives;
-            reads = holds.reading;
-          } in
-          of_spec a (elim is [
-            | inl other ↦ inr (inr (inl (record {
-              design = design;
-              cells = held.inputs.cells.items;
-              rows = rows;
-              differ = other.0;
-              answer = other.1;
-            })))
-            | inr found ↦ judged rows found.agree found.checked
-                (subst (λ n. IsChecked spec design latency n held.inputs.cells.items found.checked) holds.count found.verdict) found.answer
-          ])
-        where
-          judged : GivesRows text vectors design held.inputs.cells.items → PortsAgree spec design → (checked : Checked)
-              → IsChecked spec design latency (length (lines vectors)) held.inputs.cells.items checked → a ≡ verdict_answer checked
-              → IsAnswerToVhdl spec latency text vectors a
-          judged rows agree (Good n) verdict said = inr (inr (inr (inr (record {
-            judged = n;
-            verdict = record { design = design; cells = held.inputs.cells.items; rows = rows; agree = agree; verdict = verdict };
-            answer = said;
-          }))))
-          judged rows agree (Bad row) verdict said = inr (inr (inr (inl (record {
-            row = row;
-            verdict = record { design = design; cells = held.inputs.cells.items; rows = rows; agree = agree; verdict = verdict };
-            answer = said;
-          }))))
-
-      pub rows_judged : (held : Rows) (r : Result Held Refusal) → HoldsRows (input_widths design) vectors held
-          → OnAnswer r (IsAnswerToDesign spec design latency held.count held.inputs.cells.items)
-          → OnAnswer r (IsAnswerToCheck latency bytes text vectors)
-      rows_judged held r holds h = answers-map r _ _ (λ a k. design_answers held a holds k) h
+  pub spec_answers : (spec : Spec) → read (tree bytes) ≡ Ok spec → (r : Result Held Refusal)
+      → OnAnswer r (IsAnswerToVhdl spec latency text vectors) → OnAnswer r (IsAnswerToCheck latency bytes text vectors)
+  spec_answers spec reads r h =
+      answers-map r _ _
+      (λ a k. reading_ok (read (tree bytes)) a (λ s. IsAnswerToVhdl s latency text vectors a) spec reads k) h
 
 -- ---- from the folder
 

@@ -15,6 +15,8 @@ use Rattle.opgen_command.specs.declared.command.Command.{Command}
 use Rattle.opgen_design.specs.declared.design.Design.{Design}
 use Rattle.opgen_operator.specs.declared.spec.Spec.{Spec}
 use Rattle.opgen_pipe.specs.declared.planning.Planned.{Planned}
+use Rattle.opgen_pipe.specs.declared.planning.PlanFault.{PlanFault}
+use Rattle.opgen_pipe.specs.declared.planning.PlanFault.TheVariants as plan
 use Rattle.opgen_target.specs.Delays.{Delays}
 use Rattle.opgen_vec.specs.Reading.{IsReading}
 use Rattle.opgen_vec.specs.Stimulus.{stimulus_cells}
@@ -26,7 +28,7 @@ use Rattle.opgen_top.specs.declared.line.Line.{Line}
 use Rattle.opgen_top.specs.declared.line.Line.TheVariants as line
 use Rattle.opgen_top.specs.declared.rows.Rows.{Rows}
 use Rattle.opgen_top.specs.declared.circuit.Circuit.{Circuit}
-use Rattle.opgen_top.specs.Answer.{Answer, all_good, bad_row, ports_refused, read_fault, refusal, simulated, worked, wrote_vectors}
+use Rattle.opgen_top.specs.Answer.{Answer, all_good, bad_row, period_too_short, ports_refused, read_fault, refusal, simulated, too_large, worked, wrote_vectors}
 use Rattle.opgen_top.specs.Circuit.{IsCircuit}
 use Rattle.opgen_top.specs.Due.{IsAnswerOf}
 use Rattle.opgen_top.specs.Lines.{not_adjustable_line, read_fault_line, ports_refused_line, too_large_line, too_long_line, unknown_target_line, usage_line}
@@ -92,11 +94,23 @@ abbrev pub IfRefused : {X : Type 0} → Result X Refusal → (Answer → Type 0)
 IfRefused (Ok x) said = Unit {0}
 IfRefused (Err refusal) said = OnRefusal refusal said
 
+-- the answer, or the line of a refusal; want of memory has none
+abbrev pub IsAnswerOrLine : Result Held Refusal → Answer → Type 0
+IsAnswerOrLine (Ok held) a = a ≡ answer_of held
+IsAnswerOrLine (Err (refusals.Line line)) a = a ≡ refusal_of line
+IsAnswerOrLine (Err refusals.Memory) a = ⊥
+
 -- the circuit of a specification, for the target that it names
 pub record IsCircuitFor (spec : Spec) (enable : Bool) (devices : List Device) (circuit : Circuit) : Type 0 where
   pub table : Delays
   pub of_target : IsTableOf spec devices table
   pub of_table : IsCircuit spec table enable circuit.planned circuit.adders.items
+
+-- the answer tells why a net has no plan; want of memory has no answer
+abbrev pub TellsPlanFault : PlanFault → Answer → Type 0
+TellsPlanFault (plan.PeriodTooShort need) a = a ≡ period_too_short need
+TellsPlanFault plan.TooLarge a = a ≡ too_large
+TellsPlanFault plan.Memory a = ⊥
 
 -- an answer that stores the rows of a design over the stimulus of a specification
 pub record HasRows (spec : Spec) (design : Design) (seed cycles : ℕ) (a : Answer) : Type 0 where

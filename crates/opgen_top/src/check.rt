@@ -5,7 +5,7 @@ ghost use Rattle.opgen_command.specs.declared.command.Command.TheVariants.{Check
 ghost use Rattle.opgen_design.specs.Run.{input_widths};
 ghost use Rattle.opgen_design.specs.Sound.{HasNumbers, IsSound};
 ghost use Rattle.opgen_operator.specs.Valid.{IsValidSpec};
-ghost use Rattle.opgen_top.specs.Check.{IsAnswerToCheck};
+ghost use Rattle.opgen_top.specs.Check.{IsAnswerToCheck, IsAnswerToVhdl};
 ghost use Rattle.opgen_top.specs.Due.{most_simulated_bytes};
 ghost use Rattle.opgen_top.specs.Prepared.{reads_of, refusal_of, verdict_answer, IsAnswerToDesign, IsListed, IsPrepared, OnAnswer};
 ghost use Rattle.opgen_top.specs.Targets.{Device};
@@ -39,11 +39,11 @@ pub(crate) fn check<F: Folder>(
     let document = fetch(alloc, spec, MAX_SPEC_LEN, folder)?;
     let text = fetch(alloc, vhdl, MAX_SIMULATED_LEN, folder)?;
     let rows = fetch(alloc, vectors, MAX_SIMULATED_LEN, folder)?;
-    judge_vhdl(alloc, &document, &text, &rows, latency)
+    judge_document(alloc, &document, &text, &rows, latency)
 }
 
 /// Reads a specification, VHDL and vectors, and answers with the verdict.
-fn judge_vhdl(
+fn judge_document(
     alloc: Global,
     document: &[u8],
     vhdl: &[u8],
@@ -55,9 +55,25 @@ fn judge_vhdl(
     ensures listed { OnAnswer result IsListed }
 {
     let spec = read_specification(alloc, document)?;
+    judge_vhdl(alloc, &spec, vhdl, vectors, latency)
+}
+
+/// Reads VHDL and vectors, and answers with the verdict by a specification.
+fn judge_vhdl(
+    alloc: Global,
+    spec: &Spec,
+    vhdl: &[u8],
+    vectors: &[u8],
+    latency: u32,
+) -> Result<Answer, Refusal>
+    requires valid { IsValidSpec spec.now }
+    requires short { length vhdl.now ≤ most_simulated_bytes }
+    ensures answer { OnAnswer result (IsAnswerToVhdl spec.now latency vhdl.now vectors.now) }
+    ensures listed { OnAnswer result IsListed }
+{
     let design = read_vhdl(alloc, vhdl)?;
     let rows = read_inputs(alloc, &design, vectors)?;
-    judge_rows(alloc, &spec, &design, &rows, latency)
+    judge_rows(alloc, spec, &design, &rows, latency)
 }
 
 /// Runs a design over rows of its inputs, and answers with the verdict.

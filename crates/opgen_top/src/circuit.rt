@@ -7,7 +7,7 @@ ghost use Rattle.opgen_operator.specs.Valid.{IsValidSpec};
 ghost use Rattle.opgen_search.specs.Recipe.{IsAdderSetOf, IsNetOfSeveral};
 ghost use Rattle.opgen_top.specs.Kinds.{AreAddersOf, IsFittingNet, IsNetOfTaps};
 ghost use Rattle.opgen_top.specs.Lines.{period_too_short_line};
-ghost use Rattle.opgen_top.specs.Prepared.{IfRefused, IsCircuitFor, IsListed};
+ghost use Rattle.opgen_top.specs.Prepared.{IfRefused, IsCircuitFor, IsListed, OnRefusal, TellsPlanFault};
 ghost use Rattle.opgen_top.specs.Specified.{OnTable, OnTarget};
 ghost use Rattle.opgen_top.specs.Targets.{chosen, devices_of};
 
@@ -132,6 +132,20 @@ fn too_short_line(alloc: Global, need: u64) -> Result<String, AllocError>
     format!(in alloc; "specification: PeriodTooShort {need}\n")
 }
 
+/// The refusal of a specification whose net has no plan.
+fn refuse_plan(alloc: Global, fault: PlanFault) -> Refusal
+    ensures { OnRefusal result (TellsPlanFault fault) }
+{
+    match fault {
+        PlanFault::PeriodTooShort { need } => match too_short_line(alloc, need) {
+            Ok(line) => Refusal::Line(Line::Refused(line)),
+            Err(_) => Refusal::Memory,
+        },
+        PlanFault::TooLarge => Refusal::Line(Line::TooLarge),
+        PlanFault::Memory => Refusal::Memory,
+    }
+}
+
 /// The circuit of a specification, for the target that it names.
 pub(crate) fn make_circuit<R: Threads + Sync, G: Gate + Sync>(
     spec: &Spec,
@@ -160,10 +174,6 @@ pub(crate) fn make_circuit<R: Threads + Sync, G: Gate + Sync>(
             planned,
             adders: built.adders,
         }),
-        Err(PlanFault::PeriodTooShort { need }) => {
-            Err(Refusal::Line(Line::Refused(too_short_line(alloc, need)?)))
-        }
-        Err(PlanFault::TooLarge) => Err(Refusal::Line(Line::TooLarge)),
-        Err(PlanFault::Memory) => Err(Refusal::Memory),
+        Err(fault) => Err(refuse_plan(alloc, fault)),
     }
 }

@@ -8,7 +8,7 @@ ghost use Rattle.opgen_command.specs.Command.{command_of};
 ghost use Rattle.opgen_top.specs.Due.{IsAnswered};
 ghost use Rattle.opgen_top.specs.Headline.{Headline};
 ghost use Rattle.opgen_top.specs.Left.{LeftByFault, LeftByMemory};
-ghost use Rattle.opgen_top.specs.Prepared.{answer_of, line_status, line_text, reads_of, refusal_of, IsPrepared};
+ghost use Rattle.opgen_top.specs.Prepared.{answer_of, line_status, line_text, reads_of, refusal_of, IsAnswerOrLine, IsPrepared};
 ghost use Rattle.opgen_top.specs.Printed.{IsPrinted};
 ghost use Rattle.opgen_top.specs.Statuses.{IsDueStatus, IsSilent, IsStatus, Refuses, TellsOr};
 ghost use Rattle.opgen_top.specs.Targets.{devices_of};
@@ -145,12 +145,18 @@ fn answer_words<R: Threads + Sync, F: Folder, G: Gate + Sync>(
         (answer_of a)) }
 {
     let alloc = context.alloc;
-    let asked = match read_command(alloc, words) {
-        Ok(asked) => asked,
-        Err(CommandFault::Usage) => return Ok(without_file(alloc, Line::Usage)),
-        Err(CommandFault::Memory) => return Err(Memory),
-    };
-    match answer_command(&asked, folder, context) {
+    match read_command(alloc, words) {
+        Ok(asked) => with_refusal(alloc, answer_command(&asked, folder, context)),
+        Err(CommandFault::Usage) => Ok(without_file(alloc, Line::Usage)),
+        Err(CommandFault::Memory) => Err(Memory),
+    }
+}
+
+/// The answer of a command; of a refusal, the line that says so.
+fn with_refusal(alloc: Global, answered: Result<Answer, Refusal>) -> Result<Answer, Memory>
+    ensures { IfOk result (λ a. IsAnswerOrLine answered (answer_of a)) }
+{
+    match answered {
         Ok(answer) => Ok(answer),
         Err(Refusal::Line(line)) => Ok(without_file(alloc, line)),
         Err(Refusal::Memory) => Err(Memory),

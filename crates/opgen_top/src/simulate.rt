@@ -58,12 +58,9 @@ fn store_run(alloc: Global, design: Design, rows: &Rows, out: &str) -> Result<An
     requires rows { AreRowsOfCells (input_widths design) rows.now.count rows.now.inputs.cells.items }
     ensures { IfOk result (λ a. HasSimulated out.now design rows.now.count rows.now.inputs.cells.items (answer_of a)) }
 {
-    Ok(with_file(
-        alloc,
-        simulated_line(alloc, rows.count)?,
-        String::from_str(alloc, out)?,
-        run_text(alloc, design, rows)?,
-    )?)
+    let text = run_text(alloc, design, rows)?;
+    let line = simulated_line(alloc, rows.count)?;
+    Ok(with_file(alloc, line, String::from_str(alloc, out)?, text)?)
 }
 
 fn simulated_line(alloc: Global, rows: u32) -> Result<String, AllocError>

@@ -3,10 +3,12 @@ ghost use Rattle.std.specs.Prelude.{◌≡◌, false, IfOk, Some, string_bytes};
 ghost use Rattle.opgen_command.specs.declared.command.Command.TheVariants.{Vectors};
 ghost use Rattle.opgen_design.specs.Sound.{HasNumbers, IsSound};
 ghost use Rattle.opgen_operator.specs.Valid.{IsValidSpec};
+ghost use Rattle.opgen_vec.specs.Stimulus.{stimulus_cells};
 ghost use Rattle.opgen_top.specs.Answer.{vectors_name};
 ghost use Rattle.opgen_top.specs.Circuit.{ports_for};
 ghost use Rattle.opgen_top.specs.Lines.{wrote_vectors_line};
 ghost use Rattle.opgen_top.specs.Prepared.{reads_of, HasRows, IsListed, IsPrepared, OnAnswer};
+ghost use Rattle.opgen_top.specs.Running.{IsRunText};
 ghost use Rattle.opgen_top.specs.Specified.{IsAnswerToSpec, IsVectors, OnTable, OnTarget};
 ghost use Rattle.opgen_top.specs.Targets.{chosen, devices_of};
 
@@ -18,6 +20,7 @@ use crate::read::read_specification;
 use crate::rows::{Rows, run_text};
 use opgen_design::Design;
 use opgen_io::Folder;
+use opgen_num::Memory;
 use opgen_search::Gate;
 use opgen_spec::Spec;
 use opgen_vec::stimulus;
@@ -88,17 +91,31 @@ fn run_stimulus(
     requires ports { design.ports ≡ ports_for spec.now false }
     ensures { OnAnswer result (HasRows spec.now design seed cycles) }
 {
+    let text = stimulus_text(alloc, spec, design, seed, cycles)?;
+    let name = spec.name.as_str();
+    let line = wrote_vectors_line(alloc, name, cycles)?;
+    Ok(with_file(alloc, line, vectors_name(alloc, name)?, text)?)
+}
+
+/// The text of the run of a design over the stimulus of its specification.
+fn stimulus_text(
+    alloc: Global,
+    spec: &Spec,
+    design: Design,
+    seed: u32,
+    cycles: u32,
+) -> Result<Vec<u8>, Memory>
+    requires valid { IsValidSpec spec.now }
+    requires sound { IsSound design }
+    requires numbers { HasNumbers design }
+    requires ports { design.ports ≡ ports_for spec.now false }
+    ensures { IfOk result (λ text. IsRunText design cycles (stimulus_cells spec.now seed cycles) text.items) }
+{
     let rows = Rows {
         count: cycles,
         inputs: stimulus(alloc, spec, seed as u64, cycles)?,
     };
-    let name = spec.name.as_str();
-    Ok(with_file(
-        alloc,
-        wrote_vectors_line(alloc, name, cycles)?,
-        vectors_name(alloc, name)?,
-        run_text(alloc, design, &rows)?,
-    )?)
+    run_text(alloc, design, &rows)
 }
 
 fn vectors_name(alloc: Global, name: &str) -> Result<String, AllocError>

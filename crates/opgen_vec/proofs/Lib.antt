@@ -5,6 +5,5 @@ pub mod RowTexts
 pub mod Rows
 pub mod Writing
 pub mod Draws
-pub mod OneReading
 pub mod RowsInStreams
 pub mod GoodRows

@@ -5,16 +5,15 @@
 //! zeros if there is no row, and taken out of them. Whether a row of outputs is good, exactly by the definition. How a fault
 //! prints.
 //!
-//! By: `read_vectors`, `read_empty_rows`, `one_reading`, `write_rows`, `stimulus`, `next`, `drawn`, `row_count`, `pack`,
-//! `unpack`, `is_good_row`, the `Display` of `VecFault`; the law `definitions_compute`, by which definitions return what was
-//! worked out by hand.
+//! By: `read_vectors`, `read_empty_rows`, `write_rows`, `stimulus`, `next`, `drawn`, `row_count`, `pack`, `unpack`,
+//! `is_good_row`, the `Display` of `VecFault`; of `opgen_part_laws` the laws `one_reading_of_rows` and
+//! `definitions_compute`, by which definitions return what was worked out by hand.
 #![tactic(auto)]
 
 mod draw;
 mod fault;
 mod good_row;
 mod hex;
-mod laws;
 mod read;
 mod row;
 mod streams;
@@ -24,7 +23,6 @@ mod write;
 pub use draw::{drawn, next, stimulus};
 pub use fault::VecFault;
 pub use good_row::is_good_row;
-pub use laws::{definitions_compute, one_reading};
 pub use read::{read_empty_rows, read_vectors};
 pub use streams::{pack, unpack};
 pub use vectors::Vectors;

@@ -4,18 +4,16 @@
 //! only if the sink counted a fault, and `VecSink` never returns it. The text of every design that is sound, has allowed
 //! names and a port, and is of the subset's form spells that design by the grammar.
 //!
-//! By: `write_design`, `text`, `VecSink`, `text_spells`, `text_lengths`.
+//! By: `write_design`, `text`, `VecSink`; the laws `text_spells`, `text_lengths` of `opgen_part_laws`.
 #![tactic(auto)]
 
 mod architecture;
 mod entity;
 mod expression;
-mod law;
 mod page;
 mod sink;
 mod statement;
 mod write;
 
-pub use law::{text_lengths, text_spells};
 pub use sink::VecSink;
 pub use write::{WriteFault, text, write_design};

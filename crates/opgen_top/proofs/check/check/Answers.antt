@@ -36,7 +36,7 @@ returns-in_err-rows-clause-prepared g c = λ devices.
 
 pub returns-clause-prepared : goal.returns-clause-prepared
 returns-clause-prepared g c = λ devices.
-    let said = c.judge_vhdl.ensures in
+    let said = c.judge_document.ensures in
     let spec = c.in_ok-document.ensures.fetched in
     let vhdl = c.in_ok-text.ensures.fetched in
     let vectors = c.in_ok-rows.ensures.fetched in
@@ -53,4 +53,4 @@ returns-clause-prepared g c = λ devices.
     (λ files told. vectors.1 files (c.fetch-2.ensures.told_same ∙ c.fetch.ensures.told_same ∙ told)
     ∙ ap Some (sym c.deref-3.ensures.value))
     (omega (arith, brief, ap length c.deref-3.ensures.value))
-    c.judge_vhdl.result said.answer said.listed
+    c.judge_document.result said.answer said.listed

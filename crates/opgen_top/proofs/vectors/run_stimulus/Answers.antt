@@ -1,25 +1,9 @@
-use Rattle.std.proofs.Common.{refl, sym, ◌∙◌, subst}
-use Rattle.opgen_num.specs.Words.{AreRowsOfCells}
-use Rattle.opgen_top.specs.Running.{IsRunText}
-use Rattle.opgen_top.proofs.ServedPorts.{served_widths, served_columns, served_port}
+use Rattle.std.proofs.Common.{refl}
 use Rattle.opgen_top.proofs.vectors.run_stimulus.Goals as goal
-
-pub run_text-requires-clause-some_port : goal.run_text-requires-clause-some_port
-run_text-requires-clause-some_port c = served_port c.args.spec.now c.args.design c.requires.ports
-
-pub run_text-requires-clause-rows : goal.run_text-requires-clause-rows
-run_text-requires-clause-rows c =
-    subst (λ ws. AreRowsOfCells ws c.args.cycles c.in_ok-stimulus.field-0.cells.items)
-    (sym (served_widths c.args.spec.now c.args.design c.requires.ports)) c.in_ok-stimulus.ensures.fit
-
-pub run_text-requires-clause-columns : goal.run_text-requires-clause-columns
-run_text-requires-clause-columns c =
-    c.in_ok-stimulus.ensures.columns ∙ sym (served_columns c.args.spec.now c.args.design c.requires.ports)
 
 pub returns : goal.returns
 returns c = record {
-  rows = c.in_ok-run_text.field-0.items;
-  run = subst
-      (λ cs. IsRunText c.args.design c.args.cycles cs c.in_ok-run_text.field-0.items) c.in_ok-stimulus.ensures.cells c.in_ok-run_text.ensures;
-  answer = rw (c.in_ok-with_file.ensures, c.in_ok-wrote_vectors_line.ensures, c.in_ok-vectors_name.ensures, c.as_str-name.ensures) refl;
+  rows = c.in_ok-text.text.items;
+  run = c.in_ok-text.ensures;
+  answer = rw (c.in_ok-with_file.ensures, c.in_ok-line.ensures, c.in_ok-vectors_name.ensures, c.as_str-name.ensures) refl;
 }

@@ -1,5 +1,0 @@
-use Rattle.opgen_check.proofs.Judging.{one_verdict}
-use Rattle.opgen_check.proofs.laws.one_verdict.Goals as goal
-
-pub returns : goal.returns
-returns c = one_verdict

@@ -1,5 +1,0 @@
-use Rattle.opgen_graph.proofs.Reaching.{ranks_are_graphs}
-use Rattle.opgen_graph.proofs.laws.ranks_are_graphs.Goals as goal
-
-pub returns : goal.returns
-returns c = ranks_are_graphs

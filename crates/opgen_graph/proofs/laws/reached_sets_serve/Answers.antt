@@ -1,5 +1,0 @@
-use Rattle.opgen_graph.proofs.Serving.{reached_serve}
-use Rattle.opgen_graph.proofs.laws.reached_sets_serve.Goals as goal
-
-pub returns : goal.returns
-returns c = reached_serve

@@ -1,5 +1,0 @@
-use Rattle.opgen_lanes.proofs.StreamRuns.{steps-are-runs}
-use Rattle.opgen_lanes.proofs.laws.steps_are_runs.Goals as goal
-
-pub returns : goal.returns
-returns c = steps-are-runs

@@ -1,5 +1,0 @@
-use Rattle.opgen_net.proofs.Grown.{grown_nets_keep}
-use Rattle.opgen_net.proofs.laws.grown_nets_keep_nodes.Goals as goal
-
-pub returns : goal.returns
-returns c = grown_nets_keep

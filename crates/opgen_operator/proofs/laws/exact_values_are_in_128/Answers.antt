@@ -1,5 +1,0 @@
-use Rattle.opgen_operator.proofs.In128.{exact_in128}
-use Rattle.opgen_operator.proofs.laws.exact_values_are_in_128.Goals as goal
-
-pub returns : goal.returns
-returns c = exact_in128

@@ -1,5 +1,0 @@
-use Rattle.opgen_operator.proofs.PortWidths.{limits_within}
-use Rattle.opgen_operator.proofs.laws.limits_are_within.Goals as goal
-
-pub returns : goal.returns
-returns c = limits_within

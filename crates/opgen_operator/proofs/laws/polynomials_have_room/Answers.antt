@@ -1,5 +1,0 @@
-use Rattle.opgen_operator.proofs.Results.{polys_room}
-use Rattle.opgen_operator.proofs.laws.polynomials_have_room.Goals as goal
-
-pub returns : goal.returns
-returns c = polys_room

@@ -1,5 +1,0 @@
-use Rattle.opgen_operator.proofs.PortWidths.{shifts_small}
-use Rattle.opgen_operator.proofs.laws.shifts_are_small.Goals as goal
-
-pub returns : goal.returns
-returns c = shifts_small

@@ -1,5 +1,0 @@
-use Rattle.opgen_operator.proofs.Widths.{taps_width}
-use Rattle.opgen_operator.proofs.laws.taps_have_room.Goals as goal
-
-pub returns : goal.returns
-returns c = taps_width

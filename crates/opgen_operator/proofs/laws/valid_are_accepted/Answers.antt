@@ -1,5 +1,0 @@
-use Rattle.opgen_operator.proofs.Accepted.{valid_accepted}
-use Rattle.opgen_operator.proofs.laws.valid_are_accepted.Goals as goal
-
-pub returns : goal.returns
-returns c = valid_accepted

@@ -1,0 +1,13 @@
+pub mod Building
+pub mod Classical
+pub mod Numbering
+pub mod SomeAdderSet
+pub mod SomeListing
+pub mod SomeNet
+pub mod SomeRanks
+pub mod RestingMultiples
+pub mod OneGraph
+pub mod FirstCause
+pub mod OneReadingOfRows
+pub mod OutputDepth
+pub mod OneProductNet

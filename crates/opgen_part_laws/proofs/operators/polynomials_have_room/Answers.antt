@@ -1,0 +1,5 @@
+use Rattle.opgen_operator.proofs.Results.{polys_room}
+use Rattle.opgen_part_laws.proofs.operators.polynomials_have_room.Goals as goal
+
+pub returns : goal.returns
+returns c = polys_room

@@ -1,0 +1,5 @@
+use Rattle.opgen_operator.proofs.Reached.{products_span}
+use Rattle.opgen_part_laws.proofs.operators.products_reach.Goals as goal
+
+pub returns : goal.returns
+returns c p fits = products_span p

@@ -1,0 +1,5 @@
+use Rattle.opgen_operator.proofs.PortWidths.{roots_narrow}
+use Rattle.opgen_part_laws.proofs.operators.roots_are_narrow.Goals as goal
+
+pub returns : goal.returns
+returns c = roots_narrow

@@ -1,0 +1,5 @@
+use Rattle.opgen_operator.proofs.Reached.{sums_span}
+use Rattle.opgen_part_laws.proofs.operators.sums_reach.Goals as goal
+
+pub returns : goal.returns
+returns c = sums_span

@@ -1,0 +1,26 @@
+//! Laws of runs: a design has one run, its steps are runs, outputs look no further back than the depth, and rows have one verdict.
+ghost use Rattle.opgen_runs.specs.OneRun.{HasOneRun};
+ghost use Rattle.opgen_forward.specs.Depth.{OutputsDependOnDepth};
+ghost use Rattle.opgen_sim.specs.Runs.{StepsAreRuns};
+ghost use Rattle.opgen_check.specs.Verdict.{HasOneVerdict};
+
+/// A sound design has exactly one run over each list of inputs: for each cycle a word for each input port, of its width.
+pub fn one_run()
+    ensures { HasOneRun }
+{}
+
+/// In a sound design of a depth, cycles with the same inputs, in them and in as many cycles before as the depth, have the same
+/// outputs: in one run or in two, wherever they are.
+pub fn outputs_depend_on_depth()
+    ensures { OutputsDependOnDepth }
+{}
+
+/// The steps of a new simulator are a run of its design: a list of them has a word for each signal and port in each cycle.
+pub fn steps_are_runs()
+    ensures { StepsAreRuns }
+{}
+
+/// A sound design's run over rows has at most one verdict.
+pub fn one_verdict()
+    ensures { HasOneVerdict }
+{}

@@ -1,5 +1,0 @@
-use Rattle.opgen_pipe.proofs.Soundness.{design_sound}
-use Rattle.opgen_pipe.proofs.laws.design_is_sound.Goals as goal
-
-pub returns : goal.returns
-returns c = design_sound

@@ -1,5 +1,0 @@
-use Rattle.opgen_poly.proofs.Cuts.{cut-greatest}
-use Rattle.opgen_poly.proofs.laws.most_are_left_out.Goals as goal
-
-pub returns : goal.returns
-returns c = cut-greatest

@@ -1,8 +1,0 @@
-use Rattle.opgen_read.proofs.FirstCause.{one_cause, no_cause}
-use Rattle.opgen_read.proofs.law.one_cause.Goals as goal
-
-pub returns-clause-cause : goal.returns-clause-cause
-returns-clause-cause c = one_cause
-
-pub returns-clause-no_cause : goal.returns-clause-no_cause
-returns-clause-no_cause c = no_cause

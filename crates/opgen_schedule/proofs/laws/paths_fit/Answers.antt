@@ -1,5 +1,0 @@
-use Rattle.opgen_schedule.proofs.Paths as law
-use Rattle.opgen_schedule.proofs.laws.paths_fit.Goals as goal
-
-pub returns : goal.returns
-returns c = law.paths_fit

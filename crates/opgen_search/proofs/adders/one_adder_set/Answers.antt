@@ -1,5 +1,0 @@
-use Rattle.opgen_search.proofs.Building.{one_set}
-use Rattle.opgen_search.proofs.adders.one_adder_set.Goals as goal
-
-pub returns : goal.returns
-returns c = one_set

@@ -1,5 +1,0 @@
-use Rattle.opgen_write.proofs.Lengths.{signals-fewer}
-use Rattle.opgen_write.proofs.law.text_lengths.Goals as goal
-
-pub returns : goal.returns
-returns c = signals-fewer

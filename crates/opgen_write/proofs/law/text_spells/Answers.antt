@@ -1,5 +1,0 @@
-use Rattle.opgen_write.proofs.Designs.{spells}
-use Rattle.opgen_write.proofs.law.text_spells.Goals as goal
-
-pub returns : goal.returns
-returns c = spells
