@@ -72,14 +72,15 @@ class Texts(unittest.TestCase):
 
 class Tools(unittest.TestCase):
     def test_help(self) -> None:
-        """Each tool says what it does."""
-        tools = [path for path in sorted((TOP / "tools").iterdir()) if path.is_file() and os.access(path, os.X_OK)]
-        self.assertGreater(len(tools), 5)
+        """Each tool and each bench says what it does."""
+        paths = [*sorted((TOP / "tools").iterdir()), *sorted((TOP / "bench").iterdir())]
+        tools = [path for path in paths if path.is_file() and os.access(path, os.X_OK)]
+        self.assertGreater(len(tools), 10)
         for tool in tools:
             with self.subTest(tool.name):
                 done = subprocess.run([tool, "--help"], capture_output=True, text=True, stdin=subprocess.DEVNULL)
                 self.assertEqual((done.returncode, done.stderr), (0, ""))
-                self.assertIn(f"tools/{tool.name}", done.stdout)
+                self.assertIn(f"{tool.parent.name}/{tool.name}", done.stdout)
 
 
 class WithoutABuild(unittest.TestCase):
