@@ -1,5 +1,5 @@
 //! How many of the lowest columns a truncated multiplier leaves out, and the constant that it adds in their place.
-ghost use Rattle.std.specs.Prelude.{◌≡◌, ◌+◌, ◌-◌, ◌*◌, ◌^◌, ◌<◌, ◌≤◌};
+ghost use Rattle.std.specs.Prelude.{◌≡◌, ◌+◌, ◌-◌, ◌^◌, ◌<◌, ◌≤◌};
 ghost use Rattle.opgen_budget.specs.Columns.{bits_in_column, IsGreatestCut};
 
 /// The lowest columns of a product that a truncated multiplier leaves out.

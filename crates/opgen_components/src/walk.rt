@@ -1,5 +1,5 @@
 //! The depth-first walk along the links of a graph, which finds its strongly connected components.
-ghost use Rattle.std.specs.Prelude.{◌≡◌, ◌≢◌, ◌<◌, ◌≤◌, ◌++◌, ◌∷◌, [], ℕ, true, false, ◌⊎◌, IsTrue, ◌↔◌, IfOk, OnOk, ◌-◌, ◌+◌, length, map, replicate, take, drop, slice_index, slice_set, Contains};
+ghost use Rattle.std.specs.Prelude.{◌≡◌, ◌≢◌, ◌<◌, ◌≤◌, [], ℕ, true, false, ◌⊎◌, IsTrue, ◌↔◌, IfOk, OnOk, ◌-◌, ◌+◌, length, map, replicate, take, drop, slice_index, Contains};
 ghost use Rattle.opgen_components.specs.Graph.{IsGraph, graph_of, links_of};
 ghost use Rattle.opgen_components.specs.Walk.{IsWalk, IsTop, IsAscending, KeepsMet, mark_of, marked, component_at, work, Entered, Follows, Finished, Closed};
 

@@ -1,10 +1,9 @@
 //! Compresses a bit heap to one node of a net that has its sum, by a compressor tree and a final adder.
-ghost use Rattle.std.specs.Prelude.{◌≡◌, ◌≤◌, ◌<◌, ◌^◌, ◌++◌, Bool, length, slice_index, slice_index_or, IfOk, OnOk, []};
+ghost use Rattle.std.specs.Prelude.{◌≡◌, ◌≤◌, ◌<◌, ◌^◌, ◌++◌, length, slice_index, slice_index_or, IfOk, OnOk, []};
 ghost use Rattle.opgen_net.specs.Flow.{KeepsFlow};
 ghost use Rattle.opgen_net.specs.Grown.{HasGrown};
 ghost use Rattle.opgen_net.specs.Valid.{IsValid, widths};
-ghost use Rattle.opgen_num.specs.Words.{word};
-ghost use Rattle.opgen_compress.specs.Recipe.{one_if, with_ones, all_columns, compressed};
+ghost use Rattle.opgen_compress.specs.Recipe.{one_if, all_columns, compressed};
 ghost use Rattle.opgen_heap.specs.Standing.{AllThere};
 ghost use Rattle.opgen_compress.specs.Kept.{IsSumOf};
 

@@ -1,10 +1,9 @@
 //! Splits the input into digits, and divides them one after another from the highest, each with the remainder so far.
-ghost use Rattle.std.specs.Prelude.{◌≡◌, ◌+◌, ◌*◌, ◌≤◌, ◌<◌, ◌++◌, ◌-◌, All, IfOk, OnOk, length, take, drop, replicate, slice_index, []};
+ghost use Rattle.std.specs.Prelude.{◌≡◌, ◌+◌, ◌*◌, ◌≤◌, ◌<◌, ◌++◌, ◌-◌, All, IfOk, OnOk, length, take, drop, slice_index, []};
 ghost use Rattle.opgen_num.specs.declared.TheConstants.{MAX_WIDTH};
-ghost use Rattle.opgen_net.specs.declared.word_bits.WordBit.TheVariants.{Zero};
 ghost use Rattle.opgen_net.specs.Valid.{IsValid, widths};
 ghost use Rattle.opgen_net.specs.WordRule.{IsThere};
-ghost use Rattle.opgen_constdiv.specs.Rows.{IsSmall, digit_width as digit_width_of, rest_width as rest_width_of};
+ghost use Rattle.opgen_constdiv.specs.Rows.{IsSmall};
 ghost use Rattle.opgen_design.specs.Width.{IsWidth};
 ghost use Rattle.opgen_constdiv.specs.Steps.{IsInput, HoldsAfterEachDigit};
 ghost use Rattle.opgen_constdiv.specs.Recipe.{with_input, digit_number as digit_number_of, dividend as dividend_of, divided, after, with_results, net_of};

@@ -1,5 +1,5 @@
 -- Each whole number has a canonical form.
-use Rattle.std.proofs.Common.{◌≡◌, ◌≢◌, ◌⊎◌, inl, inr, ⊎_elim, ℕ, zero, suc, ◌%◌, ◌/◌, ◌≤◌, ◌<◌, unsigned_abs, ℤ, pos, negsuc, ◌+ℤ◌, List, [], ◌∷◌, refl, sym, ◌∙◌, arith}
+use Rattle.std.proofs.Common.{◌≡◌, ◌≢◌, ◌⊎◌, inl, inr, ⊎_elim, ℕ, zero, suc, ◌%◌, ◌/◌, ◌<◌, unsigned_abs, ℤ, pos, negsuc, ◌+ℤ◌, List, [], ◌∷◌, refl, sym, ◌∙◌, arith}
 use Rattle.std.proofs.lemmas.Int.{ints}
 use Rattle.std.proofs.lemmas.Bool.{cases_eq}
 use Rattle.opgen_csd.specs.Digits.{IsDigit, value_of, IsCanonical}

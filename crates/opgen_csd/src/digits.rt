@@ -1,5 +1,5 @@
 //! Recodes a number to its canonical signed digits (-1, 0 and 1, no two neighbours nonzero), and reads the number back.
-ghost use Rattle.std.specs.Prelude.{◌≡◌, ◌≢◌, ◌<◌, ◌≤◌, ◌^◌, ℤ, pos, ◌≤ℤ◌, ◌+ℤ◌, ◌*ℤ◌, unsigned_abs};
+ghost use Rattle.std.specs.Prelude.{◌≡◌, ◌≢◌, ◌<◌, ◌≤◌, ◌^◌, ℤ, pos, ◌+ℤ◌, ◌*ℤ◌, unsigned_abs};
 ghost use Rattle.opgen_csd.specs.Digits.{IsDigit, IsCanonical, value_of, nonzeros};
 
 use std::marker::Model;

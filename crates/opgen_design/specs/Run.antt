@@ -78,5 +78,10 @@ words_at_outputs d v = at_ports is_out d.ports v.ports
 abbrev pub AreWords : List ℕ → List (List Bool) → Type 0
 AreWords ws given = map length given ≡ ws
 
+-- the widths of the input ports, in order
 abbrev pub input_widths : Design → List ℕ
 input_widths d = at_ports is_in d.ports (map (λ p. p.width) d.ports)
+
+-- the widths of the output ports, in order
+abbrev pub output_widths : Design → List ℕ
+output_widths d = at_ports is_out d.ports (map (λ p. p.width) d.ports)

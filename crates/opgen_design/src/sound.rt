@@ -1,6 +1,6 @@
 //! Checks whether a design is sound: runs the ten rules in order, and reports the first one that fails and where.
 ghost use Rattle.std.specs.Prelude.{◌≡◌, ◌+◌, ◌<◌, ◌^◌, ℕ, Some, OnOk, IfErr, length};
-ghost use Rattle.opgen_design.specs.Rules.{AreFirstDrivers, IsFaultAt, PortsPass, SignalsPass, DriversPass, fault_at};
+ghost use Rattle.opgen_design.specs.Rules.{AreFirstDrivers, IsFaultAt, PortsPass, SignalsPass, fault_at};
 ghost use Rattle.opgen_design.specs.declared.sound.Rule.TheVariants.{Undeclared, DeclaredTwice, Width, DrivenTwice, NotDriven, Cyclic, ReadsOutput, NoInitial, ChoiceTwice, BadEnable};
 ghost use Rattle.opgen_design.specs.Sound.{DesignPasses, Holds, HasNumbers, IsOrdered, IsSound, IsFaultOf, rule_number};
 

@@ -16,7 +16,7 @@ ghost use Rattle.opgen_net.specs.WordRule.{IsThere};
 ghost use Rattle.opgen_operator.specs.Accepted.{IsAcceptedPair};
 ghost use Rattle.opgen_operator.specs.Fits.{FitsSpecsOf};
 ghost use Rattle.opgen_operator.specs.declared.spec.Operator.TheVariants.{Divide};
-ghost use Rattle.opgen_divide.specs.Recipe.{with_inputs, numerator as numerator_of, digit_count, with_divisor, minuend as minuend_of, stepped, after, net_of_pair};
+ghost use Rattle.opgen_divide.specs.Recipe.{with_inputs, numerator as numerator_of, digit_count, with_divisor, stepped, after, net_of_pair};
 ghost use Rattle.opgen_divide.specs.Steps.{HoldsAfterEachStep};
 
 use opgen_digits::{Digits, Trial, output_results, push_all, try_digit};

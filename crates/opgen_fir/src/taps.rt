@@ -1,6 +1,6 @@
 //! The input of a scale or filter, and a delay for each cycle that its coefficients reach back.
 
-ghost use Rattle.std.specs.Prelude.{◌≡◌, ◌≤◌, ◌<◌, ◌-◌, length, IfOk, get_or, pos, ◌≢◌};
+ghost use Rattle.std.specs.Prelude.{◌≡◌, ◌≤◌, ◌<◌, ◌-◌, length, IfOk};
 ghost use Rattle.opgen_net.specs.Valid.{IsValid};
 ghost use Rattle.opgen_operator.specs.declared.spec.Sum.{Sum};
 ghost use Rattle.opgen_operator.specs.Accepted.{IsAcceptedSum};

@@ -1,14 +1,13 @@
 //! Adds the tables of all coefficients and the rounding constant to the bit heap of a scale or filter.
 
-ghost use Rattle.std.specs.Prelude.{◌≡◌, ◌<◌, ◌≤◌, ◌^◌, [], ℤ, ℕ, pos, false, length, get_or, All, OnOk};
-ghost use Rattle.opgen_num.specs.Words.{nat};
+ghost use Rattle.std.specs.Prelude.{◌≡◌, ◌<◌, ◌≤◌, [], ℤ, ℕ, pos, false, length, get_or, All, OnOk};
 ghost use Rattle.opgen_heap.specs.Standing.{AllThere};
 ghost use Rattle.opgen_net.specs.Flow.{Inputs, flow};
 ghost use Rattle.opgen_net.specs.Valid.{IsValid, input_widths};
 ghost use Rattle.opgen_design.specs.Run.{AreWords};
 ghost use Rattle.opgen_operator.specs.Accepted.{IsAcceptedSum};
 ghost use Rattle.opgen_kcm.specs.Chunks.{number};
-ghost use Rattle.opgen_kcm.specs.Recipe.{Terms, HasTermsMore, input_width};
+ghost use Rattle.opgen_kcm.specs.Recipe.{HasTermsMore, input_width};
 ghost use Rattle.opgen_kcm.specs.Multiple.{sum_at};
 ghost use Rattle.opgen_fir.specs.Recipe.{is_zero, tapped, no_terms, with_term, with_terms, with_half};
 ghost use Rattle.opgen_fir.specs.Summed.{recent, HasTerm, HasSum};

@@ -1,5 +1,5 @@
 //! The depth of a design: the most registers on a way to a signal.
-ghost use Rattle.std.specs.Prelude.{ℕ, ◌≡◌, ◌≤◌, IfOk, IfSome, slice_index, true};
+ghost use Rattle.std.specs.Prelude.{ℕ, ◌≡◌, ◌≤◌, IfOk, IfSome, slice_index};
 ghost use Rattle.std.specs.List.{list_all};
 ghost use Rattle.opgen_design.specs.Sound.{HasNumbers, IsSound};
 ghost use Rattle.opgen_forward.specs.Depth.{HasDepth};

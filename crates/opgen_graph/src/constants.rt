@@ -1,5 +1,5 @@
 //! Builds the output of each constant from the multiple of its odd part: shifted, and negated if the constant is negative.
-ghost use Rattle.std.specs.Prelude.{◌≡◌, ◌≢◌, ◌<◌, ◌≤◌, ℤ, pos, length, slice_index, get_or, unsigned_abs, All, Contains, IfOk, OnOk};
+ghost use Rattle.std.specs.Prelude.{◌≡◌, ◌<◌, ℤ, pos, length, slice_index, get_or, unsigned_abs, All, Contains, IfOk, OnOk};
 ghost use Rattle.opgen_design.specs.Width.{IsWidth};
 ghost use Rattle.opgen_net.specs.Valid.{IsValid, widths};
 ghost use Rattle.opgen_operator.specs.Accepted.{IsAcceptedSeveral};

@@ -1,5 +1,5 @@
 //! The cost of a set of adders in bits: the width of each sum, added up.
-ghost use Rattle.std.specs.Prelude.{◌≡◌, ◌^◌, ◌<◌, ◌≤◌, ◌*◌, length};
+ghost use Rattle.std.specs.Prelude.{◌≡◌, ◌^◌, ◌<◌, ◌*◌, length};
 ghost use Rattle.opgen_graph.specs.SetCost.{adder_cost, set_cost};
 
 // What an adder for `n` costs.

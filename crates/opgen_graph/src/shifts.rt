@@ -1,5 +1,5 @@
 //! Splits a number into its odd part and a power of two, and finds the shift from an odd number to an even one.
-ghost use Rattle.std.specs.Prelude.{◌≡◌, ℕ, ◌+◌, ◌*◌, ◌^◌, ◌≤◌, ◌<◌, ◌%◌, IfSome, IfNone};
+ghost use Rattle.std.specs.Prelude.{◌≡◌, ℕ, ◌*◌, ◌^◌, ◌≤◌, ◌<◌, ◌%◌, IfSome, IfNone};
 
 // The odd part of a number, and how often 2 divides it.
 fn split_odd(n: u32) -> (u32, u32)

@@ -1,5 +1,5 @@
 -- The bits of a heap, and its sum, over a net that has grown.
-use Rattle.std.proofs.Common.{◌≡◌, suc, ◌+◌, ◌%◌, ◌^◌, List, [], ◌∷◌, length, refl, ap, arith}
+use Rattle.std.proofs.Common.{◌≡◌, suc, ◌+◌, ◌%◌, ◌^◌, List, [], ◌∷◌, refl, ap, arith}
 use Rattle.std.specs.Prelude.{ℤ, false, All, slice_index_or}
 use Rattle.opgen_num.specs.Words.{digit}
 use Rattle.opgen_net.specs.declared.net.Net.{Net}

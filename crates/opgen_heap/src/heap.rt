@@ -1,5 +1,5 @@
 //! Bit heaps: columns of weighted bits of a net's nodes, and a constant, that are to be added modulo a power of two.
-ghost use Rattle.std.specs.Prelude.{◌≡◌, ℕ, ◌+◌, ◌*◌, ◌%◌, ◌^◌, ◌<◌, ◌≤◌, ℤ, pos, ◌+ℤ◌, Bool, List, [], ◌++◌, ◌-◌, length, take, replicate, OnOk, OnErr};
+ghost use Rattle.std.specs.Prelude.{◌≡◌, ℕ, ◌+◌, ◌*◌, ◌%◌, ◌^◌, ◌<◌, ◌≤◌, ℤ, pos, ◌+ℤ◌, [], ◌++◌, ◌-◌, length, take, replicate, OnOk, OnErr};
 ghost use Rattle.opgen_num.specs.declared.TheConstants.{MAX_WIDTH};
 ghost use Rattle.opgen_num.specs.Words.{digit, nat};
 ghost use Rattle.opgen_design.specs.Width.{IsWidth};

@@ -1,6 +1,6 @@
 -- The entries of a table: the multiples of a fraction by the digits of a chunk, each rounded to the nearest whole number
 -- (K. D. Chapman's constant multiplier; de Dinechin and Kumm, Application-Specific Arithmetic, "Multiplication by a constant").
-use Rattle.std.specs.Prelude.{ℕ, zero, suc, ◌/◌, ◌%◌, ◌^◌, ◌==◌, Bool, List, [], ◌∷◌, ◌++◌, map, max, ℤ, pos, ◌+ℤ◌, ◌*ℤ◌, slice_index_or, if◌then◌else◌}
+use Rattle.std.specs.Prelude.{ℕ, zero, suc, ◌/◌, ◌%◌, ◌^◌, ◌==◌, Bool, List, [], ◌∷◌, ◌++◌, map, max, ℤ, pos, ◌*ℤ◌, slice_index_or, if◌then◌else◌}
 use Rattle.std.specs.Int.{int_min}
 use Rattle.std.specs.List.{fold, list_all}
 use Rattle.opgen_num.specs.declared.format.Ratio.{Ratio}

@@ -1,5 +1,5 @@
 //! Adds a constant multiple of a node to a bit heap: one table for each chunk of the node's bits, and a constant.
-ghost use Rattle.std.specs.Prelude.{◌≡◌, ◌≢◌, ◌+◌, ◌*◌, ◌^◌, ◌<◌, ◌≤◌, ℤ, pos, ◌+ℤ◌, ◌<ℤ◌, length, unsigned_abs, All, IfOk, OnOk};
+ghost use Rattle.std.specs.Prelude.{◌≡◌, ◌≢◌, ◌+◌, ◌*◌, ◌^◌, ◌<◌, ◌≤◌, ℤ, pos, ◌+ℤ◌, ◌<ℤ◌, length, unsigned_abs, All, OnOk};
 ghost use Rattle.opgen_num.specs.declared.TheConstants.{MAX_INPUT, MAX_WIDTH};
 ghost use Rattle.opgen_heap.specs.Adding.{residue};
 ghost use Rattle.opgen_heap.specs.Standing.{AllThere};
@@ -9,7 +9,7 @@ ghost use Rattle.opgen_net.specs.Valid.{IsValid, input_widths};
 ghost use Rattle.opgen_design.specs.Run.{AreWords};
 ghost use Rattle.opgen_kcm.specs.Chunks.{chunk_count, chunk_word, digit_of, number};
 ghost use Rattle.opgen_kcm.specs.Entries.{in_guard_units, entry, all_entries, offsets, greatest_of, shape_of};
-ghost use Rattle.opgen_kcm.specs.Recipe.{Terms, with_table, with_entries, with_rows, input_width, HasTermsMore, HasRoom, HasNarrowRows};
+ghost use Rattle.opgen_kcm.specs.Recipe.{with_table, with_entries, with_rows, input_width, HasTermsMore, HasRoom, HasNarrowRows};
 ghost use Rattle.opgen_kcm.specs.Multiple.{HasRisen, sum_at};
 
 use crate::chunk::{CHUNK_WIDTH, Chunk};

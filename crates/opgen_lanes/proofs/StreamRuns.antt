@@ -1,11 +1,10 @@
 -- The steps of new streams are runs of the design.
 use Rattle.std.proofs.Common.{sym}
-use Rattle.opgen_design.specs.Run.{input_widths, words_at_outputs}
+use Rattle.opgen_design.specs.Run.{input_widths, output_widths, words_at_outputs}
 use Rattle.opgen_design.specs.Sound.{signal_widths}
 use Rattle.opgen_runs.proofs.Steps.{steps-run}
 use Rattle.opgen_streams.specs.Streams.{words_in}
 use Rattle.opgen_lanes.specs.Runs.{AreSteps, StepsAreRuns}
-use Rattle.opgen_lanes.specs.Steps.{output_widths}
 
 pub steps-are-runs : StepsAreRuns
 steps-are-runs d l inputs outputs n h k m =

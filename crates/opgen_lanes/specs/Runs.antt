@@ -1,10 +1,10 @@
 -- What the steps of streams are, one after another.
 use Rattle.std.specs.Prelude.{ℕ, ◌≡◌, ◌<◌, List, map}
 use Rattle.opgen_design.specs.declared.design.Design.{Design}
-use Rattle.opgen_design.specs.Run.{Words, Run, input_widths, words_at_outputs}
+use Rattle.opgen_design.specs.Run.{Words, Run, input_widths, output_widths, words_at_outputs}
 use Rattle.opgen_runs.specs.Steps.{StepsOn}
 use Rattle.opgen_streams.specs.Streams.{streams, words_in}
-use Rattle.opgen_lanes.specs.Steps.{Running, AreNew, IsStepIn, output_widths}
+use Rattle.opgen_lanes.specs.Steps.{Running, AreNew, IsStepIn}
 
 -- a step of each stream
 abbrev pub AreSteps : Design → (now inputs next outputs : List (List ℕ)) → Type 0

@@ -1,8 +1,8 @@
 -- Many streams of a design, and a step of each.
 use Rattle.std.specs.Prelude.{ℕ, ◌≡◌, ◌<◌, List}
 use Rattle.opgen_design.specs.declared.design.Design.{Design}
-use Rattle.opgen_design.specs.Run.{Words, Cycle, at_ports, initial_words, input_widths, is_out, words_at_outputs}
-use Rattle.opgen_design.specs.Sound.{port_widths, signal_widths}
+use Rattle.opgen_design.specs.Run.{Words, Cycle, initial_words, input_widths, output_widths, words_at_outputs}
+use Rattle.opgen_design.specs.Sound.{signal_widths}
 use Rattle.opgen_runs.specs.Registers.{SameRegisters}
 use Rattle.opgen_streams.specs.Streams.{streams, words_in}
 
@@ -10,9 +10,6 @@ use Rattle.opgen_streams.specs.Streams.{streams, words_in}
 pub record Running : Type 0 where
   pub design : Design
   pub held : List (List ℕ)
-
-abbrev pub output_widths : Design → List ℕ
-output_widths d = at_ports is_out d.ports (port_widths d)
 
 -- streams before the first cycle of a design
 pub record AreNew (d : Design) (l : Running) : Type 0 where

@@ -1,5 +1,5 @@
 //! The words that drivers give, in each stream.
-ghost use Rattle.std.specs.Prelude.{ℕ, ◌≡◌, ◌<◌, ◌≤◌, All, IsSome, Some, if◌then◌else◌, length, slice_get, take};
+ghost use Rattle.std.specs.Prelude.{ℕ, ◌≡◌, ◌<◌, ◌≤◌, All, IsSome, Some, length, slice_get, take};
 ghost use Rattle.opgen_num.specs.declared.TheConstants.{MAX_WIDTH};
 ghost use Rattle.opgen_design.specs.declared.design.Driver.{Driver};
 ghost use Rattle.opgen_design.specs.Plain.{plain};
@@ -8,7 +8,7 @@ ghost use Rattle.opgen_design.specs.Sound.{IsSound, target};
 ghost use Rattle.opgen_design.specs.Value.{chosen, value};
 ghost use Rattle.opgen_design.specs.Width.{width};
 ghost use Rattle.opgen_runs.specs.Evaluate.{IsThere, driver_word, put_at, put_option, settle, table_word};
-ghost use Rattle.opgen_streams.specs.Streams.{bit_in, streams, word_in};
+ghost use Rattle.opgen_streams.specs.Streams.{streams, word_in};
 ghost use Rattle.opgen_lanes.specs.Banks.{IsBank, stream_words, width_at, widths_of};
 ghost use Rattle.opgen_lanes.specs.Ready.{AreBanksOf};
 

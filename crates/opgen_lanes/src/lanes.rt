@@ -3,13 +3,13 @@ ghost use Rattle.std.specs.Prelude.{ℕ, ◌≡◌, ◌<◌, ◌^◌, All, IfOk,
 ghost use Rattle.std.specs.List.{sum};
 ghost use Rattle.opgen_num.specs.Words.{word};
 ghost use Rattle.opgen_design.specs.Order.{IsOrderOf};
-ghost use Rattle.opgen_design.specs.Run.{Cycle, at_ports, initial_words, input_widths, is_in};
+ghost use Rattle.opgen_design.specs.Run.{Cycle, at_ports, initial_words, input_widths, output_widths, is_in};
 ghost use Rattle.opgen_design.specs.Sound.{HasNumbers, IsSignalWide, IsSound, signal_widths};
 ghost use Rattle.opgen_runs.specs.Registers.{SameRegisters};
 ghost use Rattle.opgen_streams.specs.Streams.{streams, words_in};
 ghost use Rattle.opgen_lanes.specs.Banks.{IsBank, stream_words, widths_of, words_at};
 ghost use Rattle.opgen_lanes.specs.Ready.{AreBanksOf, IsReady};
-ghost use Rattle.opgen_lanes.specs.Steps.{AreNew, IsStepIn, output_widths};
+ghost use Rattle.opgen_lanes.specs.Steps.{AreNew, IsStepIn};
 
 use crate::bank::{Bank, Banks, port_widths, room, signal_widths};
 use crate::drivers::settle;

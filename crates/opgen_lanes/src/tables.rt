@@ -1,5 +1,5 @@
 //! Tables looked up in all streams: by halving the addresses, or row by row.
-ghost use Rattle.std.specs.Prelude.{ℕ, ◌≡◌, ◌<◌, ◌≤◌, ◌&&◌, All, List, [], ◌∷◌, if◌then◌else◌, false, length, min, not, true, ◌^◌};
+ghost use Rattle.std.specs.Prelude.{ℕ, ◌≡◌, ◌<◌, ◌≤◌, ◌&&◌, All, [], ◌∷◌, if◌then◌else◌, false, length, min, not, true, ◌^◌};
 ghost use Rattle.opgen_num.specs.declared.TheConstants.{MAX_WIDTH};
 ghost use Rattle.opgen_num.specs.Words.{nat};
 ghost use Rattle.opgen_runs.specs.Evaluate.{table_word};

@@ -4,7 +4,7 @@ use Rattle.std.specs.Prelude.{slice_get, codes}
 use Rattle.std.proofs.lemmas.List.Elements.{All-cons, All-nil}
 use Rattle.opgen_num.proofs.RowsOfCells.{length-rows_of_cells}
 use Rattle.opgen_design.specs.declared.design.Design.{Design}
-use Rattle.opgen_design.specs.Run.{at_ports, is_in, is_out, initial_words, input_widths}
+use Rattle.opgen_design.specs.Run.{at_ports, is_in, is_out, initial_words, input_widths, output_widths}
 use Rattle.opgen_operator.specs.Ports.{inputs_of, port, sum_format}
 use Rattle.opgen_target.specs.Delays.{Delays}
 use Rattle.opgen_vec.proofs.Draws.{rows_fit}
@@ -13,7 +13,6 @@ use Rattle.opgen_workload.specs.Judged.{IsGoodCycle}
 use Rattle.opgen_workload.proofs.Counting.{all_count, one_count}
 use Rattle.opgen_top.specs.Answer.{Answer}
 use Rattle.opgen_top.specs.Circuit.{CircuitsServe, Serves}
-use Rattle.opgen_lanes.specs.Steps.{output_widths}
 use Rattle.opgen_runs.specs.Rows.{rows_words}
 use Rattle.opgen_top.specs.Workload.{IsWorked, cycles, workload_cells}
 use Rattle.opgen_laws.proofs.FilterCells.{good_cells}

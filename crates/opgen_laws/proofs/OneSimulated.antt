@@ -2,7 +2,7 @@
 use Rattle.std.proofs.Common.{◌≡◌, inl, inr, ℕ, List, length, Result, Ok, Err, sym, ap, ◌∙◌, subst}
 use Rattle.std.specs.Str.Lines.{lines}
 use Rattle.opgen_design.specs.declared.design.Design.{Design}
-use Rattle.opgen_design.specs.Run.{input_widths}
+use Rattle.opgen_design.specs.Run.{input_widths, output_widths}
 use Rattle.opgen_design.specs.Sound.{IsSound}
 use Rattle.opgen_vhdl.proofs.Walks.{one_design}
 use Rattle.opgen_part_laws.proofs.FirstCause.{one_cause, no_cause}
@@ -12,7 +12,6 @@ use Rattle.opgen_part_laws.proofs.OneReadingOfRows.{one_reading}
 use Rattle.opgen_top.specs.Answer.{Answer, simulated, vhdl_refused, vectors_refused}
 use Rattle.opgen_runs.proofs.Rows.{one_outputs}
 use Rattle.opgen_vec.specs.Writing.{rows_text}
-use Rattle.opgen_lanes.specs.Steps.{output_widths}
 use Rattle.opgen_top.specs.Running.{IsRunText}
 use Rattle.opgen_top.specs.Simulate.{GivesDesign, RefusesVhdl, RefusesVectors, Runs, IsSimulated}
 

@@ -6,7 +6,7 @@ use Rattle.opgen_num.specs.Words.{AreRowsOfCells}
 use Rattle.opgen_num.proofs.RowsOfCells.{length-rows_of_cells}
 use Rattle.opgen_design.specs.declared.design.Design.{Design}
 use Rattle.opgen_design.specs.declared.design.TheConstants.{MAX_SIGNALS}
-use Rattle.opgen_design.specs.Run.{input_widths}
+use Rattle.opgen_design.specs.Run.{input_widths, output_widths}
 use Rattle.opgen_constdiv.specs.Recipe.{net_of as net_of_small}
 use Rattle.opgen_constdiv.proofs.Fits as divisions
 use Rattle.opgen_divide.specs.Recipe.{net_of_pair}
@@ -34,7 +34,6 @@ use Rattle.opgen_pipe.specs.Planned.{slots_of}
 use Rattle.opgen_poly.specs.Recipe.{net_of_poly}
 use Rattle.opgen_poly.proofs.Fits as polynomials
 use Rattle.opgen_report.specs.Report.{report}
-use Rattle.opgen_lanes.specs.Steps.{output_widths}
 use Rattle.opgen_schedule.specs.Schedule.{greatest_time}
 use Rattle.opgen_schedule.specs.Stage.{slot_at}
 use Rattle.opgen_spec.specs.declared.fault.SpecFault.{SpecFault}

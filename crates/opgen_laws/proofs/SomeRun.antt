@@ -3,9 +3,8 @@ use Rattle.std.proofs.Common.{ℕ, List, refl, arith}
 use Rattle.opgen_num.specs.Words.{AreRowsOfCells}
 use Rattle.opgen_num.proofs.RowsOfCells.{length-rows_of_cells}
 use Rattle.opgen_design.specs.declared.design.Design.{Design}
-use Rattle.opgen_design.specs.Run.{input_widths}
+use Rattle.opgen_design.specs.Run.{input_widths, output_widths}
 use Rattle.opgen_design.specs.Sound.{IsSound}
-use Rattle.opgen_lanes.specs.Steps.{output_widths}
 use Rattle.opgen_runs.proofs.Rows.{some_run as a_run}
 use Rattle.opgen_vec.specs.Writing.{rows_text}
 use Rattle.opgen_runs.specs.Rows.{IsRunOf}

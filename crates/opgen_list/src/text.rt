@@ -1,5 +1,5 @@
 //! `Text`: a `String` that contracts see as the list of its bytes.
-ghost use Rattle.std.specs.Prelude.{◌≡◌, IfOk, length, string_bytes};
+ghost use Rattle.std.specs.Prelude.{◌≡◌, IfOk, string_bytes};
 
 use std::alloc::{AllocError, Global};
 use std::marker::Model;
@@ -31,12 +31,6 @@ impl Text {
         ensures { result ≡ string_bytes string }
     {
         Text { string }
-    }
-
-    pub fn into_string(self) -> String
-        ensures { string_bytes result ≡ self }
-    {
-        self.string
     }
 
     pub fn as_str(&self) -> &str

@@ -1,6 +1,6 @@
 //! Translates the registers of a design to steps, and to moves that store their next words when a cycle ends.
 ghost use Rattle.std.specs.Prelude.{ℕ, ◌≡◌, ◌+◌, ◌<◌, ◌^◌, All, IfOk, IfSome, Some, length};
-ghost use Rattle.opgen_design.specs.Tree.{Tree, port};
+ghost use Rattle.opgen_design.specs.Tree.{port};
 ghost use Rattle.opgen_machine.specs.Steps.{AreFine};
 ghost use Rattle.opgen_machine.specs.Programs.{AreSpots, widths_of};
 ghost use Rattle.opgen_machine.specs.Layout.{spots_of};

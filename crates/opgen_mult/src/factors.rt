@@ -1,8 +1,8 @@
 //! The two factors as inputs of a net, and their partial products in a bit heap.
-ghost use Rattle.std.specs.Prelude.{◌≡◌, ◌≤◌, IfOk};
+ghost use Rattle.std.specs.Prelude.{◌≡◌, IfOk};
 ghost use Rattle.opgen_net.specs.Valid.{IsValid};
 ghost use Rattle.opgen_operator.specs.Accepted.{IsAcceptedProduct};
-ghost use Rattle.opgen_partial.specs.Law.{AreFactors, HasProducts};
+ghost use Rattle.opgen_partial.specs.Law.{HasProducts};
 ghost use Rattle.opgen_mult.specs.Recipe.{first, second, pairs, inputs, products};
 
 use crate::places::heap_width;

@@ -1,19 +1,16 @@
 -- Bits from the highest down, and the numbers that they stand for.
-use Rattle.std.proofs.Common.{◌≡◌, ℕ, zero, suc, ◌+◌, ◌*◌, ◌^◌, ◌<◌, ◌≤◌, false, List, [], ◌∷◌, ◌++◌, length, map, take, reverse, replicate, refl, sym, ap, ◌∙◌, subst, arith}
-use Rattle.std.specs.Prelude.{ℤ, All, slice_index, slice_index_or}
-use Rattle.std.proofs.Math.Seq.{take-suc, take-length}
-use Rattle.std.proofs.lemmas.List.{length-map, length-reverse, map-append, reverse-append}
-use Rattle.std.proofs.lemmas.List.Elements.{All-cons, All-nil, All-head, All-tail}
+use Rattle.std.proofs.Common.{◌≡◌, ℕ, zero, suc, ◌+◌, ◌*◌, ◌^◌, ◌<◌, List, [], ◌∷◌, ◌++◌, length, map, reverse, replicate, refl, ap, ◌∙◌, subst, arith}
+use Rattle.std.specs.Prelude.{ℤ, All}
+use Rattle.std.proofs.lemmas.List.{map-append, reverse-append}
 use Rattle.opgen_num.specs.Words.{digit, nat}
 use Rattle.opgen_num.proofs.Cuts.{nat-append}
 use Rattle.opgen_num.proofs.Words.{nat-below}
 use Rattle.opgen_net.specs.declared.node.Node.{Node}
 use Rattle.opgen_net.specs.declared.word_bits.WordBit.{WordBit}
-use Rattle.opgen_net.specs.declared.word_bits.WordBit.TheVariants.{Zero, One, Of}
+use Rattle.opgen_net.specs.declared.word_bits.WordBit.TheVariants.{Zero}
 use Rattle.opgen_net.specs.Flow.{Inputs, flow, KeepsFlow}
 use Rattle.opgen_net.specs.Valid.{widths}
 use Rattle.opgen_net.specs.WordRule.{IsThere, bits_from, bit_flow, word_flow}
-use Rattle.opgen_net.proofs.FlowLaws.{index_within, length-widths}
 use Rattle.opgen_net.proofs.BitLists.{length-word_flow, whole-flow, word-kept}
 use Rattle.opgen_net.specs.Placed.{number_at}
 

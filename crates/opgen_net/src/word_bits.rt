@@ -2,7 +2,6 @@
 ghost use Rattle.std.specs.Prelude.{◌≡◌, ◌*◌, ◌^◌, ◌<◌, ◌++◌, [], ◌∷◌, All, IfOk, OnOk, OnErr, length, map, reverse, slice_index};
 ghost use Rattle.opgen_num.specs.Words.{digit};
 ghost use Rattle.opgen_net.specs.Flow.{KeepsFlow};
-ghost use Rattle.opgen_net.specs.Made.{slice_tree};
 ghost use Rattle.opgen_design.specs.Plain.{plain};
 ghost use Rattle.opgen_net.specs.Valid.{IsValid, LiesWithin, FitsNodes, widths};
 ghost use Rattle.opgen_design.specs.Width.{IsWidth};

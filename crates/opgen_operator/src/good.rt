@@ -1,11 +1,10 @@
 //! Judges whether the outputs of one cycle are good for the inputs up to that cycle, for each kind of operator.
-ghost use Rattle.std.specs.Prelude.{ℕ, false, ◌≡◌, ◌≢◌, ◌+◌, ◌*◌, ◌<◌, ◌≤◌, ◌^◌, ◌↔◌, ℤ, pos, neg_ℤ, ◌*ℤ◌, ◌≤ℤ◌, length, slice_index, unsigned_abs, All, IsTrue, Some};
-ghost use Rattle.opgen_num.specs.Rounding.{IsGoodRoot, IsQuotient, IsRoot};
-ghost use Rattle.opgen_operator.specs.Exact.{weighted, exact_sum, exact_product, exact_quotient, exact_multiple, exact_small, exact_taps, exact_poly, terms_from, dividend, square};
+ghost use Rattle.std.specs.Prelude.{ℕ, false, ◌≡◌, ◌≢◌, ◌+◌, ◌*◌, ◌<◌, ◌≤◌, ◌^◌, ◌↔◌, ℤ, pos, neg_ℤ, ◌*ℤ◌, ◌≤ℤ◌, length, unsigned_abs, All, IsTrue};
+ghost use Rattle.opgen_operator.specs.Exact.{weighted, exact_sum, exact_product, exact_multiple, exact_taps, exact_poly, terms_from, square};
 ghost use Rattle.opgen_operator.specs.Good.{IsGoodRatio, IsGoodQuotient, IsGoodSmallQuotient, IsGoodSquareRoot, AreGoodMultiples, IsGood, IsInRange};
 ghost use Rattle.opgen_operator.specs.PortNumbers.{number_of, recent_numbers, output_numbers, IsHistory, IsCycle};
 ghost use Rattle.opgen_operator.specs.Outputs.{sum_shift, product_shift, pair_shift, root_shift, HasSumRoom};
-ghost use Rattle.opgen_operator.specs.Ports.{one_input, two_inputs, sum_format, product_format, constant_format, quotient_format, remainder_format, root_format, rest_format, small_quotient_format, small_rest_format, poly_format, taps_format, small_ports, quotient_ports, root_ports, multiple_ports, inputs_of, outputs_of};
+ghost use Rattle.opgen_operator.specs.Ports.{one_input, two_inputs, sum_format, product_format, constant_format, quotient_format, remainder_format, root_format, rest_format, poly_format, taps_format, small_ports, quotient_ports, root_ports, multiple_ports, inputs_of, outputs_of};
 ghost use Rattle.opgen_operator.specs.Ranges.{IsInput, IsWithin, IsSum, IsProduct, IsPair, IsSingle, IsSeveral, IsSmallDiv, IsPoly, IsTaps};
 ghost use Rattle.opgen_operator.specs.Horner.{degree};
 ghost use Rattle.opgen_operator.specs.Reached.{IsOf};

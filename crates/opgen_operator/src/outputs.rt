@@ -1,7 +1,7 @@
 //! The shift of an operator, the range of its exact values, its first inexact coefficient, and its widest signal.
 ghost use Rattle.std.specs.Prelude.{◌≡◌, ◌+◌, ◌*◌, ◌<◌, ◌≤◌, ◌^◌, ℤ, pos, negsuc, neg_ℤ, ◌*ℤ◌, ◌≤ℤ◌, length, All, unsigned_abs};
 ghost use Rattle.opgen_operator.specs.Ranges.{IsInput, IsWithin, IsSum, IsProduct, IsPair, IsSingle, IsOperator};
-ghost use Rattle.opgen_operator.specs.Outputs.{sum_shift, product_shift, pair_shift, root_shift, shift, inexact, HasRoom, HasSumRoom, need, places_up, places_down, up, down, is_whole, first_inexact, reach_of, rises, falls, reach_over, sum_reach, product_reach, in_units, in_places, sum_places, product_places, width_of, terms, tables, guard_for, guard_bits, sum_need, product_need};
+ghost use Rattle.opgen_operator.specs.Outputs.{sum_shift, product_shift, pair_shift, root_shift, shift, inexact, HasRoom, HasSumRoom, need, places_up, places_down, up, down, is_whole, first_inexact, reach_of, rises, falls, reach_over, sum_reach, product_reach, in_units, in_places, sum_places, product_places, width_of, terms, tables, guard_bits, sum_need, product_need};
 
 use crate::MAX_SHIFT;
 use crate::spec::{Operator, Pair, Product, Single, Sum};

@@ -1,5 +1,5 @@
 //! The input and output ports of an operator: their names, formats and order.
-ghost use Rattle.std.specs.Prelude.{◌≡◌, ◌+◌, ◌*◌, ◌≤◌, ◌^◌, ◌++◌, [], ◌∷◌, ℤ, pos, neg_ℤ, ◌≤ℤ◌, length, map, codes, All, IfOk};
+ghost use Rattle.std.specs.Prelude.{◌≡◌, ◌+◌, ◌*◌, ◌≤◌, ◌^◌, ◌++◌, [], ◌∷◌, ℤ, neg_ℤ, ◌≤ℤ◌, map, codes, IfOk};
 ghost use Rattle.std.specs.Fmt.{decimal};
 ghost use Rattle.opgen_operator.specs.Outputs.{shift, sum_shift, product_shift, HasRoom, HasSumRoom};
 ghost use Rattle.opgen_operator.specs.Ports.{port, covering, unsigned, sum_format, product_format, constant_format, quotient_format, remainder_format, root_width, root_format, rest_format, small_quotient_format, small_rest_format, taps_format, numbered, with_rest, operator_inputs, operator_outputs, inputs_of, outputs_of};

@@ -1,5 +1,5 @@
 //! Tests whether rows of numbers fit the ports of an operator: one number for each port, of no more bits than the port.
-ghost use Rattle.std.specs.Prelude.{ℕ, ◌≡◌, ◌<◌, ◌%◌, ◌^◌, ◌↔◌, length, slice_index, IsTrue};
+ghost use Rattle.std.specs.Prelude.{ℕ, ◌≡◌, ◌<◌, ◌%◌, ◌^◌, ◌↔◌, length, IsTrue};
 ghost use Rattle.opgen_operator.specs.PortNumbers.{format_at, IsHistory, IsCycle};
 
 use crate::spec::PortFormat;

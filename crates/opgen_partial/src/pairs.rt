@@ -1,12 +1,11 @@
 //! The partial products of two factors in the columns of a bit heap: one AND of two bits for each pair, inverted if its weight is
 //! negative.
-ghost use Rattle.std.specs.Prelude.{◌≡◌, ◌≤◌, ◌<◌, ◌+◌, IfOk, OnOk};
+ghost use Rattle.std.specs.Prelude.{◌≡◌, ◌<◌, ◌+◌, IfOk, OnOk};
 ghost use Rattle.opgen_num.specs.declared.TheConstants.{MAX_WIDTH};
 ghost use Rattle.opgen_design.specs.Plain.{plain};
 ghost use Rattle.opgen_heap.specs.Standing.{AllThere};
-ghost use Rattle.opgen_net.specs.Grown.{HasGrown};
 ghost use Rattle.opgen_net.specs.Valid.{IsValid};
-ghost use Rattle.opgen_partial.specs.Recipe.{bit_of, both, is_sign, has_one_sign, partial_product, with_product, with_row, with_rows, with_products};
+ghost use Rattle.opgen_partial.specs.Recipe.{bit_of, both, is_sign, partial_product, with_product, with_row, with_products};
 ghost use Rattle.opgen_partial.specs.Law.{AreFactors, HasProducts};
 
 use opgen_design::{Expr, Op, Slice};

@@ -1,12 +1,12 @@
 //! The cells of a net: the delay of each node on a target, the cells of the whole design, and their charge to the target's ledger.
-ghost use Rattle.std.specs.Prelude.{◌≡◌, ◌≤◌, ◌++◌, ◌∷◌, [], List, All, length, map, replicate, slice_index, option_to_list, IfOk, OnOk, IfSome};
+ghost use Rattle.std.specs.Prelude.{◌≡◌, ◌≤◌, ◌++◌, [], All, map, replicate, option_to_list, IfOk, OnOk, IfSome};
 ghost use Rattle.opgen_design.specs.declared.design.TheConstants.{MAX_SIGNALS};
 ghost use Rattle.opgen_net.specs.Valid.{IsValid, MayStand, widths as widths_of};
 ghost use Rattle.opgen_net.specs.declared.cell.Class.{Class};
 ghost use Rattle.opgen_target.specs.Delays.{IsTableWidth, setup};
 ghost use Rattle.opgen_target.specs.Ledger.{ledger_of, width_sum, with_cell};
 ghost use Rattle.opgen_schedule.specs.Stage.{slot_at};
-ghost use Rattle.opgen_pipe.specs.Cells.{cell_of, classes, design_cells, net_delays, node_cells, node_delay, register_of};
+ghost use Rattle.opgen_pipe.specs.Cells.{cell_of, classes, design_cells, net_delays, node_delay, register_of};
 ghost use Rattle.opgen_pipe.specs.Copies.{signal_count};
 ghost use Rattle.opgen_pipe.specs.Counts.{AreCopies};
 ghost use Rattle.opgen_pipe.specs.Layouts.{IsLayout, schedule_of};

@@ -1,5 +1,5 @@
 //! How many delayed copies of each node a schedule needs, and how many signals the design has.
-ghost use Rattle.std.specs.Prelude.{◌≡◌, ◌≤◌, ◌<◌, ◌+◌, ◌-◌, ℕ, All, false, true, length, max, min, map, nat_eq, slice_index, IfOk, if◌then◌else◌};
+ghost use Rattle.std.specs.Prelude.{◌≡◌, ◌<◌, ◌-◌, ℕ, All, false, true, length, max, min, map, nat_eq, slice_index, IfOk, if◌then◌else◌};
 ghost use Rattle.opgen_net.specs.Valid.{IsValid};
 ghost use Rattle.opgen_schedule.specs.Reads.{is_constant_at};
 ghost use Rattle.opgen_schedule.specs.Stage.{slot_at};

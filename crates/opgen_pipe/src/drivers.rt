@@ -1,5 +1,5 @@
 //! The drivers of a net's design: one for each node, a register for each copy of a node, and one for each output.
-ghost use Rattle.std.specs.Prelude.{◌≡◌, ◌++◌, ◌+◌, ◌^◌, ◌<◌, ◌≤◌, ℕ, List, [], ◌∷◌, not, filter, map, IfOk, OnOk, All, length};
+ghost use Rattle.std.specs.Prelude.{◌≡◌, ◌++◌, ◌+◌, ◌^◌, ◌<◌, ◌≤◌, ℕ, [], not, filter, map, IfOk, OnOk, All, length};
 ghost use Rattle.std.specs.List.{list_any, range_with_len};
 ghost use Rattle.opgen_design.specs.Order.{is_register};
 ghost use Rattle.opgen_net.specs.Made.{addressed, last_row};

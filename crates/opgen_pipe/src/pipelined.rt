@@ -1,5 +1,5 @@
 //! Builds the design of a net at a schedule: its ports, signals and drivers, with or without a clock enable.
-ghost use Rattle.std.specs.Prelude.{◌≡◌, ◌≤◌, ◌<◌, ◌+◌, ◌++◌, ◌^◌, ℕ, List, length, map, filter, not, IfOk, All};
+ghost use Rattle.std.specs.Prelude.{◌≡◌, ◌≤◌, ◌<◌, ◌+◌, ◌++◌, ◌^◌, ℕ, length, map, filter, not, IfOk, All};
 ghost use Rattle.opgen_design.specs.Order.{is_register};
 ghost use Rattle.opgen_net.specs.Valid.{IsValid, MayStand};
 ghost use Rattle.opgen_pipe.specs.Copies.{signal_count};

@@ -1,5 +1,5 @@
 //! The signals of a net's design: one for each node and one for each of its copies, with names and initial values.
-ghost use Rattle.std.specs.Prelude.{◌≡◌, ◌<◌, ◌≤◌, ◌+◌, ◌^◌, ◌++◌, ◌∷◌, [], List, length, map, slice_get, Some, IfOk, OnOk};
+ghost use Rattle.std.specs.Prelude.{◌≡◌, ◌<◌, ◌+◌, ◌++◌, ◌∷◌, [], length, map, Some, IfOk, OnOk};
 ghost use Rattle.std.specs.List.{range_with_len};
 ghost use Rattle.opgen_net.specs.Made.{signal_name};
 ghost use Rattle.opgen_pipe.specs.Counts.{AreSmall, IsSmall};

@@ -1,5 +1,5 @@
 //! The word of each node when all inputs are zero, with which its registers begin.
-ghost use Rattle.std.specs.Prelude.{◌≡◌, ◌<◌, ◌≤◌, ◌^◌, All, [], false, replicate, length, map, IfOk};
+ghost use Rattle.std.specs.Prelude.{◌≡◌, ◌<◌, [], length, map, IfOk};
 ghost use Rattle.opgen_num.specs.Words.{nat};
 ghost use Rattle.opgen_design.specs.Value.{chosen, cut, word_at};
 ghost use Rattle.opgen_net.specs.Valid.{IsValid, LiesWithin, MayStand};

@@ -1,6 +1,5 @@
 //! The steps of Horner's rule as nodes: each multiplies the partial value by the input and adds the next coefficient.
 ghost use Rattle.std.specs.Prelude.{◌≡◌, ◌≤◌, ◌<◌, ◌+◌, ◌-◌, length, slice_index, IfOk};
-ghost use Rattle.opgen_net.specs.Grown.{HasGrown};
 ghost use Rattle.opgen_net.specs.Valid.{IsValid, widths};
 ghost use Rattle.opgen_net.specs.WordRule.{bits_from};
 ghost use Rattle.opgen_operator.specs.Ranges.{IsPoly};

@@ -1,6 +1,6 @@
 //! The design as far as a text was read: each statement adds a port, a signal or a driver to it.
 
-ghost use Rattle.std.specs.Prelude.{◌≡◌, IfOk, IsTrue, option_map};
+ghost use Rattle.std.specs.Prelude.{◌≡◌, IfOk, IsTrue};
 ghost use Rattle.opgen_names.specs.Names.{is_allowed_name};
 ghost use Rattle.opgen_vhdl.specs.Statements.{with_entity, with_port, with_signal, with_driver, with_enable, with_name, with_architecture, nothing, scope};
 ghost use Rattle.opgen_read.specs.Seen.{seen};

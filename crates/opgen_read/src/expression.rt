@@ -1,7 +1,7 @@
 //! Reads expressions by recursive descent.
 
 ghost use Rattle.std.specs.Prelude.{◌≡◌, is_some, length, map, option_map};
-ghost use Rattle.opgen_design.specs.Plain.{plain, plain_all, trees_of};
+ghost use Rattle.opgen_design.specs.Plain.{plain, plain_all};
 ghost use Rattle.opgen_design.specs.Tree.{chain};
 ghost use Rattle.opgen_vhdl.specs.Grammar.{operator};
 ghost use Rattle.opgen_vhdl.specs.Reader.{eat, range_at, part_at, input_at, closed, op_at, primary_at, factor_at, operands_at, expression_at, expression, inside};

@@ -1,6 +1,6 @@
 //! Reads the pieces of a text one after another; each piece ends with a semicolon.
 
-ghost use Rattle.std.specs.Prelude.{◌≡◌, ◌≤◌, ◌+◌, IfOk, IfErr, OnErr, length, Ok, Err};
+ghost use Rattle.std.specs.Prelude.{◌≡◌, ◌≤◌, ◌+◌, IfOk, IfErr, length, Ok, Err};
 ghost use Rattle.opgen_vhdl.specs.declared.place.Place.TheVariants.{Library, End};
 ghost use Rattle.opgen_vhdl.specs.Reader.{takes_at};
 ghost use Rattle.opgen_vhdl.specs.Statements.{Follows, nothing};

@@ -1,5 +1,5 @@
 //! Writes the lines of a report: request, ports, timing, cells, and the members of the adder graph.
-ghost use Rattle.std.specs.Prelude.{◌≡◌, ◌++◌, ℕ, codes, length, OnOk, string_bytes};
+ghost use Rattle.std.specs.Prelude.{◌≡◌, ◌++◌, ℕ, OnOk, string_bytes};
 ghost use Rattle.std.specs.List.{flat_map};
 ghost use Rattle.opgen_report.specs.Report.{mode_word, sign_word, request_text, time_text, format_text, port_line, cells_line, member_text, members_line, graph_line};
 

@@ -1,5 +1,5 @@
 //! Makes the schedule of a net: places each node as early as its operands and the period allow, and finds the latency.
-ghost use Rattle.std.specs.Prelude.{◌≡◌, ◌≤◌, ◌<◌, ◌+◌, ◌^◌, ℕ, All, [], List, length, slice_index, IfOk, if◌then◌else◌};
+ghost use Rattle.std.specs.Prelude.{◌≡◌, ◌≤◌, ◌<◌, ◌+◌, ◌^◌, ℕ, All, [], length, IfOk, if◌then◌else◌};
 ghost use Rattle.opgen_net.specs.Valid.{AllMayStand};
 ghost use Rattle.opgen_schedule.specs.Reads.{reads_of, is_constant, is_constant_at};
 ghost use Rattle.opgen_schedule.specs.Schedule.{greatest, greatest_time, latency};

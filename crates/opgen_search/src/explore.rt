@@ -1,5 +1,5 @@
 //! Explores the sets of one piece of the search: adds one member after another, and keeps the best complete set.
-ghost use Rattle.std.specs.Prelude.{◌≡◌, ◌⊎◌, ◌++◌, ◌∷◌, [], ℕ, ◌+◌, ◌≤◌, ◌<◌, List, length, drop, IfOk, OnOk, IsTrue, IsFalse, Contains, IsPermutation};
+ghost use Rattle.std.specs.Prelude.{◌≡◌, ◌⊎◌, [], ℕ, ◌+◌, ◌≤◌, ◌<◌, List, length, drop, IfOk, OnOk, IsTrue, IsFalse, Contains, IsPermutation};
 ghost use Rattle.std.specs.List.Sorted.{IsNonDecreasing};
 ghost use Rattle.opgen_graph.specs.Reach.{Among};
 ghost use Rattle.opgen_graph.specs.SetCost.{set_cost};

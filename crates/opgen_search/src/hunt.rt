@@ -1,5 +1,5 @@
 //! The data of a search: what is sought, one piece of it, and the best set so far; and the order of two sets.
-ghost use Rattle.std.specs.Prelude.{◌↔◌, ◌^◌, ◌<◌, length, IsTrue, IfOk};
+ghost use Rattle.std.specs.Prelude.{◌↔◌, ◌^◌, ◌<◌, length, IsTrue};
 ghost use Rattle.opgen_search.specs.Least.{IsBefore};
 
 use opgen_bound::{Bound, Pass};

@@ -1,5 +1,5 @@
 //! A partial set of adders in the search: the members that can be built already, and those that are still to be built.
-ghost use Rattle.std.specs.Prelude.{◌≡◌, ◌++◌, ◌∷◌, [], ◌<◌, ◌≤◌, Some, IfOk, OnOk, IfNone, IfSome, IsFalse, IsTrue, length, slice_index, All, Contains, IsPermutation, ◌⊎◌, ◌↔◌};
+ghost use Rattle.std.specs.Prelude.{◌≡◌, ◌++◌, ◌∷◌, [], ◌<◌, ◌≤◌, Some, IfOk, OnOk, IfNone, IfSome, IsFalse, IsTrue, length, slice_index, All, Contains, IsPermutation, ◌⊎◌};
 ghost use Rattle.opgen_graph.specs.Adders.{IsTerm};
 ghost use Rattle.opgen_graph.specs.Reach.{Among};
 ghost use Rattle.opgen_search.specs.Nodes.{IsNode, IsStuck, members};

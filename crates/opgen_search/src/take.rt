@@ -2,7 +2,7 @@
 ghost use Rattle.std.specs.Prelude.{◌≡◌, ◌^◌, ◌<◌, ℕ, List, length, Some, None, IfSome, IsTrue, IsFalse};
 ghost use Rattle.opgen_search.specs.Least.{IsBefore};
 ghost use Rattle.opgen_search.specs.Covered.{best_of, IsNotBefore, IsLesser};
-ghost use Rattle.opgen_search.specs.Hunts.{IsPiece, IsHunt, IsLater, part_of};
+ghost use Rattle.opgen_search.specs.Hunts.{IsHunt, IsLater, part_of};
 
 use crate::hunt::{Hunt, Piece, is_before};
 use opgen_graph::cost;

@@ -6,11 +6,11 @@ use Rattle.std.proofs.lemmas.Bool.{cases_lt, cases_eq, ltb-true}
 use Rattle.std.proofs.lemmas.Nat.{div-add-mod', div_below, mod_below}
 use Rattle.opgen_num.specs.Words.{nat, words_of}
 use Rattle.opgen_design.specs.declared.design.Design.{Design}
-use Rattle.opgen_design.specs.Run.{Cycle, initial_words, input_widths}
+use Rattle.opgen_design.specs.Run.{Cycle, initial_words, input_widths, output_widths}
 use Rattle.opgen_design.specs.Sound.{IsSound, signal_widths}
 use Rattle.opgen_forward.proofs.Cycles.{SameUpTo, next-same, words-same, same-from-zero, same-registers}
 use Rattle.opgen_forward.specs.Depth.{HasDepth}
-use Rattle.opgen_lanes.specs.Steps.{Running, AreNew, IsStepIn, output_widths}
+use Rattle.opgen_lanes.specs.Steps.{Running, AreNew, IsStepIn}
 use Rattle.opgen_runs.proofs.OneRun.{next-one}
 use Rattle.opgen_runs.specs.Registers.{SameRegisters}
 use Rattle.opgen_runs.specs.Rows.{output_cells, IsRunOf}

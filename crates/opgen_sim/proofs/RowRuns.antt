@@ -3,9 +3,8 @@ use Rattle.std.proofs.Common.{◌≡◌, ℕ, zero, suc, ◌+◌, ◌*◌, ◌<�
 use Rattle.std.proofs.lemmas.List.{length-drop, drop-drop, take-append-drop}
 use Rattle.opgen_num.specs.Words.{words_of}
 use Rattle.opgen_design.specs.declared.design.Design.{Design}
-use Rattle.opgen_design.specs.Run.{Words, Cycle, RunsOn, initial_words, input_widths}
+use Rattle.opgen_design.specs.Run.{Words, Cycle, RunsOn, initial_words, input_widths, output_widths}
 use Rattle.opgen_design.specs.Sound.{IsSound}
-use Rattle.opgen_lanes.specs.Steps.{output_widths}
 use Rattle.opgen_runs.proofs.Rows.{some_run}
 use Rattle.opgen_runs.specs.Rows.{output_cells, RunsRows, rows_words}
 use Rattle.opgen_streams.specs.Rows.{row_at}

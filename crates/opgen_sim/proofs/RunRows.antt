@@ -3,12 +3,11 @@ use Rattle.std.proofs.Common.{◌≡◌, ℕ, zero, suc, ◌-◌, ◌<◌, Bool,
 use Rattle.std.proofs.lemmas.List.{length-map}
 use Rattle.opgen_num.specs.Words.{nat, words_of}
 use Rattle.opgen_design.specs.declared.design.Design.{Design}
-use Rattle.opgen_design.specs.Run.{Words, Cycle, is_out, initial_words, input_widths, words_at_outputs}
+use Rattle.opgen_design.specs.Run.{Words, Cycle, is_out, initial_words, input_widths, output_widths, words_at_outputs}
 use Rattle.opgen_sim.specs.Sims.{Simulator, IsNew}
 use Rattle.opgen_runs.specs.Step.{IsStep}
 use Rattle.opgen_runs.proofs.Rows.{rows-kept}
 use Rattle.opgen_runs.proofs.Starts.{at_ports-length}
-use Rattle.opgen_lanes.specs.Steps.{output_widths}
 use Rattle.opgen_runs.specs.Rows.{output_cells, RunsRows, IsRunOf}
 
 no_rows : (d : Design) (now : List (List Bool)) (inputs : List ℕ) → RunsRows d now 0 inputs []

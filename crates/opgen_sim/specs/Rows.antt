@@ -3,9 +3,8 @@ use Rattle.std.specs.Prelude.{ℕ, ◌≡◌, ◌<◌, Bool, length}
 use Rattle.opgen_design.specs.declared.design.Design.{Design}
 use Rattle.opgen_design.specs.declared.design.Dir.{Dir}
 use Rattle.opgen_design.specs.declared.design.Dir.TheVariants.{In, Out}
-use Rattle.opgen_design.specs.Run.{is_in, is_out, input_widths}
+use Rattle.opgen_design.specs.Run.{is_in, is_out, input_widths, output_widths}
 use Rattle.opgen_forward.specs.Depth.{HasDepth}
-use Rattle.opgen_lanes.specs.Steps.{output_widths}
 use Rattle.opgen_sim.specs.declared.widths.Widths.{Widths}
 
 -- whether a port has a direction

@@ -1,7 +1,7 @@
 //! Runs one cycle of a design over words: the drivers in order, then the next words of the registers.
 ghost use Rattle.std.specs.Prelude.{◌≡◌, length, map};
 ghost use Rattle.opgen_design.specs.Order.{IsOrderOf};
-ghost use Rattle.opgen_design.specs.Run.{Cycle, Words, at_ports, is_in};
+ghost use Rattle.opgen_design.specs.Run.{Cycle, at_ports, is_in};
 ghost use Rattle.opgen_design.specs.Sound.{IsSound, signal_widths};
 ghost use Rattle.opgen_runs.specs.Evaluate.{HaveWidths};
 ghost use Rattle.opgen_sim.specs.Tables.{AreTables};

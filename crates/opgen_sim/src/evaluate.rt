@@ -1,6 +1,5 @@
 //! Evaluates the drivers of a design over the words of its signals and ports.
 ghost use Rattle.std.specs.Prelude.{ℕ, ◌≡◌, ◌<◌, IfSome, Some, length, map, slice_get};
-ghost use Rattle.opgen_design.specs.Run.{Words};
 ghost use Rattle.opgen_design.specs.Value.{chosen};
 ghost use Rattle.opgen_design.specs.Sound.{IsSound, signal_widths, target};
 ghost use Rattle.opgen_runs.specs.Fitting.{AreNarrow, scope_of};

@@ -1,5 +1,5 @@
 //! The outputs of a design over rows of inputs, in the way that is faster.
-ghost use Rattle.std.specs.Prelude.{◌≡◌, IfOk, IfSome, length};
+ghost use Rattle.std.specs.Prelude.{IfOk, IfSome};
 ghost use Rattle.opgen_num.specs.Words.{AreRowsOfCells};
 ghost use Rattle.opgen_design.specs.Run.{input_widths};
 ghost use Rattle.opgen_design.specs.Sound.{HasNumbers, IsSound};

@@ -3,7 +3,7 @@ ghost use Rattle.std.specs.Prelude.{◌≡◌, find, not};
 ghost use Rattle.std.specs.List.{list_all, position_from};
 ghost use Rattle.toml.specs.View.{view, items_view, table_view};
 ghost use Rattle.opgen_spec.specs.Keys.{is_known};
-ghost use Rattle.opgen_spec.specs.Document.{names, list_of, is_first, kind_of};
+ghost use Rattle.opgen_spec.specs.Document.{names, is_first, kind_of};
 ghost use Rattle.opgen_spec.specs.Numbers.{are_texts};
 ghost use Rattle.opgen_spec.specs.Faults.{unknown_among, is_missing, missing_among, is_decimal, is_integer, is_table, are_coefficients, are_integers, are_tables, is_of, are_decimals, fits, clashes, is_wrong, wrong_among};
 

@@ -3,7 +3,7 @@ ghost use Rattle.std.specs.Prelude.{◌≡◌, None};
 ghost use Rattle.opgen_operator.specs.Accepted.{HasInputsWithin};
 ghost use Rattle.opgen_operator.specs.Limits.{most_input};
 ghost use Rattle.opgen_operator.specs.Ranges.{IsOperator};
-ghost use Rattle.opgen_spec.specs.Faults.{not_exact, coarse, over_limit, too_wide, limit_fault};
+ghost use Rattle.opgen_spec.specs.Faults.{not_exact, coarse, too_wide, limit_fault};
 
 use crate::fault::SpecFault;
 use opgen_operator::{Spec, most_signal};

@@ -1,8 +1,8 @@
 //! Checks that the number at each key, or the length of its list, is within its range.
-ghost use Rattle.std.specs.Prelude.{◌≡◌, ◌<◌, ◌≤◌, ◌≤ℤ◌, ◌^◌, pos, negsuc, neg_ℤ, map, find, is_some};
+ghost use Rattle.std.specs.Prelude.{◌≡◌, ◌<◌, ◌≤◌, ◌^◌};
 ghost use Rattle.toml.specs.View.{view, items_view, table_view};
 ghost use Rattle.opgen_spec.specs.Numbers.{places_in, places_among, coefficient};
-ghost use Rattle.opgen_spec.specs.Document.{list_of, kind_of};
+ghost use Rattle.opgen_spec.specs.Document.{kind_of};
 ghost use Rattle.opgen_spec.specs.Faults.{outside, is_poly, width_bounds, out_bounds, bounds, coefficient_counts, is_beyond, first_beyond, length_outside, array_outside, number_outside, class_outside, compressor_outside, coefficients_outside, number_bounds, value_outside, found, outside_among};
 
 use crate::decimal::{decimal_of, numerator};

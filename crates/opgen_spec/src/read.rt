@@ -2,7 +2,6 @@
 ghost use Rattle.std.specs.Prelude.{◌≡◌, IfOk, IsSomeAnd, MatchResult, Some};
 ghost use Rattle.toml.specs.View.{table_view};
 ghost use Rattle.opgen_spec.specs.Document.{tree};
-ghost use Rattle.opgen_operator.specs.Ranges.{IsOperator};
 ghost use Rattle.opgen_spec.specs.Faults.{bad_version, bad_name, is_first_kind, has_kind, bad_kind, form_fault, value_fault, field_fault, read, Gives, IsNoTree};
 ghost use Rattle.opgen_operator.specs.Valid.{IsValidSpec};
 ghost use Rattle.opgen_spec.specs.Written.{IsAsWritten};

@@ -1,5 +1,5 @@
 //! The ledger of a target: how many bits of cells of each class were used.
-ghost use Rattle.std.specs.Prelude.{◌≡◌, length, replicate};
+ghost use Rattle.std.specs.Prelude.{◌≡◌, replicate};
 ghost use Rattle.opgen_target.specs.Ledger.{with_cell};
 ghost use Rattle.opgen_target.specs.Tables.{listed_ledger};
 

@@ -1,5 +1,5 @@
 //! Tests of both targets: their delays, changes of the delay lines, and what their ledgers count.
-ghost use Rattle.std.specs.Prelude.{◌≡◌, ◌≤◌, IfOk, vec_len};
+ghost use Rattle.std.specs.Prelude.{◌≡◌, ◌≤◌, vec_len};
 ghost use Rattle.opgen_target.specs.Tables.{AreLines};
 
 use crate::*;

@@ -8,7 +8,7 @@ use Rattle.opgen_top.specs.Answer.{Answer}
 use Rattle.opgen_top.specs.Due.{IsAnswerOf, IsAnswered}
 use Rattle.opgen_top.specs.Left.{LeftByFault, LeftByMemory}
 use Rattle.opgen_top.specs.Prepared.{Reads, IsPrepared}
-use Rattle.opgen_top.specs.Printed.{IsLineOf, IsPrinted, TakesLine, TakesPart}
+use Rattle.opgen_top.specs.Printed.{IsLineOf, IsPrinted}
 use Rattle.opgen_top.specs.Printed as printed
 use Rattle.opgen_top.specs.Lines.{usage_line}
 use Rattle.opgen_top.specs.Statuses.{HasLine, IsDueStatus, IsSilent, TellsOr}

@@ -6,7 +6,7 @@ use Rattle.std.proofs.lemmas.List.Elements.{All-nil, All-cons, All-append}
 use Rattle.opgen_num.proofs.RowsOfCells.{length-rows_of_cells}
 use Rattle.opgen_num.specs.Words.{nat, AreRowsOfCells}
 use Rattle.opgen_design.specs.declared.design.Design.{Design}
-use Rattle.opgen_design.specs.Run.{Cycle, RunsOn, Words, at_ports, input_widths, is_in, is_out}
+use Rattle.opgen_design.specs.Run.{Cycle, RunsOn, Words, at_ports, input_widths, output_widths, is_in, is_out}
 use Rattle.opgen_design.specs.Run.{words_at_outputs}
 use Rattle.opgen_operator.specs.declared.spec.Spec.{Spec}
 use Rattle.opgen_operator.specs.PortNumbers.{format_at}
@@ -15,7 +15,6 @@ use Rattle.opgen_vec.specs.Stimulus.{stimulus_cells}
 use Rattle.opgen_workload.specs.Filter.{workload_spec}
 use Rattle.opgen_workload.specs.Judged.{Counts, IsFilter, IsGoodCycle}
 use Rattle.opgen_top.specs.Circuit.{ports_for}
-use Rattle.opgen_lanes.specs.Steps.{output_widths}
 use Rattle.opgen_runs.specs.Rows.{IsRunOf, output_cells}
 use Rattle.opgen_top.specs.Workload.{RunsGood, cycles, workload_cells}
 use Rattle.opgen_sim.proofs.PortWidths.{widths_on}

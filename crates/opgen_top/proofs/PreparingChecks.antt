@@ -18,7 +18,6 @@ use Rattle.opgen_operator.proofs.InputPorts.{some_input}
 use Rattle.opgen_spec.specs.declared.fault.SpecFault.{SpecFault}
 use Rattle.opgen_spec.specs.Document.{tree}
 use Rattle.opgen_spec.specs.Faults.{read}
-use Rattle.opgen_vec.specs.Reading.{IsReading}
 use Rattle.opgen_vec.specs.Writing.{row_count}
 use Rattle.opgen_top.specs.declared.answer.Answer.{Answer as Held}
 use Rattle.opgen_top.specs.declared.answer.Refusal.{Refusal}

@@ -5,10 +5,9 @@ use Rattle.std.proofs.lemmas.List.{length-map}
 use Rattle.opgen_num.proofs.RowsOfCells.{length-rows_of_cells}
 use Rattle.opgen_num.specs.Words.{nat, AreRowsOfCells, words_of}
 use Rattle.opgen_design.specs.declared.design.Design.{Design}
-use Rattle.opgen_design.specs.Run.{Words, Cycle, RunsOn, is_out, initial_words, input_widths, words_at_outputs}
+use Rattle.opgen_design.specs.Run.{Words, Cycle, RunsOn, is_out, initial_words, input_widths, output_widths, words_at_outputs}
 use Rattle.opgen_runs.proofs.Starts.{at_ports-length}
 use Rattle.opgen_vec.specs.Writing.{row_count_of, rows_text}
-use Rattle.opgen_lanes.specs.Steps.{output_widths}
 use Rattle.opgen_runs.specs.Rows.{output_cells, IsRunOf, rows_words}
 use Rattle.opgen_top.specs.Running.{IsRunText}
 use Rattle.opgen_sim.proofs.PortWidths.{sides}

@@ -1,9 +1,8 @@
 -- The text of a design's run over rows of numbers.
 use Rattle.std.specs.Prelude.{ℕ, ◌≡◌, List}
 use Rattle.opgen_design.specs.declared.design.Design.{Design}
-use Rattle.opgen_design.specs.Run.{input_widths}
+use Rattle.opgen_design.specs.Run.{input_widths, output_widths}
 use Rattle.opgen_runs.specs.Rows.{IsRunOf}
-use Rattle.opgen_lanes.specs.Steps.{output_widths}
 use Rattle.opgen_vec.specs.Writing.{rows_text}
 
 -- a line for each cycle of the run over these inputs, with the row of the inputs and the row of the outputs

@@ -9,7 +9,7 @@ use Rattle.opgen_names.specs.Names.{refused_words}
 use Rattle.opgen_design.specs.Tree as tree
 use Rattle.opgen_vhdl.specs.Symbols.{Symbol, word, number, string, mark, symbol_of, pieces}
 use Rattle.opgen_vhdl.specs.Grammar.{whole, signal, input, plain, single}
-use Rattle.opgen_vhdl.specs.Statements.{Reading, nothing, Follows, stay, onward, library_clause, use_logic, use_numeric, entity, port, last_port, port_line, end_entity, bare, of_unit, architecture, absent, begin, statement, assignment, output, end_without_process}
+use Rattle.opgen_vhdl.specs.Statements.{nothing, Follows, stay, onward, library_clause, use_logic, use_numeric, entity, port, last_port, port_line, end_entity, bare, of_unit, architecture, absent, begin, statement, assignment, output, end_without_process}
 use Rattle.opgen_vhdl.specs.Statements as said
 use Rattle.std.proofs.Common.{lit≤}
 

@@ -1,5 +1,5 @@
 //! Collects text in pages of 4,096 bytes and passes each full page to a sink.
-ghost use Rattle.std.specs.Prelude.{◌≡◌, ◌++◌, ◌∷◌, [], ℕ, List, None, IfOk, string_bytes};
+ghost use Rattle.std.specs.Prelude.{◌≡◌, ◌∷◌, [], ℕ, List, None, IfOk, string_bytes};
 ghost use Rattle.opgen_write.specs.Pages.{Comes};
 
 use crate::write::WriteFault;

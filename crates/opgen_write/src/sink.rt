@@ -1,7 +1,5 @@
 //! A sink in memory that never fails.
-ghost use Rattle.std.specs.Prelude.{◌≡◌, ◌≤◌, ◌++◌, ℕ, List, [], Option, Some, is_some, OnOk};
-ghost use Rattle.opgen_io.specs.Bytes.{TakesPrefix};
-ghost use Rattle.opgen_io.specs.Counts.{Rose};
+ghost use Rattle.std.specs.Prelude.{◌≡◌, ℕ, List, [], Some};
 
 use opgen_io::{PutFault, Sink};
 use std::alloc::{AllocError, Global};

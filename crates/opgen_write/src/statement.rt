@@ -1,7 +1,6 @@
 //! Writes the statement of each driver: an assignment, a choice, a table, a register or an output.
-ghost use Rattle.std.specs.Prelude.{◌≡◌, ◌++◌, OnOk, string_bytes, List, Bool};
+ghost use Rattle.std.specs.Prelude.{◌≡◌, ◌++◌, OnOk, string_bytes};
 ghost use Rattle.std.specs.List.{flat_map};
-ghost use Rattle.opgen_design.specs.Tree.{Tree};
 ghost use Rattle.opgen_design.specs.declared.design.Driver.TheVariants.{Assign, Choice, Table, Register, Output};
 ghost use Rattle.opgen_vhdl.specs.DesignText.{row_text, other_text, further_indent, driver_text};
 

@@ -1,5 +1,5 @@
 //! Targets with equal delays for all cells, for tests.
-ghost use Rattle.std.specs.Prelude.{◌≡◌, ◌≤◌, IfOk, vec_len};
+ghost use Rattle.std.specs.Prelude.{◌≡◌, IfOk, vec_len};
 
 use opgen_target::ListTarget;
 pub use opgen_target::plain;

@@ -1,7 +1,6 @@
 use Rattle.std.proofs.Common.{◌≡◌, length}
 use Rattle.opgen_num.specs.Words.{AreRowsOfCells}
-use Rattle.opgen_design.specs.Run.{input_widths}
-use Rattle.opgen_lanes.specs.Steps.{output_widths}
+use Rattle.opgen_design.specs.Run.{input_widths, output_widths}
 use Rattle.opgen_sim.proofs.RunRows.{HasRun}
 use Rattle.opgen_sim.proofs.rows.run_cycles.Given as goal
 

@@ -4,8 +4,8 @@ use Rattle.std.specs.Prelude.{All, nat_lt, if◌then◌else◌}
 use Rattle.std.proofs.lemmas.Nat.{mul-lt}
 use Rattle.opgen_num.proofs.RowsOfCells.{length-rows_of_cells}
 use Rattle.opgen_num.specs.Words.{words_of}
-use Rattle.opgen_design.specs.Run.{input_widths, is_out}
-use Rattle.opgen_lanes.specs.Steps.{IsStepIn, output_widths}
+use Rattle.opgen_design.specs.Run.{input_widths, output_widths, is_out}
+use Rattle.opgen_lanes.specs.Steps.{IsStepIn}
 use Rattle.opgen_runs.proofs.Rows.{written_back}
 use Rattle.opgen_streams.proofs.Rows.{rows_kept, whole_row, whole_row_in}
 use Rattle.opgen_streams.specs.Rows.{row_at, row_in, row_with_zeros}

@@ -1,7 +1,6 @@
 use Rattle.std.proofs.Common.{◌≡◌, ◌+◌, ◌-◌, ◌*◌, length}
 use Rattle.std.specs.List.{sum}
-use Rattle.opgen_design.specs.Run.{input_widths}
-use Rattle.opgen_lanes.specs.Steps.{output_widths}
+use Rattle.opgen_design.specs.Run.{input_widths, output_widths}
 use Rattle.opgen_sim.proofs.Progress.{Progress}
 use Rattle.opgen_sim.proofs.streams.run_lanes.Given as goal
 

@@ -1,8 +1,7 @@
 use Rattle.std.proofs.Common.{◌≡◌, ◌*◌, length, refl, sym, subst, ap, ◌∙◌, arith}
 use Rattle.opgen_num.specs.Words.{AreRowsOfCells}
 use Rattle.opgen_num.proofs.RowsOfCells.{length-rows_of_cells}
-use Rattle.opgen_design.specs.Run.{input_widths, is_in, is_out}
-use Rattle.opgen_lanes.specs.Steps.{output_widths}
+use Rattle.opgen_design.specs.Run.{input_widths, output_widths, is_in, is_out}
 use Rattle.opgen_runs.specs.Rows.{IsRunOf}
 use Rattle.opgen_sim.proofs.PortWidths.{widths_on, sides, few_outputs}
 use Rattle.opgen_top.proofs.Columns.{whole_rows, same_rows}
