@@ -16,6 +16,18 @@ struct Case {
     stored: usize,
 }
 
+/// Cases, one a line: its name, the numbers of the folder's calls that fail and of the sink's, the status, and the stores that stand.
+macro_rules! cases {
+    ($($name:literal: $folder:expr, $sink:expr => $status:literal, $stored:literal;)*) => {
+        &[$(Case {
+            name: $name,
+            failing: Failing { folder: &$folder, sink: &$sink },
+            status: $status,
+            stored: $stored,
+        }),*]
+    };
+}
+
 /// Words, the line where no call fails, the stores in their order, and what stands otherwise in their texts.
 struct Command {
     name: &'static str,
@@ -59,407 +71,63 @@ const ENABLE: &[(&str, &str)] = &[
     ),
 ];
 
-const GENERATING: &[Case] = &[
-    Case {
-        name: "no call",
-        failing: Failing {
-            folder: &[],
-            sink: &[],
-        },
-        status: 0,
-        stored: 2,
-    },
-    Case {
-        name: "the fetch",
-        failing: Failing {
-            folder: &[0],
-            sink: &[],
-        },
-        status: 3,
-        stored: 0,
-    },
-    Case {
-        name: "the first store",
-        failing: Failing {
-            folder: &[1],
-            sink: &[],
-        },
-        status: 4,
-        stored: 0,
-    },
-    Case {
-        name: "the second store",
-        failing: Failing {
-            folder: &[2],
-            sink: &[],
-        },
-        status: 4,
-        stored: 1,
-    },
-    Case {
-        name: "the line",
-        failing: Failing {
-            folder: &[],
-            sink: &[0],
-        },
-        status: 4,
-        stored: 2,
-    },
-    Case {
-        name: "calls that are not made",
-        failing: Failing {
-            folder: &[3],
-            sink: &[1],
-        },
-        status: 0,
-        stored: 2,
-    },
-    Case {
-        name: "the fetch and the first store",
-        failing: Failing {
-            folder: &[0, 1],
-            sink: &[],
-        },
-        status: 3,
-        stored: 0,
-    },
-    Case {
-        name: "the fetch and the second store",
-        failing: Failing {
-            folder: &[0, 2],
-            sink: &[],
-        },
-        status: 3,
-        stored: 0,
-    },
-    Case {
-        name: "both stores",
-        failing: Failing {
-            folder: &[1, 2],
-            sink: &[],
-        },
-        status: 4,
-        stored: 0,
-    },
-    Case {
-        name: "the fetch and the line",
-        failing: Failing {
-            folder: &[0],
-            sink: &[0],
-        },
-        status: 4,
-        stored: 0,
-    },
-    Case {
-        name: "the first store and the line",
-        failing: Failing {
-            folder: &[1],
-            sink: &[0],
-        },
-        status: 4,
-        stored: 0,
-    },
-    Case {
-        name: "the second store and the line",
-        failing: Failing {
-            folder: &[2],
-            sink: &[0],
-        },
-        status: 4,
-        stored: 1,
-    },
-];
+const GENERATING: &[Case] = cases! {
+    "no call": [], [] => 0, 2;
+    "the fetch": [0], [] => 3, 0;
+    "the first store": [1], [] => 4, 0;
+    "the second store": [2], [] => 4, 1;
+    "the line": [], [0] => 4, 2;
+    "calls that are not made": [3], [1] => 0, 2;
+    "the fetch and the first store": [0, 1], [] => 3, 0;
+    "the fetch and the second store": [0, 2], [] => 3, 0;
+    "both stores": [1, 2], [] => 4, 0;
+    "the fetch and the line": [0], [0] => 4, 0;
+    "the first store and the line": [1], [0] => 4, 0;
+    "the second store and the line": [2], [0] => 4, 1;
+};
 
-const DRAWING: &[Case] = &[
-    Case {
-        name: "no call",
-        failing: Failing {
-            folder: &[],
-            sink: &[],
-        },
-        status: 0,
-        stored: 1,
-    },
-    Case {
-        name: "the fetch",
-        failing: Failing {
-            folder: &[0],
-            sink: &[],
-        },
-        status: 3,
-        stored: 0,
-    },
-    Case {
-        name: "the store",
-        failing: Failing {
-            folder: &[1],
-            sink: &[],
-        },
-        status: 4,
-        stored: 0,
-    },
-    Case {
-        name: "the line",
-        failing: Failing {
-            folder: &[],
-            sink: &[0],
-        },
-        status: 4,
-        stored: 1,
-    },
-    Case {
-        name: "calls that are not made",
-        failing: Failing {
-            folder: &[2],
-            sink: &[1],
-        },
-        status: 0,
-        stored: 1,
-    },
-    Case {
-        name: "the fetch and the store",
-        failing: Failing {
-            folder: &[0, 1],
-            sink: &[],
-        },
-        status: 3,
-        stored: 0,
-    },
-    Case {
-        name: "the fetch and the line",
-        failing: Failing {
-            folder: &[0],
-            sink: &[0],
-        },
-        status: 4,
-        stored: 0,
-    },
-    Case {
-        name: "the store and the line",
-        failing: Failing {
-            folder: &[1],
-            sink: &[0],
-        },
-        status: 4,
-        stored: 0,
-    },
-];
+const DRAWING: &[Case] = cases! {
+    "no call": [], [] => 0, 1;
+    "the fetch": [0], [] => 3, 0;
+    "the store": [1], [] => 4, 0;
+    "the line": [], [0] => 4, 1;
+    "calls that are not made": [2], [1] => 0, 1;
+    "the fetch and the store": [0, 1], [] => 3, 0;
+    "the fetch and the line": [0], [0] => 4, 0;
+    "the store and the line": [1], [0] => 4, 0;
+};
 
-const SIMULATING: &[Case] = &[
-    Case {
-        name: "no call",
-        failing: Failing {
-            folder: &[],
-            sink: &[],
-        },
-        status: 0,
-        stored: 1,
-    },
-    Case {
-        name: "the fetch of the VHDL",
-        failing: Failing {
-            folder: &[0],
-            sink: &[],
-        },
-        status: 3,
-        stored: 0,
-    },
-    Case {
-        name: "the fetch of the vectors",
-        failing: Failing {
-            folder: &[1],
-            sink: &[],
-        },
-        status: 3,
-        stored: 0,
-    },
-    Case {
-        name: "the store",
-        failing: Failing {
-            folder: &[2],
-            sink: &[],
-        },
-        status: 4,
-        stored: 0,
-    },
-    Case {
-        name: "the line",
-        failing: Failing {
-            folder: &[],
-            sink: &[0],
-        },
-        status: 4,
-        stored: 1,
-    },
-    Case {
-        name: "calls that are not made",
-        failing: Failing {
-            folder: &[3],
-            sink: &[1],
-        },
-        status: 0,
-        stored: 1,
-    },
-    Case {
-        name: "both fetches",
-        failing: Failing {
-            folder: &[0, 1],
-            sink: &[],
-        },
-        status: 3,
-        stored: 0,
-    },
-    Case {
-        name: "the fetch of the VHDL and the store",
-        failing: Failing {
-            folder: &[0, 2],
-            sink: &[],
-        },
-        status: 3,
-        stored: 0,
-    },
-    Case {
-        name: "the fetch of the vectors and the store",
-        failing: Failing {
-            folder: &[1, 2],
-            sink: &[],
-        },
-        status: 3,
-        stored: 0,
-    },
-    Case {
-        name: "the fetch of the VHDL and the line",
-        failing: Failing {
-            folder: &[0],
-            sink: &[0],
-        },
-        status: 4,
-        stored: 0,
-    },
-    Case {
-        name: "the fetch of the vectors and the line",
-        failing: Failing {
-            folder: &[1],
-            sink: &[0],
-        },
-        status: 4,
-        stored: 0,
-    },
-    Case {
-        name: "the store and the line",
-        failing: Failing {
-            folder: &[2],
-            sink: &[0],
-        },
-        status: 4,
-        stored: 0,
-    },
-];
+const SIMULATING: &[Case] = cases! {
+    "no call": [], [] => 0, 1;
+    "the fetch of the VHDL": [0], [] => 3, 0;
+    "the fetch of the vectors": [1], [] => 3, 0;
+    "the store": [2], [] => 4, 0;
+    "the line": [], [0] => 4, 1;
+    "calls that are not made": [3], [1] => 0, 1;
+    "both fetches": [0, 1], [] => 3, 0;
+    "the fetch of the VHDL and the store": [0, 2], [] => 3, 0;
+    "the fetch of the vectors and the store": [1, 2], [] => 3, 0;
+    "the fetch of the VHDL and the line": [0], [0] => 4, 0;
+    "the fetch of the vectors and the line": [1], [0] => 4, 0;
+    "the store and the line": [2], [0] => 4, 0;
+};
 
-const CHECKING: &[Case] = &[
-    Case {
-        name: "no call",
-        failing: Failing {
-            folder: &[],
-            sink: &[],
-        },
-        status: 0,
-        stored: 0,
-    },
-    Case {
-        name: "the fetch of the specification",
-        failing: Failing {
-            folder: &[0],
-            sink: &[],
-        },
-        status: 3,
-        stored: 0,
-    },
-    Case {
-        name: "the fetch of the VHDL",
-        failing: Failing {
-            folder: &[1],
-            sink: &[],
-        },
-        status: 3,
-        stored: 0,
-    },
-    Case {
-        name: "the fetch of the vectors",
-        failing: Failing {
-            folder: &[2],
-            sink: &[],
-        },
-        status: 3,
-        stored: 0,
-    },
-    Case {
-        name: "the line",
-        failing: Failing {
-            folder: &[],
-            sink: &[0],
-        },
-        status: 4,
-        stored: 0,
-    },
-    Case {
-        name: "calls that are not made",
-        failing: Failing {
-            folder: &[3],
-            sink: &[1],
-        },
-        status: 0,
-        stored: 0,
-    },
-    Case {
-        name: "the fetch of the VHDL and the line",
-        failing: Failing {
-            folder: &[1],
-            sink: &[0],
-        },
-        status: 4,
-        stored: 0,
-    },
-];
+const CHECKING: &[Case] = cases! {
+    "no call": [], [] => 0, 0;
+    "the fetch of the specification": [0], [] => 3, 0;
+    "the fetch of the VHDL": [1], [] => 3, 0;
+    "the fetch of the vectors": [2], [] => 3, 0;
+    "the line": [], [0] => 4, 0;
+    "calls that are not made": [3], [1] => 0, 0;
+    "the fetch of the VHDL and the line": [1], [0] => 4, 0;
+};
 
-const WORKING: &[Case] = &[
-    Case {
-        name: "no call",
-        failing: Failing {
-            folder: &[],
-            sink: &[],
-        },
-        status: 0,
-        stored: 0,
-    },
-    Case {
-        name: "calls that are not made",
-        failing: Failing {
-            folder: &[0, 1, 2],
-            sink: &[1],
-        },
-        status: 0,
-        stored: 0,
-    },
-    Case {
-        name: "the line",
-        failing: Failing {
-            folder: &[],
-            sink: &[0],
-        },
-        status: 4,
-        stored: 0,
-    },
-    Case {
-        name: "a fetch that is not made and the line",
-        failing: Failing {
-            folder: &[0],
-            sink: &[0],
-        },
-        status: 4,
-        stored: 0,
-    },
-];
+const WORKING: &[Case] = cases! {
+    "no call": [], [] => 0, 0;
+    "calls that are not made": [0, 1, 2], [1] => 0, 0;
+    "the line": [], [0] => 4, 0;
+    "a fetch that is not made and the line": [0], [0] => 4, 0;
+};
 
 static COMMANDS: [Command; 6] = [
     Command {
