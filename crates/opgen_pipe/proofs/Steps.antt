@@ -24,10 +24,14 @@ range-more f a n j old now x e p is =
     ∙ ap (λ y. old ++ (map f (range_with_len a n) ++ y ∷ [])) is
     ∙ ap (λ xs. old ++ xs) (sym (map-range_with_len_more f a n j p))
 
+-- what is left of a list from an item on is the item, and then what is left after it
+pub drop-item : {X : Type 0} (xs : List X) (i : ℕ) (x : X) → i < length xs → x ≡ get_or xs i x → drop i xs ≡ x ∷ drop (i + 1) xs
+drop-item xs i x l e = drop_more xs i x l ∙ ap (λ y. y ∷ drop (i + 1) xs) (sym e)
+
 module _ {X : Type 0} (f : ℕ → Node → List X) where
   pub all-at : (ns : List Node) (i : ℕ) (n : Node) → i < length ns → n ≡ get_or ns i n → all_of f i (drop i ns)
       ≡ f i n ++ all_of f (i + 1) (drop (i + 1) ns)
-  all-at ns i n l e = ap (all_of f i) (drop_more ns i n l ∙ ap (λ m. m ∷ drop (i + 1) ns) (sym e))
+  all-at ns i n l e = ap (all_of f i) (drop-item ns i n l e)
 
   -- the items of a node more
   pub all-more : (ns : List Node) (i : ℕ) (n : Node) (now next : List X) → i < length ns → n ≡ get_or ns i n → next ≡ now ++ f i n

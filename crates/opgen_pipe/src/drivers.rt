@@ -52,36 +52,43 @@ fn own_driver(
 {
     let to = own.signal;
     let cycle = own.cycle;
-    Ok(match node {
-        Node::Input { port, .. } => Driver::Assign {
+    match node {
+        Node::Input { port, .. } => Ok(Driver::Assign {
             to,
             expr: Formula::new(Expr::Port(first + *port)),
-        },
-        Node::Constant(word) => Driver::Assign {
+        }),
+        Node::Constant(word) => Ok(Driver::Assign {
             to,
             expr: Formula::new(Expr::Bits(*word)),
-        },
-        Node::Cells { expr, .. } => Driver::Assign {
-            to,
-            expr: Formula::new(tree_in(alloc, standings, cycle, expr.expr())?),
-        },
-        Node::Choice { on, yes, no } => Driver::Choice {
+        }),
+        Node::Cells { expr, .. } => {
+            let tree = tree_in(alloc, standings, cycle, expr.expr())?;
+            Ok(Driver::Assign {
+                to,
+                expr: Formula::new(tree),
+            })
+        }
+        Node::Choice { on, yes, no } => Ok(Driver::Choice {
             to,
             on: Formula::new(Expr::Name(read_in(standings, cycle, *on))),
             yes: Formula::new(slice_in(standings, cycle, *yes)),
             no: Formula::new(slice_in(standings, cycle, *no)),
-        },
-        Node::Table { address, rows } => Driver::Table {
-            to,
-            on: Formula::new(Expr::Name(read_in(standings, cycle, *address))),
-            rows: addressed(alloc, standings[*address].width, rows.as_slice())?,
-            other: last_row(rows.as_slice()),
-        },
-        Node::Delay { of } => Driver::Register {
+        }),
+        Node::Table { address, rows } => {
+            let rows = rows.as_slice();
+            let pairs = addressed(alloc, standings[*address].width, rows)?;
+            Ok(Driver::Table {
+                to,
+                on: Formula::new(Expr::Name(read_in(standings, cycle, *address))),
+                rows: pairs,
+                other: last_row(rows),
+            })
+        }
+        Node::Delay { of } => Ok(Driver::Register {
             to,
             expr: Formula::new(Expr::Name(read_in(standings, cycle, *of))),
-        },
-    })
+        }),
+    }
 }
 
 fn is_delay(node: &Node) -> bool

@@ -1,6 +1,8 @@
 //! Lays out a net for a target and a period: what its design needs of each node, found once, or why there is no such design.
 ghost use Rattle.std.specs.Prelude.{◌≡◌, ◌≤◌, All, length, IfOk};
 ghost use Rattle.opgen_net.specs.Valid.{IsValid, widths as widths_of};
+ghost use Rattle.opgen_target.specs.Delays.{Delays, setup as setup_of};
+ghost use Rattle.opgen_pipe.specs.Cells.{net_delays};
 ghost use Rattle.opgen_pipe.specs.Layouts.{IsLaidOut, IsLayout};
 
 use crate::cells::{net_delays, setup_time};
@@ -51,6 +53,34 @@ fn layout_at(
     })
 }
 
+/// The layout of a net, over the widths of its nodes, in which each node stands as early as these delays allow.
+fn lay_out_for(
+    alloc: Global,
+    net: &Net,
+    widths: Vec<u32>,
+    delays: &[u32],
+    setup: u32,
+    period: u32,
+) -> Result<Layout, PlanFault>
+    requires valid { IsValid net.now }
+    requires widths { widths.items ≡ widths_of net.now.nodes }
+    requires delays { length delays.now ≡ length net.now.nodes }
+    ensures layout { IfOk result (IsLayout net.now) }
+    ensures outcome { (table : Delays) → delays.now ≡ net_delays table net.now → setup ≡ setup_of table → IsLaidOut net.now table period result }
+{
+    let need = u64::from(greatest(delays)) + u64::from(setup);
+    if need > u64::from(period) {
+        return Err(PlanFault::PeriodTooShort { need });
+    }
+    let slots = stage(alloc, net.nodes.as_slice(), delays, setup, period)?;
+    let slack = u64::from(period - setup - greatest_time(&slots));
+    let layout = layout_at(alloc, net, widths, slots, slack)?;
+    if signal_count(net, &layout) > MAX_SIGNALS {
+        return Err(PlanFault::TooLarge);
+    }
+    Ok(layout)
+}
+
 /// The layout of a net in which each node stands as early as the delays of the target allow.
 pub(crate) fn lay_out(
     alloc: Global,
@@ -64,16 +94,5 @@ pub(crate) fn lay_out(
 {
     let widths = node_widths(alloc, net)?;
     let delays = net_delays(alloc, net, &widths, target)?;
-    let setup = setup_time(target);
-    let need = u64::from(greatest(&delays)) + u64::from(setup);
-    if need > u64::from(period) {
-        return Err(PlanFault::PeriodTooShort { need });
-    }
-    let slots = stage(alloc, net.nodes.as_slice(), &delays, setup, period)?;
-    let slack = u64::from(period - setup - greatest_time(&slots));
-    let layout = layout_at(alloc, net, widths, slots, slack)?;
-    if signal_count(net, &layout) > MAX_SIGNALS {
-        return Err(PlanFault::TooLarge);
-    }
-    Ok(layout)
+    lay_out_for(alloc, net, widths, &delays, setup_time(target), period)
 }

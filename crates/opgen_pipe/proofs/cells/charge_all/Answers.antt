@@ -18,3 +18,7 @@ cells-preserved g c =
       delays = c.charge.ensures.delays ∙ c.cells.invariant.delays;
       adjustable = c.charge.ensures.adjustable ∙ c.cells.invariant.adjustable;
     }
+
+pub charge-requires : goal.charge-requires
+charge-requires g c =
+    let d : Cell = record { class = Wire; width = 0 } in c.requires c.cells.cell-index d c.cells-test.true

@@ -1,6 +1,16 @@
-use Rattle.std.proofs.Common.{length, ap, ◌∙◌, arith}
+use Rattle.std.proofs.Common.{◌≡◌, ◌++◌, ℕ, List, length, refl, sym, ap, ◌∙◌, arith}
+use Rattle.std.specs.Prelude.{Option, option_to_list, replicate, slice_index}
+use Rattle.std.proofs.lemmas.List.{append-nil, drop_all}
+use Rattle.opgen_net.specs.declared.cell.Cell.{Cell}
+use Rattle.opgen_net.specs.declared.node.Node.{Node}
+use Rattle.opgen_net.specs.Valid.{widths}
 use Rattle.opgen_net.proofs.FlowLaws.{length-widths}
+use Rattle.opgen_schedule.specs.Stage.{slot_at}
+use Rattle.opgen_pipe.specs.Cells.{cell_of, node_cells, register_of}
+use Rattle.opgen_pipe.specs.Copies.{copies}
+use Rattle.opgen_pipe.specs.Pipelined.{all_of}
 use Rattle.opgen_pipe.proofs.CellLaws.{all-wide, node-stands}
+use Rattle.opgen_pipe.proofs.Steps.{all-more}
 use Rattle.opgen_pipe.proofs.cells.design_cells.Goals as goal
 
 pub cell_of-requires-clause-widths : goal.cell_of-requires-clause-widths
@@ -14,3 +24,35 @@ cell_of-requires-clause-stands c =
 pub bounds-widths-place : goal.bounds-widths-place
 bounds-widths-place c =
     omega (arith, c.nodes-test.true, ap length c.as_slice-nodes.ensures, ap length c.requires.widths ∙ length-widths c.args.net.now.nodes)
+
+-- the cells of a node from its parts
+node_cells-of : (ws vs : List ℕ) (count : ℕ → ℕ) (i : ℕ) (n : Node) (own : Option Cell) (k w : ℕ) → ws ≡ vs → own ≡ cell_of ws n
+    → k ≡ count i → w ≡ slice_index ws i → option_to_list own ++ replicate k (register_of w) ≡ node_cells vs count i n
+node_cells-of ws vs count i n own k w e f g h =
+    ap (λ o. option_to_list o ++ replicate k (register_of w)) f
+    ∙ ap (λ j. option_to_list (cell_of ws n) ++ replicate j (register_of w)) g
+    ∙ ap (λ v. option_to_list (cell_of ws n) ++ replicate (count i) (register_of v)) h
+    ∙ ap (λ us. node_cells us count i n) e
+
+pub nodes-preserved : goal.nodes-preserved
+nodes-preserved c =
+    let net = c.args.net.now in
+    let s = slot_at c.args.slots.now in
+    let ws = c.args.widths.now in
+    let ns = c.as_slice-nodes.result.now in
+    let i = c.nodes.place in
+    let n = c.index-nodes-place.result in
+    all-more (node_cells (widths net.nodes) (copies net s)) ns i n c.nodes.cells.items c.push_cells.new.cells.items c.nodes-test.true
+    c.index-nodes-place.is
+    (c.in_ok-push_cells.ensures ∙ ap (λ xs. c.nodes.cells.items ++ xs)
+    (node_cells-of ws (widths net.nodes) (copies net s) i n c.cell_of.result _ _ c.requires.widths c.cell_of.ensures.cell
+    (c.requires.copies.each i (omega (arith, c.nodes-test.true, ap length c.as_slice-nodes.ensures))) refl))
+    ∙ c.nodes.invariant
+
+pub returns : goal.returns
+returns c =
+    let net = c.args.net.now in
+    sym (append-nil c.nodes.cells.items)
+    ∙ ap (λ ns. c.nodes.cells.items ++ all_of (node_cells (widths net.nodes) (copies net (slot_at c.args.slots.now))) c.nodes.place ns)
+    (sym (drop_all c.nodes.place c.as_slice-nodes.result.now c.nodes-test.false))
+    ∙ c.nodes.invariant

@@ -1,55 +1,19 @@
-use Rattle.std.proofs.Common.{length, ap, ◌∙◌, arith}
-use Rattle.opgen_schedule.specs.Schedule.{greatest_time}
-use Rattle.opgen_schedule.specs.Stage.{slot_at}
-use Rattle.opgen_schedule.proofs.Equation.{length-stage}
-use Rattle.opgen_pipe.specs.Copies.{signal_count}
-use Rattle.opgen_pipe.proofs.Outcomes.{slots-are, need-is}
+use Rattle.std.proofs.Common.{length, ap, ◌∙◌}
+use Rattle.std.proofs.lemmas.List.{length-map}
+use Rattle.opgen_net.specs.Valid.{widths}
+use Rattle.opgen_pipe.specs.Cells.{node_delay}
 use Rattle.opgen_pipe.proofs.layout.lay_out.Goals as goal
 
-pub layout_at-requires-clause-slots : goal.layout_at-requires-clause-slots
-layout_at-requires-clause-slots g c =
-    ap length c.in_ok-slots.ensures.stage
-    ∙ length-stage c.deref-3.result.now c.setup_time-setup.result c.args.period c.as_slice.result.now
-    ∙ ap length c.as_slice.ensures
-
-pub returns-then-signal_count-gt-MAX_SIGNALS-clause-outcome : goal.returns-then-signal_count-gt-MAX_SIGNALS-clause-outcome
-returns-then-signal_count-gt-MAX_SIGNALS-clause-outcome g c =
-    let net = c.args.net.now in
+pub lay_out_for-requires-clause-delays : goal.lay_out_for-requires-clause-delays
+lay_out_for-requires-clause-delays g c =
+    let nodes = c.args.net.now.nodes in
     let table = (goal.Target-dyn g (c.args.target.now.vtable, c.args.target.now.value)).delays c.args.target.now.value in
-    let u = c.setup_time-setup.result in
-    let n = need-is net table c.args.period c.deref-2.result.now u
-    (c.deref-2.ensures.value ∙ c.in_ok-delays.ensures) c.setup_time-setup.ensures in
-    let e = slots-are net table c.args.period c.deref-3.result.now u
-    (c.deref-3.ensures.value ∙ c.in_ok-delays.ensures) c.setup_time-setup.ensures
-    c.as_slice.result.now c.as_slice.ensures c.in_ok-layout.layout.slots.items (c.in_ok-layout.ensures.slots ∙ c.in_ok-slots.ensures.stage) in
-    let count = ap (λ ps. signal_count net (slot_at ps)) e in (
-      omega (arith, n, c.greatest.ensures, c.from.ensures, c.from-2.ensures, c.from-3.ensures, c.if-need-from.false),
-      omega (arith, c.signal_count.ensures, c.if-signal_count-gt-MAX_SIGNALS.true, count),
-    )
+    ap length (c.deref-2.ensures.value ∙ c.in_ok-delays.ensures) ∙ length-map nodes (node_delay table (widths nodes))
+
+pub returns-clause-layout : goal.returns-clause-layout
+returns-clause-layout g c = c.lay_out_for.ensures.layout
 
 pub returns-clause-outcome : goal.returns-clause-outcome
 returns-clause-outcome g c =
-    let net = c.args.net.now in
     let table = (goal.Target-dyn g (c.args.target.now.vtable, c.args.target.now.value)).delays c.args.target.now.value in
-    let u = c.setup_time-setup.result in
-    let n = need-is net table c.args.period c.deref-2.result.now u
-    (c.deref-2.ensures.value ∙ c.in_ok-delays.ensures) c.setup_time-setup.ensures in
-    let made = slots-are net table c.args.period c.deref-3.result.now u
-    (c.deref-3.ensures.value ∙ c.in_ok-delays.ensures) c.setup_time-setup.ensures
-    c.as_slice.result.now c.as_slice.ensures in
-    let e = made c.in_ok-layout.layout.slots.items (c.in_ok-layout.ensures.slots ∙ c.in_ok-slots.ensures.stage) in
-    let longest = ap greatest_time (made c.deref-4.result.now (c.deref-4.ensures.value ∙ c.in_ok-slots.ensures.stage)) in (
-      omega (arith, n, c.greatest.ensures, c.from.ensures, c.from-2.ensures, c.from-3.ensures, c.if-need-from.false),
-      omega (arith, c.signal_count.ensures, c.if-signal_count-gt-MAX_SIGNALS.false),
-      record {
-        slots = e;
-        slack = omega (
-          arith,
-          c.in_ok-layout.ensures.slack,
-          c.from-slack.ensures,
-          c.greatest_time.ensures,
-          longest,
-          c.setup_time-setup.ensures,
-        );
-      },
-    )
+    c.lay_out_for.ensures.outcome table (c.deref-2.ensures.value ∙ c.in_ok-delays.ensures) c.setup_time.ensures
