@@ -1,8 +1,8 @@
 -- One step of a loop over the nodes of a net, or over the copies of a node.
-use Rattle.std.proofs.Common.{◌≡◌, ℕ, ◌+◌, ◌<◌, ◌≤◌, Bool, true, false, List, [], ◌∷◌, ◌++◌, length, map, get_or, drop, refl, sym, ap, ◌∙◌, arith}
+use Rattle.std.proofs.Common.{◌≡◌, ℕ, ◌+◌, ◌<◌, ◌≤◌, Bool, true, false, List, [], ◌∷◌, ◌++◌, length, map, get_or, take, drop, refl, sym, ap, ◌∙◌, arith}
 use Rattle.std.specs.Prelude.{not, cond, filter}
 use Rattle.std.specs.List.{range_with_len}
-use Rattle.std.proofs.lemmas.List.{length-drop, drop_more, append-nil, append_assoc}
+use Rattle.std.proofs.lemmas.List.{length-drop, drop_more, map_more, append-nil, append_assoc}
 use Rattle.std.proofs.lemmas.List.Elements.{filter-append}
 use Rattle.std.proofs.lemmas.List.FromFn.{map-range_with_len_more}
 use Rattle.opgen_design.specs.declared.design.Driver.{Driver}
@@ -23,6 +23,15 @@ range-more f a n j old now x e p is =
     ∙ append_assoc old (map f (range_with_len a n)) (x ∷ [])
     ∙ ap (λ y. old ++ (map f (range_with_len a n) ++ y ∷ [])) is
     ∙ ap (λ xs. old ++ xs) (sym (map-range_with_len_more f a n j p))
+
+-- the value of an item more
+pub mapped-more : {X Y : Type 0} (f : X → Y) (xs : List X) (i : ℕ) (x : X) (old now next : List Y) (y : Y) → i < length xs
+    → x ≡ get_or xs i x → y ≡ f x → now ≡ old ++ map f (take i xs) → next ≡ now ++ y ∷ [] → next ≡ old ++ map f (take (i + 1) xs)
+mapped-more f xs i x old now next y l e is before after =
+    let front = map f (take i xs) in
+    after ∙ ap (λ ys. ys ++ y ∷ []) before ∙ append_assoc old front (y ∷ [])
+    ∙ ap (λ z. old ++ (front ++ z ∷ [])) (is ∙ ap f e)
+    ∙ ap (λ ys. old ++ ys) (sym (map_more f xs i x l))
 
 -- what is left of a list from an item on is the item, and then what is left after it
 pub drop-item : {X : Type 0} (xs : List X) (i : ℕ) (x : X) → i < length xs → x ≡ get_or xs i x → drop i xs ≡ x ∷ drop (i + 1) xs
