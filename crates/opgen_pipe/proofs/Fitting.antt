@@ -127,60 +127,36 @@ module _ (net : Net) (l : Layout) (is : IsLayout net l) (most : ℕ) (few : sign
     nodes-few,
   )
 
--- a design of the parts that are found one after the other
-pub parts-design : (called : List ℕ) (enable : Bool) (net : Net) (s : Schedule) (ps qs : List Standing) → ps ≡ standings net s
-    → qs ≡ standings net s
-    → (first last : ℕ) → first ≡ length (enable_inputs enable) → last ≡ net_latency net s
-    → (d : Design) → d.name ≡ called → d.ports ≡ ports_of enable net
-    → d.signals ≡ all_of (node_signals net ps) 0 net.nodes
-    → d.drivers ≡ filter (λ k. not (is_register k)) (all_of (node_drivers first qs) 0 net.nodes)
-    ++ filter is_register (all_of (node_drivers first qs) 0 net.nodes)
-    ++ output_drivers qs last (first + length net.inputs) net.outputs
-    → d.enable ≡ enable_of enable d.drivers → d ≡ design_of called enable net s
-parts-design called enable net s ps qs p q first last f l d n ports signals drivers moves =
-    let xs = standings net s in
+-- the drivers over the standings, the first input and the latency of a design are its own
+pub drivers-are : (enable : Bool) (net : Net) (s : Schedule) (ps : List Standing) (first last : ℕ) → ps ≡ standings net s
+    → first ≡ length (enable_inputs enable) → last ≡ net_latency net s
+    → (drivers : List Driver) → drivers ≡ filter (λ k. not (is_register k)) (all_of (node_drivers first ps) 0 net.nodes)
+    ++ filter is_register (all_of (node_drivers first ps) 0 net.nodes)
+    ++ output_drivers ps last (first + length net.inputs) net.outputs
+    → drivers ≡ drivers_of enable net s
+drivers-are enable net s ps first last p f l drivers is =
     let made : ℕ → ℕ → List Standing → List Driver = λ a b x.
     filter (λ k. not (is_register k)) (all_of (node_drivers a x) 0 net.nodes)
     ++ filter is_register (all_of (node_drivers a x) 0 net.nodes)
     ++ output_drivers x b (a + length net.inputs) net.outputs in
-    let are : d.drivers ≡ drivers_of enable net s =
-    drivers ∙ ap (made first last) q ∙ ap (λ a. made a last xs) f ∙ ap (λ b. made (length (enable_inputs enable)) b xs) l in
-    let own : List ℕ → Design = λ x. record {
+    let xs = standings net s in
+    is ∙ ap (made first last) p ∙ ap (λ a. made a last xs) f ∙ ap (λ b. made (length (enable_inputs enable)) b xs) l
+
+-- a design of the parts that are found one after the other
+pub parts-design : (called : List ℕ) (enable : Bool) (net : Net) (s : Schedule) (d : Design) → d.name ≡ called → d.ports ≡ ports_of enable net
+    → d.signals ≡ all_of (node_signals net (standings net s)) 0 net.nodes → d.drivers ≡ drivers_of enable net s
+    → d.enable ≡ enable_of enable d.drivers → d ≡ design_of called enable net s
+parts-design called enable net s d n ports signals drivers moves =
+    let made : List ℕ → List Port → List Signal → List Driver → Option ℕ → Design = λ x ps ss ks e. record {
       name = x;
-      ports = d.ports;
-      signals = d.signals;
-      drivers = d.drivers;
-      enable = d.enable;
+      ports = ps;
+      signals = ss;
+      drivers = ks;
+      enable = e;
     } in
-    let with_ports : List Port → Design = λ x. record {
-      name = called;
-      ports = x;
-      signals = d.signals;
-      drivers = d.drivers;
-      enable = d.enable;
-    } in
-    let with_signals : List Signal → Design = λ x. record {
-      name = called;
-      ports = ports_of enable net;
-      signals = x;
-      drivers = d.drivers;
-      enable = d.enable;
-    } in
-    let all : List Signal = all_of (node_signals net xs) 0 net.nodes in
-    let with_drivers : List Driver → Design = λ x. record {
-      name = called;
-      ports = ports_of enable net;
-      signals = all;
-      drivers = x;
-      enable = d.enable;
-    } in
-    let moving : Option ℕ → Design = λ x. record {
-      name = called;
-      ports = ports_of enable net;
-      signals = all;
-      drivers = drivers_of enable net s;
-      enable = x;
-    } in
-    ap own n ∙ ap with_ports ports
-    ∙ ap with_signals (signals ∙ ap (λ x. all_of (node_signals net x) 0 net.nodes) p)
-    ∙ ap with_drivers are ∙ ap moving (moves ∙ ap (enable_of enable) are)
+    let all = all_of (node_signals net (standings net s)) 0 net.nodes in
+    ap (λ x. made x d.ports d.signals d.drivers d.enable) n
+    ∙ ap (λ ps. made called ps d.signals d.drivers d.enable) ports
+    ∙ ap (λ ss. made called (ports_of enable net) ss d.drivers d.enable) signals
+    ∙ ap (λ ks. made called (ports_of enable net) all ks d.enable) drivers
+    ∙ ap (made called (ports_of enable net) all (drivers_of enable net s)) (moves ∙ ap (enable_of enable) drivers)

@@ -161,17 +161,24 @@ fn charge_all(target: &mut Box<dyn Target>, cells: &[Cell])
     }
 }
 
+/// The number of a class in the ledger of a target.
+fn charged(target: &Box<dyn Target>, class: Class) -> u64
+    ensures { result ≡ ledger target.now class }
+{
+    target.charged(class)
+}
+
 /// The number of each class in the ledger.
 fn ledger(target: &Box<dyn Target>) -> [u64; 6]
     ensures { result ≡ map (ledger target.now) classes }
 {
     [
-        target.charged(Class::Wire),
-        target.charged(Class::Logic),
-        target.charged(Class::Add),
-        target.charged(Class::Choice),
-        target.charged(Class::Table),
-        target.charged(Class::Register),
+        charged(target, Class::Wire),
+        charged(target, Class::Logic),
+        charged(target, Class::Add),
+        charged(target, Class::Choice),
+        charged(target, Class::Table),
+        charged(target, Class::Register),
     ]
 }
 

@@ -5,7 +5,8 @@ ghost use Rattle.opgen_net.specs.Valid.{IsValid, MayStand};
 ghost use Rattle.opgen_pipe.specs.Copies.{signal_count};
 ghost use Rattle.opgen_pipe.specs.Counts.{AreSmall};
 ghost use Rattle.opgen_pipe.specs.Layouts.{IsLayout, schedule_of};
-ghost use Rattle.opgen_pipe.specs.Pipelined.{all_of, design_of, enable_inputs, enable_of, node_drivers, output_drivers};
+ghost use Rattle.opgen_pipe.specs.Pipelined.{all_of, design_of, drivers_of, enable_inputs, enable_of, node_drivers, node_signals, output_drivers};
+ghost use Rattle.opgen_pipe.specs.Standings.{standings};
 
 use crate::drivers::{has_register, push_outputs, push_plain, push_registers};
 use crate::layout::Layout;
@@ -14,7 +15,7 @@ use crate::signals::all_signals;
 use crate::standing::Standing;
 use crate::standings::standings;
 use crate::zeros::zero_words;
-use opgen_design::{Design, Driver};
+use opgen_design::{Design, Driver, Signal};
 use opgen_list::{Items, Text};
 use opgen_net::Net;
 use std::alloc::{AllocError, Global};
@@ -68,6 +69,27 @@ fn enable_of(enable: bool, drivers: &[Driver]) -> Option<usize>
     }
 }
 
+/// The signals and the drivers of a net's design at a schedule.
+fn signals_and_drivers(
+    alloc: Global,
+    net: &Net,
+    enable: bool,
+    layout: &Layout,
+) -> Result<(Items<Signal>, Items<Driver>), AllocError>
+    requires valid { IsValid net.now }
+    requires layout { IsLayout net.now layout.now }
+    requires few { signal_count net.now (schedule_of layout.now) ≤ 2 ^ 32 }
+    ensures signals { IfOk result (λ parts. parts.0 ≡ all_of (node_signals net.now (standings net.now (schedule_of layout.now))) 0 net.now.nodes) }
+    ensures drivers { IfOk result (λ parts. parts.1 ≡ drivers_of enable net.now (schedule_of layout.now)) }
+{
+    let standings = standings(alloc, net, &layout.widths, &layout.slots, &layout.copies)?;
+    let zeros = zero_words(alloc, net)?;
+    let first = first_input(enable);
+    let signals = all_signals(alloc, net, &standings, &zeros)?;
+    let drivers = all_drivers(alloc, net, first, &standings, layout.latency)?;
+    Ok((signals, drivers))
+}
+
 /// The design of a net at a schedule, under a name: with the port of a clock enable where it is asked for.
 pub(crate) fn design(
     alloc: Global,
@@ -81,15 +103,12 @@ pub(crate) fn design(
     requires few { signal_count net.now (schedule_of layout.now) ≤ 2 ^ 32 }
     ensures { IfOk result (λ d. d ≡ design_of name.now enable net.now (schedule_of layout.now)) }
 {
-    let standings = standings(alloc, net, &layout.widths, &layout.slots, &layout.copies)?;
-    let zeros = zero_words(alloc, net)?;
-    let first = first_input(enable);
+    let name = Text::from_str(alloc, name)?;
     let ports = all_ports(alloc, net, &layout.widths, enable)?;
-    let signals = all_signals(alloc, net, &standings, &zeros)?;
-    let drivers = all_drivers(alloc, net, first, &standings, layout.latency)?;
+    let (signals, drivers) = signals_and_drivers(alloc, net, enable, layout)?;
     let enable = enable_of(enable, drivers.as_slice());
     Ok(Design {
-        name: Text::from_str(alloc, name)?,
+        name,
         ports,
         signals,
         drivers,

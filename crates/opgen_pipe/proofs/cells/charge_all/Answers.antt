@@ -1,5 +1,5 @@
 use Rattle.std.proofs.Common.{take, get_or, sym, ap, ◌∙◌}
-use Rattle.std.proofs.lemmas.List.{take_more}
+use Rattle.std.proofs.lemmas.List.{take_all, take_more}
 use Rattle.opgen_net.specs.declared.cell.Cell.{Cell}
 use Rattle.opgen_net.specs.declared.cell.Class.TheVariants.{Wire}
 use Rattle.opgen_target.specs.Ledger.{ledger_of, with_cell}
@@ -22,3 +22,11 @@ cells-preserved g c =
 pub charge-requires : goal.charge-requires
 charge-requires g c =
     let d : Cell = record { class = Wire; width = 0 } in c.requires c.cells.cell-index d c.cells-test.true
+
+pub returns : goal.returns
+returns g c = record {
+  ledger = c.cells.invariant.ledger ∙ ap ledger_of (take_all c.cells.cell-index c.args.cells.now c.cells-test.false);
+  target_name = c.cells.invariant.target_name;
+  delays = c.cells.invariant.delays;
+  adjustable = c.cells.invariant.adjustable;
+}

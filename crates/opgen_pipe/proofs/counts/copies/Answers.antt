@@ -60,6 +60,12 @@ raise_all-requires-clause-slots c = c.requires.slots ∙ ap length (sym c.as_sli
 pub raise_all-requires-2-clause-slots : goal.raise_all-requires-2-clause-slots
 raise_all-requires-2-clause-slots c = c.requires.slots ∙ ap length (sym c.as_slice-nodes.ensures)
 
+pub raise_all-requires-clause-counts : goal.raise_all-requires-clause-counts
+raise_all-requires-clause-counts c = ap length c.deref_mut.ensures.value ∙ c.nodes.invariant.count
+
+pub raise_all-requires-2-clause-counts : goal.raise_all-requires-2-clause-counts
+raise_all-requires-2-clause-counts c = ap length c.deref_mut-2.ensures.value ∙ c.nodes.invariant.count
+
 pub nodes-preserved : goal.nodes-preserved
 nodes-preserved c =
     let old = c.nodes.counts.items in

@@ -1,59 +1,17 @@
-use Rattle.std.proofs.Common.{◌^◌, length, sym, ap, ◌∙◌, subst, arith}
-use Rattle.opgen_schedule.specs.Stage.{slot_at}
-use Rattle.opgen_pipe.specs.Counts.{AreSlots, AreSmall}
+use Rattle.std.proofs.Common.{ap, ◌∙◌}
 use Rattle.opgen_pipe.specs.Layouts.{schedule_of}
 use Rattle.opgen_pipe.specs.Pipelined.{enable_of}
-use Rattle.opgen_pipe.specs.Standings.{standings}
-use Rattle.opgen_pipe.proofs.Fitting.{latency-few, layout-slots, layout-small, length-standings, nodes-stand, parts-design}
+use Rattle.opgen_pipe.proofs.Fitting.{parts-design}
 use Rattle.opgen_pipe.proofs.pipelined.design.Goals as goal
-
-pub standings-requires-clause-slots : goal.standings-requires-clause-slots
-standings-requires-clause-slots c =
-    subst (AreSlots c.args.net.now) (sym c.deref-2.ensures.value)
-    (layout-slots c.args.net.now c.args.layout.now c.requires.layout (2 ^ 32) c.requires.few (omega arith))
-
-pub all_signals-requires-clause-standings : goal.all_signals-requires-clause-standings
-all_signals-requires-clause-standings c = ap length (c.deref-5.ensures.value ∙ c.in_ok-standings.ensures)
-    ∙ length-standings c.args.net.now (slot_at c.deref-2.result.now)
-
-pub all_signals-requires-clause-small : goal.all_signals-requires-clause-small
-all_signals-requires-clause-small c =
-    let net = c.args.net.now in
-    let made = c.in_ok-standings.ensures ∙ ap (λ ps. standings net (slot_at ps)) c.deref-2.ensures.value in
-    subst AreSmall (sym (c.deref-5.ensures.value ∙ made)) (layout-small net c.args.layout.now c.requires.layout (2 ^ 32) c.requires.few (omega arith))
-
-pub all_drivers-requires-clause-standings : goal.all_drivers-requires-clause-standings
-all_drivers-requires-clause-standings c = ap length (c.deref-7.ensures.value ∙ c.in_ok-standings.ensures)
-    ∙ length-standings c.args.net.now (slot_at c.deref-2.result.now)
-
-pub all_drivers-requires-clause-small : goal.all_drivers-requires-clause-small
-all_drivers-requires-clause-small c =
-    let net = c.args.net.now in
-    let made = c.in_ok-standings.ensures ∙ ap (λ ps. standings net (slot_at ps)) c.deref-2.ensures.value in
-    subst AreSmall (sym (c.deref-7.ensures.value ∙ made)) (layout-small net c.args.layout.now c.requires.layout (2 ^ 32) c.requires.few (omega arith))
-
-pub all_drivers-requires-clause-stand : goal.all_drivers-requires-clause-stand
-all_drivers-requires-clause-stand c =
-    nodes-stand c.args.net.now (slot_at c.deref-2.result.now) c.requires.valid c.deref-7.result.now
-    (c.deref-7.ensures.value ∙ c.in_ok-standings.ensures)
-
-pub all_drivers-requires-clause-latency : goal.all_drivers-requires-clause-latency
-all_drivers-requires-clause-latency c =
-    omega (arith, latency-few c.args.net.now c.args.layout.now c.requires.layout (2 ^ 32) c.requires.few)
 
 pub returns : goal.returns
 returns c =
-    let net = c.args.net.now in
-    let made = c.in_ok-standings.ensures ∙ ap (λ ps. standings net (slot_at ps)) c.deref-2.ensures.value in
-    parts-design c.args.name.now c.args.enable net (schedule_of c.args.layout.now) c.deref-5.result.now c.deref-7.result.now
-    (c.deref-5.ensures.value ∙ made) (c.deref-7.ensures.value ∙ made)
-    c.first_input-first.result c.args.layout.now.latency c.first_input-first.ensures.place c.requires.layout.latency
-    record {
-      name = c.in_ok-from_str.field-0;
+    parts-design c.args.name.now c.args.enable c.args.net.now (schedule_of c.args.layout.now) record {
+      name = c.in_ok-name.name;
       ports = c.in_ok-ports.ports;
       signals = c.in_ok-signals.signals;
-      drivers = c.in_ok-drivers.drivers;
+      drivers = c.in_ok-signals.drivers;
       enable = c.enable_of-enable.result;
     }
-    c.in_ok-from_str.ensures c.in_ok-ports.ensures c.in_ok-signals.ensures c.in_ok-drivers.ensures
+    c.in_ok-name.ensures c.in_ok-ports.ensures c.in_ok-signals.ensures.signals c.in_ok-signals.ensures.drivers
     (c.enable_of-enable.ensures ∙ ap (enable_of c.args.enable) c.as_slice.ensures)
