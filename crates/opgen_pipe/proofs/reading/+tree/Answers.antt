@@ -1,6 +1,7 @@
-use Rattle.std.proofs.Common.{◌≡◌, ◌<◌, ℕ, List, [], ◌∷◌, ◌++◌, length, map, take, refl, sym, ap, ◌∙◌, subst}
+use Rattle.std.proofs.Common.{◌≡◌, ◌<◌, ℕ, List, [], ◌∷◌, ◌++◌, length, map, take, refl, sym, ap, ◌∙◌, subst, rules}
 use Rattle.std.proofs.lemmas.List.{map_more, map_push, take_all}
 use Rattle.opgen_design.specs.declared.expr.Expr.{Expr}
+use Rattle.opgen_design.specs.declared.expr.Expr.TheFolds.{the_lemmas}
 use Rattle.opgen_design.specs.Plain.{plain, plain_all, trees_of}
 use Rattle.opgen_design.specs.Reads.{AllReads, AllOperandsRead}
 use Rattle.opgen_design.specs.Tree.{inverse, more, name}
@@ -45,6 +46,35 @@ tree_in-returns-in_ok-new-in-Not t c =
     ∙ ap (λ e. inverse (plain e)) c.in_ok-new-in-Not.ensures.ok
     ∙ ap inverse (c.in_ok-tree_in-in-Not.ensures ∙ ap (λ e. f (plain e)) c.deref.ensures)
     ∙ sym (ap f (ap plain c.in-Not.is ∙ plain-not c.in-Not.operand))
+
+pub tree_in-tree_in-requires : goal.tree_in-tree_in-requires
+tree_in-tree_in-requires t c =
+    let P : ℕ → Type 0 = λ j. j < length c.args.standings.now in (
+      search (rules, the_lemmas),
+      (
+        c.requires.small,
+        (
+          c.requires.cycle,
+          subst (λ e. AllReads P IsAny (plain e)) (sym c.deref.ensures)
+              (subst (AllReads P IsAny) (ap plain c.in-Not.is ∙ plain-not c.in-Not.operand) c.requires.there),
+        ),
+      ),
+    )
+
+pub trees_in-tree_in-requires : goal.trees_in-tree_in-requires
+trees_in-tree_in-requires t c =
+    let P : ℕ → Type 0 = λ j. j < length c.args.standings.now in (
+      search (rules, the_lemmas),
+      (
+        c.requires.small,
+        (
+          c.requires.cycle,
+          (subst (AllOperandsRead P IsAny)
+              (more-at c.args.exprs.now c.loop-expr.expr-index c.expr-item.result c.loop-expr-test.true c.expr-item.is)
+              c.loop-expr.invariant.there).0,
+        ),
+      ),
+    )
 
 each : (ps : List Standing) (c : ℕ) (es : List Expr) → trees_of (map (λ e. tree_in ps c (plain e)) es) ≡ trees_in ps c (plain_all es)
 each ps c [] = refl
