@@ -20,6 +20,7 @@ at-one read j old new most same other =
     ]
 
 module _ (counts : List ℕ) (read copy : ℕ) (f : ℕ → ℕ) (is : copy ≡ f read) where
+  -- the count of the node that is read, where it is raised
   raised : read < length counts → get_or counts read 0 < copy → (j : ℕ)
       → get_or (set counts read copy) j 0 ≡ max (get_or counts j 0) (if nat_eq read j then f j else 0)
   raised l m j =
@@ -29,6 +30,7 @@ module _ (counts : List ℕ) (read copy : ℕ) (f : ℕ → ℕ) (is : copy ≡ 
       (λ e. subst (λ k. get_or (set counts read copy) k 0 ≡ max (get_or counts k 0) (f k)) e here)
       (λ n. get_or-set_other counts read j copy 0 (λ e. n (sym e)))
 
+  -- and where it is not
   kept : copy ≤ get_or counts read 0 → (j : ℕ) → get_or counts j 0 ≡ max (get_or counts j 0) (if nat_eq read j then f j else 0)
   kept m j =
       let here : get_or counts read 0 ≡ max (get_or counts read 0) (f read) = omega (arith, m, is) in

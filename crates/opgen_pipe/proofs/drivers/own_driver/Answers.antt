@@ -20,9 +20,11 @@ use Rattle.opgen_pipe.proofs.drivers.own_driver.Goals as goal
 there : (ps : List Standing) (i : ℕ) → i < length (map (λ p. p.width) ps) → i < length ps
 there ps i l = omega (arith, l, length-map ps (λ p. p.width))
 
+-- choices of equal parts are equal
 choice-same : (to : ℕ) (a b d x y z : Tree) → a ≡ x → b ≡ y → d ≡ z → Choice to a b d ≡ Choice to x y z
 choice-same to a b d x y z e f g = ap (λ t. Choice to t b d) e ∙ ap (λ t. Choice to x t d) f ∙ ap (λ t. Choice to x y t) g
 
+-- tables of equal parts are equal
 table-same : (to : ℕ) (a x : Tree) (rows rows' : List (List Bool × List Bool)) (other other' : List Bool) → a ≡ x → rows ≡ rows'
     → other ≡ other' → Table to a rows other ≡ Table to x rows' other'
 table-same to a x rows rows' other other' e f g =

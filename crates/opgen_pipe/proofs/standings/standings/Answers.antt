@@ -26,6 +26,7 @@ each-more f ns i n now next x l e is g =
     ∙ append_assoc now (f i n ∷ []) rest
     ∙ ap (λ xs. now ++ each_node f i xs) (sym (drop-item ns i n l e))
 
+-- the standing of a node from its parts
 standing-from : (net : Net) (s : Schedule) (i : ℕ) (n : Node) (wide : ℕ) (fixed : Bool) (count first : ℕ)
     → wide ≡ slice_index (widths net.nodes) i → fixed ≡ is_constant n → count ≡ copies net s i → first ≡ signals_before (copies net s) i
     → record { width = wide; constant = fixed; cycle = (s i).cycle; copies = count; signal = first } ≡ standing_of net s i n
