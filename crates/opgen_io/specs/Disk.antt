@@ -10,7 +10,7 @@ pub record DiskCounts : Type 0 where
   pub longs : ℕ
   pub write_faults : ℕ
 
--- the counts after a fetch of that fault
+-- the counts after a fetch that failed so
 abbrev pub counted : FetchFault → DiskCounts → DiskCounts
 counted Failed s = record s { read_faults = next_count s.read_faults }
 counted TooLong s = record s { longs = next_count s.longs }

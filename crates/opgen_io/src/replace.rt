@@ -1,5 +1,5 @@
 //! Replaces a file as a whole: writes a new file beside it, syncs it, and renames it over the old one.
-ghost use Rattle.std.specs.Prelude.{◌≡◌, ◌≤◌, length, take};
+ghost use Rattle.std.specs.Prelude.{◌≡◌, ◌≤◌, ℕ, IsCharBoundary, length, take};
 
 use crate::StoreFault;
 use crate::whole::write_whole;
@@ -160,13 +160,9 @@ fn replace_by<R: Files>(
 fn cut(name: &str) -> &str
     ensures at_most { length result.now ≤ 240 }
     ensures starts { result.now ≡ take (length result.now) name.now }
+    ensures longest { (end : ℕ) → end ≤ 240 → IsCharBoundary name.now end → end ≤ length result.now }
 {
-    for end in (0..=KEPT).rev() {
-        if let Some(part) = name.get(..end) {
-            return part;
-        }
-    }
-    ""
+    &name[..name.floor_char_boundary(KEPT)]
 }
 
 // Puts the bytes into the new file, and has the disk take them.

@@ -94,7 +94,7 @@ abbrev pub IfRefused : {X : Type 0} → Result X Refusal → (Answer → Type 0)
 IfRefused (Ok x) said = Unit {0}
 IfRefused (Err refusal) said = OnRefusal refusal said
 
--- the answer, or the line of a refusal; want of memory has none
+-- the answer, or that of the refusal; want of memory has none
 abbrev pub IsAnswerOrLine : Result Held Refusal → Answer → Type 0
 IsAnswerOrLine (Ok held) a = a ≡ answer_of held
 IsAnswerOrLine (Err (refusals.Line line)) a = a ≡ refusal_of line
