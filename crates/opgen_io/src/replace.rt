@@ -1,5 +1,6 @@
 //! Replaces a file as a whole: writes a new file beside it, syncs it, and renames it over the old one.
-ghost use Rattle.std.specs.Prelude.{◌≡◌, ◌≤◌, ℕ, IsCharBoundary, length, take};
+ghost use Rattle.std.specs.Prelude.{◌≡◌, ◌≤◌, ◌++◌, ℕ, IfOk, IsCharBoundary, codes, decimal, length, take};
+ghost use Rattle.std.specs.Path.{path_buf_bytes, path_bytes, path_with_file_name};
 
 use crate::StoreFault;
 use crate::whole::write_whole;
@@ -193,7 +194,11 @@ fn take_after<R: Files>(rt: &R, file: &R::File, new: Path<'_>, old: &Metadata) -
     Ok(())
 }
 
-fn beside(alloc: Global, path: Path<'_>, name: &str, number: u32) -> Result<PathBuf, AllocError> {
+// The path of a new file in the folder of a path, by a name and a number.
+fn beside(alloc: Global, path: Path<'_>, name: &str, number: u32) -> Result<PathBuf, AllocError>
+    ensures { IfOk result (λ new. path_buf_bytes new
+        ≡ path_with_file_name (path_bytes path.entry) (codes "." ++ name.now ++ (codes ".opgen-" ++ decimal number))) }
+{
     let new = format!(in alloc; ".{name}.opgen-{number}")?;
     path.with_file_name(alloc, new.as_str())
 }
