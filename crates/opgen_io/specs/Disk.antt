@@ -11,7 +11,7 @@ pub record DiskCounts : Type 0 where
   pub write_faults : ℕ
 
 -- the counts after a fetch that failed so
-abbrev pub counted : FetchFault → DiskCounts → DiskCounts
-counted Failed s = record s { read_faults = next_count s.read_faults }
-counted TooLong s = record s { longs = next_count s.longs }
-counted Memory s = s
+abbrev pub after_fault : FetchFault → DiskCounts → DiskCounts
+after_fault Failed s = record s { read_faults = next_count s.read_faults }
+after_fault TooLong s = record s { longs = next_count s.longs }
+after_fault Memory s = s

@@ -1,6 +1,6 @@
 //! The folder on disk: reads and stores the files of the working directory.
 ghost use Rattle.std.specs.Prelude.{◌≡◌, ◌≤◌, None, IfOk, vec_len};
-ghost use Rattle.opgen_io.specs.Disk.{counted};
+ghost use Rattle.opgen_io.specs.Disk.{after_fault};
 
 use crate::counts::raise;
 use crate::replace::store_file;
@@ -49,7 +49,7 @@ impl<'a, R: Files> DiskFolder<'a, R> {
 impl<'a, R> DiskFolder<'a, R> {
     // Raises the count that shows the fault.
     fn count(&mut self, fault: FetchFault)
-        ensures { self.new ≡ counted fault self.old }
+        ensures { self.new ≡ after_fault fault self.old }
     {
         match fault {
             FetchFault::Failed => raise(&mut self.read_faults),

@@ -1,40 +1,40 @@
 use Rattle.std.proofs.Common.{◌≡◌, ◌≤◌, Option, None, Result, Err, refl, inl, le_refl}
 use Rattle.opgen_io.proofs.Raised.{next_count-kept, next_count-rose, untold}
 use Rattle.opgen_io.specs.Counts.{Rose}
-use Rattle.opgen_io.specs.Disk.{DiskCounts, counted}
+use Rattle.opgen_io.specs.Disk.{DiskCounts, after_fault}
 use Rattle.opgen_io.specs.Files.{Files}
 use Rattle.opgen_io.specs.declared.folder.FetchFault.{FetchFault}
 use Rattle.opgen_io.specs.declared.folder.FetchFault.TheVariants.{Failed, TooLong, Memory}
 use Rattle.opgen_io.proofs.disk.DiskFolderFolder.fetch.Goals as goal
 
-read_faults-counted : (fault : FetchFault) (old : DiskCounts) → old.read_faults ≤ (counted fault old).read_faults
-read_faults-counted Failed old = next_count-kept old.read_faults
-read_faults-counted TooLong old = le_refl old.read_faults
-read_faults-counted Memory old = le_refl old.read_faults
+read_faults-after_fault : (fault : FetchFault) (old : DiskCounts) → old.read_faults ≤ (after_fault fault old).read_faults
+read_faults-after_fault Failed old = next_count-kept old.read_faults
+read_faults-after_fault TooLong old = le_refl old.read_faults
+read_faults-after_fault Memory old = le_refl old.read_faults
 
-longs-counted : (fault : FetchFault) (old : DiskCounts) → old.longs ≤ (counted fault old).longs
-longs-counted Failed old = le_refl old.longs
-longs-counted TooLong old = next_count-kept old.longs
-longs-counted Memory old = le_refl old.longs
+longs-after_fault : (fault : FetchFault) (old : DiskCounts) → old.longs ≤ (after_fault fault old).longs
+longs-after_fault Failed old = le_refl old.longs
+longs-after_fault TooLong old = next_count-kept old.longs
+longs-after_fault Memory old = le_refl old.longs
 
-write_faults-counted : (fault : FetchFault) (old : DiskCounts) → (counted fault old).write_faults ≡ old.write_faults
-write_faults-counted Failed old = refl
-write_faults-counted TooLong old = refl
-write_faults-counted Memory old = refl
+write_faults-after_fault : (fault : FetchFault) (old : DiskCounts) → (after_fault fault old).write_faults ≡ old.write_faults
+write_faults-after_fault Failed old = refl
+write_faults-after_fault TooLong old = refl
+write_faults-after_fault Memory old = refl
 
 same_fault : {X : Type 0} (r : Result X FetchFault) (fault other : FetchFault) → r ≡ Err fault → r ≡ Err other → fault ≡ other
 same_fault r fault other is was = cc
 
 -- the counts after a fault
-module _ (fault : FetchFault) (old new : DiskCounts) (is : new ≡ counted fault old) where
+module _ (fault : FetchFault) (old new : DiskCounts) (is : new ≡ after_fault fault old) where
   read_faults-kept : old.read_faults ≤ new.read_faults
-  read_faults-kept = rw is (read_faults-counted fault old)
+  read_faults-kept = rw is (read_faults-after_fault fault old)
 
   longs-kept : old.longs ≤ new.longs
-  longs-kept = rw is (longs-counted fault old)
+  longs-kept = rw is (longs-after_fault fault old)
 
   write_faults-same : new.write_faults ≡ old.write_faults
-  write_faults-same = rw is (write_faults-counted fault old)
+  write_faults-same = rw is (write_faults-after_fault fault old)
 
   read_faults-rose : fault ≡ Failed → Rose old.read_faults new.read_faults
   read_faults-rose failed = rw (is, failed) (next_count-rose old.read_faults)
