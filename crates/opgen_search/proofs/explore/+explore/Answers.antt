@@ -3,10 +3,10 @@ use Rattle.std.proofs.lemmas.Result.{on_ok_weaker}
 use Rattle.std.proofs.lemmas.List.Elements.{All-contains, Contains-get_or}
 use Rattle.opgen_graph.specs.SetCost.{set_cost}
 use Rattle.opgen_search.specs.Members.{Within}
-use Rattle.opgen_search.specs.Nodes.{members}
+use Rattle.opgen_search.specs.Nodes.{IsNode, members}
 use Rattle.opgen_search.specs.Hunts.{IsChoice}
 use Rattle.opgen_search.proofs.NodeLaws.{placed_terms, left_terms, added}
-use Rattle.opgen_search.proofs.Trying.{later_later, tried_more, tried_all, too_dear, useless_last, last_taken, room_more, least_next, least_now, least_whole, within_more_members, fewer, room_moved, members_cost, member_cost, split_cost, room_whole, within_moved, length_moved, no_more, rest_all, held_member, free_member, is_member}
+use Rattle.opgen_search.proofs.Trying.{later_itself, later_later, tried_none, tried_more, tried_all, too_dear, useless_last, last_taken, room_more, least_next, least_now, least_whole, within_more_members, fewer, room_moved, members_cost, member_cost, split_cost, room_whole, within_moved, length_moved, no_more, rest_all, held_member, free_member, is_member}
 use Rattle.opgen_search.proofs.explore.+explore.Goals as goal
 
 pub explore-consider-requires-clause-room : goal.explore-consider-requires-clause-room
@@ -204,3 +204,80 @@ try_members-loop-member-preserved t c =
 pub try_members-returns-clause-covered : goal.try_members-returns-clause-covered
 try_members-returns-clause-covered t c =
     tried_all c.args.piece.now c.args.hunt.now c.loop-member.hunt c.args.node.now.placed.items c.args.node.now.left.items c.args.node.now.least c.args.more c.choices-member-items.result.now c.loop-member.member-index c.requires.piece c.requires.node c.requires.stuck c.requires.open c.requires.room c.requires.least c.choices-member-items.ensures.every c.loop-member-test.false c.loop-member.invariant
+
+pub explore-returns-in_err-close-clause-later : goal.explore-returns-in_err-close-clause-later
+explore-returns-in_err-close-clause-later t c = later_itself c.args.piece.now c.args.hunt.now
+
+pub explore-returns-in_err-close-clause-hunt : goal.explore-returns-in_err-close-clause-hunt
+explore-returns-in_err-close-clause-hunt t c = c.requires.hunt
+
+pub explore-consider-requires-clause-hunt : goal.explore-consider-requires-clause-hunt
+explore-consider-requires-clause-hunt t c = c.requires.hunt
+
+pub explore-consider-requires-clause-piece : goal.explore-consider-requires-clause-piece
+explore-consider-requires-clause-piece t c = c.requires.piece
+
+pub explore-consider-requires-clause-node : goal.explore-consider-requires-clause-node
+explore-consider-requires-clause-node t c =
+    subst (IsNode c.close.new.node.placed.items) (c.is_whole.ensures.whole c.if-is_whole.true).0 c.in_ok-close.ensures.node
+
+pub explore-consider-requires-clause-takes : goal.explore-consider-requires-clause-takes
+explore-consider-requires-clause-takes t c = (c.is_whole.ensures.whole c.if-is_whole.true).1
+
+pub explore-returns-then-is_whole-clause-hunt : goal.explore-returns-then-is_whole-clause-hunt
+explore-returns-then-is_whole-clause-hunt t c = c.consider.ensures.hunt
+
+pub explore-returns-then-is_whole-clause-later : goal.explore-returns-then-is_whole-clause-later
+explore-returns-then-is_whole-clause-later t c = c.consider.ensures.later
+
+pub explore-returns-then-more-eq0-clause-hunt : goal.explore-returns-then-more-eq0-clause-hunt
+explore-returns-then-more-eq0-clause-hunt t c = c.requires.hunt
+
+pub explore-returns-then-more-eq0-clause-later : goal.explore-returns-then-more-eq0-clause-later
+explore-returns-then-more-eq0-clause-later t c = later_itself c.args.piece.now c.args.hunt.now
+
+pub explore-returns-clause-hunt : goal.explore-returns-clause-hunt
+explore-returns-clause-hunt t c = c.try_members.ensures.hunt
+
+pub explore-returns-clause-later : goal.explore-returns-clause-later
+explore-returns-clause-later t c = c.try_members.ensures.later
+
+pub try_member-returns-then-has-clause-hunt : goal.try_member-returns-then-has-clause-hunt
+try_member-returns-then-has-clause-hunt t c = c.requires.hunt
+
+pub try_member-returns-then-has-clause-later : goal.try_member-returns-then-has-clause-later
+try_member-returns-then-has-clause-later t c = later_itself c.args.piece.now c.args.hunt.now
+
+pub try_member-is_foreign-requires : goal.try_member-is_foreign-requires
+try_member-is_foreign-requires t c = c.requires.piece
+
+pub try_member-returns-in_err-next-clause-hunt : goal.try_member-returns-in_err-next-clause-hunt
+try_member-returns-in_err-next-clause-hunt t c = c.requires.hunt
+
+pub try_member-returns-in_err-next-clause-later : goal.try_member-returns-in_err-next-clause-later
+try_member-returns-in_err-next-clause-later t c = later_itself c.args.piece.now c.args.hunt.now
+
+pub try_member-overflow_sub-more : goal.try_member-overflow_sub-more
+try_member-overflow_sub-more t c = c.requires.more
+
+pub try_member-returns-clause-hunt : goal.try_member-returns-clause-hunt
+try_member-returns-clause-hunt t c = c.explore.ensures.hunt
+
+pub try_member-returns-clause-later : goal.try_member-returns-clause-later
+try_member-returns-clause-later t c = c.explore.ensures.later
+
+pub try_members-look-requires : goal.try_members-look-requires
+try_members-look-requires t c = c.requires.hunt
+
+pub try_members-choices-member-items-requires : goal.try_members-choices-member-items-requires
+try_members-choices-member-items-requires t c = c.requires.piece
+
+pub try_members-loop-member-init : goal.try_members-loop-member-init
+try_members-loop-member-init t c = tried_none c.args.piece.now c.args.hunt.now c.look.new.hunt c.args.node.now.placed.items
+    c.args.node.now.left.items c.args.more c.choices-member-items.result.now c.look.ensures.hunt c.look.ensures.later
+
+pub try_members-returns-clause-hunt : goal.try_members-returns-clause-hunt
+try_members-returns-clause-hunt t c = c.loop-member.invariant.hunt
+
+pub try_members-returns-clause-later : goal.try_members-returns-clause-later
+try_members-returns-clause-later t c = c.loop-member.invariant.later
