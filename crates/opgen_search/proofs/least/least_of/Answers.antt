@@ -19,3 +19,9 @@ returns g c =
     first_least search (best_of c.in_ok-set.field-0) c.in-Some.set.items c.requires (ap best_of c.in-Some.is)
     (some_first search
     (best_of c.in_ok-set.field-0) v c.close.result c.requires covered start c.close.ensures.least c.close.ensures.falls)
+
+pub close-requires-clause-bound : goal.close-requires-clause-bound
+close-requires-clause-bound g c = c.run_pieces-best.ensures.same
+
+pub close-requires-clause-all : goal.close-requires-clause-all
+close-requires-clause-all g c = c.run_pieces-best.ensures.share ∙ ap (λ (w : View). w.share) c.in_ok-bound.ensures.view
