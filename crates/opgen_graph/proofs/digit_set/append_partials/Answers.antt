@@ -1,24 +1,42 @@
-use Rattle.std.proofs.Common.{◌≡◌, ◌++◌, pos, ◌∙◌, ap, arith}
-use Rattle.std.proofs.lemmas.Int.{ints}
+use mir.Val.{of_z, to_z}
+use Rattle.std.proofs.Common.{◌≡◌, ◌++◌, ℕ, ◌^◌, ◌<◌, ◌≤◌, FitsSigned, sym, ap, subst, ◌∙◌, arith}
+use Rattle.std.specs.Prelude.{ℤ, pos, unsigned_abs}
+use Rattle.std.specs.Int.{w64}
+use Rattle.std.proofs.lemmas.Int.{ints, to_z-of_z}
 use Rattle.std.proofs.lemmas.List.{take_all}
-use Rattle.opgen_csd.specs.Digits.{value_of}
 use Rattle.opgen_csd.specs.Partials.{partials}
 use Rattle.opgen_graph.proofs.SignedSets.{partials_small, appended}
+use Rattle.opgen_graph.proofs.Vectors.{one_more}
 use Rattle.opgen_graph.proofs.digit_set.append_partials.Goals as goal
+
+-- a target, as its word of 64 bits has it
+word_of : (t : ℕ) (z : ℤ) → t ≤ 2047 → z ≡ pos t → to_z w64 (of_z w64 z) ≡ pos t
+word_of t z small e = let fits : FitsSigned w64 z = omega (arith, ints) in to_z-of_z w64 z fits ∙ e
+
+small_word : (t : ℕ) (z : ℤ) → t ≤ 2047 → z ≡ pos t → unsigned_abs (to_z w64 (of_z w64 z)) < 2 ^ 62
+small_word t z small e = subst (λ y. unsigned_abs y < 2 ^ 62) (sym (word_of t z small e)) (omega (arith, small))
+
+pub recode-requires : goal.recode-requires
+recode-requires c = small_word c.args.target c.from.result c.requires.2 c.from.ensures
 
 pub overflow_cast-sum : goal.overflow_cast-sum
 overflow_cast-sum c =
     let list : c.as_slice-sum-items.result.now ≡ partials c.recode.result = c.as_slice-sum-items.ensures ∙ c.partials-partials.ensures in
-    let value : value_of c.recode.result ≡ pos c.args.target = omega (arith, ints) in
+    let value = c.recode.ensures.value ∙ word_of c.args.target c.from.result c.requires.2 c.from.ensures in
     let small =
     rw (← list) at
     (partials_small c.args.target c.recode.result c.requires c.recode.ensures.canonical value c.loop-sum.sum-index) in
     omega (arith, small c.loop-sum-test.true)
 
+pub loop-sum-preserved : goal.loop-sum-preserved
+loop-sum-preserved c =
+    one_more c.as_slice-sum-items.result.now c.loop-sum.sum-index 0 c.loop-sum-test.true c.args.set.now.items c.loop-sum.set.items
+    c.push.new.self.items c.loop-sum.invariant c.in_ok-push.ensures.items
+
 pub returns : goal.returns
 returns c =
     let list : c.as_slice-sum-items.result.now ≡ partials c.recode.result = c.as_slice-sum-items.ensures ∙ c.partials-partials.ensures in
-    let value : value_of c.recode.result ≡ pos c.args.target = omega (arith, ints) in
+    let value = c.recode.ensures.value ∙ word_of c.args.target c.from.result c.requires.2 c.from.ensures in
     let items : c.loop-sum.set.items ≡ c.args.set.now.items ++ partials c.recode.result =
     c.loop-sum.invariant ∙ ap (λ xs. c.args.set.now.items ++ xs)
     (take_all c.loop-sum.sum-index c.as_slice-sum-items.result.now c.loop-sum-test.false ∙ list) in
