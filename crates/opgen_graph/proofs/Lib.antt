@@ -1,5 +1,6 @@
 pub mod Members
 pub mod Powers
+pub mod SmallNumbers
 pub mod FirstSteps
 pub mod Pairs
 pub mod Rounding

@@ -1,9 +1,8 @@
 use mir.Val.{of_z, to_z}
-use Rattle.std.proofs.Common.{◌≡◌, ℕ, ◌≤◌, ◌<◌, ◌-◌, length, List, [], ◌∷◌, ◌++◌, codes, get_or, FitsSigned, refl, sym, ap, ◌∙◌, subst, arith}
-use Rattle.std.specs.Prelude.{ℤ, pos, unsigned_abs, slice_index, All}
+use Rattle.std.proofs.Common.{◌≡◌, ℕ, ◌<◌, ◌-◌, length, List, [], ◌∷◌, ◌++◌, codes, get_or, refl, sym, ap, ◌∙◌, subst, arith}
+use Rattle.std.specs.Prelude.{ℤ, pos, slice_index, All}
 use Rattle.std.specs.Fmt.{decimal}
 use Rattle.std.specs.Int.{w64}
-use Rattle.std.proofs.lemmas.Int.{ints, to_z-of_z}
 use Rattle.opgen_num.specs.declared.format.Format.{Format}
 use Rattle.opgen_design.specs.Width.{IsWidth}
 use Rattle.opgen_net.specs.declared.net.Net.{Net}
@@ -17,11 +16,8 @@ use Rattle.opgen_operator.proofs.Accepted.{accepted_ranges}
 use Rattle.opgen_graph.specs.Placing.{IsNode, HasOddPart}
 use Rattle.opgen_graph.specs.Recipe.{Multiples, with_constant, with_output}
 use Rattle.opgen_graph.proofs.Outputs.{output-lies, next-nodes}
+use Rattle.opgen_graph.proofs.SmallNumbers.{same_number}
 use Rattle.opgen_graph.proofs.constants.place_output.Goals as goal
-
--- a small number is that of its word
-same_number : (t : ℤ) → unsigned_abs t ≤ 2047 → to_z w64 (of_z w64 t) ≡ t
-same_number t small = let fits : FitsSigned w64 t = omega (arith, ints) in to_z-of_z w64 t fits
 
 small_constant : (m : Several) (k : ℕ) → IsAcceptedSeveral m → k < length m.constants → IsWithin 2047 (get_or m.constants k (pos 0))
 small_constant m k accepted there = (accepted_ranges (Mcm m) accepted).constants k (pos 0) there

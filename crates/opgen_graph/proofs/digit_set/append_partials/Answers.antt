@@ -1,18 +1,15 @@
 use mir.Val.{of_z, to_z}
-use Rattle.std.proofs.Common.{◌≡◌, ◌++◌, ℕ, ◌^◌, ◌<◌, ◌≤◌, FitsSigned, sym, ap, subst, ◌∙◌, arith}
+use Rattle.std.proofs.Common.{◌≡◌, ◌++◌, ℕ, ◌^◌, ◌<◌, ◌≤◌, sym, ap, subst, ◌∙◌, arith}
 use Rattle.std.specs.Prelude.{ℤ, pos, unsigned_abs}
 use Rattle.std.specs.Int.{w64}
-use Rattle.std.proofs.lemmas.Int.{ints, to_z-of_z}
 use Rattle.std.proofs.lemmas.List.{take_all}
 use Rattle.opgen_csd.specs.Partials.{partials}
 use Rattle.opgen_graph.proofs.SignedSets.{partials_small, appended}
+use Rattle.opgen_graph.proofs.SmallNumbers.{word_of}
 use Rattle.opgen_graph.proofs.Vectors.{one_more}
 use Rattle.opgen_graph.proofs.digit_set.append_partials.Goals as goal
 
--- a target, as its word of 64 bits has it
-word_of : (t : ℕ) (z : ℤ) → t ≤ 2047 → z ≡ pos t → to_z w64 (of_z w64 z) ≡ pos t
-word_of t z small e = let fits : FitsSigned w64 z = omega (arith, ints) in to_z-of_z w64 z fits ∙ e
-
+-- a target's word is small
 small_word : (t : ℕ) (z : ℤ) → t ≤ 2047 → z ≡ pos t → unsigned_abs (to_z w64 (of_z w64 z)) < 2 ^ 62
 small_word t z small e = subst (λ y. unsigned_abs y < 2 ^ 62) (sym (word_of t z small e)) (omega (arith, small))
 
