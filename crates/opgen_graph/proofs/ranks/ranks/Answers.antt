@@ -37,3 +37,9 @@ pub returns-clause-ranks : goal.returns-clause-ranks
 returns-clause-ranks c =
     let rest : Rounds c.rounds.placed.items c.rounds.left.items [] = rw (is_empty_true c.rounds.left c.rounds-test.ensures) done in
     let e = c.rounds.invariant.ranking.rounds [] rest in rw append-nil at e
+
+pub round-requires-clause-terms : goal.round-requires-clause-terms
+round-requires-clause-terms c = rw (c.as_slice.ensures.value, c.as_slice-in-rounds.ensures.value) c.rounds.invariant.terms
+
+pub round-requires-clause-increasing : goal.round-requires-clause-increasing
+round-requires-clause-increasing c = rw c.as_slice.ensures.value c.rounds.invariant.increasing
