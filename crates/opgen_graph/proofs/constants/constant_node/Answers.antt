@@ -11,6 +11,7 @@ use Rattle.opgen_graph.specs.Placing.{factors}
 use Rattle.opgen_graph.specs.Recipe.{Multiples, negated, with_magnitude, with_constant}
 use Rattle.opgen_operator.specs.OddParts.{odd_part}
 use Rattle.opgen_graph.proofs.Products.{magnitude-placed}
+use Rattle.opgen_graph.proofs.TargetLists.{some_number}
 use Rattle.opgen_graph.proofs.constants.constant_node.Goals as goal
 
 -- a constant, as its word of 64 bits has it
@@ -23,12 +24,6 @@ module _ (t : ℤ) (fits : FitsSigned w64 t) where
 
   not_zero : (of_z w64 t ≡ 0 → ⊥) → t ≡ pos 0 → ⊥
   not_zero some e = some (ap (of_z w64) e)
-
--- the size of a constant is 0 for 0 alone
-some_size : (t : ℤ) → (t ≡ pos 0 → ⊥) → 0 < unsigned_abs t
-some_size (pos zero) some = absurd (some refl)
-some_size (pos (suc n)) some = omega arith
-some_size (negsuc n) some = omega arith
 
 -- the node of a constant above 0, and of one below
 module _ (signed : Bool) (width : ℕ) (b : Multiples) where
@@ -52,7 +47,7 @@ pub magnitude-requires-clause-some : goal.magnitude-requires-clause-some
 magnitude-requires-clause-some c =
     let t = c.args.constant in
     subst (λ n. 0 < n) (sym (size t c.ranges.constant c.unsigned_abs-number.result c.unsigned_abs-number.ensures.value))
-    (some_size t (not_zero t c.ranges.constant c.if-constant-eq0.false))
+    (some_number t (not_zero t c.ranges.constant c.if-constant-eq0.false))
 
 pub magnitude-requires-clause-odd : goal.magnitude-requires-clause-odd
 magnitude-requires-clause-odd c =
