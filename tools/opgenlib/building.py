@@ -1,4 +1,4 @@
-"""A part of bin/opgen: proves and builds the libraries of the program side by side, and then the program.
+"""A part of `bin/opgen prove`: proves and builds the libraries of the program side by side, and then the program.
 
     python3 tools/opgenlib/building.py TOP KIT LINE
 
@@ -199,6 +199,24 @@ class Sources:
         return [f"{self.kit}/bin/rattle-link", *self.toolchain(), "-o", f"out/{PROGRAM}", str(self.object()), *of_c]
 
 
+class Group:
+    """Processes that end with this one, whatever ends it."""
+
+    def __init__(self) -> None:
+        # All are in the process group of a shell, which ends it when the pipe closes: at the end of this process.
+        ends, self.held = os.pipe()
+        self.guard = subprocess.Popen(["sh", "-c", "read _; kill -9 0"], stdin=ends, preexec_fn=os.setpgrp)
+        os.close(ends)
+
+    def join(self) -> None:
+        """Has a new process end with this one, and take signals as they come."""
+        os.setpgid(0, self.guard.pid)
+        signal.pthread_sigmask(signal.SIG_UNBLOCK, AWAITED)
+
+    def end(self) -> None:
+        os.killpg(self.guard.pid, signal.SIGKILL)
+
+
 class Builder:
     """Builds each crate as a schedule says."""
 
@@ -206,22 +224,14 @@ class Builder:
         self.sources, self.schedule = sources, schedule
         self.processes: dict[str, subprocess.Popen] = {}
         self.left: dict[str, list[list[str]]] = {}  # the further commands of a crate
-        # All that is started is in the process group of a shell, which ends it when the pipe closes: at the end of this process.
-        ends, self.held = os.pipe()
-        self.guard = subprocess.Popen(["sh", "-c", "read _; kill -9 0"], stdin=ends, preexec_fn=os.setpgrp)
-        os.close(ends)
+        self.group = Group()
 
     def log(self, name: str) -> Path:
         return self.sources.top / LIBRARIES / f"{name}.log"
 
-    def join(self) -> None:
-        """Has a new process end with this one, and take signals as they come."""
-        os.setpgid(0, self.guard.pid)
-        signal.pthread_sigmask(signal.SIG_UNBLOCK, AWAITED)
-
     def launch(self, name: str) -> None:
         """Starts the next command of a crate."""
-        how = {"stdin": subprocess.DEVNULL, "stderr": subprocess.STDOUT, "preexec_fn": self.join}
+        how = {"stdin": subprocess.DEVNULL, "stderr": subprocess.STDOUT, "preexec_fn": self.group.join}
         with open(self.log(name), "ab") as log:
             place = self.sources.top / "crates" / name
             self.processes[name] = subprocess.Popen(self.left[name].pop(0), cwd=place, stdout=log, **how)
@@ -266,7 +276,7 @@ class Builder:
                 if not all([self.finish(name) for name in ended]):
                     return False
         finally:
-            os.killpg(self.guard.pid, signal.SIGKILL)
+            self.group.end()
             for process in self.processes.values():
                 process.wait()
 
@@ -281,11 +291,16 @@ def machine() -> tuple[int, int]:
     return len(os.sched_getaffinity(0)), free
 
 
-def main() -> int:
+def await_signals() -> None:
+    """Holds the awaited signals back until they are asked for."""
     signal.pthread_sigmask(signal.SIG_BLOCK, AWAITED)
     # A shell has commands in the background ignore some of them.
     for number in ENDING:
         signal.signal(number, signal.SIG_DFL)
+
+
+def main() -> int:
+    await_signals()
     sources = Sources(Path(sys.argv[1]), Path(sys.argv[2]), sys.argv[3])
     (sources.top / LIBRARIES).mkdir(parents=True, exist_ok=True)
     weights = weights_of(sources.top, {PROGRAM, *below(PROGRAM, sources.crates)})

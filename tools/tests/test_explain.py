@@ -14,7 +14,9 @@ from tests.faulty import CASES, SCALE, VHDL, Case
 
 TOP = Path(__file__).resolve().parent.parent.parent
 OPGEN = TOP / "bin/opgen"
-PROGRAM = Path(os.environ.get("OPGEN_PROGRAM", TOP / "crates/opgen/out/opgen"))
+# The proved program, or else the other. .ci/tools names the one that bin/opgen runs.
+BUILT = [path for path in (TOP / "crates/opgen/out/opgen", TOP / "crates/opgen/out/unproved/opgen") if path.exists()]
+PROGRAM = Path(os.environ.get("OPGEN_PROGRAM", [*BUILT, TOP / "no program"][0]))
 NO_PROGRAM = "the program is not built"
 
 

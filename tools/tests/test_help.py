@@ -92,7 +92,7 @@ class WithoutABuild(unittest.TestCase):
         for name in ("bin", "docs"):
             shutil.copytree(TOP / name, cls.folder / name)
         (cls.folder / "crates").mkdir()
-        for name in ("CHANGELOG.md", "crates.txt"):
+        for name in ("CHANGELOG.md", "crates.txt", "HANDLES"):
             shutil.copy(TOP / name, cls.folder)
 
     @classmethod
@@ -107,14 +107,22 @@ class WithoutABuild(unittest.TestCase):
         general = (HELP / "opgen.txt").read_text()
         for words in ((), ("help",), ("--help",), ("-h",)):
             self.answers(general, *words)
-        for name in [*commands(), "install"]:
+        for name in [*commands(), "install", "prove"]:
             own = (HELP / f"{name}.txt").read_text()
             for words in ((name, "--help"), ("help", name), (name, "-h"), (name, "first.toml", "--help")):
                 self.answers(own, *words)
 
     def test_version(self) -> None:
         version = re.search(r"^## ([\d.]+)", (TOP / "CHANGELOG.md").read_text(), re.MULTILINE)[1]
-        self.answers(f"opgen {version}\n", "--version")
+        done = run(self.folder, "--version")
+        self.assertEqual((done.returncode, done.stderr), (0, ""))
+        self.assertRegex(done.stdout, rf"^opgen {re.escape(version)}, not built here, sources [0-9a-f]{{16}}\n$")
+
+    def test_too_many_words(self) -> None:
+        for words in (("prove", "it"), ("install", "one", "two"), ("install", "--unproved", "one", "two")):
+            done = run(self.folder, *words)
+            self.assertEqual((done.returncode, done.stdout), (2, ""))
+            self.assertTrue(done.stderr.startswith(f"opgen: too many words behind {words[0]}\n"))
 
     def test_help_of_no_command(self) -> None:
         done = run(self.folder, "help", "genrate")

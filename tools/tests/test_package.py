@@ -58,7 +58,8 @@ class Installed(unittest.TestCase):
     def setUpClass(cls) -> None:
         cls.folder = Path(tempfile.mkdtemp())
         environment = os.environ | {"OPGEN_PROGRAM": str(PROGRAM)}
-        subprocess.run([TOP / "tools/package", cls.folder], check=True, env=environment, stdout=subprocess.DEVNULL)
+        words = [TOP / "tools/package", "--unproved", cls.folder]
+        subprocess.run(words, check=True, env=environment, stdout=subprocess.DEVNULL)
         cls.tar = next(cls.folder.glob("*.tar.gz"))
         cls.deb = next(cls.folder.glob("*.deb"))
         with tarfile.open(cls.tar) as packed:
@@ -86,7 +87,7 @@ class Installed(unittest.TestCase):
     def test_version(self) -> None:
         said = self.run_in(self.folder, "--version").stdout
         version = re.search(r"^## ([\d.]+)", (TOP / "CHANGELOG.md").read_text(), re.MULTILINE)[1]
-        self.assertRegex(said, rf"^opgen {re.escape(version)} \({os.uname().machine}, sources [0-9a-f]{{16}}\)\n$")
+        self.assertRegex(said, rf"^opgen {re.escape(version)}, (not )?proved \({os.uname().machine}, sources [0-9a-f]{{16}}\)\n$")
 
     def test_tools(self) -> None:
         library = self.prefix / "lib/opgen"
@@ -100,11 +101,11 @@ class Installed(unittest.TestCase):
         """An installed program installs itself elsewhere, and over an older one, but over nothing else."""
         other = self.folder / "other place"
         for _ in range(2):
-            done = self.run_in(self.folder, "install", str(other))
+            done = self.run_in(self.folder, "install", "--unproved", str(other))
             self.assertEqual((done.returncode, done.stderr), (0, ""))
         self.assertEqual((other / "lib/opgen/VERSION").read_text(), (self.prefix / "lib/opgen/VERSION").read_text())
         (other / "lib/opgen/VERSION").unlink()
-        done = self.run_in(self.folder, "install", str(other))
+        done = self.run_in(self.folder, "install", "--unproved", str(other))
         self.assertEqual((done.returncode, done.stdout), (4, ""))
         self.assertTrue((other / "lib/opgen/program").exists())
 
@@ -113,8 +114,8 @@ class Installed(unittest.TestCase):
         self.assertEqual(list(found), ["debian-binary", "control.tar.gz", "data.tar.gz"])
         with tarfile.open(fileobj=io.BytesIO(found["control.tar.gz"])) as control:
             text = control.extractfile("./control").read().decode()
-        digest = re.search(r"sources (\w+)", (self.prefix / "lib/opgen/VERSION").read_text())[1]
-        self.assertIn(f"of the digest {digest}.", text)
+        proof, digest = re.search(r", (.*) \(.*, sources (\w+)", (self.prefix / "lib/opgen/VERSION").read_text()).groups()
+        self.assertIn(f" The program was {proof} on the machine that built it from the sources\n of the digest {digest}.", text)
         self.assertRegex(text, r"(?m)^Depends: libc6 \(>= [\d.]+\)$")
         with tarfile.open(fileobj=io.BytesIO(found["data.tar.gz"])) as data:
             names = set(data.getnames())

@@ -120,6 +120,13 @@ class Coefficients(unittest.TestCase):
     def test_most(self):
         self.assertEqual(run("coefficients", "--most", "2047", text="0.7007\n")[1], "coefficients = [1435]\ndenominator = 2048\n")
 
+    def test_keys_of_whole_numbers(self):
+        scaled = "# outputs are 2048 times those of the real numbers: their 11 lowest bits are below the point\n"
+        self.assertEqual(run("coefficients", "--key", "taps", text="0.7007\n-0.25\n")[1], f"taps = [1435, -512]\n{scaled}")
+        self.assertEqual(run("coefficients", "--key", "constants", text="45\n-8\n")[1], "constants = [45, -8]\n")
+        self.assertEqual(run("coefficients", "--key", "constants", text="2048\n")[0], 1)
+        self.assertEqual(run("coefficients", "--key", "extra", text="1\n")[0], 2)
+
     def test_refusals(self):
         for text in ("", "0.5,x\n", "1/0\n", "2e9\n"):
             self.assertEqual(run("coefficients", text=text)[0], 1, text)

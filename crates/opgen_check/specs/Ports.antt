@@ -6,9 +6,9 @@ use Rattle.opgen_design.specs.declared.design.Design.{Design}
 use Rattle.opgen_design.specs.declared.design.Dir.{Dir}
 use Rattle.opgen_design.specs.declared.design.Dir.TheVariants.{In, Out}
 use Rattle.opgen_design.specs.declared.design.Port.{Port}
-use Rattle.opgen_operator.specs.declared.spec.PortFormat.{PortFormat}
+use Rattle.opgen_operator.specs.declared.ports.PortFormat.{PortFormat}
 use Rattle.opgen_operator.specs.declared.spec.Spec.{Spec}
-use Rattle.opgen_operator.specs.Ports.{inputs_of, outputs_of}
+use Rattle.opgen_operator.specs.Operator.{inputs_of, outputs_of}
 
 -- a port of an operator as one of a design
 abbrev pub port_of : Dir → PortFormat → Port

@@ -3,7 +3,7 @@ ghost use Rattle.std.specs.Prelude.{◌≡◌, ◌<◌, ◌^◌, ◌↔◌, Err,
 ghost use Rattle.opgen_design.specs.Run.{input_widths};
 ghost use Rattle.opgen_design.specs.Sound.{HasNumbers, IsSound};
 ghost use Rattle.opgen_num.specs.Words.{FitWidths, AreRowsOfCells};
-ghost use Rattle.opgen_operator.specs.Ports.{inputs_of, outputs_of};
+ghost use Rattle.opgen_operator.specs.Operator.{inputs_of, outputs_of};
 ghost use Rattle.opgen_operator.specs.Valid.{IsValidSpec};
 ghost use Rattle.opgen_vec.specs.GoodRow.{IsGoodRow};
 ghost use Rattle.opgen_vec.specs.Writing.{row_count};
@@ -78,12 +78,12 @@ fn judge(
 ) -> Result<Checked, Memory>
     requires valid { IsValidSpec spec.now }
     requires sound { IsSound design.now }
-    requires numbers { HasNumbers design.now }
     requires ports { PortsAgree spec.now design.now }
     requires columns { inputs.now.columns ≡ length (input_widths design.now) }
     requires rows { AreRowsOfCells (input_widths design.now) (row_count inputs.now.columns inputs.now.cells.items) inputs.now.cells.items }
     requires few { row_count inputs.now.columns inputs.now.cells.items < 2 ^ 32 }
-    ensures { IfOk result (IsChecked spec.now design.now latency (row_count inputs.now.columns inputs.now.cells.items) inputs.now.cells.items) }
+    ensures checked { IfOk result (IsChecked spec.now design.now latency (row_count inputs.now.columns inputs.now.cells.items) inputs.now.cells.items) }
+    ensures numbers { IfOk result (λ checked. HasNumbers design.now) }
 {
     let rows = inputs.row_count() as u32;
     let outputs = run_rows(alloc, design.copy(alloc)?, rows, &inputs.cells)?;
@@ -99,7 +99,7 @@ fn judge(
 /// # Errors
 ///
 /// `Ports` comes exactly where a port differs from that of the specification at its place in name, direction or width, or there
-/// are more or fewer.
+/// are more or fewer. Otherwise a design of 2^32 or more ports, signals and drivers together is answered by `Memory`.
 pub fn check_rows(
     alloc: Global,
     spec: &Spec,
@@ -109,13 +109,13 @@ pub fn check_rows(
 ) -> Result<Checked, CheckFault>
     requires valid { IsValidSpec spec.now }
     requires sound { IsSound design.now }
-    requires numbers { HasNumbers design.now }
     requires columns { inputs.now.columns ≡ length (input_widths design.now) }
     requires rows { AreRowsOfCells (input_widths design.now) (row_count inputs.now.columns inputs.now.cells.items) inputs.now.cells.items }
     requires few { row_count inputs.now.columns inputs.now.cells.items < 2 ^ 32 }
     ensures ports { result ≡ Err CheckFault.Ports → ¬ PortsAgree spec.now design.now }
     ensures agree { IfOk result (λ checked. PortsAgree spec.now design.now) }
     ensures checked { IfOk result (IsChecked spec.now design.now latency (row_count inputs.now.columns inputs.now.cells.items) inputs.now.cells.items) }
+    ensures numbers { IfOk result (λ checked. HasNumbers design.now) }
 {
     if !agree(alloc, spec, design.ports.as_slice())? {
         return Err(CheckFault::Ports);

@@ -5,7 +5,7 @@ use Rattle.clap.specs.declared.error.Error.{Error}
 use Rattle.clap.specs.declared.error.kind.ErrorKind.TheVariants.{OutOfMemory}
 use Rattle.opgen_command.specs.Command.{unless_fault}
 
--- an error that is no want of memory is a fault
+-- an error other than out of memory is a fault
 pub usage_error : (kinds : Kinds) (found : List Row) (e : Error) → HasKind kinds e → (kind_of e ≡ OutOfMemory → ⊥)
     → unless_fault kinds found ≡ None
 usage_error [] found e (inl memory) other = absurd (other memory)

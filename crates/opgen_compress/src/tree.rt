@@ -54,7 +54,7 @@ fn columns_of(alloc: Global, heap: &Heap) -> Result<Vec<Queue>, AllocError>
 /// Adds the bits and the constant of a heap, and answers the number of a node of the heap's width that has the sum.
 ///
 /// The nodes are those of a compressor tree: full and half adders bring the columns down to two bits each, over heights of which
-/// each is one and a half times the next one, and the two rows that are left are added. After want of memory the net is valid, and
+/// each is one and a half times the next one, and the two rows that are left are added. If memory runs out, the net is valid and
 /// has some of these nodes.
 pub fn compress(alloc: Global, heap: Heap, net: &mut Net) -> Result<usize, Memory>
     requires net { IsValid net.old }

@@ -8,15 +8,13 @@ use Rattle.opgen_num.specs.Values.{int, val}
 use Rattle.opgen_num.specs.Words.{nat}
 use Rattle.opgen_net.specs.Flow.{Inputs, input_at}
 use Rattle.opgen_net.specs.Placed.{number_at}
-use Rattle.opgen_operator.specs.declared.spec.Operator.TheVariants.{Constdiv}
-use Rattle.opgen_operator.specs.declared.spec.SmallDiv.{SmallDiv}
-use Rattle.opgen_operator.specs.Accepted.{IsAcceptedSmallDiv}
-use Rattle.opgen_operator.specs.Exact.{Recent}
+use Rattle.opgen_operator.specs.declared.kinds.small_div.SmallDiv.{SmallDiv}
+use Rattle.opgen_operator.specs.declared.operator.Operator.TheVariants.{Constdiv}
 use Rattle.opgen_operator.specs.Fits.{FitsOperator, FitsSpecsOf, name_and_width}
-use Rattle.opgen_operator.specs.Good.{IsGoodSmallQuotient}
+use Rattle.opgen_operator.specs.kinds.SmallDiv.{IsAcceptedSmallDiv, IsGoodSmallQuotient, small_ports, IsSmallDiv}
+use Rattle.opgen_operator.specs.Operator.{operator_inputs}
 use Rattle.opgen_operator.specs.PortNumbers.{recent_words, output_words}
-use Rattle.opgen_operator.specs.Ports.{operator_inputs, small_ports}
-use Rattle.opgen_operator.specs.Ranges.{IsSmallDiv}
+use Rattle.opgen_operator.specs.Recent.{Recent}
 use Rattle.opgen_operator.specs.Valid.{AgreesOnExact}
 use Rattle.opgen_operator.proofs.Accepted.{accepted_ranges}
 use Rattle.opgen_operator.proofs.InputPorts.{input_bit}

@@ -9,9 +9,9 @@
 #![tactic(auto)]
 
 ghost use Rattle.std.specs.Prelude.{◌≡◌, IfOk};
-ghost use Rattle.opgen_operator.specs.Accepted.{IsAcceptedSmallDiv};
+ghost use Rattle.opgen_operator.specs.declared.operator.Operator.TheVariants.{Constdiv};
 ghost use Rattle.opgen_operator.specs.Fits.{FitsSpecsOf};
-ghost use Rattle.opgen_operator.specs.declared.spec.Operator.TheVariants.{Constdiv};
+ghost use Rattle.opgen_operator.specs.kinds.SmallDiv.{IsAcceptedSmallDiv};
 ghost use Rattle.opgen_constdiv.specs.Recipe.{net_of};
 ghost use Rattle.opgen_constdiv.specs.Steps.{HoldsAfterEachDigit};
 

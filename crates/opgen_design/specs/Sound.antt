@@ -218,7 +218,7 @@ pub record IsFirstUnsound (d : Design) (rule : Rule) (number : ℕ) : Type 0 whe
   pub earlier_places : (p : Place) → item d p < number → PassesAt d rule p
   pub fails : (p : Place) × (item d p ≡ number) × (PassesAt d rule p → ⊥)
 
--- a fault of a design names its first rule that fails, by number, and the first place; want of memory says nothing
+-- a fault of a design names its first rule that fails, by number, and the first place; running out of memory says nothing
 abbrev pub IsFaultOf : Design → SoundFault → Type 0
 IsFaultOf d (Unsound rule place) = (r : Rule) × (rule_number r ≡ rule) × IsFirstUnsound d r place
 IsFaultOf d Memory = Unit {0}

@@ -87,7 +87,7 @@ fn lowest(node: usize, rest: u32) -> Slice
 /// Tries a subtraction, and so makes the next digit: 1 where that leaves no less than 0. What is left
 /// is kept only where it is asked for, in as many bits as the rest has.
 ///
-/// After want of memory the net is valid, and has some of the nodes.
+/// If memory runs out, the net is valid and has some of the nodes.
 pub fn try_digit(
     alloc: Global,
     net: &mut Net,

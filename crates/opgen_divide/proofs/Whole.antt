@@ -19,16 +19,14 @@ use Rattle.opgen_net.specs.Valid.{widths}
 use Rattle.opgen_net.specs.WordRule.{IsThere, bits_from}
 use Rattle.opgen_net.proofs.FlowWidths.{flow-width}
 use Rattle.opgen_net.proofs.Grown.{flow-then, grown-flow, grown-count}
-use Rattle.opgen_operator.specs.declared.spec.Operator.TheVariants.{Divide}
-use Rattle.opgen_operator.specs.declared.spec.Pair.{Pair}
-use Rattle.opgen_operator.specs.Accepted.{IsAcceptedPair}
-use Rattle.opgen_operator.specs.Exact.{Recent}
+use Rattle.opgen_operator.specs.declared.kinds.pair.Pair.{Pair}
+use Rattle.opgen_operator.specs.declared.operator.Operator.TheVariants.{Divide}
 use Rattle.opgen_operator.specs.Fits.{FitsOperator, FitsSpecsOf, name_and_width}
-use Rattle.opgen_operator.specs.Good.{IsGoodQuotient}
+use Rattle.opgen_operator.specs.kinds.Pair.{IsAcceptedPair, IsGoodQuotient, pair_shift, quotient_ports, IsPair}
+use Rattle.opgen_operator.specs.Operator.{operator_inputs}
 use Rattle.opgen_operator.specs.PortNumbers.{recent_words, output_words}
-use Rattle.opgen_operator.specs.Outputs.{places_up, pair_shift, up}
-use Rattle.opgen_operator.specs.Ports.{operator_inputs, quotient_ports}
-use Rattle.opgen_operator.specs.Ranges.{IsPair}
+use Rattle.opgen_operator.specs.Recent.{Recent}
+use Rattle.opgen_operator.specs.Shifts.{places_up, up}
 use Rattle.opgen_operator.specs.Valid.{AgreesOnExact}
 use Rattle.opgen_operator.proofs.Accepted.{accepted_ranges, accepted_width}
 use Rattle.opgen_operator.proofs.InputPorts.{input_bit}

@@ -5,8 +5,9 @@ use Rattle.opgen_net.specs.declared.node.Node.TheVariants.{Input}
 use Rattle.opgen_net.specs.declared.word_bits.WordBit.{WordBit}
 use Rattle.opgen_net.specs.declared.word_bits.WordBit.TheVariants.{Zero}
 use Rattle.opgen_net.specs.WordRule.{bits_from}
-use Rattle.opgen_operator.specs.declared.spec.Pair.{Pair}
-use Rattle.opgen_operator.specs.Outputs.{places_up, pair_shift}
+use Rattle.opgen_operator.specs.declared.kinds.pair.Pair.{Pair}
+use Rattle.opgen_operator.specs.kinds.Pair.{pair_shift}
+use Rattle.opgen_operator.specs.Shifts.{places_up}
 use Rattle.opgen_net.specs.Placed.{Placed, with_bits}
 use Rattle.opgen_digits.specs.Digit.{Known, tried}
 use Rattle.opgen_digits.specs.Results.{with_results}

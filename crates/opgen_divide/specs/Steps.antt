@@ -7,7 +7,7 @@ use Rattle.opgen_design.specs.Run.{AreWords}
 use Rattle.opgen_net.specs.declared.net.Net.{Net}
 use Rattle.opgen_net.specs.Flow.{Inputs, flow}
 use Rattle.opgen_net.specs.Valid.{input_widths}
-use Rattle.opgen_operator.specs.declared.spec.Pair.{Pair}
+use Rattle.opgen_operator.specs.declared.kinds.pair.Pair.{Pair}
 use Rattle.opgen_net.specs.Placed.{number_at}
 use Rattle.opgen_divide.specs.Recipe.{numerator, digit_count, keeps, after}
 

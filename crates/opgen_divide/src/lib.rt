@@ -13,9 +13,9 @@ ghost use Rattle.opgen_num.specs.declared.TheConstants.{MAX_WIDTH};
 ghost use Rattle.opgen_net.specs.declared.word_bits.WordBit.TheVariants.{Zero};
 ghost use Rattle.opgen_net.specs.Valid.{IsValid, widths};
 ghost use Rattle.opgen_net.specs.WordRule.{IsThere};
-ghost use Rattle.opgen_operator.specs.Accepted.{IsAcceptedPair};
+ghost use Rattle.opgen_operator.specs.declared.operator.Operator.TheVariants.{Divide};
 ghost use Rattle.opgen_operator.specs.Fits.{FitsSpecsOf};
-ghost use Rattle.opgen_operator.specs.declared.spec.Operator.TheVariants.{Divide};
+ghost use Rattle.opgen_operator.specs.kinds.Pair.{IsAcceptedPair};
 ghost use Rattle.opgen_divide.specs.Recipe.{with_inputs, numerator as numerator_of, digit_count, with_divisor, stepped, after, net_of_pair};
 ghost use Rattle.opgen_divide.specs.Steps.{HoldsAfterEachStep};
 

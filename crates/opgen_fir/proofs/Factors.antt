@@ -7,9 +7,10 @@ use Rattle.std.proofs.lemmas.Int.{ints, unsigned_abs-mul, fits_signed_from_abs}
 use Rattle.std.proofs.lemmas.List.Elements.{All-get_or}
 use Rattle.std.specs.Int.{w64}
 use Rattle.std.proofs.lemmas.Nat.{div-add-mod', pow_pos}
-use Rattle.opgen_operator.specs.declared.spec.Sum.{Sum}
-use Rattle.opgen_operator.specs.Outputs.{sum_shift, up, down, is_whole, first_inexact}
-use Rattle.opgen_operator.specs.Ranges.{IsSum, IsWithin}
+use Rattle.opgen_operator.specs.declared.kinds.sum.Sum.{Sum}
+use Rattle.opgen_operator.specs.kinds.Sum.{sum_shift, is_whole, first_inexact, IsSum}
+use Rattle.opgen_operator.specs.Ranges.{IsWithin}
+use Rattle.opgen_operator.specs.Shifts.{up, down}
 use Rattle.opgen_fir.specs.Recipe.{is_zero, factor}
 use Rattle.opgen_fir.specs.Summed.{units}
 

@@ -26,17 +26,17 @@ use Rattle.opgen_net.proofs.FlowWidths.{flow-width}
 use Rattle.opgen_net.proofs.InputLaws.{input_at-width}
 use Rattle.opgen_design.specs.Run.{AreWords}
 use Rattle.opgen_compress.specs.Kept.{IsSumOf}
-use Rattle.opgen_operator.specs.declared.spec.Operator.TheVariants.{Scale, Fir}
-use Rattle.opgen_operator.specs.declared.spec.Sum.{Sum}
-use Rattle.opgen_operator.specs.Exact.{Recent, exact_sum}
+use Rattle.opgen_operator.specs.declared.kinds.sum.Sum.{Sum}
+use Rattle.opgen_operator.specs.declared.operator.Operator.TheVariants.{Scale, Fir}
 use Rattle.opgen_operator.specs.Fits.{FitsOperator, FitsSpecsOfSum}
 use Rattle.opgen_operator.specs.Good.{IsGoodRatio}
 use Rattle.opgen_operator.specs.Held.{OutputsHold}
+use Rattle.opgen_operator.specs.kinds.Sum.{exact_sum, first_inexact, guard_bits, sum_format, IsSum}
+use Rattle.opgen_operator.specs.Operator.{inexact}
 use Rattle.opgen_operator.specs.PortNumbers.{recent_words}
-use Rattle.opgen_operator.specs.Outputs.{inexact, first_inexact, guard_bits}
-use Rattle.opgen_operator.specs.Ports.{sum_format, one_input}
-use Rattle.opgen_operator.specs.Ranges.{IsSum}
-use Rattle.opgen_operator.specs.Reached.{IsOf}
+use Rattle.opgen_operator.specs.Ports.{one_input}
+use Rattle.opgen_operator.specs.Recent.{Recent}
+use Rattle.opgen_operator.specs.Spans.{IsOf}
 use Rattle.opgen_operator.proofs.InputPorts.{input_bit}
 use Rattle.opgen_kcm.specs.Recipe.{Terms, HasTermsMore}
 use Rattle.opgen_kcm.specs.Multiple.{sum_at}

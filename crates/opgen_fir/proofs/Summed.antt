@@ -5,10 +5,10 @@ use Rattle.std.proofs.lemmas.Int.{ints}
 use Rattle.std.proofs.lemmas.List.Sums.{count_by_more_no, count_by_more_yes}
 use Rattle.opgen_num.specs.Rounding.{distance}
 use Rattle.opgen_num.proofs.Integers.{product-sum, product_assoc, commuted, sum-product}
-use Rattle.opgen_operator.specs.declared.spec.Sum.{Sum}
-use Rattle.opgen_operator.specs.Exact.{Recent}
-use Rattle.opgen_operator.specs.Outputs.{sum_shift, up, terms, guard_bits}
-use Rattle.opgen_operator.specs.Ranges.{IsSum}
+use Rattle.opgen_operator.specs.declared.kinds.sum.Sum.{Sum}
+use Rattle.opgen_operator.specs.kinds.Sum.{sum_shift, terms, guard_bits, IsSum}
+use Rattle.opgen_operator.specs.Recent.{Recent}
+use Rattle.opgen_operator.specs.Shifts.{up}
 use Rattle.opgen_kcm.specs.Chunks.{chunk_count}
 use Rattle.opgen_kcm.specs.Multiple.{IsMultiple}
 use Rattle.opgen_fir.specs.Recipe.{is_zero, factor}

@@ -1,9 +1,9 @@
 //! Converts a coefficient of a scale or filter to units of the output's last place (ulp).
 
 ghost use Rattle.std.specs.Prelude.{◌≡◌, ◌*◌, ◌^◌, ◌<◌, ◌≤◌, ℤ, pos, ◌*ℤ◌, unsigned_abs};
-ghost use Rattle.opgen_operator.specs.Accepted.{IsAcceptedSum};
-ghost use Rattle.opgen_operator.specs.Outputs.{places_up, places_down};
+ghost use Rattle.opgen_operator.specs.kinds.Sum.{IsAcceptedSum};
 ghost use Rattle.opgen_operator.specs.Ranges.{IsWithin};
+ghost use Rattle.opgen_operator.specs.Shifts.{places_up, places_down};
 ghost use Rattle.opgen_fir.specs.Recipe.{factor};
 
 use opgen_num::Ratio;

@@ -1,7 +1,7 @@
 //! Builds the net of a scale or filter: delayed inputs, tables of coefficients, a bit heap, its compression, and the output.
 ghost use Rattle.std.specs.Prelude.{◌≡◌, ◌∷◌, [], map, codes, IfOk};
-ghost use Rattle.opgen_operator.specs.Accepted.{IsAcceptedSum};
 ghost use Rattle.opgen_operator.specs.Fits.{FitsSpecsOfSum};
+ghost use Rattle.opgen_operator.specs.kinds.Sum.{IsAcceptedSum};
 ghost use Rattle.opgen_fir.specs.Recipe.{net_of_sum};
 
 use crate::taps::tapped;

@@ -1,5 +1,5 @@
 //! The depth of a design: the most registers on a way to a signal.
-ghost use Rattle.std.specs.Prelude.{ℕ, ◌≡◌, ◌≤◌, IfOk, IfSome, slice_index};
+ghost use Rattle.std.specs.Prelude.{ℕ, ◌≡◌, ◌≤◌, IfOk, IfSome, None, slice_index};
 ghost use Rattle.std.specs.List.{list_all};
 ghost use Rattle.opgen_design.specs.Sound.{HasNumbers, IsSound};
 ghost use Rattle.opgen_forward.specs.Depth.{HasDepth};
@@ -8,6 +8,7 @@ ghost use Rattle.opgen_forward.specs.Ranks.{is_ranked};
 use crate::ranks::{is_ranked, least_rank};
 use opgen_design::{Design, Driver, Target};
 use opgen_num::Memory;
+use opgen_runs::evaluation_order;
 use std::alloc::{AllocError, Global};
 
 // What became of the rank of a driver's signal, or of the ranks of all.
@@ -69,10 +70,10 @@ fn add_registers(drivers: &[Driver], places: &mut Vec<usize>) -> Result<(), Allo
 
 // The places of the drivers, each after those of the signals that it reads, and the registers last.
 fn places(alloc: Global, design: &Design) -> Result<Vec<usize>, Memory>
-    requires sound { IsSound design.now }
-    requires numbers { HasNumbers design.now }
+    requires { IsSound design.now }
+    ensures { IfOk result (λ v. HasNumbers design.now) }
 {
-    let mut places = design.order(alloc)?;
+    let mut places = evaluation_order(alloc, design)?;
     add_registers(design.drivers.as_slice(), &mut places)?;
     Ok(places)
 }
@@ -99,11 +100,13 @@ fn highest_rank(ranks: &[u32]) -> u32
 ///
 /// None for a design with an enable, or with a loop of registers. It is not claimed that every other design has a number, nor that
 /// it is the least: with None, or with a larger number, a caller only takes longer. Goes over the drivers at most `most` + 3 times.
+///
+/// Without an enable, a design of 2^32 or more ports, signals and drivers together is answered by `Memory`.
 pub fn depth(alloc: Global, design: &Design, most: u32) -> Result<Option<u32>, Memory>
-    requires sound { IsSound design.now }
-    requires numbers { HasNumbers design.now }
+    requires { IsSound design.now }
     ensures depth { IfOk result (λ o. IfSome o (λ depth. HasDepth design.now depth)) }
     ensures most { IfOk result (λ o. IfSome o (λ depth. depth ≤ most)) }
+    ensures numbers { IfOk result (λ o. design.now.enable ≡ None → HasNumbers design.now) }
 {
     if design.enable.is_some() {
         return Ok(None);

@@ -12,7 +12,7 @@ use opgen_net::WordBit;
 use opgen_num::Memory;
 use std::alloc::{AllocError, Global};
 
-// The counters of six bits of a column, from its first on. What they leave is answered.
+// The counters of six bits of a column, from its first on. Returns the bits that they leave.
 fn take_sixes<'a>(
     alloc: Global,
     column: u32,

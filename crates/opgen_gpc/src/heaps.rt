@@ -62,7 +62,7 @@ fn add_tables(
 /// While a column has six bits that are not taken, the first six are the address of a table that has
 /// their number, and where five are left, the first bit of the next column counts twice beside them.
 /// No bit of such a table is counted again: the answer holds the bits that are not taken, column by
-/// column, and then the tables' rows. After want of memory the net is valid, and has some of these
+/// column, and then the tables' rows. If memory runs out, the net is valid and has some of these
 /// nodes.
 pub fn count(alloc: Global, heap: Heap, net: &mut Net) -> Result<Heap, Memory>
     requires net { IsValid net.old }

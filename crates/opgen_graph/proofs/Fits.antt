@@ -9,17 +9,17 @@ use Rattle.opgen_num.specs.Values.{val}
 use Rattle.opgen_num.proofs.Quotients.{within_one}
 use Rattle.opgen_net.specs.declared.net.Net.{Net}
 use Rattle.opgen_net.specs.Flow.{flow, input_at, slice_flow}
-use Rattle.opgen_operator.specs.Accepted.{IsAcceptedSeveral}
+use Rattle.opgen_operator.specs.declared.kinds.several.Several.{Several}
+use Rattle.opgen_operator.specs.declared.operator.Operator.TheVariants.{Mcm}
+use Rattle.opgen_operator.specs.declared.ports.PortFormat.{PortFormat}
 use Rattle.opgen_operator.specs.Bounded.{HasWidth, OutputsAreWide}
-use Rattle.opgen_operator.specs.declared.spec.Operator.TheVariants.{Mcm}
-use Rattle.opgen_operator.specs.declared.spec.PortFormat.{PortFormat}
-use Rattle.opgen_operator.specs.declared.spec.Several.{Several}
 use Rattle.opgen_operator.specs.Fits.{FitsOperator, FitsSpecsOf}
 use Rattle.opgen_operator.specs.Held.{OutputsHold}
-use Rattle.opgen_operator.specs.PortNumbers.{recent_words, output_words}
+use Rattle.opgen_operator.specs.kinds.Several.{IsAcceptedSeveral, multiple_ports, IsSeveral}
 use Rattle.opgen_operator.specs.Limits.{most_signal}
-use Rattle.opgen_operator.specs.Ports.{operator_outputs, one_input, multiple_ports}
-use Rattle.opgen_operator.specs.Ranges.{IsSeveral}
+use Rattle.opgen_operator.specs.Operator.{operator_outputs}
+use Rattle.opgen_operator.specs.PortNumbers.{recent_words, output_words}
+use Rattle.opgen_operator.specs.Ports.{one_input}
 use Rattle.opgen_operator.proofs.Accepted.{accepted_ranges}
 use Rattle.opgen_operator.proofs.Versions.{signal_limit}
 use Rattle.opgen_graph.specs.declared.ranks.Graph.{Graph}

@@ -20,11 +20,11 @@ use Rattle.opgen_net.proofs.FlowWidths.{flow-width}
 use Rattle.opgen_net.proofs.Grown.{grown-flow}
 use Rattle.opgen_net.proofs.Later.{Later, later-same, later-then}
 use Rattle.opgen_operator.specs.Held.{OutputsHold}
+use Rattle.opgen_operator.specs.kinds.Several.{constant_format}
 use Rattle.opgen_operator.specs.Ranges.{IsInput}
-use Rattle.opgen_operator.proofs.Accepted.{some_width}
-use Rattle.opgen_operator.proofs.Widths.{multiple_width}
-use Rattle.opgen_operator.specs.Outputs.{reach_over}
-use Rattle.opgen_operator.specs.Ports.{constant_format}
+use Rattle.opgen_operator.specs.Reaches.{reach_over}
+use Rattle.opgen_operator.proofs.of_kind.Several.{multiple_width}
+use Rattle.opgen_operator.proofs.Widths.{some_width}
 use Rattle.opgen_graph.specs.declared.multiples.Multiple.{Multiple}
 use Rattle.opgen_graph.specs.Parts.{part_width, part_node, with_part, with_parts}
 use Rattle.opgen_graph.specs.Placing.{factors, IsPart, IsMultiple}

@@ -21,15 +21,15 @@ use Rattle.opgen_net.specs.Valid.{IsValid, input_widths, widths, FitsNodes}
 use Rattle.opgen_net.proofs.Appending.{flow-append_before, flow-append_last, width-append_before, width-append_last}
 use Rattle.opgen_net.proofs.FlowWidths.{flow-width}
 use Rattle.opgen_operator.specs.Held.{OutputsHold}
-use Rattle.opgen_operator.specs.Outputs.{reach_over}
-use Rattle.opgen_operator.specs.Ports.{constant_format}
+use Rattle.opgen_operator.specs.kinds.Several.{constant_format}
+use Rattle.opgen_operator.specs.OddParts.{power_of, odd_part}
 use Rattle.opgen_operator.specs.Ranges.{IsWithin}
+use Rattle.opgen_operator.specs.Reaches.{reach_over}
 use Rattle.opgen_net.specs.Placed.{Placed, difference_of, with_last}
 use Rattle.opgen_net.proofs.Later.{Later, later-node, later-then, node_there}
 use Rattle.opgen_graph.specs.declared.multiples.Multiple.{Multiple}
 use Rattle.opgen_graph.specs.Placing.{factors, IsNode, HasOddPart, HasInput, IsMultiple}
 use Rattle.opgen_graph.specs.Recipe.{multiple_of, Multiples, negated, with_magnitude, with_constant}
-use Rattle.opgen_operator.specs.OddParts.{power_of, odd_part}
 use Rattle.opgen_graph.proofs.Residues.{Has, has, difference-has, settled}
 use Rattle.opgen_graph.proofs.Standing.{multiple_of-all, multiple_of-factor}
 use Rattle.opgen_graph.proofs.Sums.{pair-fits, IsPlacedNode, operand-placed, operand-has}

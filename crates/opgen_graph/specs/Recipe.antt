@@ -14,15 +14,15 @@ use Rattle.opgen_net.specs.declared.word_bits.WordBit.{WordBit}
 use Rattle.opgen_net.specs.declared.word_bits.WordBit.TheVariants.{Zero, Of}
 use Rattle.opgen_net.specs.Placed.{Placed, whole, with_bits, with_last, difference_of}
 use Rattle.opgen_net.specs.WordRule.{bits_from}
-use Rattle.opgen_operator.specs.declared.spec.Several.{Several}
-use Rattle.opgen_operator.specs.Ports.{constant_format}
+use Rattle.opgen_operator.specs.declared.kinds.several.Several.{Several}
+use Rattle.opgen_operator.specs.kinds.Several.{constant_format}
+use Rattle.opgen_operator.specs.OddParts.{power_of, odd_part}
 use Rattle.opgen_graph.specs.declared.forms.Form.{Form}
 use Rattle.opgen_graph.specs.declared.forms.Form.TheVariants.{A, B, C, D, E}
 use Rattle.opgen_graph.specs.declared.multiples.Multiple.{Multiple}
 use Rattle.opgen_graph.specs.declared.ranks.Adder.{Adder}
 use Rattle.opgen_graph.specs.declared.ranks.Graph.{Graph}
 use Rattle.opgen_graph.specs.SetCost.{bit_length}
-use Rattle.opgen_operator.specs.OddParts.{power_of, odd_part}
 
 -- A Multiple is a node that has the input times a factor. The input is node 0, and the multiple by 1.
 abbrev pub with_input : Format → Net

@@ -2,11 +2,11 @@
 ghost use Rattle.std.specs.Prelude.{◌≡◌, ◌<◌, ℤ, pos, length, slice_index, get_or, unsigned_abs, All, Contains, IfOk, OnOk};
 ghost use Rattle.opgen_design.specs.Width.{IsWidth};
 ghost use Rattle.opgen_net.specs.Valid.{IsValid, widths};
-ghost use Rattle.opgen_operator.specs.Accepted.{IsAcceptedSeveral};
+ghost use Rattle.opgen_operator.specs.kinds.Several.{IsAcceptedSeveral};
+ghost use Rattle.opgen_operator.specs.OddParts.{odd_part};
 ghost use Rattle.opgen_operator.specs.Ranges.{IsWithin};
 ghost use Rattle.opgen_graph.specs.Placing.{IsNode, HasOddPart, factors};
 ghost use Rattle.opgen_graph.specs.Recipe.{negated as negated_of, with_magnitude, with_constant, with_output, with_outputs};
-ghost use Rattle.opgen_operator.specs.OddParts.{odd_part};
 
 use crate::adders::chain;
 use crate::multiples::{Multiple, multiple_of, operand};

@@ -1,10 +1,10 @@
 //! Builds the net of several constants times one input by the adders of a graph.
 ghost use Rattle.std.specs.Prelude.{◌≡◌, IfOk};
 ghost use Rattle.opgen_net.specs.Valid.{IsValid};
-ghost use Rattle.opgen_operator.specs.Accepted.{IsAcceptedSeveral};
+ghost use Rattle.opgen_operator.specs.declared.operator.Operator.TheVariants.{Mcm};
 ghost use Rattle.opgen_operator.specs.Fits.{FitsSpecsOf};
+ghost use Rattle.opgen_operator.specs.kinds.Several.{IsAcceptedSeveral};
 ghost use Rattle.opgen_operator.specs.Ranges.{IsInput};
-ghost use Rattle.opgen_operator.specs.declared.spec.Operator.TheVariants.{Mcm};
 ghost use Rattle.opgen_graph.specs.Recipe.{with_input, net_of_graph};
 ghost use Rattle.opgen_graph.specs.Served.{Serves};
 

@@ -9,10 +9,10 @@ abbrev pub fetched : Option (List ℕ) → ℕ → Result (List ℕ) FetchFault
 fetched None most = Err Failed
 fetched (Some bytes) most = if nat_le (length bytes) most then Ok bytes else Err TooLong
 
--- that fault was answered, or want of memory, which may come at any time
+-- that fault was returned, or memory ran out, which may happen at any time
 abbrev pub FetchFails : {X : Type 0} → Result X FetchFault → FetchFault → Type 0
 FetchFails result fault = (result ≡ Err fault) ⊎ (result ≡ Err Memory)
 
--- that answer was given, its bytes in a vector, or want of memory
+-- that answer was given, its bytes in a vector, or memory ran out
 abbrev pub IsAnswer : Result (Vec ℕ Global) FetchFault → Result (List ℕ) FetchFault → Type 0
 IsAnswer result answer = MatchResult result (λ bytes. answer ≡ Ok bytes.items) (λ fault. (answer ≡ Err fault) ⊎ (fault ≡ Memory))

@@ -4,6 +4,7 @@ use Rattle.std.specs.Str.{bytes_eq}
 use Rattle.std.specs.declared.alloc.Global.{Global}
 use Rattle.opgen_io.specs.declared.folder.FetchFault.{FetchFault}
 use Rattle.opgen_io.specs.declared.folder.FetchFault.TheVariants.{Failed, TooLong, Memory}
+use Rattle.opgen_io.specs.Counted.{FetchCounts}
 use Rattle.opgen_io.specs.Counts.{next_count, is_listed}
 use Rattle.opgen_io.specs.Files.{Files, stored}
 
@@ -27,6 +28,10 @@ pub record SinkState : Type 0 where
   pub failing : List ℕ
   pub calls : ℕ
   pub faults : ℕ
+
+-- the counts of the folder that a fetch may raise
+abbrev pub fetch_counts : FolderState → FetchCounts
+fetch_counts s = record { read_faults = s.read_faults; lacks = s.lacks; longs = s.longs }
 
 -- whether the next call of the folder is one that fails
 abbrev pub folder_fails : FolderState → Bool

@@ -2,6 +2,7 @@
 ghost use Rattle.std.specs.Prelude.{◌≡◌, ◌⊎◌, ℕ, ◌≤◌, Option, Some, None, is_some, IfOk, OnOk, vec_len};
 ghost use Rattle.opgen_io.specs.Fetched.{fetched, FetchFails};
 ghost use Rattle.opgen_io.specs.Counts.{Rose, Stood};
+ghost use Rattle.opgen_io.specs.Counted.{store_faults, CountsFetch};
 ghost use Rattle.opgen_io.specs.Files.{Files, stored, KeepsOthers};
 
 use std::alloc::Global;
@@ -31,7 +32,8 @@ pub enum StoreFault {
 
 /// Files by name. A name is text, and what stands under it is bytes.
 ///
-/// The counts tell a caller who to blame: each failure but for want of memory is one that a count shows.
+/// The counts tell a caller who to blame: a count shows each failure except running out of memory, and a count rises
+/// only by such a failure.
 pub trait Folder {
     // The files, where the folder tells them.
     ghost told: { Self → Option Files };
@@ -51,6 +53,9 @@ pub trait Folder {
     /// The bytes under the name, of which there may be `most`.
     fn fetch(&mut self, alloc: Global, name: &str, most: usize) -> Result<Vec<u8>, FetchFault>
         ensures contents { told self.new ≡ told self.old }
+        ensures counts { CountsFetch result
+            (record { read_faults = read_faults self.old; lacks = lacks self.old; longs = longs self.old })
+            (record { read_faults = read_faults self.new; lacks = lacks self.new; longs = longs self.new }) }
         ensures read_faults_kept { read_faults self.old ≤ read_faults self.new }
         ensures lacks_kept { lacks self.old ≤ lacks self.new }
         ensures longs_kept { longs self.old ≤ longs self.new }
@@ -84,6 +89,7 @@ pub trait Folder {
         ensures read_faults_same { read_faults self.new ≡ read_faults self.old }
         ensures lacks_same { lacks self.new ≡ lacks self.old }
         ensures longs_same { longs self.new ≡ longs self.old }
+        ensures counts { write_faults self.new ≡ store_faults result (write_faults self.old) }
         ensures write_faults_kept { write_faults self.old ≤ write_faults self.new }
 
         ensures ok { (files : Files) → told self.old ≡ Some files →

@@ -1,8 +1,9 @@
 //! A folder and a sink in memory, in which chosen calls fail.
 ghost use Rattle.std.specs.Prelude.{◌≡◌, [], Some, true, false, IsSome, IfErr, OnOk, OnErr, position, length, vec_len, option_copied, option_map};
+ghost use Rattle.opgen_io.specs.Counted.{CountsFetch};
 ghost use Rattle.opgen_io.specs.Fetched.{fetched, IsAnswer};
 ghost use Rattle.opgen_io.specs.Files.{stored};
-ghost use Rattle.opgen_io.specs.Memory.{files_of, is_named, found, folder_fails, sink_fails, called, read_failed, write_failed, after_fetch, after_store, after_put, put_failed};
+ghost use Rattle.opgen_io.specs.Memory.{files_of, is_named, found, fetch_counts, folder_fails, sink_fails, called, read_failed, write_failed, after_fetch, after_store, after_put, put_failed};
 
 use crate::calls::Calls;
 use crate::counts::raise;
@@ -116,6 +117,7 @@ impl Folder for MemoryFolder {
             IsAnswer result (fetched (found self.old.files name.now) most) }
         ensures counted { folder_fails self.old ≡ false →
             self.new ≡ after_fetch (fetched (found self.old.files name.now) most) self.old }
+        ensures counts { CountsFetch result (fetch_counts self.old) (fetch_counts self.new) }
     {
         if self.calls.next_fails() {
             raise(&mut self.read_faults);
@@ -202,6 +204,8 @@ impl MemorySink {
 
 impl Sink for MemorySink {
     ghost taken = { λ s. Some s.bytes };
+
+    ghost puts = { λ s. s.calls };
 
     ghost faults = { λ s. s.faults };
 

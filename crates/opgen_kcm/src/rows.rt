@@ -92,7 +92,7 @@ fn add_chunk(
 ///
 /// The node is cut into chunks of six bits, the last of which is signed where the node is. Each
 /// chunk addresses a table of its digits' multiples, rounded to whole units. The tables are nodes of
-/// the net, and their bits and a constant stand in the heap. After want of memory the net is valid,
+/// the net, and their bits and a constant stand in the heap. If memory runs out, the net is valid,
 /// and some of the tables stand in it.
 pub fn rows_of(
     alloc: Global,

@@ -18,6 +18,7 @@ use crate::registers::hand_all_on;
 use crate::words::write;
 use opgen_design::{Design, Signal};
 use opgen_num::{Memory, Word};
+use opgen_runs::evaluation_order;
 use std::alloc::{AllocError, Global};
 use std::marker::Model;
 use std::mem;
@@ -91,12 +92,12 @@ fn initial_words(alloc: Global, signals: &[Signal]) -> Result<Bank, AllocError>
 
 // An order of the drivers, the words before the first cycle, and room for the registers' next words.
 fn begin(alloc: Global, design: &Design) -> Result<(Vec<usize>, Banks, Bank), Memory>
-    requires sound { IsSound design.now }
-    requires numbers { HasNumbers design.now }
+    requires { IsSound design.now }
+    ensures numbers { IfOk result (λ b. HasNumbers design.now) }
     ensures ready { IfOk result (λ b. IsReady design.now b.0.items b.1.signals b.1.ports b.2) }
     ensures registers { IfOk result (λ b. (k : ℕ) → k < streams → SameRegisters design.now (words_in (signal_widths design.now) b.1.signals.vectors.items k) (initial_words design.now.signals)) }
 {
-    let order = design.order(alloc)?;
+    let order = evaluation_order(alloc, design)?;
     let signals = initial_words(alloc, design.signals.as_slice())?;
     let next = initial_words(alloc, design.signals.as_slice())?;
     let widths = port_widths(alloc, design.ports.as_slice())?;
@@ -121,10 +122,12 @@ fn run_cycle(design: &Design, order: &[usize], banks: &mut Banks, next: &mut Ban
 
 impl Lanes {
     /// All streams before the first cycle of a sound design, which the lanes keep, with all the room that their steps use.
+    ///
+    /// A design of 2^32 or more ports, signals and drivers together is answered by `Memory`.
     pub fn from_design(alloc: Global, design: Design) -> Result<Lanes, Memory>
-        requires sound { IsSound design }
-        requires numbers { HasNumbers design }
-        ensures { IfOk result (λ l. AreNew design l) }
+        requires { IsSound design }
+        ensures new { IfOk result (λ l. AreNew design l) }
+        ensures numbers { IfOk result (λ l. HasNumbers design) }
     {
         let (order, banks, next) = begin(alloc, &design)?;
         Ok(Lanes {
@@ -137,9 +140,9 @@ impl Lanes {
 
     /// The same of a copy of a design.
     pub fn new(alloc: Global, design: &Design) -> Result<Lanes, Memory>
-        requires sound { IsSound design.now }
-        requires numbers { HasNumbers design.now }
-        ensures { IfOk result (λ l. AreNew design.now l) }
+        requires { IsSound design.now }
+        ensures new { IfOk result (λ l. AreNew design.now l) }
+        ensures numbers { IfOk result (λ l. HasNumbers design.now) }
     {
         Lanes::from_design(alloc, design.copy(alloc)?)
     }

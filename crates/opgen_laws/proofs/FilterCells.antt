@@ -13,13 +13,14 @@ use Rattle.opgen_design.specs.declared.design.Design.{Design}
 use Rattle.opgen_design.specs.Run.{Words, Cycle, RunsOn, at_ports, is_out, input_widths, output_widths, words_at_outputs}
 use Rattle.opgen_design.specs.Value.{word_at}
 use Rattle.opgen_net.specs.Flow.{input_from}
-use Rattle.opgen_operator.specs.declared.spec.PortFormat.{PortFormat}
-use Rattle.opgen_operator.specs.declared.spec.Sum.{Sum}
-use Rattle.opgen_operator.specs.Exact.{Recent, exact_sum, weighted_from}
+use Rattle.opgen_operator.specs.declared.kinds.sum.Sum.{Sum}
+use Rattle.opgen_operator.specs.declared.ports.PortFormat.{PortFormat}
 use Rattle.opgen_operator.specs.Good.{IsGoodRatio}
+use Rattle.opgen_operator.specs.kinds.Sum.{exact_sum, sum_shift, sum_format}
 use Rattle.opgen_operator.specs.PortNumbers.{recent_words, recent_numbers, output_words, output_numbers}
-use Rattle.opgen_operator.specs.Outputs.{sum_shift, up, down}
-use Rattle.opgen_operator.specs.Ports.{one_input, port, sum_format}
+use Rattle.opgen_operator.specs.Ports.{one_input, port}
+use Rattle.opgen_operator.specs.Recent.{Recent, weighted_from}
+use Rattle.opgen_operator.specs.Shifts.{up, down}
 use Rattle.opgen_runs.specs.Rows.{output_cells, rows_words}
 use Rattle.opgen_runs.proofs.Rows.{at_ports-map}
 

@@ -5,14 +5,17 @@ use Rattle.std.proofs.lemmas.List.Elements.{All-cons, All-nil}
 use Rattle.opgen_num.proofs.RowsOfCells.{length-rows_of_cells}
 use Rattle.opgen_design.specs.declared.design.Design.{Design}
 use Rattle.opgen_design.specs.Run.{at_ports, is_in, is_out, initial_words, input_widths, output_widths}
-use Rattle.opgen_operator.specs.Ports.{inputs_of, port, sum_format}
+use Rattle.opgen_operator.specs.kinds.Sum.{sum_format}
+use Rattle.opgen_operator.specs.Operator.{divisor, inputs_of}
+use Rattle.opgen_operator.specs.Ports.{port}
 use Rattle.opgen_target.specs.Delays.{Delays}
 use Rattle.opgen_vec.proofs.Draws.{rows_fit}
 use Rattle.opgen_workload.specs.Filter.{workload_spec, workload_sum}
 use Rattle.opgen_workload.specs.Judged.{IsGoodCycle}
 use Rattle.opgen_workload.proofs.Counting.{all_count, one_count}
 use Rattle.opgen_top.specs.Answer.{Answer}
-use Rattle.opgen_top.specs.Circuit.{CircuitsServe, Serves}
+use Rattle.opgen_top.specs.Circuit.{CircuitsServe}
+use Rattle.opgen_top.specs.Serves.{Serves}
 use Rattle.opgen_runs.specs.Rows.{rows_words}
 use Rattle.opgen_top.specs.Workload.{IsWorked, cycles, workload_cells}
 use Rattle.opgen_laws.proofs.FilterCells.{good_cells}
@@ -33,7 +36,7 @@ length-cells n =
     let spec = workload_spec n in
     let input = (workload_sum n).input in
     let bit : 1 ≤ input.width = omega arith in
-    let fit = rows_fit spec.op (inputs_of spec) cycles n
+    let fit = rows_fit (divisor spec.op) (inputs_of spec) cycles n
     (All-cons (λ port. 1 ≤ port.format.width) (port (codes "x") input) [] bit (All-nil (λ port. 1 ≤ port.format.width))) in
     length-rows_of_cells (input.width ∷ []) (workload_cells n) cycles fit
 

@@ -17,15 +17,17 @@ use Rattle.opgen_part_laws.proofs.Classical.{decided}
 use Rattle.opgen_part_laws.proofs.SomeNet.{several_net, some_least_graph}
 use Rattle.opgen_laws.proofs.ProductNets.{product_net}
 use Rattle.opgen_net.specs.declared.net.Net.{Net}
-use Rattle.opgen_operator.specs.declared.spec.Operator.{Operator}
-use Rattle.opgen_operator.specs.declared.spec.Operator.TheVariants.{Scale, Fir, Multiply, Divide, Root, Mcm, Constdiv, Poly, Tfir}
+use Rattle.opgen_operator.specs.declared.operator.Operator.{Operator}
+use Rattle.opgen_operator.specs.declared.operator.Operator.TheVariants.{Scale, Fir, Multiply, Divide, Root, Mcm, Constdiv, Poly, Tfir}
 use Rattle.opgen_operator.specs.declared.spec.Spec.{Spec}
-use Rattle.opgen_operator.specs.Bounded.{OutputsAreWide, ProductsHaveWidth}
+use Rattle.opgen_operator.specs.Bounded.{OutputsAreWide}
 use Rattle.opgen_operator.specs.Fits.{FitsSpecsOf}
 use Rattle.opgen_operator.specs.Held.{OutputsHold}
-use Rattle.opgen_operator.specs.Ports.{inputs_of}
+use Rattle.opgen_operator.specs.kinds.Product.{ProductsHaveWidth}
+use Rattle.opgen_operator.specs.Operator.{divisor, inputs_of}
 use Rattle.opgen_operator.specs.Valid.{IsValidSpec}
 use Rattle.opgen_operator.proofs.Accepted.{accepted_ranges}
+use Rattle.opgen_operator.proofs.Operators.{input_bits}
 use Rattle.opgen_pipe.specs.declared.planning.Planned.{Planned}
 use Rattle.opgen_pipe.specs.Cells.{classes, design_cells, need}
 use Rattle.opgen_pipe.specs.Copies.{net_latency}
@@ -48,14 +50,14 @@ use Rattle.opgen_tfir.proofs.Filters as filters
 use Rattle.opgen_target.specs.Ledger.{width_sum}
 use Rattle.opgen_vec.specs.Stimulus.{stimulus_cells}
 use Rattle.opgen_vec.specs.Writing.{rows_text}
-use Rattle.opgen_operator.proofs.InputPorts.{input_bits}
 use Rattle.opgen_vec.proofs.Draws.{rows_fit}
 use Rattle.opgen_vhdl.specs.DesignText.{text_of}
 use Rattle.opgen_workload.specs.Filter.{workload_spec}
 use Rattle.opgen_workload.specs.Judged.{Counts, IsGoodCycle}
 use Rattle.opgen_workload.proofs.Valid.{workload_valid}
 use Rattle.opgen_top.specs.Answer.{Answer, not_adjustable, period_too_short, refused, too_large, unknown_target, worked, wrote, wrote_vectors}
-use Rattle.opgen_top.specs.Circuit.{CircuitsServe, IsCircuit, Serves, signals_of}
+use Rattle.opgen_top.specs.Circuit.{CircuitsServe, IsCircuit, signals_of}
+use Rattle.opgen_top.specs.Serves.{Serves}
 use Rattle.opgen_top.specs.Kinds.{AreAddersOf, AreAddersOfOperator, IsFittingNet, IsNetOfOperator}
 use Rattle.opgen_runs.specs.Rows.{IsRunOf, output_cells, rows_words}
 use Rattle.opgen_top.specs.Specified.{IsAnswerToSpec, IsGenerated, IsVectors, OnLines, OnReading, OnTable, OnTarget}
@@ -151,7 +153,7 @@ some_run spec valid latency d serves seed count =
     let ws = input_widths d in
     let fit : AreRowsOfCells ws count cells =
     subst (λ ks. AreRowsOfCells ks count cells) (sym (served_widths spec d serves.ports))
-    (rows_fit spec.op (inputs_of spec) count seed (input_bits spec.op valid.op.ranges)) in
+    (rows_fit (divisor spec.op) (inputs_of spec) count seed (input_bits spec.op valid.op.ranges)) in
     let run = serves.runs (rows_words ws count cells) (rows_words-widths ws count cells (omega (arith, length-rows_of_cells ws cells count fit))) in
     (concat (map (output_cells d) run.0), record { words = run.0; runs = run.1; outputs_are = refl })
 

@@ -9,13 +9,13 @@ use Rattle.opgen_vec.specs.declared.TheConstants.{MAX_ROWS}
 use Rattle.opgen_vec.specs.declared.fault.VecFault.{VecFault}
 use Rattle.opgen_vec.specs.declared.fault.VecFault.TheVariants as faults
 use Rattle.opgen_vec.specs.Digits.{row_cells}
-use Rattle.opgen_vec.specs.Reading.{IsRow, AreRows, AreGood, IsBad, IsReading}
+use Rattle.opgen_vec.specs.Reading.{IsRow, AreRows, AreAllRows, IsBad, IsReading}
 use Rattle.opgen_vec.proofs.RowTexts.{bad-line, row-row_cells}
 
 -- the first lines are rows, or one of them is the first that is none
 abbrev AreGoodOrBad : (widths : List ℕ) (most : ℕ) (lines : List (List ℕ)) → Type 0
 AreGoodOrBad widths most lines =
-    AreGood widths (take most lines) ⊎ ((n : ℕ) × (n < most) × AreGood widths (take n lines) × IsSomeAnd (slice_get lines n) (IsBad widths))
+    AreAllRows widths (take most lines) ⊎ ((n : ℕ) × (n < most) × AreAllRows widths (take n lines) × IsSomeAnd (slice_get lines n) (IsBad widths))
 
 row_before : (widths cells others line : List ℕ) (lines : List (List ℕ)) → IsRow widths cells line → AreRows widths others lines
     → AreRows widths (cells ++ others) (line ∷ lines)
@@ -53,7 +53,7 @@ module _ (widths : List ℕ) (lines : List (List ℕ)) where
         record {
           counted = omega arith;
           few = omega (arith, l);
-          good = subst (λ k. AreGood widths (take k lines)) place good;
+          good = subst (λ k. AreAllRows widths (take k lines)) place good;
           bad = subst (λ k. IsSomeAnd (slice_get lines k) (IsBad widths)) place bad;
         },
       )

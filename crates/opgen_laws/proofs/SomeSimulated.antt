@@ -13,7 +13,7 @@ use Rattle.opgen_read.specs.Answer.{IsWithinLimits, IsReadFault}
 use Rattle.opgen_vec.specs.declared.fault.VecFault.{VecFault}
 use Rattle.opgen_vec.specs.Reading.{IsReading}
 use Rattle.opgen_vec.proofs.Rows.{rows-of_cells}
-use Rattle.opgen_laws.specs.Verdict.{IsJudged}
+use Rattle.opgen_laws.specs.Verdict.{IsSoundOrFails}
 use Rattle.opgen_part_laws.proofs.Classical.{decided}
 use Rattle.opgen_laws.proofs.Verdict.{has_verdict}
 use Rattle.opgen_top.specs.Answer.{Answer, simulated, vhdl_refused, vectors_refused}
@@ -27,7 +27,7 @@ module _ (text vectors : List ℕ) (by_cause : (fault : ReadFault) → fault ≢
   where
     by_names : (r : Reading) → Statements text r → IsWithinLimits r.design → (agrees : Bool) → r.agrees ≡ agrees → ⊥
     by_names r s within false e = by_cause (read.Unsound 1 0) (λ f. cc) (r, s, within, inl (e, refl, refl))
-    by_names r s within true e = has_verdict r.design (λ (v : IsJudged r.design). elim v [
+    by_names r s within true e = has_verdict r.design (λ (v : IsSoundOrFails r.design). elim v [
       | inl sound ↦
           let given = some_reading (input_widths r.design) (lines vectors) in
           by_rows r.design (record {

@@ -39,16 +39,14 @@ use Rattle.opgen_net.proofs.Appending.{valid-append, valid-output}
 use Rattle.opgen_net.proofs.FlowLaws.{length-widths}
 use Rattle.opgen_net.proofs.Grown.{grown-then}
 use Rattle.opgen_net.proofs.Later.{words-grown}
-use Rattle.opgen_operator.specs.declared.spec.Operator.TheVariants.{Fir}
-use Rattle.opgen_operator.specs.declared.spec.Sum.{Sum}
-use Rattle.opgen_operator.specs.Accepted.{IsAcceptedSum}
+use Rattle.opgen_operator.specs.declared.kinds.sum.Sum.{Sum}
+use Rattle.opgen_operator.specs.declared.operator.Operator.TheVariants.{Fir}
 use Rattle.opgen_operator.specs.Fits.{FitsSpecsOfSum}
 use Rattle.opgen_operator.specs.Held.{OutputsHold}
-use Rattle.opgen_operator.specs.Outputs.{guard_bits, sum_places}
-use Rattle.opgen_operator.specs.Ports.{sum_format}
-use Rattle.opgen_operator.specs.Ranges.{IsSum}
-use Rattle.opgen_operator.proofs.Accepted.{accepted_ranges, accepted_width, some_width}
+use Rattle.opgen_operator.specs.kinds.Sum.{IsAcceptedSum, guard_bits, sum_places, sum_format, IsSum}
+use Rattle.opgen_operator.proofs.Accepted.{accepted_ranges, accepted_width}
 use Rattle.opgen_operator.proofs.InputPorts.{input_bit}
+use Rattle.opgen_operator.proofs.Widths.{some_width}
 use Rattle.opgen_compress.proofs.Compressing.{IsCompressed, compressed-is}
 use Rattle.opgen_compress.proofs.Heaps.{IsHeap, constant-heap}
 use Rattle.opgen_laws.proofs.SumTables.{AreRows, all-rows}

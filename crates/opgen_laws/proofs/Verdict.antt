@@ -6,7 +6,7 @@ use Rattle.opgen_design.specs.Rules.{FailsFirst}
 use Rattle.opgen_design.specs.declared.sound.Rule.{Rule}
 use Rattle.opgen_design.specs.declared.sound.Rule.TheVariants.{Undeclared, DeclaredTwice, Width, DrivenTwice, NotDriven, Cyclic, ReadsOutput, NoInitial, ChoiceTwice, BadEnable}
 use Rattle.opgen_design.specs.Sound.{rule_number, Holds}
-use Rattle.opgen_laws.specs.Verdict.{IsJudged, HasVerdict}
+use Rattle.opgen_laws.specs.Verdict.{IsSoundOrFails, EachIsSoundOrFails}
 use Rattle.opgen_laws.proofs.FirstPlaces.{judged}
 use Rattle.opgen_laws.proofs.Numbering.{ordered}
 
@@ -44,7 +44,7 @@ from_one r l =
 abbrev HoldBefore : Design → ℕ → Type 0
 HoldBefore d n = (r : Rule) → rule_number r < n → Holds d r
 
-module _ (d : Design) (neither : IsJudged d → ⊥) where
+module _ (d : Design) (neither : IsSoundOrFails d → ⊥) where
   by_rule : (r : Rule) → HoldBefore d (rule_number r) → (HoldBefore d (suc (rule_number r)) → ⊥) → ⊥
   by_rule r earlier later = judged d r (λ (v : Holds d r ⊎ ((number : ℕ) × FailsFirst d r number)). elim v [
     | inl h ↦ later (λ q l. elim (cases_eq (rule_number q) (rule_number r)) [
@@ -82,5 +82,5 @@ module _ (d : Design) (neither : IsJudged d → ⊥) where
       by_rule ChoiceTwice h (λ h.
       by_rule BadEnable h by_order)))))))))
 
-pub has_verdict : HasVerdict
+pub has_verdict : EachIsSoundOrFails
 has_verdict d neither = in_order d neither

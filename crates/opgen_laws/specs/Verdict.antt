@@ -5,9 +5,9 @@ use Rattle.opgen_design.specs.declared.sound.Rule.{Rule}
 use Rattle.opgen_design.specs.Sound.{IsSound, IsFirstUnsound}
 
 -- it is sound, or a rule is the first that fails, with the number of the first place at which it does
-abbrev pub IsJudged : Design → Type 0
-IsJudged d = IsSound d ⊎ ((rule : Rule) × (number : ℕ) × IsFirstUnsound d rule number)
+abbrev pub IsSoundOrFails : Design → Type 0
+IsSoundOrFails d = IsSound d ⊎ ((rule : Rule) × (number : ℕ) × IsFirstUnsound d rule number)
 
 -- that neither holds of a design is impossible
-abbrev pub HasVerdict : Type 0
-HasVerdict = (d : Design) → (IsJudged d → ⊥) → ⊥
+abbrev pub EachIsSoundOrFails : Type 0
+EachIsSoundOrFails = (d : Design) → (IsSoundOrFails d → ⊥) → ⊥

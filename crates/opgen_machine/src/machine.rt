@@ -3,7 +3,7 @@ ghost use Rattle.std.specs.Prelude.{◌≡◌, ◌+◌, ◌<◌, ◌≤◌, ◌^
 ghost use Rattle.opgen_design.specs.declared.design.Design.{Design};
 ghost use Rattle.opgen_design.specs.Order.{IsOrderOf};
 ghost use Rattle.opgen_design.specs.Run.{initial_words};
-ghost use Rattle.opgen_design.specs.Sound.{HasNumbers, IsSound};
+ghost use Rattle.opgen_design.specs.Sound.{IsSound};
 ghost use Rattle.opgen_runs.specs.Registers.{SameRegisters};
 ghost use Rattle.opgen_machine.specs.Laid.{IsFlat};
 ghost use Rattle.opgen_machine.specs.Layout.{start_of};
@@ -41,7 +41,6 @@ fn push_zeros(memory: &mut Vec<u64>, count: usize) -> Result<(), AllocError>
 // The numbers before the first cycle: those of the initial words, and zeros at the ports.
 fn start(alloc: Global, design: &Design) -> Result<Vec<u64>, AllocError>
     requires sound { IsSound design.now }
-    requires numbers { HasNumbers design.now }
     requires flat { IsFlat design.now }
     ensures { IfOk result (λ v. v.items ≡ start_of design.now) }
 {
@@ -78,7 +77,6 @@ impl Machine {
     /// `order` is an order of evaluation, as [`Design::order`] finds it.
     pub fn new(alloc: Global, design: &Design, order: &[usize]) -> Result<Machine, AllocError>
         requires sound { IsSound design.now }
-        requires numbers { HasNumbers design.now }
         requires order { IsOrderOf design.now order.now }
         requires flat { IsFlat design.now }
         ensures machine { IfOk result (λ c. IsMachineOf design.now c) }

@@ -2,7 +2,7 @@
 ghost use Rattle.std.specs.Prelude.{◌≡◌, ◌<◌, ◌^◌, IfOk};
 ghost use Rattle.std.specs.List.{AllZip};
 ghost use Rattle.opgen_design.specs.Order.{IsOrderOf};
-ghost use Rattle.opgen_design.specs.Sound.{HasNumbers, IsSound};
+ghost use Rattle.opgen_design.specs.Sound.{IsSound};
 ghost use Rattle.opgen_machine.specs.Laid.{HasRoom, IsFlat};
 ghost use Rattle.opgen_machine.specs.Layout.{first_spots, rest_of, spots_of};
 ghost use Rattle.opgen_machine.specs.Machines.{IsProgramOf};
@@ -63,7 +63,6 @@ pub(crate) fn compile(
     tables: &[usize],
 ) -> Result<Program, AllocError>
     requires sound { IsSound design.now }
-    requires numbers { HasNumbers design.now }
     requires order { IsOrderOf design.now order.now }
     requires flat { IsFlat design.now }
     requires base { base < 2 ^ 63 }

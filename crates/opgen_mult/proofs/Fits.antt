@@ -11,15 +11,13 @@ use Rattle.opgen_num.proofs.Values.{val_holds}
 use Rattle.opgen_budget.specs.Columns.{weight_below}
 use Rattle.opgen_budget.proofs.Weights.{weight_below-zero}
 use Rattle.opgen_design.specs.Value.{cut}
-use Rattle.opgen_operator.specs.declared.spec.Operator.TheVariants.{Multiply}
-use Rattle.opgen_operator.specs.declared.spec.Product.{Product}
-use Rattle.opgen_operator.specs.Accepted.{IsAcceptedProduct}
-use Rattle.opgen_operator.specs.Exact.{exact_product}
+use Rattle.opgen_operator.specs.declared.kinds.product.Product.{Product}
+use Rattle.opgen_operator.specs.declared.operator.Operator.TheVariants.{Multiply}
 use Rattle.opgen_operator.specs.Good.{IsGoodRatio}
 use Rattle.opgen_operator.specs.Held.{OutputsHold}
-use Rattle.opgen_operator.specs.Outputs.{product_shift, places_up, places_down, inexact}
-use Rattle.opgen_operator.specs.Ports.{product_format}
-use Rattle.opgen_operator.specs.Ranges.{IsProduct}
+use Rattle.opgen_operator.specs.kinds.Product.{IsAcceptedProduct, exact_product, product_shift, product_format, IsProduct}
+use Rattle.opgen_operator.specs.Operator.{inexact}
+use Rattle.opgen_operator.specs.Shifts.{places_up, places_down}
 use Rattle.opgen_operator.proofs.Accepted.{accepted_ranges}
 use Rattle.opgen_partial.proofs.Laws.{IsRounded}
 use Rattle.opgen_mult.specs.Recipe.{IsLeftOut, bits_below, zeros_below, heap_width, pairs, rounding}

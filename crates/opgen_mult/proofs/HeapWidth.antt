@@ -3,13 +3,13 @@ use Rattle.std.proofs.Common.{◌≡◌, ℕ, ◌+◌, ◌-◌, ◌≤◌, refl,
 use Rattle.std.specs.Prelude.{ℤ, pos, negsuc, ◌≤ℤ◌}
 use Rattle.std.proofs.lemmas.Int.{ints}
 use Rattle.opgen_num.specs.declared.TheConstants.{MAX_WIDTH}
-use Rattle.opgen_operator.specs.declared.spec.Operator.TheVariants.{Multiply}
-use Rattle.opgen_operator.specs.declared.spec.Product.{Product}
-use Rattle.opgen_operator.specs.Accepted.{IsAcceptedProduct}
-use Rattle.opgen_operator.specs.Bounded.{ProductsHaveWidth}
-use Rattle.opgen_operator.specs.Outputs.{product_shift, product_reach, product_places, width_of, places_up, places_down}
-use Rattle.opgen_operator.specs.Ports.{product_format}
-use Rattle.opgen_operator.proofs.Accepted.{accepted_ranges, accepted_width, some_width}
+use Rattle.opgen_operator.specs.declared.kinds.product.Product.{Product}
+use Rattle.opgen_operator.specs.declared.operator.Operator.TheVariants.{Multiply}
+use Rattle.opgen_operator.specs.kinds.Product.{IsAcceptedProduct, ProductsHaveWidth, product_shift, product_reach, product_places, product_format}
+use Rattle.opgen_operator.specs.Reaches.{width_of}
+use Rattle.opgen_operator.specs.Shifts.{places_up, places_down}
+use Rattle.opgen_operator.proofs.Accepted.{accepted_ranges, accepted_width}
+use Rattle.opgen_operator.proofs.Widths.{some_width}
 use Rattle.opgen_mult.specs.Recipe.{bits_below}
 
 -- a shift and the widths of the output and of its heap

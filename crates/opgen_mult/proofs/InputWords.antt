@@ -8,9 +8,9 @@ use Rattle.opgen_design.specs.Width.{IsWidth}
 use Rattle.opgen_net.specs.Flow.{Inputs, input_at}
 use Rattle.opgen_net.specs.Valid.{IsValid}
 use Rattle.opgen_net.proofs.FlowWidths.{flow-width}
-use Rattle.opgen_operator.specs.declared.spec.Operator.TheVariants.{Multiply}
-use Rattle.opgen_operator.specs.declared.spec.Product.{Product}
-use Rattle.opgen_operator.specs.Accepted.{IsAcceptedProduct}
+use Rattle.opgen_operator.specs.declared.kinds.product.Product.{Product}
+use Rattle.opgen_operator.specs.declared.operator.Operator.TheVariants.{Multiply}
+use Rattle.opgen_operator.specs.kinds.Product.{IsAcceptedProduct}
 use Rattle.opgen_operator.specs.Ranges.{IsInput}
 use Rattle.opgen_operator.proofs.Accepted.{accepted_ranges}
 use Rattle.opgen_operator.proofs.InputPorts.{input_bit}

@@ -1,8 +1,8 @@
 //! Builds the net of a product: partial products in a bit heap, its compression, and the output.
 ghost use Rattle.std.specs.Prelude.{IfOk};
-ghost use Rattle.opgen_operator.specs.Accepted.{IsAcceptedProduct};
+ghost use Rattle.opgen_operator.specs.declared.operator.Operator.TheVariants.{Multiply};
 ghost use Rattle.opgen_operator.specs.Fits.{FitsSpecsOf};
-ghost use Rattle.opgen_operator.specs.declared.spec.Operator.TheVariants.{Multiply};
+ghost use Rattle.opgen_operator.specs.kinds.Product.{IsAcceptedProduct};
 ghost use Rattle.opgen_mult.specs.Recipe.{IsNetOfProduct};
 
 use crate::factors::products;

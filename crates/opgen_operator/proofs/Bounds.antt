@@ -1,13 +1,13 @@
 -- Bounds of products and widths.
-use Rattle.std.proofs.Common.{◌≡◌, ℕ, zero, suc, ap, ◌+◌, ◌*◌, ◌/◌, ◌%◌, ◌^◌, ◌≤◌, ◌<◌, max, min, arith}
-use Rattle.std.specs.Prelude.{ℤ, pos, negsuc, neg_ℤ, ◌≤ℤ◌, unsigned_abs}
-use Rattle.std.proofs.Math.Nat.{mul-le-mul_left, mul-le-mul_right, div-le_self, two-pow-succ}
-use Rattle.std.proofs.lemmas.Nat.{pow-add}
+use Rattle.std.proofs.Common.{◌≡◌, ℕ, ◌+◌, ◌*◌, ◌^◌, ◌≤◌, arith, ◌<◌, suc, ap, ◌/◌, ◌%◌, min, zero, max}
 use Rattle.std.proofs.lemmas.Int.{ints}
+use Rattle.std.proofs.lemmas.Nat.{pow-add}
+use Rattle.std.proofs.Math.Nat.{mul-le-mul_left, mul-le-mul_right, two-pow-succ, div-le_self}
+use Rattle.std.specs.Prelude.{ℤ, pos, negsuc, ◌≤ℤ◌, unsigned_abs, neg_ℤ}
 use Rattle.opgen_num.proofs.BitLength.{power_order}
 use Rattle.opgen_num.proofs.RangeWidth.{count-holds, count-least}
 use Rattle.opgen_num.specs.Formats.{digit_count, range_width}
-use Rattle.opgen_operator.specs.Outputs.{places_up, places_down, up}
+use Rattle.opgen_operator.specs.Shifts.{places_up, places_down, up}
 
 pub products : (a b i j : ℕ) → a ≤ 2 ^ i → b ≤ 2 ^ j → a * b ≤ 2 ^ (i + j)
 products a b i j first second =

@@ -1,13 +1,11 @@
 -- The words of one cycle at the ports of an operator.
-use Rattle.std.proofs.Common.{ℕ, ◌≡◌, ◌+◌, ◌-◌, ◌%◌, ◌^◌, ◌≤◌, ◌<◌, Bool, true, false, List, [], ◌∷◌, length, nat_le, ap, ◌∙◌, subst, arith, if◌then◌else◌}
-use Rattle.std.specs.Prelude.{codes, pos, slice_index}
+use Rattle.std.proofs.Common.{ℕ, ◌^◌, ◌<◌, List, [], ◌∷◌, length, arith, Bool, true, false, ◌≡◌, ◌+◌, ◌-◌, ◌%◌, ◌≤◌, subst, nat_le, ap, ◌∙◌, if◌then◌else◌, zero, suc, get_or, refl}
 use Rattle.std.proofs.lemmas.Bool.{le-leb}
+use Rattle.std.specs.Prelude.{slice_index, pos}
 use Rattle.opgen_num.specs.declared.format.Format.{Format}
-use Rattle.opgen_operator.specs.declared.spec.Pair.{Pair}
-use Rattle.opgen_operator.specs.declared.spec.PortFormat.{PortFormat}
-use Rattle.opgen_operator.specs.declared.spec.Single.{Single}
-use Rattle.opgen_operator.specs.PortNumbers.{format_at, number_of, recent_numbers, IsHistory, IsCycle}
-use Rattle.opgen_operator.specs.Ports.{port, two_inputs, with_rest, quotient_ports, root_ports, quotient_format, remainder_format, root_format, rest_format}
+use Rattle.opgen_operator.specs.declared.ports.PortFormat.{PortFormat}
+use Rattle.opgen_operator.specs.PortNumbers.{IsCycle, format_at, IsHistory, number_of, recent_numbers}
+use Rattle.opgen_operator.specs.Ports.{with_rest, two_inputs}
 
 -- of an only output
 pub only_word : (only : PortFormat) (words : List ℕ) → IsCycle (only ∷ []) words
@@ -17,7 +15,7 @@ only_word only words cycle =
     (some, cycle.fit 0 some)
 
 -- of a quotient or root
-main_word : (exact : Bool) (main rest : PortFormat) (words : List ℕ) → IsCycle (with_rest exact main rest) words
+pub main_word : (exact : Bool) (main rest : PortFormat) (words : List ℕ) → IsCycle (with_rest exact main rest) words
     → (0 < length words) × (slice_index words 0 < 2 ^ main.format.width)
 main_word true main rest words cycle =
     let some : 0 < length words = omega (arith, cycle.whole) in
@@ -25,29 +23,12 @@ main_word true main rest words cycle =
 main_word false main rest words cycle = only_word main words cycle
 
 -- and of its remainder
-rest_word : (exact : Bool) (main rest : PortFormat) (words : List ℕ) → exact ≡ true → IsCycle (with_rest exact main rest) words
+pub rest_word : (exact : Bool) (main rest : PortFormat) (words : List ℕ) → exact ≡ true → IsCycle (with_rest exact main rest) words
     → (1 < length words) × (slice_index words 1 < 2 ^ rest.format.width)
 rest_word true main rest words e cycle =
     let both : 1 < length words = omega (arith, cycle.whole) in
     (both, cycle.fit 1 both)
 rest_word false main rest words e cycle = cc
-
-pub quotient_word : (exact : Bool) (p : Pair) (words : List ℕ) → IsCycle (quotient_ports exact p) words
-    → (0 < length words) × (slice_index words 0 < 2 ^ (quotient_format p).width)
-quotient_word exact p words cycle = main_word exact (port (codes "q") (quotient_format p)) (port (codes "r") (remainder_format p)) words cycle
-
-pub remainder_word : (exact : Bool) (p : Pair) (words : List ℕ) → exact ≡ true → IsCycle (quotient_ports exact p) words
-    → (1 < length words) × (slice_index words 1 < 2 ^ (remainder_format p).width)
-remainder_word exact p words e cycle =
-    rest_word exact (port (codes "q") (quotient_format p)) (port (codes "r") (remainder_format p)) words e cycle
-
-pub root_word : (exact : Bool) (r : Single) (words : List ℕ) → IsCycle (root_ports exact r) words
-    → (0 < length words) × (slice_index words 0 < 2 ^ (root_format r).width)
-root_word exact r words cycle = main_word exact (port (codes "y") (root_format r)) (port (codes "r") (rest_format r)) words cycle
-
-pub square_rest_word : (exact : Bool) (r : Single) (words : List ℕ) → exact ≡ true → IsCycle (root_ports exact r) words
-    → (1 < length words) × (slice_index words 1 < 2 ^ (rest_format r).width)
-square_rest_word exact r words e cycle = rest_word exact (port (codes "y") (root_format r)) (port (codes "r") (rest_format r)) words e cycle
 
 -- of two inputs in the last cycle
 last_places : (n : ℕ) → 0 < n → n % 2 ≡ 0 → (2 ≤ n) × ((n - 2) % 2 ≡ 0) × ((n - 2 + 1) % 2 ≡ 1)
@@ -75,3 +56,9 @@ last_numbers a b history words =
           ∙ ap (λ (k : ℕ). number_of a (slice_index history k)) first,
       ap (λ (t : Bool). if t then number_of b (slice_index history (n - 2 + 1)) else pos 0) some,
     )
+
+-- the format of a port that is there is its own
+pub format_at-listed : (ports : List PortFormat) (k : ℕ) (d : PortFormat) → k < length ports → (get_or ports k d).format ≡ format_at ports k
+format_at-listed [] k d h = absurd (omega arith)
+format_at-listed (p ∷ ps) zero d h = refl
+format_at-listed (p ∷ ps) (suc k) d h = format_at-listed ps k d (omega arith)

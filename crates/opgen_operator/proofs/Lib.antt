@@ -1,19 +1,22 @@
-mod Bounds
+-- Lemmas on operators: those of all kinds, and in of_kind those of each.
+pub mod Bounds
 pub mod InputPorts
 pub mod Versions
-mod Magnitudes
-mod WeightedSums
-pub mod Terms
-pub mod Results
-mod Roundings
-pub mod Widths
-mod ProductWidths
-pub mod PortWidths
-pub mod In128
-mod Cycles
-mod Numbered
-pub mod Reached
-mod Held
-pub mod Accepted
+pub mod Magnitudes
+pub mod WeightedSums
+pub mod Roundings
 pub mod Totals
+pub mod Reached
+pub mod Widths
+pub mod Covered
+pub mod In128
+pub mod Cycles
+pub mod Named
+pub mod PortWidths
+pub mod Lawful
+pub mod of_kind
+pub mod Operators
+pub mod Specs
+pub mod Accepted
+pub mod Held
 pub mod PortNames

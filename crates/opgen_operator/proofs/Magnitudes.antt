@@ -1,15 +1,14 @@
 -- Magnitudes of products, and what fits 128 bits.
-use Rattle.std.proofs.Common.{◌≡◌, ℕ, ◌+◌, ◌-◌, ◌*◌, ◌^◌, ◌≤◌, Bool, true, false, FitsSigned, arith}
-use Rattle.std.specs.Prelude.{ℤ, pos, negsuc, ◌*ℤ◌, unsigned_abs}
-use Rattle.std.specs.Int.{w128}
+use Rattle.std.proofs.Common.{◌≡◌, ◌*◌, arith, ℕ, ◌+◌, ◌^◌, ◌≤◌, FitsSigned, ◌-◌, Bool, true, false}
 use Rattle.std.proofs.lemmas.Int.{ints}
 use Rattle.std.proofs.lemmas.Nat.{pow_pos}
+use Rattle.std.specs.Int.{w128}
+use Rattle.std.specs.Prelude.{ℤ, pos, negsuc, ◌*ℤ◌, unsigned_abs}
+use Rattle.opgen_num.proofs.BitLength.{power_order}
 use Rattle.opgen_num.specs.declared.format.Format.{Format}
 use Rattle.opgen_num.specs.Formats.{Holds}
-use Rattle.opgen_operator.specs.declared.spec.Single.{Single}
-use Rattle.opgen_operator.specs.Ranges.{IsInput, IsSingle}
-use Rattle.opgen_operator.specs.Reached.{IsOf}
-use Rattle.opgen_num.proofs.BitLength.{power_order}
+use Rattle.opgen_operator.specs.Ranges.{IsInput}
+use Rattle.opgen_operator.specs.Spans.{IsOf}
 use Rattle.opgen_operator.proofs.Bounds.{products}
 
 pub unsigned_abs-product : (a b : ℤ) → unsigned_abs (a *ℤ b) ≡ unsigned_abs a * unsigned_abs b
@@ -39,9 +38,6 @@ number_small f n fits of = omega (arith, holds_within f.signed f.width n of, pow
 
 pub number_fits : (f : Format) (n : ℤ) → IsInput f → IsOf f n → FitsSigned w128 n
 number_fits f n fits of = fits_small n (omega (arith, number_small f n fits of))
-
-pub root_input_fits : (r : Single) (n : ℤ) → IsSingle r → unsigned_abs n ≤ 2 ^ r.input.width → FitsSigned w128 n
-root_input_fits r n fits small = fits_small n (omega (arith, small, power_order r.input.width 48 fits.input.most))
 
 -- 0 is a number of every format
 zero_held : (signed : Bool) (width : ℕ) → Holds signed width (pos 0)

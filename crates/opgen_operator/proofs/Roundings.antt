@@ -1,9 +1,9 @@
 -- Judging fractions.
-use Rattle.std.proofs.Common.{◌≡◌, ◌≢◌, ℕ, zero, suc, ◌^◌, ◌↔◌, Bool, IsTrue, refl, arith}
-use Rattle.std.specs.Prelude.{ℤ, pos, negsuc, ◌*ℤ◌, ◌<ℤ◌, ◌≤ℤ◌}
+use Rattle.std.proofs.Common.{◌≡◌, ◌↔◌, Bool, IsTrue, ℕ, ◌^◌, arith, ◌≢◌, zero, suc, refl}
 use Rattle.std.proofs.lemmas.Int.{ints}
 use Rattle.std.proofs.lemmas.Nat.{pow_pos}
-use Rattle.opgen_num.specs.Rounding.{IsGoodLinear, IsGoodRoot, IsQuotient, IsRoot}
+use Rattle.std.specs.Prelude.{ℤ, pos, negsuc, ◌*ℤ◌, ◌<ℤ◌, ◌≤ℤ◌}
+use Rattle.opgen_num.specs.Rounding.{IsGoodLinear, IsQuotient, IsRoot, IsGoodRoot}
 use Rattle.opgen_operator.proofs.Bounds.{some_product}
 
 pub good-along : (b exact : Bool) (n n' m m' y y' : ℤ) → n ≡ n' → m ≡ m' → y ≡ y' → (IsTrue b ↔ IsGoodLinear n m y exact)

@@ -1,7 +1,7 @@
 -- Sums of lists.
 use Rattle.std.proofs.Common.{◌≡◌, ℕ, ◌+◌, List, [], ◌∷◌, arith}
-use Rattle.std.specs.Prelude.{fold}
 use Rattle.std.specs.List.{sum}
+use Rattle.std.specs.Prelude.{fold}
 
 fold-start : (a : ℕ) (xs : List ℕ) → fold ◌+◌ a xs ≡ a + fold ◌+◌ 0 xs
 fold-start a [] = omega arith

@@ -1,11 +1,11 @@
 -- Sums of inputs times coefficients.
-use Rattle.std.proofs.Common.{◌≡◌, ℕ, ◌+◌, ◌*◌, ◌^◌, ◌≤◌, ◌<◌, List, length, get_or, drop, ap, ◌∙◌, sym, add-one, drop-cons, arith}
-use Rattle.std.specs.Prelude.{ℤ, pos, ◌+ℤ◌, ◌*ℤ◌, unsigned_abs}
-use Rattle.std.proofs.Math.Nat.{mul-le-mul_right}
+use Rattle.std.proofs.Common.{◌≡◌, ℕ, ◌+◌, ◌<◌, List, length, get_or, drop, ap, ◌∙◌, sym, add-one, drop-cons, arith, ◌*◌, ◌≤◌, ◌^◌}
 use Rattle.std.proofs.lemmas.Int.{ints}
 use Rattle.std.proofs.lemmas.Nat.{pow-add}
+use Rattle.std.proofs.Math.Nat.{mul-le-mul_right}
+use Rattle.std.specs.Prelude.{ℤ, pos, ◌+ℤ◌, ◌*ℤ◌, unsigned_abs}
 use Rattle.opgen_num.proofs.BitLength.{power_order}
-use Rattle.opgen_operator.specs.Exact.{Recent, weighted_from}
+use Rattle.opgen_operator.specs.Recent.{Recent, weighted_from}
 
 -- one more term of a sum
 pub weighted-step : (ago i : ℕ) (coefs : List ℤ) (x : Recent) → i < length coefs

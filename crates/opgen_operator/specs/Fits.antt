@@ -1,17 +1,16 @@
 -- When a net fits an operator or a specification: it is valid, has the operator's ports, and its outputs are good in each cycle.
-use Rattle.std.specs.Prelude.{ℕ, ◌≡◌, ◌<◌, Bool, List, length, map, pos, All}
+use Rattle.std.specs.Prelude.{ℕ, ◌≡◌, Bool, All, ◌<◌, pos, length, List, map}
+use Rattle.opgen_design.specs.Run.{AreWords}
 use Rattle.opgen_net.specs.declared.net.Net.{Net}
 use Rattle.opgen_net.specs.Flow.{Inputs, slice_flow}
-use Rattle.opgen_design.specs.Run.{AreWords}
 use Rattle.opgen_net.specs.Valid.{IsValid, slice_width, input_widths}
-use Rattle.opgen_operator.specs.declared.spec.Operator.{Operator}
-use Rattle.opgen_operator.specs.declared.spec.Operator.TheVariants.{Scale, Fir}
-use Rattle.opgen_operator.specs.declared.spec.PortFormat.{PortFormat}
+use Rattle.opgen_operator.specs.declared.kinds.sum.Sum.{Sum}
+use Rattle.opgen_operator.specs.declared.operator.Operator.{Operator}
+use Rattle.opgen_operator.specs.declared.operator.Operator.TheVariants.{Scale, Fir}
+use Rattle.opgen_operator.specs.declared.ports.PortFormat.{PortFormat}
 use Rattle.opgen_operator.specs.declared.spec.Spec.{Spec}
-use Rattle.opgen_operator.specs.declared.spec.Sum.{Sum}
-use Rattle.opgen_operator.specs.Good.{IsGoodOf, IsInRangeOf}
+use Rattle.opgen_operator.specs.Operator.{operator_inputs, operator_outputs, IsGoodOf, IsInRangeOf}
 use Rattle.opgen_operator.specs.PortNumbers.{recent_words, output_words}
-use Rattle.opgen_operator.specs.Ports.{operator_inputs, operator_outputs}
 use Rattle.opgen_operator.specs.Valid.{IsValidSpec}
 
 abbrev pub name_and_width : PortFormat → List ℕ × ℕ

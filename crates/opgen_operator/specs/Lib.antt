@@ -1,19 +1,23 @@
--- Definitions of opgen_operator: specifications, their ranges and limits, ports, exact values, good outputs, and nets that fit.
+-- Definitions of opgen_operator: specifications, their kinds, ranges and limits, ports, exact values, good outputs, and nets that fit.
 pub mod SpecName
-pub mod Kinds
 pub mod OddParts
-pub mod Horner
-pub mod Outputs
-pub mod Limits
-pub mod Ports
+pub mod Recent
 pub mod Ranges
-pub mod Accepted
-pub mod Valid
-pub mod Exact
+pub mod Shifts
+pub mod Reaches
+pub mod Ports
+pub mod Limits
 pub mod Good
+pub mod Spans
+pub mod In128
+pub mod Meaning
 pub mod PortNumbers
+pub mod Judged
+pub mod Accepted
+pub mod kinds
+pub mod Operator
+pub mod Valid
 pub mod Fits
-pub mod Reached
 pub mod Held
 pub mod Bounded
 pub mod PortNames

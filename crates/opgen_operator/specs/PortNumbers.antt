@@ -1,12 +1,12 @@
 -- The numbers at the ports of a net or design by which a cycle is judged: inputs now and in earlier cycles, and outputs.
-use Rattle.std.specs.Prelude.{ℕ, zero, suc, ◌≡◌, ◌+◌, ◌-◌, ◌*◌, ◌%◌, ◌^◌, ◌<◌, Bool, false, List, [], ◌∷◌, length, slice_index, ℤ, pos, ◌-ℤ◌, nat_le, if◌then◌else◌}
-use Rattle.opgen_num.specs.declared.format.Format.{Format}
-use Rattle.opgen_num.specs.Words.{word}
-use Rattle.opgen_num.specs.Values.{val}
-use Rattle.opgen_net.specs.Flow.{Inputs, input_at}
+use Rattle.std.specs.Prelude.{ℕ, ◌≡◌, Bool, false, ◌+◌, ◌*◌, ◌^◌, ◌<◌, ℤ, pos, length, ◌-◌, List, [], ◌∷◌, if◌then◌else◌, ◌%◌, ◌-ℤ◌, zero, suc, slice_index, nat_le}
 use Rattle.opgen_design.specs.Value.{word_at}
-use Rattle.opgen_operator.specs.declared.spec.PortFormat.{PortFormat}
-use Rattle.opgen_operator.specs.Exact.{Recent}
+use Rattle.opgen_net.specs.Flow.{Inputs, input_at}
+use Rattle.opgen_num.specs.declared.format.Format.{Format}
+use Rattle.opgen_num.specs.Values.{val}
+use Rattle.opgen_num.specs.Words.{word}
+use Rattle.opgen_operator.specs.declared.ports.PortFormat.{PortFormat}
+use Rattle.opgen_operator.specs.Recent.{Recent}
 
 -- the format of a port, of no bits where there is none
 abbrev pub format_at : List PortFormat → (port : ℕ) → Format

@@ -1,12 +1,10 @@
 -- Valid specifications: their fields are within the ranges of their keys and the limits of their version.
-use Rattle.std.specs.Prelude.{◌≡◌, ◌≤◌, Bool, false, IsTrue, length, All, Option, Some, None}
-use Rattle.opgen_operator.specs.declared.spec.Spec.{Spec}
+use Rattle.std.specs.Prelude.{◌≡◌, ◌≤◌, Bool, IsTrue, All, Option, Some, None, length}
+use Rattle.opgen_operator.specs.declared.operator.Operator.{Operator}
 use Rattle.opgen_operator.specs.declared.spec.DelayLine.{DelayLine}
-use Rattle.opgen_operator.specs.declared.spec.Operator.{Operator}
-use Rattle.opgen_operator.specs.declared.spec.Operator.TheVariants.{Scale, Fir, Multiply, Divide, Root, Mcm, Constdiv, Poly, Tfir}
-use Rattle.opgen_operator.specs.Accepted.{IsAcceptedBy, own_mark}
+use Rattle.opgen_operator.specs.declared.spec.Spec.{Spec}
 use Rattle.opgen_operator.specs.Limits.{IsVersion}
-use Rattle.opgen_operator.specs.Outputs.{inexact}
+use Rattle.opgen_operator.specs.Operator.{IsOfFirstVersion, inexact, own_mark, IsAcceptedBy}
 use Rattle.opgen_operator.specs.SpecName.{is_spec_name}
 
 -- the operator's own mark of exact outputs, where it has one, is that of the specification
@@ -16,18 +14,6 @@ AgreesWith exact None = Unit {0}
 
 abbrev pub AgreesOnExact : Bool → Operator → Type 0
 AgreesOnExact exact op = AgreesWith exact (own_mark op)
-
--- version 1 has the first six kinds, without larger counters
-abbrev pub IsOfFirstVersion : Operator → Type 0
-IsOfFirstVersion (Scale s) = s.counters ≡ false
-IsOfFirstVersion (Fir s) = s.counters ≡ false
-IsOfFirstVersion (Multiply p) = p.counters ≡ false
-IsOfFirstVersion (Divide p) = Unit {0}
-IsOfFirstVersion (Root r) = Unit {0}
-IsOfFirstVersion (Mcm m) = Unit {0}
-IsOfFirstVersion (Constdiv c) = ⊥
-IsOfFirstVersion (Poly p) = ⊥
-IsOfFirstVersion (Tfir f) = ⊥
 
 abbrev pub IsDelayLine : DelayLine → Type 0
 IsDelayLine line = (line.base ≤ 1000000) × (line.per_bit ≤ 10000)

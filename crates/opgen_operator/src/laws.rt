@@ -1,8 +1,11 @@
-//! Laws of specifications: output formats hold every exact value, and widths, shifts and exact values are bounded.
-ghost use Rattle.opgen_operator.specs.Bounded.{EntriesAreSmall, InputsAreWide, OutputsAreWide, ProductsHaveWidth};
+//! Laws of specifications: which values output formats hold, and that widths, shifts and exact values are bounded.
+ghost use Rattle.opgen_operator.specs.Bounded.{InputsAreWide, OutputsAreWide};
 ghost use Rattle.opgen_operator.specs.Held.{OutputsHold};
+ghost use Rattle.opgen_operator.specs.kinds.Product.{ProductsHaveWidth};
+ghost use Rattle.opgen_operator.specs.kinds.Sum.{EntriesAreSmall};
 
-/// The formats of outputs hold every exact value, rounded down or up, but of roots rounded down.
+/// The formats of outputs hold sums, products and quotients rounded down or up, multiples and whole
+/// sums, remainders, and roots and quotients by small constants rounded down.
 pub fn outputs_hold()
     ensures { OutputsHold }
 {}

@@ -1,7 +1,15 @@
-//! Specifications as types: the operator with its fields, the target, the period and the delay lines.
+//! Specifications as types: operator, target, period and delay lines; their ports, and when outputs are good.
+ghost use Rattle.std.specs.Prelude.{◌≡◌, IfOk, ◌↔◌, IsTrue};
+ghost use Rattle.opgen_operator.specs.Operator.{inputs_of, outputs_of, IsGood, IsInRange};
+ghost use Rattle.opgen_operator.specs.PortNumbers.{recent_numbers, output_numbers, IsHistory, IsCycle};
+ghost use Rattle.opgen_operator.specs.Valid.{IsValidSpec};
+
+use crate::operator::Operator;
+use crate::ports::PortFormat;
 use opgen_list::{Items, Text};
 use opgen_net::Class;
-use opgen_num::Format;
+use opgen_num::Memory;
+use std::alloc::Global;
 
 /// What is to be built: an operator, and for which target.
 #[derive(Drop)]
@@ -28,102 +36,36 @@ pub struct DelayLine {
     pub per_bit: u32,
 }
 
-/// An operator of one of the kinds.
-#[derive(Drop)]
-pub enum Operator {
-    /// One input times a constant.
-    Scale(Sum),
-    /// A filter of finite response: the sum of the last inputs, each times a constant.
-    Fir(Sum),
-    Multiply(Product),
-    Divide(Pair),
-    /// The square root.
-    Root(Single),
-    /// One input times several constants, with an output for each.
-    Mcm(Several),
-    /// One input divided by a small constant.
-    Constdiv(SmallDiv),
-    /// A polynomial of one input.
-    Poly(Poly),
-    /// A filter of whole coefficients in transposed form.
-    Tfir(Taps),
-}
+impl Spec {
+    /// The input ports, in order.
+    pub fn inputs(&self, alloc: Global) -> Result<Vec<PortFormat>, Memory>
+        requires { IsValidSpec self.now }
+        ensures { IfOk result (λ ports. ports.items ≡ inputs_of self.now) }
+    {
+        Ok(self.op.inputs(alloc)?)
+    }
 
-/// A sum of the last inputs times `coefs`, over the common denominator `den`.
-#[derive(Drop)]
-pub struct Sum {
-    pub input: Format,
-    pub out_lsb: i32,
-    pub coefs: Items<i64>,
-    pub den: i64,
-    pub exact: bool,
-    /// Whether larger counters go before the compression of the heap.
-    pub counters: bool,
-}
+    /// The output ports, in order. A remainder comes last.
+    pub fn outputs(&self, alloc: Global) -> Result<Vec<PortFormat>, Memory>
+        requires { IsValidSpec self.now }
+        ensures { IfOk result (λ ports. ports.items ≡ outputs_of self.now) }
+    {
+        Ok(self.op.outputs(alloc)?)
+    }
 
-#[derive(Clone, Copy, Debug, PartialEq, Eq)]
-pub struct Product {
-    pub a: Format,
-    pub b: Format,
-    pub out_lsb: i32,
-    /// Whether larger counters go before the compression of the heap.
-    pub counters: bool,
-}
-
-/// The dividend `a` and the divisor `b`.
-#[derive(Clone, Copy, Debug, PartialEq, Eq)]
-pub struct Pair {
-    pub a: Format,
-    pub b: Format,
-    pub out_lsb: i32,
-    pub exact: bool,
-}
-
-#[derive(Clone, Copy, Debug, PartialEq, Eq)]
-pub struct Single {
-    pub input: Format,
-    pub out_lsb: i32,
-    pub exact: bool,
-}
-
-#[derive(Drop)]
-pub struct Several {
-    pub input: Format,
-    pub constants: Items<i64>,
-    /// How many odd numbers beside those of the constants the adder graph may make.
-    pub extra: u32,
-}
-
-/// An unsigned input, and the constant by which it is divided.
-#[derive(Clone, Copy, Debug, PartialEq, Eq)]
-pub struct SmallDiv {
-    pub input: Format,
-    pub divisor: u32,
-    pub exact: bool,
-}
-
-/// The sum of `coefs` times powers of an unsigned input below 1, the constant one first, over the
-/// common denominator `den`.
-#[derive(Drop)]
-pub struct Poly {
-    pub input: Format,
-    pub out_lsb: i32,
-    pub coefs: Items<i64>,
-    pub den: i64,
-}
-
-/// The sum of the last inputs times `taps`.
-#[derive(Drop)]
-pub struct Taps {
-    pub input: Format,
-    pub taps: Items<i64>,
-    /// How many odd numbers beside those of the taps the adder graph may make.
-    pub extra: u32,
-}
-
-/// A port of an operator.
-#[derive(Drop)]
-pub struct PortFormat {
-    pub name: Text,
-    pub format: Format,
+    /// Whether the outputs of a cycle are good, or its inputs are out of range.
+    ///
+    /// `history` has the words of all input ports in cycle 0, then those of the cycle after, and so
+    /// on up to the cycle that is judged; `outputs` has the words of that cycle's output ports.
+    pub fn good(&self, history: &[u128], outputs: &[u128]) -> bool
+        requires valid { IsValidSpec self.now }
+        requires history { IsHistory (inputs_of self.now) history.now }
+        requires outputs { IsCycle (outputs_of self.now) outputs.now }
+        ensures in_range { IsInRange self.now (recent_numbers (inputs_of self.now) history.now) →
+            (IsTrue result ↔ IsGood self.now (recent_numbers (inputs_of self.now) history.now)
+            (output_numbers (outputs_of self.now) outputs.now)) }
+        ensures out_of_range { ¬ IsInRange self.now (recent_numbers (inputs_of self.now) history.now) → IsTrue result }
+    {
+        self.op.judge(self.exact, history, outputs)
+    }
 }

@@ -2,7 +2,7 @@
 ghost use Rattle.std.specs.Prelude.{ℕ, ◌≡◌, ◌<◌, ◌%◌, ◌^◌, ◌↔◌, length, IsTrue};
 ghost use Rattle.opgen_operator.specs.PortNumbers.{format_at, IsHistory, IsCycle};
 
-use crate::spec::PortFormat;
+use crate::ports::PortFormat;
 use opgen_num::Format;
 
 /// Whether the words are those of whole cycles, of one at least: all ports of cycle 0 first, each

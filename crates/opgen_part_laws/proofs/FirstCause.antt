@@ -83,7 +83,7 @@ fail_at bytes q r m i n j s t f g =
     let (a, b) = one_failure r m i n j (subst (λ x. FailsAt x m i) same f) g in
     ap (λ u. Unsound u i) a ∙ ap (Unsound n) b
 
--- two causes against a text, none of them want of memory, are one
+-- two causes against a text, neither of them out of memory, are one
 pub one_cause : (bytes : List ℕ) (e f : ReadFault) → e ≢ Memory → f ≢ Memory → IsReadFault bytes e → IsReadFault bytes f → e ≡ f
 one_cause bytes Memory f m n c d = absurd (m refl)
 one_cause bytes e Memory m n c d = absurd (n refl)

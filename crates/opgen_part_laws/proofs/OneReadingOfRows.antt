@@ -4,7 +4,7 @@ use Rattle.std.specs.Prelude.{slice_get, IsSomeAnd}
 use Rattle.std.proofs.lemmas.List.{take-append-drop}
 use Rattle.opgen_vec.specs.declared.TheConstants.{MAX_ROWS}
 use Rattle.opgen_vec.specs.declared.fault.VecFault.TheVariants as faults
-use Rattle.opgen_vec.specs.Reading.{IsRow, AreRows, AreGood, IsBad, AreVectors, IsFirstBad, AreTooMany, HasOneReading}
+use Rattle.opgen_vec.specs.Reading.{IsRow, AreRows, AreAllRows, IsBad, AreVectors, IsFirstBadLine, AreTooMany, HasOneReading}
 use Rattle.opgen_vec.proofs.RowTexts.{row_cells-row}
 
 one_row : (widths cells others line : List ℕ) → IsRow widths cells line → IsRow widths others line → cells ≡ others
@@ -35,28 +35,28 @@ among_first (line ∷ lines) (suc most) zero h = refl
 among_first (line ∷ lines) (suc most) (suc n) h = among_first lines most n (omega (arith, h))
 
 -- a bad line has no place among good ones
-no_bad_among : (widths : List ℕ) (lines : List (List ℕ)) (most n : ℕ) → AreGood widths (take most lines) → n < most
+no_bad_among : (widths : List ℕ) (lines : List (List ℕ)) (most n : ℕ) → AreAllRows widths (take most lines) → n < most
     → IsSomeAnd (slice_get lines n) (IsBad widths) → ⊥
 no_bad_among widths lines most n (cells, are) h bad = no_bad widths cells (take most lines) n are
     (subst (λ o. IsSomeAnd o (IsBad widths)) (sym (among_first lines most n h)) bad)
 
-not_after : (widths : List ℕ) (lines : List (List ℕ)) (m n : ℕ) → IsFirstBad widths lines m → IsFirstBad widths lines n → m ≤ n
+not_after : (widths : List ℕ) (lines : List (List ℕ)) (m n : ℕ) → IsFirstBadLine widths lines m → IsFirstBadLine widths lines n → m ≤ n
 not_after widths lines m n first second = by_cases m n
     (λ h. no_bad_among widths lines (m - 1) (n - 1) first.good (omega (arith, h, second.counted)) second.bad)
   where
     by_cases : (m n : ℕ) → (n < m → ⊥) → m ≤ n
     by_cases m n below = omega (arith, below)
 
-one_number : (widths : List ℕ) (lines : List (List ℕ)) (m n : ℕ) → IsFirstBad widths lines m → IsFirstBad widths lines n → m ≡ n
+one_number : (widths : List ℕ) (lines : List (List ℕ)) (m n : ℕ) → IsFirstBadLine widths lines m → IsFirstBadLine widths lines n → m ≡ n
 one_number widths lines m n first second = omega (arith, not_after widths lines m n first second, not_after widths lines n m second first)
 
-rows_not_bad : (widths cells : List ℕ) (lines : List (List ℕ)) (n : ℕ) → AreVectors widths cells lines → IsFirstBad widths lines n → ⊥
+rows_not_bad : (widths cells : List ℕ) (lines : List (List ℕ)) (n : ℕ) → AreVectors widths cells lines → IsFirstBadLine widths lines n → ⊥
 rows_not_bad widths cells lines n vectors bad = no_bad widths cells lines (n - 1) vectors.rows bad.bad
 
 rows_not_many : (widths cells : List ℕ) (lines : List (List ℕ)) → AreVectors widths cells lines → AreTooMany widths lines → ⊥
 rows_not_many widths cells lines vectors many = omega (arith, vectors.few, many.more)
 
-bad_not_many : (widths : List ℕ) (lines : List (List ℕ)) (n : ℕ) → IsFirstBad widths lines n → AreTooMany widths lines → ⊥
+bad_not_many : (widths : List ℕ) (lines : List (List ℕ)) (n : ℕ) → IsFirstBadLine widths lines n → AreTooMany widths lines → ⊥
 bad_not_many widths lines n bad many = no_bad_among widths lines MAX_ROWS (n - 1) many.good (omega (arith, bad.counted, bad.few)) bad.bad
 
 pub one_reading : HasOneReading

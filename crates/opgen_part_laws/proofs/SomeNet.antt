@@ -1,13 +1,13 @@
 -- That numbers have no least graph, or several constants no net, is impossible.
 use Rattle.std.proofs.Common.{ℕ, List, refl}
 use Rattle.std.specs.Prelude.{ℤ, All}
-use Rattle.opgen_operator.specs.declared.spec.Operator.TheVariants.{Mcm}
-use Rattle.opgen_operator.specs.declared.spec.Several.{Several}
-use Rattle.opgen_operator.specs.Accepted.{IsAcceptedSeveral}
-use Rattle.opgen_operator.proofs.Accepted.{accepted_ranges}
+use Rattle.opgen_operator.specs.declared.kinds.several.Several.{Several}
+use Rattle.opgen_operator.specs.declared.operator.Operator.TheVariants.{Mcm}
 use Rattle.opgen_operator.specs.Bounded.{OutputsAreWide}
 use Rattle.opgen_operator.specs.Held.{OutputsHold}
+use Rattle.opgen_operator.specs.kinds.Several.{IsAcceptedSeveral}
 use Rattle.opgen_operator.specs.Ranges.{IsWithin}
+use Rattle.opgen_operator.proofs.Accepted.{accepted_ranges}
 use Rattle.opgen_graph.specs.Recipe.{net_of_graph}
 use Rattle.opgen_graph.specs.Reach.{Reaches}
 use Rattle.opgen_graph.proofs.Fits.{fits_specs}

@@ -2,13 +2,13 @@
 //!
 //! Proved: A number has one canonical signed-digit form, with the fewest nonzero digits, and its partial sums step up to
 //! it. A set of adders has one graph; there is one least set, one graph of it and one net of several constants, and
-//! accepted constants have such a net (a classical proof). Nets and heaps that grow keep what they have. A product has one
-//! net. The values, widths and columns of accepted operators stay within stated bounds. The design of a net at each
-//! schedule that fits is sound, can be written and run; a plan fits its period, none that fits has a smaller latency, and
-//! its paths end in time. A design has one run over its inputs, its steps in numbers and in lanes are runs, its outputs
-//! look no further back than its depth, and its rows have one verdict. A text has one list of tokens or one offset at
-//! which none starts, each token is the longest, and it spells at most one design; that of a design spells it; a text that
-//! is rejected has one cause. A file of vectors has one reading.
+//! accepted constants have such a net (a classical proof). Nets and heaps that grow keep what they have. A product has
+//! one net. The values, widths and columns of accepted operators stay within stated bounds. The design of a net at each
+//! schedule that fits is sound, can be written and run, and the paths in such a schedule end in time. A design has one
+//! run over its inputs, its steps in numbers and in lanes are runs, its outputs look no further back than its depth, and
+//! its rows have one verdict. A text has one list of tokens or one offset at which none starts, each token is the
+//! longest, and it spells at most one design; that of a design spells it; a text that is rejected has one cause. A file
+//! of vectors has one reading.
 //!
 //! By: the laws `one_form`, `fewest_nonzeros`, `partials_step_up`, `partials_end_in_number`, `digits_are_right`,
 //! `digit_sets_reach`, `ranks_are_graphs`, `one_graph`, `reached_sets_serve`, `parts_are_odd`, `multiples_rest`,
@@ -16,11 +16,10 @@
 //! `some_net_of_several`, `grown_nets_keep_nodes`, `bits_still_stand`, `one_net_of_product`, `most_are_left_out`,
 //! `columns_have_bits`, `sums_reach`, `products_reach`, `limits_are_within`, `shifts_are_small`,
 //! `exact_values_are_in_128`, `valid_are_accepted`, `accepted_have_room`, `roots_are_narrow`, `polynomials_have_room`,
-//! `taps_have_room`, `fitting_nets_are_named`, `stage_fits`, `stage_is_least`, `paths_fit`, `design_is_sound`,
-//! `design_runs`, `design_is_shaped`, `design_is_writable`, `plan_fits`, `plan_is_least`, `plan_paths_fit`, `one_run`,
-//! `outputs_depend_on_depth`, `lane_steps_are_runs`, `steps_are_runs`, `one_verdict`, `one_cut`, `longest_token`,
-//! `token_spans`, `one_reading_of_text`, `text_spells`, `text_lengths`, `one_cause`, `one_reading_of_rows`,
-//! `definitions_compute`.
+//! `taps_have_room`, `fitting_nets_are_named`, `paths_fit`, `design_is_sound`, `design_runs`, `design_is_shaped`,
+//! `design_is_writable`, `one_run`, `outputs_depend_on_depth`, `lane_steps_are_runs`, `steps_are_runs`, `one_verdict`,
+//! `one_cut`, `longest_token`, `token_spans`, `one_reading_of_text`, `text_spells`, `text_lengths`, `one_cause`,
+//! `one_reading_of_rows`, `definitions_compute`.
 #![tactic(auto)]
 
 mod adders;
@@ -52,10 +51,7 @@ pub use operators::{
     limits_are_within, polynomials_have_room, products_reach, roots_are_narrow, shifts_are_small,
     sums_reach, taps_have_room, valid_are_accepted,
 };
-pub use plans::{
-    design_is_shaped, design_is_sound, design_is_writable, design_runs, paths_fit, plan_fits,
-    plan_is_least, plan_paths_fit, stage_fits, stage_is_least,
-};
+pub use plans::{design_is_shaped, design_is_sound, design_is_writable, design_runs, paths_fit};
 pub use rows::{definitions_compute, one_reading_of_rows};
 pub use runs::{one_run, one_verdict, outputs_depend_on_depth, steps_are_runs};
 pub use texts::{

@@ -1,7 +1,11 @@
 //! Laws of operators: their values, widths and columns stay within stated bounds.
 ghost use Rattle.opgen_budget.specs.Columns.{HasColumns};
-ghost use Rattle.opgen_operator.specs.Reached.{SumsReach, ProductsReach};
-ghost use Rattle.opgen_operator.specs.Bounded.{LimitsAreWithin, ShiftsAreSmall, ExactValuesAreIn128, ValidAreAccepted, AcceptedHaveRoom, RootsAreNarrow, PolynomialsHaveRoom, TapsHaveRoom};
+ghost use Rattle.opgen_operator.specs.Bounded.{LimitsAreWithin, ShiftsAreSmall, ExactValuesAreIn128, ValidAreAccepted, AcceptedHaveRoom};
+ghost use Rattle.opgen_operator.specs.kinds.Poly.{PolynomialsHaveRoom};
+ghost use Rattle.opgen_operator.specs.kinds.Product.{ProductsReach};
+ghost use Rattle.opgen_operator.specs.kinds.Single.{RootsAreNarrow};
+ghost use Rattle.opgen_operator.specs.kinds.Sum.{SumsReach};
+ghost use Rattle.opgen_operator.specs.kinds.Taps.{TapsHaveRoom};
 ghost use Rattle.opgen_operator.specs.PortNames.{FittingNetsAreNamed};
 
 /// How many bits each column of a product has.

@@ -1,19 +1,8 @@
-//! Laws of plans: the design of each is sound, can be written and run, and its schedule is the shortest that fits.
-ghost use Rattle.opgen_schedule.specs.Laws.{StageFits, StageIsLeast, PathsFit};
+//! Laws of designs of nets: each is sound, can be written and run, and its paths end in time.
+ghost use Rattle.opgen_schedule.specs.Laws.{PathsFit};
 ghost use Rattle.opgen_pipe.specs.Laws.{DesignIsSound, DesignRuns, DesignIsShaped, DesignIsWritable};
-ghost use Rattle.opgen_pipe.specs.Timed.{PlanFits, PlanIsLeast, PlanPathsFit};
 
 use crate::runs::one_run;
-
-/// The schedule of one pass fits the period.
-pub fn stage_fits()
-    ensures { StageFits }
-{}
-
-/// No schedule that fits has a smaller latency.
-pub fn stage_is_least()
-    ensures { StageIsLeast }
-{}
 
 /// In a schedule that fits, each path of cells within a cycle ends its setup before the end of the cycle.
 pub fn paths_fit()
@@ -41,25 +30,3 @@ pub fn design_is_shaped()
 pub fn design_is_writable()
     ensures { DesignIsWritable }
 {}
-
-/// The schedule of a plan fits its period.
-pub fn plan_fits()
-    ensures { PlanFits }
-{
-    stage_fits();
-}
-
-/// No schedule that fits has a smaller latency than a plan's.
-pub fn plan_is_least()
-    ensures { PlanIsLeast }
-{
-    stage_is_least();
-}
-
-/// In a plan's schedule each path of cells within a cycle ends its setup before the end of the cycle.
-pub fn plan_paths_fit()
-    ensures { PlanPathsFit }
-{
-    stage_fits();
-    paths_fit();
-}

@@ -63,7 +63,7 @@ pub fn text_lengths()
     ensures { (d : Design) → length d.signals ≤ length (text_of d) }
 {}
 
-/// A text has one cause against it at most beside want of memory, and none where it spells a sound
+/// A text has one cause against it at most, running out of memory aside, and none where it spells a sound
 /// design within the limits. So `read_design` gives each answer exactly where it is due.
 pub fn one_cause()
     ensures cause { (bytes : List ℕ) (e f : ReadFault) → e ≢ Memory → f ≢ Memory → IsReadFault bytes e → IsReadFault bytes f → e ≡ f }

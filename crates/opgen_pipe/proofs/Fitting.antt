@@ -22,12 +22,13 @@ use Rattle.opgen_schedule.specs.declared.slot.Slot.{Slot}
 use Rattle.opgen_schedule.specs.Reads.{is_constant_at}
 use Rattle.opgen_schedule.specs.Schedule.{Schedule, latency}
 use Rattle.opgen_schedule.specs.Stage.{start, slot_at}
+use Rattle.opgen_pipe.specs.Counted.{enable_inputs}
 use Rattle.opgen_pipe.specs.declared.layout.Layout.{Layout}
 use Rattle.opgen_pipe.specs.declared.standing.Standing.{Standing}
 use Rattle.opgen_pipe.specs.Copies.{copies, net_latency, signal_count}
 use Rattle.opgen_pipe.specs.Counts.{IsSmall, AreSmall, AreSlots}
 use Rattle.opgen_pipe.specs.Layouts.{IsLayout, schedule_of}
-use Rattle.opgen_pipe.specs.Pipelined.{all_of, design_of, drivers_of, enable_inputs, enable_of, node_drivers, node_signals, output_drivers, ports_of}
+use Rattle.opgen_pipe.specs.Pipelined.{all_of, design_of, drivers_of, enable_of, node_drivers, node_signals, output_drivers, ports_of}
 use Rattle.opgen_pipe.specs.Standings.{standing_of, standings}
 use Rattle.opgen_pipe.proofs.Lists.{length-each, get-each, get-mapped}
 use Rattle.opgen_pipe.proofs.Blocks.{before-most, before-within}

@@ -30,14 +30,15 @@ use Rattle.opgen_net.proofs.InputLaws.{input-width, width-at}
 use Rattle.opgen_net.proofs.Standing.{may_stand}
 use Rattle.opgen_schedule.specs.Reads.{reads_of, is_constant, is_some_constant, is_constant_at}
 use Rattle.opgen_schedule.specs.Schedule.{Schedule, Fits}
+use Rattle.opgen_pipe.specs.Counted.{enable_inputs, data_inputs}
 use Rattle.opgen_pipe.specs.declared.standing.Standing.{Standing}
 use Rattle.opgen_pipe.specs.Times.{ago}
 use Rattle.opgen_pipe.specs.Copies.{copies, net_latency, signals_before, signal_of}
 use Rattle.opgen_pipe.specs.Standings.{standing_of, standings, standing_at}
 use Rattle.opgen_pipe.specs.Reading.{read_in, slice_in}
-use Rattle.opgen_pipe.specs.Pipelined.{zero_word, all_of, own_signal, copy_signal, node_signals, own_driver, copy_register, enable_inputs, ports_of, drivers_of, design_of}
+use Rattle.opgen_pipe.specs.Pipelined.{zero_word, all_of, own_signal, copy_signal, node_signals, own_driver, copy_register, ports_of, drivers_of, design_of}
 use Rattle.opgen_design.specs.Enabled.{without_enable}
-use Rattle.opgen_pipe.specs.Laws.{FollowsFlow, net_inputs}
+use Rattle.opgen_pipe.specs.Laws.{FollowsFlow}
 use Rattle.opgen_pipe.proofs.Lists.{get-mapped}
 use Rattle.opgen_pipe.proofs.Copied.{standing-is, node_there, ReadIn, copy_of_read, reads_in, output_reads_in}
 use Rattle.opgen_pipe.proofs.Parts.{signal-own, signal-copy, signal_width, has_own_driver, has_copy_register, has_output_driver, length-ins, length-ports}
@@ -68,12 +69,12 @@ chosen_same a b c x y z h i j = ap (λ n. chosen n b c) h ∙ ap (λ n. chosen x
 
 -- the net's inputs among those of the design
 first_input : (enable : Bool) (given : List (List Bool)) (rest : List (List (List Bool))) (port w : ℕ)
-    → input_from (net_inputs enable (given ∷ rest)) 0 port w ≡ word_at given (length (enable_inputs enable) + port)
+    → input_from (data_inputs enable (given ∷ rest)) 0 port w ≡ word_at given (length (enable_inputs enable) + port)
 first_input true given rest port w = get_or-drop 1 given port []
 first_input false given rest port w = let e : port ≡ 0 + port = omega arith in ap (word_at given) e
 
 later_input : (enable : Bool) (given : List (List Bool)) (rest : List (List (List Bool))) (k port w : ℕ)
-    → input_from (net_inputs enable (given ∷ rest)) (suc k) port w ≡ input_from (net_inputs enable rest) k port w
+    → input_from (data_inputs enable (given ∷ rest)) (suc k) port w ≡ input_from (data_inputs enable rest) k port w
 later_input true given rest k port w = refl
 later_input false given rest k port w = refl
 
@@ -353,7 +354,7 @@ module _ (called : List ℕ) (enable : Bool) (net : Net) (s : Schedule) (delays 
       }
 
   follows_on : (rest : List (List (List Bool))) (vs : List Words) (now : List (List Bool)) (t : ℕ)
-      → ((k port w : ℕ) → input_from inputs (t + k) port w ≡ input_from (net_inputs enable rest) k port w)
+      → ((k port w : ℕ) → input_from inputs (t + k) port w ≡ input_from (data_inputs enable rest) k port w)
       → Held t now → RunsOn (without_enable (design_of called enable net s)) now rest vs
       → (u : ℕ) (v : Words) → slice_get vs u ≡ Some v → FollowsFlow called enable net s inputs (t + u) v
   follows_on [] [] now t same held r u v h = absurd (cc)
@@ -377,9 +378,9 @@ module _ (called : List ℕ) (enable : Bool) (net : Net) (s : Schedule) (delays 
 pub run-follows : (called : List ℕ) (enable : Bool) (net : Net) (s : Schedule) (delays : List ℕ) (setup period : ℕ) → IsValid net
     → Fits net.nodes delays setup period s
     → (inputs : List (List (List Bool))) (vs : List Words) → Run (without_enable (design_of called enable net s)) inputs vs
-    → (u : ℕ) (v : Words) → slice_get vs u ≡ Some v → FollowsFlow called enable net s (net_inputs enable inputs) u v
+    → (u : ℕ) (v : Words) → slice_get vs u ≡ Some v → FollowsFlow called enable net s (data_inputs enable inputs) u v
 run-follows called enable net s delays setup period valid fits inputs vs r u v h =
-    let taken = net_inputs enable inputs in
+    let taken = data_inputs enable inputs in
     let e : 0 + u ≡ u = omega arith in
     subst (λ k. FollowsFlow called enable net s taken k v) e (
     follows_on called enable net s delays setup period valid fits taken inputs vs (initial_words (design_of called enable net s).signals) 0

@@ -18,11 +18,12 @@ use Rattle.opgen_design.specs.declared.design.Port.{Port}
 use Rattle.opgen_design.specs.declared.design.Signal.{Signal}
 use Rattle.opgen_design.specs.Order.{is_register}
 use Rattle.opgen_schedule.specs.Schedule.{Schedule}
+use Rattle.opgen_pipe.specs.Counted.{enable_inputs}
 use Rattle.opgen_pipe.specs.declared.standing.Standing.{Standing}
 use Rattle.opgen_pipe.specs.Copies.{copies, net_latency, signal_of, signal_count}
 use Rattle.opgen_pipe.specs.Standings.{standing_of, standings, standing_at}
 use Rattle.opgen_pipe.specs.Reading.{slice_in}
-use Rattle.opgen_pipe.specs.Pipelined.{zero_word, all_of, own_signal, copy_signal, node_signals, own_driver, copy_register, node_drivers, output_drivers, enable_inputs, ports_of, drivers_of}
+use Rattle.opgen_pipe.specs.Pipelined.{zero_word, all_of, own_signal, copy_signal, node_signals, own_driver, copy_register, node_drivers, output_drivers, ports_of, drivers_of}
 use Rattle.opgen_pipe.proofs.Lists.{get-left, get-right, get-append, get-map, get-mapped, get-range, Contains-get, Contains-filter, from_filter}
 use Rattle.opgen_pipe.proofs.Blocks.{block, length-all, origin}
 use Rattle.opgen_pipe.proofs.Copied.{standing-is}
@@ -160,9 +161,6 @@ module _ (net : Net) (s : Schedule) where
         block (copies net s) (node_drivers (length (enable_inputs enable)) (standings net s)) net.nodes drivers_long i (suc k) n h
         (omega (arith, l))
         ∙ copy_of (λ o. own_driver (length (enable_inputs enable)) (standings net s) o n) (λ o. copy_register o) 0 i n h k l
-
-    pub length-drivers : length (all_of (node_drivers (length (enable_inputs enable)) (standings net s)) 0 net.nodes) ≡ signal_count net s
-    length-drivers = length-all (copies net s) (node_drivers (length (enable_inputs enable)) (standings net s)) net.nodes drivers_long
 
     among_nodes : (k : Driver) → Contains nodes k → Contains (drivers_of enable net s) k
     among_nodes k c =

@@ -18,10 +18,11 @@ use Rattle.opgen_net.specs.Valid.{widths, MayStand}
 use Rattle.opgen_net.proofs.Standing.{may_stand}
 use Rattle.opgen_vhdl.specs.DesignText.{is_output, is_neither}
 use Rattle.opgen_vhdl.specs.Shaped.{AreTwoOrMore, HasFullChains, HaveFullChains, IsShapedExpression, IsShapedDriver}
+use Rattle.opgen_pipe.specs.Counted.{enable_inputs}
 use Rattle.opgen_pipe.specs.declared.standing.Standing.{Standing}
 use Rattle.opgen_pipe.specs.Copies.{net_latency}
 use Rattle.opgen_pipe.specs.Laws.{DesignIsShaped}
-use Rattle.opgen_pipe.specs.Pipelined.{all_of, own_driver, node_drivers, output_drivers, enable_inputs, enable_of, drivers_of}
+use Rattle.opgen_pipe.specs.Pipelined.{all_of, own_driver, node_drivers, output_drivers, enable_of, drivers_of}
 use Rattle.opgen_pipe.specs.Reading.{part_in, slice_in, tree_in, trees_in}
 use Rattle.opgen_pipe.specs.Standings.{standing_of, standings}
 use Rattle.opgen_pipe.proofs.Parts.{by_driver, of_nodes}

@@ -28,11 +28,12 @@ use Rattle.opgen_net.proofs.InputLaws.{input-width}
 use Rattle.opgen_net.proofs.Standing.{may_stand}
 use Rattle.opgen_schedule.specs.Reads.{reads_of}
 use Rattle.opgen_schedule.specs.Schedule.{Schedule, Fits}
+use Rattle.opgen_pipe.specs.Counted.{enable_inputs}
 use Rattle.opgen_pipe.specs.declared.standing.Standing.{Standing}
 use Rattle.opgen_pipe.specs.Copies.{copies, net_latency, signals_before, signal_of}
 use Rattle.opgen_pipe.specs.Standings.{standing_of, standings, standing_at}
 use Rattle.opgen_pipe.specs.Reading.{read_in, slice_in}
-use Rattle.opgen_pipe.specs.Pipelined.{zero_word, initial_of, all_of, node_signals, own_driver, copy_register, node_drivers, output_drivers, enable_inputs, ports_of, drivers_of, design_of}
+use Rattle.opgen_pipe.specs.Pipelined.{zero_word, initial_of, all_of, node_signals, own_driver, copy_register, node_drivers, output_drivers, ports_of, drivers_of, design_of}
 use Rattle.opgen_pipe.proofs.Lists.{get-map, Contains-get, from_filter}
 use Rattle.opgen_pipe.proofs.Blocks.{before-within}
 use Rattle.opgen_pipe.proofs.Copied.{standing-is, node_there, ReadIn, copy_of_read, reads_in, output_reads_in}

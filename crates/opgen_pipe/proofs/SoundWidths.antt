@@ -29,11 +29,12 @@ use Rattle.opgen_net.proofs.FlowWidths.{are_widths, slice-is_width, flow-width}
 use Rattle.opgen_net.proofs.Standing.{may_stand, width_at}
 use Rattle.opgen_schedule.specs.Reads.{reads_of}
 use Rattle.opgen_schedule.specs.Schedule.{Schedule, Fits}
+use Rattle.opgen_pipe.specs.Counted.{enable_inputs}
 use Rattle.opgen_pipe.specs.declared.standing.Standing.{Standing}
 use Rattle.opgen_pipe.specs.Copies.{copies, net_latency, signals_before}
 use Rattle.opgen_pipe.specs.Standings.{standing_of, standings, standing_at}
 use Rattle.opgen_pipe.specs.Reading.{read_in, slice_in}
-use Rattle.opgen_pipe.specs.Pipelined.{zero_word, initial_of, own_driver, copy_register, enable_inputs, ports_of, drivers_of, design_of}
+use Rattle.opgen_pipe.specs.Pipelined.{zero_word, initial_of, own_driver, copy_register, ports_of, drivers_of, design_of}
 use Rattle.opgen_pipe.proofs.Lists.{get-right, get-append, get-map, get-mapped, Contains-get}
 use Rattle.opgen_pipe.proofs.Copied.{standing-is, node_there, ReadIn, copy_of_read, reads_in, output_reads_in}
 use Rattle.opgen_pipe.proofs.Parts.{signal_width, by_signal, by_driver, by_port, port-in, port-output}

@@ -16,9 +16,10 @@ use Rattle.opgen_net.specs.declared.net.Net.{Net}
 use Rattle.opgen_net.specs.Made.{signal_name}
 use Rattle.opgen_net.specs.Named.{port_names, IsNamed}
 use Rattle.opgen_schedule.specs.Schedule.{Schedule}
+use Rattle.opgen_pipe.specs.Counted.{enable_inputs}
 use Rattle.opgen_pipe.specs.Copies.{copies, signal_count}
 use Rattle.opgen_pipe.specs.Laws.{DesignIsWritable}
-use Rattle.opgen_pipe.specs.Pipelined.{all_of, node_signals, copy_name, enable_inputs, ports_of}
+use Rattle.opgen_pipe.specs.Pipelined.{all_of, node_signals, copy_name, ports_of}
 use Rattle.opgen_pipe.specs.Standings.{standings}
 use Rattle.opgen_pipe.proofs.Blocks.{before-most, before-within}
 use Rattle.opgen_pipe.proofs.Lists.{get-left, get-right, get-append, get-mapped}

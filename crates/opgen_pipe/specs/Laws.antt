@@ -1,6 +1,5 @@
 -- Laws of the design of every valid net at every schedule that fits a period.
-use Rattle.std.specs.Prelude.{ℕ, ◌≡◌, ◌^◌, ◌<◌, ◌≤◌, ◌+◌, Bool, List, length, map, drop, slice_get, Some, All, if◌then◌else◌}
-use Rattle.opgen_design.specs.Enabled.{marked, ones_at}
+use Rattle.std.specs.Prelude.{ℕ, ◌≡◌, ◌^◌, ◌<◌, ◌≤◌, ◌+◌, Bool, List, length, map, slice_get, Some, All}
 use Rattle.opgen_design.specs.Run.{AreWords, Words, Run, words_at_outputs, input_widths}
 use Rattle.opgen_design.specs.Sound.{IsSound}
 use Rattle.opgen_design.specs.Value.{word_at}
@@ -12,6 +11,7 @@ use Rattle.opgen_net.specs.Valid.{IsValid}
 use Rattle.opgen_schedule.specs.Schedule.{Schedule, Fits}
 use Rattle.opgen_vhdl.specs.Shaped.{IsShaped, IsWritable}
 use Rattle.opgen_pipe.specs.Copies.{copies, net_latency, signal_count, signal_of}
+use Rattle.opgen_pipe.specs.Counted.{counted, data_inputs}
 use Rattle.opgen_pipe.specs.Pipelined.{design_of}
 use Rattle.opgen_pipe.specs.Times.{ago}
 
@@ -39,10 +39,6 @@ DesignIsWritable = (name : List ℕ) (enable : Bool) (net : Net) (delays : List 
     → IsNamed name net
     → Fits net.nodes delays setup period s → signal_count net s ≤ 2 ^ 64 → IsWritable (design_of name enable net s)
 
--- the words of the net's inputs among those of its design's: all but that of the enable
-abbrev pub net_inputs : (enable : Bool) → Inputs → Inputs
-net_inputs enable inputs = if enable then map (drop 1) inputs else inputs
-
 -- in a cycle each copy of a node has the node's word of so many cycles before as it stands later, constants have theirs, and each output its slice's of the latency before
 pub record FollowsFlow (name : List ℕ) (enable : Bool) (net : Net) (s : Schedule) (inputs : Inputs) (u : ℕ) (v : Words) : Type 0 where
   pub nodes : (i copy : ℕ) → i < length net.nodes → copy ≤ copies net s i
@@ -51,14 +47,10 @@ pub record FollowsFlow (name : List ℕ) (enable : Bool) (net : Net) (s : Schedu
   pub outputs : words_at_outputs (design_of name enable net s) v
       ≡ map (λ o. slice_flow net.nodes inputs o.from (ago u (net_latency net s))) net.outputs
 
--- the cycles of a run that count, in their order: where the enable was asked for, those in which its word is 1
-abbrev pub counted : {X : Type 0} → (enable : Bool) → List Words → List X → List X
-counted enable vs xs = if enable then marked (ones_at 0 vs) xs else xs
-
 -- in every run it does so in every cycle that counts
 abbrev pub RunFollowsFlow : Type 0
 RunFollowsFlow = (name : List ℕ) (enable : Bool) (net : Net) (delays : List ℕ) (setup period : ℕ) (s : Schedule) → IsValid net
     → Fits net.nodes delays setup period s
     → (inputs : Inputs) (vs : List Words) → Run (design_of name enable net s) inputs vs
     → (u : ℕ) (v : Words) → slice_get (counted enable vs vs) u ≡ Some v
-    → FollowsFlow name enable net s (net_inputs enable (counted enable vs inputs)) u v
+    → FollowsFlow name enable net s (data_inputs enable (counted enable vs inputs)) u v

@@ -1,8 +1,10 @@
--- Definitions of opgen_pipe: copies, signals, drivers and ports of the design of a net at a schedule, its laws, and plans.
+-- Definitions of opgen_pipe: copies, signals, drivers and ports of the design of a net at a schedule, its laws, plans and their
+-- timing.
 pub mod Times
 pub mod Copies
 pub mod Standings
 pub mod Reading
+pub mod Counted
 pub mod Pipelined
 pub mod Laws
 pub mod Zeros

@@ -17,6 +17,7 @@ use Rattle.opgen_net.specs.Made.{signal_name, addressed, last_row, input_port, o
 use Rattle.opgen_schedule.specs.Schedule.{Schedule}
 use Rattle.opgen_pipe.specs.declared.standing.Standing.{Standing}
 use Rattle.opgen_pipe.specs.Copies.{net_latency}
+use Rattle.opgen_pipe.specs.Counted.{enable_inputs}
 use Rattle.opgen_pipe.specs.Standings.{standings, standing_at}
 use Rattle.opgen_pipe.specs.Reading.{read_in, slice_in, tree_in}
 
@@ -75,11 +76,7 @@ abbrev pub output_drivers : List Standing → (latency place : ℕ) → List net
 output_drivers ps l place [] = []
 output_drivers ps l place (o ∷ os) = Output place (slice_in ps l o.from) ∷ output_drivers ps l (place + 1) os
 
--- the inputs of a design: the clock enable, where it is asked for, and then those of the net
-abbrev pub enable_inputs : Bool → List (List ℕ × ℕ)
-enable_inputs true = (codes "ce", 1) ∷ []
-enable_inputs false = []
-
+-- the enable's port, where there is one, then those of the net's inputs and outputs
 abbrev pub ports_of : (enable : Bool) → Net → List Port
 ports_of enable net = map input_port (enable_inputs enable ++ net.inputs) ++ map output_port net.outputs
 

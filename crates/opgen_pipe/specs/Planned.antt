@@ -25,7 +25,7 @@ pub record IsPlanOf (name : List ℕ) (enable : Bool) (net : Net) (table : Delay
   pub slack : p.slack ≡ period - setup table - greatest_time (slots_of table period net)
   pub cells : p.cells ≡ map (width_sum (design_cells net (slot_at (slots_of table period net)))) classes
 
--- why there is no plan: of these two causes the first that holds; and want of memory at any time
+-- why there is no plan: of these two causes the first that holds; or memory ran out, which may happen at any time
 abbrev pub IsCause : Net → (table : Delays) → (period : ℕ) → PlanFault → Type 0
 IsCause net table period (PeriodTooShort n) = (n ≡ need table net) × (period < need table net)
 IsCause net table period TooLarge = (need table net ≤ period)

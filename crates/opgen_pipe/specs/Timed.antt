@@ -1,28 +1,26 @@
--- Laws of a plan's timing under a table of delays: its schedule fits the period and has the least latency.
-use Rattle.std.specs.Prelude.{ℕ, ◌+◌, ◌≤◌}
+-- The timing of a plan under a table of delays: its schedule fits the period, and none that fits has a smaller latency.
+use Rattle.std.specs.Prelude.{ℕ, ◌≡◌, ◌≤◌, Bool, List}
 use Rattle.opgen_net.specs.declared.net.Net.{Net}
-use Rattle.opgen_net.specs.Valid.{IsValid}
-use Rattle.opgen_schedule.specs.Laws.{Path}
+use Rattle.opgen_schedule.specs.Laws.{PathsEnd}
 use Rattle.opgen_schedule.specs.Schedule.{Schedule, Fits}
-use Rattle.opgen_schedule.specs.Stage.{slot_at}
 use Rattle.opgen_target.specs.Delays.{Delays, setup}
-use Rattle.opgen_pipe.specs.Cells.{net_delays, need}
+use Rattle.opgen_pipe.specs.declared.planning.Planned.{Planned}
+use Rattle.opgen_pipe.specs.Cells.{net_delays}
 use Rattle.opgen_pipe.specs.Copies.{net_latency}
-use Rattle.opgen_pipe.specs.Planned.{slots_of}
+use Rattle.opgen_pipe.specs.Pipelined.{design_of}
 
--- where the period is long enough, it fits
-abbrev pub PlanFits : Type 0
-PlanFits = (table : Delays) (period : ℕ) (net : Net) → IsValid net → need table net ≤ period
-    → Fits net.nodes (net_delays table net) (setup table) period (slot_at (slots_of table period net))
+-- a schedule of a net fits a period under a table
+abbrev pub NetFits : Delays → (period : ℕ) → Net → Schedule → Type 0
+NetFits table period net s = Fits net.nodes (net_delays table net) (setup table) period s
 
--- no schedule that fits has a smaller latency
-abbrev pub PlanIsLeast : Type 0
-PlanIsLeast = (table : Delays) (period : ℕ) (net : Net) → IsValid net → (s : Schedule)
-    → Fits net.nodes (net_delays table net) (setup table) period s
-    → net_latency net (slot_at (slots_of table period net)) ≤ net_latency net s
+-- A plan is in time where its design and its latency are those of the net at a schedule that fits the period, and in the
+-- schedule each path of cells within a cycle ends the setup before the end of the cycle.
+pub record IsInTime (name : List ℕ) (enable : Bool) (net : Net) (table : Delays) (period : ℕ) (s : Schedule) (p : Planned) : Type 0 where
+  pub design : p.design ≡ design_of name enable net s
+  pub latency : p.latency ≡ net_latency net s
+  pub fits : NetFits table period net s
+  pub paths : PathsEnd net.nodes (net_delays table net) (setup table) period s
 
--- a node has its word after the delay of each path of cells that ends in it within its cycle, and the setup before the end of the cycle
-abbrev pub PlanPathsFit : Type 0
-PlanPathsFit = (table : Delays) (period : ℕ) (net : Net) → IsValid net → need table net ≤ period
-    → (i sum : ℕ) → Path net.nodes (net_delays table net) (slot_at (slots_of table period net)) i sum
-    → (sum ≤ (slot_at (slots_of table period net) i).time) × ((slot_at (slots_of table period net) i).time + setup table ≤ period)
+-- no schedule of a net that fits has a smaller latency
+abbrev pub IsLeastLatency : Delays → (period : ℕ) → Net → (latency : ℕ) → Type 0
+IsLeastLatency table period net latency = (s : Schedule) → NetFits table period net s → latency ≤ net_latency net s

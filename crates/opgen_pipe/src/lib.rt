@@ -1,15 +1,16 @@
 //! The pipelined design of a net: each node in its cycle, with a register for each cycle that a word is kept.
 //!
 //! Proved: The design of a net at a period, with its latency, slack and cells; or that the period is too short, with the
-//! shortest that is not, or that there are too many signals, each exactly if it holds. The ledger is that of the design's
-//! cells; the target's name, delays and kind stay. For every valid net with names that a design may have, and every schedule
-//! that fits: the design is sound, of the subset's form, can be written, and has a run over all inputs. In every run (with
-//! an enable: in the cycles in which it is 1), a signal of cycle c of the schedule has the word that its node had c cycles
-//! before, and each output has its slice's word of the latency before; constants and the cycles before the latency are
-//! included.
+//! shortest that is not, or that there are too many signals, each exactly if it holds. The design's schedule fits the
+//! period: each path of cells within a cycle ends a setup time before the end of the cycle. No schedule of the net that
+//! fits has a smaller latency. The ledger is that of the design's cells; the target's name, delays and kind stay. For
+//! every valid net with names that a design may have, and every schedule that fits: the design is sound, of the subset's
+//! form, can be written, and has a run over all inputs. In every run (with an enable: in the cycles in which it is 1), a
+//! signal of cycle c of the schedule has the word that its node had c cycles before, and each output has its slice's word
+//! of the latency before; constants and the cycles before the latency are included.
 //!
 //! By: `plan`; the law `run_follows_flow`; of `opgen_part_laws` the laws `design_is_sound`, `design_is_shaped`,
-//! `design_is_writable`, `design_runs`, `plan_fits`, `plan_is_least`, `plan_paths_fit`.
+//! `design_is_writable`, `design_runs`.
 #![tactic(auto)]
 
 mod cells;

@@ -2,10 +2,11 @@
 ghost use Rattle.std.specs.Prelude.{◌≡◌, ◌≤◌, ◌<◌, ◌+◌, ◌++◌, ◌^◌, ℕ, length, map, filter, not, IfOk, All};
 ghost use Rattle.opgen_design.specs.Order.{is_register};
 ghost use Rattle.opgen_net.specs.Valid.{IsValid, MayStand};
+ghost use Rattle.opgen_pipe.specs.Counted.{enable_inputs};
 ghost use Rattle.opgen_pipe.specs.Copies.{signal_count};
 ghost use Rattle.opgen_pipe.specs.Counts.{AreSmall};
 ghost use Rattle.opgen_pipe.specs.Layouts.{IsLayout, schedule_of};
-ghost use Rattle.opgen_pipe.specs.Pipelined.{all_of, design_of, drivers_of, enable_inputs, enable_of, node_drivers, node_signals, output_drivers};
+ghost use Rattle.opgen_pipe.specs.Pipelined.{all_of, design_of, drivers_of, enable_of, node_drivers, node_signals, output_drivers};
 ghost use Rattle.opgen_pipe.specs.Standings.{standings};
 
 use crate::drivers::{has_register, push_outputs, push_plain, push_registers};

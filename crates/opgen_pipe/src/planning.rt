@@ -7,6 +7,7 @@ ghost use Rattle.opgen_net.specs.Valid.{IsValid};
 ghost use Rattle.opgen_target.specs.Ledger.{width_sum};
 ghost use Rattle.opgen_pipe.specs.Cells.{design_cells};
 ghost use Rattle.opgen_pipe.specs.Planned.{IsOutcome, slots_of};
+ghost use Rattle.opgen_pipe.specs.Timed.{IsInTime, IsLeastLatency};
 
 use crate::cells::charge_design;
 use crate::layout::lay_out;
@@ -52,7 +53,8 @@ impl From<AllocError> for PlanFault {
 
 /// The design of a net for a target and a period, under a name: with the port of a clock enable where it is asked for.
 ///
-/// Each node stands as early as the delays of the target allow, and the design's cells are charged to the target's ledger, which is
+/// Each node stands as early as the delays of the target allow: no path of cells takes longer than the period, and no schedule
+/// that fits has a smaller latency. The design's cells are charged to the target's ledger, which is
 /// cleared before. After an error the ledger may hold anything.
 pub fn plan(
     alloc: Global,
@@ -65,6 +67,8 @@ pub fn plan(
     requires valid { IsValid net.now }
     requires named { IsNamed name.now net.now }
     ensures outcome { IsOutcome name.now enable net.now (delays target.old) period result }
+    ensures fits { IfOk result (λ p. IsInTime name.now enable net.now (delays target.old) period (slot_at (slots_of (delays target.old) period net.now)) p) }
+    ensures least { IfOk result (λ p. IsLeastLatency (delays target.old) period net.now p.latency) }
     ensures ledger { IfOk result (λ p. (class : Class) → ledger target.new class ≡ width_sum (design_cells net.now (slot_at (slots_of (delays target.old) period net.now))) class) }
     ensures target_name { target_name target.new ≡ target_name target.old }
     ensures delays { delays target.new ≡ delays target.old }

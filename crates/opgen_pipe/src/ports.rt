@@ -2,7 +2,8 @@
 ghost use Rattle.std.specs.Prelude.{◌≡◌, ◌++◌, IfOk, OnOk, All, map};
 ghost use Rattle.opgen_net.specs.Made.{input_port, output_port};
 ghost use Rattle.opgen_net.specs.Valid.{IsValid, LiesWithin, widths as widths_of};
-ghost use Rattle.opgen_pipe.specs.Pipelined.{enable_inputs, ports_of};
+ghost use Rattle.opgen_pipe.specs.Counted.{enable_inputs};
+ghost use Rattle.opgen_pipe.specs.Pipelined.{ports_of};
 
 use crate::widths::slice_width;
 use opgen_design::{Dir, Port};

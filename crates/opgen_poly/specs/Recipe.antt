@@ -9,9 +9,9 @@ use Rattle.opgen_net.specs.Placed.{with_bits, with_last}
 use Rattle.opgen_net.specs.WordRule.{bits_from}
 use Rattle.opgen_heap.specs.Adding.{residue, with_constant}
 use Rattle.opgen_compress.specs.Recipe.{compressed}
-use Rattle.opgen_operator.specs.declared.spec.Poly.{Poly as Polynomial}
-use Rattle.opgen_operator.specs.Horner.{degree, poly_guard, guarded, partial_width, all_guarded}
-use Rattle.opgen_operator.specs.Ports.{poly_format}
+use Rattle.opgen_operator.specs.declared.kinds.poly.Poly.{Poly as Polynomial}
+use Rattle.opgen_operator.specs.kinds.Horner.{degree, poly_guard, guarded, partial_width, all_guarded}
+use Rattle.opgen_operator.specs.kinds.Poly.{poly_format}
 use Rattle.opgen_partial.specs.declared.pairs.Products.{Products}
 use Rattle.opgen_partial.specs.declared.pairs.Work.{Work}
 use Rattle.opgen_partial.specs.Recipe.{sign_correction, with_products}
@@ -33,7 +33,7 @@ greatest_light m n limit (suc k) = if nat_le (weight_below m n (suc k)) limit th
 abbrev pub left_out : (m n : ℕ) → ℕ
 left_out m n = greatest_light m n (2 ^ (n - 1)) (m + n - 1)
 
--- that is the greatest number of columns whose bits together weigh at most half a unit of bit n, the lowest that a step keeps
+-- that is the greatest number of columns whose bits together weigh at most half a unit of column n, the lowest that a step keeps
 abbrev pub LeavesOutMost : Type 0
 LeavesOutMost = (m n : ℕ) → IsGreatestCut m n n (left_out m n)
 

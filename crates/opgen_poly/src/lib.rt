@@ -10,9 +10,9 @@
 #![tactic(auto)]
 
 ghost use Rattle.std.specs.Prelude.{◌≡◌, IfOk};
-ghost use Rattle.opgen_operator.specs.Accepted.{IsAcceptedPoly};
+ghost use Rattle.opgen_operator.specs.declared.operator.Operator.TheVariants.{Poly};
 ghost use Rattle.opgen_operator.specs.Fits.{FitsSpecsOf};
-ghost use Rattle.opgen_operator.specs.declared.spec.Operator.TheVariants.{Poly};
+ghost use Rattle.opgen_operator.specs.kinds.Poly.{IsAcceptedPoly};
 ghost use Rattle.opgen_poly.specs.Near.{ArePartialsNear};
 ghost use Rattle.opgen_poly.specs.Recipe.{net_of_poly};
 

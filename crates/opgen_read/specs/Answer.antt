@@ -22,7 +22,7 @@ FailsAt r rule item =
     ((r.agrees ≡ false) × (rule ≡ 1) × (item ≡ 0))
     ⊎ ((r.agrees ≡ true) × (x : Rule) × (rule_number x ≡ rule) × IsFirstUnsound r.design x item)
 
--- the first cause for which a text gives no design; want of memory says nothing of the text
+-- the first cause for which a text gives no design; running out of memory says nothing of the text
 abbrev pub IsReadFault : List ℕ → ReadFault → Type 0
 IsReadFault bytes (Lexical offset) = LexicalAt bytes offset
 IsReadFault bytes (Syntax piece) = SyntaxAt bytes piece

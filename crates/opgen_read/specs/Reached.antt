@@ -15,7 +15,7 @@ pub record Reached (whole rest : List Symbol) (place : Place) (r : Reading) (n :
   pub follow : Follows Library nothing taken place r
   pub count : n ≡ length taken
 
--- a fault of the pieces; want of memory says nothing of them
+-- a fault of the pieces; running out of memory says nothing of them
 abbrev pub IsPieceFault : List Symbol → ReadFault → Type 0
 IsPieceFault whole (Lexical offset) = ⊥
 IsPieceFault whole (Syntax k) = StopsAt (pieces whole) k

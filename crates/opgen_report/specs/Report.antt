@@ -1,15 +1,13 @@
 -- The text of a report: the operator, its ports, its timing and its cells, one line for each fact.
-use Rattle.std.specs.Prelude.{ℕ, Bool, true, false, List, [], ◌++◌, codes, length, slice_index}
+use Rattle.std.specs.Prelude.{ℕ, Bool, true, false, List, [], ◌++◌, codes, length, slice_index, if◌then◌else◌}
 use Rattle.std.specs.Fmt.{decimal, signed_decimal}
 use Rattle.std.specs.List.{flat_map}
 use Rattle.opgen_num.specs.declared.format.Format.{Format}
-use Rattle.opgen_operator.specs.declared.spec.Operator.{Operator}
-use Rattle.opgen_operator.specs.declared.spec.Operator.TheVariants.{Scale, Fir, Multiply, Divide, Root, Mcm, Constdiv, Poly, Tfir}
-use Rattle.opgen_operator.specs.Kinds.{kind, kind_name}
-use Rattle.opgen_operator.specs.declared.spec.PortFormat.{PortFormat}
+use Rattle.opgen_operator.specs.declared.operator.Operator.{Operator}
+use Rattle.opgen_operator.specs.declared.ports.PortFormat.{PortFormat}
 use Rattle.opgen_operator.specs.declared.spec.Spec.{Spec}
+use Rattle.opgen_operator.specs.Operator.{has_graph, kind, kind_name, inputs_of, outputs_of}
 use Rattle.opgen_pipe.specs.declared.planning.Planned.{Planned}
-use Rattle.opgen_operator.specs.Ports.{inputs_of, outputs_of}
 
 abbrev pub mode_word : (exact : Bool) → List ℕ
 mode_word true = codes "exact"
@@ -54,17 +52,9 @@ member_text number = codes " " ++ decimal number
 abbrev pub members_line : (set : List ℕ) → List ℕ
 members_line set = codes "graph" ++ flat_map member_text set ++ codes "\n"
 
--- the members of the adder graph, of the kinds that are made of one
+-- the members of the adder graph, of the operators that are made of one
 abbrev pub graph_line : Operator → (set : List ℕ) → List ℕ
-graph_line (Scale sum) set = []
-graph_line (Fir sum) set = []
-graph_line (Multiply product) set = []
-graph_line (Divide pair) set = []
-graph_line (Root single) set = []
-graph_line (Mcm several) set = members_line set
-graph_line (Constdiv small) set = []
-graph_line (Poly poly) set = []
-graph_line (Tfir taps) set = members_line set
+graph_line op set = if has_graph op then members_line set else []
 
 unfoldable pub report : Spec → Planned → (set : List ℕ) → List ℕ
 report spec planned set =

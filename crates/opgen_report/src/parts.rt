@@ -97,14 +97,9 @@ fn put_members_line(out: &mut String, set: &[u32]) -> Result<(), AllocError>
 pub(crate) fn put_graph(out: &mut String, op: &Operator, set: &[u32]) -> Result<(), AllocError>
     ensures { OnOk result (string_bytes out.new ≡ string_bytes out.old ++ graph_line op.now set.now) }
 {
-    match op {
-        Operator::Mcm(_) | Operator::Tfir(_) => put_members_line(out, set),
-        Operator::Scale(_)
-        | Operator::Fir(_)
-        | Operator::Multiply(_)
-        | Operator::Divide(_)
-        | Operator::Root(_)
-        | Operator::Constdiv(_)
-        | Operator::Poly(_) => Ok(()),
+    if op.has_graph() {
+        put_members_line(out, set)
+    } else {
+        Ok(())
     }
 }

@@ -13,7 +13,7 @@ use Rattle.opgen_schedule.specs.declared.slot.Slot.{Slot}
 use Rattle.opgen_schedule.specs.Reads.{reads_of, is_constant, is_some_constant, is_constant_at}
 use Rattle.opgen_schedule.specs.Schedule.{Schedule, InTime, CellFits, FitsAt, Fits, latency, greatest, greatest_time}
 use Rattle.opgen_schedule.specs.Stage.{start, slot_at, later, latest, after, slot_of, stage}
-use Rattle.opgen_schedule.specs.Laws.{StageFits, StageIsLeast}
+use Rattle.opgen_schedule.specs.Laws.{IsLeast}
 use Rattle.opgen_schedule.proofs.Reading.{reads-before}
 use Rattle.opgen_schedule.proofs.Equation.{length-stage, stage_equation}
 
@@ -255,11 +255,15 @@ module _ (nodes : List Node) (delays : List ℕ) (setup period : ℕ) (valid : A
         by true h = omega (arith, h)
         by false h = omega (arith, cycle_least o.from.node, h)
 
-pub stage_fits : StageFits
+-- where no cell's delay with the setup is more than the period, the schedule of one pass fits it
+pub stage_fits : (nodes : List Node) (delays : List ℕ) (setup period : ℕ) → AllMayStand [] nodes → length delays ≡ length nodes
+    → greatest delays + setup ≤ period → Fits nodes delays setup period (slot_at (stage delays setup period nodes))
 stage_fits nodes delays setup period valid long l = record
     { a_delay_each = long; setup_fits = omega (arith, l); nodes_fit = fits_at nodes delays setup period valid l }
 
-pub stage_is_least : StageIsLeast
+-- its latency is the least
+pub stage_is_least : (nodes : List Node) (delays : List ℕ) (setup period : ℕ) → AllMayStand [] nodes
+    → IsLeast nodes delays setup period (slot_at (stage delays setup period nodes))
 stage_is_least nodes delays setup period valid s fits outputs = latency_least nodes delays setup period valid s fits outputs
 
 -- the latest slot is in none but the first so many cycles, where all are

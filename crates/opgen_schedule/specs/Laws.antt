@@ -1,24 +1,15 @@
--- Laws of the schedule of one pass (it fits the period, with the least latency), and of the paths in every schedule that fits.
-use Rattle.std.specs.Prelude.{ℕ, ◌≡◌, ◌+◌, ◌≤◌, List, [], length, slice_get, slice_index, Some, Contains}
+-- What a schedule that fits a period may promise: its latency is the least, and each path ends in time.
+use Rattle.std.specs.Prelude.{ℕ, ◌≡◌, ◌+◌, ◌≤◌, List, slice_get, slice_index, Some, Contains}
 use Rattle.opgen_net.specs.declared.net.Output.{Output}
 use Rattle.opgen_net.specs.declared.node.Node.{Node}
 use Rattle.opgen_net.specs.declared.node.Node.TheVariants.{Cells, Choice, Table}
-use Rattle.opgen_net.specs.Valid.{AllMayStand}
 use Rattle.opgen_schedule.specs.Reads.{reads_of}
-use Rattle.opgen_schedule.specs.Schedule.{Schedule, Fits, latency, greatest}
-use Rattle.opgen_schedule.specs.Stage.{slot_at, stage}
+use Rattle.opgen_schedule.specs.Schedule.{Schedule, Fits, latency}
 
--- where no cell's delay with the setup is more than the period, the schedule of one pass fits it
-abbrev pub StageFits : Type 0
-StageFits = (nodes : List Node) (delays : List ℕ) (setup period : ℕ) → AllMayStand [] nodes → length delays ≡ length nodes
-    → greatest delays + setup ≤ period
-    → Fits nodes delays setup period (slot_at (stage delays setup period nodes))
-
--- no schedule that fits has a smaller latency
-abbrev pub StageIsLeast : Type 0
-StageIsLeast = (nodes : List Node) (delays : List ℕ) (setup period : ℕ) → AllMayStand [] nodes → (s : Schedule)
-    → Fits nodes delays setup period s
-    → (outputs : List Output) → latency nodes (slot_at (stage delays setup period nodes)) outputs ≤ latency nodes s outputs
+-- no schedule that fits has a smaller latency, whatever the outputs read
+abbrev pub IsLeast : List Node → (delays : List ℕ) → (setup period : ℕ) → Schedule → Type 0
+IsLeast nodes delays setup period s = (other : Schedule) → Fits nodes delays setup period other
+    → (outputs : List Output) → latency nodes s outputs ≤ latency nodes other outputs
 
 -- nodes of cells, which a path goes through
 abbrev pub IsOfCells : Node → Type 0
@@ -34,6 +25,10 @@ pub data Path (nodes : List Node) (delays : List ℕ) (s : Schedule) : (last sum
       → (s j).cycle ≡ (s i).cycle → Path nodes delays s i (sum + slice_index delays i)
 
 -- a node has its word after the delay of each path that ends in it, and its setup before the end of the cycle
+abbrev pub PathsEnd : List Node → (delays : List ℕ) → (setup period : ℕ) → Schedule → Type 0
+PathsEnd nodes delays setup period s = (i sum : ℕ) → Path nodes delays s i sum → (sum ≤ (s i).time) × ((s i).time + setup ≤ period)
+
+-- so it is in every schedule that fits
 abbrev pub PathsFit : Type 0
 PathsFit = (nodes : List Node) (delays : List ℕ) (setup period : ℕ) (s : Schedule) → Fits nodes delays setup period s
-    → (i sum : ℕ) → Path nodes delays s i sum → (sum ≤ (s i).time) × ((s i).time + setup ≤ period)
+    → PathsEnd nodes delays setup period s

@@ -28,7 +28,7 @@ after setup period delay p =
     if nat_le (p.time + delay + setup) period then record { cycle = p.cycle; time = p.time + delay }
     else record { cycle = p.cycle + 1; time = delay }
 
--- inputs and constants stand at the start, and a delay at the begin of its operand's cycle
+-- inputs and constants stand at the start, and a delay at the start of its operand's cycle
 abbrev pub slot_of : (setup period : ℕ) → List Slot → (delay : ℕ) → Node → Slot
 slot_of setup period ps delay (Input port w) = start
 slot_of setup period ps delay (Constant w) = start

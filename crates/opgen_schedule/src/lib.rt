@@ -4,7 +4,7 @@
 //! period, and no schedule that fits has a smaller latency. In a schedule that fits, each path of cells within a cycle ends
 //! a setup time before the end of the cycle.
 //!
-//! By: `stage`, `latency`, `greatest_time`; the laws `stage_fits`, `stage_is_least`, `paths_fit` of `opgen_part_laws`.
+//! By: `stage`, `latency`, `greatest_time`; for every schedule that fits, the law `paths_fit` of `opgen_part_laws`.
 #![tactic(auto)]
 
 mod reads;

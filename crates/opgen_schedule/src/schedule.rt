@@ -2,7 +2,8 @@
 ghost use Rattle.std.specs.Prelude.{◌≡◌, ◌≤◌, ◌<◌, ◌+◌, ◌^◌, ℕ, All, [], length, IfOk, if◌then◌else◌};
 ghost use Rattle.opgen_net.specs.Valid.{AllMayStand};
 ghost use Rattle.opgen_schedule.specs.Reads.{reads_of, is_constant, is_constant_at};
-ghost use Rattle.opgen_schedule.specs.Schedule.{greatest, greatest_time, latency};
+ghost use Rattle.opgen_schedule.specs.Laws.{IsLeast, PathsEnd};
+ghost use Rattle.opgen_schedule.specs.Schedule.{greatest, greatest_time, latency, Fits};
 ghost use Rattle.opgen_schedule.specs.Stage.{after, latest, later, slot_at, slot_of, stage, start};
 
 use crate::reads;
@@ -104,6 +105,9 @@ pub fn stage(
     ensures stage { IfOk result (λ v. v.items ≡ stage delays.now setup period nodes.now) }
     ensures early { IfOk result (λ v. All (λ p. p.cycle ≤ length nodes.now) v.items) }
     ensures ends { IfOk result (λ v. greatest_time v.items + setup ≤ period) }
+    ensures fits { IfOk result (λ v. Fits nodes.now delays.now setup period (slot_at v.items)) }
+    ensures paths { IfOk result (λ v. PathsEnd nodes.now delays.now setup period (slot_at v.items)) }
+    ensures least { IfOk result (λ v. IsLeast nodes.now delays.now setup period (slot_at v.items)) }
 {
     let mut slots = Vec::new(alloc);
     'nodes: for (place, node) in nodes.iter().enumerate() {

@@ -1,10 +1,10 @@
 -- The least set of adders for the odd parts of some numbers, its graph, and the net of several constants by that graph.
 use Rattle.std.specs.Prelude.{◌≡◌, ℕ, ℤ, List, All}
 use Rattle.opgen_net.specs.declared.net.Net.{Net}
-use Rattle.opgen_operator.specs.declared.spec.Operator.TheVariants.{Mcm}
-use Rattle.opgen_operator.specs.declared.spec.Several.{Several}
-use Rattle.opgen_operator.specs.Accepted.{IsAcceptedSeveral}
+use Rattle.opgen_operator.specs.declared.kinds.several.Several.{Several}
+use Rattle.opgen_operator.specs.declared.operator.Operator.TheVariants.{Mcm}
 use Rattle.opgen_operator.specs.Fits.{FitsSpecsOf}
+use Rattle.opgen_operator.specs.kinds.Several.{IsAcceptedSeveral}
 use Rattle.opgen_operator.specs.Ranges.{IsWithin}
 use Rattle.opgen_graph.specs.declared.ranks.Graph.{Graph}
 use Rattle.opgen_graph.specs.Graphs.{IsRanks}

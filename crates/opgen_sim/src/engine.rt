@@ -3,7 +3,7 @@ ghost use Rattle.std.specs.Prelude.{◌≡◌, IfOk, length};
 ghost use Rattle.opgen_num.specs.Words.{FitWidths};
 ghost use Rattle.opgen_design.specs.Order.{IsOrderOf};
 ghost use Rattle.opgen_design.specs.Run.{at_ports, initial_words, input_widths, is_out};
-ghost use Rattle.opgen_design.specs.Sound.{HasNumbers, IsSound, port_widths};
+ghost use Rattle.opgen_design.specs.Sound.{IsSound, port_widths};
 ghost use Rattle.opgen_runs.specs.Registers.{SameRegisters};
 ghost use Rattle.opgen_runs.specs.Step.{IsStep};
 ghost use Rattle.opgen_sim.specs.Engines.{IsEngineOf, registers_of};
@@ -34,7 +34,6 @@ impl Engine {
         cycles: u32,
     ) -> Result<Engine, AllocError>
         requires sound { IsSound design.now }
-        requires numbers { HasNumbers design.now }
         requires order { IsOrderOf design.now order.items }
         ensures engine { IfOk result (λ e. IsEngineOf design.now e) }
         ensures registers { IfOk result (λ e. SameRegisters design.now (registers_of design.now e) (initial_words design.now.signals)) }

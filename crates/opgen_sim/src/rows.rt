@@ -47,7 +47,6 @@ fn depth_for_streams(
     rows: u32,
 ) -> Result<Option<u32>, Memory>
     requires sound { IsSound design.now }
-    requires numbers { HasNumbers design.now }
     requires widths { AreWidths design.now widths.now }
     ensures { IfOk result (λ o. IfSome o (λ depth. IsForStreams design.now rows depth)) }
 {
@@ -69,10 +68,10 @@ fn run_cycles(
     cells: &[u128],
 ) -> Result<Vec<u128>, Memory>
     requires sound { IsSound design }
-    requires numbers { HasNumbers design }
     requires widths { AreWidths design widths.now }
     requires rows { AreRowsOfCells (input_widths design) rows cells.now }
-    ensures { IfOk result (λ outputs. IsRunOf design rows cells.now outputs.items) }
+    ensures run { IfOk result (λ outputs. IsRunOf design rows cells.now outputs.items) }
+    ensures numbers { IfOk result (λ outputs. HasNumbers design) }
 {
     let columns = widths.inputs.len();
     let mut sim = Sim::from_design(alloc, design, rows)?;
@@ -92,6 +91,8 @@ fn run_cycles(
 
 /// The numbers at the output ports of a design over rows of numbers at its input ports, row after row, in the way that is faster: a
 /// cycle at a time; or, if the design only feeds forward, in 256 streams, each of which runs a part of the rows.
+///
+/// A design of 2^32 or more ports, signals and drivers together is answered by `Memory`.
 pub fn run_rows(
     alloc: Global,
     design: Design,
@@ -99,9 +100,9 @@ pub fn run_rows(
     cells: &[u128],
 ) -> Result<Vec<u128>, Memory>
     requires sound { IsSound design }
-    requires numbers { HasNumbers design }
     requires rows { AreRowsOfCells (input_widths design) rows cells.now }
-    ensures { IfOk result (λ outputs. IsRunOf design rows cells.now outputs.items) }
+    ensures run { IfOk result (λ outputs. IsRunOf design rows cells.now outputs.items) }
+    ensures numbers { IfOk result (λ outputs. HasNumbers design) }
 {
     let widths = Widths::of(alloc, &design)?;
     match depth_for_streams(alloc, &design, &widths, rows)? {

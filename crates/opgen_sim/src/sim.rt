@@ -9,6 +9,7 @@ ghost use Rattle.opgen_sim.specs.Sims.{IsNew};
 use crate::engine::Engine;
 use opgen_design::Design;
 use opgen_num::Memory;
+use opgen_runs::evaluation_order;
 use std::alloc::Global;
 use std::marker::Model;
 
@@ -38,22 +39,22 @@ impl Sim {
     /// A simulator before the first cycle of a sound design, which it keeps, with all the room that its steps use.
     ///
     /// `cycles` says how many cycles are to be run, so that it runs them in the way that is faster. Whatever it says, any number of
-    /// cycles may be run.
+    /// cycles may be run. A design of 2^32 or more ports, signals and drivers together is answered by `Memory`.
     pub fn from_design(alloc: Global, design: Design, cycles: u32) -> Result<Sim, Memory>
-        requires sound { IsSound design }
-        requires numbers { HasNumbers design }
-        ensures { IfOk result (λ s. IsNew design s) }
+        requires { IsSound design }
+        ensures new { IfOk result (λ s. IsNew design s) }
+        ensures numbers { IfOk result (λ s. HasNumbers design) }
     {
-        let order = design.order(alloc)?;
+        let order = evaluation_order(alloc, &design)?;
         let engine = Engine::new(alloc, &design, order, cycles)?;
         Ok(Sim { design, engine })
     }
 
     /// The same of a copy of a design, for many cycles.
     pub fn new(alloc: Global, design: &Design) -> Result<Sim, Memory>
-        requires sound { IsSound design.now }
-        requires numbers { HasNumbers design.now }
-        ensures { IfOk result (λ s. IsNew design.now s) }
+        requires { IsSound design.now }
+        ensures new { IfOk result (λ s. IsNew design.now s) }
+        ensures numbers { IfOk result (λ s. HasNumbers design.now) }
     {
         Sim::from_design(alloc, design.copy(alloc)?, u32::MAX)
     }

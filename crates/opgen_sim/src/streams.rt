@@ -92,11 +92,11 @@ pub(crate) fn run_streams(
     depth: u32,
 ) -> Result<Vec<u128>, Memory>
     requires sound { IsSound design }
-    requires numbers { HasNumbers design }
     requires widths { AreWidths design widths.now }
     requires rows { AreRowsOfCells (input_widths design) rows cells.now }
     requires depth { IsForStreams design rows depth }
-    ensures { IfOk result (λ outputs. IsRunOf design rows cells.now outputs.items) }
+    ensures run { IfOk result (λ outputs. IsRunOf design rows cells.now outputs.items) }
+    ensures numbers { IfOk result (λ outputs. HasNumbers design) }
 {
     let mut lanes = Lanes::from_design(alloc, design)?;
     Ok(run_lanes(alloc, &mut lanes, widths, rows, cells, depth)?)

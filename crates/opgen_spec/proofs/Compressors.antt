@@ -1,5 +1,5 @@
 -- The compressor of a document without a fault: it has none, or one of the two, in another version than the first.
-use Rattle.std.proofs.Common.{◌≡◌, ℕ, ◌+◌, ◌&&◌, ◌||◌, ◌⊎◌, ⊎_elim, inl, inr, not, Bool, true, false, cond, List, length, get_or, Option, Ordering, Less, Equal, Greater, Some, None, is_some, option_and_then, find, subst, refl, ap, sym, ◌∙◌, if◌then◌else◌}
+use Rattle.std.proofs.Common.{◌≡◌, ℕ, ◌+◌, ◌&&◌, ◌||◌, ◌⊎◌, ⊎_elim, inl, inr, not, Bool, true, false, cond, List, length, Option, Ordering, Less, Equal, Greater, Some, None, is_some, option_and_then, subst, refl, ap, sym, ◌∙◌, if◌then◌else◌}
 use Rattle.std.specs.Prelude.{pos, codes}
 use Rattle.std.specs.List.{position_from}
 use Rattle.std.specs.Option.{option_map_or}
@@ -11,16 +11,19 @@ use Rattle.std.proofs.lemmas.List.Folds.{Any-from_list_any}
 use Rattle.std.proofs.lemmas.Map.Lookups.{exact_bytes}
 use Rattle.std.proofs.lemmas.Slice.Eq.{bytes_eq-Decides}
 use Rattle.toml.specs.Data.{Data, string, Members, no_members, member, get_member, as_str}
-use Rattle.opgen_operator.specs.declared.kind.Kind.{Kind}
+use Rattle.opgen_operator.specs.declared.operator.Kind.{Kind}
 use Rattle.opgen_spec.specs.declared.fault.SpecFault.TheVariants as fault
 use Rattle.opgen_spec.specs.declared.key.Key.{Key}
 use Rattle.opgen_spec.specs.declared.key.Key.TheVariants as key
-use Rattle.opgen_spec.specs.Document.{names, value_at, text_in, is_first, kind_of}
-use Rattle.opgen_spec.specs.Faults.{unknown_among, wrong_among, outside_among, is_wrong, found, out_of_range, compressor_outside}
-use Rattle.opgen_spec.specs.Keys.{document_keys, key_name, may_stand, has_key, is_known}
-use Rattle.opgen_spec.specs.Spec.{counters_at}
-use Rattle.opgen_spec.specs.Written.{IsCompressorAsWritten}
-use Rattle.opgen_spec.proofs.Fields.{map_none, find_none, first_none}
+use Rattle.opgen_spec.specs.declared.stand.Stand.TheVariants.{Absent}
+use Rattle.opgen_spec.specs.Document.{names, value_at, text_in, text_at, is_first}
+use Rattle.opgen_spec.specs.Faults.{is_wrong}
+use Rattle.opgen_spec.specs.Fields.{counters_at, IsCompressorAsWritten}
+use Rattle.opgen_spec.specs.Keys.{document_keys, key_name}
+use Rattle.opgen_spec.specs.Ranges.{compressor_outside}
+use Rattle.opgen_spec.specs.Stands.{may_be, may_stand, is_known}
+use Rattle.opgen_spec.specs.kinds.{kind_of, entry}
+use Rattle.opgen_spec.proofs.Fine.{AreFine, map_none, typed, own_range}
 
 -- a name that is there passes a test that no name fails
 known : (p : List ℕ → Bool) (ms : Members) (name : List ℕ) (n : ℕ) → position_from (λ m. not (p m)) n (names ms) ≡ None
@@ -46,43 +49,44 @@ compressor_key _ h = cc
 pub record IsTaken (ms : Members) : Type 0 where
   pub later : is_first ms ≡ false
   pub typed : is_wrong ms key.Compressor ≡ false
-  pub ranged : found 0 ms key.Compressor ≡ None
+  pub ranged : option_and_then (λ _. compressor_outside (text_at ms key.Compressor)) (value_at ms key.Compressor) ≡ None
 
-not_true : (b : Bool) → not b ≡ true → b ≡ false
-not_true false h = refl
-not_true true h = cc
+-- a key that version 1 lacks is not one of a document of version 1
+later_only : (first : Bool) (one : Kind) → (entry one).stand true key.Compressor ≡ Absent
+    → may_be ((entry one).stand first key.Compressor) ≡ true → first ≡ false
+later_only false one absent may = refl
+later_only true one absent may = let no : false ≡ true = sym (ap may_be absent) ∙ may in cc
 
-taken : (ms : Members) (one : Kind) → kind_of ms ≡ Some one → unknown_among document_keys 0 ms ≡ None
-    → wrong_among document_keys 0 ms ≡ None → outside_among document_keys 0 ms ≡ None
+-- a kind has the key in later versions alone, and its range is that of compressors
+pub record IsLater (one : Kind) : Type 0 where
+  pub absent : (entry one).stand true key.Compressor ≡ Absent
+  pub range : (ms : Members) → (entry one).key_outside ms key.Compressor ≡ compressor_outside (text_at ms key.Compressor)
+
+taken : (ms : Members) (one : Kind) → AreFine ms → kind_of ms ≡ Some one → IsLater one
     → is_some (value_at ms key.Compressor) ≡ true → IsTaken ms
-taken ms one e unknown wrong range there =
+taken ms one f e is there =
     let stands : List ℕ → Bool = is_known document_keys (is_first ms) (kind_of ms) in
-    let none = map_none (fault.UnknownKey 0) (position_from (λ name. not (stands name)) 0 (names ms)) unknown in
+    let none = map_none (fault.UnknownKey 0) (position_from (λ name. not (stands name)) 0 (names ms)) f.unknown in
     let listed : stands (codes "compressor") ≡ true = known stands ms (codes "compressor") 0 none there in
     let (i, k, lt, at, both) = Any-from_list_any
     (λ k. may_stand (is_first ms) (kind_of ms) k && bytes_eq (key_name k) (codes "compressor")) document_keys listed in
     let (may, named) = and_parts (may_stand (is_first ms) (kind_of ms) k) (bytes_eq (key_name k) (codes "compressor")) both in
-    let same : get_or document_keys i k ≡ key.Compressor = at ∙ compressor_key k named in
     let allowed : may_stand (is_first ms) (Some one) key.Compressor ≡ true =
     ap (λ o. may_stand (is_first ms) o key.Compressor) (sym e)
     ∙ (ap (may_stand (is_first ms) (kind_of ms)) (sym (compressor_key k named)) ∙ may) in
-    let (_, later) = and_parts (has_key one key.Compressor) (not (is_first ms)) allowed in
     record {
-      later = not_true (is_first ms) later;
-      typed = subst (λ k. is_wrong ms k ≡ false) same (find_none (is_wrong ms) document_keys i k
-          (map_none (λ k. fault.WrongType k 0) (find (is_wrong ms) document_keys) wrong) lt);
-      ranged = subst (λ k. found 0 ms k ≡ None) same (map_none (fault.OutOfRange (get_or document_keys i k) 0)
-          (found 0 ms (get_or document_keys i k)) (first_none (λ k. out_of_range 0 k (found 0 ms k)) document_keys i k range lt));
+      later = later_only (is_first ms) one is.absent allowed;
+      typed = typed ms key.Compressor f refl;
+      ranged = ap (λ x. option_and_then (λ _. x) (value_at ms key.Compressor)) (sym (is.range ms)) ∙ own_range ms one key.Compressor f e refl;
     }
 
-pub compressor_cases : (ms : Members) (one : Kind) → kind_of ms ≡ Some one → unknown_among document_keys 0 ms ≡ None
-    → wrong_among document_keys 0 ms ≡ None → outside_among document_keys 0 ms ≡ None
+pub compressor_cases : (ms : Members) (one : Kind) → AreFine ms → kind_of ms ≡ Some one → IsLater one
     → (value_at ms key.Compressor ≡ None) ⊎ IsTaken ms
-compressor_cases ms one e unknown wrong range = go (value_at ms key.Compressor) refl
+compressor_cases ms one f e is = go (value_at ms key.Compressor) refl
   where
     go : (o : Option Data) → value_at ms key.Compressor ≡ o → (value_at ms key.Compressor ≡ None) ⊎ IsTaken ms
-    go None is = inl is
-    go (Some d) is = inr (taken ms one e unknown wrong range (ap is_some is))
+    go None none = inl none
+    go (Some d) some = inr (taken ms one f e is (ap is_some some))
 
 without : (ms : Members) → value_at ms key.Compressor ≡ None → counters_at ms ≡ false
 without ms none = ap (λ o. bytes_eq (text_in o) (codes "counters")) none

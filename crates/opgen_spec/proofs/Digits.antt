@@ -29,21 +29,21 @@ digit_at digits i all lt =
     digit_bounds (get_or digits i 0) (by_cases (is_ascii_digit (get_or digits i 0)) (λ no_digit. let none = list_all_at is_ascii_digit
     digits i 0 lt no_digit in cc))
 
-room_of : (n digit p q : ℕ) → digit ≤ 9 → q ≡ 10 * p → (n * 10 + digit + 1) * p ≤ (n + 1) * q
-room_of n digit p q h e =
+entry_of : (n digit p q : ℕ) → digit ≤ 9 → q ≡ 10 * p → (n * 10 + digit + 1) * p ≤ (n + 1) * q
+entry_of n digit p q h e =
     let step : n * 10 + digit + 1 ≤ (n + 1) * 10 = omega (arith, h) in
     let wider : (n * 10 + digit + 1) * p ≤ (n + 1) * 10 * p = mul-le-mul_right p step in
     rw e (omega (arith, wider))
 
-room : (n digit rest : ℕ) → digit ≤ 9 → (n * 10 + digit + 1) * 10 ^ rest ≤ (n + 1) * 10 ^ suc rest
-room n digit rest h = room_of n digit (10 ^ rest) (10 ^ suc rest) h (pow-succ' 10 rest)
+entry : (n digit rest : ℕ) → digit ≤ 9 → (n * 10 + digit + 1) * 10 ^ rest ≤ (n + 1) * 10 ^ suc rest
+entry n digit rest h = entry_of n digit (10 ^ rest) (10 ^ suc rest) h (pow-succ' 10 rest)
 
 pub read_more : (digits : List ℕ) (start number i next : ℕ) → next ≡ suc i → IsReadSoFar digits start number i → i < length digits
     → get_or digits i 0 ≤ 57 → IsReadSoFar digits start (number * 10 + (get_or digits i 0 - 48)) next
 read_more digits start number i next e so_far lt most =
     let left : length digits - i ≡ suc (length digits - suc i) = omega (arith, lt) in
     let cut = drop-cons digits i 0 lt in
-    let more = room number (get_or digits i 0 - 48) (length digits - suc i) (omega (arith, most)) in
+    let more = entry number (get_or digits i 0 - 48) (length digits - suc i) (omega (arith, most)) in
     let before : (number + 1) * 10 ^ suc (length digits - suc i) ≤ (start + 1) * 10 ^ length digits = rw left at so_far.bound in
     rw e (record {
       value = ap (digits_from number) (sym cut) ∙ so_far.value;

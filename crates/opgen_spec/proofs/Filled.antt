@@ -10,9 +10,9 @@ use Rattle.opgen_spec.proofs.Trees.{cut}
 pub filled : (f : Data → ℤ) (vs : List Value) (i : ℕ) (v : Value) (ns : List ℤ) → i < length vs → i < length ns → v ≡ get_or vs i v
     → take (i + 1) (set ns i (f (view v))) ++ map f (list_of (items_view (drop (i + 1) vs)))
     ≡ take i ns ++ map f (list_of (items_view (drop i vs)))
-filled f vs i v ns lt room here =
+filled f vs i v ns lt entry here =
     let rest = map f (list_of (items_view (drop (i + 1) vs))) in
-    ap (λ front. front ++ rest) (take_more_set ns i (f (view v)) room)
+    ap (λ front. front ++ rest) (take_more_set ns i (f (view v)) entry)
     ∙ append_assoc (take i ns) (f (view v) ∷ []) rest
     ∙ ap (λ w. take i ns ++ f (view w) ∷ rest) here
     ∙ ap (λ items. take i ns ++ map f (list_of items)) (sym (cut vs i v lt))

@@ -3,8 +3,10 @@ mod Decimals
 mod Trees
 mod Reading
 mod Filled
-mod Fields
+mod Fine
+mod Ranges
 mod Compressors
+mod Writing
+mod sound
 pub mod Validity
-mod KindOf
 mod Written

@@ -5,8 +5,7 @@ use Rattle.toml.specs.Data.{Data, string, integer, boolean, array, Items, no_ite
 use Rattle.toml.specs.Parse.{parse_document}
 use Rattle.opgen_spec.specs.declared.key.Key.{Key}
 use Rattle.opgen_spec.specs.declared.key.Key.TheVariants as key
-use Rattle.opgen_operator.specs.declared.kind.Kind.{Kind}
-use Rattle.opgen_spec.specs.Keys.{key_name, kind_named}
+use Rattle.opgen_spec.specs.Keys.{key_name}
 
 -- the tree of the bytes: none where they are not UTF-8, or no document
 abbrev pub tree : List ℕ → Option Members
@@ -79,7 +78,3 @@ is_one (negsuc n) = false
 
 abbrev pub is_first : Members → Bool
 is_first ms = is_one (number_at ms key.Version)
-
--- the kind that the document names
-abbrev pub kind_of : Members → Option Kind
-kind_of ms = kind_named (text_at ms key.Kind)

@@ -1,28 +1,28 @@
 -- The first error of a document, in the order in which the checks are made.
-use Rattle.std.specs.Prelude.{◌≡◌, ℕ, ◌+◌, ◌^◌, ◌==◌, ◌&&◌, ◌||◌, not, Bool, false, List, [], ◌∷◌, length, map, codes, ℤ, pos, negsuc, int_le, unsigned_abs, Option, Some, None, is_some, is_none, option_map, option_and_then, find, if◌then◌else◌, nat_lt, Result, Ok, Err}
+use Rattle.std.specs.Prelude.{◌≡◌, ℕ, ◌+◌, ◌==◌, ◌&&◌, ◌||◌, not, Bool, false, List, [], ◌∷◌, length, map, ℤ, pos, negsuc, Option, Some, None, is_some, is_none, option_map, option_and_then, find, if◌then◌else◌, nat_lt, Result, Ok, Err}
 use Rattle.std.specs.List.{list_all, position_from}
 use Rattle.std.specs.Option.{option_or, option_map_or}
-use Rattle.std.specs.Str.{bytes_eq}
 use Rattle.toml.specs.Data.{Data, string, table, Items, no_items, item, Members, as_str, as_integer, as_bool, as_array, as_table}
 use Rattle.opgen_spec.specs.declared.fault.SpecFault.{SpecFault}
 use Rattle.opgen_spec.specs.declared.fault.SpecFault.TheVariants as fault
 use Rattle.opgen_spec.specs.declared.key.Key.{Key}
 use Rattle.opgen_spec.specs.declared.key.Key.TheVariants as key
-use Rattle.opgen_operator.specs.declared.kind.Kind.{Kind}
-use Rattle.opgen_operator.specs.declared.kind.Kind.TheVariants as kind
+use Rattle.opgen_operator.specs.declared.operator.Kind.{Kind}
+use Rattle.opgen_operator.specs.declared.spec.Spec.{Spec}
+use Rattle.opgen_operator.specs.Limits.{most_signal}
+use Rattle.opgen_operator.specs.Operator.{least_shift, most_shift, shift, inexact, need}
+use Rattle.opgen_operator.specs.SpecName.{is_spec_name}
 use Rattle.opgen_spec.specs.declared.key.Sort.{Sort}
 use Rattle.opgen_spec.specs.declared.key.Sort.TheVariants.{Number, Text, Flag, Coefficients, Numbers, Tables}
 use Rattle.opgen_spec.specs.declared.lines.Check.{Check}
 use Rattle.opgen_spec.specs.declared.lines.Check.TheVariants.{Unknown, Missing, WrongType, Range}
-use Rattle.opgen_operator.specs.declared.spec.Spec.{Spec}
-use Rattle.opgen_spec.specs.Keys.{document_keys, line_keys, is_one_of, is_known, is_needed, class_named, sort_of}
-use Rattle.opgen_spec.specs.Document.{names, list_of, value_at, number_at, text_at, flag_at, count_at, items_of, items_at, is_first, kind_of}
-use Rattle.opgen_spec.specs.Numbers.{decimal_of, numerators, are_texts}
-use Rattle.opgen_operator.specs.OddParts.{odd_part_count}
-use Rattle.opgen_operator.specs.Limits.{most_input, most_signal, least_shift, most_shift}
-use Rattle.opgen_operator.specs.Outputs.{shift, inexact, need}
+use Rattle.opgen_spec.specs.Keys.{document_keys, line_keys, class_named, sort_of}
+use Rattle.opgen_spec.specs.Document.{names, list_of, value_at, number_at, text_at, items_of, items_at, is_first}
+use Rattle.opgen_spec.specs.Numbers.{decimal_of, are_texts}
+use Rattle.opgen_spec.specs.Ranges.{outside, length_outside}
+use Rattle.opgen_spec.specs.kinds.{kind_of, entry}
+use Rattle.opgen_spec.specs.Stands.{is_known, is_needed}
 use Rattle.opgen_spec.specs.Spec.{spec_of}
-use Rattle.opgen_operator.specs.SpecName.{is_spec_name}
 
 -- the first of some faults
 abbrev pub first_of : List (Option SpecFault) → Option SpecFault
@@ -36,7 +36,7 @@ unknown_among ks line ms =
 
 -- Missing: the first of the keys that is needed and not there.
 abbrev pub is_missing : Members → Key → Bool
-is_missing ms k = is_needed (kind_of ms) k && is_none (value_at ms k)
+is_missing ms k = is_needed (is_first ms) (kind_of ms) k && is_none (value_at ms k)
 
 abbrev pub missing_among : List Key → ℕ → Members → Option SpecFault
 missing_among ks line ms = option_map (λ k. fault.MissingKey k line) (find (is_missing ms) ks)
@@ -88,100 +88,24 @@ abbrev pub wrong_among : List Key → ℕ → Members → Option SpecFault
 wrong_among ks line ms = option_map (λ k. fault.WrongType k line) (find (is_wrong ms) ks)
 
 -- Out of range: the first of the keys with a number, a length or an element outside its bounds, which is what was found.
-abbrev pub outside : ℤ → ℤ → ℤ → Option ℤ
-outside low high n = if int_le low n && int_le n high then None else Some n
-
-abbrev pub is_poly : Option Kind → Bool
-is_poly named = option_map_or (is_one_of (kind.Poly ∷ [])) named false
-
--- The bounds of an input's width. Signed inputs have two bits or more. A polynomial has its own limit; of the other kinds it is
--- that of the version.
-abbrev pub width_bounds : Option Kind → (version : ℕ) (signed : Bool) → ℤ × ℤ
-width_bounds named version signed = (pos (if signed then 2 else 1), pos (if is_poly named then 16 else most_input version))
-
--- the bounds of the power of an output's lowest bit
-abbrev pub out_bounds : Option Kind → ℤ × ℤ
-out_bounds named = if is_poly named then (negsuc 15, pos 0) else (negsuc 31, pos 32)
-
--- The bounds of a whole number. Kind, version and sign are those of the table that has the key: of the document, since a delay
--- line has no such key.
-abbrev pub bounds : Option Kind → (version : ℕ) (signed : Bool) → Key → Option (ℤ × ℤ)
-bounds named version signed key.Period = Some (pos 1, pos 1000000)
-bounds named version signed key.Width = Some (width_bounds named version signed)
-bounds named version signed key.WidthA = Some (width_bounds named version signed)
-bounds named version signed key.WidthB = Some (width_bounds named version signed)
-bounds named version signed key.Lsb = Some (negsuc 31, pos 32)
-bounds named version signed key.LsbA = Some (negsuc 31, pos 32)
-bounds named version signed key.LsbB = Some (negsuc 31, pos 32)
-bounds named version signed key.OutLsb = Some (out_bounds named)
-bounds named version signed key.Denominator = Some (pos 1, pos (2 ^ 30))
-bounds named version signed key.Extra = Some (pos 0, pos 2)
-bounds named version signed key.Divisor = Some (pos 2, pos 32)
-bounds named version signed key.Base = Some (pos 0, pos 1000000)
-bounds named version signed key.PerBit = Some (pos 0, pos 10000)
-bounds named version signed _ = None
-
--- How many coefficients a kind has at least and at most. The kinds that have none are not asked.
-abbrev pub coefficient_counts : Option Kind → ℕ × ℕ
-coefficient_counts (Some kind.Scale) = (1, 1)
-coefficient_counts (Some kind.Fir) = (1, 256)
-coefficient_counts (Some kind.Poly) = (2, 5)
-coefficient_counts (Some kind.Multiply) = (1, 1)
-coefficient_counts (Some kind.Divide) = (1, 1)
-coefficient_counts (Some kind.Root) = (1, 1)
-coefficient_counts (Some kind.Mcm) = (1, 1)
-coefficient_counts (Some kind.Constdiv) = (1, 1)
-coefficient_counts (Some kind.Tfir) = (1, 1)
-coefficient_counts None = (1, 1)
-
--- the first number of an array that is beyond a limit, above or below
-abbrev pub is_beyond : (limit : ℕ) → ℤ → Bool
-is_beyond limit n = nat_lt limit (unsigned_abs n)
-
-abbrev pub first_beyond : (limit : ℕ) → Items → Option ℤ
-first_beyond limit items = find (is_beyond limit) (numerators items)
-
-abbrev pub length_outside : (least most : ℕ) → Items → Option ℤ
-length_outside least most items = outside (pos least) (pos most) (pos (length (list_of items)))
-
--- the length of an array, or else its first number, that is out of bounds
-abbrev pub array_outside : (least most limit : ℕ) → Items → Option ℤ
-array_outside least most limit items = option_or (length_outside least most items) (first_beyond limit items)
-
-abbrev pub number_outside : Option (ℤ × ℤ) → ℤ → Option ℤ
-number_outside None n = None
-number_outside (Some bounds) n = outside bounds.0 bounds.1 n
 
 -- a class that is none of the six, for which the number of its line is found
 abbrev pub class_outside : ℕ → List ℕ → Option ℤ
 class_outside line name = if is_none (class_named name) then Some (pos line) else None
 
--- a compressor's name that is neither of the two, of which its length is found
-abbrev pub compressor_outside : List ℕ → Option ℤ
-compressor_outside name =
-    if bytes_eq name (codes "dadda") || bytes_eq name (codes "counters") then None else Some (pos (length name))
+-- the range that the document's kind sets to one of its keys
+abbrev pub kind_outside : Members → Key → Option ℤ
+kind_outside ms k = option_and_then (λ one. (entry one).key_outside ms k) (kind_of ms)
 
-abbrev pub coefficients_outside : Members → Option ℤ
-coefficients_outside ms =
-    array_outside (coefficient_counts (kind_of ms)).0 (coefficient_counts (kind_of ms)).1 (2 ^ 30) (items_at ms key.Coefficients)
-
--- taps as an array, or else more than eight different odd parts, of which the number is found
-abbrev pub taps_outside : Items → Option ℤ
-taps_outside items =
-    option_or (array_outside 1 32 2047 items) (outside (pos 0) (pos 8) (pos (odd_part_count (numerators items))))
-
-abbrev pub number_bounds : Members → Key → Option (ℤ × ℤ)
-number_bounds ms k = bounds (kind_of ms) (count_at ms key.Version) (flag_at ms key.Signed) k
-
+-- the keys of all kinds and those of delay lines, and then the other keys
 abbrev pub value_outside : ℕ → Members → Key → Option ℤ
 value_outside line ms key.Target = outside (pos 1) (pos 32) (pos (length (text_at ms key.Target)))
-value_outside line ms key.Coefficients = coefficients_outside ms
-value_outside line ms key.Constants = array_outside 1 8 2047 (items_at ms key.Constants)
-value_outside line ms key.Taps = taps_outside (items_at ms key.Taps)
-value_outside line ms key.Compressor = compressor_outside (text_at ms key.Compressor)
+value_outside line ms key.Period = outside (pos 1) (pos 1000000) (number_at ms key.Period)
 value_outside line ms key.Delay = length_outside 0 16 (items_at ms key.Delay)
 value_outside line ms key.Class = class_outside line (text_at ms key.Class)
-value_outside line ms k = number_outside (number_bounds ms k) (number_at ms k)
+value_outside line ms key.Base = outside (pos 0) (pos 1000000) (number_at ms key.Base)
+value_outside line ms key.PerBit = outside (pos 0) (pos 10000) (number_at ms key.PerBit)
+value_outside line ms k = kind_outside ms k
 
 abbrev pub found : ℕ → Members → Key → Option ℤ
 found line ms k = option_and_then (λ _. value_outside line ms k) (value_at ms k)
@@ -229,13 +153,9 @@ bad_version ms = if is_version (number_at ms key.Version) then None else Some (f
 abbrev pub bad_name : Members → Option SpecFault
 bad_name ms = if is_spec_name (text_at ms key.Name) then None else Some fault.BadName
 
--- the first version has the first six kinds
-abbrev pub is_first_kind : Kind → Bool
-is_first_kind one =
-    is_one_of (kind.Scale ∷ kind.Fir ∷ kind.Multiply ∷ kind.Divide ∷ kind.Root ∷ kind.Mcm ∷ []) one
-
+-- whether the first version, or a later one, has the kind
 abbrev pub has_kind : (first : Bool) → Kind → Bool
-has_kind first one = not first || is_first_kind one
+has_kind first one = not first || (entry one).first
 
 -- no kind is named, or one that the version does not have
 abbrev pub bad_kind : Members → Option SpecFault

@@ -1,10 +1,9 @@
 //! Reads the value at a key of a TOML document as a number, text, flag or list.
 ghost use Rattle.std.specs.Prelude.{◌≡◌, option_map};
 ghost use Rattle.toml.specs.View.{view, items_view, table_view};
-ghost use Rattle.opgen_spec.specs.Document.{value_at, number_at, count_at, small_at, text_at, flag_at, items_of, items_at, small, is_first, kind_of};
+ghost use Rattle.opgen_spec.specs.Document.{value_at, number_at, count_at, small_at, text_at, flag_at, items_of, items_at, small, is_first};
 
-use crate::key::{Key, kind_named};
-use opgen_operator::Kind;
+use crate::key::Key;
 use toml::{Table, Value};
 
 /// The value at a key.
@@ -99,11 +98,4 @@ pub(crate) fn is_first(table: &Table) -> bool
     ensures { result ≡ is_first (table_view table.now) }
 {
     number_at(table, Key::Version) == 1
-}
-
-/// The kind that the document names.
-pub(crate) fn kind_of(table: &Table) -> Option<Kind>
-    ensures { result ≡ kind_of (table_view table.now) }
-{
-    kind_named(text_at(table, Key::Kind))
 }

@@ -2,15 +2,17 @@
 ghost use Rattle.std.specs.Prelude.{◌≡◌, find, not};
 ghost use Rattle.std.specs.List.{list_all, position_from};
 ghost use Rattle.toml.specs.View.{view, items_view, table_view};
-ghost use Rattle.opgen_spec.specs.Keys.{is_known};
-ghost use Rattle.opgen_spec.specs.Document.{names, is_first, kind_of};
+ghost use Rattle.opgen_spec.specs.Stands.{is_known};
+ghost use Rattle.opgen_spec.specs.Document.{names};
 ghost use Rattle.opgen_spec.specs.Numbers.{are_texts};
 ghost use Rattle.opgen_spec.specs.Faults.{unknown_among, is_missing, missing_among, is_decimal, is_integer, is_table, are_coefficients, are_integers, are_tables, is_of, are_decimals, fits, clashes, is_wrong, wrong_among};
 
 use crate::decimal::decimal_of;
-use crate::document::{is_first, items_at, items_of, kind_of, value_at};
+use crate::document::{is_first, items_at, items_of, value_at};
 use crate::fault::SpecFault;
-use crate::key::{Key, Sort, is_known, is_needed};
+use crate::key::{Key, Sort};
+use crate::kinds::kind_of;
+use crate::stand::{is_known, is_needed};
 use opgen_operator::Kind;
 use toml::{Table, Value};
 
@@ -39,7 +41,7 @@ pub(crate) fn unknown_among(keys: &[Key], line: u64, table: &Table) -> Option<Sp
 fn is_missing(table: &Table, key: Key) -> bool
     ensures { result ≡ is_missing (table_view table.now) key }
 {
-    is_needed(kind_of(table), key) && value_at(table, key).is_none()
+    is_needed(is_first(table), kind_of(table), key) && value_at(table, key).is_none()
 }
 
 fn first_missing(keys: &[Key], table: &Table) -> Option<Key>

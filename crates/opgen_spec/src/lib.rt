@@ -9,14 +9,16 @@
 mod decimal;
 mod document;
 mod fault;
+mod fields;
 mod form;
 mod key;
+mod kinds;
 mod limits;
 mod lines;
 mod make;
 mod range;
 mod read;
-mod taps;
+mod stand;
 
 pub use fault::SpecFault;
 pub use key::Key;

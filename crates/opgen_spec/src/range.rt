@@ -2,15 +2,14 @@
 ghost use Rattle.std.specs.Prelude.{◌≡◌, ◌<◌, ◌≤◌, ◌^◌};
 ghost use Rattle.toml.specs.View.{view, items_view, table_view};
 ghost use Rattle.opgen_spec.specs.Numbers.{places_in, places_among, coefficient};
-ghost use Rattle.opgen_spec.specs.Document.{kind_of};
-ghost use Rattle.opgen_spec.specs.Faults.{outside, is_poly, width_bounds, out_bounds, bounds, coefficient_counts, is_beyond, first_beyond, length_outside, array_outside, number_outside, class_outside, compressor_outside, coefficients_outside, number_bounds, value_outside, found, outside_among};
+ghost use Rattle.opgen_spec.specs.Ranges.{outside, is_beyond, first_beyond, length_outside, array_outside, width_outside, power_outside, coefficients_outside, denominator_outside, extra_outside, compressor_outside};
+ghost use Rattle.opgen_spec.specs.Faults.{class_outside, kind_outside, value_outside, found, outside_among};
 
 use crate::decimal::{decimal_of, numerator};
-use crate::document::{count_at, flag_at, items_at, kind_of, number_at, text_at, value_at};
+use crate::document::{flag_at, items_at, number_at, text_at, value_at};
 use crate::fault::SpecFault;
 use crate::key::{Key, class_named};
-use crate::taps::taps_outside;
-use opgen_operator::{Kind, most_input};
+use crate::kinds::{key_outside, kind_of};
 use toml::{Table, Value};
 
 /// The greatest numerator of a coefficient, without its sign.
@@ -24,65 +23,6 @@ pub(crate) fn outside(low: i64, high: i64, n: i64) -> Option<i64>
     ensures { result ≡ outside low high n }
 {
     if low <= n && n <= high { None } else { Some(n) }
-}
-
-fn is_poly(kind: Option<Kind>) -> bool
-    ensures { result ≡ is_poly kind }
-{
-    matches!(kind, Some(Kind::Poly))
-}
-
-/// The bounds of an input's width: of a polynomial they are its own, and else they hang on the
-/// version.
-fn width_bounds(kind: Option<Kind>, version: u32, signed: bool) -> (i64, i64)
-    ensures { result ≡ width_bounds kind version signed }
-{
-    let fewest = if signed { 2 } else { 1 };
-    let most = if is_poly(kind) {
-        16
-    } else {
-        most_input(version)
-    };
-    (fewest, i64::from(most))
-}
-
-/// The bounds of the power of an output's lowest bit.
-fn out_bounds(kind: Option<Kind>) -> (i64, i64)
-    ensures { result ≡ out_bounds kind }
-{
-    if is_poly(kind) { (-16, 0) } else { (-32, 32) }
-}
-
-/// The bounds of the whole number at a key.
-fn bounds(kind: Option<Kind>, version: u32, signed: bool, key: Key) -> Option<(i64, i64)>
-    ensures { result ≡ bounds kind version signed key }
-{
-    match key {
-        Key::Period => Some((1, 1_000_000)),
-        Key::Width | Key::WidthA | Key::WidthB => Some(width_bounds(kind, version, signed)),
-        Key::Lsb | Key::LsbA | Key::LsbB => Some((-32, 32)),
-        Key::OutLsb => Some(out_bounds(kind)),
-        Key::Denominator => Some((1, 1 << 30)),
-        Key::Extra => Some((0, 2)),
-        Key::Divisor => Some((2, 32)),
-        Key::Base => Some((0, 1_000_000)),
-        Key::PerBit => Some((0, 10_000)),
-        _ => None,
-    }
-}
-
-/// How many coefficients a kind may have, at least and at most. The kinds that have none are not
-/// asked.
-fn coefficient_counts(kind: Option<Kind>) -> (u32, u32)
-    ensures { result ≡ coefficient_counts kind }
-{
-    match kind {
-        Some(Kind::Scale) => (1, 1),
-        Some(Kind::Fir) => (1, 256),
-        Some(Kind::Poly) => (2, 5),
-        Some(Kind::Multiply | Kind::Divide | Kind::Root | Kind::Mcm | Kind::Constdiv | Kind::Tfir)
-        | None => (1, 1),
-    }
 }
 
 /// How many digits an item has after its point.
@@ -163,16 +103,6 @@ pub(crate) fn array_outside(least: u32, most: u32, limit: u64, items: &[Value]) 
     }
 }
 
-/// The number, where the bounds of its key do not hold it.
-fn number_outside(bounds: Option<(i64, i64)>, n: i64) -> Option<i64>
-    ensures { result ≡ number_outside bounds n }
-{
-    match bounds {
-        Some((low, high)) => outside(low, high, n),
-        None => None,
-    }
-}
-
 /// The line's number, where its class is none.
 fn class_outside(line: u64, name: &str) -> Option<i64>
     requires { line < 2 ^ 63 }
@@ -186,7 +116,7 @@ fn class_outside(line: u64, name: &str) -> Option<i64>
 }
 
 /// The length of a compressor's name, if there is none of the name.
-fn compressor_outside(name: &str) -> Option<i64>
+pub(crate) fn compressor_outside(name: &str) -> Option<i64>
     ensures { result ≡ compressor_outside name.now }
 {
     if name == "dadda" || name == "counters" {
@@ -196,24 +126,48 @@ fn compressor_outside(name: &str) -> Option<i64>
     }
 }
 
-fn coefficients_outside(table: &Table) -> Option<i64>
-    ensures { result ≡ coefficients_outside (table_view table.now) }
+/// The width of an input, where it has too many bits, or too few: signed inputs have two or more.
+pub(crate) fn width_outside(most: u32, table: &Table, key: Key) -> Option<i64>
+    ensures { result ≡ width_outside most (table_view table.now) key }
 {
-    let (least, most) = coefficient_counts(kind_of(table));
-    array_outside(
-        least,
-        most,
-        MAX_NUMERATOR,
-        items_at(table, Key::Coefficients),
-    )
+    let fewest = if flag_at(table, Key::Signed) { 2 } else { 1 };
+    outside(fewest, i64::from(most), number_at(table, key))
 }
 
-/// The bounds of the whole number at a key of the document, or of a delay line.
-fn number_bounds(table: &Table, key: Key) -> Option<(i64, i64)>
-    ensures { result ≡ number_bounds (table_view table.now) key }
+/// The power of a lowest bit, where it is out of bounds.
+pub(crate) fn power_outside(table: &Table, key: Key) -> Option<i64>
+    ensures { result ≡ power_outside (table_view table.now) key }
 {
-    let version = count_at(table, Key::Version);
-    bounds(kind_of(table), version, flag_at(table, Key::Signed), key)
+    outside(-32, 32, number_at(table, key))
+}
+
+pub(crate) fn coefficients_outside(least: u32, most: u32, table: &Table) -> Option<i64>
+    ensures { result ≡ coefficients_outside least most (table_view table.now) }
+{
+    let items = items_at(table, Key::Coefficients);
+    array_outside(least, most, MAX_NUMERATOR, items)
+}
+
+pub(crate) fn denominator_outside(table: &Table) -> Option<i64>
+    ensures { result ≡ denominator_outside (table_view table.now) }
+{
+    outside(1, 1 << 30, number_at(table, Key::Denominator))
+}
+
+/// The number of further adders of a graph, where it is out of bounds.
+pub(crate) fn extra_outside(table: &Table) -> Option<i64>
+    ensures { result ≡ extra_outside (table_view table.now) }
+{
+    outside(0, 2, number_at(table, Key::Extra))
+}
+
+/// What is out of the range that the document's kind sets to a key.
+#[tactic(auto, unfolding(crate::specs::kinds::entry))]
+fn kind_outside(table: &Table, key: Key) -> Option<i64>
+    ensures { result ≡ kind_outside (table_view table.now) key }
+{
+    let kind = kind_of(table)?;
+    key_outside(kind, table, key)
 }
 
 fn value_outside(line: u64, table: &Table, key: Key) -> Option<i64>
@@ -222,13 +176,12 @@ fn value_outside(line: u64, table: &Table, key: Key) -> Option<i64>
 {
     match key {
         Key::Target => outside(1, 32, text_at(table, key).len() as i64),
-        Key::Coefficients => coefficients_outside(table),
-        Key::Constants => array_outside(1, 8, MAX_CONSTANT, items_at(table, key)),
-        Key::Taps => taps_outside(items_at(table, key)),
-        Key::Compressor => compressor_outside(text_at(table, key)),
+        Key::Period => outside(1, 1_000_000, number_at(table, key)),
         Key::Delay => length_outside(0, 16, items_at(table, key)),
         Key::Class => class_outside(line, text_at(table, key)),
-        _ => number_outside(number_bounds(table, key), number_at(table, key)),
+        Key::Base => outside(0, 1_000_000, number_at(table, key)),
+        Key::PerBit => outside(0, 10_000, number_at(table, key)),
+        _ => kind_outside(table, key),
     }
 }
 

@@ -2,13 +2,14 @@
 ghost use Rattle.std.specs.Prelude.{◌≡◌, IfOk, IsSomeAnd, MatchResult, Some};
 ghost use Rattle.toml.specs.View.{table_view};
 ghost use Rattle.opgen_spec.specs.Document.{tree};
-ghost use Rattle.opgen_spec.specs.Faults.{bad_version, bad_name, is_first_kind, has_kind, bad_kind, form_fault, value_fault, field_fault, read, Gives, IsNoTree};
+ghost use Rattle.opgen_spec.specs.Faults.{bad_version, bad_name, has_kind, bad_kind, form_fault, value_fault, field_fault, read, Gives, IsNoTree};
 ghost use Rattle.opgen_operator.specs.Valid.{IsValidSpec};
 ghost use Rattle.opgen_spec.specs.Written.{IsAsWritten};
 
-use crate::document::{is_first, kind_of, number_at, text_at};
+use crate::document::{is_first, number_at, text_at};
 use crate::fault::SpecFault;
 use crate::key::Key;
+use crate::kinds::{is_first_kind, kind_of};
 use crate::limits::limit_fault;
 use crate::lines::{Check, check_fault};
 use crate::make::spec_with;
@@ -51,16 +52,8 @@ fn bad_name(table: &Table) -> Option<SpecFault>
     }
 }
 
-fn is_first_kind(kind: Kind) -> bool
-    ensures { result ≡ is_first_kind kind }
-{
-    match kind {
-        Kind::Scale | Kind::Fir | Kind::Multiply | Kind::Divide | Kind::Root | Kind::Mcm => true,
-        Kind::Constdiv | Kind::Poly | Kind::Tfir => false,
-    }
-}
-
-/// Whether documents of the first version, or of a later one, have the kind: the first has six.
+/// Whether documents of the first version, or of a later one, have the kind.
+#[tactic(auto, unfolding(crate::specs::kinds::entry))]
 fn has_kind(first: bool, kind: Kind) -> bool
     ensures { result ≡ has_kind first kind }
 {

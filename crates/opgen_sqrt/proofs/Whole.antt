@@ -19,17 +19,15 @@ use Rattle.opgen_net.specs.Valid.{widths}
 use Rattle.opgen_net.specs.WordRule.{IsThere, bits_from}
 use Rattle.opgen_net.proofs.FlowWidths.{flow-width}
 use Rattle.opgen_net.proofs.Grown.{flow-then, grown-flow, grown-count}
+use Rattle.opgen_operator.specs.declared.kinds.single.Single.{Single}
+use Rattle.opgen_operator.specs.declared.operator.Operator.TheVariants.{Root}
 use Rattle.opgen_operator.specs.declared.TheConstants.{MAX_SHIFT}
-use Rattle.opgen_operator.specs.declared.spec.Operator.TheVariants.{Root}
-use Rattle.opgen_operator.specs.declared.spec.Single.{Single}
-use Rattle.opgen_operator.specs.Accepted.{IsAcceptedSingle}
-use Rattle.opgen_operator.specs.Exact.{Recent, square}
 use Rattle.opgen_operator.specs.Fits.{FitsOperator, FitsSpecsOf, name_and_width}
-use Rattle.opgen_operator.specs.Good.{IsGoodSquareRoot}
+use Rattle.opgen_operator.specs.kinds.Single.{IsAcceptedSingle, square, IsGoodSquareRoot, root_shift, root_width, root_ports, IsSingle}
+use Rattle.opgen_operator.specs.Operator.{operator_inputs}
 use Rattle.opgen_operator.specs.PortNumbers.{recent_words, output_words}
-use Rattle.opgen_operator.specs.Outputs.{places_up, root_shift, up}
-use Rattle.opgen_operator.specs.Ports.{operator_inputs, root_width, root_ports}
-use Rattle.opgen_operator.specs.Ranges.{IsSingle}
+use Rattle.opgen_operator.specs.Recent.{Recent}
+use Rattle.opgen_operator.specs.Shifts.{places_up, up}
 use Rattle.opgen_operator.specs.Valid.{AgreesOnExact}
 use Rattle.opgen_operator.proofs.Accepted.{accepted_ranges, accepted_shift}
 use Rattle.opgen_operator.proofs.InputPorts.{input_bit}

@@ -5,9 +5,9 @@ use Rattle.opgen_net.specs.declared.node.Node.TheVariants.{Input}
 use Rattle.opgen_net.specs.declared.word_bits.WordBit.{WordBit}
 use Rattle.opgen_net.specs.declared.word_bits.WordBit.TheVariants.{Zero, One}
 use Rattle.opgen_net.specs.WordRule.{bits_from}
-use Rattle.opgen_operator.specs.declared.spec.Single.{Single}
-use Rattle.opgen_operator.specs.Outputs.{places_up, root_shift}
-use Rattle.opgen_operator.specs.Ports.{root_width}
+use Rattle.opgen_operator.specs.declared.kinds.single.Single.{Single}
+use Rattle.opgen_operator.specs.kinds.Single.{root_shift, root_width}
+use Rattle.opgen_operator.specs.Shifts.{places_up}
 use Rattle.opgen_net.specs.Placed.{with_bits}
 use Rattle.opgen_digits.specs.Digit.{Known, tried}
 use Rattle.opgen_digits.specs.Results.{with_results}

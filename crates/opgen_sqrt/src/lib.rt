@@ -13,10 +13,9 @@ ghost use Rattle.opgen_num.specs.declared.TheConstants.{MAX_WIDTH};
 ghost use Rattle.opgen_net.specs.declared.word_bits.WordBit.TheVariants.{Zero, One};
 ghost use Rattle.opgen_net.specs.Valid.{IsValid, widths};
 ghost use Rattle.opgen_net.specs.WordRule.{IsThere};
-ghost use Rattle.opgen_operator.specs.Accepted.{IsAcceptedSingle};
+ghost use Rattle.opgen_operator.specs.declared.operator.Operator.TheVariants.{Root};
 ghost use Rattle.opgen_operator.specs.Fits.{FitsSpecsOf};
-ghost use Rattle.opgen_operator.specs.Ports.{root_width};
-ghost use Rattle.opgen_operator.specs.declared.spec.Operator.TheVariants.{Root};
+ghost use Rattle.opgen_operator.specs.kinds.Single.{IsAcceptedSingle, root_width};
 ghost use Rattle.opgen_sqrt.specs.Recipe.{with_input, radicand as radicand_of, stepped, after, net_of_single};
 ghost use Rattle.opgen_sqrt.specs.Steps.{HoldsAfterEachStep};
 

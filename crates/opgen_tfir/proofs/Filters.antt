@@ -20,20 +20,21 @@ use Rattle.opgen_net.proofs.Appending.{flow-append_last, valid-output, width-app
 use Rattle.opgen_net.proofs.FlowWidths.{flow-width}
 use Rattle.opgen_net.proofs.Grown.{grown-flow}
 use Rattle.opgen_net.proofs.Later.{Later, later-node, later-same, later-then, node_there}
-use Rattle.opgen_operator.specs.Accepted.{IsAcceptedTaps}
-use Rattle.opgen_operator.specs.declared.spec.Operator.TheVariants.{Tfir}
-use Rattle.opgen_operator.specs.declared.spec.Taps.{Taps}
-use Rattle.opgen_operator.specs.Exact.{weighted}
+use Rattle.opgen_operator.specs.declared.kinds.taps.Taps.{Taps}
+use Rattle.opgen_operator.specs.declared.operator.Operator.TheVariants.{Tfir}
 use Rattle.opgen_operator.specs.Fits.{FitsOperator, FitsSpecsOf}
 use Rattle.opgen_operator.specs.Held.{OutputsHold}
-use Rattle.opgen_operator.specs.PortNumbers.{output_words}
+use Rattle.opgen_operator.specs.kinds.Taps.{IsAcceptedTaps, taps_format, IsTaps}
 use Rattle.opgen_operator.specs.OddParts.{odd_part}
-use Rattle.opgen_operator.specs.Outputs.{reach_of, reach_over, rises, falls, above_zero, below_zero}
-use Rattle.opgen_operator.specs.Ports.{taps_format, operator_outputs}
-use Rattle.opgen_operator.specs.Ranges.{IsTaps, IsWithin}
-use Rattle.opgen_operator.proofs.Accepted.{accepted_ranges, some_width}
+use Rattle.opgen_operator.specs.Operator.{operator_outputs}
+use Rattle.opgen_operator.specs.PortNumbers.{output_words}
+use Rattle.opgen_operator.specs.Ranges.{IsWithin}
+use Rattle.opgen_operator.specs.Reaches.{reach_of, reach_over, rises, falls, above_zero, below_zero}
+use Rattle.opgen_operator.specs.Recent.{weighted}
+use Rattle.opgen_operator.proofs.Accepted.{accepted_ranges}
 use Rattle.opgen_operator.proofs.InputPorts.{input_bit}
-use Rattle.opgen_operator.proofs.Widths.{taps_width}
+use Rattle.opgen_operator.proofs.of_kind.Taps.{taps_width}
+use Rattle.opgen_operator.proofs.Widths.{some_width}
 use Rattle.opgen_graph.specs.declared.ranks.Graph.{Graph}
 use Rattle.opgen_graph.specs.Parts.{parts_of, with_parts}
 use Rattle.opgen_graph.specs.Placing.{factors, AreAdders, IsNode, IsPart, HasOddPart, IsMultiple}

@@ -7,8 +7,8 @@ use Rattle.opgen_net.specs.declared.net.Net.{Net}
 use Rattle.opgen_net.specs.declared.net.Output.{Output}
 use Rattle.opgen_net.specs.declared.node.Node.TheVariants.{Cells, Delay}
 use Rattle.opgen_net.specs.Placed.{Placed, difference_of, with_last, whole}
-use Rattle.opgen_operator.specs.declared.spec.Taps.{Taps}
-use Rattle.opgen_operator.specs.Ports.{taps_format}
+use Rattle.opgen_operator.specs.declared.kinds.taps.Taps.{Taps}
+use Rattle.opgen_operator.specs.kinds.Taps.{taps_format}
 use Rattle.opgen_graph.specs.declared.ranks.Graph.{Graph}
 use Rattle.opgen_graph.specs.Parts.{parts_of, with_parts}
 use Rattle.opgen_graph.specs.Recipe.{Multiples, sum_of, with_input, multiples_of, with_magnitude, with_constant}

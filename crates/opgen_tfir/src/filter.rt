@@ -1,9 +1,9 @@
 //! Builds the net of a transposed filter from the adder graph of its taps.
 ghost use Rattle.std.specs.Prelude.{◌≡◌, IfOk};
 ghost use Rattle.opgen_net.specs.Valid.{IsValid};
-ghost use Rattle.opgen_operator.specs.Accepted.{IsAcceptedTaps};
+ghost use Rattle.opgen_operator.specs.declared.operator.Operator.TheVariants.{Tfir};
 ghost use Rattle.opgen_operator.specs.Fits.{FitsSpecsOf};
-ghost use Rattle.opgen_operator.specs.declared.spec.Operator.TheVariants.{Tfir};
+ghost use Rattle.opgen_operator.specs.kinds.Taps.{IsAcceptedTaps};
 ghost use Rattle.opgen_graph.specs.Recipe.{with_input};
 ghost use Rattle.opgen_graph.specs.Served.{Serves};
 ghost use Rattle.opgen_tfir.specs.Recipe.{with_multiples, net_of_taps};

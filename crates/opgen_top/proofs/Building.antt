@@ -4,12 +4,13 @@ use Rattle.std.specs.Prelude.{IfOk}
 use Rattle.std.proofs.lemmas.Result.{IfOk-at_ok}
 use Rattle.opgen_num.specs.declared.memory.Memory.{Memory}
 use Rattle.opgen_net.specs.declared.net.Net.{Net}
-use Rattle.opgen_operator.specs.declared.spec.Operator.{Operator}
-use Rattle.opgen_operator.specs.declared.spec.Operator.TheVariants.{Scale}
+use Rattle.opgen_operator.specs.declared.kinds.sum.Sum.{Sum}
+use Rattle.opgen_operator.specs.declared.operator.Operator.{Operator}
+use Rattle.opgen_operator.specs.declared.operator.Operator.TheVariants.{Scale}
 use Rattle.opgen_operator.specs.declared.spec.Spec.{Spec}
-use Rattle.opgen_operator.specs.declared.spec.Sum.{Sum}
-use Rattle.opgen_operator.specs.Accepted.{IsAccepted, IsAcceptedSum}
 use Rattle.opgen_operator.specs.Fits.{FitsSpecsOf}
+use Rattle.opgen_operator.specs.kinds.Sum.{IsAcceptedSum}
+use Rattle.opgen_operator.specs.Operator.{IsAccepted}
 use Rattle.opgen_operator.specs.Valid.{IsValidSpec}
 use Rattle.opgen_operator.proofs.Accepted.{valid_accepted}
 use Rattle.opgen_top.specs.declared.circuit.KindNet.{KindNet}

@@ -1,13 +1,16 @@
 -- The answer of `generate` carries the headline.
 use Rattle.std.proofs.Common.{◌≡◌, inl, inr, ℕ, Bool, true, false, cond, List, ◌++◌, length, Option, Some, None, Ok, Err, refl, ap, ◌∙◌, arith}
-use Rattle.std.specs.Prelude.{nat_le}
+use Rattle.std.specs.Prelude.{nat_le, option_map}
 use Rattle.opgen_command.specs.declared.command.Command.TheVariants.{Generate}
 use Rattle.opgen_io.specs.Fetched.{fetched}
 use Rattle.opgen_io.specs.Files.{Files}
 use Rattle.opgen_io.specs.declared.folder.FetchFault.TheVariants as fetch
 use Rattle.opgen_operator.specs.declared.spec.Spec.{Spec}
+use Rattle.opgen_report.specs.Report.{report}
 use Rattle.opgen_spec.specs.Document.{tree}
-use Rattle.opgen_spec.specs.Faults.{read}
+use Rattle.opgen_spec.specs.declared.fault.SpecFault.{SpecFault}
+use Rattle.opgen_spec.specs.Faults.{fault_of, spec_or_fault, read}
+use Rattle.opgen_spec.specs.Spec.{spec_of}
 use Rattle.opgen_target.specs.Delays.{Delays}
 use Rattle.opgen_vhdl.specs.DesignText.{text_of}
 use Rattle.opgen_vhdl.proofs.Walks.{one_design}
@@ -18,8 +21,21 @@ use Rattle.opgen_top.specs.Headline.{Headline}
 use Rattle.opgen_top.specs.Specified.{IsAnswerToSpec, IsGenerated}
 use Rattle.opgen_top.specs.Stores.{stored_all}
 use Rattle.opgen_top.specs.Targets.{Device, IsTableOf}
-use Rattle.opgen_top.proofs.Planning.{circuit_sound, circuit_spells}
+use Rattle.opgen_top.proofs.Planning.{circuit_in_time, circuit_is_least, circuit_sound, circuit_spells}
+use Rattle.opgen_top.proofs.Reported.{report-has_latency}
 use Rattle.opgen_top.proofs.SpecCases.{cases_of_spec}
+
+-- a specification that is read is the one that the keys of a document give
+given_by : (bytes : List ℕ) (spec : Spec) → read (tree bytes) ≡ Ok spec → option_map spec_of (tree bytes) ≡ Some spec
+given_by bytes spec h = by (tree bytes) h
+  where
+    by_fault : (document : _) (fault : Option SpecFault) → spec_or_fault document fault ≡ Ok spec → spec_of document ≡ spec
+    by_fault document None e = cc
+    by_fault document (Some fault) e = absurd (cc)
+
+    by : (found : _) → read found ≡ Ok spec → option_map spec_of found ≡ Some spec
+    by None e = absurd (cc)
+    by (Some document) e = ap Some (by_fault document (fault_of document) e)
 
 abbrev status_of : Answer → ℕ
 status_of a = a.status
@@ -79,22 +95,36 @@ heading serves file workers enable devices files a after before now due ok store
     let g = made.says in
     let planned = g.planned in
     let spelled = circuit_spells spec table enable planned g.adders g.circuit in record {
-      bytes = made.bytes;
-      stands = made.stands;
-      spec = spec;
-      accepted = made.reads;
-      table = table;
-      of_target = made.of_target;
-      planned = planned;
-      adders = g.adders;
-      circuit = g.circuit;
-      vhdl = text_of planned.design;
-      vhdl_is_text = refl;
-      stores = stores ∙ ap (λ (b : Answer). Some (stored_all b.stores files)) g.answer;
-      called = ap (λ d. d.name) g.circuit.plan.design;
-      spelled = spelled;
-      no_other = λ other s. one_design (text_of planned.design) other planned.design s spelled;
-      sound = circuit_sound spec table enable planned g.adders g.circuit;
-      line = λ held tells. line held tells ∙ ap (λ (b : Answer). Some (held ++ b.line)) g.answer;
-      serves = serves spec table enable planned g.adders g.circuit;
+      promise = record {
+        bytes = made.bytes;
+        stands = made.stands;
+        spec = spec;
+        given = given_by made.bytes spec made.reads;
+        vhdl = text_of planned.design;
+        report = report spec planned g.adders;
+        stores = stores ∙ ap (λ (b : Answer). Some (stored_all b.stores files)) g.answer;
+        design = planned.design;
+        called = ap (λ d. d.name) g.circuit.plan.design;
+        spelled = spelled;
+        no_other = λ other s. one_design (text_of planned.design) other planned.design s spelled;
+        sound = circuit_sound spec table enable planned g.adders g.circuit;
+        latency = planned.latency;
+        reported = report-has_latency spec planned g.adders;
+        line = λ held tells. line held tells ∙ ap (λ (b : Answer). Some (held ++ b.line)) g.answer;
+        serves = serves spec table enable planned g.adders g.circuit;
+      };
+      provenance = record {
+        accepted = made.reads;
+        table = table;
+        of_target = made.of_target;
+        planned = planned;
+        adders = g.adders;
+        circuit = g.circuit;
+        design_is = refl;
+        latency_is = refl;
+        vhdl_is = refl;
+        report_is = refl;
+        in_time = circuit_in_time spec table enable planned g.adders g.circuit;
+        least = circuit_is_least spec table enable planned g.adders g.circuit;
+      };
     }

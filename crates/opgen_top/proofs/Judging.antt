@@ -1,5 +1,5 @@
 -- The numbers of a design with one input and one output.
-use Rattle.std.proofs.Common.{◌≡◌, ℕ, zero, suc, ◌*◌, ◌^◌, ◌<◌, ◌-◌, Bool, false, List, [], ◌∷◌, length, map, sym, ap, ◌∙◌, subst, arith}
+use Rattle.std.proofs.Common.{◌≡◌, ℕ, zero, suc, ◌*◌, ◌^◌, ◌<◌, ◌-◌, Bool, false, List, [], ◌∷◌, length, map, refl, sym, ap, ◌∙◌, subst, arith}
 use Rattle.std.specs.Prelude.{All}
 use Rattle.std.specs.List.{concat}
 use Rattle.std.proofs.lemmas.List.Elements.{All-nil, All-cons, All-append}
@@ -9,12 +9,12 @@ use Rattle.opgen_design.specs.declared.design.Design.{Design}
 use Rattle.opgen_design.specs.Run.{Cycle, RunsOn, Words, at_ports, input_widths, output_widths, is_in, is_out}
 use Rattle.opgen_design.specs.Run.{words_at_outputs}
 use Rattle.opgen_operator.specs.declared.spec.Spec.{Spec}
+use Rattle.opgen_operator.specs.Operator.{inputs_of, outputs_of}
 use Rattle.opgen_operator.specs.PortNumbers.{format_at}
-use Rattle.opgen_operator.specs.Ports.{inputs_of, outputs_of}
 use Rattle.opgen_vec.specs.Stimulus.{stimulus_cells}
-use Rattle.opgen_workload.specs.Filter.{workload_spec}
+use Rattle.opgen_workload.specs.Filter.{workload_spec, workload_sum}
 use Rattle.opgen_workload.specs.Judged.{Counts, IsFilter, IsGoodCycle}
-use Rattle.opgen_top.specs.Circuit.{ports_for}
+use Rattle.opgen_top.specs.Serves.{ports_for}
 use Rattle.opgen_runs.specs.Rows.{IsRunOf, output_cells}
 use Rattle.opgen_top.specs.Workload.{RunsGood, cycles, workload_cells}
 use Rattle.opgen_sim.proofs.PortWidths.{widths_on}
@@ -67,7 +67,7 @@ module _ (n : ℕ) (spec : Spec) (filter : spec ≡ workload_spec n) (d : Design
   one_out = ap (widths_on is_out) filter_ports
 
   pub is_filter : IsFilter spec.op
-  is_filter = subst (λ (s : Spec). IsFilter s.op) (sym filter) tt
+  is_filter = subst (λ (s : Spec). IsFilter s.op) (sym filter) (workload_sum n, refl)
 
   module _ (rows : ℕ) (cells : List ℕ) (fit : AreRowsOfCells (map (λ port. port.format.width) (inputs_of spec)) rows cells) where
     pub rows_fit : AreRowsOfCells (input_widths d) rows cells

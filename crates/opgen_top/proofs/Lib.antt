@@ -21,6 +21,8 @@ pub mod ServedPorts
 pub mod Holding
 pub mod Storing
 pub mod Ending
+pub mod Reported
+pub mod Puts
 pub mod Heading
 pub mod Working
 pub mod Judging

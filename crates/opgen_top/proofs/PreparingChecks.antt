@@ -14,7 +14,7 @@ use Rattle.opgen_design.specs.Run.{input_widths}
 use Rattle.opgen_io.specs.Fetched.{fetched}
 use Rattle.opgen_io.specs.Files.{Files}
 use Rattle.opgen_operator.specs.declared.spec.Spec.{Spec}
-use Rattle.opgen_operator.proofs.InputPorts.{some_input}
+use Rattle.opgen_operator.proofs.Operators.{some_input}
 use Rattle.opgen_spec.specs.declared.fault.SpecFault.{SpecFault}
 use Rattle.opgen_spec.specs.Document.{tree}
 use Rattle.opgen_spec.specs.Faults.{read}

@@ -25,7 +25,7 @@ use Rattle.opgen_top.proofs.Listed.{listed_refusal, listed_success}
 use Rattle.opgen_top.proofs.PreparingSpecs.{status_of}
 use Rattle.opgen_top.proofs.Unfetched.{on_fetch, on_missing, on_longer, unfetched, unfetched-before}
 
--- a fault of rows is no want of memory
+-- a fault of rows is not out of memory
 pub names_fault : (widths vectors : List ℕ) (a : Answer) (cause : RefusesRows widths vectors a) → cause.fault ≢ vector_faults.Memory
 names_fault widths vectors a cause = λ e. subst (λ f. IsReading widths (lines vectors) (Err f)) e cause.cause
 

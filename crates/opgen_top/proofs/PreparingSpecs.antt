@@ -73,7 +73,7 @@ pub refused_answers : (bytes : List ℕ) (devices : List Device) (said : Spec �
 refused_answers bytes devices said (refusals.Line line) h = refusal_answers bytes devices said (refusal_of line) h
 refused_answers bytes devices said refusals.Memory h = tt
 
--- want of memory says nothing
+-- running out of memory says nothing
 pub want_says : (refusal : Refusal) (said : Answer → Type 0) → refusal ≡ refusals.Memory → OnRefusal refusal said
 want_says (refusals.Line line) said e = absurd (cc)
 want_says refusals.Memory said e = tt

@@ -16,18 +16,18 @@ use Rattle.opgen_net.specs.Named.{IsNamed}
 use Rattle.opgen_net.specs.Valid.{slice_width, input_widths as net_widths}
 use Rattle.opgen_operator.specs.declared.spec.Spec.{Spec}
 use Rattle.opgen_operator.specs.Fits.{FitsSpec, name_and_width}
-use Rattle.opgen_operator.specs.Good.{IsGood, IsInRange}
+use Rattle.opgen_operator.specs.Operator.{IsGood, IsInRange, inputs_of as spec_inputs, outputs_of}
 use Rattle.opgen_operator.specs.PortNumbers.{recent_words, output_words}
-use Rattle.opgen_operator.specs.Ports.{inputs_of as spec_inputs, outputs_of}
+use Rattle.opgen_pipe.specs.Counted.{enable_inputs, counted, data_inputs}
 use Rattle.opgen_pipe.specs.Copies.{net_latency, signal_count}
-use Rattle.opgen_pipe.specs.Laws.{FollowsFlow, counted, net_inputs}
-use Rattle.opgen_pipe.specs.Pipelined.{design_of, enable_inputs, ports_of}
+use Rattle.opgen_pipe.specs.Laws.{FollowsFlow}
+use Rattle.opgen_pipe.specs.Pipelined.{design_of, ports_of}
 use Rattle.opgen_pipe.specs.Times.{ago}
 use Rattle.opgen_pipe.proofs.Soundness.{design_sound}
 use Rattle.opgen_schedule.specs.Schedule.{Schedule, Fits}
 use Rattle.opgen_runs.proofs.OneRun.{one-run}
 use Rattle.opgen_check.specs.Ports.{port_of}
-use Rattle.opgen_top.specs.Circuit.{ports_for, Serves}
+use Rattle.opgen_top.specs.Serves.{ports_for, Serves}
 use Rattle.opgen_top.proofs.Taken.{run_words, run_long, taken_long, taken_words, widths_after}
 
 -- so many cycles back from as many cycles on
@@ -79,13 +79,13 @@ module _ (spec : Spec) (net : Net) (fits : FitsSpec spec net) (enable : Bool) wh
       (fit : Fits net.nodes delays setup period s) (few : signal_count net s ≤ 2 ^ 64)
       (follows : (inputs : Inputs) (vs : List Words) → Run (design_of name enable net s) inputs vs
       → (u : ℕ) (v : Words) → slice_get (counted enable vs vs) u ≡ Some v
-      → FollowsFlow name enable net s (net_inputs enable (counted enable vs inputs)) u v) where
+      → FollowsFlow name enable net s (data_inputs enable (counted enable vs inputs)) u v) where
     abbrev design : Design
     design = design_of name enable net s
 
     -- inputs of a run, in the cycles that count, are inputs of the net
     net_words : (inputs : Inputs) (vs : List Words) → Run (design_of name enable net s) inputs vs
-        → All (AreWords (net_widths net)) (net_inputs enable (counted enable vs inputs))
+        → All (AreWords (net_widths net)) (data_inputs enable (counted enable vs inputs))
     net_words inputs vs run =
         taken_words enable (net_widths net) inputs vs
         (subst (λ ws. All (AreWords ws) inputs) (widths_in (enable_inputs enable ++ net.inputs) net.outputs
@@ -93,12 +93,12 @@ module _ (spec : Spec) (net : Net) (fits : FitsSpec spec net) (enable : Bool) wh
 
     good : (inputs : Inputs) (vs : List Words) → Run (design_of name enable net s) inputs vs → (t : ℕ) (v : Words)
         → slice_get (counted enable vs vs) (t + net_latency net s) ≡ Some v
-        → IsInRange spec (recent_words (spec_inputs spec) (net_inputs enable (counted enable vs inputs)) t)
-        → IsGood spec (recent_words (spec_inputs spec) (net_inputs enable (counted enable vs inputs)) t)
+        → IsInRange spec (recent_words (spec_inputs spec) (data_inputs enable (counted enable vs inputs)) t)
+        → IsGood spec (recent_words (spec_inputs spec) (data_inputs enable (counted enable vs inputs)) t)
         (output_words (outputs_of spec) (words_at_outputs (design_of name enable net s) v))
     good inputs vs run t v there range =
         let l = net_latency net s in
-        let taken = net_inputs enable (counted enable vs inputs) in
+        let taken = data_inputs enable (counted enable vs inputs) in
         let within : t < length taken =
         omega (
           arith,

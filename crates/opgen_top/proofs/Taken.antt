@@ -7,7 +7,7 @@ use Rattle.opgen_design.specs.declared.design.Design.{Design}
 use Rattle.opgen_design.specs.Enabled.{marked, ones_at}
 use Rattle.opgen_design.specs.Run.{Words, RunsOn, AreWords, at_ports, is_in, input_widths}
 use Rattle.opgen_runs.proofs.Rows.{at_ports-map}
-use Rattle.opgen_pipe.specs.Laws.{counted, net_inputs}
+use Rattle.opgen_pipe.specs.Counted.{counted, data_inputs}
 
 -- the inputs of a run have the widths of its input ports
 pub run_words : (d : Design) (now : List (List Bool)) (inputs : List (List (List Bool))) (vs : List Words) → RunsOn d now inputs vs
@@ -43,7 +43,7 @@ marked_all P (true ∷ marks) (x ∷ xs) h = All-cons P x (marked marks xs) (All
 marked_all P (false ∷ marks) (x ∷ xs) h = marked_all P marks xs (All-tail P x xs h)
 
 pub taken_long : (enable : Bool) (inputs : List (List (List Bool))) (vs : List Words) → length vs ≡ length inputs
-    → length (net_inputs enable (counted enable vs inputs)) ≡ length (counted enable vs vs)
+    → length (data_inputs enable (counted enable vs inputs)) ≡ length (counted enable vs vs)
 taken_long false inputs vs e = sym e
 taken_long true inputs vs e = length-map (marked (ones_at 0 vs) inputs) (drop 1) ∙ marked_long (ones_at 0 vs) inputs vs (sym e)
 
@@ -66,6 +66,6 @@ widths_after false ws = ws
 
 pub taken_words : (enable : Bool) (ws : List ℕ) (inputs : List (List (List Bool))) (vs : List Words)
     → All (AreWords (widths_after enable ws)) inputs
-    → All (AreWords ws) (net_inputs enable (counted enable vs inputs))
+    → All (AreWords ws) (data_inputs enable (counted enable vs inputs))
 taken_words false ws inputs vs h = h
 taken_words true ws inputs vs h = all_dropped 1 ws (marked (ones_at 0 vs) inputs) (marked_all (AreWords (1 ∷ ws)) (ones_at 0 vs) inputs h)

@@ -6,13 +6,13 @@ use Rattle.opgen_fir.specs.Recipe.{net_of_sum}
 use Rattle.opgen_mult.specs.Recipe.{IsNetOfProduct}
 use Rattle.opgen_net.specs.declared.net.Net.{Net}
 use Rattle.opgen_net.specs.Named.{IsNamed}
+use Rattle.opgen_operator.specs.declared.kinds.taps.Taps.{Taps}
+use Rattle.opgen_operator.specs.declared.operator.Operator.{Operator}
+use Rattle.opgen_operator.specs.declared.operator.Operator.TheVariants.{Scale, Fir, Multiply, Divide, Root, Mcm, Constdiv, Poly, Tfir}
 use Rattle.opgen_operator.specs.declared.spec.Spec.{Spec}
-use Rattle.opgen_operator.specs.declared.spec.Operator.{Operator}
-use Rattle.opgen_operator.specs.declared.spec.Operator.TheVariants.{Scale, Fir, Multiply, Divide, Root, Mcm, Constdiv, Poly, Tfir}
 use Rattle.opgen_operator.specs.Fits.{FitsSpec}
 use Rattle.opgen_poly.specs.Recipe.{net_of_poly}
 use Rattle.opgen_graph.specs.declared.ranks.Graph.{Graph}
-use Rattle.opgen_operator.specs.declared.spec.Taps.{Taps}
 use Rattle.opgen_search.specs.Recipe.{IsAdderSetOf, IsLeastGraphOf, IsNetOfSeveral}
 use Rattle.opgen_sqrt.specs.Recipe.{net_of_single}
 use Rattle.opgen_tfir.specs.Recipe.{net_of_taps}

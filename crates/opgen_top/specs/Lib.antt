@@ -1,6 +1,7 @@
 -- Definitions of opgen_top: the correct answer to words, files and targets, circuits and what they serve, and what `run` leaves.
 pub mod Targets
 pub mod Kinds
+pub mod Serves
 pub mod Circuit
 pub mod Running
 pub mod Statuses
@@ -12,6 +13,8 @@ pub mod Simulate
 pub mod Workload
 pub mod Check
 pub mod Due
+pub mod Promise
+pub mod Provenance
 pub mod Headline
 pub mod Left
 pub mod Printed

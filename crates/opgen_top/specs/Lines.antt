@@ -1,5 +1,5 @@
--- The lines that the program prints.
-use Rattle.std.specs.Prelude.{ℕ, List, ◌++◌, codes}
+-- The lines that the program prints, and the line of a report that says the latency.
+use Rattle.std.specs.Prelude.{ℕ, ◌≡◌, List, ◌++◌, codes}
 use Rattle.std.specs.Fmt.{decimal}
 use Rattle.opgen_read.specs.declared.fault.ReadFault.{ReadFault}
 use Rattle.opgen_read.specs.Answer.{fault_text as vhdl_fault_text}
@@ -60,3 +60,13 @@ bad_row_line row = codes "row " ++ decimal row ++ codes " not good\n"
 
 abbrev pub too_long_line : List ℕ
 too_long_line = codes "too long\n"
+
+-- the line of a report that says the latency in cycles
+abbrev pub latency_line : (latency : ℕ) → List ℕ
+latency_line latency = codes "latency " ++ decimal latency
+
+-- a text has a line: it stands between two line feeds
+pub record HasLine (text line : List ℕ) : Type 0 where
+  pub before : List ℕ
+  pub after : List ℕ
+  pub is : text ≡ before ++ codes "\n" ++ line ++ codes "\n" ++ after

@@ -79,7 +79,7 @@ answer_of a = record { status = line_status a.line; line = line_text a.line; sto
 abbrev pub refusal_of : Line → Answer
 refusal_of line = refusal (line_status line) (line_text line)
 
--- what is said of the answer of a refusal, unless that is want of memory
+-- what is said of the answer of a refusal, unless memory ran out
 abbrev pub OnRefusal : Refusal → (Answer → Type 0) → Type 0
 OnRefusal (refusals.Line line) said = said (refusal_of line)
 OnRefusal refusals.Memory said = Unit {0}
@@ -94,7 +94,7 @@ abbrev pub IfRefused : {X : Type 0} → Result X Refusal → (Answer → Type 0)
 IfRefused (Ok x) said = Unit {0}
 IfRefused (Err refusal) said = OnRefusal refusal said
 
--- the answer, or that of the refusal; want of memory has none
+-- the answer, or that of the refusal; running out of memory has none
 abbrev pub IsAnswerOrLine : Result Held Refusal → Answer → Type 0
 IsAnswerOrLine (Ok held) a = a ≡ answer_of held
 IsAnswerOrLine (Err (refusals.Line line)) a = a ≡ refusal_of line
@@ -106,7 +106,7 @@ pub record IsCircuitFor (spec : Spec) (enable : Bool) (devices : List Device) (c
   pub of_target : IsTableOf spec devices table
   pub of_table : IsCircuit spec table enable circuit.planned circuit.adders.items
 
--- the answer tells why a net has no plan; want of memory has no answer
+-- the answer tells why a net has no plan; running out of memory has no answer
 abbrev pub TellsPlanFault : PlanFault → Answer → Type 0
 TellsPlanFault (plan.PeriodTooShort need) a = a ≡ period_too_short need
 TellsPlanFault plan.TooLarge a = a ≡ too_large
@@ -142,7 +142,7 @@ pub record HasJudged (spec : Spec) (design : Design) (latency rows : ℕ) (cells
   pub verdict : IsChecked spec design latency rows cells checked
   pub answer : a ≡ verdict_answer checked
 
--- they are others, or that
+-- the ports are not those of the specification, or the rows were judged
 abbrev pub IsAnswerToDesign : Spec → Design → (latency rows : ℕ) (cells : List ℕ) → Answer → Type 0
 IsAnswerToDesign spec design latency rows cells a =
     ((PortsAgree spec design → ⊥) × (a ≡ ports_refused)) ⊎ HasJudged spec design latency rows cells a

@@ -1,7 +1,7 @@
 -- What is printed, whether or not the folder tells its files.
-use Rattle.std.specs.Prelude.{ℕ, ◌≡◌, ◌≢◌, IsTrue, List, ◌++◌, Option, Some}
+use Rattle.std.specs.Prelude.{ℕ, ◌≡◌, ◌≢◌, ◌⊎◌, IsTrue, List, ◌++◌, Option, Some}
 use Rattle.opgen_io.specs.Bytes.{TakesPrefix}
-use Rattle.opgen_io.specs.Counts.{Stood}
+use Rattle.opgen_io.specs.Counts.{next_count, Stood}
 use Rattle.opgen_operator.specs.SpecName.{is_spec_name}
 use Rattle.opgen_read.specs.declared.fault.ReadFault.{ReadFault}
 use Rattle.opgen_read.specs.declared.fault.ReadFault.TheVariants as read_faults
@@ -12,8 +12,8 @@ use Rattle.opgen_vec.specs.declared.fault.VecFault.TheVariants as vector_faults
 use Rattle.opgen_top.specs.Lines.{wrote_line, wrote_vectors_line, simulated_line, worked_line, good_line, refused_line, unknown_target_line, not_adjustable_line, period_too_short_line, too_large_line, usage_line, read_fault_line, vhdl_refused_line, ports_refused_line, vectors_refused_line, bad_row_line, too_long_line}
 use Rattle.opgen_top.specs.Statuses.{HasLine}
 
--- The lines of each status. A name is one that a specification may have, and a fault is one of a file, which want of memory
--- is not.
+-- The lines of each status. A name is one that a specification may have, and a fault is one of a file, which running
+-- out of memory is not.
 pub data IsLineOf (status : ℕ) (line : List ℕ) : Type 0 where
   wrote : (name : List ℕ) (latency : ℕ) → IsTrue (is_spec_name name) → status ≡ 0 → line ≡ wrote_line name latency → IsLineOf status line
   wrote_vectors : (name : List ℕ) (cycles : ℕ) → IsTrue (is_spec_name name) → status ≡ 0 → line ≡ wrote_vectors_line name cycles
@@ -55,3 +55,11 @@ pub record IsPrinted (status faults_before faults_now : ℕ) (held : List ℕ) (
   pub part : status ≡ 4 → TakesPart held now
   pub no_fault : status ≡ 4 → Stood faults_before faults_now → now ≡ Some held
   pub no_memory : status ≡ 5 → now ≡ Some held
+
+-- At most one put was made: one with a status that comes with a line, and one after 4 where all was stored; none after 4 where
+-- the sink counted no fault.
+pub record IsOnePut (status : ℕ) (stored no_fault : Type 0) (before now : ℕ) : Type 0 where
+  pub at_most : (now ≡ before) ⊎ (now ≡ next_count before)
+  pub line : HasLine status → now ≡ next_count before
+  pub refused : status ≡ 4 → stored → now ≡ next_count before
+  pub unstored : status ≡ 4 → no_fault → now ≡ before

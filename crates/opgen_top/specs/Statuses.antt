@@ -10,7 +10,7 @@ Refuses status = (status ≡ 1) ⊎ ((status ≡ 2) ⊎ ((status ≡ 3) ⊎ ((st
 abbrev pub HasLine : ℕ → Type 0
 HasLine status = (status ≡ 0) ⊎ Refuses status
 
--- the status of a write fault, or of want of memory
+-- the status of a write fault, or of running out of memory
 abbrev pub IsSilent : ℕ → Type 0
 IsSilent status = (status ≡ 4) ⊎ (status ≡ 5)
 

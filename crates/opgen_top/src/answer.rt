@@ -21,7 +21,7 @@ pub(crate) struct Answer {
     pub stores: Vec<NewFile>,
 }
 
-/// Why nothing is stored: the line that says so, or want of memory.
+/// Why nothing is stored: the line that says so, or out of memory.
 #[derive(Drop)]
 pub(crate) enum Refusal {
     Line(Line),

@@ -3,7 +3,7 @@ ghost use Rattle.std.specs.Prelude.{◌≡◌, ◌≤◌, ◌<◌, ◌^◌, IfOk
 ghost use Rattle.opgen_num.specs.Words.{AreRowsOfCells};
 ghost use Rattle.opgen_command.specs.declared.command.Command.TheVariants.{Check};
 ghost use Rattle.opgen_design.specs.Run.{input_widths};
-ghost use Rattle.opgen_design.specs.Sound.{HasNumbers, IsSound};
+ghost use Rattle.opgen_design.specs.Sound.{IsSound};
 ghost use Rattle.opgen_operator.specs.Valid.{IsValidSpec};
 ghost use Rattle.opgen_top.specs.Check.{IsAnswerToCheck, IsAnswerToVhdl};
 ghost use Rattle.opgen_top.specs.Due.{most_simulated_bytes};
@@ -86,7 +86,6 @@ fn judge_rows(
 ) -> Result<Answer, Refusal>
     requires valid { IsValidSpec spec.now }
     requires sound { IsSound design.now }
-    requires numbers { HasNumbers design.now }
     requires columns { rows.now.inputs.columns ≡ length (input_widths design.now) }
     requires rows { AreRowsOfCells (input_widths design.now) rows.now.count rows.now.inputs.cells.items }
     requires few { rows.now.count < 2 ^ 32 }

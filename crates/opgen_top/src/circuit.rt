@@ -1,8 +1,9 @@
 //! The circuit of a specification.
 ghost use Rattle.std.specs.Prelude.{◌≡◌, ◌≤◌, [], IfOk, Ok, string_bytes};
-ghost use Rattle.opgen_operator.specs.Accepted.{IsAcceptedSeveral, IsAcceptedTaps};
+ghost use Rattle.opgen_operator.specs.declared.operator.Operator.TheVariants.{Mcm, Tfir};
 ghost use Rattle.opgen_operator.specs.Fits.{FitsSpecsOf};
-ghost use Rattle.opgen_operator.specs.declared.spec.Operator.TheVariants.{Mcm, Tfir};
+ghost use Rattle.opgen_operator.specs.kinds.Several.{IsAcceptedSeveral};
+ghost use Rattle.opgen_operator.specs.kinds.Taps.{IsAcceptedTaps};
 ghost use Rattle.opgen_operator.specs.Valid.{IsValidSpec};
 ghost use Rattle.opgen_search.specs.Recipe.{IsAdderSetOf, IsNetOfSeveral};
 ghost use Rattle.opgen_top.specs.Kinds.{AreAddersOf, IsFittingNet, IsNetOfTaps};
@@ -63,10 +64,19 @@ fn build_several<R: Threads + Sync, G: Gate + Sync>(
     ensures fits { IfOk result (λ made. FitsSpecsOf (Mcm several.now) made.net) }
     ensures adders { IfOk result (λ made. IsAdderSetOf several.now.constants several.now.input.width several.now.extra made.adders.items) }
 {
-    let built = opgen_search::build(rt, alloc, several, workers, gate)?;
+    let found = least_graph(
+        rt,
+        alloc,
+        several.constants.as_slice(),
+        several.input.width,
+        several.extra,
+        workers,
+        gate,
+    )?;
+    let net = opgen_mcm::build(alloc, several, &found.graph)?;
     Ok(KindNet {
-        net: built.net,
-        adders: built.adders.into_vec(),
+        net,
+        adders: found.set,
     })
 }
 

@@ -2,14 +2,14 @@
 ghost use Rattle.std.specs.Prelude.{◌≡◌, ◌⊎◌, ◌++◌, ℕ, Bool, List, map, None, Some, is_some, string_bytes, IfOk, Ok};
 ghost use Rattle.opgen_command.specs.declared.command.Command.TheVariants.{Generate};
 ghost use Rattle.opgen_io.specs.Bytes.{TakesPrefix};
-ghost use Rattle.opgen_io.specs.Counts.{Rose, Stood};
+ghost use Rattle.opgen_io.specs.Counts.{next_count, Rose, Stood};
 ghost use Rattle.opgen_io.specs.Files.{Files};
 ghost use Rattle.opgen_command.specs.Command.{command_of};
 ghost use Rattle.opgen_top.specs.Due.{IsAnswered};
 ghost use Rattle.opgen_top.specs.Headline.{Headline};
 ghost use Rattle.opgen_top.specs.Left.{LeftByFault, LeftByMemory};
 ghost use Rattle.opgen_top.specs.Prepared.{answer_of, line_status, line_text, reads_of, refusal_of, IsAnswerOrLine, IsPrepared};
-ghost use Rattle.opgen_top.specs.Printed.{IsPrinted};
+ghost use Rattle.opgen_top.specs.Printed.{IsOnePut, IsPrinted};
 ghost use Rattle.opgen_top.specs.Statuses.{IsDueStatus, IsSilent, IsStatus, Refuses, TellsOr};
 ghost use Rattle.opgen_top.specs.Targets.{devices_of};
 
@@ -103,6 +103,9 @@ pub fn run<R: Threads + Sync, F: Folder, K: Sink, G: Gate + Sync>(
     ensures printed { (held : List ℕ) → K.taken out.old ≡ Some held →
         IsPrinted result.0 (K.faults out.old) (K.faults out.new) held (K.taken out.new) }
     ensures sink_tells { is_some (K.taken out.new) ≡ is_some (K.taken out.old) }
+    ensures one_put { IsOnePut result.0
+        (Stood (F.write_faults folder.old) (F.write_faults folder.new))
+        (Stood (K.faults out.old) (K.faults out.new)) (K.puts out.old) (K.puts out.new) }
 
     ensures headline { (file : List ℕ) (workers : ℕ) (enable : Bool) →
         command_of (map string_bytes words.now) ≡ Some (Generate file workers enable) →
@@ -173,6 +176,7 @@ fn print_line<K: Sink>(line: &Line, out: &mut K) -> Status
     ensures silent { Stood (K.faults out.old) (K.faults out.new) → (result.0 ≡ 4 → ⊥) }
     ensures none { result.0 ≡ 5 → K.taken out.new ≡ K.taken out.old }
     ensures tells { is_some (K.taken out.new) ≡ is_some (K.taken out.old) }
+    ensures one_put { K.puts out.new ≡ next_count (K.puts out.old) }
 {
     match out.put(line.as_str().as_bytes()) {
         Ok(()) => line.status(),

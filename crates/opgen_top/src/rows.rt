@@ -2,7 +2,7 @@
 ghost use Rattle.std.specs.Prelude.{◌≡◌, ◌<◌, IfOk, length};
 ghost use Rattle.opgen_num.specs.Words.{AreRowsOfCells};
 ghost use Rattle.opgen_design.specs.Run.{input_widths};
-ghost use Rattle.opgen_design.specs.Sound.{HasNumbers, IsSound};
+ghost use Rattle.opgen_design.specs.Sound.{IsSound};
 ghost use Rattle.opgen_top.specs.Running.{IsRunText};
 
 use opgen_design::{Design, Dir};
@@ -21,7 +21,6 @@ pub(crate) struct Rows {
 /// The text of the run of a design over rows of its inputs.
 pub(crate) fn run_text(alloc: Global, design: Design, rows: &Rows) -> Result<Vec<u8>, Memory>
     requires sound { IsSound design }
-    requires numbers { HasNumbers design }
     requires some_port { 0 < length design.ports }
     requires columns { rows.now.inputs.columns ≡ length (input_widths design) }
     requires rows { AreRowsOfCells (input_widths design) rows.now.count rows.now.inputs.cells.items }

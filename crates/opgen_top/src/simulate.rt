@@ -3,7 +3,7 @@ ghost use Rattle.std.specs.Prelude.{◌≡◌, ◌≤◌, ◌<◌, IfOk, List, S
 ghost use Rattle.opgen_num.specs.Words.{AreRowsOfCells};
 ghost use Rattle.opgen_command.specs.declared.command.Command.TheVariants.{Simulate};
 ghost use Rattle.opgen_design.specs.Run.{input_widths};
-ghost use Rattle.opgen_design.specs.Sound.{HasNumbers, IsSound};
+ghost use Rattle.opgen_design.specs.Sound.{IsSound};
 ghost use Rattle.opgen_top.specs.Due.{most_simulated_bytes};
 ghost use Rattle.opgen_top.specs.Lines.{simulated_line};
 ghost use Rattle.opgen_top.specs.Prepared.{answer_of, reads_of, HasSimulated, IsListed, IsPrepared, OnAnswer};
@@ -52,7 +52,6 @@ fn run_vhdl(alloc: Global, vhdl: &[u8], vectors: &[u8], out: &str) -> Result<Ans
 /// The answer that stores the rows of a design's run under `out`.
 fn store_run(alloc: Global, design: Design, rows: &Rows, out: &str) -> Result<Answer, Memory>
     requires sound { IsSound design }
-    requires numbers { HasNumbers design }
     requires some_port { 0 < length design.ports }
     requires columns { rows.now.inputs.columns ≡ length (input_widths design) }
     requires rows { AreRowsOfCells (input_widths design) rows.now.count rows.now.inputs.cells.items }

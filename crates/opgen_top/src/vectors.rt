@@ -1,11 +1,11 @@
 //! The command `vectors`: from a specification to rows of drawn inputs and the outputs of its circuit.
 ghost use Rattle.std.specs.Prelude.{◌≡◌, false, IfOk, Some, string_bytes};
 ghost use Rattle.opgen_command.specs.declared.command.Command.TheVariants.{Vectors};
-ghost use Rattle.opgen_design.specs.Sound.{HasNumbers, IsSound};
+ghost use Rattle.opgen_design.specs.Sound.{IsSound};
 ghost use Rattle.opgen_operator.specs.Valid.{IsValidSpec};
 ghost use Rattle.opgen_vec.specs.Stimulus.{stimulus_cells};
 ghost use Rattle.opgen_top.specs.Answer.{vectors_name};
-ghost use Rattle.opgen_top.specs.Circuit.{ports_for};
+ghost use Rattle.opgen_top.specs.Serves.{ports_for};
 ghost use Rattle.opgen_top.specs.Lines.{wrote_vectors_line};
 ghost use Rattle.opgen_top.specs.Prepared.{reads_of, HasRows, IsListed, IsPrepared, OnAnswer};
 ghost use Rattle.opgen_top.specs.Running.{IsRunText};
@@ -87,7 +87,6 @@ fn run_stimulus(
 ) -> Result<Answer, Refusal>
     requires valid { IsValidSpec spec.now }
     requires sound { IsSound design }
-    requires numbers { HasNumbers design }
     requires ports { design.ports ≡ ports_for spec.now false }
     ensures { OnAnswer result (HasRows spec.now design seed cycles) }
 {
@@ -107,7 +106,6 @@ fn stimulus_text(
 ) -> Result<Vec<u8>, Memory>
     requires valid { IsValidSpec spec.now }
     requires sound { IsSound design }
-    requires numbers { HasNumbers design }
     requires ports { design.ports ≡ ports_for spec.now false }
     ensures { IfOk result (λ text. IsRunText design cycles (stimulus_cells spec.now seed cycles) text.items) }
 {

@@ -1,9 +1,9 @@
 //! The command `workload`: plans and runs a filter that is made from a number.
 ghost use Rattle.std.specs.Prelude.{◌≡◌, ◌≤◌, false, IfOk, string_bytes};
-ghost use Rattle.opgen_design.specs.Sound.{HasNumbers, IsSound};
+ghost use Rattle.opgen_design.specs.Sound.{IsSound};
 ghost use Rattle.opgen_operator.specs.Valid.{IsValidSpec};
 ghost use Rattle.opgen_workload.specs.Filter.{workload_spec};
-ghost use Rattle.opgen_top.specs.Circuit.{ports_for};
+ghost use Rattle.opgen_top.specs.Serves.{ports_for};
 ghost use Rattle.opgen_top.specs.Lines.{worked_line};
 ghost use Rattle.opgen_top.specs.Prepared.{HasWorked, IsListed, OnAnswer};
 ghost use Rattle.opgen_top.specs.Targets.{devices_of};
@@ -59,7 +59,6 @@ fn run_filter(alloc: Global, n: u32, spec: &Spec, planned: Planned) -> Result<An
     requires filter { spec.now ≡ workload_spec n }
     requires valid { IsValidSpec spec.now }
     requires sound { IsSound planned.design }
-    requires numbers { HasNumbers planned.design }
     requires ports { planned.design.ports ≡ ports_for spec.now false }
     ensures { OnAnswer result (HasWorked n planned) }
 {

@@ -12,7 +12,7 @@ use Rattle.opgen_num.proofs.RowsOfCells.{length-cells}
 use Rattle.opgen_vec.proofs.RowTexts.{bad-line}
 use Rattle.opgen_vec.specs.Writing.{row_count}
 use Rattle.opgen_vec.specs.declared.TheConstants.{MAX_ROWS}
-use Rattle.opgen_vec.specs.Reading.{IsRow, AreRows, IsBad, AreVectors, IsFirstBad, AreTooMany}
+use Rattle.opgen_vec.specs.Reading.{IsRow, AreRows, IsBad, AreVectors, IsFirstBadLine, AreTooMany}
 
 -- a row after others
 pub AreRows-push : (widths cells row : List ℕ) (lines : List (List ℕ)) (line : List ℕ) → AreRows widths cells lines → IsRow widths row line
@@ -92,7 +92,7 @@ all_read widths cells lines count so_far =
 
 pub first_bad : (widths cells line : List ℕ) (lines later : List (List ℕ)) (count number : ℕ)
     → IsReadTo widths cells lines count (line ∷ later) → count ≤ MAX_ROWS → (count ≡ MAX_ROWS → ⊥)
-    → IsBad widths line → count + 1 ≡ number → IsFirstBad widths lines number
+    → IsBad widths line → count + 1 ≡ number → IsFirstBadLine widths lines number
 first_bad widths cells line lines later count number so_far few more bad e =
     let place : count ≡ number - 1 = omega (arith, e) in
     record {

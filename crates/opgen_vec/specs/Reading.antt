@@ -16,9 +16,9 @@ abbrev pub AreRows : (widths cells : List ℕ) (lines : List (List ℕ)) → Typ
 AreRows widths cells [] = cells ≡ []
 AreRows widths cells (line ∷ lines) = IsRow widths (take (length widths) cells) line × AreRows widths (drop (length widths) cells) lines
 
--- each line is a row
-abbrev pub AreGood : (widths : List ℕ) (lines : List (List ℕ)) → Type 0
-AreGood widths lines = (cells : List ℕ) × AreRows widths cells lines
+-- all lines are rows
+abbrev pub AreAllRows : (widths : List ℕ) (lines : List (List ℕ)) → Type 0
+AreAllRows widths lines = (cells : List ℕ) × AreRows widths cells lines
 
 -- the line is no row
 abbrev pub IsBad : (widths line : List ℕ) → Type 0
@@ -30,21 +30,21 @@ pub record AreVectors (widths cells : List ℕ) (lines : List (List ℕ)) : Type
   pub rows : AreRows widths cells lines
 
 -- the line of this number, from 1, is the first that is no row, and stands where a row may
-pub record IsFirstBad (widths : List ℕ) (lines : List (List ℕ)) (line : ℕ) : Type 0 where
+pub record IsFirstBadLine (widths : List ℕ) (lines : List (List ℕ)) (line : ℕ) : Type 0 where
   pub counted : 1 ≤ line
   pub few : line ≤ MAX_ROWS
-  pub good : AreGood widths (take (line - 1) lines)
+  pub good : AreAllRows widths (take (line - 1) lines)
   pub bad : IsSomeAnd (slice_get lines (line - 1)) (IsBad widths)
 
 -- all lines that may stand are rows, and there are more
 pub record AreTooMany (widths : List ℕ) (lines : List (List ℕ)) : Type 0 where
-  pub good : AreGood widths (take MAX_ROWS lines)
+  pub good : AreAllRows widths (take MAX_ROWS lines)
   pub more : MAX_ROWS < length lines
 
--- what reading gives, but for want of memory
+-- what reading gives, unless memory runs out
 abbrev pub IsReading : (widths : List ℕ) (lines : List (List ℕ)) → Result (List ℕ) VecFault → Type 0
 IsReading widths lines (Ok cells) = AreVectors widths cells lines
-IsReading widths lines (Err (faults.BadLine line)) = IsFirstBad widths lines line
+IsReading widths lines (Err (faults.BadLine line)) = IsFirstBadLine widths lines line
 IsReading widths lines (Err faults.TooMany) = AreTooMany widths lines
 IsReading widths lines (Err faults.Memory) = ⊥
 

@@ -1,14 +1,14 @@
 //! The stimulus of a specification.
 ghost use Rattle.std.specs.Prelude.{◌≡◌, ◌++◌, length, map, IfOk, OnOk};
 ghost use Rattle.opgen_num.specs.Words.{AreRowsOfCells};
-ghost use Rattle.opgen_operator.specs.Ports.{inputs_of};
+ghost use Rattle.opgen_operator.specs.Operator.{inputs_of};
 ghost use Rattle.opgen_operator.specs.Valid.{IsValidSpec};
 ghost use Rattle.opgen_vec.specs.Writing.{row_count};
-ghost use Rattle.opgen_vec.specs.Stimulus.{next, drawn, is_divisor, given, draws, state_after, stimulus_cells};
+ghost use Rattle.opgen_vec.specs.Stimulus.{next, drawn, given, divides, draws_from, state_after, stimulus_cells};
 
 use crate::vectors::Vectors;
 use opgen_num::Memory;
-use opgen_operator::{Operator, PortFormat, Spec, inputs_are_wide};
+use opgen_operator::{PortFormat, Spec, inputs_are_wide};
 use std::alloc::{AllocError, Global};
 
 const MULTIPLIER: u128 = 6364136223846793005;
@@ -30,47 +30,39 @@ pub fn drawn(width: u32, state: u64) -> u64
     (state as u128 >> 64u32.saturating_sub(width)) as u64
 }
 
-fn is_divisor(op: &Operator, port: &PortFormat) -> bool
-    ensures { result ≡ is_divisor op.now port.now }
-{
-    match op {
-        Operator::Divide(_) => port.name.as_str() == "b",
-        Operator::Scale(_)
-        | Operator::Fir(_)
-        | Operator::Multiply(_)
-        | Operator::Root(_)
-        | Operator::Mcm(_)
-        | Operator::Constdiv(_)
-        | Operator::Poly(_)
-        | Operator::Tfir(_) => false,
-    }
-}
-
-fn given(op: &Operator, port: &PortFormat, state: u64) -> u64
-    ensures { result ≡ given op.now port.now state }
+/// What a port is given of a state: what is drawn, but 1 for a divisor of 0.
+fn given(divides: bool, port: &PortFormat, state: u64) -> u64
+    ensures { result ≡ given divides port.now state }
 {
     let number = drawn(port.format.width, state);
-    if is_divisor(op, port) && number == 0 {
-        1
-    } else {
-        number
+    if divides && number == 0 { 1 } else { number }
+}
+
+fn divides(divisor: Option<usize>, place: usize) -> bool
+    ensures { result ≡ divides divisor place }
+{
+    match divisor {
+        Some(port) => port == place,
+        None => false,
     }
 }
 
 /// Draws a word for each port, in order, and gives the last state.
 fn draw_row(
-    op: &Operator,
+    divisor: Option<usize>,
     ports: &[PortFormat],
     start: u64,
     cells: &mut Vec<u128>,
 ) -> Result<u64, AllocError>
     ensures state { IfOk result (λ state. state ≡ state_after ports.now start) }
-    ensures cells { OnOk result (cells.new.items ≡ cells.old.items ++ draws op.now ports.now start) }
+    ensures cells { OnOk result (cells.new.items ≡ cells.old.items ++ draws_from divisor 0 ports.now start) }
 {
     let mut state = start;
-    for port in ports {
+    let mut place = 0;
+    'ports: for port in ports {
         state = next(state);
-        cells.push(given(op, port, state) as u128)?;
+        cells.push(given(divides(divisor, place), port, state) as u128)?;
+        place += 1;
     }
     Ok(state)
 }
@@ -85,11 +77,12 @@ pub fn stimulus(alloc: Global, spec: &Spec, seed: u64, cycles: u32) -> Result<Ve
 {
     inputs_are_wide();
     let ports = spec.inputs(alloc)?;
+    let divisor = spec.op.divisor();
     let mut cells = Vec::new(alloc);
     let mut state = seed;
     let mut left = cycles;
     'cycles: while left > 0 {
-        state = draw_row(&spec.op, &ports, state, &mut cells)?;
+        state = draw_row(divisor, &ports, state, &mut cells)?;
         left -= 1;
     }
     Ok(Vectors {

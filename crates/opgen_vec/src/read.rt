@@ -4,7 +4,7 @@ ghost use Rattle.std.specs.Str.Lines.{lines};
 ghost use Rattle.opgen_num.specs.Words.{AreRowsOfCells};
 ghost use Rattle.opgen_num.specs.declared.TheConstants.{MAX_WIDTH};
 ghost use Rattle.opgen_vec.specs.Writing.{row_count};
-ghost use Rattle.opgen_vec.specs.Reading.{AreVectors, IsFirstBad, AreTooMany};
+ghost use Rattle.opgen_vec.specs.Reading.{AreVectors, IsFirstBadLine, AreTooMany};
 
 use crate::MAX_ROWS;
 use crate::fault::VecFault;
@@ -28,7 +28,7 @@ pub fn read_vectors(alloc: Global, bytes: &[u8], widths: &[u32]) -> Result<Vecto
     ensures rows { IfOk result (λ v. AreVectors widths.now v.cells.items (lines bytes.now)) }
     ensures cells { IfOk result (λ v. AreRowsOfCells widths.now (length (lines bytes.now)) v.cells.items) }
     ensures count { IfOk result (λ v. row_count v.columns v.cells.items ≡ length (lines bytes.now)) }
-    ensures bad_line { (line : ℕ) → result ≡ Err (VecFault.BadLine line) → IsFirstBad widths.now (lines bytes.now) line }
+    ensures bad_line { (line : ℕ) → result ≡ Err (VecFault.BadLine line) → IsFirstBadLine widths.now (lines bytes.now) line }
     ensures too_many { result ≡ Err VecFault.TooMany → AreTooMany widths.now (lines bytes.now) }
 {
     let cells = read_cells(alloc, bytes, widths)?;
@@ -41,7 +41,7 @@ pub fn read_vectors(alloc: Global, bytes: &[u8], widths: &[u32]) -> Result<Vecto
 fn read_cells(alloc: Global, bytes: &[u8], widths: &[u32]) -> Result<Vec<u128>, VecFault>
     requires { All (λ width. width ≤ MAX_WIDTH) widths.now }
     ensures rows { IfOk result (λ cells. AreVectors widths.now cells.items (lines bytes.now)) }
-    ensures bad_line { (line : ℕ) → result ≡ Err (VecFault.BadLine line) → IsFirstBad widths.now (lines bytes.now) line }
+    ensures bad_line { (line : ℕ) → result ≡ Err (VecFault.BadLine line) → IsFirstBadLine widths.now (lines bytes.now) line }
     ensures too_many { result ≡ Err VecFault.TooMany → AreTooMany widths.now (lines bytes.now) }
 {
     let mut cells = Vec::new(alloc);
@@ -65,11 +65,11 @@ fn read_cells(alloc: Global, bytes: &[u8], widths: &[u32]) -> Result<Vec<u128>, 
 ///
 /// # Errors
 ///
-/// As [`read_vectors`]; memory never lacks.
+/// As [`read_vectors`]; never out of memory.
 pub fn read_empty_rows(bytes: &[u8]) -> Result<u32, VecFault>
     ensures count { IfOk result (λ count. count ≡ length (lines bytes.now)) }
     ensures rows { IfOk result (λ count. AreVectors [] [] (lines bytes.now)) }
-    ensures bad_line { (line : ℕ) → result ≡ Err (VecFault.BadLine line) → IsFirstBad [] (lines bytes.now) line }
+    ensures bad_line { (line : ℕ) → result ≡ Err (VecFault.BadLine line) → IsFirstBadLine [] (lines bytes.now) line }
     ensures too_many { result ≡ Err VecFault.TooMany → AreTooMany [] (lines bytes.now) }
     ensures memory { result ≡ Err VecFault.Memory → ⊥ }
 {

@@ -1,3 +1,4 @@
 mod Drawn
 pub mod Valid
 pub mod Counting
+mod OnePort

@@ -5,15 +5,15 @@ use Rattle.std.proofs.Math.Nat.{div-le_self}
 use Rattle.std.proofs.lemmas.Int.{ints}
 use Rattle.std.proofs.lemmas.List.Elements.{All-nil}
 use Rattle.opgen_names.specs.Names.{refused_words}
-use Rattle.opgen_operator.specs.declared.spec.Operator.TheVariants.{Fir}
-use Rattle.opgen_operator.specs.declared.spec.PortFormat.{PortFormat}
-use Rattle.opgen_operator.specs.Accepted.{IsAcceptedBy}
-use Rattle.opgen_operator.specs.Outputs.{rises, falls, sum_need, sum_places, sum_reach, width_of}
-use Rattle.opgen_operator.specs.Ranges.{IsSum}
+use Rattle.opgen_operator.specs.declared.operator.Operator.TheVariants.{Fir}
+use Rattle.opgen_operator.specs.declared.ports.PortFormat.{PortFormat}
+use Rattle.opgen_operator.specs.kinds.Sum.{sum_need, sum_places, sum_reach, IsSum}
+use Rattle.opgen_operator.specs.Operator.{IsAcceptedBy}
+use Rattle.opgen_operator.specs.Reaches.{rises, falls, width_of}
 use Rattle.opgen_operator.specs.SpecName.{is_spec_name, taken_names}
 use Rattle.opgen_operator.specs.Valid.{IsDelayLine, IsValidSpec}
-use Rattle.opgen_operator.proofs.In128.{guard_small}
 use Rattle.opgen_operator.proofs.InputPorts.{all_one}
+use Rattle.opgen_operator.proofs.of_kind.Sum.{guard_small}
 use Rattle.opgen_operator.proofs.Widths.{width_within}
 use Rattle.opgen_workload.specs.Filter.{coefficients, workload_spec, workload_sum}
 use Rattle.opgen_workload.proofs.Drawn.{coefficients-length, coefficients-within, wider, rises-within, falls-within}

@@ -1,8 +1,8 @@
 -- The filter that `workload` makes from a number.
 use Rattle.std.specs.Prelude.{ℕ, zero, suc, ◌*◌, true, false, List, [], ◌∷◌, codes, ℤ, pos, negsuc, ◌-ℤ◌}
-use Rattle.opgen_operator.specs.declared.spec.Operator.TheVariants.{Fir}
+use Rattle.opgen_operator.specs.declared.kinds.sum.Sum.{Sum}
+use Rattle.opgen_operator.specs.declared.operator.Operator.TheVariants.{Fir}
 use Rattle.opgen_operator.specs.declared.spec.Spec.{Spec}
-use Rattle.opgen_operator.specs.declared.spec.Sum.{Sum}
 use Rattle.opgen_vec.specs.Stimulus.{drawn, next}
 
 -- a number of 15 bits from a state of the generator, with 0 in the middle

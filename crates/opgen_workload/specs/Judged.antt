@@ -1,20 +1,13 @@
 -- In how many cycles of a filter's run the output is good.
 use Rattle.std.specs.Prelude.{ℕ, zero, suc, ◌≡◌, ◌+◌, ◌⊎◌, List, [], ◌∷◌, take, slice_index}
-use Rattle.opgen_operator.specs.declared.spec.Operator.{Operator}
-use Rattle.opgen_operator.specs.declared.spec.Operator.TheVariants.{Scale, Fir, Multiply, Divide, Root, Mcm, Constdiv, Poly, Tfir}
+use Rattle.opgen_operator.specs.declared.kinds.sum.Sum.{Sum}
+use Rattle.opgen_operator.specs.declared.operator.Operator.{Operator}
+use Rattle.opgen_operator.specs.declared.operator.Operator.TheVariants.{Fir}
 use Rattle.opgen_operator.specs.declared.spec.Spec.{Spec}
 use Rattle.opgen_vec.specs.GoodRow.{IsGoodRow}
 
 abbrev pub IsFilter : Operator → Type 0
-IsFilter (Scale sum) = ⊥
-IsFilter (Fir sum) = Unit {0}
-IsFilter (Multiply product) = ⊥
-IsFilter (Divide pair) = ⊥
-IsFilter (Root single) = ⊥
-IsFilter (Mcm several) = ⊥
-IsFilter (Constdiv small) = ⊥
-IsFilter (Poly poly) = ⊥
-IsFilter (Tfir taps) = ⊥
+IsFilter op = (sum : Sum) × (op ≡ Fir sum)
 
 -- so many of the numbers below `most` have a property
 abbrev pub Counts : (P : ℕ → Type 0) (most count : ℕ) → Type 0

@@ -1,15 +1,25 @@
 -- Operators, their ports and one cycle of each, worked out by hand.
 use Rattle.std.specs.Prelude.{◌≡◌, ◌∷◌, [], codes, true, false, pos, negsuc}
-use Rattle.opgen_operator.specs.declared.spec.Pair.{Pair}
-use Rattle.opgen_operator.specs.declared.spec.Product.{Product}
-use Rattle.opgen_operator.specs.declared.spec.Single.{Single}
-use Rattle.opgen_operator.specs.declared.spec.Sum.{Sum}
-use Rattle.opgen_num.specs.declared.format.Format.{Format}
-use Rattle.opgen_operator.specs.Exact.{exact_sum, exact_product}
-use Rattle.opgen_operator.specs.Good.{IsGoodRatio, IsGoodQuotient, IsGoodSquareRoot}
+use Rattle.opgen_operator.specs.declared.kinds.pair.Pair.{Pair}
+use Rattle.opgen_operator.specs.declared.kinds.poly.Poly.{Poly as Polynomial}
+use Rattle.opgen_operator.specs.declared.kinds.product.Product.{Product}
+use Rattle.opgen_operator.specs.declared.kinds.single.Single.{Single}
+use Rattle.opgen_operator.specs.declared.kinds.small_div.SmallDiv.{SmallDiv}
+use Rattle.opgen_operator.specs.declared.kinds.sum.Sum.{Sum}
+use Rattle.opgen_operator.specs.declared.kinds.taps.Taps.{Taps}
+use Rattle.opgen_operator.specs.Good.{IsGoodRatio}
+use Rattle.opgen_operator.specs.kinds.Horner.{poly_guard}
+use Rattle.opgen_operator.specs.kinds.Pair.{IsGoodQuotient, quotient_ports}
+use Rattle.opgen_operator.specs.kinds.Poly.{exact_poly, poly_format}
+use Rattle.opgen_operator.specs.kinds.Product.{exact_product, product_format}
+use Rattle.opgen_operator.specs.kinds.Several.{constant_format}
+use Rattle.opgen_operator.specs.kinds.Single.{IsGoodSquareRoot, root_ports}
+use Rattle.opgen_operator.specs.kinds.SmallDiv.{IsGoodSmallQuotient, small_ports}
+use Rattle.opgen_operator.specs.kinds.Sum.{exact_sum, guard_bits, sum_format}
+use Rattle.opgen_operator.specs.kinds.Taps.{exact_taps, taps_format}
 use Rattle.opgen_operator.specs.PortNumbers.{recent_numbers}
-use Rattle.opgen_operator.specs.Outputs.{guard_bits}
-use Rattle.opgen_operator.specs.Ports.{one_input, port, unsigned, sum_format, product_format, constant_format, quotient_ports, root_ports}
+use Rattle.opgen_operator.specs.Ports.{one_input, port, unsigned}
+use Rattle.opgen_num.specs.declared.format.Format.{Format}
 
 -- eight bits with a sign, in steps of one
 abbrev pub signed_bits : Format
@@ -39,6 +49,18 @@ quotient = record { a = unsigned 7 (pos 0); b = unsigned 3 (pos 0); out_lsb = po
 abbrev pub root : Single
 root = record { input = unsigned 8 (pos 0); out_lsb = pos 0; exact = true }
 
+-- a seventh of seven bits
+abbrev pub seventh : SmallDiv
+seventh = record { input = unsigned 7 (pos 0); divisor = 7; exact = true }
+
+-- half of x and half of its square, for x of two bits below 1, in quarters
+abbrev pub halves : Polynomial
+halves = record { input = unsigned 2 (negsuc 1); out_lsb = negsuc 1; coefs = pos 0 ∷ pos 1 ∷ pos 1 ∷ []; den = pos 2 }
+
+-- three whole taps
+abbrev pub three_taps : Taps
+three_taps = record { input = record { signed = true; width = 4; lsb = pos 0 }; taps = pos 1 ∷ pos 2 ∷ negsuc 2 ∷ []; extra = 0 }
+
 pub record Operators : Type 0 where
   -- 15 / 3 is 5, so three bits; 4 / 3 lies within one of 1 and of 2, but not of 3
   pub third_format : sum_format third ≡ unsigned 3 (pos 0)
@@ -64,3 +86,16 @@ pub record Operators : Type 0 where
   pub root_rest : IsGoodSquareRoot true root (pos 200) (pos 13) (pos 31) → ⊥
   -- 45 times 15 is 675
   pub multiple_format : constant_format (unsigned 4 (pos 0)) (pos 45) ≡ unsigned 10 (pos 0)
+  -- 100 is 14 times 7 and 2
+  pub seventh_named : small_ports true seventh ≡ port (codes "q") (unsigned 7 (pos 0)) ∷ port (codes "r") (unsigned 3 (pos 0)) ∷ []
+  pub seventh_good : IsGoodSmallQuotient true seventh (pos 100) (pos 14) (pos 2)
+  pub seventh_rest : IsGoodSmallQuotient true seventh (pos 100) (pos 13) (pos 9) → ⊥
+  -- 3 / 4 gives 3 / 8 and 9 / 32, in quarters 21 / 8; there are three guard bits, and the results go from 0 to 4 quarters
+  pub halves_guard : poly_guard halves ≡ 3
+  pub halves_format : poly_format halves ≡ unsigned 3 (negsuc 1)
+  pub halves_value : exact_poly halves (pos 3) ≡ record { num = pos 84; den = pos 32 }
+  pub halves_good : IsGoodRatio false (exact_poly halves (pos 3)) (pos 2)
+  pub halves_above : IsGoodRatio false (exact_poly halves (pos 3)) (pos 4) → ⊥
+  -- 7, -1 and 1, the last of them first: 7 - 2 - 3 is 2; the sums go from -45 to 45
+  pub taps_format_is : taps_format three_taps ≡ record { signed = true; width = 7; lsb = pos 0 }
+  pub taps_value : exact_taps three_taps (recent_numbers (one_input three_taps.input) (1 ∷ 15 ∷ 7 ∷ []) 0) ≡ record { num = pos 2; den = pos 1 }

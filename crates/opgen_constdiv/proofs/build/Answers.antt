@@ -1,6 +1,6 @@
 use Rattle.std.proofs.Common.{sym, subst}
+use Rattle.opgen_operator.specs.declared.operator.Operator.TheVariants.{Constdiv}
 use Rattle.opgen_operator.specs.Fits.{FitsSpecsOf}
-use Rattle.opgen_operator.specs.declared.spec.Operator.TheVariants.{Constdiv}
 use Rattle.opgen_constdiv.proofs.Fits.{accepted, has_input, has_divisor, fits_specs}
 use Rattle.opgen_constdiv.proofs.build.Goals as goal
 

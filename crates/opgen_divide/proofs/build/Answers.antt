@@ -1,6 +1,6 @@
 use Rattle.std.proofs.Common.{sym, ap, ◌∙◌, subst, codes}
+use Rattle.opgen_operator.specs.declared.operator.Operator.TheVariants.{Divide}
 use Rattle.opgen_operator.specs.Fits.{FitsSpecsOf}
-use Rattle.opgen_operator.specs.declared.spec.Operator.TheVariants.{Divide}
 use Rattle.opgen_digits.specs.Digit.{Known}
 use Rattle.opgen_digits.specs.Results.{AreResults, with_results}
 use Rattle.opgen_divide.specs.Steps.{HoldsAfterEachStep}

@@ -5,8 +5,8 @@ use Rattle.opgen_net.specs.declared.word_bits.WordBit.{WordBit}
 use Rattle.opgen_net.specs.declared.word_bits.WordBit.TheVariants.{Zero}
 use Rattle.opgen_net.specs.Valid.{widths}
 use Rattle.opgen_net.specs.WordRule.{IsThere}
-use Rattle.opgen_operator.specs.declared.spec.Pair.{Pair}
-use Rattle.opgen_operator.specs.Accepted.{IsAcceptedPair}
+use Rattle.opgen_operator.specs.declared.kinds.pair.Pair.{Pair}
+use Rattle.opgen_operator.specs.kinds.Pair.{IsAcceptedPair}
 use Rattle.opgen_digits.specs.Digit.{Known}
 use Rattle.opgen_divide.specs.Recipe.{numerator, digit_count, with_divisor, stepped, keeps, after}
 use Rattle.opgen_divide.proofs.Steps.{HasWidths, Stands, stands, keeps-before, numerator-length, minuend-there, place-width}

@@ -1,6 +1,6 @@
 use Rattle.std.proofs.Common.{sym, subst}
+use Rattle.opgen_operator.specs.declared.operator.Operator.TheVariants.{Poly}
 use Rattle.opgen_operator.specs.Fits.{FitsSpecsOf}
-use Rattle.opgen_operator.specs.declared.spec.Operator.TheVariants.{Poly}
 use Rattle.opgen_poly.specs.Near.{ArePartialsNear}
 use Rattle.opgen_poly.proofs.Fits.{accepted, fits_specs}
 use Rattle.opgen_poly.proofs.Runs.{partials-near}

@@ -1,7 +1,8 @@
 use Rattle.std.proofs.Common.{map, sym, ◌∙◌, subst, arith}
 use Rattle.opgen_num.specs.Words.{AreRowsOfCells}
+use Rattle.opgen_design.specs.Sound.{HasNumbers}
 use Rattle.opgen_design.specs.Run.{initial_words, input_widths}
-use Rattle.opgen_operator.specs.Ports.{outputs_of}
+use Rattle.opgen_operator.specs.Operator.{outputs_of}
 use Rattle.opgen_runs.specs.Rows.{IsRunOf}
 use Rattle.opgen_vec.specs.Writing.{row_count}
 use Rattle.opgen_check.specs.Verdict.{IsVerdict}
@@ -43,7 +44,7 @@ pub judge_rows-requires-clause-outputs : goal.judge_rows-requires-clause-outputs
 judge_rows-requires-clause-outputs c =
     let d = c.args.design.now in
     let all = row_count c.args.inputs.now.columns c.args.inputs.now.cells.items in
-    let run = subst (λ x. IsRunOf x c.row_count-rows.result c.deref.result.now c.in_ok-outputs.outputs.items) c.in_ok-copy.ensures c.in_ok-outputs.ensures in
+    let run = subst (λ x. IsRunOf x c.row_count-rows.result c.deref.result.now c.in_ok-outputs.outputs.items) c.in_ok-copy.ensures c.in_ok-outputs.ensures.run in
     let fit = outputs_fit d (initial_words d.signals) c.row_count-rows.result c.deref.result.now c.in_ok-outputs.outputs.items run in
     let widths = out_widths c.args.spec.now d c.requires.ports in
     let outs = map (λ p. p.format.width) (outputs_of c.args.spec.now) in
@@ -51,17 +52,20 @@ judge_rows-requires-clause-outputs c =
     (subst (λ n. AreRowsOfCells outs n c.in_ok-outputs.outputs.items) c.row_count-rows.ensures
     (subst (λ ws. AreRowsOfCells ws c.row_count-rows.result c.in_ok-outputs.outputs.items) widths fit))
 
-pub returns : goal.returns
-returns c =
+pub returns-clause-checked : goal.returns-clause-checked
+returns-clause-checked c =
     let d = c.args.design.now in
     let spec = c.args.spec.now in
     let cells = c.args.inputs.now.cells.items in
     let outputs = c.in_ok-outputs.outputs.items in
     let all = row_count c.args.inputs.now.columns cells in
-    let copied = subst (λ x. IsRunOf x c.row_count-rows.result c.deref.result.now outputs) c.in_ok-copy.ensures c.in_ok-outputs.ensures in
+    let copied = subst (λ x. IsRunOf x c.row_count-rows.result c.deref.result.now outputs) c.in_ok-copy.ensures c.in_ok-outputs.ensures.run in
     let lent = subst (λ xs. IsRunOf d c.row_count-rows.result xs outputs) c.deref.ensures.value copied in
     record {
       outputs = outputs;
       run = subst (λ n. IsRunOf d n cells outputs) c.row_count-rows.ensures lent;
       verdict = subst (λ xs. IsVerdict spec c.args.latency all cells xs c.judge_rows.result) c.deref-2.ensures.value c.judge_rows.ensures;
     }
+
+pub returns-clause-numbers : goal.returns-clause-numbers
+returns-clause-numbers c = subst HasNumbers c.in_ok-copy.ensures c.in_ok-outputs.ensures.numbers

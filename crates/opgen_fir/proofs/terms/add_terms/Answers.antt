@@ -11,7 +11,7 @@ use Rattle.opgen_heap.specs.Standing.{AllThere}
 use Rattle.opgen_net.specs.Valid.{widths, input_widths}
 use Rattle.opgen_net.specs.WordRule.{IsThere}
 use Rattle.opgen_design.specs.Run.{AreWords}
-use Rattle.opgen_operator.specs.declared.spec.Operator.TheVariants.{Fir}
+use Rattle.opgen_operator.specs.declared.operator.Operator.TheVariants.{Fir}
 use Rattle.opgen_operator.proofs.Accepted.{accepted_ranges}
 use Rattle.opgen_kcm.specs.Chunks.{number}
 use Rattle.opgen_kcm.specs.Multiple.{sum_at}

@@ -7,10 +7,9 @@ use Rattle.opgen_num.specs.declared.format.Format.{Format}
 use Rattle.opgen_design.specs.Width.{IsWidth}
 use Rattle.opgen_net.specs.declared.net.Net.{Net}
 use Rattle.opgen_net.specs.Valid.{widths}
-use Rattle.opgen_operator.specs.declared.spec.Operator.TheVariants.{Mcm}
-use Rattle.opgen_operator.specs.declared.spec.Several.{Several}
-use Rattle.opgen_operator.specs.Accepted.{IsAcceptedSeveral}
-use Rattle.opgen_operator.specs.Ports.{constant_format}
+use Rattle.opgen_operator.specs.declared.kinds.several.Several.{Several}
+use Rattle.opgen_operator.specs.declared.operator.Operator.TheVariants.{Mcm}
+use Rattle.opgen_operator.specs.kinds.Several.{IsAcceptedSeveral, constant_format}
 use Rattle.opgen_operator.specs.Ranges.{IsWithin}
 use Rattle.opgen_operator.proofs.Accepted.{accepted_ranges}
 use Rattle.opgen_graph.specs.Placing.{IsNode, HasOddPart}

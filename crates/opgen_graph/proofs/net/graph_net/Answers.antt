@@ -1,6 +1,6 @@
 use Rattle.std.proofs.Common.{◌≡◌, sym, subst, rules}
 use Rattle.std.specs.Prelude.{All}
-use Rattle.opgen_operator.specs.declared.spec.Operator.TheVariants.{Mcm}
+use Rattle.opgen_operator.specs.declared.operator.Operator.TheVariants.{Mcm}
 use Rattle.opgen_operator.specs.Fits.{FitsSpecsOf}
 use Rattle.opgen_graph.specs.Placing.{AreAdders, IsNode, HasOddPart}
 use Rattle.opgen_graph.specs.Recipe.{Multiples, net_of_graph}

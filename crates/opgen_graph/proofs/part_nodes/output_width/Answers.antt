@@ -4,8 +4,8 @@ use Rattle.std.specs.Prelude.{ℤ, pos}
 use Rattle.std.specs.Int.{w64}
 use Rattle.std.proofs.lemmas.List.Elements.{All-cons, All-nil}
 use Rattle.opgen_num.specs.declared.format.Format.{Format}
-use Rattle.opgen_operator.specs.Ports.{taps_format}
-use Rattle.opgen_operator.specs.Ranges.{IsInput, IsTaps, IsWithin}
+use Rattle.opgen_operator.specs.kinds.Taps.{taps_format, IsTaps}
+use Rattle.opgen_operator.specs.Ranges.{IsInput, IsWithin}
 use Rattle.opgen_graph.proofs.PartLists.{count-within}
 use Rattle.opgen_graph.proofs.SmallNumbers.{word_of}
 use Rattle.opgen_graph.proofs.part_nodes.output_width.Goals as goal

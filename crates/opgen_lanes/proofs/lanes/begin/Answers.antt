@@ -10,23 +10,23 @@ use Rattle.opgen_lanes.proofs.lanes.begin.Goals as goal
 
 pub initial_words-requires-clause-wide : goal.initial_words-requires-clause-wide
 initial_words-requires-clause-wide c = subst (λ ss. All IsSignalWide ss) (sym c.as_slice.ensures)
-    (signals-wide c.args.design.now c.requires.sound)
+    (signals-wide c.args.design.now c.requires)
 
 pub initial_words-requires-2-clause-wide : goal.initial_words-requires-2-clause-wide
 initial_words-requires-2-clause-wide c = subst (λ ss. All IsSignalWide ss) (sym c.as_slice-2.ensures)
-    (signals-wide c.args.design.now c.requires.sound)
+    (signals-wide c.args.design.now c.requires)
 
 pub new-requires-clause-narrow : goal.new-requires-clause-narrow
 new-requires-clause-narrow c = subst (λ ws. All (λ w. w ≤ MAX_WIDTH) ws)
     (sym (c.deref.ensures.value ∙ c.in_ok-widths.ensures ∙ ap (map (λ p. p.width)) c.as_slice-3.ensures))
-    (ports-narrow c.args.design.now c.requires.sound)
+    (ports-narrow c.args.design.now c.requires)
 
 pub returns-clause-ready : goal.returns-clause-ready
 returns-clause-ready c =
     let wide = c.in_ok-ports.ensures.widths ∙ c.deref.ensures.value ∙ c.in_ok-widths.ensures ∙ ap (map (λ p. p.width)) c.as_slice-3.ensures in
     record {
-      sound = c.requires.sound;
-      order = c.in_ok-order.ensures;
+      sound = c.requires;
+      order = c.in_ok-order.ensures.order;
       banks = record {
         signals = c.in_ok-signals.ensures.bank;
         ports = c.in_ok-ports.ensures.bank;
@@ -49,4 +49,4 @@ returns-clause-registers c = λ k h.
     ap (λ ws. words_in ws bank.vectors.items k) (sym (c.in_ok-signals.ensures.widths ∙ ap (map (λ s. s.width)) c.as_slice.ensures))
     ∙ c.in_ok-signals.ensures.words k h
     ∙ ap (map initial) c.as_slice.ensures in
-    subst (λ ws. SameRegisters d ws (initial_words d.signals)) (sym e) (starts-registers d c.requires.sound)
+    subst (λ ws. SameRegisters d ws (initial_words d.signals)) (sym e) (starts-registers d c.requires)

@@ -1,4 +1,4 @@
-use Rattle.std.proofs.Common.{◌≡◌, ◌≤◌, ℕ, Bool, List, length, get_or, Option, Some, None, sym, ap, subst, arith}
+use Rattle.std.proofs.Common.{◌≡◌, ◌≤◌, ℕ, Bool, List, length, get_or, Option, Some, None, sym, subst, arith}
 use Rattle.std.specs.Prelude.{All, IfSome}
 use Rattle.std.proofs.lemmas.Option.{slice_get-get_or}
 use Rattle.opgen_design.specs.declared.design.Design.{Design}
@@ -21,6 +21,3 @@ initials d sound flat i x l =
 pub start_numbers-requires : goal.start_numbers-requires
 start_numbers-requires c = subst (λ ss. All (λ (s : Signal). IfSome s.initial (λ w. length w ≤ 64)) ss) (sym c.as_slice.ensures)
     (initials c.args.design.now c.requires.sound c.requires.flat)
-
-pub overflow_add-count_inputs : goal.overflow_add-count_inputs
-overflow_add-count_inputs c = omega (arith, c.requires.numbers, c.count_inputs.ensures.few, ap length c.as_slice-2.ensures)

@@ -1,4 +1,4 @@
-use Rattle.opgen_operator.proofs.PortWidths.{inputs_wide}
+use Rattle.opgen_operator.proofs.Specs.{inputs_wide}
 use Rattle.opgen_operator.proofs.laws.inputs_are_wide.Goals as goal
 
 pub returns : goal.returns

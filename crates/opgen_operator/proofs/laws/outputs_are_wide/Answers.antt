@@ -1,4 +1,4 @@
-use Rattle.opgen_operator.proofs.PortWidths.{outputs_wide}
+use Rattle.opgen_operator.proofs.Specs.{outputs_wide}
 use Rattle.opgen_operator.proofs.laws.outputs_are_wide.Goals as goal
 
 pub returns : goal.returns

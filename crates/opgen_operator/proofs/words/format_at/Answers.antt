@@ -1,4 +1,4 @@
-use Rattle.opgen_operator.proofs.Numbered.{format_at-listed}
+use Rattle.opgen_operator.proofs.Cycles.{format_at-listed}
 use Rattle.opgen_operator.proofs.words.format_at.Goals as goal
 
 pub returns : goal.returns

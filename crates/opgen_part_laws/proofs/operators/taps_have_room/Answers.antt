@@ -1,4 +1,4 @@
-use Rattle.opgen_operator.proofs.Widths.{taps_width}
+use Rattle.opgen_operator.proofs.of_kind.Taps.{taps_width}
 use Rattle.opgen_part_laws.proofs.operators.taps_have_room.Goals as goal
 
 pub returns : goal.returns

@@ -7,6 +7,7 @@ use Rattle.opgen_pipe.specs.Cells.{classes, design_cells}
 use Rattle.opgen_pipe.specs.Copies.{net_latency, signal_count}
 use Rattle.opgen_pipe.specs.Pipelined.{design_of}
 use Rattle.opgen_pipe.proofs.Fitting.{latency-few}
+use Rattle.opgen_pipe.proofs.Timed.{plan-in_time, plan-is_least}
 use Rattle.opgen_pipe.proofs.planning.plan.Goals as goal
 
 pub overflow_cast-result : goal.overflow_cast-result
@@ -28,6 +29,15 @@ returns-clause-outcome g c =
         cells = c.in_ok-cells.ensures.cells ∙ ap (λ ps. map (width_sum (design_cells net (slot_at ps))) classes) e;
       },
     )
+
+pub returns-clause-fits : goal.returns-clause-fits
+returns-clause-fits g c =
+    let o = returns-clause-outcome g c in
+    plan-in_time _ c.args.period c.args.net.now c.requires.valid c.args.name.now c.args.enable _ o.0 o.2
+
+pub returns-clause-least : goal.returns-clause-least
+returns-clause-least g c =
+    let o = returns-clause-outcome g c in plan-is_least _ c.args.period c.args.net.now c.requires.valid _ o.2.latency
 
 pub returns-clause-ledger : goal.returns-clause-ledger
 returns-clause-ledger g c = λ class.

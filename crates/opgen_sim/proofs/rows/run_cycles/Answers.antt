@@ -8,7 +8,7 @@ use Rattle.opgen_sim.proofs.rows.run_cycles.Goals as goal
 
 pub rows-init : goal.rows-init
 rows-init c =
-    let new = c.in_ok-sim.ensures in
+    let new = c.in_ok-sim.ensures.new in
     rw c.new-results.ensures.items record {
       same = new.design;
       fit = c.requires.rows;
@@ -56,6 +56,6 @@ rows-preserved c =
           c.extend_from_slice.new.self.items now.run c.rows-test.true now.same first c.step.ensures.step put;
     }
 
-pub returns : goal.returns
-returns c =
+pub returns-clause-run : goal.returns-clause-run
+returns-clause-run c =
     whole_run c.args.design c.args.rows c.args.cells.now c.rows.sim.registers c.rows.left c.rows.inputs.now c.rows.results.items c.rows.invariant.run (omega (arith, c.rows-test.false))

@@ -1,9 +1,10 @@
 use Rattle.std.proofs.Common.{refl}
 use Rattle.opgen_spec.specs.Spec.{spec_with}
+use Rattle.opgen_spec.specs.kinds.{entry}
 use Rattle.opgen_spec.proofs.make.spec_with.Goals as goal
 
 pub returns : goal.returns
-unfolding spec_with
+unfolding spec_with entry
 returns c =
     rw (
       c.count_at.ensures,

@@ -1,7 +1,7 @@
 use Rattle.std.proofs.Common.{◌≡◌, rules, arith, to_z, of_z, w64, true, false, ◌∙◌, ap, Some}
 use Rattle.toml.specs.View.{view}
 use Rattle.opgen_spec.specs.Numbers.{coefficient}
-use Rattle.opgen_spec.specs.Faults.{is_beyond}
+use Rattle.opgen_spec.specs.Ranges.{is_beyond}
 use Rattle.opgen_spec.proofs.Trees.{find_here, find_past}
 use Rattle.opgen_spec.proofs.range.first_beyond.Goals as goal
 

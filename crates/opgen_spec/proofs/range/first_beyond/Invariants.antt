@@ -2,7 +2,7 @@ use Rattle.std.proofs.Common.{◌≡◌, map, drop, find}
 use Rattle.toml.specs.View.{items_view}
 use Rattle.opgen_spec.specs.Document.{list_of}
 use Rattle.opgen_spec.specs.Numbers.{coefficient}
-use Rattle.opgen_spec.specs.Faults.{is_beyond, first_beyond}
+use Rattle.opgen_spec.specs.Ranges.{is_beyond, first_beyond}
 use Rattle.opgen_spec.proofs.range.first_beyond.Given as goal
 
 abbrev pub invariant-items : goal.invariant-items

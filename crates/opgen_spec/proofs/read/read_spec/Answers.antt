@@ -1,12 +1,14 @@
 use Rattle.std.proofs.Common.{◌≡◌, ◌∙◌, ap, sym, None, Ok, unwrap_or}
 use Rattle.toml.specs.View.{table_view}
-use Rattle.opgen_operator.specs.declared.kind.Kind.TheVariants as kind
-use Rattle.opgen_spec.specs.Document.{tree, kind_of}
+use Rattle.opgen_operator.specs.declared.operator.Kind.TheVariants as kind
+use Rattle.opgen_spec.specs.Document.{tree}
+use Rattle.opgen_spec.specs.kinds.{kind_of}
 use Rattle.opgen_spec.specs.Faults.{read, field_fault, limit_fault}
 use Rattle.opgen_spec.specs.Spec.{spec_with, spec_of}
 use Rattle.opgen_spec.proofs.Reading.{field_first, limit_first, none_first, gives_fault}
-use Rattle.opgen_spec.proofs.Fields.{fine, operator_in, inputs_in}
-use Rattle.opgen_spec.proofs.Validity.{no_kind, valid_in, compressor_of}
+use Rattle.opgen_spec.proofs.Fine.{fine, no_kind}
+use Rattle.opgen_spec.proofs.Validity.{valid_in}
+use Rattle.opgen_spec.proofs.sound.All.{sound}
 use Rattle.opgen_spec.proofs.Written.{written}
 use Rattle.opgen_spec.proofs.read.read_spec.Goals as goal
 
@@ -29,8 +31,8 @@ limit_fault-requires c =
     let none : field_fault ms ≡ None = sym c.field_fault.ensures ∙ c.in_default.is in
     let named = sym c.in-Some-kind_of.ensures in
     rw c.in_ok-spec.ensures (record {
-      op = operator_in ms c.in-Some-kind_of.kind (fine ms none) named;
-      inputs = inputs_in ms c.in-Some-kind_of.kind (fine ms none) named;
+      op = (sound c.in-Some-kind_of.kind).ranges ms (fine ms none) named;
+      inputs = (sound c.in-Some-kind_of.kind).inputs ms (fine ms none) named;
     })
 
 pub returns-in-Some-limit_fault-clause-gives : goal.returns-in-Some-limit_fault-clause-gives
@@ -59,8 +61,7 @@ returns-clause-valid c =
     let clear : limit_fault (spec_with c.in-Some-kind_of.kind ms) ≡ None = ap limit_fault (sym c.in_ok-spec.ensures)
     ∙ (sym c.limit_fault.ensures ∙ c.in_default-limit_fault.is) in
     let named = sym c.in-Some-kind_of.ensures in
-    rw c.in_ok-spec.ensures (valid_in ms c.in-Some-kind_of.kind (fine ms none)
-    (compressor_of ms c.in-Some-kind_of.kind none named) named clear)
+    rw c.in_ok-spec.ensures (valid_in ms c.in-Some-kind_of.kind (fine ms none) named clear)
 
 pub returns-clause-written : goal.returns-clause-written
 returns-clause-written c =

@@ -4,10 +4,10 @@ use Rattle.opgen_num.specs.declared.format.Format.{Format}
 use Rattle.opgen_net.specs.declared.net.Net.{Net}
 use Rattle.opgen_net.specs.Placed.{Placed}
 use Rattle.opgen_net.specs.Valid.{widths}
-use Rattle.opgen_operator.specs.declared.spec.Operator.TheVariants.{Tfir}
+use Rattle.opgen_operator.specs.declared.kinds.taps.Taps.{Taps}
+use Rattle.opgen_operator.specs.declared.operator.Operator.TheVariants.{Tfir}
 use Rattle.opgen_operator.specs.Fits.{FitsSpecsOf}
-use Rattle.opgen_operator.specs.declared.spec.Taps.{Taps}
-use Rattle.opgen_operator.specs.Ports.{taps_format}
+use Rattle.opgen_operator.specs.kinds.Taps.{taps_format}
 use Rattle.opgen_graph.specs.declared.ranks.Graph.{Graph}
 use Rattle.opgen_graph.specs.Recipe.{Multiples}
 use Rattle.opgen_tfir.specs.Recipe.{net_of_taps, with_multiples, with_taps, sum_from}

@@ -9,6 +9,7 @@ use Rattle.opgen_top.proofs.Ending.{later_reads, line_taken, gives_due, gives_mi
 use Rattle.opgen_top.proofs.Heading.{heading}
 use Rattle.opgen_top.proofs.Listed.{listed_status}
 use Rattle.opgen_top.proofs.Parts.{told_status}
+use Rattle.opgen_top.proofs.Puts.{line_put, no_put, rose_stood}
 use Rattle.opgen_top.proofs.program.run.Goals as goal
 
 pub returns-in-Ok-store_all-clause-answered : goal.returns-in-Ok-store_all-clause-answered
@@ -112,3 +113,12 @@ returns-clause-left_by_memory g c files told five =
     (c.in-Err-Memory.ensures.memory files (c.answer_words.ensures.told_same ∙ told) (ap Err c.in-Err-Memory.field-0-is)) in
     left_first _ _ _ _ _ _ prepared _ (g.K.Sink.taken c.args.out.now) (g.K.Sink.taken c.args.out.now)
     (λ e. let bad = c.in-Err-Memory.ensures.none (ap (map store_of) c.deref.ensures.value ∙ e) in cc) files told first
+
+pub returns-in-Ok-store_all-clause-one_put : goal.returns-in-Ok-store_all-clause-one_put
+returns-in-Ok-store_all-clause-one_put g c = line_put _ _ _ _ _ c.print_line.ensures.one_put c.print_line.ensures.silent
+
+pub returns-in-Err-Failed-clause-one_put : goal.returns-in-Err-Failed-clause-one_put
+returns-in-Err-Failed-clause-one_put g c =
+    let rose = subst (λ n. Rose n (g.F.Folder.write_faults c.store_all.new.folder)) c.answer_words.ensures.write_faults_same
+    (c.in-Err-Failed.ensures.failed_counted (ap Err c.in-Err-Failed.field-0-is)) in
+    no_put 4 _ _ _ (inl refl) (λ four stood. rose_stood _ _ rose stood)

@@ -17,13 +17,13 @@ run_rows-requires-clause-rows c =
 pub overflow_cast-outputs : goal.overflow_cast-outputs
 overflow_cast-outputs c =
     let widths = c.in_ok-out_widths.ensures ∙ ap (widths_on is_out) c.as_slice-2.ensures in
-    omega (arith, c.len.ensures, c.in_ok-out_widths.out_widths.ok.0, ap length widths, few_outputs c.args.design c.requires.numbers)
+    omega (arith, c.len.ensures, c.in_ok-out_widths.out_widths.ok.0, ap length widths, few_outputs c.args.design c.in_ok-cells.ensures.numbers)
 
 pub invariant_of-outputs : goal.invariant_of-outputs
 invariant_of-outputs c =
     let d = c.args.design in
     let rows = c.args.rows.now in
-    let run = subst (λ xs. IsRunOf d rows.count xs c.in_ok-cells.cells.items) c.deref.ensures.value c.in_ok-cells.ensures in
+    let run = subst (λ xs. IsRunOf d rows.count xs c.in_ok-cells.cells.items) c.deref.ensures.value c.in_ok-cells.ensures.run in
     let widths = c.in_ok-out_widths.ensures ∙ ap (widths_on is_out) c.as_slice-2.ensures in
     let columns : length (output_widths d) ≡ c.len.result =
     omega (arith, c.len.ensures, c.in_ok-out_widths.out_widths.ok.0, ap length widths) in
@@ -43,7 +43,7 @@ pub write_rows-requires-clause-same_rows : goal.write_rows-requires-clause-same_
 write_rows-requires-clause-same_rows c =
     let d = c.args.design in
     let rows = c.args.rows.now in
-    let run = subst (λ xs. IsRunOf d rows.count xs c.in_ok-cells.cells.items) c.deref.ensures.value c.in_ok-cells.ensures in
+    let run = subst (λ xs. IsRunOf d rows.count xs c.in_ok-cells.cells.items) c.deref.ensures.value c.in_ok-cells.ensures.run in
     let cells = c.in_ok-cells.cells.items in
     let ins = c.deref-2.ensures.value ∙ c.in_ok-in_widths.ensures ∙ ap (widths_on is_in) c.as_slice.ensures in
     let outs = c.deref-3.ensures.value ∙ c.in_ok-out_widths.ensures ∙ ap (widths_on is_out) c.as_slice-2.ensures in
@@ -55,7 +55,7 @@ pub returns : goal.returns
 returns c =
     let d = c.args.design in
     let rows = c.args.rows.now in
-    let run = subst (λ xs. IsRunOf d rows.count xs c.in_ok-cells.cells.items) c.deref.ensures.value c.in_ok-cells.ensures in
+    let run = subst (λ xs. IsRunOf d rows.count xs c.in_ok-cells.cells.items) c.deref.ensures.value c.in_ok-cells.ensures.run in
     let ins = c.deref-2.ensures.value ∙ c.in_ok-in_widths.ensures ∙ ap (widths_on is_in) c.as_slice.ensures in
     let outs = c.deref-3.ensures.value ∙ c.in_ok-out_widths.ensures ∙ ap (widths_on is_out) c.as_slice-2.ensures in
     run_written d rows.count rows.inputs.cells.items c.in_ok-cells.cells.items c.in_ok-write_rows.field-0.items c.deref-2.result.now c.deref-3.result.now c.in_ok-cells.cells.items

@@ -1,6 +1,6 @@
 use Rattle.std.proofs.Common.{false}
 use Rattle.opgen_top.specs.Specified.{IsVectors}
-use Rattle.opgen_top.proofs.Planning.{circuit_numbers, circuit_ports, circuit_sound}
+use Rattle.opgen_top.proofs.Planning.{circuit_ports, circuit_sound}
 use Rattle.opgen_top.proofs.PreparingSpecs.{circuit_refused, rows_of_listed, vectors_made}
 use Rattle.opgen_top.proofs.Refusing.{answer_passed, answers-map}
 use Rattle.opgen_top.proofs.vectors.run_circuit.Goals as goal
@@ -8,10 +8,6 @@ use Rattle.opgen_top.proofs.vectors.run_circuit.Goals as goal
 pub run_stimulus-requires-clause-sound : goal.run_stimulus-requires-clause-sound
 run_stimulus-requires-clause-sound g c = let is = c.in_ok-circuit.ensures.circuit in
     circuit_sound c.args.spec.now is.table false c.in_ok-circuit.circuit.planned _ is.of_table
-
-pub run_stimulus-requires-clause-numbers : goal.run_stimulus-requires-clause-numbers
-run_stimulus-requires-clause-numbers g c = let is = c.in_ok-circuit.ensures.circuit in
-    circuit_numbers c.args.spec.now is.table false c.in_ok-circuit.circuit.planned _ is.of_table c.requires
 
 pub run_stimulus-requires-clause-ports : goal.run_stimulus-requires-clause-ports
 run_stimulus-requires-clause-ports g c = let is = c.in_ok-circuit.ensures.circuit in

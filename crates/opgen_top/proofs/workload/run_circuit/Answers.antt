@@ -1,5 +1,5 @@
 use Rattle.std.proofs.Common.{false}
-use Rattle.opgen_top.proofs.Planning.{circuit_numbers, circuit_ports, circuit_sound}
+use Rattle.opgen_top.proofs.Planning.{circuit_ports, circuit_sound}
 use Rattle.opgen_top.proofs.Refusing.{answer_passed, answers-map}
 use Rattle.opgen_top.proofs.Working.{spec_refused, spec_worked, worked_listed}
 use Rattle.opgen_top.proofs.workload.run_circuit.Goals as goal
@@ -7,10 +7,6 @@ use Rattle.opgen_top.proofs.workload.run_circuit.Goals as goal
 pub run_filter-requires-clause-sound : goal.run_filter-requires-clause-sound
 run_filter-requires-clause-sound g c = let is = c.in_ok-circuit.ensures.circuit in
     circuit_sound c.args.spec.now is.table false c.in_ok-circuit.circuit.planned _ is.of_table
-
-pub run_filter-requires-clause-numbers : goal.run_filter-requires-clause-numbers
-run_filter-requires-clause-numbers g c = let is = c.in_ok-circuit.ensures.circuit in
-    circuit_numbers c.args.spec.now is.table false c.in_ok-circuit.circuit.planned _ is.of_table c.requires.valid
 
 pub run_filter-requires-clause-ports : goal.run_filter-requires-clause-ports
 run_filter-requires-clause-ports g c = let is = c.in_ok-circuit.ensures.circuit in

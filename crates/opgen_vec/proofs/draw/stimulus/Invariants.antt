@@ -1,11 +1,11 @@
 use Rattle.std.proofs.Common.{◌≡◌, ◌++◌}
-use Rattle.opgen_operator.specs.Ports.{inputs_of}
-use Rattle.opgen_vec.specs.Stimulus.{draws, repeated, stimulus_cells}
+use Rattle.opgen_operator.specs.Operator.{divisor, inputs_of}
+use Rattle.opgen_vec.specs.Stimulus.{cycles_from, stimulus_cells}
 use Rattle.opgen_vec.proofs.draw.stimulus.Given as goal
 
 abbrev pub invariant-cycles : goal.invariant-cycles
 invariant-cycles l = stimulus_cells l.spec l.fn.seed l.fn.cycles
-    ≡ l.cells.items ++ draws l.spec.op (repeated l.left (inputs_of l.spec)) l.state
+    ≡ l.cells.items ++ cycles_from (divisor l.spec.op) (inputs_of l.spec) l.left l.state
 
 abbrev pub decreases-cycles : goal.decreases-cycles
 decreases-cycles l = l.left

@@ -22,4 +22,14 @@ returns c = record {
   root_good = (omega arith, omega arith);
   root_rest = λ h. omega (arith, h.1);
   multiple_format = refl;
+  seventh_named = refl;
+  seventh_good = (omega arith, omega arith);
+  seventh_rest = λ h. omega (arith, h.1);
+  halves_guard = refl;
+  halves_format = refl;
+  halves_value = refl;
+  halves_good = omega (arith, ints);
+  halves_above = λ h. omega (arith, ints, h);
+  taps_format_is = refl;
+  taps_value = refl;
 }

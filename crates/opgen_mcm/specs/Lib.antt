@@ -1,0 +1,2 @@
+-- Definitions of opgen_mcm: the products that the outputs have.
+pub mod Products

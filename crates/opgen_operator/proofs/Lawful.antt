@@ -1,0 +1,26 @@
+-- What holds of the meaning of each kind: a kind proves it once.
+use Rattle.std.proofs.Common.{◌≡◌, ℕ, ◌≤◌, ◌<◌, length, true, ◌++◌}
+use Rattle.std.specs.Prelude.{neg_ℤ, ◌≤ℤ◌, All}
+use Rattle.opgen_operator.specs.declared.TheConstants.{MAX_SHIFT}
+use Rattle.opgen_operator.specs.Accepted.{IsAcceptedIn, AreWithin}
+use Rattle.opgen_operator.specs.Bounded.{HasWidth}
+use Rattle.opgen_operator.specs.Limits.{most_input, most_signal}
+use Rattle.opgen_operator.specs.Meaning.{Meaning}
+use Rattle.opgen_operator.specs.PortNumbers.{format_at}
+use Rattle.opgen_operator.specs.Ports.{port}
+use Rattle.opgen_operator.specs.Recent.{Recent}
+use Rattle.opgen_operator.specs.Spans.{IsOf}
+use Rattle.opgen_operator.proofs.InputPorts.{HasBit}
+use Rattle.opgen_operator.proofs.Named.{are_good, names}
+
+pub record IsLawful (m : Meaning) : Type 0 where
+  pub some_input : 1 ≤ length m.inputs
+  pub input_bits : m.IsRanged → All HasBit m.inputs
+  -- a design may have the names of its ports
+  pub names_good : m.IsRanged → are_good (names m.inputs ++ names m.outputs) ≡ true
+  pub wide : (version : ℕ) → IsAcceptedIn version m → All (HasWidth (most_signal version)) m.outputs
+  pub limit : (version : ℕ) → m.shift ≤ℤ m.most_shift version → m.shift ≤ℤ MAX_SHIFT
+  pub least : m.least_shift ≤ℤ m.shift → neg_ℤ MAX_SHIFT ≤ℤ m.shift
+  pub room : (version : ℕ) → AreWithin (most_input version) m.inputs → m.shift ≤ℤ m.most_shift version → m.HasRoom
+  pub in128 : (version : ℕ) → IsAcceptedIn version m → (inputs : (port : ℕ) → Recent)
+      → ((port ago : ℕ) → port < length m.inputs → IsOf (format_at m.inputs port) (inputs port ago)) → m.IsExactIn128 inputs

@@ -1,0 +1,22 @@
+-- What every valid specification keeps: the widths of its ports, its shift, and exact values of 128 bits.
+use Rattle.opgen_operator.specs.Bounded.{InputsAreWide, OutputsAreWide, LimitsAreWithin, ShiftsAreSmall, ExactValuesAreIn128}
+use Rattle.opgen_operator.proofs.Operators.{input_bits, operator_wide, shift_limit, shift_least, lawful}
+use Rattle.opgen_operator.proofs.Versions.{input_limit, signal_limit}
+
+pub inputs_wide : InputsAreWide
+inputs_wide spec valid k d below = (input_bits spec.op valid.op.ranges k d below, valid.op.inputs k d below)
+
+pub outputs_wide : OutputsAreWide
+outputs_wide spec valid = operator_wide spec.version spec.op valid.op
+
+pub limits_within : LimitsAreWithin
+limits_within version = (input_limit version, (signal_limit version).1)
+
+pub shifts_small : ShiftsAreSmall
+shifts_small spec valid = record {
+  within = valid.op.fine;
+  small = (shift_least spec.op valid.op.fine.0, shift_limit spec.version spec.op valid.op.fine.1);
+}
+
+pub exact_in128 : ExactValuesAreIn128
+exact_in128 spec valid inputs of = (lawful spec.op).in128 spec.version valid.op inputs of

@@ -1,0 +1,139 @@
+//! Quotients of two unsigned inputs: what holds of them and of their remainders.
+ghost use Rattle.std.specs.Prelude.{◌≡◌, ◌+◌, ◌≤◌, ℤ, ◌≤ℤ◌, IfOk, pos, ◌≢◌, ◌↔◌, IsTrue};
+ghost use Rattle.opgen_operator.specs.Judged.{IsJudged};
+ghost use Rattle.opgen_operator.specs.kinds.Pair.{quotient_format, remainder_format, IsPair, IsAcceptedPair, pair_shift, IsGoodQuotient, quotient_ports, pair_meaning};
+ghost use Rattle.opgen_operator.specs.PortNumbers.{output_numbers, IsHistory, IsCycle};
+ghost use Rattle.opgen_operator.specs.Ports.{two_inputs};
+ghost use Rattle.opgen_operator.specs.Shifts.{places_up};
+ghost use Rattle.opgen_operator.specs.Spans.{IsOf};
+
+use crate::MAX_SHIFT;
+use crate::history::{last_two, output};
+use crate::ports::{PortFormat, operands, unsigned, with_rest};
+use crate::shifts::{places_up, raised};
+use opgen_num::{Format, MAX_WIDTH, good_linear, is_quotient};
+use std::alloc::{AllocError, Global};
+
+/// The dividend `a` and the divisor `b`.
+#[derive(Clone, Copy, Debug, PartialEq, Eq)]
+pub struct Pair {
+    pub a: Format,
+    pub b: Format,
+    pub out_lsb: i32,
+    pub exact: bool,
+}
+
+impl Pair {
+    /// The power of two that brings the exact value into units of the quotient's last place.
+    pub fn shift(&self) -> i32
+        requires { IsAcceptedPair self.now }
+        ensures value { result ≡ pair_shift self.now }
+        ensures low { pos 0 ≤ℤ result }
+        ensures high { result ≤ℤ MAX_SHIFT }
+    {
+        pair_shift(self)
+    }
+
+    /// The format of the quotient.
+    pub fn quotient(&self) -> Format
+        requires { IsAcceptedPair self.now }
+        ensures value { result ≡ quotient_format self.now }
+        ensures few { result.width ≤ MAX_WIDTH }
+    {
+        quotient_format(self)
+    }
+
+    /// The format of the remainder.
+    pub fn remainder(&self) -> Format
+        requires { IsAcceptedPair self.now }
+        ensures { result ≡ remainder_format self.now }
+    {
+        remainder_format(self)
+    }
+
+    /// The input ports, in order.
+    pub(crate) fn inputs(&self, alloc: Global) -> Result<Vec<PortFormat>, AllocError>
+        ensures { IfOk result (λ ports. ports.items ≡ two_inputs self.now.a self.now.b) }
+    {
+        operands(alloc, self.a, self.b)
+    }
+
+    /// The output ports, in order.
+    pub(crate) fn outputs(&self, alloc: Global) -> Result<Vec<PortFormat>, AllocError>
+        requires { IsAcceptedPair self.now }
+        ensures { IfOk result (λ ports. ports.items ≡ quotient_ports self.now.exact self.now) }
+    {
+        with_rest(alloc, self.exact, "q", self.quotient(), self.remainder())
+    }
+
+    /// Whether the outputs of the last cycle are good, or its inputs out of range.
+    pub(crate) fn judge(&self, history: &[u128], outputs: &[u128]) -> bool
+        requires accepted { IsAcceptedPair self.now }
+        requires history { IsHistory (two_inputs self.now.a self.now.b) history.now }
+        requires outputs { IsCycle (quotient_ports self.now.exact self.now) outputs.now }
+        ensures { IsJudged (pair_meaning self.now) self.now.exact history.now outputs.now result }
+    {
+        let (a, b) = last_two(self.a, self.b, history);
+        quotient_is_good(self.exact, self, a, b, outputs)
+    }
+}
+
+pub(crate) fn pair_shift(pair: &Pair) -> i32
+    requires { IsPair pair.now }
+    ensures { result ≡ pair_shift pair.now }
+{
+    pair.a.lsb - pair.b.lsb - pair.out_lsb
+}
+
+/// The width of the widest signal.
+pub(crate) fn pair_need(pair: &Pair) -> u32
+    requires { IsPair pair.now }
+    ensures { result ≡ pair.now.a.width + places_up (pair_shift pair.now) }
+{
+    pair.a.width + places_up(pair_shift(pair))
+}
+
+fn quotient_format(pair: &Pair) -> Format
+    requires { IsPair pair.now }
+    ensures { result ≡ quotient_format pair.now }
+{
+    unsigned(pair.a.width + places_up(pair_shift(pair)), pair.out_lsb)
+}
+
+fn remainder_format(pair: &Pair) -> Format
+    requires { IsPair pair.now }
+    ensures { result ≡ remainder_format pair.now }
+{
+    unsigned(pair.b.width, pair.b.lsb + pair.out_lsb)
+}
+
+fn quotient_is_good(exact: bool, pair: &Pair, a: i128, b: i128, outputs: &[u128]) -> bool
+    requires pair { IsPair pair.now }
+    requires low { pos 0 ≤ℤ pair_shift pair.now }
+    requires high { pair_shift pair.now ≤ℤ MAX_SHIFT }
+    requires narrow { (quotient_format pair.now).width ≤ MAX_WIDTH }
+    requires a { IsOf pair.now.a a }
+    requires b { pos 0 ≤ℤ b }
+    requires outputs { IsCycle (quotient_ports exact pair.now) outputs.now }
+    ensures in_range { b ≢ pos 0 → (IsTrue result ↔ IsGoodQuotient exact pair.now a b
+        (output_numbers (quotient_ports exact pair.now) outputs.now 0)
+        (output_numbers (quotient_ports exact pair.now) outputs.now 1)) }
+    ensures out_of_range { b ≡ pos 0 → IsTrue result }
+{
+    if b == 0 {
+        return true;
+    }
+    let shifted = raised(a, places_up(pair_shift(pair)));
+    let q = output(quotient_format(pair), outputs[0]);
+    if exact {
+        let r = output(remainder_format(pair), outputs[1]);
+        is_quotient(
+            shifted.unsigned_abs(),
+            b.unsigned_abs(),
+            q.unsigned_abs(),
+            r.unsigned_abs(),
+        )
+    } else {
+        good_linear(shifted, b, q, false)
+    }
+}

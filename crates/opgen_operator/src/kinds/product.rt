@@ -1,0 +1,181 @@
+//! Products of two inputs: what holds of them.
+ghost use Rattle.std.specs.Prelude.{◌≡◌, ◌+◌, ◌≤◌, ◌^◌, [], ◌∷◌, ℤ, neg_ℤ, ◌≤ℤ◌, codes, IfOk, ◌<◌, pos, negsuc, ◌↔◌, IsTrue};
+ghost use Rattle.opgen_operator.specs.Good.{IsGoodRatio};
+ghost use Rattle.opgen_operator.specs.Judged.{IsJudged};
+ghost use Rattle.opgen_operator.specs.kinds.Product.{product_shift, product_format, IsProduct, IsAcceptedProduct, product_reach, product_places, product_need, exact_product, product_meaning};
+ghost use Rattle.opgen_operator.specs.PortNumbers.{number_of, IsHistory, IsCycle};
+ghost use Rattle.opgen_operator.specs.Ports.{port, two_inputs};
+ghost use Rattle.opgen_operator.specs.Reaches.{width_of};
+ghost use Rattle.opgen_operator.specs.Spans.{IsOf};
+
+use crate::MAX_SHIFT;
+use crate::history::{last_two, output};
+use crate::ports::{PortFormat, one, operands};
+use crate::reach::{Reach, in_places, reach_of, width_of};
+use crate::shifts::{places_down, places_up, raised};
+use opgen_num::{Format, MAX_WIDTH, good_linear};
+use std::alloc::{AllocError, Global};
+
+#[derive(Clone, Copy, Debug, PartialEq, Eq)]
+pub struct Product {
+    pub a: Format,
+    pub b: Format,
+    pub out_lsb: i32,
+    /// Whether larger counters go before the compression of the heap.
+    pub counters: bool,
+}
+
+impl Product {
+    /// The power of two that brings the exact value into units of the output's last place.
+    pub fn shift(&self) -> i32
+        requires { IsAcceptedProduct self.now }
+        ensures value { result ≡ product_shift self.now }
+        ensures low { neg_ℤ MAX_SHIFT ≤ℤ result }
+        ensures high { result ≤ℤ MAX_SHIFT }
+    {
+        product_shift(self)
+    }
+
+    /// The format of the output.
+    pub fn output(&self) -> Format
+        requires { IsAcceptedProduct self.now }
+        ensures value { result ≡ product_format self.now }
+        ensures some { 1 ≤ result.width }
+        ensures few { result.width ≤ MAX_WIDTH }
+    {
+        product_format(self)
+    }
+
+    /// The input ports, in order.
+    pub(crate) fn inputs(&self, alloc: Global) -> Result<Vec<PortFormat>, AllocError>
+        ensures { IfOk result (λ ports. ports.items ≡ two_inputs self.now.a self.now.b) }
+    {
+        operands(alloc, self.a, self.b)
+    }
+
+    /// The output ports, in order.
+    pub(crate) fn outputs(&self, alloc: Global) -> Result<Vec<PortFormat>, AllocError>
+        requires { IsAcceptedProduct self.now }
+        ensures { IfOk result (λ ports. ports.items ≡ port (codes "y") (product_format self.now) ∷ []) }
+    {
+        one(alloc, "y", self.output())
+    }
+
+    /// Whether the outputs of the last cycle are good, or its inputs out of range.
+    pub(crate) fn judge(&self, exact: bool, history: &[u128], outputs: &[u128]) -> bool
+        requires accepted { IsAcceptedProduct self.now }
+        requires history { IsHistory (two_inputs self.now.a self.now.b) history.now }
+        requires outputs { IsCycle (port (codes "y") (product_format self.now) ∷ []) outputs.now }
+        ensures { IsJudged (product_meaning self.now) exact history.now outputs.now result }
+    {
+        let (a, b) = last_two(self.a, self.b, history);
+        product_is_good(exact, self, a, b, outputs[0])
+    }
+}
+
+pub(crate) fn product_shift(product: &Product) -> i32
+    requires { IsProduct product.now }
+    ensures value { result ≡ product_shift product.now }
+    ensures low { negsuc 95 ≤ℤ result }
+    ensures high { result ≤ℤ pos 96 }
+{
+    product.a.lsb + product.b.lsb - product.out_lsb
+}
+
+/// 0 where the product is not whole for every input.
+pub(crate) fn product_inexact(product: &Product) -> Option<u32>
+    requires { IsProduct product.now }
+    ensures { result ≡ (product_meaning product.now).inexact }
+{
+    if product_shift(product) < 0 {
+        Some(0)
+    } else {
+        None
+    }
+}
+
+/// How far a product goes.
+fn product_reach(product: &Product) -> Reach
+    requires { IsProduct product.now }
+    ensures value { result ≡ product_reach product.now }
+    ensures below { result.below ≤ 2 ^ (product.now.a.width + product.now.b.width) }
+    ensures above { result.above ≤ 2 ^ (product.now.a.width + product.now.b.width) }
+{
+    let a = reach_of(product.a);
+    let b = reach_of(product.b);
+    Reach {
+        below: (a.below * b.above).max(a.above * b.below),
+        above: (a.above * b.above).max(a.below * b.below),
+    }
+}
+
+/// How far a product goes in units of the output's last place, where it is not shifted up.
+fn product_places(product: &Product) -> Reach
+    requires product { IsProduct product.now }
+    requires low { neg_ℤ MAX_SHIFT ≤ℤ product_shift product.now }
+    requires high { product_shift product.now ≤ℤ pos 0 }
+    ensures value { result ≡ product_places product.now }
+    ensures below { result.below ≤ 2 ^ 120 }
+    ensures above { result.above ≤ 2 ^ 120 }
+{
+    in_places(product_reach(product), product_shift(product), 1)
+}
+
+/// The width of the output of a product.
+///
+/// Shifted up, its range may have no place in 128 bits; the plain product's has one.
+fn product_width(product: &Product) -> u32
+    requires product { IsProduct product.now }
+    requires low { neg_ℤ MAX_SHIFT ≤ℤ product_shift product.now }
+    requires high { product_shift product.now ≤ℤ MAX_SHIFT }
+    ensures value { result ≡ width_of (product_places product.now) }
+    ensures bound { result ≤ 200 }
+{
+    let shift = product_shift(product);
+    if shift > 0 {
+        width_of(product_reach(product)) + places_up(shift)
+    } else {
+        width_of(product_places(product))
+    }
+}
+
+/// The width of the widest signal of a product.
+pub(crate) fn product_need(product: &Product) -> u32
+    requires product { IsProduct product.now }
+    requires low { neg_ℤ MAX_SHIFT ≤ℤ product_shift product.now }
+    requires high { product_shift product.now ≤ℤ MAX_SHIFT }
+    ensures { result ≡ product_need product.now }
+{
+    product_width(product) + places_down(product_shift(product))
+}
+
+fn product_format(product: &Product) -> Format
+    requires product { IsProduct product.now }
+    requires low { neg_ℤ MAX_SHIFT ≤ℤ product_shift product.now }
+    requires high { product_shift product.now ≤ℤ MAX_SHIFT }
+    ensures { result ≡ product_format product.now }
+{
+    Format {
+        signed: 0 < product_reach(product).below,
+        width: product_width(product),
+        lsb: product.out_lsb,
+    }
+}
+
+fn product_is_good(exact: bool, product: &Product, a: i128, b: i128, y: u128) -> bool
+    requires product { IsProduct product.now }
+    requires low { neg_ℤ MAX_SHIFT ≤ℤ product_shift product.now }
+    requires high { product_shift product.now ≤ℤ MAX_SHIFT }
+    requires narrow { (product_format product.now).width ≤ MAX_WIDTH }
+    requires a { IsOf product.now.a a }
+    requires b { IsOf product.now.b b }
+    requires y { y < 2 ^ (product_format product.now).width }
+    ensures { IsTrue result ↔ IsGoodRatio exact (exact_product product.now a b)
+        (number_of (product_format product.now) y) }
+{
+    let shift = product_shift(product);
+    let numerator = raised(a * b, places_up(shift));
+    let denominator = raised(1, places_down(shift));
+    let y = output(product_format(product), y);
+    good_linear(numerator, denominator, y, exact)
+}

@@ -1,0 +1,123 @@
+//! One input times several constants: what holds of the multiples.
+ghost use Rattle.std.specs.Fmt.{decimal};
+ghost use Rattle.std.specs.Prelude.{◌≡◌, ◌≤◌, ◌^◌, ◌++◌, map, codes, IfOk, ◌<◌, pos, length, get_or, unsigned_abs, ◌↔◌, IsTrue};
+ghost use Rattle.opgen_operator.specs.Good.{IsGoodRatio};
+ghost use Rattle.opgen_operator.specs.Judged.{IsJudged};
+ghost use Rattle.opgen_operator.specs.kinds.Several.{constant_format, numbered, IsSeveral, IsAcceptedSeveral, exact_multiple, AreGoodMultiples, multiple_ports, several_meaning};
+ghost use Rattle.opgen_operator.specs.PortNumbers.{number_of, output_numbers, IsHistory, IsCycle};
+ghost use Rattle.opgen_operator.specs.Ports.{port, one_input};
+ghost use Rattle.opgen_operator.specs.Ranges.{IsInput, IsWithin};
+
+use crate::history::{output, product, recent};
+use crate::ports::{PortFormat, covering, one};
+use crate::reach::reach_over;
+use opgen_list::{Items, Text};
+use opgen_num::{Format, MAX_INPUT, good_linear};
+use std::alloc::{AllocError, Global};
+
+#[derive(Drop)]
+pub struct Several {
+    pub input: Format,
+    pub constants: Items<i64>,
+    /// How many odd numbers beside those of the constants the adder graph may make.
+    pub extra: u32,
+}
+
+impl Several {
+    /// The format of the output of the constant at a place.
+    pub fn output(&self, place: usize) -> Format
+        requires several { IsAcceptedSeveral self.now }
+        requires place { place < length self.now.constants }
+        ensures value { result ≡ constant_format self.now.input (get_or self.now.constants place (pos 0)) }
+        ensures some { 1 ≤ result.width }
+        ensures few { result.width ≤ 64 }
+    {
+        constant_format(self.input, self.constants.as_slice()[place])
+    }
+
+    /// The input ports, in order.
+    pub(crate) fn inputs(&self, alloc: Global) -> Result<Vec<PortFormat>, AllocError>
+        ensures { IfOk result (λ ports. ports.items ≡ one_input self.now.input) }
+    {
+        one(alloc, "x", self.input)
+    }
+
+    /// The output ports, in order.
+    pub(crate) fn outputs(&self, alloc: Global) -> Result<Vec<PortFormat>, AllocError>
+        requires { IsAcceptedSeveral self.now }
+        ensures { IfOk result (λ ports. ports.items ≡ multiple_ports self.now) }
+    {
+        constants(alloc, self)
+    }
+
+    /// Whether the outputs of the last cycle are good, or its inputs out of range.
+    pub(crate) fn judge(&self, exact: bool, history: &[u128], outputs: &[u128]) -> bool
+        requires accepted { IsAcceptedSeveral self.now }
+        requires history { IsHistory (one_input self.now.input) history.now }
+        requires outputs { IsCycle (multiple_ports self.now) outputs.now }
+        ensures { IsJudged (several_meaning self.now) exact history.now outputs.now result }
+    {
+        let x = recent(self.input, history, 0);
+        multiples_are_good(exact, self, x, outputs)
+    }
+}
+
+fn constant_format(input: Format, constant: i64) -> Format
+    requires input { IsInput input }
+    requires constant { IsWithin 2047 constant }
+    ensures { result ≡ constant_format input constant }
+{
+    covering(reach_over(input, &[constant]), input.lsb)
+}
+
+fn numbered(alloc: Global, number: u32, format: Format) -> Result<PortFormat, AllocError>
+    ensures { IfOk result (λ made. made ≡ port (codes "y" ++ decimal number) format) }
+{
+    let name = format!(in alloc; "y{number}")?;
+    Ok(PortFormat {
+        name: Text::from_string(name),
+        format,
+    })
+}
+
+fn constants(alloc: Global, several: &Several) -> Result<Vec<PortFormat>, AllocError>
+    requires { IsSeveral several.now }
+    ensures { IfOk result (λ ports. ports.items ≡ numbered 0 (map (constant_format several.now.input) several.now.constants)) }
+{
+    let mut ports = Vec::new(alloc);
+    let mut number = 0;
+    'constants: for constant in several.constants.as_slice() {
+        ports.push(numbered(alloc, number, constant_format(several.input, *constant))?)?;
+        number += 1;
+    }
+    Ok(ports)
+}
+
+fn multiple_is_good(exact: bool, input: Format, constant: i64, x: i128, y: u128) -> bool
+    requires input { IsInput input }
+    requires constant { IsWithin 2047 constant }
+    requires x { unsigned_abs x ≤ 2 ^ MAX_INPUT }
+    requires y { y < 2 ^ (constant_format input constant).width }
+    ensures { IsTrue result ↔ IsGoodRatio exact (exact_multiple constant x)
+        (number_of (constant_format input constant) y) }
+{
+    let y = output(constant_format(input, constant), y);
+    good_linear(product(x, constant), 1, y, exact)
+}
+
+fn multiples_are_good(exact: bool, several: &Several, x: i128, outputs: &[u128]) -> bool
+    requires several { IsSeveral several.now }
+    requires x { unsigned_abs x ≤ 2 ^ MAX_INPUT }
+    requires outputs { IsCycle (multiple_ports several.now) outputs.now }
+    ensures { IsTrue result ↔ AreGoodMultiples exact several.now.constants x
+        (output_numbers (multiple_ports several.now) outputs.now) }
+{
+    let mut place = 0;
+    'constants: for constant in several.constants.as_slice() {
+        if !multiple_is_good(exact, several.input, *constant, x, outputs[place]) {
+            return false;
+        }
+        place += 1;
+    }
+    true
+}

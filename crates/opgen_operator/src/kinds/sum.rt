@@ -1,0 +1,225 @@
+//! Sums of the last inputs times constants: what holds of multiples of one input and of filters of finite response.
+ghost use Rattle.std.specs.Prelude.{◌≡◌, ◌+◌, ◌≤◌, ◌^◌, [], ◌∷◌, ℤ, neg_ℤ, ◌≤ℤ◌, codes, IfOk, ◌<◌, pos, length, negsuc, ◌↔◌, IsTrue};
+ghost use Rattle.opgen_operator.specs.Good.{IsGoodRatio};
+ghost use Rattle.opgen_operator.specs.Judged.{IsJudged};
+ghost use Rattle.opgen_operator.specs.kinds.Sum.{sum_shift, HasSumRoom, sum_format, IsSum, IsAcceptedSum, guard_bits, is_whole, first_inexact, sum_reach, sum_places, terms, tables, sum_need, most_sum_shift, exact_sum, fir_meaning};
+ghost use Rattle.opgen_operator.specs.PortNumbers.{number_of, recent_numbers, IsHistory, IsCycle};
+ghost use Rattle.opgen_operator.specs.Ports.{port, one_input};
+ghost use Rattle.opgen_operator.specs.Ranges.{IsWithin};
+
+use crate::MAX_SHIFT;
+use crate::history::{output, weighted};
+use crate::ports::{PortFormat, covering, one};
+use crate::reach::{Reach, in_places, reach_over, width_of};
+use crate::shifts::{places_down, places_up, raised, scaled, units};
+use opgen_budget::guard;
+use opgen_list::Items;
+use opgen_num::{Format, MAX_WIDTH, good_linear};
+use std::alloc::{AllocError, Global};
+
+/// A sum of the last inputs times `coefs`, over the common denominator `den`.
+#[derive(Drop)]
+pub struct Sum {
+    pub input: Format,
+    pub out_lsb: i32,
+    pub coefs: Items<i64>,
+    pub den: i64,
+    pub exact: bool,
+    /// Whether larger counters go before the compression of the heap.
+    pub counters: bool,
+}
+
+impl Sum {
+    /// The power of two that brings the exact value into units of the output's last place.
+    pub fn shift(&self) -> i32
+        requires { IsAcceptedSum self.now }
+        ensures value { result ≡ sum_shift self.now }
+        ensures low { neg_ℤ MAX_SHIFT ≤ℤ result }
+        ensures high { result ≤ℤ MAX_SHIFT }
+    {
+        sum_shift(self)
+    }
+
+    /// The format of the output.
+    pub fn output(&self) -> Format
+        requires { IsAcceptedSum self.now }
+        ensures value { result ≡ sum_format self.now }
+        ensures some { 1 ≤ result.width }
+        ensures few { result.width ≤ MAX_WIDTH }
+    {
+        sum_format(self)
+    }
+
+    /// How many bits are computed below those of the output, none where each coefficient is whole.
+    pub fn guard_bits(&self) -> u32
+        requires { IsAcceptedSum self.now }
+        ensures value { result ≡ guard_bits self.now }
+        ensures bound { result ≤ 12 }
+        ensures width { (sum_format self.now).width + result ≤ MAX_WIDTH }
+    {
+        guard_bits(self)
+    }
+
+    /// The input ports, in order.
+    pub(crate) fn inputs(&self, alloc: Global) -> Result<Vec<PortFormat>, AllocError>
+        ensures { IfOk result (λ ports. ports.items ≡ one_input self.now.input) }
+    {
+        one(alloc, "x", self.input)
+    }
+
+    /// The output ports, in order.
+    pub(crate) fn outputs(&self, alloc: Global) -> Result<Vec<PortFormat>, AllocError>
+        requires { IsAcceptedSum self.now }
+        ensures { IfOk result (λ ports. ports.items ≡ port (codes "y") (sum_format self.now) ∷ []) }
+    {
+        one(alloc, "y", self.output())
+    }
+
+    /// Whether the outputs of the last cycle are good, or its inputs out of range.
+    pub(crate) fn judge(&self, exact: bool, history: &[u128], outputs: &[u128]) -> bool
+        requires accepted { IsAcceptedSum self.now }
+        requires history { IsHistory (one_input self.now.input) history.now }
+        requires outputs { IsCycle (port (codes "y") (sum_format self.now) ∷ []) outputs.now }
+        ensures { IsJudged (fir_meaning self.now) exact history.now outputs.now result }
+    {
+        sum_is_good(exact, self, history, outputs[0])
+    }
+}
+
+pub(crate) fn sum_shift(sum: &Sum) -> i32
+    requires { IsSum 256 sum.now }
+    ensures value { result ≡ sum_shift sum.now }
+    ensures low { negsuc 63 ≤ℤ result }
+    ensures high { result ≤ℤ pos 64 }
+{
+    sum.input.lsb - sum.out_lsb
+}
+
+pub(crate) fn most_sum_shift(version: u32) -> i32
+    ensures { result ≡ most_sum_shift version }
+{
+    if version == 1 { MAX_SHIFT } else { 32 }
+}
+
+/// Whether a coefficient is a whole number of units.
+fn is_whole(sum: &Sum, coef: i64) -> bool
+    requires sum { IsSum 256 sum.now }
+    requires coef { IsWithin (2 ^ 30) coef }
+    ensures { result ≡ is_whole sum.now coef }
+{
+    let shift = sum_shift(sum);
+    scaled(coef.unsigned_abs().into(), shift) % units(sum.den, shift) == 0
+}
+
+/// The place of the first coefficient that is not a whole number of units.
+pub(crate) fn first_inexact(sum: &Sum) -> Option<u32>
+    requires { IsSum 256 sum.now }
+    ensures { result ≡ first_inexact sum.now }
+{
+    let mut index = 0;
+    'coefs: for coef in sum.coefs.as_slice() {
+        if !is_whole(sum, *coef) {
+            return Some(index);
+        }
+        index += 1;
+    }
+    None
+}
+
+/// How far a sum goes, over its denominator.
+fn sum_reach(sum: &Sum) -> Reach
+    requires { IsSum 256 sum.now }
+    ensures value { result ≡ sum_reach sum.now }
+    ensures below { result.below ≤ 2 ^ (sum.now.input.width + 39) }
+    ensures above { result.above ≤ 2 ^ (sum.now.input.width + 39) }
+{
+    reach_over(sum.input, sum.coefs.as_slice())
+}
+
+/// How far a sum goes in units of the output's last place.
+pub(crate) fn sum_places(sum: &Sum) -> Reach
+    requires sum { IsSum 256 sum.now }
+    requires low { neg_ℤ MAX_SHIFT ≤ℤ sum_shift sum.now }
+    requires high { sum_shift sum.now ≤ℤ MAX_SHIFT }
+    requires room { HasSumRoom sum.now }
+    ensures value { result ≡ sum_places sum.now }
+    ensures below { result.below ≤ 2 ^ 120 }
+    ensures above { result.above ≤ 2 ^ 120 }
+{
+    in_places(sum_reach(sum), sum_shift(sum), sum.den)
+}
+
+/// How many coefficients are not 0.
+fn terms(coefs: &[i64]) -> u32
+    requires { length coefs.now ≤ 256 }
+    ensures value { result ≡ terms coefs.now }
+    ensures bound { result ≤ 256 }
+{
+    let mut count = 0;
+    'coefs: for coef in coefs {
+        if coef.unsigned_abs() != 0 {
+            count += 1;
+        }
+    }
+    count
+}
+
+/// How many tables round.
+fn tables(sum: &Sum) -> u32
+    requires { IsSum 256 sum.now }
+    ensures value { result ≡ tables sum.now }
+    ensures bound { result ≤ 2048 }
+{
+    terms(sum.coefs.as_slice()) * sum.input.width.div_ceil(6)
+}
+
+fn guard_bits(sum: &Sum) -> u32
+    requires { IsSum 256 sum.now }
+    ensures value { result ≡ guard_bits sum.now }
+    ensures bound { result ≤ 12 }
+{
+    match first_inexact(sum) {
+        Some(_) => guard(tables(sum)),
+        None => 0,
+    }
+}
+
+/// The width of the widest signal of a sum.
+pub(crate) fn sum_need(sum: &Sum) -> u32
+    requires sum { IsSum 256 sum.now }
+    requires low { neg_ℤ MAX_SHIFT ≤ℤ sum_shift sum.now }
+    requires high { sum_shift sum.now ≤ℤ MAX_SHIFT }
+    requires room { HasSumRoom sum.now }
+    ensures { result ≡ sum_need sum.now }
+{
+    width_of(sum_places(sum)) + guard_bits(sum)
+}
+
+fn sum_format(sum: &Sum) -> Format
+    requires sum { IsSum 256 sum.now }
+    requires low { neg_ℤ MAX_SHIFT ≤ℤ sum_shift sum.now }
+    requires high { sum_shift sum.now ≤ℤ MAX_SHIFT }
+    requires room { HasSumRoom sum.now }
+    ensures { result ≡ sum_format sum.now }
+{
+    covering(sum_places(sum), sum.out_lsb)
+}
+
+fn sum_is_good(exact: bool, sum: &Sum, history: &[u128], y: u128) -> bool
+    requires sum { IsSum 256 sum.now }
+    requires low { neg_ℤ MAX_SHIFT ≤ℤ sum_shift sum.now }
+    requires high { sum_shift sum.now ≤ℤ MAX_SHIFT }
+    requires room { HasSumRoom sum.now }
+    requires narrow { (sum_format sum.now).width ≤ MAX_WIDTH }
+    requires history { IsHistory (one_input sum.now.input) history.now }
+    requires y { y < 2 ^ (sum_format sum.now).width }
+    ensures { IsTrue result ↔ IsGoodRatio exact
+        (exact_sum sum.now (recent_numbers (one_input sum.now.input) history.now 0))
+        (number_of (sum_format sum.now) y) }
+{
+    let shift = sum_shift(sum);
+    let total = weighted(sum.input, sum.coefs.as_slice(), history);
+    let numerator = raised(total, places_up(shift));
+    let denominator = raised(i128::from(sum.den), places_down(shift));
+    good_linear(numerator, denominator, output(sum_format(sum), y), exact)
+}

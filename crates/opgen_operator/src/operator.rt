@@ -1,0 +1,240 @@
+//! Operators: their kinds, and each question about them.
+ghost use Rattle.std.specs.Prelude.{◌≡◌, ℤ, neg_ℤ, ◌≤ℤ◌, IfOk};
+ghost use Rattle.opgen_operator.specs.Judged.{IsJudged};
+ghost use Rattle.opgen_operator.specs.Operator.{shift, HasRoom, operator_inputs, operator_outputs, IsOperator, inexact, need, least_shift, most_shift, kind_name, kind, meaning, divisor, has_graph, IsAccepted};
+ghost use Rattle.opgen_operator.specs.PortNumbers.{IsHistory, IsCycle};
+ghost use Rattle.opgen_operator.specs.Valid.{AgreesOnExact};
+
+use crate::MAX_SHIFT;
+use crate::kinds::pair::{Pair, pair_need, pair_shift};
+use crate::kinds::poly::Poly;
+use crate::kinds::product::{Product, product_inexact, product_need, product_shift};
+use crate::kinds::several::Several;
+use crate::kinds::single::{Single, root_shift};
+use crate::kinds::small_div::SmallDiv;
+use crate::kinds::sum::{Sum, first_inexact, most_sum_shift, sum_need, sum_shift};
+use crate::kinds::taps::Taps;
+use crate::ports::PortFormat;
+use std::alloc::{AllocError, Global};
+
+/// An operator of one of the kinds.
+#[derive(Drop)]
+pub enum Operator {
+    /// One input times a constant.
+    Scale(Sum),
+    /// A filter of finite response: the sum of the last inputs, each times a constant.
+    Fir(Sum),
+    Multiply(Product),
+    Divide(Pair),
+    /// The square root.
+    Root(Single),
+    /// One input times several constants, with an output for each.
+    Mcm(Several),
+    /// One input divided by a small constant.
+    Constdiv(SmallDiv),
+    /// A polynomial of one input.
+    Poly(Poly),
+    /// A filter of whole coefficients in transposed form.
+    Tfir(Taps),
+}
+
+/// The kinds of operators.
+#[derive(Clone, Copy, Debug, PartialEq, Eq)]
+pub enum Kind {
+    Scale,
+    Fir,
+    Multiply,
+    Divide,
+    Root,
+    Mcm,
+    Constdiv,
+    Poly,
+    Tfir,
+}
+
+impl Kind {
+    /// The kind as a document writes it.
+    pub fn name(self) -> &'static str
+        ensures { result.now ≡ kind_name self }
+    {
+        match self {
+            Kind::Scale => "scale",
+            Kind::Fir => "fir",
+            Kind::Multiply => "multiply",
+            Kind::Divide => "divide",
+            Kind::Root => "root",
+            Kind::Mcm => "mcm",
+            Kind::Constdiv => "constdiv",
+            Kind::Poly => "poly",
+            Kind::Tfir => "tfir",
+        }
+    }
+}
+
+impl Operator {
+    /// The kind of the operator.
+    pub fn kind(&self) -> Kind
+        ensures { result ≡ kind self.now }
+    {
+        match self {
+            Operator::Scale(_) => Kind::Scale,
+            Operator::Fir(_) => Kind::Fir,
+            Operator::Multiply(_) => Kind::Multiply,
+            Operator::Divide(_) => Kind::Divide,
+            Operator::Root(_) => Kind::Root,
+            Operator::Mcm(_) => Kind::Mcm,
+            Operator::Constdiv(_) => Kind::Constdiv,
+            Operator::Poly(_) => Kind::Poly,
+            Operator::Tfir(_) => Kind::Tfir,
+        }
+    }
+
+    /// The power of two that brings the exact value into units of the output's last place.
+    pub fn shift(&self) -> i32
+        requires { IsOperator self.now }
+        ensures { result ≡ shift self.now }
+    {
+        match self {
+            Self::Scale(sum) => sum_shift(sum),
+            Self::Fir(sum) => sum_shift(sum),
+            Self::Multiply(product) => product_shift(product),
+            Self::Divide(pair) => pair_shift(pair),
+            Self::Root(single) => root_shift(single),
+            Self::Mcm(_) | Self::Constdiv(_) | Self::Poly(_) | Self::Tfir(_) => 0,
+        }
+    }
+
+    /// The place of the first coefficient that is not a whole number of units of the output's last
+    /// place, or 0 of a product that is not one for every input. Of a polynomial always 0.
+    pub fn inexact(&self) -> Option<u32>
+        requires { IsOperator self.now }
+        ensures { result ≡ inexact self.now }
+    {
+        match self {
+            Self::Scale(sum) => first_inexact(sum),
+            Self::Fir(sum) => first_inexact(sum),
+            Self::Multiply(product) => product_inexact(product),
+            Self::Poly(_) => Some(0),
+            Self::Divide(_) | Self::Root(_) | Self::Mcm(_) | Self::Constdiv(_) | Self::Tfir(_) =>
+                None,
+        }
+    }
+
+    /// The bits of the widest signal, of the kinds where it may be wider than a signal can be.
+    pub fn need(&self) -> Option<u32>
+        requires op { IsOperator self.now }
+        requires low { neg_ℤ MAX_SHIFT ≤ℤ shift self.now }
+        requires high { shift self.now ≤ℤ MAX_SHIFT }
+        requires room { HasRoom self.now }
+        ensures { result ≡ need self.now }
+    {
+        match self {
+            Self::Scale(sum) => Some(sum_need(sum)),
+            Self::Fir(sum) => Some(sum_need(sum)),
+            Self::Multiply(product) => Some(product_need(product)),
+            Self::Divide(pair) => Some(pair_need(pair)),
+            Self::Root(_) | Self::Mcm(_) | Self::Constdiv(_) | Self::Poly(_) | Self::Tfir(_) =>
+                None,
+        }
+    }
+
+    /// The least shift of an operator of this kind.
+    pub fn least_shift(&self) -> i32
+        ensures { result ≡ least_shift self.now }
+    {
+        match self {
+            Self::Scale(_) | Self::Fir(_) | Self::Multiply(_) => -MAX_SHIFT,
+            Self::Divide(_) | Self::Root(_) => 0,
+            Self::Mcm(_) | Self::Constdiv(_) | Self::Poly(_) | Self::Tfir(_) => 0,
+        }
+    }
+
+    /// The greatest shift of an operator of this kind in a version of specifications.
+    pub fn most_shift(&self, version: u32) -> i32
+        ensures { result ≡ most_shift version self.now }
+    {
+        match self {
+            Self::Scale(_) | Self::Fir(_) => most_sum_shift(version),
+            Self::Multiply(_) | Self::Divide(_) | Self::Root(_) => MAX_SHIFT,
+            Self::Mcm(_) | Self::Constdiv(_) | Self::Poly(_) | Self::Tfir(_) => 0,
+        }
+    }
+
+    /// The place of the input port that must not be 0, if there is one.
+    pub fn divisor(&self) -> Option<usize>
+        ensures { result ≡ divisor self.now }
+    {
+        match self {
+            Self::Divide(_) => Some(1),
+            Self::Scale(_) | Self::Fir(_) | Self::Multiply(_) | Self::Root(_) => None,
+            Self::Mcm(_) | Self::Constdiv(_) | Self::Poly(_) | Self::Tfir(_) => None,
+        }
+    }
+
+    /// Whether the net is made of an adder graph.
+    pub fn has_graph(&self) -> bool
+        ensures { result ≡ has_graph self.now }
+    {
+        match self {
+            Self::Mcm(_) | Self::Tfir(_) => true,
+            Self::Scale(_) | Self::Fir(_) | Self::Multiply(_) | Self::Divide(_) => false,
+            Self::Root(_) | Self::Constdiv(_) | Self::Poly(_) => false,
+        }
+    }
+
+    /// The input ports, in order.
+    pub(crate) fn inputs(&self, alloc: Global) -> Result<Vec<PortFormat>, AllocError>
+        ensures { IfOk result (λ ports. ports.items ≡ operator_inputs self.now) }
+    {
+        match self {
+            Self::Scale(sum) => sum.inputs(alloc),
+            Self::Fir(sum) => sum.inputs(alloc),
+            Self::Multiply(product) => product.inputs(alloc),
+            Self::Divide(pair) => pair.inputs(alloc),
+            Self::Root(single) => single.inputs(alloc),
+            Self::Mcm(several) => several.inputs(alloc),
+            Self::Constdiv(small) => small.inputs(alloc),
+            Self::Poly(poly) => poly.inputs(alloc),
+            Self::Tfir(taps) => taps.inputs(alloc),
+        }
+    }
+
+    /// The output ports, in order. A remainder comes last.
+    pub(crate) fn outputs(&self, alloc: Global) -> Result<Vec<PortFormat>, AllocError>
+        requires { IsAccepted self.now }
+        ensures { IfOk result (λ ports. ports.items ≡ operator_outputs self.now) }
+    {
+        match self {
+            Self::Scale(sum) => sum.outputs(alloc),
+            Self::Fir(sum) => sum.outputs(alloc),
+            Self::Multiply(product) => product.outputs(alloc),
+            Self::Divide(pair) => pair.outputs(alloc),
+            Self::Root(single) => single.outputs(alloc),
+            Self::Mcm(several) => several.outputs(alloc),
+            Self::Constdiv(small) => small.outputs(alloc),
+            Self::Poly(poly) => poly.outputs(alloc),
+            Self::Tfir(taps) => taps.outputs(alloc),
+        }
+    }
+
+    /// Whether the outputs of the last cycle are good, or its inputs out of range.
+    pub(crate) fn judge(&self, exact: bool, history: &[u128], outputs: &[u128]) -> bool
+        requires accepted { IsAccepted self.now }
+        requires agrees { AgreesOnExact exact self.now }
+        requires history { IsHistory (operator_inputs self.now) history.now }
+        requires outputs { IsCycle (operator_outputs self.now) outputs.now }
+        ensures { IsJudged (meaning self.now) exact history.now outputs.now result }
+    {
+        match self {
+            Self::Scale(sum) => sum.judge(exact, history, outputs),
+            Self::Fir(sum) => sum.judge(exact, history, outputs),
+            Self::Multiply(product) => product.judge(exact, history, outputs),
+            Self::Divide(pair) => pair.judge(history, outputs),
+            Self::Root(single) => single.judge(history, outputs),
+            Self::Mcm(several) => several.judge(exact, history, outputs),
+            Self::Constdiv(small) => small.judge(history, outputs),
+            Self::Poly(poly) => poly.judge(exact, history, outputs),
+            Self::Tfir(taps) => taps.judge(exact, history, outputs),
+        }
+    }
+}

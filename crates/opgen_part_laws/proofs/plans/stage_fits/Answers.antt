@@ -1,5 +1,0 @@
-use Rattle.opgen_schedule.proofs.Least as law
-use Rattle.opgen_part_laws.proofs.plans.stage_fits.Goals as goal
-
-pub returns : goal.returns
-returns c = law.stage_fits

@@ -1,0 +1,198 @@
+-- What is known of a document whose keys have no fault by themselves.
+use Rattle.std.proofs.Common.{◌≡◌, ℕ, zero, suc, ◌<◌, ◌&&◌, ◌||◌, not, position, Bool, true, false, cond, List, [], ◌∷◌, length, map, get_or, Option, Some, None, is_none, option_map, option_and_then, find, refl, ap, ◌∙◌, sym, subst, arith, lit<, unwrap_or, if◌then◌else◌}
+use Rattle.std.specs.Prelude.{ℤ}
+use Rattle.std.specs.Option.{option_map_or}
+use Rattle.std.specs.Str.{bytes_eq}
+use Rattle.toml.specs.Data.{Data, Members}
+use Rattle.opgen_spec.specs.declared.fault.SpecFault.{SpecFault}
+use Rattle.opgen_spec.specs.declared.fault.SpecFault.TheVariants as fault
+use Rattle.opgen_spec.specs.declared.key.Key.{Key}
+use Rattle.opgen_spec.specs.declared.key.Key.TheVariants as key
+use Rattle.opgen_operator.specs.declared.operator.Kind.{Kind}
+use Rattle.opgen_spec.specs.declared.lines.Check.TheVariants.{Unknown, Missing, WrongType, Range}
+use Rattle.opgen_spec.specs.Keys.{document_keys, key_name}
+use Rattle.opgen_spec.specs.Document.{value_at, items_at, is_first}
+use Rattle.opgen_spec.specs.kinds.{kind_of, entry}
+use Rattle.opgen_spec.specs.Stands.{shared_stand, stand_in, has_to_be, is_needed}
+use Rattle.opgen_spec.specs.Faults.{first_of, check_fault, found, kind_outside, value_outside, out_of_range, outside_among, is_missing, is_wrong, unknown_among, missing_among, wrong_among, among_keys, among_lines, bad_version, bad_name, has_kind, bad_kind, form_fault, value_fault, field_fault}
+use Rattle.opgen_spec.proofs.Reading.{or_none}
+
+pub map_none : {A B : Type 0} (f : A → B) (o : Option A) → option_map f o ≡ None → o ≡ None
+map_none f (Some x) h = cc
+map_none f None h = refl
+
+-- a search that finds nothing found nothing at each place
+pub find_none : (p : Key → Bool) (ks : List Key) (i : ℕ) (d : Key) → find p ks ≡ None → i < length ks → p (get_or ks i d) ≡ false
+find_none p [] i d h lt = absurd (omega arith)
+find_none p (k ∷ ks) i d h lt = go (p k) refl i (λ j none below. find_none p ks j d none below) lt
+  where
+    go : (b : Bool) → p k ≡ b → (i : ℕ) → ((j : ℕ) → find p ks ≡ None → j < length ks → p (get_or ks j d) ≡ false) → i < length (k ∷ ks)
+        → p (get_or (k ∷ ks) i d) ≡ false
+    go true e i later lt =
+        let some : Some k ≡ None = ap (λ b. cond b (Some k) (find p ks)) (sym e) ∙ h in
+        cc
+    go false e zero later lt = e
+    go false e (suc i) later lt = later i (ap (λ b. cond b (Some k) (find p ks)) (sym e) ∙ h) (omega arith)
+
+pub first_none : (f : Key → Option SpecFault) (ks : List Key) (i : ℕ) (d : Key) → first_of (map f ks) ≡ None → i < length ks
+    → f (get_or ks i d) ≡ None
+first_none f [] i d h lt = absurd (omega arith)
+first_none f (k ∷ ks) zero d h lt = (or_none (f k) (first_of (map f ks)) h).0
+first_none f (k ∷ ks) (suc i) d h lt = first_none f ks i d (or_none (f k) (first_of (map f ks)) h).1 (omega arith)
+
+-- each check finds nothing among the keys of the document and among its delay lines
+pub record AreFine (ms : Members) : Type 0 where
+  pub unknown : unknown_among document_keys 0 ms ≡ None
+  pub missing : missing_among document_keys 0 ms ≡ None
+  pub wrong : wrong_among document_keys 0 ms ≡ None
+  pub version : bad_version ms ≡ None
+  pub name : bad_name ms ≡ None
+  pub kind : bad_kind ms ≡ None
+  pub range : outside_among document_keys 0 ms ≡ None
+  pub missing_lines : among_lines Missing 1 (items_at ms key.Delay) ≡ None
+  pub wrong_lines : among_lines WrongType 1 (items_at ms key.Delay) ≡ None
+  pub lines : among_lines Range 1 (items_at ms key.Delay) ≡ None
+
+pub fine : (ms : Members) → field_fault ms ≡ None → AreFine ms
+fine ms h =
+    let (forms, values) = or_none (form_fault ms) (value_fault ms) h in
+    let (unknown, later) = or_none (check_fault Unknown ms) (first_of (check_fault Missing ms ∷ check_fault WrongType ms ∷ [])) forms in
+    let (missing, last) = or_none (check_fault Missing ms) (first_of (check_fault WrongType ms ∷ [])) later in
+    let (wrong, _) = or_none (check_fault WrongType ms) None last in
+    let (version, named) = or_none (bad_version ms) (first_of (bad_name ms ∷ bad_kind ms ∷ check_fault Range ms ∷ [])) values in
+    let (name, kinds) = or_none (bad_name ms) (first_of (bad_kind ms ∷ check_fault Range ms ∷ [])) named in
+    let (kind, ranged) = or_none (bad_kind ms) (first_of (check_fault Range ms ∷ [])) kinds in
+    let (range, _) = or_none (check_fault Range ms) None ranged in
+    let (known, _) = or_none (among_keys Unknown ms) (among_lines Unknown 1 (items_at ms key.Delay)) unknown in
+    let (there, there_lines) = or_none (among_keys Missing ms) (among_lines Missing 1 (items_at ms key.Delay)) missing in
+    let (typed, typed_lines) = or_none (among_keys WrongType ms) (among_lines WrongType 1 (items_at ms key.Delay)) wrong in
+    let (within, within_lines) = or_none (among_keys Range ms) (among_lines Range 1 (items_at ms key.Delay)) range in
+    record {
+      unknown = known;
+      missing = there;
+      wrong = typed;
+      version = version;
+      name = name;
+      kind = kind;
+      range = within;
+      missing_lines = there_lines;
+      wrong_lines = typed_lines;
+      lines = within_lines;
+    }
+
+-- where a key of the document stands among them
+abbrev place : Key → ℕ
+place k = unwrap_or (position (λ other. bytes_eq (key_name other) (key_name k)) document_keys) 0
+
+abbrev pub is_of_line : Key → Bool
+is_of_line key.Class = true
+is_of_line key.Base = true
+is_of_line key.PerBit = true
+is_of_line _ = false
+
+listed : (k : Key) → is_of_line k ≡ false → (place k < length document_keys) × (get_or document_keys (place k) key.Version ≡ k)
+unfolding document_keys
+listed key.Class h = cc
+listed key.Base h = cc
+listed key.PerBit h = cc
+listed _ h = (lit< tt, refl)
+
+-- a key of the document is not missing, not of a wrong type and not out of range
+not_missing : (ms : Members) (k : Key) → AreFine ms → is_of_line k ≡ false → is_missing ms k ≡ false
+not_missing ms k f h =
+    let (lt, same) = listed k h in
+    subst (λ k. is_missing ms k ≡ false) same (find_none (is_missing ms) document_keys (place k) key.Version
+    (map_none (λ k. fault.MissingKey k 0) (find (is_missing ms) document_keys) f.missing) lt)
+
+pub typed : (ms : Members) (k : Key) → AreFine ms → is_of_line k ≡ false → is_wrong ms k ≡ false
+typed ms k f h =
+    let (lt, same) = listed k h in
+    subst (λ k. is_wrong ms k ≡ false) same (find_none (is_wrong ms) document_keys (place k) key.Version
+    (map_none (λ k. fault.WrongType k 0) (find (is_wrong ms) document_keys) f.wrong) lt)
+
+pub ranged : (ms : Members) (k : Key) → AreFine ms → is_of_line k ≡ false → found 0 ms k ≡ None
+ranged ms k f h =
+    let (lt, same) = listed k h in
+    subst (λ k. found 0 ms k ≡ None) same (map_none (fault.OutOfRange (get_or document_keys (place k) key.Version) 0)
+    (found 0 ms (get_or document_keys (place k) key.Version))
+    (first_none (λ k. out_of_range 0 k (found 0 ms k)) document_keys (place k) key.Version f.range lt))
+
+-- a key that is needed is there
+not_absent : (b c : Bool) → b ≡ true → (b && c) ≡ false → c ≡ false
+not_absent true c h e = e
+not_absent false c h e = cc
+
+pub stands : (ms : Members) (k : Key) → is_needed (is_first ms) (kind_of ms) k ≡ true → is_missing ms k ≡ false → is_none (value_at ms k) ≡ false
+stands ms k needs there = not_absent (is_needed (is_first ms) (kind_of ms) k) (is_none (value_at ms k)) needs there
+
+pub present : (ms : Members) (one : Kind) (k : Key) → AreFine ms → kind_of ms ≡ Some one → is_of_line k ≡ false
+    → has_to_be (stand_in (is_first ms) one k) ≡ true → is_none (value_at ms k) ≡ false
+present ms one k f e h needs =
+    stands ms k (ap (λ named. is_needed (is_first ms) named k) e ∙ needs) (not_missing ms k f h)
+
+pub there_inside : {A : Type 0} (o : Option Data) (x : Option A) → is_none o ≡ false → option_and_then (λ _. x) o ≡ None → x ≡ None
+there_inside (Some d) x there h = h
+there_inside None x there h = cc
+
+-- the keys that not all kinds share
+not_line : (k : Key) → shared_stand k ≡ None → is_of_line k ≡ false
+not_line key.Class h = cc
+not_line key.Base h = cc
+not_line key.PerBit h = cc
+not_line _ h = refl
+
+by_kind : (ms : Members) (k : Key) → shared_stand k ≡ None → value_outside 0 ms k ≡ kind_outside ms k
+by_kind ms key.Target h = cc
+by_kind ms key.Period h = cc
+by_kind ms key.Delay h = cc
+by_kind ms key.Class h = cc
+by_kind ms key.Base h = cc
+by_kind ms key.PerBit h = cc
+by_kind ms _ h = refl
+
+-- a key is not out of the range that its kind sets to it
+pub own_range : (ms : Members) (one : Kind) (k : Key) → AreFine ms → kind_of ms ≡ Some one → shared_stand k ≡ None
+    → option_and_then (λ _. (entry one).key_outside ms k) (value_at ms k) ≡ None
+own_range ms one k f e apart =
+    ap (λ named. option_and_then (λ _. option_and_then (λ one. (entry one).key_outside ms k) named) (value_at ms k)) (sym e)
+    ∙ (ap (λ x. option_and_then (λ _. x) (value_at ms k)) (sym (by_kind ms k apart)) ∙ ranged ms k f (not_line k apart))
+
+-- a key that is there, has a value of its type, and is not out of range
+pub record IsFine (ms : Members) (k : Key) (beyond : Option ℤ) : Type 0 where
+  pub there : is_none (value_at ms k) ≡ false
+  pub typed : is_wrong ms k ≡ false
+  pub within : beyond ≡ None
+
+pub own : (ms : Members) (one : Kind) (k : Key) → AreFine ms → kind_of ms ≡ Some one → shared_stand k ≡ None
+    → has_to_be ((entry one).stand (is_first ms) k) ≡ true → IsFine ms k ((entry one).key_outside ms k)
+own ms one k f e apart needs =
+    let there = present ms one k f e (not_line k apart)
+    (ap (λ o. has_to_be (unwrap_or o ((entry one).stand (is_first ms) k))) apart ∙ needs) in
+    record {
+      there = there;
+      typed = typed ms k f (not_line k apart);
+      within = there_inside (value_at ms k) ((entry one).key_outside ms k) there (own_range ms one k f e apart);
+    }
+
+-- what a choice without a fault says of its test
+pub passed : (b : Bool) (f : SpecFault) → (if b then None else Some f) ≡ None → b ≡ true
+passed true f h = refl
+passed false f h = cc
+
+-- the document names a kind, and its version has that kind
+pub no_kind : (ms : Members) → bad_kind ms ≡ None → kind_of ms ≡ None → ⊥
+no_kind ms h e =
+    let has = passed (option_map_or (has_kind (is_first ms)) (kind_of ms) false) fault.BadKind h in
+    let no : false ≡ true = sym (ap (λ o. option_map_or (has_kind (is_first ms)) o false) e) ∙ has in
+    cc
+
+not_first : (first has : Bool) → first ≡ true → has ≡ false → (not first || has) ≡ true → ⊥
+not_first true true first none h = cc
+not_first true false first none h = cc
+not_first false has first none h = cc
+
+pub not_late : (ms : Members) (one : Kind) → AreFine ms → kind_of ms ≡ Some one → (entry one).first ≡ false → is_first ms ≡ true → ⊥
+not_late ms one f e none first =
+    not_first (is_first ms) (entry one).first first none
+    (sym (ap (λ o. option_map_or (has_kind (is_first ms)) o false) e)
+    ∙ passed (option_map_or (has_kind (is_first ms)) (kind_of ms) false) fault.BadKind f.kind)

@@ -1,0 +1,12 @@
+use Rattle.std.proofs.Common.{◌≡◌, ap, ◌∙◌}
+use Rattle.toml.specs.View.{items_view, table_view}
+use Rattle.opgen_spec.specs.declared.key.Key.TheVariants as key
+use Rattle.opgen_spec.specs.Document.{items_at}
+use Rattle.opgen_spec.specs.kinds.Taps.{taps_outside}
+use Rattle.opgen_spec.proofs.kinds.taps.key_outside.Goals as goal
+
+pub returns-in-Taps : goal.returns-in-Taps
+returns-in-Taps c =
+    let ms = table_view c.args.table.now in
+    let items : items_view c.items_at.result.now ≡ items_at ms key.Taps = c.items_at.ensures ∙ ap (items_at ms) c.in-Taps.is in
+    rw c.in-Taps.is (c.taps_outside.ensures ∙ ap taps_outside items)

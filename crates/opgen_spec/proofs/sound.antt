@@ -1,0 +1,11 @@
+-- What is proved of the kinds, kind by kind.
+mod Sound
+mod Sum
+mod Product
+mod Pair
+mod Single
+mod Several
+mod SmallDiv
+mod Poly
+mod Taps
+pub mod All

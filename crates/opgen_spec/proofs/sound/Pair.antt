@@ -1,0 +1,51 @@
+-- Quotients of a document without a fault.
+use Rattle.std.proofs.Common.{◌≡◌, Some, refl}
+use Rattle.opgen_operator.specs.declared.operator.Kind.TheVariants as kind
+use Rattle.opgen_operator.proofs.InputPorts.{all_two}
+use Rattle.toml.specs.Data.{Members}
+use Rattle.opgen_spec.specs.declared.key.Key.TheVariants as key
+use Rattle.opgen_spec.specs.kinds.{kind_of, entry}
+use Rattle.opgen_spec.proofs.sound.Sound.{IsFew, IsSound}
+use Rattle.opgen_spec.specs.Ranges.{width_outside, power_outside}
+use Rattle.opgen_spec.proofs.Fine.{AreFine, IsFine, own}
+use Rattle.opgen_spec.proofs.Ranges.{widest, width_few, unsigned_in, power_in}
+use Rattle.opgen_spec.proofs.Writing.{input_written, unsigned_written, power_written}
+
+record HasPair (ms : Members) : Type 0 where
+  width_a : IsFine ms key.WidthA (width_outside (widest ms) ms key.WidthA)
+  lsb_a : IsFine ms key.LsbA (power_outside ms key.LsbA)
+  width_b : IsFine ms key.WidthB (width_outside (widest ms) ms key.WidthB)
+  lsb_b : IsFine ms key.LsbB (power_outside ms key.LsbB)
+  out_lsb : IsFine ms key.OutLsb (power_outside ms key.OutLsb)
+
+keys : (ms : Members) → AreFine ms → kind_of ms ≡ Some kind.Divide → HasPair ms
+unfolding entry
+keys ms f e = record {
+  width_a = own ms kind.Divide key.WidthA f e refl refl;
+  lsb_a = own ms kind.Divide key.LsbA f e refl refl;
+  width_b = own ms kind.Divide key.WidthB f e refl refl;
+  lsb_b = own ms kind.Divide key.LsbB f e refl refl;
+  out_lsb = own ms kind.Divide key.OutLsb f e refl refl;
+}
+
+pub divide : IsSound kind.Divide
+unfolding entry
+divide = record {
+  kind_is = λ ms. refl;
+  ranges = λ ms f e. let h = keys ms f e in record {
+    a = unsigned_in ms key.WidthA key.LsbA h.width_a h.lsb_a;
+    b = unsigned_in ms key.WidthB key.LsbB h.width_b h.lsb_b;
+    a_unsigned = refl;
+    b_unsigned = refl;
+    out_lsb = power_in ms key.OutLsb h.out_lsb;
+  };
+  inputs = λ ms f e. all_two (IsFew ms) _ _ (width_few ms key.WidthA (keys ms f e).width_a) (width_few ms key.WidthB (keys ms f e).width_b);
+  written = λ ms f e. let h = keys ms f e in record {
+    a = unsigned_written ms key.WidthA key.LsbA (input_written ms key.WidthA key.LsbA h.width_a h.width_a.typed h.lsb_a h.lsb_a.typed);
+    b = unsigned_written ms key.WidthB key.LsbB (input_written ms key.WidthB key.LsbB h.width_b h.width_b.typed h.lsb_b h.lsb_b.typed);
+    out_lsb = power_written ms key.OutLsb h.out_lsb h.out_lsb.typed;
+  };
+  agrees = λ ms. refl;
+  marked = λ ms asked. asked;
+  first = λ ms f e first. tt;
+}

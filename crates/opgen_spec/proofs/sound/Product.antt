@@ -1,0 +1,58 @@
+-- Products of a document without a fault.
+use Rattle.std.proofs.Common.{◌≡◌, ◌⊎◌, Some, None, refl}
+use Rattle.opgen_operator.specs.declared.operator.Kind.TheVariants as kind
+use Rattle.opgen_operator.proofs.InputPorts.{all_two}
+use Rattle.toml.specs.Data.{Members}
+use Rattle.opgen_spec.specs.declared.key.Key.TheVariants as key
+use Rattle.opgen_spec.specs.kinds.{kind_of, entry}
+use Rattle.opgen_spec.proofs.sound.Sound.{IsFew, IsSound}
+use Rattle.opgen_spec.specs.Document.{value_at}
+use Rattle.opgen_spec.specs.Ranges.{width_outside, power_outside}
+use Rattle.opgen_spec.proofs.Compressors.{IsTaken, compressor_cases, first_without, compressor_written}
+use Rattle.opgen_spec.proofs.Fine.{AreFine, IsFine, own}
+use Rattle.opgen_spec.proofs.Ranges.{widest, width_few, input_in, power_in}
+use Rattle.opgen_spec.proofs.Writing.{input_written, power_written, signed_written}
+
+record HasProduct (ms : Members) : Type 0 where
+  signed : IsFine ms key.Signed None
+  width_a : IsFine ms key.WidthA (width_outside (widest ms) ms key.WidthA)
+  lsb_a : IsFine ms key.LsbA (power_outside ms key.LsbA)
+  width_b : IsFine ms key.WidthB (width_outside (widest ms) ms key.WidthB)
+  lsb_b : IsFine ms key.LsbB (power_outside ms key.LsbB)
+  out_lsb : IsFine ms key.OutLsb (power_outside ms key.OutLsb)
+  compressor : (value_at ms key.Compressor ≡ None) ⊎ IsTaken ms
+
+keys : (ms : Members) → AreFine ms → kind_of ms ≡ Some kind.Multiply → HasProduct ms
+unfolding entry
+keys ms f e = record {
+  signed = own ms kind.Multiply key.Signed f e refl refl;
+  width_a = own ms kind.Multiply key.WidthA f e refl refl;
+  lsb_a = own ms kind.Multiply key.LsbA f e refl refl;
+  width_b = own ms kind.Multiply key.WidthB f e refl refl;
+  lsb_b = own ms kind.Multiply key.LsbB f e refl refl;
+  out_lsb = own ms kind.Multiply key.OutLsb f e refl refl;
+  compressor = compressor_cases ms kind.Multiply f e (record { absent = refl; range = λ ms. refl });
+}
+
+pub multiply : IsSound kind.Multiply
+unfolding entry
+multiply = record {
+  kind_is = λ ms. refl;
+  ranges = λ ms f e. let h = keys ms f e in record {
+    a = input_in ms key.WidthA key.LsbA h.width_a h.lsb_a;
+    b = input_in ms key.WidthB key.LsbB h.width_b h.lsb_b;
+    alike = refl;
+    out_lsb = power_in ms key.OutLsb h.out_lsb;
+  };
+  inputs = λ ms f e. all_two (IsFew ms) _ _ (width_few ms key.WidthA (keys ms f e).width_a) (width_few ms key.WidthB (keys ms f e).width_b);
+  written = λ ms f e. let h = keys ms f e in record {
+    signed = signed_written ms h.signed;
+    a = input_written ms key.WidthA key.LsbA h.width_a h.width_a.typed h.lsb_a h.lsb_a.typed;
+    b = input_written ms key.WidthB key.LsbB h.width_b h.width_b.typed h.lsb_b h.lsb_b.typed;
+    out_lsb = power_written ms key.OutLsb h.out_lsb h.out_lsb.typed;
+    compressor = compressor_written ms h.compressor;
+  };
+  agrees = λ ms. tt;
+  marked = λ ms asked. cc;
+  first = λ ms f e first. first_without ms (keys ms f e).compressor first;
+}

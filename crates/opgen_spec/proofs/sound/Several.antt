@@ -1,0 +1,57 @@
+-- Products by several constants of a document without a fault.
+use Rattle.std.proofs.Common.{◌≡◌, Some, None, refl}
+use Rattle.opgen_operator.specs.declared.operator.Kind.TheVariants as kind
+use Rattle.opgen_operator.proofs.InputPorts.{all_one}
+use Rattle.toml.specs.Data.{Members}
+use Rattle.opgen_spec.specs.declared.key.Key.TheVariants as key
+use Rattle.opgen_spec.specs.kinds.{kind_of, entry}
+use Rattle.opgen_spec.proofs.sound.Sound.{IsFew, IsSound}
+use Rattle.opgen_spec.specs.Document.{value_at, items_at}
+use Rattle.opgen_spec.specs.Ranges.{width_outside, power_outside, array_outside, extra_outside}
+use Rattle.opgen_spec.proofs.Decimals.{integers_written, numbers_typed}
+use Rattle.opgen_spec.proofs.Fine.{AreFine, IsFine, own}
+use Rattle.opgen_spec.proofs.Ranges.{widest, width_few, input_in, extra_in, array_in}
+use Rattle.opgen_spec.proofs.Writing.{input_written, signed_written, extra_written}
+
+record HasSeveral (ms : Members) : Type 0 where
+  signed : IsFine ms key.Signed None
+  width : IsFine ms key.Width (width_outside (widest ms) ms key.Width)
+  lsb : IsFine ms key.Lsb (power_outside ms key.Lsb)
+  constants : IsFine ms key.Constants (array_outside 1 8 2047 (items_at ms key.Constants))
+  extra : IsFine ms key.Extra (extra_outside ms)
+
+keys : (ms : Members) → AreFine ms → kind_of ms ≡ Some kind.Mcm → HasSeveral ms
+unfolding entry
+keys ms f e = record {
+  signed = own ms kind.Mcm key.Signed f e refl refl;
+  width = own ms kind.Mcm key.Width f e refl refl;
+  lsb = own ms kind.Mcm key.Lsb f e refl refl;
+  constants = own ms kind.Mcm key.Constants f e refl refl;
+  extra = own ms kind.Mcm key.Extra f e refl refl;
+}
+
+pub mcm : IsSound kind.Mcm
+unfolding entry
+mcm = record {
+  kind_is = λ ms. refl;
+  ranges = λ ms f e.
+      let h = keys ms f e in
+      let array = array_in 1 8 2047 (items_at ms key.Constants) h.constants.within in
+      record {
+        input = input_in ms key.Width key.Lsb h.width h.lsb;
+        some = array.some;
+        few = array.few;
+        constants = array.each;
+        extra = extra_in ms h.extra;
+      };
+  inputs = λ ms f e. all_one (IsFew ms) _ (width_few ms key.Width (keys ms f e).width);
+  written = λ ms f e. let h = keys ms f e in record {
+    signed = signed_written ms h.signed;
+    input = input_written ms key.Width key.Lsb h.width h.width.typed h.lsb h.lsb.typed;
+    constants = integers_written (items_at ms key.Constants) (numbers_typed (value_at ms key.Constants) h.constants.typed);
+    extra = extra_written ms h.extra;
+  };
+  agrees = λ ms. tt;
+  marked = λ ms asked. cc;
+  first = λ ms f e first. tt;
+}

@@ -1,0 +1,52 @@
+-- Quotients by a small constant of a document without a fault.
+use Rattle.std.proofs.Common.{◌≡◌, Some, refl, arith}
+use Rattle.std.specs.Prelude.{pos}
+use Rattle.opgen_operator.specs.declared.operator.Kind.TheVariants as kind
+use Rattle.opgen_operator.proofs.InputPorts.{all_one}
+use Rattle.toml.specs.Data.{Members}
+use Rattle.opgen_spec.specs.declared.key.Key.TheVariants as key
+use Rattle.opgen_spec.specs.kinds.{kind_of, entry}
+use Rattle.opgen_spec.proofs.sound.Sound.{IsFew, IsSound}
+use Rattle.opgen_spec.specs.Document.{value_at, number_at}
+use Rattle.opgen_spec.specs.Ranges.{outside, width_outside, power_outside}
+use Rattle.opgen_spec.proofs.Fine.{AreFine, IsFine, own, not_late}
+use Rattle.opgen_spec.proofs.Ranges.{inside, counted, widest, width_few, unsigned_in}
+use Rattle.opgen_spec.proofs.Writing.{count_written, input_written, unsigned_written}
+
+record HasSmallDiv (ms : Members) : Type 0 where
+  width : IsFine ms key.Width (width_outside (widest ms) ms key.Width)
+  lsb : IsFine ms key.Lsb (power_outside ms key.Lsb)
+  divisor : IsFine ms key.Divisor (outside (pos 2) (pos 32) (number_at ms key.Divisor))
+
+keys : (ms : Members) → AreFine ms → kind_of ms ≡ Some kind.Constdiv → HasSmallDiv ms
+unfolding entry
+keys ms f e = record {
+  width = own ms kind.Constdiv key.Width f e refl refl;
+  lsb = own ms kind.Constdiv key.Lsb f e refl refl;
+  divisor = own ms kind.Constdiv key.Divisor f e refl refl;
+}
+
+pub constdiv : IsSound kind.Constdiv
+unfolding entry
+constdiv = record {
+  kind_is = λ ms. refl;
+  ranges = λ ms f e.
+      let h = keys ms f e in
+      let (least, most) = inside (pos 2) (pos 32) (number_at ms key.Divisor) h.divisor.within in
+      let divisor = counted (number_at ms key.Divisor) 2 32 least most (omega arith) in
+      record {
+        input = unsigned_in ms key.Width key.Lsb h.width h.lsb;
+        unsigned = refl;
+        least = divisor.0;
+        most = divisor.1;
+      };
+  inputs = λ ms f e. all_one (IsFew ms) _ (width_few ms key.Width (keys ms f e).width);
+  written = λ ms f e. let h = keys ms f e in record {
+    input = unsigned_written ms key.Width key.Lsb (input_written ms key.Width key.Lsb h.width h.width.typed h.lsb h.lsb.typed);
+    divisor = count_written (value_at ms key.Divisor) 2 32 h.divisor.there h.divisor.typed
+        (inside (pos 2) (pos 32) (number_at ms key.Divisor) h.divisor.within) (omega arith);
+  };
+  agrees = λ ms. refl;
+  marked = λ ms asked. asked;
+  first = λ ms f e first. not_late ms kind.Constdiv f e refl first;
+}

@@ -1,0 +1,100 @@
+-- Scales and filters of a document without a fault.
+use Rattle.std.proofs.Common.{◌≡◌, ℕ, ◌⊎◌, Some, None, option_and_then, refl}
+use Rattle.opgen_operator.specs.declared.operator.Kind.TheVariants as kind
+use Rattle.opgen_operator.specs.kinds.Sum.{IsSum}
+use Rattle.opgen_operator.proofs.InputPorts.{all_one}
+use Rattle.toml.specs.Data.{Members}
+use Rattle.opgen_spec.specs.declared.key.Key.TheVariants as key
+use Rattle.opgen_spec.specs.kinds.{kind_of, entry}
+use Rattle.opgen_spec.proofs.sound.Sound.{IsFew, IsSound}
+use Rattle.opgen_spec.specs.Document.{value_at, items_at}
+use Rattle.opgen_spec.specs.Ranges.{width_outside, power_outside, coefficients_outside, denominator_outside}
+use Rattle.opgen_spec.specs.kinds.Sum.{sum_of, IsSumAsWritten}
+use Rattle.opgen_spec.proofs.Compressors.{IsTaken, compressor_cases, first_without, compressor_written}
+use Rattle.opgen_spec.proofs.Fine.{AreFine, IsFine, own, own_range}
+use Rattle.opgen_spec.proofs.Ranges.{widest, width_few, input_in, power_in, array_in, denominator_in}
+use Rattle.opgen_spec.proofs.Writing.{input_written, power_written, signed_written, coefs_written}
+
+-- what is known of the keys of a scale, or of a filter
+record HasSum (most : ℕ) (ms : Members) : Type 0 where
+  fine : AreFine ms
+  signed : IsFine ms key.Signed None
+  width : IsFine ms key.Width (width_outside (widest ms) ms key.Width)
+  lsb : IsFine ms key.Lsb (power_outside ms key.Lsb)
+  out_lsb : IsFine ms key.OutLsb (power_outside ms key.OutLsb)
+  coefs : IsFine ms key.Coefficients (coefficients_outside 1 most ms)
+  den : option_and_then (λ _. denominator_outside ms) (value_at ms key.Denominator) ≡ None
+  compressor : (value_at ms key.Compressor ≡ None) ⊎ IsTaken ms
+
+sum_in : (most : ℕ) (ms : Members) → HasSum most ms → IsSum most (sum_of ms)
+sum_in most ms h =
+    let array = array_in 1 most 1073741824 (items_at ms key.Coefficients) h.coefs.within in
+    let (positive, small) = denominator_in ms h.den in
+    record {
+      input = input_in ms key.Width key.Lsb h.width h.lsb;
+      out_lsb = power_in ms key.OutLsb h.out_lsb;
+      some = array.some;
+      few = array.few;
+      coefs = array.each;
+      positive = positive;
+      small = small;
+    }
+
+sum_written : (most : ℕ) (ms : Members) → HasSum most ms → IsSumAsWritten ms (sum_of ms)
+sum_written most ms h = record {
+  signed = signed_written ms h.signed;
+  input = input_written ms key.Width key.Lsb h.width h.width.typed h.lsb h.lsb.typed;
+  out_lsb = power_written ms key.OutLsb h.out_lsb h.out_lsb.typed;
+  coefs = coefs_written ms h.fine;
+  compressor = compressor_written ms h.compressor;
+}
+
+scale_keys : (ms : Members) → AreFine ms → kind_of ms ≡ Some kind.Scale → HasSum 1 ms
+unfolding entry
+scale_keys ms f e = record {
+  fine = f;
+  signed = own ms kind.Scale key.Signed f e refl refl;
+  width = own ms kind.Scale key.Width f e refl refl;
+  lsb = own ms kind.Scale key.Lsb f e refl refl;
+  out_lsb = own ms kind.Scale key.OutLsb f e refl refl;
+  coefs = own ms kind.Scale key.Coefficients f e refl refl;
+  den = own_range ms kind.Scale key.Denominator f e refl;
+  compressor = compressor_cases ms kind.Scale f e (record { absent = refl; range = λ ms. refl });
+}
+
+fir_keys : (ms : Members) → AreFine ms → kind_of ms ≡ Some kind.Fir → HasSum 256 ms
+unfolding entry
+fir_keys ms f e = record {
+  fine = f;
+  signed = own ms kind.Fir key.Signed f e refl refl;
+  width = own ms kind.Fir key.Width f e refl refl;
+  lsb = own ms kind.Fir key.Lsb f e refl refl;
+  out_lsb = own ms kind.Fir key.OutLsb f e refl refl;
+  coefs = own ms kind.Fir key.Coefficients f e refl refl;
+  den = own_range ms kind.Fir key.Denominator f e refl;
+  compressor = compressor_cases ms kind.Fir f e (record { absent = refl; range = λ ms. refl });
+}
+
+pub scale : IsSound kind.Scale
+unfolding entry
+scale = record {
+  kind_is = λ ms. refl;
+  ranges = λ ms f e. sum_in 1 ms (scale_keys ms f e);
+  inputs = λ ms f e. all_one (IsFew ms) _ (width_few ms key.Width (scale_keys ms f e).width);
+  written = λ ms f e. sum_written 1 ms (scale_keys ms f e);
+  agrees = λ ms. refl;
+  marked = λ ms asked. asked;
+  first = λ ms f e first. first_without ms (scale_keys ms f e).compressor first;
+}
+
+pub fir : IsSound kind.Fir
+unfolding entry
+fir = record {
+  kind_is = λ ms. refl;
+  ranges = λ ms f e. sum_in 256 ms (fir_keys ms f e);
+  inputs = λ ms f e. all_one (IsFew ms) _ (width_few ms key.Width (fir_keys ms f e).width);
+  written = λ ms f e. sum_written 256 ms (fir_keys ms f e);
+  agrees = λ ms. refl;
+  marked = λ ms asked. asked;
+  first = λ ms f e first. first_without ms (fir_keys ms f e).compressor first;
+}

@@ -1,0 +1,53 @@
+-- A polynomial of an input below 1.
+use Rattle.std.specs.Prelude.{◌≡◌, ℤ, pos, negsuc, neg_ℤ, false, Option, Some, None}
+use Rattle.toml.specs.Data.{integer, Members}
+use Rattle.opgen_operator.specs.declared.kinds.poly.Poly.{Poly as Polynomial}
+use Rattle.opgen_operator.specs.declared.operator.Operator.TheVariants as operator
+use Rattle.opgen_spec.specs.declared.key.Key.{Key}
+use Rattle.opgen_spec.specs.declared.key.Key.TheVariants as key
+use Rattle.opgen_spec.specs.declared.stand.Stand.{Stand}
+use Rattle.opgen_spec.specs.declared.stand.Stand.TheVariants.{Absent, Optional, Needed}
+use Rattle.opgen_num.specs.declared.format.Format.{Format}
+use Rattle.opgen_spec.specs.Decimals.{AreCoefficients}
+use Rattle.opgen_spec.specs.Document.{value_at, number_at, items_at, count_at, small, small_at}
+use Rattle.opgen_spec.specs.Numbers.{numerators, denominator_of}
+use Rattle.opgen_spec.specs.Ranges.{outside, width_outside, coefficients_outside, denominator_outside}
+use Rattle.opgen_spec.specs.Entry.{Entry}
+
+abbrev pub stand : Key → Stand
+stand key.Width = Needed
+stand key.OutLsb = Needed
+stand key.Coefficients = Needed
+stand key.Denominator = Optional
+stand _ = Absent
+
+-- the limits of the input's width and of the output's lowest bit are a polynomial's own
+abbrev pub key_outside : Members → Key → Option ℤ
+key_outside ms key.Width = width_outside 16 ms key.Width
+key_outside ms key.OutLsb = outside (negsuc 15) (pos 0) (number_at ms key.OutLsb)
+key_outside ms key.Coefficients = coefficients_outside 2 5 ms
+key_outside ms key.Denominator = denominator_outside ms
+key_outside ms _ = None
+
+-- the format of an unsigned input below 1: the power of its lowest bit is its width, below 0
+abbrev pub below_one_at : Members → Format
+below_one_at ms =
+    record { signed = false; width = count_at ms key.Width; lsb = small (neg_ℤ (pos (count_at ms key.Width))) }
+
+abbrev pub poly_of : Members → Polynomial
+poly_of ms = record {
+  input = below_one_at ms;
+  out_lsb = small_at ms key.OutLsb;
+  coefs = numerators (items_at ms key.Coefficients);
+  den = denominator_of ms;
+}
+
+-- the input's power of the lowest bit is its width, below 0
+pub record IsPolyAsWritten (ms : Members) (p : Polynomial) : Type 0 where
+  pub width_written : value_at ms key.Width ≡ Some (integer (pos p.input.width))
+  pub below_one : p.input.lsb ≡ neg_ℤ (pos p.input.width)
+  pub out_lsb : value_at ms key.OutLsb ≡ Some (integer p.out_lsb)
+  pub coefs : AreCoefficients ms p.coefs p.den
+
+abbrev pub poly : Entry
+poly = record { first = false; stand = λ first. stand; key_outside = key_outside; make = λ ms. operator.Poly (poly_of ms) }

@@ -1,0 +1,51 @@
+-- A product of two inputs.
+use Rattle.std.specs.Prelude.{◌≡◌, ℤ, Bool, true, Option, Some, None}
+use Rattle.opgen_operator.specs.declared.kinds.product.Product.{Product}
+use Rattle.opgen_operator.specs.declared.operator.Operator.TheVariants as operator
+use Rattle.opgen_operator.specs.Limits.{most_input}
+use Rattle.toml.specs.Data.{boolean, integer, Members}
+use Rattle.opgen_spec.specs.declared.key.Key.{Key}
+use Rattle.opgen_spec.specs.declared.key.Key.TheVariants as key
+use Rattle.opgen_spec.specs.declared.stand.Stand.{Stand}
+use Rattle.opgen_spec.specs.declared.stand.Stand.TheVariants.{Absent, Needed}
+use Rattle.opgen_spec.specs.Document.{value_at, text_at, count_at, small_at}
+use Rattle.opgen_spec.specs.Fields.{format_at, counters_at, IsInputAsWritten, IsCompressorAsWritten}
+use Rattle.opgen_spec.specs.Ranges.{width_outside, power_outside, compressor_outside}
+use Rattle.opgen_spec.specs.Entry.{Entry, later}
+
+abbrev pub stand : (first : Bool) → Key → Stand
+stand first key.Signed = Needed
+stand first key.WidthA = Needed
+stand first key.LsbA = Needed
+stand first key.WidthB = Needed
+stand first key.LsbB = Needed
+stand first key.OutLsb = Needed
+stand first key.Compressor = later first
+stand first _ = Absent
+
+abbrev pub key_outside : Members → Key → Option ℤ
+key_outside ms key.WidthA = width_outside (most_input (count_at ms key.Version)) ms key.WidthA
+key_outside ms key.LsbA = power_outside ms key.LsbA
+key_outside ms key.WidthB = width_outside (most_input (count_at ms key.Version)) ms key.WidthB
+key_outside ms key.LsbB = power_outside ms key.LsbB
+key_outside ms key.OutLsb = power_outside ms key.OutLsb
+key_outside ms key.Compressor = compressor_outside (text_at ms key.Compressor)
+key_outside ms _ = None
+
+abbrev pub product_of : Members → Product
+product_of ms = record {
+  a = format_at ms key.WidthA key.LsbA;
+  b = format_at ms key.WidthB key.LsbB;
+  out_lsb = small_at ms key.OutLsb;
+  counters = counters_at ms;
+}
+
+pub record IsProductAsWritten (ms : Members) (p : Product) : Type 0 where
+  pub signed : value_at ms key.Signed ≡ Some (boolean p.a.signed)
+  pub a : IsInputAsWritten ms key.WidthA key.LsbA p.a
+  pub b : IsInputAsWritten ms key.WidthB key.LsbB p.b
+  pub out_lsb : value_at ms key.OutLsb ≡ Some (integer p.out_lsb)
+  pub compressor : IsCompressorAsWritten ms p.counters
+
+abbrev pub multiply : Entry
+multiply = record { first = true; stand = stand; key_outside = key_outside; make = λ ms. operator.Multiply (product_of ms) }

@@ -1,0 +1,47 @@
+-- Products of an input by several constants.
+use Rattle.std.specs.Prelude.{◌≡◌, ℤ, pos, true, Option, Some, None}
+use Rattle.opgen_operator.specs.declared.kinds.several.Several.{Several}
+use Rattle.opgen_operator.specs.declared.operator.Operator.TheVariants as operator
+use Rattle.opgen_operator.specs.Limits.{most_input}
+use Rattle.toml.specs.Data.{boolean, integer, Members}
+use Rattle.opgen_spec.specs.declared.key.Key.{Key}
+use Rattle.opgen_spec.specs.declared.key.Key.TheVariants as key
+use Rattle.opgen_spec.specs.declared.stand.Stand.{Stand}
+use Rattle.opgen_spec.specs.declared.stand.Stand.TheVariants.{Absent, Needed}
+use Rattle.opgen_spec.specs.Decimals.{AreNumerators}
+use Rattle.opgen_spec.specs.Document.{value_at, items_at, count_at}
+use Rattle.opgen_spec.specs.Fields.{format_at, IsInputAsWritten}
+use Rattle.opgen_spec.specs.Numbers.{numerators}
+use Rattle.opgen_spec.specs.Ranges.{width_outside, power_outside, array_outside, extra_outside}
+use Rattle.opgen_spec.specs.Entry.{Entry}
+
+abbrev pub stand : Key → Stand
+stand key.Signed = Needed
+stand key.Width = Needed
+stand key.Lsb = Needed
+stand key.Constants = Needed
+stand key.Extra = Needed
+stand _ = Absent
+
+abbrev pub key_outside : Members → Key → Option ℤ
+key_outside ms key.Width = width_outside (most_input (count_at ms key.Version)) ms key.Width
+key_outside ms key.Lsb = power_outside ms key.Lsb
+key_outside ms key.Constants = array_outside 1 8 2047 (items_at ms key.Constants)
+key_outside ms key.Extra = extra_outside ms
+key_outside ms _ = None
+
+abbrev pub several_of : Members → Several
+several_of ms = record {
+  input = format_at ms key.Width key.Lsb;
+  constants = numerators (items_at ms key.Constants);
+  extra = count_at ms key.Extra;
+}
+
+pub record IsSeveralAsWritten (ms : Members) (m : Several) : Type 0 where
+  pub signed : value_at ms key.Signed ≡ Some (boolean m.input.signed)
+  pub input : IsInputAsWritten ms key.Width key.Lsb m.input
+  pub constants : AreNumerators 0 (items_at ms key.Constants) m.constants
+  pub extra : value_at ms key.Extra ≡ Some (integer (pos m.extra))
+
+abbrev pub mcm : Entry
+mcm = record { first = true; stand = λ first. stand; key_outside = key_outside; make = λ ms. operator.Mcm (several_of ms) }

@@ -1,0 +1,40 @@
+-- A square root of an input without a sign.
+use Rattle.std.specs.Prelude.{◌≡◌, ℤ, true, Option, Some, None}
+use Rattle.opgen_operator.specs.declared.kinds.single.Single.{Single}
+use Rattle.opgen_operator.specs.declared.operator.Operator.TheVariants as operator
+use Rattle.opgen_operator.specs.Limits.{most_input}
+use Rattle.toml.specs.Data.{integer, Members}
+use Rattle.opgen_spec.specs.declared.key.Key.{Key}
+use Rattle.opgen_spec.specs.declared.key.Key.TheVariants as key
+use Rattle.opgen_spec.specs.declared.stand.Stand.{Stand}
+use Rattle.opgen_spec.specs.declared.stand.Stand.TheVariants.{Absent, Needed}
+use Rattle.opgen_spec.specs.Document.{value_at, flag_at, count_at, small_at}
+use Rattle.opgen_spec.specs.Fields.{unsigned_at, IsInputAsWritten}
+use Rattle.opgen_spec.specs.Ranges.{width_outside, power_outside}
+use Rattle.opgen_spec.specs.Entry.{Entry}
+
+abbrev pub stand : Key → Stand
+stand key.Width = Needed
+stand key.Lsb = Needed
+stand key.OutLsb = Needed
+stand _ = Absent
+
+abbrev pub key_outside : Members → Key → Option ℤ
+key_outside ms key.Width = width_outside (most_input (count_at ms key.Version)) ms key.Width
+key_outside ms key.Lsb = power_outside ms key.Lsb
+key_outside ms key.OutLsb = power_outside ms key.OutLsb
+key_outside ms _ = None
+
+abbrev pub single_of : Members → Single
+single_of ms = record {
+  input = unsigned_at ms key.Width key.Lsb;
+  out_lsb = small_at ms key.OutLsb;
+  exact = flag_at ms key.Exact;
+}
+
+pub record IsSingleAsWritten (ms : Members) (r : Single) : Type 0 where
+  pub input : IsInputAsWritten ms key.Width key.Lsb r.input
+  pub out_lsb : value_at ms key.OutLsb ≡ Some (integer r.out_lsb)
+
+abbrev pub root : Entry
+root = record { first = true; stand = λ first. stand; key_outside = key_outside; make = λ ms. operator.Root (single_of ms) }

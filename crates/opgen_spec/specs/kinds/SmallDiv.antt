@@ -1,0 +1,40 @@
+-- A quotient by a small constant.
+use Rattle.std.specs.Prelude.{◌≡◌, ℤ, pos, false, Option, Some, None}
+use Rattle.opgen_operator.specs.declared.kinds.small_div.SmallDiv.{SmallDiv}
+use Rattle.opgen_operator.specs.declared.operator.Operator.TheVariants as operator
+use Rattle.opgen_operator.specs.Limits.{most_input}
+use Rattle.toml.specs.Data.{integer, Members}
+use Rattle.opgen_spec.specs.declared.key.Key.{Key}
+use Rattle.opgen_spec.specs.declared.key.Key.TheVariants as key
+use Rattle.opgen_spec.specs.declared.stand.Stand.{Stand}
+use Rattle.opgen_spec.specs.declared.stand.Stand.TheVariants.{Absent, Needed}
+use Rattle.opgen_spec.specs.Document.{value_at, number_at, flag_at, count_at}
+use Rattle.opgen_spec.specs.Fields.{unsigned_at, IsInputAsWritten}
+use Rattle.opgen_spec.specs.Ranges.{outside, width_outside, power_outside}
+use Rattle.opgen_spec.specs.Entry.{Entry}
+
+abbrev pub stand : Key → Stand
+stand key.Width = Needed
+stand key.Lsb = Needed
+stand key.Divisor = Needed
+stand _ = Absent
+
+abbrev pub key_outside : Members → Key → Option ℤ
+key_outside ms key.Width = width_outside (most_input (count_at ms key.Version)) ms key.Width
+key_outside ms key.Lsb = power_outside ms key.Lsb
+key_outside ms key.Divisor = outside (pos 2) (pos 32) (number_at ms key.Divisor)
+key_outside ms _ = None
+
+abbrev pub small_div_of : Members → SmallDiv
+small_div_of ms = record {
+  input = unsigned_at ms key.Width key.Lsb;
+  divisor = count_at ms key.Divisor;
+  exact = flag_at ms key.Exact;
+}
+
+pub record IsSmallDivAsWritten (ms : Members) (c : SmallDiv) : Type 0 where
+  pub input : IsInputAsWritten ms key.Width key.Lsb c.input
+  pub divisor : value_at ms key.Divisor ≡ Some (integer (pos c.divisor))
+
+abbrev pub constdiv : Entry
+constdiv = record { first = false; stand = λ first. stand; key_outside = key_outside; make = λ ms. operator.Constdiv (small_div_of ms) }

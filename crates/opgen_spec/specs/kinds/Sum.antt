@@ -1,0 +1,61 @@
+-- A scale or a filter: sums of an input's numbers by coefficients.
+use Rattle.std.specs.Prelude.{◌≡◌, ℕ, ℤ, Bool, true, Option, Some, None}
+use Rattle.opgen_operator.specs.declared.kinds.sum.Sum.{Sum}
+use Rattle.opgen_operator.specs.declared.operator.Operator.TheVariants as operator
+use Rattle.opgen_operator.specs.Limits.{most_input}
+use Rattle.toml.specs.Data.{boolean, integer, Members}
+use Rattle.opgen_spec.specs.declared.key.Key.{Key}
+use Rattle.opgen_spec.specs.declared.key.Key.TheVariants as key
+use Rattle.opgen_spec.specs.declared.stand.Stand.{Stand}
+use Rattle.opgen_spec.specs.declared.stand.Stand.TheVariants.{Absent, Optional, Needed}
+use Rattle.opgen_spec.specs.Decimals.{AreCoefficients}
+use Rattle.opgen_spec.specs.Document.{value_at, text_at, flag_at, items_at, count_at, small_at}
+use Rattle.opgen_spec.specs.Fields.{format_at, counters_at, IsInputAsWritten, IsCompressorAsWritten}
+use Rattle.opgen_spec.specs.Numbers.{numerators, denominator_of}
+use Rattle.opgen_spec.specs.Ranges.{width_outside, power_outside, coefficients_outside, denominator_outside, compressor_outside}
+use Rattle.opgen_spec.specs.Entry.{Entry, later}
+
+-- how a key stands in a document
+abbrev pub stand : (first : Bool) → Key → Stand
+stand first key.Signed = Needed
+stand first key.Width = Needed
+stand first key.Lsb = Needed
+stand first key.OutLsb = Needed
+stand first key.Coefficients = Needed
+stand first key.Denominator = Optional
+stand first key.Compressor = later first
+stand first _ = Absent
+
+-- what is out of range at a key, of an operator with so many coefficients at most
+abbrev pub key_outside : (most : ℕ) → Members → Key → Option ℤ
+key_outside most ms key.Width = width_outside (most_input (count_at ms key.Version)) ms key.Width
+key_outside most ms key.Lsb = power_outside ms key.Lsb
+key_outside most ms key.OutLsb = power_outside ms key.OutLsb
+key_outside most ms key.Coefficients = coefficients_outside 1 most ms
+key_outside most ms key.Denominator = denominator_outside ms
+key_outside most ms key.Compressor = compressor_outside (text_at ms key.Compressor)
+key_outside most ms _ = None
+
+abbrev pub sum_of : Members → Sum
+sum_of ms = record {
+  input = format_at ms key.Width key.Lsb;
+  out_lsb = small_at ms key.OutLsb;
+  coefs = numerators (items_at ms key.Coefficients);
+  den = denominator_of ms;
+  exact = flag_at ms key.Exact;
+  counters = counters_at ms;
+}
+
+pub record IsSumAsWritten (ms : Members) (s : Sum) : Type 0 where
+  pub signed : value_at ms key.Signed ≡ Some (boolean s.input.signed)
+  pub input : IsInputAsWritten ms key.Width key.Lsb s.input
+  pub out_lsb : value_at ms key.OutLsb ≡ Some (integer s.out_lsb)
+  pub coefs : AreCoefficients ms s.coefs s.den
+  pub compressor : IsCompressorAsWritten ms s.counters
+
+-- the kinds: a scale has one coefficient, and a filter more
+abbrev pub scale : Entry
+scale = record { first = true; stand = stand; key_outside = key_outside 1; make = λ ms. operator.Scale (sum_of ms) }
+
+abbrev pub fir : Entry
+fir = record { first = true; stand = stand; key_outside = key_outside 256; make = λ ms. operator.Fir (sum_of ms) }

@@ -1,0 +1,54 @@
+-- A transposed filter.
+use Rattle.std.specs.Prelude.{◌≡◌, ℤ, pos, false, Option, Some, None}
+use Rattle.std.specs.Option.{option_or}
+use Rattle.opgen_operator.specs.declared.kinds.taps.Taps.{Taps}
+use Rattle.opgen_operator.specs.declared.operator.Operator.TheVariants as operator
+use Rattle.opgen_operator.specs.Limits.{most_input}
+use Rattle.opgen_operator.specs.OddParts.{odd_part_count}
+use Rattle.toml.specs.Data.{boolean, integer, Items, Members}
+use Rattle.opgen_spec.specs.declared.key.Key.{Key}
+use Rattle.opgen_spec.specs.declared.key.Key.TheVariants as key
+use Rattle.opgen_spec.specs.declared.stand.Stand.{Stand}
+use Rattle.opgen_spec.specs.declared.stand.Stand.TheVariants.{Absent, Needed}
+use Rattle.opgen_spec.specs.Decimals.{AreNumerators}
+use Rattle.opgen_spec.specs.Document.{value_at, items_at, count_at}
+use Rattle.opgen_spec.specs.Fields.{format_at, IsInputAsWritten}
+use Rattle.opgen_spec.specs.Numbers.{numerators}
+use Rattle.opgen_spec.specs.Ranges.{outside, array_outside, width_outside, power_outside, extra_outside}
+use Rattle.opgen_spec.specs.Entry.{Entry}
+
+abbrev pub stand : Key → Stand
+stand key.Signed = Needed
+stand key.Width = Needed
+stand key.Lsb = Needed
+stand key.Taps = Needed
+stand key.Extra = Needed
+stand _ = Absent
+
+-- taps as an array, or else more than eight different odd parts, of which the number is found
+abbrev pub taps_outside : Items → Option ℤ
+taps_outside items =
+    option_or (array_outside 1 32 2047 items) (outside (pos 0) (pos 8) (pos (odd_part_count (numerators items))))
+
+abbrev pub key_outside : Members → Key → Option ℤ
+key_outside ms key.Width = width_outside (most_input (count_at ms key.Version)) ms key.Width
+key_outside ms key.Lsb = power_outside ms key.Lsb
+key_outside ms key.Taps = taps_outside (items_at ms key.Taps)
+key_outside ms key.Extra = extra_outside ms
+key_outside ms _ = None
+
+abbrev pub taps_of : Members → Taps
+taps_of ms = record {
+  input = format_at ms key.Width key.Lsb;
+  taps = numerators (items_at ms key.Taps);
+  extra = count_at ms key.Extra;
+}
+
+pub record IsTapsAsWritten (ms : Members) (f : Taps) : Type 0 where
+  pub signed : value_at ms key.Signed ≡ Some (boolean f.input.signed)
+  pub input : IsInputAsWritten ms key.Width key.Lsb f.input
+  pub taps : AreNumerators 0 (items_at ms key.Taps) f.taps
+  pub extra : value_at ms key.Extra ≡ Some (integer (pos f.extra))
+
+abbrev pub tfir : Entry
+tfir = record { first = false; stand = λ first. stand; key_outside = key_outside; make = λ ms. operator.Tfir (taps_of ms) }

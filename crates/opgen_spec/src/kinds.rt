@@ -1,0 +1,124 @@
+//! The kinds of a document: their words, and what a document says of each, kind by kind.
+ghost use Rattle.std.specs.Prelude.{◌≡◌, find, IfOk};
+ghost use Rattle.std.specs.Str.{bytes_eq};
+ghost use Rattle.toml.specs.View.{table_view};
+ghost use Rattle.opgen_operator.specs.Operator.{kind_name};
+ghost use Rattle.opgen_spec.specs.kinds.{kind_named, kind_of, entry_of};
+
+mod pair;
+mod poly;
+mod product;
+mod several;
+mod single;
+mod small_div;
+mod sum;
+mod taps;
+
+use crate::document::text_at;
+use crate::key::Key;
+use crate::stand::Stand;
+use opgen_operator::{Kind, Operator};
+use std::alloc::{AllocError, Global};
+use toml::Table;
+
+/// The kinds, in the order of their words in the documents.
+pub(crate) static KINDS: [Kind; 9] = [
+    Kind::Scale,
+    Kind::Fir,
+    Kind::Multiply,
+    Kind::Divide,
+    Kind::Root,
+    Kind::Mcm,
+    Kind::Constdiv,
+    Kind::Poly,
+    Kind::Tfir,
+];
+
+fn kind_among(kinds: &[Kind], name: &str) -> Option<Kind>
+    ensures { result ≡ find (λ one. bytes_eq (kind_name one) name.now) kinds.now }
+{
+    kinds.iter().copied().find(|kind| kind.name() == name)
+}
+
+/// The kind of this name.
+fn kind_named(name: &str) -> Option<Kind>
+    ensures { result ≡ kind_named name.now }
+{
+    kind_among(&KINDS, name)
+}
+
+/// The kind that the document names.
+pub(crate) fn kind_of(table: &Table) -> Option<Kind>
+    ensures { result ≡ kind_of (table_view table.now) }
+{
+    kind_named(text_at(table, Key::Kind))
+}
+
+/// Whether version 1 has the kind.
+pub(crate) fn is_first_kind(kind: Kind) -> bool
+    ensures { result ≡ (entry_of kind).first }
+{
+    match kind {
+        Kind::Scale => sum::IS_FIRST,
+        Kind::Fir => sum::IS_FIRST,
+        Kind::Multiply => product::IS_FIRST,
+        Kind::Divide => pair::IS_FIRST,
+        Kind::Root => single::IS_FIRST,
+        Kind::Mcm => several::IS_FIRST,
+        Kind::Constdiv => small_div::IS_FIRST,
+        Kind::Poly => poly::IS_FIRST,
+        Kind::Tfir => taps::IS_FIRST,
+    }
+}
+
+/// How a key that not all kinds share stands in documents of a kind, of the first version or of a
+/// later one.
+pub(crate) fn stand(first: bool, kind: Kind, key: Key) -> Stand
+    ensures { result ≡ (entry_of kind).stand first key }
+{
+    match kind {
+        Kind::Scale => sum::stand(first, key),
+        Kind::Fir => sum::stand(first, key),
+        Kind::Multiply => product::stand(first, key),
+        Kind::Divide => pair::stand(key),
+        Kind::Root => single::stand(key),
+        Kind::Mcm => several::stand(key),
+        Kind::Constdiv => small_div::stand(key),
+        Kind::Poly => poly::stand(key),
+        Kind::Tfir => taps::stand(key),
+    }
+}
+
+/// What stands at a key of a kind and is out of its range.
+pub(crate) fn key_outside(kind: Kind, table: &Table, key: Key) -> Option<i64>
+    ensures { result ≡ (entry_of kind).key_outside (table_view table.now) key }
+{
+    match kind {
+        Kind::Scale => sum::key_outside(1, table, key),
+        Kind::Fir => sum::key_outside(256, table, key),
+        Kind::Multiply => product::key_outside(table, key),
+        Kind::Divide => pair::key_outside(table, key),
+        Kind::Root => single::key_outside(table, key),
+        Kind::Mcm => several::key_outside(table, key),
+        Kind::Constdiv => small_div::key_outside(table, key),
+        Kind::Poly => poly::key_outside(table, key),
+        Kind::Tfir => taps::key_outside(table, key),
+    }
+}
+
+/// The operator of a kind, from a document that passed its checks.
+pub(crate) fn operator_of(alloc: Global, kind: Kind, table: &Table) -> Result<Operator, AllocError>
+    ensures { IfOk result (λ op. op ≡ (entry_of kind).make (table_view table.now)) }
+{
+    match kind {
+        Kind::Scale => Ok(Operator::Scale(sum::sum_of(alloc, table)?)),
+        Kind::Fir => Ok(Operator::Fir(sum::sum_of(alloc, table)?)),
+        Kind::Multiply => Ok(Operator::Multiply(product::product_of(table))),
+        Kind::Divide => Ok(Operator::Divide(pair::pair_of(table))),
+        Kind::Root => Ok(Operator::Root(single::single_of(table))),
+        Kind::Mcm => Ok(Operator::Mcm(several::several_of(alloc, table)?)),
+        Kind::Constdiv => Ok(Operator::Constdiv(small_div::small_div_of(table))),
+        Kind::Poly => Ok(Operator::Poly(poly::poly_of(alloc, table)?)),
+        Kind::Tfir => Ok(Operator::Tfir(taps::taps_of(alloc, table)?)),
+    }
+}

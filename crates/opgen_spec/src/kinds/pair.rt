@@ -1,0 +1,51 @@
+//! What a document says of a quotient of two inputs: its keys, their ranges, and the operator.
+ghost use Rattle.std.specs.Prelude.{◌≡◌};
+ghost use Rattle.toml.specs.View.{table_view};
+ghost use Rattle.opgen_spec.specs.kinds.Pair.{stand, key_outside, pair_of};
+
+use crate::document::{count_at, flag_at, small_at};
+use crate::fields::unsigned_at;
+use crate::key::Key;
+use crate::range::{power_outside, width_outside};
+use crate::stand::Stand;
+use opgen_operator::{Pair, most_input};
+use toml::Table;
+
+/// Whether version 1 has the kind.
+pub(crate) const IS_FIRST: bool = true;
+
+/// How a key that not all kinds share stands in a document.
+pub(crate) fn stand(key: Key) -> Stand
+    ensures { result ≡ stand key }
+{
+    match key {
+        Key::WidthA | Key::LsbA | Key::WidthB | Key::LsbB | Key::OutLsb => Stand::Needed,
+        _ => Stand::Absent,
+    }
+}
+
+/// What stands at one of these keys and is out of its range.
+pub(crate) fn key_outside(table: &Table, key: Key) -> Option<i64>
+    ensures { result ≡ key_outside (table_view table.now) key }
+{
+    match key {
+        Key::WidthA | Key::WidthB => width_outside(
+            most_input(count_at(table, Key::Version)),
+            table,
+            key,
+        ),
+        Key::LsbA | Key::LsbB | Key::OutLsb => power_outside(table, key),
+        _ => None,
+    }
+}
+
+pub(crate) fn pair_of(table: &Table) -> Pair
+    ensures { result ≡ pair_of (table_view table.now) }
+{
+    Pair {
+        a: unsigned_at(table, Key::WidthA, Key::LsbA),
+        b: unsigned_at(table, Key::WidthB, Key::LsbB),
+        out_lsb: small_at(table, Key::OutLsb),
+        exact: flag_at(table, Key::Exact),
+    }
+}

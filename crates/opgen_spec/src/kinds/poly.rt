@@ -1,0 +1,67 @@
+//! What a document says of a polynomial: its keys, their ranges, and the operator.
+ghost use Rattle.std.specs.Prelude.{◌≡◌, IfOk};
+ghost use Rattle.toml.specs.View.{table_view};
+ghost use Rattle.opgen_spec.specs.kinds.Poly.{stand, key_outside, below_one_at, poly_of};
+
+use crate::document::{count_at, items_at, number_at, small, small_at};
+use crate::fields::{denominator_of, numerators};
+use crate::key::Key;
+use crate::range::{coefficients_outside, denominator_outside, outside, width_outside};
+use crate::stand::Stand;
+use opgen_num::Format;
+use opgen_operator::Poly;
+use std::alloc::{AllocError, Global};
+use toml::Table;
+
+/// Whether version 1 has the kind.
+pub(crate) const IS_FIRST: bool = false;
+
+/// The most bits of the input, which is the limit of polynomials alone.
+const MAX_WIDTH: u32 = 16;
+
+/// How a key that not all kinds share stands in a document.
+pub(crate) fn stand(key: Key) -> Stand
+    ensures { result ≡ stand key }
+{
+    match key {
+        Key::Width | Key::OutLsb | Key::Coefficients => Stand::Needed,
+        Key::Denominator => Stand::Optional,
+        _ => Stand::Absent,
+    }
+}
+
+/// What stands at one of these keys and is out of its range.
+pub(crate) fn key_outside(table: &Table, key: Key) -> Option<i64>
+    ensures { result ≡ key_outside (table_view table.now) key }
+{
+    match key {
+        Key::Width => width_outside(MAX_WIDTH, table, key),
+        Key::OutLsb => outside(-16, 0, number_at(table, key)),
+        Key::Coefficients => coefficients_outside(2, 5, table),
+        Key::Denominator => denominator_outside(table),
+        _ => None,
+    }
+}
+
+/// The format of an unsigned input below 1.
+fn below_one_at(table: &Table) -> Format
+    ensures { result ≡ below_one_at (table_view table.now) }
+{
+    let width = count_at(table, Key::Width);
+    Format {
+        signed: false,
+        width,
+        lsb: small(-i64::from(width)),
+    }
+}
+
+pub(crate) fn poly_of(alloc: Global, table: &Table) -> Result<Poly, AllocError>
+    ensures { IfOk result (λ poly. poly ≡ poly_of (table_view table.now)) }
+{
+    Ok(Poly {
+        input: below_one_at(table),
+        out_lsb: small_at(table, Key::OutLsb),
+        coefs: numerators(alloc, items_at(table, Key::Coefficients))?,
+        den: denominator_of(table),
+    })
+}

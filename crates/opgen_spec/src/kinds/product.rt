@@ -1,0 +1,54 @@
+//! What a document says of a product of two inputs: its keys, their ranges, and the operator.
+ghost use Rattle.std.specs.Prelude.{◌≡◌};
+ghost use Rattle.toml.specs.View.{table_view};
+ghost use Rattle.opgen_spec.specs.kinds.Product.{stand, key_outside, product_of};
+
+use crate::document::{count_at, small_at, text_at};
+use crate::fields::{counters_at, format_at};
+use crate::key::Key;
+use crate::range::{compressor_outside, power_outside, width_outside};
+use crate::stand::{Stand, later};
+use opgen_operator::{Product, most_input};
+use toml::Table;
+
+/// Whether version 1 has the kind.
+pub(crate) const IS_FIRST: bool = true;
+
+/// How a key that not all kinds share stands in a document.
+pub(crate) fn stand(first: bool, key: Key) -> Stand
+    ensures { result ≡ stand first key }
+{
+    match key {
+        Key::Signed | Key::WidthA | Key::LsbA | Key::WidthB | Key::LsbB | Key::OutLsb =>
+            Stand::Needed,
+        Key::Compressor => later(first),
+        _ => Stand::Absent,
+    }
+}
+
+/// What stands at one of these keys and is out of its range.
+pub(crate) fn key_outside(table: &Table, key: Key) -> Option<i64>
+    ensures { result ≡ key_outside (table_view table.now) key }
+{
+    match key {
+        Key::WidthA | Key::WidthB => width_outside(
+            most_input(count_at(table, Key::Version)),
+            table,
+            key,
+        ),
+        Key::LsbA | Key::LsbB | Key::OutLsb => power_outside(table, key),
+        Key::Compressor => compressor_outside(text_at(table, key)),
+        _ => None,
+    }
+}
+
+pub(crate) fn product_of(table: &Table) -> Product
+    ensures { result ≡ product_of (table_view table.now) }
+{
+    Product {
+        a: format_at(table, Key::WidthA, Key::LsbA),
+        b: format_at(table, Key::WidthB, Key::LsbB),
+        out_lsb: small_at(table, Key::OutLsb),
+        counters: counters_at(table),
+    }
+}

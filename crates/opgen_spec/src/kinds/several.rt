@@ -1,0 +1,49 @@
+//! What a document says of products by several constants: its keys, their ranges, and the operator.
+ghost use Rattle.std.specs.Prelude.{◌≡◌, IfOk};
+ghost use Rattle.toml.specs.View.{table_view};
+ghost use Rattle.opgen_spec.specs.kinds.Several.{stand, key_outside, several_of};
+
+use crate::document::{count_at, items_at};
+use crate::fields::{format_at, numerators};
+use crate::key::Key;
+use crate::range::{MAX_CONSTANT, array_outside, extra_outside, power_outside, width_outside};
+use crate::stand::Stand;
+use opgen_operator::{Several, most_input};
+use std::alloc::{AllocError, Global};
+use toml::Table;
+
+/// Whether version 1 has the kind.
+pub(crate) const IS_FIRST: bool = true;
+
+/// How a key that not all kinds share stands in a document.
+pub(crate) fn stand(key: Key) -> Stand
+    ensures { result ≡ stand key }
+{
+    match key {
+        Key::Signed | Key::Width | Key::Lsb | Key::Constants | Key::Extra => Stand::Needed,
+        _ => Stand::Absent,
+    }
+}
+
+/// What stands at one of these keys and is out of its range.
+pub(crate) fn key_outside(table: &Table, key: Key) -> Option<i64>
+    ensures { result ≡ key_outside (table_view table.now) key }
+{
+    match key {
+        Key::Width => width_outside(most_input(count_at(table, Key::Version)), table, key),
+        Key::Lsb => power_outside(table, key),
+        Key::Constants => array_outside(1, 8, MAX_CONSTANT, items_at(table, key)),
+        Key::Extra => extra_outside(table),
+        _ => None,
+    }
+}
+
+pub(crate) fn several_of(alloc: Global, table: &Table) -> Result<Several, AllocError>
+    ensures { IfOk result (λ several. several ≡ several_of (table_view table.now)) }
+{
+    Ok(Several {
+        input: format_at(table, Key::Width, Key::Lsb),
+        constants: numerators(alloc, items_at(table, Key::Constants))?,
+        extra: count_at(table, Key::Extra),
+    })
+}

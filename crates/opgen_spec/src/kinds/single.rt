@@ -1,0 +1,46 @@
+//! What a document says of a square root: its keys, their ranges, and the operator.
+ghost use Rattle.std.specs.Prelude.{◌≡◌};
+ghost use Rattle.toml.specs.View.{table_view};
+ghost use Rattle.opgen_spec.specs.kinds.Single.{stand, key_outside, single_of};
+
+use crate::document::{count_at, flag_at, small_at};
+use crate::fields::unsigned_at;
+use crate::key::Key;
+use crate::range::{power_outside, width_outside};
+use crate::stand::Stand;
+use opgen_operator::{Single, most_input};
+use toml::Table;
+
+/// Whether version 1 has the kind.
+pub(crate) const IS_FIRST: bool = true;
+
+/// How a key that not all kinds share stands in a document.
+pub(crate) fn stand(key: Key) -> Stand
+    ensures { result ≡ stand key }
+{
+    match key {
+        Key::Width | Key::Lsb | Key::OutLsb => Stand::Needed,
+        _ => Stand::Absent,
+    }
+}
+
+/// What stands at one of these keys and is out of its range.
+pub(crate) fn key_outside(table: &Table, key: Key) -> Option<i64>
+    ensures { result ≡ key_outside (table_view table.now) key }
+{
+    match key {
+        Key::Width => width_outside(most_input(count_at(table, Key::Version)), table, key),
+        Key::Lsb | Key::OutLsb => power_outside(table, key),
+        _ => None,
+    }
+}
+
+pub(crate) fn single_of(table: &Table) -> Single
+    ensures { result ≡ single_of (table_view table.now) }
+{
+    Single {
+        input: unsigned_at(table, Key::Width, Key::Lsb),
+        out_lsb: small_at(table, Key::OutLsb),
+        exact: flag_at(table, Key::Exact),
+    }
+}

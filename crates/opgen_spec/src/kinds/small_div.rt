@@ -1,0 +1,47 @@
+//! What a document says of a quotient by a small constant: its keys, their ranges, and the operator.
+ghost use Rattle.std.specs.Prelude.{◌≡◌};
+ghost use Rattle.toml.specs.View.{table_view};
+ghost use Rattle.opgen_spec.specs.kinds.SmallDiv.{stand, key_outside, small_div_of};
+
+use crate::document::{count_at, flag_at, number_at};
+use crate::fields::unsigned_at;
+use crate::key::Key;
+use crate::range::{outside, power_outside, width_outside};
+use crate::stand::Stand;
+use opgen_operator::{SmallDiv, most_input};
+use toml::Table;
+
+/// Whether version 1 has the kind.
+pub(crate) const IS_FIRST: bool = false;
+
+/// How a key that not all kinds share stands in a document.
+pub(crate) fn stand(key: Key) -> Stand
+    ensures { result ≡ stand key }
+{
+    match key {
+        Key::Width | Key::Lsb | Key::Divisor => Stand::Needed,
+        _ => Stand::Absent,
+    }
+}
+
+/// What stands at one of these keys and is out of its range.
+pub(crate) fn key_outside(table: &Table, key: Key) -> Option<i64>
+    ensures { result ≡ key_outside (table_view table.now) key }
+{
+    match key {
+        Key::Width => width_outside(most_input(count_at(table, Key::Version)), table, key),
+        Key::Lsb => power_outside(table, key),
+        Key::Divisor => outside(2, 32, number_at(table, key)),
+        _ => None,
+    }
+}
+
+pub(crate) fn small_div_of(table: &Table) -> SmallDiv
+    ensures { result ≡ small_div_of (table_view table.now) }
+{
+    SmallDiv {
+        input: unsigned_at(table, Key::Width, Key::Lsb),
+        divisor: count_at(table, Key::Divisor),
+        exact: flag_at(table, Key::Exact),
+    }
+}

@@ -1,0 +1,58 @@
+//! What a document says of a scale or a filter: its keys, their ranges, and the operator.
+ghost use Rattle.std.specs.Prelude.{◌≡◌, IfOk};
+ghost use Rattle.toml.specs.View.{table_view};
+ghost use Rattle.opgen_spec.specs.kinds.Sum.{stand, key_outside, sum_of};
+
+use crate::document::{count_at, flag_at, items_at, small_at, text_at};
+use crate::fields::{counters_at, denominator_of, format_at, numerators};
+use crate::key::Key;
+use crate::range::{
+    coefficients_outside, compressor_outside, denominator_outside, power_outside, width_outside,
+};
+use crate::stand::{Stand, later};
+use opgen_operator::{Sum, most_input};
+use std::alloc::{AllocError, Global};
+use toml::Table;
+
+/// Whether version 1 has the kind.
+pub(crate) const IS_FIRST: bool = true;
+
+/// How a key that not all kinds share stands in a document.
+pub(crate) fn stand(first: bool, key: Key) -> Stand
+    ensures { result ≡ stand first key }
+{
+    match key {
+        Key::Signed | Key::Width | Key::Lsb | Key::OutLsb | Key::Coefficients => Stand::Needed,
+        Key::Denominator => Stand::Optional,
+        Key::Compressor => later(first),
+        _ => Stand::Absent,
+    }
+}
+
+/// What stands at one of these keys and is out of its range, of an operator with so many
+/// coefficients at most.
+pub(crate) fn key_outside(most: u32, table: &Table, key: Key) -> Option<i64>
+    ensures { result ≡ key_outside most (table_view table.now) key }
+{
+    match key {
+        Key::Width => width_outside(most_input(count_at(table, Key::Version)), table, key),
+        Key::Lsb | Key::OutLsb => power_outside(table, key),
+        Key::Coefficients => coefficients_outside(1, most, table),
+        Key::Denominator => denominator_outside(table),
+        Key::Compressor => compressor_outside(text_at(table, key)),
+        _ => None,
+    }
+}
+
+pub(crate) fn sum_of(alloc: Global, table: &Table) -> Result<Sum, AllocError>
+    ensures { IfOk result (λ sum. sum ≡ sum_of (table_view table.now)) }
+{
+    Ok(Sum {
+        input: format_at(table, Key::Width, Key::Lsb),
+        out_lsb: small_at(table, Key::OutLsb),
+        coefs: numerators(alloc, items_at(table, Key::Coefficients))?,
+        den: denominator_of(table),
+        exact: flag_at(table, Key::Exact),
+        counters: counters_at(table),
+    })
+}

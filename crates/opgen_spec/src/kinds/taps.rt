@@ -1,0 +1,82 @@
+//! What a document says of a transposed filter: its keys, their ranges, and the operator.
+ghost use Rattle.std.specs.Prelude.{◌≡◌, ◌≤◌, length, All, IfOk};
+ghost use Rattle.toml.specs.View.{items_view, table_view};
+ghost use Rattle.opgen_operator.specs.OddParts.{odd_part_count};
+ghost use Rattle.opgen_operator.specs.Ranges.{IsWithin};
+ghost use Rattle.opgen_spec.specs.kinds.Taps.{stand, key_outside, taps_outside, taps_of};
+ghost use Rattle.opgen_spec.specs.Numbers.{numerators};
+
+use crate::document::{count_at, items_at};
+use crate::fields::{format_at, numerators};
+use crate::key::Key;
+use crate::range::{
+    MAX_CONSTANT, array_outside, coefficient, extra_outside, outside, places_among, power_outside,
+    width_outside,
+};
+use crate::stand::Stand;
+use opgen_operator::{Taps, most_input, odd_part_count};
+use std::alloc::{AllocError, Global};
+use toml::{Table, Value};
+
+const MAX_TAPS: u32 = 32;
+
+/// Whether version 1 has the kind.
+pub(crate) const IS_FIRST: bool = false;
+
+/// How a key that not all kinds share stands in a document.
+pub(crate) fn stand(key: Key) -> Stand
+    ensures { result ≡ stand key }
+{
+    match key {
+        Key::Signed | Key::Width | Key::Lsb | Key::Taps | Key::Extra => Stand::Needed,
+        _ => Stand::Absent,
+    }
+}
+
+/// How many different odd parts the numbers of an array have.
+fn part_count(items: &[Value]) -> u32
+    requires few { length items.now ≤ 32 }
+    requires small { All (IsWithin 2047) (numerators (items_view items.now)) }
+    ensures { result ≡ odd_part_count (numerators (items_view items.now)) }
+{
+    let power = places_among(items);
+    let mut numbers = [0; MAX_TAPS as usize];
+    'items: for (place, item) in items.iter().enumerate() {
+        numbers[place] = coefficient(power, item);
+    }
+    odd_part_count(&numbers[..items.len()])
+}
+
+/// The length of the taps, the first of them, or the number of their odd parts, that is out of
+/// bounds.
+fn taps_outside(items: &[Value]) -> Option<i64>
+    ensures { result ≡ taps_outside (items_view items.now) }
+{
+    match array_outside(1, MAX_TAPS, MAX_CONSTANT, items) {
+        Some(found) => Some(found),
+        None => outside(0, 8, i64::from(part_count(items))),
+    }
+}
+
+/// What stands at one of these keys and is out of its range.
+pub(crate) fn key_outside(table: &Table, key: Key) -> Option<i64>
+    ensures { result ≡ key_outside (table_view table.now) key }
+{
+    match key {
+        Key::Width => width_outside(most_input(count_at(table, Key::Version)), table, key),
+        Key::Lsb => power_outside(table, key),
+        Key::Taps => taps_outside(items_at(table, key)),
+        Key::Extra => extra_outside(table),
+        _ => None,
+    }
+}
+
+pub(crate) fn taps_of(alloc: Global, table: &Table) -> Result<Taps, AllocError>
+    ensures { IfOk result (λ taps. taps ≡ taps_of (table_view table.now)) }
+{
+    Ok(Taps {
+        input: format_at(table, Key::Width, Key::Lsb),
+        taps: numerators(alloc, items_at(table, Key::Taps))?,
+        extra: count_at(table, Key::Extra),
+    })
+}

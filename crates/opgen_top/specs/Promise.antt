@@ -1,0 +1,38 @@
+-- What status 0 of `generate` promises of what is stored and printed, with the clock enable and without it. It mentions no
+-- recipe, net, plan or schedule.
+use Rattle.std.specs.Prelude.{ℕ, ◌≡◌, Bool, List, ◌++◌, Option, Some, option_map}
+use Rattle.opgen_design.specs.declared.design.Design.{Design}
+use Rattle.opgen_design.specs.Sound.{IsSound}
+use Rattle.opgen_io.specs.Files.{Files, stored}
+use Rattle.opgen_operator.specs.declared.spec.Spec.{Spec}
+use Rattle.opgen_spec.specs.Document.{tree}
+use Rattle.opgen_spec.specs.Spec.{spec_of}
+use Rattle.opgen_vhdl.specs.Spelled.{Spells}
+use Rattle.opgen_top.specs.Answer.{vhdl_name, report_name}
+use Rattle.opgen_top.specs.Lines.{wrote_line, latency_line, HasLine}
+use Rattle.opgen_top.specs.Serves.{Serves}
+
+pub record Promise (file : List ℕ) (enable : Bool) (files : Files) (files_after : Option Files)
+    (printed_before printed_after : Option (List ℕ)) : Type 0 where
+  -- First: the file holds a document of TOML, and the keys of the document give a specification.
+  pub bytes : List ℕ
+  pub stands : files file ≡ Some bytes
+  pub spec : Spec
+  pub given : option_map spec_of (tree bytes) ≡ Some spec
+  -- Second: the folder has two files more, or anew, named after the specification: VHDL and a report.
+  pub vhdl : List ℕ
+  pub report : List ℕ
+  pub stores : files_after ≡ Some (stored (report_name spec.name) report (stored (vhdl_name spec.name) vhdl files))
+  -- Third: the VHDL spells a design of the specification's name, and no other, and the design is sound.
+  pub design : Design
+  pub called : design.name ≡ spec.name
+  pub spelled : Spells vhdl design
+  pub no_other : (other : Design) → Spells vhdl other → other ≡ design
+  pub sound : IsSound design
+  -- Fourth: a latency stands in the report, and in the line where the sink tells what it takes.
+  pub latency : ℕ
+  pub reported : HasLine report (latency_line latency)
+  pub line : (held : List ℕ) → printed_before ≡ Some held → printed_after ≡ Some (held ++ wrote_line spec.name latency)
+  -- Fifth: in every run the outputs are good, so many cycles after inputs in range. Cycles are those that count: with the
+  -- clock enable, the ones in which it is 1.
+  pub serves : Serves spec latency enable design

@@ -1,0 +1,1 @@
+-- Definitions of test_parts: none, because its tests use those of other crates.

@@ -1,1 +1,0 @@
--- Definitions of test_pipe: none, because its tests use those of other crates.
