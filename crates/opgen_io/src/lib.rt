@@ -5,7 +5,8 @@
 //! contents only of observable ones. Each failure raises a count, so every failure has a cause.
 //!
 //! Proved: A fetch returns the bytes of the file, a store changes the file of one name, and a put appends to the sink. Each
-//! failure other than out of memory raises a count. In memory: which calls fail, and what each leaves.
+//! failure other than out of memory raises a count by one, and nothing else raises it. A sink counts each put. In memory:
+//! which calls fail, and what each leaves.
 //!
 //! By: the traits `Folder` and `Sink`, `MemoryFolder`, `MemorySink`; `DiskFolder` and `StdSink` keep the traits and are not
 //! observable.
