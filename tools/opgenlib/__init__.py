@@ -1,8 +1,14 @@
-"""What the tools share: specifications, reports, rows and VHDL of the subset, read with their places."""
+"""What the tools share: specifications, reports, rows and VHDL of the subset, read with their places.
+
+This file is written so that an older Python reads it too, and says what is missing."""
 import sys
 
+LEAST = (3, 11)
+if sys.version_info < LEAST:
+    sys.exit("opgen: Python 3.11 or later is needed here, and this is Python %d.%d" % sys.version_info[:2])
 
-def answer_help(text: str) -> None:
+
+def answer_help(text):
     """Prints a tool's text and ends, if that is what its words ask for."""
     if sys.argv[1:] in (["-h"], ["--help"]):
         print(text.strip())

@@ -34,6 +34,9 @@ COMMANDS: dict[str, Command] = {
 }
 
 
+STORES = ("generate", "vectors", "simulate")
+
+
 class BadWords(Exception):
     """The words are none of a command: why."""
 
@@ -45,6 +48,8 @@ class Call:
     command: str
     words: dict[str, str]
     options: list[str]
+    # The folder of `-o`, in which files are stored.
+    folder: str = ""
 
     @property
     def inputs(self) -> list[tuple[str, str]]:
@@ -63,8 +68,11 @@ def option_of(name: str, word: str, behind: list[str], met: set[str]) -> list[st
     """The words of an option, of which the second may be taken from those behind it."""
     command = COMMANDS[name]
     option, equals, value = word.partition("=")
+    numbers = [what for what in command.words if what in NUMBERS]
+    if re.fullmatch(r"-[0-9]+", word) and numbers:
+        in_range(numbers[0], word, *NUMBERS[numbers[0]])
     if option not in command.options:
-        known = ", ".join(command.options)
+        known = ", ".join([*command.options, *(["-o"] if name in STORES else [])])
         raise BadWords(f"{name} has no option {option}; " + (f"its options are {known}" if known else "it has none"))
     if option in met:
         raise BadWords(f"option {option} is there twice")
@@ -81,6 +89,24 @@ def option_of(name: str, word: str, behind: list[str], met: set[str]) -> list[st
     return [option, value]
 
 
+def folder_of(name: str, behind: list[str], met: set[str]) -> str:
+    """The folder behind `-o`, which bin/opgen takes from the words before it runs the program."""
+    if name not in STORES:
+        raise BadWords(f"{name} stores no file, and has no option -o")
+    if "-o" in met:
+        raise BadWords("option -o is there twice")
+    met.add("-o")
+    if not behind or not behind[0] or behind[0].startswith("-"):
+        raise BadWords("option -o has no folder; expected one, as -o out or -o ./-out")
+    return behind.pop(0)
+
+
+def check_out(out: str) -> None:
+    """Refuses a place of rows that -o has no say in."""
+    if out.startswith("/") or ".." in out.split("/") or not out:
+        raise BadWords(f"OUT is {out!r} beside -o; expected a name within that folder")
+
+
 def call_of(words: list[str]) -> Call:
     """The command that words are."""
     if not words:
@@ -91,11 +117,13 @@ def call_of(words: list[str]) -> Call:
     options: list[str] = []
     found: list[str] = []
     met: set[str] = set()
-    has_options = True
+    has_options, folder = True, ""
     while behind:
         word = behind.pop(0)
         if has_options and word == "--":
             has_options = False
+        elif has_options and word == "-o":
+            folder = folder_of(name, behind, met)
         elif has_options and word.startswith("-") and word != "-":
             options += option_of(name, word, behind, met)
         else:
@@ -107,4 +135,6 @@ def call_of(words: list[str]) -> Call:
     for what, word in zip(wanted, found):
         if what in NUMBERS:
             in_range(what, word, *NUMBERS[what])
-    return Call(name, dict(zip(wanted, found)), options)
+    if folder and name == "simulate":
+        check_out(found[-1])
+    return Call(name, dict(zip(wanted, found)), options, folder)

@@ -15,6 +15,11 @@ LINE = SCHEMA["$defs"]["line"]
 KNOWN = "type const enum minimum maximum minItems maxItems maxLength pattern anyOf not if".split()
 
 
+def shown(file: str) -> str:
+    """The name of a file beside the tools: in a checkout from its folder, and otherwise from the root."""
+    return file if (TOP / "crates").is_dir() else str(TOP / file)
+
+
 def same(found: Any, wanted: Any) -> bool:
     return type(found) is type(wanted) and found == wanted
 

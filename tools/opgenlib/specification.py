@@ -191,6 +191,8 @@ class Scanner:
         word = self.skip(WORD)
         if not word:
             raise self.fail("a value is expected")
+        if word.lower() in ("true", "false") and word != word.lower():
+            raise self.fail(f"{word} is no value of TOML; write {word.lower()}", at)
         if not SCALAR.match(word):
             raise self.fail(f"{word} is no value of TOML; a text is written between double quotes", at)
         if re.fullmatch(INTEGER, word) and not -(1 << 63) <= int(word, 0) < 1 << 63:
@@ -294,8 +296,8 @@ def parse(source: bytes) -> Specification:
         raise NotToml(str(fault).replace(at[0], ""), Place(int(at[1]), int(at[2]))) from fault
 
 
-def load(path: Path) -> Specification:
-    return parse(path.read_bytes())
+def load(path: Path | str) -> Specification:
+    return parse(Path(path).read_bytes())
 
 
 # The shift of each kind that has limits, from the input's to the output's last place, and its least and most by version.

@@ -9,6 +9,10 @@ MOST_SECONDS = 1200
 # To tables of six inputs without carry chains; and to the cells of a Xilinx series 7 device, carry chains and no DSP blocks.
 TABLES = "synth -lut 6 -top {top}; tee -o cells stat; tee -o levels ltp -noff"
 CHAINS = "synth_xilinx -family xc7 -nodsp -nosrl -noiopad -noclkbuf -top {top}; tee -o cells stat"
+# To the cells of a Lattice iCE40 device, with carry chains and without memories, each module by itself where there are several.
+ICE40 = "synth_ice40 -nobram -top {top}{more}; "
+# Around what was mapped a module is put as it is.
+AROUND = "read_verilog {file}.v; hierarchy -check -top {around}; flatten; clean; tee -o {file}.cells stat; write_json {file}.json; "
 
 
 class NotMapped(Exception):
@@ -56,3 +60,27 @@ def in_chains(verilog: str, top: str) -> dict[str, int]:
     tables = sum(number for cell, number in cells.items() if re.fullmatch(r"LUT\d", cell))
     flops = sum(number for cell, number in cells.items() if re.fullmatch(r"FD[RSCP]E", cell))
     return {"lut": tables, "ff": flops, "carry4": cells.get("CARRY4", 0)}
+
+
+def in_ice40(verilog: str, top: str, around: tuple[str, str], is_retimed: bool, folder: Path) -> dict[str, int]:
+    """The cells of an iCE40 device by type, of a text inside of a module, which is a name and a text; the netlist is left in the
+    folder as `around.json`. If asked, Yosys moves the registers of the text."""
+    (folder / "around.v").write_text(around[1])
+    ran(verilog, ICE40.format(top=top, more=" -retime" if is_retimed else "") + AROUND.format(file="around", around=around[0]), folder)
+    return cells_of((folder / "around.cells").read_text())
+
+
+def each_in_ice40(texts: dict[str, str], around: tuple[str, dict[str, str]], folder: Path) -> None:
+    """Maps modules side by side, each inside of a module, which is a name and for each of them a text; NAME.json are the netlists."""
+    instances = "\n".join(f"  (* keep *) {name} {name}_ ();" for name in texts)
+    verilog = "\n".join([*texts.values(), f"module all_of_them;\n{instances}\nendmodule\n"])
+    script = ICE40.format(top="all_of_them", more=" -noflatten") + "design -save mapped; "
+    for name, text in around[1].items():
+        (folder / f"{name}.v").write_text(text)
+        script += "design -load mapped; " + AROUND.format(file=name, around=around[0])
+    ran(verilog, script, folder)
+
+
+def version() -> str:
+    """The line by which Yosys names itself."""
+    return " ".join(subprocess.run(["yosys", "-V"], capture_output=True, text=True).stdout.split()[:2])

@@ -182,7 +182,7 @@ SPECIFICATIONS = [
               'first.toml:19:1: unknown key "width" of delay line 2; its keys are class, base, per_bit'),
     generated("a key is missing", SCALE.replace("width = 4\n", ""), "MissingKey width",
               'first.toml: the key "width" of kind scale is missing',
-              "  add a line as: width = 10               # bits of x: 1 to 32, from 2 where signed"),
+              "  add a line as: width = 10               # bits of x: 1 to 48, from 2 where signed"),
     generated("a key of a delay line is missing", DELAYS[:-len("per_bit = 1\n")], "MissingKey per_bit 2",
               'first.toml:17:1: delay line 2 has no key "per_bit"',
               "  add it as: per_bit = 0              # 0 to 10000"),
@@ -193,6 +193,35 @@ SPECIFICATIONS = [
     generated("a float among the coefficients", FIR.replace("[3]", "[3, 4.0]"), "WrongType coefficients",
               "first.toml:11:20: element 2 of coefficients is 4.0, a float; expected an array of whole numbers, "
               '-1073741824 to 1073741824 or of decimal texts, as "0.25"'),
+    generated("a decimal text of twelve digits", FIR.replace("[3]", '["3.14159265358"]').replace("true", "false"), "WrongType coefficients",
+              'first.toml:11:17: element 1 of coefficients is "3.14159265358", a text; expected an array of whole numbers, '
+              '-1073741824 to 1073741824 or of decimal texts, as "0.25"',
+              "  a decimal text has one to 9 digits, and no exponent or +; it has 12 digits: write \"3.14159265\", which is near it"),
+    generated("an exponent", FIR.replace("[3]", '["0.5", "1e-3"]').replace("true", "false"), "WrongType coefficients",
+              'first.toml:11:24: element 2 of coefficients is "1e-3", a text; expected an array of whole numbers, '
+              '-1073741824 to 1073741824 or of decimal texts, as "0.25"',
+              "  a decimal text has one to 9 digits, and no exponent or +; it has an exponent: write \"0.001\""),
+    generated("a text that is no number", FIR.replace("[3]", '["half"]').replace("true", "false"), "WrongType coefficients",
+              'first.toml:11:17: element 1 of coefficients is "half", a text; expected an array of whole numbers, '
+              '-1073741824 to 1073741824 or of decimal texts, as "0.25"',
+              "  a decimal text is an optional -, digits, and optionally a point and digits"),
+    generated("a large number as a text", FIR.replace("[3]", '["12345678901"]').replace("true", "false"), "WrongType coefficients",
+              'first.toml:11:17: element 1 of coefficients is "12345678901", a text; expected an array of whole numbers, '
+              '-1073741824 to 1073741824 or of decimal texts, as "0.25"',
+              "  a decimal text has one to 9 digits, and no exponent or +; it has 11 digits: write whole numbers over a denominator"),
+    generated("a truth value of Python", SCALE.replace("true", "False"), "NotToml",
+              "first.toml:4:9: no TOML: False is no value of TOML; write false"),
+    generated("a low output", SCALE.replace("exact = true", "exact = false").replace("lsb = 0\nout_lsb = 0", "lsb = -30\nout_lsb = -34"),
+              "OutOfRange out_lsb -34", "first.toml:10:11: out_lsb is -34; expected -32 to 32",
+              "  write lsb = 0 and out_lsb = -4: only the difference counts, and the places are yours to count"),
+    generated("a low product", MULTIPLY.replace("lsb_a = 0", "lsb_a = -17").replace("lsb_b = -1\nout_lsb = 0", "lsb_b = -17\nout_lsb = -34"),
+              "OutOfRange out_lsb -34", "first.toml:12:11: out_lsb is -34; expected -32 to 32",
+              "  write lsb_a = 0, lsb_b = 0 and out_lsb = 0: only the difference counts, and the places are yours to count"),
+    generated("a low number of several constants", MCM.replace("lsb = 0", "lsb = -40"), "OutOfRange lsb -40",
+              "first.toml:9:7: lsb is -40; expected -32 to 32",
+              "  write lsb = 0: the numbers are the same, and the places are yours to count"),
+    generated("an output that is too low", SCALE.replace("exact = true", "exact = false").replace("out_lsb = 0", "out_lsb = -34"),
+              "OutOfRange out_lsb -34", "first.toml:10:11: out_lsb is -34; expected -32 to 32"),
     generated("texts and numbers", FIR.replace("[3]", '["0.5", 3]'), "WrongType coefficients",
               "first.toml:11:24: element 2 of coefficients is 3, a whole number; expected an array of whole numbers, "
               '-1073741824 to 1073741824 or of decimal texts, as "0.25"'),
@@ -253,6 +282,16 @@ SPECIFICATIONS = [
     generated("no exact product", MULTIPLY, "NotExact 0",
               "first.toml:12:11: out_lsb is 0, so the exact product does not fit; expected at most lsb_a + lsb_b = -1",
               "  write out_lsb = -1, or exact = false"),
+    generated("no exact product of low places",
+              MULTIPLY.replace("lsb_a = 0", "lsb_a = -17").replace("lsb_b = -1\nout_lsb = 0", "lsb_b = -17\nout_lsb = -32"), "NotExact 0",
+              "first.toml:12:11: out_lsb is -32, so the exact product does not fit; expected at most lsb_a + lsb_b = -34",
+              "  write exact = false",
+              "  write lsb_a = 0, lsb_b = 0 and out_lsb = 0: only the difference counts, and the places are yours to count"),
+    generated("no exact quarter of low places",
+              SCALE.replace("[3]", "[3]\ndenominator = 4").replace("lsb = 0\nout_lsb = 0", "lsb = -31\nout_lsb = -31"), "NotExact 0",
+              "first.toml:11:17: coefficient 0, from 0, is 3 / 4, not whole in units of the output's last place, 2^-31",
+              "  write exact = false, or move both places up",
+              "  write lsb = 0 and out_lsb = -2: only the difference counts, and the places are yours to count"),
     generated("far apart", SCALE.replace("lsb = 0\nout_lsb = 0", "lsb = 32\nout_lsb = -32"), "Coarse 64",
               "first.toml:10:11: lsb - out_lsb is 64; expected -48 to 48 for kind scale",
               "  raise out_lsb, now -32, or bring the lsb of the input nearer to it"),
@@ -266,7 +305,8 @@ SPECIFICATIONS = [
               "first.toml: a signal would need 94 bits; expected at most 64 in version 1",
               "  version = 2, which has 96; or fewer bits of input, fewer coefficients, or a higher out_lsb"),
     generated("no target", SCALE.replace('"plain"', '"fast"'), "UnknownTarget",
-              'first.toml:5:10: target is "fast"; expected one of plain, fixed'),
+              'first.toml:5:10: target is "fast"; expected one of plain, fixed',
+              '  for a device write target = "plain" and its delays as [[delay]] lines, as templates/delay.toml has them'),
     generated("no delay lines", DELAYS.replace('"plain"', '"fixed"'), "NotAdjustable",
               'first.toml:12:1: target "fixed" takes no delay lines',
               '  write target = "plain", or take the delay lines out'),
@@ -410,20 +450,84 @@ def judged(name: str, text: str, latency: int, status: int, line: str, *explaine
     return Case(name, files, ["check", "first.toml", "my.vhd", "my.vec", str(latency)], status, line, list(explained))
 
 
+EXPECTED = "  expected, in this order: x : in std_logic_vector(3 downto 0), y : out std_logic_vector(3 downto 0)"
+HAS_ENABLE = [
+    "my.vhd:8:5: `ce` is a clock enable: `check` judges no file with one, and no rows for one",
+    "  check the circuit that `opgen generate` makes without --enable; tools/judge runs this one, with pauses",
+]
+WIDE = VHDL.replace("std_logic_vector(9", "std_logic_vector(3", 1).replace("unsigned(x)", '"000000" & unsigned(x)')
+NARROW_ENABLED = ENABLED.replace("(9 downto 0)", "(3 downto 0)")
 CHECKS = [
-    judged("no latency", JUDGED, 0, 8, "row 0 not good",
-           "my.vec:1: the outputs of cycle 0 are not good for the inputs up to 0 cycles before",
-           "  look at the latency in the report, and at the row's outputs"),
-    judged("a latency too many", JUDGED, 2, 8, "row 2 not good",
-           "my.vec:3: the outputs of cycle 2 are not good for the inputs up to 2 cycles before",
-           "  look at the latency in the report, and at the row's outputs"),
     judged("another port", JUDGED.replace("    y :", "    z :").replace("  y <=", "  z <="), 1, 6, "vhdl: Ports",
-           "my.vhd: its ports are not those of the specification, in names, directions, widths or order",
-           "  expected as `opgen generate` writes them, without ce"),
-    judged("a wide port", VHDL.replace("std_logic_vector(9", "std_logic_vector(3", 1).replace("unsigned(x)", '"000000" & unsigned(x)'),
-           1, 6, "vhdl: Ports",
-           "my.vhd: its ports are not those of the specification, in names, directions, widths or order",
-           "  expected as `opgen generate` writes them, without ce"),
+           "my.vhd:9:5: `z` is no port of the specification; rename it or take it out", EXPECTED),
+    judged("a wide port", WIDE, 1, 6, "vhdl: Ports",
+           "my.vhd:9:5: found y : out std_logic_vector(9 downto 0); expected y : out std_logic_vector(3 downto 0)", EXPECTED),
+    judged("a port too few", JUDGED.replace("    x : in std_logic_vector(3 downto 0);\n", "").replace("unsigned(x)", '"0000"'),
+           1, 7, "vectors: BadLine 1", "my.vec:1:1: the design has no input, so an empty line is expected"),
+    judged("the order of ports",
+           JUDGED.replace("    x : in std_logic_vector(3 downto 0);\n", "")
+           .replace("(3 downto 0)\n  );", "(3 downto 0);\n    x : in std_logic_vector(3 downto 0)\n  );"),
+           1, 6, "vhdl: Ports", "my.vhd: the order of the ports is y, x; expected x, y", EXPECTED),
+    judged("a clock enable, and rows without it", NARROW_ENABLED, 1, 7, "vectors: BadLine 1", *HAS_ENABLE),
+    Case("a clock enable, and rows with it", {"first.toml": TIMES_ONE, "my.vhd": NARROW_ENABLED, "my.vec": "1 1\n0 2\n"},
+         ["check", "first.toml", "my.vhd", "my.vec", "1"], 6, "vhdl: Ports", HAS_ENABLE),
+]
+WRONG = JUDGED.replace("y <= std_logic_vector(s1)", 'y <= std_logic_vector(s1 or "0001")')
+THIRD = TIMES_ONE.replace("exact = true", "exact = false") + "denominator = 3\n"
+NO_LATENCY = "  at no latency of 0 to 64 are all rows good"
+# A design of a quotient that always has 1 and 0; and one of a sum of three inputs that has the last of them alone.
+QUOTIENT = """\
+library ieee;
+use ieee.std_logic_1164.all;
+use ieee.numeric_std.all;
+entity first is
+  port (
+    clk : in std_logic;
+    a : in std_logic_vector(3 downto 0);
+    b : in std_logic_vector(3 downto 0);
+    q : out std_logic_vector(3 downto 0);
+    r : out std_logic_vector(3 downto 0)
+  );
+end entity;
+architecture rtl of first is
+begin
+  q <= std_logic_vector("0001");
+  r <= std_logic_vector("0000");
+end architecture;
+"""
+SUM = FIR.replace("signed = false", "signed = true").replace("[3]", "[1, 1, 1]").replace("lsb = 0\nout_lsb = 0", "lsb = -2\nout_lsb = -2")
+LAST = JUDGED.replace("y : out std_logic_vector(3", "y : out std_logic_vector(5").replace(
+    "std_logic_vector(s1)", "std_logic_vector(s1(3 downto 3) & s1(3 downto 3) & s1)"
+)
+# Rows that are not good. What is said of them needs the program, which runs them.
+JUDGED_CASES = [
+    judged("no latency", JUDGED, 0, 8, "row 0 not good",
+           "my.vec:1: the outputs of row 0 are not good for the inputs up to row 0, 0 before",
+           "  inputs of row 0: x = 1 (1)", "  found y = 0 (0); good: y = 1 (1); error: y -1 unit",
+           "  at latency 1 all rows are good (3 rows judged)"),
+    judged("a latency too many", JUDGED, 2, 8, "row 2 not good",
+           "my.vec:3: the outputs of row 2 are not good for the inputs up to row 0, 2 before",
+           "  inputs of row 0: x = 1 (1)", "  found y = 2 (2); good: y = 1 (1); error: y +1 unit",
+           "  at latency 1 all rows are good (3 rows judged)"),
+    judged("a wrong circuit", WRONG, 1, 8, "row 2 not good",
+           "my.vec:3: the outputs of row 2 are not good for the inputs up to row 1, 1 before",
+           "  inputs of row 1: x = 2 (2)", "  found y = 3 (3); good: y = 2 (2); error: y +1 unit", NO_LATENCY),
+    Case("a faithful output", {"first.toml": THIRD, "my.vhd": JUDGED.replace("y : out std_logic_vector(3", "y : out std_logic_vector(2")
+         .replace("std_logic_vector(s1)", 'std_logic_vector(s1(2 downto 0) or "100")'), "my.vec": "8\n8\n8\n"},
+         ["check", "first.toml", "my.vhd", "my.vec", "1"], 8, "row 1 not good",
+         ["my.vec:2: the outputs of row 1 are not good for the inputs up to row 0, 1 before", "  inputs of row 0: x = 8 (8)",
+          "  found y = 4 (4); good: y = 2 (2) or y = 3 (3); error: y +1.333 units", NO_LATENCY]),
+    Case("a remainder", {"first.toml": DIVIDE, "my.vhd": QUOTIENT, "my.vec": "5 5\n7 0\n7 3\n"},
+         ["check", "first.toml", "my.vhd", "my.vec", "0"], 8, "row 2 not good",
+         ["my.vec:3: the outputs of row 2 are not good for the inputs up to row 2, 0 before",
+          "  inputs of row 2: a = 7 (7), b = 3 (3)",
+          "  found q = 1 (1), r = 0 (0); good: q = 2 (2), r = 1 (1); error: q -1 unit, r -1 unit",
+          "  at latency 1 all rows are good (2 rows judged)"]),
+    Case("a filter", {"first.toml": SUM, "my.vhd": LAST, "my.vec": "8\n1\n0\n0\n"},
+         ["check", "first.toml", "my.vhd", "my.vec", "1"], 8, "row 2 not good",
+         ["my.vec:3: the outputs of row 2 are not good for the inputs up to row 1, 1 before",
+          "  inputs up to row 1, the newest first: x = 1 (0.25), x = 8 (-2), x = 0 (0)",
+          "  found y = 01 (0.25); good: y = 39 (-1.75); error: y +8 units", NO_LATENCY]),
 ]
 GENERATE = "  opgen generate SPEC [--workers N] [--enable]"
 VECTORS = "  opgen vectors SPEC [--seed N] [--cycles N]"
@@ -437,8 +541,8 @@ WORDS = [
     used("a file too few", "simulate my.vhd h.in",
          "opgen: too few words behind simulate: found 2, expected 3, VHDL VECTORS OUT", SIMULATE),
     used("an option of another command", "generate first.toml --seed 1",
-         "opgen: generate has no option --seed; its options are --workers, --enable", GENERATE),
-    used("an option of none", "simulate --fast a b c", "opgen: simulate has no option --fast; it has none", SIMULATE),
+         "opgen: generate has no option --seed; its options are --workers, --enable, -o", GENERATE),
+    used("an option of none", "simulate --fast a b c", "opgen: simulate has no option --fast; its options are -o", SIMULATE),
     used("no value", "vectors first.toml --seed",
          "opgen: option --seed has no value; expected a whole number, 0 to 4294967295", VECTORS),
     used("no number", "vectors first.toml --cycles=many", "opgen: --cycles is 'many'; expected a whole number, 1 to 100000",
@@ -448,6 +552,8 @@ WORDS = [
     used("no latency", "check first.toml my.vhd my.vec",
          "opgen: too few words behind check: found 3, expected 4, SPEC VHDL VECTORS LATENCY", CHECK),
     used("a large latency", "check first.toml my.vhd my.vec 100001", "opgen: LATENCY is 100001; expected 0 to 100000", CHECK),
+    used("a latency below 0", "check first.toml my.vhd my.vec -1", "opgen: LATENCY is -1; expected 0 to 100000", CHECK),
+    used("a workload below 0", "workload -1", "opgen: N is -1; expected 1 to 32", "  opgen workload N"),
     used("a large workload", "workload 33", "opgen: N is 33; expected 1 to 32", "  opgen workload N"),
 ]
 FILES = [
@@ -463,6 +569,8 @@ FILES = [
            "cannot write first.vec in this folder: a folder has this name"),
     failed("no such folder", {"my.vhd": VHDL, "h.in": "001\n"}, "simulate my.vhd h.in there/h.out", 4, "",
            "cannot write there/h.out: there is no folder there"),
+    failed("no disk", {"my.vhd": VHDL, "h.in": "001\n"}, "simulate my.vhd h.in /proc/h.out", 4, "",
+           "cannot write /proc/h.out: /proc is on no disk: files cannot be made there"),
     failed("a long specification", {"first.toml": SCALE + "#" * (1 << 20)}, "generate first.toml", 9, "too long",
            f"first.toml has {len(SCALE) + (1 << 20):,} bytes; expected at most 1,048,576"),
     failed("long rows", {"my.vhd": VHDL, "h.in": "001\n" * (1 << 24) + "\n"}, "simulate my.vhd h.in h.out", 9, "too long",

@@ -16,7 +16,12 @@ sys.path.insert(0, str(TOOLS))
 
 def tool_of(name: str) -> ModuleType:
     """A tool as a module."""
-    loader = SourceFileLoader(f"tool_{name}", str(TOOLS / name))
+    return module_of(TOOLS / name)
+
+
+def module_of(path: Path) -> ModuleType:
+    """A script without an ending as a module."""
+    loader = SourceFileLoader(f"tool_{path.name}", str(path))
     module = module_from_spec(spec_from_loader(loader.name, loader))
     sys.modules[loader.name] = module
     loader.exec_module(module)

@@ -9,8 +9,8 @@ import unittest
 from collections.abc import Iterator
 from pathlib import Path
 
-from opgenlib.explain import explain
-from tests.faulty import CASES, SCALE, VHDL, Case
+from opgenlib.explain import explain as explain_with
+from tests.faulty import CASES, JUDGED_CASES, SCALE, VHDL, Case
 
 TOP = Path(__file__).resolve().parent.parent.parent
 OPGEN = TOP / "bin/opgen"
@@ -18,6 +18,12 @@ OPGEN = TOP / "bin/opgen"
 BUILT = [path for path in (TOP / "crates/opgen/out/opgen", TOP / "crates/opgen/out/unproved/opgen") if path.exists()]
 PROGRAM = Path(os.environ.get("OPGEN_PROGRAM", [*BUILT, TOP / "no program"][0]))
 NO_PROGRAM = "the program is not built"
+NO_PYTHON = "opgen: Python 3.11 or later would explain this, and there is no python3\n"
+
+
+def explain(words: list[str], status: int, line: str | None) -> list[str]:
+    """What is explained where the program is not run again."""
+    return explain_with(words, status, None, line)
 
 
 @contextlib.contextmanager
@@ -27,7 +33,7 @@ def folder_of(files: dict[str, str | bytes]) -> Iterator[Path]:
     with tempfile.TemporaryDirectory() as name:
         folder = Path(name)
         for file, content in files.items():
-            (folder / file).parent.mkdir(exist_ok=True)
+            (folder / file).parent.mkdir(parents=True, exist_ok=True)
             (folder / file).write_bytes(content if isinstance(content, bytes) else content.encode())
         os.chdir(folder)
         try:
@@ -71,6 +77,8 @@ class Explained(unittest.TestCase):
     def test_at_most_three_lines(self) -> None:
         for case in CASES:
             self.assertIn(len(case.explained), (1, 2, 3), case.name)
+        for case in JUDGED_CASES:
+            self.assertIn(len(case.explained), (4, 5), case.name)
 
     def test_each_line_of_the_index(self) -> None:
         index = (TOP / "docs/MANUAL.md").read_text().partition("## Index of lines")[2].partition("\n## ")[0]
@@ -80,7 +88,7 @@ class Explained(unittest.TestCase):
         rules = set(re.findall(r"^\| `Unsound (\d+)", index, re.MULTILINE))
         self.assertEqual(rules - {case.line.split(" ")[2] for case in CASES if "Unsound" in case.line}, set())
         statuses = set(re.findall(r"^\| (\d) \|", index, re.MULTILINE))
-        self.assertEqual(statuses - {str(case.status) for case in CASES} - {"5"}, set())
+        self.assertEqual(statuses - {str(case.status) for case in CASES + JUDGED_CASES} - {"5"}, set())
 
     def test_memory(self) -> None:
         with folder_of({"first.toml": SCALE}):
@@ -88,8 +96,9 @@ class Explained(unittest.TestCase):
                              f"out of memory over first.toml with {len(SCALE)} bytes")
 
     def test_bad_row(self) -> None:
-        said = explain(["check", "first.toml", "my.vhd", "my.vec", "2"], 8, "row 16 not good\n")
-        self.assertEqual(said[0], "my.vec:17: the outputs of cycle 16 are not good for the inputs up to 2 cycles before")
+        with folder_of({"first.toml": SCALE, "my.vhd": VHDL}):
+            said = explain(["check", "first.toml", "my.vhd", "my.vec", "2"], 8, "row 16 not good\n")
+        self.assertEqual(said[0], "my.vec:17: the outputs of row 16 are not good for the inputs up to row 14, 2 before")
 
     def test_no_permission(self) -> None:
         if os.geteuid() != 0:
@@ -145,7 +154,7 @@ class Told(unittest.TestCase):
         self.assertEqual(done.stderr.splitlines()[: len(case.explained)], case.explained)
 
     def test_cases(self) -> None:
-        for case in CASES:
+        for case in CASES + JUDGED_CASES:
             with self.subTest(case.name):
                 self.check(case)
 
@@ -161,7 +170,7 @@ class Told(unittest.TestCase):
             self.assertEqual((done.returncode, done.stderr), (0, ""))
             self.assertEqual(done.stdout, "wrote first.vhd and first.rpt, latency 0\n")
             done = run(["generate", "no.toml"], env={"PATH": path})
-            self.assertEqual((done.returncode, done.stdout, done.stderr), (3, "read fault\n", ""))
+            self.assertEqual((done.returncode, done.stdout, done.stderr), (3, "read fault\n", NO_PYTHON))
 
     def test_a_pipe_is_not_read_twice(self) -> None:
         with folder_of({}):

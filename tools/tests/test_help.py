@@ -83,6 +83,23 @@ class Tools(unittest.TestCase):
                 self.assertIn(f"{tool.parent.name}/{tool.name}", done.stdout)
 
 
+    def test_list(self) -> None:
+        """`opgen help` lists the tools that are for designers, each with a sentence, and `opgen tool` runs them."""
+        listed = run(TOP, "help").stdout.partition("\nTools,")[2].partition("\n\n")[0]
+        names = re.findall(r"^  (\S+) +[A-Z]", listed, re.MULTILINE)
+        tools = [path for path in (TOP / "tools").iterdir() if path.is_file() and os.access(path, os.X_OK)]
+        hidden = {"explain", "gather-crates", "package", "read-promise"}
+        self.assertEqual(sorted(names), sorted({path.name.removesuffix(".py") for path in tools} - hidden))
+        for name in names:
+            done = run(TOP, "tool", name, "--help")
+            self.assertEqual((done.returncode, done.stderr), (0, ""))
+            self.assertIn(f"tools/{name}", done.stdout)
+        for name in ("none", "../bin/opgen", "explain", ""):
+            done = run(TOP, "tool", name)
+            self.assertEqual(done.returncode, 2 if name else 0)
+            self.assertIn("\nTools, as opgen tool NAME ..", done.stderr or done.stdout)
+
+
 class WithoutABuild(unittest.TestCase):
     """What bin/opgen answers in a checkout that has nothing built and no kit."""
 
@@ -104,11 +121,13 @@ class WithoutABuild(unittest.TestCase):
         self.assertEqual((done.returncode, done.stdout, done.stderr), (0, text, ""), words)
 
     def test_help(self) -> None:
-        general = (HELP / "opgen.txt").read_text()
+        examples = f"{self.folder}/examples/times3"
+        general = (HELP / "opgen.txt").read_text().replace("examples/times3", examples)
+        last = f"\nTools, as opgen tool NAME ..; each answers --help\n\nExamples, templates and documents are in {self.folder}\n"
         for words in ((), ("help",), ("--help",), ("-h",)):
-            self.answers(general, *words)
+            self.answers(general + last, *words)
         for name in [*commands(), "install", "prove"]:
-            own = (HELP / f"{name}.txt").read_text()
+            own = (HELP / f"{name}.txt").read_text().replace("examples/times3", examples)
             for words in ((name, "--help"), ("help", name), (name, "-h"), (name, "first.toml", "--help")):
                 self.answers(own, *words)
 

@@ -77,7 +77,7 @@ class Heads(unittest.TestCase):
         parts = (crate.purpose, crate.proved, crate.by)
         self.assertEqual(parts, ("What the crate is for, in one sentence.", "That it works. See docs/VHDL.md.", "`works`."))
         self.assertEqual(list(crate.faults(False)), [])
-        self.assertIn("**Proved:** That it works. See [VHDL.md](VHDL.md).", TOOL.section(crate))
+        self.assertIn("\n\nThat it works. See [VHDL.md](VHDL.md).", TOOL.section(crate))
 
     def test_faults(self) -> None:
         for head, is_test, words in (

@@ -21,20 +21,20 @@ def blocks() -> list[str]:
 @unittest.skipUnless(PROGRAM.exists(), NO_PROGRAM)
 class Check(unittest.TestCase):
     def test_commands(self) -> None:
-        specification, design, *steps = blocks()
-        commands = [step for step in steps for line in [step.split("\n")[0]] if re.match(r"for |sed |bin/", line)]
+        commands = [block for block in blocks() if re.match(r"\(seq|for |sed |bin/", block)]
         self.assertEqual(len(commands), 5)
         with tempfile.TemporaryDirectory() as name:
             folder = Path(name)
-            (folder / "bin").symlink_to(TOP / "bin")
-            (folder / "small.toml").write_text(specification + "\n")
-            (folder / "mine.vhd").write_text(design + "\n")
+            for shared in ("bin", "examples", "tools"):
+                (folder / shared).symlink_to(TOP / shared)
             for text in commands:
                 typed, _, answer = text.partition("\n\n")
                 done = subprocess.run(["sh", "-c", typed], cwd=folder, capture_output=True, text=True,
                                       env=os.environ | {"OPGEN_PROGRAM": str(PROGRAM)})
                 with self.subTest(typed):
                     self.assertEqual(done.stdout.strip(), answer.strip())
+                if "check examples/weeks.toml wrong.vhd" in typed:
+                    self.assertIn(done.stderr.rstrip("\n"), blocks())
 
 
 if __name__ == "__main__":

@@ -11,7 +11,8 @@ import unittest
 from pathlib import Path
 
 from tests.faulty import SCALE
-from tests.test_explain import NO_PROGRAM, PROGRAM, TOP
+from tests.loading import module_of
+from tests.test_explain import NO_PROGRAM, NO_PYTHON, PROGRAM, TOP
 
 # What bin/opgen calls besides the program, if there is no Python.
 COMMANDS = ("sh", "dirname", "readlink", "sed", "cat", "head")
@@ -82,7 +83,40 @@ class Installed(unittest.TestCase):
         done = self.run_in(folder, "generate", "no.toml")
         self.assertEqual((done.returncode, done.stdout, done.stderr),
                          (3, "read fault\n", "cannot open no.toml: no such file\n"))
-        self.assertEqual(self.run_in(folder, "--help").stdout, (TOP / "docs/help/opgen.txt").read_text())
+
+    def test_begin(self) -> None:
+        """What help begins with runs as it is printed, and so do a tool and -o."""
+        folder = self.folder / "begin"
+        (folder / "out").mkdir(parents=True)
+        said = self.run_in(folder, "help").stdout
+        library = self.prefix / "lib/opgen"
+        self.assertIn(f"  opgen generate {library}/examples/times3.toml\n", said)
+        self.assertTrue(said.endswith(f"\nExamples, templates and documents are in {library}\n"))
+        self.assertIn("\n".join(f"  {line}" for line in (library / "examples/times3.toml").read_text().splitlines()), said)
+        done = self.run_in(folder, "generate", f"{library}/examples/times3.toml", "-o", "out")
+        self.assertEqual((done.returncode, done.stdout), (0, "wrote times3.vhd and times3.rpt, latency 0\n"))
+        shutil.copy(library / "examples/times3.toml", folder / "out")
+        done = self.run_in(folder, "tool", "wrap", "out/times3", "-o", "out")
+        self.assertEqual((done.returncode, done.stdout, done.stderr), (0, "wrote times3_wrap.vhd\n", ""))
+        self.assertEqual(self.run_in(folder, "tool", "package").returncode, 2)
+
+    def test_links(self) -> None:
+        """Each link of an installed document leads to an installed file."""
+        checker = module_of(TOP / ".ci/docs")
+        documents = sorted((self.prefix / "lib/opgen").rglob("*.md"))
+        self.assertIn("README.md", [path.name for path in documents])
+        self.assertEqual([fault for path in documents for fault in checker.broken_links(path)], [])
+
+    def test_schema(self) -> None:
+        """The first line of an installed template names the schema from anywhere, that of an unpacked one from its folder."""
+        other = self.folder / "with & space"
+        self.run_in(self.folder, "install", "--unproved", str(other))
+        for path in sorted((other / "lib/opgen/templates").glob("*.toml")):
+            named = path.read_text().splitlines()[0].removeprefix("#:schema ")
+            self.assertEqual(Path(named), other / "lib/opgen/docs/opgen.schema.json")
+            self.assertTrue(Path(named).is_file())
+        for path in sorted((self.prefix / "lib/opgen/templates").glob("*.toml")):
+            self.assertTrue((path.parent / path.read_text().splitlines()[0].removeprefix("#:schema ")).is_file(), path.name)
 
     def test_version(self) -> None:
         said = self.run_in(self.folder, "--version").stdout
@@ -119,6 +153,8 @@ class Installed(unittest.TestCase):
         self.assertRegex(text, r"(?m)^Depends: libc6 \(>= [\d.]+\)$")
         with tarfile.open(fileobj=io.BytesIO(found["data.tar.gz"])) as data:
             names = set(data.getnames())
+            template = data.extractfile("./usr/lib/opgen/templates/fir.toml").read().decode()
+        self.assertTrue(template.startswith("#:schema /usr/lib/opgen/docs/opgen.schema.json\n"))
         self.assertLessEqual({"./usr/bin/opgen", "./usr/lib/opgen/program", "./usr/share/man/man1/opgen.1"}, names)
 
     def test_an_empty_root(self) -> None:
@@ -135,7 +171,7 @@ class Installed(unittest.TestCase):
         if "Operation not permitted" in done.stderr:
             print("package: not tried in a root of its own, which is not allowed here", file=sys.stderr)
             self.skipTest("no root of its own is allowed")
-        self.assertEqual((done.returncode, done.stderr), (3, ""))
+        self.assertEqual((done.returncode, done.stderr), (3, NO_PYTHON))
         self.assertEqual(done.stdout, "wrote first.vhd and first.rpt, latency 0\nread fault\n")
         self.assertTrue((root / "work/first.rpt").read_text().startswith("operator first\nkind scale\n"))
         self.assertEqual(in_root(root, "/usr/bin/opgen", "--version").stdout,

@@ -8,6 +8,9 @@ from pathlib import Path
 from tests import loading
 from tests.loading import EXAMPLES
 
+from opgenlib.drawings import error, graph, parts, schedule
+from opgenlib.drawings.example import Example
+
 TOOL = loading.tool_of("pictures")
 SCALE = """version = 1
 name = "same"
@@ -60,12 +63,25 @@ class Pictures(unittest.TestCase):
         status, out, _ = run("error", self.folder / "third.toml")
         self.assertEqual(status, 0)
         bars = re.findall(r'<rect .* width="([\d.]+)" height="([\d.]+)" fill="steelblue"', out)
-        self.assertTrue(300 <= len(bars) <= TOOL.MOST_BARS)
+        self.assertTrue(300 <= len(bars) <= error.MOST_BARS)
         self.assertTrue(all(float(width) >= 1 and float(height) > 60 for width, height in bars))
-        self.assertIn("each 59 outputs, over 19999 cycles: from -0.333 to 0.333 ulp", out)
+        self.assertIn("each 59 outputs, from the exact value of x times the constant", out)
+        self.assertIn("(19999 cycles)", out)
+        self.assertIn("From -0.333 to 0.333 ulp", out)
 
     def test_error_of_none(self):
-        self.assertIn("over 2 cycles: from 0.000 to 0.000 ulp", self.scale("1 : 1\n2 : 2\n")[1])
+        self.assertIn("(2 cycles)", self.scale("1 : 1\n2 : 2\n")[1])
+        self.assertIn("From 0.000 to 0.000 ulp", self.scale("1 : 1\n2 : 2\n")[1])
+
+    def test_error_of_a_polynomial(self):
+        """It is that of the polynomial, and not of the function that it stands for."""
+        self.assertIn("polynomial (not of the function", run("error", EXAMPLES / "sine.toml")[1])
+
+    def test_errors_of_each_kind(self):
+        for name in ("inches", "lowpass", "halfband", "gain", "duty", "magnitude", "transform", "weeks", "sine", "held"):
+            found = error.found_errors(Example(EXAMPLES / f"{name}.toml"))
+            self.assertTrue(found, name)
+            self.assertEqual(any(found), name in ("inches", "lowpass", "gain", "sine", "held"), name)
 
     def test_error_refusals(self):
         for rows, words in (
@@ -80,21 +96,51 @@ class Pictures(unittest.TestCase):
             self.assertIn(words, said)
 
     def test_panels(self):
-        """Of 36 cycles with three bars each there are three panels, each with its own cycles."""
-        bars = [TOOL.Bar(f"s{at}", TOOL.Slot(at // 3, at % 3, at % 3 + 1, ("add", 8))) for at in range(108)]
-        panels = TOOL.panels_of(bars, 35)
+        """Of 36 cycles with three bars each there are five panels, each with its own cycles."""
+        bars = [schedule.Bar(f"s{at}", schedule.Slot(at // 3, at % 3, at % 3 + 1, ("add", 8))) for at in range(108)]
+        panels = schedule.panels_of(bars, 35)
         found = [(cycles.start, cycles.stop, len(rows)) for cycles, rows in panels]
-        self.assertEqual(found, [(0, 12, 36), (12, 24, 36), (24, 36, 36)])
+        self.assertEqual(found, [(0, 7, 21), (7, 14, 21), (14, 21, 21), (21, 28, 21), (28, 36, 24)])
 
     def test_tall(self):
-        bars = [TOOL.Bar(f"s{at}", TOOL.Slot(at // 50, 0, 1, ("add", at))) for at in range(100)]
-        panels = TOOL.panels_of(bars, 1)
-        self.assertEqual([(list(cycles), len(rows)) for cycles, rows in panels], [([0], 50), ([1], 50)])
+        bars = [schedule.Bar(f"s{at}", schedule.Slot(at // 40, 0, 1, ("add", at))) for at in range(80)]
+        panels = schedule.panels_of(bars, 1)
+        self.assertEqual([(list(cycles), len(rows)) for cycles, rows in panels], [([0], 40), ([1], 40)])
 
     def test_groups(self):
         """A hundred cells of one kind and time are one bar."""
-        slots = {f"s{at}": TOOL.Slot(0, 0, 400, ("logic", 1)) for at in range(100)} | {"s100": TOOL.Slot(0, 400, 900, ("add", 8))}
-        self.assertEqual([bar.words for bar in TOOL.bars_of(slots)], ["100 of 1 bit", "s100"])
+        slots = {f"s{at}": schedule.Slot(0, 0, 400, ("logic", 1)) for at in range(100)} | {"s100": schedule.Slot(0, 400, 900, ("add", 8))}
+        self.assertEqual([bar.words for bar in schedule.bars_of(slots, {})], ["100 of 1 bit", "s100"])
+        found = {f"s{at}": parts.Part("column", at // 20, "carry" if at % 2 else "sum") for at in range(100)}
+        self.assertEqual(schedule.bars_of(slots, found)[0].words, "columns 0 to 4: sum, carry (100 cells)")
+
+    def test_stacked(self):
+        """The panels of a long schedule lie below each other, and each bar says what it is."""
+        out = run("schedule", EXAMPLES / "magnitude.toml")[1]
+        for words in ("digit 7: subtract", "digit 0: select", "cycle 2", "setup time, 80 ps"):
+            self.assertIn(f">{words}</text>", out)
+        drawing = schedule.Schedule(Example(EXAMPLES / "duty.toml"))
+        one, three = drawing.picture(drawing.panels), drawing.picture(drawing.panels * 3)
+        self.assertEqual(one.width, three.width)
+        self.assertGreater(three.height, 2 * one.height)
+
+    def test_parts(self):
+        """What cells are, in circuits of which it was worked out by hand."""
+        for name, node, words in (
+            ("inches", "s5", "column 1: sum"),
+            ("inches", "s6", "column 1: carry"),
+            ("inches", "s25", "last sum, of all columns"),
+            ("inches", "s4", "table of x(9..6)"),
+            ("lowpass", "s23", "tap 1: table of x(11..6)"),
+            ("product", "s2", "column 0: product of bits"),
+            ("halfband", "s9", "2047 x"),
+            ("halfband", "s21", "tap 14: sum"),
+            ("halfband", "s51", "tap 0: sum"),
+            ("magnitude", "s18", "digit 4: subtract"),
+            ("weeks", "s4", "table of x(14..12)"),
+        ):
+            self.assertEqual(parts.parts_of(Example(EXAMPLES / f"{name}.toml"))[node].words, words, (name, node))
+
 
     def test_weights(self):
         out = run("heap", EXAMPLES / "volume.toml")[1]
@@ -102,7 +148,8 @@ class Pictures(unittest.TestCase):
         self.assertIn(">-16</text>", out)
 
     def test_graph(self):
-        out = run("graph", EXAMPLES / "transform.toml")[1]
+        self.assertEqual(run("graph", EXAMPLES / "transform.toml", "-o", self.folder / "graph.dot"), (0, "", ""))
+        out = (self.folder / "graph.dot").read_text()
         self.assertIn('n1 -> n25 [label="+ << 4"];', out)
         self.assertIn('n9 -> n25 [label="+"];', out)
         self.assertIn('n9 -> y2 [label="<< 2"];', out)
@@ -121,18 +168,22 @@ class Pictures(unittest.TestCase):
         self.assertEqual((status, "the first row" in out, ">r</text>" in out), (0, False, True))
 
     def test_graph_of_a_filter(self):
-        out = run("graph", EXAMPLES / "halfband.toml")[1]
+        drawing = run("graph", EXAMPLES / "halfband.toml")[1]
+        for words in ("tap 7: 2047 x", "- &lt;&lt; 1", "2 cycles", "103 x"):
+            self.assertIn(f">{words}</text>", drawing)
+        run("graph", EXAMPLES / "halfband.toml", "-o", self.folder / "graph.dot")
+        out = (self.folder / "graph.dot").read_text()
         self.assertIn('z7 [label="tap 7: 2047"', out)
         self.assertIn('n103 -> z4 [label="- << 1"];', out)
-        self.assertIn('z2 -> z0 [label="2 cycles", style=dashed];', out)
+        self.assertIn('z2 -> z0 [label="  2 cycles", style=dashed];', out)
         self.assertIn("  z0 -> y;", out)
 
     def test_sums(self):
-        self.assertEqual(TOOL.sum_of(1, 1, 7), TOOL.Sum(1, 3, False, 1, True))
-        self.assertEqual(TOOL.sum_of(1, 11, 9), TOOL.Sum(1, 1, True, 11, False))
-        self.assertEqual(TOOL.sum_of(5, 7, 3), TOOL.Sum(5, 1, False, 7, True))
-        self.assertEqual(TOOL.sum_of(11, 13, 3), TOOL.Sum(11, 0, False, 13, False, 3))
-        self.assertIsNone(TOOL.sum_of(1, 1, 11))
+        self.assertEqual(graph.sum_of(1, 1, 7), graph.Sum(1, 3, False, 1, True))
+        self.assertEqual(graph.sum_of(1, 11, 9), graph.Sum(1, 1, True, 11, False))
+        self.assertEqual(graph.sum_of(5, 7, 3), graph.Sum(5, 1, False, 7, True))
+        self.assertEqual(graph.sum_of(11, 13, 3), graph.Sum(11, 0, False, 13, False, 3))
+        self.assertIsNone(graph.sum_of(1, 1, 11))
 
     def test_output(self):
         self.assertEqual(run("heap", EXAMPLES / "volume.toml", "-o", self.folder / "heap.svg"), (0, "", ""))
@@ -143,6 +194,7 @@ class Pictures(unittest.TestCase):
             (("heap", EXAMPLES / "third.toml"), 1),
             (("error", EXAMPLES / "missing.toml"), 1),
             (("error", EXAMPLES / "third.vhd"), 1),
+            (("error", EXAMPLES / "third.toml", "-o", self.folder / "error.dot"), 1),
             (("error",), 2),
             ((), 2),
             (("--examples",), 2),

@@ -3,6 +3,7 @@ import os
 import re
 import subprocess
 import tempfile
+import textwrap
 import unittest
 from pathlib import Path
 
@@ -14,14 +15,14 @@ README = (TOP / "README.md").read_text()
 def blocks() -> list[str]:
     """The indented texts of the quick start."""
     start = README.partition("## Quick start")[2].partition("\n## ")[0]
-    return ["\n".join(line[4:] for line in block.splitlines()) for block in re.findall(r"(?m)(?:^    .*\n)+", start)]
+    return [textwrap.dedent(block).strip() for block in re.findall(r"(?m)(?:^    .*\n)+", start)]
 
 
 @unittest.skipUnless(PROGRAM.exists(), NO_PROGRAM)
 class QuickStart(unittest.TestCase):
     def test_commands(self) -> None:
-        commands = [block for block in blocks() if re.match(r"mkdir|\.\./bin/|for ", block)]
-        self.assertEqual(len(commands), 3)
+        commands = [block for block in blocks() if re.match(r"mkdir|\.\./bin/", block)]
+        self.assertEqual(len(commands), 2)
         with tempfile.TemporaryDirectory() as name:
             folder = Path(name)
             for shared in ("bin", "examples"):
@@ -33,13 +34,11 @@ class QuickStart(unittest.TestCase):
             self.assertEqual(sorted(path.name for path in folder.iterdir()), ["bin", "examples", "try"])
             made = (folder / "try/times3.out").read_text().splitlines()
             self.assertEqual(made, (TOP / "examples/times3.out").read_text().splitlines())
-            specifications = len(list(TOP.glob("examples/*.toml")))
-            self.assertEqual(len(list((folder / "try").glob("*.rpt"))), specifications)
         self.assertTrue(done.stdout.startswith("wrote times3.vhd and times3.rpt, latency 0\nsimulated "))
 
     def test_specification(self) -> None:
         """The specification that is shown is the example."""
-        self.assertIn((TOP / "examples/times3.toml").read_text().strip(), [block.strip() for block in blocks()])
+        self.assertIn((TOP / "examples/times3.toml").read_text().strip(), blocks())
 
 
 if __name__ == "__main__":

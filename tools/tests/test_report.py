@@ -1,9 +1,13 @@
 """Reports are read into values, and what is none is refused with its line."""
+import json
 import unittest
 from fractions import Fraction
 
 from opgenlib import report
+from tests import loading
 from tests.loading import EXAMPLES
+
+TOOL = loading.tool_of("report")
 
 GAIN = """operator gain
 kind multiply
@@ -53,6 +57,25 @@ class Reports(unittest.TestCase):
         self.refused(GAIN.replace("choice 0 ", ""), 11, "a number for each of wire")
         self.refused("version = 1\n", 1, "no line of a report")
         self.refused(GAIN.replace("latency 1\n", ""), 12, "no latency")
+
+    def test_json(self):
+        """A script gets the facts and the ports."""
+        status, out, said = loading.run(TOOL, "--json", EXAMPLES / "duty.rpt")
+        self.assertEqual((status, said), (0, ""))
+        found = json.loads(out)
+        self.assertEqual({key: found[key] for key in ("operator", "kind", "exact", "target", "period", "latency", "slack")},
+                         {"operator": "duty", "kind": "divide", "exact": True, "target": "plain", "period": 8000, "latency": 2,
+                          "slack": 50})
+        self.assertEqual(found["ports"][0], {"name": "a", "direction": "input", "signed": False, "width": 12, "lsb": 0,
+                                             "unit": "1", "least": 0, "greatest": 4095})
+        self.assertEqual([port["name"] for port in found["ports"]], ["a", "b", "q", "r"])
+        self.assertEqual(found["cells"]["add"], 120)
+
+    def test_words(self):
+        out = loading.run(TOOL, EXAMPLES / "lowpass.rpt")[1]
+        self.assertIn("latency 1 cycle, slack 200 ps\nin  x: signed, 12 bits, lsb 2^-11, from -1 to 1 - 2^-11\n", out)
+        self.assertEqual(loading.run(TOOL, EXAMPLES / "lowpass.toml")[0], 1)
+        self.assertEqual(loading.run(TOOL, "none.rpt")[0], 1)
 
     def test_examples(self):
         for path in sorted(EXAMPLES.glob("*.rpt")):

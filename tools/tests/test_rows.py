@@ -1,5 +1,9 @@
 """Rows are read and written, and numbers become rows and come back, by the formats of a report."""
+import re
+import shutil
+import subprocess
 import tempfile
+import tomllib
 import unittest
 from fractions import Fraction
 from pathlib import Path
@@ -8,6 +12,7 @@ from opgenlib import rows
 from opgenlib.report import Port
 from tests import loading
 from tests.loading import EXAMPLES
+from tests.test_explain import NO_PROGRAM, PROGRAM
 
 SAMPLE = Port("x", True, True, 12, -11)
 TOOL = loading.tool_of("rows")
@@ -105,6 +110,120 @@ class Decoding(unittest.TestCase):
                     self.assertEqual(run("decode", path, path.with_suffix(".out"), "-o", numbers, *more)[0], 0)
                     self.assertEqual(run("encode", "--exact", path, numbers, "-o", back, *more)[0], 0)
                     self.assertEqual(back.read_text(), path.with_suffix(".in").read_text(), path.name)
+
+
+class Drawing(unittest.TestCase):
+    def drawn(self, name, *words):
+        status, out, said = run("draw", EXAMPLES / f"{name}.toml", *words)
+        self.assertEqual(status, 0, said)
+        return out.splitlines()
+
+    def test_as_vectors(self):
+        """Without --ends the rows are those that `opgen vectors` draws, the divisor 0 replaced too."""
+        for path in sorted(EXAMPLES.glob("*.toml")):
+            rows_of_vectors = [line.partition(" :")[0] for line in path.with_suffix(".vec").read_text().splitlines()]
+            self.assertEqual(self.drawn(path.stem, "--cycles", len(rows_of_vectors)), rows_of_vectors, path.stem)
+
+    def test_ends(self):
+        self.assertEqual(self.drawn("times3", "--ends", "--cycles", "0"), ["0", "1", "e", "f"])
+        pairs = self.drawn("gain", "--ends", "--cycles", "0")
+        self.assertEqual(len(set(pairs)), 7 * 7)
+        for a in ("800", "801", "fff", "000", "001", "7fe", "7ff"):
+            for b in ("200", "201", "3ff", "000", "001", "1fe", "1ff"):
+                self.assertIn(f"{a} {b}", pairs)
+
+    def test_no_divisor_0(self):
+        rows_of_quotient = self.drawn("quotient", "--ends", "--cycles", "200")
+        self.assertEqual({line.split()[1] for line in rows_of_quotient} & {"0"}, set())
+        self.assertEqual({line.split()[1] for line in rows_of_quotient[:9]}, {"1", "2", "6", "7"})
+
+    def test_a_filter(self):
+        """The greatest and the least sum of a half-band filter of 12 signed bits: 2047 or -2048 by the sign of each tap."""
+        taps = tomllib.loads((EXAMPLES / "halfband.toml").read_text())["taps"]
+        found = [int(line, 16) for line in self.drawn("halfband", "--ends", "--cycles", "0")]
+        numbers = [word - 4096 if word >= 2048 else word for word in found]
+        sums = [sum(tap * x for tap, x in zip(taps, numbers[at :: -1])) for at in range(len(taps) - 1, len(numbers))]
+        self.assertEqual(max(sums), sum(tap * (2047 if tap > 0 else -2048) for tap in taps))
+        self.assertEqual(min(sums), sum(tap * (-2048 if tap > 0 else 2047) for tap in taps))
+
+    def test_refusals(self):
+        for words in (("--seed", "-1"), ("--cycles", "many"), ("--seed", "4294967296")):
+            self.assertEqual(run("draw", EXAMPLES / "times3.toml", *words)[0], 2, words)
+        status, out, said = run("draw", EXAMPLES / "times3.vhd")
+        self.assertEqual((status, out), (1, ""))
+        self.assertIn("times3.vhd:1:", said)
+        self.assertEqual(run("draw", EXAMPLES / "times3.toml", "--ends", "--cycles", "100000")[0], 1)
+
+
+class Judging(unittest.TestCase):
+    def test_good(self):
+        status, out, said = run("judge", EXAMPLES / "third.toml", EXAMPLES / "third.out", "--latency", "1")
+        self.assertEqual((status, out, said), (0, "good 4, by exact fractions, a test that is not proved\n", ""))
+
+    def test_bad(self):
+        status, out, said = run("judge", EXAMPLES / "third.toml", "--latency", "1", text="3 : 0\n3 : 1\n5 : 2\n0 : 5\n")
+        self.assertEqual((status, out), (8, "row 2 not good, by exact fractions, a test that is not proved\n"))
+        self.assertEqual(said.splitlines(), [
+            "rows: inputs of row 1: x = 3 (3)",
+            "rows: found y = 2 (2); good: y = 1 (1); error: y +1 unit",
+            "rows: at no latency of 0 to 64 are all rows good",
+        ])
+
+    def test_refusals(self):
+        for text, words in (
+            ("3\n", "line 1 has no outputs"),
+            ("3 : 9\n", "standard input, line 1: '9' does not fit into 3 bits"),
+            ("3 : x\n", "standard input, line 1: 'x' is no word"),
+        ):
+            status, out, said = run("judge", EXAMPLES / "third.toml", "--latency", "1", text=text)
+            self.assertEqual((status, out), (1, ""))
+            self.assertIn(words, said)
+        self.assertEqual(run("judge", EXAMPLES / "third.toml", EXAMPLES / "third.out")[0], 2)
+        self.assertEqual(run("judge", EXAMPLES / "third.toml", EXAMPLES / "third.out", "--latency", "-1")[0], 2)
+
+
+# Of a text of VHDL another that is sound too: the first word of the first table, an operator, or a constant's bits.
+CHANGES = ((r'(?<=<=\n    ")[01]', lambda bit: "10"[int(bit[0])]), (r" xor ", lambda _: " or "), (r" \+ ", lambda _: " - "))
+
+
+@unittest.skipUnless(PROGRAM.exists(), NO_PROGRAM)
+class AsCheck(unittest.TestCase):
+    """`judge` says of the rows of a circuit what `opgen check` says of the circuit."""
+
+    def called(self, *words):
+        return subprocess.run([PROGRAM, *words], capture_output=True, text=True, cwd=self.folder)
+
+    def setUp(self):
+        self.folder = tempfile.mkdtemp()
+        self.addCleanup(shutil.rmtree, self.folder)
+
+    def compared(self, spec, circuit, stimulus):
+        """The verdict of both at each of some latencies: the lines, none of a text that is not sound."""
+        if self.called("simulate", circuit, stimulus, "rows.out").returncode:
+            return []
+        lines = []
+        for latency in range(5):
+            done = self.called("check", spec, circuit, stimulus, str(latency))
+            status, out, _ = run("judge", spec, Path(self.folder) / "rows.out", "--latency", latency)
+            self.assertEqual((status, out.partition(", by")[0]), (done.returncode, done.stdout.strip()), (spec.name, latency))
+            lines.append(done.stdout)
+        return lines
+
+    def test_examples_and_changed_ones(self):
+        verdicts = []
+        for spec in sorted(EXAMPLES.glob("*.toml")):
+            if spec.with_suffix(".options").exists():
+                continue
+            stimulus, circuit = Path(self.folder) / "rows.in", Path(self.folder) / "other.vhd"
+            self.assertEqual(run("draw", spec, "--ends", "--cycles", "40", "-o", stimulus)[0], 0)
+            verdicts += self.compared(spec, spec.with_suffix(".vhd"), stimulus)
+            for pattern, other in CHANGES:
+                text, count = re.subn(pattern, other, spec.with_suffix(".vhd").read_text(), count=1)
+                if count:
+                    circuit.write_text(text)
+                    verdicts += self.compared(spec, circuit, stimulus)
+        self.assertGreater(sum(line.startswith("good") for line in verdicts), 15)
+        self.assertGreater(sum(line.startswith("row") for line in verdicts), 60)
 
 
 class Coefficients(unittest.TestCase):

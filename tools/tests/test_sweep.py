@@ -7,6 +7,7 @@ import tempfile
 import tomllib
 import unittest
 from pathlib import Path
+from unittest import mock
 
 from tests import loading
 from tests.loading import EXAMPLES
@@ -110,6 +111,28 @@ class Runs(unittest.TestCase):
             subprocess.run(line, shell=True, check=True, cwd="/")
         self.assertEqual(self.run_tool("--collect", "later", "--csv")[1], self.swept("--csv")[1])
 
+    def test_device(self):
+        """The runs have the delay lines of the device, and the words of a run name the device that places."""
+        with mock.patch.object(TOOL.placing, "is_installed", lambda: True):
+            lines = self.swept("--commands", "--device", "hx8k", "--place", "up5k", "--seeds", "2")[1].splitlines()
+        self.assertTrue(lines[0].endswith("--no-yosys --place up5k --seeds 2"), lines[0])
+        spec = tomllib.loads((self.folder / "sweep_times3/0001/spec.toml").read_text())
+        self.assertEqual({line["class"] for line in spec["delay"]}, {"wire", "logic", "add", "choice", "table", "register"})
+
+    def test_missing_tool(self):
+        with mock.patch.object(TOOL.placing, "is_installed", lambda: False):
+            status, out, said = self.swept("--place", "hx8k", "--csv")
+        self.assertEqual((status, said.startswith("sweep: not placed")), (0, True))
+        self.assertNotIn("reached", out)
+
+    @unittest.skipUnless(TOOL.placing.is_installed(), "nextpnr-ice40 is not installed")
+    def test_placed(self):
+        words = ("period=10000,20000", "--place", "hx8k", "--seeds", "1", "--best", "latency,reached", "--csv", "--no-yosys")
+        status, out, _ = self.run_tool(EXAMPLES / "times3.toml", *words, "--opgen", TOOL.TOP / "bin/opgen")
+        rows = [line.split(",") for line in out.splitlines()]
+        self.assertEqual((status, rows[0][-3:]), (0, ["reached", "cells", "best"]))
+        self.assertTrue(all(500 < int(row[-3]) < 10_000 and 6 <= int(row[-2]) <= 12 for row in rows[1:]), rows)
+
     def test_refusals(self):
         self.swept()
         status, _, said = self.swept()
@@ -121,12 +144,25 @@ class Runs(unittest.TestCase):
             ((EXAMPLES / "missing.toml", "period=1"), 1),
             ((EXAMPLES / "times3.vhd", "period=1"), 1),
             ((EXAMPLES / "times3.toml", "period"), 2),
+            ((EXAMPLES / "times3.toml", "perod=1,2"), 2),
+            ((EXAMPLES / "times3.toml", "divisor=3"), 2),
+            ((EXAMPLES / "times3.toml", "compressor=dadda"), 2),
+            ((EXAMPLES / "times3.toml", "width=3", "width=4"), 2),
             (("--collect", "nowhere"), 2),
             (("--collect", "sweep_times3", "--best", "latency,lut6"), 2),
             (("--collect", "sweep_times3", "--best", "latency"), 2),
         ):
             self.assertEqual(self.run_tool(*words)[0], status, words)
         self.assertIn("KEY=VALUES", self.run_tool("--help")[1])
+        said = self.run_tool(EXAMPLES / "times3.toml", "perod=1,2", "-o", "other")[2]
+        self.assertIn("no key perod; the keys are version, name, kind, exact, target, period, signed,", said)
+        self.assertFalse((self.folder / "other").exists())
+
+    def test_keys_of_other_kinds_and_versions(self):
+        """A key is known if one of the kinds and versions that are swept has it."""
+        spec = {"kind": "scale", "version": 1}
+        TOOL.check_keys(spec, [("version", [1, 2]), ("compressor", ["dadda"])])
+        TOOL.check_keys(spec, [("kind", ["scale", "mcm"]), ("extra", [1])])
 
 
 if __name__ == "__main__":

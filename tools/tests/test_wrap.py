@@ -1,9 +1,13 @@
 """The files that `tools/wrap` writes have the facts of the report, and files that do not fit together are refused."""
 import os
+import runpy
 import shutil
+import sys
 import tempfile
+import types
 import unittest
 from pathlib import Path
+from unittest import mock
 
 from tests import loading
 from tests.loading import EXAMPLES
@@ -11,7 +15,9 @@ from tests.loading import EXAMPLES
 TOOL = loading.tool_of("wrap")
 
 
-class Wrappers(unittest.TestCase):
+class Folder(unittest.TestCase):
+    """A folder of its own, in which the tool runs."""
+
     def setUp(self):
         self.folder = Path(tempfile.mkdtemp())
         self.addCleanup(shutil.rmtree, self.folder)
@@ -30,6 +36,8 @@ class Wrappers(unittest.TestCase):
         path = self.folder / file
         path.write_text(path.read_text().replace(old, new, 1))
 
+
+class Wrappers(Folder):
     def test_package(self):
         self.assertEqual(self.run_tool(EXAMPLES / "duty"), (0, "wrote duty_wrap.vhd\n"))
         text = (self.folder / "duty_wrap.vhd").read_text()
@@ -59,6 +67,37 @@ class Wrappers(unittest.TestCase):
         self.assertEqual(self.run_tool("times3")[0], 0)
         self.assertTrue((self.folder / "times3_wrap.vhd").read_text().isascii())
 
+    def test_verilog(self):
+        self.assertEqual(self.run_tool("--verilog", "--bench", EXAMPLES / "gain"),
+                         (0, "wrote gain.v, gain_pkg.vh, gain_wrap.v and gain_bench.v\n"))
+        text = (self.folder / "gain_wrap.v").read_text()
+        self.assertIn("  input wire signed [11:0] a,\n", text)
+        self.assertIn("  output wire signed [12:0] y\n", text)
+        self.assertIn("// gain: y = a * b\n", text)
+        constants = (self.folder / "gain_pkg.vh").read_text()
+        for line in ("GAIN_LATENCY 1", "GAIN_PERIOD 2500", "GAIN_B_WIDTH 10", "GAIN_B_LSB -9", "GAIN_Y_SIGNED 1"):
+            self.assertIn(f"`define {line}\n", constants)
+
+    def test_valid(self):
+        self.run_tool("--valid", EXAMPLES / "duty")
+        text = (self.folder / "duty_wrap.vhd").read_text()
+        self.assertIn("signal valid : std_logic_vector(1 to 2) := (others => '0');", text)
+        self.assertEqual(text.count("    valid_in : in std_logic;"), 2)
+        self.run_tool("--valid", "--verilog", EXAMPLES / "duty")
+        self.assertIn("reg [1:0] valid = 2'd0;", (self.folder / "duty_wrap.v").read_text())
+
+    def test_core(self):
+        self.run_tool("--core", "--bench", EXAMPLES / "duty")
+        text = (self.folder / "duty.core").read_text()
+        self.assertTrue(text.startswith("CAPI=2:\n\nname: opgen:operators:duty:1.0.0\n"))
+        self.assertIn("      - duty.vhd\n      - duty_wrap.vhd\n    file_type: vhdlSource-93\n", text)
+        self.assertIn("    default_tool: ghdl\n", text)
+        for extra, tool in ((("--verilog",), "icarus"), (("--verilog", "--bench"), "icarus")):
+            self.run_tool("--core", *extra, EXAMPLES / "duty")
+            text = (self.folder / "duty.core").read_text()
+            self.assertIn("      - duty_pkg.vh: {is_include_file: true}\n    file_type: verilogSource\n", text)
+            self.assertEqual(f"default_tool: {tool}" in text, "--bench" in extra)
+
     def test_refusals(self):
         self.assertEqual(self.run_tool("missing")[0], 1)
         for file, old, new, words in (
@@ -75,6 +114,57 @@ class Wrappers(unittest.TestCase):
             self.assertEqual(status, 1, words)
             self.assertIn(words, said)
             self.assertFalse((self.folder / "times3_wrap.vhd").exists())
+
+
+class Handle:
+    """A port of a circuit under cocotb."""
+
+    def __init__(self, value=0):
+        self.value = value
+
+
+class Cocotb(Folder):
+    """The test for cocotb, which is not installed here: a stand-in with the names that it uses runs it over rows."""
+
+    def test_not_installed(self):
+        with mock.patch("importlib.util.find_spec", return_value=None):
+            status, said = self.run_tool("--cocotb", EXAMPLES / "duty")
+        self.assertEqual((status, said), (0, "wrote duty_wrap.vhd\n"
+                                             "wrap: no test for cocotb is written, as that is not installed\n"))
+
+    def ran(self, rows):
+        """Runs the test over a circuit that has the outputs of the example's rows."""
+        known = [[int(word, 16) for word in line.partition(" : ")[2].split()] for line in rows]
+        dut = types.SimpleNamespace(**{name: Handle() for name in ("clk", "a", "b", "q", "r")})
+
+        class Timer:
+            """Time that passes: with the clock low the outputs of the next row come."""
+
+            def __init__(self, *_):
+                pass
+
+            def __await__(self):
+                if not dut.clk.value:
+                    dut.q.value, dut.r.value = known.pop(0)
+                return iter(())
+
+        stand_in = types.ModuleType("cocotb")
+        stand_in.test = lambda: lambda function: function
+        triggers = types.ModuleType("cocotb.triggers")
+        triggers.Timer = Timer
+        with mock.patch.dict(sys.modules, {"cocotb": stand_in, "cocotb.triggers": triggers}):
+            space = runpy.run_path(str(self.folder / "test_duty.py"))
+        with self.assertRaises(StopIteration):
+            space["outputs_of_rows"](dut).send(None)
+
+    def test_rows(self):
+        shutil.copy(EXAMPLES / "duty.vec", self.folder)
+        with mock.patch("importlib.util.find_spec", return_value=True):
+            self.assertEqual(self.run_tool("--cocotb", EXAMPLES / "duty"), (0, "wrote duty_wrap.vhd and test_duty.py\n"))
+        rows = (EXAMPLES / "duty.vec").read_text().splitlines()
+        self.ran(rows)
+        with self.assertRaisesRegex(AssertionError, "row 5: "):
+            self.ran([*rows[:5], "000 01 : 000 01", *rows[6:]])
 
 
 if __name__ == "__main__":

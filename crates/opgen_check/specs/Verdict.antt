@@ -1,7 +1,8 @@
 -- The verdict on a design's run over rows of inputs, for a latency.
-use Rattle.std.specs.Prelude.{ℕ, ◌≡◌, ◌+◌, ◌-◌, ◌*◌, ◌<◌, ◌≤◌, List, length, take, drop}
+use Rattle.std.specs.Prelude.{ℕ, ◌≡◌, ◌+◌, ◌-◌, ◌*◌, ◌<◌, ◌≤◌, List, length, map, take, drop}
 use Rattle.opgen_design.specs.declared.design.Design.{Design}
 use Rattle.opgen_design.specs.Sound.{IsSound}
+use Rattle.opgen_num.specs.Words.{AreRowsOfCells}
 use Rattle.opgen_operator.specs.declared.spec.Spec.{Spec}
 use Rattle.opgen_operator.specs.Operator.{inputs_of, outputs_of}
 use Rattle.opgen_runs.specs.Rows.{IsRunOf}
@@ -15,6 +16,13 @@ row_of columns row cells = take columns (drop (row * columns) cells)
 
 abbrev pub rows_up_to : (columns row : ℕ) (cells : List ℕ) → List ℕ
 rows_up_to columns row cells = take ((row + 1) * columns) cells
+
+-- so many rows of numbers of the widths that the specification gives its inputs, and of those of its outputs
+abbrev pub AreInputRows : Spec → (rows : ℕ) (cells : List ℕ) → Type 0
+AreInputRows spec rows cells = AreRowsOfCells (map (λ p. p.format.width) (inputs_of spec)) rows cells
+
+abbrev pub AreOutputRows : Spec → (rows : ℕ) (cells : List ℕ) → Type 0
+AreOutputRows spec rows cells = AreRowsOfCells (map (λ p. p.format.width) (outputs_of spec)) rows cells
 
 -- of so many rows those from the latency on are judged
 pub record IsJudged (latency rows row : ℕ) : Type 0 where

@@ -3,7 +3,8 @@ ghost use Rattle.std.specs.Prelude.{◌≡◌, ◌↔◌, ◌++◌, IfOk, IsTrue
 ghost use Rattle.std.specs.List.{AllZip};
 ghost use Rattle.opgen_design.specs.declared.design.Dir.TheVariants.{In, Out};
 ghost use Rattle.opgen_operator.specs.Valid.{IsValidSpec};
-ghost use Rattle.opgen_check.specs.Ports.{IsSamePort, port_of, operator_ports};
+ghost use Rattle.opgen_operator.specs.DesignPorts.{port_of, operator_ports};
+ghost use Rattle.opgen_check.specs.Ports.{IsSamePort};
 
 use opgen_design::{Dir, Port};
 use opgen_num::Memory;

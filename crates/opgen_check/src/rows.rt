@@ -8,7 +8,7 @@ ghost use Rattle.opgen_operator.specs.Valid.{IsValidSpec};
 ghost use Rattle.opgen_vec.specs.GoodRow.{IsGoodRow};
 ghost use Rattle.opgen_vec.specs.Writing.{row_count};
 ghost use Rattle.opgen_check.specs.Ports.{PortsAgree};
-ghost use Rattle.opgen_check.specs.Verdict.{IsChecked, IsVerdict, rows_up_to};
+ghost use Rattle.opgen_check.specs.Verdict.{AreInputRows, AreOutputRows, IsChecked, IsVerdict, rows_up_to};
 
 use crate::checked::{CheckFault, Checked};
 use crate::ports::agree;
@@ -23,7 +23,7 @@ use std::alloc::Global;
 fn are_good_for(spec: &Spec, inputs: &Vectors, row: u32, outputs: &[u128]) -> bool
     requires valid { IsValidSpec spec.now }
     requires columns { inputs.now.columns ≡ length (inputs_of spec.now) }
-    requires rows { AreRowsOfCells (map (λ p. p.format.width) (inputs_of spec.now)) (row_count inputs.now.columns inputs.now.cells.items) inputs.now.cells.items }
+    requires rows { AreInputRows spec.now (row_count inputs.now.columns inputs.now.cells.items) inputs.now.cells.items }
     requires there { row < row_count inputs.now.columns inputs.now.cells.items }
     requires outputs { FitWidths (map (λ p. p.format.width) (outputs_of spec.now)) outputs.now }
     ensures { IsTrue result ↔ IsGoodRow spec.now (rows_up_to (length (inputs_of spec.now)) row inputs.now.cells.items) outputs.now }
@@ -46,10 +46,10 @@ fn judge_rows(
 ) -> Checked
     requires valid { IsValidSpec spec.now }
     requires in_columns { inputs.now.columns ≡ length (inputs_of spec.now) }
-    requires inputs { AreRowsOfCells (map (λ p. p.format.width) (inputs_of spec.now)) (row_count inputs.now.columns inputs.now.cells.items) inputs.now.cells.items }
+    requires inputs { AreInputRows spec.now (row_count inputs.now.columns inputs.now.cells.items) inputs.now.cells.items }
     requires few { row_count inputs.now.columns inputs.now.cells.items < 2 ^ 32 }
     requires columns { columns ≡ length (outputs_of spec.now) }
-    requires outputs { AreRowsOfCells (map (λ p. p.format.width) (outputs_of spec.now)) (row_count inputs.now.columns inputs.now.cells.items) outputs.now }
+    requires outputs { AreOutputRows spec.now (row_count inputs.now.columns inputs.now.cells.items) outputs.now }
     ensures { IsVerdict spec.now latency (row_count inputs.now.columns inputs.now.cells.items) inputs.now.cells.items outputs.now result }
 {
     let rows = inputs.row_count() as u32;
@@ -72,29 +72,30 @@ fn judge_rows(
 fn judge(
     alloc: Global,
     spec: &Spec,
-    design: &Design,
+    design: Design,
     inputs: &Vectors,
     latency: u32,
 ) -> Result<Checked, Memory>
     requires valid { IsValidSpec spec.now }
-    requires sound { IsSound design.now }
-    requires ports { PortsAgree spec.now design.now }
-    requires columns { inputs.now.columns ≡ length (input_widths design.now) }
-    requires rows { AreRowsOfCells (input_widths design.now) (row_count inputs.now.columns inputs.now.cells.items) inputs.now.cells.items }
+    requires sound { IsSound design }
+    requires ports { PortsAgree spec.now design }
+    requires columns { inputs.now.columns ≡ length (input_widths design) }
+    requires rows { AreRowsOfCells (input_widths design) (row_count inputs.now.columns inputs.now.cells.items) inputs.now.cells.items }
     requires few { row_count inputs.now.columns inputs.now.cells.items < 2 ^ 32 }
-    ensures checked { IfOk result (IsChecked spec.now design.now latency (row_count inputs.now.columns inputs.now.cells.items) inputs.now.cells.items) }
-    ensures numbers { IfOk result (λ checked. HasNumbers design.now) }
+    ensures checked { IfOk result (IsChecked spec.now design latency (row_count inputs.now.columns inputs.now.cells.items) inputs.now.cells.items) }
+    ensures numbers { IfOk result (λ checked. HasNumbers design) }
 {
     let rows = inputs.row_count() as u32;
-    let outputs = run_rows(alloc, design.copy(alloc)?, rows, &inputs.cells)?;
     let columns = design.ports.len() - inputs.columns as usize;
+    let outputs = run_rows(alloc, design, rows, &inputs.cells)?;
     Ok(judge_rows(spec, inputs, latency, columns, &outputs))
 }
 
 /// Runs a design over rows of its inputs, and judges each row of outputs from the latency on by the inputs up to so many rows
 /// before it.
 ///
-/// The latency is the caller's word: a row is good or not for that latency alone. A row whose divisor is 0 is good.
+/// The latency is the caller's word: a row is good or not for that latency alone. A row whose divisor is 0 is good. The design
+/// is used up by its run.
 ///
 /// # Errors
 ///
@@ -103,19 +104,19 @@ fn judge(
 pub fn check_rows(
     alloc: Global,
     spec: &Spec,
-    design: &Design,
+    design: Design,
     inputs: &Vectors,
     latency: u32,
 ) -> Result<Checked, CheckFault>
     requires valid { IsValidSpec spec.now }
-    requires sound { IsSound design.now }
-    requires columns { inputs.now.columns ≡ length (input_widths design.now) }
-    requires rows { AreRowsOfCells (input_widths design.now) (row_count inputs.now.columns inputs.now.cells.items) inputs.now.cells.items }
+    requires sound { IsSound design }
+    requires columns { inputs.now.columns ≡ length (input_widths design) }
+    requires rows { AreRowsOfCells (input_widths design) (row_count inputs.now.columns inputs.now.cells.items) inputs.now.cells.items }
     requires few { row_count inputs.now.columns inputs.now.cells.items < 2 ^ 32 }
-    ensures ports { result ≡ Err CheckFault.Ports → ¬ PortsAgree spec.now design.now }
-    ensures agree { IfOk result (λ checked. PortsAgree spec.now design.now) }
-    ensures checked { IfOk result (IsChecked spec.now design.now latency (row_count inputs.now.columns inputs.now.cells.items) inputs.now.cells.items) }
-    ensures numbers { IfOk result (λ checked. HasNumbers design.now) }
+    ensures ports { result ≡ Err CheckFault.Ports → ¬ PortsAgree spec.now design }
+    ensures agree { IfOk result (λ checked. PortsAgree spec.now design) }
+    ensures checked { IfOk result (IsChecked spec.now design latency (row_count inputs.now.columns inputs.now.cells.items) inputs.now.cells.items) }
+    ensures numbers { IfOk result (λ checked. HasNumbers design) }
 {
     if !agree(alloc, spec, design.ports.as_slice())? {
         return Err(CheckFault::Ports);

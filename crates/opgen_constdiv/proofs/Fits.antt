@@ -1,4 +1,4 @@
--- The net fits every valid specification of its operator.
+-- The net fits the operator.
 use Rattle.std.proofs.Common.{◌≡◌, ℕ, Bool, true, false, List, map, refl, sym, ap, ◌∙◌, subst, arith}
 use Rattle.std.specs.Prelude.{ℤ, pos, ◌-ℤ◌, if◌then◌else◌}
 use Rattle.std.proofs.lemmas.Int.{ints}
@@ -10,14 +10,13 @@ use Rattle.opgen_net.specs.Flow.{Inputs, input_at}
 use Rattle.opgen_net.specs.Placed.{number_at}
 use Rattle.opgen_operator.specs.declared.kinds.small_div.SmallDiv.{SmallDiv}
 use Rattle.opgen_operator.specs.declared.operator.Operator.TheVariants.{Constdiv}
-use Rattle.opgen_operator.specs.Fits.{FitsOperator, FitsSpecsOf, name_and_width}
+use Rattle.opgen_operator.specs.Fits.{FitsOperator, FitsInEachMode, name_and_width}
 use Rattle.opgen_operator.specs.kinds.SmallDiv.{IsAcceptedSmallDiv, IsGoodSmallQuotient, small_ports, IsSmallDiv}
 use Rattle.opgen_operator.specs.Operator.{operator_inputs}
-use Rattle.opgen_operator.specs.PortNumbers.{recent_words, output_words}
-use Rattle.opgen_operator.specs.Recent.{Recent}
-use Rattle.opgen_operator.specs.Valid.{AgreesOnExact}
+use Rattle.opgen_operator.specs.PortWords.{recent_words, output_words}
+use Rattle.opgen_ports.specs.Recent.{Recent}
 use Rattle.opgen_operator.proofs.Accepted.{accepted_ranges}
-use Rattle.opgen_operator.proofs.InputPorts.{input_bit}
+use Rattle.opgen_ports.proofs.InputPorts.{input_bit}
 use Rattle.opgen_constdiv.specs.Rows.{IsSmall}
 use Rattle.opgen_constdiv.specs.Recipe.{digit_number, Divided, after, net_of}
 use Rattle.opgen_constdiv.specs.Steps.{IsInput}
@@ -100,8 +99,6 @@ module _ (s : SmallDiv) (is : IsSmallDiv s) where
     good = λ inputs t words within range. good s.exact inputs t (for_inputs w c input small s.exact inputs words);
   }
 
-pub fits_specs : (s : SmallDiv) → IsAcceptedSmallDiv s → FitsSpecsOf (Constdiv s) (net_of s.exact s.input.width s.divisor)
-fits_specs s is spec valid e =
-    let made = net_of s.exact s.input.width s.divisor in
-    let agrees : s.exact ≡ spec.exact = subst (λ op. AgreesOnExact spec.exact op) e valid.agrees in
-    subst (λ op. FitsOperator spec.exact op made) (sym e) (subst (λ x. FitsOperator x (Constdiv s) made) agrees (fits s (accepted s is)))
+pub fits_modes : (s : SmallDiv) → IsAcceptedSmallDiv s → FitsInEachMode (Constdiv s) (net_of s.exact s.input.width s.divisor)
+fits_modes s is exact mode =
+    subst (λ x. FitsOperator x (Constdiv s) (net_of s.exact s.input.width s.divisor)) mode.agrees (fits s (accepted s is))

@@ -3,14 +3,14 @@
 //!
 //! Proved: For every division by a constant of 2 to 32 that a version accepts, the net is that of the recipe. After each
 //! digit, at every time and for all inputs, the input so far is the quotient so far times the divisor plus a remainder below
-//! the divisor. The net fits every valid specification of these fields.
+//! the divisor. The net fits the operator.
 //!
 //! By: `build`.
 #![tactic(auto)]
 
 ghost use Rattle.std.specs.Prelude.{◌≡◌, IfOk};
 ghost use Rattle.opgen_operator.specs.declared.operator.Operator.TheVariants.{Constdiv};
-ghost use Rattle.opgen_operator.specs.Fits.{FitsSpecsOf};
+ghost use Rattle.opgen_operator.specs.Fits.{FitsInEachMode};
 ghost use Rattle.opgen_operator.specs.kinds.SmallDiv.{IsAcceptedSmallDiv};
 ghost use Rattle.opgen_constdiv.specs.Recipe.{net_of};
 ghost use Rattle.opgen_constdiv.specs.Steps.{HoldsAfterEachDigit};
@@ -34,7 +34,7 @@ pub fn build(alloc: Global, small: &SmallDiv) -> Result<Net, Memory>
     requires { IsAcceptedSmallDiv small.now }
     ensures net { IfOk result (λ net. net ≡ net_of small.now.exact small.now.input.width small.now.divisor) }
     ensures digits { IfOk result (HoldsAfterEachDigit small.now.input.width small.now.divisor) }
-    ensures fits { IfOk result (FitsSpecsOf (Constdiv small.now)) }
+    ensures fits { IfOk result (FitsInEachMode (Constdiv small.now)) }
 {
     let net = division_net(alloc, small.input.width, small.divisor, small.exact)?;
     Ok(net)

@@ -23,7 +23,7 @@ use Rattle.opgen_net.proofs.FlowWidths.{flow-width}
 use Rattle.opgen_net.proofs.Grown.{grown-same, grown-flow, grown-width, grown-all_there, grown-then}
 use Rattle.opgen_operator.specs.declared.kinds.pair.Pair.{Pair}
 use Rattle.opgen_operator.specs.kinds.Pair.{pair_shift}
-use Rattle.opgen_operator.specs.Shifts.{places_up}
+use Rattle.opgen_ports.specs.Shifts.{places_up}
 use Rattle.opgen_net.specs.Placed.{number_at, with_bits}
 use Rattle.opgen_digits.specs.Digit.{Known, with_difference, tried, left_of, AreOperands, HasDigit}
 use Rattle.opgen_net.proofs.BitLists.{length-bits_from, bits_from-there, zeros-there, bit-kept}

@@ -21,15 +21,14 @@ use Rattle.opgen_net.proofs.FlowWidths.{flow-width}
 use Rattle.opgen_net.proofs.Grown.{flow-then, grown-flow, grown-count}
 use Rattle.opgen_operator.specs.declared.kinds.pair.Pair.{Pair}
 use Rattle.opgen_operator.specs.declared.operator.Operator.TheVariants.{Divide}
-use Rattle.opgen_operator.specs.Fits.{FitsOperator, FitsSpecsOf, name_and_width}
+use Rattle.opgen_operator.specs.Fits.{FitsOperator, FitsInEachMode, name_and_width}
 use Rattle.opgen_operator.specs.kinds.Pair.{IsAcceptedPair, IsGoodQuotient, pair_shift, quotient_ports, IsPair}
 use Rattle.opgen_operator.specs.Operator.{operator_inputs}
-use Rattle.opgen_operator.specs.PortNumbers.{recent_words, output_words}
-use Rattle.opgen_operator.specs.Recent.{Recent}
-use Rattle.opgen_operator.specs.Shifts.{places_up, up}
-use Rattle.opgen_operator.specs.Valid.{AgreesOnExact}
+use Rattle.opgen_operator.specs.PortWords.{recent_words, output_words}
+use Rattle.opgen_ports.specs.Recent.{Recent}
+use Rattle.opgen_ports.specs.Shifts.{places_up, up}
 use Rattle.opgen_operator.proofs.Accepted.{accepted_ranges, accepted_width}
-use Rattle.opgen_operator.proofs.InputPorts.{input_bit}
+use Rattle.opgen_ports.proofs.InputPorts.{input_bit}
 use Rattle.opgen_net.specs.Placed.{number_at}
 use Rattle.opgen_digits.specs.Digit.{Known}
 use Rattle.opgen_digits.specs.Results.{AreResults, with_results}
@@ -232,12 +231,10 @@ module _ (p : Pair) (have : HasWidths p) where
     good = λ inputs t words within range. good p.exact refl results signed_a signed_b inputs t (for_inputs inputs words) range;
   }
 
-pub fits_specs : (p : Pair) → IsAcceptedPair p → FitsSpecsOf (Divide p) (net_of_pair p)
-fits_specs p is spec valid e =
+pub fits_modes : (p : Pair) → IsAcceptedPair p → FitsInEachMode (Divide p) (net_of_pair p)
+fits_modes p is exact mode =
     let ranges : IsPair p = accepted_ranges (Divide p) is in
-    let agrees : p.exact ≡ spec.exact = subst (λ op. AgreesOnExact spec.exact op) e valid.agrees in
-    let all = fits p (has_widths p is) ranges.a_unsigned ranges.b_unsigned in
-    subst (λ op. FitsOperator spec.exact op (net_of_pair p)) (sym e) (subst (λ x. FitsOperator x (Divide p) (net_of_pair p)) agrees all)
+    subst (λ x. FitsOperator x (Divide p) (net_of_pair p)) mode.agrees (fits p (has_widths p is) ranges.a_unsigned ranges.b_unsigned)
 
 pub all_steps : (p : Pair) → IsAcceptedPair p → HoldsAfterEachStep p (net_of_pair p)
 all_steps p is = steps_hold p (has_widths p is)

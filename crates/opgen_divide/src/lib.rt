@@ -3,7 +3,7 @@
 //!
 //! Proved: For every pair that a version accepts, the net is that of the recipe. After each step, at every time and for all
 //! inputs whose divisor is not 0, the numerator so far is the quotient so far times the divisor plus a rest below the
-//! divisor. The net fits every valid specification of that pair.
+//! divisor. The net fits the operator.
 //!
 //! By: `build`.
 #![tactic(auto)]
@@ -14,7 +14,7 @@ ghost use Rattle.opgen_net.specs.declared.word_bits.WordBit.TheVariants.{Zero};
 ghost use Rattle.opgen_net.specs.Valid.{IsValid, widths};
 ghost use Rattle.opgen_net.specs.WordRule.{IsThere};
 ghost use Rattle.opgen_operator.specs.declared.operator.Operator.TheVariants.{Divide};
-ghost use Rattle.opgen_operator.specs.Fits.{FitsSpecsOf};
+ghost use Rattle.opgen_operator.specs.Fits.{FitsInEachMode};
 ghost use Rattle.opgen_operator.specs.kinds.Pair.{IsAcceptedPair};
 ghost use Rattle.opgen_divide.specs.Recipe.{with_inputs, numerator as numerator_of, digit_count, with_divisor, stepped, after, net_of_pair};
 ghost use Rattle.opgen_divide.specs.Steps.{HoldsAfterEachStep};
@@ -156,7 +156,7 @@ pub fn build(alloc: Global, pair: &Pair) -> Result<Net, Memory>
     requires { IsAcceptedPair pair.now }
     ensures net { IfOk result (λ net. net ≡ net_of_pair pair.now) }
     ensures steps { IfOk result (HoldsAfterEachStep pair.now) }
-    ensures fits { IfOk result (FitsSpecsOf (Divide pair.now)) }
+    ensures fits { IfOk result (FitsInEachMode (Divide pair.now)) }
 {
     let mut net = inputs(alloc, pair)?;
     let divisor = divisor(alloc, pair, &mut net)?;

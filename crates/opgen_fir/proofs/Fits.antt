@@ -1,4 +1,4 @@
--- The net of a sum fits its specifications.
+-- The net of a sum fits its operators.
 use Rattle.std.proofs.Common.{◌≡◌, ℕ, zero, suc, ◌+◌, ◌-◌, ◌^◌, ◌<◌, ◌≤◌, Bool, true, false, List, [], ◌∷◌, ◌++◌, length, map, take, drop, refl, sym, ap, ◌∙◌, subst, arith}
 use Rattle.std.specs.Prelude.{ℤ, pos, ◌+ℤ◌, ◌-ℤ◌, ◌*ℤ◌, IsTrue, None, All, codes, slice_index}
 use Rattle.std.specs.Int.{int_div_euclid}
@@ -28,16 +28,15 @@ use Rattle.opgen_design.specs.Run.{AreWords}
 use Rattle.opgen_compress.specs.Kept.{IsSumOf}
 use Rattle.opgen_operator.specs.declared.kinds.sum.Sum.{Sum}
 use Rattle.opgen_operator.specs.declared.operator.Operator.TheVariants.{Scale, Fir}
-use Rattle.opgen_operator.specs.Fits.{FitsOperator, FitsSpecsOfSum}
-use Rattle.opgen_operator.specs.Good.{IsGoodRatio}
+use Rattle.opgen_operator.specs.Fits.{FitsOperator, FitsInEachMode}
+use Rattle.opgen_ports.specs.Good.{IsGoodRatio}
 use Rattle.opgen_operator.specs.Held.{OutputsHold}
 use Rattle.opgen_operator.specs.kinds.Sum.{exact_sum, first_inexact, guard_bits, sum_format, IsSum}
-use Rattle.opgen_operator.specs.Operator.{inexact}
-use Rattle.opgen_operator.specs.PortNumbers.{recent_words}
-use Rattle.opgen_operator.specs.Ports.{one_input}
-use Rattle.opgen_operator.specs.Recent.{Recent}
-use Rattle.opgen_operator.specs.Spans.{IsOf}
-use Rattle.opgen_operator.proofs.InputPorts.{input_bit}
+use Rattle.opgen_operator.specs.PortWords.{recent_words}
+use Rattle.opgen_ports.specs.Ports.{one_input}
+use Rattle.opgen_ports.specs.Recent.{Recent}
+use Rattle.opgen_ports.specs.Spans.{IsOf}
+use Rattle.opgen_ports.proofs.InputPorts.{input_bit}
 use Rattle.opgen_kcm.specs.Recipe.{Terms, HasTermsMore}
 use Rattle.opgen_kcm.specs.Multiple.{sum_at}
 use Rattle.opgen_heap.proofs.Residues.{residue-then}
@@ -123,7 +122,7 @@ module _ (s : Sum) (ranges : IsSum 256 s) (hold : OutputsHold) (some : 1 ≤ (su
         let cut : take (sum_width s - 1 + 1 - g) (drop g w) ≡ drop g w =
         take_all (sum_width s - 1 + 1 - g) (drop g w) (omega (arith, rest, some)) in
         let good = sum-good s ranges (recent s inputs u) e total.summed false (not-asked s) in
-        let holds : Holds (sum_format s).signed out y = hold.sums s ranges (recent s inputs u) input-holds y good in
+        let holds : Holds (sum_format s).signed out y = hold (Fir s) ranges (recent s inputs u) input-holds y good in
         ap (λ v. val v (sum_format s)) cut
         ∙ value_from_residue (drop g w) (sum_format s) y k (omega (arith, rest, some))
         (ap (λ i. y +ℤ (pos (2 ^ i) *ℤ k)) rest ∙ dropped)
@@ -158,15 +157,12 @@ module _ (s : Sum) (ranges : IsSum 256 s) (hold : OutputsHold) (some : 1 ≤ (su
       ∙ ap (λ (os : List Output). record { inputs = (codes "x", s.input.width) ∷ []; nodes = after.nodes; outputs = os ++ y ∷ [] })
       (grown.outputs ∙ more.net.outputs)
 
-  pub fits-sum : (net : Net) → net ≡ with_output s (record { net = after; place = n }) → IsValid net → FitsSpecsOfSum s net
+  pub fits-sum : (net : Net) → net ≡ with_output s (record { net = after; place = n }) → IsValid net
+      → FitsInEachMode (Scale s) net × FitsInEachMode (Fir s) net
   fits-sum net made whole =
       let e = made ∙ made-is in (
-        λ spec v op. subst (λ o. FitsOperator spec.exact o net) (sym op)
-            (subst (FitsOperator spec.exact (Scale s)) (sym e)
-            (scale spec.exact (λ h. sym (ap inexact op) ∙ v.has_exact h) (subst IsValid e whole))),
-        λ spec v op. subst (λ o. FitsOperator spec.exact o net) (sym op)
-            (subst (FitsOperator spec.exact (Fir s)) (sym e)
-            (fir spec.exact (λ h. sym (ap inexact op) ∙ v.has_exact h) (subst IsValid e whole))),
+        λ exact mode. subst (FitsOperator exact (Scale s)) (sym e) (scale exact mode.whole (subst IsValid e whole)),
+        λ exact mode. subst (FitsOperator exact (Fir s)) (sym e) (fir exact mode.whole (subst IsValid e whole)),
       )
     where
       last : Net

@@ -4,8 +4,8 @@ use Rattle.opgen_heap.specs.Adding.{residue}
 use Rattle.opgen_net.specs.Flow.{Inputs, before, input_at}
 use Rattle.opgen_operator.specs.declared.kinds.sum.Sum.{Sum}
 use Rattle.opgen_operator.specs.kinds.Sum.{sum_shift, terms, guard_bits, first_inexact}
-use Rattle.opgen_operator.specs.Recent.{Recent}
-use Rattle.opgen_operator.specs.Shifts.{up, down}
+use Rattle.opgen_ports.specs.Recent.{Recent}
+use Rattle.opgen_ports.specs.Shifts.{up, down}
 use Rattle.opgen_kcm.specs.Chunks.{chunk_count, number}
 use Rattle.opgen_kcm.specs.Multiple.{IsMultiple}
 use Rattle.opgen_fir.specs.Recipe.{is_zero, factor}

@@ -2,8 +2,8 @@
 
 ghost use Rattle.std.specs.Prelude.{◌≡◌, ◌*◌, ◌^◌, ◌<◌, ◌≤◌, ℤ, pos, ◌*ℤ◌, unsigned_abs};
 ghost use Rattle.opgen_operator.specs.kinds.Sum.{IsAcceptedSum};
-ghost use Rattle.opgen_operator.specs.Ranges.{IsWithin};
-ghost use Rattle.opgen_operator.specs.Shifts.{places_up, places_down};
+ghost use Rattle.opgen_ports.specs.Ranges.{IsWithin};
+ghost use Rattle.opgen_ports.specs.Shifts.{places_up, places_down};
 ghost use Rattle.opgen_fir.specs.Recipe.{factor};
 
 use opgen_num::Ratio;

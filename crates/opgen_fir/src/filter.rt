@@ -1,6 +1,7 @@
 //! Builds the net of a scale or filter: delayed inputs, tables of coefficients, a bit heap, its compression, and the output.
 ghost use Rattle.std.specs.Prelude.{◌≡◌, ◌∷◌, [], map, codes, IfOk};
-ghost use Rattle.opgen_operator.specs.Fits.{FitsSpecsOfSum};
+ghost use Rattle.opgen_operator.specs.declared.operator.Operator.TheVariants.{Scale, Fir};
+ghost use Rattle.opgen_operator.specs.Fits.{FitsInEachMode};
 ghost use Rattle.opgen_operator.specs.kinds.Sum.{IsAcceptedSum};
 ghost use Rattle.opgen_fir.specs.Recipe.{net_of_sum};
 
@@ -23,7 +24,7 @@ use std::alloc::Global;
 pub fn build(alloc: Global, sum: &Sum) -> Result<Net, Memory>
     requires sum { IsAcceptedSum sum.now }
     ensures net { IfOk result (λ net. net ≡ net_of_sum sum.now) }
-    ensures fits { IfOk result (FitsSpecsOfSum sum.now) }
+    ensures fits { IfOk result (λ net. FitsInEachMode (Scale sum.now) net × FitsInEachMode (Fir sum.now) net) }
     ensures inputs { IfOk result (λ net. net.inputs ≡ (codes "x", sum.now.input.width) ∷ []) }
     ensures outputs { IfOk result (λ net. map (λ o. o.name) net.outputs ≡ codes "y" ∷ []) }
 {

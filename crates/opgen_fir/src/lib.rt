@@ -1,8 +1,8 @@
 //! The nets of scales and filters of finite response: tables of the coefficients' multiples, added in a bit heap (de
 //! Dinechin and Kumm, Application-Specific Arithmetic).
 //!
-//! Proved: For every sum that a version accepts, with either compressor: the net is that of the recipe, and it fits every
-//! valid specification of that sum, scales and filters, the first cycles with their past of zeros included.
+//! Proved: For every sum that a version accepts, with either compressor: the net is that of the recipe, and it fits the
+//! operator, scale or filter, the first cycles with their past of zeros included.
 //!
 //! By: `build`.
 #![tactic(auto)]

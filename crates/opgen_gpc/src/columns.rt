@@ -1,7 +1,6 @@
 //! Chooses which bits of a heap's columns are counted together by one counter.
 ghost use Rattle.std.specs.Prelude.{◌≡◌, ◌≤◌, ◌++◌, [], false, length, drop, IfOk, OnOk};
 ghost use Rattle.opgen_num.specs.declared.TheConstants.{MAX_WIDTH};
-ghost use Rattle.opgen_heap.specs.Adding.{with_bit};
 ghost use Rattle.opgen_gpc.specs.Counters.{sixes, after_sixes, first_bit, is_five, five_of, unless_five, untaken, apart};
 ghost use Rattle.opgen_gpc.specs.Recipe.{with_column, with_columns};
 
@@ -64,23 +63,12 @@ fn take_five(
     Ok(true)
 }
 
-// Appends a bit to a column of a heap.
-fn keep_bit(kept: &mut Heap, column: u32, bit: WordBit) -> Result<(), Memory>
-    ensures { OnOk result (kept.new ≡ with_bit kept.old bit column) }
-{
-    match bit {
-        WordBit::Of { node, index } => kept.add_bit(node, index, column),
-        // No heap holds a bit that is none of a node: `Heap::add_bit` takes nodes' bits alone.
-        WordBit::Zero | WordBit::One => Err(Memory),
-    }
-}
-
 // Appends bits to a column of a heap.
 fn keep(kept: &mut Heap, column: u32, bits: &[WordBit]) -> Result<(), Memory>
     ensures { OnOk result (kept.new ≡ with_column kept.old column bits.now) }
 {
     'bits: for bit in bits {
-        keep_bit(kept, column, *bit)?;
+        kept.append(*bit, column)?;
     }
     Ok(())
 }

@@ -1,8 +1,7 @@
--- The net of several constants fits every valid specification of them.
-use Rattle.std.proofs.Common.{◌≡◌, ℕ, Bool, true, false, ◌++◌, map, sym, ap, ◌∙◌, subst, arith}
+-- The net of several constants fits the operator.
+use Rattle.std.proofs.Common.{◌≡◌, ℕ, Bool, true, false, ◌++◌, map, sym, ap, ◌∙◌, arith}
 use Rattle.std.specs.Prelude.{ℤ, pos, ◌-ℤ◌, ◌*ℤ◌, All}
 use Rattle.std.proofs.lemmas.Int.{ints}
-use Rattle.std.proofs.lemmas.List.Elements.{All-weaker}
 use Rattle.opgen_num.specs.declared.TheConstants.{MAX_WIDTH}
 use Rattle.opgen_num.specs.Rounding.{IsGoodLinear}
 use Rattle.opgen_num.specs.Values.{val}
@@ -11,17 +10,13 @@ use Rattle.opgen_net.specs.declared.net.Net.{Net}
 use Rattle.opgen_net.specs.Flow.{flow, input_at, slice_flow}
 use Rattle.opgen_operator.specs.declared.kinds.several.Several.{Several}
 use Rattle.opgen_operator.specs.declared.operator.Operator.TheVariants.{Mcm}
-use Rattle.opgen_operator.specs.declared.ports.PortFormat.{PortFormat}
-use Rattle.opgen_operator.specs.Bounded.{HasWidth, OutputsAreWide}
-use Rattle.opgen_operator.specs.Fits.{FitsOperator, FitsSpecsOf}
+use Rattle.opgen_operator.specs.Bounded.{HasWidth}
+use Rattle.opgen_operator.specs.Fits.{FitsOperator, FitsInEachMode}
 use Rattle.opgen_operator.specs.Held.{OutputsHold}
 use Rattle.opgen_operator.specs.kinds.Several.{IsAcceptedSeveral, multiple_ports, IsSeveral}
-use Rattle.opgen_operator.specs.Limits.{most_signal}
-use Rattle.opgen_operator.specs.Operator.{operator_outputs}
-use Rattle.opgen_operator.specs.PortNumbers.{recent_words, output_words}
-use Rattle.opgen_operator.specs.Ports.{one_input}
-use Rattle.opgen_operator.proofs.Accepted.{accepted_ranges}
-use Rattle.opgen_operator.proofs.Versions.{signal_limit}
+use Rattle.opgen_operator.specs.PortWords.{recent_words, output_words}
+use Rattle.opgen_ports.specs.Ports.{one_input}
+use Rattle.opgen_operator.proofs.Accepted.{accepted_ranges, accepted_wide}
 use Rattle.opgen_graph.specs.declared.ranks.Graph.{Graph}
 use Rattle.opgen_graph.specs.Placing.{AreAdders, HasOddPart}
 use Rattle.opgen_graph.specs.Recipe.{with_input, Multiples, multiples_of, net_of_graph}
@@ -89,12 +84,5 @@ module _ (m : Several) (is : IsAcceptedSeveral m) (graph : Graph) (serves : Serv
           exact_good exact (x *ℤ c) _ value;
     }
 
-  pub fits_specs : OutputsHold → OutputsAreWide → FitsSpecsOf (Mcm m) net
-  fits_specs hold are_wide spec valid e =
-      let wide : All (HasWidth (most_signal spec.version)) (multiple_ports m) =
-      subst (λ op. All (HasWidth (most_signal spec.version)) (operator_outputs op)) e (are_wide spec valid) in
-      let within : All (HasWidth MAX_WIDTH) (multiple_ports m) =
-      All-weaker (HasWidth (most_signal spec.version)) (HasWidth MAX_WIDTH)
-      (λ (p : PortFormat) (h : HasWidth (most_signal spec.version) p). (h.0, omega (arith, h.1, (signal_limit spec.version).1)))
-      (multiple_ports m) wide in
-      subst (λ op. FitsOperator spec.exact op net) (sym e) (fits-operator hold within spec.exact)
+  pub fits_modes : OutputsHold → FitsInEachMode (Mcm m) net
+  fits_modes hold exact mode = fits-operator hold (accepted_wide (Mcm m) is) exact

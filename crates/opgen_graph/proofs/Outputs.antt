@@ -17,13 +17,13 @@ use Rattle.opgen_net.specs.Flow.{Inputs, flow, slice_flow}
 use Rattle.opgen_net.specs.Valid.{IsValid, LiesWithin, slice_width, input_widths, widths}
 use Rattle.opgen_net.proofs.Appending.{valid-output}
 use Rattle.opgen_net.proofs.FlowWidths.{flow-width}
-use Rattle.opgen_operator.specs.declared.ports.PortFormat.{PortFormat}
+use Rattle.opgen_ports.specs.declared.ports.PortFormat.{PortFormat}
 use Rattle.opgen_operator.specs.Bounded.{HasWidth}
 use Rattle.opgen_operator.specs.Fits.{name_and_width}
 use Rattle.opgen_operator.specs.Held.{OutputsHold}
 use Rattle.opgen_operator.specs.kinds.Several.{constant_format, numbered}
-use Rattle.opgen_operator.specs.PortNumbers.{format_at}
-use Rattle.opgen_operator.specs.Ranges.{IsWithin}
+use Rattle.opgen_ports.specs.PortNumbers.{format_at}
+use Rattle.opgen_ports.specs.Ranges.{IsWithin}
 use Rattle.opgen_net.specs.Placed.{Placed, whole}
 use Rattle.opgen_net.proofs.Later.{node_there, words-later}
 use Rattle.opgen_graph.specs.Placing.{IsNode, HasOddPart, HasInput, IsMultiple}

@@ -6,8 +6,8 @@ use Rattle.std.proofs.Math.Nat.{two-pow-succ}
 use Rattle.std.proofs.lemmas.Bool.{cases_lt, eqb-true, eqb-false}
 use Rattle.std.proofs.lemmas.Bool.Decides.{nat_tests}
 use Rattle.std.proofs.lemmas.List.Elements.{All-contains, Contains-append_left, Contains-append_right, Contains-append_cases}
-use Rattle.opgen_operator.specs.OddParts.{power_of, odd_part, has_part, has_part_alone, odd_part_count}
-use Rattle.opgen_operator.specs.Ranges.{IsWithin}
+use Rattle.opgen_ports.specs.OddParts.{power_of, odd_part, has_part, has_part_alone, odd_part_count}
+use Rattle.opgen_ports.specs.Ranges.{IsWithin}
 use Rattle.opgen_graph.specs.Parts.{parts_below, parts_of}
 use Rattle.opgen_graph.specs.Targets.{AreTargetsOf}
 use Rattle.opgen_graph.proofs.Members.{here, there, of_cons, of_nil, of_one}

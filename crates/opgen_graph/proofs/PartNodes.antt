@@ -21,10 +21,10 @@ use Rattle.opgen_net.proofs.Grown.{grown-flow}
 use Rattle.opgen_net.proofs.Later.{Later, later-same, later-then}
 use Rattle.opgen_operator.specs.Held.{OutputsHold}
 use Rattle.opgen_operator.specs.kinds.Several.{constant_format}
-use Rattle.opgen_operator.specs.Ranges.{IsInput}
-use Rattle.opgen_operator.specs.Reaches.{reach_over}
-use Rattle.opgen_operator.proofs.of_kind.Several.{multiple_width}
-use Rattle.opgen_operator.proofs.Widths.{some_width}
+use Rattle.opgen_ports.specs.Ranges.{IsInput}
+use Rattle.opgen_ports.specs.Reaches.{reach_over}
+use Rattle.opgen_operator.proofs.of_kind.Several.{multiple_width, multiples_of}
+use Rattle.opgen_ports.proofs.Widths.{some_width}
 use Rattle.opgen_graph.specs.declared.multiples.Multiple.{Multiple}
 use Rattle.opgen_graph.specs.Parts.{part_width, part_node, with_part, with_parts}
 use Rattle.opgen_graph.specs.Placing.{factors, IsPart, IsMultiple}
@@ -79,7 +79,7 @@ module _ (input : Format) (known : List Multiple) (net : Net) (ready : Ready inp
       settled input bits _ (x *ℤ pos part) wide.0
       (magnitude-has input b ready bits wide part is.some (omega (arith, is.small)) is.made inputs t words)
       (subst (λ s. Holds s bits (x *ℤ pos part)) (part-signed input part is.some ready.has_input.some)
-      (hold.multiples input (pos part) x range))
+      (multiples_of hold input (pos part) x range))
 
   pub part-multiple : OutputsHold → IsMultiple input made.net multiple
   part-multiple hold =

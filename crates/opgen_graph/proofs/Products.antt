@@ -22,9 +22,10 @@ use Rattle.opgen_net.proofs.Appending.{flow-append_before, flow-append_last, wid
 use Rattle.opgen_net.proofs.FlowWidths.{flow-width}
 use Rattle.opgen_operator.specs.Held.{OutputsHold}
 use Rattle.opgen_operator.specs.kinds.Several.{constant_format}
-use Rattle.opgen_operator.specs.OddParts.{power_of, odd_part}
-use Rattle.opgen_operator.specs.Ranges.{IsWithin}
-use Rattle.opgen_operator.specs.Reaches.{reach_over}
+use Rattle.opgen_ports.specs.OddParts.{power_of, odd_part}
+use Rattle.opgen_ports.specs.Ranges.{IsWithin}
+use Rattle.opgen_ports.specs.Reaches.{reach_over}
+use Rattle.opgen_operator.proofs.of_kind.Several.{multiples_of}
 use Rattle.opgen_net.specs.Placed.{Placed, difference_of, with_last}
 use Rattle.opgen_net.proofs.Later.{Later, later-node, later-then, node_there}
 use Rattle.opgen_graph.specs.declared.multiples.Multiple.{Multiple}
@@ -176,4 +177,4 @@ module _ (input : Format) (b : Multiples) (ready : Ready input b) (bits : ℕ) (
       let range : Holds input.signed input.width x =
       subst (λ n. Holds input.signed n x) long (val_holds w input (omega (arith, long, ready.has_input.some))) in
       settled (constant_format input t) bits _ (x *ℤ t) wide.0 (constant-has t small odd e inputs time words)
-      (subst (λ n. Holds (constant_format input t).signed n (x *ℤ t)) (sym e) (hold.multiples input t x range))
+      (subst (λ n. Holds (constant_format input t).signed n (x *ℤ t)) (sym e) (multiples_of hold input t x range))

@@ -6,9 +6,9 @@ use Rattle.std.proofs.lemmas.List.Elements.{All-contains, All-contains_itself, A
 use Rattle.std.proofs.lemmas.List.Sorted.{All-permutation, Contains-permutation}
 use Rattle.opgen_num.specs.declared.format.Format.{Format}
 use Rattle.opgen_net.specs.Valid.{IsValid}
-use Rattle.opgen_operator.specs.OddParts.{odd_part}
-use Rattle.opgen_operator.specs.Ranges.{IsInput, IsWithin}
-use Rattle.opgen_operator.proofs.InputPorts.{input_bit}
+use Rattle.opgen_ports.specs.OddParts.{odd_part}
+use Rattle.opgen_ports.specs.Ranges.{IsInput, IsWithin}
+use Rattle.opgen_ports.proofs.InputPorts.{input_bit}
 use Rattle.opgen_graph.specs.declared.ranks.Graph.{Graph}
 use Rattle.opgen_graph.specs.Graphs.{values}
 use Rattle.opgen_graph.specs.Placing.{factors, AreAdders, HasOddPart}

@@ -11,9 +11,9 @@ use Rattle.std.proofs.lemmas.Map.Keys.{IsStrictlyIncreasing-dedup}
 use Rattle.std.proofs.lemmas.List.Kept.{Contains-from_dedup, Contains-dedup_nat}
 use Rattle.std.proofs.lemmas.List.Elements.{All-contains, Contains-append_left, Contains-append_right, Contains-append_cases}
 use Rattle.std.proofs.lemmas.List.Sorted.{IsPermutation-sym, Contains-permutation}
-use Rattle.opgen_operator.specs.Ranges.{IsWithin}
+use Rattle.opgen_ports.specs.Ranges.{IsWithin}
 use Rattle.opgen_graph.specs.SignedDigits.{IsTarget}
-use Rattle.opgen_operator.specs.OddParts.{power_of, odd_part}
+use Rattle.opgen_ports.specs.OddParts.{power_of, odd_part}
 use Rattle.opgen_graph.specs.Targets.{HasTarget, IsTargetOf, AreTargetsOf}
 use Rattle.opgen_graph.proofs.Members.{here, of_one, all_of}
 use Rattle.opgen_graph.proofs.Powers.{shifted}

@@ -5,7 +5,7 @@ use Rattle.opgen_num.specs.declared.format.Format.{Format}
 use Rattle.opgen_net.specs.declared.net.Net.{Net}
 use Rattle.opgen_net.specs.Placed.{Placed}
 use Rattle.opgen_operator.specs.kinds.Several.{constant_format}
-use Rattle.opgen_operator.specs.OddParts.{has_part}
+use Rattle.opgen_ports.specs.OddParts.{has_part}
 use Rattle.opgen_graph.specs.declared.multiples.Multiple.{Multiple}
 use Rattle.opgen_graph.specs.Recipe.{Multiples, with_magnitude}
 

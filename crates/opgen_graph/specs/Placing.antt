@@ -15,7 +15,7 @@ use Rattle.opgen_graph.specs.Graphs.{values}
 use Rattle.opgen_graph.specs.Reach.{IsMember}
 use Rattle.opgen_graph.specs.Recipe.{dropped}
 use Rattle.opgen_graph.specs.SetCost.{bit_length}
-use Rattle.opgen_operator.specs.OddParts.{odd_part}
+use Rattle.opgen_ports.specs.OddParts.{odd_part}
 
 abbrev pub factors : List Multiple → List ℕ
 factors known = map (λ m. m.factor) known

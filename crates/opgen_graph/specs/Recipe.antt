@@ -16,7 +16,7 @@ use Rattle.opgen_net.specs.Placed.{Placed, whole, with_bits, with_last, differen
 use Rattle.opgen_net.specs.WordRule.{bits_from}
 use Rattle.opgen_operator.specs.declared.kinds.several.Several.{Several}
 use Rattle.opgen_operator.specs.kinds.Several.{constant_format}
-use Rattle.opgen_operator.specs.OddParts.{power_of, odd_part}
+use Rattle.opgen_ports.specs.OddParts.{power_of, odd_part}
 use Rattle.opgen_graph.specs.declared.forms.Form.{Form}
 use Rattle.opgen_graph.specs.declared.forms.Form.TheVariants.{A, B, C, D, E}
 use Rattle.opgen_graph.specs.declared.multiples.Multiple.{Multiple}

@@ -1,7 +1,7 @@
 -- The numbers that an adder graph has to make for some constants: their odd parts above 1.
 use Rattle.std.specs.Prelude.{◌≡◌, ◌≢◌, ◌↔◌, ℕ, ◌*◌, ◌%◌, ◌^◌, ◌<◌, ℤ, pos, unsigned_abs, List, Contains}
 use Rattle.std.specs.List.Sorted.{IsStrictlyIncreasing}
-use Rattle.opgen_operator.specs.OddParts.{power_of, odd_part}
+use Rattle.opgen_ports.specs.OddParts.{power_of, odd_part}
 
 -- the odd part of a constant other than 0, without its sign, is above 1
 pub record HasTarget (constant : ℤ) (x : ℕ) : Type 0 where

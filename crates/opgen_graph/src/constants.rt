@@ -3,8 +3,8 @@ ghost use Rattle.std.specs.Prelude.{◌≡◌, ◌<◌, ℤ, pos, length, slice_
 ghost use Rattle.opgen_design.specs.Width.{IsWidth};
 ghost use Rattle.opgen_net.specs.Valid.{IsValid, widths};
 ghost use Rattle.opgen_operator.specs.kinds.Several.{IsAcceptedSeveral};
-ghost use Rattle.opgen_operator.specs.OddParts.{odd_part};
-ghost use Rattle.opgen_operator.specs.Ranges.{IsWithin};
+ghost use Rattle.opgen_ports.specs.OddParts.{odd_part};
+ghost use Rattle.opgen_ports.specs.Ranges.{IsWithin};
 ghost use Rattle.opgen_graph.specs.Placing.{IsNode, HasOddPart, factors};
 ghost use Rattle.opgen_graph.specs.Recipe.{negated as negated_of, with_magnitude, with_constant, with_output, with_outputs};
 

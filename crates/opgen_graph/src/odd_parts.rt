@@ -1,7 +1,7 @@
 //! The odd parts above 1 of the constants: the numbers that an adder graph has to make.
 ghost use Rattle.std.specs.Prelude.{◌↔◌, ℕ, ◌≤◌, length, All, Contains, IfOk, IfSome, IfNone};
-ghost use Rattle.opgen_operator.specs.OddParts.{odd_part_count};
-ghost use Rattle.opgen_operator.specs.Ranges.{IsWithin};
+ghost use Rattle.opgen_ports.specs.OddParts.{odd_part_count};
+ghost use Rattle.opgen_ports.specs.Ranges.{IsWithin};
 ghost use Rattle.opgen_graph.specs.SignedDigits.{IsTarget};
 ghost use Rattle.opgen_graph.specs.Targets.{AreTargetsOf, HasTarget, IsTargetOf};
 

@@ -3,8 +3,8 @@ ghost use Rattle.std.specs.Prelude.{◌≡◌, ◌<◌, ◌≤◌, [], All, IfOk
 ghost use Rattle.std.specs.List.{list_any};
 ghost use Rattle.opgen_design.specs.Width.{IsWidth};
 ghost use Rattle.opgen_net.specs.Valid.{IsValid};
-ghost use Rattle.opgen_operator.specs.OddParts.{has_part};
-ghost use Rattle.opgen_operator.specs.Ranges.{IsInput, IsWithin};
+ghost use Rattle.opgen_ports.specs.OddParts.{has_part};
+ghost use Rattle.opgen_ports.specs.Ranges.{IsInput, IsWithin};
 ghost use Rattle.opgen_graph.specs.Parts.{parts_below as parts_below_of, parts_of, part_width, part_node, with_parts};
 ghost use Rattle.opgen_graph.specs.Placing.{AreMultiples, IsNode, IsPart, factors};
 

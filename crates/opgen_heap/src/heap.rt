@@ -83,27 +83,32 @@ impl Heap {
         }
     }
 
-    /// Appends the bit `index` of a node to column `weight`. A column of the heap's width or more adds nothing.
-    pub fn add_bit(&mut self, node: usize, index: u32, weight: u32) -> Result<(), Memory>
-        ensures ok { OnOk result (self.new ≡ with_bit self.old (Of node index) weight) }
-        ensures sum { OnOk result ((words : Words) → heap_sum words self.new ≡ (heap_sum words self.old + digit (bit_under words (Of node index)) * 2 ^ weight) % 2 ^ self.old.width) }
+    /// Appends a bit to column `weight`. A column of the heap's width or more adds nothing.
+    pub fn append(&mut self, bit: WordBit, weight: u32) -> Result<(), Memory>
+        ensures ok { OnOk result (self.new ≡ with_bit self.old bit weight) }
+        ensures sum { OnOk result ((words : Words) → heap_sum words self.new ≡ (heap_sum words self.old + digit (bit_under words bit) * 2 ^ weight) % 2 ^ self.old.width) }
         ensures err { OnErr result (self.new ≡ self.old) }
     {
         if weight >= self.width {
             return Ok(());
         }
         let before = self.columns.len();
-        match append_at(
-            &mut self.columns,
-            weight as usize,
-            WordBit::Of { node, index },
-        ) {
+        match append_at(&mut self.columns, weight as usize, bit) {
             Ok(()) => Ok(()),
             Err(refused) => {
                 self.columns.truncate(before);
                 Err(refused.into())
             }
         }
+    }
+
+    /// Appends the bit `index` of a node to column `weight`. A column of the heap's width or more adds nothing.
+    pub fn add_bit(&mut self, node: usize, index: u32, weight: u32) -> Result<(), Memory>
+        ensures ok { OnOk result (self.new ≡ with_bit self.old (Of node index) weight) }
+        ensures sum { OnOk result ((words : Words) → heap_sum words self.new ≡ (heap_sum words self.old + digit (bit_under words (Of node index)) * 2 ^ weight) % 2 ^ self.old.width) }
+        ensures err { OnErr result (self.new ≡ self.old) }
+    {
+        self.append(WordBit::Of { node, index }, weight)
     }
 
     /// Adds the bits 0 to `width - 1` of a node, bit 0 to column `weight` and each other one to the next column.

@@ -1,16 +1,15 @@
 //! Adds a constant multiple of a node to a bit heap: one table for each chunk of the node's bits, and a constant.
-ghost use Rattle.std.specs.Prelude.{◌≡◌, ◌≢◌, ◌+◌, ◌*◌, ◌^◌, ◌<◌, ◌≤◌, ℤ, pos, ◌+ℤ◌, ◌<ℤ◌, length, unsigned_abs, All, OnOk};
+ghost use Rattle.std.specs.Prelude.{◌≡◌, ◌≢◌, ◌+◌, ◌*◌, ◌^◌, ◌<◌, ◌≤◌, pos, ◌+ℤ◌, ◌<ℤ◌, length, unsigned_abs, All, OnOk};
 ghost use Rattle.opgen_num.specs.declared.TheConstants.{MAX_INPUT, MAX_WIDTH};
 ghost use Rattle.opgen_heap.specs.Adding.{residue};
 ghost use Rattle.opgen_heap.specs.Standing.{AllThere};
-ghost use Rattle.opgen_net.specs.Flow.{Inputs, flow};
+ghost use Rattle.opgen_net.specs.Flow.{flow};
 ghost use Rattle.opgen_net.specs.Grown.{HasGrown};
-ghost use Rattle.opgen_net.specs.Valid.{IsValid, input_widths};
-ghost use Rattle.opgen_design.specs.Run.{AreWords};
+ghost use Rattle.opgen_net.specs.Valid.{IsValid};
 ghost use Rattle.opgen_kcm.specs.Chunks.{chunk_count, chunk_word, digit_of, number};
 ghost use Rattle.opgen_kcm.specs.Entries.{in_guard_units, entry, all_entries, offsets, greatest_of, shape_of};
 ghost use Rattle.opgen_kcm.specs.Recipe.{with_table, with_entries, with_rows, input_width, HasTermsMore, HasRoom, HasNarrowRows};
-ghost use Rattle.opgen_kcm.specs.Multiple.{HasRisen, sum_at};
+ghost use Rattle.opgen_kcm.specs.Multiple.{HasRisen, SumsHave};
 
 use crate::chunk::{CHUNK_WIDTH, Chunk};
 use crate::table::{
@@ -75,7 +74,9 @@ fn add_chunk(
     ensures net { OnOk result (net.new ≡ (with_entries input chunk (all_entries q chunk) (record { net = net.old; heap = heap.old })).net) }
     ensures heap { OnOk result (heap.new ≡ (with_entries input chunk (all_entries q chunk) (record { net = net.old; heap = heap.old })).heap) }
     ensures more { OnOk result (HasTermsMore (record { net = net.old; heap = heap.old }) (record { net = net.new; heap = heap.new })) }
-    ensures sum { OnOk result (AllThere net.old heap.old.columns → (inputs : Inputs) (t : ℤ) → All (AreWords (input_widths net.old)) inputs → sum_at (record { net = net.new; heap = heap.new }) inputs t ≡ residue (pos (sum_at (record { net = net.old; heap = heap.old }) inputs t) +ℤ entry q chunk (digit_of chunk (chunk_word chunk (flow net.old.nodes inputs input t)))) (2 ^ heap.old.width)) }
+    ensures sum { OnOk result (SumsHave (record { net = net.old; heap = heap.old }) (record { net = net.new; heap = heap.new })
+        (λ inputs t before after. let digit = digit_of chunk (chunk_word chunk (flow net.old.nodes inputs input t)) in
+        after ≡ residue (pos before +ℤ entry q chunk digit) (2 ^ heap.old.width))) }
     ensures valid { IsValid net.new }
 {
     let entries = entries(alloc, q, chunk)?;
@@ -112,7 +113,9 @@ pub fn rows_of(
     requires narrow { HasNarrowRows (in_guard_units q guard) (input_width net.old input) signed }
     ensures net { OnOk result (net.new ≡ (with_rows q guard input signed (record { net = net.old; heap = heap.old })).net) }
     ensures heap { OnOk result (heap.new ≡ (with_rows q guard input signed (record { net = net.old; heap = heap.old })).heap) }
-    ensures risen { OnOk result (AllThere net.old heap.old.columns → (inputs : Inputs) (t : ℤ) → All (AreWords (input_widths net.old)) inputs → HasRisen q guard (chunk_count (input_width net.old input)) (number signed (input_width net.old input) (flow net.old.nodes inputs input t)) heap.old.width (sum_at (record { net = net.old; heap = heap.old }) inputs t) (sum_at (record { net = net.new; heap = heap.new }) inputs t)) }
+    ensures risen { let width = input_width net.old input in
+        OnOk result (SumsHave (record { net = net.old; heap = heap.old }) (record { net = net.new; heap = heap.new })
+        (λ inputs t. HasRisen q guard (chunk_count width) (number signed width (flow net.old.nodes inputs input t)) heap.old.width)) }
     ensures grown { OnOk result (HasGrown net.old net.new) }
     ensures bits { OnOk result (AllThere net.old heap.old.columns → AllThere net.new heap.new.columns) }
     ensures width { OnOk result (heap.new.width ≡ heap.old.width) }

@@ -4,7 +4,8 @@ ghost use Rattle.std.specs.Prelude.{◌≡◌, ◌+◌, ◌*◌, ◌/◌, ◌^�
 ghost use Rattle.opgen_num.specs.declared.TheConstants.{MAX_INPUT};
 ghost use Rattle.opgen_num.specs.Formats.{digit_count};
 ghost use Rattle.opgen_num.specs.Rounding.{distance};
-ghost use Rattle.opgen_kcm.specs.Entries.{in_guard_units, entry, all_entries, least_of, offsets, greatest_of, divides_all, zeros_of, shape_of, rows_in};
+ghost use Rattle.opgen_kcm.specs.Entries.{in_guard_units, entry, all_entries, least_of, offsets, greatest_of};
+ghost use Rattle.opgen_kcm.specs.Entries.{divides_all, zeros_of, shape_of, rows_in};
 ghost use Rattle.opgen_kcm.specs.Recipe.{HasRoom};
 
 use crate::chunk::Chunk;

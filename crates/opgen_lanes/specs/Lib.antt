@@ -1,4 +1,5 @@
 -- What it means to run a design in 256 streams.
+pub mod Words
 pub mod Banks
 pub mod Steps
 pub mod Runs

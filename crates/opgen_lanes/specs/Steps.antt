@@ -11,10 +11,14 @@ pub record Running : Type 0 where
   pub design : Design
   pub held : List (List ℕ)
 
+-- the registers' bits in each stream are those of the initial words
+abbrev pub AreInitial : (d : Design) → (held : List (List ℕ)) → Type 0
+AreInitial d held = (k : ℕ) → k < streams → SameRegisters d (words_in (signal_widths d) held k) (initial_words d.signals)
+
 -- streams before the first cycle of a design
 pub record AreNew (d : Design) (l : Running) : Type 0 where
   pub design : l.design ≡ d
-  pub registers : (k : ℕ) → k < streams → SameRegisters d (words_in (signal_widths d) l.held k) (initial_words d.signals)
+  pub registers : AreInitial d l.held
 
 -- a cycle of a stream from the registers' bits now to the next ones, with these bits at the input ports and at the output ports
 pub record IsStepIn (k : ℕ) (d : Design) (now inputs next outputs : List (List ℕ)) : Type 0 where

@@ -1,9 +1,10 @@
 //! Words of 256 streams, a vector for each bit.
-ghost use Rattle.std.specs.Prelude.{ℕ, ◌≡◌, ◌<◌, ◌≤◌, ◌+◌, All, IfOk, length, map, slice_index, slice_set, take, ◌^◌};
+ghost use Rattle.std.specs.Prelude.{◌≡◌, ◌<◌, ◌≤◌, ◌^◌, All, IfOk, length, map, slice_index, slice_set, take};
 ghost use Rattle.opgen_num.specs.declared.TheConstants.{MAX_WIDTH};
 ghost use Rattle.opgen_design.specs.Value.{word_at};
-ghost use Rattle.opgen_streams.specs.Streams.{streams, word_in};
-ghost use Rattle.opgen_lanes.specs.Banks.{IsBank, words_at, widths_of};
+ghost use Rattle.opgen_streams.specs.Streams.{word_in};
+ghost use Rattle.opgen_lanes.specs.Banks.{HasWords, IsBank, widths_of, words_at};
+ghost use Rattle.opgen_lanes.specs.Words.{HaveWord};
 
 use opgen_design::{Port, Signal};
 use std::alloc::{AllocError, Global};
@@ -85,7 +86,8 @@ impl Bank {
         requires room { slice_index (widths_of self.old) at ≤ length word.now }
         ensures places { self.new.places ≡ self.old.places }
         ensures bank { IsBank self.new }
-        ensures words { (k : ℕ) → k < streams → words_at self.new k ≡ slice_set (words_at self.old k) at (word_in (take (slice_index (widths_of self.old) at) word.now) k) }
+        ensures words { let new = take (slice_index (widths_of self.old) at) word.now in
+            HasWords self.new (λ k. slice_set (words_at self.old k) at (word_in new k)) }
     {
         let place = self.places[at];
         self.vectors[place.start..place.start + place.width].copy_from_slice(&word[..place.width]);
@@ -96,7 +98,7 @@ impl Bank {
         requires bank { IsBank self.now }
         requires at { at < length self.now.places.items }
         ensures width { length result.now ≡ slice_index (widths_of self.now) at }
-        ensures word { (k : ℕ) → k < streams → word_in result.now k ≡ word_at (words_at self.now k) at }
+        ensures word { HaveWord result.now (λ k. word_at (words_at self.now k) at) }
     {
         let place = self.places[at];
         &self.vectors[place.start..place.start + place.width]

@@ -5,12 +5,12 @@ ghost use Rattle.opgen_design.specs.declared.design.Driver.{Driver};
 ghost use Rattle.opgen_design.specs.Plain.{plain};
 ghost use Rattle.opgen_design.specs.Run.{scope};
 ghost use Rattle.opgen_design.specs.Sound.{IsSound, target};
-ghost use Rattle.opgen_design.specs.Value.{chosen, value};
-ghost use Rattle.opgen_design.specs.Width.{width};
+ghost use Rattle.opgen_design.specs.Value.{chosen};
 ghost use Rattle.opgen_runs.specs.Evaluate.{IsThere, driver_word, put_at, put_option, settle, table_word};
-ghost use Rattle.opgen_streams.specs.Streams.{streams, word_in};
-ghost use Rattle.opgen_lanes.specs.Banks.{IsBank, stream_words, width_at, widths_of};
+ghost use Rattle.opgen_streams.specs.Streams.{word_in};
+ghost use Rattle.opgen_lanes.specs.Banks.{HaveWords, IsBank, value_in, width_at, width_in, widths_of, words_of};
 ghost use Rattle.opgen_lanes.specs.Ready.{AreBanksOf};
+ghost use Rattle.opgen_lanes.specs.Words.{HaveWord};
 
 use crate::bank::{Banks, room};
 use crate::evaluate::{evaluate, lend};
@@ -30,12 +30,13 @@ fn choice(
 ) -> usize
     requires signals { IsBank banks.now.signals }
     requires ports { IsBank banks.now.ports }
-    requires on { width (widths_of banks.now.signals) (widths_of banks.now.ports) (plain on.now) ≡ Some 1 }
-    requires yes { IsSome (width (widths_of banks.now.signals) (widths_of banks.now.ports) (plain yes.now)) }
-    requires no { width (widths_of banks.now.signals) (widths_of banks.now.ports) (plain no.now) ≡ width (widths_of banks.now.signals) (widths_of banks.now.ports) (plain yes.now) }
+    requires on { width_in banks.now.signals banks.now.ports (plain on.now) ≡ Some 1 }
+    requires yes { IsSome (width_in banks.now.signals banks.now.ports (plain yes.now)) }
+    requires no { width_in banks.now.signals banks.now.ports (plain no.now) ≡ width_in banks.now.signals banks.now.ports (plain yes.now) }
     requires room { MAX_WIDTH ≤ length out.old }
     requires spare { MAX_WIDTH ≤ length spare.old }
-    ensures { (k : ℕ) → k < streams → word_in (take result out.new) k ≡ chosen (value (scope (stream_words banks.now.signals banks.now.ports k)) (plain on.now)) (value (scope (stream_words banks.now.signals banks.now.ports k)) (plain yes.now)) (value (scope (stream_words banks.now.signals banks.now.ports k)) (plain no.now)) }
+    ensures { let value = value_in banks.now.signals banks.now.ports in
+        HaveWord (take result out.new) (λ k. chosen (value (plain on.now) k) (value (plain yes.now) k) (value (plain no.now) k)) }
 {
     evaluate(on, &banks.signals, &banks.ports, out, spare);
     let on = out[0];
@@ -55,13 +56,13 @@ fn table(
 ) -> usize
     requires signals { IsBank banks.now.signals }
     requires ports { IsBank banks.now.ports }
-    requires on { IsSome (width (widths_of banks.now.signals) (widths_of banks.now.ports) (plain on.now)) }
-    requires addresses { All (λ r. width (widths_of banks.now.signals) (widths_of banks.now.ports) (plain on.now) ≡ Some (length r.0)) rows.now }
+    requires on { IsSome (width_in banks.now.signals banks.now.ports (plain on.now)) }
+    requires addresses { All (λ r. width_in banks.now.signals banks.now.ports (plain on.now) ≡ Some (length r.0)) rows.now }
     requires words { All (λ r. length r.1 ≡ length other) rows.now }
     requires narrow { length other ≤ MAX_WIDTH }
     requires spare { MAX_WIDTH ≤ length spare.old }
     requires room { MAX_WIDTH ≤ length out.old }
-    ensures { (k : ℕ) → k < streams → word_in (take result out.new) k ≡ table_word rows.now other (value (scope (stream_words banks.now.signals banks.now.ports k)) (plain on.now)) }
+    ensures { HaveWord (take result out.new) (λ k. table_word rows.now other (value_in banks.now.signals banks.now.ports (plain on.now) k)) }
 {
     let places = other.width() as usize;
     let address = lend(on, &banks.signals, &banks.ports, spare);
@@ -82,7 +83,8 @@ fn driver_word(
     requires banks { AreBanksOf design.now banks.now.signals banks.now.ports }
     requires room { MAX_WIDTH ≤ length out.old }
     requires spare { MAX_WIDTH ≤ length spare.old }
-    ensures { (driver : Driver) → slice_get design.now.drivers place ≡ Some driver → (k : ℕ) → k < streams → word_in (take result out.new) k ≡ driver_word (scope (stream_words banks.now.signals banks.now.ports k)) driver }
+    ensures { (driver : Driver) → slice_get design.now.drivers place ≡ Some driver
+        → HaveWord (take result out.new) (λ k. driver_word (scope (words_of banks.now k)) driver) }
 {
     match design.drivers.get(place) {
         Driver::Assign { to: _, expr }
@@ -110,13 +112,15 @@ fn driver_word(
 fn put_at(driver: &Driver, word: &[u64x4], banks: &mut Banks)
     requires signals { IsBank banks.old.signals }
     requires ports { IsBank banks.old.ports }
-    requires there { IsThere (stream_words banks.old.signals banks.old.ports 0) (target driver.now) }
+    requires there { IsThere (words_of banks.old 0) (target driver.now) }
     requires room { width_at banks.old.signals banks.old.ports (target driver.now) ≤ length word.now }
     ensures signals { IsBank banks.new.signals }
     ensures ports { IsBank banks.new.ports }
     ensures signal_widths { widths_of banks.new.signals ≡ widths_of banks.old.signals }
     ensures port_widths { widths_of banks.new.ports ≡ widths_of banks.old.ports }
-    ensures words { (k : ℕ) → k < streams → stream_words banks.new.signals banks.new.ports k ≡ put_at (target driver.now) (word_in (take (width_at banks.old.signals banks.old.ports (target driver.now)) word.now) k) (stream_words banks.old.signals banks.old.ports k) }
+    ensures words { let to = target driver.now in
+        let new = take (width_at banks.old.signals banks.old.ports to) word.now in
+        HaveWords banks.new (λ k. put_at to (word_in new k) (words_of banks.old k)) }
 {
     match driver.target() {
         Target::Signal(place) => banks.signals.store(place, word),
@@ -132,7 +136,7 @@ fn put(design: &Design, place: usize, banks: &mut Banks, word: &mut [u64x4], spa
     requires room { MAX_WIDTH ≤ length word.old }
     requires spare { MAX_WIDTH ≤ length spare.old }
     ensures banks { AreBanksOf design.now banks.new.signals banks.new.ports }
-    ensures words { (k : ℕ) → k < streams → stream_words banks.new.signals banks.new.ports k ≡ put_option (slice_get design.now.drivers place) (stream_words banks.old.signals banks.old.ports k) }
+    ensures words { HaveWords banks.new (λ k. put_option (slice_get design.now.drivers place) (words_of banks.old k)) }
 {
     driver_word(design, place, banks, word, spare);
     put_at(design.drivers.get(place), word, banks);
@@ -144,7 +148,7 @@ pub fn settle(design: &Design, order: &[usize], banks: &mut Banks)
     requires places { (p i : ℕ) → slice_get order.now p ≡ Some i → i < length design.now.drivers }
     requires banks { AreBanksOf design.now banks.old.signals banks.old.ports }
     ensures banks { AreBanksOf design.now banks.new.signals banks.new.ports }
-    ensures words { (k : ℕ) → k < streams → stream_words banks.new.signals banks.new.ports k ≡ settle design.now.drivers order.now (stream_words banks.old.signals banks.old.ports k) }
+    ensures words { HaveWords banks.new (λ k. settle design.now.drivers order.now (words_of banks.old k)) }
 {
     let mut word = room();
     let mut spare = room();

@@ -3,10 +3,11 @@ ghost use Rattle.std.specs.Prelude.{ℕ, ◌+◌, ◌-◌, ◌≡◌, ◌<◌, �
 ghost use Rattle.opgen_num.specs.declared.TheConstants.{MAX_WIDTH};
 ghost use Rattle.opgen_design.specs.Plain.{plain, plain_all};
 ghost use Rattle.opgen_design.specs.Run.{scope};
-ghost use Rattle.opgen_design.specs.Value.{chain_value, combined, cut, value, word_at};
-ghost use Rattle.opgen_design.specs.Width.{IsWidth, chain_width, joined, width};
-ghost use Rattle.opgen_streams.specs.Streams.{streams, word_in};
-ghost use Rattle.opgen_lanes.specs.Banks.{IsBank, stream_words, widths_of, words_at};
+ghost use Rattle.opgen_design.specs.Value.{chain_value, combined, cut, word_at};
+ghost use Rattle.opgen_design.specs.Width.{IsWidth, chain_width, joined};
+ghost use Rattle.opgen_streams.specs.Streams.{word_in};
+ghost use Rattle.opgen_lanes.specs.Banks.{IsBank, stream_words, value_in, width_in, widths_of, words_at};
+ghost use Rattle.opgen_lanes.specs.Words.{HaveWord};
 
 use crate::bank::{Bank, room};
 use crate::words::{combine, turn, write};
@@ -31,7 +32,7 @@ fn part(slice: Slice, signals: &Bank) -> &[u64x4]
     requires low { slice.low ≤ slice.high }
     requires high { slice.high < slice_index (widths_of signals.now) slice.node }
     ensures width { length result.now ≡ slice.high + 1 - slice.low }
-    ensures value { (k : ℕ) → k < streams → word_in result.now k ≡ cut slice.high slice.low (word_at (words_at signals.now k) slice.node) }
+    ensures value { HaveWord result.now (λ k. cut slice.high slice.low (word_at (words_at signals.now k) slice.node)) }
 {
     let word = signals.word(slice.node);
     &word[slice.low as usize..slice.high as usize + 1]
@@ -41,9 +42,9 @@ fn part(slice: Slice, signals: &Bank) -> &[u64x4]
 fn in_place<'a>(expr: &Expr, signals: &'a Bank, ports: &'a Bank) -> Option<&'a [u64x4]>
     requires signals { IsBank signals.now }
     requires ports { IsBank ports.now }
-    requires fits { IsSome (width (widths_of signals.now) (widths_of ports.now) (plain expr.now)) }
-    ensures width { IfSome result (λ w. width (widths_of signals.now) (widths_of ports.now) (plain expr.now) ≡ Some (length w.now)) }
-    ensures value { IfSome result (λ w. (k : ℕ) → k < streams → word_in w.now k ≡ value (scope (stream_words signals.now ports.now k)) (plain expr.now)) }
+    requires fits { IsSome (width_in signals.now ports.now (plain expr.now)) }
+    ensures width { IfSome result (λ w. width_in signals.now ports.now (plain expr.now) ≡ Some (length w.now)) }
+    ensures value { IfSome result (λ w. HaveWord w.now (value_in signals.now ports.now (plain expr.now))) }
 {
     match expr {
         Expr::Name(signal) => Some(signals.word(*signal)),
@@ -62,10 +63,10 @@ pub fn lend<'a>(
 ) -> &'a [u64x4]
     requires signals { IsBank signals.now }
     requires ports { IsBank ports.now }
-    requires fits { IsSome (width (widths_of signals.now) (widths_of ports.now) (plain expr.now)) }
+    requires fits { IsSome (width_in signals.now ports.now (plain expr.now)) }
     requires spare { MAX_WIDTH ≤ length spare.old }
-    ensures width { width (widths_of signals.now) (widths_of ports.now) (plain expr.now) ≡ Some (length result.now) }
-    ensures value { (k : ℕ) → k < streams → word_in result.now k ≡ value (scope (stream_words signals.now ports.now k)) (plain expr.now) }
+    ensures width { width_in signals.now ports.now (plain expr.now) ≡ Some (length result.now) }
+    ensures value { HaveWord result.now (value_in signals.now ports.now (plain expr.now)) }
 {
     match in_place(expr, signals, ports) {
         Some(word) => word,
@@ -89,10 +90,10 @@ pub fn evaluate(
 ) -> usize
     requires signals { IsBank signals.now }
     requires ports { IsBank ports.now }
-    requires fits { IsSome (width (widths_of signals.now) (widths_of ports.now) (plain expr.now)) }
+    requires fits { IsSome (width_in signals.now ports.now (plain expr.now)) }
     requires room { MAX_WIDTH ≤ length out.old }
-    ensures width { width (widths_of signals.now) (widths_of ports.now) (plain expr.now) ≡ Some result }
-    ensures value { (k : ℕ) → k < streams → word_in (take result out.new) k ≡ value (scope (stream_words signals.now ports.now k)) (plain expr.now) }
+    ensures width { width_in signals.now ports.now (plain expr.now) ≡ Some result }
+    ensures value { HaveWord (take result out.new) (value_in signals.now ports.now (plain expr.now)) }
 {
     match expr {
         Expr::Name(signal) => put(signals.word(*signal), out),
@@ -126,7 +127,7 @@ fn evaluate_chain(
     requires fits { IsSome (chain_width (widths_of signals.now) (widths_of ports.now) op (plain_all operands.now)) }
     requires room { MAX_WIDTH ≤ length out.old }
     ensures width { chain_width (widths_of signals.now) (widths_of ports.now) op (plain_all operands.now) ≡ Some result }
-    ensures value { (k : ℕ) → k < streams → word_in (take result out.new) k ≡ chain_value (scope (stream_words signals.now ports.now k)) op (plain_all operands.now) }
+    ensures value { HaveWord (take result out.new) (λ k. chain_value (scope (stream_words signals.now ports.now k)) op (plain_all operands.now)) }
 {
     match operands {
         [] => 0,
@@ -153,12 +154,13 @@ fn take_in(
 ) -> usize
     requires signals { IsBank signals.now }
     requires ports { IsBank ports.now }
-    requires operand { IsSome (width (widths_of signals.now) (widths_of ports.now) (plain operand.now)) }
-    requires fits { (a : ℕ) → width (widths_of signals.now) (widths_of ports.now) (plain operand.now) ≡ Some a → (w : ℕ) × (joined op before a ≡ Some w) }
+    requires operand { IsSome (width_in signals.now ports.now (plain operand.now)) }
+    requires fits { (a : ℕ) → width_in signals.now ports.now (plain operand.now) ≡ Some a → (w : ℕ) × (joined op before a ≡ Some w) }
     requires before { IsWidth before }
     requires room { MAX_WIDTH ≤ length out.old }
-    ensures width { (a : ℕ) → width (widths_of signals.now) (widths_of ports.now) (plain operand.now) ≡ Some a → joined op before a ≡ Some result }
-    ensures value { (k : ℕ) → k < streams → word_in (take result out.new) k ≡ combined op (word_in (take before out.old) k) (value (scope (stream_words signals.now ports.now k)) (plain operand.now)) }
+    ensures width { (a : ℕ) → width_in signals.now ports.now (plain operand.now) ≡ Some a → joined op before a ≡ Some result }
+    ensures value { let added = value_in signals.now ports.now (plain operand.now) in
+        HaveWord (take result out.new) (λ k. combined op (word_in (take before out.old) k) (added k)) }
 {
     match in_place(operand, signals, ports) {
         Some(word) => combine(op, out, before, word),
@@ -179,12 +181,13 @@ fn take_in_nested(
 ) -> usize
     requires signals { IsBank signals.now }
     requires ports { IsBank ports.now }
-    requires operand { IsSome (width (widths_of signals.now) (widths_of ports.now) (plain operand.now)) }
-    requires fits { (a : ℕ) → width (widths_of signals.now) (widths_of ports.now) (plain operand.now) ≡ Some a → (w : ℕ) × (joined op before a ≡ Some w) }
+    requires operand { IsSome (width_in signals.now ports.now (plain operand.now)) }
+    requires fits { (a : ℕ) → width_in signals.now ports.now (plain operand.now) ≡ Some a → (w : ℕ) × (joined op before a ≡ Some w) }
     requires before { IsWidth before }
     requires room { MAX_WIDTH ≤ length out.old }
-    ensures width { (a : ℕ) → width (widths_of signals.now) (widths_of ports.now) (plain operand.now) ≡ Some a → joined op before a ≡ Some result }
-    ensures value { (k : ℕ) → k < streams → word_in (take result out.new) k ≡ combined op (word_in (take before out.old) k) (value (scope (stream_words signals.now ports.now k)) (plain operand.now)) }
+    ensures width { (a : ℕ) → width_in signals.now ports.now (plain operand.now) ≡ Some a → joined op before a ≡ Some result }
+    ensures value { let added = value_in signals.now ports.now (plain operand.now) in
+        HaveWord (take result out.new) (λ k. combined op (word_in (take before out.old) k) (added k)) }
 {
     if spare.len() < MAX_WIDTH as usize {
         return take_in_apart(op, operand, signals, ports, out, before);
@@ -205,12 +208,13 @@ fn take_in_apart(
 ) -> usize
     requires signals { IsBank signals.now }
     requires ports { IsBank ports.now }
-    requires operand { IsSome (width (widths_of signals.now) (widths_of ports.now) (plain operand.now)) }
-    requires fits { (a : ℕ) → width (widths_of signals.now) (widths_of ports.now) (plain operand.now) ≡ Some a → (w : ℕ) × (joined op before a ≡ Some w) }
+    requires operand { IsSome (width_in signals.now ports.now (plain operand.now)) }
+    requires fits { (a : ℕ) → width_in signals.now ports.now (plain operand.now) ≡ Some a → (w : ℕ) × (joined op before a ≡ Some w) }
     requires before { IsWidth before }
     requires room { MAX_WIDTH ≤ length out.old }
-    ensures width { (a : ℕ) → width (widths_of signals.now) (widths_of ports.now) (plain operand.now) ≡ Some a → joined op before a ≡ Some result }
-    ensures value { (k : ℕ) → k < streams → word_in (take result out.new) k ≡ combined op (word_in (take before out.old) k) (value (scope (stream_words signals.now ports.now k)) (plain operand.now)) }
+    ensures width { (a : ℕ) → width_in signals.now ports.now (plain operand.now) ≡ Some a → joined op before a ≡ Some result }
+    ensures value { let added = value_in signals.now ports.now (plain operand.now) in
+        HaveWord (take result out.new) (λ k. combined op (word_in (take before out.old) k) (added k)) }
 {
     let mut second = room();
     let added = evaluate(operand, signals, ports, &mut second, &mut []);

@@ -3,13 +3,12 @@ ghost use Rattle.std.specs.Prelude.{ℕ, ◌≡◌, ◌<◌, ◌^◌, All, IfOk,
 ghost use Rattle.std.specs.List.{sum};
 ghost use Rattle.opgen_num.specs.Words.{word};
 ghost use Rattle.opgen_design.specs.Order.{IsOrderOf};
-ghost use Rattle.opgen_design.specs.Run.{Cycle, at_ports, initial_words, input_widths, output_widths, is_in};
-ghost use Rattle.opgen_design.specs.Sound.{HasNumbers, IsSignalWide, IsSound, signal_widths};
-ghost use Rattle.opgen_runs.specs.Registers.{SameRegisters};
-ghost use Rattle.opgen_streams.specs.Streams.{streams, words_in};
-ghost use Rattle.opgen_lanes.specs.Banks.{IsBank, stream_words, widths_of, words_at};
+ghost use Rattle.opgen_design.specs.Run.{Cycle, input_widths, output_widths};
+ghost use Rattle.opgen_design.specs.Sound.{HasNumbers, IsSignalWide, IsSound};
+ghost use Rattle.opgen_streams.specs.Streams.{streams};
+ghost use Rattle.opgen_lanes.specs.Banks.{HasWords, IsBank, inputs_at, widths_of, words_at, words_of};
 ghost use Rattle.opgen_lanes.specs.Ready.{AreBanksOf, IsReady};
-ghost use Rattle.opgen_lanes.specs.Steps.{AreNew, IsStepIn};
+ghost use Rattle.opgen_lanes.specs.Steps.{AreInitial, AreNew, IsStepIn};
 
 use crate::bank::{Bank, Banks, port_widths, room, signal_widths};
 use crate::drivers::settle;
@@ -66,7 +65,7 @@ fn put_initial(signal: &Signal, place: usize, bank: &mut Bank)
     requires width { slice_index (widths_of bank.old) place ≡ signal.now.width }
     ensures bank { IsBank bank.new }
     ensures widths { widths_of bank.new ≡ widths_of bank.old }
-    ensures words { (k : ℕ) → k < streams → words_at bank.new k ≡ slice_set (words_at bank.old k) place (unwrap_or signal.now.initial (word signal.now.width 0)) }
+    ensures words { HasWords bank.new (λ k. slice_set (words_at bank.old k) place (unwrap_or signal.now.initial (word signal.now.width 0))) }
 {
     let word = initial_word(signal);
     let mut vectors = room();
@@ -80,7 +79,7 @@ fn initial_words(alloc: Global, signals: &[Signal]) -> Result<Bank, AllocError>
     requires wide { All IsSignalWide signals.now }
     ensures bank { IfOk result (λ b. IsBank b) }
     ensures widths { IfOk result (λ b. widths_of b ≡ map (λ s. s.width) signals.now) }
-    ensures words { IfOk result (λ b. (k : ℕ) → k < streams → words_at b k ≡ map (λ s. unwrap_or s.initial (word s.width 0)) signals.now) }
+    ensures words { IfOk result (λ b. HasWords b (λ _. map (λ s. unwrap_or s.initial (word s.width 0)) signals.now)) }
 {
     let widths = signal_widths(alloc, signals)?;
     let mut bank = Bank::new(alloc, &widths)?;
@@ -95,7 +94,7 @@ fn begin(alloc: Global, design: &Design) -> Result<(Vec<usize>, Banks, Bank), Me
     requires { IsSound design.now }
     ensures numbers { IfOk result (λ b. HasNumbers design.now) }
     ensures ready { IfOk result (λ b. IsReady design.now b.0.items b.1.signals b.1.ports b.2) }
-    ensures registers { IfOk result (λ b. (k : ℕ) → k < streams → SameRegisters design.now (words_in (signal_widths design.now) b.1.signals.vectors.items k) (initial_words design.now.signals)) }
+    ensures registers { IfOk result (λ b. AreInitial design.now b.1.signals.vectors.items) }
 {
     let order = evaluation_order(alloc, design)?;
     let signals = initial_words(alloc, design.signals.as_slice())?;
@@ -114,7 +113,8 @@ fn run_cycle(design: &Design, order: &[usize], banks: &mut Banks, next: &mut Ban
     requires next { AreBanksOf design.now next.old banks.old.ports }
     ensures banks { AreBanksOf design.now banks.new.signals banks.new.ports }
     ensures next { AreBanksOf design.now next.new banks.new.ports }
-    ensures cycle { (k : ℕ) → k < streams → Cycle design.now (words_at banks.old.signals k) (at_ports is_in design.now.ports (words_at banks.old.ports k)) (stream_words banks.new.signals banks.new.ports k) (words_at next.new k) }
+    ensures cycle { let inputs = inputs_at design.now.ports banks.old.ports in
+        (k : ℕ) → k < streams → Cycle design.now (words_at banks.old.signals k) (inputs k) (words_of banks.new k) (words_at next.new k) }
 {
     settle(design, order, banks);
     hand_all_on(design, banks, next);

@@ -1,9 +1,10 @@
 //! Vectors at the ports of a design.
-ghost use Rattle.std.specs.Prelude.{ℕ, ◌≡◌, ◌<◌, ◌≤◌, ◌+◌, ◌++◌, true, if◌then◌else◌, drop, length, map, slice_index, slice_set, take};
+ghost use Rattle.std.specs.Prelude.{ℕ, ◌≡◌, ◌<◌, ◌≤◌, ◌+◌, ◌++◌, true, if◌then◌else◌};
+ghost use Rattle.std.specs.Prelude.{drop, length, map, slice_index, slice_set, take};
 ghost use Rattle.std.specs.List.{sum};
 ghost use Rattle.opgen_design.specs.Run.{at_ports, is_in, is_out};
 ghost use Rattle.opgen_streams.specs.Streams.{streams, word_in, words_in};
-ghost use Rattle.opgen_lanes.specs.Banks.{IsBank, widths_of, words_at};
+ghost use Rattle.opgen_lanes.specs.Banks.{HasWords, IsBank, inputs_at, widths_at, widths_of, words_at};
 
 use crate::bank::Bank;
 use opgen_design::{Dir, Port};
@@ -18,7 +19,8 @@ fn take_one(port: &Port, place: usize, inputs: &[u64x4], at: usize, bank: &mut B
     ensures at { result ≡ (if is_in port.now.dir then at + port.now.width else at) }
     ensures bank { IsBank bank.new }
     ensures widths { widths_of bank.new ≡ widths_of bank.old }
-    ensures words { (k : ℕ) → k < streams → words_at bank.new k ≡ (if is_in port.now.dir then slice_set (words_at bank.old k) place (word_in (take port.now.width (drop at inputs.now)) k) else words_at bank.old k) }
+    ensures words { let given = take port.now.width (drop at inputs.now) in
+        HasWords bank.new (λ k. if is_in port.now.dir then slice_set (words_at bank.old k) place (word_in given k) else words_at bank.old k) }
 {
     match port.dir {
         Dir::In => {
@@ -34,10 +36,10 @@ fn take_one(port: &Port, place: usize, inputs: &[u64x4], at: usize, bank: &mut B
 pub fn take_inputs(ports: &[Port], inputs: &[u64x4], bank: &mut Bank)
     requires bank { IsBank bank.old }
     requires widths { widths_of bank.old ≡ map (λ p. p.width) ports.now }
-    requires inputs { length inputs.now ≡ sum (at_ports is_in ports.now (map (λ p. p.width) ports.now)) }
+    requires inputs { length inputs.now ≡ sum (widths_at is_in ports.now) }
     ensures bank { IsBank bank.new }
     ensures widths { widths_of bank.new ≡ map (λ p. p.width) ports.now }
-    ensures inputs { (k : ℕ) → k < streams → at_ports is_in ports.now (words_at bank.new k) ≡ words_in (at_ports is_in ports.now (map (λ p. p.width) ports.now)) inputs.now k }
+    ensures inputs { (k : ℕ) → k < streams → inputs_at ports.now bank.new k ≡ words_in (widths_at is_in ports.now) inputs.now k }
 {
     let mut at = 0;
     for place in 0..ports.len() {
@@ -49,7 +51,8 @@ pub fn take_inputs(ports: &[Port], inputs: &[u64x4], bank: &mut Bank)
 fn give_one(port: &Port, word: &[u64x4], outputs: &mut [u64x4], at: usize) -> usize
     requires { is_out port.now.dir ≡ true → at + length word.now ≤ length outputs.old }
     ensures at { result ≡ (if is_out port.now.dir then at + length word.now else at) }
-    ensures outputs { outputs.new ≡ (if is_out port.now.dir then take at outputs.old ++ (word.now ++ drop (length word.now) (drop at outputs.old)) else outputs.old) }
+    ensures outputs { let behind = drop (length word.now) (drop at outputs.old) in
+        outputs.new ≡ (if is_out port.now.dir then take at outputs.old ++ (word.now ++ behind) else outputs.old) }
 {
     match port.dir {
         Dir::In => at,
@@ -65,8 +68,8 @@ fn give_one(port: &Port, word: &[u64x4], outputs: &mut [u64x4], at: usize) -> us
 pub fn give_outputs(ports: &[Port], bank: &Bank, outputs: &mut [u64x4])
     requires bank { IsBank bank.now }
     requires widths { widths_of bank.now ≡ map (λ p. p.width) ports.now }
-    requires room { length outputs.old ≡ sum (at_ports is_out ports.now (map (λ p. p.width) ports.now)) }
-    ensures words { (k : ℕ) → k < streams → words_in (at_ports is_out ports.now (map (λ p. p.width) ports.now)) outputs.new k ≡ at_ports is_out ports.now (words_at bank.now k) }
+    requires room { length outputs.old ≡ sum (widths_at is_out ports.now) }
+    ensures words { (k : ℕ) → k < streams → words_in (widths_at is_out ports.now) outputs.new k ≡ at_ports is_out ports.now (words_at bank.now k) }
     ensures length { length outputs.new ≡ length outputs.old }
 {
     let mut at = 0;

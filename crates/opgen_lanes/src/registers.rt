@@ -1,14 +1,15 @@
 //! The registers' next words, in each stream.
-ghost use Rattle.std.specs.Prelude.{ℕ, ◌≡◌, ◌<◌, ◌≤◌, IfSome, Some, length, slice_get, slice_index};
+ghost use Rattle.std.specs.Prelude.{◌≡◌, ◌<◌, ◌≤◌, IfSome, Some, length, slice_get, slice_index};
 ghost use Rattle.opgen_num.specs.declared.TheConstants.{MAX_WIDTH};
 ghost use Rattle.opgen_design.specs.declared.design.Driver.{Driver};
 ghost use Rattle.opgen_design.specs.Run.{moved};
 ghost use Rattle.opgen_design.specs.Sound.{IsSound};
 ghost use Rattle.opgen_design.specs.Value.{word_at};
 ghost use Rattle.opgen_runs.specs.Evaluate.{hand_all_on, hand_on};
-ghost use Rattle.opgen_streams.specs.Streams.{streams, word_in};
-ghost use Rattle.opgen_lanes.specs.Banks.{IsBank, stream_words, widths_of, words_at};
+ghost use Rattle.opgen_streams.specs.Streams.{word_in};
+ghost use Rattle.opgen_lanes.specs.Banks.{HasWords, IsBank, widths_of, words_at, words_of};
 ghost use Rattle.opgen_lanes.specs.Ready.{AreBanksOf};
+ghost use Rattle.opgen_lanes.specs.Words.{HaveWord};
 
 use crate::bank::{Bank, Banks, room};
 use crate::evaluate::evaluate;
@@ -24,7 +25,7 @@ fn moved(enable: Option<usize>, to: usize, banks: &Banks, new: &mut [u64x4])
     requires one_bit { IfSome enable (λ port. slice_index (widths_of banks.now.ports) port ≡ 1) }
     requires to { to < length banks.now.signals.places.items }
     requires width { length new.old ≡ slice_index (widths_of banks.now.signals) to }
-    ensures { (k : ℕ) → k < streams → word_in new.new k ≡ moved enable (stream_words banks.now.signals banks.now.ports k) (word_in new.old k) (word_at (words_at banks.now.signals k) to) }
+    ensures { HaveWord new.new (λ k. moved enable (words_of banks.now k) (word_in new.old k) (word_at (words_at banks.now.signals k) to)) }
 {
     if let Some(port) = enable {
         let on = banks.ports.word(port)[0];
@@ -41,7 +42,8 @@ fn hand_on(design: &Design, place: usize, banks: &Banks, next: &mut Bank, new: &
     requires next { AreBanksOf design.now next.old banks.now.ports }
     requires room { MAX_WIDTH ≤ length new.old }
     ensures next { AreBanksOf design.now next.new banks.now.ports }
-    ensures words { (driver : Driver) → slice_get design.now.drivers place ≡ Some driver → (k : ℕ) → k < streams → words_at next.new k ≡ hand_on design.now.enable driver (stream_words banks.now.signals banks.now.ports k) (words_at next.old k) }
+    ensures words { (driver : Driver) → slice_get design.now.drivers place ≡ Some driver
+        → HasWords next.new (λ k. hand_on design.now.enable driver (words_of banks.now k) (words_at next.old k)) }
 {
     if let Driver::Register { to, expr } = design.drivers.get(place) {
         let width = evaluate(expr.expr(), &banks.signals, &banks.ports, new, &mut []);
@@ -57,7 +59,7 @@ pub fn hand_all_on(design: &Design, banks: &Banks, next: &mut Bank)
     requires banks { AreBanksOf design.now banks.now.signals banks.now.ports }
     requires next { AreBanksOf design.now next.old banks.now.ports }
     ensures next { AreBanksOf design.now next.new banks.now.ports }
-    ensures words { (k : ℕ) → k < streams → words_at next.new k ≡ hand_all_on design.now.enable design.now.drivers (stream_words banks.now.signals banks.now.ports k) (words_at next.old k) }
+    ensures words { HasWords next.new (λ k. hand_all_on design.now.enable design.now.drivers (words_of banks.now k) (words_at next.old k)) }
 {
     let mut new = room();
     for place in 0..design.drivers.len() {

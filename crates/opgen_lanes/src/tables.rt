@@ -1,10 +1,12 @@
 //! Tables looked up in all streams: by halving the addresses, or row by row.
-ghost use Rattle.std.specs.Prelude.{ℕ, ◌≡◌, ◌<◌, ◌≤◌, ◌&&◌, All, [], ◌∷◌, if◌then◌else◌, false, length, min, not, true, ◌^◌};
+ghost use Rattle.std.specs.Prelude.{ℕ, ◌≡◌, ◌<◌, ◌≤◌, ◌^◌, ◌&&◌, false, not, true, if◌then◌else◌};
+ghost use Rattle.std.specs.Prelude.{All, [], ◌∷◌, length, min};
 ghost use Rattle.opgen_num.specs.declared.TheConstants.{MAX_WIDTH};
 ghost use Rattle.opgen_num.specs.Words.{nat};
 ghost use Rattle.opgen_runs.specs.Evaluate.{table_word};
 ghost use Rattle.opgen_streams.specs.Streams.{bit_in, streams, word_in};
 ghost use Rattle.opgen_lanes.specs.Tables.{AreInOrder, word_of};
+ghost use Rattle.opgen_lanes.specs.Words.{HaveWord};
 
 use crate::words::{equal, write, write_where};
 use opgen_num::Word;
@@ -38,7 +40,7 @@ fn word_of(rows: &[(Word, Word)], other: Word, place: usize) -> Word
 
 // What the bits of two words at neighbouring addresses put into a vector, by the first bit and twice the second.
 fn ways(here: u64x4, low: u64x4) -> [u64x4; 4]
-    ensures { (k : ℕ) → k < streams → word_in result k ≡ false ∷ (bit_in here k && not (bit_in low k)) ∷ (bit_in here k && bit_in low k) ∷ bit_in here k ∷ [] }
+    ensures { HaveWord result (λ k. false ∷ (bit_in here k && not (bit_in low k)) ∷ (bit_in here k && bit_in low k) ∷ bit_in here k ∷ []) }
 {
     [splat(false), both(here, turned(low)), both(here, low), here]
 }
@@ -48,7 +50,7 @@ fn put_pair(here: u64x4, low: u64x4, first: Word, second: Word, out: &mut [u64x4
     requires first { length first ≡ length out.old }
     requires second { length second ≡ length out.old }
     requires zeros { (k : ℕ) → k < streams → bit_in here k ≡ true → nat (word_in out.old k) ≡ 0 }
-    ensures { (k : ℕ) → k < streams → word_in out.new k ≡ (if bit_in here k then (if bit_in low k then second else first) else word_in out.old k) }
+    ensures { HaveWord out.new (λ k. if bit_in here k then (if bit_in low k then second else first) else word_in out.old k) }
 {
     let ways = ways(here, low);
     let mut ones = first.bits();
@@ -78,7 +80,7 @@ fn put_rows(rows: &[(Word, Word)], other: Word, address: &[u64x4], here: u64x4, 
     requires some { 0 < length address.now }
     requires short { length address.now ≤ MOST_ADDRESS_BITS }
     requires zeros { (k : ℕ) → k < streams → bit_in here k ≡ true → nat (word_in out.old k) ≡ 0 }
-    ensures { (k : ℕ) → k < streams → word_in out.new k ≡ (if bit_in here k then word_of rows.now other (nat (word_in address.now k)) else word_in out.old k) }
+    ensures { HaveWord out.new (λ k. if bit_in here k then word_of rows.now other (nat (word_in address.now k)) else word_in out.old k) }
 {
     if rows.is_empty() {
         put_pair(here, here, other, other, out);
@@ -105,7 +107,7 @@ fn look_up_in_order(rows: &[(Word, Word)], other: Word, address: &[u64x4], out: 
     requires some { 0 < length address.now }
     requires short { length address.now ≤ MOST_ADDRESS_BITS }
     requires narrow_word { length other ≤ MAX_WIDTH }
-    ensures { (k : ℕ) → k < streams → word_in out.new k ≡ table_word rows.now other (word_in address.now k) }
+    ensures { HaveWord out.new (λ k. table_word rows.now other (word_in address.now k)) }
 {
     write(Word::new(0, other.width()), out);
     put_rows(rows, other, address, splat(true), out);
@@ -118,7 +120,7 @@ fn look_up_row_by_row(rows: &[(Word, Word)], other: Word, address: &[u64x4], out
     requires other { length other ≡ length out.old }
     requires narrow_address { length address.now ≤ MAX_WIDTH }
     requires narrow_word { length other ≤ MAX_WIDTH }
-    ensures { (k : ℕ) → k < streams → word_in out.new k ≡ table_word rows.now other (word_in address.now k) }
+    ensures { HaveWord out.new (λ k. table_word rows.now other (word_in address.now k)) }
 {
     write(other, out);
     for past in 0..rows.len() {
@@ -137,7 +139,7 @@ pub fn look_up(rows: &[(Word, Word)], other: Word, address: &[u64x4], out: &mut 
     requires other { length other ≡ length out.old }
     requires narrow_address { length address.now ≤ MAX_WIDTH }
     requires narrow_word { length other ≤ MAX_WIDTH }
-    ensures { (k : ℕ) → k < streams → word_in out.new k ≡ table_word rows.now other (word_in address.now k) }
+    ensures { HaveWord out.new (λ k. table_word rows.now other (word_in address.now k)) }
 {
     let bits = address.len();
     if bits > 0 && bits <= MOST_ADDRESS_BITS && are_in_order(rows) {

@@ -1,11 +1,13 @@
 //! Operations on the words of all streams.
-ghost use Rattle.std.specs.Prelude.{ℕ, ◌≡◌, ◌<◌, ◌≤◌, ◌+◌, ◌&&◌, ◌||◌, Some, if◌then◌else◌, length, map, not, take, slice_index_or, false, true, nat_eq, ◌++◌};
+ghost use Rattle.std.specs.Prelude.{ℕ, ◌≡◌, ◌<◌, ◌≤◌, ◌+◌, ◌&&◌, ◌||◌, false, not, true, nat_eq, if◌then◌else◌};
+ghost use Rattle.std.specs.Prelude.{Some, ◌++◌, length, map, slice_index_or, take};
 ghost use Rattle.opgen_num.specs.declared.TheConstants.{MAX_WIDTH};
 ghost use Rattle.opgen_num.specs.Sums.{pairwise, sum_with, xor};
 ghost use Rattle.opgen_num.specs.Words.{nat};
 ghost use Rattle.opgen_design.specs.Value.{combined};
 ghost use Rattle.opgen_design.specs.Width.{IsWidth, joined};
 ghost use Rattle.opgen_streams.specs.Streams.{bit_in, streams, word_in};
+ghost use Rattle.opgen_lanes.specs.Words.{HaveWord};
 
 use opgen_design::Op;
 use opgen_num::Word;
@@ -14,7 +16,7 @@ use std::simd::prelude::*;
 
 /// Each bit turned.
 pub fn turn(word: &mut [u64x4])
-    ensures { (k : ℕ) → k < streams → word_in word.new k ≡ map not (word_in word.old k) }
+    ensures { HaveWord word.new (λ k. map not (word_in word.old k)) }
 {
     for place in 0..word.len() {
         word[place] = turned(word[place]);
@@ -24,7 +26,7 @@ pub fn turn(word: &mut [u64x4])
 /// Bit by bit 1 where both are.
 pub fn keep_both(first: &mut [u64x4], second: &[u64x4])
     requires { length first.old ≡ length second.now }
-    ensures { (k : ℕ) → k < streams → word_in first.new k ≡ pairwise ◌&&◌ (word_in first.old k) (word_in second.now k) }
+    ensures { HaveWord first.new (λ k. pairwise ◌&&◌ (word_in first.old k) (word_in second.now k)) }
 {
     for place in 0..first.len() {
         first[place] = both(first[place], second[place]);
@@ -34,7 +36,7 @@ pub fn keep_both(first: &mut [u64x4], second: &[u64x4])
 /// Bit by bit 1 where one of the two is.
 pub fn keep_either(first: &mut [u64x4], second: &[u64x4])
     requires { length first.old ≡ length second.now }
-    ensures { (k : ℕ) → k < streams → word_in first.new k ≡ pairwise ◌||◌ (word_in first.old k) (word_in second.now k) }
+    ensures { HaveWord first.new (λ k. pairwise ◌||◌ (word_in first.old k) (word_in second.now k)) }
 {
     for place in 0..first.len() {
         first[place] = either(first[place], second[place]);
@@ -44,7 +46,7 @@ pub fn keep_either(first: &mut [u64x4], second: &[u64x4])
 /// Bit by bit 1 where they differ.
 pub fn keep_different(first: &mut [u64x4], second: &[u64x4])
     requires { length first.old ≡ length second.now }
-    ensures { (k : ℕ) → k < streams → word_in first.new k ≡ pairwise xor (word_in first.old k) (word_in second.now k) }
+    ensures { HaveWord first.new (λ k. pairwise xor (word_in first.old k) (word_in second.now k)) }
 {
     for place in 0..first.len() {
         first[place] = different(first[place], second[place]);
@@ -54,7 +56,7 @@ pub fn keep_different(first: &mut [u64x4], second: &[u64x4])
 /// Adds a word, without the last carry.
 pub fn add(first: &mut [u64x4], second: &[u64x4])
     requires { length first.old ≡ length second.now }
-    ensures { (k : ℕ) → k < streams → word_in first.new k ≡ sum_with false (word_in first.old k) (word_in second.now k) }
+    ensures { HaveWord first.new (λ k. sum_with false (word_in first.old k) (word_in second.now k)) }
 {
     let mut carried = splat(false);
     for place in 0..first.len() {
@@ -68,7 +70,7 @@ pub fn add(first: &mut [u64x4], second: &[u64x4])
 /// The first word stays in the streams where the condition is 1, and else the second takes its place.
 pub fn choose(on: u64x4, first: &mut [u64x4], second: &[u64x4])
     requires { length first.old ≡ length second.now }
-    ensures { (k : ℕ) → k < streams → word_in first.new k ≡ (if bit_in on k then word_in first.old k else word_in second.now k) }
+    ensures { HaveWord first.new (λ k. if bit_in on k then word_in first.old k else word_in second.now k) }
 {
     for place in 0..first.len() {
         first[place] = chosen(on, first[place], second[place]);
@@ -88,7 +90,7 @@ fn bit_at(word: Word, place: usize) -> bool
 pub fn write(word: Word, vectors: &mut [u64x4])
     requires same { length word ≡ length vectors.old }
     requires width { length word < 128 }
-    ensures { (k : ℕ) → k < streams → word_in vectors.new k ≡ word }
+    ensures { HaveWord vectors.new (λ _. word) }
 {
     for place in 0..vectors.len() {
         vectors[place] = splat(bit_at(word, place));
@@ -99,7 +101,7 @@ pub fn write(word: Word, vectors: &mut [u64x4])
 pub fn write_where(on: u64x4, word: Word, vectors: &mut [u64x4])
     requires same { length word ≡ length vectors.old }
     requires width { length word < 128 }
-    ensures { (k : ℕ) → k < streams → word_in vectors.new k ≡ (if bit_in on k then word else word_in vectors.old k) }
+    ensures { HaveWord vectors.new (λ k. if bit_in on k then word else word_in vectors.old k) }
 {
     for place in 0..vectors.len() {
         vectors[place] = chosen(on, splat(bit_at(word, place)), vectors[place]);
@@ -123,7 +125,7 @@ pub fn equal(word: Word, vectors: &[u64x4]) -> u64x4
 // Takes a word off, by the sum with its bits turned and a carry.
 fn subtract(first: &mut [u64x4], second: &[u64x4])
     requires { length first.old ≡ length second.now }
-    ensures { (k : ℕ) → k < streams → word_in first.new k ≡ sum_with true (word_in first.old k) (map not (word_in second.now k)) }
+    ensures { HaveWord first.new (λ k. sum_with true (word_in first.old k) (map not (word_in second.now k))) }
 {
     let mut carried = splat(true);
     for place in 0..first.len() {
@@ -139,7 +141,7 @@ fn join(first: &mut [u64x4], width: usize, second: &[u64x4]) -> usize
     requires room { width + length second.now ≤ length first.old }
     requires narrow { width + length second.now ≤ MAX_WIDTH }
     ensures width { result ≡ width + length second.now }
-    ensures word { (k : ℕ) → k < streams → word_in (take result first.new) k ≡ word_in second.now k ++ word_in (take width first.old) k }
+    ensures word { HaveWord (take result first.new) (λ k. word_in second.now k ++ word_in (take width first.old) k) }
 {
     let added = second.len();
     first.copy_within(0..width, added);
@@ -154,7 +156,7 @@ pub fn combine(op: Op, first: &mut [u64x4], width: usize, second: &[u64x4]) -> u
     requires second { IsWidth (length second.now) }
     requires room { MAX_WIDTH ≤ length first.old }
     ensures width { joined op width (length second.now) ≡ Some result }
-    ensures word { (k : ℕ) → k < streams → word_in (take result first.new) k ≡ combined op (word_in (take width first.old) k) (word_in second.now k) }
+    ensures word { HaveWord (take result first.new) (λ k. combined op (word_in (take width first.old) k) (word_in second.now k)) }
 {
     match op {
         Op::And => keep_both(&mut first[..width], second),

@@ -8,7 +8,7 @@ use Rattle.opgen_io.specs.Files.{Files}
 use Rattle.opgen_io.specs.declared.folder.FetchFault.TheVariants as fetch
 use Rattle.opgen_operator.specs.declared.spec.DelayLine.{DelayLine}
 use Rattle.opgen_operator.specs.declared.spec.Spec.{Spec}
-use Rattle.opgen_spec.specs.Document.{tree}
+use Rattle.opgen_document.specs.Document.{tree}
 use Rattle.opgen_spec.specs.Faults.{read}
 use Rattle.opgen_target.specs.Delays.{Delays}
 use Rattle.opgen_workload.specs.Filter.{workload_spec}
@@ -20,7 +20,7 @@ use Rattle.opgen_top.specs.Check.{IsAnswerToCheck, IsAnswerToVhdl}
 use Rattle.opgen_top.specs.Due.{most_bytes, most_simulated_bytes, IsAnswerOf, OnFetch}
 use Rattle.opgen_top.specs.Simulate.{IsSimulated}
 use Rattle.opgen_top.specs.Specified.{IsAnswerToSpec, IsGenerated, IsVectors, OnLines, OnReading, OnTable, OnTarget}
-use Rattle.opgen_top.specs.Targets.{Device, chosen, takes_lines, tuned}
+use Rattle.opgen_top.specs.Targets.{Device, first_of_name, takes_lines, tuned}
 use Rattle.opgen_top.specs.Workload.{IsWorked}
 use Rattle.opgen_top.proofs.SpecCases.{answers_table, cases_of_spec, cases_of_target, reading_ok}
 
@@ -266,18 +266,18 @@ answers_have_causes (Some (Check spec vhdl vectors latency)) devices files a h =
 -- each cause for which a specification is refused makes that refusal an answer to it
 module _ (bytes : List ℕ) (devices : List Device) (said : Spec → Delays → Answer → Type 0) (a : Answer) where
   abbrev Said : Spec → Type 0
-  Said spec = OnTarget (chosen spec.target devices) spec a (λ table. OnTable spec table a (said spec table a))
+  Said spec = OnTarget (first_of_name spec.target devices) spec a (λ table. OnTable spec table a (said spec table a))
 
   answers_fault : (fault : SpecFault) → read (tree bytes) ≡ Err fault → a ≡ refused fault → IsAnswerToSpec bytes devices said a
   answers_fault fault reads is = subst (λ r. OnReading r a Said) (sym reads) is
 
-  answers_unknown : (spec : Spec) → read (tree bytes) ≡ Ok spec → chosen spec.target devices ≡ None → a ≡ unknown_target
+  answers_unknown : (spec : Spec) → read (tree bytes) ≡ Ok spec → first_of_name spec.target devices ≡ None → a ≡ unknown_target
       → IsAnswerToSpec bytes devices said a
   answers_unknown spec reads found is =
       reading_ok (read (tree bytes)) a Said spec reads
       (subst (λ d. OnTarget d spec a (λ table. OnTable spec table a (said spec table a))) (sym found) is)
 
-  answers_fixed : (spec : Spec) (device : Device) → read (tree bytes) ≡ Ok spec → chosen spec.target devices ≡ Some device
+  answers_fixed : (spec : Spec) (device : Device) → read (tree bytes) ≡ Ok spec → first_of_name spec.target devices ≡ Some device
       → takes_lines device.adjustable spec.delays ≡ false → a ≡ not_adjustable → IsAnswerToSpec bytes devices said a
   answers_fixed spec device reads found takes is =
       let table = tuned device.delays spec.delays in

@@ -4,7 +4,8 @@ pub mod OneChecked
 pub mod OneAnswer
 pub mod Caused
 pub mod FixedLines
-pub mod FilterCells
+pub mod RowCells
+pub mod GoodRows
 pub mod GoodWorkloads
 pub mod Counting
 pub mod Numbering

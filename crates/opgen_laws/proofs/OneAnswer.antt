@@ -10,7 +10,7 @@ use Rattle.opgen_pipe.specs.declared.planning.Planned.{Planned}
 use Rattle.opgen_pipe.specs.Cells.{need}
 use Rattle.opgen_report.specs.Report.{report}
 use Rattle.opgen_spec.specs.declared.fault.SpecFault.{SpecFault}
-use Rattle.opgen_spec.specs.Document.{tree}
+use Rattle.opgen_document.specs.Document.{tree}
 use Rattle.opgen_spec.specs.Faults.{read}
 use Rattle.opgen_target.specs.Delays.{Delays}
 use Rattle.opgen_vhdl.specs.DesignText.{text_of}
@@ -25,7 +25,7 @@ use Rattle.opgen_top.specs.Due.{most_bytes, most_simulated_bytes, OnFetch}
 use Rattle.opgen_top.specs.Running.{IsRunText}
 use Rattle.opgen_top.specs.Simulate.{IsSimulated}
 use Rattle.opgen_top.specs.Specified.{IsAnswerToSpec, IsGenerated, IsVectors, IsTooShort, IsTooLarge, OnLines, OnReading, OnTable, OnTarget}
-use Rattle.opgen_top.specs.Targets.{Device, chosen, takes_lines, tuned}
+use Rattle.opgen_top.specs.Targets.{Device, first_of_name, takes_lines, tuned}
 use Rattle.opgen_top.specs.Workload.{IsWorked, RunsGood, workload_cells}
 use Rattle.opgen_top.specs.Workload.{cycles as workload_cycles}
 use Rattle.opgen_laws.proofs.OneCircuit.{OneOfEach, one_circuit, one_fitting}
@@ -148,7 +148,7 @@ one_of_spec each said has one devices under a b h k =
     one_on_fetch (fetched under most_bytes) a b (λ bytes. IsAnswerToSpec bytes devices said a)
     (λ bytes. IsAnswerToSpec bytes devices said b)
     (λ bytes. one_on_reading (read (tree bytes)) a b _ _
-    (λ spec. one_on_target (chosen spec.target devices) spec a b _ _
+    (λ spec. one_on_target (first_of_name spec.target devices) spec a b _ _
     (λ table. one_on_table each spec table a b (said spec table a) (said spec table b) (has spec table a) (has spec table b)
     (one spec table a b)))) h k
 
@@ -162,7 +162,7 @@ one_answer each (Some (Vectors spec seed cycles)) devices files a b h k =
     (λ s table. one_vectors each s table seed cycles) devices (files spec) a b h k
 one_answer each (Some (Workload n)) devices files a b h k =
     let spec = workload_spec n in
-    one_on_target (chosen spec.target devices) spec a b _ _
+    one_on_target (first_of_name spec.target devices) spec a b _ _
     (λ table. one_on_table each spec table a b (IsWorked n table a) (IsWorked n table b) (λ g. (false, g.planned, g.adders, g.circuit))
     (λ g. (false, g.planned, g.adders, g.circuit))
     (one_worked each n table a b)) h k

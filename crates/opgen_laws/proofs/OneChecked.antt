@@ -10,7 +10,7 @@ use Rattle.opgen_design.specs.declared.design.Design.{Design}
 use Rattle.opgen_operator.specs.declared.spec.Spec.{Spec}
 use Rattle.opgen_vhdl.proofs.Walks.{one_design}
 use Rattle.opgen_top.specs.Answer.{Answer}
-use Rattle.opgen_top.specs.Check.{FindsBad, FindsGood, GivesRows, HasVerdict, IsAnswerToVhdl, RefusesPorts}
+use Rattle.opgen_top.specs.Check.{FindsBad, FindsGood, GivesRows, IsAnswerToVhdl, IsVerdictOnVhdl, RefusesPorts}
 use Rattle.opgen_top.specs.Prepared.{verdict_answer}
 use Rattle.opgen_top.specs.Simulate.{RefusesVectors}
 use Rattle.opgen_laws.proofs.OneSimulated.{not_both, one_fault, one_read, one_vectors_fault}
@@ -25,14 +25,14 @@ module _ (spec : Spec) (latency : ℕ) (text vectors : List ℕ) where
 
   record Found (a : Answer) : Type 0 where
     checked : Checked
-    verdict : HasVerdict spec latency text vectors checked
+    verdict : IsVerdictOnVhdl spec latency text vectors checked
     answer : a ≡ verdict_answer checked
 
   found : (a : Answer) → Judges a → Found a
   found a (inl bad) = record { checked = Bad bad.row; verdict = bad.verdict; answer = bad.answer }
   found a (inr good) = record { checked = Good good.judged; verdict = good.verdict; answer = good.answer }
 
-  one_checked : (one other : Checked) → HasVerdict spec latency text vectors one → HasVerdict spec latency text vectors other
+  one_checked : (one other : Checked) → IsVerdictOnVhdl spec latency text vectors one → IsVerdictOnVhdl spec latency text vectors other
       → one ≡ other
   one_checked one other h k =
       let count = length (lines vectors) in

@@ -31,7 +31,7 @@ use Rattle.opgen_net.proofs.Later.{bits-later}
 use Rattle.opgen_net.proofs.WordLaws.{word-found_width, word-has_bits}
 use Rattle.opgen_operator.specs.declared.kinds.product.Product.{Product}
 use Rattle.opgen_operator.specs.declared.operator.Operator.TheVariants.{Multiply}
-use Rattle.opgen_operator.specs.Fits.{FitsSpecsOf}
+use Rattle.opgen_operator.specs.Fits.{FitsInEachMode}
 use Rattle.opgen_operator.specs.Held.{OutputsHold}
 use Rattle.opgen_operator.specs.kinds.Product.{IsAcceptedProduct, ProductsHaveWidth, product_format}
 use Rattle.opgen_compress.proofs.Compressing.{IsCompressed, compressed-is}
@@ -112,7 +112,7 @@ module _ (p : Product) (accepted : IsAcceptedProduct p) (left : ℕ)
       record { below = omega (arith, has.constant, below, pow_pos (heap_width p)); few = has.few (omega arith) }
 
   -- ---- the net
-  product-fits : ProductsHaveWidth → OutputsHold → FitsSpecsOf (Multiply p) (net_without p left)
+  product-fits : ProductsHaveWidth → OutputsHold → FitsInEachMode (Multiply p) (net_without p left)
   product-fits widths_of hold =
       let fit : Layout p = layout widths_of p accepted in
       let w = products p left in
@@ -145,7 +145,7 @@ module _ (p : Product) (accepted : IsAcceptedProduct p) (left : ℕ)
       (zeros-inputs (heap_width p) zeros two) (zeros-outputs (heap_width p) zeros two) valid
 
 pub product_net : ProductsHaveWidth → OutputsHold → (p : Product) → IsAcceptedProduct p
-    → (net : Net) × IsNetOfProduct p net × FitsSpecsOf (Multiply p) net
+    → (net : Net) × IsNetOfProduct p net × FitsInEachMode (Multiply p) net
 product_net widths_of hold p accepted =
     let (left, is) = left_out p.a.width p.b.width (bits_below p) in (
       net_without p left,

@@ -12,7 +12,7 @@ use Rattle.opgen_read.specs.declared.fault.ReadFault.TheVariants as read
 use Rattle.opgen_read.specs.Answer.{IsReadFault}
 use Rattle.opgen_runs.specs.Rows.{IsRunOf}
 use Rattle.opgen_spec.specs.declared.fault.SpecFault.{SpecFault}
-use Rattle.opgen_spec.specs.Document.{tree}
+use Rattle.opgen_document.specs.Document.{tree}
 use Rattle.opgen_spec.specs.Faults.{read as read_spec}
 use Rattle.opgen_vec.specs.declared.fault.VecFault.{VecFault}
 use Rattle.opgen_vec.specs.Reading.{IsReading}

@@ -20,8 +20,7 @@ use Rattle.opgen_net.specs.declared.net.Net.{Net}
 use Rattle.opgen_operator.specs.declared.operator.Operator.{Operator}
 use Rattle.opgen_operator.specs.declared.operator.Operator.TheVariants.{Scale, Fir, Multiply, Divide, Root, Mcm, Constdiv, Poly, Tfir}
 use Rattle.opgen_operator.specs.declared.spec.Spec.{Spec}
-use Rattle.opgen_operator.specs.Bounded.{OutputsAreWide}
-use Rattle.opgen_operator.specs.Fits.{FitsSpecsOf}
+use Rattle.opgen_operator.specs.Fits.{FitsInEachMode}
 use Rattle.opgen_operator.specs.Held.{OutputsHold}
 use Rattle.opgen_operator.specs.kinds.Product.{ProductsHaveWidth}
 use Rattle.opgen_operator.specs.Operator.{divisor, inputs_of}
@@ -39,7 +38,7 @@ use Rattle.opgen_report.specs.Report.{report}
 use Rattle.opgen_schedule.specs.Schedule.{greatest_time}
 use Rattle.opgen_schedule.specs.Stage.{slot_at}
 use Rattle.opgen_spec.specs.declared.fault.SpecFault.{SpecFault}
-use Rattle.opgen_spec.specs.Document.{tree}
+use Rattle.opgen_document.specs.Document.{tree}
 use Rattle.opgen_spec.specs.Faults.{read}
 use Rattle.opgen_spec.proofs.Validity.{valid_read}
 use Rattle.opgen_sqrt.specs.Recipe.{net_of_single}
@@ -61,7 +60,7 @@ use Rattle.opgen_top.specs.Serves.{Serves}
 use Rattle.opgen_top.specs.Kinds.{AreAddersOf, AreAddersOfOperator, IsFittingNet, IsNetOfOperator}
 use Rattle.opgen_runs.specs.Rows.{IsRunOf, output_cells, rows_words}
 use Rattle.opgen_top.specs.Specified.{IsAnswerToSpec, IsGenerated, IsVectors, OnLines, OnReading, OnTable, OnTarget}
-use Rattle.opgen_top.specs.Targets.{Device, chosen, takes_lines, tuned}
+use Rattle.opgen_top.specs.Targets.{Device, first_of_name, takes_lines, tuned}
 use Rattle.opgen_top.specs.Workload.{IsAnswerToWorkload, IsWorked, cycles, workload_cells}
 use Rattle.opgen_top.proofs.Building.{accepted_kind, accepted_scale, kind_fitting}
 use Rattle.opgen_top.proofs.ServedPorts.{served_widths}
@@ -72,13 +71,12 @@ use Rattle.opgen_runs.proofs.Rows.{rows_words-widths}
 -- laws that the nets rest on
 pub record NetLaws : Type 0 where
   pub hold : OutputsHold
-  pub wide : OutputsAreWide
   pub widths : ProductsHaveWidth
   pub serve : CircuitsServe
 
 module _ (laws : NetLaws) (spec : Spec) (valid : IsValidSpec spec)
     (found : (net : Net) (adders : List ℕ) → IsFittingNet spec net → AreAddersOf spec adders → ⊥) where
-  with_net : (op : Operator) (net : Net) (adders : List ℕ) → spec.op ≡ op → IsNetOfOperator op net → FitsSpecsOf op net
+  with_net : (op : Operator) (net : Net) (adders : List ℕ) → spec.op ≡ op → IsNetOfOperator op net → FitsInEachMode op net
       → AreAddersOfOperator op adders → ⊥
   with_net op net adders e of fits are =
       found net adders (kind_fitting spec valid op net e of fits) (subst (λ o. AreAddersOfOperator o adders) (sym e) are)
@@ -90,22 +88,22 @@ module _ (laws : NetLaws) (spec : Spec) (valid : IsValidSpec spec)
       let made = product_net laws.widths laws.hold p (accepted_kind spec valid (Multiply p) e) in
       with_net (Multiply p) made.0 [] e made.1 made.2 refl
   of_kind (Divide p) e =
-      with_net (Divide p) (net_of_pair p) [] e refl (quotients.fits_specs p (accepted_kind spec valid (Divide p) e)) refl
-  of_kind (Root r) e = with_net (Root r) (net_of_single r) [] e refl (roots.fits_specs r (accepted_kind spec valid (Root r) e)) refl
+      with_net (Divide p) (net_of_pair p) [] e refl (quotients.fits_modes p (accepted_kind spec valid (Divide p) e)) refl
+  of_kind (Root r) e = with_net (Root r) (net_of_single r) [] e refl (roots.fits_modes r (accepted_kind spec valid (Root r) e)) refl
   of_kind (Mcm m) e =
-      several_net laws.hold laws.wide m (accepted_kind spec valid (Mcm m) e)
+      several_net laws.hold m (accepted_kind spec valid (Mcm m) e)
       (λ made. with_net (Mcm m) made.net made.is.set e made.is made.fits made.is.least.adders)
   of_kind (Constdiv c) e =
       with_net (Constdiv c) (net_of_small c.exact c.input.width c.divisor) [] e refl
-      (divisions.fits_specs c (accepted_kind spec valid (Constdiv c) e)) refl
+      (divisions.fits_modes c (accepted_kind spec valid (Constdiv c) e)) refl
   of_kind (Poly p) e =
-      with_net (Poly p) (net_of_poly p) [] e refl (polynomials.fits_specs p (accepted_kind spec valid (Poly p) e)) refl
+      with_net (Poly p) (net_of_poly p) [] e refl (polynomials.fits_modes p (accepted_kind spec valid (Poly p) e)) refl
   of_kind (Tfir f) e =
       let accepted = accepted_kind spec valid (Tfir f) e in
       some_least_graph f.taps f.input.width f.extra (accepted_ranges (Tfir f) accepted).taps (
       λ least. with_net (Tfir f) (net_of_taps f least.graph) least.set e
       (record { set = least.set; graph = least.graph; least = least.is; by = refl })
-      (filters.fits_specs f accepted least.graph least.serves laws.hold) least.is.adders)
+      (filters.fits_modes f accepted least.graph least.serves laws.hold) least.is.adders)
 
   some_fitting : ⊥
   some_fitting = of_kind spec.op refl
@@ -186,10 +184,10 @@ module _ (bytes : List ℕ) (devices : List Device) (said : Spec → Delays → 
     (some : (spec : Spec) → IsValidSpec spec → (table : Delays) → ((a : Answer) → OnTable spec table a (said spec table a) → ⊥) → ⊥)
   where
     on_reading : (r : Result Spec SpecFault) → ((spec : Spec) → r ≡ Ok spec → IsValidSpec spec)
-        → ((a : Answer) → OnReading r a (λ spec. OnTarget (chosen spec.target devices) spec a
+        → ((a : Answer) → OnReading r a (λ spec. OnTarget (first_of_name spec.target devices) spec a
         (λ table. OnTable spec table a (said spec table a))) → ⊥) → ⊥
     on_reading (Ok spec) valid found =
-        on_target (chosen spec.target devices) spec (λ table a. OnTable spec table a (said spec table a))
+        on_target (first_of_name spec.target devices) spec (λ table a. OnTable spec table a (said spec table a))
         (some spec (valid spec refl)) found
     on_reading (Err fault) valid found = found (refused fault) refl
 
@@ -227,7 +225,7 @@ module _ (laws : NetLaws) where
   some_worked n some few devices found =
       let spec = workload_spec n in
       let valid = workload_valid n some few in
-      on_target (chosen spec.target devices) spec (λ table a. OnTable spec table a (IsWorked n table a)) (
+      on_target (first_of_name spec.target devices) spec (λ table a. OnTable spec table a (IsWorked n table a)) (
       λ table. some_table laws spec valid table false (IsWorked n table) (
       λ planned adders circuit made.
       let d = planned.design in

@@ -40,13 +40,13 @@ use Rattle.opgen_net.proofs.FlowLaws.{length-widths}
 use Rattle.opgen_net.proofs.Grown.{grown-then}
 use Rattle.opgen_net.proofs.Later.{words-grown}
 use Rattle.opgen_operator.specs.declared.kinds.sum.Sum.{Sum}
-use Rattle.opgen_operator.specs.declared.operator.Operator.TheVariants.{Fir}
-use Rattle.opgen_operator.specs.Fits.{FitsSpecsOfSum}
+use Rattle.opgen_operator.specs.declared.operator.Operator.TheVariants.{Scale, Fir}
+use Rattle.opgen_operator.specs.Fits.{FitsInEachMode}
 use Rattle.opgen_operator.specs.Held.{OutputsHold}
 use Rattle.opgen_operator.specs.kinds.Sum.{IsAcceptedSum, guard_bits, sum_places, sum_format, IsSum}
 use Rattle.opgen_operator.proofs.Accepted.{accepted_ranges, accepted_width}
-use Rattle.opgen_operator.proofs.InputPorts.{input_bit}
-use Rattle.opgen_operator.proofs.Widths.{some_width}
+use Rattle.opgen_ports.proofs.InputPorts.{input_bit}
+use Rattle.opgen_ports.proofs.Widths.{some_width}
 use Rattle.opgen_compress.proofs.Compressing.{IsCompressed, compressed-is}
 use Rattle.opgen_compress.proofs.Heaps.{IsHeap, constant-heap}
 use Rattle.opgen_laws.proofs.SumTables.{AreRows, all-rows}
@@ -196,7 +196,7 @@ module _ (s : Sum) (accepted : IsAcceptedSum s) where
   all-terms (suc k) le = one-more k (omega (arith, le)) (with_terms s k) (all-terms k (omega (arith, le)))
 
   -- ---- the net
-  pub sum-fits : OutputsHold → FitsSpecsOfSum s (net_of_sum s)
+  pub sum-fits : OutputsHold → FitsInEachMode (Scale s) (net_of_sum s) × FitsInEachMode (Fir s) (net_of_sum s)
   sum-fits hold =
       let g = guard_bits s in
       let t = with_terms s (length s.coefs) in

@@ -7,7 +7,7 @@ use Rattle.opgen_io.specs.Files.{Files}
 use Rattle.opgen_io.specs.declared.folder.FetchFault.TheVariants as fetch
 use Rattle.opgen_operator.specs.declared.spec.Spec.{Spec}
 use Rattle.opgen_spec.specs.declared.fault.SpecFault.{SpecFault}
-use Rattle.opgen_spec.specs.Document.{tree}
+use Rattle.opgen_document.specs.Document.{tree}
 use Rattle.opgen_spec.specs.Faults.{read}
 use Rattle.opgen_target.specs.Delays.{Delays}
 use Rattle.opgen_workload.specs.Filter.{workload_spec}
@@ -16,7 +16,7 @@ use Rattle.opgen_top.specs.Check.{FindsBad, FindsGood, RefusesPorts}
 use Rattle.opgen_top.specs.Due.{IsAnswerOf, most_bytes, most_simulated_bytes}
 use Rattle.opgen_top.specs.Simulate.{RefusesVhdl, RefusesVectors, Runs}
 use Rattle.opgen_top.specs.Specified.{IsGenerated, IsVectors, IsTooShort, IsTooLarge}
-use Rattle.opgen_top.specs.Targets.{Device, IsTableOf, chosen}
+use Rattle.opgen_top.specs.Targets.{Device, IsTableOf, first_of_name}
 use Rattle.opgen_top.specs.Workload.{IsWorked}
 
 -- a file holds a specification without a fault
@@ -76,9 +76,9 @@ pub record HasFault (file : List ℕ) (files : Files) (a : Answer) : Type 0 wher
 -- have too many signals.
 pub data IsRefusedSpec (file : List ℕ) (devices : List Device) (files : Files) (a : Answer) : Type 0 where
   faulty : HasFault file files a → IsRefusedSpec file devices files a
-  no_target : (spec : Spec) → HasSpec file files spec → chosen spec.target devices ≡ None → a ≡ unknown_target
+  no_target : (spec : Spec) → HasSpec file files spec → first_of_name spec.target devices ≡ None → a ≡ unknown_target
       → IsRefusedSpec file devices files a
-  fixed_table : (spec : Spec) (device : Device) → HasSpec file files spec → chosen spec.target devices ≡ Some device
+  fixed_table : (spec : Spec) (device : Device) → HasSpec file files spec → first_of_name spec.target devices ≡ Some device
       → device.adjustable ≡ false
       → spec.delays ≢ [] → a ≡ not_adjustable → IsRefusedSpec file devices files a
   short_period : HasTable file devices files (λ spec table. IsTooShort spec table a) → IsRefusedSpec file devices files a
@@ -87,7 +87,7 @@ pub data IsRefusedSpec (file : List ℕ) (devices : List Device) (files : Files)
 -- after 1, without a file: no target has the name that the filter asks for, or its net needs a longer period, or would have
 -- too many signals
 pub data IsRefusedFilter (n : ℕ) (devices : List Device) (a : Answer) : Type 0 where
-  filter_without_target : chosen (workload_spec n).target devices ≡ None → a ≡ unknown_target → IsRefusedFilter n devices a
+  filter_without_target : first_of_name (workload_spec n).target devices ≡ None → a ≡ unknown_target → IsRefusedFilter n devices a
   filter_of_long_need : HasFilter n devices (λ table. IsTooShort (workload_spec n) table a) → IsRefusedFilter n devices a
   filter_of_many_signals : HasFilter n devices (λ table. IsTooLarge (workload_spec n) table a) → IsRefusedFilter n devices a
 

@@ -1,12 +1,19 @@
--- What holds of every net and every circuit of a specification: there is at most one, and the circuit is sound.
-use Rattle.std.specs.Prelude.{ℕ, ◌≡◌, Bool, List}
+-- What holds of every net and every circuit of a specification: there is at most one, and the circuit is sound and checked good.
+use Rattle.std.specs.Prelude.{ℕ, ◌≡◌, ◌-◌, Bool, false, List, length, Ok}
+use Rattle.std.specs.Str.Lines.{lines}
+use Rattle.opgen_design.specs.Run.{input_widths}
 use Rattle.opgen_design.specs.Sound.{IsSound}
 use Rattle.opgen_net.specs.declared.net.Net.{Net}
 use Rattle.opgen_operator.specs.declared.spec.Spec.{Spec}
+use Rattle.opgen_operator.specs.Valid.{IsValidSpec}
 use Rattle.opgen_pipe.specs.declared.planning.Planned.{Planned}
 use Rattle.opgen_target.specs.Delays.{Delays}
+use Rattle.opgen_top.specs.Answer.{Answer, all_good}
+use Rattle.opgen_top.specs.Check.{IsAnswerToVhdl}
 use Rattle.opgen_top.specs.Circuit.{IsCircuit}
 use Rattle.opgen_top.specs.Kinds.{IsNetOf}
+use Rattle.opgen_vec.specs.Reading.{IsReading}
+use Rattle.opgen_vhdl.specs.DesignText.{text_of}
 
 -- a specification leaves at most one net
 abbrev pub HasOneNet : Type 0
@@ -21,3 +28,11 @@ HasOneCircuit = (spec : Spec) (table : Delays) (enable : Bool) (p q : Planned) (
 abbrev pub CircuitsAreSound : Type 0
 CircuitsAreSound = (spec : Spec) (table : Delays) (enable : Bool) (planned : Planned) (adders : List ℕ)
     → IsCircuit spec table enable planned adders → IsSound planned.design
+
+-- `check` of the text of a circuit, at its latency: whatever rows it is given, each row that is judged is good
+abbrev pub CircuitsCheckGood : Type 0
+CircuitsCheckGood = (spec : Spec) → IsValidSpec spec → (table : Delays) (planned : Planned) (adders : List ℕ)
+    → IsCircuit spec table false planned adders
+    → (vectors cells : List ℕ) → IsReading (input_widths planned.design) (lines vectors) (Ok cells)
+    → (a : Answer) → IsAnswerToVhdl spec planned.latency (text_of planned.design) vectors a
+    → a ≡ all_good (length (lines vectors) - planned.latency)

@@ -4,7 +4,7 @@ ghost use Rattle.opgen_laws.specs.Causes.{AnswersHaveCauses, RefusalsAreDue};
 ghost use Rattle.opgen_laws.specs.Lines.{LinesAreFixed};
 ghost use Rattle.opgen_laws.specs.Workloads.{WorkloadsAreGood};
 
-use opgen_operator::{outputs_are_wide, outputs_hold, products_have_width};
+use opgen_operator::{outputs_hold, products_have_width};
 use opgen_part_laws::{one_adder_set, one_least_graph, one_net_of_product, one_net_of_several};
 use opgen_top::circuits_serve;
 
@@ -24,7 +24,6 @@ pub fn some_answer()
     ensures { HasSomeAnswer }
 {
     outputs_hold();
-    outputs_are_wide();
     products_have_width();
     circuits_serve();
 }

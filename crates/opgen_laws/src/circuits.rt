@@ -1,7 +1,8 @@
 //! Laws on the nets and circuits of a specification.
-ghost use Rattle.opgen_laws.specs.Circuits.{CircuitsAreSound, HasOneCircuit, HasOneNet};
+ghost use Rattle.opgen_laws.specs.Circuits.{CircuitsAreSound, CircuitsCheckGood, HasOneCircuit, HasOneNet};
 
 use opgen_part_laws::{one_adder_set, one_least_graph, one_net_of_product, one_net_of_several};
+use opgen_top::circuits_serve;
 
 /// A specification leaves at most one net.
 pub fn one_net()
@@ -27,3 +28,10 @@ pub fn one_circuit()
 pub fn circuits_are_sound()
     ensures { CircuitsAreSound }
 {}
+
+/// `check` of a stored circuit without a clock enable, at its latency, finds every row that it judges good, whatever the rows.
+pub fn circuits_check_good()
+    ensures { CircuitsCheckGood }
+{
+    circuits_serve();
+}

@@ -45,9 +45,9 @@ module _ (bytes rest : List ℕ) (b : Behind bytes rest) where
   pub behind-token : (kind : TokenKind) (n : ℕ) → StandsFor rest n (token kind (take n rest))
       → IsFirstToken bytes kind (take n rest) (drop n rest)
   behind-token kind n s = record {
-    elements = b.elements ++ token kind (take n rest) ∷ [];
+    before = b.elements;
+    gaps = b.gaps;
     cut = with_more n (token kind (take n rest)) refl s.2;
-    alone = spellings-append b.elements (token kind (take n rest) ∷ []) ∙ rw b.gaps refl;
   }
 
   pub behind-nothing : NothingStarts rest → HasNoToken bytes
@@ -95,8 +95,16 @@ passed-on bytes rest later p q = record {
   cut = cut-append p.elements q.elements bytes rest later p.cut q.cut;
 }
 
-pub first-passed : (bytes : List ℕ) (kind : TokenKind) (text behind : List ℕ) → IsFirstToken bytes kind text behind → IsPassed bytes behind
-first-passed bytes kind text behind t = record { elements = t.elements; cut = t.cut }
+module _ (bytes : List ℕ) (kind : TokenKind) (text behind : List ℕ) (t : IsFirstToken bytes kind text behind) where
+  -- the elements up to the first token, with it
+  abbrev pub first_elements : List Element
+  first_elements = t.before ++ token kind text ∷ []
+
+  pub first-alone : spellings_of first_elements ≡ (kind, text) ∷ []
+  first-alone = spellings-append t.before (token kind text ∷ []) ∙ rw t.gaps refl
+
+  pub first-passed : IsPassed bytes behind
+  first-passed = record { elements = first_elements; cut = t.cut }
 
 size_of-append : (es fs : List Element) → size_of (es ++ fs) ≡ size_of es + size_of fs
 size_of-append [] fs = omega arith
@@ -111,7 +119,8 @@ some_size (token k t ∷ es) bytes rest kind text c h = omega (arith, token_some
 pub behind-shorter : (rest : List ℕ) (kind : TokenKind) (text behind : List ℕ) → IsFirstToken rest kind text behind
     → length behind < length rest
 behind-shorter rest kind text behind t =
-    omega (arith, length-cut t.elements rest behind t.cut, some_size t.elements rest behind kind text t.cut t.alone)
+    let es = first_elements rest kind text behind t in
+    omega (arith, length-cut es rest behind t.cut, some_size es rest behind kind text t.cut (first-alone rest kind text behind t))
 
 pub fault-within : (bytes : List ℕ) (at : ℕ) → LexicalAt bytes at → at ≤ length bytes
 fault-within bytes at l = omega (arith, l.place, length-cut l.elements bytes l.rest l.cut)

@@ -1,3 +1,9 @@
 pub mod Cuts
 pub mod DigitValues
 pub mod Words
+pub mod FirstSymbol
+pub mod Phrases
+pub mod SymbolsIn
+pub mod FirstPiece
+pub mod FittingTokens
+pub mod HeldToken

@@ -1,6 +1,6 @@
 -- The first token of a text, and how far a text was cut into tokens.
-use Rattle.std.specs.Prelude.{◌≡◌, ℕ, List, [], ◌∷◌}
-use Rattle.opgen_vhdl.specs.Tokens.{Element, Cut, Tokens, NothingStarts}
+use Rattle.std.specs.Prelude.{◌≡◌, ℕ, List, [], ◌∷◌, ◌++◌}
+use Rattle.opgen_vhdl.specs.Tokens.{Element, token, Cut, Tokens, NothingStarts}
 use Rattle.opgen_vhdl.specs.Spans.{spellings_of}
 use Rattle.opgen_vhdl.specs.declared.kind.Token.{Token}
 use Rattle.opgen_vhdl.specs.declared.kind.TokenKind.{TokenKind}
@@ -15,11 +15,11 @@ pub record HasTokens (bytes : List ℕ) : Type 0 where
   pub tokens : List Token
   pub cut : Tokens bytes tokens
 
--- the bytes are elements of which this one is the only token, and then the rest
+-- the bytes are white space and comments, then this token, and right behind it the rest
 pub record IsFirstToken (bytes : List ℕ) (kind : TokenKind) (text rest : List ℕ) : Type 0 where
-  pub elements : List Element
-  pub cut : Cut elements bytes rest
-  pub alone : spellings_of elements ≡ (kind, text) ∷ []
+  pub before : List Element
+  pub gaps : spellings_of before ≡ []
+  pub cut : Cut (before ++ token kind text ∷ []) bytes rest
 
 -- the bytes are white space and comments up to where nothing starts, as at the end
 pub record HasNoToken (bytes : List ℕ) : Type 0 where

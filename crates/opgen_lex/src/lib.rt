@@ -1,10 +1,14 @@
-//! The lexer of the VHDL subset, and what the texts of its tokens mean.
+//! The lexer of the VHDL subset, what the texts of its tokens mean, and a cursor over them, which takes pieces, phrases,
+//! words, marks, numbers and bit strings from the front.
 //!
 //! Proved: The tokens of a text, or the offset at which no token starts, also without a list of the tokens. The first token
-//! of a text. Whether two tokens are of one kind, and whether a token is a given word, upper and lower case being the same.
-//! The number of a bit that digits write, and the word that a bit string writes.
+//! of a text, and what is right behind it. Whether two tokens are of one kind, and whether a token is a given word, upper
+//! and lower case being the same. The number of a bit that digits write, and the word that a bit string writes. What is
+//! left behind a given word, mark or number, behind a phrase, and behind the semicolon that ends a piece. The number of a
+//! bit and the word of a bit string at the front. The pieces of a text, one at a time.
 //!
-//! By: `tokens`, `first_fault`, `first_token`; `same_kind`, `same_word`, `index_of`, `word_of`.
+//! By: `tokens`, `first_fault`, `first_token`; `same_kind`, `same_word`, `index_of`, `word_of`; `token`, `word`, `mark`,
+//! `zero`, `index`, `string`, `end` and `piece` of `Cursor`; `Phrase`.
 #![tactic(auto)]
 
 ghost use Rattle.std.specs.Prelude.{◌≡◌, ◌≤◌, length, All, IfOk, IfErr, IfSome, IfNone};
@@ -13,12 +17,17 @@ ghost use Rattle.opgen_vhdl.specs.Spans.{InOrder, IsWithin};
 ghost use Rattle.opgen_lex.specs.Fault.{IsLexical};
 ghost use Rattle.opgen_lex.specs.First.{HasTokens, IsFirstToken, HasNoToken};
 
+mod cursor;
 mod front;
+mod phrase;
+mod piece_len;
 mod token_text;
 
+pub use cursor::Cursor;
 use front::{behind_white, front_at, leading};
 use opgen_vhdl::Front;
 pub use opgen_vhdl::{Token, TokenKind};
+pub use phrase::Phrase;
 use std::alloc::{AllocFailed, Global};
 use thiserror::Error;
 pub use token_text::{index_of, same_kind, same_word, word_of};

@@ -37,6 +37,10 @@ AreBelow n spots = All (λ s. (s.place < n) × (s.width ≤ 64)) spots
 abbrev pub AreSpots : ℕ → Spots → Type 0
 AreSpots n spots = AreBelow n spots.signals × AreBelow n spots.ports
 
+-- something holds of whatever spots stand below a place
+abbrev pub ForSpots : ℕ → (Spots → Type 0) → Type 0
+ForSpots n holds = (spots : Spots) → AreSpots n spots → holds spots
+
 -- a word stands at a spot
 pub record Holds (m : List ℕ) (spot : Spot) (v : List Bool) : Type 0 where
   pub number : slice_index m spot.place ≡ nat v

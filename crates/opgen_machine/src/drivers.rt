@@ -33,7 +33,9 @@ fn choice_spot(
     requires on { HasNarrow (spots_of spots.now) on.now 1 }
     requires yes { IsNarrow (width_over (spots_of spots.now) yes.now) }
     requires no { width_over (spots_of spots.now) no.now ≡ width_over (spots_of spots.now) yes.now }
-    ensures { IfOk result (λ s. (size : ℕ) → HasNarrow (spots_of spots.now) yes.now size → Left base (spots_of spots.now) (chosen_over on.now yes.now no.now) size steps.old.items steps.new.items s) }
+    ensures { let at = spots_of spots.now in
+        IfOk result (λ s. (size : ℕ) → HasNarrow at yes.now size
+        → Left base at (chosen_over on.now yes.now no.now) size steps.old.items steps.new.items s) }
 {
     let on = emit(steps, base, spots, on.expr())?;
     let yes = emit(steps, base, spots, yes.expr())?;
@@ -55,7 +57,10 @@ fn row_spot(
     requires fine { AreFine base steps.old.items }
     requires on { IsNarrow (width_over (spots_of spots.now) on.now) }
     requires room { IfSome (width_over (spots_of spots.now) on.now) (λ w. from + 2 ^ w ≤ base) }
-    ensures { IfOk result (λ s. (low : ℕ) (rows : List Row) (other : List Bool) → 1 ≤ length rows → length other ≡ width → AgreesTable (spots_of spots.now) on.now rows other width → Leaves low base (spots_of spots.now) (Table 0 on.now rows other) from width steps.old.items steps.new.items s) }
+    ensures { let at = spots_of spots.now in
+        IfOk result (λ s. (low : ℕ) (rows : List Row) (other : List Bool) → 1 ≤ length rows → length other ≡ width
+        → AgreesTable at on.now rows other width
+        → Leaves low base at (Table 0 on.now rows other) from width steps.old.items steps.new.items s) }
 {
     let on = emit(steps, base, spots, on.expr())?;
     look_up(steps, base, on, from, width)
@@ -74,7 +79,9 @@ fn driver_spot(
     requires fine { AreFine base steps.old.items }
     requires agrees { Agrees (spots_of spots.now) driver.now }
     requires room { HasRoom base driver.now from }
-    ensures { IfOk result (λ s. (low : ℕ) → Leaves low base (spots_of spots.now) driver.now from (width_at (spots_of spots.now) (target driver.now)) steps.old.items steps.new.items s) }
+    ensures { let at = spots_of spots.now in
+        let width = width_at at (target driver.now) in
+        IfOk result (λ s. (low : ℕ) → Leaves low base at driver.now from width steps.old.items steps.new.items s) }
 {
     match driver {
         Driver::Assign { to: _, expr }
@@ -138,7 +145,8 @@ pub(crate) fn settle(
     requires agrees { All (Agrees (spots_of spots.old)) drivers.now }
     requires there { All (λ k. IsThere (spots_of spots.old) (target k)) drivers.now }
     requires room { AllZip (HasRoom base) drivers.now tables.now }
-    ensures { OnOk result ((low : ℕ) → Settles low base drivers.now tables.now order.now (spots_of spots.old) steps.new.items (spots_of spots.new)) }
+    ensures { let first = spots_of spots.old in
+        OnOk result ((low : ℕ) → Settles low base drivers.now tables.now order.now first steps.new.items (spots_of spots.new)) }
 {
     for place in order {
         put(steps, base, spots, &drivers[*place], tables[*place])?;

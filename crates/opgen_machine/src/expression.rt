@@ -1,10 +1,11 @@
 //! Translates an expression to steps, and reuses an equal step among the last ones.
-ghost use Rattle.std.specs.Prelude.{◌≡◌, ◌+◌, ◌-◌, ◌^◌, ◌<◌, ◌≤◌, ◌++◌, ◌∷◌, [], ℕ, Some, IfOk, IfSome, OnOk, IsSome, IsTrue, length, slice_get, slice_index_or};
+ghost use Rattle.std.specs.Prelude.{◌≡◌, ◌+◌, ◌-◌, ◌^◌, ◌<◌, ◌≤◌, ◌++◌, ◌∷◌, [], ℕ, length, slice_get, slice_index_or};
+ghost use Rattle.std.specs.Prelude.{Some, IfOk, IfSome, OnOk, IsSome, IsTrue};
 ghost use Rattle.opgen_design.specs.Plain.{plain, plain_all};
 ghost use Rattle.opgen_design.specs.Tree.{bits, chain, name, part, port};
 ghost use Rattle.opgen_design.specs.Width.{IsWidth, chain_width, joined};
 ghost use Rattle.opgen_machine.specs.Steps.{AreFine};
-ghost use Rattle.opgen_machine.specs.Programs.{AreSpots, Spots, widths_of};
+ghost use Rattle.opgen_machine.specs.Programs.{AreSpots, ForSpots, widths_of};
 ghost use Rattle.opgen_machine.specs.Layout.{spots_of};
 ghost use Rattle.opgen_machine.specs.Emit.{Chosen, Combined, Copied, Emitted, IsNarrow, Looked, step_of, width_of, width_over};
 
@@ -89,7 +90,8 @@ fn combine(
     requires second_width { IsWidth second.width }
     requires first { first.place < base + length steps.old.items }
     requires second { second.place < base + length steps.old.items }
-    ensures { IfOk result (λ s. (spots : Spots) → AreSpots (base + length steps.old.items) spots → Combined base spots op first second steps.old.items steps.new.items s) }
+    ensures { let end = base + length steps.old.items in
+        IfOk result (λ s. ForSpots end (λ spots. Combined base spots op first second steps.old.items steps.new.items s)) }
 {
     let width = width_of(op, first.width, second.width);
     let step = step_of(op, first, second);
@@ -111,7 +113,8 @@ pub(crate) fn choose(
     requires on { on.place < base + length steps.old.items }
     requires one { one.place < base + length steps.old.items }
     requires other { other.place < base + length steps.old.items }
-    ensures { IfOk result (λ s. (spots : Spots) → AreSpots (base + length steps.old.items) spots → Chosen base spots on one other steps.old.items steps.new.items s) }
+    ensures { let end = base + length steps.old.items in
+        IfOk result (λ s. ForSpots end (λ spots. Chosen base spots on one other steps.old.items steps.new.items s)) }
 {
     let step = Step::Choose {
         on: on.place,
@@ -126,7 +129,8 @@ pub(crate) fn copy(steps: &mut Vec<Step>, base: usize, of: Spot) -> Result<Spot,
     requires base { base < 2 ^ 63 }
     requires fine { AreFine base steps.old.items }
     requires of { of.place < base + length steps.old.items }
-    ensures { IfOk result (λ s. (spots : Spots) → AreSpots (base + length steps.old.items) spots → Copied base spots of steps.old.items steps.new.items s) }
+    ensures { let end = base + length steps.old.items in
+        IfOk result (λ s. ForSpots end (λ spots. Copied base spots of steps.old.items steps.new.items s)) }
 {
     put(steps, base, Step::Copy(of.place), of.width)
 }

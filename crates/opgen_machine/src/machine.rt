@@ -104,7 +104,8 @@ impl Machine {
         requires outputs { length outputs.old ≡ length self.old.program.outputs.items }
         ensures same { IsSameProgram self.old self.new }
         ensures memory { self.new.memory.items ≡ after self.old.program (with_inputs self.old inputs.now) }
-        ensures outputs { outputs.new ≡ map (λ p. slice_index (run_on self.old.program (with_inputs self.old inputs.now)) p) self.old.program.outputs.items }
+        ensures outputs { let numbers = run_on self.old.program (with_inputs self.old inputs.now) in
+            outputs.new ≡ map (λ p. slice_index numbers p) self.old.program.outputs.items }
     {
         take_inputs(&mut self.memory, self.inputs, inputs);
         run(&self.program.steps, self.base, &mut self.memory);

@@ -66,7 +66,8 @@ pub(crate) fn moves(
     requires agrees { All (Agrees (spots_of spots.now)) drivers.now }
     requires there { All (λ k. IsThere (spots_of spots.now) (target k)) drivers.now }
     requires enable { IfSome enable (λ p. HasNarrow (spots_of spots.now) (port p) 1) }
-    ensures { IfOk result (λ v. HandsOn base (spots_of spots.now) enable (widths_of spots.now.signals.items) drivers.now steps.old.items steps.new.items v.items) }
+    ensures { let widths = widths_of spots.now.signals.items in
+        IfOk result (λ v. HandsOn base (spots_of spots.now) enable widths drivers.now steps.old.items steps.new.items v.items) }
 {
     let mut moves = Vec::new(alloc);
     for driver in drivers {

@@ -10,16 +10,16 @@ use Rattle.opgen_net.specs.declared.net.Net.{Net}
 use Rattle.opgen_net.specs.Flow.{slice_flow}
 use Rattle.opgen_operator.specs.declared.kinds.several.Several.{Several}
 use Rattle.opgen_operator.specs.declared.operator.Operator.TheVariants.{Mcm}
-use Rattle.opgen_operator.specs.declared.ports.PortFormat.{PortFormat}
+use Rattle.opgen_ports.specs.declared.ports.PortFormat.{PortFormat}
 use Rattle.opgen_operator.specs.Bounded.{HasWidth}
 use Rattle.opgen_operator.specs.Held.{OutputsHold}
 use Rattle.opgen_operator.specs.kinds.Several.{IsAcceptedSeveral, constant_format, numbered, multiple_ports, IsSeveral}
-use Rattle.opgen_operator.specs.PortNumbers.{output_words}
-use Rattle.opgen_operator.specs.Ranges.{IsInput, IsWithin}
-use Rattle.opgen_operator.specs.Reaches.{reach_over}
+use Rattle.opgen_operator.specs.PortWords.{output_words}
+use Rattle.opgen_ports.specs.Ranges.{IsInput, IsWithin}
+use Rattle.opgen_ports.specs.Reaches.{reach_over}
 use Rattle.opgen_operator.proofs.Accepted.{accepted_ranges}
 use Rattle.opgen_operator.proofs.of_kind.Several.{multiple_width}
-use Rattle.opgen_operator.proofs.Widths.{some_width}
+use Rattle.opgen_ports.proofs.Widths.{some_width}
 use Rattle.opgen_graph.specs.declared.ranks.Graph.{Graph}
 use Rattle.opgen_graph.specs.Recipe.{with_input, Multiples, multiples_of, net_of_graph}
 use Rattle.opgen_graph.specs.Served.{Serves}

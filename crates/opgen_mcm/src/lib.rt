@@ -3,8 +3,8 @@
 //!
 //! Proved: For all constants that a version accepts, and every graph of a set by ranks with their odd parts, the net is that
 //! of the recipe on this graph. Each output has, at every whole time and for all inputs, the input times its constant. The
-//! net fits every valid specification of these constants. On the graph of the least set of adders, accepted constants have
-//! such a net, and one (that one exists is a classical proof).
+//! net fits the operator. On the graph of the least set of adders, accepted constants have such a net, and one (that one
+//! exists is a classical proof).
 //!
 //! By: `build`; of `opgen_part_laws` the laws `one_net_of_several`, `some_net_of_several`.
 #![tactic(auto)]

@@ -1,7 +1,7 @@
 //! Builds the net of several constants from the adder graph of their odd parts.
 ghost use Rattle.std.specs.Prelude.{◌≡◌, IfOk};
 ghost use Rattle.opgen_operator.specs.declared.operator.Operator.TheVariants.{Mcm};
-ghost use Rattle.opgen_operator.specs.Fits.{FitsSpecsOf};
+ghost use Rattle.opgen_operator.specs.Fits.{FitsInEachMode};
 ghost use Rattle.opgen_operator.specs.kinds.Several.{IsAcceptedSeveral};
 ghost use Rattle.opgen_graph.specs.Recipe.{net_of_graph};
 ghost use Rattle.opgen_graph.specs.Served.{Serves};
@@ -22,7 +22,7 @@ pub fn build(alloc: Global, several: &Several, graph: &Graph) -> Result<Net, Mem
     requires graph { Serves several.now.constants graph.now }
     ensures net { IfOk result (λ net. net ≡ net_of_graph graph.now several.now) }
     ensures products { IfOk result (HasProducts several.now) }
-    ensures fits { IfOk result (FitsSpecsOf (Mcm several.now)) }
+    ensures fits { IfOk result (FitsInEachMode (Mcm several.now)) }
 {
     outputs_hold();
     graph_net(alloc, graph, several)

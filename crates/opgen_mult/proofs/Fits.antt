@@ -1,4 +1,4 @@
--- The net of a product fits every valid specification of it.
+-- The net of a product fits the operator.
 use Rattle.std.proofs.Common.{◌≡◌, ℕ, zero, suc, ◌+◌, ◌-◌, ◌^◌, ◌≤◌, Bool, true, false, if◌then◌else◌, List, ◌++◌, length, replicate, Option, Some, None, refl, sym, ap, ◌∙◌, subst, arith}
 use Rattle.std.specs.Prelude.{ℤ, pos, negsuc, ◌+ℤ◌, ◌-ℤ◌, ◌*ℤ◌, int_lt}
 use Rattle.std.proofs.lemmas.Int.{ints}
@@ -13,11 +13,11 @@ use Rattle.opgen_budget.proofs.Weights.{weight_below-zero}
 use Rattle.opgen_design.specs.Value.{cut}
 use Rattle.opgen_operator.specs.declared.kinds.product.Product.{Product}
 use Rattle.opgen_operator.specs.declared.operator.Operator.TheVariants.{Multiply}
-use Rattle.opgen_operator.specs.Good.{IsGoodRatio}
+use Rattle.opgen_ports.specs.Good.{IsGoodRatio}
 use Rattle.opgen_operator.specs.Held.{OutputsHold}
 use Rattle.opgen_operator.specs.kinds.Product.{IsAcceptedProduct, exact_product, product_shift, product_format, IsProduct}
 use Rattle.opgen_operator.specs.Operator.{inexact}
-use Rattle.opgen_operator.specs.Shifts.{places_up, places_down}
+use Rattle.opgen_ports.specs.Shifts.{places_up, places_down}
 use Rattle.opgen_operator.proofs.Accepted.{accepted_ranges}
 use Rattle.opgen_partial.proofs.Laws.{IsRounded}
 use Rattle.opgen_mult.specs.Recipe.{IsLeftOut, bits_below, zeros_below, heap_width, pairs, rounding}
@@ -86,7 +86,7 @@ module _ (p : Product) (accepted : IsAcceptedProduct p) (fit : Layout p) (hold :
       good_at (bits_below p) (zeros_below p) exact P sum (product_format p) is.missing is.turns whole (one_way (product_shift p))
       (omega (arith, wide, fit.room)) fit.output
       (omega (arith, is.light, little m n (bits_below p) left cut_is)) number_is
-      (λ y h. hold.products p ranges A B of_a of_b y h)
+      (λ y h. hold (Multiply p) ranges A B of_a of_b y h)
     where
       m : ℕ
       m = p.a.width

@@ -6,10 +6,10 @@ use Rattle.opgen_num.specs.declared.TheConstants.{MAX_WIDTH}
 use Rattle.opgen_operator.specs.declared.kinds.product.Product.{Product}
 use Rattle.opgen_operator.specs.declared.operator.Operator.TheVariants.{Multiply}
 use Rattle.opgen_operator.specs.kinds.Product.{IsAcceptedProduct, ProductsHaveWidth, product_shift, product_reach, product_places, product_format}
-use Rattle.opgen_operator.specs.Reaches.{width_of}
-use Rattle.opgen_operator.specs.Shifts.{places_up, places_down}
+use Rattle.opgen_ports.specs.Reaches.{width_of}
+use Rattle.opgen_ports.specs.Shifts.{places_up, places_down}
 use Rattle.opgen_operator.proofs.Accepted.{accepted_ranges, accepted_width}
-use Rattle.opgen_operator.proofs.Widths.{some_width}
+use Rattle.opgen_ports.proofs.Widths.{some_width}
 use Rattle.opgen_mult.specs.Recipe.{bits_below}
 
 -- a shift and the widths of the output and of its heap

@@ -11,9 +11,9 @@ use Rattle.opgen_net.proofs.FlowWidths.{flow-width}
 use Rattle.opgen_operator.specs.declared.kinds.product.Product.{Product}
 use Rattle.opgen_operator.specs.declared.operator.Operator.TheVariants.{Multiply}
 use Rattle.opgen_operator.specs.kinds.Product.{IsAcceptedProduct}
-use Rattle.opgen_operator.specs.Ranges.{IsInput}
+use Rattle.opgen_ports.specs.Ranges.{IsInput}
 use Rattle.opgen_operator.proofs.Accepted.{accepted_ranges}
-use Rattle.opgen_operator.proofs.InputPorts.{input_bit}
+use Rattle.opgen_ports.proofs.InputPorts.{input_bit}
 use Rattle.opgen_partial.specs.Law.{AreFactors, HasProducts}
 use Rattle.opgen_partial.proofs.Laws.{products-law}
 use Rattle.opgen_mult.specs.Recipe.{inputs, pairs, products}

@@ -1,5 +1,5 @@
 -- The net of a product, by the nets that lead to it: its output is good at every time.
-use Rattle.std.proofs.Common.{◌≡◌, ℕ, zero, suc, ◌+◌, ◌-◌, ◌%◌, ◌^◌, Bool, true, List, [], ◌∷◌, ◌++◌, length, map, codes, None, refl, sym, ap, ◌∙◌, subst, arith}
+use Rattle.std.proofs.Common.{◌≡◌, ℕ, zero, suc, ◌+◌, ◌-◌, ◌%◌, ◌^◌, Bool, true, List, [], ◌∷◌, ◌++◌, length, map, codes, refl, sym, ap, ◌∙◌, subst, arith}
 use Rattle.std.specs.Prelude.{ℤ, pos, ◌+ℤ◌, ◌-ℤ◌, All, slice_index}
 use Rattle.std.proofs.Math.Nat.{zero-mod}
 use Rattle.std.proofs.lemmas.Int.{ints}
@@ -21,11 +21,10 @@ use Rattle.opgen_net.specs.Valid.{IsValid, widths, slice_width, input_widths}
 use Rattle.opgen_net.proofs.FlowWidths.{flow-width}
 use Rattle.opgen_operator.specs.declared.kinds.product.Product.{Product}
 use Rattle.opgen_operator.specs.declared.operator.Operator.TheVariants.{Multiply}
-use Rattle.opgen_operator.specs.Fits.{FitsOperator, FitsSpecsOf}
-use Rattle.opgen_operator.specs.Good.{IsGoodRatio}
+use Rattle.opgen_operator.specs.Fits.{FitsOperator, FitsInEachMode}
+use Rattle.opgen_ports.specs.Good.{IsGoodRatio}
 use Rattle.opgen_operator.specs.Held.{OutputsHold}
 use Rattle.opgen_operator.specs.kinds.Product.{IsAcceptedProduct, exact_product, product_format}
-use Rattle.opgen_operator.specs.Operator.{inexact}
 use Rattle.opgen_partial.specs.declared.pairs.Work.{Work}
 use Rattle.opgen_partial.specs.Law.{HasProducts}
 use Rattle.opgen_partial.proofs.Laws.{IsRounded, rounded_sum}
@@ -113,8 +112,8 @@ module _ (p : Product) (accepted : IsAcceptedProduct p) (fit : Layout p) (hold :
       (val (word_at (map (λ o. slice_flow ns ins o.from (pos t)) os) 0) (product_format p))
 
   pub net_fits : (net : Net) → net ≡ record three { outputs = three.outputs ++ output_of node (bits_below p) W ∷ [] }
-      → three.inputs ≡ two.inputs → three.outputs ≡ two.outputs → IsValid net → FitsSpecsOf (Multiply p) net
-  net_fits net is same_inputs same_outputs valid spec valid_spec op = subst (λ o. FitsOperator spec.exact o net) (sym op) fits
+      → three.inputs ≡ two.inputs → three.outputs ≡ two.outputs → IsValid net → FitsInEachMode (Multiply p) net
+  net_fits net is same_inputs same_outputs valid exact mode = fits
     where
       o : Output
       o = output_of node (bits_below p) W
@@ -128,10 +127,10 @@ module _ (p : Product) (accepted : IsAcceptedProduct p) (fit : Layout p) (hold :
       wide_output : slice_width o.from ≡ W
       wide_output = omega (arith, fit.output)
 
-      whole : spec.exact ≡ true → bits_below p ≡ 0
-      whole e = exact_whole p (subst (λ x. inexact x ≡ None) op (valid_spec.has_exact e))
+      whole : exact ≡ true → bits_below p ≡ 0
+      whole e = exact_whole p (mode.whole e)
 
-      fits : FitsOperator spec.exact (Multiply p) net
+      fits : FitsOperator exact (Multiply p) net
       fits = record {
         valid = valid;
         inputs = ports;
@@ -139,9 +138,9 @@ module _ (p : Product) (accepted : IsAcceptedProduct p) (fit : Layout p) (hold :
         good = λ ins t words less ranges.
             let now : pos t ≡ pos t -ℤ pos 0 = omega (arith, ints) in
             let of_inputs : AreInputs p ins = subst (λ (is : List (List ℕ × ℕ)). All (AreWords (map (λ i. i.1) is)) ins) ports words in
-            let base : Good spec.exact (pos t) t ins three.nodes (o ∷ []) = good_flow spec.exact whole ins (pos t) of_inputs in
+            let base : Good exact (pos t) t ins three.nodes (o ∷ []) = good_flow exact whole ins (pos t) of_inputs in
             let nodes : three.nodes ≡ net.nodes = sym (ap (λ (n : Net). n.nodes) is) in
-            let at_now = subst (λ u. Good spec.exact u t ins three.nodes (o ∷ [])) now base in
-            subst (λ os. Good spec.exact (pos t -ℤ pos 0) t ins net.nodes os) (sym outputs)
-            (subst (λ ns. Good spec.exact (pos t -ℤ pos 0) t ins ns (o ∷ [])) nodes at_now);
+            let at_now = subst (λ u. Good exact u t ins three.nodes (o ∷ [])) now base in
+            subst (λ os. Good exact (pos t -ℤ pos 0) t ins net.nodes os) (sym outputs)
+            (subst (λ ns. Good exact (pos t -ℤ pos 0) t ins ns (o ∷ [])) nodes at_now);
       }

@@ -1,7 +1,7 @@
 //! Builds the net of a product: partial products in a bit heap, its compression, and the output.
 ghost use Rattle.std.specs.Prelude.{IfOk};
 ghost use Rattle.opgen_operator.specs.declared.operator.Operator.TheVariants.{Multiply};
-ghost use Rattle.opgen_operator.specs.Fits.{FitsSpecsOf};
+ghost use Rattle.opgen_operator.specs.Fits.{FitsInEachMode};
 ghost use Rattle.opgen_operator.specs.kinds.Product.{IsAcceptedProduct};
 ghost use Rattle.opgen_mult.specs.Recipe.{IsNetOfProduct};
 
@@ -25,7 +25,7 @@ use std::alloc::Global;
 pub fn build(alloc: Global, product: &Product) -> Result<Net, Memory>
     requires { IsAcceptedProduct product.now }
     ensures net { IfOk result (IsNetOfProduct product.now) }
-    ensures fits { IfOk result (FitsSpecsOf (Multiply product.now)) }
+    ensures fits { IfOk result (FitsInEachMode (Multiply product.now)) }
 {
     // The output is as wide as the heap and the zeros below it, and has room for every product, rounded down or up.
     products_have_width();

@@ -1,21 +1,26 @@
 -- What holds of a valid specification, for the crates that build its operator.
-use Rattle.std.proofs.Common.{◌≤◌, ◌&&◌, not, length, nat_le, ℕ, ⊎_elim, ◌≡◌, Some, arith, subst, inl, inr, ap, Bool, true, false, None, refl}
+use Rattle.std.proofs.Common.{◌≤◌, ◌&&◌, not, length, nat_le, ℕ, ⊎_elim, ◌≡◌, Some, arith, subst, inl, inr, Bool, true, false, None, refl}
 use Rattle.std.proofs.lemmas.Bool.{and_parts, leb-true}
-use Rattle.std.specs.Prelude.{IsTrue, ◌≤ℤ◌}
+use Rattle.std.proofs.lemmas.List.Elements.{All-weaker}
+use Rattle.std.specs.Prelude.{IsTrue, ◌≤ℤ◌, All}
 use Rattle.opgen_names.specs.Names.{is_allowed_name}
+use Rattle.opgen_net.specs.declared.net.Net.{Net}
 use Rattle.opgen_num.specs.declared.TheConstants.{MAX_WIDTH}
 use Rattle.opgen_operator.specs.declared.kinds.poly.Poly.{Poly as Polynomial}
 use Rattle.opgen_operator.specs.declared.operator.Operator.{Operator}
 use Rattle.opgen_operator.specs.declared.operator.Operator.TheVariants.{Poly}
+use Rattle.opgen_ports.specs.declared.ports.PortFormat.{PortFormat}
 use Rattle.opgen_operator.specs.declared.spec.Spec.{Spec}
-use Rattle.opgen_operator.specs.declared.TheConstants.{MAX_SHIFT}
-use Rattle.opgen_operator.specs.Bounded.{ValidAreAccepted}
-use Rattle.opgen_operator.specs.Operator.{IsAcceptedBy, IsAccepted, IsOperator, least_shift, shift, HasRoom, need, inexact}
-use Rattle.opgen_operator.specs.SpecName.{is_taken, is_signal_name}
-use Rattle.opgen_operator.specs.Valid.{IsValidSpec}
+use Rattle.opgen_ports.specs.declared.TheConstants.{MAX_SHIFT}
+use Rattle.opgen_operator.specs.Bounded.{HasWidth, ValidAreAccepted}
+use Rattle.opgen_operator.specs.Fits.{FitsInEachMode, FitsSpec}
+use Rattle.opgen_ports.specs.Limits.{most_signal}
+use Rattle.opgen_operator.specs.Operator.{IsAcceptedBy, IsAccepted, IsOperator, least_shift, shift, HasRoom, need, inexact, operator_outputs}
+use Rattle.opgen_ports.specs.SpecName.{is_taken, is_signal_name}
+use Rattle.opgen_operator.specs.Valid.{IsModeOf, IsValidSpec}
 use Rattle.opgen_operator.proofs.of_kind.Sum.{multiple_accepted}
-use Rattle.opgen_operator.proofs.Operators.{shift_limit, room}
-use Rattle.opgen_operator.proofs.Versions.{signal_limit}
+use Rattle.opgen_operator.proofs.Operators.{shift_limit, room, operator_wide}
+use Rattle.opgen_ports.proofs.Versions.{signal_limit}
 
 -- its name is an allowed name of a design, of 32 bytes at most
 pub name_allowed : (spec : Spec) → IsValidSpec spec → IsTrue (is_allowed_name spec.name) × (length spec.name ≤ 32)
@@ -50,16 +55,25 @@ accepted spec valid =
     (λ (e : spec.version ≡ 2). inr (subst (λ (v : ℕ). IsAcceptedBy v spec.op) e valid.op))
     valid.version
 
+-- its output ports have so many bits at most
+pub accepted_wide : (op : Operator) → IsAccepted op → All (HasWidth MAX_WIDTH) (operator_outputs op)
+accepted_wide op is =
+    by_version op (
+    λ version by. All-weaker (HasWidth (most_signal version)) (HasWidth MAX_WIDTH)
+    (λ (p : PortFormat) (h : HasWidth (most_signal version) p). (h.0, omega (arith, h.1, (signal_limit version).1)))
+    (operator_outputs op) (operator_wide version op by)) is
+
+-- a net that fits its operator fits a valid specification
+pub fits_spec : (spec : Spec) (net : Net) → IsValidSpec spec → FitsInEachMode spec.op net → FitsSpec spec net
+fits_spec spec net valid fits = fits spec.exact valid.mode
+
 -- a polynomial is never asked for exactly
-pub poly_faithful : (spec : Spec) (p : Polynomial) → IsValidSpec spec → spec.op ≡ Poly p → spec.exact ≡ false
-poly_faithful spec p valid e = go spec.exact valid.has_exact
-  where
-    go : (exact : Bool) → (IsTrue exact → inexact spec.op ≡ None) → exact ≡ false
-    go false whole = refl
-    go true whole =
-        let never : inexact spec.op ≡ None = whole refl in
-        let always : inexact spec.op ≡ Some 0 = ap inexact e in
-        cc
+pub poly_faithful : (exact : Bool) (p : Polynomial) → IsModeOf exact (Poly p) → exact ≡ false
+poly_faithful false p mode = refl
+poly_faithful true p mode =
+    let never : inexact (Poly p) ≡ None = mode.whole refl in
+    let always : inexact (Poly p) ≡ Some 0 = refl in
+    cc
 
 -- sums have room in 128 bits, and no shift is above the greatest
 pub operator_room : (spec : Spec) → IsValidSpec spec → HasRoom spec.op × (shift spec.op ≤ℤ MAX_SHIFT)

@@ -1,16 +1,16 @@
 -- What holds of the meaning of each kind: a kind proves it once.
 use Rattle.std.proofs.Common.{◌≡◌, ℕ, ◌≤◌, ◌<◌, length, true, ◌++◌}
 use Rattle.std.specs.Prelude.{neg_ℤ, ◌≤ℤ◌, All}
-use Rattle.opgen_operator.specs.declared.TheConstants.{MAX_SHIFT}
-use Rattle.opgen_operator.specs.Accepted.{IsAcceptedIn, AreWithin}
+use Rattle.opgen_ports.specs.declared.TheConstants.{MAX_SHIFT}
+use Rattle.opgen_operator.specs.Accepted.{IsAcceptedIn}
 use Rattle.opgen_operator.specs.Bounded.{HasWidth}
-use Rattle.opgen_operator.specs.Limits.{most_input, most_signal}
+use Rattle.opgen_ports.specs.Limits.{most_input, most_signal}
 use Rattle.opgen_operator.specs.Meaning.{Meaning}
-use Rattle.opgen_operator.specs.PortNumbers.{format_at}
-use Rattle.opgen_operator.specs.Ports.{port}
-use Rattle.opgen_operator.specs.Recent.{Recent}
-use Rattle.opgen_operator.specs.Spans.{IsOf}
-use Rattle.opgen_operator.proofs.InputPorts.{HasBit}
+use Rattle.opgen_ports.specs.PortNumbers.{format_at}
+use Rattle.opgen_ports.specs.Ports.{AreWithin}
+use Rattle.opgen_ports.specs.Recent.{Recent}
+use Rattle.opgen_ports.specs.Spans.{IsOf}
+use Rattle.opgen_ports.proofs.InputPorts.{HasBit}
 use Rattle.opgen_operator.proofs.Named.{are_good, names}
 
 pub record IsLawful (m : Meaning) : Type 0 where
@@ -22,5 +22,6 @@ pub record IsLawful (m : Meaning) : Type 0 where
   pub limit : (version : ℕ) → m.shift ≤ℤ m.most_shift version → m.shift ≤ℤ MAX_SHIFT
   pub least : m.least_shift ≤ℤ m.shift → neg_ℤ MAX_SHIFT ≤ℤ m.shift
   pub room : (version : ℕ) → AreWithin (most_input version) m.inputs → m.shift ≤ℤ m.most_shift version → m.HasRoom
+  pub held : m.FormatsHold
   pub in128 : (version : ℕ) → IsAcceptedIn version m → (inputs : (port : ℕ) → Recent)
       → ((port ago : ℕ) → port < length m.inputs → IsOf (format_at m.inputs port) (inputs port ago)) → m.IsExactIn128 inputs

@@ -1,16 +1,6 @@
 -- Lemmas on operators: those of all kinds, and in of_kind those of each.
-pub mod Bounds
-pub mod InputPorts
-pub mod Versions
-pub mod Magnitudes
-pub mod WeightedSums
 pub mod Roundings
 pub mod Totals
-pub mod Reached
-pub mod Widths
-pub mod Covered
-pub mod In128
-pub mod Cycles
 pub mod Named
 pub mod PortWidths
 pub mod Lawful
@@ -18,5 +8,4 @@ pub mod of_kind
 pub mod Operators
 pub mod Specs
 pub mod Accepted
-pub mod Held
 pub mod PortNames

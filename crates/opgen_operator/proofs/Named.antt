@@ -7,7 +7,7 @@ use Rattle.std.specs.List.{list_any, list_all, AllPairs}
 use Rattle.std.specs.Prelude.{codes, ◌≢◌, All}
 use Rattle.opgen_names.specs.Names.{is_allowed_name}
 use Rattle.opgen_net.specs.Named.{begins_as_signal, IsFree}
-use Rattle.opgen_operator.specs.declared.ports.PortFormat.{PortFormat}
+use Rattle.opgen_ports.specs.declared.ports.PortFormat.{PortFormat}
 
 -- whether a name can stand at a port, and whether names differ
 abbrev pub is_free : List ℕ → Bool

@@ -4,11 +4,12 @@ use Rattle.std.specs.Prelude.{All, ◌≤ℤ◌, neg_ℤ}
 use Rattle.opgen_operator.specs.declared.operator.Kind.TheVariants as kind_of
 use Rattle.opgen_operator.specs.declared.operator.Operator.{Operator}
 use Rattle.opgen_operator.specs.declared.operator.Operator.TheVariants.{Scale, Fir, Multiply, Divide, Root, Mcm, Constdiv, Poly, Tfir}
-use Rattle.opgen_operator.specs.declared.TheConstants.{MAX_SHIFT}
+use Rattle.opgen_ports.specs.declared.TheConstants.{MAX_SHIFT}
 use Rattle.opgen_operator.specs.Bounded.{HasWidth}
-use Rattle.opgen_operator.specs.Limits.{most_input, most_signal}
+use Rattle.opgen_ports.specs.Limits.{most_input, most_signal}
+use Rattle.opgen_operator.specs.Held.{OutputsHold}
 use Rattle.opgen_operator.specs.Operator.{meaning, operator_inputs, IsOperator, most_shift, shift, least_shift, HasInputsWithin, HasRoom, operator_outputs, IsAcceptedBy}
-use Rattle.opgen_operator.proofs.InputPorts.{HasBit}
+use Rattle.opgen_ports.proofs.InputPorts.{HasBit}
 use Rattle.opgen_operator.proofs.Lawful.{IsLawful}
 use Rattle.opgen_operator.proofs.of_kind.Pair.{pair_lawful}
 use Rattle.opgen_operator.proofs.of_kind.Poly.{poly_lawful}
@@ -47,3 +48,6 @@ room version op few high = (lawful op).room version few high
 
 pub operator_wide : (version : ℕ) (op : Operator) → IsAcceptedBy version op → All (HasWidth (most_signal version)) (operator_outputs op)
 operator_wide version op is = (lawful op).wide version is
+
+pub outputs_held : OutputsHold
+outputs_held op = (lawful op).held

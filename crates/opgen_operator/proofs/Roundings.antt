@@ -4,7 +4,7 @@ use Rattle.std.proofs.lemmas.Int.{ints}
 use Rattle.std.proofs.lemmas.Nat.{pow_pos}
 use Rattle.std.specs.Prelude.{ℤ, pos, negsuc, ◌*ℤ◌, ◌<ℤ◌, ◌≤ℤ◌}
 use Rattle.opgen_num.specs.Rounding.{IsGoodLinear, IsQuotient, IsRoot, IsGoodRoot}
-use Rattle.opgen_operator.proofs.Bounds.{some_product}
+use Rattle.opgen_ports.proofs.Bounds.{some_product}
 
 pub good-along : (b exact : Bool) (n n' m m' y y' : ℤ) → n ≡ n' → m ≡ m' → y ≡ y' → (IsTrue b ↔ IsGoodLinear n m y exact)
     → IsTrue b ↔ IsGoodLinear n' m' y' exact

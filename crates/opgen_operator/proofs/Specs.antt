@@ -1,7 +1,7 @@
 -- What every valid specification keeps: the widths of its ports, its shift, and exact values of 128 bits.
 use Rattle.opgen_operator.specs.Bounded.{InputsAreWide, OutputsAreWide, LimitsAreWithin, ShiftsAreSmall, ExactValuesAreIn128}
 use Rattle.opgen_operator.proofs.Operators.{input_bits, operator_wide, shift_limit, shift_least, lawful}
-use Rattle.opgen_operator.proofs.Versions.{input_limit, signal_limit}
+use Rattle.opgen_ports.proofs.Versions.{input_limit, signal_limit}
 
 pub inputs_wide : InputsAreWide
 inputs_wide spec valid k d below = (input_bits spec.op valid.op.ranges k d below, valid.op.inputs k d below)

@@ -1,17 +1,13 @@
 -- Operators that can be built, by what they mean: those whose fields, shift, widths and widest signal are within the limits of
 -- one version of specifications.
-use Rattle.std.specs.Prelude.{ℕ, ◌≡◌, ◌≤◌, ◌⊎◌, ◌≤ℤ◌, Bool, false, IsTrue, All, Option, Some, None, List}
-use Rattle.opgen_operator.specs.declared.ports.PortFormat.{PortFormat}
-use Rattle.opgen_operator.specs.Limits.{most_input, most_signal}
+use Rattle.std.specs.Prelude.{ℕ, ◌≡◌, ◌≤◌, ◌⊎◌, ◌≤ℤ◌, Bool, false, IsTrue, Option, Some, None}
+use Rattle.std.specs.Option.{unwrap_or}
+use Rattle.opgen_ports.specs.Limits.{most_input, most_signal}
 use Rattle.opgen_operator.specs.Meaning.{Meaning}
-
--- no input has more bits
-abbrev pub AreWithin : (most : ℕ) → List PortFormat → Type 0
-AreWithin most ports = All (λ (p : PortFormat). p.format.width ≤ most) ports
+use Rattle.opgen_ports.specs.Ports.{AreWithin}
 
 abbrev pub is_marked : Option Bool → Bool
-is_marked (Some mark) = mark
-is_marked None = false
+is_marked mark = unwrap_or mark false
 
 pub record IsAcceptedIn (version : ℕ) (m : Meaning) : Type 0 where
   -- the fields are within the ranges of their keys

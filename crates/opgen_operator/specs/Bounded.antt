@@ -4,15 +4,15 @@ use Rattle.opgen_num.specs.declared.TheConstants.{MAX_INPUT, MAX_WIDTH}
 use Rattle.opgen_operator.specs.declared.kinds.sum.Sum.{Sum}
 use Rattle.opgen_operator.specs.declared.operator.Operator.{Operator}
 use Rattle.opgen_operator.specs.declared.operator.Operator.TheVariants.{Scale}
-use Rattle.opgen_operator.specs.declared.ports.PortFormat.{PortFormat}
+use Rattle.opgen_ports.specs.declared.ports.PortFormat.{PortFormat}
 use Rattle.opgen_operator.specs.declared.spec.Spec.{Spec}
-use Rattle.opgen_operator.specs.declared.TheConstants.{MAX_SHIFT}
+use Rattle.opgen_ports.specs.declared.TheConstants.{MAX_SHIFT}
 use Rattle.opgen_operator.specs.kinds.Sum.{IsAcceptedSum}
-use Rattle.opgen_operator.specs.Limits.{most_input, most_signal}
+use Rattle.opgen_ports.specs.Limits.{most_input, most_signal}
 use Rattle.opgen_operator.specs.Operator.{inputs_of, outputs_of, shift, least_shift, most_shift, HasRoom, IsAccepted, IsExactIn128}
-use Rattle.opgen_operator.specs.PortNumbers.{format_at}
-use Rattle.opgen_operator.specs.Recent.{Recent}
-use Rattle.opgen_operator.specs.Spans.{IsOf}
+use Rattle.opgen_ports.specs.PortNumbers.{format_at}
+use Rattle.opgen_ports.specs.Recent.{Recent}
+use Rattle.opgen_ports.specs.Spans.{IsOf}
 use Rattle.opgen_operator.specs.Valid.{IsValidSpec}
 
 -- no version's limits are beyond those of the program

@@ -4,14 +4,12 @@ use Rattle.opgen_design.specs.Run.{AreWords}
 use Rattle.opgen_net.specs.declared.net.Net.{Net}
 use Rattle.opgen_net.specs.Flow.{Inputs, slice_flow}
 use Rattle.opgen_net.specs.Valid.{IsValid, slice_width, input_widths}
-use Rattle.opgen_operator.specs.declared.kinds.sum.Sum.{Sum}
 use Rattle.opgen_operator.specs.declared.operator.Operator.{Operator}
-use Rattle.opgen_operator.specs.declared.operator.Operator.TheVariants.{Scale, Fir}
-use Rattle.opgen_operator.specs.declared.ports.PortFormat.{PortFormat}
+use Rattle.opgen_ports.specs.declared.ports.PortFormat.{PortFormat}
 use Rattle.opgen_operator.specs.declared.spec.Spec.{Spec}
 use Rattle.opgen_operator.specs.Operator.{operator_inputs, operator_outputs, IsGoodOf, IsInRangeOf}
-use Rattle.opgen_operator.specs.PortNumbers.{recent_words, output_words}
-use Rattle.opgen_operator.specs.Valid.{IsValidSpec}
+use Rattle.opgen_operator.specs.PortWords.{recent_words, output_words}
+use Rattle.opgen_operator.specs.Valid.{IsModeOf}
 
 abbrev pub name_and_width : PortFormat → List ℕ × ℕ
 name_and_width p = (p.name, p.format.width)
@@ -29,11 +27,6 @@ pub record FitsOperator (exact : Bool) (op : Operator) (net : Net) : Type 0 wher
 abbrev pub FitsSpec : Spec → Net → Type 0
 FitsSpec spec net = FitsOperator spec.exact spec.op net
 
--- What a builder of nets promises: for every valid specification whose operator has these fields, the net fits it. Its clause
--- is `IfOk result (FitsSpecsOf (Multiply product.now))` under the condition `IsAcceptedProduct product.now`, and so of the
--- other kinds. Of sums it is `IfOk result (FitsSpecsOfSum sum.now)`, since multiples and filters are built alike.
-abbrev pub FitsSpecsOf : Operator → Net → Type 0
-FitsSpecsOf op net = (spec : Spec) → IsValidSpec spec → spec.op ≡ op → FitsSpec spec net
-
-abbrev pub FitsSpecsOfSum : Sum → Net → Type 0
-FitsSpecsOfSum s net = FitsSpecsOf (Scale s) net × FitsSpecsOf (Fir s) net
+-- What a builder of nets promises: its net fits the operator in each of its modes. A valid specification asks for one of them.
+abbrev pub FitsInEachMode : Operator → Net → Type 0
+FitsInEachMode op net = (exact : Bool) → IsModeOf exact op → FitsOperator exact op net

@@ -1,22 +1,12 @@
--- Definitions of opgen_operator: specifications, their kinds, ranges and limits, ports, exact values, good outputs, and nets that fit.
-pub mod SpecName
-pub mod OddParts
-pub mod Recent
-pub mod Ranges
-pub mod Shifts
-pub mod Reaches
-pub mod Ports
-pub mod Limits
-pub mod Good
-pub mod Spans
-pub mod In128
+-- Definitions of opgen_operator: specifications, their kinds, ports, exact values, good outputs, and nets that fit.
 pub mod Meaning
-pub mod PortNumbers
 pub mod Judged
 pub mod Accepted
 pub mod kinds
 pub mod Operator
 pub mod Valid
+pub mod PortWords
+pub mod DesignPorts
 pub mod Fits
 pub mod Held
 pub mod Bounded

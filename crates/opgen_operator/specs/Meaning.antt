@@ -1,8 +1,8 @@
 -- What an operator of a kind means: each question about operators has its answer here, and each kind gives one such record.
 use Rattle.std.specs.Prelude.{ℕ, Bool, Option, ℤ, List}
 use Rattle.opgen_operator.specs.declared.operator.Kind.{Kind}
-use Rattle.opgen_operator.specs.declared.ports.PortFormat.{PortFormat}
-use Rattle.opgen_operator.specs.Recent.{Recent}
+use Rattle.opgen_ports.specs.declared.ports.PortFormat.{PortFormat}
+use Rattle.opgen_ports.specs.Recent.{Recent}
 
 pub record Meaning : Type 1 where
   pub kind : Kind
@@ -34,5 +34,7 @@ pub record Meaning : Type 1 where
   pub IsExactIn128 : (inputs : (port : ℕ) → Recent) → Type 0
   -- by the numbers of the input ports in the last cycle and before it, and those of the output ports
   pub IsGood : (exact : Bool) → (inputs : (port : ℕ) → Recent) → (outputs : (port : ℕ) → ℤ) → Type 0
+  -- what the formats of the output ports hold
+  pub FormatsHold : Type 0
   -- the net is made of an adder graph
   pub has_graph : Bool

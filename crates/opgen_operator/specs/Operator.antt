@@ -4,9 +4,9 @@ use Rattle.opgen_operator.specs.declared.operator.Kind.{Kind}
 use Rattle.opgen_operator.specs.declared.operator.Kind.TheVariants as kind_of
 use Rattle.opgen_operator.specs.declared.operator.Operator.{Operator}
 use Rattle.opgen_operator.specs.declared.operator.Operator.TheVariants.{Scale, Fir, Multiply, Divide, Root, Mcm, Constdiv, Poly, Tfir}
-use Rattle.opgen_operator.specs.declared.ports.PortFormat.{PortFormat}
+use Rattle.opgen_ports.specs.declared.ports.PortFormat.{PortFormat}
 use Rattle.opgen_operator.specs.declared.spec.Spec.{Spec}
-use Rattle.opgen_operator.specs.Accepted.{AreWithin, is_marked, IsAcceptedIn}
+use Rattle.opgen_operator.specs.Accepted.{is_marked, IsAcceptedIn}
 use Rattle.opgen_operator.specs.Judged.{IsNonzeroAt}
 use Rattle.opgen_operator.specs.kinds.Pair.{pair_meaning}
 use Rattle.opgen_operator.specs.kinds.Poly.{poly_meaning}
@@ -17,7 +17,8 @@ use Rattle.opgen_operator.specs.kinds.SmallDiv.{small_meaning}
 use Rattle.opgen_operator.specs.kinds.Sum.{scale_meaning, fir_meaning}
 use Rattle.opgen_operator.specs.kinds.Taps.{taps_meaning}
 use Rattle.opgen_operator.specs.Meaning.{Meaning}
-use Rattle.opgen_operator.specs.Recent.{Recent}
+use Rattle.opgen_ports.specs.Ports.{AreWithin}
+use Rattle.opgen_ports.specs.Recent.{Recent}
 
 abbrev pub meaning : Operator → Meaning
 meaning (Scale s) = scale_meaning s

@@ -3,9 +3,9 @@ use Rattle.std.specs.Prelude.{◌≡◌, ◌≤◌, Bool, IsTrue, All, Option, S
 use Rattle.opgen_operator.specs.declared.operator.Operator.{Operator}
 use Rattle.opgen_operator.specs.declared.spec.DelayLine.{DelayLine}
 use Rattle.opgen_operator.specs.declared.spec.Spec.{Spec}
-use Rattle.opgen_operator.specs.Limits.{IsVersion}
+use Rattle.opgen_ports.specs.Limits.{IsVersion}
 use Rattle.opgen_operator.specs.Operator.{IsOfFirstVersion, inexact, own_mark, IsAcceptedBy}
-use Rattle.opgen_operator.specs.SpecName.{is_spec_name}
+use Rattle.opgen_ports.specs.SpecName.{is_spec_name}
 
 -- the operator's own mark of exact outputs, where it has one, is that of the specification
 abbrev pub AgreesWith : Bool → Option Bool → Type 0
@@ -15,6 +15,12 @@ AgreesWith exact None = Unit {0}
 abbrev pub AgreesOnExact : Bool → Operator → Type 0
 AgreesOnExact exact op = AgreesWith exact (own_mark op)
 
+-- The mode of the outputs, exact or faithful, is one that may be asked of the operator.
+pub record IsModeOf (exact : Bool) (op : Operator) : Type 0 where
+  pub agrees : AgreesOnExact exact op
+  -- exact outputs are asked for only where the exact values are whole
+  pub whole : IsTrue exact → inexact op ≡ None
+
 abbrev pub IsDelayLine : DelayLine → Type 0
 IsDelayLine line = (line.base ≤ 1000000) × (line.per_bit ≤ 10000)
 
@@ -23,10 +29,8 @@ pub record IsValidSpec (spec : Spec) : Type 0 where
   pub name : IsTrue (is_spec_name spec.name)
   pub op : IsAcceptedBy spec.version spec.op
   pub first : spec.version ≡ 1 → IsOfFirstVersion spec.op
-  pub agrees : AgreesOnExact spec.exact spec.op
+  pub mode : IsModeOf spec.exact spec.op
   pub target : (1 ≤ length spec.target) × (length spec.target ≤ 32)
   pub period : (1 ≤ spec.period) × (spec.period ≤ 1000000)
   pub few_lines : length spec.delays ≤ 16
   pub lines : All IsDelayLine spec.delays
-  -- exact outputs are asked for only where the exact values are whole
-  pub has_exact : IsTrue spec.exact → inexact spec.op ≡ None

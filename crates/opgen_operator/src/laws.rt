@@ -1,5 +1,5 @@
 //! Laws of specifications: which values output formats hold, and that widths, shifts and exact values are bounded.
-ghost use Rattle.opgen_operator.specs.Bounded.{InputsAreWide, OutputsAreWide};
+ghost use Rattle.opgen_operator.specs.Bounded.{InputsAreWide};
 ghost use Rattle.opgen_operator.specs.Held.{OutputsHold};
 ghost use Rattle.opgen_operator.specs.kinds.Product.{ProductsHaveWidth};
 ghost use Rattle.opgen_operator.specs.kinds.Sum.{EntriesAreSmall};
@@ -13,11 +13,6 @@ pub fn outputs_hold()
 /// Each input port of a valid specification has 1 to 32 bits in version 1, and 1 to 48 in version 2.
 pub fn inputs_are_wide()
     ensures { InputsAreWide }
-{}
-
-/// Each output port of a valid specification has 1 to 64 bits in version 1, and 1 to 96 in version 2.
-pub fn outputs_are_wide()
-    ensures { OutputsAreWide }
 {}
 
 /// The entries of tables of an accepted sum have 122 bits at most, 12 of them guard bits.

@@ -1,36 +1,28 @@
 //! Operators: what a specification asks for, its ports and formats, and when outputs are good.
 //!
-//! Proved: The ports of a specification and their formats. Whether the outputs of a cycle are good, exactly by the
-//! definition. The shift; the input port that must not be 0; the first coefficient that is not whole; the width that a
-//! version limits, if it may be over the limit; the limits of each version; whether the net is made of an adder graph. For
-//! an operator's fields alone, if some version accepts them: the shift, the formats of the outputs and the guard bits.
-//! Whether numbers are the words of whole cycles. The width of an output of sums and products is made for their least and
-//! greatest exact value. The formats hold sums, products and quotients rounded down or up, multiples and whole sums,
-//! remainders, and roots and quotients by small constants rounded down; nothing of this kind is proved of polynomials. Of
-//! every valid specification, by its version: input ports have 1 to 32 or 48 bits, output ports 1 to 64 or 96, the shift is
-//! within the range of its kind, and the exact values are fractions of numbers of 128 bits. Entries of tables have at most
-//! 122 bits. A net that fits an operator has ports that a design may have.
+//! Proved: Whether a specification is valid. The ports of a specification and their formats. Whether the outputs of a cycle
+//! are good, exactly by the definition. The shift; the input port that must not be 0; the first coefficient that is not
+//! whole; the width that a version limits, if it may be over the limit; whether the net is made of an adder graph. For an
+//! operator's fields alone, if some version accepts them: the shift, the formats of the outputs and the guard bits. The
+//! width of an output of sums and products is made for their least and greatest exact value. The formats hold sums, products
+//! and quotients rounded down or up, multiples and whole sums, remainders, and roots and quotients by small constants
+//! rounded down; nothing of this kind is proved of polynomials. Of every valid specification, by its version: input ports
+//! have 1 to 32 or 48 bits, output ports 1 to 64 or 96, the shift is within the range of its kind, and the exact values are
+//! fractions of numbers of 128 bits. Entries of tables have at most 122 bits. A net that fits an operator has ports that a
+//! design may have.
 //!
-//! By: `Spec::inputs`, `outputs`, `good`; `Operator::shift`, `divisor`, `inexact`, `need`, `least_shift`, `most_shift`,
-//! `has_graph`; `most_input`, `most_signal`; the methods of `Sum`, `Product`, `Pair`, `Single`, `Several`, `SmallDiv`,
-//! `Poly`, `Taps`; `is_history`, `is_cycle`; the laws `outputs_hold`, `inputs_are_wide`, `outputs_are_wide`,
-//! `entries_are_small`, `products_have_width`; of `opgen_part_laws` the laws `valid_are_accepted`, `sums_reach`,
-//! `products_reach`, `limits_are_within`, `shifts_are_small`, `exact_values_are_in_128`, `accepted_have_room`,
-//! `roots_are_narrow`, `fitting_nets_are_named`.
+//! By: `Spec::is_valid`, `inputs`, `outputs`, `good`; `Operator::shift`, `divisor`, `inexact`, `need`, `least_shift`,
+//! `most_shift`, `has_graph`; the methods of `Sum`, `Product`, `Pair`, `Single`, `Several`, `SmallDiv`, `Poly`, `Taps`; the
+//! laws `outputs_hold`, `inputs_are_wide`, `entries_are_small`, `products_have_width`; of `opgen_part_laws` the laws
+//! `valid_are_accepted`, `outputs_are_wide`, `sums_reach`, `products_reach`, `limits_are_within`, `shifts_are_small`,
+//! `exact_values_are_in_128`, `accepted_have_room`, `roots_are_narrow`, `fitting_nets_are_named`.
 #![tactic(auto)]
 
-mod history;
+mod acceptance;
 mod kinds;
 mod laws;
-mod limits;
-mod odd_parts;
 mod operator;
-mod ports;
-mod reach;
-mod shifts;
 mod spec;
-mod spec_name;
-mod words;
 
 pub use kinds::pair::Pair;
 pub use kinds::poly::{Ends, Poly};
@@ -40,17 +32,10 @@ pub use kinds::single::Single;
 pub use kinds::small_div::SmallDiv;
 pub use kinds::sum::Sum;
 pub use kinds::taps::Taps;
-pub use laws::{
-    entries_are_small, inputs_are_wide, outputs_are_wide, outputs_hold, products_have_width,
-};
-pub use limits::{most_input, most_signal};
-pub use odd_parts::odd_part_count;
+pub use laws::{entries_are_small, inputs_are_wide, outputs_hold, products_have_width};
 pub use operator::{Kind, Operator};
-pub use ports::PortFormat;
+pub use opgen_ports::{
+    MAX_SHIFT, MAX_SPEC_NAME_LEN, PortFormat, is_cycle, is_history, is_spec_name, most_input,
+    most_signal, odd_part_count,
+};
 pub use spec::{DelayLine, Spec};
-pub use spec_name::{MAX_SPEC_NAME_LEN, is_spec_name};
-pub use words::{is_cycle, is_history};
-
-/// The greatest shift of an operator in any version of specifications: the power of two that brings
-/// its exact value into units of the output's last place.
-pub const MAX_SHIFT: i32 = 48;

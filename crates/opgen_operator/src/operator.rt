@@ -1,11 +1,10 @@
 //! Operators: their kinds, and each question about them.
-ghost use Rattle.std.specs.Prelude.{◌≡◌, ℤ, neg_ℤ, ◌≤ℤ◌, IfOk};
-ghost use Rattle.opgen_operator.specs.Judged.{IsJudged};
-ghost use Rattle.opgen_operator.specs.Operator.{shift, HasRoom, operator_inputs, operator_outputs, IsOperator, inexact, need, least_shift, most_shift, kind_name, kind, meaning, divisor, has_graph, IsAccepted};
-ghost use Rattle.opgen_operator.specs.PortNumbers.{IsHistory, IsCycle};
+ghost use Rattle.std.specs.Prelude.{◌≡◌, ◌↔◌, ℤ, neg_ℤ, ◌≤ℤ◌, IfOk, IsTrue};
+ghost use Rattle.opgen_operator.specs.Judged.{IsCycleJudged};
+ghost use Rattle.opgen_operator.specs.Operator.{shift, HasRoom, operator_inputs, operator_outputs, IsOperator, inexact, need, least_shift, most_shift, kind_name, kind, meaning, divisor, has_graph, own_mark, IsAccepted, IsOfFirstVersion, HasInputsWithin};
+ghost use Rattle.opgen_ports.specs.PortNumbers.{IsHistory, IsCycle};
 ghost use Rattle.opgen_operator.specs.Valid.{AgreesOnExact};
 
-use crate::MAX_SHIFT;
 use crate::kinds::pair::{Pair, pair_need, pair_shift};
 use crate::kinds::poly::Poly;
 use crate::kinds::product::{Product, product_inexact, product_need, product_shift};
@@ -14,7 +13,8 @@ use crate::kinds::single::{Single, root_shift};
 use crate::kinds::small_div::SmallDiv;
 use crate::kinds::sum::{Sum, first_inexact, most_sum_shift, sum_need, sum_shift};
 use crate::kinds::taps::Taps;
-use crate::ports::PortFormat;
+use opgen_ports::MAX_SHIFT;
+use opgen_ports::ports::{PortFormat, are_within, is_within};
 use std::alloc::{AllocError, Global};
 
 /// An operator of one of the kinds.
@@ -182,6 +182,67 @@ impl Operator {
         }
     }
 
+    /// Whether the fields are within the ranges of their keys.
+    pub(crate) fn is_ranged(&self) -> bool
+        ensures { IsTrue result ↔ IsOperator self.now }
+    {
+        match self {
+            Self::Scale(sum) => sum.is_ranged(1),
+            Self::Fir(sum) => sum.is_ranged(256),
+            Self::Multiply(product) => product.is_ranged(),
+            Self::Divide(pair) => pair.is_ranged(),
+            Self::Root(single) => single.is_ranged(),
+            Self::Mcm(several) => several.is_ranged(),
+            Self::Constdiv(small) => small.is_ranged(),
+            Self::Poly(poly) => poly.is_ranged(),
+            Self::Tfir(taps) => taps.is_ranged(),
+        }
+    }
+
+    /// Whether version 1 of specifications has the operator.
+    pub(crate) fn is_of_first_version(&self) -> bool
+        ensures { IsTrue result ↔ IsOfFirstVersion self.now }
+    {
+        match self {
+            Self::Scale(sum) => !sum.counters,
+            Self::Fir(sum) => !sum.counters,
+            Self::Multiply(product) => !product.counters,
+            Self::Divide(_) | Self::Root(_) | Self::Mcm(_) => true,
+            Self::Constdiv(_) | Self::Poly(_) | Self::Tfir(_) => false,
+        }
+    }
+
+    /// The operator's own mark of exact outputs, if it has one.
+    pub(crate) fn own_mark(&self) -> Option<bool>
+        ensures { result ≡ own_mark self.now }
+    {
+        match self {
+            Self::Scale(sum) => Some(sum.exact),
+            Self::Fir(sum) => Some(sum.exact),
+            Self::Divide(pair) => Some(pair.exact),
+            Self::Root(single) => Some(single.exact),
+            Self::Constdiv(small) => Some(small.exact),
+            Self::Multiply(_) | Self::Mcm(_) | Self::Poly(_) | Self::Tfir(_) => None,
+        }
+    }
+
+    /// Whether each input port has so many bits at most.
+    pub(crate) fn has_inputs_within(&self, most: u32) -> bool
+        ensures { IsTrue result ↔ HasInputsWithin most self.now }
+    {
+        match self {
+            Self::Scale(sum) => is_within(most, sum.input),
+            Self::Fir(sum) => is_within(most, sum.input),
+            Self::Multiply(product) => are_within(most, product.a, product.b),
+            Self::Divide(pair) => are_within(most, pair.a, pair.b),
+            Self::Root(single) => is_within(most, single.input),
+            Self::Mcm(several) => is_within(most, several.input),
+            Self::Constdiv(small) => is_within(most, small.input),
+            Self::Poly(poly) => is_within(most, poly.input),
+            Self::Tfir(taps) => is_within(most, taps.input),
+        }
+    }
+
     /// The input ports, in order.
     pub(crate) fn inputs(&self, alloc: Global) -> Result<Vec<PortFormat>, AllocError>
         ensures { IfOk result (λ ports. ports.items ≡ operator_inputs self.now) }
@@ -223,7 +284,7 @@ impl Operator {
         requires agrees { AgreesOnExact exact self.now }
         requires history { IsHistory (operator_inputs self.now) history.now }
         requires outputs { IsCycle (operator_outputs self.now) outputs.now }
-        ensures { IsJudged (meaning self.now) exact history.now outputs.now result }
+        ensures { IsCycleJudged (meaning self.now) exact history.now outputs.now result }
     {
         match self {
             Self::Scale(sum) => sum.judge(exact, history, outputs),

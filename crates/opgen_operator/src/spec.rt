@@ -1,14 +1,16 @@
 //! Specifications as types: operator, target, period and delay lines; their ports, and when outputs are good.
-ghost use Rattle.std.specs.Prelude.{◌≡◌, IfOk, ◌↔◌, IsTrue};
+ghost use Rattle.std.specs.Prelude.{◌≡◌, ◌≤◌, IfOk, ◌↔◌, All, IsTrue};
 ghost use Rattle.opgen_operator.specs.Operator.{inputs_of, outputs_of, IsGood, IsInRange};
-ghost use Rattle.opgen_operator.specs.PortNumbers.{recent_numbers, output_numbers, IsHistory, IsCycle};
-ghost use Rattle.opgen_operator.specs.Valid.{IsValidSpec};
+ghost use Rattle.opgen_ports.specs.PortNumbers.{recent_numbers, output_numbers, IsHistory, IsCycle};
+ghost use Rattle.opgen_operator.specs.Valid.{AgreesWith, IsDelayLine, IsValidSpec};
 
 use crate::operator::Operator;
-use crate::ports::PortFormat;
 use opgen_list::{Items, Text};
 use opgen_net::Class;
 use opgen_num::Memory;
+use opgen_ports::ports::PortFormat;
+use opgen_ports::ranges::is_length;
+use opgen_ports::{is_spec_name, is_version};
 use std::alloc::Global;
 
 /// What is to be built: an operator, and for which target.
@@ -36,7 +38,33 @@ pub struct DelayLine {
     pub per_bit: u32,
 }
 
+impl DelayLine {
+    /// Whether the delays are within their ranges.
+    fn is_ranged(self) -> bool
+        ensures { IsTrue result ↔ IsDelayLine self }
+    {
+        self.base <= 1_000_000 && self.per_bit <= 10_000
+    }
+}
+
 impl Spec {
+    /// Whether the specification is valid, as the other methods require. Each one that is read from
+    /// a document is; one whose fields were set by hand may not be.
+    pub fn is_valid(&self) -> bool
+        ensures { IsTrue result ↔ IsValidSpec self.now }
+    {
+        is_version(self.version)
+            && is_spec_name(self.name.as_str())
+            && self.op.is_accepted_in(self.version)
+            && self.op.is_in_version(self.version)
+            && agrees(self.exact, self.op.own_mark())
+            && is_length(1, 32, self.target.as_str().len())
+            && is_period(self.period)
+            && self.delays.len() <= 16
+            && are_delay_lines(self.delays.as_slice())
+            && self.op.is_whole(self.exact)
+    }
+
     /// The input ports, in order.
     pub fn inputs(&self, alloc: Global) -> Result<Vec<PortFormat>, Memory>
         requires { IsValidSpec self.now }
@@ -68,4 +96,31 @@ impl Spec {
     {
         self.op.judge(self.exact, history, outputs)
     }
+}
+
+/// Whether the operator's own mark of exact outputs, if it has one, is that of the specification.
+fn agrees(exact: bool, mark: Option<bool>) -> bool
+    ensures { IsTrue result ↔ AgreesWith exact mark }
+{
+    match mark {
+        Some(mark) => mark == exact,
+        None => true,
+    }
+}
+
+fn is_period(period: u32) -> bool
+    ensures { IsTrue result ↔ ((1 ≤ period) × (period ≤ 1000000)) }
+{
+    1 <= period && period <= 1_000_000
+}
+
+fn are_delay_lines(lines: &[DelayLine]) -> bool
+    ensures { IsTrue result ↔ All IsDelayLine lines.now }
+{
+    'lines: for line in lines {
+        if !line.is_ranged() {
+            return false;
+        }
+    }
+    true
 }

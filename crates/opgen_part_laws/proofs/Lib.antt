@@ -11,3 +11,4 @@ pub mod FirstCause
 pub mod OneReadingOfRows
 pub mod OutputDepth
 pub mod OneProductNet
+mod WholeCoefficients

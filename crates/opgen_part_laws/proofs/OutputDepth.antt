@@ -6,8 +6,8 @@ use Rattle.opgen_design.specs.declared.design.Design.{Design}
 use Rattle.opgen_design.specs.Run.{Words, Cycle, RunsOn, initial_words, words_at_outputs}
 use Rattle.opgen_design.specs.Sound.{IsSound}
 use Rattle.opgen_runs.proofs.Reading.{there-some}
-use Rattle.opgen_forward.specs.Depth.{HasDepth, AgreeFrom, OutputsDependOnDepth}
-use Rattle.opgen_forward.proofs.Cycles.{SameUpTo, next-same, words-same, same-from-zero, same-registers}
+use Rattle.opgen_sim.specs.Depth.{HasDepth, AgreeFrom, OutputsDependOnDepth}
+use Rattle.opgen_sim.proofs.Cycles.{SameUpTo, next-same, words-same, same-from-zero, same-registers}
 
 -- a cycle of a run from the registers' words of its start
 abbrev CycleAt : Design → (state : ℕ → List (List Bool)) → (inputs : List (List (List Bool))) → (t : ℕ) → Words → Type 0

@@ -8,7 +8,7 @@ use Rattle.std.specs.Cmp.Lexicographic.{slice_cmp}
 use Rattle.std.proofs.lemmas.Bool.{cases_lt, cases_order}
 use Rattle.std.proofs.lemmas.List.Elements.{All-contains}
 use Rattle.opgen_csd.specs.Partials.{partials}
-use Rattle.opgen_operator.specs.Ranges.{IsWithin}
+use Rattle.opgen_ports.specs.Ranges.{IsWithin}
 use Rattle.opgen_graph.specs.SetCost.{set_cost}
 use Rattle.opgen_graph.specs.SignedDigits.{IsTarget, IsPartialOf, IsDigitSet}
 use Rattle.opgen_graph.specs.Targets.{IsTargetOf, AreTargetsOf}

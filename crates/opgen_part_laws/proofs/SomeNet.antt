@@ -3,14 +3,13 @@ use Rattle.std.proofs.Common.{ℕ, List, refl}
 use Rattle.std.specs.Prelude.{ℤ, All}
 use Rattle.opgen_operator.specs.declared.kinds.several.Several.{Several}
 use Rattle.opgen_operator.specs.declared.operator.Operator.TheVariants.{Mcm}
-use Rattle.opgen_operator.specs.Bounded.{OutputsAreWide}
 use Rattle.opgen_operator.specs.Held.{OutputsHold}
 use Rattle.opgen_operator.specs.kinds.Several.{IsAcceptedSeveral}
-use Rattle.opgen_operator.specs.Ranges.{IsWithin}
+use Rattle.opgen_ports.specs.Ranges.{IsWithin}
 use Rattle.opgen_operator.proofs.Accepted.{accepted_ranges}
 use Rattle.opgen_graph.specs.Recipe.{net_of_graph}
 use Rattle.opgen_graph.specs.Reach.{Reaches}
-use Rattle.opgen_graph.proofs.Fits.{fits_specs}
+use Rattle.opgen_graph.proofs.Fits.{fits_modes}
 use Rattle.opgen_graph.proofs.Serving.{reached_serve}
 use Rattle.opgen_search.specs.Recipe.{HasNet, IsAdderSetOf, SomeLeastGraph}
 use Rattle.opgen_search.proofs.Closing.{space_reaches}
@@ -33,11 +32,11 @@ some_least_graph numbers width extra small found =
       serves = reached_serve numbers is.targets set (record { adders = adders }) is.parts (set_reaches numbers width extra small set is) ranks;
     })))
 
-pub several_net : OutputsHold → OutputsAreWide → (m : Several) → IsAcceptedSeveral m → (HasNet m → ⊥) → ⊥
-several_net hold wide m accepted found =
+pub several_net : OutputsHold → (m : Several) → IsAcceptedSeveral m → (HasNet m → ⊥) → ⊥
+several_net hold m accepted found =
     some_least_graph m.constants m.input.width m.extra (accepted_ranges (Mcm m) accepted).constants (
     λ least. found (record {
       net = net_of_graph least.graph m;
       is = record { set = least.set; graph = least.graph; least = least.is; by = refl };
-      fits = fits_specs m accepted least.graph least.serves hold wide;
+      fits = fits_modes m accepted least.graph least.serves hold;
     }))

@@ -3,7 +3,7 @@ ghost use Rattle.opgen_search.specs.Recipe.{OneAdderSet, OneLeastGraph, SomeLeas
 ghost use Rattle.opgen_search.specs.Least.{OneLeast};
 ghost use Rattle.opgen_search.specs.Parts.{NumbersCount};
 
-use opgen_operator::{outputs_are_wide, outputs_hold};
+use opgen_operator::outputs_hold;
 
 /// Numbers have one least set of adders for their odd parts.
 pub fn one_adder_set()
@@ -36,11 +36,10 @@ pub fn one_net_of_several()
     ensures { OneNet }
 {}
 
-/// That several accepted constants have no such set, or no such net that fits their specifications, is impossible. Which set it
-/// is, is not said.
+/// That several accepted constants have no such set, or no such net that fits their operator, is impossible. Which set it is,
+/// is not said.
 pub fn some_net_of_several()
     ensures { SomeNet }
 {
     outputs_hold();
-    outputs_are_wide();
 }

@@ -1,6 +1,6 @@
 //! Laws of runs: a design has one run, its steps are runs, outputs look no further back than the depth, and rows have one verdict.
 ghost use Rattle.opgen_runs.specs.OneRun.{HasOneRun};
-ghost use Rattle.opgen_forward.specs.Depth.{OutputsDependOnDepth};
+ghost use Rattle.opgen_sim.specs.Depth.{OutputsDependOnDepth};
 ghost use Rattle.opgen_sim.specs.Runs.{StepsAreRuns};
 ghost use Rattle.opgen_check.specs.Verdict.{HasOneVerdict};
 

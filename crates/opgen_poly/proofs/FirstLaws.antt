@@ -24,7 +24,7 @@ use Rattle.opgen_net.proofs.Grown.{grown-more}
 use Rattle.opgen_operator.specs.declared.kinds.poly.Poly.{Poly as Polynomial}
 use Rattle.opgen_operator.specs.kinds.Horner.{degree, all_guarded, guarded, low_end, high_end}
 use Rattle.opgen_operator.specs.kinds.Poly.{terms_from, IsPoly}
-use Rattle.opgen_operator.proofs.InputPorts.{input_bit}
+use Rattle.opgen_ports.proofs.InputPorts.{input_bit}
 use Rattle.opgen_operator.proofs.of_kind.Results.{ends_step, partial_bits}
 use Rattle.opgen_partial.proofs.Laws.{residue_number}
 use Rattle.opgen_poly.specs.Near.{IsPartial, exact_from, halves_from, input_number, IsAtMostHalves}

@@ -1,4 +1,4 @@
--- The net of a polynomial fits every valid specification of it.
+-- The net of a polynomial fits the operator.
 use Rattle.std.proofs.Common.{◌≡◌, ℕ, Bool, false, List, [], ◌∷◌, map, codes, sym, ap, ◌∙◌, subst, arith}
 use Rattle.std.specs.Prelude.{ℤ, pos, ◌-ℤ◌, if◌then◌else◌}
 use Rattle.std.proofs.lemmas.Int.{ints}
@@ -11,8 +11,8 @@ use Rattle.opgen_net.specs.Flow.{Inputs, input_at, slice_flow}
 use Rattle.opgen_net.specs.Valid.{slice_width}
 use Rattle.opgen_operator.specs.declared.kinds.poly.Poly.{Poly as Polynomial}
 use Rattle.opgen_operator.specs.declared.operator.Operator.TheVariants.{Poly}
-use Rattle.opgen_operator.specs.Fits.{FitsOperator, FitsSpecsOf}
-use Rattle.opgen_operator.specs.Good.{IsGoodRatio}
+use Rattle.opgen_operator.specs.Fits.{FitsOperator, FitsInEachMode}
+use Rattle.opgen_ports.specs.Good.{IsGoodRatio}
 use Rattle.opgen_operator.specs.kinds.Poly.{IsAcceptedPoly, exact_poly, poly_format, IsPoly}
 use Rattle.opgen_operator.proofs.Accepted.{accepted_ranges, poly_faithful}
 use Rattle.opgen_poly.specs.Near.{input_number}
@@ -56,8 +56,6 @@ module _ (p : Polynomial) (fits : IsPoly p) where
         (output-near p fits ins (pos t) inside));
   }
 
-pub fits_specs : (p : Polynomial) → IsAcceptedPoly p → FitsSpecsOf (Poly p) (net_of_poly p)
-fits_specs p is spec valid e =
-    let faithful = poly_faithful spec p valid e in
-    subst (λ op. FitsOperator spec.exact op (net_of_poly p)) (sym e)
-    (subst (λ x. FitsOperator x (Poly p) (net_of_poly p)) (sym faithful) (net-fits p (accepted p is)))
+pub fits_modes : (p : Polynomial) → IsAcceptedPoly p → FitsInEachMode (Poly p) (net_of_poly p)
+fits_modes p is exact mode =
+    subst (λ x. FitsOperator x (Poly p) (net_of_poly p)) (sym (poly_faithful exact p mode)) (net-fits p (accepted p is))

@@ -3,15 +3,15 @@
 //!
 //! Proved: For every polynomial that a version accepts, the net is that of the recipe. Each partial value between the first
 //! and the last is less than (3 (n - i) + 1) / 2 units of the lowest guard bit from the exact one, at every time and for all
-//! inputs; i is the place of its coefficient, n the last place. The net fits every valid specification of that polynomial.
-//! Each product leaves out the greatest number of columns that weigh at most half a unit.
+//! inputs; i is the place of its coefficient, n the last place. The net fits the operator. Each product leaves out the
+//! greatest number of columns that weigh at most half a unit.
 //!
 //! By: `build`; the law `most_are_left_out` of `opgen_part_laws`.
 #![tactic(auto)]
 
 ghost use Rattle.std.specs.Prelude.{◌≡◌, IfOk};
 ghost use Rattle.opgen_operator.specs.declared.operator.Operator.TheVariants.{Poly};
-ghost use Rattle.opgen_operator.specs.Fits.{FitsSpecsOf};
+ghost use Rattle.opgen_operator.specs.Fits.{FitsInEachMode};
 ghost use Rattle.opgen_operator.specs.kinds.Poly.{IsAcceptedPoly};
 ghost use Rattle.opgen_poly.specs.Near.{ArePartialsNear};
 ghost use Rattle.opgen_poly.specs.Recipe.{net_of_poly};
@@ -34,7 +34,7 @@ pub fn build(alloc: Global, poly: &Polynomial) -> Result<Net, Memory>
     requires { IsAcceptedPoly poly.now }
     ensures net { IfOk result (λ net. net ≡ net_of_poly poly.now) }
     ensures near { IfOk result (ArePartialsNear poly.now) }
-    ensures fits { IfOk result (FitsSpecsOf (Poly poly.now)) }
+    ensures fits { IfOk result (FitsInEachMode (Poly poly.now)) }
 {
     let net = polynomial_net(alloc, poly)?;
     Ok(net)

@@ -6,14 +6,14 @@ use Rattle.opgen_vhdl.specs.Spelled.{Statements, StopsAt, SyntaxAt}
 use Rattle.opgen_vhdl.specs.Statements.{Reading, nothing, Follows}
 use Rattle.opgen_vhdl.specs.Symbols.{symbols, pieces}
 use Rattle.opgen_lex.specs.First.{HasTokens}
-use Rattle.opgen_cursor.specs.Left.{symbols_in}
+use Rattle.opgen_lex.specs.Left.{symbols_in}
 use Rattle.opgen_read.specs.Outcome.{IsTextFault, HasFew}
 use Rattle.opgen_read.specs.Reached.{IsPieceFault}
 use Rattle.opgen_read.specs.declared.read.TheConstants.{MAX_TEXT_LEN}
 use Rattle.opgen_read.specs.declared.fault.ReadFault.{ReadFault}
 use Rattle.opgen_read.specs.declared.fault.ReadFault.TheVariants.{Lexical, Syntax, TooLarge, Unsound, Memory}
 use Rattle.opgen_read.proofs.DriverCount.{few_drivers}
-use Rattle.opgen_cursor.proofs.SymbolsIn.{symbols_in-tokens, few_symbols}
+use Rattle.opgen_lex.proofs.SymbolsIn.{symbols_in-tokens, few_symbols}
 
 module _ (bytes : List ℕ) (h : HasTokens bytes) where
   same : symbols_in bytes ≡ symbols bytes h.tokens

@@ -3,11 +3,11 @@ use Rattle.std.specs.Prelude.{◌≡◌, ◌∷◌, [], ℕ, List, Option, Some,
 use Rattle.opgen_design.specs.Tree.{Tree, Trees, more}
 use Rattle.opgen_vhdl.specs.Grammar.{Names, place_of}
 use Rattle.opgen_vhdl.specs.Symbols.{Symbol}
-use Rattle.opgen_cursor.specs.declared.cursor.Cursor.{Cursor}
+use Rattle.opgen_lex.specs.declared.cursor.Cursor.{Cursor}
 use Rattle.opgen_read.specs.declared.expression.Scope.{Scope}
 use Rattle.opgen_read.specs.declared.refusal.Refusal.{Refusal}
 use Rattle.opgen_read.specs.Gives.{Fails}
-use Rattle.opgen_cursor.specs.Left.{left}
+use Rattle.opgen_lex.specs.Left.{left}
 
 abbrev pub names_in : Scope → Names
 names_in s = record { signals = map (λ x. x.name) s.signals.now; ports = map (λ x. x.name) s.ports.now }

@@ -5,7 +5,7 @@ ghost use Rattle.opgen_design.specs.Plain.{plain, plain_all};
 ghost use Rattle.opgen_design.specs.Tree.{chain};
 ghost use Rattle.opgen_vhdl.specs.Grammar.{operator};
 ghost use Rattle.opgen_vhdl.specs.Reader.{eat, range_at, part_at, input_at, closed, op_at, primary_at, factor_at, operands_at, expression_at, expression, inside};
-ghost use Rattle.opgen_cursor.specs.Left.{left};
+ghost use Rattle.opgen_lex.specs.Left.{left};
 ghost use Rattle.opgen_read.specs.Gives.{Gives};
 ghost use Rattle.opgen_read.specs.Names.{names_in, joined};
 
@@ -13,8 +13,8 @@ use crate::declared::Declared;
 use crate::name::{name, signal_place};
 use crate::refusal::Refusal;
 use crate::required::mark;
-use opgen_cursor::Cursor;
 use opgen_design::{Expr, Op, Port, Signal, Slice};
+use opgen_lex::Cursor;
 use opgen_vhdl::TokenKind;
 use std::alloc::Global;
 

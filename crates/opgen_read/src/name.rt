@@ -5,16 +5,15 @@ ghost use Rattle.std.specs.Char.{to_ascii_lowercase};
 ghost use Rattle.opgen_names.specs.Names.{is_allowed_name};
 ghost use Rattle.opgen_vhdl.specs.Grammar.{place_of};
 ghost use Rattle.opgen_vhdl.specs.Reader.{name_at};
-ghost use Rattle.opgen_cursor.specs.Left.{left};
+ghost use Rattle.opgen_lex.specs.Left.{left};
 ghost use Rattle.opgen_read.specs.Gives.{Gives};
 ghost use Rattle.opgen_read.specs.Names.{names_in, IsPlace, GivesPlace};
 
 use crate::declared::Declared;
 use crate::expression::Scope;
 use crate::refusal::Refusal;
-use opgen_cursor::Cursor;
 use opgen_design::Signal;
-use opgen_lex::same_kind;
+use opgen_lex::{Cursor, same_kind};
 use opgen_list::Text;
 use opgen_names::is_allowed_name;
 use opgen_vhdl::TokenKind;

@@ -6,7 +6,7 @@ ghost use Rattle.opgen_vhdl.specs.Reader.{takes_at};
 ghost use Rattle.opgen_vhdl.specs.Statements.{Follows, nothing};
 ghost use Rattle.opgen_vhdl.specs.Symbols.{pieces};
 ghost use Rattle.opgen_lex.specs.First.{IsPassed};
-ghost use Rattle.opgen_cursor.specs.Left.{left, symbols_in};
+ghost use Rattle.opgen_lex.specs.Left.{left, symbols_in};
 ghost use Rattle.opgen_read.specs.Reached.{IsPieceFault};
 ghost use Rattle.opgen_read.specs.Seen.{seen};
 ghost use Rattle.opgen_read.specs.Stepped.{Steps};
@@ -16,7 +16,7 @@ use crate::draft::Draft;
 use crate::fault::ReadFault;
 use crate::refusal::Refusal;
 use crate::take::take;
-use opgen_cursor::Cursor;
+use opgen_lex::Cursor;
 use opgen_vhdl::Place;
 use std::alloc::Global;
 

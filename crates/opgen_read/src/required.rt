@@ -4,11 +4,11 @@ ghost use Rattle.std.specs.Prelude.{IsTrue, map};
 ghost use Rattle.std.specs.Char.{to_ascii_lowercase};
 ghost use Rattle.opgen_vhdl.specs.Reader.{eat, is_mark};
 ghost use Rattle.opgen_vhdl.specs.Symbols.{mark, word};
-ghost use Rattle.opgen_cursor.specs.Left.{left};
+ghost use Rattle.opgen_lex.specs.Left.{left};
 ghost use Rattle.opgen_read.specs.Gives.{Gives};
 
 use crate::refusal::Refusal;
-use opgen_cursor::Cursor;
+use opgen_lex::Cursor;
 use opgen_vhdl::TokenKind;
 
 /// What is left behind this word of the language.

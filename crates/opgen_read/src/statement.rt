@@ -5,7 +5,7 @@ ghost use Rattle.std.specs.Char.{to_ascii_lowercase};
 ghost use Rattle.opgen_design.specs.Enabled.{is_one};
 ghost use Rattle.opgen_design.specs.Plain.{plain};
 ghost use Rattle.opgen_vhdl.specs.Reader.{row_at, other_at, rows_at, table_at, choice_at, valued_at, output_at, target_at, assignment_at, concurrent_at, clocked_at, high_at, clock, edge_at, process_at, port_high_at, enable_at, eat_all};
-ghost use Rattle.opgen_cursor.specs.Left.{left};
+ghost use Rattle.opgen_lex.specs.Left.{left};
 ghost use Rattle.opgen_read.specs.Gives.{Gives};
 ghost use Rattle.opgen_read.specs.Names.{names_in};
 
@@ -13,8 +13,8 @@ use crate::expression::{Scope, expression, part};
 use crate::name::{name, signal_place};
 use crate::refusal::Refusal;
 use crate::required::{mark, word};
-use opgen_cursor::Cursor;
 use opgen_design::{Driver, Expr, Formula};
+use opgen_lex::Cursor;
 use opgen_list::{Items, Text};
 use opgen_num::Word;
 use opgen_vhdl::TokenKind;

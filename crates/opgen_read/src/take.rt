@@ -5,7 +5,7 @@ ghost use Rattle.std.specs.Char.{to_ascii_lowercase};
 ghost use Rattle.opgen_vhdl.specs.Reader.{phrase_at, use_clause, ports_at, statement_at, body_at, declarations_at, opening_at, behind_if, clocked_body_at, takes_at};
 ghost use Rattle.opgen_vhdl.specs.Symbols.{word};
 ghost use Rattle.opgen_vhdl.specs.declared.place.Place.TheVariants.{Architecture, EndEntity, Entity};
-ghost use Rattle.opgen_cursor.specs.Left.{left};
+ghost use Rattle.opgen_lex.specs.Left.{left};
 ghost use Rattle.opgen_read.specs.Gives.{Gives};
 ghost use Rattle.opgen_read.specs.Seen.{seen};
 
@@ -14,7 +14,7 @@ use crate::refusal::Refusal;
 use crate::required::word;
 use crate::statement::{clocked, concurrent, enable, process};
 use crate::unit::{entity, heading, port, signal, unit_end};
-use opgen_cursor::{Cursor, Phrase};
+use opgen_lex::{Cursor, Phrase};
 use opgen_vhdl::{Place, TokenKind};
 use std::alloc::Global;
 

@@ -4,14 +4,14 @@ ghost use Rattle.std.specs.Prelude.{◌≡◌, IfOk, IsTrue, map, option_map, re
 ghost use Rattle.std.specs.Char.{to_ascii_lowercase};
 ghost use Rattle.opgen_names.specs.Names.{is_allowed_name};
 ghost use Rattle.opgen_vhdl.specs.Reader.{phrase_at, clock_port, entity_at, direction_at, width_at, port_at, own_name_at, unit_end_at, heading_at, others_zero, initial_value_at, initial_at, signal_at};
-ghost use Rattle.opgen_cursor.specs.Left.{left};
+ghost use Rattle.opgen_lex.specs.Left.{left};
 ghost use Rattle.opgen_read.specs.Gives.{Gives};
 
 use crate::name::name;
 use crate::refusal::Refusal;
 use crate::required::{mark, word};
-use opgen_cursor::{Cursor, Phrase};
 use opgen_design::{Dir, Port, Signal};
+use opgen_lex::{Cursor, Phrase};
 use opgen_list::Text;
 use opgen_num::Word;
 use opgen_vhdl::TokenKind;

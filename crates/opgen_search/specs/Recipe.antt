@@ -3,9 +3,9 @@ use Rattle.std.specs.Prelude.{◌≡◌, ℕ, ℤ, List, All}
 use Rattle.opgen_net.specs.declared.net.Net.{Net}
 use Rattle.opgen_operator.specs.declared.kinds.several.Several.{Several}
 use Rattle.opgen_operator.specs.declared.operator.Operator.TheVariants.{Mcm}
-use Rattle.opgen_operator.specs.Fits.{FitsSpecsOf}
+use Rattle.opgen_operator.specs.Fits.{FitsInEachMode}
 use Rattle.opgen_operator.specs.kinds.Several.{IsAcceptedSeveral}
-use Rattle.opgen_operator.specs.Ranges.{IsWithin}
+use Rattle.opgen_ports.specs.Ranges.{IsWithin}
 use Rattle.opgen_graph.specs.declared.ranks.Graph.{Graph}
 use Rattle.opgen_graph.specs.Graphs.{IsRanks}
 use Rattle.opgen_graph.specs.Targets.{AreTargetsOf}
@@ -58,7 +58,7 @@ SomeLeastGraph = (numbers : List ℤ) (width extra : ℕ) → All (IsWithin 2047
 pub record HasNet (several : Several) : Type 0 where
   pub net : Net
   pub is : IsNetOfSeveral several net
-  pub fits : FitsSpecsOf (Mcm several) net
+  pub fits : FitsInEachMode (Mcm several) net
 
 -- that several accepted constants have none is impossible
 abbrev pub SomeNet : Type 0

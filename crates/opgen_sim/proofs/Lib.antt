@@ -1,3 +1,5 @@
+pub mod Cycles
+mod RankLaws
 pub mod TableLaws
 pub mod Ports
 pub mod Runs

@@ -8,8 +8,8 @@ use Rattle.opgen_num.specs.Words.{nat, words_of}
 use Rattle.opgen_design.specs.declared.design.Design.{Design}
 use Rattle.opgen_design.specs.Run.{Cycle, initial_words, input_widths, output_widths}
 use Rattle.opgen_design.specs.Sound.{IsSound, signal_widths}
-use Rattle.opgen_forward.proofs.Cycles.{SameUpTo, next-same, words-same, same-from-zero, same-registers}
-use Rattle.opgen_forward.specs.Depth.{HasDepth}
+use Rattle.opgen_sim.proofs.Cycles.{SameUpTo, next-same, words-same, same-from-zero, same-registers}
+use Rattle.opgen_sim.specs.Depth.{HasDepth}
 use Rattle.opgen_lanes.specs.Steps.{Running, AreNew, IsStepIn}
 use Rattle.opgen_runs.proofs.OneRun.{next-one}
 use Rattle.opgen_runs.specs.Registers.{SameRegisters}

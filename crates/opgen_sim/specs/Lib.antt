@@ -1,4 +1,7 @@
--- Definitions of opgen_sim: a new simulator, what runs a design, its tables by address, and rows of numbers at its ports.
+-- Definitions of opgen_sim: a new simulator, what runs a design, its tables by address, rows of numbers at its ports, ranks that
+-- count registers, the depth of a design, and the law on what its outputs depend on.
+pub mod Depth
+pub mod Ranks
 pub mod Tables
 pub mod Ready
 pub mod Engines

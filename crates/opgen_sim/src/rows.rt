@@ -7,11 +7,11 @@ ghost use Rattle.opgen_runs.specs.Rows.{IsRunOf};
 ghost use Rattle.opgen_sim.specs.Rows.{AreWidths, IsForStreams};
 
 use crate::engine::FEW_CYCLES;
+use crate::forward::depth;
 use crate::sim::Sim;
 use crate::streams::run_streams;
 use crate::widths::Widths;
 use opgen_design::{Design, Driver};
-use opgen_forward::depth;
 use opgen_num::Memory;
 use std::alloc::Global;
 

@@ -13,15 +13,15 @@ use Rattle.std.proofs.lemmas.Slice.Eq.{bytes_eq-Decides}
 use Rattle.toml.specs.Data.{Data, string, Members, no_members, member, get_member, as_str}
 use Rattle.opgen_operator.specs.declared.operator.Kind.{Kind}
 use Rattle.opgen_spec.specs.declared.fault.SpecFault.TheVariants as fault
-use Rattle.opgen_spec.specs.declared.key.Key.{Key}
-use Rattle.opgen_spec.specs.declared.key.Key.TheVariants as key
-use Rattle.opgen_spec.specs.declared.stand.Stand.TheVariants.{Absent}
-use Rattle.opgen_spec.specs.Document.{names, value_at, text_in, text_at, is_first}
-use Rattle.opgen_spec.specs.Faults.{is_wrong}
-use Rattle.opgen_spec.specs.Fields.{counters_at, IsCompressorAsWritten}
-use Rattle.opgen_spec.specs.Keys.{document_keys, key_name}
-use Rattle.opgen_spec.specs.Ranges.{compressor_outside}
-use Rattle.opgen_spec.specs.Stands.{may_be, may_stand, is_known}
+use Rattle.opgen_document.specs.declared.key.Key.{Key}
+use Rattle.opgen_document.specs.declared.key.Key.TheVariants as key
+use Rattle.opgen_document.specs.declared.stand.Stand.TheVariants.{Absent}
+use Rattle.opgen_document.specs.Document.{names, value_at, text_in, text_at, is_first}
+use Rattle.opgen_document.specs.Types.{is_wrong}
+use Rattle.opgen_document.specs.Fields.{counters_at, IsCompressorAsWritten}
+use Rattle.opgen_document.specs.Keys.{document_keys, key_name, may_be}
+use Rattle.opgen_document.specs.Ranges.{compressor_outside}
+use Rattle.opgen_spec.specs.Stands.{may_stand, is_known}
 use Rattle.opgen_spec.specs.kinds.{kind_of, entry}
 use Rattle.opgen_spec.proofs.Fine.{AreFine, map_none, typed, own_range}
 

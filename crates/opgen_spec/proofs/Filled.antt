@@ -4,8 +4,8 @@ use Rattle.std.proofs.lemmas.List.{take_more_set, drop_all, append_assoc, append
 use Rattle.toml.specs.declared.value.Value.{Value}
 use Rattle.toml.specs.Data.{Data}
 use Rattle.toml.specs.View.{view, items_view}
-use Rattle.opgen_spec.specs.Document.{list_of}
-use Rattle.opgen_spec.proofs.Trees.{cut}
+use Rattle.opgen_document.specs.Document.{list_of}
+use Rattle.opgen_document.proofs.Trees.{cut}
 
 pub filled : (f : Data → ℤ) (vs : List Value) (i : ℕ) (v : Value) (ns : List ℤ) → i < length vs → i < length ns → v ≡ get_or vs i v
     → take (i + 1) (set ns i (f (view v))) ++ map f (list_of (items_view (drop (i + 1) vs)))

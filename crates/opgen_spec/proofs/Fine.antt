@@ -6,15 +6,16 @@ use Rattle.std.specs.Str.{bytes_eq}
 use Rattle.toml.specs.Data.{Data, Members}
 use Rattle.opgen_spec.specs.declared.fault.SpecFault.{SpecFault}
 use Rattle.opgen_spec.specs.declared.fault.SpecFault.TheVariants as fault
-use Rattle.opgen_spec.specs.declared.key.Key.{Key}
-use Rattle.opgen_spec.specs.declared.key.Key.TheVariants as key
+use Rattle.opgen_document.specs.declared.key.Key.{Key}
+use Rattle.opgen_document.specs.declared.key.Key.TheVariants as key
 use Rattle.opgen_operator.specs.declared.operator.Kind.{Kind}
 use Rattle.opgen_spec.specs.declared.lines.Check.TheVariants.{Unknown, Missing, WrongType, Range}
-use Rattle.opgen_spec.specs.Keys.{document_keys, key_name}
-use Rattle.opgen_spec.specs.Document.{value_at, items_at, is_first}
+use Rattle.opgen_document.specs.Keys.{document_keys, key_name, shared_stand, has_to_be}
+use Rattle.opgen_document.specs.Document.{value_at, items_at, is_first}
 use Rattle.opgen_spec.specs.kinds.{kind_of, entry}
-use Rattle.opgen_spec.specs.Stands.{shared_stand, stand_in, has_to_be, is_needed}
-use Rattle.opgen_spec.specs.Faults.{first_of, check_fault, found, kind_outside, value_outside, out_of_range, outside_among, is_missing, is_wrong, unknown_among, missing_among, wrong_among, among_keys, among_lines, bad_version, bad_name, has_kind, bad_kind, form_fault, value_fault, field_fault}
+use Rattle.opgen_spec.specs.Stands.{stand_in, is_needed}
+use Rattle.opgen_document.specs.Types.{is_wrong}
+use Rattle.opgen_spec.specs.Faults.{first_of, check_fault, found, kind_outside, value_outside, out_of_range, outside_among, is_missing, unknown_among, missing_among, wrong_among, among_keys, among_lines, bad_version, bad_name, has_kind, bad_kind, form_fault, value_fault, field_fault}
 use Rattle.opgen_spec.proofs.Reading.{or_none}
 
 pub map_none : {A B : Type 0} (f : A → B) (o : Option A) → option_map f o ≡ None → o ≡ None

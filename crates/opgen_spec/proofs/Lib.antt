@@ -1,6 +1,3 @@
-mod Digits
-mod Decimals
-mod Trees
 mod Reading
 mod Filled
 mod Fine

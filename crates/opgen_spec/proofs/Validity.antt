@@ -6,26 +6,26 @@ use Rattle.std.proofs.lemmas.Int.{ints}
 use Rattle.toml.specs.Data.{Data, string, integer, float, boolean, datetime, array, table, Items, no_items, item, Members}
 use Rattle.opgen_spec.specs.declared.fault.SpecFault.{SpecFault}
 use Rattle.opgen_spec.specs.declared.fault.SpecFault.TheVariants as fault
-use Rattle.opgen_spec.specs.declared.key.Key.{Key}
-use Rattle.opgen_spec.specs.declared.key.Key.TheVariants as key
+use Rattle.opgen_document.specs.declared.key.Key.{Key}
+use Rattle.opgen_document.specs.declared.key.Key.TheVariants as key
 use Rattle.opgen_operator.specs.declared.operator.Kind.{Kind}
 use Rattle.opgen_operator.specs.declared.operator.Kind.TheVariants as kind
 use Rattle.opgen_operator.specs.declared.spec.DelayLine.{DelayLine}
 use Rattle.opgen_operator.specs.declared.spec.Spec.{Spec}
-use Rattle.opgen_operator.specs.Limits.{IsVersion, most_signal}
+use Rattle.opgen_ports.specs.Limits.{IsVersion, most_signal}
 use Rattle.opgen_operator.specs.Operator.{least_shift, most_shift, inexact, shift}
-use Rattle.opgen_operator.specs.SpecName.{is_spec_name}
+use Rattle.opgen_ports.specs.SpecName.{is_spec_name}
 use Rattle.opgen_operator.specs.Valid.{IsDelayLine, IsValidSpec}
 use Rattle.opgen_spec.specs.declared.lines.Check.TheVariants.{Range}
-use Rattle.opgen_spec.specs.Keys.{line_keys}
-use Rattle.opgen_spec.specs.Document.{list_of, items_in, value_at, number_at, text_at, items_at, count, is_one}
+use Rattle.opgen_document.specs.Keys.{line_keys}
+use Rattle.opgen_document.specs.Document.{list_of, items_in, value_at, number_at, text_at, items_at, count, is_one}
 use Rattle.opgen_spec.specs.kinds.{kind_of}
-use Rattle.opgen_spec.specs.Ranges.{outside, length_outside}
+use Rattle.opgen_document.specs.Ranges.{outside, length_outside}
 use Rattle.opgen_spec.specs.Spec.{line_of, lines_of, spec_of, spec_with}
 use Rattle.opgen_spec.specs.Faults.{first_of, found, out_of_range, outside_among, is_version, among_line, among_lines, not_exact, coarse, over_limit, too_wide, field_fault, limit_fault, read}
 use Rattle.opgen_spec.proofs.Reading.{or_none, field_first, limit_first, none_first}
 use Rattle.opgen_spec.proofs.Fine.{AreFine, fine, passed, no_kind, map_none, first_none, present, ranged, there_inside}
-use Rattle.opgen_spec.proofs.Ranges.{inside, zero_inside, counted}
+use Rattle.opgen_document.proofs.Ranges.{inside, zero_inside, counted}
 use Rattle.opgen_spec.proofs.sound.All.{sound}
 
 pub version_is : (n : ℕ) → is_version (pos n) ≡ true → (n ≡ 1) ⊎ (n ≡ 2)
@@ -147,12 +147,11 @@ valid_in ms one f e h =
         whole = λ asked. asked_exact spec exact (s.marked ms asked);
       };
       first = λ is. s.first ms f e (counted_first (number_at ms key.Version) numbered is);
-      agrees = s.agrees ms;
+      mode = record { agrees = s.agrees ms; whole = asked_exact spec exact };
       target = (omega (arith, ints), omega (arith, ints));
       period = counted (number_at ms key.Period) 1 1000000 time_least time_most (omega arith);
       few_lines = omega (arith, no_more_lines (items_at ms key.Delay), few_items (value_at ms key.Delay) (ranged ms key.Delay f refl));
       lines = delays_in 1 (items_at ms key.Delay) f.lines;
-      has_exact = asked_exact spec exact;
     }
 
 -- what reading gives is valid

@@ -10,24 +10,25 @@ use Rattle.opgen_net.specs.declared.cell.Class.{Class}
 use Rattle.opgen_net.specs.declared.cell.Class.TheVariants as class
 use Rattle.opgen_spec.specs.declared.fault.SpecFault.{SpecFault}
 use Rattle.opgen_spec.specs.declared.fault.SpecFault.TheVariants as fault
-use Rattle.opgen_spec.specs.declared.key.Key.{Key}
-use Rattle.opgen_spec.specs.declared.key.Key.TheVariants as key
+use Rattle.opgen_document.specs.declared.key.Key.{Key}
+use Rattle.opgen_document.specs.declared.key.Key.TheVariants as key
 use Rattle.opgen_spec.specs.declared.lines.Check.TheVariants.{Missing, WrongType, Range}
 use Rattle.opgen_operator.specs.declared.operator.Kind.{Kind}
 use Rattle.opgen_operator.specs.Operator.{kind_name}
-use Rattle.opgen_spec.specs.Keys.{line_keys, classes, class_name, class_named}
-use Rattle.opgen_spec.specs.Document.{value_at, number_at, text_at, items_of, items_in, items_at, is_first}
-use Rattle.opgen_spec.specs.Ranges.{outside}
-use Rattle.opgen_spec.specs.Spec.{spec_with, line_of, lines_of}
+use Rattle.opgen_document.specs.Keys.{line_keys}
+use Rattle.opgen_document.specs.Document.{value_at, number_at, text_at, items_of, items_in, items_at, is_first}
+use Rattle.opgen_document.specs.Ranges.{outside}
+use Rattle.opgen_spec.specs.Spec.{classes, class_name, class_named, spec_with, line_of, lines_of}
 use Rattle.opgen_spec.specs.Stands.{is_needed}
 use Rattle.opgen_spec.specs.Written.{IsAsWritten, IsLineAsWritten, AreLinesAsWritten}
-use Rattle.opgen_spec.specs.Faults.{missing_among, wrong_among, is_missing, is_wrong, is_version, field_fault, among_line, among_lines, are_tables, class_outside, found, out_of_range, outside_among}
+use Rattle.opgen_document.specs.Types.{is_wrong, are_tables}
+use Rattle.opgen_spec.specs.Faults.{missing_among, wrong_among, is_missing, is_version, field_fault, among_line, among_lines, class_outside, found, out_of_range, outside_among}
 use Rattle.opgen_spec.specs.kinds.{kinds, kind_of}
 use Rattle.opgen_spec.proofs.Fine.{fine, passed, find_none, map_none, first_none, typed, ranged, stands, present, there_inside}
-use Rattle.opgen_spec.proofs.Ranges.{inside, zero_inside}
+use Rattle.opgen_document.proofs.Ranges.{inside, zero_inside}
 use Rattle.opgen_spec.proofs.Reading.{or_none}
 use Rattle.opgen_spec.proofs.Validity.{version_is}
-use Rattle.opgen_spec.proofs.Writing.{text_stands, flag_stands, count_written}
+use Rattle.opgen_document.proofs.Values.{text_stands, flag_stands, count_written}
 use Rattle.opgen_spec.proofs.sound.All.{sound}
 
 -- a kind that is found by a name has that name

@@ -1,10 +1,13 @@
 -- What a document says of a kind: the form of the definition that each kind gives in its own file.
-use Rattle.std.specs.Prelude.{Bool, ℤ, Option, if◌then◌else◌}
+use Rattle.std.specs.Prelude.{Bool, ℤ, Option}
 use Rattle.toml.specs.Data.{Members}
 use Rattle.opgen_operator.specs.declared.operator.Operator.{Operator}
-use Rattle.opgen_spec.specs.declared.key.Key.{Key}
-use Rattle.opgen_spec.specs.declared.stand.Stand.{Stand}
-use Rattle.opgen_spec.specs.declared.stand.Stand.TheVariants.{Absent, Optional}
+use Rattle.opgen_ports.specs.Limits.{most_input}
+use Rattle.opgen_document.specs.declared.key.Key.{Key}
+use Rattle.opgen_document.specs.declared.key.Key.TheVariants as key
+use Rattle.opgen_document.specs.declared.stand.Stand.{Stand}
+use Rattle.opgen_document.specs.Document.{count_at}
+use Rattle.opgen_document.specs.Ranges.{width_outside}
 
 -- The keys of all kinds are not asked for here: how they stand, and their ranges, are the same for each.
 pub record Entry : Type 0 where
@@ -17,6 +20,6 @@ pub record Entry : Type 0 where
   -- the operator that the values of the keys give
   pub make : Members → Operator
 
--- a key that may be left out, and that version 1 does not have
-abbrev pub later : (first : Bool) → Stand
-later first = if first then Absent else Optional
+-- the width of an input that may have as many bits as the version allows
+abbrev pub input_outside : Members → Key → Option ℤ
+input_outside ms k = width_outside (most_input (count_at ms key.Version)) ms k

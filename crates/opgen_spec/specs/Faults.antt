@@ -1,28 +1,26 @@
 -- The first error of a document, in the order in which the checks are made.
-use Rattle.std.specs.Prelude.{◌≡◌, ℕ, ◌+◌, ◌==◌, ◌&&◌, ◌||◌, not, Bool, false, List, [], ◌∷◌, length, map, ℤ, pos, negsuc, Option, Some, None, is_some, is_none, option_map, option_and_then, find, if◌then◌else◌, nat_lt, Result, Ok, Err}
-use Rattle.std.specs.List.{list_all, position_from}
+use Rattle.std.specs.Prelude.{◌≡◌, ℕ, ◌+◌, ◌==◌, ◌&&◌, ◌||◌, not, Bool, false, List, [], ◌∷◌, length, map, ℤ, pos, negsuc, Option, Some, None, is_none, option_map, option_and_then, find, if◌then◌else◌, nat_lt, Result, Ok, Err}
+use Rattle.std.specs.List.{position_from}
 use Rattle.std.specs.Option.{option_or, option_map_or}
-use Rattle.toml.specs.Data.{Data, string, table, Items, no_items, item, Members, as_str, as_integer, as_bool, as_array, as_table}
+use Rattle.toml.specs.Data.{Data, table, Items, no_items, item, Members}
 use Rattle.opgen_spec.specs.declared.fault.SpecFault.{SpecFault}
 use Rattle.opgen_spec.specs.declared.fault.SpecFault.TheVariants as fault
-use Rattle.opgen_spec.specs.declared.key.Key.{Key}
-use Rattle.opgen_spec.specs.declared.key.Key.TheVariants as key
+use Rattle.opgen_document.specs.declared.key.Key.{Key}
+use Rattle.opgen_document.specs.declared.key.Key.TheVariants as key
 use Rattle.opgen_operator.specs.declared.operator.Kind.{Kind}
 use Rattle.opgen_operator.specs.declared.spec.Spec.{Spec}
-use Rattle.opgen_operator.specs.Limits.{most_signal}
+use Rattle.opgen_ports.specs.Limits.{most_signal}
 use Rattle.opgen_operator.specs.Operator.{least_shift, most_shift, shift, inexact, need}
-use Rattle.opgen_operator.specs.SpecName.{is_spec_name}
-use Rattle.opgen_spec.specs.declared.key.Sort.{Sort}
-use Rattle.opgen_spec.specs.declared.key.Sort.TheVariants.{Number, Text, Flag, Coefficients, Numbers, Tables}
+use Rattle.opgen_ports.specs.SpecName.{is_spec_name}
 use Rattle.opgen_spec.specs.declared.lines.Check.{Check}
 use Rattle.opgen_spec.specs.declared.lines.Check.TheVariants.{Unknown, Missing, WrongType, Range}
-use Rattle.opgen_spec.specs.Keys.{document_keys, line_keys, class_named, sort_of}
-use Rattle.opgen_spec.specs.Document.{names, list_of, value_at, number_at, text_at, items_of, items_at, is_first}
-use Rattle.opgen_spec.specs.Numbers.{decimal_of, are_texts}
-use Rattle.opgen_spec.specs.Ranges.{outside, length_outside}
+use Rattle.opgen_document.specs.Keys.{document_keys, line_keys}
+use Rattle.opgen_document.specs.Document.{names, value_at, number_at, text_at, items_at, is_first}
+use Rattle.opgen_document.specs.Types.{is_wrong}
+use Rattle.opgen_document.specs.Ranges.{outside, length_outside}
 use Rattle.opgen_spec.specs.kinds.{kind_of, entry}
 use Rattle.opgen_spec.specs.Stands.{is_known, is_needed}
-use Rattle.opgen_spec.specs.Spec.{spec_of}
+use Rattle.opgen_spec.specs.Spec.{class_named, spec_of}
 
 -- the first of some faults
 abbrev pub first_of : List (Option SpecFault) → Option SpecFault
@@ -42,48 +40,6 @@ abbrev pub missing_among : List Key → ℕ → Members → Option SpecFault
 missing_among ks line ms = option_map (λ k. fault.MissingKey k line) (find (is_missing ms) ks)
 
 -- Wrong type: the first of the keys whose value is not of its type.
-abbrev pub is_decimal : Data → Bool
-is_decimal (string text) = is_some (decimal_of text)
-is_decimal _ = false
-
-abbrev pub is_integer : Data → Bool
-is_integer d = is_some (as_integer d)
-
-abbrev pub is_table : Data → Bool
-is_table d = is_some (as_table d)
-
-abbrev pub are_integers : Items → Bool
-are_integers items = list_all is_integer (list_of items)
-
-abbrev pub are_decimals : Items → Bool
-are_decimals items = list_all is_decimal (list_of items)
-
-abbrev pub are_tables : Items → Bool
-are_tables items = list_all is_table (list_of items)
-
--- whole numbers, or decimal texts
-abbrev pub are_coefficients : Items → Bool
-are_coefficients items = are_integers items || are_decimals items
-
-abbrev pub is_of : Sort → Data → Bool
-is_of Number d = is_integer d
-is_of Text d = is_some (as_str d)
-is_of Flag d = is_some (as_bool d)
-is_of Coefficients d = are_coefficients (items_of d) && is_some (as_array d)
-is_of Numbers d = are_integers (items_of d) && is_some (as_array d)
-is_of Tables d = are_tables (items_of d) && is_some (as_array d)
-
-abbrev pub fits : Key → Data → Bool
-fits k d = is_of (sort_of k) d
-
--- beside decimal texts, which have their own, there may be no denominator
-abbrev pub clashes : Members → Key → Bool
-clashes ms key.Denominator = are_texts (items_at ms key.Coefficients)
-clashes ms _ = false
-
-abbrev pub is_wrong : Members → Key → Bool
-is_wrong ms k = option_map_or (λ d. not (fits k d) || clashes ms k) (value_at ms k) false
-
 abbrev pub wrong_among : List Key → ℕ → Members → Option SpecFault
 wrong_among ks line ms = option_map (λ k. fault.WrongType k line) (find (is_wrong ms) ks)
 

@@ -1,15 +1,32 @@
 -- The specification that a document gives, field by field.
-use Rattle.std.specs.Prelude.{List, [], ◌∷◌, ◌++◌, unwrap_or}
+use Rattle.std.specs.Prelude.{ℕ, List, [], ◌∷◌, ◌++◌, codes, Option, find, unwrap_or}
+use Rattle.std.specs.Str.{bytes_eq}
 use Rattle.toml.specs.Data.{Data, table, Items, no_items, item, Members}
+use Rattle.opgen_net.specs.declared.cell.Class.{Class}
 use Rattle.opgen_net.specs.declared.cell.Class.TheVariants as class
-use Rattle.opgen_spec.specs.declared.key.Key.TheVariants as key
+use Rattle.opgen_document.specs.declared.key.Key.TheVariants as key
 use Rattle.opgen_operator.specs.declared.operator.Kind.{Kind}
 use Rattle.opgen_operator.specs.declared.operator.Kind.TheVariants as kind
 use Rattle.opgen_operator.specs.declared.spec.DelayLine.{DelayLine}
 use Rattle.opgen_operator.specs.declared.spec.Spec.{Spec}
-use Rattle.opgen_spec.specs.Keys.{class_named}
-use Rattle.opgen_spec.specs.Document.{text_at, flag_at, items_at, count_at}
+use Rattle.opgen_document.specs.Document.{text_at, flag_at, items_at, count_at}
 use Rattle.opgen_spec.specs.kinds.{kind_of, entry}
+
+-- the classes of delay lines, by their names
+abbrev pub class_name : Class → List ℕ
+class_name class.Wire = codes "wire"
+class_name class.Logic = codes "logic"
+class_name class.Add = codes "add"
+class_name class.Choice = codes "choice"
+class_name class.Table = codes "table"
+class_name class.Register = codes "register"
+
+unfoldable pub classes : List Class
+classes = class.Wire ∷ class.Logic ∷ class.Add ∷ class.Choice ∷ class.Table ∷ class.Register ∷ []
+
+-- the class of a name
+abbrev pub class_named : List ℕ → Option Class
+class_named name = find (λ one. bytes_eq (class_name one) name) classes
 
 abbrev pub line_of : Members → DelayLine
 line_of ms = record {

@@ -1,41 +1,15 @@
--- Which keys may and have to stand in a document.
-use Rattle.std.specs.Prelude.{ℕ, Bool, true, false, ◌&&◌, List, Option, Some, None, unwrap_or}
+-- Which keys may and have to stand in a document of a kind.
+use Rattle.std.specs.Prelude.{ℕ, Bool, true, ◌&&◌, List, Option, Some, None, unwrap_or}
 use Rattle.std.specs.List.{list_all, list_any}
 use Rattle.std.specs.Str.{bytes_eq}
-use Rattle.opgen_spec.specs.declared.key.Key.{Key}
-use Rattle.opgen_spec.specs.declared.key.Key.TheVariants as key
+use Rattle.opgen_document.specs.declared.key.Key.{Key}
 use Rattle.opgen_operator.specs.declared.operator.Kind.{Kind}
-use Rattle.opgen_spec.specs.declared.stand.Stand.{Stand}
-use Rattle.opgen_spec.specs.declared.stand.Stand.TheVariants.{Absent, Optional, Needed}
-use Rattle.opgen_spec.specs.Keys.{key_name}
+use Rattle.opgen_document.specs.declared.stand.Stand.{Stand}
+use Rattle.opgen_document.specs.Keys.{key_name, shared_stand, may_be, has_to_be}
 use Rattle.opgen_spec.specs.kinds.{kinds, entry}
-
--- the keys of all kinds, and of all delay lines
-abbrev pub shared_stand : Key → Option Stand
-shared_stand key.Version = Some Needed
-shared_stand key.Name = Some Needed
-shared_stand key.Kind = Some Needed
-shared_stand key.Exact = Some Needed
-shared_stand key.Target = Some Needed
-shared_stand key.Period = Some Needed
-shared_stand key.Delay = Some Optional
-shared_stand key.Class = Some Needed
-shared_stand key.Base = Some Needed
-shared_stand key.PerBit = Some Needed
-shared_stand _ = None
 
 abbrev pub stand_in : (first : Bool) → Kind → Key → Stand
 stand_in first one k = unwrap_or (shared_stand k) ((entry one).stand first k)
-
-abbrev pub may_be : Stand → Bool
-may_be Absent = false
-may_be Optional = true
-may_be Needed = true
-
-abbrev pub has_to_be : Stand → Bool
-has_to_be Absent = false
-has_to_be Optional = false
-has_to_be Needed = true
 
 -- Where the document names no kind, all keys may stand there, and those that all kinds need have to.
 abbrev pub may_stand : (first : Bool) → Option Kind → Key → Bool

@@ -4,7 +4,7 @@ use Rattle.std.specs.Fmt.{decimal, signed_decimal}
 use Rattle.opgen_spec.specs.declared.fault.Place.{Place}
 use Rattle.opgen_spec.specs.declared.fault.SpecFault.{SpecFault}
 use Rattle.opgen_spec.specs.declared.fault.SpecFault.TheVariants as fault
-use Rattle.opgen_spec.specs.Keys.{key_name}
+use Rattle.opgen_document.specs.Keys.{key_name}
 
 -- a key, and the number of its delay line where it is one's
 abbrev pub place_text : Place → List ℕ

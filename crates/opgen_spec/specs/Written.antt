@@ -1,12 +1,12 @@
 -- Each field of a specification has the value that its document writes.
 use Rattle.std.specs.Prelude.{◌≡◌, pos, Some, List, [], ◌∷◌}
 use Rattle.toml.specs.Data.{string, integer, boolean, Members, table, Items, no_items, item}
-use Rattle.opgen_spec.specs.declared.key.Key.TheVariants as key
+use Rattle.opgen_document.specs.declared.key.Key.TheVariants as key
 use Rattle.opgen_operator.specs.declared.spec.DelayLine.{DelayLine}
 use Rattle.opgen_operator.specs.declared.spec.Spec.{Spec}
 use Rattle.opgen_operator.specs.Operator.{kind, kind_name}
-use Rattle.opgen_spec.specs.Document.{value_at, items_at}
-use Rattle.opgen_spec.specs.Keys.{class_name}
+use Rattle.opgen_document.specs.Document.{value_at, items_at}
+use Rattle.opgen_spec.specs.Spec.{class_name}
 use Rattle.opgen_spec.specs.kinds.{IsOperatorAsWritten}
 
 pub record IsLineAsWritten (ms : Members) (line : DelayLine) : Type 0 where

@@ -7,8 +7,8 @@ use Rattle.opgen_operator.specs.declared.operator.Kind.TheVariants as kind
 use Rattle.opgen_operator.specs.declared.operator.Operator.{Operator}
 use Rattle.opgen_operator.specs.declared.operator.Operator.TheVariants as operator
 use Rattle.opgen_operator.specs.Operator.{kind_name}
-use Rattle.opgen_spec.specs.declared.key.Key.TheVariants as key
-use Rattle.opgen_spec.specs.Document.{text_at}
+use Rattle.opgen_document.specs.declared.key.Key.TheVariants as key
+use Rattle.opgen_document.specs.Document.{text_at}
 use Rattle.opgen_spec.specs.Entry.{Entry}
 pub mod Sum
 pub mod Product

@@ -3,7 +3,7 @@ ghost use Rattle.std.specs.Prelude.{◌≡◌, ◌++◌, codes, Some};
 ghost use Rattle.std.specs.Fmt.{decimal, signed_decimal, WritesOnOk};
 ghost use Rattle.opgen_spec.specs.Texts.{place_text, fault_text};
 
-use crate::key::Key;
+use opgen_document::Key;
 use std::alloc::AllocError;
 use std::error::Error;
 use std::fmt;

@@ -3,6 +3,7 @@ ghost use Rattle.std.specs.Prelude.{◌≡◌, find, IfOk};
 ghost use Rattle.std.specs.Str.{bytes_eq};
 ghost use Rattle.toml.specs.View.{table_view};
 ghost use Rattle.opgen_operator.specs.Operator.{kind_name};
+ghost use Rattle.opgen_spec.specs.Entry.{input_outside};
 ghost use Rattle.opgen_spec.specs.kinds.{kind_named, kind_of, entry_of};
 
 mod pair;
@@ -14,10 +15,8 @@ mod small_div;
 mod sum;
 mod taps;
 
-use crate::document::text_at;
-use crate::key::Key;
-use crate::stand::Stand;
-use opgen_operator::{Kind, Operator};
+use opgen_document::{Key, Stand, count_at, text_at, width_outside};
+use opgen_operator::{Kind, Operator, most_input};
 use std::alloc::{AllocError, Global};
 use toml::Table;
 
@@ -52,6 +51,13 @@ pub(crate) fn kind_of(table: &Table) -> Option<Kind>
     ensures { result ≡ kind_of (table_view table.now) }
 {
     kind_named(text_at(table, Key::Kind))
+}
+
+/// The width of an input, where it has too few bits, or more than the version allows.
+pub(crate) fn input_outside(table: &Table, key: Key) -> Option<i64>
+    ensures { result ≡ input_outside (table_view table.now) key }
+{
+    width_outside(most_input(count_at(table, Key::Version)), table, key)
 }
 
 /// Whether version 1 has the kind.

@@ -6,12 +6,9 @@
 //! By: `read_spec`, the `Display` of `SpecFault`.
 #![tactic(auto)]
 
-mod decimal;
-mod document;
+mod class;
 mod fault;
-mod fields;
 mod form;
-mod key;
 mod kinds;
 mod limits;
 mod lines;
@@ -21,7 +18,7 @@ mod read;
 mod stand;
 
 pub use fault::SpecFault;
-pub use key::Key;
+pub use opgen_document::Key;
 pub use opgen_operator::{
     DelayLine, Kind, MAX_SPEC_NAME_LEN, Operator, Pair, Poly, PortFormat, Product, Several, Single,
     SmallDiv, Spec, Sum, Taps, is_cycle, is_history, is_spec_name,

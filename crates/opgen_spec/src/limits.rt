@@ -1,6 +1,6 @@
 //! Checks a specification whose fields are in range against the limits that concern several fields: shift, width and exactness.
 ghost use Rattle.std.specs.Prelude.{◌≡◌, None};
-ghost use Rattle.opgen_operator.specs.Limits.{most_input};
+ghost use Rattle.opgen_ports.specs.Limits.{most_input};
 ghost use Rattle.opgen_operator.specs.Operator.{HasInputsWithin, IsOperator};
 ghost use Rattle.opgen_spec.specs.Faults.{not_exact, coarse, too_wide, limit_fault};
 

@@ -3,11 +3,10 @@ ghost use Rattle.std.specs.Prelude.{◌≡◌, ◌+◌, ◌<◌, ◌^◌};
 ghost use Rattle.toml.specs.View.{view, items_view, table_view};
 ghost use Rattle.opgen_spec.specs.Faults.{among, among_line_keys, among_line, among_keys, among_lines, check_fault};
 
-use crate::document::items_at;
 use crate::fault::SpecFault;
 use crate::form::{missing_among, unknown_among, wrong_among};
-use crate::key::{KEYS, Key, LINE_KEYS};
 use crate::range::outside_among;
+use opgen_document::{Key, document_keys, items_at, line_keys};
 use toml::{Table, Value};
 
 /// What a document and its delay lines are asked for, key by key.
@@ -36,7 +35,7 @@ fn among_line_keys(check: Check, line: u64, table: &Table) -> Option<SpecFault>
     requires { line < 2 ^ 63 }
     ensures { result ≡ among_line_keys check line (table_view table.now) }
 {
-    among(check, &LINE_KEYS, line, table)
+    among(check, line_keys(), line, table)
 }
 
 fn among_line(check: Check, line: u64, item: &Value) -> Option<SpecFault>
@@ -65,7 +64,7 @@ fn among_lines(check: Check, items: &[Value]) -> Option<SpecFault>
 fn among_keys(check: Check, table: &Table) -> Option<SpecFault>
     ensures { result ≡ among_keys check (table_view table.now) }
 {
-    among(check, &KEYS, 0, table)
+    among(check, document_keys(), 0, table)
 }
 
 /// The first fault of the document's keys, and then of its delay lines.

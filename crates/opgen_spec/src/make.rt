@@ -1,12 +1,12 @@
 //! Makes the specification from a document that passed its checks, field by field.
 ghost use Rattle.std.specs.Prelude.{◌≡◌, ◌++◌, IfOk, OnOk};
 ghost use Rattle.toml.specs.View.{view, items_view, table_view};
-ghost use Rattle.opgen_spec.specs.Document.{text_at, items_at};
+ghost use Rattle.opgen_document.specs.Document.{text_at, items_at};
 ghost use Rattle.opgen_spec.specs.Spec.{line_of, line_in, lines_of, spec_with};
 
-use crate::document::{count_at, flag_at, items_at, text_at};
-use crate::key::{Key, class_named};
+use crate::class::class_named;
 use crate::kinds::operator_of;
+use opgen_document::{Key, count_at, flag_at, items_at, text_at};
 use opgen_list::{Items, Text};
 use opgen_net::Class;
 use opgen_operator::{DelayLine, Kind, Spec};

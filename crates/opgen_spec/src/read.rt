@@ -1,18 +1,17 @@
 //! Reads the bytes of a TOML document as a specification, or returns its first error.
 ghost use Rattle.std.specs.Prelude.{◌≡◌, IfOk, IsSomeAnd, MatchResult, Some};
 ghost use Rattle.toml.specs.View.{table_view};
-ghost use Rattle.opgen_spec.specs.Document.{tree};
+ghost use Rattle.opgen_document.specs.Document.{tree};
 ghost use Rattle.opgen_spec.specs.Faults.{bad_version, bad_name, has_kind, bad_kind, form_fault, value_fault, field_fault, read, Gives, IsNoTree};
 ghost use Rattle.opgen_operator.specs.Valid.{IsValidSpec};
 ghost use Rattle.opgen_spec.specs.Written.{IsAsWritten};
 
-use crate::document::{is_first, number_at, text_at};
 use crate::fault::SpecFault;
-use crate::key::Key;
 use crate::kinds::{is_first_kind, kind_of};
 use crate::limits::limit_fault;
 use crate::lines::{Check, check_fault};
 use crate::make::spec_with;
+use opgen_document::{Key, is_first, number_at, parse, text_at};
 use opgen_operator::{Kind, Spec, is_spec_name};
 use std::alloc::Global;
 use toml::Table;
@@ -21,14 +20,7 @@ fn document(alloc: Global, bytes: &[u8]) -> Result<Table, SpecFault>
     ensures { MatchResult result (λ table. tree bytes.now ≡ Some (table_view table))
         (IsNoTree (tree bytes.now)) }
 {
-    let Ok(text) = std::str::from_utf8(bytes) else {
-        return Err(SpecFault::NotToml);
-    };
-    match toml::table_from_str(alloc, text) {
-        Ok(table) => Ok(table),
-        Err(fault) if fault.is_memory() => Err(SpecFault::Memory),
-        Err(_) => Err(SpecFault::NotToml),
-    }
+    parse(alloc, bytes)?.ok_or(SpecFault::NotToml)
 }
 
 fn bad_version(table: &Table) -> Option<SpecFault>

@@ -21,16 +21,15 @@ use Rattle.opgen_net.proofs.FlowWidths.{flow-width}
 use Rattle.opgen_net.proofs.Grown.{flow-then, grown-flow, grown-count}
 use Rattle.opgen_operator.specs.declared.kinds.single.Single.{Single}
 use Rattle.opgen_operator.specs.declared.operator.Operator.TheVariants.{Root}
-use Rattle.opgen_operator.specs.declared.TheConstants.{MAX_SHIFT}
-use Rattle.opgen_operator.specs.Fits.{FitsOperator, FitsSpecsOf, name_and_width}
+use Rattle.opgen_ports.specs.declared.TheConstants.{MAX_SHIFT}
+use Rattle.opgen_operator.specs.Fits.{FitsOperator, FitsInEachMode, name_and_width}
 use Rattle.opgen_operator.specs.kinds.Single.{IsAcceptedSingle, square, IsGoodSquareRoot, root_shift, root_width, root_ports, IsSingle}
 use Rattle.opgen_operator.specs.Operator.{operator_inputs}
-use Rattle.opgen_operator.specs.PortNumbers.{recent_words, output_words}
-use Rattle.opgen_operator.specs.Recent.{Recent}
-use Rattle.opgen_operator.specs.Shifts.{places_up, up}
-use Rattle.opgen_operator.specs.Valid.{AgreesOnExact}
+use Rattle.opgen_operator.specs.PortWords.{recent_words, output_words}
+use Rattle.opgen_ports.specs.Recent.{Recent}
+use Rattle.opgen_ports.specs.Shifts.{places_up, up}
 use Rattle.opgen_operator.proofs.Accepted.{accepted_ranges, accepted_shift}
-use Rattle.opgen_operator.proofs.InputPorts.{input_bit}
+use Rattle.opgen_ports.proofs.InputPorts.{input_bit}
 use Rattle.opgen_net.specs.Placed.{number_at}
 use Rattle.opgen_digits.specs.Digit.{Known}
 use Rattle.opgen_digits.specs.Results.{AreResults, with_results}
@@ -217,12 +216,10 @@ module _ (r : Single) (have : HasWidths r) (some_root : 1 ≤ root_width r) wher
     good = λ inputs t words within range. good r.exact refl results signed inputs t (for_inputs inputs words);
   }
 
-pub fits_specs : (r : Single) → IsAcceptedSingle r → FitsSpecsOf (Root r) (net_of_single r)
-fits_specs r is spec valid e =
+pub fits_modes : (r : Single) → IsAcceptedSingle r → FitsInEachMode (Root r) (net_of_single r)
+fits_modes r is exact mode =
     let ranges : IsSingle r = accepted_ranges (Root r) is in
-    let agrees : r.exact ≡ spec.exact = subst (λ op. AgreesOnExact spec.exact op) e valid.agrees in
-    let all = fits r (has_widths r is) (root_bits r is).0 ranges.unsigned in
-    subst (λ op. FitsOperator spec.exact op (net_of_single r)) (sym e) (subst (λ x. FitsOperator x (Root r) (net_of_single r)) agrees all)
+    subst (λ x. FitsOperator x (Root r) (net_of_single r)) mode.agrees (fits r (has_widths r is) (root_bits r is).0 ranges.unsigned)
 
 pub all_steps : (r : Single) → IsAcceptedSingle r → HoldsAfterEachStep r (net_of_single r)
 all_steps r is = steps_hold r (has_widths r is) (root_bits r is).0

@@ -2,8 +2,7 @@
 //! Application-Specific Arithmetic: restoring square root).
 //!
 //! Proved: For every root that a version accepts, the net is that of the recipe. After each step and at every time, the
-//! radicand so far is the square of the root so far plus a rest of at most twice that root. The net fits every valid
-//! specification of that root.
+//! radicand so far is the square of the root so far plus a rest of at most twice that root. The net fits the operator.
 //!
 //! By: `build`.
 #![tactic(auto)]
@@ -14,7 +13,7 @@ ghost use Rattle.opgen_net.specs.declared.word_bits.WordBit.TheVariants.{Zero, O
 ghost use Rattle.opgen_net.specs.Valid.{IsValid, widths};
 ghost use Rattle.opgen_net.specs.WordRule.{IsThere};
 ghost use Rattle.opgen_operator.specs.declared.operator.Operator.TheVariants.{Root};
-ghost use Rattle.opgen_operator.specs.Fits.{FitsSpecsOf};
+ghost use Rattle.opgen_operator.specs.Fits.{FitsInEachMode};
 ghost use Rattle.opgen_operator.specs.kinds.Single.{IsAcceptedSingle, root_width};
 ghost use Rattle.opgen_sqrt.specs.Recipe.{with_input, radicand as radicand_of, stepped, after, net_of_single};
 ghost use Rattle.opgen_sqrt.specs.Steps.{HoldsAfterEachStep};
@@ -153,7 +152,7 @@ pub fn build(alloc: Global, single: &Single) -> Result<Net, Memory>
     requires { IsAcceptedSingle single.now }
     ensures net { IfOk result (λ net. net ≡ net_of_single single.now) }
     ensures steps { IfOk result (HoldsAfterEachStep single.now) }
-    ensures fits { IfOk result (FitsSpecsOf (Root single.now)) }
+    ensures fits { IfOk result (FitsInEachMode (Root single.now)) }
 {
     let mut net = input(alloc, single)?;
     let radicand = radicand(alloc, single)?;

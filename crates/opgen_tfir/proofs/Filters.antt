@@ -22,19 +22,19 @@ use Rattle.opgen_net.proofs.Grown.{grown-flow}
 use Rattle.opgen_net.proofs.Later.{Later, later-node, later-same, later-then, node_there}
 use Rattle.opgen_operator.specs.declared.kinds.taps.Taps.{Taps}
 use Rattle.opgen_operator.specs.declared.operator.Operator.TheVariants.{Tfir}
-use Rattle.opgen_operator.specs.Fits.{FitsOperator, FitsSpecsOf}
+use Rattle.opgen_operator.specs.Fits.{FitsOperator, FitsInEachMode}
 use Rattle.opgen_operator.specs.Held.{OutputsHold}
 use Rattle.opgen_operator.specs.kinds.Taps.{IsAcceptedTaps, taps_format, IsTaps}
-use Rattle.opgen_operator.specs.OddParts.{odd_part}
+use Rattle.opgen_ports.specs.OddParts.{odd_part}
 use Rattle.opgen_operator.specs.Operator.{operator_outputs}
-use Rattle.opgen_operator.specs.PortNumbers.{output_words}
-use Rattle.opgen_operator.specs.Ranges.{IsWithin}
-use Rattle.opgen_operator.specs.Reaches.{reach_of, reach_over, rises, falls, above_zero, below_zero}
-use Rattle.opgen_operator.specs.Recent.{weighted}
+use Rattle.opgen_operator.specs.PortWords.{output_words}
+use Rattle.opgen_ports.specs.Ranges.{IsWithin}
+use Rattle.opgen_ports.specs.Reaches.{reach_of, reach_over, rises, falls, above_zero, below_zero}
+use Rattle.opgen_ports.specs.Recent.{weighted}
 use Rattle.opgen_operator.proofs.Accepted.{accepted_ranges}
-use Rattle.opgen_operator.proofs.InputPorts.{input_bit}
+use Rattle.opgen_ports.proofs.InputPorts.{input_bit}
 use Rattle.opgen_operator.proofs.of_kind.Taps.{taps_width}
-use Rattle.opgen_operator.proofs.Widths.{some_width}
+use Rattle.opgen_ports.proofs.Widths.{some_width}
 use Rattle.opgen_graph.specs.declared.ranks.Graph.{Graph}
 use Rattle.opgen_graph.specs.Parts.{parts_of, with_parts}
 use Rattle.opgen_graph.specs.Placing.{factors, AreAdders, IsNode, IsPart, HasOddPart, IsMultiple}
@@ -270,7 +270,7 @@ module _ (f : Taps) (accepted : IsAcceptedTaps f) (graph : Graph) (serves : Serv
         let e : bits - 1 + 1 - 0 ≡ length w = omega (arith, h.width, wide.0) in
         let x = recent f.input inputs t in
         ap (λ v. val v (taps_format f)) (ap (λ n. take n w) e ∙ take-length w)
-        ∙ settled (taps_format f) bits w (weighted f.taps x) wide.0 h (hold.taps f x (λ ago. held (t -ℤ pos ago)))
+        ∙ settled (taps_format f) bits w (weighted f.taps x) wide.0 h (hold (Tfir f) x (λ ago. held (t -ℤ pos ago)))
       where
         held : (u : ℤ) → Holds f.input.signed f.input.width (val (input_at inputs 0 f.input.width u) f.input)
         held u =
@@ -296,5 +296,5 @@ module _ (f : Taps) (accepted : IsAcceptedTaps f) (graph : Graph) (serves : Serv
           ∙ value inputs (pos t) words);
     }
 
-    pub fits_specs : FitsSpecsOf (Tfir f) net
-    fits_specs spec valid e = subst (λ op. FitsOperator spec.exact op net) (sym e) (fits-operator spec.exact)
+    pub fits_modes : FitsInEachMode (Tfir f) net
+    fits_modes exact mode = fits-operator exact

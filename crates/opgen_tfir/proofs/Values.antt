@@ -16,8 +16,8 @@ use Rattle.opgen_net.specs.Valid.{input_widths}
 use Rattle.opgen_net.proofs.Appending.{flow-append_last}
 use Rattle.opgen_net.proofs.Grown.{grown-flow}
 use Rattle.opgen_net.proofs.Later.{Later, later-same, later-then, node_there, words-later}
-use Rattle.opgen_operator.specs.Ranges.{IsWithin}
-use Rattle.opgen_operator.specs.Recent.{weighted, weighted_from}
+use Rattle.opgen_ports.specs.Ranges.{IsWithin}
+use Rattle.opgen_ports.specs.Recent.{weighted, weighted_from}
 use Rattle.opgen_graph.specs.declared.multiples.Multiple.{Multiple}
 use Rattle.opgen_graph.specs.Placing.{HasOddPart, IsMultiple}
 use Rattle.opgen_graph.specs.Recipe.{Multiples, with_input, with_magnitude, with_constant}

@@ -2,7 +2,7 @@
 use Rattle.std.specs.Prelude.{◌≡◌, ℕ, ◌+◌, ◌<◌, ℤ, List, length, drop, true, false, All}
 use Rattle.opgen_design.specs.Width.{IsWidth}
 use Rattle.opgen_net.specs.declared.net.Net.{Net}
-use Rattle.opgen_operator.specs.Ranges.{IsWithin}
+use Rattle.opgen_ports.specs.Ranges.{IsWithin}
 use Rattle.opgen_graph.specs.Placing.{IsNode, HasOddPart}
 use Rattle.opgen_tfir.specs.declared.sums.Products.{Products}
 use Rattle.opgen_tfir.specs.Recipe.{all_zero}

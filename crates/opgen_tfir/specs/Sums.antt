@@ -9,7 +9,7 @@ use Rattle.opgen_net.specs.Flow.{Inputs, input_at, flow}
 use Rattle.opgen_net.specs.Valid.{input_widths}
 use Rattle.opgen_operator.specs.declared.kinds.taps.Taps.{Taps}
 use Rattle.opgen_operator.specs.kinds.Taps.{taps_format}
-use Rattle.opgen_operator.specs.Recent.{Recent, weighted}
+use Rattle.opgen_ports.specs.Recent.{Recent, weighted}
 use Rattle.opgen_graph.specs.declared.ranks.Graph.{Graph}
 use Rattle.opgen_graph.specs.Residues.{IsResidue}
 use Rattle.opgen_tfir.specs.Recipe.{all_zero, sum_from}

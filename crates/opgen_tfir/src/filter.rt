@@ -2,7 +2,7 @@
 ghost use Rattle.std.specs.Prelude.{◌≡◌, IfOk};
 ghost use Rattle.opgen_net.specs.Valid.{IsValid};
 ghost use Rattle.opgen_operator.specs.declared.operator.Operator.TheVariants.{Tfir};
-ghost use Rattle.opgen_operator.specs.Fits.{FitsSpecsOf};
+ghost use Rattle.opgen_operator.specs.Fits.{FitsInEachMode};
 ghost use Rattle.opgen_operator.specs.kinds.Taps.{IsAcceptedTaps};
 ghost use Rattle.opgen_graph.specs.Recipe.{with_input};
 ghost use Rattle.opgen_graph.specs.Served.{Serves};
@@ -49,7 +49,7 @@ pub fn build(alloc: Global, taps: &Taps, graph: &Graph) -> Result<Net, Memory>
     requires graph { Serves taps.now.taps graph.now }
     ensures net { IfOk result (λ net. net ≡ net_of_taps taps.now graph.now) }
     ensures sums { IfOk result (HasSums taps.now graph.now) }
-    ensures fits { IfOk result (FitsSpecsOf (Tfir taps.now)) }
+    ensures fits { IfOk result (FitsInEachMode (Tfir taps.now)) }
 {
     outputs_hold();
     let width = taps.output().width;

@@ -6,21 +6,21 @@ use Rattle.opgen_operator.specs.declared.spec.Spec.{Spec}
 use Rattle.opgen_target.specs.Delays.{Delays, with_line}
 use Rattle.opgen_top.specs.Answer.{unknown_target, not_adjustable}
 use Rattle.opgen_top.specs.Specified.{OnLines, OnTarget}
-use Rattle.opgen_top.specs.Targets.{Device, IsTableOf, chosen, devices_of, takes_lines, tuned}
+use Rattle.opgen_top.specs.Targets.{Device, IsTableOf, devices_of, first_of_name, takes_lines, tuned}
 
 module _ {T : Type 0} (name_of : T → List ℕ) (delays_of : T → Delays) (adjustable_of : T → Bool) where
   abbrev device_of : T → Device
   device_of t = record { name = name_of t; delays = delays_of t; adjustable = adjustable_of t }
 
-  chosen_is : (name : List ℕ) (ts : List T) → chosen name (devices_of name_of delays_of adjustable_of ts)
+  chosen_is : (name : List ℕ) (ts : List T) → first_of_name name (devices_of name_of delays_of adjustable_of ts)
       ≡ option_map (λ t. record { name = name_of t; delays = delays_of t; adjustable = adjustable_of t })
       (find (λ t. bytes_eq (name_of t) name) ts)
   chosen_is name [] = refl
   chosen_is name (t ∷ ts) = go (bytes_eq (name_of t) name) (chosen_is name ts)
     where
-      go : (b : Bool) → chosen name (devices_of name_of delays_of adjustable_of ts)
+      go : (b : Bool) → first_of_name name (devices_of name_of delays_of adjustable_of ts)
           ≡ option_map device_of (find (λ x. bytes_eq (name_of x) name) ts)
-          → cond b (Some (device_of t)) (chosen name (devices_of name_of delays_of adjustable_of ts))
+          → cond b (Some (device_of t)) (first_of_name name (devices_of name_of delays_of adjustable_of ts))
           ≡ option_map device_of (cond b (Some t) (find (λ x. bytes_eq (name_of x) name) ts))
       go true e = refl
       go false e = e
@@ -28,21 +28,21 @@ module _ {T : Type 0} (name_of : T → List ℕ) (delays_of : T → Delays) (adj
   -- what was found among the targets decides
   module _ (spec : Spec) (ts : List T) (name : List ℕ) (called : name ≡ spec.target) where
     chosen_from : (r : Option T) → r ≡ find (λ t. bytes_eq (name_of t) name) ts
-        → chosen spec.target (devices_of name_of delays_of adjustable_of ts) ≡ option_map
+        → first_of_name spec.target (devices_of name_of delays_of adjustable_of ts) ≡ option_map
         (λ t. record { name = name_of t; delays = delays_of t; adjustable = adjustable_of t }) r
     chosen_from r found =
-        ap (λ n. chosen n (devices_of name_of delays_of adjustable_of ts)) (sym called) ∙ chosen_is name ts
+        ap (λ n. first_of_name n (devices_of name_of delays_of adjustable_of ts)) (sym called) ∙ chosen_is name ts
         ∙ ap (option_map (λ t. record { name = name_of t; delays = delays_of t; adjustable = adjustable_of t })) (sym found)
 
     pub none_chosen : (r : Option T) → ((t : T) → r ≡ Some t → ⊥) → r ≡ find (λ t. bytes_eq (name_of t) name) ts
-        → OnTarget (chosen spec.target (devices_of name_of delays_of adjustable_of ts)) spec unknown_target (λ table. ⊥)
+        → OnTarget (first_of_name spec.target (devices_of name_of delays_of adjustable_of ts)) spec unknown_target (λ table. ⊥)
     none_chosen None none found = subst (λ d. OnTarget d spec unknown_target (λ table. ⊥)) (sym (chosen_from None found)) refl
     none_chosen (Some t) none found = absurd (none t refl)
 
     module _ (t : T) (found : Some t ≡ find (λ x. bytes_eq (name_of x) name) ts) (lines : List DelayLine)
         (are_lines : lines ≡ spec.delays) where
       pub fixed_chosen : false ≡ takes_lines (adjustable_of t) lines
-          → OnTarget (chosen spec.target (devices_of name_of delays_of adjustable_of ts)) spec not_adjustable (λ table. ⊥)
+          → OnTarget (first_of_name spec.target (devices_of name_of delays_of adjustable_of ts)) spec not_adjustable (λ table. ⊥)
       fixed_chosen takes =
           let takes_none : false ≡ takes_lines (adjustable_of t) spec.delays = takes ∙ ap (takes_lines (adjustable_of t)) are_lines in
           subst (λ d. OnTarget d spec not_adjustable (λ table. ⊥)) (sym (chosen_from (Some t) found))

@@ -11,7 +11,7 @@ use Rattle.opgen_top.specs.Prepared.{Reads, IsPrepared}
 use Rattle.opgen_top.specs.Printed.{IsLineOf, IsPrinted}
 use Rattle.opgen_top.specs.Printed as printed
 use Rattle.opgen_top.specs.Lines.{usage_line}
-use Rattle.opgen_top.specs.Statuses.{HasLine, IsDueStatus, IsSilent, TellsOr}
+use Rattle.opgen_top.specs.Statuses.{ComesWithLine, IsDueStatus, IsSilent, TellsOr}
 use Rattle.opgen_top.specs.Stores.{stored_all, HasBroken, HasFirst}
 use Rattle.opgen_top.specs.Targets.{Device}
 use Rattle.opgen_top.proofs.Parts.{takes-nothing, told_status, not_silent, not_four, due_line, not_three}
@@ -21,7 +21,7 @@ abbrev pub status_of : Answer → ℕ
 status_of a = a.status
 
 -- the line that was put is the one more
-pub line_taken : (result : ℕ) (held line : List ℕ) (now : Option (List ℕ)) → HasLine result → IsSilent result
+pub line_taken : (result : ℕ) (held line : List ℕ) (now : Option (List ℕ)) → ComesWithLine result → IsSilent result
     ⊎ (now ≡ Some (held ++ line)) → now ≡ Some (held ++ line)
 line_taken result held line now has (inl silent) = absurd (not_silent result has silent)
 line_taken result held line now has (inr taken) = taken
@@ -41,7 +41,7 @@ module _ (command : Option Command) (devices : List Device) (told : Option Files
     (taken : (held : List ℕ) → before ≡ Some held → IsSilent result ⊎ (now ≡ Some (held ++ a.line)))
     (part : result ≡ 4 → TakesPrefix before a.line now)
     (stores : (files : Files) → told ≡ Some files → after ≡ Some (stored_all a.stores files)) where
-  gives : (files : Files) → told ≡ Some files → IsAnswerOf command devices files a → HasLine result
+  gives : (files : Files) → told ≡ Some files → IsAnswerOf command devices files a → ComesWithLine result
       → IsAnswered command devices files result after before now
   gives files is due has = record {
     answer = a;
@@ -65,12 +65,12 @@ module _ (command : Option Command) (devices : List Device) (told : Option Files
     | inr due ↦ gives files is due (inr (inr (inr (inl e))))
   ]
 
-  pub gives_all : (files : Files) → told ≡ Some files → Stood reads.faults reads_now.faults → Stood puts puts_now → HasLine a.status
+  pub gives_all : (files : Files) → told ≡ Some files → Stood reads.faults reads_now.faults → Stood puts puts_now → ComesWithLine a.status
       → (result ≡ 5) ⊎ IsAnswered command devices files result after before now
   gives_all files is stood put has = elim (prepared.due files is) [
     | inl fault ↦ let rose = fault.1 in absurd (omega (arith, stood, rose))
     | inr due ↦ elim tells [
-      | inl e ↦ inr (gives files is due (subst HasLine (sym e) has))
+      | inl e ↦ inr (gives files is due (subst ComesWithLine (sym e) has))
       | inr (inl refused) ↦ let rose = refused.1 in absurd (omega (arith, put, rose))
       | inr (inr memory) ↦ inl memory
     ]
@@ -85,14 +85,14 @@ module _ (command : Option Command) (devices : List Device) (told : Option Files
       ]
 
   -- the sink counted a fault where the result is 4
-  put_counted : HasLine a.status → result ≡ 4 → Rose puts puts_now
+  put_counted : ComesWithLine a.status → result ≡ 4 → Rose puts puts_now
   put_counted has four = elim tells [
     | inl e ↦ absurd (not_four a.status has (sym e ∙ four))
     | inr (inl refused) ↦ refused.1
     | inr (inr memory) ↦ absurd (omega (arith, four, memory))
   ]
 
-  pub left_unprinted : (files : Files) (write : Type 0) → told ≡ Some files → HasLine a.status → result ≡ 4
+  pub left_unprinted : (files : Files) (write : Type 0) → told ≡ Some files → ComesWithLine a.status → result ≡ 4
       → LeftByFault command devices files (Rose reads.faults reads_now.faults) write (Rose puts puts_now) after before now
   left_unprinted files write is has four = elim (prepared.due files is) [
     | inl fault ↦ inl record {
@@ -109,7 +109,7 @@ module _ (command : Option Command) (devices : List Device) (told : Option Files
     | inr due ↦ inr (a, due, all_done a.stores files after (stores files is))
   ]
 
-  pub is_printed : HasLine a.status → (result ≡ 5 → now ≡ before) → (Stood puts puts_now → result ≡ 4 → ⊥) → (held : List ℕ)
+  pub is_printed : ComesWithLine a.status → (result ≡ 5 → now ≡ before) → (Stood puts puts_now → result ≡ 4 → ⊥) → (held : List ℕ)
       → before ≡ Some held → IsPrinted result puts puts_now held now
   is_printed has memory silent held holds = record {
     line = λ h.

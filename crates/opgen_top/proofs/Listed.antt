@@ -4,7 +4,7 @@ use Rattle.opgen_top.specs.Answer.{Answer}
 use Rattle.opgen_top.specs.Prepared.{IsListed}
 use Rattle.opgen_top.specs.Printed.{IsLineOf}
 use Rattle.opgen_top.specs.Printed as printed
-use Rattle.opgen_top.specs.Statuses.{HasLine, Refuses}
+use Rattle.opgen_top.specs.Statuses.{ComesWithLine, Refuses}
 
 -- an answer that refuses has no store
 pub listed_refusal : (a : Answer) → IsLineOf a.status a.line → a.stores ≡ [] → IsListed a
@@ -24,7 +24,7 @@ pub listed_success : (a : Answer) → IsLineOf a.status a.line → a.status ≡ 
 listed_success a line ok = record { line = line; no_store = λ h. absurd (not_zero a.status ok h) }
 
 -- a status that has a line
-pub listed_status : (status : ℕ) (line : List ℕ) → IsLineOf status line → HasLine status
+pub listed_status : (status : ℕ) (line : List ℕ) → IsLineOf status line → ComesWithLine status
 listed_status status line (printed.wrote name latency allowed e said) = inl e
 listed_status status line (printed.wrote_vectors name cycles allowed e said) = inl e
 listed_status status line (printed.simulated rows e said) = inl e

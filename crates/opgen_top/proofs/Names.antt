@@ -2,7 +2,7 @@
 use Rattle.std.proofs.Common.{ℕ, Bool, true, false, List, refl}
 use Rattle.std.specs.Prelude.{◌&&◌, IsTrue}
 use Rattle.opgen_names.specs.Names.{is_allowed_name}
-use Rattle.opgen_operator.specs.SpecName.{is_spec_name}
+use Rattle.opgen_ports.specs.SpecName.{is_spec_name}
 
 first_true : (a b : Bool) → IsTrue (a && b) → IsTrue a
 first_true true b h = refl

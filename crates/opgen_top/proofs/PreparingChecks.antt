@@ -16,7 +16,7 @@ use Rattle.opgen_io.specs.Files.{Files}
 use Rattle.opgen_operator.specs.declared.spec.Spec.{Spec}
 use Rattle.opgen_operator.proofs.Operators.{some_input}
 use Rattle.opgen_spec.specs.declared.fault.SpecFault.{SpecFault}
-use Rattle.opgen_spec.specs.Document.{tree}
+use Rattle.opgen_document.specs.Document.{tree}
 use Rattle.opgen_spec.specs.Faults.{read}
 use Rattle.opgen_vec.specs.Writing.{row_count}
 use Rattle.opgen_top.specs.declared.answer.Answer.{Answer as Held}

@@ -8,11 +8,11 @@ use Rattle.opgen_design.specs.declared.design.Design.{Design}
 use Rattle.opgen_io.specs.Fetched.{fetched}
 use Rattle.opgen_io.specs.Files.{Files}
 use Rattle.opgen_operator.specs.declared.spec.Spec.{Spec}
-use Rattle.opgen_operator.specs.SpecName.{is_spec_name}
+use Rattle.opgen_ports.specs.SpecName.{is_spec_name}
 use Rattle.opgen_report.specs.Report.{report}
 use Rattle.opgen_spec.specs.declared.fault.SpecFault.{SpecFault}
 use Rattle.opgen_spec.specs.declared.fault.SpecFault.TheVariants as spec_faults
-use Rattle.opgen_spec.specs.Document.{tree}
+use Rattle.opgen_document.specs.Document.{tree}
 use Rattle.opgen_spec.specs.Faults.{read, Gives}
 use Rattle.opgen_target.specs.Delays.{Delays}
 use Rattle.opgen_vhdl.specs.DesignText.{text_of}
@@ -26,7 +26,7 @@ use Rattle.opgen_top.specs.Lines.{refused_line}
 use Rattle.opgen_top.specs.Prepared.{Reads, OnAnswer, Fetches, OnRefusal, HasRows, IsCircuitFor, IsListed, IsPrepared, answer_of, refusal_of}
 use Rattle.opgen_top.specs.Printed as printed
 use Rattle.opgen_top.specs.Specified.{IsAnswerToSpec, IsGenerated, IsVectors, OnReading, OnTable, OnTarget}
-use Rattle.opgen_top.specs.Targets.{Device, IsTableOf, chosen}
+use Rattle.opgen_top.specs.Targets.{Device, IsTableOf, first_of_name}
 use Rattle.opgen_top.proofs.Listed.{listed_refusal, listed_success}
 use Rattle.opgen_top.proofs.Refusing.{answers-map, refusal-map}
 use Rattle.opgen_top.proofs.SpecCases.{cases_of_spec, on_reading-map, on_table-map, on_table_of, on_target-map, reading_ok, refusal_answers}
@@ -56,14 +56,14 @@ bytes_refused bytes devices (refusals.Line line) h =
 bytes_refused bytes devices refusals.Memory h = tt
 
 module _ (devices : List Device) (spec : Spec) where
-  pub target_refused : (refusal : Refusal) → OnRefusal refusal (λ a. OnTarget (chosen spec.target devices) spec a (λ table. ⊥))
-      → OnRefusal refusal (λ a. OnTarget (chosen spec.target devices) spec a (λ table. OnTable spec table a ⊥))
-  target_refused (refusals.Line line) h = on_target-map (chosen spec.target devices) spec (refusal_of line) (λ table. ⊥) _
+  pub target_refused : (refusal : Refusal) → OnRefusal refusal (λ a. OnTarget (first_of_name spec.target devices) spec a (λ table. ⊥))
+      → OnRefusal refusal (λ a. OnTarget (first_of_name spec.target devices) spec a (λ table. OnTable spec table a ⊥))
+  target_refused (refusals.Line line) h = on_target-map (first_of_name spec.target devices) spec (refusal_of line) (λ table. ⊥) _
       (λ table no. absurd no) h
   target_refused refusals.Memory h = tt
 
   pub plan_refused : (table : Delays) → IsTableOf spec devices table → (refusal : Refusal) → OnRefusal refusal (λ a. OnTable spec table a ⊥)
-      → OnRefusal refusal (λ a. OnTarget (chosen spec.target devices) spec a (λ table. OnTable spec table a ⊥))
+      → OnRefusal refusal (λ a. OnTarget (first_of_name spec.target devices) spec a (λ table. OnTable spec table a ⊥))
   plan_refused table of (refusals.Line line) h = on_table_of spec devices (refusal_of line) (λ t. OnTable spec t (refusal_of line) ⊥) table of h
   plan_refused table of refusals.Memory h = tt
 
@@ -93,36 +93,36 @@ rows_of_listed a spec design seed cycles allowed h =
 -- what is said of a specification that was read, and of its circuit, answers the command
 module _ (devices : List Device) (spec : Spec) where
   pub read_answers : (bytes : List ℕ) (said : Spec → Delays → Answer → Type 0) → read (tree bytes) ≡ Ok spec → (r : Result Held Refusal)
-      → OnAnswer r (λ a. OnTarget (chosen spec.target devices) spec a (λ table. OnTable spec table a (said spec table a)))
+      → OnAnswer r (λ a. OnTarget (first_of_name spec.target devices) spec a (λ table. OnTable spec table a (said spec table a)))
       → OnAnswer r (IsAnswerToSpec bytes devices said)
   read_answers bytes said reads r h =
       answers-map r _ _
       (λ a k. reading_ok (read (tree bytes)) a
-      (λ s. OnTarget (chosen s.target devices) s a (λ table. OnTable s table a (said s table a))) spec reads k) h
+      (λ s. OnTarget (first_of_name s.target devices) s a (λ table. OnTable s table a (said s table a))) spec reads k) h
 
   pub circuit_refused : (said : Delays → Answer → Type 0) (refusal : Refusal)
-      → OnRefusal refusal (λ a. OnTarget (chosen spec.target devices) spec a (λ table. OnTable spec table a ⊥))
-      → OnRefusal refusal (λ a. OnTarget (chosen spec.target devices) spec a (λ table. OnTable spec table a (said table a)))
+      → OnRefusal refusal (λ a. OnTarget (first_of_name spec.target devices) spec a (λ table. OnTable spec table a ⊥))
+      → OnRefusal refusal (λ a. OnTarget (first_of_name spec.target devices) spec a (λ table. OnTable spec table a (said table a)))
   circuit_refused said refusal h =
       refusal-map refusal _ _
-      (λ a k. on_target-map (chosen spec.target devices) spec a _ _ (λ table. on_table-map spec table a ⊥ (said table a) (λ no. absurd no)) k) h
+      (λ a k. on_target-map (first_of_name spec.target devices) spec a _ _ (λ table. on_table-map spec table a ⊥ (said table a) (λ no. absurd no)) k) h
 
   module _ (enable : Bool) (circuit : Circuit) (is : IsCircuitFor spec enable devices circuit) (r : Result Held Refusal) where
     circuit_answers : (said : Delays → Answer → Type 0) (made : Answer → Type 0) → ((a : Answer) → made a → said is.table a) → OnAnswer r made
-        → OnAnswer r (λ a. OnTarget (chosen spec.target devices) spec a (λ table. OnTable spec table a (said table a)))
+        → OnAnswer r (λ a. OnTarget (first_of_name spec.target devices) spec a (λ table. OnTable spec table a (said table a)))
     circuit_answers said made f h =
         answers-map r _ _
         (λ a k. on_table_of spec devices a (λ table. OnTable spec table a (said table a)) is.table is.of_target (inr (inr (f a k)))) h
 
     pub generated : OnAnswer r (λ a. a ≡ wrote spec.name circuit.planned.latency (text_of circuit.planned.design)
         (report spec circuit.planned circuit.adders.items))
-        → OnAnswer r (λ a. OnTarget (chosen spec.target devices) spec a (λ table. OnTable spec table a (IsGenerated enable spec table a)))
+        → OnAnswer r (λ a. OnTarget (first_of_name spec.target devices) spec a (λ table. OnTable spec table a (IsGenerated enable spec table a)))
     generated h = circuit_answers (IsGenerated enable spec) _
         (λ a e. record { planned = circuit.planned; adders = circuit.adders.items; circuit = is.of_table; answer = e }) h
 
 pub vectors_made : (devices : List Device) (spec : Spec) (circuit : Circuit) → IsCircuitFor spec false devices circuit
     → (r : Result Held Refusal) (seed cycles : ℕ) → OnAnswer r (HasRows spec circuit.planned.design seed cycles)
-    → OnAnswer r (λ a. OnTarget (chosen spec.target devices) spec a (λ table. OnTable spec table a (IsVectors seed cycles spec table a)))
+    → OnAnswer r (λ a. OnTarget (first_of_name spec.target devices) spec a (λ table. OnTable spec table a (IsVectors seed cycles spec table a)))
 vectors_made devices spec circuit is r seed cycles h =
     circuit_answers devices spec false circuit is r (IsVectors seed cycles spec) _
     (λ a k. record {

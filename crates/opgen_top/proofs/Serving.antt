@@ -17,7 +17,7 @@ use Rattle.opgen_net.specs.Valid.{slice_width, input_widths as net_widths}
 use Rattle.opgen_operator.specs.declared.spec.Spec.{Spec}
 use Rattle.opgen_operator.specs.Fits.{FitsSpec, name_and_width}
 use Rattle.opgen_operator.specs.Operator.{IsGood, IsInRange, inputs_of as spec_inputs, outputs_of}
-use Rattle.opgen_operator.specs.PortNumbers.{recent_words, output_words}
+use Rattle.opgen_operator.specs.PortWords.{recent_words, output_words}
 use Rattle.opgen_pipe.specs.Counted.{enable_inputs, counted, data_inputs}
 use Rattle.opgen_pipe.specs.Copies.{net_latency, signal_count}
 use Rattle.opgen_pipe.specs.Laws.{FollowsFlow}
@@ -26,7 +26,7 @@ use Rattle.opgen_pipe.specs.Times.{ago}
 use Rattle.opgen_pipe.proofs.Soundness.{design_sound}
 use Rattle.opgen_schedule.specs.Schedule.{Schedule, Fits}
 use Rattle.opgen_runs.proofs.OneRun.{one-run}
-use Rattle.opgen_check.specs.Ports.{port_of}
+use Rattle.opgen_operator.specs.DesignPorts.{port_of}
 use Rattle.opgen_top.specs.Serves.{ports_for, Serves}
 use Rattle.opgen_top.proofs.Taken.{run_words, run_long, taken_long, taken_words, widths_after}
 

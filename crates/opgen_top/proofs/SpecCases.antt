@@ -2,12 +2,12 @@
 use Rattle.std.proofs.Common.{◌≡◌, inl, inr, ℕ, Bool, true, false, List, Option, Some, None, Result, Ok, Err, refl, sym, subst}
 use Rattle.opgen_operator.specs.declared.spec.Spec.{Spec}
 use Rattle.opgen_spec.specs.declared.fault.SpecFault.{SpecFault}
-use Rattle.opgen_spec.specs.Document.{tree}
+use Rattle.opgen_document.specs.Document.{tree}
 use Rattle.opgen_spec.specs.Faults.{read}
 use Rattle.opgen_target.specs.Delays.{Delays}
 use Rattle.opgen_top.specs.Answer.{Answer, refused, unknown_target, not_adjustable}
 use Rattle.opgen_top.specs.Specified.{IsAnswerToSpec, OnLines, OnReading, OnTable, OnTarget}
-use Rattle.opgen_top.specs.Targets.{Device, IsTableOf, chosen, takes_lines, tuned}
+use Rattle.opgen_top.specs.Targets.{Device, IsTableOf, first_of_name, takes_lines, tuned}
 
 -- what is said of a specification and a table may be exchanged
 pub on_table-map : (spec : Spec) (table : Delays) (a : Answer) (said other : Type 0) → (said → other) → OnTable spec table a said
@@ -38,7 +38,7 @@ pub refusal_answers : (bytes : List ℕ) (devices : List Device) (said : Spec �
     → IsAnswerToSpec bytes devices (λ spec table b. ⊥) a
     → IsAnswerToSpec bytes devices said a
 refusal_answers bytes devices said a h =
-    on_reading-map (read (tree bytes)) a _ _ (λ spec. on_target-map (chosen spec.target devices) spec a _ _
+    on_reading-map (read (tree bytes)) a _ _ (λ spec. on_target-map (first_of_name spec.target devices) spec a _ _
     (λ table. on_table-map spec table a ⊥ (said spec table a) (λ no. absurd no))) h
 
 -- by what reads as a specification
@@ -49,7 +49,7 @@ reading_ok r a said spec reads h = subst (λ x. OnReading x a said) (sym reads) 
 -- by the table of the specification's target
 pub on_table_of : (spec : Spec) (devices : List Device) (a : Answer) (said : Delays → Type 0) (table : Delays)
     → IsTableOf spec devices table → said table
-    → OnTarget (chosen spec.target devices) spec a said
+    → OnTarget (first_of_name spec.target devices) spec a said
 on_table_of spec devices a said table of h =
     let device = of.device in
     subst (λ found. OnTarget found spec a said) (sym of.is_chosen)
@@ -57,26 +57,26 @@ on_table_of spec devices a said table of h =
 
 -- by the targets one of these cases holds
 module _ (devices : List Device) (spec : Spec) (a : Answer) (said : Delays → Type 0) (P : Type 0)
-    (by_unknown : chosen spec.target devices ≡ None → a ≡ unknown_target → P)
-    (by_fixed : (device : Device) → chosen spec.target devices ≡ Some device → takes_lines device.adjustable spec.delays ≡ false
+    (by_unknown : first_of_name spec.target devices ≡ None → a ≡ unknown_target → P)
+    (by_fixed : (device : Device) → first_of_name spec.target devices ≡ Some device → takes_lines device.adjustable spec.delays ≡ false
     → a ≡ not_adjustable → P)
     (by_table : (table : Delays) → IsTableOf spec devices table → said table → P) where
-  of_lines : (device : Device) → chosen spec.target devices ≡ Some device → (b : Bool) → takes_lines device.adjustable spec.delays ≡ b
+  of_lines : (device : Device) → first_of_name spec.target devices ≡ Some device → (b : Bool) → takes_lines device.adjustable spec.delays ≡ b
       → OnLines b a (said (tuned device.delays spec.delays)) → P
   of_lines device found true takes h =
       by_table (tuned device.delays spec.delays) record { device = device; is_chosen = found; takes = takes; is_tuned = refl } h
   of_lines device found false takes h = by_fixed device found takes h
 
-  of_target : (found : Option Device) → chosen spec.target devices ≡ found → OnTarget found spec a said → P
+  of_target : (found : Option Device) → first_of_name spec.target devices ≡ found → OnTarget found spec a said → P
   of_target (Some device) found h = of_lines device found (takes_lines device.adjustable spec.delays) refl h
   of_target None found h = by_unknown found h
 
-  pub cases_of_target : OnTarget (chosen spec.target devices) spec a said → P
-  cases_of_target h = of_target (chosen spec.target devices) refl h
+  pub cases_of_target : OnTarget (first_of_name spec.target devices) spec a said → P
+  cases_of_target h = of_target (first_of_name spec.target devices) refl h
 
 module _ (bytes : List ℕ) (devices : List Device) (said : Spec → Delays → Answer → Type 0) (a : Answer) where
   abbrev Said : Spec → Type 0
-  Said spec = OnTarget (chosen spec.target devices) spec a (λ table. OnTable spec table a (said spec table a))
+  Said spec = OnTarget (first_of_name spec.target devices) spec a (λ table. OnTable spec table a (said spec table a))
 
   pub answers_table : (spec : Spec) (table : Delays) → read (tree bytes) ≡ Ok spec → IsTableOf spec devices table
       → OnTable spec table a (said spec table a)
@@ -86,8 +86,8 @@ module _ (bytes : List ℕ) (devices : List Device) (said : Spec → Delays → 
 
   -- one of these cases holds
   module _ (P : Type 0) (by_fault : (fault : SpecFault) → read (tree bytes) ≡ Err fault → a ≡ refused fault → P)
-      (by_unknown : (spec : Spec) → read (tree bytes) ≡ Ok spec → chosen spec.target devices ≡ None → a ≡ unknown_target → P)
-      (by_fixed : (spec : Spec) (device : Device) → read (tree bytes) ≡ Ok spec → chosen spec.target devices ≡ Some device
+      (by_unknown : (spec : Spec) → read (tree bytes) ≡ Ok spec → first_of_name spec.target devices ≡ None → a ≡ unknown_target → P)
+      (by_fixed : (spec : Spec) (device : Device) → read (tree bytes) ≡ Ok spec → first_of_name spec.target devices ≡ Some device
       → takes_lines device.adjustable spec.delays ≡ false → a ≡ not_adjustable → P)
       (by_table : (spec : Spec) (table : Delays) → read (tree bytes) ≡ Ok spec → IsTableOf spec devices table
       → OnTable spec table a (said spec table a) → P) where

@@ -13,7 +13,7 @@ use Rattle.opgen_top.specs.Answer.{Answer, worked}
 use Rattle.opgen_top.specs.Prepared.{Reads, OnAnswer, HasWorked, IsCircuitFor, IsListed, IsPrepared, OnRefusal, answer_of, refusal_of}
 use Rattle.opgen_top.specs.Printed as printed
 use Rattle.opgen_top.specs.Specified.{OnTable, OnTarget}
-use Rattle.opgen_top.specs.Targets.{Device, chosen}
+use Rattle.opgen_top.specs.Targets.{Device, first_of_name}
 use Rattle.opgen_top.specs.Workload.{IsAnswerToWorkload, IsWorked}
 use Rattle.opgen_top.proofs.Listed.{listed_success}
 use Rattle.opgen_top.proofs.PreparingSpecs.{status_of}
@@ -22,21 +22,21 @@ use Rattle.opgen_top.proofs.SpecCases.{cases_of_target, on_table-map, on_table_o
 module _ (n : ℕ) (devices : List Device) where
   -- a refusal of the filter answers the number
   filter_refused : (refusal : Refusal)
-      → OnRefusal refusal (λ a. OnTarget (chosen (workload_spec n).target devices) (workload_spec n) a
+      → OnRefusal refusal (λ a. OnTarget (first_of_name (workload_spec n).target devices) (workload_spec n) a
       (λ table. OnTable (workload_spec n) table a ⊥))
       → OnRefusal refusal (IsAnswerToWorkload n devices)
   filter_refused (refusals.Line line) h =
       let spec = workload_spec n in
-      on_target-map (chosen spec.target devices) spec (refusal_of line) _ _
+      on_target-map (first_of_name spec.target devices) spec (refusal_of line) _ _
       (λ table. on_table-map spec table (refusal_of line) ⊥ (IsWorked n table (refusal_of line)) (λ none. absurd none)) h
   filter_refused refusals.Memory h = tt
 
   pub spec_refused : (spec : Spec) → spec ≡ workload_spec n → (refusal : Refusal)
-      → OnRefusal refusal (λ a. OnTarget (chosen spec.target devices) spec a (λ table. OnTable spec table a ⊥))
+      → OnRefusal refusal (λ a. OnTarget (first_of_name spec.target devices) spec a (λ table. OnTable spec table a ⊥))
       → OnRefusal refusal (IsAnswerToWorkload n devices)
   spec_refused spec filter refusal h =
       filter_refused refusal
-      (subst (λ s. OnRefusal refusal (λ a. OnTarget (chosen s.target devices) s a (λ table. OnTable s table a ⊥))) filter h)
+      (subst (λ s. OnRefusal refusal (λ a. OnTarget (first_of_name s.target devices) s a (λ table. OnTable s table a ⊥))) filter h)
 
   -- and so does a run of its circuit
   pub spec_worked : (spec : Spec) → spec ≡ workload_spec n → (circuit : Circuit) → IsCircuitFor spec false devices circuit → (a : Answer)

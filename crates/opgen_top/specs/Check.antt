@@ -8,7 +8,7 @@ use Rattle.opgen_check.specs.Verdict.{IsChecked}
 use Rattle.opgen_design.specs.declared.design.Design.{Design}
 use Rattle.opgen_design.specs.Run.{input_widths}
 use Rattle.opgen_operator.specs.declared.spec.Spec.{Spec}
-use Rattle.opgen_spec.specs.Document.{tree}
+use Rattle.opgen_document.specs.Document.{tree}
 use Rattle.opgen_spec.specs.Faults.{read}
 use Rattle.opgen_vec.specs.Reading.{IsReading}
 use Rattle.opgen_top.specs.Answer.{Answer, all_good, bad_row, ports_refused}
@@ -29,7 +29,7 @@ pub record RefusesPorts (spec : Spec) (text vectors : List ℕ) (a : Answer) : T
   pub answer : a ≡ ports_refused
 
 -- they are, and this is the verdict on the design's run over the rows
-pub record HasVerdict (spec : Spec) (latency : ℕ) (text vectors : List ℕ) (checked : Checked) : Type 0 where
+pub record IsVerdictOnVhdl (spec : Spec) (latency : ℕ) (text vectors : List ℕ) (checked : Checked) : Type 0 where
   pub design : Design
   pub cells : List ℕ
   pub rows : GivesRows text vectors design cells
@@ -39,13 +39,13 @@ pub record HasVerdict (spec : Spec) (latency : ℕ) (text vectors : List ℕ) (c
 -- the first row that is judged and not good is this one
 pub record FindsBad (spec : Spec) (latency : ℕ) (text vectors : List ℕ) (a : Answer) : Type 0 where
   pub row : ℕ
-  pub verdict : HasVerdict spec latency text vectors (Bad row)
+  pub verdict : IsVerdictOnVhdl spec latency text vectors (Bad row)
   pub answer : a ≡ bad_row row
 
 -- all rows that are judged are good, and they are so many
 pub record FindsGood (spec : Spec) (latency : ℕ) (text vectors : List ℕ) (a : Answer) : Type 0 where
   pub judged : ℕ
-  pub verdict : HasVerdict spec latency text vectors (Good judged)
+  pub verdict : IsVerdictOnVhdl spec latency text vectors (Good judged)
   pub answer : a ≡ all_good judged
 
 -- the answer to a specification by the bytes of the VHDL and of the vectors

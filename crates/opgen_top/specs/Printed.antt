@@ -2,7 +2,7 @@
 use Rattle.std.specs.Prelude.{ℕ, ◌≡◌, ◌≢◌, ◌⊎◌, IsTrue, List, ◌++◌, Option, Some}
 use Rattle.opgen_io.specs.Bytes.{TakesPrefix}
 use Rattle.opgen_io.specs.Counts.{next_count, Stood}
-use Rattle.opgen_operator.specs.SpecName.{is_spec_name}
+use Rattle.opgen_ports.specs.SpecName.{is_spec_name}
 use Rattle.opgen_read.specs.declared.fault.ReadFault.{ReadFault}
 use Rattle.opgen_read.specs.declared.fault.ReadFault.TheVariants as read_faults
 use Rattle.opgen_spec.specs.declared.fault.SpecFault.{SpecFault}
@@ -10,7 +10,7 @@ use Rattle.opgen_spec.specs.declared.fault.SpecFault.TheVariants as spec_faults
 use Rattle.opgen_vec.specs.declared.fault.VecFault.{VecFault}
 use Rattle.opgen_vec.specs.declared.fault.VecFault.TheVariants as vector_faults
 use Rattle.opgen_top.specs.Lines.{wrote_line, wrote_vectors_line, simulated_line, worked_line, good_line, refused_line, unknown_target_line, not_adjustable_line, period_too_short_line, too_large_line, usage_line, read_fault_line, vhdl_refused_line, ports_refused_line, vectors_refused_line, bad_row_line, too_long_line}
-use Rattle.opgen_top.specs.Statuses.{HasLine}
+use Rattle.opgen_top.specs.Statuses.{ComesWithLine}
 
 -- The lines of each status. A name is one that a specification may have, and a fault is one of a file, which running
 -- out of memory is not.
@@ -51,7 +51,7 @@ pub record TakesPart (held : List ℕ) (now : Option (List ℕ)) : Type 0 where
 -- A sink that held these bytes has one line more, that of the status; after 4 a first part of a line, which is nothing where
 -- it counted no fault; after 5 nothing.
 pub record IsPrinted (status faults_before faults_now : ℕ) (held : List ℕ) (now : Option (List ℕ)) : Type 0 where
-  pub line : HasLine status → TakesLine status held now
+  pub line : ComesWithLine status → TakesLine status held now
   pub part : status ≡ 4 → TakesPart held now
   pub no_fault : status ≡ 4 → Stood faults_before faults_now → now ≡ Some held
   pub no_memory : status ≡ 5 → now ≡ Some held
@@ -60,6 +60,6 @@ pub record IsPrinted (status faults_before faults_now : ℕ) (held : List ℕ) (
 -- the sink counted no fault.
 pub record IsOnePut (status : ℕ) (stored no_fault : Type 0) (before now : ℕ) : Type 0 where
   pub at_most : (now ≡ before) ⊎ (now ≡ next_count before)
-  pub line : HasLine status → now ≡ next_count before
+  pub line : ComesWithLine status → now ≡ next_count before
   pub refused : status ≡ 4 → stored → now ≡ next_count before
   pub unstored : status ≡ 4 → no_fault → now ≡ before

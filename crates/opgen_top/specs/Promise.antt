@@ -5,7 +5,7 @@ use Rattle.opgen_design.specs.declared.design.Design.{Design}
 use Rattle.opgen_design.specs.Sound.{IsSound}
 use Rattle.opgen_io.specs.Files.{Files, stored}
 use Rattle.opgen_operator.specs.declared.spec.Spec.{Spec}
-use Rattle.opgen_spec.specs.Document.{tree}
+use Rattle.opgen_document.specs.Document.{tree}
 use Rattle.opgen_spec.specs.Spec.{spec_of}
 use Rattle.opgen_vhdl.specs.Spelled.{Spells}
 use Rattle.opgen_top.specs.Answer.{vhdl_name, report_name}

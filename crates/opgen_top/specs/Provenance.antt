@@ -7,7 +7,7 @@ use Rattle.opgen_pipe.specs.Planned.{slots_of}
 use Rattle.opgen_pipe.specs.Timed.{IsInTime, IsLeastLatency}
 use Rattle.opgen_report.specs.Report.{report}
 use Rattle.opgen_schedule.specs.Stage.{slot_at}
-use Rattle.opgen_spec.specs.Document.{tree}
+use Rattle.opgen_document.specs.Document.{tree}
 use Rattle.opgen_spec.specs.Faults.{read}
 use Rattle.opgen_target.specs.Delays.{Delays}
 use Rattle.opgen_vhdl.specs.DesignText.{text_of}

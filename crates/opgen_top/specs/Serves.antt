@@ -1,13 +1,13 @@
 -- When a design serves a specification at a latency: its ports, and what its runs give. It mentions no net and no schedule.
 use Rattle.std.specs.Prelude.{ℕ, ◌+◌, ◌≡◌, Bool, List, ◌++◌, map, slice_get, All, Some}
-use Rattle.opgen_check.specs.Ports.{operator_ports}
 use Rattle.opgen_design.specs.declared.design.Design.{Design}
 use Rattle.opgen_design.specs.declared.design.Dir.TheVariants.{In}
 use Rattle.opgen_design.specs.declared.design.Port.{Port}
 use Rattle.opgen_design.specs.Run.{AreWords, Words, Run, input_widths, words_at_outputs}
 use Rattle.opgen_operator.specs.declared.spec.Spec.{Spec}
+use Rattle.opgen_operator.specs.DesignPorts.{operator_ports}
 use Rattle.opgen_operator.specs.Operator.{IsGood, IsInRange, inputs_of, outputs_of}
-use Rattle.opgen_operator.specs.PortNumbers.{recent_words, output_words}
+use Rattle.opgen_operator.specs.PortWords.{recent_words, output_words}
 use Rattle.opgen_pipe.specs.Counted.{enable_inputs, counted, data_inputs}
 
 -- the ports of a specification's circuit: that of the clock enable, where there is one, its inputs and its outputs

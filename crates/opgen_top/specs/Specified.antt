@@ -7,7 +7,7 @@ use Rattle.opgen_pipe.specs.declared.planning.Planned.{Planned}
 use Rattle.opgen_pipe.specs.Cells.{need}
 use Rattle.opgen_report.specs.Report.{report}
 use Rattle.opgen_spec.specs.declared.fault.SpecFault.{SpecFault}
-use Rattle.opgen_spec.specs.Document.{tree}
+use Rattle.opgen_document.specs.Document.{tree}
 use Rattle.opgen_spec.specs.Faults.{read}
 use Rattle.opgen_target.specs.Delays.{Delays}
 use Rattle.opgen_vhdl.specs.DesignText.{text_of}
@@ -16,7 +16,7 @@ use Rattle.opgen_top.specs.Answer.{Answer, refused, unknown_target, not_adjustab
 use Rattle.opgen_top.specs.Circuit.{IsCircuit, signals_of}
 use Rattle.opgen_top.specs.Kinds.{IsFittingNet}
 use Rattle.opgen_top.specs.Running.{IsRunText}
-use Rattle.opgen_top.specs.Targets.{Device, chosen, takes_lines, tuned}
+use Rattle.opgen_top.specs.Targets.{Device, first_of_name, takes_lines, tuned}
 
 -- `generate` stores the text of the circuit, which has the clock enable where that is asked for, and its report, and tells
 -- its latency
@@ -59,10 +59,14 @@ abbrev pub OnLines : Bool → Answer → (said : Type 0) → Type 0
 OnLines true a said = said
 OnLines false a said = a ≡ not_adjustable
 
--- by the target of the specification's name: the same of its table after the delay lines, or the refusal
+-- by the target that was found: what is said of its table after the delay lines, or the refusal
 abbrev pub OnTarget : Option Device → Spec → Answer → (said : Delays → Type 0) → Type 0
 OnTarget (Some device) spec a said = OnLines (takes_lines device.adjustable spec.delays) a (said (tuned device.delays spec.delays))
 OnTarget None spec a said = a ≡ unknown_target
+
+-- the same by the first target of the name that the specification asks for
+abbrev pub OnDevices : List Device → Spec → Answer → (said : Delays → Type 0) → Type 0
+OnDevices devices spec a said = OnTarget (first_of_name spec.target devices) spec a said
 
 -- by what reading a document gives: what is said of the specification, or the refusal of the first fault
 abbrev pub OnReading : Result Spec SpecFault → Answer → (said : Spec → Type 0) → Type 0
@@ -72,7 +76,7 @@ OnReading (Err fault) a said = a ≡ refused fault
 -- by the bytes and the targets, what is said of the specification and its target's table
 abbrev pub OnSpec : (bytes : List ℕ) → List Device → Answer → (said : Spec → Delays → Type 0) → Type 0
 OnSpec bytes devices a said =
-    OnReading (read (tree bytes)) a (λ spec. OnTarget (chosen spec.target devices) spec a (λ table. said spec table))
+    OnReading (read (tree bytes)) a (λ spec. OnDevices devices spec a (said spec))
 
 -- the answer to a specification: a refusal, or what is said of it and of its target's table
 abbrev pub IsAnswerToSpec : (bytes : List ℕ) → List Device → (said : Spec → Delays → Answer → Type 0) → Answer → Type 0

@@ -7,8 +7,8 @@ abbrev pub Refuses : ℕ → Type 0
 Refuses status = (status ≡ 1) ⊎ ((status ≡ 2) ⊎ ((status ≡ 3) ⊎ ((status ≡ 6) ⊎ ((status ≡ 7) ⊎ ((status ≡ 8) ⊎ (status ≡ 9))))))
 
 -- a status that comes with a line
-abbrev pub HasLine : ℕ → Type 0
-HasLine status = (status ≡ 0) ⊎ Refuses status
+abbrev pub ComesWithLine : ℕ → Type 0
+ComesWithLine status = (status ≡ 0) ⊎ Refuses status
 
 -- the status of a write fault, or of running out of memory
 abbrev pub IsSilent : ℕ → Type 0
@@ -16,7 +16,7 @@ IsSilent status = (status ≡ 4) ⊎ (status ≡ 5)
 
 -- one of the statuses that the program has
 abbrev pub IsStatus : ℕ → Type 0
-IsStatus status = HasLine status ⊎ IsSilent status
+IsStatus status = ComesWithLine status ⊎ IsSilent status
 
 -- a status other than 3, 4 and 5: what is due, whatever the folder counted
 abbrev pub IsDueStatus : ℕ → Type 0

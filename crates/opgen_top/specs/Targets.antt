@@ -17,8 +17,8 @@ abbrev pub devices_of : {Target : Type 0} → (name : Target → List ℕ) → (
 devices_of name delays adjustable targets = map (λ t. record { name = name t; delays = delays t; adjustable = adjustable t }) targets
 
 -- the first of a name
-abbrev pub chosen : (name : List ℕ) → List Device → Option Device
-chosen name devices = find (λ d. bytes_eq d.name name) devices
+abbrev pub first_of_name : (name : List ℕ) → List Device → Option Device
+first_of_name name devices = find (λ d. bytes_eq d.name name) devices
 
 -- delay lines ask for a table that can be changed; where there is none, each table serves
 abbrev pub takes_lines : (adjustable : Bool) → List DelayLine → Bool
@@ -33,6 +33,6 @@ tuned delays (line ∷ lines) = tuned (with_line line.class line.base line.per_b
 -- the table that a specification is built for: that of the first target of its name, after its delay lines
 pub record IsTableOf (spec : Spec) (devices : List Device) (table : Delays) : Type 0 where
   pub device : Device
-  pub is_chosen : chosen spec.target devices ≡ Some device
+  pub is_chosen : first_of_name spec.target devices ≡ Some device
   pub takes : IsTrue (takes_lines device.adjustable spec.delays)
   pub is_tuned : table ≡ tuned device.delays spec.delays

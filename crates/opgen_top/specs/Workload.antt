@@ -9,8 +9,8 @@ use Rattle.opgen_workload.specs.Judged.{Counts, IsGoodCycle}
 use Rattle.opgen_top.specs.Answer.{Answer, worked}
 use Rattle.opgen_top.specs.Circuit.{IsCircuit}
 use Rattle.opgen_runs.specs.Rows.{IsRunOf}
-use Rattle.opgen_top.specs.Specified.{OnTable, OnTarget}
-use Rattle.opgen_top.specs.Targets.{Device, chosen}
+use Rattle.opgen_top.specs.Specified.{OnDevices, OnTable}
+use Rattle.opgen_top.specs.Targets.{Device}
 
 -- how many cycles the filter runs
 abbrev pub cycles : ℕ
@@ -38,4 +38,4 @@ pub record IsWorked (n : ℕ) (table : Delays) (a : Answer) : Type 0 where
 -- by the targets: the refusals of a specification, or that line
 abbrev pub IsAnswerToWorkload : (n : ℕ) → List Device → Answer → Type 0
 IsAnswerToWorkload n devices a =
-    OnTarget (chosen (workload_spec n).target devices) (workload_spec n) a (λ table. OnTable (workload_spec n) table a (IsWorked n table a))
+    OnDevices devices (workload_spec n) a (λ table. OnTable (workload_spec n) table a (IsWorked n table a))

@@ -73,23 +73,23 @@ fn judge_vhdl(
 {
     let design = read_vhdl(alloc, vhdl)?;
     let rows = read_inputs(alloc, &design, vectors)?;
-    judge_rows(alloc, spec, &design, &rows, latency)
+    judge_rows(alloc, spec, design, &rows, latency)
 }
 
 /// Runs a design over rows of its inputs, and answers with the verdict.
 fn judge_rows(
     alloc: Global,
     spec: &Spec,
-    design: &Design,
+    design: Design,
     rows: &Rows,
     latency: u32,
 ) -> Result<Answer, Refusal>
     requires valid { IsValidSpec spec.now }
-    requires sound { IsSound design.now }
-    requires columns { rows.now.inputs.columns ≡ length (input_widths design.now) }
-    requires rows { AreRowsOfCells (input_widths design.now) rows.now.count rows.now.inputs.cells.items }
+    requires sound { IsSound design }
+    requires columns { rows.now.inputs.columns ≡ length (input_widths design) }
+    requires rows { AreRowsOfCells (input_widths design) rows.now.count rows.now.inputs.cells.items }
     requires few { rows.now.count < 2 ^ 32 }
-    ensures answer { OnAnswer result (IsAnswerToDesign spec.now design.now latency rows.now.count rows.now.inputs.cells.items) }
+    ensures answer { OnAnswer result (IsAnswerToDesign spec.now design latency rows.now.count rows.now.inputs.cells.items) }
     ensures listed { OnAnswer result IsListed }
 {
     match check_rows(alloc, spec, design, &rows.inputs, latency) {

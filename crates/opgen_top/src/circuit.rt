@@ -1,7 +1,7 @@
 //! The circuit of a specification.
 ghost use Rattle.std.specs.Prelude.{◌≡◌, ◌≤◌, [], IfOk, Ok, string_bytes};
 ghost use Rattle.opgen_operator.specs.declared.operator.Operator.TheVariants.{Mcm, Tfir};
-ghost use Rattle.opgen_operator.specs.Fits.{FitsSpecsOf};
+ghost use Rattle.opgen_operator.specs.Fits.{FitsInEachMode};
 ghost use Rattle.opgen_operator.specs.kinds.Several.{IsAcceptedSeveral};
 ghost use Rattle.opgen_operator.specs.kinds.Taps.{IsAcceptedTaps};
 ghost use Rattle.opgen_operator.specs.Valid.{IsValidSpec};
@@ -9,8 +9,8 @@ ghost use Rattle.opgen_search.specs.Recipe.{IsAdderSetOf, IsNetOfSeveral};
 ghost use Rattle.opgen_top.specs.Kinds.{AreAddersOf, IsFittingNet, IsNetOfTaps};
 ghost use Rattle.opgen_top.specs.Lines.{period_too_short_line};
 ghost use Rattle.opgen_top.specs.Prepared.{IfRefused, IsCircuitFor, IsListed, OnRefusal, TellsPlanFault};
-ghost use Rattle.opgen_top.specs.Specified.{OnTable, OnTarget};
-ghost use Rattle.opgen_top.specs.Targets.{chosen, devices_of};
+ghost use Rattle.opgen_top.specs.Specified.{OnDevices, OnTable};
+ghost use Rattle.opgen_top.specs.Targets.{devices_of};
 
 use crate::answer::Refusal;
 use crate::context::Context;
@@ -61,7 +61,7 @@ fn build_several<R: Threads + Sync, G: Gate + Sync>(
     requires several { IsAcceptedSeveral several.now }
     requires workers { (1 ≤ workers) × (workers ≤ 32) }
     ensures net { IfOk result (λ made. IsNetOfSeveral several.now made.net) }
-    ensures fits { IfOk result (λ made. FitsSpecsOf (Mcm several.now) made.net) }
+    ensures fits { IfOk result (λ made. FitsInEachMode (Mcm several.now) made.net) }
     ensures adders { IfOk result (λ made. IsAdderSetOf several.now.constants several.now.input.width several.now.extra made.adders.items) }
 {
     let found = least_graph(
@@ -91,7 +91,7 @@ fn build_transposed<R: Threads + Sync, G: Gate + Sync>(
     requires taps { IsAcceptedTaps taps.now }
     requires workers { (1 ≤ workers) × (workers ≤ 32) }
     ensures net { IfOk result (λ made. IsNetOfTaps taps.now made.net) }
-    ensures fits { IfOk result (λ made. FitsSpecsOf (Tfir taps.now) made.net) }
+    ensures fits { IfOk result (λ made. FitsInEachMode (Tfir taps.now) made.net) }
     ensures adders { IfOk result (λ made. IsAdderSetOf taps.now.taps taps.now.input.width taps.now.extra made.adders.items) }
 {
     let found = least_graph(
@@ -166,7 +166,7 @@ pub(crate) fn make_circuit<R: Threads + Sync, G: Gate + Sync>(
     requires valid { IsValidSpec spec.now }
     requires workers { (1 ≤ workers) × (workers ≤ 32) }
     ensures circuit { IfOk result (IsCircuitFor spec.now enable (devices_of target_name delays adjustable context.entry.targets.items)) }
-    ensures refused { IfRefused result (λ a. OnTarget (chosen spec.now.target (devices_of target_name delays adjustable context.entry.targets.items)) spec.now a
+    ensures refused { IfRefused result (λ a. OnDevices (devices_of target_name delays adjustable context.entry.targets.items) spec.now a
         (λ table. OnTable spec.now table a ⊥)) }
     ensures listed { IfRefused result IsListed }
 {

@@ -7,8 +7,8 @@ ghost use Rattle.opgen_vhdl.specs.DesignText.{text_of};
 ghost use Rattle.opgen_top.specs.Answer.{report_name, vhdl_name, wrote};
 ghost use Rattle.opgen_top.specs.Lines.{wrote_line};
 ghost use Rattle.opgen_top.specs.Prepared.{reads_of, IsListed, IsPrepared, OnAnswer};
-ghost use Rattle.opgen_top.specs.Specified.{IsAnswerToSpec, IsGenerated, OnTable, OnTarget};
-ghost use Rattle.opgen_top.specs.Targets.{chosen, devices_of};
+ghost use Rattle.opgen_top.specs.Specified.{IsAnswerToSpec, IsGenerated, OnDevices, OnTable};
+ghost use Rattle.opgen_top.specs.Targets.{devices_of};
 
 use crate::answer::{Answer, NewFile, Refusal, with_files};
 use crate::circuit::{Circuit, make_circuit};
@@ -67,7 +67,7 @@ fn generate_circuit<R: Threads + Sync, G: Gate + Sync>(
 ) -> Result<Answer, Refusal>
     requires valid { IsValidSpec spec.now }
     requires workers { (1 ≤ workers) × (workers ≤ 32) }
-    ensures answer { OnAnswer result (λ a. OnTarget (chosen spec.now.target (devices_of target_name delays adjustable context.entry.targets.items)) spec.now a
+    ensures answer { OnAnswer result (λ a. OnDevices (devices_of target_name delays adjustable context.entry.targets.items) spec.now a
         (λ table. OnTable spec.now table a (IsGenerated enable spec.now table a))) }
     ensures listed { OnAnswer result IsListed }
 {

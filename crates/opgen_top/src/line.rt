@@ -28,12 +28,12 @@ pub enum Line {
 
 impl Line {
     ghost use Rattle.opgen_top.specs.Prepared.{line_status, line_text};
-    ghost use Rattle.opgen_top.specs.Statuses.{HasLine};
+    ghost use Rattle.opgen_top.specs.Statuses.{ComesWithLine};
 
     /// The status that comes with the line.
     pub fn status(&self) -> Status
         ensures value { result.0 ≡ line_status self.now }
-        ensures listed { HasLine result.0 }
+        ensures listed { ComesWithLine result.0 }
     {
         match self {
             Line::Wrote(_) => Status::OK,

@@ -5,7 +5,7 @@ ghost use Rattle.opgen_num.specs.declared.TheConstants.{MAX_WIDTH};
 ghost use Rattle.opgen_design.specs.Run.{input_widths};
 ghost use Rattle.opgen_design.specs.Sound.{HasNumbers, IsSound};
 ghost use Rattle.opgen_operator.specs.Valid.{IsValidSpec};
-ghost use Rattle.opgen_spec.specs.Document.{tree};
+ghost use Rattle.opgen_document.specs.Document.{tree};
 ghost use Rattle.opgen_spec.specs.Faults.{read};
 ghost use Rattle.opgen_vec.specs.Reading.{IsReading};
 ghost use Rattle.opgen_top.specs.Due.{most_simulated_bytes};

@@ -4,8 +4,8 @@ ghost use Rattle.std.specs.Str.{bytes_eq};
 ghost use Rattle.opgen_operator.specs.Valid.{IsDelayLine, IsValidSpec};
 ghost use Rattle.opgen_target.specs.Delays.{with_line};
 ghost use Rattle.opgen_top.specs.Prepared.{IfRefused, IsListed};
-ghost use Rattle.opgen_top.specs.Specified.{OnTarget};
-ghost use Rattle.opgen_top.specs.Targets.{chosen, devices_of, takes_lines, tuned, IsTableOf};
+ghost use Rattle.opgen_top.specs.Specified.{OnDevices};
+ghost use Rattle.opgen_top.specs.Targets.{devices_of, takes_lines, tuned, IsTableOf};
 
 use crate::answer::Refusal;
 use crate::line::Line;
@@ -62,7 +62,7 @@ pub(crate) fn choose_target(
 ) -> Result<Box<dyn Target>, Refusal>
     requires { IsValidSpec spec.now }
     ensures table { IfOk result (λ t. IsTableOf spec.now (devices_of target_name delays adjustable targets.items) (delays t)) }
-    ensures refused { IfRefused result (λ a. OnTarget (chosen spec.now.target (devices_of target_name delays adjustable targets.items)) spec.now a (λ table. ⊥)) }
+    ensures refused { IfRefused result (λ a. OnDevices (devices_of target_name delays adjustable targets.items) spec.now a (λ table. ⊥)) }
     ensures listed { IfRefused result IsListed }
 {
     let Some(mut target) = first_of_name(targets, spec.target.as_str()) else {

@@ -9,8 +9,8 @@ ghost use Rattle.opgen_top.specs.Serves.{ports_for};
 ghost use Rattle.opgen_top.specs.Lines.{wrote_vectors_line};
 ghost use Rattle.opgen_top.specs.Prepared.{reads_of, HasRows, IsListed, IsPrepared, OnAnswer};
 ghost use Rattle.opgen_top.specs.Running.{IsRunText};
-ghost use Rattle.opgen_top.specs.Specified.{IsAnswerToSpec, IsVectors, OnTable, OnTarget};
-ghost use Rattle.opgen_top.specs.Targets.{chosen, devices_of};
+ghost use Rattle.opgen_top.specs.Specified.{IsAnswerToSpec, IsVectors, OnDevices, OnTable};
+ghost use Rattle.opgen_top.specs.Targets.{devices_of};
 
 use crate::answer::{Answer, Refusal, with_file};
 use crate::circuit::make_circuit;
@@ -68,7 +68,7 @@ fn run_circuit<R: Threads + Sync, G: Gate + Sync>(
     context: Context<'_, R, G>,
 ) -> Result<Answer, Refusal>
     requires { IsValidSpec spec.now }
-    ensures answer { OnAnswer result (λ a. OnTarget (chosen spec.now.target (devices_of target_name delays adjustable context.entry.targets.items)) spec.now a
+    ensures answer { OnAnswer result (λ a. OnDevices (devices_of target_name delays adjustable context.entry.targets.items) spec.now a
         (λ table. OnTable spec.now table a (IsVectors seed cycles spec.now table a))) }
     ensures listed { OnAnswer result IsListed }
 {

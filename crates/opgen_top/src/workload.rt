@@ -35,11 +35,11 @@ pub(crate) fn run_workload<R: Threads + Sync, G: Gate + Sync>(
     ensures listed { OnAnswer result IsListed }
 {
     let spec = workload_spec(context.alloc, n)?;
-    run_circuit(n, &spec, context)
+    make_filter(n, &spec, context)
 }
 
 /// Makes the circuit of the filter, and answers with the line on its run.
-fn run_circuit<R: Threads + Sync, G: Gate + Sync>(
+fn make_filter<R: Threads + Sync, G: Gate + Sync>(
     n: u32,
     spec: &Spec,
     context: Context<'_, R, G>,

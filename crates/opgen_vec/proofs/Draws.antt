@@ -7,7 +7,7 @@ use Rattle.std.proofs.Math.Seq.{take-append_seam, drop-append_seam}
 use Rattle.std.proofs.lemmas.List.{length-map}
 use Rattle.std.proofs.lemmas.List.Elements.{All-head, All-tail}
 use Rattle.opgen_num.specs.Words.{FitWidths, AreRowsOfCells}
-use Rattle.opgen_operator.specs.declared.ports.PortFormat.{PortFormat}
+use Rattle.opgen_ports.specs.declared.ports.PortFormat.{PortFormat}
 use Rattle.opgen_vec.specs.Writing.{row_count}
 use Rattle.opgen_vec.specs.Stimulus.{next, drawn, given, divides, draws_from, state_after, cycles_from}
 

@@ -1,7 +1,7 @@
 -- The stimulus of a specification: numbers of a linear congruential generator modulo 2 ^ 64, with the multiplier and the
 -- increment of Knuth's MMIX.
 use Rattle.std.specs.Prelude.{ℕ, zero, suc, ◌+◌, ◌-◌, ◌*◌, ◌/◌, ◌%◌, ◌^◌, ◌==◌, ◌&&◌, Bool, false, List, [], ◌∷◌, ◌++◌, Option, Some, None, if◌then◌else◌}
-use Rattle.opgen_operator.specs.declared.ports.PortFormat.{PortFormat}
+use Rattle.opgen_ports.specs.declared.ports.PortFormat.{PortFormat}
 use Rattle.opgen_operator.specs.declared.spec.Spec.{Spec}
 use Rattle.opgen_operator.specs.Operator.{divisor, inputs_of}
 

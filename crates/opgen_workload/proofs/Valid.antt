@@ -6,15 +6,15 @@ use Rattle.std.proofs.lemmas.Int.{ints}
 use Rattle.std.proofs.lemmas.List.Elements.{All-nil}
 use Rattle.opgen_names.specs.Names.{refused_words}
 use Rattle.opgen_operator.specs.declared.operator.Operator.TheVariants.{Fir}
-use Rattle.opgen_operator.specs.declared.ports.PortFormat.{PortFormat}
+use Rattle.opgen_ports.specs.declared.ports.PortFormat.{PortFormat}
 use Rattle.opgen_operator.specs.kinds.Sum.{sum_need, sum_places, sum_reach, IsSum}
 use Rattle.opgen_operator.specs.Operator.{IsAcceptedBy}
-use Rattle.opgen_operator.specs.Reaches.{rises, falls, width_of}
-use Rattle.opgen_operator.specs.SpecName.{is_spec_name, taken_names}
+use Rattle.opgen_ports.specs.Reaches.{rises, falls, width_of}
+use Rattle.opgen_ports.specs.SpecName.{is_spec_name, taken_names}
 use Rattle.opgen_operator.specs.Valid.{IsDelayLine, IsValidSpec}
-use Rattle.opgen_operator.proofs.InputPorts.{all_one}
+use Rattle.opgen_ports.proofs.InputPorts.{all_one}
 use Rattle.opgen_operator.proofs.of_kind.Sum.{guard_small}
-use Rattle.opgen_operator.proofs.Widths.{width_within}
+use Rattle.opgen_ports.proofs.Widths.{width_within}
 use Rattle.opgen_workload.specs.Filter.{coefficients, workload_spec, workload_sum}
 use Rattle.opgen_workload.proofs.Drawn.{coefficients-length, coefficients-within, wider, rises-within, falls-within}
 
@@ -78,10 +78,9 @@ module _ (n : ℕ) (some : 1 ≤ n) (few : n ≤ 32) where
     name = name_allowed;
     op = accepted;
     first = λ _. refl;
-    agrees = refl;
+    mode = record { agrees = refl; whole = λ bad. let no_mark : false ≡ true = bad in cc };
     target = (omega arith, omega arith);
     period = (omega arith, omega arith);
     few_lines = omega arith;
     lines = All-nil IsDelayLine;
-    has_exact = λ bad. let no_mark : false ≡ true = bad in cc;
   }

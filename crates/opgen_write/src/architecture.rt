@@ -2,7 +2,8 @@
 ghost use Rattle.std.specs.Prelude.{◌≡◌, ◌++◌, OnOk, IfOk, string_bytes, codes};
 ghost use Rattle.std.specs.List.{flat_map, list_any};
 ghost use Rattle.opgen_design.specs.Order.{is_register};
-ghost use Rattle.opgen_vhdl.specs.DesignText.{initial_text, signal_text, is_output, enable_text, end_enable_text, driver_text, drivers_text, process_text, architecture_text};
+ghost use Rattle.opgen_vhdl.specs.DesignText.{initial_text, signal_text, is_output, driver_text, drivers_text};
+ghost use Rattle.opgen_vhdl.specs.DesignText.{enable_text, end_enable_text, process_text, architecture_text};
 ghost use Rattle.opgen_write.specs.Pages.{Comes};
 ghost use Rattle.opgen_write.specs.Places.{stands_in};
 
@@ -37,12 +38,6 @@ fn put_signal(out: &mut String, signal: &Signal) -> Result<(), AllocError>
     Ok(())
 }
 
-fn is_register(driver: &Driver) -> bool
-    ensures { result ≡ is_register driver.now }
-{
-    matches!(driver, Driver::Register { .. })
-}
-
 fn is_output(driver: &Driver) -> bool
     ensures { result ≡ is_output driver.now }
 {
@@ -56,7 +51,7 @@ fn has_register(design: &Design) -> bool
         .drivers
         .as_slice()
         .iter()
-        .any(|driver| is_register(driver))
+        .any(|driver| driver.is_register())
 }
 
 // Where a driver's statement stands: after `begin`, in the process of the registers, or before the end.
@@ -71,8 +66,8 @@ fn stands_in(place: Place, driver: &Driver) -> bool
     ensures { result ≡ stands_in place driver.now }
 {
     match place {
-        Place::Statements => !is_register(driver) && !is_output(driver),
-        Place::Process => is_register(driver),
+        Place::Statements => !driver.is_register() && !is_output(driver),
+        Place::Process => driver.is_register(),
         Place::Outputs => is_output(driver),
     }
 }
@@ -94,7 +89,8 @@ fn statement(alloc: Global, design: &Design, driver: &Driver) -> Result<String, 
 }
 
 fn put_signals<K: Sink>(alloc: Global, design: &Design, page: &mut Page, out: &mut K)
-    ensures { Comes page.old (K.taken out.old) (K.faults out.old) (flat_map signal_text design.now.signals) page.new (K.taken out.new) (K.faults out.new) }
+    ensures { let text = flat_map signal_text design.now.signals in
+        Comes page.old (K.taken out.old) (K.faults out.old) text page.new (K.taken out.new) (K.faults out.new) }
 {
     'signals: for signal in design.signals.as_slice() {
         put_made(page, out, signal_line(alloc, signal));
@@ -102,7 +98,8 @@ fn put_signals<K: Sink>(alloc: Global, design: &Design, page: &mut Page, out: &m
 }
 
 fn put_drivers<K: Sink>(alloc: Global, design: &Design, place: Place, page: &mut Page, out: &mut K)
-    ensures { Comes page.old (K.taken out.old) (K.faults out.old) (drivers_text design.now (stands_in place)) page.new (K.taken out.new) (K.faults out.new) }
+    ensures { let text = drivers_text design.now (stands_in place) in
+        Comes page.old (K.taken out.old) (K.faults out.old) text page.new (K.taken out.new) (K.faults out.new) }
 {
     'drivers: for driver in design.drivers.as_slice() {
         if stands_in(place, driver) {
@@ -113,7 +110,8 @@ fn put_drivers<K: Sink>(alloc: Global, design: &Design, place: Place, page: &mut
 
 // The head of the process, with the `if` round the registers of a design with an enable.
 fn process_head(alloc: Global, design: &Design) -> Result<String, AllocError>
-    ensures { IfOk result (λ text. string_bytes text ≡ codes "  process (clk)\n  begin\n    if rising_edge(clk) then\n" ++ enable_text design.now design.now.enable) }
+    ensures { let head = codes "  process (clk)\n  begin\n    if rising_edge(clk) then\n" in
+        IfOk result (λ text. string_bytes text ≡ head ++ enable_text design.now design.now.enable) }
 {
     let mut text = String::from_str(
         alloc,

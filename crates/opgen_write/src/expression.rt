@@ -3,7 +3,8 @@ ghost use Rattle.std.specs.Prelude.{◌≡◌, ◌++◌, OnOk, codes, string_byt
 ghost use Rattle.opgen_num.specs.Words.{word};
 ghost use Rattle.opgen_design.specs.Plain.{plain, plain_all};
 ghost use Rattle.opgen_design.specs.Width.{in_chain, in_not};
-ghost use Rattle.opgen_vhdl.specs.ExpressionText.{signal_name, port_name, bit_text, bits_text, word_text, range_text, operator_text, within, expression_text, chain_text};
+ghost use Rattle.opgen_vhdl.specs.ExpressionText.{signal_name, port_name, bit_text, bits_text, word_text, range_text};
+ghost use Rattle.opgen_vhdl.specs.ExpressionText.{operator_text, within, expression_text, chain_text};
 
 use opgen_design::{Design, Expr, Op};
 use opgen_num::Word;
@@ -113,7 +114,8 @@ pub(crate) fn put_expression(
 // The operand of `not`.
 #[cycle(expression)]
 fn put_after_not(out: &mut String, design: &Design, operand: &Expr) -> Result<(), AllocError>
-    ensures { OnOk result (string_bytes out.new ≡ string_bytes out.old ++ within (in_not (plain operand.now)) (expression_text design.now (plain operand.now))) }
+    ensures { let text = within (in_not (plain operand.now)) (expression_text design.now (plain operand.now)) in
+        OnOk result (string_bytes out.new ≡ string_bytes out.old ++ text) }
 {
     match operand {
         Expr::Not(_) | Expr::Chain(_, _) => {
@@ -128,7 +130,8 @@ fn put_after_not(out: &mut String, design: &Design, operand: &Expr) -> Result<()
 // An operand of a chain.
 #[cycle(expression)]
 fn put_operand(out: &mut String, design: &Design, operand: &Expr) -> Result<(), AllocError>
-    ensures { OnOk result (string_bytes out.new ≡ string_bytes out.old ++ within (in_chain (plain operand.now)) (expression_text design.now (plain operand.now))) }
+    ensures { let text = within (in_chain (plain operand.now)) (expression_text design.now (plain operand.now)) in
+        OnOk result (string_bytes out.new ≡ string_bytes out.old ++ text) }
 {
     match operand {
         Expr::Chain(_, _) => {

@@ -7,7 +7,7 @@ use Rattle.opgen_operator.specs.declared.kinds.single.Single.{Single}
 use Rattle.opgen_operator.specs.declared.kinds.small_div.SmallDiv.{SmallDiv}
 use Rattle.opgen_operator.specs.declared.kinds.sum.Sum.{Sum}
 use Rattle.opgen_operator.specs.declared.kinds.taps.Taps.{Taps}
-use Rattle.opgen_operator.specs.Good.{IsGoodRatio}
+use Rattle.opgen_ports.specs.Good.{IsGoodRatio}
 use Rattle.opgen_operator.specs.kinds.Horner.{poly_guard}
 use Rattle.opgen_operator.specs.kinds.Pair.{IsGoodQuotient, quotient_ports}
 use Rattle.opgen_operator.specs.kinds.Poly.{exact_poly, poly_format}
@@ -17,8 +17,8 @@ use Rattle.opgen_operator.specs.kinds.Single.{IsGoodSquareRoot, root_ports}
 use Rattle.opgen_operator.specs.kinds.SmallDiv.{IsGoodSmallQuotient, small_ports}
 use Rattle.opgen_operator.specs.kinds.Sum.{exact_sum, guard_bits, sum_format}
 use Rattle.opgen_operator.specs.kinds.Taps.{exact_taps, taps_format}
-use Rattle.opgen_operator.specs.PortNumbers.{recent_numbers}
-use Rattle.opgen_operator.specs.Ports.{one_input, port, unsigned}
+use Rattle.opgen_ports.specs.PortNumbers.{recent_numbers}
+use Rattle.opgen_ports.specs.Ports.{one_input, port, unsigned}
 use Rattle.opgen_num.specs.declared.format.Format.{Format}
 
 -- eight bits with a sign, in steps of one

@@ -1,12 +1,11 @@
 //! Every command with each call of the folder and of the sink failing, alone and in pairs. The calls of a folder are counted
 //! together: a store that is not made after one that failed leaves its name as it was.
-use crate::running::{Failing, ran_over};
+use crate::documents::{SCALE, THIRD};
+use crate::running::{Failing, Outcome, holds, ran_over};
+use crate::texts::{THIRD as THIRD_TEXT, THIRD_REPORT, TIMES3};
 use std::alloc::{AllocError, Global};
 use std::test::Fail;
 use std::thread::Threads;
-use test_harness::documents::{SCALE, THIRD};
-use test_harness::running::{Outcome, holds};
-use test_harness::texts::{THIRD as THIRD_TEXT, THIRD_REPORT, TIMES3};
 
 /// Calls that fail, the status, and how many of the command's stores stand.
 struct Case {

@@ -3,15 +3,14 @@ ghost use Rattle.std.specs.Prelude.{◌≡◌, false, string_bytes};
 ghost use Rattle.opgen_target.specs.Classes.{place_of};
 ghost use Rattle.opgen_target.specs.Tables.{listed_ledger};
 
-use crate::running::ran_in;
+use crate::delays::plain;
+use crate::documents::{THIRD, changed, repeated};
+use crate::running::{folder_of, holds, ran_in};
+use crate::texts::THIRD_REPORT;
 use opgen_target::{Cell, Class, Target};
 use std::alloc::{AllocError, Global};
 use std::test::Fail;
 use std::thread::Threads;
-use test_harness::documents::{THIRD, changed, repeated};
-use test_harness::running::{folder_of, holds};
-use test_harness::targets::plain;
-use test_harness::texts::THIRD_REPORT;
 
 /// A target with one delay for all cells, which takes no delay line.
 #[derive(Drop)]

@@ -1,12 +1,12 @@
 //! A folder that answers that a file is too long, which no test stores in memory.
 ghost use Rattle.std.specs.Prelude.{None};
 
+use crate::running::{sink_of, words_of};
 use opgen_io::{FetchFault, Folder, StoreFault};
 use opgen_top::{OpenGate, run};
 use std::alloc::{AllocError, Global};
 use std::test::Fail;
 use std::thread::Threads;
-use test_harness::running::{sink_of, words_of};
 
 /// A folder in which the file of one name is too long and the others are empty. It tells nothing, and keeps how many bytes were
 /// asked for at most of that file, and how many stores were made.

@@ -1,11 +1,56 @@
-//! Runs the program over files in memory.
-use opgen_io::MemoryFolder;
+//! Runs the program over files in memory: command lines, folders and sinks, and what a run leaves in them.
+use crate::delays::plain;
+use opgen_io::{MemoryFolder, MemorySink};
 use opgen_target::Target;
 use opgen_top::{OpenGate, run};
 use std::alloc::{AllocError, Global};
 use std::thread::Threads;
-use test_harness::running::{Outcome, folder_of, sink_of, words_of};
-use test_harness::targets::plain;
+
+/// What a run of the program leaves.
+#[derive(Drop)]
+pub(crate) struct Outcome {
+    pub status: u8,
+    pub folder: MemoryFolder,
+    pub out: MemorySink,
+}
+
+pub(crate) fn words_of(alloc: Global, words: &[&str]) -> Result<Vec<String>, AllocError> {
+    let mut copies = Vec::new(alloc);
+    for word in words {
+        copies.push(String::from_str(alloc, word)?)?;
+    }
+    Ok(copies)
+}
+
+/// A folder of these files, whose calls of these numbers fail.
+pub(crate) fn folder_of(
+    alloc: Global,
+    files: &[(&str, &[u8])],
+    failing: &[u64],
+) -> Result<MemoryFolder, AllocError> {
+    let mut held = Vec::new(alloc);
+    for (name, bytes) in files {
+        held.push((
+            String::from_str(alloc, name)?,
+            Vec::from_slice(alloc, bytes)?,
+        ))?;
+    }
+    Ok(MemoryFolder::new(held, Vec::from_slice(alloc, failing)?))
+}
+
+/// An empty sink, whose calls of these numbers fail.
+pub(crate) fn sink_of(alloc: Global, failing: &[u64]) -> Result<MemorySink, AllocError> {
+    Ok(MemorySink::new(alloc, Vec::from_slice(alloc, failing)?))
+}
+
+/// Whether the folder holds these bytes under the name, or nothing where there are none.
+pub(crate) fn holds(folder: &MemoryFolder, name: &str, bytes: Option<&str>) -> bool {
+    match (folder.get(name), bytes) {
+        (Some(held), Some(bytes)) => held == bytes.as_bytes(),
+        (None, None) => true,
+        _ => false,
+    }
+}
 
 /// The numbers of the calls that fail.
 #[derive(Clone, Copy)]

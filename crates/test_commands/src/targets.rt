@@ -1,12 +1,11 @@
 //! Targets that are handed in, and what `generate` and `workload` answer with them.
-use crate::running::ran_with;
+use crate::delays::{listed, plain};
+use crate::documents::{SCALE, changed};
+use crate::running::{Outcome, holds, ran_with};
 use opgen_target::Target;
 use std::alloc::{AllocError, Global};
 use std::test::Fail;
 use std::thread::Threads;
-use test_harness::documents::{SCALE, changed};
-use test_harness::running::{Outcome, holds};
-use test_harness::targets::{listed, plain};
 
 /// `generate` on three times four bits at a period, with these targets.
 fn generated_with(

@@ -10,22 +10,23 @@ fn combinations(rt: HostRuntime) -> Result<(), Fail> {
     Ok(())
 }
 
+/// The adders of the graph of 3 and 45: each number, the two that it is made of, the form and the shift.
+static ADDERS: [(u32, u32, u32, Form, u32); 2] = [(3, 1, 1, Form::A, 1), (45, 3, 3, Form::B, 4)];
+
 #[test]
 fn graphs(rt: HostRuntime) -> Result<(), Fail> {
     let graph = reach(rt.alloc(), &[3, 45])?.ok_or("none")?;
-    assert_eq!(rt; graph.adders.len(), 2);
-    let three = graph.adders.get(0);
-    assert_eq!(rt; three.value, 3);
-    assert_eq!(rt; three.u, 1);
-    assert_eq!(rt; three.v, 1);
-    assert_eq!(rt; three.step.form, Form::A);
-    assert_eq!(rt; three.step.shift, 1);
-    let last = graph.adders.get(1);
-    assert_eq!(rt; last.value, 45);
-    assert_eq!(rt; last.u, 3);
-    assert_eq!(rt; last.v, 3);
-    assert_eq!(rt; last.step.form, Form::B);
-    assert_eq!(rt; last.step.shift, 4);
+    assert_eq!(rt; graph.adders.len(), ADDERS.len());
+    for (adder, made) in graph.adders.as_slice().iter().zip(ADDERS.iter()) {
+        let step = (
+            adder.value,
+            adder.u,
+            adder.v,
+            adder.step.form,
+            adder.step.shift,
+        );
+        assert_eq!(rt; step, *made);
+    }
     assert!(rt; reach(rt.alloc(), &[45])?.is_none());
     Ok(())
 }

@@ -5,7 +5,7 @@ ghost use Rattle.opgen_net.specs.Valid.{IsValid};
 use crate::plans::{expect, part, planned};
 use opgen_net::Net;
 use opgen_num::{Memory, Word};
-use opgen_pipe::PlanFault;
+use opgen_pipe::{PlanFault, Planned};
 use opgen_target::{LinearTarget, Target};
 use std::alloc::{AllocError, Global};
 use std::test::Fail;
@@ -30,20 +30,23 @@ fn zeros(alloc: Global) -> Result<LinearTarget, AllocError> {
     Ok(LinearTarget::new(name, [(0, 0); 6]))
 }
 
+// The plan of that net, where no cell takes time.
+fn planned_with(alloc: Global, number: usize) -> Result<Result<Planned, PlanFault>, Fail> {
+    let net = constants(alloc, number)?;
+    let mut target: Box<dyn Target> = Box::new(alloc, zeros(alloc)?)?;
+    Ok(planned(alloc, &net, true, &mut target, 1))
+}
+
 #[test]
 fn signals_65_536(rt: HostRuntime) -> Result<(), Fail> {
-    let net = constants(rt.alloc(), 65_535)?;
-    let mut target: Box<dyn Target> = Box::new(rt.alloc(), zeros(rt.alloc())?)?;
-    let large = planned(rt.alloc(), &net, true, &mut target, 1)?;
+    let large = planned_with(rt.alloc(), 65_535)??;
     expect(&rt, &large, 0, 1, 65_536, [0; 6]);
     Ok(())
 }
 
 #[test]
 fn signals_65_537_are_refused(rt: HostRuntime) -> Result<(), Fail> {
-    let net = constants(rt.alloc(), 65_536)?;
-    let mut target: Box<dyn Target> = Box::new(rt.alloc(), zeros(rt.alloc())?)?;
-    let refused = planned(rt.alloc(), &net, true, &mut target, 1);
+    let refused = planned_with(rt.alloc(), 65_536)?;
     assert!(rt; matches!(refused, Err(PlanFault::TooLarge)));
     Ok(())
 }

@@ -27,6 +27,4 @@ mod rows;
 #[cfg(test)]
 mod runs;
 #[cfg(test)]
-mod third;
-#[cfg(test)]
 mod written;

@@ -2,82 +2,131 @@
 use opgen_num::{
     Format, FormatFault, cover, good_linear, good_root, is_quotient, is_root, least_width,
 };
-use std::test::Fail;
+
+/// A numerator, a denominator, a rounding of the fraction, whether it has to be exact, and whether it is good.
+static FRACTIONS: [(i128, i128, i128, bool, bool); 9] = [
+    (7, 2, 4, false, true),
+    (6, 2, 4, false, false),
+    (i128::MAX, 1, i128::MAX, true, true),
+    (i128::MAX, i128::MAX, i128::MAX, false, false),
+    (i128::MIN, i128::MAX, 0, false, false),
+    (i128::MIN, i128::MAX, -1, false, true),
+    (i128::MIN, i128::MAX, -2, false, true),
+    (i128::MIN, i128::MAX, -3, false, false),
+    (i128::MIN, i128::MAX, -1, true, false),
+];
 
 #[test]
-fn fractions(rt: HostRuntime) -> Result<(), Fail> {
-    let most = i128::MAX;
-    let least = i128::MIN;
-    assert!(rt; good_linear(7, 2, 4, false));
-    assert!(rt; !good_linear(6, 2, 4, false));
-    assert!(rt; good_linear(most, 1, most, true));
-    assert!(rt; !good_linear(most, most, most, false));
-    assert!(rt; !good_linear(least, most, 0, false));
-    assert!(rt; good_linear(least, most, -1, false));
-    assert!(rt; good_linear(least, most, -2, false));
-    assert!(rt; !good_linear(least, most, -3, false));
-    assert!(rt; !good_linear(least, most, -1, true));
-    Ok(())
+fn fractions(rt: HostRuntime) {
+    for (n, m, y, exact, good) in &FRACTIONS {
+        assert!(rt; *m > 0);
+        assert_eq!(rt; good_linear(*n, *m, *y, *exact), *good, "{n} {m} {y}");
+    }
+}
+
+/// The square root of 2 to the power of 128.
+const HALF: u128 = 1 << 64;
+
+/// A numerator, a denominator, a quotient, a remainder, and whether they are those of the division.
+static QUOTIENTS: [(u128, u128, u128, u128, bool); 5] = [
+    (100, 7, 14, 2, true),
+    (100, 7, 13, 9, false),
+    (0, 0, 0, 0, false),
+    (u128::MAX, u128::MAX, 1, 0, true),
+    (u128::MAX, u128::MAX, u128::MAX, u128::MAX, false),
+];
+
+/// A number, a root, a remainder, and whether they are those of the number.
+static ROOTS_WITH_RESTS: [(u128, u128, u128, bool); 4] = [
+    (200, 14, 4, true),
+    (200, 13, 31, false),
+    (u128::MAX, HALF - 1, 2 * (HALF - 1), true),
+    (u128::MAX, u128::MAX, u128::MAX, false),
+];
+
+#[test]
+fn remainders(rt: HostRuntime) {
+    for (n, b, q, r, good) in &QUOTIENTS {
+        assert_eq!(rt; is_quotient(*n, *b, *q, *r), *good, "{n} {b} {q} {r}");
+    }
+    for (n, y, r, good) in &ROOTS_WITH_RESTS {
+        assert_eq!(rt; is_root(*n, *y, *r), *good, "{n} {y} {r}");
+    }
+}
+
+/// A number, a rounding of its root, and whether it is good.
+static ROOTS: [(u128, u128, bool); 9] = [
+    (0, 0, true),
+    (0, 1, false),
+    (16, 3, false),
+    (16, 4, true),
+    (16, 5, false),
+    (u128::MAX, HALF - 1, true),
+    (u128::MAX, HALF, true),
+    (u128::MAX, HALF + 1, false),
+    (u128::MAX, u128::MAX, false),
+];
+
+#[test]
+fn roots(rt: HostRuntime) {
+    for (n, y, good) in &ROOTS {
+        assert_eq!(rt; good_root(*n, *y), *good, "{n} {y}");
+    }
+}
+
+/// Half of the numbers of the widest format.
+const HALF_RANGE: i128 = 1 << 95;
+
+/// Two numbers, a last place, and the sign and the width of the least format that holds both, if there is one.
+static FORMATS: [(i128, i128, i32, Option<(bool, u32)>); 7] = [
+    (0, 0, 0, Some((false, 1))),
+    (-1, 0, 0, Some((true, 2))),
+    (-HALF_RANGE, HALF_RANGE - 1, 64, Some((true, 96))),
+    (-HALF_RANGE, HALF_RANGE, 0, None),
+    (0, 2 * HALF_RANGE - 1, -64, Some((false, 96))),
+    (0, 2 * HALF_RANGE, 0, None),
+    (i128::MIN, i128::MAX, 0, None),
+];
+
+/// Whether a format has this sign, width and last place, or there is none.
+fn is_format(found: Option<Format>, least: Option<(bool, u32)>, lsb: i32) -> bool {
+    match (found, least) {
+        (Some(found), Some((signed, width))) => found == Format { signed, width, lsb },
+        (None, None) => true,
+        _ => false,
+    }
 }
 
 #[test]
-fn remainders(rt: HostRuntime) -> Result<(), Fail> {
-    let most = u128::MAX;
-    let half: u128 = 1 << 64;
-    assert!(rt; is_quotient(100, 7, 14, 2));
-    assert!(rt; !is_quotient(100, 7, 13, 9));
-    assert!(rt; !is_quotient(0, 0, 0, 0));
-    assert!(rt; is_quotient(most, most, 1, 0));
-    assert!(rt; !is_quotient(most, most, most, most));
-    assert!(rt; is_root(200, 14, 4));
-    assert!(rt; !is_root(200, 13, 31));
-    assert!(rt; is_root(most, half - 1, 2 * (half - 1)));
-    assert!(rt; !is_root(most, most, most));
-    Ok(())
-}
-
-#[test]
-fn roots(rt: HostRuntime) -> Result<(), Fail> {
-    let half: u128 = 1 << 64;
-    assert!(rt; good_root(0, 0));
-    assert!(rt; !good_root(0, 1));
-    assert!(rt; !good_root(16, 3));
-    assert!(rt; good_root(16, 4));
-    assert!(rt; !good_root(16, 5));
-    assert!(rt; good_root(u128::MAX, half - 1));
-    assert!(rt; good_root(u128::MAX, half));
-    assert!(rt; !good_root(u128::MAX, half + 1));
-    assert!(rt; !good_root(u128::MAX, u128::MAX));
-    Ok(())
-}
-
-fn format(signed: bool, width: u32, lsb: i32) -> Option<Format> {
-    Some(Format { signed, width, lsb })
-}
-
-#[test]
-fn least_formats(rt: HostRuntime) -> Result<(), Fail> {
-    let half: i128 = 1 << 95;
-    assert_eq!(rt; cover(0, 0, 0), format(false, 1, 0));
-    assert_eq!(rt; cover(-1, 0, 0), format(true, 2, 0));
-    assert_eq!(rt; cover(-half, half - 1, 64), format(true, 96, 64));
-    assert_eq!(rt; cover(-half, half, 0), None);
-    assert_eq!(rt; cover(0, 2 * half - 1, -64), format(false, 96, -64));
-    assert_eq!(rt; cover(0, 2 * half, 0), None);
-    assert_eq!(rt; cover(i128::MIN, i128::MAX, 0), None);
+fn least_formats(rt: HostRuntime) {
+    for (low, high, lsb, least) in &FORMATS {
+        assert!(rt; *low <= *high && -64 <= *lsb && *lsb <= 64);
+        let found = cover(*low, *high, *lsb);
+        assert!(rt; is_format(found, *least, *lsb), "{low} {high}");
+    }
     assert_eq!(rt; least_width(i128::MIN, i128::MAX), 128);
     assert_eq!(rt; least_width(i128::MAX, i128::MAX), 127);
-    Ok(())
 }
+
+/// The sign, the width and the last place of a format, and its fault, if there is one.
+static FAULTS: [(bool, u32, i32, Option<FormatFault>); 8] = [
+    (true, 2, -64, None),
+    (false, 96, 64, None),
+    (false, 0, 0, Some(FormatFault::Width)),
+    (true, 1, 0, Some(FormatFault::Width)),
+    (false, 97, 0, Some(FormatFault::Width)),
+    (false, 1, -65, Some(FormatFault::Lsb)),
+    (false, 1, 65, Some(FormatFault::Lsb)),
+    (true, 1, 65, Some(FormatFault::Width)),
+];
 
 #[test]
 fn faults_of_formats(rt: HostRuntime) {
-    assert!(rt; Format::new(true, 2, -64).is_ok());
-    assert!(rt; Format::new(false, 96, 64).is_ok());
-    assert_eq!(rt; Format::new(false, 0, 0).err(), Some(FormatFault::Width));
-    assert_eq!(rt; Format::new(true, 1, 0).err(), Some(FormatFault::Width));
-    assert_eq!(rt; Format::new(false, 97, 0).err(), Some(FormatFault::Width));
-    assert_eq!(rt; Format::new(false, 1, -65).err(), Some(FormatFault::Lsb));
-    assert_eq!(rt; Format::new(false, 1, 65).err(), Some(FormatFault::Lsb));
-    assert_eq!(rt; Format::new(true, 1, 65).err(), Some(FormatFault::Width));
+    for (signed, width, lsb, fault) in &FAULTS {
+        assert_eq!(rt;
+            Format::new(*signed, *width, *lsb).err(),
+            *fault,
+            "{width} {lsb}"
+        );
+    }
 }

@@ -41,17 +41,24 @@ fn taken(alloc: Global, length: usize, failing: u64) -> Result<(usize, bool), Fa
     Ok((sink.bytes().len(), written == Err(WriteFault::Failed)))
 }
 
-// A page more than is needed would fail, and the last page that is needed does.
+/// The length of a text, the number of the put that fails, how many bytes the sink takes, and whether that is the answer. A page
+/// more than is needed would fail, and the last page that is needed does.
+static PAGES: [(usize, u64, usize, bool); 7] = [
+    (4095, 0, 0, true),
+    (4095, 1, 4095, false),
+    (4096, 0, 0, true),
+    (4096, 1, 4096, false),
+    (4097, 1, 4096, true),
+    (4097, 2, 4097, false),
+    (8193, 2, 8192, true),
+];
+
 #[test]
 fn puts_whole_pages(rt: HostRuntime) -> Result<(), Fail> {
-    let alloc = rt.alloc();
-    assert!(rt; taken(alloc, 4095, 0)? == (0, true));
-    assert!(rt; taken(alloc, 4095, 1)? == (4095, false));
-    assert!(rt; taken(alloc, 4096, 0)? == (0, true));
-    assert!(rt; taken(alloc, 4096, 1)? == (4096, false));
-    assert!(rt; taken(alloc, 4097, 1)? == (4096, true));
-    assert!(rt; taken(alloc, 4097, 2)? == (4097, false));
-    assert!(rt; taken(alloc, 8193, 2)? == (8192, true));
+    for (length, failing, bytes, fails) in &PAGES {
+        let found = taken(rt.alloc(), *length, *failing)?;
+        assert!(rt; found == (*bytes, *fails), "{length} {failing}");
+    }
     Ok(())
 }
 

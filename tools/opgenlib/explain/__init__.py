@@ -2,28 +2,42 @@
 import re
 
 from ..commands import BadWords, Call, call_of
-from . import files, rows, specification, vhdl, words
+from . import again, files, judged, rows, specification, vhdl, words
+from .again import Runner
+
+# The statuses after which the program printed a line that names a refusal.
+HAVE_LINES = (1, 6, 7, 8)
 
 
-def of_line(call: Call, line: str) -> list[str]:
+def of_line(call: Call, line: str, run: Runner | None) -> list[str]:
     """What a line that names a refusal means."""
     what, _, rest = line.strip().partition(": ")
     fault = rest.split(" ")
     match what:
         case "specification" if "SPEC" in call.words:
             return specification.explain(call.words["SPEC"], fault)
+        case "vhdl" if fault == ["Ports"]:
+            return vhdl.explain_ports(call.words["VHDL"], call.words["SPEC"])
         case "vhdl":
             return vhdl.explain(call.words["VHDL"], fault)
         case "vectors":
             return rows.explain(call.words["VECTORS"], fault, call.words["VHDL"])
     if bad := re.fullmatch(r"row (\d+) not good\n?", line):
-        return rows.explain_bad(call.words["VECTORS"], int(bad[1]), call.words["LATENCY"])
+        return judged.explain(call, int(bad[1]), run)
     return []
 
 
-def explain(said: list[str], status: int, line: str | None) -> list[str]:
-    """The explanation of a status other than 0, in one to three lines, none where nothing sure can be said.
-    `said` are the words that the program was given, and `line` is what it printed, none where that is not known."""
+def of_call(call: Call, line: str, run: Runner | None) -> list[str]:
+    """What a line means, and of `check` before all else that it does not judge a circuit with a clock enable."""
+    enable = vhdl.explain_enable(call.words["VHDL"]) if call.command == "check" else []
+    if enable and (line.startswith("vectors: ") or line.strip() == "vhdl: Ports"):
+        return enable
+    return [*enable, *of_line(call, line, run)]
+
+
+def explain(said: list[str], status: int, run: Runner | None, line: str | None = None) -> list[str]:
+    """The explanation of a status other than 0, in some lines, none where nothing sure can be said. `said` are the words that
+    the program was given, and `line` is what it printed, which is found by running it again where it is not given."""
     if status == 2:
         return words.explain(said)
     try:
@@ -39,4 +53,6 @@ def explain(said: list[str], status: int, line: str | None) -> list[str]:
             return files.out_of_memory(call)
         case 9:
             return files.too_long(call)
-    return of_line(call, line) if line else []
+    if status in HAVE_LINES and line is None and run:
+        line = again.line_of(run, call, status)
+    return of_call(call, line, run) if line else []

@@ -45,13 +45,13 @@ def too_long(call: Call) -> list[str]:
 def stored(call: Call) -> list[str]:
     """The files that a command stores, as far as they are known."""
     if "OUT" in call.words:
-        return [call.words["OUT"]]
+        return [os.path.join(call.folder, call.words["OUT"])]
     try:
         name = load(Path(call.words["SPEC"])).table["name"]
     except (OSError, NotToml, KeyError):
         return []
     endings = {"generate": ["vhd", "rpt"], "vectors": ["vec"]}.get(call.command, [])
-    return [f"{name}.{ending}" for ending in endings]
+    return [os.path.join(call.folder, f"{name}.{ending}") for ending in endings]
 
 
 def cannot_write(file: str) -> str:
@@ -62,6 +62,8 @@ def cannot_write(file: str) -> str:
         return "a folder has this name"
     if not folder.is_dir():
         return f"there is no folder {folder}"
+    if os.statvfs(folder).f_blocks == 0:
+        return f"{folder} is on no disk: files cannot be made there"
     if not os.access(path if path.exists() else folder, os.W_OK):
         return "permission denied"
     if path.exists() and not stat.S_ISREG(path.stat().st_mode):

@@ -88,9 +88,3 @@ def explain(file: str, fault: list[str], vhdl: str) -> list[str]:
     if not said:
         return [f"{file}:{number}: this line is no row of inputs"]
     return [f"{file}:{number}:{column}: {said}"]
-
-
-def explain_bad(file: str, cycle: int, latency: str) -> list[str]:
-    """What it means that the outputs of a cycle, from 0, are not good."""
-    said = f"the outputs of cycle {cycle} are not good for the inputs up to {latency} cycles before"
-    return [f"{file}:{cycle + 1}: {said}", "  look at the latency in the report, and at the row's outputs"]

@@ -10,6 +10,8 @@ from ..places import Place
 from ..specification import SHIFTS, NotToml, Specification, load, most_signal, shift_of
 
 MOST_WRITTEN = 40
+# Of a decimal text.
+MOST_DIGITS = 9
 TYPES = {bool: "a truth value", int: "a whole number", float: "a float", str: "a text", list: "an array", dict: "a table"}
 
 
@@ -114,6 +116,8 @@ class Explainer:
         written = self.written(*path)
         found = f"{written}, {type_name(value)}" if written else type_name(value)
         yield f"{self.at(self.spec.value_place(*path))}: {name} is {found}; expected {expected}{hint}"
+        if key == "coefficients" and isinstance(value, str):
+            yield from decimal_fault(value)
 
     def wrong_element(self, items: list, rules: dict) -> int | None:
         """The first element that is not of the form which the first has, or of none."""
@@ -170,6 +174,8 @@ class Explainer:
             return
         expected = schema.bounds(rules)
         yield f"{self.at(spot)}: {name} is {found}" + (f"; expected {expected}" if expected else "")
+        if not line and re.fullmatch("(out_)?lsb(_a|_b)?", key):
+            yield from way_round(self.table)
         if "maximum" in rules and key.startswith("width") and self.version == 1 and found > rules["maximum"]:
             most = schema.rules_of(key, self.table | {"version": 2})["maximum"]
             if found <= most:
@@ -215,6 +221,8 @@ class Explainer:
             most = f"at most lsb_a + lsb_b = {least}"
             yield f"{self.at(place)}: out_lsb is {out}, so the exact product does not fit; expected {most}"
             yield f"  write {f'out_lsb = {least}, or ' if -32 <= least <= 32 else ''}exact = false"
+            if least < -32:
+                yield from way_round(self.table | {"out_lsb": least})
         else:
             place = self.spec.value_place("exact")
             yield f"{self.at(place)}: exact outputs are not possible{self.for_kind}; write exact = false"
@@ -231,6 +239,9 @@ class Explainer:
         least = self.table["lsb"] - power
         if value.denominator == 1 << power and -32 <= least < out:
             yield f"  write out_lsb = {least} or less, or exact = false"
+        elif value.denominator == 1 << power and least < -32:
+            yield "  write exact = false, or move both places up"
+            yield from way_round(self.table | {"out_lsb": least})
         else:
             yield "  write exact = false: no out_lsb makes it whole"
 
@@ -256,6 +267,8 @@ class Explainer:
         place = self.spec.value_place("target")
         targets = schema.SCHEMA["properties"]["target"]["enum"]
         yield f"{self.at(place)}: target is {self.written('target')}; expected one of {', '.join(targets)}"
+        lines = schema.shown("templates/delay.toml")
+        yield f'  for a device write target = "plain" and its delays as [[delay]] lines, as {lines} has them'
 
     def not_adjustable(self) -> Iterator[str]:
         place = self.spec.key_place("delay", 0)
@@ -270,6 +283,50 @@ class Explainer:
     def too_large(self) -> Iterator[str]:
         yield f"{self.file}: the design would have more than 65,536 signals"
         yield "  fewer coefficients or bits, a longer period (fewer registers), or a higher out_lsb"
+
+
+def way_round(table: dict[str, Any]) -> Iterator[str]:
+    """The same operator with its lowest bits at 0, as only the differences of their places count."""
+    keys = [key for key in ("lsb", "lsb_a", "lsb_b") if key in table]
+    zeros = ", ".join(f"{key} = 0" for key in keys)
+    if "out_lsb" not in table:
+        yield f"  write {zeros}: the numbers are the same, and the places are yours to count"
+        return
+    shift = shift_of(table)
+    if not keys or shift is None:
+        return
+    lsb, out_lsb = (shift % 2, -(shift // 2)) if table["kind"] == "root" else (0, -shift)
+    if -32 <= out_lsb <= 32:
+        inputs = zeros if lsb == 0 else f"lsb = {lsb}"
+        yield f"  write {inputs} and out_lsb = {out_lsb}: only the difference counts, and the places are yours to count"
+
+
+def decimal_fault(text: str) -> Iterator[str]:
+    """Which limit of decimal texts a text breaks, and how the number is written within them."""
+    if not re.fullmatch(r"[+-]?([0-9]+\.?[0-9]*|\.[0-9]+)([eE][+-]?[0-9]{1,3})?", text):
+        yield "  a decimal text is an optional -, digits, and optionally a point and digits"
+        return
+    digits = sum(map(str.isdigit, re.split("[eE]", text)[0]))
+    has_exponent = re.search("[eE]", text)
+    why = "it has an exponent" if has_exponent else f"it has {digits} digits" if digits > MOST_DIGITS else "it has another form"
+    near = nearest_decimal(Fraction(text))
+    instead = f'write "{near}"' if near else "write whole numbers over a denominator"
+    exactly = "" if near and Fraction(near) == Fraction(text) else ", which is near it" if near else ""
+    yield f"  a decimal text has one to {MOST_DIGITS} digits, and no exponent or +; {why}: {instead}{exactly}"
+
+
+def nearest_decimal(value: Fraction) -> str:
+    """The decimal text that is nearest to a number, empty where none is near."""
+    whole = len(str(abs(int(value))))
+    places = MOST_DIGITS - whole
+    if places < 0:
+        return ""
+    units = round(abs(value) * 10**places)
+    if not units and value:
+        return ""
+    before, after = divmod(units, 10**places)
+    point = f"{after:0{places}d}".rstrip("0") if places else ""
+    return ("-" if value < 0 else "") + str(before) + (f".{point}" if point else "")
 
 
 def is_of(value: Any, form: dict) -> bool:

@@ -3,11 +3,13 @@ import re
 from collections.abc import Callable, Iterator
 from pathlib import Path
 
-from ..schema import TOP
-from ..vhdl import END, OPERATORS, Design, Driver, NoToken, NotRead, Reader, Token, Use, width_in
+from .. import report
+from ..operators import NoOperator, ports_of
+from ..schema import shown
+from ..specification import NotToml, load
+from ..vhdl import END, OPERATORS, Design, Driver, NoToken, NotRead, Port, Reader, Token, Use, entity_of, width_in
 
-# In a checkout the manual is named from its folder, and otherwise from the root.
-MANUAL = f'{"" if (TOP / "crates").is_dir() else f"{TOP}/"}docs/MANUAL.md, "Write VHDL for simulate"'
+MANUAL = f'{shown("docs/MANUAL.md")}, "Write VHDL for simulate"'
 MOST_BYTES = 8 << 20  # beyond, a text takes this reader too long
 MOST_WRITTEN = 30
 
@@ -148,9 +150,24 @@ class Explainer:
             return
         yield from Unsound(self, design).explain(rule, item)
 
-    def ports(self) -> Iterator[str]:
-        yield f"{self.file}: its ports are not those of the specification, in names, directions, widths or order"
-        yield "  expected as `opgen generate` writes them, without ce"
+    def ports(self, wanted: list[report.Port]) -> Iterator[str]:
+        """Which port is not that of a specification."""
+        yield self.port_fault(entity_of(self.text)[1], wanted)
+        yield f"  expected, in this order: {', '.join(map(declared, wanted))}"
+
+    def port_fault(self, found: list[Port], wanted: list[report.Port]) -> str:
+        """The first port that is too much, missing, of another sort, or out of its order."""
+        names = [port.name for port in found]
+        known = {port.name: port for port in wanted}
+        for port in found:
+            if port.name not in known:
+                return f"{self.at(port.at)}: `{port.name}` is no port of the specification; rename it or take it out"
+            if declared(port) != declared(known[port.name]):
+                return f"{self.at(port.at)}: found {declared(port)}; expected {declared(known[port.name])}"
+        if missing := [port for port in wanted if port.name not in names]:
+            return f"{self.file}: there is no port {declared(missing[0])}"
+        order = ", ".join(names)
+        return f"{self.file}: the order of the ports is {order}; expected {', '.join(known)}"
 
 
 class Misfit:
@@ -411,12 +428,20 @@ class Unsound:
         yield f"{self.at(port.at)}: the enable `{port.name}` is {found}; expected in std_logic_vector(0 downto 0)"
 
 
+def declared(port: Port | report.Port) -> str:
+    """A port as it is declared."""
+    return f"{port.name} : {'in' if port.is_input else 'out'} std_logic_vector({port.width - 1} downto 0)"
+
+
+def is_enable(port: Port) -> bool:
+    return (port.name, port.is_input, port.width) == ("ce", True, 1)
+
+
 FAULTS: dict[str, Callable[..., Iterator[str]]] = {
     "Lexical": Explainer.lexical,
     "Syntax": Explainer.syntax,
     "TooLarge": Explainer.too_large,
     "Unsound": Explainer.unsound,
-    "Ports": Explainer.ports,
 }
 
 
@@ -427,3 +452,30 @@ def explain(file: str, fault: list[str]) -> list[str]:
         return [f"{file}: too long for a closer look"]
     text = path.read_bytes().decode("latin-1")
     return list(FAULTS[fault[0]](Explainer(file, text), *map(int, fault[1:])))
+
+
+def explain_ports(file: str, spec: str) -> list[str]:
+    """Which port differs from those of a specification."""
+    try:
+        wanted = ports_of(load(spec).table)
+    except (NoOperator, NotToml):
+        return [f"{file}: its ports are not those of {spec}, in names, directions, widths or order"]
+    return list(Explainer(file, Path(file).read_bytes().decode("latin-1")).ports(wanted))
+
+
+def explain_enable(file: str) -> list[str]:
+    """That `check` does not judge a circuit with a clock enable, nothing of another."""
+    if Path(file).stat().st_size > MOST_BYTES:
+        return []
+    text = Path(file).read_bytes().decode("latin-1")
+    try:
+        enable = next((port for port in entity_of(text)[1] if is_enable(port)), None)
+    except NotRead:
+        return []
+    if enable is None:
+        return []
+    at = Explainer(file, text).at(enable.at)
+    return [
+        f"{at}: `ce` is a clock enable: `check` judges no file with one, and no rows for one",
+        "  check the circuit that `opgen generate` makes without --enable; tools/judge runs this one, with pauses",
+    ]

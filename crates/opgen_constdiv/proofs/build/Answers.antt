@@ -1,7 +1,7 @@
 use Rattle.std.proofs.Common.{sym, subst}
 use Rattle.opgen_operator.specs.declared.operator.Operator.TheVariants.{Constdiv}
-use Rattle.opgen_operator.specs.Fits.{FitsSpecsOf}
-use Rattle.opgen_constdiv.proofs.Fits.{accepted, has_input, has_divisor, fits_specs}
+use Rattle.opgen_operator.specs.Fits.{FitsInEachMode}
+use Rattle.opgen_constdiv.proofs.Fits.{accepted, has_input, has_divisor, fits_modes}
 use Rattle.opgen_constdiv.proofs.build.Goals as goal
 
 pub division_net-requires-clause-input : goal.division_net-requires-clause-input
@@ -13,4 +13,4 @@ division_net-requires-clause-small c = let s = c.args.small.now in has_divisor s
 pub returns-clause-fits : goal.returns-clause-fits
 returns-clause-fits c =
     let s = c.args.small.now in
-    subst (FitsSpecsOf (Constdiv s)) (sym c.in_ok-net.ensures.net) (fits_specs s c.requires)
+    subst (FitsInEachMode (Constdiv s)) (sym c.in_ok-net.ensures.net) (fits_modes s c.requires)

@@ -10,22 +10,22 @@ use Rattle.opgen_num.specs.Formats.{Holds}
 use Rattle.opgen_num.specs.Rounding.{IsWithinOne, IsQuotient}
 use Rattle.opgen_operator.specs.declared.kinds.pair.Pair.{Pair}
 use Rattle.opgen_operator.specs.Bounded.{HasWidth}
-use Rattle.opgen_operator.specs.Good.{IsGoodRatio}
+use Rattle.opgen_ports.specs.Good.{IsGoodRatio}
 use Rattle.opgen_operator.specs.kinds.Pair.{quotient_ports, quotient_format, remainder_format, exact_quotient, pair_shift, IsPair, dividend, pair_meaning}
-use Rattle.opgen_operator.specs.Limits.{most_signal}
-use Rattle.opgen_operator.specs.PortNumbers.{IsCycle}
-use Rattle.opgen_operator.specs.Ports.{port, with_rest}
-use Rattle.opgen_operator.specs.Shifts.{places_up}
-use Rattle.opgen_operator.specs.Spans.{IsOf}
-use Rattle.opgen_operator.proofs.Bounds.{few_up}
-use Rattle.opgen_operator.proofs.Covered.{rounded_within, unsigned_of}
-use Rattle.opgen_operator.proofs.Cycles.{main_word, rest_word}
-use Rattle.opgen_operator.proofs.In128.{small_in128, raised_in128, whole_in128}
-use Rattle.opgen_operator.proofs.InputPorts.{all_one, all_two, input_bit, HasBit}
+use Rattle.opgen_ports.specs.Limits.{most_signal}
+use Rattle.opgen_ports.specs.PortNumbers.{IsCycle}
+use Rattle.opgen_ports.specs.Ports.{port, with_rest}
+use Rattle.opgen_ports.specs.Shifts.{places_up}
+use Rattle.opgen_ports.specs.Spans.{IsOf}
+use Rattle.opgen_ports.proofs.Bounds.{few_up}
+use Rattle.opgen_ports.proofs.Covered.{rounded_within, unsigned_of}
+use Rattle.opgen_ports.proofs.Cycles.{main_word, rest_word}
+use Rattle.opgen_ports.proofs.In128.{small_in128, raised_in128, whole_in128}
+use Rattle.opgen_ports.proofs.InputPorts.{all_one, all_two, input_bit, HasBit}
 use Rattle.opgen_operator.proofs.Lawful.{IsLawful}
-use Rattle.opgen_operator.proofs.Magnitudes.{number_small}
+use Rattle.opgen_ports.proofs.Magnitudes.{number_small}
 use Rattle.opgen_operator.proofs.Named.{are_good, names}
-use Rattle.opgen_operator.proofs.Versions.{signal_limit}
+use Rattle.opgen_ports.proofs.Versions.{signal_limit}
 
 pub quotient_word : (exact : Bool) (p : Pair) (words : List ℕ) → IsCycle (quotient_ports exact p) words
     → (0 < length words) × (slice_index words 0 < 2 ^ (quotient_format p).width)
@@ -92,6 +92,7 @@ pair_lawful p = record {
   limit = λ version h. h;
   least = λ h. omega (arith, ints, h);
   room = λ version within high. tt;
+  held = (λ fits up a b of_a of_b some y good. quotients_held p fits a b of_a of_b some y good, remainders_held p);
   in128 = λ version is inputs of.
       let a = number_small p.a (inputs 0 0) is.ranges.a (of 0 0 (omega arith)) in
       let b = number_small p.b (inputs 1 0) is.ranges.b (of 1 0 (omega arith)) in (

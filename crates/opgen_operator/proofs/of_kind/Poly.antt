@@ -7,20 +7,19 @@ use Rattle.opgen_names.specs.Names.{refused_words}
 use Rattle.opgen_num.proofs.BitLength.{power_order}
 use Rattle.opgen_operator.specs.declared.kinds.poly.Poly.{Poly as Polynomial}
 use Rattle.opgen_operator.specs.Bounded.{HasWidth}
-use Rattle.opgen_operator.specs.In128.{IsRatioIn128}
+use Rattle.opgen_ports.specs.In128.{IsRatioIn128}
 use Rattle.opgen_operator.specs.kinds.Horner.{degree, result_places}
 use Rattle.opgen_operator.specs.kinds.Poly.{terms_from, exact_poly, IsPoly, poly_meaning}
-use Rattle.opgen_operator.specs.kinds.Sum.{terms}
-use Rattle.opgen_operator.specs.Limits.{most_signal}
-use Rattle.opgen_operator.specs.Spans.{IsOf}
-use Rattle.opgen_operator.proofs.Bounds.{products, few_units}
-use Rattle.opgen_operator.proofs.In128.{small_in128, input_small}
-use Rattle.opgen_operator.proofs.InputPorts.{all_one, input_bit, HasBit}
+use Rattle.opgen_ports.specs.Limits.{most_signal}
+use Rattle.opgen_ports.specs.Spans.{IsOf}
+use Rattle.opgen_ports.proofs.Bounds.{products, few_units}
+use Rattle.opgen_ports.proofs.In128.{small_in128, input_small}
+use Rattle.opgen_ports.proofs.InputPorts.{all_one, input_bit, HasBit}
 use Rattle.opgen_operator.proofs.Lawful.{IsLawful}
-use Rattle.opgen_operator.proofs.Magnitudes.{unsigned_abs-product}
+use Rattle.opgen_ports.proofs.Magnitudes.{unsigned_abs-product}
 use Rattle.opgen_operator.proofs.of_kind.Results.{poly_width}
 use Rattle.opgen_operator.proofs.of_kind.Terms.{poly_terms_small, few_powers, few_places}
-use Rattle.opgen_operator.proofs.Versions.{signal_limit}
+use Rattle.opgen_ports.proofs.Versions.{signal_limit}
 
 -- A polynomial: coefficients of 30 bits, five at most, and an input and a denominator of 64 bits by their powers, since its width
 -- is 16 at most and its degree 4; there are 16 places after the point at most.
@@ -55,5 +54,6 @@ poly_lawful p = record {
   limit = λ version h. omega (arith, ints);
   least = λ h. omega (arith, ints);
   room = λ version within high. tt;
+  held = tt;
   in128 = λ version is inputs of. poly_in128 p (inputs 0 0) is.ranges (of 0 0 (omega arith));
 }

@@ -6,19 +6,19 @@ use Rattle.std.specs.Prelude.{ℤ, pos, ◌*ℤ◌}
 use Rattle.opgen_names.specs.Names.{refused_words}
 use Rattle.opgen_operator.specs.declared.kinds.product.Product.{Product}
 use Rattle.opgen_operator.specs.Bounded.{HasWidth}
-use Rattle.opgen_operator.specs.Good.{IsGoodRatio}
+use Rattle.opgen_ports.specs.Good.{IsGoodRatio}
 use Rattle.opgen_operator.specs.kinds.Product.{exact_product, product_shift, product_places, product_format, product_need, product_meaning}
-use Rattle.opgen_operator.specs.Limits.{most_signal}
-use Rattle.opgen_operator.specs.Shifts.{places_down, up}
-use Rattle.opgen_operator.specs.Spans.{IsOf}
-use Rattle.opgen_operator.proofs.Covered.{rounded_within, covered}
-use Rattle.opgen_operator.proofs.In128.{small_in128, units_in128}
-use Rattle.opgen_operator.proofs.InputPorts.{all_one, all_two, input_bit, HasBit}
+use Rattle.opgen_ports.specs.Limits.{most_signal}
+use Rattle.opgen_ports.specs.Shifts.{places_down, up}
+use Rattle.opgen_ports.specs.Spans.{IsOf}
+use Rattle.opgen_ports.proofs.Covered.{rounded_within, covered}
+use Rattle.opgen_ports.proofs.In128.{small_in128, units_in128}
+use Rattle.opgen_ports.proofs.InputPorts.{all_one, all_two, input_bit, HasBit}
 use Rattle.opgen_operator.proofs.Lawful.{IsLawful}
-use Rattle.opgen_operator.proofs.Magnitudes.{unsigned_abs-product}
+use Rattle.opgen_ports.proofs.Magnitudes.{unsigned_abs-product}
 use Rattle.opgen_operator.proofs.of_kind.ProductWidths.{products_span, product_room}
-use Rattle.opgen_operator.proofs.Versions.{signal_limit}
-use Rattle.opgen_operator.proofs.Widths.{some_width}
+use Rattle.opgen_ports.proofs.Versions.{signal_limit}
+use Rattle.opgen_ports.proofs.Widths.{some_width}
 
 pub products_held : (p : Product) (a b : ℤ) → IsOf p.a a → IsOf p.b b → (y : ℤ) → IsGoodRatio false (exact_product p a b) y
     → IsOf (product_format p) y
@@ -40,6 +40,7 @@ product_lawful p = record {
   limit = λ version h. h;
   least = λ h. h;
   room = λ version within high. tt;
+  held = λ fits a b of_a of_b y good. products_held p a b of_a of_b y good;
   in128 = λ version is inputs of.
       let narrow : product_need p ≤ 96 = omega (arith, is.narrow (product_need p) refl, (signal_limit version).1) in
       let room = product_room p (inputs 0 0) (inputs 1 0) is.ranges (of 0 0 (omega arith)) (of 1 0 (omega arith)) (omega (arith, narrow)) in

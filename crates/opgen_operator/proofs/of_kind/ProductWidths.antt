@@ -11,13 +11,13 @@ use Rattle.opgen_num.proofs.RangeWidth.{count-holds, count-least}
 use Rattle.opgen_num.specs.Formats.{digit_count, range_width, fewest_bits}
 use Rattle.opgen_operator.specs.declared.kinds.product.Product.{Product}
 use Rattle.opgen_operator.specs.kinds.Product.{exact_product, product_shift, product_reach, product_places, IsProduct, ProductsHaveWidth, product_format}
-use Rattle.opgen_operator.specs.Reaches.{reach_of, reach_with, in_units, width_of}
-use Rattle.opgen_operator.specs.Shifts.{places_down, up, down, places_up}
-use Rattle.opgen_operator.specs.Spans.{IsOf, Spans}
-use Rattle.opgen_operator.proofs.Bounds.{products}
-use Rattle.opgen_operator.proofs.Magnitudes.{product_within, holds_within}
-use Rattle.opgen_operator.proofs.Reached.{neg-left, neg-both, IsWithinReach, neg-right, held-within, within-held, lowest, low_end, high_end, least_end, greatest_end, ceiling}
-use Rattle.opgen_operator.proofs.Widths.{count_some}
+use Rattle.opgen_ports.specs.Reaches.{reach_of, reach_with, in_units, width_of}
+use Rattle.opgen_ports.specs.Shifts.{places_down, up, down, places_up}
+use Rattle.opgen_ports.specs.Spans.{IsOf, Spans}
+use Rattle.opgen_ports.proofs.Bounds.{products}
+use Rattle.opgen_ports.proofs.Magnitudes.{product_within, holds_within}
+use Rattle.opgen_ports.proofs.Reached.{neg-left, neg-both, IsWithinReach, neg-right, held-within, within-held, low_end, high_end, least_end, greatest_end, ceiling}
+use Rattle.opgen_ports.proofs.Widths.{count_some}
 
 neg-neg : (n k : ℕ) → neg_ℤ (pos n) *ℤ neg_ℤ (pos k) ≡ pos (n * k)
 neg-neg n zero = neg-left n 0 ∙ omega (arith, ints)

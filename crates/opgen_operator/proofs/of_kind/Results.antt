@@ -16,8 +16,8 @@ use Rattle.opgen_num.specs.Nearest.{nearest}
 use Rattle.opgen_operator.specs.declared.kinds.poly.Poly.{Poly as Polynomial}
 use Rattle.opgen_operator.specs.kinds.Horner.{degree, poly_guard, result_places, guarded, low_end, high_end, all_guarded, partial_width, result_low, result_high}
 use Rattle.opgen_operator.specs.kinds.Poly.{IsPoly, poly_format, PolynomialsHaveRoom}
-use Rattle.opgen_operator.specs.Ranges.{IsWithin}
-use Rattle.opgen_operator.proofs.Magnitudes.{product_within}
+use Rattle.opgen_ports.specs.Ranges.{IsWithin}
+use Rattle.opgen_ports.proofs.Magnitudes.{product_within}
 use Rattle.opgen_operator.proofs.of_kind.Terms.{few_places}
 
 -- the guard bits

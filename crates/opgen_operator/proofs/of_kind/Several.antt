@@ -9,28 +9,30 @@ use Rattle.std.specs.Prelude.{ℤ, pos, codes, slice_index, slice_get, negsuc, �
 use Rattle.opgen_names.specs.Names.{refused_words}
 use Rattle.opgen_num.specs.declared.format.Format.{Format}
 use Rattle.opgen_operator.specs.declared.kinds.several.Several.{Several}
-use Rattle.opgen_operator.specs.declared.ports.PortFormat.{PortFormat}
+use Rattle.opgen_operator.specs.declared.operator.Operator.TheVariants.{Mcm}
+use Rattle.opgen_ports.specs.declared.ports.PortFormat.{PortFormat}
 use Rattle.opgen_operator.specs.Bounded.{HasWidth}
-use Rattle.opgen_operator.specs.Good.{IsGoodRatio}
-use Rattle.opgen_operator.specs.In128.{IsRatioIn128}
+use Rattle.opgen_ports.specs.Good.{IsGoodRatio}
+use Rattle.opgen_ports.specs.In128.{IsRatioIn128}
+use Rattle.opgen_operator.specs.Held.{OutputsHold}
 use Rattle.opgen_operator.specs.kinds.Several.{numbered, constant_format, multiple_ports, exact_multiple, IsSeveral, several_meaning}
-use Rattle.opgen_operator.specs.Limits.{most_signal}
-use Rattle.opgen_operator.specs.PortNumbers.{format_at, IsCycle, number_of, output_numbers}
-use Rattle.opgen_operator.specs.Ports.{port}
-use Rattle.opgen_operator.specs.Ranges.{IsInput, IsWithin}
-use Rattle.opgen_operator.specs.Reaches.{reach_of, reach_over}
-use Rattle.opgen_operator.specs.Spans.{IsOf}
-use Rattle.opgen_operator.proofs.Bounds.{products}
-use Rattle.opgen_operator.proofs.Covered.{covered}
-use Rattle.opgen_operator.proofs.In128.{small_in128}
-use Rattle.opgen_operator.proofs.InputPorts.{all_one, input_bit, HasBit}
+use Rattle.opgen_ports.specs.Limits.{most_signal}
+use Rattle.opgen_ports.specs.PortNumbers.{format_at, IsCycle, number_of, output_numbers}
+use Rattle.opgen_ports.specs.Ports.{port}
+use Rattle.opgen_ports.specs.Ranges.{IsInput, IsWithin}
+use Rattle.opgen_ports.specs.Reaches.{reach_of, reach_over}
+use Rattle.opgen_ports.specs.Spans.{IsOf}
+use Rattle.opgen_ports.proofs.Bounds.{products}
+use Rattle.opgen_ports.proofs.Covered.{covered}
+use Rattle.opgen_ports.proofs.In128.{small_in128}
+use Rattle.opgen_ports.proofs.InputPorts.{all_one, input_bit, HasBit}
 use Rattle.opgen_operator.proofs.Lawful.{IsLawful}
-use Rattle.opgen_operator.proofs.Magnitudes.{product_within, number_small}
+use Rattle.opgen_ports.proofs.Magnitudes.{product_within, number_small}
 use Rattle.opgen_operator.proofs.Named.{are_good, names}
 use Rattle.opgen_operator.proofs.PortWidths.{wider}
-use Rattle.opgen_operator.proofs.Reached.{held-within, sum_within}
-use Rattle.opgen_operator.proofs.Versions.{signal_limit}
-use Rattle.opgen_operator.proofs.Widths.{width_within, narrow_reach, some_width}
+use Rattle.opgen_ports.proofs.Reached.{held-within, sum_within}
+use Rattle.opgen_ports.proofs.Versions.{signal_limit}
+use Rattle.opgen_ports.proofs.Widths.{width_within, narrow_reach, some_width}
 
 length-numbered : (n : ℕ) (fs : List Format) → length (numbered n fs) ≡ length fs
 length-numbered n [] = refl
@@ -122,6 +124,10 @@ multiples_held input t x of =
     (λ k. held-within input.signed input.width x of) in
     covered (reach_over input (t ∷ [])) input.lsb (x *ℤ t) (omega (arith, ints, low), omega (arith, ints, high))
 
+-- from the law of all operators, of any input and constant
+pub multiples_of : OutputsHold → (input : Format) (t x : ℤ) → IsOf input x → IsOf (constant_format input t) (x *ℤ t)
+multiples_of hold input t x of = hold (Mcm (record { input = input; constants = []; extra = 0 })) t x of
+
 multiple_in128 : (t x : ℤ) → IsWithin 2047 t → unsigned_abs x ≤ 2 ^ 48 → IsRatioIn128 (exact_multiple t x)
 multiple_in128 t x few small =
     let bound : unsigned_abs (x *ℤ t) ≤ 2 ^ 59 = product_within x t 48 11 small (omega (arith, few)) in
@@ -165,6 +171,7 @@ several_lawful m = record {
   limit = λ version h. omega (arith, ints);
   least = λ h. omega (arith, ints);
   room = λ version within high. tt;
+  held = multiples_held m.input;
   in128 = λ version is inputs of.
       let x = number_small m.input (inputs 0 0) is.ranges.input (of 0 0 (omega arith)) in
       λ k t below. multiple_in128 (get_or m.constants k t) (inputs 0 0) (is.ranges.constants k t below) x;

@@ -11,24 +11,24 @@ use Rattle.opgen_num.proofs.BitLength.{power_order}
 use Rattle.opgen_num.specs.declared.format.Format.{Format}
 use Rattle.opgen_num.specs.Rounding.{IsRoot}
 use Rattle.opgen_operator.specs.declared.kinds.single.Single.{Single}
-use Rattle.opgen_operator.specs.declared.TheConstants.{MAX_SHIFT}
+use Rattle.opgen_ports.specs.declared.TheConstants.{MAX_SHIFT}
 use Rattle.opgen_operator.specs.Bounded.{HasWidth}
 use Rattle.opgen_operator.specs.kinds.Single.{IsSingle, root_ports, root_format, rest_format, root_shift, root_width, square, RootsAreNarrow, single_meaning}
-use Rattle.opgen_operator.specs.Limits.{most_signal}
-use Rattle.opgen_operator.specs.PortNumbers.{IsCycle}
-use Rattle.opgen_operator.specs.Ports.{port, with_rest}
-use Rattle.opgen_operator.specs.Shifts.{places_up}
-use Rattle.opgen_operator.specs.Spans.{IsOf}
-use Rattle.opgen_operator.proofs.Bounds.{few_up}
-use Rattle.opgen_operator.proofs.Covered.{unsigned_of}
-use Rattle.opgen_operator.proofs.Cycles.{main_word, rest_word}
-use Rattle.opgen_operator.proofs.In128.{whole_in128}
-use Rattle.opgen_operator.proofs.InputPorts.{all_one, all_two, input_bit, HasBit}
+use Rattle.opgen_ports.specs.Limits.{most_signal}
+use Rattle.opgen_ports.specs.PortNumbers.{IsCycle}
+use Rattle.opgen_ports.specs.Ports.{port, with_rest}
+use Rattle.opgen_ports.specs.Shifts.{places_up}
+use Rattle.opgen_ports.specs.Spans.{IsOf}
+use Rattle.opgen_ports.proofs.Bounds.{few_up}
+use Rattle.opgen_ports.proofs.Covered.{unsigned_of}
+use Rattle.opgen_ports.proofs.Cycles.{main_word, rest_word}
+use Rattle.opgen_ports.proofs.In128.{whole_in128}
+use Rattle.opgen_ports.proofs.InputPorts.{all_one, all_two, input_bit, HasBit}
 use Rattle.opgen_operator.proofs.Lawful.{IsLawful}
-use Rattle.opgen_operator.proofs.Magnitudes.{fits_small, number_small}
+use Rattle.opgen_ports.proofs.Magnitudes.{fits_small, number_small}
 use Rattle.opgen_operator.proofs.Named.{are_good, names}
 use Rattle.opgen_operator.proofs.PortWidths.{wider}
-use Rattle.opgen_operator.proofs.Versions.{signal_limit}
+use Rattle.opgen_ports.proofs.Versions.{signal_limit}
 
 pub root_input_fits : (r : Single) (n : ℤ) → IsSingle r → unsigned_abs n ≤ 2 ^ r.input.width → FitsSigned w128 n
 root_input_fits r n fits small = fits_small n (omega (arith, small, power_order r.input.width 48 fits.input.most))
@@ -102,6 +102,7 @@ single_lawful r = record {
   limit = λ version h. h;
   least = λ h. omega (arith, ints, h);
   room = λ version within high. tt;
+  held = roots_held r;
   in128 = λ version is inputs of.
       let x = number_small r.input (inputs 0 0) is.ranges.input (of 0 0 (omega arith)) in
       whole_in128 (unsigned_abs (inputs 0 0)) (root_shift r) x is.fine.1;

@@ -10,18 +10,18 @@ use Rattle.opgen_num.specs.Rounding.{IsQuotient}
 use Rattle.opgen_operator.specs.declared.kinds.small_div.SmallDiv.{SmallDiv}
 use Rattle.opgen_operator.specs.Bounded.{HasWidth}
 use Rattle.opgen_operator.specs.kinds.SmallDiv.{small_rest_format, IsSmallDiv, small_quotient_format, small_ports, small_meaning}
-use Rattle.opgen_operator.specs.Limits.{most_signal}
-use Rattle.opgen_operator.specs.Ports.{with_rest}
-use Rattle.opgen_operator.specs.Spans.{IsOf}
-use Rattle.opgen_operator.proofs.Covered.{unsigned_of}
-use Rattle.opgen_operator.proofs.In128.{small_in128}
-use Rattle.opgen_operator.proofs.InputPorts.{all_one, all_two, input_bit, HasBit}
+use Rattle.opgen_ports.specs.Limits.{most_signal}
+use Rattle.opgen_ports.specs.Ports.{with_rest}
+use Rattle.opgen_ports.specs.Spans.{IsOf}
+use Rattle.opgen_ports.proofs.Covered.{unsigned_of}
+use Rattle.opgen_ports.proofs.In128.{small_in128}
+use Rattle.opgen_ports.proofs.InputPorts.{all_one, all_two, input_bit, HasBit}
 use Rattle.opgen_operator.proofs.Lawful.{IsLawful}
-use Rattle.opgen_operator.proofs.Magnitudes.{number_small}
+use Rattle.opgen_ports.proofs.Magnitudes.{number_small}
 use Rattle.opgen_operator.proofs.Named.{are_good, names}
 use Rattle.opgen_operator.proofs.PortWidths.{wider}
-use Rattle.opgen_operator.proofs.Versions.{signal_limit}
-use Rattle.opgen_operator.proofs.Widths.{count_some}
+use Rattle.opgen_ports.proofs.Versions.{signal_limit}
+use Rattle.opgen_ports.proofs.Widths.{count_some}
 
 pub small_rest_width : (c : SmallDiv) → IsSmallDiv c → (1 ≤ (small_rest_format c).width) × ((small_rest_format c).width ≤ 5)
 small_rest_width c fits = (
@@ -64,6 +64,7 @@ small_lawful c = record {
   limit = λ version h. omega (arith, ints);
   least = λ h. omega (arith, ints);
   room = λ version within high. tt;
+  held = small_quotients_held c;
   in128 = λ version is inputs of.
       let x = number_small c.input (inputs 0 0) is.ranges.input (of 0 0 (omega arith)) in (
         small_in128 (inputs 0 0) (omega (arith, x)),

@@ -12,27 +12,27 @@ use Rattle.opgen_num.proofs.RangeWidth.{count-least}
 use Rattle.opgen_operator.specs.declared.kinds.sum.Sum.{Sum}
 use Rattle.opgen_operator.specs.declared.operator.Kind.{Kind}
 use Rattle.opgen_operator.specs.declared.operator.Operator.TheVariants.{Scale, Fir}
-use Rattle.opgen_operator.specs.declared.TheConstants.{MAX_SHIFT}
+use Rattle.opgen_ports.specs.declared.TheConstants.{MAX_SHIFT}
 use Rattle.opgen_operator.specs.Bounded.{HasWidth}
-use Rattle.opgen_operator.specs.Good.{IsGoodRatio}
-use Rattle.opgen_operator.specs.In128.{IsRatioIn128}
+use Rattle.opgen_ports.specs.Good.{IsGoodRatio}
+use Rattle.opgen_ports.specs.In128.{IsRatioIn128}
 use Rattle.opgen_operator.specs.kinds.Sum.{most_sum_shift, sum_shift, HasSumRoom, IsSum, IsAcceptedSum, exact_sum, sum_reach, sum_places, sum_format, terms, guard_bits, guard_for, first_inexact, tables, IsEntrySmall, EntriesAreSmall, sum_need, sum_meaning}
-use Rattle.opgen_operator.specs.Limits.{most_input, most_signal}
+use Rattle.opgen_ports.specs.Limits.{most_input, most_signal}
 use Rattle.opgen_operator.specs.Operator.{IsAcceptedBy, IsAccepted}
-use Rattle.opgen_operator.specs.Ranges.{IsWithin}
-use Rattle.opgen_operator.specs.Reaches.{reach_of, in_places}
-use Rattle.opgen_operator.specs.Recent.{Recent, weighted}
-use Rattle.opgen_operator.specs.Shifts.{places_up, places_down, up, down}
-use Rattle.opgen_operator.specs.Spans.{IsOf, Spans}
-use Rattle.opgen_operator.proofs.Bounds.{few_up, few_units, products, few_down}
-use Rattle.opgen_operator.proofs.Covered.{rounded_within, covered}
-use Rattle.opgen_operator.proofs.In128.{input_small, raised_in128, lowered_in128, weighted_small}
-use Rattle.opgen_operator.proofs.InputPorts.{only_within, all_one, input_bit, HasBit}
+use Rattle.opgen_ports.specs.Ranges.{IsWithin}
+use Rattle.opgen_ports.specs.Reaches.{reach_of, in_places}
+use Rattle.opgen_ports.specs.Recent.{Recent, weighted}
+use Rattle.opgen_ports.specs.Shifts.{places_up, places_down, up, down}
+use Rattle.opgen_ports.specs.Spans.{IsOf, Spans}
+use Rattle.opgen_ports.proofs.Bounds.{few_up, few_units, products, few_down}
+use Rattle.opgen_ports.proofs.Covered.{rounded_within, covered}
+use Rattle.opgen_ports.proofs.In128.{input_small, raised_in128, lowered_in128, weighted_small}
+use Rattle.opgen_ports.proofs.InputPorts.{only_within, all_one, input_bit, HasBit}
 use Rattle.opgen_operator.proofs.Lawful.{IsLawful}
-use Rattle.opgen_operator.proofs.Reached.{held-within, within-held, sum_within, lowest, highest_for, lowest-within, highest-within, sum_lowest, sum_highest, low_end, high_end, least_end, greatest_end}
+use Rattle.opgen_ports.proofs.Reached.{held-within, within-held, sum_within, lowest, highest_for, lowest-within, highest-within, sum_lowest, sum_highest, low_end, high_end, least_end, greatest_end}
 use Rattle.opgen_operator.proofs.Roundings.{positive_units}
-use Rattle.opgen_operator.proofs.WeightedSums.{taps_bound}
-use Rattle.opgen_operator.proofs.Widths.{some_width}
+use Rattle.opgen_ports.proofs.WeightedSums.{taps_bound}
+use Rattle.opgen_ports.proofs.Widths.{some_width}
 
 pub sum_shift_limit : (version : ℕ) (s : ℤ) → s ≤ℤ most_sum_shift version → s ≤ℤ MAX_SHIFT
 sum_shift_limit version s h = go (version == 1) h
@@ -182,6 +182,7 @@ sum_lawful word most s few = record {
   limit = λ version h. sum_shift_limit version (sum_shift s) h;
   least = λ h. h;
   room = λ version within high. sum_room version s (only_within (most_input version) s.input within) high;
+  held = sums_held s;
   in128 = λ version is inputs of. sum_in128 most s (inputs 0) few is.ranges is.fine.0
       (sum_room version s (only_within _ s.input is.inputs) is.fine.1) (λ ago. of 0 ago (omega arith));
 }

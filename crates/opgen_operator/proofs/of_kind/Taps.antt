@@ -9,19 +9,19 @@ use Rattle.opgen_num.proofs.BitLength.{power_order}
 use Rattle.opgen_operator.specs.declared.kinds.taps.Taps.{Taps}
 use Rattle.opgen_operator.specs.Bounded.{HasWidth}
 use Rattle.opgen_operator.specs.kinds.Taps.{IsTaps, taps_format, taps_meaning}
-use Rattle.opgen_operator.specs.Limits.{most_input, most_signal}
-use Rattle.opgen_operator.specs.Ranges.{IsWithin}
-use Rattle.opgen_operator.specs.Reaches.{above_zero, below_zero, rises, falls, reach_of, reach_over}
-use Rattle.opgen_operator.specs.Recent.{Recent, weighted}
-use Rattle.opgen_operator.specs.Spans.{IsOf}
-use Rattle.opgen_operator.proofs.Covered.{covered}
-use Rattle.opgen_operator.proofs.In128.{small_in128, input_small, weighted_small}
-use Rattle.opgen_operator.proofs.InputPorts.{all_one, only_within, input_bit, HasBit}
+use Rattle.opgen_ports.specs.Limits.{most_input, most_signal}
+use Rattle.opgen_ports.specs.Ranges.{IsWithin}
+use Rattle.opgen_ports.specs.Reaches.{above_zero, below_zero, rises, falls, reach_of, reach_over}
+use Rattle.opgen_ports.specs.Recent.{Recent, weighted}
+use Rattle.opgen_ports.specs.Spans.{IsOf}
+use Rattle.opgen_ports.proofs.Covered.{covered}
+use Rattle.opgen_ports.proofs.In128.{small_in128, input_small, weighted_small}
+use Rattle.opgen_ports.proofs.InputPorts.{all_one, only_within, input_bit, HasBit}
 use Rattle.opgen_operator.proofs.Lawful.{IsLawful}
-use Rattle.opgen_operator.proofs.Reached.{rises-cons, falls-cons, held-within, sum_within}
-use Rattle.opgen_operator.proofs.Versions.{input_room}
-use Rattle.opgen_operator.proofs.WeightedSums.{taps_bound}
-use Rattle.opgen_operator.proofs.Widths.{reach_within, width_by, some_width}
+use Rattle.opgen_ports.proofs.Reached.{rises-cons, falls-cons, held-within, sum_within}
+use Rattle.opgen_ports.proofs.Versions.{input_room}
+use Rattle.opgen_ports.proofs.WeightedSums.{taps_bound}
+use Rattle.opgen_ports.proofs.Widths.{reach_within, width_by, some_width}
 
 -- taps are coefficients
 pub wide_taps : (f : Taps) → IsTaps f → All (IsWithin (2 ^ 30)) f.taps
@@ -73,6 +73,7 @@ taps_lawful f = record {
   limit = λ version h. omega (arith, ints);
   least = λ h. omega (arith, ints);
   room = λ version within high. tt;
+  held = taps_held f;
   in128 = λ version is inputs of.
       let taps = weighted_small f.input.width 0 f.taps (inputs 0) (wide_taps f is.ranges)
       (λ k. input_small f.input (inputs 0 k) (of 0 k (omega arith))) in

@@ -8,9 +8,9 @@ use Rattle.opgen_num.proofs.BitLength.{power_order}
 use Rattle.opgen_operator.specs.declared.kinds.poly.Poly.{Poly as Polynomial}
 use Rattle.opgen_operator.specs.kinds.Horner.{result_places, degree}
 use Rattle.opgen_operator.specs.kinds.Poly.{IsPoly, terms_from}
-use Rattle.opgen_operator.specs.Ranges.{IsWithin}
-use Rattle.opgen_operator.proofs.Magnitudes.{product_within}
-use Rattle.opgen_operator.proofs.WeightedSums.{bound_step}
+use Rattle.opgen_ports.specs.Ranges.{IsWithin}
+use Rattle.opgen_ports.proofs.Magnitudes.{product_within}
+use Rattle.opgen_ports.proofs.WeightedSums.{bound_step}
 
 -- so many places and powers
 pub few_places : (p : Polynomial) → IsPoly p → result_places p ≤ 16

@@ -5,15 +5,15 @@ use Rattle.opgen_num.specs.declared.format.Ratio.{Ratio}
 use Rattle.opgen_num.specs.Rounding.{IsQuotient}
 use Rattle.opgen_operator.specs.declared.kinds.pair.Pair.{Pair}
 use Rattle.opgen_operator.specs.declared.operator.Kind.TheVariants as kind_of
-use Rattle.opgen_operator.specs.declared.ports.PortFormat.{PortFormat}
+use Rattle.opgen_ports.specs.declared.ports.PortFormat.{PortFormat}
 use Rattle.opgen_operator.specs.Accepted.{IsAcceptable}
-use Rattle.opgen_operator.specs.Good.{IsGoodRatio}
-use Rattle.opgen_operator.specs.In128.{IsIn128, IsRatioIn128}
+use Rattle.opgen_ports.specs.Good.{IsGoodRatio}
+use Rattle.opgen_ports.specs.In128.{IsIn128, IsRatioIn128}
 use Rattle.opgen_operator.specs.Meaning.{Meaning}
-use Rattle.opgen_operator.specs.Ports.{port, unsigned, with_rest, two_inputs}
-use Rattle.opgen_operator.specs.Ranges.{IsPower, IsInput}
-use Rattle.opgen_operator.specs.Shifts.{places_up, up}
-use Rattle.opgen_operator.specs.Spans.{IsOf}
+use Rattle.opgen_ports.specs.Ports.{port, unsigned, with_rest, two_inputs}
+use Rattle.opgen_ports.specs.Ranges.{IsPower, IsInput}
+use Rattle.opgen_ports.specs.Shifts.{places_up, up}
+use Rattle.opgen_ports.specs.Spans.{IsOf}
 
 pub record IsPair (p : Pair) : Type 0 where
   pub a : IsInput p.a
@@ -48,6 +48,16 @@ abbrev pub IsGoodQuotient : (exact : Bool) → Pair → (a b q r : ℤ) → Type
 IsGoodQuotient true p a b q r = IsQuotient (dividend p a) (unsigned_abs b) (unsigned_abs q) (unsigned_abs r)
 IsGoodQuotient false p a b q r = IsGoodRatio false (exact_quotient p a b) q
 
+-- the format of the quotient holds every exact value, rounded down or up
+abbrev pub QuotientsHold : Pair → Type 0
+QuotientsHold p = IsPair p → pos 0 ≤ℤ pair_shift p → (a b : ℤ) → IsOf p.a a → IsOf p.b b → b ≢ pos 0
+    → (y : ℤ) → IsGoodRatio false (exact_quotient p a b) y → IsOf (quotient_format p) y
+
+-- and that of the remainder every remainder
+abbrev pub RemaindersHold : Pair → Type 0
+RemaindersHold p = IsPair p → (a b : ℤ) → IsOf p.b b
+    → (q r : ℕ) → IsQuotient (dividend p a) (unsigned_abs b) q r → IsOf (remainder_format p) (pos r)
+
 -- what a quotient means: its divisor is not 0
 abbrev pub pair_meaning : Pair → Meaning
 pair_meaning p = record {
@@ -66,18 +76,9 @@ pair_meaning p = record {
   own_mark = Some p.exact;
   IsExactIn128 = λ inputs. IsRatioIn128 (exact_quotient p (inputs 0 0) (inputs 1 0)) × IsIn128 (pos (dividend p (inputs 0 0)));
   IsGood = λ exact inputs outputs. IsGoodQuotient exact p (inputs 0 0) (inputs 1 0) (outputs 0) (outputs 1);
+  FormatsHold = QuotientsHold p × RemaindersHold p;
   has_graph = false;
 }
 
 abbrev pub IsAcceptedPair : Pair → Type 0
 IsAcceptedPair p = IsAcceptable (pair_meaning p)
-
--- the format of the quotient holds every exact value, rounded down or up
-abbrev pub QuotientsHold : Type 0
-QuotientsHold = (p : Pair) → IsPair p → pos 0 ≤ℤ pair_shift p → (a b : ℤ) → IsOf p.a a → IsOf p.b b → b ≢ pos 0
-    → (y : ℤ) → IsGoodRatio false (exact_quotient p a b) y → IsOf (quotient_format p) y
-
--- and that of the remainder every remainder
-abbrev pub RemaindersHold : Type 0
-RemaindersHold = (p : Pair) → IsPair p → (a b : ℤ) → IsOf p.b b
-    → (q r : ℕ) → IsQuotient (dividend p a) (unsigned_abs b) q r → IsOf (remainder_format p) (pos r)

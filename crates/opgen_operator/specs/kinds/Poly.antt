@@ -6,12 +6,12 @@ use Rattle.opgen_num.specs.Formats.{range_width, is_negative}
 use Rattle.opgen_operator.specs.declared.kinds.poly.Poly.{Poly as Polynomial}
 use Rattle.opgen_operator.specs.declared.operator.Kind.TheVariants as kind_of
 use Rattle.opgen_operator.specs.Accepted.{IsAcceptable}
-use Rattle.opgen_operator.specs.Good.{IsGoodRatio}
-use Rattle.opgen_operator.specs.In128.{IsRatioIn128}
+use Rattle.opgen_ports.specs.Good.{IsGoodRatio}
+use Rattle.opgen_ports.specs.In128.{IsRatioIn128}
 use Rattle.opgen_operator.specs.kinds.Horner.{degree, result_places, poly_guard, guarded, partial_width, all_guarded, result_low, result_high}
 use Rattle.opgen_operator.specs.Meaning.{Meaning}
-use Rattle.opgen_operator.specs.Ports.{port, one_input}
-use Rattle.opgen_operator.specs.Ranges.{IsInput, IsWithin}
+use Rattle.opgen_ports.specs.Ports.{port, one_input}
+use Rattle.opgen_ports.specs.Ranges.{IsInput, IsWithin}
 
 -- the input is below 1
 pub record IsPoly (p : Polynomial) : Type 0 where
@@ -43,7 +43,8 @@ exact_poly p x = record {
   den = p.den *ℤ pos (2 ^ (p.input.width * degree p));
 }
 
--- what a polynomial means
+-- What a polynomial means. Nothing is said of what its format holds: that holds the results of Horner's rule, and not each exact value
+-- rounded up. The result for 10 / 3 is 3, whose two bits do not hold 4.
 abbrev pub poly_meaning : Polynomial → Meaning
 poly_meaning p = record {
   kind = kind_of.Poly;
@@ -61,6 +62,7 @@ poly_meaning p = record {
   own_mark = None;
   IsExactIn128 = λ inputs. IsRatioIn128 (exact_poly p (inputs 0 0));
   IsGood = λ exact inputs outputs. IsGoodRatio exact (exact_poly p (inputs 0 0)) (outputs 0);
+  FormatsHold = Unit {0};
   has_graph = false;
 }
 

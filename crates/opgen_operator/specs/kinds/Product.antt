@@ -4,16 +4,16 @@ use Rattle.opgen_num.specs.declared.format.Format.{Format}
 use Rattle.opgen_num.specs.declared.format.Ratio.{Ratio}
 use Rattle.opgen_operator.specs.declared.kinds.product.Product.{Product}
 use Rattle.opgen_operator.specs.declared.operator.Kind.TheVariants as kind_of
-use Rattle.opgen_operator.specs.declared.reach.Reach.{Reach}
+use Rattle.opgen_ports.specs.declared.reach.Reach.{Reach}
 use Rattle.opgen_operator.specs.Accepted.{IsAcceptable}
-use Rattle.opgen_operator.specs.Good.{IsGoodRatio}
-use Rattle.opgen_operator.specs.In128.{IsRatioIn128}
+use Rattle.opgen_ports.specs.Good.{IsGoodRatio}
+use Rattle.opgen_ports.specs.In128.{IsRatioIn128}
 use Rattle.opgen_operator.specs.Meaning.{Meaning}
-use Rattle.opgen_operator.specs.Ports.{port, covering, two_inputs}
-use Rattle.opgen_operator.specs.Ranges.{IsPower, IsInput}
-use Rattle.opgen_operator.specs.Reaches.{reach_of, in_places, width_of}
-use Rattle.opgen_operator.specs.Shifts.{places_up, places_down, up, down}
-use Rattle.opgen_operator.specs.Spans.{IsOf, Spans}
+use Rattle.opgen_ports.specs.Ports.{port, covering, two_inputs}
+use Rattle.opgen_ports.specs.Ranges.{IsPower, IsInput}
+use Rattle.opgen_ports.specs.Reaches.{reach_of, in_places, width_of}
+use Rattle.opgen_ports.specs.Shifts.{places_up, places_down, up, down}
+use Rattle.opgen_ports.specs.Spans.{IsOf, Spans}
 
 pub record IsProduct (p : Product) : Type 0 where
   pub a : IsInput p.a
@@ -45,6 +45,11 @@ product_format p = covering (product_places p) p.out_lsb
 abbrev pub exact_product : Product → (a b : ℤ) → Ratio
 exact_product p a b = record { num = (a *ℤ b) *ℤ pos (up (product_shift p)); den = pos (down (product_shift p)) }
 
+-- the format of the output holds every exact value, rounded down or up
+abbrev pub ProductsHold : Product → Type 0
+ProductsHold p = IsProduct p → (a b : ℤ) → IsOf p.a a → IsOf p.b b
+    → (y : ℤ) → IsGoodRatio false (exact_product p a b) y → IsOf (product_format p) y
+
 -- what a product means
 abbrev pub product_meaning : Product → Meaning
 product_meaning p = record {
@@ -63,6 +68,7 @@ product_meaning p = record {
   own_mark = None;
   IsExactIn128 = λ inputs. IsRatioIn128 (exact_product p (inputs 0 0) (inputs 1 0));
   IsGood = λ exact inputs outputs. IsGoodRatio exact (exact_product p (inputs 0 0) (inputs 1 0)) (outputs 0);
+  FormatsHold = ProductsHold p;
   has_graph = false;
 }
 
@@ -72,11 +78,6 @@ IsAcceptedProduct p = IsAcceptable (product_meaning p)
 -- and those of a product
 abbrev pub ProductsReach : Type 0
 ProductsReach = (p : Product) → IsProduct p → Spans (ℤ × ℤ) (λ x. IsOf p.a x.0 × IsOf p.b x.1) (λ x. exact_product p x.0 x.1) (product_places p)
-
--- the format of the output holds every exact value, rounded down or up
-abbrev pub ProductsHold : Type 0
-ProductsHold = (p : Product) → IsProduct p → (a b : ℤ) → IsOf p.a a → IsOf p.b b
-    → (y : ℤ) → IsGoodRatio false (exact_product p a b) y → IsOf (product_format p) y
 
 -- The range of a product in units of the output's last place passes 128 bits only where it is shifted up. The output has then
 -- so many bits more than the plain product.

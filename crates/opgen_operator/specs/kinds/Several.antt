@@ -5,15 +5,15 @@ use Rattle.opgen_num.specs.declared.format.Format.{Format}
 use Rattle.opgen_num.specs.declared.format.Ratio.{Ratio}
 use Rattle.opgen_operator.specs.declared.kinds.several.Several.{Several}
 use Rattle.opgen_operator.specs.declared.operator.Kind.TheVariants as kind_of
-use Rattle.opgen_operator.specs.declared.ports.PortFormat.{PortFormat}
+use Rattle.opgen_ports.specs.declared.ports.PortFormat.{PortFormat}
 use Rattle.opgen_operator.specs.Accepted.{IsAcceptable}
-use Rattle.opgen_operator.specs.Good.{IsGoodRatio}
-use Rattle.opgen_operator.specs.In128.{IsRatioIn128}
+use Rattle.opgen_ports.specs.Good.{IsGoodRatio}
+use Rattle.opgen_ports.specs.In128.{IsRatioIn128}
 use Rattle.opgen_operator.specs.Meaning.{Meaning}
-use Rattle.opgen_operator.specs.Ports.{port, covering, one_input}
-use Rattle.opgen_operator.specs.Ranges.{IsInput, IsWithin}
-use Rattle.opgen_operator.specs.Reaches.{reach_over}
-use Rattle.opgen_operator.specs.Spans.{IsOf}
+use Rattle.opgen_ports.specs.Ports.{port, covering, one_input}
+use Rattle.opgen_ports.specs.Ranges.{IsInput, IsWithin}
+use Rattle.opgen_ports.specs.Reaches.{reach_over}
+use Rattle.opgen_ports.specs.Spans.{IsOf}
 
 pub record IsSeveral (m : Several) : Type 0 where
   pub input : IsInput m.input
@@ -43,6 +43,10 @@ abbrev pub AreGoodMultiples : (exact : Bool) (constants : List ℤ) (x : ℤ) (o
 AreGoodMultiples exact constants x outputs =
     (k : ℕ) (t : ℤ) → slice_get constants k ≡ Some t → IsGoodRatio exact (exact_multiple t x) (outputs k)
 
+-- the format of an output holds every multiple
+abbrev pub MultiplesHold : Several → Type 0
+MultiplesHold m = (constant x : ℤ) → IsOf m.input x → IsOf (constant_format m.input constant) (x *ℤ constant)
+
 -- what several multiples mean
 abbrev pub several_meaning : Several → Meaning
 several_meaning m = record {
@@ -61,12 +65,9 @@ several_meaning m = record {
   own_mark = None;
   IsExactIn128 = λ inputs. All (λ t. IsRatioIn128 (exact_multiple t (inputs 0 0))) m.constants;
   IsGood = λ exact inputs outputs. AreGoodMultiples exact m.constants (inputs 0 0) outputs;
+  FormatsHold = MultiplesHold m;
   has_graph = true;
 }
 
 abbrev pub IsAcceptedSeveral : Several → Type 0
 IsAcceptedSeveral m = IsAcceptable (several_meaning m)
-
--- the format of an output holds every multiple
-abbrev pub MultiplesHold : Type 0
-MultiplesHold = (input : Format) (constant x : ℤ) → IsOf input x → IsOf (constant_format input constant) (x *ℤ constant)

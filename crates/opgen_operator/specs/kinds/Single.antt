@@ -5,15 +5,15 @@ use Rattle.opgen_num.specs.declared.format.Format.{Format}
 use Rattle.opgen_num.specs.Rounding.{IsGoodRoot, IsRoot}
 use Rattle.opgen_operator.specs.declared.kinds.single.Single.{Single}
 use Rattle.opgen_operator.specs.declared.operator.Kind.TheVariants as kind_of
-use Rattle.opgen_operator.specs.declared.ports.PortFormat.{PortFormat}
+use Rattle.opgen_ports.specs.declared.ports.PortFormat.{PortFormat}
 use Rattle.opgen_operator.specs.Accepted.{IsAcceptedIn, IsAcceptable}
-use Rattle.opgen_operator.specs.In128.{IsIn128}
-use Rattle.opgen_operator.specs.Limits.{most_signal}
+use Rattle.opgen_ports.specs.In128.{IsIn128}
+use Rattle.opgen_ports.specs.Limits.{most_signal}
 use Rattle.opgen_operator.specs.Meaning.{Meaning}
-use Rattle.opgen_operator.specs.Ports.{port, unsigned, with_rest, one_input}
-use Rattle.opgen_operator.specs.Ranges.{IsPower, IsInput}
-use Rattle.opgen_operator.specs.Shifts.{places_up, up}
-use Rattle.opgen_operator.specs.Spans.{IsOf}
+use Rattle.opgen_ports.specs.Ports.{port, unsigned, with_rest, one_input}
+use Rattle.opgen_ports.specs.Ranges.{IsPower, IsInput}
+use Rattle.opgen_ports.specs.Shifts.{places_up, up}
+use Rattle.opgen_ports.specs.Spans.{IsOf}
 
 pub record IsSingle (r : Single) : Type 0 where
   pub input : IsInput r.input
@@ -46,6 +46,12 @@ abbrev pub IsGoodSquareRoot : (exact : Bool) → Single → (x y r : ℤ) → Ty
 IsGoodSquareRoot true s x y r = IsRoot (square s x) (unsigned_abs y) (unsigned_abs r)
 IsGoodSquareRoot false s x y r = IsGoodRoot (square s x) (unsigned_abs y)
 
+-- The formats hold every root rounded down, and its remainder. Rounded up it can be 2 ^ k where the output has k bits, as that of
+-- 255 in 8 bits.
+abbrev pub RootsHold : Single → Type 0
+RootsHold r = IsSingle r → (x : ℤ) → IsOf r.input x
+    → (y rest : ℕ) → IsRoot (square r x) y rest → IsOf (root_format r) (pos y) × IsOf (rest_format r) (pos rest)
+
 -- what a root means
 abbrev pub single_meaning : Single → Meaning
 single_meaning r = record {
@@ -64,17 +70,12 @@ single_meaning r = record {
   own_mark = Some r.exact;
   IsExactIn128 = λ inputs. IsIn128 (pos (square r (inputs 0 0)));
   IsGood = λ exact inputs outputs. IsGoodSquareRoot exact r (inputs 0 0) (outputs 0) (outputs 1);
+  FormatsHold = RootsHold r;
   has_graph = false;
 }
 
 abbrev pub IsAcceptedSingle : Single → Type 0
 IsAcceptedSingle r = IsAcceptable (single_meaning r)
-
--- The formats hold every root rounded down, and its remainder. Rounded up it can be 2 ^ k where the output has k bits, as that of
--- 255 in 8 bits.
-abbrev pub RootsHold : Type 0
-RootsHold = (r : Single) → IsSingle r → (x : ℤ) → IsOf r.input x
-    → (y rest : ℕ) → IsRoot (square r x) y rest → IsOf (root_format r) (pos y) × IsOf (rest_format r) (pos rest)
 
 -- The differences that a root takes of its remainders have three bits more than the root, and stay within each version's limit.
 abbrev pub RootsAreNarrow : Type 0

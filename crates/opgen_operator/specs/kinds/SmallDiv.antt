@@ -6,14 +6,14 @@ use Rattle.opgen_num.specs.Formats.{digit_count}
 use Rattle.opgen_num.specs.Rounding.{IsQuotient}
 use Rattle.opgen_operator.specs.declared.kinds.small_div.SmallDiv.{SmallDiv}
 use Rattle.opgen_operator.specs.declared.operator.Kind.TheVariants as kind_of
-use Rattle.opgen_operator.specs.declared.ports.PortFormat.{PortFormat}
+use Rattle.opgen_ports.specs.declared.ports.PortFormat.{PortFormat}
 use Rattle.opgen_operator.specs.Accepted.{IsAcceptable}
-use Rattle.opgen_operator.specs.Good.{IsGoodRatio}
-use Rattle.opgen_operator.specs.In128.{IsRatioIn128}
+use Rattle.opgen_ports.specs.Good.{IsGoodRatio}
+use Rattle.opgen_ports.specs.In128.{IsRatioIn128}
 use Rattle.opgen_operator.specs.Meaning.{Meaning}
-use Rattle.opgen_operator.specs.Ports.{port, unsigned, with_rest, one_input}
-use Rattle.opgen_operator.specs.Ranges.{IsInput}
-use Rattle.opgen_operator.specs.Spans.{IsOf}
+use Rattle.opgen_ports.specs.Ports.{port, unsigned, with_rest, one_input}
+use Rattle.opgen_ports.specs.Ranges.{IsInput}
+use Rattle.opgen_ports.specs.Spans.{IsOf}
 
 pub record IsSmallDiv (c : SmallDiv) : Type 0 where
   pub input : IsInput c.input
@@ -41,6 +41,11 @@ abbrev pub IsGoodSmallQuotient : (exact : Bool) → SmallDiv → (x q r : ℤ) �
 IsGoodSmallQuotient true c x q r = IsQuotient (unsigned_abs x) c.divisor (unsigned_abs q) (unsigned_abs r)
 IsGoodSmallQuotient false c x q r = IsGoodRatio false (exact_small c x) q
 
+-- the formats hold every quotient rounded down, and its remainder
+abbrev pub SmallQuotientsHold : SmallDiv → Type 0
+SmallQuotientsHold c = IsSmallDiv c → (x : ℤ) → IsOf c.input x → (q r : ℕ) → IsQuotient (unsigned_abs x) c.divisor q r
+    → IsOf (small_quotient_format c) (pos q) × IsOf (small_rest_format c) (pos r)
+
 -- what a quotient by a small constant means
 abbrev pub small_meaning : SmallDiv → Meaning
 small_meaning c = record {
@@ -59,13 +64,9 @@ small_meaning c = record {
   own_mark = Some c.exact;
   IsExactIn128 = λ inputs. IsRatioIn128 (exact_small c (inputs 0 0));
   IsGood = λ exact inputs outputs. IsGoodSmallQuotient exact c (inputs 0 0) (outputs 0) (outputs 1);
+  FormatsHold = SmallQuotientsHold c;
   has_graph = false;
 }
 
 abbrev pub IsAcceptedSmallDiv : SmallDiv → Type 0
 IsAcceptedSmallDiv c = IsAcceptable (small_meaning c)
-
--- the formats hold every quotient rounded down, and its remainder
-abbrev pub SmallQuotientsHold : Type 0
-SmallQuotientsHold = (c : SmallDiv) → IsSmallDiv c → (x : ℤ) → IsOf c.input x → (q r : ℕ) → IsQuotient (unsigned_abs x) c.divisor q r
-    → IsOf (small_quotient_format c) (pos q) × IsOf (small_rest_format c) (pos r)

@@ -9,17 +9,17 @@ use Rattle.opgen_num.specs.Words.{word}
 use Rattle.opgen_operator.specs.declared.kinds.sum.Sum.{Sum}
 use Rattle.opgen_operator.specs.declared.operator.Kind.{Kind}
 use Rattle.opgen_operator.specs.declared.operator.Kind.TheVariants as kind_of
-use Rattle.opgen_operator.specs.declared.reach.Reach.{Reach}
+use Rattle.opgen_ports.specs.declared.reach.Reach.{Reach}
 use Rattle.opgen_operator.specs.Accepted.{IsAcceptable}
-use Rattle.opgen_operator.specs.Good.{IsGoodRatio}
-use Rattle.opgen_operator.specs.In128.{IsRatioIn128}
+use Rattle.opgen_ports.specs.Good.{IsGoodRatio}
+use Rattle.opgen_ports.specs.In128.{IsRatioIn128}
 use Rattle.opgen_operator.specs.Meaning.{Meaning}
-use Rattle.opgen_operator.specs.Ports.{port, covering, one_input}
-use Rattle.opgen_operator.specs.Ranges.{IsPower, IsInput, IsWithin}
-use Rattle.opgen_operator.specs.Reaches.{reach_over, in_places, width_of}
-use Rattle.opgen_operator.specs.Recent.{Recent, weighted}
-use Rattle.opgen_operator.specs.Shifts.{places_up, up, down}
-use Rattle.opgen_operator.specs.Spans.{IsOf, Spans}
+use Rattle.opgen_ports.specs.Ports.{port, covering, one_input}
+use Rattle.opgen_ports.specs.Ranges.{IsPower, IsInput, IsWithin}
+use Rattle.opgen_ports.specs.Reaches.{reach_over, in_places, width_of}
+use Rattle.opgen_ports.specs.Recent.{Recent, weighted}
+use Rattle.opgen_ports.specs.Shifts.{places_up, up, down}
+use Rattle.opgen_ports.specs.Spans.{IsOf, Spans}
 
 pub record IsSum (most : ℕ) (s : Sum) : Type 0 where
   pub input : IsInput s.input
@@ -83,6 +83,11 @@ sum_format s = covering (sum_places s) s.out_lsb
 abbrev pub exact_sum : Sum → Recent → Ratio
 exact_sum s x = record { num = weighted s.coefs x *ℤ pos (up (sum_shift s)); den = s.den *ℤ pos (down (sum_shift s)) }
 
+-- the format of the output holds every exact value, rounded down or up
+abbrev pub SumsHold : Sum → Type 0
+SumsHold s = IsSum 256 s → (x : Recent) → ((ago : ℕ) → IsOf s.input (x ago))
+    → (y : ℤ) → IsGoodRatio false (exact_sum s x) y → IsOf (sum_format s) y
+
 -- what a sum of so many coefficients at most means
 abbrev pub sum_meaning : Kind → (most : ℕ) → Sum → Meaning
 sum_meaning word most s = record {
@@ -101,6 +106,7 @@ sum_meaning word most s = record {
   own_mark = Some s.exact;
   IsExactIn128 = λ inputs. IsRatioIn128 (exact_sum s (inputs 0));
   IsGood = λ exact inputs outputs. IsGoodRatio exact (exact_sum s (inputs 0)) (outputs 0);
+  FormatsHold = SumsHold s;
   has_graph = false;
 }
 
@@ -117,11 +123,6 @@ IsAcceptedSum s = IsAcceptable (fir_meaning s)
 -- the exact values of a sum, over all inputs before the last cycle and in it
 abbrev pub SumsReach : Type 0
 SumsReach = (s : Sum) → IsSum 256 s → Spans Recent (λ x. (ago : ℕ) → IsOf s.input (x ago)) (exact_sum s) (sum_places s)
-
--- the format of the output holds every exact value, rounded down or up
-abbrev pub SumsHold : Type 0
-SumsHold = (s : Sum) → IsSum 256 s → (x : Recent) → ((ago : ℕ) → IsOf s.input (x ago))
-    → (y : ℤ) → IsGoodRatio false (exact_sum s x) y → IsOf (sum_format s) y
 
 -- A table of a sum has the numbers of some bits of its input, times one coefficient, in units of the output's last place with the
 -- guard bits below it: a numerator of 122 bits, since a coefficient has 30, the input and a shift up have 80, and there are 12

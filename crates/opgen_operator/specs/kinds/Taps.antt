@@ -5,15 +5,15 @@ use Rattle.opgen_num.specs.declared.format.Ratio.{Ratio}
 use Rattle.opgen_operator.specs.declared.kinds.taps.Taps.{Taps}
 use Rattle.opgen_operator.specs.declared.operator.Kind.TheVariants as kind_of
 use Rattle.opgen_operator.specs.Accepted.{IsAcceptable}
-use Rattle.opgen_operator.specs.Good.{IsGoodRatio}
-use Rattle.opgen_operator.specs.In128.{IsRatioIn128}
+use Rattle.opgen_ports.specs.Good.{IsGoodRatio}
+use Rattle.opgen_ports.specs.In128.{IsRatioIn128}
 use Rattle.opgen_operator.specs.Meaning.{Meaning}
-use Rattle.opgen_operator.specs.OddParts.{odd_part_count}
-use Rattle.opgen_operator.specs.Ports.{port, covering, one_input}
-use Rattle.opgen_operator.specs.Ranges.{IsInput, IsWithin}
-use Rattle.opgen_operator.specs.Reaches.{reach_over}
-use Rattle.opgen_operator.specs.Recent.{Recent, weighted}
-use Rattle.opgen_operator.specs.Spans.{IsOf}
+use Rattle.opgen_ports.specs.OddParts.{odd_part_count}
+use Rattle.opgen_ports.specs.Ports.{port, covering, one_input}
+use Rattle.opgen_ports.specs.Ranges.{IsInput, IsWithin}
+use Rattle.opgen_ports.specs.Reaches.{reach_over}
+use Rattle.opgen_ports.specs.Recent.{Recent, weighted}
+use Rattle.opgen_ports.specs.Spans.{IsOf}
 
 pub record IsTaps (f : Taps) : Type 0 where
   pub input : IsInput f.input
@@ -29,6 +29,10 @@ taps_format f = covering (reach_over f.input f.taps) f.input.lsb
 -- of whole taps
 abbrev pub exact_taps : Taps → Recent → Ratio
 exact_taps f x = record { num = weighted f.taps x; den = pos 1 }
+
+-- the format of the output holds every sum
+abbrev pub TapsHold : Taps → Type 0
+TapsHold f = (x : Recent) → ((ago : ℕ) → IsOf f.input (x ago)) → IsOf (taps_format f) (weighted f.taps x)
 
 -- what whole taps mean
 abbrev pub taps_meaning : Taps → Meaning
@@ -48,15 +52,12 @@ taps_meaning f = record {
   own_mark = None;
   IsExactIn128 = λ inputs. IsRatioIn128 (exact_taps f (inputs 0));
   IsGood = λ exact inputs outputs. IsGoodRatio exact (exact_taps f (inputs 0)) (outputs 0);
+  FormatsHold = TapsHold f;
   has_graph = true;
 }
 
 abbrev pub IsAcceptedTaps : Taps → Type 0
 IsAcceptedTaps f = IsAcceptable (taps_meaning f)
-
--- the format of the output holds every sum
-abbrev pub TapsHold : Type 0
-TapsHold = (f : Taps) (x : Recent) → ((ago : ℕ) → IsOf f.input (x ago)) → IsOf (taps_format f) (weighted f.taps x)
 
 -- The output of whole taps has 17 bits more than the input at most: 11 of a tap, 5 of their number and a sign; so 65 with an input of 48.
 abbrev pub TapsHaveRoom : Type 0

@@ -1,17 +1,18 @@
 //! Quotients of two unsigned inputs: what holds of them and of their remainders.
 ghost use Rattle.std.specs.Prelude.{◌≡◌, ◌+◌, ◌≤◌, ℤ, ◌≤ℤ◌, IfOk, pos, ◌≢◌, ◌↔◌, IsTrue};
-ghost use Rattle.opgen_operator.specs.Judged.{IsJudged};
+ghost use Rattle.opgen_operator.specs.Judged.{IsCycleJudged};
 ghost use Rattle.opgen_operator.specs.kinds.Pair.{quotient_format, remainder_format, IsPair, IsAcceptedPair, pair_shift, IsGoodQuotient, quotient_ports, pair_meaning};
-ghost use Rattle.opgen_operator.specs.PortNumbers.{output_numbers, IsHistory, IsCycle};
-ghost use Rattle.opgen_operator.specs.Ports.{two_inputs};
-ghost use Rattle.opgen_operator.specs.Shifts.{places_up};
-ghost use Rattle.opgen_operator.specs.Spans.{IsOf};
+ghost use Rattle.opgen_ports.specs.PortNumbers.{output_numbers, IsHistory, IsCycle};
+ghost use Rattle.opgen_ports.specs.Ports.{two_inputs};
+ghost use Rattle.opgen_ports.specs.Shifts.{places_up};
+ghost use Rattle.opgen_ports.specs.Spans.{IsOf};
 
-use crate::MAX_SHIFT;
-use crate::history::{last_two, output};
-use crate::ports::{PortFormat, operands, unsigned, with_rest};
-use crate::shifts::{places_up, raised};
 use opgen_num::{Format, MAX_WIDTH, good_linear, is_quotient};
+use opgen_ports::MAX_SHIFT;
+use opgen_ports::history::{last_two, output};
+use opgen_ports::ports::{PortFormat, operands, unsigned, with_rest};
+use opgen_ports::ranges::{is_input, is_power};
+use opgen_ports::shifts::{places_up, raised};
 use std::alloc::{AllocError, Global};
 
 /// The dividend `a` and the divisor `b`.
@@ -51,6 +52,17 @@ impl Pair {
         remainder_format(self)
     }
 
+    /// Whether the fields are within the ranges of their keys.
+    pub(crate) fn is_ranged(&self) -> bool
+        ensures { IsTrue result ↔ IsPair self.now }
+    {
+        is_input(self.a)
+            && is_input(self.b)
+            && !self.a.signed
+            && !self.b.signed
+            && is_power(self.out_lsb)
+    }
+
     /// The input ports, in order.
     pub(crate) fn inputs(&self, alloc: Global) -> Result<Vec<PortFormat>, AllocError>
         ensures { IfOk result (λ ports. ports.items ≡ two_inputs self.now.a self.now.b) }
@@ -71,7 +83,7 @@ impl Pair {
         requires accepted { IsAcceptedPair self.now }
         requires history { IsHistory (two_inputs self.now.a self.now.b) history.now }
         requires outputs { IsCycle (quotient_ports self.now.exact self.now) outputs.now }
-        ensures { IsJudged (pair_meaning self.now) self.now.exact history.now outputs.now result }
+        ensures { IsCycleJudged (pair_meaning self.now) self.now.exact history.now outputs.now result }
     {
         let (a, b) = last_two(self.a, self.b, history);
         quotient_is_good(self.exact, self, a, b, outputs)

@@ -1,19 +1,20 @@
 //! Polynomials of an unsigned input below 1: what holds of them, and the numbers of their circuit by Horner's rule.
-ghost use Rattle.std.specs.Prelude.{◌≡◌, ◌*◌, ◌≤◌, ◌^◌, [], ◌∷◌, ℤ, ◌≤ℤ◌, codes, IfOk, ◌<◌, pos, length, get_or, ◌*ℤ◌, unsigned_abs, ◌↔◌, IsTrue, drop};
-ghost use Rattle.opgen_operator.specs.Good.{IsGoodRatio};
-ghost use Rattle.opgen_operator.specs.Judged.{IsJudged};
+ghost use Rattle.std.specs.Prelude.{◌≡◌, ◌*◌, ◌≤◌, ◌^◌, [], ◌∷◌, ℤ, ◌≤ℤ◌, codes, IfOk, ◌<◌, pos, neg_ℤ, false, length, get_or, ◌*ℤ◌, unsigned_abs, ◌↔◌, IsTrue, drop};
+ghost use Rattle.opgen_ports.specs.Good.{IsGoodRatio};
+ghost use Rattle.opgen_operator.specs.Judged.{IsCycleJudged};
 ghost use Rattle.opgen_operator.specs.kinds.Horner.{degree, result_places, poly_guard, guarded, low_end, high_end, partial_width, all_guarded};
 ghost use Rattle.opgen_operator.specs.kinds.Poly.{exact_poly, terms_from, poly_format, IsPoly, poly_meaning, IsAcceptedPoly};
-ghost use Rattle.opgen_operator.specs.PortNumbers.{number_of, IsHistory, IsCycle};
-ghost use Rattle.opgen_operator.specs.Ports.{port, one_input};
-ghost use Rattle.opgen_operator.specs.Spans.{IsOf};
+ghost use Rattle.opgen_ports.specs.PortNumbers.{number_of, IsHistory, IsCycle};
+ghost use Rattle.opgen_ports.specs.Ports.{port, one_input};
+ghost use Rattle.opgen_ports.specs.Spans.{IsOf};
 
-use crate::history::{output, recent};
-use crate::ports::{PortFormat, one};
-use crate::shifts::{power, raised};
 use opgen_budget::guard;
 use opgen_list::Items;
 use opgen_num::{Format, good_linear, least_width, nearest};
+use opgen_ports::history::{output, recent};
+use opgen_ports::ports::{PortFormat, one};
+use opgen_ports::ranges::{are_within, is_denominator, is_input, is_length};
+use opgen_ports::shifts::{power, raised};
 use std::alloc::{AllocError, Global};
 
 /// The sum of `coefs` times powers of an unsigned input below 1, the constant one first, over the
@@ -110,6 +111,19 @@ impl Poly {
         }
     }
 
+    /// Whether the fields are within the ranges of their keys.
+    pub(crate) fn is_ranged(&self) -> bool
+        ensures { IsTrue result ↔ IsPoly self.now }
+    {
+        is_input(self.input)
+            && is_below_one(self.input)
+            && -16 <= self.out_lsb
+            && self.out_lsb <= 0
+            && is_length(2, 5, self.coefs.len())
+            && are_within(1 << 30, self.coefs.as_slice())
+            && is_denominator(self.den)
+    }
+
     /// The input ports, in order.
     pub(crate) fn inputs(&self, alloc: Global) -> Result<Vec<PortFormat>, AllocError>
         ensures { IfOk result (λ ports. ports.items ≡ one_input self.now.input) }
@@ -130,11 +144,18 @@ impl Poly {
         requires accepted { IsAcceptedPoly self.now }
         requires history { IsHistory (one_input self.now.input) history.now }
         requires outputs { IsCycle (port (codes "y") (poly_format self.now) ∷ []) outputs.now }
-        ensures { IsJudged (poly_meaning self.now) exact history.now outputs.now result }
+        ensures { IsCycleJudged (poly_meaning self.now) exact history.now outputs.now result }
     {
         let x = recent(self.input, history, 0);
         poly_is_good(exact, self, x, outputs[0])
     }
+}
+
+/// Whether a format is unsigned, has at most 16 bits and holds numbers below 1 alone.
+fn is_below_one(input: Format) -> bool
+    ensures { IsTrue result ↔ ((input.signed ≡ false) × (input.width ≤ 16) × (input.lsb ≡ neg_ℤ (pos input.width))) }
+{
+    !input.signed && input.width <= 16 && input.lsb == -(input.width as i32)
 }
 
 fn degree(poly: &Poly) -> u32

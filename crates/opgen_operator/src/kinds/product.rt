@@ -1,19 +1,20 @@
 //! Products of two inputs: what holds of them.
 ghost use Rattle.std.specs.Prelude.{◌≡◌, ◌+◌, ◌≤◌, ◌^◌, [], ◌∷◌, ℤ, neg_ℤ, ◌≤ℤ◌, codes, IfOk, ◌<◌, pos, negsuc, ◌↔◌, IsTrue};
-ghost use Rattle.opgen_operator.specs.Good.{IsGoodRatio};
-ghost use Rattle.opgen_operator.specs.Judged.{IsJudged};
+ghost use Rattle.opgen_ports.specs.Good.{IsGoodRatio};
+ghost use Rattle.opgen_operator.specs.Judged.{IsCycleJudged};
 ghost use Rattle.opgen_operator.specs.kinds.Product.{product_shift, product_format, IsProduct, IsAcceptedProduct, product_reach, product_places, product_need, exact_product, product_meaning};
-ghost use Rattle.opgen_operator.specs.PortNumbers.{number_of, IsHistory, IsCycle};
-ghost use Rattle.opgen_operator.specs.Ports.{port, two_inputs};
-ghost use Rattle.opgen_operator.specs.Reaches.{width_of};
-ghost use Rattle.opgen_operator.specs.Spans.{IsOf};
+ghost use Rattle.opgen_ports.specs.PortNumbers.{number_of, IsHistory, IsCycle};
+ghost use Rattle.opgen_ports.specs.Ports.{port, two_inputs};
+ghost use Rattle.opgen_ports.specs.Reaches.{width_of};
+ghost use Rattle.opgen_ports.specs.Spans.{IsOf};
 
-use crate::MAX_SHIFT;
-use crate::history::{last_two, output};
-use crate::ports::{PortFormat, one, operands};
-use crate::reach::{Reach, in_places, reach_of, width_of};
-use crate::shifts::{places_down, places_up, raised};
 use opgen_num::{Format, MAX_WIDTH, good_linear};
+use opgen_ports::MAX_SHIFT;
+use opgen_ports::history::{last_two, output};
+use opgen_ports::ports::{PortFormat, one, operands};
+use opgen_ports::ranges::{is_input, is_power};
+use opgen_ports::reach::{Reach, in_places, reach_of, width_of};
+use opgen_ports::shifts::{places_down, places_up, raised};
 use std::alloc::{AllocError, Global};
 
 #[derive(Clone, Copy, Debug, PartialEq, Eq)]
@@ -46,6 +47,16 @@ impl Product {
         product_format(self)
     }
 
+    /// Whether the fields are within the ranges of their keys.
+    pub(crate) fn is_ranged(&self) -> bool
+        ensures { IsTrue result ↔ IsProduct self.now }
+    {
+        is_input(self.a)
+            && is_input(self.b)
+            && self.a.signed == self.b.signed
+            && is_power(self.out_lsb)
+    }
+
     /// The input ports, in order.
     pub(crate) fn inputs(&self, alloc: Global) -> Result<Vec<PortFormat>, AllocError>
         ensures { IfOk result (λ ports. ports.items ≡ two_inputs self.now.a self.now.b) }
@@ -66,7 +77,7 @@ impl Product {
         requires accepted { IsAcceptedProduct self.now }
         requires history { IsHistory (two_inputs self.now.a self.now.b) history.now }
         requires outputs { IsCycle (port (codes "y") (product_format self.now) ∷ []) outputs.now }
-        ensures { IsJudged (product_meaning self.now) exact history.now outputs.now result }
+        ensures { IsCycleJudged (product_meaning self.now) exact history.now outputs.now result }
     {
         let (a, b) = last_two(self.a, self.b, history);
         product_is_good(exact, self, a, b, outputs[0])

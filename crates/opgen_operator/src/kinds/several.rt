@@ -1,18 +1,19 @@
 //! One input times several constants: what holds of the multiples.
 ghost use Rattle.std.specs.Fmt.{decimal};
 ghost use Rattle.std.specs.Prelude.{◌≡◌, ◌≤◌, ◌^◌, ◌++◌, map, codes, IfOk, ◌<◌, pos, length, get_or, unsigned_abs, ◌↔◌, IsTrue};
-ghost use Rattle.opgen_operator.specs.Good.{IsGoodRatio};
-ghost use Rattle.opgen_operator.specs.Judged.{IsJudged};
+ghost use Rattle.opgen_ports.specs.Good.{IsGoodRatio};
+ghost use Rattle.opgen_operator.specs.Judged.{IsCycleJudged};
 ghost use Rattle.opgen_operator.specs.kinds.Several.{constant_format, numbered, IsSeveral, IsAcceptedSeveral, exact_multiple, AreGoodMultiples, multiple_ports, several_meaning};
-ghost use Rattle.opgen_operator.specs.PortNumbers.{number_of, output_numbers, IsHistory, IsCycle};
-ghost use Rattle.opgen_operator.specs.Ports.{port, one_input};
-ghost use Rattle.opgen_operator.specs.Ranges.{IsInput, IsWithin};
+ghost use Rattle.opgen_ports.specs.PortNumbers.{number_of, output_numbers, IsHistory, IsCycle};
+ghost use Rattle.opgen_ports.specs.Ports.{port, one_input};
+ghost use Rattle.opgen_ports.specs.Ranges.{IsInput, IsWithin};
 
-use crate::history::{output, product, recent};
-use crate::ports::{PortFormat, covering, one};
-use crate::reach::reach_over;
 use opgen_list::{Items, Text};
 use opgen_num::{Format, MAX_INPUT, good_linear};
+use opgen_ports::history::{output, product, recent};
+use opgen_ports::ports::{PortFormat, covering, one};
+use opgen_ports::ranges::{are_within, is_input, is_length};
+use opgen_ports::reach::reach_over;
 use std::alloc::{AllocError, Global};
 
 #[derive(Drop)]
@@ -35,6 +36,16 @@ impl Several {
         constant_format(self.input, self.constants.as_slice()[place])
     }
 
+    /// Whether the fields are within the ranges of their keys.
+    pub(crate) fn is_ranged(&self) -> bool
+        ensures { IsTrue result ↔ IsSeveral self.now }
+    {
+        is_input(self.input)
+            && is_length(1, 8, self.constants.len())
+            && are_within(2047, self.constants.as_slice())
+            && self.extra <= 2
+    }
+
     /// The input ports, in order.
     pub(crate) fn inputs(&self, alloc: Global) -> Result<Vec<PortFormat>, AllocError>
         ensures { IfOk result (λ ports. ports.items ≡ one_input self.now.input) }
@@ -55,7 +66,7 @@ impl Several {
         requires accepted { IsAcceptedSeveral self.now }
         requires history { IsHistory (one_input self.now.input) history.now }
         requires outputs { IsCycle (multiple_ports self.now) outputs.now }
-        ensures { IsJudged (several_meaning self.now) exact history.now outputs.now result }
+        ensures { IsCycleJudged (several_meaning self.now) exact history.now outputs.now result }
     {
         let x = recent(self.input, history, 0);
         multiples_are_good(exact, self, x, outputs)

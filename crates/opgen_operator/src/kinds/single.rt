@@ -1,15 +1,16 @@
 //! Square roots of an unsigned input: what holds of them and of their remainders.
 ghost use Rattle.std.specs.Prelude.{◌≡◌, ◌≤◌, ◌^◌, ℤ, ◌≤ℤ◌, IfOk, pos, unsigned_abs, ◌↔◌, IsTrue};
-ghost use Rattle.opgen_operator.specs.Judged.{IsJudged};
+ghost use Rattle.opgen_operator.specs.Judged.{IsCycleJudged};
 ghost use Rattle.opgen_operator.specs.kinds.Single.{root_width, root_format, rest_format, IsSingle, IsAcceptedSingle, root_shift, IsGoodSquareRoot, root_ports, single_meaning};
-ghost use Rattle.opgen_operator.specs.PortNumbers.{output_numbers, IsHistory, IsCycle};
-ghost use Rattle.opgen_operator.specs.Ports.{one_input};
+ghost use Rattle.opgen_ports.specs.PortNumbers.{output_numbers, IsHistory, IsCycle};
+ghost use Rattle.opgen_ports.specs.Ports.{one_input};
 
-use crate::MAX_SHIFT;
-use crate::history::{output, recent};
-use crate::ports::{PortFormat, one, unsigned, with_rest};
-use crate::shifts::{places_up, raised};
 use opgen_num::{Format, good_root, is_root};
+use opgen_ports::MAX_SHIFT;
+use opgen_ports::history::{output, recent};
+use opgen_ports::ports::{PortFormat, one, unsigned, with_rest};
+use opgen_ports::ranges::{is_input, is_power};
+use opgen_ports::shifts::{places_up, raised};
 use std::alloc::{AllocError, Global};
 
 #[derive(Clone, Copy, Debug, PartialEq, Eq)]
@@ -48,6 +49,13 @@ impl Single {
         rest_format(self)
     }
 
+    /// Whether the fields are within the ranges of their keys.
+    pub(crate) fn is_ranged(&self) -> bool
+        ensures { IsTrue result ↔ IsSingle self.now }
+    {
+        is_input(self.input) && !self.input.signed && is_power(self.out_lsb)
+    }
+
     /// The input ports, in order.
     pub(crate) fn inputs(&self, alloc: Global) -> Result<Vec<PortFormat>, AllocError>
         ensures { IfOk result (λ ports. ports.items ≡ one_input self.now.input) }
@@ -68,7 +76,7 @@ impl Single {
         requires accepted { IsAcceptedSingle self.now }
         requires history { IsHistory (one_input self.now.input) history.now }
         requires outputs { IsCycle (root_ports self.now.exact self.now) outputs.now }
-        ensures { IsJudged (single_meaning self.now) self.now.exact history.now outputs.now result }
+        ensures { IsCycleJudged (single_meaning self.now) self.now.exact history.now outputs.now result }
     {
         let x = recent(self.input, history, 0);
         root_is_good(self.exact, self, x, outputs)

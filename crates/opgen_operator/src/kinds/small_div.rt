@@ -1,14 +1,15 @@
 //! Quotients of an unsigned input by a small constant: what holds of them and of their remainders.
 ghost use Rattle.std.specs.Prelude.{◌≡◌, ◌≤◌, IfOk, ◌↔◌, IsTrue};
-ghost use Rattle.opgen_operator.specs.Judged.{IsJudged};
+ghost use Rattle.opgen_operator.specs.Judged.{IsCycleJudged};
 ghost use Rattle.opgen_operator.specs.kinds.SmallDiv.{small_quotient_format, small_rest_format, IsSmallDiv, IsGoodSmallQuotient, small_ports, small_meaning, IsAcceptedSmallDiv};
-ghost use Rattle.opgen_operator.specs.PortNumbers.{output_numbers, IsHistory, IsCycle};
-ghost use Rattle.opgen_operator.specs.Ports.{one_input};
-ghost use Rattle.opgen_operator.specs.Spans.{IsOf};
+ghost use Rattle.opgen_ports.specs.PortNumbers.{output_numbers, IsHistory, IsCycle};
+ghost use Rattle.opgen_ports.specs.Ports.{one_input};
+ghost use Rattle.opgen_ports.specs.Spans.{IsOf};
 
-use crate::history::{output, recent};
-use crate::ports::{PortFormat, one, unsigned, with_rest};
 use opgen_num::{Format, bit_length, good_linear, is_quotient};
+use opgen_ports::history::{output, recent};
+use opgen_ports::ports::{PortFormat, one, unsigned, with_rest};
+use opgen_ports::ranges::is_input;
 use std::alloc::{AllocError, Global};
 
 /// An unsigned input, and the constant by which it is divided.
@@ -37,6 +38,13 @@ impl SmallDiv {
         unsigned(bit_length((self.divisor - 1).into()), self.input.lsb)
     }
 
+    /// Whether the fields are within the ranges of their keys.
+    pub(crate) fn is_ranged(&self) -> bool
+        ensures { IsTrue result ↔ IsSmallDiv self.now }
+    {
+        is_input(self.input) && !self.input.signed && 2 <= self.divisor && self.divisor <= 32
+    }
+
     /// The input ports, in order.
     pub(crate) fn inputs(&self, alloc: Global) -> Result<Vec<PortFormat>, AllocError>
         ensures { IfOk result (λ ports. ports.items ≡ one_input self.now.input) }
@@ -57,7 +65,7 @@ impl SmallDiv {
         requires accepted { IsAcceptedSmallDiv self.now }
         requires history { IsHistory (one_input self.now.input) history.now }
         requires outputs { IsCycle (small_ports self.now.exact self.now) outputs.now }
-        ensures { IsJudged (small_meaning self.now) self.now.exact history.now outputs.now result }
+        ensures { IsCycleJudged (small_meaning self.now) self.now.exact history.now outputs.now result }
     {
         let x = recent(self.input, history, 0);
         small_quotient_is_good(self.exact, self, x, outputs)

@@ -1,20 +1,21 @@
 //! Sums of the last inputs times constants: what holds of multiples of one input and of filters of finite response.
 ghost use Rattle.std.specs.Prelude.{◌≡◌, ◌+◌, ◌≤◌, ◌^◌, [], ◌∷◌, ℤ, neg_ℤ, ◌≤ℤ◌, codes, IfOk, ◌<◌, pos, length, negsuc, ◌↔◌, IsTrue};
-ghost use Rattle.opgen_operator.specs.Good.{IsGoodRatio};
-ghost use Rattle.opgen_operator.specs.Judged.{IsJudged};
+ghost use Rattle.opgen_ports.specs.Good.{IsGoodRatio};
+ghost use Rattle.opgen_operator.specs.Judged.{IsCycleJudged};
 ghost use Rattle.opgen_operator.specs.kinds.Sum.{sum_shift, HasSumRoom, sum_format, IsSum, IsAcceptedSum, guard_bits, is_whole, first_inexact, sum_reach, sum_places, terms, tables, sum_need, most_sum_shift, exact_sum, fir_meaning};
-ghost use Rattle.opgen_operator.specs.PortNumbers.{number_of, recent_numbers, IsHistory, IsCycle};
-ghost use Rattle.opgen_operator.specs.Ports.{port, one_input};
-ghost use Rattle.opgen_operator.specs.Ranges.{IsWithin};
+ghost use Rattle.opgen_ports.specs.PortNumbers.{number_of, recent_numbers, IsHistory, IsCycle};
+ghost use Rattle.opgen_ports.specs.Ports.{port, one_input};
+ghost use Rattle.opgen_ports.specs.Ranges.{IsWithin};
 
-use crate::MAX_SHIFT;
-use crate::history::{output, weighted};
-use crate::ports::{PortFormat, covering, one};
-use crate::reach::{Reach, in_places, reach_over, width_of};
-use crate::shifts::{places_down, places_up, raised, scaled, units};
 use opgen_budget::guard;
 use opgen_list::Items;
 use opgen_num::{Format, MAX_WIDTH, good_linear};
+use opgen_ports::MAX_SHIFT;
+use opgen_ports::history::{output, weighted};
+use opgen_ports::ports::{PortFormat, covering, one};
+use opgen_ports::ranges::{are_within, is_denominator, is_input, is_length, is_power};
+use opgen_ports::reach::{Reach, in_places, reach_over, width_of};
+use opgen_ports::shifts::{places_down, places_up, raised, scaled, units};
 use std::alloc::{AllocError, Global};
 
 /// A sum of the last inputs times `coefs`, over the common denominator `den`.
@@ -60,6 +61,17 @@ impl Sum {
         guard_bits(self)
     }
 
+    /// Whether the fields are within the ranges of their keys, with so many coefficients at most.
+    pub(crate) fn is_ranged(&self, most: usize) -> bool
+        ensures { IsTrue result ↔ IsSum most self.now }
+    {
+        is_input(self.input)
+            && is_power(self.out_lsb)
+            && is_length(1, most, self.coefs.len())
+            && are_within(1 << 30, self.coefs.as_slice())
+            && is_denominator(self.den)
+    }
+
     /// The input ports, in order.
     pub(crate) fn inputs(&self, alloc: Global) -> Result<Vec<PortFormat>, AllocError>
         ensures { IfOk result (λ ports. ports.items ≡ one_input self.now.input) }
@@ -80,7 +92,7 @@ impl Sum {
         requires accepted { IsAcceptedSum self.now }
         requires history { IsHistory (one_input self.now.input) history.now }
         requires outputs { IsCycle (port (codes "y") (sum_format self.now) ∷ []) outputs.now }
-        ensures { IsJudged (fir_meaning self.now) exact history.now outputs.now result }
+        ensures { IsCycleJudged (fir_meaning self.now) exact history.now outputs.now result }
     {
         sum_is_good(exact, self, history, outputs[0])
     }

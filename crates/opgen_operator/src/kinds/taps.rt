@@ -1,16 +1,18 @@
 //! Filters of whole coefficients in transposed form: what holds of them.
 ghost use Rattle.std.specs.Prelude.{◌≡◌, ◌≤◌, ◌^◌, [], ◌∷◌, codes, IfOk, ◌<◌, ◌↔◌, IsTrue};
-ghost use Rattle.opgen_operator.specs.Good.{IsGoodRatio};
-ghost use Rattle.opgen_operator.specs.Judged.{IsJudged};
+ghost use Rattle.opgen_ports.specs.Good.{IsGoodRatio};
+ghost use Rattle.opgen_operator.specs.Judged.{IsCycleJudged};
 ghost use Rattle.opgen_operator.specs.kinds.Taps.{taps_format, IsTaps, exact_taps, taps_meaning, IsAcceptedTaps};
-ghost use Rattle.opgen_operator.specs.PortNumbers.{number_of, recent_numbers, IsHistory, IsCycle};
-ghost use Rattle.opgen_operator.specs.Ports.{port, one_input};
+ghost use Rattle.opgen_ports.specs.PortNumbers.{number_of, recent_numbers, IsHistory, IsCycle};
+ghost use Rattle.opgen_ports.specs.Ports.{port, one_input};
 
-use crate::history::{output, weighted};
-use crate::ports::{PortFormat, covering, one};
-use crate::reach::reach_over;
 use opgen_list::Items;
 use opgen_num::{Format, good_linear};
+use opgen_ports::history::{output, weighted};
+use opgen_ports::odd_part_count;
+use opgen_ports::ports::{PortFormat, covering, one};
+use opgen_ports::ranges::{are_within, is_input, is_length};
+use opgen_ports::reach::reach_over;
 use std::alloc::{AllocError, Global};
 
 /// The sum of the last inputs times `taps`.
@@ -33,6 +35,17 @@ impl Taps {
         covering(reach_over(self.input, self.taps.as_slice()), self.input.lsb)
     }
 
+    /// Whether the fields are within the ranges of their keys.
+    pub(crate) fn is_ranged(&self) -> bool
+        ensures { IsTrue result ↔ IsTaps self.now }
+    {
+        is_input(self.input)
+            && is_length(1, 32, self.taps.len())
+            && are_within(2047, self.taps.as_slice())
+            && odd_part_count(self.taps.as_slice()) <= 8
+            && self.extra <= 2
+    }
+
     /// The input ports, in order.
     pub(crate) fn inputs(&self, alloc: Global) -> Result<Vec<PortFormat>, AllocError>
         ensures { IfOk result (λ ports. ports.items ≡ one_input self.now.input) }
@@ -53,7 +66,7 @@ impl Taps {
         requires accepted { IsAcceptedTaps self.now }
         requires history { IsHistory (one_input self.now.input) history.now }
         requires outputs { IsCycle (port (codes "y") (taps_format self.now) ∷ []) outputs.now }
-        ensures { IsJudged (taps_meaning self.now) exact history.now outputs.now result }
+        ensures { IsCycleJudged (taps_meaning self.now) exact history.now outputs.now result }
     {
         taps_are_good(exact, self, history, outputs[0])
     }

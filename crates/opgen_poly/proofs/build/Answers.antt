@@ -1,8 +1,8 @@
 use Rattle.std.proofs.Common.{sym, subst}
 use Rattle.opgen_operator.specs.declared.operator.Operator.TheVariants.{Poly}
-use Rattle.opgen_operator.specs.Fits.{FitsSpecsOf}
+use Rattle.opgen_operator.specs.Fits.{FitsInEachMode}
 use Rattle.opgen_poly.specs.Near.{ArePartialsNear}
-use Rattle.opgen_poly.proofs.Fits.{accepted, fits_specs}
+use Rattle.opgen_poly.proofs.Fits.{accepted, fits_modes}
 use Rattle.opgen_poly.proofs.Runs.{partials-near}
 use Rattle.opgen_poly.proofs.build.Goals as goal
 
@@ -17,4 +17,4 @@ returns-clause-near c =
 pub returns-clause-fits : goal.returns-clause-fits
 returns-clause-fits c =
     let p = c.args.poly.now in
-    subst (FitsSpecsOf (Poly p)) (sym c.in_ok-net.ensures.net) (fits_specs p c.requires)
+    subst (FitsInEachMode (Poly p)) (sym c.in_ok-net.ensures.net) (fits_modes p c.requires)

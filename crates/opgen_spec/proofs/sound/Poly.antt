@@ -4,18 +4,20 @@ use Rattle.std.specs.Prelude.{pos, negsuc, neg_ℤ, ◌≤ℤ◌}
 use Rattle.std.proofs.lemmas.Int.{ints}
 use Rattle.opgen_operator.specs.declared.operator.Kind.TheVariants as kind
 use Rattle.opgen_operator.specs.kinds.Poly.{IsPoly}
-use Rattle.opgen_operator.specs.Ranges.{IsPower}
-use Rattle.opgen_operator.proofs.InputPorts.{all_one, some_bits}
+use Rattle.opgen_ports.specs.Ranges.{IsPower}
+use Rattle.opgen_ports.proofs.InputPorts.{all_one, some_bits}
 use Rattle.toml.specs.Data.{Members}
-use Rattle.opgen_spec.specs.declared.key.Key.TheVariants as key
+use Rattle.opgen_document.specs.declared.key.Key.TheVariants as key
 use Rattle.opgen_spec.specs.kinds.{kind_of, entry}
 use Rattle.opgen_spec.proofs.sound.Sound.{IsFew, IsSound}
-use Rattle.opgen_spec.specs.Document.{value_at, number_at, flag_at, count_at, items_at, small}
-use Rattle.opgen_spec.specs.Ranges.{outside, width_outside, coefficients_outside, denominator_outside}
+use Rattle.opgen_document.specs.Document.{value_at, number_at, flag_at, count_at, items_at, small}
+use Rattle.opgen_document.specs.Ranges.{outside, width_outside, coefficients_outside, denominator_outside}
 use Rattle.opgen_spec.specs.kinds.Poly.{poly_of}
 use Rattle.opgen_spec.proofs.Fine.{AreFine, IsFine, own, own_range, not_late}
-use Rattle.opgen_spec.proofs.Ranges.{inside, widest, width_in, small_same, array_in, denominator_in}
-use Rattle.opgen_spec.proofs.Writing.{small_written, width_written, coefs_written}
+use Rattle.opgen_document.proofs.Ranges.{inside, small_same, denominator_in}
+use Rattle.opgen_spec.proofs.Ranges.{widest, width_in, array_in}
+use Rattle.opgen_document.proofs.Values.{small_written}
+use Rattle.opgen_spec.proofs.Writing.{width_written, coefs_written}
 
 record HasPoly (ms : Members) : Type 0 where
   fine : AreFine ms

@@ -1,13 +1,13 @@
 -- Products of a document without a fault.
 use Rattle.std.proofs.Common.{◌≡◌, ◌⊎◌, Some, None, refl}
 use Rattle.opgen_operator.specs.declared.operator.Kind.TheVariants as kind
-use Rattle.opgen_operator.proofs.InputPorts.{all_two}
+use Rattle.opgen_ports.proofs.InputPorts.{all_two}
 use Rattle.toml.specs.Data.{Members}
-use Rattle.opgen_spec.specs.declared.key.Key.TheVariants as key
+use Rattle.opgen_document.specs.declared.key.Key.TheVariants as key
 use Rattle.opgen_spec.specs.kinds.{kind_of, entry}
 use Rattle.opgen_spec.proofs.sound.Sound.{IsFew, IsSound}
-use Rattle.opgen_spec.specs.Document.{value_at}
-use Rattle.opgen_spec.specs.Ranges.{width_outside, power_outside}
+use Rattle.opgen_document.specs.Document.{value_at}
+use Rattle.opgen_document.specs.Ranges.{width_outside, power_outside}
 use Rattle.opgen_spec.proofs.Compressors.{IsTaken, compressor_cases, first_without, compressor_written}
 use Rattle.opgen_spec.proofs.Fine.{AreFine, IsFine, own}
 use Rattle.opgen_spec.proofs.Ranges.{widest, width_few, input_in, power_in}

@@ -1,12 +1,12 @@
 -- Square roots of a document without a fault.
 use Rattle.std.proofs.Common.{◌≡◌, Some, refl}
 use Rattle.opgen_operator.specs.declared.operator.Kind.TheVariants as kind
-use Rattle.opgen_operator.proofs.InputPorts.{all_one}
+use Rattle.opgen_ports.proofs.InputPorts.{all_one}
 use Rattle.toml.specs.Data.{Members}
-use Rattle.opgen_spec.specs.declared.key.Key.TheVariants as key
+use Rattle.opgen_document.specs.declared.key.Key.TheVariants as key
 use Rattle.opgen_spec.specs.kinds.{kind_of, entry}
 use Rattle.opgen_spec.proofs.sound.Sound.{IsFew, IsSound}
-use Rattle.opgen_spec.specs.Ranges.{width_outside, power_outside}
+use Rattle.opgen_document.specs.Ranges.{width_outside, power_outside}
 use Rattle.opgen_spec.proofs.Fine.{AreFine, IsFine, own}
 use Rattle.opgen_spec.proofs.Ranges.{widest, width_few, unsigned_in, power_in}
 use Rattle.opgen_spec.proofs.Writing.{input_written, unsigned_written, power_written}

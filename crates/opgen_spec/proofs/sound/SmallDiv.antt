@@ -2,16 +2,18 @@
 use Rattle.std.proofs.Common.{◌≡◌, Some, refl, arith}
 use Rattle.std.specs.Prelude.{pos}
 use Rattle.opgen_operator.specs.declared.operator.Kind.TheVariants as kind
-use Rattle.opgen_operator.proofs.InputPorts.{all_one}
+use Rattle.opgen_ports.proofs.InputPorts.{all_one}
 use Rattle.toml.specs.Data.{Members}
-use Rattle.opgen_spec.specs.declared.key.Key.TheVariants as key
+use Rattle.opgen_document.specs.declared.key.Key.TheVariants as key
 use Rattle.opgen_spec.specs.kinds.{kind_of, entry}
 use Rattle.opgen_spec.proofs.sound.Sound.{IsFew, IsSound}
-use Rattle.opgen_spec.specs.Document.{value_at, number_at}
-use Rattle.opgen_spec.specs.Ranges.{outside, width_outside, power_outside}
+use Rattle.opgen_document.specs.Document.{value_at, number_at}
+use Rattle.opgen_document.specs.Ranges.{outside, width_outside, power_outside}
 use Rattle.opgen_spec.proofs.Fine.{AreFine, IsFine, own, not_late}
-use Rattle.opgen_spec.proofs.Ranges.{inside, counted, widest, width_few, unsigned_in}
-use Rattle.opgen_spec.proofs.Writing.{count_written, input_written, unsigned_written}
+use Rattle.opgen_document.proofs.Ranges.{inside, counted}
+use Rattle.opgen_spec.proofs.Ranges.{widest, width_few, unsigned_in}
+use Rattle.opgen_document.proofs.Values.{count_written}
+use Rattle.opgen_spec.proofs.Writing.{input_written, unsigned_written}
 
 record HasSmallDiv (ms : Members) : Type 0 where
   width : IsFine ms key.Width (width_outside (widest ms) ms key.Width)

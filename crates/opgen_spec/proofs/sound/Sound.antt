@@ -3,12 +3,12 @@ use Rattle.std.proofs.Common.{◌≡◌, ◌≤◌, true, Some}
 use Rattle.std.specs.Prelude.{IsTrue}
 use Rattle.toml.specs.Data.{Members}
 use Rattle.opgen_operator.specs.declared.operator.Kind.{Kind}
-use Rattle.opgen_operator.specs.declared.ports.PortFormat.{PortFormat}
+use Rattle.opgen_ports.specs.declared.ports.PortFormat.{PortFormat}
 use Rattle.opgen_operator.specs.Operator.{HasInputsWithin, marks_exact, IsOperator, IsOfFirstVersion}
 use Rattle.opgen_operator.specs.Operator as operators
 use Rattle.opgen_operator.specs.Valid.{AgreesOnExact}
-use Rattle.opgen_spec.specs.declared.key.Key.TheVariants as key
-use Rattle.opgen_spec.specs.Document.{flag_at, is_first}
+use Rattle.opgen_document.specs.declared.key.Key.TheVariants as key
+use Rattle.opgen_document.specs.Document.{flag_at, is_first}
 use Rattle.opgen_spec.specs.kinds.{kind_of, entry, IsOperatorAsWritten}
 use Rattle.opgen_spec.proofs.Fine.{AreFine}
 use Rattle.opgen_spec.proofs.Ranges.{widest}

@@ -2,17 +2,18 @@
 use Rattle.std.proofs.Common.{◌≡◌, ℕ, ◌⊎◌, Some, None, option_and_then, refl}
 use Rattle.opgen_operator.specs.declared.operator.Kind.TheVariants as kind
 use Rattle.opgen_operator.specs.kinds.Sum.{IsSum}
-use Rattle.opgen_operator.proofs.InputPorts.{all_one}
+use Rattle.opgen_ports.proofs.InputPorts.{all_one}
 use Rattle.toml.specs.Data.{Members}
-use Rattle.opgen_spec.specs.declared.key.Key.TheVariants as key
+use Rattle.opgen_document.specs.declared.key.Key.TheVariants as key
 use Rattle.opgen_spec.specs.kinds.{kind_of, entry}
 use Rattle.opgen_spec.proofs.sound.Sound.{IsFew, IsSound}
-use Rattle.opgen_spec.specs.Document.{value_at, items_at}
-use Rattle.opgen_spec.specs.Ranges.{width_outside, power_outside, coefficients_outside, denominator_outside}
+use Rattle.opgen_document.specs.Document.{value_at, items_at}
+use Rattle.opgen_document.specs.Ranges.{width_outside, power_outside, coefficients_outside, denominator_outside}
 use Rattle.opgen_spec.specs.kinds.Sum.{sum_of, IsSumAsWritten}
 use Rattle.opgen_spec.proofs.Compressors.{IsTaken, compressor_cases, first_without, compressor_written}
 use Rattle.opgen_spec.proofs.Fine.{AreFine, IsFine, own, own_range}
-use Rattle.opgen_spec.proofs.Ranges.{widest, width_few, input_in, power_in, array_in, denominator_in}
+use Rattle.opgen_document.proofs.Ranges.{denominator_in}
+use Rattle.opgen_spec.proofs.Ranges.{widest, width_few, input_in, power_in, array_in}
 use Rattle.opgen_spec.proofs.Writing.{input_written, power_written, signed_written, coefs_written}
 
 -- what is known of the keys of a scale, or of a filter

@@ -3,19 +3,20 @@ use Rattle.std.proofs.Common.{◌≡◌, Some, None, refl, arith}
 use Rattle.std.specs.Prelude.{pos}
 use Rattle.std.proofs.lemmas.Int.{ints}
 use Rattle.opgen_operator.specs.declared.operator.Kind.TheVariants as kind
-use Rattle.opgen_operator.specs.OddParts.{odd_part_count}
-use Rattle.opgen_operator.proofs.InputPorts.{all_one}
+use Rattle.opgen_ports.specs.OddParts.{odd_part_count}
+use Rattle.opgen_ports.proofs.InputPorts.{all_one}
 use Rattle.toml.specs.Data.{Members}
-use Rattle.opgen_spec.specs.declared.key.Key.TheVariants as key
+use Rattle.opgen_document.specs.declared.key.Key.TheVariants as key
 use Rattle.opgen_spec.specs.kinds.{kind_of, entry}
 use Rattle.opgen_spec.proofs.sound.Sound.{IsFew, IsSound}
-use Rattle.opgen_spec.specs.Document.{value_at, items_at}
-use Rattle.opgen_spec.specs.Numbers.{numerators}
-use Rattle.opgen_spec.specs.Ranges.{outside, width_outside, power_outside, array_outside, extra_outside}
+use Rattle.opgen_document.specs.Document.{value_at, items_at}
+use Rattle.opgen_document.specs.Numbers.{numerators}
+use Rattle.opgen_document.specs.Ranges.{outside, width_outside, power_outside, array_outside, extra_outside}
 use Rattle.opgen_spec.specs.kinds.Taps.{taps_outside}
-use Rattle.opgen_spec.proofs.Decimals.{integers_written, numbers_typed}
+use Rattle.opgen_document.proofs.Decimals.{integers_written, numbers_typed}
 use Rattle.opgen_spec.proofs.Fine.{AreFine, IsFine, own, not_late}
-use Rattle.opgen_spec.proofs.Ranges.{inside, widest, width_few, input_in, extra_in, array_in}
+use Rattle.opgen_document.proofs.Ranges.{inside}
+use Rattle.opgen_spec.proofs.Ranges.{widest, width_few, input_in, extra_in, array_in}
 use Rattle.opgen_spec.proofs.Reading.{or_none}
 use Rattle.opgen_spec.proofs.Writing.{input_written, signed_written, extra_written}
 

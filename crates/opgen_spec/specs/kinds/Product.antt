@@ -2,16 +2,16 @@
 use Rattle.std.specs.Prelude.{◌≡◌, ℤ, Bool, true, Option, Some, None}
 use Rattle.opgen_operator.specs.declared.kinds.product.Product.{Product}
 use Rattle.opgen_operator.specs.declared.operator.Operator.TheVariants as operator
-use Rattle.opgen_operator.specs.Limits.{most_input}
 use Rattle.toml.specs.Data.{boolean, integer, Members}
-use Rattle.opgen_spec.specs.declared.key.Key.{Key}
-use Rattle.opgen_spec.specs.declared.key.Key.TheVariants as key
-use Rattle.opgen_spec.specs.declared.stand.Stand.{Stand}
-use Rattle.opgen_spec.specs.declared.stand.Stand.TheVariants.{Absent, Needed}
-use Rattle.opgen_spec.specs.Document.{value_at, text_at, count_at, small_at}
-use Rattle.opgen_spec.specs.Fields.{format_at, counters_at, IsInputAsWritten, IsCompressorAsWritten}
-use Rattle.opgen_spec.specs.Ranges.{width_outside, power_outside, compressor_outside}
-use Rattle.opgen_spec.specs.Entry.{Entry, later}
+use Rattle.opgen_document.specs.declared.key.Key.{Key}
+use Rattle.opgen_document.specs.declared.key.Key.TheVariants as key
+use Rattle.opgen_document.specs.declared.stand.Stand.{Stand}
+use Rattle.opgen_document.specs.declared.stand.Stand.TheVariants.{Absent, Needed}
+use Rattle.opgen_document.specs.Document.{value_at, text_at, small_at}
+use Rattle.opgen_document.specs.Fields.{format_at, counters_at, IsInputAsWritten, IsCompressorAsWritten}
+use Rattle.opgen_document.specs.Ranges.{power_outside, compressor_outside}
+use Rattle.opgen_document.specs.Keys.{later}
+use Rattle.opgen_spec.specs.Entry.{Entry, input_outside}
 
 abbrev pub stand : (first : Bool) → Key → Stand
 stand first key.Signed = Needed
@@ -24,9 +24,9 @@ stand first key.Compressor = later first
 stand first _ = Absent
 
 abbrev pub key_outside : Members → Key → Option ℤ
-key_outside ms key.WidthA = width_outside (most_input (count_at ms key.Version)) ms key.WidthA
+key_outside ms key.WidthA = input_outside ms key.WidthA
 key_outside ms key.LsbA = power_outside ms key.LsbA
-key_outside ms key.WidthB = width_outside (most_input (count_at ms key.Version)) ms key.WidthB
+key_outside ms key.WidthB = input_outside ms key.WidthB
 key_outside ms key.LsbB = power_outside ms key.LsbB
 key_outside ms key.OutLsb = power_outside ms key.OutLsb
 key_outside ms key.Compressor = compressor_outside (text_at ms key.Compressor)

@@ -2,18 +2,17 @@
 use Rattle.std.specs.Prelude.{◌≡◌, ℤ, pos, true, Option, Some, None}
 use Rattle.opgen_operator.specs.declared.kinds.several.Several.{Several}
 use Rattle.opgen_operator.specs.declared.operator.Operator.TheVariants as operator
-use Rattle.opgen_operator.specs.Limits.{most_input}
 use Rattle.toml.specs.Data.{boolean, integer, Members}
-use Rattle.opgen_spec.specs.declared.key.Key.{Key}
-use Rattle.opgen_spec.specs.declared.key.Key.TheVariants as key
-use Rattle.opgen_spec.specs.declared.stand.Stand.{Stand}
-use Rattle.opgen_spec.specs.declared.stand.Stand.TheVariants.{Absent, Needed}
-use Rattle.opgen_spec.specs.Decimals.{AreNumerators}
-use Rattle.opgen_spec.specs.Document.{value_at, items_at, count_at}
-use Rattle.opgen_spec.specs.Fields.{format_at, IsInputAsWritten}
-use Rattle.opgen_spec.specs.Numbers.{numerators}
-use Rattle.opgen_spec.specs.Ranges.{width_outside, power_outside, array_outside, extra_outside}
-use Rattle.opgen_spec.specs.Entry.{Entry}
+use Rattle.opgen_document.specs.declared.key.Key.{Key}
+use Rattle.opgen_document.specs.declared.key.Key.TheVariants as key
+use Rattle.opgen_document.specs.declared.stand.Stand.{Stand}
+use Rattle.opgen_document.specs.declared.stand.Stand.TheVariants.{Absent, Needed}
+use Rattle.opgen_document.specs.Decimals.{AreNumerators}
+use Rattle.opgen_document.specs.Document.{value_at, items_at, count_at}
+use Rattle.opgen_document.specs.Fields.{format_at, IsInputAsWritten}
+use Rattle.opgen_document.specs.Numbers.{numerators}
+use Rattle.opgen_document.specs.Ranges.{power_outside, array_outside, extra_outside}
+use Rattle.opgen_spec.specs.Entry.{Entry, input_outside}
 
 abbrev pub stand : Key → Stand
 stand key.Signed = Needed
@@ -24,7 +23,7 @@ stand key.Extra = Needed
 stand _ = Absent
 
 abbrev pub key_outside : Members → Key → Option ℤ
-key_outside ms key.Width = width_outside (most_input (count_at ms key.Version)) ms key.Width
+key_outside ms key.Width = input_outside ms key.Width
 key_outside ms key.Lsb = power_outside ms key.Lsb
 key_outside ms key.Constants = array_outside 1 8 2047 (items_at ms key.Constants)
 key_outside ms key.Extra = extra_outside ms

@@ -2,16 +2,15 @@
 use Rattle.std.specs.Prelude.{◌≡◌, ℤ, true, Option, Some, None}
 use Rattle.opgen_operator.specs.declared.kinds.single.Single.{Single}
 use Rattle.opgen_operator.specs.declared.operator.Operator.TheVariants as operator
-use Rattle.opgen_operator.specs.Limits.{most_input}
 use Rattle.toml.specs.Data.{integer, Members}
-use Rattle.opgen_spec.specs.declared.key.Key.{Key}
-use Rattle.opgen_spec.specs.declared.key.Key.TheVariants as key
-use Rattle.opgen_spec.specs.declared.stand.Stand.{Stand}
-use Rattle.opgen_spec.specs.declared.stand.Stand.TheVariants.{Absent, Needed}
-use Rattle.opgen_spec.specs.Document.{value_at, flag_at, count_at, small_at}
-use Rattle.opgen_spec.specs.Fields.{unsigned_at, IsInputAsWritten}
-use Rattle.opgen_spec.specs.Ranges.{width_outside, power_outside}
-use Rattle.opgen_spec.specs.Entry.{Entry}
+use Rattle.opgen_document.specs.declared.key.Key.{Key}
+use Rattle.opgen_document.specs.declared.key.Key.TheVariants as key
+use Rattle.opgen_document.specs.declared.stand.Stand.{Stand}
+use Rattle.opgen_document.specs.declared.stand.Stand.TheVariants.{Absent, Needed}
+use Rattle.opgen_document.specs.Document.{value_at, flag_at, small_at}
+use Rattle.opgen_document.specs.Fields.{unsigned_at, IsInputAsWritten}
+use Rattle.opgen_document.specs.Ranges.{power_outside}
+use Rattle.opgen_spec.specs.Entry.{Entry, input_outside}
 
 abbrev pub stand : Key → Stand
 stand key.Width = Needed
@@ -20,7 +19,7 @@ stand key.OutLsb = Needed
 stand _ = Absent
 
 abbrev pub key_outside : Members → Key → Option ℤ
-key_outside ms key.Width = width_outside (most_input (count_at ms key.Version)) ms key.Width
+key_outside ms key.Width = input_outside ms key.Width
 key_outside ms key.Lsb = power_outside ms key.Lsb
 key_outside ms key.OutLsb = power_outside ms key.OutLsb
 key_outside ms _ = None

@@ -2,18 +2,18 @@
 use Rattle.std.specs.Prelude.{◌≡◌, ℕ, ℤ, Bool, true, Option, Some, None}
 use Rattle.opgen_operator.specs.declared.kinds.sum.Sum.{Sum}
 use Rattle.opgen_operator.specs.declared.operator.Operator.TheVariants as operator
-use Rattle.opgen_operator.specs.Limits.{most_input}
 use Rattle.toml.specs.Data.{boolean, integer, Members}
-use Rattle.opgen_spec.specs.declared.key.Key.{Key}
-use Rattle.opgen_spec.specs.declared.key.Key.TheVariants as key
-use Rattle.opgen_spec.specs.declared.stand.Stand.{Stand}
-use Rattle.opgen_spec.specs.declared.stand.Stand.TheVariants.{Absent, Optional, Needed}
-use Rattle.opgen_spec.specs.Decimals.{AreCoefficients}
-use Rattle.opgen_spec.specs.Document.{value_at, text_at, flag_at, items_at, count_at, small_at}
-use Rattle.opgen_spec.specs.Fields.{format_at, counters_at, IsInputAsWritten, IsCompressorAsWritten}
-use Rattle.opgen_spec.specs.Numbers.{numerators, denominator_of}
-use Rattle.opgen_spec.specs.Ranges.{width_outside, power_outside, coefficients_outside, denominator_outside, compressor_outside}
-use Rattle.opgen_spec.specs.Entry.{Entry, later}
+use Rattle.opgen_document.specs.declared.key.Key.{Key}
+use Rattle.opgen_document.specs.declared.key.Key.TheVariants as key
+use Rattle.opgen_document.specs.declared.stand.Stand.{Stand}
+use Rattle.opgen_document.specs.declared.stand.Stand.TheVariants.{Absent, Optional, Needed}
+use Rattle.opgen_document.specs.Decimals.{AreCoefficients}
+use Rattle.opgen_document.specs.Document.{value_at, text_at, flag_at, items_at, small_at}
+use Rattle.opgen_document.specs.Fields.{format_at, counters_at, IsInputAsWritten, IsCompressorAsWritten}
+use Rattle.opgen_document.specs.Numbers.{numerators, denominator_of}
+use Rattle.opgen_document.specs.Ranges.{power_outside, coefficients_outside, denominator_outside, compressor_outside}
+use Rattle.opgen_document.specs.Keys.{later}
+use Rattle.opgen_spec.specs.Entry.{Entry, input_outside}
 
 -- how a key stands in a document
 abbrev pub stand : (first : Bool) → Key → Stand
@@ -28,7 +28,7 @@ stand first _ = Absent
 
 -- what is out of range at a key, of an operator with so many coefficients at most
 abbrev pub key_outside : (most : ℕ) → Members → Key → Option ℤ
-key_outside most ms key.Width = width_outside (most_input (count_at ms key.Version)) ms key.Width
+key_outside most ms key.Width = input_outside ms key.Width
 key_outside most ms key.Lsb = power_outside ms key.Lsb
 key_outside most ms key.OutLsb = power_outside ms key.OutLsb
 key_outside most ms key.Coefficients = coefficients_outside 1 most ms

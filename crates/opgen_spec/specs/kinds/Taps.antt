@@ -3,19 +3,18 @@ use Rattle.std.specs.Prelude.{◌≡◌, ℤ, pos, false, Option, Some, None}
 use Rattle.std.specs.Option.{option_or}
 use Rattle.opgen_operator.specs.declared.kinds.taps.Taps.{Taps}
 use Rattle.opgen_operator.specs.declared.operator.Operator.TheVariants as operator
-use Rattle.opgen_operator.specs.Limits.{most_input}
-use Rattle.opgen_operator.specs.OddParts.{odd_part_count}
+use Rattle.opgen_ports.specs.OddParts.{odd_part_count}
 use Rattle.toml.specs.Data.{boolean, integer, Items, Members}
-use Rattle.opgen_spec.specs.declared.key.Key.{Key}
-use Rattle.opgen_spec.specs.declared.key.Key.TheVariants as key
-use Rattle.opgen_spec.specs.declared.stand.Stand.{Stand}
-use Rattle.opgen_spec.specs.declared.stand.Stand.TheVariants.{Absent, Needed}
-use Rattle.opgen_spec.specs.Decimals.{AreNumerators}
-use Rattle.opgen_spec.specs.Document.{value_at, items_at, count_at}
-use Rattle.opgen_spec.specs.Fields.{format_at, IsInputAsWritten}
-use Rattle.opgen_spec.specs.Numbers.{numerators}
-use Rattle.opgen_spec.specs.Ranges.{outside, array_outside, width_outside, power_outside, extra_outside}
-use Rattle.opgen_spec.specs.Entry.{Entry}
+use Rattle.opgen_document.specs.declared.key.Key.{Key}
+use Rattle.opgen_document.specs.declared.key.Key.TheVariants as key
+use Rattle.opgen_document.specs.declared.stand.Stand.{Stand}
+use Rattle.opgen_document.specs.declared.stand.Stand.TheVariants.{Absent, Needed}
+use Rattle.opgen_document.specs.Decimals.{AreNumerators}
+use Rattle.opgen_document.specs.Document.{value_at, items_at, count_at}
+use Rattle.opgen_document.specs.Fields.{format_at, IsInputAsWritten}
+use Rattle.opgen_document.specs.Numbers.{numerators}
+use Rattle.opgen_document.specs.Ranges.{outside, array_outside, power_outside, extra_outside}
+use Rattle.opgen_spec.specs.Entry.{Entry, input_outside}
 
 abbrev pub stand : Key → Stand
 stand key.Signed = Needed
@@ -31,7 +30,7 @@ taps_outside items =
     option_or (array_outside 1 32 2047 items) (outside (pos 0) (pos 8) (pos (odd_part_count (numerators items))))
 
 abbrev pub key_outside : Members → Key → Option ℤ
-key_outside ms key.Width = width_outside (most_input (count_at ms key.Version)) ms key.Width
+key_outside ms key.Width = input_outside ms key.Width
 key_outside ms key.Lsb = power_outside ms key.Lsb
 key_outside ms key.Taps = taps_outside (items_at ms key.Taps)
 key_outside ms key.Extra = extra_outside ms

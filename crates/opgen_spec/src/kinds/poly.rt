@@ -3,11 +3,10 @@ ghost use Rattle.std.specs.Prelude.{◌≡◌, IfOk};
 ghost use Rattle.toml.specs.View.{table_view};
 ghost use Rattle.opgen_spec.specs.kinds.Poly.{stand, key_outside, below_one_at, poly_of};
 
-use crate::document::{count_at, items_at, number_at, small, small_at};
-use crate::fields::{denominator_of, numerators};
-use crate::key::Key;
-use crate::range::{coefficients_outside, denominator_outside, outside, width_outside};
-use crate::stand::Stand;
+use opgen_document::{
+    Key, Stand, coefficients_outside, count_at, denominator_of, denominator_outside, items_at,
+    number_at, numerators, outside, small, small_at, width_outside,
+};
 use opgen_num::Format;
 use opgen_operator::Poly;
 use std::alloc::{AllocError, Global};

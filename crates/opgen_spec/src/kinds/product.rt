@@ -3,12 +3,11 @@ ghost use Rattle.std.specs.Prelude.{◌≡◌};
 ghost use Rattle.toml.specs.View.{table_view};
 ghost use Rattle.opgen_spec.specs.kinds.Product.{stand, key_outside, product_of};
 
-use crate::document::{count_at, small_at, text_at};
-use crate::fields::{counters_at, format_at};
-use crate::key::Key;
-use crate::range::{compressor_outside, power_outside, width_outside};
-use crate::stand::{Stand, later};
-use opgen_operator::{Product, most_input};
+use crate::kinds::input_outside;
+use opgen_document::{
+    Key, Stand, compressor_outside, counters_at, format_at, power_outside, small_at, text_at,
+};
+use opgen_operator::Product;
 use toml::Table;
 
 /// Whether version 1 has the kind.
@@ -21,7 +20,7 @@ pub(crate) fn stand(first: bool, key: Key) -> Stand
     match key {
         Key::Signed | Key::WidthA | Key::LsbA | Key::WidthB | Key::LsbB | Key::OutLsb =>
             Stand::Needed,
-        Key::Compressor => later(first),
+        Key::Compressor => Stand::later(first),
         _ => Stand::Absent,
     }
 }
@@ -31,11 +30,7 @@ pub(crate) fn key_outside(table: &Table, key: Key) -> Option<i64>
     ensures { result ≡ key_outside (table_view table.now) key }
 {
     match key {
-        Key::WidthA | Key::WidthB => width_outside(
-            most_input(count_at(table, Key::Version)),
-            table,
-            key,
-        ),
+        Key::WidthA | Key::WidthB => input_outside(table, key),
         Key::LsbA | Key::LsbB | Key::OutLsb => power_outside(table, key),
         Key::Compressor => compressor_outside(text_at(table, key)),
         _ => None,

@@ -3,12 +3,12 @@ ghost use Rattle.std.specs.Prelude.{◌≡◌, IfOk};
 ghost use Rattle.toml.specs.View.{table_view};
 ghost use Rattle.opgen_spec.specs.kinds.Several.{stand, key_outside, several_of};
 
-use crate::document::{count_at, items_at};
-use crate::fields::{format_at, numerators};
-use crate::key::Key;
-use crate::range::{MAX_CONSTANT, array_outside, extra_outside, power_outside, width_outside};
-use crate::stand::Stand;
-use opgen_operator::{Several, most_input};
+use crate::kinds::input_outside;
+use opgen_document::{
+    Key, MAX_CONSTANT, Stand, array_outside, count_at, extra_outside, format_at, items_at,
+    numerators, power_outside,
+};
+use opgen_operator::Several;
 use std::alloc::{AllocError, Global};
 use toml::Table;
 
@@ -30,7 +30,7 @@ pub(crate) fn key_outside(table: &Table, key: Key) -> Option<i64>
     ensures { result ≡ key_outside (table_view table.now) key }
 {
     match key {
-        Key::Width => width_outside(most_input(count_at(table, Key::Version)), table, key),
+        Key::Width => input_outside(table, key),
         Key::Lsb => power_outside(table, key),
         Key::Constants => array_outside(1, 8, MAX_CONSTANT, items_at(table, key)),
         Key::Extra => extra_outside(table),

@@ -3,12 +3,9 @@ ghost use Rattle.std.specs.Prelude.{◌≡◌};
 ghost use Rattle.toml.specs.View.{table_view};
 ghost use Rattle.opgen_spec.specs.kinds.Single.{stand, key_outside, single_of};
 
-use crate::document::{count_at, flag_at, small_at};
-use crate::fields::unsigned_at;
-use crate::key::Key;
-use crate::range::{power_outside, width_outside};
-use crate::stand::Stand;
-use opgen_operator::{Single, most_input};
+use crate::kinds::input_outside;
+use opgen_document::{Key, Stand, flag_at, power_outside, small_at, unsigned_at};
+use opgen_operator::Single;
 use toml::Table;
 
 /// Whether version 1 has the kind.
@@ -29,7 +26,7 @@ pub(crate) fn key_outside(table: &Table, key: Key) -> Option<i64>
     ensures { result ≡ key_outside (table_view table.now) key }
 {
     match key {
-        Key::Width => width_outside(most_input(count_at(table, Key::Version)), table, key),
+        Key::Width => input_outside(table, key),
         Key::Lsb | Key::OutLsb => power_outside(table, key),
         _ => None,
     }

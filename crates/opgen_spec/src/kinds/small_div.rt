@@ -3,12 +3,11 @@ ghost use Rattle.std.specs.Prelude.{◌≡◌};
 ghost use Rattle.toml.specs.View.{table_view};
 ghost use Rattle.opgen_spec.specs.kinds.SmallDiv.{stand, key_outside, small_div_of};
 
-use crate::document::{count_at, flag_at, number_at};
-use crate::fields::unsigned_at;
-use crate::key::Key;
-use crate::range::{outside, power_outside, width_outside};
-use crate::stand::Stand;
-use opgen_operator::{SmallDiv, most_input};
+use crate::kinds::input_outside;
+use opgen_document::{
+    Key, Stand, count_at, flag_at, number_at, outside, power_outside, unsigned_at,
+};
+use opgen_operator::SmallDiv;
 use toml::Table;
 
 /// Whether version 1 has the kind.
@@ -29,7 +28,7 @@ pub(crate) fn key_outside(table: &Table, key: Key) -> Option<i64>
     ensures { result ≡ key_outside (table_view table.now) key }
 {
     match key {
-        Key::Width => width_outside(most_input(count_at(table, Key::Version)), table, key),
+        Key::Width => input_outside(table, key),
         Key::Lsb => power_outside(table, key),
         Key::Divisor => outside(2, 32, number_at(table, key)),
         _ => None,

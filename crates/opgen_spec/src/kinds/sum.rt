@@ -3,14 +3,13 @@ ghost use Rattle.std.specs.Prelude.{◌≡◌, IfOk};
 ghost use Rattle.toml.specs.View.{table_view};
 ghost use Rattle.opgen_spec.specs.kinds.Sum.{stand, key_outside, sum_of};
 
-use crate::document::{count_at, flag_at, items_at, small_at, text_at};
-use crate::fields::{counters_at, denominator_of, format_at, numerators};
-use crate::key::Key;
-use crate::range::{
-    coefficients_outside, compressor_outside, denominator_outside, power_outside, width_outside,
+use crate::kinds::input_outside;
+use opgen_document::{
+    Key, Stand, coefficients_outside, compressor_outside, counters_at, denominator_of,
+    denominator_outside, flag_at, format_at, items_at, numerators, power_outside, small_at,
+    text_at,
 };
-use crate::stand::{Stand, later};
-use opgen_operator::{Sum, most_input};
+use opgen_operator::Sum;
 use std::alloc::{AllocError, Global};
 use toml::Table;
 
@@ -24,7 +23,7 @@ pub(crate) fn stand(first: bool, key: Key) -> Stand
     match key {
         Key::Signed | Key::Width | Key::Lsb | Key::OutLsb | Key::Coefficients => Stand::Needed,
         Key::Denominator => Stand::Optional,
-        Key::Compressor => later(first),
+        Key::Compressor => Stand::later(first),
         _ => Stand::Absent,
     }
 }
@@ -35,7 +34,7 @@ pub(crate) fn key_outside(most: u32, table: &Table, key: Key) -> Option<i64>
     ensures { result ≡ key_outside most (table_view table.now) key }
 {
     match key {
-        Key::Width => width_outside(most_input(count_at(table, Key::Version)), table, key),
+        Key::Width => input_outside(table, key),
         Key::Lsb | Key::OutLsb => power_outside(table, key),
         Key::Coefficients => coefficients_outside(1, most, table),
         Key::Denominator => denominator_outside(table),

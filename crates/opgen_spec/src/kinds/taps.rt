@@ -1,20 +1,17 @@
 //! What a document says of a transposed filter: its keys, their ranges, and the operator.
 ghost use Rattle.std.specs.Prelude.{◌≡◌, ◌≤◌, length, All, IfOk};
 ghost use Rattle.toml.specs.View.{items_view, table_view};
-ghost use Rattle.opgen_operator.specs.OddParts.{odd_part_count};
-ghost use Rattle.opgen_operator.specs.Ranges.{IsWithin};
+ghost use Rattle.opgen_ports.specs.OddParts.{odd_part_count};
+ghost use Rattle.opgen_ports.specs.Ranges.{IsWithin};
 ghost use Rattle.opgen_spec.specs.kinds.Taps.{stand, key_outside, taps_outside, taps_of};
-ghost use Rattle.opgen_spec.specs.Numbers.{numerators};
+ghost use Rattle.opgen_document.specs.Numbers.{numerators};
 
-use crate::document::{count_at, items_at};
-use crate::fields::{format_at, numerators};
-use crate::key::Key;
-use crate::range::{
-    MAX_CONSTANT, array_outside, coefficient, extra_outside, outside, places_among, power_outside,
-    width_outside,
+use crate::kinds::input_outside;
+use opgen_document::{
+    Key, MAX_CONSTANT, Stand, array_outside, coefficient, count_at, extra_outside, format_at,
+    items_at, numerators, outside, places_among, power_outside,
 };
-use crate::stand::Stand;
-use opgen_operator::{Taps, most_input, odd_part_count};
+use opgen_operator::{Taps, odd_part_count};
 use std::alloc::{AllocError, Global};
 use toml::{Table, Value};
 
@@ -63,7 +60,7 @@ pub(crate) fn key_outside(table: &Table, key: Key) -> Option<i64>
     ensures { result ≡ key_outside (table_view table.now) key }
 {
     match key {
-        Key::Width => width_outside(most_input(count_at(table, Key::Version)), table, key),
+        Key::Width => input_outside(table, key),
         Key::Lsb => power_outside(table, key),
         Key::Taps => taps_outside(items_at(table, key)),
         Key::Extra => extra_outside(table),

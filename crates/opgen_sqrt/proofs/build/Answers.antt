@@ -1,10 +1,10 @@
 use Rattle.std.proofs.Common.{sym, ap, ◌∙◌, subst, codes}
 use Rattle.opgen_operator.specs.declared.operator.Operator.TheVariants.{Root}
-use Rattle.opgen_operator.specs.Fits.{FitsSpecsOf}
+use Rattle.opgen_operator.specs.Fits.{FitsInEachMode}
 use Rattle.opgen_digits.specs.Digit.{Known}
 use Rattle.opgen_digits.specs.Results.{AreResults, with_results}
 use Rattle.opgen_sqrt.specs.Steps.{HoldsAfterEachStep}
-use Rattle.opgen_sqrt.proofs.Whole.{has_widths, root_bits, results, fits_specs, all_steps}
+use Rattle.opgen_sqrt.proofs.Whole.{has_widths, root_bits, results, fits_modes, all_steps}
 use Rattle.opgen_sqrt.proofs.build.Goals as goal
 
 pub output_results-requires-clause-results : goal.output_results-requires-clause-results
@@ -27,4 +27,4 @@ pub returns-clause-fits : goal.returns-clause-fits
 returns-clause-fits c =
     let r = c.args.single.now in
     let made = c.in_ok-output_results.ensures.ok ∙ ap (with_results r.exact (codes "y")) (sym c.in_ok-digits.ensures.ok) in
-    subst (FitsSpecsOf (Root r)) (sym made) (fits_specs r c.requires)
+    subst (FitsInEachMode (Root r)) (sym made) (fits_modes r c.requires)

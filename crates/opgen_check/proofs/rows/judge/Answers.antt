@@ -1,6 +1,5 @@
 use Rattle.std.proofs.Common.{map, sym, ◌∙◌, subst, arith}
 use Rattle.opgen_num.specs.Words.{AreRowsOfCells}
-use Rattle.opgen_design.specs.Sound.{HasNumbers}
 use Rattle.opgen_design.specs.Run.{initial_words, input_widths}
 use Rattle.opgen_operator.specs.Operator.{outputs_of}
 use Rattle.opgen_runs.specs.Rows.{IsRunOf}
@@ -13,54 +12,52 @@ use Rattle.opgen_check.proofs.rows.judge.Goals as goal
 pub overflow_sub-columns : goal.overflow_sub-columns
 overflow_sub-columns c =
     let spec = c.args.spec.now in
-    let d = c.args.design.now in
+    let d = c.args.design in
     omega (arith, c.len.ensures, c.requires.columns, in_columns spec d c.requires.ports, all_ports spec d c.requires.ports)
 
 pub run_rows-requires-clause-rows : goal.run_rows-requires-clause-rows
 run_rows-requires-clause-rows c =
-    let d = c.args.design.now in
+    let d = c.args.design in
     let cells = c.args.inputs.now.cells.items in
     let all = row_count c.args.inputs.now.columns cells in
     let lent = subst (AreRowsOfCells (input_widths d) all) (sym c.deref.ensures.value) c.requires.rows in
-    let counted = subst (λ n. AreRowsOfCells (input_widths d) n c.deref.result.now) (sym c.row_count-rows.ensures) lent in
-    subst (λ x. AreRowsOfCells (input_widths x) c.row_count-rows.result c.deref.result.now) (sym c.in_ok-copy.ensures) counted
+    subst (λ n. AreRowsOfCells (input_widths d) n c.deref.result.now) (sym c.row_count-rows.ensures) lent
 
 pub judge_rows-requires-clause-in_columns : goal.judge_rows-requires-clause-in_columns
-judge_rows-requires-clause-in_columns c = c.requires.columns ∙ in_columns c.args.spec.now c.args.design.now c.requires.ports
+judge_rows-requires-clause-in_columns c = c.requires.columns ∙ in_columns c.args.spec.now c.args.design c.requires.ports
 
 pub judge_rows-requires-clause-inputs : goal.judge_rows-requires-clause-inputs
 judge_rows-requires-clause-inputs c =
     let cells = c.args.inputs.now.cells.items in
-    subst (λ ws. AreRowsOfCells ws (row_count c.args.inputs.now.columns cells) cells) (in_widths c.args.spec.now c.args.design.now c.requires.ports)
+    subst (λ ws. AreRowsOfCells ws (row_count c.args.inputs.now.columns cells) cells) (in_widths c.args.spec.now c.args.design c.requires.ports)
     c.requires.rows
 
 pub judge_rows-requires-clause-columns : goal.judge_rows-requires-clause-columns
 judge_rows-requires-clause-columns c =
     let spec = c.args.spec.now in
-    let d = c.args.design.now in
+    let d = c.args.design in
     omega (arith, c.len.ensures, c.requires.columns, in_columns spec d c.requires.ports, all_ports spec d c.requires.ports)
 
 pub judge_rows-requires-clause-outputs : goal.judge_rows-requires-clause-outputs
 judge_rows-requires-clause-outputs c =
-    let d = c.args.design.now in
+    let d = c.args.design in
     let all = row_count c.args.inputs.now.columns c.args.inputs.now.cells.items in
-    let run = subst (λ x. IsRunOf x c.row_count-rows.result c.deref.result.now c.in_ok-outputs.outputs.items) c.in_ok-copy.ensures c.in_ok-outputs.ensures.run in
-    let fit = outputs_fit d (initial_words d.signals) c.row_count-rows.result c.deref.result.now c.in_ok-outputs.outputs.items run in
+    let outputs = c.in_ok-outputs.outputs.items in
+    let fit = outputs_fit d (initial_words d.signals) c.row_count-rows.result c.deref.result.now outputs c.in_ok-outputs.ensures.run in
     let widths = out_widths c.args.spec.now d c.requires.ports in
     let outs = map (λ p. p.format.width) (outputs_of c.args.spec.now) in
     subst (AreRowsOfCells outs all) (sym c.deref-2.ensures.value)
-    (subst (λ n. AreRowsOfCells outs n c.in_ok-outputs.outputs.items) c.row_count-rows.ensures
-    (subst (λ ws. AreRowsOfCells ws c.row_count-rows.result c.in_ok-outputs.outputs.items) widths fit))
+    (subst (λ n. AreRowsOfCells outs n outputs) c.row_count-rows.ensures
+    (subst (λ ws. AreRowsOfCells ws c.row_count-rows.result outputs) widths fit))
 
 pub returns-clause-checked : goal.returns-clause-checked
 returns-clause-checked c =
-    let d = c.args.design.now in
+    let d = c.args.design in
     let spec = c.args.spec.now in
     let cells = c.args.inputs.now.cells.items in
     let outputs = c.in_ok-outputs.outputs.items in
     let all = row_count c.args.inputs.now.columns cells in
-    let copied = subst (λ x. IsRunOf x c.row_count-rows.result c.deref.result.now outputs) c.in_ok-copy.ensures c.in_ok-outputs.ensures.run in
-    let lent = subst (λ xs. IsRunOf d c.row_count-rows.result xs outputs) c.deref.ensures.value copied in
+    let lent = subst (λ xs. IsRunOf d c.row_count-rows.result xs outputs) c.deref.ensures.value c.in_ok-outputs.ensures.run in
     record {
       outputs = outputs;
       run = subst (λ n. IsRunOf d n cells outputs) c.row_count-rows.ensures lent;
@@ -68,4 +65,4 @@ returns-clause-checked c =
     }
 
 pub returns-clause-numbers : goal.returns-clause-numbers
-returns-clause-numbers c = subst HasNumbers c.in_ok-copy.ensures c.in_ok-outputs.ensures.numbers
+returns-clause-numbers c = c.in_ok-outputs.ensures.numbers

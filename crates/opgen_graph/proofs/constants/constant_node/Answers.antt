@@ -9,7 +9,7 @@ use Rattle.opgen_net.specs.Placed.{Placed}
 use Rattle.opgen_net.specs.Valid.{widths}
 use Rattle.opgen_graph.specs.Placing.{factors}
 use Rattle.opgen_graph.specs.Recipe.{Multiples, negated, with_magnitude, with_constant}
-use Rattle.opgen_operator.specs.OddParts.{odd_part}
+use Rattle.opgen_ports.specs.OddParts.{odd_part}
 use Rattle.opgen_graph.proofs.Products.{magnitude-placed}
 use Rattle.opgen_graph.proofs.TargetLists.{some_number}
 use Rattle.opgen_graph.proofs.constants.constant_node.Goals as goal

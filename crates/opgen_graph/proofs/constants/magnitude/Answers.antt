@@ -1,6 +1,6 @@
 use Rattle.std.proofs.Common.{sym, subst}
 use Rattle.opgen_graph.specs.Placing.{IsNode}
-use Rattle.opgen_operator.specs.OddParts.{odd_part}
+use Rattle.opgen_ports.specs.OddParts.{odd_part}
 use Rattle.opgen_graph.proofs.Standing.{multiple_of-all}
 use Rattle.opgen_graph.proofs.constants.magnitude.Goals as goal
 

@@ -10,7 +10,7 @@ use Rattle.opgen_net.specs.Valid.{widths}
 use Rattle.opgen_operator.specs.declared.kinds.several.Several.{Several}
 use Rattle.opgen_operator.specs.declared.operator.Operator.TheVariants.{Mcm}
 use Rattle.opgen_operator.specs.kinds.Several.{IsAcceptedSeveral, constant_format}
-use Rattle.opgen_operator.specs.Ranges.{IsWithin}
+use Rattle.opgen_ports.specs.Ranges.{IsWithin}
 use Rattle.opgen_operator.proofs.Accepted.{accepted_ranges}
 use Rattle.opgen_graph.specs.Placing.{IsNode, HasOddPart}
 use Rattle.opgen_graph.specs.Recipe.{Multiples, with_constant, with_output}

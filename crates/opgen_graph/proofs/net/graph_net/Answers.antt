@@ -1,10 +1,10 @@
 use Rattle.std.proofs.Common.{◌≡◌, sym, subst, rules}
 use Rattle.std.specs.Prelude.{All}
 use Rattle.opgen_operator.specs.declared.operator.Operator.TheVariants.{Mcm}
-use Rattle.opgen_operator.specs.Fits.{FitsSpecsOf}
+use Rattle.opgen_operator.specs.Fits.{FitsInEachMode}
 use Rattle.opgen_graph.specs.Placing.{AreAdders, IsNode, HasOddPart}
 use Rattle.opgen_graph.specs.Recipe.{Multiples, net_of_graph}
-use Rattle.opgen_graph.proofs.Fits.{multiples, are_adders, ready, odd_parts, fits_specs}
+use Rattle.opgen_graph.proofs.Fits.{multiples, are_adders, ready, odd_parts, fits_modes}
 use Rattle.opgen_graph.proofs.Products.{ready_nodes}
 use Rattle.opgen_graph.proofs.net.graph_net.Goals as goal
 
@@ -40,5 +40,5 @@ returns-clause-fits c =
     let m = c.args.several.now in
     let graph = c.args.graph.now in
     let net : c.place_outputs.new.net ≡ net_of_graph graph m = search rules in
-    subst (FitsSpecsOf (Mcm m)) (sym net)
-    (fits_specs m c.requires.several graph c.requires.graph c.outputs_hold.ensures c.outputs_are_wide.ensures)
+    subst (FitsInEachMode (Mcm m)) (sym net)
+    (fits_modes m c.requires.several graph c.requires.graph c.outputs_hold.ensures)

@@ -5,7 +5,7 @@ use Rattle.std.specs.Int.{w64}
 use Rattle.std.proofs.lemmas.List.Elements.{All-cons, All-nil}
 use Rattle.opgen_num.specs.declared.format.Format.{Format}
 use Rattle.opgen_operator.specs.kinds.Taps.{taps_format, IsTaps}
-use Rattle.opgen_operator.specs.Ranges.{IsInput, IsWithin}
+use Rattle.opgen_ports.specs.Ranges.{IsInput, IsWithin}
 use Rattle.opgen_graph.proofs.PartLists.{count-within}
 use Rattle.opgen_graph.proofs.SmallNumbers.{word_of}
 use Rattle.opgen_graph.proofs.part_nodes.output_width.Goals as goal

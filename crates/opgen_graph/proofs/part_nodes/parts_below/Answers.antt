@@ -1,7 +1,7 @@
 use Rattle.std.proofs.Common.{◌≡◌, ◌++◌, ◌∷◌, [], ◌+◌, ℕ, List, Vec, Global, Bool, true, false, ap, sym, ◌∙◌, rules, add-one}
 use Rattle.std.specs.Prelude.{ℤ, if◌then◌else◌}
 use Rattle.std.specs.List.{list_any}
-use Rattle.opgen_operator.specs.OddParts.{has_part}
+use Rattle.opgen_ports.specs.OddParts.{has_part}
 use Rattle.opgen_graph.specs.Parts.{parts_below as parts_below_of}
 use Rattle.opgen_graph.proofs.part_nodes.parts_below.Goals.{then-any_has_odd_part+in_ok-push, else-any_has_odd_part}
 use Rattle.opgen_graph.proofs.part_nodes.parts_below.Goals as goal

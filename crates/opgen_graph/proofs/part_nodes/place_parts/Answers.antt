@@ -5,7 +5,7 @@ use Rattle.std.proofs.lemmas.List.Elements.{All-weaker, All-nil}
 use Rattle.opgen_num.specs.declared.format.Format.{Format}
 use Rattle.opgen_net.specs.Valid.{IsValid}
 use Rattle.opgen_operator.specs.Held.{OutputsHold}
-use Rattle.opgen_operator.specs.Ranges.{IsInput}
+use Rattle.opgen_ports.specs.Ranges.{IsInput}
 use Rattle.opgen_graph.proofs.PartNodes.{all-made}
 use Rattle.opgen_net.specs.declared.net.Net.{Net}
 use Rattle.opgen_net.specs.Placed.{Placed}

@@ -4,7 +4,6 @@ use Rattle.opgen_laws.proofs.answers.some_answer.Goals as goal
 pub returns : goal.returns
 returns c = some_answer (record {
   hold = c.outputs_hold.ensures;
-  wide = c.outputs_are_wide.ensures;
   widths = c.products_have_width.ensures;
   serve = c.circuits_serve.ensures;
 })

@@ -1,4 +1,4 @@
-use Rattle.opgen_operator.proofs.Held.{outputs_held}
+use Rattle.opgen_operator.proofs.Operators.{outputs_held}
 use Rattle.opgen_operator.proofs.laws.outputs_hold.Goals as goal
 
 pub returns : goal.returns

@@ -5,7 +5,7 @@ use Rattle.opgen_design.specs.Plain.{plain}
 use Rattle.opgen_vhdl.specs.Grammar.{operator}
 use Rattle.opgen_vhdl.specs.Reader.{eat, inside}
 use Rattle.opgen_vhdl.proofs.Expressions.{factor-shorter, operator_eaten, enough}
-use Rattle.opgen_cursor.specs.Left.{left}
+use Rattle.opgen_lex.specs.Left.{left}
 use Rattle.opgen_read.specs.Names.{names_in, joined}
 use Rattle.opgen_read.proofs.Operands.{operands-stop, operands-step, operands-fail, fails_too}
 use Rattle.opgen_read.proofs.expression.+expression.Goals as goal

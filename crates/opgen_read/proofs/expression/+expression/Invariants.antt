@@ -1,7 +1,7 @@
 use Rattle.std.proofs.Common.{◌≡◌, ◌+◌, ◌*◌, map, length}
 use Rattle.opgen_design.specs.Plain.{plain}
 use Rattle.opgen_vhdl.specs.Reader.{operands_at, inside}
-use Rattle.opgen_cursor.specs.Left.{left}
+use Rattle.opgen_lex.specs.Left.{left}
 use Rattle.opgen_read.specs.Names.{names_in, joined}
 use Rattle.opgen_read.proofs.expression.+expression.Given as goal
 

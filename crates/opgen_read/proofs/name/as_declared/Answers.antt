@@ -1,6 +1,6 @@
 use Rattle.std.proofs.Common.{◌∷◌, ap, sym, ◌∙◌, refl}
 use Rattle.opgen_vhdl.specs.Symbols.{symbol_of}
-use Rattle.opgen_cursor.specs.Left.{left}
+use Rattle.opgen_lex.specs.Left.{left}
 use Rattle.opgen_read.proofs.FirstName.{name_declared}
 use Rattle.opgen_read.proofs.name.as_declared.Goals as goal
 

@@ -1,7 +1,7 @@
 use Rattle.std.proofs.Common.{◌∷◌, ap, sym, ◌∙◌}
 use Rattle.opgen_vhdl.specs.Symbols.{symbol_of}
 use Rattle.opgen_vhdl.proofs.Steps.{name_some}
-use Rattle.opgen_cursor.specs.Left.{left, symbols_in}
+use Rattle.opgen_lex.specs.Left.{left, symbols_in}
 use Rattle.opgen_read.proofs.FirstName.{name_read, name_refused}
 use Rattle.opgen_read.proofs.name.name.Goals as goal
 

@@ -1,10 +1,10 @@
 use Rattle.std.proofs.Common.{arith}
 use Rattle.std.proofs.lemmas.Result.{err_from_is_err_and}
 use Rattle.opgen_lex.proofs.Cuts.{passed_start, passed-on}
-use Rattle.opgen_cursor.specs.Left.{left, symbols_in}
+use Rattle.opgen_lex.specs.Left.{left, symbols_in}
 use Rattle.opgen_read.specs.Seen.{seen}
 use Rattle.opgen_read.proofs.Reaching.{reached_start, reached_more, step_fault}
-use Rattle.opgen_cursor.proofs.SymbolsIn.{few_symbols}
+use Rattle.opgen_lex.proofs.SymbolsIn.{few_symbols}
 use Rattle.opgen_read.proofs.pieces.take_pieces.Goals as goal
 
 pub pieces-init : goal.pieces-init

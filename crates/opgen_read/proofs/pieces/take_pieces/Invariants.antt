@@ -1,6 +1,6 @@
 use Rattle.std.proofs.Common.{length, ◌≤◌, ◌+◌}
 use Rattle.opgen_lex.specs.First.{IsPassed}
-use Rattle.opgen_cursor.specs.Left.{symbols_in}
+use Rattle.opgen_lex.specs.Left.{symbols_in}
 use Rattle.opgen_read.specs.Reached.{Reached}
 use Rattle.opgen_read.specs.Seen.{seen}
 use Rattle.opgen_read.proofs.pieces.take_pieces.Given as goal

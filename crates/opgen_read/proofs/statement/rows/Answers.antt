@@ -1,7 +1,7 @@
 use Rattle.std.proofs.Common.{length, ap, sym, ◌∙◌, arith}
 use Rattle.opgen_vhdl.specs.Reader.{rows_at}
 use Rattle.opgen_vhdl.proofs.Takes.{row-shorter}
-use Rattle.opgen_cursor.specs.Left.{left}
+use Rattle.opgen_lex.specs.Left.{left}
 use Rattle.opgen_read.specs.Rows.{with_rows}
 use Rattle.opgen_read.proofs.TableRows.{rows-step, rows-stop, rows-fail}
 use Rattle.opgen_read.proofs.statement.rows.Goals as goal

@@ -1,6 +1,6 @@
 use Rattle.std.proofs.Common.{◌≡◌, length}
 use Rattle.opgen_vhdl.specs.Reader.{rows_at}
-use Rattle.opgen_cursor.specs.Left.{left}
+use Rattle.opgen_lex.specs.Left.{left}
 use Rattle.opgen_read.specs.Rows.{with_rows}
 use Rattle.opgen_read.proofs.statement.rows.Given as goal
 

@@ -1,7 +1,7 @@
 use Rattle.std.proofs.Common.{[], ◌∷◌, codes, sym, ◌∙◌}
 use Rattle.opgen_vhdl.specs.Symbols.{word}
-use Rattle.opgen_cursor.specs.Left.{left}
-use Rattle.opgen_cursor.proofs.Phrases.{eaten, all_eaten, phrase_read}
+use Rattle.opgen_lex.specs.Left.{left}
+use Rattle.opgen_lex.proofs.Phrases.{eaten, all_eaten, phrase_read}
 use Rattle.opgen_read.proofs.take.end_process.Goals as goal
 
 pub returns : goal.returns

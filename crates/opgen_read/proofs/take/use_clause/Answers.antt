@@ -3,8 +3,8 @@ use Rattle.std.proofs.Common.{map, codes, drop, sym, ◌∙◌}
 use Rattle.opgen_vhdl.specs.declared.kind.TokenKind.TheVariants.{Dot}
 use Rattle.opgen_vhdl.specs.Symbols.{mark, word}
 use Rattle.opgen_vhdl.specs.Reader.{use_clause}
-use Rattle.opgen_cursor.specs.Left.{left}
-use Rattle.opgen_cursor.proofs.Phrases.{eaten, all_eaten, phrase_read}
+use Rattle.opgen_lex.specs.Left.{left}
+use Rattle.opgen_lex.proofs.Phrases.{eaten, all_eaten, phrase_read}
 use Rattle.opgen_read.proofs.take.use_clause.Goals as goal
 
 pub returns : goal.returns

@@ -2,8 +2,8 @@ use Rattle.std.proofs.Common.{codes, drop, sym, ◌∙◌}
 use Rattle.opgen_vhdl.specs.declared.kind.TokenKind.TheVariants.{ZeroChar, RightParen, Arrow}
 use Rattle.opgen_vhdl.specs.Symbols.{mark, word}
 use Rattle.opgen_vhdl.specs.Reader.{others_zero}
-use Rattle.opgen_cursor.specs.Left.{left}
-use Rattle.opgen_cursor.proofs.Phrases.{eaten, all_eaten, phrase_read}
+use Rattle.opgen_lex.specs.Left.{left}
+use Rattle.opgen_lex.proofs.Phrases.{eaten, all_eaten, phrase_read}
 use Rattle.opgen_read.proofs.unit.others_zero.Goals as goal
 
 pub returns : goal.returns

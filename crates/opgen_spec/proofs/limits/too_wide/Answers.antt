@@ -1,9 +1,9 @@
 use Rattle.opgen_operator.specs.Operator.{least_shift, most_shift, shift}
 use Rattle.opgen_operator.proofs.Operators.{room}
-use Rattle.opgen_spec.specs.Ranges.{outside}
+use Rattle.opgen_document.specs.Ranges.{outside}
 use Rattle.opgen_spec.specs.declared.fault.SpecFault.TheVariants as fault
 use Rattle.opgen_spec.proofs.Fine.{map_none}
-use Rattle.opgen_spec.proofs.Ranges.{inside}
+use Rattle.opgen_document.proofs.Ranges.{inside}
 use Rattle.opgen_spec.proofs.limits.too_wide.Goals as goal
 
 pub need-requires-clause-room : goal.need-requires-clause-room

@@ -6,14 +6,14 @@ use Rattle.opgen_net.specs.Placed.{Placed}
 use Rattle.opgen_net.specs.Valid.{widths}
 use Rattle.opgen_operator.specs.declared.kinds.taps.Taps.{Taps}
 use Rattle.opgen_operator.specs.declared.operator.Operator.TheVariants.{Tfir}
-use Rattle.opgen_operator.specs.Fits.{FitsSpecsOf}
+use Rattle.opgen_operator.specs.Fits.{FitsInEachMode}
 use Rattle.opgen_operator.specs.kinds.Taps.{taps_format}
 use Rattle.opgen_graph.specs.declared.ranks.Graph.{Graph}
 use Rattle.opgen_graph.specs.Recipe.{Multiples}
 use Rattle.opgen_tfir.specs.Recipe.{net_of_taps, with_multiples, with_taps, sum_from}
 use Rattle.opgen_tfir.specs.Steps.{HasProducts, IsTap}
 use Rattle.opgen_tfir.specs.Sums.{HasSums}
-use Rattle.opgen_tfir.proofs.Filters.{products, are_taps, output-lies, sums-hold, fits_specs}
+use Rattle.opgen_tfir.proofs.Filters.{products, are_taps, output-lies, sums-hold, fits_modes}
 use Rattle.opgen_tfir.proofs.filter.build.Goals as goal
 
 pub place_taps-requires-clause-products : goal.place_taps-requires-clause-products
@@ -77,4 +77,4 @@ returns-clause-fits c =
     let f = c.args.taps.now in
     let graph = c.args.graph.now in
     let net : c.output.new.self ≡ net_of_taps f graph = search rules in
-    subst (FitsSpecsOf (Tfir f)) (sym net) (fits_specs f c.requires.taps graph c.requires.graph c.outputs_hold.ensures)
+    subst (FitsInEachMode (Tfir f)) (sym net) (fits_modes f c.requires.taps graph c.requires.graph c.outputs_hold.ensures)

@@ -5,7 +5,7 @@ use Rattle.std.specs.Prelude.{pos, unsigned_abs, slice_index, Contains}
 use Rattle.opgen_net.specs.declared.net.Net.{Net}
 use Rattle.opgen_net.specs.Placed.{Placed}
 use Rattle.opgen_net.specs.Valid.{widths}
-use Rattle.opgen_operator.specs.OddParts.{odd_part}
+use Rattle.opgen_ports.specs.OddParts.{odd_part}
 use Rattle.opgen_graph.specs.Placing.{factors}
 use Rattle.opgen_graph.specs.Recipe.{Multiples, with_magnitude}
 use Rattle.opgen_graph.proofs.Products.{magnitude-placed}

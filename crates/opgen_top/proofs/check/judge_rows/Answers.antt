@@ -6,19 +6,19 @@ use Rattle.opgen_top.proofs.check.judge_rows.Goals as goal
 pub check_rows-requires-clause-rows : goal.check_rows-requires-clause-rows
 check_rows-requires-clause-rows c =
     let rows = c.args.rows.now in
-    as_counted (input_widths c.args.design.now) rows.inputs.columns rows.count rows.inputs.cells.items c.requires.columns c.requires.rows
+    as_counted (input_widths c.args.design) rows.inputs.columns rows.count rows.inputs.cells.items c.requires.columns c.requires.rows
 
 pub check_rows-requires-clause-few : goal.check_rows-requires-clause-few
 check_rows-requires-clause-few c =
     let rows = c.args.rows.now in
-    let few = few_counted (input_widths c.args.design.now) rows.inputs.columns rows.count rows.inputs.cells.items c.requires.columns
+    let few = few_counted (input_widths c.args.design) rows.inputs.columns rows.count rows.inputs.cells.items c.requires.columns
     c.requires.rows in
     omega (arith, few, c.requires.few)
 
 pub returns-in_ok-verdict_line-in-Ok-clause-answer : goal.returns-in_ok-verdict_line-in-Ok-clause-answer
 returns-in_ok-verdict_line-in-Ok-clause-answer c =
     let rows = c.args.rows.now in
-    design_judged c.args.spec.now c.args.design.now c.args.latency rows.inputs.columns rows.count rows.inputs.cells.items c.in-Ok.checked _
+    design_judged c.args.spec.now c.args.design c.args.latency rows.inputs.columns rows.count rows.inputs.cells.items c.in-Ok.checked _
     c.requires.columns c.requires.rows c.in-Ok.ensures.agree c.in-Ok.ensures.checked
     (c.without_file.ensures ∙ c.in_ok-verdict_line-in-Ok.ensures)
 

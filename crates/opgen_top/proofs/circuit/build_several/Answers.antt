@@ -1,6 +1,6 @@
 use Rattle.std.proofs.Common.{◌≤◌, arith, sym, subst}
 use Rattle.opgen_operator.specs.declared.operator.Operator.TheVariants.{Mcm}
-use Rattle.opgen_operator.specs.OddParts.{odd_part_count}
+use Rattle.opgen_ports.specs.OddParts.{odd_part_count}
 use Rattle.opgen_operator.proofs.Accepted.{accepted_ranges}
 use Rattle.opgen_graph.proofs.PartLists.{count-within}
 use Rattle.opgen_top.proofs.circuit.build_several.Goals as goal

@@ -4,12 +4,12 @@ use Rattle.std.proofs.lemmas.Int.{ints}
 use Rattle.std.proofs.lemmas.List.Elements.{All-cons, All-nil}
 use Rattle.opgen_operator.specs.declared.kinds.several.Several.{Several}
 use Rattle.opgen_operator.specs.declared.operator.Operator.TheVariants.{Mcm}
-use Rattle.opgen_operator.specs.declared.ports.PortFormat.{PortFormat}
+use Rattle.opgen_ports.specs.declared.ports.PortFormat.{PortFormat}
 use Rattle.opgen_operator.specs.kinds.Several.{IsAcceptedSeveral}
 use Rattle.opgen_operator.specs.Operator.{inexact, need}
-use Rattle.opgen_operator.specs.OddParts.{odd_part_count}
-use Rattle.opgen_operator.specs.Ranges.{IsWithin}
-use Rattle.opgen_operator.proofs.InputPorts.{all_one}
+use Rattle.opgen_ports.specs.OddParts.{odd_part_count}
+use Rattle.opgen_ports.specs.Ranges.{IsWithin}
+use Rattle.opgen_ports.proofs.InputPorts.{all_one}
 use Rattle.opgen_graph.proofs.PartLists.{count-within}
 use Rattle.test_parts.proofs.least.forty_five.Goals as goal
 

@@ -3,10 +3,10 @@ use Rattle.std.specs.Prelude.{pos, unsigned_abs}
 use Rattle.std.specs.Int.{w32, w128}
 use Rattle.std.proofs.lemmas.Int.{to_z-of_z}
 use Rattle.opgen_operator.specs.kinds.Pair.{dividend, pair_shift}
-use Rattle.opgen_operator.specs.Shifts.{places_up}
-use Rattle.opgen_operator.proofs.Bounds.{products}
-use Rattle.opgen_operator.proofs.InputPorts.{input_bit}
-use Rattle.opgen_operator.proofs.Magnitudes.{holds_within, number_fits, unsigned_abs-product}
+use Rattle.opgen_ports.specs.Shifts.{places_up}
+use Rattle.opgen_ports.proofs.Bounds.{products}
+use Rattle.opgen_ports.proofs.InputPorts.{input_bit}
+use Rattle.opgen_ports.proofs.Magnitudes.{holds_within, number_fits, unsigned_abs-product}
 use Rattle.opgen_operator.proofs.of_kind.Pair.{quotient_word, remainder_word}
 use Rattle.opgen_operator.proofs.Roundings.{good-along, quotient-along}
 use Rattle.opgen_num.proofs.BitLength.{power_order}

@@ -5,7 +5,7 @@ use Rattle.std.proofs.lemmas.Int.{ints, to_z-of_z}
 use Rattle.std.proofs.Math.Nat.{mul-le-mul}
 use Rattle.opgen_num.proofs.BitLength.{power_order}
 use Rattle.opgen_operator.specs.kinds.Horner.{degree}
-use Rattle.opgen_operator.proofs.Bounds.{products, few_units}
+use Rattle.opgen_ports.proofs.Bounds.{products, few_units}
 use Rattle.opgen_operator.proofs.of_kind.Terms.{few_powers}
 use Rattle.opgen_operator.proofs.Roundings.{good-along, positive_units}
 use Rattle.opgen_operator.proofs.kinds.poly.poly_is_good.Goals as goal

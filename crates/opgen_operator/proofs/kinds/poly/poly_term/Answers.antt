@@ -2,7 +2,7 @@ use Rattle.std.proofs.Common.{◌≡◌, ◌≤◌, ◌*◌, ◌^◌, ◌∙◌,
 use Rattle.std.specs.Prelude.{pos, ◌*ℤ◌}
 use Rattle.std.specs.Int.{w128}
 use Rattle.std.proofs.lemmas.Int.{to_z_pos, to_z-of_z}
-use Rattle.opgen_operator.proofs.Magnitudes.{product_within, fits_small}
+use Rattle.opgen_ports.proofs.Magnitudes.{product_within, fits_small}
 use Rattle.opgen_operator.proofs.kinds.poly.poly_term.Goals as goal
 
 pub overflow_mul-result-2 : goal.overflow_mul-result-2

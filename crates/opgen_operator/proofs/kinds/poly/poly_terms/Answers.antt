@@ -6,9 +6,9 @@ use Rattle.std.proofs.Math.Nat.{mul-le-mul_left}
 use Rattle.opgen_num.proofs.BitLength.{power_order}
 use Rattle.opgen_operator.specs.kinds.Horner.{degree}
 use Rattle.opgen_operator.specs.kinds.Poly.{terms_from}
-use Rattle.opgen_operator.proofs.Magnitudes.{fits_small}
+use Rattle.opgen_ports.proofs.Magnitudes.{fits_small}
 use Rattle.opgen_operator.proofs.of_kind.Terms.{factor_small, few_powers, next_power_small, next_power, places_next, terms_step}
-use Rattle.opgen_operator.proofs.WeightedSums.{bound_step}
+use Rattle.opgen_ports.proofs.WeightedSums.{bound_step}
 use Rattle.opgen_operator.proofs.kinds.poly.poly_terms.Goals as goal
 
 pub poly_term-total-requires-clause-small : goal.poly_term-total-requires-clause-small

@@ -1,5 +1,5 @@
 use Rattle.std.proofs.Common.{◌≡◌, ◌∙◌, sym, ap, nat_lt, rules}
-use Rattle.opgen_operator.specs.declared.reach.Reach.{Reach}
+use Rattle.opgen_ports.specs.declared.reach.Reach.{Reach}
 use Rattle.opgen_operator.specs.kinds.Product.{product_places}
 use Rattle.opgen_operator.proofs.of_kind.ProductWidths.{product-sign}
 use Rattle.opgen_operator.proofs.kinds.product.product_format.Goals as goal

@@ -4,12 +4,12 @@ use Rattle.std.specs.Int.{w32, w128}
 use Rattle.std.proofs.lemmas.Int.{ints, to_z-of_z}
 use Rattle.std.proofs.lemmas.Nat.{pow_pos}
 use Rattle.opgen_operator.specs.kinds.Product.{product_shift, product_places}
-use Rattle.opgen_operator.specs.Shifts.{places_up, places_down}
-use Rattle.opgen_operator.proofs.Bounds.{few_down}
-use Rattle.opgen_operator.proofs.Magnitudes.{fits_small, number_fits}
+use Rattle.opgen_ports.specs.Shifts.{places_up, places_down}
+use Rattle.opgen_ports.proofs.Bounds.{few_down}
+use Rattle.opgen_ports.proofs.Magnitudes.{fits_small, number_fits}
 use Rattle.opgen_operator.proofs.of_kind.ProductWidths.{product_room, product_small}
 use Rattle.opgen_operator.proofs.Roundings.{good-along}
-use Rattle.opgen_operator.proofs.Widths.{some_width}
+use Rattle.opgen_ports.proofs.Widths.{some_width}
 use Rattle.opgen_num.proofs.BitLength.{power_order}
 use Rattle.opgen_operator.proofs.kinds.product.product_is_good.Goals as goal
 

@@ -1,5 +1,5 @@
 use Rattle.std.proofs.Common.{arith}
-use Rattle.opgen_operator.proofs.Bounds.{products}
+use Rattle.opgen_ports.proofs.Bounds.{products}
 use Rattle.opgen_operator.proofs.kinds.product.product_reach.Goals as goal
 
 pub returns-clause-below : goal.returns-clause-below

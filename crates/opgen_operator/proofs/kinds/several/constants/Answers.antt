@@ -4,7 +4,7 @@ use Rattle.std.specs.Fmt.{decimal}
 use Rattle.std.specs.Int.{w64}
 use Rattle.std.proofs.lemmas.Int.{ints, to_z-of_z}
 use Rattle.opgen_operator.specs.kinds.Several.{constant_format}
-use Rattle.opgen_operator.specs.Ports.{port}
+use Rattle.opgen_ports.specs.Ports.{port}
 use Rattle.opgen_operator.proofs.of_kind.Several.{numbered_more}
 use Rattle.opgen_operator.proofs.kinds.several.constants.Goals as goal
 

@@ -3,7 +3,7 @@ use Rattle.std.specs.Prelude.{pos}
 use Rattle.std.specs.Int.{w64, w128}
 use Rattle.std.proofs.lemmas.Int.{ints, to_z-of_z}
 use Rattle.opgen_operator.specs.kinds.Several.{constant_format}
-use Rattle.opgen_operator.proofs.Magnitudes.{fits_small}
+use Rattle.opgen_ports.proofs.Magnitudes.{fits_small}
 use Rattle.opgen_operator.proofs.of_kind.Several.{multiple_width}
 use Rattle.opgen_operator.proofs.Roundings.{good-along}
 use Rattle.opgen_operator.proofs.kinds.several.multiple_is_good.Goals as goal

@@ -3,9 +3,9 @@ use Rattle.std.specs.Prelude.{ℤ, pos, unsigned_abs}
 use Rattle.std.proofs.lemmas.Option.{slice_get-get_or, slice_get_within}
 use Rattle.std.specs.Int.{w64}
 use Rattle.std.proofs.lemmas.Int.{ints, to_z-of_z}
-use Rattle.opgen_operator.specs.Good.{IsGoodRatio}
+use Rattle.opgen_ports.specs.Good.{IsGoodRatio}
 use Rattle.opgen_operator.specs.kinds.Several.{exact_multiple, multiple_ports}
-use Rattle.opgen_operator.specs.PortNumbers.{output_numbers}
+use Rattle.opgen_ports.specs.PortNumbers.{output_numbers}
 use Rattle.opgen_operator.proofs.of_kind.Several.{multiple-count, multiple-fits, multiple-judged, each_more}
 use Rattle.opgen_operator.proofs.kinds.several.multiples_are_good.Goals as goal
 

@@ -3,9 +3,9 @@ use Rattle.std.specs.Prelude.{pos, unsigned_abs}
 use Rattle.std.specs.Int.{w32, w128}
 use Rattle.std.proofs.lemmas.Int.{to_z-of_z}
 use Rattle.opgen_operator.specs.kinds.Single.{square, root_shift}
-use Rattle.opgen_operator.specs.Shifts.{places_up}
-use Rattle.opgen_operator.proofs.Bounds.{few_up, products}
-use Rattle.opgen_operator.proofs.Magnitudes.{unsigned_abs-product}
+use Rattle.opgen_ports.specs.Shifts.{places_up}
+use Rattle.opgen_ports.proofs.Bounds.{few_up, products}
+use Rattle.opgen_ports.proofs.Magnitudes.{unsigned_abs-product}
 use Rattle.opgen_operator.proofs.of_kind.Single.{root_word, square_rest_word, root_input_fits, root_bits}
 use Rattle.opgen_operator.proofs.Roundings.{root-along, good_root-along}
 use Rattle.opgen_num.proofs.BitLength.{power_order}

@@ -3,7 +3,7 @@ use Rattle.std.specs.Prelude.{pos, slice_index, unsigned_abs}
 use Rattle.std.specs.Int.{w128}
 use Rattle.std.proofs.lemmas.Int.{to_z-of_z}
 use Rattle.opgen_operator.specs.kinds.SmallDiv.{small_quotient_format, small_rest_format}
-use Rattle.opgen_operator.specs.PortNumbers.{number_of}
+use Rattle.opgen_ports.specs.PortNumbers.{number_of}
 use Rattle.opgen_operator.proofs.Roundings.{good-along, quotient-along}
 use Rattle.opgen_operator.proofs.kinds.small_div.small_quotient_is_good.Goals as goal
 

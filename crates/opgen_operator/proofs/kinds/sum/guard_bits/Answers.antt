@@ -1,6 +1,6 @@
 use Rattle.std.proofs.Common.{◌∙◌, ap, arith}
 use Rattle.opgen_num.specs.Formats.{digit_count}
-use Rattle.opgen_operator.proofs.Bounds.{guard_is}
+use Rattle.opgen_ports.proofs.Bounds.{guard_is}
 use Rattle.opgen_operator.proofs.kinds.sum.guard_bits.Goals as goal
 
 pub returns-in-Some-clause-value : goal.returns-in-Some-clause-value

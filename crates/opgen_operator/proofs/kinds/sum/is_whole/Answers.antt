@@ -1,7 +1,7 @@
 use Rattle.std.proofs.Common.{◌≡◌, ◌∙◌, arith, w32, SFits}
 use Rattle.std.specs.Prelude.{unsigned_abs}
 use Rattle.std.proofs.lemmas.Int.{to_z-of_z}
-use Rattle.opgen_operator.proofs.Bounds.{shifted}
+use Rattle.opgen_ports.proofs.Bounds.{shifted}
 use Rattle.opgen_operator.proofs.kinds.sum.is_whole.Goals as goal
 
 pub scaled-requires-clause-small : goal.scaled-requires-clause-small

@@ -3,11 +3,11 @@ use Rattle.std.specs.Prelude.{pos, ◌*ℤ◌, unsigned_abs}
 use Rattle.std.specs.Int.{w32, w64, w128}
 use Rattle.std.proofs.lemmas.Int.{ints, to_z-of_z}
 use Rattle.opgen_operator.specs.kinds.Sum.{sum_shift, sum_places}
-use Rattle.opgen_operator.specs.Shifts.{places_up, places_down}
-use Rattle.opgen_operator.proofs.Bounds.{products, few_down, few_units}
-use Rattle.opgen_operator.proofs.Magnitudes.{fits_small}
+use Rattle.opgen_ports.specs.Shifts.{places_up, places_down}
+use Rattle.opgen_ports.proofs.Bounds.{products, few_down, few_units}
+use Rattle.opgen_ports.proofs.Magnitudes.{fits_small}
 use Rattle.opgen_operator.proofs.Roundings.{good-along, positive_units}
-use Rattle.opgen_operator.proofs.Widths.{some_width}
+use Rattle.opgen_ports.proofs.Widths.{some_width}
 use Rattle.opgen_num.proofs.BitLength.{power_order}
 use Rattle.opgen_operator.proofs.kinds.sum.sum_is_good.Goals as goal
 

@@ -1,7 +1,7 @@
 use Rattle.std.proofs.Common.{SFits, w32}
 use Rattle.std.proofs.lemmas.Int.{to_z-of_z}
 use Rattle.opgen_operator.specs.kinds.Sum.{sum_shift}
-use Rattle.opgen_operator.proofs.Bounds.{room_bound}
+use Rattle.opgen_ports.proofs.Bounds.{room_bound}
 use Rattle.opgen_operator.proofs.kinds.sum.sum_places.Goals as goal
 
 pub in_places-requires-clause-below : goal.in_places-requires-clause-below

@@ -5,7 +5,7 @@ pub judge-requires-clause-accepted : goal.judge-requires-clause-accepted
 judge-requires-clause-accepted c = accepted c.args.self.now c.requires.valid
 
 pub judge-requires-clause-agrees : goal.judge-requires-clause-agrees
-judge-requires-clause-agrees c = c.requires.valid.agrees
+judge-requires-clause-agrees c = c.requires.valid.mode.agrees
 
 pub returns-clause-in_range : goal.returns-clause-in_range
 returns-clause-in_range c = c.judge.ensures.in_range

@@ -1,8 +1,8 @@
 use Rattle.std.proofs.Common.{◌≡◌, ◌∙◌, ap, refl}
 use Rattle.toml.specs.View.{table_view}
-use Rattle.opgen_spec.specs.declared.key.Key.TheVariants as key
-use Rattle.opgen_spec.specs.Document.{items_at}
-use Rattle.opgen_spec.specs.Numbers.{numerators}
+use Rattle.opgen_document.specs.declared.key.Key.TheVariants as key
+use Rattle.opgen_document.specs.Document.{items_at}
+use Rattle.opgen_document.specs.Numbers.{numerators}
 use Rattle.opgen_spec.proofs.kinds.several.several_of.Goals as goal
 
 pub returns : goal.returns

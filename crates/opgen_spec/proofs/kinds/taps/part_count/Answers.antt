@@ -1,9 +1,9 @@
 use Rattle.std.proofs.Common.{◌≡◌, ◌+◌, ◌++◌, map, take, drop, set, sym, subst, rules, ◌∙◌, ap, to_z, of_z, w64, arith}
 use Rattle.std.specs.Prelude.{All}
 use Rattle.toml.specs.View.{items_view}
-use Rattle.opgen_spec.specs.Document.{list_of}
-use Rattle.opgen_operator.specs.Ranges.{IsWithin}
-use Rattle.opgen_spec.specs.Numbers.{coefficient}
+use Rattle.opgen_document.specs.Document.{list_of}
+use Rattle.opgen_ports.specs.Ranges.{IsWithin}
+use Rattle.opgen_document.specs.Numbers.{coefficient}
 use Rattle.opgen_spec.proofs.Filled.{filled, all_filled}
 use Rattle.opgen_spec.proofs.kinds.taps.part_count.Goals as goal
 

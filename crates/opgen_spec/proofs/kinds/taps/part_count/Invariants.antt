@@ -1,7 +1,7 @@
 use Rattle.std.proofs.Common.{◌≡◌, ◌++◌, length, map, take, drop}
 use Rattle.toml.specs.View.{items_view}
-use Rattle.opgen_spec.specs.Document.{list_of}
-use Rattle.opgen_spec.specs.Numbers.{coefficient, numerators}
+use Rattle.opgen_document.specs.Document.{list_of}
+use Rattle.opgen_document.specs.Numbers.{coefficient, numerators}
 use Rattle.opgen_spec.proofs.kinds.taps.part_count.Given as goal
 
 abbrev pub invariant-items : goal.invariant-items

@@ -1,10 +1,10 @@
 use Rattle.std.proofs.Common.{sym, arith}
 use Rattle.std.proofs.lemmas.List.{length-map}
 use Rattle.toml.specs.View.{items_view}
-use Rattle.opgen_spec.specs.Document.{list_of}
-use Rattle.opgen_spec.specs.Numbers.{coefficient, places_among}
+use Rattle.opgen_document.specs.Document.{list_of}
+use Rattle.opgen_document.specs.Numbers.{coefficient, places_among}
 use Rattle.opgen_spec.proofs.Ranges.{array_in}
-use Rattle.opgen_spec.proofs.Trees.{items-length}
+use Rattle.opgen_document.proofs.Trees.{items-length}
 use Rattle.opgen_spec.proofs.kinds.taps.taps_outside.Goals as goal
 
 pub part_count-requires-clause-few : goal.part_count-requires-clause-few

@@ -3,7 +3,7 @@ use Rattle.std.specs.Int.{w128}
 use Rattle.std.proofs.lemmas.Int.{to_z-of_z}
 use Rattle.opgen_operator.specs.declared.operator.Operator.TheVariants.{Divide}
 use Rattle.opgen_operator.specs.kinds.Pair.{pair_shift}
-use Rattle.opgen_operator.specs.Shifts.{places_up}
+use Rattle.opgen_ports.specs.Shifts.{places_up}
 use Rattle.opgen_operator.proofs.Accepted.{accepted_ranges, accepted_shift, accepted_width}
 use Rattle.opgen_operator.proofs.Roundings.{zero_if}
 use Rattle.opgen_operator.proofs.kinds.pair.Pair.judge.Goals as goal

@@ -3,7 +3,7 @@ use Rattle.std.specs.Prelude.{ℤ, pos, ◌+ℤ◌, unsigned_abs}
 use Rattle.std.specs.Int.{w128, int_min, int_max}
 use Rattle.std.proofs.lemmas.Int.{ints, to_z-of_z, int_min_is, int_max_is}
 use Rattle.opgen_operator.specs.kinds.Horner.{guarded, low_end, high_end, all_guarded}
-use Rattle.opgen_operator.proofs.Magnitudes.{fits_small}
+use Rattle.opgen_ports.proofs.Magnitudes.{fits_small}
 use Rattle.opgen_operator.proofs.of_kind.Results.{ends_order, partial_small, ends_step}
 use Rattle.opgen_operator.proofs.kinds.poly.Poly.ends.Goals as goal
 

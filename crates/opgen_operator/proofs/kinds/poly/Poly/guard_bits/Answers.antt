@@ -1,6 +1,6 @@
 use Rattle.std.proofs.Common.{◌*◌, ◌∙◌, ap, arith}
 use Rattle.opgen_num.specs.Formats.{digit_count}
-use Rattle.opgen_operator.proofs.Bounds.{guard_is}
+use Rattle.opgen_ports.proofs.Bounds.{guard_is}
 use Rattle.opgen_operator.proofs.of_kind.Results.{guard_few, guard_some}
 use Rattle.opgen_operator.proofs.kinds.poly.Poly.guard_bits.Goals as goal
 

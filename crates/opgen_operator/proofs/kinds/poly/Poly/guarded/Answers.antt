@@ -5,8 +5,8 @@ use Rattle.std.proofs.lemmas.Int.{ints, to_z-of_z}
 use Rattle.opgen_num.proofs.BitLength.{power_order}
 use Rattle.opgen_num.specs.Nearest.{nearest}
 use Rattle.opgen_operator.specs.kinds.Horner.{result_places, poly_guard}
-use Rattle.opgen_operator.proofs.Bounds.{products, few_units}
-use Rattle.opgen_operator.proofs.Magnitudes.{product_within}
+use Rattle.opgen_ports.proofs.Bounds.{products, few_units}
+use Rattle.opgen_ports.proofs.Magnitudes.{product_within}
 use Rattle.opgen_operator.proofs.of_kind.Results.{guarded_small, few_guarded_bits}
 use Rattle.opgen_operator.proofs.kinds.poly.Poly.guarded.Goals as goal
 

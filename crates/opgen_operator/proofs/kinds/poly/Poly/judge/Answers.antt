@@ -3,7 +3,7 @@ use Rattle.std.specs.Int.{w128}
 use Rattle.std.proofs.lemmas.Int.{to_z-of_z}
 use Rattle.opgen_operator.specs.declared.operator.Operator.TheVariants.{Poly}
 use Rattle.opgen_operator.proofs.Accepted.{accepted_ranges}
-use Rattle.opgen_operator.proofs.Cycles.{only_word}
+use Rattle.opgen_ports.proofs.Cycles.{only_word}
 use Rattle.opgen_operator.proofs.kinds.poly.Poly.judge.Goals as goal
 
 pub bounds-outputs-0 : goal.bounds-outputs-0

@@ -4,7 +4,7 @@ use Rattle.std.proofs.lemmas.Int.{to_z-of_z}
 use Rattle.opgen_operator.specs.declared.operator.Operator.TheVariants.{Multiply}
 use Rattle.opgen_operator.specs.kinds.Product.{product_need}
 use Rattle.opgen_operator.proofs.Accepted.{accepted_ranges, accepted_shift, accepted_width}
-use Rattle.opgen_operator.proofs.Cycles.{only_word}
+use Rattle.opgen_ports.proofs.Cycles.{only_word}
 use Rattle.opgen_operator.proofs.kinds.product.Product.judge.Goals as goal
 
 pub bounds-outputs-0 : goal.bounds-outputs-0

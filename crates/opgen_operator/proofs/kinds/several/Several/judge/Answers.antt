@@ -5,7 +5,7 @@ use Rattle.std.proofs.lemmas.Int.{to_z-of_z}
 use Rattle.opgen_num.proofs.BitLength.{power_order}
 use Rattle.opgen_operator.specs.declared.operator.Operator.TheVariants.{Mcm}
 use Rattle.opgen_operator.proofs.Accepted.{accepted_ranges}
-use Rattle.opgen_operator.proofs.Magnitudes.{fits_small}
+use Rattle.opgen_ports.proofs.Magnitudes.{fits_small}
 use Rattle.opgen_operator.proofs.kinds.several.Several.judge.Goals as goal
 
 pub multiples_are_good-requires-clause-several : goal.multiples_are_good-requires-clause-several

@@ -2,8 +2,8 @@ use Rattle.std.proofs.Common.{◌≡◌, ◌-◌, ◌∙◌, ap, FitsSigned, rul
 use Rattle.std.specs.Int.{w32}
 use Rattle.std.proofs.lemmas.Int.{to_z-of_z}
 use Rattle.opgen_num.specs.Formats.{digit_count}
-use Rattle.opgen_operator.specs.Ports.{unsigned}
-use Rattle.opgen_operator.proofs.Bounds.{guard_is}
+use Rattle.opgen_ports.specs.Ports.{unsigned}
+use Rattle.opgen_ports.proofs.Bounds.{guard_is}
 use Rattle.opgen_operator.proofs.of_kind.SmallDiv.{small_rest_width}
 use Rattle.opgen_operator.proofs.kinds.small_div.SmallDiv.remainder.Goals as goal
 

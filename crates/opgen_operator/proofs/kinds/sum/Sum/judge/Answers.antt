@@ -2,7 +2,7 @@ use Rattle.std.proofs.Common.{refl, arith}
 use Rattle.opgen_operator.specs.declared.operator.Operator.TheVariants.{Fir}
 use Rattle.opgen_operator.specs.kinds.Sum.{sum_need}
 use Rattle.opgen_operator.proofs.Accepted.{accepted_ranges, accepted_shift, accepted_room, accepted_width}
-use Rattle.opgen_operator.proofs.Cycles.{only_word}
+use Rattle.opgen_ports.proofs.Cycles.{only_word}
 use Rattle.opgen_operator.proofs.kinds.sum.Sum.judge.Goals as goal
 
 pub bounds-outputs-0 : goal.bounds-outputs-0

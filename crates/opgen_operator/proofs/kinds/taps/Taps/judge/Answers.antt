@@ -1,6 +1,6 @@
 use Rattle.opgen_operator.specs.declared.operator.Operator.TheVariants.{Tfir}
 use Rattle.opgen_operator.proofs.Accepted.{accepted_ranges}
-use Rattle.opgen_operator.proofs.Cycles.{only_word}
+use Rattle.opgen_ports.proofs.Cycles.{only_word}
 use Rattle.opgen_operator.proofs.kinds.taps.Taps.judge.Goals as goal
 
 pub bounds-outputs-0 : goal.bounds-outputs-0

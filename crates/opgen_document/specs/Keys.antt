@@ -1,0 +1,102 @@
+-- The keys of a specification: their names, their order, what the value at each has to be, and how those stand that all documents have.
+use Rattle.std.specs.Prelude.{ℕ, Bool, true, false, List, [], ◌∷◌, codes, Option, Some, None, if◌then◌else◌}
+use Rattle.opgen_document.specs.declared.key.Key.{Key}
+use Rattle.opgen_document.specs.declared.key.Key.TheVariants as key
+use Rattle.opgen_document.specs.declared.key.Sort.{Sort}
+use Rattle.opgen_document.specs.declared.key.Sort.TheVariants as sort
+use Rattle.opgen_document.specs.declared.stand.Stand.{Stand}
+use Rattle.opgen_document.specs.declared.stand.Stand.TheVariants.{Absent, Optional, Needed}
+
+abbrev pub key_name : Key → List ℕ
+key_name key.Version = codes "version"
+key_name key.Name = codes "name"
+key_name key.Kind = codes "kind"
+key_name key.Exact = codes "exact"
+key_name key.Target = codes "target"
+key_name key.Period = codes "period"
+key_name key.Signed = codes "signed"
+key_name key.Width = codes "width"
+key_name key.Lsb = codes "lsb"
+key_name key.WidthA = codes "width_a"
+key_name key.LsbA = codes "lsb_a"
+key_name key.WidthB = codes "width_b"
+key_name key.LsbB = codes "lsb_b"
+key_name key.OutLsb = codes "out_lsb"
+key_name key.Coefficients = codes "coefficients"
+key_name key.Denominator = codes "denominator"
+key_name key.Constants = codes "constants"
+key_name key.Extra = codes "extra"
+key_name key.Divisor = codes "divisor"
+key_name key.Taps = codes "taps"
+key_name key.Compressor = codes "compressor"
+key_name key.Delay = codes "delay"
+key_name key.Class = codes "class"
+key_name key.Base = codes "base"
+key_name key.PerBit = codes "per_bit"
+
+-- the keys of a document, in the order in which they are judged
+unfoldable pub document_keys : List Key
+document_keys =
+    key.Version ∷ key.Name ∷ key.Kind ∷ key.Exact ∷ key.Target ∷ key.Period ∷ key.Signed ∷ key.Width ∷ key.Lsb ∷
+    key.WidthA ∷ key.LsbA ∷ key.WidthB ∷ key.LsbB ∷ key.OutLsb ∷ key.Coefficients ∷ key.Denominator ∷ key.Constants ∷
+    key.Extra ∷ key.Divisor ∷ key.Taps ∷ key.Compressor ∷ key.Delay ∷ []
+
+-- the keys of a delay line
+unfoldable pub line_keys : List Key
+line_keys = key.Class ∷ key.Base ∷ key.PerBit ∷ []
+
+-- what the value at a key has to be
+abbrev pub sort_of : Key → Sort
+sort_of key.Name = sort.Text
+sort_of key.Kind = sort.Text
+sort_of key.Target = sort.Text
+sort_of key.Compressor = sort.Text
+sort_of key.Class = sort.Text
+sort_of key.Exact = sort.Flag
+sort_of key.Signed = sort.Flag
+sort_of key.Coefficients = sort.Coefficients
+sort_of key.Constants = sort.Numbers
+sort_of key.Taps = sort.Numbers
+sort_of key.Delay = sort.Tables
+sort_of key.Version = sort.Number
+sort_of key.Period = sort.Number
+sort_of key.Width = sort.Number
+sort_of key.Lsb = sort.Number
+sort_of key.WidthA = sort.Number
+sort_of key.LsbA = sort.Number
+sort_of key.WidthB = sort.Number
+sort_of key.LsbB = sort.Number
+sort_of key.OutLsb = sort.Number
+sort_of key.Denominator = sort.Number
+sort_of key.Extra = sort.Number
+sort_of key.Divisor = sort.Number
+sort_of key.Base = sort.Number
+sort_of key.PerBit = sort.Number
+
+-- the keys of all kinds, and of all delay lines
+abbrev pub shared_stand : Key → Option Stand
+shared_stand key.Version = Some Needed
+shared_stand key.Name = Some Needed
+shared_stand key.Kind = Some Needed
+shared_stand key.Exact = Some Needed
+shared_stand key.Target = Some Needed
+shared_stand key.Period = Some Needed
+shared_stand key.Delay = Some Optional
+shared_stand key.Class = Some Needed
+shared_stand key.Base = Some Needed
+shared_stand key.PerBit = Some Needed
+shared_stand _ = None
+
+-- a key that may be left out, and that version 1 does not have
+abbrev pub later : (first : Bool) → Stand
+later first = if first then Absent else Optional
+
+abbrev pub may_be : Stand → Bool
+may_be Absent = false
+may_be Optional = true
+may_be Needed = true
+
+abbrev pub has_to_be : Stand → Bool
+has_to_be Absent = false
+has_to_be Optional = false
+has_to_be Needed = true

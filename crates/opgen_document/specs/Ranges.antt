@@ -1,0 +1,52 @@
+-- What stands at a key and is out of its range: a number or a length that is not within bounds, or an element beyond a limit.
+use Rattle.std.specs.Prelude.{ℕ, ◌^◌, ◌&&◌, ◌||◌, Bool, List, length, codes, ℤ, pos, negsuc, int_le, unsigned_abs, Option, Some, None, find, if◌then◌else◌, nat_lt}
+use Rattle.std.specs.Option.{option_or}
+use Rattle.std.specs.Str.{bytes_eq}
+use Rattle.toml.specs.Data.{Items, Members}
+use Rattle.opgen_document.specs.declared.key.Key.{Key}
+use Rattle.opgen_document.specs.declared.key.Key.TheVariants as key
+use Rattle.opgen_document.specs.Document.{list_of, number_at, flag_at, items_at}
+use Rattle.opgen_document.specs.Numbers.{numerators}
+
+-- the number, where it is not within the bounds
+abbrev pub outside : ℤ → ℤ → ℤ → Option ℤ
+outside low high n = if int_le low n && int_le n high then None else Some n
+
+-- the first number of an array that is beyond a limit, above or below
+abbrev pub is_beyond : (limit : ℕ) → ℤ → Bool
+is_beyond limit n = nat_lt limit (unsigned_abs n)
+
+abbrev pub first_beyond : (limit : ℕ) → Items → Option ℤ
+first_beyond limit items = find (is_beyond limit) (numerators items)
+
+abbrev pub length_outside : (least most : ℕ) → Items → Option ℤ
+length_outside least most items = outside (pos least) (pos most) (pos (length (list_of items)))
+
+-- the length of an array, or else its first number, that is out of bounds
+abbrev pub array_outside : (least most limit : ℕ) → Items → Option ℤ
+array_outside least most limit items = option_or (length_outside least most items) (first_beyond limit items)
+
+-- keys that several kinds have
+
+-- the width of an input that may have so many bits at most; signed inputs have two or more
+abbrev pub width_outside : (most : ℕ) → Members → Key → Option ℤ
+width_outside most ms k = outside (pos (if flag_at ms key.Signed then 2 else 1)) (pos most) (number_at ms k)
+
+-- the power of a lowest bit
+abbrev pub power_outside : Members → Key → Option ℤ
+power_outside ms k = outside (negsuc 31) (pos 32) (number_at ms k)
+
+abbrev pub coefficients_outside : (least most : ℕ) → Members → Option ℤ
+coefficients_outside least most ms = array_outside least most (2 ^ 30) (items_at ms key.Coefficients)
+
+abbrev pub denominator_outside : Members → Option ℤ
+denominator_outside ms = outside (pos 1) (pos (2 ^ 30)) (number_at ms key.Denominator)
+
+-- the adders that a graph may have beyond the least number
+abbrev pub extra_outside : Members → Option ℤ
+extra_outside ms = outside (pos 0) (pos 2) (number_at ms key.Extra)
+
+-- a compressor's name that is neither of the two, of which its length is found
+abbrev pub compressor_outside : List ℕ → Option ℤ
+compressor_outside name =
+    if bytes_eq name (codes "dadda") || bytes_eq name (codes "counters") then None else Some (pos (length name))

@@ -1,0 +1,38 @@
+//! Makes the fields that operators of several kinds have, from a document that passed its checks.
+ghost use Rattle.std.specs.Prelude.{◌≡◌};
+ghost use Rattle.toml.specs.View.{table_view};
+ghost use Rattle.opgen_document.specs.Fields.{format_at, unsigned_at, counters_at};
+
+use crate::document::{count_at, flag_at, small_at, text_at};
+use crate::key::Key;
+use opgen_num::Format;
+use toml::Table;
+
+/// The format of an input, by its two keys.
+pub fn format_at(table: &Table, width: Key, lsb: Key) -> Format
+    ensures { result ≡ format_at (table_view table.now) width lsb }
+{
+    Format {
+        signed: flag_at(table, Key::Signed),
+        width: count_at(table, width),
+        lsb: small_at(table, lsb),
+    }
+}
+
+/// The format of an input that is always unsigned.
+pub fn unsigned_at(table: &Table, width: Key, lsb: Key) -> Format
+    ensures { result ≡ unsigned_at (table_view table.now) width lsb }
+{
+    Format {
+        signed: false,
+        width: count_at(table, width),
+        lsb: small_at(table, lsb),
+    }
+}
+
+/// Whether the document asks for larger counters.
+pub fn counters_at(table: &Table) -> bool
+    ensures { result ≡ counters_at (table_view table.now) }
+{
+    text_at(table, Key::Compressor) == "counters"
+}

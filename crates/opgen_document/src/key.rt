@@ -1,0 +1,157 @@
+//! The keys of a specification: their names, order and types.
+ghost use Rattle.std.specs.Prelude.{◌≡◌, Some};
+ghost use Rattle.opgen_document.specs.Keys.{key_name, document_keys, line_keys, sort_of};
+
+use std::fmt;
+
+/// The keys of a document in the order in which they are judged, and then those of a delay line.
+#[derive(Clone, Copy, Debug)]
+pub enum Key {
+    Version,
+    Name,
+    Kind,
+    Exact,
+    Target,
+    Period,
+    Signed,
+    Width,
+    Lsb,
+    WidthA,
+    LsbA,
+    WidthB,
+    LsbB,
+    OutLsb,
+    Coefficients,
+    Denominator,
+    Constants,
+    Extra,
+    Divisor,
+    Taps,
+    Compressor,
+    Delay,
+    Class,
+    Base,
+    PerBit,
+}
+
+/// What the value at a key has to be.
+#[derive(Clone, Copy)]
+pub(crate) enum Sort {
+    Number,
+    Text,
+    Flag,
+    /// An array of whole numbers, or of decimal texts.
+    Coefficients,
+    Numbers,
+    Tables,
+}
+
+static DOCUMENT_KEYS: [Key; 22] = [
+    Key::Version,
+    Key::Name,
+    Key::Kind,
+    Key::Exact,
+    Key::Target,
+    Key::Period,
+    Key::Signed,
+    Key::Width,
+    Key::Lsb,
+    Key::WidthA,
+    Key::LsbA,
+    Key::WidthB,
+    Key::LsbB,
+    Key::OutLsb,
+    Key::Coefficients,
+    Key::Denominator,
+    Key::Constants,
+    Key::Extra,
+    Key::Divisor,
+    Key::Taps,
+    Key::Compressor,
+    Key::Delay,
+];
+
+static LINE_KEYS: [Key; 3] = [Key::Class, Key::Base, Key::PerBit];
+
+/// The keys of a document, in the order in which they are judged.
+pub fn document_keys() -> &'static [Key]
+    ensures { result.now ≡ document_keys }
+{
+    &DOCUMENT_KEYS
+}
+
+/// The keys of a delay line, in the order in which they are judged.
+pub fn line_keys() -> &'static [Key]
+    ensures { result.now ≡ line_keys }
+{
+    &LINE_KEYS
+}
+
+impl Key {
+    /// The key as a document writes it.
+    pub fn name(self) -> &'static str
+        ensures { result.now ≡ key_name self }
+    {
+        match self {
+            Key::Version => "version",
+            Key::Name => "name",
+            Key::Kind => "kind",
+            Key::Exact => "exact",
+            Key::Target => "target",
+            Key::Period => "period",
+            Key::Signed => "signed",
+            Key::Width => "width",
+            Key::Lsb => "lsb",
+            Key::WidthA => "width_a",
+            Key::LsbA => "lsb_a",
+            Key::WidthB => "width_b",
+            Key::LsbB => "lsb_b",
+            Key::OutLsb => "out_lsb",
+            Key::Coefficients => "coefficients",
+            Key::Denominator => "denominator",
+            Key::Constants => "constants",
+            Key::Extra => "extra",
+            Key::Divisor => "divisor",
+            Key::Taps => "taps",
+            Key::Compressor => "compressor",
+            Key::Delay => "delay",
+            Key::Class => "class",
+            Key::Base => "base",
+            Key::PerBit => "per_bit",
+        }
+    }
+
+    pub(crate) fn sort(self) -> Sort
+        ensures { result ≡ sort_of self }
+    {
+        match self {
+            Key::Name | Key::Kind | Key::Target | Key::Compressor | Key::Class => Sort::Text,
+            Key::Exact | Key::Signed => Sort::Flag,
+            Key::Coefficients => Sort::Coefficients,
+            Key::Constants | Key::Taps => Sort::Numbers,
+            Key::Delay => Sort::Tables,
+            Key::Version
+            | Key::Period
+            | Key::Width
+            | Key::Lsb
+            | Key::WidthA
+            | Key::LsbA
+            | Key::WidthB
+            | Key::LsbB
+            | Key::OutLsb
+            | Key::Denominator
+            | Key::Extra
+            | Key::Divisor
+            | Key::Base
+            | Key::PerBit => Sort::Number,
+        }
+    }
+}
+
+impl fmt::Display for Key {
+    ghost output = { λ key. Some (key_name key) };
+
+    fn fmt<W: fmt::Write>(&self, f: &mut fmt::Formatter<W>) -> fmt::Result {
+        f.write_str(self.name())
+    }
+}

@@ -1,0 +1,105 @@
+//! Checks that a number, or an array and its numbers, is within bounds.
+ghost use Rattle.std.specs.Prelude.{◌≡◌};
+ghost use Rattle.toml.specs.View.{items_view, table_view};
+ghost use Rattle.opgen_document.specs.Ranges.{outside, is_beyond, first_beyond, length_outside, array_outside, width_outside, power_outside, coefficients_outside, denominator_outside, extra_outside, compressor_outside};
+
+use crate::document::{flag_at, items_at, number_at};
+use crate::key::Key;
+use crate::number::{coefficient, places_among};
+use toml::{Table, Value};
+
+/// The greatest numerator of a coefficient, without its sign.
+const MAX_NUMERATOR: u64 = 1 << 30;
+
+/// The greatest constant or tap, without its sign.
+pub const MAX_CONSTANT: u64 = 2047;
+
+/// The number, where it is not within the bounds.
+pub fn outside(low: i64, high: i64, n: i64) -> Option<i64>
+    ensures { result ≡ outside low high n }
+{
+    if low <= n && n <= high { None } else { Some(n) }
+}
+
+fn is_beyond(limit: u64, n: i64) -> bool
+    ensures { result ≡ is_beyond limit n }
+{
+    n.unsigned_abs() > limit
+}
+
+/// The first of an array's numbers that is beyond a limit, above or below.
+fn first_beyond(limit: u64, items: &[Value]) -> Option<i64>
+    ensures { result ≡ first_beyond limit (items_view items.now) }
+{
+    let power = places_among(items);
+    'items: for item in items {
+        let n = coefficient(power, item);
+        if is_beyond(limit, n) {
+            return Some(n);
+        }
+    }
+    None
+}
+
+/// The length of an array, where it is not within the bounds.
+pub fn length_outside(least: u32, most: u32, items: &[Value]) -> Option<i64>
+    ensures { result ≡ length_outside least most (items_view items.now) }
+{
+    outside(i64::from(least), i64::from(most), items.len() as i64)
+}
+
+/// The length of an array, or else its first number, that is out of bounds.
+pub fn array_outside(least: u32, most: u32, limit: u64, items: &[Value]) -> Option<i64>
+    ensures { result ≡ array_outside least most limit (items_view items.now) }
+{
+    match length_outside(least, most, items) {
+        Some(length) => Some(length),
+        None => first_beyond(limit, items),
+    }
+}
+
+/// The length of a compressor's name, if there is none of the name.
+pub fn compressor_outside(name: &str) -> Option<i64>
+    ensures { result ≡ compressor_outside name.now }
+{
+    if name == "dadda" || name == "counters" {
+        None
+    } else {
+        Some(name.len() as i64)
+    }
+}
+
+/// The width of an input, where it has too many bits, or too few: signed inputs have two or more.
+pub fn width_outside(most: u32, table: &Table, key: Key) -> Option<i64>
+    ensures { result ≡ width_outside most (table_view table.now) key }
+{
+    let fewest = if flag_at(table, Key::Signed) { 2 } else { 1 };
+    outside(fewest, i64::from(most), number_at(table, key))
+}
+
+/// The power of a lowest bit, where it is out of bounds.
+pub fn power_outside(table: &Table, key: Key) -> Option<i64>
+    ensures { result ≡ power_outside (table_view table.now) key }
+{
+    outside(-32, 32, number_at(table, key))
+}
+
+pub fn coefficients_outside(least: u32, most: u32, table: &Table) -> Option<i64>
+    ensures { result ≡ coefficients_outside least most (table_view table.now) }
+{
+    let items = items_at(table, Key::Coefficients);
+    array_outside(least, most, MAX_NUMERATOR, items)
+}
+
+pub fn denominator_outside(table: &Table) -> Option<i64>
+    ensures { result ≡ denominator_outside (table_view table.now) }
+{
+    outside(1, 1 << 30, number_at(table, Key::Denominator))
+}
+
+/// The number of further adders of a graph, where it is out of bounds.
+pub fn extra_outside(table: &Table) -> Option<i64>
+    ensures { result ≡ extra_outside (table_view table.now) }
+{
+    outside(0, 2, number_at(table, Key::Extra))
+}

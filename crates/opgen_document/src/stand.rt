@@ -1,0 +1,65 @@
+//! How a key stands in a document, whatever its kind.
+ghost use Rattle.std.specs.Prelude.{◌≡◌};
+ghost use Rattle.opgen_document.specs.Keys.{later, shared_stand, may_be, has_to_be};
+
+use crate::key::Key;
+
+/// How a key stands in a document.
+#[derive(Clone, Copy)]
+pub enum Stand {
+    Absent,
+    Optional,
+    Needed,
+}
+
+impl Stand {
+    /// How a key stands that may be left out and that version 1 does not have.
+    pub fn later(first: bool) -> Stand
+        ensures { result ≡ later first }
+    {
+        if first {
+            Stand::Absent
+        } else {
+            Stand::Optional
+        }
+    }
+
+    /// Whether the key may be there.
+    pub fn may_be(self) -> bool
+        ensures { result ≡ may_be self }
+    {
+        match self {
+            Stand::Absent => false,
+            Stand::Optional | Stand::Needed => true,
+        }
+    }
+
+    /// Whether the key has to be there.
+    pub fn has_to_be(self) -> bool
+        ensures { result ≡ has_to_be self }
+    {
+        match self {
+            Stand::Absent | Stand::Optional => false,
+            Stand::Needed => true,
+        }
+    }
+}
+
+/// How a key stands that documents of all kinds have, or all delay lines.
+pub fn shared_stand(key: Key) -> Option<Stand>
+    ensures { result ≡ shared_stand key }
+{
+    match key {
+        Key::Version
+        | Key::Name
+        | Key::Kind
+        | Key::Exact
+        | Key::Target
+        | Key::Period
+        | Key::Class
+        | Key::Base
+        | Key::PerBit => Some(Stand::Needed),
+        Key::Delay => Some(Stand::Optional),
+        _ => None,
+    }
+}

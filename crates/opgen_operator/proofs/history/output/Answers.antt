@@ -1,6 +1,0 @@
-use Rattle.std.proofs.Common.{length, arith, ap}
-use Rattle.opgen_num.specs.WordLaws.{length-word}
-use Rattle.opgen_operator.proofs.history.output.Goals as goal
-
-pub value-requires-clause-most : goal.value-requires-clause-most
-value-requires-clause-most c = omega (arith, ap length c.new.ensures, length-word c.args.format.width c.args.bits)

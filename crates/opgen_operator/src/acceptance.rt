@@ -1,0 +1,59 @@
+//! Tests whether a version of specifications accepts an operator.
+ghost use Rattle.std.specs.Prelude.{ℕ, ◌≡◌, ◌≤◌, ◌↔◌, ◌≤ℤ◌, Some, None, IsTrue};
+ghost use Rattle.opgen_operator.specs.Operator.{shift, least_shift, most_shift, need, inexact, HasInputsWithin, IsOperator, IsOfFirstVersion, IsAcceptedBy};
+ghost use Rattle.opgen_ports.specs.Limits.{most_input, most_signal};
+
+use crate::operator::Operator;
+use opgen_ports::{most_input, most_signal};
+
+impl Operator {
+    /// Whether a version of specifications accepts the operator, its fields and its widest signal.
+    pub(crate) fn is_accepted_in(&self, version: u32) -> bool
+        ensures { IsTrue result ↔ IsAcceptedBy version self.now }
+    {
+        self.is_ranged()
+            && self.has_inputs_within(most_input(version))
+            && self.is_fine(version)
+            && self.is_narrow(version)
+            && self.is_whole(self.own_mark().unwrap_or(false))
+    }
+
+    /// Whether the operator is one of version 1, if that is the version.
+    pub(crate) fn is_in_version(&self, version: u32) -> bool
+        ensures { IsTrue result ↔ (version ≡ 1 → IsOfFirstVersion self.now) }
+    {
+        version != 1 || self.is_of_first_version()
+    }
+
+    /// Whether the exact values are whole, if exact outputs are asked for.
+    pub(crate) fn is_whole(&self, exact: bool) -> bool
+        requires { IsOperator self.now }
+        ensures { IsTrue result ↔ (IsTrue exact → inexact self.now ≡ None) }
+    {
+        !exact || self.inexact().is_none()
+    }
+
+    /// Whether the shift is within the limits of the kind.
+    fn is_fine(&self, version: u32) -> bool
+        requires { IsOperator self.now }
+        ensures { IsTrue result ↔
+            ((least_shift self.now ≤ℤ shift self.now) × (shift self.now ≤ℤ most_shift version self.now)) }
+    {
+        let shift = self.shift();
+        self.least_shift() <= shift && shift <= self.most_shift(version)
+    }
+
+    /// Whether the widest signal is no wider than a signal may be.
+    fn is_narrow(&self, version: u32) -> bool
+        requires op { IsOperator self.now }
+        requires inputs { HasInputsWithin (most_input version) self.now }
+        requires low { least_shift self.now ≤ℤ shift self.now }
+        requires high { shift self.now ≤ℤ most_shift version self.now }
+        ensures { IsTrue result ↔ ((bits : ℕ) → need self.now ≡ Some bits → bits ≤ most_signal version) }
+    {
+        match self.need() {
+            Some(bits) => bits <= most_signal(version),
+            None => true,
+        }
+    }
+}

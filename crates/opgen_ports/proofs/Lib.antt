@@ -1,0 +1,11 @@
+-- Lemmas on ports, limits, shifts and how far numbers go.
+pub mod Bounds
+pub mod InputPorts
+pub mod Versions
+pub mod Magnitudes
+pub mod WeightedSums
+pub mod Reached
+pub mod Widths
+pub mod Covered
+pub mod In128
+pub mod Cycles

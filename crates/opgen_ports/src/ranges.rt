@@ -1,0 +1,52 @@
+//! Tests whether values are within the ranges that keys of several kinds have.
+ghost use Rattle.std.specs.Prelude.{◌≡◌, ◌≤◌, ◌≤ℤ◌, ◌↔◌, ◌^◌, pos, All, IsTrue};
+ghost use Rattle.opgen_num.specs.Formats.{fewest_bits};
+ghost use Rattle.opgen_ports.specs.Ranges.{IsPower, IsInput, IsWithin};
+
+use opgen_num::{Format, MAX_INPUT};
+
+/// Whether a lowest bit may have this power: -32 to 32.
+pub fn is_power(lsb: i32) -> bool
+    ensures { IsTrue result ↔ IsPower lsb }
+{
+    -32 <= lsb && lsb <= 32
+}
+
+fn fewest_bits(signed: bool) -> u32
+    ensures { result ≡ fewest_bits signed }
+{
+    if signed { 2 } else { 1 }
+}
+
+/// Whether an input may have the format in some version of specifications.
+pub fn is_input(format: Format) -> bool
+    ensures { IsTrue result ↔ IsInput format }
+{
+    fewest_bits(format.signed) <= format.width && format.width <= MAX_INPUT && is_power(format.lsb)
+}
+
+/// Whether a length is within its range.
+pub fn is_length(least: usize, most: usize, length: usize) -> bool
+    ensures { IsTrue result ↔ ((least ≤ length) × (length ≤ most)) }
+{
+    least <= length && length <= most
+}
+
+/// Whether a number can be a common denominator: 1 to 2^30.
+pub fn is_denominator(den: i64) -> bool
+    ensures { IsTrue result ↔ ((pos 1 ≤ℤ den) × (den ≤ℤ pos (2 ^ 30))) }
+{
+    1 <= den && den <= 1 << 30
+}
+
+/// Whether each number is at most so far from 0.
+pub fn are_within(limit: u64, numbers: &[i64]) -> bool
+    ensures { IsTrue result ↔ All (IsWithin limit) numbers.now }
+{
+    'numbers: for number in numbers {
+        if number.unsigned_abs() > limit {
+            return false;
+        }
+    }
+    true
+}

@@ -1,0 +1,126 @@
+-- The bits of a word, joined by one operator, and what they say of its number.
+use Rattle.std.proofs.Common.{◌≡◌, ℕ, zero, suc, ◌+◌, ◌-◌, ◌*◌, ◌^◌, ◌<◌, ◌≤◌, Bool, true, false, List, [], ◌∷◌, ◌++◌, length, take, drop, ◌&&◌, ◌||◌, refl, sym, ap, ◌∙◌, arith}
+use Rattle.std.specs.Prelude.{slice_index_or}
+use Rattle.std.proofs.Math.Nat.{two-pow-succ}
+use Rattle.std.proofs.Math.Seq.{take-suc}
+use Rattle.std.proofs.lemmas.List.{get_or-drop, length-drop, length-take-le}
+use Rattle.std.proofs.lemmas.Nat.{pow_pos}
+use Rattle.opgen_num.specs.Words.{digit, nat}
+use Rattle.opgen_num.specs.Sums.{pairwise}
+use Rattle.opgen_num.proofs.Cuts.{nat-append, take-below}
+use Rattle.opgen_design.specs.declared.expr.Op.TheVariants.{And, Or}
+use Rattle.opgen_design.specs.Value.{Scope, value, value_on, cut}
+use Rattle.opgen_saturate.specs.Recipe.{bits_of, joined}
+
+-- one bit of a word
+pub one_bit : (w : List Bool) (p : ℕ) → p < length w → cut p p w ≡ slice_index_or w p false ∷ []
+one_bit w p h = let e : p + 1 - p ≡ suc zero = omega arith in ap (λ n. take n (drop p w)) e ∙ first w p h
+  where
+    first : (w : List Bool) (p : ℕ) → p < length w → take (suc zero) (drop p w) ≡ slice_index_or w p false ∷ []
+    first [] p h = absurd (omega (arith, h))
+    first (b ∷ w) zero h = refl
+    first (b ∷ w) (suc p) h = first w p (omega (arith, h))
+
+-- one of so many bits from a place up, and all of them
+abbrev pub any_of : (w : List Bool) (low count : ℕ) → Bool
+any_of w low zero = false
+any_of w low (suc k) = slice_index_or w (low + k) false || any_of w low k
+
+abbrev pub all_of : (w : List Bool) (low count : ℕ) → Bool
+all_of w low zero = true
+all_of w low (suc k) = slice_index_or w (low + k) false && all_of w low k
+
+module _ (w : List Bool) (low : ℕ) where
+  abbrev pub part_number : ℕ → ℕ
+  part_number k = nat (take k (drop low w))
+
+  next : (k : ℕ) → low + k < length w → part_number (suc k) ≡ part_number k + 2 ^ k * digit (slice_index_or w (low + k) false)
+  next k h =
+      let d = drop low w in
+      let bit = slice_index_or w (low + k) false in
+      let long : length (take k d) ≡ k = length-take-le k d (omega (arith, h, length-drop low w)) in
+      ap nat (take-suc d k false (omega (arith, h, length-drop low w)) ∙ ap (λ b. take k d ++ b ∷ []) (get_or-drop low w k false))
+      ∙ nat-append (take k d) (bit ∷ [])
+      ∙ ap (λ n. nat (take k d) + 2 ^ n * nat (bit ∷ [])) long
+      ∙ ap (λ n. nat (take k d) + 2 ^ k * n) (omega arith)
+
+  pub any-number : (k : ℕ) → low + k ≤ length w
+      → (any_of w low k ≡ true → 1 ≤ part_number k) × (any_of w low k ≡ false → part_number k ≡ 0)
+  any-number zero h = (λ e. absurd (cc), λ e. refl)
+  any-number (suc k) h =
+      go (slice_index_or w (low + k) false) (any_of w low k) (any-number k (omega (arith, h))) (next k (omega (arith, h)))
+    where
+      go : (b r : Bool) → (r ≡ true → 1 ≤ part_number k) × (r ≡ false → part_number k ≡ 0)
+          → part_number (suc k) ≡ part_number k + 2 ^ k * digit b
+          → (b || r ≡ true → 1 ≤ part_number (suc k)) × (b || r ≡ false → part_number (suc k) ≡ 0)
+      go true r p e = (λ f. omega (arith, e, pow_pos k), λ f. absurd (cc))
+      go false true p e = (λ f. omega (arith, e, p.0 refl), λ f. absurd (cc))
+      go false false p e = (λ f. absurd (cc), λ f. omega (arith, e, p.1 refl))
+
+  pub all-number : (k : ℕ) → low + k ≤ length w
+      → (all_of w low k ≡ true → part_number k + 1 ≡ 2 ^ k) × (all_of w low k ≡ false → part_number k + 1 < 2 ^ k)
+  all-number zero h = (λ e. refl, λ e. absurd (cc))
+  all-number (suc k) h =
+      go (slice_index_or w (low + k) false) (all_of w low k) (all-number k (omega (arith, h))) (next k (omega (arith, h)))
+    where
+      go : (b r : Bool) → (r ≡ true → part_number k + 1 ≡ 2 ^ k) × (r ≡ false → part_number k + 1 < 2 ^ k)
+          → part_number (suc k) ≡ part_number k + 2 ^ k * digit b
+          → (b && r ≡ true → part_number (suc k) + 1 ≡ 2 ^ suc k) × (b && r ≡ false → part_number (suc k) + 1 < 2 ^ suc k)
+      go true true p e = (λ f. omega (arith, e, p.0 refl, two-pow-succ k), λ f. absurd (cc))
+      go true false p e = (λ f. absurd (cc), λ f. omega (arith, e, p.1 refl, two-pow-succ k))
+      go false r p e =
+          (λ f. absurd (cc), λ f. omega (arith, e, take-below k (drop low w), two-pow-succ k, pow_pos k))
+
+or_or : (a b r : Bool) → (a || b) || r ≡ a || (b || r)
+or_or true b r = refl
+or_or false b r = refl
+
+or_none : (a : Bool) → a || false ≡ a
+or_none true = refl
+or_none false = refl
+
+and_and : (a b r : Bool) → (a && b) && r ≡ a && (b && r)
+and_and true b r = refl
+and_and false b r = refl
+
+and_none : (a : Bool) → a && true ≡ a
+and_none true = refl
+and_none false = refl
+
+-- the values of bits that are joined
+module _ (s : Scope) (n low : ℕ) where
+  abbrev w : List Bool
+  w = s.names n
+
+  at_start : slice_index_or w low false ≡ slice_index_or w (low + 0) false
+  at_start = let e : low ≡ low + 0 = omega arith in ap (λ p. slice_index_or w p false) e
+
+  on_or : (k : ℕ) (a : Bool) → low + k ≤ length w → value_on s Or (a ∷ []) (bits_of n low k) ≡ (a || any_of w low k) ∷ []
+  on_or zero a h = ap (λ c. c ∷ []) (sym (or_none a))
+  on_or (suc k) a h =
+      let b = slice_index_or w (low + k) false in
+      ap (λ v. value_on s Or (pairwise ◌||◌ (a ∷ []) v) (bits_of n low k)) (one_bit w (low + k) (omega (arith, h)))
+      ∙ on_or k (a || b) (omega (arith, h))
+      ∙ ap (λ c. c ∷ []) (or_or a b (any_of w low k))
+
+  pub or-value : (count : ℕ) → 1 ≤ count → low + count ≤ length w → value s (joined Or n low count) ≡ any_of w low count ∷ []
+  or-value zero some h = absurd (omega (arith, some))
+  or-value (suc zero) some h = one_bit w low (omega (arith, h)) ∙ ap (λ c. c ∷ []) (at_start ∙ sym (or_none (slice_index_or w (low + 0) false)))
+  or-value (suc (suc k)) some h =
+      ap (λ v. value_on s Or v (bits_of n low (suc k))) (one_bit w (low + suc k) (omega (arith, h)))
+      ∙ on_or (suc k) (slice_index_or w (low + suc k) false) (omega (arith, h))
+
+  on_and : (k : ℕ) (a : Bool) → low + k ≤ length w → value_on s And (a ∷ []) (bits_of n low k) ≡ (a && all_of w low k) ∷ []
+  on_and zero a h = ap (λ c. c ∷ []) (sym (and_none a))
+  on_and (suc k) a h =
+      let b = slice_index_or w (low + k) false in
+      ap (λ v. value_on s And (pairwise ◌&&◌ (a ∷ []) v) (bits_of n low k)) (one_bit w (low + k) (omega (arith, h)))
+      ∙ on_and k (a && b) (omega (arith, h))
+      ∙ ap (λ c. c ∷ []) (and_and a b (all_of w low k))
+
+  pub and-value : (count : ℕ) → 1 ≤ count → low + count ≤ length w → value s (joined And n low count) ≡ all_of w low count ∷ []
+  and-value zero some h = absurd (omega (arith, some))
+  and-value (suc zero) some h = one_bit w low (omega (arith, h)) ∙ ap (λ c. c ∷ []) (at_start ∙ sym (and_none (slice_index_or w (low + 0) false)))
+  and-value (suc (suc k)) some h =
+      ap (λ v. value_on s And v (bits_of n low (suc k))) (one_bit w (low + suc k) (omega (arith, h)))
+      ∙ on_and (suc k) (slice_index_or w (low + suc k) false) (omega (arith, h))

@@ -1,0 +1,119 @@
+-- The test as a node, and the choice that it makes.
+use Rattle.std.proofs.Common.{◌≡◌, ℕ, ◌+◌, ◌-◌, ◌<◌, ◌≤◌, min, cond, Bool, true, false, List, [], ◌∷◌, length, map, take, not, ◌&&◌, if◌then◌else◌, nat_le, refl, sym, ap, ◌∙◌, arith}
+use Rattle.std.specs.Prelude.{ℤ, ◌<ℤ◌, ◌≤ℤ◌}
+use Rattle.std.proofs.Math.Seq.{take-length}
+use Rattle.std.proofs.lemmas.Bool.{leb-false, leb-true}
+use Rattle.std.proofs.lemmas.Int.{ints}
+use Rattle.opgen_num.specs.declared.format.Format.{Format}
+use Rattle.opgen_num.specs.Formats.{Holds, IsWidthOf}
+use Rattle.opgen_num.specs.Values.{val}
+use Rattle.opgen_num.specs.Sums.{pairwise}
+use Rattle.opgen_num.proofs.BitLength.{power_order}
+use Rattle.opgen_design.specs.declared.expr.Op.TheVariants.{And, Or}
+use Rattle.opgen_design.specs.Tree.{Tree, inverse, chain, none, more}
+use Rattle.opgen_design.specs.Value.{Scope, value, cut, chosen}
+use Rattle.opgen_saturate.specs.Range.{into_range, least_of, greatest_of, saturated}
+use Rattle.opgen_saturate.specs.Recipe.{is_wider, first_dropped, counting, joined, outside, least_word, greatest_word}
+use Rattle.opgen_saturate.proofs.Law.{Lies, under, over, inside, lies}
+use Rattle.opgen_saturate.proofs.Bits.{any_of, all_of, or-value, and-value}
+use Rattle.opgen_saturate.proofs.Outside.{is_outside, Tells}
+use Rattle.opgen_saturate.proofs.Resized.{some_bits}
+
+-- where the other format does not hold every number, there are bits to drop
+pub dropped-within : (format to : Format) → IsWidthOf format.signed format.width → is_wider format to ≡ false
+    → first_dropped format to < format.width
+dropped-within format to some = go format.signed (some_bits format.signed format.width some.0)
+  where
+    go : (signed : Bool) → 1 ≤ format.width
+        → (if signed then to.signed && nat_le format.width to.width else nat_le format.width (counting to)) ≡ false
+        → (if signed then min (counting to) (format.width - 1) else counting to) < format.width
+    go true few h = omega (arith, few)
+    go false few h = leb-false format.width (counting to) h
+
+module _ (s : Scope) (n : ℕ) (format to : Format) (within : first_dropped format to < format.width)
+    (long : length (s.names n) ≡ format.width) where
+  abbrev low : ℕ
+  low = first_dropped format to
+
+  abbrev count : ℕ
+  count = format.width - low
+
+  abbrev any : Bool
+  any = any_of (s.names n) low count
+
+  abbrev all : Bool
+  all = all_of (s.names n) low count
+
+  abbrev both : Tree
+  both = chain And (more (joined Or n low count) (more (inverse (joined And n low count)) none))
+
+  or-is : value s (joined Or n low count) ≡ any ∷ []
+  or-is = or-value s n low count (omega (arith, within)) (omega (arith, within, long))
+
+  and-is : value s (joined And n low count) ≡ all ∷ []
+  and-is = and-value s n low count (omega (arith, within)) (omega (arith, within, long))
+
+  tested : (c : Bool) → value s (if c then both else joined Or n low count) ≡ (if c then any && not all else any) ∷ []
+  tested true =
+      ap (λ v. pairwise ◌&&◌ v (map not (value s (joined And n low count)))) or-is
+      ∙ ap (λ v. pairwise ◌&&◌ (any ∷ []) (map not v)) and-is
+  tested false = or-is
+
+  pub outside-value : value s (outside n format to) ≡ is_outside (s.names n) format to ∷ []
+  outside-value = tested (format.signed && to.signed)
+
+-- a number of the range stays
+pub stays : (low high n : ℤ) → low ≤ℤ n → n ≤ℤ high → into_range low high n ≡ n
+stays low high n f g = go (lies low high n)
+  where
+    go : Lies low high n → into_range low high n ≡ n
+    go (under h e) = absurd (omega (arith, ints, h, f))
+    go (over k h e) = absurd (omega (arith, ints, h, g))
+    go (inside k h e) = e
+
+becomes_least : (low high n : ℤ) → n <ℤ low → into_range low high n ≡ low
+becomes_least low high n f = go (lies low high n)
+  where
+    go : Lies low high n → into_range low high n ≡ low
+    go (under h e) = e
+    go (over k h e) = absurd (omega (arith, ints, k, f))
+    go (inside k h e) = absurd (omega (arith, ints, k, f))
+
+becomes_greatest : (low high n : ℤ) → low ≤ℤ high → high <ℤ n → into_range low high n ≡ high
+becomes_greatest low high n some f = go (lies low high n)
+  where
+    go : Lies low high n → into_range low high n ≡ high
+    go (under h e) = absurd (omega (arith, ints, h, f, some))
+    go (over k h e) = e
+    go (inside k h e) = absurd (omega (arith, ints, h, f))
+
+-- the bits of a word of so many
+pub all-bits : (v : List Bool) (m : ℕ) → 1 ≤ m → length v ≡ m → cut (m - 1) 0 v ≡ v
+all-bits v m some e = let long : m - 1 + 1 - 0 ≡ length v = omega (arith, some, e) in ap (λ n. take n v) long ∙ take-length v
+
+-- what is chosen by the test and the sign is the number brought into the range
+module _ (to : Format) (n : ℤ) (some : least_of to ≤ℤ greatest_of to) (least-is : val (least_word to) to ≡ least_of to)
+    (greatest-is : val (greatest_word to) to ≡ greatest_of to) (low : List Bool)
+    (kept : Holds to.signed to.width n → val low to ≡ n) where
+  pub decided : (o negative : Bool) → Tells o negative to.signed to.width n
+      → val (chosen (o ∷ []) (cond negative (least_word to) (greatest_word to)) low) to ≡ saturated to n
+  decided false negative h =
+      kept (h.inside refl) ∙ sym (stays (least_of to) (greatest_of to) n (h.inside refl).0 (h.inside refl).1)
+  decided true true h = least-is ∙ sym (becomes_least (least_of to) (greatest_of to) n (h.under refl refl))
+  decided true false h = greatest-is ∙ sym (becomes_greatest (least_of to) (greatest_of to) n some (h.over refl refl))
+
+-- a format that holds every number of another
+module _ (w m : ℕ) (n : ℤ) where
+  holds_wider : (signed other : Bool) → 1 ≤ w
+      → (if signed then other && nat_le w m else nat_le w (if other then m - 1 else m)) ≡ true → Holds signed w n → Holds other m n
+  holds_wider false false few h k = (k.0, omega (arith, ints, k.1, power_order w m (leb-true w m h)))
+  holds_wider false true few h k =
+      (omega (arith, ints, k.0), omega (arith, ints, k.1, power_order w (m - 1) (leb-true w (m - 1) h)))
+  holds_wider true false few h k = absurd (cc)
+  holds_wider true true few h k =
+      let p = power_order (w - 1) (m - 1) (omega (arith, leb-true w m h)) in
+      (omega (arith, ints, k.0, p), omega (arith, ints, k.1, p))
+
+pub wider-holds : (format to : Format) (n : ℤ) → 1 ≤ format.width → is_wider format to ≡ true
+    → Holds format.signed format.width n → Holds to.signed to.width n
+wider-holds format to n = holds_wider format.width to.width n format.signed to.signed

@@ -1,0 +1,8 @@
+//! The law of saturation: it keeps good outputs good.
+ghost use Rattle.opgen_saturate.specs.Range.{SaturationKeepsGood};
+
+/// A number that is good for an exact value, as a fraction, is good for that value brought into the range of a format, once it is
+/// brought there itself, in both modes.
+pub fn saturation_keeps_good()
+    ensures { SaturationKeepsGood }
+{}

@@ -1,0 +1,23 @@
+//! Saturation: the step behind a net that brings its output into the range of another format, to its least or its greatest
+//! number if the output lies below or above.
+//!
+//! Proved: For every two formats with widths of signals, the nodes are those of the recipe. At every time and for all inputs
+//! the new output is the old one brought into the range. The net stays valid, and keeps its inputs and the words of its
+//! earlier nodes. A number that is good for an exact value, and brought into a range, is good for that value brought into
+//! it, exact or faithful.
+//!
+//! By: `saturate`, `saturate_output`; the law `saturation_keeps_good`.
+//!
+//! No command uses it yet.
+#![tactic(auto)]
+
+mod laws;
+mod output;
+mod step;
+mod test;
+#[cfg(test)]
+mod tests;
+
+pub use laws::saturation_keeps_good;
+pub use output::saturate_output;
+pub use step::saturate;

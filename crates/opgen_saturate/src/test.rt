@@ -1,0 +1,101 @@
+//! The expression that tests whether a number lies outside the range of another format.
+ghost use Rattle.std.specs.Prelude.{◌≡◌, ◌+◌, ◌^◌, ◌<◌, ◌≤◌, IfOk, map};
+ghost use Rattle.opgen_num.specs.declared.TheConstants.{MAX_WIDTH};
+ghost use Rattle.opgen_design.specs.Plain.{plain};
+ghost use Rattle.opgen_saturate.specs.Recipe.{counting, is_wider, first_dropped, bit_of, bit_list, joined, outside};
+
+use opgen_net::{Expr, Op, Slice};
+use opgen_num::Format;
+use std::alloc::{AllocError, Global};
+
+/// How many bits of a format count up from 0: all but a sign.
+pub fn counting(to: Format) -> u32
+    requires { 1 ≤ to.width }
+    ensures { result ≡ counting to }
+{
+    if to.signed { to.width - 1 } else { to.width }
+}
+
+/// Whether every number of a format is a number of the other one.
+pub fn is_wider(format: Format, to: Format) -> bool
+    requires { 1 ≤ to.width }
+    ensures { result ≡ is_wider format to }
+{
+    if format.signed {
+        to.signed && format.width <= to.width
+    } else {
+        format.width <= counting(to)
+    }
+}
+
+// The lowest of the bits that have to be 0, or all equal.
+fn first_dropped(format: Format, to: Format) -> u32
+    requires from { 1 ≤ format.width }
+    requires to { 1 ≤ to.width }
+    ensures { result ≡ first_dropped format to }
+{
+    if format.signed {
+        counting(to).min(format.width - 1)
+    } else {
+        counting(to)
+    }
+}
+
+/// One bit of a node.
+pub fn bit(node: usize, place: u32) -> Expr
+    ensures { plain result ≡ bit_of node place }
+{
+    Expr::Part(Slice {
+        node,
+        high: place,
+        low: place,
+    })
+}
+
+// So many bits of a node from a place up, the highest first.
+fn bits(alloc: Global, node: usize, low: u32, count: u32) -> Result<Vec<Expr>, AllocError>
+    requires { low + count < 2 ^ 32 }
+    ensures { IfOk result (λ v. map plain v.items ≡ bit_list node low count) }
+{
+    let mut found = Vec::new(alloc);
+    let mut left = count;
+    'bits: while left > 0 {
+        left -= 1;
+        found.push(bit(node, low + left))?;
+    }
+    Ok(found)
+}
+
+// The bits joined by an operator, where there are several.
+fn joined(alloc: Global, op: Op, node: usize, low: u32, count: u32) -> Result<Expr, AllocError>
+    requires some { 1 ≤ count }
+    requires few { low + count < 2 ^ 32 }
+    ensures { IfOk result (λ e. plain e ≡ joined op node low count) }
+{
+    if count == 1 {
+        return Ok(bit(node, low));
+    }
+    let operands = bits(alloc, node, low, count)?;
+    Ok(Expr::Chain(op, operands))
+}
+
+/// Whether the number of a node lies outside: one of the bits that are dropped is 1, and of signed
+/// numbers not all are.
+pub fn outside(alloc: Global, node: usize, format: Format, to: Format) -> Result<Expr, AllocError>
+    requires from { format.width ≤ MAX_WIDTH }
+    requires to { 1 ≤ to.width }
+    requires within { first_dropped format to < format.width }
+    ensures { IfOk result (λ e. plain e ≡ outside node format to) }
+{
+    let low = first_dropped(format, to);
+    let count = format.width - low;
+    let any = joined(alloc, Op::Or, node, low, count)?;
+    if !(format.signed && to.signed) {
+        return Ok(any);
+    }
+    let all = joined(alloc, Op::And, node, low, count)?;
+    let mut both = Vec::new(alloc);
+    both.push(any)?;
+    both.push(Expr::Not(Box::new(alloc, all)?))?;
+    Ok(Expr::Chain(Op::And, both))
+}

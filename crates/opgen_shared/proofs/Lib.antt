@@ -1,0 +1,4 @@
+pub mod Forms
+pub mod Growing
+pub mod StepLaws
+pub mod Costs

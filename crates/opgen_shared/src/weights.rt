@@ -1,0 +1,29 @@
+//! How many adders a number needs at most, by its signed digits: one less than its weight.
+ghost use Rattle.std.specs.Prelude.{ℕ, ◌≤◌, ◌<◌, ◌^◌};
+ghost use Rattle.opgen_shared.specs.Digits.{HasDigits};
+ghost use Rattle.opgen_shared.specs.Sums.{AreSums, placed_by};
+ghost use Rattle.opgen_shared.specs.Steps.{IsWide, Weighs};
+
+use crate::sums::{Sums, stands};
+use opgen_csd::recode;
+
+// The number of signed digits that are not zero.
+pub(crate) fn digit_count(number: u32) -> u32
+    requires { number < 2 ^ 21 }
+    ensures { HasDigits number result }
+{
+    recode(i64::from(number)).count()
+}
+
+// 1 where the number stands, and else the number of its digits.
+pub(crate) fn weight(sums: &Sums, number: u32) -> u32
+    requires sums { AreSums sums.now.adders sums.now.levels.items }
+    requires number { IsWide number }
+    ensures weighs { Weighs (placed_by sums.now.adders) number result }
+    ensures most { (count : ℕ) → HasDigits number count → result ≤ count }
+{
+    if stands(sums, number) {
+        return 1;
+    }
+    digit_count(number)
+}

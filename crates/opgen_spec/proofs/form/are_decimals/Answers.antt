@@ -1,7 +1,0 @@
-use Rattle.std.proofs.Common.{◌∙◌}
-use Rattle.opgen_spec.specs.Faults.{is_decimal}
-use Rattle.opgen_spec.proofs.Trees.{all-items}
-use Rattle.opgen_spec.proofs.form.are_decimals.Goals as goal
-
-pub returns : goal.returns
-returns c = c.all_decimals.ensures ∙ all-items is_decimal c.args.items.now

@@ -1,7 +1,0 @@
-use Rattle.std.proofs.Common.{◌∙◌}
-use Rattle.opgen_spec.specs.Faults.{is_integer}
-use Rattle.opgen_spec.proofs.Trees.{all-items}
-use Rattle.opgen_spec.proofs.form.are_integers.Goals as goal
-
-pub returns : goal.returns
-returns c = c.all_integers.ensures ∙ all-items is_integer c.args.items.now

@@ -1,7 +1,0 @@
-use Rattle.std.proofs.Common.{◌∙◌}
-use Rattle.opgen_spec.specs.Faults.{is_table}
-use Rattle.opgen_spec.proofs.Trees.{all-items}
-use Rattle.opgen_spec.proofs.form.are_tables.Goals as goal
-
-pub returns : goal.returns
-returns c = c.all_tables.ensures ∙ all-items is_table c.args.items.now

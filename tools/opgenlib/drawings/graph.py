@@ -1,0 +1,293 @@
+"""The adders that make several constants, or the taps of a transposed filter: as an SVG, or as Graphviz DOT.
+
+In the SVG every number runs along a row of its own to the columns that read it, so that its line to each reader ends in a
+piece that no other line has: there its sign and shift are written.
+"""
+from collections.abc import Iterator
+from dataclasses import dataclass, field
+
+from opgenlib.drawings.example import Example, NotDrawn, cycles
+from opgenlib.svg import LETTER, Picture
+
+
+@dataclass(frozen=True)
+class Sum:
+    """How two numbers make a third: each has a sign and a shift, and the sum is shifted right."""
+
+    u: int
+    u_shift: int
+    u_minus: bool
+    v: int
+    v_minus: bool
+    right: int = 0
+
+
+def sum_of(u: int, v: int, f: int) -> Sum | None:
+    """How u and v make f, by the first form and the least shift; None where they don't."""
+    shifts = range(1, 14)
+    for u_minus, v_minus in ((False, False), (False, True), (True, False)):
+        for i in shifts:
+            if (-u if u_minus else u) * (1 << i) + (-v if v_minus else v) == f:
+                return Sum(u, i, u_minus, v, v_minus)
+    for total, u_minus, v_minus in ((u + v, False, False), (abs(u - v), u < v, u >= v)):
+        for right in shifts:
+            if total == f << right:
+                return Sum(u, 0, u_minus, v, v_minus, right)
+    return None
+
+
+def sums_of(members: list[int]) -> dict[int, Sum]:
+    """How each member is made, of earlier ones, of the least two that make it."""
+    placed, made = [1], {}
+    while missing := sorted(set(members) - set(placed)):
+        steps = {}
+        for f in missing:
+            sums = (sum_of(u, v, f) for u in sorted(placed) for v in sorted(placed))
+            if step := next(filter(None, sums), None):
+                steps[f] = step
+        if not steps:
+            raise NotDrawn(f"the numbers {', '.join(map(str, missing))} of the report cannot be made of the others")
+        made |= steps
+        placed += steps
+    return made
+
+
+@dataclass(frozen=True)
+class Adders:
+    """What is drawn: how the numbers are made, and the constants or taps that read them."""
+
+    caption: str
+    made: dict[int, Sum]
+    numbers: list[int]
+    is_filter: bool
+
+
+def adders_of(example: Example) -> Adders:
+    facts, is_filter = example.report, example.spec["kind"] == "tfir"
+    numbers = example.spec["taps" if is_filter else "constants"]
+    if not facts.graph and any(abs(number) & abs(number) - 1 for number in numbers):
+        raise NotDrawn(f"the report {example.beside('.rpt')} has no graph")
+    members = " ".join(map(str, facts.graph)) or "of no adder"
+    caption = f"{example.caption}: graph {members}, {len(facts.graph)} adder{'' if len(facts.graph) == 1 else 's'}"
+    return Adders(caption, sums_of(list(facts.graph)), numbers, is_filter)
+
+
+def times(number: int) -> str:
+    return "x" if number == 1 else f"{number} x"
+
+
+def label_of(is_minus: bool, shift: int) -> str:
+    """The sign and, where there is one, the shift of what goes into a sum."""
+    return ("-" if is_minus else "+") + (f" << {shift}" if shift else "")
+
+
+def odd_and_shift(number: int) -> tuple[int, int]:
+    """The odd part of a number without its sign, and how far it is shifted."""
+    shift = (number & -number).bit_length() - 1 if number else 0
+    return abs(number) >> shift, shift
+
+
+# As Graphviz DOT.
+
+
+def edge(source: str, to: str, is_minus: bool, shift: int) -> str:
+    """A line of DOT: an arrow with its sign, and its shift where it has one."""
+    return f'  {source} -> {to} [label="{label_of(is_minus, shift)}"];'
+
+
+def adder_lines(made: dict[int, Sum]) -> Iterator[str]:
+    """The adders, and what they read."""
+    for f, step in made.items():
+        right = f"\\n>> {step.right}" if step.right else ""
+        yield f'  n{f} [label="{times(f)}{right}"];'
+        yield edge(f"n{step.u}", f"n{f}", step.u_minus, step.u_shift)
+        yield edge(f"n{step.v}", f"n{f}", step.v_minus, 0)
+
+
+def output_lines(constants: list[int]) -> Iterator[str]:
+    """The outputs, and the numbers that they are, with sign and shift."""
+    for at, constant in enumerate(constants):
+        odd, shift = odd_and_shift(constant)
+        yield f'  y{at} [label="y{at} = {constant} x", shape=box, style=solid];'
+        if odd:
+            yield edge(f"n{odd}", f"y{at}", constant < 0, shift).replace(' [label="+"]', "").replace('"+ <<', '"<<')
+
+
+def tap_lines(taps: list[int]) -> Iterator[str]:
+    """The sums of a transposed filter in one column, from the last tap that is not 0: each with its product and the sum before,
+    as many cycles later as there are taps between."""
+    places = [at for at, tap in enumerate(taps) if tap][::-1]
+    yield f"  {{rank=same; {' '.join(f'z{at};' for at in places)}}}" if places else "  z0;"
+    for at in places:
+        odd, shift = odd_and_shift(taps[at])
+        yield f'  z{at} [label="tap {at}: {taps[at]}", shape=box, fillcolor="#f4ecdd"];'
+        yield edge(f"n{odd}", f"z{at}", taps[at] < 0, shift)
+    for later, earlier in zip(places, places[1:]):
+        yield f'  z{later} -> z{earlier} [label="  {cycles(later - earlier)}", style=dashed];'
+    if places:
+        yield '  y [label="y", shape=box, style=solid];'
+        yield f"  z{places[-1]} -> y" + (f' [label="  {cycles(places[-1])}", style=dashed];' if places[-1] else ";")
+    else:
+        yield '  z0 [label="y = 0", shape=box, style=solid];'
+
+
+def dot_of(adders: Adders, name: str) -> str:
+    lines = [
+        f'digraph "{name}" {{',
+        '  rankdir=LR; fontname="sans-serif"; labelloc=b;',
+        '  node [fontname="sans-serif", shape=ellipse, style=filled, fillcolor="#dde8f4"];',
+        '  edge [fontname="sans-serif"];',
+        f'  label="{adders.caption}";',
+        '  n1 [label="x", fillcolor=white];',
+        *adder_lines(adders.made),
+        *(tap_lines(adders.numbers) if adders.is_filter else output_lines(adders.numbers)),
+        "}",
+    ]
+    return "\n".join(lines) + "\n"
+
+
+# As SVG.
+
+ROW, TOP, NODE_HIGH, TRACK, LAST_PIECE = 56, 30, 26, 10, 58
+
+
+@dataclass(frozen=True)
+class Reader:
+    """A box that reads numbers: its column, the middle of its height, and of each number that it reads the label and the place."""
+
+    column: int
+    y: float
+    words: str
+    reads: list[tuple[int, str, float]]
+    is_sum: bool
+
+
+@dataclass
+class Layout:
+    """Where all is: the readers, the row of each number and its column, and the tracks between columns."""
+
+    readers: list[Reader] = field(default_factory=list)
+    rows: dict[int, float] = field(default_factory=dict)
+    columns: dict[int, int] = field(default_factory=dict)
+    last: int = 1
+
+    def tracks(self, column: int) -> list[int]:
+        """The numbers that are read in a column, those from the rows above first."""
+        read = {number for reader in self.readers if reader.column == column for number, _, _ in reader.reads}
+        return sorted(read, key=self.rows.__getitem__)
+
+    def widths(self) -> list[float]:
+        """How wide the boxes of each column are."""
+        words = {column: ["x"] for column in range(self.last + 1)}
+        for reader in self.readers:
+            words[reader.column].append(reader.words)
+        return [max(map(len, words[column])) * LETTER + 24 for column in range(self.last + 1)]
+
+    def lefts(self) -> list[float]:
+        """Where the boxes of each column begin, behind the tracks of what they read."""
+        left, found = 8.0, []
+        for column, width in enumerate(self.widths()):
+            left += TRACK * (len(self.tracks(column)) + 1) + LAST_PIECE if column else 0
+            found.append(left)
+            left += width
+        return found
+
+    def track_x(self, column: int, number: int) -> float:
+        tracks = self.tracks(column)
+        return self.lefts()[column] - LAST_PIECE - TRACK * (len(tracks) - tracks.index(number) - 0.5)
+
+
+def placed(adders: Adders) -> Layout:
+    """The adders one below the other, in columns by their depth; what reads them for an output in the last column."""
+    layout = Layout()
+    depths = {1: 0}
+    for number, step in adders.made.items():
+        depths[number] = 1 + max(depths[step.u], depths[step.v])
+    order = sorted(depths, key=lambda number: (depths[number], number))
+    layout.columns, layout.last = depths, 1 + max(depths.values())
+    layout.rows = {number: TOP + at * ROW for at, number in enumerate(order)}
+    for number, step in adders.made.items():
+        y = layout.rows[number]
+        reads = [(step.u, label_of(step.u_minus, step.u_shift), y - 9), (step.v, label_of(step.v_minus, 0), y + 9)]
+        reads.sort(key=lambda read: layout.rows[read[0]])
+        reads = [(source, label, y + offset) for (source, label, _), offset in zip(reads, (-9, 9))]
+        right = f" (>> {step.right})" if step.right else ""
+        layout.readers.append(Reader(depths[number], y, times(number) + right, reads, True))
+    layout.readers += readers_of(adders, layout.last)
+    return layout
+
+
+def readers_of(adders: Adders, column: int) -> Iterator[Reader]:
+    """The outputs, or the taps from the last that is not 0."""
+    places = [at for at, number in enumerate(adders.numbers) if number or not adders.is_filter]
+    for row, at in enumerate(places[::-1] if adders.is_filter else places):
+        number = adders.numbers[at]
+        odd, shift = odd_and_shift(number)
+        # Half a row below the rows of numbers, so that no line lies on another.
+        y = TOP + (row + 0.5) * ROW
+        label = label_of(number < 0, shift)
+        label = label if adders.is_filter else label.removeprefix("+").strip()
+        words = f"tap {at}: {number} x" if adders.is_filter else f"y{at} = {number} x" if number else f"y{at} = 0"
+        yield Reader(column, y, words, [(odd, label, y)] if odd else [], False)
+
+
+def draw_lines(picture: Picture, layout: Layout) -> None:
+    """Each number's row, its tracks and the pieces to its readers."""
+    lefts, widths = layout.lefts(), layout.widths()
+    for number, y in layout.rows.items():
+        right = lefts[layout.columns[number]] + widths[layout.columns[number]]
+        ends = [layout.track_x(column, number) for column in range(layout.last + 1) if number in layout.tracks(column)]
+        if ends:
+            picture.line(right, y, max(ends), y, "black")
+    for reader in layout.readers:
+        for number, label, y in reader.reads:
+            x, row = layout.track_x(reader.column, number), layout.rows[number]
+            picture.line(x, row, x, y, "black")
+            picture.circle(x, row, 2.5, "black")
+            picture.arrow([(x, y), (lefts[reader.column], y)])
+            below = len(reader.reads) > 1 and y > reader.y
+            picture.text(lefts[reader.column] - LAST_PIECE + 8, y + (13 if below else -5), label)
+
+
+def draw_boxes(picture: Picture, layout: Layout) -> None:
+    lefts, widths = layout.lefts(), layout.widths()
+    picture.box(lefts[0], TOP - NODE_HIGH / 2, widths[0], NODE_HIGH, "white")
+    picture.text(lefts[0] + widths[0] / 2, TOP + 4, "x", "middle")
+    for reader in layout.readers:
+        high = NODE_HIGH + 8 if reader.is_sum else NODE_HIGH
+        left, wide = lefts[reader.column], widths[reader.column]
+        picture.box(left, reader.y - high / 2, wide, high, "#dde8f4" if reader.is_sum else "#f4ecdd")
+        picture.text(left + wide / 2, reader.y + 4, reader.words, "middle")
+
+
+def draw_delays(picture: Picture, layout: Layout, taps: list[int]) -> None:
+    """Between taps the registers that delay the sum, and the output below the first."""
+    boxes = [reader for reader in layout.readers if not reader.is_sum]
+    places = [at for at, tap in enumerate(taps) if tap][::-1]
+    middle = layout.lefts()[-1] + layout.widths()[-1] / 2
+    for reader, at, later in zip(boxes, places, [*places[1:], 0]):
+        bottom, end = reader.y + NODE_HIGH / 2, reader.y + ROW - NODE_HIGH / 2
+        if at == later:
+            picture.arrow([(middle, bottom), (middle, end)])
+            continue
+        picture.rect(middle - 30, bottom + 3, 60, 15, "#e4e4e4", ' stroke="black" stroke-dasharray="3 2"')
+        picture.text(middle, bottom + 14.5, cycles(at - later), "middle", 11)
+        picture.line(middle, bottom, middle, bottom + 3, "black")
+        picture.arrow([(middle, bottom + 18), (middle, end)])
+    picture.text(middle, boxes[-1].y + ROW - NODE_HIGH / 2 + 14, "y", "middle")
+
+
+def graph(example: Example) -> Picture:
+    adders = adders_of(example)
+    layout = placed(adders)
+    rows = [*layout.rows.values(), *(reader.y + (ROW if adders.is_filter else 0) for reader in layout.readers if not reader.is_sum)]
+    right = layout.lefts()[-1] + layout.widths()[-1]
+    picture = Picture(max(right + 16, LETTER * len(adders.caption) + 16), max(rows) + ROW)
+    draw_lines(picture, layout)
+    draw_boxes(picture, layout)
+    if adders.is_filter and any(adders.numbers):
+        draw_delays(picture, layout, adders.numbers)
+    if adders.is_filter and not any(adders.numbers):
+        picture.text(right + 24, TOP + 4, "y = 0")
+    picture.text(8, max(rows) + ROW - 10, adders.caption)
+    return picture

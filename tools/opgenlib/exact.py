@@ -1,0 +1,88 @@
+"""The exact values of an operator's outputs, by its specification alone: the sums of docs/SPECIFICATION.md, in fractions."""
+import math
+from collections.abc import Callable, Sequence
+from fractions import Fraction
+from operator import mul
+
+# The inputs of each cycle so far, in units of their last places, and a cycle: the exact values of the outputs in that cycle in
+# units of theirs, none where nothing is claimed.
+Exact = Callable[[Sequence[Sequence[int]], int], list[Fraction] | None]
+# A root that is no whole number is taken to this many further bits.
+ROOT_BITS = 64
+
+
+def coefficients_of(spec: dict) -> list[Fraction]:
+    """The coefficients in units of the output's last place for each unit of the input."""
+    lsb = 0 if spec["kind"] == "poly" else spec["lsb"]
+    weight = Fraction(2) ** (lsb - spec["out_lsb"]) / spec.get("denominator", 1)
+    return [Fraction(coefficient) * weight for coefficient in spec["coefficients"]]
+
+
+def sum_over_taps(taps: Sequence[Fraction | int]) -> Exact:
+    """The sum over the last inputs, those before the first being 0."""
+    over = math.lcm(*(Fraction(tap).denominator for tap in taps))
+    numerators = [int(tap * over) for tap in taps]
+
+    def exact(inputs: Sequence[Sequence[int]], cycle: int) -> list[Fraction]:
+        last = (inputs[at][0] for at in range(cycle, max(cycle - len(taps), -1), -1))
+        return [Fraction(sum(map(mul, numerators, last)), over)]
+
+    return exact
+
+
+def polynomial(spec: dict) -> Exact:
+    coefficients = coefficients_of(spec)
+
+    def exact(inputs: Sequence[Sequence[int]], cycle: int) -> list[Fraction]:
+        at = Fraction(inputs[cycle][0], 1 << spec["width"])
+        return [sum((coefficient * at**power for power, coefficient in enumerate(coefficients)), Fraction(0))]
+
+    return exact
+
+
+def quotient(spec: dict, shift: int, divisor: int | None) -> Exact:
+    """The quotient by a divisor, or by the second input; where exact rounded down, with its remainder."""
+
+    def exact(inputs: Sequence[Sequence[int]], cycle: int) -> list[Fraction] | None:
+        number, by = inputs[cycle][0] << shift, divisor or inputs[cycle][1]
+        if not by:
+            return None
+        return [Fraction(part) for part in divmod(number, by)] if spec["exact"] else [Fraction(number, by)]
+
+    return exact
+
+
+def root(spec: dict) -> Exact:
+    shift = spec["lsb"] - 2 * spec["out_lsb"]
+
+    def exact(inputs: Sequence[Sequence[int]], cycle: int) -> list[Fraction]:
+        number = inputs[cycle][0] << shift
+        if spec["exact"]:
+            whole = math.isqrt(number)
+            return [Fraction(whole), Fraction(number - whole * whole)]
+        return [Fraction(math.isqrt(number << 2 * ROOT_BITS), 1 << ROOT_BITS)]
+
+    return exact
+
+
+def exact_of(spec: dict) -> Exact:
+    """The exact values of a kind."""
+    match spec["kind"]:
+        case "scale" | "fir":
+            return sum_over_taps(coefficients_of(spec))
+        case "tfir":
+            return sum_over_taps(spec["taps"])
+        case "mcm":
+            return lambda inputs, cycle: [Fraction(constant * inputs[cycle][0]) for constant in spec["constants"]]
+        case "multiply":
+            weight = Fraction(2) ** (spec["lsb_a"] + spec["lsb_b"] - spec["out_lsb"])
+            return lambda inputs, cycle: [inputs[cycle][0] * inputs[cycle][1] * weight]
+        case "divide":
+            return quotient(spec, spec["lsb_a"] - spec["lsb_b"] - spec["out_lsb"], None)
+        case "constdiv":
+            return quotient(spec, 0, spec["divisor"])
+        case "root":
+            return root(spec)
+        case "poly":
+            return polynomial(spec)
+    raise KeyError(spec["kind"])

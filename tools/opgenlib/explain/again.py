@@ -1,0 +1,46 @@
+"""Runs the program again over the files of a call, in a folder of its own, where it stores nothing of the caller's."""
+import os
+import subprocess
+import tempfile
+from collections.abc import Callable
+from pathlib import Path
+
+from ..commands import FILES, Call
+
+MOST_SECONDS = 60
+# What runs the program: the command, its words and its options to the status, what is printed, and what is stored as OUT.
+Runner = Callable[[str, list[str], list[str]], tuple[int, str, str]]
+STORED = "stored"
+# In place of a status where the program took too long.
+TOO_LONG = -1
+
+
+def runner_of(program: str) -> Runner:
+    """What runs this program."""
+
+    def run(command: str, words: list[str], options: list[str]) -> tuple[int, str, str]:
+        with tempfile.TemporaryDirectory(prefix="opgen-explain-") as folder:
+            streams = {"stdin": subprocess.DEVNULL, "stdout": subprocess.PIPE, "stderr": subprocess.DEVNULL}
+            try:
+                called = [os.path.abspath(program), command, *options, "--", *words]
+                done = subprocess.run(called, cwd=folder, timeout=MOST_SECONDS, **streams)
+            except subprocess.TimeoutExpired:
+                return TOO_LONG, "", ""
+            stored = Path(folder) / STORED
+            return done.returncode, done.stdout.decode(), stored.read_text() if stored.exists() else ""
+
+    return run
+
+
+def is_readable(call: Call) -> bool:
+    """Whether each file of a call can be read twice."""
+    return all(os.path.isfile(file) for _, file in call.inputs)
+
+
+def line_of(run: Runner, call: Call, status: int) -> str | None:
+    """The line that the program prints with this status, none where that is not sure."""
+    if not is_readable(call):
+        return None
+    words = [os.path.abspath(word) if FILES.get(what) else word for what, word in call.words.items() if what != "OUT"]
+    found, line, _ = run(call.command, [*words, *([STORED] if "OUT" in call.words else [])], call.options)
+    return line if found == status else None

@@ -1,0 +1,194 @@
+"""The wrapper of an operator in Verilog, its constants, and its test bench: Verilog-2001, but for `$fatal` in the bench."""
+from collections.abc import Iterator
+
+from .report import Port, Report
+
+WRAP = """{head}
+module {name}_wrap (
+{ports}
+);
+  \\{name} circuit ({actuals});
+{valid}endmodule
+"""
+
+VALID = """  // One register for each cycle of the latency, beside the data: rst resets these alone.
+  reg [{top}:0] valid = {latency}'d0;
+  assign valid_out = valid[{top}];
+  always @(posedge clk)
+    if (rst) valid <= {latency}'d0;
+    else{ce} valid <= {moved};
+"""
+NO_VALID = """  assign valid_out = valid_in;
+  wire unused_rst = rst;
+"""
+
+BENCH = """// A test bench of {name}_wrap for the rows of {name}.vec: it ends with a failure where an output differs.
+//     iverilog -g2001 -o {name}_bench {name}.v {name}_wrap.v {name}_bench.v && vvp {name}_bench
+// The outputs of a row belong to the inputs of the row {latency} before it. Those of the first {latency} rows come from the
+// registers' initial values; of a circuit whose registers have none, begin at a later row: iverilog -P{name}_bench.FIRST={latency}
+// Written by tools/wrap.
+module {name}_bench;
+  parameter ROWS = "{name}.vec";
+  parameter FIRST = 0;
+  parameter HALF = {half};
+  reg clk = 1'b0;
+{signals}
+  integer rows, got, cycle = 0, faults = 0;
+
+  {name}_wrap dut ({actuals});
+
+  task edge_of_clk;
+    begin
+      clk = 1'b1;
+      #HALF clk = 1'b0;
+    end
+  endtask
+
+  // Counts a fault.
+  task fault;
+    begin
+      faults = faults + 1;
+      if (cycle < {latency}) $display("row %0d, from initial values:", cycle);
+      else $display("row %0d, from the inputs of row %0d:", cycle, cycle - {latency});
+    end
+  endtask
+
+  initial begin
+    rows = $fopen(ROWS, "r");
+    if (rows == 0) $fatal(1, "cannot open %0s", ROWS);
+    while ($feof(rows) == 0) begin
+      got = $fscanf(rows, "{format}\\n", {words});
+      if (got != {count}) $fatal(1, "row %0d has not {count} words", cycle);
+{sets}
+      #HALF;
+{compares}
+      edge_of_clk;
+{pauses}      cycle = cycle + 1;
+    end
+    if (cycle <= FIRST) $fatal(1, "no rows to compare");
+{reset}    if (faults != 0) $fatal(1, "%0d outputs differ", faults);
+    $display("{name}: all outputs agree in %0d rows, latency {latency}", cycle - FIRST);
+    $finish;
+  end
+endmodule
+"""
+
+PAUSES = """      if (cycle % 3 == 2) begin
+        ce = 1'b0;
+{inverted}
+        #HALF edge_of_clk;
+        ce = 1'b1;
+      end
+"""
+
+RESET = """    rst = 1'b1;
+    valid_in = 1'b1;
+    #HALF edge_of_clk;
+    rst = 1'b0;
+    for (got = 0; got <= {latency}; got = got + 1) begin
+      #HALF if (valid_out !== (got == {latency})) begin
+        fault;
+        $display("  after a reset valid_out is %b in cycle %0d", valid_out, got);
+      end
+      edge_of_clk;
+    end
+"""
+
+
+def vector(port: Port) -> str:
+    """The type of a port."""
+    return f"{'signed ' if port.is_signed else ''}[{port.width - 1}:0]"
+
+
+def header_text(facts: Report, head: str) -> str:
+    """The constants, to be included."""
+    stem = facts.name.upper()
+    constants = {"LATENCY": facts.latency, "PERIOD": facts.period}
+    for port in facts.ports:
+        sizes = {"WIDTH": port.width, "LSB": port.lsb, "SIGNED": int(port.is_signed)}
+        constants |= {f"{port.name.upper()}_{what}": number for what, number in sizes.items()}
+    lines = [f"`define {stem}_{what} {number}" for what, number in constants.items()]
+    said = "// Cycles from an input to its output, the period in picoseconds, and the ports: a number times 2**LSB is its value."
+    return "\n".join([head, f"`ifndef {stem}_PKG", f"`define {stem}_PKG", said, *lines, "`endif"]) + "\n"
+
+
+def ports_of(facts: Report, has_enable: bool, has_valid: bool) -> Iterator[str]:
+    yield "input wire clk"
+    yield from ["input wire ce"] if has_enable else []
+    yield from ["input wire rst", "input wire valid_in"] if has_valid else []
+    yield from (f"{'input' if port.is_input else 'output'} wire {vector(port)} {port.name}" for port in facts.ports)
+    yield from ["output wire valid_out"] if has_valid else []
+
+
+def valid_text(facts: Report, has_enable: bool) -> str:
+    """The registers of the valid bit."""
+    if facts.latency == 0:
+        return NO_VALID
+    top = facts.latency - 1
+    moved = f"{{valid[{top - 1}:0], valid_in}}" if top else "valid_in"
+    return VALID.format(top=top, latency=facts.latency, moved=moved, ce=" if (ce)" if has_enable else "")
+
+
+def names_of(facts: Report, has_enable: bool, has_valid: bool) -> list[str]:
+    valid = ["rst", "valid_in", "valid_out"] if has_valid else []
+    return ["clk", *(["ce"] if has_enable else []), *valid, *(port.name for port in facts.ports)]
+
+
+def actuals(names: list[str]) -> str:
+    return ", ".join(f".{name}({name})" for name in names)
+
+
+def wrap_text(facts: Report, has_enable: bool, has_valid: bool, head: str) -> str:
+    """The wrapper."""
+    return WRAP.format(
+        head=head,
+        name=facts.name,
+        ports=",\n".join(f"  {port}" for port in ports_of(facts, has_enable, has_valid)),
+        actuals=actuals(names_of(facts, has_enable, False)),
+        valid=valid_text(facts, has_enable) if has_valid else "",
+    )
+
+
+def signals_of(facts: Report, has_enable: bool, has_valid: bool) -> Iterator[str]:
+    yield from ["reg ce = 1'b1;"] if has_enable else []
+    yield from ["reg rst = 1'b0, valid_in = 1'b0;", "wire valid_out;"] if has_valid else []
+    for port in facts.ports:
+        kind, initial = ("reg", " = 0") if port.is_input else ("wire", "")
+        yield f"{kind} {vector(port)} {port.name}{initial};"
+        yield f"reg [{port.width - 1}:0] {port.name}_word;"
+
+
+def compares_of(facts: Report, has_valid: bool) -> Iterator[str]:
+    for port in facts.outputs:
+        yield f"      if (cycle >= FIRST && {port.name} !== {port.name}_word) begin"
+        yield "        fault;"
+        yield f'        $display("  {port.name} is %h in place of %h", {port.name}, {port.name}_word);'
+        yield "      end"
+    if has_valid:
+        late = f"cycle >= {facts.latency} && (cycle - {facts.latency})" if facts.latency else "cycle"
+        yield f"      if (valid_out !== ({late} % 4 != 3)) begin"
+        yield "        fault;"
+        yield '        $display("  valid_out is %b", valid_out);'
+        yield "      end"
+
+
+def bench_text(facts: Report, has_enable: bool, has_valid: bool) -> str:
+    """The test bench."""
+    sets = [f"      {port.name} = {port.name}_word;" for port in facts.inputs]
+    sets += ["      valid_in = cycle % 4 != 3;"] if has_valid else []
+    inverted = "\n".join(f"        {port.name} = ~{port.name}_word;" for port in facts.inputs)
+    sides = (" ".join(["%h"] * len(side)) for side in (facts.inputs, facts.outputs))
+    return BENCH.format(
+        name=facts.name,
+        latency=facts.latency,
+        half=max(facts.period // 2, 1),
+        signals="\n".join(f"  {line}" for line in signals_of(facts, has_enable, has_valid)),
+        actuals=actuals(names_of(facts, has_enable, has_valid)),
+        format=" : ".join(sides),
+        words=", ".join(f"{port.name}_word" for port in facts.ports),
+        count=len(facts.ports),
+        sets="\n".join(sets),
+        compares="\n".join(compares_of(facts, has_valid)),
+        pauses=PAUSES.format(inverted=inverted) if has_enable else "",
+        reset=RESET.format(latency=facts.latency) if has_valid and facts.latency else "",
+    )
