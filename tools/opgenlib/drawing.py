@@ -7,16 +7,16 @@ from .report import Port
 from .rows import unit_count
 
 
-def least_of(operator: Operator, port: Port) -> int:
-    """The least input that something is claimed for: a divisor is not 0."""
-    return 1 if operator.spec["kind"] == "divide" and port.name == "b" else port.least
+def is_divisor(operator: Operator, port: Port) -> bool:
+    """Whether nothing is claimed where this input is 0."""
+    return operator.spec["kind"] == "divide" and port.name == "b"
 
 
 def ends_of(operator: Operator, port: Port) -> list[int]:
-    """The numbers at the ends of a port's range, 0, and those beside them."""
-    least, greatest = least_of(operator, port), port.greatest
-    near = {end + step for end in (least, 0, greatest) for step in (-1, 0, 1)}
-    return sorted(one for one in near if least <= one <= greatest)
+    """The numbers at the ends of a port's range, 0, and those beside them; of a divisor those about 0 in place of it."""
+    ends = {port.least, 0, port.greatest} if not is_divisor(operator, port) else {port.least or 1, -1, 1, port.greatest}
+    near = {end + step for end in ends for step in (-1, 0, 1)}
+    return sorted(one for one in near if port.least <= one <= port.greatest and (one or not is_divisor(operator, port)))
 
 
 def sequences(operator: Operator) -> Iterator[Numbers]:
@@ -43,5 +43,5 @@ def drawn_rows(operator: Operator, seed: int, count: int) -> Iterator[Numbers]:
         for port in operator.inputs:
             seed = (seed * 6364136223846793005 + 1442695040888963407) % (1 << 64)
             number = unit_count(seed >> (64 - port.width), port)
-            row.append(max(number, 1) if least_of(operator, port) == 1 else number)
+            row.append(number or 1 if is_divisor(operator, port) else number)
         yield tuple(row)

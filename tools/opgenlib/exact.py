@@ -4,6 +4,8 @@ from collections.abc import Callable, Sequence
 from fractions import Fraction
 from operator import mul
 
+from .report import Port
+
 # The inputs of each cycle so far, in units of their last places, and a cycle: the exact values of the outputs in that cycle in
 # units of theirs, none where nothing is claimed.
 Exact = Callable[[Sequence[Sequence[int]], int], list[Fraction] | None]
@@ -12,15 +14,15 @@ ROOT_BITS = 64
 
 
 def coefficients_of(spec: dict) -> list[Fraction]:
-    """The coefficients in units of the output's last place for each unit of the input."""
+    """The coefficients, or the taps, in units of the output's last place for each unit of the input."""
     lsb = 0 if spec["kind"] == "poly" else spec["lsb"]
-    weight = Fraction(2) ** (lsb - spec["out_lsb"]) / spec.get("denominator", 1)
-    return [Fraction(coefficient) * weight for coefficient in spec["coefficients"]]
+    weight = Fraction(2) ** (lsb - spec.get("out_lsb", lsb)) / spec.get("denominator", 1)
+    return [Fraction(coefficient) * weight for coefficient in spec["taps" if spec["kind"] == "tfir" else "coefficients"]]
 
 
-def sum_over_taps(taps: Sequence[Fraction | int]) -> Exact:
+def sum_over_taps(taps: Sequence[Fraction]) -> Exact:
     """The sum over the last inputs, those before the first being 0."""
-    over = math.lcm(*(Fraction(tap).denominator for tap in taps))
+    over = math.lcm(*(tap.denominator for tap in taps))
     numerators = [int(tap * over) for tap in taps]
 
     def exact(inputs: Sequence[Sequence[int]], cycle: int) -> list[Fraction]:
@@ -40,14 +42,21 @@ def polynomial(spec: dict) -> Exact:
     return exact
 
 
+def divided(number: int, by: int) -> list[Fraction]:
+    """The quotient rounded towards 0, and what is left, which is 0 or has the sign of the number."""
+    size = abs(number) // abs(by)
+    whole = size if (number < 0) == (by < 0) else -size
+    return [Fraction(whole), Fraction(number - whole * by)]
+
+
 def quotient(spec: dict, shift: int, divisor: int | None) -> Exact:
-    """The quotient by a divisor, or by the second input; where exact rounded down, with its remainder."""
+    """The quotient by a divisor, or by the second input; where exact rounded towards 0, with its remainder."""
 
     def exact(inputs: Sequence[Sequence[int]], cycle: int) -> list[Fraction] | None:
         number, by = inputs[cycle][0] << shift, divisor or inputs[cycle][1]
         if not by:
             return None
-        return [Fraction(part) for part in divmod(number, by)] if spec["exact"] else [Fraction(number, by)]
+        return divided(number, by) if spec["exact"] else [Fraction(number, by)]
 
     return exact
 
@@ -68,10 +77,8 @@ def root(spec: dict) -> Exact:
 def exact_of(spec: dict) -> Exact:
     """The exact values of a kind."""
     match spec["kind"]:
-        case "scale" | "fir":
+        case "scale" | "fir" | "tfir":
             return sum_over_taps(coefficients_of(spec))
-        case "tfir":
-            return sum_over_taps(spec["taps"])
         case "mcm":
             return lambda inputs, cycle: [Fraction(constant * inputs[cycle][0]) for constant in spec["constants"]]
         case "multiply":
@@ -86,3 +93,16 @@ def exact_of(spec: dict) -> Exact:
         case "poly":
             return polynomial(spec)
     raise KeyError(spec["kind"])
+
+
+def exact_values(spec: dict, outs: Sequence[Port]) -> Exact:
+    """The exact values of a kind; of an output of a chosen width brought into its range."""
+    exact = exact_of(spec)
+    if "out_width" not in spec:
+        return exact
+    least, greatest = Fraction(outs[0].least), Fraction(outs[0].greatest)
+
+    def saturated(inputs: Sequence[Sequence[int]], cycle: int) -> list[Fraction]:
+        return [min(max(value, least), greatest) for value in exact(inputs, cycle) or []]
+
+    return saturated

@@ -8,9 +8,9 @@ from fractions import Fraction
 from typing import Any
 
 from . import schema
-from .exact import Exact, coefficients_of, exact_of
+from .exact import Exact, coefficients_of, exact_values
 from .report import Port
-from .specification import shift_of
+from .specification import is_always_exact, shift_of
 
 Numbers = tuple[int, ...]
 # A row: the numbers of the inputs and of the outputs, in units of their last places.
@@ -58,21 +58,19 @@ def summed(name: str, factors: Sequence[Fraction | int], x: Port, lsb: int) -> P
     return holding(name, sum(map(min, ends)), sum(map(max, ends)), lsb)
 
 
-def outputs_of(spec: dict[str, Any], ins: list[Port]) -> list[Port]:
-    """The outputs of a specification."""
-    x, shift, out_lsb = ins[0], shift_of(spec) or 0, spec.get("out_lsb", 0)
+def widest_outputs(spec: dict[str, Any], ins: list[Port]) -> list[Port]:
+    """The outputs of a specification, as wide as their values need."""
+    x, shift, out_lsb = ins[0], shift_of(spec) or 0, spec.get("out_lsb", ins[0].lsb)
     match spec["kind"]:
-        case "scale" | "fir":
+        case "scale" | "fir" | "tfir":
             return [summed("y", coefficients_of(spec), x, out_lsb)]
-        case "tfir":
-            return [summed("y", spec["taps"], x, x.lsb)]
         case "mcm":
             return [summed(f"y{at}", [one], x, x.lsb) for at, one in enumerate(spec["constants"])]
         case "multiply":
             ends = [a * b * Fraction(2) ** shift for a in (x.least, x.greatest) for b in (ins[1].least, ins[1].greatest)]
             return [holding("y", min(ends), max(ends), out_lsb)]
         case "divide":
-            outs = [("q", x.width + shift, out_lsb), ("r", ins[1].width, ins[1].lsb + out_lsb)]
+            outs = [("q", x.width + shift + x.is_signed, out_lsb), ("r", ins[1].width, ins[1].lsb + out_lsb)]
         case "root":
             width = (x.width + shift + 1) // 2
             outs = [("y", width, out_lsb), ("r", width + 1, 2 * out_lsb)]
@@ -80,7 +78,15 @@ def outputs_of(spec: dict[str, Any], ins: list[Port]) -> list[Port]:
             outs = [("q", x.width, x.lsb), ("r", (spec["divisor"] - 1).bit_length(), x.lsb)]
         case "poly":
             return [holding("y", *polynomial_range(spec), out_lsb)]
-    return [Port(name, False, False, width, lsb) for name, width, lsb in outs[: 2 if spec["exact"] else 1]]
+    return [Port(name, False, x.is_signed, width, lsb) for name, width, lsb in outs[: 2 if spec["exact"] else 1]]
+
+
+def outputs_of(spec: dict[str, Any], ins: list[Port]) -> list[Port]:
+    """The outputs of a specification."""
+    outs = widest_outputs(spec, ins)
+    if "out_width" not in spec:
+        return outs
+    return [Port(y.name, False, spec.get("out_signed", y.is_signed), spec["out_width"], y.lsb) for y in outs]
 
 
 def ports_of(spec: dict[str, Any]) -> list[Port]:
@@ -98,7 +104,7 @@ class Operator:
     spec: dict[str, Any]
     ports: tuple[Port, ...]
     exact: Exact
-    factors: tuple[Fraction | int, ...] = ()
+    factors: tuple[Fraction, ...] = ()
 
     @property
     def inputs(self) -> tuple[Port, ...]:
@@ -115,7 +121,7 @@ class Operator:
 
     @property
     def is_exact(self) -> bool:
-        return self.spec["exact"] or self.spec["kind"] in ("mcm", "tfir")
+        return self.spec["exact"] or is_always_exact(self.spec)
 
     def last_inputs(self, inputs: Sequence[Numbers], at: int) -> list[Numbers]:
         """The inputs of a row and of those before it, the newest first, as many as an output depends on; 0 before row 0."""
@@ -143,9 +149,5 @@ class Operator:
 def operator_of(spec: dict[str, Any]) -> Operator:
     """The operator of a specification."""
     ports = tuple(ports_of(spec))
-    factors: tuple[Fraction | int, ...] = ()
-    if spec["kind"] in ("scale", "fir"):
-        factors = tuple(coefficients_of(spec))
-    elif spec["kind"] == "tfir":
-        factors = tuple(spec["taps"])
-    return Operator(spec, ports, exact_of(spec), factors)
+    factors = tuple(coefficients_of(spec)) if spec["kind"] in ("scale", "fir", "tfir") else ()
+    return Operator(spec, ports, exact_values(spec, ports[-1:]), factors)

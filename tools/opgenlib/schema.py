@@ -130,10 +130,13 @@ def keys_of(document: dict) -> list[str]:
     return keys
 
 
+def versions() -> list[int]:
+    return SCHEMA["properties"]["version"]["enum"]
+
+
 def kinds_with(key: str) -> list[str]:
     """The kinds that have a key."""
-    version = max(SCHEMA["properties"]["version"]["enum"])
-    return [kind for kind in kinds() if key in keys_of({"kind": kind, "version": version})]
+    return [kind for kind in kinds() if key in keys_of({"kind": kind, "version": versions()[-1]})]
 
 
 def rules_of(key: str, document: dict) -> dict:
@@ -179,7 +182,7 @@ def expected(rules: dict) -> str:
     words = ", ".join(map(str, rules.get("enum", [])))
     match rules.get("type"):
         case "integer" if words:
-            return " or ".join(map(str, rules["enum"]))
+            return " or ".join(words.rsplit(", ", 1))
         case "integer":
             return f"a whole number, {bounds(rules)}" if bounds(rules) else "a whole number"
         case "string":

@@ -16,7 +16,7 @@ from opgenlib.drawings.timing import timing
 from opgenlib.report import CELLS, Port, Report
 from opgenlib.rows import value_text
 from opgenlib.svg import Picture
-from opgenlib.words import formula, format_power, is_exact, latency_text
+from opgenlib.words import formula, format_power, is_exact, latency_text, reference
 
 STYLE = """
 :root { color: #1a1a1a; background: white; font: 16px/1.45 Arial, "Liberation Sans", sans-serif; }
@@ -132,7 +132,7 @@ def least_of(port: Port) -> str:
 def bound_text(sheet: Sheet) -> str:
     if is_exact(sheet.spec, sheet.facts):
         return "exact: the output equals the value of the formula"
-    return f"less than 1 ulp from the exact value; an ulp is {format_power(sheet.facts.outputs[0].lsb)}"
+    return f"less than 1 ulp from {reference(sheet.spec)}; an ulp is {format_power(sheet.facts.outputs[0].lsb)}"
 
 
 def size_text(sheet: Sheet) -> str:

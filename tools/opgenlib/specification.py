@@ -302,11 +302,12 @@ def load(path: Path | str) -> Specification:
 
 # The shift of each kind that has limits, from the input's to the output's last place, and its least and most by version.
 SHIFTS: dict[str, tuple[str, dict[int, tuple[int, int]]]] = {
-    "scale": ("lsb - out_lsb", {1: (-48, 48), 2: (-48, 32)}),
-    "fir": ("lsb - out_lsb", {1: (-48, 48), 2: (-48, 32)}),
-    "multiply": ("lsb_a + lsb_b - out_lsb", {1: (-48, 48), 2: (-48, 48)}),
-    "divide": ("lsb_a - lsb_b - out_lsb", {1: (0, 48), 2: (0, 48)}),
-    "root": ("lsb - 2 out_lsb", {1: (0, 48), 2: (0, 48)}),
+    "scale": ("lsb - out_lsb", {1: (-48, 48), 2: (-48, 32), 3: (-48, 32)}),
+    "fir": ("lsb - out_lsb", {1: (-48, 48), 2: (-48, 32), 3: (-48, 32)}),
+    "multiply": ("lsb_a + lsb_b - out_lsb", dict.fromkeys((1, 2, 3), (-48, 48))),
+    "divide": ("lsb_a - lsb_b - out_lsb", dict.fromkeys((1, 2, 3), (0, 48))),
+    "root": ("lsb - 2 out_lsb", dict.fromkeys((1, 2, 3), (0, 48))),
+    "tfir": ("lsb - out_lsb", dict.fromkeys((1, 2, 3), (-48, 0))),
 }
 
 
@@ -319,6 +320,11 @@ def shift_of(table: dict[str, Any]) -> int | None:
             return None
         total += (-1 if sign else 1) * int(factor or 1) * table[key]
     return total if formula else None
+
+
+def is_always_exact(table: dict[str, Any]) -> bool:
+    """Whether outputs are equal whatever `exact` says: sums of whole constants of which nothing is cut."""
+    return table["kind"] == "mcm" or (table["kind"] == "tfir" and not shift_of(table))
 
 
 def most_signal(version: int) -> int:

@@ -1,5 +1,6 @@
 """What an operator computes, in which formats and when, in words: by its specification and its report."""
 from .report import Port, Report
+from .specification import is_always_exact
 
 
 def format_power(exponent: int) -> str:
@@ -16,31 +17,37 @@ def format_text(port: Port) -> str:
 
 
 def constant_text(spec: dict) -> str:
-    """The constant of a scale."""
-    number = spec["coefficients"][0]
+    """The constant of a scale, or of a filter that has one alone."""
+    number = spec["taps" if spec["kind"] == "tfir" else "coefficients"][0]
     return f"{number}/{spec['denominator']}" if spec.get("denominator", 1) != 1 else str(number)
 
 
 def formula(spec: dict) -> str:
     """What is computed, by the specification."""
-    last = len(spec.get("coefficients", [])) - 1
+    saturated = f", saturated to {spec['out_width']} bits" if "out_width" in spec else ""
+    return value_formula(spec) + saturated
+
+
+def value_formula(spec: dict) -> str:
+    """What is computed, before an output of a chosen width is saturated."""
+    last = len(spec.get("coefficients", spec.get("taps", []))) - 1
     over = f" over {spec['denominator']}" if spec.get("denominator", 1) != 1 else ""
     match spec["kind"]:
         case "scale":
             return f"y = x * {constant_text(spec)}"
-        case "fir" if last > 0:
+        case "fir" | "tfir" if last > 0:
             middle = " + .. +" if last > 1 else " +"
-            return f"y(t) = c0 x(t){middle} c{last} x(t - {last}), c0 to c{last} the coefficients below{over}"
-        case "fir":
+            factors = "coefficients" if spec["kind"] == "fir" else "taps"
+            return f"y(t) = c0 x(t){middle} c{last} x(t - {last}), c0 to c{last} the {factors} below{over}"
+        case "fir" | "tfir":
             return f"y = x * {constant_text(spec)}"
-        case "tfir":
-            return f"y(t) = c0 x(t) + .. + c{len(spec['taps']) - 1} x(t - {len(spec['taps']) - 1}), c0 and so on the taps below"
         case "multiply":
             return "y = a * b"
         case "poly":
             return f"y = c0 + .. + c{last} x^{last}, c0 to c{last} the coefficients below{over}" if last > 1 else f"y = c0 + c1 x, c0 and c1 the coefficients below{over}"
         case "divide":
-            return "q = a / b" + (", rounded down, and r = a - q b" if spec["exact"] else "") + "; b must not be 0"
+            rounded = "towards 0" if spec.get("signed", False) else "down"
+            return "q = a / b" + (f", rounded {rounded}, and r = a - q b" if spec["exact"] else "") + "; b must not be 0"
         case "constdiv":
             return f"q = x / {spec['divisor']}" + (f", rounded down, and r = x - {spec['divisor']} q" if spec["exact"] else "")
         case "root":
@@ -52,14 +59,19 @@ def formula(spec: dict) -> str:
 
 def is_exact(spec: dict, facts: Report) -> bool:
     """Whether the outputs are equal: where that was asked for, and in kinds that are always so."""
-    return facts.is_exact or spec["kind"] in ("mcm", "tfir")
+    return facts.is_exact or is_always_exact(spec)
+
+
+def reference(spec: dict) -> str:
+    """The value that an output is near."""
+    return "the saturated value" if "out_width" in spec else "the exact value"
 
 
 def mode_text(spec: dict, facts: Report) -> str:
     """How near the outputs are."""
     if is_exact(spec, facts):
         return "exact"
-    return f"faithful: less than {format_power(facts.outputs[0].lsb)} from the exact value"
+    return f"faithful: less than {format_power(facts.outputs[0].lsb)} from {reference(spec)}"
 
 
 def latency_text(facts: Report, has_enable: bool) -> str:

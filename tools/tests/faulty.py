@@ -45,6 +45,18 @@ width_b = 4
 lsb_b = -1
 out_lsb = 0
 """
+SCALE3 = SCALE.replace("version = 1", "version = 3")
+ROOT = """\
+version = 2
+name = "first"
+kind = "root"
+exact = true
+target = "plain"
+period = 10000
+width = 4
+lsb = 0
+out_lsb = 0
+"""
 FIR = SCALE.replace('"scale"', '"fir"')
 MCM = """\
 version = 1
@@ -71,6 +83,7 @@ lsb = 0
 divisor = 3
 """
 TFIR = MCM.replace("version = 1", "version = 2").replace('"mcm"', '"tfir"').replace("constants", "taps")
+CUT = TFIR.replace("version = 2", "version = 3") + "out_lsb = 2\n"
 DELAYS = SCALE + '[[delay]]\nclass = "add"\nbase = 1\nper_bit = 1\n\n[[delay]]\nclass = "logic"\nbase = 1\nper_bit = 1\n'
 KEYS = "version, name, kind, exact, target, period, signed, width, lsb, out_lsb, coefficients, denominator, delay"
 KINDS = ", ".join(schema.rules_of("kind", {"version": 1})["enum"])
@@ -177,7 +190,29 @@ SPECIFICATIONS = [
     generated("a key of another kind", DIVIDE + "signed = false\n", "UnknownKey 0 7",
               'first.toml:12:1: unknown key "signed" of kind divide; its keys are '
               "version, name, kind, exact, target, period, width_a, lsb_a, width_b, lsb_b, out_lsb, delay",
+              "  signed is a key of version 3: take it out, or write version = 3"),
+    generated("signed roots", ROOT + "signed = false\n", "UnknownKey 0 6",
+              'first.toml:10:1: unknown key "signed" of kind root; its keys are '
+              "version, name, kind, exact, target, period, width, lsb, out_lsb, delay",
               f"  signed is a key of {SIGNED}: take it out, or change kind"),
+    generated("an output of a chosen width in version 1", SCALE + "out_width = 4\n", "UnknownKey 0 6",
+              f'first.toml:12:1: unknown key "out_width" of kind scale; its keys are {KEYS}',
+              "  out_width is a key of version 3: take it out, or write version = 3"),
+    generated("a sign without a width", SCALE3 + "out_signed = true\n", "WrongType out_signed",
+              "first.toml:12:1: out_signed is there without out_width",
+              "  write out_width too, 2 to 96, or take out_signed out"),
+    generated("a sign that is a number", SCALE3 + "out_width = 4\nout_signed = 1\n", "WrongType out_signed",
+              "first.toml:13:14: out_signed is 1, a whole number; expected true or false"),
+    generated("an output of one bit", SCALE3 + "out_width = 1\n", "OutOfRange out_width 1",
+              "first.toml:12:13: out_width is 1; expected 2 to 96"),
+    generated("an output of 97 bits", SCALE3 + "out_width = 97\n", "OutOfRange out_width 97",
+              "first.toml:12:13: out_width is 97; expected 2 to 96"),
+    generated("a signed dividend of one bit", DIVIDE.replace("version = 1", "version = 3").replace("width_a = 4", "width_a = 1") + "signed = true\n",
+              "OutOfRange width_a 1", "first.toml:7:11: width_a is 1; expected 2 to 48", "  a signed input has two bits or more"),
+    generated("a place below those of version 3", SCALE3.replace("lsb = 0\nout", "lsb = -65\nout"), "OutOfRange lsb -65",
+              "first.toml:9:7: lsb is -65; expected -64 to 64"),
+    generated("a low place of a quotient", DIVIDE.replace("version = 1", "version = 3").replace("lsb_a = 0", "lsb_a = -33"), "OutOfRange lsb_a -33",
+              "first.toml:8:9: lsb_a is -33; expected -32 to 32"),
     generated("a key of a delay line", DELAYS.replace('class = "logic"', 'class = "logic"\nwidth = 3'), "UnknownKey 2 3",
               'first.toml:19:1: unknown key "width" of delay line 2; its keys are class, base, per_bit'),
     generated("a key is missing", SCALE.replace("width = 4\n", ""), "MissingKey width",
@@ -212,16 +247,16 @@ SPECIFICATIONS = [
     generated("a truth value of Python", SCALE.replace("true", "False"), "NotToml",
               "first.toml:4:9: no TOML: False is no value of TOML; write false"),
     generated("a low output", SCALE.replace("exact = true", "exact = false").replace("lsb = 0\nout_lsb = 0", "lsb = -30\nout_lsb = -34"),
-              "OutOfRange out_lsb -34", "first.toml:10:11: out_lsb is -34; expected -32 to 32",
+              "OutOfRange out_lsb -34", "first.toml:10:11: out_lsb is -34; expected -32 to 32, in version 3 from -64 to 64",
               "  write lsb = 0 and out_lsb = -4: only the difference counts, and the places are yours to count"),
     generated("a low product", MULTIPLY.replace("lsb_a = 0", "lsb_a = -17").replace("lsb_b = -1\nout_lsb = 0", "lsb_b = -17\nout_lsb = -34"),
-              "OutOfRange out_lsb -34", "first.toml:12:11: out_lsb is -34; expected -32 to 32",
+              "OutOfRange out_lsb -34", "first.toml:12:11: out_lsb is -34; expected -32 to 32, in version 3 from -64 to 64",
               "  write lsb_a = 0, lsb_b = 0 and out_lsb = 0: only the difference counts, and the places are yours to count"),
     generated("a low number of several constants", MCM.replace("lsb = 0", "lsb = -40"), "OutOfRange lsb -40",
-              "first.toml:9:7: lsb is -40; expected -32 to 32",
+              "first.toml:9:7: lsb is -40; expected -32 to 32, in version 3 from -64 to 64",
               "  write lsb = 0: the numbers are the same, and the places are yours to count"),
     generated("an output that is too low", SCALE.replace("exact = true", "exact = false").replace("out_lsb = 0", "out_lsb = -34"),
-              "OutOfRange out_lsb -34", "first.toml:10:11: out_lsb is -34; expected -32 to 32"),
+              "OutOfRange out_lsb -34", "first.toml:10:11: out_lsb is -34; expected -32 to 32, in version 3 from -64 to 64"),
     generated("texts and numbers", FIR.replace("[3]", '["0.5", 3]'), "WrongType coefficients",
               "first.toml:11:24: element 2 of coefficients is 3, a whole number; expected an array of whole numbers, "
               '-1073741824 to 1073741824 or of decimal texts, as "0.25"'),
@@ -231,9 +266,10 @@ SPECIFICATIONS = [
     generated("a text in a delay line", DELAYS.replace("base = 1\nper_bit = 1\n\n", 'base = "1"\nper_bit = 1\n\n'),
               "WrongType base 1",
               'first.toml:14:8: base of delay line 1 is "1", a text; expected a whole number, 0 to 1000000, as 1'),
-    generated("version 3", SCALE.replace("version = 1", "version = 3"), "BadVersion 3",
-              "first.toml:1:11: version is 3; expected 1 or 2",
-              "  1: inputs to 32 bits, signals to 64; 2: inputs to 48 bits, signals to 96, and further kinds"),
+    generated("version 4", SCALE.replace("version = 1", "version = 4"), "BadVersion 4",
+              "first.toml:1:11: version is 4; expected 1, 2 or 3",
+              "  1: inputs to 32 bits, signals to 64; 2: inputs to 48 bits, signals to 96, and further kinds; "
+              "3: signed quotients, outputs of a chosen width"),
     generated("a capital in the name", SCALE.replace('"first"', '"First"'), "BadName",
               'first.toml:2:8: name is "First": it has a capital letter',
               "  expected 1 to 32 of small letters, digits and single _, a letter first, and no word of VHDL or port"),
@@ -292,12 +328,31 @@ SPECIFICATIONS = [
               "first.toml:11:17: coefficient 0, from 0, is 3 / 4, not whole in units of the output's last place, 2^-31",
               "  write exact = false, or move both places up",
               "  write lsb = 0 and out_lsb = -2: only the difference counts, and the places are yours to count"),
+    generated("no exact tap", CUT.replace("[3]", "[4, 0, -6]"), "NotExact 2",
+              "first.toml:10:15: tap 2, from 0, is -6, not whole in units of the output's last place, 2^2",
+              "  write out_lsb = 1, or exact = false"),
+    generated("a filter with more places than its input", CUT.replace("out_lsb = 2", "out_lsb = -1"), "Coarse 1",
+              "first.toml:12:11: lsb - out_lsb is 1; expected -48 to 0 for kind tfir",
+              "  raise out_lsb, now -1, or bring the lsb of the input nearer to it"),
+    generated("a filter that is cut too far", CUT.replace("exact = true", "exact = false").replace("out_lsb = 2", "out_lsb = 49"), "Coarse -49",
+              "first.toml:12:11: lsb - out_lsb is -49; expected -48 to 0 for kind tfir",
+              "  lower out_lsb, now 49, or bring the lsb of the input nearer to it"),
+    generated("a cut filter of version 2", CUT.replace("version = 3", "version = 2"), "UnknownKey 0 5",
+              'first.toml:12:1: unknown key "out_lsb" of kind tfir; its keys are '
+              "version, name, kind, exact, target, period, signed, width, lsb, extra, taps, delay",
+              "  out_lsb is a key of version 3: take it out, or write version = 3"),
     generated("far apart", SCALE.replace("lsb = 0\nout_lsb = 0", "lsb = 32\nout_lsb = -32"), "Coarse 64",
               "first.toml:10:11: lsb - out_lsb is 64; expected -48 to 48 for kind scale",
               "  raise out_lsb, now -32, or bring the lsb of the input nearer to it"),
     generated("a coarse quotient", DIVIDE.replace("out_lsb = 0", "out_lsb = 2"), "Coarse -2",
               "first.toml:11:11: lsb_a - lsb_b - out_lsb is -2; expected 0 to 48 for kind divide",
               "  lower out_lsb, now 2, or bring the lsb of the input nearer to it"),
+    generated("a wide signed quotient",
+              DIVIDE.replace("version = 1", "version = 3").replace("width_a = 4\nlsb_a = 0\nwidth_b = 4\nlsb_b = 0\nout_lsb = 0",
+                                                                   "width_a = 48\nlsb_a = 32\nwidth_b = 48\nlsb_b = 0\nout_lsb = -16")
+              + "signed = true\n",
+              "TooWide 97", "first.toml: a signal would need 97 bits; expected at most 96 in version 3",
+              "  fewer bits of input, fewer coefficients, or a higher out_lsb"),
     generated("too wide",
               SCALE.replace("width = 4", "width = 32").replace("out_lsb = 0", "out_lsb = -32")
               .replace("[3]", "[1073741824]"),

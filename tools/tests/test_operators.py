@@ -3,11 +3,17 @@ import tomllib
 import unittest
 from fractions import Fraction
 
-from opgenlib import operators, rows, specification
+from opgenlib import drawing, operators, rows, specification, words
 from opgenlib.report import read_report
 from tests.loading import EXAMPLES, module_of
 
 JUDGED = module_of(EXAMPLES.parent / ".ci/judged")
+
+
+COMMON = {"version": 3, "name": "worked", "exact": True, "target": "plain", "period": 1000000}
+QUOTIENT = COMMON | {"kind": "divide", "signed": True, "width_a": 4, "lsb_a": 0, "width_b": 3, "lsb_b": 0, "out_lsb": 0}
+SCALE = COMMON | {"kind": "scale", "signed": False, "width": 4, "lsb": 0, "out_lsb": 0, "coefficients": [3]}
+FILTER = COMMON | {"kind": "tfir", "signed": True, "width": 4, "lsb": 0, "taps": [4, 8, -12], "extra": 0}
 
 
 def numbers(text, ports):
@@ -34,9 +40,93 @@ class Ports(unittest.TestCase):
         self.assertEqual(operators.polynomial_range(spec), (0, 4))
         self.assertEqual(operators.ports_of(spec)[-1].width, 3)
 
+    def test_signed_quotients(self):
+        """The quotient has a bit more, since -8 by -1 is 8, and one for each place of the shift; the remainder is as wide as the divisor."""
+        for shift in (0, 2):
+            _, _, q, r = operators.ports_of(QUOTIENT | {"out_lsb": -shift})
+            self.assertEqual([(q.is_signed, q.width, q.lsb), (r.is_signed, r.width, r.lsb)], [(True, 5 + shift, -shift), (True, 3, -shift)])
+        self.assertEqual(len(operators.ports_of(QUOTIENT | {"exact": False})), 3)
+
+    def test_chosen_widths(self):
+        """The sign is that of the output without the key, if no other is asked for."""
+        for more, sign, width in (({}, False, 6), ({"out_width": 4}, False, 4), ({"out_width": 4, "out_signed": True}, True, 4),
+                                  ({"out_width": 96, "signed": True}, True, 96),
+                                  ({"out_width": 2, "signed": True, "out_signed": False}, False, 2)):
+            y = operators.ports_of(SCALE | more)[-1]
+            self.assertEqual((y.is_signed, y.width, y.lsb), (sign, width, 0))
+
+    def test_cut_filters(self):
+        """Each place that is cut is a bit less; values are rounded to the side away from 0."""
+        for out_lsb, width in ((0, 9), (1, 8), (2, 7), (3, 6), (7, 3)):
+            y = operators.ports_of(FILTER | {"out_lsb": out_lsb, "exact": False})[-1]
+            self.assertEqual((y.is_signed, y.width, y.lsb), (True, width, out_lsb))
+        self.assertEqual(operators.ports_of(FILTER)[-1].lsb, 0)
+
     def test_refusals(self):
         with self.assertRaises(operators.NoOperator):
             operators.operator_of({"version": 1})
+
+
+class Worked(unittest.TestCase):
+    """Rows that were worked out by hand."""
+
+    def check(self, spec, rows_of):
+        operator = operators.operator_of(spec)
+        for row in rows_of:
+            entered, outs = row.split(" : ")
+            good = operator.good([numbers(entered, operator.inputs)], 0)
+            self.assertEqual(good, [numbers(one, operator.outputs) for one in outs.split(" or ")], row)
+
+    def test_signed_quotients(self):
+        self.check(QUOTIENT, ("9 2 : 1d 7", "7 6 : 1d 1", "8 7 : 08 0", "8 3 : 1e 6", "5 4 : 1f 1", "f 3 : 00 7"))
+        self.check(QUOTIENT | {"exact": False}, ("9 2 : 1c or 1d", "8 7 : 08", "f 3 : 1f or 00"))
+        self.assertIsNone(operators.operator_of(QUOTIENT).good([(-8, 0)], 0))
+
+    def test_saturation(self):
+        self.check(SCALE | {"out_width": 4}, ("1 : 3", "5 : f", "6 : f", "f : f"))
+        self.check(SCALE | {"out_width": 8}, ("f : 2d",))
+        self.check(SCALE | {"out_width": 4, "signed": True}, ("8 : 8", "d : 8", "e : a", "2 : 6", "3 : 7", "7 : 7"))
+        self.check(SCALE | {"out_width": 4, "out_signed": True}, ("2 : 6", "3 : 7", "f : 7"))
+        self.check(SCALE | {"out_width": 4, "signed": True, "out_signed": False}, ("8 : 0", "f : 0", "2 : 6", "5 : f", "7 : f"))
+
+    def test_faithful_saturation(self):
+        """15/4 is cut to 3, the greatest number of three signed bits, and 30/4 to 7, that of three unsigned ones."""
+        spec = SCALE | {"exact": False, "denominator": 4, "out_width": 3}
+        self.check(spec | {"out_signed": True}, ("3 : 2 or 3", "5 : 3", "f : 3"))
+        self.check(spec, ("3 : 2 or 3", "5 : 3 or 4", "9 : 6 or 7", "a : 7", "f : 7"))
+
+    def check_in_turn(self, spec, rows_of):
+        """The rows of successive cycles, the first of them cycle 0."""
+        operator = operators.operator_of(spec)
+        parts = [row.split(" : ") for row in rows_of]
+        inputs = [numbers(entered, operator.inputs) for entered, _ in parts]
+        for at, (_, outs) in enumerate(parts):
+            self.assertEqual(operator.good(inputs, at), [numbers(one, operator.outputs) for one in outs.split(" or ")], rows_of[at])
+
+    def test_cut_filters(self):
+        """Of taps 1, 2, -3 and inputs 1, -1, 7, 0 a quarter of the sum is 1/4, 1/4, 1/2 and 17/4."""
+        cut = FILTER | {"out_lsb": 2}
+        self.check_in_turn(cut, ("1 : 01", "f : 01", "7 : 02", "0 : 11"))
+        self.check_in_turn(cut | {"exact": False}, ("1 : 01", "f : 01", "7 : 02", "0 : 11"))
+        faithful = cut | {"exact": False, "taps": [1, 2, -3]}
+        self.check_in_turn(faithful, ("1 : 00 or 01", "f : 00 or 01", "7 : 00 or 01", "0 : 04 or 05"))
+        self.check_in_turn(faithful | {"out_width": 3}, ("1 : 0 or 1", "f : 0 or 1", "7 : 0 or 1", "0 : 3"))
+        self.assertFalse(operators.operator_of(faithful).is_exact)
+        self.assertTrue(operators.operator_of(faithful | {"out_lsb": 0}).is_exact)
+
+    def test_draws(self):
+        """A divisor that is drawn as 0 becomes 1, and the ends of a signed one are those of its range and those about 0."""
+        operator = operators.operator_of(QUOTIENT)
+        self.assertEqual(drawing.ends_of(operator, operator.inputs[1]), [-4, -3, -2, -1, 1, 2, 3])
+        self.assertEqual(drawing.ends_of(operator, operator.inputs[0]), [-8, -7, -1, 0, 1, 6, 7])
+        self.assertEqual({row[1] for row in drawing.drawn_rows(operator, 1, 500)}, {-4, -3, -2, -1, 1, 2, 3})
+
+    def test_words(self):
+        self.assertEqual(words.formula(QUOTIENT), "q = a / b, rounded towards 0, and r = a - q b; b must not be 0")
+        self.assertEqual(words.formula(QUOTIENT | {"signed": False, "exact": False}), "q = a / b; b must not be 0")
+        self.assertEqual(words.formula(SCALE | {"out_width": 4}), "y = x * 3, saturated to 4 bits")
+        self.assertEqual(words.formula(FILTER), "y(t) = c0 x(t) + .. + c2 x(t - 2), c0 to c2 the taps below")
+        self.assertEqual(words.formula(FILTER | {"taps": [5]}), "y = x * 5")
 
 
 class Good(unittest.TestCase):

@@ -73,15 +73,25 @@ class Pictures(unittest.TestCase):
         self.assertIn("(2 cycles)", self.scale("1 : 1\n2 : 2\n")[1])
         self.assertIn("From 0.000 to 0.000 ulp", self.scale("1 : 1\n2 : 2\n")[1])
 
+    def test_error_of_a_saturated_output(self):
+        """It is taken from the value that was brought into the output's range."""
+        chosen = SCALE.replace("version = 1", "version = 3") + "out_width = 3\n"
+        (self.folder / "same.toml").write_text(chosen)
+        (self.folder / "same.rpt").write_text(SCALE_REPORT.replace("output y unsigned 4", "output y unsigned 3"))
+        (self.folder / "same.out").write_text("7 : 7\n8 : 7\nf : 7\n")
+        out = run("error", self.folder / "same.toml")[1]
+        self.assertIn("From 0.000 to 0.000 ulp", out)
+        self.assertIn("from the saturated value of x times the constant", out)
+
     def test_error_of_a_polynomial(self):
         """It is that of the polynomial, and not of the function that it stands for."""
         self.assertIn("polynomial (not of the function", run("error", EXAMPLES / "sine.toml")[1])
 
     def test_errors_of_each_kind(self):
-        for name in ("inches", "lowpass", "halfband", "gain", "duty", "magnitude", "transform", "weeks", "sine", "held"):
+        for name in ("inches", "lowpass", "halfband", "gain", "duty", "magnitude", "transform", "weeks", "sine", "held", "share", "clip"):
             found = error.found_errors(Example(EXAMPLES / f"{name}.toml"))
             self.assertTrue(found, name)
-            self.assertEqual(any(found), name in ("inches", "lowpass", "gain", "sine", "held"), name)
+            self.assertEqual(any(found), name in ("inches", "lowpass", "gain", "sine", "held", "clip"), name)
 
     def test_error_refusals(self):
         for rows, words in (
@@ -114,6 +124,19 @@ class Pictures(unittest.TestCase):
         found = {f"s{at}": parts.Part("column", at // 20, "carry" if at % 2 else "sum") for at in range(100)}
         self.assertEqual(schedule.bars_of(slots, found)[0].words, "columns 0 to 4: sum, carry (100 cells)")
 
+    def test_saturation(self):
+        """The cells that bring an output into its range are named."""
+        out = run("schedule", EXAMPLES / "clip.toml")[1]
+        for words in ("test of the range", "least or greatest", "saturate", "last sum, of all columns"):
+            self.assertIn(f">{words}<", out)
+
+    def test_signs(self):
+        """The cells that take the signs off, and put them to the results, are named beside the digits."""
+        out = run("schedule", EXAMPLES / "share.toml")[1]
+        for words in ("absolute value of a", "absolute value of b", "digit 11: subtract", "digit 0: select", "whether q is below 0",
+                      "negate q", "sign of q", "negate r", "sign of r"):
+            self.assertIn(f">{words}<", out)
+
     def test_stacked(self):
         """The panels of a long schedule lie below each other, and each bar says what it is."""
         out = run("schedule", EXAMPLES / "magnitude.toml")[1]
@@ -141,6 +164,10 @@ class Pictures(unittest.TestCase):
         ):
             self.assertEqual(parts.parts_of(Example(EXAMPLES / f"{name}.toml"))[node].words, words, (name, node))
 
+    def test_parts_of_a_last_tap_above_0(self):
+        """The product of the last tap is no sum."""
+        found = parts.parts_of(Example(EXAMPLES.parent / "cases/tfir/tf13.toml"))
+        self.assertEqual({node: part.words for node, part in found.items()}, {"s3": "2047 x", "s7": "tap 1: sum", "s10": "tap 0: sum"})
 
     def test_weights(self):
         out = run("heap", EXAMPLES / "volume.toml")[1]
@@ -177,6 +204,12 @@ class Pictures(unittest.TestCase):
         self.assertIn('n103 -> z4 [label="- << 1"];', out)
         self.assertIn('z2 -> z0 [label="  2 cycles", style=dashed];', out)
         self.assertIn("  z0 -> y;", out)
+
+    def test_words_of_a_cut_filter(self):
+        for out_lsb, words in ((-11, ""), (-10, "; in y half a unit is added, and 1 low bit is left out"),
+                               (-7, "; in y half a unit is added, and 4 low bits are left out")):
+            self.assertEqual(graph.cut_text({"kind": "tfir", "lsb": -11, "out_lsb": out_lsb}), words)
+        self.assertEqual(graph.cut_text({"kind": "tfir", "lsb": -11}) + graph.cut_text({"kind": "mcm", "lsb": -11}), "")
 
     def test_sums(self):
         self.assertEqual(graph.sum_of(1, 1, 7), graph.Sum(1, 3, False, 1, True))

@@ -137,6 +137,11 @@ class Drawing(unittest.TestCase):
         self.assertEqual({line.split()[1] for line in rows_of_quotient} & {"0"}, set())
         self.assertEqual({line.split()[1] for line in rows_of_quotient[:9]}, {"1", "2", "6", "7"})
 
+    def test_no_signed_divisor_0(self):
+        rows_of_share = self.drawn("share", "--ends", "--cycles", "200")
+        self.assertNotIn("00", {line.split()[1] for line in rows_of_share})
+        self.assertLess({"20", "21", "3f", "01", "1e", "1f"}, {line.split()[1] for line in rows_of_share[:40]})
+
     def test_a_filter(self):
         """The greatest and the least sum of a half-band filter of 12 signed bits: 2047 or -2048 by the sign of each tap."""
         taps = tomllib.loads((EXAMPLES / "halfband.toml").read_text())["taps"]
@@ -168,6 +173,19 @@ class Judging(unittest.TestCase):
             "rows: found y = 2 (2); good: y = 1 (1); error: y +1 unit",
             "rows: at no latency of 0 to 64 are all rows good",
         ])
+
+    def test_signed_quotient(self):
+        """-7 by 2 is -3, rest -1, and not -4, rest 1."""
+        status, out, said = run("judge", EXAMPLES / "share.toml", "--latency", "0", text="ff9 02 : 1ffd 3f\nff9 02 : 1ffc 01\n")
+        self.assertEqual((status, out), (8, "row 1 not good, by exact fractions, a test that is not proved\n"))
+        self.assertIn("good: q = 1ffd (-3), r = 3f (-1); error: q -1 unit, r +2 units", said)
+
+    def test_saturated(self):
+        """A step to the greatest sample overshoots: 14/8 of it are cut to that sample."""
+        text = "7ff : f00\n000 : e00\n000 : 7ff\n000 : dff\n"
+        status, out, said = run("judge", EXAMPLES / "clip.toml", "--latency", "0", text=text)
+        self.assertEqual((status, out), (8, "row 3 not good, by exact fractions, a test that is not proved\n"))
+        self.assertIn("good: y = e00 (-0.25) or y = e01 (-0.24951171875)", said)
 
     def test_refusals(self):
         for text, words in (

@@ -25,6 +25,8 @@ EACH_KIND = {
     "weeks": "q = x / 7, rounded down, and r = x - 7 q",
     "sine": "the polynomial (not of the function that it approximates)",
     "halfband": "tap 14: -9 x",
+    "share": "q = a / b, rounded towards 0, and r = a - q b; b must not be 0",
+    "clip": "less than 1 ulp from the saturated value; an ulp is 2^-11",
 }
 # Elements that have no end.
 VOID = {"meta"}

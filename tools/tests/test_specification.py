@@ -86,10 +86,10 @@ class Places(unittest.TestCase):
     def test_shifts_of_the_document(self) -> None:
         """Formulas and limits are those of docs/SPECIFICATION.md."""
         text = (schema.TOP / "docs/SPECIFICATION.md").read_text()
-        rows = re.findall(r"^\| (\w+) \| ([\w +-]+) \| [^|]* \| (-?\d+) to (\d+)(?:; in version 2 to (\d+))? \|$", text,
-                          re.MULTILINE)
-        found = {kind: (formula, {1: (int(low), int(high)), 2: (int(low), int(newer or high))}) for kind, formula, low, high,
-                 newer in rows}
+        rows = re.findall(r"^\| (\w+) \| ([\w +-]+) \| [^|]* \| (-?\d+) to (\d+)(?:; from version 2 on to (\d+))? \|$",
+                          text, re.MULTILINE)
+        found = {kind: (formula, {1: (int(low), int(high))} | dict.fromkeys((2, 3), (int(low), int(newer or high))))
+                 for kind, formula, low, high, newer in rows}
         self.assertEqual(found, SHIFTS)
 
 

@@ -163,6 +163,11 @@ class Runs(unittest.TestCase):
         spec = {"kind": "scale", "version": 1}
         TOOL.check_keys(spec, [("version", [1, 2]), ("compressor", ["dadda"])])
         TOOL.check_keys(spec, [("kind", ["scale", "mcm"]), ("extra", [1])])
+        TOOL.check_keys(spec, [("version", [3]), ("out_width", [8, 10]), ("out_signed", [True, False])])
+        TOOL.check_keys(spec, [("version", [2, 3]), ("kind", ["divide"]), ("signed", [True, False])])
+        for axes in ([("out_width", [8])], [("version", [2]), ("out_signed", [True])], [("version", [2]), ("kind", ["divide"]), ("signed", [True])]):
+            with self.assertRaises(TOOL.Refused):
+                TOOL.check_keys(spec, axes)
 
 
 if __name__ == "__main__":

@@ -60,6 +60,23 @@ class Wrappers(Folder):
         self.assertIn("y <= signed(y_word);", text)
         self.assertIn("faithful: less than 2^-11 from the exact value", text)
 
+    def test_signed_quotient(self):
+        self.run_tool("--bench", EXAMPLES / "share")
+        text = (self.folder / "share_wrap.vhd").read_text()
+        for line in ("    a : in signed(11 downto 0);", "    b : in signed(5 downto 0);", "    q : out signed(12 downto 0);", "    r : out signed(5 downto 0)",
+                     "  q <= signed(q_word);", "--     q: signed, 13 bits, lsb 2^0, from -4096 to 4096 - 1"):
+            self.assertIn(f"{line}\n", text)
+        self.run_tool("--verilog", EXAMPLES / "share")
+        text = (self.folder / "share_wrap.v").read_text()
+        self.assertIn("  output wire signed [12:0] q,\n  output wire signed [5:0] r\n", text)
+
+    def test_chosen_width(self):
+        self.run_tool(EXAMPLES / "clip")
+        text = (self.folder / "clip_wrap.vhd").read_text()
+        self.assertIn("c0 to c4 the coefficients below over 8, saturated to 12 bits\n", text)
+        self.assertIn("    y : out signed(11 downto 0)\n", text)
+        self.assertIn("faithful: less than 2^-11 from the saturated value", text)
+
     def test_letters(self):
         """A comment of the specification is ASCII in the VHDL."""
         self.copy("times3")

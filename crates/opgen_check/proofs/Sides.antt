@@ -10,7 +10,7 @@ use Rattle.opgen_design.specs.Run.{at_ports, input_widths, is_in, is_out}
 use Rattle.opgen_design.specs.Sound.{port_widths}
 use Rattle.opgen_ports.specs.declared.ports.PortFormat.{PortFormat}
 use Rattle.opgen_operator.specs.declared.spec.Spec.{Spec}
-use Rattle.opgen_operator.specs.Operator.{inputs_of, outputs_of}
+use Rattle.opgen_operator.specs.Outputs.{inputs_of, outputs_of}
 use Rattle.opgen_check.specs.Ports.{IsSamePort, PortsAgree}
 use Rattle.opgen_operator.specs.DesignPorts.{port_of, operator_ports}
 

@@ -4,7 +4,7 @@ use Rattle.opgen_design.specs.declared.design.Design.{Design}
 use Rattle.opgen_design.specs.Sound.{IsSound}
 use Rattle.opgen_num.specs.Words.{AreRowsOfCells}
 use Rattle.opgen_operator.specs.declared.spec.Spec.{Spec}
-use Rattle.opgen_operator.specs.Operator.{inputs_of, outputs_of}
+use Rattle.opgen_operator.specs.Outputs.{inputs_of, outputs_of}
 use Rattle.opgen_runs.specs.Rows.{IsRunOf}
 use Rattle.opgen_vec.specs.GoodRow.{IsGoodRow}
 use Rattle.opgen_check.specs.declared.checked.Checked.{Checked}

@@ -3,7 +3,7 @@ ghost use Rattle.std.specs.Prelude.{◌≡◌, ◌<◌, ◌^◌, ◌↔◌, Err,
 ghost use Rattle.opgen_design.specs.Run.{input_widths};
 ghost use Rattle.opgen_design.specs.Sound.{HasNumbers, IsSound};
 ghost use Rattle.opgen_num.specs.Words.{FitWidths, AreRowsOfCells};
-ghost use Rattle.opgen_operator.specs.Operator.{inputs_of, outputs_of};
+ghost use Rattle.opgen_operator.specs.Outputs.{inputs_of, outputs_of};
 ghost use Rattle.opgen_operator.specs.Valid.{IsValidSpec};
 ghost use Rattle.opgen_vec.specs.GoodRow.{IsGoodRow};
 ghost use Rattle.opgen_vec.specs.Writing.{row_count};

@@ -8,10 +8,10 @@ use Rattle.opgen_num.specs.Values.{int, val}
 use Rattle.opgen_num.specs.Words.{nat}
 use Rattle.opgen_net.specs.Flow.{Inputs, input_at}
 use Rattle.opgen_net.specs.Placed.{number_at}
-use Rattle.opgen_operator.specs.declared.kinds.small_div.SmallDiv.{SmallDiv}
+use Rattle.opgen_kinds.specs.declared.small_div.SmallDiv.{SmallDiv}
 use Rattle.opgen_operator.specs.declared.operator.Operator.TheVariants.{Constdiv}
 use Rattle.opgen_operator.specs.Fits.{FitsOperator, FitsInEachMode, name_and_width}
-use Rattle.opgen_operator.specs.kinds.SmallDiv.{IsAcceptedSmallDiv, IsGoodSmallQuotient, small_ports, IsSmallDiv}
+use Rattle.opgen_kinds.specs.SmallDiv.{IsAcceptedSmallDiv, IsGoodSmallQuotient, small_ports, IsSmallDiv}
 use Rattle.opgen_operator.specs.Operator.{operator_inputs}
 use Rattle.opgen_operator.specs.PortWords.{recent_words, output_words}
 use Rattle.opgen_ports.specs.Recent.{Recent}

@@ -11,7 +11,7 @@
 ghost use Rattle.std.specs.Prelude.{◌≡◌, IfOk};
 ghost use Rattle.opgen_operator.specs.declared.operator.Operator.TheVariants.{Constdiv};
 ghost use Rattle.opgen_operator.specs.Fits.{FitsInEachMode};
-ghost use Rattle.opgen_operator.specs.kinds.SmallDiv.{IsAcceptedSmallDiv};
+ghost use Rattle.opgen_kinds.specs.SmallDiv.{IsAcceptedSmallDiv};
 ghost use Rattle.opgen_constdiv.specs.Recipe.{net_of};
 ghost use Rattle.opgen_constdiv.specs.Steps.{HoldsAfterEachDigit};
 

@@ -1,3 +1,8 @@
 mod Arithmetic
+mod Opposites
+mod Signed
+mod Absolutes
 mod Steps
+mod Finished
+mod Outputs
 pub mod Whole

@@ -10,19 +10,18 @@ use Rattle.std.proofs.lemmas.List.Elements.{All-append, All-cons, All-nil}
 use Rattle.opgen_num.specs.declared.TheConstants.{MAX_WIDTH}
 use Rattle.opgen_num.specs.Words.{digit, nat}
 use Rattle.opgen_num.proofs.Words.{digit-below, nat-below}
-use Rattle.opgen_design.specs.Run.{AreWords}
 use Rattle.opgen_design.specs.Width.{IsWidth}
 use Rattle.opgen_net.specs.declared.net.Net.{Net}
 use Rattle.opgen_net.specs.declared.word_bits.WordBit.{WordBit}
 use Rattle.opgen_net.specs.declared.word_bits.WordBit.TheVariants.{Zero, Of}
 use Rattle.opgen_net.specs.Flow.{Inputs, flow}
 use Rattle.opgen_net.specs.Grown.{HasGrown}
-use Rattle.opgen_net.specs.Valid.{widths, input_widths, IsValid}
+use Rattle.opgen_net.specs.Valid.{widths, IsValid}
 use Rattle.opgen_net.specs.WordRule.{IsThere, bit_flow, bits_from}
 use Rattle.opgen_net.proofs.FlowWidths.{flow-width}
 use Rattle.opgen_net.proofs.Grown.{grown-same, grown-flow, grown-width, grown-all_there, grown-then}
-use Rattle.opgen_operator.specs.declared.kinds.pair.Pair.{Pair}
-use Rattle.opgen_operator.specs.kinds.Pair.{pair_shift}
+use Rattle.opgen_kinds.specs.declared.pair.Pair.{Pair}
+use Rattle.opgen_kinds.specs.Pair.{pair_shift}
 use Rattle.opgen_ports.specs.Shifts.{places_up}
 use Rattle.opgen_net.specs.Placed.{number_at, with_bits}
 use Rattle.opgen_digits.specs.Digit.{Known, with_difference, tried, left_of, AreOperands, HasDigit}
@@ -31,17 +30,10 @@ use Rattle.opgen_net.proofs.Numbers.{at-below, at-push, at-zero, at-zeros, at-no
 use Rattle.opgen_digits.proofs.Digit.{Tried, all-tried, has_digit}
 use Rattle.opgen_net.proofs.Later.{Later, later-same, later-then, node_there, words-later}
 use Rattle.opgen_digits.proofs.Outputs.{made-later, made-width, made-number}
-use Rattle.opgen_divide.specs.Recipe.{with_inputs, numerator, digit_count, with_divisor, minuend, stepped, keeps, after}
+use Rattle.opgen_divide.specs.Recipe.{with_magnitudes, numerator, digit_count, with_divisor, minuend, stepped, keeps, after}
 use Rattle.opgen_divide.specs.Steps.{IsDivided}
+use Rattle.opgen_divide.proofs.Absolutes.{HasWidths, AreFor, AreMagnitudes, are_magnitudes}
 use Rattle.opgen_divide.proofs.Arithmetic.{next_digit, same_quotient, kept_rest, is_divided}
-
--- the widths of an accepted pair
-pub record HasWidths (p : Pair) : Type 0 where
-  pub some_a : 1 ≤ p.a.width
-  pub some_b : 1 ≤ p.b.width
-  pub few_a : p.a.width ≤ MAX_WIDTH
-  pub few_b : p.b.width + 2 ≤ MAX_WIDTH
-  pub few : digit_count p ≤ MAX_WIDTH
 
 -- a word of the bits of a minuend, beside a divisor of its width
 pub operands-of : (w : ℕ) (net : Net) (given : List WordBit) (place : ℕ) → IsValid net → 1 ≤ w → w + 2 ≤ MAX_WIDTH
@@ -62,32 +54,41 @@ module _ (p : Pair) (have : HasWidths p) where
   w = p.b.width
 
   abbrev pub base : Net
-  base = with_inputs p
+  base = (with_magnitudes p).net
+
+  abbrev a_node : ℕ
+  a_node = (with_magnitudes p).dividend
+
+  abbrev b_node : ℕ
+  b_node = (with_magnitudes p).divisor
+
+  are : AreMagnitudes p have (with_magnitudes p)
+  are = are_magnitudes p have
 
   -- at a time: the divisor, and the bits of the numerator that are taken
   abbrev pub divisor_at : Inputs → ℤ → ℕ
-  divisor_at inputs t = nat (flow base.nodes inputs 1 t)
+  divisor_at inputs t = nat (flow base.nodes inputs b_node t)
 
   abbrev taken_at : (k : ℕ) → Inputs → ℤ → ℕ
   taken_at k inputs t = number_at base.nodes inputs t (take k (numerator p))
 
-  abbrev pub AreFor : Net → Inputs → Type 0
-  AreFor net inputs = All (AreWords (input_widths net)) inputs
+  pub base-valid : IsValid base
+  base-valid = are.later.valid
 
-  -- the two inputs
+  divisor-length : (inputs : Inputs) (t : ℤ) → AreFor p have base inputs → length (flow base.nodes inputs b_node t) ≡ w
+  divisor-length inputs t words = flow-width base base-valid inputs words b_node t ∙ are.divisor
 
-  pub inputs-valid : IsValid base
-  inputs-valid = record {
-    nodes = ((have.some_a, have.few_a), ((have.some_b, omega (arith, have.few_b)), tt));
-    inputs = refl;
-    outputs = λ k d l. absurd (omega (arith, l));
-  }
+  pub dividend-there : a_node < length base.nodes
+  dividend-there = node_there base a_node p.a.width have.some_a are.dividend
+
+  pub divisor-there : b_node < length base.nodes
+  divisor-there = node_there base b_node w have.some_b are.divisor
 
   abbrev bits : List WordBit
-  bits = Zero ∷ Zero ∷ bits_from 1 0 w
+  bits = Zero ∷ Zero ∷ bits_from b_node 0 w
 
   bits-length : length bits ≡ w + 2
-  bits-length = omega (arith, length-bits_from 1 0 w)
+  bits-length = omega (arith, length-bits_from b_node 0 w)
 
   pub bits-wide : IsWidth (length bits)
   bits-wide = (omega arith, omega (arith, bits-length, have.few_b))
@@ -95,8 +96,8 @@ module _ (p : Pair) (have : HasWidths p) where
   pub bits-there : All (IsThere (widths base.nodes)) bits
   bits-there =
       let P = IsThere (widths base.nodes) in
-      let low = bits_from-there (widths base.nodes) 1 0 w (omega arith) in
-      All-cons P Zero (Zero ∷ bits_from 1 0 w) tt (All-cons P Zero (bits_from 1 0 w) tt low)
+      let low = bits_from-there (widths base.nodes) b_node 0 w (omega (arith, are.divisor)) in
+      All-cons P Zero (Zero ∷ bits_from b_node 0 w) tt (All-cons P Zero (bits_from b_node 0 w) tt low)
 
   abbrev first : Net
   first = (with_divisor p).net
@@ -105,34 +106,35 @@ module _ (p : Pair) (have : HasWidths p) where
   place = (with_divisor p).place
 
   pub first-later : Later base first
-  first-later = made-later base inputs-valid bits bits-wide bits-there
+  first-later = made-later base base-valid bits bits-wide bits-there
 
   pub divisor-width : slice_index (widths first.nodes) place ≡ w + 2
-  divisor-width = made-width base inputs-valid bits bits-wide bits-there ∙ bits-length
+  divisor-width = made-width base base-valid bits bits-wide bits-there ∙ bits-length
 
   first_there : place < length first.nodes
   first_there = node_there first place (w + 2) (omega arith) divisor-width
 
-  -- the divisor is the second input
-  divisor-number : (inputs : Inputs) (t : ℤ) → AreFor base inputs → nat (flow first.nodes inputs place t) ≡ divisor_at inputs t
+  -- it has the number of the divisor
+  divisor-number : (inputs : Inputs) (t : ℤ) → AreFor p have base inputs → nat (flow first.nodes inputs place t) ≡ divisor_at inputs t
   divisor-number inputs t words =
-      made-number base inputs-valid bits bits-wide bits-there inputs t words
-      ∙ at-zero base.nodes inputs t (Zero ∷ bits_from 1 0 w)
-      ∙ at-zero base.nodes inputs t (bits_from 1 0 w)
-      ∙ at-node base.nodes inputs t 1 w (flow-width base inputs-valid inputs words 1 t)
+      made-number base base-valid bits bits-wide bits-there inputs t words
+      ∙ at-zero base.nodes inputs t (Zero ∷ bits_from b_node 0 w)
+      ∙ at-zero base.nodes inputs t (bits_from b_node 0 w)
+      ∙ at-node base.nodes inputs t b_node w (divisor-length inputs t words)
 
   -- the numerator
 
   pub numerator-length : length (numerator p) ≡ digit_count p
   numerator-length =
       let s = places_up (pair_shift p) in
-      omega (arith, length-append (bits_from 0 0 p.a.width) (replicate s Zero), length-bits_from 0 0 p.a.width, length-replicate s Zero)
+      omega (arith, length-append (bits_from a_node 0 p.a.width) (replicate s Zero), length-bits_from a_node 0 p.a.width, length-replicate s Zero)
 
   pub numerator-there : All (IsThere (widths base.nodes)) (numerator p)
   numerator-there =
       let s = places_up (pair_shift p) in
       let ws = widths base.nodes in
-      All-append (IsThere ws) (bits_from 0 0 p.a.width) (replicate s Zero) (bits_from-there ws 0 0 p.a.width (omega arith))
+      All-append (IsThere ws) (bits_from a_node 0 p.a.width) (replicate s Zero)
+      (bits_from-there ws a_node 0 p.a.width (omega (arith, are.dividend)))
       (zeros-there ws s)
 
   -- what is left after a step that is not the last is kept
@@ -152,7 +154,7 @@ module _ (p : Pair) (have : HasWidths p) where
     pub count : length known.digits ≡ k
     pub rest : All (IsThere (widths known.net.nodes)) known.rest
     pub rest_count : keeps p k ≡ true → length known.rest ≡ w
-    pub right : (inputs : Inputs) (t : ℤ) → AreFor base inputs → 0 < divisor_at inputs t → Divides (keeps p k) k known inputs t
+    pub right : (inputs : Inputs) (t : ℤ) → AreFor p have base inputs → 0 < divisor_at inputs t → Divides (keeps p k) k known inputs t
 
   stands-first : Stands 0 (after p 0)
   stands-first = record {
@@ -228,7 +230,7 @@ module _ (p : Pair) (have : HasWidths p) where
     done = all-tried w raised a place raised-later.valid operands (keeps p (suc k)) known.digits digits-there
 
     -- at a time
-    module _ (inputs : Inputs) (t : ℤ) (words : AreFor base inputs) where
+    module _ (inputs : Inputs) (t : ℤ) (words : AreFor p have base inputs) where
       abbrev b : ℕ
       b = divisor_at inputs t
 
@@ -250,7 +252,7 @@ module _ (p : Pair) (have : HasWidths p) where
       abbrev y : ℕ
       y = nat (flow raised.nodes inputs place t)
 
-      words_known : AreFor known.net inputs
+      words_known : AreFor p have known.net inputs
       words_known = words-later base known.net s.later inputs words
 
       given-number : x ≡ number_at known.net.nodes inputs t given
@@ -276,8 +278,8 @@ module _ (p : Pair) (have : HasWidths p) where
 
       b-low : b < 2 ^ w
       b-low =
-          let word = flow base.nodes inputs 1 t in
-          subst (λ m. nat word < 2 ^ m) (flow-width base inputs-valid inputs words 1 t) (nat-below word)
+          let word = flow base.nodes inputs b_node t in
+          subst (λ m. nat word < 2 ^ m) (divisor-length inputs t words) (nat-below word)
 
       divisor-low : y < 2 ^ (w + 1)
       divisor-low =

@@ -1,44 +1,54 @@
 -- The net of an accepted pair: it is valid, its steps are right, and its outputs are good.
-use Rattle.std.proofs.Common.{◌≡◌, ℕ, zero, suc, ◌+◌, ◌-◌, ◌*◌, ◌^◌, ◌<◌, ◌≤◌, ◌≢◌, Bool, true, false, List, [], length, map, take, replicate, refl, sym, ap, ◌∙◌, subst, arith, nat_lt, codes}
-use Rattle.std.specs.Prelude.{ℤ, pos, ◌-ℤ◌, ◌*ℤ◌, if◌then◌else◌}
+use Rattle.std.proofs.Common.{◌≡◌, ℕ, zero, suc, ◌+◌, ◌-◌, ◌*◌, ◌^◌, ◌<◌, ◌≤◌, ◌≢◌, Bool, true, false, ◌&&◌, List, [], length, map, take, replicate, refl, sym, ap, ◌∙◌, subst, arith, nat_lt, codes}
+use Rattle.std.specs.Prelude.{ℤ, pos, ◌-ℤ◌, slice_index, unsigned_abs, if◌then◌else◌}
+use Rattle.std.proofs.Math.Nat.{two-pow-succ}
 use Rattle.std.proofs.Math.Seq.{take-length}
 use Rattle.std.proofs.lemmas.Bool.{or_left}
 use Rattle.std.proofs.lemmas.Int.{ints}
 use Rattle.std.proofs.lemmas.List.{length-replicate}
 use Rattle.std.proofs.lemmas.List.Elements.{All-take}
+use Rattle.opgen_num.specs.declared.TheConstants.{MAX_WIDTH}
 use Rattle.opgen_num.specs.declared.format.Format.{Format}
-use Rattle.opgen_num.specs.Rounding.{IsWithinOne}
-use Rattle.opgen_num.specs.Values.{int, val}
+use Rattle.opgen_num.specs.Sums.{xor}
+use Rattle.opgen_num.specs.Values.{highest, int, val}
 use Rattle.opgen_num.specs.Words.{nat}
+use Rattle.opgen_num.proofs.Values.{int_holds}
+use Rattle.opgen_num.proofs.Words.{nat-below}
 use Rattle.opgen_design.specs.Value.{word_at}
 use Rattle.opgen_net.specs.declared.net.Net.{Net}
 use Rattle.opgen_net.specs.declared.word_bits.WordBit.{WordBit}
 use Rattle.opgen_net.specs.declared.word_bits.WordBit.TheVariants.{Zero}
 use Rattle.opgen_net.specs.Flow.{Inputs, flow, input_at, KeepsFlow}
-use Rattle.opgen_net.specs.Valid.{widths}
-use Rattle.opgen_net.specs.WordRule.{IsThere, bits_from}
+use Rattle.opgen_net.specs.Valid.{IsValid, widths}
+use Rattle.opgen_net.specs.WordRule.{IsThere, bits_from, word_flow}
+use Rattle.opgen_net.proofs.BitLists.{length-word_flow}
 use Rattle.opgen_net.proofs.FlowWidths.{flow-width}
 use Rattle.opgen_net.proofs.Grown.{flow-then, grown-flow, grown-count}
-use Rattle.opgen_operator.specs.declared.kinds.pair.Pair.{Pair}
+use Rattle.opgen_kinds.specs.declared.pair.Pair.{Pair}
+use Rattle.opgen_kinds.specs.Pair.{IsAcceptedPair, IsGoodQuotient, pair_shift, quotient_ports, quotient_format, remainder_format, sign_bit, IsPair}
+use Rattle.opgen_kinds.proofs.of_kind.Pair.{with_sign, good_of_sizes}
 use Rattle.opgen_operator.specs.declared.operator.Operator.TheVariants.{Divide}
 use Rattle.opgen_operator.specs.Fits.{FitsOperator, FitsInEachMode, name_and_width}
-use Rattle.opgen_operator.specs.kinds.Pair.{IsAcceptedPair, IsGoodQuotient, pair_shift, quotient_ports, IsPair}
 use Rattle.opgen_operator.specs.Operator.{operator_inputs}
 use Rattle.opgen_operator.specs.PortWords.{recent_words, output_words}
+use Rattle.opgen_operator.proofs.Accepted.{accepted_ranges, accepted_width}
 use Rattle.opgen_ports.specs.Recent.{Recent}
 use Rattle.opgen_ports.specs.Shifts.{places_up, up}
-use Rattle.opgen_operator.proofs.Accepted.{accepted_ranges, accepted_width}
 use Rattle.opgen_ports.proofs.InputPorts.{input_bit}
 use Rattle.opgen_net.specs.Placed.{number_at}
 use Rattle.opgen_digits.specs.Digit.{Known}
 use Rattle.opgen_digits.specs.Results.{AreResults, with_results}
 use Rattle.opgen_net.proofs.Numbers.{at-append, at-zeros, at-node, number-kept}
-use Rattle.opgen_net.proofs.Later.{Later, words-later}
-use Rattle.opgen_digits.proofs.Results.{result_ports, result_words, results-inputs, results-valid, results-keep, results-shown, results-digits, results-rest}
-use Rattle.opgen_divide.specs.Recipe.{numerator, digit_count, keeps, after, net_of_pair}
-use Rattle.opgen_divide.specs.Steps.{IsDivided, HoldsAfterEachStep}
-use Rattle.opgen_divide.proofs.Arithmetic.{near, same_division, some_rest, kept_rest}
-use Rattle.opgen_divide.proofs.Steps.{HasWidths, base, AreFor, divisor_at, Stands, stands, later-by, inputs-valid, numerator-length, numerator-there}
+use Rattle.opgen_net.proofs.Later.{Later, later-then, words-later}
+use Rattle.opgen_digits.proofs.Results.{shown, result_ports, result_words, results-inputs, results-valid, results-keep, results-shown, results-digits, results-rest}
+use Rattle.opgen_divide.specs.Inputs.{HasInputs}
+use Rattle.opgen_divide.specs.Recipe.{with_magnitudes, numerator, digit_count, keeps, after, with_signs, net_of_pair}
+use Rattle.opgen_divide.specs.Steps.{IsDivided, DividesSizes, HoldsAfterEachStep}
+use Rattle.opgen_divide.proofs.Absolutes.{HasWidths, start, start-inputs, start-valid, AreFor, AreMagnitudes, are_magnitudes, size}
+use Rattle.opgen_divide.proofs.Arithmetic.{same_division, some_rest, kept_rest}
+use Rattle.opgen_divide.proofs.Finished.{IsFinished, is_finished, still-inputs}
+use Rattle.opgen_divide.proofs.Outputs.{same-word, output-wide}
+use Rattle.opgen_divide.proofs.Steps.{base, divisor_at, Stands, stands, later-by, base-valid, dividend-there, divisor-there, numerator-length, numerator-there}
 
 -- accepted pairs
 
@@ -50,20 +60,41 @@ has_widths p is =
       some_b = input_bit p.b ranges.b;
       few_a = omega (arith, ranges.a.most);
       few_b = omega (arith, ranges.b.most);
-      few = accepted_width (Divide p) (digit_count p) is refl;
+      few = accepted_width (Divide p) (quotient_format p).width is refl;
+      alike = ranges.alike;
     }
 
--- unsigned words, in the last cycle
+-- signs and sizes of words
 
-unsigned : (v : List Bool) (f : Format) → f.signed ≡ false → val v f ≡ pos (nat v)
-unsigned v f e = ap (λ (c : Bool). if c then int v else pos (nat v)) e
+-- a number is its size with its sign
+by_size : (v : List Bool) (f : Format) → val v f ≡ with_sign (f.signed && highest v) (size v f)
+by_size v f = go f.signed (highest v) refl
+  where
+    go : (signed top : Bool) → highest v ≡ top
+        → (if signed then int v else pos (nat v)) ≡ with_sign (signed && top) (unsigned_abs (if signed then int v else pos (nat v)))
+    go false top e = refl
+    go true true e =
+        let whole : int v ≡ pos (nat v) -ℤ pos (2 ^ length v) = ap (λ (c : Bool). pos (nat v) -ℤ pos (if c then 2 ^ length v else 0)) e in
+        omega (arith, ints, whole, nat-below v)
+    go true false e =
+        let whole : int v ≡ pos (nat v) -ℤ pos 0 = ap (λ (c : Bool). pos (nat v) -ℤ pos (if c then 2 ^ length v else 0)) e in
+        omega (arith, ints, whole)
+
+-- a number in two's complement is at most half the numbers of its width from 0
+half_size : (v : List Bool) (f : Format) → 1 ≤ length v → f.signed ≡ true → 2 * size v f ≤ 2 ^ length v
+half_size v f some e =
+    let same : size v f ≡ unsigned_abs (int v) = ap (λ (c : Bool). unsigned_abs (if c then int v else pos (nat v))) e in
+    let holds = int_holds v some in
+    let k : length v ≡ suc (length v - 1) = omega (arith, some) in
+    omega (arith, ints, same, holds.0, holds.1, ap (λ n. 2 ^ n) k, two-pow-succ (length v - 1))
+
+some_size : (s : Bool) (n : ℕ) (z : ℤ) → z ≡ with_sign s n → z ≢ pos 0 → 0 < n
+some_size true zero z e f = absurd (f e)
+some_size false zero z e f = absurd (f e)
+some_size s (suc n) z e f = omega arith
 
 now : (t : ℕ) → pos t -ℤ pos 0 ≡ pos t
 now t = omega (arith, ints)
-
-positive : (n : ℕ) (z : ℤ) → z ≡ pos n → z ≢ pos 0 → 0 < n
-positive zero z e f = absurd (f e)
-positive (suc n) z e f = omega arith
 
 module _ (p : Pair) (have : HasWidths p) where
   abbrev count : ℕ
@@ -75,41 +106,98 @@ module _ (p : Pair) (have : HasWidths p) where
   at_last : Stands p have count last
   at_last = stands p have count (omega arith)
 
+  abbrev final : Known
+  final = with_signs p last
+
   rest-length : p.exact ≡ true → length last.rest ≡ p.b.width
   rest-length exact = at_last.rest_count (or_left p.exact (nat_lt count count) exact)
 
-  pub results : AreResults p.exact last
-  results = record {
+  pub divided-results : AreResults p.exact last
+  divided-results = record {
     width = (omega (arith, at_last.count, have.some_a), omega (arith, at_last.count, have.few));
     digits = at_last.digits;
     rest_width = λ exact. (omega (arith, rest-length exact, have.some_b), omega (arith, rest-length exact, have.few_b));
     rest = at_last.rest;
   }
 
+  magnitudes : AreMagnitudes p have (with_magnitudes p)
+  magnitudes = are_magnitudes p have
+
+  start-last : Later (start p have) last.net
+  start-last = later-then (start p have) (base p have) last.net magnitudes.later at_last.later
+
+  pub last-inputs : HasInputs p last.net
+  last-inputs = still-inputs p (start p have) last.net start-last (start-inputs p have)
+
+  pub last-valid : IsValid last.net
+  last-valid = at_last.later.valid
+
+  pub last-few : length last.digits + sign_bit p.a.signed ≤ MAX_WIDTH
+  last-few = omega (arith, at_last.count, have.few)
+
+  finished : IsFinished p last have.alike last-valid last-inputs last-few divided-results final
+  finished = is_finished p last have.alike last-valid last-inputs last-few divided-results
+
+  pub results : AreResults p.exact final
+  results = finished.results
+
+  final-valid : IsValid final.net
+  final-valid = finished.later.valid
+
   abbrev made : Net
   made = net_of_pair p
 
-  pub made-inputs : made.inputs ≡ (base p have).inputs
-  made-inputs = results-inputs p.exact (codes "q") last ∙ at_last.later.grown.inputs
+  pub made-inputs : made.inputs ≡ (start p have).inputs
+  made-inputs =
+      results-inputs p.exact (codes "q") final
+      ∙ finished.later.grown.inputs
+      ∙ start-last.grown.inputs
 
-  -- the nodes after a step keep their words
+  -- the nodes before the results keep their words
+  last-keeps : KeepsFlow last.net.nodes made.nodes
+  last-keeps =
+      let grown = finished.later.grown in
+      flow-then last.net.nodes final.net.nodes made.nodes (grown-count last.net final.net grown) (grown-flow last.net final.net grown)
+      (results-keep (codes "q") final final-valid p.exact results)
+
   step-keeps : (k : ℕ) → k ≤ count → KeepsFlow (after p k).net.nodes made.nodes
   step-keeps k h =
       let old = (after p k).net in
       let sum : k + (count - k) ≡ count = omega (arith, h) in
       let later : Later old last.net = subst (λ m. Later old (after p m).net) sum (later-by p have k (count - k) (omega (arith, h))) in
-      flow-then old.nodes last.net.nodes made.nodes (grown-count old last.net later.grown) (grown-flow old last.net later.grown)
-      (results-keep (codes "q") last at_last.later.valid p.exact results)
+      flow-then old.nodes last.net.nodes made.nodes (grown-count old last.net later.grown) (grown-flow old last.net later.grown) last-keeps
 
-  inputs-keep : KeepsFlow (base p have).nodes made.nodes
-  inputs-keep =
+  base-keeps : KeepsFlow (base p have).nodes made.nodes
+  base-keeps =
       let old = base p have in
       let grown = at_last.later.grown in
-      flow-then old.nodes last.net.nodes made.nodes (grown-count old last.net grown) (grown-flow old last.net grown)
-      (results-keep (codes "q") last at_last.later.valid p.exact results)
+      flow-then old.nodes last.net.nodes made.nodes (grown-count old last.net grown) (grown-flow old last.net grown) last-keeps
 
-  for_inputs : (inputs : Inputs) → AreFor p have made inputs → AreFor p have (base p have) inputs
-  for_inputs inputs words = subst (λ is. AreFor p have (record made { inputs = is }) inputs) made-inputs words
+  start-keeps : KeepsFlow (start p have).nodes made.nodes
+  start-keeps =
+      let old = start p have in
+      let grown = magnitudes.later.grown in
+      flow-then old.nodes (base p have).nodes made.nodes (grown-count old (base p have) grown) (grown-flow old (base p have) grown) base-keeps
+
+  -- the words of the inputs
+  for_start : (inputs : Inputs) → AreFor p have made inputs → AreFor p have (start p have) inputs
+  for_start inputs words = subst (λ is. AreFor p have (record made { inputs = is }) inputs) made-inputs words
+
+  for_base : (inputs : Inputs) → AreFor p have (start p have) inputs → AreFor p have (base p have) inputs
+  for_base inputs words = words-later (start p have) (base p have) magnitudes.later inputs words
+
+  pub sizes_hold : DividesSizes p made
+  sizes_hold inputs t words =
+      let for = for_start inputs words in
+      let a = (with_magnitudes p).dividend in
+      let b = (with_magnitudes p).divisor in (
+        ap nat (base-keeps inputs a t (dividend-there p have))
+            ∙ magnitudes.dividend-number inputs t for
+            ∙ ap (λ v. size v p.a) (sym (start-keeps inputs 0 t (omega arith))),
+        ap nat (base-keeps inputs b t (divisor-there p have))
+            ∙ magnitudes.divisor-number inputs t for
+            ∙ ap (λ v. size v p.b) (sym (start-keeps inputs 1 t (omega arith))),
+      )
 
   pub steps_hold : HoldsAfterEachStep p made
   steps_hold k h inputs t words =
@@ -117,57 +205,72 @@ module _ (p : Pair) (have : HasWidths p) where
       let old = (base p have).nodes in
       let step = (after p k).net.nodes in
       let there = All-take (IsThere (widths old)) k (numerator p) (numerator-there p have) in
-      let n = number-kept old made.nodes inputs-keep inputs t (take k (numerator p)) there in
-      let b : nat (flow made.nodes inputs 1 t) ≡ divisor_at p have inputs t = ap nat (inputs-keep inputs 1 t (omega arith)) in
+      let n = number-kept old made.nodes base-keeps inputs t (take k (numerator p)) there in
+      let b : nat (flow made.nodes inputs (with_magnitudes p).divisor t) ≡ divisor_at p have inputs t =
+      ap nat (base-keeps inputs (with_magnitudes p).divisor t (divisor-there p have)) in
       let q = number-kept step made.nodes (step-keeps k h) inputs t (after p k).digits s.digits in
       let r = number-kept step made.nodes (step-keeps k h) inputs t (after p k).rest s.rest in
       λ some.
-      let held = s.right inputs t (for_inputs inputs words) (omega (arith, some, b)) in
+      let held = s.right inputs t (for_base inputs (for_start inputs words)) (omega (arith, some, b)) in
       same_division (keeps p k) _ _ _ _ _ _ _ _ (sym n) (sym b) (sym q) (sym r) held
 
-  -- the dividend and the divisor in the last cycle
+  -- the dividend and the divisor at a time
 
-  abbrev inputs_now : Inputs → ℕ → (port : ℕ) → Recent
-  inputs_now inputs t = recent_words (operator_inputs (Divide p)) inputs t
+  abbrev first_at : Inputs → ℤ → List Bool
+  first_at inputs t = input_at inputs 0 p.a.width t
 
-  abbrev dividend_at : Inputs → ℤ → ℕ
-  dividend_at inputs t = nat (input_at inputs 0 p.a.width t)
+  abbrev second_at : Inputs → ℤ → List Bool
+  second_at inputs t = input_at inputs 1 p.b.width t
 
-  input_now : p.a.signed ≡ false → (inputs : Inputs) (t : ℕ) → inputs_now inputs t 0 0 ≡ pos (dividend_at inputs (pos t))
-  input_now signed inputs t =
-      ap (λ u. val (input_at inputs 0 p.a.width u) p.a) (now t) ∙ unsigned (input_at inputs 0 p.a.width (pos t)) p.a signed
-
-  divisor_now : p.b.signed ≡ false → (inputs : Inputs) (t : ℕ) → inputs_now inputs t 1 0 ≡ pos (divisor_at p have inputs (pos t))
-  divisor_now signed inputs t =
-      ap (λ u. val (input_at inputs 1 p.b.width u) p.b) (now t) ∙ unsigned (input_at inputs 1 p.b.width (pos t)) p.b signed
-
-  numerator-number : (inputs : Inputs) (t : ℤ) → AreFor p have (base p have) inputs
-      → number_at (base p have).nodes inputs t (take count (numerator p)) ≡ dividend_at inputs t * up (pair_shift p)
+  numerator-number : (inputs : Inputs) (t : ℤ) → AreFor p have (start p have) inputs
+      → number_at (base p have).nodes inputs t (take count (numerator p)) ≡ size (first_at inputs t) p.a * up (pair_shift p)
   numerator-number inputs t words =
       let nodes = (base p have).nodes in
+      let node = (with_magnitudes p).dividend in
       let s = places_up (pair_shift p) in
-      let high = bits_from 0 0 p.a.width in
+      let high = bits_from node 0 p.a.width in
       let zeros : List WordBit = replicate s Zero in
       let all : take count (numerator p) ≡ numerator p =
       ap (λ m. take m (numerator p)) (sym (numerator-length p have)) ∙ take-length (numerator p) in
-      let wide : length (flow nodes inputs 0 t) ≡ p.a.width = flow-width (base p have) (inputs-valid p have) inputs words 0 t in
-      let a : number_at nodes inputs t high ≡ dividend_at inputs t = at-node nodes inputs t 0 p.a.width wide in
-      let long : 2 ^ length zeros * number_at nodes inputs t high ≡ 2 ^ s * dividend_at inputs t =
+      let wide : length (flow nodes inputs node t) ≡ p.a.width =
+      flow-width (base p have) (base-valid p have) inputs (for_base inputs words) node t ∙ magnitudes.dividend in
+      let a : number_at nodes inputs t high ≡ size (first_at inputs t) p.a =
+      at-node nodes inputs t node p.a.width wide ∙ magnitudes.dividend-number inputs t words in
+      let long : 2 ^ length zeros * number_at nodes inputs t high ≡ 2 ^ s * size (first_at inputs t) p.a =
       ap (λ m. 2 ^ m * number_at nodes inputs t high) (length-replicate s Zero) ∙ ap (λ m. 2 ^ s * m) a in
       ap (number_at nodes inputs t) all ∙ at-append nodes inputs t high zeros ∙ omega (arith, at-zeros nodes inputs t s, long)
 
   -- the outputs
 
-  no_output : last.net.outputs ≡ []
-  no_output = at_last.later.grown.outputs
+  no_output : final.net.outputs ≡ []
+  no_output = finished.later.grown.outputs ∙ start-last.grown.outputs
+
+  q_count : length final.digits ≡ (quotient_format p).width
+  q_count = finished.count ∙ ap (λ k. k + sign_bit p.a.signed) at_last.count
+
+  r_count : p.exact ≡ true → length final.rest ≡ p.b.width
+  r_count exact = finished.rest_count exact ∙ rest-length exact
 
   same_ports : (exact : Bool) → p.exact ≡ exact
-      → result_ports exact (codes "q") (length last.digits) (length last.rest) ≡ map name_and_width (quotient_ports exact p)
-  same_ports false e = ap (λ m. result_ports false (codes "q") m (length last.rest)) at_last.count
+      → result_ports exact (codes "q") (length final.digits) (length final.rest) ≡ map name_and_width (quotient_ports exact p)
+  same_ports false e = ap (λ m. result_ports false (codes "q") m (length final.rest)) q_count
   same_ports true e =
-      ap (λ m. result_ports true (codes "q") m (length last.rest)) at_last.count ∙ ap (result_ports true (codes "q") count) (rest-length e)
+      ap (λ m. result_ports true (codes "q") m (length final.rest)) q_count
+      ∙ ap (result_ports true (codes "q") (quotient_format p).width) (r_count e)
 
-  module _ (inputs : Inputs) (t : ℤ) (words : AreFor p have (base p have) inputs) where
+  module _ (inputs : Inputs) (t : ℤ) (words : AreFor p have (start p have) inputs) where
+    abbrev A : ℕ
+    A = size (first_at inputs t) p.a
+
+    abbrev B : ℕ
+    B = size (second_at inputs t) p.b
+
+    abbrev S : Bool
+    S = p.a.signed && highest (first_at inputs t)
+
+    abbrev T : Bool
+    T = p.b.signed && highest (second_at inputs t)
+
     abbrev quotient_at : ℕ
     quotient_at = number_at last.net.nodes inputs t last.digits
 
@@ -175,66 +278,154 @@ module _ (p : Pair) (have : HasWidths p) where
     rest_at = number_at last.net.nodes inputs t last.rest
 
     words_last : AreFor p have last.net inputs
-    words_last = words-later (base p have) last.net at_last.later inputs words
+    words_last = words-later (start p have) last.net start-last inputs words
 
-    digits-number : (exact : Bool) → AreResults exact last
-        → nat (word_at (result_words (with_results exact (codes "q") last) inputs t) 0) ≡ quotient_at
-    digits-number exact are = results-digits (codes "q") last at_last.later.valid no_output inputs t words_last exact are
+    words_final : AreFor p have final.net inputs
+    words_final = words-later last.net final.net finished.later inputs words_last
 
-    rest-number : AreResults true last → nat (word_at (result_words (with_results true (codes "q") last) inputs t) 1) ≡ rest_at
-    rest-number are = results-rest (codes "q") last at_last.later.valid no_output inputs t words_last are
+    first-kept : flow last.net.nodes inputs 0 t ≡ first_at inputs t
+    first-kept = grown-flow (start p have) last.net start-last.grown inputs 0 t (omega arith)
 
-    divided : 0 < divisor_at p have inputs t
-        → IsDivided (keeps p count) (dividend_at inputs t * up (pair_shift p)) (divisor_at p have inputs t) quotient_at rest_at
+    second-kept : flow last.net.nodes inputs 1 t ≡ second_at inputs t
+    second-kept = grown-flow (start p have) last.net start-last.grown inputs 1 t (omega arith)
+
+    divided : 0 < B → IsDivided (keeps p count) (A * up (pair_shift p)) B quotient_at rest_at
     divided some =
-        same_division (keeps p count) _ _ _ _ _ _ _ _ (numerator-number inputs t words) refl refl refl (at_last.right inputs t words some)
+        let b = magnitudes.divisor-number inputs t words in
+        same_division (keeps p count) _ _ _ _ _ _ _ _ (numerator-number inputs t words) b refl refl
+        (at_last.right inputs t (for_base inputs words) (omega (arith, some, b)))
+
+    -- the words of the outputs are those of the results
+    module _ (exact : Bool) (e : p.exact ≡ exact) (are : AreResults exact final) where
+      abbrev net : Net
+      net = with_results exact (codes "q") final
+
+      net-valid : IsValid net
+      net-valid = results-valid (codes "q") final final-valid exact are
+
+      net-words : AreFor p have net inputs
+      net-words =
+          subst (λ is. AreFor p have (record net { inputs = is }) inputs) (sym (results-inputs exact (codes "q") final)) words_final
+
+      ports-shown : map shown net.outputs ≡ result_ports exact (codes "q") (length final.digits) (length final.rest)
+      ports-shown = results-shown (codes "q") final final-valid no_output exact are
+
+      quotient-word : word_at (result_words net inputs t) 0 ≡ word_flow final.net.nodes inputs final.digits t
+      quotient-word =
+          same-word (word_at (result_words net inputs t) 0) (word_flow final.net.nodes inputs final.digits t)
+          (output-wide net net-valid inputs t net-words _ ports-shown 0
+          ∙ first_width exact
+          ∙ sym (length-word_flow final.net.nodes inputs t final.digits))
+          (results-digits (codes "q") final final-valid no_output inputs t words_final exact are)
+        where
+          first_width : (c : Bool)
+              → slice_index (map (λ (i : List ℕ × ℕ). i.1) (result_ports c (codes "q") (length final.digits) (length final.rest))) 0
+              ≡ length final.digits
+          first_width true = refl
+          first_width false = refl
+
+      quotient-value : val (word_at (result_words net inputs t) 0) (quotient_format p) ≡ with_sign (xor S T) quotient_at
+      quotient-value =
+          ap (λ v. val v (quotient_format p)) quotient-word
+          ∙ finished.quotient inputs t words_last
+          ∙ ap (λ v. with_sign (xor (p.a.signed && highest v) (p.b.signed && highest (flow last.net.nodes inputs 1 t))) quotient_at) first-kept
+          ∙ ap (λ v. with_sign (xor S (p.b.signed && highest v)) quotient_at) second-kept
+
+    module _ (e : p.exact ≡ true) (are : AreResults true final) where
+      abbrev exact_net : Net
+      exact_net = with_results true (codes "q") final
+
+      rest-word : word_at (result_words exact_net inputs t) 1 ≡ word_flow final.net.nodes inputs final.rest t
+      rest-word =
+          same-word (word_at (result_words exact_net inputs t) 1) (word_flow final.net.nodes inputs final.rest t)
+          (output-wide exact_net (net-valid true e are) inputs t (net-words true e are) _ (ports-shown true e are) 1
+          ∙ sym (length-word_flow final.net.nodes inputs t final.rest))
+          (results-rest (codes "q") final final-valid no_output inputs t words_final are)
+
+      -- a remainder is smaller than the divisor, and so leaves the highest bit 0
+      rest-low : rest_at < B → p.a.signed ≡ true → 2 * rest_at < 2 ^ length last.rest
+      rest-low less signed =
+          let long : length (second_at inputs t) ≡ p.b.width =
+          flow-width (start p have) (start-valid p have) inputs words 1 t in
+          let half = half_size (second_at inputs t) p.b (omega (arith, long, have.some_b)) (sym have.alike ∙ signed) in
+          omega (arith, less, half, ap (λ k. 2 ^ k) long, ap (λ k. 2 ^ k) (rest-length e))
+
+      rest-value : rest_at < B → val (word_at (result_words exact_net inputs t) 1) (remainder_format p) ≡ with_sign S rest_at
+      rest-value less =
+          ap (λ v. val v (remainder_format p)) rest-word
+          ∙ finished.remainder e inputs t words_last (rest-low less)
+          ∙ ap (λ v. with_sign (p.a.signed && highest v) rest_at) first-kept
 
   -- good outputs
 
-  abbrev outputs_now : (exact : Bool) → Inputs → ℕ → (port : ℕ) → ℤ
-  outputs_now exact inputs t = output_words (quotient_ports exact p) (result_words (with_results exact (codes "q") last) inputs (pos t))
+  abbrev inputs_now : Inputs → ℕ → (port : ℕ) → Recent
+  inputs_now inputs t = recent_words (operator_inputs (Divide p)) inputs t
 
-  good : (exact : Bool) → p.exact ≡ exact → AreResults exact last → p.a.signed ≡ false → p.b.signed ≡ false
-      → (inputs : Inputs) (t : ℕ) → AreFor p have (base p have) inputs → inputs_now inputs t 1 0 ≢ pos 0
+  first-now : (inputs : Inputs) (t : ℕ) → inputs_now inputs t 0 0
+      ≡ with_sign (p.a.signed && highest (first_at inputs (pos t))) (size (first_at inputs (pos t)) p.a)
+  first-now inputs t =
+      ap (λ u. val (first_at inputs u) p.a) (now t) ∙ by_size (first_at inputs (pos t)) p.a
+
+  second-now : (inputs : Inputs) (t : ℕ) → inputs_now inputs t 1 0
+      ≡ with_sign (p.b.signed && highest (second_at inputs (pos t))) (size (second_at inputs (pos t)) p.b)
+  second-now inputs t =
+      ap (λ u. val (second_at inputs u) p.b) (now t) ∙ by_size (second_at inputs (pos t)) p.b
+
+  abbrev outputs_now : (exact : Bool) → Inputs → ℕ → (port : ℕ) → ℤ
+  outputs_now exact inputs t = output_words (quotient_ports exact p) (result_words (with_results exact (codes "q") final) inputs (pos t))
+
+  good : (exact : Bool) → p.exact ≡ exact → AreResults exact final
+      → (inputs : Inputs) (t : ℕ) → AreFor p have (start p have) inputs → inputs_now inputs t 1 0 ≢ pos 0
       → IsGoodQuotient exact p (inputs_now inputs t 0 0) (inputs_now inputs t 1 0) (outputs_now exact inputs t 0)
       (outputs_now exact inputs t 1)
-  good true e are signed_a signed_b inputs t words range =
-      let b = divisor_now signed_b inputs t in
-      let some = positive (divisor_at p have inputs (pos t)) (inputs_now inputs t 1 0) b range in
-      let q = ap pos (digits-number inputs (pos t) words true are) in
-      let r = ap pos (rest-number inputs (pos t) words are) in
-      let held = kept_rest (keeps p count) _ _ _ _ (or_left p.exact (nat_lt count count) e) (divided inputs (pos t) words some) in
-      let x = pos (dividend_at inputs (pos t)) in
-      let y = pos (divisor_at p have inputs (pos t)) in
-      let first = outputs_now true inputs t 0 in
-      let second = outputs_now true inputs t 1 in
-      subst (λ z. IsGoodQuotient true p z (inputs_now inputs t 1 0) first second) (sym (input_now signed_a inputs t))
-      (subst (λ z. IsGoodQuotient true p x z first second) (sym b)
-      (subst (λ z. IsGoodQuotient true p x y z second) (sym q)
-      (subst (λ z. IsGoodQuotient true p x y (pos (quotient_at inputs (pos t) words)) z) (sym r) held)))
-  good false e are signed_a signed_b inputs t words range =
-      let b = divisor_now signed_b inputs t in
-      let some = positive (divisor_at p have inputs (pos t)) (inputs_now inputs t 1 0) b range in
-      let q = ap pos (digits-number inputs (pos t) words false are) in
-      let held = some_rest (keeps p count) _ _ _ _ (divided inputs (pos t) words some) in
-      let scale = pos (up (pair_shift p)) in
-      subst (λ z. IsWithinOne (z *ℤ scale) (inputs_now inputs t 1 0) (outputs_now false inputs t 0)) (sym (input_now signed_a inputs t))
-      (subst (λ z. IsWithinOne (pos (dividend_at inputs (pos t)) *ℤ scale) z (outputs_now false inputs t 0)) (sym b)
-      (subst (λ z. IsWithinOne (pos (dividend_at inputs (pos t)) *ℤ scale) (pos (divisor_at p have inputs (pos t))) z) (sym q)
-      (near _ _ _ held.0 held.1)))
+  good true e are inputs t words range =
+      let u = pos t in
+      let s = S inputs u words in
+      let d = T inputs u words in
+      let a = A inputs u words in
+      let b = B inputs u words in
+      let q = quotient_at inputs u words in
+      let r = rest_at inputs u words in
+      let some = some_size d b (inputs_now inputs t 1 0) (second-now inputs t) range in
+      let held = kept_rest (keeps p count) _ _ _ _ (or_left p.exact (nat_lt count count) e) (divided inputs u words some) in
+      let first = quotient-value inputs u words true e are in
+      let second = rest-value inputs u words e are held.1 in
+      subst (λ z. IsGoodQuotient true p z (inputs_now inputs t 1 0) (outputs_now true inputs t 0) (outputs_now true inputs t 1))
+      (sym (first-now inputs t))
+      (subst (λ z. IsGoodQuotient true p (with_sign s a) z (outputs_now true inputs t 0) (outputs_now true inputs t 1))
+      (sym (second-now inputs t))
+      (subst (λ z. IsGoodQuotient true p (with_sign s a) (with_sign d b) z (outputs_now true inputs t 1)) (sym first)
+      (subst (λ z. IsGoodQuotient true p (with_sign s a) (with_sign d b) (with_sign (xor s d) q) z) (sym second)
+      (good_of_sizes true p s d a b q r held))))
+  good false e are inputs t words range =
+      let u = pos t in
+      let s = S inputs u words in
+      let d = T inputs u words in
+      let a = A inputs u words in
+      let b = B inputs u words in
+      let q = quotient_at inputs u words in
+      let some = some_size d b (inputs_now inputs t 1 0) (second-now inputs t) range in
+      let held = some_rest (keeps p count) _ _ _ _ (divided inputs u words some) in
+      let first = quotient-value inputs u words false e are in
+      let second = outputs_now false inputs t 1 in
+      subst (λ z. IsGoodQuotient false p z (inputs_now inputs t 1 0) (outputs_now false inputs t 0) second) (sym (first-now inputs t))
+      (subst (λ z. IsGoodQuotient false p (with_sign s a) z (outputs_now false inputs t 0) second) (sym (second-now inputs t))
+      (subst (λ z. IsGoodQuotient false p (with_sign s a) (with_sign d b) z second) (sym first)
+      (good_of_sizes false p s d a b q held.0 held.1)))
 
-  pub fits : p.a.signed ≡ false → p.b.signed ≡ false → FitsOperator p.exact (Divide p) made
-  fits signed_a signed_b = record {
-    valid = results-valid (codes "q") last at_last.later.valid p.exact results;
+  pub fits : FitsOperator p.exact (Divide p) made
+  fits = record {
+    valid = results-valid (codes "q") final final-valid p.exact results;
     inputs = made-inputs;
-    outputs = results-shown (codes "q") last at_last.later.valid no_output p.exact results ∙ same_ports p.exact refl;
-    good = λ inputs t words within range. good p.exact refl results signed_a signed_b inputs t (for_inputs inputs words) range;
+    outputs = results-shown (codes "q") final final-valid no_output p.exact results ∙ same_ports p.exact refl;
+    good = λ inputs t words within range. good p.exact refl results inputs t (for_start inputs words) range;
   }
 
 pub fits_modes : (p : Pair) → IsAcceptedPair p → FitsInEachMode (Divide p) (net_of_pair p)
-fits_modes p is exact mode =
-    let ranges : IsPair p = accepted_ranges (Divide p) is in
-    subst (λ x. FitsOperator x (Divide p) (net_of_pair p)) mode.agrees (fits p (has_widths p is) ranges.a_unsigned ranges.b_unsigned)
+fits_modes p is exact mode = subst (λ x. FitsOperator x (Divide p) (net_of_pair p)) mode.agrees (fits p (has_widths p is))
 
 pub all_steps : (p : Pair) → IsAcceptedPair p → HoldsAfterEachStep p (net_of_pair p)
 all_steps p is = steps_hold p (has_widths p is)
+
+pub all_sizes : (p : Pair) → IsAcceptedPair p → DividesSizes p (net_of_pair p)
+all_sizes p is = sizes_hold p (has_widths p is)

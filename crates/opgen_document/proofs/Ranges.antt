@@ -43,7 +43,7 @@ counted (pos n) low high least most small_high =
     rw fits (at_least, at_most)
 counted (negsuc n) low high least most small_high = absurd (omega (arith, ints))
 
-pub small_same : (n : ℤ) → negsuc 31 ≤ℤ n → n ≤ℤ pos 32 → n ≡ small n
+pub small_same : (n : ℤ) → negsuc 63 ≤ℤ n → n ≤ℤ pos 64 → n ≡ small n
 small_same n least most =
     let above : int_le (negsuc 2147483647) n ≡ true = grind (arith, ints) in
     let below : int_lt n (pos 2147483648) ≡ true = grind (arith, ints) in

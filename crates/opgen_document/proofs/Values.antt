@@ -46,7 +46,7 @@ pub count_written : (o : Option Data) (low high : ℕ) → is_none o ≡ false �
 count_written o low high there typed (least, most) few =
     number_stands o there typed ∙ ap (λ n. Some (integer n)) (count_same (number_in o) low high least most few)
 
-pub small_written : (o : Option Data) → is_none o ≡ false → IsNumber o → (negsuc 31 ≤ℤ number_in o) × (number_in o ≤ℤ pos 32)
+pub small_written : (o : Option Data) → is_none o ≡ false → IsNumber o → (negsuc 63 ≤ℤ number_in o) × (number_in o ≤ℤ pos 64)
     → o ≡ Some (integer (small (number_in o)))
 small_written o there typed (least, most) =
     number_stands o there typed ∙ ap (λ n. Some (integer n)) (small_same (number_in o) least most)

@@ -1,10 +1,9 @@
 -- The values at the keys of a document, a tree of TOML 1.1.
-use Rattle.std.specs.Prelude.{ℕ, ◌==◌, ◌&&◌, ◌^◌, ℤ, pos, negsuc, Bool, false, List, [], ◌∷◌, length, Option, Some, None, if◌then◌else◌, nat_lt, int_lt, int_le}
+use Rattle.std.specs.Prelude.{ℕ, ◌==◌, ◌&&◌, ◌^◌, ℤ, pos, negsuc, Bool, false, List, [], ◌∷◌, length, Option, Some, None, option_map, if◌then◌else◌, nat_lt, int_lt, int_le}
 use Rattle.std.specs.Str.Lossy.{utf8_valid_len}
 use Rattle.toml.specs.Data.{Data, string, integer, boolean, array, Items, no_items, item, Members, no_members, member, get_member}
 use Rattle.toml.specs.Parse.{parse_document}
 use Rattle.opgen_document.specs.declared.key.Key.{Key}
-use Rattle.opgen_document.specs.declared.key.Key.TheVariants as key
 use Rattle.opgen_document.specs.Keys.{key_name}
 
 -- the tree of the bytes: none where they are not UTF-8, or no document
@@ -71,10 +70,9 @@ count_at ms k = count (number_at ms k)
 abbrev pub small_at : Members → Key → ℤ
 small_at ms k = small (number_at ms k)
 
--- the document is of version 1
-abbrev pub is_one : ℤ → Bool
-is_one (pos n) = n == 1
-is_one (negsuc n) = false
+-- the number or the truth value at a key, where the document has the key
+abbrev pub optional_count_at : Members → Key → Option ℕ
+optional_count_at ms k = option_map (λ _. count_at ms k) (value_at ms k)
 
-abbrev pub is_first : Members → Bool
-is_first ms = is_one (number_at ms key.Version)
+abbrev pub optional_flag_at : Members → Key → Option Bool
+optional_flag_at ms k = option_map (λ _. flag_at ms k) (value_at ms k)

@@ -1,7 +1,7 @@
 -- Fields that operators of several kinds have, from the values of their keys; and that they are as the document writes them.
-use Rattle.std.specs.Prelude.{◌≡◌, ◌⊎◌, Bool, true, false, pos, Some, None, codes}
+use Rattle.std.specs.Prelude.{◌≡◌, ◌⊎◌, ℕ, Bool, true, false, pos, Option, Some, None, option_map, codes}
 use Rattle.std.specs.Str.{bytes_eq}
-use Rattle.toml.specs.Data.{string, integer, Members}
+use Rattle.toml.specs.Data.{string, integer, boolean, Members}
 use Rattle.opgen_num.specs.declared.format.Format.{Format}
 use Rattle.opgen_document.specs.declared.key.Key.{Key}
 use Rattle.opgen_document.specs.declared.key.Key.TheVariants as key
@@ -12,7 +12,7 @@ abbrev pub format_at : Members → Key → Key → Format
 format_at ms width lsb =
     record { signed = flag_at ms key.Signed; width = count_at ms width; lsb = small_at ms lsb }
 
--- and of an input that is always unsigned, as those of quotients and roots are
+-- and of an input that is always unsigned, as those of roots and of quotients by a constant are
 abbrev pub unsigned_at : Members → Key → Key → Format
 unsigned_at ms width lsb = record { signed = false; width = count_at ms width; lsb = small_at ms lsb }
 
@@ -23,6 +23,17 @@ counters_at ms = bytes_eq (text_at ms key.Compressor) (codes "counters")
 pub record IsInputAsWritten (ms : Members) (width lsb : Key) (f : Format) : Type 0 where
   pub width_written : value_at ms width ≡ Some (integer (pos f.width))
   pub lsb_written : value_at ms lsb ≡ Some (integer f.lsb)
+
+-- a truth value that may be left out, and is then false
+abbrev pub IsFlagAsWritten : (ms : Members) (k : Key) (flag : Bool) → Type 0
+IsFlagAsWritten ms k flag = (value_at ms k ≡ Some (boolean flag)) ⊎ ((value_at ms k ≡ None) × (flag ≡ false))
+
+-- the width and the sign of the output, where they are chosen
+abbrev pub IsCountIfAny : (ms : Members) (k : Key) (count : Option ℕ) → Type 0
+IsCountIfAny ms k count = value_at ms k ≡ option_map (λ n. integer (pos n)) count
+
+abbrev pub IsFlagIfAny : (ms : Members) (k : Key) (flag : Option Bool) → Type 0
+IsFlagIfAny ms k flag = value_at ms k ≡ option_map boolean flag
 
 -- larger counters are asked for by their word, and left out by no word or the other one
 abbrev pub IsCompressorAsWritten : (ms : Members) (counters : Bool) → Type 0

@@ -1,5 +1,5 @@
 -- The keys of a specification: their names, their order, what the value at each has to be, and how those stand that all documents have.
-use Rattle.std.specs.Prelude.{ℕ, Bool, true, false, List, [], ◌∷◌, codes, Option, Some, None, if◌then◌else◌}
+use Rattle.std.specs.Prelude.{ℕ, Bool, true, false, List, [], ◌∷◌, codes, Option, Some, None}
 use Rattle.opgen_document.specs.declared.key.Key.{Key}
 use Rattle.opgen_document.specs.declared.key.Key.TheVariants as key
 use Rattle.opgen_document.specs.declared.key.Sort.{Sort}
@@ -22,6 +22,8 @@ key_name key.LsbA = codes "lsb_a"
 key_name key.WidthB = codes "width_b"
 key_name key.LsbB = codes "lsb_b"
 key_name key.OutLsb = codes "out_lsb"
+key_name key.OutWidth = codes "out_width"
+key_name key.OutSigned = codes "out_signed"
 key_name key.Coefficients = codes "coefficients"
 key_name key.Denominator = codes "denominator"
 key_name key.Constants = codes "constants"
@@ -38,8 +40,8 @@ key_name key.PerBit = codes "per_bit"
 unfoldable pub document_keys : List Key
 document_keys =
     key.Version ∷ key.Name ∷ key.Kind ∷ key.Exact ∷ key.Target ∷ key.Period ∷ key.Signed ∷ key.Width ∷ key.Lsb ∷
-    key.WidthA ∷ key.LsbA ∷ key.WidthB ∷ key.LsbB ∷ key.OutLsb ∷ key.Coefficients ∷ key.Denominator ∷ key.Constants ∷
-    key.Extra ∷ key.Divisor ∷ key.Taps ∷ key.Compressor ∷ key.Delay ∷ []
+    key.WidthA ∷ key.LsbA ∷ key.WidthB ∷ key.LsbB ∷ key.OutLsb ∷ key.OutWidth ∷ key.OutSigned ∷ key.Coefficients ∷
+    key.Denominator ∷ key.Constants ∷ key.Extra ∷ key.Divisor ∷ key.Taps ∷ key.Compressor ∷ key.Delay ∷ []
 
 -- the keys of a delay line
 unfoldable pub line_keys : List Key
@@ -54,6 +56,7 @@ sort_of key.Compressor = sort.Text
 sort_of key.Class = sort.Text
 sort_of key.Exact = sort.Flag
 sort_of key.Signed = sort.Flag
+sort_of key.OutSigned = sort.Flag
 sort_of key.Coefficients = sort.Coefficients
 sort_of key.Constants = sort.Numbers
 sort_of key.Taps = sort.Numbers
@@ -67,6 +70,7 @@ sort_of key.LsbA = sort.Number
 sort_of key.WidthB = sort.Number
 sort_of key.LsbB = sort.Number
 sort_of key.OutLsb = sort.Number
+sort_of key.OutWidth = sort.Number
 sort_of key.Denominator = sort.Number
 sort_of key.Extra = sort.Number
 sort_of key.Divisor = sort.Number
@@ -86,10 +90,6 @@ shared_stand key.Class = Some Needed
 shared_stand key.Base = Some Needed
 shared_stand key.PerBit = Some Needed
 shared_stand _ = None
-
--- a key that may be left out, and that version 1 does not have
-abbrev pub later : (first : Bool) → Stand
-later first = if first then Absent else Optional
 
 abbrev pub may_be : Stand → Bool
 may_be Absent = false

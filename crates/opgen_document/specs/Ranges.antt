@@ -7,6 +7,9 @@ use Rattle.opgen_document.specs.declared.key.Key.{Key}
 use Rattle.opgen_document.specs.declared.key.Key.TheVariants as key
 use Rattle.opgen_document.specs.Document.{list_of, number_at, flag_at, items_at}
 use Rattle.opgen_document.specs.Numbers.{numerators}
+use Rattle.opgen_document.specs.declared.version.Version.{Version}
+use Rattle.opgen_document.specs.declared.version.Version.TheVariants.{First, Second, Third}
+use Rattle.opgen_document.specs.Versions.{version_of}
 
 -- the number, where it is not within the bounds
 abbrev pub outside : ℤ → ℤ → ℤ → Option ℤ
@@ -32,9 +35,22 @@ array_outside least most limit items = option_or (length_outside least most item
 abbrev pub width_outside : (most : ℕ) → Members → Key → Option ℤ
 width_outside most ms k = outside (pos (if flag_at ms key.Signed then 2 else 1)) (pos most) (number_at ms k)
 
--- the power of a lowest bit
+-- the power of a lowest bit: of quotients and roots in each version, and of the other kinds in versions 1 and 2
+abbrev pub near_outside : Members → Key → Option ℤ
+near_outside ms k = outside (negsuc 31) (pos 32) (number_at ms k)
+
+-- and of the other kinds, but for polynomials
+abbrev pub power_outside_in : Version → Members → Key → Option ℤ
+power_outside_in First ms k = near_outside ms k
+power_outside_in Second ms k = near_outside ms k
+power_outside_in Third ms k = outside (negsuc 63) (pos 64) (number_at ms k)
+
 abbrev pub power_outside : Members → Key → Option ℤ
-power_outside ms k = outside (negsuc 31) (pos 32) (number_at ms k)
+power_outside ms k = power_outside_in (version_of ms) ms k
+
+-- the width of an output that is chosen
+abbrev pub out_width_outside : Members → Option ℤ
+out_width_outside ms = outside (pos 2) (pos 96) (number_at ms key.OutWidth)
 
 abbrev pub coefficients_outside : (least most : ℕ) → Members → Option ℤ
 coefficients_outside least most ms = array_outside least most (2 ^ 30) (items_at ms key.Coefficients)

@@ -1,5 +1,5 @@
 -- The type of the value at each key.
-use Rattle.std.specs.Prelude.{◌&&◌, ◌||◌, not, Bool, false, is_some}
+use Rattle.std.specs.Prelude.{◌&&◌, ◌||◌, not, Bool, false, is_some, is_none}
 use Rattle.std.specs.List.{list_all}
 use Rattle.std.specs.Option.{option_map_or}
 use Rattle.toml.specs.Data.{Data, string, Items, Members, as_str, as_integer, as_bool, as_array, as_table}
@@ -45,9 +45,10 @@ is_of Tables d = are_tables (items_of d) && is_some (as_array d)
 abbrev pub fits : Key → Data → Bool
 fits k d = is_of (sort_of k) d
 
--- beside decimal texts, which have their own, there may be no denominator
+-- beside decimal texts, which have their own, there may be no denominator; and no sign of the output without its width
 abbrev pub clashes : Members → Key → Bool
 clashes ms key.Denominator = are_texts (items_at ms key.Coefficients)
+clashes ms key.OutSigned = is_none (value_at ms key.OutWidth)
 clashes ms _ = false
 
 abbrev pub is_wrong : Members → Key → Bool

@@ -1,7 +1,7 @@
 //! Parses a document, and reads the value at a key as a number, text, flag or list.
 ghost use Rattle.std.specs.Prelude.{◌≡◌, option_map, IfOk};
 ghost use Rattle.toml.specs.View.{view, items_view, table_view};
-ghost use Rattle.opgen_document.specs.Document.{tree, value_at, number_at, count_at, small_at, text_at, flag_at, items_of, items_at, small, is_first};
+ghost use Rattle.opgen_document.specs.Document.{tree, value_at, number_at, count_at, small_at, text_at, flag_at, items_of, items_at, optional_count_at, optional_flag_at, small};
 
 use crate::key::Key;
 use std::alloc::{AllocError, Global};
@@ -88,6 +88,26 @@ pub fn flag_at(table: &Table, key: Key) -> bool
     }
 }
 
+/// The number at a key as a count of 32 bits, if the document has the key.
+pub fn optional_count_at(table: &Table, key: Key) -> Option<u32>
+    ensures { result ≡ optional_count_at (table_view table.now) key }
+{
+    match value_at(table, key) {
+        Some(_) => Some(count_at(table, key)),
+        None => None,
+    }
+}
+
+/// The truth value at a key, if the document has the key.
+pub fn optional_flag_at(table: &Table, key: Key) -> Option<bool>
+    ensures { result ≡ optional_flag_at (table_view table.now) key }
+{
+    match value_at(table, key) {
+        Some(_) => Some(flag_at(table, key)),
+        None => None,
+    }
+}
+
 /// The items of an array, none of another value.
 pub fn items_of(value: &Value) -> &[Value]
     ensures { items_view result.now ≡ items_of (view value.now) }
@@ -106,11 +126,4 @@ pub fn items_at<'a>(table: &'a Table, key: Key) -> &'a [Value]
         Some(value) => items_of(value),
         None => &[],
     }
-}
-
-/// Whether the document is of version 1.
-pub fn is_first(table: &Table) -> bool
-    ensures { result ≡ is_first (table_view table.now) }
-{
-    number_at(table, Key::Version) == 1
 }

@@ -21,6 +21,8 @@ pub enum Key {
     WidthB,
     LsbB,
     OutLsb,
+    OutWidth,
+    OutSigned,
     Coefficients,
     Denominator,
     Constants,
@@ -46,7 +48,7 @@ pub(crate) enum Sort {
     Tables,
 }
 
-static DOCUMENT_KEYS: [Key; 22] = [
+static DOCUMENT_KEYS: [Key; 24] = [
     Key::Version,
     Key::Name,
     Key::Kind,
@@ -61,6 +63,8 @@ static DOCUMENT_KEYS: [Key; 22] = [
     Key::WidthB,
     Key::LsbB,
     Key::OutLsb,
+    Key::OutWidth,
+    Key::OutSigned,
     Key::Coefficients,
     Key::Denominator,
     Key::Constants,
@@ -107,6 +111,8 @@ impl Key {
             Key::WidthB => "width_b",
             Key::LsbB => "lsb_b",
             Key::OutLsb => "out_lsb",
+            Key::OutWidth => "out_width",
+            Key::OutSigned => "out_signed",
             Key::Coefficients => "coefficients",
             Key::Denominator => "denominator",
             Key::Constants => "constants",
@@ -126,7 +132,7 @@ impl Key {
     {
         match self {
             Key::Name | Key::Kind | Key::Target | Key::Compressor | Key::Class => Sort::Text,
-            Key::Exact | Key::Signed => Sort::Flag,
+            Key::Exact | Key::Signed | Key::OutSigned => Sort::Flag,
             Key::Coefficients => Sort::Coefficients,
             Key::Constants | Key::Taps => Sort::Numbers,
             Key::Delay => Sort::Tables,
@@ -139,6 +145,7 @@ impl Key {
             | Key::WidthB
             | Key::LsbB
             | Key::OutLsb
+            | Key::OutWidth
             | Key::Denominator
             | Key::Extra
             | Key::Divisor

@@ -1,13 +1,13 @@
 //! The document of a specification, of whatever kind of operator: a tree of TOML, its keys, and the values at them.
 //!
-//! Proved: The tree of the bytes, if they have one. The names of the keys, their order, how those stand that all documents
-//! have, and the first key whose value is not of its type. The number, text, flag or items at a key, and the formats of
-//! inputs. Decimal texts and whole numbers as numerators over one denominator. Which number, length or element of an array
-//! is out of bounds.
+//! Proved: The tree of the bytes, if they have one. The version whose keys and ranges a document has, and which keys the
+//! versions have. The names of the keys, their order, how those stand that all documents have, and the first key whose value
+//! is not of its type. The number, text, flag or items at a key, and the formats of inputs. Decimal texts and whole numbers
+//! as numerators over one denominator. Which number, length or element of an array is out of bounds.
 //!
-//! By: `parse`; `document_keys`, `line_keys`, `Key::name`, `shared_stand`, the methods of `Stand`; `first_wrong`; `value_at`
-//! and its neighbours, `format_at`, `unsigned_at`, `counters_at`; `places_among`, `coefficient`, `numerators`,
-//! `denominator_of`; `outside` and its neighbours.
+//! By: `parse`; `version_of`, `Version::has_key`; `document_keys`, `line_keys`, `Key::name`, `shared_stand`, the methods of
+//! `Stand`; `first_wrong`; `value_at` and its neighbours, `format_at`, `unsigned_at`, `counters_at`; `places_among`,
+//! `coefficient`, `numerators`, `denominator_of`; `outside` and its neighbours.
 #![tactic(auto)]
 
 mod decimal;
@@ -18,16 +18,20 @@ mod number;
 mod range;
 mod stand;
 mod types;
+mod version;
 
 pub use document::{
-    count_at, flag_at, is_first, items_at, number_at, parse, small, small_at, text_at, value_at,
+    count_at, flag_at, items_at, number_at, optional_count_at, optional_flag_at, parse, small,
+    small_at, text_at, value_at,
 };
 pub use fields::{counters_at, format_at, unsigned_at};
 pub use key::{Key, document_keys, line_keys};
 pub use number::{coefficient, denominator_of, numerators, places_among};
 pub use range::{
     MAX_CONSTANT, array_outside, coefficients_outside, compressor_outside, denominator_outside,
-    extra_outside, length_outside, outside, power_outside, width_outside,
+    extra_outside, length_outside, near_outside, out_width_outside, outside, power_outside,
+    width_outside,
 };
 pub use stand::{Stand, shared_stand};
 pub use types::first_wrong;
+pub use version::{Version, version_of};

@@ -1,11 +1,12 @@
 //! Checks that a number, or an array and its numbers, is within bounds.
 ghost use Rattle.std.specs.Prelude.{◌≡◌};
 ghost use Rattle.toml.specs.View.{items_view, table_view};
-ghost use Rattle.opgen_document.specs.Ranges.{outside, is_beyond, first_beyond, length_outside, array_outside, width_outside, power_outside, coefficients_outside, denominator_outside, extra_outside, compressor_outside};
+ghost use Rattle.opgen_document.specs.Ranges.{outside, is_beyond, first_beyond, length_outside, array_outside, width_outside, near_outside, power_outside_in, power_outside, out_width_outside, coefficients_outside, denominator_outside, extra_outside, compressor_outside};
 
 use crate::document::{flag_at, items_at, number_at};
 use crate::key::Key;
 use crate::number::{coefficient, places_among};
+use crate::version::{Version, version_of};
 use toml::{Table, Value};
 
 /// The greatest numerator of a coefficient, without its sign.
@@ -77,11 +78,34 @@ pub fn width_outside(most: u32, table: &Table, key: Key) -> Option<i64>
     outside(fewest, i64::from(most), number_at(table, key))
 }
 
-/// The power of a lowest bit, where it is out of bounds.
+/// The power of a lowest bit of a quotient or a root, where it is out of bounds.
+pub fn near_outside(table: &Table, key: Key) -> Option<i64>
+    ensures { result ≡ near_outside (table_view table.now) key }
+{
+    outside(-32, 32, number_at(table, key))
+}
+
+fn power_outside_in(version: Version, table: &Table, key: Key) -> Option<i64>
+    ensures { result ≡ power_outside_in version (table_view table.now) key }
+{
+    match version {
+        Version::First | Version::Second => near_outside(table, key),
+        Version::Third => outside(-64, 64, number_at(table, key)),
+    }
+}
+
+/// The power of a lowest bit, where it is out of the bounds of the document's version.
 pub fn power_outside(table: &Table, key: Key) -> Option<i64>
     ensures { result ≡ power_outside (table_view table.now) key }
 {
-    outside(-32, 32, number_at(table, key))
+    power_outside_in(version_of(table), table, key)
+}
+
+/// The width of an output that is chosen, where it is out of bounds.
+pub fn out_width_outside(table: &Table) -> Option<i64>
+    ensures { result ≡ out_width_outside (table_view table.now) }
+{
+    outside(2, 96, number_at(table, Key::OutWidth))
 }
 
 pub fn coefficients_outside(least: u32, most: u32, table: &Table) -> Option<i64>

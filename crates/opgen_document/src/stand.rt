@@ -1,8 +1,10 @@
 //! How a key stands in a document, whatever its kind.
 ghost use Rattle.std.specs.Prelude.{◌≡◌};
-ghost use Rattle.opgen_document.specs.Keys.{later, shared_stand, may_be, has_to_be};
+ghost use Rattle.opgen_document.specs.Keys.{shared_stand, may_be, has_to_be};
+ghost use Rattle.opgen_document.specs.Versions.{since_second, since_third};
 
 use crate::key::Key;
+use crate::version::Version;
 
 /// How a key stands in a document.
 #[derive(Clone, Copy)]
@@ -14,13 +16,22 @@ pub enum Stand {
 
 impl Stand {
     /// How a key stands that may be left out and that version 1 does not have.
-    pub fn later(first: bool) -> Stand
-        ensures { result ≡ later first }
+    pub fn since_second(version: Version) -> Stand
+        ensures { result ≡ since_second version }
     {
-        if first {
-            Stand::Absent
-        } else {
-            Stand::Optional
+        match version {
+            Version::First => Stand::Absent,
+            Version::Second | Version::Third => Stand::Optional,
+        }
+    }
+
+    /// How a key stands that may be left out and that versions 1 and 2 do not have.
+    pub fn since_third(version: Version) -> Stand
+        ensures { result ≡ since_third version }
+    {
+        match version {
+            Version::First | Version::Second => Stand::Absent,
+            Version::Third => Stand::Optional,
         }
     }
 

@@ -81,11 +81,16 @@ fn fits(key: Key, value: &Value) -> bool
     is_of(key.sort(), value)
 }
 
-/// Whether there is a denominator beside decimal texts, which have their own.
+/// Whether there is a denominator beside decimal texts, which have their own, or a sign of the output
+/// without its width.
 fn clashes(table: &Table, key: Key) -> bool
     ensures { result ≡ clashes (table_view table.now) key }
 {
-    matches!(key, Key::Denominator) && are_texts(items_at(table, Key::Coefficients))
+    match key {
+        Key::Denominator => are_texts(items_at(table, Key::Coefficients)),
+        Key::OutSigned => value_at(table, Key::OutWidth).is_none(),
+        _ => false,
+    }
 }
 
 fn is_wrong(table: &Table, key: Key) -> bool

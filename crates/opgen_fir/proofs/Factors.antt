@@ -7,8 +7,8 @@ use Rattle.std.proofs.lemmas.Int.{ints, unsigned_abs-mul, fits_signed_from_abs}
 use Rattle.std.proofs.lemmas.List.Elements.{All-get_or}
 use Rattle.std.specs.Int.{w64}
 use Rattle.std.proofs.lemmas.Nat.{div-add-mod', pow_pos}
-use Rattle.opgen_operator.specs.declared.kinds.sum.Sum.{Sum}
-use Rattle.opgen_operator.specs.kinds.Sum.{sum_shift, is_whole, first_inexact, IsSum}
+use Rattle.opgen_kinds.specs.declared.sum.Sum.{Sum}
+use Rattle.opgen_kinds.specs.Sum.{sum_shift, is_whole, first_inexact, IsSum}
 use Rattle.opgen_ports.specs.Ranges.{IsWithin}
 use Rattle.opgen_ports.specs.Shifts.{up, down}
 use Rattle.opgen_fir.specs.Recipe.{is_zero, factor}

@@ -12,9 +12,9 @@ use Rattle.opgen_num.proofs.Floors.{one_floor}
 use Rattle.opgen_num.proofs.Quotients.{within_one}
 use Rattle.opgen_num.proofs.RangeWidth.{count-holds}
 use Rattle.opgen_num.proofs.Rounded.{floor_is}
-use Rattle.opgen_operator.specs.declared.kinds.sum.Sum.{Sum}
+use Rattle.opgen_kinds.specs.declared.sum.Sum.{Sum}
 use Rattle.opgen_ports.specs.Good.{IsGoodRatio}
-use Rattle.opgen_operator.specs.kinds.Sum.{exact_sum, sum_shift, terms, tables, guard_for, guard_bits, first_inexact, IsSum}
+use Rattle.opgen_kinds.specs.Sum.{exact_sum, sum_shift, terms, tables, guard_for, guard_bits, first_inexact, IsSum}
 use Rattle.opgen_ports.specs.Recent.{Recent, weighted}
 use Rattle.opgen_ports.specs.Shifts.{up}
 use Rattle.opgen_fir.specs.Summed.{weighted_first, units, IsNear, tables_first, IsSummed}

@@ -5,8 +5,8 @@ use Rattle.std.proofs.lemmas.Int.{ints}
 use Rattle.std.proofs.lemmas.List.Sums.{count_by_more_no, count_by_more_yes}
 use Rattle.opgen_num.specs.Rounding.{distance}
 use Rattle.opgen_num.proofs.Integers.{product-sum, product_assoc, commuted, sum-product}
-use Rattle.opgen_operator.specs.declared.kinds.sum.Sum.{Sum}
-use Rattle.opgen_operator.specs.kinds.Sum.{sum_shift, terms, guard_bits, IsSum}
+use Rattle.opgen_kinds.specs.declared.sum.Sum.{Sum}
+use Rattle.opgen_kinds.specs.Sum.{sum_shift, terms, guard_bits, IsSum}
 use Rattle.opgen_ports.specs.Recent.{Recent}
 use Rattle.opgen_ports.specs.Shifts.{up}
 use Rattle.opgen_kcm.specs.Chunks.{chunk_count}

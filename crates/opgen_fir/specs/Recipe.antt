@@ -6,8 +6,8 @@ use Rattle.opgen_design.specs.declared.expr.Slice.{Slice}
 use Rattle.opgen_net.specs.declared.net.Net.{Net}
 use Rattle.opgen_net.specs.declared.node.Node.{Node}
 use Rattle.opgen_net.specs.declared.node.Node.TheVariants.{Input, Delay}
-use Rattle.opgen_operator.specs.declared.kinds.sum.Sum.{Sum}
-use Rattle.opgen_operator.specs.kinds.Sum.{sum_shift, guard_bits, sum_format}
+use Rattle.opgen_kinds.specs.declared.sum.Sum.{Sum}
+use Rattle.opgen_kinds.specs.Sum.{sum_shift, guard_bits, sum_format}
 use Rattle.opgen_ports.specs.Shifts.{up, down}
 use Rattle.opgen_heap.specs.Contents.{Contents}
 use Rattle.opgen_heap.specs.Adding.{with_constant}

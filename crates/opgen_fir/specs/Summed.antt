@@ -2,8 +2,8 @@
 use Rattle.std.specs.Prelude.{ℕ, zero, suc, ◌≡◌, ◌*◌, ◌^◌, true, false, List, take, get_or, ℤ, pos, ◌+ℤ◌, ◌-ℤ◌, ◌*ℤ◌, ◌≤ℤ◌, unsigned_abs, None}
 use Rattle.opgen_heap.specs.Adding.{residue}
 use Rattle.opgen_net.specs.Flow.{Inputs, before, input_at}
-use Rattle.opgen_operator.specs.declared.kinds.sum.Sum.{Sum}
-use Rattle.opgen_operator.specs.kinds.Sum.{sum_shift, terms, guard_bits, first_inexact}
+use Rattle.opgen_kinds.specs.declared.sum.Sum.{Sum}
+use Rattle.opgen_kinds.specs.Sum.{sum_shift, terms, guard_bits, first_inexact}
 use Rattle.opgen_ports.specs.Recent.{Recent}
 use Rattle.opgen_ports.specs.Shifts.{up, down}
 use Rattle.opgen_kcm.specs.Chunks.{chunk_count, number}

@@ -1,7 +1,7 @@
 //! Converts a coefficient of a scale or filter to units of the output's last place (ulp).
 
 ghost use Rattle.std.specs.Prelude.{◌≡◌, ◌*◌, ◌^◌, ◌<◌, ◌≤◌, ℤ, pos, ◌*ℤ◌, unsigned_abs};
-ghost use Rattle.opgen_operator.specs.kinds.Sum.{IsAcceptedSum};
+ghost use Rattle.opgen_kinds.specs.Sum.{IsAcceptedSum};
 ghost use Rattle.opgen_ports.specs.Ranges.{IsWithin};
 ghost use Rattle.opgen_ports.specs.Shifts.{places_up, places_down};
 ghost use Rattle.opgen_fir.specs.Recipe.{factor};

@@ -2,7 +2,7 @@
 ghost use Rattle.std.specs.Prelude.{◌≡◌, ◌∷◌, [], map, codes, IfOk};
 ghost use Rattle.opgen_operator.specs.declared.operator.Operator.TheVariants.{Scale, Fir};
 ghost use Rattle.opgen_operator.specs.Fits.{FitsInEachMode};
-ghost use Rattle.opgen_operator.specs.kinds.Sum.{IsAcceptedSum};
+ghost use Rattle.opgen_kinds.specs.Sum.{IsAcceptedSum};
 ghost use Rattle.opgen_fir.specs.Recipe.{net_of_sum};
 
 use crate::taps::tapped;

@@ -2,8 +2,8 @@
 
 ghost use Rattle.std.specs.Prelude.{◌≡◌, ◌≤◌, ◌<◌, ◌-◌, length, IfOk};
 ghost use Rattle.opgen_net.specs.Valid.{IsValid};
-ghost use Rattle.opgen_operator.specs.declared.kinds.sum.Sum.{Sum};
-ghost use Rattle.opgen_operator.specs.kinds.Sum.{IsAcceptedSum};
+ghost use Rattle.opgen_kinds.specs.declared.sum.Sum.{Sum};
+ghost use Rattle.opgen_kinds.specs.Sum.{IsAcceptedSum};
 ghost use Rattle.opgen_fir.specs.Recipe.{taps, tapped};
 
 use opgen_net::Net;

@@ -5,7 +5,7 @@ ghost use Rattle.opgen_heap.specs.Standing.{AllThere};
 ghost use Rattle.opgen_net.specs.Flow.{Inputs, flow};
 ghost use Rattle.opgen_net.specs.Valid.{IsValid, input_widths};
 ghost use Rattle.opgen_design.specs.Run.{AreWords};
-ghost use Rattle.opgen_operator.specs.kinds.Sum.{IsAcceptedSum};
+ghost use Rattle.opgen_kinds.specs.Sum.{IsAcceptedSum};
 ghost use Rattle.opgen_kcm.specs.Chunks.{number};
 ghost use Rattle.opgen_kcm.specs.Recipe.{HasTermsMore, input_width};
 ghost use Rattle.opgen_kcm.specs.Multiple.{sum_at};

@@ -18,10 +18,9 @@ use Rattle.opgen_net.specs.Valid.{IsValid, LiesWithin, slice_width, input_widths
 use Rattle.opgen_net.proofs.Appending.{valid-output}
 use Rattle.opgen_net.proofs.FlowWidths.{flow-width}
 use Rattle.opgen_ports.specs.declared.ports.PortFormat.{PortFormat}
-use Rattle.opgen_operator.specs.Bounded.{HasWidth}
+use Rattle.opgen_ports.specs.Ports.{HasWidth}
 use Rattle.opgen_operator.specs.Fits.{name_and_width}
-use Rattle.opgen_operator.specs.Held.{OutputsHold}
-use Rattle.opgen_operator.specs.kinds.Several.{constant_format, numbered}
+use Rattle.opgen_kinds.specs.Several.{constant_format, numbered}
 use Rattle.opgen_ports.specs.PortNumbers.{format_at}
 use Rattle.opgen_ports.specs.Ranges.{IsWithin}
 use Rattle.opgen_net.specs.Placed.{Placed, whole}
@@ -103,7 +102,7 @@ module _ (input : Format) (k : ℕ) (b : Multiples) (t : ℤ) (odd : HasOddPart 
     pub next-nodes : All (IsNode next.net) b.known
     next-nodes = All-weaker (IsNode b.net) (IsNode next.net) (node-kept b.net next.net next-keeps) b.known nodes
 
-  module _ (ready : Ready input b) (small : IsWithin 2047 t) where
+  module _ (ready : Ready input b) (small : IsWithin 1048575 t) where
     abbrev nodes : All (IsNode b.net) b.known
     nodes = ready_nodes input b ready
 
@@ -117,8 +116,8 @@ module _ (input : Format) (k : ℕ) (b : Multiples) (t : ℤ) (odd : HasOddPart 
               (multiple-kept input b.net next.net keeps ready.has_input) b.known ready.each;
         }
 
-    next-right : OutputsHold → IsRight input next.net output t
-    next-right hold =
+    next-right : IsRight input next.net output t
+    next-right =
         let keeps = next-keeps ready.valid nodes in
         let answers = node-placed ready.valid nodes in
         record {
@@ -131,7 +130,7 @@ module _ (input : Format) (k : ℕ) (b : Multiples) (t : ℤ) (odd : HasOddPart 
               ∙ answers.width in
               let e : bits - 1 + 1 - 0 ≡ length w = omega (arith, all, wide.0) in
               ap (λ v. val v (constant_format input t)) (ap (λ n. take n w) e ∙ take-length w)
-              ∙ constant-value input b ready bits wide hold t small odd refl inputs time before
+              ∙ constant-value input b ready bits wide t small odd refl inputs time before
               ∙ ap (λ v. val v input *ℤ t) (sym (keeps.nodes.flow inputs 0 time (input_there input b.net ready.has_input)));
         }
 
@@ -149,22 +148,22 @@ pub record HasOutputs (input : Format) (b : Multiples) (k : ℕ) (ts : List ℤ)
   pub ports : map shown made ≡ map name_and_width (numbered k (map (constant_format input) ts))
   pub right : AreRight input net made ts
 
-pub all-outputs : OutputsHold → (input : Format) (k : ℕ) (b : Multiples) (ts : List ℤ) → Ready input b
-    → All (IsWithin 2047) ts → All (HasOddPart b.known) ts
+pub all-outputs : (input : Format) (k : ℕ) (b : Multiples) (ts : List ℤ) → Ready input b
+    → All (IsWithin 1048575) ts → All (HasOddPart b.known) ts
     → All (HasWidth MAX_WIDTH) (numbered k (map (constant_format input) ts)) → HasOutputs input b k ts (with_outputs input k b ts)
-all-outputs hold input k b [] ready small odd wide = record {
+all-outputs input k b [] ready small odd wide = record {
   keeps = keeps-same b.net ready.valid;
   made = [];
   outputs = sym (append-nil b.net.outputs);
   ports = refl;
   right = tt;
 }
-all-outputs hold input k b (t ∷ ts) ready small odd wide =
+all-outputs input k b (t ∷ ts) ready small odd wide =
     let format = constant_format input t in
     let port : PortFormat = record { name = codes "y" ++ decimal k; format = format } in
     let later = numbered (k + 1) (map (constant_format input) ts) in
     let fits : IsWidth format.width = All-head (HasWidth MAX_WIDTH) port later wide in
-    let small_t = All-head (IsWithin 2047) t ts small in
+    let small_t = All-head (IsWithin 1048575) t ts small in
     let odd_t = All-head (HasOddPart b.known) t ts odd in
     let node = with_constant input.signed format.width b t in
     let o : Output = record { name = codes "y" ++ decimal k; from = whole format.width node.place } in
@@ -173,7 +172,7 @@ all-outputs hold input k b (t ∷ ts) ready small odd wide =
     let keeps = next-keeps input k b t odd_t fits ready.valid (ready_nodes input b ready) in
     let ready_next = next-ready input k b t odd_t fits ready small_t in
     let rest =
-    all-outputs hold input (k + 1) next ts ready_next (All-tail (IsWithin 2047) t ts small) (All-tail (HasOddPart b.known) t ts odd)
+    all-outputs input (k + 1) next ts ready_next (All-tail (IsWithin 1048575) t ts small) (All-tail (HasOddPart b.known) t ts odd)
     (All-tail (HasWidth MAX_WIDTH) port later wide) in
     record {
       keeps = keeps-then b.net next.net net keeps rest.keeps;
@@ -184,7 +183,7 @@ all-outputs hold input k b (t ∷ ts) ready small odd wide =
       ports = ap (λ n. (codes "y" ++ decimal k, n) ∷ map shown rest.made) (whole-width format.width node.place fits.0)
           ∙ ap (λ ps. (codes "y" ++ decimal k, format.width) ∷ ps) rest.ports;
       right = (
-        right-kept input next.net net rest.keeps ready_next.has_input o t (next-right input k b t odd_t fits ready small_t hold),
+        right-kept input next.net net rest.keeps ready_next.has_input o t (next-right input k b t odd_t fits ready small_t),
         rest.right,
       );
     }

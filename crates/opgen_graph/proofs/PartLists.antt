@@ -1,27 +1,27 @@
 -- The lists of the odd parts of numbers, and how long they are.
-use Rattle.std.proofs.Common.{◌≡◌, ◌≢◌, ⊎_elim, ℕ, zero, suc, ◌+◌, ◌*◌, ◌%◌, ◌^◌, ◌<◌, ◌≤◌, Bool, true, false, ◌&&◌, ◌||◌, not, List, [], ◌∷◌, ◌++◌, length, All, Contains, refl, sym, ap, ◌∙◌, subst, arith}
-use Rattle.std.specs.Prelude.{ℤ, pos, unsigned_abs, ◌==◌, nat_eq, if◌then◌else◌}
+use Rattle.std.proofs.Common.{◌≡◌, ◌≢◌, ◌⊎◌, ◌↔◌, inl, inr, ⊎_elim, ℕ, zero, suc, ◌+◌, ◌*◌, ◌%◌, ◌^◌, ◌<◌, ◌≤◌, Bool, true, false, ◌&&◌, ◌||◌, not, List, [], ◌∷◌, ◌++◌, length, All, Contains, refl, sym, ap, ◌∙◌, subst, arith}
+use Rattle.std.specs.Prelude.{ℤ, pos, unsigned_abs, ◌==◌, nat_eq, nat_lt, if◌then◌else◌}
+use Rattle.std.specs.List.{dedup}
+use Rattle.std.specs.List.Sorted.{IsPermutation, IsSorted}
+use Rattle.std.specs.Ordering.{nat_cmp}
+use lib.Dec.{eqb}
 use Rattle.std.specs.List.{list_any}
 use Rattle.std.proofs.Math.Nat.{two-pow-succ}
 use Rattle.std.proofs.lemmas.Bool.{cases_lt, eqb-true, eqb-false}
 use Rattle.std.proofs.lemmas.Bool.Decides.{nat_tests}
+use Rattle.std.proofs.lemmas.Map.Keys.{IsStrictlyIncreasing-dedup}
+use Rattle.std.proofs.lemmas.List.Kept.{Contains-from_dedup, Contains-dedup_nat}
+use Rattle.std.proofs.lemmas.List.Sorted.{IsPermutation-sym, Contains-permutation}
 use Rattle.std.proofs.lemmas.List.Elements.{All-contains, Contains-append_left, Contains-append_right, Contains-append_cases}
 use Rattle.opgen_ports.specs.OddParts.{power_of, odd_part, has_part, has_part_alone, odd_part_count}
 use Rattle.opgen_ports.specs.Ranges.{IsWithin}
-use Rattle.opgen_graph.specs.Parts.{parts_below, parts_of}
+use Rattle.opgen_graph.specs.Parts.{HasPart, IsPartOf, inserted, parts_of}
 use Rattle.opgen_graph.specs.Targets.{AreTargetsOf}
 use Rattle.opgen_graph.proofs.Members.{here, there, of_cons, of_nil, of_one}
-use Rattle.opgen_graph.proofs.SignedSets.{Climbs, climbs}
-use Rattle.opgen_graph.proofs.TargetLists.{parts_product, part_odd, part_most, some_number}
+use Rattle.opgen_graph.proofs.SignedSets.{Climbs, climbs, same_climbs}
+use Rattle.opgen_graph.proofs.TargetLists.{parts_product, part_odd, part_most, some_number, one_constant}
 
 -- ---- a number that is not 0 and has the odd part
-
-pub record HasPart (x : ℕ) (t : ℤ) : Type 0 where
-  pub some : t ≢ pos 0
-  pub part : odd_part (unsigned_abs t) ≡ x
-
-abbrev pub PartOf : List ℤ → ℕ → Type 0
-PartOf ts x = (t : ℤ) × Contains ts t × HasPart x t
 
 not_zero : (t : ℤ) → unsigned_abs t ≢ 0 → t ≢ pos 0
 not_zero t h e = h (ap unsigned_abs e)
@@ -47,14 +47,14 @@ is-has_part x t h =
     let same : (odd_part (unsigned_abs t) == x) ≡ true = grind (arith, nat_tests, h.part) in
     ap (λ b. not b && (odd_part (unsigned_abs t) == x)) differs ∙ same
 
-pub any-is : (x : ℕ) (ts : List ℤ) → list_any (has_part x) ts ≡ true → PartOf ts x
+pub any-is : (x : ℕ) (ts : List ℤ) → list_any (has_part x) ts ≡ true → IsPartOf ts x
 any-is x [] h = absurd (cc)
 any-is x (t ∷ ts) h =
-    or_cases (has_part x t) (list_any (has_part x) ts) h (PartOf (t ∷ ts) x)
+    or_cases (has_part x t) (list_any (has_part x) ts) h (IsPartOf (t ∷ ts) x)
     (λ e. (t, (0, omega arith, refl), has_part-is x t e))
     (λ e. let (u, c, is) = any-is x ts e in (u, (suc c.0, omega (arith, c.1), c.2), is))
 
-pub is-any : (x : ℕ) (ts : List ℤ) → PartOf ts x → list_any (has_part x) ts ≡ true
+pub is-any : (x : ℕ) (ts : List ℤ) → IsPartOf ts x → list_any (has_part x) ts ≡ true
 is-any x [] (u, c, is) = absurd (omega (arith, c.1))
 is-any x (t ∷ ts) (u, (zero, lt, e), is) =
     let first : has_part x t ≡ true = is-has_part x t (subst (HasPart x) (sym e) is) in
@@ -67,43 +67,159 @@ is-any x (t ∷ ts) (u, (suc k, lt, e), is) =
     or_true true = refl
     or_true false = refl
 
+-- ---- an increasing list with one number more
+
+pub inserted-from : (x : ℕ) (xs : List ℕ) (z : ℕ) → Contains (inserted x xs) z → (x ≡ z) ⊎ Contains xs z
+inserted-from x [] z c = inl (of_one x z c)
+inserted-from x (y ∷ ys) z c = go (nat_lt x y) (nat_eq x y) (inserted-from x ys z) c
+  where
+    go : (l e : Bool) → (Contains (inserted x ys) z → (x ≡ z) ⊎ Contains ys z)
+        → Contains (if l then x ∷ y ∷ ys else (if e then y ∷ ys else y ∷ inserted x ys)) z → (x ≡ z) ⊎ Contains (y ∷ ys) z
+    go true e rest c = of_cons x z (y ∷ ys) c
+    go false true rest c = inr c
+    go false false rest c =
+        ⊎_elim
+        (λ (s : y ≡ z). inr (subst (Contains (y ∷ ys)) s (here y ys)))
+        (λ (k : Contains (inserted x ys) z). ⊎_elim (λ (s : x ≡ z). inl s) (λ (m : Contains ys z). inr (there y z ys m)) (rest k))
+        (of_cons y z (inserted x ys) c)
+
+inserted-keeps : (x : ℕ) (xs : List ℕ) (z : ℕ) → Contains xs z → Contains (inserted x xs) z
+inserted-keeps x [] z c = absurd (of_nil z c)
+inserted-keeps x (y ∷ ys) z c = go (nat_lt x y) (nat_eq x y) (inserted-keeps x ys z)
+  where
+    go : (l e : Bool) → (Contains ys z → Contains (inserted x ys) z)
+        → Contains (if l then x ∷ y ∷ ys else (if e then y ∷ ys else y ∷ inserted x ys)) z
+    go true e rest = there x z (y ∷ ys) c
+    go false true rest = c
+    go false false rest =
+        ⊎_elim
+        (λ (s : y ≡ z). subst (Contains (y ∷ inserted x ys)) s (here y (inserted x ys)))
+        (λ (k : Contains ys z). there y z (inserted x ys) (rest k))
+        (of_cons y z ys c)
+
+inserted-new : (x : ℕ) (xs : List ℕ) → Contains (inserted x xs) x
+inserted-new x [] = here x []
+inserted-new x (y ∷ ys) = go (nat_lt x y) (nat_eq x y) (λ e. eqb-true x y e) (inserted-new x ys)
+  where
+    go : (l e : Bool) → (e ≡ true → x ≡ y) → Contains (inserted x ys) x
+        → Contains (if l then x ∷ y ∷ ys else (if e then y ∷ ys else y ∷ inserted x ys)) x
+    go true e same rest = here x (y ∷ ys)
+    go false true same rest = subst (Contains (y ∷ ys)) (sym (same refl)) (here y ys)
+    go false false same rest = there y x (inserted x ys) rest
+
+inserted-climbs : (x : ℕ) (xs : List ℕ) → Climbs xs → Climbs (inserted x xs)
+inserted-climbs x [] h = (λ y c. absurd (of_nil y c), tt)
+inserted-climbs x (y ∷ ys) h = go (nat_lt x y) refl (nat_eq x y) (λ e. eqb-false x y e) (inserted-climbs x ys h.1)
+  where
+    go : (l : Bool) → nat_lt x y ≡ l → (e : Bool) → (e ≡ false → x ≢ y) → Climbs (inserted x ys)
+        → Climbs (if l then x ∷ y ∷ ys else (if e then y ∷ ys else y ∷ inserted x ys))
+    go true less e other rest =
+        let low : x < y = grind (arith, nat_tests, less) in (
+          λ z c. ⊎_elim (λ (s : y ≡ z). omega (arith, low, s)) (λ (k : Contains ys z). omega (arith, low, h.0 z k)) (of_cons y z ys c),
+          h,
+        )
+    go false less true other rest = h
+    go false less false other rest =
+        let high : y ≤ x = grind (arith, nat_tests, less) in
+        let apart : x ≢ y = other refl in
+        let above : y < x = ⊎_elim (λ (lt : y < x). lt) (λ (ge : x ≤ y). absurd (apart (omega (arith, high, ge)))) (cases_lt y x) in (
+          λ z c. ⊎_elim (λ (s : x ≡ z). omega (arith, above, s)) (λ (k : Contains ys z). h.0 z k) (inserted-from x ys z c),
+          rest,
+        )
+
 -- ---- the list of odd parts
 
-below-is : (ts : List ℤ) (count x : ℕ) → Contains (parts_below ts count) x → PartOf ts x × (x < count)
-unfolding parts_below
-below-is ts zero x c = absurd (of_nil x c)
-below-is ts (suc k) x c = go (list_any (has_part k) ts) refl (λ d. below-is ts k x d) c
+later : (t : ℤ) (ts : List ℤ) (x : ℕ) → IsPartOf ts x → IsPartOf (t ∷ ts) x
+later t ts x (u, c, is) = (u, (suc c.0, omega (arith, c.1), c.2), is)
+
+pub listed-part : (ts : List ℤ) (x : ℕ) → Contains (parts_of ts) x → IsPartOf ts x
+unfolding parts_of
+listed-part [] x c = absurd (of_nil x c)
+listed-part (t ∷ ts) x c = go (unsigned_abs t == 0) refl (listed-part ts x) c
   where
-    go : (b : Bool) → list_any (has_part k) ts ≡ b → (Contains (parts_below ts k) x → PartOf ts x × (x < k))
-        → Contains (if b then parts_below ts k ++ k ∷ [] else parts_below ts k) x → PartOf ts x × (x < suc k)
-    go true e before c =
+    go : (b : Bool) → (unsigned_abs t == 0) ≡ b → (Contains (parts_of ts) x → IsPartOf ts x)
+        → Contains (if b then parts_of ts else inserted (odd_part (unsigned_abs t)) (parts_of ts)) x → IsPartOf (t ∷ ts) x
+    go true e rest c = later t ts x (rest c)
+    go false e rest c =
+        let some : unsigned_abs t ≢ 0 = λ z. (let no : ⊥ = grind (arith, nat_tests, e, z) in no) in
         ⊎_elim
-        (λ (old : Contains (parts_below ts k) x). let h = before old in (h.0, omega (arith, h.1)))
-        (λ (new : Contains (k ∷ []) x).
-        let same : k ≡ x = of_one k x new in
-        (subst (PartOf ts) same (any-is k ts e), omega (arith, same)))
-        (Contains-append_cases (parts_below ts k) (k ∷ []) x c)
-    go false e before c = let h = before c in (h.0, omega (arith, h.1))
+        (λ (s : odd_part (unsigned_abs t) ≡ x). (t, (0, omega arith, refl), record { some = not_zero t some; part = s }))
+        (λ (k : Contains (parts_of ts) x). later t ts x (rest k))
+        (inserted-from (odd_part (unsigned_abs t)) (parts_of ts) x c)
 
-is-below : (ts : List ℤ) (count x : ℕ) → x < count → PartOf ts x → Contains (parts_below ts count) x
-unfolding parts_below
-is-below ts zero x lt is = absurd (omega (arith, lt))
-is-below ts (suc k) x lt is =
-    ⊎_elim
-    (λ (less : x < k). keep (list_any (has_part k) ts) (is-below ts k x less is))
-    (λ (more : k ≤ x).
-    let same : k ≡ x = omega (arith, more, lt) in
-    let there : list_any (has_part k) ts ≡ true = is-any k ts (subst (PartOf ts) (sym same) is) in
-    last (list_any (has_part k) ts) there same)
-    (cases_lt x k)
+pub part-listed : (ts : List ℤ) (x : ℕ) → IsPartOf ts x → Contains (parts_of ts) x
+unfolding parts_of
+part-listed [] x (u, c, is) = absurd (omega (arith, c.1))
+part-listed (t ∷ ts) x (u, (zero, lt, same), is) = go (unsigned_abs t == 0) refl
   where
-    keep : (b : Bool) → Contains (parts_below ts k) x → Contains (if b then parts_below ts k ++ k ∷ [] else parts_below ts k) x
-    keep true c = Contains-append_left (parts_below ts k) (k ∷ []) x c
-    keep false c = c
+    go : (b : Bool) → (unsigned_abs t == 0) ≡ b
+        → Contains (if b then parts_of ts else inserted (odd_part (unsigned_abs t)) (parts_of ts)) x
+    go true e =
+        let some : 0 < unsigned_abs t = some_number t (subst (λ (v : ℤ). v ≢ pos 0) (sym same) is.some) in
+        let no : ⊥ = grind (arith, nat_tests, e, some) in absurd no
+    go false e =
+        let part : odd_part (unsigned_abs t) ≡ x = ap (λ (v : ℤ). odd_part (unsigned_abs v)) same ∙ is.part in
+        subst (Contains (inserted (odd_part (unsigned_abs t)) (parts_of ts))) part (inserted-new (odd_part (unsigned_abs t)) (parts_of ts))
+part-listed (t ∷ ts) x (u, (suc k, lt, same), is) =
+    go (unsigned_abs t == 0) (part-listed ts x (u, (k, omega (arith, lt), same), is))
+  where
+    go : (b : Bool) → Contains (parts_of ts) x → Contains (if b then parts_of ts else inserted (odd_part (unsigned_abs t)) (parts_of ts)) x
+    go true rest = rest
+    go false rest = inserted-keeps (odd_part (unsigned_abs t)) (parts_of ts) x rest
 
-    last : (b : Bool) → b ≡ true → k ≡ x → Contains (if b then parts_below ts k ++ k ∷ [] else parts_below ts k) x
-    last true e same = Contains-append_right (parts_below ts k) (k ∷ []) x (subst (Contains (k ∷ [])) same (here k []))
-    last false e same = absurd (cc)
+pub parts-climb : (ts : List ℤ) → Climbs (parts_of ts)
+unfolding parts_of
+parts-climb [] = tt
+parts-climb (t ∷ ts) = go (unsigned_abs t == 0) (parts-climb ts)
+  where
+    go : (b : Bool) → Climbs (parts_of ts) → Climbs (if b then parts_of ts else inserted (odd_part (unsigned_abs t)) (parts_of ts))
+    go true rest = rest
+    go false rest = inserted-climbs (odd_part (unsigned_abs t)) (parts_of ts) rest
+
+-- ---- a list of parts, with one number more
+
+abbrev pub ArePartsOf : List ℕ → List ℤ → Type 0
+ArePartsOf found ts = (x : ℕ) → Contains found x ↔ IsPartOf ts x
+
+pub parts_more : (found : List ℕ) (ts : List ℤ) (t : ℤ) (x : ℕ) → ArePartsOf found ts → HasPart x t
+    → ArePartsOf (found ++ x ∷ []) (ts ++ t ∷ [])
+parts_more found ts t x before h y = (
+  λ c. ⊎_elim
+      (λ (k : Contains found y). let (u, in_ts, is) = (before y).0 k in (u, Contains-append_left ts (t ∷ []) u in_ts, is))
+      (λ (k : Contains (x ∷ []) y).
+      (t, Contains-append_right ts (t ∷ []) t (0, omega arith, refl), subst (λ z. HasPart z t) (of_one x y k) h))
+      (Contains-append_cases found (x ∷ []) y c),
+  λ o. known o,
+)
+  where
+    known : IsPartOf (ts ++ t ∷ []) y → Contains (found ++ x ∷ []) y
+    known (u, c, is) =
+        ⊎_elim (λ (k : Contains ts u). Contains-append_left found (x ∷ []) y ((before y).1 (u, k, is)))
+        (λ (k : Contains (t ∷ []) u).
+        let same : x ≡ y = sym h.part ∙ ap (λ z. odd_part (unsigned_abs z)) (one_constant t u k) ∙ is.part in
+        Contains-append_right found (x ∷ []) y (subst (Contains (x ∷ [])) same (here x [])))
+        (Contains-append_cases ts (t ∷ []) u c)
+
+pub parts_same : (found : List ℕ) (ts : List ℤ) (t : ℤ) → ArePartsOf found ts → t ≡ pos 0 → ArePartsOf found (ts ++ t ∷ [])
+parts_same found ts t before none y = (
+  λ c. let (u, in_ts, is) = (before y).0 c in (u, Contains-append_left ts (t ∷ []) u in_ts, is),
+  λ o. known o,
+)
+  where
+    known : IsPartOf (ts ++ t ∷ []) y → Contains found y
+    known (u, c, is) =
+        ⊎_elim (λ (k : Contains ts u). (before y).1 (u, k, is))
+        (λ (k : Contains (t ∷ []) u). absurd (is.some (sym (one_constant t u k) ∙ none)))
+        (Contains-append_cases ts (t ∷ []) u c)
+
+-- sorted, each once
+pub are_parts : (ts : List ℤ) (found sorted : List ℕ) → ArePartsOf found ts → IsPermutation found sorted → IsSorted nat_cmp sorted
+    → dedup eqb sorted ≡ parts_of ts
+are_parts ts found sorted are perm up =
+    same_climbs (dedup eqb sorted) (parts_of ts) (climbs (dedup eqb sorted) (IsStrictlyIncreasing-dedup sorted up)) (parts-climb ts)
+    (λ x c. part-listed ts x
+    ((are x).0 (Contains-permutation sorted found x (IsPermutation-sym found sorted perm) (Contains-from_dedup eqb sorted x c))))
+    (λ x c. Contains-dedup_nat sorted x (Contains-permutation found sorted x perm ((are x).1 (listed-part ts x c))))
 
 -- an odd number is its own odd part
 pub odd_itself : (x : ℕ) → x % 2 ≡ 1 → x < 2 ^ 32 → odd_part x ≡ x
@@ -115,21 +231,12 @@ odd_itself x odd small = go (power_of x) (parts_product x (omega (arith, odd)) s
         let twice : 2 ^ suc k * odd_part x ≡ 2 * (2 ^ k * odd_part x) = omega (arith, ap (λ n. n * odd_part x) (two-pow-succ k)) in
         absurd (omega (arith, e, twice, odd))
 
-module _ (ts : List ℤ) (small : All (IsWithin 2047) ts) where
-  pub part-within : (x : ℕ) → PartOf ts x → (x % 2 ≡ 1) × (0 < x) × (x ≤ 2047)
-  part-within x (t, c, is) =
-      let n = unsigned_abs t in
-      let few : n ≤ 2047 = All-contains (IsWithin 2047) ts t small c in
-      let odd = part_odd n (some_number t is.some) (omega (arith, few)) in
-      (omega (arith, odd, is.part), omega (arith, odd, is.part), omega (arith, part_most n, few, is.part))
-
-  pub part-listed : (x : ℕ) → PartOf ts x → Contains (parts_of ts) x
-  unfolding parts_of
-  part-listed x is = is-below ts 2048 x (omega (arith, (part-within x is).2)) is
-
-  pub listed-part : (x : ℕ) → Contains (parts_of ts) x → PartOf ts x
-  unfolding parts_of
-  listed-part x c = (below-is ts 2048 x c).0
+pub part-within : (ts : List ℤ) → All (IsWithin 1048575) ts → (x : ℕ) → IsPartOf ts x → (x % 2 ≡ 1) × (0 < x) × (x ≤ 1048575)
+part-within ts small x (t, c, is) =
+    let n = unsigned_abs t in
+    let few : n ≤ 1048575 = All-contains (IsWithin 1048575) ts t small c in
+    let odd = part_odd n (some_number t is.some) (omega (arith, few)) in
+    (omega (arith, odd, is.part), omega (arith, odd, is.part), omega (arith, part_most n, few, is.part))
 
 -- ---- how many there are: no more than the numbers have different odd parts
 

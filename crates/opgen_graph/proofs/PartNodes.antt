@@ -19,11 +19,10 @@ use Rattle.opgen_net.specs.Valid.{input_widths}
 use Rattle.opgen_net.proofs.FlowWidths.{flow-width}
 use Rattle.opgen_net.proofs.Grown.{grown-flow}
 use Rattle.opgen_net.proofs.Later.{Later, later-same, later-then}
-use Rattle.opgen_operator.specs.Held.{OutputsHold}
-use Rattle.opgen_operator.specs.kinds.Several.{constant_format}
+use Rattle.opgen_kinds.specs.Several.{constant_format}
 use Rattle.opgen_ports.specs.Ranges.{IsInput}
 use Rattle.opgen_ports.specs.Reaches.{reach_over}
-use Rattle.opgen_operator.proofs.of_kind.Several.{multiple_width, multiples_of}
+use Rattle.opgen_kinds.proofs.of_kind.Several.{multiple_width, multiples_held}
 use Rattle.opgen_ports.proofs.Widths.{some_width}
 use Rattle.opgen_graph.specs.declared.multiples.Multiple.{Multiple}
 use Rattle.opgen_graph.specs.Parts.{part_width, part_node, with_part, with_parts}
@@ -68,9 +67,9 @@ module _ (input : Format) (known : List Multiple) (net : Net) (ready : Ready inp
   pub part-placed : IsPlacedNode net bits made
   part-placed = magnitude-placed input.signed b ready.valid (ready_nodes input b ready) bits wide part is.made
 
-  part-value : OutputsHold → (inputs : Inputs) (t : ℤ) → All (AreWords (input_widths net)) inputs
+  part-value : (inputs : Inputs) (t : ℤ) → All (AreWords (input_widths net)) inputs
       → val (flow made.net.nodes inputs made.place t) input ≡ val (flow net.nodes inputs 0 t) input *ℤ pos part
-  part-value hold inputs t words =
+  part-value inputs t words =
       let w = flow net.nodes inputs 0 t in
       let x = val w input in
       let long : length w ≡ input.width = flow-width net ready.valid inputs words 0 t ∙ ready.has_input.width in
@@ -79,15 +78,15 @@ module _ (input : Format) (known : List Multiple) (net : Net) (ready : Ready inp
       settled input bits _ (x *ℤ pos part) wide.0
       (magnitude-has input b ready bits wide part is.some (omega (arith, is.small)) is.made inputs t words)
       (subst (λ s. Holds s bits (x *ℤ pos part)) (part-signed input part is.some ready.has_input.some)
-      (multiples_of hold input (pos part) x range))
+      (multiples_held input (pos part) x range))
 
-  pub part-multiple : OutputsHold → IsMultiple input made.net multiple
-  part-multiple hold =
+  pub part-multiple : IsMultiple input made.net multiple
+  part-multiple =
       let keeps = keeps-later net made.net part-placed.later in
       record {
         node = record { some = wide.0; most = wide.1; width = part-placed.width };
         product = λ inputs t words.
-            part-value hold inputs t (words-back net made.net keeps inputs words)
+            part-value inputs t (words-back net made.net keeps inputs words)
             ∙ ap (λ w. val w input *ℤ pos part)
             (sym (grown-flow net made.net part-placed.later.grown inputs 0 t (input_there input net ready.has_input)));
       }
@@ -107,7 +106,7 @@ module _ (input : Format) (known : List Multiple) (net : Net) (ready : Ready inp
 -- no input has more than the program's bits
 pub part-wide : (input : Format) (known : List Multiple) (part : ℕ) → IsInput input → IsPart known part → IsWidth (part_width input part)
 part-wide input known part fits is =
-    (some_width (reach_over input (pos part ∷ [])), omega (arith, multiple_width input (pos part) fits is.small))
+    (some_width (reach_over input (pos part ∷ [])), omega (arith, multiple_width input (pos part) is.small, fits.most))
 
 pub record AreMade (input : Format) (known : List Multiple) (before : Multiples) (parts : List ℕ) (after : Multiples) : Type 0 where
   pub later : Later before.net after.net
@@ -115,16 +114,16 @@ pub record AreMade (input : Format) (known : List Multiple) (before : Multiples)
   pub each : All (IsMultiple input after.net) after.known
   pub factors_are : factors after.known ≡ factors before.known ++ parts
 
-pub all-made : OutputsHold → (input : Format) → IsInput input → (known : List Multiple) (before : Multiples) (parts : List ℕ)
+pub all-made : (input : Format) → IsInput input → (known : List Multiple) (before : Multiples) (parts : List ℕ)
     → Ready input (record { net = before.net; known = known }) → All (IsMultiple input before.net) before.known
     → All (IsPart known) parts → AreMade input known before parts (with_parts input known before parts)
-all-made hold input fits known before [] ready each stand = record {
+all-made input fits known before [] ready each stand = record {
   later = later-same before.net ready.valid;
   ready = ready;
   each = each;
   factors_are = sym (append-nil (factors before.known));
 }
-all-made hold input fits known before (p ∷ more) ready each stand =
+all-made input fits known before (p ∷ more) ready each stand =
     let one = All-head (IsPart known) p more stand in
     let wide = part-wide input known p fits one in
     let next = with_part input known before p in
@@ -133,8 +132,8 @@ all-made hold input fits known before (p ∷ more) ready each stand =
     let keeps = keeps-later before.net next.net answers.later in
     let kept = All-weaker (IsMultiple input before.net) (IsMultiple input next.net)
     (multiple-kept input before.net next.net keeps ready.has_input) before.known each in
-    let now = All-push (IsMultiple input next.net) before.known m kept (part-multiple input known before.net ready p one wide hold) in
-    let rest = all-made hold input fits known next more (part-ready input known before.net ready p one wide) now
+    let now = All-push (IsMultiple input next.net) before.known m kept (part-multiple input known before.net ready p one wide) in
+    let rest = all-made input fits known next more (part-ready input known before.net ready p one wide) now
     (All-tail (IsPart known) p more stand) in
     record {
       later = later-then before.net next.net (with_parts input known next more).net answers.later rest.later;

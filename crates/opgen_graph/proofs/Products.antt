@@ -20,12 +20,11 @@ use Rattle.opgen_net.specs.Flow.{Inputs, flow}
 use Rattle.opgen_net.specs.Valid.{IsValid, input_widths, widths, FitsNodes}
 use Rattle.opgen_net.proofs.Appending.{flow-append_before, flow-append_last, width-append_before, width-append_last}
 use Rattle.opgen_net.proofs.FlowWidths.{flow-width}
-use Rattle.opgen_operator.specs.Held.{OutputsHold}
-use Rattle.opgen_operator.specs.kinds.Several.{constant_format}
+use Rattle.opgen_kinds.specs.Several.{constant_format}
 use Rattle.opgen_ports.specs.OddParts.{power_of, odd_part}
 use Rattle.opgen_ports.specs.Ranges.{IsWithin}
 use Rattle.opgen_ports.specs.Reaches.{reach_over}
-use Rattle.opgen_operator.proofs.of_kind.Several.{multiples_of}
+use Rattle.opgen_kinds.proofs.of_kind.Several.{multiples_held}
 use Rattle.opgen_net.specs.Placed.{Placed, difference_of, with_last}
 use Rattle.opgen_net.proofs.Later.{Later, later-node, later-then, node_there}
 use Rattle.opgen_graph.specs.declared.multiples.Multiple.{Multiple}
@@ -101,7 +100,7 @@ module _ (bits : ℕ) (p : Placed) (valid : IsValid p.net) (wide : IsWidth bits)
       subst (Has bits (pos 0 -ℤ z)) (sym (flow-append_last zeros.nodes node inputs t))
       (difference-has bits (pos 0) z (flow zeros.nodes inputs (length p.net.nodes) t) (flow zeros.nodes inputs p.place t) none same)
 
-small_number : (t : ℤ) → IsWithin 2047 t → unsigned_abs t < 2 ^ 32
+small_number : (t : ℤ) → IsWithin 1048575 t → unsigned_abs t < 2 ^ 32
 small_number t h = omega (arith, h)
 
 -- the node of a constant has the width
@@ -144,7 +143,7 @@ module _ (input : Format) (b : Multiples) (ready : Ready input b) (bits : ℕ) (
   opposite : (x : ℤ) (n : ℕ) → pos 0 -ℤ (x *ℤ pos (suc n)) ≡ x *ℤ negsuc n
   opposite x n = omega (arith, ints)
 
-  constant-has : (t : ℤ) → IsWithin 2047 t → HasOddPart b.known t → bits ≡ (constant_format input t).width
+  constant-has : (t : ℤ) → IsWithin 1048575 t → HasOddPart b.known t → bits ≡ (constant_format input t).width
       → (inputs : Inputs) (time : ℤ) → All (AreWords (input_widths b.net)) inputs
       → Has bits (val (flow b.net.nodes inputs 0 time) input *ℤ t)
       (flow (with_constant input.signed bits b t).net.nodes inputs (with_constant input.signed bits b t).place time)
@@ -165,16 +164,16 @@ module _ (input : Format) (b : Multiples) (ready : Ready input b) (bits : ℕ) (
       (magnitude-has (suc n) (omega arith) (small_number (negsuc n) small) (odd (λ z. cc)) inputs time words))
 
   -- in the format of its output it is the input times the constant
-  pub constant-value : OutputsHold → (t : ℤ) → IsWithin 2047 t → HasOddPart b.known t → bits ≡ (constant_format input t).width
+  pub constant-value : (t : ℤ) → IsWithin 1048575 t → HasOddPart b.known t → bits ≡ (constant_format input t).width
       → (inputs : Inputs) (time : ℤ) → All (AreWords (input_widths b.net)) inputs
       → val (flow (with_constant input.signed bits b t).net.nodes inputs (with_constant input.signed bits b t).place time)
       (constant_format input t)
       ≡ val (flow b.net.nodes inputs 0 time) input *ℤ t
-  constant-value hold t small odd e inputs time words =
+  constant-value t small odd e inputs time words =
       let w = flow b.net.nodes inputs 0 time in
       let x = val w input in
       let long : length w ≡ input.width = flow-width b.net ready.valid inputs words 0 time ∙ ready.has_input.width in
       let range : Holds input.signed input.width x =
       subst (λ n. Holds input.signed n x) long (val_holds w input (omega (arith, long, ready.has_input.some))) in
       settled (constant_format input t) bits _ (x *ℤ t) wide.0 (constant-has t small odd e inputs time words)
-      (subst (λ n. Holds (constant_format input t).signed n (x *ℤ t)) (sym e) (multiples_of hold input t x range))
+      (subst (λ n. Holds (constant_format input t).signed n (x *ℤ t)) (sym e) (multiples_held input t x range))

@@ -71,19 +71,20 @@ module _ (bits : ℕ) (x y : ℤ) (a b : List Bool) (of_a : Has bits x a) (of_b 
 whole_floor : (m : ℕ) (y : ℤ) → 1 ≤ m → IsFloor (pos m *ℤ y) (pos m) y
 whole_floor m y some = (omega (arith, ints), omega (arith, ints, some, product-sum (pos m) y (pos 1)))
 
--- without its lowest bits, the word of a multiple of their power of two has what the multiple is of
-pub dropped-has : (low bits : ℕ) (w : List Bool) (z : ℤ) → Has (bits + low) (pos (2 ^ low) *ℤ z) w → Has bits z (drop low w)
-dropped-has low bits w z h =
+-- without its lowest bits, the word of a number has the number over their power of two, rounded down
+pub floor-has : (low bits : ℕ) (w : List Bool) (z q : ℤ) → IsFloor z (pos (2 ^ low)) q → Has (bits + low) z w → Has bits q (drop low w)
+floor-has low bits w z q floor h =
     let all : length w ≡ low + bits = h.width ∙ omega arith in
     let turns = pos h.residue.more -ℤ pos h.residue.less in
-    let same : (pos (2 ^ low) *ℤ z) +ℤ (pos (2 ^ length w) *ℤ turns) ≡ pos (nat w) =
-    subst (λ n. (pos (2 ^ low) *ℤ z) +ℤ (pos (2 ^ n) *ℤ turns) ≡ pos (nat w)) (sym h.width)
-    (turned (bits + low) (pos (2 ^ low) *ℤ z) (nat w) h.residue) in
+    let same : z +ℤ (pos (2 ^ length w) *ℤ turns) ≡ pos (nat w) =
+    subst (λ n. z +ℤ (pos (2 ^ n) *ℤ turns) ≡ pos (nat w)) (sym h.width) (turned (bits + low) z (nat w) h.residue) in
     record {
       width = length-drop low w ∙ omega (arith, all);
-      residue = from_turns bits z (nat (drop low w)) turns
-          (floor_dropped low bits w (pos (2 ^ low) *ℤ z) turns z all same (whole_floor (2 ^ low) z (pow_pos low)));
+      residue = from_turns bits q (nat (drop low w)) turns (floor_dropped low bits w z turns q all same floor);
     }
+
+pub dropped-has : (low bits : ℕ) (w : List Bool) (z : ℤ) → Has (bits + low) (pos (2 ^ low) *ℤ z) w → Has bits z (drop low w)
+dropped-has low bits w z h = floor-has low bits w (pos (2 ^ low) *ℤ z) z (whole_floor (2 ^ low) z (pow_pos low)) h
 
 -- A word of a width that holds the number has it as its value.
 pub settled : (format : Format) (bits : ℕ) (w : List Bool) (z : ℤ) → 1 ≤ bits → Has bits z w → Holds format.signed bits z → val w format ≡ z

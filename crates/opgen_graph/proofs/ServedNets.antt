@@ -3,7 +3,6 @@ use Rattle.std.proofs.Common.{◌≡◌, ◌<◌, ◌≤◌, ◌∷◌, refl, sy
 use Rattle.std.specs.Prelude.{ℤ, List, unsigned_abs, All, Contains}
 use Rattle.std.proofs.lemmas.Bool.{cases_lt}
 use Rattle.std.proofs.lemmas.List.Elements.{All-contains, All-contains_itself, All-weaker}
-use Rattle.std.proofs.lemmas.List.Sorted.{All-permutation, Contains-permutation}
 use Rattle.opgen_num.specs.declared.format.Format.{Format}
 use Rattle.opgen_net.specs.Valid.{IsValid}
 use Rattle.opgen_ports.specs.OddParts.{odd_part}
@@ -12,12 +11,10 @@ use Rattle.opgen_ports.proofs.InputPorts.{input_bit}
 use Rattle.opgen_graph.specs.declared.ranks.Graph.{Graph}
 use Rattle.opgen_graph.specs.Graphs.{values}
 use Rattle.opgen_graph.specs.Placing.{factors, AreAdders, HasOddPart}
-use Rattle.opgen_graph.specs.Reach.{IsMember}
 use Rattle.opgen_graph.specs.Recipe.{with_input, at_first, multiples_of}
 use Rattle.opgen_graph.specs.Served.{Serves}
 use Rattle.opgen_graph.proofs.Members.{here, there}
 use Rattle.opgen_graph.proofs.Products.{Ready}
-use Rattle.opgen_graph.proofs.Reaching.{ranks_are_graphs}
 use Rattle.opgen_graph.proofs.Standing.{Stands, first-left, all-stand}
 use Rattle.opgen_graph.proofs.TargetLists.{part_odd, some_number}
 
@@ -29,16 +26,9 @@ module _ (input : Format) (is : IsInput input) where
     outputs = λ k d l. absurd (omega (arith, l));
   }
 
-  module _ (constants : List ℤ) (small : All (IsWithin 2047) constants) (graph : Graph) (serves : Serves constants graph) where
+  module _ (constants : List ℤ) (small : All (IsWithin 1048575) constants) (graph : Graph) (serves : Serves constants graph) where
     pub are_adders : AreAdders input graph.adders
-    are_adders =
-        let of = ranks_are_graphs serves.set graph.adders serves.ranks in
-        record {
-          some = input_bit input is;
-          most = is.most;
-          members = All-permutation IsMember serves.set (values graph.adders) of.members serves.adders.members;
-          wired = of.wired;
-        }
+    are_adders = record { some = input_bit input is; most = is.most; members = serves.members; wired = serves.wired }
 
     stood : Stands input (multiples_of input graph) × (factors (multiples_of input graph).known ≡ 1 ∷ values graph.adders)
     stood = all-stand input (at_first input) graph.adders (first-left input graph.adders input-valid are_adders)
@@ -52,16 +42,13 @@ module _ (input : Format) (is : IsInput input) where
     pub has_part : (t : ℤ) → Contains constants t → HasOddPart (multiples_of input graph).known t
     has_part t c some =
         let n = unsigned_abs t in
-        let few : n ≤ 2047 = All-contains (IsWithin 2047) constants t small c in
+        let few : n ≤ 1048575 = All-contains (IsWithin 1048575) constants t small c in
         let odd = part_odd n (some_number t some) (omega (arith, few)) in
         subst (λ fs. Contains fs (odd_part n)) (sym stood.1)
         (⊎_elim
         (λ (lt : 1 < odd_part n).
-        let in_set = serves.has_targets (odd_part n) (t, c, record { some = some; part = refl; above = lt }) in
-        let in_values =
-        Contains-permutation serves.set (values graph.adders) (odd_part n)
-        (ranks_are_graphs serves.set graph.adders serves.ranks).members in_set in
-        there 1 (odd_part n) (values graph.adders) in_values)
+        there 1 (odd_part n) (values graph.adders)
+        (serves.has_parts (odd_part n) (t, c, record { some = some; part = refl; above = lt })))
         (λ (le : odd_part n ≤ 1).
         let one : 1 ≡ odd_part n = omega (arith, odd) in
         subst (Contains (1 ∷ values graph.adders)) one (here 1 (values graph.adders)))

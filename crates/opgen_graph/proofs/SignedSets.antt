@@ -1,5 +1,5 @@
 -- The set of the signed digits' partial sums.
-use Rattle.std.proofs.Common.{◌≡◌, ◌⊎◌, ◌↔◌, inl, inr, ⊎_elim, ℕ, zero, suc, ◌+◌, ◌%◌, ◌^◌, ◌≤◌, ◌<◌, List, [], ◌∷◌, ◌++◌, length, take, get_or, All, Contains, ℤ, pos, sym, subst, ◌∙◌, arith, add-one}
+use Rattle.std.proofs.Common.{◌≡◌, ◌⊎◌, ◌↔◌, inl, inr, ⊎_elim, ℕ, zero, suc, ◌+◌, ◌%◌, ◌^◌, ◌≤◌, ◌<◌, List, [], ◌∷◌, ◌++◌, length, take, get_or, All, Contains, ℤ, pos, refl, sym, ap, subst, ◌∙◌, arith, add-one}
 use Rattle.std.specs.List.{dedup}
 use Rattle.std.specs.List.Sorted.{IsStrictlyIncreasing, IsPermutation, IsSorted}
 use Rattle.std.specs.Ordering.{nat_cmp}
@@ -19,7 +19,7 @@ use Rattle.opgen_graph.specs.declared.forms.Form.TheVariants.{A, B}
 use Rattle.opgen_graph.specs.Adders.{Comb}
 use Rattle.opgen_graph.specs.Reach.{IsBuiltFrom, IsMember, Reaches}
 use Rattle.opgen_graph.specs.SignedDigits.{IsTarget, IsPartialOf, IsDigitSet}
-use Rattle.opgen_graph.proofs.Members.{here, there, of_cons, of_nil, of_one, all_of}
+use Rattle.opgen_graph.proofs.Members.{here, there, of_cons, of_nil, of_one, Within, all_of}
 
 -- ---- a number one step above a smaller one
 comb_of : (i y x : ℕ) → 1 ≤ i → (2 ^ i + y ≡ x) ⊎ (2 ^ i ≡ x + y) → Comb 1 y x
@@ -41,6 +41,23 @@ suc_climbs (x ∷ y ∷ ys) h =
 
 pub climbs : (xs : List ℕ) → IsStrictlyIncreasing xs → Climbs xs
 climbs xs h = suc_climbs xs (λ k lt. subst (λ n. get_or xs k 0 < get_or xs n 0) (add-one k) (h k (omega (arith, lt))))
+
+-- lists that climb and have the same members are the same
+pub same_climbs : (xs ys : List ℕ) → Climbs xs → Climbs ys → Within xs ys → Within ys xs → xs ≡ ys
+same_climbs [] [] hx hy to from = refl
+same_climbs [] (y ∷ ys) hx hy to from = absurd (of_nil y (from y (here y ys)))
+same_climbs (x ∷ xs) [] hx hy to from = absurd (of_nil x (to x (here x xs)))
+same_climbs (x ∷ xs) (y ∷ ys) hx hy to from =
+    let low : y ≤ x = ⊎_elim (λ (e : y ≡ x). omega (arith, e)) (λ (k : Contains ys x). omega (arith, hy.0 x k))
+    (of_cons y x ys (to x (here x xs))) in
+    let high : x ≤ y = ⊎_elim (λ (e : x ≡ y). omega (arith, e)) (λ (k : Contains xs y). omega (arith, hx.0 y k))
+    (of_cons x y xs (from y (here y ys))) in
+    let e : x ≡ y = omega (arith, low, high) in
+    let to_tail : Within xs ys = λ z c. ⊎_elim (λ (s : y ≡ z). absurd (omega (arith, hx.0 z c, s, e))) (λ (k : Contains ys z). k)
+    (of_cons y z ys (to z (there x z xs c))) in
+    let from_tail : Within ys xs = λ z c. ⊎_elim (λ (s : x ≡ z). absurd (omega (arith, hy.0 z c, s, e))) (λ (k : Contains xs z). k)
+    (of_cons x z xs (from z (there y z ys c))) in
+    ap (λ zs. x ∷ zs) (same_climbs xs ys hx.1 hy.1 to_tail from_tail) ∙ ap (λ z. z ∷ ys) e
 
 built_up : (placed xs : List ℕ) → Contains placed 1 → Climbs xs
     → ((x : ℕ) → Contains xs x → (y : ℕ) × (y < x) × (Contains placed y ⊎ Contains xs y) × Comb 1 y x) → IsBuiltFrom placed xs

@@ -6,8 +6,8 @@ use Rattle.std.specs.Int.{w64}
 use Rattle.std.proofs.lemmas.Int.{ints, to_z-of_z}
 
 -- a small number is that of its word
-pub same_number : (t : ℤ) → unsigned_abs t ≤ 2047 → to_z w64 (of_z w64 t) ≡ t
+pub same_number : (t : ℤ) → unsigned_abs t ≤ 1048575 → to_z w64 (of_z w64 t) ≡ t
 same_number t small = let fits : FitsSigned w64 t = omega (arith, ints) in to_z-of_z w64 t fits
 
-pub word_of : (n : ℕ) (z : ℤ) → n ≤ 2047 → z ≡ pos n → to_z w64 (of_z w64 z) ≡ pos n
+pub word_of : (n : ℕ) (z : ℤ) → n ≤ 1048575 → z ≡ pos n → to_z w64 (of_z w64 z) ≡ pos n
 word_of n z small e = ap (λ y. to_z w64 (of_z w64 y)) e ∙ same_number (pos n) small

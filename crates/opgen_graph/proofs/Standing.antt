@@ -24,11 +24,11 @@ use Rattle.opgen_graph.specs.declared.forms.Form.{Form}
 use Rattle.opgen_graph.specs.declared.forms.Form.TheVariants.{A, B, C, D, E}
 use Rattle.opgen_graph.specs.declared.multiples.Multiple.{Multiple}
 use Rattle.opgen_graph.specs.declared.ranks.Adder.{Adder}
-use Rattle.opgen_graph.specs.Adders.{IsTerm, Makes}
+use Rattle.opgen_graph.specs.Adders.{Makes}
 use Rattle.opgen_graph.specs.GraphLaws.{IsWired}
 use Rattle.opgen_graph.specs.Graphs.{values}
 use Rattle.opgen_graph.specs.Placing.{factors, IsNarrow, AreAdders, HasInput, IsMultiple}
-use Rattle.opgen_graph.specs.Reach.{IsMember}
+use Rattle.opgen_graph.specs.Reach.{IsWide, IsWideMember}
 use Rattle.opgen_graph.specs.Recipe.{with_input, input_multiple, multiple_of, dropped, with_sum, without_lowest, Multiples, with_adder, with_adders, at_first}
 use Rattle.opgen_graph.specs.SetCost.{bit_length}
 use Rattle.opgen_graph.proofs.Kept.{keeps-later, words-back, input_there, input-kept, multiple-kept}
@@ -63,13 +63,13 @@ multiple_of-factor (m ∷ ms) f = go (nat_eq m.factor f) (λ t. eqb-true m.facto
 power_within : (i m k : ℕ) → 1 ≤ m → 2 ^ i * m < 2 ^ k → i < k
 power_within i m k some h = power_cancel i k (2 ^ i) (omega arith) (omega (arith, h, mul-le-mul_left {m = 1} {n = m} (2 ^ i) some))
 
-small_shift : (form : Form) (i u v f : ℕ) → IsTerm u → IsTerm v → IsTerm f → Makes form i u v f → i < 14
-small_shift A i u v f hu hv hf m = power_within i u 14 (omega (arith, hu.0)) (omega (arith, m, hf.1))
-small_shift B i u v f hu hv hf m = power_within i u 14 (omega (arith, hu.0)) (omega (arith, m, hf.1, hv.1))
-small_shift C i u v f hu hv hf m = power_within i u 14 (omega (arith, hu.0)) (omega (arith, m, hv.1))
-small_shift D r u v f hu hv hf m = power_within r f 14 (omega (arith, hf.0)) (omega (arith, m, hu.1, hv.1))
+small_shift : (form : Form) (i u v f : ℕ) → IsWide u → IsWide v → IsWide f → Makes form i u v f → i < 22
+small_shift A i u v f hu hv hf m = power_within i u 22 (omega (arith, hu.0)) (omega (arith, m, hf.1))
+small_shift B i u v f hu hv hf m = power_within i u 22 (omega (arith, hu.0)) (omega (arith, m, hf.1, hv.1))
+small_shift C i u v f hu hv hf m = power_within i u 22 (omega (arith, hu.0)) (omega (arith, m, hv.1))
+small_shift D r u v f hu hv hf m = power_within r f 22 (omega (arith, hf.0)) (omega (arith, m, hu.1, hv.1))
 small_shift E r u v f hu hv hf m =
-    power_within r f 14 (omega (arith, hf.0))
+    power_within r f 22 (omega (arith, hf.0))
     (⊎_elim (λ (e : u ≡ v + 2 ^ r * f). omega (arith, e, hu.1)) (λ (e : v ≡ u + 2 ^ r * f). omega (arith, e, hv.1)) m)
 
 dropped-within : (form : Form) (i : ℕ) → dropped form i ≤ i
@@ -79,13 +79,13 @@ dropped-within C i = omega arith
 dropped-within D r = omega arith
 dropped-within E r = omega arith
 
-pub small_product : (f : ℕ) → f < 2 ^ 13 → (f < 2 ^ bit_length f) × (bit_length f ≤ 13)
-small_product f h = (length_holds 32 f (omega (arith, h)), length_least 32 f (omega (arith, h)) 13 h)
+pub small_product : (f : ℕ) → f < 2 ^ 21 → (f < 2 ^ bit_length f) × (bit_length f ≤ 21)
+small_product f h = (length_holds 32 f (omega (arith, h)), length_least 32 f (omega (arith, h)) 21 h)
 
-term : (n : ℕ) → IsMember n → IsTerm n
+term : (n : ℕ) → IsWideMember n → IsWide n
 term n h = (h.0, h.2)
 
-pub narrow : (input : Format) (a : Adder) → 1 ≤ input.width → input.width ≤ MAX_INPUT → IsTerm a.u → IsTerm a.v → IsTerm a.value
+pub narrow : (input : Format) (a : Adder) → 1 ≤ input.width → input.width ≤ MAX_INPUT → IsWide a.u → IsWide a.v → IsWide a.value
     → Makes a.step.form a.step.shift a.u a.v a.value → IsNarrow input a
 narrow input a some most u v f makes =
     let shift = small_shift a.step.form a.step.shift a.u a.v a.value u v f makes in
@@ -103,14 +103,14 @@ pub record Stands (input : Format) (b : Multiples) : Type 0 where
   pub has_input : HasInput input b.net
   pub most : input.width ≤ MAX_INPUT
   pub each : All (IsMultiple input b.net) b.known
-  pub terms : All IsTerm (factors b.known)
+  pub terms : All IsWide (factors b.known)
 
 -- an adder of two of them
 pub record CanStand (b : Multiples) (a : Adder) : Type 0 where
   pub u : Contains (factors b.known) a.u
   pub v : Contains (factors b.known) a.v
   pub makes : Makes a.step.form a.step.shift a.u a.v a.value
-  pub member : IsMember a.value
+  pub member : IsWideMember a.value
 
 module _ (input : Format) (b : Multiples) (a : Adder) (s : Stands input b) (can : CanStand b a) where
   abbrev u : Multiple
@@ -133,8 +133,8 @@ module _ (input : Format) (b : Multiples) (a : Adder) (s : Stands input b) (can 
 
   pub is_narrow : IsNarrow input a
   is_narrow =
-      narrow input a s.has_input.some s.most (All-contains IsTerm (factors b.known) a.u s.terms can.u)
-      (All-contains IsTerm (factors b.known) a.v s.terms can.v) (term a.value can.member) can.makes
+      narrow input a s.has_input.some s.most (All-contains IsWide (factors b.known) a.u s.terms can.u)
+      (All-contains IsWide (factors b.known) a.v s.terms can.v) (term a.value can.member) can.makes
 
   pub of_u : IsMultiple input b.net u
   of_u = multiple_of-all (IsMultiple input b.net) b.known a.u s.each can.u
@@ -199,8 +199,8 @@ module _ (input : Format) (b : Multiples) (a : Adder) (s : Stands input b) (can 
         has_input = input-kept input b.net next.net keeps s.has_input;
         most = s.most;
         each = All-push (IsMultiple input next.net) b.known made kept one;
-        terms = subst (All IsTerm) (sym (map-append (λ (m : Multiple). m.factor) b.known (made ∷ [])))
-            (All-push IsTerm (factors b.known) a.value s.terms (term a.value can.member));
+        terms = subst (All IsWide) (sym (map-append (λ (m : Multiple). m.factor) b.known (made ∷ [])))
+            (All-push IsWide (factors b.known) a.value s.terms (term a.value can.member));
       }
 
 -- all adders
@@ -212,14 +212,14 @@ next-factors input b a = map-append (λ (m : Multiple). m.factor) b.known _
 pub record AreLeft (input : Format) (b : Multiples) (adders : List Adder) : Type 0 where
   pub stands : Stands input b
   pub wired : IsWired (factors b.known) adders
-  pub members : All IsMember (values adders)
+  pub members : All IsWideMember (values adders)
 
 pub can_stand : (input : Format) (b : Multiples) (a : Adder) (more : List Adder) → AreLeft input b (a ∷ more) → CanStand b a
 can_stand input b a more h = record {
   u = h.wired.0;
   v = h.wired.1;
   makes = h.wired.3;
-  member = All-head IsMember a.value (values more) h.members;
+  member = All-head IsWideMember a.value (values more) h.members;
 }
 
 -- the next adder of a list
@@ -233,7 +233,7 @@ pub left-next : (input : Format) (b : Multiples) (a : Adder) (more : List Adder)
 left-next input b a more h = record {
   stands = next-stands input b a h.stands (can_stand input b a more h);
   wired = subst (λ vs. IsWired vs more) (sym (next-factors input b a)) h.wired.4;
-  members = All-tail IsMember a.value (values more) h.members;
+  members = All-tail IsWideMember a.value (values more) h.members;
 }
 
 pub all-stand : (input : Format) (b : Multiples) (adders : List Adder) → AreLeft input b adders
@@ -258,7 +258,7 @@ first-left input adders valid are =
         has_input = record { some = are.some; width = refl };
         most = are.most;
         each = All-cons (IsMultiple input (with_input input)) (input_multiple input) [] one (All-nil (IsMultiple input (with_input input)));
-        terms = All-cons IsTerm 1 [] (omega arith, omega arith) (All-nil IsTerm);
+        terms = All-cons IsWide 1 [] (omega arith, omega arith) (All-nil IsWide);
       };
       wired = are.wired;
       members = are.members;

@@ -43,7 +43,7 @@ has_target t x h small =
     let odd = part_odd n (some_number t h.some) (omega (arith, small)) in
     (omega (arith, odd, h.part), h.above, omega (arith, part_most n, small, h.part))
 
-one_constant : (t u : ℤ) → Contains (t ∷ []) u → t ≡ u
+pub one_constant : (t u : ℤ) → Contains (t ∷ []) u → t ≡ u
 one_constant t u (zero, lt, e) = e
 one_constant t u (suc k, lt, e) = absurd (omega (arith, lt))
 

@@ -1,22 +1,30 @@
 -- The nodes of odd parts in the net of several constants, without the outputs.
-use Rattle.std.specs.Prelude.{ℕ, zero, suc, List, [], ◌∷◌, ◌++◌, ℤ, pos, if◌then◌else◌}
-use Rattle.std.specs.List.{list_any}
+use Rattle.std.specs.Prelude.{◌≡◌, ◌≢◌, ◌==◌, ℕ, List, [], ◌∷◌, ◌++◌, ℤ, pos, unsigned_abs, nat_eq, nat_lt, Contains, if◌then◌else◌}
 use Rattle.opgen_num.specs.declared.format.Format.{Format}
 use Rattle.opgen_net.specs.declared.net.Net.{Net}
 use Rattle.opgen_net.specs.Placed.{Placed}
-use Rattle.opgen_operator.specs.kinds.Several.{constant_format}
-use Rattle.opgen_ports.specs.OddParts.{has_part}
+use Rattle.opgen_kinds.specs.Several.{constant_format}
+use Rattle.opgen_ports.specs.OddParts.{odd_part}
 use Rattle.opgen_graph.specs.declared.multiples.Multiple.{Multiple}
 use Rattle.opgen_graph.specs.Recipe.{Multiples, with_magnitude}
 
--- the odd parts of numbers, those below a count, increasing
-unfoldable pub parts_below : List ℤ → (count : ℕ) → List ℕ
-parts_below numbers zero = []
-parts_below numbers (suc k) = if list_any (has_part k) numbers then parts_below numbers k ++ k ∷ [] else parts_below numbers k
+-- x is the odd part of a number other than 0, its sign aside; that of a power of two is 1
+pub record HasPart (x : ℕ) (t : ℤ) : Type 0 where
+  pub some : t ≢ pos 0
+  pub part : odd_part (unsigned_abs t) ≡ x
 
--- all odd parts of numbers from -2047 to 2047, each once, increasing; that of a power of two is 1
+abbrev pub IsPartOf : (numbers : List ℤ) (x : ℕ) → Type 0
+IsPartOf numbers x = (t : ℤ) × Contains numbers t × HasPart x t
+
+-- a number put into its place of an increasing list, unless it stands there
+abbrev pub inserted : (x : ℕ) → List ℕ → List ℕ
+inserted x [] = x ∷ []
+inserted x (y ∷ ys) = if nat_lt x y then x ∷ y ∷ ys else (if nat_eq x y then y ∷ ys else y ∷ inserted x ys)
+
+-- the odd parts of numbers, each once, increasing
 unfoldable pub parts_of : List ℤ → List ℕ
-parts_of numbers = parts_below numbers 2048
+parts_of [] = []
+parts_of (t ∷ ts) = if unsigned_abs t == 0 then parts_of ts else inserted (odd_part (unsigned_abs t)) (parts_of ts)
 
 abbrev pub part_width : Format → (part : ℕ) → ℕ
 part_width input part = (constant_format input (pos part)).width

@@ -12,7 +12,7 @@ use Rattle.opgen_graph.specs.declared.multiples.Multiple.{Multiple}
 use Rattle.opgen_graph.specs.declared.ranks.Adder.{Adder}
 use Rattle.opgen_graph.specs.GraphLaws.{IsWired}
 use Rattle.opgen_graph.specs.Graphs.{values}
-use Rattle.opgen_graph.specs.Reach.{IsMember}
+use Rattle.opgen_graph.specs.Reach.{IsWideMember}
 use Rattle.opgen_graph.specs.Recipe.{dropped}
 use Rattle.opgen_graph.specs.SetCost.{bit_length}
 use Rattle.opgen_ports.specs.OddParts.{odd_part}
@@ -52,13 +52,13 @@ pub record IsNarrow (input : Format) (a : Adder) : Type 0 where
 pub record AreAdders (input : Format) (adders : List Adder) : Type 0 where
   pub some : 1 ≤ input.width
   pub most : input.width ≤ MAX_INPUT
-  pub members : All IsMember (values adders)
+  pub members : All IsWideMember (values adders)
   pub wired : IsWired (1 ∷ []) adders
 
--- a number of 1 to 2047 whose odd part a multiple has
+-- a number of 1 to 1048575 whose odd part a multiple has
 pub record IsPart (known : List Multiple) (part : ℕ) : Type 0 where
   pub some : 0 < part
-  pub small : part ≤ 2047
+  pub small : part ≤ 1048575
   pub made : Contains (factors known) (odd_part part)
 
 -- the multiple by the odd part of a constant, unless that is 0

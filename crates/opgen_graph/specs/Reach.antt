@@ -20,7 +20,14 @@ Reachable set = (order : List ℕ) × IsPermutation set order × IsBuiltFrom (1 
 abbrev pub IsMember : ℕ → Type 0
 IsMember n = (n % 2 ≡ 1) × (1 < n) × (n < 2 ^ 13)
 
--- an increasing list of such numbers
+-- an odd number of at most 21 bits, and one above 1: those of a graph by itself, which no search has to reach
+abbrev pub IsWide : ℕ → Type 0
+IsWide n = (n % 2 ≡ 1) × (n < 2 ^ 21)
+
+abbrev pub IsWideMember : ℕ → Type 0
+IsWideMember n = (n % 2 ≡ 1) × (1 < n) × (n < 2 ^ 21)
+
+-- an increasing list of members of at most 13 bits
 pub record IsAdderSet (set : List ℕ) : Type 0 where
   pub increasing : IsStrictlyIncreasing set
   pub members : All IsMember set

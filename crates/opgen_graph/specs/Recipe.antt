@@ -14,8 +14,8 @@ use Rattle.opgen_net.specs.declared.word_bits.WordBit.{WordBit}
 use Rattle.opgen_net.specs.declared.word_bits.WordBit.TheVariants.{Zero, Of}
 use Rattle.opgen_net.specs.Placed.{Placed, whole, with_bits, with_last, difference_of}
 use Rattle.opgen_net.specs.WordRule.{bits_from}
-use Rattle.opgen_operator.specs.declared.kinds.several.Several.{Several}
-use Rattle.opgen_operator.specs.kinds.Several.{constant_format}
+use Rattle.opgen_kinds.specs.declared.several.Several.{Several}
+use Rattle.opgen_kinds.specs.Several.{constant_format}
 use Rattle.opgen_ports.specs.OddParts.{power_of, odd_part}
 use Rattle.opgen_graph.specs.declared.forms.Form.{Form}
 use Rattle.opgen_graph.specs.declared.forms.Form.TheVariants.{A, B, C, D, E}

@@ -2,7 +2,7 @@
 ghost use Rattle.std.specs.Prelude.{◌≡◌, ◌<◌, ℤ, pos, length, slice_index, get_or, unsigned_abs, All, Contains, IfOk, OnOk};
 ghost use Rattle.opgen_design.specs.Width.{IsWidth};
 ghost use Rattle.opgen_net.specs.Valid.{IsValid, widths};
-ghost use Rattle.opgen_operator.specs.kinds.Several.{IsAcceptedSeveral};
+ghost use Rattle.opgen_kinds.specs.Several.{IsAcceptedSeveral};
 ghost use Rattle.opgen_ports.specs.OddParts.{odd_part};
 ghost use Rattle.opgen_ports.specs.Ranges.{IsWithin};
 ghost use Rattle.opgen_graph.specs.Placing.{IsNode, HasOddPart, factors};
@@ -63,7 +63,7 @@ pub fn constant_node(
     requires net { IsValid net.old }
     requires width { IsWidth width }
     requires nodes { All (IsNode net.old) known.now }
-    requires small { IsWithin 2047 constant }
+    requires small { IsWithin 1048575 constant }
     requires odd { HasOddPart known.now constant }
     ensures ok { OnOk result (net.new ≡ (with_constant signed width (record { net = net.old; known = known.now }) constant).net) }
     ensures place { IfOk result (λ n. n ≡ (with_constant signed width (record { net = net.old; known = known.now }) constant).place) }

@@ -3,9 +3,10 @@
 //!
 //! Proved: The first form and the least shift by which two numbers make a third. Whether a set can be reached from 1, and
 //! then its graph by ranks, of which there is one. The cost of a set. The set of the signed digits' partial sums, which can
-//! be reached. The net of several constants on such a graph is that of the recipe, fits the operator, and a design may
-//! have its port names. The odd parts of constants. The nodes of a graph's numbers and of odd parts have, at every whole
-//! time, the input times their factor.
+//! be reached. On every graph whose adders each make an odd number below 2^21 of two before it, and which has the odd parts
+//! of the constants, the net of several constants is that of the recipe, fits the operator, and a design may have its port
+//! names. The odd parts of constants. The nodes of a graph's numbers and of odd parts have, at every whole time, the input
+//! times their factor.
 //!
 //! By: `combine`, `reach`, `cost`, `csd_set`, `makes_with`, `makes_among`, `graph_net`, `targets`, `parts`, `place_adders`,
 //! `place_parts`; the laws `ranks_are_graphs`, `one_graph`, `digit_sets_reach`, `reached_sets_serve`, `parts_are_odd` of

@@ -3,7 +3,7 @@ ghost use Rattle.std.specs.Prelude.{◌≡◌, IfOk};
 ghost use Rattle.opgen_net.specs.Valid.{IsValid};
 ghost use Rattle.opgen_operator.specs.declared.operator.Operator.TheVariants.{Mcm};
 ghost use Rattle.opgen_operator.specs.Fits.{FitsInEachMode};
-ghost use Rattle.opgen_operator.specs.kinds.Several.{IsAcceptedSeveral};
+ghost use Rattle.opgen_kinds.specs.Several.{IsAcceptedSeveral};
 ghost use Rattle.opgen_ports.specs.Ranges.{IsInput};
 ghost use Rattle.opgen_graph.specs.Recipe.{with_input, net_of_graph};
 ghost use Rattle.opgen_graph.specs.Served.{Serves};
@@ -13,7 +13,7 @@ use crate::constants::place_outputs;
 use crate::ranks::Graph;
 use opgen_net::Net;
 use opgen_num::{Format, Memory};
-use opgen_operator::{Several, outputs_hold};
+use opgen_operator::Several;
 use std::alloc::Global;
 
 /// The net of an input `x` alone.
@@ -38,7 +38,6 @@ pub fn graph_net(alloc: Global, graph: &Graph, several: &Several) -> Result<Net,
     ensures net { IfOk result (λ net. net ≡ net_of_graph graph.now several.now) }
     ensures fits { IfOk result (FitsInEachMode (Mcm several.now)) }
 {
-    outputs_hold();
     let mut net = input_net(alloc, several.input)?;
     let adders = graph.adders.as_slice();
     let known = place_adders(alloc, &mut net, several.input, adders)?;

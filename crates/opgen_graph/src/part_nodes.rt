@@ -1,11 +1,9 @@
 //! The odd parts of some numbers, and a node of the net for each of them.
-ghost use Rattle.std.specs.Prelude.{◌≡◌, ◌<◌, ◌≤◌, [], All, IfOk};
-ghost use Rattle.std.specs.List.{list_any};
+ghost use Rattle.std.specs.Prelude.{◌≡◌, ◌↔◌, ℕ, ◌≤◌, pos, [], All, Contains, IfOk, IfSome, IfNone};
 ghost use Rattle.opgen_design.specs.Width.{IsWidth};
 ghost use Rattle.opgen_net.specs.Valid.{IsValid};
-ghost use Rattle.opgen_ports.specs.OddParts.{has_part};
 ghost use Rattle.opgen_ports.specs.Ranges.{IsInput, IsWithin};
-ghost use Rattle.opgen_graph.specs.Parts.{parts_below as parts_below_of, parts_of, part_width, part_node, with_parts};
+ghost use Rattle.opgen_graph.specs.Parts.{HasPart, IsPartOf, parts_of, part_width, part_node, with_parts};
 ghost use Rattle.opgen_graph.specs.Placing.{AreMultiples, IsNode, IsPart, factors};
 
 use crate::constants::magnitude;
@@ -13,38 +11,31 @@ use crate::multiples::Multiple;
 use opgen_list::Items;
 use opgen_net::Net;
 use opgen_num::{Format, Memory};
-use opgen_operator::{Taps, outputs_hold};
+use opgen_ports::ports::covering;
+use opgen_ports::reach::reach_over;
 use std::alloc::{AllocError, Global};
 
-// Whether a number is not 0 and has this odd part, its sign aside.
-fn has_odd_part(part: u32, number: i64) -> bool
-    requires { IsWithin 2047 number }
-    ensures { result ≡ has_part part number }
+// The odd part of a number, its sign aside, unless the number is 0.
+fn part(number: i64) -> Option<u32>
+    requires { IsWithin 1048575 number }
+    ensures some { IfSome result (λ x. HasPart x number) }
+    ensures none { IfNone result (number ≡ pos 0) }
 {
-    let number = number.unsigned_abs() as u32;
-    number != 0 && number >> number.trailing_zeros() == part
-}
-
-fn any_has_odd_part(part: u32, numbers: &[i64]) -> bool
-    requires { All (IsWithin 2047) numbers.now }
-    ensures { result ≡ list_any (has_part part) numbers.now }
-{
-    'numbers: for number in numbers {
-        if has_odd_part(part, *number) {
-            return true;
-        }
+    let size = number.unsigned_abs() as u32;
+    if size == 0 {
+        return None;
     }
-    false
+    Some(size >> size.trailing_zeros())
 }
 
-// The odd parts of numbers that are below a count.
-fn parts_below(alloc: Global, numbers: &[i64], count: u32) -> Result<Vec<u32>, AllocError>
-    requires { All (IsWithin 2047) numbers.now }
-    ensures { IfOk result (λ found. found.items ≡ parts_below_of numbers.now count) }
+// The odd parts of the numbers that are not 0, in their order.
+fn parts_in_order(alloc: Global, numbers: &[i64]) -> Result<Vec<u32>, AllocError>
+    requires { All (IsWithin 1048575) numbers.now }
+    ensures { IfOk result (λ found. (x : ℕ) → Contains found.items x ↔ IsPartOf numbers.now x) }
 {
     let mut found = Vec::new(alloc);
-    'parts: for part in 0..count {
-        if any_has_odd_part(part, numbers) {
+    'numbers: for number in numbers {
+        if let Some(part) = part(*number) {
             found.push(part)?;
         }
     }
@@ -53,28 +44,23 @@ fn parts_below(alloc: Global, numbers: &[i64], count: u32) -> Result<Vec<u32>, A
 
 /// The odd parts of numbers, their signs aside, increasing, each once. That of a power of two is 1.
 pub fn parts(alloc: Global, numbers: &[i64]) -> Result<Vec<u32>, Memory>
-    requires { All (IsWithin 2047) numbers.now }
+    requires { All (IsWithin 1048575) numbers.now }
     ensures { IfOk result (λ found. found.items ≡ parts_of numbers.now) }
 {
-    let found = parts_below(alloc, numbers, 2048)?;
+    let mut found = parts_in_order(alloc, numbers)?;
+    found.sort_unstable();
+    found.dedup();
     Ok(found)
 }
 
-// The width of the output of one constant.
-fn output_width(alloc: Global, input: Format, constant: u32) -> Result<u32, AllocError>
+// The width that the input times a number needs.
+fn width_of_part(input: Format, part: u32) -> u32
     requires input { IsInput input }
-    requires small { constant ≤ 2047 }
-    ensures value { IfOk result (λ width. width ≡ part_width input constant) }
-    ensures wide { IfOk result IsWidth }
+    requires small { part ≤ 1048575 }
+    ensures value { result ≡ part_width input part }
+    ensures wide { IsWidth result }
 {
-    let mut taps = Items::new(alloc);
-    taps.push(i64::from(constant))?;
-    let one = Taps {
-        input,
-        taps,
-        extra: 0,
-    };
-    Ok(one.output().width)
+    covering(reach_over(input, &[i64::from(part)]), input.lsb).width
 }
 
 // Makes the node of an odd part.
@@ -94,7 +80,7 @@ fn place_part(
     ensures wide { IfOk result (λ m. IsWidth (part_width input part)) }
     ensures valid { IsValid net.new }
 {
-    let width = output_width(alloc, input, part)?;
+    let width = width_of_part(input, part);
     let node = magnitude(alloc, net, input.signed, width, known, part)?;
     Ok(Multiple {
         factor: part,
@@ -121,7 +107,6 @@ pub fn place_parts(
     ensures factors { IfOk result (λ made. factors made ≡ parts.now) }
     ensures valid { IfOk result (λ made. IsValid net.new) }
 {
-    outputs_hold();
     let mut made = Items::new(alloc);
     'parts: for part in parts {
         let multiple = place_part(alloc, net, input, known, *part)?;

@@ -1,5 +1,5 @@
 -- In the run of a circuit over rows each row that `check` judges is good, and that is its answer.
-use Rattle.std.proofs.Common.{◌≡◌, inr, ℕ, zero, suc, ◌+◌, ◌*◌, ◌-◌, ◌<◌, ◌≤◌, Bool, true, false, List, [], ◌∷◌, length, map, drop, Some, Ok, refl, sym, ap, ◌∙◌, subst, arith, length-append}
+use Rattle.std.proofs.Common.{◌≡◌, inr, ℕ, zero, suc, ◌+◌, ◌*◌, ◌-◌, ◌<◌, ◌≤◌, Bool, true, false, List, [], ◌∷◌, length, map, drop, Option, Some, None, Ok, refl, sym, ap, ◌∙◌, subst, arith, length-append}
 use Rattle.std.specs.Prelude.{codes, slice_get}
 use Rattle.std.specs.List.{AllZip}
 use Rattle.std.specs.Str.Lines.{lines}
@@ -20,11 +20,12 @@ use Rattle.opgen_operator.specs.declared.operator.Operator.{Operator}
 use Rattle.opgen_operator.specs.declared.operator.Operator.TheVariants.{Scale, Fir, Multiply, Divide, Root, Mcm, Constdiv, Poly, Tfir}
 use Rattle.opgen_operator.specs.declared.spec.Spec.{Spec}
 use Rattle.opgen_operator.specs.DesignPorts.{operator_ports, port_of}
-use Rattle.opgen_operator.specs.kinds.Pair.{quotient_format, remainder_format}
-use Rattle.opgen_operator.specs.kinds.Several.{constant_format, numbered}
-use Rattle.opgen_operator.specs.kinds.Single.{rest_format, root_format}
-use Rattle.opgen_operator.specs.kinds.SmallDiv.{small_quotient_format, small_rest_format}
-use Rattle.opgen_operator.specs.Operator.{IsGood, IsInRange, IsOperator, inputs_of, operator_inputs, operator_outputs, outputs_of}
+use Rattle.opgen_kinds.specs.Pair.{quotient_format, remainder_format}
+use Rattle.opgen_kinds.specs.Several.{constant_format, numbered}
+use Rattle.opgen_kinds.specs.Single.{rest_format, root_format}
+use Rattle.opgen_kinds.specs.SmallDiv.{small_quotient_format, small_rest_format}
+use Rattle.opgen_operator.specs.Operator.{IsOperator, operator_inputs, operator_outputs}
+use Rattle.opgen_operator.specs.Outputs.{IsGood, IsInRange, chosen, chosen_ports, inputs_of, outputs_of}
 use Rattle.opgen_operator.specs.PortWords.{output_words, recent_words}
 use Rattle.opgen_operator.specs.Valid.{IsValidSpec}
 use Rattle.opgen_operator.proofs.Operators.{some_input}
@@ -124,6 +125,11 @@ few_ports (Constdiv c) is =
 few_ports (Poly p) is = omega arith
 few_ports (Tfir f) is = omega arith
 
+-- a chosen width leaves the number of ports
+chosen_length : (width : Option ℕ) (sign : Option Bool) (ports : List PortFormat) → length (chosen_ports width sign ports) ≡ length ports
+chosen_length None sign ports = refl
+chosen_length (Some width) sign ports = length-map ports (λ (p : PortFormat). port p.name (chosen width sign p.format))
+
 module _ (spec : Spec) (valid : IsValidSpec spec) (table : Delays) (planned : Planned) (adders : List ℕ)
     (circuit : IsCircuit spec table false planned adders) (serves : Serves spec planned.latency false planned.design) where
   abbrev d : Design
@@ -142,6 +148,7 @@ module _ (spec : Spec) (valid : IsValidSpec spec) (table : Delays) (planned : Pl
         ports = omega (
           arith,
           few,
+          chosen_length spec.out_width spec.out_signed (operator_outputs spec.op),
           ap length serves.ports,
           length-append is os,
           length-map (inputs_of spec) (port_of In),

@@ -7,8 +7,9 @@ use Rattle.opgen_check.specs.Verdict.{row_of, rows_up_to}
 use Rattle.opgen_design.specs.declared.design.Design.{Design}
 use Rattle.opgen_design.specs.Run.{at_ports, is_in, is_out, input_widths, output_widths}
 use Rattle.opgen_operator.specs.declared.spec.Spec.{Spec}
-use Rattle.opgen_operator.specs.kinds.Sum.{sum_format}
-use Rattle.opgen_operator.specs.Operator.{divisor, inputs_of}
+use Rattle.opgen_kinds.specs.Sum.{sum_format}
+use Rattle.opgen_operator.specs.Operator.{divisor}
+use Rattle.opgen_operator.specs.Outputs.{inputs_of}
 use Rattle.opgen_ports.specs.Ports.{port}
 use Rattle.opgen_target.specs.Delays.{Delays}
 use Rattle.opgen_vec.specs.GoodRow.{IsGoodRow}

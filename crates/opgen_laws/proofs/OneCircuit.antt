@@ -7,6 +7,7 @@ use Rattle.opgen_operator.specs.declared.operator.Operator.TheVariants.{Scale, F
 use Rattle.opgen_operator.specs.declared.spec.Spec.{Spec}
 use Rattle.opgen_pipe.specs.declared.planning.Planned.{Planned}
 use Rattle.opgen_pipe.specs.Planned.{IsPlanOf}
+use Rattle.opgen_saturate.specs.Chosen.{cut_net}
 use Rattle.opgen_mult.specs.OneNet.{HasOneNet as HasOneProduct}
 use Rattle.opgen_search.specs.Recipe.{OneAdderSet, OneLeastGraph, OneNet}
 use Rattle.opgen_target.specs.Delays.{Delays}
@@ -49,7 +50,7 @@ module _ (one : OneOfEach) where
   one_adders spec a b h k = one_adders_of spec.op a b h k
 
   pub one_net : HasOneNet
-  one_net spec a b h k = one_of_operator spec.op a b h k
+  one_net spec a b h k = h.cut ∙ ap (cut_net spec) (one_of_operator spec.op h.own k.own h.by_kind k.by_kind) ∙ sym k.cut
 
   pub one_fitting : (spec : Spec) (a b : Net) → IsFittingNet spec a → IsFittingNet spec b → a ≡ b
   one_fitting spec a b h k = one_net spec a b h.of_kind k.of_kind

@@ -29,11 +29,11 @@ use Rattle.opgen_net.proofs.Appending.{valid-output}
 use Rattle.opgen_net.proofs.Grown.{grown-then}
 use Rattle.opgen_net.proofs.Later.{bits-later}
 use Rattle.opgen_net.proofs.WordLaws.{word-found_width, word-has_bits}
-use Rattle.opgen_operator.specs.declared.kinds.product.Product.{Product}
+use Rattle.opgen_kinds.specs.declared.product.Product.{Product}
 use Rattle.opgen_operator.specs.declared.operator.Operator.TheVariants.{Multiply}
 use Rattle.opgen_operator.specs.Fits.{FitsInEachMode}
 use Rattle.opgen_operator.specs.Held.{OutputsHold}
-use Rattle.opgen_operator.specs.kinds.Product.{IsAcceptedProduct, ProductsHaveWidth, product_format}
+use Rattle.opgen_kinds.specs.Product.{IsAcceptedProduct, ProductsHaveWidth, product_format}
 use Rattle.opgen_compress.proofs.Compressing.{IsCompressed, compressed-is}
 use Rattle.opgen_compress.proofs.Heaps.{IsHeap, constant-heap}
 

@@ -22,8 +22,9 @@ use Rattle.opgen_operator.specs.declared.operator.Operator.TheVariants.{Scale, F
 use Rattle.opgen_operator.specs.declared.spec.Spec.{Spec}
 use Rattle.opgen_operator.specs.Fits.{FitsInEachMode}
 use Rattle.opgen_operator.specs.Held.{OutputsHold}
-use Rattle.opgen_operator.specs.kinds.Product.{ProductsHaveWidth}
-use Rattle.opgen_operator.specs.Operator.{divisor, inputs_of}
+use Rattle.opgen_kinds.specs.Product.{ProductsHaveWidth}
+use Rattle.opgen_operator.specs.Operator.{divisor, IsInVersion}
+use Rattle.opgen_operator.specs.Outputs.{inputs_of}
 use Rattle.opgen_operator.specs.Valid.{IsValidSpec}
 use Rattle.opgen_operator.proofs.Accepted.{accepted_ranges}
 use Rattle.opgen_operator.proofs.Operators.{input_bits}
@@ -62,6 +63,7 @@ use Rattle.opgen_runs.specs.Rows.{IsRunOf, output_cells, rows_words}
 use Rattle.opgen_top.specs.Specified.{IsAnswerToSpec, IsGenerated, IsVectors, OnLines, OnReading, OnTable, OnTarget}
 use Rattle.opgen_top.specs.Targets.{Device, first_of_name, takes_lines, tuned}
 use Rattle.opgen_top.specs.Workload.{IsAnswerToWorkload, IsWorked, cycles, workload_cells}
+use Rattle.opgen_saturate.specs.Chosen.{cut_net}
 use Rattle.opgen_top.proofs.Building.{accepted_kind, accepted_scale, kind_fitting}
 use Rattle.opgen_top.proofs.ServedPorts.{served_widths}
 use Rattle.opgen_runs.proofs.Rows.{rows_words-widths}
@@ -79,7 +81,7 @@ module _ (laws : NetLaws) (spec : Spec) (valid : IsValidSpec spec)
   with_net : (op : Operator) (net : Net) (adders : List ℕ) → spec.op ≡ op → IsNetOfOperator op net → FitsInEachMode op net
       → AreAddersOfOperator op adders → ⊥
   with_net op net adders e of fits are =
-      found net adders (kind_fitting spec valid op net e of fits) (subst (λ o. AreAddersOfOperator o adders) (sym e) are)
+      found (cut_net spec net) adders (kind_fitting spec valid op net e of fits) (subst (λ o. AreAddersOfOperator o adders) (sym e) are)
 
   of_kind : (op : Operator) → spec.op ≡ op → ⊥
   of_kind (Scale s) e = with_net (Scale s) (net_of_sum s) [] e refl (sum-fits s (accepted_scale spec valid s e) laws.hold).0 refl
@@ -91,7 +93,7 @@ module _ (laws : NetLaws) (spec : Spec) (valid : IsValidSpec spec)
       with_net (Divide p) (net_of_pair p) [] e refl (quotients.fits_modes p (accepted_kind spec valid (Divide p) e)) refl
   of_kind (Root r) e = with_net (Root r) (net_of_single r) [] e refl (roots.fits_modes r (accepted_kind spec valid (Root r) e)) refl
   of_kind (Mcm m) e =
-      several_net laws.hold m (accepted_kind spec valid (Mcm m) e)
+      several_net m (accepted_kind spec valid (Mcm m) e) (subst (IsInVersion spec.version) e valid.has).1
       (λ made. with_net (Mcm m) made.net made.is.set e made.is made.fits made.is.least.adders)
   of_kind (Constdiv c) e =
       with_net (Constdiv c) (net_of_small c.exact c.input.width c.divisor) [] e refl
@@ -100,10 +102,11 @@ module _ (laws : NetLaws) (spec : Spec) (valid : IsValidSpec spec)
       with_net (Poly p) (net_of_poly p) [] e refl (polynomials.fits_modes p (accepted_kind spec valid (Poly p) e)) refl
   of_kind (Tfir f) e =
       let accepted = accepted_kind spec valid (Tfir f) e in
-      some_least_graph f.taps f.input.width f.extra (accepted_ranges (Tfir f) accepted).taps (
+      let asked = (subst (IsInVersion spec.version) e valid.has).3 in
+      some_least_graph f.taps f.input.width f.extra ((accepted_ranges (Tfir f) accepted).searched asked).taps (
       λ least. with_net (Tfir f) (net_of_taps f least.graph) least.set e
       (record { set = least.set; graph = least.graph; least = least.is; by = refl })
-      (filters.fits_modes f accepted least.graph least.serves laws.hold) least.is.adders)
+      (filters.net-fits f accepted least.graph least.serves) least.is.adders)
 
   some_fitting : ⊥
   some_fitting = of_kind spec.op refl

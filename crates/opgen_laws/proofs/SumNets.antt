@@ -39,11 +39,11 @@ use Rattle.opgen_net.proofs.Appending.{valid-append, valid-output}
 use Rattle.opgen_net.proofs.FlowLaws.{length-widths}
 use Rattle.opgen_net.proofs.Grown.{grown-then}
 use Rattle.opgen_net.proofs.Later.{words-grown}
-use Rattle.opgen_operator.specs.declared.kinds.sum.Sum.{Sum}
+use Rattle.opgen_kinds.specs.declared.sum.Sum.{Sum}
 use Rattle.opgen_operator.specs.declared.operator.Operator.TheVariants.{Scale, Fir}
 use Rattle.opgen_operator.specs.Fits.{FitsInEachMode}
 use Rattle.opgen_operator.specs.Held.{OutputsHold}
-use Rattle.opgen_operator.specs.kinds.Sum.{IsAcceptedSum, guard_bits, sum_places, sum_format, IsSum}
+use Rattle.opgen_kinds.specs.Sum.{IsAcceptedSum, guard_bits, sum_places, sum_format, IsSum}
 use Rattle.opgen_operator.proofs.Accepted.{accepted_ranges, accepted_width}
 use Rattle.opgen_ports.proofs.InputPorts.{input_bit}
 use Rattle.opgen_ports.proofs.Widths.{some_width}

@@ -1,46 +1,25 @@
 -- The outputs of several constants have the products.
-use Rattle.std.proofs.Common.{◌≡◌, ℕ, ◌+◌, List, [], ◌∷◌, ◌++◌, map, codes, ap, ◌∙◌, arith}
-use Rattle.std.specs.Fmt.{decimal}
-use Rattle.std.specs.Prelude.{ℤ, ◌*ℤ◌, All}
-use Rattle.std.proofs.lemmas.List.Elements.{All-nil, All-cons, All-head, All-tail}
-use Rattle.opgen_num.specs.declared.TheConstants.{MAX_WIDTH}
-use Rattle.opgen_num.specs.declared.format.Format.{Format}
+use Rattle.std.proofs.Common.{◌≡◌, ◌++◌, map, ap, ◌∙◌, arith}
+use Rattle.std.specs.Prelude.{◌*ℤ◌}
 use Rattle.opgen_num.specs.Values.{val}
 use Rattle.opgen_net.specs.declared.net.Net.{Net}
 use Rattle.opgen_net.specs.Flow.{slice_flow}
-use Rattle.opgen_operator.specs.declared.kinds.several.Several.{Several}
+use Rattle.opgen_kinds.specs.declared.several.Several.{Several}
 use Rattle.opgen_operator.specs.declared.operator.Operator.TheVariants.{Mcm}
-use Rattle.opgen_ports.specs.declared.ports.PortFormat.{PortFormat}
-use Rattle.opgen_operator.specs.Bounded.{HasWidth}
-use Rattle.opgen_operator.specs.Held.{OutputsHold}
-use Rattle.opgen_operator.specs.kinds.Several.{IsAcceptedSeveral, constant_format, numbered, multiple_ports, IsSeveral}
+use Rattle.opgen_kinds.specs.Several.{IsAcceptedSeveral, multiple_ports, IsSeveral}
 use Rattle.opgen_operator.specs.PortWords.{output_words}
-use Rattle.opgen_ports.specs.Ranges.{IsInput, IsWithin}
-use Rattle.opgen_ports.specs.Reaches.{reach_over}
 use Rattle.opgen_operator.proofs.Accepted.{accepted_ranges}
-use Rattle.opgen_operator.proofs.of_kind.Several.{multiple_width}
-use Rattle.opgen_ports.proofs.Widths.{some_width}
 use Rattle.opgen_graph.specs.declared.ranks.Graph.{Graph}
 use Rattle.opgen_graph.specs.Recipe.{with_input, Multiples, multiples_of, net_of_graph}
 use Rattle.opgen_graph.specs.Served.{Serves}
-use Rattle.opgen_graph.proofs.Fits.{ready, odd_parts}
+use Rattle.opgen_graph.proofs.Fits.{ports-wide, ready, odd_parts}
 use Rattle.opgen_graph.proofs.Kept.{Keeps, keeps-later, keeps-then}
 use Rattle.opgen_graph.proofs.Outputs.{HasOutputs, all-outputs, right-at}
 use Rattle.opgen_graph.proofs.ServedNets.{stands}
 use Rattle.opgen_graph.proofs.Standing.{Stands}
 use Rattle.opgen_mcm.specs.Products.{HasProducts}
 
--- each output has the width of a signal
-ports-wide : (input : Format) → IsInput input → (k : ℕ) (ts : List ℤ) → All (IsWithin 2047) ts
-    → All (HasWidth MAX_WIDTH) (numbered k (map (constant_format input) ts))
-ports-wide input is k [] small = All-nil (HasWidth MAX_WIDTH)
-ports-wide input is k (t ∷ ts) small =
-    let port : PortFormat = record { name = codes "y" ++ decimal k; format = constant_format input t } in
-    All-cons (HasWidth MAX_WIDTH) port (numbered (k + 1) (map (constant_format input) ts))
-    (some_width (reach_over input (t ∷ [])), omega (arith, multiple_width input t is (All-head (IsWithin 2047) t ts small)))
-    (ports-wide input is (k + 1) ts (All-tail (IsWithin 2047) t ts small))
-
-module _ (m : Several) (is : IsAcceptedSeveral m) (graph : Graph) (serves : Serves m.constants graph) (hold : OutputsHold) where
+module _ (m : Several) (is : IsAcceptedSeveral m) (graph : Graph) (serves : Serves m.constants graph) where
   abbrev before : Multiples
   before = multiples_of m.input graph
 
@@ -51,7 +30,7 @@ module _ (m : Several) (is : IsAcceptedSeveral m) (graph : Graph) (serves : Serv
   ranges = accepted_ranges (Mcm m) is
 
   has : HasOutputs m.input before 0 m.constants net
-  has = all-outputs hold m.input 0 before m.constants (ready m is graph serves) ranges.constants (odd_parts m is graph serves)
+  has = all-outputs m.input 0 before m.constants (ready m is graph serves) ranges.constants (odd_parts m is graph serves)
       (ports-wide m.input ranges.input 0 m.constants ranges.constants)
 
   grown : Stands m.input before

@@ -5,8 +5,8 @@ use Rattle.opgen_design.specs.Run.{AreWords}
 use Rattle.opgen_net.specs.declared.net.Net.{Net}
 use Rattle.opgen_net.specs.Flow.{Inputs, input_at, slice_flow}
 use Rattle.opgen_net.specs.Valid.{input_widths}
-use Rattle.opgen_operator.specs.declared.kinds.several.Several.{Several}
-use Rattle.opgen_operator.specs.kinds.Several.{multiple_ports}
+use Rattle.opgen_kinds.specs.declared.several.Several.{Several}
+use Rattle.opgen_kinds.specs.Several.{multiple_ports}
 use Rattle.opgen_operator.specs.PortWords.{output_words}
 
 -- At every whole time, before cycle 0 too, each output has the input of that time times its constant.

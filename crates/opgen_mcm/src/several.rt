@@ -2,7 +2,7 @@
 ghost use Rattle.std.specs.Prelude.{◌≡◌, IfOk};
 ghost use Rattle.opgen_operator.specs.declared.operator.Operator.TheVariants.{Mcm};
 ghost use Rattle.opgen_operator.specs.Fits.{FitsInEachMode};
-ghost use Rattle.opgen_operator.specs.kinds.Several.{IsAcceptedSeveral};
+ghost use Rattle.opgen_kinds.specs.Several.{IsAcceptedSeveral};
 ghost use Rattle.opgen_graph.specs.Recipe.{net_of_graph};
 ghost use Rattle.opgen_graph.specs.Served.{Serves};
 ghost use Rattle.opgen_mcm.specs.Products.{HasProducts};
@@ -10,7 +10,7 @@ ghost use Rattle.opgen_mcm.specs.Products.{HasProducts};
 use opgen_graph::{Graph, graph_net};
 use opgen_net::Net;
 use opgen_num::Memory;
-use opgen_operator::{Several, outputs_hold};
+use opgen_operator::Several;
 use std::alloc::Global;
 
 /// The net of several constants times the input `x`, with the outputs `y0`, `y1` and so on.
@@ -24,6 +24,5 @@ pub fn build(alloc: Global, several: &Several, graph: &Graph) -> Result<Net, Mem
     ensures products { IfOk result (HasProducts several.now) }
     ensures fits { IfOk result (FitsInEachMode (Mcm several.now)) }
 {
-    outputs_hold();
     graph_net(alloc, graph, several)
 }

@@ -11,11 +11,11 @@ use Rattle.opgen_num.proofs.Values.{val_holds}
 use Rattle.opgen_budget.specs.Columns.{weight_below}
 use Rattle.opgen_budget.proofs.Weights.{weight_below-zero}
 use Rattle.opgen_design.specs.Value.{cut}
-use Rattle.opgen_operator.specs.declared.kinds.product.Product.{Product}
+use Rattle.opgen_kinds.specs.declared.product.Product.{Product}
 use Rattle.opgen_operator.specs.declared.operator.Operator.TheVariants.{Multiply}
 use Rattle.opgen_ports.specs.Good.{IsGoodRatio}
 use Rattle.opgen_operator.specs.Held.{OutputsHold}
-use Rattle.opgen_operator.specs.kinds.Product.{IsAcceptedProduct, exact_product, product_shift, product_format, IsProduct}
+use Rattle.opgen_kinds.specs.Product.{IsAcceptedProduct, exact_product, product_shift, product_format, IsProduct}
 use Rattle.opgen_operator.specs.Operator.{inexact}
 use Rattle.opgen_ports.specs.Shifts.{places_up, places_down}
 use Rattle.opgen_operator.proofs.Accepted.{accepted_ranges}

@@ -8,9 +8,9 @@ use Rattle.opgen_design.specs.Width.{IsWidth}
 use Rattle.opgen_net.specs.Flow.{Inputs, input_at}
 use Rattle.opgen_net.specs.Valid.{IsValid}
 use Rattle.opgen_net.proofs.FlowWidths.{flow-width}
-use Rattle.opgen_operator.specs.declared.kinds.product.Product.{Product}
+use Rattle.opgen_kinds.specs.declared.product.Product.{Product}
 use Rattle.opgen_operator.specs.declared.operator.Operator.TheVariants.{Multiply}
-use Rattle.opgen_operator.specs.kinds.Product.{IsAcceptedProduct}
+use Rattle.opgen_kinds.specs.Product.{IsAcceptedProduct}
 use Rattle.opgen_ports.specs.Ranges.{IsInput}
 use Rattle.opgen_operator.proofs.Accepted.{accepted_ranges}
 use Rattle.opgen_ports.proofs.InputPorts.{input_bit}

@@ -19,12 +19,12 @@ use Rattle.opgen_net.specs.Flow.{Inputs, input_at, flow, slice_flow}
 use Rattle.opgen_net.specs.Grown.{HasGrown}
 use Rattle.opgen_net.specs.Valid.{IsValid, widths, slice_width, input_widths}
 use Rattle.opgen_net.proofs.FlowWidths.{flow-width}
-use Rattle.opgen_operator.specs.declared.kinds.product.Product.{Product}
+use Rattle.opgen_kinds.specs.declared.product.Product.{Product}
 use Rattle.opgen_operator.specs.declared.operator.Operator.TheVariants.{Multiply}
 use Rattle.opgen_operator.specs.Fits.{FitsOperator, FitsInEachMode}
 use Rattle.opgen_ports.specs.Good.{IsGoodRatio}
 use Rattle.opgen_operator.specs.Held.{OutputsHold}
-use Rattle.opgen_operator.specs.kinds.Product.{IsAcceptedProduct, exact_product, product_format}
+use Rattle.opgen_kinds.specs.Product.{IsAcceptedProduct, exact_product, product_format}
 use Rattle.opgen_partial.specs.declared.pairs.Work.{Work}
 use Rattle.opgen_partial.specs.Law.{HasProducts}
 use Rattle.opgen_partial.proofs.Laws.{IsRounded, rounded_sum}

@@ -10,8 +10,8 @@ use Rattle.opgen_net.specs.WordRule.{bits_from}
 use Rattle.opgen_heap.specs.Adding.{with_constant}
 use Rattle.opgen_compress.specs.Recipe.{compressed}
 use Rattle.opgen_gpc.specs.Recipe.{Counting, counted_if}
-use Rattle.opgen_operator.specs.declared.kinds.product.Product.{Product}
-use Rattle.opgen_operator.specs.kinds.Product.{product_shift, product_format}
+use Rattle.opgen_kinds.specs.declared.product.Product.{Product}
+use Rattle.opgen_kinds.specs.Product.{product_shift, product_format}
 use Rattle.opgen_ports.specs.Shifts.{places_up, places_down}
 use Rattle.opgen_partial.specs.declared.pairs.Factor.{Factor}
 use Rattle.opgen_partial.specs.declared.pairs.Products.{Products}

@@ -1,7 +1,7 @@
 //! The two factors as inputs of a net, and their partial products in a bit heap.
 ghost use Rattle.std.specs.Prelude.{◌≡◌, IfOk};
 ghost use Rattle.opgen_net.specs.Valid.{IsValid};
-ghost use Rattle.opgen_operator.specs.kinds.Product.{IsAcceptedProduct};
+ghost use Rattle.opgen_kinds.specs.Product.{IsAcceptedProduct};
 ghost use Rattle.opgen_partial.specs.Law.{HasProducts};
 ghost use Rattle.opgen_mult.specs.Recipe.{first, second, pairs, inputs, products};
 

@@ -2,7 +2,7 @@
 ghost use Rattle.std.specs.Prelude.{IfOk};
 ghost use Rattle.opgen_operator.specs.declared.operator.Operator.TheVariants.{Multiply};
 ghost use Rattle.opgen_operator.specs.Fits.{FitsInEachMode};
-ghost use Rattle.opgen_operator.specs.kinds.Product.{IsAcceptedProduct};
+ghost use Rattle.opgen_kinds.specs.Product.{IsAcceptedProduct};
 ghost use Rattle.opgen_mult.specs.Recipe.{IsNetOfProduct};
 
 use crate::factors::products;

@@ -1,26 +1,27 @@
 -- What holds of a valid specification, for the crates that build its operator.
-use Rattle.std.proofs.Common.{◌≤◌, ◌&&◌, not, length, nat_le, ℕ, ⊎_elim, ◌≡◌, Some, arith, subst, inl, inr, Bool, true, false, None, refl}
+use Rattle.std.proofs.Common.{◌≤◌, ◌&&◌, not, length, nat_le, ℕ, ◌≡◌, Some, Bool, true, false, None, refl, sym, ap, subst, ◌∙◌, map}
 use Rattle.std.proofs.lemmas.Bool.{and_parts, leb-true}
-use Rattle.std.proofs.lemmas.List.Elements.{All-weaker}
-use Rattle.std.specs.Prelude.{IsTrue, ◌≤ℤ◌, All}
+use Rattle.std.specs.Prelude.{IsTrue, ◌≤ℤ◌, All, pos}
 use Rattle.opgen_names.specs.Names.{is_allowed_name}
 use Rattle.opgen_net.specs.declared.net.Net.{Net}
 use Rattle.opgen_num.specs.declared.TheConstants.{MAX_WIDTH}
-use Rattle.opgen_operator.specs.declared.kinds.poly.Poly.{Poly as Polynomial}
+use Rattle.opgen_kinds.specs.declared.poly.Poly.{Poly as Polynomial}
 use Rattle.opgen_operator.specs.declared.operator.Operator.{Operator}
 use Rattle.opgen_operator.specs.declared.operator.Operator.TheVariants.{Poly}
-use Rattle.opgen_ports.specs.declared.ports.PortFormat.{PortFormat}
 use Rattle.opgen_operator.specs.declared.spec.Spec.{Spec}
 use Rattle.opgen_ports.specs.declared.TheConstants.{MAX_SHIFT}
-use Rattle.opgen_operator.specs.Bounded.{HasWidth, ValidAreAccepted}
-use Rattle.opgen_operator.specs.Fits.{FitsInEachMode, FitsSpec}
-use Rattle.opgen_ports.specs.Limits.{most_signal}
-use Rattle.opgen_operator.specs.Operator.{IsAcceptedBy, IsAccepted, IsOperator, least_shift, shift, HasRoom, need, inexact, operator_outputs}
+use Rattle.opgen_operator.specs.Bounded.{ValidAreAccepted}
+use Rattle.opgen_ports.specs.Ports.{HasWidth}
+use Rattle.opgen_operator.specs.Fits.{FitsOperator, FitsSpec, name_and_width}
+use Rattle.opgen_operator.specs.Operator.{meaning, IsGoodOf, IsAcceptedBy, IsAccepted, IsOperator, least_shift, shift, HasRoom, need, inexact, operator_outputs}
 use Rattle.opgen_ports.specs.SpecName.{is_taken, is_signal_name}
+use Rattle.opgen_operator.specs.Outputs.{inputs_of, outputs_of, IsGoodBy, chosen_ports}
+use Rattle.opgen_operator.specs.PortWords.{recent_words, output_words}
+use Rattle.opgen_net.specs.Flow.{slice_flow}
 use Rattle.opgen_operator.specs.Valid.{IsModeOf, IsValidSpec}
-use Rattle.opgen_operator.proofs.of_kind.Sum.{multiple_accepted}
-use Rattle.opgen_operator.proofs.Operators.{shift_limit, room, operator_wide}
-use Rattle.opgen_ports.proofs.Versions.{signal_limit}
+use Rattle.opgen_kinds.proofs.of_kind.Sum.{multiple_accepted}
+use Rattle.opgen_operator.proofs.Operators.{lawful, shift_limit, room}
+use Rattle.opgen_kinds.proofs.Accepted as kind
 
 -- its name is an allowed name of a design, of 32 bytes at most
 pub name_allowed : (spec : Spec) → IsValidSpec spec → IsTrue (is_allowed_name spec.name) × (length spec.name ≤ 32)
@@ -31,41 +32,42 @@ name_allowed spec valid =
     let (short, allowed) = and_parts (nat_le (length spec.name) 32) (is_allowed_name spec.name) both in
     (allowed, leb-true (length spec.name) 32 short)
 
--- what holds of accepted fields, by whichever version
-abbrev by_version : {P : Type 0} (op : Operator) → ((version : ℕ) → IsAcceptedBy version op → P) → IsAccepted op → P
-by_version op f is = ⊎_elim (λ (by : IsAcceptedBy 1 op). f 1 by) (λ (by : IsAcceptedBy 2 op). f 2 by) is
-
 pub accepted_ranges : (op : Operator) → IsAccepted op → IsOperator op
-accepted_ranges op is = by_version op (λ version by. by.ranges) is
+accepted_ranges op is = kind.accepted_ranges (meaning op) is
 
 pub accepted_shift : (op : Operator) → IsAccepted op → (least_shift op ≤ℤ shift op) × (shift op ≤ℤ MAX_SHIFT)
-accepted_shift op is = by_version op (λ version by. (by.fine.0, shift_limit version op by.fine.1)) is
+accepted_shift op is = kind.accepted_shift (meaning op) (lawful op) is
 
 pub accepted_room : (op : Operator) → IsAccepted op → HasRoom op
-accepted_room op is = by_version op (λ version by. room version op by.inputs by.fine.1) is
+accepted_room op is = kind.accepted_room (meaning op) (lawful op) is
 
 pub accepted_width : (op : Operator) (bits : ℕ) → IsAccepted op → need op ≡ Some bits → bits ≤ MAX_WIDTH
-accepted_width op bits is e = by_version op (λ version by. omega (arith, by.narrow bits e, (signal_limit version).1)) is
+accepted_width op bits is e = kind.accepted_width (meaning op) bits is e
 
 -- the operator of a valid specification is accepted, by its own version
 pub accepted : (spec : Spec) → IsValidSpec spec → IsAccepted spec.op
-accepted spec valid =
-    ⊎_elim
-    (λ (e : spec.version ≡ 1). inl (subst (λ (v : ℕ). IsAcceptedBy v spec.op) e valid.op))
-    (λ (e : spec.version ≡ 2). inr (subst (λ (v : ℕ). IsAcceptedBy v spec.op) e valid.op))
-    valid.version
+accepted spec valid = (spec.version, valid.op)
 
 -- its output ports have so many bits at most
 pub accepted_wide : (op : Operator) → IsAccepted op → All (HasWidth MAX_WIDTH) (operator_outputs op)
-accepted_wide op is =
-    by_version op (
-    λ version by. All-weaker (HasWidth (most_signal version)) (HasWidth MAX_WIDTH)
-    (λ (p : PortFormat) (h : HasWidth (most_signal version) p). (h.0, omega (arith, h.1, (signal_limit version).1)))
-    (operator_outputs op) (operator_wide version op by)) is
+accepted_wide op is = kind.accepted_wide (meaning op) (lawful op) is
 
--- a net that fits its operator fits a valid specification
-pub fits_spec : (spec : Spec) (net : Net) → IsValidSpec spec → FitsInEachMode spec.op net → FitsSpec spec net
-fits_spec spec net valid fits = fits spec.exact valid.mode
+-- a net that fits its operator fits a specification that chooses no width
+pub plain_fits : (spec : Spec) (net : Net) → spec.out_width ≡ None → FitsOperator spec.exact spec.op net → FitsSpec spec net
+plain_fits spec net none fits =
+    let same : outputs_of spec ≡ operator_outputs spec.op = ap (λ w. chosen_ports w spec.out_signed (operator_outputs spec.op)) none in
+    record {
+      valid = fits.valid;
+      inputs = fits.inputs;
+      outputs = fits.outputs ∙ sym (ap (map name_and_width) same);
+      good = λ inputs t words below in_range.
+          let ins = recent_words (inputs_of spec) inputs t in
+          let found = map (λ o. slice_flow net.nodes inputs o.from (pos t)) net.outputs in
+          let good : IsGoodOf spec.exact spec.op ins (output_words (operator_outputs spec.op) found) = fits.good inputs t words below in_range in
+          let ported : IsGoodOf spec.exact spec.op ins (output_words (outputs_of spec) found) =
+          subst (λ ports. IsGoodOf spec.exact spec.op ins (output_words ports found)) (sym same) good in
+          subst (λ w. IsGoodBy w spec ins (output_words (outputs_of spec) found)) (sym none) ported;
+    }
 
 -- a polynomial is never asked for exactly
 pub poly_faithful : (exact : Bool) (p : Polynomial) → IsModeOf exact (Poly p) → exact ≡ false

@@ -1,24 +1,24 @@
 -- What holds of every operator: each kind proved it of its meaning.
 use Rattle.std.proofs.Common.{arith, ◌≤◌, length, ℕ}
 use Rattle.std.specs.Prelude.{All, ◌≤ℤ◌, neg_ℤ}
-use Rattle.opgen_operator.specs.declared.operator.Kind.TheVariants as kind_of
+use Rattle.opgen_kinds.specs.declared.kind.Kind.TheVariants as kind_of
 use Rattle.opgen_operator.specs.declared.operator.Operator.{Operator}
 use Rattle.opgen_operator.specs.declared.operator.Operator.TheVariants.{Scale, Fir, Multiply, Divide, Root, Mcm, Constdiv, Poly, Tfir}
 use Rattle.opgen_ports.specs.declared.TheConstants.{MAX_SHIFT}
-use Rattle.opgen_operator.specs.Bounded.{HasWidth}
+use Rattle.opgen_ports.specs.Ports.{HasWidth}
 use Rattle.opgen_ports.specs.Limits.{most_input, most_signal}
 use Rattle.opgen_operator.specs.Held.{OutputsHold}
 use Rattle.opgen_operator.specs.Operator.{meaning, operator_inputs, IsOperator, most_shift, shift, least_shift, HasInputsWithin, HasRoom, operator_outputs, IsAcceptedBy}
 use Rattle.opgen_ports.proofs.InputPorts.{HasBit}
-use Rattle.opgen_operator.proofs.Lawful.{IsLawful}
-use Rattle.opgen_operator.proofs.of_kind.Pair.{pair_lawful}
-use Rattle.opgen_operator.proofs.of_kind.Poly.{poly_lawful}
-use Rattle.opgen_operator.proofs.of_kind.Product.{product_lawful}
-use Rattle.opgen_operator.proofs.of_kind.Several.{several_lawful}
-use Rattle.opgen_operator.proofs.of_kind.Single.{single_lawful}
-use Rattle.opgen_operator.proofs.of_kind.SmallDiv.{small_lawful}
-use Rattle.opgen_operator.proofs.of_kind.Sum.{sum_lawful}
-use Rattle.opgen_operator.proofs.of_kind.Taps.{taps_lawful}
+use Rattle.opgen_kinds.proofs.Lawful.{IsLawful}
+use Rattle.opgen_kinds.proofs.of_kind.Pair.{pair_lawful}
+use Rattle.opgen_kinds.proofs.of_kind.Poly.{poly_lawful}
+use Rattle.opgen_kinds.proofs.of_kind.Product.{product_lawful}
+use Rattle.opgen_kinds.proofs.of_kind.Several.{several_lawful}
+use Rattle.opgen_kinds.proofs.of_kind.Single.{single_lawful}
+use Rattle.opgen_kinds.proofs.of_kind.SmallDiv.{small_lawful}
+use Rattle.opgen_kinds.proofs.of_kind.Sum.{sum_lawful}
+use Rattle.opgen_kinds.proofs.of_kind.Taps.{taps_lawful}
 
 pub lawful : (op : Operator) → IsLawful (meaning op)
 lawful (Scale s) = sum_lawful kind_of.Scale 1 s (omega arith)

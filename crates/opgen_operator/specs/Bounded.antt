@@ -1,15 +1,16 @@
 -- Bounds that every valid specification keeps: port widths, shift and exact values.
 use Rattle.std.specs.Prelude.{ℕ, ◌≤◌, ◌≤ℤ◌, All, ◌<◌, ℤ, neg_ℤ, length}
 use Rattle.opgen_num.specs.declared.TheConstants.{MAX_INPUT, MAX_WIDTH}
-use Rattle.opgen_operator.specs.declared.kinds.sum.Sum.{Sum}
+use Rattle.opgen_kinds.specs.declared.sum.Sum.{Sum}
 use Rattle.opgen_operator.specs.declared.operator.Operator.{Operator}
 use Rattle.opgen_operator.specs.declared.operator.Operator.TheVariants.{Scale}
-use Rattle.opgen_ports.specs.declared.ports.PortFormat.{PortFormat}
 use Rattle.opgen_operator.specs.declared.spec.Spec.{Spec}
 use Rattle.opgen_ports.specs.declared.TheConstants.{MAX_SHIFT}
-use Rattle.opgen_operator.specs.kinds.Sum.{IsAcceptedSum}
+use Rattle.opgen_kinds.specs.Sum.{IsAcceptedSum}
 use Rattle.opgen_ports.specs.Limits.{most_input, most_signal}
-use Rattle.opgen_operator.specs.Operator.{inputs_of, outputs_of, shift, least_shift, most_shift, HasRoom, IsAccepted, IsExactIn128}
+use Rattle.opgen_operator.specs.Outputs.{inputs_of, outputs_of}
+use Rattle.opgen_operator.specs.Operator.{shift, least_shift, most_shift, HasRoom, IsAccepted, IsExactIn128}
+use Rattle.opgen_ports.specs.Ports.{HasWidth}
 use Rattle.opgen_ports.specs.PortNumbers.{format_at}
 use Rattle.opgen_ports.specs.Recent.{Recent}
 use Rattle.opgen_ports.specs.Spans.{IsOf}
@@ -18,10 +19,6 @@ use Rattle.opgen_operator.specs.Valid.{IsValidSpec}
 -- no version's limits are beyond those of the program
 abbrev pub LimitsAreWithin : Type 0
 LimitsAreWithin = (version : ℕ) → (most_input version ≤ MAX_INPUT) × (most_signal version ≤ MAX_WIDTH)
-
--- a port has one bit or more, and so many at most
-abbrev pub HasWidth : (most : ℕ) → PortFormat → Type 0
-HasWidth most p = (1 ≤ p.format.width) × (p.format.width ≤ most)
 
 -- an input port is as wide as an input of the version may be, and an output port as a signal
 abbrev pub InputsAreWide : Type 0

@@ -1,5 +1,5 @@
 -- When a net fits an operator or a specification: it is valid, has the operator's ports, and its outputs are good in each cycle.
-use Rattle.std.specs.Prelude.{ℕ, ◌≡◌, Bool, All, ◌<◌, pos, length, List, map}
+use Rattle.std.specs.Prelude.{ℕ, ℤ, ◌≡◌, Bool, All, ◌<◌, pos, length, List, map}
 use Rattle.opgen_design.specs.Run.{AreWords}
 use Rattle.opgen_net.specs.declared.net.Net.{Net}
 use Rattle.opgen_net.specs.Flow.{Inputs, slice_flow}
@@ -8,24 +8,32 @@ use Rattle.opgen_operator.specs.declared.operator.Operator.{Operator}
 use Rattle.opgen_ports.specs.declared.ports.PortFormat.{PortFormat}
 use Rattle.opgen_operator.specs.declared.spec.Spec.{Spec}
 use Rattle.opgen_operator.specs.Operator.{operator_inputs, operator_outputs, IsGoodOf, IsInRangeOf}
+use Rattle.opgen_operator.specs.Outputs.{inputs_of, outputs_of, IsGood, IsInRange}
+use Rattle.opgen_ports.specs.Recent.{Recent}
 use Rattle.opgen_operator.specs.PortWords.{recent_words, output_words}
 use Rattle.opgen_operator.specs.Valid.{IsModeOf}
 
 abbrev pub name_and_width : PortFormat → List ℕ × ℕ
 name_and_width p = (p.name, p.format.width)
 
--- The net is valid, has the ports of the operator, and its outputs are good in each cycle whose inputs are in range.
-pub record FitsOperator (exact : Bool) (op : Operator) (net : Net) : Type 0 where
+-- The net is valid, has these ports, and its outputs are good in each cycle whose inputs are in range.
+pub record FitsPorts (ins outs : List PortFormat) (IsIn : (inputs : (port : ℕ) → Recent) → Type 0)
+    (IsGood : (inputs : (port : ℕ) → Recent) (outputs : (port : ℕ) → ℤ) → Type 0) (net : Net) : Type 0 where
   pub valid : IsValid net
-  pub inputs : net.inputs ≡ map name_and_width (operator_inputs op)
-  pub outputs : map (λ o. (o.name, slice_width o.from)) net.outputs ≡ map name_and_width (operator_outputs op)
+  pub inputs : net.inputs ≡ map name_and_width ins
+  pub outputs : map (λ o. (o.name, slice_width o.from)) net.outputs ≡ map name_and_width outs
   pub good : (inputs : Inputs) (t : ℕ) → All (AreWords (input_widths net)) inputs → t < length inputs
-      → IsInRangeOf op (recent_words (operator_inputs op) inputs t)
-      → IsGoodOf exact op (recent_words (operator_inputs op) inputs t)
-      (output_words (operator_outputs op) (map (λ o. slice_flow net.nodes inputs o.from (pos t)) net.outputs))
+      → IsIn (recent_words ins inputs t)
+      → IsGood (recent_words ins inputs t)
+      (output_words outs (map (λ o. slice_flow net.nodes inputs o.from (pos t)) net.outputs))
 
+-- the ports and the good outputs of an operator
+abbrev pub FitsOperator : (exact : Bool) → Operator → Net → Type 0
+FitsOperator exact op net = FitsPorts (operator_inputs op) (operator_outputs op) (IsInRangeOf op) (IsGoodOf exact op) net
+
+-- and those of a specification
 abbrev pub FitsSpec : Spec → Net → Type 0
-FitsSpec spec net = FitsOperator spec.exact spec.op net
+FitsSpec spec net = FitsPorts (inputs_of spec) (outputs_of spec) (IsInRange spec) (IsGood spec) net
 
 -- What a builder of nets promises: its net fits the operator in each of its modes. A valid specification asks for one of them.
 abbrev pub FitsInEachMode : Operator → Net → Type 0

@@ -1,9 +1,6 @@
--- Definitions of opgen_operator: specifications, their kinds, ports, exact values, good outputs, and nets that fit.
-pub mod Meaning
-pub mod Judged
-pub mod Accepted
-pub mod kinds
+-- Definitions of opgen_operator: specifications, their ports, exact values, good outputs, and nets that fit.
 pub mod Operator
+pub mod Outputs
 pub mod Valid
 pub mod PortWords
 pub mod DesignPorts

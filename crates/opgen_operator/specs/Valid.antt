@@ -1,10 +1,10 @@
 -- Valid specifications: their fields are within the ranges of their keys and the limits of their version.
-use Rattle.std.specs.Prelude.{◌≡◌, ◌≤◌, Bool, IsTrue, All, Option, Some, None, length}
+use Rattle.std.specs.Prelude.{ℕ, ◌≡◌, ◌≤◌, Bool, true, IsTrue, All, Option, Some, None, length}
 use Rattle.opgen_operator.specs.declared.operator.Operator.{Operator}
 use Rattle.opgen_operator.specs.declared.spec.DelayLine.{DelayLine}
 use Rattle.opgen_operator.specs.declared.spec.Spec.{Spec}
 use Rattle.opgen_ports.specs.Limits.{IsVersion}
-use Rattle.opgen_operator.specs.Operator.{IsOfFirstVersion, inexact, own_mark, IsAcceptedBy}
+use Rattle.opgen_operator.specs.Operator.{IsInVersion, inexact, own_mark, IsAcceptedBy, has_value}
 use Rattle.opgen_ports.specs.SpecName.{is_spec_name}
 
 -- the operator's own mark of exact outputs, where it has one, is that of the specification
@@ -24,12 +24,18 @@ pub record IsModeOf (exact : Bool) (op : Operator) : Type 0 where
 abbrev pub IsDelayLine : DelayLine → Type 0
 IsDelayLine line = (line.base ≤ 1000000) × (line.per_bit ≤ 10000)
 
+-- a width and a sign of the output `y` may be chosen in version 3, of the kinds that have one; no sign is chosen alone
+abbrev pub IsChoice : (version : ℕ) → Operator → (width : Option ℕ) (sign : Option Bool) → Type 0
+IsChoice version op None sign = sign ≡ None
+IsChoice version op (Some width) sign = (version ≡ 3) × (has_value op ≡ true) × (2 ≤ width) × (width ≤ 96)
+
 pub record IsValidSpec (spec : Spec) : Type 0 where
   pub version : IsVersion spec.version
   pub name : IsTrue (is_spec_name spec.name)
   pub op : IsAcceptedBy spec.version spec.op
-  pub first : spec.version ≡ 1 → IsOfFirstVersion spec.op
+  pub has : IsInVersion spec.version spec.op
   pub mode : IsModeOf spec.exact spec.op
+  pub output : IsChoice spec.version spec.op spec.out_width spec.out_signed
   pub target : (1 ≤ length spec.target) × (length spec.target ≤ 32)
   pub period : (1 ≤ spec.period) × (spec.period ≤ 1000000)
   pub few_lines : length spec.delays ≤ 16

@@ -1,6 +1,6 @@
 //! Tests whether a version of specifications accepts an operator.
 ghost use Rattle.std.specs.Prelude.{ℕ, ◌≡◌, ◌≤◌, ◌↔◌, ◌≤ℤ◌, Some, None, IsTrue};
-ghost use Rattle.opgen_operator.specs.Operator.{shift, least_shift, most_shift, need, inexact, HasInputsWithin, IsOperator, IsOfFirstVersion, IsAcceptedBy};
+ghost use Rattle.opgen_operator.specs.Operator.{shift, least_shift, most_shift, need, inexact, HasInputsWithin, IsOperator, IsAcceptedBy, IsInVersion};
 ghost use Rattle.opgen_ports.specs.Limits.{most_input, most_signal};
 
 use crate::operator::Operator;
@@ -8,7 +8,7 @@ use opgen_ports::{most_input, most_signal};
 
 impl Operator {
     /// Whether a version of specifications accepts the operator, its fields and its widest signal.
-    pub(crate) fn is_accepted_in(&self, version: u32) -> bool
+    fn is_accepted_in(&self, version: u32) -> bool
         ensures { IsTrue result ↔ IsAcceptedBy version self.now }
     {
         self.is_ranged()
@@ -18,11 +18,11 @@ impl Operator {
             && self.is_whole(self.own_mark().unwrap_or(false))
     }
 
-    /// Whether the operator is one of version 1, if that is the version.
-    pub(crate) fn is_in_version(&self, version: u32) -> bool
-        ensures { IsTrue result ↔ (version ≡ 1 → IsOfFirstVersion self.now) }
+    /// Whether a version of specifications has the operator and accepts it.
+    pub(crate) fn is_of(&self, version: u32) -> bool
+        ensures { IsTrue result ↔ (IsAcceptedBy version self.now × IsInVersion version self.now) }
     {
-        version != 1 || self.is_of_first_version()
+        self.is_accepted_in(version) && self.is_in(version)
     }
 
     /// Whether the exact values are whole, if exact outputs are asked for.

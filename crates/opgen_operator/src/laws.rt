@@ -1,16 +1,16 @@
 //! Laws of specifications: which values output formats hold, and that widths, shifts and exact values are bounded.
 ghost use Rattle.opgen_operator.specs.Bounded.{InputsAreWide};
 ghost use Rattle.opgen_operator.specs.Held.{OutputsHold};
-ghost use Rattle.opgen_operator.specs.kinds.Product.{ProductsHaveWidth};
-ghost use Rattle.opgen_operator.specs.kinds.Sum.{EntriesAreSmall};
+ghost use Rattle.opgen_kinds.specs.Product.{ProductsHaveWidth};
+ghost use Rattle.opgen_kinds.specs.Sum.{EntriesAreSmall};
 
-/// The formats of outputs hold sums, products and quotients rounded down or up, multiples and whole
-/// sums, remainders, and roots and quotients by small constants rounded down.
+/// The operators' own formats hold sums, products and quotients rounded down or up, multiples,
+/// remainders, and roots and quotients by small constants rounded down.
 pub fn outputs_hold()
     ensures { OutputsHold }
 {}
 
-/// Each input port of a valid specification has 1 to 32 bits in version 1, and 1 to 48 in version 2.
+/// Each input port of a valid specification has 1 to 32 bits in version 1, and 1 to 48 in later versions.
 pub fn inputs_are_wide()
     ensures { InputsAreWide }
 {}

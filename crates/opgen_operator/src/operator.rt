@@ -1,18 +1,20 @@
 //! Operators: their kinds, and each question about them.
-ghost use Rattle.std.specs.Prelude.{◌≡◌, ◌↔◌, ℤ, neg_ℤ, ◌≤ℤ◌, IfOk, IsTrue};
-ghost use Rattle.opgen_operator.specs.Judged.{IsCycleJudged};
-ghost use Rattle.opgen_operator.specs.Operator.{shift, HasRoom, operator_inputs, operator_outputs, IsOperator, inexact, need, least_shift, most_shift, kind_name, kind, meaning, divisor, has_graph, own_mark, IsAccepted, IsOfFirstVersion, HasInputsWithin};
-ghost use Rattle.opgen_ports.specs.PortNumbers.{IsHistory, IsCycle};
+ghost use Rattle.std.specs.Prelude.{◌≡◌, ◌↔◌, ℤ, pos, neg_ℤ, ◌≤ℤ◌, ◌<ℤ◌, IfOk, IfSome, IsTrue};
+ghost use Rattle.opgen_kinds.specs.Judged.{IsCycleJudged};
+ghost use Rattle.opgen_operator.specs.Operator.{shift, HasRoom, operator_inputs, operator_outputs, IsOperator, inexact, need, least_shift, most_shift, kind, meaning, divisor, has_graph, own_mark, IsAccepted, IsInVersion, HasInputsWithin, plain_output, exact_value, has_value};
+ghost use Rattle.opgen_ports.specs.PortNumbers.{recent_numbers, IsHistory, IsCycle};
 ghost use Rattle.opgen_operator.specs.Valid.{AgreesOnExact};
 
-use crate::kinds::pair::{Pair, pair_need, pair_shift};
-use crate::kinds::poly::Poly;
-use crate::kinds::product::{Product, product_inexact, product_need, product_shift};
-use crate::kinds::several::Several;
-use crate::kinds::single::{Single, root_shift};
-use crate::kinds::small_div::SmallDiv;
-use crate::kinds::sum::{Sum, first_inexact, most_sum_shift, sum_need, sum_shift};
-use crate::kinds::taps::Taps;
+use opgen_kinds::Kind;
+use opgen_kinds::pair::{Pair, pair_need, pair_shift};
+use opgen_kinds::poly::Poly;
+use opgen_kinds::product::{Product, product_inexact, product_need, product_shift};
+use opgen_kinds::several::Several;
+use opgen_kinds::single::{Single, root_shift};
+use opgen_kinds::small_div::SmallDiv;
+use opgen_kinds::sum::{Sum, first_inexact, most_sum_shift, sum_need, sum_shift};
+use opgen_kinds::taps::Taps;
+use opgen_num::{Format, Ratio};
 use opgen_ports::MAX_SHIFT;
 use opgen_ports::ports::{PortFormat, are_within, is_within};
 use std::alloc::{AllocError, Global};
@@ -36,39 +38,6 @@ pub enum Operator {
     Poly(Poly),
     /// A filter of whole coefficients in transposed form.
     Tfir(Taps),
-}
-
-/// The kinds of operators.
-#[derive(Clone, Copy, Debug, PartialEq, Eq)]
-pub enum Kind {
-    Scale,
-    Fir,
-    Multiply,
-    Divide,
-    Root,
-    Mcm,
-    Constdiv,
-    Poly,
-    Tfir,
-}
-
-impl Kind {
-    /// The kind as a document writes it.
-    pub fn name(self) -> &'static str
-        ensures { result.now ≡ kind_name self }
-    {
-        match self {
-            Kind::Scale => "scale",
-            Kind::Fir => "fir",
-            Kind::Multiply => "multiply",
-            Kind::Divide => "divide",
-            Kind::Root => "root",
-            Kind::Mcm => "mcm",
-            Kind::Constdiv => "constdiv",
-            Kind::Poly => "poly",
-            Kind::Tfir => "tfir",
-        }
-    }
 }
 
 impl Operator {
@@ -100,7 +69,8 @@ impl Operator {
             Self::Multiply(product) => product_shift(product),
             Self::Divide(pair) => pair_shift(pair),
             Self::Root(single) => root_shift(single),
-            Self::Mcm(_) | Self::Constdiv(_) | Self::Poly(_) | Self::Tfir(_) => 0,
+            Self::Tfir(taps) => taps.shift(),
+            Self::Mcm(_) | Self::Constdiv(_) | Self::Poly(_) => 0,
         }
     }
 
@@ -115,8 +85,8 @@ impl Operator {
             Self::Fir(sum) => first_inexact(sum),
             Self::Multiply(product) => product_inexact(product),
             Self::Poly(_) => Some(0),
-            Self::Divide(_) | Self::Root(_) | Self::Mcm(_) | Self::Constdiv(_) | Self::Tfir(_) =>
-                None,
+            Self::Tfir(taps) => taps.inexact(),
+            Self::Divide(_) | Self::Root(_) | Self::Mcm(_) | Self::Constdiv(_) => None,
         }
     }
 
@@ -143,9 +113,9 @@ impl Operator {
         ensures { result ≡ least_shift self.now }
     {
         match self {
-            Self::Scale(_) | Self::Fir(_) | Self::Multiply(_) => -MAX_SHIFT,
-            Self::Divide(_) | Self::Root(_) => 0,
-            Self::Mcm(_) | Self::Constdiv(_) | Self::Poly(_) | Self::Tfir(_) => 0,
+            Self::Scale(_) | Self::Fir(_) | Self::Multiply(_) | Self::Tfir(_) => -MAX_SHIFT,
+            Self::Divide(_) | Self::Root(_) | Self::Mcm(_) => 0,
+            Self::Constdiv(_) | Self::Poly(_) => 0,
         }
     }
 
@@ -199,16 +169,20 @@ impl Operator {
         }
     }
 
-    /// Whether version 1 of specifications has the operator.
-    pub(crate) fn is_of_first_version(&self) -> bool
-        ensures { IsTrue result ↔ IsOfFirstVersion self.now }
+    /// Whether a version of specifications has the operator with these fields.
+    pub(crate) fn is_in(&self, version: u32) -> bool
+        ensures { IsTrue result ↔ IsInVersion version self.now }
     {
         match self {
-            Self::Scale(sum) => !sum.counters,
-            Self::Fir(sum) => !sum.counters,
-            Self::Multiply(product) => !product.counters,
-            Self::Divide(_) | Self::Root(_) | Self::Mcm(_) => true,
-            Self::Constdiv(_) | Self::Poly(_) | Self::Tfir(_) => false,
+            Self::Scale(sum) => sum.is_in(version),
+            Self::Fir(sum) => sum.is_in(version),
+            Self::Multiply(product) => product.is_in(version),
+            Self::Divide(pair) => pair.is_in(version),
+            Self::Root(_) => true,
+            Self::Mcm(several) => several.is_in(version),
+            Self::Constdiv(small) => small.is_in(version),
+            Self::Poly(poly) => poly.is_in(version),
+            Self::Tfir(taps) => taps.is_in(version),
         }
     }
 
@@ -275,6 +249,49 @@ impl Operator {
             Self::Constdiv(small) => small.outputs(alloc),
             Self::Poly(poly) => poly.outputs(alloc),
             Self::Tfir(taps) => taps.outputs(alloc),
+        }
+    }
+
+    /// The format of the output `y`, of the kinds with one output whose width may be chosen.
+    pub(crate) fn plain_output(&self) -> Option<Format>
+        requires { IsAccepted self.now }
+        ensures { result ≡ plain_output self.now }
+    {
+        match self {
+            Self::Scale(sum) => Some(sum.output()),
+            Self::Fir(sum) => Some(sum.output()),
+            Self::Multiply(product) => Some(product.output()),
+            Self::Poly(poly) => Some(poly.output()),
+            Self::Tfir(taps) => Some(taps.output()),
+            Self::Divide(_) | Self::Root(_) | Self::Mcm(_) | Self::Constdiv(_) => None,
+        }
+    }
+
+    /// The exact value of that output, in units of its last place.
+    pub(crate) fn value(&self, history: &[u128]) -> Option<Ratio>
+        requires accepted { IsAccepted self.now }
+        requires history { IsHistory (operator_inputs self.now) history.now }
+        ensures value { result ≡ exact_value self.now (recent_numbers (operator_inputs self.now) history.now) }
+        ensures positive { IfSome result (λ value. pos 0 <ℤ value.den) }
+    {
+        match self {
+            Self::Scale(sum) => Some(sum.value(history)),
+            Self::Fir(sum) => Some(sum.value(history)),
+            Self::Multiply(product) => Some(product.value(history)),
+            Self::Poly(poly) => Some(poly.value(history)),
+            Self::Tfir(taps) => Some(taps.value(history)),
+            Self::Divide(_) | Self::Root(_) | Self::Mcm(_) | Self::Constdiv(_) => None,
+        }
+    }
+
+    /// Whether the output has a width that may be chosen: that of the kinds with one output `y`.
+    pub fn has_value(&self) -> bool
+        ensures { result ≡ has_value self.now }
+    {
+        match self {
+            Self::Scale(_) | Self::Fir(_) | Self::Multiply(_) | Self::Poly(_) | Self::Tfir(_) =>
+                true,
+            Self::Divide(_) | Self::Root(_) | Self::Mcm(_) | Self::Constdiv(_) => false,
         }
     }
 

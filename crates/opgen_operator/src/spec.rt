@@ -1,15 +1,20 @@
-//! Specifications as types: operator, target, period and delay lines; their ports, and when outputs are good.
-ghost use Rattle.std.specs.Prelude.{◌≡◌, ◌≤◌, IfOk, ◌↔◌, All, IsTrue};
-ghost use Rattle.opgen_operator.specs.Operator.{inputs_of, outputs_of, IsGood, IsInRange};
-ghost use Rattle.opgen_ports.specs.PortNumbers.{recent_numbers, output_numbers, IsHistory, IsCycle};
-ghost use Rattle.opgen_operator.specs.Valid.{AgreesWith, IsDelayLine, IsValidSpec};
+//! Specifications as types: operator, output, target, period and delay lines; their ports, and when outputs are good.
+ghost use Rattle.std.specs.Prelude.{◌≡◌, ◌≤◌, ◌<◌, ◌^◌, Some, None, [], ◌∷◌, codes, IfOk, IfSome, ◌↔◌, All, IsTrue};
+ghost use Rattle.opgen_num.specs.Formats.{IsWidthOf};
+ghost use Rattle.opgen_operator.specs.Operator.{plain_output, exact_value};
+ghost use Rattle.opgen_operator.specs.Outputs.{inputs_of, outputs_of, IsGood, IsGoodCut, IsInRange};
+ghost use Rattle.opgen_ports.specs.Ports.{port};
+ghost use Rattle.opgen_ports.specs.PortNumbers.{number_of, recent_numbers, output_numbers, IsHistory, IsCycle};
+ghost use Rattle.opgen_operator.specs.Valid.{AgreesWith, IsChoice, IsDelayLine, IsValidSpec};
 
 use crate::operator::Operator;
 use opgen_list::{Items, Text};
 use opgen_net::Class;
-use opgen_num::Memory;
-use opgen_ports::ports::PortFormat;
+use opgen_num::{Format, MAX_WIDTH, Memory};
+use opgen_ports::history::output;
+use opgen_ports::ports::{PortFormat, one};
 use opgen_ports::ranges::is_length;
+use opgen_ports::saturated::good_saturated;
 use opgen_ports::{is_spec_name, is_version};
 use std::alloc::Global;
 
@@ -20,9 +25,14 @@ pub struct Spec {
     /// The name of the operator, which is that of its entity.
     pub name: Text,
     pub op: Operator,
-    /// Whether the outputs equal the exact values; if not, they lie less than one unit in the last
-    /// place from them.
+    /// Whether the outputs equal the exact values, quotients rounded towards 0 and roots down, with a
+    /// remainder; if not, they lie less than one unit in the last place from them.
     pub exact: bool,
+    /// The width of the output `y` in bits, if it is chosen: the exact value is then first brought into
+    /// the range of the output's format.
+    pub out_width: Option<u32>,
+    /// Whether that output is signed, if it is chosen; if not, it has the sign of the operator's own.
+    pub out_signed: Option<bool>,
     pub target: Text,
     /// The clock's period in picoseconds.
     pub period: u32,
@@ -36,6 +46,13 @@ pub struct DelayLine {
     pub class: Class,
     pub base: u32,
     pub per_bit: u32,
+}
+
+/// The format of an output as its operator has it, and the one that is chosen.
+#[derive(Clone, Copy, Debug, PartialEq, Eq)]
+pub struct Cut {
+    pub from: Format,
+    pub to: Format,
 }
 
 impl DelayLine {
@@ -55,14 +72,44 @@ impl Spec {
     {
         is_version(self.version)
             && is_spec_name(self.name.as_str())
-            && self.op.is_accepted_in(self.version)
-            && self.op.is_in_version(self.version)
+            && self.op.is_of(self.version)
             && agrees(self.exact, self.op.own_mark())
             && is_length(1, 32, self.target.as_str().len())
             && is_period(self.period)
             && self.delays.len() <= 16
             && are_delay_lines(self.delays.as_slice())
             && self.op.is_whole(self.exact)
+            && self.is_choice()
+    }
+
+    /// Whether the width and the sign of the output may be chosen so.
+    fn is_choice(&self) -> bool
+        ensures { IsTrue result ↔ IsChoice self.now.version self.now.op self.now.out_width self.now.out_signed }
+    {
+        match self.out_width {
+            Some(width) => {
+                self.version == 3 && self.op.has_value() && 2 <= width && width <= MAX_WIDTH
+            }
+            None => self.out_signed.is_none(),
+        }
+    }
+
+    /// The format of the output `y` whose width is chosen, and that of the operator's own.
+    pub fn cut(&self) -> Option<Cut>
+        requires { IsValidSpec self.now }
+        ensures none { result ≡ None ↔ self.now.out_width ≡ None }
+        ensures from { IfSome result (λ cut. plain_output self.now.op ≡ Some cut.from) }
+        ensures to { IfSome result (λ cut. outputs_of self.now ≡ port (codes "y") cut.to ∷ []) }
+        ensures widths { IfSome result (λ cut. IsWidthOf cut.from.signed cut.from.width × IsWidthOf cut.to.signed cut.to.width) }
+    {
+        let width = self.out_width?;
+        let from = self.op.plain_output()?;
+        let to = Format {
+            signed: self.out_signed.unwrap_or(from.signed),
+            width,
+            lsb: from.lsb,
+        };
+        Some(Cut { from, to })
     }
 
     /// The input ports, in order.
@@ -78,7 +125,10 @@ impl Spec {
         requires { IsValidSpec self.now }
         ensures { IfOk result (λ ports. ports.items ≡ outputs_of self.now) }
     {
-        Ok(self.op.outputs(alloc)?)
+        match self.cut() {
+            Some(cut) => Ok(one(alloc, "y", cut.to)?),
+            None => Ok(self.op.outputs(alloc)?),
+        }
     }
 
     /// Whether the outputs of a cycle are good, or its inputs are out of range.
@@ -94,7 +144,25 @@ impl Spec {
             (output_numbers (outputs_of self.now) outputs.now)) }
         ensures out_of_range { ¬ IsInRange self.now (recent_numbers (inputs_of self.now) history.now) → IsTrue result }
     {
-        self.op.judge(self.exact, history, outputs)
+        match self.cut() {
+            Some(cut) => self.is_good_cut(cut.to, history, outputs[0]),
+            None => self.op.judge(self.exact, history, outputs),
+        }
+    }
+
+    /// Whether an output is good for the exact value, brought into the range of its format.
+    fn is_good_cut(&self, to: Format, history: &[u128], y: u128) -> bool
+        requires valid { IsValidSpec self.now }
+        requires to { IsWidthOf to.signed to.width }
+        requires history { IsHistory (inputs_of self.now) history.now }
+        requires y { y < 2 ^ to.width }
+        ensures { IsTrue result ↔ IsGoodCut self.now.exact to
+            (exact_value self.now.op (recent_numbers (inputs_of self.now) history.now)) (number_of to y) }
+    {
+        match self.op.value(history) {
+            Some(value) => good_saturated(value, to, output(to, y), self.exact),
+            None => false,
+        }
     }
 }
 

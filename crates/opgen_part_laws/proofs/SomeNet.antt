@@ -1,18 +1,16 @@
 -- That numbers have no least graph, or several constants no net, is impossible.
 use Rattle.std.proofs.Common.{ℕ, List, refl}
 use Rattle.std.specs.Prelude.{ℤ, All}
-use Rattle.opgen_operator.specs.declared.kinds.several.Several.{Several}
 use Rattle.opgen_operator.specs.declared.operator.Operator.TheVariants.{Mcm}
-use Rattle.opgen_operator.specs.Held.{OutputsHold}
-use Rattle.opgen_operator.specs.kinds.Several.{IsAcceptedSeveral}
 use Rattle.opgen_ports.specs.Ranges.{IsWithin}
 use Rattle.opgen_operator.proofs.Accepted.{accepted_ranges}
 use Rattle.opgen_graph.specs.Recipe.{net_of_graph}
 use Rattle.opgen_graph.specs.Reach.{Reaches}
 use Rattle.opgen_graph.proofs.Fits.{fits_modes}
 use Rattle.opgen_graph.proofs.Serving.{reached_serve}
-use Rattle.opgen_search.specs.Recipe.{HasNet, IsAdderSetOf, SomeLeastGraph}
+use Rattle.opgen_search.specs.Recipe.{IsAdderSetOf, SomeLeastGraph}
 use Rattle.opgen_search.proofs.Closing.{space_reaches}
+use Rattle.opgen_part_laws.specs.SearchedNets.{SomeNet}
 use Rattle.opgen_part_laws.proofs.SomeAdderSet.{some_adder_set, targets_of}
 use Rattle.opgen_part_laws.proofs.SomeRanks.{some_ranks}
 
@@ -32,11 +30,11 @@ some_least_graph numbers width extra small found =
       serves = reached_serve numbers is.targets set (record { adders = adders }) is.parts (set_reaches numbers width extra small set is) ranks;
     })))
 
-pub several_net : OutputsHold → (m : Several) → IsAcceptedSeveral m → (HasNet m → ⊥) → ⊥
-several_net hold m accepted found =
-    some_least_graph m.constants m.input.width m.extra (accepted_ranges (Mcm m) accepted).constants (
+pub several_net : SomeNet
+several_net m accepted searched found =
+    some_least_graph m.constants m.input.width m.extra ((accepted_ranges (Mcm m) accepted).searched searched).constants (
     λ least. found (record {
       net = net_of_graph least.graph m;
       is = record { set = least.set; graph = least.graph; least = least.is; by = refl };
-      fits = fits_modes m accepted least.graph least.serves hold;
+      fits = fits_modes m accepted least.graph least.serves;
     }))

@@ -1,24 +1,29 @@
 -- The least formats of the outputs of whole coefficients, and transposed filters beside direct ones.
-use Rattle.std.proofs.Common.{◌≡◌, ℕ, zero, suc, ◌+◌, ◌≤◌, ◌<◌, Bool, true, List, [], ◌∷◌, map, get_or, nat_lt, codes, Some, refl, sym, ap, ◌∙◌, subst, arith}
-use Rattle.std.specs.Prelude.{ℤ, pos, neg_ℤ, ◌*ℤ◌, slice_get}
+use Rattle.std.proofs.Common.{◌≡◌, ℕ, zero, suc, ◌+◌, ◌*◌, ◌≤◌, ◌<◌, Bool, true, List, [], ◌∷◌, map, get_or, nat_lt, codes, Some, refl, sym, ap, ◌∙◌, subst, arith}
+use Rattle.std.specs.Prelude.{ℤ, pos, neg_ℤ, ◌*ℤ◌, ◌-ℤ◌, slice_get}
 use Rattle.std.proofs.lemmas.Int.{ints}
+use Rattle.std.proofs.lemmas.Nat.{pow_pos}
 use Rattle.opgen_num.specs.declared.format.Format.{Format}
 use Rattle.opgen_num.specs.declared.format.Ratio.{Ratio}
 use Rattle.opgen_num.specs.Formats.{Holds, HoldsBoth}
+use Rattle.opgen_num.proofs.Integers.{product-sum}
+use Rattle.opgen_num.proofs.Quotients.{within_one}
 use Rattle.opgen_num.proofs.RangeWidth.{range_width-least}
-use Rattle.opgen_operator.specs.kinds.Several.{constant_format, numbered}
-use Rattle.opgen_operator.specs.kinds.Sum.{sum_format, sum_places, sum_reach, sum_shift}
-use Rattle.opgen_operator.specs.kinds.Taps.{taps_format}
+use Rattle.opgen_kinds.specs.declared.taps.Taps.{Taps}
+use Rattle.opgen_kinds.specs.Several.{constant_format, numbered}
+use Rattle.opgen_kinds.specs.Sum.{sum_format, sum_shift, weighted_value}
+use Rattle.opgen_kinds.specs.Taps.{direct, taps_format}
+use Rattle.opgen_kinds.proofs.of_kind.Taps.{same_format, same_value}
 use Rattle.opgen_ports.specs.declared.reach.Reach.{Reach}
 use Rattle.opgen_ports.specs.PortNumbers.{format_at}
 use Rattle.opgen_ports.specs.Ports.{covering, one_input, port}
-use Rattle.opgen_ports.specs.Reaches.{in_places, in_units, reach_of, reach_over, width_of}
+use Rattle.opgen_ports.specs.Reaches.{in_places, reach_of, reach_over, width_of}
 use Rattle.opgen_ports.specs.Recent.{Recent, weighted}
-use Rattle.opgen_ports.specs.Shifts.{down, up}
+use Rattle.opgen_ports.specs.Shifts.{down, places_down, up}
 use Rattle.opgen_ports.specs.Spans.{IsOf}
-use Rattle.opgen_ports.proofs.Covered.{covered, is_below}
-use Rattle.opgen_ports.proofs.Reached.{IsWithinReach, held-within, highest-within, highest_for, lowest, lowest-within, sum_highest, sum_lowest, sum_within, within-held}
-use Rattle.opgen_part_laws.specs.WholeCoefficients.{IsLeastFormat, MultiplesAreLeast, TapsAreDirect, TapsAreLeast}
+use Rattle.opgen_ports.proofs.Covered.{covered, is_below, rounded_within}
+use Rattle.opgen_ports.proofs.Reached.{IsWithinReach, greatest_end, held-within, high_end, highest-within, highest_for, least_end, low_end, lowest, lowest-within, sum_highest, sum_lowest, sum_within, within-held}
+use Rattle.opgen_part_laws.specs.WholeCoefficients.{IsFaithful, IsLeastFormat, MultiplesAreLeast, TapsAreDirect, TapsAreLeast}
 
 some_below : (n : ℕ) → nat_lt 0 n ≡ true → 0 < n
 some_below zero e = cc
@@ -82,53 +87,117 @@ pub multiples_least : MultiplesAreLeast
 multiples_least m k c e =
     subst (IsLeastFormat ℤ (IsOf m.input) (λ x. x *ℤ c)) (port_format m.input 0 m.constants k c e) (multiple_least m.input c)
 
--- transposed filters
+-- transposed filters: the least and the greatest sum
+module _ (f : Taps) where
+  abbrev In : Recent → Type 0
+  In x = (ago : ℕ) → IsOf f.input (x ago)
+
+  abbrev below : ℕ
+  below = (reach_of f.input).below
+
+  abbrev above : ℕ
+  above = (reach_of f.input).above
+
+  abbrev low : Recent
+  low k = lowest below above (get_or f.taps k (pos 0))
+
+  abbrev high : Recent
+  high k = highest_for below above (get_or f.taps k (pos 0))
+
+  abbrev reach : Reach
+  reach = reach_over f.input f.taps
+
+  sums_within : (x : Recent) → In x → IsWithinReach reach.below reach.above (weighted f.taps x)
+  sums_within x of = sum_within below above 0 f.taps x (λ k. held-within f.input.signed f.input.width (x k) (of k))
+
+  low_in : In low
+  low_in k = within-held f.input.signed f.input.width (low k) (lowest-within below above (get_or f.taps k (pos 0)))
+
+  high_in : In high
+  high_in k = within-held f.input.signed f.input.width (high k) (highest-within below above (get_or f.taps k (pos 0)))
+
+  low_sum : weighted f.taps low ≡ neg_ℤ (pos reach.below)
+  low_sum = sum_lowest below above 0 f.taps low (λ k lt. ap low (omega arith))
+
+  high_sum : weighted f.taps high ≡ pos reach.above
+  high_sum = sum_highest below above 0 f.taps high (λ k lt. ap high (omega arith))
+
+  sums_least : IsLeastFormat Recent In (weighted f.taps) (covering reach f.input.lsb)
+  sums_least = least_format In (weighted f.taps) reach f.input.lsb sums_within low high low_in high_in low_sum high_sum
+
+  -- in units of the output's last place
+  abbrev s : ℤ
+  s = sum_shift (direct f)
+
+  abbrev d : ℕ
+  d = 1 * down s
+
+  abbrev places : Reach
+  places = in_places reach s (pos 1)
+
+  some : 0 < d
+  some = omega (arith, pow_pos (places_down s))
+
+  faithful_within : (q : Recent × ℤ) → IsFaithful f q.0 q.1 → IsWithinReach places.below places.above q.1
+  faithful_within (x, y) (of, good) =
+      let sum = sums_within x of in
+      rounded_within (weighted f.taps x *ℤ pos (up s)) (pos d) places.below places.above y (omega (arith, ints, some))
+      (low_end (weighted f.taps x) reach.below reach.above (up s) d some sum.0)
+      (high_end (weighted f.taps x) reach.below reach.above (up s) d some sum.1) good
+
+  floor_good : IsFaithful f low (neg_ℤ (pos places.below))
+  floor_good =
+      let n = weighted f.taps low in
+      let under = low_end n reach.below reach.above (up s) d some ((sums_within low low_in).0) in
+      let near = least_end n reach.below reach.above (up s) d some low_sum in (
+        low_in,
+        within_one (n *ℤ pos (up s)) (pos d) (neg_ℤ (pos places.below)) (omega (arith, ints, some, under))
+            (omega (arith, ints, near, product-sum (pos d) (neg_ℤ (pos places.below)) (pos 1))),
+      )
+
+  ceiling_good : IsFaithful f high (pos places.above)
+  ceiling_good =
+      let n = weighted f.taps high in
+      let over = high_end n reach.below reach.above (up s) d some ((sums_within high high_in).1) in
+      let near = greatest_end n reach.below reach.above (up s) d some high_sum in (
+        high_in,
+        within_one (n *ℤ pos (up s)) (pos d) (pos places.above)
+            (omega (arith, ints, near, product-sum (pos d) (pos places.above) (neg_ℤ (pos 1))))
+            (omega (arith, ints, some, over)),
+      )
+
+  faithful_least : IsLeastFormat (Recent × ℤ) (λ q. IsFaithful f q.0 q.1) (λ q. q.1) (taps_format f)
+  faithful_least = least_format (λ q. IsFaithful f q.0 q.1) (λ q. q.1) places f.out_lsb faithful_within
+      (low, neg_ℤ (pos places.below)) (high, pos places.above) floor_good ceiling_good refl refl
+
 pub taps_least : TapsAreLeast
-taps_least f =
-    let below = (reach_of f.input).below in
-    let above = (reach_of f.input).above in
-    let low : Recent = λ k. lowest below above (get_or f.taps k (pos 0)) in
-    let high : Recent = λ k. highest_for below above (get_or f.taps k (pos 0)) in
-    least_format (λ x. (ago : ℕ) → IsOf f.input (x ago)) (weighted f.taps) (reach_over f.input f.taps) f.input.lsb
-    (λ x of. sum_within below above 0 f.taps x (λ k. held-within f.input.signed f.input.width (x k) (of k)))
-    low high (λ k. within-held f.input.signed f.input.width (low k) (lowest-within below above (get_or f.taps k (pos 0))))
-    (λ k. within-held f.input.signed f.input.width (high k) (highest-within below above (get_or f.taps k (pos 0))))
-    (sum_lowest below above 0 f.taps low (λ k lt. ap low (omega arith)))
-    (sum_highest below above 0 f.taps high (λ k lt. ap high (omega arith)))
+taps_least f = record {
+  rounded = faithful_least f;
+  whole = λ same. subst (IsLeastFormat Recent (In f) (weighted f.taps)) (sym (same_format f same)) (sums_least f);
+}
 
--- without a shift and a denominator
-abbrev ratio : (num den : ℤ) → Ratio
-ratio num den = record { num = num; den = den }
+-- beside direct ones
+abbrev format_by : (input : Format) (out_lsb : ℤ) (coefs : List ℤ) (den : ℤ) → Format
+format_by input out_lsb coefs den = covering (in_places (reach_over input coefs) (input.lsb -ℤ out_lsb) den) out_lsb
 
-abbrev reach : (below above : ℕ) → Reach
-reach below above = record { below = below; above = above }
-
-whole_units : (n : ℕ) → in_units n (pos 0) (pos 1) ≡ n
-whole_units n = omega arith
-
-whole_places : (r : Reach) → in_places r (pos 0) (pos 1) ≡ r
-whole_places r = ap (λ b. reach b (in_units r.above (pos 0) (pos 1))) (whole_units r.below) ∙ ap (reach r.below) (whole_units r.above)
-
-one_time : (n : ℤ) → n *ℤ pos 1 ≡ n
-one_time n = omega (arith, ints)
+abbrev ratio_by : (input : Format) (out_lsb : ℤ) (coefs : List ℤ) (den : ℤ) (x : Recent) → Ratio
+ratio_by input out_lsb coefs den x = weighted_value coefs den (input.lsb -ℤ out_lsb) x
 
 pub taps_direct : TapsAreDirect
 taps_direct f s is =
-    let none : sum_shift s ≡ pos 0 = omega (arith, ints, ap (λ (g : Format). g.lsb) is.input, is.out_lsb) in
-    let places : sum_places s ≡ reach_over f.input f.taps =
-    ap (λ k. in_places (sum_reach s) k s.den) none
-    ∙ ap (in_places (sum_reach s) (pos 0)) is.den
-    ∙ whole_places (sum_reach s)
-    ∙ ap (λ g. reach_over g s.coefs) is.input
-    ∙ ap (reach_over f.input) is.coefs in
     let format : sum_format s ≡ taps_format f =
-    ap (λ r. covering r s.out_lsb) places ∙ ap (covering (reach_over f.input f.taps)) is.out_lsb in
+    ap (λ g. format_by g s.out_lsb s.coefs s.den) is.input
+    ∙ ap (λ l. format_by f.input l s.coefs s.den) is.out_lsb
+    ∙ ap (λ cs. format_by f.input f.out_lsb cs s.den) is.coefs
+    ∙ ap (format_by f.input f.out_lsb f.taps) is.den in
     record {
       inputs = ap one_input (sym is.input);
       outputs = ap (λ g. port (codes "y") g ∷ []) (sym format);
       values = λ x. sym (
-          ap (λ k. ratio (weighted s.coefs x *ℤ pos (up k)) (s.den *ℤ pos (down k))) none
-          ∙ ap (λ d. ratio (weighted s.coefs x *ℤ pos 1) (d *ℤ pos 1)) is.den
-          ∙ ap (λ n. ratio n (pos 1)) (one_time (weighted s.coefs x) ∙ ap (λ cs. weighted cs x) is.coefs)
+          ap (λ g. ratio_by g s.out_lsb s.coefs s.den x) is.input
+          ∙ ap (λ l. ratio_by f.input l s.coefs s.den x) is.out_lsb
+          ∙ ap (λ cs. ratio_by f.input f.out_lsb cs s.den x) is.coefs
+          ∙ ap (λ d. ratio_by f.input f.out_lsb f.taps d x) is.den
           );
+      whole = λ same. same_value f same;
     }

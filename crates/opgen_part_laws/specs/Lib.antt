@@ -1,2 +1,3 @@
--- Definitions of opgen_part_laws: which format is the least one, and when two filters mean the same.
+-- Definitions of opgen_part_laws: which format is the least one, when two filters mean the same, and that constants have a net.
+pub mod SearchedNets
 pub mod WholeCoefficients

@@ -1,9 +1,8 @@
 //! Laws of least sets of adders: there is one, with one graph, and one net of several constants on it.
-ghost use Rattle.opgen_search.specs.Recipe.{OneAdderSet, OneLeastGraph, SomeLeastGraph, OneNet, SomeNet};
+ghost use Rattle.opgen_search.specs.Recipe.{OneAdderSet, OneLeastGraph, SomeLeastGraph, OneNet};
 ghost use Rattle.opgen_search.specs.Least.{OneLeast};
 ghost use Rattle.opgen_search.specs.Parts.{NumbersCount};
-
-use opgen_operator::outputs_hold;
+ghost use Rattle.opgen_part_laws.specs.SearchedNets.{SomeNet};
 
 /// Numbers have one least set of adders for their odd parts.
 pub fn one_adder_set()
@@ -36,10 +35,8 @@ pub fn one_net_of_several()
     ensures { OneNet }
 {}
 
-/// That several accepted constants have no such set, or no such net that fits their operator, is impossible. Which set it is,
-/// is not said.
+/// That several accepted constants whose graph is searched for have no such set, or no such net that fits their operator, is
+/// impossible. Which set it is, is not said.
 pub fn some_net_of_several()
     ensures { SomeNet }
-{
-    outputs_hold();
-}
+{}

@@ -1,15 +1,16 @@
 //! Laws on the parts of circuits, designs and texts, which no function of the program calls.
 //!
-//! Proved: A number has one canonical signed-digit form, with the fewest nonzero digits, and its partial sums step up to it.
-//! A set of adders has one graph; there is one least set, one graph of it and one net of several constants, and accepted
-//! constants have such a net (a classical proof). Nets and heaps that grow keep what they have. A product has one net. The
-//! values, widths and columns of accepted operators stay within stated bounds. The outputs of several constants and of
-//! transposed filters have the least formats of their exact values, and a transposed filter means what the direct one with
-//! its taps means. The design of a net at each schedule that fits is sound, can be written and run, and the paths in such a
-//! schedule end in time. A design has one run over its inputs, its steps in numbers and in lanes are runs, its outputs look
-//! no further back than its depth, and its rows have one verdict. A text has one list of tokens or one offset at which none
-//! starts, each token is the longest, and it spells at most one design; that of a design spells it; a text that is rejected
-//! has one cause. A file of vectors has one reading.
+//! Proved: A number has one canonical signed-digit form, with the fewest nonzero digits, and its partial sums step up to
+//! it. A set of adders has one graph; there is one least set, one graph of it and one net of several constants, and
+//! accepted constants that are searched for have such a net (a classical proof). Nets and heaps that grow keep what they
+//! have. A product has one net. The values, widths and columns of accepted operators stay within stated bounds. The
+//! outputs of several constants and of transposed filters have the least formats of their exact values, rounded down and
+//! up, and a transposed filter means what the direct one with its taps means. The design of a net at each schedule that
+//! fits is sound, can be written and run, and the paths in such a schedule end in time. A design has one run over its
+//! inputs, its steps in numbers and in lanes are runs, its outputs look no further back than its depth, and its rows have
+//! one verdict. A text has one list of tokens or one offset at which none starts, each token is the longest, and it
+//! spells at most one design; that of a design spells it; a text that is rejected has one cause. A file of vectors has
+//! one reading.
 //!
 //! By: the laws `one_form`, `fewest_nonzeros`, `partials_step_up`, `partials_end_in_number`, `digits_are_right`,
 //! `digit_sets_reach`, `ranks_are_graphs`, `one_graph`, `reached_sets_serve`, `parts_are_odd`, `multiples_rest`,

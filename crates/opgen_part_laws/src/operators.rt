@@ -1,11 +1,11 @@
 //! Laws of operators: their values, widths and columns stay within stated bounds.
 ghost use Rattle.opgen_budget.specs.Columns.{HasColumns};
 ghost use Rattle.opgen_operator.specs.Bounded.{LimitsAreWithin, OutputsAreWide, ShiftsAreSmall, ExactValuesAreIn128, ValidAreAccepted, AcceptedHaveRoom};
-ghost use Rattle.opgen_operator.specs.kinds.Poly.{PolynomialsHaveRoom};
-ghost use Rattle.opgen_operator.specs.kinds.Product.{ProductsReach};
-ghost use Rattle.opgen_operator.specs.kinds.Single.{RootsAreNarrow};
-ghost use Rattle.opgen_operator.specs.kinds.Sum.{SumsReach};
-ghost use Rattle.opgen_operator.specs.kinds.Taps.{TapsHaveRoom};
+ghost use Rattle.opgen_kinds.specs.Poly.{PolynomialsHaveRoom};
+ghost use Rattle.opgen_kinds.specs.Product.{ProductsReach};
+ghost use Rattle.opgen_kinds.specs.Single.{RootsAreNarrow};
+ghost use Rattle.opgen_kinds.specs.Sum.{SumsReach};
+ghost use Rattle.opgen_kinds.specs.Taps.{TapsHaveRoom};
 ghost use Rattle.opgen_operator.specs.PortNames.{FittingNetsAreNamed};
 ghost use Rattle.opgen_part_laws.specs.WholeCoefficients.{MultiplesAreLeast, TapsAreDirect, TapsAreLeast};
 
@@ -30,13 +30,13 @@ pub fn limits_are_within()
     ensures { LimitsAreWithin }
 {}
 
-/// Each output port of a valid specification has 1 to 64 bits in version 1, and 1 to 96 in version 2.
+/// Each output port of a valid specification has 1 to 64 bits in version 1, and 1 to 96 in later versions.
 pub fn outputs_are_wide()
     ensures { OutputsAreWide }
 {}
 
-/// The shift of a valid specification is from -48 to 48, for sums in version 2 up to 32, from 0 on
-/// for quotients and roots, and 0 for the kinds that have none.
+/// The shift of a valid specification is from -48 to 48, for sums up to 32 after version 1, for
+/// transposed filters up to 0, from 0 on for quotients and roots, and 0 for the kinds that have none.
 pub fn shifts_are_small()
     ensures { ShiftsAreSmall }
 {}
@@ -69,7 +69,7 @@ pub fn polynomials_have_room()
     ensures { PolynomialsHaveRoom }
 {}
 
-/// The output of whole taps has 17 bits more than the input at most.
+/// The output of whole taps has 29 bits more than the input at most.
 pub fn taps_have_room()
     ensures { TapsHaveRoom }
 {}
@@ -79,19 +79,21 @@ pub fn multiples_are_least()
     ensures { MultiplesAreLeast }
 {}
 
-/// The output of a transposed filter has the least format that holds its exact values.
+/// The output of a transposed filter has the least format that holds its exact values, rounded down
+/// and up.
 pub fn taps_are_least()
     ensures { TapsAreLeast }
 {}
 
 /// A transposed filter has the ports and the exact values of the direct filter with its taps as
-/// coefficients, of denominator 1, with outputs in units of the input's last place.
+/// coefficients, of denominator 1, with outputs in the same units. In units of the input's last place
+/// the exact values are the sums themselves.
 pub fn taps_are_direct()
     ensures { TapsAreDirect }
 {}
 
-/// A net that fits an operator whose fields are in range has ports that a design may have, whatever
-/// allowed name the design has.
+/// A net that fits a specification whose operator has its fields in range has ports that a design may
+/// have, whatever allowed name the design has.
 pub fn fitting_nets_are_named()
     ensures { FittingNetsAreNamed }
 {}

@@ -21,11 +21,11 @@ use Rattle.opgen_net.specs.Flow.{Inputs, flow}
 use Rattle.opgen_net.specs.Valid.{IsValid}
 use Rattle.opgen_net.proofs.Appending.{valid-append, flow-append_last, width-append_last}
 use Rattle.opgen_net.proofs.Grown.{grown-more}
-use Rattle.opgen_operator.specs.declared.kinds.poly.Poly.{Poly as Polynomial}
-use Rattle.opgen_operator.specs.kinds.Horner.{degree, all_guarded, guarded, low_end, high_end}
-use Rattle.opgen_operator.specs.kinds.Poly.{terms_from, IsPoly}
+use Rattle.opgen_kinds.specs.declared.poly.Poly.{Poly as Polynomial}
+use Rattle.opgen_kinds.specs.Horner.{degree, all_guarded, guarded, low_end, high_end}
+use Rattle.opgen_kinds.specs.Poly.{terms_from, IsPoly}
 use Rattle.opgen_ports.proofs.InputPorts.{input_bit}
-use Rattle.opgen_operator.proofs.of_kind.Results.{ends_step, partial_bits}
+use Rattle.opgen_kinds.proofs.of_kind.Results.{ends_step, partial_bits}
 use Rattle.opgen_partial.proofs.Laws.{residue_number}
 use Rattle.opgen_poly.specs.Near.{IsPartial, exact_from, halves_from, input_number, IsAtMostHalves}
 use Rattle.opgen_poly.specs.Recipe.{coefficient_at, first, last_word, width_at, with_input}

@@ -9,11 +9,11 @@ use Rattle.opgen_design.specs.Value.{word_at}
 use Rattle.opgen_net.specs.declared.net.Output.{Output}
 use Rattle.opgen_net.specs.Flow.{Inputs, input_at, slice_flow}
 use Rattle.opgen_net.specs.Valid.{slice_width}
-use Rattle.opgen_operator.specs.declared.kinds.poly.Poly.{Poly as Polynomial}
+use Rattle.opgen_kinds.specs.declared.poly.Poly.{Poly as Polynomial}
 use Rattle.opgen_operator.specs.declared.operator.Operator.TheVariants.{Poly}
 use Rattle.opgen_operator.specs.Fits.{FitsOperator, FitsInEachMode}
 use Rattle.opgen_ports.specs.Good.{IsGoodRatio}
-use Rattle.opgen_operator.specs.kinds.Poly.{IsAcceptedPoly, exact_poly, poly_format, IsPoly}
+use Rattle.opgen_kinds.specs.Poly.{IsAcceptedPoly, exact_poly, poly_format, IsPoly}
 use Rattle.opgen_operator.proofs.Accepted.{accepted_ranges, poly_faithful}
 use Rattle.opgen_poly.specs.Near.{input_number}
 use Rattle.opgen_poly.specs.Recipe.{net_of_poly}

@@ -26,10 +26,10 @@ use Rattle.opgen_net.specs.Valid.{IsValid, slice_width, input_widths}
 use Rattle.opgen_net.proofs.Appending.{valid-output}
 use Rattle.opgen_net.proofs.Grown.{grown-then, grown-same, grown-flow}
 use Rattle.opgen_net.proofs.Later.{node_there}
-use Rattle.opgen_operator.specs.declared.kinds.poly.Poly.{Poly as Polynomial}
-use Rattle.opgen_operator.specs.kinds.Horner.{degree, result_places, poly_guard, all_guarded, low_end, high_end, result_low, result_high}
-use Rattle.opgen_operator.specs.kinds.Poly.{exact_poly, terms_from, poly_format, IsPoly}
-use Rattle.opgen_operator.proofs.of_kind.Results.{guard_some, partial_bits, poly_width}
+use Rattle.opgen_kinds.specs.declared.poly.Poly.{Poly as Polynomial}
+use Rattle.opgen_kinds.specs.Horner.{degree, result_places, poly_guard, all_guarded, low_end, high_end, result_low, result_high}
+use Rattle.opgen_kinds.specs.Poly.{exact_poly, terms_from, poly_format, IsPoly}
+use Rattle.opgen_kinds.proofs.of_kind.Results.{guard_some, partial_bits, poly_width}
 use Rattle.opgen_poly.specs.declared.steps.Partial.{Partial}
 use Rattle.opgen_poly.specs.Near.{ArePartialsNear, IsPartial, IsLessThanHalves, exact_from, halves_from, input_number}
 use Rattle.opgen_poly.specs.Recipe.{after, net_of_poly, partial_from, rounding, summed, width_at, with_input}

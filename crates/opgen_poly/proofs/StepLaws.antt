@@ -37,11 +37,11 @@ use Rattle.opgen_net.proofs.FlowWidths.{flow-width}
 use Rattle.opgen_net.proofs.Grown.{grown-then, grown-flow, grown-width}
 use Rattle.opgen_net.proofs.Later.{Later, bits-later}
 use Rattle.opgen_net.proofs.WordLaws.{word-found_width, word-has_bits}
-use Rattle.opgen_operator.specs.declared.kinds.poly.Poly.{Poly as Polynomial}
-use Rattle.opgen_operator.specs.kinds.Horner.{all_guarded, low_end, high_end}
-use Rattle.opgen_operator.specs.kinds.Poly.{IsPoly}
+use Rattle.opgen_kinds.specs.declared.poly.Poly.{Poly as Polynomial}
+use Rattle.opgen_kinds.specs.Horner.{all_guarded, low_end, high_end}
+use Rattle.opgen_kinds.specs.Poly.{IsPoly}
 use Rattle.opgen_ports.proofs.InputPorts.{input_bit}
-use Rattle.opgen_operator.proofs.of_kind.Results.{guard_few, partial_bits, poly_width}
+use Rattle.opgen_kinds.proofs.of_kind.Results.{guard_few, partial_bits, poly_width}
 use Rattle.opgen_partial.specs.declared.pairs.Work.{Work}
 use Rattle.opgen_partial.specs.Law.{AreFactors, HasProducts, words_at}
 use Rattle.opgen_partial.proofs.Laws.{IsRounded, products-law, rounded_sum}

@@ -4,8 +4,8 @@ use Rattle.std.specs.Prelude.{ℤ, pos, ◌+ℤ◌, ◌*ℤ◌}
 use Rattle.std.proofs.Math.Nat.{pow-zero}
 use Rattle.std.proofs.lemmas.Int.{ints}
 use Rattle.opgen_num.proofs.Integers.{commuted, product-sum, sum-product, product_assoc}
-use Rattle.opgen_operator.specs.kinds.Poly.{terms_from}
-use Rattle.opgen_operator.proofs.of_kind.Terms.{next_power}
+use Rattle.opgen_kinds.specs.Poly.{terms_from}
+use Rattle.opgen_kinds.proofs.of_kind.Terms.{next_power}
 use Rattle.opgen_poly.proofs.Cores.{times}
 
 -- one power more

@@ -11,10 +11,10 @@ use Rattle.opgen_num.specs.Rounding.{distance}
 use Rattle.opgen_num.proofs.Integers.{product-sum}
 use Rattle.opgen_num.proofs.RangeWidth.{range_width-least}
 use Rattle.opgen_num.proofs.NearestNumbers.{nearest-floor}
-use Rattle.opgen_operator.specs.declared.kinds.poly.Poly.{Poly as Polynomial}
-use Rattle.opgen_operator.specs.kinds.Horner.{degree, result_places, poly_guard, all_guarded, low_end, high_end, signed_width}
-use Rattle.opgen_operator.specs.kinds.Poly.{terms_from, IsPoly}
-use Rattle.opgen_operator.proofs.of_kind.Results.{ends_step}
+use Rattle.opgen_kinds.specs.declared.poly.Poly.{Poly as Polynomial}
+use Rattle.opgen_kinds.specs.Horner.{degree, result_places, poly_guard, all_guarded, low_end, high_end, signed_width}
+use Rattle.opgen_kinds.specs.Poly.{terms_from, IsPoly}
+use Rattle.opgen_kinds.proofs.of_kind.Results.{ends_step}
 use Rattle.opgen_poly.specs.Near.{exact_from, halves_from, IsLessThanHalves, IsAtMostHalves}
 use Rattle.opgen_poly.specs.Recipe.{coefficient_at}
 use Rattle.opgen_poly.proofs.Cores.{M, above, below, between, times, twice}

@@ -9,9 +9,9 @@ use Rattle.opgen_net.specs.declared.net.Net.{Net}
 use Rattle.opgen_net.specs.Flow.{Inputs, input_at, flow}
 use Rattle.opgen_net.specs.Grown.{HasGrown}
 use Rattle.opgen_net.specs.Valid.{IsValid, widths, input_widths}
-use Rattle.opgen_operator.specs.declared.kinds.poly.Poly.{Poly as Polynomial}
-use Rattle.opgen_operator.specs.kinds.Horner.{degree, result_places, poly_guard, all_guarded, low_end, high_end}
-use Rattle.opgen_operator.specs.kinds.Poly.{terms_from}
+use Rattle.opgen_kinds.specs.declared.poly.Poly.{Poly as Polynomial}
+use Rattle.opgen_kinds.specs.Horner.{degree, result_places, poly_guard, all_guarded, low_end, high_end}
+use Rattle.opgen_kinds.specs.Poly.{terms_from}
 use Rattle.opgen_poly.specs.declared.steps.Partial.{Partial}
 use Rattle.opgen_poly.specs.Recipe.{partial_from, width_at, with_input}
 

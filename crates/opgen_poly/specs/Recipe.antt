@@ -9,9 +9,9 @@ use Rattle.opgen_net.specs.Placed.{with_bits, with_last}
 use Rattle.opgen_net.specs.WordRule.{bits_from}
 use Rattle.opgen_heap.specs.Adding.{residue, with_constant}
 use Rattle.opgen_compress.specs.Recipe.{compressed}
-use Rattle.opgen_operator.specs.declared.kinds.poly.Poly.{Poly as Polynomial}
-use Rattle.opgen_operator.specs.kinds.Horner.{degree, poly_guard, guarded, partial_width, all_guarded}
-use Rattle.opgen_operator.specs.kinds.Poly.{poly_format}
+use Rattle.opgen_kinds.specs.declared.poly.Poly.{Poly as Polynomial}
+use Rattle.opgen_kinds.specs.Horner.{degree, poly_guard, guarded, partial_width, all_guarded}
+use Rattle.opgen_kinds.specs.Poly.{poly_format}
 use Rattle.opgen_partial.specs.declared.pairs.Products.{Products}
 use Rattle.opgen_partial.specs.declared.pairs.Work.{Work}
 use Rattle.opgen_partial.specs.Recipe.{sign_correction, with_products}

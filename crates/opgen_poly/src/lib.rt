@@ -12,7 +12,7 @@
 ghost use Rattle.std.specs.Prelude.{◌≡◌, IfOk};
 ghost use Rattle.opgen_operator.specs.declared.operator.Operator.TheVariants.{Poly};
 ghost use Rattle.opgen_operator.specs.Fits.{FitsInEachMode};
-ghost use Rattle.opgen_operator.specs.kinds.Poly.{IsAcceptedPoly};
+ghost use Rattle.opgen_kinds.specs.Poly.{IsAcceptedPoly};
 ghost use Rattle.opgen_poly.specs.Near.{ArePartialsNear};
 ghost use Rattle.opgen_poly.specs.Recipe.{net_of_poly};
 

@@ -1,6 +1,6 @@
 //! The numbers of one step of Horner's rule: the columns that are left out, the width of the heap, and the added constant.
 ghost use Rattle.std.specs.Prelude.{◌≡◌, ◌≤◌, ◌<◌, ◌+◌, ◌^◌, pos, ◌*ℤ◌, ◌≤ℤ◌, length, unsigned_abs};
-ghost use Rattle.opgen_operator.specs.kinds.Poly.{IsPoly};
+ghost use Rattle.opgen_kinds.specs.Poly.{IsPoly};
 ghost use Rattle.opgen_poly.specs.Recipe.{left_out as left_out_of, heap_width as heap_width_of, kept_part as kept_part_of, added as added_of, pairs as pairs_of, rounding as rounding_of, last_word as last_word_of};
 
 use opgen_budget::drop_columns;

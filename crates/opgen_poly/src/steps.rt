@@ -2,7 +2,7 @@
 ghost use Rattle.std.specs.Prelude.{◌≡◌, ◌≤◌, ◌<◌, ◌+◌, ◌-◌, length, slice_index, IfOk};
 ghost use Rattle.opgen_net.specs.Valid.{IsValid, widths};
 ghost use Rattle.opgen_net.specs.WordRule.{bits_from};
-ghost use Rattle.opgen_operator.specs.kinds.Poly.{IsPoly};
+ghost use Rattle.opgen_kinds.specs.Poly.{IsPoly};
 ghost use Rattle.opgen_poly.specs.Near.{IsPartial};
 ghost use Rattle.opgen_poly.specs.Recipe.{first as first_of, summed as summed_of, stepped, partial_from, net_of_poly, heap_width as heap_width_of};
 

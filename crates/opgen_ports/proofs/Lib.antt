@@ -9,3 +9,4 @@ pub mod Widths
 pub mod Covered
 pub mod In128
 pub mod Cycles
+pub mod Clamped

@@ -8,6 +8,7 @@ pub mod Reaches
 pub mod Ports
 pub mod Limits
 pub mod Good
+pub mod Saturated
 pub mod Spans
 pub mod In128
 pub mod PortNumbers

@@ -1,9 +1,9 @@
 -- The limits that each version of specifications sets to inputs and signals.
 use Rattle.std.specs.Prelude.{ℕ, ◌≡◌, ◌⊎◌, ◌==◌, if◌then◌else◌}
 
--- there are two versions
+-- there are three versions
 abbrev pub IsVersion : ℕ → Type 0
-IsVersion version = (version ≡ 1) ⊎ (version ≡ 2)
+IsVersion version = (version ≡ 1) ⊎ ((version ≡ 2) ⊎ (version ≡ 3))
 
 -- Where a number is no version the limits are those of version 2. No answer hangs on them: such a version is a fault that
 -- comes before all that have limits.

@@ -24,6 +24,10 @@ with_rest false main rest = main ∷ []
 abbrev pub AreWithin : (most : ℕ) → List PortFormat → Type 0
 AreWithin most ports = All (λ (p : PortFormat). p.format.width ≤ most) ports
 
+-- a port has one bit or more, and so many at most
+abbrev pub HasWidth : (most : ℕ) → PortFormat → Type 0
+HasWidth most p = (1 ≤ p.format.width) × (p.format.width ≤ most)
+
 abbrev pub one_input : Format → List PortFormat
 one_input x = port (codes "x") x ∷ []
 

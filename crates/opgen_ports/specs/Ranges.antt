@@ -6,7 +6,11 @@ use Rattle.opgen_num.specs.Formats.{fewest_bits}
 
 -- the power of a lowest bit
 abbrev pub IsPower : ℤ → Type 0
-IsPower lsb = (negsuc 31 ≤ℤ lsb) × (lsb ≤ℤ pos 32)
+IsPower lsb = (negsuc 63 ≤ℤ lsb) × (lsb ≤ℤ pos 64)
+
+-- the power of a lowest bit of the kinds and versions that have fewer
+abbrev pub IsNear : ℤ → Type 0
+IsNear lsb = (negsuc 31 ≤ℤ lsb) × (lsb ≤ℤ pos 32)
 
 pub record IsInput (f : Format) : Type 0 where
   pub fewest : fewest_bits f.signed ≤ f.width

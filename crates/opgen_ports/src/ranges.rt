@@ -1,13 +1,20 @@
 //! Tests whether values are within the ranges that keys of several kinds have.
 ghost use Rattle.std.specs.Prelude.{◌≡◌, ◌≤◌, ◌≤ℤ◌, ◌↔◌, ◌^◌, pos, All, IsTrue};
 ghost use Rattle.opgen_num.specs.Formats.{fewest_bits};
-ghost use Rattle.opgen_ports.specs.Ranges.{IsPower, IsInput, IsWithin};
+ghost use Rattle.opgen_ports.specs.Ranges.{IsPower, IsNear, IsInput, IsWithin};
 
 use opgen_num::{Format, MAX_INPUT};
 
-/// Whether a lowest bit may have this power: -32 to 32.
+/// Whether a lowest bit may have this power: -64 to 64.
 pub fn is_power(lsb: i32) -> bool
     ensures { IsTrue result ↔ IsPower lsb }
+{
+    -64 <= lsb && lsb <= 64
+}
+
+/// Whether a lowest bit may have this power in the kinds and versions that have fewer: -32 to 32.
+pub fn is_near(lsb: i32) -> bool
+    ensures { IsTrue result ↔ IsNear lsb }
 {
     -32 <= lsb && lsb <= 32
 }

@@ -12,9 +12,9 @@ use Rattle.opgen_num.proofs.BitLength.{power_order}
 use Rattle.opgen_design.specs.declared.expr.Op.TheVariants.{And, Or}
 use Rattle.opgen_design.specs.Tree.{Tree, inverse, chain, none, more}
 use Rattle.opgen_design.specs.Value.{Scope, value, cut, chosen}
-use Rattle.opgen_saturate.specs.Range.{into_range, least_of, greatest_of, saturated}
+use Rattle.opgen_ports.specs.Saturated.{into_range, least_of, greatest_of, saturated}
 use Rattle.opgen_saturate.specs.Recipe.{is_wider, first_dropped, counting, joined, outside, least_word, greatest_word}
-use Rattle.opgen_saturate.proofs.Law.{Lies, under, over, inside, lies}
+use Rattle.opgen_ports.proofs.Clamped.{Lies, under, over, inside, lies}
 use Rattle.opgen_saturate.proofs.Bits.{any_of, all_of, or-value, and-value}
 use Rattle.opgen_saturate.proofs.Outside.{is_outside, Tells}
 use Rattle.opgen_saturate.proofs.Resized.{some_bits}

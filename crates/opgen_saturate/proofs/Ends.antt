@@ -11,7 +11,7 @@ use Rattle.opgen_num.specs.WordLaws.{nat-word, length-word}
 use Rattle.opgen_num.specs.Words.{nat, word}
 use Rattle.opgen_num.proofs.Residues.{value_from_residue}
 use Rattle.opgen_design.specs.Width.{IsWidth}
-use Rattle.opgen_saturate.specs.Range.{least_of, greatest_of}
+use Rattle.opgen_ports.specs.Saturated.{least_of, greatest_of}
 use Rattle.opgen_saturate.specs.Recipe.{least_word, greatest_word}
 
 -- the number of a word of a format's width

@@ -6,22 +6,9 @@ use Rattle.std.proofs.lemmas.Nat.{pow_pos}
 use Rattle.opgen_num.specs.Formats.{least, greatest}
 use Rattle.opgen_num.proofs.Integers.{products, product_order}
 use Rattle.opgen_num.proofs.Quotients.{within_one, within_one-bounds}
-use Rattle.opgen_saturate.specs.Range.{into_range, least_of, greatest_of, saturated, SaturationKeepsGood}
-
--- what a number becomes, by where it lies
-pub data Lies (low high n : ℤ) : Type 0 where
-  under : n <ℤ low → into_range low high n ≡ low → Lies low high n
-  over : low ≤ℤ n → high <ℤ n → into_range low high n ≡ high → Lies low high n
-  inside : low ≤ℤ n → n ≤ℤ high → into_range low high n ≡ n → Lies low high n
-
-pub lies : (low high n : ℤ) → Lies low high n
-lies low high n =
-    by_lt_z n low (λ h. under h (grind (arith, ints)))
-    (λ h. by_lt_z high n (λ g. over h g (grind (arith, ints))) (λ g. inside h g (grind (arith, ints))))
-
-pub in_order : (signed : Bool) (width : ℕ) → least signed width ≤ℤ greatest signed width
-in_order false width = omega (arith, ints, pow_pos width)
-in_order true width = omega (arith, ints, pow_pos (width - 1))
+use Rattle.opgen_ports.proofs.Clamped.{Lies, under, over, inside, lies, in_order}
+use Rattle.opgen_ports.specs.Saturated.{into_range, least_of, greatest_of, saturated}
+use Rattle.opgen_saturate.specs.Law.{SaturationKeepsGood}
 
 module _ (m : ℤ) (some : pos 0 <ℤ m) where
   order : (a b : ℤ) → a ≤ℤ b → (m *ℤ a) ≤ℤ (m *ℤ b)

@@ -9,3 +9,4 @@ mod Limit
 mod Lowest
 mod Whole
 mod Slices
+pub mod ChosenNets

@@ -17,7 +17,7 @@ use Rattle.opgen_net.specs.WordRule.{IsThere}
 use Rattle.opgen_net.proofs.FlowWidths.{flow-width}
 use Rattle.opgen_net.proofs.Later.{Later, bits-later, words-later}
 use Rattle.opgen_net.proofs.WordLaws.{word-has_bits, word-found_width}
-use Rattle.opgen_saturate.specs.Range.{least_of, greatest_of}
+use Rattle.opgen_ports.specs.Saturated.{least_of, greatest_of}
 use Rattle.opgen_saturate.specs.Recipe.{is_wider, resized}
 use Rattle.opgen_saturate.specs.Saturates.{AreFormats, Saturates}
 use Rattle.opgen_saturate.proofs.Ends.{value_is}

@@ -21,7 +21,7 @@ use Rattle.opgen_net.proofs.FlowWidths.{flow-width}
 use Rattle.opgen_net.proofs.Later.{Later, later-then, bits-later, words-later}
 use Rattle.opgen_net.proofs.WordLaws.{word-has_bits, word-found_width}
 use Rattle.opgen_saturate.specs.Output.{AreOutputFormats, with_slice, saturated_output, saturated_outputs, saturated_net, first_word, port_of, port_in, SaturatesOutput}
-use Rattle.opgen_saturate.specs.Range.{saturated}
+use Rattle.opgen_ports.specs.Saturated.{saturated}
 use Rattle.opgen_saturate.specs.Saturates.{AreFormats}
 use Rattle.opgen_saturate.proofs.Decision.{all-bits}
 use Rattle.opgen_saturate.proofs.Lowest.{Made}

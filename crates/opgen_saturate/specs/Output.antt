@@ -12,7 +12,7 @@ use Rattle.opgen_net.specs.Flow.{Inputs, slice_flow}
 use Rattle.opgen_net.specs.Placed.{Placed, with_bits, whole}
 use Rattle.opgen_net.specs.Valid.{input_widths, slice_width}
 use Rattle.opgen_net.specs.WordRule.{bits_from}
-use Rattle.opgen_saturate.specs.Range.{saturated}
+use Rattle.opgen_ports.specs.Saturated.{saturated}
 use Rattle.opgen_saturate.specs.Recipe.{with_saturated}
 
 -- a net has one output, which is read in one format, and is to have another

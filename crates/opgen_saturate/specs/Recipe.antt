@@ -51,7 +51,7 @@ abbrev pub joined : Op → (node low count : ℕ) → Tree
 joined op node low (suc zero) = bit_of node low
 joined op node low count = chain op (bits_of node low count)
 
--- 1 where the number lies outside: a dropped bit is 1, and of signed numbers not all are
+-- 1 where the number lies outside: a dropped bit is 1, and not all are where both formats are signed
 abbrev pub outside : (node : ℕ) → (format to : Format) → Tree
 outside node format to =
     let low = first_dropped format to in

@@ -7,7 +7,7 @@ use Rattle.opgen_design.specs.Run.{AreWords}
 use Rattle.opgen_net.specs.declared.net.Net.{Net}
 use Rattle.opgen_net.specs.Flow.{Inputs, flow}
 use Rattle.opgen_net.specs.Valid.{input_widths, widths}
-use Rattle.opgen_saturate.specs.Range.{saturated}
+use Rattle.opgen_ports.specs.Saturated.{saturated}
 
 -- a node that is read in one format, and another format, both of widths of signals
 pub record AreFormats (net : Net) (node : ℕ) (format to : Format) : Type 0 where

@@ -4,13 +4,12 @@
 //! Proved: For every two formats with widths of signals, the nodes are those of the recipe. At every time and for all inputs
 //! the new output is the old one brought into the range. The net stays valid, and keeps its inputs and the words of its
 //! earlier nodes. A number that is good for an exact value, and brought into a range, is good for that value brought into
-//! it, exact or faithful.
+//! it, exact or faithful. The net of an operator becomes one that fits the specification.
 //!
-//! By: `saturate`, `saturate_output`; the law `saturation_keeps_good`.
-//!
-//! No command uses it yet.
+//! By: `saturate`, `saturate_output`, `cut_output`; the law `saturation_keeps_good`.
 #![tactic(auto)]
 
+mod cut;
 mod laws;
 mod output;
 mod step;
@@ -18,6 +17,7 @@ mod test;
 #[cfg(test)]
 mod tests;
 
+pub use cut::cut_output;
 pub use laws::saturation_keeps_good;
 pub use output::saturate_output;
 pub use step::saturate;

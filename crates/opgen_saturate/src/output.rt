@@ -50,8 +50,7 @@ fn saturate_slice(
 
 /// Brings the only output of a net into the range of another format. The inputs stay.
 ///
-/// `format` is that in which the output is read. If memory runs out, the net is valid, has some of the
-/// nodes, and no output.
+/// `format` is that in which the output is read. If memory runs out, the net is valid.
 pub fn saturate_output(
     alloc: Global,
     net: &mut Net,

@@ -146,8 +146,7 @@ fn append(
 ///
 /// Where the other format holds every number, that is the node's bits with copies of its sign above
 /// them, or zeros. Elsewhere the bits that are dropped are tested, and where they say that the number
-/// lies outside the least or the greatest number is chosen. If memory runs out, the net is valid and
-/// has some of the nodes.
+/// lies outside the least or the greatest number is chosen. If memory runs out, the net is valid.
 pub fn saturate(
     alloc: Global,
     net: &mut Net,

@@ -79,8 +79,8 @@ fn joined(alloc: Global, op: Op, node: usize, low: u32, count: u32) -> Result<Ex
     Ok(Expr::Chain(op, operands))
 }
 
-/// Whether the number of a node lies outside: one of the bits that are dropped is 1, and of signed
-/// numbers not all are.
+/// Whether the number of a node lies outside: one of the bits that are dropped is 1, and not all are
+/// if both formats are signed. The sign is tested even where no bit is dropped.
 pub fn outside(alloc: Global, node: usize, format: Format, to: Format) -> Result<Expr, AllocError>
     requires from { format.width ≤ MAX_WIDTH }
     requires to { 1 ≤ to.width }

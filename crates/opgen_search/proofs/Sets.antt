@@ -1,5 +1,5 @@
 -- A set within a larger one.
-use Rattle.std.proofs.Common.{◌≡◌, ◌≢◌, ◌⊎◌, inl, inr, ⊎_elim, ℕ, ◌≤◌, ◌<◌, false, List, [], ◌∷◌, ◌++◌, length, length-append, Contains, IsPermutation, refl, sym, ap, subst, ◌∙◌, arith}
+use Rattle.std.proofs.Common.{◌≡◌, ◌≢◌, ◌⊎◌, inl, inr, ⊎_elim, ℕ, ◌≤◌, ◌<◌, false, List, [], ◌∷◌, ◌++◌, length, length-append, Contains, IsPermutation, refl, sym, subst, ◌∙◌, arith}
 use lib.Dec.{eqb}
 use Rattle.std.specs.List.{IsDistinct, remove}
 use Rattle.std.specs.List.Sorted.{IsStrictlyIncreasing, IsNonDecreasing}
@@ -12,7 +12,7 @@ use Rattle.std.proofs.lemmas.List.Sorted.{IsPermutation-refl, IsPermutation-sym,
 use Rattle.std.proofs.lemmas.Map.Keys.{IsDistinct-head, IsDistinct-tail, IsDistinct-cons, IsDistinct-IsPermutation, IsStrictlyIncreasing-from_distinct}
 use Rattle.opgen_graph.specs.SetCost.{set_cost, adder_cost}
 use Rattle.opgen_graph.proofs.Members.{here, there, of_cons, of_nil, all_of}
-use Rattle.opgen_graph.proofs.SignedSets.{Climbs, climbs}
+use Rattle.opgen_graph.proofs.SignedSets.{Climbs, climbs, same_climbs}
 use Rattle.opgen_search.specs.Members.{Within}
 
 -- ---- lists in which no number stands twice
@@ -90,22 +90,6 @@ one_more xs ys dx dy w non = besides (difference xs ys dx w)
     )
 
 -- ---- increasing lists
-same_climbs : (xs ys : List ℕ) → Climbs xs → Climbs ys → Within xs ys → Within ys xs → xs ≡ ys
-same_climbs [] [] hx hy to from = refl
-same_climbs [] (y ∷ ys) hx hy to from = absurd (of_nil y (from y (here y ys)))
-same_climbs (x ∷ xs) [] hx hy to from = absurd (of_nil x (to x (here x xs)))
-same_climbs (x ∷ xs) (y ∷ ys) hx hy to from =
-    let low : y ≤ x = ⊎_elim (λ (e : y ≡ x). omega (arith, e)) (λ (k : Contains ys x). omega (arith, hy.0 x k))
-    (of_cons y x ys (to x (here x xs))) in
-    let high : x ≤ y = ⊎_elim (λ (e : x ≡ y). omega (arith, e)) (λ (k : Contains xs y). omega (arith, hx.0 y k))
-    (of_cons x y xs (from y (here y ys))) in
-    let e : x ≡ y = omega (arith, low, high) in
-    let to_tail : Within xs ys = λ z c. ⊎_elim (λ (s : y ≡ z). absurd (omega (arith, hx.0 z c, s, e))) (λ (k : Contains ys z). k)
-    (of_cons y z ys (to z (there x z xs c))) in
-    let from_tail : Within ys xs = λ z c. ⊎_elim (λ (s : x ≡ z). absurd (omega (arith, hy.0 z c, s, e))) (λ (k : Contains xs z). k)
-    (of_cons x z xs (from z (there y z ys c))) in
-    ap (λ zs. x ∷ zs) (same_climbs xs ys hx.1 hy.1 to_tail from_tail) ∙ ap (λ z. z ∷ ys) e
-
 pub same_set : (xs ys : List ℕ) → IsStrictlyIncreasing xs → IsStrictlyIncreasing ys → Within xs ys → Within ys xs → xs ≡ ys
 same_set xs ys hx hy to from = same_climbs xs ys (climbs xs hx) (climbs ys hy) to from
 

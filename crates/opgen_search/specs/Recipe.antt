@@ -1,10 +1,9 @@
 -- The least set of adders for the odd parts of some numbers, its graph, and the net of several constants by that graph.
 use Rattle.std.specs.Prelude.{◌≡◌, ℕ, ℤ, List, All}
 use Rattle.opgen_net.specs.declared.net.Net.{Net}
-use Rattle.opgen_operator.specs.declared.kinds.several.Several.{Several}
+use Rattle.opgen_kinds.specs.declared.several.Several.{Several}
 use Rattle.opgen_operator.specs.declared.operator.Operator.TheVariants.{Mcm}
 use Rattle.opgen_operator.specs.Fits.{FitsInEachMode}
-use Rattle.opgen_operator.specs.kinds.Several.{IsAcceptedSeveral}
 use Rattle.opgen_ports.specs.Ranges.{IsWithin}
 use Rattle.opgen_graph.specs.declared.ranks.Graph.{Graph}
 use Rattle.opgen_graph.specs.Graphs.{IsRanks}
@@ -59,7 +58,3 @@ pub record HasNet (several : Several) : Type 0 where
   pub net : Net
   pub is : IsNetOfSeveral several net
   pub fits : FitsInEachMode (Mcm several) net
-
--- that several accepted constants have none is impossible
-abbrev pub SomeNet : Type 0
-SomeNet = (several : Several) → IsAcceptedSeveral several → (HasNet several → ⊥) → ⊥

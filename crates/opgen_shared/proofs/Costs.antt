@@ -5,13 +5,16 @@ use Rattle.std.proofs.lemmas.List.Sums.{sum_by_more}
 use Rattle.std.proofs.lemmas.List.Elements.{All-contains}
 use Rattle.opgen_csd.specs.Digits.{nonzeros}
 use Rattle.opgen_graph.specs.declared.ranks.Adder.{Adder}
+use Rattle.opgen_graph.specs.declared.ranks.Graph.{Graph}
 use Rattle.opgen_graph.specs.Graphs.{values}
-use Rattle.opgen_graph.specs.Targets.{HasTarget, AreTargetsOf}
+use Rattle.opgen_graph.specs.Targets.{HasTarget, IsTargetOf, AreTargetsOf}
 use Rattle.opgen_graph.proofs.Members.{of_cons, read, all_of}
 use Rattle.opgen_graph.proofs.TargetLists.{part_odd, part_most, some_number}
 use Rattle.opgen_ports.specs.Ranges.{IsWithin}
+use Rattle.opgen_graph.specs.Reach.{IsWideMember}
+use Rattle.opgen_graph.specs.Served.{Serves}
 use Rattle.opgen_shared.specs.Digits.{HasDigits, AreForms, digit_adders}
-use Rattle.opgen_shared.specs.Shared.{IsWideMember, HoldsParts}
+use Rattle.opgen_shared.specs.Shared.{IsSharedGraph}
 use Rattle.opgen_shared.specs.Sums.{placed_by}
 use Rattle.opgen_shared.proofs.Forms.{same_count}
 
@@ -38,12 +41,16 @@ each_wide numbers parts small are =
     (λ x c. let (t, in_ts, is) = (are.members x).0 c in has_wide t x is (All-contains (IsWithin 1048575) numbers t small in_ts))
 
 pub holds_parts : (numbers : List ℤ) (parts : List ℕ) (adders : List Adder) (n : ℕ) → AreTargetsOf numbers parts → length parts ≤ n
-    → ((k : ℕ) → k < n → Contains (placed_by adders) (get_or parts k 0)) → HoldsParts numbers adders
+    → ((k : ℕ) → k < n → Contains (placed_by adders) (get_or parts k 0)) → (x : ℕ) → IsTargetOf numbers x → Contains (values adders) x
 holds_parts numbers parts adders n are all made x target =
     let c = (are.members x).1 target in
     let (t, in_ts, is) = target in
     let stands : Contains (placed_by adders) x = subst (Contains (placed_by adders)) (read parts x c) (made c.0 (omega (arith, c.1, all))) in
     ⊎_elim (λ (e : 1 ≡ x). absurd (omega (arith, e, is.above))) (λ (k : Contains (values adders) x). k) (of_cons 1 x (values adders) stands)
+
+pub serves : (numbers : List ℤ) (graph : Graph) → IsSharedGraph graph.adders
+    → ((x : ℕ) → IsTargetOf numbers x → Contains (values graph.adders) x) → Serves numbers graph
+serves numbers graph is has = record { wired = is.wired; members = is.members; has_parts = has }
 
 -- one part more stands
 pub one_made : (parts : List ℕ) (before now : List Adder) (i : ℕ) → ((k : ℕ) → k < i → Contains (placed_by before) (get_or parts k 0))

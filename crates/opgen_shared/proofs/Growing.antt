@@ -9,7 +9,8 @@ use Rattle.opgen_graph.specs.Adders.{Makes}
 use Rattle.opgen_graph.specs.Graphs.{values}
 use Rattle.opgen_graph.specs.GraphLaws.{IsWired}
 use Rattle.opgen_graph.proofs.Members.{here, of_one, of_nil, all_of}
-use Rattle.opgen_shared.specs.Shared.{IsWideMember, AreNew, IsSharedGraph}
+use Rattle.opgen_graph.specs.Reach.{IsWideMember}
+use Rattle.opgen_shared.specs.Shared.{AreNew, IsSharedGraph}
 use Rattle.opgen_shared.specs.Sums.{AreSums, placed_by}
 
 pub values_more : (done : List Adder) (a : Adder) → values (done ++ a ∷ []) ≡ values done ++ a.value ∷ []

@@ -8,8 +8,8 @@ use Rattle.opgen_graph.specs.Adders.{Makes}
 use Rattle.opgen_graph.specs.Graphs.{values}
 use Rattle.opgen_graph.proofs.Members.{here, there, of_cons}
 use Rattle.opgen_graph.proofs.Powers.{twice, positive}
-use Rattle.opgen_shared.specs.Shared.{IsWideMember}
-use Rattle.opgen_shared.specs.Steps.{IsWide, IsStep, IsDigitAdder}
+use Rattle.opgen_graph.specs.Reach.{IsWide, IsWideMember}
+use Rattle.opgen_shared.specs.Steps.{IsStep, IsDigitAdder}
 use Rattle.opgen_shared.proofs.Forms.{fewer_plus, fewer_minus}
 
 at_least : (j a : ℕ) → a ≤ 2 ^ j * a

@@ -1,14 +1,11 @@
 -- The last adder of a number: one operand stands already, and the other is the rest, which may have to be made.
-use Rattle.std.specs.Prelude.{◌≡◌, ◌⊎◌, ℕ, ◌-◌, ◌*◌, ◌%◌, ◌<◌, ◌≤◌, ◌^◌, List, ◌∷◌, Contains}
+use Rattle.std.specs.Prelude.{◌≡◌, ◌⊎◌, ℕ, ◌-◌, ◌*◌, ◌<◌, ◌≤◌, ◌^◌, List, ◌∷◌, Contains}
 use Rattle.opgen_graph.specs.declared.ranks.Adder.{Adder}
 use Rattle.opgen_graph.specs.Adders.{Makes}
+use Rattle.opgen_graph.specs.Reach.{IsWide}
 use Rattle.opgen_shared.specs.declared.candidates.Candidate.{Candidate}
 use Rattle.opgen_shared.specs.Digits.{HasDigits}
 use Rattle.opgen_shared.specs.declared.steps.Shifted.{Shifted}
-
--- an odd number of at most 21 bits
-abbrev pub IsWide : ℕ → Type 0
-IsWide n = (n % 2 ≡ 1) × (n < 2 ^ 21)
 
 -- the number stands already, or its digits are counted
 pub record Weighs (placed : List ℕ) (n weight : ℕ) : Type 0 where

@@ -1,20 +1,22 @@
-//! The graph of many numbers: their odd parts in increasing order, each by its lightest steps.
+//! The graph of many numbers: their odd parts in increasing order, each by its best steps.
 ghost use Rattle.std.specs.Prelude.{ℕ, ◌+◌, ◌≤◌, ◌∷◌, length, All, Contains, IfOk, OnOk};
 ghost use Rattle.opgen_ports.specs.Ranges.{IsWithin};
+ghost use Rattle.opgen_graph.specs.Reach.{IsWide};
+ghost use Rattle.opgen_graph.specs.Served.{Serves};
 ghost use Rattle.opgen_shared.specs.Digits.{IsWithinDigits};
-ghost use Rattle.opgen_shared.specs.Shared.{IsSharedGraph, HoldsParts};
+ghost use Rattle.opgen_shared.specs.Shared.{IsSharedGraph};
 ghost use Rattle.opgen_shared.specs.Sums.{AreSums, placed_by};
-ghost use Rattle.opgen_shared.specs.Steps.{IsWide, Weighs};
+ghost use Rattle.opgen_shared.specs.Steps.{Weighs};
 
 use crate::parts::odd_parts;
-use crate::steps::lightest_step;
+use crate::steps::best_step;
 use crate::sums::{Sums, first_sums, place, stands};
 use crate::weights::digit_count;
 use opgen_graph::Graph;
 use opgen_num::Memory;
 use std::alloc::{AllocError, Global};
 
-// Makes a number, unless it stands: first the rest of its lightest step, and then the number.
+// Makes a number, unless it stands: first the rest of its best step, and then the number.
 fn make(sums: &mut Sums, number: u32, weight: u32) -> Result<(), AllocError>
     requires sums { AreSums sums.old.adders sums.old.levels.items }
     requires number { IsWide number }
@@ -27,19 +29,20 @@ fn make(sums: &mut Sums, number: u32, weight: u32) -> Result<(), AllocError>
     if stands(sums, number) {
         return Ok(());
     }
-    let step = lightest_step(sums, number, weight);
+    let step = best_step(sums, number, weight);
     make(sums, step.rest, step.weight)?;
     place(sums, step.adder)
 }
 
 /// The graph of some numbers by a fixed rule: it holds their odd parts above 1.
 ///
-/// The odd parts are made in increasing order. Each is made of a number that stands, shifted, and of the rest that has the
-/// fewest signed digits, which is made first in the same way.
+/// The odd parts are made in increasing order. Each is made of a number that stands, shifted, and of a rest with fewer signed
+/// digits, which is made first in the same way: so that the adder is no deeper than two, or least deeper, and of such rests
+/// the one with the fewest digits.
 pub fn shared_graph(alloc: Global, numbers: &[i64]) -> Result<Graph, Memory>
     requires { All (IsWithin 1048575) numbers.now }
     ensures graph { IfOk result (λ graph. IsSharedGraph graph.adders) }
-    ensures parts { IfOk result (λ graph. HoldsParts numbers.now graph.adders) }
+    ensures serves { IfOk result (Serves numbers.now) }
     ensures few { IfOk result (λ graph. IsWithinDigits numbers.now graph.adders) }
 {
     let parts = odd_parts(alloc, numbers)?;

@@ -2,7 +2,7 @@
 ghost use Rattle.std.specs.Prelude.{◌≡◌, ◌↔◌, ℕ, ◌*◌, ◌^◌, ◌%◌, ◌<◌, All, Contains, IfOk, IfSome, IfNone};
 ghost use Rattle.opgen_ports.specs.Ranges.{IsWithin};
 ghost use Rattle.opgen_graph.specs.Targets.{AreTargetsOf, HasTarget, IsTargetOf};
-ghost use Rattle.opgen_shared.specs.Shared.{IsWideMember};
+ghost use Rattle.opgen_graph.specs.Reach.{IsWideMember};
 
 use std::alloc::{AllocError, Global};
 

@@ -1,11 +1,11 @@
-//! The step to a number whose rest is lightest, over all numbers that stand and all their shifts.
+//! The step to a number that is quick and whose rest is lightest, over all numbers that stand and all their shifts.
 ghost use Rattle.std.specs.Prelude.{◌≡◌, ◌*◌, ◌^◌, ◌≤◌, ◌<◌, Contains};
+ghost use Rattle.opgen_graph.specs.Reach.{IsWide, IsWideMember};
 ghost use Rattle.opgen_shared.specs.Digits.{HasDigits};
-ghost use Rattle.opgen_shared.specs.Shared.{IsWideMember};
 ghost use Rattle.opgen_shared.specs.Sums.{AreSums, placed_by};
-ghost use Rattle.opgen_shared.specs.Steps.{IsWide, IsCandidate, IsDigitAdder, IsShifted};
+ghost use Rattle.opgen_shared.specs.Steps.{IsCandidate, IsDigitAdder, IsShifted};
 
-use crate::candidates::{Candidate, lighter};
+use crate::candidates::{Candidate, better, expected_level};
 use crate::parts::split_odd;
 use crate::sums::{LIMIT, Sums, operand_level};
 use crate::weights::weight;
@@ -45,19 +45,20 @@ fn digit_step(sums: &Sums, number: u32, count: u32) -> Candidate
         adder,
         rest: adder.u,
         weight,
-        level: operand_level(sums, adder),
+        level: operand_level(sums, adder).max(expected_level(weight)),
     }
 }
 
-// The lighter of a candidate and the step by the distance between the number and one that stands.
-fn with_distance(sums: &Sums, best: Candidate, number: u32, operand: u32) -> Candidate
+// The better of a candidate and the step by the distance between the number and one that stands.
+fn with_distance(sums: &Sums, best: Candidate, number: u32, operand: u32, count: u32) -> Candidate
     requires sums { AreSums sums.now.adders sums.now.levels.items }
     requires number { IsWide number }
     requires operand { IsWide operand }
     requires stands { Contains (placed_by sums.now.adders) operand }
     requires best { IsCandidate (placed_by sums.now.adders) number best }
+    requires count { best.weight < count }
     ensures candidate { IsCandidate (placed_by sums.now.adders) number result }
-    ensures lighter { result.weight ≤ best.weight }
+    ensures lighter { result.weight < count }
 {
     if number == operand {
         return best;
@@ -65,22 +66,23 @@ fn with_distance(sums: &Sums, best: Candidate, number: u32, operand: u32) -> Can
     let (rest, shift) = split_odd(number.abs_diff(operand));
     let form = if operand < number { Form::A } else { Form::C };
     let adder = adder_of(number, form, shift, rest, operand);
-    lighter(sums, best, adder, rest)
+    better(sums, best, adder, rest, count)
 }
 
-// The lighter of a candidate and the step by the sum of the number and one that stands.
-fn with_sum(sums: &Sums, best: Candidate, number: u32, operand: u32) -> Candidate
+// The better of a candidate and the step by the sum of the number and one that stands.
+fn with_sum(sums: &Sums, best: Candidate, number: u32, operand: u32, count: u32) -> Candidate
     requires sums { AreSums sums.now.adders sums.now.levels.items }
     requires number { IsWide number }
     requires operand { IsWide operand }
     requires stands { Contains (placed_by sums.now.adders) operand }
     requires best { IsCandidate (placed_by sums.now.adders) number best }
+    requires count { best.weight < count }
     ensures candidate { IsCandidate (placed_by sums.now.adders) number result }
-    ensures lighter { result.weight ≤ best.weight }
+    ensures lighter { result.weight < count }
 {
     let (rest, shift) = split_odd(number + operand);
     let adder = adder_of(number, Form::B, shift, rest, operand);
-    lighter(sums, best, adder, rest)
+    better(sums, best, adder, rest, count)
 }
 
 // A number that stands, shifted.
@@ -91,52 +93,61 @@ struct Shifted {
     size: u32,
 }
 
-// The lighter of a candidate and the step by the distance between the number and one that stands, shifted.
-fn with_shifted_distance(sums: &Sums, best: Candidate, number: u32, by: Shifted) -> Candidate
+// The better of a candidate and the step by the distance between the number and one that stands, shifted.
+fn with_shifted_distance(
+    sums: &Sums,
+    best: Candidate,
+    number: u32,
+    by: Shifted,
+    count: u32,
+) -> Candidate
     requires sums { AreSums sums.now.adders sums.now.levels.items }
     requires number { IsWide number }
     requires shifted { IsShifted by }
     requires stands { Contains (placed_by sums.now.adders) by.operand }
     requires best { IsCandidate (placed_by sums.now.adders) number best }
+    requires count { best.weight < count }
     ensures candidate { IsCandidate (placed_by sums.now.adders) number result }
-    ensures lighter { result.weight ≤ best.weight }
+    ensures lighter { result.weight < count }
 {
     let rest = number.abs_diff(by.size);
     let form = if by.size < number { Form::A } else { Form::B };
     let adder = adder_of(number, form, by.shift, by.operand, rest);
-    lighter(sums, best, adder, rest)
+    better(sums, best, adder, rest, count)
 }
 
-// The lighter of a candidate and the step by the sum of the number and one that stands, shifted.
-fn with_shifted_sum(sums: &Sums, best: Candidate, number: u32, by: Shifted) -> Candidate
+// The better of a candidate and the step by the sum of the number and one that stands, shifted.
+fn with_shifted_sum(sums: &Sums, best: Candidate, number: u32, by: Shifted, count: u32) -> Candidate
     requires sums { AreSums sums.now.adders sums.now.levels.items }
     requires number { IsWide number }
     requires shifted { IsShifted by }
     requires stands { Contains (placed_by sums.now.adders) by.operand }
     requires best { IsCandidate (placed_by sums.now.adders) number best }
+    requires count { best.weight < count }
     ensures candidate { IsCandidate (placed_by sums.now.adders) number result }
-    ensures lighter { result.weight ≤ best.weight }
+    ensures lighter { result.weight < count }
 {
     let rest = number + by.size;
     if rest >= LIMIT {
         return best;
     }
     let adder = adder_of(number, Form::C, by.shift, by.operand, rest);
-    lighter(sums, best, adder, rest)
+    better(sums, best, adder, rest, count)
 }
 
-// The lightest of a candidate and the steps by one number that stands.
-fn with_operand(sums: &Sums, best: Candidate, number: u32, operand: u32) -> Candidate
+// The best of a candidate and the steps by one number that stands.
+fn with_operand(sums: &Sums, best: Candidate, number: u32, operand: u32, count: u32) -> Candidate
     requires sums { AreSums sums.now.adders sums.now.levels.items }
     requires number { IsWide number }
     requires operand { IsWide operand }
     requires stands { Contains (placed_by sums.now.adders) operand }
     requires best { IsCandidate (placed_by sums.now.adders) number best }
+    requires count { best.weight < count }
     ensures candidate { IsCandidate (placed_by sums.now.adders) number result }
-    ensures lighter { result.weight ≤ best.weight }
+    ensures lighter { result.weight < count }
 {
-    let mut least = with_distance(sums, best, number, operand);
-    least = with_sum(sums, least, number, operand);
+    let mut least = with_distance(sums, best, number, operand, count);
+    least = with_sum(sums, least, number, operand, count);
     let mut size = operand + operand;
     'shifts: for shift in 1..21 {
         if size >= LIMIT {
@@ -147,15 +158,15 @@ fn with_operand(sums: &Sums, best: Candidate, number: u32, operand: u32) -> Cand
             shift,
             size,
         };
-        least = with_shifted_distance(sums, least, number, by);
-        least = with_shifted_sum(sums, least, number, by);
+        least = with_shifted_distance(sums, least, number, by, count);
+        least = with_shifted_sum(sums, least, number, by, count);
         size += size;
     }
     least
 }
 
-// The step to a number whose rest is lightest, of these one of the lowest level, and of these the first.
-pub(crate) fn lightest_step(sums: &Sums, number: u32, count: u32) -> Candidate
+// The quickest step to a number, of these the one whose rest is lightest, of these one of the lowest level, and of these the first.
+pub(crate) fn best_step(sums: &Sums, number: u32, count: u32) -> Candidate
     requires sums { AreSums sums.now.adders sums.now.levels.items }
     requires number { IsWideMember number }
     requires count { HasDigits number count }
@@ -163,9 +174,9 @@ pub(crate) fn lightest_step(sums: &Sums, number: u32, count: u32) -> Candidate
     ensures lighter { result.weight < count }
 {
     let first = digit_step(sums, number, count);
-    let mut least = with_operand(sums, first, number, 1);
+    let mut least = with_operand(sums, first, number, 1, count);
     'adders: for adder in sums.adders.as_slice() {
-        least = with_operand(sums, least, number, adder.value);
+        least = with_operand(sums, least, number, adder.value, count);
     }
     least
 }

@@ -1,7 +1,7 @@
 //! The numbers that stand while a graph grows, with a mark for each.
 ghost use Rattle.std.specs.Prelude.{◌≡◌, ℕ, ◌+◌, ◌≤◌, ◌<◌, ◌^◌, ◌↔◌, ◌∷◌, [], length, Contains, IfOk, OnOk, IsTrue};
 ghost use Rattle.opgen_graph.specs.Adders.{Makes};
-ghost use Rattle.opgen_shared.specs.Shared.{IsWideMember};
+ghost use Rattle.opgen_graph.specs.Reach.{IsWideMember};
 ghost use Rattle.opgen_shared.specs.Sums.{AreSums, placed_by};
 
 use opgen_graph::Adder;

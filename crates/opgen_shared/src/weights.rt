@@ -1,8 +1,9 @@
 //! How many adders a number needs at most, by its signed digits: one less than its weight.
 ghost use Rattle.std.specs.Prelude.{ℕ, ◌≤◌, ◌<◌, ◌^◌};
+ghost use Rattle.opgen_graph.specs.Reach.{IsWide};
 ghost use Rattle.opgen_shared.specs.Digits.{HasDigits};
 ghost use Rattle.opgen_shared.specs.Sums.{AreSums, placed_by};
-ghost use Rattle.opgen_shared.specs.Steps.{IsWide, Weighs};
+ghost use Rattle.opgen_shared.specs.Steps.{Weighs};
 
 use crate::sums::{Sums, stands};
 use opgen_csd::recode;

@@ -1,5 +1,5 @@
 -- What is known of a document whose keys have no fault by themselves.
-use Rattle.std.proofs.Common.{◌≡◌, ℕ, zero, suc, ◌<◌, ◌&&◌, ◌||◌, not, position, Bool, true, false, cond, List, [], ◌∷◌, length, map, get_or, Option, Some, None, is_none, option_map, option_and_then, find, refl, ap, ◌∙◌, sym, subst, arith, lit<, unwrap_or, if◌then◌else◌}
+use Rattle.std.proofs.Common.{◌≡◌, ℕ, zero, suc, ◌<◌, ◌&&◌, position, Bool, true, false, cond, List, [], ◌∷◌, length, map, get_or, Option, Some, None, is_none, option_map, option_and_then, find, refl, ap, ◌∙◌, sym, subst, arith, lit<, unwrap_or, if◌then◌else◌}
 use Rattle.std.specs.Prelude.{ℤ}
 use Rattle.std.specs.Option.{option_map_or}
 use Rattle.std.specs.Str.{bytes_eq}
@@ -8,10 +8,13 @@ use Rattle.opgen_spec.specs.declared.fault.SpecFault.{SpecFault}
 use Rattle.opgen_spec.specs.declared.fault.SpecFault.TheVariants as fault
 use Rattle.opgen_document.specs.declared.key.Key.{Key}
 use Rattle.opgen_document.specs.declared.key.Key.TheVariants as key
-use Rattle.opgen_operator.specs.declared.operator.Kind.{Kind}
+use Rattle.opgen_kinds.specs.declared.kind.Kind.{Kind}
 use Rattle.opgen_spec.specs.declared.lines.Check.TheVariants.{Unknown, Missing, WrongType, Range}
 use Rattle.opgen_document.specs.Keys.{document_keys, key_name, shared_stand, has_to_be}
-use Rattle.opgen_document.specs.Document.{value_at, items_at, is_first}
+use Rattle.opgen_document.specs.Document.{value_at, items_at}
+use Rattle.opgen_document.specs.declared.version.Version.{Version}
+use Rattle.opgen_document.specs.declared.version.Version.TheVariants.{First, Second, Third}
+use Rattle.opgen_document.specs.Versions.{version_of}
 use Rattle.opgen_spec.specs.kinds.{kind_of, entry}
 use Rattle.opgen_spec.specs.Stands.{stand_in, is_needed}
 use Rattle.opgen_document.specs.Types.{is_wrong}
@@ -123,13 +126,13 @@ not_absent : (b c : Bool) → b ≡ true → (b && c) ≡ false → c ≡ false
 not_absent true c h e = e
 not_absent false c h e = cc
 
-pub stands : (ms : Members) (k : Key) → is_needed (is_first ms) (kind_of ms) k ≡ true → is_missing ms k ≡ false → is_none (value_at ms k) ≡ false
-stands ms k needs there = not_absent (is_needed (is_first ms) (kind_of ms) k) (is_none (value_at ms k)) needs there
+pub stands : (ms : Members) (k : Key) → is_needed (version_of ms) (kind_of ms) k ≡ true → is_missing ms k ≡ false → is_none (value_at ms k) ≡ false
+stands ms k needs there = not_absent (is_needed (version_of ms) (kind_of ms) k) (is_none (value_at ms k)) needs there
 
 pub present : (ms : Members) (one : Kind) (k : Key) → AreFine ms → kind_of ms ≡ Some one → is_of_line k ≡ false
-    → has_to_be (stand_in (is_first ms) one k) ≡ true → is_none (value_at ms k) ≡ false
+    → has_to_be (stand_in (version_of ms) one k) ≡ true → is_none (value_at ms k) ≡ false
 present ms one k f e h needs =
-    stands ms k (ap (λ named. is_needed (is_first ms) named k) e ∙ needs) (not_missing ms k f h)
+    stands ms k (ap (λ named. is_needed (version_of ms) named k) e ∙ needs) (not_missing ms k f h)
 
 pub there_inside : {A : Type 0} (o : Option Data) (x : Option A) → is_none o ≡ false → option_and_then (λ _. x) o ≡ None → x ≡ None
 there_inside (Some d) x there h = h
@@ -164,16 +167,23 @@ pub record IsFine (ms : Members) (k : Key) (beyond : Option ℤ) : Type 0 where
   pub typed : is_wrong ms k ≡ false
   pub within : beyond ≡ None
 
+pub own_there : (ms : Members) (one : Kind) (k : Key) → AreFine ms → kind_of ms ≡ Some one → shared_stand k ≡ None
+    → is_none (value_at ms k) ≡ false → IsFine ms k ((entry one).key_outside ms k)
+own_there ms one k f e apart there = record {
+  there = there;
+  typed = typed ms k f (not_line k apart);
+  within = there_inside (value_at ms k) ((entry one).key_outside ms k) there (own_range ms one k f e apart);
+}
+
+-- a key that its kind needs is there
+pub needed : (ms : Members) (one : Kind) (k : Key) → AreFine ms → kind_of ms ≡ Some one → shared_stand k ≡ None
+    → has_to_be ((entry one).stand (version_of ms) k) ≡ true → is_none (value_at ms k) ≡ false
+needed ms one k f e apart needs =
+    present ms one k f e (not_line k apart) (ap (λ o. has_to_be (unwrap_or o ((entry one).stand (version_of ms) k))) apart ∙ needs)
+
 pub own : (ms : Members) (one : Kind) (k : Key) → AreFine ms → kind_of ms ≡ Some one → shared_stand k ≡ None
-    → has_to_be ((entry one).stand (is_first ms) k) ≡ true → IsFine ms k ((entry one).key_outside ms k)
-own ms one k f e apart needs =
-    let there = present ms one k f e (not_line k apart)
-    (ap (λ o. has_to_be (unwrap_or o ((entry one).stand (is_first ms) k))) apart ∙ needs) in
-    record {
-      there = there;
-      typed = typed ms k f (not_line k apart);
-      within = there_inside (value_at ms k) ((entry one).key_outside ms k) there (own_range ms one k f e apart);
-    }
+    → has_to_be ((entry one).stand (version_of ms) k) ≡ true → IsFine ms k ((entry one).key_outside ms k)
+own ms one k f e apart needs = own_there ms one k f e apart (needed ms one k f e apart needs)
 
 -- what a choice without a fault says of its test
 pub passed : (b : Bool) (f : SpecFault) → (if b then None else Some f) ≡ None → b ≡ true
@@ -183,17 +193,17 @@ passed false f h = cc
 -- the document names a kind, and its version has that kind
 pub no_kind : (ms : Members) → bad_kind ms ≡ None → kind_of ms ≡ None → ⊥
 no_kind ms h e =
-    let has = passed (option_map_or (has_kind (is_first ms)) (kind_of ms) false) fault.BadKind h in
-    let no : false ≡ true = sym (ap (λ o. option_map_or (has_kind (is_first ms)) o false) e) ∙ has in
+    let has = passed (option_map_or (has_kind (version_of ms)) (kind_of ms) false) fault.BadKind h in
+    let no : false ≡ true = sym (ap (λ o. option_map_or (has_kind (version_of ms)) o false) e) ∙ has in
     cc
 
-not_first : (first has : Bool) → first ≡ true → has ≡ false → (not first || has) ≡ true → ⊥
-not_first true true first none h = cc
-not_first true false first none h = cc
-not_first false has first none h = cc
+not_in_first : (version : Version) (one : Kind) → version ≡ First → (entry one).first ≡ false → has_kind version one ≡ true → ⊥
+not_in_first First one is none h = let no : false ≡ true = sym none ∙ h in cc
+not_in_first Second one is none h = cc
+not_in_first Third one is none h = cc
 
-pub not_late : (ms : Members) (one : Kind) → AreFine ms → kind_of ms ≡ Some one → (entry one).first ≡ false → is_first ms ≡ true → ⊥
+pub not_late : (ms : Members) (one : Kind) → AreFine ms → kind_of ms ≡ Some one → (entry one).first ≡ false → version_of ms ≡ First → ⊥
 not_late ms one f e none first =
-    not_first (is_first ms) (entry one).first first none
-    (sym (ap (λ o. option_map_or (has_kind (is_first ms)) o false) e)
-    ∙ passed (option_map_or (has_kind (is_first ms)) (kind_of ms) false) fault.BadKind f.kind)
+    not_in_first (version_of ms) one first none
+    (sym (ap (λ o. option_map_or (has_kind (version_of ms)) o false) e)
+    ∙ passed (option_map_or (has_kind (version_of ms)) (kind_of ms) false) fault.BadKind f.kind)

@@ -1,57 +1,33 @@
 -- A document without a fault gives a valid specification.
-use Rattle.std.proofs.Common.{◌≡◌, ℕ, zero, suc, ◌+◌, ◌≤◌, Bool, true, false, List, [], ◌∷◌, length, Option, Some, None, Ok, subst, option_map, option_and_then, nat_lt, ◌==◌, ◌||◌, ◌⊎◌, ⊎_elim, inl, inr, refl, ap, sym, ◌∙◌, arith, lit<, if◌then◌else◌}
-use Rattle.std.specs.Prelude.{ℤ, pos, negsuc, All, IsTrue, unwrap_or}
-use borrow.Author.Tests.{eqb-true}
+use Rattle.std.proofs.Common.{◌≡◌, ℕ, zero, suc, ◌+◌, ◌≤◌, Bool, true, false, List, [], ◌∷◌, length, Option, Some, None, Ok, subst, option_map, option_and_then, nat_lt, refl, ap, sym, ◌∙◌, arith, lit<, if◌then◌else◌}
+use Rattle.std.specs.Prelude.{pos, All, IsTrue, unwrap_or}
 use Rattle.std.proofs.lemmas.Int.{ints}
 use Rattle.toml.specs.Data.{Data, string, integer, float, boolean, datetime, array, table, Items, no_items, item, Members}
 use Rattle.opgen_spec.specs.declared.fault.SpecFault.{SpecFault}
 use Rattle.opgen_spec.specs.declared.fault.SpecFault.TheVariants as fault
 use Rattle.opgen_document.specs.declared.key.Key.{Key}
 use Rattle.opgen_document.specs.declared.key.Key.TheVariants as key
-use Rattle.opgen_operator.specs.declared.operator.Kind.{Kind}
-use Rattle.opgen_operator.specs.declared.operator.Kind.TheVariants as kind
+use Rattle.opgen_kinds.specs.declared.kind.Kind.{Kind}
+use Rattle.opgen_kinds.specs.declared.kind.Kind.TheVariants as kind
 use Rattle.opgen_operator.specs.declared.spec.DelayLine.{DelayLine}
 use Rattle.opgen_operator.specs.declared.spec.Spec.{Spec}
-use Rattle.opgen_ports.specs.Limits.{IsVersion, most_signal}
+use Rattle.opgen_ports.specs.Limits.{most_signal}
 use Rattle.opgen_operator.specs.Operator.{least_shift, most_shift, inexact, shift}
 use Rattle.opgen_ports.specs.SpecName.{is_spec_name}
 use Rattle.opgen_operator.specs.Valid.{IsDelayLine, IsValidSpec}
 use Rattle.opgen_spec.specs.declared.lines.Check.TheVariants.{Range}
 use Rattle.opgen_document.specs.Keys.{line_keys}
-use Rattle.opgen_document.specs.Document.{list_of, items_in, value_at, number_at, text_at, items_at, count, is_one}
+use Rattle.opgen_document.specs.Document.{list_of, items_in, value_at, number_at, text_at, items_at}
 use Rattle.opgen_spec.specs.kinds.{kind_of}
 use Rattle.opgen_document.specs.Ranges.{outside, length_outside}
 use Rattle.opgen_spec.specs.Spec.{line_of, lines_of, spec_of, spec_with}
-use Rattle.opgen_spec.specs.Faults.{first_of, found, out_of_range, outside_among, is_version, among_line, among_lines, not_exact, coarse, over_limit, too_wide, field_fault, limit_fault, read}
+use Rattle.opgen_spec.specs.Faults.{first_of, found, out_of_range, outside_among, among_line, among_lines, not_exact, coarse, over_limit, too_wide, field_fault, limit_fault, read}
 use Rattle.opgen_spec.proofs.Reading.{or_none, field_first, limit_first, none_first}
 use Rattle.opgen_spec.proofs.Fine.{AreFine, fine, passed, no_kind, map_none, first_none, present, ranged, there_inside}
 use Rattle.opgen_document.proofs.Ranges.{inside, zero_inside, counted}
+use Rattle.opgen_spec.proofs.Chosen.{choice}
+use Rattle.opgen_spec.proofs.Versions as versions
 use Rattle.opgen_spec.proofs.sound.All.{sound}
-
-pub version_is : (n : ℕ) → is_version (pos n) ≡ true → (n ≡ 1) ⊎ (n ≡ 2)
-version_is n h = go (n == 1) (n == 2) refl refl h
-  where
-    go : (a b : Bool) → (n == 1) ≡ a → (n == 2) ≡ b → (a || b) ≡ true → (n ≡ 1) ⊎ (n ≡ 2)
-    go true b one two h = inl (eqb-true n 1 one)
-    go false true one two h = inr (eqb-true n 2 two)
-    go false false one two h = cc
-
-version_counted : (n : ℤ) → is_version n ≡ true → IsVersion (count n)
-version_counted (pos n) h =
-    ⊎_elim
-    (λ (e : n ≡ 1). inl (ap (λ k. count (pos k)) e))
-    (λ (e : n ≡ 2). inr (ap (λ k. count (pos k)) e))
-    (version_is n h)
-version_counted (negsuc n) h = cc
-
--- version 1 is the number 1
-counted_first : (n : ℤ) → is_version n ≡ true → count n ≡ 1 → is_one n ≡ true
-counted_first (pos n) h e =
-    ⊎_elim
-    (λ (one : n ≡ 1). ap (λ k. k == 1) one)
-    (λ (two : n ≡ 2). let no : 2 ≡ 1 = sym (ap (λ k. count (pos k)) two) ∙ e in absurd (omega (arith, no)))
-    (version_is n h)
-counted_first (negsuc n) h e = cc
 
 -- delay lines
 line_ranges : (n : ℕ) (ms : Members) → outside_among line_keys n ms ≡ None → (found n ms key.Base ≡ None) × (found n ms key.PerBit ≡ None)
@@ -123,7 +99,6 @@ pub valid_in : (ms : Members) (one : Kind) → AreFine ms → kind_of ms ≡ Som
 unfolding spec_with
 valid_in ms one f e h =
     let s = sound one in
-    let numbered = passed (is_version (number_at ms key.Version)) (fault.BadVersion (number_at ms key.Version)) f.version in
     let spec = spec_with one ms in
     let (exact, later) = or_none (not_exact spec) (first_of (coarse spec ∷ too_wide spec ∷ [])) h in
     let (fine, last) = or_none (coarse spec) (first_of (too_wide spec ∷ [])) later in
@@ -135,7 +110,7 @@ valid_in ms one f e h =
     (present ms one key.Period f e refl refl) (ranged ms key.Period f refl) in
     let (time_least, time_most) = inside (pos 1) (pos 1000000) (number_at ms key.Period) time in
     record {
-      version = version_counted (number_at ms key.Version) numbered;
+      version = versions.counted ms f;
       name = passed (is_spec_name (text_at ms key.Name)) fault.BadName f.name;
       op = record {
         ranges = s.ranges ms f e;
@@ -146,8 +121,9 @@ valid_in ms one f e h =
             (ap (λ o. option_and_then (over_limit (most_signal spec.version)) o) (sym e) ∙ narrow);
         whole = λ asked. asked_exact spec exact (s.marked ms asked);
       };
-      first = λ is. s.first ms f e (counted_first (number_at ms key.Version) numbered is);
+      has = s.has ms f e;
       mode = record { agrees = s.agrees ms; whole = asked_exact spec exact };
+      output = choice ms one f e;
       target = (omega (arith, ints), omega (arith, ints));
       period = counted (number_at ms key.Period) 1 1000000 time_least time_most (omega arith);
       few_lines = omega (arith, no_more_lines (items_at ms key.Delay), few_items (value_at ms key.Delay) (ranged ms key.Delay f refl));

@@ -1,6 +1,6 @@
 -- A document without a fault gives the values that it writes.
-use Rattle.std.proofs.Common.{◌≡◌, sym, ⊎_elim, ◌&&◌, ℕ, ◌||◌, not, Bool, true, false, Option, Some, None, is_some, is_none, find, refl, ap, ◌∙◌, arith, lit<, if◌then◌else◌, List, [], ◌∷◌, cond, ◌+◌, unwrap_or}
-use Rattle.std.specs.Prelude.{ℤ, pos, negsuc, ◌≤ℤ◌}
+use Rattle.std.proofs.Common.{◌≡◌, sym, ◌&&◌, ℕ, ◌||◌, not, Bool, true, false, Option, Some, None, is_some, is_none, find, refl, ap, ◌∙◌, arith, lit<, if◌then◌else◌, List, [], ◌∷◌, cond, ◌+◌, unwrap_or}
+use Rattle.std.specs.Prelude.{pos}
 use Rattle.std.specs.Option.{option_map_or}
 use Rattle.std.proofs.lemmas.Int.{ints}
 use Rattle.std.proofs.lemmas.Slice.Eq.{bytes_eq-Decides}
@@ -13,21 +13,24 @@ use Rattle.opgen_spec.specs.declared.fault.SpecFault.TheVariants as fault
 use Rattle.opgen_document.specs.declared.key.Key.{Key}
 use Rattle.opgen_document.specs.declared.key.Key.TheVariants as key
 use Rattle.opgen_spec.specs.declared.lines.Check.TheVariants.{Missing, WrongType, Range}
-use Rattle.opgen_operator.specs.declared.operator.Kind.{Kind}
-use Rattle.opgen_operator.specs.Operator.{kind_name}
+use Rattle.opgen_kinds.specs.declared.kind.Kind.{Kind}
+use Rattle.opgen_kinds.specs.Kinds.{kind_name}
 use Rattle.opgen_document.specs.Keys.{line_keys}
-use Rattle.opgen_document.specs.Document.{value_at, number_at, text_at, items_of, items_in, items_at, is_first}
+use Rattle.opgen_document.specs.Document.{value_at, number_at, text_at, items_of, items_in, items_at}
+use Rattle.opgen_document.specs.declared.version.Version.{Version}
+use Rattle.opgen_document.specs.Versions.{version_of}
 use Rattle.opgen_document.specs.Ranges.{outside}
 use Rattle.opgen_spec.specs.Spec.{classes, class_name, class_named, spec_with, line_of, lines_of}
 use Rattle.opgen_spec.specs.Stands.{is_needed}
 use Rattle.opgen_spec.specs.Written.{IsAsWritten, IsLineAsWritten, AreLinesAsWritten}
 use Rattle.opgen_document.specs.Types.{is_wrong, are_tables}
-use Rattle.opgen_spec.specs.Faults.{missing_among, wrong_among, is_missing, is_version, field_fault, among_line, among_lines, class_outside, found, out_of_range, outside_among}
+use Rattle.opgen_spec.specs.Faults.{missing_among, wrong_among, is_missing, field_fault, among_line, among_lines, class_outside, found, out_of_range, outside_among}
 use Rattle.opgen_spec.specs.kinds.{kinds, kind_of}
-use Rattle.opgen_spec.proofs.Fine.{fine, passed, find_none, map_none, first_none, typed, ranged, stands, present, there_inside}
+use Rattle.opgen_spec.proofs.Fine.{fine, find_none, map_none, first_none, typed, ranged, stands, present, there_inside}
 use Rattle.opgen_document.proofs.Ranges.{inside, zero_inside}
 use Rattle.opgen_spec.proofs.Reading.{or_none}
-use Rattle.opgen_spec.proofs.Validity.{version_is}
+use Rattle.opgen_spec.proofs.Versions.{bounds}
+use Rattle.opgen_spec.proofs.Chosen.{width_written, sign_written}
 use Rattle.opgen_document.proofs.Values.{text_stands, flag_stands, count_written}
 use Rattle.opgen_spec.proofs.sound.All.{sound}
 
@@ -67,11 +70,11 @@ named_class n text h = go (class_named text) refl h
     go None e none = cc
 
 -- delay lines
-line_needed : (first : Bool) (named : Option Kind) → (is_needed first named key.Class ≡ true) × (is_needed first named key.Base ≡ true)
-    × (is_needed first named key.PerBit ≡ true)
+line_needed : (version : Version) (named : Option Kind) → (is_needed version named key.Class ≡ true) × (is_needed version named key.Base ≡ true)
+    × (is_needed version named key.PerBit ≡ true)
 unfolding kinds
-line_needed first (Some one) = (refl, refl, refl)
-line_needed first None = (refl, refl, refl)
+line_needed version (Some one) = (refl, refl, refl)
+line_needed version None = (refl, refl, refl)
 
 line_written : (n : ℕ) (ms : Members) → missing_among line_keys n ms ≡ None → wrong_among line_keys n ms ≡ None
     → outside_among line_keys n ms ≡ None → IsLineAsWritten ms (line_of ms)
@@ -80,7 +83,7 @@ line_written n ms missing wrong outside_none =
     let f : Key → Option SpecFault = λ k. out_of_range n k (found n ms k) in
     let none_missing = map_none (λ k. fault.MissingKey k n) (find (is_missing ms) line_keys) missing in
     let none_wrong = map_none (λ k. fault.WrongType k n) (find (is_wrong ms) line_keys) wrong in
-    let (class_needed, base_needed, bit_needed) = line_needed (is_first ms) (kind_of ms) in
+    let (class_needed, base_needed, bit_needed) = line_needed (version_of ms) (kind_of ms) in
     let class_there = stands ms key.Class class_needed (find_none (is_missing ms) line_keys 0 key.Class none_missing (lit< tt)) in
     let base_there = stands ms key.Base base_needed (find_none (is_missing ms) line_keys 1 key.Class none_missing (lit< tt)) in
     let bit_there = stands ms key.PerBit bit_needed (find_none (is_missing ms) line_keys 2 key.Class none_missing (lit< tt)) in
@@ -123,14 +126,6 @@ tables_typed (Some d) h = both (are_tables (items_of d)) (is_some (as_array d)) 
     both true b h = refl
     both false b h = cc
 
-version_bounds : (n : ℤ) → is_version n ≡ true → (pos 1 ≤ℤ n) × (n ≤ℤ pos 2)
-version_bounds (pos n) h =
-    let which = version_is n h in (
-      ⊎_elim (λ (e : n ≡ 1). omega (arith, ints)) (λ (e : n ≡ 2). omega (arith, ints)) which,
-      ⊎_elim (λ (e : n ≡ 1). omega (arith, ints)) (λ (e : n ≡ 2). omega (arith, ints)) which,
-    )
-version_bounds (negsuc n) h = cc
-
 pub written : (ms : Members) (one : Kind) → field_fault ms ≡ None → kind_of ms ≡ Some one → IsAsWritten ms (spec_with one ms)
 unfolding spec_with
 written ms one h e =
@@ -140,13 +135,14 @@ written ms one h e =
     let time = there_inside (value_at ms key.Period) (outside (pos 1) (pos 1000000) (number_at ms key.Period)) time_there
     (ranged ms key.Period f refl) in
     record {
-      version = count_written (value_at ms key.Version) 1 2 (present ms one key.Version f e refl refl) (typed ms key.Version f refl)
-          (version_bounds (number_at ms key.Version)
-          (passed (is_version (number_at ms key.Version)) (fault.BadVersion (number_at ms key.Version)) f.version)) (omega arith);
+      version = count_written (value_at ms key.Version) 1 3 (present ms one key.Version f e refl refl) (typed ms key.Version f refl)
+          (bounds ms f) (omega arith);
       name = text_stands (value_at ms key.Name) (present ms one key.Name f e refl refl) (typed ms key.Name f refl);
       kind_written = text_stands (value_at ms key.Kind) (present ms one key.Kind f e refl refl) (typed ms key.Kind f refl)
           ∙ ap (λ text. Some (string text)) (kind_found (text_at ms key.Kind) kinds one e ∙ ap kind_name (sym (s.kind_is ms)));
       exact = flag_stands (value_at ms key.Exact) (present ms one key.Exact f e refl refl) (typed ms key.Exact f refl);
+      out_width = width_written ms one f e;
+      out_signed = sign_written ms f;
       target = text_stands (value_at ms key.Target) (present ms one key.Target f e refl refl) (typed ms key.Target f refl);
       period = count_written (value_at ms key.Period) 1 1000000 time_there (typed ms key.Period f refl)
           (inside (pos 1) (pos 1000000) (number_at ms key.Period) time) (omega arith);

@@ -1,5 +1,5 @@
 -- What is proved of the kinds, kind by kind.
-mod Sound
+pub mod Sound
 mod Sum
 mod Product
 mod Pair

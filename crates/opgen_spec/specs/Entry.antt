@@ -6,6 +6,7 @@ use Rattle.opgen_ports.specs.Limits.{most_input}
 use Rattle.opgen_document.specs.declared.key.Key.{Key}
 use Rattle.opgen_document.specs.declared.key.Key.TheVariants as key
 use Rattle.opgen_document.specs.declared.stand.Stand.{Stand}
+use Rattle.opgen_document.specs.declared.version.Version.{Version}
 use Rattle.opgen_document.specs.Document.{count_at}
 use Rattle.opgen_document.specs.Ranges.{width_outside}
 
@@ -13,8 +14,8 @@ use Rattle.opgen_document.specs.Ranges.{width_outside}
 pub record Entry : Type 0 where
   -- version 1 has the kind
   pub first : Bool
-  -- how a key stands in its documents: those of version 1, or those of later ones
-  pub stand : (first : Bool) → Key → Stand
+  -- how a key stands in its documents of a version
+  pub stand : Version → Key → Stand
   -- what stands at a key and is out of range
   pub key_outside : Members → Key → Option ℤ
   -- the operator that the values of the keys give

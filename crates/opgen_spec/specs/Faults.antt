@@ -1,5 +1,5 @@
 -- The first error of a document, in the order in which the checks are made.
-use Rattle.std.specs.Prelude.{◌≡◌, ℕ, ◌+◌, ◌==◌, ◌&&◌, ◌||◌, not, Bool, false, List, [], ◌∷◌, length, map, ℤ, pos, negsuc, Option, Some, None, is_none, option_map, option_and_then, find, if◌then◌else◌, nat_lt, Result, Ok, Err}
+use Rattle.std.specs.Prelude.{◌≡◌, ℕ, ◌+◌, ◌==◌, ◌&&◌, ◌||◌, not, Bool, true, false, List, [], ◌∷◌, length, map, ℤ, pos, negsuc, Option, Some, None, is_none, option_map, option_and_then, find, if◌then◌else◌, nat_lt, Result, Ok, Err}
 use Rattle.std.specs.List.{position_from}
 use Rattle.std.specs.Option.{option_or, option_map_or}
 use Rattle.toml.specs.Data.{Data, table, Items, no_items, item, Members}
@@ -7,7 +7,7 @@ use Rattle.opgen_spec.specs.declared.fault.SpecFault.{SpecFault}
 use Rattle.opgen_spec.specs.declared.fault.SpecFault.TheVariants as fault
 use Rattle.opgen_document.specs.declared.key.Key.{Key}
 use Rattle.opgen_document.specs.declared.key.Key.TheVariants as key
-use Rattle.opgen_operator.specs.declared.operator.Kind.{Kind}
+use Rattle.opgen_kinds.specs.declared.kind.Kind.{Kind}
 use Rattle.opgen_operator.specs.declared.spec.Spec.{Spec}
 use Rattle.opgen_ports.specs.Limits.{most_signal}
 use Rattle.opgen_operator.specs.Operator.{least_shift, most_shift, shift, inexact, need}
@@ -15,7 +15,10 @@ use Rattle.opgen_ports.specs.SpecName.{is_spec_name}
 use Rattle.opgen_spec.specs.declared.lines.Check.{Check}
 use Rattle.opgen_spec.specs.declared.lines.Check.TheVariants.{Unknown, Missing, WrongType, Range}
 use Rattle.opgen_document.specs.Keys.{document_keys, line_keys}
-use Rattle.opgen_document.specs.Document.{names, value_at, number_at, text_at, items_at, is_first}
+use Rattle.opgen_document.specs.Document.{names, value_at, number_at, text_at, items_at}
+use Rattle.opgen_document.specs.declared.version.Version.{Version}
+use Rattle.opgen_document.specs.declared.version.Version.TheVariants.{First, Second, Third}
+use Rattle.opgen_document.specs.Versions.{version_of}
 use Rattle.opgen_document.specs.Types.{is_wrong}
 use Rattle.opgen_document.specs.Ranges.{outside, length_outside}
 use Rattle.opgen_spec.specs.kinds.{kind_of, entry}
@@ -30,16 +33,16 @@ first_of (fault ∷ rest) = option_or fault (first_of rest)
 -- Unknown: the first key, in byte order, that is none of the keys. Its place among all keys of its table is given.
 abbrev pub unknown_among : List Key → ℕ → Members → Option SpecFault
 unknown_among ks line ms =
-    option_map (fault.UnknownKey line) (position_from (λ name. not (is_known ks (is_first ms) (kind_of ms) name)) 0 (names ms))
+    option_map (fault.UnknownKey line) (position_from (λ name. not (is_known ks (version_of ms) (kind_of ms) name)) 0 (names ms))
 
 -- Missing: the first of the keys that is needed and not there.
 abbrev pub is_missing : Members → Key → Bool
-is_missing ms k = is_needed (is_first ms) (kind_of ms) k && is_none (value_at ms k)
+is_missing ms k = is_needed (version_of ms) (kind_of ms) k && is_none (value_at ms k)
 
 abbrev pub missing_among : List Key → ℕ → Members → Option SpecFault
 missing_among ks line ms = option_map (λ k. fault.MissingKey k line) (find (is_missing ms) ks)
 
--- Wrong type: the first of the keys whose value is not of its type.
+-- Wrong type: the first of the keys whose value is not of its type, or that stands without a key that it needs.
 abbrev pub wrong_among : List Key → ℕ → Members → Option SpecFault
 wrong_among ks line ms = option_map (λ k. fault.WrongType k line) (find (is_wrong ms) ks)
 
@@ -98,9 +101,9 @@ among_lines check line (item d rest) = option_or (among_line check line d) (amon
 abbrev pub check_fault : Check → Members → Option SpecFault
 check_fault check ms = option_or (among_keys check ms) (among_lines check 1 (items_at ms key.Delay))
 
--- Bad version: neither 1 nor 2.
+-- Bad version: none of 1, 2 and 3.
 abbrev pub is_version : ℤ → Bool
-is_version (pos n) = n == 1 || n == 2
+is_version (pos n) = n == 1 || (n == 2 || n == 3)
 is_version (negsuc n) = false
 
 abbrev pub bad_version : Members → Option SpecFault
@@ -109,13 +112,15 @@ bad_version ms = if is_version (number_at ms key.Version) then None else Some (f
 abbrev pub bad_name : Members → Option SpecFault
 bad_name ms = if is_spec_name (text_at ms key.Name) then None else Some fault.BadName
 
--- whether the first version, or a later one, has the kind
-abbrev pub has_kind : (first : Bool) → Kind → Bool
-has_kind first one = not first || (entry one).first
+-- whether the version has the kind
+abbrev pub has_kind : Version → Kind → Bool
+has_kind First one = (entry one).first
+has_kind Second one = true
+has_kind Third one = true
 
 -- no kind is named, or one that the version does not have
 abbrev pub bad_kind : Members → Option SpecFault
-bad_kind ms = if option_map_or (has_kind (is_first ms)) (kind_of ms) false then None else Some fault.BadKind
+bad_kind ms = if option_map_or (has_kind (version_of ms)) (kind_of ms) false then None else Some fault.BadKind
 
 -- Not exact: exact outputs are asked for, and the exact value is not a whole number of units for every input.
 abbrev pub not_exact : Spec → Option SpecFault

@@ -5,11 +5,11 @@ use Rattle.toml.specs.Data.{Data, table, Items, no_items, item, Members}
 use Rattle.opgen_net.specs.declared.cell.Class.{Class}
 use Rattle.opgen_net.specs.declared.cell.Class.TheVariants as class
 use Rattle.opgen_document.specs.declared.key.Key.TheVariants as key
-use Rattle.opgen_operator.specs.declared.operator.Kind.{Kind}
-use Rattle.opgen_operator.specs.declared.operator.Kind.TheVariants as kind
+use Rattle.opgen_kinds.specs.declared.kind.Kind.{Kind}
+use Rattle.opgen_kinds.specs.declared.kind.Kind.TheVariants as kind
 use Rattle.opgen_operator.specs.declared.spec.DelayLine.{DelayLine}
 use Rattle.opgen_operator.specs.declared.spec.Spec.{Spec}
-use Rattle.opgen_document.specs.Document.{text_at, flag_at, items_at, count_at}
+use Rattle.opgen_document.specs.Document.{text_at, flag_at, items_at, count_at, optional_count_at, optional_flag_at}
 use Rattle.opgen_spec.specs.kinds.{kind_of, entry}
 
 -- the classes of delay lines, by their names
@@ -51,6 +51,8 @@ spec_with one ms = record {
   name = text_at ms key.Name;
   op = (entry one).make ms;
   exact = flag_at ms key.Exact;
+  out_width = optional_count_at ms key.OutWidth;
+  out_signed = optional_flag_at ms key.OutSigned;
   target = text_at ms key.Target;
   period = count_at ms key.Period;
   delays = lines_of (items_at ms key.Delay);

@@ -4,8 +4,10 @@ use Rattle.toml.specs.Data.{string, integer, boolean, Members, table, Items, no_
 use Rattle.opgen_document.specs.declared.key.Key.TheVariants as key
 use Rattle.opgen_operator.specs.declared.spec.DelayLine.{DelayLine}
 use Rattle.opgen_operator.specs.declared.spec.Spec.{Spec}
-use Rattle.opgen_operator.specs.Operator.{kind, kind_name}
+use Rattle.opgen_operator.specs.Operator.{kind}
+use Rattle.opgen_kinds.specs.Kinds.{kind_name}
 use Rattle.opgen_document.specs.Document.{value_at, items_at}
+use Rattle.opgen_document.specs.Fields.{IsCountIfAny, IsFlagIfAny}
 use Rattle.opgen_spec.specs.Spec.{class_name}
 use Rattle.opgen_spec.specs.kinds.{IsOperatorAsWritten}
 
@@ -25,6 +27,8 @@ pub record IsAsWritten (ms : Members) (spec : Spec) : Type 0 where
   pub name : value_at ms key.Name ≡ Some (string spec.name)
   pub kind_written : value_at ms key.Kind ≡ Some (string (kind_name (kind spec.op)))
   pub exact : value_at ms key.Exact ≡ Some (boolean spec.exact)
+  pub out_width : IsCountIfAny ms key.OutWidth spec.out_width
+  pub out_signed : IsFlagIfAny ms key.OutSigned spec.out_signed
   pub target : value_at ms key.Target ≡ Some (string spec.target)
   pub period : value_at ms key.Period ≡ Some (integer (pos spec.period))
   pub op : IsOperatorAsWritten ms spec.op

@@ -9,18 +9,18 @@ ghost use Rattle.opgen_spec.specs.Faults.{unknown_among, is_missing, missing_amo
 use crate::fault::SpecFault;
 use crate::kinds::kind_of;
 use crate::stand::{is_known, is_needed};
-use opgen_document::{Key, first_wrong, is_first, value_at};
+use opgen_document::{Key, Version, first_wrong, value_at, version_of};
 use opgen_operator::Kind;
 use toml::Table;
 
 /// The place of the first key, in byte order, that is none of the keys.
-fn first_unknown(keys: &[Key], first: bool, kind: Option<Kind>, table: &Table) -> Option<u64>
+fn first_unknown(keys: &[Key], version: Version, kind: Option<Kind>, table: &Table) -> Option<u64>
     ensures { result
-        ≡ position_from (λ name. not (is_known keys.now first kind name)) 0 (names (table_view table.now)) }
+        ≡ position_from (λ name. not (is_known keys.now version kind name)) 0 (names (table_view table.now)) }
 {
     let mut at = 0;
     'names: for name in table.keys() {
-        if !is_known(keys, first, kind, name.as_str()) {
+        if !is_known(keys, version, kind, name.as_str()) {
             return Some(at);
         }
         at += 1;
@@ -31,14 +31,14 @@ fn first_unknown(keys: &[Key], first: bool, kind: Option<Kind>, table: &Table) -
 pub(crate) fn unknown_among(keys: &[Key], line: u64, table: &Table) -> Option<SpecFault>
     ensures { result ≡ unknown_among keys.now line (table_view table.now) }
 {
-    let at = first_unknown(keys, is_first(table), kind_of(table), table)?;
+    let at = first_unknown(keys, version_of(table), kind_of(table), table)?;
     Some(SpecFault::UnknownKey { line, at })
 }
 
 fn is_missing(table: &Table, key: Key) -> bool
     ensures { result ≡ is_missing (table_view table.now) key }
 {
-    is_needed(is_first(table), kind_of(table), key) && value_at(table, key).is_none()
+    is_needed(version_of(table), kind_of(table), key) && value_at(table, key).is_none()
 }
 
 fn first_missing(keys: &[Key], table: &Table) -> Option<Key>

@@ -2,7 +2,7 @@
 ghost use Rattle.std.specs.Prelude.{◌≡◌, find, IfOk};
 ghost use Rattle.std.specs.Str.{bytes_eq};
 ghost use Rattle.toml.specs.View.{table_view};
-ghost use Rattle.opgen_operator.specs.Operator.{kind_name};
+ghost use Rattle.opgen_kinds.specs.Kinds.{kind_name};
 ghost use Rattle.opgen_spec.specs.Entry.{input_outside};
 ghost use Rattle.opgen_spec.specs.kinds.{kind_named, kind_of, entry_of};
 
@@ -15,7 +15,7 @@ mod small_div;
 mod sum;
 mod taps;
 
-use opgen_document::{Key, Stand, count_at, text_at, width_outside};
+use opgen_document::{Key, Stand, Version, count_at, text_at, width_outside};
 use opgen_operator::{Kind, Operator, most_input};
 use std::alloc::{AllocError, Global};
 use toml::Table;
@@ -77,21 +77,20 @@ pub(crate) fn is_first_kind(kind: Kind) -> bool
     }
 }
 
-/// How a key that not all kinds share stands in documents of a kind, of the first version or of a
-/// later one.
-pub(crate) fn stand(first: bool, kind: Kind, key: Key) -> Stand
-    ensures { result ≡ (entry_of kind).stand first key }
+/// How a key that not all kinds share stands in documents of a version and a kind.
+pub(crate) fn stand(version: Version, kind: Kind, key: Key) -> Stand
+    ensures { result ≡ (entry_of kind).stand version key }
 {
     match kind {
-        Kind::Scale => sum::stand(first, key),
-        Kind::Fir => sum::stand(first, key),
-        Kind::Multiply => product::stand(first, key),
-        Kind::Divide => pair::stand(key),
-        Kind::Root => single::stand(key),
-        Kind::Mcm => several::stand(key),
-        Kind::Constdiv => small_div::stand(key),
-        Kind::Poly => poly::stand(key),
-        Kind::Tfir => taps::stand(key),
+        Kind::Scale => sum::stand(version, key),
+        Kind::Fir => sum::stand(version, key),
+        Kind::Multiply => product::stand(version, key),
+        Kind::Divide => pair::stand(version, key),
+        Kind::Root => single::stand(version, key),
+        Kind::Mcm => several::stand(version, key),
+        Kind::Constdiv => small_div::stand(version, key),
+        Kind::Poly => poly::stand(version, key),
+        Kind::Tfir => taps::stand(version, key),
     }
 }
 

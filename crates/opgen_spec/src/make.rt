@@ -6,7 +6,9 @@ ghost use Rattle.opgen_spec.specs.Spec.{line_of, line_in, lines_of, spec_with};
 
 use crate::class::class_named;
 use crate::kinds::operator_of;
-use opgen_document::{Key, count_at, flag_at, items_at, text_at};
+use opgen_document::{
+    Key, count_at, flag_at, items_at, optional_count_at, optional_flag_at, text_at,
+};
 use opgen_list::{Items, Text};
 use opgen_net::Class;
 use opgen_operator::{DelayLine, Kind, Spec};
@@ -77,6 +79,8 @@ pub(crate) fn spec_with(alloc: Global, kind: Kind, table: &Table) -> Result<Spec
         name: texts.name,
         op,
         exact: flag_at(table, Key::Exact),
+        out_width: optional_count_at(table, Key::OutWidth),
+        out_signed: optional_flag_at(table, Key::OutSigned),
         target: texts.target,
         period: count_at(table, Key::Period),
         delays: texts.delays,

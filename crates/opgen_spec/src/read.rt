@@ -11,7 +11,7 @@ use crate::kinds::{is_first_kind, kind_of};
 use crate::limits::limit_fault;
 use crate::lines::{Check, check_fault};
 use crate::make::spec_with;
-use opgen_document::{Key, is_first, number_at, parse, text_at};
+use opgen_document::{Key, Version, number_at, parse, text_at, version_of};
 use opgen_operator::{Kind, Spec, is_spec_name};
 use std::alloc::Global;
 use toml::Table;
@@ -27,7 +27,7 @@ fn bad_version(table: &Table) -> Option<SpecFault>
     ensures { result ≡ bad_version (table_view table.now) }
 {
     let found = number_at(table, Key::Version);
-    if found == 1 || found == 2 {
+    if found == 1 || found == 2 || found == 3 {
         None
     } else {
         Some(SpecFault::BadVersion { found })
@@ -44,19 +44,22 @@ fn bad_name(table: &Table) -> Option<SpecFault>
     }
 }
 
-/// Whether documents of the first version, or of a later one, have the kind.
+/// Whether documents of the version have the kind.
 #[tactic(auto, unfolding(crate::specs::kinds::entry))]
-fn has_kind(first: bool, kind: Kind) -> bool
-    ensures { result ≡ has_kind first kind }
+fn has_kind(version: Version, kind: Kind) -> bool
+    ensures { result ≡ has_kind version kind }
 {
-    !first || is_first_kind(kind)
+    match version {
+        Version::First => is_first_kind(kind),
+        Version::Second | Version::Third => true,
+    }
 }
 
 fn bad_kind(table: &Table) -> Option<SpecFault>
     ensures { result ≡ bad_kind (table_view table.now) }
 {
     match kind_of(table) {
-        Some(kind) if has_kind(is_first(table), kind) => None,
+        Some(kind) if has_kind(version_of(table), kind) => None,
         _ => Some(SpecFault::BadKind),
     }
 }

@@ -6,53 +6,53 @@ ghost use Rattle.opgen_spec.specs.Stands.{stand_in, may_stand, is_needed, is_kno
 
 use crate::kinds;
 use crate::kinds::KINDS;
-use opgen_document::{Key, Stand, shared_stand};
+use opgen_document::{Key, Stand, Version, shared_stand};
 use opgen_operator::Kind;
 
-/// How a key stands in documents of a kind, of the first version or of a later one.
+/// How a key stands in documents of a version and a kind.
 #[tactic(auto, unfolding(crate::specs::kinds::entry))]
-fn stand_in(first: bool, kind: Kind, key: Key) -> Stand
-    ensures { result ≡ stand_in first kind key }
+fn stand_in(version: Version, kind: Kind, key: Key) -> Stand
+    ensures { result ≡ stand_in version kind key }
 {
     match shared_stand(key) {
         Some(stand) => stand,
-        None => kinds::stand(first, kind, key),
+        None => kinds::stand(version, kind, key),
     }
 }
 
-/// Whether the key may stand there. Where there is no kind, every key may.
-fn may_stand(first: bool, kind: Option<Kind>, key: Key) -> bool
-    ensures { result ≡ may_stand first kind key }
+/// Whether the key may stand there. If there is no kind, every key of the version may.
+fn may_stand(version: Version, kind: Option<Kind>, key: Key) -> bool
+    ensures { result ≡ may_stand version kind key }
 {
     match kind {
-        Some(kind) => stand_in(first, kind, key).may_be(),
-        None => true,
+        Some(kind) => stand_in(version, kind, key).may_be(),
+        None => version.has_key(key),
     }
 }
 
 /// Whether one of the keys has the name, and a document of the version and the kind has that key.
-/// Where there is no kind, every key is known.
-pub(crate) fn is_known(keys: &[Key], first: bool, kind: Option<Kind>, name: &str) -> bool
-    ensures { result ≡ is_known keys.now first kind name.now }
+/// If there is no kind, every key of the version is known.
+pub(crate) fn is_known(keys: &[Key], version: Version, kind: Option<Kind>, name: &str) -> bool
+    ensures { result ≡ is_known keys.now version kind name.now }
 {
     keys.iter()
-        .any(|key| may_stand(first, kind, *key) && key.name() == name)
+        .any(|key| may_stand(version, kind, *key) && key.name() == name)
 }
 
-fn all_need(first: bool, kinds: &[Kind], key: Key) -> bool
-    ensures { result ≡ list_all (λ one. has_to_be (stand_in first one key)) kinds.now }
+fn all_need(version: Version, kinds: &[Kind], key: Key) -> bool
+    ensures { result ≡ list_all (λ one. has_to_be (stand_in version one key)) kinds.now }
 {
     kinds
         .iter()
-        .all(|kind| stand_in(first, *kind, key).has_to_be())
+        .all(|kind| stand_in(version, *kind, key).has_to_be())
 }
 
 /// Whether the key has to stand there. Where there is no kind, only the keys that all kinds need have to.
-pub(crate) fn is_needed(first: bool, kind: Option<Kind>, key: Key) -> bool
-    ensures { result ≡ is_needed first kind key }
+pub(crate) fn is_needed(version: Version, kind: Option<Kind>, key: Key) -> bool
+    ensures { result ≡ is_needed version kind key }
 {
     match kind {
-        Some(kind) => stand_in(first, kind, key).has_to_be(),
-        None => all_need(first, &KINDS, key),
+        Some(kind) => stand_in(version, kind, key).has_to_be(),
+        None => all_need(version, &KINDS, key),
     }
 }

@@ -19,8 +19,8 @@ use Rattle.opgen_net.specs.Flow.{Inputs, flow}
 use Rattle.opgen_net.specs.Valid.{widths, input_widths, IsValid}
 use Rattle.opgen_net.specs.WordRule.{IsThere, bit_flow, bits_from}
 use Rattle.opgen_net.proofs.Grown.{grown-flow, grown-width, grown-all_there}
-use Rattle.opgen_operator.specs.declared.kinds.single.Single.{Single}
-use Rattle.opgen_operator.specs.kinds.Single.{root_shift, root_width}
+use Rattle.opgen_kinds.specs.declared.single.Single.{Single}
+use Rattle.opgen_kinds.specs.Single.{root_shift, root_width}
 use Rattle.opgen_ports.specs.Shifts.{places_up}
 use Rattle.opgen_net.specs.Placed.{number_at, with_bits}
 use Rattle.opgen_digits.specs.Digit.{Known, with_difference, tried, left_of, AreOperands, HasDigit}

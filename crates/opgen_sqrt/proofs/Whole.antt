@@ -19,11 +19,11 @@ use Rattle.opgen_net.specs.Valid.{widths}
 use Rattle.opgen_net.specs.WordRule.{IsThere, bits_from}
 use Rattle.opgen_net.proofs.FlowWidths.{flow-width}
 use Rattle.opgen_net.proofs.Grown.{flow-then, grown-flow, grown-count}
-use Rattle.opgen_operator.specs.declared.kinds.single.Single.{Single}
+use Rattle.opgen_kinds.specs.declared.single.Single.{Single}
 use Rattle.opgen_operator.specs.declared.operator.Operator.TheVariants.{Root}
 use Rattle.opgen_ports.specs.declared.TheConstants.{MAX_SHIFT}
 use Rattle.opgen_operator.specs.Fits.{FitsOperator, FitsInEachMode, name_and_width}
-use Rattle.opgen_operator.specs.kinds.Single.{IsAcceptedSingle, square, IsGoodSquareRoot, root_shift, root_width, root_ports, IsSingle}
+use Rattle.opgen_kinds.specs.Single.{IsAcceptedSingle, square, IsGoodSquareRoot, root_shift, root_width, root_ports, IsSingle}
 use Rattle.opgen_operator.specs.Operator.{operator_inputs}
 use Rattle.opgen_operator.specs.PortWords.{recent_words, output_words}
 use Rattle.opgen_ports.specs.Recent.{Recent}

@@ -6,8 +6,8 @@ use Rattle.opgen_design.specs.Run.{AreWords}
 use Rattle.opgen_net.specs.declared.net.Net.{Net}
 use Rattle.opgen_net.specs.Flow.{Inputs}
 use Rattle.opgen_net.specs.Valid.{input_widths}
-use Rattle.opgen_operator.specs.declared.kinds.single.Single.{Single}
-use Rattle.opgen_operator.specs.kinds.Single.{root_width}
+use Rattle.opgen_kinds.specs.declared.single.Single.{Single}
+use Rattle.opgen_kinds.specs.Single.{root_width}
 use Rattle.opgen_net.specs.Placed.{number_at}
 use Rattle.opgen_sqrt.specs.Recipe.{radicand, keeps, after}
 

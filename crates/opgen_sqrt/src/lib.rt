@@ -14,7 +14,7 @@ ghost use Rattle.opgen_net.specs.Valid.{IsValid, widths};
 ghost use Rattle.opgen_net.specs.WordRule.{IsThere};
 ghost use Rattle.opgen_operator.specs.declared.operator.Operator.TheVariants.{Root};
 ghost use Rattle.opgen_operator.specs.Fits.{FitsInEachMode};
-ghost use Rattle.opgen_operator.specs.kinds.Single.{IsAcceptedSingle, root_width};
+ghost use Rattle.opgen_kinds.specs.Single.{IsAcceptedSingle, root_width};
 ghost use Rattle.opgen_sqrt.specs.Recipe.{with_input, radicand as radicand_of, stepped, after, net_of_single};
 ghost use Rattle.opgen_sqrt.specs.Steps.{HoldsAfterEachStep};
 

@@ -1,25 +1,32 @@
--- The nodes of the sums: the net grows by them, and each has the width of the sums.
+-- The nodes of the sums: the net grows by them, and each has the width of its sum.
 use Rattle.std.proofs.Common.{◌≡◌, ◌≢◌, ℕ, zero, suc, ◌<◌, Bool, true, false, List, [], ◌∷◌, length, drop, refl, sym, ap, ◌∙◌, subst, arith}
-use Rattle.std.specs.Prelude.{ℤ, pos, negsuc, All, slice_index, if◌then◌else◌}
+use Rattle.std.specs.Prelude.{ℤ, pos, negsuc, All, slice_index, nat_eq, if◌then◌else◌}
+use Rattle.std.proofs.lemmas.Bool.{eqb-true}
 use Rattle.std.proofs.lemmas.List.Elements.{All-head, All-tail, All-weaker}
+use Rattle.opgen_num.specs.WordLaws.{length-word}
+use Rattle.opgen_num.specs.Words.{word}
 use Rattle.opgen_design.specs.declared.expr.Op.TheVariants.{Plus, Minus}
 use Rattle.opgen_design.specs.Width.{IsWidth}
 use Rattle.opgen_net.specs.declared.cell.Class.TheVariants.{Add}
 use Rattle.opgen_net.specs.declared.net.Net.{Net}
-use Rattle.opgen_net.specs.declared.node.Node.TheVariants.{Cells, Delay}
-use Rattle.opgen_net.specs.Placed.{Placed}
+use Rattle.opgen_net.specs.declared.node.Node.TheVariants.{Cells, Constant, Delay}
+use Rattle.opgen_net.specs.Placed.{Placed, with_bits}
 use Rattle.opgen_net.specs.Valid.{IsValid, widths, FitsNodes}
 use Rattle.opgen_net.proofs.Appending.{width-append_last}
 use Rattle.opgen_net.proofs.FlowLaws.{length-widths}
 use Rattle.opgen_net.proofs.Grown.{grown-width}
 use Rattle.opgen_net.proofs.Later.{Later, later-node, later-same, later-then, node_there}
+use Rattle.opgen_ports.specs.Ranges.{IsWithin}
+use Rattle.opgen_graph.specs.declared.multiples.Multiple.{Multiple}
 use Rattle.opgen_graph.specs.Placing.{IsNode, HasOddPart}
-use Rattle.opgen_graph.specs.Recipe.{Multiples, with_magnitude, with_constant}
+use Rattle.opgen_graph.specs.Recipe.{Multiples, operand, with_magnitude, with_constant}
 use Rattle.opgen_graph.proofs.Kept.{keeps-later, node-kept}
 use Rattle.opgen_graph.proofs.Products.{magnitude-placed, negated-placed}
-use Rattle.opgen_graph.proofs.Sums.{IsPlacedNode, pair-fits}
-use Rattle.opgen_tfir.specs.declared.sums.Products.{Products}
-use Rattle.opgen_tfir.specs.Recipe.{all_zero, result, joined, with_product, delayed, with_taps}
+use Rattle.opgen_graph.proofs.Sums.{IsPlacedNode, pair-fits, operand-placed}
+use Rattle.opgen_tfir.specs.declared.products.Products.{Products}
+use Rattle.opgen_tfir.specs.Recipe.{all_zero, own_format, sum_width, widened, result, joined, with_product, with_half, first_product, delayed, with_tap, with_taps}
+use Rattle.opgen_tfir.specs.Steps.{HasWidths, AreTaps}
+use Rattle.opgen_tfir.proofs.Widths.{sum-wide}
 use Rattle.opgen_tfir.proofs.Zeros.{first-some, drop-some}
 
 -- a sum or difference of two nodes of a width has it too
@@ -38,19 +45,37 @@ delayed-placed bits sum valid wide width =
       width = width-append_last sum.net.nodes (Delay sum.place) ∙ width;
     }
 
-module _ (p : Products) (wide : IsWidth p.width) where
-  -- ---- a product added to a node
-  module _ (d : Placed) (valid : IsValid d.net) (width : slice_index (widths d.net.nodes) d.place ≡ p.width) where
-    pub node-kept_width : (m : Placed) → IsPlacedNode d.net p.width m → slice_index (widths m.net.nodes) d.place ≡ p.width
-    node-kept_width m made =
-        grown-width d.net m.net made.later.grown d.place (node_there d.net d.place p.width wide.0 width) ∙ width
+-- ---- a node in another width
 
-    pub joined-placed : (negative : Bool) (m : Placed) → IsPlacedNode d.net p.width m → IsPlacedNode d.net p.width (joined negative p.width d.place m)
+abbrev pub as_multiple : (from : ℕ) → Placed → Multiple
+as_multiple from d = record { factor = 1; node = d.place; width = from }
+
+module _ (signed : Bool) (from to : ℕ) (d : Placed) (valid : IsValid d.net) (wide_from : IsWidth from) (wide_to : IsWidth to)
+    (width : slice_index (widths d.net.nodes) d.place ≡ from) where
+  pub is-node : IsNode d.net (as_multiple from d)
+  is-node = record { some = wide_from.0; most = wide_from.1; width = width }
+
+  pub widened-placed : IsPlacedNode d.net to (widened signed from to d)
+  widened-placed = go (nat_eq from to) (λ e. eqb-true from to e)
+    where
+      go : (b : Bool) → (b ≡ true → from ≡ to)
+          → IsPlacedNode d.net to (if b then d else with_bits d.net (operand signed 0 to (as_multiple from d)))
+      go true same = record { later = later-same d.net valid; width = width ∙ same refl }
+      go false same = operand-placed signed 0 to d.net (as_multiple from d) valid wide_to is-node
+
+module _ (p : Products) (bits : ℕ) (wide : IsWidth bits) where
+  -- ---- a product added to a node
+  module _ (d : Placed) (valid : IsValid d.net) (width : slice_index (widths d.net.nodes) d.place ≡ bits) where
+    pub node-kept_width : (m : Placed) → IsPlacedNode d.net bits m → slice_index (widths m.net.nodes) d.place ≡ bits
+    node-kept_width m made =
+        grown-width d.net m.net made.later.grown d.place (node_there d.net d.place bits wide.0 width) ∙ width
+
+    pub joined-placed : (negative : Bool) (m : Placed) → IsPlacedNode d.net bits m → IsPlacedNode d.net bits (joined negative bits d.place m)
     joined-placed negative m made =
-        let node = Cells Add p.width (result negative d.place m.place) in
-        let fits = result-fits (widths m.net.nodes) negative d.place m.place p.width wide (node-kept_width m made) made.width in
+        let node = Cells Add bits (result negative d.place m.place) in
+        let fits = result-fits (widths m.net.nodes) negative d.place m.place bits wide (node-kept_width m made) made.width in
         record {
-          later = later-then d.net m.net (joined negative p.width d.place m).net made.later (later-node m.net node made.later.valid (tt, fits) refl);
+          later = later-then d.net m.net (joined negative bits d.place m).net made.later (later-node m.net node made.later.valid (tt, fits) refl);
           width = width-append_last m.net.nodes node;
         }
 
@@ -58,80 +83,144 @@ module _ (p : Products) (wide : IsWidth p.width) where
       abbrev pub b : Multiples
       b = record { net = d.net; known = p.parts }
 
-      pub product-placed : (t : ℤ) → HasOddPart p.parts t → IsPlacedNode d.net p.width (with_product p t d)
+      pub product-placed : (t : ℤ) → HasOddPart p.parts t → IsPlacedNode d.net bits (with_product p bits t d)
       product-placed (pos zero) odd = record { later = later-same d.net valid; width = width }
       product-placed (pos (suc n)) odd =
-          joined-placed false (with_magnitude p.signed p.width b (suc n))
-          (magnitude-placed p.signed b valid nodes p.width wide (suc n) (odd (λ z. cc)))
+          joined-placed false (with_magnitude p.input.signed bits b (suc n))
+          (magnitude-placed p.input.signed b valid nodes bits wide (suc n) (odd (λ z. cc)))
       product-placed (negsuc n) odd =
-          joined-placed true (with_magnitude p.signed p.width b (suc n))
-          (magnitude-placed p.signed b valid nodes p.width wide (suc n) (odd (λ z. cc)))
+          joined-placed true (with_magnitude p.input.signed bits b (suc n))
+          (magnitude-placed p.input.signed b valid nodes bits wide (suc n) (odd (λ z. cc)))
 
-  -- ---- all sums
+  -- ---- the product of the last tap
   module _ (net : Net) (valid : IsValid net) (nodes : All (IsNode net) p.parts) where
     abbrev pub start : Multiples
     start = record { net = net; known = p.parts }
 
-    pub nodes-later : (new : Net) → Later net new → All (IsNode new) p.parts
-    nodes-later new later = All-weaker (IsNode net) (IsNode new) (node-kept net new (keeps-later net new later)) p.parts nodes
-
-    pub end-placed : (t : ℤ) → t ≢ pos 0 → HasOddPart p.parts t → IsPlacedNode net p.width (with_constant p.signed p.width start t)
+    pub end-placed : (t : ℤ) → t ≢ pos 0 → HasOddPart p.parts t → IsPlacedNode net bits (with_constant p.input.signed bits start t)
     end-placed (pos zero) some odd = absurd (some refl)
-    end-placed (pos (suc n)) some odd = magnitude-placed p.signed start valid nodes p.width wide (suc n) (odd (λ z. cc))
+    end-placed (pos (suc n)) some odd = magnitude-placed p.input.signed start valid nodes bits wide (suc n) (odd (λ z. cc))
     end-placed (negsuc n) some odd =
-        let m = with_magnitude p.signed p.width start (suc n) in
-        let one = magnitude-placed p.signed start valid nodes p.width wide (suc n) (odd (λ z. cc)) in
-        let two = negated-placed p.width m one.later.valid wide one.width in
+        let m = with_magnitude p.input.signed bits start (suc n) in
+        let one = magnitude-placed p.input.signed start valid nodes bits wide (suc n) (odd (λ z. cc)) in
+        let two = negated-placed bits m one.later.valid wide one.width in
         record {
-          later = later-then net m.net (with_constant p.signed p.width start (negsuc n)).net one.later two.later;
+          later = later-then net m.net (with_constant p.input.signed bits start (negsuc n)).net one.later two.later;
           width = two.width;
         }
 
-    -- a tap more
-    pub tap-placed : (t : ℤ) (sum : Placed) → HasOddPart p.parts t → IsPlacedNode net p.width sum
-        → IsPlacedNode sum.net p.width (with_product p t (delayed sum))
-    tap-placed t sum odd made =
-        let d = delayed sum in
-        let one = delayed-placed p.width sum made.later.valid wide made.width in
-        let now = nodes-later d.net (later-then net sum.net d.net made.later one.later) in
-        let two = product-placed d one.later.valid one.width now t odd in
-        record { later = later-then sum.net d.net (with_product p t d).net one.later two.later; width = two.width }
+    pub half-placed : IsPlacedNode net bits (with_half p bits net)
+    half-placed = record {
+      later = later-node net (Constant (word bits p.half)) valid (subst IsWidth (sym (length-word bits p.half)) wide) refl;
+      width = width-append_last net.nodes (Constant (word bits p.half)) ∙ length-word bits p.half;
+    }
 
-    pub taps-placed : (ts : List ℤ) → All (HasOddPart p.parts) ts → all_zero ts ≡ false → IsPlacedNode net p.width (with_taps p net ts)
-    taps-placed [] odd some = absurd (cc)
-    taps-placed (t ∷ ts) odd some =
-        go (all_zero ts) refl (λ e. taps-placed ts (All-tail (HasOddPart p.parts) t ts odd) e)
+    pub half-nodes : All (IsNode (with_half p bits net).net) p.parts
+    half-nodes =
+        let h = with_half p bits net in
+        All-weaker (IsNode net) (IsNode h.net) (node-kept net h.net (keeps-later net h.net half-placed.later)) p.parts nodes
+
+    pub first-placed : (t : ℤ) → t ≢ pos 0 → HasOddPart p.parts t → IsPlacedNode net bits (first_product p bits net t)
+    first-placed t some odd = go (nat_eq p.half 0)
       where
-        go : (c : Bool) → all_zero ts ≡ c → (all_zero ts ≡ false → IsPlacedNode net p.width (with_taps p net ts))
-            → IsPlacedNode net p.width
-            (if c then with_constant p.signed p.width start t else with_product p t (delayed (with_taps p net ts)))
-        go true e rest = end-placed t (first-some t ts some e) (All-head (HasOddPart p.parts) t ts odd)
-        go false e rest =
-            let before = rest e in
-            let step = tap-placed t (with_taps p net ts) (All-head (HasOddPart p.parts) t ts odd) before in
-            record {
-              later = later-then net (with_taps p net ts).net (with_product p t (delayed (with_taps p net ts))).net before.later step.later;
-              width = step.width;
-            }
+        go : (c : Bool) → IsPlacedNode net bits
+            (if c then with_constant p.input.signed bits start t else with_product p bits t (with_half p bits net))
+        go true = end-placed t some odd
+        go false =
+            let h = with_half p bits net in
+            let two = product-placed h half-placed.later.valid half-placed.width half-nodes t odd in
+            record { later = later-then net h.net (with_product p bits t h).net half-placed.later two.later; width = two.width }
 
-    -- where a later tap is not 0 the sum from it on stands
-    pub taps-more : (t : ℤ) (ts : List ℤ) → all_zero ts ≡ false → with_taps p net (t ∷ ts) ≡ with_product p t (delayed (with_taps p net ts))
-    taps-more t ts e =
-        ap (λ (c : Bool). if c then with_constant p.signed p.width start t else with_product p t (delayed (with_taps p net ts))) e
+-- ---- all sums
 
-    pub taps-last : (t : ℤ) (ts : List ℤ) → all_zero ts ≡ true → with_taps p net (t ∷ ts) ≡ with_constant p.signed p.width start t
-    taps-last t ts e =
-        ap (λ (c : Bool). if c then with_constant p.signed p.width start t else with_product p t (delayed (with_taps p net ts))) e
+-- where a later tap is not 0 the sum from it on stands, and else the first product
+pub taps-more : (p : Products) (net : Net) (t : ℤ) (ts : List ℤ) → all_zero ts ≡ false
+    → with_taps p net (t ∷ ts) ≡ with_tap p t ts (with_taps p net ts)
+taps-more p net t ts e =
+    ap (λ (c : Bool). if c then first_product p (sum_width p (t ∷ ts)) net t else with_tap p t ts (with_taps p net ts)) e
 
-    -- the net goes on growing from tap to tap
-    pub taps-later : (ts : List ℤ) (k : ℕ) → All (HasOddPart p.parts) ts → all_zero (drop k ts) ≡ false
-        → Later (with_taps p net (drop k ts)).net (with_taps p net ts).net
-    taps-later ts zero odd some = later-same (with_taps p net ts).net (taps-placed ts odd some).later.valid
-    taps-later [] (suc k) odd some = absurd (cc)
-    taps-later (t ∷ ts) (suc k) odd some =
-        let rest = drop-some ts k some in
-        let before = taps-placed ts (All-tail (HasOddPart p.parts) t ts odd) rest in
-        let step = tap-placed t (with_taps p net ts) (All-head (HasOddPart p.parts) t ts odd) before in
-        let more = subst (λ (q : Placed). Later (with_taps p net ts).net q.net) (sym (taps-more t ts rest)) step.later in
-        later-then (with_taps p net (drop k ts)).net (with_taps p net ts).net (with_taps p net (t ∷ ts)).net
-        (taps-later ts k (All-tail (HasOddPart p.parts) t ts odd) some) more
+pub taps-last : (p : Products) (net : Net) (t : ℤ) (ts : List ℤ) → all_zero ts ≡ true
+    → with_taps p net (t ∷ ts) ≡ first_product p (sum_width p (t ∷ ts)) net t
+taps-last p net t ts e =
+    ap (λ (c : Bool). if c then first_product p (sum_width p (t ∷ ts)) net t else with_tap p t ts (with_taps p net ts)) e
+
+pub taps-tail : (p : Products) (t : ℤ) (ts : List ℤ) → AreTaps p (t ∷ ts) → AreTaps p ts
+taps-tail p t ts are = record {
+  few = omega (arith, are.few);
+  small = All-tail (IsWithin 1048575) t ts are.small;
+  odd = All-tail (HasOddPart p.parts) t ts are.odd;
+}
+
+pub width-at : (p : Products) → HasWidths p → (ts : List ℤ) → AreTaps p ts → IsWidth (sum_width p ts)
+width-at p has ts are = sum-wide p has ts are.few are.small
+
+module _ (p : Products) (has : HasWidths p) (net : Net) (valid : IsValid net) (nodes : All (IsNode net) p.parts) where
+  pub nodes-later : (new : Net) → Later net new → All (IsNode new) p.parts
+  nodes-later new later = All-weaker (IsNode net) (IsNode new) (node-kept net new (keeps-later net new later)) p.parts nodes
+
+  -- a tap more
+  module _ (t : ℤ) (ts : List ℤ) (are : AreTaps p (t ∷ ts)) (sum : Placed) (made : IsPlacedNode net (sum_width p ts) sum) where
+    abbrev pub late : Placed
+    late = delayed sum
+
+    abbrev pub wider : Placed
+    wider = widened (own_format p ts).signed (sum_width p ts) (sum_width p (t ∷ ts)) late
+
+    pub late-placed : IsPlacedNode sum.net (sum_width p ts) late
+    late-placed = delayed-placed (sum_width p ts) sum made.later.valid (width-at p has ts (taps-tail p t ts are)) made.width
+
+    pub wider-placed : IsPlacedNode late.net (sum_width p (t ∷ ts)) wider
+    wider-placed =
+        widened-placed (own_format p ts).signed (sum_width p ts) (sum_width p (t ∷ ts)) late late-placed.later.valid
+        (width-at p has ts (taps-tail p t ts are)) (width-at p has (t ∷ ts) are) late-placed.width
+
+    pub late-later : Later net late.net
+    late-later = later-then net sum.net late.net made.later late-placed.later
+
+    pub wider-later : Later net wider.net
+    wider-later = later-then net late.net wider.net late-later wider-placed.later
+
+    pub wider-nodes : All (IsNode wider.net) p.parts
+    wider-nodes = nodes-later wider.net wider-later
+
+    tap-of : IsPlacedNode wider.net (sum_width p (t ∷ ts)) (with_tap p t ts sum)
+    tap-of =
+        product-placed p (sum_width p (t ∷ ts)) (width-at p has (t ∷ ts) are) wider wider-placed.later.valid wider-placed.width
+        wider-nodes t (All-head (HasOddPart p.parts) t ts are.odd)
+
+    pub tap-later : Later sum.net (with_tap p t ts sum).net
+    tap-later =
+        later-then sum.net wider.net (with_tap p t ts sum).net
+        (later-then sum.net late.net wider.net late-placed.later wider-placed.later) tap-of.later
+
+    pub tap-placed : IsPlacedNode net (sum_width p (t ∷ ts)) (with_tap p t ts sum)
+    tap-placed = record {
+      later = later-then net sum.net (with_tap p t ts sum).net made.later tap-later;
+      width = tap-of.width;
+    }
+
+  pub taps-placed : (ts : List ℤ) → AreTaps p ts → all_zero ts ≡ false → IsPlacedNode net (sum_width p ts) (with_taps p net ts)
+  taps-placed [] are some = absurd (cc)
+  taps-placed (t ∷ ts) are some =
+      go (all_zero ts) refl (λ e. taps-placed ts (taps-tail p t ts are) e)
+    where
+      go : (c : Bool) → all_zero ts ≡ c → (all_zero ts ≡ false → IsPlacedNode net (sum_width p ts) (with_taps p net ts))
+          → IsPlacedNode net (sum_width p (t ∷ ts))
+          (if c then first_product p (sum_width p (t ∷ ts)) net t else with_tap p t ts (with_taps p net ts))
+      go true e rest =
+          first-placed p (sum_width p (t ∷ ts)) (width-at p has (t ∷ ts) are) net valid nodes t (first-some t ts some e)
+          (All-head (HasOddPart p.parts) t ts are.odd)
+      go false e rest = tap-placed t ts are (with_taps p net ts) (rest e)
+
+  -- the net goes on growing from tap to tap
+  pub taps-later : (ts : List ℤ) (k : ℕ) → AreTaps p ts → all_zero (drop k ts) ≡ false
+      → Later (with_taps p net (drop k ts)).net (with_taps p net ts).net
+  taps-later ts zero are some = later-same (with_taps p net ts).net (taps-placed ts are some).later.valid
+  taps-later [] (suc k) are some = absurd (cc)
+  taps-later (t ∷ ts) (suc k) are some =
+      let rest = drop-some ts k some in
+      let before = taps-placed ts (taps-tail p t ts are) rest in
+      let more = subst (λ (q : Placed). Later (with_taps p net ts).net q.net) (sym (taps-more p net t ts rest))
+      (tap-later t ts are (with_taps p net ts) before) in
+      later-then (with_taps p net (drop k ts)).net (with_taps p net ts).net (with_taps p net (t ∷ ts)).net
+      (taps-later ts k (taps-tail p t ts are) some) more

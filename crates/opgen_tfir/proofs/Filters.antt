@@ -1,68 +1,119 @@
 -- The whole net of an accepted filter, by a graph that serves its taps.
-use Rattle.std.proofs.Common.{◌≡◌, ℕ, suc, ◌+◌, ◌-◌, ◌*◌, ◌≤◌, Bool, true, false, ◌&&◌, List, [], ◌∷◌, ◌++◌, length, map, take, drop, refl, sym, ap, ◌∙◌, subst, arith, codes}
-use Rattle.std.specs.Prelude.{ℤ, pos, neg_ℤ, ◌-ℤ◌, unsigned_abs, All, Contains, ◌==◌, if◌then◌else◌}
+use Rattle.std.proofs.Common.{◌≡◌, ℕ, zero, suc, ◌+◌, ◌-◌, ◌*◌, ◌^◌, ◌<◌, ◌≤◌, Bool, true, false, List, [], ◌∷◌, ◌++◌, length, map, take, drop, refl, sym, ap, ◌∙◌, subst, arith, codes}
+use Rattle.std.specs.Int.{int_div_euclid}
+use Rattle.std.specs.Prelude.{ℤ, pos, neg_ℤ, ◌+ℤ◌, ◌-ℤ◌, ◌*ℤ◌, ◌≤ℤ◌, unsigned_abs, All, Contains, if◌then◌else◌, negsuc}
+use Rattle.std.proofs.Math.Nat.{mul-le-mul_left}
 use Rattle.std.proofs.Math.Seq.{take-length}
-use Rattle.std.proofs.lemmas.List.Sums.{sum_by-cons}
-use Rattle.std.proofs.lemmas.List.Elements.{All-nil, All-drop, All-weaker, All-contains_itself}
+use Rattle.std.proofs.lemmas.Int.{ints}
+use Rattle.std.proofs.lemmas.Nat.{pow_pos}
+use Rattle.std.proofs.lemmas.List.Elements.{All-nil, All-weaker, All-contains_itself}
+use Rattle.opgen_num.specs.Floors.{IsFloor}
 use Rattle.opgen_num.specs.Formats.{Holds, range_width}
+use Rattle.opgen_num.specs.Rounding.{IsGoodLinear}
 use Rattle.opgen_num.specs.Values.{val}
 use Rattle.opgen_num.specs.Words.{word, nat}
-use Rattle.opgen_num.proofs.Values.{val_holds}
+use Rattle.opgen_num.proofs.Rounded.{floor_is}
 use Rattle.opgen_design.specs.Run.{AreWords}
-use Rattle.opgen_design.specs.Width.{IsWidth}
+use Rattle.opgen_design.specs.Value.{cut}
 use Rattle.opgen_net.specs.declared.net.Net.{Net}
 use Rattle.opgen_net.specs.declared.net.Output.{Output}
 use Rattle.opgen_net.specs.declared.node.Node.TheVariants.{Constant}
-use Rattle.opgen_net.specs.Flow.{Inputs, flow, input_at, slice_flow}
-use Rattle.opgen_net.specs.Placed.{Placed, whole}
+use Rattle.opgen_net.specs.Flow.{Inputs, flow, slice_flow}
+use Rattle.opgen_net.specs.Placed.{Placed}
 use Rattle.opgen_net.specs.Valid.{IsValid, LiesWithin, input_widths, slice_width, widths}
 use Rattle.opgen_net.proofs.Appending.{flow-append_last, valid-output, width-append_last}
-use Rattle.opgen_net.proofs.FlowWidths.{flow-width}
 use Rattle.opgen_net.proofs.Grown.{grown-flow}
-use Rattle.opgen_net.proofs.Later.{Later, later-node, later-same, later-then, node_there}
-use Rattle.opgen_operator.specs.declared.kinds.taps.Taps.{Taps}
+use Rattle.opgen_net.proofs.Later.{Later, later-node, later-same, later-then, node_there, words-later}
+use Rattle.opgen_kinds.specs.declared.taps.Taps.{Taps}
+use Rattle.opgen_kinds.specs.Sum.{sum_shift}
+use Rattle.opgen_kinds.specs.Taps.{IsAcceptedTaps, direct, taps_format, exact_taps, IsTaps}
+use Rattle.opgen_kinds.proofs.of_kind.Sum.{sums_held}
+use Rattle.opgen_kinds.proofs.of_kind.Taps.{direct_sum}
 use Rattle.opgen_operator.specs.declared.operator.Operator.TheVariants.{Tfir}
 use Rattle.opgen_operator.specs.Fits.{FitsOperator, FitsInEachMode}
-use Rattle.opgen_operator.specs.Held.{OutputsHold}
-use Rattle.opgen_operator.specs.kinds.Taps.{IsAcceptedTaps, taps_format, IsTaps}
-use Rattle.opgen_ports.specs.OddParts.{odd_part}
 use Rattle.opgen_operator.specs.Operator.{operator_outputs}
 use Rattle.opgen_operator.specs.PortWords.{output_words}
-use Rattle.opgen_ports.specs.Ranges.{IsWithin}
-use Rattle.opgen_ports.specs.Reaches.{reach_of, reach_over, rises, falls, above_zero, below_zero}
-use Rattle.opgen_ports.specs.Recent.{weighted}
+use Rattle.opgen_operator.specs.Valid.{IsModeOf}
 use Rattle.opgen_operator.proofs.Accepted.{accepted_ranges}
-use Rattle.opgen_ports.proofs.InputPorts.{input_bit}
-use Rattle.opgen_operator.proofs.of_kind.Taps.{taps_width}
+use Rattle.opgen_ports.specs.Good.{IsGoodRatio}
+use Rattle.opgen_ports.specs.OddParts.{odd_part}
+use Rattle.opgen_ports.specs.Reaches.{reach_of, reach_over, rises, falls, above_zero, below_zero, in_units, in_places}
+use Rattle.opgen_ports.specs.Recent.{Recent, weighted}
+use Rattle.opgen_ports.specs.Shifts.{up, down}
+use Rattle.opgen_ports.specs.Spans.{IsOf}
+use Rattle.opgen_ports.proofs.Reached.{rises-cons, falls-cons, ceiling}
 use Rattle.opgen_ports.proofs.Widths.{some_width}
 use Rattle.opgen_graph.specs.declared.ranks.Graph.{Graph}
-use Rattle.opgen_graph.specs.Parts.{parts_of, with_parts}
+use Rattle.opgen_graph.specs.Parts.{parts_of}
 use Rattle.opgen_graph.specs.Placing.{factors, AreAdders, IsNode, IsPart, HasOddPart, IsMultiple}
-use Rattle.opgen_graph.specs.Recipe.{Multiples, with_input, multiples_of, with_constant}
+use Rattle.opgen_graph.specs.Recipe.{Multiples, with_input, multiples_of}
 use Rattle.opgen_graph.specs.Residues.{IsResidue}
 use Rattle.opgen_graph.specs.Served.{Serves}
-use Rattle.opgen_graph.proofs.Fits.{exact_good}
 use Rattle.opgen_graph.proofs.Kept.{keeps-later, words-back}
 use Rattle.opgen_graph.proofs.Members.{all_of}
 use Rattle.opgen_graph.proofs.PartLists.{part-within, part-listed, listed-part, odd_itself}
 use Rattle.opgen_graph.proofs.PartNodes.{all-made}
 use Rattle.opgen_graph.proofs.Products.{Ready, ready_nodes, zeros-has}
-use Rattle.opgen_graph.proofs.Residues.{Has, has, settled}
+use Rattle.opgen_graph.proofs.Residues.{Has, floor-has, settled}
 use Rattle.opgen_graph.proofs.ServedNets as served
 use Rattle.opgen_graph.proofs.Sums.{IsPlacedNode}
-use Rattle.opgen_tfir.specs.declared.sums.Products.{Products}
-use Rattle.opgen_tfir.specs.Recipe.{all_zero, with_taps, with_multiples, products_of, sum_from, net_of_taps}
-use Rattle.opgen_tfir.specs.Steps.{HasProducts, IsTap}
+use Rattle.opgen_tfir.specs.declared.products.Products.{Products}
+use Rattle.opgen_tfir.specs.Recipe.{all_zero, low_bits, half_unit, own_format, sum_width, with_multiples, products_of, sum_from, whole_sum, with_result, zero_sum, net_of_taps}
+use Rattle.opgen_tfir.specs.Steps.{HasProducts, AreTaps}
 use Rattle.opgen_tfir.specs.Sums.{recent, HasSums}
-use Rattle.opgen_tfir.proofs.Chains.{taps-placed, taps-last, taps-later}
-use Rattle.opgen_tfir.proofs.Values.{taps-has}
-use Rattle.opgen_tfir.proofs.Zeros.{all-zeros, zeros-weighted}
+use Rattle.opgen_tfir.proofs.Chains.{width-at, taps-placed, taps-later, widened-placed}
+use Rattle.opgen_tfir.proofs.Floors.{IsMultipleOf, floor-good, sum-whole}
+use Rattle.opgen_tfir.proofs.Steps.{taps-drop}
+use Rattle.opgen_tfir.proofs.Values.{input-held, taps-has, widened-has}
+use Rattle.opgen_tfir.proofs.Widths.{of_width, whole-holds, half-within, widths-are}
+use Rattle.opgen_tfir.proofs.Zeros.{all-zeros, zeros-weighted, drop-some}
+
+-- ---- good outputs, by a floor
+
+-- the exact value over one unit
+module _ (f : Taps) (accepted : IsAcceptedTaps f) where
+  pub not-up : sum_shift (direct f) ≤ℤ pos 0
+  not-up = go accepted
+    where
+      go : IsAcceptedTaps f → sum_shift (direct f) ≤ℤ pos 0
+      go (version, by) = by.fine.1
+
+  one-up : (s : ℤ) → s ≤ℤ pos 0 → up s ≡ 1
+  one-up (pos zero) h = omega arith
+  one-up (pos (suc n)) h = absurd (omega (arith, ints, h))
+  one-up (negsuc n) h = omega arith
+
+  good-ratio : (exact : Bool) (x : Recent) (q : ℤ) → IsGoodLinear (weighted f.taps x) (pos (2 ^ low_bits f)) q exact
+      → IsGoodRatio exact (exact_taps f x) q
+  good-ratio exact x q good =
+      let top : weighted f.taps x ≡ weighted f.taps x *ℤ pos (up (sum_shift (direct f))) =
+      omega (arith, ints, ap (λ n. weighted f.taps x *ℤ pos n) (one-up (sum_shift (direct f)) not-up)) in
+      let bottom : pos (2 ^ low_bits f) ≡ pos 1 *ℤ pos (down (sum_shift (direct f))) = omega (arith, ints) in
+      subst (λ n. IsGoodLinear n (pos 1 *ℤ pos (down (sum_shift (direct f)))) q exact) top
+      (subst (λ d. IsGoodLinear (weighted f.taps x) d q exact) bottom good)
+
+  -- an accepted mode asks for exact outputs only where the sum is whole
+  asked-whole : (exact : Bool) → IsModeOf exact (Tfir f) → (x : Recent) → exact ≡ true → IsMultipleOf (2 ^ low_bits f) (weighted f.taps x)
+  asked-whole true mode x e = sum-whole (sum_shift (direct f)) f.taps x not-up (mode.whole refl)
+  asked-whole false mode x e = absurd (cc)
+
+  pub good-floor : (exact : Bool) → IsModeOf exact (Tfir f) → (x : Recent) (q : ℤ)
+      → IsFloor (weighted f.taps x +ℤ pos (half_unit (low_bits f))) (pos (2 ^ low_bits f)) q → IsGoodRatio exact (exact_taps f x) q
+  good-floor exact mode x q floor =
+      good-ratio exact x q
+      (floor-good (weighted f.taps x) q (2 ^ low_bits f) (half_unit (low_bits f)) (pow_pos (low_bits f)) (half-within (low_bits f)) floor
+      exact (asked-whole exact mode x))
+
+  -- and it is a number of the output's format
+  pub held-floor : IsTaps f → (x : Recent) → ((ago : ℕ) → IsOf f.input (x ago)) → (q : ℤ)
+      → IsFloor (weighted f.taps x +ℤ pos (half_unit (low_bits f))) (pos (2 ^ low_bits f)) q → IsOf (taps_format f) q
+  held-floor ranges x of q floor =
+      sums_held (direct f) (direct_sum f ranges) x of q
+      (good-ratio false x q
+      (floor-good (weighted f.taps x) q (2 ^ low_bits f) (half_unit (low_bits f)) (pow_pos (low_bits f)) (half-within (low_bits f)) floor
+      false (λ e. absurd (cc))))
 
 -- ---- taps that are all 0
-
-and_right : (a b : Bool) → a && b ≡ true → b ≡ true
-and_right true b h = h
-and_right false b h = absurd (cc)
 
 zero-reach : (ts : List ℤ) → All (λ t. t ≡ pos 0) ts → (rises ts ≡ 0) × (falls ts ≡ 0)
 zero-reach [] h = (refl, refl)
@@ -71,19 +122,88 @@ zero-reach (t ∷ ts) h =
     let first : t ≡ pos 0 = h 0 (pos 0) (omega arith) in
     let above : above_zero t ≡ 0 = ap above_zero first in
     let below : below_zero t ≡ 0 = ap below_zero first in
-    (omega (arith, sum_by-cons (λ x. x) (above_zero t) (map above_zero ts), rest.0, above), omega (arith, sum_by-cons (λ x. x) (below_zero t) (map below_zero ts), rest.1, below))
+    (omega (arith, rises-cons t ts, rest.0, above), omega (arith, falls-cons t ts, rest.1, below))
 
--- their output has one bit
-zero-width : (f : Taps) → all_zero f.taps ≡ true → (taps_format f).width ≡ 1
-zero-width f h =
-    let none = zero-reach f.taps (all-zeros f.taps h) in
-    let reach = reach_over f.input f.taps in
-    let of = reach_of f.input in
-    let below : reach.below ≡ 0 =
-    ap (λ n. n * of.below + falls f.taps * of.above) none.0 ∙ ap (λ n. 0 * of.below + n * of.above) none.1 ∙ omega arith in
-    let above : reach.above ≡ 0 =
-    ap (λ n. n * of.above + falls f.taps * of.below) none.0 ∙ ap (λ n. 0 * of.above + n * of.below) none.1 ∙ omega arith in
-    ap (λ n. range_width (neg_ℤ (pos n)) (pos reach.above)) below ∙ ap (λ n. range_width (pos 0) (pos n)) above
+nothing-over : (d q : ℕ) → 0 < d → d * q < 0 + d → q ≡ 0
+nothing-over d zero some close = refl
+nothing-over d (suc q) some close =
+    let least : d * 1 ≤ d * suc q = mul-le-mul_left d (omega arith) in absurd (omega (arith, least, close))
+
+zero-units : (s : ℤ) → s ≤ℤ pos 0 → in_units 0 s (pos 1) ≡ 0
+zero-units (pos zero) h =
+    let (_, close) = ceiling (0 * 1) 1 (omega arith) in nothing-over 1 (in_units 0 (pos 0) (pos 1)) (omega arith) (omega (arith, close))
+zero-units (pos (suc k)) h = absurd (omega (arith, ints, h))
+zero-units (negsuc k) h =
+    let d = 1 * 2 ^ (k + 1) in
+    let some : 0 < d = omega (arith, pow_pos (k + 1)) in
+    let (_, close) = ceiling (0 * 1) d some in nothing-over d (in_units 0 (negsuc k) (pos 1)) some (omega (arith, close))
+
+module _ (f : Taps) (accepted : IsAcceptedTaps f) (e : all_zero f.taps ≡ true) where
+  zero-ranges : IsTaps f
+  zero-ranges = accepted_ranges (Tfir f) accepted
+
+  -- their output has one bit
+  zero-width : (taps_format f).width ≡ 1
+  zero-width =
+      let none = zero-reach f.taps (all-zeros f.taps e) in
+      let reach = reach_over f.input f.taps in
+      let of = reach_of f.input in
+      let s = sum_shift (direct f) in
+      let below : reach.below ≡ 0 =
+      ap (λ n. n * of.below + falls f.taps * of.above) none.0 ∙ ap (λ n. 0 * of.below + n * of.above) none.1 ∙ omega arith in
+      let above : reach.above ≡ 0 =
+      ap (λ n. n * of.above + falls f.taps * of.below) none.0 ∙ ap (λ n. 0 * of.above + n * of.below) none.1 ∙ omega arith in
+      let low : in_units reach.below s (pos 1) ≡ 0 = ap (λ n. in_units n s (pos 1)) below ∙ zero-units s (not-up f accepted) in
+      let high : in_units reach.above s (pos 1) ≡ 0 = ap (λ n. in_units n s (pos 1)) above ∙ zero-units s (not-up f accepted) in
+      ap (λ n. range_width (neg_ℤ (pos n)) (pos (in_units reach.above s (pos 1)))) low ∙ ap (λ n. range_width (pos 0) (pos n)) high
+
+  abbrev zeros : Placed
+  zeros = zero_sum f.input
+
+  abbrev zero-output : Output
+  zero-output = record { name = codes "y"; from = record { node = zeros.place; high = 0 + 1 - 1; low = 0 } }
+
+  abbrev zero-net : Net
+  zero-net = with_result 0 1 zeros
+
+  zero-valid : IsValid (with_input f.input)
+  zero-valid = served.input-valid f.input zero-ranges.input
+
+  zero-later : Later (with_input f.input) zeros.net
+  zero-later = later-node (with_input f.input) (Constant (word 1 0)) zero-valid (omega arith, omega arith) refl
+
+  zero-floor : (x : Recent) → IsFloor (weighted f.taps x +ℤ pos (half_unit (low_bits f))) (pos (2 ^ low_bits f)) (pos 0)
+  zero-floor x =
+      let none = zeros-weighted f.taps 0 x e in
+      let half = half-within (low_bits f) in
+      let times : pos (2 ^ low_bits f) *ℤ (pos 0 +ℤ pos 1) ≡ pos (2 ^ low_bits f) = omega (arith, ints) in
+      (omega (arith, ints, none), omega (arith, ints, none, half, times))
+
+  zero-value : (inputs : Inputs) (t : ℤ) → All (AreWords (input_widths zero-net)) inputs
+      → val (slice_flow zero-net.nodes inputs zero-output.from t) (taps_format f) ≡ pos 0
+  zero-value inputs t words =
+      let x = recent f.input inputs t in
+      let held = held-floor f accepted zero-ranges x
+      (λ ago. input-held f.input zero-ranges.input (with_input f.input) (later-same (with_input f.input) zero-valid) inputs words (t -ℤ pos ago))
+      (pos 0) (zero-floor x) in
+      let is : slice_flow zero-net.nodes inputs zero-output.from t ≡ word 1 0 =
+      ap (cut 0 0) (flow-append_last (with_input f.input).nodes (Constant (word 1 0)) inputs t) in
+      ap (λ w. val w (taps_format f)) is
+      ∙ settled (taps_format f) 1 (word 1 0) (pos 0) (omega arith) (zeros-has 1)
+      (subst (λ n. Holds (taps_format f).signed n (pos 0)) zero-width held)
+
+  pub zero-fits : (exact : Bool) → IsModeOf exact (Tfir f) → FitsOperator exact (Tfir f) zero-net
+  zero-fits exact mode = record {
+    valid = valid-output zeros.net zero-output zero-later.valid
+        (omega arith, omega (arith, width-append_last (with_input f.input).nodes (Constant (word 1 0))));
+    inputs = refl;
+    outputs = ap (λ n. (codes "y", n) ∷ []) (sym zero-width);
+    good = λ inputs t words within range.
+        subst (IsGoodRatio exact (exact_taps f (recent f.input inputs (pos t)))) (sym (zero-value inputs (pos t) words))
+        (good-floor f accepted exact mode (recent f.input inputs (pos t)) (pos 0) (zero-floor (recent f.input inputs (pos t))));
+  }
+
+-- ---- the nodes
 
 module _ (f : Taps) (accepted : IsAcceptedTaps f) (graph : Graph) (serves : Serves f.taps graph) where
   pub ranges : IsTaps f
@@ -97,7 +217,7 @@ module _ (f : Taps) (accepted : IsAcceptedTaps f) (graph : Graph) (serves : Serv
 
   part-is : (x : ℕ) → Contains (parts_of f.taps) x → IsPart by_graph.known x
   part-is x c =
-      let (t, in_taps, is) = listed-part f.taps ranges.taps x c in
+      let (t, in_taps, is) = listed-part f.taps x c in
       let within = part-within f.taps ranges.taps x (t, in_taps, is) in
       let part : odd_part (unsigned_abs t) ≡ odd_part x = is.part ∙ sym (odd_itself x within.0 (omega (arith, within.2))) in
       record {
@@ -110,191 +230,173 @@ module _ (f : Taps) (accepted : IsAcceptedTaps f) (graph : Graph) (serves : Serv
   pub all-parts : All (IsPart by_graph.known) (parts_of f.taps)
   all-parts = all_of (IsPart by_graph.known) (parts_of f.taps) part-is
 
-  abbrev pub bits : ℕ
-  bits = (taps_format f).width
-
-  pub wide : IsWidth bits
-  wide = (some_width (reach_over f.input f.taps), omega (arith, taps_width f ranges, ranges.input.most))
-
   abbrev pub made : Multiples
   made = with_multiples f graph
 
   abbrev pub p : Products
   p = products_of f graph
 
-  abbrev pub whole_sum : Placed
-  whole_sum = sum_from f graph f.taps
-
-  -- ---- the nodes of the odd parts
-
+  -- the nodes of the odd parts
   pub record IsStart (m : Multiples) : Type 0 where
     pub later : Later (with_input f.input) m.net
     pub ready : Ready f.input m
     pub taps : All (HasOddPart m.known) f.taps
 
-  module _ (hold : OutputsHold) where
-    zero-start : all_zero f.taps ≡ true → IsStart (record { net = with_input f.input; known = [] })
-    zero-start e =
-        let valid = served.input-valid f.input ranges.input in
-        record {
-          later = later-same (with_input f.input) valid;
-          ready = record {
-            valid = valid;
-            has_input = record { some = input_bit f.input ranges.input; width = refl };
-            each = All-nil (IsMultiple f.input (with_input f.input));
-          };
-          taps = All-weaker (λ t. t ≡ pos 0) (HasOddPart []) (λ t z some. absurd (some z)) f.taps (all-zeros f.taps e);
-        }
+  pub start : IsStart made
+  start =
+      let before : Multiples = record { net = by_graph.net; known = [] } in
+      let is = all-made f.input ranges.input by_graph.known before (parts_of f.taps)
+      (served.ready f.input ranges.input f.taps ranges.taps graph serves) (All-nil (IsMultiple f.input by_graph.net)) all-parts in
+      record {
+        later = later-then (with_input f.input) by_graph.net made.net
+            (served.stands f.input ranges.input f.taps ranges.taps graph serves).later is.later;
+        ready = record { valid = is.ready.valid; has_input = is.ready.has_input; each = is.each };
+        taps = All-weaker (Contains f.taps) (HasOddPart made.known)
+            (λ t c some. subst (λ fs. Contains fs (odd_part (unsigned_abs t))) (sym is.factors_are)
+            (part-listed f.taps (odd_part (unsigned_abs t)) (t, c, record { some = some; part = refl })))
+            f.taps (All-contains_itself f.taps);
+      }
 
-    some-start : IsStart (with_parts f.input by_graph.known (record { net = by_graph.net; known = [] }) (parts_of f.taps))
-    some-start =
-        let before : Multiples = record { net = by_graph.net; known = [] } in
-        let after = with_parts f.input by_graph.known before (parts_of f.taps) in
-        let is = all-made hold f.input ranges.input by_graph.known before (parts_of f.taps)
-        (served.ready f.input ranges.input f.taps ranges.taps graph serves) (All-nil (IsMultiple f.input by_graph.net)) all-parts in
-        record {
-          later = later-then (with_input f.input) by_graph.net after.net
-              (served.stands f.input ranges.input f.taps ranges.taps graph serves).later is.later;
-          ready = record { valid = is.ready.valid; has_input = is.ready.has_input; each = is.each };
-          taps = All-weaker (Contains f.taps) (HasOddPart after.known)
-              (λ t c some. subst (λ fs. Contains fs (odd_part (unsigned_abs t))) (sym is.factors_are)
-              (part-listed f.taps ranges.taps (odd_part (unsigned_abs t)) (t, c, record { some = some; part = refl })))
-              f.taps (All-contains_itself f.taps);
-        }
+  pub nodes : All (IsNode made.net) made.known
+  nodes = ready_nodes f.input made start.ready
 
-    pub start : IsStart made
-    start = go (all_zero f.taps) refl
-      where
-        go : (b : Bool) → all_zero f.taps ≡ b → IsStart
-            (if b then record { net = with_input f.input; known = [] }
-            else with_parts f.input by_graph.known (record { net = by_graph.net; known = [] }) (parts_of f.taps))
-        go true e = zero-start e
-        go false e = some-start
+  pub products : HasProducts made.net p
+  products = record { widths = widths-are f ranges.input accepted graph; nodes = nodes }
 
-    pub nodes : All (IsNode made.net) made.known
-    nodes = ready_nodes f.input made start.ready
+  pub are_taps : AreTaps p f.taps
+  are_taps = record { few = ranges.few; small = ranges.taps; odd = start.taps }
 
-    pub products : HasProducts made.net p
-    products = record { wide = wide; nodes = nodes }
+  -- ---- the sum of all taps, where one is not 0
 
-    pub are_taps : All (IsTap p) f.taps
-    are_taps k d l = record { small = ranges.taps k d l; odd = start.taps k d l }
+  module _ (some : all_zero f.taps ≡ false) where
+    abbrev pub sum : Placed
+    sum = sum_from f graph f.taps
 
-    -- ---- the sum of all taps
+    abbrev pub whole : Placed
+    whole = whole_sum f graph
 
-    zero-sum : all_zero f.taps ≡ true → with_taps p made.net f.taps ≡ with_constant p.signed p.width made (pos 0)
-    zero-sum e = go f.taps ranges.some e (all-zeros f.taps e)
-      where
-        go : (ts : List ℤ) → 1 ≤ length ts → all_zero ts ≡ true → All (λ t. t ≡ pos 0) ts
-            → with_taps p made.net ts ≡ with_constant p.signed p.width made (pos 0)
-        go [] some e zeros = absurd (omega (arith, some))
-        go (t ∷ ts) some e zeros =
-            let rest : all_zero ts ≡ true = and_right (unsigned_abs t == 0) (all_zero ts) e in
-            taps-last p wide made.net start.ready.valid nodes t ts rest
-            ∙ ap (with_constant p.signed p.width made) (zeros 0 (pos 0) (omega arith))
+    pub sum-placed : IsPlacedNode made.net (sum_width p f.taps) sum
+    sum-placed = taps-placed p products.widths made.net start.ready.valid nodes f.taps are_taps some
 
-    pub sum-placed : IsPlacedNode made.net bits whole_sum
-    sum-placed = go (all_zero f.taps) refl
-      where
-        go : (b : Bool) → all_zero f.taps ≡ b → IsPlacedNode made.net bits whole_sum
-        go true e =
-            subst (IsPlacedNode made.net bits) (sym (zero-sum e)) (record {
-              later = later-node made.net (Constant (word 1 0)) start.ready.valid (omega arith, omega arith) refl;
-              width = width-append_last made.net.nodes (Constant (word 1 0)) ∙ sym (zero-width f e);
-            })
-        go false e = taps-placed p wide made.net start.ready.valid nodes f.taps start.taps e
+    pub whole-placed : IsPlacedNode sum.net p.width whole
+    whole-placed =
+        widened-placed (own_format p f.taps).signed (sum_width p f.taps) p.width sum sum-placed.later.valid
+        (width-at p products.widths f.taps are_taps) products.widths.wide sum-placed.width
 
-    pub sum-has : (inputs : Inputs) (t : ℤ) → All (AreWords (input_widths made.net)) inputs
-        → Has bits (weighted f.taps (recent f.input inputs t)) (flow whole_sum.net.nodes inputs whole_sum.place t)
-    sum-has inputs t words = go (all_zero f.taps) refl
-      where
-        go : (b : Bool) → all_zero f.taps ≡ b
-            → Has bits (weighted f.taps (recent f.input inputs t)) (flow whole_sum.net.nodes inputs whole_sum.place t)
-        go true e =
-            subst (λ (q : Placed). Has bits (weighted f.taps (recent f.input inputs t)) (flow q.net.nodes inputs q.place t)) (sym (zero-sum e))
-            (subst (Has bits (weighted f.taps (recent f.input inputs t)))
-            (sym (flow-append_last made.net.nodes (Constant (word 1 0)) inputs t))
-            (subst (λ n. Has n (weighted f.taps (recent f.input inputs t)) (word 1 0)) (sym (zero-width f e))
-            (has 1 (pos 0) _ (word 1 0) (sym (zeros-weighted f.taps 0 (recent f.input inputs t) e)) (zeros-has 1))))
-        go false e =
-            taps-has f.input bits made.known wide made.net start.later start.ready f.taps start.taps ranges.taps e inputs t words
+    pub whole-later : Later made.net whole.net
+    whole-later = later-then made.net sum.net whole.net sum-placed.later whole-placed.later
 
-    -- ---- the net with its output
-
-    abbrev pub net : Net
-    net = net_of_taps f graph
+    whole-has : (inputs : Inputs) (t : ℤ) → All (AreWords (input_widths made.net)) inputs
+        → Has p.width (weighted f.taps (recent f.input inputs t) +ℤ pos p.half) (flow whole.net.nodes inputs whole.place t)
+    whole-has inputs t words =
+        let x = recent f.input inputs t in
+        let h = taps-has p products.widths made.net start.later start.ready f.taps are_taps some inputs t words in
+        let of = λ (k : ℕ). input-held f.input ranges.input made.net start.later inputs words (t -ℤ pos k) in
+        widened-has (of_width p f.taps) p.width sum sum-placed.later.valid
+        (width-at p products.widths f.taps are_taps) products.widths.wide inputs t
+        (words-later made.net sum.net sum-placed.later inputs words) (weighted f.taps x +ℤ pos p.half) h
+        (whole-holds p f.taps x of)
 
     abbrev pub output : Output
-    output = record { name = codes "y"; from = whole bits whole_sum.place }
+    output = record { name = codes "y"; from = record { node = whole.place; high = low_bits f + (taps_format f).width - 1; low = low_bits f } }
 
-    pub output-lies : LiesWithin (widths whole_sum.net.nodes) output.from
-    output-lies = (omega arith, omega (arith, sum-placed.width, wide.0))
+    pub output-lies : LiesWithin (widths whole.net.nodes) output.from
+    output-lies = (omega (arith, one), omega (arith, whole-placed.width, one))
+      where
+        one : 1 ≤ (taps_format f).width
+        one = some_width (in_places (reach_over f.input f.taps) (sum_shift (direct f)) (pos 1))
 
-    pub net-valid : IsValid net
-    net-valid = valid-output whole_sum.net output sum-placed.later.valid output-lies
+    abbrev net : Net
+    net = with_result (low_bits f) (taps_format f).width whole
 
-    whole-later : Later (with_input f.input) whole_sum.net
-    whole-later = later-then (with_input f.input) made.net whole_sum.net start.later sum-placed.later
+    some-valid : IsValid net
+    some-valid = valid-output whole.net output whole-placed.later.valid output-lies
 
-    pub net-inputs : net.inputs ≡ (codes "x", f.input.width) ∷ []
-    net-inputs = whole-later.grown.inputs
+    from-input : Later (with_input f.input) whole.net
+    from-input = later-then (with_input f.input) made.net whole.net start.later whole-later
 
-    pub net-outputs : net.outputs ≡ output ∷ []
-    net-outputs = ap (λ (os : List Output). os ++ output ∷ []) whole-later.grown.outputs
+    some-outputs : net.outputs ≡ output ∷ []
+    some-outputs = ap (λ (os : List Output). os ++ output ∷ []) from-input.grown.outputs
 
-    -- the words of the net's inputs are those of the net before the sums
     for_made : (inputs : Inputs) → All (AreWords (input_widths net)) inputs → All (AreWords (input_widths made.net)) inputs
-    for_made inputs words =
-        words-back made.net whole_sum.net (keeps-later made.net whole_sum.net sum-placed.later) inputs words
+    for_made inputs words = words-back made.net whole.net (keeps-later made.net whole.net whole-later) inputs words
 
-    pub sums-hold : HasSums f graph net
-    sums-hold k some inputs t words =
+    some-sums : HasSums f graph net
+    some-sums k later_some inputs t words =
         let ts = drop k f.taps in
         let z = sum_from f graph ts in
-        let odd = All-drop (HasOddPart made.known) k f.taps start.taps in
-        let small = All-drop (IsWithin 2047) k f.taps ranges.taps in
-        let h = taps-has f.input bits made.known wide made.net start.later start.ready ts odd small some inputs t (for_made inputs words) in
-        let answers = taps-placed p wide made.net start.ready.valid nodes ts odd some in
-        let later = taps-later p wide made.net start.ready.valid nodes f.taps k start.taps some in
-        let there = node_there z.net z.place bits wide.0 answers.width in
-        subst (λ w. IsResidue bits (weighted ts (recent f.input inputs t)) (nat w))
-        (sym (grown-flow z.net whole_sum.net later.grown inputs z.place t there)) h.residue
+        let are = taps-drop p f.taps k are_taps in
+        let h = taps-has p products.widths made.net start.later start.ready ts are later_some inputs t (for_made inputs words) in
+        let answers = taps-placed p products.widths made.net start.ready.valid nodes ts are later_some in
+        let on = later-then z.net sum.net whole.net
+        (taps-later p products.widths made.net start.ready.valid nodes f.taps k are_taps later_some) whole-placed.later in
+        let there = node_there z.net z.place (sum_width p ts) (width-at p products.widths ts are).0 answers.width in
+        subst (λ w. IsResidue (sum_width p ts) (weighted ts (recent f.input inputs t) +ℤ pos p.half) (nat w))
+        (sym (grown-flow z.net whole.net on.grown inputs z.place t there)) h.residue
 
-    -- ---- the output
+    -- the output is the sum with half a unit, rounded down
+    module _ (inputs : Inputs) (t : ℤ) (words : All (AreWords (input_widths net)) inputs) where
+      abbrev x : Recent
+      x = recent f.input inputs t
 
-    pub value : (inputs : Inputs) (t : ℤ) → All (AreWords (input_widths net)) inputs
-        → val (slice_flow net.nodes inputs output.from t) (taps_format f) ≡ weighted f.taps (recent f.input inputs t)
-    value inputs t words =
-        let w = flow whole_sum.net.nodes inputs whole_sum.place t in
-        let h = sum-has inputs t (for_made inputs words) in
-        let e : bits - 1 + 1 - 0 ≡ length w = omega (arith, h.width, wide.0) in
-        let x = recent f.input inputs t in
-        ap (λ v. val v (taps_format f)) (ap (λ n. take n w) e ∙ take-length w)
-        ∙ settled (taps_format f) bits w (weighted f.taps x) wide.0 h (hold (Tfir f) x (λ ago. held (t -ℤ pos ago)))
-      where
-        held : (u : ℤ) → Holds f.input.signed f.input.width (val (input_at inputs 0 f.input.width u) f.input)
-        held u =
-            let v = input_at inputs 0 f.input.width u in
-            let old = with_input f.input in
-            let valid = served.input-valid f.input ranges.input in
-            let now = words-back old made.net (keeps-later old made.net start.later) inputs (for_made inputs words) in
-            let long : length v ≡ f.input.width = flow-width old valid inputs now 0 u in
-            subst (λ n. Holds f.input.signed n (val v f.input)) long
-            (val_holds v f.input (omega (arith, long, input_bit f.input ranges.input)))
+      abbrev pub q : ℤ
+      q = int_div_euclid (weighted f.taps x +ℤ pos p.half) (pos (2 ^ low_bits f))
 
-    whole-width : slice_width output.from ≡ bits
-    whole-width = omega (arith, wide.0)
+      pub floor : IsFloor (weighted f.taps x +ℤ pos p.half) (pos (2 ^ low_bits f)) q
+      floor = floor_is (weighted f.taps x +ℤ pos p.half) (pos (2 ^ low_bits f)) (omega (arith, ints, pow_pos (low_bits f)))
 
-    fits-operator : (exact : Bool) → FitsOperator exact (Tfir f) net
-    fits-operator exact = record {
-      valid = net-valid;
-      inputs = net-inputs;
-      outputs = ap (map _) net-outputs ∙ ap (λ n. (codes "y", n) ∷ []) whole-width;
+      pub value : val (slice_flow net.nodes inputs output.from t) (taps_format f) ≡ q
+      value =
+          let low = low_bits f in
+          let bits = (taps_format f).width in
+          let one = some_width (in_places (reach_over f.input f.taps) (sum_shift (direct f)) (pos 1)) in
+          let w = flow whole.net.nodes inputs whole.place t in
+          let made_words = for_made inputs words in
+          let h = whole-has inputs t made_words in
+          let turned : low + bits ≡ bits + low = omega arith in
+          let cut_has = floor-has low bits w (weighted f.taps x +ℤ pos p.half) q floor
+          (subst (λ n. Has n (weighted f.taps x +ℤ pos p.half) w) turned h) in
+          let e : low + bits - 1 + 1 - low ≡ length (drop low w) = omega (arith, cut_has.width, one) in
+          ap (λ v. val v (taps_format f)) (ap (λ n. take n (drop low w)) e ∙ take-length (drop low w))
+          ∙ settled (taps_format f) bits (drop low w) q one cut_has
+          (held-floor f accepted ranges x
+          (λ ago. input-held f.input ranges.input made.net start.later inputs made_words (t -ℤ pos ago)) q floor)
+
+    slice-is : slice_width output.from ≡ (taps_format f).width
+    slice-is =
+        let one = some_width (in_places (reach_over f.input f.taps) (sum_shift (direct f)) (pos 1)) in omega (arith, one)
+
+    some-fits : (exact : Bool) → IsModeOf exact (Tfir f) → FitsOperator exact (Tfir f) net
+    some-fits exact mode = record {
+      valid = some-valid;
+      inputs = from-input.grown.inputs;
+      outputs = ap (map _) some-outputs ∙ ap (λ n. (codes "y", n) ∷ []) slice-is;
       good = λ inputs t words within range.
-          exact_good exact (weighted f.taps (recent f.input inputs (pos t))) _
-          (ap (λ (os : List Output). output_words (operator_outputs (Tfir f)) (map (λ o. slice_flow net.nodes inputs o.from (pos t)) os) 0) net-outputs
-          ∙ value inputs (pos t) words);
+          let is : output_words (operator_outputs (Tfir f)) (map (λ o. slice_flow net.nodes inputs o.from (pos t)) net.outputs) 0
+          ≡ q inputs (pos t) words =
+          ap (λ (os : List Output). output_words (operator_outputs (Tfir f)) (map (λ o. slice_flow net.nodes inputs o.from (pos t)) os) 0)
+          some-outputs
+          ∙ value inputs (pos t) words in
+          subst (IsGoodRatio exact (exact_taps f (recent f.input inputs (pos t)))) (sym is)
+          (good-floor f accepted exact mode (recent f.input inputs (pos t)) (q inputs (pos t) words) (floor inputs (pos t) words));
     }
 
-    pub fits_modes : FitsInEachMode (Tfir f) net
-    fits_modes exact mode = fits-operator exact
+  -- ---- both
+
+  pub net-fits : FitsInEachMode (Tfir f) (net_of_taps f graph)
+  net-fits exact mode = go (all_zero f.taps) refl
+    where
+      go : (b : Bool) → all_zero f.taps ≡ b
+          → FitsOperator exact (Tfir f)
+          (if b then with_result 0 1 (zero_sum f.input) else with_result (low_bits f) (taps_format f).width (whole_sum f graph))
+      go true e = zero-fits f accepted e exact mode
+      go false e = some-fits e exact mode
+
+  pub net-sums : HasSums f graph (net_of_taps f graph)
+  net-sums = go (all_zero f.taps) refl
+    where
+      go : (b : Bool) → all_zero f.taps ≡ b
+          → HasSums f graph
+          (if b then with_result 0 1 (zero_sum f.input) else with_result (low_bits f) (taps_format f).width (whole_sum f graph))
+      go true e k some inputs t words = let no : false ≡ true = sym (drop-some f.taps k some) ∙ e in cc
+      go false e k some inputs t words = some-sums e k some inputs t words

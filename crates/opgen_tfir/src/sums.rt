@@ -1,26 +1,18 @@
 //! The chain of sums of a transposed filter, from the last tap to the first, with a delay between neighbouring taps.
-ghost use Rattle.std.specs.Prelude.{◌≡◌, ◌<◌, length, All, IfOk, OnOk, slice_index};
+ghost use Rattle.std.specs.Prelude.{◌≡◌, ◌≢◌, ◌+◌, ◌<◌, ◌^◌, pos, drop, false, length, get_or, All, OnOk, IfOk, slice_index};
 ghost use Rattle.opgen_design.specs.Plain.{plain};
 ghost use Rattle.opgen_design.specs.Width.{IsWidth};
 ghost use Rattle.opgen_net.specs.Valid.{IsValid, widths};
 ghost use Rattle.opgen_ports.specs.Ranges.{IsWithin};
-ghost use Rattle.opgen_tfir.specs.Recipe.{all_zero as all_zero_of, result as result_of, joined as joined_of, with_product, with_taps};
-ghost use Rattle.opgen_tfir.specs.Steps.{HasProducts, IsLast, IsTap};
+ghost use Rattle.opgen_graph.specs.Placing.{HasOddPart};
+ghost use Rattle.opgen_tfir.specs.Recipe.{all_zero as all_zero_of, result as result_of, joined as joined_of, widened as widened_of, with_product, first_product as first_product_of, sum_width as sum_width_of, own_format as own_format_of, with_tap, with_taps};
+ghost use Rattle.opgen_tfir.specs.Steps.{HasProducts, IsLast, AreTaps};
 
-use opgen_graph::{Multiple, chain, constant_node, magnitude};
-use opgen_list::Items;
+use crate::products::{Products, own_format, sum_width};
+use opgen_graph::{Multiple, chain, constant_node, magnitude, operand};
 use opgen_net::{Class, Expr, Net, Op};
-use opgen_num::Memory;
+use opgen_num::{Memory, Word};
 use std::alloc::{AllocError, Global};
-
-/// The nodes that have the input times odd parts, and what a product is made of them: whether the
-/// input is signed, and the width of each product.
-#[derive(Drop)]
-pub struct Products {
-    pub signed: bool,
-    pub width: u32,
-    pub parts: Items<Multiple>,
-}
 
 /// Whether all taps are 0.
 pub(crate) fn all_zero(taps: &[i64]) -> bool
@@ -37,7 +29,7 @@ pub(crate) fn all_zero(taps: &[i64]) -> bool
 // The place of the last tap that is not 0, or the first place where all are 0.
 fn last_tap(taps: &[i64]) -> usize
     requires some { 0 < length taps.now }
-    requires small { All (IsWithin 2047) taps.now }
+    requires small { All (IsWithin 1048575) taps.now }
     ensures { IsLast taps.now result }
 {
     let mut last = taps.len() - 1;
@@ -45,6 +37,34 @@ fn last_tap(taps: &[i64]) -> usize
         last -= 1;
     }
     last
+}
+
+// Gives a node in another width.
+fn widened(
+    alloc: Global,
+    net: &mut Net,
+    signed: bool,
+    from: u32,
+    to: u32,
+    node: usize,
+) -> Result<usize, Memory>
+    requires net { IsValid net.old }
+    requires from { IsWidth from }
+    requires to { IsWidth to }
+    requires node { slice_index (widths net.old.nodes) node ≡ from }
+    ensures ok { OnOk result (net.new ≡ (widened_of signed from to (record { net = net.old; place = node })).net) }
+    ensures place { IfOk result (λ n. n ≡ (widened_of signed from to (record { net = net.old; place = node })).place) }
+    ensures valid { IsValid net.new }
+{
+    if from == to {
+        return Ok(node);
+    }
+    let own = Multiple {
+        factor: 1,
+        node,
+        width: from,
+    };
+    operand(alloc, net, signed, 0, to, own)
 }
 
 // The sum of two nodes, or their difference.
@@ -83,33 +103,87 @@ fn add_product(
     alloc: Global,
     net: &mut Net,
     products: &Products,
+    width: u32,
     tap: i64,
     node: usize,
 ) -> Result<usize, Memory>
     requires net { IsValid net.old }
     requires products { HasProducts net.old products.now }
-    requires tap { IsTap products.now tap }
-    requires node { slice_index (widths net.old.nodes) node ≡ products.now.width }
-    ensures ok { OnOk result (net.new ≡ (with_product products.now tap (record { net = net.old; place = node })).net) }
-    ensures place { IfOk result (λ n. n ≡ (with_product products.now tap (record { net = net.old; place = node })).place) }
+    requires width { IsWidth width }
+    requires small { IsWithin 1048575 tap }
+    requires odd { HasOddPart products.now.parts tap }
+    requires node { slice_index (widths net.old.nodes) node ≡ width }
+    ensures ok { OnOk result (net.new ≡ (with_product products.now width tap (record { net = net.old; place = node })).net) }
+    ensures place { IfOk result (λ n. n ≡ (with_product products.now width tap (record { net = net.old; place = node })).place) }
     ensures valid { IsValid net.new }
 {
     if tap == 0 {
         return Ok(node);
     }
-    let product = magnitude(
-        alloc,
-        net,
-        products.signed,
-        products.width,
-        products.parts.as_slice(),
-        tap.unsigned_abs() as u32,
-    )?;
-    joined(alloc, net, tap < 0, products.width, node, product)
+    let signed = products.input.signed;
+    let parts = products.parts.as_slice();
+    let size = tap.unsigned_abs() as u32;
+    let product = magnitude(alloc, net, signed, width, parts, size)?;
+    joined(alloc, net, tap < 0, width, node, product)
 }
 
-/// Makes the sum from the first tap on, by those from the later taps on, each a cycle later.
-pub(crate) fn place_taps(
+// Makes the product of the last tap other than 0, with half a unit where the filter has one.
+fn first_product(
+    alloc: Global,
+    net: &mut Net,
+    products: &Products,
+    width: u32,
+    tap: i64,
+) -> Result<usize, Memory>
+    requires net { IsValid net.old }
+    requires products { HasProducts net.old products.now }
+    requires width { IsWidth width }
+    requires half { products.now.half < 2 ^ width }
+    requires small { IsWithin 1048575 tap }
+    requires odd { HasOddPart products.now.parts tap }
+    ensures ok { OnOk result (net.new ≡ (first_product_of products.now width net.old tap).net) }
+    ensures place { IfOk result (λ n. n ≡ (first_product_of products.now width net.old tap).place) }
+    ensures valid { IsValid net.new }
+{
+    if products.half == 0 {
+        let parts = products.parts.as_slice();
+        return constant_node(alloc, net, products.input.signed, width, parts, tap);
+    }
+    let half = net.constant(Word::new(u128::from(products.half), width))?;
+    add_product(alloc, net, products, width, tap, half)
+}
+
+// Makes the sum from the tap at a place on, by that from the next tap on.
+fn next_sum(
+    alloc: Global,
+    net: &mut Net,
+    products: &Products,
+    taps: &[i64],
+    place: usize,
+    sum: usize,
+) -> Result<usize, Memory>
+    requires net { IsValid net.old }
+    requires products { HasProducts net.old products.now }
+    requires taps { AreTaps products.now taps.now }
+    requires place { place + 1 < length taps.now }
+    requires sum { slice_index (widths net.old.nodes) sum ≡ sum_width_of products.now (drop (place + 1) taps.now) }
+    ensures ok { OnOk result (net.new ≡ (with_tap products.now (get_or taps.now place (pos 0)) (drop (place + 1) taps.now)
+        (record { net = net.old; place = sum })).net) }
+    ensures place { IfOk result (λ n. n ≡ (with_tap products.now (get_or taps.now place (pos 0)) (drop (place + 1) taps.now)
+        (record { net = net.old; place = sum })).place) }
+    ensures valid { IsValid net.new }
+{
+    let later = &taps[place + 1..];
+    let width = sum_width(products, &taps[place..]);
+    let from = sum_width(products, later);
+    let signed = own_format(products, later).signed;
+    let delayed = net.delay(sum)?;
+    let wider = widened(alloc, net, signed, from, width, delayed)?;
+    add_product(alloc, net, products, width, taps[place], wider)
+}
+
+// Makes the sum from the first tap on, by those from the later taps on, each a cycle later.
+fn place_taps(
     alloc: Global,
     net: &mut Net,
     products: &Products,
@@ -117,24 +191,40 @@ pub(crate) fn place_taps(
 ) -> Result<usize, Memory>
     requires net { IsValid net.old }
     requires products { HasProducts net.old products.now }
-    requires some { 0 < length taps.now }
-    requires taps { All (IsTap products.now) taps.now }
+    requires some { all_zero_of taps.now ≡ false }
+    requires taps { AreTaps products.now taps.now }
     ensures ok { OnOk result (net.new ≡ (with_taps products.now net.old taps.now).net) }
     ensures place { IfOk result (λ n. n ≡ (with_taps products.now net.old taps.now).place) }
     ensures valid { OnOk result (IsValid net.new) }
 {
     let last = last_tap(taps);
-    let mut sum = constant_node(
-        alloc,
-        net,
-        products.signed,
-        products.width,
-        products.parts.as_slice(),
-        taps[last],
-    )?;
+    let width = sum_width(products, &taps[last..]);
+    let mut sum = first_product(alloc, net, products, width, taps[last])?;
     'taps: for place in (0..last).rev() {
-        let delayed = net.delay(sum)?;
-        sum = add_product(alloc, net, products, taps[place], delayed)?;
+        sum = next_sum(alloc, net, products, taps, place, sum)?;
     }
     Ok(sum)
+}
+
+/// Makes the sum of all taps, in its whole width.
+pub(crate) fn place_sum(
+    alloc: Global,
+    net: &mut Net,
+    products: &Products,
+    taps: &[i64],
+) -> Result<usize, Memory>
+    requires net { IsValid net.old }
+    requires products { HasProducts net.old products.now }
+    requires some { all_zero_of taps.now ≡ false }
+    requires taps { AreTaps products.now taps.now }
+    ensures ok { OnOk result (net.new ≡ (widened_of (own_format_of products.now taps.now).signed (sum_width_of products.now taps.now)
+        products.now.width (with_taps products.now net.old taps.now)).net) }
+    ensures place { IfOk result (λ n. n ≡ (widened_of (own_format_of products.now taps.now).signed (sum_width_of products.now taps.now)
+        products.now.width (with_taps products.now net.old taps.now)).place) }
+    ensures valid { OnOk result (IsValid net.new) }
+{
+    let sum = place_taps(alloc, net, products, taps)?;
+    let signed = own_format(products, taps).signed;
+    let from = sum_width(products, taps);
+    widened(alloc, net, signed, from, products.width, sum)
 }

@@ -1,18 +1,20 @@
 -- The net of a kind is one of the specification.
-use Rattle.std.proofs.Common.{◌≡◌, Result, Ok, Err, sym, subst}
+use Rattle.std.proofs.Common.{◌≡◌, Result, Ok, Err, refl, sym, subst}
 use Rattle.std.specs.Prelude.{IfOk}
 use Rattle.std.proofs.lemmas.Result.{IfOk-at_ok}
 use Rattle.opgen_num.specs.declared.memory.Memory.{Memory}
 use Rattle.opgen_net.specs.declared.net.Net.{Net}
-use Rattle.opgen_operator.specs.declared.kinds.sum.Sum.{Sum}
+use Rattle.opgen_kinds.specs.declared.sum.Sum.{Sum}
 use Rattle.opgen_operator.specs.declared.operator.Operator.{Operator}
 use Rattle.opgen_operator.specs.declared.operator.Operator.TheVariants.{Scale}
 use Rattle.opgen_operator.specs.declared.spec.Spec.{Spec}
 use Rattle.opgen_operator.specs.Fits.{FitsInEachMode}
-use Rattle.opgen_operator.specs.kinds.Sum.{IsAcceptedSum}
+use Rattle.opgen_kinds.specs.Sum.{IsAcceptedSum}
 use Rattle.opgen_operator.specs.Operator.{IsAccepted}
 use Rattle.opgen_operator.specs.Valid.{IsValidSpec}
-use Rattle.opgen_operator.proofs.Accepted.{fits_spec, valid_accepted}
+use Rattle.opgen_operator.proofs.Accepted.{valid_accepted}
+use Rattle.opgen_saturate.proofs.ChosenNets.{cut_fits}
+use Rattle.opgen_saturate.specs.Chosen.{cut_net}
 use Rattle.opgen_top.specs.declared.circuit.KindNet.{KindNet}
 use Rattle.opgen_top.specs.Kinds.{AreAddersOf, AreAddersOfOperator, IsFittingNet, IsNetOfOperator}
 use Rattle.opgen_top.proofs.Naming.{fitting}
@@ -24,23 +26,36 @@ module _ (spec : Spec) (valid : IsValidSpec spec) where
   pub accepted_scale : (sum : Sum) → spec.op ≡ Scale sum → IsAcceptedSum sum
   accepted_scale sum e = valid_accepted.multiples sum (accepted_kind (Scale sum) e)
 
-  pub kind_fitting : (op : Operator) (net : Net) → spec.op ≡ op → IsNetOfOperator op net → FitsInEachMode op net → IsFittingNet spec net
-  kind_fitting op net e of fits = fitting spec net valid (subst (λ o. IsNetOfOperator o net) (sym e) of)
-      (fits_spec spec net valid (subst (λ o. FitsInEachMode o net) (sym e) fits))
+  -- the net of a kind, with the output of the width that is chosen, is one of the specification
+  pub kind_fitting : (op : Operator) (net : Net) → spec.op ≡ op → IsNetOfOperator op net → FitsInEachMode op net
+      → IsFittingNet spec (cut_net spec net)
+  kind_fitting op net e of fits =
+      fitting spec (cut_net spec net) valid
+      (record { own = net; by_kind = subst (λ o. IsNetOfOperator o net) (sym e) of; cut = refl })
+      (cut_fits spec net valid (subst (λ o. FitsInEachMode o net) (sym e) fits))
 
-  -- the same of a net that may lack memory
-  pub made_fitting : (op : Operator) (r : Result KindNet Memory) → spec.op ≡ op → IfOk r (λ made. IsNetOfOperator op made.net)
-      → IfOk r (λ made. FitsInEachMode op made.net) → IfOk r (λ made. IsFittingNet spec made.net)
-  made_fitting op (Ok made) e of fits = kind_fitting op made.net e of fits
-  made_fitting op (Err want) e of fits = tt
+  -- the net that was built is one of the operator's kind
+  pub made_net : (op : Operator) (r : Result KindNet Memory) → spec.op ≡ op → IfOk r (λ made. IsNetOfOperator op made.net)
+      → IfOk r (λ made. IsNetOfOperator spec.op made.net)
+  made_net op r e of = subst (λ o. IfOk r (λ made. IsNetOfOperator o made.net)) (sym e) of
+
+  pub made_fits : (op : Operator) (r : Result KindNet Memory) → spec.op ≡ op → IfOk r (λ made. FitsInEachMode op made.net)
+      → IfOk r (λ made. FitsInEachMode spec.op made.net)
+  made_fits op r e fits = subst (λ o. IfOk r (λ made. FitsInEachMode o made.net)) (sym e) fits
 
   -- and of one that has no adders
-  pub plain_fitting : (op : Operator) (built : Result Net Memory) (r : Result KindNet Memory) → spec.op ≡ op
-      → IfOk r (λ made. built ≡ Ok made.net) → IfOk built (IsNetOfOperator op) → IfOk built (FitsInEachMode op)
-      → IfOk r (λ made. IsFittingNet spec made.net)
-  plain_fitting op built (Ok made) e is of fits =
-      kind_fitting op made.net e (IfOk-at_ok (IsNetOfOperator op) is of) (IfOk-at_ok (FitsInEachMode op) is fits)
-  plain_fitting op built (Err want) e is of fits = tt
+  same_net : (P : Net → Type 0) (built : Result Net Memory) (r : Result KindNet Memory) → IfOk r (λ made. built ≡ Ok made.net)
+      → IfOk built P → IfOk r (λ made. P made.net)
+  same_net P built (Ok made) is of = IfOk-at_ok P is of
+  same_net P built (Err want) is of = tt
+
+  pub plain_net : (op : Operator) (built : Result Net Memory) (r : Result KindNet Memory) → spec.op ≡ op
+      → IfOk r (λ made. built ≡ Ok made.net) → IfOk built (IsNetOfOperator op) → IfOk r (λ made. IsNetOfOperator spec.op made.net)
+  plain_net op built r e is of = made_net op r e (same_net (IsNetOfOperator op) built r is of)
+
+  pub plain_fits : (op : Operator) (built : Result Net Memory) (r : Result KindNet Memory) → spec.op ≡ op
+      → IfOk r (λ made. built ≡ Ok made.net) → IfOk built (FitsInEachMode op) → IfOk r (λ made. FitsInEachMode spec.op made.net)
+  plain_fits op built r e is fits = made_fits op r e (same_net (FitsInEachMode op) built r is fits)
 
   pub made_adders : (op : Operator) (r : Result KindNet Memory) → spec.op ≡ op
       → IfOk r (λ made. AreAddersOfOperator op made.adders.items) → IfOk r (λ made. AreAddersOf spec made.adders.items)

@@ -9,7 +9,7 @@ use Rattle.opgen_design.specs.declared.design.Design.{Design}
 use Rattle.opgen_design.specs.Run.{Cycle, RunsOn, Words, at_ports, input_widths, output_widths, is_in, is_out}
 use Rattle.opgen_design.specs.Run.{words_at_outputs}
 use Rattle.opgen_operator.specs.declared.spec.Spec.{Spec}
-use Rattle.opgen_operator.specs.Operator.{inputs_of, outputs_of}
+use Rattle.opgen_operator.specs.Outputs.{inputs_of, outputs_of}
 use Rattle.opgen_ports.specs.PortNumbers.{format_at}
 use Rattle.opgen_vec.specs.Stimulus.{stimulus_cells}
 use Rattle.opgen_workload.specs.Filter.{workload_spec, workload_sum}

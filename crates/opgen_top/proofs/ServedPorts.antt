@@ -7,7 +7,7 @@ use Rattle.opgen_design.specs.declared.design.Port.{Port}
 use Rattle.opgen_design.specs.Run.{at_ports, is_in, input_widths}
 use Rattle.opgen_ports.specs.declared.ports.PortFormat.{PortFormat}
 use Rattle.opgen_operator.specs.declared.spec.Spec.{Spec}
-use Rattle.opgen_operator.specs.Operator.{inputs_of, outputs_of}
+use Rattle.opgen_operator.specs.Outputs.{inputs_of, outputs_of}
 use Rattle.opgen_operator.proofs.Operators.{some_input}
 use Rattle.opgen_operator.specs.DesignPorts.{port_of}
 use Rattle.opgen_top.specs.Serves.{ports_for}

@@ -16,7 +16,7 @@ use Rattle.opgen_net.specs.Named.{IsNamed}
 use Rattle.opgen_net.specs.Valid.{slice_width, input_widths as net_widths}
 use Rattle.opgen_operator.specs.declared.spec.Spec.{Spec}
 use Rattle.opgen_operator.specs.Fits.{FitsSpec, name_and_width}
-use Rattle.opgen_operator.specs.Operator.{IsGood, IsInRange, inputs_of as spec_inputs, outputs_of}
+use Rattle.opgen_operator.specs.Outputs.{IsGood, IsInRange, inputs_of as spec_inputs, outputs_of}
 use Rattle.opgen_operator.specs.PortWords.{recent_words, output_words}
 use Rattle.opgen_pipe.specs.Counted.{enable_inputs, counted, data_inputs}
 use Rattle.opgen_pipe.specs.Copies.{net_latency, signal_count}

@@ -6,13 +6,14 @@ use Rattle.opgen_fir.specs.Recipe.{net_of_sum}
 use Rattle.opgen_mult.specs.Recipe.{IsNetOfProduct}
 use Rattle.opgen_net.specs.declared.net.Net.{Net}
 use Rattle.opgen_net.specs.Named.{IsNamed}
-use Rattle.opgen_operator.specs.declared.kinds.taps.Taps.{Taps}
+use Rattle.opgen_kinds.specs.declared.taps.Taps.{Taps}
 use Rattle.opgen_operator.specs.declared.operator.Operator.{Operator}
 use Rattle.opgen_operator.specs.declared.operator.Operator.TheVariants.{Scale, Fir, Multiply, Divide, Root, Mcm, Constdiv, Poly, Tfir}
 use Rattle.opgen_operator.specs.declared.spec.Spec.{Spec}
 use Rattle.opgen_operator.specs.Fits.{FitsSpec}
 use Rattle.opgen_poly.specs.Recipe.{net_of_poly}
 use Rattle.opgen_graph.specs.declared.ranks.Graph.{Graph}
+use Rattle.opgen_saturate.specs.Chosen.{cut_net}
 use Rattle.opgen_search.specs.Recipe.{IsAdderSetOf, IsLeastGraphOf, IsNetOfSeveral}
 use Rattle.opgen_sqrt.specs.Recipe.{net_of_single}
 use Rattle.opgen_tfir.specs.Recipe.{net_of_taps}
@@ -24,7 +25,7 @@ pub record IsNetOfTaps (f : Taps) (net : Net) : Type 0 where
   pub least : IsLeastGraphOf f.taps f.input.width f.extra set graph
   pub by : net ≡ net_of_taps f graph
 
--- the net of a specification, by the recipe of its kind
+-- the net of an operator, by the recipe of its kind
 abbrev pub IsNetOfOperator : Operator → Net → Type 0
 IsNetOfOperator (Scale sum) net = net ≡ net_of_sum sum
 IsNetOfOperator (Fir sum) net = net ≡ net_of_sum sum
@@ -36,8 +37,11 @@ IsNetOfOperator (Constdiv small) net = net ≡ net_of_small small.exact small.in
 IsNetOfOperator (Poly poly) net = net ≡ net_of_poly poly
 IsNetOfOperator (Tfir taps) net = IsNetOfTaps taps net
 
-abbrev pub IsNetOf : Spec → Net → Type 0
-IsNetOf spec net = IsNetOfOperator spec.op net
+-- that of its operator, with the output of the width that is chosen
+pub record IsNetOf (spec : Spec) (net : Net) : Type 0 where
+  pub own : Net
+  pub by_kind : IsNetOfOperator spec.op own
+  pub cut : net ≡ cut_net spec own
 
 -- the numbers of its adder graph: several constants and transposed filters have one
 abbrev pub AreAddersOfOperator : Operator → List ℕ → Type 0
@@ -54,7 +58,7 @@ AreAddersOfOperator (Tfir taps) adders = IsAdderSetOf taps.taps taps.input.width
 abbrev pub AreAddersOf : Spec → List ℕ → Type 0
 AreAddersOf spec adders = AreAddersOfOperator spec.op adders
 
--- The net of a specification: that of its kind. It fits the specification, and its ports are named as a design asks.
+-- The net of a specification: that of its kind, with its output in the range that is chosen. It fits the specification, and its ports are named as a design asks.
 pub record IsFittingNet (spec : Spec) (net : Net) : Type 0 where
   pub of_kind : IsNetOf spec net
   pub fits : FitsSpec spec net

@@ -6,7 +6,7 @@ use Rattle.opgen_design.specs.declared.design.Port.{Port}
 use Rattle.opgen_design.specs.Run.{AreWords, Words, Run, input_widths, words_at_outputs}
 use Rattle.opgen_operator.specs.declared.spec.Spec.{Spec}
 use Rattle.opgen_operator.specs.DesignPorts.{operator_ports}
-use Rattle.opgen_operator.specs.Operator.{IsGood, IsInRange, inputs_of, outputs_of}
+use Rattle.opgen_operator.specs.Outputs.{IsGood, IsInRange, inputs_of, outputs_of}
 use Rattle.opgen_operator.specs.PortWords.{recent_words, output_words}
 use Rattle.opgen_pipe.specs.Counted.{enable_inputs, counted, data_inputs}
 

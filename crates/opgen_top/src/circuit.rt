@@ -1,12 +1,12 @@
 //! The circuit of a specification.
-ghost use Rattle.std.specs.Prelude.{◌≡◌, ◌≤◌, [], IfOk, Ok, string_bytes};
+ghost use Rattle.std.specs.Prelude.{◌≡◌, ◌≤◌, [], IfOk, IsTrue, Ok, string_bytes};
 ghost use Rattle.opgen_operator.specs.declared.operator.Operator.TheVariants.{Mcm, Tfir};
 ghost use Rattle.opgen_operator.specs.Fits.{FitsInEachMode};
-ghost use Rattle.opgen_operator.specs.kinds.Several.{IsAcceptedSeveral};
-ghost use Rattle.opgen_operator.specs.kinds.Taps.{IsAcceptedTaps};
+ghost use Rattle.opgen_kinds.specs.Several.{IsAcceptedSeveral};
+ghost use Rattle.opgen_kinds.specs.Taps.{IsAcceptedTaps};
 ghost use Rattle.opgen_operator.specs.Valid.{IsValidSpec};
 ghost use Rattle.opgen_search.specs.Recipe.{IsAdderSetOf, IsNetOfSeveral};
-ghost use Rattle.opgen_top.specs.Kinds.{AreAddersOf, IsFittingNet, IsNetOfTaps};
+ghost use Rattle.opgen_top.specs.Kinds.{AreAddersOf, IsFittingNet, IsNetOfOperator, IsNetOfTaps};
 ghost use Rattle.opgen_top.specs.Lines.{period_too_short_line};
 ghost use Rattle.opgen_top.specs.Prepared.{IfRefused, IsCircuitFor, IsListed, OnRefusal, TellsPlanFault};
 ghost use Rattle.opgen_top.specs.Specified.{OnDevices, OnTable};
@@ -19,6 +19,7 @@ use crate::targets::choose_target;
 use opgen_net::Net;
 use opgen_num::Memory;
 use opgen_pipe::{PlanFault, Planned, plan};
+use opgen_saturate::cut_output;
 use opgen_search::{Gate, least_graph};
 use opgen_spec::{Operator, Several, Spec, Taps};
 use std::alloc::{AllocError, Global};
@@ -59,6 +60,7 @@ fn build_several<R: Threads + Sync, G: Gate + Sync>(
     gate: &G,
 ) -> Result<KindNet, Memory>
     requires several { IsAcceptedSeveral several.now }
+    requires searched { IsTrue several.now.searched }
     requires workers { (1 ≤ workers) × (workers ≤ 32) }
     ensures net { IfOk result (λ made. IsNetOfSeveral several.now made.net) }
     ensures fits { IfOk result (λ made. FitsInEachMode (Mcm several.now) made.net) }
@@ -89,6 +91,7 @@ fn build_transposed<R: Threads + Sync, G: Gate + Sync>(
     gate: &G,
 ) -> Result<KindNet, Memory>
     requires taps { IsAcceptedTaps taps.now }
+    requires searched { IsTrue taps.now.searched }
     requires workers { (1 ≤ workers) × (workers ≤ 32) }
     ensures net { IfOk result (λ made. IsNetOfTaps taps.now made.net) }
     ensures fits { IfOk result (λ made. FitsInEachMode (Tfir taps.now) made.net) }
@@ -110,8 +113,8 @@ fn build_transposed<R: Threads + Sync, G: Gate + Sync>(
     })
 }
 
-/// The net of a specification, by its kind. A least set of adders is sought by so many workers.
-fn build_net<R: Threads + Sync, G: Gate + Sync>(
+/// The net of an operator, by its kind. A least set of adders is sought by so many workers.
+fn build_operator<R: Threads + Sync, G: Gate + Sync>(
     rt: &R,
     alloc: Global,
     spec: &Spec,
@@ -120,7 +123,8 @@ fn build_net<R: Threads + Sync, G: Gate + Sync>(
 ) -> Result<KindNet, Memory>
     requires valid { IsValidSpec spec.now }
     requires workers { (1 ≤ workers) × (workers ≤ 32) }
-    ensures net { IfOk result (λ made. IsFittingNet spec.now made.net) }
+    ensures net { IfOk result (λ made. IsNetOfOperator spec.now.op made.net) }
+    ensures fits { IfOk result (λ made. FitsInEachMode spec.now.op made.net) }
     ensures adders { IfOk result (λ made. AreAddersOf spec.now made.adders.items) }
 {
     match &spec.op {
@@ -134,6 +138,24 @@ fn build_net<R: Threads + Sync, G: Gate + Sync>(
         Operator::Poly(poly) => without_adders(alloc, opgen_poly::build(alloc, poly)),
         Operator::Tfir(taps) => build_transposed(rt, alloc, taps, workers, gate),
     }
+}
+
+/// The net of a specification: that of its operator, with the output of the width that is chosen.
+fn build_net<R: Threads + Sync, G: Gate + Sync>(
+    rt: &R,
+    alloc: Global,
+    spec: &Spec,
+    workers: u32,
+    gate: &G,
+) -> Result<KindNet, Memory>
+    requires valid { IsValidSpec spec.now }
+    requires workers { (1 ≤ workers) × (workers ≤ 32) }
+    ensures net { IfOk result (λ made. IsFittingNet spec.now made.net) }
+    ensures adders { IfOk result (λ made. AreAddersOf spec.now made.adders.items) }
+{
+    let mut made = build_operator(rt, alloc, spec, workers, gate)?;
+    cut_output(alloc, &mut made.net, spec)?;
+    Ok(made)
 }
 
 fn too_short_line(alloc: Global, need: u64) -> Result<String, AllocError>

@@ -3,7 +3,8 @@
 use Rattle.std.specs.Prelude.{ℕ, zero, suc, ◌+◌, ◌-◌, ◌*◌, ◌/◌, ◌%◌, ◌^◌, ◌==◌, ◌&&◌, Bool, false, List, [], ◌∷◌, ◌++◌, Option, Some, None, if◌then◌else◌}
 use Rattle.opgen_ports.specs.declared.ports.PortFormat.{PortFormat}
 use Rattle.opgen_operator.specs.declared.spec.Spec.{Spec}
-use Rattle.opgen_operator.specs.Operator.{divisor, inputs_of}
+use Rattle.opgen_operator.specs.Operator.{divisor}
+use Rattle.opgen_operator.specs.Outputs.{inputs_of}
 
 abbrev pub next : (state : ℕ) → ℕ
 next state = (state * 6364136223846793005 + 1442695040888963407) % 2 ^ 64

@@ -1,7 +1,7 @@
 //! The stimulus of a specification.
 ghost use Rattle.std.specs.Prelude.{◌≡◌, ◌++◌, length, map, IfOk, OnOk};
 ghost use Rattle.opgen_num.specs.Words.{AreRowsOfCells};
-ghost use Rattle.opgen_operator.specs.Operator.{inputs_of};
+ghost use Rattle.opgen_operator.specs.Outputs.{inputs_of};
 ghost use Rattle.opgen_operator.specs.Valid.{IsValidSpec};
 ghost use Rattle.opgen_vec.specs.Writing.{row_count};
 ghost use Rattle.opgen_vec.specs.Stimulus.{next, drawn, given, divides, draws_from, state_after, stimulus_cells};

@@ -1,19 +1,21 @@
 -- The filter of a number is a valid specification.
 use Rattle.std.proofs.Common.{◌≡◌, ℕ, ◌+◌, ◌*◌, ◌-◌, ◌/◌, ◌%◌, ◌^◌, ◌≤◌, ◌<◌, min, true, false, List, length, Some, refl, inl, arith}
-use Rattle.std.specs.Prelude.{IsTrue, codes, ℤ}
+use Rattle.std.specs.Prelude.{IsTrue, codes, ℤ, negsuc, [], ◌∷◌}
 use Rattle.std.proofs.Math.Nat.{div-le_self}
 use Rattle.std.proofs.lemmas.Int.{ints}
-use Rattle.std.proofs.lemmas.List.Elements.{All-nil}
+use Rattle.std.proofs.lemmas.List.Elements.{All-nil, All-cons}
 use Rattle.opgen_names.specs.Names.{refused_words}
 use Rattle.opgen_operator.specs.declared.operator.Operator.TheVariants.{Fir}
 use Rattle.opgen_ports.specs.declared.ports.PortFormat.{PortFormat}
-use Rattle.opgen_operator.specs.kinds.Sum.{sum_need, sum_places, sum_reach, IsSum}
+use Rattle.opgen_kinds.specs.Sum.{sum_need, sum_places, sum_reach, IsSum}
+use Rattle.opgen_kinds.specs.Versions.{AreNear}
 use Rattle.opgen_operator.specs.Operator.{IsAcceptedBy}
+use Rattle.opgen_ports.specs.Ranges.{IsNear}
 use Rattle.opgen_ports.specs.Reaches.{rises, falls, width_of}
 use Rattle.opgen_ports.specs.SpecName.{is_spec_name, taken_names}
 use Rattle.opgen_operator.specs.Valid.{IsDelayLine, IsValidSpec}
 use Rattle.opgen_ports.proofs.InputPorts.{all_one}
-use Rattle.opgen_operator.proofs.of_kind.Sum.{guard_small}
+use Rattle.opgen_kinds.proofs.of_kind.Sum.{guard_small}
 use Rattle.opgen_ports.proofs.Widths.{width_within}
 use Rattle.opgen_workload.specs.Filter.{coefficients, workload_spec, workload_sum}
 use Rattle.opgen_workload.proofs.Drawn.{coefficients-length, coefficients-within, wider, rises-within, falls-within}
@@ -24,6 +26,11 @@ rounded x y h = omega (arith, div-le_self x y)
 name_allowed : IsTrue (is_spec_name (codes "workload"))
 unfolding refused_words taken_names
 name_allowed = refl
+
+near : AreNear 1 (negsuc 10 ∷ negsuc 10 ∷ [])
+near _ =
+    let one : IsNear (negsuc 10) = (omega (arith, ints), omega (arith, ints)) in
+    All-cons IsNear (negsuc 10) (negsuc 10 ∷ []) one (All-cons IsNear (negsuc 10) [] one (All-nil IsNear))
 
 module _ (n : ℕ) (some : 1 ≤ n) (few : n ≤ 32) where
   abbrev taps : List ℤ
@@ -77,8 +84,9 @@ module _ (n : ℕ) (some : 1 ≤ n) (few : n ≤ 32) where
     version = inl refl;
     name = name_allowed;
     op = accepted;
-    first = λ _. refl;
+    has = (λ _. refl, near);
     mode = record { agrees = refl; whole = λ bad. let no_mark : false ≡ true = bad in cc };
+    output = refl;
     target = (omega arith, omega arith);
     period = (omega arith, omega arith);
     few_lines = omega arith;

@@ -1,6 +1,6 @@
 -- The filter that `workload` makes from a number.
-use Rattle.std.specs.Prelude.{ℕ, zero, suc, ◌*◌, true, false, List, [], ◌∷◌, codes, ℤ, pos, negsuc, ◌-ℤ◌}
-use Rattle.opgen_operator.specs.declared.kinds.sum.Sum.{Sum}
+use Rattle.std.specs.Prelude.{ℕ, zero, suc, ◌*◌, true, false, None, List, [], ◌∷◌, codes, ℤ, pos, negsuc, ◌-ℤ◌}
+use Rattle.opgen_kinds.specs.declared.sum.Sum.{Sum}
 use Rattle.opgen_operator.specs.declared.operator.Operator.TheVariants.{Fir}
 use Rattle.opgen_operator.specs.declared.spec.Spec.{Spec}
 use Rattle.opgen_vec.specs.Stimulus.{drawn, next}
@@ -31,6 +31,8 @@ workload_spec n = record {
   name = codes "workload";
   op = Fir (workload_sum n);
   exact = false;
+  out_width = None;
+  out_signed = None;
   target = codes "plain";
   period = 4000;
   delays = [];

@@ -1,6 +1,6 @@
 -- In how many cycles of a filter's run the output is good.
 use Rattle.std.specs.Prelude.{ℕ, zero, suc, ◌≡◌, ◌+◌, ◌⊎◌, List, [], ◌∷◌, take, slice_index}
-use Rattle.opgen_operator.specs.declared.kinds.sum.Sum.{Sum}
+use Rattle.opgen_kinds.specs.declared.sum.Sum.{Sum}
 use Rattle.opgen_operator.specs.declared.operator.Operator.{Operator}
 use Rattle.opgen_operator.specs.declared.operator.Operator.TheVariants.{Fir}
 use Rattle.opgen_operator.specs.declared.spec.Spec.{Spec}

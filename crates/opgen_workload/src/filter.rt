@@ -59,6 +59,8 @@ pub fn workload_spec(alloc: Global, n: u32) -> Result<Spec, Memory>
         name: Text::from_str(alloc, "workload")?,
         op: Operator::Fir(workload_sum(alloc, n)?),
         exact: false,
+        out_width: None,
+        out_signed: None,
         target: Text::from_str(alloc, "plain")?,
         period: 4000,
         delays: Items::new(alloc),

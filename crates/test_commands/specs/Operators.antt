@@ -1,22 +1,22 @@
 -- Operators, their ports and one cycle of each, worked out by hand.
 use Rattle.std.specs.Prelude.{◌≡◌, ◌∷◌, [], codes, true, false, pos, negsuc}
-use Rattle.opgen_operator.specs.declared.kinds.pair.Pair.{Pair}
-use Rattle.opgen_operator.specs.declared.kinds.poly.Poly.{Poly as Polynomial}
-use Rattle.opgen_operator.specs.declared.kinds.product.Product.{Product}
-use Rattle.opgen_operator.specs.declared.kinds.single.Single.{Single}
-use Rattle.opgen_operator.specs.declared.kinds.small_div.SmallDiv.{SmallDiv}
-use Rattle.opgen_operator.specs.declared.kinds.sum.Sum.{Sum}
-use Rattle.opgen_operator.specs.declared.kinds.taps.Taps.{Taps}
+use Rattle.opgen_kinds.specs.declared.pair.Pair.{Pair}
+use Rattle.opgen_kinds.specs.declared.poly.Poly.{Poly as Polynomial}
+use Rattle.opgen_kinds.specs.declared.product.Product.{Product}
+use Rattle.opgen_kinds.specs.declared.single.Single.{Single}
+use Rattle.opgen_kinds.specs.declared.small_div.SmallDiv.{SmallDiv}
+use Rattle.opgen_kinds.specs.declared.sum.Sum.{Sum}
+use Rattle.opgen_kinds.specs.declared.taps.Taps.{Taps}
 use Rattle.opgen_ports.specs.Good.{IsGoodRatio}
-use Rattle.opgen_operator.specs.kinds.Horner.{poly_guard}
-use Rattle.opgen_operator.specs.kinds.Pair.{IsGoodQuotient, quotient_ports}
-use Rattle.opgen_operator.specs.kinds.Poly.{exact_poly, poly_format}
-use Rattle.opgen_operator.specs.kinds.Product.{exact_product, product_format}
-use Rattle.opgen_operator.specs.kinds.Several.{constant_format}
-use Rattle.opgen_operator.specs.kinds.Single.{IsGoodSquareRoot, root_ports}
-use Rattle.opgen_operator.specs.kinds.SmallDiv.{IsGoodSmallQuotient, small_ports}
-use Rattle.opgen_operator.specs.kinds.Sum.{exact_sum, guard_bits, sum_format}
-use Rattle.opgen_operator.specs.kinds.Taps.{exact_taps, taps_format}
+use Rattle.opgen_kinds.specs.Horner.{poly_guard}
+use Rattle.opgen_kinds.specs.Pair.{IsGoodQuotient, quotient_ports}
+use Rattle.opgen_kinds.specs.Poly.{exact_poly, poly_format}
+use Rattle.opgen_kinds.specs.Product.{exact_product, product_format}
+use Rattle.opgen_kinds.specs.Several.{constant_format}
+use Rattle.opgen_kinds.specs.Single.{IsGoodSquareRoot, root_ports}
+use Rattle.opgen_kinds.specs.SmallDiv.{IsGoodSmallQuotient, small_ports}
+use Rattle.opgen_kinds.specs.Sum.{exact_sum, guard_bits, sum_format}
+use Rattle.opgen_kinds.specs.Taps.{exact_taps, taps_format}
 use Rattle.opgen_ports.specs.PortNumbers.{recent_numbers}
 use Rattle.opgen_ports.specs.Ports.{one_input, port, unsigned}
 use Rattle.opgen_num.specs.declared.format.Format.{Format}
@@ -59,7 +59,26 @@ halves = record { input = unsigned 2 (negsuc 1); out_lsb = negsuc 1; coefs = pos
 
 -- three whole taps
 abbrev pub three_taps : Taps
-three_taps = record { input = record { signed = true; width = 4; lsb = pos 0 }; taps = pos 1 ∷ pos 2 ∷ negsuc 2 ∷ []; extra = 0 }
+three_taps = record {
+  input = record { signed = true; width = 4; lsb = pos 0 };
+  out_lsb = pos 0;
+  taps = pos 1 ∷ pos 2 ∷ negsuc 2 ∷ [];
+  searched = true;
+  extra = 0;
+}
+
+-- the same in steps of four
+abbrev pub cut_taps : Taps
+cut_taps = record three_taps { out_lsb = pos 2 }
+
+-- a signed quotient of four bits by three
+abbrev pub signed_quotient : Pair
+signed_quotient = record {
+  a = record { signed = true; width = 4; lsb = pos 0 };
+  b = record { signed = true; width = 3; lsb = pos 0 };
+  out_lsb = pos 0;
+  exact = true;
+}
 
 pub record Operators : Type 0 where
   -- 15 / 3 is 5, so three bits; 4 / 3 lies within one of 1 and of 2, but not of 3
@@ -80,6 +99,11 @@ pub record Operators : Type 0 where
   pub quotient_named : quotient_ports true quotient ≡ port (codes "q") (unsigned 7 (pos 0)) ∷ port (codes "r") (unsigned 3 (pos 0)) ∷ []
   pub quotient_good : IsGoodQuotient true quotient (pos 100) (pos 7) (pos 14) (pos 2)
   pub quotient_rest : IsGoodQuotient true quotient (pos 100) (pos 7) (pos 13) (pos 9) → ⊥
+  -- -7 is -3 times 2 and -1, not -4 times 2 and 1; -8 by -1 is 8, so five bits
+  pub signed_named : quotient_ports true signed_quotient ≡ port (codes "q") (record { signed = true; width = 5; lsb = pos 0 })
+      ∷ port (codes "r") (record { signed = true; width = 3; lsb = pos 0 }) ∷ []
+  pub signed_good : IsGoodQuotient true signed_quotient (negsuc 6) (pos 2) (negsuc 2) (negsuc 0)
+  pub signed_floor : IsGoodQuotient true signed_quotient (negsuc 6) (pos 2) (negsuc 3) (pos 1) → ⊥
   -- 200 is the square of 14 and 4
   pub root_named : root_ports true root ≡ port (codes "y") (unsigned 4 (pos 0)) ∷ port (codes "r") (unsigned 5 (pos 0)) ∷ []
   pub root_good : IsGoodSquareRoot true root (pos 200) (pos 14) (pos 4)
@@ -99,3 +123,8 @@ pub record Operators : Type 0 where
   -- 7, -1 and 1, the last of them first: 7 - 2 - 3 is 2; the sums go from -45 to 45
   pub taps_format_is : taps_format three_taps ≡ record { signed = true; width = 7; lsb = pos 0 }
   pub taps_value : exact_taps three_taps (recent_numbers (one_input three_taps.input) (1 ∷ 15 ∷ 7 ∷ []) 0) ≡ record { num = pos 2; den = pos 1 }
+  -- 0, 7 and -1, the last of them first: 14 + 3 is 17, in steps of four 17 / 4; the sums go from -12 to 12
+  pub cut_format : taps_format cut_taps ≡ record { signed = true; width = 5; lsb = pos 2 }
+  pub cut_value : exact_taps cut_taps (recent_numbers (one_input cut_taps.input) (15 ∷ 7 ∷ 0 ∷ []) 0) ≡ record { num = pos 17; den = pos 4 }
+  pub cut_good : IsGoodRatio false (exact_taps cut_taps (recent_numbers (one_input cut_taps.input) (15 ∷ 7 ∷ 0 ∷ []) 0)) (pos 5)
+  pub cut_below : IsGoodRatio false (exact_taps cut_taps (recent_numbers (one_input cut_taps.input) (15 ∷ 7 ∷ 0 ∷ []) 0)) (pos 3) → ⊥

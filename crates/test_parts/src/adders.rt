@@ -1,5 +1,5 @@
 //! Tests of adder graphs: what one adder makes, graphs, and sets for a few numbers.
-use opgen_graph::{Form, combine, cost, csd_set, reach};
+use opgen_graph::{Form, combine, cost, csd_set, parts, reach};
 use std::test::Fail;
 
 #[test]
@@ -37,5 +37,12 @@ fn sets(rt: HostRuntime) -> Result<(), Fail> {
     assert_eq!(rt; set.as_slice(), [3, 19, 45].as_slice());
     assert_eq!(rt; cost(set.as_slice(), 4), 25);
     assert_eq!(rt; cost(&[3, 45], 4), 16);
+    Ok(())
+}
+
+#[test]
+fn odd_parts(rt: HostRuntime) -> Result<(), Fail> {
+    let found = parts(rt.alloc(), &[6, -5, 0, 8, 3, 1048575])?;
+    assert_eq!(rt; found.as_slice(), [1, 3, 5, 1048575].as_slice());
     Ok(())
 }

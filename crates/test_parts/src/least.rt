@@ -35,6 +35,7 @@ fn forty_five(rt: HostRuntime) -> Result<(), Fail> {
             lsb: 0,
         },
         constants,
+        searched: true,
         extra: 1,
     };
     let numbers = several.constants.as_slice();

@@ -72,8 +72,8 @@ def draw_link(picture: Picture, x: float, y: float, link: Link, words: tuple[str
 
 
 def chain(example: Example) -> Picture:
-    spec, facts, design = example.spec, example.report, example.design
-    slots = checked_schedule(example, facts, design, delays(spec))
+    spec, design = example.spec, example.design
+    slots = checked_schedule(example, {}, delays(spec))
     links, rest_width = list(links_of(design, slots, spec["width"])), (spec["divisor"] - 1).bit_length()
     number = first_input(example)
     steps = list(steps_of(links, rest_width, number)) if number is not None else []

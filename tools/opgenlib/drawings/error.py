@@ -3,10 +3,11 @@ from collections.abc import Iterator
 from fractions import Fraction
 
 from opgenlib.drawings.example import Example, NotDrawn
-from opgenlib.exact import exact_of
+from opgenlib.exact import exact_values
 from opgenlib.operators import Row
 from opgenlib.rows import read_rows, unit_count
 from opgenlib.svg import LETTER, Picture
+from opgenlib.words import reference
 
 MOST_BARS = 340
 WIDTH, HEIGHT, LEFT, RIGHT, TOP = 760, 356, 52, 12, 34
@@ -26,7 +27,8 @@ def counted_rows(example: Example) -> Iterator[Row]:
 
 def errors_of(example: Example) -> Iterator[list[Fraction]]:
     """For each cycle from the latency on the errors of its outputs, none where nothing is claimed of them."""
-    rows, latency, exact = list(counted_rows(example)), example.report.latency, exact_of(example.spec)
+    rows, latency = list(counted_rows(example)), example.report.latency
+    exact = exact_values(example.spec, example.report.outputs)
     inputs = [entered for entered, _ in rows]
     for cycle in range(latency, len(rows)):
         wanted = exact(inputs, cycle - latency)
@@ -66,7 +68,7 @@ EXACT = {
 
 def exact_text(spec: dict) -> str:
     """What the error is taken from."""
-    return f"the exact value of {EXACT[spec['kind']]}"
+    return f"{reference(spec)} of {EXACT[spec['kind']]}"
 
 
 def draw_axis(picture: Picture, middle: float, unit: float) -> None:

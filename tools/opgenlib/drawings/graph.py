@@ -7,6 +7,7 @@ from collections.abc import Iterator
 from dataclasses import dataclass, field
 
 from opgenlib.drawings.example import Example, NotDrawn, cycles
+from opgenlib.specification import shift_of
 from opgenlib.svg import LETTER, Picture
 
 
@@ -62,13 +63,19 @@ class Adders:
     is_filter: bool
 
 
+def cut_text(spec: dict) -> str:
+    """How a transposed filter comes to fewer places than its sum."""
+    low = -(shift_of(spec) or 0)
+    return f"; in y half a unit is added, and {low} low bit{' is' if low == 1 else 's are'} left out" if low else ""
+
+
 def adders_of(example: Example) -> Adders:
     facts, is_filter = example.report, example.spec["kind"] == "tfir"
     numbers = example.spec["taps" if is_filter else "constants"]
     if not facts.graph and any(abs(number) & abs(number) - 1 for number in numbers):
         raise NotDrawn(f"the report {example.beside('.rpt')} has no graph")
     members = " ".join(map(str, facts.graph)) or "of no adder"
-    caption = f"{example.caption}: graph {members}, {len(facts.graph)} adder{'' if len(facts.graph) == 1 else 's'}"
+    caption = f"{example.caption}: graph {members}, {len(facts.graph)} adder{'' if len(facts.graph) == 1 else 's'}{cut_text(example.spec)}"
     return Adders(caption, sums_of(list(facts.graph)), numbers, is_filter)
 
 

@@ -8,6 +8,7 @@ from opgenlib.drawings.example import Example
 # A signal and one of its bits.
 Bit = tuple[str, int]
 PRODUCT = "product of bits"
+RANGE_TEST = "test of the range"
 
 
 @dataclass(frozen=True, order=True)
@@ -216,13 +217,35 @@ def heap_parts(circuit: Circuit) -> Iterator[tuple[str, Part]]:
 def digit_parts(circuit: Circuit) -> Iterator[tuple[str, Part]]:
     """For each digit its subtraction, the test of its sign and the choice of what remains."""
     result = next(expr for port, expr in circuit.outputs.items() if port in ("q", "y"))
-    digits = {bit[0]: at for at, bit in enumerate(circuit.row(result[1])) if bit}
+    digits = {bit[0]: at for at, bit in enumerate(circuit.row(without_sign(circuit, result[1]))) if bit}
     for driver in circuit.design.drivers:
         if driver.kind == "choice" and (on := read_place(driver.exprs[0][1])[0]) in digits:
             yield driver.to, Part("digit", digits[on], "select")
         elif driver.to in digits and driver.exprs[0][0] == "not":
             yield driver.to, Part("digit", digits[driver.to], "sign")
             yield read_place(driver.exprs[0][1][1])[0], Part("digit", digits[driver.to], "subtract")
+
+
+def without_sign(circuit: Circuit, name: str) -> str:
+    """The word that a signed result has before it gets its sign, or else the result."""
+    driver = circuit.drivers[read_place(name)[0]]
+    return driver.exprs[2][1] if driver.kind == "choice" else name
+
+
+def sign_parts(circuit: Circuit) -> Iterator[tuple[str, Part]]:
+    """What takes the signs off the inputs of a signed quotient, and puts them to its results: a negation and a choice each."""
+    ports = {read_place(expr[1])[0]: port for port, expr in circuit.outputs.items()}
+    for driver in circuit.design.drivers:
+        if driver.kind != "choice":
+            continue
+        sign, negated, plain = (read_place(expr[1])[0] for expr in driver.exprs)
+        source = circuit.expr(plain)
+        port = source[1] if source[0] == "port" else ports.get(driver.to)
+        if port and circuit.expr(negated)[:2] == ("chain", "-"):
+            yield negated, Part("", 0, f"negate {port}")
+            yield driver.to, Part("", 0, f"{'absolute value' if source[0] == 'port' else 'sign'} of {port}")
+            if circuit.expr(sign)[:2] == ("chain", "xor"):
+                yield sign, Part("", 0, f"whether {port} is below 0")
 
 
 # The graphs of adders.
@@ -248,13 +271,18 @@ def value_of(circuit: Circuit, values: dict[str, int], expr: tuple) -> int:
     raise ValueError(f"no expression of a graph: {expr}")
 
 
+def is_linear(expr: tuple) -> bool:
+    """Whether an expression is a sum, a difference or bits of nodes; behind the graph stands what brings the output into its range."""
+    return expr[0] in ("name", "part", "bits") or expr[0] == "chain" and expr[1] in "&+-"
+
+
 def multiples_of(circuit: Circuit) -> dict[str, int]:
     """How many times the input each node is in the first cycle, where all that registers hold is 0."""
     values: dict[str, int] = {signal.name: 0 for signal in circuit.design.signals}
     for driver in circuit.design.drivers:
-        if driver.kind == "assign" and driver.exprs[0][0] != "port":
+        if driver.kind == "assign" and is_linear(driver.exprs[0]):
             values[driver.to] = value_of(circuit, values, driver.exprs[0]) % (1 << circuit.widths[driver.to])
-        elif driver.kind == "assign":
+        elif driver.kind == "assign" and driver.exprs[0][0] == "port":
             values[driver.to] = 1
         for copy in (name for name in values if driver.kind == "assign" and name.startswith(f"{driver.to}_")):
             values[copy] = values[driver.to]
@@ -263,17 +291,18 @@ def multiples_of(circuit: Circuit) -> dict[str, int]:
 
 
 def graph_parts(circuit: Circuit, taps: list[int]) -> Iterator[tuple[str, Part]]:
-    """The adders by what they make of the input, and the sums of taps, the last tap first."""
-    multiples = multiples_of(circuit)
-    places = iter([at for at, tap in enumerate(taps) if tap][::-1])
+    """The adders by what they make of the input, and the sums of taps, the first tap last. Some last tap is a product without a sum."""
+    multiples, sums = multiples_of(circuit), []
     for driver in circuit.design.drivers:
         if driver.kind == "assign" and driver.exprs[0][:2] in (("chain", "+"), ("chain", "-")):
             read = [read_place(name)[0] for name in vhdl.names_in(driver.exprs[0])]
             is_tap = any(circuit.kind(name) == "register" or circuit.expr(name)[0] == "bits" for name in read)
             if taps and is_tap:
-                yield driver.to, Part("tap", next(places), "sum")
+                sums.append(driver.to)
             else:
                 yield driver.to, Part("", 0, f"{multiples[driver.to]} x")
+    for name, at in zip(reversed(sums), (at for at, tap in enumerate(taps) if tap)):
+        yield name, Part("tap", at, "sum")
 
 
 def chain_parts(circuit: Circuit) -> Iterator[tuple[str, Part]]:
@@ -285,16 +314,40 @@ def chain_parts(circuit: Circuit) -> Iterator[tuple[str, Part]]:
             yield driver.to, Part("", 0, f"table of {slice_text(max(digit, default=0), min(digit, default=0))}")
 
 
+# The step that brings an output into its range.
+
+
+def range_parts(circuit: Circuit) -> Iterator[tuple[str, Part]]:
+    """The test of the bits that are dropped, the end that a number beyond it becomes, and the choice; none of a wider output."""
+    chosen = read_place(circuit.outputs["y"][1])[0]
+    if circuit.kind(chosen) != "choice":
+        return
+    test, end, _ = (read_place(expr[1])[0] for expr in circuit.drivers[chosen].exprs)
+    yield chosen, Part("", 0, "saturate")
+    yield test, Part("", 0, RANGE_TEST)
+    if circuit.kind(end) == "choice":
+        yield end, Part("", 0, "least or greatest")
+
+
 def parts_of(example: Example) -> dict[str, Part]:
     """What each node does, of those of which it is known."""
-    circuit, kind = Circuit(example.design), example.spec["kind"]
+    circuit = Circuit(example.design)
+    found = kind_parts(circuit, example.spec)
+    return found | dict(range_parts(circuit)) if "out_width" in example.spec else found
+
+
+def kind_parts(circuit: Circuit, spec: dict) -> dict[str, Part]:
+    """What the nodes of a kind do."""
+    kind = spec["kind"]
     match kind:
         case "scale" | "fir" | "multiply" | "poly":
             return dict(heap_parts(circuit))
+        case "divide" if spec.get("signed", False):
+            return dict(digit_parts(circuit)) | dict(sign_parts(circuit))
         case "divide" | "root":
             return dict(digit_parts(circuit))
         case "mcm" | "tfir":
-            return dict(graph_parts(circuit, example.spec.get("taps", [])))
+            return dict(graph_parts(circuit, spec.get("taps", [])))
         case "constdiv":
             return dict(chain_parts(circuit))
     raise KeyError(kind)

@@ -4,7 +4,7 @@ from dataclasses import dataclass
 
 from opgenlib import vhdl
 from opgenlib.drawings.example import Example, NotDrawn
-from opgenlib.drawings.parts import Part, parts_of, read_place, words_of
+from opgenlib.drawings.parts import RANGE_TEST, Part, parts_of, read_place, words_of
 from opgenlib.report import Report
 from opgenlib.svg import LETTER, Picture
 
@@ -60,19 +60,19 @@ def cell_of(driver: vhdl.Driver, widths: dict[str, int]) -> tuple[str, int] | No
     return "logic", widths[driver.to]
 
 
-def slot_of(driver: vhdl.Driver, reads: list[tuple[Slot, int]], widths: dict[str, int], delay: Callable) -> Slot | None:
+def slot_of(driver: vhdl.Driver, reads: list[tuple[Slot, int]], cell: tuple[str, int] | None, delay: Callable) -> Slot | None:
     """The slot of a node, by those that it reads and how many cycles later it reads them."""
     if driver.kind == "register":
         return Slot(reads[0][0].cycle, 0, 0, None)
-    if cell := cell_of(driver, widths):
+    if cell:
         cycle = max((slot.cycle + later for slot, later in reads), default=0)
         start = max((slot.end for slot, later in reads if slot.cycle == cycle and not later), default=0)
         return Slot(cycle, start, start + delay(*cell), cell)
     return Slot(0, 0, 0, None) if driver.exprs[0][0] == "port" else None
 
 
-def schedule_of(design: vhdl.Design, delay: Callable) -> dict[str, Slot]:
-    """The slot of each node that is no constant."""
+def schedule_of(design: vhdl.Design, delay: Callable, tests: set[str]) -> dict[str, Slot]:
+    """The slot of each node that is no constant. Of the tests of a range one may be a single bit, which is a gate all the same."""
     widths = {signal.name: signal.width for signal in design.signals}
     slots: dict[str, Slot] = {}
     for driver in design.drivers:
@@ -80,7 +80,8 @@ def schedule_of(design: vhdl.Design, delay: Callable) -> dict[str, Slot]:
         if driver.kind == "output" or copy or node in slots:
             continue
         reads = [read_place(name) for expr in driver.exprs for name in vhdl.names_in(expr)]
-        if slot := slot_of(driver, [(slots[read], later) for read, later in reads if read in slots], widths, delay):
+        cell = ("logic", 1) if node in tests else cell_of(driver, widths)
+        if slot := slot_of(driver, [(slots[read], later) for read, later in reads if read in slots], cell, delay):
             slots[node] = slot
     return slots
 
@@ -127,9 +128,10 @@ def panels_of(bars: list[Bar], latency: int) -> list[tuple[range, list[Bar]]]:
     return panels or [(range(latency + 1), [])]
 
 
-def checked_schedule(example: Example, facts: Report, design: vhdl.Design, delay: Callable) -> dict[str, Slot]:
+def checked_schedule(example: Example, parts: dict[str, Part], delay: Callable) -> dict[str, Slot]:
     """The slots, which have to give the report's slack and registers."""
-    slots = schedule_of(design, delay)
+    facts, design = example.report, example.design
+    slots = schedule_of(design, delay, {node for node, part in parts.items() if part.what == RANGE_TEST})
     slack = facts.period - delay("register", 1) - max((slot.end for slot in slots.values()), default=0)
     delayed = sum(signal.width for signal in design.signals if signal.initial and not read_place(signal.name)[1])
     registers = delayed + sum(registers_by_cycle(design, slots).values())
@@ -186,9 +188,10 @@ class Schedule:
 
     def __init__(self, example: Example) -> None:
         self.example, self.facts, delay = example, example.report, delays(example.spec)
-        slots = checked_schedule(example, self.facts, example.design, delay)
+        parts = parts_of(example)
+        slots = checked_schedule(example, parts, delay)
         self.setup = delay("register", 1)
-        self.bars = bars_of(slots, parts_of(example))
+        self.bars = bars_of(slots, parts)
         self.registers = registers_by_cycle(example.design, slots)
         self.panels = panels_of(self.bars, self.facts.latency)
         self.margin = 24 + LETTER * max([16, *(len(bar.words) for bar in self.bars)])

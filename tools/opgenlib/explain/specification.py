@@ -44,10 +44,14 @@ class Explainer:
 
     @property
     def version(self) -> int:
-        return 1 if self.table.get("version") == 1 else 2
+        return self.table["version"] if self.is_version() else schema.versions()[-1]
 
     def is_version(self) -> bool:
-        return self.table.get("version") in (1, 2)
+        return any(schema.same(self.table.get("version"), one) for one in schema.versions())
+
+    def newer(self) -> Iterator[dict[str, Any]]:
+        """The document with each later version."""
+        return (self.table | {"version": version} for version in schema.versions() if version > self.version)
 
     def line_table(self, line: int) -> dict[str, Any]:
         """The document, or a delay line by its number."""
@@ -75,8 +79,8 @@ class Explainer:
         known = [one for one in schema.keys_of(self.table) if one != key]
         its = "its keys" if self.of_kind else "the keys"
         yield f'{self.at(place)}: unknown key "{key}"{self.of_kind}; {its} are {", ".join(known)}'
-        if key in schema.keys_of(self.table | {"version": 2}) and self.version == 1:
-            yield f"  {key} is a key of version 2: take it out, or write version = 2"
+        if later := next((table["version"] for table in self.newer() if key in schema.keys_of(table)), None):
+            yield f"  {key} is a key of version {later}: take it out, or write version = {later}"
         elif others := schema.kinds_with(key):
             yield f"  {key} is a key of {', '.join(others)}: take it out, or change kind"
 
@@ -105,6 +109,10 @@ class Explainer:
         if key == "denominator" and type(value) is int:
             yield f"{self.at(self.spec.key_place(*path))}: denominator is beside decimal texts, which have their own"
             yield "  take the denominator out, or write the coefficients as whole numbers"
+            return
+        if key == "out_signed" and type(value) is bool:
+            yield f"{self.at(self.spec.key_place(*path))}: out_signed is there without out_width"
+            yield "  write out_width too, 2 to 96, or take out_signed out"
             return
         expected = schema.expected(rules)
         if isinstance(value, list) and (index := self.wrong_element(value, rules)) is not None:
@@ -173,8 +181,8 @@ class Explainer:
             yield from self.text_out_of_range(name, value, rules, found, spot)
             return
         expected = schema.bounds(rules)
-        yield f"{self.at(spot)}: {name} is {found}" + (f"; expected {expected}" if expected else "")
-        if not line and re.fullmatch("(out_)?lsb(_a|_b)?", key):
+        yield f"{self.at(spot)}: {name} is {found}" + (f"; expected {expected}{self.later_bounds(key, expected)}" if expected else "")
+        if not line and is_lsb(key):
             yield from way_round(self.table)
         if "maximum" in rules and key.startswith("width") and self.version == 1 and found > rules["maximum"]:
             most = schema.rules_of(key, self.table | {"version": 2})["maximum"]
@@ -182,6 +190,14 @@ class Explainer:
                 yield f"  version = 2 takes inputs of up to {most} bits"
         if "minimum" in rules and key.startswith("width") and found == 1 and self.table.get("signed") is True:
             yield "  a signed input has two bits or more"
+
+    def later_bounds(self, key: str, now: str) -> str:
+        """Where a later version has a wider range of a lowest bit: which, and from where to where."""
+        if is_lsb(key):
+            for table in self.newer():
+                if (bounds := schema.bounds(schema.rules_of(key, table))) != now:
+                    return f", in version {table['version']} from {bounds}"
+        return ""
 
     def text_out_of_range(self, name: str, value: str, rules: dict, found: int, place: Place | None) -> Iterator[str]:
         words = ", ".join(rules.get("enum", []))
@@ -220,9 +236,11 @@ class Explainer:
             place = self.spec.value_place("out_lsb")
             most = f"at most lsb_a + lsb_b = {least}"
             yield f"{self.at(place)}: out_lsb is {out}, so the exact product does not fit; expected {most}"
-            yield f"  write {f'out_lsb = {least}, or ' if -32 <= least <= 32 else ''}exact = false"
-            if least < -32:
+            yield f"  write {f'out_lsb = {least}, or ' if is_out_lsb(self.table, least) else ''}exact = false"
+            if not is_out_lsb(self.table, least):
                 yield from way_round(self.table | {"out_lsb": least})
+        elif self.table.get("kind") == "tfir":
+            yield from self.tap_not_exact(index)
         else:
             place = self.spec.value_place("exact")
             yield f"{self.at(place)}: exact outputs are not possible{self.for_kind}; write exact = false"
@@ -237,13 +255,21 @@ class Explainer:
         yield f"{self.at(place)}: {found}, not whole in units of the output's last place, 2^{out}"
         power = value.denominator.bit_length() - 1
         least = self.table["lsb"] - power
-        if value.denominator == 1 << power and -32 <= least < out:
+        if value.denominator == 1 << power and is_out_lsb(self.table, least):
             yield f"  write out_lsb = {least} or less, or exact = false"
-        elif value.denominator == 1 << power and least < -32:
+        elif value.denominator == 1 << power:
             yield "  write exact = false, or move both places up"
             yield from way_round(self.table | {"out_lsb": least})
         else:
             yield "  write exact = false: no out_lsb makes it whole"
+
+    def tap_not_exact(self, index: int) -> Iterator[str]:
+        taps, out = self.table["taps"], self.table["out_lsb"]
+        found = f"tap {index}, from 0, is {taps[index]}, not whole in units of the output's last place, 2^{out}"
+        yield f"{self.at(self.spec.value_place('taps', index))}: {found}"
+        # The most that leaves each tap whole.
+        most = self.table["lsb"] + min((tap & -tap).bit_length() - 1 for tap in taps if tap)
+        yield f"  write out_lsb = {most}, or exact = false"
 
     def coarse(self, shift: int) -> Iterator[str]:
         place = self.spec.value_place("out_lsb")
@@ -285,6 +311,16 @@ class Explainer:
         yield "  fewer coefficients or bits, a longer period (fewer registers), or a higher out_lsb"
 
 
+def is_lsb(key: str) -> bool:
+    return bool(re.fullmatch("(out_)?lsb(_a|_b)?", key))
+
+
+def is_out_lsb(table: dict[str, Any], out_lsb: int) -> bool:
+    """Whether this place of the output is in the range of a document's kind and version."""
+    rules = schema.rules_of("out_lsb", table)
+    return rules["minimum"] <= out_lsb <= rules["maximum"]
+
+
 def way_round(table: dict[str, Any]) -> Iterator[str]:
     """The same operator with its lowest bits at 0, as only the differences of their places count."""
     keys = [key for key in ("lsb", "lsb_a", "lsb_b") if key in table]
@@ -296,7 +332,7 @@ def way_round(table: dict[str, Any]) -> Iterator[str]:
     if not keys or shift is None:
         return
     lsb, out_lsb = (shift % 2, -(shift // 2)) if table["kind"] == "root" else (0, -shift)
-    if -32 <= out_lsb <= 32:
+    if is_out_lsb(table, out_lsb):
         inputs = zeros if lsb == 0 else f"lsb = {lsb}"
         yield f"  write {inputs} and out_lsb = {out_lsb}: only the difference counts, and the places are yours to count"
 

@@ -5,11 +5,12 @@ use Rattle.opgen_net.specs.declared.word_bits.WordBit.{WordBit}
 use Rattle.opgen_net.specs.declared.word_bits.WordBit.TheVariants.{Zero}
 use Rattle.opgen_net.specs.Valid.{widths}
 use Rattle.opgen_net.specs.WordRule.{IsThere}
-use Rattle.opgen_operator.specs.declared.kinds.pair.Pair.{Pair}
-use Rattle.opgen_operator.specs.kinds.Pair.{IsAcceptedPair}
+use Rattle.opgen_kinds.specs.declared.pair.Pair.{Pair}
+use Rattle.opgen_kinds.specs.Pair.{IsAcceptedPair}
 use Rattle.opgen_digits.specs.Digit.{Known}
 use Rattle.opgen_divide.specs.Recipe.{numerator, digit_count, with_divisor, stepped, keeps, after}
-use Rattle.opgen_divide.proofs.Steps.{HasWidths, Stands, stands, keeps-before, numerator-length, minuend-there, place-width}
+use Rattle.opgen_divide.proofs.Absolutes.{HasWidths}
+use Rattle.opgen_divide.proofs.Steps.{Stands, stands, keeps-before, numerator-length, minuend-there, place-width}
 use Rattle.opgen_divide.proofs.Whole.{has_widths}
 use Rattle.opgen_divide.proofs.divide.Goals as goal
 use Rattle.opgen_divide.proofs.divide.Goals.{then-pair, else-pair}

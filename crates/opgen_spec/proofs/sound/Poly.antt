@@ -2,14 +2,14 @@
 use Rattle.std.proofs.Common.{◌≡◌, ℕ, ◌≤◌, Some, None, option_and_then, ◌==◌, Bool, true, false, if◌then◌else◌, refl, sym, subst, arith}
 use Rattle.std.specs.Prelude.{pos, negsuc, neg_ℤ, ◌≤ℤ◌}
 use Rattle.std.proofs.lemmas.Int.{ints}
-use Rattle.opgen_operator.specs.declared.operator.Kind.TheVariants as kind
-use Rattle.opgen_operator.specs.kinds.Poly.{IsPoly}
+use Rattle.opgen_kinds.specs.declared.kind.Kind.TheVariants as kind
+use Rattle.opgen_kinds.specs.Poly.{IsPoly}
 use Rattle.opgen_ports.specs.Ranges.{IsPower}
 use Rattle.opgen_ports.proofs.InputPorts.{all_one, some_bits}
 use Rattle.toml.specs.Data.{Members}
 use Rattle.opgen_document.specs.declared.key.Key.TheVariants as key
 use Rattle.opgen_spec.specs.kinds.{kind_of, entry}
-use Rattle.opgen_spec.proofs.sound.Sound.{IsFew, IsSound}
+use Rattle.opgen_spec.proofs.sound.Sound.{IsFew, IsSound, in_third}
 use Rattle.opgen_document.specs.Document.{value_at, number_at, flag_at, count_at, items_at, small}
 use Rattle.opgen_document.specs.Ranges.{outside, width_outside, coefficients_outside, denominator_outside}
 use Rattle.opgen_spec.specs.kinds.Poly.{poly_of}
@@ -17,6 +17,7 @@ use Rattle.opgen_spec.proofs.Fine.{AreFine, IsFine, own, own_range, not_late}
 use Rattle.opgen_document.proofs.Ranges.{inside, small_same, denominator_in}
 use Rattle.opgen_spec.proofs.Ranges.{widest, width_in, array_in}
 use Rattle.opgen_document.proofs.Values.{small_written}
+use Rattle.opgen_spec.proofs.Versions.{one_is_first}
 use Rattle.opgen_spec.proofs.Writing.{width_written, coefs_written}
 
 record HasPoly (ms : Members) : Type 0 where
@@ -98,5 +99,6 @@ poly = record {
       };
   agrees = λ ms. tt;
   marked = λ ms asked. cc;
-  first = λ ms f e first. not_late ms kind.Poly f e refl first;
+  has = λ ms f e is. not_late ms kind.Poly f e refl (one_is_first ms f is);
+  chosen = λ version may. record { third = in_third version may; value = λ ms. refl; range = λ ms. refl };
 }

@@ -1,20 +1,20 @@
 -- Square roots of a document without a fault.
 use Rattle.std.proofs.Common.{◌≡◌, Some, refl}
-use Rattle.opgen_operator.specs.declared.operator.Kind.TheVariants as kind
+use Rattle.opgen_kinds.specs.declared.kind.Kind.TheVariants as kind
 use Rattle.opgen_ports.proofs.InputPorts.{all_one}
 use Rattle.toml.specs.Data.{Members}
 use Rattle.opgen_document.specs.declared.key.Key.TheVariants as key
 use Rattle.opgen_spec.specs.kinds.{kind_of, entry}
 use Rattle.opgen_spec.proofs.sound.Sound.{IsFew, IsSound}
-use Rattle.opgen_document.specs.Ranges.{width_outside, power_outside}
+use Rattle.opgen_document.specs.Ranges.{width_outside, near_outside}
 use Rattle.opgen_spec.proofs.Fine.{AreFine, IsFine, own}
-use Rattle.opgen_spec.proofs.Ranges.{widest, width_few, unsigned_in, power_in}
-use Rattle.opgen_spec.proofs.Writing.{input_written, unsigned_written, power_written}
+use Rattle.opgen_spec.proofs.Ranges.{widest, width_few, unsigned_in, near_in, near_power}
+use Rattle.opgen_spec.proofs.Writing.{input_written, unsigned_written, near_written}
 
 record HasSingle (ms : Members) : Type 0 where
   width : IsFine ms key.Width (width_outside (widest ms) ms key.Width)
-  lsb : IsFine ms key.Lsb (power_outside ms key.Lsb)
-  out_lsb : IsFine ms key.OutLsb (power_outside ms key.OutLsb)
+  lsb : IsFine ms key.Lsb (near_outside ms key.Lsb)
+  out_lsb : IsFine ms key.OutLsb (near_outside ms key.OutLsb)
 
 keys : (ms : Members) → AreFine ms → kind_of ms ≡ Some kind.Root → HasSingle ms
 unfolding entry
@@ -29,16 +29,19 @@ unfolding entry
 root = record {
   kind_is = λ ms. refl;
   ranges = λ ms f e. let h = keys ms f e in record {
-    input = unsigned_in ms key.Width key.Lsb h.width h.lsb;
+    input = unsigned_in ms key.Width key.Lsb h.width (near_power ms key.Lsb h.lsb);
     unsigned = refl;
-    out_lsb = power_in ms key.OutLsb h.out_lsb;
+    lsb = near_in ms key.Lsb h.lsb;
+    out_lsb = near_in ms key.OutLsb h.out_lsb;
   };
   inputs = λ ms f e. all_one (IsFew ms) _ (width_few ms key.Width (keys ms f e).width);
   written = λ ms f e. let h = keys ms f e in record {
-    input = unsigned_written ms key.Width key.Lsb (input_written ms key.Width key.Lsb h.width h.width.typed h.lsb h.lsb.typed);
-    out_lsb = power_written ms key.OutLsb h.out_lsb h.out_lsb.typed;
+    input = unsigned_written ms key.Width key.Lsb
+        (input_written ms key.Width key.Lsb h.width h.width.typed (near_written ms key.Lsb h.lsb h.lsb.typed));
+    out_lsb = near_written ms key.OutLsb h.out_lsb h.out_lsb.typed;
   };
   agrees = λ ms. refl;
   marked = λ ms asked. asked;
-  first = λ ms f e first. tt;
+  has = λ ms f e. tt;
+  chosen = λ version may. cc;
 }

@@ -1,7 +1,7 @@
 -- Quotients by a small constant of a document without a fault.
 use Rattle.std.proofs.Common.{◌≡◌, Some, refl, arith}
 use Rattle.std.specs.Prelude.{pos}
-use Rattle.opgen_operator.specs.declared.operator.Kind.TheVariants as kind
+use Rattle.opgen_kinds.specs.declared.kind.Kind.TheVariants as kind
 use Rattle.opgen_ports.proofs.InputPorts.{all_one}
 use Rattle.toml.specs.Data.{Members}
 use Rattle.opgen_document.specs.declared.key.Key.TheVariants as key
@@ -11,9 +11,10 @@ use Rattle.opgen_document.specs.Document.{value_at, number_at}
 use Rattle.opgen_document.specs.Ranges.{outside, width_outside, power_outside}
 use Rattle.opgen_spec.proofs.Fine.{AreFine, IsFine, own, not_late}
 use Rattle.opgen_document.proofs.Ranges.{inside, counted}
-use Rattle.opgen_spec.proofs.Ranges.{widest, width_few, unsigned_in}
+use Rattle.opgen_spec.proofs.Ranges.{widest, width_few, unsigned_in, power_in, one_near}
+use Rattle.opgen_spec.proofs.Versions.{one_is_first}
 use Rattle.opgen_document.proofs.Values.{count_written}
-use Rattle.opgen_spec.proofs.Writing.{input_written, unsigned_written}
+use Rattle.opgen_spec.proofs.Writing.{input_written, unsigned_written, power_written}
 
 record HasSmallDiv (ms : Members) : Type 0 where
   width : IsFine ms key.Width (width_outside (widest ms) ms key.Width)
@@ -37,18 +38,23 @@ constdiv = record {
       let (least, most) = inside (pos 2) (pos 32) (number_at ms key.Divisor) h.divisor.within in
       let divisor = counted (number_at ms key.Divisor) 2 32 least most (omega arith) in
       record {
-        input = unsigned_in ms key.Width key.Lsb h.width h.lsb;
+        input = unsigned_in ms key.Width key.Lsb h.width (power_in ms key.Lsb h.lsb);
         unsigned = refl;
         least = divisor.0;
         most = divisor.1;
       };
   inputs = λ ms f e. all_one (IsFew ms) _ (width_few ms key.Width (keys ms f e).width);
   written = λ ms f e. let h = keys ms f e in record {
-    input = unsigned_written ms key.Width key.Lsb (input_written ms key.Width key.Lsb h.width h.width.typed h.lsb h.lsb.typed);
+    input = unsigned_written ms key.Width key.Lsb
+        (input_written ms key.Width key.Lsb h.width h.width.typed (power_written ms key.Lsb h.lsb h.lsb.typed));
     divisor = count_written (value_at ms key.Divisor) 2 32 h.divisor.there h.divisor.typed
         (inside (pos 2) (pos 32) (number_at ms key.Divisor) h.divisor.within) (omega arith);
   };
   agrees = λ ms. refl;
   marked = λ ms asked. asked;
-  first = λ ms f e first. not_late ms kind.Constdiv f e refl first;
+  has = λ ms f e. (
+    λ is. not_late ms kind.Constdiv f e refl (one_is_first ms f is),
+    one_near ms key.Lsb f (keys ms f e).lsb,
+  );
+  chosen = λ version may. cc;
 }

@@ -1,14 +1,19 @@
 -- What is proved of each kind in a file of its own.
-use Rattle.std.proofs.Common.{◌≡◌, ◌≤◌, true, Some}
+use Rattle.std.proofs.Common.{◌≡◌, ◌≤◌, true, Some, refl}
 use Rattle.std.specs.Prelude.{IsTrue}
 use Rattle.toml.specs.Data.{Members}
-use Rattle.opgen_operator.specs.declared.operator.Kind.{Kind}
+use Rattle.opgen_kinds.specs.declared.kind.Kind.{Kind}
 use Rattle.opgen_ports.specs.declared.ports.PortFormat.{PortFormat}
-use Rattle.opgen_operator.specs.Operator.{HasInputsWithin, marks_exact, IsOperator, IsOfFirstVersion}
+use Rattle.opgen_operator.specs.Operator.{HasInputsWithin, marks_exact, has_value, IsOperator, IsInVersion}
 use Rattle.opgen_operator.specs.Operator as operators
 use Rattle.opgen_operator.specs.Valid.{AgreesOnExact}
 use Rattle.opgen_document.specs.declared.key.Key.TheVariants as key
-use Rattle.opgen_document.specs.Document.{flag_at, is_first}
+use Rattle.opgen_document.specs.declared.version.Version.{Version}
+use Rattle.opgen_document.specs.declared.version.Version.TheVariants.{First, Second, Third}
+use Rattle.opgen_document.specs.Document.{flag_at, count_at}
+use Rattle.opgen_document.specs.Keys.{may_be}
+use Rattle.opgen_document.specs.Ranges.{out_width_outside}
+use Rattle.opgen_document.specs.Versions.{since_third}
 use Rattle.opgen_spec.specs.kinds.{kind_of, entry, IsOperatorAsWritten}
 use Rattle.opgen_spec.proofs.Fine.{AreFine}
 use Rattle.opgen_spec.proofs.Ranges.{widest}
@@ -17,6 +22,17 @@ use Rattle.opgen_spec.proofs.Ranges.{widest}
 abbrev pub IsFew : Members → PortFormat → Type 0
 IsFew ms p = p.format.width ≤ widest ms
 
+-- a kind whose output may have a chosen width in a version
+pub record IsChosen (one : Kind) (version : Version) : Type 0 where
+  pub third : version ≡ Third
+  pub value : (ms : Members) → has_value ((entry one).make ms) ≡ true
+  pub range : (ms : Members) → (entry one).key_outside ms key.OutWidth ≡ out_width_outside ms
+
+pub in_third : (version : Version) → may_be (since_third version) ≡ true → version ≡ Third
+in_third First may = cc
+in_third Second may = cc
+in_third Third may = refl
+
 pub record IsSound (one : Kind) : Type 0 where
   -- the operator has the kind for which it is read
   pub kind_is : (ms : Members) → operators.kind ((entry one).make ms) ≡ one
@@ -24,7 +40,9 @@ pub record IsSound (one : Kind) : Type 0 where
   pub ranges : (ms : Members) → AreFine ms → kind_of ms ≡ Some one → IsOperator ((entry one).make ms)
   pub inputs : (ms : Members) → AreFine ms → kind_of ms ≡ Some one → HasInputsWithin (widest ms) ((entry one).make ms)
   pub written : (ms : Members) → AreFine ms → kind_of ms ≡ Some one → IsOperatorAsWritten ms ((entry one).make ms)
-  -- its mark of exact outputs is that of the document, and version 1 has no more than it may
+  -- its mark of exact outputs is that of the document, and its version has it with these fields
   pub agrees : (ms : Members) → AgreesOnExact (flag_at ms key.Exact) ((entry one).make ms)
   pub marked : (ms : Members) → IsTrue (marks_exact ((entry one).make ms)) → IsTrue (flag_at ms key.Exact)
-  pub first : (ms : Members) → AreFine ms → kind_of ms ≡ Some one → is_first ms ≡ true → IsOfFirstVersion ((entry one).make ms)
+  pub has : (ms : Members) → AreFine ms → kind_of ms ≡ Some one → IsInVersion (count_at ms key.Version) ((entry one).make ms)
+  -- where it has the key for the width of its output, that width may be chosen
+  pub chosen : (version : Version) → may_be ((entry one).stand version key.OutWidth) ≡ true → IsChosen one version

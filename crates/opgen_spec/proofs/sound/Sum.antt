@@ -1,19 +1,22 @@
 -- Scales and filters of a document without a fault.
-use Rattle.std.proofs.Common.{◌≡◌, ℕ, ◌⊎◌, Some, None, option_and_then, refl}
-use Rattle.opgen_operator.specs.declared.operator.Kind.TheVariants as kind
-use Rattle.opgen_operator.specs.kinds.Sum.{IsSum}
+use Rattle.std.proofs.Common.{◌≡◌, ℕ, ◌⊎◌, false, [], ◌∷◌, Some, None, option_and_then, refl}
+use Rattle.opgen_kinds.specs.declared.kind.Kind.TheVariants as kind
+use Rattle.opgen_kinds.specs.Sum.{IsSum}
 use Rattle.opgen_ports.proofs.InputPorts.{all_one}
 use Rattle.toml.specs.Data.{Members}
 use Rattle.opgen_document.specs.declared.key.Key.TheVariants as key
 use Rattle.opgen_spec.specs.kinds.{kind_of, entry}
-use Rattle.opgen_spec.proofs.sound.Sound.{IsFew, IsSound}
-use Rattle.opgen_document.specs.Document.{value_at, items_at}
+use Rattle.opgen_spec.proofs.sound.Sound.{IsFew, IsSound, in_third}
+use Rattle.opgen_document.specs.Document.{value_at, items_at, count_at, small_at}
 use Rattle.opgen_document.specs.Ranges.{width_outside, power_outside, coefficients_outside, denominator_outside}
+use Rattle.opgen_document.specs.Fields.{counters_at}
+use Rattle.opgen_kinds.specs.Versions.{AreNear}
 use Rattle.opgen_spec.specs.kinds.Sum.{sum_of, IsSumAsWritten}
 use Rattle.opgen_spec.proofs.Compressors.{IsTaken, compressor_cases, first_without, compressor_written}
 use Rattle.opgen_spec.proofs.Fine.{AreFine, IsFine, own, own_range}
 use Rattle.opgen_document.proofs.Ranges.{denominator_in}
-use Rattle.opgen_spec.proofs.Ranges.{widest, width_few, input_in, power_in, array_in}
+use Rattle.opgen_spec.proofs.Ranges.{widest, width_few, input_in, power_in, two_near, array_in}
+use Rattle.opgen_spec.proofs.Versions.{one_is_first}
 use Rattle.opgen_spec.proofs.Writing.{input_written, power_written, signed_written, coefs_written}
 
 -- what is known of the keys of a scale, or of a filter
@@ -32,7 +35,7 @@ sum_in most ms h =
     let array = array_in 1 most 1073741824 (items_at ms key.Coefficients) h.coefs.within in
     let (positive, small) = denominator_in ms h.den in
     record {
-      input = input_in ms key.Width key.Lsb h.width h.lsb;
+      input = input_in ms key.Width key.Lsb h.width (power_in ms key.Lsb h.lsb);
       out_lsb = power_in ms key.OutLsb h.out_lsb;
       some = array.some;
       few = array.few;
@@ -44,11 +47,19 @@ sum_in most ms h =
 sum_written : (most : ℕ) (ms : Members) → HasSum most ms → IsSumAsWritten ms (sum_of ms)
 sum_written most ms h = record {
   signed = signed_written ms h.signed;
-  input = input_written ms key.Width key.Lsb h.width h.width.typed h.lsb h.lsb.typed;
+  input = input_written ms key.Width key.Lsb h.width h.width.typed (power_written ms key.Lsb h.lsb h.lsb.typed);
   out_lsb = power_written ms key.OutLsb h.out_lsb h.out_lsb.typed;
   coefs = coefs_written ms h.fine;
   compressor = compressor_written ms h.compressor;
 }
+
+-- version 1 has no larger counters, and the first two versions have lowest bits from -32 to 32
+sum_has : (most : ℕ) (ms : Members) → HasSum most ms → (count_at ms key.Version ≡ 1 → counters_at ms ≡ false)
+    × AreNear (count_at ms key.Version) (small_at ms key.Lsb ∷ small_at ms key.OutLsb ∷ [])
+sum_has most ms h = (
+  λ is. first_without ms h.compressor (one_is_first ms h.fine is),
+  two_near ms key.Lsb key.OutLsb h.fine h.lsb h.out_lsb,
+)
 
 scale_keys : (ms : Members) → AreFine ms → kind_of ms ≡ Some kind.Scale → HasSum 1 ms
 unfolding entry
@@ -60,7 +71,7 @@ scale_keys ms f e = record {
   out_lsb = own ms kind.Scale key.OutLsb f e refl refl;
   coefs = own ms kind.Scale key.Coefficients f e refl refl;
   den = own_range ms kind.Scale key.Denominator f e refl;
-  compressor = compressor_cases ms kind.Scale f e (record { absent = refl; range = λ ms. refl });
+  compressor = compressor_cases ms kind.Scale f e (record { stands = λ version. refl; range = λ ms. refl });
 }
 
 fir_keys : (ms : Members) → AreFine ms → kind_of ms ≡ Some kind.Fir → HasSum 256 ms
@@ -73,7 +84,7 @@ fir_keys ms f e = record {
   out_lsb = own ms kind.Fir key.OutLsb f e refl refl;
   coefs = own ms kind.Fir key.Coefficients f e refl refl;
   den = own_range ms kind.Fir key.Denominator f e refl;
-  compressor = compressor_cases ms kind.Fir f e (record { absent = refl; range = λ ms. refl });
+  compressor = compressor_cases ms kind.Fir f e (record { stands = λ version. refl; range = λ ms. refl });
 }
 
 pub scale : IsSound kind.Scale
@@ -85,7 +96,8 @@ scale = record {
   written = λ ms f e. sum_written 1 ms (scale_keys ms f e);
   agrees = λ ms. refl;
   marked = λ ms asked. asked;
-  first = λ ms f e first. first_without ms (scale_keys ms f e).compressor first;
+  has = λ ms f e. sum_has 1 ms (scale_keys ms f e);
+  chosen = λ version may. record { third = in_third version may; value = λ ms. refl; range = λ ms. refl };
 }
 
 pub fir : IsSound kind.Fir
@@ -97,5 +109,6 @@ fir = record {
   written = λ ms f e. sum_written 256 ms (fir_keys ms f e);
   agrees = λ ms. refl;
   marked = λ ms asked. asked;
-  first = λ ms f e first. first_without ms (fir_keys ms f e).compressor first;
+  has = λ ms f e. sum_has 256 ms (fir_keys ms f e);
+  chosen = λ version may. record { third = in_third version may; value = λ ms. refl; range = λ ms. refl };
 }

@@ -1,29 +1,35 @@
 -- Transposed filters of a document without a fault.
-use Rattle.std.proofs.Common.{◌≡◌, Some, None, refl, arith}
+use Rattle.std.proofs.Common.{◌≡◌, ◌⊎◌, inl, inr, false, Option, Some, None, is_none, refl, ap, arith}
 use Rattle.std.specs.Prelude.{pos}
+use Rattle.std.specs.Option.{option_map_or}
 use Rattle.std.proofs.lemmas.Int.{ints}
-use Rattle.opgen_operator.specs.declared.operator.Kind.TheVariants as kind
+use Rattle.opgen_kinds.specs.declared.kind.Kind.TheVariants as kind
 use Rattle.opgen_ports.specs.OddParts.{odd_part_count}
+use Rattle.opgen_ports.specs.Ranges.{IsPower}
 use Rattle.opgen_ports.proofs.InputPorts.{all_one}
-use Rattle.toml.specs.Data.{Members}
+use Rattle.toml.specs.Data.{Data, integer, Members}
 use Rattle.opgen_document.specs.declared.key.Key.TheVariants as key
 use Rattle.opgen_spec.specs.kinds.{kind_of, entry}
-use Rattle.opgen_spec.proofs.sound.Sound.{IsFew, IsSound}
-use Rattle.opgen_document.specs.Document.{value_at, items_at}
+use Rattle.opgen_spec.proofs.sound.Sound.{IsFew, IsSound, in_third}
+use Rattle.opgen_document.specs.Document.{value_at, items_at, small_at}
 use Rattle.opgen_document.specs.Numbers.{numerators}
 use Rattle.opgen_document.specs.Ranges.{outside, width_outside, power_outside, array_outside, extra_outside}
-use Rattle.opgen_spec.specs.kinds.Taps.{taps_outside}
+use Rattle.opgen_document.specs.Versions.{version_of}
+use Rattle.opgen_spec.specs.kinds.Taps.{taps_outside, out_lsb_of}
 use Rattle.opgen_document.proofs.Decimals.{integers_written, numbers_typed}
-use Rattle.opgen_spec.proofs.Fine.{AreFine, IsFine, own, not_late}
+use Rattle.opgen_spec.proofs.Fine.{AreFine, IsFine, own, own_there, not_late}
+use Rattle.opgen_spec.proofs.Known.{not_there, out_lsb_key}
 use Rattle.opgen_document.proofs.Ranges.{inside}
-use Rattle.opgen_spec.proofs.Ranges.{widest, width_few, input_in, extra_in, array_in}
+use Rattle.opgen_spec.proofs.Ranges.{widest, width_few, input_in, power_in, one_near, extra_in, array_in, within_more}
 use Rattle.opgen_spec.proofs.Reading.{or_none}
-use Rattle.opgen_spec.proofs.Writing.{input_written, signed_written, extra_written}
+use Rattle.opgen_spec.proofs.Versions.{IsEarly, early, one_is_first, not_in_early}
+use Rattle.opgen_spec.proofs.Writing.{input_written, power_written, signed_written, extra_written}
 
 record HasTaps (ms : Members) : Type 0 where
   signed : IsFine ms key.Signed None
   width : IsFine ms key.Width (width_outside (widest ms) ms key.Width)
   lsb : IsFine ms key.Lsb (power_outside ms key.Lsb)
+  out_lsb : is_none (value_at ms key.OutLsb) ≡ false → IsFine ms key.OutLsb (power_outside ms key.OutLsb)
   taps : IsFine ms key.Taps (taps_outside (items_at ms key.Taps))
   extra : IsFine ms key.Extra (extra_outside ms)
 
@@ -33,9 +39,37 @@ keys ms f e = record {
   signed = own ms kind.Tfir key.Signed f e refl refl;
   width = own ms kind.Tfir key.Width f e refl refl;
   lsb = own ms kind.Tfir key.Lsb f e refl refl;
+  out_lsb = own_there ms kind.Tfir key.OutLsb f e refl;
   taps = own ms kind.Tfir key.Taps f e refl refl;
   extra = own ms kind.Tfir key.Extra f e refl refl;
 }
+
+-- the lowest bit of the output, that of the input where the document does not say it
+out_lsb_in : (ms : Members) → HasTaps ms → IsPower (out_lsb_of ms)
+out_lsb_in ms h = by (value_at ms key.OutLsb) refl
+  where
+    by : (o : Option Data) → value_at ms key.OutLsb ≡ o → IsPower (option_map_or (λ _. small_at ms key.OutLsb) o (small_at ms key.Lsb))
+    by None none = power_in ms key.Lsb h.lsb
+    by (Some d) some = power_in ms key.OutLsb (h.out_lsb (ap is_none some))
+
+out_lsb_written : (ms : Members) → HasTaps ms
+    → (value_at ms key.OutLsb ≡ Some (integer (out_lsb_of ms))) ⊎ ((value_at ms key.OutLsb ≡ None) × (out_lsb_of ms ≡ small_at ms key.Lsb))
+out_lsb_written ms h = by (value_at ms key.OutLsb) refl
+  where
+    by : (o : Option Data) → value_at ms key.OutLsb ≡ o
+        → (value_at ms key.OutLsb ≡ Some (integer (option_map_or (λ _. small_at ms key.OutLsb) o (small_at ms key.Lsb)))) ⊎
+        ((value_at ms key.OutLsb ≡ None) × (option_map_or (λ _. small_at ms key.OutLsb) o (small_at ms key.Lsb) ≡ small_at ms key.Lsb))
+    by None none = inr (none, refl)
+    by (Some d) some =
+        let fine = h.out_lsb (ap is_none some) in
+        inl (power_written ms key.OutLsb fine fine.typed)
+
+-- the first two versions do not have the key for it
+same_lsb : (ms : Members) → AreFine ms → kind_of ms ≡ Some kind.Tfir → IsEarly ms → out_lsb_of ms ≡ small_at ms key.Lsb
+unfolding entry
+same_lsb ms f e is_early =
+    ap (λ o. option_map_or (λ _. small_at ms key.OutLsb) o (small_at ms key.Lsb))
+    (not_there ms kind.Tfir key.OutLsb f e out_lsb_key refl (not_in_early (version_of ms) is_early))
 
 pub tfir : IsSound kind.Tfir
 unfolding entry
@@ -49,21 +83,34 @@ tfir = record {
       let array = array_in 1 32 2047 taps numbers in
       let (_, few_parts) = inside (pos 0) (pos 8) (pos (odd_part_count (numerators taps))) parts in
       record {
-        input = input_in ms key.Width key.Lsb h.width h.lsb;
+        input = input_in ms key.Width key.Lsb h.width (power_in ms key.Lsb h.lsb);
+        out_lsb = out_lsb_in ms h;
         some = array.some;
-        few = array.few;
-        taps = array.each;
-        parts = omega (arith, ints, few_parts);
-        extra = extra_in ms h.extra;
+        few = omega (arith, array.few);
+        taps = within_more 2047 1048575 (numerators taps) (omega arith) array.each;
+        searched = λ asked. record {
+          few = array.few;
+          taps = array.each;
+          parts = omega (arith, ints, few_parts);
+          extra = extra_in ms h.extra;
+        };
       };
   inputs = λ ms f e. all_one (IsFew ms) _ (width_few ms key.Width (keys ms f e).width);
   written = λ ms f e. let h = keys ms f e in record {
     signed = signed_written ms h.signed;
-    input = input_written ms key.Width key.Lsb h.width h.width.typed h.lsb h.lsb.typed;
+    input = input_written ms key.Width key.Lsb h.width h.width.typed (power_written ms key.Lsb h.lsb h.lsb.typed);
+    out_lsb = out_lsb_written ms h;
     taps = integers_written (items_at ms key.Taps) (numbers_typed (value_at ms key.Taps) h.taps.typed);
+    searched = refl;
     extra = extra_written ms h.extra;
   };
   agrees = λ ms. tt;
   marked = λ ms asked. cc;
-  first = λ ms f e first. not_late ms kind.Tfir f e refl first;
+  has = λ ms f e. (
+    λ is. not_late ms kind.Tfir f e refl (one_is_first ms f is),
+    one_near ms key.Lsb f (keys ms f e).lsb,
+    λ below. same_lsb ms f e (early ms f below),
+    refl,
+  );
+  chosen = λ version may. record { third = in_third version may; value = λ ms. refl; range = λ ms. refl };
 }

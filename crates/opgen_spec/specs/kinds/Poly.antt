@@ -1,7 +1,7 @@
 -- A polynomial of an input below 1.
 use Rattle.std.specs.Prelude.{◌≡◌, ℤ, pos, negsuc, neg_ℤ, false, Option, Some, None}
 use Rattle.toml.specs.Data.{integer, Members}
-use Rattle.opgen_operator.specs.declared.kinds.poly.Poly.{Poly as Polynomial}
+use Rattle.opgen_kinds.specs.declared.poly.Poly.{Poly as Polynomial}
 use Rattle.opgen_operator.specs.declared.operator.Operator.TheVariants as operator
 use Rattle.opgen_document.specs.declared.key.Key.{Key}
 use Rattle.opgen_document.specs.declared.key.Key.TheVariants as key
@@ -11,20 +11,25 @@ use Rattle.opgen_num.specs.declared.format.Format.{Format}
 use Rattle.opgen_document.specs.Decimals.{AreCoefficients}
 use Rattle.opgen_document.specs.Document.{value_at, number_at, items_at, count_at, small, small_at}
 use Rattle.opgen_document.specs.Numbers.{numerators, denominator_of}
-use Rattle.opgen_document.specs.Ranges.{outside, width_outside, coefficients_outside, denominator_outside}
+use Rattle.opgen_document.specs.Ranges.{outside, width_outside, out_width_outside, coefficients_outside, denominator_outside}
+use Rattle.opgen_document.specs.declared.version.Version.{Version}
+use Rattle.opgen_document.specs.Versions.{since_third}
 use Rattle.opgen_spec.specs.Entry.{Entry}
 
-abbrev pub stand : Key → Stand
-stand key.Width = Needed
-stand key.OutLsb = Needed
-stand key.Coefficients = Needed
-stand key.Denominator = Optional
-stand _ = Absent
+abbrev pub stand : Version → Key → Stand
+stand version key.Width = Needed
+stand version key.OutLsb = Needed
+stand version key.OutWidth = since_third version
+stand version key.OutSigned = since_third version
+stand version key.Coefficients = Needed
+stand version key.Denominator = Optional
+stand version _ = Absent
 
 -- the limits of the input's width and of the output's lowest bit are a polynomial's own
 abbrev pub key_outside : Members → Key → Option ℤ
 key_outside ms key.Width = width_outside 16 ms key.Width
 key_outside ms key.OutLsb = outside (negsuc 15) (pos 0) (number_at ms key.OutLsb)
+key_outside ms key.OutWidth = out_width_outside ms
 key_outside ms key.Coefficients = coefficients_outside 2 5 ms
 key_outside ms key.Denominator = denominator_outside ms
 key_outside ms _ = None
@@ -50,4 +55,4 @@ pub record IsPolyAsWritten (ms : Members) (p : Polynomial) : Type 0 where
   pub coefs : AreCoefficients ms p.coefs p.den
 
 abbrev pub poly : Entry
-poly = record { first = false; stand = λ first. stand; key_outside = key_outside; make = λ ms. operator.Poly (poly_of ms) }
+poly = record { first = false; stand = stand; key_outside = key_outside; make = λ ms. operator.Poly (poly_of ms) }

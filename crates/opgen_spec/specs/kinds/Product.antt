@@ -1,6 +1,6 @@
 -- A product of two inputs.
-use Rattle.std.specs.Prelude.{◌≡◌, ℤ, Bool, true, Option, Some, None}
-use Rattle.opgen_operator.specs.declared.kinds.product.Product.{Product}
+use Rattle.std.specs.Prelude.{◌≡◌, ℤ, true, Option, Some, None}
+use Rattle.opgen_kinds.specs.declared.product.Product.{Product}
 use Rattle.opgen_operator.specs.declared.operator.Operator.TheVariants as operator
 use Rattle.toml.specs.Data.{boolean, integer, Members}
 use Rattle.opgen_document.specs.declared.key.Key.{Key}
@@ -9,19 +9,22 @@ use Rattle.opgen_document.specs.declared.stand.Stand.{Stand}
 use Rattle.opgen_document.specs.declared.stand.Stand.TheVariants.{Absent, Needed}
 use Rattle.opgen_document.specs.Document.{value_at, text_at, small_at}
 use Rattle.opgen_document.specs.Fields.{format_at, counters_at, IsInputAsWritten, IsCompressorAsWritten}
-use Rattle.opgen_document.specs.Ranges.{power_outside, compressor_outside}
-use Rattle.opgen_document.specs.Keys.{later}
+use Rattle.opgen_document.specs.Ranges.{power_outside, out_width_outside, compressor_outside}
+use Rattle.opgen_document.specs.declared.version.Version.{Version}
+use Rattle.opgen_document.specs.Versions.{since_second, since_third}
 use Rattle.opgen_spec.specs.Entry.{Entry, input_outside}
 
-abbrev pub stand : (first : Bool) → Key → Stand
-stand first key.Signed = Needed
-stand first key.WidthA = Needed
-stand first key.LsbA = Needed
-stand first key.WidthB = Needed
-stand first key.LsbB = Needed
-stand first key.OutLsb = Needed
-stand first key.Compressor = later first
-stand first _ = Absent
+abbrev pub stand : Version → Key → Stand
+stand version key.Signed = Needed
+stand version key.WidthA = Needed
+stand version key.LsbA = Needed
+stand version key.WidthB = Needed
+stand version key.LsbB = Needed
+stand version key.OutLsb = Needed
+stand version key.OutWidth = since_third version
+stand version key.OutSigned = since_third version
+stand version key.Compressor = since_second version
+stand version _ = Absent
 
 abbrev pub key_outside : Members → Key → Option ℤ
 key_outside ms key.WidthA = input_outside ms key.WidthA
@@ -29,6 +32,7 @@ key_outside ms key.LsbA = power_outside ms key.LsbA
 key_outside ms key.WidthB = input_outside ms key.WidthB
 key_outside ms key.LsbB = power_outside ms key.LsbB
 key_outside ms key.OutLsb = power_outside ms key.OutLsb
+key_outside ms key.OutWidth = out_width_outside ms
 key_outside ms key.Compressor = compressor_outside (text_at ms key.Compressor)
 key_outside ms _ = None
 

@@ -1,6 +1,6 @@
 -- Products of an input by several constants.
 use Rattle.std.specs.Prelude.{◌≡◌, ℤ, pos, true, Option, Some, None}
-use Rattle.opgen_operator.specs.declared.kinds.several.Several.{Several}
+use Rattle.opgen_kinds.specs.declared.several.Several.{Several}
 use Rattle.opgen_operator.specs.declared.operator.Operator.TheVariants as operator
 use Rattle.toml.specs.Data.{boolean, integer, Members}
 use Rattle.opgen_document.specs.declared.key.Key.{Key}
@@ -12,15 +12,16 @@ use Rattle.opgen_document.specs.Document.{value_at, items_at, count_at}
 use Rattle.opgen_document.specs.Fields.{format_at, IsInputAsWritten}
 use Rattle.opgen_document.specs.Numbers.{numerators}
 use Rattle.opgen_document.specs.Ranges.{power_outside, array_outside, extra_outside}
+use Rattle.opgen_document.specs.declared.version.Version.{Version}
 use Rattle.opgen_spec.specs.Entry.{Entry, input_outside}
 
-abbrev pub stand : Key → Stand
-stand key.Signed = Needed
-stand key.Width = Needed
-stand key.Lsb = Needed
-stand key.Constants = Needed
-stand key.Extra = Needed
-stand _ = Absent
+abbrev pub stand : Version → Key → Stand
+stand version key.Signed = Needed
+stand version key.Width = Needed
+stand version key.Lsb = Needed
+stand version key.Constants = Needed
+stand version key.Extra = Needed
+stand version _ = Absent
 
 abbrev pub key_outside : Members → Key → Option ℤ
 key_outside ms key.Width = input_outside ms key.Width
@@ -33,6 +34,7 @@ abbrev pub several_of : Members → Several
 several_of ms = record {
   input = format_at ms key.Width key.Lsb;
   constants = numerators (items_at ms key.Constants);
+  searched = true;
   extra = count_at ms key.Extra;
 }
 
@@ -40,7 +42,8 @@ pub record IsSeveralAsWritten (ms : Members) (m : Several) : Type 0 where
   pub signed : value_at ms key.Signed ≡ Some (boolean m.input.signed)
   pub input : IsInputAsWritten ms key.Width key.Lsb m.input
   pub constants : AreNumerators 0 (items_at ms key.Constants) m.constants
+  pub searched : m.searched ≡ true
   pub extra : value_at ms key.Extra ≡ Some (integer (pos m.extra))
 
 abbrev pub mcm : Entry
-mcm = record { first = true; stand = λ first. stand; key_outside = key_outside; make = λ ms. operator.Mcm (several_of ms) }
+mcm = record { first = true; stand = stand; key_outside = key_outside; make = λ ms. operator.Mcm (several_of ms) }

@@ -1,6 +1,6 @@
 -- A square root of an input without a sign.
 use Rattle.std.specs.Prelude.{◌≡◌, ℤ, true, Option, Some, None}
-use Rattle.opgen_operator.specs.declared.kinds.single.Single.{Single}
+use Rattle.opgen_kinds.specs.declared.single.Single.{Single}
 use Rattle.opgen_operator.specs.declared.operator.Operator.TheVariants as operator
 use Rattle.toml.specs.Data.{integer, Members}
 use Rattle.opgen_document.specs.declared.key.Key.{Key}
@@ -9,19 +9,20 @@ use Rattle.opgen_document.specs.declared.stand.Stand.{Stand}
 use Rattle.opgen_document.specs.declared.stand.Stand.TheVariants.{Absent, Needed}
 use Rattle.opgen_document.specs.Document.{value_at, flag_at, small_at}
 use Rattle.opgen_document.specs.Fields.{unsigned_at, IsInputAsWritten}
-use Rattle.opgen_document.specs.Ranges.{power_outside}
+use Rattle.opgen_document.specs.Ranges.{near_outside}
+use Rattle.opgen_document.specs.declared.version.Version.{Version}
 use Rattle.opgen_spec.specs.Entry.{Entry, input_outside}
 
-abbrev pub stand : Key → Stand
-stand key.Width = Needed
-stand key.Lsb = Needed
-stand key.OutLsb = Needed
-stand _ = Absent
+abbrev pub stand : Version → Key → Stand
+stand version key.Width = Needed
+stand version key.Lsb = Needed
+stand version key.OutLsb = Needed
+stand version _ = Absent
 
 abbrev pub key_outside : Members → Key → Option ℤ
 key_outside ms key.Width = input_outside ms key.Width
-key_outside ms key.Lsb = power_outside ms key.Lsb
-key_outside ms key.OutLsb = power_outside ms key.OutLsb
+key_outside ms key.Lsb = near_outside ms key.Lsb
+key_outside ms key.OutLsb = near_outside ms key.OutLsb
 key_outside ms _ = None
 
 abbrev pub single_of : Members → Single
@@ -36,4 +37,4 @@ pub record IsSingleAsWritten (ms : Members) (r : Single) : Type 0 where
   pub out_lsb : value_at ms key.OutLsb ≡ Some (integer r.out_lsb)
 
 abbrev pub root : Entry
-root = record { first = true; stand = λ first. stand; key_outside = key_outside; make = λ ms. operator.Root (single_of ms) }
+root = record { first = true; stand = stand; key_outside = key_outside; make = λ ms. operator.Root (single_of ms) }

@@ -1,6 +1,6 @@
 -- A quotient by a small constant.
 use Rattle.std.specs.Prelude.{◌≡◌, ℤ, pos, false, Option, Some, None}
-use Rattle.opgen_operator.specs.declared.kinds.small_div.SmallDiv.{SmallDiv}
+use Rattle.opgen_kinds.specs.declared.small_div.SmallDiv.{SmallDiv}
 use Rattle.opgen_operator.specs.declared.operator.Operator.TheVariants as operator
 use Rattle.toml.specs.Data.{integer, Members}
 use Rattle.opgen_document.specs.declared.key.Key.{Key}
@@ -10,13 +10,14 @@ use Rattle.opgen_document.specs.declared.stand.Stand.TheVariants.{Absent, Needed
 use Rattle.opgen_document.specs.Document.{value_at, number_at, flag_at, count_at}
 use Rattle.opgen_document.specs.Fields.{unsigned_at, IsInputAsWritten}
 use Rattle.opgen_document.specs.Ranges.{outside, power_outside}
+use Rattle.opgen_document.specs.declared.version.Version.{Version}
 use Rattle.opgen_spec.specs.Entry.{Entry, input_outside}
 
-abbrev pub stand : Key → Stand
-stand key.Width = Needed
-stand key.Lsb = Needed
-stand key.Divisor = Needed
-stand _ = Absent
+abbrev pub stand : Version → Key → Stand
+stand version key.Width = Needed
+stand version key.Lsb = Needed
+stand version key.Divisor = Needed
+stand version _ = Absent
 
 abbrev pub key_outside : Members → Key → Option ℤ
 key_outside ms key.Width = input_outside ms key.Width
@@ -36,4 +37,4 @@ pub record IsSmallDivAsWritten (ms : Members) (c : SmallDiv) : Type 0 where
   pub divisor : value_at ms key.Divisor ≡ Some (integer (pos c.divisor))
 
 abbrev pub constdiv : Entry
-constdiv = record { first = false; stand = λ first. stand; key_outside = key_outside; make = λ ms. operator.Constdiv (small_div_of ms) }
+constdiv = record { first = false; stand = stand; key_outside = key_outside; make = λ ms. operator.Constdiv (small_div_of ms) }

@@ -1,6 +1,6 @@
 -- A scale or a filter: sums of an input's numbers by coefficients.
-use Rattle.std.specs.Prelude.{◌≡◌, ℕ, ℤ, Bool, true, Option, Some, None}
-use Rattle.opgen_operator.specs.declared.kinds.sum.Sum.{Sum}
+use Rattle.std.specs.Prelude.{◌≡◌, ℕ, ℤ, true, Option, Some, None}
+use Rattle.opgen_kinds.specs.declared.sum.Sum.{Sum}
 use Rattle.opgen_operator.specs.declared.operator.Operator.TheVariants as operator
 use Rattle.toml.specs.Data.{boolean, integer, Members}
 use Rattle.opgen_document.specs.declared.key.Key.{Key}
@@ -11,26 +11,30 @@ use Rattle.opgen_document.specs.Decimals.{AreCoefficients}
 use Rattle.opgen_document.specs.Document.{value_at, text_at, flag_at, items_at, small_at}
 use Rattle.opgen_document.specs.Fields.{format_at, counters_at, IsInputAsWritten, IsCompressorAsWritten}
 use Rattle.opgen_document.specs.Numbers.{numerators, denominator_of}
-use Rattle.opgen_document.specs.Ranges.{power_outside, coefficients_outside, denominator_outside, compressor_outside}
-use Rattle.opgen_document.specs.Keys.{later}
+use Rattle.opgen_document.specs.Ranges.{power_outside, out_width_outside, coefficients_outside, denominator_outside, compressor_outside}
+use Rattle.opgen_document.specs.declared.version.Version.{Version}
+use Rattle.opgen_document.specs.Versions.{since_second, since_third}
 use Rattle.opgen_spec.specs.Entry.{Entry, input_outside}
 
--- how a key stands in a document
-abbrev pub stand : (first : Bool) → Key → Stand
-stand first key.Signed = Needed
-stand first key.Width = Needed
-stand first key.Lsb = Needed
-stand first key.OutLsb = Needed
-stand first key.Coefficients = Needed
-stand first key.Denominator = Optional
-stand first key.Compressor = later first
-stand first _ = Absent
+-- how a key stands in a document of a version
+abbrev pub stand : Version → Key → Stand
+stand version key.Signed = Needed
+stand version key.Width = Needed
+stand version key.Lsb = Needed
+stand version key.OutLsb = Needed
+stand version key.OutWidth = since_third version
+stand version key.OutSigned = since_third version
+stand version key.Coefficients = Needed
+stand version key.Denominator = Optional
+stand version key.Compressor = since_second version
+stand version _ = Absent
 
 -- what is out of range at a key, of an operator with so many coefficients at most
 abbrev pub key_outside : (most : ℕ) → Members → Key → Option ℤ
 key_outside most ms key.Width = input_outside ms key.Width
 key_outside most ms key.Lsb = power_outside ms key.Lsb
 key_outside most ms key.OutLsb = power_outside ms key.OutLsb
+key_outside most ms key.OutWidth = out_width_outside ms
 key_outside most ms key.Coefficients = coefficients_outside 1 most ms
 key_outside most ms key.Denominator = denominator_outside ms
 key_outside most ms key.Compressor = compressor_outside (text_at ms key.Compressor)

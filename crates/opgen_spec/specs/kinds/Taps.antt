@@ -1,7 +1,7 @@
 -- A transposed filter.
-use Rattle.std.specs.Prelude.{◌≡◌, ℤ, pos, false, Option, Some, None}
-use Rattle.std.specs.Option.{option_or}
-use Rattle.opgen_operator.specs.declared.kinds.taps.Taps.{Taps}
+use Rattle.std.specs.Prelude.{◌≡◌, ◌⊎◌, ℤ, pos, true, false, Option, Some, None}
+use Rattle.std.specs.Option.{option_or, option_map_or}
+use Rattle.opgen_kinds.specs.declared.taps.Taps.{Taps}
 use Rattle.opgen_operator.specs.declared.operator.Operator.TheVariants as operator
 use Rattle.opgen_ports.specs.OddParts.{odd_part_count}
 use Rattle.toml.specs.Data.{boolean, integer, Items, Members}
@@ -10,19 +10,24 @@ use Rattle.opgen_document.specs.declared.key.Key.TheVariants as key
 use Rattle.opgen_document.specs.declared.stand.Stand.{Stand}
 use Rattle.opgen_document.specs.declared.stand.Stand.TheVariants.{Absent, Needed}
 use Rattle.opgen_document.specs.Decimals.{AreNumerators}
-use Rattle.opgen_document.specs.Document.{value_at, items_at, count_at}
+use Rattle.opgen_document.specs.Document.{value_at, items_at, count_at, small_at}
 use Rattle.opgen_document.specs.Fields.{format_at, IsInputAsWritten}
 use Rattle.opgen_document.specs.Numbers.{numerators}
-use Rattle.opgen_document.specs.Ranges.{outside, array_outside, power_outside, extra_outside}
+use Rattle.opgen_document.specs.Ranges.{outside, array_outside, power_outside, out_width_outside, extra_outside}
+use Rattle.opgen_document.specs.declared.version.Version.{Version}
+use Rattle.opgen_document.specs.Versions.{since_third}
 use Rattle.opgen_spec.specs.Entry.{Entry, input_outside}
 
-abbrev pub stand : Key → Stand
-stand key.Signed = Needed
-stand key.Width = Needed
-stand key.Lsb = Needed
-stand key.Taps = Needed
-stand key.Extra = Needed
-stand _ = Absent
+abbrev pub stand : Version → Key → Stand
+stand version key.Signed = Needed
+stand version key.Width = Needed
+stand version key.Lsb = Needed
+stand version key.OutLsb = since_third version
+stand version key.OutWidth = since_third version
+stand version key.OutSigned = since_third version
+stand version key.Taps = Needed
+stand version key.Extra = Needed
+stand version _ = Absent
 
 -- taps as an array, or else more than eight different odd parts, of which the number is found
 abbrev pub taps_outside : Items → Option ℤ
@@ -32,22 +37,32 @@ taps_outside items =
 abbrev pub key_outside : Members → Key → Option ℤ
 key_outside ms key.Width = input_outside ms key.Width
 key_outside ms key.Lsb = power_outside ms key.Lsb
+key_outside ms key.OutLsb = power_outside ms key.OutLsb
+key_outside ms key.OutWidth = out_width_outside ms
 key_outside ms key.Taps = taps_outside (items_at ms key.Taps)
 key_outside ms key.Extra = extra_outside ms
 key_outside ms _ = None
 
+-- the power of the output's lowest bit: that of the input's where the document does not say it
+abbrev pub out_lsb_of : Members → ℤ
+out_lsb_of ms = option_map_or (λ _. small_at ms key.OutLsb) (value_at ms key.OutLsb) (small_at ms key.Lsb)
+
 abbrev pub taps_of : Members → Taps
 taps_of ms = record {
   input = format_at ms key.Width key.Lsb;
+  out_lsb = out_lsb_of ms;
   taps = numerators (items_at ms key.Taps);
+  searched = true;
   extra = count_at ms key.Extra;
 }
 
 pub record IsTapsAsWritten (ms : Members) (f : Taps) : Type 0 where
   pub signed : value_at ms key.Signed ≡ Some (boolean f.input.signed)
   pub input : IsInputAsWritten ms key.Width key.Lsb f.input
+  pub out_lsb : (value_at ms key.OutLsb ≡ Some (integer f.out_lsb)) ⊎ ((value_at ms key.OutLsb ≡ None) × (f.out_lsb ≡ f.input.lsb))
   pub taps : AreNumerators 0 (items_at ms key.Taps) f.taps
+  pub searched : f.searched ≡ true
   pub extra : value_at ms key.Extra ≡ Some (integer (pos f.extra))
 
 abbrev pub tfir : Entry
-tfir = record { first = false; stand = λ first. stand; key_outside = key_outside; make = λ ms. operator.Tfir (taps_of ms) }
+tfir = record { first = false; stand = stand; key_outside = key_outside; make = λ ms. operator.Tfir (taps_of ms) }

@@ -1,22 +1,23 @@
-//! What a document says of a quotient of two inputs: its keys, their ranges, and the operator.
+//! What a document says of a quotient of two inputs, both signed or none: its keys, their ranges, and the operator.
 ghost use Rattle.std.specs.Prelude.{◌≡◌};
 ghost use Rattle.toml.specs.View.{table_view};
 ghost use Rattle.opgen_spec.specs.kinds.Pair.{stand, key_outside, pair_of};
 
 use crate::kinds::input_outside;
-use opgen_document::{Key, Stand, flag_at, power_outside, small_at, unsigned_at};
+use opgen_document::{Key, Stand, Version, flag_at, format_at, near_outside, small_at};
 use opgen_operator::Pair;
 use toml::Table;
 
 /// Whether version 1 has the kind.
 pub(crate) const IS_FIRST: bool = true;
 
-/// How a key that not all kinds share stands in a document.
-pub(crate) fn stand(key: Key) -> Stand
-    ensures { result ≡ stand key }
+/// How a key that not all kinds share stands in a document of a version.
+pub(crate) fn stand(version: Version, key: Key) -> Stand
+    ensures { result ≡ stand version key }
 {
     match key {
         Key::WidthA | Key::LsbA | Key::WidthB | Key::LsbB | Key::OutLsb => Stand::Needed,
+        Key::Signed => Stand::since_third(version),
         _ => Stand::Absent,
     }
 }
@@ -27,7 +28,7 @@ pub(crate) fn key_outside(table: &Table, key: Key) -> Option<i64>
 {
     match key {
         Key::WidthA | Key::WidthB => input_outside(table, key),
-        Key::LsbA | Key::LsbB | Key::OutLsb => power_outside(table, key),
+        Key::LsbA | Key::LsbB | Key::OutLsb => near_outside(table, key),
         _ => None,
     }
 }
@@ -36,8 +37,8 @@ pub(crate) fn pair_of(table: &Table) -> Pair
     ensures { result ≡ pair_of (table_view table.now) }
 {
     Pair {
-        a: unsigned_at(table, Key::WidthA, Key::LsbA),
-        b: unsigned_at(table, Key::WidthB, Key::LsbB),
+        a: format_at(table, Key::WidthA, Key::LsbA),
+        b: format_at(table, Key::WidthB, Key::LsbB),
         out_lsb: small_at(table, Key::OutLsb),
         exact: flag_at(table, Key::Exact),
     }

@@ -4,8 +4,8 @@ ghost use Rattle.toml.specs.View.{table_view};
 ghost use Rattle.opgen_spec.specs.kinds.Poly.{stand, key_outside, below_one_at, poly_of};
 
 use opgen_document::{
-    Key, Stand, coefficients_outside, count_at, denominator_of, denominator_outside, items_at,
-    number_at, numerators, outside, small, small_at, width_outside,
+    Key, Stand, Version, coefficients_outside, count_at, denominator_of, denominator_outside,
+    items_at, number_at, numerators, out_width_outside, outside, small, small_at, width_outside,
 };
 use opgen_num::Format;
 use opgen_operator::Poly;
@@ -18,12 +18,13 @@ pub(crate) const IS_FIRST: bool = false;
 /// The most bits of the input, which is the limit of polynomials alone.
 const MAX_WIDTH: u32 = 16;
 
-/// How a key that not all kinds share stands in a document.
-pub(crate) fn stand(key: Key) -> Stand
-    ensures { result ≡ stand key }
+/// How a key that not all kinds share stands in a document of a version.
+pub(crate) fn stand(version: Version, key: Key) -> Stand
+    ensures { result ≡ stand version key }
 {
     match key {
         Key::Width | Key::OutLsb | Key::Coefficients => Stand::Needed,
+        Key::OutWidth | Key::OutSigned => Stand::since_third(version),
         Key::Denominator => Stand::Optional,
         _ => Stand::Absent,
     }
@@ -36,6 +37,7 @@ pub(crate) fn key_outside(table: &Table, key: Key) -> Option<i64>
     match key {
         Key::Width => width_outside(MAX_WIDTH, table, key),
         Key::OutLsb => outside(-16, 0, number_at(table, key)),
+        Key::OutWidth => out_width_outside(table),
         Key::Coefficients => coefficients_outside(2, 5, table),
         Key::Denominator => denominator_outside(table),
         _ => None,

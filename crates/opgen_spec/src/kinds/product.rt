@@ -5,7 +5,8 @@ ghost use Rattle.opgen_spec.specs.kinds.Product.{stand, key_outside, product_of}
 
 use crate::kinds::input_outside;
 use opgen_document::{
-    Key, Stand, compressor_outside, counters_at, format_at, power_outside, small_at, text_at,
+    Key, Stand, Version, compressor_outside, counters_at, format_at, out_width_outside,
+    power_outside, small_at, text_at,
 };
 use opgen_operator::Product;
 use toml::Table;
@@ -13,14 +14,15 @@ use toml::Table;
 /// Whether version 1 has the kind.
 pub(crate) const IS_FIRST: bool = true;
 
-/// How a key that not all kinds share stands in a document.
-pub(crate) fn stand(first: bool, key: Key) -> Stand
-    ensures { result ≡ stand first key }
+/// How a key that not all kinds share stands in a document of a version.
+pub(crate) fn stand(version: Version, key: Key) -> Stand
+    ensures { result ≡ stand version key }
 {
     match key {
         Key::Signed | Key::WidthA | Key::LsbA | Key::WidthB | Key::LsbB | Key::OutLsb =>
             Stand::Needed,
-        Key::Compressor => Stand::later(first),
+        Key::OutWidth | Key::OutSigned => Stand::since_third(version),
+        Key::Compressor => Stand::since_second(version),
         _ => Stand::Absent,
     }
 }
@@ -32,6 +34,7 @@ pub(crate) fn key_outside(table: &Table, key: Key) -> Option<i64>
     match key {
         Key::WidthA | Key::WidthB => input_outside(table, key),
         Key::LsbA | Key::LsbB | Key::OutLsb => power_outside(table, key),
+        Key::OutWidth => out_width_outside(table),
         Key::Compressor => compressor_outside(text_at(table, key)),
         _ => None,
     }

@@ -5,7 +5,7 @@ ghost use Rattle.opgen_spec.specs.kinds.Several.{stand, key_outside, several_of}
 
 use crate::kinds::input_outside;
 use opgen_document::{
-    Key, MAX_CONSTANT, Stand, array_outside, count_at, extra_outside, format_at, items_at,
+    Key, MAX_CONSTANT, Stand, Version, array_outside, count_at, extra_outside, format_at, items_at,
     numerators, power_outside,
 };
 use opgen_operator::Several;
@@ -15,9 +15,9 @@ use toml::Table;
 /// Whether version 1 has the kind.
 pub(crate) const IS_FIRST: bool = true;
 
-/// How a key that not all kinds share stands in a document.
-pub(crate) fn stand(key: Key) -> Stand
-    ensures { result ≡ stand key }
+/// How a key that not all kinds share stands in a document of a version.
+pub(crate) fn stand(_version: Version, key: Key) -> Stand
+    ensures { result ≡ stand _version key }
 {
     match key {
         Key::Signed | Key::Width | Key::Lsb | Key::Constants | Key::Extra => Stand::Needed,
@@ -44,6 +44,7 @@ pub(crate) fn several_of(alloc: Global, table: &Table) -> Result<Several, AllocE
     Ok(Several {
         input: format_at(table, Key::Width, Key::Lsb),
         constants: numerators(alloc, items_at(table, Key::Constants))?,
+        searched: true,
         extra: count_at(table, Key::Extra),
     })
 }

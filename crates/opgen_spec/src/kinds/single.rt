@@ -4,16 +4,16 @@ ghost use Rattle.toml.specs.View.{table_view};
 ghost use Rattle.opgen_spec.specs.kinds.Single.{stand, key_outside, single_of};
 
 use crate::kinds::input_outside;
-use opgen_document::{Key, Stand, flag_at, power_outside, small_at, unsigned_at};
+use opgen_document::{Key, Stand, Version, flag_at, near_outside, small_at, unsigned_at};
 use opgen_operator::Single;
 use toml::Table;
 
 /// Whether version 1 has the kind.
 pub(crate) const IS_FIRST: bool = true;
 
-/// How a key that not all kinds share stands in a document.
-pub(crate) fn stand(key: Key) -> Stand
-    ensures { result ≡ stand key }
+/// How a key that not all kinds share stands in a document of a version.
+pub(crate) fn stand(_version: Version, key: Key) -> Stand
+    ensures { result ≡ stand _version key }
 {
     match key {
         Key::Width | Key::Lsb | Key::OutLsb => Stand::Needed,
@@ -27,7 +27,7 @@ pub(crate) fn key_outside(table: &Table, key: Key) -> Option<i64>
 {
     match key {
         Key::Width => input_outside(table, key),
-        Key::Lsb | Key::OutLsb => power_outside(table, key),
+        Key::Lsb | Key::OutLsb => near_outside(table, key),
         _ => None,
     }
 }

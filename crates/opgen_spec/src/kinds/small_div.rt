@@ -5,7 +5,7 @@ ghost use Rattle.opgen_spec.specs.kinds.SmallDiv.{stand, key_outside, small_div_
 
 use crate::kinds::input_outside;
 use opgen_document::{
-    Key, Stand, count_at, flag_at, number_at, outside, power_outside, unsigned_at,
+    Key, Stand, Version, count_at, flag_at, number_at, outside, power_outside, unsigned_at,
 };
 use opgen_operator::SmallDiv;
 use toml::Table;
@@ -13,9 +13,9 @@ use toml::Table;
 /// Whether version 1 has the kind.
 pub(crate) const IS_FIRST: bool = false;
 
-/// How a key that not all kinds share stands in a document.
-pub(crate) fn stand(key: Key) -> Stand
-    ensures { result ≡ stand key }
+/// How a key that not all kinds share stands in a document of a version.
+pub(crate) fn stand(_version: Version, key: Key) -> Stand
+    ensures { result ≡ stand _version key }
 {
     match key {
         Key::Width | Key::Lsb | Key::Divisor => Stand::Needed,

@@ -5,9 +5,9 @@ ghost use Rattle.opgen_spec.specs.kinds.Sum.{stand, key_outside, sum_of};
 
 use crate::kinds::input_outside;
 use opgen_document::{
-    Key, Stand, coefficients_outside, compressor_outside, counters_at, denominator_of,
-    denominator_outside, flag_at, format_at, items_at, numerators, power_outside, small_at,
-    text_at,
+    Key, Stand, Version, coefficients_outside, compressor_outside, counters_at, denominator_of,
+    denominator_outside, flag_at, format_at, items_at, numerators, out_width_outside,
+    power_outside, small_at, text_at,
 };
 use opgen_operator::Sum;
 use std::alloc::{AllocError, Global};
@@ -16,14 +16,15 @@ use toml::Table;
 /// Whether version 1 has the kind.
 pub(crate) const IS_FIRST: bool = true;
 
-/// How a key that not all kinds share stands in a document.
-pub(crate) fn stand(first: bool, key: Key) -> Stand
-    ensures { result ≡ stand first key }
+/// How a key that not all kinds share stands in a document of a version.
+pub(crate) fn stand(version: Version, key: Key) -> Stand
+    ensures { result ≡ stand version key }
 {
     match key {
         Key::Signed | Key::Width | Key::Lsb | Key::OutLsb | Key::Coefficients => Stand::Needed,
         Key::Denominator => Stand::Optional,
-        Key::Compressor => Stand::later(first),
+        Key::OutWidth | Key::OutSigned => Stand::since_third(version),
+        Key::Compressor => Stand::since_second(version),
         _ => Stand::Absent,
     }
 }
@@ -36,6 +37,7 @@ pub(crate) fn key_outside(most: u32, table: &Table, key: Key) -> Option<i64>
     match key {
         Key::Width => input_outside(table, key),
         Key::Lsb | Key::OutLsb => power_outside(table, key),
+        Key::OutWidth => out_width_outside(table),
         Key::Coefficients => coefficients_outside(1, most, table),
         Key::Denominator => denominator_outside(table),
         Key::Compressor => compressor_outside(text_at(table, key)),

@@ -3,13 +3,14 @@ ghost use Rattle.std.specs.Prelude.{◌≡◌, ◌≤◌, length, All, IfOk};
 ghost use Rattle.toml.specs.View.{items_view, table_view};
 ghost use Rattle.opgen_ports.specs.OddParts.{odd_part_count};
 ghost use Rattle.opgen_ports.specs.Ranges.{IsWithin};
-ghost use Rattle.opgen_spec.specs.kinds.Taps.{stand, key_outside, taps_outside, taps_of};
+ghost use Rattle.opgen_spec.specs.kinds.Taps.{stand, key_outside, taps_outside, out_lsb_of, taps_of};
 ghost use Rattle.opgen_document.specs.Numbers.{numerators};
 
 use crate::kinds::input_outside;
 use opgen_document::{
-    Key, MAX_CONSTANT, Stand, array_outside, coefficient, count_at, extra_outside, format_at,
-    items_at, numerators, outside, places_among, power_outside,
+    Key, MAX_CONSTANT, Stand, Version, array_outside, coefficient, count_at, extra_outside,
+    format_at, items_at, numerators, out_width_outside, outside, places_among, power_outside,
+    small_at, value_at,
 };
 use opgen_operator::{Taps, odd_part_count};
 use std::alloc::{AllocError, Global};
@@ -20,12 +21,13 @@ const MAX_TAPS: u32 = 32;
 /// Whether version 1 has the kind.
 pub(crate) const IS_FIRST: bool = false;
 
-/// How a key that not all kinds share stands in a document.
-pub(crate) fn stand(key: Key) -> Stand
-    ensures { result ≡ stand key }
+/// How a key that not all kinds share stands in a document of a version.
+pub(crate) fn stand(version: Version, key: Key) -> Stand
+    ensures { result ≡ stand version key }
 {
     match key {
         Key::Signed | Key::Width | Key::Lsb | Key::Taps | Key::Extra => Stand::Needed,
+        Key::OutLsb | Key::OutWidth | Key::OutSigned => Stand::since_third(version),
         _ => Stand::Absent,
     }
 }
@@ -61,10 +63,21 @@ pub(crate) fn key_outside(table: &Table, key: Key) -> Option<i64>
 {
     match key {
         Key::Width => input_outside(table, key),
-        Key::Lsb => power_outside(table, key),
+        Key::Lsb | Key::OutLsb => power_outside(table, key),
+        Key::OutWidth => out_width_outside(table),
         Key::Taps => taps_outside(items_at(table, key)),
         Key::Extra => extra_outside(table),
         _ => None,
+    }
+}
+
+/// The power of the output's lowest bit: that of the input's if the document does not say it.
+fn out_lsb_of(table: &Table) -> i32
+    ensures { result ≡ out_lsb_of (table_view table.now) }
+{
+    match value_at(table, Key::OutLsb) {
+        Some(_) => small_at(table, Key::OutLsb),
+        None => small_at(table, Key::Lsb),
     }
 }
 
@@ -73,7 +86,9 @@ pub(crate) fn taps_of(alloc: Global, table: &Table) -> Result<Taps, AllocError>
 {
     Ok(Taps {
         input: format_at(table, Key::Width, Key::Lsb),
+        out_lsb: out_lsb_of(table),
         taps: numerators(alloc, items_at(table, Key::Taps))?,
+        searched: true,
         extra: count_at(table, Key::Extra),
     })
 }

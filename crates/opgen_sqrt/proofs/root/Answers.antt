@@ -5,8 +5,8 @@ use Rattle.opgen_net.specs.declared.word_bits.WordBit.{WordBit}
 use Rattle.opgen_net.specs.declared.word_bits.WordBit.TheVariants.{Zero}
 use Rattle.opgen_net.specs.Valid.{widths}
 use Rattle.opgen_net.specs.WordRule.{IsThere}
-use Rattle.opgen_operator.specs.declared.kinds.single.Single.{Single}
-use Rattle.opgen_operator.specs.kinds.Single.{IsAcceptedSingle, root_width}
+use Rattle.opgen_kinds.specs.declared.single.Single.{Single}
+use Rattle.opgen_kinds.specs.Single.{IsAcceptedSingle, root_width}
 use Rattle.opgen_digits.specs.Digit.{Known}
 use Rattle.opgen_sqrt.specs.Recipe.{radicand, stepped, keeps, after}
 use Rattle.opgen_sqrt.proofs.Steps.{HasWidths, Stands, stands, within, rest-length, minuend-there}

@@ -1,5 +1,5 @@
 use Rattle.std.proofs.Common.{◌+◌, arith}
-use Rattle.opgen_operator.specs.Operator.{inputs_of, outputs_of}
+use Rattle.opgen_operator.specs.Outputs.{inputs_of, outputs_of}
 use Rattle.opgen_operator.proofs.Operators.{some_input}
 use Rattle.opgen_check.proofs.Cells.{is_cycle, is_history}
 use Rattle.opgen_check.proofs.rows.are_good_for.Goals as goal

@@ -1,7 +1,7 @@
 use Rattle.std.proofs.Common.{map, sym, ◌∙◌, subst, arith}
 use Rattle.opgen_num.specs.Words.{AreRowsOfCells}
 use Rattle.opgen_design.specs.Run.{initial_words, input_widths}
-use Rattle.opgen_operator.specs.Operator.{outputs_of}
+use Rattle.opgen_operator.specs.Outputs.{outputs_of}
 use Rattle.opgen_runs.specs.Rows.{IsRunOf}
 use Rattle.opgen_vec.specs.Writing.{row_count}
 use Rattle.opgen_check.specs.Verdict.{IsVerdict}

@@ -2,7 +2,7 @@ use Rattle.std.proofs.Common.{◌≡◌, ◌+◌, ◌-◌, ◌*◌, false, true,
 use Rattle.std.proofs.lemmas.List.{drop-drop, length-map}
 use Rattle.opgen_num.proofs.RowsOfCells.{first_fits, later_rows, row_room}
 use Rattle.opgen_num.specs.Words.{FitWidths, AreRowsOfCells}
-use Rattle.opgen_operator.specs.Operator.{inputs_of, outputs_of}
+use Rattle.opgen_operator.specs.Outputs.{inputs_of, outputs_of}
 use Rattle.opgen_vec.specs.GoodRow.{IsGoodRow}
 use Rattle.opgen_vec.specs.Writing.{row_count}
 use Rattle.opgen_check.specs.declared.checked.Checked.TheVariants.{Bad, Good}

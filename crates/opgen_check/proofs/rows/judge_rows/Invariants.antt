@@ -1,6 +1,6 @@
 use Rattle.std.proofs.Common.{◌≡◌, ◌≤◌, ◌*◌, ◌-◌, drop, length, map}
 use Rattle.opgen_num.specs.Words.{AreRowsOfCells}
-use Rattle.opgen_operator.specs.Operator.{outputs_of}
+use Rattle.opgen_operator.specs.Outputs.{outputs_of}
 use Rattle.opgen_check.proofs.Judging.{GoodBelow}
 use Rattle.opgen_check.proofs.rows.judge_rows.Given as goal
 

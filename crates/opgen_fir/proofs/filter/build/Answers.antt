@@ -11,7 +11,7 @@ use Rattle.opgen_net.proofs.Grown.{grown-then}
 use Rattle.opgen_design.specs.Run.{AreWords}
 use Rattle.opgen_compress.specs.Kept.{IsSumOf}
 use Rattle.opgen_operator.specs.declared.operator.Operator.TheVariants.{Fir}
-use Rattle.opgen_operator.specs.kinds.Sum.{guard_bits, sum_format}
+use Rattle.opgen_kinds.specs.Sum.{guard_bits, sum_format}
 use Rattle.opgen_operator.proofs.Accepted.{accepted_ranges}
 use Rattle.opgen_kcm.specs.Multiple.{sum_at}
 use Rattle.opgen_kcm.specs.Recipe.{Terms}

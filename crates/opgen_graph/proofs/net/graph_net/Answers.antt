@@ -41,4 +41,4 @@ returns-clause-fits c =
     let graph = c.args.graph.now in
     let net : c.place_outputs.new.net ≡ net_of_graph graph m = search rules in
     subst (FitsInEachMode (Mcm m)) (sym net)
-    (fits_modes m c.requires.several graph c.requires.graph c.outputs_hold.ensures)
+    (fits_modes m c.requires.several graph c.requires.graph)

@@ -4,7 +4,6 @@ use Rattle.std.proofs.lemmas.List.{drop_more, drop_all}
 use Rattle.std.proofs.lemmas.List.Elements.{All-weaker, All-nil}
 use Rattle.opgen_num.specs.declared.format.Format.{Format}
 use Rattle.opgen_net.specs.Valid.{IsValid}
-use Rattle.opgen_operator.specs.Held.{OutputsHold}
 use Rattle.opgen_ports.specs.Ranges.{IsInput}
 use Rattle.opgen_graph.proofs.PartNodes.{all-made}
 use Rattle.opgen_net.specs.declared.net.Net.{Net}
@@ -49,14 +48,14 @@ parts-preserved c =
     }
 
 -- all that the loop has made
-made_all : (input : Format) (known : List Multiple) (old net : Net) (made : List Multiple) (parts : List ℕ) → OutputsHold → IsInput input
+made_all : (input : Format) (known : List Multiple) (old net : Net) (made : List Multiple) (parts : List ℕ) → IsInput input
     → IsValid old → AreMultiples input old known → All (IsPart known) parts
     → record { net = net; known = made } ≡ with_parts input known (record { net = old; known = [] }) parts
     → AreMultiples input net made × (factors made ≡ parts)
-made_all input known old net made parts hold fits valid multiples are same =
+made_all input known old net made parts fits valid multiples are same =
     let b : Multiples = record { net = old; known = [] } in
     let done : Multiples = record { net = net; known = made } in
-    let is = all-made hold input fits known b parts
+    let is = all-made input fits known b parts
     (record { valid = valid; has_input = multiples.has_input; each = multiples.each }) (All-nil (IsMultiple input old)) are in
     subst (λ (x : Multiples). AreMultiples input x.net x.known × (factors x.known ≡ parts)) (sym same)
     (record { has_input = is.ready.has_input; each = is.each }, is.factors_are)
@@ -67,7 +66,7 @@ all c =
     let known = c.args.known.now in
     let done : Multiples = record { net = c.parts.net; known = c.parts.made } in
     let none : drop c.parts.part-index c.args.parts.now ≡ [] = drop_all c.parts.part-index c.args.parts.now c.parts-test.false in
-    made_all input known c.args.net.now c.parts.net c.parts.made c.args.parts.now c.outputs_hold.ensures c.requires.input c.requires.net
+    made_all input known c.args.net.now c.parts.net c.parts.made c.args.parts.now c.requires.input c.requires.net
     c.requires.known c.requires.parts
     (ap (λ (ps : List ℕ). with_parts input known done ps) (sym none) ∙ c.parts.invariant.same)
 

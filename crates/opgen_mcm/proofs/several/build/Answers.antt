@@ -9,4 +9,4 @@ returns-clause-products c =
     let m = c.args.several.now in
     let graph = c.args.graph.now in
     IfOk-weaker c.graph_net.result _ _
-    (λ net e. subst (HasProducts m) (sym e) (products m c.requires.several graph c.requires.graph c.outputs_hold.ensures)) c.graph_net.ensures.net
+    (λ net e. subst (HasProducts m) (sym e) (products m c.requires.several graph c.requires.graph)) c.graph_net.ensures.net

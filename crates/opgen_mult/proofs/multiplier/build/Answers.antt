@@ -16,7 +16,7 @@ use Rattle.opgen_heap.specs.Contents.{Contents}
 use Rattle.opgen_heap.specs.Standing.{AllThere}
 use Rattle.opgen_heap.specs.Sum.{Words, heap_sum}
 use Rattle.opgen_net.specs.declared.net.Net.{Net}
-use Rattle.opgen_operator.specs.kinds.Product.{product_format}
+use Rattle.opgen_kinds.specs.Product.{product_format}
 use Rattle.opgen_partial.specs.declared.pairs.Work.{Work}
 use Rattle.opgen_mult.specs.Recipe.{bits_below, zeros_below, heap_width, constant, counted_product, summed, above_zeros, shifted}
 use Rattle.opgen_mult.specs.Shifted.{IsAboveZeros}

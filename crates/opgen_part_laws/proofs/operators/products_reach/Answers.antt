@@ -1,4 +1,4 @@
-use Rattle.opgen_operator.proofs.of_kind.ProductWidths.{products_span}
+use Rattle.opgen_kinds.proofs.of_kind.ProductWidths.{products_span}
 use Rattle.opgen_part_laws.proofs.operators.products_reach.Goals as goal
 
 pub returns : goal.returns

@@ -1,5 +1,5 @@
 use Rattle.std.proofs.Common.{◌+◌, ap, arith}
-use Rattle.opgen_operator.proofs.of_kind.Results.{partial_bits}
+use Rattle.opgen_kinds.proofs.of_kind.Results.{partial_bits}
 use Rattle.opgen_partial.specs.declared.pairs.Products.{Products}
 use Rattle.opgen_poly.proofs.numbers.added.Goals as goal
 

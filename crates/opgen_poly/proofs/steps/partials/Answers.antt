@@ -1,5 +1,5 @@
 use Rattle.std.proofs.Common.{◌≡◌, ◌+◌, ◌-◌, suc, sym, ap, ◌∙◌, subst, arith}
-use Rattle.opgen_operator.specs.kinds.Horner.{degree}
+use Rattle.opgen_kinds.specs.Horner.{degree}
 use Rattle.opgen_poly.specs.Near.{IsPartial}
 use Rattle.opgen_poly.specs.Recipe.{after, stepped}
 use Rattle.opgen_poly.proofs.Runs.{after-partial}

@@ -6,12 +6,12 @@ use Rattle.opgen_shared.proofs.graph.+make.Goals as goal
 
 pub place-requires-clause-u : goal.place-requires-clause-u
 place-requires-clause-u t c =
-    either (placed_by c.args.sums.now.adders) (placed_by c.make.new.sums.adders) _ _ c.lightest_step-step.ensures.candidate.step.u
+    either (placed_by c.args.sums.now.adders) (placed_by c.make.new.sums.adders) _ _ c.best_step-step.ensures.candidate.step.u
     c.in_ok-make.ensures.made c.in_ok-make.ensures.kept
 
 pub place-requires-clause-v : goal.place-requires-clause-v
 place-requires-clause-v t c =
-    either (placed_by c.args.sums.now.adders) (placed_by c.make.new.sums.adders) _ _ c.lightest_step-step.ensures.candidate.step.v
+    either (placed_by c.args.sums.now.adders) (placed_by c.make.new.sums.adders) _ _ c.best_step-step.ensures.candidate.step.v
     c.in_ok-make.ensures.made c.in_ok-make.ensures.kept
 
 pub returns-clause-kept : goal.returns-clause-kept

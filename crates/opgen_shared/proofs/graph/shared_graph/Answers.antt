@@ -1,9 +1,9 @@
 use Rattle.std.proofs.Common.{ℕ, ◌≤◌, ◌<◌, List, length, get_or, All, Contains, inr, sym, subst, arith}
 use Rattle.std.proofs.lemmas.List.{take_all}
+use Rattle.opgen_graph.specs.Reach.{IsWideMember}
 use Rattle.opgen_shared.specs.Digits.{digit_adders}
-use Rattle.opgen_shared.specs.Shared.{IsWideMember}
 use Rattle.opgen_shared.specs.Sums.{placed_by}
-use Rattle.opgen_shared.proofs.Costs.{cost_more, one_made, holds_parts}
+use Rattle.opgen_shared.proofs.Costs.{cost_more, one_made, holds_parts, serves}
 use Rattle.opgen_shared.proofs.Forms.{some_digits}
 use Rattle.opgen_shared.proofs.graph.shared_graph.Goals as goal
 
@@ -28,13 +28,15 @@ parts-preserved c =
           (length c.make.new.sums.adders) c.digit_count.result forms c.parts-test.true (i.few form forms) c.digit_count.ensures e.few;
     }
 
-pub returns-clause-parts : goal.returns-clause-parts
-returns-clause-parts c =
+pub returns-clause-serves : goal.returns-clause-serves
+returns-clause-serves c =
     let parts = c.as_slice-part-items.ensures.value in
-    holds_parts c.args.numbers.now c.in_ok-parts.parts.items c.parts.sums.adders c.parts.part-index c.in_ok-parts.ensures.parts
+    let graph = c.parts.invariant.sums.graph in
+    serves c.args.numbers.now (record { adders = c.parts.sums.adders }) graph
+    (holds_parts c.args.numbers.now c.in_ok-parts.parts.items c.parts.sums.adders c.parts.part-index c.in_ok-parts.ensures.parts
     (subst (λ xs. length xs ≤ c.parts.part-index) parts c.parts-test.false)
     (subst (λ (xs : List ℕ). (k : ℕ) → k < c.parts.part-index → Contains (placed_by c.parts.sums.adders) (get_or xs k 0)) parts
-    c.parts.invariant.made)
+    c.parts.invariant.made))
 
 pub returns-clause-few : goal.returns-clause-few
 returns-clause-few c =

@@ -4,8 +4,8 @@ use Rattle.opgen_shared.proofs.StepLaws.{distance_step}
 use Rattle.opgen_shared.proofs.steps.with_distance.Goals.{then-operand-number, else-operand-number}
 use Rattle.opgen_shared.proofs.steps.with_distance.Goals as goal
 
-pub lighter-requires-clause-step : goal.lighter-requires-clause-step
-lighter-requires-clause-step c =
+pub better-requires-clause-step : goal.better-requires-clause-step
+better-requires-clause-step c =
     let n = c.args.number in
     let o = c.args.operand in
     let d = c.abs_diff.result in

@@ -9,7 +9,7 @@ shifts-preserved c =
     ap (λ k. 2 ^ k * c.args.operand) (add-one c.shifts.shift) ∙ twice c.shifts.shift c.args.operand in
     record {
       candidate = c.with_shifted_sum-least.ensures.candidate;
-      lighter = omega (arith, i.lighter, c.with_shifted_distance-least.ensures.lighter, c.with_shifted_sum-least.ensures.lighter);
+      lighter = c.with_shifted_sum-least.ensures.lighter;
       size = omega (arith, i.size, doubled);
       small = omega (arith, c.if-size-ge-LIMIT.false);
     }

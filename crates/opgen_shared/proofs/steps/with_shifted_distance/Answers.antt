@@ -4,8 +4,8 @@ use Rattle.opgen_shared.proofs.StepLaws.{shifted_distance_step}
 use Rattle.opgen_shared.proofs.steps.with_shifted_distance.Goals.{then-by-number, else-by-number}
 use Rattle.opgen_shared.proofs.steps.with_shifted_distance.Goals as goal
 
-pub lighter-requires-clause-step : goal.lighter-requires-clause-step
-lighter-requires-clause-step c =
+pub better-requires-clause-step : goal.better-requires-clause-step
+better-requires-clause-step c =
     let n = c.args.number in
     let size = c.args.by.size in
     let rest = c.abs_diff-rest.result in

@@ -9,7 +9,7 @@ pub names-init : goal.names-init
 names-init c =
     let all : c.into_iter-name-iterator.result ≡ keys_of c.args.table.now.entries = search rules in
     record {
-      same = ap (position_from (λ name. not (is_known c.args.keys.now c.args.first c.args.kind name)) 0)
+      same = ap (position_from (λ name. not (is_known c.args.keys.now c.args.version c.args.kind name)) 0)
           (ap (map string_bytes) all ∙ names-view c.args.table.now.entries);
       count = search rules;
     }

@@ -8,7 +8,7 @@ use Rattle.opgen_spec.proofs.form.first_unknown.Given as goal
 
 abbrev pub invariant-names : goal.invariant-names
 invariant-names l = record {
-  same : position_from (λ name. not (is_known l.keys l.first l.kind name)) l.at (map string_bytes l.name-iterator)
-      ≡ position_from (λ name. not (is_known l.keys l.first l.kind name)) 0 (names (table_view l.table));
+  same : position_from (λ name. not (is_known l.keys l.version l.kind name)) l.at (map string_bytes l.name-iterator)
+      ≡ position_from (λ name. not (is_known l.keys l.version l.kind name)) 0 (names (table_view l.table));
   count : l.at + length l.name-iterator ≡ btree_map_len l.table;
 }

@@ -11,6 +11,8 @@ returns c =
       c.in_ok-texts.ensures.name,
       c.in_ok-op.ensures,
       c.flag_at.ensures,
+      c.optional_count_at.ensures,
+      c.optional_flag_at.ensures,
       c.in_ok-texts.ensures.target,
       c.count_at-2.ensures,
       c.in_ok-texts.ensures.delays,

@@ -20,12 +20,12 @@ joined-requires-clause-node c =
     let b : Multiples = record { net = a.net.now; known = p.parts } in
     let d : Placed = record { net = a.net.now; place = a.node } in
     let n = unsigned_abs a.tap in
-    let odd : Contains (factors b.known) (odd_part n) = c.requires.tap.odd (λ (e : a.tap ≡ pos 0). c.if-tap-eq0.false (ap (of_z w64) e)) in
-    let made = with_magnitude p.signed p.width b n in
-    let answers = magnitude-placed p.signed b c.requires.net c.requires.products.nodes p.width c.requires.products.wide n odd in
+    let odd : Contains (factors b.known) (odd_part n) = c.requires.odd (λ (e : a.tap ≡ pos 0). c.if-tap-eq0.false (ap (of_z w64) e)) in
+    let made = with_magnitude p.input.signed a.width b n in
+    let answers = magnitude-placed p.input.signed b c.requires.net c.requires.products.nodes a.width c.requires.width n odd in
     let to : c.magnitude.new.net ≡ made.net = search rules in
     ap (λ (m : Net). slice_index (widths m.nodes) a.node) to
-    ∙ node-kept_width p c.requires.products.wide d c.requires.net c.requires.node made answers
+    ∙ node-kept_width p a.width c.requires.width d c.requires.net c.requires.node made answers
 
 pub joined-requires-clause-product : goal.joined-requires-clause-product
 joined-requires-clause-product c =
@@ -33,9 +33,9 @@ joined-requires-clause-product c =
     let p = a.products.now in
     let b : Multiples = record { net = a.net.now; known = p.parts } in
     let n = unsigned_abs a.tap in
-    let odd : Contains (factors b.known) (odd_part n) = c.requires.tap.odd (λ (e : a.tap ≡ pos 0). c.if-tap-eq0.false (ap (of_z w64) e)) in
-    let made = with_magnitude p.signed p.width b n in
-    let answers = magnitude-placed p.signed b c.requires.net c.requires.products.nodes p.width c.requires.products.wide n odd in
+    let odd : Contains (factors b.known) (odd_part n) = c.requires.odd (λ (e : a.tap ≡ pos 0). c.if-tap-eq0.false (ap (of_z w64) e)) in
+    let made = with_magnitude p.input.signed a.width b n in
+    let answers = magnitude-placed p.input.signed b c.requires.net c.requires.products.nodes a.width c.requires.width n odd in
     let to : c.magnitude.new.net ≡ made.net = search rules in
     let at : c.in_ok-product.product ≡ made.place = search rules in
     ap (λ (m : Net). slice_index (widths m.nodes) c.in_ok-product.product) to

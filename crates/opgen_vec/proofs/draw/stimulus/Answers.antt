@@ -1,5 +1,6 @@
 use Rattle.std.proofs.Common.{◌≡◌, ap, subst, length, map, arith}
-use Rattle.opgen_operator.specs.Operator.{divisor, inputs_of}
+use Rattle.opgen_operator.specs.Operator.{divisor}
+use Rattle.opgen_operator.specs.Outputs.{inputs_of}
 use Rattle.opgen_operator.proofs.Operators.{some_input}
 use Rattle.opgen_num.specs.Words.{AreRowsOfCells}
 use Rattle.opgen_vec.proofs.Draws.{cycle_more, all_drawn, whole, rows_fit, rows_counted}

@@ -1,5 +1,6 @@
 use Rattle.std.proofs.Common.{◌≡◌, ◌++◌}
-use Rattle.opgen_operator.specs.Operator.{divisor, inputs_of}
+use Rattle.opgen_operator.specs.Operator.{divisor}
+use Rattle.opgen_operator.specs.Outputs.{inputs_of}
 use Rattle.opgen_vec.specs.Stimulus.{cycles_from, stimulus_cells}
 use Rattle.opgen_vec.proofs.draw.stimulus.Given as goal
 

@@ -1,5 +1,6 @@
-use Rattle.std.proofs.Common.{◌≡◌, ◌+◌, ◌<◌, ◌≤◌, ℕ, length, ap, sym, subst, arith}
-use Rattle.opgen_operator.specs.Operator.{inputs_of, operator_inputs}
+use Rattle.std.proofs.Common.{◌≡◌, ◌+◌, ℕ, length, ap, sym, subst, arith}
+use Rattle.opgen_operator.specs.Operator.{operator_inputs}
+use Rattle.opgen_operator.specs.Outputs.{inputs_of}
 use Rattle.opgen_workload.specs.Judged.{Counts, IsGoodCycle}
 use Rattle.opgen_workload.proofs.Counting.{one_more, no_more}
 use Rattle.opgen_workload.proofs.OnePort.{one_history}

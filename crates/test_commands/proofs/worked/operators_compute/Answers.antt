@@ -16,8 +16,11 @@ returns c = record {
   square_format = refl;
   square_value = refl;
   quotient_named = refl;
-  quotient_good = (omega arith, omega arith);
-  quotient_rest = λ h. omega (arith, h.1);
+  quotient_good = record { whole = refl; smaller = omega arith; alike = omega (arith, ints) };
+  quotient_rest = λ h. omega (arith, ints, h.smaller);
+  signed_named = refl;
+  signed_good = record { whole = refl; smaller = omega (arith, ints); alike = omega (arith, ints) };
+  signed_floor = λ h. omega (arith, ints, h.alike);
   root_named = refl;
   root_good = (omega arith, omega arith);
   root_rest = λ h. omega (arith, h.1);
@@ -32,4 +35,8 @@ returns c = record {
   halves_above = λ h. omega (arith, ints, h);
   taps_format_is = refl;
   taps_value = refl;
+  cut_format = refl;
+  cut_value = refl;
+  cut_good = omega (arith, ints);
+  cut_below = λ h. omega (arith, ints, h);
 }

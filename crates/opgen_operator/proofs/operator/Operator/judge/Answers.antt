@@ -1,5 +1,5 @@
 use Rattle.std.proofs.Common.{◌≡◌}
-use Rattle.opgen_operator.proofs.of_kind.Sum.{multiple_accepted}
+use Rattle.opgen_kinds.proofs.of_kind.Sum.{multiple_accepted}
 use Rattle.opgen_operator.proofs.operator.Operator.judge.Goals as goal
 
 pub judge-requires-clause-accepted : goal.judge-requires-clause-accepted

@@ -1,4 +1,4 @@
-use Rattle.opgen_operator.proofs.of_kind.Sum.{multiple_accepted}
+use Rattle.opgen_kinds.proofs.of_kind.Sum.{multiple_accepted}
 use Rattle.opgen_operator.proofs.operator.Operator.outputs.Goals as goal
 
 pub outputs-requires : goal.outputs-requires

@@ -1,0 +1,47 @@
+//! The versions of documents, which differ in their keys and ranges.
+ghost use Rattle.std.specs.Prelude.{◌≡◌};
+ghost use Rattle.toml.specs.View.{table_view};
+ghost use Rattle.opgen_document.specs.Versions.{version_in, version_of, has_key};
+
+use crate::document::number_at;
+use crate::key::Key;
+use toml::Table;
+
+/// The version whose keys and ranges a document has.
+#[derive(Clone, Copy, Debug)]
+pub enum Version {
+    First,
+    Second,
+    Third,
+}
+
+fn version_in(found: i64) -> Version
+    ensures { result ≡ version_in found }
+{
+    if found == 1 {
+        Version::First
+    } else if found == 2 {
+        Version::Second
+    } else {
+        Version::Third
+    }
+}
+
+/// The version of a document. One that is missing, of another type or unknown counts as the latest.
+pub fn version_of(table: &Table) -> Version
+    ensures { result ≡ version_of (table_view table.now) }
+{
+    version_in(number_at(table, Key::Version))
+}
+
+impl Version {
+    /// Whether the version has the key, in documents of some kind.
+    pub fn has_key(self, key: Key) -> bool
+        ensures { result ≡ has_key self key }
+    {
+        match self {
+            Version::First | Version::Second => !matches!(key, Key::OutWidth | Key::OutSigned),
+            Version::Third => true,
+        }
+    }
+}

@@ -1,7 +1,0 @@
-use Rattle.std.proofs.Common.{◌≡◌, drop}
-use Rattle.std.specs.List.{list_any}
-use Rattle.opgen_ports.specs.OddParts.{has_part}
-use Rattle.opgen_graph.proofs.part_nodes.any_has_odd_part.Given as goal
-
-abbrev pub invariant-numbers : goal.invariant-numbers
-invariant-numbers l = list_any (has_part l.part) (drop l.number-index l.numbers) ≡ list_any (has_part l.part) l.numbers

@@ -1,0 +1,22 @@
+use Rattle.std.proofs.Common.{FitsSigned, rules}
+use Rattle.std.specs.Int.{w128}
+use Rattle.std.proofs.lemmas.Int.{to_z-of_z}
+use Rattle.opgen_kinds.specs.Single.{single_meaning}
+use Rattle.opgen_kinds.proofs.of_kind.Single.{single_lawful}
+use Rattle.opgen_kinds.proofs.Accepted.{accepted_ranges, accepted_shift}
+use Rattle.opgen_kinds.proofs.single.Single.judge.Goals as goal
+
+pub root_is_good-requires-clause-single : goal.root_is_good-requires-clause-single
+root_is_good-requires-clause-single c = accepted_ranges (single_meaning c.args.self.now) c.requires.accepted
+
+pub root_is_good-requires-clause-low : goal.root_is_good-requires-clause-low
+root_is_good-requires-clause-low c = (accepted_shift (single_meaning c.args.self.now) (single_lawful c.args.self.now) c.requires.accepted).0
+
+pub root_is_good-requires-clause-high : goal.root_is_good-requires-clause-high
+root_is_good-requires-clause-high c = (accepted_shift (single_meaning c.args.self.now) (single_lawful c.args.self.now) c.requires.accepted).1
+
+pub returns : goal.returns
+returns c =
+    let fits_x : FitsSigned w128 c.recent-x.result = search rules in
+    let good = rw c.recent-x.ensures.value at simp to_z-of_z at c.root_is_good.ensures in
+    record { in_range = λ _. good; out_of_range = λ out. absurd (out tt) }

@@ -1,0 +1,7 @@
+use Rattle.opgen_kinds.specs.Sum.{fir_meaning}
+use Rattle.opgen_kinds.proofs.of_kind.Sum.{fir_lawful}
+use Rattle.opgen_kinds.proofs.Accepted.{accepted_room}
+use Rattle.opgen_kinds.proofs.sum.Sum.value.Goals as goal
+
+pub exact_sum-requires-clause-room : goal.exact_sum-requires-clause-room
+exact_sum-requires-clause-room c = accepted_room (fir_meaning c.args.self.now) (fir_lawful c.args.self.now) c.requires.accepted

@@ -1,0 +1,15 @@
+-- Definitions of opgen_kinds: what each kind of operator means, in a file for each type of its fields; which operators are accepted.
+pub mod Kinds
+pub mod Meaning
+pub mod Versions
+pub mod Judged
+pub mod Accepted
+pub mod Sum
+pub mod Product
+pub mod Pair
+pub mod Single
+pub mod Several
+pub mod SmallDiv
+pub mod Horner
+pub mod Poly
+pub mod Taps

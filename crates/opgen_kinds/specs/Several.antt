@@ -1,0 +1,81 @@
+-- One input times several constants.
+use Rattle.std.specs.Fmt.{decimal}
+use Rattle.std.specs.Prelude.{ℕ, ◌≡◌, ◌≤◌, Bool, IsTrue, All, Some, None, ◌+◌, ℤ, pos, length, List, [], ◌∷◌, ◌*ℤ◌, map, true, slice_get, codes, ◌++◌}
+use Rattle.opgen_num.specs.declared.format.Format.{Format}
+use Rattle.opgen_num.specs.declared.format.Ratio.{Ratio}
+use Rattle.opgen_kinds.specs.declared.several.Several.{Several}
+use Rattle.opgen_kinds.specs.declared.kind.Kind.TheVariants as kind_of
+use Rattle.opgen_ports.specs.declared.ports.PortFormat.{PortFormat}
+use Rattle.opgen_kinds.specs.Accepted.{IsAcceptable}
+use Rattle.opgen_ports.specs.Good.{IsGoodRatio}
+use Rattle.opgen_ports.specs.In128.{IsRatioIn128}
+use Rattle.opgen_kinds.specs.Meaning.{Meaning}
+use Rattle.opgen_kinds.specs.Versions.{AreNear}
+use Rattle.opgen_ports.specs.Ports.{port, covering, one_input}
+use Rattle.opgen_ports.specs.Ranges.{IsInput, IsWithin}
+use Rattle.opgen_ports.specs.Reaches.{reach_over}
+use Rattle.opgen_ports.specs.Spans.{IsOf}
+
+-- what the search for the fewest adders takes
+pub record IsSearchedFor (m : Several) : Type 0 where
+  pub constants : All (IsWithin 2047) m.constants
+  pub extra : m.extra ≤ 2
+
+pub record IsSeveral (m : Several) : Type 0 where
+  pub input : IsInput m.input
+  pub some : 1 ≤ length m.constants
+  pub few : length m.constants ≤ 8
+  pub constants : All (IsWithin 1048575) m.constants
+  pub searched : IsTrue m.searched → IsSearchedFor m
+
+-- of an input times a constant
+abbrev pub constant_format : Format → ℤ → Format
+constant_format input t = covering (reach_over input (t ∷ [])) input.lsb
+
+-- y0, y1 and so on, from a number on
+abbrev pub numbered : ℕ → List Format → List PortFormat
+numbered n [] = []
+numbered n (f ∷ fs) = port (codes "y" ++ decimal n) f ∷ numbered (n + 1) fs
+
+abbrev pub multiple_ports : Several → List PortFormat
+multiple_ports m = numbered 0 (map (constant_format m.input) m.constants)
+
+-- of an input times a constant
+abbrev pub exact_multiple : (constant x : ℤ) → Ratio
+exact_multiple constant x = record { num = x *ℤ constant; den = pos 1 }
+
+-- output k is good for constant k
+abbrev pub AreGoodMultiples : (exact : Bool) (constants : List ℤ) (x : ℤ) (outputs : ℕ → ℤ) → Type 0
+AreGoodMultiples exact constants x outputs =
+    (k : ℕ) (t : ℤ) → slice_get constants k ≡ Some t → IsGoodRatio exact (exact_multiple t x) (outputs k)
+
+-- the format of an output holds every multiple
+abbrev pub MultiplesHold : Several → Type 0
+MultiplesHold m = (constant x : ℤ) → IsOf m.input x → IsOf (constant_format m.input constant) (x *ℤ constant)
+
+-- what several multiples mean
+abbrev pub several_meaning : Several → Meaning
+several_meaning m = record {
+  kind = kind_of.Mcm;
+  -- no version has graphs of a fixed rule yet
+  IsIn = λ version. AreNear version (m.input.lsb ∷ []) × IsTrue m.searched;
+  IsRanged = IsSeveral m;
+  inputs = one_input m.input;
+  outputs = multiple_ports m;
+  divisor = None;
+  shift = pos 0;
+  least_shift = pos 0;
+  most_shift = λ version. pos 0;
+  inexact = None;
+  need = None;
+  HasRoom = Unit {0};
+  own_mark = None;
+  IsExactIn128 = λ inputs. All (λ t. IsRatioIn128 (exact_multiple t (inputs 0 0))) m.constants;
+  value = None;
+  IsGood = λ exact inputs outputs. AreGoodMultiples exact m.constants (inputs 0 0) outputs;
+  FormatsHold = MultiplesHold m;
+  has_graph = true;
+}
+
+abbrev pub IsAcceptedSeveral : Several → Type 0
+IsAcceptedSeveral m = IsAcceptable (several_meaning m)

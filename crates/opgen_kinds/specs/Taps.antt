@@ -1,0 +1,73 @@
+-- Filters of whole coefficients in transposed form.
+use Rattle.std.specs.Prelude.{◌≡◌, ◌≢◌, ◌≤◌, ◌<◌, ◌+◌, All, None, Some, false, true, neg_ℤ, pos, length, [], ◌∷◌, codes, IsTrue}
+use Rattle.opgen_num.specs.declared.format.Format.{Format}
+use Rattle.opgen_num.specs.declared.format.Ratio.{Ratio}
+use Rattle.opgen_kinds.specs.declared.sum.Sum.{Sum}
+use Rattle.opgen_kinds.specs.declared.taps.Taps.{Taps}
+use Rattle.opgen_kinds.specs.declared.kind.Kind.TheVariants as kind_of
+use Rattle.opgen_kinds.specs.Accepted.{IsAcceptable}
+use Rattle.opgen_kinds.specs.Sum.{sum_shift, sum_format, exact_sum, first_inexact, SumsHold}
+use Rattle.opgen_kinds.specs.Versions.{AreNear}
+use Rattle.opgen_ports.specs.Good.{IsGoodRatio}
+use Rattle.opgen_ports.specs.In128.{IsRatioIn128}
+use Rattle.opgen_kinds.specs.Meaning.{Meaning}
+use Rattle.opgen_ports.specs.OddParts.{odd_part_count}
+use Rattle.opgen_ports.specs.Ports.{port, one_input}
+use Rattle.opgen_ports.specs.Ranges.{IsPower, IsInput, IsWithin}
+use Rattle.opgen_ports.specs.Recent.{Recent}
+
+-- what the search for the fewest adders takes
+pub record AreSearchedFor (f : Taps) : Type 0 where
+  pub few : length f.taps ≤ 32
+  pub taps : All (IsWithin 2047) f.taps
+  pub parts : odd_part_count f.taps ≤ 8
+  pub extra : f.extra ≤ 2
+
+pub record IsTaps (f : Taps) : Type 0 where
+  pub input : IsInput f.input
+  pub out_lsb : IsPower f.out_lsb
+  pub some : 1 ≤ length f.taps
+  pub few : length f.taps ≤ 256
+  pub taps : All (IsWithin 1048575) f.taps
+  pub searched : IsTrue f.searched → AreSearchedFor f
+
+-- the direct form: the same sum of the last inputs, over 1
+abbrev pub direct : Taps → Sum
+direct f = record { input = f.input; out_lsb = f.out_lsb; coefs = f.taps; den = pos 1; exact = false; counters = false }
+
+abbrev pub taps_format : Taps → Format
+taps_format f = sum_format (direct f)
+
+abbrev pub exact_taps : Taps → Recent → Ratio
+exact_taps f x = exact_sum (direct f) x
+
+-- what whole taps mean: the transposed form has the exact values and the format of the direct one
+abbrev pub taps_meaning : Taps → Meaning
+taps_meaning f = record {
+  kind = kind_of.Tfir;
+  -- no version has graphs of a fixed rule yet
+  IsIn = λ version. (version ≢ 1) × AreNear version (f.input.lsb ∷ []) × (version < 3 → f.out_lsb ≡ f.input.lsb) × IsTrue f.searched;
+  IsRanged = IsTaps f;
+  inputs = one_input f.input;
+  outputs = port (codes "y") (taps_format f) ∷ [];
+  divisor = None;
+  shift = sum_shift (direct f);
+  least_shift = neg_ℤ (pos 48);
+  most_shift = λ version. pos 0;
+  inexact = first_inexact (direct f);
+  need = None;
+  HasRoom = Unit {0};
+  own_mark = None;
+  IsExactIn128 = λ inputs. IsRatioIn128 (exact_taps f (inputs 0));
+  value = Some (λ inputs. exact_taps f (inputs 0));
+  IsGood = λ exact inputs outputs. IsGoodRatio exact (exact_taps f (inputs 0)) (outputs 0);
+  FormatsHold = SumsHold (direct f);
+  has_graph = true;
+}
+
+abbrev pub IsAcceptedTaps : Taps → Type 0
+IsAcceptedTaps f = IsAcceptable (taps_meaning f)
+
+-- The output of an accepted filter has 29 bits more than the input at most: 20 of a tap, 8 of their number and a sign; so 77 with an input of 48.
+abbrev pub TapsHaveRoom : Type 0
+TapsHaveRoom = (f : Taps) → IsAcceptedTaps f → (taps_format f).width ≤ f.input.width + 29

@@ -1,0 +1,43 @@
+-- The ports of a specification, and when its outputs are good: those of its operator, or one whose width it chooses.
+use Rattle.std.specs.Option.{unwrap_or}
+use Rattle.std.specs.Prelude.{ℕ, Bool, Option, Some, None, ℤ, List, map}
+use Rattle.opgen_num.specs.declared.format.Format.{Format}
+use Rattle.opgen_num.specs.declared.format.Ratio.{Ratio}
+use Rattle.opgen_operator.specs.declared.spec.Spec.{Spec}
+use Rattle.opgen_operator.specs.Operator.{operator_inputs, operator_outputs, IsInRangeOf, IsGoodOf, exact_value}
+use Rattle.opgen_ports.specs.declared.ports.PortFormat.{PortFormat}
+use Rattle.opgen_ports.specs.PortNumbers.{format_at}
+use Rattle.opgen_ports.specs.Ports.{port}
+use Rattle.opgen_ports.specs.Recent.{Recent}
+use Rattle.opgen_ports.specs.Saturated.{IsGoodSaturated}
+
+abbrev pub inputs_of : Spec → List PortFormat
+inputs_of spec = operator_inputs spec.op
+
+-- a format of so many bits, with a sign or that of the format before; its last place stays
+abbrev pub chosen : (width : ℕ) (sign : Option Bool) → Format → Format
+chosen width sign f = record { signed = unwrap_or sign f.signed; width = width; lsb = f.lsb }
+
+abbrev pub chosen_ports : (width : Option ℕ) (sign : Option Bool) → List PortFormat → List PortFormat
+chosen_ports None sign ports = ports
+chosen_ports (Some width) sign ports = map (λ p. port p.name (chosen width sign p.format)) ports
+
+abbrev pub outputs_of : Spec → List PortFormat
+outputs_of spec = chosen_ports spec.out_width spec.out_signed (operator_outputs spec.op)
+
+-- y is good for a value that is first brought into the range of a format (saturation)
+abbrev pub IsGoodCut : (exact : Bool) → Format → Option Ratio → (y : ℤ) → Type 0
+IsGoodCut exact to (Some value) y = IsGoodSaturated exact to value.num value.den y
+IsGoodCut exact to None y = ⊥
+
+-- the outputs are good as those of the operator, or as one whose width is chosen
+abbrev pub IsGoodBy : (width : Option ℕ) → Spec → (inputs : (port : ℕ) → Recent) (outputs : (port : ℕ) → ℤ) → Type 0
+IsGoodBy None spec inputs outputs = IsGoodOf spec.exact spec.op inputs outputs
+IsGoodBy (Some width) spec inputs outputs =
+    IsGoodCut spec.exact (format_at (outputs_of spec) 0) (exact_value spec.op inputs) (outputs 0)
+
+abbrev pub IsGood : Spec → (inputs : (port : ℕ) → Recent) (outputs : (port : ℕ) → ℤ) → Type 0
+IsGood spec inputs outputs = IsGoodBy spec.out_width spec inputs outputs
+
+abbrev pub IsInRange : Spec → (inputs : (port : ℕ) → Recent) → Type 0
+IsInRange spec inputs = IsInRangeOf spec.op inputs
