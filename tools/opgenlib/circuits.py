@@ -1,12 +1,12 @@
 """Circuits that the program generates in a folder of their own, as Verilog."""
 import subprocess
 import tempfile
-from dataclasses import dataclass
+from dataclasses import dataclass, replace
 from pathlib import Path
 from typing import Any
 
 from . import verilog, vhdl
-from .report import Report, read_report
+from .report import Port, Report, read_report
 from .writing import document
 
 
@@ -20,6 +20,36 @@ class Circuit:
 
     facts: Report
     text: str
+
+
+def vector(port: Port) -> str:
+    return f"[{port.width - 1}:0]"
+
+
+def waiting(name: str, width: int, cycles: int) -> tuple[list[str], str]:
+    """The registers that hold a word for some cycles, and the name of the word behind them."""
+    lines = [f"  reg [{width - 1}:0] {name}_{at} = 0;" for at in range(1, cycles + 1)]
+    before = [name, *(f"{name}_{at}" for at in range(1, cycles))]
+    lines += [f"  always @(posedge clk) {name}_{at} <= {source};" for at, source in enumerate(before, 1) if cycles]
+    return lines, f"{name}_{cycles}" if cycles else name
+
+
+def joined(first: Circuit, second: Circuit) -> Circuit:
+    """Two circuits of the same name and inputs as one, with outputs `y` and `z`: the earlier one waits for the later."""
+    name, inputs, latency = first.facts.name, first.facts.inputs, max(first.facts.latency, second.facts.latency)
+    outputs = [replace(one.facts.outputs[0], name=letter) for one, letter in ((first, "y"), (second, "z"))]
+    sides = [f"input {vector(port)} {port.name}" for port in inputs] + [f"output {vector(port)} {port.name}" for port in outputs]
+    lines = [f"module {name}(input clk, {', '.join(sides)});"]
+    text = ""
+    for circuit, output in zip((first, second), outputs):
+        own = f"{name}_{output.name}"
+        text += circuit.text.replace(f"module \\{name} (", f"module {own}(")
+        places = ", ".join(f".{port.name}({port.name})" for port in inputs)
+        held, last = waiting(f"{output.name}_0", output.width, latency - circuit.facts.latency)
+        lines += [f"  wire {vector(output)} {output.name}_0;", f"  {own} circuit_{output.name}(.clk(clk), {places}, .y({output.name}_0));"]
+        lines += [*held, f"  assign {output.name} = {last};"]
+    facts = replace(first.facts, ports=(*inputs, *outputs), latency=latency)
+    return Circuit(facts, text + "\n".join([*lines, "endmodule"]) + "\n")
 
 
 def refusal(done: subprocess.CompletedProcess) -> str:

@@ -1,10 +1,15 @@
 """Rows of inputs: at the ends of ranges and around them, and drawn as docs/COMMANDS.md says."""
 import itertools
-from collections.abc import Iterator
+import math
+from collections.abc import Iterator, Sequence
 
 from .operators import Numbers, Operator
 from .report import Port
 from .rows import unit_count
+
+
+# Up to so many combinations of ends of all inputs are taken, and of more the pairs.
+MOST_COMBINATIONS = 20_000
 
 
 def is_divisor(operator: Operator, port: Port) -> bool:
@@ -29,9 +34,20 @@ def sequences(operator: Operator) -> Iterator[Numbers]:
     yield from [(0,)] * len(taps)
 
 
+def pairs_of(ends: Sequence[Sequence[int]]) -> Iterator[Numbers]:
+    """For each two inputs all pairs of their ends, the other inputs at their least and at their greatest numbers."""
+    for rest in ([one[0] for one in ends], [one[-1] for one in ends]):
+        for left, right in itertools.combinations(range(len(ends)), 2):
+            for pair in itertools.product(ends[left], ends[right]):
+                row = list(rest)
+                row[left], row[right] = pair
+                yield tuple(row)
+
+
 def end_rows(operator: Operator) -> Iterator[Numbers]:
     """The rows at the ends of ranges, all pairs of them, and for a filter those at the ends of its sum."""
-    yield from itertools.product(*(ends_of(operator, port) for port in operator.inputs))
+    ends = [ends_of(operator, port) for port in operator.inputs]
+    yield from itertools.product(*ends) if math.prod(map(len, ends)) <= MOST_COMBINATIONS else pairs_of(ends)
     if operator.memory > 1:
         yield from sequences(operator)
 

@@ -5,6 +5,7 @@ from fractions import Fraction
 from operator import mul
 
 from .report import Port
+from .terms import Term, input_ports, terms_of
 
 # The inputs of each cycle so far, in units of their last places, and a cycle: the exact values of the outputs in that cycle in
 # units of theirs, none where nothing is claimed.
@@ -74,6 +75,19 @@ def root(spec: dict) -> Exact:
     return exact
 
 
+def sum_of_terms(terms: Sequence[Term], inputs: Sequence[Port]) -> Exact:
+    """The sum over the terms of a cycle's inputs, each multiplied by its factor."""
+    places = {port.name: at for at, port in enumerate(inputs)}
+    over = math.lcm(*(term.factor.denominator for term in terms))
+    parts = [(int(term.factor * over), [places[port.name] for port in term.inputs]) for term in terms]
+
+    def exact(inputs: Sequence[Sequence[int]], cycle: int) -> list[Fraction]:
+        row = inputs[cycle]
+        return [Fraction(sum(number * math.prod(row[at] for at in factors) for number, factors in parts), over)]
+
+    return exact
+
+
 def exact_of(spec: dict) -> Exact:
     """The exact values of a kind."""
     match spec["kind"]:
@@ -92,6 +106,8 @@ def exact_of(spec: dict) -> Exact:
             return root(spec)
         case "poly":
             return polynomial(spec)
+        case "sop":
+            return sum_of_terms(terms_of(spec), input_ports(spec))
     raise KeyError(spec["kind"])
 
 

@@ -11,6 +11,7 @@ from . import schema
 from .exact import Exact, coefficients_of, exact_values
 from .report import Port
 from .specification import is_always_exact, shift_of
+from .terms import input_ports, range_of, terms_of
 
 Numbers = tuple[int, ...]
 # A row: the numbers of the inputs and of the outputs, in units of their last places.
@@ -25,7 +26,7 @@ def holding(name: str, least: Fraction | int, greatest: Fraction | int, lsb: int
     """The narrowest output that holds these values, in units of its last place, rounded to the side away from 0."""
     low, high = math.floor(least), math.ceil(greatest)
     if low < 0:
-        return Port(name, False, True, max(2, (~low).bit_length() + 1, high.bit_length() + 1), lsb)
+        return Port(name, False, True, max(2, (~low).bit_length() + 1, max(high, 0).bit_length() + 1), lsb)
     return Port(name, False, False, max(1, high.bit_length()), lsb)
 
 
@@ -36,6 +37,8 @@ def half_up(value: Fraction) -> int:
 def inputs_of(spec: dict[str, Any]) -> list[Port]:
     """The inputs of a specification."""
     kind, is_signed = spec["kind"], spec.get("signed", False)
+    if kind == "sop":
+        return input_ports(spec)
     if kind in ("multiply", "divide"):
         return [Port(name, True, is_signed, spec[f"width_{name}"], spec[f"lsb_{name}"]) for name in "ab"]
     return [Port("x", True, is_signed, spec["width"], -spec["width"] if kind == "poly" else spec["lsb"])]
@@ -78,6 +81,8 @@ def widest_outputs(spec: dict[str, Any], ins: list[Port]) -> list[Port]:
             outs = [("q", x.width, x.lsb), ("r", (spec["divisor"] - 1).bit_length(), x.lsb)]
         case "poly":
             return [holding("y", *polynomial_range(spec), out_lsb)]
+        case "sop":
+            return [holding("y", *range_of(terms_of(spec)), out_lsb)]
     return [Port(name, False, x.is_signed, width, lsb) for name, width, lsb in outs[: 2 if spec["exact"] else 1]]
 
 
@@ -94,7 +99,16 @@ def ports_of(spec: dict[str, Any]) -> list[Port]:
     if fault := schema.first_fault(spec | {"target": schema.SCHEMA["properties"]["target"]["enum"][0]}):
         raise NoOperator(f"the specification is refused: {fault}")
     ins = inputs_of(spec)
+    if spec["kind"] == "sop" and (name := unknown_input(spec)):
+        raise NoOperator(f"the specification is refused: no input is called {name}")
     return ins + outputs_of(spec, ins)
+
+
+def unknown_input(spec: dict[str, Any]) -> str:
+    """A name in a term of a sum of products that no input has, or an empty text."""
+    known = {port.name for port in inputs_of(spec)}
+    named = [one["input"] for one in spec.get("scaled", [])] + [one[key] for one in spec.get("product", []) for key in "ab"]
+    return next((name for name in named if name not in known), "")
 
 
 @dataclass(frozen=True)

@@ -12,6 +12,8 @@ from typing import Any
 TOP = Path(__file__).resolve().parent.parent.parent
 SCHEMA = json.loads((TOP / "docs/opgen.schema.json").read_text(encoding="utf-8"))
 LINE = SCHEMA["$defs"]["line"]
+# The arrays of tables of a document, in the order in which their faults are judged, and what a table of each may have.
+TABLES = {name: SCHEMA["$defs"][name] for name in ("input", "scaled", "product")} | {"delay": LINE}
 KNOWN = "type const enum minimum maximum minItems maxItems maxLength pattern anyOf not if".split()
 
 
@@ -130,6 +132,11 @@ def keys_of(document: dict) -> list[str]:
     return keys
 
 
+def is_needed(key: str, document: dict) -> bool:
+    """Whether a document of its kind and version needs a key."""
+    return any(key in part.get("required", []) for part in holding(document))
+
+
 def versions() -> list[int]:
     return SCHEMA["properties"]["version"]["enum"]
 
@@ -139,25 +146,44 @@ def kinds_with(key: str) -> list[str]:
     return [kind for kind in kinds() if key in keys_of({"kind": kind, "version": versions()[-1]})]
 
 
+def narrowed(rules: dict, more: dict) -> dict:
+    """Two rules of one value: the least and the most are the narrower ones of a number, a length and an array's elements."""
+    both = dict(rules)
+    for word, rule in resolved(more).items():
+        if word in ("maximum", "maxItems", "maxLength"):
+            both[word] = min(rule, both.get(word, rule))
+        elif word in ("minimum", "minItems"):
+            both[word] = max(rule, both.get(word, rule))
+        elif word == "enum":
+            both[word] = [one for one in both.get(word, rule) if one in rule]
+        elif word == "items":
+            both[word] = narrowed(resolved(both.get(word, rule)), rule)
+        else:
+            both.setdefault(word, rule)
+    return both
+
+
 def rules_of(key: str, document: dict) -> dict:
-    """What the schema says of a key's value in a document: the least and the most are the narrowest that hold."""
+    """What the schema says of a key's value in a document: the narrowest rules that hold."""
     rules: dict = {}
     for part in holding(document):
-        for word, rule in resolved(part.get("properties", {}).get(key, {})).items():
-            if word in ("maximum", "maxItems", "maxLength"):
-                rules[word] = min(rule, rules.get(word, rule))
-            elif word in ("minimum", "minItems"):
-                rules[word] = max(rule, rules.get(word, rule))
-            elif word == "enum":
-                rules[word] = [one for one in rules.get(word, rule) if one in rule]
-            else:
-                rules.setdefault(word, rule)
+        rules = narrowed(rules, part.get("properties", {}).get(key, {}))
     return rules
 
 
-def line_rules_of(key: str) -> dict:
-    """What the schema says of a key of a delay line."""
-    return resolved(LINE["properties"].get(key, {}))
+def array_with(key: str) -> str:
+    """The array whose tables have a key."""
+    return next(array for array, table in TABLES.items() if key in table["properties"])
+
+
+def line_rules_of(key: str, held: dict) -> dict:
+    """What the schema says of a key of a table of an array, the narrowest rules that hold beside its other values."""
+    table = TABLES[array_with(key)]
+    rules = resolved(table["properties"][key])
+    for part in table.get("allOf", []):
+        if not any(faults(held, part["if"])):
+            rules = narrowed(rules, part["then"].get("properties", {}).get(key, {}))
+    return rules
 
 
 def bounds(rules: dict) -> str:

@@ -8,7 +8,7 @@ from opgenlib.drawings.block import block
 from opgenlib.drawings.chain import chain
 from opgenlib.drawings.error import error, exact_text
 from opgenlib.drawings.example import Example, NotDrawn, cycles
-from opgenlib.drawings.graph import graph
+from opgenlib.drawings.graph import adders_of, picture_of, words_of
 from opgenlib.drawings.heap import heap
 from opgenlib.drawings.profile import profile
 from opgenlib.drawings.schedule import Schedule
@@ -57,6 +57,7 @@ KINDS = {
     "poly": "a polynomial",
     "mcm": "a number times several constants",
     "constdiv": "a number divided by a constant",
+    "sop": "a sum of products of several inputs",
 }
 CLASSES = {
     "wire": "concatenation and slices",
@@ -193,13 +194,14 @@ def structures(sheet: Sheet) -> Iterator[str]:
     match sheet.spec["kind"]:
         case "multiply" if sheet.spec["width_a"] + sheet.spec["width_b"] <= MOST_DOTS:
             yield figure(heap(sheet.example), "The heap: a dot is the product of two bits; compression leaves two rows, which one sum adds.")
+        case "sop":
+            yield figure(heap(sheet.example), "The heap, each term in its colour, before compression leaves two rows, which one sum adds.")
         case "scale" | "fir" | "poly" | "multiply":
             words = "The heap: how many bits each column has, before compression leaves two rows, which one sum adds."
             yield figure(profile(sheet.example), words)
         case "mcm" | "tfir":
-            words = "The adders: an arrow has the sign and the shift with which a number goes into a sum."
-            delays = " A dashed box holds the sum for so many cycles." if sheet.spec["kind"] == "tfir" else ""
-            yield figure(graph(sheet.example), words + delays)
+            adders = adders_of(sheet.example)
+            yield figure(picture_of(adders), words_of(adders))
         case "constdiv":
             yield figure(chain(sheet.example), "The tables: each divides a remainder and a digit of x. The numbers are those of the first row.")
         case "divide" | "root":

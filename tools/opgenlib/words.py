@@ -1,6 +1,10 @@
 """What an operator computes, in which formats and when, in words: by its specification and its report."""
 from .report import Port, Report
 from .specification import is_always_exact
+from .terms import formula_of, terms_of
+
+# The most terms of a sum of products that a formula shows.
+MOST_TERMS = 8
 
 
 def format_power(exponent: int) -> str:
@@ -54,6 +58,8 @@ def value_formula(spec: dict) -> str:
             return "y is the square root of x" + (", rounded down, and r = x - y y" if spec["exact"] else "")
         case "mcm":
             return ", ".join(f"y{at} = {constant} x" for at, constant in enumerate(spec["constants"]))
+        case "sop":
+            return f"y = {formula_of(terms_of(spec), MOST_TERMS)}"
     return f"the kind {spec['kind']}, by the specification below"
 
 

@@ -1,22 +1,23 @@
 """The wrapper of an operator in Verilog, its constants, and its test bench: Verilog-2001, but for `$fatal` in the bench."""
 from collections.abc import Iterator
 
+from .inner import VERILOG_WORDS, free, names_for, words_for, words_of
 from .report import Port, Report
 
 WRAP = """{head}
 module {name}_wrap (
 {ports}
 );
-  \\{name} circuit ({actuals});
+  \\{name} {label} ({actuals});
 {valid}endmodule
 """
 
 VALID = """  // One register for each cycle of the latency, beside the data: rst resets these alone.
-  reg [{top}:0] valid = {latency}'d0;
-  assign valid_out = valid[{top}];
+  reg [{top}:0] {valid} = {latency}'d0;
+  assign valid_out = {valid}[{top}];
   always @(posedge clk)
-    if (rst) valid <= {latency}'d0;
-    else{ce} valid <= {moved};
+    if (rst) {valid} <= {latency}'d0;
+    else{ce} {valid} <= {moved};
 """
 NO_VALID = """  assign valid_out = valid_in;
   wire unused_rst = rst;
@@ -95,6 +96,11 @@ RESET = """    rst = 1'b1;
 """
 
 
+def spelled(name: str) -> str:
+    """The name of a port, escaped where it is a word of Verilog."""
+    return f"\\{name} " if name in VERILOG_WORDS else name
+
+
 def vector(port: Port) -> str:
     """The type of a port."""
     return f"{'signed ' if port.is_signed else ''}[{port.width - 1}:0]"
@@ -116,17 +122,17 @@ def ports_of(facts: Report, has_enable: bool, has_valid: bool) -> Iterator[str]:
     yield "input wire clk"
     yield from ["input wire ce"] if has_enable else []
     yield from ["input wire rst", "input wire valid_in"] if has_valid else []
-    yield from (f"{'input' if port.is_input else 'output'} wire {vector(port)} {port.name}" for port in facts.ports)
+    yield from (f"{'input' if port.is_input else 'output'} wire {vector(port)} {spelled(port.name)}" for port in facts.ports)
     yield from ["output wire valid_out"] if has_valid else []
 
 
-def valid_text(facts: Report, has_enable: bool) -> str:
+def valid_text(facts: Report, has_enable: bool, valid: str) -> str:
     """The registers of the valid bit."""
     if facts.latency == 0:
         return NO_VALID
     top = facts.latency - 1
-    moved = f"{{valid[{top - 1}:0], valid_in}}" if top else "valid_in"
-    return VALID.format(top=top, latency=facts.latency, moved=moved, ce=" if (ce)" if has_enable else "")
+    moved = f"{{{valid}[{top - 1}:0], valid_in}}" if top else "valid_in"
+    return VALID.format(top=top, latency=facts.latency, valid=valid, moved=moved, ce=" if (ce)" if has_enable else "")
 
 
 def names_of(facts: Report, has_enable: bool, has_valid: bool) -> list[str]:
@@ -134,35 +140,39 @@ def names_of(facts: Report, has_enable: bool, has_valid: bool) -> list[str]:
     return ["clk", *(["ce"] if has_enable else []), *valid, *(port.name for port in facts.ports)]
 
 
-def actuals(names: list[str]) -> str:
-    return ", ".join(f".{name}({name})" for name in names)
+def actuals(names: list[str], sides: dict[str, str]) -> str:
+    """The connections of ports: to the signals of these names, or to those of their own."""
+    return ", ".join(f".{spelled(name)}({sides.get(name, spelled(name))})" for name in names)
 
 
 def wrap_text(facts: Report, has_enable: bool, has_valid: bool, head: str) -> str:
     """The wrapper."""
+    taken = {"clk", "ce", "rst", "valid_in", "valid_out", *(port.name for port in facts.ports)}
     return WRAP.format(
         head=head,
         name=facts.name,
         ports=",\n".join(f"  {port}" for port in ports_of(facts, has_enable, has_valid)),
-        actuals=actuals(names_of(facts, has_enable, False)),
-        valid=valid_text(facts, has_enable) if has_valid else "",
+        label=free("circuit", taken),
+        actuals=actuals(names_of(facts, has_enable, False), {}),
+        valid=valid_text(facts, has_enable, free("valid", taken)) if has_valid else "",
     )
 
 
-def signals_of(facts: Report, has_enable: bool, has_valid: bool) -> Iterator[str]:
+def signals_of(facts: Report, has_enable: bool, has_valid: bool, sides: dict[str, str], words: dict[str, str]) -> Iterator[str]:
     yield from ["reg ce = 1'b1;"] if has_enable else []
     yield from ["reg rst = 1'b0, valid_in = 1'b0;", "wire valid_out;"] if has_valid else []
     for port in facts.ports:
         kind, initial = ("reg", " = 0") if port.is_input else ("wire", "")
-        yield f"{kind} {vector(port)} {port.name}{initial};"
-        yield f"reg [{port.width - 1}:0] {port.name}_word;"
+        yield f"{kind} {vector(port)} {sides[port.name]}{initial};"
+        yield f"reg [{port.width - 1}:0] {words[port.name]};"
 
 
-def compares_of(facts: Report, has_valid: bool) -> Iterator[str]:
+def compares_of(facts: Report, has_valid: bool, sides: dict[str, str], words: dict[str, str]) -> Iterator[str]:
     for port in facts.outputs:
-        yield f"      if (cycle >= FIRST && {port.name} !== {port.name}_word) begin"
+        found, wanted = sides[port.name], words[port.name]
+        yield f"      if (cycle >= FIRST && {found} !== {wanted}) begin"
         yield "        fault;"
-        yield f'        $display("  {port.name} is %h in place of %h", {port.name}, {port.name}_word);'
+        yield f'        $display("  {port.name} is %h in place of %h", {found}, {wanted});'
         yield "      end"
     if has_valid:
         late = f"cycle >= {facts.latency} && (cycle - {facts.latency})" if facts.latency else "cycle"
@@ -174,21 +184,25 @@ def compares_of(facts: Report, has_valid: bool) -> Iterator[str]:
 
 def bench_text(facts: Report, has_enable: bool, has_valid: bool) -> str:
     """The test bench."""
-    sets = [f"      {port.name} = {port.name}_word;" for port in facts.inputs]
+    taken = VERILOG_WORDS | words_of("".join((BENCH, PAUSES, RESET)), "//") | {"ce", "rst", "valid_in", "valid_out"}
+    ports = [port.name for port in facts.ports]
+    inner = names_for(ports, taken), words_for(ports, taken)
+    sides, words = inner
+    sets = [f"      {sides[port.name]} = {words[port.name]};" for port in facts.inputs]
     sets += ["      valid_in = cycle % 4 != 3;"] if has_valid else []
-    inverted = "\n".join(f"        {port.name} = ~{port.name}_word;" for port in facts.inputs)
-    sides = (" ".join(["%h"] * len(side)) for side in (facts.inputs, facts.outputs))
+    inverted = "\n".join(f"        {sides[port.name]} = ~{words[port.name]};" for port in facts.inputs)
+    formats = (" ".join(["%h"] * len(side)) for side in (facts.inputs, facts.outputs))
     return BENCH.format(
         name=facts.name,
         latency=facts.latency,
         half=max(facts.period // 2, 1),
-        signals="\n".join(f"  {line}" for line in signals_of(facts, has_enable, has_valid)),
-        actuals=actuals(names_of(facts, has_enable, has_valid)),
-        format=" : ".join(sides),
-        words=", ".join(f"{port.name}_word" for port in facts.ports),
+        signals="\n".join(f"  {line}" for line in signals_of(facts, has_enable, has_valid, *inner)),
+        actuals=actuals(names_of(facts, has_enable, has_valid), sides),
+        format=" : ".join(formats),
+        words=", ".join(words[port] for port in ports),
         count=len(facts.ports),
         sets="\n".join(sets),
-        compares="\n".join(compares_of(facts, has_valid)),
+        compares="\n".join(compares_of(facts, has_valid, *inner)),
         pauses=PAUSES.format(inverted=inverted) if has_enable else "",
         reset=RESET.format(latency=facts.latency) if has_valid and facts.latency else "",
     )

@@ -1,4 +1,5 @@
 """The wrapper of an operator in VHDL, its package, and its test bench: VHDL-93, which VHDL-2008 takes too."""
+from .inner import free, names_for, words_for, words_of
 from .report import Port, Report
 
 WRAP = """{head}
@@ -41,19 +42,19 @@ end entity;
 architecture rtl of {name}_wrap is
 {signals}
 begin
-  circuit : entity work.{name} port map ({actuals});
+  {label} : entity work.{name} port map ({actuals});
 {assigns}
 {valid}end architecture;
 """
 
 VALID = """
   -- One register for each cycle of the latency, beside the data: rst resets these alone.
-  valid_out <= valid({latency});
+  valid_out <= {valid}({latency});
   process (clk)
   begin
     if rising_edge(clk) then
       if rst = '1' then
-        valid <= (others => '0');
+        {valid} <= (others => '0');
       els{ce}
 {moved}
       end if;
@@ -248,30 +249,32 @@ def constants(facts: Report) -> str:
     return "\n".join(lines)
 
 
-def valid_signals(facts: Report) -> list[str]:
-    return [f"  signal valid : std_logic_vector(1 to {facts.latency}) := (others => '0');"] if facts.latency else []
+def valid_signals(facts: Report, valid: str) -> list[str]:
+    return [f"  signal {valid} : std_logic_vector(1 to {facts.latency}) := (others => '0');"] if facts.latency else []
 
 
-def valid_text(facts: Report, has_enable: bool) -> str:
-    """The registers of the valid bit."""
+def valid_text(facts: Report, has_enable: bool, valid: str) -> str:
+    """The registers of the valid bit, which have this name."""
     if facts.latency == 0:
         return "  valid_out <= valid_in;\n"
-    moved = ["        valid(1) <= valid_in;"]
+    moved = [f"        {valid}(1) <= valid_in;"]
     if facts.latency > 1:
-        moved.append(f"        valid(2 to {facts.latency}) <= valid(1 to {facts.latency - 1});")
-    return VALID.format(latency=facts.latency, ce="if ce = '1' then" if has_enable else "e", moved="\n".join(moved))
+        moved.append(f"        {valid}(2 to {facts.latency}) <= {valid}(1 to {facts.latency - 1});")
+    return VALID.format(latency=facts.latency, valid=valid, ce="if ce = '1' then" if has_enable else "e", moved="\n".join(moved))
 
 
 def wrap_text(facts: Report, has_enable: bool, has_valid: bool, head: str) -> str:
     """The package and the entity."""
-    enable = ["ce"] if has_enable else []
-    signals = [f"  signal {port.name}_word : {type_of(port, True)};" for port in facts.ports]
-    signals += ["  signal ce_word : std_logic_vector(0 downto 0);"] if has_enable else []
-    signals += valid_signals(facts) if has_valid else []
-    assigns = [f"  {port.name}_word <= std_logic_vector({port.name});" for port in facts.inputs]
-    assigns += ["  ce_word(0) <= ce;"] if has_enable else []
-    assigns += [f"  {port.name} <= {port.sign}({port.name}_word);" for port in facts.outputs]
-    actuals = [f"{name} => {name}_word" for name in [*enable, *(port.name for port in facts.ports)]]
+    taken = {"clk", "ce", "rst", "valid_in", "valid_out", *(port.name for port in facts.ports)}
+    words = words_for([port.name for port in facts.ports] + ["ce"], taken)
+    valid = free("valid", taken)
+    signals = [f"  signal {words[port.name]} : {type_of(port, True)};" for port in facts.ports]
+    signals += [f"  signal {words['ce']} : std_logic_vector(0 downto 0);"] if has_enable else []
+    signals += valid_signals(facts, valid) if has_valid else []
+    assigns = [f"  {words[port.name]} <= std_logic_vector({port.name});" for port in facts.inputs]
+    assigns += [f"  {words['ce']}(0) <= ce;"] if has_enable else []
+    assigns += [f"  {port.name} <= {port.sign}({words[port.name]});" for port in facts.outputs]
+    actuals = [f"{name} => {words[name]}" for name in [*(["ce"] if has_enable else []), *(port.name for port in facts.ports)]]
     return WRAP.format(
         head=head,
         of_ce=" in which ce is 1" if has_enable else "",
@@ -283,25 +286,29 @@ def wrap_text(facts: Report, has_enable: bool, has_valid: bool, head: str) -> st
         numbers=port_lines(facts, has_enable, has_valid, False, 6),
         entity_ports=port_lines(facts, has_enable, has_valid, False, 4),
         signals="\n".join(signals),
+        label=free("circuit", taken),
         actuals=", ".join(["clk => clk", *actuals]),
         assigns="\n".join(assigns),
-        valid=valid_text(facts, has_enable) if has_valid else "",
+        valid=valid_text(facts, has_enable, valid) if has_valid else "",
     )
 
 
 def bench_text(facts: Report, has_enable: bool, has_valid: bool) -> str:
     """The test bench."""
+    taken = words_of("".join((BENCH, PAUSES, WANTED, RESET)), "--") | {f"{facts.name}_latency", f"{facts.name}_pkg", "rst", "valid_in", "valid_out"}
+    sides = names_for([port.name for port in facts.ports], taken)
+    words = words_for([port.name for port in facts.ports], taken)
     signals = ["  signal ce : std_logic := '1';"] if has_enable else []
     signals += ["  signal rst, valid_in : std_logic := '0';", "  signal valid_out : std_logic;"] if has_valid else []
     for port in facts.ports:
         initial = " := (others => '0')" if port.is_input else ""
-        signals.append(f"  signal {port.name} : {type_of(port, False)}{initial};")
+        signals.append(f"  signal {sides[port.name]} : {type_of(port, False)}{initial};")
     valid = ["rst", "valid_in", "valid_out"] if has_valid else []
     names = ["clk", *(["ce"] if has_enable else []), *valid, *(port.name for port in facts.ports)]
-    inverted = [f"        {port.name} <= {port.sign}(not {port.name}_word);" for port in facts.inputs]
-    sets = [f"      {port.name} <= {port.sign}({port.name}_word);" for port in facts.inputs]
+    inverted = [f"        {sides[port.name]} <= {port.sign}(not {words[port.name]});" for port in facts.inputs]
+    sets = [f"      {sides[port.name]} <= {port.sign}({words[port.name]});" for port in facts.inputs]
     sets += ["      valid_in <= valid_at(cycle);"] if has_valid else []
-    compares = [f'      compare("{port.name}", std_logic_vector({port.name}), {port.name}_word);' for port in facts.outputs]
+    compares = [f'      compare("{port.name}", std_logic_vector({sides[port.name]}), {words[port.name]});' for port in facts.outputs]
     late = f"valid_at(cycle - {facts.name}_latency)"
     compares += [f'      assert valid_out = {late} report "valid_out in row " & integer\'image(cycle) severity failure;'] if has_valid else []
     return BENCH.format(
@@ -309,9 +316,9 @@ def bench_text(facts: Report, has_enable: bool, has_valid: bool) -> str:
         latency=facts.latency,
         half=max(facts.period // 2, 1),
         signals="\n".join(signals),
-        actuals=", ".join(f"{name} => {name}" for name in names),
-        variables="\n".join(f"    variable {port.name}_word : {type_of(port, True)};" for port in facts.ports),
-        reads="\n".join(f"      read_word(row, {port.name}_word);" for port in facts.ports),
+        actuals=", ".join(f"{name} => {sides.get(name, name)}" for name in names),
+        variables="\n".join(f"    variable {words[port.name]} : {type_of(port, True)};" for port in facts.ports),
+        reads="\n".join(f"      read_word(row, {words[port.name]});" for port in facts.ports),
         sets="\n".join(sets),
         compares="\n".join(compares),
         pauses=PAUSES.format(inverted="\n".join(inverted)) if has_enable else "",

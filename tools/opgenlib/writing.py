@@ -12,12 +12,16 @@ def written(value: Any) -> str:
             return json.dumps(value, ensure_ascii=False)
         case list():
             return "[" + ", ".join(map(written, value)) + "]"
+        case dict():
+            return "{" + ", ".join(f"{key} = {written(one)}" for key, one in value.items()) + "}"
     return str(value)
 
 
 def document(table: dict[str, Any]) -> str:
-    """A specification."""
-    lines = [f"{key} = {written(value)}" for key, value in table.items() if key != "delay"]
-    for line in table.get("delay", []):
-        lines += ["", "[[delay]]", *(f"{key} = {written(value)}" for key, value in line.items())]
+    """A specification, its arrays of tables last."""
+    tables = [key for key, value in table.items() if isinstance(value, list) and value and all(isinstance(one, dict) for one in value)]
+    lines = [f"{key} = {written(value)}" for key, value in table.items() if key not in tables]
+    for key in tables:
+        for line in table[key]:
+            lines += ["", f"[[{key}]]", *(f"{name} = {written(value)}" for name, value in line.items())]
     return "\n".join(lines) + "\n"

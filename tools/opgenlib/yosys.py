@@ -7,8 +7,8 @@ from pathlib import Path
 
 MOST_SECONDS = 1200
 # To tables of six inputs without carry chains; and to the cells of a Xilinx series 7 device, carry chains and no DSP blocks.
-TABLES = "synth -lut 6 -top {top}; tee -o cells stat; tee -o levels ltp -noff"
-CHAINS = "synth_xilinx -family xc7 -nodsp -nosrl -noiopad -noclkbuf -top {top}; tee -o cells stat"
+TABLES = "synth -lut 6 -flatten -top {top}; tee -o cells stat; tee -o levels ltp -noff"
+CHAINS = "synth_xilinx -flatten -family xc7 -nodsp -nosrl -noiopad -noclkbuf -top {top}; tee -o cells stat"
 # To the cells of a Lattice iCE40 device, with carry chains and without memories, each module by itself where there are several.
 ICE40 = "synth_ice40 -nobram -top {top}{more}; "
 # Around what was mapped a module is put as it is.

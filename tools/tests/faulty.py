@@ -83,11 +83,44 @@ lsb = 0
 divisor = 3
 """
 TFIR = MCM.replace("version = 1", "version = 2").replace('"mcm"', '"tfir"').replace("constants", "taps")
+BY_RULE = TFIR.replace("version = 2", "version = 3").replace("extra = 0\n", "")
 CUT = TFIR.replace("version = 2", "version = 3") + "out_lsb = 2\n"
+SOP = """\
+version = 3
+name = "first"
+kind = "sop"
+exact = true
+target = "plain"
+period = 10000
+out_lsb = 0
+
+[[input]]
+name = "a"
+signed = true
+width = 4
+lsb = 0
+
+[[input]]
+name = "b"
+signed = true
+width = 4
+lsb = 0
+
+[[scaled]]
+input = "b"
+coefficient = 3
+
+[[product]]
+a = "a"
+b = "b"
+"""
+SOP_HEAD = SOP.partition("\n\n")[0] + "\n"
+NAMES = "  expected 1 to 32 of small letters, digits and single _, a letter first, and no word of VHDL, rtl, clk, ce or y"
 DELAYS = SCALE + '[[delay]]\nclass = "add"\nbase = 1\nper_bit = 1\n\n[[delay]]\nclass = "logic"\nbase = 1\nper_bit = 1\n'
 KEYS = "version, name, kind, exact, target, period, signed, width, lsb, out_lsb, coefficients, denominator, delay"
 KINDS = ", ".join(schema.rules_of("kind", {"version": 1})["enum"])
 SIGNED = ", ".join(schema.kinds_with("signed"))
+MORE_TAPS = "without a search there may be 1 to 256 taps, each -1048575 to 1048575"
 SUBSET = '(docs/MANUAL.md, "Write VHDL for simulate")'
 VHDL = """\
 library ieee;
@@ -269,7 +302,7 @@ SPECIFICATIONS = [
     generated("version 4", SCALE.replace("version = 1", "version = 4"), "BadVersion 4",
               "first.toml:1:11: version is 4; expected 1, 2 or 3",
               "  1: inputs to 32 bits, signals to 64; 2: inputs to 48 bits, signals to 96, and further kinds; "
-              "3: signed quotients, outputs of a chosen width"),
+              "3: signed quotients, outputs of a chosen width, constants and taps of 20 bits, sums of products"),
     generated("a capital in the name", SCALE.replace('"first"', '"First"'), "BadName",
               'first.toml:2:8: name is "First": it has a capital letter',
               "  expected 1 to 32 of small letters, digits and single _, a letter first, and no word of VHDL or port"),
@@ -291,9 +324,24 @@ SPECIFICATIONS = [
     generated("another compressor", SCALE.replace("version = 1", "version = 2") + 'compressor = "wallace"\n',
               "OutOfRange compressor 7", 'first.toml:12:14: compressor is "wallace"; expected one of dadda, counters'),
     generated("nine odd parts", TFIR.replace("[3]", "[3, 5, 7, 9, 11, 13, 15, 17, 19]"), "OutOfRange taps 9",
-              "first.toml:10:8: taps have 9 different odd parts; expected at most 8"),
+              "first.toml:10:8: taps have 9 different odd parts; expected at most 8",
+              f"  write version = 3 and take extra out: {MORE_TAPS}"),
+    generated("33 taps", TFIR.replace("version = 2", "version = 3").replace("[3]", f"[{', '.join(['3'] * 33)}]"), "OutOfRange taps 33",
+              "first.toml:10:8: found 33 taps; expected 1 to 32 for kind tfir", f"  take extra out: {MORE_TAPS}"),
+    generated("33 taps, one of them too large for all versions", TFIR.replace("[3]", f"[{'3, ' * 32}1048576]"), "OutOfRange taps 33",
+              "first.toml:10:8: found 33 taps; expected 1 to 32 for kind tfir"),
+    generated("257 taps", BY_RULE.replace("[3]", f"[{', '.join(['3'] * 257)}]"), "OutOfRange taps 257",
+              "first.toml:10:8: found 257 taps; expected 1 to 256 for kind tfir"),
+    generated("a tap of 21 bits", BY_RULE.replace("[3]", "[3, 1048575, -1048576]"), "OutOfRange taps -1048576",
+              "first.toml:10:21: element 3 of taps is -1048576; expected -1048575 to 1048575"),
     generated("a large tap", TFIR.replace("[3]", "[3, -2048]"), "OutOfRange taps -2048",
-              "first.toml:10:12: element 2 of taps is -2048; expected -2047 to 2047"),
+              "first.toml:10:12: element 2 of taps is -2048; expected -2047 to 2047",
+              f"  write version = 3 and take extra out: {MORE_TAPS}"),
+    generated("no extra in version 2", TFIR.replace("extra = 0\n", ""), "MissingKey extra",
+              'first.toml: the key "extra" of kind tfir is missing',
+              "  add a line as: extra = 2                # how many further numbers the search may add for fewer adders, 0 to 2; "
+              "in version 3 optional: a fixed rule in place of the search",
+              "  or write version = 3, in which it is optional"),
     generated("a wide input", SCALE.replace("width = 4", "width = 33"), "OutOfRange width 33",
               "first.toml:8:9: width is 33; expected 1 to 32", "  version = 2 takes inputs of up to 48 bits"),
     generated("one signed bit", MULTIPLY.replace("width_b = 4", "width_b = 1"), "OutOfRange width_b 1",
@@ -301,7 +349,12 @@ SPECIFICATIONS = [
     generated("two coefficients of a scale", SCALE.replace("[3]", "[3, 4]"), "OutOfRange coefficients 2",
               "first.toml:11:16: found 2 coefficients; expected 1 for kind scale"),
     generated("a large constant", MCM.replace("[3]", "[3, 2048]"), "OutOfRange constants 2048",
-              "first.toml:10:17: element 2 of constants is 2048; expected -2047 to 2047"),
+              "first.toml:10:17: element 2 of constants is 2048; expected -2047 to 2047",
+              "  write version = 3 and take extra out: without a search there may be 1 to 8 constants, each -1048575 to 1048575"),
+    generated("a large constant beside an extra that is too large", MCM.replace("version = 1", "version = 3").replace("[3]", "[3000]")
+              .replace("extra = 0", "extra = 3"), "OutOfRange constants 3000",
+              "first.toml:10:14: element 1 of constants is 3000; expected -2047 to 2047",
+              "  take extra out: without a search there may be 1 to 8 constants, each -1048575 to 1048575"),
     generated("a large text", FIR.replace("[3]", '["0.01", "99999999"]'), "OutOfRange coefficients 9999999900",
               'first.toml:11:25: element 2 of coefficients is "99999999", 9999999900 over the common denominator; '
               "expected -1073741824 to 1073741824"),
@@ -631,4 +684,64 @@ FILES = [
     failed("long rows", {"my.vhd": VHDL, "h.in": "001\n" * (1 << 24) + "\n"}, "simulate my.vhd h.in h.out", 9, "too long",
            "h.in has 67,108,865 bytes; expected at most 67,108,864; split the rows"),
 ]
-CASES = SPECIFICATIONS + DESIGNS + ROWS + CHECKS + WORDS + FILES
+SUMS = [
+    generated("an unknown key of a table", SOP.replace("coefficient = 3\n", "coefficient = 3\nwide = 1\n"), "UnknownKey 3 2",
+              'first.toml:24:1: unknown key "wide" of table 1 of scaled; its keys are input, coefficient'),
+    generated("an unknown key of a product", SOP + "sign = 1\n", "UnknownKey 4 2",
+              'first.toml:28:1: unknown key "sign" of table 1 of product; its keys are a, b, negative'),
+    generated("an unknown key of a delay line", SOP + '[[delay]]\nclass = "add"\nbase = 1\nper_bits = 1\n', "UnknownKey 5 2",
+              'first.toml:31:1: unknown key "per_bits" of delay line 1; its keys are class, base, per_bit'),
+    generated("a table without a name", SOP.replace('name = "b"\n', ""), "MissingKey name 2",
+              'first.toml:15:1: table 2 of input has no key "name"',
+              '  add it as: name = "a"               # of the port: lower-case letters, digits, single _'),
+    generated("no input", SOP_HEAD, "MissingKey input", 'first.toml: the key "input" of kind sop is missing',
+              "  add a line as: [[input]]"),
+    generated("a width as a text", SOP.replace("width = 4", 'width = "4"', 1), "WrongType width 1",
+              'first.toml:12:9: width of table 1 of input is "4", a text; expected a whole number, 2 to 48, as 4'),
+    generated("an input that is no table", SOP_HEAD + 'input = ["a"]\n', "WrongType input",
+              'first.toml:8:10: element 1 of input is "a", a text; expected an array of tables'),
+    generated("two inputs of one name", SOP.replace('name = "b"', 'name = "a"'), "OutOfRange name 2 2",
+              'first.toml:16:8: name of table 2 of input is "a", as is that of table 1 of input; expected another name'),
+    generated("an input of the operator's name", SOP.replace('name = "b"', 'name = "first"'), "OutOfRange name 2 2",
+              'first.toml:16:8: name of table 2 of input is "first", as is that of the operator; expected another name'),
+    generated("an input of the output's name", SOP.replace('name = "a"', 'name = "y"'), "OutOfRange name 1 1",
+              'first.toml:10:8: name of table 1 of input is "y": a word of VHDL, or rtl, clk, ce or y', NAMES),
+    generated("an input of a signal's name", SOP.replace('name = "a"', 'name = "s1_1"'), "OutOfRange name 1 1",
+              'first.toml:10:8: name of table 1 of input is "s1_1": signals are called s and a number', NAMES),
+    generated("a product with no input", SOP.replace('b = "b"', 'b = "e"'), "OutOfRange b 1 1",
+              'first.toml:27:5: b of table 1 of product is "e", the name of no input; expected one of a, b'),
+    generated("a signed input of one bit", SOP.replace("width = 4", "width = 1", 1), "OutOfRange width 1 1",
+              "first.toml:12:9: width of table 1 of input is 1; expected 2 to 48", "  a signed input has two bits or more"),
+    generated("a large coefficient of a table", SOP.replace("= 3\n\n[[product", "= 2147483648\n\n[[product"), "OutOfRange coefficient 1 2147483648",
+              "first.toml:23:15: coefficient of table 1 of scaled is 2147483648; expected -1073741824 to 1073741824"),
+    generated("no term", SOP.partition("[[scaled]]")[0], "OutOfRange scaled 0",
+              "first.toml: there is no table of scaled or product; expected at least one",
+              "  write [[product]] with a and b, or [[scaled]] with input and coefficient"),
+    generated("a term that is not whole", SOP.replace("out_lsb = 0", "out_lsb = 1"), "NotExact 0",
+              "first.toml:23:15: term 0, from 0, is 3 * b: its factor is not whole in units of the output's last place, 2^1",
+              "  write out_lsb = 0 or less, or exact = false"),
+    generated("a product that is not whole", SOP.replace("= 3\n\n[[product", "= 8\n\n[[product").replace("out_lsb = 0", "out_lsb = 2"), "NotExact 1",
+              "first.toml:25:1: term 1, from 0, is a * b: its factor is not whole in units of the output's last place, 2^2",
+              "  write out_lsb = 0 or less, or exact = false"),
+    generated("an offset that is not whole", SOP.replace("out_lsb = 0", "out_lsb = 0\noffset = 1\ndenominator = 3"), "NotExact 2",
+              "first.toml:8:10: term 2, from 0, is 1/3: its factor is not whole in units of the output's last place, 2^0",
+              "  write exact = false: no out_lsb makes every term whole"),
+    generated("a term that is too far up", SOP.replace("lsb = 0\n\n[[scaled", "lsb = 64\n\n[[scaled"), "Coarse 64",
+              "first.toml:23:15: lsb - out_lsb is 64 for the term 3 * b; expected -48 to 48",
+              "  raise out_lsb, now 0, or bring the lsb of the inputs nearer to it"),
+    generated("terms of many bits", SOP.replace("width = 4", "width = 48").replace("out_lsb = 0", "out_lsb = 0\ndenominator = 1073741824")
+              .replace("= 3\n\n[[product", "= 1073741824\n\n[[product"), "TooWide 127",
+              "first.toml: a term and its places would need 127 bits; expected at most 112",
+              "  fewer bits of input, lowest bits nearer to each other, or smaller coefficients"),
+    generated("a sum of many bits", SOP.replace("width = 4", "width = 48").replace("= 3\n\n[[product", "= 0\n\n[[product") + '\n[[product]]\na = "a"\nb = "a"\n',
+              "TooWide 97", "first.toml: a signal would need 97 bits; expected at most 96 in version 3",
+              "  fewer bits of input, fewer terms, or a higher out_lsb"),
+    generated("a sum of version 2", SOP_HEAD.replace("version = 3", "version = 2"), "BadKind",
+              'first.toml:3:8: kind is "sop"; expected one of scale, fir, multiply, divide, root, mcm, constdiv, poly, tfir',
+              "  kind sop asks for version = 3"),
+    generated("tables of version 2", SOP.replace("version = 3", "version = 2"), "UnknownKey 0 1",
+              'first.toml:9:1: unknown key "input" of kind sop; its keys are version, name, kind, exact, target, period, out_lsb, denominator, '
+              "compressor, delay",
+              "  input is a key of version 3: take it out, or write version = 3"),
+]
+CASES = SPECIFICATIONS + SUMS + DESIGNS + ROWS + CHECKS + WORDS + FILES

@@ -62,7 +62,8 @@ class Texts(unittest.TestCase):
 
     def test_keys(self) -> None:
         page = PAGE.partition(".SH KEYS")[2].partition(".SH ")[0]
-        for key in [*schema.SCHEMA["properties"], *schema.LINE["properties"]]:
+        tables = (table["properties"] for table in schema.TABLES.values())
+        for key in [*schema.SCHEMA["properties"], *(key for table in tables for key in table)]:
             self.assertRegex(page, rf'(?m)^\.BR? (.*[ "])?{key}([ "]|$)')
 
     def test_width(self) -> None:

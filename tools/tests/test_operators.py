@@ -13,7 +13,20 @@ JUDGED = module_of(EXAMPLES.parent / ".ci/judged")
 COMMON = {"version": 3, "name": "worked", "exact": True, "target": "plain", "period": 1000000}
 QUOTIENT = COMMON | {"kind": "divide", "signed": True, "width_a": 4, "lsb_a": 0, "width_b": 3, "lsb_b": 0, "out_lsb": 0}
 SCALE = COMMON | {"kind": "scale", "signed": False, "width": 4, "lsb": 0, "out_lsb": 0, "coefficients": [3]}
+CONSTANTS = COMMON | {"kind": "mcm", "signed": True, "width": 4, "lsb": 0, "constants": [2049, -5, 0]}
 FILTER = COMMON | {"kind": "tfir", "signed": True, "width": 4, "lsb": 0, "taps": [4, 8, -12], "extra": 0}
+
+
+SUM = COMMON | {"kind": "sop", "out_lsb": 0}
+
+
+def inputs(names, is_signed, width, lsb=0):
+    return [{"name": name, "signed": is_signed, "width": width, "lsb": lsb} for name in names.split()]
+
+
+def drawn_ends():
+    """The ends of four signed bits, and what is beside them."""
+    return (-8, -7, -1, 0, 1, 6, 7)
 
 
 def numbers(text, ports):
@@ -47,6 +60,46 @@ class Ports(unittest.TestCase):
             self.assertEqual([(q.is_signed, q.width, q.lsb), (r.is_signed, r.width, r.lsb)], [(True, 5 + shift, -shift), (True, 3, -shift)])
         self.assertEqual(len(operators.ports_of(QUOTIENT | {"exact": False})), 3)
 
+    def test_sums(self):
+        """Ranges of terms add up; those of a square begin at 0."""
+        pairs = {"real": [{"a": "a", "b": "c"}, {"a": "b", "b": "d", "negative": True}], "imaginary": [{"a": "a", "b": "d"}, {"a": "b", "b": "c"}]}
+        spec = SUM | {"input": inputs("a b c d", True, 4)}
+        for part, width in (("real", 8), ("imaginary", 9)):
+            y = operators.ports_of(spec | {"product": pairs[part]})[-1]
+            self.assertEqual((y.is_signed, y.width), (True, width))
+        square = SUM | {"out_lsb": -6, "offset": -1, "input": inputs("v", True, 4, -3), "product": [{"a": "v", "b": "v"}]}
+        self.assertEqual([(port.name, port.width, port.is_signed) for port in operators.ports_of(square)], [("v", 4, True), ("y", 7, True)])
+        y = operators.ports_of(square | {"offset": -64, "out_lsb": 0, "exact": False})[-1]
+        self.assertEqual((y.is_signed, y.width), (True, 7))
+        y = operators.ports_of(square | {"offset": 1})[-1]
+        self.assertEqual((y.is_signed, y.width), (False, 8))
+
+    def test_ends_of_many_inputs(self):
+        """All combinations of the ends of four inputs, and of sixteen all pairs, with the others at the ends of their ranges."""
+        for names, count in (("a b c d", 7**4), (" ".join(f"p{at}" for at in range(16)), 2 * 120 * 7**2)):
+            first, *others = inputs(names, True, 4)
+            spec = SUM | {"input": [first, *others], "product": [{"a": first["name"], "b": others[-1]["name"]}]}
+            found = list(drawing.end_rows(operators.operator_of(spec)))
+            self.assertEqual(len(found), count)
+            self.assertEqual({(row[0], row[-1]) for row in found}, {(left, right) for left in drawn_ends() for right in drawn_ends()})
+
+    def test_rows_of_sums(self):
+        """Rows that were worked out by hand."""
+        real = SUM | {"input": inputs("a b c d", True, 4), "product": [{"a": "a", "b": "c"}, {"a": "b", "b": "d", "negative": True}]}
+        luma = SUM | {"exact": False, "denominator": 1000, "input": inputs("red green blue", False, 8)}
+        luma |= {"scaled": [{"input": name, "coefficient": c} for name, c in (("red", 299), ("green", 587), ("blue", 114))]}
+        square = SUM | {"out_lsb": -6, "offset": -1, "input": inputs("v", True, 4, -3), "product": [{"a": "v", "b": "v"}]}
+        for spec, entered, good in ((real, "8 7 7 7", ["97"]), (real, "8 8 8 7", ["78"]), (real, "1 2 3 4", ["fb"]), (luma, "ff ff ff", ["ff"]),
+                                    (luma, "ff 00 00", ["4c", "4d"]), (luma, "01 02 03", ["01", "02"]), (square, "8", ["00"]), (square, "4", ["50"])):
+            operator = operators.operator_of(spec)
+            found = operator.good([numbers(entered, operator.inputs)], 0)
+            self.assertEqual([rows.row_text([rows.word_in(one[0], operator.outputs[0])], [operator.outputs[0].width]) for one in found], good)
+        with self.assertRaises(operators.NoOperator):
+            operators.operator_of(real | {"product": [{"a": "a", "b": "e"}]})
+        self.assertEqual(words.formula(real), "y = a * c - b * d")
+        self.assertEqual(words.formula(square), "y = v * v - 1")
+        self.assertEqual(words.formula(luma), "y = 299/1000 * red + 587/1000 * green + 114/1000 * blue")
+
     def test_chosen_widths(self):
         """The sign is that of the output without the key, if no other is asked for."""
         for more, sign, width in (({}, False, 6), ({"out_width": 4}, False, 4), ({"out_width": 4, "out_signed": True}, True, 4),
@@ -62,9 +115,20 @@ class Ports(unittest.TestCase):
             self.assertEqual((y.is_signed, y.width, y.lsb), (True, width, out_lsb))
         self.assertEqual(operators.ports_of(FILTER)[-1].lsb, 0)
 
+    def test_without_a_search(self):
+        """Without `extra` there are more numbers, and larger ones; the widest outputs have 69 and 77 bits."""
+        self.assertEqual([(y.is_signed, y.width) for y in operators.ports_of(CONSTANTS)[1:]], [(True, 16), (True, 7), (False, 1)])
+        widest = {"signed": False, "width": 48}
+        self.assertEqual(operators.ports_of(CONSTANTS | widest | {"constants": [-1048575]})[-1].width, 69)
+        many = {key: value for key, value in FILTER.items() if key != "extra"} | widest | {"taps": [-1048575] * 256}
+        self.assertEqual(operators.ports_of(many)[-1].width, 77)
+
     def test_refusals(self):
-        with self.assertRaises(operators.NoOperator):
-            operators.operator_of({"version": 1})
+        without = {key: value for key, value in FILTER.items() if key != "extra"}
+        for spec in ({"version": 1}, CONSTANTS | {"extra": 0}, CONSTANTS | {"constants": [1048576]}, CONSTANTS | {"version": 2},
+                     without | {"taps": [1] * 257}, FILTER | {"taps": [1] * 33}, without | {"taps": [-1048576]}, without | {"version": 2}):
+            with self.assertRaises(operators.NoOperator):
+                operators.operator_of(spec)
 
 
 class Worked(unittest.TestCase):
@@ -81,6 +145,9 @@ class Worked(unittest.TestCase):
         self.check(QUOTIENT, ("9 2 : 1d 7", "7 6 : 1d 1", "8 7 : 08 0", "8 3 : 1e 6", "5 4 : 1f 1", "f 3 : 00 7"))
         self.check(QUOTIENT | {"exact": False}, ("9 2 : 1c or 1d", "8 7 : 08", "f 3 : 1f or 00"))
         self.assertIsNone(operators.operator_of(QUOTIENT).good([(-8, 0)], 0))
+
+    def test_constants_without_a_search(self):
+        self.check(CONSTANTS, ("1 : 0801 7b 0", "8 : bff8 28 0"))
 
     def test_saturation(self):
         self.check(SCALE | {"out_width": 4}, ("1 : 3", "5 : f", "6 : f", "f : f"))

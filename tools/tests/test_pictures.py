@@ -8,7 +8,8 @@ from pathlib import Path
 from tests import loading
 from tests.loading import EXAMPLES
 
-from opgenlib.drawings import error, graph, parts, schedule
+from opgenlib import vhdl
+from opgenlib.drawings import adders, error, graph, parts, schedule
 from opgenlib.drawings.example import Example
 
 TOOL = loading.tool_of("pictures")
@@ -35,6 +36,25 @@ input x unsigned 4 0
 output y unsigned 4 0
 cells wire 0 logic 0 add 0 choice 0 table 0 register 0
 signals 1
+"""
+
+
+SIGNALS = "".join(f"  signal s{at} : unsigned(7 downto 0);\n" for at in range(1, 8))
+SUMS = f"""library ieee;
+use ieee.std_logic_1164.all;
+use ieee.numeric_std.all;
+entity e is
+  port (
+    clk : in std_logic;
+    x : in std_logic_vector(3 downto 0)
+  );
+end entity;
+architecture rtl of e is
+  signal s0 : unsigned(3 downto 0);
+{SIGNALS}begin
+  s0 <= unsigned(x);
+  BODY
+end architecture;
 """
 
 
@@ -92,6 +112,20 @@ class Pictures(unittest.TestCase):
             found = error.found_errors(Example(EXAMPLES / f"{name}.toml"))
             self.assertTrue(found, name)
             self.assertEqual(any(found), name in ("inches", "lowpass", "gain", "sine", "held", "clip"), name)
+
+    def test_errors_of_sums(self):
+        for name, is_exact in (("luma", False), ("mac", False), ("mixer_re", False), ("mixer_im", False), ("power", True)):
+            found = error.found_errors(Example(EXAMPLES / f"{name}.toml"))
+            self.assertEqual(any(found), not is_exact, name)
+            self.assertTrue(all(abs(one) < 1 for one in found), name)
+
+    def test_heap_of_a_sum(self):
+        """Each term has its own colour; of a square each pair of two bits comes once, and each bit alone."""
+        for name, counts in (("power", {"i * i": 78, "q * q": 78}), ("mac", {"c": 14})):
+            out = run("heap", EXAMPLES / f"{name}.toml")[1]
+            for words, count in counts.items():
+                self.assertIn(f">{words}: {count} bits<", out)
+        self.assertIn(">- b * d: ", run("heap", EXAMPLES / "mixer_re.toml")[1])
 
     def test_error_refusals(self):
         for rows, words in (
@@ -212,11 +246,48 @@ class Pictures(unittest.TestCase):
         self.assertEqual(graph.cut_text({"kind": "tfir", "lsb": -11}) + graph.cut_text({"kind": "mcm", "lsb": -11}), "")
 
     def test_sums(self):
-        self.assertEqual(graph.sum_of(1, 1, 7), graph.Sum(1, 3, False, 1, True))
-        self.assertEqual(graph.sum_of(1, 11, 9), graph.Sum(1, 1, True, 11, False))
-        self.assertEqual(graph.sum_of(5, 7, 3), graph.Sum(5, 1, False, 7, True))
-        self.assertEqual(graph.sum_of(11, 13, 3), graph.Sum(11, 0, False, 13, False, 3))
-        self.assertIsNone(graph.sum_of(1, 1, 11))
+        """How numbers are made, read from circuits: two with a shift, with the lesser taken off, and with bits left out."""
+        of = lambda text, *members: adders.sums_of(vhdl.design_of(SUMS.replace("BODY", text)), list(members))
+        word = "s1 <= s0(3 downto 3) & s0 & "
+        self.assertEqual(of(word + '"000"; s2 <= s0; s3 <= s1 - s2;', 7), {7: adders.Sum(1, 3, False, 1, True)})
+        self.assertEqual(of(word + '"000"; s2 <= s0; s3 <= s2 - s1;', 7), {})
+        self.assertEqual(of(word + '"00"; s2 <= s0; s3 <= s1 + s2; s4 <= s3 & "0"; s5 <= s3; s6 <= s4 + s5;', 5, 15),
+                         {5: adders.Sum(1, 2, False, 1, False), 15: adders.Sum(5, 1, False, 5, False)})
+        halved = word + '"00"; s2 <= s0; s3 <= s1 + s2; s4 <= s3; s5 <= s0; s6 <= s4 + s5; s7 <= s6(7 downto 1);'
+        self.assertEqual(of(halved, 3, 5), {5: adders.Sum(1, 2, False, 1, False), 3: adders.Sum(1, 0, False, 5, False, 1)})
+        self.assertEqual(of(halved, 5), {5: adders.Sum(1, 2, False, 1, False)})
+
+    def test_parts_of_narrow_sums(self):
+        """A sum that reads a delay in more bits than the delay has is one of a tap; many multiples are told by their ends."""
+        text = ('s1 <= s0(3 downto 3) & s0 & "0"; s2 <= s0; s3 <= s1 + s2; '
+                "process (clk) begin if rising_edge(clk) then s4 <= s3; end if; end process; "
+                "s5 <= s4(7 downto 7) & s4; s6 <= s0; s7 <= s5 + s6;")
+        circuit = parts.Circuit(vhdl.design_of(SUMS.replace("BODY", text)))
+        found = dict(parts.graph_parts(circuit, [1, 3]))
+        self.assertEqual({node: part.words for node, part in found.items()}, {"s3": "3 x", "s7": "tap 0: sum"})
+        many = [parts.Part("", 0, f"{number} x") for number in (9, 101, 11, 3, 7, 21, 45)]
+        self.assertEqual(parts.words_of(many), "3 x to 101 x (7 cells)")
+        self.assertEqual(parts.words_of(many[:2]), "9 x, 101 x (2 cells)")
+
+    def test_large_graph(self):
+        """More than eighty adders and taps are counted and not drawn."""
+        made = {3: adders.Sum(1, 1, False, 1, False), 5: adders.Sum(1, 2, False, 1, False), 45: adders.Sum(5, 3, False, 5, False)}
+        large = graph.Adders("caption", made, [45, 6, -5, 0] * 64, True)
+        picture = graph.summed_up(large)
+        out = picture.text_of()
+        for words in ("depth 1", "2 adders", "3 x to 5 x", "depth 2", "1 adder", "45 x", "256 taps, 64 of them 0", "3 odd parts",
+                      "192 products, 254 delays", "y", "caption"):
+            self.assertIn(f">{words}</text>", out)
+        self.assertLess(picture.height, 200)
+        self.assertEqual(graph.picture_of(large).text_of(), out)
+        self.assertIn("counted", graph.words_of(large))
+        dot = graph.dot_of(large, "large")
+        self.assertEqual(dot.count("style=dashed"), 191)
+
+    def test_graph_in_words(self):
+        self.assertEqual(graph.graph_text(()), "of no adder, 0 adders")
+        self.assertEqual(graph.graph_text((3, 45)), "3 45, 2 adders")
+        self.assertEqual(graph.graph_text(tuple(range(3, 37, 2))), "of 17 adders")
 
     def test_output(self):
         self.assertEqual(run("heap", EXAMPLES / "volume.toml", "-o", self.folder / "heap.svg"), (0, "", ""))

@@ -43,6 +43,8 @@ class Reports(unittest.TestCase):
 
     def test_graph(self):
         self.assertEqual(report.report_of(GAIN + "graph 3 45\n").graph, (3, 45))
+        self.assertEqual(TOOL.graph_text((3, 45)), "adders make 3, 45")
+        self.assertEqual(TOOL.graph_text(tuple(range(3, 37, 2))), "17 adders make 3 to 35")
 
     def refused(self, text, line, words):
         with self.assertRaises(report.NotReport) as caught:

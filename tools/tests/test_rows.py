@@ -1,4 +1,5 @@
 """Rows are read and written, and numbers become rows and come back, by the formats of a report."""
+import math
 import re
 import shutil
 import subprocess
@@ -8,7 +9,7 @@ import unittest
 from fractions import Fraction
 from pathlib import Path
 
-from opgenlib import rows
+from opgenlib import rows, specification
 from opgenlib.report import Port
 from tests import loading
 from tests.loading import EXAMPLES
@@ -259,10 +260,24 @@ class Coefficients(unittest.TestCase):
 
     def test_keys_of_whole_numbers(self):
         scaled = "# outputs are 2048 times those of the real numbers: their 11 lowest bits are below the point\n"
-        self.assertEqual(run("coefficients", "--key", "taps", text="0.7007\n-0.25\n")[1], f"taps = [1435, -512]\n{scaled}")
+        most = ("--most", "2047")
+        self.assertEqual(run("coefficients", "--key", "taps", *most, text="0.7007\n-0.25\n")[1], f"taps = [1435, -512]\n{scaled}")
         self.assertEqual(run("coefficients", "--key", "constants", text="45\n-8\n")[1], "constants = [45, -8]\n")
-        self.assertEqual(run("coefficients", "--key", "constants", text="2048\n")[0], 1)
+        self.assertEqual(run("coefficients", "--key", "constants", *most, text="2048\n")[0], 1)
+        # 0.7007 is 734737.2 over 2^20, and its double is above 2^20 - 1.
+        self.assertIn("taps = [734737]\n", run("coefficients", "--key", "taps", text="0.7007\n")[1])
+        self.assertEqual(run("coefficients", "--key", "constants", text="-1048575\n")[1], "constants = [-1048575]\n")
+        self.assertEqual(run("coefficients", "--key", "taps", text="1048576\n")[0], 1)
         self.assertEqual(run("coefficients", "--key", "extra", text="1\n")[0], 2)
+
+    def test_taps_of_an_example(self):
+        """The low pass of examples/smooth.toml: a Hamming window over a cutoff of a fifth, as in the manual."""
+        places = range(-15, 16)
+        shape = [(math.sin(math.pi * at / 5) / (math.pi * at) if at else 0.2) * (0.54 + 0.46 * math.cos(math.pi * at / 15)) for at in places]
+        text = "".join(f"{one / sum(shape)!r}\n" for one in shape)
+        taps = specification.load(EXAMPLES / "smooth.toml").table["taps"]
+        out = run("coefficients", "--key", "taps", "--most", "8191", text=text)[1]
+        self.assertIn(f"taps = {taps}\n# outputs are 32768 times", out)
 
     def test_refusals(self):
         for text in ("", "0.5,x\n", "1/0\n", "2e9\n"):

@@ -11,7 +11,7 @@ use Rattle.toml.specs.Data.{Data, string, Items, no_items, item, Members}
 use Rattle.opgen_document.specs.declared.decimal.Decimal.{Decimal}
 use Rattle.opgen_document.specs.declared.key.Key.TheVariants as key
 use Rattle.opgen_document.specs.Document.{value_at, number_in, number_at, items_at, count, small}
-use Rattle.opgen_document.specs.Numbers.{are_digits, digits_from, are_parts, decimal_with, cut_at, unsigned_decimal, decimal_of, places_in, places_among, are_texts, denominator_of}
+use Rattle.opgen_document.specs.Numbers.{are_digits, digits_from, are_parts, decimal_with, cut_at, unsigned_decimal, decimal_of, places_in, places_among, are_texts, given_denominator, denominator_of}
 use Rattle.opgen_document.specs.Ranges.{outside, denominator_outside}
 
 -- a number that is not outside its bounds
@@ -95,19 +95,21 @@ ten_power k h =
     let most : 10 ^ k ≤ 10 ^ 9 = pow-le-pow_right (omega arith) h in
     (some, omega (arith, most))
 
+pub given_in : (ms : Members) → option_and_then (λ _. denominator_outside ms) (value_at ms key.Denominator) ≡ None
+    → (pos 1 ≤ℤ given_denominator ms) × (given_denominator ms ≤ℤ pos (2 ^ 30))
+given_in ms h = by (value_at ms key.Denominator) h
+  where
+    by : (o : Option Data) → option_and_then (λ _. outside (pos 1) (pos (2 ^ 30)) (number_in o)) o ≡ None
+        → (pos 1 ≤ℤ option_map_or (λ _. number_in o) o (pos 1)) × (option_map_or (λ _. number_in o) o (pos 1) ≤ℤ pos (2 ^ 30))
+    by (Some d) h = inside (pos 1) (pos (2 ^ 30)) (number_in (Some d)) h
+    by None h = (omega (arith, ints), omega (arith, ints))
+
 pub denominator_in : (ms : Members) → option_and_then (λ _. denominator_outside ms) (value_at ms key.Denominator) ≡ None
     → (pos 1 ≤ℤ denominator_of ms) × (denominator_of ms ≤ℤ pos (2 ^ 30))
 denominator_in ms h = go (are_texts (items_at ms key.Coefficients))
   where
-    given : (o : Option Data) → option_and_then (λ _. outside (pos 1) (pos (2 ^ 30)) (number_in o)) o ≡ None
-        → (pos 1 ≤ℤ option_map_or (λ _. number_in o) o (pos 1)) × (option_map_or (λ _. number_in o) o (pos 1) ≤ℤ pos (2 ^ 30))
-    given (Some d) h = inside (pos 1) (pos (2 ^ 30)) (number_in (Some d)) h
-    given None h = (omega (arith, ints), omega (arith, ints))
-
-    go : (b : Bool) → (pos 1 ≤ℤ (if b then pos (10 ^ places_among (items_at ms key.Coefficients)) else option_map_or (λ _. number_at ms
-        key.Denominator) (value_at ms key.Denominator) (pos 1)))
-        × ((if b then pos (10 ^ places_among (items_at ms key.Coefficients)) else option_map_or (λ _. number_at ms key.Denominator)
-        (value_at ms key.Denominator) (pos 1)) ≤ℤ pos (2 ^ 30))
+    go : (b : Bool) → (pos 1 ≤ℤ (if b then pos (10 ^ places_among (items_at ms key.Coefficients)) else given_denominator ms))
+        × ((if b then pos (10 ^ places_among (items_at ms key.Coefficients)) else given_denominator ms) ≤ℤ pos (2 ^ 30))
     go true = let (some, most) = ten_power (places_among (items_at ms key.Coefficients)) (few_places (items_at ms key.Coefficients)) in
         (omega (arith, ints), omega (arith, ints))
-    go false = given (value_at ms key.Denominator) h
+    go false = given_in ms h

@@ -18,7 +18,7 @@ IsText o = option_map_or (λ d. not (is_some (as_str d)) || false) o false ≡ f
 abbrev pub IsFlag : Option Data → Type 0
 IsFlag o = option_map_or (λ d. not (is_some (as_bool d)) || false) o false ≡ false
 
-number_stands : (o : Option Data) → is_none o ≡ false → IsNumber o → o ≡ Some (integer (number_in o))
+pub number_stands : (o : Option Data) → is_none o ≡ false → IsNumber o → o ≡ Some (integer (number_in o))
 number_stands (Some (integer n)) there typed = refl
 number_stands (Some _) there typed = cc
 number_stands None there typed = cc

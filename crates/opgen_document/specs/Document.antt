@@ -1,7 +1,7 @@
 -- The values at the keys of a document, a tree of TOML 1.1.
-use Rattle.std.specs.Prelude.{ℕ, ◌==◌, ◌&&◌, ◌^◌, ℤ, pos, negsuc, Bool, false, List, [], ◌∷◌, length, Option, Some, None, option_map, if◌then◌else◌, nat_lt, int_lt, int_le}
+use Rattle.std.specs.Prelude.{ℕ, ◌==◌, ◌&&◌, ◌^◌, ℤ, pos, negsuc, Bool, true, false, List, [], ◌∷◌, ◌++◌, length, Option, Some, None, option_map, if◌then◌else◌, nat_lt, int_lt, int_le}
 use Rattle.std.specs.Str.Lossy.{utf8_valid_len}
-use Rattle.toml.specs.Data.{Data, string, integer, boolean, array, Items, no_items, item, Members, no_members, member, get_member}
+use Rattle.toml.specs.Data.{Data, string, integer, boolean, array, table, Items, no_items, item, Members, no_members, member, get_member}
 use Rattle.toml.specs.Parse.{parse_document}
 use Rattle.opgen_document.specs.declared.key.Key.{Key}
 use Rattle.opgen_document.specs.Keys.{key_name}
@@ -55,6 +55,19 @@ items_at ms k = items_in (value_at ms k)
 abbrev pub list_of : Items → List Data
 list_of no_items = []
 list_of (item d ds) = d ∷ list_of ds
+
+abbrev pub is_empty : Items → Bool
+is_empty no_items = true
+is_empty (item _ _) = false
+
+-- what is read of each item that is a table, in order
+abbrev pub in_table : {A : Type 0} → (read : Members → A) → Data → List A
+in_table read (table ms) = read ms ∷ []
+in_table read _ = []
+
+abbrev pub in_tables : {A : Type 0} → (read : Members → A) → Items → List A
+in_tables read no_items = []
+in_tables read (item d rest) = in_table read d ++ in_tables read rest
 
 -- a number in 32 bits, without and with a sign; 0 where it does not fit, which no range of a key lets pass
 abbrev pub count : ℤ → ℕ

@@ -80,8 +80,12 @@ abbrev pub are_texts : Items → Bool
 are_texts (item (string _) _) = true
 are_texts _ = false
 
--- the common denominator: that of the texts, or else the number at its key, or else 1
+-- the number at the key of the denominator, or else 1
+abbrev pub given_denominator : Members → ℤ
+given_denominator ms = option_map_or (λ _. number_at ms key.Denominator) (value_at ms key.Denominator) (pos 1)
+
+-- the common denominator: that of the texts, or else the one that is given
 abbrev pub denominator_of : Members → ℤ
 denominator_of ms =
     if are_texts (items_at ms key.Coefficients) then pos (10 ^ places_among (items_at ms key.Coefficients))
-    else option_map_or (λ _. number_at ms key.Denominator) (value_at ms key.Denominator) (pos 1)
+    else given_denominator ms

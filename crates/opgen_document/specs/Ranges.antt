@@ -1,11 +1,11 @@
 -- What stands at a key and is out of its range: a number or a length that is not within bounds, or an element beyond a limit.
-use Rattle.std.specs.Prelude.{ℕ, ◌^◌, ◌&&◌, ◌||◌, Bool, List, length, codes, ℤ, pos, negsuc, int_le, unsigned_abs, Option, Some, None, find, if◌then◌else◌, nat_lt}
+use Rattle.std.specs.Prelude.{ℕ, ◌^◌, ◌&&◌, ◌||◌, Bool, true, false, List, length, codes, ℤ, pos, negsuc, int_le, unsigned_abs, Option, Some, None, find, if◌then◌else◌, nat_lt, is_some}
 use Rattle.std.specs.Option.{option_or}
 use Rattle.std.specs.Str.{bytes_eq}
 use Rattle.toml.specs.Data.{Items, Members}
 use Rattle.opgen_document.specs.declared.key.Key.{Key}
 use Rattle.opgen_document.specs.declared.key.Key.TheVariants as key
-use Rattle.opgen_document.specs.Document.{list_of, number_at, flag_at, items_at}
+use Rattle.opgen_document.specs.Document.{list_of, value_at, number_at, flag_at, items_at}
 use Rattle.opgen_document.specs.Numbers.{numerators}
 use Rattle.opgen_document.specs.declared.version.Version.{Version}
 use Rattle.opgen_document.specs.declared.version.Version.TheVariants.{First, Second, Third}
@@ -32,18 +32,24 @@ array_outside least most limit items = option_or (length_outside least most item
 -- keys that several kinds have
 
 -- the width of an input that may have so many bits at most; signed inputs have two or more
+abbrev pub bits_outside : (signed : Bool) (most : ℕ) → ℤ → Option ℤ
+bits_outside signed most n = outside (pos (if signed then 2 else 1)) (pos most) n
+
 abbrev pub width_outside : (most : ℕ) → Members → Key → Option ℤ
-width_outside most ms k = outside (pos (if flag_at ms key.Signed then 2 else 1)) (pos most) (number_at ms k)
+width_outside most ms k = bits_outside (flag_at ms key.Signed) most (number_at ms k)
 
 -- the power of a lowest bit: of quotients and roots in each version, and of the other kinds in versions 1 and 2
 abbrev pub near_outside : Members → Key → Option ℤ
 near_outside ms k = outside (negsuc 31) (pos 32) (number_at ms k)
 
--- and of the other kinds, but for polynomials
+-- the power of a lowest bit of the other kinds in version 3, but for polynomials
+abbrev pub far_outside : Members → Key → Option ℤ
+far_outside ms k = outside (negsuc 63) (pos 64) (number_at ms k)
+
 abbrev pub power_outside_in : Version → Members → Key → Option ℤ
 power_outside_in First ms k = near_outside ms k
 power_outside_in Second ms k = near_outside ms k
-power_outside_in Third ms k = outside (negsuc 63) (pos 64) (number_at ms k)
+power_outside_in Third ms k = far_outside ms k
 
 abbrev pub power_outside : Members → Key → Option ℤ
 power_outside ms k = power_outside_in (version_of ms) ms k
@@ -55,8 +61,21 @@ out_width_outside ms = outside (pos 2) (pos 96) (number_at ms key.OutWidth)
 abbrev pub coefficients_outside : (least most : ℕ) → Members → Option ℤ
 coefficients_outside least most ms = array_outside least most (2 ^ 30) (items_at ms key.Coefficients)
 
+-- a whole number over the denominator
+abbrev pub numerator_outside : Members → Key → Option ℤ
+numerator_outside ms k = outside (negsuc 1073741823) (pos 1073741824) (number_at ms k)
+
 abbrev pub denominator_outside : Members → Option ℤ
 denominator_outside ms = outside (pos 1) (pos (2 ^ 30)) (number_at ms key.Denominator)
+
+-- the graph with the fewest adders is searched for where the document says how many adders it may have beyond
+abbrev pub is_searched : Members → Bool
+is_searched ms = is_some (value_at ms key.Extra)
+
+-- the greatest constant or tap of a graph that is searched for, and of one that a fixed rule makes
+abbrev pub constant_limit : (searched : Bool) → ℕ
+constant_limit true = 2047
+constant_limit false = 1048575
 
 -- the adders that a graph may have beyond the least number
 abbrev pub extra_outside : Members → Option ℤ

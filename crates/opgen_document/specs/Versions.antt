@@ -1,10 +1,10 @@
 -- What the versions of documents have: their keys.
-use Rattle.std.specs.Prelude.{◌==◌, Bool, true, false, ℤ, pos, negsuc, if◌then◌else◌}
+use Rattle.std.specs.Prelude.{◌==◌, not, Bool, true, false, ℤ, pos, negsuc, if◌then◌else◌}
 use Rattle.toml.specs.Data.{Members}
 use Rattle.opgen_document.specs.declared.key.Key.{Key}
 use Rattle.opgen_document.specs.declared.key.Key.TheVariants as key
 use Rattle.opgen_document.specs.declared.stand.Stand.{Stand}
-use Rattle.opgen_document.specs.declared.stand.Stand.TheVariants.{Absent, Optional}
+use Rattle.opgen_document.specs.declared.stand.Stand.TheVariants.{Absent, Optional, Needed}
 use Rattle.opgen_document.specs.declared.version.Version.{Version}
 use Rattle.opgen_document.specs.declared.version.Version.TheVariants.{First, Second, Third}
 use Rattle.opgen_document.specs.Document.{number_at}
@@ -18,13 +18,21 @@ version_in (negsuc n) = Third
 abbrev pub version_of : Members → Version
 version_of ms = version_in (number_at ms key.Version)
 
+-- the keys that only the third version has
+abbrev pub is_late : Key → Bool
+is_late key.OutWidth = true
+is_late key.OutSigned = true
+is_late key.Offset = true
+is_late key.Input = true
+is_late key.Scaled = true
+is_late key.Product = true
+is_late _ = false
+
 -- whether documents that name no kind may have the key
 abbrev pub has_key : Version → Key → Bool
-has_key First key.OutWidth = false
-has_key First key.OutSigned = false
-has_key Second key.OutWidth = false
-has_key Second key.OutSigned = false
-has_key _ _ = true
+has_key First k = not (is_late k)
+has_key Second k = not (is_late k)
+has_key Third k = true
 
 -- a key that may be left out, and that only later versions than the first have
 abbrev pub since_second : Version → Stand
@@ -37,3 +45,9 @@ abbrev pub since_third : Version → Stand
 since_third First = Absent
 since_third Second = Absent
 since_third Third = Optional
+
+-- a key that only the third version lets be left out
+abbrev pub needed_before_third : Version → Stand
+needed_before_third First = Needed
+needed_before_third Second = Needed
+needed_before_third Third = Optional

@@ -1,7 +1,7 @@
 //! Parses a document, and reads the value at a key as a number, text, flag or list.
 ghost use Rattle.std.specs.Prelude.{◌≡◌, option_map, IfOk};
 ghost use Rattle.toml.specs.View.{view, items_view, table_view};
-ghost use Rattle.opgen_document.specs.Document.{tree, value_at, number_at, count_at, small_at, text_at, flag_at, items_of, items_at, optional_count_at, optional_flag_at, small};
+ghost use Rattle.opgen_document.specs.Document.{tree, value_at, number_at, count_at, small_at, text_at, flag_at, items_of, items_at, optional_count_at, optional_flag_at, count, small};
 
 use crate::key::Key;
 use std::alloc::{AllocError, Global};
@@ -38,16 +38,22 @@ pub fn number_at(table: &Table, key: Key) -> i64
     }
 }
 
-/// The number at a key as a count of 32 bits, 0 where it is none.
-pub fn count_at(table: &Table, key: Key) -> u32
-    ensures { result ≡ count_at (table_view table.now) key }
+/// A number as a count of 32 bits, 0 where it is none.
+pub fn count(n: i64) -> u32
+    ensures { result ≡ count n }
 {
-    let n = number_at(table, key);
     if 0 <= n && n < 4_294_967_296 {
         n as u32
     } else {
         0
     }
+}
+
+/// The number at a key as a count of 32 bits, 0 where it is none.
+pub fn count_at(table: &Table, key: Key) -> u32
+    ensures { result ≡ count_at (table_view table.now) key }
+{
+    count(number_at(table, key))
 }
 
 /// A number in 32 bits with a sign, 0 where it does not fit.

@@ -1,10 +1,11 @@
 //! The keys of a specification: their names, order and types.
 ghost use Rattle.std.specs.Prelude.{◌≡◌, Some};
-ghost use Rattle.opgen_document.specs.Keys.{key_name, document_keys, line_keys, sort_of};
+ghost use Rattle.opgen_document.specs.Keys.{key_name, document_keys, sort_of};
 
 use std::fmt;
 
-/// The keys of a document in the order in which they are judged, and then those of a delay line.
+/// The keys of a document in the order in which they are judged, and then those of the tables of its
+/// arrays.
 #[derive(Clone, Copy, Debug)]
 pub enum Key {
     Version,
@@ -30,7 +31,24 @@ pub enum Key {
     Divisor,
     Taps,
     Compressor,
+    Offset,
+    Input,
+    Scaled,
+    Product,
     Delay,
+    /// The four keys of an input.
+    InputName,
+    InputSigned,
+    InputWidth,
+    InputLsb,
+    /// The two keys of a constant times an input.
+    ScaledInput,
+    Coefficient,
+    /// The three keys of a product of inputs.
+    FactorA,
+    FactorB,
+    Negative,
+    /// The three keys of a delay line.
     Class,
     Base,
     PerBit,
@@ -48,7 +66,7 @@ pub(crate) enum Sort {
     Tables,
 }
 
-static DOCUMENT_KEYS: [Key; 24] = [
+static DOCUMENT_KEYS: [Key; 28] = [
     Key::Version,
     Key::Name,
     Key::Kind,
@@ -72,23 +90,18 @@ static DOCUMENT_KEYS: [Key; 24] = [
     Key::Divisor,
     Key::Taps,
     Key::Compressor,
+    Key::Offset,
+    Key::Input,
+    Key::Scaled,
+    Key::Product,
     Key::Delay,
 ];
-
-static LINE_KEYS: [Key; 3] = [Key::Class, Key::Base, Key::PerBit];
 
 /// The keys of a document, in the order in which they are judged.
 pub fn document_keys() -> &'static [Key]
     ensures { result.now ≡ document_keys }
 {
     &DOCUMENT_KEYS
-}
-
-/// The keys of a delay line, in the order in which they are judged.
-pub fn line_keys() -> &'static [Key]
-    ensures { result.now ≡ line_keys }
-{
-    &LINE_KEYS
 }
 
 impl Key {
@@ -120,7 +133,20 @@ impl Key {
             Key::Divisor => "divisor",
             Key::Taps => "taps",
             Key::Compressor => "compressor",
+            Key::Offset => "offset",
+            Key::Input => "input",
+            Key::Scaled => "scaled",
+            Key::Product => "product",
             Key::Delay => "delay",
+            Key::InputName => "name",
+            Key::InputSigned => "signed",
+            Key::InputWidth => "width",
+            Key::InputLsb => "lsb",
+            Key::ScaledInput => "input",
+            Key::Coefficient => "coefficient",
+            Key::FactorA => "a",
+            Key::FactorB => "b",
+            Key::Negative => "negative",
             Key::Class => "class",
             Key::Base => "base",
             Key::PerBit => "per_bit",
@@ -132,10 +158,12 @@ impl Key {
     {
         match self {
             Key::Name | Key::Kind | Key::Target | Key::Compressor | Key::Class => Sort::Text,
+            Key::InputName | Key::ScaledInput | Key::FactorA | Key::FactorB => Sort::Text,
             Key::Exact | Key::Signed | Key::OutSigned => Sort::Flag,
+            Key::InputSigned | Key::Negative => Sort::Flag,
             Key::Coefficients => Sort::Coefficients,
             Key::Constants | Key::Taps => Sort::Numbers,
-            Key::Delay => Sort::Tables,
+            Key::Input | Key::Scaled | Key::Product | Key::Delay => Sort::Tables,
             Key::Version
             | Key::Period
             | Key::Width
@@ -149,6 +177,10 @@ impl Key {
             | Key::Denominator
             | Key::Extra
             | Key::Divisor
+            | Key::Offset
+            | Key::InputWidth
+            | Key::InputLsb
+            | Key::Coefficient
             | Key::Base
             | Key::PerBit => Sort::Number,
         }

@@ -1,15 +1,18 @@
 //! The document of a specification, of whatever kind of operator: a tree of TOML, its keys, and the values at them.
 //!
-//! Proved: The tree of the bytes, if they have one. The version whose keys and ranges a document has, and which keys the
-//! versions have. The names of the keys, their order, how those stand that all documents have, and the first key whose value
-//! is not of its type. The number, text, flag or items at a key, and the formats of inputs. Decimal texts and whole numbers
-//! as numerators over one denominator. Which number, length or element of an array is out of bounds.
+//! Proved: The tree of the bytes, if they have one. The version whose keys and ranges a document has, and which keys
+//! the versions have. The names of the keys, their order, how those stand that all documents have, and the first key
+//! whose value is not of its type. The arrays of tables, and the keys of their tables. The number, text, flag or items
+//! at a key, and the formats of inputs. Decimal texts and whole numbers as numerators over one denominator. Which
+//! number, length or element of an array is out of bounds.
 //!
-//! By: `parse`; `version_of`, `Version::has_key`; `document_keys`, `line_keys`, `Key::name`, `shared_stand`, the methods of
-//! `Stand`; `first_wrong`; `value_at` and its neighbours, `format_at`, `unsigned_at`, `counters_at`; `places_among`,
-//! `coefficient`, `numerators`, `denominator_of`; `outside` and its neighbours.
+//! By: `parse`; `version_of`, `Version::has_key`; `document_keys`, `Key::name`, `arrays`, the methods of `Array`,
+//! `shared_stand`, the methods of `Stand`; `first_wrong`; `value_at` and its neighbours, `format_at`, `unsigned_at`,
+//! `counters_at`; `places_among`, `coefficient`, `numerators`, `given_denominator`, `denominator_of`; `outside` and its
+//! neighbours.
 #![tactic(auto)]
 
+mod array;
 mod decimal;
 mod document;
 mod fields;
@@ -20,17 +23,18 @@ mod stand;
 mod types;
 mod version;
 
+pub use array::{Array, arrays};
 pub use document::{
-    count_at, flag_at, items_at, number_at, optional_count_at, optional_flag_at, parse, small,
-    small_at, text_at, value_at,
+    count, count_at, flag_at, items_at, number_at, optional_count_at, optional_flag_at, parse,
+    small, small_at, text_at, value_at,
 };
 pub use fields::{counters_at, format_at, unsigned_at};
-pub use key::{Key, document_keys, line_keys};
-pub use number::{coefficient, denominator_of, numerators, places_among};
+pub use key::{Key, document_keys};
+pub use number::{coefficient, denominator_of, given_denominator, numerators, places_among};
 pub use range::{
-    MAX_CONSTANT, array_outside, coefficients_outside, compressor_outside, denominator_outside,
-    extra_outside, length_outside, near_outside, out_width_outside, outside, power_outside,
-    width_outside,
+    array_outside, bits_outside, coefficients_outside, compressor_outside, constant_limit,
+    denominator_outside, extra_outside, far_outside, is_searched, length_outside, near_outside,
+    numerator_outside, out_width_outside, outside, power_outside, width_outside,
 };
 pub use stand::{Stand, shared_stand};
 pub use types::first_wrong;

@@ -1,7 +1,7 @@
 //! Reads arrays of whole numbers or of decimal texts as numerators over one denominator.
 ghost use Rattle.std.specs.Prelude.{◌≡◌, ◌≤◌, ◌^◌, pos, IfOk};
 ghost use Rattle.toml.specs.View.{view, items_view, table_view};
-ghost use Rattle.opgen_document.specs.Numbers.{are_texts, places_in, places_among, coefficient, numerators, denominator_of};
+ghost use Rattle.opgen_document.specs.Numbers.{are_texts, places_in, places_among, coefficient, numerators, given_denominator, denominator_of};
 
 use crate::decimal::{decimal_of, numerator};
 use crate::document::{items_at, number_at, value_at};
@@ -80,6 +80,16 @@ fn power_of_ten(power: u32) -> i64
     10u64.pow(power) as i64
 }
 
+/// The number at the key of the denominator, 1 if there is none.
+pub fn given_denominator(table: &Table) -> i64
+    ensures { result ≡ given_denominator (table_view table.now) }
+{
+    match value_at(table, Key::Denominator) {
+        Some(_) => number_at(table, Key::Denominator),
+        None => 1,
+    }
+}
+
 /// The common denominator of the coefficients.
 pub fn denominator_of(table: &Table) -> i64
     ensures { result ≡ denominator_of (table_view table.now) }
@@ -88,8 +98,5 @@ pub fn denominator_of(table: &Table) -> i64
     if are_texts(items) {
         return power_of_ten(places_among(items));
     }
-    match value_at(table, Key::Denominator) {
-        Some(_) => number_at(table, Key::Denominator),
-        None => 1,
-    }
+    given_denominator(table)
 }

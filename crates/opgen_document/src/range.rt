@@ -1,9 +1,9 @@
 //! Checks that a number, or an array and its numbers, is within bounds.
 ghost use Rattle.std.specs.Prelude.{◌≡◌};
 ghost use Rattle.toml.specs.View.{items_view, table_view};
-ghost use Rattle.opgen_document.specs.Ranges.{outside, is_beyond, first_beyond, length_outside, array_outside, width_outside, near_outside, power_outside_in, power_outside, out_width_outside, coefficients_outside, denominator_outside, extra_outside, compressor_outside};
+ghost use Rattle.opgen_document.specs.Ranges.{outside, is_beyond, first_beyond, length_outside, array_outside, bits_outside, width_outside, near_outside, far_outside, power_outside_in, power_outside, out_width_outside, coefficients_outside, numerator_outside, denominator_outside, is_searched, constant_limit, extra_outside, compressor_outside};
 
-use crate::document::{flag_at, items_at, number_at};
+use crate::document::{flag_at, items_at, number_at, value_at};
 use crate::key::Key;
 use crate::number::{coefficient, places_among};
 use crate::version::{Version, version_of};
@@ -11,9 +11,6 @@ use toml::{Table, Value};
 
 /// The greatest numerator of a coefficient, without its sign.
 const MAX_NUMERATOR: u64 = 1 << 30;
-
-/// The greatest constant or tap, without its sign.
-pub const MAX_CONSTANT: u64 = 2047;
 
 /// The number, where it is not within the bounds.
 pub fn outside(low: i64, high: i64, n: i64) -> Option<i64>
@@ -70,12 +67,19 @@ pub fn compressor_outside(name: &str) -> Option<i64>
     }
 }
 
-/// The width of an input, where it has too many bits, or too few: signed inputs have two or more.
+/// A width, where it has too many bits, or too few: signed inputs have two or more.
+pub fn bits_outside(signed: bool, most: u32, n: i64) -> Option<i64>
+    ensures { result ≡ bits_outside signed most n }
+{
+    let fewest = if signed { 2 } else { 1 };
+    outside(fewest, i64::from(most), n)
+}
+
+/// The width of an input, where it is out of bounds.
 pub fn width_outside(most: u32, table: &Table, key: Key) -> Option<i64>
     ensures { result ≡ width_outside most (table_view table.now) key }
 {
-    let fewest = if flag_at(table, Key::Signed) { 2 } else { 1 };
-    outside(fewest, i64::from(most), number_at(table, key))
+    bits_outside(flag_at(table, Key::Signed), most, number_at(table, key))
 }
 
 /// The power of a lowest bit of a quotient or a root, where it is out of bounds.
@@ -85,12 +89,19 @@ pub fn near_outside(table: &Table, key: Key) -> Option<i64>
     outside(-32, 32, number_at(table, key))
 }
 
+/// The power of a lowest bit, where it is out of the bounds of version 3.
+pub fn far_outside(table: &Table, key: Key) -> Option<i64>
+    ensures { result ≡ far_outside (table_view table.now) key }
+{
+    outside(-64, 64, number_at(table, key))
+}
+
 fn power_outside_in(version: Version, table: &Table, key: Key) -> Option<i64>
     ensures { result ≡ power_outside_in version (table_view table.now) key }
 {
     match version {
         Version::First | Version::Second => near_outside(table, key),
-        Version::Third => outside(-64, 64, number_at(table, key)),
+        Version::Third => far_outside(table, key),
     }
 }
 
@@ -115,10 +126,31 @@ pub fn coefficients_outside(least: u32, most: u32, table: &Table) -> Option<i64>
     array_outside(least, most, MAX_NUMERATOR, items)
 }
 
+/// A whole number over the denominator, where it is out of bounds.
+pub fn numerator_outside(table: &Table, key: Key) -> Option<i64>
+    ensures { result ≡ numerator_outside (table_view table.now) key }
+{
+    outside(-(1 << 30), 1 << 30, number_at(table, key))
+}
+
 pub fn denominator_outside(table: &Table) -> Option<i64>
     ensures { result ≡ denominator_outside (table_view table.now) }
 {
     outside(1, 1 << 30, number_at(table, Key::Denominator))
+}
+
+/// Whether the graph with the fewest adders is searched for. Otherwise a fixed rule makes it.
+pub fn is_searched(table: &Table) -> bool
+    ensures { result ≡ is_searched (table_view table.now) }
+{
+    value_at(table, Key::Extra).is_some()
+}
+
+/// The greatest constant or tap of an adder graph, without its sign.
+pub fn constant_limit(searched: bool) -> u64
+    ensures { result ≡ constant_limit searched }
+{
+    if searched { 2047 } else { 1_048_575 }
 }
 
 /// The number of further adders of a graph, where it is out of bounds.

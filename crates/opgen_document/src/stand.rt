@@ -1,7 +1,7 @@
 //! How a key stands in a document, whatever its kind.
 ghost use Rattle.std.specs.Prelude.{◌≡◌};
 ghost use Rattle.opgen_document.specs.Keys.{shared_stand, may_be, has_to_be};
-ghost use Rattle.opgen_document.specs.Versions.{since_second, since_third};
+ghost use Rattle.opgen_document.specs.Versions.{since_second, since_third, needed_before_third};
 
 use crate::key::Key;
 use crate::version::Version;
@@ -35,6 +35,16 @@ impl Stand {
         }
     }
 
+    /// How a key stands that may be left out in version 3 alone.
+    pub fn needed_before_third(version: Version) -> Stand
+        ensures { result ≡ needed_before_third version }
+    {
+        match version {
+            Version::First | Version::Second => Stand::Needed,
+            Version::Third => Stand::Optional,
+        }
+    }
+
     /// Whether the key may be there.
     pub fn may_be(self) -> bool
         ensures { result ≡ may_be self }
@@ -56,7 +66,7 @@ impl Stand {
     }
 }
 
-/// How a key stands that documents of all kinds have, or all delay lines.
+/// How a key stands that documents of all kinds have, or the tables of an array.
 pub fn shared_stand(key: Key) -> Option<Stand>
     ensures { result ≡ shared_stand key }
 {
@@ -67,10 +77,18 @@ pub fn shared_stand(key: Key) -> Option<Stand>
         | Key::Exact
         | Key::Target
         | Key::Period
+        | Key::InputName
+        | Key::InputSigned
+        | Key::InputWidth
+        | Key::InputLsb
+        | Key::ScaledInput
+        | Key::Coefficient
+        | Key::FactorA
+        | Key::FactorB
         | Key::Class
         | Key::Base
         | Key::PerBit => Some(Stand::Needed),
-        Key::Delay => Some(Stand::Optional),
+        Key::Delay | Key::Negative => Some(Stand::Optional),
         _ => None,
     }
 }

@@ -1,7 +1,7 @@
 //! The versions of documents, which differ in their keys and ranges.
 ghost use Rattle.std.specs.Prelude.{◌≡◌};
 ghost use Rattle.toml.specs.View.{table_view};
-ghost use Rattle.opgen_document.specs.Versions.{version_in, version_of, has_key};
+ghost use Rattle.opgen_document.specs.Versions.{version_in, version_of, is_late, has_key};
 
 use crate::document::number_at;
 use crate::key::Key;
@@ -34,13 +34,23 @@ pub fn version_of(table: &Table) -> Version
     version_in(number_at(table, Key::Version))
 }
 
+/// Whether only version 3 has the key.
+fn is_late(key: Key) -> bool
+    ensures { result ≡ is_late key }
+{
+    matches!(
+        key,
+        Key::OutWidth | Key::OutSigned | Key::Offset | Key::Input | Key::Scaled | Key::Product
+    )
+}
+
 impl Version {
     /// Whether the version has the key, in documents of some kind.
     pub fn has_key(self, key: Key) -> bool
         ensures { result ≡ has_key self key }
     {
         match self {
-            Version::First | Version::Second => !matches!(key, Key::OutWidth | Key::OutSigned),
+            Version::First | Version::Second => !is_late(key),
             Version::Third => true,
         }
     }

@@ -13,7 +13,7 @@ use Rattle.opgen_ports.specs.Spans.{IsOf}
 use Rattle.opgen_ports.proofs.InputPorts.{HasBit}
 
 pub record IsLawful (m : Meaning) : Type 0 where
-  pub some_input : 1 ≤ length m.inputs
+  pub some_input : m.IsRanged → 1 ≤ length m.inputs
   pub input_bits : m.IsRanged → All HasBit m.inputs
   pub wide : (version : ℕ) → IsAcceptedIn version m → All (HasWidth (most_signal version)) m.outputs
   pub limit : (version : ℕ) → m.shift ≤ℤ m.most_shift version → m.shift ≤ℤ MAX_SHIFT

@@ -11,3 +11,6 @@ pub mod Terms
 pub mod Results
 pub mod Poly
 pub mod Taps
+pub mod SopTerms
+pub mod SopSums
+pub mod Sop

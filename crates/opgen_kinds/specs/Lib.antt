@@ -13,3 +13,4 @@ pub mod SmallDiv
 pub mod Horner
 pub mod Poly
 pub mod Taps
+pub mod Sop

@@ -12,6 +12,8 @@ pub record Meaning : Type 1 where
   -- the fields are within the ranges of their keys
   pub IsRanged : Type 0
   pub inputs : List PortFormat
+  -- the names of the inputs, where the document gives them
+  pub given_names : List (List ℕ)
   pub outputs : List PortFormat
   -- the place of the input port that must not be 0, where there is one
   pub divisor : Option ℕ
@@ -20,8 +22,8 @@ pub record Meaning : Type 1 where
   pub shift : ℤ
   pub least_shift : ℤ
   pub most_shift : (version : ℕ) → ℤ
-  -- Of a sum the place of the first coefficient that is not whole, and 0 of a product that is not for every input: the exact
-  -- values are then not all whole. Those of a polynomial are never asked to be.
+  -- Of a sum the place of the first coefficient, tap or term that is not whole, and 0 of a product that is not for every input: the
+  -- exact values are then not all whole. Those of a polynomial are never asked to be.
   pub inexact : Option ℕ
   -- The width of the widest signal, of the kinds where it may be over the limit. That of a root has three bits more than the
   -- root, for which there is always room; none is asked of the others, whose signals have always room.

@@ -1,7 +1,7 @@
 -- Quotients of two inputs, both signed or none, with their remainders where they are exact.
 use Rattle.std.proofs.Common.{arith}
 use Rattle.std.proofs.lemmas.Int.{ints}
-use Rattle.std.specs.Prelude.{ℕ, ◌≡◌, refl, ◌≤ℤ◌, ◌<◌, Bool, false, Some, None, ◌+◌, ℤ, pos, negsuc, neg_ℤ, unsigned_abs, List, ◌+ℤ◌, ◌*ℤ◌, ◌≢◌, true, codes, ◌-ℤ◌}
+use Rattle.std.specs.Prelude.{ℕ, ◌≡◌, refl, ◌≤ℤ◌, ◌<◌, Bool, false, Some, None, ◌+◌, ℤ, pos, negsuc, neg_ℤ, unsigned_abs, List, ◌+ℤ◌, ◌*ℤ◌, ◌≢◌, true, codes, ◌-ℤ◌, []}
 use Rattle.opgen_num.specs.declared.format.Format.{Format}
 use Rattle.opgen_num.specs.declared.format.Ratio.{Ratio}
 use Rattle.opgen_kinds.specs.declared.pair.Pair.{Pair}
@@ -33,7 +33,8 @@ abbrev pub sign_bit : (signed : Bool) → ℕ
 sign_bit true = 1
 sign_bit false = 0
 
--- The dividend has as many bits as it is shifted up. A signed quotient has one more: the least dividend by -1 is above all.
+-- The quotient has as many bits as the dividend that is shifted up, and a signed one has one more: the least dividend by -1 is
+-- above all.
 abbrev pub quotient_format : Pair → Format
 quotient_format p = record {
   signed = p.a.signed;
@@ -76,7 +77,7 @@ abbrev pub QuotientsHold : Pair → Type 0
 QuotientsHold p = IsPair p → pos 0 ≤ℤ pair_shift p → (a b : ℤ) → IsOf p.a a → IsOf p.b b → b ≢ pos 0
     → (y : ℤ) → IsGoodRatio false (exact_quotient p a b) y → IsOf (quotient_format p) y
 
--- and that of the remainder every remainder
+-- the format of the remainder holds every remainder
 abbrev pub RemaindersHold : Pair → Type 0
 RemaindersHold p = IsPair p → (a b : ℤ) → IsOf p.a a → IsOf p.b b
     → (q r : ℤ) → IsTruncated (dividend p a) b q r → IsOf (remainder_format p) r
@@ -88,6 +89,7 @@ pair_meaning p = record {
   IsIn = λ version. version < 3 → p.a.signed ≡ false;
   IsRanged = IsPair p;
   inputs = two_inputs p.a p.b;
+  given_names = [];
   outputs = quotient_ports p.exact p;
   divisor = Some 1;
   shift = pair_shift p;

@@ -36,7 +36,7 @@ abbrev pub terms_from : (power : ℕ) (coefs : List ℤ) (w n x : ℕ) → ℤ
 terms_from i [] w n x = pos 0
 terms_from i (c ∷ cs) w n x = (c *ℤ pos (x ^ i * 2 ^ (w * (n - i)))) +ℤ terms_from (i + 1) cs w n x
 
--- of a polynomial, whose input is unsigned
+-- the exact value of a polynomial, whose input is unsigned
 abbrev pub exact_poly : Polynomial → (x : ℤ) → Ratio
 exact_poly p x = record {
   num = terms_from 0 p.coefs p.input.width (degree p) (unsigned_abs x) *ℤ pos (2 ^ result_places p);
@@ -51,6 +51,7 @@ poly_meaning p = record {
   IsIn = λ version. version ≢ 1;
   IsRanged = IsPoly p;
   inputs = one_input p.input;
+  given_names = [];
   outputs = port (codes "y") (poly_format p) ∷ [];
   divisor = None;
   shift = pos 0;

@@ -1,5 +1,5 @@
 -- Products of two inputs.
-use Rattle.std.specs.Prelude.{ℕ, ◌≡◌, ◌≤◌, ◌≤ℤ◌, false, Some, None, ◌+◌, ◌*◌, ◌^◌, ℤ, pos, neg_ℤ, [], ◌∷◌, ◌+ℤ◌, ◌*ℤ◌, codes, if◌then◌else◌, max, ◌-ℤ◌, int_lt}
+use Rattle.std.specs.Prelude.{ℕ, ◌≡◌, ◌≤◌, ◌≤ℤ◌, false, Some, None, ◌+◌, ◌^◌, ℤ, pos, neg_ℤ, [], ◌∷◌, ◌+ℤ◌, ◌*ℤ◌, codes, if◌then◌else◌, ◌-ℤ◌, int_lt}
 use Rattle.opgen_num.specs.declared.format.Format.{Format}
 use Rattle.opgen_num.specs.declared.format.Ratio.{Ratio}
 use Rattle.opgen_kinds.specs.declared.product.Product.{Product}
@@ -12,7 +12,7 @@ use Rattle.opgen_kinds.specs.Meaning.{Meaning}
 use Rattle.opgen_kinds.specs.Versions.{AreNear}
 use Rattle.opgen_ports.specs.Ports.{port, covering, two_inputs}
 use Rattle.opgen_ports.specs.Ranges.{IsPower, IsInput}
-use Rattle.opgen_ports.specs.Reaches.{reach_of, in_places, width_of}
+use Rattle.opgen_ports.specs.Reaches.{reach_of_product, in_places, width_of}
 use Rattle.opgen_ports.specs.Shifts.{places_up, places_down, up, down}
 use Rattle.opgen_ports.specs.Spans.{IsOf, Spans}
 
@@ -28,10 +28,7 @@ product_shift p = (p.a.lsb +ℤ p.b.lsb) -ℤ p.out_lsb
 
 -- how far a product goes
 abbrev pub product_reach : Product → Reach
-product_reach p = record {
-  below = max ((reach_of p.a).below * (reach_of p.b).above) ((reach_of p.a).above * (reach_of p.b).below);
-  above = max ((reach_of p.a).above * (reach_of p.b).above) ((reach_of p.a).below * (reach_of p.b).below);
-}
+product_reach p = reach_of_product p.a p.b
 
 abbrev pub product_places : Product → Reach
 product_places p = in_places (product_reach p) (product_shift p) (pos 1)
@@ -58,6 +55,7 @@ product_meaning p = record {
   IsIn = λ version. (version ≡ 1 → p.counters ≡ false) × AreNear version (p.a.lsb ∷ p.b.lsb ∷ p.out_lsb ∷ []);
   IsRanged = IsProduct p;
   inputs = two_inputs p.a p.b;
+  given_names = [];
   outputs = port (codes "y") (product_format p) ∷ [];
   divisor = None;
   shift = product_shift p;
@@ -77,7 +75,7 @@ product_meaning p = record {
 abbrev pub IsAcceptedProduct : Product → Type 0
 IsAcceptedProduct p = IsAcceptable (product_meaning p)
 
--- and those of a product
+-- the exact values of a product, over all numbers of its inputs
 abbrev pub ProductsReach : Type 0
 ProductsReach = (p : Product) → IsProduct p → Spans (ℤ × ℤ) (λ x. IsOf p.a x.0 × IsOf p.b x.1) (λ x. exact_product p x.0 x.1) (product_places p)
 

@@ -1,6 +1,6 @@
 -- One input times several constants.
 use Rattle.std.specs.Fmt.{decimal}
-use Rattle.std.specs.Prelude.{ℕ, ◌≡◌, ◌≤◌, Bool, IsTrue, All, Some, None, ◌+◌, ℤ, pos, length, List, [], ◌∷◌, ◌*ℤ◌, map, true, slice_get, codes, ◌++◌}
+use Rattle.std.specs.Prelude.{ℕ, ◌≡◌, ◌≤◌, ◌<◌, Bool, false, IsTrue, All, Some, None, ◌+◌, ℤ, pos, length, List, [], ◌∷◌, ◌*ℤ◌, map, true, slice_get, codes, ◌++◌}
 use Rattle.opgen_num.specs.declared.format.Format.{Format}
 use Rattle.opgen_num.specs.declared.format.Ratio.{Ratio}
 use Rattle.opgen_kinds.specs.declared.several.Several.{Several}
@@ -27,8 +27,9 @@ pub record IsSeveral (m : Several) : Type 0 where
   pub few : length m.constants ≤ 8
   pub constants : All (IsWithin 1048575) m.constants
   pub searched : IsTrue m.searched → IsSearchedFor m
+  pub rest : m.searched ≡ false → m.extra ≡ 0
 
--- of an input times a constant
+-- the format of an input times a constant
 abbrev pub constant_format : Format → ℤ → Format
 constant_format input t = covering (reach_over input (t ∷ [])) input.lsb
 
@@ -40,7 +41,7 @@ numbered n (f ∷ fs) = port (codes "y" ++ decimal n) f ∷ numbered (n + 1) fs
 abbrev pub multiple_ports : Several → List PortFormat
 multiple_ports m = numbered 0 (map (constant_format m.input) m.constants)
 
--- of an input times a constant
+-- the exact value of an input times a constant
 abbrev pub exact_multiple : (constant x : ℤ) → Ratio
 exact_multiple constant x = record { num = x *ℤ constant; den = pos 1 }
 
@@ -57,10 +58,11 @@ MultiplesHold m = (constant x : ℤ) → IsOf m.input x → IsOf (constant_forma
 abbrev pub several_meaning : Several → Meaning
 several_meaning m = record {
   kind = kind_of.Mcm;
-  -- no version has graphs of a fixed rule yet
-  IsIn = λ version. AreNear version (m.input.lsb ∷ []) × IsTrue m.searched;
+  -- versions 1 and 2 have no graphs of a fixed rule
+  IsIn = λ version. AreNear version (m.input.lsb ∷ []) × (version < 3 → IsTrue m.searched);
   IsRanged = IsSeveral m;
   inputs = one_input m.input;
+  given_names = [];
   outputs = multiple_ports m;
   divisor = None;
   shift = pos 0;

@@ -1,6 +1,6 @@
 -- Square roots of an unsigned input, with their remainders where they are exact.
 use Rattle.std.specs.Int.{div_ceil}
-use Rattle.std.specs.Prelude.{ℕ, ◌≡◌, ◌≤◌, Bool, false, Some, None, ◌+◌, ◌*◌, ℤ, pos, unsigned_abs, List, ◌*ℤ◌, true, codes, ◌-ℤ◌}
+use Rattle.std.specs.Prelude.{ℕ, ◌≡◌, ◌≤◌, Bool, false, Some, None, ◌+◌, ◌*◌, ℤ, pos, unsigned_abs, List, ◌*ℤ◌, true, codes, ◌-ℤ◌, []}
 use Rattle.opgen_num.specs.declared.format.Format.{Format}
 use Rattle.opgen_num.specs.Rounding.{IsGoodRoot, IsRoot}
 use Rattle.opgen_kinds.specs.declared.single.Single.{Single}
@@ -60,6 +60,7 @@ single_meaning r = record {
   IsIn = λ version. Unit {0};
   IsRanged = IsSingle r;
   inputs = one_input r.input;
+  given_names = [];
   outputs = root_ports r.exact r;
   divisor = None;
   shift = root_shift r;

@@ -33,7 +33,7 @@ small_rest_format c = unsigned (digit_count (c.divisor - 1)) c.input.lsb
 abbrev pub small_ports : (exact : Bool) → SmallDiv → List PortFormat
 small_ports exact c = with_rest exact (port (codes "q") (small_quotient_format c)) (port (codes "r") (small_rest_format c))
 
--- of an input by a small constant
+-- the exact value of an input by a small constant
 abbrev pub exact_small : SmallDiv → (x : ℤ) → Ratio
 exact_small c x = record { num = x; den = pos c.divisor }
 
@@ -54,6 +54,7 @@ small_meaning c = record {
   IsIn = λ version. (version ≢ 1) × AreNear version (c.input.lsb ∷ []);
   IsRanged = IsSmallDiv c;
   inputs = one_input c.input;
+  given_names = [];
   outputs = small_ports c.exact c;
   divisor = None;
   shift = pos 0;

@@ -30,6 +30,7 @@ pub record IsTaps (f : Taps) : Type 0 where
   pub few : length f.taps ≤ 256
   pub taps : All (IsWithin 1048575) f.taps
   pub searched : IsTrue f.searched → AreSearchedFor f
+  pub rest : f.searched ≡ false → f.extra ≡ 0
 
 -- the direct form: the same sum of the last inputs, over 1
 abbrev pub direct : Taps → Sum
@@ -45,10 +46,11 @@ exact_taps f x = exact_sum (direct f) x
 abbrev pub taps_meaning : Taps → Meaning
 taps_meaning f = record {
   kind = kind_of.Tfir;
-  -- no version has graphs of a fixed rule yet
-  IsIn = λ version. (version ≢ 1) × AreNear version (f.input.lsb ∷ []) × (version < 3 → f.out_lsb ≡ f.input.lsb) × IsTrue f.searched;
+  -- version 2 has neither cut outputs nor graphs of a fixed rule
+  IsIn = λ version. (version ≢ 1) × AreNear version (f.input.lsb ∷ []) × (version < 3 → (f.out_lsb ≡ f.input.lsb) × IsTrue f.searched);
   IsRanged = IsTaps f;
   inputs = one_input f.input;
+  given_names = [];
   outputs = port (codes "y") (taps_format f) ∷ [];
   divisor = None;
   shift = sum_shift (direct f);

@@ -14,6 +14,7 @@ pub enum Kind {
     Constdiv,
     Poly,
     Tfir,
+    Sop,
 }
 
 impl Kind {
@@ -31,6 +32,7 @@ impl Kind {
             Kind::Constdiv => "constdiv",
             Kind::Poly => "poly",
             Kind::Tfir => "tfir",
+            Kind::Sop => "sop",
         }
     }
 }

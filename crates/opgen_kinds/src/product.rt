@@ -14,7 +14,7 @@ use opgen_ports::MAX_SHIFT;
 use opgen_ports::history::{last_two, output};
 use opgen_ports::ports::{PortFormat, one, operands};
 use opgen_ports::ranges::{is_input, is_power};
-use opgen_ports::reach::{Reach, in_places, reach_of, width_of};
+use opgen_ports::reach::{Reach, in_places, reach_of_product, width_of};
 use opgen_ports::shifts::{places_down, places_up, raised};
 use std::alloc::{AllocError, Global};
 
@@ -136,12 +136,7 @@ fn product_reach(product: &Product) -> Reach
     ensures below { result.below ≤ 2 ^ (product.now.a.width + product.now.b.width) }
     ensures above { result.above ≤ 2 ^ (product.now.a.width + product.now.b.width) }
 {
-    let a = reach_of(product.a);
-    let b = reach_of(product.b);
-    Reach {
-        below: (a.below * b.above).max(a.above * b.below),
-        above: (a.above * b.above).max(a.below * b.below),
-    }
+    reach_of_product(product.a, product.b)
 }
 
 /// How far a product goes in units of the output's last place, where it is not shifted up.

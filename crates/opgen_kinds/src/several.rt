@@ -1,6 +1,6 @@
 //! One input times several constants: what holds of the multiples.
 ghost use Rattle.std.specs.Fmt.{decimal};
-ghost use Rattle.std.specs.Prelude.{◌≡◌, ◌≤◌, ◌^◌, ◌++◌, map, codes, IfOk, ◌<◌, pos, length, get_or, unsigned_abs, ◌↔◌, IsTrue};
+ghost use Rattle.std.specs.Prelude.{false, ◌≡◌, ◌≤◌, ◌^◌, ◌++◌, map, codes, IfOk, ◌<◌, pos, length, get_or, unsigned_abs, ◌↔◌, IsTrue};
 ghost use Rattle.opgen_ports.specs.Good.{IsGoodRatio};
 ghost use Rattle.opgen_kinds.specs.Judged.{IsCycleJudged};
 ghost use Rattle.opgen_kinds.specs.Several.{constant_format, numbered, IsSeveral, IsSearchedFor, IsAcceptedSeveral, exact_multiple, AreGoodMultiples, multiple_ports, several_meaning};
@@ -47,7 +47,18 @@ impl Several {
         is_input(self.input)
             && is_length(1, 8, self.constants.len())
             && are_within(1_048_575, self.constants.as_slice())
-            && (!self.searched || self.is_searched_for())
+            && self.has_limits()
+    }
+
+    /// Whether the search takes the constants, or there is none.
+    fn has_limits(&self) -> bool
+        ensures { IsTrue result ↔ ((IsTrue self.now.searched → IsSearchedFor self.now) × (self.now.searched ≡ false → self.now.extra ≡ 0)) }
+    {
+        if self.searched {
+            self.is_searched_for()
+        } else {
+            self.extra == 0
+        }
     }
 
     /// Whether the search takes the constants.
@@ -61,7 +72,7 @@ impl Several {
     pub fn is_in(&self, version: u32) -> bool
         ensures { IsTrue result ↔ (several_meaning self.now).IsIn version }
     {
-        are_near(version, &[self.input.lsb]) && self.searched
+        are_near(version, &[self.input.lsb]) && (version >= 3 || self.searched)
     }
 
     /// The input ports, in order.

@@ -135,7 +135,7 @@ pub fn most_sum_shift(version: u32) -> i32
 }
 
 /// Whether a coefficient is a whole number of units. A shift may be beyond the limits of its kind.
-fn is_whole(coef: i64, den: i64, shift: i32) -> bool
+pub(crate) fn is_whole(coef: i64, den: i64, shift: i32) -> bool
     requires coef { IsWithin (2 ^ 30) coef }
     requires positive { pos 1 ≤ℤ den }
     requires small { den ≤ℤ pos (2 ^ 30) }

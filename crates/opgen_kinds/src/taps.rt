@@ -1,5 +1,5 @@
 //! Filters of whole coefficients in transposed form: what holds of them.
-ghost use Rattle.std.specs.Prelude.{◌≡◌, ◌≤◌, ◌^◌, [], ◌∷◌, ℤ, neg_ℤ, ◌≤ℤ◌, ◌<ℤ◌, pos, codes, IfOk, ◌<◌, ◌↔◌, IsTrue};
+ghost use Rattle.std.specs.Prelude.{false, ◌≡◌, ◌≤◌, ◌^◌, [], ◌∷◌, ℤ, neg_ℤ, ◌≤ℤ◌, ◌<ℤ◌, pos, codes, IfOk, ◌<◌, ◌↔◌, IsTrue};
 ghost use Rattle.opgen_ports.specs.Good.{IsGoodRatio};
 ghost use Rattle.opgen_kinds.specs.Judged.{IsCycleJudged};
 ghost use Rattle.opgen_kinds.specs.Sum.{sum_shift, first_inexact};
@@ -67,7 +67,18 @@ impl Taps {
             && is_power(self.out_lsb)
             && is_length(1, 256, self.taps.len())
             && are_within(1_048_575, self.taps.as_slice())
-            && (!self.searched || self.are_searched_for())
+            && self.has_limits()
+    }
+
+    /// Whether the search takes the taps, or there is none.
+    fn has_limits(&self) -> bool
+        ensures { IsTrue result ↔ ((IsTrue self.now.searched → AreSearchedFor self.now) × (self.now.searched ≡ false → self.now.extra ≡ 0)) }
+    {
+        if self.searched {
+            self.are_searched_for()
+        } else {
+            self.extra == 0
+        }
     }
 
     /// Whether the search takes the taps.
@@ -86,8 +97,7 @@ impl Taps {
     {
         version != 1
             && are_near(version, &[self.input.lsb])
-            && (version >= 3 || self.out_lsb == self.input.lsb)
-            && self.searched
+            && (version >= 3 || (self.out_lsb == self.input.lsb && self.searched))
     }
 
     /// The input ports, in order.

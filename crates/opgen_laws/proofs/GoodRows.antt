@@ -17,7 +17,7 @@ use Rattle.opgen_design.specs.declared.design.Dir.TheVariants.{In, Out}
 use Rattle.opgen_design.specs.declared.design.Port.{Port}
 use Rattle.opgen_design.specs.Run.{initial_words, input_widths, words_at_outputs}
 use Rattle.opgen_operator.specs.declared.operator.Operator.{Operator}
-use Rattle.opgen_operator.specs.declared.operator.Operator.TheVariants.{Scale, Fir, Multiply, Divide, Root, Mcm, Constdiv, Poly, Tfir}
+use Rattle.opgen_operator.specs.declared.operator.Operator.TheVariants.{Scale, Fir, Multiply, Divide, Root, Mcm, Constdiv, Poly, Tfir, Sop}
 use Rattle.opgen_operator.specs.declared.spec.Spec.{Spec}
 use Rattle.opgen_operator.specs.DesignPorts.{operator_ports, port_of}
 use Rattle.opgen_kinds.specs.Pair.{quotient_format, remainder_format}
@@ -67,7 +67,7 @@ alike : (ps : List Port) → AllZip IsSamePort ps ps
 alike [] = tt
 alike (p ∷ ps) = (record { name = refl; dir = refl; width = refl }, alike ps)
 
-module _ (spec : Spec) (latency : ℕ) (d : Design) (serves : Serves spec latency false d) where
+module _ (spec : Spec) (some : 1 ≤ length (inputs_of spec)) (latency : ℕ) (d : Design) (serves : Serves spec latency false d) where
   pub ports_agree : PortsAgree spec d
   ports_agree = subst (λ ps. AllZip IsSamePort ps (operator_ports spec)) (sym serves.ports) (alike (operator_ports spec))
 
@@ -91,7 +91,7 @@ module _ (spec : Spec) (latency : ℕ) (d : Design) (serves : Serves spec latenc
         let good = serves.good inputs run.words run.runs t v (ap (slice_get run.words) place ∙ at) in
         let recent : recent_words (inputs_of spec) inputs t ≡ recent_numbers (inputs_of spec) (rows_up_to (length (inputs_of spec)) t cells) =
         ap (λ ws. recent_words (inputs_of spec) (rows_words ws rows cells) t) (in_widths spec d ports_agree)
-        ∙ fun_ext (λ k. fun_ext (λ ago. recent_same (inputs_of spec) (some_input spec.op) rows cells room t k ago (omega (arith, before)))) in
+        ∙ fun_ext (λ k. fun_ext (λ ago. recent_same (inputs_of spec) some rows cells room t k ago (omega (arith, before)))) in
         let shown : output_words (outputs_of spec) (words_at_outputs d v) ≡ output_numbers (outputs_of spec) (row_of (length (outputs_of spec)) row outputs) =
         fun_ext (λ k. output_same d (outputs_of spec) (out_widths spec d ports_agree) start inputs run.words run.runs row v at k)
         ∙ ap (λ os. output_numbers (outputs_of spec) (row_of (length (outputs_of spec)) row os)) (sym run.outputs_are) in
@@ -124,6 +124,7 @@ few_ports (Constdiv c) is =
     omega (arith, rest_length c.exact (port (codes "q") (small_quotient_format c)) (port (codes "r") (small_rest_format c)))
 few_ports (Poly p) is = omega arith
 few_ports (Tfir f) is = omega arith
+few_ports (Sop s) is = let few = is.few in omega (arith, few)
 
 -- a chosen width leaves the number of ports
 chosen_length : (width : Option ℕ) (sign : Option Bool) (ports : List PortFormat) → length (chosen_ports width sign ports) ≡ length ports
@@ -177,12 +178,12 @@ module _ (spec : Spec) (valid : IsValidSpec spec) (table : Delays) (planned : Pl
           design = d;
           cells = cells;
           rows = record { gives = gives; reads = reads };
-          agree = ports_agree spec planned.latency d serves;
+          agree = ports_agree spec (some_input spec.op valid.op.ranges) planned.latency d serves;
           verdict = record {
             outputs = run.0;
             run = run.1;
             verdict = record {
-              good = λ row judged. good_row spec planned.latency d serves rows cells run.0 are run.1 row judged;
+              good = λ row judged. good_row spec (some_input spec.op valid.op.ranges) planned.latency d serves rows cells run.0 are run.1 row judged;
               counted = refl;
             };
           };

@@ -61,7 +61,7 @@ module _ (n : ℕ) (table : Delays) (a : Answer) (w : IsWorked n table a)
       let row = place + w.planned.latency in
       let count : length outputs ≡ cycles = length-run d cycles cells outputs w.judged.run ∙ (ap (λ ws. cycles * length ws) outs ∙ omega arith) in
       let fit = subst (λ ws. AreRowsOfCells ws cycles cells) (sym ins) (cells-fit n) in
-      let at = good_row spec w.planned.latency d serves cycles cells outputs fit w.judged.run row (record {
+      let at = good_row spec (omega arith) w.planned.latency d serves cycles cells outputs fit w.judged.run row (record {
         from = omega arith;
         there = omega (arith, lt);
       }) in

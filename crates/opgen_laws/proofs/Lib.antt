@@ -14,6 +14,7 @@ pub mod Verdict
 pub mod SumTables
 pub mod SumNets
 pub mod ProductNets
+pub mod SopNets
 pub mod CommandRanges
 pub mod SomeRun
 pub mod SomeCircuit

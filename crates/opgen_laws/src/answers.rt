@@ -5,7 +5,8 @@ ghost use Rattle.opgen_laws.specs.Lines.{LinesAreFixed};
 ghost use Rattle.opgen_laws.specs.Workloads.{WorkloadsAreGood};
 
 use opgen_operator::{outputs_hold, products_have_width};
-use opgen_part_laws::{one_adder_set, one_least_graph, one_net_of_product, one_net_of_several};
+use opgen_part_laws::{one_adder_set, one_least_graph, one_net_of_product, one_net_of_sop};
+use opgen_shared::{one_rule_graph, rule_graph_serves, some_rule_graph};
 use opgen_top::circuits_serve;
 
 /// The words, the targets and the files leave at most one answer: its status, its line and its stores.
@@ -13,9 +14,10 @@ pub fn one_answer()
     ensures { HasOneAnswer }
 {
     one_net_of_product();
-    one_net_of_several();
+    one_net_of_sop();
     one_adder_set();
     one_least_graph();
+    one_rule_graph();
 }
 
 /// That the words, the targets and the files leave no answer is impossible. Which one is due is not said, since nothing here
@@ -25,6 +27,8 @@ pub fn some_answer()
 {
     outputs_hold();
     products_have_width();
+    some_rule_graph();
+    rule_graph_serves();
     circuits_serve();
 }
 

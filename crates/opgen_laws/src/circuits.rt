@@ -1,7 +1,8 @@
 //! Laws on the nets and circuits of a specification.
 ghost use Rattle.opgen_laws.specs.Circuits.{CircuitsAreSound, CircuitsCheckGood, HasOneCircuit, HasOneNet};
 
-use opgen_part_laws::{one_adder_set, one_least_graph, one_net_of_product, one_net_of_several};
+use opgen_part_laws::{one_adder_set, one_least_graph, one_net_of_product, one_net_of_sop};
+use opgen_shared::one_rule_graph;
 use opgen_top::circuits_serve;
 
 /// A specification leaves at most one net.
@@ -9,9 +10,10 @@ pub fn one_net()
     ensures { HasOneNet }
 {
     one_net_of_product();
-    one_net_of_several();
+    one_net_of_sop();
     one_adder_set();
     one_least_graph();
+    one_rule_graph();
 }
 
 /// A specification leaves at most one circuit for a table of delays: `generate` stores it, and `vectors` runs it.
@@ -19,9 +21,10 @@ pub fn one_circuit()
     ensures { HasOneCircuit }
 {
     one_net_of_product();
-    one_net_of_several();
+    one_net_of_sop();
     one_adder_set();
     one_least_graph();
+    one_rule_graph();
 }
 
 /// Each circuit is sound.

@@ -13,7 +13,7 @@ use Rattle.opgen_ports.specs.declared.TheConstants.{MAX_SHIFT}
 use Rattle.opgen_operator.specs.Bounded.{ValidAreAccepted}
 use Rattle.opgen_ports.specs.Ports.{HasWidth}
 use Rattle.opgen_operator.specs.Fits.{FitsOperator, FitsSpec, name_and_width}
-use Rattle.opgen_operator.specs.Operator.{meaning, IsGoodOf, IsAcceptedBy, IsAccepted, IsOperator, least_shift, shift, HasRoom, need, inexact, operator_outputs}
+use Rattle.opgen_operator.specs.Operator.{meaning, IsGoodOf, IsAccepted, IsOperator, least_shift, shift, HasRoom, need, inexact, operator_outputs}
 use Rattle.opgen_ports.specs.SpecName.{is_taken, is_signal_name}
 use Rattle.opgen_operator.specs.Outputs.{inputs_of, outputs_of, IsGoodBy, chosen_ports}
 use Rattle.opgen_operator.specs.PortWords.{recent_words, output_words}

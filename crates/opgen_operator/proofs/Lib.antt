@@ -1,4 +1,5 @@
 -- Lemmas on operators and specifications.
+pub mod Listed
 pub mod Named
 pub mod Operators
 pub mod Accepted

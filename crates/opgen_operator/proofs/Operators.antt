@@ -3,7 +3,7 @@ use Rattle.std.proofs.Common.{arith, ◌≤◌, length, ℕ}
 use Rattle.std.specs.Prelude.{All, ◌≤ℤ◌, neg_ℤ}
 use Rattle.opgen_kinds.specs.declared.kind.Kind.TheVariants as kind_of
 use Rattle.opgen_operator.specs.declared.operator.Operator.{Operator}
-use Rattle.opgen_operator.specs.declared.operator.Operator.TheVariants.{Scale, Fir, Multiply, Divide, Root, Mcm, Constdiv, Poly, Tfir}
+use Rattle.opgen_operator.specs.declared.operator.Operator.TheVariants.{Scale, Fir, Multiply, Divide, Root, Mcm, Constdiv, Poly, Tfir, Sop}
 use Rattle.opgen_ports.specs.declared.TheConstants.{MAX_SHIFT}
 use Rattle.opgen_ports.specs.Ports.{HasWidth}
 use Rattle.opgen_ports.specs.Limits.{most_input, most_signal}
@@ -17,6 +17,7 @@ use Rattle.opgen_kinds.proofs.of_kind.Product.{product_lawful}
 use Rattle.opgen_kinds.proofs.of_kind.Several.{several_lawful}
 use Rattle.opgen_kinds.proofs.of_kind.Single.{single_lawful}
 use Rattle.opgen_kinds.proofs.of_kind.SmallDiv.{small_lawful}
+use Rattle.opgen_kinds.proofs.of_kind.Sop.{sop_lawful}
 use Rattle.opgen_kinds.proofs.of_kind.Sum.{sum_lawful}
 use Rattle.opgen_kinds.proofs.of_kind.Taps.{taps_lawful}
 
@@ -30,12 +31,13 @@ lawful (Mcm m) = several_lawful m
 lawful (Constdiv c) = small_lawful c
 lawful (Poly p) = poly_lawful p
 lawful (Tfir f) = taps_lawful f
+lawful (Sop s) = sop_lawful s
 
 pub input_bits : (op : Operator) → IsOperator op → All HasBit (operator_inputs op)
 input_bits op is = (lawful op).input_bits is
 
-pub some_input : (op : Operator) → 1 ≤ length (operator_inputs op)
-some_input op = (lawful op).some_input
+pub some_input : (op : Operator) → IsOperator op → 1 ≤ length (operator_inputs op)
+some_input op is = (lawful op).some_input is
 
 pub shift_limit : (version : ℕ) (op : Operator) → shift op ≤ℤ most_shift version op → shift op ≤ℤ MAX_SHIFT
 shift_limit version op h = (lawful op).limit version h

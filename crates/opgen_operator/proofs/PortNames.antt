@@ -1,27 +1,27 @@
--- The ports of a net that fits a specification can stand in a design: x, or a and b; then y, or q or y and r, or y0 to y7.
-use Rattle.std.proofs.Common.{◌≡◌, ℕ, ◌&&◌, ◌≤◌, true, false, Bool, Option, Some, None, List, [], ◌∷◌, ◌++◌, length, map, refl, sym, ap, ◌∙◌, arith}
-use Rattle.std.proofs.lemmas.Bool.{and_parts}
+-- The ports of a net that fits a specification can stand in a design: x, or a and b, or names that the document gives; then y,
+-- or q or y and r, or y0 to y7.
+use Rattle.std.proofs.Common.{◌≡◌, ℕ, ◌≤◌, true, false, Bool, Option, Some, None, List, [], ◌∷◌, ◌++◌, length, map, refl, sym, ap, subst, ◌∙◌, arith}
 use Rattle.std.proofs.lemmas.List.{length-map}
 use Rattle.std.proofs.lemmas.Simd.{map-map}
 use Rattle.std.specs.Fmt.{digits}
-use Rattle.std.specs.List.{list_all}
-use Rattle.std.specs.Prelude.{IsTrue, ℤ, codes}
-use Rattle.opgen_names.specs.Names.{is_allowed_name, refused_words}
+use Rattle.std.specs.Prelude.{ℤ, codes}
+use Rattle.opgen_names.specs.Names.{refused_words}
 use Rattle.opgen_num.specs.declared.format.Format.{Format}
 use Rattle.opgen_net.specs.declared.net.Output.{Output}
-use Rattle.opgen_net.specs.Named.{port_names, IsFree}
+use Rattle.opgen_net.specs.Named.{port_names}
 use Rattle.opgen_net.specs.Valid.{slice_width}
 use Rattle.opgen_operator.specs.declared.operator.Operator.{Operator}
-use Rattle.opgen_operator.specs.declared.operator.Operator.TheVariants.{Scale, Fir, Multiply, Divide, Root, Mcm, Constdiv, Poly, Tfir}
+use Rattle.opgen_operator.specs.declared.operator.Operator.TheVariants.{Scale, Fir, Multiply, Divide, Root, Mcm, Constdiv, Poly, Tfir, Sop}
 use Rattle.opgen_operator.specs.Fits.{name_and_width}
-use Rattle.opgen_operator.specs.Operator.{operator_inputs, operator_outputs, IsOperator}
+use Rattle.opgen_operator.specs.GivenNames.{AreGivenNames}
+use Rattle.opgen_operator.specs.Operator.{operator_inputs, operator_outputs, IsOperator, given_names}
 use Rattle.opgen_operator.specs.Outputs.{inputs_of, outputs_of, chosen, chosen_ports}
 use Rattle.opgen_operator.specs.PortNames.{FittingNetsAreNamed}
 use Rattle.opgen_kinds.specs.Several.{numbered, constant_format}
 use Rattle.opgen_ports.specs.declared.ports.PortFormat.{PortFormat}
 use Rattle.opgen_ports.specs.Ports.{port, with_rest}
-use Rattle.opgen_operator.proofs.Named.{is_free, differ, are_good, free, all_of, pairs, names}
-use Rattle.opgen_operator.proofs.Operators.{lawful, some_input}
+use Rattle.opgen_operator.proofs.Named.{AreNamed, are_good, good_named, given_named, names}
+use Rattle.opgen_operator.proofs.Operators.{some_input}
 
 small_good : (exact : Bool) (q r : Format)
     → are_good (codes "x" ∷ names (with_rest exact (record { name = codes "q"; format = q }) (record { name = codes "r"; format = r })))
@@ -58,17 +58,19 @@ root_good true y r = refl
 root_good false y r = refl
 
 -- a design may have the names of an operator's ports
-names_good : (op : Operator) → IsOperator op → are_good (names (operator_inputs op) ++ names (operator_outputs op)) ≡ true
+names_fine : (op : Operator) (name : List ℕ) → IsOperator op → AreGivenNames name (given_names op)
+    → AreNamed (names (operator_inputs op) ++ names (operator_outputs op))
 unfolding refused_words
-names_good (Scale s) is = refl
-names_good (Fir s) is = refl
-names_good (Multiply p) is = refl
-names_good (Divide p) is = quotient_good p.exact _ _
-names_good (Root r) is = root_good r.exact _ _
-names_good (Mcm m) is = numbered_good (constant_format m.input) m.constants is.few
-names_good (Constdiv c) is = small_good c.exact _ _
-names_good (Poly p) is = refl
-names_good (Tfir f) is = refl
+names_fine (Scale s) name is given = good_named _ refl
+names_fine (Fir s) name is given = good_named _ refl
+names_fine (Multiply p) name is given = good_named _ refl
+names_fine (Divide p) name is given = good_named _ (quotient_good p.exact _ _)
+names_fine (Root r) name is given = good_named _ (root_good r.exact _ _)
+names_fine (Mcm m) name is given = good_named _ (numbered_good (constant_format m.input) m.constants is.few)
+names_fine (Constdiv c) name is given = good_named _ (small_good c.exact _ _)
+names_fine (Poly p) name is given = good_named _ refl
+names_fine (Tfir f) name is given = good_named _ refl
+names_fine (Sop s) name is given = given_named name (names s.inputs) given
 
 -- an output of a chosen width has the name of the operator's own
 chosen_names : (width : Option ℕ) (sign : Option Bool) (ports : List PortFormat) → names (chosen_ports width sign ports) ≡ names ports
@@ -77,7 +79,7 @@ chosen_names (Some width) sign ports =
     map-map (λ (p : PortFormat). p.name) (λ (p : PortFormat). port p.name (chosen width sign p.format)) ports
 
 pub fitting_named : FittingNetsAreNamed
-fitting_named spec net ranges fits name is =
+fitting_named spec net ranges given fits name is =
     let inputs : map (λ i. i.0) net.inputs ≡ names (inputs_of spec) =
     ap (map (λ i. i.0)) fits.inputs ∙ map-map (λ (i : List ℕ × ℕ). i.0) name_and_width (inputs_of spec) in
     let outputs : map (λ o. o.name) net.outputs ≡ names (outputs_of spec) =
@@ -87,14 +89,11 @@ fitting_named spec net ranges fits name is =
     chosen_names spec.out_width spec.out_signed (operator_outputs spec.op) in
     let same : port_names net ≡ names (inputs_of spec) ++ names (operator_outputs spec.op) =
     ap (λ ns. ns ++ map (λ o. o.name) net.outputs) inputs ∙ ap (λ ns. names (inputs_of spec) ++ ns) (outputs ∙ plain) in
-    let good : are_good (port_names net) ≡ true = ap are_good same ∙ names_good spec.op ranges in
-    let (allowed, rest) = and_parts (list_all is_allowed_name (port_names net))
-    (list_all is_free (port_names net) && differ (port_names net)) good in
-    let (all_free, apart) = and_parts (list_all is_free (port_names net)) (differ (port_names net)) rest in
+    let named : AreNamed (port_names net) = subst AreNamed (sym same) (names_fine spec.op spec.name ranges given) in
     let long = length-map net.inputs (λ i. i.0) in record {
-      has_port = omega (arith, long, ap length inputs, length-map (inputs_of spec) (λ p. p.name), some_input spec.op);
+      has_port = omega (arith, long, ap length inputs, length-map (inputs_of spec) (λ p. p.name), some_input spec.op ranges);
       name_allowed = is;
-      allowed = all_of is_allowed_name (λ n. IsTrue (is_allowed_name n)) (λ n h. h) (port_names net) allowed;
-      differ = pairs (port_names net) apart;
-      free = all_of is_free IsFree free (port_names net) all_free;
+      allowed = named.allowed;
+      differ = named.differ;
+      free = named.free;
     }

@@ -1,5 +1,5 @@
 -- The kinds with one output whose width may be chosen: its port, its exact value, and when it is good.
-use Rattle.std.proofs.Common.{◌≡◌, ◌≤◌, Bool, true, false, Option, Some, None, List, [], ◌∷◌, refl, sym, ap, subst, ◌∙◌, arith, if◌then◌else◌}
+use Rattle.std.proofs.Common.{◌≡◌, ◌≤◌, Bool, true, false, Some, [], ◌∷◌, refl, sym, ap, subst, ◌∙◌, arith}
 use Rattle.std.proofs.lemmas.Int.{ints}
 use Rattle.std.proofs.lemmas.Nat.{pow_pos}
 use Rattle.std.specs.Prelude.{ℕ, zero, suc, ℤ, pos, neg_ℤ, ◌<ℤ◌, ◌≤ℤ◌, codes, All, nat_lt}
@@ -9,14 +9,16 @@ use Rattle.opgen_num.specs.Formats.{fewest_bits, is_negative, range_width, IsWid
 use Rattle.opgen_num.proofs.RangeWidth.{range_width-least}
 use Rattle.opgen_num.specs.declared.format.Ratio.{Ratio}
 use Rattle.opgen_operator.specs.declared.operator.Operator.{Operator}
-use Rattle.opgen_operator.specs.declared.operator.Operator.TheVariants.{Scale, Fir, Multiply, Divide, Root, Mcm, Constdiv, Poly, Tfir}
+use Rattle.opgen_operator.specs.declared.operator.Operator.TheVariants.{Scale, Fir, Multiply, Divide, Root, Mcm, Constdiv, Poly, Tfir, Sop}
 use Rattle.opgen_operator.specs.Operator.{operator_outputs, IsAccepted, IsOperator, IsGoodOf, exact_value, has_value, plain_output}
 use Rattle.opgen_kinds.specs.Horner.{result_low, result_high}
 use Rattle.opgen_kinds.specs.Product.{product_shift, product_places}
+use Rattle.opgen_kinds.specs.Sop.{sop_places}
 use Rattle.opgen_kinds.specs.Sum.{sum_shift, sum_places}
 use Rattle.opgen_kinds.specs.Taps.{direct}
 use Rattle.opgen_kinds.proofs.Roundings.{positive_units}
 use Rattle.opgen_kinds.proofs.of_kind.Results.{results_order}
+use Rattle.opgen_kinds.proofs.of_kind.Sop.{sop_positive}
 use Rattle.std.specs.Option.{unwrap_or}
 use Rattle.opgen_operator.specs.declared.spec.Spec.{Spec}
 use Rattle.opgen_operator.specs.Outputs.{outputs_of, chosen, chosen_ports}
@@ -42,6 +44,7 @@ only_output (Mcm m) h = absurd cc
 only_output (Constdiv c) h = absurd cc
 only_output (Poly p) h = refl
 only_output (Tfir f) h = refl
+only_output (Sop s) h = refl
 
 inside : {A : Type 0} (a b : A) → Some a ≡ Some b → a ≡ b
 inside a b e = cc
@@ -57,6 +60,7 @@ plain_is (Mcm m) f h e = absurd cc
 plain_is (Constdiv c) f h e = absurd cc
 plain_is (Poly p) f h e = cc
 plain_is (Tfir t) f h e = cc
+plain_is (Sop s) f h e = cc
 
 -- it has an exact value
 pub some_value : (op : Operator) (inputs : (port : ℕ) → Recent) → has_value op ≡ true → (v : Ratio) × (exact_value op inputs ≡ Some v)
@@ -69,6 +73,7 @@ some_value (Mcm m) inputs h = absurd cc
 some_value (Constdiv c) inputs h = absurd cc
 some_value (Poly p) inputs h = (_, refl)
 some_value (Tfir f) inputs h = (_, refl)
+some_value (Sop s) inputs h = (_, refl)
 
 -- what is good for the operator is good for the exact value
 pub value_good : (exact : Bool) (op : Operator) (inputs : (port : ℕ) → Recent) (outputs : (port : ℕ) → ℤ) (v : Ratio)
@@ -82,6 +87,7 @@ value_good exact (Mcm m) inputs outputs v e good = absurd cc
 value_good exact (Constdiv c) inputs outputs v e good = absurd cc
 value_good exact (Poly p) inputs outputs v e good = subst (λ (w : Ratio). IsGoodRatio exact w (outputs 0)) (inside _ v e) good
 value_good exact (Tfir f) inputs outputs v e good = subst (λ (w : Ratio). IsGoodRatio exact w (outputs 0)) (inside _ v e) good
+value_good exact (Sop s) inputs outputs v e good = subst (λ (w : Ratio). IsGoodRatio exact w (outputs 0)) (inside _ v e) good
 
 -- and that has a denominator above 0
 pub value_positive : (op : Operator) (inputs : (port : ℕ) → Recent) (v : Ratio) → IsOperator op → exact_value op inputs ≡ Some v → pos 0 <ℤ v.den
@@ -99,6 +105,8 @@ value_positive (Poly p) inputs v is e =
     subst (λ (w : Ratio). pos 0 <ℤ w.den) (inside _ v e) (positive_units p.den _ is.positive)
 value_positive (Tfir f) inputs v is e =
     subst (λ (w : Ratio). pos 0 <ℤ w.den) (inside _ v e) (positive_units (pos 1) (places_down (sum_shift (direct f))) (omega (arith, ints)))
+value_positive (Sop s) inputs v is e =
+    subst (λ (w : Ratio). pos 0 <ℤ w.den) (inside _ v e) (sop_positive s (λ input. inputs input 0) is)
 
 few_least : (signed : Bool) → fewest_bits signed ≤ 2
 few_least true = omega arith
@@ -128,6 +136,7 @@ fewest (Mcm m) is h = absurd cc
 fewest (Constdiv c) is h = absurd cc
 fewest (Poly p) is h = range_fewest (result_low p) (result_high p) (results_order p)
 fewest (Tfir f) is h = covering_width (sum_places (direct f)) f.out_lsb
+fewest (Sop s) is h = covering_width (sop_places s) s.out_lsb
 
 -- the output has the width of a signal
 pub plain_width : (op : Operator) → IsAccepted op → has_value op ≡ true

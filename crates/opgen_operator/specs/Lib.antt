@@ -1,6 +1,7 @@
 -- Definitions of opgen_operator: specifications, their ports, exact values, good outputs, and nets that fit.
 pub mod Operator
 pub mod Outputs
+pub mod GivenNames
 pub mod Valid
 pub mod PortWords
 pub mod DesignPorts

@@ -2,7 +2,7 @@
 use Rattle.std.specs.Prelude.{ℕ, Bool, Option, Some, None, ℤ, List, if◌then◌else◌}
 use Rattle.opgen_kinds.specs.declared.kind.Kind.{Kind}
 use Rattle.opgen_operator.specs.declared.operator.Operator.{Operator}
-use Rattle.opgen_operator.specs.declared.operator.Operator.TheVariants.{Scale, Fir, Multiply, Divide, Root, Mcm, Constdiv, Poly, Tfir}
+use Rattle.opgen_operator.specs.declared.operator.Operator.TheVariants.{Scale, Fir, Multiply, Divide, Root, Mcm, Constdiv, Poly, Tfir, Sop}
 use Rattle.opgen_ports.specs.declared.ports.PortFormat.{PortFormat}
 use Rattle.opgen_kinds.specs.Accepted.{is_marked, IsAcceptedIn, IsAcceptable}
 use Rattle.opgen_kinds.specs.Judged.{IsNonzeroAt}
@@ -12,6 +12,7 @@ use Rattle.opgen_kinds.specs.Product.{product_meaning}
 use Rattle.opgen_kinds.specs.Several.{several_meaning}
 use Rattle.opgen_kinds.specs.Single.{single_meaning}
 use Rattle.opgen_kinds.specs.SmallDiv.{small_meaning}
+use Rattle.opgen_kinds.specs.Sop.{sop_meaning}
 use Rattle.opgen_kinds.specs.Sum.{scale_meaning, fir_meaning}
 use Rattle.opgen_kinds.specs.Taps.{taps_meaning}
 use Rattle.opgen_kinds.specs.Meaning.{Meaning}
@@ -32,6 +33,7 @@ meaning (Mcm m) = several_meaning m
 meaning (Constdiv c) = small_meaning c
 meaning (Poly p) = poly_meaning p
 meaning (Tfir f) = taps_meaning f
+meaning (Sop s) = sop_meaning s
 
 abbrev pub kind : Operator → Kind
 kind op = (meaning op).kind
@@ -49,6 +51,10 @@ operator_inputs op = (meaning op).inputs
 
 abbrev pub operator_outputs : Operator → List PortFormat
 operator_outputs op = (meaning op).outputs
+
+-- the names of the inputs, where the document gives them
+abbrev pub given_names : Operator → List (List ℕ)
+given_names op = (meaning op).given_names
 
 -- the place of the input port that must not be 0, where there is one
 abbrev pub divisor : Operator → Option ℕ

@@ -5,9 +5,10 @@ use Rattle.opgen_net.specs.declared.net.Net.{Net}
 use Rattle.opgen_net.specs.Named.{IsNamed}
 use Rattle.opgen_operator.specs.declared.spec.Spec.{Spec}
 use Rattle.opgen_operator.specs.Fits.{FitsSpec}
-use Rattle.opgen_operator.specs.Operator.{IsOperator}
+use Rattle.opgen_operator.specs.GivenNames.{AreGivenNames}
+use Rattle.opgen_operator.specs.Operator.{IsOperator, given_names}
 
--- The net's ports have the operator's names, which are allowed and differ from each other and from the design's own.
+-- The net's ports have the operator's names, which are allowed and differ from each other.
 abbrev pub FittingNetsAreNamed : Type 0
-FittingNetsAreNamed = (spec : Spec) (net : Net) → IsOperator spec.op → FitsSpec spec net
+FittingNetsAreNamed = (spec : Spec) (net : Net) → IsOperator spec.op → AreGivenNames spec.name (given_names spec.op) → FitsSpec spec net
     → (name : List ℕ) → IsTrue (is_allowed_name name) → IsNamed name net

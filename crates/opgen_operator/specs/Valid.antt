@@ -4,7 +4,8 @@ use Rattle.opgen_operator.specs.declared.operator.Operator.{Operator}
 use Rattle.opgen_operator.specs.declared.spec.DelayLine.{DelayLine}
 use Rattle.opgen_operator.specs.declared.spec.Spec.{Spec}
 use Rattle.opgen_ports.specs.Limits.{IsVersion}
-use Rattle.opgen_operator.specs.Operator.{IsInVersion, inexact, own_mark, IsAcceptedBy, has_value}
+use Rattle.opgen_operator.specs.Operator.{IsInVersion, given_names, inexact, own_mark, IsAcceptedBy, has_value}
+use Rattle.opgen_operator.specs.GivenNames.{AreGivenNames}
 use Rattle.opgen_ports.specs.SpecName.{is_spec_name}
 
 -- the operator's own mark of exact outputs, where it has one, is that of the specification
@@ -34,6 +35,7 @@ pub record IsValidSpec (spec : Spec) : Type 0 where
   pub name : IsTrue (is_spec_name spec.name)
   pub op : IsAcceptedBy spec.version spec.op
   pub has : IsInVersion spec.version spec.op
+  pub names : AreGivenNames spec.name (given_names spec.op)
   pub mode : IsModeOf spec.exact spec.op
   pub output : IsChoice spec.version spec.op spec.out_width spec.out_signed
   pub target : (1 ≤ length spec.target) × (length spec.target ≤ 32)

@@ -19,10 +19,12 @@
 #![tactic(auto)]
 
 mod acceptance;
+mod given_names;
 mod laws;
 mod operator;
 mod spec;
 
+pub use given_names::{MAX_PORT_NAME_LEN, is_port_name};
 pub use laws::{entries_are_small, inputs_are_wide, outputs_hold, products_have_width};
 pub use operator::Operator;
 pub use opgen_kinds::Kind;
@@ -32,6 +34,7 @@ pub use opgen_kinds::product::Product;
 pub use opgen_kinds::several::Several;
 pub use opgen_kinds::single::Single;
 pub use opgen_kinds::small_div::SmallDiv;
+pub use opgen_kinds::sop::{Scaled, Sop, Times};
 pub use opgen_kinds::sum::Sum;
 pub use opgen_kinds::taps::Taps;
 pub use opgen_ports::{

@@ -1,10 +1,12 @@
 //! Operators: their kinds, and each question about them.
 ghost use Rattle.std.specs.Prelude.{◌≡◌, ◌↔◌, ℤ, pos, neg_ℤ, ◌≤ℤ◌, ◌<ℤ◌, IfOk, IfSome, IsTrue};
 ghost use Rattle.opgen_kinds.specs.Judged.{IsCycleJudged};
-ghost use Rattle.opgen_operator.specs.Operator.{shift, HasRoom, operator_inputs, operator_outputs, IsOperator, inexact, need, least_shift, most_shift, kind, meaning, divisor, has_graph, own_mark, IsAccepted, IsInVersion, HasInputsWithin, plain_output, exact_value, has_value};
+ghost use Rattle.opgen_operator.specs.GivenNames.{AreGivenNames};
+ghost use Rattle.opgen_operator.specs.Operator.{shift, given_names, HasRoom, operator_inputs, operator_outputs, IsOperator, inexact, need, least_shift, most_shift, kind, meaning, divisor, has_graph, own_mark, IsAccepted, IsInVersion, HasInputsWithin, plain_output, exact_value, has_value};
 ghost use Rattle.opgen_ports.specs.PortNumbers.{recent_numbers, IsHistory, IsCycle};
 ghost use Rattle.opgen_operator.specs.Valid.{AgreesOnExact};
 
+use crate::given_names::are_given_names;
 use opgen_kinds::Kind;
 use opgen_kinds::pair::{Pair, pair_need, pair_shift};
 use opgen_kinds::poly::Poly;
@@ -12,6 +14,7 @@ use opgen_kinds::product::{Product, product_inexact, product_need, product_shift
 use opgen_kinds::several::Several;
 use opgen_kinds::single::{Single, root_shift};
 use opgen_kinds::small_div::SmallDiv;
+use opgen_kinds::sop::Sop;
 use opgen_kinds::sum::{Sum, first_inexact, most_sum_shift, sum_need, sum_shift};
 use opgen_kinds::taps::Taps;
 use opgen_num::{Format, Ratio};
@@ -38,6 +41,8 @@ pub enum Operator {
     Poly(Poly),
     /// A filter of whole coefficients in transposed form.
     Tfir(Taps),
+    /// A sum of constants times inputs and of products of inputs.
+    Sop(Sop),
 }
 
 impl Operator {
@@ -55,6 +60,7 @@ impl Operator {
             Operator::Constdiv(_) => Kind::Constdiv,
             Operator::Poly(_) => Kind::Poly,
             Operator::Tfir(_) => Kind::Tfir,
+            Operator::Sop(_) => Kind::Sop,
         }
     }
 
@@ -70,6 +76,7 @@ impl Operator {
             Self::Divide(pair) => pair_shift(pair),
             Self::Root(single) => root_shift(single),
             Self::Tfir(taps) => taps.shift(),
+            Self::Sop(sop) => sop.shift(),
             Self::Mcm(_) | Self::Constdiv(_) | Self::Poly(_) => 0,
         }
     }
@@ -86,6 +93,7 @@ impl Operator {
             Self::Multiply(product) => product_inexact(product),
             Self::Poly(_) => Some(0),
             Self::Tfir(taps) => taps.inexact(),
+            Self::Sop(sop) => sop.inexact(),
             Self::Divide(_) | Self::Root(_) | Self::Mcm(_) | Self::Constdiv(_) => None,
         }
     }
@@ -103,6 +111,7 @@ impl Operator {
             Self::Fir(sum) => Some(sum_need(sum)),
             Self::Multiply(product) => Some(product_need(product)),
             Self::Divide(pair) => Some(pair_need(pair)),
+            Self::Sop(sop) => Some(sop.need()),
             Self::Root(_) | Self::Mcm(_) | Self::Constdiv(_) | Self::Poly(_) | Self::Tfir(_) =>
                 None,
         }
@@ -113,7 +122,8 @@ impl Operator {
         ensures { result ≡ least_shift self.now }
     {
         match self {
-            Self::Scale(_) | Self::Fir(_) | Self::Multiply(_) | Self::Tfir(_) => -MAX_SHIFT,
+            Self::Scale(_) | Self::Fir(_) | Self::Multiply(_) => -MAX_SHIFT,
+            Self::Tfir(_) | Self::Sop(_) => -MAX_SHIFT,
             Self::Divide(_) | Self::Root(_) | Self::Mcm(_) => 0,
             Self::Constdiv(_) | Self::Poly(_) => 0,
         }
@@ -125,7 +135,7 @@ impl Operator {
     {
         match self {
             Self::Scale(_) | Self::Fir(_) => most_sum_shift(version),
-            Self::Multiply(_) | Self::Divide(_) | Self::Root(_) => MAX_SHIFT,
+            Self::Multiply(_) | Self::Divide(_) | Self::Root(_) | Self::Sop(_) => MAX_SHIFT,
             Self::Mcm(_) | Self::Constdiv(_) | Self::Poly(_) | Self::Tfir(_) => 0,
         }
     }
@@ -138,6 +148,7 @@ impl Operator {
             Self::Divide(_) => Some(1),
             Self::Scale(_) | Self::Fir(_) | Self::Multiply(_) | Self::Root(_) => None,
             Self::Mcm(_) | Self::Constdiv(_) | Self::Poly(_) | Self::Tfir(_) => None,
+            Self::Sop(_) => None,
         }
     }
 
@@ -148,7 +159,7 @@ impl Operator {
         match self {
             Self::Mcm(_) | Self::Tfir(_) => true,
             Self::Scale(_) | Self::Fir(_) | Self::Multiply(_) | Self::Divide(_) => false,
-            Self::Root(_) | Self::Constdiv(_) | Self::Poly(_) => false,
+            Self::Root(_) | Self::Constdiv(_) | Self::Poly(_) | Self::Sop(_) => false,
         }
     }
 
@@ -166,6 +177,7 @@ impl Operator {
             Self::Constdiv(small) => small.is_ranged(),
             Self::Poly(poly) => poly.is_ranged(),
             Self::Tfir(taps) => taps.is_ranged(),
+            Self::Sop(sop) => sop.is_ranged(),
         }
     }
 
@@ -183,6 +195,20 @@ impl Operator {
             Self::Constdiv(small) => small.is_in(version),
             Self::Poly(poly) => poly.is_in(version),
             Self::Tfir(taps) => taps.is_in(version),
+            Self::Sop(sop) => sop.is_in(version),
+        }
+    }
+
+    /// Whether the names that the document gives to the inputs are such names, for a specification of
+    /// this name.
+    pub(crate) fn is_named(&self, name: &str) -> bool
+        ensures { IsTrue result ↔ AreGivenNames name.now (given_names self.now) }
+    {
+        match self {
+            Self::Sop(sop) => are_given_names(name, sop.inputs.as_slice()),
+            Self::Scale(_) | Self::Fir(_) | Self::Multiply(_) | Self::Divide(_) => true,
+            Self::Root(_) | Self::Mcm(_) | Self::Constdiv(_) | Self::Poly(_) | Self::Tfir(_) =>
+                true,
         }
     }
 
@@ -196,6 +222,7 @@ impl Operator {
             Self::Divide(pair) => Some(pair.exact),
             Self::Root(single) => Some(single.exact),
             Self::Constdiv(small) => Some(small.exact),
+            Self::Sop(sop) => Some(sop.exact),
             Self::Multiply(_) | Self::Mcm(_) | Self::Poly(_) | Self::Tfir(_) => None,
         }
     }
@@ -214,6 +241,7 @@ impl Operator {
             Self::Constdiv(small) => is_within(most, small.input),
             Self::Poly(poly) => is_within(most, poly.input),
             Self::Tfir(taps) => is_within(most, taps.input),
+            Self::Sop(sop) => sop.has_inputs_within(most),
         }
     }
 
@@ -231,6 +259,7 @@ impl Operator {
             Self::Constdiv(small) => small.inputs(alloc),
             Self::Poly(poly) => poly.inputs(alloc),
             Self::Tfir(taps) => taps.inputs(alloc),
+            Self::Sop(sop) => sop.inputs(alloc),
         }
     }
 
@@ -249,6 +278,7 @@ impl Operator {
             Self::Constdiv(small) => small.outputs(alloc),
             Self::Poly(poly) => poly.outputs(alloc),
             Self::Tfir(taps) => taps.outputs(alloc),
+            Self::Sop(sop) => sop.outputs(alloc),
         }
     }
 
@@ -263,6 +293,7 @@ impl Operator {
             Self::Multiply(product) => Some(product.output()),
             Self::Poly(poly) => Some(poly.output()),
             Self::Tfir(taps) => Some(taps.output()),
+            Self::Sop(sop) => Some(sop.output()),
             Self::Divide(_) | Self::Root(_) | Self::Mcm(_) | Self::Constdiv(_) => None,
         }
     }
@@ -280,6 +311,7 @@ impl Operator {
             Self::Multiply(product) => Some(product.value(history)),
             Self::Poly(poly) => Some(poly.value(history)),
             Self::Tfir(taps) => Some(taps.value(history)),
+            Self::Sop(sop) => Some(sop.value(history)),
             Self::Divide(_) | Self::Root(_) | Self::Mcm(_) | Self::Constdiv(_) => None,
         }
     }
@@ -289,8 +321,8 @@ impl Operator {
         ensures { result ≡ has_value self.now }
     {
         match self {
-            Self::Scale(_) | Self::Fir(_) | Self::Multiply(_) | Self::Poly(_) | Self::Tfir(_) =>
-                true,
+            Self::Scale(_) | Self::Fir(_) | Self::Multiply(_) => true,
+            Self::Poly(_) | Self::Tfir(_) | Self::Sop(_) => true,
             Self::Divide(_) | Self::Root(_) | Self::Mcm(_) | Self::Constdiv(_) => false,
         }
     }
@@ -313,6 +345,7 @@ impl Operator {
             Self::Constdiv(small) => small.judge(history, outputs),
             Self::Poly(poly) => poly.judge(exact, history, outputs),
             Self::Tfir(taps) => taps.judge(exact, history, outputs),
+            Self::Sop(sop) => sop.judge(exact, history, outputs),
         }
     }
 }

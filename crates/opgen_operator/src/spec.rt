@@ -1,9 +1,11 @@
 //! Specifications as types: operator, output, target, period and delay lines; their ports, and when outputs are good.
 ghost use Rattle.std.specs.Prelude.{◌≡◌, ◌≤◌, ◌<◌, ◌^◌, Some, None, [], ◌∷◌, codes, IfOk, IfSome, ◌↔◌, All, IsTrue};
 ghost use Rattle.opgen_num.specs.Formats.{IsWidthOf};
-ghost use Rattle.opgen_operator.specs.Operator.{plain_output, exact_value};
+ghost use Rattle.opgen_operator.specs.GivenNames.{AreGivenNames};
+ghost use Rattle.opgen_operator.specs.Operator.{plain_output, exact_value, given_names};
 ghost use Rattle.opgen_operator.specs.Outputs.{inputs_of, outputs_of, IsGood, IsGoodCut, IsInRange};
 ghost use Rattle.opgen_ports.specs.Ports.{port};
+ghost use Rattle.opgen_ports.specs.SpecName.{is_spec_name};
 ghost use Rattle.opgen_ports.specs.PortNumbers.{number_of, recent_numbers, output_numbers, IsHistory, IsCycle};
 ghost use Rattle.opgen_operator.specs.Valid.{AgreesWith, IsChoice, IsDelayLine, IsValidSpec};
 
@@ -71,7 +73,7 @@ impl Spec {
         ensures { IsTrue result ↔ IsValidSpec self.now }
     {
         is_version(self.version)
-            && is_spec_name(self.name.as_str())
+            && self.has_names()
             && self.op.is_of(self.version)
             && agrees(self.exact, self.op.own_mark())
             && is_length(1, 32, self.target.as_str().len())
@@ -80,6 +82,13 @@ impl Spec {
             && are_delay_lines(self.delays.as_slice())
             && self.op.is_whole(self.exact)
             && self.is_choice()
+    }
+
+    /// Whether the specification and its inputs may have their names.
+    fn has_names(&self) -> bool
+        ensures { IsTrue result ↔ (IsTrue (is_spec_name self.now.name) × AreGivenNames self.now.name (given_names self.now.op)) }
+    {
+        is_spec_name(self.name.as_str()) && self.op.is_named(self.name.as_str())
     }
 
     /// Whether the width and the sign of the output may be chosen so.

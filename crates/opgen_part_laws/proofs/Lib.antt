@@ -11,4 +11,5 @@ pub mod FirstCause
 pub mod OneReadingOfRows
 pub mod OutputDepth
 pub mod OneProductNet
+pub mod OneSopNet
 mod WholeCoefficients

@@ -1,8 +1,9 @@
-//! Laws of nets and heaps that grow, and of the nets of products and polynomials.
+//! Laws of nets and heaps that grow, and of the nets of products, sums of products and polynomials.
 ghost use Rattle.opgen_net.specs.Grown.{GrownNetsKeepNodes};
 ghost use Rattle.opgen_heap.specs.Standing.{BitsStillStand};
 ghost use Rattle.opgen_mult.specs.OneNet.{HasOneNet};
 ghost use Rattle.opgen_poly.specs.Recipe.{LeavesOutMost};
+ghost use Rattle.opgen_sop.specs.OneNet.{HasOneNetOfSop};
 
 /// A net that has grown keeps the width of each node that it had, and the node's word at each time.
 pub fn grown_nets_keep_nodes()
@@ -17,6 +18,11 @@ pub fn bits_still_stand()
 /// A product leaves one net, so each call of `build` with it answers the same.
 pub fn one_net_of_product()
     ensures { HasOneNet }
+{}
+
+/// A sum of products leaves one net, so each call of `build` with it answers the same.
+pub fn one_net_of_sop()
+    ensures { HasOneNetOfSop }
 {}
 
 /// The product of a step leaves out the greatest number of its lowest columns that weigh together at

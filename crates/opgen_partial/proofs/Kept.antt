@@ -1,91 +1,114 @@
--- A sum over pairs of places in three parts: of the lowest columns, of those up to a width, and of those past it.
+-- The products of bits in parts: those that are made and those left out, and of those made, the ones up to the heap's width and past it.
 use Rattle.std.proofs.Common.{◌≡◌, ℕ, ◌+◌, ◌-◌, ◌*◌, ◌^◌, ◌<◌, ◌≤◌, Bool, true, false, ◌&&◌, leb, ltb, cond, pow-add, ⊎_elim, refl, sym, ap, ◌∙◌, arith}
 use Rattle.std.proofs.Math.Nat.{mul-le-mul_right}
-use Rattle.std.proofs.lemmas.Bool.{cases_lt, lt-ltb, le-ltb, le-leb, lt-leb, ltb-false}
+use Rattle.std.proofs.lemmas.Bool.{cases_lt, lt-ltb, le-ltb, le-leb, lt-leb, ltb-false, leb-true}
 use Rattle.opgen_budget.specs.Sums.{sum_over_pairs}
-use Rattle.opgen_budget.specs.Columns.{weight_below}
 use Rattle.opgen_budget.proofs.Sums.{pairs-same, pairs-plus, pairs-order, pairs-times}
+use Rattle.opgen_partial.specs.declared.pairs.Placing.{Placing}
+use Rattle.opgen_partial.specs.declared.pairs.Products.{Products}
+use Rattle.opgen_partial.specs.Law.{IsPlaced, left_out_weight}
+use Rattle.opgen_partial.specs.Recipe.{own_column, is_counted, is_made, column}
+use Rattle.opgen_partial.proofs.Operands.{and-right}
 
-module _ (left width : ℕ) where
-  -- x if the column is neither left out nor past the width, if it is left out, and if it is past the width
+-- x if the product of two bits is made and its column is not past the width
+abbrev pub kept : Products → Placing → (width i j x : ℕ) → ℕ
+kept p f width i j x = cond (is_made p f i j && ltb (column f i j) width) x 0
 
-  abbrev pub kept : (column x : ℕ) → ℕ
-  kept c x = cond (leb left c && ltb c width) x 0
+module _ (p : Products) (f : Placing) (placed : IsPlaced p f) (width : ℕ) (d : ℕ → ℕ → ℕ) (small : (i j : ℕ) → d i j ≤ 1) where
+  abbrev m : ℕ
+  m = p.a.width
 
-  abbrev pub out : (column x : ℕ) → ℕ
-  out c x = cond (ltb c left) x 0
+  abbrev n : ℕ
+  n = p.b.width
 
-  abbrev pub past : (column x : ℕ) → ℕ
-  past c x = cond (ltb c left) 0 (cond (ltb c width) 0 x)
+  abbrev all_at : ℕ → ℕ → ℕ
+  all_at i j = cond (is_counted f i j) (d i j * 2 ^ own_column f i j) 0
 
-  three : (c x : ℕ) → x ≡ kept c x + (out c x + past c x)
-  three c x = ⊎_elim below above (cases_lt c left)
+  abbrev pub made_at : ℕ → ℕ → ℕ
+  made_at i j = cond (is_made p f i j) (d i j * 2 ^ own_column f i j) 0
+
+  abbrev pub out_at : ℕ → ℕ → ℕ
+  out_at i j = cond (is_counted f i j && ltb (own_column f i j) p.left_out) (d i j * 2 ^ own_column f i j) 0
+
+  -- in the heap's columns
+
+  abbrev pub placed_at : ℕ → ℕ → ℕ
+  placed_at i j = cond (is_made p f i j) (d i j * 2 ^ column f i j) 0
+
+  abbrev pub kept_at : ℕ → ℕ → ℕ
+  kept_at i j = kept p f width i j (d i j * 2 ^ column f i j)
+
+  -- past the width, in units of 2 to it
+  abbrev pub units_at : ℕ → ℕ → ℕ
+  units_at i j = cond (is_made p f i j) (cond (ltb (column f i j) width) 0 (d i j * 2 ^ (column f i j - width))) 0
+
+  two : (c : Bool) (own x : ℕ) → cond c x 0 ≡ cond (c && leb p.left_out own) x 0 + cond (c && ltb own p.left_out) x 0
+  two false own x = refl
+  two true own x = ⊎_elim below above (cases_lt own p.left_out)
     where
-      by : (l : Bool) → x ≡ cond l x 0 + cond l 0 x
-      by true = omega arith
-      by false = omega arith
-
-      below : c < left → x ≡ kept c x + (out c x + past c x)
+      below : own < p.left_out → x ≡ cond (leb p.left_out own) x 0 + cond (ltb own p.left_out) x 0
       below h =
-          let k : kept c x ≡ 0 = ap (λ t. cond (t && ltb c width) x 0) (lt-leb left c h) in
-          let o : out c x ≡ x = ap (λ t. cond t x 0) (lt-ltb c left h) in
-          let p : past c x ≡ 0 = ap (λ t. cond t 0 (cond (ltb c width) 0 x)) (lt-ltb c left h) in
-          omega (arith, k, o, p)
+          let k : cond (leb p.left_out own) x 0 ≡ 0 = ap (λ t. cond t x 0) (lt-leb p.left_out own h) in
+          let o : cond (ltb own p.left_out) x 0 ≡ x = ap (λ t. cond t x 0) (lt-ltb own p.left_out h) in
+          omega (arith, k, o)
 
-      above : left ≤ c → x ≡ kept c x + (out c x + past c x)
+      above : p.left_out ≤ own → x ≡ cond (leb p.left_out own) x 0 + cond (ltb own p.left_out) x 0
       above h =
-          let k : kept c x ≡ cond (ltb c width) x 0 = ap (λ t. cond (t && ltb c width) x 0) (le-leb left c h) in
-          let o : out c x ≡ 0 = ap (λ t. cond t x 0) (le-ltb c left h) in
-          let p : past c x ≡ cond (ltb c width) 0 x = ap (λ t. cond t 0 (cond (ltb c width) 0 x)) (le-ltb c left h) in
-          omega (arith, k, o, p, by (ltb c width))
+          let k : cond (leb p.left_out own) x 0 ≡ x = ap (λ t. cond t x 0) (le-leb p.left_out own h) in
+          let o : cond (ltb own p.left_out) x 0 ≡ 0 = ap (λ t. cond t x 0) (le-ltb own p.left_out h) in
+          omega (arith, k, o)
 
-  module _ (m n : ℕ) (d : ℕ → ℕ → ℕ) (small : (i j : ℕ) → d i j ≤ 1) where
-    abbrev weight : ℕ → ℕ → ℕ
-    weight i j = d i j * 2 ^ (i + j)
+  pub in_two : sum_over_pairs m n all_at ≡ sum_over_pairs m n made_at + sum_over_pairs m n out_at
+  in_two =
+      pairs-same m n all_at (λ i j. made_at i j + out_at i j)
+      (λ i j h l. two (is_counted f i j) (own_column f i j) (d i j * 2 ^ own_column f i j))
+      ∙ pairs-plus m n made_at out_at
 
-    abbrev kept_at : ℕ → ℕ → ℕ
-    kept_at i j = kept (i + j) (weight i j)
+  -- what is left out weighs no more than all its bits
+  pub out_below : sum_over_pairs m n out_at ≤ left_out_weight p f
+  out_below =
+      pairs-order m n out_at (λ i j. cond (is_counted f i j && ltb (own_column f i j) p.left_out) (2 ^ own_column f i j) 0)
+      (λ i j h l. one (is_counted f i j && ltb (own_column f i j) p.left_out) (d i j) (2 ^ own_column f i j) (small i j))
+    where
+      one : (t : Bool) (e w : ℕ) → e ≤ 1 → cond t (e * w) 0 ≤ cond t w 0
+      one true e w h = omega (arith, mul-le-mul_right w h)
+      one false e w h = omega arith
 
-    abbrev out_at : ℕ → ℕ → ℕ
-    out_at i j = out (i + j) (weight i j)
+  -- raised and lowered
+  pub moved : 2 ^ f.raised * sum_over_pairs m n made_at ≡ 2 ^ f.lowered * sum_over_pairs m n placed_at
+  moved =
+      let left = pairs-times m n made_at (2 ^ f.raised) in
+      let right = pairs-times m n placed_at (2 ^ f.lowered) in
+      let each = pairs-same m n (λ i j. made_at i j * 2 ^ f.raised) (λ i j. placed_at i j * 2 ^ f.lowered)
+      (λ i j h l. one (is_made p f i j) i j (λ e. leb-true p.left_out (own_column f i j) (and-right (is_counted f i j) (leb p.left_out (own_column f i j)) e))) in
+      omega (arith, left, right, each)
+    where
+      one : (t : Bool) (i j : ℕ) → (t ≡ true → p.left_out ≤ own_column f i j)
+          → cond t (d i j * 2 ^ own_column f i j) 0 * 2 ^ f.raised ≡ cond t (d i j * 2 ^ column f i j) 0 * 2 ^ f.lowered
+      one false i j h = omega arith
+      one true i j h =
+          let o = own_column f i j in
+          let whole : o + f.raised ≡ column f i j + f.lowered = omega (arith, h refl, placed.lowered) in
+          let power : 2 ^ o * 2 ^ f.raised ≡ 2 ^ column f i j * 2 ^ f.lowered =
+          sym (pow-add 2 o f.raised) ∙ ap (λ k. 2 ^ k) whole ∙ pow-add 2 (column f i j) f.lowered in
+          omega (arith, ap (λ k. d i j * k) power)
 
-    abbrev past_at : ℕ → ℕ → ℕ
-    past_at i j = past (i + j) (weight i j)
-
-    -- past the width, in units of 2 to it
-    abbrev units_at : ℕ → ℕ → ℕ
-    units_at i j = past (i + j) (d i j * 2 ^ (i + j - width))
-
-    pub in_three : sum_over_pairs m n weight ≡ sum_over_pairs m n kept_at + (sum_over_pairs m n out_at + sum_over_pairs m n past_at)
-    in_three =
-        pairs-same m n weight (λ i j. kept_at i j + (out_at i j + past_at i j)) (λ i j h l. three (i + j) (weight i j))
-        ∙ pairs-plus m n kept_at (λ i j. out_at i j + past_at i j)
-        ∙ ap (λ s. sum_over_pairs m n kept_at + s) (pairs-plus m n out_at past_at)
-
-    -- what is left out weighs no more than its columns
-    pub out_below : sum_over_pairs m n out_at ≤ weight_below m n left
-    out_below =
-        pairs-order m n out_at (λ i j. cond (ltb (i + j) left) (2 ^ (i + j)) 0)
-        (λ i j h l. one (ltb (i + j) left) (d i j) (2 ^ (i + j)) (small i j))
-      where
-        one : (t : Bool) (e w : ℕ) → e ≤ 1 → cond t (e * w) 0 ≤ cond t w 0
-        one true e w h = omega (arith, mul-le-mul_right w h)
-        one false e w h = omega arith
-
-    -- what is past the width is a multiple of 2 to it
-    pub past_multiple : sum_over_pairs m n past_at ≡ sum_over_pairs m n units_at * 2 ^ width
-    past_multiple =
-        pairs-same m n past_at (λ i j. units_at i j * 2 ^ width) (λ i j h l. one (ltb (i + j) left) (i + j) (d i j))
-        ∙ pairs-times m n units_at (2 ^ width)
-      where
-        one : (t : Bool) (c e : ℕ)
-            → cond t 0 (cond (ltb c width) 0 (e * 2 ^ c)) ≡ cond t 0 (cond (ltb c width) 0 (e * 2 ^ (c - width))) * 2 ^ width
-        one true c e = omega arith
-        one false c e = two (ltb c width) (ltb-false c width)
-          where
-            two : (t : Bool) → (t ≡ false → width ≤ c) → cond t 0 (e * 2 ^ c) ≡ cond t 0 (e * 2 ^ (c - width)) * 2 ^ width
-            two true h = omega arith
-            two false h =
-                let whole : c - width + width ≡ c = omega (arith, h refl) in
-                let power : 2 ^ c ≡ 2 ^ (c - width) * 2 ^ width = ap (λ k. 2 ^ k) (sym whole) ∙ pow-add 2 (c - width) width in
-                omega (arith, ap (λ k. e * k) power)
+  -- what is past the width is a multiple of 2 to it
+  pub in_width : sum_over_pairs m n placed_at ≡ sum_over_pairs m n kept_at + sum_over_pairs m n units_at * 2 ^ width
+  in_width =
+      let units = pairs-times m n units_at (2 ^ width) in
+      let each = pairs-same m n placed_at (λ i j. kept_at i j + units_at i j * 2 ^ width)
+      (λ i j h l. one (is_made p f i j) (column f i j) (d i j)) in
+      omega (arith, units, each, pairs-plus m n kept_at (λ i j. units_at i j * 2 ^ width))
+    where
+      one : (t : Bool) (c e : ℕ)
+          → cond t (e * 2 ^ c) 0 ≡ cond (t && ltb c width) (e * 2 ^ c) 0 + cond t (cond (ltb c width) 0 (e * 2 ^ (c - width))) 0 * 2 ^ width
+      one false c e = omega arith
+      one true c e = past (ltb c width) (ltb-false c width)
+        where
+          past : (t : Bool) → (t ≡ false → width ≤ c) → e * 2 ^ c ≡ cond t (e * 2 ^ c) 0 + cond t 0 (e * 2 ^ (c - width)) * 2 ^ width
+          past true h = omega arith
+          past false h =
+              let whole : c - width + width ≡ c = omega (arith, h refl) in
+              let power : 2 ^ c ≡ 2 ^ (c - width) * 2 ^ width = ap (λ k. 2 ^ k) (sym whole) ∙ pow-add 2 (c - width) width in
+              omega (arith, ap (λ k. e * k) power)

@@ -1,5 +1,5 @@
 -- What the products of the bits of two factors add to a heap.
-use Rattle.std.proofs.Common.{◌≡◌, ℕ, zero, suc, ◌+◌, ◌-◌, ◌*◌, ◌%◌, ◌^◌, ◌<◌, ◌≤◌, Bool, true, false, List, length, sym, ap, ◌∙◌, subst, arith}
+use Rattle.std.proofs.Common.{◌≡◌, ℕ, ◌+◌, ◌*◌, ◌%◌, ◌^◌, ◌<◌, ◌≤◌, Bool, true, false, List, length, sym, ap, ◌∙◌, subst, arith}
 use Rattle.std.specs.Prelude.{ℤ, pos, negsuc, ◌+ℤ◌, ◌-ℤ◌, ◌*ℤ◌, ◌≤ℤ◌, unsigned_abs}
 use Rattle.std.specs.Int.{int_div_euclid, int_rem_euclid}
 use Rattle.std.proofs.Math.Nat.{add-mul-mod_self_right, mod-lt}
@@ -13,34 +13,31 @@ use Rattle.opgen_budget.specs.Sums.{sum_over_pairs}
 use Rattle.opgen_heap.specs.Adding.{residue}
 use Rattle.opgen_heap.specs.Standing.{AllThere}
 use Rattle.opgen_heap.specs.Sum.{heap_sum}
-use Rattle.opgen_heap.proofs.Residues.{residue-is, residue-then}
+use Rattle.opgen_heap.proofs.Residues.{residue-natural, residue-then}
+use Rattle.opgen_net.specs.Flow.{flow}
 use Rattle.opgen_net.specs.Valid.{IsValid}
+use Rattle.opgen_partial.specs.declared.pairs.Factor.{Factor}
+use Rattle.opgen_partial.specs.declared.pairs.Placing.{Placing}
 use Rattle.opgen_partial.specs.declared.pairs.Products.{Products}
 use Rattle.opgen_partial.specs.declared.pairs.Work.{Work}
-use Rattle.opgen_partial.specs.Law.{AreFactors, HasProducts, IsSumWithProduct, number, words_at}
-use Rattle.opgen_partial.specs.Recipe.{has_one_sign, sign_correction, with_products}
+use Rattle.opgen_partial.specs.Law.{AreFactors, IsPlaced, HasPlaced, HasProducts, IsSumWithPlaced, IsSumWithProduct, placed_product, number, words_at}
+use Rattle.opgen_partial.specs.Recipe.{in_place, is_turned, sign_correction, correction, with_placed, with_products}
+use Rattle.opgen_partial.proofs.Counted.{once_each, placed-product}
 use Rattle.opgen_partial.proofs.HeapSums.{HasSum, first, second, first-length, second-length, kept_sum, products-sum}
-use Rattle.opgen_partial.proofs.Kept.{out, past, in_three, out_below, past_multiple}
-use Rattle.opgen_partial.proofs.PartialSums.{piece, pieces, number_of, signs, signed-product}
-
--- the product of the words' numbers, by the products of their bits
-product_is : (s t : Bool) (a b : List Bool) (m n : ℕ) → 1 ≤ m → 1 ≤ n → length a ≡ m → length b ≡ n
-    → number_of s a *ℤ number_of t b ≡ pos (sum_over_pairs m n (pieces (signs s t m n) a b)) +ℤ sign_correction s t m n
-product_is s t a b zero n some_a some_b wide_a wide_b = absurd (omega (arith, some_a))
-product_is s t a b (suc m) zero some_a some_b wide_a wide_b = absurd (omega (arith, some_b))
-product_is s t a b (suc m) (suc n) some_a some_b wide_a wide_b = signed-product s t a b m n wide_a wide_b
+use Rattle.opgen_partial.proofs.Kept.{made_at, out_at, placed_at, units_at, in_two, out_below, moved, in_width}
+use Rattle.opgen_partial.proofs.PartialSums.{piece}
 
 digit-small : (b : Bool) → digit b ≤ 1
 digit-small true = omega arith
 digit-small false = omega arith
 
-module _ (p : Products) (before : Work) (valid : IsValid before.net) (factors : AreFactors p before.net)
-    (there : AllThere before.net before.heap.columns) where
+module _ (p : Products) (f : Placing) (placed : IsPlaced p f) (before : Work) (valid : IsValid before.net)
+    (factors : AreFactors p before.net) (there : AllThere before.net before.heap.columns) where
   -- one heap's sum
-  sum-law : (a b : List Bool) (start : ℕ) → length a ≡ p.a.width → length b ≡ p.b.width
-      → IsSumWithProduct p a b before.heap.width start
-      ((start + kept_sum p before valid factors there p.a.width a b) % 2 ^ before.heap.width)
-  sum-law a b start wide_a wide_b = record { missing = O; light = out_below left H m n d small; sum = is }
+  sum-law : (a b : List Bool) (start : ℕ) → length a ≡ p.a.width → length b ≡ p.b.width → (f.square ≡ true → b ≡ a)
+      → IsSumWithPlaced p f a b before.heap.width start
+      ((start + kept_sum p f placed before valid factors there p.a.width a b) % 2 ^ before.heap.width)
+  sum-law a b start wide_a wide_b words = record { missing = O; light = out_below p f placed H d small; by = S; placed = scaled; sum = is }
     where
       m : ℕ
       m = p.a.width
@@ -51,53 +48,48 @@ module _ (p : Products) (before : Work) (valid : IsValid before.net) (factors : 
       H : ℕ
       H = before.heap.width
 
-      left : ℕ
-      left = p.left_out
-
       d : ℕ → ℕ → ℕ
-      d i j = digit (piece (has_one_sign p) a b i j)
+      d i j = digit (piece (is_turned p f) a b i j)
 
       small : (i j : ℕ) → d i j ≤ 1
-      small i j = digit-small (piece (has_one_sign p) a b i j)
+      small i j = digit-small (piece (is_turned p f) a b i j)
 
       O : ℕ
-      O = sum_over_pairs m n (λ i j. out left H (i + j) (d i j * 2 ^ (i + j)))
+      O = sum_over_pairs m n (out_at p f placed H d small)
+
+      S : ℕ
+      S = sum_over_pairs m n (placed_at p f placed H d small)
 
       F : ℕ
-      F = sum_over_pairs m n (λ i j. past left H (i + j) (d i j * 2 ^ (i + j - H)))
+      F = sum_over_pairs m n (units_at p f placed H d small)
 
       K : ℕ
-      K = kept_sum p before valid factors there m a b
+      K = kept_sum p f placed before valid factors there m a b
 
-      all : ℕ
-      all = sum_over_pairs m n (pieces (has_one_sign p) a b)
+      product : placed_product p f a b
+          ≡ pos (once_each p f placed a b factors.first.is_width.0 factors.second.is_width.0 wide_a wide_b words) +ℤ correction p f
+      product = placed-product p f placed a b factors.first.is_width.0 factors.second.is_width.0 wide_a wide_b words
 
-      P : ℤ
-      P = number p.a a *ℤ number p.b b
+      made : ℕ
+      made = sum_over_pairs m n (made_at p f placed H d small)
 
-      C : ℤ
-      C = sign_correction p.a.signed p.b.signed m n
+      rest : (placed_product p f a b -ℤ correction p f) -ℤ pos O ≡ pos made
+      rest = omega (arith, ints, product, in_two p f placed H d small)
 
-      product : P ≡ pos all +ℤ C
-      product = product_is p.a.signed p.b.signed a b m n factors.first.is_width.0 factors.second.is_width.0 wide_a wide_b
+      scaled : pos (2 ^ f.lowered * S) ≡ pos (2 ^ f.raised) *ℤ ((placed_product p f a b -ℤ correction p f) -ℤ pos O)
+      scaled =
+          let natural : pos (2 ^ f.raised) *ℤ pos made ≡ pos (2 ^ f.raised * made) = omega (arith, ints) in
+          sym (ap (λ z. pos (2 ^ f.raised) *ℤ z) rest ∙ natural ∙ ap pos (moved p f placed H d small))
 
-      parts : all ≡ K + (O + F * 2 ^ H)
-      parts = in_three left H m n d small ∙ omega (arith, past_multiple left H m n d small)
-
-      total : (pos start +ℤ ((P -ℤ C) -ℤ pos O)) +ℤ pos (0 * 2 ^ H) ≡ pos (start + K + F * 2 ^ H)
-      total = omega (arith, ints, product, parts)
-
-      is : (start + K) % 2 ^ H ≡ residue (pos start +ℤ ((P -ℤ C) -ℤ pos O)) (2 ^ H)
+      is : (start + K) % 2 ^ H ≡ (start + S) % 2 ^ H
       is =
-          sym (
-          residue-is (pos start +ℤ ((P -ℤ C) -ℤ pos O)) (2 ^ H) 0 (start + K + F * 2 ^ H) (pow_pos H) total
-          ∙ add-mul-mod_self_right (start + K) F (2 ^ H)
-          )
+          let split : start + S ≡ start + K + F * 2 ^ H = omega (arith, in_width p f placed H d small) in
+          sym (ap (λ k. k % 2 ^ H) split ∙ add-mul-mod_self_right (start + K) F (2 ^ H))
 
-  pub products-law : HasProducts p before (with_products p before)
-  products-law =
-      let has : HasSum p before valid factors there (with_products p before) (kept_sum p before valid factors there p.a.width) =
-      products-sum p before valid factors there in
+  pub placed-law : HasPlaced p f before (with_placed p f before)
+  placed-law =
+      let has : HasSum p f placed before valid factors there (with_placed p f before)
+      (kept_sum p f placed before valid factors there p.a.width) = products-sum p f placed before valid factors there in
       record {
         valid = has.valid;
         grown = has.grown;
@@ -106,16 +98,57 @@ module _ (p : Products) (before : Work) (valid : IsValid before.net) (factors : 
         constant = has.constant;
         few = has.few;
         sum = λ ins t words.
-            let a = first p before valid factors there ins t in
-            let b = second p before valid factors there ins t in
+            let a = first p f placed before valid factors there ins t in
+            let b = second p f placed before valid factors there ins t in
             let start = heap_sum (words_at before.net.nodes ins t) before.heap in
-            let after = with_products p before in
+            let after = with_placed p f before in
             let is : heap_sum (words_at after.net.nodes ins t) after.heap
-            ≡ (start + kept_sum p before valid factors there p.a.width a b) % 2 ^ before.heap.width =
-            has.sum ins t words ∙ ap (λ k. (start + kept_sum p before valid factors there p.a.width a b) % 2 ^ k) has.width in
-            subst (IsSumWithProduct p a b before.heap.width start) (sym is)
-            (sum-law a b start (first-length p before valid factors there ins t words) (second-length p before valid factors there ins t words));
+            ≡ (start + kept_sum p f placed before valid factors there p.a.width a b) % 2 ^ before.heap.width =
+            has.sum ins t words ∙ ap (λ k. (start + kept_sum p f placed before valid factors there p.a.width a b) % 2 ^ k) has.width in
+            subst (IsSumWithPlaced p f a b before.heap.width start) (sym is)
+            (sum-law a b start (first-length p f placed before valid factors there ins t words)
+            (second-length p f placed before valid factors there ins t words)
+            (λ e. ap (λ (g : Factor). flow before.net.nodes ins g.node t) (placed.same e)));
       }
+
+pub plainly-placed : (p : Products) → IsPlaced p in_place
+plainly-placed p = record { lowered = omega arith; raised = omega arith; same = λ e. let clash : false ≡ true = e in let no : ⊥ = cc in absurd no }
+
+-- each in its own column
+plain-sum : (p : Products) (x y : List Bool) (width before after : ℕ) → IsSumWithPlaced p in_place x y width before after
+    → IsSumWithProduct p x y width before after
+plain-sum p x y width before after has = record {
+  missing = has.missing;
+  light = has.light;
+  sum =
+      let P = number p.a x *ℤ number p.b y in
+      let C = sign_correction p.a.signed p.b.signed p.a.width p.b.width in
+      let one : pos 1 *ℤ ((P -ℤ C) -ℤ pos has.missing) ≡ (P -ℤ C) -ℤ pos has.missing = omega (arith, ints) in
+      let unit : 1 * has.by ≡ has.by = omega arith in
+      let by : pos has.by ≡ (P -ℤ C) -ℤ pos has.missing = ap pos (sym unit) ∙ has.placed ∙ one in
+      let whole : pos (before + has.by) ≡ pos before +ℤ pos has.by = omega (arith, ints) in
+      has.sum ∙ sym (residue-natural (before + has.by) (2 ^ width) (pow_pos width))
+      ∙ ap (λ z. residue z (2 ^ width)) (whole ∙ ap (λ z. pos before +ℤ z) by);
+}
+
+pub products-from : (p : Products) (before after : Work) → HasPlaced p in_place before after → HasProducts p before after
+products-from p before after has = record {
+  valid = has.valid;
+  grown = has.grown;
+  there = has.there;
+  width = has.width;
+  constant = has.constant;
+  few = has.few;
+  sum = λ ins t words.
+      plain-sum p (flow before.net.nodes ins p.a.node t) (flow before.net.nodes ins p.b.node t) before.heap.width
+      (heap_sum (words_at before.net.nodes ins t) before.heap) (heap_sum (words_at after.net.nodes ins t) after.heap)
+      (has.sum ins t words);
+}
+
+pub products-law : (p : Products) (before : Work) → IsValid before.net → AreFactors p before.net
+    → AllThere before.net before.heap.columns → HasProducts p before (with_products p before)
+products-law p before valid factors there =
+    products-from p before (with_products p before) (placed-law p in_place (plainly-placed p) before valid factors there)
 
 -- a sum that is known modulo a number, as a whole number that differs from it by a multiple
 pub residue_number : (z : ℤ) (M sum : ℕ) → 0 < M → sum ≡ residue z M → (k : ℤ) × (z +ℤ (pos M *ℤ k) ≡ pos sum)

@@ -1,4 +1,5 @@
 mod PartialSums
+pub mod Counted
 mod Kept
 mod Operands
 mod HeapSums

@@ -1,5 +1,5 @@
 -- The expressions of products of two bits: their width, how deep they nest, and what they give.
-use Rattle.std.proofs.Common.{◌≡◌, ℕ, suc, ◌+◌, ◌-◌, ◌<◌, Bool, true, false, not, ◌&&◌, eqb, List, [], ◌∷◌, length, map, take, drop, Some, None, if◌then◌else◌, refl, ap, ◌∙◌, arith}
+use Rattle.std.proofs.Common.{◌≡◌, ℕ, suc, ◌+◌, ◌-◌, ◌<◌, ◌≤◌, Bool, true, false, not, ◌&&◌, eqb, List, [], ◌∷◌, length, map, take, drop, Some, None, if◌then◌else◌, refl, sym, ap, ◌∙◌, arith}
 use Rattle.std.specs.Prelude.{nat_le, nat_lt, slice_get, slice_index, option_and_then}
 use Rattle.std.proofs.Math.Seq.{take-suc}
 use Rattle.std.proofs.lemmas.Bool.{le-leb, lt-ltb, eqb-true}
@@ -8,12 +8,14 @@ use Rattle.std.proofs.lemmas.Option.{slice_get-get_or}
 use Rattle.opgen_design.specs.declared.expr.Op.TheVariants.{And}
 use Rattle.opgen_design.specs.Tree.{Tree, name, part, inverse, more, none}
 use Rattle.opgen_design.specs.Value.{Scope, cut, combined, value}
-use Rattle.opgen_design.specs.Width.{as_width, joined, width, width_on, in_chain, nesting}
+use Rattle.opgen_design.specs.Width.{as_width, joined, width, width_on, in_chain, in_not, nesting}
 use Rattle.opgen_net.specs.Valid.{FitsNodes}
 use Rattle.opgen_net.proofs.FlowLaws.{index_within}
 use Rattle.opgen_partial.specs.declared.pairs.Factor.{Factor}
+use Rattle.opgen_partial.specs.declared.pairs.Placing.{Placing}
 use Rattle.opgen_partial.specs.declared.pairs.Products.{Products}
-use Rattle.opgen_partial.specs.Recipe.{bit_of, both, has_one_sign, partial_product}
+use Rattle.opgen_partial.specs.Law.{IsPlaced}
+use Rattle.opgen_partial.specs.Recipe.{bit_of, both, is_single, is_turned, pair, partial_product}
 use Rattle.opgen_partial.proofs.PartialSums.{at, piece}
 
 cut-one : (w : List Bool) (i : ℕ) → i < length w → cut i i w ≡ at w i ∷ []
@@ -48,12 +50,12 @@ module _ (ws : List ℕ) (f : Factor) (i : ℕ) (wide : slice_index ws f.node �
           ∙ ap (λ c. if c then as_width (i + 1 - i) else None) (lt-ltb i f.width within)
           ∙ ap as_width count
 
-bit-nests : (f : Factor) (i : ℕ) → (in_chain (bit_of f i) ≡ 0) × (nesting (bit_of f i) ≡ 0)
+bit-nests : (f : Factor) (i : ℕ) → (in_chain (bit_of f i) ≡ 0) × (nesting (bit_of f i) ≡ 0) × (in_not (bit_of f i) ≡ 0)
 bit-nests f i = by (eqb f.width 1)
   where
-    by : (c : Bool) → (in_chain (either c f.node i) ≡ 0) × (nesting (either c f.node i) ≡ 0)
-    by true = (refl, refl)
-    by false = (refl, refl)
+    by : (c : Bool) → (in_chain (either c f.node i) ≡ 0) × (nesting (either c f.node i) ≡ 0) × (in_not (either c f.node i) ≡ 0)
+    by true = (refl, refl, refl)
+    by false = (refl, refl, refl)
 
 bit-value : (s : Scope) (f : Factor) (i : ℕ) → length (s.names f.node) ≡ f.width → i < f.width
     → value s (bit_of f i) ≡ at (s.names f.node) i ∷ []
@@ -63,26 +65,54 @@ bit-value s f i wide within = by (eqb f.width 1) (eqb-true f.width 1)
     by true one = single (s.names f.node) i (omega (arith, wide, within)) (wide ∙ one refl)
     by false one = cut-one (s.names f.node) i (omega (arith, wide, within))
 
-module _ (p : Products) (i j : ℕ) (low : i < p.a.width) (high : j < p.b.width) where
+pub and-left : (x y : Bool) → x && y ≡ true → x ≡ true
+and-left true y e = refl
+and-left false y e = cc
+
+pub and-right : (x y : Bool) → x && y ≡ true → y ≡ true
+and-right true y e = e
+and-right false y e = cc
+
+pub twice : (x : Bool) → x && x ≡ x
+twice true = refl
+twice false = refl
+
+-- the places of a bit of a square
+pub single-is : (f : Placing) (i j : ℕ) → is_single f i j ≡ true → (f.square ≡ true) × (i ≡ j)
+single-is f i j e = (and-left f.square (eqb i j) e, eqb-true i j (and-right f.square (eqb i j) e))
+
+module _ (p : Products) (f : Placing) (placed : IsPlaced p f) (i j : ℕ) (low : i < p.a.width) (high : j < p.b.width) where
   module _ (ws : List ℕ) (a : slice_index ws p.a.node ≡ p.a.width) (b : slice_index ws p.b.node ≡ p.b.width) where
     both-width : width ws [] (both p i j) ≡ Some 1
     both-width =
         ap (option_and_then (λ w. width_on ws [] And w (more (bit_of p.b j) none))) (bit-width ws p.a i a low)
         ∙ ap (option_and_then (λ v. option_and_then (λ u. width_on ws [] And u none) (joined And 1 v))) (bit-width ws p.b j b high)
 
-    -- a product of two bits may stand in a net in which the factors do
-    pub product-fits : FitsNodes ws 1 (partial_product p i j)
-    product-fits = by (has_one_sign p i j)
-      where
-        flat : nesting (both p i j) ≡ 0
-        flat =
-            let x = bit-nests p.a i in
-            let y = bit-nests p.b j in
-            omega (arith, x.0, x.1, y.0, y.1)
+    abbrev chosen : Bool → Tree
+    chosen c = if c then bit_of p.a i else both p i j
 
-        by : (c : Bool) → FitsNodes ws 1 (if c then inverse (both p i j) else both p i j)
-        by true = record { has_width = both-width; nests = omega (arith, flat) }
-        by false = record { has_width = both-width; nests = omega (arith, flat) }
+    pair-width : (c : Bool) → width ws [] (chosen c) ≡ Some 1
+    pair-width true = bit-width ws p.a i a low
+    pair-width false = both-width
+
+    flat : (c : Bool) → nesting (chosen c) ≡ 0
+    flat true = (bit-nests p.a i).1
+    flat false =
+        let x = bit-nests p.a i in
+        let y = bit-nests p.b j in
+        omega (arith, x.0, x.1, y.0, y.1)
+
+    turned-flat : (c : Bool) → in_not (chosen c) ≤ 1
+    turned-flat true = let x = bit-nests p.a i in omega (arith, x.2)
+    turned-flat false = omega arith
+
+    -- a product of two bits may stand in a net in which the factors do
+    pub product-fits : FitsNodes ws 1 (partial_product p f i j)
+    product-fits = by (is_turned p f i j) (is_single f i j)
+      where
+        by : (c s : Bool) → FitsNodes ws 1 (if c then inverse (chosen s) else chosen s)
+        by true s = record { has_width = pair-width s; nests = omega (arith, flat s, turned-flat s) }
+        by false s = record { has_width = pair-width s; nests = omega (arith, flat s) }
 
   module _ (s : Scope) (a : length (s.names p.a.node) ≡ p.a.width) (b : length (s.names p.b.node) ≡ p.b.width) where
     both-value : value s (both p i j) ≡ (at (s.names p.a.node) i && at (s.names p.b.node) j) ∷ []
@@ -93,12 +123,29 @@ module _ (p : Products) (i j : ℕ) (low : i < p.a.width) (high : j < p.b.width)
             → combined And v w ≡ (at (s.names p.a.node) i && at (s.names p.b.node) j) ∷ []
         values v w e g = ap (λ x. combined And x w) e ∙ ap (combined And (at (s.names p.a.node) i ∷ [])) g
 
-    pub product-value : value s (partial_product p i j) ≡ piece (has_one_sign p) (s.names p.a.node) (s.names p.b.node) i j ∷ []
-    product-value = by (has_one_sign p i j)
+    -- of a square a bit with itself
+    pub single-value : is_single f i j ≡ true → at (s.names p.a.node) i && at (s.names p.b.node) j ≡ at (s.names p.a.node) i
+    single-value e =
+        let is = single-is f i j e in
+        let x = at (s.names p.a.node) i in
+        let other : at (s.names p.b.node) j ≡ x =
+        ap (λ (g : Factor). at (s.names g.node) j) (placed.same is.0) ∙ ap (at (s.names p.a.node)) (sym is.1) in
+        ap (λ y. x && y) other ∙ twice x
+
+    pair-value : value s (pair p f i j) ≡ (at (s.names p.a.node) i && at (s.names p.b.node) j) ∷ []
+    pair-value = by (is_single f i j) refl
+      where
+        by : (c : Bool) → is_single f i j ≡ c
+            → value s (if c then bit_of p.a i else both p i j) ≡ (at (s.names p.a.node) i && at (s.names p.b.node) j) ∷ []
+        by true e = bit-value s p.a i a low ∙ ap (λ x. x ∷ []) (sym (single-value e))
+        by false e = both-value
+
+    pub product-value : value s (partial_product p f i j) ≡ piece (is_turned p f) (s.names p.a.node) (s.names p.b.node) i j ∷ []
+    product-value = by (is_turned p f i j)
       where
         x : Bool
         x = at (s.names p.a.node) i && at (s.names p.b.node) j
 
-        by : (c : Bool) → value s (if c then inverse (both p i j) else both p i j) ≡ (if c then not x else x) ∷ []
-        by true = ap (map not) both-value
-        by false = both-value
+        by : (c : Bool) → value s (if c then inverse (pair p f i j) else pair p f i j) ≡ (if c then not x else x) ∷ []
+        by true = ap (map not) pair-value
+        by false = pair-value

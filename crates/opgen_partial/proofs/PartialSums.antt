@@ -78,7 +78,7 @@ int-low w k h = go (at w k) (highest w) (2 ^ length w) (top-weight w k h).1 (ap 
     go false true power e p n = absurd cc
     go false false power e p n = omega (arith, ints, n)
 
-powers : (m : ℕ) → sum_to m (λ i. 2 ^ i) + 1 ≡ 2 ^ m
+pub powers : (m : ℕ) → sum_to m (λ i. 2 ^ i) + 1 ≡ 2 ^ m
 powers zero = omega arith
 powers (suc m) = omega (arith, powers m, two-pow-succ m)
 

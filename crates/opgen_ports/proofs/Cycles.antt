@@ -1,6 +1,7 @@
 -- The words of one cycle at the ports of an operator.
-use Rattle.std.proofs.Common.{ℕ, ◌^◌, ◌<◌, List, [], ◌∷◌, length, arith, Bool, true, false, ◌≡◌, ◌+◌, ◌-◌, ◌%◌, ◌≤◌, subst, nat_le, ap, ◌∙◌, if◌then◌else◌, zero, suc, get_or, refl}
+use Rattle.std.proofs.Common.{ℕ, ◌^◌, ◌<◌, List, [], ◌∷◌, length, arith, Bool, true, false, ◌≡◌, ◌+◌, ◌-◌, ◌%◌, ◌/◌, ◌*◌, ◌≤◌, subst, nat_le, ap, ◌∙◌, if◌then◌else◌, zero, suc, get_or, refl}
 use Rattle.std.proofs.lemmas.Bool.{le-leb}
+use Rattle.std.proofs.lemmas.Nat.{div-add-mod', mod-mul-add}
 use Rattle.std.specs.Prelude.{slice_index, pos}
 use Rattle.opgen_num.specs.declared.format.Format.{Format}
 use Rattle.opgen_ports.specs.declared.ports.PortFormat.{PortFormat}
@@ -62,3 +63,35 @@ pub format_at-listed : (ports : List PortFormat) (k : ℕ) (d : PortFormat) → 
 format_at-listed [] k d h = absurd (omega arith)
 format_at-listed (p ∷ ps) zero d h = refl
 format_at-listed (p ∷ ps) (suc k) d h = format_at-listed ps k d (omega arith)
+
+-- of an input in the last cycle
+module _ (ports : List PortFormat) (history : List ℕ) (input : ℕ) (words : IsHistory ports history) (there : input < length ports) where
+  last_place : (cycles : ℕ) → length history ≡ cycles * length ports → (length ports ≤ length history)
+      × ((length history - length ports + input) % length ports ≡ input)
+  last_place zero e = absurd (omega (arith, e, words.some))
+  last_place (suc before) e =
+      let here : length history - length ports + input ≡ before * length ports + input = omega (arith, e) in
+      (omega (arith, e), ap (λ k. k % length ports) here ∙ mod-mul-add before (length ports) input there)
+
+  last_cycle : (length ports ≤ length history) × ((length history - length ports + input) % length ports ≡ input)
+  last_cycle = last_place (length history / length ports)
+      (omega (arith, div-add-mod' (length history) (length ports), words.whole))
+
+  pub port_place : length history - length ports + input < length history
+  port_place = omega (arith, last_cycle.0, there)
+
+  pub port_word : slice_index history (length history - length ports + input) < 2 ^ (format_at ports input).width
+  port_word = subst (λ k. slice_index history (length history - length ports + input) < 2 ^ (format_at ports k).width) last_cycle.1
+      (words.fit (length history - length ports + input) port_place)
+
+  pub port_number : recent_numbers ports history input 0
+      ≡ number_of (format_at ports input) (slice_index history (length history - length ports + input))
+  port_number = go ((0 + 1) * length ports) (omega arith)
+    where
+      go : (back : ℕ) → back ≡ length ports
+          → (if nat_le back (length history) then number_of (format_at ports input) (slice_index history (length history - back + input)) else pos 0)
+          ≡ number_of (format_at ports input) (slice_index history (length history - length ports + input))
+      go back e =
+          let enough : nat_le back (length history) ≡ true = le-leb back (length history) (omega (arith, e, last_cycle.0)) in
+          ap (λ t. if t then number_of (format_at ports input) (slice_index history (length history - back + input)) else pos 0) enough
+          ∙ ap (λ k. number_of (format_at ports input) (slice_index history (length history - k + input))) e

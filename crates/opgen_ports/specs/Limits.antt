@@ -5,7 +5,7 @@ use Rattle.std.specs.Prelude.{ℕ, ◌≡◌, ◌⊎◌, ◌==◌, if◌then◌e
 abbrev pub IsVersion : ℕ → Type 0
 IsVersion version = (version ≡ 1) ⊎ ((version ≡ 2) ⊎ (version ≡ 3))
 
--- Where a number is no version the limits are those of version 2. No answer hangs on them: such a version is a fault that
+-- Where a number is no version the limits are those of versions 2 and 3. No answer hangs on them: such a version is a fault that
 -- comes before all that have limits.
 
 -- the most bits of an input

@@ -1,7 +1,7 @@
 -- How far numbers go below and above 0: those of an input, of sums over inputs, and in units of the output's last place; and the
 -- width that holds them.
 use Rattle.std.specs.Int.{div_ceil}
-use Rattle.std.specs.Prelude.{ℕ, Bool, false, ◌+◌, ◌*◌, ◌^◌, ℤ, pos, neg_ℤ, unsigned_abs, ◌-◌, List, map, true, negsuc, sum}
+use Rattle.std.specs.Prelude.{ℕ, Bool, false, ◌+◌, ◌*◌, ◌^◌, ℤ, pos, neg_ℤ, unsigned_abs, ◌-◌, List, map, true, negsuc, sum, max}
 use Rattle.opgen_num.specs.declared.format.Format.{Format}
 use Rattle.opgen_num.specs.Formats.{range_width}
 use Rattle.opgen_ports.specs.declared.reach.Reach.{Reach}
@@ -36,6 +36,13 @@ abbrev pub reach_over : Format → List ℤ → Reach
 reach_over input coefs = record {
   below = rises coefs * (reach_of input).below + falls coefs * (reach_of input).above;
   above = rises coefs * (reach_of input).above + falls coefs * (reach_of input).below;
+}
+
+-- how far the products of the numbers of two formats go
+abbrev pub reach_of_product : (a b : Format) → Reach
+reach_of_product a b = record {
+  below = max ((reach_of a).below * (reach_of b).above) ((reach_of a).above * (reach_of b).below);
+  above = max ((reach_of a).above * (reach_of b).above) ((reach_of a).below * (reach_of b).below);
 }
 
 -- In units of the output's last place, rounded away from 0: the floor of the least exact value and the ceiling of the

@@ -9,7 +9,7 @@ ghost use Rattle.opgen_ports.specs.Spans.{IsOf};
 use opgen_num::{Format, MAX_INPUT, MAX_WIDTH, Word};
 
 /// The number of an input's word.
-fn input(format: Format, bits: u128) -> i128
+pub fn input(format: Format, bits: u128) -> i128
     requires format { IsInput format }
     requires bits { bits < 2 ^ format.width }
     ensures value { result ≡ number_of format bits }

@@ -1,7 +1,7 @@
 //! How far numbers go below and above 0: of inputs, of sums, and in units of the output's last place; the width for them.
 ghost use Rattle.std.specs.Prelude.{◌≡◌, ◌+◌, ◌*◌, ◌≤◌, ◌^◌, ℤ, neg_ℤ, ◌≤ℤ◌, pos, length, All};
 ghost use Rattle.opgen_ports.specs.Ranges.{IsInput, IsWithin};
-ghost use Rattle.opgen_ports.specs.Reaches.{reach_of, rises, falls, reach_over, in_units, in_places, width_of};
+ghost use Rattle.opgen_ports.specs.Reaches.{reach_of, rises, falls, reach_over, reach_of_product, in_units, in_places, width_of};
 ghost use Rattle.opgen_ports.specs.Shifts.{up};
 
 use crate::MAX_SHIFT;
@@ -72,6 +72,22 @@ pub fn reach_over(input: Format, coefs: &[i64]) -> Reach
     Reach {
         below: coefs.above * input.below + coefs.below * input.above,
         above: coefs.above * input.above + coefs.below * input.below,
+    }
+}
+
+/// How far the products of the numbers of two formats go.
+pub fn reach_of_product(a: Format, b: Format) -> Reach
+    requires a { IsInput a }
+    requires b { IsInput b }
+    ensures value { result ≡ reach_of_product a b }
+    ensures below { result.below ≤ 2 ^ (a.width + b.width) }
+    ensures above { result.above ≤ 2 ^ (a.width + b.width) }
+{
+    let a = reach_of(a);
+    let b = reach_of(b);
+    Reach {
+        below: (a.below * b.above).max(a.above * b.below),
+        above: (a.above * b.above).max(a.below * b.below),
     }
 }
 

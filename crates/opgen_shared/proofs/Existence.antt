@@ -1,41 +1,30 @@
--- Some graph holds the odd parts of all numbers of 20 bits, with no more adders than their digits need.
-use Rattle.std.proofs.Common.{◌≡◌, ⊎_elim, ℕ, zero, suc, ◌+◌, ◌-◌, ◌%◌, ◌≤◌, ◌<◌, List, [], ◌∷◌, ◌++◌, length, length-append, All, Contains, refl, sym, ap, ◌∙◌, subst, arith}
-use Rattle.std.specs.Prelude.{ℤ, pos}
+-- That numbers of 20 bits have no graph by the rule is impossible.
+use Rattle.std.proofs.Common.{◌≡◌, ◌⊎◌, inl, inr, ⊎_elim, ℕ, zero, suc, ◌+◌, ◌-◌, ◌%◌, ◌≤◌, ◌<◌, min, max, List, [], ◌∷◌, ◌++◌, length, All, Contains, refl, sym, ◌∙◌, subst, arith}
+use Rattle.std.specs.Prelude.{pos, ◌==◌, if◌then◌else◌}
 use Rattle.std.proofs.lemmas.Bool.{cases_lt}
+use Rattle.std.proofs.lemmas.Int.{ints}
 use Rattle.std.proofs.lemmas.List.Elements.{All-head, All-tail}
-use Rattle.std.proofs.lemmas.List.Sums.{sum_by-cons}
-use Rattle.opgen_csd.specs.Digits.{nonzeros}
-use Rattle.opgen_csd.proofs.Existence.{some_form}
 use Rattle.opgen_graph.specs.declared.forms.Form.TheVariants.{A, B}
 use Rattle.opgen_graph.specs.declared.ranks.Adder.{Adder}
-use Rattle.opgen_graph.specs.declared.ranks.Graph.{Graph}
 use Rattle.opgen_graph.specs.Graphs.{values}
 use Rattle.opgen_graph.specs.Reach.{IsWide, IsWideMember}
-use Rattle.opgen_graph.specs.Served.{Serves}
-use Rattle.opgen_graph.specs.Targets.{AreTargetsOf}
-use Rattle.opgen_graph.proofs.Members.{here, of_cons, of_nil, is_in, all_of}
+use Rattle.opgen_graph.proofs.Members.{here, there, is_in}
 use Rattle.opgen_graph.proofs.TargetLists.{parts_product, part_odd}
 use Rattle.opgen_ports.specs.OddParts.{power_of, odd_part}
-use Rattle.opgen_ports.specs.Ranges.{IsWithin}
-use Rattle.opgen_shared.specs.Digits.{HasDigits, AreForms, digit_adders, IsWithinDigits}
-use Rattle.opgen_shared.specs.Shared.{IsSharedGraph}
+use Rattle.opgen_shared.specs.Digits.{digit_count}
+use Rattle.opgen_shared.specs.Levels.{levels_from, with_value, level}
+use Rattle.opgen_shared.specs.Rule.{IsBest, IsRankedBefore, IsStepTo, Grows, GrowsBy, SomeRuleGraph, heavier, made, next, over, rank, stands, weight}
 use Rattle.opgen_shared.specs.Steps.{IsDigitAdder}
 use Rattle.opgen_shared.specs.Sums.{placed_by}
-use Rattle.opgen_shared.proofs.Costs.{each_wide, serves}
-use Rattle.opgen_shared.proofs.Forms.{some_digits, same_count}
-use Rattle.opgen_shared.proofs.Growing.{graph_more, still, last}
+use Rattle.opgen_shared.proofs.Costs.{each_wide}
+use Rattle.opgen_shared.proofs.Growing.{still}
+use Rattle.opgen_shared.proofs.Leasts.{least_rank}
+use Rattle.opgen_shared.proofs.LevelLaws.{counted, own_digits, if_other, weight_placed, weight_new}
+use Rattle.opgen_shared.proofs.PartLists.{some_parts}
 use Rattle.opgen_shared.proofs.StepLaws.{digit_plus, digit_minus}
 
--- a graph that has grown out of another one, and has a number
-record Grown (done : List Adder) (n count : ℕ) : Type 0 where
-  adders : List Adder
-  graph : IsSharedGraph adders
-  made : Contains (placed_by adders) n
-  kept : (x : ℕ) → Contains (placed_by done) x → Contains (placed_by adders) x
-  few : length adders + 1 ≤ length done + count
-
 -- the adder of the lowest digit
-digit_adder : (n : ℕ) → IsWideMember n → (a : Adder) × IsDigitAdder n a
+pub digit_adder : (n : ℕ) → IsWideMember n → (a : Adder) × IsDigitAdder n a
 digit_adder n w = go (n % 4) refl
   where
     go : (r : ℕ) → n % 4 ≡ r → (a : Adder) × IsDigitAdder n a
@@ -59,114 +48,134 @@ digit_adder n w = go (n % 4) refl
         )
     go (suc (suc (suc (suc r)))) e = absurd (omega (arith, e))
 
--- a number by the adders of its digits, unless it stands
-grow : (count : ℕ) (done : List Adder) (n : ℕ) → IsSharedGraph done → IsWide n → HasDigits n count → 1 ≤ count → Grown done n count
-grow zero done n g w h some = absurd (omega (arith, some))
-grow (suc k) done n g w h some =
+-- ---- weights
+one_digit : digit_count 1 ≡ 1
+one_digit = sym (counted 1 1 (record {
+  form = pos 1 ∷ [];
+  canonical = ((omega (arith, ints), omega (arith, ints)), (λ e. omega (arith, ints, e)), tt);
+  value = refl;
+  nonzero = refl;
+}))
+
+-- a number weighs 1, or as many as its digits
+light_or_counted : (done : List Adder) (x : ℕ) → (weight done x ≡ 1) ⊎ (weight done x ≡ digit_count x)
+light_or_counted done x =
+    ⊎_elim (λ (some : 0 < level done x). inl (sym (weight_placed done x some)))
+    (λ (none : level done x ≤ 0). inr (sym (weight_new done x (λ some. omega (arith, some, none))))) (cases_lt 0 (level done x))
+
+level_from : (known : ℕ → ℕ) (done : List Adder) (x : ℕ) → known x ≡ 0 → (Contains (values done) x → ⊥) → levels_from known done x ≡ 0
+level_from known [] x none non = none
+level_from known (a ∷ done) x none non =
+    level_from (with_value known a) done x
+    (if_other x a.value (min 255 (max (known a.u) (known a.v) + 1)) (known x)
+    (λ e. non (subst (Contains (a.value ∷ values done)) (sym e) (here a.value (values done)))) ∙ none)
+    (λ c. non (there a.value x (values done) c))
+
+level_new : (done : List Adder) (x : ℕ) → (Contains (placed_by done) x → ⊥) → level done x ≡ 0
+unfolding level
+level_new done x non =
+    level_from (λ y. if y == 1 then 1 else 0) done x
+    (if_other x 1 1 0 (λ e. non (subst (Contains (placed_by done)) (sym e) (here 1 (values done))))) (λ c. non (there 1 x (values done) c))
+
+-- an operand of a step to a number stands, or it has fewer digits
+pub operand : (done : List Adder) (x heavy count k : ℕ) → weight done x ≤ heavy → heavy < count → count < suc k
+    → Contains (placed_by done) x ⊎ (digit_count x < k)
+operand done x heavy count k most lighter few =
+    ⊎_elim (λ (c : Contains (placed_by done) x). inl c)
+    (λ (non : Contains (placed_by done) x → ⊥).
+    inr (omega (arith, weight_new done x (λ some. omega (arith, some, level_new done x non)), most, lighter, few)))
+    (is_in (placed_by done) x)
+
+-- ---- the best step
+digit_lighter : (done : List Adder) (number : ℕ) (a : Adder) → IsDigitAdder number a → heavier done a < digit_count number
+digit_lighter done number a d =
+    let fewer = d.fewer (digit_count number) (own_digits number) in
+    let same = counted a.u (digit_count number - 1) fewer.1 in
+    let one : digit_count a.v ≡ 1 = subst (λ x. digit_count x ≡ 1) (sym d.one) one_digit in
+    omega (arith, fewer.0, same, one, light_or_counted done a.u, light_or_counted done a.v)
+
+digit_step : (done : List Adder) (number : ℕ) (a : Adder) → IsDigitAdder number a → IsStepTo done number a
+digit_step done number a d = record {
+  value = d.value;
+  adder = record {
+    u = d.wide;
+    v = subst IsWide (sym d.one) (omega arith, omega arith);
+    form = d.form;
+    shifted = d.shifted;
+    makes = d.makes;
+  };
+  stands = inr (subst (Contains (placed_by done)) (sym d.one) (here 1 (values done)));
+  lighter = digit_lighter done number a d;
+}
+
+record Ranked (done : List Adder) (number : ℕ) (r : List ℕ) : Type 0 where
+  adder : Adder
+  step : IsStepTo done number adder
+  ranked : rank done adder ≡ r
+
+rank_size : (done : List Adder) (a : Adder) → length (rank done a) ≡ 7
+unfolding rank
+rank_size done a = refl
+
+some_best : (done : List Adder) (number : ℕ) → IsWideMember number → ((a : Adder) → IsBest done number a → ⊥) → ⊥
+some_best done number wide found =
+    let (a, d) = digit_adder number wide in
+    least_rank 7 (Ranked done number) (λ r is. subst (λ s. length s ≡ 7) is.ranked (rank_size done is.adder)) (rank done a)
+    (record { adder = a; step = digit_step done number a d; ranked = refl })
+    (λ r is first. found is.adder (record {
+      step = is.step;
+      least = λ b step before.
+          first (rank done b) (record { adder = b; step = step; ranked = refl }) (subst (IsRankedBefore (rank done b)) is.ranked before);
+    }))
+
+-- ---- one number
+record Grown (done : List Adder) (number : ℕ) : Type 0 where
+  after : List Adder
+  grows : Grows done number after
+  kept : (x : ℕ) → Contains (placed_by done) x → Contains (placed_by after) x
+
+already : (done : List Adder) (number : ℕ) → Contains (placed_by done) number → Grown done number
+already done number c = record { after = done; grows = stands c; kept = λ x k. k }
+
+pub above_one : (done : List Adder) (number : ℕ) → IsWide number → (Contains (placed_by done) number → ⊥) → IsWideMember number
+above_one done number wide non =
     ⊎_elim
-    (λ (c : Contains (placed_by done) n). record { adders = done; graph = g; made = c; kept = λ x c. c; few = omega arith })
-    (λ (no : Contains (placed_by done) n → ⊥).
-    let above : 1 < n =
-    ⊎_elim (λ (lt : 1 < n). lt)
-    (λ (le : n ≤ 1). absurd (no (subst (Contains (placed_by done)) (omega (arith, le, w.0)) (here 1 (values done))))) (cases_lt 1 n) in
-    let member : IsWideMember n = (w.0, above, w.1) in
-    let (a, d) = digit_adder n member in
-    let fewer = d.fewer (suc k) h in
-    let less : suc k - 1 ≡ k = omega arith in
-    last_adder k done n a member d
-    (grow k done a.u g d.wide (subst (HasDigits a.u) less fewer.1) (omega (arith, fewer.0))))
-    (is_in (placed_by done) n)
-  where
-    last_adder : (k : ℕ) (done : List Adder) (n : ℕ) (a : Adder) → IsWideMember n → IsDigitAdder n a → Grown done a.u k → Grown done n (suc k)
-    last_adder k done n a member d one =
-        ⊎_elim
-        (λ (c : Contains (placed_by one.adders) n).
-        record { adders = one.adders; graph = one.graph; made = c; kept = one.kept; few = omega (arith, one.few) })
-        (λ (no : Contains (placed_by one.adders) n → ⊥). record {
-          adders = one.adders ++ a ∷ [];
-          graph = graph_more one.adders a one.graph (subst IsWideMember (sym d.value) member)
-              (λ c. no (subst (Contains (placed_by one.adders)) d.value c)) one.made
-              (subst (Contains (placed_by one.adders)) (sym d.one) (here 1 (values one.adders))) d.shifted d.makes;
-          made = subst (Contains (placed_by (one.adders ++ a ∷ []))) d.value (last one.adders a);
-          kept = λ x c. still one.adders a x (one.kept x c);
-          few = omega (arith, one.few, length-append one.adders (a ∷ []));
-        })
-        (is_in (placed_by one.adders) n)
+    (λ (lt : 1 < number). (wide.0, lt, wide.1))
+    (λ (le : number ≤ 1). absurd (non (subst (Contains (placed_by done)) (omega (arith, le, wide.0)) (here 1 (values done)))))
+    (cases_lt 1 number)
 
--- ---- all parts
+grow : (k : ℕ) (done : List Adder) (number : ℕ) → IsWide number → Contains (placed_by done) number ⊎ (digit_count number < k)
+    → (Grown done number → ⊥) → ⊥
+grow zero done number wide few found =
+    ⊎_elim (λ (c : Contains (placed_by done) number). found (already done number c)) (λ (lt : digit_count number < 0). omega (arith, lt)) few
+grow (suc k) done number wide few found =
+    ⊎_elim (λ (c : Contains (placed_by done) number). found (already done number c))
+    (λ (non : Contains (placed_by done) number → ⊥).
+    let lt : digit_count number < suc k =
+    ⊎_elim (λ (c : Contains (placed_by done) number). absurd (non c)) (λ (h : digit_count number < suc k). h) few in
+    some_best done number (above_one done number wide non) (λ a best.
+    let is = best.step in
+    grow k done a.u is.adder.u (operand done a.u (heavier done a) (digit_count number) k (omega arith) is.lighter lt) (λ first.
+    grow k first.after a.v is.adder.v (
+    ⊎_elim (λ (c : Contains (placed_by done) a.v). inl (first.kept a.v c)) (λ (h : digit_count a.v < k). inr h)
+    (operand done a.v (heavier done a) (digit_count number) k (omega arith) is.lighter lt)) (λ both.
+    found (record {
+      after = both.after ++ a ∷ [];
+      grows = made a non best first.grows both.grows;
+      kept = λ x c. still both.after a x (both.kept x (first.kept x c));
+    })))))
+    (is_in (placed_by done) number)
 
-form : ℕ → List ℤ
-form n = (some_form (pos n)).0
+-- ---- one number after the other
+grow_by : (numbers : List ℕ) → All IsWideMember numbers → (done : List Adder) → ((after : List Adder) → GrowsBy done numbers after → ⊥) → ⊥
+grow_by [] each done found = found done over
+grow_by (n ∷ numbers) each done found =
+    let wide = All-head IsWideMember n numbers each in
+    grow (suc (digit_count n)) done n (wide.0, wide.2) (inr (omega arith)) (λ first.
+    grow_by numbers (All-tail IsWideMember n numbers each) first.after (λ after grows. found after (next first.grows grows)))
 
-forms : AreForms form
-unfolding form
-forms n = let (ds, canonical, value) = some_form (pos n) in (canonical, value)
-
-own_digits : (n : ℕ) → HasDigits n (nonzeros (form n))
-own_digits n = record { form = form n; canonical = (forms n).0; value = (forms n).1; nonzero = refl }
-
-record GrownAll (done : List Adder) (parts : List ℕ) : Type 0 where
-  adders : List Adder
-  graph : IsSharedGraph adders
-  made : (x : ℕ) → Contains parts x → Contains (placed_by adders) x
-  kept : (x : ℕ) → Contains (placed_by done) x → Contains (placed_by adders) x
-  few : length adders ≤ length done + digit_adders form parts
-
-grow_all : (parts : List ℕ) → All IsWideMember parts → (done : List Adder) → IsSharedGraph done → GrownAll done parts
-grow_all [] each done g =
-    record { adders = done; graph = g; made = λ x c. absurd (of_nil x c); kept = λ x c. c; few = omega arith }
-grow_all (n ∷ parts) each done g =
-    let w = All-head IsWideMember n parts each in
-    let digits = own_digits n in
-    let some = some_digits n (nonzeros (form n)) (omega (arith, w.1)) digits in
-    let one = grow (nonzeros (form n)) done n g (w.0, w.2) digits some in
-    let rest = grow_all parts (All-tail IsWideMember n parts each) one.adders one.graph in
-    record {
-      adders = rest.adders;
-      graph = rest.graph;
-      made = λ x c. ⊎_elim
-          (λ (e : n ≡ x). subst (Contains (placed_by rest.adders)) e (rest.kept n one.made))
-          (λ (k : Contains parts x). rest.made x k)
-          (of_cons n x parts c);
-      kept = λ x c. rest.kept x (one.kept x c);
-      few = omega (arith, rest.few, one.few, some, sum_by-cons (λ m. nonzeros (form m) - 1) n parts);
-    }
-
-same_digits : (other : ℕ → List ℤ) → AreForms other → (parts : List ℕ) → digit_adders other parts ≡ digit_adders form parts
-same_digits other are [] = refl
-same_digits other are (n ∷ parts) =
-    let own : HasDigits n (nonzeros (other n)) =
-    record { form = other n; canonical = (are n).0; value = (are n).1; nonzero = refl } in
-    omega (
-      arith,
-      sum_by-cons (λ m. nonzeros (other m) - 1) n parts,
-      sum_by-cons (λ m. nonzeros (form m) - 1) n parts,
-      same_digits other are parts,
-      same_count n (nonzeros (other n)) (nonzeros (form n)) own (own_digits n),
-    )
-
-pub record SomeGraph (numbers : List ℤ) : Type 0 where
-  pub graph : Graph
-  pub shared : IsSharedGraph graph.adders
-  pub serves : Serves numbers graph
-  pub few : IsWithinDigits numbers graph.adders
-
-pub some_graph : (numbers : List ℤ) → All (IsWithin 1048575) numbers → (parts : List ℕ) → AreTargetsOf numbers parts → SomeGraph numbers
-some_graph numbers small parts are =
-    let none : IsSharedGraph [] = record { wired = tt; new = tt; members = all_of IsWideMember [] (λ x c. absurd (of_nil x c)) } in
-    let all = grow_all parts (each_wide numbers parts small are) [] none in
-    let graph : Graph = record { adders = all.adders } in
-    record {
-      graph = graph;
-      shared = all.graph;
-      serves = serves numbers graph all.graph
-          (λ x target.
-          let (t, in_numbers, is) = target in
-          ⊎_elim (λ (e : 1 ≡ x). absurd (omega (arith, e, is.above))) (λ (k : Contains (values all.adders) x). k)
-          (of_cons 1 x (values all.adders) (all.made x ((are.members x).1 target))));
-      few = record {
-        parts = parts;
-        are_parts = are;
-        few = λ other are_forms. omega (arith, all.few, same_digits other are_forms parts);
-      };
-    }
+pub some_rule_graph : SomeRuleGraph
+some_rule_graph numbers small found =
+    let (parts, are) = some_parts numbers in
+    grow_by parts (each_wide numbers parts small are) [] (λ adders grows.
+    found adders (record { parts = parts; are_parts = are; grows = grows }))

@@ -1,5 +1,5 @@
 -- A graph with one adder more.
-use Rattle.std.proofs.Common.{◌≡◌, ◌≢◌, ◌⊎◌, inl, inr, ◌↔◌, ⊎_elim, ℕ, ◌^◌, ◌≤◌, ◌<◌, List, [], ◌∷◌, ◌++◌, length, get_or, All, Contains, append_assoc, sym, ◌∙◌, subst, arith}
+use Rattle.std.proofs.Common.{◌≡◌, ◌≢◌, ◌⊎◌, inl, inr, ◌↔◌, ⊎_elim, ℕ, ◌^◌, ◌+◌, ◌≤◌, ◌<◌, max, min, List, [], ◌∷◌, ◌++◌, length, get_or, All, Contains, append_assoc, sym, ◌∙◌, subst, arith}
 use Rattle.std.proofs.lemmas.List.{append-nil, map-append, length-set, length-replicate, get_or-set_same, get_or-set_other, get_or-replicate}
 use Rattle.std.proofs.Math.ListN.{set, replicate}
 use Rattle.std.proofs.lemmas.List.Elements.{All-append, Contains-append_left, Contains-append_right, Contains-append_cases}
@@ -10,8 +10,10 @@ use Rattle.opgen_graph.specs.Graphs.{values}
 use Rattle.opgen_graph.specs.GraphLaws.{IsWired}
 use Rattle.opgen_graph.proofs.Members.{here, of_one, of_nil, all_of}
 use Rattle.opgen_graph.specs.Reach.{IsWideMember}
+use Rattle.opgen_shared.specs.Levels.{level}
 use Rattle.opgen_shared.specs.Shared.{AreNew, IsSharedGraph}
 use Rattle.opgen_shared.specs.Sums.{AreSums, placed_by}
+use Rattle.opgen_shared.proofs.LevelLaws.{known_more, known_first}
 
 pub values_more : (done : List Adder) (a : Adder) → values (done ++ a ∷ []) ≡ values done ++ a.value ∷ []
 values_more done a = map-append (λ b. b.value) done (a ∷ [])
@@ -62,7 +64,7 @@ last done a =
     subst (λ vs. Contains (1 ∷ vs) a.value) (sym (values_more done a))
     (Contains-append_right (placed_by done) (a.value ∷ []) a.value (here a.value []))
 
-earlier : (done : List Adder) (a : Adder) (x : ℕ) → Contains (placed_by (done ++ a ∷ [])) x → Contains (placed_by done) x ⊎ (a.value ≡ x)
+pub earlier : (done : List Adder) (a : Adder) (x : ℕ) → Contains (placed_by (done ++ a ∷ [])) x → Contains (placed_by done) x ⊎ (a.value ≡ x)
 earlier done a x c =
     let apart : Contains (placed_by done ++ a.value ∷ []) x = subst (λ vs. Contains (1 ∷ vs) x) (values_more done a) c in
     ⊎_elim (λ (k : Contains (placed_by done) x). inl k) (λ (k : Contains (a.value ∷ []) x). inr (of_one a.value x k))
@@ -71,36 +73,38 @@ earlier done a x c =
 abbrev Marks : List Adder → List ℕ → ℕ → Type 0
 Marks done known x = (0 < get_or known x 0) ↔ Contains (placed_by done) x
 
-marks_more : (done : List Adder) (a : Adder) (known : List ℕ) (level x : ℕ) → 0 < level → a.value < length known → Marks done known x
-    → Marks (done ++ a ∷ []) (set known a.value level) x
-marks_more done a known level x some lt before =
+marks_more : (done : List Adder) (a : Adder) (known : List ℕ) (high x : ℕ) → 0 < high → a.value < length known → Marks done known x
+    → Marks (done ++ a ∷ []) (set known a.value high) x
+marks_more done a known high x some lt before =
     ⊎_elim (λ (e : a.value ≡ x).
-    let same : get_or (set known a.value level) x 0 ≡ level =
-    subst (λ y. get_or (set known a.value level) y 0 ≡ level) e (get_or-set_same known a.value level 0 lt) in (
-      λ (_ : 0 < get_or (set known a.value level) x 0). subst (Contains (placed_by (done ++ a ∷ []))) e (last done a),
+    let same : get_or (set known a.value high) x 0 ≡ high =
+    subst (λ y. get_or (set known a.value high) y 0 ≡ high) e (get_or-set_same known a.value high 0 lt) in (
+      λ (_ : 0 < get_or (set known a.value high) x 0). subst (Contains (placed_by (done ++ a ∷ []))) e (last done a),
       λ (_ : Contains (placed_by (done ++ a ∷ [])) x). subst (λ y. 0 < y) (sym same) some,
     ))
     (λ (ne : a.value ≢ x).
-    let other : get_or (set known a.value level) x 0 ≡ get_or known x 0 =
-    get_or-set_other known a.value x level 0 (λ e. ne (sym e)) in (
-      λ (h : 0 < get_or (set known a.value level) x 0). still done a x (before.0 (subst (λ y. 0 < y) other h)),
+    let other : get_or (set known a.value high) x 0 ≡ get_or known x 0 =
+    get_or-set_other known a.value x high 0 (λ e. ne (sym e)) in (
+      λ (h : 0 < get_or (set known a.value high) x 0). still done a x (before.0 (subst (λ y. 0 < y) other h)),
       λ (c : Contains (placed_by (done ++ a ∷ [])) x). subst (λ y. 0 < y) (sym other)
           (⊎_elim (λ (k : Contains (placed_by done) x). before.1 k) (λ (e : a.value ≡ x). absurd (ne e)) (earlier done a x c)),
     ))
     (cases_eq a.value x)
 
-pub sums_more : (done new : List Adder) (known marked : List ℕ) (a : Adder) (level : ℕ) → 0 < level → AreSums done known → IsWideMember a.value
+pub sums_more : (done new : List Adder) (known marked : List ℕ) (a : Adder) (high : ℕ) → 0 < high
+    → high ≡ min 255 (max (level done a.u) (level done a.v) + 1) → AreSums done known → IsWideMember a.value
     → (Contains (placed_by done) a.value → ⊥)
     → Contains (placed_by done) a.u → Contains (placed_by done) a.v → 1 ≤ a.step.shift → Makes a.step.form a.step.shift a.u a.v a.value
-    → new ≡ done ++ a ∷ [] → marked ≡ set known a.value level → AreSums new marked
-sums_more done new known marked a level some b wide n u v s m e f =
+    → new ≡ done ++ a ∷ [] → marked ≡ set known a.value high → AreSums new marked
+sums_more done new known marked a high some up b wide n u v s m e f =
     subst (λ xs. AreSums xs marked) (sym e) (subst (AreSums (done ++ a ∷ [])) (sym f) grown)
   where
-    grown : AreSums (done ++ a ∷ []) (set known a.value level)
+    grown : AreSums (done ++ a ∷ []) (set known a.value high)
     grown = record {
       graph = graph_more done a b.graph wide n u v s m;
-      size = length-set known a.value level ∙ b.size;
-      marks = λ x lt. marks_more done a known level x some (subst (λ y. a.value < y) (sym b.size) wide.2) (b.marks x lt);
+      size = length-set known a.value high ∙ b.size;
+      marks = λ x lt. marks_more done a known high x some (subst (λ y. a.value < y) (sym b.size) wide.2) (b.marks x lt);
+      known = λ x lt. known_more done a known high x up (subst (λ y. a.value < y) (sym b.size) wide.2) (b.known x lt);
     }
 
 -- 1 alone
@@ -129,6 +133,7 @@ first_sums n known size e =
       graph = record { wired = tt; new = tt; members = none };
       size = length-set (zeros n) 1 1 ∙ length-replicate {A = ℕ} n 0 ∙ size;
       marks = λ x lt. first_mark n x (omega (arith, size)) (subst (λ y. x < y) (sym size) lt);
+      known = λ x lt. known_first n x (omega (arith, size)) (subst (λ y. x < y) (sym size) lt);
     })
   where
     none : All IsWideMember []

@@ -1,5 +1,14 @@
 pub mod Forms
+pub mod LevelLaws
+pub mod Ranking
+pub mod RuleLaws
 pub mod Growing
 pub mod StepLaws
+pub mod Covering
 pub mod Costs
+pub mod Leasts
+pub mod PartLists
 pub mod Existence
+pub mod Comparing
+pub mod Making
+pub mod Serving

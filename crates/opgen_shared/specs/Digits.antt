@@ -1,6 +1,7 @@
 -- How many adders the canonical signed digits of numbers need, each number apart.
 use Rattle.std.specs.Prelude.{◌≡◌, ℕ, ◌-◌, ◌≤◌, ℤ, pos, List, length, sum_by}
 use Rattle.opgen_csd.specs.Digits.{IsCanonical, value_of, nonzeros}
+use Rattle.opgen_csd.proofs.Existence.{some_form}
 use Rattle.opgen_graph.specs.declared.ranks.Adder.{Adder}
 use Rattle.opgen_graph.specs.Targets.{AreTargetsOf}
 
@@ -10,6 +11,10 @@ pub record HasDigits (n count : ℕ) : Type 0 where
   pub canonical : IsCanonical form
   pub value : value_of form ≡ pos n
   pub nonzero : nonzeros form ≡ count
+
+-- how many digits of the canonical form of a number are not zero
+unfoldable pub digit_count : ℕ → ℕ
+digit_count n = nonzeros (some_form (pos n)).0
 
 -- the canonical form of each number
 abbrev pub AreForms : (ℕ → List ℤ) → Type 0

@@ -1,13 +1,15 @@
-//! The step to a number that is quick and whose rest is lightest, over all numbers that stand and all their shifts.
+//! The best step to a number, over all numbers that stand and all shifts.
 ghost use Rattle.std.specs.Prelude.{◌≡◌, ◌*◌, ◌^◌, ◌≤◌, ◌<◌, Contains};
 ghost use Rattle.opgen_graph.specs.Reach.{IsWide, IsWideMember};
-ghost use Rattle.opgen_shared.specs.Digits.{HasDigits};
+ghost use Rattle.opgen_shared.specs.Digits.{HasDigits, digit_count};
+ghost use Rattle.opgen_shared.specs.Rule.{IsBest};
 ghost use Rattle.opgen_shared.specs.Sums.{AreSums, placed_by};
-ghost use Rattle.opgen_shared.specs.Steps.{IsCandidate, IsDigitAdder, IsShifted};
+ghost use Rattle.opgen_shared.specs.Steps.{IsCandidate, IsDigitAdder, IsNotAfter, IsLeastOf, IsShifted};
+ghost use Rattle.opgen_shared.specs.Steps.{IsDistanceTo, IsSumWith, IsShiftedDistance, IsShiftedSum, HasOperand};
 
-use crate::candidates::{Candidate, better, expected_level};
+use crate::candidates::{Candidate, better, ranked};
 use crate::parts::split_odd;
-use crate::sums::{LIMIT, Sums, operand_level};
+use crate::sums::{LIMIT, Sums};
 use crate::weights::weight;
 use opgen_graph::{Adder, Form, Step};
 
@@ -32,21 +34,14 @@ fn digit_adder(number: u32) -> Adder
 }
 
 // The step that takes off the lowest digit.
-fn digit_step(sums: &Sums, number: u32, count: u32) -> Candidate
+fn digit_step(sums: &Sums, number: u32) -> Candidate
     requires sums { AreSums sums.now.adders sums.now.levels.items }
     requires number { IsWideMember number }
-    requires count { HasDigits number count }
-    ensures candidate { IsCandidate (placed_by sums.now.adders) number result }
-    ensures lighter { result.weight < count }
+    ensures { IsCandidate sums.now.adders number result }
 {
     let adder = digit_adder(number);
     let weight = weight(sums, adder.u);
-    Candidate {
-        adder,
-        rest: adder.u,
-        weight,
-        level: operand_level(sums, adder).max(expected_level(weight)),
-    }
+    ranked(sums, adder, adder.u, weight)
 }
 
 // The better of a candidate and the step by the distance between the number and one that stands.
@@ -55,14 +50,13 @@ fn with_distance(sums: &Sums, best: Candidate, number: u32, operand: u32, count:
     requires number { IsWide number }
     requires operand { IsWide operand }
     requires stands { Contains (placed_by sums.now.adders) operand }
-    requires best { IsCandidate (placed_by sums.now.adders) number best }
-    requires count { best.weight < count }
-    ensures candidate { IsCandidate (placed_by sums.now.adders) number result }
-    ensures lighter { result.weight < count }
+    requires other { number ≡ operand → ⊥ }
+    requires best { IsCandidate sums.now.adders number best }
+    requires count { count ≡ digit_count number }
+    ensures candidate { IsCandidate sums.now.adders number result }
+    ensures kept { IsNotAfter sums.now.adders result.adder best.adder }
+    ensures least { IsLeastOf sums.now.adders number (IsDistanceTo operand) result }
 {
-    if number == operand {
-        return best;
-    }
     let (rest, shift) = split_odd(number.abs_diff(operand));
     let form = if operand < number { Form::A } else { Form::C };
     let adder = adder_of(number, form, shift, rest, operand);
@@ -75,10 +69,11 @@ fn with_sum(sums: &Sums, best: Candidate, number: u32, operand: u32, count: u32)
     requires number { IsWide number }
     requires operand { IsWide operand }
     requires stands { Contains (placed_by sums.now.adders) operand }
-    requires best { IsCandidate (placed_by sums.now.adders) number best }
-    requires count { best.weight < count }
-    ensures candidate { IsCandidate (placed_by sums.now.adders) number result }
-    ensures lighter { result.weight < count }
+    requires best { IsCandidate sums.now.adders number best }
+    requires count { count ≡ digit_count number }
+    ensures candidate { IsCandidate sums.now.adders number result }
+    ensures kept { IsNotAfter sums.now.adders result.adder best.adder }
+    ensures least { IsLeastOf sums.now.adders number (IsSumWith operand) result }
 {
     let (rest, shift) = split_odd(number + operand);
     let adder = adder_of(number, Form::B, shift, rest, operand);
@@ -105,12 +100,16 @@ fn with_shifted_distance(
     requires number { IsWide number }
     requires shifted { IsShifted by }
     requires stands { Contains (placed_by sums.now.adders) by.operand }
-    requires best { IsCandidate (placed_by sums.now.adders) number best }
-    requires count { best.weight < count }
-    ensures candidate { IsCandidate (placed_by sums.now.adders) number result }
-    ensures lighter { result.weight < count }
+    requires best { IsCandidate sums.now.adders number best }
+    requires count { count ≡ digit_count number }
+    ensures candidate { IsCandidate sums.now.adders number result }
+    ensures kept { IsNotAfter sums.now.adders result.adder best.adder }
+    ensures least { IsLeastOf sums.now.adders number (IsShiftedDistance by) result }
 {
     let rest = number.abs_diff(by.size);
+    if rest >= LIMIT {
+        return best;
+    }
     let form = if by.size < number { Form::A } else { Form::B };
     let adder = adder_of(number, form, by.shift, by.operand, rest);
     better(sums, best, adder, rest, count)
@@ -122,10 +121,11 @@ fn with_shifted_sum(sums: &Sums, best: Candidate, number: u32, by: Shifted, coun
     requires number { IsWide number }
     requires shifted { IsShifted by }
     requires stands { Contains (placed_by sums.now.adders) by.operand }
-    requires best { IsCandidate (placed_by sums.now.adders) number best }
-    requires count { best.weight < count }
-    ensures candidate { IsCandidate (placed_by sums.now.adders) number result }
-    ensures lighter { result.weight < count }
+    requires best { IsCandidate sums.now.adders number best }
+    requires count { count ≡ digit_count number }
+    ensures candidate { IsCandidate sums.now.adders number result }
+    ensures kept { IsNotAfter sums.now.adders result.adder best.adder }
+    ensures least { IsLeastOf sums.now.adders number (IsShiftedSum by) result }
 {
     let rest = number + by.size;
     if rest >= LIMIT {
@@ -141,18 +141,18 @@ fn with_operand(sums: &Sums, best: Candidate, number: u32, operand: u32, count: 
     requires number { IsWide number }
     requires operand { IsWide operand }
     requires stands { Contains (placed_by sums.now.adders) operand }
-    requires best { IsCandidate (placed_by sums.now.adders) number best }
-    requires count { best.weight < count }
-    ensures candidate { IsCandidate (placed_by sums.now.adders) number result }
-    ensures lighter { result.weight < count }
+    requires other { number ≡ operand → ⊥ }
+    requires best { IsCandidate sums.now.adders number best }
+    requires count { count ≡ digit_count number }
+    ensures candidate { IsCandidate sums.now.adders number result }
+    ensures kept { IsNotAfter sums.now.adders result.adder best.adder }
+    ensures least { IsLeastOf sums.now.adders number (HasOperand operand) result }
 {
-    let mut least = with_distance(sums, best, number, operand, count);
-    least = with_sum(sums, least, number, operand, count);
+    let by_distance = with_distance(sums, best, number, operand, count);
+    let mut least = with_sum(sums, by_distance, number, operand, count);
+    let mut shift = 1;
     let mut size = operand + operand;
-    'shifts: for shift in 1..21 {
-        if size >= LIMIT {
-            return least;
-        }
+    'shifts: while size < 2 * LIMIT {
         let by = Shifted {
             operand,
             shift,
@@ -160,20 +160,23 @@ fn with_operand(sums: &Sums, best: Candidate, number: u32, operand: u32, count: 
         };
         least = with_shifted_distance(sums, least, number, by, count);
         least = with_shifted_sum(sums, least, number, by, count);
+        shift += 1;
         size += size;
     }
     least
 }
 
-// The quickest step to a number, of these the one whose rest is lightest, of these one of the lowest level, and of these the first.
+// The step to a number that none comes before.
 pub(crate) fn best_step(sums: &Sums, number: u32, count: u32) -> Candidate
     requires sums { AreSums sums.now.adders sums.now.levels.items }
     requires number { IsWideMember number }
-    requires count { HasDigits number count }
-    ensures candidate { IsCandidate (placed_by sums.now.adders) number result }
+    requires new { Contains (placed_by sums.now.adders) number → ⊥ }
+    requires count { count ≡ digit_count number }
+    ensures candidate { IsCandidate sums.now.adders number result }
+    ensures best { IsBest sums.now.adders number result.adder }
     ensures lighter { result.weight < count }
 {
-    let first = digit_step(sums, number, count);
+    let first = digit_step(sums, number);
     let mut least = with_operand(sums, first, number, 1, count);
     'adders: for adder in sums.adders.as_slice() {
         least = with_operand(sums, least, number, adder.value, count);

@@ -1,7 +1,8 @@
 //! The numbers that stand while a graph grows, with a mark for each.
-ghost use Rattle.std.specs.Prelude.{◌≡◌, ℕ, ◌+◌, ◌≤◌, ◌<◌, ◌^◌, ◌↔◌, ◌∷◌, [], length, Contains, IfOk, OnOk, IsTrue};
+ghost use Rattle.std.specs.Prelude.{◌≡◌, ℕ, ◌+◌, ◌≤◌, ◌<◌, ◌^◌, ◌↔◌, ◌∷◌, ◌++◌, [], length, max, Contains, IfOk, OnOk, IsTrue};
 ghost use Rattle.opgen_graph.specs.Adders.{Makes};
-ghost use Rattle.opgen_graph.specs.Reach.{IsWideMember};
+ghost use Rattle.opgen_graph.specs.Reach.{IsWide, IsWideMember};
+ghost use Rattle.opgen_shared.specs.Levels.{level};
 ghost use Rattle.opgen_shared.specs.Sums.{AreSums, placed_by};
 
 use opgen_graph::Adder;
@@ -32,44 +33,47 @@ pub(crate) fn first_sums(alloc: Global) -> Result<Sums, AllocError>
     })
 }
 
+// The level of a number.
+fn level_of(sums: &Sums, number: u32) -> u8
+    requires sums { AreSums sums.now.adders sums.now.levels.items }
+    requires number { number < 2 ^ 21 }
+    ensures { result ≡ level sums.now.adders number }
+{
+    sums.levels[number as usize]
+}
+
 // Whether a number stands.
 pub(crate) fn stands(sums: &Sums, number: u32) -> bool
     requires sums { AreSums sums.now.adders sums.now.levels.items }
     requires number { number < 2 ^ 21 }
-    ensures { IsTrue result ↔ Contains (placed_by sums.now.adders) number }
+    ensures stands { IsTrue result ↔ Contains (placed_by sums.now.adders) number }
+    ensures level { IsTrue result ↔ (0 < level sums.now.adders number) }
 {
     sums.levels[number as usize] > 0
 }
 
-// The level of a number, 0 from the limit on.
-fn level_of(sums: &Sums, number: u32) -> u8 {
-    match sums.levels.get(number as usize) {
-        Some(level) => *level,
-        None => 0,
-    }
-}
-
 // The higher level of an adder's operands.
-pub(crate) fn operand_level(sums: &Sums, adder: Adder) -> u8 {
+pub(crate) fn operand_level(sums: &Sums, adder: Adder) -> u8
+    requires sums { AreSums sums.now.adders sums.now.levels.items }
+    requires u { IsWide adder.u }
+    requires v { IsWide adder.v }
+    ensures { result ≡ max (level sums.now.adders adder.u) (level sums.now.adders adder.v) }
+{
     level_of(sums, adder.u).max(level_of(sums, adder.v))
 }
 
-// Appends an adder, unless its value stands.
+// Appends an adder of a new number.
 pub(crate) fn place(sums: &mut Sums, adder: Adder) -> Result<(), AllocError>
     requires sums { AreSums sums.old.adders sums.old.levels.items }
     requires value { IsWideMember adder.value }
+    requires new { Contains (placed_by sums.old.adders) adder.value → ⊥ }
     requires u { Contains (placed_by sums.old.adders) adder.u }
     requires v { Contains (placed_by sums.old.adders) adder.v }
     requires shifted { 1 ≤ adder.step.shift }
     requires makes { Makes adder.step.form adder.step.shift adder.u adder.v adder.value }
     ensures sums { OnOk result (AreSums sums.new.adders sums.new.levels.items) }
-    ensures made { OnOk result (Contains (placed_by sums.new.adders) adder.value) }
-    ensures kept { OnOk result ((x : ℕ) → Contains (placed_by sums.old.adders) x → Contains (placed_by sums.new.adders) x) }
-    ensures few { OnOk result (length sums.new.adders ≤ length sums.old.adders + 1) }
+    ensures adders { OnOk result (sums.new.adders ≡ sums.old.adders ++ adder ∷ []) }
 {
-    if stands(sums, adder.value) {
-        return Ok(());
-    }
     let level = operand_level(sums, adder).saturating_add(1);
     sums.adders.push(adder)?;
     sums.levels[adder.value as usize] = level;

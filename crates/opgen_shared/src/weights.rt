@@ -1,9 +1,9 @@
 //! How many adders a number needs at most, by its signed digits: one less than its weight.
-ghost use Rattle.std.specs.Prelude.{ℕ, ◌≤◌, ◌<◌, ◌^◌};
+ghost use Rattle.std.specs.Prelude.{◌≡◌, ℕ, ◌≤◌, ◌<◌, ◌^◌};
 ghost use Rattle.opgen_graph.specs.Reach.{IsWide};
 ghost use Rattle.opgen_shared.specs.Digits.{HasDigits};
-ghost use Rattle.opgen_shared.specs.Sums.{AreSums, placed_by};
-ghost use Rattle.opgen_shared.specs.Steps.{Weighs};
+ghost use Rattle.opgen_shared.specs.Rule as rule;
+ghost use Rattle.opgen_shared.specs.Sums.{AreSums};
 
 use crate::sums::{Sums, stands};
 use opgen_csd::recode;
@@ -20,7 +20,7 @@ pub(crate) fn digit_count(number: u32) -> u32
 pub(crate) fn weight(sums: &Sums, number: u32) -> u32
     requires sums { AreSums sums.now.adders sums.now.levels.items }
     requires number { IsWide number }
-    ensures weighs { Weighs (placed_by sums.now.adders) number result }
+    ensures weight { result ≡ rule.weight sums.now.adders number }
     ensures most { (count : ℕ) → HasDigits number count → result ≤ count }
 {
     if stands(sums, number) {

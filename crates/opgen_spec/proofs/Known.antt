@@ -1,6 +1,7 @@
 -- A key that a document without a fault has is one that its version and its kind have.
-use Rattle.std.proofs.Common.{◌≡◌, ℕ, ◌+◌, ◌&&◌, not, Bool, true, false, cond, List, Option, Ordering, Less, Equal, Greater, Some, None, is_some, refl, ap, sym, ◌∙◌, unwrap_or}
-use Rattle.std.specs.List.{position_from}
+use Rattle.std.proofs.Common.{◌≡◌, ℕ, ◌+◌, ◌<◌, ◌&&◌, not, Bool, true, false, cond, List, length, get_or, Option, Ordering, Less, Equal, Greater, Some, None, is_some, refl, ap, sym, subst, ◌∙◌, unwrap_or}
+use Rattle.std.specs.List.{position_from, list_all}
+use Rattle.std.proofs.lemmas.List.Sums.{AllPass-from_list_all}
 use Rattle.std.specs.Ordering.{nat_cmp, match_ordering}
 use Rattle.std.specs.Cmp.Lexicographic.{slice_cmp}
 use Rattle.std.specs.Str.{bytes_eq}
@@ -17,7 +18,7 @@ use Rattle.opgen_document.specs.Keys.{document_keys, key_name, shared_stand, may
 use Rattle.opgen_document.specs.Versions.{version_of}
 use Rattle.opgen_spec.specs.Stands.{may_stand, is_known}
 use Rattle.opgen_spec.specs.kinds.{kind_of, entry}
-use Rattle.opgen_spec.proofs.Fine.{AreFine, map_none}
+use Rattle.opgen_spec.proofs.Fine.{AreFine, map_none, is_of_line}
 
 -- a name that is there passes a test that no name fails
 known : (p : List ℕ → Bool) (ms : Members) (name : List ℕ) (n : ℕ) → position_from (λ m. not (p m)) n (names ms) ≡ None
@@ -35,25 +36,40 @@ known p (member l d ms) name n none there =
     go true e none Equal c there later = ap p (exact_bytes name l c) ∙ e
     go true e none Greater c there later = later none there
 
--- no other key has the name of this one
+-- no other key of documents has the name of this one
 abbrev pub IsOnly : Key → Type 0
-IsOnly k = (other : Key) → bytes_eq (key_name other) (key_name k) ≡ true → other ≡ k
+IsOnly k = (other : Key) → is_of_line other ≡ false → bytes_eq (key_name other) (key_name k) ≡ true → other ≡ k
 
 pub compressor_key : IsOnly key.Compressor
-compressor_key key.Compressor h = refl
-compressor_key _ h = cc
+compressor_key key.Compressor own h = refl
+compressor_key _ own h = cc
 
 pub signed_key : IsOnly key.Signed
-signed_key key.Signed h = refl
-signed_key _ h = cc
+signed_key key.Signed own h = refl
+signed_key key.InputSigned own h = cc
+signed_key _ own h = cc
 
 pub width_key : IsOnly key.OutWidth
-width_key key.OutWidth h = refl
-width_key _ h = cc
+width_key key.OutWidth own h = refl
+width_key _ own h = cc
 
 pub out_lsb_key : IsOnly key.OutLsb
-out_lsb_key key.OutLsb h = refl
-out_lsb_key _ h = cc
+out_lsb_key key.OutLsb own h = refl
+out_lsb_key _ own h = cc
+
+-- the keys of documents are none of lines
+own_keys : list_all (λ k. not (is_of_line k)) document_keys ≡ true
+unfolding document_keys
+own_keys = refl
+
+is_own : (b : Bool) → not b ≡ true → b ≡ false
+is_own true h = cc
+is_own false h = refl
+
+own_at : (i : ℕ) (other : Key) → i < length document_keys → get_or document_keys i other ≡ other → is_of_line other ≡ false
+own_at i other lt at =
+    subst (λ k. is_of_line k ≡ false) at (is_own (is_of_line (get_or document_keys i other))
+    (AllPass-from_list_all (λ k. not (is_of_line k)) document_keys own_keys i other lt))
 
 -- a key that is there may be there
 pub allowed : (ms : Members) (one : Kind) (k : Key) → AreFine ms → kind_of ms ≡ Some one → IsOnly k → shared_stand k ≡ None
@@ -65,8 +81,9 @@ allowed ms one k f e only apart there =
     let (i, other, lt, at, both) = Any-from_list_any
     (λ other. may_stand (version_of ms) (kind_of ms) other && bytes_eq (key_name other) (key_name k)) document_keys listed in
     let (may, named) = and_parts (may_stand (version_of ms) (kind_of ms) other) (bytes_eq (key_name other) (key_name k)) both in
+    let own = own_at i other lt at in
     let mine : may_stand (version_of ms) (Some one) k ≡ true =
-    ap (λ o. may_stand (version_of ms) o k) (sym e) ∙ (ap (may_stand (version_of ms) (kind_of ms)) (sym (only other named)) ∙ may) in
+    ap (λ o. may_stand (version_of ms) o k) (sym e) ∙ (ap (may_stand (version_of ms) (kind_of ms)) (sym (only other own named)) ∙ may) in
     ap (λ shared. may_be (unwrap_or shared ((entry one).stand (version_of ms) k))) (sym apart) ∙ mine
 
 -- a key that may not be there is not there

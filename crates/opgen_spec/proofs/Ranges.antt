@@ -1,5 +1,5 @@
 -- Numbers and arrays that are not out of range, and the fields that they give.
-use Rattle.std.proofs.Common.{◌≡◌, ℕ, zero, suc, ◌≤◌, ◌<◌, ◌^◌, Bool, true, false, cond, List, [], ◌∷◌, length, get_or, Some, None, find, nat_lt, ap, ◌∙◌, sym, arith, refl, subst, if◌then◌else◌}
+use Rattle.std.proofs.Common.{◌≡◌, ℕ, zero, suc, ◌≤◌, ◌<◌, ◌^◌, Bool, true, false, cond, List, [], ◌∷◌, length, get_or, Some, None, find, nat_lt, ap, ◌∙◌, sym, arith, refl, subst}
 use Rattle.std.specs.Prelude.{ℤ, pos, negsuc, ◌≤ℤ◌, unsigned_abs, All}
 use Rattle.std.proofs.lemmas.Int.{ints}
 use Rattle.std.proofs.lemmas.List.{length-map}
@@ -19,14 +19,14 @@ use Rattle.opgen_document.specs.Versions.{version_of}
 use Rattle.opgen_document.specs.Document.{list_of, number_at, flag_at, count_at, count, small}
 use Rattle.opgen_document.specs.Numbers.{coefficient, places_among, numerators}
 use Rattle.opgen_document.specs.Fields.{format_at, unsigned_at}
-use Rattle.opgen_document.specs.Ranges.{outside, is_beyond, first_beyond, length_outside, array_outside, width_outside, near_outside, power_outside_in, power_outside, extra_outside}
+use Rattle.opgen_document.specs.Ranges.{is_beyond, first_beyond, length_outside, array_outside, bits_outside, width_outside, near_outside, power_outside_in, power_outside, extra_outside}
 use Rattle.opgen_document.proofs.Ranges.{inside, counted, small_same}
 use Rattle.opgen_spec.proofs.Fine.{AreFine, IsFine}
 use Rattle.opgen_spec.proofs.Reading.{or_none}
 use Rattle.opgen_spec.proofs.Versions.{IsEarly, early}
 
 -- a number within bounds stays within them in 32 bits
-power_small : (n : ℤ) → IsPower n → IsPower (small n)
+pub power_small : (n : ℤ) → IsPower n → IsPower (small n)
 power_small n is = subst IsPower (small_same n is.0 is.1) is
 
 near_small : (n : ℤ) → IsNear n → IsNear (small n)
@@ -83,25 +83,24 @@ three_near ms k l m f h g i below =
     (power_near ms k (early ms f below) h) (two_near ms l m f g i below)
 
 -- the width of an input
+pub bits_in : (signed : Bool) (most : ℕ) (n : ℤ) → most < 2 ^ 32 → bits_outside signed most n ≡ None
+    → (fewest_bits signed ≤ count n) × (count n ≤ most)
+bits_in true most n few none = let bounds = inside (pos 2) (pos most) n none in counted n 2 most bounds.0 bounds.1 few
+bits_in false most n few none = let bounds = inside (pos 1) (pos most) n none in counted n 1 most bounds.0 bounds.1 few
+
+pub bits_bounds : (signed : Bool) (most : ℕ) (n : ℤ) → bits_outside signed most n ≡ None → (pos 1 ≤ℤ n) × (n ≤ℤ pos most)
+bits_bounds true most n none =
+    let (least, greatest) = inside (pos 2) (pos most) n none in
+    (omega (arith, ints, least), greatest)
+bits_bounds false most n none = inside (pos 1) (pos most) n none
+
 pub width_in : (most : ℕ) (ms : Members) (k : Key) → most < 2 ^ 32 → IsFine ms k (width_outside most ms k)
     → (fewest_bits (flag_at ms key.Signed) ≤ count_at ms k) × (count_at ms k ≤ most)
-width_in most ms k few h = go (flag_at ms key.Signed) h.within
-  where
-    go : (flag : Bool) → outside (pos (if flag then 2 else 1)) (pos most) (number_at ms k) ≡ None
-        → (fewest_bits flag ≤ count (number_at ms k)) × (count (number_at ms k) ≤ most)
-    go true none = let bounds = inside (pos 2) (pos most) (number_at ms k) none in counted (number_at ms k) 2 most bounds.0 bounds.1 few
-    go false none = let bounds = inside (pos 1) (pos most) (number_at ms k) none in counted (number_at ms k) 1 most bounds.0 bounds.1 few
+width_in most ms k few h = bits_in (flag_at ms key.Signed) most (number_at ms k) few h.within
 
 pub width_bounds : (most : ℕ) (ms : Members) (k : Key) → IsFine ms k (width_outside most ms k)
     → (pos 1 ≤ℤ number_at ms k) × (number_at ms k ≤ℤ pos most)
-width_bounds most ms k h = go (flag_at ms key.Signed) h.within
-  where
-    go : (flag : Bool) → outside (pos (if flag then 2 else 1)) (pos most) (number_at ms k) ≡ None
-        → (pos 1 ≤ℤ number_at ms k) × (number_at ms k ≤ℤ pos most)
-    go true none =
-        let (least, most) = inside (pos 2) (pos most) (number_at ms k) none in
-        (omega (arith, ints), most)
-    go false none = inside (pos 1) (pos most) (number_at ms k) none
+width_bounds most ms k h = bits_bounds (flag_at ms key.Signed) most (number_at ms k) h.within
 
 -- the most bits that an input of the document's version may have
 abbrev pub widest : Members → ℕ

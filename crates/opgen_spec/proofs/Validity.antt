@@ -1,85 +1,51 @@
 -- A document without a fault gives a valid specification.
-use Rattle.std.proofs.Common.{◌≡◌, ℕ, zero, suc, ◌+◌, ◌≤◌, Bool, true, false, List, [], ◌∷◌, length, Option, Some, None, Ok, subst, option_map, option_and_then, nat_lt, refl, ap, sym, ◌∙◌, arith, lit<, if◌then◌else◌}
-use Rattle.std.specs.Prelude.{pos, All, IsTrue, unwrap_or}
+use Rattle.std.proofs.Common.{◌≡◌, ℕ, ◌≤◌, Bool, true, false, [], ◌∷◌, length, Option, Some, None, Ok, subst, option_map, option_and_then, nat_lt, refl, ap, sym, ◌∙◌, arith, lit<, if◌then◌else◌}
+use Rattle.std.specs.Prelude.{pos, IsTrue, unwrap_or}
 use Rattle.std.proofs.lemmas.Int.{ints}
-use Rattle.toml.specs.Data.{Data, string, integer, float, boolean, datetime, array, table, Items, no_items, item, Members}
+use Rattle.toml.specs.Data.{Members}
 use Rattle.opgen_spec.specs.declared.fault.SpecFault.{SpecFault}
 use Rattle.opgen_spec.specs.declared.fault.SpecFault.TheVariants as fault
-use Rattle.opgen_document.specs.declared.key.Key.{Key}
+use Rattle.opgen_document.specs.declared.array.Array.TheVariants as array
 use Rattle.opgen_document.specs.declared.key.Key.TheVariants as key
 use Rattle.opgen_kinds.specs.declared.kind.Kind.{Kind}
 use Rattle.opgen_kinds.specs.declared.kind.Kind.TheVariants as kind
-use Rattle.opgen_operator.specs.declared.spec.DelayLine.{DelayLine}
 use Rattle.opgen_operator.specs.declared.spec.Spec.{Spec}
 use Rattle.opgen_ports.specs.Limits.{most_signal}
 use Rattle.opgen_operator.specs.Operator.{least_shift, most_shift, inexact, shift}
 use Rattle.opgen_ports.specs.SpecName.{is_spec_name}
 use Rattle.opgen_operator.specs.Valid.{IsDelayLine, IsValidSpec}
-use Rattle.opgen_spec.specs.declared.lines.Check.TheVariants.{Range}
 use Rattle.opgen_document.specs.Keys.{line_keys}
-use Rattle.opgen_document.specs.Document.{list_of, items_in, value_at, number_at, text_at, items_at}
+use Rattle.opgen_document.specs.Document.{value_at, number_at, text_at, items_at}
 use Rattle.opgen_spec.specs.kinds.{kind_of}
-use Rattle.opgen_document.specs.Ranges.{outside, length_outside}
-use Rattle.opgen_spec.specs.Spec.{line_of, lines_of, spec_of, spec_with}
-use Rattle.opgen_spec.specs.Faults.{first_of, found, out_of_range, outside_among, among_line, among_lines, not_exact, coarse, over_limit, too_wide, field_fault, limit_fault, read}
+use Rattle.opgen_document.specs.Ranges.{outside}
+use Rattle.opgen_spec.specs.Spec.{line_of, spec_of, spec_with}
+use Rattle.opgen_spec.specs.Faults.{first_of, not_exact, coarse, over_limit, too_wide, field_fault, limit_fault, read}
 use Rattle.opgen_spec.proofs.Reading.{or_none, field_first, limit_first, none_first}
-use Rattle.opgen_spec.proofs.Fine.{AreFine, fine, passed, no_kind, map_none, first_none, present, ranged, there_inside}
-use Rattle.opgen_document.proofs.Ranges.{inside, zero_inside, counted}
+use Rattle.opgen_spec.proofs.Fine.{AreFine, fine, passed, no_kind, map_none, present, ranged, there_inside}
+use Rattle.opgen_spec.proofs.ArrayLines.{IsFineLine, IsAmong, line_fine, all_fine, lines_in, read_length, few_items}
+use Rattle.opgen_document.proofs.Ranges.{inside, counted}
 use Rattle.opgen_spec.proofs.Chosen.{choice}
 use Rattle.opgen_spec.proofs.Versions as versions
 use Rattle.opgen_spec.proofs.sound.All.{sound}
 
 -- delay lines
-line_ranges : (n : ℕ) (ms : Members) → outside_among line_keys n ms ≡ None → (found n ms key.Base ≡ None) × (found n ms key.PerBit ≡ None)
+base_among : IsAmong array.Delay 1 key.Base
 unfolding line_keys
-line_ranges n ms h =
-    let f : Key → Option SpecFault = λ k. out_of_range n k (found n ms k) in (
-      map_none (fault.OutOfRange key.Base n) (found n ms key.Base) (first_none f line_keys 1 key.Class h (lit< tt)),
-      map_none (fault.OutOfRange key.PerBit n) (found n ms key.PerBit) (first_none f line_keys 2 key.Class h (lit< tt)),
-    )
+base_among = record { below = lit< tt; is = refl }
 
-delay_in : (n : ℕ) (ms : Members) → outside_among line_keys n ms ≡ None → IsDelayLine (line_of ms)
-delay_in n ms h =
-    let (base, per_bit) = line_ranges n ms h in
-    let (base_least, base_most) = zero_inside (value_at ms key.Base) (pos 0) (pos 1000000) (omega (arith, ints))
-    (omega (arith, ints)) base in
-    let (bit_least, bit_most) = zero_inside (value_at ms key.PerBit) (pos 0) (pos 10000) (omega (arith, ints))
-    (omega (arith, ints)) per_bit in (
+bit_among : IsAmong array.Delay 2 key.PerBit
+unfolding line_keys
+bit_among = record { below = lit< tt; is = refl }
+
+delay_in : (doc : Members) (n : ℕ) (ms : Members) → IsFineLine array.Delay doc n ms → IsDelayLine (line_of ms)
+delay_in doc n ms f =
+    let base = line_fine array.Delay doc n ms f 1 key.Base base_among refl in
+    let bit = line_fine array.Delay doc n ms f 2 key.PerBit bit_among refl in
+    let (base_least, base_most) = inside (pos 0) (pos 1000000) (number_at ms key.Base) base.within in
+    let (bit_least, bit_most) = inside (pos 0) (pos 10000) (number_at ms key.PerBit) bit.within in (
       (counted (number_at ms key.Base) 0 1000000 base_least base_most (omega arith)).1,
       (counted (number_at ms key.PerBit) 0 10000 bit_least bit_most (omega arith)).1,
     )
-
-all_more : (x : DelayLine) (xs : List DelayLine) → IsDelayLine x → All IsDelayLine xs → All IsDelayLine (x ∷ xs)
-all_more x xs first rest zero d lt = first
-all_more x xs first rest (suc k) d lt = rest k d (omega arith)
-
-delays_in : (n : ℕ) (items : Items) → among_lines Range n items ≡ None → All IsDelayLine (lines_of items)
-delays_in n no_items h = λ k d lt. absurd (omega arith)
-delays_in n (item (table ms) rest) h =
-    let (line, later) = or_none (among_line Range n (table ms)) (among_lines Range (n + 1) rest) h in
-    all_more (line_of ms) (lines_of rest) (delay_in n ms line) (delays_in (n + 1) rest later)
-delays_in n (item (string _) rest) h = delays_in (n + 1) rest h
-delays_in n (item (integer _) rest) h = delays_in (n + 1) rest h
-delays_in n (item (float _) rest) h = delays_in (n + 1) rest h
-delays_in n (item (boolean _) rest) h = delays_in (n + 1) rest h
-delays_in n (item (datetime _) rest) h = delays_in (n + 1) rest h
-delays_in n (item (array _) rest) h = delays_in (n + 1) rest h
-
-no_more_lines : (items : Items) → length (lines_of items) ≤ length (list_of items)
-no_more_lines no_items = omega arith
-no_more_lines (item (table ms) rest) = omega (arith, no_more_lines rest)
-no_more_lines (item (string _) rest) = omega (arith, no_more_lines rest)
-no_more_lines (item (integer _) rest) = omega (arith, no_more_lines rest)
-no_more_lines (item (float _) rest) = omega (arith, no_more_lines rest)
-no_more_lines (item (boolean _) rest) = omega (arith, no_more_lines rest)
-no_more_lines (item (datetime _) rest) = omega (arith, no_more_lines rest)
-no_more_lines (item (array _) rest) = omega (arith, no_more_lines rest)
-
-few_items : (o : Option Data) → option_and_then (λ _. length_outside 0 16 (items_in o)) o ≡ None → length (list_of (items_in o)) ≤ 16
-few_items None h = omega arith
-few_items (Some d) h =
-    let (_, most) = inside (pos 0) (pos 16) (pos (length (list_of (items_in (Some d))))) h in
-    omega (arith, ints)
 
 -- exact outputs are asked for only where the exact values are whole
 asked_exact : (spec : Spec) → not_exact spec ≡ None → IsTrue spec.exact → inexact spec.op ≡ None
@@ -108,6 +74,7 @@ valid_in ms one f e h =
     let (text_least, text_most) = inside (pos 1) (pos 32) (pos (length (text_at ms key.Target))) text in
     let time = there_inside (value_at ms key.Period) (outside (pos 1) (pos 1000000) (number_at ms key.Period))
     (present ms one key.Period f e refl refl) (ranged ms key.Period f refl) in
+    let delays = all_fine array.Delay ms f in
     let (time_least, time_most) = inside (pos 1) (pos 1000000) (number_at ms key.Period) time in
     record {
       version = versions.counted ms f;
@@ -122,12 +89,17 @@ valid_in ms one f e h =
         whole = λ asked. asked_exact spec exact (s.marked ms asked);
       };
       has = s.has ms f e;
+      names = s.names ms f e;
       mode = record { agrees = s.agrees ms; whole = asked_exact spec exact };
       output = choice ms one f e;
       target = (omega (arith, ints), omega (arith, ints));
       period = counted (number_at ms key.Period) 1 1000000 time_least time_most (omega arith);
-      few_lines = omega (arith, no_more_lines (items_at ms key.Delay), few_items (value_at ms key.Delay) (ranged ms key.Delay f refl));
-      lines = delays_in 1 (items_at ms key.Delay) f.lines;
+      few_lines = omega (
+        arith,
+        read_length line_of (items_at ms key.Delay) delays.tables,
+        few_items 16 (value_at ms key.Delay) (ranged ms key.Delay f refl),
+      );
+      lines = lines_in IsDelayLine line_of array.Delay ms 1 (items_at ms key.Delay) delays (delay_in ms);
     }
 
 -- what reading gives is valid

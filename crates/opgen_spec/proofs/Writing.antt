@@ -1,5 +1,5 @@
 -- Fields that operators of several kinds have are as the document writes them.
-use Rattle.std.proofs.Common.{◌≡◌, ℕ, ◌<◌, ◌^◌, false, Option, Some, None, inl, inr, refl, arith}
+use Rattle.std.proofs.Common.{◌≡◌, ℕ, ◌<◌, ◌^◌, Option, Some, None, inl, inr, refl, arith}
 use Rattle.std.specs.Prelude.{pos}
 use Rattle.std.proofs.lemmas.Int.{ints}
 use Rattle.toml.specs.Data.{Data, integer, boolean, Members}
@@ -10,7 +10,6 @@ use Rattle.opgen_document.specs.Document.{value_at, number_at, flag_in, flag_at,
 use Rattle.opgen_document.specs.Fields.{format_at, unsigned_at, IsInputAsWritten, IsFlagAsWritten}
 use Rattle.opgen_document.specs.Numbers.{numerators, denominator_of}
 use Rattle.opgen_document.specs.Ranges.{width_outside, near_outside, power_outside, extra_outside}
-use Rattle.opgen_document.specs.Types.{is_wrong}
 use Rattle.opgen_document.proofs.Decimals.{coefficients_written}
 use Rattle.opgen_document.proofs.Ranges.{inside}
 use Rattle.opgen_document.proofs.Values.{IsNumber, IsFlag, count_written, flag_stands, small_written}
@@ -41,14 +40,15 @@ input_written ms w l width width_number lsb = record {
 pub unsigned_written : (ms : Members) (w l : Key) → IsInputAsWritten ms w l (format_at ms w l) → IsInputAsWritten ms w l (unsigned_at ms w l)
 unsigned_written ms w l h = record { width_written = h.width_written; lsb_written = h.lsb_written }
 
--- the key `signed` is never out of range; where it may be left out, none is `false`
+-- the key `signed` is never out of range
 pub signed_written : (ms : Members) → IsFine ms key.Signed None → value_at ms key.Signed ≡ Some (boolean (flag_at ms key.Signed))
 signed_written ms h = flag_stands (value_at ms key.Signed) h.there h.typed
 
-pub optional_signed_written : (ms : Members) → is_wrong ms key.Signed ≡ false → IsFlagAsWritten ms key.Signed (flag_at ms key.Signed)
-optional_signed_written ms typed = go (value_at ms key.Signed) refl typed
+-- where a truth value may be left out, none is `false`
+pub optional_flag_written : (ms : Members) (k : Key) → IsFlag (value_at ms k) → IsFlagAsWritten ms k (flag_at ms k)
+optional_flag_written ms k typed = go (value_at ms k) refl typed
   where
-    go : (o : Option Data) → value_at ms key.Signed ≡ o → IsFlag o → IsFlagAsWritten ms key.Signed (flag_in o)
+    go : (o : Option Data) → value_at ms k ≡ o → IsFlag o → IsFlagAsWritten ms k (flag_in o)
     go None none typed = inr (none, refl)
     go (Some (boolean flag)) some typed = inl some
     go (Some _) some typed = cc

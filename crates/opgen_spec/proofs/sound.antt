@@ -8,4 +8,5 @@ mod Several
 mod SmallDiv
 mod Poly
 mod Taps
+mod Sop
 pub mod All

@@ -1,10 +1,11 @@
 -- The first error of a document, in the order in which the checks are made.
-use Rattle.std.specs.Prelude.{◌≡◌, ℕ, ◌+◌, ◌==◌, ◌&&◌, ◌||◌, not, Bool, true, false, List, [], ◌∷◌, length, map, ℤ, pos, negsuc, Option, Some, None, is_none, option_map, option_and_then, find, if◌then◌else◌, nat_lt, Result, Ok, Err}
+use Rattle.std.specs.Prelude.{◌≡◌, ℕ, ◌+◌, ◌==◌, ◌&&◌, ◌||◌, ◌-◌, ◌^◌, min, not, Bool, true, false, List, [], ◌∷◌, length, map, ℤ, pos, negsuc, Option, Some, None, is_some, is_none, option_map, option_and_then, find, if◌then◌else◌, nat_lt, Result, Ok, Err}
 use Rattle.std.specs.List.{position_from}
 use Rattle.std.specs.Option.{option_or, option_map_or}
 use Rattle.toml.specs.Data.{Data, table, Items, no_items, item, Members}
 use Rattle.opgen_spec.specs.declared.fault.SpecFault.{SpecFault}
 use Rattle.opgen_spec.specs.declared.fault.SpecFault.TheVariants as fault
+use Rattle.opgen_document.specs.declared.array.Array.{Array}
 use Rattle.opgen_document.specs.declared.key.Key.{Key}
 use Rattle.opgen_document.specs.declared.key.Key.TheVariants as key
 use Rattle.opgen_kinds.specs.declared.kind.Kind.{Kind}
@@ -14,14 +15,15 @@ use Rattle.opgen_operator.specs.Operator.{least_shift, most_shift, shift, inexac
 use Rattle.opgen_ports.specs.SpecName.{is_spec_name}
 use Rattle.opgen_spec.specs.declared.lines.Check.{Check}
 use Rattle.opgen_spec.specs.declared.lines.Check.TheVariants.{Unknown, Missing, WrongType, Range}
-use Rattle.opgen_document.specs.Keys.{document_keys, line_keys}
-use Rattle.opgen_document.specs.Document.{names, value_at, number_at, text_at, items_at}
+use Rattle.opgen_document.specs.Keys.{document_keys, arrays, array_key, line_keys}
+use Rattle.opgen_document.specs.Document.{names, value_at, number_at, text_at, flag_at, items_at, list_of}
 use Rattle.opgen_document.specs.declared.version.Version.{Version}
 use Rattle.opgen_document.specs.declared.version.Version.TheVariants.{First, Second, Third}
 use Rattle.opgen_document.specs.Versions.{version_of}
 use Rattle.opgen_document.specs.Types.{is_wrong}
-use Rattle.opgen_document.specs.Ranges.{outside, length_outside}
+use Rattle.opgen_document.specs.Ranges.{outside, length_outside, bits_outside, far_outside, numerator_outside}
 use Rattle.opgen_spec.specs.kinds.{kind_of, entry}
+use Rattle.opgen_spec.specs.kinds.Sop.{name_outside, factor_outside}
 use Rattle.opgen_spec.specs.Stands.{is_known, is_needed}
 use Rattle.opgen_spec.specs.Spec.{class_named, spec_of}
 
@@ -30,17 +32,19 @@ abbrev pub first_of : List (Option SpecFault) → Option SpecFault
 first_of [] = None
 first_of (fault ∷ rest) = option_or fault (first_of rest)
 
+-- What is asked of a table of a document: of its own, whose line is 0, or of a line of one of its arrays.
+
 -- Unknown: the first key, in byte order, that is none of the keys. Its place among all keys of its table is given.
-abbrev pub unknown_among : List Key → ℕ → Members → Option SpecFault
-unknown_among ks line ms =
-    option_map (fault.UnknownKey line) (position_from (λ name. not (is_known ks (version_of ms) (kind_of ms) name)) 0 (names ms))
+abbrev pub unknown_among : List Key → (doc : Members) → ℕ → Members → Option SpecFault
+unknown_among ks doc line ms =
+    option_map (fault.UnknownKey line) (position_from (λ name. not (is_known ks (version_of doc) (kind_of doc) name)) 0 (names ms))
 
 -- Missing: the first of the keys that is needed and not there.
-abbrev pub is_missing : Members → Key → Bool
-is_missing ms k = is_needed (version_of ms) (kind_of ms) k && is_none (value_at ms k)
+abbrev pub is_missing : (doc : Members) → Members → Key → Bool
+is_missing doc ms k = is_needed (version_of doc) (kind_of doc) k && is_none (value_at ms k)
 
-abbrev pub missing_among : List Key → ℕ → Members → Option SpecFault
-missing_among ks line ms = option_map (λ k. fault.MissingKey k line) (find (is_missing ms) ks)
+abbrev pub missing_among : List Key → (doc : Members) → ℕ → Members → Option SpecFault
+missing_among ks doc line ms = option_map (λ k. fault.MissingKey k line) (find (is_missing doc ms) ks)
 
 -- Wrong type: the first of the keys whose value is not of its type, or that stands without a key that it needs.
 abbrev pub wrong_among : List Key → ℕ → Members → Option SpecFault
@@ -56,50 +60,81 @@ class_outside line name = if is_none (class_named name) then Some (pos line) els
 abbrev pub kind_outside : Members → Key → Option ℤ
 kind_outside ms k = option_and_then (λ one. (entry one).key_outside ms k) (kind_of ms)
 
--- the keys of all kinds and those of delay lines, and then the other keys
-abbrev pub value_outside : ℕ → Members → Key → Option ℤ
-value_outside line ms key.Target = outside (pos 1) (pos 32) (pos (length (text_at ms key.Target)))
-value_outside line ms key.Period = outside (pos 1) (pos 1000000) (number_at ms key.Period)
-value_outside line ms key.Delay = length_outside 0 16 (items_at ms key.Delay)
-value_outside line ms key.Class = class_outside line (text_at ms key.Class)
-value_outside line ms key.Base = outside (pos 0) (pos 1000000) (number_at ms key.Base)
-value_outside line ms key.PerBit = outside (pos 0) (pos 10000) (number_at ms key.PerBit)
-value_outside line ms k = kind_outside ms k
+-- the keys of all kinds and those of lines, and then the other keys
+abbrev pub value_outside : (doc : Members) → ℕ → Members → Key → Option ℤ
+value_outside doc line ms key.Target = outside (pos 1) (pos 32) (pos (length (text_at ms key.Target)))
+value_outside doc line ms key.Period = outside (pos 1) (pos 1000000) (number_at ms key.Period)
+value_outside doc line ms key.Delay = length_outside 0 16 (items_at ms key.Delay)
+value_outside doc line ms key.InputName = name_outside doc line (text_at ms key.InputName)
+value_outside doc line ms key.InputWidth = bits_outside (flag_at ms key.InputSigned) 48 (number_at ms key.InputWidth)
+value_outside doc line ms key.InputLsb = far_outside ms key.InputLsb
+value_outside doc line ms key.ScaledInput = factor_outside doc line ms key.ScaledInput
+value_outside doc line ms key.Coefficient = numerator_outside ms key.Coefficient
+value_outside doc line ms key.FactorA = factor_outside doc line ms key.FactorA
+value_outside doc line ms key.FactorB = factor_outside doc line ms key.FactorB
+value_outside doc line ms key.Class = class_outside line (text_at ms key.Class)
+value_outside doc line ms key.Base = outside (pos 0) (pos 1000000) (number_at ms key.Base)
+value_outside doc line ms key.PerBit = outside (pos 0) (pos 10000) (number_at ms key.PerBit)
+value_outside doc line ms k = kind_outside doc k
 
-abbrev pub found : ℕ → Members → Key → Option ℤ
-found line ms k = option_and_then (λ _. value_outside line ms k) (value_at ms k)
+-- the key that is asked for its range where it is not there too, as a sum of products has to have terms
+abbrev pub is_always_asked : Key → Bool
+is_always_asked key.Scaled = true
+is_always_asked _ = false
+
+abbrev pub found : (doc : Members) → ℕ → Members → Key → Option ℤ
+found doc line ms k = if is_some (value_at ms k) || is_always_asked k then value_outside doc line ms k else None
 
 abbrev pub out_of_range : ℕ → Key → Option ℤ → Option SpecFault
 out_of_range line k found = option_map (fault.OutOfRange k line) found
 
-abbrev pub outside_among : List Key → ℕ → Members → Option SpecFault
-outside_among ks line ms = first_of (map (λ k. out_of_range line k (found line ms k)) ks)
+abbrev pub outside_among : List Key → (doc : Members) → ℕ → Members → Option SpecFault
+outside_among ks doc line ms = first_of (map (λ k. out_of_range line k (found doc line ms k)) ks)
 
--- What the keys of one table are asked for: those of the document, or those of a delay line.
-abbrev pub among : Check → List Key → ℕ → Members → Option SpecFault
-among Unknown ks line ms = unknown_among ks line ms
-among Missing ks line ms = missing_among ks line ms
-among WrongType ks line ms = wrong_among ks line ms
-among Range ks line ms = outside_among ks line ms
+-- what the keys of one table are asked for
+abbrev pub among : Check → List Key → (doc : Members) → ℕ → Members → Option SpecFault
+among Unknown ks doc line ms = unknown_among ks doc line ms
+among Missing ks doc line ms = missing_among ks doc line ms
+among WrongType ks doc line ms = wrong_among ks line ms
+among Range ks doc line ms = outside_among ks doc line ms
 
 abbrev pub among_keys : Check → Members → Option SpecFault
-among_keys check ms = among check document_keys 0 ms
+among_keys check doc = among check document_keys doc 0 doc
 
-abbrev pub among_line_keys : Check → ℕ → Members → Option SpecFault
-among_line_keys check line ms = among check line_keys line ms
+abbrev pub among_line : Check → List Key → (doc : Members) → ℕ → Data → Option SpecFault
+among_line check ks doc line (table ms) = among check ks doc line ms
+among_line check ks doc line _ = None
 
-abbrev pub among_line : Check → ℕ → Data → Option SpecFault
-among_line check line (table ms) = among_line_keys check line ms
-among_line check line _ = None
+-- the lines of an array, numbered by their places in it
+abbrev pub among_lines : Check → List Key → (doc : Members) → ℕ → Items → Option SpecFault
+among_lines check ks doc line no_items = None
+among_lines check ks doc line (item d rest) = option_or (among_line check ks doc line d) (among_lines check ks doc (line + 1) rest)
 
--- the delay lines, numbered by their places in the array
-abbrev pub among_lines : Check → ℕ → Items → Option SpecFault
-among_lines check line no_items = None
-among_lines check line (item d rest) = option_or (among_line check line d) (among_lines check (line + 1) rest)
+abbrev pub among_array : Check → Members → Array → Option SpecFault
+among_array check doc array = among_lines check (line_keys array) doc 1 (items_at doc (array_key array))
 
--- the keys of the document, and then those of its delay lines, from 1
+abbrev pub line_count : Members → Array → ℕ
+line_count doc array = length (list_of (items_at doc (array_key array)))
+
+-- A number that counts on. Numbers of lines have 64 bits, which are enough for every document that there is.
+abbrev pub count_on : (before : ℕ) → ℕ → ℕ
+count_on before n = min (before + n) (2 ^ 64 - 1)
+
+-- an unknown key is in none of the arrays' keys, so that its line counts on over the arrays before it
+abbrev pub counted_on : (before : ℕ) → SpecFault → SpecFault
+counted_on before (fault.UnknownKey line at) = fault.UnknownKey (count_on before line) at
+counted_on before other = other
+
+-- the lines of the arrays, one array after the other
+abbrev pub among_arrays : Check → Members → (before : ℕ) → List Array → Option SpecFault
+among_arrays check doc before [] = None
+among_arrays check doc before (array ∷ rest) =
+    option_or (option_map (counted_on before) (among_array check doc array))
+    (among_arrays check doc (count_on before (line_count doc array)) rest)
+
+-- the keys of the document, and then those of the lines of its arrays, from 1
 abbrev pub check_fault : Check → Members → Option SpecFault
-check_fault check ms = option_or (among_keys check ms) (among_lines check 1 (items_at ms key.Delay))
+check_fault check doc = option_or (among_keys check doc) (among_arrays check doc 0 arrays)
 
 -- Bad version: none of 1, 2 and 3.
 abbrev pub is_version : ℤ → Bool

@@ -1,7 +1,7 @@
 -- The specification that a document gives, field by field.
-use Rattle.std.specs.Prelude.{ℕ, List, [], ◌∷◌, ◌++◌, codes, Option, find, unwrap_or}
+use Rattle.std.specs.Prelude.{ℕ, List, [], ◌∷◌, codes, Option, find, unwrap_or}
 use Rattle.std.specs.Str.{bytes_eq}
-use Rattle.toml.specs.Data.{Data, table, Items, no_items, item, Members}
+use Rattle.toml.specs.Data.{Members}
 use Rattle.opgen_net.specs.declared.cell.Class.{Class}
 use Rattle.opgen_net.specs.declared.cell.Class.TheVariants as class
 use Rattle.opgen_document.specs.declared.key.Key.TheVariants as key
@@ -9,7 +9,7 @@ use Rattle.opgen_kinds.specs.declared.kind.Kind.{Kind}
 use Rattle.opgen_kinds.specs.declared.kind.Kind.TheVariants as kind
 use Rattle.opgen_operator.specs.declared.spec.DelayLine.{DelayLine}
 use Rattle.opgen_operator.specs.declared.spec.Spec.{Spec}
-use Rattle.opgen_document.specs.Document.{text_at, flag_at, items_at, count_at, optional_count_at, optional_flag_at}
+use Rattle.opgen_document.specs.Document.{text_at, flag_at, items_at, in_tables, count_at, optional_count_at, optional_flag_at}
 use Rattle.opgen_spec.specs.kinds.{kind_of, entry}
 
 -- the classes of delay lines, by their names
@@ -35,15 +35,6 @@ line_of ms = record {
   per_bit = count_at ms key.PerBit;
 }
 
--- the delay lines, in order: each item that is a table
-abbrev pub line_in : Data → List DelayLine
-line_in (table line) = line_of line ∷ []
-line_in _ = []
-
-abbrev pub lines_of : Items → List DelayLine
-lines_of no_items = []
-lines_of (item d rest) = line_in d ++ lines_of rest
-
 -- The specification that the keys give, for an operator of this kind.
 unfoldable pub spec_with : Kind → Members → Spec
 spec_with one ms = record {
@@ -55,7 +46,7 @@ spec_with one ms = record {
   out_signed = optional_flag_at ms key.OutSigned;
   target = text_at ms key.Target;
   period = count_at ms key.Period;
-  delays = lines_of (items_at ms key.Delay);
+  delays = in_tables line_of (items_at ms key.Delay);
 }
 
 -- and of the kind that the document names; a document without a fault names one

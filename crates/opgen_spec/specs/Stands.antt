@@ -8,7 +8,7 @@ use Rattle.opgen_document.specs.declared.stand.Stand.{Stand}
 use Rattle.opgen_document.specs.declared.version.Version.{Version}
 use Rattle.opgen_document.specs.Keys.{key_name, shared_stand, may_be, has_to_be}
 use Rattle.opgen_document.specs.Versions.{has_key}
-use Rattle.opgen_spec.specs.kinds.{kinds, entry}
+use Rattle.opgen_spec.specs.kinds.{kinds_of, entry}
 
 abbrev pub stand_in : Version → Kind → Key → Stand
 stand_in version one k = unwrap_or (shared_stand k) ((entry one).stand version k)
@@ -20,7 +20,7 @@ may_stand version None k = has_key version k
 
 abbrev pub is_needed : Version → Option Kind → Key → Bool
 is_needed version (Some one) k = has_to_be (stand_in version one k)
-is_needed version None k = list_all (λ one. has_to_be (stand_in version one k)) kinds
+is_needed version None k = list_all (λ one. has_to_be (stand_in version one k)) (kinds_of version)
 
 -- one of the keys has the name, and may stand there
 abbrev pub is_known : List Key → Version → Option Kind → List ℕ → Bool

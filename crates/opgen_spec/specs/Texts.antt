@@ -6,7 +6,7 @@ use Rattle.opgen_spec.specs.declared.fault.SpecFault.{SpecFault}
 use Rattle.opgen_spec.specs.declared.fault.SpecFault.TheVariants as fault
 use Rattle.opgen_document.specs.Keys.{key_name}
 
--- a key, and the number of its delay line where it is one's
+-- a key, and the number of its line where it is one's
 abbrev pub place_text : Place → List ℕ
 place_text p = if p.line == 0 then key_name p.key else key_name p.key ++ codes " " ++ decimal p.line
 

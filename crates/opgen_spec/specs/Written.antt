@@ -1,13 +1,13 @@
 -- Each field of a specification has the value that its document writes.
-use Rattle.std.specs.Prelude.{◌≡◌, pos, Some, List, [], ◌∷◌}
-use Rattle.toml.specs.Data.{string, integer, boolean, Members, table, Items, no_items, item}
+use Rattle.std.specs.Prelude.{◌≡◌, pos, Some}
+use Rattle.toml.specs.Data.{string, integer, boolean, Members}
 use Rattle.opgen_document.specs.declared.key.Key.TheVariants as key
 use Rattle.opgen_operator.specs.declared.spec.DelayLine.{DelayLine}
 use Rattle.opgen_operator.specs.declared.spec.Spec.{Spec}
 use Rattle.opgen_operator.specs.Operator.{kind}
 use Rattle.opgen_kinds.specs.Kinds.{kind_name}
 use Rattle.opgen_document.specs.Document.{value_at, items_at}
-use Rattle.opgen_document.specs.Fields.{IsCountIfAny, IsFlagIfAny}
+use Rattle.opgen_document.specs.Fields.{IsCountIfAny, IsFlagIfAny, AreLinesAsWritten}
 use Rattle.opgen_spec.specs.Spec.{class_name}
 use Rattle.opgen_spec.specs.kinds.{IsOperatorAsWritten}
 
@@ -15,12 +15,6 @@ pub record IsLineAsWritten (ms : Members) (line : DelayLine) : Type 0 where
   pub class_written : value_at ms key.Class ≡ Some (string (class_name line.class))
   pub base : value_at ms key.Base ≡ Some (integer (pos line.base))
   pub per_bit : value_at ms key.PerBit ≡ Some (integer (pos line.per_bit))
-
--- the delay lines are the tables of the array, in order
-abbrev pub AreLinesAsWritten : Items → List DelayLine → Type 0
-AreLinesAsWritten no_items [] = Unit {0}
-AreLinesAsWritten (item (table ms) rest) (line ∷ lines) = IsLineAsWritten ms line × AreLinesAsWritten rest lines
-AreLinesAsWritten _ _ = ⊥
 
 pub record IsAsWritten (ms : Members) (spec : Spec) : Type 0 where
   pub version : value_at ms key.Version ≡ Some (integer (pos spec.version))
@@ -32,4 +26,4 @@ pub record IsAsWritten (ms : Members) (spec : Spec) : Type 0 where
   pub target : value_at ms key.Target ≡ Some (string spec.target)
   pub period : value_at ms key.Period ≡ Some (integer (pos spec.period))
   pub op : IsOperatorAsWritten ms spec.op
-  pub delays : AreLinesAsWritten (items_at ms key.Delay) spec.delays
+  pub delays : AreLinesAsWritten IsLineAsWritten (items_at ms key.Delay) spec.delays

@@ -9,6 +9,9 @@ use Rattle.opgen_operator.specs.declared.operator.Operator.TheVariants as operat
 use Rattle.opgen_kinds.specs.Kinds.{kind_name}
 use Rattle.opgen_document.specs.declared.key.Key.TheVariants as key
 use Rattle.opgen_document.specs.Document.{text_at}
+use Rattle.opgen_document.specs.declared.version.Version.{Version}
+use Rattle.opgen_document.specs.declared.version.Version.TheVariants.{First, Second, Third}
+use Rattle.opgen_document.specs.Versions.{version_of}
 use Rattle.opgen_spec.specs.Entry.{Entry}
 pub mod Sum
 pub mod Product
@@ -18,6 +21,7 @@ pub mod Several
 pub mod SmallDiv
 pub mod Poly
 pub mod Taps
+pub mod Sop
 use Rattle.opgen_spec.specs.kinds.Sum.{scale, fir, IsSumAsWritten}
 use Rattle.opgen_spec.specs.kinds.Product.{multiply, IsProductAsWritten}
 use Rattle.opgen_spec.specs.kinds.Pair.{divide, IsPairAsWritten}
@@ -26,18 +30,29 @@ use Rattle.opgen_spec.specs.kinds.Several.{mcm, IsSeveralAsWritten}
 use Rattle.opgen_spec.specs.kinds.SmallDiv.{constdiv, IsSmallDivAsWritten}
 use Rattle.opgen_spec.specs.kinds.Poly.{poly, IsPolyAsWritten}
 use Rattle.opgen_spec.specs.kinds.Taps.{tfir, IsTapsAsWritten}
+use Rattle.opgen_spec.specs.kinds.Sop.{sop, IsSopAsWritten}
 
--- the kinds that a document can name
+-- the kinds that documents of versions 1 and 2 can name, and those of version 3
+unfoldable pub early_kinds : List Kind
+early_kinds =
+    kind.Scale ∷ kind.Fir ∷ kind.Multiply ∷ kind.Divide ∷ kind.Root ∷ kind.Mcm ∷ kind.Constdiv ∷ kind.Poly ∷ kind.Tfir ∷ []
+
 unfoldable pub kinds : List Kind
-kinds = kind.Scale ∷ kind.Fir ∷ kind.Multiply ∷ kind.Divide ∷ kind.Root ∷ kind.Mcm ∷ kind.Constdiv ∷ kind.Poly ∷ kind.Tfir ∷ []
+kinds =
+    kind.Scale ∷ kind.Fir ∷ kind.Multiply ∷ kind.Divide ∷ kind.Root ∷ kind.Mcm ∷ kind.Constdiv ∷ kind.Poly ∷ kind.Tfir ∷ kind.Sop ∷ []
+
+abbrev pub kinds_of : Version → List Kind
+kinds_of First = early_kinds
+kinds_of Second = early_kinds
+kinds_of Third = kinds
 
 -- the kind of a name
-abbrev pub kind_named : List ℕ → Option Kind
-kind_named name = find (λ one. bytes_eq (kind_name one) name) kinds
+abbrev pub kind_named : Version → List ℕ → Option Kind
+kind_named version name = find (λ one. bytes_eq (kind_name one) name) (kinds_of version)
 
 -- the kind that the document names
 abbrev pub kind_of : Members → Option Kind
-kind_of ms = kind_named (text_at ms key.Kind)
+kind_of ms = kind_named (version_of ms) (text_at ms key.Kind)
 
 -- what a document says of each kind
 abbrev pub entry_of : Kind → Entry
@@ -50,6 +65,7 @@ entry_of kind.Mcm = mcm
 entry_of kind.Constdiv = constdiv
 entry_of kind.Poly = poly
 entry_of kind.Tfir = tfir
+entry_of kind.Sop = sop
 
 -- and of any kind: what is proved of all kinds does not look into the entries
 unfoldable pub entry : Kind → Entry
@@ -65,3 +81,4 @@ IsOperatorAsWritten ms (operator.Mcm m) = IsSeveralAsWritten ms m
 IsOperatorAsWritten ms (operator.Constdiv c) = IsSmallDivAsWritten ms c
 IsOperatorAsWritten ms (operator.Poly p) = IsPolyAsWritten ms p
 IsOperatorAsWritten ms (operator.Tfir f) = IsTapsAsWritten ms f
+IsOperatorAsWritten ms (operator.Sop s) = IsSopAsWritten ms s

@@ -9,11 +9,12 @@ use std::error::Error;
 use std::fmt;
 
 /// Why a document is no specification. `line` is 0 for a key of the document, and else the number
-/// of the delay line, from 1.
+/// of a line of one of its arrays, as a delay line, from 1.
 #[derive(Clone, Copy, Debug, Drop)]
 pub enum SpecFault {
     NotToml,
-    /// `at` is the place of the key among those of its table in byte order, from 0.
+    /// `at` is the place of the key among those of its table in byte order, from 0. The lines of the
+    /// arrays are counted on, from one array to the next.
     UnknownKey { line: u64, at: u64 },
     MissingKey { key: Key, line: u64 },
     WrongType { key: Key, line: u64 },
@@ -21,9 +22,9 @@ pub enum SpecFault {
     BadName,
     BadKind,
     /// `found` is the number, or the length of a list or a text, or the number of the line whose
-    /// class is none.
+    /// class is none, or whose name of an input cannot be taken.
     OutOfRange { key: Key, line: u64, found: i64 },
-    /// Of the first coefficient that is not whole in units of the output's last place.
+    /// Of the first coefficient, tap or term that is not whole in units of the output's last place.
     NotExact { index: u32 },
     Coarse { shift: i32 },
     /// `need` is the number of bits of the widest signal.
@@ -31,7 +32,7 @@ pub enum SpecFault {
     Memory,
 }
 
-/// A key and the number of its delay line, if it is a delay line's.
+/// A key and the number of its line, if it is a line's.
 #[derive(Clone, Copy)]
 struct Place {
     key: Key,

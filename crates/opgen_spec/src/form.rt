@@ -28,30 +28,43 @@ fn first_unknown(keys: &[Key], version: Version, kind: Option<Kind>, table: &Tab
     None
 }
 
-pub(crate) fn unknown_among(keys: &[Key], line: u64, table: &Table) -> Option<SpecFault>
-    ensures { result ≡ unknown_among keys.now line (table_view table.now) }
+/// The first key of a table of the document that is none of the keys.
+pub(crate) fn unknown_among(
+    keys: &[Key],
+    document: &Table,
+    line: u64,
+    table: &Table,
+) -> Option<SpecFault>
+    ensures { result ≡ unknown_among keys.now (table_view document.now) line (table_view table.now) }
 {
-    let at = first_unknown(keys, version_of(table), kind_of(table), table)?;
+    let at = first_unknown(keys, version_of(document), kind_of(document), table)?;
     Some(SpecFault::UnknownKey { line, at })
 }
 
-fn is_missing(table: &Table, key: Key) -> bool
-    ensures { result ≡ is_missing (table_view table.now) key }
+fn is_missing(document: &Table, table: &Table, key: Key) -> bool
+    ensures { result ≡ is_missing (table_view document.now) (table_view table.now) key }
 {
-    is_needed(version_of(table), kind_of(table), key) && value_at(table, key).is_none()
+    is_needed(version_of(document), kind_of(document), key) && value_at(table, key).is_none()
 }
 
-fn first_missing(keys: &[Key], table: &Table) -> Option<Key>
-    ensures { result ≡ find (is_missing (table_view table.now)) keys.now }
+fn first_missing(keys: &[Key], document: &Table, table: &Table) -> Option<Key>
+    ensures { result ≡ find (is_missing (table_view document.now) (table_view table.now)) keys.now }
 {
-    keys.iter().copied().find(|key| is_missing(table, *key))
+    keys.iter()
+        .copied()
+        .find(|key| is_missing(document, table, *key))
 }
 
 /// The first of the keys that is needed and not there.
-pub(crate) fn missing_among(keys: &[Key], line: u64, table: &Table) -> Option<SpecFault>
-    ensures { result ≡ missing_among keys.now line (table_view table.now) }
+pub(crate) fn missing_among(
+    keys: &[Key],
+    document: &Table,
+    line: u64,
+    table: &Table,
+) -> Option<SpecFault>
+    ensures { result ≡ missing_among keys.now (table_view document.now) line (table_view table.now) }
 {
-    let key = first_missing(keys, table)?;
+    let key = first_missing(keys, document, table)?;
     Some(SpecFault::MissingKey { key, line })
 }
 

@@ -4,7 +4,7 @@ ghost use Rattle.std.specs.Str.{bytes_eq};
 ghost use Rattle.toml.specs.View.{table_view};
 ghost use Rattle.opgen_kinds.specs.Kinds.{kind_name};
 ghost use Rattle.opgen_spec.specs.Entry.{input_outside};
-ghost use Rattle.opgen_spec.specs.kinds.{kind_named, kind_of, entry_of};
+ghost use Rattle.opgen_spec.specs.kinds.{kind_named, kinds_of, kind_of, entry_of};
 
 mod pair;
 mod poly;
@@ -12,16 +12,18 @@ mod product;
 mod several;
 mod single;
 mod small_div;
+mod sop;
 mod sum;
 mod taps;
 
-use opgen_document::{Key, Stand, Version, count_at, text_at, width_outside};
+use opgen_document::{Key, Stand, Version, count_at, text_at, version_of, width_outside};
 use opgen_operator::{Kind, Operator, most_input};
+pub(crate) use sop::{factor_outside, name_outside};
 use std::alloc::{AllocError, Global};
 use toml::Table;
 
-/// The kinds, in the order of their words in the documents.
-pub(crate) static KINDS: [Kind; 9] = [
+/// The kinds of versions 1 and 2, in the order of their words in the documents.
+static EARLY_KINDS: [Kind; 9] = [
     Kind::Scale,
     Kind::Fir,
     Kind::Multiply,
@@ -33,6 +35,31 @@ pub(crate) static KINDS: [Kind; 9] = [
     Kind::Tfir,
 ];
 
+/// The kinds of version 3.
+static KINDS: [Kind; 10] = [
+    Kind::Scale,
+    Kind::Fir,
+    Kind::Multiply,
+    Kind::Divide,
+    Kind::Root,
+    Kind::Mcm,
+    Kind::Constdiv,
+    Kind::Poly,
+    Kind::Tfir,
+    Kind::Sop,
+];
+
+/// The kinds that documents of a version can name.
+pub(crate) fn kinds_of(version: Version) -> &'static [Kind]
+    ensures { result.now ≡ kinds_of version }
+{
+    match version {
+        Version::First => &EARLY_KINDS,
+        Version::Second => &EARLY_KINDS,
+        Version::Third => &KINDS,
+    }
+}
+
 fn kind_among(kinds: &[Kind], name: &str) -> Option<Kind>
     ensures { result ≡ find (λ one. bytes_eq (kind_name one) name.now) kinds.now }
 {
@@ -40,17 +67,17 @@ fn kind_among(kinds: &[Kind], name: &str) -> Option<Kind>
 }
 
 /// The kind of this name.
-fn kind_named(name: &str) -> Option<Kind>
-    ensures { result ≡ kind_named name.now }
+fn kind_named(version: Version, name: &str) -> Option<Kind>
+    ensures { result ≡ kind_named version name.now }
 {
-    kind_among(&KINDS, name)
+    kind_among(kinds_of(version), name)
 }
 
 /// The kind that the document names.
 pub(crate) fn kind_of(table: &Table) -> Option<Kind>
     ensures { result ≡ kind_of (table_view table.now) }
 {
-    kind_named(text_at(table, Key::Kind))
+    kind_named(version_of(table), text_at(table, Key::Kind))
 }
 
 /// The width of an input, where it has too few bits, or more than the version allows.
@@ -74,6 +101,7 @@ pub(crate) fn is_first_kind(kind: Kind) -> bool
         Kind::Constdiv => small_div::IS_FIRST,
         Kind::Poly => poly::IS_FIRST,
         Kind::Tfir => taps::IS_FIRST,
+        Kind::Sop => sop::IS_FIRST,
     }
 }
 
@@ -91,6 +119,7 @@ pub(crate) fn stand(version: Version, kind: Kind, key: Key) -> Stand
         Kind::Constdiv => small_div::stand(version, key),
         Kind::Poly => poly::stand(version, key),
         Kind::Tfir => taps::stand(version, key),
+        Kind::Sop => sop::stand(version, key),
     }
 }
 
@@ -108,6 +137,7 @@ pub(crate) fn key_outside(kind: Kind, table: &Table, key: Key) -> Option<i64>
         Kind::Constdiv => small_div::key_outside(table, key),
         Kind::Poly => poly::key_outside(table, key),
         Kind::Tfir => taps::key_outside(table, key),
+        Kind::Sop => sop::key_outside(table, key),
     }
 }
 
@@ -125,5 +155,6 @@ pub(crate) fn operator_of(alloc: Global, kind: Kind, table: &Table) -> Result<Op
         Kind::Constdiv => Ok(Operator::Constdiv(small_div::small_div_of(table))),
         Kind::Poly => Ok(Operator::Poly(poly::poly_of(alloc, table)?)),
         Kind::Tfir => Ok(Operator::Tfir(taps::taps_of(alloc, table)?)),
+        Kind::Sop => Ok(Operator::Sop(sop::sop_of(alloc, table)?)),
     }
 }

@@ -20,7 +20,7 @@ mod stand;
 pub use fault::SpecFault;
 pub use opgen_document::Key;
 pub use opgen_operator::{
-    DelayLine, Kind, MAX_SPEC_NAME_LEN, Operator, Pair, Poly, PortFormat, Product, Several, Single,
-    SmallDiv, Spec, Sum, Taps, is_cycle, is_history, is_spec_name,
+    DelayLine, Kind, MAX_SPEC_NAME_LEN, Operator, Pair, Poly, PortFormat, Product, Scaled, Several,
+    Single, SmallDiv, Sop, Spec, Sum, Taps, Times, is_cycle, is_history, is_spec_name,
 };
 pub use read::read_spec;

@@ -1,8 +1,8 @@
 //! Makes the specification from a document that passed its checks, field by field.
 ghost use Rattle.std.specs.Prelude.{◌≡◌, ◌++◌, IfOk, OnOk};
 ghost use Rattle.toml.specs.View.{view, items_view, table_view};
-ghost use Rattle.opgen_document.specs.Document.{text_at, items_at};
-ghost use Rattle.opgen_spec.specs.Spec.{line_of, line_in, lines_of, spec_with};
+ghost use Rattle.opgen_document.specs.Document.{text_at, items_at, in_table, in_tables};
+ghost use Rattle.opgen_spec.specs.Spec.{line_of, spec_with};
 
 use crate::class::class_named;
 use crate::kinds::operator_of;
@@ -27,7 +27,7 @@ fn line_of(table: &Table) -> DelayLine
 
 /// Appends the delay line of an item, if it is a table.
 fn push_line(lines: &mut Items<DelayLine>, item: &Value) -> Result<(), AllocError>
-    ensures { OnOk result (lines.new ≡ lines.old ++ line_in (view item.now)) }
+    ensures { OnOk result (lines.new ≡ lines.old ++ in_table line_of (view item.now)) }
 {
     if let Value::Table(table) = item {
         lines.push(line_of(table))?;
@@ -36,7 +36,7 @@ fn push_line(lines: &mut Items<DelayLine>, item: &Value) -> Result<(), AllocErro
 }
 
 fn lines_of(alloc: Global, items: &[Value]) -> Result<Items<DelayLine>, AllocError>
-    ensures { IfOk result (λ lines. lines ≡ lines_of (items_view items.now)) }
+    ensures { IfOk result (λ lines. lines ≡ in_tables line_of (items_view items.now)) }
 {
     let mut lines = Items::new(alloc);
     'items: for item in items {
@@ -56,7 +56,7 @@ struct Texts {
 fn texts_of(alloc: Global, table: &Table) -> Result<Texts, AllocError>
     ensures name { IfOk result (λ texts. texts.name ≡ text_at (table_view table.now) Key.Name) }
     ensures target { IfOk result (λ texts. texts.target ≡ text_at (table_view table.now) Key.Target) }
-    ensures delays { IfOk result (λ texts. texts.delays ≡ lines_of (items_at (table_view table.now) Key.Delay)) }
+    ensures delays { IfOk result (λ texts. texts.delays ≡ in_tables line_of (items_at (table_view table.now) Key.Delay)) }
 {
     let name = Text::from_str(alloc, text_at(table, Key::Name))?;
     let target = Text::from_str(alloc, text_at(table, Key::Target))?;

@@ -105,7 +105,7 @@ fn field_fault(table: &Table) -> Option<SpecFault>
 /// Reads the bytes of a specification, a TOML document, and answers its first fault, if it has one.
 ///
 /// The faults are judged in the order of their variants, and within one of them in the order of the
-/// keys, those of the document before those of its delay lines.
+/// keys, those of the document before those of the lines of its arrays.
 pub fn read_spec(alloc: Global, bytes: &[u8]) -> Result<Spec, SpecFault>
     ensures gives { Gives result (read (tree bytes.now)) }
     ensures written { IfOk result (λ spec. IsSomeAnd (tree bytes.now) (λ ms. IsAsWritten ms spec)) }

@@ -5,7 +5,7 @@ ghost use Rattle.opgen_document.specs.Keys.{has_to_be};
 ghost use Rattle.opgen_spec.specs.Stands.{stand_in, may_stand, is_needed, is_known};
 
 use crate::kinds;
-use crate::kinds::KINDS;
+use crate::kinds::kinds_of;
 use opgen_document::{Key, Stand, Version, shared_stand};
 use opgen_operator::Kind;
 
@@ -53,6 +53,6 @@ pub(crate) fn is_needed(version: Version, kind: Option<Kind>, key: Key) -> bool
 {
     match kind {
         Some(kind) => stand_in(version, kind, key).has_to_be(),
-        None => all_need(version, &KINDS, key),
+        None => all_need(version, kinds_of(version), key),
     }
 }

@@ -2,6 +2,7 @@ pub mod Taken
 pub mod Serving
 pub mod Planning
 pub mod Naming
+mod AdderValues
 pub mod Building
 pub mod Parts
 pub mod Names

@@ -11,5 +11,5 @@ pub fitting : (spec : Spec) (net : Net) → IsValidSpec spec → IsNetOf spec ne
 fitting spec net valid of fits = record {
   of_kind = of;
   fits = fits;
-  named = fitting_named spec net valid.op.ranges fits spec.name (spec_name-allowed spec.name valid.name);
+  named = fitting_named spec net valid.op.ranges valid.names fits spec.name (spec_name-allowed spec.name valid.name);
 }

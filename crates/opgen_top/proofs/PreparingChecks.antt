@@ -14,6 +14,7 @@ use Rattle.opgen_design.specs.Run.{input_widths}
 use Rattle.opgen_io.specs.Fetched.{fetched}
 use Rattle.opgen_io.specs.Files.{Files}
 use Rattle.opgen_operator.specs.declared.spec.Spec.{Spec}
+use Rattle.opgen_operator.specs.Valid.{IsValidSpec}
 use Rattle.opgen_operator.proofs.Operators.{some_input}
 use Rattle.opgen_spec.specs.declared.fault.SpecFault.{SpecFault}
 use Rattle.opgen_document.specs.Document.{tree}
@@ -65,15 +66,15 @@ few_counted widths (suc columns) count cells e fit =
     let same = same_count widths (suc columns) count cells e fit (omega arith) in omega (arith, same)
 
 -- a design with the ports of a specification has an input
-some_column : (spec : Spec) (d : Design) → PortsAgree spec d → 1 ≤ length (input_widths d)
-some_column spec d agree = let same = in_columns spec d agree in let some = some_input spec.op in omega (arith, same, some)
+some_column : (spec : Spec) (d : Design) → IsValidSpec spec → PortsAgree spec d → 1 ≤ length (input_widths d)
+some_column spec d valid agree = let same = in_columns spec d agree in let some = some_input spec.op valid.op.ranges in omega (arith, same, some)
 
 pub design_judged : (spec : Spec) (d : Design) (latency columns count : ℕ) (cells : List ℕ) (checked : Checked) (a : Answer)
-    → columns ≡ length (input_widths d) → AreRowsOfCells (input_widths d) count cells → PortsAgree spec d
+    → IsValidSpec spec → columns ≡ length (input_widths d) → AreRowsOfCells (input_widths d) count cells → PortsAgree spec d
     → IsChecked spec d latency (row_count columns cells) cells checked → a ≡ verdict_answer checked
     → IsAnswerToDesign spec d latency count cells a
-design_judged spec d latency columns count cells checked a e fit agree is said =
-    let some = some_column spec d agree in
+design_judged spec d latency columns count cells checked a valid e fit agree is said =
+    let some = some_column spec d valid agree in
     let same = same_count (input_widths d) columns count cells e fit (omega (arith, e, some)) in
     inr (record {
       agree = agree;

@@ -7,6 +7,7 @@ use Rattle.opgen_design.specs.declared.design.Port.{Port}
 use Rattle.opgen_design.specs.Run.{at_ports, is_in, input_widths}
 use Rattle.opgen_ports.specs.declared.ports.PortFormat.{PortFormat}
 use Rattle.opgen_operator.specs.declared.spec.Spec.{Spec}
+use Rattle.opgen_operator.specs.Operator.{IsOperator}
 use Rattle.opgen_operator.specs.Outputs.{inputs_of, outputs_of}
 use Rattle.opgen_operator.proofs.Operators.{some_input}
 use Rattle.opgen_operator.specs.DesignPorts.{port_of}
@@ -27,8 +28,8 @@ module _ (spec : Spec) (d : Design) (ports : d.ports ≡ ports_for spec false) w
   pub served_columns : length (input_widths d) ≡ length (inputs_of spec)
   served_columns = ap length served_widths ∙ length-map (inputs_of spec) (λ p. p.format.width)
 
-  pub served_port : 0 < length d.ports
-  served_port =
+  pub served_port : IsOperator spec.op → 0 < length d.ports
+  served_port ranged =
       let is = map (port_of In) (inputs_of spec) in
       let os = map (port_of Out) (outputs_of spec) in
-      omega (arith, ap length ports, length-append is os, length-map (inputs_of spec) (port_of In), some_input spec.op)
+      omega (arith, ap length ports, length-append is os, length-map (inputs_of spec) (port_of In), some_input spec.op ranged)

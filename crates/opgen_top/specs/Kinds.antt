@@ -6,24 +6,15 @@ use Rattle.opgen_fir.specs.Recipe.{net_of_sum}
 use Rattle.opgen_mult.specs.Recipe.{IsNetOfProduct}
 use Rattle.opgen_net.specs.declared.net.Net.{Net}
 use Rattle.opgen_net.specs.Named.{IsNamed}
-use Rattle.opgen_kinds.specs.declared.taps.Taps.{Taps}
 use Rattle.opgen_operator.specs.declared.operator.Operator.{Operator}
-use Rattle.opgen_operator.specs.declared.operator.Operator.TheVariants.{Scale, Fir, Multiply, Divide, Root, Mcm, Constdiv, Poly, Tfir}
+use Rattle.opgen_operator.specs.declared.operator.Operator.TheVariants.{Scale, Fir, Multiply, Divide, Root, Mcm, Constdiv, Poly, Tfir, Sop}
 use Rattle.opgen_operator.specs.declared.spec.Spec.{Spec}
 use Rattle.opgen_operator.specs.Fits.{FitsSpec}
 use Rattle.opgen_poly.specs.Recipe.{net_of_poly}
-use Rattle.opgen_graph.specs.declared.ranks.Graph.{Graph}
 use Rattle.opgen_saturate.specs.Chosen.{cut_net}
-use Rattle.opgen_search.specs.Recipe.{IsAdderSetOf, IsLeastGraphOf, IsNetOfSeveral}
+use Rattle.opgen_sop.specs.Recipe.{IsNetOfSop}
 use Rattle.opgen_sqrt.specs.Recipe.{net_of_single}
-use Rattle.opgen_tfir.specs.Recipe.{net_of_taps}
-
--- the net of a transposed filter by the graph of the least set for its taps
-pub record IsNetOfTaps (f : Taps) (net : Net) : Type 0 where
-  pub set : List ℕ
-  pub graph : Graph
-  pub least : IsLeastGraphOf f.taps f.input.width f.extra set graph
-  pub by : net ≡ net_of_taps f graph
+use Rattle.opgen_top.specs.AdderGraphs.{AreGraphNumbers, IsNetOfConstants, IsNetOfTaps}
 
 -- the net of an operator, by the recipe of its kind
 abbrev pub IsNetOfOperator : Operator → Net → Type 0
@@ -32,10 +23,11 @@ IsNetOfOperator (Fir sum) net = net ≡ net_of_sum sum
 IsNetOfOperator (Multiply product) net = IsNetOfProduct product net
 IsNetOfOperator (Divide pair) net = net ≡ net_of_pair pair
 IsNetOfOperator (Root single) net = net ≡ net_of_single single
-IsNetOfOperator (Mcm several) net = IsNetOfSeveral several net
+IsNetOfOperator (Mcm several) net = IsNetOfConstants several net
 IsNetOfOperator (Constdiv small) net = net ≡ net_of_small small.exact small.input.width small.divisor
 IsNetOfOperator (Poly poly) net = net ≡ net_of_poly poly
 IsNetOfOperator (Tfir taps) net = IsNetOfTaps taps net
+IsNetOfOperator (Sop sop) net = IsNetOfSop sop net
 
 -- that of its operator, with the output of the width that is chosen
 pub record IsNetOf (spec : Spec) (net : Net) : Type 0 where
@@ -50,10 +42,11 @@ AreAddersOfOperator (Fir sum) adders = adders ≡ []
 AreAddersOfOperator (Multiply product) adders = adders ≡ []
 AreAddersOfOperator (Divide pair) adders = adders ≡ []
 AreAddersOfOperator (Root single) adders = adders ≡ []
-AreAddersOfOperator (Mcm several) adders = IsAdderSetOf several.constants several.input.width several.extra adders
+AreAddersOfOperator (Mcm several) adders = AreGraphNumbers several.searched several.constants several.input.width several.extra adders
 AreAddersOfOperator (Constdiv small) adders = adders ≡ []
 AreAddersOfOperator (Poly poly) adders = adders ≡ []
-AreAddersOfOperator (Tfir taps) adders = IsAdderSetOf taps.taps taps.input.width taps.extra adders
+AreAddersOfOperator (Tfir taps) adders = AreGraphNumbers taps.searched taps.taps taps.input.width taps.extra adders
+AreAddersOfOperator (Sop sop) adders = adders ≡ []
 
 abbrev pub AreAddersOf : Spec → List ℕ → Type 0
 AreAddersOf spec adders = AreAddersOfOperator spec.op adders

@@ -1,5 +1,6 @@
 -- Definitions of opgen_top: the correct answer to words, files and targets, circuits and what they serve, and what `run` leaves.
 pub mod Targets
+pub mod AdderGraphs
 pub mod Kinds
 pub mod Serves
 pub mod Circuit

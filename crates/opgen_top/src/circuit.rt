@@ -1,17 +1,18 @@
 //! The circuit of a specification.
-ghost use Rattle.std.specs.Prelude.{◌≡◌, ◌≤◌, [], IfOk, IsTrue, Ok, string_bytes};
+ghost use Rattle.std.specs.Prelude.{◌≡◌, ◌≤◌, [], IfOk, Ok, string_bytes};
 ghost use Rattle.opgen_operator.specs.declared.operator.Operator.TheVariants.{Mcm, Tfir};
 ghost use Rattle.opgen_operator.specs.Fits.{FitsInEachMode};
 ghost use Rattle.opgen_kinds.specs.Several.{IsAcceptedSeveral};
 ghost use Rattle.opgen_kinds.specs.Taps.{IsAcceptedTaps};
 ghost use Rattle.opgen_operator.specs.Valid.{IsValidSpec};
-ghost use Rattle.opgen_search.specs.Recipe.{IsAdderSetOf, IsNetOfSeveral};
-ghost use Rattle.opgen_top.specs.Kinds.{AreAddersOf, IsFittingNet, IsNetOfOperator, IsNetOfTaps};
+ghost use Rattle.opgen_top.specs.AdderGraphs.{IsNetOfConstants, IsNetOfTaps};
+ghost use Rattle.opgen_top.specs.Kinds.{AreAddersOf, AreAddersOfOperator, IsFittingNet, IsNetOfOperator};
 ghost use Rattle.opgen_top.specs.Lines.{period_too_short_line};
 ghost use Rattle.opgen_top.specs.Prepared.{IfRefused, IsCircuitFor, IsListed, OnRefusal, TellsPlanFault};
 ghost use Rattle.opgen_top.specs.Specified.{OnDevices, OnTable};
 ghost use Rattle.opgen_top.specs.Targets.{devices_of};
 
+use crate::adder_graph::{graph_of_several, graph_of_taps};
 use crate::answer::Refusal;
 use crate::context::Context;
 use crate::line::Line;
@@ -20,7 +21,7 @@ use opgen_net::Net;
 use opgen_num::Memory;
 use opgen_pipe::{PlanFault, Planned, plan};
 use opgen_saturate::cut_output;
-use opgen_search::{Gate, least_graph};
+use opgen_search::Gate;
 use opgen_spec::{Operator, Several, Spec, Taps};
 use std::alloc::{AllocError, Global};
 use std::thread::Threads;
@@ -51,7 +52,7 @@ fn without_adders(alloc: Global, built: Result<Net, Memory>) -> Result<KindNet, 
     })
 }
 
-/// The net of several constants, by the graph of the least set of adders for them.
+/// The net of several constants, by their adder graph.
 fn build_several<R: Threads + Sync, G: Gate + Sync>(
     rt: &R,
     alloc: Global,
@@ -60,29 +61,20 @@ fn build_several<R: Threads + Sync, G: Gate + Sync>(
     gate: &G,
 ) -> Result<KindNet, Memory>
     requires several { IsAcceptedSeveral several.now }
-    requires searched { IsTrue several.now.searched }
     requires workers { (1 ≤ workers) × (workers ≤ 32) }
-    ensures net { IfOk result (λ made. IsNetOfSeveral several.now made.net) }
+    ensures net { IfOk result (λ made. IsNetOfConstants several.now made.net) }
     ensures fits { IfOk result (λ made. FitsInEachMode (Mcm several.now) made.net) }
-    ensures adders { IfOk result (λ made. IsAdderSetOf several.now.constants several.now.input.width several.now.extra made.adders.items) }
+    ensures adders { IfOk result (λ made. AreAddersOfOperator (Mcm several.now) made.adders.items) }
 {
-    let found = least_graph(
-        rt,
-        alloc,
-        several.constants.as_slice(),
-        several.input.width,
-        several.extra,
-        workers,
-        gate,
-    )?;
-    let net = opgen_mcm::build(alloc, several, &found.graph)?;
+    let made = graph_of_several(rt, alloc, several, workers, gate)?;
+    let net = opgen_mcm::build(alloc, several, &made.graph)?;
     Ok(KindNet {
         net,
-        adders: found.set,
+        adders: made.set,
     })
 }
 
-/// The net of a transposed filter, by the graph of the least set of adders for its taps.
+/// The net of a transposed filter, by the adder graph of its taps.
 fn build_transposed<R: Threads + Sync, G: Gate + Sync>(
     rt: &R,
     alloc: Global,
@@ -91,25 +83,16 @@ fn build_transposed<R: Threads + Sync, G: Gate + Sync>(
     gate: &G,
 ) -> Result<KindNet, Memory>
     requires taps { IsAcceptedTaps taps.now }
-    requires searched { IsTrue taps.now.searched }
     requires workers { (1 ≤ workers) × (workers ≤ 32) }
     ensures net { IfOk result (λ made. IsNetOfTaps taps.now made.net) }
     ensures fits { IfOk result (λ made. FitsInEachMode (Tfir taps.now) made.net) }
-    ensures adders { IfOk result (λ made. IsAdderSetOf taps.now.taps taps.now.input.width taps.now.extra made.adders.items) }
+    ensures adders { IfOk result (λ made. AreAddersOfOperator (Tfir taps.now) made.adders.items) }
 {
-    let found = least_graph(
-        rt,
-        alloc,
-        taps.taps.as_slice(),
-        taps.input.width,
-        taps.extra,
-        workers,
-        gate,
-    )?;
-    let net = opgen_tfir::build(alloc, taps, &found.graph)?;
+    let made = graph_of_taps(rt, alloc, taps, workers, gate)?;
+    let net = opgen_tfir::build(alloc, taps, &made.graph)?;
     Ok(KindNet {
         net,
-        adders: found.set,
+        adders: made.set,
     })
 }
 
@@ -137,6 +120,7 @@ fn build_operator<R: Threads + Sync, G: Gate + Sync>(
         Operator::Constdiv(small) => without_adders(alloc, opgen_constdiv::build(alloc, small)),
         Operator::Poly(poly) => without_adders(alloc, opgen_poly::build(alloc, poly)),
         Operator::Tfir(taps) => build_transposed(rt, alloc, taps, workers, gate),
+        Operator::Sop(sop) => without_adders(alloc, opgen_sop::build(alloc, sop)),
     }
 }
 

@@ -5,6 +5,7 @@
 //! By: `run`, and inside the crate `build_net`; the law `circuits_serve`.
 #![tactic(auto)]
 
+mod adder_graph;
 mod answer;
 mod check;
 mod circuit;

@@ -1,6 +1,6 @@
 -- The filter of a number is a valid specification.
 use Rattle.std.proofs.Common.{◌≡◌, ℕ, ◌+◌, ◌*◌, ◌-◌, ◌/◌, ◌%◌, ◌^◌, ◌≤◌, ◌<◌, min, true, false, List, length, Some, refl, inl, arith}
-use Rattle.std.specs.Prelude.{IsTrue, codes, ℤ, negsuc, [], ◌∷◌}
+use Rattle.std.specs.Prelude.{IsTrue, ◌≢◌, codes, ℤ, negsuc, [], ◌∷◌}
 use Rattle.std.proofs.Math.Nat.{div-le_self}
 use Rattle.std.proofs.lemmas.Int.{ints}
 use Rattle.std.proofs.lemmas.List.Elements.{All-nil, All-cons}
@@ -9,6 +9,7 @@ use Rattle.opgen_operator.specs.declared.operator.Operator.TheVariants.{Fir}
 use Rattle.opgen_ports.specs.declared.ports.PortFormat.{PortFormat}
 use Rattle.opgen_kinds.specs.Sum.{sum_need, sum_places, sum_reach, IsSum}
 use Rattle.opgen_kinds.specs.Versions.{AreNear}
+use Rattle.opgen_operator.specs.GivenNames.{is_port_name}
 use Rattle.opgen_operator.specs.Operator.{IsAcceptedBy}
 use Rattle.opgen_ports.specs.Ranges.{IsNear}
 use Rattle.opgen_ports.specs.Reaches.{rises, falls, width_of}
@@ -85,6 +86,11 @@ module _ (n : ℕ) (some : 1 ≤ n) (few : n ≤ 32) where
     name = name_allowed;
     op = accepted;
     has = (λ _. refl, near);
+    names = record {
+      sound = All-nil (λ n. IsTrue (is_port_name n));
+      apart = All-nil (λ n. n ≢ codes "workload");
+      differ = λ i j d before below. absurd (omega (arith, below));
+    };
     mode = record { agrees = refl; whole = λ bad. let no_mark : false ≡ true = bad in cc };
     output = refl;
     target = (omega arith, omega arith);

@@ -24,16 +24,17 @@ struct Case {
 }
 
 /// The keys that all specifications share.
-const HEAD: &str = "version = 2\nname = \"made\"\ntarget = \"plain\"\n";
+const HEAD: &str = "name = \"made\"\ntarget = \"plain\"\n";
 
 const AT_ONCE: &str = "wrote made.vhd and made.rpt, latency 0\n";
 
 const FOUR_CYCLES: &str = "simulated 4 cycles\n";
 
-static CASES: [Case; 13] = [
+static CASES: [Case; 21] = [
     Case {
         name: "three times four bits",
-        keys: "kind = \"scale\"
+        keys: "version = 2
+kind = \"scale\"
 exact = true
 period = 1000000
 signed = false
@@ -51,7 +52,8 @@ coefficients = [3]
     },
     Case {
         name: "three times eight bits, with larger counters",
-        keys: "kind = \"scale\"
+        keys: "version = 2
+kind = \"scale\"
 exact = true
 period = 1000000
 signed = false
@@ -70,7 +72,8 @@ compressor = \"counters\"
     },
     Case {
         name: "a third of four bits, in two stages",
-        keys: "kind = \"scale\"
+        keys: "version = 2
+kind = \"scale\"
 exact = false
 period = 900
 signed = false
@@ -89,7 +92,8 @@ denominator = 3
     },
     Case {
         name: "a filter",
-        keys: "kind = \"fir\"
+        keys: "version = 2
+kind = \"fir\"
 exact = true
 period = 1000000
 signed = true
@@ -107,7 +111,8 @@ coefficients = [1, 2, 1]
     },
     Case {
         name: "how many of seven bits are 1, with larger counters",
-        keys: "kind = \"fir\"
+        keys: "version = 2
+kind = \"fir\"
 exact = true
 period = 1000000
 signed = false
@@ -126,7 +131,8 @@ compressor = \"counters\"
     },
     Case {
         name: "a signed product of three bits each",
-        keys: "kind = \"multiply\"
+        keys: "version = 2
+kind = \"multiply\"
 exact = true
 period = 1000000
 signed = true
@@ -145,7 +151,8 @@ out_lsb = 0
     },
     Case {
         name: "a product of six bits each, with larger counters",
-        keys: "kind = \"multiply\"
+        keys: "version = 2
+kind = \"multiply\"
 exact = true
 period = 1000000
 signed = false
@@ -165,7 +172,8 @@ compressor = \"counters\"
     },
     Case {
         name: "a quotient of four bits by two",
-        keys: "kind = \"divide\"
+        keys: "version = 2
+kind = \"divide\"
 exact = true
 period = 1000000
 width_a = 4
@@ -183,7 +191,8 @@ out_lsb = 0
     },
     Case {
         name: "a root of four bits",
-        keys: "kind = \"root\"
+        keys: "version = 2
+kind = \"root\"
 exact = true
 period = 1000000
 width = 4
@@ -199,7 +208,8 @@ out_lsb = 0
     },
     Case {
         name: "three and five times four bits",
-        keys: "kind = \"mcm\"
+        keys: "version = 2
+kind = \"mcm\"
 exact = true
 period = 1000000
 signed = false
@@ -217,7 +227,8 @@ extra = 0
     },
     Case {
         name: "four bits by three",
-        keys: "kind = \"constdiv\"
+        keys: "version = 2
+kind = \"constdiv\"
 exact = true
 period = 1000000
 width = 4
@@ -233,7 +244,8 @@ divisor = 3
     },
     Case {
         name: "the square of two bits, in sixteenths",
-        keys: "kind = \"poly\"
+        keys: "version = 2
+kind = \"poly\"
 exact = false
 period = 1000000
 width = 2
@@ -249,7 +261,8 @@ coefficients = [0, 0, 1]
     },
     Case {
         name: "a transposed filter",
-        keys: "kind = \"tfir\"
+        keys: "version = 2
+kind = \"tfir\"
 exact = true
 period = 1000000
 signed = false
@@ -262,6 +275,211 @@ extra = 0
         wrote: AT_ONCE,
         inputs: "7\nf\n1\n0\n",
         run: "7 : 07\nf : 1d\n1 : 0a\n0 : 55\n",
+        simulated: FOUR_CYCLES,
+        judged: "good 4\n",
+    },
+    Case {
+        name: "a signed quotient of four bits by three",
+        keys: "version = 3
+kind = \"divide\"
+exact = true
+period = 1000000
+signed = true
+width_a = 4
+lsb_a = 0
+width_b = 3
+lsb_b = 0
+out_lsb = 0
+",
+        latency: "0",
+        wrote: AT_ONCE,
+        inputs: "9 2\n7 6\n8 7\nf 3\n",
+        run: "9 2 : 1d 7\n7 6 : 1d 1\n8 7 : 08 0\nf 3 : 00 7\n",
+        simulated: FOUR_CYCLES,
+        judged: "good 4\n",
+    },
+    Case {
+        name: "three times four signed bits, brought into four unsigned ones",
+        keys: "version = 3
+kind = \"scale\"
+exact = true
+period = 1000000
+signed = true
+width = 4
+lsb = 0
+out_lsb = 0
+out_width = 4
+out_signed = false
+coefficients = [3]
+",
+        latency: "0",
+        wrote: AT_ONCE,
+        inputs: "8\nf\n2\n7\n",
+        run: "8 : 0\nf : 0\n2 : 6\n7 : f\n",
+        simulated: FOUR_CYCLES,
+        judged: "good 4\n",
+    },
+    Case {
+        name: "a transposed filter without its lowest two bits",
+        keys: "version = 3
+kind = \"tfir\"
+exact = true
+period = 1000000
+signed = true
+width = 4
+lsb = 0
+out_lsb = 2
+extra = 0
+taps = [4, 8, -12]
+",
+        latency: "0",
+        wrote: AT_ONCE,
+        inputs: "1\nf\n7\n0\n",
+        run: "1 : 01\nf : 01\n7 : 02\n0 : 11\n",
+        simulated: FOUR_CYCLES,
+        judged: "good 4\n",
+    },
+    Case {
+        name: "constants beyond those that are searched for",
+        keys: "version = 3
+kind = \"mcm\"
+exact = true
+period = 1000000
+signed = true
+width = 4
+lsb = 0
+constants = [2049, -5, 0]
+",
+        latency: "0",
+        wrote: AT_ONCE,
+        inputs: "1\n8\n7\nf\n",
+        run: "1 : 0801 7b 0\n8 : bff8 28 0\n7 : 3807 5d 0\nf : f7ff 05 0\n",
+        simulated: FOUR_CYCLES,
+        judged: "good 4\n",
+    },
+    Case {
+        name: "a transposed filter of nine odd taps",
+        keys: "version = 3
+kind = \"tfir\"
+exact = true
+period = 1000000
+signed = true
+width = 4
+lsb = 0
+taps = [3, 5, 7, 9, 11, 13, 15, 17, 19]
+",
+        latency: "0",
+        wrote: AT_ONCE,
+        inputs: "1\n1\n0\nf\n",
+        run: "1 : 003\n1 : 008\n0 : 00c\nf : 00d\n",
+        simulated: FOUR_CYCLES,
+        judged: "good 4\n",
+    },
+    Case {
+        name: "the imaginary part of a product",
+        keys: "version = 3
+kind = \"sop\"
+exact = true
+period = 1000000
+out_lsb = 0
+[[input]]
+name = \"a\"
+signed = true
+width = 4
+lsb = 0
+[[input]]
+name = \"b\"
+signed = true
+width = 4
+lsb = 0
+[[input]]
+name = \"c\"
+signed = true
+width = 4
+lsb = 0
+[[input]]
+name = \"d\"
+signed = true
+width = 4
+lsb = 0
+[[product]]
+a = \"a\"
+b = \"d\"
+[[product]]
+a = \"b\"
+b = \"c\"
+",
+        latency: "0",
+        wrote: AT_ONCE,
+        inputs: "8 8 8 8\n7 8 7 8\n1 2 3 4\n0 0 0 0\n",
+        run: "8 8 8 8 : 080\n7 8 7 8 : 190\n1 2 3 4 : 00a\n0 0 0 0 : 000\n",
+        simulated: FOUR_CYCLES,
+        judged: "good 4\n",
+    },
+    Case {
+        name: "the real part of a product, with larger counters",
+        keys: "version = 3
+kind = \"sop\"
+exact = true
+period = 1000000
+out_lsb = 0
+compressor = \"counters\"
+[[input]]
+name = \"a\"
+signed = true
+width = 4
+lsb = 0
+[[input]]
+name = \"b\"
+signed = true
+width = 4
+lsb = 0
+[[input]]
+name = \"c\"
+signed = true
+width = 4
+lsb = 0
+[[input]]
+name = \"d\"
+signed = true
+width = 4
+lsb = 0
+[[product]]
+a = \"a\"
+b = \"c\"
+[[product]]
+a = \"b\"
+b = \"d\"
+negative = true
+",
+        latency: "0",
+        wrote: AT_ONCE,
+        inputs: "8 7 7 7\n8 8 8 7\n1 2 3 4\n0 0 0 0\n",
+        run: "8 7 7 7 : 97\n8 8 8 7 : 78\n1 2 3 4 : fb\n0 0 0 0 : 00\n",
+        simulated: FOUR_CYCLES,
+        judged: "good 4\n",
+    },
+    Case {
+        name: "a square less 1",
+        keys: "version = 3
+kind = \"sop\"
+exact = true
+period = 1000000
+out_lsb = -6
+offset = -1
+[[input]]
+name = \"v\"
+signed = true
+width = 4
+lsb = -3
+[[product]]
+a = \"v\"
+b = \"v\"
+",
+        latency: "0",
+        wrote: AT_ONCE,
+        inputs: "8\n0\n4\nf\n",
+        run: "8 : 00\n0 : 40\n4 : 50\nf : 41\n",
         simulated: FOUR_CYCLES,
         judged: "good 4\n",
     },

@@ -4,7 +4,7 @@ from dataclasses import dataclass
 
 from opgenlib import vhdl
 from opgenlib.drawings.example import Example
-from opgenlib.drawings.parts import read_place
+from opgenlib.drawings.adders import read_place
 from opgenlib.drawings.schedule import Slot, checked_schedule, delays
 from opgenlib.svg import LETTER, Picture
 

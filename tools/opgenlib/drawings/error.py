@@ -63,6 +63,7 @@ EXACT = {
     "poly": "the polynomial (not of the function that it approximates)",
     "mcm": "x times each constant",
     "constdiv": "x over the divisor",
+    "sop": "the sum of the products",
 }
 
 

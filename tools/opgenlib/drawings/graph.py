@@ -6,51 +6,14 @@ piece that no other line has: there its sign and shift are written.
 from collections.abc import Iterator
 from dataclasses import dataclass, field
 
+from opgenlib.drawings.adders import Sum, sums_of
 from opgenlib.drawings.example import Example, NotDrawn, cycles
 from opgenlib.specification import shift_of
 from opgenlib.svg import LETTER, Picture
 
 
-@dataclass(frozen=True)
-class Sum:
-    """How two numbers make a third: each has a sign and a shift, and the sum is shifted right."""
-
-    u: int
-    u_shift: int
-    u_minus: bool
-    v: int
-    v_minus: bool
-    right: int = 0
-
-
-def sum_of(u: int, v: int, f: int) -> Sum | None:
-    """How u and v make f, by the first form and the least shift; None where they don't."""
-    shifts = range(1, 14)
-    for u_minus, v_minus in ((False, False), (False, True), (True, False)):
-        for i in shifts:
-            if (-u if u_minus else u) * (1 << i) + (-v if v_minus else v) == f:
-                return Sum(u, i, u_minus, v, v_minus)
-    for total, u_minus, v_minus in ((u + v, False, False), (abs(u - v), u < v, u >= v)):
-        for right in shifts:
-            if total == f << right:
-                return Sum(u, 0, u_minus, v, v_minus, right)
-    return None
-
-
-def sums_of(members: list[int]) -> dict[int, Sum]:
-    """How each member is made, of earlier ones, of the least two that make it."""
-    placed, made = [1], {}
-    while missing := sorted(set(members) - set(placed)):
-        steps = {}
-        for f in missing:
-            sums = (sum_of(u, v, f) for u in sorted(placed) for v in sorted(placed))
-            if step := next(filter(None, sums), None):
-                steps[f] = step
-        if not steps:
-            raise NotDrawn(f"the numbers {', '.join(map(str, missing))} of the report cannot be made of the others")
-        made |= steps
-        placed += steps
-    return made
+# The most numbers of a graph that its caption names.
+MOST_NAMED = 16
 
 
 @dataclass(frozen=True)
@@ -74,9 +37,19 @@ def adders_of(example: Example) -> Adders:
     numbers = example.spec["taps" if is_filter else "constants"]
     if not facts.graph and any(abs(number) & abs(number) - 1 for number in numbers):
         raise NotDrawn(f"the report {example.beside('.rpt')} has no graph")
-    members = " ".join(map(str, facts.graph)) or "of no adder"
-    caption = f"{example.caption}: graph {members}, {len(facts.graph)} adder{'' if len(facts.graph) == 1 else 's'}{cut_text(example.spec)}"
-    return Adders(caption, sums_of(list(facts.graph)), numbers, is_filter)
+    made = sums_of(example.design, list(facts.graph))
+    if missing := [number for number in facts.graph if number not in made]:
+        raise NotDrawn(f"{example.beside('.vhd')} does not make {missing[0]} of the report's graph: run `opgen generate` again")
+    words = f"graph {graph_text(facts.graph)}{cut_text(example.spec)}"
+    return Adders(f"{example.caption}: {words}", made, numbers, is_filter)
+
+
+def graph_text(members: tuple[int, ...]) -> str:
+    """The numbers of a graph, where they are few, and how many adders make them."""
+    adders = f"{len(members)} adder{'' if len(members) == 1 else 's'}"
+    if len(members) > MOST_NAMED:
+        return f"of {adders}"
+    return f"{' '.join(map(str, members)) or 'of no adder'}, {adders}"
 
 
 def times(number: int) -> str:
@@ -204,12 +177,17 @@ class Layout:
         return self.lefts()[column] - LAST_PIECE - TRACK * (len(tracks) - tracks.index(number) - 0.5)
 
 
+def depths_of(made: dict[int, Sum]) -> dict[int, int]:
+    """How many adders, one behind the other, each number takes."""
+    depths = {1: 0}
+    for number, step in made.items():
+        depths[number] = 1 + max(depths[step.u], depths[step.v])
+    return depths
+
+
 def placed(adders: Adders) -> Layout:
     """The adders one below the other, in columns by their depth; what reads them for an output in the last column."""
-    layout = Layout()
-    depths = {1: 0}
-    for number, step in adders.made.items():
-        depths[number] = 1 + max(depths[step.u], depths[step.v])
+    layout, depths = Layout(), depths_of(adders.made)
     order = sorted(depths, key=lambda number: (depths[number], number))
     layout.columns, layout.last = depths, 1 + max(depths.values())
     layout.rows = {number: TOP + at * ROW for at, number in enumerate(order)}
@@ -284,8 +262,8 @@ def draw_delays(picture: Picture, layout: Layout, taps: list[int]) -> None:
     picture.text(middle, boxes[-1].y + ROW - NODE_HIGH / 2 + 14, "y", "middle")
 
 
-def graph(example: Example) -> Picture:
-    adders = adders_of(example)
+def drawn_whole(adders: Adders) -> Picture:
+    """Every adder, and every output or tap that is not 0."""
     layout = placed(adders)
     rows = [*layout.rows.values(), *(reader.y + (ROW if adders.is_filter else 0) for reader in layout.readers if not reader.is_sum)]
     right = layout.lefts()[-1] + layout.widths()[-1]
@@ -298,3 +276,78 @@ def graph(example: Example) -> Picture:
         picture.text(right + 24, TOP + 4, "y = 0")
     picture.text(8, max(rows) + ROW - 10, adders.caption)
     return picture
+
+
+# Summed up, where a picture of all adders and taps would be too large.
+
+# The most adders and taps together that are drawn one by one; the height of a line of words, and of the boxes.
+MOST_BOXES, LINE, BOX_HIGH = 80, 17, 70
+
+
+def counted(count: int, word: str) -> str:
+    return f"{count} {word}{'' if count == 1 else 's'}"
+
+
+def sums_by_depth(made: dict[int, Sum]) -> Iterator[list[str]]:
+    """What is made at each depth, in words."""
+    numbers: dict[int, list[int]] = {}
+    for number, depth in depths_of(made).items():
+        numbers.setdefault(depth, []).append(number)
+    for depth in sorted(numbers.keys() - {0}):
+        found = numbers[depth]
+        yield [f"depth {depth}", counted(len(found), "adder"), f"{min(found)} x to {max(found)} x" if len(found) > 1 else times(found[0])]
+
+
+def readers_in_words(adders: Adders) -> list[str]:
+    """What reads the numbers, in words."""
+    different = len({odd_and_shift(number)[0] for number in adders.numbers if number})
+    lines = [f"{len(adders.numbers)} {'taps' if adders.is_filter else 'constants'}", counted(different, "odd part")]
+    if adders.is_filter:
+        zeros = adders.numbers.count(0)
+        last = max(at for at, number in enumerate(adders.numbers) if number)
+        lines[0] += f", {zeros} of them 0" if zeros else ""
+        lines.append(f"{len(adders.numbers) - zeros} products, {counted(last, 'delay')}")
+    return lines
+
+
+def summed_up(adders: Adders) -> Picture:
+    """A box for the adders of each depth, and one for all that reads them."""
+    boxes = [(words, "#dde8f4") for words in sums_by_depth(adders.made)] + [(readers_in_words(adders), "#f4ecdd")]
+    widths = [LETTER * max(map(len, words)) + 24 for words, _ in boxes]
+    middle, left = TOP + BOX_HIGH / 2 - 10, 8.0
+    wide = left + 34 + sum(width + 28 for width in widths) + 60
+    picture = Picture(max(wide, LETTER * len(adders.caption) + 16), TOP + BOX_HIGH + 40)
+    picture.box(left, middle - NODE_HIGH / 2, 30, NODE_HIGH, "white")
+    picture.text(left + 15, middle + 4, "x", "middle")
+    left += 30
+    for (words, fill), width in zip(boxes, widths):
+        picture.arrow([(left, middle), (left + 28, middle)])
+        left += 28
+        picture.box(left, middle - BOX_HIGH / 2, width, BOX_HIGH, fill)
+        for at, line in enumerate(words):
+            picture.text(left + width / 2, middle + 4 + LINE * (at - (len(words) - 1) / 2), line, "middle")
+        left += width
+    picture.arrow([(left, middle), (left + 28, middle)])
+    picture.text(left + 34, middle + 4, "y" if adders.is_filter else "y0 ..")
+    picture.text(8, TOP + BOX_HIGH + 22, adders.caption)
+    return picture
+
+
+def is_large(adders: Adders) -> bool:
+    return len(adders.made) + len(adders.numbers) - adders.numbers.count(0) > MOST_BOXES
+
+
+def words_of(adders: Adders) -> str:
+    """What the picture shows, in words."""
+    if is_large(adders):
+        return "The adders, counted by how many stand one behind the other, and what reads them."
+    delays = " A dashed box holds the sum for so many cycles." if adders.is_filter else ""
+    return f"The adders: an arrow has the sign and the shift with which a number goes into a sum.{delays}"
+
+
+def picture_of(adders: Adders) -> Picture:
+    return summed_up(adders) if is_large(adders) else drawn_whole(adders)
+
+
+def graph(example: Example) -> Picture:
+    return picture_of(adders_of(example))

@@ -1,8 +1,9 @@
-"""The bit heap of a product: its bits by columns, and the two rows that compression leaves."""
+"""The bit heap of a product: its bits by columns, and the two rows that compression leaves; and that of a sum of products."""
 from collections.abc import Iterator
 
 from opgenlib import vhdl
 from opgenlib.drawings.example import Example, NotDrawn
+from opgenlib.drawings.sums import sum_heap
 from opgenlib.svg import LETTER, Picture
 
 STEP = 26
@@ -72,6 +73,8 @@ def draw_heads(picture: Picture, count: int, lowest: int) -> None:
 
 def heap(example: Example) -> Picture:
     spec, design = example.spec, example.design
+    if spec["kind"] == "sop":
+        return sum_heap(example)
     rows = next((driver.exprs[0][2] for driver in design.drivers if driver.exprs[0][:2] == ("chain", "+")), None)
     if rows is None:
         raise NotDrawn("this heap needs no sum")

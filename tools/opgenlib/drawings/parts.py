@@ -1,14 +1,19 @@
 """What each cell of a circuit does, as `digit 5: subtract` or `column 7: sum`: found from how its cells read each other."""
+import re
 from collections.abc import Iterable, Iterator
 from dataclasses import dataclass
 
 from opgenlib import vhdl
+from opgenlib.drawings.adders import Multiples, is_sum, read_place
 from opgenlib.drawings.example import Example
 
 # A signal and one of its bits.
 Bit = tuple[str, int]
 PRODUCT = "product of bits"
 RANGE_TEST = "test of the range"
+MULTIPLE = r"-?\d+ x"
+# The most multiples that are named one by one.
+MOST_WORDS = 6
 
 
 @dataclass(frozen=True, order=True)
@@ -41,13 +46,10 @@ def places_of(parts: list[Part]) -> Iterator[str]:
         place = f"{where} {first}: " if first == last else f"{where}s {first} to {last}: "
         what = sorted({part.what for part in inside}, reverse=True)
         tables = len(what) > 1 and all(word.startswith("table of ") for word in what)
+        if len(what) > MOST_WORDS and all(re.fullmatch(MULTIPLE, word) for word in what):
+            numbers = sorted(int(word.removesuffix(" x")) for word in what)
+            what = [f"{numbers[0]} x to {numbers[-1]} x"]
         yield (place if where else "") + ("tables" if tables else ", ".join(what))
-
-
-def read_place(name: str) -> tuple[str, int]:
-    """The node that a signal's name tells of, and how many cycles later the copy is."""
-    node, _, copy = name.partition("_")
-    return node, int(copy or 0)
 
 
 class Circuit:
@@ -58,6 +60,9 @@ class Circuit:
         self.widths = {signal.name: signal.width for signal in design.signals}
         self.drivers = {driver.to: driver for driver in design.drivers if driver.kind != "output"}
         self.outputs = {driver.to: driver.exprs[0] for driver in design.drivers if driver.kind == "output"}
+        # What the sums of half adders read: their carries read the same.
+        chains = (driver.exprs[0] for driver in self.drivers.values() if driver.kind == "assign" and driver.exprs[0][:2] == ("chain", "xor"))
+        self.halves = {str(chain[2]) for chain in chains}
 
     def expr(self, name: str) -> tuple:
         """What drives the node of a name."""
@@ -126,11 +131,17 @@ def table_part(circuit: Circuit, columns: dict[Bit, int], node: str, lowest: int
     source = expr[1] if expr[0] in ("part", "name") else address
     high, low = expr[2:] if expr[0] == "part" else (circuit.widths[source] - 1, 0)
     has_taps = any(driver.kind == "register" and not read_place(driver.to)[1] for driver in circuit.drivers.values())
-    return Part("tap" if has_taps else "", tap_of(circuit, source), f"table of {slice_text(high, low)}")
+    return Part("tap" if has_taps else "", tap_of(circuit, source), f"table of {slice_text(high, low, port_of(circuit, source))}")
 
 
-def slice_text(high: int, low: int) -> str:
-    return f"x({high}..{low})" if high > low else f"x({high})"
+def slice_text(high: int, low: int, name: str = "x") -> str:
+    return f"{name}({high}..{low})" if high > low else f"{name}({high})"
+
+
+def port_of(circuit: Circuit, source: str) -> str:
+    """The input that a signal is, `x` where it is one that a delay line holds."""
+    expr = circuit.expr(source)
+    return expr[1] if expr[0] == "port" else "x"
 
 
 def tap_of(circuit: Circuit, name: str) -> int:
@@ -195,9 +206,19 @@ def gate_of(circuit: Circuit, expr: tuple) -> str | None:
         case ("chain", "or", _):
             return "carry"
         case ("not", ("chain", "and", operands)) | ("chain", "and", operands):
-            wide = [operand for operand in operands if operand[0] == "part" and not circuit.kind(operand[1]) == "table"]
-            return PRODUCT if len(wide) == len(operands) else "carry"
+            is_product = all(is_input_bit(circuit, operand) for operand in operands) and str(operands) not in circuit.halves
+            return PRODUCT if is_product else "carry"
     return None
+
+
+def is_input_bit(circuit: Circuit, operand: tuple) -> bool:
+    """Whether a gate reads a bit of an input, or of a word that is no table's."""
+    match operand:
+        case ("part", name, _, _):
+            return circuit.kind(name) != "table"
+        case ("name", name):
+            return circuit.is_input(name)
+    return False
 
 
 def heap_parts(circuit: Circuit) -> Iterator[tuple[str, Part]]:
@@ -251,56 +272,14 @@ def sign_parts(circuit: Circuit) -> Iterator[tuple[str, Part]]:
 # The graphs of adders.
 
 
-def value_of(circuit: Circuit, values: dict[str, int], expr: tuple) -> int:
-    """The word of an expression over known words."""
-    match expr:
-        case ("name", name):
-            return values[name]
-        case ("part", name, high, low):
-            return values[name] >> low & (1 << high - low + 1) - 1
-        case ("bits", bits):
-            return int(bits, 2)
-        case ("chain", "&", pieces):
-            word = 0
-            for piece in pieces:
-                word = word << vhdl.width_in(piece, circuit.widths, {}) | value_of(circuit, values, piece)
-            return word
-        case ("chain", "+" | "-" as operator, (one, other)):
-            left, right = (value_of(circuit, values, operand) for operand in (one, other))
-            return left + right if operator == "+" else left - right
-    raise ValueError(f"no expression of a graph: {expr}")
-
-
-def is_linear(expr: tuple) -> bool:
-    """Whether an expression is a sum, a difference or bits of nodes; behind the graph stands what brings the output into its range."""
-    return expr[0] in ("name", "part", "bits") or expr[0] == "chain" and expr[1] in "&+-"
-
-
-def multiples_of(circuit: Circuit) -> dict[str, int]:
-    """How many times the input each node is in the first cycle, where all that registers hold is 0."""
-    values: dict[str, int] = {signal.name: 0 for signal in circuit.design.signals}
-    for driver in circuit.design.drivers:
-        if driver.kind == "assign" and is_linear(driver.exprs[0]):
-            values[driver.to] = value_of(circuit, values, driver.exprs[0]) % (1 << circuit.widths[driver.to])
-        elif driver.kind == "assign" and driver.exprs[0][0] == "port":
-            values[driver.to] = 1
-        for copy in (name for name in values if driver.kind == "assign" and name.startswith(f"{driver.to}_")):
-            values[copy] = values[driver.to]
-    widths = circuit.widths
-    return {node: value - (1 << widths[node]) if value >> widths[node] - 1 else value for node, value in values.items()}
-
-
 def graph_parts(circuit: Circuit, taps: list[int]) -> Iterator[tuple[str, Part]]:
     """The adders by what they make of the input, and the sums of taps, the first tap last. Some last tap is a product without a sum."""
-    multiples, sums = multiples_of(circuit), []
-    for driver in circuit.design.drivers:
-        if driver.kind == "assign" and driver.exprs[0][:2] in (("chain", "+"), ("chain", "-")):
-            read = [read_place(name)[0] for name in vhdl.names_in(driver.exprs[0])]
-            is_tap = any(circuit.kind(name) == "register" or circuit.expr(name)[0] == "bits" for name in read)
-            if taps and is_tap:
-                sums.append(driver.to)
-            else:
-                yield driver.to, Part("", 0, f"{multiples[driver.to]} x")
+    multiples, sums = Multiples(circuit.design), []
+    for driver in filter(is_sum, circuit.design.drivers):
+        if taps and multiples.reads_other(driver):
+            sums.append(driver.to)
+        else:
+            yield driver.to, Part("", 0, f"{multiples.factors[driver.to]} x")
     for name, at in zip(reversed(sums), (at for at, tap in enumerate(taps) if tap)):
         yield name, Part("tap", at, "sum")
 
@@ -340,7 +319,7 @@ def kind_parts(circuit: Circuit, spec: dict) -> dict[str, Part]:
     """What the nodes of a kind do."""
     kind = spec["kind"]
     match kind:
-        case "scale" | "fir" | "multiply" | "poly":
+        case "scale" | "fir" | "multiply" | "poly" | "sop":
             return dict(heap_parts(circuit))
         case "divide" if spec.get("signed", False):
             return dict(digit_parts(circuit)) | dict(sign_parts(circuit))

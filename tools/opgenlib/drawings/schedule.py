@@ -3,8 +3,9 @@ from collections.abc import Callable
 from dataclasses import dataclass
 
 from opgenlib import vhdl
+from opgenlib.drawings.adders import read_place
 from opgenlib.drawings.example import Example, NotDrawn
-from opgenlib.drawings.parts import RANGE_TEST, Part, parts_of, read_place, words_of
+from opgenlib.drawings.parts import RANGE_TEST, Part, parts_of, words_of
 from opgenlib.report import Report
 from opgenlib.svg import LETTER, Picture
 

@@ -8,8 +8,10 @@ from typing import Any
 from .. import schema
 from ..places import Place
 from ..specification import SHIFTS, NotToml, Specification, load, most_signal, shift_of
+from ..terms import MOST_TOTAL, Term, terms_of, total_bits
 
 MOST_WRITTEN = 40
+NAME_RULE = "1 to 32 of small letters, digits and single _, a letter first"
 # Of a decimal text.
 MOST_DIGITS = 9
 TYPES = {bool: "a truth value", int: "a whole number", float: "a float", str: "a text", list: "an array", dict: "a table"}
@@ -22,6 +24,16 @@ def type_name(value: Any) -> str:
 def short(text: str) -> str:
     line = text.split("\n")[0]
     return line if line == text and len(line) <= MOST_WRITTEN else f"{line[:MOST_WRITTEN]}.."
+
+
+def line_name(array: str, line: int) -> str:
+    """A table of an array, in words."""
+    return f"delay line {line}" if array == "delay" else f"table {line} of {array}"
+
+
+def key_name(key: str, line: int) -> str:
+    """A key of the document, or of a table of an array."""
+    return f"{key} of {line_name(schema.array_with(key), line)}" if line else key
 
 
 class Explainer:
@@ -53,15 +65,25 @@ class Explainer:
         """The document with each later version."""
         return (self.table | {"version": version} for version in schema.versions() if version > self.version)
 
-    def line_table(self, line: int) -> dict[str, Any]:
-        """The document, or a delay line by its number."""
-        return self.table["delay"][line - 1] if line else self.table
+    def line_table(self, key: str, line: int) -> dict[str, Any]:
+        """The document, or the table by its number in the array whose tables have a key."""
+        return self.table[schema.array_with(key)][line - 1] if line else self.table
 
     def path(self, key: str, line: int) -> tuple[str | int, ...]:
-        return ("delay", line - 1, key) if line else (key,)
+        return (schema.array_with(key), line - 1, key) if line else (key,)
 
     def rules(self, key: str, line: int) -> dict:
-        return schema.line_rules_of(key) if line else schema.rules_of(key, self.table)
+        return schema.line_rules_of(key, self.line_table(key, line)) if line else schema.rules_of(key, self.table)
+
+    def counted(self, line: int) -> tuple[str, int]:
+        """The array, and the place in it from 0, of a table by its number among those of all arrays."""
+        for array in schema.TABLES:
+            items = self.table.get(array)
+            count = len(items) if isinstance(items, list) else 0
+            if line <= count:
+                return array, line - 1
+            line -= count
+        raise IndexError(line)
 
     def written(self, *path: str | int) -> str:
         """What is written at a path, or else the value."""
@@ -69,13 +91,11 @@ class Explainer:
         return short(spot.written) if spot and spot.written else ""
 
     def unknown_key(self, line: int, at: int) -> Iterator[str]:
-        table = self.line_table(line)
-        key = sorted(table, key=str.encode)[at]
-        place = self.spec.key_place(*self.path(key, line))
         if line:
-            known = list(schema.LINE["properties"])
-            yield f'{self.at(place)}: unknown key "{key}" of delay line {line}; its keys are {", ".join(known)}'
+            yield self.unknown_in(*self.counted(line), at)
             return
+        key = sorted(self.table, key=str.encode)[at]
+        place = self.spec.key_place(key)
         known = [one for one in schema.keys_of(self.table) if one != key]
         its = "its keys" if self.of_kind else "the keys"
         yield f'{self.at(place)}: unknown key "{key}"{self.of_kind}; {its} are {", ".join(known)}'
@@ -84,19 +104,32 @@ class Explainer:
         elif others := schema.kinds_with(key):
             yield f"  {key} is a key of {', '.join(others)}: take it out, or change kind"
 
+    def unknown_in(self, array: str, line: int, at: int) -> str:
+        """An unknown key of a table of an array, both by their places from 0."""
+        key = sorted(self.table[array][line], key=str.encode)[at]
+        place = self.spec.key_place(array, line, key)
+        known = ", ".join(schema.TABLES[array]["properties"])
+        return f'{self.at(place)}: unknown key "{key}" of {line_name(array, line + 1)}; its keys are {known}'
+
     def missing_key(self, key: str, line: int = 0) -> Iterator[str]:
         if line:
-            place = self.spec.key_place("delay", line - 1)
-            yield f'{self.at(place)}: delay line {line} has no key "{key}"'
+            array = schema.array_with(key)
+            place = self.spec.key_place(array, line - 1)
+            yield f'{self.at(place)}: {line_name(array, line)} has no key "{key}"'
         else:
             yield f'{self.file}: the key "{key}"{self.of_kind} is missing'
         if example := self.example(key, line):
             yield f"  add {'it' if line else 'a line'} as: {example}"
+        later = (table["version"] for table in self.newer() if not line and not schema.is_needed(key, table))
+        if version := next(later, None):
+            yield f"  or write version = {version}, in which it is optional"
 
     def example(self, key: str, line: int) -> str:
         """How a template writes a key, with its comment."""
         kind = self.table["kind"] if self.of_kind else "scale"
-        path = schema.TOP / "templates" / ("delay.toml" if line else f"{kind}.toml")
+        if line:
+            kind = "delay" if schema.array_with(key) == "delay" else "sop"
+        path = schema.TOP / "templates" / f"{kind}.toml"
         try:
             place = load(path).key_place(*self.path(key, 1 if line else 0))
             return path.read_text(encoding="utf-8").splitlines()[place.line - 1] if place else ""
@@ -105,7 +138,7 @@ class Explainer:
 
     def wrong_type(self, key: str, line: int = 0) -> Iterator[str]:
         path, rules = self.path(key, line), self.rules(key, line)
-        value = self.line_table(line)[key]
+        value = self.line_table(key, line)[key]
         if key == "denominator" and type(value) is int:
             yield f"{self.at(self.spec.key_place(*path))}: denominator is beside decimal texts, which have their own"
             yield "  take the denominator out, or write the coefficients as whole numbers"
@@ -119,7 +152,7 @@ class Explainer:
             path, value = (*path, index), value[index]
             name, hint = f"element {index + 1} of {key}", ""
         else:
-            name = f"{key} of delay line {line}" if line else key
+            name = key_name(key, line)
             hint = self.instead(value, rules, self.written(*path))
         written = self.written(*path)
         found = f"{written}, {type_name(value)}" if written else type_name(value)
@@ -157,26 +190,33 @@ class Explainer:
 
     def bad_name(self) -> Iterator[str]:
         name = self.table["name"]
-        why = why_bad(name)
+        why = why_bad(name, schema.SCHEMA["properties"]["name"], "or a name of a port of some operator")
         found = self.written("name") or repr(name)
         yield f"{self.at(self.spec.value_place('name'))}: name is {found}" + (f": {why}" if why else "")
-        yield "  expected 1 to 32 of small letters, digits and single _, a letter first, and no word of VHDL or port"
+        yield f"  expected {NAME_RULE}, and no word of VHDL or port"
 
     def bad_kind(self) -> Iterator[str]:
         kinds = schema.rules_of("kind", self.table).get("enum", schema.kinds())
         kind = self.table["kind"]
         yield f"{self.at(self.spec.value_place('kind'))}: kind is {self.written('kind')}; expected one of {', '.join(kinds)}"
-        if kind in schema.kinds():
-            yield f"  kind {kind} asks for version = 2"
+        if first := next((table["version"] for table in self.newer() if kind in schema.rules_of("kind", table)["enum"]), None):
+            yield f"  kind {kind} asks for version = {first}"
 
     def out_of_range(self, key: str, *numbers: int) -> Iterator[str]:
         line, found = numbers if len(numbers) == 2 else (0, numbers[0])
-        value, rules = self.line_table(line)[key], self.rules(key, line)
-        name = f"{key} of delay line {line}" if line else key
+        if key == "scaled" and not line and not self.table.get("scaled"):
+            yield f"{self.at(self.spec.key_place('scaled'))}: there is no table of scaled or product; expected at least one"
+            yield "  write [[product]] with a and b, or [[scaled]] with input and coefficient"
+            return
+        value, rules = self.line_table(key, line)[key], self.rules(key, line)
+        name = key_name(key, line)
         if isinstance(value, list):
             yield from self.array_out_of_range(key, value, rules, found)
             return
         spot = self.spec.value_place(*self.path(key, line))
+        if isinstance(value, str) and line and key != "class":
+            yield from self.port_out_of_range(key, line, value)
+            return
         if isinstance(value, str):
             yield from self.text_out_of_range(name, value, rules, found, spot)
             return
@@ -188,7 +228,7 @@ class Explainer:
             most = schema.rules_of(key, self.table | {"version": 2})["maximum"]
             if found <= most:
                 yield f"  version = 2 takes inputs of up to {most} bits"
-        if "minimum" in rules and key.startswith("width") and found == 1 and self.table.get("signed") is True:
+        if "minimum" in rules and key.startswith("width") and found == 1 and self.line_table(key, line).get("signed") is True:
             yield "  a signed input has two bits or more"
 
     def later_bounds(self, key: str, now: str) -> str:
@@ -207,11 +247,29 @@ class Explainer:
         if length == found and length not in range(1, 33):
             yield f"{'  ' if words else self.at(place) + ': '}{name} has {length} bytes; expected 1 to 32"
 
+    def port_out_of_range(self, key: str, line: int, name: str) -> Iterator[str]:
+        """A name of an input that is refused, or a name that no input has."""
+        path = self.path(key, line)
+        head = f"{self.at(self.spec.value_place(*path))}: {key_name(key, line)} is {self.written(*path) or repr(name)}"
+        names = [one["name"] for one in self.table["input"]]
+        if key != "name":
+            yield f"{head}, the name of no input; expected one of {', '.join(names)}"
+            return
+        if name in names[: line - 1]:
+            yield f"{head}, as is that of {line_name('input', names.index(name) + 1)}; expected another name"
+        elif name == self.table["name"]:
+            yield f"{head}, as is that of the operator; expected another name"
+        else:
+            why = why_bad(name, schema.TABLES["input"]["properties"]["name"], "or rtl, clk, ce or y")
+            yield head + (f": {why}" if why else "")
+            yield f"  expected {NAME_RULE}, and no word of VHDL, rtl, clk, ce or y"
+
     def array_out_of_range(self, key: str, items: list, rules: dict, found: int) -> Iterator[str]:
         least, most = rules.get("minItems", 0), rules.get("maxItems", len(items))
         place = self.spec.value_place(key)
         if found == len(items) and not least <= len(items) <= most:
             yield f"{self.at(place)}: found {found} {key}; expected {schema.bounds(length_rules(rules))}{self.for_kind}"
+            yield from self.without_search(key, items)
             return
         numerators, form = numerators_of(items), schema.forms_of(rules)[0]
         low, high = form.get("minimum"), form.get("maximum")
@@ -221,11 +279,24 @@ class Explainer:
                 over = f", {number} over the common denominator" if isinstance(items[index], str) else ""
                 written = self.written(key, index) or items[index]
                 yield f"{self.at(place)}: element {index + 1} of {key} is {written}{over}; expected {low} to {high}"
+                yield from self.without_search(key, items)
                 return
         if key == "taps" and found == len(odd_parts(items)):
             yield f"{self.at(place)}: taps have {found} different odd parts; expected at most 8"
+            yield from self.without_search(key, items)
             return
         yield f"{self.at(place)}: {key} is out of range: {found}"
+
+    def without_search(self, key: str, items: list) -> Iterator[str]:
+        """That the numbers would be in range without `extra`, where that is so."""
+        newest = schema.versions()[-1]
+        table = {name: value for name, value in self.table.items() if name != "extra"} | {"version": newest}
+        rules = schema.rules_of(key, table)
+        if "extra" not in self.table or any(schema.faults(items, rules)):
+            return
+        version = "" if self.version == newest else f"write version = {newest} and "
+        length, numbers = schema.bounds(length_rules(rules)), schema.bounds(schema.forms_of(rules)[0])
+        yield f"  {version}take extra out: without a search there may be {length} {key}, each {numbers}"
 
     def not_exact(self, index: int) -> Iterator[str]:
         if "coefficients" in self.table and self.table.get("kind") in ("scale", "fir"):
@@ -241,6 +312,8 @@ class Explainer:
                 yield from way_round(self.table | {"out_lsb": least})
         elif self.table.get("kind") == "tfir":
             yield from self.tap_not_exact(index)
+        elif self.table.get("kind") == "sop":
+            yield from self.term_not_exact(index)
         else:
             place = self.spec.value_place("exact")
             yield f"{self.at(place)}: exact outputs are not possible{self.for_kind}; write exact = false"
@@ -271,7 +344,35 @@ class Explainer:
         most = self.table["lsb"] + min((tap & -tap).bit_length() - 1 for tap in taps if tap)
         yield f"  write out_lsb = {most}, or exact = false"
 
+    def term_place(self, term: Term) -> Place | None:
+        """Where a term of a sum of products is."""
+        key = {"scaled": ("scaled", term.line - 1, "coefficient"), "product": ("product", term.line - 1), "offset": ("offset",)}
+        return self.spec.value_place(*key[term.key])
+
+    def term_not_exact(self, index: int) -> Iterator[str]:
+        terms, out = terms_of(self.table), self.table["out_lsb"]
+        found = f"term {index}, from 0, is {terms[index].words}"
+        yield f"{self.at(self.term_place(terms[index]))}: {found}: its factor is not whole in units of the output's last place, 2^{out}"
+        over = max(term.factor.denominator for term in terms)
+        least = out - (over.bit_length() - 1)
+        if any(over % term.factor.denominator for term in terms) or over & (over - 1):
+            yield "  write exact = false: no out_lsb makes every term whole"
+        elif is_out_lsb(self.table, least):
+            yield f"  write out_lsb = {least} or less, or exact = false"
+        else:
+            yield "  write exact = false, or move the places of all inputs up"
+
+    def term_coarse(self, shift: int) -> Iterator[str]:
+        """The first term of a sum of products that is too far from the output's last place."""
+        term = next(term for term in terms_of(self.table) if term.shift == shift)
+        formula = {"scaled": "lsb - out_lsb", "product": "lsb of a + lsb of b - out_lsb", "offset": "-out_lsb"}[term.key]
+        yield f"{self.at(self.term_place(term))}: {formula} is {shift} for the term {term.words}; expected -48 to 48"
+        yield f"  {'raise' if shift > 0 else 'lower'} out_lsb, now {self.table['out_lsb']}, or bring the lsb of the inputs nearer to it"
+
     def coarse(self, shift: int) -> Iterator[str]:
+        if self.table.get("kind") == "sop":
+            yield from self.term_coarse(shift)
+            return
         place = self.spec.value_place("out_lsb")
         formula, limits = SHIFTS.get(self.table.get("kind", ""), ("", {}))
         if shift_of(self.table) != shift or not self.is_version():
@@ -283,9 +384,14 @@ class Explainer:
         yield f"  {'raise' if shift > most else 'lower'} out_lsb, now {now}, or bring the lsb of the input nearer to it"
 
     def too_wide(self, need: int) -> Iterator[str]:
+        if self.table.get("kind") == "sop" and need > MOST_TOTAL and need == total_bits(self.table):
+            yield f"{self.file}: a term and its places would need {need} bits; expected at most {MOST_TOTAL}"
+            yield "  fewer bits of input, lowest bits nearer to each other, or smaller coefficients"
+            return
         most = most_signal(self.version)
         yield f"{self.file}: a signal would need {need} bits; expected at most {most} in version {self.version}"
-        ways = "fewer bits of input, fewer coefficients, or a higher out_lsb"
+        parts = "terms" if self.table.get("kind") == "sop" else "coefficients"
+        ways = f"fewer bits of input, fewer {parts}, or a higher out_lsb"
         more = f"version = 2, which has {most_signal(2)}; or " if self.version == 1 and need <= most_signal(2) else ""
         yield f"  {more}{ways}"
 
@@ -308,7 +414,8 @@ class Explainer:
 
     def too_large(self) -> Iterator[str]:
         yield f"{self.file}: the design would have more than 65,536 signals"
-        yield "  fewer coefficients or bits, a longer period (fewer registers), or a higher out_lsb"
+        parts = "products" if self.table.get("kind") == "sop" else "coefficients"
+        yield f"  fewer {parts} or bits, a longer period (fewer registers), or a higher out_lsb"
 
 
 def is_lsb(key: str) -> bool:
@@ -386,11 +493,10 @@ def numerators_of(items: list) -> list[int]:
     return [int(Fraction(text) * 10**places) for text in items]
 
 
-def why_bad(name: str) -> str:
-    """Which part of the rule of names a name breaks."""
-    rule = schema.SCHEMA["properties"]["name"]
+def why_bad(name: str, rule: dict, others: str) -> str:
+    """Which part of the rule of names a name breaks; `others` are those that are refused and no words of VHDL."""
     if name in rule["not"]["anyOf"][1]["enum"]:
-        return "a word of VHDL, or a name of a port of some operator"
+        return f"a word of VHDL, {others}"
     for pattern, why in (
         (r"\Z", "it is empty"),
         (r"(?s:.{33})", "it is longer than 32"),
@@ -399,7 +505,7 @@ def why_bad(name: str) -> str:
         (r"[^a-z]", "it does not begin with a letter"),
         (r".*__", "it has two _ in a row"),
         (r".*_\Z", "it ends with _"),
-        (r"s[0-9]+\Z", "signals are called s and a number"),
+        (rule["not"]["anyOf"][0]["pattern"].replace("$", r"\Z"), "signals are called s and a number"),
     ):
         if re.match(pattern, name):
             return why

@@ -266,7 +266,7 @@ over_in128 n (negsuc d) small few less = (small_in128 (neg_ℤ n) (omega (arith,
 -- what holds of its meaning
 pub pair_lawful : (p : Pair) → IsLawful (pair_meaning p)
 pair_lawful p = record {
-  some_input = omega arith;
+  some_input = λ is. omega arith;
   input_bits = λ is. all_two HasBit _ _ (input_bit p.a is.a) (input_bit p.b is.b);
   wide = λ version is. quotients_wide (most_signal version) p.exact p (signal_limit version).0 is.ranges
       (is.narrow (quotient_format p).width refl);

@@ -1,5 +1,5 @@
 -- What holds of polynomials: they are within their limits.
-use Rattle.std.proofs.Common.{◌*◌, ◌^◌, arith, refl}
+use Rattle.std.proofs.Common.{◌*◌, ◌^◌, arith}
 use Rattle.std.proofs.lemmas.Int.{ints}
 use Rattle.std.proofs.Math.Nat.{mul-le-mul}
 use Rattle.std.specs.Prelude.{ℤ, pos, ◌*ℤ◌, unsigned_abs}
@@ -43,7 +43,7 @@ poly_in128 p x fits of =
 -- what holds of its meaning
 pub poly_lawful : (p : Polynomial) → IsLawful (poly_meaning p)
 poly_lawful p = record {
-  some_input = omega arith;
+  some_input = λ is. omega arith;
   input_bits = λ is. all_one HasBit _ (input_bit p.input is.input);
   wide = λ version is.
       let (some, few) = poly_width p is.ranges in

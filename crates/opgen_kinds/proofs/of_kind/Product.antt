@@ -31,7 +31,7 @@ products_held p a b of_a of_b y good =
 -- what holds of its meaning
 pub product_lawful : (p : Product) → IsLawful (product_meaning p)
 product_lawful p = record {
-  some_input = omega arith;
+  some_input = λ is. omega arith;
   input_bits = λ is. all_two HasBit _ _ (input_bit p.a is.a) (input_bit p.b is.b);
   wide = λ version is. all_one (HasWidth (most_signal version)) _ (some_width (product_places p), omega (arith, is.narrow (product_need p) refl));
   limit = λ version h. h;

@@ -149,7 +149,7 @@ multiples_wide version m fits few =
 -- what holds of its meaning
 pub several_lawful : (m : Several) → IsLawful (several_meaning m)
 several_lawful m = record {
-  some_input = omega arith;
+  some_input = λ is. omega arith;
   input_bits = λ is. all_one HasBit _ (input_bit m.input is.input);
   wide = λ version is. multiples_wide version m is.ranges (only_within (most_input version) m.input is.inputs);
   limit = λ version h. omega (arith, ints);

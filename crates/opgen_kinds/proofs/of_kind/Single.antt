@@ -83,7 +83,7 @@ roots_narrow version r is =
 -- what holds of its meaning
 pub single_lawful : (r : Single) → IsLawful (single_meaning r)
 single_lawful r = record {
-  some_input = omega arith;
+  some_input = λ is. omega arith;
   input_bits = λ is. all_one HasBit _ (input_bit r.input is.input);
   wide = λ version is. wider (most_signal version) (root_ports r.exact r) (signal_limit version).0
       (roots_wide r.exact r is.ranges is.fine.1);

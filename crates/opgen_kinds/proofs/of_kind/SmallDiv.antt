@@ -45,7 +45,7 @@ smalls_wide false c fits =
 -- what holds of its meaning
 pub small_lawful : (c : SmallDiv) → IsLawful (small_meaning c)
 small_lawful c = record {
-  some_input = omega arith;
+  some_input = λ is. omega arith;
   input_bits = λ is. all_one HasBit _ (input_bit c.input is.input);
   wide = λ version is. wider (most_signal version) (small_ports c.exact c) (signal_limit version).0 (smalls_wide c.exact c is.ranges);
   limit = λ version h. omega (arith, ints);

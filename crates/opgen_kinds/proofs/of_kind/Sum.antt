@@ -169,7 +169,7 @@ entries_small s (version, by) = (
 -- what holds of its meaning
 pub sum_lawful : (word : Kind) (most : ℕ) (s : Sum) → most ≤ 256 → IsLawful (sum_meaning word most s)
 sum_lawful word most s few = record {
-  some_input = omega arith;
+  some_input = λ is. omega arith;
   input_bits = λ is. all_one HasBit _ (input_bit s.input is.input);
   wide = λ version is. all_one (HasWidth (most_signal version)) _ (some_width (sum_places s), omega (arith, is.narrow (sum_need s) refl));
   limit = λ version h. sum_shift_limit version (sum_shift s) h;

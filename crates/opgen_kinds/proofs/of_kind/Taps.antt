@@ -164,7 +164,7 @@ module _ (f : Taps) (same : f.out_lsb ≡ f.input.lsb) where
 -- what holds of its meaning
 pub taps_lawful : (f : Taps) → IsLawful (taps_meaning f)
 taps_lawful f = record {
-  some_input = omega arith;
+  some_input = λ is. omega arith;
   input_bits = λ is. all_one HasBit _ (input_bit f.input is.input);
   wide = λ version is. all_one (HasWidth (most_signal version)) _ (
     some_width (sum_places (direct f)),

@@ -10,6 +10,7 @@ use Rattle.opgen_spec.proofs.sound.Several.{mcm}
 use Rattle.opgen_spec.proofs.sound.SmallDiv.{constdiv}
 use Rattle.opgen_spec.proofs.sound.Poly.{poly}
 use Rattle.opgen_spec.proofs.sound.Taps.{tfir}
+use Rattle.opgen_spec.proofs.sound.Sop.{sop}
 
 pub sound : (one : Kind) → IsSound one
 sound kind.Scale = scale
@@ -21,3 +22,4 @@ sound kind.Mcm = mcm
 sound kind.Constdiv = constdiv
 sound kind.Poly = poly
 sound kind.Tfir = tfir
+sound kind.Sop = sop

@@ -5,15 +5,15 @@ use Rattle.opgen_ports.proofs.InputPorts.{all_two}
 use Rattle.toml.specs.Data.{Members}
 use Rattle.opgen_document.specs.declared.key.Key.TheVariants as key
 use Rattle.opgen_spec.specs.kinds.{kind_of, entry}
-use Rattle.opgen_spec.proofs.sound.Sound.{IsFew, IsSound}
-use Rattle.opgen_document.specs.Document.{flag_in, flag_at}
+use Rattle.opgen_spec.proofs.sound.Sound.{IsFew, IsSound, none_given}
+use Rattle.opgen_document.specs.Document.{flag_in, flag_at, text_at}
 use Rattle.opgen_document.specs.Versions.{version_of}
 use Rattle.opgen_document.specs.Ranges.{width_outside, near_outside}
 use Rattle.opgen_spec.proofs.Fine.{AreFine, IsFine, own, typed}
 use Rattle.opgen_spec.proofs.Known.{not_there, signed_key}
 use Rattle.opgen_spec.proofs.Ranges.{widest, width_few, input_in, near_in, near_power}
 use Rattle.opgen_spec.proofs.Versions.{IsEarly, early, not_in_early}
-use Rattle.opgen_spec.proofs.Writing.{input_written, near_written, optional_signed_written}
+use Rattle.opgen_spec.proofs.Writing.{input_written, near_written, optional_flag_written}
 
 record HasPair (ms : Members) : Type 0 where
   width_a : IsFine ms key.WidthA (width_outside (widest ms) ms key.WidthA)
@@ -51,7 +51,7 @@ divide = record {
   };
   inputs = λ ms f e. all_two (IsFew ms) _ _ (width_few ms key.WidthA (keys ms f e).width_a) (width_few ms key.WidthB (keys ms f e).width_b);
   written = λ ms f e. let h = keys ms f e in record {
-    signed = optional_signed_written ms (typed ms key.Signed f refl);
+    signed = optional_flag_written ms key.Signed (typed ms key.Signed f refl);
     a = input_written ms key.WidthA key.LsbA h.width_a h.width_a.typed (near_written ms key.LsbA h.lsb_a h.lsb_a.typed);
     b = input_written ms key.WidthB key.LsbB h.width_b h.width_b.typed (near_written ms key.LsbB h.lsb_b h.lsb_b.typed);
     out_lsb = near_written ms key.OutLsb h.out_lsb h.out_lsb.typed;
@@ -59,5 +59,6 @@ divide = record {
   agrees = λ ms. refl;
   marked = λ ms asked. asked;
   has = λ ms f e below. no_sign ms f e (early ms f below);
+  names = λ ms f e. none_given (text_at ms key.Name);
   chosen = λ version may. cc;
 }

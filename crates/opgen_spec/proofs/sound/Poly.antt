@@ -9,8 +9,8 @@ use Rattle.opgen_ports.proofs.InputPorts.{all_one, some_bits}
 use Rattle.toml.specs.Data.{Members}
 use Rattle.opgen_document.specs.declared.key.Key.TheVariants as key
 use Rattle.opgen_spec.specs.kinds.{kind_of, entry}
-use Rattle.opgen_spec.proofs.sound.Sound.{IsFew, IsSound, in_third}
-use Rattle.opgen_document.specs.Document.{value_at, number_at, flag_at, count_at, items_at, small}
+use Rattle.opgen_spec.proofs.sound.Sound.{IsFew, IsSound, none_given, in_third}
+use Rattle.opgen_document.specs.Document.{value_at, text_at, number_at, flag_at, count_at, items_at, small}
 use Rattle.opgen_document.specs.Ranges.{outside, width_outside, coefficients_outside, denominator_outside}
 use Rattle.opgen_spec.specs.kinds.Poly.{poly_of}
 use Rattle.opgen_spec.proofs.Fine.{AreFine, IsFine, own, own_range, not_late}
@@ -100,5 +100,6 @@ poly = record {
   agrees = λ ms. tt;
   marked = λ ms asked. cc;
   has = λ ms f e is. not_late ms kind.Poly f e refl (one_is_first ms f is);
+  names = λ ms f e. none_given (text_at ms key.Name);
   chosen = λ version may. record { third = in_third version may; value = λ ms. refl; range = λ ms. refl };
 }

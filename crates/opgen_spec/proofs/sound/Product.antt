@@ -5,8 +5,8 @@ use Rattle.opgen_ports.proofs.InputPorts.{all_two}
 use Rattle.toml.specs.Data.{Members}
 use Rattle.opgen_document.specs.declared.key.Key.TheVariants as key
 use Rattle.opgen_spec.specs.kinds.{kind_of, entry}
-use Rattle.opgen_spec.proofs.sound.Sound.{IsFew, IsSound, in_third}
-use Rattle.opgen_document.specs.Document.{value_at}
+use Rattle.opgen_spec.proofs.sound.Sound.{IsFew, IsSound, none_given, in_third}
+use Rattle.opgen_document.specs.Document.{value_at, text_at}
 use Rattle.opgen_document.specs.Ranges.{width_outside, power_outside}
 use Rattle.opgen_spec.proofs.Compressors.{IsTaken, compressor_cases, first_without, compressor_written}
 use Rattle.opgen_spec.proofs.Fine.{AreFine, IsFine, own}
@@ -59,5 +59,6 @@ multiply = record {
     λ is. first_without ms h.compressor (one_is_first ms f is),
     three_near ms key.LsbA key.LsbB key.OutLsb f h.lsb_a h.lsb_b h.out_lsb,
   );
+  names = λ ms f e. none_given (text_at ms key.Name);
   chosen = λ version may. record { third = in_third version may; value = λ ms. refl; range = λ ms. refl };
 }

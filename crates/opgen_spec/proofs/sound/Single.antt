@@ -4,8 +4,9 @@ use Rattle.opgen_kinds.specs.declared.kind.Kind.TheVariants as kind
 use Rattle.opgen_ports.proofs.InputPorts.{all_one}
 use Rattle.toml.specs.Data.{Members}
 use Rattle.opgen_document.specs.declared.key.Key.TheVariants as key
+use Rattle.opgen_document.specs.Document.{text_at}
 use Rattle.opgen_spec.specs.kinds.{kind_of, entry}
-use Rattle.opgen_spec.proofs.sound.Sound.{IsFew, IsSound}
+use Rattle.opgen_spec.proofs.sound.Sound.{IsFew, IsSound, none_given}
 use Rattle.opgen_document.specs.Ranges.{width_outside, near_outside}
 use Rattle.opgen_spec.proofs.Fine.{AreFine, IsFine, own}
 use Rattle.opgen_spec.proofs.Ranges.{widest, width_few, unsigned_in, near_in, near_power}
@@ -43,5 +44,6 @@ root = record {
   agrees = λ ms. refl;
   marked = λ ms asked. asked;
   has = λ ms f e. tt;
+  names = λ ms f e. none_given (text_at ms key.Name);
   chosen = λ version may. cc;
 }

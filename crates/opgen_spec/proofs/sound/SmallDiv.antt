@@ -6,8 +6,8 @@ use Rattle.opgen_ports.proofs.InputPorts.{all_one}
 use Rattle.toml.specs.Data.{Members}
 use Rattle.opgen_document.specs.declared.key.Key.TheVariants as key
 use Rattle.opgen_spec.specs.kinds.{kind_of, entry}
-use Rattle.opgen_spec.proofs.sound.Sound.{IsFew, IsSound}
-use Rattle.opgen_document.specs.Document.{value_at, number_at}
+use Rattle.opgen_spec.proofs.sound.Sound.{IsFew, IsSound, none_given}
+use Rattle.opgen_document.specs.Document.{value_at, text_at, number_at}
 use Rattle.opgen_document.specs.Ranges.{outside, width_outside, power_outside}
 use Rattle.opgen_spec.proofs.Fine.{AreFine, IsFine, own, not_late}
 use Rattle.opgen_document.proofs.Ranges.{inside, counted}
@@ -56,5 +56,6 @@ constdiv = record {
     λ is. not_late ms kind.Constdiv f e refl (one_is_first ms f is),
     one_near ms key.Lsb f (keys ms f e).lsb,
   );
+  names = λ ms f e. none_given (text_at ms key.Name);
   chosen = λ version may. cc;
 }

@@ -1,16 +1,18 @@
 -- What is proved of each kind in a file of its own.
-use Rattle.std.proofs.Common.{◌≡◌, ◌≤◌, true, Some, refl}
+use Rattle.std.proofs.Common.{◌≡◌, ◌≤◌, ℕ, true, List, [], Some, refl, arith}
 use Rattle.std.specs.Prelude.{IsTrue}
 use Rattle.toml.specs.Data.{Members}
 use Rattle.opgen_kinds.specs.declared.kind.Kind.{Kind}
 use Rattle.opgen_ports.specs.declared.ports.PortFormat.{PortFormat}
-use Rattle.opgen_operator.specs.Operator.{HasInputsWithin, marks_exact, has_value, IsOperator, IsInVersion}
+use Rattle.opgen_operator.specs.Operator.{HasInputsWithin, given_names, marks_exact, has_value, IsOperator, IsInVersion}
 use Rattle.opgen_operator.specs.Operator as operators
+use Rattle.opgen_operator.specs.GivenNames.{AreGivenNames}
 use Rattle.opgen_operator.specs.Valid.{AgreesOnExact}
+use Rattle.opgen_operator.proofs.Listed.{given_by}
 use Rattle.opgen_document.specs.declared.key.Key.TheVariants as key
 use Rattle.opgen_document.specs.declared.version.Version.{Version}
 use Rattle.opgen_document.specs.declared.version.Version.TheVariants.{First, Second, Third}
-use Rattle.opgen_document.specs.Document.{flag_at, count_at}
+use Rattle.opgen_document.specs.Document.{text_at, flag_at, count_at}
 use Rattle.opgen_document.specs.Keys.{may_be}
 use Rattle.opgen_document.specs.Ranges.{out_width_outside}
 use Rattle.opgen_document.specs.Versions.{since_third}
@@ -33,6 +35,12 @@ in_third First may = cc
 in_third Second may = cc
 in_third Third may = refl
 
+-- a kind whose inputs are not named by the document
+pub none_given : (name : List ℕ) → AreGivenNames name []
+none_given name =
+    given_by name [] (λ k d below. absurd (omega (arith, below))) (λ k d below. absurd (omega (arith, below)))
+    (λ i j d before below. absurd (omega (arith, below)))
+
 pub record IsSound (one : Kind) : Type 0 where
   -- the operator has the kind for which it is read
   pub kind_is : (ms : Members) → operators.kind ((entry one).make ms) ≡ one
@@ -44,5 +52,7 @@ pub record IsSound (one : Kind) : Type 0 where
   pub agrees : (ms : Members) → AgreesOnExact (flag_at ms key.Exact) ((entry one).make ms)
   pub marked : (ms : Members) → IsTrue (marks_exact ((entry one).make ms)) → IsTrue (flag_at ms key.Exact)
   pub has : (ms : Members) → AreFine ms → kind_of ms ≡ Some one → IsInVersion (count_at ms key.Version) ((entry one).make ms)
+  -- the names that the document gives to its inputs are such names
+  pub names : (ms : Members) → AreFine ms → kind_of ms ≡ Some one → AreGivenNames (text_at ms key.Name) (given_names ((entry one).make ms))
   -- where it has the key for the width of its output, that width may be chosen
   pub chosen : (version : Version) → may_be ((entry one).stand version key.OutWidth) ≡ true → IsChosen one version

@@ -6,8 +6,8 @@ use Rattle.opgen_ports.proofs.InputPorts.{all_one}
 use Rattle.toml.specs.Data.{Members}
 use Rattle.opgen_document.specs.declared.key.Key.TheVariants as key
 use Rattle.opgen_spec.specs.kinds.{kind_of, entry}
-use Rattle.opgen_spec.proofs.sound.Sound.{IsFew, IsSound, in_third}
-use Rattle.opgen_document.specs.Document.{value_at, items_at, count_at, small_at}
+use Rattle.opgen_spec.proofs.sound.Sound.{IsFew, IsSound, none_given, in_third}
+use Rattle.opgen_document.specs.Document.{value_at, text_at, items_at, count_at, small_at}
 use Rattle.opgen_document.specs.Ranges.{width_outside, power_outside, coefficients_outside, denominator_outside}
 use Rattle.opgen_document.specs.Fields.{counters_at}
 use Rattle.opgen_kinds.specs.Versions.{AreNear}
@@ -97,6 +97,7 @@ scale = record {
   agrees = λ ms. refl;
   marked = λ ms asked. asked;
   has = λ ms f e. sum_has 1 ms (scale_keys ms f e);
+  names = λ ms f e. none_given (text_at ms key.Name);
   chosen = λ version may. record { third = in_third version may; value = λ ms. refl; range = λ ms. refl };
 }
 
@@ -110,5 +111,6 @@ fir = record {
   agrees = λ ms. refl;
   marked = λ ms asked. asked;
   has = λ ms f e. sum_has 256 ms (fir_keys ms f e);
+  names = λ ms f e. none_given (text_at ms key.Name);
   chosen = λ version may. record { third = in_third version may; value = λ ms. refl; range = λ ms. refl };
 }

@@ -1,5 +1,5 @@
 -- A transposed filter.
-use Rattle.std.specs.Prelude.{◌≡◌, ◌⊎◌, ℤ, pos, true, false, Option, Some, None}
+use Rattle.std.specs.Prelude.{◌≡◌, ◌⊎◌, Bool, ℤ, pos, true, false, Option, Some, None}
 use Rattle.std.specs.Option.{option_or, option_map_or}
 use Rattle.opgen_kinds.specs.declared.taps.Taps.{Taps}
 use Rattle.opgen_operator.specs.declared.operator.Operator.TheVariants as operator
@@ -11,11 +11,11 @@ use Rattle.opgen_document.specs.declared.stand.Stand.{Stand}
 use Rattle.opgen_document.specs.declared.stand.Stand.TheVariants.{Absent, Needed}
 use Rattle.opgen_document.specs.Decimals.{AreNumerators}
 use Rattle.opgen_document.specs.Document.{value_at, items_at, count_at, small_at}
-use Rattle.opgen_document.specs.Fields.{format_at, IsInputAsWritten}
+use Rattle.opgen_document.specs.Fields.{format_at, IsInputAsWritten, IsSearchAsWritten}
 use Rattle.opgen_document.specs.Numbers.{numerators}
-use Rattle.opgen_document.specs.Ranges.{outside, array_outside, power_outside, out_width_outside, extra_outside}
+use Rattle.opgen_document.specs.Ranges.{outside, array_outside, power_outside, out_width_outside, is_searched, constant_limit, extra_outside}
 use Rattle.opgen_document.specs.declared.version.Version.{Version}
-use Rattle.opgen_document.specs.Versions.{since_third}
+use Rattle.opgen_document.specs.Versions.{since_third, needed_before_third}
 use Rattle.opgen_spec.specs.Entry.{Entry, input_outside}
 
 abbrev pub stand : Version → Key → Stand
@@ -26,20 +26,24 @@ stand version key.OutLsb = since_third version
 stand version key.OutWidth = since_third version
 stand version key.OutSigned = since_third version
 stand version key.Taps = Needed
-stand version key.Extra = Needed
+stand version key.Extra = needed_before_third version
 stand version _ = Absent
 
--- taps as an array, or else more than eight different odd parts, of which the number is found
-abbrev pub taps_outside : Items → Option ℤ
-taps_outside items =
-    option_or (array_outside 1 32 2047 items) (outside (pos 0) (pos 8) (pos (odd_part_count (numerators items))))
+-- more than eight different odd parts, of which the number is found
+abbrev pub parts_outside : Items → Option ℤ
+parts_outside items = outside (pos 0) (pos 8) (pos (odd_part_count (numerators items)))
+
+-- taps as an array, whose adder graph is searched for or not; a search takes few odd parts
+abbrev pub taps_outside : (searched : Bool) → Items → Option ℤ
+taps_outside true items = option_or (array_outside 1 32 (constant_limit true) items) (parts_outside items)
+taps_outside false items = array_outside 1 256 (constant_limit false) items
 
 abbrev pub key_outside : Members → Key → Option ℤ
 key_outside ms key.Width = input_outside ms key.Width
 key_outside ms key.Lsb = power_outside ms key.Lsb
 key_outside ms key.OutLsb = power_outside ms key.OutLsb
 key_outside ms key.OutWidth = out_width_outside ms
-key_outside ms key.Taps = taps_outside (items_at ms key.Taps)
+key_outside ms key.Taps = taps_outside (is_searched ms) (items_at ms key.Taps)
 key_outside ms key.Extra = extra_outside ms
 key_outside ms _ = None
 
@@ -52,7 +56,7 @@ taps_of ms = record {
   input = format_at ms key.Width key.Lsb;
   out_lsb = out_lsb_of ms;
   taps = numerators (items_at ms key.Taps);
-  searched = true;
+  searched = is_searched ms;
   extra = count_at ms key.Extra;
 }
 
@@ -61,8 +65,7 @@ pub record IsTapsAsWritten (ms : Members) (f : Taps) : Type 0 where
   pub input : IsInputAsWritten ms key.Width key.Lsb f.input
   pub out_lsb : (value_at ms key.OutLsb ≡ Some (integer f.out_lsb)) ⊎ ((value_at ms key.OutLsb ≡ None) × (f.out_lsb ≡ f.input.lsb))
   pub taps : AreNumerators 0 (items_at ms key.Taps) f.taps
-  pub searched : f.searched ≡ true
-  pub extra : value_at ms key.Extra ≡ Some (integer (pos f.extra))
+  pub search : IsSearchAsWritten ms f.searched f.extra
 
 abbrev pub tfir : Entry
 tfir = record { first = false; stand = stand; key_outside = key_outside; make = λ ms. operator.Tfir (taps_of ms) }

@@ -3,20 +3,24 @@ ghost use Rattle.std.specs.Prelude.{◌≡◌, ◌≤◌, length, All, IfOk};
 ghost use Rattle.toml.specs.View.{items_view, table_view};
 ghost use Rattle.opgen_ports.specs.OddParts.{odd_part_count};
 ghost use Rattle.opgen_ports.specs.Ranges.{IsWithin};
-ghost use Rattle.opgen_spec.specs.kinds.Taps.{stand, key_outside, taps_outside, out_lsb_of, taps_of};
+ghost use Rattle.opgen_spec.specs.kinds.Taps.{stand, key_outside, parts_outside, taps_outside, out_lsb_of, taps_of};
 ghost use Rattle.opgen_document.specs.Numbers.{numerators};
 
 use crate::kinds::input_outside;
 use opgen_document::{
-    Key, MAX_CONSTANT, Stand, Version, array_outside, coefficient, count_at, extra_outside,
-    format_at, items_at, numerators, out_width_outside, outside, places_among, power_outside,
-    small_at, value_at,
+    Key, Stand, Version, array_outside, coefficient, constant_limit, count_at, extra_outside,
+    format_at, is_searched, items_at, numerators, out_width_outside, outside, places_among,
+    power_outside, small_at, value_at,
 };
 use opgen_operator::{Taps, odd_part_count};
 use std::alloc::{AllocError, Global};
 use toml::{Table, Value};
 
-const MAX_TAPS: u32 = 32;
+/// The most taps of a filter whose adder graph is searched for.
+const MAX_SEARCHED_TAPS: u32 = 32;
+
+/// The most taps of a filter.
+const MAX_TAPS: u32 = 256;
 
 /// Whether version 1 has the kind.
 pub(crate) const IS_FIRST: bool = false;
@@ -26,7 +30,8 @@ pub(crate) fn stand(version: Version, key: Key) -> Stand
     ensures { result ≡ stand version key }
 {
     match key {
-        Key::Signed | Key::Width | Key::Lsb | Key::Taps | Key::Extra => Stand::Needed,
+        Key::Signed | Key::Width | Key::Lsb | Key::Taps => Stand::Needed,
+        Key::Extra => Stand::needed_before_third(version),
         Key::OutLsb | Key::OutWidth | Key::OutSigned => Stand::since_third(version),
         _ => Stand::Absent,
     }
@@ -39,21 +44,33 @@ fn part_count(items: &[Value]) -> u32
     ensures { result ≡ odd_part_count (numerators (items_view items.now)) }
 {
     let power = places_among(items);
-    let mut numbers = [0; MAX_TAPS as usize];
+    let mut numbers = [0; MAX_SEARCHED_TAPS as usize];
     'items: for (place, item) in items.iter().enumerate() {
         numbers[place] = coefficient(power, item);
     }
     odd_part_count(&numbers[..items.len()])
 }
 
+/// The number of different odd parts, where a search does not take as many.
+fn parts_outside(items: &[Value]) -> Option<i64>
+    requires few { length items.now ≤ 32 }
+    requires small { All (IsWithin 2047) (numerators (items_view items.now)) }
+    ensures { result ≡ parts_outside (items_view items.now) }
+{
+    outside(0, 8, i64::from(part_count(items)))
+}
+
 /// The length of the taps, the first of them, or the number of their odd parts, that is out of
 /// bounds.
-fn taps_outside(items: &[Value]) -> Option<i64>
-    ensures { result ≡ taps_outside (items_view items.now) }
+fn taps_outside(searched: bool, items: &[Value]) -> Option<i64>
+    ensures { result ≡ taps_outside searched (items_view items.now) }
 {
-    match array_outside(1, MAX_TAPS, MAX_CONSTANT, items) {
+    if !searched {
+        return array_outside(1, MAX_TAPS, constant_limit(false), items);
+    }
+    match array_outside(1, MAX_SEARCHED_TAPS, constant_limit(true), items) {
         Some(found) => Some(found),
-        None => outside(0, 8, i64::from(part_count(items))),
+        None => parts_outside(items),
     }
 }
 
@@ -65,7 +82,7 @@ pub(crate) fn key_outside(table: &Table, key: Key) -> Option<i64>
         Key::Width => input_outside(table, key),
         Key::Lsb | Key::OutLsb => power_outside(table, key),
         Key::OutWidth => out_width_outside(table),
-        Key::Taps => taps_outside(items_at(table, key)),
+        Key::Taps => taps_outside(is_searched(table), items_at(table, key)),
         Key::Extra => extra_outside(table),
         _ => None,
     }
@@ -88,7 +105,7 @@ pub(crate) fn taps_of(alloc: Global, table: &Table) -> Result<Taps, AllocError>
         input: format_at(table, Key::Width, Key::Lsb),
         out_lsb: out_lsb_of(table),
         taps: numerators(alloc, items_at(table, Key::Taps))?,
-        searched: true,
+        searched: is_searched(table),
         extra: count_at(table, Key::Extra),
     })
 }

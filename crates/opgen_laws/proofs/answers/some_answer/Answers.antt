@@ -6,4 +6,6 @@ returns c = some_answer (record {
   hold = c.outputs_hold.ensures;
   widths = c.products_have_width.ensures;
   serve = c.circuits_serve.ensures;
+  rules = c.some_rule_graph.ensures;
+  rules_serve = c.rule_graph_serves.ensures;
 })

@@ -15,7 +15,7 @@ cells-requires-clause-fits c =
     let p = c.args.products.now in
     let ws = widths c.args.work.now.net.nodes in
     subst (FitsNodes ws 1) (sym c.in_ok-expr.ensures)
-    (product-fits p c.args.i c.args.j c.requires.i c.requires.j ws c.requires.factors.first.width c.requires.factors.second.width)
+    (product-fits p c.args.placing c.requires.placed c.args.i c.args.j c.requires.i c.requires.j ws c.requires.factors.first.width c.requires.factors.second.width)
 
 always : {A E P : Type 0} (r : Result A E) → P → OnOk r P
 always (Ok x) p = p
@@ -30,4 +30,4 @@ returns-clause-factors c =
       first = factor-later p.a net (with_last net (Cells Logic 1 (plain c.in_ok-expr.expr))) grown c.requires.factors.first;
       second = factor-later p.b net (with_last net (Cells Logic 1 (plain c.in_ok-expr.expr))) grown c.requires.factors.second;
     } in
-    always c.add_bit.result (subst (AreFactors p) (sym c.in_ok-node.ensures.ok) factors)
+    always c.add_bit-2.result (subst (AreFactors p) (sym c.in_ok-node.ensures.ok) factors)

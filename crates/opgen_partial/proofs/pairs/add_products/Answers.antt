@@ -1,13 +1,11 @@
-use Rattle.std.proofs.Common.{◌≡◌, ◌∙◌, sym, ap, subst, arith}
-use Rattle.opgen_partial.specs.Law.{HasProducts}
-use Rattle.opgen_partial.specs.Recipe.{with_rows}
-use Rattle.opgen_partial.proofs.Laws.{products-law}
+use Rattle.std.proofs.Common.{Result, Ok, Err, OnOk}
+use Rattle.opgen_partial.proofs.Laws.{products-from}
 use Rattle.opgen_partial.proofs.pairs.add_products.Goals as goal
+
+then : {A E P Q : Type 0} (r : Result A E) → (P → Q) → OnOk r P → OnOk r Q
+then (Ok x) f p = f p
+then (Err e) f p = tt
 
 pub returns-clause-products : goal.returns-clause-products
 returns-clause-products c =
-    let p = c.args.products.now in
-    let before = c.args.work.now in
-    let all : c.rows.i ≡ p.a.width = omega (arith, c.rows-test.false, c.rows.auto.i-end) in
-    subst (HasProducts p before) (sym (c.rows.invariant.0 ∙ ap (λ k. with_rows p k before) all))
-    (products-law p before c.requires.net c.requires.factors c.requires.there)
+    then c.add_placed.result (products-from c.args.products.now c.args.work.now c.add_placed.new.work) c.add_placed.ensures.products

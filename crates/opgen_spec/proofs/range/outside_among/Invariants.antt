@@ -5,5 +5,5 @@ use Rattle.opgen_spec.proofs.range.outside_among.Given as goal
 
 abbrev pub invariant-keys : goal.invariant-keys
 invariant-keys l =
-    first_of (map (λ k. out_of_range l.line k (found l.line (table_view l.table) k)) (drop l.key-index l.keys))
-    ≡ outside_among l.keys l.line (table_view l.table)
+    first_of (map (λ k. out_of_range l.line k (found (table_view l.document) l.line (table_view l.table) k)) (drop l.key-index l.keys))
+    ≡ outside_among l.keys (table_view l.document) l.line (table_view l.table)

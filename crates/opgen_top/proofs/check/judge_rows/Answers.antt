@@ -19,7 +19,7 @@ pub returns-in_ok-verdict_line-in-Ok-clause-answer : goal.returns-in_ok-verdict_
 returns-in_ok-verdict_line-in-Ok-clause-answer c =
     let rows = c.args.rows.now in
     design_judged c.args.spec.now c.args.design c.args.latency rows.inputs.columns rows.count rows.inputs.cells.items c.in-Ok.checked _
-    c.requires.columns c.requires.rows c.in-Ok.ensures.agree c.in-Ok.ensures.checked
+    c.requires.valid c.requires.columns c.requires.rows c.in-Ok.ensures.agree c.in-Ok.ensures.checked
     (c.without_file.ensures ∙ c.in_ok-verdict_line-in-Ok.ensures)
 
 pub returns-in_ok-verdict_line-in-Ok-clause-listed : goal.returns-in_ok-verdict_line-in-Ok-clause-listed

@@ -1,4 +1,3 @@
-use Rattle.std.proofs.lemmas.Result.{IfOk-at_ok}
 use Rattle.opgen_top.proofs.Naming.{fitting}
 use Rattle.opgen_top.proofs.circuit.build_net.Goals as goal
 

@@ -1,7 +1,5 @@
-use Rattle.std.proofs.Common.{subst}
 use Rattle.std.proofs.lemmas.Result.{IfOk-weaker}
-use Rattle.opgen_operator.specs.Operator.{IsInVersion}
-use Rattle.opgen_operator.specs.declared.operator.Operator.TheVariants.{Scale, Fir, Multiply, Divide, Root, Mcm, Constdiv, Poly, Tfir}
+use Rattle.opgen_operator.specs.declared.operator.Operator.TheVariants.{Scale, Fir, Multiply, Divide, Root, Mcm, Constdiv, Poly, Tfir, Sop}
 use Rattle.opgen_top.proofs.Building.{accepted_kind, accepted_scale, made_adders, made_net, made_fits, plain_net, plain_fits}
 use Rattle.opgen_top.proofs.circuit.build_operator.Goals as goal
 
@@ -11,16 +9,11 @@ build-requires g c = record { sum = accepted_scale c.args.spec.now c.requires.va
 pub build_several-requires-clause-several : goal.build_several-requires-clause-several
 build_several-requires-clause-several g c κs within = accepted_kind c.args.spec.now c.requires.valid (Mcm c.in-Mcm.several) c.in-Mcm.is
 
-pub build_several-requires-clause-searched : goal.build_several-requires-clause-searched
-build_several-requires-clause-searched g c κs within =
-    (subst (IsInVersion c.args.spec.now.version) c.in-Mcm.is c.requires.valid.has).1
-
 pub build_transposed-requires-clause-taps : goal.build_transposed-requires-clause-taps
 build_transposed-requires-clause-taps g c κs within = accepted_kind c.args.spec.now c.requires.valid (Tfir c.in-Tfir.taps) c.in-Tfir.is
 
-pub build_transposed-requires-clause-searched : goal.build_transposed-requires-clause-searched
-build_transposed-requires-clause-searched g c κs within =
-    (subst (IsInVersion c.args.spec.now.version) c.in-Tfir.is c.requires.valid.has).3
+pub build-requires-in-Sop : goal.build-requires-in-Sop
+build-requires-in-Sop g c = accepted_kind c.args.spec.now c.requires.valid (Sop c.in-Sop.sop) c.in-Sop.is
 
 pub returns-in-Scale-clause-net : goal.returns-in-Scale-clause-net
 returns-in-Scale-clause-net g c =
@@ -177,3 +170,21 @@ pub returns-in-Tfir-clause-adders : goal.returns-in-Tfir-clause-adders
 returns-in-Tfir-clause-adders g c =
     let made = c.build_transposed in
     made_adders c.args.spec.now c.requires.valid (Tfir c.in-Tfir.taps) made.result c.in-Tfir.is made.ensures.adders
+
+pub returns-in-Sop-clause-net : goal.returns-in-Sop-clause-net
+returns-in-Sop-clause-net g c =
+    let built = c.build-in-Sop in
+    let made = c.without_adders-in-Sop in
+    plain_net c.args.spec.now c.requires.valid (Sop c.in-Sop.sop) built.result made.result c.in-Sop.is made.ensures.net built.ensures.net
+
+pub returns-in-Sop-clause-fits : goal.returns-in-Sop-clause-fits
+returns-in-Sop-clause-fits g c =
+    let built = c.build-in-Sop in
+    let made = c.without_adders-in-Sop in
+    plain_fits c.args.spec.now c.requires.valid (Sop c.in-Sop.sop) built.result made.result c.in-Sop.is made.ensures.net
+    built.ensures.fits
+
+pub returns-in-Sop-clause-adders : goal.returns-in-Sop-clause-adders
+returns-in-Sop-clause-adders g c =
+    let made = c.without_adders-in-Sop in
+    made_adders c.args.spec.now c.requires.valid (Sop c.in-Sop.sop) made.result c.in-Sop.is made.ensures.adders

@@ -47,4 +47,5 @@ returns-clause-count c =
       c.in_ok-ports.ports.ok.0,
       ap length c.in_ok-ports.ensures,
     ) in
-    rows_counted (divisor op) (inputs_of c.args.spec.now) c.args.cycles c.args.seed c.len.result c.cycles.cells.items columns (some_input op) all
+    rows_counted (divisor op) (inputs_of c.args.spec.now) c.args.cycles c.args.seed c.len.result c.cycles.cells.items columns
+    (some_input op c.requires.op.ranges) all

@@ -35,6 +35,7 @@ accepted = (
         constants = All-cons (IsWithin 2047) (pos 45) [] (omega arith) (All-nil (IsWithin 2047));
         extra = omega arith;
       };
+      rest = λ e. let clash : true ≡ false = e in let wrong : ⊥ = cc in absurd wrong;
     };
     inputs = all_one (λ (p : PortFormat). p.format.width ≤ 32) _ (omega arith);
     fine = (omega (arith, ints), omega (arith, ints));

@@ -9,4 +9,4 @@ pub returns : goal.returns
 returns c =
     let numbers : c.in_ok-numerators.field-0 ≡ numerators (items_at (table_view c.args.table.now) key.Constants) =
     c.in_ok-numerators.ensures ∙ ap numerators c.items_at.ensures in
-    rw (c.format_at.ensures, numbers, c.count_at.ensures) refl
+    rw (c.format_at.ensures, numbers, c.is_searched.ensures, c.count_at.ensures) refl

@@ -13,4 +13,4 @@ returns c =
     let lsb : to_z w32 (of_z w32 c.out_lsb_of.result) ≡ out_lsb_of ms = kept ∙ c.out_lsb_of.ensures in
     let numbers : c.in_ok-numerators.field-0 ≡ numerators (items_at ms key.Taps) =
     c.in_ok-numerators.ensures ∙ ap numerators c.items_at.ensures in
-    rw (c.format_at.ensures, lsb, numbers, c.count_at.ensures) refl
+    rw (c.format_at.ensures, lsb, numbers, c.is_searched.ensures, c.count_at.ensures) refl
