@@ -93,7 +93,8 @@ tables s guard = tables_in s guard s.scaled
 abbrev pub floors : Sop → (guard : ℕ) → ℕ
 floors s guard = floors_in s guard s.products + lost (offset_fraction s guard)
 
--- the least number of guard bits whose units are so small that all that is rounded comes to less than one unit of the output
+-- The least number of guard bits whose units, one for each rounded table and for all that is rounded down, are together less than
+-- one unit of the output.
 pub record IsGuard (s : Sop) (guard : ℕ) : Type 0 where
   pub enough : tables s guard + floors s guard < 2 ^ guard
   pub least : (g : ℕ) → tables s g + floors s g < 2 ^ g → guard ≤ g

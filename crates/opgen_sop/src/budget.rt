@@ -1,4 +1,5 @@
-//! How many guard bits a sum of products has: the fewest by which all that is rounded or left out comes to less than one unit.
+//! How many guard bits a sum of products has: the fewest for which a unit for each table and each row that loses some is less than one
+//! unit of the output.
 ghost use Rattle.std.specs.Prelude.{◌≡◌, ◌+◌, ◌*◌, ◌≤◌, ◌<◌, ◌^◌, length, All, pos, ◌<ℤ◌};
 ghost use Rattle.opgen_num.specs.declared.TheConstants.{MAX_WIDTH};
 ghost use Rattle.opgen_kinds.specs.Sop.{IsSop, IsAcceptedSop, sop_format, offset_term};
@@ -116,7 +117,7 @@ pub(crate) fn losses(sop: &Sop, guard: u32) -> Loss
     }
 }
 
-/// The fewest guard bits by which all that is lost comes to less than one unit of the output.
+/// The fewest guard bits for which a unit for all that is lost, each by itself, is less than one unit of the output.
 pub(crate) fn guard_bits(sop: &Sop) -> u32
     requires sop { IsSop sop.now }
     requires terms { HasSmallTerms sop.now }

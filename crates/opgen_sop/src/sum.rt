@@ -36,9 +36,9 @@ fn add_offset(sop: &Sop, guard: u32, work: &mut Work)
 /// The net of the sum of products `y`.
 ///
 /// Constants have tables on their inputs, and products of inputs have the products of their bits, of a number with itself each pair
-/// of bits once. All are added in one heap, with guard bits below the output's last place: as many as it takes for all that is
-/// rounded or left out to come to less than one unit of the output. The offset, half a unit, and what makes good turned bits are one
-/// constant. Larger counters go before the compressor where they are asked for.
+/// of bits once. All are added in one heap, with guard bits below the output's last place, so that all that is rounded or left out
+/// comes to less than one unit of the output. The offset, half a unit or more if that does not make good what is lost, and what makes
+/// good turned bits are one constant. Larger counters go before the compressor where they are asked for.
 pub fn build(alloc: Global, sop: &Sop) -> Result<Net, Memory>
     requires { IsAcceptedSop sop.now }
     ensures net { IfOk result (IsNetOfSop sop.now) }
