@@ -74,7 +74,8 @@ pub record Plan : Type 0 where
   pub length : ℕ
 """,
 }
-# Promise has 4 lines, Word 4 with `mutual`, Digits 2, long 3, far 2, Kind 4 and Name 1.
+# Promise has 4 lines, Word 4 with `mutual`, Digits 2, long 3, far 2, Kind 4 and Name 1. A reader of the kind `second` reads all
+# but the variant `First`, one of `first` neither the other variant nor Name.
 COUNT = "   20 lines of definitions in 4 files"
 
 
@@ -141,24 +142,30 @@ class Counts(ReadPromise):
         names = {line.split()[1] for line in out.splitlines() if line.startswith("          ")}
         self.assertEqual(names, {"Promise", "Word", "Digits", "long", "far", "Kind", "Name"})
 
+    def test_of_one_kind(self) -> None:
+        self.assertEqual(loading.run(TOOL, "first")[1].splitlines()[-1], "   18 lines of definitions in 3 files")
+        out = loading.run(TOOL, "--kinds")[1]
+        self.assertEqual(out.splitlines(), ["   18 lines of definitions in 3 files, of first", "   19 lines of definitions in 4 files, of second",
+                                            f"{COUNT}, of all kinds"])
+
     def test_other_root(self) -> None:
         out = loading.run(TOOL, "opgen_top/Promise", "Provenance")[1]
         self.assertEqual(out.splitlines()[-1], "    4 lines of definitions in 2 files")
 
     def test_check(self) -> None:
-        self.page.write_text("It has 20 lines of definitions in 4 files.\n")
+        self.page.write_text("It has at most 19 lines of definitions in at most 4 files.\n")
         self.assertEqual(loading.run(TOOL, "--check")[:2], (0, ""))
-        self.page.write_text("It has 19 lines of definitions in 4 files.\n")
+        self.page.write_text("It has at most 20 lines of definitions in at most 4 files.\n")
         status, out, _ = loading.run(TOOL, "--check")
-        self.assertEqual((status, "there are 20 lines in 4 files" in out), (1, True))
+        self.assertEqual((status, "there are 19 lines in 4 files" in out), (1, True))
         self.page.write_text("Nothing.\n")
         self.assertEqual(loading.run(TOOL, "--check")[0], 1)
 
     def test_too_much(self) -> None:
-        self.page.write_text("It has 20 lines of definitions in 4 files.\n")
-        with unittest.mock.patch.object(TOOL, "MOST_LINES", 19):
+        self.page.write_text("It has at most 19 lines of definitions in at most 4 files.\n")
+        with unittest.mock.patch.object(TOOL, "MOST_LINES", 18):
             status, out, _ = loading.run(TOOL, "--check")
-        self.assertEqual((status, "more than 19" in out), (1, True))
+        self.assertEqual((status, "more than 18" in out), (1, True))
 
     def test_wrong_words(self) -> None:
         self.assertEqual(loading.run(TOOL, "--lines")[0], 2)

@@ -15,7 +15,7 @@ use std::process::ExitCode;
 use std::rt::{Env, Files};
 use std::thread::Threads;
 
-/// The words after the program's name. Where they are no text there are none, which is a usage fault.
+// The words after the program's name. Where they are no text there are none, which is a usage fault.
 fn words(rt: &(impl Env + Alloc<A = Global>)) -> Result<Vec<String>, Status> {
     let mut words = Vec::new(rt.alloc());
     let args = match env::args(rt) {
@@ -31,7 +31,7 @@ fn words(rt: &(impl Env + Alloc<A = Global>)) -> Result<Vec<String>, Status> {
     Ok(words)
 }
 
-/// Runs the program over the files of the working directory and standard output, with the targets `plain` and `fixed`.
+// Runs the program over the files of the working directory and standard output, with the targets `plain` and `fixed`.
 fn ran(
     rt: &(impl Env + Files + Print + Threads + Sync + Alloc<A = Global>),
     words: &[String],

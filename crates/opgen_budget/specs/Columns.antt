@@ -13,7 +13,8 @@ weight_below m n columns = sum_over_pairs m n (λ i j. if nat_lt (i + j) columns
 -- the greatest number of columns, up to all of them, whose bits weigh at most 2 ^ (p - 1)
 abbrev pub IsGreatestCut : (m n p columns : ℕ) → Type 0
 IsGreatestCut m n p columns =
-    (columns ≤ m + n - 1) × (weight_below m n columns ≤ 2 ^ (p - 1)) × ((more : ℕ) → more ≤ m + n - 1 → weight_below m n more ≤ 2 ^ (p - 1) → more ≤ columns)
+    (columns ≤ m + n - 1) × (weight_below m n columns ≤ 2 ^ (p - 1))
+    × ((more : ℕ) → more ≤ m + n - 1 → weight_below m n more ≤ 2 ^ (p - 1) → more ≤ columns)
 
 -- a column has one bit more than the one before it, up to the narrower factor's width, and as many fewer towards the highest column
 abbrev pub HasColumns : Type 0

@@ -6,7 +6,7 @@ use Rattle.std.proofs.lemmas.List.{length-map, length-take-le, get_or-take, get_
 use Rattle.opgen_num.proofs.RowsOfCells.{length-cells, length-rows_of_cells}
 use Rattle.opgen_num.specs.Words.{FitWidths, AreRowsOfCells}
 use Rattle.opgen_ports.specs.declared.ports.PortFormat.{PortFormat}
-use Rattle.opgen_ports.specs.PortNumbers.{format_at, IsCycle, IsHistory}
+use Rattle.opgen_ports.specs.Ports.{format_at, IsCycle, IsHistory}
 
 abbrev widths_of : List PortFormat → List ℕ
 widths_of ports = map (λ p. p.format.width) ports

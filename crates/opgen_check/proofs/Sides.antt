@@ -10,9 +10,8 @@ use Rattle.opgen_design.specs.Run.{at_ports, input_widths, is_in, is_out}
 use Rattle.opgen_design.specs.Sound.{port_widths}
 use Rattle.opgen_ports.specs.declared.ports.PortFormat.{PortFormat}
 use Rattle.opgen_operator.specs.declared.spec.Spec.{Spec}
-use Rattle.opgen_operator.specs.Outputs.{inputs_of, outputs_of}
+use Rattle.opgen_operator.specs.Outputs.{inputs_of, outputs_of, port_of, operator_ports}
 use Rattle.opgen_check.specs.Ports.{IsSamePort, PortsAgree}
-use Rattle.opgen_operator.specs.DesignPorts.{port_of, operator_ports}
 
 pub zip-length : {X Y : Type 0} (R : X → Y → Type 0) (xs : List X) (ys : List Y) → AllZip R xs ys → length xs ≡ length ys
 zip-length R [] [] all = refl

@@ -5,7 +5,7 @@ use Rattle.std.specs.List.{AllZip}
 use Rattle.opgen_design.specs.declared.design.Design.{Design}
 use Rattle.opgen_design.specs.declared.design.Port.{Port}
 use Rattle.opgen_operator.specs.declared.spec.Spec.{Spec}
-use Rattle.opgen_operator.specs.DesignPorts.{operator_ports}
+use Rattle.opgen_operator.specs.Outputs.{operator_ports}
 
 -- two ports with one name in lower case, one direction and one width
 pub record IsSamePort (p q : Port) : Type 0 where

@@ -3,7 +3,7 @@ ghost use Rattle.std.specs.Prelude.{◌≡◌, ◌↔◌, ◌++◌, IfOk, IsTrue
 ghost use Rattle.std.specs.List.{AllZip};
 ghost use Rattle.opgen_design.specs.declared.design.Dir.TheVariants.{In, Out};
 ghost use Rattle.opgen_operator.specs.Valid.{IsValidSpec};
-ghost use Rattle.opgen_operator.specs.DesignPorts.{port_of, operator_ports};
+ghost use Rattle.opgen_operator.specs.Outputs.{port_of, operator_ports};
 ghost use Rattle.opgen_check.specs.Ports.{IsSamePort};
 
 use opgen_design::{Dir, Port};
@@ -22,7 +22,7 @@ fn is_same_port(port: &Port, dir: Dir, format: &PortFormat) -> bool
             .eq_ignore_ascii_case(format.name.as_str())
 }
 
-/// Whether ports are those of one direction, place by place.
+// Whether ports are those of one direction, place by place.
 fn are_side(ports: &[Port], dir: Dir, formats: &[PortFormat]) -> bool
     requires { length ports.now ≡ length formats.now }
     ensures { IsTrue result ↔ AllZip IsSamePort ports.now (map (port_of dir) formats.now) }
@@ -37,7 +37,7 @@ fn are_side(ports: &[Port], dir: Dir, formats: &[PortFormat]) -> bool
     true
 }
 
-/// Whether ports are these inputs and then these outputs, place by place.
+// Whether ports are these inputs and then these outputs, place by place.
 fn are_ports(ports: &[Port], inputs: &[PortFormat], outputs: &[PortFormat]) -> bool
     ensures { IsTrue result ↔ AllZip IsSamePort ports.now (map (port_of In) inputs.now ++ map (port_of Out) outputs.now) }
 {

@@ -19,7 +19,7 @@ use opgen_sim::run_rows;
 use opgen_vec::{Vectors, is_good_row};
 use std::alloc::Global;
 
-/// Whether outputs are good for the inputs up to a row.
+// Whether outputs are good for the inputs up to a row.
 fn are_good_for(spec: &Spec, inputs: &Vectors, row: u32, outputs: &[u128]) -> bool
     requires valid { IsValidSpec spec.now }
     requires columns { inputs.now.columns ≡ length (inputs_of spec.now) }
@@ -36,7 +36,7 @@ fn are_good_for(spec: &Spec, inputs: &Vectors, row: u32, outputs: &[u128]) -> bo
     )
 }
 
-/// The verdict on rows of outputs.
+// The verdict on rows of outputs.
 fn judge_rows(
     spec: &Spec,
     inputs: &Vectors,
@@ -68,7 +68,7 @@ fn judge_rows(
     }
 }
 
-/// The verdict on a design's run over rows, where it has the specification's ports.
+// The verdict on a design's run over rows, where it has the specification's ports.
 fn judge(
     alloc: Global,
     spec: &Spec,

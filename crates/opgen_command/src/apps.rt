@@ -17,7 +17,7 @@ fn word<'a>(alloc: Global, name: &'a str) -> Arg<'a>
     Arg::new(alloc, name).required(true)
 }
 
-/// A number from `least` to `most`.
+// A number from `least` to `most`.
 fn between<'a>(least: u32, most: u32) -> ValueParser<'a>
     ensures { result ≡ parser.Signed (pos least) (pos most) }
 {
@@ -51,7 +51,7 @@ fn enable<'a>(alloc: Global) -> Arg<'a>
         .action(ArgAction::SetTrue)
 }
 
-/// Adds an argument, unless memory ran out before.
+// Adds an argument, unless memory ran out before.
 fn with<'a>(app: Result<Command<'a>, AllocError>, arg: Arg<'a>) -> Result<Command<'a>, AllocError>
     requires { arg.global ≡ false }
     ensures { (taken : App) → IfOk app.entry (λ before. app_of before ≡ taken)
@@ -60,7 +60,7 @@ fn with<'a>(app: Result<Command<'a>, AllocError>, arg: Arg<'a>) -> Result<Comman
     app?.arg(arg)
 }
 
-/// A command that takes three arguments.
+// A command that takes three arguments.
 fn with_three<'a>(
     alloc: Global,
     name: &'a str,
@@ -79,7 +79,7 @@ fn with_three<'a>(
     with(two, third)
 }
 
-/// `generate SPEC [--workers N] [--enable]`.
+// `generate SPEC [--workers N] [--enable]`.
 fn generate<'a>(alloc: Global) -> Result<Command<'a>, AllocError>
     ensures { IfOk result (λ c. app_of c ≡ generate_app) }
 {
@@ -92,7 +92,7 @@ fn generate<'a>(alloc: Global) -> Result<Command<'a>, AllocError>
     )
 }
 
-/// `vectors SPEC [--seed N] [--cycles N]`.
+// `vectors SPEC [--seed N] [--cycles N]`.
 fn vectors<'a>(alloc: Global) -> Result<Command<'a>, AllocError>
     ensures { IfOk result (λ c. app_of c ≡ vectors_app) }
 {
@@ -105,7 +105,7 @@ fn vectors<'a>(alloc: Global) -> Result<Command<'a>, AllocError>
     )
 }
 
-/// `simulate VHDL VECTORS OUT`.
+// `simulate VHDL VECTORS OUT`.
 fn simulate<'a>(alloc: Global) -> Result<Command<'a>, AllocError>
     ensures { IfOk result (λ c. app_of c ≡ simulate_app) }
 {
@@ -118,14 +118,14 @@ fn simulate<'a>(alloc: Global) -> Result<Command<'a>, AllocError>
     )
 }
 
-/// `workload N`.
+// `workload N`.
 fn workload<'a>(alloc: Global) -> Result<Command<'a>, AllocError>
     ensures { IfOk result (λ c. app_of c ≡ workload_app) }
 {
     Command::new(alloc, "workload").arg(number_word(alloc, "N", 1, 32))
 }
 
-/// `check SPEC VHDL VECTORS LATENCY`.
+// `check SPEC VHDL VECTORS LATENCY`.
 fn check<'a>(alloc: Global) -> Result<Command<'a>, AllocError>
     ensures { IfOk result (λ c. app_of c ≡ check_app) }
 {

@@ -14,7 +14,7 @@ use clap::error::ErrorKind;
 use opgen_list::Text;
 use std::alloc::Global;
 
-/// What `clap` finds in the words of a command of this name.
+// What `clap` finds in the words of a command of this name.
 fn matched<'a>(
     alloc: Global,
     name: CommandName,
@@ -36,7 +36,7 @@ fn matched<'a>(
     }
 }
 
-/// The word of a name, as a text.
+// The word of a name, as a text.
 fn text(alloc: Global, found: &ArgMatches<'_>, name: &str) -> Result<Text, CommandFault>
     ensures text { IfOk result (λ text. word_of name.now (rows_of (found_of found.now)) ≡ Some text) }
     ensures usage { IfErr result (λ fault. fault ≡ CommandFault.Usage → word_of name.now (rows_of (found_of found.now)) ≡ None) }
@@ -97,7 +97,7 @@ fn check(alloc: Global, found: &ArgMatches<'_>) -> Result<Command, CommandFault>
     })
 }
 
-/// The command of a name, by what was found in its words.
+// The command of a name, by what was found in its words.
 fn command(
     alloc: Global,
     name: CommandName,
@@ -114,7 +114,7 @@ fn command(
     }
 }
 
-/// The command of the words, of which the first is `name`.
+// The command of the words, of which the first is `name`.
 fn named(alloc: Global, name: CommandName, words: &[String]) -> Result<Command, CommandFault>
     ensures { IsRead (option_and_then (found_as name) (found_by (app_named name) (map string_bytes words.now))) result }
 {

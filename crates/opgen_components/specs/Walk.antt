@@ -29,7 +29,8 @@ IsDone marks s c = mark_of marks s ≡ Done c
 
 -- the nodes that are done: their links lead to such nodes, of no greater numbers
 pub record AreSettled (g : Graph) (marks : List Mark) (count : ℕ) : Type 0 where
-  pub downwards : (s k : ℕ) (c : Component) → IsDone marks s c → k < length (links_of g s) → (b : Component) × IsDone marks (link_at g s k) b × (b.number ≤ c.number)
+  pub downwards : (s k : ℕ) (c : Component) → IsDone marks s c → k < length (links_of g s)
+      → (b : Component) × IsDone marks (link_at g s k) b × (b.number ≤ c.number)
   pub numbers : (s : ℕ) (c : Component) → IsDone marks s c → c.number < count
   pub together : (s r : ℕ) (c b : Component) → IsDone marks s c → IsDone marks r b → c.number ≡ b.number → AreTogether g s r
   pub alone : (s r : ℕ) (c b : Component) → IsDone marks s c → c.cyclic ≡ false → IsDone marks r b → c.number ≡ b.number → r ≡ s
@@ -49,8 +50,10 @@ pub record IsPath (g : Graph) (marks : List Mark) (next path bounds open_places 
   pub new : (s : ℕ) → mark_of marks s ≡ New → slice_index next s ≡ 0
   pub reaches : (i j : ℕ) → i ≤ j → j < length path → Reaches g (slice_index path i) (slice_index path j)
   pub begins : (i : ℕ) → i < length path → (b : ℕ) × Contains bounds b × (b ≤ i) × Reaches g (slice_index path i) (slice_index path b)
-  pub followed : (i k : ℕ) → i < length path → k < slice_index next (slice_index path i) → IsFollowed bounds (mark_of marks (link_at g (slice_index path i) k)) i
-  pub finished : (i : ℕ) → i < length path → Contains open_places i ⊎ (length (links_of g (slice_index path i)) ≤ slice_index next (slice_index path i))
+  pub followed : (i k : ℕ) → i < length path → k < slice_index next (slice_index path i)
+      → IsFollowed bounds (mark_of marks (link_at g (slice_index path i) k)) i
+  pub finished : (i : ℕ) → i < length path
+      → Contains open_places i ⊎ (length (links_of g (slice_index path i)) ≤ slice_index next (slice_index path i))
   pub open_within : (i : ℕ) → Contains open_places i → i < length path
   pub open_up : IsAscending open_places
   pub bounds_up : IsAscending bounds
@@ -83,6 +86,19 @@ work g w = 2 * left g w.next.items + length w.open_places.items
 -- what was met stays so
 abbrev pub KeepsMet : Walk → Walk → Type 0
 KeepsMet old now = (s : ℕ) → mark_of old.marks.items s ≢ New → mark_of now.marks.items s ≢ New
+
+-- these links of the node at a place of the path lead back to it
+abbrev pub LinksBack : Walk → (place : ℕ) → (links : List ℕ) → Type 0
+LinksBack w place links = Contains links (slice_index w.path.items place)
+
+-- the place of the path where the last group begins
+abbrev pub last_bound : Walk → ℕ
+last_bound w = slice_index w.bounds.items (length w.bounds.items - 1)
+
+-- the marks after the nodes of the path from a place on became a component; its number is how many nodes were done before
+abbrev pub closed_marks : Walk → (place : ℕ) → (is_cyclic : Bool) → List Mark
+closed_marks w place is_cyclic =
+    marked w.marks.items (drop place w.path.items) (Done (record { number = length w.done.items; cyclic = is_cyclic }))
 
 -- a new node at the end of the path, in a group of its own
 pub record Entered (old : Walk) (node : ℕ) (now : Walk) : Type 0 where
@@ -122,7 +138,7 @@ pub record Finished (old now : Walk) : Type 0 where
 
 -- the last open node is finished, and its group is a component
 pub record Closed (old : Walk) (place : ℕ) (is_cyclic : Bool) (now : Walk) : Type 0 where
-  pub marks : now.marks.items ≡ marked old.marks.items (drop place old.path.items) (Done (record { number = length old.done.items; cyclic = is_cyclic }))
+  pub marks : now.marks.items ≡ closed_marks old place is_cyclic
   pub next : now.next.items ≡ old.next.items
   pub path : now.path.items ≡ take place old.path.items
   pub bounds : now.bounds.items ≡ take (length old.bounds.items - 1) old.bounds.items

@@ -1,7 +1,7 @@
 //! The depth-first walk along the links of a graph, which finds its strongly connected components.
-ghost use Rattle.std.specs.Prelude.{◌≡◌, ◌≢◌, ◌<◌, ◌≤◌, [], ℕ, true, false, ◌⊎◌, IsTrue, ◌↔◌, IfOk, OnOk, ◌-◌, ◌+◌, length, map, replicate, take, drop, slice_index, Contains};
+ghost use Rattle.std.specs.Prelude.{◌≡◌, ◌≢◌, ◌<◌, ◌≤◌, [], ℕ, true, false, ◌⊎◌, IsTrue, ◌↔◌, IfOk, OnOk, ◌-◌, ◌+◌, length, map, replicate, take, Contains};
 ghost use Rattle.opgen_components.specs.Graph.{IsGraph, graph_of, links_of};
-ghost use Rattle.opgen_components.specs.Walk.{IsWalk, IsTop, IsAscending, KeepsMet, mark_of, marked, component_at, work, Entered, Follows, Finished, Closed};
+ghost use Rattle.opgen_components.specs.Walk.{IsWalk, IsTop, IsAscending, KeepsMet, mark_of, marked, component_at, closed_marks, last_bound, work, LinksBack, Entered, Follows, Finished, Closed};
 
 use crate::Component;
 use crate::bounds::{cut, top};
@@ -120,8 +120,8 @@ impl Walk {
     // Whether a path leads back to the node at a place of the path, which has these links, once all links from there on are followed.
     fn is_cycle(&self, links: &[usize], place: usize) -> bool
         requires { place < length self.now.path.items }
-        ensures turns { result ≡ true → (place + 1 < length self.now.path.items) ⊎ Contains links.now (slice_index self.now.path.items place) }
-        ensures ends { result ≡ false → (length self.now.path.items ≡ place + 1) × (Contains links.now (slice_index self.now.path.items place) → ⊥) }
+        ensures turns { result ≡ true → (place + 1 < length self.now.path.items) ⊎ LinksBack self.now place links.now }
+        ensures ends { result ≡ false → (length self.now.path.items ≡ place + 1) × (LinksBack self.now place links.now → ⊥) }
     {
         self.path.len() - place > 1 || links.contains(&self.path[place])
     }
@@ -160,8 +160,8 @@ impl Walk {
         requires bounds { 0 < length self.old.bounds.items }
         requires within { place ≤ length self.old.path.items }
         requires nodes { (n : ℕ) → Contains self.old.path.items n → n < length self.old.marks.items }
-        ensures closes { slice_index self.old.bounds.items (length self.old.bounds.items - 1) ≡ place → OnOk result (Closed self.old place cyclic self.new) }
-        ensures goes_on { slice_index self.old.bounds.items (length self.old.bounds.items - 1) ≢ place → OnOk result (Finished self.old self.new) }
+        ensures closes { last_bound self.old ≡ place → OnOk result (Closed self.old place cyclic self.new) }
+        ensures goes_on { last_bound self.old ≢ place → OnOk result (Finished self.old self.new) }
     {
         self.open_places.pop();
         if self.bounds[self.bounds.len() - 1] == place {
@@ -176,7 +176,7 @@ impl Walk {
     fn close(&mut self, place: usize, cyclic: bool) -> Result<(), AllocError>
         requires within { place ≤ length self.old.path.items }
         requires nodes { (n : ℕ) → Contains self.old.path.items n → n < length self.old.marks.items }
-        ensures marks { OnOk result (self.new.marks.items ≡ marked self.old.marks.items (drop place self.old.path.items) (Mark.Done (record { number = length self.old.done.items; cyclic = cyclic }))) }
+        ensures marks { OnOk result (self.new.marks.items ≡ closed_marks self.old place cyclic) }
         ensures path { OnOk result (self.new.path.items ≡ take place self.old.path.items) }
         ensures done { OnOk result (length self.new.done.items ≡ length self.old.done.items + (length self.old.path.items - place)) }
         ensures next { self.new.next.items ≡ self.old.next.items }

@@ -9,7 +9,7 @@ use Rattle.opgen_compress.proofs.Finished.{all_columns-length, all-lowered, heap
 use Rattle.opgen_compress.proofs.Passed.{Passed, lowered-fullest}
 use Rattle.opgen_design.specs.declared.expr.Op.TheVariants.{Plus}
 use Rattle.opgen_design.specs.Tree.{name}
-use Rattle.opgen_design.specs.Width.{IsWidth}
+use Rattle.opgen_design.specs.Value.{IsWidth}
 use Rattle.opgen_heap.specs.Contents.{Contents}
 use Rattle.opgen_heap.specs.Standing.{AllThere}
 use Rattle.opgen_heap.proofs.Standing.{columns-still_there}

@@ -7,9 +7,8 @@ use Rattle.std.proofs.lemmas.List.Elements.{All-cons, All-nil, All-push}
 use Rattle.std.proofs.lemmas.Option.{slice_get-get_or}
 use Rattle.std.proofs.lemmas.Bool.{eq-eqb}
 use Rattle.opgen_num.proofs.Carries.{sum-carry}
-use Rattle.opgen_num.specs.Words.{digit, nat, word}
+use Rattle.opgen_num.specs.Words.{digit, nat, word, sum_with}
 use Rattle.opgen_num.specs.WordLaws.{nat-word, length-word}
-use Rattle.opgen_num.specs.Sums.{sum_with}
 use Rattle.opgen_num.proofs.Words.{nat-below}
 use Rattle.opgen_heap.specs.Contents.{Contents}
 use Rattle.opgen_heap.specs.Sum.{Words, bit_under, ones, columns_sum}
@@ -27,7 +26,7 @@ use Rattle.opgen_net.specs.Flow.{Inputs, flow}
 use Rattle.opgen_net.specs.Grown.{HasGrown}
 use Rattle.opgen_net.specs.Made.{slice_tree}
 use Rattle.opgen_net.specs.Valid.{widths, IsValid, FitsNodes}
-use Rattle.opgen_design.specs.Width.{IsWidth, as_width, joined, width, width_on}
+use Rattle.opgen_design.specs.Value.{IsWidth, as_width, joined, width, width_on}
 use Rattle.opgen_net.specs.WordRule.{IsThere, HasBits, bit_flow, word_flow, runs, is_whole, word_tree, with_node, with_runs, with_word}
 use Rattle.opgen_net.proofs.Appending.{flow-append_last}
 use Rattle.opgen_net.proofs.Grown.{grown-more, grown-flow}

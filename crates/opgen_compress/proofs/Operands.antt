@@ -5,8 +5,7 @@ use Rattle.std.proofs.Math.Seq.{take-suc}
 use Rattle.std.proofs.lemmas.Bool.{eqb-true, and_parts}
 use Rattle.std.proofs.lemmas.List.{length-drop, get_or-drop}
 use Rattle.std.proofs.lemmas.List.Elements.{All-cons, All-nil}
-use Rattle.opgen_num.specs.Words.{digit}
-use Rattle.opgen_num.specs.Sums.{xor}
+use Rattle.opgen_num.specs.Words.{digit, xor}
 use Rattle.opgen_heap.specs.Sum.{bit_under}
 use Rattle.opgen_design.specs.declared.expr.Op.{Op}
 use Rattle.opgen_design.specs.declared.expr.Op.TheVariants.{And, Or, Xor}
@@ -14,8 +13,7 @@ use Rattle.opgen_net.specs.declared.net.Net.{Net}
 use Rattle.opgen_net.specs.declared.word_bits.WordBit.{WordBit}
 use Rattle.opgen_net.specs.declared.word_bits.WordBit.TheVariants.{Zero, One, Of}
 use Rattle.opgen_design.specs.Tree.{Tree, Trees, none, more, name, part}
-use Rattle.opgen_design.specs.Value.{Scope, value, combined, cut}
-use Rattle.opgen_design.specs.Width.{joined, width, width_on, nesting, in_chain}
+use Rattle.opgen_design.specs.Value.{Scope, value, combined, cut, joined, width, width_on, nesting, in_chain}
 use Rattle.opgen_net.specs.Flow.{Inputs, flow}
 use Rattle.opgen_design.specs.Run.{AreWords}
 use Rattle.opgen_net.specs.Valid.{widths, input_widths, IsValid, FitsNodes}

@@ -2,8 +2,7 @@
 use Rattle.std.proofs.Common.{◌≡◌, ℕ, zero, suc, ◌+◌, ◌-◌, ◌*◌, ◌≤◌, Bool, true, false, ◌&&◌, ◌||◌, List, [], ◌∷◌, ◌++◌, length, length-append, refl, sym, ap, ◌∙◌, subst, arith}
 use Rattle.std.specs.Prelude.{ℤ, All, slice_index_or}
 use Rattle.std.proofs.lemmas.List.Elements.{All-append, All-cons, All-nil}
-use Rattle.opgen_num.specs.Words.{digit}
-use Rattle.opgen_num.specs.Sums.{xor}
+use Rattle.opgen_num.specs.Words.{digit, xor}
 use Rattle.opgen_heap.specs.Sum.{Words, bit_under, ones}
 use Rattle.opgen_heap.proofs.Sums.{ones-append}
 use Rattle.opgen_net.specs.declared.cell.Class.TheVariants.{Logic}

@@ -51,9 +51,13 @@ pub record Work : Type 0 where
   pub column : List WordBit
   pub carries : List WordBit
 
+-- a column and its carries in a net
+abbrev pub work : Net → (column carries : List WordBit) → Work
+work net column carries = record { net = net; column = column; carries = carries }
+
 -- the sum goes to the end of the column; the highest column has no carries
 abbrev pub with_adder : (top : Bool) → (sum carry : List ℕ → Tree) → Net → (column carries : List WordBit) → Work
-with_adder true sum carry net column carries = record { net = with_logic net sum; column = column ++ next_bit net ∷ []; carries = carries }
+with_adder true sum carry net column carries = work (with_logic net sum) (column ++ next_bit net ∷ []) carries
 with_adder false sum carry net column carries = record {
   net = with_logic (with_logic net sum) carry;
   column = column ++ next_bit net ∷ [];
@@ -63,9 +67,9 @@ with_adder false sum carry net column carries = record {
 -- the first three bits of a column are added
 abbrev pub full_adder : (top : Bool) → Net → (column carries : List WordBit) → Work
 full_adder top net (a ∷ b ∷ c ∷ column) carries = with_adder top (full_sum a b c) (full_carry a b c) net column carries
-full_adder top net column carries = record { net = net; column = column; carries = carries }
+full_adder top net column carries = work net column carries
 
 -- the first two bits of a column are added
 abbrev pub half_adder : (top : Bool) → Net → (column carries : List WordBit) → Work
 half_adder top net (a ∷ b ∷ column) carries = with_adder top (half_sum a b) (half_carry a b) net column carries
-half_adder top net column carries = record { net = net; column = column; carries = carries }
+half_adder top net column carries = work net column carries

@@ -24,9 +24,11 @@ words_at nodes inputs t = λ n. flow nodes inputs n t
 -- a node whose word is at every time the sum of 2 ^ i over the bits of each column i that are 1, modulo 2 ^ width
 abbrev pub IsSumOfColumns : (before : Net) → List (List WordBit) → (width : ℕ) → (after : List Node) → ℕ → Type 0
 IsSumOfColumns before columns width after n =
-    (inputs : Inputs) (t : ℤ) → All (AreWords (input_widths before)) inputs → nat (flow after inputs n t) ≡ columns_sum (words_at before.nodes inputs t) columns % 2 ^ width
+    (inputs : Inputs) (t : ℤ) → All (AreWords (input_widths before)) inputs
+    → nat (flow after inputs n t) ≡ columns_sum (words_at before.nodes inputs t) columns % 2 ^ width
 
 -- a node whose word is at every time the number of the heap's sum over the net before, whatever words of their widths the inputs are
 abbrev pub IsSumOf : (before : Net) → Contents → (after : List Node) → ℕ → Type 0
 IsSumOf before heap after n =
-    (inputs : Inputs) (t : ℤ) → All (AreWords (input_widths before)) inputs → nat (flow after inputs n t) ≡ heap_sum (words_at before.nodes inputs t) heap
+    (inputs : Inputs) (t : ℤ) → All (AreWords (input_widths before)) inputs
+    → nat (flow after inputs n t) ≡ heap_sum (words_at before.nodes inputs t) heap

@@ -11,7 +11,7 @@ use Rattle.opgen_net.specs.declared.word_bits.WordBit.{WordBit}
 use Rattle.opgen_net.specs.declared.word_bits.WordBit.TheVariants.{Zero, One}
 use Rattle.opgen_design.specs.Tree.{name}
 use Rattle.opgen_net.specs.Placed.{Placed, with_bits, with_last}
-use Rattle.opgen_compress.specs.Adder.{Work, two, full_adder, half_adder}
+use Rattle.opgen_compress.specs.Adder.{Work, work, two, full_adder, half_adder}
 
 abbrev pub Column : Type 0
 Column = List WordBit
@@ -35,6 +35,10 @@ reduced zero top w = w
 reduced (suc zero) top w = half_adder top w.net w.column w.carries
 reduced (suc (suc excess)) top w = reduced excess top (full_adder top w.net w.column w.carries)
 
+-- a column that is brought down to a height, and what it carries
+abbrev pub column_lowered : (height : ℕ) → (top : Bool) → Net → Column → Work
+column_lowered height top net column = reduced (length column - height) top (work net column [])
+
 -- a net, and the columns of a heap in it
 pub record State : Type 0 where
   pub net : Net
@@ -51,7 +55,7 @@ is_none _ = false
 abbrev pub pass : (height : ℕ) → Net → (carries : Column) → List Column → State
 pass height net carries [] = record { net = net; columns = [] }
 pass height net carries (column ∷ columns) =
-    let w = reduced (length (column ++ carries) - height) (is_none columns) (record { net = net; column = column ++ carries; carries = [] }) in
+    let w = column_lowered height (is_none columns) net (column ++ carries) in
     under w.column (pass height w.net w.carries columns)
 
 abbrev pub passes : (heights : List ℕ) → Net → List Column → State

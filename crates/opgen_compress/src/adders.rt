@@ -7,7 +7,7 @@ ghost use Rattle.opgen_net.specs.Flow.{KeepsFlow};
 ghost use Rattle.opgen_net.specs.declared.node.Node.{Node};
 ghost use Rattle.opgen_net.specs.declared.cell.Class.{Class};
 ghost use Rattle.opgen_compress.specs.Kept.{WorkThere};
-ghost use Rattle.opgen_compress.specs.Adder.{full_adder as full_adder_of, half_adder as half_adder_of, bit_tree, two as two_of, three as three_of, half_sum as half_sum_of, half_carry as half_carry_of, full_sum as full_sum_of, full_carry as full_carry_of, next_bit};
+ghost use Rattle.opgen_compress.specs.Adder.{work, full_adder as full_adder_of, half_adder as half_adder_of, bit_tree, two as two_of, three as three_of, half_sum as half_sum_of, half_carry as half_carry_of, full_sum as full_sum_of, full_carry as full_carry_of, next_bit};
 
 use crate::queue::Queue;
 use opgen_design::{Expr, Op, Slice};
@@ -135,10 +135,10 @@ pub fn full_adder(
 ) -> Result<(), Memory>
     requires net { IsValid net.old }
     requires bits { 3 ≤ length column.old }
-    requires there { WorkThere (record { net = net.old; column = column.old; carries = carries.old }) }
-    ensures ok { OnOk result (full_adder_of top net.old column.old carries.old ≡ record { net = net.new; column = column.new; carries = carries.new }) }
+    requires there { WorkThere (work net.old column.old carries.old) }
+    ensures ok { OnOk result (full_adder_of top net.old column.old carries.old ≡ work net.new column.new carries.new) }
     ensures shorter { OnOk result (length column.new + 2 ≡ length column.old) }
-    ensures there { OnOk result (WorkThere (record { net = net.new; column = column.new; carries = carries.new })) }
+    ensures there { OnOk result (WorkThere (work net.new column.new carries.new)) }
     ensures valid { IsValid net.new }
 {
     let a = column.take();
@@ -164,10 +164,10 @@ pub fn half_adder(
 ) -> Result<(), Memory>
     requires net { IsValid net.old }
     requires bits { 2 ≤ length column.old }
-    requires there { WorkThere (record { net = net.old; column = column.old; carries = carries.old }) }
-    ensures ok { OnOk result (half_adder_of top net.old column.old carries.old ≡ record { net = net.new; column = column.new; carries = carries.new }) }
+    requires there { WorkThere (work net.old column.old carries.old) }
+    ensures ok { OnOk result (half_adder_of top net.old column.old carries.old ≡ work net.new column.new carries.new) }
     ensures shorter { OnOk result (length column.new + 1 ≡ length column.old) }
-    ensures there { OnOk result (WorkThere (record { net = net.new; column = column.new; carries = carries.new })) }
+    ensures there { OnOk result (WorkThere (work net.new column.new carries.new)) }
     ensures valid { IsValid net.new }
 {
     let a = column.take();

@@ -2,8 +2,9 @@
 ghost use Rattle.std.specs.Prelude.{◌≡◌, ◌≤◌, ◌<◌, ◌^◌, ◌-◌, [], ◌∷◌, length, reverse, All, IfOk};
 ghost use Rattle.opgen_net.specs.Valid.{IsValid, widths};
 ghost use Rattle.opgen_net.specs.WordRule.{IsThere};
-ghost use Rattle.opgen_compress.specs.Recipe.{is_none, reduced, pass as passed, passes, heights_below, fullest as fullest_of, lowered};
+ghost use Rattle.opgen_compress.specs.Recipe.{is_none, column_lowered, pass as passed, passes, heights_below, fullest as fullest_of, lowered};
 ghost use Rattle.opgen_heap.specs.Standing.{AllThere};
+ghost use Rattle.opgen_compress.specs.Adder.{work};
 ghost use Rattle.opgen_compress.specs.Kept.{WorkThere};
 
 use crate::adders::{full_adder, half_adder};
@@ -24,8 +25,8 @@ fn reduce(
     requires net { IsValid net.old }
     requires height { 2 ≤ height }
     requires there { All (IsThere (widths net.old.nodes)) column.old }
-    ensures ok { IfOk result (λ carries. reduced (length column.old - height) top (record { net = net.old; column = column.old; carries = [] }) ≡ record { net = net.new; column = column.new; carries = carries }) }
-    ensures there { IfOk result (λ carries. WorkThere (record { net = net.new; column = column.new; carries = carries })) }
+    ensures ok { IfOk result (λ carries. column_lowered height top net.old column.old ≡ work net.new column.new carries) }
+    ensures there { IfOk result (λ carries. WorkThere (work net.new column.new carries)) }
     ensures valid { IsValid net.new }
 {
     let mut carries = Items::new(alloc);

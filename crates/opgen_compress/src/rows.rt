@@ -2,7 +2,7 @@
 ghost use Rattle.std.specs.Prelude.{◌≡◌, ◌≤◌, ℕ, ℤ, length, slice_index, IfOk, OnOk};
 ghost use Rattle.opgen_net.specs.Grown.{HasGrown};
 ghost use Rattle.opgen_net.specs.Valid.{IsValid, widths};
-ghost use Rattle.opgen_design.specs.Width.{IsWidth};
+ghost use Rattle.opgen_design.specs.Value.{IsWidth};
 ghost use Rattle.opgen_net.specs.declared.net.Net.{Net};
 ghost use Rattle.opgen_compress.specs.Recipe.{row as row_of, fullest as fullest_of, finished};
 ghost use Rattle.opgen_compress.specs.Adder.{two};

@@ -4,8 +4,7 @@ use Rattle.std.specs.Prelude.{ℤ, pos, ◌-ℤ◌, if◌then◌else◌}
 use Rattle.std.proofs.lemmas.Int.{ints}
 use Rattle.opgen_num.specs.declared.format.Format.{Format}
 use Rattle.opgen_num.specs.Rounding.{IsWithinOne}
-use Rattle.opgen_num.specs.Values.{int, val}
-use Rattle.opgen_num.specs.Words.{nat}
+use Rattle.opgen_num.specs.Words.{int, val, nat}
 use Rattle.opgen_net.specs.Flow.{Inputs, input_at}
 use Rattle.opgen_net.specs.Placed.{number_at}
 use Rattle.opgen_kinds.specs.declared.small_div.SmallDiv.{SmallDiv}
@@ -13,8 +12,8 @@ use Rattle.opgen_operator.specs.declared.operator.Operator.TheVariants.{Constdiv
 use Rattle.opgen_operator.specs.Fits.{FitsOperator, FitsInEachMode, name_and_width}
 use Rattle.opgen_kinds.specs.SmallDiv.{IsAcceptedSmallDiv, IsGoodSmallQuotient, small_ports, IsSmallDiv}
 use Rattle.opgen_operator.specs.Operator.{operator_inputs}
-use Rattle.opgen_operator.specs.PortWords.{recent_words, output_words}
-use Rattle.opgen_ports.specs.Recent.{Recent}
+use Rattle.opgen_operator.specs.Outputs.{recent_words, output_words}
+use Rattle.opgen_ports.specs.Ports.{Recent}
 use Rattle.opgen_operator.proofs.Accepted.{accepted_ranges}
 use Rattle.opgen_ports.proofs.InputPorts.{input_bit}
 use Rattle.opgen_constdiv.specs.Rows.{IsSmall}

@@ -105,15 +105,6 @@ rows-fit ws address c count at all =
 pub table-fits : (ws : List ℕ) (address c : ℕ) → slice_index ws address ≡ 6 → FitsTable ws address (rows c)
 table-fits ws address c at = rows-fit ws address c 64 at refl
 
-pub small-power : (p : ℕ) → p ≤ 5 → 2 ^ p ≤ 32
-small-power zero h = omega arith
-small-power (suc zero) h = omega arith
-small-power (suc (suc zero)) h = omega arith
-small-power (suc (suc (suc zero))) h = omega arith
-small-power (suc (suc (suc (suc zero)))) h = omega arith
-small-power (suc (suc (suc (suc (suc zero))))) h = omega arith
-small-power (suc (suc (suc (suc (suc (suc p)))))) h = absurd (omega (arith, h))
-
 -- a digit more of a division
 pub next_digit : (c a n q r d : ℕ) → 1 ≤ c → IsQuotient n c q r → d < a
     → IsQuotient (d + a * n) c ((d + a * r) / c + a * q) ((d + a * r) % c)

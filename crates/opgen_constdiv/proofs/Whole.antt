@@ -10,8 +10,7 @@ use Rattle.opgen_num.specs.Rounding.{IsQuotient, IsWithinOne}
 use Rattle.opgen_num.specs.Words.{nat}
 use Rattle.opgen_num.proofs.Words.{nat-below}
 use Rattle.opgen_design.specs.Run.{AreWords}
-use Rattle.opgen_design.specs.Value.{word_at, cut}
-use Rattle.opgen_design.specs.Width.{IsWidth}
+use Rattle.opgen_design.specs.Value.{word_at, cut, IsWidth}
 use Rattle.opgen_digits.proofs.Outputs.{whole-width, made-later, output-valid, output-keeps, output-number}
 use Rattle.opgen_net.specs.declared.net.Net.{Net}
 use Rattle.opgen_net.specs.declared.net.Output.{Output}

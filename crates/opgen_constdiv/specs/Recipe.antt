@@ -7,6 +7,7 @@ use Rattle.opgen_net.specs.declared.word_bits.WordBit.{WordBit}
 use Rattle.opgen_net.specs.declared.word_bits.WordBit.TheVariants.{Zero}
 use Rattle.opgen_net.specs.WordRule.{bits_from}
 use Rattle.opgen_net.specs.Placed.{with_bits, with_last, with_output, whole}
+use Rattle.opgen_constdiv.specs.declared.digits.Division.{Division}
 use Rattle.opgen_constdiv.specs.Rows.{rest_width, digit_width, rows}
 
 -- the input is node 0
@@ -31,6 +32,10 @@ pub record Divided : Type 0 where
   pub quotient : List WordBit
   pub rest : List WordBit
   pub table : ℕ
+
+-- a net with a division so far
+abbrev pub so_far : Net → Division → Divided
+so_far net division = record { net = net; quotient = division.quotient; rest = division.rest; table = division.table }
 
 -- a digit more: a table on the remainder above the digit, which has the next digit of the quotient above the next remainder
 abbrev pub divided : (divisor : ℕ) → (digit : List WordBit) → Divided → Divided

@@ -1,7 +1,7 @@
 -- The invariant of a division by a small constant: after each digit, the digits so far as a number are the quotient so far times
 -- the divisor, plus a remainder below the divisor.
 use Rattle.std.specs.Prelude.{ℕ, ◌*◌, ◌≤◌, ℤ, take, All}
-use Rattle.opgen_num.specs.declared.TheConstants.{MAX_INPUT}
+use Rattle.opgen_num.specs.declared.format.TheConstants.{MAX_INPUT}
 use Rattle.opgen_num.specs.Rounding.{IsQuotient}
 use Rattle.opgen_design.specs.Run.{AreWords}
 use Rattle.opgen_net.specs.declared.net.Net.{Net}

@@ -1,12 +1,12 @@
 //! Splits the input into digits, and divides them one after another from the highest, each with the remainder so far.
 ghost use Rattle.std.specs.Prelude.{◌≡◌, ◌+◌, ◌*◌, ◌≤◌, ◌<◌, ◌++◌, ◌-◌, All, IfOk, OnOk, length, take, drop, slice_index, []};
-ghost use Rattle.opgen_num.specs.declared.TheConstants.{MAX_WIDTH};
+ghost use Rattle.opgen_num.specs.declared.format.TheConstants.{MAX_WIDTH};
 ghost use Rattle.opgen_net.specs.Valid.{IsValid, widths};
 ghost use Rattle.opgen_net.specs.WordRule.{IsThere};
 ghost use Rattle.opgen_constdiv.specs.Rows.{IsSmall};
-ghost use Rattle.opgen_design.specs.Width.{IsWidth};
+ghost use Rattle.opgen_design.specs.Value.{IsWidth};
 ghost use Rattle.opgen_constdiv.specs.Steps.{IsInput, HoldsAfterEachDigit};
-ghost use Rattle.opgen_constdiv.specs.Recipe.{with_input, digit_number as digit_number_of, dividend as dividend_of, divided, after, with_results, net_of};
+ghost use Rattle.opgen_constdiv.specs.Recipe.{with_input, digit_number as digit_number_of, dividend as dividend_of, so_far, divided, after, with_results, net_of};
 
 use crate::rows::{digit_width, rest_width, rows};
 use opgen_list::Items;
@@ -58,7 +58,7 @@ fn divide_digit(
     requires net { IsValid net.old }
     requires there { All (IsThere (widths net.old.nodes)) (division.old.rest ++ digit.now) }
     requires six { length (division.old.rest ++ digit.now) ≡ 6 }
-    ensures ok { OnOk result (divided divisor digit.now (record { net = net.old; quotient = division.old.quotient; rest = division.old.rest; table = division.old.table }) ≡ record { net = net.new; quotient = division.new.quotient; rest = division.new.rest; table = division.new.table }) }
+    ensures ok { OnOk result (divided divisor digit.now (so_far net.old division.old) ≡ so_far net.new division.new) }
     ensures valid { IsValid net.new }
 {
     let mut bits = Vec::new(alloc);
@@ -93,7 +93,7 @@ fn divide_digits(alloc: Global, width: u32, divisor: u32, net: &mut Net) -> Resu
     requires input { IsInput width }
     requires small { IsSmall divisor }
     requires net { net.old ≡ with_input width }
-    ensures ok { IfOk result (λ d. after width divisor (digit_number_of width divisor) ≡ record { net = net.new; quotient = d.quotient; rest = d.rest; table = d.table }) }
+    ensures ok { IfOk result (λ d. after width divisor (digit_number_of width divisor) ≡ so_far net.new d) }
     ensures valid { IfOk result (λ d. IsValid net.new) }
 {
     let mut division = Division {
@@ -133,7 +133,7 @@ fn output_results(
     requires wide { IsWidth width }
     requires there { All (IsThere (widths net.old.nodes)) division.now.quotient }
     requires table { slice_index (widths net.old.nodes) division.now.table ≡ 6 }
-    ensures ok { OnOk result (net.new ≡ with_results exact width divisor (record { net = net.old; quotient = division.now.quotient; rest = division.now.rest; table = division.now.table })) }
+    ensures ok { OnOk result (net.new ≡ with_results exact width divisor (so_far net.old division.now)) }
     ensures valid { IsValid net.new }
 {
     let bits = lowest(division.quotient.as_slice(), width as usize);

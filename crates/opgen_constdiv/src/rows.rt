@@ -1,8 +1,8 @@
 //! The rows of the table that divides a remainder and one digit by the constant.
-ghost use Rattle.std.specs.Prelude.{◌≡◌, ◌≤◌, ◌<◌, ◌^◌, IfOk};
+ghost use Rattle.std.specs.Prelude.{◌≡◌, ◌≤◌, ◌<◌, IfOk};
 ghost use Rattle.opgen_constdiv.specs.Rows.{IsSmall, rest_width as rest_width_of, digit_width as digit_width_of, row as row_of, rows as rows_of};
 
-use opgen_num::{Word, bit_length};
+use opgen_num::{Word, bit_length, power};
 use std::alloc::{AllocError, Global};
 
 /// The bits of the greatest remainder.
@@ -25,26 +25,17 @@ pub fn digit_width(divisor: u32) -> u32
     6 - rest_width(divisor)
 }
 
-// Two to a power.
-fn power(places: u32) -> u32
-    requires { places ≤ 5 }
-    ensures value { result ≡ 2 ^ places }
-    ensures some { 0 < result }
-    ensures few { result ≤ 32 }
-{
-    1 << places
-}
-
 // The quotient of an address above its remainder, or zero where the remainder in the address is none.
-fn row(divisor: u32, address: u32) -> u32
+fn row(divisor: u32, address: u128) -> u128
     requires small { IsSmall divisor }
     requires address { address < 64 }
     ensures { result ≡ row_of divisor address }
 {
-    if address / power(digit_width(divisor)) >= divisor {
+    let size = u128::from(divisor);
+    if address / power(digit_width(divisor)) >= size {
         return 0;
     }
-    address / divisor * power(rest_width(divisor)) + address % divisor
+    address / size * power(rest_width(divisor)) + address % size
 }
 
 /// The rows of a divisor's table, one for each address.
@@ -53,8 +44,8 @@ pub fn rows(alloc: Global, divisor: u32) -> Result<Vec<Word>, AllocError>
     ensures { IfOk result (λ rows. rows.items ≡ rows_of divisor) }
 {
     let mut rows = Vec::new(alloc);
-    'addresses: for address in 0..64 {
-        rows.push(Word::new(u128::from(row(divisor, address)), 6))?;
+    'addresses: for address in 0..64u32 {
+        rows.push(Word::new(row(divisor, u128::from(address)), 6))?;
     }
     Ok(rows)
 }

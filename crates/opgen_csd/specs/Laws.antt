@@ -27,7 +27,8 @@ pub record IsPartialSum (t : ℕ) (sums : List ℕ) (x : ℕ) : Type 0 where
   pub step : IsStep sums x
 
 abbrev pub PartialsStepUp : Type 0
-PartialsStepUp = (ds : List ℤ) (t : ℕ) → IsCanonical ds → value_of ds ≡ pos t → t % 2 ≡ 1 → (x : ℕ) → Contains (partials ds) x → IsPartialSum t (partials ds) x
+PartialsStepUp = (ds : List ℤ) (t : ℕ) → IsCanonical ds → value_of ds ≡ pos t → t % 2 ≡ 1
+    → (x : ℕ) → Contains (partials ds) x → IsPartialSum t (partials ds) x
 
 -- an odd number above 1 is the last of its own partial sums
 abbrev pub PartialsEndInNumber : Type 0

@@ -4,8 +4,7 @@ use Rattle.std.specs.Prelude.{All}
 use Rattle.opgen_design.specs.declared.design.Design.{Design}
 use Rattle.opgen_design.specs.declared.design.Driver.{Driver}
 use Rattle.opgen_design.specs.declared.design.Driver.TheVariants.{Assign, Choice, Table, Register, Output}
-use Rattle.opgen_design.specs.Enabled.{without_enable, marked, is_one, ones_at, EnabledCyclesAreRuns, IsNoRegister, AnyCyclesAreRuns}
-use Rattle.opgen_design.specs.Run.{Words, scope, Meets, Cycle, RunsOn, initial_words}
+use Rattle.opgen_design.specs.Run.{without_enable, marked, is_one, ones_at, EnabledCyclesAreRuns, IsNoRegister, AnyCyclesAreRuns, Words, scope, Meets, Cycle, RunsOn, initial_words}
 use Rattle.opgen_design.specs.Value.{word_at, value, chosen}
 
 -- the words that registers hold are the same

@@ -11,12 +11,11 @@ use Rattle.opgen_components.proofs.Laws.{smaller}
 use Rattle.opgen_design.specs.declared.design.Design.{Design}
 use Rattle.opgen_design.specs.declared.design.Driver.{Driver}
 use Rattle.opgen_design.specs.declared.design.Driver.TheVariants.{Assign, Choice, Table, Register, Output}
-use Rattle.opgen_design.specs.Reads.{driver_names, names_read}
+use Rattle.opgen_design.specs.Sound.{driver_names, names_read, target, Needs, Names, IsRegisterOf, IsOffCycles, IsOrdered, DependsOn, at_once, through, Holds}
 use Rattle.opgen_design.specs.Order.{is_register}
 use Rattle.opgen_design.specs.Rules.{AreFirstDrivers, AreNeeds, AreGroups, IsRegisterAt, IsRegisterIn, slot, needs_of, needs_if, needs_at}
 use Rattle.opgen_design.specs.declared.design.Target.TheVariants.{Signal as signal}
 use Rattle.opgen_design.specs.declared.sound.Rule.TheVariants.{Undeclared, DrivenTwice}
-use Rattle.opgen_design.specs.Sound.{target, Needs, Names, IsRegisterOf, IsOffCycles, IsOrdered, DependsOn, at_once, through, Holds}
 use Rattle.opgen_design.proofs.UseLaws.{reads-contains, contains-reads}
 use Rattle.opgen_design.proofs.SoundLaws.{at-contains, declared-in, is-signal, first-at, driver-lists}
 

@@ -1,7 +1,7 @@
 -- What holds of all that an expression reads.
 use Rattle.std.proofs.Common.{ℕ, subst, inl, inr}
 use Rattle.opgen_design.specs.Tree.{Tree, Trees, name, part, bits, port, inverse, chain, none, more}
-use Rattle.opgen_design.specs.Reads.{AllReads, AllOperandsRead, ReadsName, SomeOperandReads}
+use Rattle.opgen_design.specs.Sound.{AllReads, AllOperandsRead, ReadsName, SomeOperandReads}
 
 module _ (P Q R S : ℕ → Type 0) (names : (n : ℕ) → P n → R n) (ports : (n : ℕ) → Q n → S n) where
   mutual

@@ -9,13 +9,12 @@ use Rattle.opgen_design.specs.declared.design.Design.{Design}
 use Rattle.opgen_design.specs.declared.design.Driver.{Driver}
 use Rattle.opgen_design.specs.declared.design.Driver.TheVariants.{Assign, Choice, Table, Register, Output}
 use Rattle.opgen_design.specs.declared.sound.SoundFault.{SoundFault}
-use Rattle.opgen_design.specs.Reads.{driver_names, driver_ports, names_read, ports_read}
+use Rattle.opgen_design.specs.Sound.{driver_names, driver_ports, names_read, ports_read, rule_number, target, DriverReads, Names, IsDeclared, IsInput, IsOnlyDriver, IsDriven, Place, at_design, at_port, at_signal, at_driver, item, Holds, PassesAt, DesignPasses, PortPasses, SignalPasses, DriverPasses}
 use Rattle.opgen_design.specs.Rules.{IsFirstFailing, IsFaultAt, PortsPass, SignalsPass, DriversPass, AreFirstDrivers, IsDrivenAt, slot, slot_of, noted, noted_at, fault_at}
 use Rattle.opgen_design.specs.declared.design.Target.{Target}
 use Rattle.opgen_design.specs.declared.design.Target.TheVariants.{Signal as signal, Port as port_of}
 use Rattle.opgen_design.specs.declared.sound.Rule.{Rule}
 use Rattle.opgen_design.specs.declared.sound.Rule.TheVariants.{Undeclared, DrivenTwice}
-use Rattle.opgen_design.specs.Sound.{rule_number, target, DriverReads, Names, IsDeclared, IsInput, IsOnlyDriver, IsDriven, Place, at_design, at_port, at_signal, at_driver, item, Holds, PassesAt, DesignPasses, PortPasses, SignalPasses, DriverPasses}
 use Rattle.opgen_design.proofs.FirstFailing.{of-item}
 use Rattle.opgen_design.proofs.UseLaws.{reads-lists, lists-reads, all-front, all-back}
 

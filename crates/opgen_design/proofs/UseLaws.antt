@@ -7,8 +7,8 @@ use Rattle.opgen_design.specs.declared.expr.Expr.{Expr}
 use Rattle.opgen_design.specs.declared.expr.Op.{Op}
 use Rattle.opgen_design.specs.Tree.{Tree, Trees, name, part, bits, port, inverse, chain, none, more}
 use Rattle.opgen_design.specs.Plain.{plain, plain_all}
-use Rattle.opgen_design.specs.Width.{chain_width}
-use Rattle.opgen_design.specs.Reads.{AllReads, AllOperandsRead, ReadsName, SomeOperandReads, names_read, operand_names, ports_read, operand_ports}
+use Rattle.opgen_design.specs.Value.{chain_width}
+use Rattle.opgen_design.specs.Sound.{AllReads, AllOperandsRead, ReadsName, SomeOperandReads, names_read, operand_names, ports_read, operand_ports}
 
 pub short-chain : (ns ps : List ℕ) (op : Op) (es : List Expr) → length es < 2 → chain_width ns ps op (plain_all es) ≡ None
 short-chain ns ps op [] h = refl

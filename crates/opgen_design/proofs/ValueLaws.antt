@@ -4,7 +4,7 @@ use Rattle.std.specs.Prelude.{not}
 use Rattle.opgen_design.specs.declared.expr.Op.{Op}
 use Rattle.opgen_design.specs.Tree.{Tree, Trees, name, part, bits, port, inverse, chain, none, more}
 use Rattle.opgen_design.specs.Value.{Scope, value, chain_value, value_on, cut, combined}
-use Rattle.opgen_design.specs.Reads.{AllReads, AllOperandsRead}
+use Rattle.opgen_design.specs.Sound.{AllReads, AllOperandsRead}
 
 module _ (P Q : ℕ → Type 0) (s r : Scope) (names : (n : ℕ) → P n → s.names n ≡ r.names n)
     (ports : (n : ℕ) → Q n → s.ports n ≡ r.ports n) where

@@ -4,14 +4,13 @@ use Rattle.std.specs.Prelude.{not, ◌&&◌, ◌||◌, slice_get, option_and_the
 use Rattle.std.proofs.lemmas.Bool.{cond-true, and_from, le-leb, ltb-true, leb-true, eqb-true, and_parts}
 use Rattle.std.proofs.lemmas.List.{length-append, length-drop, length-map, length-take-le}
 use Rattle.std.proofs.lemmas.Option.{slice_get_within}
-use Rattle.opgen_num.specs.declared.TheConstants.{MAX_WIDTH}
-use Rattle.opgen_num.specs.Sums.{xor, majority, pairwise, sum_with}
+use Rattle.opgen_num.specs.declared.format.TheConstants.{MAX_WIDTH}
+use Rattle.opgen_num.specs.Words.{xor, majority, pairwise, sum_with}
 use Rattle.opgen_design.specs.declared.expr.Op.{Op}
 use Rattle.opgen_design.specs.declared.expr.Op.TheVariants.{And, Or, Xor, Cat, Plus, Minus}
 use Rattle.opgen_design.specs.Tree.{Tree, Trees, name, part, bits, port, inverse, chain, none, more}
-use Rattle.opgen_design.specs.Value.{Scope, value, chain_value, value_on, cut, combined}
-use Rattle.opgen_design.specs.Reads.{AllReads, AllOperandsRead}
-use Rattle.opgen_design.specs.Width.{IsWidth, as_width, joined, width, chain_width, width_on}
+use Rattle.opgen_design.specs.Value.{Scope, value, chain_value, value_on, cut, combined, IsWidth, as_width, joined, width, chain_width, width_on}
+use Rattle.opgen_design.specs.Sound.{AllReads, AllOperandsRead}
 
 pub length-pairwise : (f : Bool → Bool → Bool) (a b : List Bool) → length a ≡ length b → length (pairwise f a b) ≡ length a
 length-pairwise f [] b h = refl

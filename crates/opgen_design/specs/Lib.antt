@@ -3,10 +3,7 @@ pub mod Tree
 pub mod Plain
 pub mod TreeCode
 pub mod Value
-pub mod Width
-pub mod Reads
 pub mod Run
-pub mod Enabled
 pub mod Sound
 pub mod Rules
 pub mod Order

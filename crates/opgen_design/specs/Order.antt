@@ -22,7 +22,8 @@ waiting i (k ∷ ks) = if is_register k then waiting (i + 1) ks else i ∷ waiti
 -- each driver that is no register stands once, after each driver of a signal that it needs
 pub record IsOrderOf (d : Design) (order : List ℕ) : Type 0 where
   pub each_once : IsPermutation (waiting 0 d.drivers) order
-  pub needs_first : (p q i j s : ℕ) (k m : Driver) → slice_get order p ≡ Some i → slice_get d.drivers i ≡ Some k → slice_get order q ≡ Some j → slice_get d.drivers j ≡ Some m
+  pub needs_first : (p q i j s : ℕ) (k m : Driver) → slice_get order p ≡ Some i → slice_get d.drivers i ≡ Some k
+      → slice_get order q ≡ Some j → slice_get d.drivers j ≡ Some m
       → target m ≡ signal s → Needs s k → q < p
 
 -- a driver of a signal ranks by its group's number, and a driver of a port comes after all those

@@ -8,11 +8,10 @@ use Rattle.opgen_design.specs.declared.sound.SoundFault.TheVariants.{Unsound, Me
 use Rattle.opgen_components.specs.declared.Component.{Component}
 use Rattle.opgen_components.specs.Graph.{component_of}
 use Rattle.opgen_design.specs.Order.{is_register}
-use Rattle.opgen_design.specs.Reads.{driver_names}
+use Rattle.opgen_design.specs.Sound.{driver_names, rule_number, target, Place, item, Needs, DependsOn, PassesAt, PortPasses, SignalPasses, DriverPasses}
 use Rattle.opgen_design.specs.declared.design.Target.{Target}
 use Rattle.opgen_design.specs.declared.design.Target.TheVariants.{Signal as signal, Port as port_of}
 use Rattle.opgen_design.specs.declared.sound.Rule.{Rule}
-use Rattle.opgen_design.specs.Sound.{rule_number, target, Place, item, Needs, DependsOn, PassesAt, PortPasses, SignalPasses, DriverPasses}
 
 -- P holds of each item of a list before a place
 abbrev pub HoldsBefore : {X : Type 0} → (P : ℕ → X → Type 0) → List X → ℕ → Type 0
@@ -82,7 +81,8 @@ needs_at d None = []
 needs_at d (Some i) = needs_if (slice_get d.drivers i)
 
 abbrev pub AreNeeds : Design → (firsts : List (Option ℕ)) → (needs : List (List ℕ)) → Type 0
-AreNeeds d firsts needs = (length needs ≡ length d.signals) × ((s : ℕ) → s < length d.signals → slice_index_or needs s [] ≡ needs_at d (slice_index_or firsts s None))
+AreNeeds d firsts needs = (length needs ≡ length d.signals)
+    × ((s : ℕ) → s < length d.signals → slice_index_or needs s [] ≡ needs_at d (slice_index_or firsts s None))
 
 -- some driver drives what has that slot
 abbrev pub IsDrivenAt : Design → ℕ → Type 0
@@ -92,7 +92,8 @@ IsDrivenAt d t = (k : Driver) × Contains d.drivers k × (slot_of d k ≡ t)
 pub record AreGroups (d : Design) (cs : List Component) : Type 0 where
   pub one_each : length cs ≡ length d.signals
   pub cyclic : (s : ℕ) → s < length d.signals → IsTrue (component_of cs s).cyclic ↔ DependsOn d s s
-  pub smaller : (s r : ℕ) (k : Driver) → Contains d.drivers k → target k ≡ signal s → Needs r k → (DependsOn d s s → ⊥) → (component_of cs r).number < (component_of cs s).number
+  pub smaller : (s r : ℕ) (k : Driver) → Contains d.drivers k → target k ≡ signal s → Needs r k → (DependsOn d s s → ⊥)
+      → (component_of cs r).number < (component_of cs s).number
 
 abbrev pub PortsPass : Design → Rule → Type 0
 PortsPass d rule = (i : ℕ) → IfSome (slice_get d.ports i) (PortPasses d rule i)

@@ -1,5 +1,5 @@
 -- One cycle of a design, and its runs: the equations of IEEE 1076-1993 for a settled cycle on the bits 0 and 1.
-use Rattle.std.specs.Prelude.{ℕ, ◌≡◌, Option, Some, None, Bool, true, false, if◌then◌else◌, List, [], ◌∷◌, length, map, All, unwrap_or}
+use Rattle.std.specs.Prelude.{ℕ, ◌≡◌, Option, Some, None, Bool, true, false, if◌then◌else◌, List, [], ◌∷◌, length, map, All, unwrap_or, drop, codes}
 use Rattle.opgen_design.specs.declared.design.Design.{Design}
 use Rattle.opgen_design.specs.declared.design.Dir.{Dir}
 use Rattle.opgen_design.specs.declared.design.Dir.TheVariants.{In, Out}
@@ -46,7 +46,8 @@ abbrev pub Meets : (enable : Option ℕ) → (now : List (List Bool)) → Words 
 Meets enable now v next (Assign to e) = word_at v.signals to ≡ value (scope v) e
 Meets enable now v next (Choice to on one other) = word_at v.signals to ≡ chosen (value (scope v) on) (value (scope v) one) (value (scope v) other)
 Meets enable now v next (Table to on rows other) = IsTableWord rows other (value (scope v) on) (word_at v.signals to)
-Meets enable now v next (Register to e) = (word_at v.signals to ≡ word_at now to) × (word_at next to ≡ moved enable v (value (scope v) e) (word_at now to))
+Meets enable now v next (Register to e) =
+    (word_at v.signals to ≡ word_at now to) × (word_at next to ≡ moved enable v (value (scope v) e) (word_at now to))
 Meets enable now v next (Output port e) = word_at v.ports port ≡ value (scope v) e
 
 -- a cycle: each signal and port has a word of its width, the input ports have the words given, and each driver's equation holds
@@ -85,3 +86,50 @@ input_widths d = at_ports is_in d.ports (map (λ p. p.width) d.ports)
 -- the widths of the output ports, in order
 abbrev pub output_widths : Design → List ℕ
 output_widths d = at_ports is_out d.ports (map (λ p. p.width) d.ports)
+
+-- the design that is the same but has no enable
+abbrev pub without_enable : Design → Design
+without_enable d = record { name = d.name; ports = d.ports; signals = d.signals; drivers = d.drivers; enable = None }
+
+-- the items that are marked, in their order
+abbrev pub marked : {X : Type 0} → List Bool → List X → List X
+marked [] xs = []
+marked (m ∷ marks) [] = []
+marked (true ∷ marks) (x ∷ xs) = x ∷ marked marks xs
+marked (false ∷ marks) (x ∷ xs) = marked marks xs
+
+-- the word of one bit, 1
+abbrev pub is_one : List Bool → Bool
+is_one (true ∷ []) = true
+is_one _ = false
+
+-- which cycles have 1 at a port
+abbrev pub ones_at : ℕ → List Words → List Bool
+ones_at port vs = map (λ v. is_one (word_at v.ports port)) vs
+
+-- Of a run, the cycles in which the enable's word is 1, in their order, are a run of the design without the enable.
+abbrev pub EnabledCyclesAreRuns : Type 0
+EnabledCyclesAreRuns = (d : Design) (port : ℕ) (inputs : List (List (List Bool))) (vs : List Words) → d.enable ≡ Some port → Run d inputs vs
+    → Run (without_enable d) (marked (ones_at port vs) inputs) (marked (ones_at port vs) vs)
+
+abbrev pub IsNoRegister : Driver → Type 0
+IsNoRegister (Register to e) = ⊥
+IsNoRegister _ = Unit {0}
+
+-- Of a run of a design without registers, any cycles, in their order, are a run of it.
+abbrev pub AnyCyclesAreRuns : Type 0
+AnyCyclesAreRuns = (d : Design) (inputs : List (List (List Bool))) (vs : List Words) (marks : List Bool)
+    → All IsNoRegister d.drivers → Run d inputs vs → Run d (marked marks inputs) (marked marks vs)
+
+-- the inputs before those of the operator, each a name and a width: the clock enable, where it is asked for
+abbrev pub enable_inputs : Bool → List (List ℕ × ℕ)
+enable_inputs true = (codes "ce", 1) ∷ []
+enable_inputs false = []
+
+-- the cycles of a run that count, in their order: where the enable was asked for, those in which its word is 1
+abbrev pub counted : {X : Type 0} → (enable : Bool) → List Words → List X → List X
+counted enable vs xs = if enable then marked (ones_at 0 vs) xs else xs
+
+-- the words of the other inputs in each cycle: all but that of the enable
+abbrev pub data_inputs : (enable : Bool) → List (List (List Bool)) → List (List (List Bool))
+data_inputs enable inputs = if enable then map (drop 1) inputs else inputs

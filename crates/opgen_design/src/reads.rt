@@ -1,7 +1,7 @@
 //! Lists the signals and ports that the expressions of a driver read.
 ghost use Rattle.std.specs.Prelude.{◌≡◌, ◌++◌, [], IfOk, OnOk};
 ghost use Rattle.opgen_design.specs.Plain.{plain, plain_all};
-ghost use Rattle.opgen_design.specs.Reads.{names_read, operand_names, ports_read, operand_ports, driver_names, driver_ports};
+ghost use Rattle.opgen_design.specs.Sound.{names_read, operand_names, ports_read, operand_ports, driver_names, driver_ports};
 
 use crate::{Driver, Expr};
 use std::alloc::{AllocError, Global};
@@ -35,7 +35,7 @@ impl Expr {
         Ok(uses.names)
     }
 
-    /// Appends what the expression reads.
+    // Appends what the expression reads.
     #[cycle(reads)]
     fn add_uses(&self, uses: &mut Uses) -> Result<(), AllocError>
         ensures names { OnOk result (uses.new.names.items ≡ uses.old.names.items ++ names_read (plain self.now)) }

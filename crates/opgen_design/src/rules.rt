@@ -6,7 +6,7 @@ ghost use Rattle.opgen_design.specs.Rules.{IsFirstFailing, AreFirstDrivers, AreN
 ghost use Rattle.opgen_design.specs.declared.design.Target.TheVariants.{Signal as signal, Port as port_of};
 ghost use Rattle.opgen_design.specs.declared.sound.Rule.TheVariants.{Undeclared, Width, DrivenTwice, NotDriven, Cyclic, ReadsOutput, NoInitial, ChoiceTwice, BadEnable};
 ghost use Rattle.opgen_design.specs.Sound.{Holds, HasNumbers, IsDeclared, IsNewName, IsSignalWide, IsOnlyDriver, IsDriven, IsOffCycles, IsOrdered, ReadsInputs, HasInitial, AddressesDiffer, Names, WidthsAgree, PortPasses, SignalPasses, DriverPasses, names_of, target};
-ghost use Rattle.opgen_design.specs.Width.{IsWidth};
+ghost use Rattle.opgen_design.specs.Value.{IsWidth};
 ghost use Rattle.opgen_design.specs.declared.design.Dir.TheVariants.{In};
 
 use crate::reads::Uses;

@@ -90,10 +90,10 @@ fn failing(rule: Rule, before: usize, place: Option<usize>) -> Result<(), SoundF
 }
 
 impl Design {
-    /// Whether ten rules hold: 1 each number in a driver names a signal or a port, and the enable a port, 2 names differ and none is `clk`, 3 widths agree,
-    /// 4 nothing has two drivers and no input port has one, 5 each signal and output port has one, 6 no signal depends on itself
-    /// without a register between, 7 output ports are not read, 8 signals of registers have an initial value, 9 no table has an
-    /// address twice, 10 the enable is an input port of one bit.
+    /// Whether ten rules hold: 1 each number in a driver names a signal or a port, and the enable a port, 2 names differ and none
+    /// is `clk`, 3 widths agree, 4 nothing has two drivers and no input port has one, 5 each signal and output port has one, 6 no
+    /// signal depends on itself without a register between, 7 output ports are not read, 8 signals of registers have an initial
+    /// value, 9 no table has an address twice, 10 the enable is an input port of one bit.
     ///
     /// Time and memory go with the size of the design.
     ///

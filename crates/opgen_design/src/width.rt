@@ -3,7 +3,7 @@ ghost use Rattle.std.specs.Prelude.{◌≡◌, ◌+◌, ◌-◌, ◌&&◌, nat_l
 ghost use Rattle.opgen_design.specs.Plain.{plain, plain_all};
 ghost use Rattle.opgen_design.specs.Sound.{signal_widths, port_widths};
 ghost use Rattle.opgen_design.specs.Tree.{name, part, port};
-ghost use Rattle.opgen_design.specs.Width.{as_width, joined, joined_options, width, chain_width};
+ghost use Rattle.opgen_design.specs.Value.{as_width, joined, joined_options, width, chain_width};
 
 use crate::{Design, Expr, Op, Slice};
 use opgen_num::MAX_WIDTH;

@@ -4,8 +4,7 @@ use Rattle.std.specs.Prelude.{if◌then◌else◌}
 use Rattle.std.proofs.Math.Nat.{two-pow-succ}
 use Rattle.std.proofs.lemmas.Bool.{cases_lt, le-leb, lt-leb}
 use Rattle.std.proofs.lemmas.List.{length-drop, length-map}
-use Rattle.opgen_num.specs.Words.{digit, nat}
-use Rattle.opgen_num.specs.Sums.{sum_with}
+use Rattle.opgen_num.specs.Words.{digit, nat, sum_with}
 use Rattle.opgen_num.proofs.Carries.{sum-carry, nat-not}
 use Rattle.opgen_num.proofs.Cuts.{nat-parts, take-below, nat-take}
 use Rattle.opgen_num.proofs.Words.{nat-below}

@@ -2,11 +2,9 @@
 use Rattle.std.proofs.Common.{◌≡◌, ℕ, ◌+◌, ◌-◌, ◌*◌, ◌^◌, ◌<◌, Bool, true, false, List, [], ◌∷◌, length, length-append, map, refl, ap, ◌∙◌, arith, not}
 use Rattle.std.specs.Prelude.{ℤ, All, nat_le, slice_index, slice_index_or}
 use Rattle.std.proofs.lemmas.List.Elements.{All-append, All-cons, All-nil}
-use Rattle.opgen_num.specs.Words.{digit, nat}
-use Rattle.opgen_num.specs.Sums.{sum_with}
+use Rattle.opgen_num.specs.Words.{digit, nat, sum_with}
 use Rattle.opgen_design.specs.Run.{AreWords}
-use Rattle.opgen_design.specs.Value.{cut, chosen}
-use Rattle.opgen_design.specs.Width.{IsWidth}
+use Rattle.opgen_design.specs.Value.{cut, chosen, IsWidth}
 use Rattle.opgen_net.specs.declared.cell.Class.TheVariants as class
 use Rattle.opgen_net.specs.declared.net.Net.{Net}
 use Rattle.opgen_net.specs.declared.node.Node.TheVariants as node

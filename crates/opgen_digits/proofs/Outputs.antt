@@ -4,7 +4,7 @@ use Rattle.std.specs.Prelude.{ℤ, All, slice_index}
 use Rattle.std.proofs.Math.Seq.{take-length}
 use Rattle.opgen_num.specs.Words.{nat}
 use Rattle.opgen_design.specs.Run.{AreWords}
-use Rattle.opgen_design.specs.Width.{IsWidth}
+use Rattle.opgen_design.specs.Value.{IsWidth}
 use Rattle.opgen_net.specs.declared.net.Net.{Net}
 use Rattle.opgen_net.specs.declared.word_bits.WordBit.{WordBit}
 use Rattle.opgen_net.specs.Flow.{Inputs, flow, slice_flow, KeepsFlow}

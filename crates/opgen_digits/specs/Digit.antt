@@ -1,7 +1,7 @@
 -- One digit of a quotient or root: a subtraction is tried, and the number is restored if too much was taken off (de Dinechin and
 -- Kumm, Application-Specific Arithmetic: digit recurrences).
 use Rattle.std.specs.Prelude.{ℕ, ◌≡◌, ◌+◌, ◌-◌, ◌*◌, ◌%◌, ◌^◌, ◌<◌, ◌≤◌, ℤ, Bool, true, false, List, [], ◌∷◌, ◌++◌, length, All, nat_le, slice_index, if◌then◌else◌}
-use Rattle.opgen_num.specs.declared.TheConstants.{MAX_WIDTH}
+use Rattle.opgen_num.specs.declared.format.TheConstants.{MAX_WIDTH}
 use Rattle.opgen_num.specs.Words.{digit, nat}
 use Rattle.opgen_design.specs.declared.expr.Slice.{Slice}
 use Rattle.opgen_design.specs.Run.{AreWords}
@@ -15,12 +15,18 @@ use Rattle.opgen_net.specs.Flow.{Inputs, flow}
 use Rattle.opgen_net.specs.WordRule.{IsThere, bits_from}
 use Rattle.opgen_net.specs.Valid.{IsValid, input_widths, widths}
 use Rattle.opgen_net.specs.Placed.{number_at, with_last, difference_of}
+use Rattle.opgen_digits.specs.declared.Digits.{Digits}
+use Rattle.opgen_digits.specs.declared.Trial.{Trial}
 
 -- a net, the digits that are known, and the bits of what is left, from the highest; there are none where they are not made
 pub record Known : Type 0 where
   pub net : Net
   pub digits : List WordBit
   pub rest : List WordBit
+
+-- a net, with the digits and the rest that are known in it
+abbrev pub known_in : Net → Digits → Known
+known_in net digits = record { net = net; digits = digits.known; rest = digits.rest }
 
 -- Numbers of two bits more than the rest are compared, by their difference.
 
@@ -56,6 +62,10 @@ tried true rest net a b digits = record {
   rest = bits_from (length (with_digit rest net a b).nodes) 0 rest;
 }
 tried false rest net a b digits = record { net = with_digit rest net a b; digits = with_next rest net a b digits; rest = [] }
+
+-- the next digit, by the subtraction of a trial
+abbrev pub with_trial : (keep : Bool) → Trial → Net → List WordBit → Known
+with_trial keep trial net digits = tried keep trial.rest net trial.minuend trial.subtrahend digits
 
 -- a less b where it is not less than b, and else a
 abbrev pub left_of : (a b : ℕ) → ℕ

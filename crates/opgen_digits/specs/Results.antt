@@ -1,6 +1,6 @@
 -- The digits of a quotient or root, and the remainder, as outputs of a net.
 use Rattle.std.specs.Prelude.{ℕ, ◌≡◌, Bool, true, false, List, length, codes, All}
-use Rattle.opgen_design.specs.Width.{IsWidth}
+use Rattle.opgen_design.specs.Value.{IsWidth}
 use Rattle.opgen_net.specs.declared.net.Net.{Net}
 use Rattle.opgen_net.specs.Valid.{widths}
 use Rattle.opgen_net.specs.WordRule.{IsThere}

@@ -8,15 +8,15 @@
 #![tactic(auto)]
 
 ghost use Rattle.std.specs.Prelude.{◌≡◌, ◌+◌, ◌≤◌, ℤ, [], ◌++◌, All, IfOk, OnOk, length};
-ghost use Rattle.opgen_num.specs.declared.TheConstants.{MAX_WIDTH};
+ghost use Rattle.opgen_num.specs.declared.format.TheConstants.{MAX_WIDTH};
 ghost use Rattle.opgen_design.specs.Plain.{plain};
 ghost use Rattle.opgen_net.specs.declared.word_bits.WordBit.TheVariants.{Of};
 ghost use Rattle.opgen_net.specs.Valid.{IsValid, widths};
 ghost use Rattle.opgen_net.specs.WordRule.{IsThere};
 ghost use Rattle.opgen_net.specs.Placed.{with_output, difference_of};
-ghost use Rattle.opgen_design.specs.Width.{IsWidth};
+ghost use Rattle.opgen_design.specs.Value.{IsWidth};
 ghost use Rattle.opgen_digits.specs.Results.{AreResults, with_results};
-ghost use Rattle.opgen_digits.specs.Digit.{AreOperands, is_not_negative, lowest as lowest_of, tried};
+ghost use Rattle.opgen_digits.specs.Digit.{AreOperands, is_not_negative, known_in, lowest as lowest_of, with_trial};
 
 use opgen_list::Items;
 use opgen_net::{Class, Expr, Net, Op, Slice, WordBit, push_bits};
@@ -97,7 +97,7 @@ pub fn try_digit(
 ) -> Result<(), Memory>
     requires net { IsValid net.old }
     requires operands { AreOperands trial.rest net.old trial.minuend trial.subtrahend }
-    ensures ok { OnOk result (tried keep trial.rest net.old trial.minuend trial.subtrahend digits.old.known ≡ record { net = net.new; digits = digits.new.known; rest = digits.new.rest }) }
+    ensures ok { OnOk result (with_trial keep trial net.old digits.old.known ≡ known_in net.new digits.new) }
     ensures valid { IsValid net.new }
 {
     let difference = net.cells(Class::Add, trial.rest + 2, difference(alloc, trial)?)?;
@@ -138,8 +138,8 @@ fn output_bits(net: &mut Net, name: &str, bits: &[WordBit]) -> Result<(), Memory
 /// Appends the digits as an output, and where they are exact what is left as an output `r`.
 pub fn output_results(net: &mut Net, name: &str, digits: &Digits, exact: bool) -> Result<(), Memory>
     requires net { IsValid net.old }
-    requires results { AreResults exact (record { net = net.old; digits = digits.now.known; rest = digits.now.rest }) }
-    ensures ok { OnOk result (net.new ≡ with_results exact name.now (record { net = net.old; digits = digits.now.known; rest = digits.now.rest })) }
+    requires results { AreResults exact (known_in net.old digits.now) }
+    ensures ok { OnOk result (net.new ≡ with_results exact name.now (known_in net.old digits.now)) }
     ensures valid { IsValid net.new }
 {
     output_bits(net, name, digits.known.as_slice())?;

@@ -3,17 +3,14 @@ use Rattle.std.proofs.Common.{◌≡◌, ℕ, ◌+◌, ◌-◌, ◌*◌, ◌^◌
 use Rattle.std.specs.Prelude.{ℤ, pos, All, slice_index, option_and_then}
 use Rattle.std.proofs.Math.Nat.{two-pow-succ}
 use Rattle.std.proofs.lemmas.List.Elements.{All-cons, All-nil}
-use Rattle.opgen_num.specs.declared.TheConstants.{MAX_WIDTH}
+use Rattle.opgen_num.specs.declared.format.TheConstants.{MAX_WIDTH}
 use Rattle.opgen_num.specs.declared.format.Format.{Format}
-use Rattle.opgen_num.specs.Sums.{xor, pairwise}
-use Rattle.opgen_num.specs.Values.{highest, int, val}
-use Rattle.opgen_num.specs.Words.{nat}
+use Rattle.opgen_num.specs.Words.{xor, pairwise, highest, int, val, nat}
 use Rattle.opgen_design.specs.declared.expr.Op.TheVariants.{Xor}
 use Rattle.opgen_design.specs.Run.{AreWords}
 use Rattle.opgen_design.specs.Tree.{more, none}
-use Rattle.opgen_design.specs.Value.{cut}
-use Rattle.opgen_design.specs.Width as wide
-use Rattle.opgen_design.specs.Width.{IsWidth, width, width_on}
+use Rattle.opgen_design.specs.Value.{cut, IsWidth, width, width_on}
+use Rattle.opgen_design.specs.Value as wide
 use Rattle.opgen_net.specs.declared.cell.Class.TheVariants.{Logic, Wire}
 use Rattle.opgen_net.specs.declared.net.Net.{Net}
 use Rattle.opgen_net.specs.declared.node.Node.{Node}

@@ -5,10 +5,8 @@ use Rattle.std.proofs.Math.Seq.{take-length}
 use Rattle.std.proofs.lemmas.Int.{ints}
 use Rattle.std.proofs.lemmas.List.{length-map}
 use Rattle.std.proofs.lemmas.Nat.{pow_pos}
-use Rattle.opgen_num.specs.Sums.{sum_with}
-use Rattle.opgen_num.specs.Values.{highest, int}
+use Rattle.opgen_num.specs.Words.{sum_with, highest, int, nat, word}
 use Rattle.opgen_num.specs.WordLaws.{length-word, nat-word}
-use Rattle.opgen_num.specs.Words.{nat, word}
 use Rattle.opgen_num.proofs.Carries.{sum-carry, nat-not}
 use Rattle.opgen_num.proofs.Values.{highest_weight, int-low, int-high}
 use Rattle.opgen_num.proofs.Words.{nat-below}

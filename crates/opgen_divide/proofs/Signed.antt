@@ -3,13 +3,10 @@ use Rattle.std.proofs.Common.{◌≡◌, ℕ, ◌+◌, ◌-◌, ◌*◌, ◌^◌
 use Rattle.std.specs.Prelude.{ℤ, All, slice_index, slice_get, option_and_then, nat_le, nat_lt, ◌&&◌, if◌then◌else◌}
 use Rattle.std.proofs.lemmas.Bool.{le-leb, lt-ltb}
 use Rattle.std.proofs.lemmas.Option.{slice_get-get_or}
-use Rattle.opgen_num.specs.Sums.{sum_with}
-use Rattle.opgen_num.specs.Values.{highest, int}
+use Rattle.opgen_num.specs.Words.{sum_with, highest, int, nat, word}
 use Rattle.opgen_num.specs.WordLaws.{length-word}
-use Rattle.opgen_num.specs.Words.{nat, word}
 use Rattle.opgen_design.specs.Run.{AreWords}
-use Rattle.opgen_design.specs.Value.{cut, chosen}
-use Rattle.opgen_design.specs.Width.{IsWidth, as_width, width}
+use Rattle.opgen_design.specs.Value.{cut, chosen, IsWidth, as_width, width}
 use Rattle.opgen_net.specs.declared.cell.Class.TheVariants.{Add, Wire}
 use Rattle.opgen_net.specs.declared.net.Net.{Net}
 use Rattle.opgen_net.specs.declared.node.Node.{Node}

@@ -7,11 +7,9 @@ use Rattle.std.proofs.lemmas.Bool.{or_left}
 use Rattle.std.proofs.lemmas.Int.{ints}
 use Rattle.std.proofs.lemmas.List.{length-replicate}
 use Rattle.std.proofs.lemmas.List.Elements.{All-take}
-use Rattle.opgen_num.specs.declared.TheConstants.{MAX_WIDTH}
+use Rattle.opgen_num.specs.declared.format.TheConstants.{MAX_WIDTH}
 use Rattle.opgen_num.specs.declared.format.Format.{Format}
-use Rattle.opgen_num.specs.Sums.{xor}
-use Rattle.opgen_num.specs.Values.{highest, int, val}
-use Rattle.opgen_num.specs.Words.{nat}
+use Rattle.opgen_num.specs.Words.{xor, highest, int, val, nat}
 use Rattle.opgen_num.proofs.Values.{int_holds}
 use Rattle.opgen_num.proofs.Words.{nat-below}
 use Rattle.opgen_design.specs.Value.{word_at}
@@ -30,10 +28,10 @@ use Rattle.opgen_kinds.proofs.of_kind.Pair.{with_sign, good_of_sizes}
 use Rattle.opgen_operator.specs.declared.operator.Operator.TheVariants.{Divide}
 use Rattle.opgen_operator.specs.Fits.{FitsOperator, FitsInEachMode, name_and_width}
 use Rattle.opgen_operator.specs.Operator.{operator_inputs}
-use Rattle.opgen_operator.specs.PortWords.{recent_words, output_words}
+use Rattle.opgen_operator.specs.Outputs.{recent_words, output_words}
 use Rattle.opgen_operator.proofs.Accepted.{accepted_ranges, accepted_width}
-use Rattle.opgen_ports.specs.Recent.{Recent}
-use Rattle.opgen_ports.specs.Shifts.{places_up, up}
+use Rattle.opgen_ports.specs.Ports.{Recent}
+use Rattle.opgen_ports.specs.Reaches.{places_up, up}
 use Rattle.opgen_ports.proofs.InputPorts.{input_bit}
 use Rattle.opgen_net.specs.Placed.{number_at}
 use Rattle.opgen_digits.specs.Digit.{Known}

@@ -1,6 +1,6 @@
 -- When a net has the two inputs, which its signs are read from.
 use Rattle.std.specs.Prelude.{◌≡◌, slice_index}
-use Rattle.opgen_design.specs.Width.{IsWidth}
+use Rattle.opgen_design.specs.Value.{IsWidth}
 use Rattle.opgen_net.specs.declared.net.Net.{Net}
 use Rattle.opgen_net.specs.Valid.{widths}
 use Rattle.opgen_kinds.specs.declared.pair.Pair.{Pair}

@@ -11,7 +11,7 @@ use Rattle.opgen_net.specs.declared.word_bits.WordBit.TheVariants.{Zero}
 use Rattle.opgen_net.specs.WordRule.{bits_from}
 use Rattle.opgen_kinds.specs.declared.pair.Pair.{Pair}
 use Rattle.opgen_kinds.specs.Pair.{pair_shift}
-use Rattle.opgen_ports.specs.Shifts.{places_up}
+use Rattle.opgen_ports.specs.Reaches.{places_up}
 use Rattle.opgen_net.specs.Placed.{Placed, with_bits, with_last}
 use Rattle.opgen_digits.specs.Digit.{Known, tried}
 use Rattle.opgen_digits.specs.Results.{with_results}

@@ -1,8 +1,7 @@
 -- The nodes that take a sign off a number, and that put one to it: the number is taken off zeros, and the difference or the
 -- number is chosen.
 use Rattle.std.specs.Prelude.{◌≡◌, ℕ, ◌+◌, ◌-◌, ◌*◌, ◌^◌, ◌<◌, Bool, List, length, slice_index, ℤ, pos, neg_ℤ, unsigned_abs, All, if◌then◌else◌}
-use Rattle.opgen_num.specs.Values.{highest, int}
-use Rattle.opgen_num.specs.Words.{nat, word}
+use Rattle.opgen_num.specs.Words.{highest, int, nat, word}
 use Rattle.opgen_design.specs.Run.{AreWords}
 use Rattle.opgen_design.specs.Tree.{Tree, part}
 use Rattle.opgen_net.specs.declared.cell.Class.TheVariants.{Add, Wire}

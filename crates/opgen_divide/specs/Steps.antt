@@ -2,8 +2,7 @@
 -- divisor, plus a remainder below the divisor.
 use Rattle.std.specs.Prelude.{ℕ, ◌≡◌, ◌<◌, ◌≤◌, ℤ, Bool, true, false, take, All, unsigned_abs}
 use Rattle.opgen_num.specs.Rounding.{IsQuotient}
-use Rattle.opgen_num.specs.Values.{val}
-use Rattle.opgen_num.specs.Words.{nat}
+use Rattle.opgen_num.specs.Words.{val, nat}
 use Rattle.opgen_design.specs.Run.{AreWords}
 use Rattle.opgen_net.specs.declared.net.Net.{Net}
 use Rattle.opgen_net.specs.Flow.{Inputs, flow}

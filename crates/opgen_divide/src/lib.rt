@@ -13,13 +13,14 @@ mod results;
 mod sign;
 
 ghost use Rattle.std.specs.Prelude.{◌≡◌, ◌+◌, ◌≤◌, [], ◌∷◌, ◌++◌, All, IfOk, OnOk, length, slice_index};
-ghost use Rattle.opgen_num.specs.declared.TheConstants.{MAX_WIDTH};
+ghost use Rattle.opgen_num.specs.declared.format.TheConstants.{MAX_WIDTH};
 ghost use Rattle.opgen_net.specs.declared.word_bits.WordBit.TheVariants.{Zero};
 ghost use Rattle.opgen_net.specs.Valid.{IsValid, widths};
 ghost use Rattle.opgen_net.specs.WordRule.{IsThere};
 ghost use Rattle.opgen_operator.specs.declared.operator.Operator.TheVariants.{Divide};
 ghost use Rattle.opgen_operator.specs.Fits.{FitsInEachMode};
 ghost use Rattle.opgen_kinds.specs.Pair.{IsAcceptedPair};
+ghost use Rattle.opgen_digits.specs.Digit.{known_in};
 ghost use Rattle.opgen_divide.specs.Recipe.{with_inputs, with_magnitudes, numerator as numerator_of, digit_count, with_divisor, stepped, after, net_of_pair};
 ghost use Rattle.opgen_divide.specs.Steps.{DividesSizes, HoldsAfterEachStep};
 
@@ -133,7 +134,8 @@ fn step(
     requires rest { length digits.old.rest ≡ divisor.width }
     requires there { All (IsThere (widths net.old.nodes)) (Zero ∷ (digits.old.rest ++ bit ∷ [])) }
     requires divisor { slice_index (widths net.old.nodes) divisor.node ≡ divisor.width + 2 }
-    ensures ok { OnOk result (stepped keep divisor.width divisor.node (record { net = net.old; digits = digits.old.known; rest = digits.old.rest }) bit ≡ record { net = net.new; digits = digits.new.known; rest = digits.new.rest }) }
+    ensures ok { OnOk result (stepped keep divisor.width divisor.node (known_in net.old digits.old) bit
+        ≡ known_in net.new digits.new) }
     ensures valid { IsValid net.new }
 {
     let bits = minuend(alloc, digits.rest.as_slice(), bit)?;
@@ -158,7 +160,7 @@ fn divide(
     requires net { net.old ≡ (with_divisor pair.now).net }
     requires divisor { divisor ≡ (with_divisor pair.now).place }
     requires numerator { numerator.now ≡ numerator_of pair.now }
-    ensures ok { IfOk result (λ d. after pair.now (digit_count pair.now) ≡ record { net = net.new; digits = d.known; rest = d.rest }) }
+    ensures ok { IfOk result (λ d. after pair.now (digit_count pair.now) ≡ known_in net.new d) }
     ensures valid { IfOk result (λ d. IsValid net.new) }
 {
     let mut digits = Digits {

@@ -1,11 +1,12 @@
 //! Puts their signs to the quotient and the remainder of absolute values.
 ghost use Rattle.std.specs.Prelude.{◌≡◌, ◌≤◌, ◌+◌, All, IfOk, OnOk, length};
-ghost use Rattle.opgen_num.specs.declared.TheConstants.{MAX_WIDTH};
+ghost use Rattle.opgen_num.specs.declared.format.TheConstants.{MAX_WIDTH};
 ghost use Rattle.opgen_design.specs.Plain.{plain};
-ghost use Rattle.opgen_design.specs.Width.{IsWidth};
+ghost use Rattle.opgen_design.specs.Value.{IsWidth};
 ghost use Rattle.opgen_net.specs.Valid.{IsValid, widths};
 ghost use Rattle.opgen_net.specs.WordRule.{IsThere, bits_from};
 ghost use Rattle.opgen_kinds.specs.Pair.{sign_bit};
+ghost use Rattle.opgen_digits.specs.Digit.{known_in};
 ghost use Rattle.opgen_digits.specs.Results.{AreResults};
 ghost use Rattle.opgen_divide.specs.Recipe.{signs_differ, with_quotient, with_remainder, with_signs};
 ghost use Rattle.opgen_divide.specs.Inputs.{HasInputs};
@@ -83,8 +84,8 @@ pub fn with_signs(
     requires net { IsValid net.old }
     requires inputs { HasInputs pair.now net.old }
     requires few { length digits.known + sign_bit pair.now.a.signed ≤ MAX_WIDTH }
-    requires results { AreResults pair.now.exact (record { net = net.old; digits = digits.known; rest = digits.rest }) }
-    ensures ok { IfOk result (λ d. with_signs pair.now (record { net = net.old; digits = digits.known; rest = digits.rest }) ≡ record { net = net.new; digits = d.known; rest = d.rest }) }
+    requires results { AreResults pair.now.exact (known_in net.old digits) }
+    ensures ok { IfOk result (λ d. with_signs pair.now (known_in net.old digits) ≡ known_in net.new d) }
     ensures valid { IsValid net.new }
 {
     if !pair.a.signed {

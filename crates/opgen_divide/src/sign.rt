@@ -1,7 +1,7 @@
 //! Takes a sign off a number and puts one to it: the number is subtracted from 0, and the difference or the number is chosen.
 ghost use Rattle.std.specs.Prelude.{◌≡◌, ◌≤◌, All, IfOk, OnOk, length, slice_index};
 ghost use Rattle.opgen_design.specs.Plain.{plain};
-ghost use Rattle.opgen_design.specs.Width.{IsWidth};
+ghost use Rattle.opgen_design.specs.Value.{IsWidth};
 ghost use Rattle.opgen_net.specs.Flow.{KeepsFlow};
 ghost use Rattle.opgen_net.specs.Placed.{difference_of, whole};
 ghost use Rattle.opgen_net.specs.Valid.{IsValid, widths};

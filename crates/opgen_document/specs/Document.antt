@@ -1,10 +1,18 @@
 -- The values at the keys of a document, a tree of TOML 1.1.
-use Rattle.std.specs.Prelude.{ℕ, ◌==◌, ◌&&◌, ◌^◌, ℤ, pos, negsuc, Bool, true, false, List, [], ◌∷◌, ◌++◌, length, Option, Some, None, option_map, if◌then◌else◌, nat_lt, int_lt, int_le}
+use Rattle.std.specs.Prelude.{ℕ, ◌==◌, ◌&&◌, ◌^◌, ℤ, pos, negsuc, Bool, true, false, List, [], ◌∷◌, ◌++◌, length, Option, Some, None, option_map, if◌then◌else◌, nat_lt, int_lt, int_le, ◌≡◌, ◌⊎◌, codes, not}
 use Rattle.std.specs.Str.Lossy.{utf8_valid_len}
 use Rattle.toml.specs.Data.{Data, string, integer, boolean, array, table, Items, no_items, item, Members, no_members, member, get_member}
 use Rattle.toml.specs.Parse.{parse_document}
 use Rattle.opgen_document.specs.declared.key.Key.{Key}
 use Rattle.opgen_document.specs.Keys.{key_name}
+use Rattle.std.specs.Option.{is_some}
+use Rattle.std.specs.Str.{bytes_eq}
+use Rattle.opgen_num.specs.declared.format.Format.{Format}
+use Rattle.opgen_document.specs.declared.key.Key.TheVariants as key
+use Rattle.opgen_document.specs.declared.key.Stand.{Stand}
+use Rattle.opgen_document.specs.declared.key.Stand.TheVariants.{Absent, Optional, Needed}
+use Rattle.opgen_document.specs.declared.key.Version.{Version}
+use Rattle.opgen_document.specs.declared.key.Version.TheVariants.{First, Second, Third}
 
 -- the tree of the bytes: none where they are not UTF-8, or no document
 abbrev pub tree : List ℕ → Option Members
@@ -89,3 +97,99 @@ optional_count_at ms k = option_map (λ _. count_at ms k) (value_at ms k)
 
 abbrev pub optional_flag_at : Members → Key → Option Bool
 optional_flag_at ms k = option_map (λ _. flag_at ms k) (value_at ms k)
+
+-- the format of an input, by the keys of its width and its lowest bit
+abbrev pub format_at : Members → Key → Key → Format
+format_at ms width lsb =
+    record { signed = flag_at ms key.Signed; width = count_at ms width; lsb = small_at ms lsb }
+
+-- and of an input that is always unsigned, as those of roots and of quotients by a constant are
+abbrev pub unsigned_at : Members → Key → Key → Format
+unsigned_at ms width lsb = record { signed = false; width = count_at ms width; lsb = small_at ms lsb }
+
+-- the graph with the fewest adders is searched for where the document says how many adders it may have beyond
+abbrev pub is_searched : Members → Bool
+is_searched ms = is_some (value_at ms key.Extra)
+
+-- the document asks for larger counters
+abbrev pub counters_at : Members → Bool
+counters_at ms = bytes_eq (text_at ms key.Compressor) (codes "counters")
+
+pub record IsInputAsWritten (ms : Members) (width lsb : Key) (f : Format) : Type 0 where
+  pub width_written : value_at ms width ≡ Some (integer (pos f.width))
+  pub lsb_written : value_at ms lsb ≡ Some (integer f.lsb)
+
+-- a truth value that may be left out, and is then false
+abbrev pub IsFlagAsWritten : (ms : Members) (k : Key) (flag : Bool) → Type 0
+IsFlagAsWritten ms k flag = (value_at ms k ≡ Some (boolean flag)) ⊎ ((value_at ms k ≡ None) × (flag ≡ false))
+
+-- the width and the sign of the output, where they are chosen
+abbrev pub IsCountIfAny : (ms : Members) (k : Key) (count : Option ℕ) → Type 0
+IsCountIfAny ms k count = value_at ms k ≡ option_map (λ n. integer (pos n)) count
+
+abbrev pub IsFlagIfAny : (ms : Members) (k : Key) (flag : Option Bool) → Type 0
+IsFlagIfAny ms k flag = value_at ms k ≡ option_map boolean flag
+
+-- a graph of adders is searched for by the number of adders that it may have beyond the fewest, and not without that number
+abbrev pub IsSearchAsWritten : (ms : Members) (searched : Bool) (extra : ℕ) → Type 0
+IsSearchAsWritten ms true extra = value_at ms key.Extra ≡ Some (integer (pos extra))
+IsSearchAsWritten ms false extra = value_at ms key.Extra ≡ None
+
+-- a whole number that may be left out, and is then another
+abbrev pub IsNumberAsWritten : (ms : Members) (k : Key) (other n : ℤ) → Type 0
+IsNumberAsWritten ms k other n = (value_at ms k ≡ Some (integer n)) ⊎ ((value_at ms k ≡ None) × (n ≡ other))
+
+-- one for each item of an array, in order, which are tables
+abbrev pub AreLinesAsWritten : {A : Type 0} → (IsAsWritten : Members → A → Type 0) → Items → List A → Type 0
+AreLinesAsWritten IsAsWritten no_items [] = Unit {0}
+AreLinesAsWritten IsAsWritten (item (table ms) rest) (x ∷ xs) = IsAsWritten ms x × AreLinesAsWritten IsAsWritten rest xs
+AreLinesAsWritten IsAsWritten _ _ = ⊥
+
+-- larger counters are asked for by their word, and left out by no word or the other one
+abbrev pub IsCompressorAsWritten : (ms : Members) (counters : Bool) → Type 0
+IsCompressorAsWritten ms true = value_at ms key.Compressor ≡ Some (string (codes "counters"))
+IsCompressorAsWritten ms false =
+    (value_at ms key.Compressor ≡ None) ⊎ (value_at ms key.Compressor ≡ Some (string (codes "dadda")))
+
+-- each number but 1 and 2 counts as 3
+abbrev pub version_in : ℤ → Version
+version_in (pos n) = if n == 1 then First else (if n == 2 then Second else Third)
+version_in (negsuc n) = Third
+
+-- and so does a value that is no number, or none
+abbrev pub version_of : Members → Version
+version_of ms = version_in (number_at ms key.Version)
+
+-- the keys that only the third version has
+abbrev pub is_late : Key → Bool
+is_late key.OutWidth = true
+is_late key.OutSigned = true
+is_late key.Offset = true
+is_late key.Input = true
+is_late key.Scaled = true
+is_late key.Product = true
+is_late _ = false
+
+-- whether documents that name no kind may have the key
+abbrev pub has_key : Version → Key → Bool
+has_key First k = not (is_late k)
+has_key Second k = not (is_late k)
+has_key Third k = true
+
+-- a key that may be left out, and that only later versions than the first have
+abbrev pub since_second : Version → Stand
+since_second First = Absent
+since_second Second = Optional
+since_second Third = Optional
+
+-- a key that may be left out, and that only later versions than the second have
+abbrev pub since_third : Version → Stand
+since_third First = Absent
+since_third Second = Absent
+since_third Third = Optional
+
+-- a key that only the third version lets be left out
+abbrev pub needed_before_third : Version → Stand
+needed_before_third First = Needed
+needed_before_third Second = Needed
+needed_before_third Third = Optional

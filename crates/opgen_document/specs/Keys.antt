@@ -1,4 +1,5 @@
--- The keys of a specification: their names, their order, what the value at each has to be, and how those stand that all documents have.
+-- The keys of a specification: their names, their order, what the value at each has to be, and how those stand that all
+-- documents have.
 use Rattle.std.specs.Prelude.{ℕ, Bool, true, false, List, [], ◌∷◌, codes, Option, Some, None}
 use Rattle.opgen_document.specs.declared.array.Array.{Array}
 use Rattle.opgen_document.specs.declared.array.Array.TheVariants as array
@@ -6,8 +7,8 @@ use Rattle.opgen_document.specs.declared.key.Key.{Key}
 use Rattle.opgen_document.specs.declared.key.Key.TheVariants as key
 use Rattle.opgen_document.specs.declared.key.Sort.{Sort}
 use Rattle.opgen_document.specs.declared.key.Sort.TheVariants as sort
-use Rattle.opgen_document.specs.declared.stand.Stand.{Stand}
-use Rattle.opgen_document.specs.declared.stand.Stand.TheVariants.{Absent, Optional, Needed}
+use Rattle.opgen_document.specs.declared.key.Stand.{Stand}
+use Rattle.opgen_document.specs.declared.key.Stand.TheVariants.{Absent, Optional, Needed}
 
 abbrev pub key_name : Key → List ℕ
 key_name key.Version = codes "version"

@@ -1,9 +1,7 @@
 -- Definitions of opgen_document: the tree of a document, its keys with their types, and the values at them.
 pub mod Keys
 pub mod Document
-pub mod Versions
 pub mod Numbers
 pub mod Decimals
 pub mod Types
 pub mod Ranges
-pub mod Fields

@@ -1,15 +1,14 @@
 -- What stands at a key and is out of its range: a number or a length that is not within bounds, or an element beyond a limit.
-use Rattle.std.specs.Prelude.{ℕ, ◌^◌, ◌&&◌, ◌||◌, Bool, true, false, List, length, codes, ℤ, pos, negsuc, int_le, unsigned_abs, Option, Some, None, find, if◌then◌else◌, nat_lt, is_some}
+use Rattle.std.specs.Prelude.{ℕ, ◌^◌, ◌&&◌, ◌||◌, Bool, true, false, List, length, codes, ℤ, pos, negsuc, int_le, unsigned_abs, Option, Some, None, find, if◌then◌else◌, nat_lt}
 use Rattle.std.specs.Option.{option_or}
 use Rattle.std.specs.Str.{bytes_eq}
 use Rattle.toml.specs.Data.{Items, Members}
 use Rattle.opgen_document.specs.declared.key.Key.{Key}
 use Rattle.opgen_document.specs.declared.key.Key.TheVariants as key
-use Rattle.opgen_document.specs.Document.{list_of, value_at, number_at, flag_at, items_at}
+use Rattle.opgen_document.specs.Document.{list_of, value_at, number_at, flag_at, items_at, version_of}
 use Rattle.opgen_document.specs.Numbers.{numerators}
-use Rattle.opgen_document.specs.declared.version.Version.{Version}
-use Rattle.opgen_document.specs.declared.version.Version.TheVariants.{First, Second, Third}
-use Rattle.opgen_document.specs.Versions.{version_of}
+use Rattle.opgen_document.specs.declared.key.Version.{Version}
+use Rattle.opgen_document.specs.declared.key.Version.TheVariants.{First, Second, Third}
 
 -- the number, where it is not within the bounds
 abbrev pub outside : ℤ → ℤ → ℤ → Option ℤ
@@ -67,10 +66,6 @@ numerator_outside ms k = outside (negsuc 1073741823) (pos 1073741824) (number_at
 
 abbrev pub denominator_outside : Members → Option ℤ
 denominator_outside ms = outside (pos 1) (pos (2 ^ 30)) (number_at ms key.Denominator)
-
--- the graph with the fewest adders is searched for where the document says how many adders it may have beyond
-abbrev pub is_searched : Members → Bool
-is_searched ms = is_some (value_at ms key.Extra)
 
 -- the greatest constant or tap of a graph that is searched for, and of one that a fixed rule makes
 abbrev pub constant_limit : (searched : Bool) → ℕ

@@ -27,7 +27,7 @@ fn are_digits(bytes: &[u8]) -> bool
     !bytes.is_empty() && all_are_digits(bytes)
 }
 
-/// The number that digits give, read on from a number.
+// The number that digits give, read on from a number.
 fn digits_from(start: u64, digits: &[u8]) -> u64
     requires digits { IsTrue (list_all is_ascii_digit digits.now) }
     requires small { (start + 1) * 10 ^ length digits.now ≤ 10 ^ 9 }
@@ -66,7 +66,7 @@ fn decimal_with(negative: bool, whole: &[u8], places: &[u8]) -> Option<Decimal>
     })
 }
 
-/// The parts before and after the point at a place.
+// The parts before and after the point at a place.
 fn cut_at(negative: bool, body: &[u8], point: Option<usize>) -> Option<Decimal>
     requires { IfSome point (λ at. at < length body.now) }
     ensures value { result ≡ cut_at negative body.now point }
@@ -87,7 +87,7 @@ fn point_in(body: &[u8]) -> Option<usize>
     body.iter().position(|byte| *byte == b'.')
 }
 
-/// A decimal text without its sign.
+// A decimal text without its sign.
 fn unsigned_decimal(negative: bool, body: &[u8]) -> Option<Decimal>
     ensures value { result ≡ unsigned_decimal negative body.now }
     ensures digits { IfSome result (λ d. d.digits < 10 ^ 9) }

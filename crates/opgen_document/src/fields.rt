@@ -1,7 +1,7 @@
 //! Makes the fields that operators of several kinds have, from a document that passed its checks.
 ghost use Rattle.std.specs.Prelude.{◌≡◌};
 ghost use Rattle.toml.specs.View.{table_view};
-ghost use Rattle.opgen_document.specs.Fields.{format_at, unsigned_at, counters_at};
+ghost use Rattle.opgen_document.specs.Document.{format_at, unsigned_at, counters_at};
 
 use crate::document::{count_at, flag_at, small_at, text_at};
 use crate::key::Key;

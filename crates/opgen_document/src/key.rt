@@ -1,8 +1,24 @@
-//! The keys of a specification: their names, order and types.
+//! The keys of a specification: their names, order and types; versions of documents, and how a key stands in one.
 ghost use Rattle.std.specs.Prelude.{◌≡◌, Some};
 ghost use Rattle.opgen_document.specs.Keys.{key_name, document_keys, sort_of};
 
 use std::fmt;
+
+/// The version whose keys and ranges a document has.
+#[derive(Clone, Copy, Debug)]
+pub enum Version {
+    First,
+    Second,
+    Third,
+}
+
+/// How a key stands in a document.
+#[derive(Clone, Copy)]
+pub enum Stand {
+    Absent,
+    Optional,
+    Needed,
+}
 
 /// The keys of a document in the order in which they are judged, and then those of the tables of its
 /// arrays.

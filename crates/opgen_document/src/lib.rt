@@ -29,13 +29,13 @@ pub use document::{
     small, small_at, text_at, value_at,
 };
 pub use fields::{counters_at, format_at, unsigned_at};
-pub use key::{Key, document_keys};
+pub use key::{Key, Stand, Version, document_keys};
 pub use number::{coefficient, denominator_of, given_denominator, numerators, places_among};
 pub use range::{
     array_outside, bits_outside, coefficients_outside, compressor_outside, constant_limit,
     denominator_outside, extra_outside, far_outside, is_searched, length_outside, near_outside,
     numerator_outside, out_width_outside, outside, power_outside, width_outside,
 };
-pub use stand::{Stand, shared_stand};
+pub use stand::shared_stand;
 pub use types::first_wrong;
-pub use version::{Version, version_of};
+pub use version::version_of;

@@ -20,7 +20,7 @@ pub(crate) fn are_texts(items: &[Value]) -> bool
     }
 }
 
-/// How many digits an item has after its point.
+// How many digits an item has after its point.
 fn places_in(item: &Value) -> u32
     ensures value { result ≡ places_in (view item.now) }
     ensures bound { result ≤ 9 }

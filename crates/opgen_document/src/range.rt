@@ -1,12 +1,13 @@
 //! Checks that a number, or an array and its numbers, is within bounds.
 ghost use Rattle.std.specs.Prelude.{◌≡◌};
 ghost use Rattle.toml.specs.View.{items_view, table_view};
-ghost use Rattle.opgen_document.specs.Ranges.{outside, is_beyond, first_beyond, length_outside, array_outside, bits_outside, width_outside, near_outside, far_outside, power_outside_in, power_outside, out_width_outside, coefficients_outside, numerator_outside, denominator_outside, is_searched, constant_limit, extra_outside, compressor_outside};
+ghost use Rattle.opgen_document.specs.Ranges.{outside, is_beyond, first_beyond, length_outside, array_outside, bits_outside, width_outside, near_outside, far_outside, power_outside_in, power_outside, out_width_outside, coefficients_outside, numerator_outside, denominator_outside, constant_limit, extra_outside, compressor_outside};
+ghost use Rattle.opgen_document.specs.Document.{is_searched};
 
 use crate::document::{flag_at, items_at, number_at, value_at};
-use crate::key::Key;
+use crate::key::{Key, Version};
 use crate::number::{coefficient, places_among};
-use crate::version::{Version, version_of};
+use crate::version::version_of;
 use toml::{Table, Value};
 
 /// The greatest numerator of a coefficient, without its sign.
@@ -25,7 +26,7 @@ fn is_beyond(limit: u64, n: i64) -> bool
     n.unsigned_abs() > limit
 }
 
-/// The first of an array's numbers that is beyond a limit, above or below.
+// The first of an array's numbers that is beyond a limit, above or below.
 fn first_beyond(limit: u64, items: &[Value]) -> Option<i64>
     ensures { result ≡ first_beyond limit (items_view items.now) }
 {

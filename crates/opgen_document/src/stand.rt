@@ -1,18 +1,9 @@
 //! How a key stands in a document, whatever its kind.
 ghost use Rattle.std.specs.Prelude.{◌≡◌};
 ghost use Rattle.opgen_document.specs.Keys.{shared_stand, may_be, has_to_be};
-ghost use Rattle.opgen_document.specs.Versions.{since_second, since_third, needed_before_third};
+ghost use Rattle.opgen_document.specs.Document.{since_second, since_third, needed_before_third};
 
-use crate::key::Key;
-use crate::version::Version;
-
-/// How a key stands in a document.
-#[derive(Clone, Copy)]
-pub enum Stand {
-    Absent,
-    Optional,
-    Needed,
-}
+use crate::key::{Key, Stand, Version};
 
 impl Stand {
     /// How a key stands that may be left out and that version 1 does not have.

@@ -61,7 +61,7 @@ fn are_coefficients(items: &[Value]) -> bool
     are_integers(items) || are_decimals(items)
 }
 
-/// What the value at a key has to be.
+// What the value at a key has to be.
 fn is_of(sort: Sort, value: &Value) -> bool
     ensures { result ≡ is_of sort (view value.now) }
 {
@@ -81,8 +81,8 @@ fn fits(key: Key, value: &Value) -> bool
     is_of(key.sort(), value)
 }
 
-/// Whether there is a denominator beside decimal texts, which have their own, or a sign of the output
-/// without its width.
+// Whether there is a denominator beside decimal texts, which have their own, or a sign of the output
+// without its width.
 fn clashes(table: &Table, key: Key) -> bool
     ensures { result ≡ clashes (table_view table.now) key }
 {

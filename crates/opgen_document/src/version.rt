@@ -1,19 +1,11 @@
 //! The versions of documents, which differ in their keys and ranges.
 ghost use Rattle.std.specs.Prelude.{◌≡◌};
 ghost use Rattle.toml.specs.View.{table_view};
-ghost use Rattle.opgen_document.specs.Versions.{version_in, version_of, is_late, has_key};
+ghost use Rattle.opgen_document.specs.Document.{version_in, version_of, is_late, has_key};
 
 use crate::document::number_at;
-use crate::key::Key;
+use crate::key::{Key, Version};
 use toml::Table;
-
-/// The version whose keys and ranges a document has.
-#[derive(Clone, Copy, Debug)]
-pub enum Version {
-    First,
-    Second,
-    Third,
-}
 
 fn version_in(found: i64) -> Version
     ensures { result ≡ version_in found }
@@ -34,7 +26,7 @@ pub fn version_of(table: &Table) -> Version
     version_in(number_at(table, Key::Version))
 }
 
-/// Whether only version 3 has the key.
+// Whether only version 3 has the key.
 fn is_late(key: Key) -> bool
     ensures { result ≡ is_late key }
 {

@@ -10,7 +10,7 @@ use Rattle.std.proofs.lemmas.Nat.{div-add-mod', pow_pos}
 use Rattle.opgen_kinds.specs.declared.sum.Sum.{Sum}
 use Rattle.opgen_kinds.specs.Sum.{sum_shift, is_whole, first_inexact, IsSum}
 use Rattle.opgen_ports.specs.Ranges.{IsWithin}
-use Rattle.opgen_ports.specs.Shifts.{up, down}
+use Rattle.opgen_ports.specs.Reaches.{up, down}
 use Rattle.opgen_fir.specs.Recipe.{is_zero, factor}
 use Rattle.opgen_fir.specs.Summed.{units}
 

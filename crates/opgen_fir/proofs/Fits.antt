@@ -6,8 +6,7 @@ use Rattle.std.proofs.lemmas.Int.{ints}
 use Rattle.std.proofs.lemmas.List.{length-drop, take_all}
 use Rattle.std.proofs.lemmas.Nat.{pow_pos}
 use Rattle.opgen_num.specs.Formats.{Holds}
-use Rattle.opgen_num.specs.Words.{nat}
-use Rattle.opgen_num.specs.Values.{val}
+use Rattle.opgen_num.specs.Words.{nat, val}
 use Rattle.opgen_num.proofs.Integers.{product-sum}
 use Rattle.opgen_num.proofs.Quotients.{quotient_and_rest}
 use Rattle.opgen_num.proofs.Residues.{value_from_residue}
@@ -32,9 +31,8 @@ use Rattle.opgen_operator.specs.Fits.{FitsOperator, FitsInEachMode}
 use Rattle.opgen_ports.specs.Good.{IsGoodRatio}
 use Rattle.opgen_operator.specs.Held.{OutputsHold}
 use Rattle.opgen_kinds.specs.Sum.{exact_sum, first_inexact, guard_bits, sum_format, IsSum}
-use Rattle.opgen_operator.specs.PortWords.{recent_words}
-use Rattle.opgen_ports.specs.Ports.{one_input}
-use Rattle.opgen_ports.specs.Recent.{Recent}
+use Rattle.opgen_operator.specs.Outputs.{recent_words}
+use Rattle.opgen_ports.specs.Ports.{one_input, Recent}
 use Rattle.opgen_ports.specs.Spans.{IsOf}
 use Rattle.opgen_ports.proofs.InputPorts.{input_bit}
 use Rattle.opgen_kcm.specs.Recipe.{Terms, HasTermsMore}

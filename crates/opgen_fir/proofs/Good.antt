@@ -15,8 +15,8 @@ use Rattle.opgen_num.proofs.Rounded.{floor_is}
 use Rattle.opgen_kinds.specs.declared.sum.Sum.{Sum}
 use Rattle.opgen_ports.specs.Good.{IsGoodRatio}
 use Rattle.opgen_kinds.specs.Sum.{exact_sum, sum_shift, terms, tables, guard_for, guard_bits, first_inexact, IsSum}
-use Rattle.opgen_ports.specs.Recent.{Recent, weighted}
-use Rattle.opgen_ports.specs.Shifts.{up}
+use Rattle.opgen_ports.specs.Ports.{Recent, weighted}
+use Rattle.opgen_ports.specs.Reaches.{up}
 use Rattle.opgen_fir.specs.Summed.{weighted_first, units, IsNear, tables_first, IsSummed}
 use Rattle.opgen_fir.proofs.Factors.{den-units, units-some}
 use Rattle.opgen_fir.proofs.Rounds.{rounds}

@@ -5,15 +5,14 @@ use Rattle.std.proofs.Math.Nat.{two-pow-succ, mul-le-mul_left}
 use Rattle.std.proofs.lemmas.Grind.{div_ceil_times}
 use Rattle.std.proofs.lemmas.Int.{ints, unsigned_abs-mul}
 use Rattle.std.proofs.lemmas.Nat.{pow-add, pow_pos}
-use Rattle.opgen_num.specs.declared.TheConstants.{MAX_WIDTH}
+use Rattle.opgen_num.specs.declared.format.TheConstants.{MAX_WIDTH}
 use Rattle.opgen_num.specs.Formats.{range_width}
 use Rattle.opgen_num.proofs.RangeWidth.{range_width-least}
 use Rattle.opgen_kinds.specs.declared.sum.Sum.{Sum}
 use Rattle.opgen_kinds.specs.Sum.{sum_shift, sum_reach, sum_places, guard_bits, sum_format, IsSum}
-use Rattle.opgen_ports.specs.Reaches.{reach_with, reach_of, above_zero, below_zero, rises, falls}
-use Rattle.opgen_ports.specs.Shifts.{up}
+use Rattle.opgen_ports.specs.Reaches.{reach_with, reach_of, above_zero, below_zero, rises, falls, up}
 use Rattle.opgen_ports.proofs.InputPorts.{input_bit}
-use Rattle.opgen_kinds.proofs.Totals.{sum-cons}
+use Rattle.opgen_ports.proofs.Totals.{sum-cons}
 use Rattle.opgen_kcm.specs.Entries.{in_guard_units}
 use Rattle.opgen_kcm.specs.Recipe.{HasNarrowRows}
 use Rattle.opgen_kcm.proofs.Narrow.{narrow}

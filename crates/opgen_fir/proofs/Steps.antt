@@ -11,7 +11,7 @@ use Rattle.opgen_net.specs.Grown.{HasGrown}
 use Rattle.opgen_net.proofs.Grown.{grown-count, grown-flow, grown-width}
 use Rattle.opgen_kinds.specs.declared.sum.Sum.{Sum}
 use Rattle.opgen_kinds.specs.Sum.{guard_bits, IsSum}
-use Rattle.opgen_ports.specs.Recent.{Recent}
+use Rattle.opgen_ports.specs.Ports.{Recent}
 use Rattle.opgen_kcm.specs.Chunks.{chunk_count, number}
 use Rattle.opgen_kcm.specs.Multiple.{IsMultiple}
 use Rattle.opgen_kcm.specs.Recipe.{input_width}

@@ -7,8 +7,8 @@ use Rattle.opgen_num.specs.Rounding.{distance}
 use Rattle.opgen_num.proofs.Integers.{product-sum, product_assoc, commuted, sum-product}
 use Rattle.opgen_kinds.specs.declared.sum.Sum.{Sum}
 use Rattle.opgen_kinds.specs.Sum.{sum_shift, terms, guard_bits, IsSum}
-use Rattle.opgen_ports.specs.Recent.{Recent}
-use Rattle.opgen_ports.specs.Shifts.{up}
+use Rattle.opgen_ports.specs.Ports.{Recent}
+use Rattle.opgen_ports.specs.Reaches.{up}
 use Rattle.opgen_kcm.specs.Chunks.{chunk_count}
 use Rattle.opgen_kcm.specs.Multiple.{IsMultiple}
 use Rattle.opgen_fir.specs.Recipe.{is_zero, factor}

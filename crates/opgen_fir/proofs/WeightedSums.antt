@@ -3,7 +3,7 @@ use Rattle.std.proofs.Common.{◌≡◌, ℕ, zero, suc, ◌+◌, ◌≤◌, Lis
 use Rattle.std.specs.Prelude.{ℤ, pos, ◌+ℤ◌, ◌*ℤ◌}
 use Rattle.std.proofs.lemmas.Int.{ints}
 use Rattle.std.proofs.lemmas.List.{drop_more, drop_all}
-use Rattle.opgen_ports.specs.Recent.{Recent, weighted_from, weighted}
+use Rattle.opgen_ports.specs.Ports.{Recent, weighted_from, weighted}
 use Rattle.opgen_fir.specs.Summed.{weighted_first}
 
 parts : (coefs : List ℤ) (x : Recent) (k : ℕ) → k ≤ length coefs

@@ -8,7 +8,7 @@ use Rattle.opgen_net.specs.declared.node.Node.{Node}
 use Rattle.opgen_net.specs.declared.node.Node.TheVariants.{Input, Delay}
 use Rattle.opgen_kinds.specs.declared.sum.Sum.{Sum}
 use Rattle.opgen_kinds.specs.Sum.{sum_shift, guard_bits, sum_format}
-use Rattle.opgen_ports.specs.Shifts.{up, down}
+use Rattle.opgen_ports.specs.Reaches.{up, down}
 use Rattle.opgen_heap.specs.Contents.{Contents}
 use Rattle.opgen_heap.specs.Adding.{with_constant}
 use Rattle.opgen_net.specs.Placed.{Placed}
@@ -47,8 +47,12 @@ factor s coef = record { num = coef *ℤ pos (up (sum_shift s)); den = s.den *�
 abbrev pub sum_width : Sum → ℕ
 sum_width s = (sum_format s).width + guard_bits s
 
+-- a net, and a heap of bits of its nodes
+abbrev pub terms_in : Net → Contents → Terms
+terms_in net heap = record { net = net; heap = heap }
+
 abbrev pub no_terms : Sum → Terms
-no_terms s = record { net = tapped s; heap = record { width = sum_width s; constant = 0; columns = [] } }
+no_terms s = terms_in (tapped s) (record { width = sum_width s; constant = 0; columns = [] })
 
 -- a coefficient's tables on its tap; a coefficient 0 has none
 abbrev pub with_term : Sum → (tap : ℕ) → ℤ → Terms → Terms

@@ -1,13 +1,16 @@
 -- What the tables of all coefficients add up to, in units of the lowest guard bit.
-use Rattle.std.specs.Prelude.{ℕ, zero, suc, ◌≡◌, ◌*◌, ◌^◌, true, false, List, take, get_or, ℤ, pos, ◌+ℤ◌, ◌-ℤ◌, ◌*ℤ◌, ◌≤ℤ◌, unsigned_abs, None}
+use Rattle.std.specs.Prelude.{ℕ, zero, suc, ◌≡◌, ◌*◌, ◌^◌, true, false, List, length, take, get_or, ℤ, pos, ◌+ℤ◌, ◌-ℤ◌, ◌*ℤ◌, ◌≤ℤ◌, unsigned_abs, All, None}
+use Rattle.opgen_design.specs.Run.{AreWords}
 use Rattle.opgen_heap.specs.Adding.{residue}
-use Rattle.opgen_net.specs.Flow.{Inputs, before, input_at}
+use Rattle.opgen_net.specs.Flow.{Inputs, before, flow, input_at}
+use Rattle.opgen_net.specs.Valid.{input_widths}
 use Rattle.opgen_kinds.specs.declared.sum.Sum.{Sum}
 use Rattle.opgen_kinds.specs.Sum.{sum_shift, terms, guard_bits, first_inexact}
-use Rattle.opgen_ports.specs.Recent.{Recent}
-use Rattle.opgen_ports.specs.Shifts.{up, down}
+use Rattle.opgen_ports.specs.Ports.{Recent}
+use Rattle.opgen_ports.specs.Reaches.{up, down}
 use Rattle.opgen_kcm.specs.Chunks.{chunk_count, number}
-use Rattle.opgen_kcm.specs.Multiple.{IsMultiple}
+use Rattle.opgen_kcm.specs.Multiple.{IsMultiple, sum_at}
+use Rattle.opgen_kcm.specs.Recipe.{Terms}
 use Rattle.opgen_fir.specs.Recipe.{is_zero, factor}
 
 -- so many cycles before
@@ -25,6 +28,13 @@ pub record HasTerm (s : Sum) (coef x : ℤ) (width old new : ℕ) : Type 0 where
   pub nothing : is_zero coef ≡ true → by ≡ pos 0
   pub multiple : is_zero coef ≡ false → IsMultiple (factor s coef) (guard_bits s) (chunk_count s.input.width) x by
   pub sum : new ≡ residue (pos old +ℤ by) (2 ^ width)
+
+-- at every time and for all inputs, the heap's sum has grown by the coefficient times the number at its tap
+abbrev pub AddsTerm : Sum → (tap : ℕ) → (coef : ℤ) → (old new : Terms) → Type 0
+AddsTerm s tap coef old new =
+    (inputs : Inputs) (t : ℤ) → All (AreWords (input_widths old.net)) inputs
+    → HasTerm s coef (number s.input.signed s.input.width (flow old.net.nodes inputs tap t)) old.heap.width
+    (sum_at old inputs t) (sum_at new inputs t)
 
 -- the inputs of the first so many taps, each times its coefficient
 abbrev pub weighted_first : List ℤ → Recent → (count : ℕ) → ℤ
@@ -59,3 +69,9 @@ pub record HasSum (s : Sum) (x : Recent) (count width n : ℕ) : Type 0 where
   pub total : ℤ
   pub summed : IsSummed s x count total
   pub is : n ≡ residue total (2 ^ width)
+
+-- at every time and for all inputs, the new heap's sum is the sum of all terms
+abbrev pub AddsAllTerms : Sum → (old new : Terms) → Type 0
+AddsAllTerms s old new =
+    (inputs : Inputs) (t : ℤ) → All (AreWords (input_widths old.net)) inputs
+    → HasSum s (recent s inputs t) (length s.coefs) old.heap.width (sum_at new inputs t)

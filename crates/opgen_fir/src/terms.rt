@@ -1,22 +1,18 @@
 //! Adds the tables of all coefficients and the rounding constant to the bit heap of a scale or filter.
 
-ghost use Rattle.std.specs.Prelude.{◌≡◌, ◌<◌, ◌≤◌, [], ℤ, ℕ, pos, false, length, get_or, All, OnOk};
+ghost use Rattle.std.specs.Prelude.{◌≡◌, ◌<◌, ◌≤◌, pos, false, length, get_or, OnOk};
 ghost use Rattle.opgen_heap.specs.Standing.{AllThere};
-ghost use Rattle.opgen_net.specs.Flow.{Inputs, flow};
-ghost use Rattle.opgen_net.specs.Valid.{IsValid, input_widths};
-ghost use Rattle.opgen_design.specs.Run.{AreWords};
+ghost use Rattle.opgen_net.specs.Valid.{IsValid};
 ghost use Rattle.opgen_kinds.specs.Sum.{IsAcceptedSum};
-ghost use Rattle.opgen_kcm.specs.Chunks.{number};
 ghost use Rattle.opgen_kcm.specs.Recipe.{HasTermsMore, input_width};
-ghost use Rattle.opgen_kcm.specs.Multiple.{sum_at};
-ghost use Rattle.opgen_fir.specs.Recipe.{is_zero, tapped, no_terms, with_term, with_terms, with_half};
-ghost use Rattle.opgen_fir.specs.Summed.{recent, HasTerm, HasSum};
+ghost use Rattle.opgen_fir.specs.Recipe.{is_zero, tapped, terms_in, no_terms, with_term, with_terms, with_half};
+ghost use Rattle.opgen_fir.specs.Summed.{AddsTerm, AddsAllTerms};
 
-use crate::factor::{factor, power};
+use crate::factor::factor;
 use opgen_heap::Heap;
 use opgen_kcm::rows_of;
 use opgen_net::Net;
-use opgen_num::Memory;
+use opgen_num::{Memory, signed_power};
 use opgen_operator::{Sum, entries_are_small};
 use std::alloc::Global;
 
@@ -42,10 +38,10 @@ fn add_term(
     requires there { is_zero coef ≡ false → tap < length net.old.nodes }
     requires width { is_zero coef ≡ false → input_width net.old tap ≡ sum.now.input.width }
     requires bits { AllThere net.old heap.old.columns }
-    ensures net { OnOk result (net.new ≡ (with_term sum.now tap coef (record { net = net.old; heap = heap.old })).net) }
-    ensures heap { OnOk result (heap.new ≡ (with_term sum.now tap coef (record { net = net.old; heap = heap.old })).heap) }
-    ensures more { OnOk result (HasTermsMore (record { net = net.old; heap = heap.old }) (record { net = net.new; heap = heap.new })) }
-    ensures term { OnOk result ((inputs : Inputs) (t : ℤ) → All (AreWords (input_widths net.old)) inputs → HasTerm sum.now coef (number sum.now.input.signed sum.now.input.width (flow net.old.nodes inputs tap t)) heap.old.width (sum_at (record { net = net.old; heap = heap.old }) inputs t) (sum_at (record { net = net.new; heap = heap.new }) inputs t)) }
+    ensures net { OnOk result (net.new ≡ (with_term sum.now tap coef (terms_in net.old heap.old)).net) }
+    ensures heap { OnOk result (heap.new ≡ (with_term sum.now tap coef (terms_in net.old heap.old)).heap) }
+    ensures more { OnOk result (HasTermsMore (terms_in net.old heap.old) (terms_in net.new heap.new)) }
+    ensures term { OnOk result (AddsTerm sum.now tap coef (terms_in net.old heap.old) (terms_in net.new heap.new)) }
     ensures valid { IsValid net.new }
 {
     entries_are_small();
@@ -78,9 +74,9 @@ pub(crate) fn add_terms(
     requires heap { heap.old ≡ (no_terms sum.now).heap }
     ensures net { OnOk result (net.new ≡ (with_terms sum.now (length sum.now.coefs)).net) }
     ensures heap { OnOk result (heap.new ≡ (with_terms sum.now (length sum.now.coefs)).heap) }
-    ensures more { OnOk result (HasTermsMore (no_terms sum.now) (record { net = net.new; heap = heap.new })) }
+    ensures more { OnOk result (HasTermsMore (no_terms sum.now) (terms_in net.new heap.new)) }
     ensures bits { OnOk result (AllThere net.new heap.new.columns) }
-    ensures sum { OnOk result ((inputs : Inputs) (t : ℤ) → All (AreWords (input_widths net.old)) inputs → HasSum sum.now (recent sum.now inputs t) (length sum.now.coefs) heap.old.width (sum_at (record { net = net.new; heap = heap.new }) inputs t)) }
+    ensures sum { OnOk result (AddsAllTerms sum.now (terms_in net.old heap.old) (terms_in net.new heap.new)) }
     ensures valid { IsValid net.new }
 {
     'taps: for tap in 0..sum.coefs.len() {
@@ -96,6 +92,6 @@ pub(crate) fn add_half(guard: u32, heap: &mut Heap)
     ensures { heap.new ≡ with_half guard heap.old }
 {
     if guard > 0 {
-        heap.add_constant(power(guard - 1));
+        heap.add_constant(signed_power(guard - 1));
     }
 }

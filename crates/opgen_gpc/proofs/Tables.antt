@@ -9,7 +9,7 @@ use Rattle.opgen_num.specs.Words.{digit, nat, word}
 use Rattle.opgen_num.specs.WordLaws.{nat-word, length-word}
 use Rattle.opgen_num.proofs.Words.{digit-below, nat-below, word-nat}
 use Rattle.opgen_design.specs.Run.{AreWords}
-use Rattle.opgen_design.specs.Width.{IsWidth}
+use Rattle.opgen_design.specs.Value.{IsWidth}
 use Rattle.opgen_heap.specs.Sum.{bit_under, ones}
 use Rattle.opgen_net.specs.declared.net.Net.{Net}
 use Rattle.opgen_net.specs.declared.node.Node.{Node}

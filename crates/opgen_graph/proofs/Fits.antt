@@ -4,10 +4,10 @@ use Rattle.std.specs.Prelude.{ℤ, pos, ◌-ℤ◌, ◌*ℤ◌, All}
 use Rattle.std.proofs.lemmas.Int.{ints}
 use Rattle.std.proofs.lemmas.List.Elements.{All-nil, All-cons, All-head, All-tail}
 use Rattle.std.specs.Fmt.{decimal}
-use Rattle.opgen_num.specs.declared.TheConstants.{MAX_WIDTH}
+use Rattle.opgen_num.specs.declared.format.TheConstants.{MAX_WIDTH}
 use Rattle.opgen_num.specs.declared.format.Format.{Format}
 use Rattle.opgen_num.specs.Rounding.{IsGoodLinear}
-use Rattle.opgen_num.specs.Values.{val}
+use Rattle.opgen_num.specs.Words.{val}
 use Rattle.opgen_num.proofs.Quotients.{within_one}
 use Rattle.opgen_net.specs.declared.net.Net.{Net}
 use Rattle.opgen_net.specs.Flow.{flow, input_at, slice_flow}
@@ -21,7 +21,7 @@ use Rattle.opgen_ports.proofs.Widths.{some_width}
 use Rattle.opgen_kinds.proofs.of_kind.Several.{multiple_width}
 use Rattle.opgen_operator.specs.Fits.{FitsOperator, FitsInEachMode}
 use Rattle.opgen_kinds.specs.Several.{IsAcceptedSeveral, constant_format, numbered, multiple_ports, IsSeveral}
-use Rattle.opgen_operator.specs.PortWords.{recent_words, output_words}
+use Rattle.opgen_operator.specs.Outputs.{recent_words, output_words}
 use Rattle.opgen_ports.specs.Ports.{one_input}
 use Rattle.opgen_operator.proofs.Accepted.{accepted_ranges}
 use Rattle.opgen_graph.specs.declared.ranks.Graph.{Graph}

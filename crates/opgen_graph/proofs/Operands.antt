@@ -7,8 +7,7 @@ use Rattle.std.proofs.lemmas.Nat.{pow-add}
 use Rattle.std.proofs.lemmas.List.{length-drop, length-replicate, take-append-drop}
 use Rattle.std.proofs.lemmas.List.Elements.{All-append, All-drop, All-replicate}
 use Rattle.opgen_num.specs.declared.format.Format.{Format}
-use Rattle.opgen_num.specs.Values.{highest, val}
-use Rattle.opgen_num.specs.Words.{digit, nat}
+use Rattle.opgen_num.specs.Words.{highest, val, digit, nat}
 use Rattle.opgen_num.proofs.Integers.{product-difference}
 use Rattle.opgen_net.specs.declared.node.Node.{Node}
 use Rattle.opgen_net.specs.declared.word_bits.WordBit.{WordBit}

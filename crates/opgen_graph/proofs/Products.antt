@@ -6,13 +6,12 @@ use Rattle.std.proofs.lemmas.List.Elements.{All-weaker}
 use Rattle.std.proofs.lemmas.Nat.{pow_pos}
 use Rattle.opgen_num.specs.declared.format.Format.{Format}
 use Rattle.opgen_num.specs.Formats.{Holds, range_width}
-use Rattle.opgen_num.specs.Values.{val}
+use Rattle.opgen_num.specs.Words.{val, word}
 use Rattle.opgen_num.specs.WordLaws.{length-word, nat-word}
-use Rattle.opgen_num.specs.Words.{word}
 use Rattle.opgen_num.proofs.Values.{val_holds}
 use Rattle.opgen_design.specs.declared.expr.Op.TheVariants.{Minus}
 use Rattle.opgen_design.specs.Run.{AreWords}
-use Rattle.opgen_design.specs.Width.{IsWidth}
+use Rattle.opgen_design.specs.Value.{IsWidth}
 use Rattle.opgen_net.specs.declared.cell.Class.TheVariants.{Add}
 use Rattle.opgen_net.specs.declared.net.Net.{Net}
 use Rattle.opgen_net.specs.declared.node.Node.TheVariants.{Constant, Cells}

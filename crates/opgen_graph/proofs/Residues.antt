@@ -7,9 +7,7 @@ use Rattle.std.proofs.lemmas.Nat.{pow_pos}
 use Rattle.opgen_num.specs.declared.format.Format.{Format}
 use Rattle.opgen_num.specs.Floors.{IsFloor}
 use Rattle.opgen_num.specs.Formats.{Holds}
-use Rattle.opgen_num.specs.Sums.{sum_with}
-use Rattle.opgen_num.specs.Values.{val}
-use Rattle.opgen_num.specs.Words.{nat}
+use Rattle.opgen_num.specs.Words.{sum_with, val, nat}
 use Rattle.opgen_num.proofs.Carries.{sum-carry, nat-not}
 use Rattle.opgen_num.proofs.Integers.{commuted, product-difference, product-sum, product_assoc}
 use Rattle.opgen_num.proofs.Residues.{value_from_residue}

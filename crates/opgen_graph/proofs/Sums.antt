@@ -4,17 +4,15 @@ use Rattle.std.specs.Prelude.{ℤ, pos, ◌*ℤ◌, All, slice_get, slice_index,
 use Rattle.std.proofs.lemmas.Bool.{eq-eqb}
 use Rattle.std.proofs.lemmas.List.{length-drop, take_all}
 use Rattle.std.proofs.lemmas.Option.{slice_get-get_or}
-use Rattle.opgen_num.specs.declared.TheConstants.{MAX_WIDTH}
+use Rattle.opgen_num.specs.declared.format.TheConstants.{MAX_WIDTH}
 use Rattle.opgen_num.specs.declared.format.Format.{Format}
-use Rattle.opgen_num.specs.Values.{val}
-use Rattle.opgen_num.specs.Words.{nat}
+use Rattle.opgen_num.specs.Words.{val, nat}
 use Rattle.opgen_design.specs.declared.expr.Op.{Op}
 use Rattle.opgen_design.specs.declared.expr.Op.TheVariants.{Plus, Minus}
 use Rattle.opgen_design.specs.Plain.{trees_of}
 use Rattle.opgen_design.specs.Run.{AreWords}
 use Rattle.opgen_design.specs.Tree.{name, chain, none, more}
-use Rattle.opgen_design.specs.Value.{Scope}
-use Rattle.opgen_design.specs.Width.{IsWidth, as_width, joined, width, width_on}
+use Rattle.opgen_design.specs.Value.{Scope, IsWidth, as_width, joined, width, width_on}
 use Rattle.opgen_design.proofs.WidthLaws.{as_width-of}
 use Rattle.opgen_net.specs.declared.cell.Class.TheVariants.{Add}
 use Rattle.opgen_net.specs.declared.net.Net.{Net}

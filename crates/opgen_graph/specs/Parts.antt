@@ -33,6 +33,11 @@ part_width input part = (constant_format input (pos part)).width
 abbrev pub part_node : Format → (known : List Multiple) → Net → (part : ℕ) → Placed
 part_node input known net part = with_magnitude input.signed (part_width input part) (record { net = net; known = known }) part
 
+-- the multiple that the node has
+abbrev pub part_multiple : Format → (known : List Multiple) → Net → (part : ℕ) → Multiple
+part_multiple input known net part =
+    record { factor = part; node = (part_node input known net part).place; width = part_width input part }
+
 abbrev pub with_part : Format → (known : List Multiple) → Multiples → (part : ℕ) → Multiples
 with_part input known before part =
     let made = part_node input known before.net part in

@@ -81,6 +81,10 @@ with_sum signed width net a u v =
       place = length second.net.nodes;
     }
 
+-- the same, of the multiples of the two factors that the adder names among those that are known
+abbrev pub with_known_sum : (signed : Bool) → (width : ℕ) → Net → (known : List Multiple) → Adder → Placed
+with_known_sum signed width net known a = with_sum signed width net a (multiple_of known a.u) (multiple_of known a.v)
+
 -- the bits of a node above its lowest; where none is dropped that is the node
 abbrev pub without_lowest : (low width : ℕ) → Placed → Placed
 without_lowest zero width sum = sum
@@ -91,12 +95,16 @@ pub record Multiples : Type 0 where
   pub net : Net
   pub known : List Multiple
 
+-- a net with the multiples that are known in it
+abbrev pub multiples_in : Net → List Multiple → Multiples
+multiples_in net known = record { net = net; known = known }
+
 -- the multiple that an adder makes, in as many bits as the input and the factor have together
 abbrev pub with_adder : Format → Multiples → Adder → Multiples
 with_adder input before a =
     let width = input.width + bit_length a.value in
     let low = dropped a.step.form a.step.shift in
-    let sum = with_sum input.signed (width + low) before.net a (multiple_of before.known a.u) (multiple_of before.known a.v) in
+    let sum = with_known_sum input.signed (width + low) before.net before.known a in
     let all = without_lowest low width sum in
     record { net = all.net; known = before.known ++ record { factor = a.value; node = all.place; width = width } ∷ [] }
 

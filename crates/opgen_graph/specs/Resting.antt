@@ -1,7 +1,7 @@
 -- Multiples of an input are zero before cycle 0.
 use Rattle.std.specs.Prelude.{◌≡◌, ℕ, pos, negsuc, All}
 use Rattle.opgen_num.specs.declared.format.Format.{Format}
-use Rattle.opgen_num.specs.Values.{val}
+use Rattle.opgen_num.specs.Words.{val}
 use Rattle.opgen_design.specs.Run.{AreWords}
 use Rattle.opgen_net.specs.declared.net.Net.{Net}
 use Rattle.opgen_net.specs.Flow.{Inputs, flow}

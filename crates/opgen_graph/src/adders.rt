@@ -1,12 +1,12 @@
 //! Builds one adder node for each adder of a graph: shifts its two operands, adds or subtracts them, and drops low zeros.
 ghost use Rattle.std.specs.Prelude.{◌≡◌, ◌≤◌, ◌+◌, ◌++◌, ◌∷◌, [], slice_index, All, Contains, IfOk, OnOk};
 ghost use Rattle.opgen_design.specs.Plain.{plain};
-ghost use Rattle.opgen_design.specs.Width.{IsWidth};
+ghost use Rattle.opgen_design.specs.Value.{IsWidth};
 ghost use Rattle.opgen_design.specs.Tree.{name, chain as chain_of};
 ghost use Rattle.opgen_design.specs.Plain.{trees_of};
 ghost use Rattle.opgen_net.specs.Valid.{IsValid, widths};
-ghost use Rattle.opgen_num.specs.declared.TheConstants.{MAX_WIDTH};
-ghost use Rattle.opgen_graph.specs.Recipe.{zeros_below as zeros_of, dropped as dropped_of, added as added_of, input_multiple, with_input, with_sum, without_lowest, with_adder, with_adders, multiple_of as multiple_with};
+ghost use Rattle.opgen_num.specs.declared.format.TheConstants.{MAX_WIDTH};
+ghost use Rattle.opgen_graph.specs.Recipe.{zeros_below as zeros_of, dropped as dropped_of, added as added_of, input_multiple, with_input, with_known_sum, without_lowest, multiples_in, with_adder, with_adders};
 ghost use Rattle.opgen_graph.specs.Placing.{AreAdders, AreMultiples, IsNarrow, IsNode, factors};
 
 use crate::forms::{Form, Step};
@@ -80,8 +80,8 @@ fn sum(
     requires u { Contains (factors known.now) adder.u }
     requires v { Contains (factors known.now) adder.v }
     requires few { adder.step.shift ≤ MAX_WIDTH }
-    ensures ok { OnOk result (net.new ≡ (with_sum signed width net.old adder (multiple_with known.now adder.u) (multiple_with known.now adder.v)).net) }
-    ensures place { IfOk result (λ n. n ≡ (with_sum signed width net.old adder (multiple_with known.now adder.u) (multiple_with known.now adder.v)).place) }
+    ensures ok { OnOk result (net.new ≡ (with_known_sum signed width net.old known.now adder).net) }
+    ensures place { IfOk result (λ n. n ≡ (with_known_sum signed width net.old known.now adder).place) }
     ensures valid { IsValid net.new }
 {
     let u = multiple_of(known, adder.u);
@@ -128,9 +128,9 @@ fn place_adder(
     requires u { Contains (factors known.now) adder.u }
     requires v { Contains (factors known.now) adder.v }
     requires narrow { IsNarrow input adder }
-    ensures ok { OnOk result (net.new ≡ (with_adder input (record { net = net.old; known = known.now }) adder).net) }
+    ensures ok { OnOk result (net.new ≡ (with_adder input (multiples_in net.old known.now) adder).net) }
     ensures multiple { IfOk result (λ m. known.now ++ m ∷ [] ≡
-        (with_adder input (record { net = net.old; known = known.now }) adder).known) }
+        (with_adder input (multiples_in net.old known.now) adder).known) }
     ensures valid { IsValid net.new }
 {
     let width = input.width + (32 - adder.value.leading_zeros());
@@ -154,8 +154,8 @@ pub fn place_adders(
     requires net { net.old ≡ with_input input }
     requires valid { IsValid net.old }
     requires adders { AreAdders input adders.now }
-    ensures ok { IfOk result (λ known. record { net = net.new; known = known } ≡
-        with_adders input (record { net = net.old; known = input_multiple input ∷ [] }) adders.now) }
+    ensures ok { IfOk result (λ known. multiples_in net.new known ≡
+        with_adders input (multiples_in net.old (input_multiple input ∷ [])) adders.now) }
     ensures multiples { IfOk result (AreMultiples input net.new) }
     ensures valid { IfOk result (λ known. IsValid net.new) }
 {

@@ -1,12 +1,12 @@
 //! Builds the output of each constant from the multiple of its odd part: shifted, and negated if the constant is negative.
 ghost use Rattle.std.specs.Prelude.{◌≡◌, ◌<◌, ℤ, pos, length, slice_index, get_or, unsigned_abs, All, Contains, IfOk, OnOk};
-ghost use Rattle.opgen_design.specs.Width.{IsWidth};
+ghost use Rattle.opgen_design.specs.Value.{IsWidth};
 ghost use Rattle.opgen_net.specs.Valid.{IsValid, widths};
 ghost use Rattle.opgen_kinds.specs.Several.{IsAcceptedSeveral};
 ghost use Rattle.opgen_ports.specs.OddParts.{odd_part};
 ghost use Rattle.opgen_ports.specs.Ranges.{IsWithin};
 ghost use Rattle.opgen_graph.specs.Placing.{IsNode, HasOddPart, factors};
-ghost use Rattle.opgen_graph.specs.Recipe.{negated as negated_of, with_magnitude, with_constant, with_output, with_outputs};
+ghost use Rattle.opgen_graph.specs.Recipe.{negated as negated_of, multiples_in, with_magnitude, with_constant, with_output, with_outputs};
 
 use crate::adders::chain;
 use crate::multiples::{Multiple, multiple_of, operand};
@@ -42,8 +42,8 @@ pub fn magnitude(
     requires nodes { All (IsNode net.old) known.now }
     requires some { 0 < number }
     requires odd { Contains (factors known.now) (odd_part number) }
-    ensures ok { OnOk result (net.new ≡ (with_magnitude signed width (record { net = net.old; known = known.now }) number).net) }
-    ensures place { IfOk result (λ n. n ≡ (with_magnitude signed width (record { net = net.old; known = known.now }) number).place) }
+    ensures ok { OnOk result (net.new ≡ (with_magnitude signed width (multiples_in net.old known.now) number).net) }
+    ensures place { IfOk result (λ n. n ≡ (with_magnitude signed width (multiples_in net.old known.now) number).place) }
     ensures valid { IsValid net.new }
 {
     let power = number.trailing_zeros();
@@ -65,8 +65,8 @@ pub fn constant_node(
     requires nodes { All (IsNode net.old) known.now }
     requires small { IsWithin 1048575 constant }
     requires odd { HasOddPart known.now constant }
-    ensures ok { OnOk result (net.new ≡ (with_constant signed width (record { net = net.old; known = known.now }) constant).net) }
-    ensures place { IfOk result (λ n. n ≡ (with_constant signed width (record { net = net.old; known = known.now }) constant).place) }
+    ensures ok { OnOk result (net.new ≡ (with_constant signed width (multiples_in net.old known.now) constant).net) }
+    ensures place { IfOk result (λ n. n ≡ (with_constant signed width (multiples_in net.old known.now) constant).place) }
     ensures valid { IsValid net.new }
 {
     if constant == 0 {
@@ -94,7 +94,7 @@ fn place_output(
     requires nodes { All (IsNode net.old) known.now }
     requires odd { HasOddPart known.now (get_or several.now.constants place (pos 0)) }
     ensures ok { OnOk result (net.new ≡
-        (with_output several.now.input place (record { net = net.old; known = known.now })
+        (with_output several.now.input place (multiples_in net.old known.now)
         (get_or several.now.constants place (pos 0))).net) }
     ensures nodes { OnOk result (All (IsNode net.new) known.now) }
     ensures valid { IsValid net.new }
@@ -125,7 +125,7 @@ pub fn place_outputs(
     requires nodes { All (IsNode net.old) known.now }
     requires odd { All (HasOddPart known.now) several.now.constants }
     ensures ok { OnOk result (net.new ≡
-        with_outputs several.now.input 0 (record { net = net.old; known = known.now }) several.now.constants) }
+        with_outputs several.now.input 0 (multiples_in net.old known.now) several.now.constants) }
     ensures valid { IsValid net.new }
 {
     'outputs: for place in 0..several.constants.len() {

@@ -1,8 +1,8 @@
 //! Multiples of the input that nodes of a net have: looks one up, shifts it, and extends it to a width.
 ghost use Rattle.std.specs.Prelude.{◌≡◌, ◌≤◌, ◌++◌, replicate, Contains, IfOk, OnOk};
-ghost use Rattle.opgen_num.specs.declared.TheConstants.{MAX_WIDTH};
+ghost use Rattle.opgen_num.specs.declared.format.TheConstants.{MAX_WIDTH};
 ghost use Rattle.opgen_net.specs.Valid.{IsValid};
-ghost use Rattle.opgen_design.specs.Width.{IsWidth};
+ghost use Rattle.opgen_design.specs.Value.{IsWidth};
 ghost use Rattle.opgen_net.specs.Placed.{with_bits};
 ghost use Rattle.opgen_graph.specs.Placing.{IsNode, factors};
 ghost use Rattle.opgen_graph.specs.Recipe.{multiple_of as multiple_with, top_bit as top_of, extended as extension, operand as bits_of};

@@ -1,10 +1,11 @@
 //! The odd parts of some numbers, and a node of the net for each of them.
 ghost use Rattle.std.specs.Prelude.{◌≡◌, ◌↔◌, ℕ, ◌≤◌, pos, [], All, Contains, IfOk, IfSome, IfNone};
-ghost use Rattle.opgen_design.specs.Width.{IsWidth};
+ghost use Rattle.opgen_design.specs.Value.{IsWidth};
 ghost use Rattle.opgen_net.specs.Valid.{IsValid};
 ghost use Rattle.opgen_ports.specs.Ranges.{IsInput, IsWithin};
-ghost use Rattle.opgen_graph.specs.Parts.{HasPart, IsPartOf, parts_of, part_width, part_node, with_parts};
+ghost use Rattle.opgen_graph.specs.Parts.{HasPart, IsPartOf, parts_of, part_width, part_node, part_multiple, with_parts};
 ghost use Rattle.opgen_graph.specs.Placing.{AreMultiples, IsNode, IsPart, factors};
+ghost use Rattle.opgen_graph.specs.Recipe.{multiples_in};
 
 use crate::constants::magnitude;
 use crate::multiples::Multiple;
@@ -76,7 +77,7 @@ fn place_part(
     requires nodes { All (IsNode net.old) known.now }
     requires part { IsPart known.now part }
     ensures ok { IfOk result (λ m. net.new ≡ (part_node input known.now net.old part).net) }
-    ensures multiple { IfOk result (λ m. m ≡ record { factor = part; node = (part_node input known.now net.old part).place; width = part_width input part }) }
+    ensures multiple { IfOk result (λ m. m ≡ part_multiple input known.now net.old part) }
     ensures wide { IfOk result (λ m. IsWidth (part_width input part)) }
     ensures valid { IsValid net.new }
 {
@@ -101,8 +102,8 @@ pub fn place_parts(
     requires input { IsInput input }
     requires known { AreMultiples input net.old known.now }
     requires parts { All (IsPart known.now) parts.now }
-    ensures ok { IfOk result (λ made. record { net = net.new; known = made } ≡
-        with_parts input known.now (record { net = net.old; known = [] }) parts.now) }
+    ensures ok { IfOk result (λ made. multiples_in net.new made ≡
+        with_parts input known.now (multiples_in net.old []) parts.now) }
     ensures multiples { IfOk result (AreMultiples input net.new) }
     ensures factors { IfOk result (λ made. factors made ≡ parts.now) }
     ensures valid { IfOk result (λ made. IsValid net.new) }

@@ -1,12 +1,11 @@
 //! Bit heaps: columns of weighted bits of a net's nodes, and a constant, that are to be added modulo a power of two.
-ghost use Rattle.std.specs.Prelude.{◌≡◌, ℕ, ◌+◌, ◌*◌, ◌%◌, ◌^◌, ◌<◌, ◌≤◌, ℤ, pos, ◌+ℤ◌, [], ◌++◌, ◌-◌, length, take, replicate, OnOk, OnErr};
-ghost use Rattle.opgen_num.specs.declared.TheConstants.{MAX_WIDTH};
-ghost use Rattle.opgen_num.specs.Words.{digit, nat};
-ghost use Rattle.opgen_design.specs.Width.{IsWidth};
+ghost use Rattle.std.specs.Prelude.{◌≡◌, ◌+◌, ◌*◌, ◌%◌, ◌^◌, ◌<◌, ◌≤◌, [], ◌++◌, ◌-◌, length, take, replicate, OnOk, OnErr};
+ghost use Rattle.opgen_num.specs.declared.format.TheConstants.{MAX_WIDTH};
+ghost use Rattle.opgen_design.specs.Value.{IsWidth};
 ghost use Rattle.opgen_net.specs.declared.word_bits.WordBit.{WordBit};
 ghost use Rattle.opgen_net.specs.declared.word_bits.WordBit.TheVariants.{Of};
-ghost use Rattle.opgen_heap.specs.Sum.{Words, bit_under, heap_sum};
-ghost use Rattle.opgen_heap.specs.Adding.{with_bit_at, with_bit, with_row, residue, with_constant};
+ghost use Rattle.opgen_heap.specs.Sum.{Gains, bit_value, row_value};
+ghost use Rattle.opgen_heap.specs.Adding.{with_bit_at, with_bit, with_row, residue, with_constant, GainsWhole};
 
 use opgen_list::Items;
 use opgen_net::WordBit;
@@ -24,7 +23,7 @@ pub struct Heap {
 
 impl Model for Heap {
     ghost use Rattle.std.specs.Prelude.{◌≤◌, ◌<◌, ◌^◌, length};
-    ghost use Rattle.opgen_design.specs.Width.{IsWidth};
+    ghost use Rattle.opgen_design.specs.Value.{IsWidth};
     ghost use Rattle.opgen_heap.specs.Contents.{Contents};
 
     ghost Value = { Contents };
@@ -86,7 +85,7 @@ impl Heap {
     /// Appends a bit to column `weight`. A column of the heap's width or more adds nothing.
     pub fn append(&mut self, bit: WordBit, weight: u32) -> Result<(), Memory>
         ensures ok { OnOk result (self.new ≡ with_bit self.old bit weight) }
-        ensures sum { OnOk result ((words : Words) → heap_sum words self.new ≡ (heap_sum words self.old + digit (bit_under words bit) * 2 ^ weight) % 2 ^ self.old.width) }
+        ensures sum { OnOk result (Gains self.old (bit_value bit weight) self.new) }
         ensures err { OnErr result (self.new ≡ self.old) }
     {
         if weight >= self.width {
@@ -105,7 +104,7 @@ impl Heap {
     /// Appends the bit `index` of a node to column `weight`. A column of the heap's width or more adds nothing.
     pub fn add_bit(&mut self, node: usize, index: u32, weight: u32) -> Result<(), Memory>
         ensures ok { OnOk result (self.new ≡ with_bit self.old (Of node index) weight) }
-        ensures sum { OnOk result ((words : Words) → heap_sum words self.new ≡ (heap_sum words self.old + digit (bit_under words (Of node index)) * 2 ^ weight) % 2 ^ self.old.width) }
+        ensures sum { OnOk result (Gains self.old (bit_value (Of node index) weight) self.new) }
         ensures err { OnErr result (self.new ≡ self.old) }
     {
         self.append(WordBit::Of { node, index }, weight)
@@ -115,7 +114,7 @@ impl Heap {
     /// Where memory runs out, some of them may have been added.
     pub fn add_row(&mut self, node: usize, width: u32, weight: u32) -> Result<(), Memory>
         ensures ok { OnOk result (self.new ≡ with_row self.old node width weight) }
-        ensures sum { OnOk result ((words : Words) → heap_sum words self.new ≡ (heap_sum words self.old + nat (take width (words node)) * 2 ^ weight) % 2 ^ self.old.width) }
+        ensures sum { OnOk result (Gains self.old (row_value node width weight) self.new) }
     {
         let kept = width.min(self.width.saturating_sub(weight));
         for index in 0..kept {
@@ -127,7 +126,7 @@ impl Heap {
     /// Adds a whole number to the constant, modulo 2 to the heap's width.
     pub fn add_constant(&mut self, value: i128)
         ensures value { self.new ≡ with_constant self.old value }
-        ensures sum { (words : Words) → heap_sum words self.new ≡ residue (pos (heap_sum words self.old) +ℤ value) (2 ^ self.old.width) }
+        ensures sum { GainsWhole self.old value self.new }
     {
         self.constant = (self.constant + modulo(value, self.width)) % (1 << self.width);
     }

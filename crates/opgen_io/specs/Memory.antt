@@ -22,6 +22,11 @@ pub record FolderState : Type 0 where
   pub longs : ℕ
   pub write_faults : ℕ
 
+-- a folder before any call
+abbrev pub new_folder : List File → (failing : List ℕ) → FolderState
+new_folder files failing =
+    record { files = files; failing = failing; calls = 0; read_faults = 0; lacks = 0; longs = 0; write_faults = 0 }
+
 -- a sink: the bytes taken, the numbers of the calls that fail, the number of the next call, and the count
 pub record SinkState : Type 0 where
   pub bytes : List ℕ

@@ -11,7 +11,8 @@ use std::fs::File;
 use std::marker::Model;
 use std::rt::Files;
 
-/// The files of the working directory, each under its path. What they hold is not told, and each failure raises a count. A missing file counts as a read fault. A store that fails leaves the old file, and one that does not replaces it whole.
+/// The files of the working directory, each under its path. What they hold is not told, and each failure raises a count. A missing
+/// file counts as a read fault. A store that fails leaves the old file, and one that does not replaces it whole.
 #[derive(Drop)]
 pub struct DiskFolder<'a, R> {
     rt: &'a R,

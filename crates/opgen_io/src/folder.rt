@@ -50,7 +50,7 @@ pub trait Folder {
     // How many stores have failed.
     ghost write_faults: { Self → ℕ };
 
-    /// The bytes under the name, of which there may be `most`.
+    // The bytes under the name, of which there may be `most`.
     fn fetch(&mut self, alloc: Global, name: &str, most: usize) -> Result<Vec<u8>, FetchFault>
         ensures contents { told self.new ≡ told self.old }
         ensures counts { CountsFetch result
@@ -83,7 +83,7 @@ pub trait Folder {
             fetched (files name.now) most ≡ Err FetchFault.TooLong →
             FetchFails result FetchFault.TooLong };
 
-    /// Lets the name stand for the bytes, whatever it stood for. After `Failed` the name may stand for anything or be gone.
+    // Lets the name stand for the bytes, whatever it stood for. After `Failed` the name may stand for anything or be gone.
     fn store(&mut self, name: &str, bytes: &[u8]) -> Result<(), StoreFault>
         ensures tells { is_some (told self.new) ≡ is_some (told self.old) }
         ensures read_faults_same { read_faults self.new ≡ read_faults self.old }

@@ -3,7 +3,7 @@ ghost use Rattle.std.specs.Prelude.{◌≡◌, [], Some, true, false, IsSome, If
 ghost use Rattle.opgen_io.specs.Counted.{CountsFetch};
 ghost use Rattle.opgen_io.specs.Fetched.{fetched, IsAnswer};
 ghost use Rattle.opgen_io.specs.Files.{stored};
-ghost use Rattle.opgen_io.specs.Memory.{files_of, is_named, found, fetch_counts, folder_fails, sink_fails, called, read_failed, write_failed, after_fetch, after_store, after_put, put_failed};
+ghost use Rattle.opgen_io.specs.Memory.{new_folder, files_of, is_named, found, fetch_counts, folder_fails, sink_fails, called, read_failed, write_failed, after_fetch, after_store, after_put, put_failed};
 
 use crate::calls::Calls;
 use crate::counts::raise;
@@ -11,7 +11,8 @@ use crate::{FetchFault, Folder, PutFault, Sink, StoreFault};
 use std::alloc::{AllocError, Global};
 use std::marker::Model;
 
-/// Files in memory, for tests. The calls of `fetch` and `store` are counted together, from 0, and those whose numbers were listed fail.
+/// Files in memory, for tests. The calls of `fetch` and `store` are counted together, from 0, and those whose numbers were listed
+/// fail.
 #[derive(Drop)]
 pub struct MemoryFolder {
     files: Vec<(String, Vec<u8>)>,
@@ -76,7 +77,7 @@ fn enter(files: &mut Vec<(String, Vec<u8>)>, name: &str, bytes: &[u8]) -> Result
 impl MemoryFolder {
     /// The folder of these files. Of two files of one name the first counts.
     pub fn new(files: Vec<(String, Vec<u8>)>, failing: Vec<u64>) -> MemoryFolder
-        ensures { result ≡ record { files = files_of files.items; failing = failing.items; calls = 0; read_faults = 0; lacks = 0; longs = 0; write_faults = 0 } }
+        ensures { result ≡ new_folder (files_of files.items) failing.items }
     {
         MemoryFolder {
             files,

@@ -26,8 +26,8 @@ pub trait Sink {
     // How many puts have failed.
     ghost faults: { Self → ℕ };
 
-    /// Takes all the bytes. After `Failed` it may have taken the first of them. Each call is one more put, whatever it returns
-    /// and even if there are no bytes. The count of faults rises only if the put failed.
+    // Takes all the bytes. After `Failed` it may have taken the first of them. Each call is one more put, whatever it returns
+    // and even if there are no bytes. The count of faults rises only if the put failed.
     fn put(&mut self, bytes: &[u8]) -> Result<(), PutFault>
         ensures tells { is_some (taken self.new) ≡ is_some (taken self.old) }
         ensures one_more { puts self.new ≡ next_count (puts self.old) }

@@ -6,8 +6,7 @@ use Rattle.std.proofs.lemmas.Nat.{pow-add}
 use Rattle.std.proofs.lemmas.Int.{ints}
 use Rattle.std.proofs.lemmas.Bool.{le-leb, lt-leb}
 use Rattle.std.proofs.lemmas.List.{length-drop, length-take-le, take_all}
-use Rattle.opgen_num.specs.Words.{nat}
-use Rattle.opgen_num.specs.Values.{highest}
+use Rattle.opgen_num.specs.Words.{nat, highest}
 use Rattle.opgen_num.proofs.Cuts.{nat-append, nat-parts}
 use Rattle.opgen_num.proofs.Integers.{product-difference}
 use Rattle.opgen_kcm.specs.Chunks.{chunk_count, chunk_at, number, chunk_word, digit_of}

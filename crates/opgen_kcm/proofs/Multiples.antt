@@ -3,8 +3,7 @@ use Rattle.std.proofs.Common.{◌≡◌, ℕ, zero, suc, ◌+◌, ◌*◌, ◌^�
 use Rattle.std.specs.Prelude.{ℤ, pos, negsuc, ◌+ℤ◌, ◌-ℤ◌, ◌*ℤ◌, ◌<ℤ◌, ◌≤ℤ◌, unsigned_abs}
 use Rattle.std.proofs.lemmas.Int.{ints}
 use Rattle.opgen_num.specs.declared.format.Ratio.{Ratio}
-use Rattle.opgen_num.specs.Nearest.{nearest}
-use Rattle.opgen_num.specs.Rounding.{distance}
+use Rattle.opgen_num.specs.Rounding.{nearest, distance}
 use Rattle.opgen_num.proofs.Integers.{product-sum, product_assoc, commuted, sum-product}
 use Rattle.opgen_num.proofs.NearestNumbers.{nearest-floor, nearest-whole}
 use Rattle.opgen_kcm.specs.Chunks.{chunk_count, chunk_at, number, chunk_word, digit_of}

@@ -1,7 +1,7 @@
 -- An input as chunks of six bits, each of which addresses a table.
 use Rattle.std.specs.Prelude.{ℕ, ◌-◌, ◌*◌, ◌&&◌, Bool, List, take, drop, min, nat_le, ℤ, pos}
 use Rattle.std.specs.Int.{div_ceil}
-use Rattle.opgen_num.specs.Values.{val}
+use Rattle.opgen_num.specs.Words.{val}
 use Rattle.opgen_kcm.specs.declared.chunk.Chunk.{Chunk}
 
 abbrev pub chunk_count : (width : ℕ) → ℕ

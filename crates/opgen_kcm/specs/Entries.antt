@@ -5,8 +5,7 @@ use Rattle.std.specs.Int.{int_min}
 use Rattle.std.specs.List.{fold, list_all}
 use Rattle.opgen_num.specs.declared.format.Ratio.{Ratio}
 use Rattle.opgen_num.specs.Formats.{digit_count}
-use Rattle.opgen_num.specs.Nearest.{nearest}
-use Rattle.opgen_num.specs.Rounding.{distance}
+use Rattle.opgen_num.specs.Rounding.{nearest, distance}
 use Rattle.opgen_num.specs.Words.{word}
 use Rattle.opgen_kcm.specs.declared.chunk.Chunk.{Chunk}
 use Rattle.opgen_kcm.specs.declared.table.Shape.{Shape}

@@ -1,7 +1,7 @@
 //! Cuts an input into chunks of six bits, each of which addresses one table.
 
 ghost use Rattle.std.specs.Prelude.{◌≡◌, ◌+◌, ◌*◌, ◌^◌, ◌<◌, ◌≤◌, length, unsigned_abs, IfOk};
-ghost use Rattle.opgen_num.specs.declared.TheConstants.{MAX_INPUT};
+ghost use Rattle.opgen_num.specs.declared.format.TheConstants.{MAX_INPUT};
 ghost use Rattle.opgen_net.specs.WordRule.{bits_from};
 ghost use Rattle.opgen_kcm.specs.Chunks.{chunk_at, digit_of};
 

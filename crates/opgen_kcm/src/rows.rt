@@ -1,6 +1,6 @@
 //! Adds a constant multiple of a node to a bit heap: one table for each chunk of the node's bits, and a constant.
 ghost use Rattle.std.specs.Prelude.{◌≡◌, ◌≢◌, ◌+◌, ◌*◌, ◌^◌, ◌<◌, ◌≤◌, pos, ◌+ℤ◌, ◌<ℤ◌, length, unsigned_abs, All, OnOk};
-ghost use Rattle.opgen_num.specs.declared.TheConstants.{MAX_INPUT, MAX_WIDTH};
+ghost use Rattle.opgen_num.specs.declared.format.TheConstants.{MAX_INPUT, MAX_WIDTH};
 ghost use Rattle.opgen_heap.specs.Adding.{residue};
 ghost use Rattle.opgen_heap.specs.Standing.{AllThere};
 ghost use Rattle.opgen_net.specs.Flow.{flow};

@@ -1,7 +1,7 @@
 //! The entries of a table, which are multiples rounded to whole units, and the width and trailing zeros of its rows.
 
 ghost use Rattle.std.specs.Prelude.{◌≡◌, ◌+◌, ◌*◌, ◌/◌, ◌^◌, ◌<◌, ◌≤◌, ℤ, pos, ◌<ℤ◌, ◌*ℤ◌, map, length, unsigned_abs, All, IfOk};
-ghost use Rattle.opgen_num.specs.declared.TheConstants.{MAX_INPUT};
+ghost use Rattle.opgen_num.specs.declared.format.TheConstants.{MAX_INPUT};
 ghost use Rattle.opgen_num.specs.Formats.{digit_count};
 ghost use Rattle.opgen_num.specs.Rounding.{distance};
 ghost use Rattle.opgen_kcm.specs.Entries.{in_guard_units, entry, all_entries, least_of, offsets, greatest_of};
@@ -9,25 +9,8 @@ ghost use Rattle.opgen_kcm.specs.Entries.{divides_all, zeros_of, shape_of, rows_
 ghost use Rattle.opgen_kcm.specs.Recipe.{HasRoom};
 
 use crate::chunk::Chunk;
-use opgen_num::{Ratio, Word, bit_length, nearest};
+use opgen_num::{Ratio, Word, bit_length, nearest, power, signed_power};
 use std::alloc::{AllocError, Global};
-
-// Two to a power.
-fn power(places: u32) -> u128
-    requires { places < 128 }
-    ensures value { result ≡ 2 ^ places }
-    ensures some { 0 < result }
-{
-    1 << places
-}
-
-// Two to a power, with a sign.
-fn weight(places: u32) -> i128
-    requires { places < 127 }
-    ensures { result ≡ pos (2 ^ places) }
-{
-    power(places) as i128
-}
 
 // A product of numbers that has a place in 128 bits.
 fn times(a: i128, b: i128) -> i128
@@ -45,7 +28,7 @@ pub(crate) fn in_guard_units(q: Ratio, guard: u32) -> Ratio
     ensures { result ≡ in_guard_units q guard }
 {
     Ratio {
-        num: times(q.num, weight(guard)),
+        num: times(q.num, power(guard) as i128),
         den: q.den,
     }
 }
@@ -59,7 +42,7 @@ fn entry(q: Ratio, chunk: Chunk, digit: i128) -> i128
     ensures value { result ≡ entry q chunk digit }
     ensures small { unsigned_abs result < 2 ^ 126 }
 {
-    nearest(times(times(digit, weight(chunk.low)), q.num), q.den)
+    nearest(times(times(digit, signed_power(chunk.low)), q.num), q.den)
 }
 
 /// The multiples by the digits of a chunk, in the order of their addresses.

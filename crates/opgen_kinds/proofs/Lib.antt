@@ -1,7 +1,3 @@
--- Lemmas on kinds of operators: those of all kinds, and in of_kind those of each.
-pub mod Roundings
-pub mod Totals
+-- Lemmas on kinds of operators: how wide ports are, and in of_kind those of each kind.
 pub mod PortWidths
-pub mod Lawful
-pub mod Accepted
 pub mod of_kind

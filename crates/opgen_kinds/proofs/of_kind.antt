@@ -1,5 +1,4 @@
 -- Lemmas of each kind of operator.
-pub mod Wholes
 pub mod Sum
 pub mod ProductWidths
 pub mod Product
@@ -11,6 +10,3 @@ pub mod Terms
 pub mod Results
 pub mod Poly
 pub mod Taps
-pub mod SopTerms
-pub mod SopSums
-pub mod Sop

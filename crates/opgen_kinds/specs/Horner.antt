@@ -3,7 +3,7 @@
 use Rattle.std.specs.Int.{int_min, int_max}
 use Rattle.std.specs.Prelude.{ℕ, ◌+◌, ◌*◌, ◌^◌, ℤ, pos, unsigned_abs, length, ◌-◌, List, [], ◌∷◌, ◌+ℤ◌, ◌*ℤ◌, map, negsuc}
 use Rattle.opgen_num.specs.Formats.{digit_count, range_width}
-use Rattle.opgen_num.specs.Nearest.{nearest}
+use Rattle.opgen_num.specs.Rounding.{nearest}
 use Rattle.opgen_kinds.specs.declared.poly.Poly.{Poly as Polynomial}
 
 -- the number of coefficients less one, also where the last of them are 0

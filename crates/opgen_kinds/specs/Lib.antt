@@ -1,9 +1,4 @@
--- Definitions of opgen_kinds: what each kind of operator means, in a file for each type of its fields; which operators are accepted.
-pub mod Kinds
-pub mod Meaning
-pub mod Versions
-pub mod Judged
-pub mod Accepted
+-- Definitions of opgen_kinds: what each kind of operator means, in a file for each type of its fields.
 pub mod Sum
 pub mod Product
 pub mod Pair
@@ -13,4 +8,3 @@ pub mod SmallDiv
 pub mod Horner
 pub mod Poly
 pub mod Taps
-pub mod Sop

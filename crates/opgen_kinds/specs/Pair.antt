@@ -5,15 +5,15 @@ use Rattle.std.specs.Prelude.{ℕ, ◌≡◌, refl, ◌≤ℤ◌, ◌<◌, Bool,
 use Rattle.opgen_num.specs.declared.format.Format.{Format}
 use Rattle.opgen_num.specs.declared.format.Ratio.{Ratio}
 use Rattle.opgen_kinds.specs.declared.pair.Pair.{Pair}
-use Rattle.opgen_kinds.specs.declared.kind.Kind.TheVariants as kind_of
+use Rattle.opgen_ports.specs.declared.kind.Kind.TheVariants as kind_of
 use Rattle.opgen_ports.specs.declared.ports.PortFormat.{PortFormat}
-use Rattle.opgen_kinds.specs.Accepted.{IsAcceptable}
+use Rattle.opgen_ports.specs.Accepted.{IsAcceptable}
 use Rattle.opgen_ports.specs.Good.{IsGoodRatio}
 use Rattle.opgen_ports.specs.In128.{IsIn128, IsRatioIn128}
-use Rattle.opgen_kinds.specs.Meaning.{Meaning}
+use Rattle.opgen_ports.specs.Meaning.{Meaning}
 use Rattle.opgen_ports.specs.Ports.{port, with_rest, two_inputs}
 use Rattle.opgen_ports.specs.Ranges.{IsNear, IsInput}
-use Rattle.opgen_ports.specs.Shifts.{places_up, up}
+use Rattle.opgen_ports.specs.Reaches.{places_up, up}
 use Rattle.opgen_ports.specs.Spans.{IsOf}
 
 pub record IsPair (p : Pair) : Type 0 where

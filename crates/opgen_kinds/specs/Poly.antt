@@ -4,12 +4,12 @@ use Rattle.opgen_num.specs.declared.format.Format.{Format}
 use Rattle.opgen_num.specs.declared.format.Ratio.{Ratio}
 use Rattle.opgen_num.specs.Formats.{range_width, is_negative}
 use Rattle.opgen_kinds.specs.declared.poly.Poly.{Poly as Polynomial}
-use Rattle.opgen_kinds.specs.declared.kind.Kind.TheVariants as kind_of
-use Rattle.opgen_kinds.specs.Accepted.{IsAcceptable}
+use Rattle.opgen_ports.specs.declared.kind.Kind.TheVariants as kind_of
+use Rattle.opgen_ports.specs.Accepted.{IsAcceptable}
 use Rattle.opgen_ports.specs.Good.{IsGoodRatio}
 use Rattle.opgen_ports.specs.In128.{IsRatioIn128}
 use Rattle.opgen_kinds.specs.Horner.{degree, result_places, poly_guard, guarded, partial_width, all_guarded, result_low, result_high}
-use Rattle.opgen_kinds.specs.Meaning.{Meaning}
+use Rattle.opgen_ports.specs.Meaning.{Meaning}
 use Rattle.opgen_ports.specs.Ports.{port, one_input}
 use Rattle.opgen_ports.specs.Ranges.{IsInput, IsWithin}
 

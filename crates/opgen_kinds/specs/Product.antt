@@ -3,17 +3,15 @@ use Rattle.std.specs.Prelude.{ℕ, ◌≡◌, ◌≤◌, ◌≤ℤ◌, false, So
 use Rattle.opgen_num.specs.declared.format.Format.{Format}
 use Rattle.opgen_num.specs.declared.format.Ratio.{Ratio}
 use Rattle.opgen_kinds.specs.declared.product.Product.{Product}
-use Rattle.opgen_kinds.specs.declared.kind.Kind.TheVariants as kind_of
+use Rattle.opgen_ports.specs.declared.kind.Kind.TheVariants as kind_of
 use Rattle.opgen_ports.specs.declared.reach.Reach.{Reach}
-use Rattle.opgen_kinds.specs.Accepted.{IsAcceptable}
+use Rattle.opgen_ports.specs.Accepted.{IsAcceptable}
 use Rattle.opgen_ports.specs.Good.{IsGoodRatio}
 use Rattle.opgen_ports.specs.In128.{IsRatioIn128}
-use Rattle.opgen_kinds.specs.Meaning.{Meaning}
-use Rattle.opgen_kinds.specs.Versions.{AreNear}
+use Rattle.opgen_ports.specs.Meaning.{Meaning}
+use Rattle.opgen_ports.specs.Ranges.{AreNear, IsPower, IsInput}
 use Rattle.opgen_ports.specs.Ports.{port, covering, two_inputs}
-use Rattle.opgen_ports.specs.Ranges.{IsPower, IsInput}
-use Rattle.opgen_ports.specs.Reaches.{reach_of_product, in_places, width_of}
-use Rattle.opgen_ports.specs.Shifts.{places_up, places_down, up, down}
+use Rattle.opgen_ports.specs.Reaches.{reach_of_product, in_places, width_of, places_up, places_down, up, down}
 use Rattle.opgen_ports.specs.Spans.{IsOf, Spans}
 
 pub record IsProduct (p : Product) : Type 0 where

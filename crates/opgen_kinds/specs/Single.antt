@@ -4,15 +4,15 @@ use Rattle.std.specs.Prelude.{ℕ, ◌≡◌, ◌≤◌, Bool, false, Some, None
 use Rattle.opgen_num.specs.declared.format.Format.{Format}
 use Rattle.opgen_num.specs.Rounding.{IsGoodRoot, IsRoot}
 use Rattle.opgen_kinds.specs.declared.single.Single.{Single}
-use Rattle.opgen_kinds.specs.declared.kind.Kind.TheVariants as kind_of
+use Rattle.opgen_ports.specs.declared.kind.Kind.TheVariants as kind_of
 use Rattle.opgen_ports.specs.declared.ports.PortFormat.{PortFormat}
-use Rattle.opgen_kinds.specs.Accepted.{IsAcceptedIn, IsAcceptable}
+use Rattle.opgen_ports.specs.Accepted.{IsAcceptedIn, IsAcceptable}
 use Rattle.opgen_ports.specs.In128.{IsIn128}
 use Rattle.opgen_ports.specs.Limits.{most_signal}
-use Rattle.opgen_kinds.specs.Meaning.{Meaning}
+use Rattle.opgen_ports.specs.Meaning.{Meaning}
 use Rattle.opgen_ports.specs.Ports.{port, unsigned, with_rest, one_input}
 use Rattle.opgen_ports.specs.Ranges.{IsNear, IsInput}
-use Rattle.opgen_ports.specs.Shifts.{places_up, up}
+use Rattle.opgen_ports.specs.Reaches.{places_up, up}
 use Rattle.opgen_ports.specs.Spans.{IsOf}
 
 pub record IsSingle (r : Single) : Type 0 where

@@ -5,15 +5,14 @@ use Rattle.opgen_num.specs.declared.format.Ratio.{Ratio}
 use Rattle.opgen_num.specs.Formats.{digit_count}
 use Rattle.opgen_num.specs.Rounding.{IsQuotient}
 use Rattle.opgen_kinds.specs.declared.small_div.SmallDiv.{SmallDiv}
-use Rattle.opgen_kinds.specs.declared.kind.Kind.TheVariants as kind_of
+use Rattle.opgen_ports.specs.declared.kind.Kind.TheVariants as kind_of
 use Rattle.opgen_ports.specs.declared.ports.PortFormat.{PortFormat}
-use Rattle.opgen_kinds.specs.Accepted.{IsAcceptable}
+use Rattle.opgen_ports.specs.Accepted.{IsAcceptable}
 use Rattle.opgen_ports.specs.Good.{IsGoodRatio}
 use Rattle.opgen_ports.specs.In128.{IsRatioIn128}
-use Rattle.opgen_kinds.specs.Meaning.{Meaning}
-use Rattle.opgen_kinds.specs.Versions.{AreNear}
+use Rattle.opgen_ports.specs.Meaning.{Meaning}
+use Rattle.opgen_ports.specs.Ranges.{AreNear, IsInput}
 use Rattle.opgen_ports.specs.Ports.{port, unsigned, with_rest, one_input}
-use Rattle.opgen_ports.specs.Ranges.{IsInput}
 use Rattle.opgen_ports.specs.Spans.{IsOf}
 
 pub record IsSmallDiv (c : SmallDiv) : Type 0 where

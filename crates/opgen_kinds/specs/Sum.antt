@@ -1,25 +1,22 @@
 -- Sums of the last inputs, each times a constant: multiples of one input, and filters of finite response.
 use Rattle.std.specs.Int.{div_ceil}
 use Rattle.std.specs.List.{position_from}
-use Rattle.std.specs.Prelude.{ℕ, ◌≡◌, ◌≤◌, ◌≤ℤ◌, Bool, false, All, Option, Some, None, ◌+◌, ◌*◌, ◌^◌, ◌<◌, ℤ, pos, neg_ℤ, unsigned_abs, length, List, [], ◌∷◌, ◌*ℤ◌, codes, ◌==◌, if◌then◌else◌, not, ◌%◌, ◌-ℤ◌, count_by}
+use Rattle.std.specs.Prelude.{ℕ, ◌≡◌, ◌≤◌, ◌≤ℤ◌, Bool, false, All, Option, Some, None, ◌+◌, ◌*◌, ◌^◌, ◌<◌, ℤ, pos, neg_ℤ, unsigned_abs, length, List, [], ◌∷◌, ◌*ℤ◌, codes, ◌==◌, if◌then◌else◌, not, ◌-ℤ◌, count_by}
 use Rattle.opgen_num.specs.declared.format.Format.{Format}
 use Rattle.opgen_num.specs.declared.format.Ratio.{Ratio}
 use Rattle.opgen_num.specs.Formats.{digit_count}
 use Rattle.opgen_num.specs.Words.{word}
 use Rattle.opgen_kinds.specs.declared.sum.Sum.{Sum}
-use Rattle.opgen_kinds.specs.declared.kind.Kind.{Kind}
-use Rattle.opgen_kinds.specs.declared.kind.Kind.TheVariants as kind_of
+use Rattle.opgen_ports.specs.declared.kind.Kind.{Kind}
+use Rattle.opgen_ports.specs.declared.kind.Kind.TheVariants as kind_of
 use Rattle.opgen_ports.specs.declared.reach.Reach.{Reach}
-use Rattle.opgen_kinds.specs.Accepted.{IsAcceptable}
+use Rattle.opgen_ports.specs.Accepted.{IsAcceptable}
 use Rattle.opgen_ports.specs.Good.{IsGoodRatio}
 use Rattle.opgen_ports.specs.In128.{IsRatioIn128}
-use Rattle.opgen_kinds.specs.Meaning.{Meaning}
-use Rattle.opgen_kinds.specs.Versions.{AreNear}
-use Rattle.opgen_ports.specs.Ports.{port, covering, one_input}
-use Rattle.opgen_ports.specs.Ranges.{IsPower, IsInput, IsWithin}
-use Rattle.opgen_ports.specs.Reaches.{reach_over, in_places, width_of}
-use Rattle.opgen_ports.specs.Recent.{Recent, weighted}
-use Rattle.opgen_ports.specs.Shifts.{places_up, up, down}
+use Rattle.opgen_ports.specs.Meaning.{Meaning}
+use Rattle.opgen_ports.specs.Ranges.{AreNear, IsPower, IsInput, IsWithin}
+use Rattle.opgen_ports.specs.Ports.{port, covering, one_input, Recent, weighted}
+use Rattle.opgen_ports.specs.Reaches.{reach_over, in_places, width_of, places_up, up, down, is_whole_at}
 use Rattle.opgen_ports.specs.Spans.{IsOf, Spans}
 
 pub record IsSum (most : ℕ) (s : Sum) : Type 0 where
@@ -39,10 +36,7 @@ sum_shift s = s.input.lsb -ℤ s.out_lsb
 abbrev pub most_sum_shift : (version : ℕ) → ℤ
 most_sum_shift version = if version == 1 then pos 48 else pos 32
 
--- the coefficient c * 2 ^ s / d is whole
-abbrev pub is_whole_at : (den shift c : ℤ) → Bool
-is_whole_at den s c = (unsigned_abs c * up s) % (unsigned_abs den * down s) == 0
-
+-- a coefficient is whole in units of the output's last place
 abbrev pub is_whole : Sum → ℤ → Bool
 is_whole s c = is_whole_at s.den (sum_shift s) c
 

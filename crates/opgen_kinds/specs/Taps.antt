@@ -4,17 +4,15 @@ use Rattle.opgen_num.specs.declared.format.Format.{Format}
 use Rattle.opgen_num.specs.declared.format.Ratio.{Ratio}
 use Rattle.opgen_kinds.specs.declared.sum.Sum.{Sum}
 use Rattle.opgen_kinds.specs.declared.taps.Taps.{Taps}
-use Rattle.opgen_kinds.specs.declared.kind.Kind.TheVariants as kind_of
-use Rattle.opgen_kinds.specs.Accepted.{IsAcceptable}
+use Rattle.opgen_ports.specs.declared.kind.Kind.TheVariants as kind_of
+use Rattle.opgen_ports.specs.Accepted.{IsAcceptable}
 use Rattle.opgen_kinds.specs.Sum.{sum_shift, sum_format, exact_sum, first_inexact, SumsHold}
-use Rattle.opgen_kinds.specs.Versions.{AreNear}
+use Rattle.opgen_ports.specs.Ranges.{AreNear, IsPower, IsInput, IsWithin}
 use Rattle.opgen_ports.specs.Good.{IsGoodRatio}
 use Rattle.opgen_ports.specs.In128.{IsRatioIn128}
-use Rattle.opgen_kinds.specs.Meaning.{Meaning}
+use Rattle.opgen_ports.specs.Meaning.{Meaning}
 use Rattle.opgen_ports.specs.OddParts.{odd_part_count}
-use Rattle.opgen_ports.specs.Ports.{port, one_input}
-use Rattle.opgen_ports.specs.Ranges.{IsPower, IsInput, IsWithin}
-use Rattle.opgen_ports.specs.Recent.{Recent}
+use Rattle.opgen_ports.specs.Ports.{port, one_input, Recent}
 
 -- what the search for the fewest adders takes
 pub record AreSearchedFor (f : Taps) : Type 0 where

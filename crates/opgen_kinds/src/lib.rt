@@ -1,24 +1,19 @@
-//! Kinds of operators: for each type of fields its ports and formats, what it means, and when outputs are good.
+//! Kinds of operators, but for sums of products: for each type of fields its ports and formats, what it means, and when
+//! outputs are good.
 //!
 //! Proved: Whether the fields are within the ranges of their keys, and whether a version of specifications has them.
-//! The ports and formats. The shift, the first coefficient or term that is not whole, the width of the widest signal.
+//! The ports and formats. The shift, the first coefficient that is not whole, the width of the widest signal.
 //! The exact value of the kinds with one output whose width may be chosen. Whether the outputs of a cycle are good,
 //! exactly by the definition.
 //!
-//! By: the methods of `Sum`, `Product`, `Pair`, `Single`, `Several`, `SmallDiv`, `Poly`, `Taps`, `Sop`; `Kind::name`.
+//! By: the methods of `Sum`, `Product`, `Pair`, `Single`, `Several`, `SmallDiv`, `Poly`, `Taps`.
 #![tactic(auto)]
 
-mod kind;
 pub mod pair;
 pub mod poly;
 pub mod product;
 pub mod several;
 pub mod single;
 pub mod small_div;
-pub mod sop;
-mod sop_terms;
 pub mod sum;
 pub mod taps;
-mod versions;
-
-pub use kind::Kind;

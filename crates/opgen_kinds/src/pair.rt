@@ -1,9 +1,8 @@
 //! Quotients of two inputs, both signed or none: what holds of them and of their remainders.
 ghost use Rattle.std.specs.Prelude.{◌≡◌, ◌≤◌, ℤ, ◌≤ℤ◌, IfOk, pos, ◌≢◌, ◌↔◌, ◌<◌, ◌^◌, unsigned_abs, IsTrue};
-ghost use Rattle.opgen_kinds.specs.Judged.{IsCycleJudged};
+ghost use Rattle.opgen_ports.specs.Meaning.{IsCycleJudged};
 ghost use Rattle.opgen_kinds.specs.Pair.{quotient_format, remainder_format, sign_bit, over, IsTruncated, IsPair, IsAcceptedPair, pair_shift, IsGoodQuotient, quotient_ports, pair_meaning};
-ghost use Rattle.opgen_ports.specs.PortNumbers.{output_numbers, IsHistory, IsCycle};
-ghost use Rattle.opgen_ports.specs.Ports.{two_inputs};
+ghost use Rattle.opgen_ports.specs.Ports.{output_numbers, IsHistory, IsCycle, two_inputs};
 ghost use Rattle.opgen_ports.specs.Ranges.{IsNear};
 ghost use Rattle.opgen_ports.specs.Spans.{IsOf};
 
@@ -96,7 +95,7 @@ impl Pair {
     }
 }
 
-/// Whether the powers of the lowest bits are within their ranges.
+// Whether the powers of the lowest bits are within their ranges.
 fn are_lowest_bits_near(pair: &Pair) -> bool
     ensures { IsTrue result ↔ (IsNear pair.now.a.lsb × IsNear pair.now.b.lsb × IsNear pair.now.out_lsb) }
 {
@@ -110,7 +109,7 @@ pub fn pair_shift(pair: &Pair) -> i32
     pair.a.lsb - pair.b.lsb - pair.out_lsb
 }
 
-/// The bit of a sign.
+// The bit of a sign.
 fn sign_bit(signed: bool) -> u32
     ensures value { result ≡ sign_bit signed }
     ensures few { result ≤ 1 }
@@ -148,7 +147,7 @@ fn remainder_format(pair: &Pair) -> Format
     }
 }
 
-/// A fraction whose denominator is above 0.
+// A fraction whose denominator is above 0.
 fn over(n: i128, b: i128) -> Ratio
     requires n { unsigned_abs n < 2 ^ 126 }
     requires b { unsigned_abs b < 2 ^ 126 }
@@ -161,7 +160,7 @@ fn over(n: i128, b: i128) -> Ratio
     }
 }
 
-/// Whether `q` is `n / b` rounded towards 0, and `r` the remainder.
+// Whether `q` is `n / b` rounded towards 0, and `r` the remainder.
 fn is_truncated(n: i128, b: i128, q: i128, r: i128) -> bool
     requires n { unsigned_abs n < 2 ^ 126 }
     requires b { b ≢ pos 0 }

@@ -1,20 +1,19 @@
 //! Polynomials of an unsigned input below 1: what holds of them, and the numbers of their circuit by Horner's rule.
 ghost use Rattle.std.specs.Prelude.{◌≡◌, ◌*◌, ◌≤◌, ◌^◌, [], ◌∷◌, ℤ, ◌≤ℤ◌, ◌<ℤ◌, codes, IfOk, ◌<◌, pos, neg_ℤ, false, length, get_or, ◌*ℤ◌, unsigned_abs, ◌↔◌, IsTrue, drop};
 ghost use Rattle.opgen_ports.specs.Good.{IsGoodRatio};
-ghost use Rattle.opgen_kinds.specs.Judged.{IsCycleJudged};
+ghost use Rattle.opgen_ports.specs.Meaning.{IsCycleJudged};
 ghost use Rattle.opgen_kinds.specs.Horner.{degree, result_places, poly_guard, guarded, low_end, high_end, partial_width, all_guarded};
 ghost use Rattle.opgen_kinds.specs.Poly.{exact_poly, terms_from, poly_format, IsPoly, poly_meaning, IsAcceptedPoly};
-ghost use Rattle.opgen_ports.specs.PortNumbers.{number_of, recent_numbers, IsHistory, IsCycle};
-ghost use Rattle.opgen_ports.specs.Ports.{port, one_input};
+ghost use Rattle.opgen_ports.specs.Ports.{number_of, recent_numbers, IsHistory, IsCycle, port, one_input};
 ghost use Rattle.opgen_ports.specs.Spans.{IsOf};
 
 use opgen_budget::guard;
 use opgen_list::Items;
-use opgen_num::{Format, Ratio, good_linear, least_width, nearest};
+use opgen_num::{Format, Ratio, good_linear, least_width, nearest, power};
 use opgen_ports::history::{output, recent};
 use opgen_ports::ports::{PortFormat, one};
 use opgen_ports::ranges::{are_within, is_denominator, is_input, is_length};
-use opgen_ports::shifts::{power, raised};
+use opgen_ports::shifts::raised;
 use std::alloc::{AllocError, Global};
 
 /// The sum of `coefs` times powers of an unsigned input below 1, the constant one first, over the
@@ -170,7 +169,7 @@ impl Poly {
     }
 }
 
-/// Whether a format is unsigned, has at most 16 bits and holds numbers below 1 alone.
+// Whether a format is unsigned, has at most 16 bits and holds numbers below 1 alone.
 fn is_below_one(input: Format) -> bool
     ensures { IsTrue result ↔ ((input.signed ≡ false) × (input.width ≤ 16) × (input.lsb ≡ neg_ℤ (pos input.width))) }
 {
@@ -186,7 +185,7 @@ fn degree(poly: &Poly) -> u32
     poly.coefs.len() as u32 - 1
 }
 
-/// How many places after the point the results have.
+// How many places after the point the results have.
 fn result_places(poly: &Poly) -> u32
     requires { IsPoly poly.now }
     ensures value { result ≡ result_places poly.now }
@@ -195,7 +194,7 @@ fn result_places(poly: &Poly) -> u32
     poly.out_lsb.unsigned_abs()
 }
 
-/// A coefficient times a power of the input, over the common denominator.
+// A coefficient times a power of the input, over the common denominator.
 fn poly_term(coef: i64, factor: u128, places: u32) -> i128
     requires coef { unsigned_abs coef ≤ 2 ^ 30 }
     requires small { factor * 2 ^ places ≤ 2 ^ 64 }
@@ -206,7 +205,7 @@ fn poly_term(coef: i64, factor: u128, places: u32) -> i128
     i128::from(coef) * ((factor * power(places)) as i128)
 }
 
-/// The terms of a polynomial over the common denominator.
+// The terms of a polynomial over the common denominator.
 fn poly_terms(poly: &Poly, x: u128) -> i128
     requires poly { IsPoly poly.now }
     requires x { x < 2 ^ poly.now.input.width }
@@ -224,7 +223,7 @@ fn poly_terms(poly: &Poly, x: u128) -> i128
     total
 }
 
-/// The exact value in units of the output's last place.
+// The exact value in units of the output's last place.
 fn exact_poly(poly: &Poly, x: i128) -> Ratio
     requires poly { IsPoly poly.now }
     requires x { IsOf poly.now.input x }

@@ -1,19 +1,17 @@
 //! Products of two inputs: what holds of them.
 ghost use Rattle.std.specs.Prelude.{◌≡◌, ◌+◌, ◌≤◌, ◌^◌, [], ◌∷◌, ℤ, neg_ℤ, ◌≤ℤ◌, codes, IfOk, ◌<◌, pos, negsuc, ◌<ℤ◌, ◌↔◌, IsTrue};
 ghost use Rattle.opgen_ports.specs.Good.{IsGoodRatio};
-ghost use Rattle.opgen_kinds.specs.Judged.{IsCycleJudged};
+ghost use Rattle.opgen_ports.specs.Meaning.{IsCycleJudged};
 ghost use Rattle.opgen_kinds.specs.Product.{product_shift, product_format, IsProduct, IsAcceptedProduct, product_reach, product_places, product_need, exact_product, product_meaning};
-ghost use Rattle.opgen_ports.specs.PortNumbers.{number_of, recent_numbers, IsHistory, IsCycle};
-ghost use Rattle.opgen_ports.specs.Ports.{port, two_inputs};
+ghost use Rattle.opgen_ports.specs.Ports.{number_of, recent_numbers, IsHistory, IsCycle, port, two_inputs};
 ghost use Rattle.opgen_ports.specs.Reaches.{width_of};
 ghost use Rattle.opgen_ports.specs.Spans.{IsOf};
 
-use crate::versions::are_near;
 use opgen_num::{Format, MAX_WIDTH, Ratio, good_linear};
 use opgen_ports::MAX_SHIFT;
 use opgen_ports::history::{last_two, output};
 use opgen_ports::ports::{PortFormat, one, operands};
-use opgen_ports::ranges::{is_input, is_power};
+use opgen_ports::ranges::{are_near, is_input, is_power};
 use opgen_ports::reach::{Reach, in_places, reach_of_product, width_of};
 use opgen_ports::shifts::{places_down, places_up, raised};
 use std::alloc::{AllocError, Global};
@@ -129,7 +127,7 @@ pub fn product_inexact(product: &Product) -> Option<u32>
     }
 }
 
-/// How far a product goes.
+// How far a product goes.
 fn product_reach(product: &Product) -> Reach
     requires { IsProduct product.now }
     ensures value { result ≡ product_reach product.now }
@@ -139,7 +137,7 @@ fn product_reach(product: &Product) -> Reach
     reach_of_product(product.a, product.b)
 }
 
-/// How far a product goes in units of the output's last place, where it is not shifted up.
+// How far a product goes in units of the output's last place, where it is not shifted up.
 fn product_places(product: &Product) -> Reach
     requires product { IsProduct product.now }
     requires low { neg_ℤ MAX_SHIFT ≤ℤ product_shift product.now }
@@ -151,9 +149,9 @@ fn product_places(product: &Product) -> Reach
     in_places(product_reach(product), product_shift(product), 1)
 }
 
-/// The width of the output of a product.
-///
-/// Shifted up, its range may have no place in 128 bits; the plain product's has one.
+// The width of the output of a product.
+//
+// Shifted up, its range may have no place in 128 bits; the plain product's has one.
 fn product_width(product: &Product) -> u32
     requires product { IsProduct product.now }
     requires low { neg_ℤ MAX_SHIFT ≤ℤ product_shift product.now }
@@ -192,7 +190,7 @@ fn product_format(product: &Product) -> Format
     }
 }
 
-/// The exact value in units of the output's last place.
+// The exact value in units of the output's last place.
 fn exact_product(product: &Product, a: i128, b: i128) -> Ratio
     requires product { IsProduct product.now }
     requires low { neg_ℤ MAX_SHIFT ≤ℤ product_shift product.now }

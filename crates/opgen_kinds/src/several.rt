@@ -2,18 +2,16 @@
 ghost use Rattle.std.specs.Fmt.{decimal};
 ghost use Rattle.std.specs.Prelude.{false, ◌≡◌, ◌≤◌, ◌^◌, ◌++◌, map, codes, IfOk, ◌<◌, pos, length, get_or, unsigned_abs, ◌↔◌, IsTrue};
 ghost use Rattle.opgen_ports.specs.Good.{IsGoodRatio};
-ghost use Rattle.opgen_kinds.specs.Judged.{IsCycleJudged};
+ghost use Rattle.opgen_ports.specs.Meaning.{IsCycleJudged};
 ghost use Rattle.opgen_kinds.specs.Several.{constant_format, numbered, IsSeveral, IsSearchedFor, IsAcceptedSeveral, exact_multiple, AreGoodMultiples, multiple_ports, several_meaning};
-ghost use Rattle.opgen_ports.specs.PortNumbers.{number_of, output_numbers, IsHistory, IsCycle};
-ghost use Rattle.opgen_ports.specs.Ports.{port, one_input};
+ghost use Rattle.opgen_ports.specs.Ports.{number_of, output_numbers, IsHistory, IsCycle, port, one_input};
 ghost use Rattle.opgen_ports.specs.Ranges.{IsInput, IsWithin};
 
-use crate::versions::are_near;
 use opgen_list::{Items, Text};
 use opgen_num::{Format, MAX_INPUT, good_linear};
 use opgen_ports::history::{output, product, recent};
 use opgen_ports::ports::{PortFormat, covering, one};
-use opgen_ports::ranges::{are_within, is_input, is_length};
+use opgen_ports::ranges::{are_near, are_within, is_input, is_length};
 use opgen_ports::reach::reach_over;
 use std::alloc::{AllocError, Global};
 
@@ -50,7 +48,7 @@ impl Several {
             && self.has_limits()
     }
 
-    /// Whether the search takes the constants, or there is none.
+    // Whether the search takes the constants, or there is none.
     fn has_limits(&self) -> bool
         ensures { IsTrue result ↔ ((IsTrue self.now.searched → IsSearchedFor self.now) × (self.now.searched ≡ false → self.now.extra ≡ 0)) }
     {
@@ -61,7 +59,7 @@ impl Several {
         }
     }
 
-    /// Whether the search takes the constants.
+    // Whether the search takes the constants.
     fn is_searched_for(&self) -> bool
         ensures { IsTrue result ↔ IsSearchedFor self.now }
     {

@@ -1,9 +1,8 @@
 //! Square roots of an unsigned input: what holds of them and of their remainders.
 ghost use Rattle.std.specs.Prelude.{◌≡◌, ◌≤◌, ◌^◌, ℤ, ◌≤ℤ◌, IfOk, pos, unsigned_abs, ◌↔◌, IsTrue};
-ghost use Rattle.opgen_kinds.specs.Judged.{IsCycleJudged};
+ghost use Rattle.opgen_ports.specs.Meaning.{IsCycleJudged};
 ghost use Rattle.opgen_kinds.specs.Single.{root_width, root_format, rest_format, IsSingle, IsAcceptedSingle, root_shift, IsGoodSquareRoot, root_ports, single_meaning};
-ghost use Rattle.opgen_ports.specs.PortNumbers.{output_numbers, IsHistory, IsCycle};
-ghost use Rattle.opgen_ports.specs.Ports.{one_input};
+ghost use Rattle.opgen_ports.specs.Ports.{output_numbers, IsHistory, IsCycle, one_input};
 
 use opgen_num::{Format, good_root, is_root};
 use opgen_ports::MAX_SHIFT;

@@ -1,16 +1,14 @@
 //! Quotients of an unsigned input by a small constant: what holds of them and of their remainders.
 ghost use Rattle.std.specs.Prelude.{◌≡◌, ◌≤◌, IfOk, ◌↔◌, IsTrue};
-ghost use Rattle.opgen_kinds.specs.Judged.{IsCycleJudged};
+ghost use Rattle.opgen_ports.specs.Meaning.{IsCycleJudged};
 ghost use Rattle.opgen_kinds.specs.SmallDiv.{small_quotient_format, small_rest_format, IsSmallDiv, IsGoodSmallQuotient, small_ports, small_meaning, IsAcceptedSmallDiv};
-ghost use Rattle.opgen_ports.specs.PortNumbers.{output_numbers, IsHistory, IsCycle};
-ghost use Rattle.opgen_ports.specs.Ports.{one_input};
+ghost use Rattle.opgen_ports.specs.Ports.{output_numbers, IsHistory, IsCycle, one_input};
 ghost use Rattle.opgen_ports.specs.Spans.{IsOf};
 
-use crate::versions::are_near;
 use opgen_num::{Format, bit_length, good_linear, is_quotient};
 use opgen_ports::history::{output, recent};
 use opgen_ports::ports::{PortFormat, one, unsigned, with_rest};
-use opgen_ports::ranges::is_input;
+use opgen_ports::ranges::{are_near, is_input};
 use std::alloc::{AllocError, Global};
 
 /// An unsigned input, and the constant by which it is divided.

@@ -1,23 +1,21 @@
 //! Sums of the last inputs times constants: what holds of multiples of one input and of filters of finite response.
 ghost use Rattle.std.specs.Prelude.{◌≡◌, ◌+◌, ◌≤◌, ◌^◌, [], ◌∷◌, ℤ, neg_ℤ, ◌≤ℤ◌, codes, IfOk, ◌<◌, pos, length, negsuc, All, ◌<ℤ◌, ◌↔◌, IsTrue};
 ghost use Rattle.opgen_ports.specs.Good.{IsGoodRatio};
-ghost use Rattle.opgen_kinds.specs.Judged.{IsCycleJudged};
-ghost use Rattle.opgen_kinds.specs.Sum.{sum_shift, HasSumRoom, sum_format, IsSum, IsAcceptedSum, guard_bits, is_whole_at, first_inexact_of, first_inexact, weighted_value, sum_reach, sum_places, terms, tables, sum_need, most_sum_shift, exact_sum, fir_meaning};
-ghost use Rattle.opgen_ports.specs.PortNumbers.{number_of, recent_numbers, IsHistory, IsCycle};
-ghost use Rattle.opgen_ports.specs.Ports.{port, one_input};
+ghost use Rattle.opgen_ports.specs.Meaning.{IsCycleJudged};
+ghost use Rattle.opgen_kinds.specs.Sum.{sum_shift, HasSumRoom, sum_format, IsSum, IsAcceptedSum, guard_bits, first_inexact_of, first_inexact, weighted_value, sum_reach, sum_places, terms, tables, sum_need, most_sum_shift, exact_sum, fir_meaning};
+ghost use Rattle.opgen_ports.specs.Reaches.{places_up};
+ghost use Rattle.opgen_ports.specs.Ports.{number_of, recent_numbers, IsHistory, IsCycle, port, one_input};
 ghost use Rattle.opgen_ports.specs.Ranges.{IsInput, IsWithin};
-ghost use Rattle.opgen_ports.specs.Shifts.{places_up};
 
-use crate::versions::are_near;
 use opgen_budget::guard;
 use opgen_list::Items;
 use opgen_num::{Format, MAX_WIDTH, Ratio, good_linear};
 use opgen_ports::MAX_SHIFT;
 use opgen_ports::history::{output, weighted};
 use opgen_ports::ports::{PortFormat, covering, one};
-use opgen_ports::ranges::{are_within, is_denominator, is_input, is_length, is_power};
+use opgen_ports::ranges::{are_near, are_within, is_denominator, is_input, is_length, is_power};
 use opgen_ports::reach::{Reach, in_places, reach_over, width_of};
-use opgen_ports::shifts::{places_down, places_up, raised, scaled, units};
+use opgen_ports::shifts::{is_whole, places_down, places_up, raised};
 use std::alloc::{AllocError, Global};
 
 /// A sum of the last inputs times `coefs`, over the common denominator `den`.
@@ -134,17 +132,6 @@ pub fn most_sum_shift(version: u32) -> i32
     if version == 1 { MAX_SHIFT } else { 32 }
 }
 
-/// Whether a coefficient is a whole number of units. A shift may be beyond the limits of its kind.
-pub(crate) fn is_whole(coef: i64, den: i64, shift: i32) -> bool
-    requires coef { IsWithin (2 ^ 30) coef }
-    requires positive { pos 1 ≤ℤ den }
-    requires small { den ≤ℤ pos (2 ^ 30) }
-    ensures { result ≡ is_whole_at den shift coef }
-{
-    let near = shift.max(-31).min(30);
-    scaled(coef.unsigned_abs().into(), near) % units(den, near) == 0
-}
-
 /// The place of the first coefficient that is not a whole number of units.
 pub fn first_inexact_of(coefs: &[i64], den: i64, shift: i32) -> Option<u32>
     requires few { length coefs.now ≤ 256 }
@@ -171,7 +158,7 @@ pub fn first_inexact(sum: &Sum) -> Option<u32>
     first_inexact_of(sum.coefs.as_slice(), sum.den, sum_shift(sum))
 }
 
-/// How far a sum goes, over its denominator.
+// How far a sum goes, over its denominator.
 fn sum_reach(sum: &Sum) -> Reach
     requires { IsSum 256 sum.now }
     ensures value { result ≡ sum_reach sum.now }
@@ -194,7 +181,7 @@ pub fn sum_places(sum: &Sum) -> Reach
     in_places(sum_reach(sum), sum_shift(sum), sum.den)
 }
 
-/// How many coefficients are not 0.
+// How many coefficients are not 0.
 fn terms(coefs: &[i64]) -> u32
     requires { length coefs.now ≤ 256 }
     ensures value { result ≡ terms coefs.now }
@@ -209,7 +196,7 @@ fn terms(coefs: &[i64]) -> u32
     count
 }
 
-/// How many tables round.
+// How many tables round.
 fn tables(sum: &Sum) -> u32
     requires { IsSum 256 sum.now }
     ensures value { result ≡ tables sum.now }

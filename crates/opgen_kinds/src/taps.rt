@@ -1,20 +1,18 @@
 //! Filters of whole coefficients in transposed form: what holds of them.
 ghost use Rattle.std.specs.Prelude.{false, ◌≡◌, ◌≤◌, ◌^◌, [], ◌∷◌, ℤ, neg_ℤ, ◌≤ℤ◌, ◌<ℤ◌, pos, codes, IfOk, ◌<◌, ◌↔◌, IsTrue};
 ghost use Rattle.opgen_ports.specs.Good.{IsGoodRatio};
-ghost use Rattle.opgen_kinds.specs.Judged.{IsCycleJudged};
+ghost use Rattle.opgen_ports.specs.Meaning.{IsCycleJudged};
 ghost use Rattle.opgen_kinds.specs.Sum.{sum_shift, first_inexact};
 ghost use Rattle.opgen_kinds.specs.Taps.{direct, taps_format, IsTaps, AreSearchedFor, exact_taps, taps_meaning, IsAcceptedTaps};
-ghost use Rattle.opgen_ports.specs.PortNumbers.{number_of, recent_numbers, IsHistory, IsCycle};
-ghost use Rattle.opgen_ports.specs.Ports.{port, one_input};
+ghost use Rattle.opgen_ports.specs.Ports.{number_of, recent_numbers, IsHistory, IsCycle, port, one_input};
 
 use crate::sum::{first_inexact_of, weighted_value};
-use crate::versions::are_near;
 use opgen_list::Items;
 use opgen_num::{Format, Ratio, good_linear};
 use opgen_ports::history::output;
 use opgen_ports::odd_part_count;
 use opgen_ports::ports::{PortFormat, covering, one};
-use opgen_ports::ranges::{are_within, is_input, is_length, is_power};
+use opgen_ports::ranges::{are_near, are_within, is_input, is_length, is_power};
 use opgen_ports::reach::{in_places, reach_over};
 use std::alloc::{AllocError, Global};
 
@@ -70,7 +68,7 @@ impl Taps {
             && self.has_limits()
     }
 
-    /// Whether the search takes the taps, or there is none.
+    // Whether the search takes the taps, or there is none.
     fn has_limits(&self) -> bool
         ensures { IsTrue result ↔ ((IsTrue self.now.searched → AreSearchedFor self.now) × (self.now.searched ≡ false → self.now.extra ≡ 0)) }
     {
@@ -81,7 +79,7 @@ impl Taps {
         }
     }
 
-    /// Whether the search takes the taps.
+    // Whether the search takes the taps.
     fn are_searched_for(&self) -> bool
         ensures { IsTrue result ↔ AreSearchedFor self.now }
     {

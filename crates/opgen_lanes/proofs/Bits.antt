@@ -6,8 +6,7 @@ use Rattle.std.proofs.lemmas.Bool.{eqb-true, eqb-false}
 use Rattle.std.proofs.lemmas.Nat.Bits.{bit_at-suc, bit_at_lowest, bit_at-zero}
 use Rattle.std.proofs.lemmas.List.{drop_at, drop_more, drop-set-lt, take_at, take_more_set, length-take-le, length-append, map-append, drop-map}
 use Rattle.std.specs.List.{take-map}
-use Rattle.opgen_num.specs.Sums.{majority, sum_with, xor}
-use Rattle.opgen_num.specs.Words.{digit, nat}
+use Rattle.opgen_num.specs.Words.{majority, sum_with, xor, digit, nat}
 use Rattle.opgen_num.proofs.Words.{digit-below, low-bit}
 use Rattle.opgen_streams.specs.Streams.{bit_in, word_in}
 

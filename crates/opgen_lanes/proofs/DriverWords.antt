@@ -3,7 +3,7 @@ use Rattle.std.proofs.Common.{◌≡◌, ℕ, zero, suc, ◌<◌, ◌≤◌, Boo
 use Rattle.std.specs.Prelude.{IsSome, slice_get}
 use Rattle.std.proofs.lemmas.List.{length-map, get_or-map}
 use Rattle.std.proofs.Math.Seq.{take-nil}
-use Rattle.opgen_num.specs.declared.TheConstants.{MAX_WIDTH}
+use Rattle.opgen_num.specs.declared.format.TheConstants.{MAX_WIDTH}
 use Rattle.opgen_design.specs.declared.design.Design.{Design}
 use Rattle.opgen_design.specs.declared.design.Driver.{Driver}
 use Rattle.opgen_design.specs.declared.design.Driver.TheVariants.{Assign, Choice, Table, Register, Output}
@@ -12,8 +12,7 @@ use Rattle.opgen_design.specs.declared.design.Target.{Target}
 use Rattle.opgen_design.specs.declared.design.Target.TheVariants.{Signal as signal, Port as port_of}
 use Rattle.opgen_design.specs.Sound.{IsSound, HasWidth, WidthsAgree, target, signal_widths, port_widths}
 use Rattle.opgen_design.specs.Tree.{Tree}
-use Rattle.opgen_design.specs.Value.{chosen}
-use Rattle.opgen_design.specs.Width.{width}
+use Rattle.opgen_design.specs.Value.{chosen, width}
 use Rattle.opgen_runs.proofs.Fitting.{some-of}
 use Rattle.opgen_runs.proofs.Widths.{declared-there, narrow, width_of, word-length}
 use Rattle.opgen_runs.specs.Evaluate.{HaveWidths, IsThere, driver_word}

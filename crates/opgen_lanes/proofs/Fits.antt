@@ -2,12 +2,12 @@
 use Rattle.std.proofs.Common.{◌≡◌, ℕ, ◌+◌, ◌-◌, ◌<◌, ◌≤◌, Bool, List, length, get_or, Option, Some, None, sym, ap, ◌∙◌, subst, refl, [], arith}
 use Rattle.std.specs.Prelude.{IsSome, slice_get, ◌&&◌, nat_le, nat_lt, option_and_then, if◌then◌else◌}
 use Rattle.std.proofs.lemmas.Option.{slice_get_within, get_or_from_slice_get}
-use Rattle.opgen_num.specs.declared.TheConstants.{MAX_WIDTH}
+use Rattle.opgen_num.specs.declared.format.TheConstants.{MAX_WIDTH}
 use Rattle.opgen_num.specs.Words.{word}
 use Rattle.opgen_num.specs.WordLaws.{length-word}
 use Rattle.opgen_design.specs.declared.expr.Op.{Op}
 use Rattle.opgen_design.specs.Tree.{Tree, Trees, name, part, bits, port, more, none}
-use Rattle.opgen_design.specs.Width.{IsWidth, as_width, width, width_on, chain_width, joined}
+use Rattle.opgen_design.specs.Value.{IsWidth, as_width, width, width_on, chain_width, joined}
 use Rattle.opgen_design.proofs.WidthLaws.{part_fits, some_before, as_width-some, width-is_width}
 use Rattle.opgen_runs.proofs.Fitting.{some-of, pair-is_width}
 

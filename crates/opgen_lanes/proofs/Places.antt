@@ -4,7 +4,7 @@ use Rattle.std.specs.Prelude.{slice_set}
 use Rattle.std.proofs.lemmas.List.{take_at, drop_at, length-map, length-take-le, take-append-le, drop-append-le, drop-drop, length-append, length-drop, drop-take, take-take, append-nil}
 use Rattle.std.proofs.lemmas.List.Sums.{sum_by-cons}
 use Rattle.std.proofs.Math.ListN.{drop_of_length-le}
-use Rattle.opgen_num.specs.declared.TheConstants.{MAX_WIDTH}
+use Rattle.opgen_num.specs.declared.format.TheConstants.{MAX_WIDTH}
 use Rattle.opgen_streams.specs.Streams.{bit_in, word_in, words_in}
 use Rattle.opgen_lanes.specs.declared.bank.Bank.{Bank}
 use Rattle.opgen_lanes.specs.declared.bank.Place.{Place}

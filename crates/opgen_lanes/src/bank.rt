@@ -1,6 +1,6 @@
 //! Words of 256 streams, a vector for each bit.
 ghost use Rattle.std.specs.Prelude.{◌≡◌, ◌<◌, ◌≤◌, ◌^◌, All, IfOk, length, map, slice_index, slice_set, take};
-ghost use Rattle.opgen_num.specs.declared.TheConstants.{MAX_WIDTH};
+ghost use Rattle.opgen_num.specs.declared.format.TheConstants.{MAX_WIDTH};
 ghost use Rattle.opgen_design.specs.Value.{word_at};
 ghost use Rattle.opgen_streams.specs.Streams.{word_in};
 ghost use Rattle.opgen_lanes.specs.Banks.{HasWords, IsBank, widths_of, words_at};

@@ -1,6 +1,6 @@
 //! The words that drivers give, in each stream.
 ghost use Rattle.std.specs.Prelude.{ℕ, ◌≡◌, ◌<◌, ◌≤◌, All, IsSome, Some, length, slice_get, take};
-ghost use Rattle.opgen_num.specs.declared.TheConstants.{MAX_WIDTH};
+ghost use Rattle.opgen_num.specs.declared.format.TheConstants.{MAX_WIDTH};
 ghost use Rattle.opgen_design.specs.declared.design.Driver.{Driver};
 ghost use Rattle.opgen_design.specs.Plain.{plain};
 ghost use Rattle.opgen_design.specs.Run.{scope};

@@ -1,10 +1,9 @@
 //! The values of expressions in each stream.
 ghost use Rattle.std.specs.Prelude.{ℕ, ◌+◌, ◌-◌, ◌≡◌, ◌<◌, ◌≤◌, IfSome, IsSome, Some, length, slice_index, take};
-ghost use Rattle.opgen_num.specs.declared.TheConstants.{MAX_WIDTH};
+ghost use Rattle.opgen_num.specs.declared.format.TheConstants.{MAX_WIDTH};
 ghost use Rattle.opgen_design.specs.Plain.{plain, plain_all};
 ghost use Rattle.opgen_design.specs.Run.{scope};
-ghost use Rattle.opgen_design.specs.Value.{chain_value, combined, cut, word_at};
-ghost use Rattle.opgen_design.specs.Width.{IsWidth, chain_width, joined};
+ghost use Rattle.opgen_design.specs.Value.{chain_value, combined, cut, word_at, IsWidth, chain_width, joined};
 ghost use Rattle.opgen_streams.specs.Streams.{word_in};
 ghost use Rattle.opgen_lanes.specs.Banks.{IsBank, stream_words, value_in, width_in, widths_of, words_at};
 ghost use Rattle.opgen_lanes.specs.Words.{HaveWord};

@@ -1,6 +1,6 @@
 //! The registers' next words, in each stream.
 ghost use Rattle.std.specs.Prelude.{◌≡◌, ◌<◌, ◌≤◌, IfSome, Some, length, slice_get, slice_index};
-ghost use Rattle.opgen_num.specs.declared.TheConstants.{MAX_WIDTH};
+ghost use Rattle.opgen_num.specs.declared.format.TheConstants.{MAX_WIDTH};
 ghost use Rattle.opgen_design.specs.declared.design.Driver.{Driver};
 ghost use Rattle.opgen_design.specs.Run.{moved};
 ghost use Rattle.opgen_design.specs.Sound.{IsSound};

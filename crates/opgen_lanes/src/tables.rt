@@ -1,7 +1,7 @@
 //! Tables looked up in all streams: by halving the addresses, or row by row.
 ghost use Rattle.std.specs.Prelude.{ℕ, ◌≡◌, ◌<◌, ◌≤◌, ◌^◌, ◌&&◌, false, not, true, if◌then◌else◌};
 ghost use Rattle.std.specs.Prelude.{All, [], ◌∷◌, length, min};
-ghost use Rattle.opgen_num.specs.declared.TheConstants.{MAX_WIDTH};
+ghost use Rattle.opgen_num.specs.declared.format.TheConstants.{MAX_WIDTH};
 ghost use Rattle.opgen_num.specs.Words.{nat};
 ghost use Rattle.opgen_runs.specs.Evaluate.{table_word};
 ghost use Rattle.opgen_streams.specs.Streams.{bit_in, streams, word_in};

@@ -1,11 +1,9 @@
 //! Operations on the words of all streams.
 ghost use Rattle.std.specs.Prelude.{ℕ, ◌≡◌, ◌<◌, ◌≤◌, ◌+◌, ◌&&◌, ◌||◌, false, not, true, nat_eq, if◌then◌else◌};
 ghost use Rattle.std.specs.Prelude.{Some, ◌++◌, length, map, slice_index_or, take};
-ghost use Rattle.opgen_num.specs.declared.TheConstants.{MAX_WIDTH};
-ghost use Rattle.opgen_num.specs.Sums.{pairwise, sum_with, xor};
-ghost use Rattle.opgen_num.specs.Words.{nat};
-ghost use Rattle.opgen_design.specs.Value.{combined};
-ghost use Rattle.opgen_design.specs.Width.{IsWidth, joined};
+ghost use Rattle.opgen_num.specs.declared.format.TheConstants.{MAX_WIDTH};
+ghost use Rattle.opgen_num.specs.Words.{pairwise, sum_with, xor, nat};
+ghost use Rattle.opgen_design.specs.Value.{combined, IsWidth, joined};
 ghost use Rattle.opgen_streams.specs.Streams.{bit_in, streams, word_in};
 ghost use Rattle.opgen_lanes.specs.Words.{HaveWord};
 

@@ -13,7 +13,8 @@ use Rattle.opgen_spec.specs.Faults.{read}
 use Rattle.opgen_target.specs.Delays.{Delays}
 use Rattle.opgen_workload.specs.Filter.{workload_spec}
 use Rattle.opgen_spec.specs.declared.fault.SpecFault.{SpecFault}
-use Rattle.opgen_top.specs.Answer.{Answer, not_adjustable, refused, unknown_target}
+use Rattle.opgen_top.specs.declared.line.Line.TheVariants as printed
+use Rattle.opgen_top.specs.Answer.{Answer, refusal, status_of}
 use Rattle.opgen_laws.specs.Causes.{HasSpec, HasAll, HasTable, IsMade, IsRefusedSpec, IsRefused, IsMissing, IsVhdlRefused, AreVectorsRefused, IsRowBad, IsTooLong, IsRefusedCheck, HasCause, AnswersHaveCauses, SpecsAreRefused, RefusalsAreDue}
 use Rattle.opgen_laws.specs.Causes as cause
 use Rattle.opgen_top.specs.Check.{IsAnswerToCheck, IsAnswerToVhdl}
@@ -23,9 +24,6 @@ use Rattle.opgen_top.specs.Specified.{IsAnswerToSpec, IsGenerated, IsVectors, On
 use Rattle.opgen_top.specs.Targets.{Device, first_of_name, takes_lines, tuned}
 use Rattle.opgen_top.specs.Workload.{IsWorked}
 use Rattle.opgen_top.proofs.SpecCases.{answers_table, cases_of_spec, cases_of_target, reading_ok}
-
-abbrev status_of : Answer → ℕ
-status_of a = a.status
 
 -- where lines are not taken there is one, and the table is fixed
 fixed_table : (adjustable : Bool) (lines : List DelayLine) → takes_lines adjustable lines ≡ false → (adjustable ≡ false) × (lines ≢ [])
@@ -37,7 +35,7 @@ lines_fixed adjustable [] h some = absurd (some refl)
 lines_fixed adjustable (line ∷ lines) h some = h
 
 module _ (command : Option Command) (devices : List Device) (files : Files) (a : Answer) where
-  caused_made : a.status ≡ 0 → IsMade command devices files a → HasCause command devices files a
+  caused_made : status_of a ≡ 0 → IsMade command devices files a → HasCause command devices files a
   caused_made is cause = record {
     made = λ _. cause;
     refused = λ other. absurd (omega (arith, is, other));
@@ -49,7 +47,7 @@ module _ (command : Option Command) (devices : List Device) (files : Files) (a :
     longer = λ other. absurd (omega (arith, is, other));
   }
 
-  caused_refused : a.status ≡ 1 → IsRefused command devices files a → HasCause command devices files a
+  caused_refused : status_of a ≡ 1 → IsRefused command devices files a → HasCause command devices files a
   caused_refused is cause = record {
     made = λ other. absurd (omega (arith, is, other));
     refused = λ _. cause;
@@ -61,7 +59,7 @@ module _ (command : Option Command) (devices : List Device) (files : Files) (a :
     longer = λ other. absurd (omega (arith, is, other));
   }
 
-  caused_usage : a.status ≡ 2 → command ≡ None → HasCause command devices files a
+  caused_usage : status_of a ≡ 2 → command ≡ None → HasCause command devices files a
   caused_usage is cause = record {
     made = λ other. absurd (omega (arith, is, other));
     refused = λ other. absurd (omega (arith, is, other));
@@ -73,7 +71,7 @@ module _ (command : Option Command) (devices : List Device) (files : Files) (a :
     longer = λ other. absurd (omega (arith, is, other));
   }
 
-  caused_missing : a.status ≡ 3 → IsMissing command files → HasCause command devices files a
+  caused_missing : status_of a ≡ 3 → IsMissing command files → HasCause command devices files a
   caused_missing is cause = record {
     made = λ other. absurd (omega (arith, is, other));
     refused = λ other. absurd (omega (arith, is, other));
@@ -85,7 +83,7 @@ module _ (command : Option Command) (devices : List Device) (files : Files) (a :
     longer = λ other. absurd (omega (arith, is, other));
   }
 
-  caused_vhdl : a.status ≡ 6 → IsVhdlRefused command files a → HasCause command devices files a
+  caused_vhdl : status_of a ≡ 6 → IsVhdlRefused command files a → HasCause command devices files a
   caused_vhdl is cause = record {
     made = λ other. absurd (omega (arith, is, other));
     refused = λ other. absurd (omega (arith, is, other));
@@ -97,7 +95,7 @@ module _ (command : Option Command) (devices : List Device) (files : Files) (a :
     longer = λ other. absurd (omega (arith, is, other));
   }
 
-  caused_vectors : a.status ≡ 7 → AreVectorsRefused command files a → HasCause command devices files a
+  caused_vectors : status_of a ≡ 7 → AreVectorsRefused command files a → HasCause command devices files a
   caused_vectors is cause = record {
     made = λ other. absurd (omega (arith, is, other));
     refused = λ other. absurd (omega (arith, is, other));
@@ -109,7 +107,7 @@ module _ (command : Option Command) (devices : List Device) (files : Files) (a :
     longer = λ other. absurd (omega (arith, is, other));
   }
 
-  caused_row : a.status ≡ 8 → IsRowBad command files a → HasCause command devices files a
+  caused_row : status_of a ≡ 8 → IsRowBad command files a → HasCause command devices files a
   caused_row is cause = record {
     made = λ other. absurd (omega (arith, is, other));
     refused = λ other. absurd (omega (arith, is, other));
@@ -121,7 +119,7 @@ module _ (command : Option Command) (devices : List Device) (files : Files) (a :
     longer = λ other. absurd (omega (arith, is, other));
   }
 
-  caused_longer : a.status ≡ 9 → IsTooLong command files → HasCause command devices files a
+  caused_longer : status_of a ≡ 9 → IsTooLong command files → HasCause command devices files a
   caused_longer is cause = record {
     made = λ other. absurd (omega (arith, is, other));
     refused = λ other. absurd (omega (arith, is, other));
@@ -149,7 +147,7 @@ module _ (command : Option Command) (devices : List Device) (files : Files) (a :
   -- by what the bytes of a specification and the targets give
   on_spec : (file bytes : List ℕ) (said : Spec → Delays → Answer → Type 0) → files file ≡ Some bytes
       → (IsRefusedSpec file devices files a → IsRefused command devices files a)
-      → ((spec : Spec) (table : Delays) → said spec table a → a.status ≡ 0)
+      → ((spec : Spec) (table : Delays) → said spec table a → status_of a ≡ 0)
       → (HasTable file devices files (λ s table. said s table a) → IsMade command devices files a)
       → IsAnswerToSpec bytes devices said a → HasCause command devices files a
   on_spec file bytes said stands refusing ok making h =
@@ -268,17 +266,18 @@ module _ (bytes : List ℕ) (devices : List Device) (said : Spec → Delays → 
   abbrev Said : Spec → Type 0
   Said spec = OnTarget (first_of_name spec.target devices) spec a (λ table. OnTable spec table a (said spec table a))
 
-  answers_fault : (fault : SpecFault) → read (tree bytes) ≡ Err fault → a ≡ refused fault → IsAnswerToSpec bytes devices said a
+  answers_fault : (fault : SpecFault) → read (tree bytes) ≡ Err fault → a ≡ refusal (printed.Refused fault)
+      → IsAnswerToSpec bytes devices said a
   answers_fault fault reads is = subst (λ r. OnReading r a Said) (sym reads) is
 
-  answers_unknown : (spec : Spec) → read (tree bytes) ≡ Ok spec → first_of_name spec.target devices ≡ None → a ≡ unknown_target
-      → IsAnswerToSpec bytes devices said a
+  answers_unknown : (spec : Spec) → read (tree bytes) ≡ Ok spec → first_of_name spec.target devices ≡ None
+      → a ≡ refusal printed.UnknownTarget → IsAnswerToSpec bytes devices said a
   answers_unknown spec reads found is =
       reading_ok (read (tree bytes)) a Said spec reads
       (subst (λ d. OnTarget d spec a (λ table. OnTable spec table a (said spec table a))) (sym found) is)
 
   answers_fixed : (spec : Spec) (device : Device) → read (tree bytes) ≡ Ok spec → first_of_name spec.target devices ≡ Some device
-      → takes_lines device.adjustable spec.delays ≡ false → a ≡ not_adjustable → IsAnswerToSpec bytes devices said a
+      → takes_lines device.adjustable spec.delays ≡ false → a ≡ refusal printed.NotAdjustable → IsAnswerToSpec bytes devices said a
   answers_fixed spec device reads found takes is =
       let table = tuned device.delays spec.delays in
       reading_ok (read (tree bytes)) a Said spec reads

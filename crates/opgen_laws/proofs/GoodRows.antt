@@ -19,30 +19,28 @@ use Rattle.opgen_design.specs.Run.{initial_words, input_widths, words_at_outputs
 use Rattle.opgen_operator.specs.declared.operator.Operator.{Operator}
 use Rattle.opgen_operator.specs.declared.operator.Operator.TheVariants.{Scale, Fir, Multiply, Divide, Root, Mcm, Constdiv, Poly, Tfir, Sop}
 use Rattle.opgen_operator.specs.declared.spec.Spec.{Spec}
-use Rattle.opgen_operator.specs.DesignPorts.{operator_ports, port_of}
+use Rattle.opgen_operator.specs.Outputs.{operator_ports, port_of, IsGood, IsInRange, chosen, chosen_ports, inputs_of, outputs_of, output_words, recent_words}
 use Rattle.opgen_kinds.specs.Pair.{quotient_format, remainder_format}
 use Rattle.opgen_kinds.specs.Several.{constant_format, numbered}
 use Rattle.opgen_kinds.specs.Single.{rest_format, root_format}
 use Rattle.opgen_kinds.specs.SmallDiv.{small_quotient_format, small_rest_format}
 use Rattle.opgen_operator.specs.Operator.{IsOperator, operator_inputs, operator_outputs}
-use Rattle.opgen_operator.specs.Outputs.{IsGood, IsInRange, chosen, chosen_ports, inputs_of, outputs_of}
-use Rattle.opgen_operator.specs.PortWords.{output_words, recent_words}
 use Rattle.opgen_operator.specs.Valid.{IsValidSpec}
 use Rattle.opgen_operator.proofs.Operators.{some_input}
 use Rattle.opgen_pipe.specs.declared.planning.Planned.{Planned}
 use Rattle.opgen_pipe.proofs.Parts.{length-signals}
 use Rattle.opgen_ports.specs.declared.ports.PortFormat.{PortFormat}
-use Rattle.opgen_ports.specs.PortNumbers.{output_numbers, recent_numbers}
-use Rattle.opgen_ports.specs.Ports.{port, with_rest}
+use Rattle.opgen_ports.specs.Ports.{output_numbers, recent_numbers, port, with_rest}
 use Rattle.opgen_read.specs.Answer.{IsWithinLimits}
 use Rattle.opgen_runs.specs.Rows.{IsRunOf, rows_words}
 use Rattle.opgen_schedule.specs.Stage.{slot_at}
 use Rattle.opgen_pipe.specs.Planned.{slots_of}
 use Rattle.opgen_target.specs.Delays.{Delays}
-use Rattle.opgen_top.specs.Answer.{Answer, all_good}
+use Rattle.opgen_top.specs.declared.line.Line.TheVariants as printed
+use Rattle.opgen_top.specs.Answer.{Answer, success}
 use Rattle.opgen_top.specs.Check.{IsAnswerToVhdl, IsVerdictOnVhdl}
 use Rattle.opgen_top.specs.Circuit.{CircuitsServe, IsCircuit, signals_of}
-use Rattle.opgen_top.specs.Serves.{Serves}
+use Rattle.opgen_operator.specs.Serves.{Serves}
 use Rattle.opgen_top.specs.Simulate.{GivesDesign}
 use Rattle.opgen_top.proofs.Planning.{circuit_sound, circuit_spells}
 use Rattle.opgen_top.proofs.Taken.{run_long}
@@ -124,7 +122,7 @@ few_ports (Constdiv c) is =
     omega (arith, rest_length c.exact (port (codes "q") (small_quotient_format c)) (port (codes "r") (small_rest_format c)))
 few_ports (Poly p) is = omega arith
 few_ports (Tfir f) is = omega arith
-few_ports (Sop s) is = let few = is.few in omega (arith, few)
+few_ports (Sop s) is = let few = is.inputs.few in omega (arith, few)
 
 -- a chosen width leaves the number of ports
 chosen_length : (width : Option ℕ) (sign : Option Bool) (ports : List PortFormat) → length (chosen_ports width sign ports) ≡ length ports
@@ -189,9 +187,10 @@ module _ (spec : Spec) (valid : IsValidSpec spec) (table : Delays) (planned : Pl
           };
         }
 
-    pub answer : (a : Answer) → IsAnswerToVhdl spec planned.latency (text_of d) vectors a → a ≡ all_good (rows - planned.latency)
+    pub answer : (a : Answer) → IsAnswerToVhdl spec planned.latency (text_of d) vectors a
+        → a ≡ success (printed.Good (rows - planned.latency)) []
     answer a is =
-        one_to_vhdl spec planned.latency (text_of d) vectors a (all_good (rows - planned.latency)) is
+        one_to_vhdl spec planned.latency (text_of d) vectors a (success (printed.Good (rows - planned.latency)) []) is
         (inr (inr (inr (inr record { judged = rows - planned.latency; verdict = verdict; answer = refl }))))
 
 -- where every circuit serves, every circuit is checked good

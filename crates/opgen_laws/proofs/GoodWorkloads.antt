@@ -19,7 +19,7 @@ use Rattle.opgen_workload.specs.Judged.{IsGoodCycle}
 use Rattle.opgen_workload.proofs.Counting.{all_count, one_count}
 use Rattle.opgen_top.specs.Answer.{Answer}
 use Rattle.opgen_top.specs.Circuit.{CircuitsServe}
-use Rattle.opgen_top.specs.Serves.{Serves}
+use Rattle.opgen_operator.specs.Serves.{Serves}
 use Rattle.opgen_top.specs.Workload.{IsWorked, cycles, workload_cells}
 use Rattle.opgen_top.proofs.RunRows.{length-run}
 use Rattle.opgen_laws.proofs.GoodRows.{good_row}

@@ -1,5 +1,5 @@
 -- The words, the targets and the files leave at most one answer.
-use Rattle.std.proofs.Common.{◌≡◌, inl, inr, ℕ, ◌-◌, Bool, true, false, List, length, Option, Some, None, Result, Ok, Err, sym, ap, ◌∙◌, subst, arith}
+use Rattle.std.proofs.Common.{◌≡◌, inl, inr, ℕ, ◌-◌, Bool, true, false, List, [], ◌∷◌, length, Option, Some, None, Result, Ok, Err, sym, ap, ◌∙◌, subst, arith}
 use Rattle.opgen_command.specs.declared.command.Command.TheVariants.{Generate, Vectors, Simulate, Workload, Check}
 use Rattle.opgen_io.specs.Fetched.{fetched}
 use Rattle.opgen_design.specs.Sound.{IsSound}
@@ -8,23 +8,23 @@ use Rattle.opgen_io.specs.declared.folder.FetchFault.TheVariants as fetch
 use Rattle.opgen_operator.specs.declared.spec.Spec.{Spec}
 use Rattle.opgen_pipe.specs.declared.planning.Planned.{Planned}
 use Rattle.opgen_pipe.specs.Cells.{need}
-use Rattle.opgen_report.specs.Report.{report}
 use Rattle.opgen_spec.specs.declared.fault.SpecFault.{SpecFault}
 use Rattle.opgen_document.specs.Document.{tree}
 use Rattle.opgen_spec.specs.Faults.{read}
 use Rattle.opgen_target.specs.Delays.{Delays}
-use Rattle.opgen_vhdl.specs.DesignText.{text_of}
 use Rattle.opgen_vec.specs.Stimulus.{stimulus_cells}
 use Rattle.opgen_workload.specs.Filter.{workload_spec}
 use Rattle.opgen_workload.specs.Judged.{Counts, IsGoodCycle}
 use Rattle.opgen_workload.proofs.Counting.{one_count}
-use Rattle.opgen_top.specs.Answer.{Answer, period_too_short, worked, wrote, wrote_vectors}
+use Rattle.opgen_top.specs.declared.line.Line.TheVariants as printed
+use Rattle.opgen_top.specs.Answer.{Answer, file, refusal, success}
 use Rattle.opgen_top.specs.Circuit.{IsCircuit, signals_of}
 use Rattle.opgen_top.specs.Check.{IsAnswerToCheck, IsAnswerToVhdl}
 use Rattle.opgen_top.specs.Due.{most_bytes, most_simulated_bytes, OnFetch}
+use Rattle.opgen_top.specs.Lines.{vectors_name}
 use Rattle.opgen_top.specs.Running.{IsRunText}
 use Rattle.opgen_top.specs.Simulate.{IsSimulated}
-use Rattle.opgen_top.specs.Specified.{IsAnswerToSpec, IsGenerated, IsVectors, IsTooShort, IsTooLarge, OnLines, OnReading, OnTable, OnTarget}
+use Rattle.opgen_top.specs.Specified.{wrote, IsAnswerToSpec, IsGenerated, IsVectors, IsTooShort, IsTooLarge, OnLines, OnReading, OnTable, OnTarget}
 use Rattle.opgen_top.specs.Targets.{Device, first_of_name, takes_lines, tuned}
 use Rattle.opgen_top.specs.Workload.{IsWorked, RunsGood, workload_cells}
 use Rattle.opgen_top.specs.Workload.{cycles as workload_cycles}
@@ -68,7 +68,9 @@ Has spec table = (enable : Bool) × (planned : Planned) × (adders : List ℕ) �
 -- the period, the number of signals and the circuit decide one after the other
 module _ (each : OneOfEach) (spec : Spec) (table : Delays) where
   one_short : (a b : Answer) → IsTooShort spec table a → IsTooShort spec table b → a ≡ b
-  one_short a b h k = h.answer ∙ ap (λ n. period_too_short (need table n)) (one_fitting each spec h.net k.net h.fitting k.fitting)
+  one_short a b h k =
+      h.answer
+      ∙ ap (λ n. refusal (printed.PeriodTooShort (need table n))) (one_fitting each spec h.net k.net h.fitting k.fitting)
       ∙ sym k.answer
 
   not_short_large : (a b : Answer) → IsTooShort spec table a → IsTooLarge spec table b → ⊥
@@ -105,8 +107,8 @@ module _ (each : OneOfEach) (spec : Spec) (table : Delays) where
   one_generated enable a b h k =
       let (plan, adders) = one_circuit each spec table enable h.planned k.planned h.adders k.adders h.circuit k.circuit in
       h.answer
-      ∙ ap (λ (p : Planned). wrote spec.name p.latency (text_of p.design) (report spec p h.adders)) plan
-      ∙ ap (λ s. wrote spec.name k.planned.latency (text_of k.planned.design) (report spec k.planned s)) adders
+      ∙ ap (λ p. wrote spec p h.adders) plan
+      ∙ ap (wrote spec k.planned) adders
       ∙ sym k.answer
 
   one_vectors : (seed cycles : ℕ) (a b : Answer) → IsVectors seed cycles spec table a → IsVectors seed cycles spec table b → a ≡ b
@@ -115,7 +117,10 @@ module _ (each : OneOfEach) (spec : Spec) (table : Delays) where
       let (plan, adders) = one_circuit each spec table false h.planned k.planned h.adders k.adders h.circuit k.circuit in
       let run = subst (λ (p : Planned). IsRunText p.design cycles cells h.rows) plan h.run in
       let sound = circuit_sound spec table false k.planned k.adders k.circuit in
-      h.answer ∙ ap (wrote_vectors spec.name cycles) (one_text k.planned.design sound cycles cells h.rows k.rows run k.run) ∙ sym k.answer
+      h.answer
+      ∙ ap (λ rows. success (printed.WroteVectors spec.name cycles) (file (vectors_name spec.name) rows ∷ []))
+      (one_text k.planned.design sound cycles cells h.rows k.rows run k.run)
+      ∙ sym k.answer
 
 -- one number of good cycles
 one_judged : (n : ℕ) (p q : Planned) (g h : ℕ) → IsSound q.design → p ≡ q → RunsGood n p.design p.latency g
@@ -133,8 +138,8 @@ one_worked each n table a b h k =
     let same = (one_circuit each (workload_spec n) table false h.planned k.planned h.adders k.adders h.circuit k.circuit).0 in
     let sound = circuit_sound (workload_spec n) table false k.planned k.adders k.circuit in
     h.answer
-    ∙ ap (λ (p : Planned). worked n (length p.design.signals) p.latency h.good) same
-    ∙ ap (worked n (length k.planned.design.signals) k.planned.latency)
+    ∙ ap (λ (p : Planned). success (printed.Worked n (length p.design.signals) p.latency h.good) []) same
+    ∙ ap (λ good. success (printed.Worked n (length k.planned.design.signals) k.planned.latency good) [])
     (one_judged n h.planned k.planned h.good k.good sound same h.judged k.judged)
     ∙ sym k.answer
 

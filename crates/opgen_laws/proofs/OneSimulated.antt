@@ -1,5 +1,5 @@
 -- The bytes of VHDL and of vectors leave at most one answer.
-use Rattle.std.proofs.Common.{◌≡◌, inl, inr, ℕ, List, length, Result, Ok, Err, sym, ap, ◌∙◌, subst}
+use Rattle.std.proofs.Common.{◌≡◌, inl, inr, ℕ, List, [], ◌∷◌, length, Result, Ok, Err, sym, ap, ◌∙◌, subst}
 use Rattle.std.specs.Str.Lines.{lines}
 use Rattle.opgen_design.specs.declared.design.Design.{Design}
 use Rattle.opgen_design.specs.Run.{input_widths, output_widths}
@@ -9,7 +9,8 @@ use Rattle.opgen_part_laws.proofs.FirstCause.{one_cause, no_cause}
 use Rattle.opgen_vec.specs.declared.fault.VecFault.{VecFault}
 use Rattle.opgen_vec.specs.Reading.{IsReading}
 use Rattle.opgen_part_laws.proofs.OneReadingOfRows.{one_reading}
-use Rattle.opgen_top.specs.Answer.{Answer, simulated, vhdl_refused, vectors_refused}
+use Rattle.opgen_top.specs.declared.line.Line.TheVariants as printed
+use Rattle.opgen_top.specs.Answer.{Answer, file, refusal, success}
 use Rattle.opgen_runs.proofs.Rows.{one_outputs}
 use Rattle.opgen_vec.specs.Writing.{rows_text}
 use Rattle.opgen_top.specs.Running.{IsRunText}
@@ -36,14 +37,17 @@ module _ (text vectors : List ℕ) where
       one_reading (input_widths d) (lines vectors) r s (subst (λ x. IsReading (input_widths x) (lines vectors) r) same h) k
 
   pub one_fault : (a b : Answer) → RefusesVhdl text a → RefusesVhdl text b → a ≡ b
-  one_fault a b h k = h.answer ∙ ap vhdl_refused (one_cause text h.fault k.fault h.of_text k.of_text h.cause k.cause) ∙ sym k.answer
+  one_fault a b h k =
+      h.answer
+      ∙ ap (λ f. refusal (printed.VhdlRefused f)) (one_cause text h.fault k.fault h.of_text k.of_text h.cause k.cause)
+      ∙ sym k.answer
 
   pub one_vectors_fault : (a b : Answer) → RefusesVectors text vectors a → RefusesVectors text vectors b → a ≡ b
   one_vectors_fault a b h k =
       let p = h.refused in
       let q = k.refused in
       let reads : Err p.fault ≡ Err q.fault = one_read h.design k.design h.gives k.gives (Err p.fault) (Err q.fault) p.cause q.cause in
-      let same : p.fault ≡ q.fault = cc in p.answer ∙ ap vectors_refused same ∙ sym q.answer
+      let same : p.fault ≡ q.fault = cc in p.answer ∙ ap (λ f. refusal (printed.VectorsRefused f)) same ∙ sym q.answer
 
 module _ (out text vectors : List ℕ) where
   not_run : (a b : Answer) → RefusesVectors text vectors a → Runs out text vectors b → ⊥
@@ -59,7 +63,7 @@ module _ (out text vectors : List ℕ) where
       let cells : h.cells ≡ k.cells = cc in
       let run = subst (λ d. IsRunText d count k.cells h.rows) design (subst (λ cs. IsRunText h.design count cs h.rows) cells h.run) in
       let rows = one_text k.design k.gives.sound count k.cells h.rows k.rows run k.run in
-      h.answer ∙ ap (simulated out count) rows ∙ sym k.answer
+      h.answer ∙ ap (λ r. success (printed.Simulated count) (file out r ∷ [])) rows ∙ sym k.answer
 
   pub one_simulated : (a b : Answer) → IsSimulated out text vectors a → IsSimulated out text vectors b → a ≡ b
   one_simulated a b (inl h) (inl k) = one_fault text vectors a b h k

@@ -8,7 +8,7 @@ use Rattle.opgen_budget.proofs.Weights.{weight_below-zero}
 use Rattle.opgen_num.specs.Words.{nat}
 use Rattle.opgen_compress.specs.Kept.{IsSumOf}
 use Rattle.opgen_compress.specs.Recipe.{compressed}
-use Rattle.opgen_design.specs.Width.{IsWidth}
+use Rattle.opgen_design.specs.Value.{IsWidth}
 use Rattle.opgen_gpc.specs.Recipe.{Counting}
 use Rattle.opgen_gpc.proofs.Counting.{IsCounted, counted_if-is, sum-before}
 use Rattle.opgen_heap.specs.Adding.{with_constant}

@@ -7,16 +7,15 @@ use Rattle.std.proofs.lemmas.Bool.{cases_lt, le-leb, lt-leb}
 use Rattle.std.proofs.lemmas.Int.{ints}
 use Rattle.std.proofs.lemmas.List.{drop-drop, drop_at, get_or-drop, get_or-take, length-drop, length-map, length-take-le, take_at}
 use Rattle.opgen_num.specs.declared.format.Format.{Format}
-use Rattle.opgen_num.specs.Values.{highest, int, val}
-use Rattle.opgen_num.specs.Words.{nat, word, words_of}
+use Rattle.opgen_num.specs.Words.{highest, int, val, nat, word, words_of}
 use Rattle.opgen_num.proofs.Words.{word-nat}
 use Rattle.opgen_design.specs.declared.design.Design.{Design}
 use Rattle.opgen_design.specs.Run.{Words, Cycle, RunsOn, at_ports, is_out, output_widths, words_at_outputs}
 use Rattle.opgen_design.specs.Value.{word_at}
 use Rattle.opgen_net.specs.Flow.{input_from}
-use Rattle.opgen_operator.specs.PortWords.{output_words, recent_words}
+use Rattle.opgen_operator.specs.Outputs.{output_words, recent_words}
 use Rattle.opgen_ports.specs.declared.ports.PortFormat.{PortFormat}
-use Rattle.opgen_ports.specs.PortNumbers.{format_at, number_of, output_numbers, recent_numbers}
+use Rattle.opgen_ports.specs.Ports.{format_at, number_of, output_numbers, recent_numbers}
 use Rattle.opgen_runs.specs.Rows.{output_cells, rows_words}
 use Rattle.opgen_runs.proofs.Rows.{at_ports-map}
 

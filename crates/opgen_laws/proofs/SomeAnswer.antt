@@ -8,7 +8,8 @@ use Rattle.opgen_io.specs.Fetched.{fetched}
 use Rattle.opgen_io.specs.Files.{Files}
 use Rattle.opgen_io.specs.declared.folder.FetchFault.{FetchFault}
 use Rattle.opgen_io.specs.declared.folder.FetchFault.TheVariants as fetch
-use Rattle.opgen_top.specs.Answer.{Answer, read_fault, too_long, usage}
+use Rattle.opgen_top.specs.declared.line.Line.TheVariants as printed
+use Rattle.opgen_top.specs.Answer.{Answer, refusal}
 use Rattle.opgen_top.specs.Check.{IsAnswerToCheck}
 use Rattle.opgen_top.specs.Due.{IsAnswerOf, OnFetch, most_bytes, most_simulated_bytes}
 use Rattle.opgen_top.specs.Simulate.{IsSimulated}
@@ -23,13 +24,13 @@ use Rattle.opgen_laws.specs.Answers.{HasSomeAnswer}
 some_on_fetch : (r : Result (List ℕ) FetchFault) (said : List ℕ → Answer → Type 0)
     → ((bytes : List ℕ) → ((a : Answer) → said bytes a → ⊥) → ⊥) → ((a : Answer) → OnFetch r a (λ bytes. said bytes a) → ⊥) → ⊥
 some_on_fetch (Ok bytes) said some none = some bytes none
-some_on_fetch (Err fetch.Failed) said some none = none read_fault refl
-some_on_fetch (Err fetch.TooLong) said some none = none too_long refl
-some_on_fetch (Err fetch.Memory) said some none = none read_fault refl
+some_on_fetch (Err fetch.Failed) said some none = none (refusal printed.ReadFault) refl
+some_on_fetch (Err fetch.TooLong) said some none = none (refusal printed.TooLong) refl
+some_on_fetch (Err fetch.Memory) said some none = none (refusal printed.ReadFault) refl
 
 module _ (laws : NetLaws) (devices : List Device) (files : Files) where
   some_of : (o : Option Command) → IfSome o HasRanges → ((a : Answer) → IsAnswerOf o devices files a → ⊥) → ⊥
-  some_of None h none = none usage refl
+  some_of None h none = none (refusal printed.Usage) refl
   some_of (Some (Generate spec workers enable)) h none =
       some_on_fetch (fetched (files spec) most_bytes) (λ bytes a. IsAnswerToSpec bytes devices (IsGenerated enable) a)
       (λ bytes. some_generated laws bytes devices enable) none

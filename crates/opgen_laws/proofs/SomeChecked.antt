@@ -1,5 +1,5 @@
 -- That a specification, VHDL and vectors leave no answer of `check` is impossible.
-use Rattle.std.proofs.Common.{◌≡◌, ◌≢◌, inl, inr, ℕ, zero, suc, ◌+◌, ◌-◌, ◌<◌, List, length, Result, Ok, Err, refl, subst, arith}
+use Rattle.std.proofs.Common.{◌≡◌, ◌≢◌, inl, inr, ℕ, zero, suc, ◌+◌, ◌-◌, ◌<◌, List, [], length, Result, Ok, Err, refl, subst, arith}
 use Rattle.std.specs.Str.Lines.{lines}
 use Rattle.std.proofs.lemmas.Bool.{cases_lt}
 use Rattle.opgen_check.specs.Ports.{PortsAgree}
@@ -18,7 +18,8 @@ use Rattle.opgen_vec.specs.declared.fault.VecFault.{VecFault}
 use Rattle.opgen_vec.specs.Reading.{IsReading}
 use Rattle.opgen_vec.proofs.Rows.{rows-of_cells}
 use Rattle.opgen_part_laws.proofs.Classical.{decided}
-use Rattle.opgen_top.specs.Answer.{Answer, all_good, bad_row, ports_refused, refused, vectors_refused, vhdl_refused}
+use Rattle.opgen_top.specs.declared.line.Line.TheVariants as printed
+use Rattle.opgen_top.specs.Answer.{Answer, refusal, success}
 use Rattle.opgen_top.specs.Check.{GivesRows, IsAnswerToCheck, IsAnswerToVhdl}
 use Rattle.opgen_top.specs.Simulate.{GivesDesign}
 use Rattle.opgen_top.specs.Specified.{OnReading}
@@ -45,7 +46,7 @@ module _ (spec : Spec) (latency : ℕ) (text vectors : List ℕ) (none : (a : An
 
     bad : (row : ℕ) → GoodBelow row → IsJudged latency count row → (IsGoodAt spec latency cells outputs row → ⊥) → ⊥
     bad row good judged is_bad =
-        none (bad_row row) (inr (inr (inr (inl record {
+        none (refusal (printed.BadRow row)) (inr (inr (inr (inl record {
           row = row;
           verdict = record {
             design = d;
@@ -60,7 +61,7 @@ module _ (spec : Spec) (latency : ℕ) (text vectors : List ℕ) (none : (a : An
     -- the rows from one on, of which so many are left
     from_row : (left row : ℕ) → left + row ≡ count → GoodBelow row → ⊥
     from_row zero row all good =
-        none (all_good (count - latency)) (inr (inr (inr (inr record {
+        none (success (printed.Good (count - latency)) []) (inr (inr (inr (inr record {
           judged = count - latency;
           verdict = record {
             design = d;
@@ -89,7 +90,7 @@ module _ (spec : Spec) (latency : ℕ) (text vectors : List ℕ) (none : (a : An
 
   by_cause : (fault : ReadFault) → fault ≢ read.Memory → IsReadFault text fault → ⊥
   by_cause fault of_text cause =
-      none (vhdl_refused fault) (inl (record { fault = fault; of_text = of_text; cause = cause; answer = refl }))
+      none (refusal (printed.VhdlRefused fault)) (inl (record { fault = fault; of_text = of_text; cause = cause; answer = refl }))
 
   by_rows : (d : Design) → GivesDesign text d → (r : Result (List ℕ) VecFault) → IsReading (input_widths d) (lines vectors) r → ⊥
   by_rows d gives (Ok cells) h =
@@ -97,7 +98,7 @@ module _ (spec : Spec) (latency : ℕ) (text vectors : List ℕ) (none : (a : An
       let run = some_run d gives.sound count cells (rows-of_cells (input_widths d) cells (lines vectors) h.rows) in
       decided {P = PortsAgree spec d} (λ v. elim v [
         | inl agree ↦ by_verdict d cells given agree run.0 run.1
-        | inr differ ↦ none ports_refused (inr (inr (inl (record {
+        | inr differ ↦ none (refusal printed.Ports) (inr (inr (inl (record {
           design = d;
           cells = cells;
           rows = given;
@@ -106,7 +107,7 @@ module _ (spec : Spec) (latency : ℕ) (text vectors : List ℕ) (none : (a : An
         }))))
       ])
   by_rows d gives (Err fault) h =
-      none (vectors_refused fault) (inr (inl (record {
+      none (refusal (printed.VectorsRefused fault)) (inr (inl (record {
         design = d;
         gives = gives;
         refused = record { fault = fault; cause = h; answer = refl };
@@ -118,7 +119,7 @@ module _ (spec : Spec) (latency : ℕ) (text vectors : List ℕ) (none : (a : An
 some_on_reading : (r : Result Spec SpecFault) (said : Spec → Answer → Type 0)
     → ((spec : Spec) → ((a : Answer) → said spec a → ⊥) → ⊥) → ((a : Answer) → OnReading r a (λ spec. said spec a) → ⊥) → ⊥
 some_on_reading (Ok spec) said some none = some spec none
-some_on_reading (Err fault) said some none = none (refused fault) refl
+some_on_reading (Err fault) said some none = none (refusal (printed.Refused fault)) refl
 
 pub some_checked : (latency : ℕ) (bytes text vectors : List ℕ) → ((a : Answer) → IsAnswerToCheck latency bytes text vectors a → ⊥) → ⊥
 some_checked latency bytes text vectors none =

@@ -1,5 +1,5 @@
 -- That a specification or a workload has no answer is impossible: it has a circuit, or a refusal.
-use Rattle.std.proofs.Common.{◌≡◌, inl, inr, ⊎_elim, ℕ, zero, suc, ◌-◌, ◌<◌, ◌≤◌, Bool, true, false, List, [], length, map, All, Contains, Option, Some, None, Result, Ok, Err, refl, sym, subst, arith, ◌^◌}
+use Rattle.std.proofs.Common.{◌≡◌, inl, inr, ⊎_elim, ℕ, zero, suc, ◌-◌, ◌<◌, ◌≤◌, Bool, true, false, List, [], ◌∷◌, length, map, All, Contains, Option, Some, None, Result, Ok, Err, refl, sym, subst, arith, ◌^◌}
 use Rattle.std.specs.Prelude.{ℤ, IsTrue}
 use Rattle.std.proofs.lemmas.List.Elements.{All-contains}
 use Rattle.opgen_ports.specs.Ranges.{IsWithin}
@@ -28,6 +28,7 @@ use Rattle.opgen_part_laws.proofs.SomeNet.{some_least_graph}
 use Rattle.opgen_laws.proofs.SopNets.{some_sop_net}
 use Rattle.opgen_laws.proofs.ProductNets.{product_net}
 use Rattle.opgen_net.specs.declared.net.Net.{Net}
+use Rattle.opgen_net.specs.Classes.{classes}
 use Rattle.opgen_operator.specs.declared.operator.Operator.{Operator}
 use Rattle.opgen_operator.specs.declared.operator.Operator.TheVariants.{Scale, Fir, Multiply, Divide, Root, Mcm, Constdiv, Poly, Tfir, Sop}
 use Rattle.opgen_operator.specs.declared.spec.Spec.{Spec}
@@ -40,13 +41,12 @@ use Rattle.opgen_operator.specs.Valid.{IsValidSpec}
 use Rattle.opgen_operator.proofs.Accepted.{accepted_ranges}
 use Rattle.opgen_operator.proofs.Operators.{input_bits}
 use Rattle.opgen_pipe.specs.declared.planning.Planned.{Planned}
-use Rattle.opgen_pipe.specs.Cells.{classes, design_cells, need}
+use Rattle.opgen_pipe.specs.Cells.{design_cells, need}
 use Rattle.opgen_pipe.specs.Copies.{net_latency}
 use Rattle.opgen_pipe.specs.Pipelined.{design_of}
 use Rattle.opgen_pipe.specs.Planned.{slots_of}
 use Rattle.opgen_poly.specs.Recipe.{net_of_poly}
 use Rattle.opgen_poly.proofs.Fits as polynomials
-use Rattle.opgen_report.specs.Report.{report}
 use Rattle.opgen_schedule.specs.Schedule.{greatest_time}
 use Rattle.opgen_schedule.specs.Stage.{slot_at}
 use Rattle.opgen_shared.specs.Rule.{RuleGraphServes, SomeRuleGraph}
@@ -63,17 +63,18 @@ use Rattle.opgen_target.specs.Ledger.{width_sum}
 use Rattle.opgen_vec.specs.Stimulus.{stimulus_cells}
 use Rattle.opgen_vec.specs.Writing.{rows_text}
 use Rattle.opgen_vec.proofs.Draws.{rows_fit}
-use Rattle.opgen_vhdl.specs.DesignText.{text_of}
 use Rattle.opgen_workload.specs.Filter.{workload_spec}
 use Rattle.opgen_workload.specs.Judged.{Counts, IsGoodCycle}
 use Rattle.opgen_workload.proofs.Valid.{workload_valid}
-use Rattle.opgen_top.specs.Answer.{Answer, not_adjustable, period_too_short, refused, too_large, unknown_target, worked, wrote, wrote_vectors}
+use Rattle.opgen_top.specs.declared.line.Line.TheVariants as printed
+use Rattle.opgen_top.specs.Answer.{Answer, file, refusal, success}
 use Rattle.opgen_top.specs.Circuit.{CircuitsServe, IsCircuit, signals_of}
-use Rattle.opgen_top.specs.Serves.{Serves}
+use Rattle.opgen_operator.specs.Serves.{Serves}
 use Rattle.opgen_top.specs.AdderGraphs.{IsGraphOf}
 use Rattle.opgen_top.specs.Kinds.{AreAddersOf, AreAddersOfOperator, IsFittingNet, IsNetOfOperator}
 use Rattle.opgen_runs.specs.Rows.{IsRunOf, output_cells, rows_words}
-use Rattle.opgen_top.specs.Specified.{IsAnswerToSpec, IsGenerated, IsVectors, OnLines, OnReading, OnTable, OnTarget}
+use Rattle.opgen_top.specs.Lines.{vectors_name}
+use Rattle.opgen_top.specs.Specified.{wrote, IsAnswerToSpec, IsGenerated, IsVectors, OnLines, OnReading, OnTable, OnTarget}
 use Rattle.opgen_top.specs.Targets.{Device, first_of_name, takes_lines, tuned}
 use Rattle.opgen_top.specs.Workload.{IsAnswerToWorkload, IsWorked, cycles, workload_cells}
 use Rattle.opgen_saturate.specs.Chosen.{cut_net}
@@ -161,10 +162,12 @@ module _ (laws : NetLaws) (spec : Spec) (valid : IsValidSpec spec) (table : Dela
   on_net net adders fitting are =
       ⊎_elim
       (λ (short : spec.period < need table net).
-      found (period_too_short (need table net)) (inl (record { net = net; fitting = fitting; short = short; answer = refl })))
+      found (refusal (printed.PeriodTooShort (need table net)))
+      (inl (record { net = net; fitting = fitting; short = short; answer = refl })))
       (λ (long : need table net ≤ spec.period). ⊎_elim
       (λ (many : MAX_SIGNALS < signals_of table spec.period net).
-      found too_large (inr (inl (record { net = net; fitting = fitting; long_enough = long; many_signals = many; answer = refl }))))
+      found (refusal printed.TooLarge)
+      (inr (inl (record { net = net; fitting = fitting; long_enough = long; many_signals = many; answer = refl }))))
       (λ (few : signals_of table spec.period net ≤ MAX_SIGNALS).
       made (plan_for spec enable net table) adders (record {
         net = net;
@@ -207,7 +210,7 @@ some_count P (suc most) found =
 -- ---- from the bytes and the targets to the answer
 on_lines : (b : Bool) (said : Answer → Type 0) → (((a : Answer) → said a → ⊥) → ⊥) → ((a : Answer) → OnLines b a (said a) → ⊥) → ⊥
 on_lines true said some found = some found
-on_lines false said some found = found not_adjustable refl
+on_lines false said some found = found (refusal printed.NotAdjustable) refl
 
 on_target : (o : Option Device) (spec : Spec) (said : Delays → Answer → Type 0)
     → ((table : Delays) → ((a : Answer) → said table a → ⊥) → ⊥)
@@ -215,7 +218,7 @@ on_target : (o : Option Device) (spec : Spec) (said : Delays → Answer → Type
 on_target (Some device) spec said some found =
     let table = tuned device.delays spec.delays in
     on_lines (takes_lines device.adjustable spec.delays) (said table) (some table) found
-on_target None spec said some found = found unknown_target refl
+on_target None spec said some found = found (refusal printed.UnknownTarget) refl
 
 module _ (bytes : List ℕ) (devices : List Device) (said : Spec → Delays → Answer → Type 0)
     (some : (spec : Spec) → IsValidSpec spec → (table : Delays) → ((a : Answer) → OnTable spec table a (said spec table a) → ⊥) → ⊥)
@@ -226,7 +229,7 @@ module _ (bytes : List ℕ) (devices : List Device) (said : Spec → Delays → 
     on_reading (Ok spec) valid found =
         on_target (first_of_name spec.target devices) spec (λ table a. OnTable spec table a (said spec table a))
         (some spec (valid spec refl)) found
-    on_reading (Err fault) valid found = found (refused fault) refl
+    on_reading (Err fault) valid found = found (refusal (printed.Refused fault)) refl
 
     on_bytes : ((a : Answer) → IsAnswerToSpec bytes devices said a → ⊥) → ⊥
     on_bytes found = on_reading (read (tree bytes)) (valid_read (tree bytes)) found
@@ -237,7 +240,7 @@ module _ (laws : NetLaws) where
   some_generated bytes devices enable found =
       on_bytes bytes devices (IsGenerated enable) (
       λ spec valid table. some_table laws spec valid table enable (IsGenerated enable spec table) (
-      λ planned adders circuit made. made (wrote spec.name planned.latency (text_of planned.design) (report spec planned adders))
+      λ planned adders circuit made. made (wrote spec planned adders)
       (record { planned = planned; adders = adders; circuit = circuit; answer = refl }))) found
 
   pub some_vectors : (bytes : List ℕ) (devices : List Device) (seed count : ℕ)
@@ -249,7 +252,7 @@ module _ (laws : NetLaws) where
       let d = planned.design in
       let ran = some_run spec valid planned.latency d (laws.serve spec table false planned adders circuit) seed count in
       let rows = rows_text (input_widths d) (output_widths d) count (stimulus_cells spec seed count) ran.0 in
-      made (wrote_vectors spec.name count rows) (record {
+      made (success (printed.WroteVectors spec.name count) (file (vectors_name spec.name) rows ∷ [])) (record {
         planned = planned;
         adders = adders;
         circuit = circuit;
@@ -268,7 +271,7 @@ module _ (laws : NetLaws) where
       let d = planned.design in
       let ran = some_run spec valid planned.latency d (laws.serve spec table false planned adders circuit) n cycles in
       some_count (IsGoodCycle spec (workload_cells n) ran.0 planned.latency) (cycles - planned.latency) (
-      λ good counts. made (worked n (length d.signals) planned.latency good) (record {
+      λ good counts. made (success (printed.Worked n (length d.signals) planned.latency good) []) (record {
         planned = planned;
         adders = adders;
         circuit = circuit;

@@ -1,5 +1,5 @@
 -- That the bytes of VHDL and of vectors leave no answer is impossible.
-use Rattle.std.proofs.Common.{◌≡◌, ◌≢◌, ℕ, ◌⊎◌, Bool, true, false, List, length, Result, Ok, Err, refl, inl, inr}
+use Rattle.std.proofs.Common.{◌≡◌, ◌≢◌, ℕ, ◌⊎◌, Bool, true, false, List, [], ◌∷◌, length, Result, Ok, Err, refl, inl, inr}
 use Rattle.std.specs.Str.Lines.{lines}
 use Rattle.opgen_design.specs.declared.design.Design.{Design}
 use Rattle.opgen_design.specs.Run.{input_widths}
@@ -16,7 +16,8 @@ use Rattle.opgen_vec.proofs.Rows.{rows-of_cells}
 use Rattle.opgen_laws.specs.Verdict.{IsSoundOrFails}
 use Rattle.opgen_part_laws.proofs.Classical.{decided}
 use Rattle.opgen_laws.proofs.Verdict.{has_verdict}
-use Rattle.opgen_top.specs.Answer.{Answer, simulated, vhdl_refused, vectors_refused}
+use Rattle.opgen_top.specs.declared.line.Line.TheVariants as printed
+use Rattle.opgen_top.specs.Answer.{Answer, file, refusal, success}
 use Rattle.opgen_top.specs.Simulate.{GivesDesign, IsSimulated}
 use Rattle.opgen_laws.proofs.SomeReading.{some_reading}
 use Rattle.opgen_laws.proofs.SomeRun.{some_text}
@@ -56,13 +57,13 @@ module _ (text vectors : List ℕ) (by_cause : (fault : ReadFault) → fault ≢
 module _ (out text vectors : List ℕ) (none : (a : Answer) → IsSimulated out text vectors a → ⊥) where
   by_cause : (fault : ReadFault) → fault ≢ read.Memory → IsReadFault text fault → ⊥
   by_cause fault of_text cause =
-      none (vhdl_refused fault) (inl (record { fault = fault; of_text = of_text; cause = cause; answer = refl }))
+      none (refusal (printed.VhdlRefused fault)) (inl (record { fault = fault; of_text = of_text; cause = cause; answer = refl }))
 
   by_rows : (d : Design) → GivesDesign text d → (r : Result (List ℕ) VecFault) → IsReading (input_widths d) (lines vectors) r → ⊥
   by_rows d gives (Ok cells) h =
       let count = length (lines vectors) in
       let run = some_text d gives.sound count cells (rows-of_cells (input_widths d) cells (lines vectors) h.rows) in
-      none (simulated out count run.0) (inr (inr (record {
+      none (success (printed.Simulated count) (file out run.0 ∷ [])) (inr (inr (record {
         design = d;
         gives = gives;
         cells = cells;
@@ -72,7 +73,7 @@ module _ (out text vectors : List ℕ) (none : (a : Answer) → IsSimulated out 
         answer = refl;
       })))
   by_rows d gives (Err fault) h =
-      none (vectors_refused fault) (inr (inl (record {
+      none (refusal (printed.VectorsRefused fault)) (inr (inl (record {
         design = d;
         gives = gives;
         refused = record { fault = fault; cause = h; answer = refl };

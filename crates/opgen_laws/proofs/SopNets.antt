@@ -11,7 +11,7 @@ use Rattle.opgen_compress.specs.Kept.{IsSumOf}
 use Rattle.opgen_compress.specs.Recipe.{compressed}
 use Rattle.opgen_compress.proofs.Compressing.{IsCompressed, compressed-is}
 use Rattle.opgen_compress.proofs.Heaps.{IsHeap, constant-heap}
-use Rattle.opgen_design.specs.Width.{IsWidth}
+use Rattle.opgen_design.specs.Value.{IsWidth}
 use Rattle.opgen_gpc.specs.Recipe.{Counting}
 use Rattle.opgen_gpc.proofs.Counting.{IsCounted, counted_if-is, sum-before}
 use Rattle.opgen_heap.specs.Adding.{with_constant}
@@ -37,14 +37,14 @@ use Rattle.opgen_partial.specs.Recipe.{with_placed}
 use Rattle.opgen_partial.proofs.Laws.{placed-law}
 use Rattle.opgen_ports.specs.declared.ports.PortFormat.{PortFormat}
 use Rattle.opgen_ports.specs.Ranges.{IsInput}
-use Rattle.opgen_ports.specs.Shifts.{down, places_down, places_up}
+use Rattle.opgen_ports.specs.Reaches.{down, places_down, places_up}
 use Rattle.opgen_ports.proofs.InputPorts.{input_bit}
-use Rattle.opgen_kinds.specs.declared.sop.Sop.{Sop}
-use Rattle.opgen_kinds.specs.declared.sop.Scaled.{Scaled}
-use Rattle.opgen_kinds.specs.declared.sop.Times.{Times}
-use Rattle.opgen_kinds.specs.Sop.{IsAcceptedSop, IsSop, format_of, scaled_term, times_term}
-use Rattle.opgen_kinds.proofs.of_kind.Sop.{accepted_sop}
-use Rattle.opgen_kinds.proofs.of_kind.SopTerms.{input_fits}
+use Rattle.opgen_terms.specs.declared.sop.Sop.{Sop}
+use Rattle.opgen_terms.specs.declared.sop.Scaled.{Scaled}
+use Rattle.opgen_terms.specs.declared.sop.Times.{Times}
+use Rattle.opgen_terms.specs.Sop.{IsAcceptedSop, IsSop, format_of, scaled_term, times_term}
+use Rattle.opgen_terms.proofs.Lawful.{accepted_sop}
+use Rattle.opgen_terms.proofs.EachTerm.{input_fits}
 use Rattle.opgen_operator.specs.declared.operator.Operator.TheVariants.{Sop as sop_operator}
 use Rattle.opgen_operator.specs.Fits.{FitsInEachMode}
 use Rattle.opgen_operator.specs.Held.{OutputsHold}
@@ -141,8 +141,8 @@ module _ (s : Sop) (sop : IsSop s) (guard : ℕ) where
         tables-few s.scaled small.scaled,
         floors-few s.products small.products,
         lost-few (offset_fraction s guard),
-        sop.few_scaled,
-        sop.few_products,
+        sop.terms.few_scaled,
+        sop.terms.few_products,
       )
 
 positive_product : (a b : ℕ) → 0 < a → 0 < b → 0 < a * b
@@ -169,7 +169,7 @@ module _ (s : Sop) (accepted : IsAcceptedSop s) (guard : ℕ) (is_guard : IsGuar
   none-made = record {
     stands = record {
       valid = subst (λ ps. IsValid (net_of ps)) (take_all (length s.inputs) s.inputs (omega arith))
-          (inputs-valid s.inputs sop.inputs (length s.inputs) (omega arith));
+          (inputs-valid s.inputs sop.inputs.formats (length s.inputs) (omega arith));
       grown = grown-same (input_net s);
       there = All-nil (All (IsThere (widths (input_net s).nodes)));
       width = refl;
@@ -202,7 +202,7 @@ module _ (s : Sop) (accepted : IsAcceptedSop s) (guard : ℕ) (is_guard : IsGuar
     positive : pos 0 <ℤ q.den
     positive =
         let natural : q.den ≡ pos (unsigned_abs s.den * down (finer guard (scaled_term s t).shift)) = den-is s guard t sop fit term in
-        let some = positive_product _ _ (some-den s.den sop.positive) (pow_pos (places_down (finer guard (scaled_term s t).shift))) in
+        let some = positive_product _ _ (some-den s.den sop.numbers.positive) (pow_pos (places_down (finer guard (scaled_term s t).shift))) in
         omega (arith, ints, natural, some)
 
     some-table : Made ts us (record { net = now.net; heap = now.heap })

@@ -8,7 +8,7 @@ use Rattle.opgen_num.specs.Words.{nat}
 use Rattle.opgen_compress.specs.Kept.{IsSumOf}
 use Rattle.opgen_compress.specs.Recipe.{compressed}
 use Rattle.opgen_design.specs.Run.{AreWords}
-use Rattle.opgen_design.specs.Width.{IsWidth}
+use Rattle.opgen_design.specs.Value.{IsWidth}
 use Rattle.opgen_fir.specs.Recipe.{above_guard, counted_sum, factor, is_zero, net_of_sum, no_terms, sum_width, taps, tapped, with_half, with_term, with_terms}
 use Rattle.opgen_fir.specs.Summed.{HasSum, HasTerm, recent}
 use Rattle.opgen_fir.proofs.Delays.{length-line, line}

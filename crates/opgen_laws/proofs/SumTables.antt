@@ -5,7 +5,7 @@ use Rattle.std.proofs.lemmas.Bool.{eq-eqb}
 use Rattle.std.proofs.lemmas.Int.{ints}
 use Rattle.std.proofs.lemmas.Nat.{pow_pos}
 use Rattle.opgen_design.specs.Run.{AreWords}
-use Rattle.opgen_design.specs.Width.{IsWidth}
+use Rattle.opgen_design.specs.Value.{IsWidth}
 use Rattle.opgen_heap.specs.Adding.{residue, with_constant}
 use Rattle.opgen_heap.specs.Standing.{AllThere}
 use Rattle.opgen_heap.specs.Sum.{columns_sum}
@@ -30,7 +30,7 @@ use Rattle.opgen_net.proofs.Grown.{grown-flow, grown-width}
 use Rattle.opgen_net.proofs.Later.{Later, bits-later, later-node, words-grown}
 use Rattle.opgen_net.proofs.WordLaws.{word-found_width}
 use Rattle.opgen_num.specs.declared.format.Ratio.{Ratio}
-use Rattle.opgen_num.specs.declared.TheConstants.{MAX_WIDTH}
+use Rattle.opgen_num.specs.declared.format.TheConstants.{MAX_WIDTH}
 use Rattle.opgen_compress.proofs.Heaps.{IsHeap, constant-heap, row-heap}
 
 -- ---- a table on a chunk

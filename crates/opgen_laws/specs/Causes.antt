@@ -11,7 +11,8 @@ use Rattle.opgen_document.specs.Document.{tree}
 use Rattle.opgen_spec.specs.Faults.{read}
 use Rattle.opgen_target.specs.Delays.{Delays}
 use Rattle.opgen_workload.specs.Filter.{workload_spec}
-use Rattle.opgen_top.specs.Answer.{Answer, refused, unknown_target, not_adjustable}
+use Rattle.opgen_top.specs.declared.line.Line.TheVariants as line
+use Rattle.opgen_top.specs.Answer.{Answer, refusal, status_of}
 use Rattle.opgen_top.specs.Check.{FindsBad, FindsGood, RefusesPorts}
 use Rattle.opgen_top.specs.Due.{IsAnswerOf, most_bytes, most_simulated_bytes}
 use Rattle.opgen_top.specs.Simulate.{RefusesVhdl, RefusesVectors, Runs}
@@ -69,25 +70,26 @@ pub record HasFault (file : List ℕ) (files : Files) (a : Answer) : Type 0 wher
   pub stands : files file ≡ Some bytes
   pub fault : SpecFault
   pub reads : read (tree bytes) ≡ Err fault
-  pub answer : a ≡ refused fault
+  pub answer : a ≡ refusal (line.Refused fault)
 
 -- After 1: why a specification is refused. Its bytes have a fault; no target has the name that it
 -- asks for, or the first of that name has a fixed table and there is a delay line; or its net needs a longer period, or would
 -- have too many signals.
 pub data IsRefusedSpec (file : List ℕ) (devices : List Device) (files : Files) (a : Answer) : Type 0 where
   faulty : HasFault file files a → IsRefusedSpec file devices files a
-  no_target : (spec : Spec) → HasSpec file files spec → first_of_name spec.target devices ≡ None → a ≡ unknown_target
+  no_target : (spec : Spec) → HasSpec file files spec → first_of_name spec.target devices ≡ None → a ≡ refusal line.UnknownTarget
       → IsRefusedSpec file devices files a
   fixed_table : (spec : Spec) (device : Device) → HasSpec file files spec → first_of_name spec.target devices ≡ Some device
       → device.adjustable ≡ false
-      → spec.delays ≢ [] → a ≡ not_adjustable → IsRefusedSpec file devices files a
+      → spec.delays ≢ [] → a ≡ refusal line.NotAdjustable → IsRefusedSpec file devices files a
   short_period : HasTable file devices files (λ spec table. IsTooShort spec table a) → IsRefusedSpec file devices files a
   many_signals : HasTable file devices files (λ spec table. IsTooLarge spec table a) → IsRefusedSpec file devices files a
 
 -- after 1, without a file: no target has the name that the filter asks for, or its net needs a longer period, or would have
 -- too many signals
 pub data IsRefusedFilter (n : ℕ) (devices : List Device) (a : Answer) : Type 0 where
-  filter_without_target : first_of_name (workload_spec n).target devices ≡ None → a ≡ unknown_target → IsRefusedFilter n devices a
+  filter_without_target : first_of_name (workload_spec n).target devices ≡ None → a ≡ refusal line.UnknownTarget
+      → IsRefusedFilter n devices a
   filter_of_long_need : HasFilter n devices (λ table. IsTooShort (workload_spec n) table a) → IsRefusedFilter n devices a
   filter_of_many_signals : HasFilter n devices (λ table. IsTooLarge (workload_spec n) table a) → IsRefusedFilter n devices a
 
@@ -148,14 +150,14 @@ IsTooLong (Some (Check spec vhdl vectors latency)) files =
 
 -- each status has its cause
 pub record HasCause (command : Option Command) (devices : List Device) (files : Files) (a : Answer) : Type 0 where
-  pub made : a.status ≡ 0 → IsMade command devices files a
-  pub refused : a.status ≡ 1 → IsRefused command devices files a
-  pub usage : a.status ≡ 2 → command ≡ None
-  pub missing : a.status ≡ 3 → IsMissing command files
-  pub vhdl_refused : a.status ≡ 6 → IsVhdlRefused command files a
-  pub vectors_refused : a.status ≡ 7 → AreVectorsRefused command files a
-  pub bad_row : a.status ≡ 8 → IsRowBad command files a
-  pub longer : a.status ≡ 9 → IsTooLong command files
+  pub made : status_of a ≡ 0 → IsMade command devices files a
+  pub refused : status_of a ≡ 1 → IsRefused command devices files a
+  pub usage : status_of a ≡ 2 → command ≡ None
+  pub missing : status_of a ≡ 3 → IsMissing command files
+  pub vhdl_refused : status_of a ≡ 6 → IsVhdlRefused command files a
+  pub vectors_refused : status_of a ≡ 7 → AreVectorsRefused command files a
+  pub bad_row : status_of a ≡ 8 → IsRowBad command files a
+  pub longer : status_of a ≡ 9 → IsTooLong command files
 
 abbrev pub AnswersHaveCauses : Type 0
 AnswersHaveCauses = (command : Option Command) (devices : List Device) (files : Files) (a : Answer) → IsAnswerOf command devices files a

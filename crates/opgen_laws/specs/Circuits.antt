@@ -1,5 +1,5 @@
 -- What holds of every net and every circuit of a specification: there is at most one, and the circuit is sound and checked good.
-use Rattle.std.specs.Prelude.{ℕ, ◌≡◌, ◌-◌, Bool, false, List, length, Ok}
+use Rattle.std.specs.Prelude.{ℕ, ◌≡◌, ◌-◌, Bool, false, List, [], length, Ok}
 use Rattle.std.specs.Str.Lines.{lines}
 use Rattle.opgen_design.specs.Run.{input_widths}
 use Rattle.opgen_design.specs.Sound.{IsSound}
@@ -8,7 +8,8 @@ use Rattle.opgen_operator.specs.declared.spec.Spec.{Spec}
 use Rattle.opgen_operator.specs.Valid.{IsValidSpec}
 use Rattle.opgen_pipe.specs.declared.planning.Planned.{Planned}
 use Rattle.opgen_target.specs.Delays.{Delays}
-use Rattle.opgen_top.specs.Answer.{Answer, all_good}
+use Rattle.opgen_top.specs.declared.line.Line.TheVariants as line
+use Rattle.opgen_top.specs.Answer.{Answer, success}
 use Rattle.opgen_top.specs.Check.{IsAnswerToVhdl}
 use Rattle.opgen_top.specs.Circuit.{IsCircuit}
 use Rattle.opgen_top.specs.Kinds.{IsNetOf}
@@ -35,4 +36,4 @@ CircuitsCheckGood = (spec : Spec) → IsValidSpec spec → (table : Delays) (pla
     → IsCircuit spec table false planned adders
     → (vectors cells : List ℕ) → IsReading (input_widths planned.design) (lines vectors) (Ok cells)
     → (a : Answer) → IsAnswerToVhdl spec planned.latency (text_of planned.design) vectors a
-    → a ≡ all_good (length (lines vectors) - planned.latency)
+    → a ≡ success (line.Good (length (lines vectors) - planned.latency)) []

@@ -1,13 +1,14 @@
 -- The statuses that have one line each.
-use Rattle.std.specs.Prelude.{ℕ, ◌≡◌, List}
-use Rattle.opgen_top.specs.Lines.{usage_line, read_fault_line, too_long_line}
-use Rattle.opgen_top.specs.Printed.{IsLineOf}
+use Rattle.std.specs.Prelude.{◌≡◌}
+use Rattle.opgen_top.specs.declared.line.Line.{Line}
+use Rattle.opgen_top.specs.declared.line.Line.TheVariants as line
+use Rattle.opgen_top.specs.Lines.{line_status}
 
 -- the statuses 2, 3 and 9 have one line each
-pub record HasFixedLine (status : ℕ) (line : List ℕ) : Type 0 where
-  pub usage : status ≡ 2 → line ≡ usage_line
-  pub read_fault : status ≡ 3 → line ≡ read_fault_line
-  pub too_long : status ≡ 9 → line ≡ too_long_line
+pub record HasFixedLine (l : Line) : Type 0 where
+  pub usage : line_status l ≡ 2 → l ≡ line.Usage
+  pub read_fault : line_status l ≡ 3 → l ≡ line.ReadFault
+  pub too_long : line_status l ≡ 9 → l ≡ line.TooLong
 
 abbrev pub LinesAreFixed : Type 0
-LinesAreFixed = (status : ℕ) (line : List ℕ) → IsLineOf status line → HasFixedLine status line
+LinesAreFixed = (l : Line) → HasFixedLine l

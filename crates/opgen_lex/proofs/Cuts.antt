@@ -2,10 +2,9 @@
 use Rattle.std.proofs.Common.{◌≡◌, ℕ, ◌+◌, ◌-◌, ◌≤◌, ◌<◌, List, [], ◌∷◌, ◌++◌, suc, inl, inr, length, take, drop, refl, ap, sym, ◌∙◌, arith, take-append-drop}
 use Rattle.std.specs.List.{prefix_len}
 use Rattle.std.proofs.lemmas.Bool.{cases_Bool}
-use Rattle.opgen_vhdl.specs.Bytes.{is_white}
+use Rattle.opgen_vhdl.specs.Tokens.{is_white, Element, gap, token, text_of, Stands, Cut, size_of, tokens_from, NothingStarts, LexicalAt}
 use Rattle.opgen_vhdl.specs.Fronts.{StandsFor}
-use Rattle.opgen_vhdl.specs.Spans.{spellings_of}
-use Rattle.opgen_vhdl.specs.Tokens.{Element, gap, token, text_of, Stands, Cut, size_of, tokens_from, NothingStarts, LexicalAt}
+use Rattle.opgen_vhdl.specs.Symbols.{spellings_of}
 use Rattle.opgen_vhdl.specs.declared.kind.Token.{Token}
 use Rattle.opgen_vhdl.specs.declared.kind.TokenKind.{TokenKind}
 use Rattle.opgen_vhdl.proofs.CutLemmas.{CutTo, cut_to_start, cut_to_end, cut_to-gap, cut_to-token, spanned}

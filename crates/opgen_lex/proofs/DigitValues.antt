@@ -6,7 +6,7 @@ use Rattle.std.proofs.lemmas.List.Folds.{list_all_at}
 use Rattle.std.specs.Char.{is_ascii_digit, digit_value}
 use Rattle.std.specs.Str.Parse.{digits_value_after}
 use Rattle.std.specs.List.{list_all}
-use Rattle.opgen_num.specs.declared.TheConstants.{MAX_WIDTH}
+use Rattle.opgen_num.specs.declared.format.TheConstants.{MAX_WIDTH}
 use Rattle.opgen_vhdl.specs.Grammar.{value}
 
 digit_bounds : (b : ℕ) → is_ascii_digit b ≡ true → (48 ≤ b) × (b ≤ 57)

@@ -6,8 +6,7 @@ use Rattle.std.proofs.Math.Seq.{take-append_seam, drop-append_seam}
 use Rattle.opgen_vhdl.specs.declared.kind.TokenKind.{TokenKind}
 use Rattle.opgen_vhdl.specs.declared.kind.TokenKind.TheVariants.{Semicolon}
 use Rattle.opgen_vhdl.specs.Reader.{same_kind}
-use Rattle.opgen_vhdl.specs.Spans.{spellings_of}
-use Rattle.opgen_vhdl.specs.Symbols.{Symbol, symbol_of, pieces, onto, is_semicolon}
+use Rattle.opgen_vhdl.specs.Symbols.{spellings_of, Symbol, symbol_of, pieces, onto, is_semicolon}
 use Rattle.opgen_vhdl.specs.Tokens.{Element, Cut}
 use Rattle.opgen_vhdl.proofs.Walks.{first_len, pieces-first}
 use Rattle.opgen_lex.specs.First.{IsFirstToken, HasNoToken}

@@ -2,7 +2,7 @@
 use Rattle.std.specs.Prelude.{IfSome, IfNone, nat_le}
 use Rattle.std.proofs.Common.{Bor, ◌≡◌, subst, ℕ, ◌+◌, ◌≤◌, ◌<◌, ◌&&◌, Bool, true, List, [], ◌∷◌, length, take, drop, Option, Some, None, refl, sym}
 use Rattle.std.proofs.lemmas.Bool.{and_parts, leb-true, le-leb}
-use Rattle.opgen_num.specs.declared.TheConstants.{MAX_WIDTH}
+use Rattle.opgen_num.specs.declared.format.TheConstants.{MAX_WIDTH}
 use Rattle.opgen_vhdl.specs.declared.kind.TokenKind.{TokenKind}
 use Rattle.opgen_vhdl.specs.Symbols.{symbol_of, pieces}
 use Rattle.opgen_lex.specs.First.{IsPassed, IsFirstToken, HasNoToken}

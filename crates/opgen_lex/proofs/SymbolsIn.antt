@@ -2,10 +2,8 @@
 use Rattle.std.proofs.Common.{◌≡◌, ◌⊎◌, inl, inr, ℕ, List, [], ◌∷◌, ◌++◌, length, map, take, drop, refl, ap, sym, ◌∙◌, subst, arith, length-append, append_assoc, ◌-◌, ◌≤◌, Bool, false, get_or}
 use Rattle.std.proofs.lemmas.List.{map-append, length-map}
 use Rattle.std.proofs.Math.Seq.{take-append_seam, drop-append_seam}
-use Rattle.opgen_vhdl.specs.Bytes.{begins}
-use Rattle.opgen_vhdl.specs.Spans.{spellings_of}
-use Rattle.opgen_vhdl.specs.Symbols.{Symbol, symbols, symbol_of}
-use Rattle.opgen_vhdl.specs.Tokens.{Element, gap, token, text_of, size_of, Stands, IsToken, Cut, Tokens, LexicalAt, NothingStarts}
+use Rattle.opgen_vhdl.specs.Tokens.{begins, Element, gap, token, text_of, size_of, Stands, IsToken, Cut, Tokens, LexicalAt, NothingStarts}
+use Rattle.opgen_vhdl.specs.Symbols.{spellings_of, Symbol, symbols, symbol_of}
 use Rattle.opgen_vhdl.specs.declared.kind.Token.{Token}
 use Rattle.opgen_vhdl.specs.declared.kind.TokenKind.{TokenKind}
 use Rattle.opgen_vhdl.specs.declared.kind.TokenKind.TheVariants.{Word, Number, Bits, ZeroChar, LeftParen, RightParen, Semicolon, Colon, Comma, Dot, Ampersand, Plus, Minus, Equal, LessEqual, Arrow, Becomes}

@@ -4,7 +4,7 @@ use Rattle.std.proofs.Common.{◌≡◌, ℕ, suc, ◌+◌, ◌<◌, ◌≤◌, 
 use Rattle.std.specs.List.{prefix_len}
 use Rattle.std.proofs.lemmas.Bool.{cases_Bool, eqb-true}
 use Rattle.std.proofs.lemmas.List.{drop_all}
-use Rattle.opgen_vhdl.specs.Bytes.{is_word_byte, is_underscore, has_single_underscores}
+use Rattle.opgen_vhdl.specs.Tokens.{is_word_byte, is_underscore, has_single_underscores}
 use Rattle.opgen_vhdl.specs.Fronts.{word_front}
 use Rattle.opgen_vhdl.specs.declared.kind.Front.{Front}
 use Rattle.opgen_vhdl.specs.declared.kind.Front.TheVariants.{Token}

@@ -1,7 +1,7 @@
 -- The first token of a text, and how far a text was cut into tokens.
 use Rattle.std.specs.Prelude.{◌≡◌, ℕ, List, [], ◌∷◌, ◌++◌}
 use Rattle.opgen_vhdl.specs.Tokens.{Element, token, Cut, Tokens, NothingStarts}
-use Rattle.opgen_vhdl.specs.Spans.{spellings_of}
+use Rattle.opgen_vhdl.specs.Symbols.{spellings_of}
 use Rattle.opgen_vhdl.specs.declared.kind.Token.{Token}
 use Rattle.opgen_vhdl.specs.declared.kind.TokenKind.{TokenKind}
 

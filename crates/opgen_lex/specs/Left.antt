@@ -4,8 +4,7 @@ use Rattle.std.specs.Borrow.{Bor}
 use Rattle.std.proofs.Common.{inl, inr}
 use Rattle.opgen_vhdl.specs.declared.kind.Token.{Token}
 use Rattle.opgen_vhdl.specs.declared.kind.TokenKind.{TokenKind}
-use Rattle.opgen_vhdl.specs.Spans.{spellings_of}
-use Rattle.opgen_vhdl.specs.Symbols.{Symbol, symbol_of}
+use Rattle.opgen_vhdl.specs.Symbols.{spellings_of, Symbol, symbol_of}
 use Rattle.opgen_vhdl.specs.Tokens.{Element, Tokens, LexicalAt}
 use Rattle.opgen_vhdl.proofs.CutLemmas.{has_reading}
 use Rattle.opgen_lex.specs.declared.cursor.Cursor.{Cursor}

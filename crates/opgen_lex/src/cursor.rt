@@ -18,7 +18,7 @@ pub struct Cursor<'a> {
 impl<'a> Cursor<'a> {
     ghost use Rattle.std.specs.Prelude.{◌≡◌, IsTrue, IfSome, IfNone, ◌+◌, ◌≤◌, ◌<◌, ◌∷◌, [], length, map, option_map, codes};
     ghost use Rattle.std.specs.Char.{to_ascii_lowercase};
-    ghost use Rattle.opgen_num.specs.declared.TheConstants.{MAX_WIDTH};
+    ghost use Rattle.opgen_num.specs.declared.format.TheConstants.{MAX_WIDTH};
     ghost use Rattle.opgen_vhdl.specs.Symbols.{symbol_of, pieces, mark, word, number};
     ghost use Rattle.opgen_vhdl.specs.Reader.{eat, is_mark, index_at, string_at, end_at};
     ghost use Rattle.opgen_lex.specs.First.{IsPassed};

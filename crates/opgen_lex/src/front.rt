@@ -3,7 +3,7 @@
 ghost use Rattle.std.specs.Prelude.{◌≡◌, ◌==◌, ◌≤◌, length, take, drop, ◌&&◌, Some, None, if◌then◌else◌};
 ghost use Rattle.std.specs.Char.{is_ascii_digit};
 ghost use Rattle.std.specs.List.{prefix_len};
-ghost use Rattle.opgen_vhdl.specs.Bytes.{is_white, is_word_byte, is_bit, is_in_line, is_underscore, has_single_underscores, begins};
+ghost use Rattle.opgen_vhdl.specs.Tokens.{is_white, is_word_byte, is_bit, is_in_line, is_underscore, has_single_underscores, begins};
 ghost use Rattle.opgen_vhdl.specs.Fronts.{front_of, word_front, number_front, bits_front, char_front, hyphen_front, mark_front, FrontStands};
 
 use opgen_num::MAX_WIDTH;

@@ -13,7 +13,7 @@
 
 ghost use Rattle.std.specs.Prelude.{◌≡◌, ◌≤◌, length, All, IfOk, IfErr, IfSome, IfNone};
 ghost use Rattle.opgen_vhdl.specs.Tokens.{Tokens, LexicalAt};
-ghost use Rattle.opgen_vhdl.specs.Spans.{InOrder, IsWithin};
+ghost use Rattle.opgen_vhdl.specs.Symbols.{InOrder, IsWithin};
 ghost use Rattle.opgen_lex.specs.Fault.{IsLexical};
 ghost use Rattle.opgen_lex.specs.First.{HasTokens, IsFirstToken, HasNoToken};
 

@@ -10,7 +10,7 @@ use Rattle.opgen_design.specs.Run.{Words, scope}
 use Rattle.opgen_design.specs.declared.design.Target.TheVariants.{Signal as signal}
 use Rattle.opgen_design.specs.Sound.{target}
 use Rattle.opgen_design.specs.Tree.{Tree, bits}
-use Rattle.opgen_design.specs.Width.{IsWidth}
+use Rattle.opgen_design.specs.Value.{IsWidth}
 use Rattle.opgen_design.proofs.WidthLaws.{as_width-of}
 use Rattle.opgen_runs.specs.Evaluate.{driver_word}
 use Rattle.opgen_runs.specs.Tables.{Row, row_word}

@@ -10,8 +10,7 @@ use Rattle.opgen_num.specs.WordLaws.{nat-word, length-word}
 use Rattle.opgen_num.proofs.Cuts.{nat-cut}
 use Rattle.opgen_design.specs.declared.expr.Op.{Op}
 use Rattle.opgen_design.specs.Tree.{Tree, Trees, name, part, bits, port, inverse, chain, none, more}
-use Rattle.opgen_design.specs.Value.{word_at, combined}
-use Rattle.opgen_design.specs.Width.{IsWidth, as_width, joined, width_on, chain_width}
+use Rattle.opgen_design.specs.Value.{word_at, combined, IsWidth, as_width, joined, width_on, chain_width}
 use Rattle.opgen_design.proofs.WidthLaws.{as_width-some, some_before, part_fits, PartFits, length-cut, width-is_width}
 use Rattle.opgen_runs.proofs.Fitting.{some-of}
 use Rattle.opgen_machine.specs.declared.step.Step.{Step}

@@ -17,7 +17,7 @@ use Rattle.opgen_design.specs.declared.design.Target.TheVariants.{Signal as sign
 use Rattle.opgen_design.specs.declared.sound.Rule.TheVariants.{BadEnable, Width}
 use Rattle.opgen_design.specs.Sound.{IsSound, HasWidth, target, Names, PortPasses, SignalPasses, at_design, at_port, at_signal, signal_widths, port_widths}
 use Rattle.opgen_design.specs.Tree.{Tree, port}
-use Rattle.opgen_design.specs.Width.{IsWidth, as_width, width}
+use Rattle.opgen_design.specs.Value.{IsWidth, as_width, width}
 use Rattle.opgen_design.proofs.SoundLaws.{declared-at}
 use Rattle.opgen_design.proofs.WidthLaws.{as_width-of}
 use Rattle.opgen_runs.specs.Evaluate.{HaveWidths}

@@ -9,8 +9,7 @@ use Rattle.opgen_num.specs.Words.{nat, word}
 use Rattle.opgen_design.specs.declared.expr.Op.{Op}
 use Rattle.opgen_design.specs.declared.expr.Op.TheVariants.{And, Or, Xor, Cat, Plus, Minus}
 use Rattle.opgen_design.specs.Run.{Words}
-use Rattle.opgen_design.specs.Value.{chosen, combined}
-use Rattle.opgen_design.specs.Width.{IsWidth, joined}
+use Rattle.opgen_design.specs.Value.{chosen, combined, IsWidth, joined}
 use Rattle.opgen_design.proofs.WidthLaws.{as_width-some}
 use Rattle.opgen_runs.proofs.Fitting.{pair-value}
 use Rattle.opgen_machine.specs.declared.step.Step.{Step}

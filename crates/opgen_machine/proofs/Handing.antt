@@ -11,7 +11,7 @@ use Rattle.opgen_design.specs.declared.design.Driver.TheVariants.{Register}
 use Rattle.opgen_design.specs.Run.{Words}
 use Rattle.opgen_design.specs.declared.design.Target.TheVariants.{Signal as signal}
 use Rattle.opgen_design.specs.Tree.{Tree, name, port}
-use Rattle.opgen_design.specs.Width.{as_width}
+use Rattle.opgen_design.specs.Value.{as_width}
 use Rattle.opgen_design.proofs.WidthLaws.{as_width-of, width-is_width}
 use Rattle.opgen_runs.specs.Evaluate.{hand_on, hand_all_on}
 use Rattle.opgen_machine.specs.declared.step.Step.{Step}

@@ -10,7 +10,7 @@ use Rattle.opgen_design.specs.declared.expr.Op.{Op}
 use Rattle.opgen_design.specs.declared.expr.Op.TheVariants.{And, Or, Xor, Cat, Plus, Minus}
 use Rattle.opgen_design.specs.Tree.{Tree, Trees, none, more}
 use Rattle.opgen_design.specs.Plain.{plain, plain_all}
-use Rattle.opgen_design.specs.Width.{IsWidth, joined, width, chain_width, width_on}
+use Rattle.opgen_design.specs.Value.{IsWidth, joined, width, chain_width, width_on}
 use Rattle.opgen_design.proofs.WidthLaws.{some_before, as_width-some}
 use Rattle.opgen_runs.proofs.Plain.{more-at, first-and-rest}
 use Rattle.opgen_runs.proofs.Fitting.{pair-is_width}

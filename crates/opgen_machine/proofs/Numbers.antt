@@ -6,9 +6,8 @@ use Rattle.std.proofs.Math.Pow.{mod-mod-pow}
 use Rattle.std.proofs.lemmas.Nat.{and_mask, or_lt, xor_lt, or_shifted, shl_whole, pow_pos}
 use Rattle.std.specs.Int.Bits.{and_lt}
 use Rattle.std.proofs.lemmas.List.{length-map}
-use Rattle.opgen_num.specs.Words.{digit, nat, word}
+use Rattle.opgen_num.specs.Words.{digit, nat, word, xor, pairwise, sum_with}
 use Rattle.opgen_num.specs.WordLaws.{nat-word}
-use Rattle.opgen_num.specs.Sums.{xor, pairwise, sum_with}
 use Rattle.opgen_num.proofs.Words.{nat-below}
 use Rattle.opgen_num.proofs.Cuts.{nat-append}
 use Rattle.opgen_runs.proofs.WordOps.{word-and, word-or, word-xor, word-sum, word-mod}

@@ -14,7 +14,7 @@ use Rattle.opgen_design.specs.declared.design.Target.{Target}
 use Rattle.opgen_design.specs.declared.design.Target.TheVariants.{Signal as signal, Port as port_of}
 use Rattle.opgen_design.specs.Sound.{target}
 use Rattle.opgen_design.specs.Tree.{Tree}
-use Rattle.opgen_design.specs.Width.{width}
+use Rattle.opgen_design.specs.Value.{width}
 use Rattle.opgen_runs.specs.Evaluate.{driver_word, put, put_at, put_option, settle}
 use Rattle.opgen_machine.specs.declared.step.Step.{Step}
 use Rattle.opgen_machine.specs.declared.step.Spot.{Spot}

@@ -4,8 +4,7 @@ use Rattle.opgen_design.specs.declared.expr.Op.{Op}
 use Rattle.opgen_design.specs.declared.expr.Op.TheVariants.{And, Or, Xor, Cat, Plus, Minus}
 use Rattle.opgen_design.specs.Run.{Words, scope}
 use Rattle.opgen_design.specs.Tree.{Tree, Trees}
-use Rattle.opgen_design.specs.Value.{combined, chosen, value_on, chain_value}
-use Rattle.opgen_design.specs.Width.{IsWidth, width, joined, width_on, chain_width}
+use Rattle.opgen_design.specs.Value.{combined, chosen, value_on, chain_value, IsWidth, width, joined, width_on, chain_width}
 use Rattle.opgen_machine.specs.declared.step.Step.{Step}
 use Rattle.opgen_machine.specs.declared.step.Step.TheVariants.{Both, Either, Differ, Add, Subtract, Join}
 use Rattle.opgen_machine.specs.declared.step.Spot.{Spot}

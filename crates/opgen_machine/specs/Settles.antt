@@ -7,8 +7,7 @@ use Rattle.opgen_design.specs.declared.design.Target.{Target}
 use Rattle.opgen_design.specs.declared.design.Target.TheVariants.{Signal as signal, Port as port_of}
 use Rattle.opgen_design.specs.Sound.{target}
 use Rattle.opgen_design.specs.Tree.{Tree}
-use Rattle.opgen_design.specs.Value.{chosen}
-use Rattle.opgen_design.specs.Width.{IsWidth}
+use Rattle.opgen_design.specs.Value.{chosen, IsWidth}
 use Rattle.opgen_runs.specs.Evaluate.{driver_word, settle}
 use Rattle.opgen_runs.specs.Tables.{Row}
 use Rattle.opgen_machine.specs.declared.step.Step.{Step}

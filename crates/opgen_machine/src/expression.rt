@@ -3,7 +3,7 @@ ghost use Rattle.std.specs.Prelude.{◌≡◌, ◌+◌, ◌-◌, ◌^◌, ◌<�
 ghost use Rattle.std.specs.Prelude.{Some, IfOk, IfSome, OnOk, IsSome, IsTrue};
 ghost use Rattle.opgen_design.specs.Plain.{plain, plain_all};
 ghost use Rattle.opgen_design.specs.Tree.{bits, chain, name, part, port};
-ghost use Rattle.opgen_design.specs.Width.{IsWidth, chain_width, joined};
+ghost use Rattle.opgen_design.specs.Value.{IsWidth, chain_width, joined};
 ghost use Rattle.opgen_machine.specs.Steps.{AreFine};
 ghost use Rattle.opgen_machine.specs.Programs.{AreSpots, ForSpots, widths_of};
 ghost use Rattle.opgen_machine.specs.Layout.{spots_of};

@@ -1,13 +1,13 @@
 -- The outputs of several constants have the products.
 use Rattle.std.proofs.Common.{◌≡◌, ◌++◌, map, ap, ◌∙◌, arith}
 use Rattle.std.specs.Prelude.{◌*ℤ◌}
-use Rattle.opgen_num.specs.Values.{val}
+use Rattle.opgen_num.specs.Words.{val}
 use Rattle.opgen_net.specs.declared.net.Net.{Net}
 use Rattle.opgen_net.specs.Flow.{slice_flow}
 use Rattle.opgen_kinds.specs.declared.several.Several.{Several}
 use Rattle.opgen_operator.specs.declared.operator.Operator.TheVariants.{Mcm}
 use Rattle.opgen_kinds.specs.Several.{IsAcceptedSeveral, multiple_ports, IsSeveral}
-use Rattle.opgen_operator.specs.PortWords.{output_words}
+use Rattle.opgen_operator.specs.Outputs.{output_words}
 use Rattle.opgen_operator.proofs.Accepted.{accepted_ranges}
 use Rattle.opgen_graph.specs.declared.ranks.Graph.{Graph}
 use Rattle.opgen_graph.specs.Recipe.{with_input, Multiples, multiples_of, net_of_graph}

@@ -1,13 +1,13 @@
 -- What the outputs of the net of several constants have.
 use Rattle.std.specs.Prelude.{◌≡◌, ℕ, ℤ, ◌*ℤ◌, Some, map, slice_get, All}
-use Rattle.opgen_num.specs.Values.{val}
+use Rattle.opgen_num.specs.Words.{val}
 use Rattle.opgen_design.specs.Run.{AreWords}
 use Rattle.opgen_net.specs.declared.net.Net.{Net}
 use Rattle.opgen_net.specs.Flow.{Inputs, input_at, slice_flow}
 use Rattle.opgen_net.specs.Valid.{input_widths}
 use Rattle.opgen_kinds.specs.declared.several.Several.{Several}
 use Rattle.opgen_kinds.specs.Several.{multiple_ports}
-use Rattle.opgen_operator.specs.PortWords.{output_words}
+use Rattle.opgen_operator.specs.Outputs.{output_words}
 
 -- At every whole time, before cycle 0 too, each output has the input of that time times its constant.
 abbrev pub HasProducts : Several → Net → Type 0

@@ -5,8 +5,7 @@ use Rattle.std.proofs.lemmas.Int.{ints}
 use Rattle.opgen_num.specs.declared.format.Format.{Format}
 use Rattle.opgen_num.specs.Formats.{Holds}
 use Rattle.opgen_num.specs.Rounding.{IsWithinOne, IsGoodLinear}
-use Rattle.opgen_num.specs.Values.{val}
-use Rattle.opgen_num.specs.Words.{nat}
+use Rattle.opgen_num.specs.Words.{val, nat}
 use Rattle.opgen_num.proofs.Values.{val_holds}
 use Rattle.opgen_budget.specs.Columns.{weight_below}
 use Rattle.opgen_budget.proofs.Weights.{weight_below-zero}
@@ -17,7 +16,7 @@ use Rattle.opgen_ports.specs.Good.{IsGoodRatio}
 use Rattle.opgen_operator.specs.Held.{OutputsHold}
 use Rattle.opgen_kinds.specs.Product.{IsAcceptedProduct, exact_product, product_shift, product_format, IsProduct}
 use Rattle.opgen_operator.specs.Operator.{inexact}
-use Rattle.opgen_ports.specs.Shifts.{places_up, places_down}
+use Rattle.opgen_ports.specs.Reaches.{places_up, places_down}
 use Rattle.opgen_operator.proofs.Accepted.{accepted_ranges}
 use Rattle.opgen_partial.proofs.Laws.{IsRounded}
 use Rattle.opgen_mult.specs.Recipe.{IsLeftOut, bits_below, zeros_below, heap_width, pairs, rounding}

@@ -2,12 +2,11 @@
 use Rattle.std.proofs.Common.{◌≡◌, ℕ, ◌+◌, ◌-◌, ◌≤◌, refl, arith}
 use Rattle.std.specs.Prelude.{ℤ, pos, negsuc, ◌≤ℤ◌}
 use Rattle.std.proofs.lemmas.Int.{ints}
-use Rattle.opgen_num.specs.declared.TheConstants.{MAX_WIDTH}
+use Rattle.opgen_num.specs.declared.format.TheConstants.{MAX_WIDTH}
 use Rattle.opgen_kinds.specs.declared.product.Product.{Product}
 use Rattle.opgen_operator.specs.declared.operator.Operator.TheVariants.{Multiply}
 use Rattle.opgen_kinds.specs.Product.{IsAcceptedProduct, ProductsHaveWidth, product_shift, product_reach, product_places, product_format}
-use Rattle.opgen_ports.specs.Reaches.{width_of}
-use Rattle.opgen_ports.specs.Shifts.{places_up, places_down}
+use Rattle.opgen_ports.specs.Reaches.{width_of, places_up, places_down}
 use Rattle.opgen_operator.proofs.Accepted.{accepted_ranges, accepted_width}
 use Rattle.opgen_ports.proofs.Widths.{some_width}
 use Rattle.opgen_mult.specs.Recipe.{bits_below}

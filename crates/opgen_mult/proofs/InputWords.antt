@@ -4,7 +4,7 @@ use Rattle.std.specs.Prelude.{ℤ, All}
 use Rattle.std.proofs.lemmas.List.Elements.{All-nil}
 use Rattle.opgen_num.specs.declared.format.Format.{Format}
 use Rattle.opgen_design.specs.Run.{AreWords}
-use Rattle.opgen_design.specs.Width.{IsWidth}
+use Rattle.opgen_design.specs.Value.{IsWidth}
 use Rattle.opgen_net.specs.Flow.{Inputs, input_at}
 use Rattle.opgen_net.specs.Valid.{IsValid}
 use Rattle.opgen_net.proofs.FlowWidths.{flow-width}

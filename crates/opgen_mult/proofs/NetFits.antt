@@ -3,8 +3,7 @@ use Rattle.std.proofs.Common.{◌≡◌, ℕ, zero, suc, ◌+◌, ◌-◌, ◌%�
 use Rattle.std.specs.Prelude.{ℤ, pos, ◌+ℤ◌, ◌-ℤ◌, All, slice_index}
 use Rattle.std.proofs.Math.Nat.{zero-mod}
 use Rattle.std.proofs.lemmas.Int.{ints}
-use Rattle.opgen_num.specs.Values.{val}
-use Rattle.opgen_num.specs.Words.{nat}
+use Rattle.opgen_num.specs.Words.{val, nat}
 use Rattle.opgen_compress.specs.Kept.{words_at, IsSumOf}
 use Rattle.opgen_net.specs.Placed.{Placed}
 use Rattle.opgen_design.specs.Run.{AreWords}

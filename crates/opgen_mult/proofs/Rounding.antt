@@ -10,8 +10,7 @@ use Rattle.opgen_num.specs.declared.format.Format.{Format}
 use Rattle.opgen_num.specs.Floors.{IsFloor}
 use Rattle.opgen_num.specs.Formats.{Holds}
 use Rattle.opgen_num.specs.Rounding.{IsWithinOne}
-use Rattle.opgen_num.specs.Values.{val}
-use Rattle.opgen_num.specs.Words.{nat}
+use Rattle.opgen_num.specs.Words.{val, nat}
 use Rattle.opgen_num.proofs.Cuts.{nat-append}
 use Rattle.opgen_num.proofs.Integers.{commuted, product-sum, product_assoc}
 use Rattle.opgen_num.proofs.Residues.{value_from_residue}

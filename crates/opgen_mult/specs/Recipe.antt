@@ -12,7 +12,7 @@ use Rattle.opgen_compress.specs.Recipe.{compressed}
 use Rattle.opgen_gpc.specs.Recipe.{Counting, counted_if}
 use Rattle.opgen_kinds.specs.declared.product.Product.{Product}
 use Rattle.opgen_kinds.specs.Product.{product_shift, product_format}
-use Rattle.opgen_ports.specs.Shifts.{places_up, places_down}
+use Rattle.opgen_ports.specs.Reaches.{places_up, places_down}
 use Rattle.opgen_partial.specs.declared.pairs.Factor.{Factor}
 use Rattle.opgen_partial.specs.declared.pairs.Products.{Products}
 use Rattle.opgen_partial.specs.declared.pairs.Work.{Work}

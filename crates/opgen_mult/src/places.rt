@@ -1,6 +1,6 @@
 //! Numbers of a product's circuit: the width of its heap, the columns that are left out, and which bits go to the output.
 ghost use Rattle.std.specs.Prelude.{◌≡◌, ◌≤◌, ◌+◌, ◌-◌, ◌^◌};
-ghost use Rattle.opgen_num.specs.declared.TheConstants.{MAX_WIDTH};
+ghost use Rattle.opgen_num.specs.declared.format.TheConstants.{MAX_WIDTH};
 ghost use Rattle.opgen_kinds.specs.Product.{IsAcceptedProduct};
 ghost use Rattle.opgen_mult.specs.Recipe.{bits_below, zeros_below, heap_width, rounding, constant, IsLeftOut};
 

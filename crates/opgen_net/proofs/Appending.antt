@@ -11,7 +11,7 @@ use Rattle.opgen_net.specs.declared.net.Net.{Net}
 use Rattle.opgen_net.specs.declared.net.Output.{Output}
 use Rattle.opgen_net.specs.Flow.{Stream, Inputs, stream_at, stream_of, streams_on, flow, KeepsFlow}
 use Rattle.opgen_net.specs.Valid.{node_width, widths_on, widths, LiesWithin, MayStand, AllMayStand, input_nodes, numbered, input_widths, IsValid}
-use Rattle.opgen_design.specs.Width.{IsWidth}
+use Rattle.opgen_design.specs.Value.{IsWidth}
 use Rattle.opgen_net.proofs.FlowLaws.{length-streams_on, length-widths}
 use Rattle.opgen_net.proofs.Standing.{lies-kept}
 

@@ -7,7 +7,7 @@ use Rattle.opgen_num.specs.Words.{nat}
 use Rattle.opgen_net.specs.declared.node.Node.{Node}
 use Rattle.opgen_net.specs.declared.node.Node.TheVariants.{Input, Constant, Cells, Choice, Table, Delay}
 use Rattle.opgen_design.specs.Tree.{Tree, Trees, name, part, bits, port, inverse, chain, none, more}
-use Rattle.opgen_design.specs.Reads.{AllReads, AllOperandsRead}
+use Rattle.opgen_design.specs.Sound.{AllReads, AllOperandsRead}
 use Rattle.opgen_design.specs.Value.{word_at, cut, chosen}
 use Rattle.opgen_net.specs.Flow.{Stream, Inputs, stream_at, part_at, stream_of, streams_on, flow}
 use Rattle.opgen_design.proofs.ValueLaws.{same_value}

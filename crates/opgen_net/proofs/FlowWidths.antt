@@ -10,8 +10,7 @@ use Rattle.opgen_design.specs.declared.expr.Slice.{Slice}
 use Rattle.opgen_net.specs.declared.node.Node.{Node}
 use Rattle.opgen_net.specs.declared.node.Node.TheVariants.{Input, Constant, Cells, Choice, Table, Delay}
 use Rattle.opgen_net.specs.declared.net.Net.{Net}
-use Rattle.opgen_design.specs.Value.{chosen}
-use Rattle.opgen_design.specs.Width.{IsWidth}
+use Rattle.opgen_design.specs.Value.{chosen, IsWidth}
 use Rattle.opgen_net.specs.Flow.{Stream, before, Inputs, input_at, stream_at, part_at, stream_of, streams_on, flow}
 use Rattle.opgen_design.specs.Run.{AreWords}
 use Rattle.opgen_net.specs.Valid.{slice_width, node_width, widths_on, widths, LiesWithin, MayStand, AllMayStand, input_widths, IsValid}

@@ -4,7 +4,7 @@ use Rattle.std.specs.Prelude.{All, slice_index}
 use Rattle.std.proofs.lemmas.List.{append-nil}
 use Rattle.opgen_design.specs.declared.expr.Slice.{Slice}
 use Rattle.opgen_design.specs.Run.{AreWords}
-use Rattle.opgen_design.specs.Width.{IsWidth, as_width}
+use Rattle.opgen_design.specs.Value.{IsWidth, as_width}
 use Rattle.opgen_design.proofs.WidthLaws.{as_width-some}
 use Rattle.opgen_net.specs.declared.cell.Class.TheVariants.{Wire}
 use Rattle.opgen_net.specs.declared.net.Net.{Net}

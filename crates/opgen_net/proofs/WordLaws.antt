@@ -6,7 +6,7 @@ use Rattle.std.proofs.lemmas.Bool.{le-leb, lt-ltb, eqb-true, and_parts}
 use Rattle.std.proofs.lemmas.List.{append_assoc, length-drop, get_or-drop, reverse-append}
 use Rattle.std.proofs.lemmas.List.Elements.{All-cons, All-nil}
 use Rattle.std.proofs.lemmas.Option.{slice_get-get_or}
-use Rattle.opgen_num.specs.declared.TheConstants.{MAX_WIDTH}
+use Rattle.opgen_num.specs.declared.format.TheConstants.{MAX_WIDTH}
 use Rattle.opgen_net.specs.declared.cell.Class.TheVariants.{Wire}
 use Rattle.opgen_design.specs.declared.expr.Op.TheVariants.{Cat}
 use Rattle.opgen_design.specs.declared.expr.Slice.{Slice}
@@ -18,8 +18,7 @@ use Rattle.opgen_net.specs.declared.word_bits.Piece.{Piece}
 use Rattle.opgen_net.specs.declared.word_bits.Piece.TheVariants.{Bits, Part}
 use Rattle.opgen_design.specs.Tree.{Tree, name, part, chain, none}
 use Rattle.opgen_design.specs.Plain.{trees_of}
-use Rattle.opgen_design.specs.Value.{Scope, cut, value, value_on}
-use Rattle.opgen_design.specs.Width.{IsWidth, as_width, width, width_on, in_chain, nesting, operands_nesting}
+use Rattle.opgen_design.specs.Value.{Scope, cut, value, value_on, IsWidth, as_width, width, width_on, in_chain, nesting, operands_nesting}
 use Rattle.opgen_net.specs.Flow.{Inputs, flow}
 use Rattle.opgen_design.specs.Run.{AreWords}
 use Rattle.opgen_net.specs.Valid.{slice_width, widths, LiesWithin, FitsNodes, input_widths, IsValid}

@@ -1,4 +1,5 @@
--- Definitions of opgen_net: valid nets, the words of their nodes over time, appended nodes, and nodes of given bits.
+-- Definitions of opgen_net: classes of cells, valid nets, the words of their nodes over time, appended nodes, and nodes of given bits.
+pub mod Classes
 pub mod Flow
 pub mod Valid
 pub mod Made

@@ -1,4 +1,4 @@
--- Nets with a node or an output of given bits, and the numbers that such bits stand for at each time.
+-- Nets with an input more, or a node or an output of given bits, and the numbers that such bits stand for at each time.
 use Rattle.std.specs.Prelude.{ℕ, ◌-◌, ℤ, List, [], ◌∷◌, ◌++◌, length}
 use Rattle.opgen_num.specs.Words.{nat}
 use Rattle.opgen_design.specs.declared.expr.Op.TheVariants.{Minus}
@@ -7,6 +7,7 @@ use Rattle.opgen_design.specs.Plain.{trees_of}
 use Rattle.opgen_design.specs.Tree.{Tree, name, chain}
 use Rattle.opgen_net.specs.declared.net.Net.{Net}
 use Rattle.opgen_net.specs.declared.node.Node.{Node}
+use Rattle.opgen_net.specs.declared.node.Node.TheVariants.{Input}
 use Rattle.opgen_net.specs.declared.word_bits.WordBit.{WordBit}
 use Rattle.opgen_net.specs.Flow.{Inputs}
 use Rattle.opgen_net.specs.WordRule.{word_flow, with_word}
@@ -33,6 +34,11 @@ abbrev pub with_output : (called : List ℕ) → Net → List WordBit → Net
 with_output called net given =
     let w = with_bits net given in
     record w.net { outputs = w.net.outputs ++ record { name = called; from = whole (length given) w.place } ∷ [] }
+
+-- a net with an input port more, at the end, and a node for it
+abbrev pub with_port : (called : List ℕ) → (width : ℕ) → Net → Net
+with_port called width net =
+    record net { inputs = net.inputs ++ (called, width) ∷ []; nodes = net.nodes ++ Input (length net.inputs) width ∷ [] }
 
 -- a net with a node more, at its end
 abbrev pub with_last : Net → Node → Net

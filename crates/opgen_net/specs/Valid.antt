@@ -7,7 +7,7 @@ use Rattle.opgen_net.specs.declared.node.Node.{Node}
 use Rattle.opgen_net.specs.declared.node.Node.TheVariants.{Input, Constant, Cells, Choice, Table, Delay}
 use Rattle.opgen_net.specs.declared.net.Net.{Net}
 use Rattle.opgen_design.specs.Tree.{Tree}
-use Rattle.opgen_design.specs.Width.{IsWidth, width, nesting, max_nesting}
+use Rattle.opgen_design.specs.Value.{IsWidth, width, nesting, max_nesting}
 
 abbrev pub slice_width : Slice → ℕ
 slice_width s = s.high + 1 - s.low

@@ -11,6 +11,18 @@ pub enum Class {
     Register,
 }
 
+impl Class {
+    /// All classes, in their fixed order.
+    pub const ALL: [Class; 6] = [
+        Class::Wire,
+        Class::Logic,
+        Class::Add,
+        Class::Choice,
+        Class::Table,
+        Class::Register,
+    ];
+}
+
 /// A cell of a class over so many bits.
 #[derive(Clone, Copy, Debug, PartialEq, Eq)]
 pub struct Cell {

@@ -3,7 +3,8 @@ ghost use Rattle.std.specs.Prelude.{◌≡◌, ◌<◌, ◌++◌, [], ◌∷◌,
 ghost use Rattle.opgen_net.specs.Flow.{KeepsFlow};
 ghost use Rattle.opgen_design.specs.Plain.{plain};
 ghost use Rattle.opgen_net.specs.Valid.{IsValid, IsOfExpressions, FitsNodes, FitsChoice, FitsTable, LiesWithin, MayStand, input_nodes, widths};
-ghost use Rattle.opgen_design.specs.Width.{IsWidth};
+ghost use Rattle.opgen_design.specs.Value.{IsWidth};
+ghost use Rattle.opgen_net.specs.Placed.{with_port};
 
 use crate::{Class, Expr, Formula, Node, Slice};
 use opgen_list::{Items, Text};
@@ -44,7 +45,7 @@ impl Net {
     pub fn input(&mut self, name: &str, width: u32) -> Result<usize, Memory>
         requires net { IsValid self.old }
         requires width { IsWidth width }
-        ensures ok { OnOk result (self.new ≡ record self.old { inputs = self.old.inputs ++ (name.now, width) ∷ []; nodes = self.old.nodes ++ Node.Input (length self.old.inputs) width ∷ [] }) }
+        ensures ok { OnOk result (self.new ≡ with_port name.now width self.old) }
         ensures place { IfOk result (λ n. n ≡ length self.old.nodes) }
         ensures err { OnErr result (self.new ≡ self.old) }
         ensures valid { IsValid self.new }

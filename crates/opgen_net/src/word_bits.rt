@@ -4,7 +4,7 @@ ghost use Rattle.opgen_num.specs.Words.{digit};
 ghost use Rattle.opgen_net.specs.Flow.{KeepsFlow};
 ghost use Rattle.opgen_design.specs.Plain.{plain};
 ghost use Rattle.opgen_net.specs.Valid.{IsValid, LiesWithin, FitsNodes, widths};
-ghost use Rattle.opgen_design.specs.Width.{IsWidth};
+ghost use Rattle.opgen_design.specs.Value.{IsWidth};
 ghost use Rattle.opgen_net.specs.WordRule.{IsThere, HasBits, joined, alone, above, runs, RunIsThere, run_tree, word_tree, is_whole, with_word, FirstHasAtMost, with_runs};
 
 use crate::{Class, Expr, Net, Op, Slice};

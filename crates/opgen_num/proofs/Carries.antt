@@ -1,8 +1,7 @@
 -- Sums of words with a last carry.
 use Rattle.std.proofs.Common.{◌≡◌, ℕ, ◌+◌, ◌*◌, ◌^◌, Bool, true, false, List, [], ◌∷◌, length, map, refl, ap, ◌∙◌, arith, not}
 use Rattle.std.proofs.Math.Nat.{two-pow-succ}
-use Rattle.opgen_num.specs.Words.{digit, nat}
-use Rattle.opgen_num.specs.Sums.{xor, majority, sum_with}
+use Rattle.opgen_num.specs.Words.{digit, nat, xor, majority, sum_with}
 
 -- with a last carry: the sum of two words and a carry
 pub sum-carry : (k : Bool) (a b : List Bool) → length a ≡ length b

@@ -8,7 +8,7 @@ use Rattle.std.proofs.lemmas.Nat.{div-add-mod'}
 use Rattle.opgen_num.proofs.Floors.{one_floor}
 use Rattle.opgen_num.proofs.Integers.{product-sum, product_assoc, product_cancel}
 use Rattle.opgen_num.proofs.Rounded.{floor_is, half_away}
-use Rattle.opgen_num.specs.Nearest.{nearest}
+use Rattle.opgen_num.specs.Rounding.{nearest}
 
 -- less than half a unit below a fraction, or half a unit or less above it
 pub nearest-floor : (n m : ℤ) → pos 0 <ℤ m

@@ -5,8 +5,7 @@ use Rattle.std.proofs.Math.Nat.{two-pow-succ, mul-le-mul_left}
 use Rattle.std.proofs.lemmas.Int.{ints}
 use Rattle.opgen_num.specs.declared.format.Format.{Format}
 use Rattle.opgen_num.specs.Formats.{Holds}
-use Rattle.opgen_num.specs.Values.{highest, val}
-use Rattle.opgen_num.specs.Words.{nat}
+use Rattle.opgen_num.specs.Words.{highest, val, nat}
 use Rattle.opgen_num.proofs.Integers.{product-sum}
 use Rattle.opgen_num.proofs.Values.{val_holds}
 

@@ -4,8 +4,7 @@ use Rattle.std.specs.Prelude.{ℤ, pos, ◌-ℤ◌, ◌<ℤ◌, ◌≤ℤ◌}
 use Rattle.std.proofs.Math.Nat.{two-pow-succ}
 use Rattle.std.proofs.lemmas.Int.{ints}
 use Rattle.opgen_num.specs.declared.format.Format.{Format}
-use Rattle.opgen_num.specs.Words.{digit, nat}
-use Rattle.opgen_num.specs.Values.{highest, int, val}
+use Rattle.opgen_num.specs.Words.{digit, nat, highest, int, val}
 use Rattle.opgen_num.specs.Formats.{Holds}
 use Rattle.opgen_num.proofs.Words.{digit-below, nat-below}
 

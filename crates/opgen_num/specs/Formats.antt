@@ -1,6 +1,6 @@
 -- Which numbers a format holds, and the least width that holds two numbers.
 use Rattle.std.specs.Prelude.{ℕ, zero, suc, ◌+◌, ◌-◌, ◌/◌, ◌^◌, ◌≤◌, ◌<◌, max, Bool, true, false, ℤ, pos, negsuc, unsigned_abs, neg_ℤ, ◌-ℤ◌, ◌≤ℤ◌, int_lt}
-use Rattle.opgen_num.specs.declared.TheConstants.{MAX_WIDTH, MAX_LSB}
+use Rattle.opgen_num.specs.declared.format.TheConstants.{MAX_WIDTH, MAX_LSB}
 
 -- the fewest bits of a format: a signed one has a bit below its sign
 abbrev pub fewest_bits : (signed : Bool) → ℕ

@@ -1,6 +1,7 @@
 -- When a whole number is a good rounding of a fraction or a root: exact, or faithful, which is less than one unit away
 -- (de Dinechin and Kumm, Application-Specific Arithmetic).
-use Rattle.std.specs.Prelude.{◌≡◌, ℕ, ◌+◌, ◌-◌, ◌*◌, ◌<◌, ◌≤◌, ◌⊎◌, Bool, true, false, ℤ, pos, ◌-ℤ◌, ◌*ℤ◌, ◌<ℤ◌, unsigned_abs}
+use Rattle.std.specs.Prelude.{◌≡◌, ℕ, ◌+◌, ◌-◌, ◌*◌, ◌<◌, ◌≤◌, ◌⊎◌, Bool, true, false, ℤ, pos, ◌-ℤ◌, ◌*ℤ◌, ◌<ℤ◌, unsigned_abs, ◌+ℤ◌}
+use Rattle.std.specs.Int.{int_div_euclid}
 
 abbrev pub distance : ℤ → ℤ → ℕ
 distance a b = unsigned_abs (a -ℤ b)
@@ -28,3 +29,7 @@ IsQuotient n b q r = (n ≡ q * b + r) × (r < b)
 -- y is the square root of n rounded down, and r the remainder
 abbrev pub IsRoot : (n y r : ℕ) → Type 0
 IsRoot n y r = (n ≡ y * y + r) × (r ≤ 2 * y)
+
+-- n / m to the nearest whole number, half a unit up: the floor of n / m + 1/2
+abbrev pub nearest : (n m : ℤ) → ℤ
+nearest n m = int_div_euclid ((pos 2 *ℤ n) +ℤ m) (pos 2 *ℤ m)

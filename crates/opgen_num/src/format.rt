@@ -2,10 +2,18 @@
 //! range.
 ghost use Rattle.std.specs.Prelude.{◌≡◌, ℕ, ◌≤◌, length, ◌↔◌, pos, negsuc, ◌<ℤ◌, ◌≤ℤ◌, IfOk, IfSome, IfNone};
 ghost use Rattle.opgen_num.specs.Formats.{IsWidthOf, IsLsb, is_negative, range_width, IsLeastWidth, IsTooWide, Holds};
-ghost use Rattle.opgen_num.specs.Values.{int, val};
-ghost use Rattle.opgen_num.specs.Words.{nat};
+ghost use Rattle.opgen_num.specs.Words.{int, val, nat};
 
-use crate::{MAX_LSB, MAX_WIDTH, Word, bit_length};
+use crate::{Word, bit_length};
+
+/// The greatest width of a signal, in bits.
+pub const MAX_WIDTH: u32 = 96;
+
+/// The greatest width of an input of an operator, in bits.
+pub const MAX_INPUT: u32 = 48;
+
+/// The greatest weight of a lowest bit is 2 to this power, the least 2 to its negative.
+pub const MAX_LSB: i32 = 64;
 
 /// How a port's word is read: as an unsigned or a two's complement number, times 2 to `lsb`.
 #[derive(Clone, Copy, Debug, PartialEq, Eq)]

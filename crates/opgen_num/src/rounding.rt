@@ -1,8 +1,7 @@
 //! Rounds a fraction to the nearest whole number, and tests whether a number is a good rounding of a fraction, quotient or square
 //! root, without products that could overflow.
 ghost use Rattle.std.specs.Prelude.{◌≡◌, ◌↔◌, IsTrue, ◌+◌, ◌*◌, ◌<◌, ◌^◌, pos, ◌<ℤ◌, ◌≤ℤ◌, ◌*ℤ◌, ◌+ℤ◌, unsigned_abs};
-ghost use Rattle.opgen_num.specs.Nearest.{nearest};
-ghost use Rattle.opgen_num.specs.Rounding.{IsExact, IsGoodLinear, IsGoodRoot, IsQuotient, IsRoot, IsWithinOne};
+ghost use Rattle.opgen_num.specs.Rounding.{nearest, IsExact, IsGoodLinear, IsGoodRoot, IsQuotient, IsRoot, IsWithinOne};
 
 /// The whole number that is nearest to `n / m`, the greater of two.
 pub fn nearest(n: i128, m: i128) -> i128

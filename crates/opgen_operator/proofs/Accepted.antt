@@ -4,7 +4,7 @@ use Rattle.std.proofs.lemmas.Bool.{and_parts, leb-true}
 use Rattle.std.specs.Prelude.{IsTrue, ◌≤ℤ◌, All, pos}
 use Rattle.opgen_names.specs.Names.{is_allowed_name}
 use Rattle.opgen_net.specs.declared.net.Net.{Net}
-use Rattle.opgen_num.specs.declared.TheConstants.{MAX_WIDTH}
+use Rattle.opgen_num.specs.declared.format.TheConstants.{MAX_WIDTH}
 use Rattle.opgen_kinds.specs.declared.poly.Poly.{Poly as Polynomial}
 use Rattle.opgen_operator.specs.declared.operator.Operator.{Operator}
 use Rattle.opgen_operator.specs.declared.operator.Operator.TheVariants.{Poly}
@@ -15,13 +15,12 @@ use Rattle.opgen_ports.specs.Ports.{HasWidth}
 use Rattle.opgen_operator.specs.Fits.{FitsOperator, FitsSpec, name_and_width}
 use Rattle.opgen_operator.specs.Operator.{meaning, IsGoodOf, IsAccepted, IsOperator, least_shift, shift, HasRoom, need, inexact, operator_outputs}
 use Rattle.opgen_ports.specs.SpecName.{is_taken, is_signal_name}
-use Rattle.opgen_operator.specs.Outputs.{inputs_of, outputs_of, IsGoodBy, chosen_ports}
-use Rattle.opgen_operator.specs.PortWords.{recent_words, output_words}
+use Rattle.opgen_operator.specs.Outputs.{inputs_of, outputs_of, IsGoodBy, chosen_ports, recent_words, output_words}
 use Rattle.opgen_net.specs.Flow.{slice_flow}
 use Rattle.opgen_operator.specs.Valid.{IsModeOf, IsValidSpec}
 use Rattle.opgen_kinds.proofs.of_kind.Sum.{multiple_accepted}
 use Rattle.opgen_operator.proofs.Operators.{lawful, shift_limit, room}
-use Rattle.opgen_kinds.proofs.Accepted as kind
+use Rattle.opgen_ports.proofs.Accepted as kind
 
 -- its name is an allowed name of a design, of 32 bytes at most
 pub name_allowed : (spec : Spec) → IsValidSpec spec → IsTrue (is_allowed_name spec.name) × (length spec.name ≤ 32)

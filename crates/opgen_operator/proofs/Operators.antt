@@ -1,7 +1,7 @@
 -- What holds of every operator: each kind proved it of its meaning.
 use Rattle.std.proofs.Common.{arith, ◌≤◌, length, ℕ}
 use Rattle.std.specs.Prelude.{All, ◌≤ℤ◌, neg_ℤ}
-use Rattle.opgen_kinds.specs.declared.kind.Kind.TheVariants as kind_of
+use Rattle.opgen_ports.specs.declared.kind.Kind.TheVariants as kind_of
 use Rattle.opgen_operator.specs.declared.operator.Operator.{Operator}
 use Rattle.opgen_operator.specs.declared.operator.Operator.TheVariants.{Scale, Fir, Multiply, Divide, Root, Mcm, Constdiv, Poly, Tfir, Sop}
 use Rattle.opgen_ports.specs.declared.TheConstants.{MAX_SHIFT}
@@ -10,14 +10,14 @@ use Rattle.opgen_ports.specs.Limits.{most_input, most_signal}
 use Rattle.opgen_operator.specs.Held.{OutputsHold}
 use Rattle.opgen_operator.specs.Operator.{meaning, operator_inputs, IsOperator, most_shift, shift, least_shift, HasInputsWithin, HasRoom, operator_outputs, IsAcceptedBy}
 use Rattle.opgen_ports.proofs.InputPorts.{HasBit}
-use Rattle.opgen_kinds.proofs.Lawful.{IsLawful}
+use Rattle.opgen_ports.proofs.Lawful.{IsLawful}
 use Rattle.opgen_kinds.proofs.of_kind.Pair.{pair_lawful}
 use Rattle.opgen_kinds.proofs.of_kind.Poly.{poly_lawful}
 use Rattle.opgen_kinds.proofs.of_kind.Product.{product_lawful}
 use Rattle.opgen_kinds.proofs.of_kind.Several.{several_lawful}
 use Rattle.opgen_kinds.proofs.of_kind.Single.{single_lawful}
 use Rattle.opgen_kinds.proofs.of_kind.SmallDiv.{small_lawful}
-use Rattle.opgen_kinds.proofs.of_kind.Sop.{sop_lawful}
+use Rattle.opgen_terms.proofs.Lawful.{sop_lawful}
 use Rattle.opgen_kinds.proofs.of_kind.Sum.{sum_lawful}
 use Rattle.opgen_kinds.proofs.of_kind.Taps.{taps_lawful}
 

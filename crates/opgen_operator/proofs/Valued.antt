@@ -4,7 +4,7 @@ use Rattle.std.proofs.lemmas.Int.{ints}
 use Rattle.std.proofs.lemmas.Nat.{pow_pos}
 use Rattle.std.specs.Prelude.{ℕ, zero, suc, ℤ, pos, neg_ℤ, ◌<ℤ◌, ◌≤ℤ◌, codes, All, nat_lt}
 use Rattle.opgen_num.specs.declared.format.Format.{Format}
-use Rattle.opgen_num.specs.declared.TheConstants.{MAX_WIDTH}
+use Rattle.opgen_num.specs.declared.format.TheConstants.{MAX_WIDTH}
 use Rattle.opgen_num.specs.Formats.{fewest_bits, is_negative, range_width, IsWidthOf}
 use Rattle.opgen_num.proofs.RangeWidth.{range_width-least}
 use Rattle.opgen_num.specs.declared.format.Ratio.{Ratio}
@@ -13,12 +13,12 @@ use Rattle.opgen_operator.specs.declared.operator.Operator.TheVariants.{Scale, F
 use Rattle.opgen_operator.specs.Operator.{operator_outputs, IsAccepted, IsOperator, IsGoodOf, exact_value, has_value, plain_output}
 use Rattle.opgen_kinds.specs.Horner.{result_low, result_high}
 use Rattle.opgen_kinds.specs.Product.{product_shift, product_places}
-use Rattle.opgen_kinds.specs.Sop.{sop_places}
+use Rattle.opgen_terms.specs.Sop.{sop_places}
 use Rattle.opgen_kinds.specs.Sum.{sum_shift, sum_places}
 use Rattle.opgen_kinds.specs.Taps.{direct}
-use Rattle.opgen_kinds.proofs.Roundings.{positive_units}
+use Rattle.opgen_ports.proofs.Roundings.{positive_units}
 use Rattle.opgen_kinds.proofs.of_kind.Results.{results_order}
-use Rattle.opgen_kinds.proofs.of_kind.Sop.{sop_positive}
+use Rattle.opgen_terms.proofs.Lawful.{sop_positive}
 use Rattle.std.specs.Option.{unwrap_or}
 use Rattle.opgen_operator.specs.declared.spec.Spec.{Spec}
 use Rattle.opgen_operator.specs.Outputs.{outputs_of, chosen, chosen_ports}
@@ -28,10 +28,8 @@ use Rattle.opgen_ports.proofs.InputPorts.{all_one}
 use Rattle.opgen_operator.proofs.Accepted.{accepted_ranges, accepted_wide}
 use Rattle.opgen_ports.specs.declared.reach.Reach.{Reach}
 use Rattle.opgen_ports.specs.Good.{IsGoodRatio}
-use Rattle.opgen_ports.specs.PortNumbers.{format_at}
-use Rattle.opgen_ports.specs.Ports.{covering, port, HasWidth}
-use Rattle.opgen_ports.specs.Recent.{Recent}
-use Rattle.opgen_ports.specs.Shifts.{places_down}
+use Rattle.opgen_ports.specs.Ports.{format_at, Recent, covering, port, HasWidth}
+use Rattle.opgen_ports.specs.Reaches.{places_down}
 
 -- it is the only output, of the name y
 pub only_output : (op : Operator) → has_value op ≡ true → operator_outputs op ≡ port (codes "y") (format_at (operator_outputs op) 0) ∷ []

@@ -1,6 +1,6 @@
 -- Bounds that every valid specification keeps: port widths, shift and exact values.
 use Rattle.std.specs.Prelude.{ℕ, ◌≤◌, ◌≤ℤ◌, All, ◌<◌, ℤ, neg_ℤ, length}
-use Rattle.opgen_num.specs.declared.TheConstants.{MAX_INPUT, MAX_WIDTH}
+use Rattle.opgen_num.specs.declared.format.TheConstants.{MAX_INPUT, MAX_WIDTH}
 use Rattle.opgen_kinds.specs.declared.sum.Sum.{Sum}
 use Rattle.opgen_operator.specs.declared.operator.Operator.{Operator}
 use Rattle.opgen_operator.specs.declared.operator.Operator.TheVariants.{Scale}
@@ -10,9 +10,7 @@ use Rattle.opgen_kinds.specs.Sum.{IsAcceptedSum}
 use Rattle.opgen_ports.specs.Limits.{most_input, most_signal}
 use Rattle.opgen_operator.specs.Outputs.{inputs_of, outputs_of}
 use Rattle.opgen_operator.specs.Operator.{shift, least_shift, most_shift, HasRoom, IsAccepted, IsExactIn128}
-use Rattle.opgen_ports.specs.Ports.{HasWidth}
-use Rattle.opgen_ports.specs.PortNumbers.{format_at}
-use Rattle.opgen_ports.specs.Recent.{Recent}
+use Rattle.opgen_ports.specs.Ports.{HasWidth, format_at, Recent}
 use Rattle.opgen_ports.specs.Spans.{IsOf}
 use Rattle.opgen_operator.specs.Valid.{IsValidSpec}
 

@@ -8,9 +8,8 @@ use Rattle.opgen_operator.specs.declared.operator.Operator.{Operator}
 use Rattle.opgen_ports.specs.declared.ports.PortFormat.{PortFormat}
 use Rattle.opgen_operator.specs.declared.spec.Spec.{Spec}
 use Rattle.opgen_operator.specs.Operator.{operator_inputs, operator_outputs, IsGoodOf, IsInRangeOf}
-use Rattle.opgen_operator.specs.Outputs.{inputs_of, outputs_of, IsGood, IsInRange}
-use Rattle.opgen_ports.specs.Recent.{Recent}
-use Rattle.opgen_operator.specs.PortWords.{recent_words, output_words}
+use Rattle.opgen_operator.specs.Outputs.{inputs_of, outputs_of, IsGood, IsInRange, recent_words, output_words}
+use Rattle.opgen_ports.specs.Ports.{Recent}
 use Rattle.opgen_operator.specs.Valid.{IsModeOf}
 
 abbrev pub name_and_width : PortFormat → List ℕ × ℕ

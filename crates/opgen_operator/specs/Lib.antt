@@ -3,9 +3,8 @@ pub mod Operator
 pub mod Outputs
 pub mod GivenNames
 pub mod Valid
-pub mod PortWords
-pub mod DesignPorts
 pub mod Fits
 pub mod Held
 pub mod Bounded
 pub mod PortNames
+pub mod Serves

@@ -1,24 +1,21 @@
 -- What each operator means, by its kind, and each question about it.
 use Rattle.std.specs.Prelude.{ℕ, Bool, Option, Some, None, ℤ, List, if◌then◌else◌}
-use Rattle.opgen_kinds.specs.declared.kind.Kind.{Kind}
+use Rattle.opgen_ports.specs.declared.kind.Kind.{Kind}
 use Rattle.opgen_operator.specs.declared.operator.Operator.{Operator}
 use Rattle.opgen_operator.specs.declared.operator.Operator.TheVariants.{Scale, Fir, Multiply, Divide, Root, Mcm, Constdiv, Poly, Tfir, Sop}
 use Rattle.opgen_ports.specs.declared.ports.PortFormat.{PortFormat}
-use Rattle.opgen_kinds.specs.Accepted.{is_marked, IsAcceptedIn, IsAcceptable}
-use Rattle.opgen_kinds.specs.Judged.{IsNonzeroAt}
+use Rattle.opgen_ports.specs.Accepted.{is_marked, IsAcceptedIn, IsAcceptable}
+use Rattle.opgen_ports.specs.Meaning.{IsNonzeroAt, Meaning}
 use Rattle.opgen_kinds.specs.Pair.{pair_meaning}
 use Rattle.opgen_kinds.specs.Poly.{poly_meaning}
 use Rattle.opgen_kinds.specs.Product.{product_meaning}
 use Rattle.opgen_kinds.specs.Several.{several_meaning}
 use Rattle.opgen_kinds.specs.Single.{single_meaning}
 use Rattle.opgen_kinds.specs.SmallDiv.{small_meaning}
-use Rattle.opgen_kinds.specs.Sop.{sop_meaning}
+use Rattle.opgen_terms.specs.Sop.{sop_meaning}
 use Rattle.opgen_kinds.specs.Sum.{scale_meaning, fir_meaning}
 use Rattle.opgen_kinds.specs.Taps.{taps_meaning}
-use Rattle.opgen_kinds.specs.Meaning.{Meaning}
-use Rattle.opgen_ports.specs.Ports.{AreWithin}
-use Rattle.opgen_ports.specs.PortNumbers.{format_at}
-use Rattle.opgen_ports.specs.Recent.{Recent}
+use Rattle.opgen_ports.specs.Ports.{AreWithin, format_at, Recent}
 use Rattle.opgen_num.specs.declared.format.Format.{Format}
 use Rattle.opgen_num.specs.declared.format.Ratio.{Ratio}
 use Rattle.std.specs.Option.{is_some, option_map}

@@ -1,15 +1,20 @@
--- The ports of a specification, and when its outputs are good: those of its operator, or one whose width it chooses.
+-- The ports of a specification, the numbers at them, from words, and when its outputs are good: those of its operator, or one
+-- whose width it chooses.
 use Rattle.std.specs.Option.{unwrap_or}
-use Rattle.std.specs.Prelude.{ℕ, Bool, Option, Some, None, ℤ, List, map}
+use Rattle.std.specs.Prelude.{ℕ, Bool, Option, Some, None, ℤ, List, map, ◌++◌, pos, ◌-ℤ◌}
 use Rattle.opgen_num.specs.declared.format.Format.{Format}
 use Rattle.opgen_num.specs.declared.format.Ratio.{Ratio}
 use Rattle.opgen_operator.specs.declared.spec.Spec.{Spec}
 use Rattle.opgen_operator.specs.Operator.{operator_inputs, operator_outputs, IsInRangeOf, IsGoodOf, exact_value}
 use Rattle.opgen_ports.specs.declared.ports.PortFormat.{PortFormat}
-use Rattle.opgen_ports.specs.PortNumbers.{format_at}
-use Rattle.opgen_ports.specs.Ports.{port}
-use Rattle.opgen_ports.specs.Recent.{Recent}
-use Rattle.opgen_ports.specs.Saturated.{IsGoodSaturated}
+use Rattle.opgen_ports.specs.Ports.{format_at, Recent, port}
+use Rattle.opgen_ports.specs.Good.{IsGoodSaturated}
+use Rattle.opgen_design.specs.declared.design.Dir.{Dir}
+use Rattle.opgen_design.specs.declared.design.Dir.TheVariants.{In, Out}
+use Rattle.opgen_design.specs.declared.design.Port.{Port}
+use Rattle.opgen_design.specs.Value.{word_at}
+use Rattle.opgen_net.specs.Flow.{Inputs, input_at}
+use Rattle.opgen_num.specs.Words.{val}
 
 abbrev pub inputs_of : Spec → List PortFormat
 inputs_of spec = operator_inputs spec.op
@@ -41,3 +46,21 @@ IsGood spec inputs outputs = IsGoodBy spec.out_width spec inputs outputs
 
 abbrev pub IsInRange : Spec → (inputs : (port : ℕ) → Recent) → Type 0
 IsInRange spec inputs = IsInRangeOf spec.op inputs
+
+-- a port of an operator as one of a design
+abbrev pub port_of : Dir → PortFormat → Port
+port_of dir p = record { name = p.name; dir = dir; width = p.format.width }
+
+-- the inputs, and then the outputs
+abbrev pub operator_ports : Spec → List Port
+operator_ports spec = map (port_of In) (inputs_of spec) ++ map (port_of Out) (outputs_of spec)
+
+-- A net or a design: its inputs, from cycle 0 on, up to a cycle t. An input before cycle 0 is zero.
+abbrev pub recent_words : List PortFormat → Inputs → (t : ℕ) → (port : ℕ) → Recent
+recent_words ports inputs t port ago =
+    let format = format_at ports port in
+    val (input_at inputs port format.width (pos t -ℤ pos ago)) format
+
+-- and its outputs in one cycle
+abbrev pub output_words : List PortFormat → List (List Bool) → (port : ℕ) → ℤ
+output_words ports words port = val (word_at words port) (format_at ports port)

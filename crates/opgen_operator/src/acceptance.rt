@@ -7,7 +7,7 @@ use crate::operator::Operator;
 use opgen_ports::{most_input, most_signal};
 
 impl Operator {
-    /// Whether a version of specifications accepts the operator, its fields and its widest signal.
+    // Whether a version of specifications accepts the operator, its fields and its widest signal.
     fn is_accepted_in(&self, version: u32) -> bool
         ensures { IsTrue result ↔ IsAcceptedBy version self.now }
     {
@@ -33,7 +33,7 @@ impl Operator {
         !exact || self.inexact().is_none()
     }
 
-    /// Whether the shift is within the limits of the kind.
+    // Whether the shift is within the limits of the kind.
     fn is_fine(&self, version: u32) -> bool
         requires { IsOperator self.now }
         ensures { IsTrue result ↔
@@ -43,7 +43,7 @@ impl Operator {
         self.least_shift() <= shift && shift <= self.most_shift(version)
     }
 
-    /// Whether the widest signal is no wider than a signal may be.
+    // Whether the widest signal is no wider than a signal may be.
     fn is_narrow(&self, version: u32) -> bool
         requires op { IsOperator self.now }
         requires inputs { HasInputsWithin (most_input version) self.now }

@@ -75,7 +75,7 @@ pub(crate) fn are_given_names(name: &str, ports: &[PortFormat]) -> bool
     are_port_names(ports) && are_apart(name, ports)
 }
 
-/// Whether no port has the name, and no two have the same.
+// Whether no port has the name, and no two have the same.
 fn are_apart(name: &str, ports: &[PortFormat]) -> bool
     ensures { IsTrue result ↔ (All (λ p. p.name ≢ name.now) ports.now × AllPairs (λ p q. p.name ≢ q.name) ports.now) }
 {
@@ -93,7 +93,7 @@ fn are_port_names(ports: &[PortFormat]) -> bool
     true
 }
 
-/// Whether no port has the name.
+// Whether no port has the name.
 fn none_has(name: &str, ports: &[PortFormat]) -> bool
     ensures { IsTrue result ↔ All (λ p. p.name ≢ name.now) ports.now }
 {
@@ -105,7 +105,7 @@ fn none_has(name: &str, ports: &[PortFormat]) -> bool
     true
 }
 
-/// Whether no two ports have the same name.
+// Whether no two ports have the same name.
 fn differ(ports: &[PortFormat]) -> bool
     ensures { IsTrue result ↔ AllPairs (λ p q. p.name ≢ q.name) ports.now }
 {

@@ -27,18 +27,17 @@ mod spec;
 pub use given_names::{MAX_PORT_NAME_LEN, is_port_name};
 pub use laws::{entries_are_small, inputs_are_wide, outputs_hold, products_have_width};
 pub use operator::Operator;
-pub use opgen_kinds::Kind;
 pub use opgen_kinds::pair::Pair;
 pub use opgen_kinds::poly::{Ends, Poly};
 pub use opgen_kinds::product::Product;
 pub use opgen_kinds::several::Several;
 pub use opgen_kinds::single::Single;
 pub use opgen_kinds::small_div::SmallDiv;
-pub use opgen_kinds::sop::{Scaled, Sop, Times};
 pub use opgen_kinds::sum::Sum;
 pub use opgen_kinds::taps::Taps;
 pub use opgen_ports::{
-    MAX_SHIFT, MAX_SPEC_NAME_LEN, PortFormat, is_cycle, is_history, is_spec_name, most_input,
+    Kind, MAX_SHIFT, MAX_SPEC_NAME_LEN, PortFormat, is_cycle, is_history, is_spec_name, most_input,
     most_signal, odd_part_count,
 };
+pub use opgen_terms::{Scaled, Sop, Times};
 pub use spec::{Cut, DelayLine, Spec};

@@ -1,25 +1,24 @@
 //! Operators: their kinds, and each question about them.
 ghost use Rattle.std.specs.Prelude.{◌≡◌, ◌↔◌, ℤ, pos, neg_ℤ, ◌≤ℤ◌, ◌<ℤ◌, IfOk, IfSome, IsTrue};
-ghost use Rattle.opgen_kinds.specs.Judged.{IsCycleJudged};
+ghost use Rattle.opgen_ports.specs.Meaning.{IsCycleJudged};
 ghost use Rattle.opgen_operator.specs.GivenNames.{AreGivenNames};
 ghost use Rattle.opgen_operator.specs.Operator.{shift, given_names, HasRoom, operator_inputs, operator_outputs, IsOperator, inexact, need, least_shift, most_shift, kind, meaning, divisor, has_graph, own_mark, IsAccepted, IsInVersion, HasInputsWithin, plain_output, exact_value, has_value};
-ghost use Rattle.opgen_ports.specs.PortNumbers.{recent_numbers, IsHistory, IsCycle};
+ghost use Rattle.opgen_ports.specs.Ports.{recent_numbers, IsHistory, IsCycle};
 ghost use Rattle.opgen_operator.specs.Valid.{AgreesOnExact};
 
 use crate::given_names::are_given_names;
-use opgen_kinds::Kind;
 use opgen_kinds::pair::{Pair, pair_need, pair_shift};
 use opgen_kinds::poly::Poly;
 use opgen_kinds::product::{Product, product_inexact, product_need, product_shift};
 use opgen_kinds::several::Several;
 use opgen_kinds::single::{Single, root_shift};
 use opgen_kinds::small_div::SmallDiv;
-use opgen_kinds::sop::Sop;
 use opgen_kinds::sum::{Sum, first_inexact, most_sum_shift, sum_need, sum_shift};
 use opgen_kinds::taps::Taps;
 use opgen_num::{Format, Ratio};
-use opgen_ports::MAX_SHIFT;
 use opgen_ports::ports::{PortFormat, are_within, is_within};
+use opgen_ports::{Kind, MAX_SHIFT};
+use opgen_terms::Sop;
 use std::alloc::{AllocError, Global};
 
 /// An operator of one of the kinds.

@@ -4,9 +4,8 @@ ghost use Rattle.opgen_num.specs.Formats.{IsWidthOf};
 ghost use Rattle.opgen_operator.specs.GivenNames.{AreGivenNames};
 ghost use Rattle.opgen_operator.specs.Operator.{plain_output, exact_value, given_names};
 ghost use Rattle.opgen_operator.specs.Outputs.{inputs_of, outputs_of, IsGood, IsGoodCut, IsInRange};
-ghost use Rattle.opgen_ports.specs.Ports.{port};
+ghost use Rattle.opgen_ports.specs.Ports.{port, number_of, recent_numbers, output_numbers, IsHistory, IsCycle};
 ghost use Rattle.opgen_ports.specs.SpecName.{is_spec_name};
-ghost use Rattle.opgen_ports.specs.PortNumbers.{number_of, recent_numbers, output_numbers, IsHistory, IsCycle};
 ghost use Rattle.opgen_operator.specs.Valid.{AgreesWith, IsChoice, IsDelayLine, IsValidSpec};
 
 use crate::operator::Operator;
@@ -58,7 +57,7 @@ pub struct Cut {
 }
 
 impl DelayLine {
-    /// Whether the delays are within their ranges.
+    // Whether the delays are within their ranges.
     fn is_ranged(self) -> bool
         ensures { IsTrue result ↔ IsDelayLine self }
     {
@@ -84,14 +83,14 @@ impl Spec {
             && self.is_choice()
     }
 
-    /// Whether the specification and its inputs may have their names.
+    // Whether the specification and its inputs may have their names.
     fn has_names(&self) -> bool
         ensures { IsTrue result ↔ (IsTrue (is_spec_name self.now.name) × AreGivenNames self.now.name (given_names self.now.op)) }
     {
         is_spec_name(self.name.as_str()) && self.op.is_named(self.name.as_str())
     }
 
-    /// Whether the width and the sign of the output may be chosen so.
+    // Whether the width and the sign of the output may be chosen so.
     fn is_choice(&self) -> bool
         ensures { IsTrue result ↔ IsChoice self.now.version self.now.op self.now.out_width self.now.out_signed }
     {
@@ -159,7 +158,7 @@ impl Spec {
         }
     }
 
-    /// Whether an output is good for the exact value, brought into the range of its format.
+    // Whether an output is good for the exact value, brought into the range of its format.
     fn is_good_cut(&self, to: Format, history: &[u128], y: u128) -> bool
         requires valid { IsValidSpec self.now }
         requires to { IsWidthOf to.signed to.width }
@@ -175,7 +174,7 @@ impl Spec {
     }
 }
 
-/// Whether the operator's own mark of exact outputs, if it has one, is that of the specification.
+// Whether the operator's own mark of exact outputs, if it has one, is that of the specification.
 fn agrees(exact: bool, mark: Option<bool>) -> bool
     ensures { IsTrue result ↔ AgreesWith exact mark }
 {

@@ -15,11 +15,8 @@ use Rattle.opgen_kinds.specs.Sum.{sum_format, sum_shift, weighted_value}
 use Rattle.opgen_kinds.specs.Taps.{direct, taps_format}
 use Rattle.opgen_kinds.proofs.of_kind.Taps.{same_format, same_value}
 use Rattle.opgen_ports.specs.declared.reach.Reach.{Reach}
-use Rattle.opgen_ports.specs.PortNumbers.{format_at}
-use Rattle.opgen_ports.specs.Ports.{covering, one_input, port}
-use Rattle.opgen_ports.specs.Reaches.{in_places, reach_of, reach_over, width_of}
-use Rattle.opgen_ports.specs.Recent.{Recent, weighted}
-use Rattle.opgen_ports.specs.Shifts.{down, places_down, up}
+use Rattle.opgen_ports.specs.Ports.{format_at, Recent, weighted, covering, one_input, port}
+use Rattle.opgen_ports.specs.Reaches.{in_places, reach_of, reach_over, width_of, down, places_down, up}
 use Rattle.opgen_ports.specs.Spans.{IsOf}
 use Rattle.opgen_ports.proofs.Covered.{covered, is_below, rounded_within}
 use Rattle.opgen_ports.proofs.Reached.{IsWithinReach, greatest_end, held-within, high_end, highest-within, highest_for, least_end, low_end, lowest, lowest-within, sum_highest, sum_lowest, sum_within, within-held}

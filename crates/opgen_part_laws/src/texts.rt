@@ -3,7 +3,7 @@ ghost use Rattle.std.specs.Prelude.{◌≡◌, ◌⊎◌, ℕ, List, ◌≤◌, 
 ghost use Rattle.opgen_vhdl.specs.declared.kind.Token.{Token};
 ghost use Rattle.opgen_vhdl.specs.Tokens.{Tokens, LexicalAt, IsToken};
 ghost use Rattle.opgen_vhdl.specs.declared.kind.TokenKind.{TokenKind};
-ghost use Rattle.opgen_vhdl.specs.Spans.{InOrder, IsWithin, IsSpelledIn, spelled, spellings_of};
+ghost use Rattle.opgen_vhdl.specs.Symbols.{InOrder, IsWithin, IsSpelledIn, spelled, spellings_of};
 ghost use Rattle.opgen_design.specs.declared.design.Design.{Design};
 ghost use Rattle.opgen_vhdl.specs.Statements.{Reading};
 ghost use Rattle.opgen_vhdl.specs.Spelled.{Statements, Spells, SyntaxAt};
@@ -46,7 +46,8 @@ pub fn one_reading_of_text()
     ensures statements { (bytes : List ℕ) (q r : Reading) → Statements bytes q → Statements bytes r → q ≡ r }
     ensures piece { (bytes : List ℕ) (j k : ℕ) → SyntaxAt bytes j → SyntaxAt bytes k → j ≡ k }
     ensures not_both { (bytes : List ℕ) (r : Reading) (k : ℕ) → Statements bytes r → SyntaxAt bytes k → ⊥ }
-    ensures one_answer { (bytes : List ℕ) → ((r : Reading) × Statements bytes r) ⊎ (((k : ℕ) × SyntaxAt bytes k) ⊎ ((n : ℕ) × LexicalAt bytes n)) }
+    ensures one_answer { (bytes : List ℕ) → ((r : Reading) × Statements bytes r)
+        ⊎ (((k : ℕ) × SyntaxAt bytes k) ⊎ ((n : ℕ) × LexicalAt bytes n)) }
 {}
 
 /// The text of every design that is sound, stands under allowed names, has a port and has the
@@ -66,6 +67,8 @@ pub fn text_lengths()
 /// A text has one cause against it at most, running out of memory aside, and none where it spells a sound
 /// design within the limits. So `read_design` gives each answer exactly where it is due.
 pub fn one_cause()
-    ensures cause { (bytes : List ℕ) (e f : ReadFault) → e ≢ Memory → f ≢ Memory → IsReadFault bytes e → IsReadFault bytes f → e ≡ f }
-    ensures no_cause { (bytes : List ℕ) (d : Design) (e : ReadFault) → Spells bytes d → IsWithinLimits d → IsSound d → IsReadFault bytes e → e ≡ Memory }
+    ensures cause { (bytes : List ℕ) (e f : ReadFault) → e ≢ Memory → f ≢ Memory
+        → IsReadFault bytes e → IsReadFault bytes f → e ≡ f }
+    ensures no_cause { (bytes : List ℕ) (d : Design) (e : ReadFault) → Spells bytes d → IsWithinLimits d → IsSound d
+        → IsReadFault bytes e → e ≡ Memory }
 {}

@@ -4,8 +4,7 @@ use Rattle.std.specs.Prelude.{ℤ, pos, neg_ℤ, ◌+ℤ◌, ◌*ℤ◌}
 use Rattle.std.proofs.Math.Nat.{two-pow-succ}
 use Rattle.std.proofs.lemmas.Bool.{lt-ltb, le-ltb}
 use Rattle.std.proofs.lemmas.Int.{ints}
-use Rattle.opgen_num.specs.Sums.{xor}
-use Rattle.opgen_num.specs.Words.{digit}
+use Rattle.opgen_num.specs.Words.{xor, digit}
 use Rattle.opgen_budget.specs.Sums.{sum_to, sum_over_pairs}
 use Rattle.opgen_budget.proofs.Sums.{sum-same, sum-zero, sum-plus, sum-times, pairs-same, pairs-plus}
 use Rattle.opgen_partial.specs.declared.pairs.Factor.{Factor}

@@ -3,8 +3,7 @@ use Rattle.std.proofs.Common.{◌≡◌, ℕ, zero, suc, ◌+◌, ◌*◌, ◌%�
 use Rattle.std.specs.Prelude.{ℤ, All, nat_lt, slice_index, slice_index_or}
 use Rattle.std.proofs.Math.Nat.{mod-add-mod}
 use Rattle.std.proofs.lemmas.Bool.{ltb-true}
-use Rattle.opgen_num.specs.Sums.{xor}
-use Rattle.opgen_num.specs.Words.{digit}
+use Rattle.opgen_num.specs.Words.{xor, digit}
 use Rattle.opgen_heap.specs.Contents.{Contents}
 use Rattle.opgen_heap.specs.Sum.{bit_under, columns_sum, heap_sum}
 use Rattle.opgen_heap.specs.Adding.{with_bit_at, with_bit}

@@ -7,8 +7,7 @@ use Rattle.std.proofs.lemmas.List.{length-drop, get_or-drop}
 use Rattle.std.proofs.lemmas.Option.{slice_get-get_or}
 use Rattle.opgen_design.specs.declared.expr.Op.TheVariants.{And}
 use Rattle.opgen_design.specs.Tree.{Tree, name, part, inverse, more, none}
-use Rattle.opgen_design.specs.Value.{Scope, cut, combined, value}
-use Rattle.opgen_design.specs.Width.{as_width, joined, width, width_on, in_chain, in_not, nesting}
+use Rattle.opgen_design.specs.Value.{Scope, cut, combined, value, as_width, joined, width, width_on, in_chain, in_not, nesting}
 use Rattle.opgen_net.specs.Valid.{FitsNodes}
 use Rattle.opgen_net.proofs.FlowLaws.{index_within}
 use Rattle.opgen_partial.specs.declared.pairs.Factor.{Factor}

@@ -3,9 +3,7 @@ use Rattle.std.proofs.Common.{◌≡◌, ℕ, zero, suc, ◌+◌, ◌-◌, ◌*�
 use Rattle.std.specs.Prelude.{ℤ, pos, ◌+ℤ◌, ◌-ℤ◌, ◌*ℤ◌, slice_index_or}
 use Rattle.std.proofs.Math.Nat.{two-pow-succ}
 use Rattle.std.proofs.lemmas.Int.{ints}
-use Rattle.opgen_num.specs.Sums.{xor}
-use Rattle.opgen_num.specs.Values.{highest, int}
-use Rattle.opgen_num.specs.Words.{digit, nat}
+use Rattle.opgen_num.specs.Words.{xor, highest, int, digit, nat}
 use Rattle.opgen_num.proofs.Integers.{commuted, product-sum}
 use Rattle.opgen_budget.specs.Sums.{sum_to, sum_over_pairs}
 use Rattle.opgen_budget.proofs.Sums.{sum-same, sum-plus, sum-times}

@@ -1,12 +1,11 @@
 -- What partial products add to a bit heap: the product of the factors, except for the columns that are left out and a constant that
 -- corrects the signs.
 use Rattle.std.specs.Prelude.{◌≡◌, ℕ, ◌≤◌, ◌+◌, ◌*◌, ◌%◌, ◌^◌, ◌&&◌, List, Bool, true, All, if◌then◌else◌, nat_lt, length, slice_index, ℤ, pos, neg_ℤ, ◌+ℤ◌, ◌-ℤ◌, ◌*ℤ◌}
-use Rattle.opgen_num.specs.Values.{int}
-use Rattle.opgen_num.specs.Words.{nat}
+use Rattle.opgen_num.specs.Words.{int, nat}
 use Rattle.opgen_budget.specs.Columns.{weight_below}
 use Rattle.opgen_budget.specs.Sums.{sum_over_pairs}
 use Rattle.opgen_design.specs.Run.{AreWords}
-use Rattle.opgen_design.specs.Width.{IsWidth}
+use Rattle.opgen_design.specs.Value.{IsWidth}
 use Rattle.opgen_heap.specs.Adding.{residue}
 use Rattle.opgen_heap.specs.Standing.{AllThere}
 use Rattle.opgen_heap.specs.Sum.{Words, heap_sum}

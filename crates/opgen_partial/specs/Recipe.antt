@@ -1,7 +1,7 @@
 -- The partial products of two factors in a bit heap (de Dinechin and Kumm, Application-Specific Arithmetic: multiplication, and
 -- truncated multipliers).
 use Rattle.std.specs.Prelude.{ℕ, zero, suc, ◌+◌, ◌-◌, ◌*◌, ◌^◌, ◌&&◌, not, Bool, true, false, if◌then◌else◌, nat_eq, nat_le, nat_lt, length, ℤ, pos, neg_ℤ, ◌+ℤ◌, ◌-ℤ◌}
-use Rattle.opgen_num.specs.Sums.{xor}
+use Rattle.opgen_num.specs.Words.{xor}
 use Rattle.opgen_design.specs.declared.expr.Op.TheVariants.{And}
 use Rattle.opgen_design.specs.Tree.{Tree, name, part, inverse, chain, more, none}
 use Rattle.opgen_net.specs.declared.cell.Class.TheVariants.{Logic}

@@ -1,19 +1,10 @@
 //! The constant that corrects partial products of signed factors, whose bits of negative weight were inverted.
 ghost use Rattle.std.specs.Prelude.{◌≡◌, ◌≤◌, ◌+◌, ◌-◌, ◌*◌, ◌^◌, pos, neg_ℤ, ◌≤ℤ◌};
-ghost use Rattle.opgen_num.specs.declared.TheConstants.{MAX_WIDTH};
+ghost use Rattle.opgen_num.specs.declared.format.TheConstants.{MAX_WIDTH};
 ghost use Rattle.opgen_partial.specs.Recipe.{sign_correction, correction};
 
 use crate::pairs::{Factor, Placing, Products};
-use opgen_num::MAX_WIDTH;
-
-fn power(places: u32) -> i128
-    requires { places ≤ MAX_WIDTH }
-    ensures value { result ≡ pos (2 ^ places) }
-    ensures small { result ≤ℤ pos (2 ^ 96) }
-    ensures some { pos 0 ≤ℤ result }
-{
-    1 << places
-}
+use opgen_num::{MAX_WIDTH, signed_power};
 
 // The greatest number of so many bits.
 fn all_ones(bits: u32) -> i128
@@ -21,7 +12,7 @@ fn all_ones(bits: u32) -> i128
     ensures value { result ≡ pos (2 ^ bits - 1) }
     ensures some { pos 0 ≤ℤ result }
 {
-    power(bits) - 1
+    signed_power(bits) - 1
 }
 
 // The sum of all products of so many bits, where all bits are 1.
@@ -46,9 +37,10 @@ pub fn sign_correction(a: Factor, b: Factor) -> i128
 {
     match (a.signed, b.signed) {
         (false, false) => 0,
-        (true, false) => power(a.width - 1) - power(a.width + b.width - 1),
-        (false, true) => power(b.width - 1) - power(a.width + b.width - 1),
-        (true, true) => power(a.width - 1) + power(b.width - 1) - power(a.width + b.width - 1),
+        (true, false) => signed_power(a.width - 1) - signed_power(a.width + b.width - 1),
+        (false, true) => signed_power(b.width - 1) - signed_power(a.width + b.width - 1),
+        (true, true) => signed_power(a.width - 1) + signed_power(b.width - 1)
+            - signed_power(a.width + b.width - 1),
     }
 }
 

@@ -1,7 +1,7 @@
 //! The partial products of two factors in the columns of a bit heap: one AND of two bits for each pair, inverted if its weight is
 //! negative.
 ghost use Rattle.std.specs.Prelude.{◌≡◌, ◌<◌, ◌≤◌, ◌+◌, ◌*◌, IfOk, OnOk};
-ghost use Rattle.opgen_num.specs.declared.TheConstants.{MAX_WIDTH};
+ghost use Rattle.opgen_num.specs.declared.format.TheConstants.{MAX_WIDTH};
 ghost use Rattle.opgen_design.specs.Plain.{plain};
 ghost use Rattle.opgen_heap.specs.Standing.{AllThere};
 ghost use Rattle.opgen_net.specs.Valid.{IsValid};

@@ -7,6 +7,11 @@ use Rattle.opgen_pipe.specs.Copies.{signals_before}
 use Rattle.opgen_pipe.specs.Pipelined.{all_of}
 use Rattle.opgen_pipe.proofs.Lists.{get-left, get-right}
 
+-- as many before a node, where those before it have as many copies
+pub before-same : (f g : ℕ → ℕ) (n : ℕ) → ((i : ℕ) → i < n → f i ≡ g i) → signals_before f n ≡ signals_before g n
+before-same f g zero h = refl
+before-same f g (suc n) h = omega (arith, before-same f g n (λ i l. h i (omega (arith, l))), h n (omega arith))
+
 module _ (count : ℕ → ℕ) where
   pub before-next : (i : ℕ) → signals_before count (i + 1) ≡ signals_before count i + 1 + count i
   before-next i = let e : i + 1 ≡ suc i = omega arith in ap (signals_before count) e

@@ -18,11 +18,11 @@ use Rattle.opgen_net.proofs.FlowWidths.{are_widths}
 use Rattle.opgen_net.proofs.Standing.{may_stand}
 use Rattle.opgen_design.proofs.WidthLaws.{width-is_width}
 use Rattle.opgen_schedule.specs.Schedule.{Schedule}
-use Rattle.opgen_target.specs.Classes.{is_same}
+use Rattle.opgen_net.specs.Classes.{classes, is_same}
 use Rattle.opgen_target.specs.Delays.{IsTableWidth}
 use Rattle.opgen_target.specs.Ledger.{Ledger, ledger_of, width_in, width_sum}
 use Rattle.opgen_target.proofs.Charging.{ledger_of-whole}
-use Rattle.opgen_pipe.specs.Cells.{classes, cell_of, register_of, node_cells, design_cells}
+use Rattle.opgen_pipe.specs.Cells.{cell_of, register_of, node_cells, design_cells}
 use Rattle.opgen_pipe.specs.Copies.{copies, signals_before, signal_count}
 use Rattle.opgen_pipe.specs.Pipelined.{all_of}
 use Rattle.opgen_pipe.proofs.Blocks.{before-next}

@@ -88,7 +88,7 @@ module _ (net : Net) (s : Schedule) where
       let n = get_or net.nodes j (Delay 0) in
       let h = node_there j l in
       let e = standing-is j n h in
-      let f : Standing → ℕ = λ o. o.signal + (if o.constant then 0 else c - o.cycle) in
+      let f : Standing → ℕ = λ o. o.signal + (if o.constant then 0 else c - o.slot.cycle) in
       let g : Bool → ℕ = λ b. signals_before (copies net s) j + (if b then 0 else c - (s j).cycle) in
       elim (cases_Bool (is_constant n)) [
         | inl t ↦ record {

@@ -8,9 +8,8 @@ use Rattle.opgen_net.specs.declared.net.Net.{Net}
 use Rattle.opgen_design.specs.declared.design.Design.{Design}
 use Rattle.opgen_design.specs.declared.design.Driver.{Driver}
 use Rattle.opgen_design.specs.declared.design.Driver.TheVariants.{Assign, Choice, Table, Register, Output}
-use Rattle.opgen_design.specs.Enabled.{without_enable, marked, ones_at, IsNoRegister, EnabledCyclesAreRuns, AnyCyclesAreRuns}
+use Rattle.opgen_design.specs.Run.{without_enable, marked, ones_at, IsNoRegister, EnabledCyclesAreRuns, AnyCyclesAreRuns, Words, Run}
 use Rattle.opgen_design.specs.Order.{is_register}
-use Rattle.opgen_design.specs.Run.{Words, Run}
 use Rattle.opgen_schedule.specs.Schedule.{Schedule}
 use Rattle.opgen_pipe.specs.Pipelined.{all_of, node_signals, ports_of, drivers_of, enable_of, design_of}
 use Rattle.opgen_pipe.specs.Standings.{standings}

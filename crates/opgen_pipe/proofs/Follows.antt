@@ -15,12 +15,12 @@ use Rattle.opgen_design.specs.declared.design.Design.{Design}
 use Rattle.opgen_design.specs.declared.design.Driver.{Driver}
 use Rattle.opgen_design.specs.declared.design.Driver.TheVariants as driver
 use Rattle.opgen_design.specs.Tree.{Tree}
-use Rattle.opgen_design.specs.Reads.{AllReads}
+use Rattle.opgen_design.specs.Sound.{AllReads}
 use Rattle.opgen_design.specs.Value.{Scope, word_at, chosen}
 use Rattle.opgen_net.specs.Flow.{Inputs, before, input_from, flow, slice_flow, stream_of, streams_on}
 use Rattle.opgen_net.specs.Valid.{widths, MayStand, IsValid}
 use Rattle.opgen_net.specs.Valid as valid_net
-use Rattle.opgen_design.specs.Run.{Words, scope, Meets, Cycle, RunsOn, Run, initial_words, words_at_outputs}
+use Rattle.opgen_design.specs.Run.{Words, scope, Meets, Cycle, RunsOn, Run, initial_words, words_at_outputs, without_enable, enable_inputs, data_inputs}
 use Rattle.opgen_design.proofs.UseLaws.{reads-lists, lists-reads}
 use Rattle.opgen_design.proofs.ReadLaws.{reads-weaker}
 use Rattle.opgen_design.proofs.WidthLaws.{width-reads}
@@ -30,14 +30,12 @@ use Rattle.opgen_net.proofs.InputLaws.{input-width, width-at}
 use Rattle.opgen_net.proofs.Standing.{may_stand}
 use Rattle.opgen_schedule.specs.Reads.{reads_of, is_constant, is_some_constant, is_constant_at}
 use Rattle.opgen_schedule.specs.Schedule.{Schedule, Fits}
-use Rattle.opgen_pipe.specs.Counted.{enable_inputs, data_inputs}
 use Rattle.opgen_pipe.specs.declared.standing.Standing.{Standing}
 use Rattle.opgen_pipe.specs.Times.{ago}
 use Rattle.opgen_pipe.specs.Copies.{copies, net_latency, signals_before, signal_of}
 use Rattle.opgen_pipe.specs.Standings.{standing_of, standings, standing_at}
 use Rattle.opgen_pipe.specs.Reading.{read_in, slice_in}
 use Rattle.opgen_pipe.specs.Pipelined.{zero_word, all_of, own_signal, copy_signal, node_signals, own_driver, copy_register, ports_of, drivers_of, design_of}
-use Rattle.opgen_design.specs.Enabled.{without_enable}
 use Rattle.opgen_pipe.specs.Laws.{FollowsFlow}
 use Rattle.opgen_pipe.proofs.Lists.{get-mapped}
 use Rattle.opgen_pipe.proofs.Copied.{standing-is, node_there, ReadIn, copy_of_read, reads_in, output_reads_in}

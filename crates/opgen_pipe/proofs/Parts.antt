@@ -18,7 +18,7 @@ use Rattle.opgen_design.specs.declared.design.Port.{Port}
 use Rattle.opgen_design.specs.declared.design.Signal.{Signal}
 use Rattle.opgen_design.specs.Order.{is_register}
 use Rattle.opgen_schedule.specs.Schedule.{Schedule}
-use Rattle.opgen_pipe.specs.Counted.{enable_inputs}
+use Rattle.opgen_design.specs.Run.{enable_inputs}
 use Rattle.opgen_pipe.specs.declared.standing.Standing.{Standing}
 use Rattle.opgen_pipe.specs.Copies.{copies, net_latency, signal_of, signal_count}
 use Rattle.opgen_pipe.specs.Standings.{standing_of, standings, standing_at}

@@ -9,7 +9,7 @@ use Rattle.opgen_design.specs.declared.design.Driver.TheVariants as driver
 use Rattle.opgen_design.specs.declared.expr.Op.{Op}
 use Rattle.opgen_design.specs.Order.{is_register}
 use Rattle.opgen_design.specs.Tree.{Tree, Trees, name, part, bits, port, inverse, chain, none, more}
-use Rattle.opgen_design.specs.Width.{joined, width, width_on, in_chain, in_not, nesting, operands_nesting}
+use Rattle.opgen_design.specs.Value.{joined, width, width_on, in_chain, in_not, nesting, operands_nesting}
 use Rattle.opgen_design.proofs.WidthLaws.{some_before}
 use Rattle.opgen_net.specs.declared.net.Output as net_output
 use Rattle.opgen_net.specs.declared.node.Node.{Node}
@@ -18,7 +18,7 @@ use Rattle.opgen_net.specs.Valid.{widths, MayStand}
 use Rattle.opgen_net.proofs.Standing.{may_stand}
 use Rattle.opgen_vhdl.specs.DesignText.{is_output, is_neither}
 use Rattle.opgen_vhdl.specs.Shaped.{AreTwoOrMore, HasFullChains, HaveFullChains, IsShapedExpression, IsShapedDriver}
-use Rattle.opgen_pipe.specs.Counted.{enable_inputs}
+use Rattle.opgen_design.specs.Run.{enable_inputs}
 use Rattle.opgen_pipe.specs.declared.standing.Standing.{Standing}
 use Rattle.opgen_pipe.specs.Copies.{net_latency}
 use Rattle.opgen_pipe.specs.Laws.{DesignIsShaped}
@@ -113,10 +113,10 @@ own_shaped : (ws : List ℕ) (first : ℕ) (ps : List Standing) (o : Standing) (
     → IsShapedDriver (own_driver first ps o n)
 own_shaped ws first ps o (Input place w) h = record { chains = tt; nests = omega arith }
 own_shaped ws first ps o (Constant w) h = record { chains = tt; nests = omega arith }
-own_shaped ws first ps o (Cells class w e) h = tree-shaped ps o.cycle e
+own_shaped ws first ps o (Cells class w e) h = tree-shaped ps o.slot.cycle e
     (record { chains = full_chains ws [] e w h.1.has_width; nests = h.1.nests })
 own_shaped ws first ps o (Choice on one other) h =
-    (tt, part-shaped ps o.cycle one.node one.high one.low, part-shaped ps o.cycle other.node other.high other.low)
+    (tt, part-shaped ps o.slot.cycle one.node one.high one.low, part-shaped ps o.slot.cycle other.node other.high other.low)
 own_shaped ws first ps o (Table address rows) h = tt
 own_shaped ws first ps o (Delay of) h = record { chains = tt; nests = omega arith }
 

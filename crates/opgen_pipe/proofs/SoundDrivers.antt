@@ -16,19 +16,18 @@ use Rattle.opgen_design.specs.declared.design.Design.{Design}
 use Rattle.opgen_design.specs.declared.design.Dir.TheVariants.{In, Out}
 use Rattle.opgen_design.specs.declared.design.Driver.{Driver}
 use Rattle.opgen_design.specs.declared.design.Driver.TheVariants as driver
-use Rattle.opgen_design.specs.Reads.{AllReads}
+use Rattle.opgen_design.specs.Sound.{AllReads, Names, target, DriverReads, Needs, IsEnableDeclared, IsDeclared, IsInput, IsDriven, IsOrdered, ReadsInputs, IsRegisterOf, HasInitial, AddressesDiffer, IsFitForEnable, Holds}
 use Rattle.opgen_net.specs.Valid.{widths, IsValid}
 use Rattle.opgen_net.specs.Made.{addressed, output_port}
 use Rattle.opgen_design.specs.Order.{is_register}
 use Rattle.opgen_design.specs.declared.design.Target.TheVariants.{Signal as signal, Port as port_of}
 use Rattle.opgen_design.specs.declared.sound.Rule.TheVariants.{Undeclared, DrivenTwice, NotDriven, ReadsOutput, NoInitial, ChoiceTwice, BadEnable}
-use Rattle.opgen_design.specs.Sound.{Names, target, DriverReads, Needs, IsEnableDeclared, IsDeclared, IsInput, IsDriven, IsOrdered, ReadsInputs, IsRegisterOf, HasInitial, AddressesDiffer, IsFitForEnable, Holds}
 use Rattle.opgen_design.proofs.ReadLaws.{reads-weaker, holds_of_read}
 use Rattle.opgen_net.proofs.InputLaws.{input-width}
 use Rattle.opgen_net.proofs.Standing.{may_stand}
 use Rattle.opgen_schedule.specs.Reads.{reads_of}
 use Rattle.opgen_schedule.specs.Schedule.{Schedule, Fits}
-use Rattle.opgen_pipe.specs.Counted.{enable_inputs}
+use Rattle.opgen_design.specs.Run.{enable_inputs}
 use Rattle.opgen_pipe.specs.declared.standing.Standing.{Standing}
 use Rattle.opgen_pipe.specs.Copies.{copies, net_latency, signals_before, signal_of}
 use Rattle.opgen_pipe.specs.Standings.{standing_of, standings, standing_at}

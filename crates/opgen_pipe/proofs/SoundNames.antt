@@ -19,7 +19,7 @@ use Rattle.opgen_net.specs.Made.{signal_name, input_port, output_port}
 use Rattle.opgen_design.specs.declared.sound.Rule.TheVariants.{DeclaredTwice}
 use Rattle.opgen_design.specs.Sound.{names_of, IsNewName, Holds}
 use Rattle.opgen_schedule.specs.Schedule.{Schedule}
-use Rattle.opgen_pipe.specs.Counted.{enable_inputs}
+use Rattle.opgen_design.specs.Run.{enable_inputs}
 use Rattle.opgen_pipe.specs.Copies.{copies, signal_of, signal_count}
 use Rattle.opgen_pipe.specs.Standings.{standing_of, standings}
 use Rattle.opgen_pipe.specs.Pipelined.{zero_word, all_of, own_signal, copy_signal, copy_name, node_signals, ports_of, design_of}

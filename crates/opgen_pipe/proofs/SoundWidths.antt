@@ -14,8 +14,8 @@ use Rattle.opgen_net.specs.declared.net.Output as net_output
 use Rattle.opgen_design.specs.declared.design.Design.{Design}
 use Rattle.opgen_design.specs.declared.design.Driver.TheVariants.{Output}
 use Rattle.opgen_design.specs.Tree.{Tree, name, part}
-use Rattle.opgen_design.specs.Width.{IsWidth, as_width, width}
-use Rattle.opgen_design.specs.Run.{AreWords}
+use Rattle.opgen_design.specs.Value.{IsWidth, as_width, width}
+use Rattle.opgen_design.specs.Run.{AreWords, enable_inputs}
 use Rattle.opgen_net.specs.Flow.{flow}
 use Rattle.opgen_net.specs.Valid as valid_net
 use Rattle.opgen_net.specs.Valid.{widths, slice_width, node_width, LiesWithin, IsValid}
@@ -29,7 +29,6 @@ use Rattle.opgen_net.proofs.FlowWidths.{are_widths, slice-is_width, flow-width}
 use Rattle.opgen_net.proofs.Standing.{may_stand, width_at}
 use Rattle.opgen_schedule.specs.Reads.{reads_of}
 use Rattle.opgen_schedule.specs.Schedule.{Schedule, Fits}
-use Rattle.opgen_pipe.specs.Counted.{enable_inputs}
 use Rattle.opgen_pipe.specs.declared.standing.Standing.{Standing}
 use Rattle.opgen_pipe.specs.Copies.{copies, net_latency, signals_before}
 use Rattle.opgen_pipe.specs.Standings.{standing_of, standings, standing_at}

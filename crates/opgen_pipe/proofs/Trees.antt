@@ -5,9 +5,8 @@ use Rattle.std.proofs.lemmas.Bool.{cond_both, and_parts, eqb-true}
 use Rattle.std.proofs.lemmas.List.{take_all}
 use Rattle.opgen_design.specs.declared.expr.Op.{Op}
 use Rattle.opgen_design.specs.Tree.{Tree, Trees, name, part, bits, port, inverse, chain, none, more}
-use Rattle.opgen_design.specs.Value.{Scope, cut, combined, value, chain_value, value_on}
-use Rattle.opgen_design.specs.Width.{as_width, joined, width, chain_width, width_on}
-use Rattle.opgen_design.specs.Reads.{AllReads, AllOperandsRead}
+use Rattle.opgen_design.specs.Value.{Scope, cut, combined, value, chain_value, value_on, as_width, joined, width, chain_width, width_on}
+use Rattle.opgen_design.specs.Sound.{AllReads, AllOperandsRead}
 use Rattle.opgen_design.proofs.WidthLaws.{as_width-of, some_before, part_fits}
 use Rattle.opgen_pipe.specs.declared.standing.Standing.{Standing}
 use Rattle.opgen_pipe.specs.Standings.{standing_at}

@@ -16,7 +16,7 @@ use Rattle.opgen_net.specs.declared.net.Net.{Net}
 use Rattle.opgen_net.specs.Made.{signal_name}
 use Rattle.opgen_net.specs.Named.{port_names, IsNamed}
 use Rattle.opgen_schedule.specs.Schedule.{Schedule}
-use Rattle.opgen_pipe.specs.Counted.{enable_inputs}
+use Rattle.opgen_design.specs.Run.{enable_inputs}
 use Rattle.opgen_pipe.specs.Copies.{copies, signal_count}
 use Rattle.opgen_pipe.specs.Laws.{DesignIsWritable}
 use Rattle.opgen_pipe.specs.Pipelined.{all_of, node_signals, copy_name, ports_of}

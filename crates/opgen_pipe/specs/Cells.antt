@@ -1,7 +1,6 @@
 -- The cells of a net's nodes, and their delays.
-use Rattle.std.specs.Prelude.{ℕ, ◌+◌, List, [], ◌∷◌, ◌++◌, map, replicate, slice_index, Option, Some, None, option_to_list}
+use Rattle.std.specs.Prelude.{ℕ, ◌+◌, List, ◌++◌, map, replicate, slice_index, Option, Some, None, option_to_list}
 use Rattle.opgen_net.specs.declared.cell.Cell.{Cell}
-use Rattle.opgen_net.specs.declared.cell.Class.{Class}
 use Rattle.opgen_net.specs.declared.cell.Class.TheVariants as class
 use Rattle.opgen_net.specs.declared.net.Net.{Net}
 use Rattle.opgen_net.specs.declared.node.Node.{Node}
@@ -11,10 +10,6 @@ use Rattle.opgen_schedule.specs.Schedule.{Schedule, greatest}
 use Rattle.opgen_target.specs.Delays.{Delays, setup}
 use Rattle.opgen_pipe.specs.Copies.{copies}
 use Rattle.opgen_pipe.specs.Pipelined.{all_of}
-
--- the classes in their order
-abbrev pub classes : List Class
-classes = class.Wire ∷ class.Logic ∷ class.Add ∷ class.Choice ∷ class.Table ∷ class.Register ∷ []
 
 -- a register of so many bits
 abbrev pub register_of : ℕ → Cell

@@ -18,7 +18,7 @@ pub record AreSlots (net : Net) (slots : List Slot) : Type 0 where
 
 -- cycles and signals of 32 bits
 abbrev pub IsSmall : Standing → Type 0
-IsSmall p = (p.cycle ≤ 2 ^ 32) × (p.signal + 1 + p.copies ≤ 2 ^ 32)
+IsSmall p = (p.slot.cycle ≤ 2 ^ 32) × (p.signal + 1 + p.copies ≤ 2 ^ 32)
 
 abbrev pub AreSmall : List Standing → Type 0
 AreSmall ps = All IsSmall ps

@@ -1,6 +1,6 @@
 -- Laws of the design of every valid net at every schedule that fits a period.
 use Rattle.std.specs.Prelude.{ℕ, ◌≡◌, ◌^◌, ◌<◌, ◌≤◌, ◌+◌, Bool, List, length, map, slice_get, Some, All}
-use Rattle.opgen_design.specs.Run.{AreWords, Words, Run, words_at_outputs, input_widths}
+use Rattle.opgen_design.specs.Run.{AreWords, Words, Run, words_at_outputs, input_widths, counted, data_inputs}
 use Rattle.opgen_design.specs.Sound.{IsSound}
 use Rattle.opgen_design.specs.Value.{word_at}
 use Rattle.opgen_net.specs.declared.net.Net.{Net}
@@ -11,7 +11,6 @@ use Rattle.opgen_net.specs.Valid.{IsValid}
 use Rattle.opgen_schedule.specs.Schedule.{Schedule, Fits}
 use Rattle.opgen_vhdl.specs.Shaped.{IsShaped, IsWritable}
 use Rattle.opgen_pipe.specs.Copies.{copies, net_latency, signal_count, signal_of}
-use Rattle.opgen_pipe.specs.Counted.{counted, data_inputs}
 use Rattle.opgen_pipe.specs.Pipelined.{design_of}
 use Rattle.opgen_pipe.specs.Times.{ago}
 

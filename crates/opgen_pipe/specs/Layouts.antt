@@ -1,8 +1,7 @@
--- Layouts: what the design of a net at a schedule needs of each node.
-use Rattle.std.specs.Prelude.{ℕ, ◌≡◌, ◌-◌, ◌≤◌, All, Result, Ok, Err, length}
+-- Layouts: what the design of a net at a schedule needs.
+use Rattle.std.specs.Prelude.{ℕ, ◌≡◌, ◌-◌, ◌≤◌, Result, Ok, Err, length}
 use Rattle.opgen_design.specs.declared.design.TheConstants.{MAX_SIGNALS}
 use Rattle.opgen_net.specs.declared.net.Net.{Net}
-use Rattle.opgen_net.specs.Valid.{widths}
 use Rattle.opgen_schedule.specs.Schedule.{Schedule, greatest_time}
 use Rattle.opgen_schedule.specs.Stage.{slot_at}
 use Rattle.opgen_target.specs.Delays.{Delays, setup}
@@ -10,24 +9,22 @@ use Rattle.opgen_pipe.specs.declared.layout.Layout.{Layout}
 use Rattle.opgen_pipe.specs.declared.planning.PlanFault.{PlanFault}
 use Rattle.opgen_pipe.specs.Cells.{need}
 use Rattle.opgen_pipe.specs.Copies.{net_latency, signal_count}
-use Rattle.opgen_pipe.specs.Counts.{AreCopies}
 use Rattle.opgen_pipe.specs.Planned.{IsCause, slots_of}
+use Rattle.opgen_pipe.specs.Standings.{standings, standing_at}
 
 -- the schedule of a layout
 abbrev pub schedule_of : Layout → Schedule
-schedule_of l = slot_at l.slots.items
+schedule_of l i = (standing_at l.standings.items i).slot
 
--- a layout of a net: the width, the slot and the copies of each node, in cycles that are at most as many as the nodes, and the latency
+-- a layout of a net: where each node stands, in a cycle that is at most the number of nodes, and the latency
 pub record IsLayout (net : Net) (l : Layout) : Type 0 where
-  pub widths : l.widths.items ≡ widths net.nodes
-  pub one_each : length l.slots.items ≡ length net.nodes
-  pub early : All (λ p. p.cycle ≤ length net.nodes) l.slots.items
-  pub copies : AreCopies net l.slots.items l.copies.items
+  pub standings : l.standings.items ≡ standings net (schedule_of l)
+  pub early : (i : ℕ) → (schedule_of l i).cycle ≤ length net.nodes
   pub latency : l.latency ≡ net_latency net (schedule_of l)
 
--- its slots are those of one pass under a table of delays, and its slack is what the longest cycle leaves of the period
+-- its schedule is that of one pass under a table of delays, and its slack is what the longest cycle leaves of the period
 pub record IsScheduledFor (net : Net) (table : Delays) (period : ℕ) (l : Layout) : Type 0 where
-  pub slots : l.slots.items ≡ slots_of table period net
+  pub schedule : schedule_of l ≡ slot_at (slots_of table period net)
   pub slack : l.slack ≡ period - setup table - greatest_time (slots_of table period net)
 
 -- a layout where the period is long enough and the signals are few enough, and else why there is none

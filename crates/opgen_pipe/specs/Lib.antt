@@ -4,7 +4,6 @@ pub mod Times
 pub mod Copies
 pub mod Standings
 pub mod Reading
-pub mod Counted
 pub mod Pipelined
 pub mod Laws
 pub mod Zeros

@@ -17,7 +17,7 @@ use Rattle.opgen_net.specs.Made.{signal_name, addressed, last_row, input_port, o
 use Rattle.opgen_schedule.specs.Schedule.{Schedule}
 use Rattle.opgen_pipe.specs.declared.standing.Standing.{Standing}
 use Rattle.opgen_pipe.specs.Copies.{net_latency}
-use Rattle.opgen_pipe.specs.Counted.{enable_inputs}
+use Rattle.opgen_design.specs.Run.{enable_inputs}
 use Rattle.opgen_pipe.specs.Standings.{standings, standing_at}
 use Rattle.opgen_pipe.specs.Reading.{read_in, slice_in, tree_in}
 
@@ -55,12 +55,12 @@ node_signals net ps i n =
 abbrev pub own_driver : (first : ℕ) → List Standing → Standing → Node → Driver
 own_driver first ps o (node.Input place w) = Assign o.signal (port (first + place))
 own_driver first ps o (node.Constant w) = Assign o.signal (bits w)
-own_driver first ps o (node.Cells class w e) = Assign o.signal (tree_in ps o.cycle e)
+own_driver first ps o (node.Cells class w e) = Assign o.signal (tree_in ps o.slot.cycle e)
 own_driver first ps o (node.Choice on one other) =
-    Choice o.signal (name (read_in ps o.cycle on)) (slice_in ps o.cycle one) (slice_in ps o.cycle other)
+    Choice o.signal (name (read_in ps o.slot.cycle on)) (slice_in ps o.slot.cycle one) (slice_in ps o.slot.cycle other)
 own_driver first ps o (node.Table address rows) =
-    Table o.signal (name (read_in ps o.cycle address)) (addressed (standing_at ps address).width 0 rows) (last_row rows)
-own_driver first ps o (node.Delay of) = Register o.signal (name (read_in ps o.cycle of))
+    Table o.signal (name (read_in ps o.slot.cycle address)) (addressed (standing_at ps address).width 0 rows) (last_row rows)
+own_driver first ps o (node.Delay of) = Register o.signal (name (read_in ps o.slot.cycle of))
 
 -- a copy has what the copy before it had one cycle before
 abbrev pub copy_register : Standing → (copy : ℕ) → Driver

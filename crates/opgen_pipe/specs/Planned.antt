@@ -2,6 +2,7 @@
 use Rattle.std.specs.Prelude.{ℕ, ◌≡◌, ◌-◌, ◌<◌, ◌≤◌, Bool, List, map, Result, Ok, Err}
 use Rattle.opgen_design.specs.declared.design.TheConstants.{MAX_SIGNALS}
 use Rattle.opgen_net.specs.declared.net.Net.{Net}
+use Rattle.opgen_net.specs.Classes.{classes}
 use Rattle.opgen_schedule.specs.declared.slot.Slot.{Slot}
 use Rattle.opgen_schedule.specs.Schedule.{greatest_time}
 use Rattle.opgen_schedule.specs.Stage.{slot_at, stage}
@@ -10,7 +11,7 @@ use Rattle.opgen_target.specs.Ledger.{width_sum}
 use Rattle.opgen_pipe.specs.declared.planning.Planned.{Planned}
 use Rattle.opgen_pipe.specs.declared.planning.PlanFault.{PlanFault}
 use Rattle.opgen_pipe.specs.declared.planning.PlanFault.TheVariants.{PeriodTooShort, TooLarge, Memory}
-use Rattle.opgen_pipe.specs.Cells.{classes, net_delays, need, design_cells}
+use Rattle.opgen_pipe.specs.Cells.{net_delays, need, design_cells}
 use Rattle.opgen_pipe.specs.Copies.{net_latency, signal_count}
 use Rattle.opgen_pipe.specs.Pipelined.{design_of}
 

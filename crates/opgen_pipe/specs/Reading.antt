@@ -7,7 +7,7 @@ use Rattle.opgen_pipe.specs.Standings.{standing_at}
 
 -- the signal of a node that is read in a cycle: that of the copy of this distance, and of a constant its own
 abbrev pub read_in : List Standing → (cycle node : ℕ) → ℕ
-read_in ps c n = (standing_at ps n).signal + (if (standing_at ps n).constant then 0 else c - (standing_at ps n).cycle)
+read_in ps c n = (standing_at ps n).signal + (if (standing_at ps n).constant then 0 else c - (standing_at ps n).slot.cycle)
 
 -- a part that is a whole node is read by name
 abbrev pub part_in : List Standing → (cycle node high low : ℕ) → Tree

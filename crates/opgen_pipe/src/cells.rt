@@ -2,23 +2,21 @@
 ghost use Rattle.std.specs.Prelude.{◌≡◌, ◌≤◌, ◌++◌, [], All, map, replicate, option_to_list, IfOk, OnOk, IfSome};
 ghost use Rattle.opgen_design.specs.declared.design.TheConstants.{MAX_SIGNALS};
 ghost use Rattle.opgen_net.specs.Valid.{IsValid, MayStand, widths as widths_of};
+ghost use Rattle.opgen_net.specs.Classes.{classes};
 ghost use Rattle.opgen_net.specs.declared.cell.Class.{Class};
 ghost use Rattle.opgen_target.specs.Delays.{IsTableWidth, setup};
 ghost use Rattle.opgen_target.specs.Ledger.{ledger_of, width_sum, with_cell};
-ghost use Rattle.opgen_schedule.specs.Stage.{slot_at};
-ghost use Rattle.opgen_pipe.specs.Cells.{cell_of, classes, design_cells, net_delays, node_delay, register_of};
+ghost use Rattle.opgen_pipe.specs.Cells.{cell_of, design_cells, net_delays, node_delay, register_of};
 ghost use Rattle.opgen_pipe.specs.Copies.{signal_count};
-ghost use Rattle.opgen_pipe.specs.Counts.{AreCopies};
 ghost use Rattle.opgen_pipe.specs.Layouts.{IsLayout, schedule_of};
 
 use crate::layout::Layout;
 use crate::widths::slice_width;
 use opgen_net::{Cell, Class, Net, Node};
-use opgen_schedule::Slot;
 use opgen_target::Target;
 use std::alloc::{AllocError, Global};
 
-/// The cell of a node, over the widths of the nodes. Inputs and constants have none.
+// The cell of a node, over the widths of the nodes. Inputs and constants have none.
 fn cell_of(widths: &[u32], node: &Node) -> Option<Cell>
     requires widths { All IsTableWidth widths.now }
     requires stands { MayStand widths.now node.now }
@@ -35,7 +33,7 @@ fn cell_of(widths: &[u32], node: &Node) -> Option<Cell>
     Some(Cell { class, width })
 }
 
-/// How long after its operands a node has its word, in picoseconds.
+// How long after its operands a node has its word, in picoseconds.
 fn node_delay(widths: &[u32], target: &Box<dyn Target>, node: &Node) -> u32
     requires widths { All IsTableWidth widths.now }
     requires stands { MayStand widths.now node.now }
@@ -79,7 +77,7 @@ pub(crate) fn net_delays(
     Ok(delays)
 }
 
-/// Appends a register of a width for each copy of a node.
+// Appends a register of a width for each copy of a node.
 fn push_registers(cells: &mut Vec<Cell>, copies: usize, width: u32) -> Result<(), AllocError>
     ensures { OnOk result (cells.new.items ≡ cells.old.items ++ replicate copies (register_of width)) }
 {
@@ -92,7 +90,7 @@ fn push_registers(cells: &mut Vec<Cell>, copies: usize, width: u32) -> Result<()
     Ok(())
 }
 
-/// Appends the cells of a node: its own, and a register for each copy.
+// Appends the cells of a node: its own, and a register for each copy.
 fn push_cells(
     cells: &mut Vec<Cell>,
     own: Option<Cell>,
@@ -110,33 +108,29 @@ fn push_cells(
     }
 }
 
-/// The cells of a net's design.
+// The cells of a net's design.
 fn design_cells(
     alloc: Global,
     net: &Net,
     widths: &[u32],
-    slots: &[Slot],
-    copies: &[usize],
+    layout: &Layout,
 ) -> Result<Vec<Cell>, AllocError>
     requires valid { IsValid net.now }
     requires widths { widths.now ≡ widths_of net.now.nodes }
-    requires copies { AreCopies net.now slots.now copies.now }
-    ensures { IfOk result (λ v. v.items ≡ design_cells net.now (slot_at slots.now)) }
+    requires layout { IsLayout net.now layout.now }
+    ensures { IfOk result (λ v. v.items ≡ design_cells net.now (schedule_of layout.now)) }
 {
     let nodes = net.nodes.as_slice();
+    let standings = layout.standings.as_slice();
     let mut cells = Vec::new(alloc);
     'nodes: for (place, node) in nodes.iter().enumerate() {
-        push_cells(
-            &mut cells,
-            cell_of(widths, node),
-            copies[place],
-            widths[place],
-        )?;
+        let own = standings[place];
+        push_cells(&mut cells, cell_of(widths, node), own.copies, own.width)?;
     }
     Ok(cells)
 }
 
-/// Adds a cell to the ledger of a target.
+// Adds a cell to the ledger of a target.
 fn charge(target: &mut Box<dyn Target>, cell: Cell)
     requires { IsTableWidth cell.width }
     ensures ledger { ledger target.new ≡ with_cell cell (ledger target.old) }
@@ -147,7 +141,7 @@ fn charge(target: &mut Box<dyn Target>, cell: Cell)
     target.charge(cell);
 }
 
-/// Charges these cells, and no others, to the ledger of a target.
+// Charges these cells, and no others, to the ledger of a target.
 fn charge_all(target: &mut Box<dyn Target>, cells: &[Cell])
     requires { All (λ c. IsTableWidth c.width) cells.now }
     ensures ledger { ledger target.new ≡ ledger_of cells.now }
@@ -161,35 +155,34 @@ fn charge_all(target: &mut Box<dyn Target>, cells: &[Cell])
     }
 }
 
-/// The number of a class in the ledger of a target.
+// The number of a class in the ledger of a target.
 fn charged(target: &Box<dyn Target>, class: Class) -> u64
     ensures { result ≡ ledger target.now class }
 {
     target.charged(class)
 }
 
-/// The number of each class in the ledger.
+// The number of each class in the ledger.
 fn ledger(target: &Box<dyn Target>) -> [u64; 6]
     ensures { result ≡ map (ledger target.now) classes }
 {
-    [
-        charged(target, Class::Wire),
-        charged(target, Class::Logic),
-        charged(target, Class::Add),
-        charged(target, Class::Choice),
-        charged(target, Class::Table),
-        charged(target, Class::Register),
-    ]
+    let mut numbers = [0; 6];
+    'classes: for (place, class) in Class::ALL.iter().enumerate() {
+        numbers[place] = charged(target, *class);
+    }
+    numbers
 }
 
 /// Charges the cells of a net's design, and no others, to the ledger of a target. Returns the number of each class.
 pub(crate) fn charge_design(
     alloc: Global,
     net: &Net,
+    widths: &[u32],
     layout: &Layout,
     target: &mut Box<dyn Target>,
 ) -> Result<[u64; 6], AllocError>
     requires valid { IsValid net.now }
+    requires widths { widths.now ≡ widths_of net.now.nodes }
     requires layout { IsLayout net.now layout.now }
     requires few { signal_count net.now (schedule_of layout.now) ≤ MAX_SIGNALS }
     ensures cells { IfOk result (λ cells. cells ≡ map (width_sum (design_cells net.now (schedule_of layout.now))) classes) }
@@ -198,7 +191,7 @@ pub(crate) fn charge_design(
     ensures delays { delays target.new ≡ delays target.old }
     ensures adjustable { adjustable target.new ≡ adjustable target.old }
 {
-    let cells = design_cells(alloc, net, &layout.widths, &layout.slots, &layout.copies)?;
+    let cells = design_cells(alloc, net, widths, layout)?;
     charge_all(target, &cells);
     Ok(ledger(target))
 }

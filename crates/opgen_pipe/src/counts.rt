@@ -3,16 +3,14 @@ ghost use Rattle.std.specs.Prelude.{◌≡◌, ◌<◌, ◌-◌, ℕ, All, false
 ghost use Rattle.opgen_net.specs.Valid.{IsValid};
 ghost use Rattle.opgen_schedule.specs.Reads.{is_constant_at};
 ghost use Rattle.opgen_schedule.specs.Stage.{slot_at};
-ghost use Rattle.opgen_pipe.specs.Copies.{copy_read, net_latency, signal_count as signal_count_of};
+ghost use Rattle.opgen_pipe.specs.Copies.{copy_read, net_latency, signals_before};
 ghost use Rattle.opgen_pipe.specs.Counts.{AreCopies};
-ghost use Rattle.opgen_pipe.specs.Layouts.{IsLayout, schedule_of};
 
-use crate::layout::Layout;
 use opgen_net::{Net, Node, Output};
 use opgen_schedule::{Slot, is_constant, reads_of};
 use std::alloc::{AllocError, Global};
 
-/// Raises the number of copies of a node that is read in a cycle.
+// Raises the number of copies of a node that is read in a cycle.
 fn raise(nodes: &[Node], slots: &[Slot], cycle: usize, read: usize, counts: &mut [usize])
     requires there { read < length nodes.now }
     requires slots { length slots.now ≡ length nodes.now }
@@ -29,7 +27,7 @@ fn raise(nodes: &[Node], slots: &[Slot], cycle: usize, read: usize, counts: &mut
     }
 }
 
-/// Raises the numbers of copies of all nodes that are read in a cycle.
+// Raises the numbers of copies of all nodes that are read in a cycle.
 fn raise_all(nodes: &[Node], slots: &[Slot], cycle: usize, reads: &[usize], counts: &mut [usize])
     requires there { All (λ j. j < length nodes.now) reads.now }
     requires slots { length slots.now ≡ length nodes.now }
@@ -43,7 +41,7 @@ fn raise_all(nodes: &[Node], slots: &[Slot], cycle: usize, reads: &[usize], coun
     }
 }
 
-/// The nodes that the outputs read.
+// The nodes that the outputs read.
 fn output_nodes(alloc: Global, outputs: &[Output]) -> Result<Vec<usize>, AllocError>
     ensures { IfOk result (λ v. v.items ≡ map (λ o. o.from.node) outputs.now) }
 {
@@ -77,12 +75,11 @@ pub(crate) fn copies(
     Ok(counts)
 }
 
-/// The number of signals of a net's design: one for each node and copy, or the greatest number where there are more.
-pub(crate) fn signal_count(net: &Net, layout: &Layout) -> usize
-    requires { IsLayout net.now layout.now }
-    ensures { result ≡ min (signal_count_of net.now (schedule_of layout.now)) 18446744073709551615 }
+/// The number of signals of nodes with these numbers of copies: one for each node and copy, or the greatest number where there are
+/// more.
+pub(crate) fn signal_count(copies: &[usize]) -> usize
+    ensures { result ≡ min (signals_before (slice_index copies.now) (length copies.now)) 18446744073709551615 }
 {
-    let copies = layout.copies.as_slice();
     let mut count: usize = 0;
     'nodes: for own in copies {
         count = count.saturating_add(1).saturating_add(*own);

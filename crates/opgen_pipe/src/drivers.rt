@@ -15,7 +15,7 @@ use opgen_net::{Node, Output};
 use opgen_num::Word;
 use std::alloc::{AllocError, Global};
 
-/// Each row but the last, with its address.
+// Each row but the last, with its address.
 fn addressed(alloc: Global, width: u32, rows: &[Word]) -> Result<Items<(Word, Word)>, AllocError>
     requires rows { length rows.now ≡ 2 ^ width }
     requires small { width ≤ 6 }
@@ -28,7 +28,7 @@ fn addressed(alloc: Global, width: u32, rows: &[Word]) -> Result<Items<(Word, Wo
     Ok(pairs)
 }
 
-/// The row of the highest address.
+// The row of the highest address.
 fn last_row(rows: &[Word]) -> Word
     requires { 1 ≤ length rows.now }
     ensures { result ≡ last_row rows.now }
@@ -36,7 +36,7 @@ fn last_row(rows: &[Word]) -> Word
     rows[rows.len() - 1]
 }
 
-/// What gives a node's own signal its words, where the ports of the inputs begin at a place.
+// What gives a node's own signal its words, where the ports of the inputs begin at a place.
 fn own_driver(
     alloc: Global,
     first: usize,
@@ -45,13 +45,13 @@ fn own_driver(
     node: &Node,
 ) -> Result<Driver, AllocError>
     requires small { AreSmall standings.now }
-    requires cycle { own.cycle ≤ 2 ^ 32 }
+    requires cycle { own.slot.cycle ≤ 2 ^ 32 }
     requires stands { MayStand (map (λ p. p.width) standings.now) node.now }
     requires port { (p w : ℕ) → node.now ≡ Node.Input p w → first + p < 2 ^ 64 }
     ensures { IfOk result (λ driver. driver ≡ own_driver first standings.now own node.now) }
 {
     let to = own.signal;
-    let cycle = own.cycle;
+    let cycle = own.slot.cycle;
     match node {
         Node::Input { port, .. } => Ok(Driver::Assign {
             to,
@@ -119,7 +119,7 @@ pub(crate) fn push_plain(
     Ok(())
 }
 
-/// Appends the registers of the copies of a node.
+// Appends the registers of the copies of a node.
 fn push_copies(drivers: &mut Items<Driver>, own: Standing) -> Result<(), AllocError>
     requires { IsSmall own }
     ensures { OnOk result (drivers.new ≡ drivers.old ++ map (copy_register own) (range_with_len 0 own.copies)) }

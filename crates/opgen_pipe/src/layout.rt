@@ -1,5 +1,5 @@
 //! Lays out a net for a target and a period: what its design needs of each node, found once, or why there is no such design.
-ghost use Rattle.std.specs.Prelude.{◌≡◌, ◌≤◌, All, length, IfOk};
+ghost use Rattle.std.specs.Prelude.{◌≡◌, length, IfOk};
 ghost use Rattle.opgen_net.specs.Valid.{IsValid, widths as widths_of};
 ghost use Rattle.opgen_target.specs.Delays.{Delays, setup as setup_of};
 ghost use Rattle.opgen_pipe.specs.Cells.{net_delays};
@@ -8,62 +8,34 @@ ghost use Rattle.opgen_pipe.specs.Layouts.{IsLaidOut, IsLayout};
 use crate::cells::{net_delays, setup_time};
 use crate::counts::{copies, signal_count};
 use crate::planning::PlanFault;
-use crate::widths::node_widths;
+use crate::standing::Standing;
+use crate::standings::standings;
 use opgen_design::MAX_SIGNALS;
 use opgen_net::Net;
-use opgen_schedule::{Slot, greatest, greatest_time, latency, stage};
+use opgen_schedule::{greatest, greatest_time, latency, stage};
 use opgen_target::Target;
 use std::alloc::{AllocError, Global};
 
-/// What the design of a net at a schedule needs: of each node the width in bits, the slot and the number of copies; the latency in
-/// cycles; and what the longest cycle leaves of the period, in picoseconds.
+/// What the design of a net at a schedule needs: where each node stands; the latency in cycles; and what the longest cycle leaves
+/// of the period, in picoseconds.
 #[derive(Drop)]
 pub struct Layout {
-    pub widths: Vec<u32>,
-    pub slots: Vec<Slot>,
-    pub copies: Vec<usize>,
+    pub standings: Vec<Standing>,
     pub latency: usize,
     pub slack: u64,
 }
 
-/// The layout of a net at these slots, over the widths of its nodes.
-fn layout_at(
-    alloc: Global,
-    net: &Net,
-    widths: Vec<u32>,
-    slots: Vec<Slot>,
-    slack: u64,
-) -> Result<Layout, AllocError>
-    requires valid { IsValid net.now }
-    requires widths { widths.items ≡ widths_of net.now.nodes }
-    requires slots { length slots.items ≡ length net.now.nodes }
-    requires early { All (λ p. p.cycle ≤ length net.now.nodes) slots.items }
-    ensures layout { IfOk result (IsLayout net.now) }
-    ensures slots { IfOk result (λ layout. layout.slots.items ≡ slots.items) }
-    ensures slack { IfOk result (λ layout. layout.slack ≡ slack) }
-{
-    let latency = latency(net.nodes.as_slice(), &slots, net.outputs.as_slice());
-    let copies = copies(alloc, net, &slots, latency)?;
-    Ok(Layout {
-        widths,
-        slots,
-        copies,
-        latency,
-        slack,
-    })
-}
-
-/// The layout of a net, over the widths of its nodes, in which each node stands as early as these delays allow.
+// The layout of a net, over the widths of its nodes, in which each node stands as early as these delays allow.
 fn lay_out_for(
     alloc: Global,
     net: &Net,
-    widths: Vec<u32>,
+    widths: &[u32],
     delays: &[u32],
     setup: u32,
     period: u32,
 ) -> Result<Layout, PlanFault>
     requires valid { IsValid net.now }
-    requires widths { widths.items ≡ widths_of net.now.nodes }
+    requires widths { widths.now ≡ widths_of net.now.nodes }
     requires delays { length delays.now ≡ length net.now.nodes }
     ensures layout { IfOk result (IsLayout net.now) }
     ensures outcome { (table : Delays) → delays.now ≡ net_delays table net.now → setup ≡ setup_of table → IsLaidOut net.now table period result }
@@ -72,27 +44,35 @@ fn lay_out_for(
     if need > u64::from(period) {
         return Err(PlanFault::PeriodTooShort { need });
     }
-    let slots = stage(alloc, net.nodes.as_slice(), delays, setup, period)?;
+    let nodes = net.nodes.as_slice();
+    let slots = stage(alloc, nodes, delays, setup, period)?;
     let slack = u64::from(period - setup - greatest_time(&slots));
-    let layout = layout_at(alloc, net, widths, slots, slack)?;
-    if signal_count(net, &layout) > MAX_SIGNALS {
+    let latency = latency(nodes, &slots, net.outputs.as_slice());
+    let copies = copies(alloc, net, &slots, latency)?;
+    if signal_count(&copies) > MAX_SIGNALS {
         return Err(PlanFault::TooLarge);
     }
-    Ok(layout)
+    let standings = standings(alloc, net, widths, &slots, &copies)?;
+    Ok(Layout {
+        standings,
+        latency,
+        slack,
+    })
 }
 
-/// The layout of a net in which each node stands as early as the delays of the target allow.
+/// The layout of a net, over the widths of its nodes, in which each node stands as early as the delays of the target allow.
 pub(crate) fn lay_out(
     alloc: Global,
     net: &Net,
+    widths: &[u32],
     target: &Box<dyn Target>,
     period: u32,
 ) -> Result<Layout, PlanFault>
-    requires { IsValid net.now }
+    requires valid { IsValid net.now }
+    requires widths { widths.now ≡ widths_of net.now.nodes }
     ensures layout { IfOk result (IsLayout net.now) }
     ensures outcome { IsLaidOut net.now (delays target.now) period result }
 {
-    let widths = node_widths(alloc, net)?;
-    let delays = net_delays(alloc, net, &widths, target)?;
+    let delays = net_delays(alloc, net, widths, target)?;
     lay_out_for(alloc, net, widths, &delays, setup_time(target), period)
 }

@@ -1,8 +1,8 @@
 //! Builds the design of a net at a schedule: its ports, signals and drivers, with or without a clock enable.
 ghost use Rattle.std.specs.Prelude.{◌≡◌, ◌≤◌, ◌<◌, ◌+◌, ◌++◌, ◌^◌, ℕ, length, map, filter, not, IfOk, All};
 ghost use Rattle.opgen_design.specs.Order.{is_register};
-ghost use Rattle.opgen_net.specs.Valid.{IsValid, MayStand};
-ghost use Rattle.opgen_pipe.specs.Counted.{enable_inputs};
+ghost use Rattle.opgen_net.specs.Valid.{IsValid, MayStand, widths as widths_of};
+ghost use Rattle.opgen_design.specs.Run.{enable_inputs};
 ghost use Rattle.opgen_pipe.specs.Copies.{signal_count};
 ghost use Rattle.opgen_pipe.specs.Counts.{AreSmall};
 ghost use Rattle.opgen_pipe.specs.Layouts.{IsLayout, schedule_of};
@@ -14,14 +14,13 @@ use crate::layout::Layout;
 use crate::ports::all_ports;
 use crate::signals::all_signals;
 use crate::standing::Standing;
-use crate::standings::standings;
 use crate::zeros::zero_words;
 use opgen_design::{Design, Driver, Signal};
 use opgen_list::{Items, Text};
 use opgen_net::Net;
 use std::alloc::{AllocError, Global};
 
-/// The drivers of a net's design: what is no register, then the registers, then the outputs.
+// The drivers of a net's design: what is no register, then the registers, then the outputs.
 fn all_drivers(
     alloc: Global,
     net: &Net,
@@ -51,7 +50,7 @@ fn all_drivers(
     Ok(drivers)
 }
 
-/// The place of the first input's port: after that of the clock enable, where it is asked for.
+// The place of the first input's port: after that of the clock enable, where it is asked for.
 fn first_input(enable: bool) -> usize
     ensures place { result ≡ length (enable_inputs enable) }
     ensures few { result ≤ 1 }
@@ -59,7 +58,7 @@ fn first_input(enable: bool) -> usize
     if enable { 1 } else { 0 }
 }
 
-/// The place of the port that lets the registers move, if it is asked for and there is one.
+// The place of the port that lets the registers move, if it is asked for and there is one.
 fn enable_of(enable: bool, drivers: &[Driver]) -> Option<usize>
     ensures { result ≡ enable_of enable drivers.now }
 {
@@ -70,7 +69,7 @@ fn enable_of(enable: bool, drivers: &[Driver]) -> Option<usize>
     }
 }
 
-/// The signals and the drivers of a net's design at a schedule.
+// The signals and the drivers of a net's design at a schedule.
 fn signals_and_drivers(
     alloc: Global,
     net: &Net,
@@ -83,29 +82,31 @@ fn signals_and_drivers(
     ensures signals { IfOk result (λ parts. parts.0 ≡ all_of (node_signals net.now (standings net.now (schedule_of layout.now))) 0 net.now.nodes) }
     ensures drivers { IfOk result (λ parts. parts.1 ≡ drivers_of enable net.now (schedule_of layout.now)) }
 {
-    let standings = standings(alloc, net, &layout.widths, &layout.slots, &layout.copies)?;
     let zeros = zero_words(alloc, net)?;
     let first = first_input(enable);
-    let signals = all_signals(alloc, net, &standings, &zeros)?;
-    let drivers = all_drivers(alloc, net, first, &standings, layout.latency)?;
+    let signals = all_signals(alloc, net, &layout.standings, &zeros)?;
+    let drivers = all_drivers(alloc, net, first, &layout.standings, layout.latency)?;
     Ok((signals, drivers))
 }
 
-/// The design of a net at a schedule, under a name: with the port of a clock enable where it is asked for.
+/// The design of a net at a schedule, over the widths of its nodes, under a name: with the port of a clock enable where it is
+/// asked for.
 pub(crate) fn design(
     alloc: Global,
     net: &Net,
+    widths: &[u32],
     name: &str,
     enable: bool,
     layout: &Layout,
 ) -> Result<Design, AllocError>
     requires valid { IsValid net.now }
+    requires widths { widths.now ≡ widths_of net.now.nodes }
     requires layout { IsLayout net.now layout.now }
     requires few { signal_count net.now (schedule_of layout.now) ≤ 2 ^ 32 }
     ensures { IfOk result (λ d. d ≡ design_of name.now enable net.now (schedule_of layout.now)) }
 {
     let name = Text::from_str(alloc, name)?;
-    let ports = all_ports(alloc, net, &layout.widths, enable)?;
+    let ports = all_ports(alloc, net, widths, enable)?;
     let (signals, drivers) = signals_and_drivers(alloc, net, enable, layout)?;
     let enable = enable_of(enable, drivers.as_slice());
     Ok(Design {

@@ -12,6 +12,7 @@ ghost use Rattle.opgen_pipe.specs.Timed.{IsInTime, IsLeastLatency};
 use crate::cells::charge_design;
 use crate::layout::lay_out;
 use crate::pipelined::design;
+use crate::widths::node_widths;
 use opgen_design::Design;
 use opgen_net::Net;
 use opgen_target::Target;
@@ -74,9 +75,10 @@ pub fn plan(
     ensures delays { delays target.new ≡ delays target.old }
     ensures adjustable { adjustable target.new ≡ adjustable target.old }
 {
-    let layout = lay_out(alloc, net, target, period)?;
-    let cells = charge_design(alloc, net, &layout, target)?;
-    let design = design(alloc, net, name, enable, &layout)?;
+    let widths = node_widths(alloc, net)?;
+    let layout = lay_out(alloc, net, &widths, target, period)?;
+    let cells = charge_design(alloc, net, &widths, &layout, target)?;
+    let design = design(alloc, net, &widths, name, enable, &layout)?;
     Ok(Planned {
         design,
         latency: layout.latency as u32,

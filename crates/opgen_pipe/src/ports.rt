@@ -2,7 +2,7 @@
 ghost use Rattle.std.specs.Prelude.{◌≡◌, ◌++◌, IfOk, OnOk, All, map};
 ghost use Rattle.opgen_net.specs.Made.{input_port, output_port};
 ghost use Rattle.opgen_net.specs.Valid.{IsValid, LiesWithin, widths as widths_of};
-ghost use Rattle.opgen_pipe.specs.Counted.{enable_inputs};
+ghost use Rattle.opgen_design.specs.Run.{enable_inputs};
 ghost use Rattle.opgen_pipe.specs.Pipelined.{ports_of};
 
 use crate::widths::slice_width;
@@ -11,7 +11,7 @@ use opgen_list::{Items, Text};
 use opgen_net::{Net, Output};
 use std::alloc::{AllocError, Global};
 
-/// Appends the port of the clock enable, where it is asked for.
+// Appends the port of the clock enable, where it is asked for.
 fn push_enable(alloc: Global, ports: &mut Items<Port>, enable: bool) -> Result<(), AllocError>
     ensures { OnOk result (ports.new ≡ ports.old ++ map input_port (enable_inputs enable)) }
 {
@@ -25,7 +25,7 @@ fn push_enable(alloc: Global, ports: &mut Items<Port>, enable: bool) -> Result<(
     Ok(())
 }
 
-/// Appends the ports of the inputs.
+// Appends the ports of the inputs.
 fn push_inputs(
     alloc: Global,
     ports: &mut Items<Port>,
@@ -43,7 +43,7 @@ fn push_inputs(
     Ok(())
 }
 
-/// Appends the ports of the outputs.
+// Appends the ports of the outputs.
 fn push_outputs(
     alloc: Global,
     ports: &mut Items<Port>,

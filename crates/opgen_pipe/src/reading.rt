@@ -1,7 +1,7 @@
 //! Translates expressions over nodes to expressions over signals: in each cycle the copy of a node that is valid there is read.
 ghost use Rattle.std.specs.Prelude.{◌≡◌, ◌≤◌, ◌<◌, ◌^◌, IfOk, length};
 ghost use Rattle.opgen_design.specs.Plain.{plain, plain_all};
-ghost use Rattle.opgen_design.specs.Reads.{AllReads, AllOperandsRead};
+ghost use Rattle.opgen_design.specs.Sound.{AllReads, AllOperandsRead};
 ghost use Rattle.opgen_pipe.specs.Counts.{AreSmall, IsAny};
 ghost use Rattle.opgen_pipe.specs.Reading.{read_in, slice_in, tree_in, trees_in};
 
@@ -20,7 +20,7 @@ pub(crate) fn read_in(standings: &[Standing], cycle: usize, node: usize) -> usiz
     let copy = if own.constant {
         0
     } else {
-        cycle.saturating_sub(own.cycle)
+        cycle.saturating_sub(own.slot.cycle)
     };
     own.signal + copy
 }

@@ -13,21 +13,21 @@ use opgen_net::{Net, Node};
 use opgen_num::Word;
 use std::alloc::{AllocError, Global};
 
-/// The name of the signal of a node.
+// The name of the signal of a node.
 fn signal_name(alloc: Global, node: usize) -> Result<Text, AllocError>
     ensures { IfOk result (λ name. name ≡ signal_name node) }
 {
     Ok(Text::from_string(format!(in alloc; "s{node}")?))
 }
 
-/// The name of a copy of a node.
+// The name of a copy of a node.
 fn copy_name(alloc: Global, node: usize, copy: usize) -> Result<Text, AllocError>
     ensures { IfOk result (λ name. name ≡ copy_name node copy) }
 {
     Ok(Text::from_string(format!(in alloc; "s{node}_{copy}")?))
 }
 
-/// The initial value of a node's own signal, if it is a register.
+// The initial value of a node's own signal, if it is a register.
 fn initial_of(zero: Word, node: &Node) -> Option<Word>
     ensures { result ≡ initial_of zero node.now }
 {
@@ -37,7 +37,7 @@ fn initial_of(zero: Word, node: &Node) -> Option<Word>
     }
 }
 
-/// Appends the signals of the copies of a node.
+// Appends the signals of the copies of a node.
 fn push_copies(
     alloc: Global,
     signals: &mut Items<Signal>,
@@ -58,7 +58,7 @@ fn push_copies(
     Ok(())
 }
 
-/// Appends the signals of a node.
+// Appends the signals of a node.
 fn push_node(
     alloc: Global,
     signals: &mut Items<Signal>,

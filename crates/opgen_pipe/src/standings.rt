@@ -1,4 +1,4 @@
-//! Lists what a design has for each node of a net: width, cycle, number of copies and first signal.
+//! Lists what a design has for each node of a net: width, slot, number of copies and first signal.
 ghost use Rattle.std.specs.Prelude.{◌≡◌, ◌≤◌, ◌^◌, IfOk};
 ghost use Rattle.opgen_net.specs.Valid.{widths as widths_of};
 ghost use Rattle.opgen_schedule.specs.Stage.{slot_at};
@@ -32,7 +32,7 @@ pub(crate) fn standings(
         standings.push(Standing {
             width: widths[place],
             constant: is_constant(node),
-            cycle: slots[place].cycle,
+            slot: slots[place],
             copies: copies[place],
             signal: next,
         })?;

@@ -16,7 +16,7 @@ pub(crate) fn slice_width(widths: &[u32], slice: Slice) -> u32
     slice.high + 1 - slice.low
 }
 
-/// The width of a node, over the widths of the nodes before it.
+// The width of a node, over the widths of the nodes before it.
 fn node_width(widths: &[u32], node: &Node) -> u32
     requires { MayStand widths.now node.now }
     ensures { result ≡ node_width widths.now node.now }

@@ -12,7 +12,7 @@ use opgen_num::Word;
 use opgen_runs::{cut, value};
 use std::alloc::{AllocError, Global};
 
-/// The first word where the condition is the bit 1, and else the second.
+// The first word where the condition is the bit 1, and else the second.
 fn chosen(on: Word, yes: Word, no: Word) -> Word
     ensures { result ≡ chosen on yes no }
 {
@@ -23,7 +23,7 @@ fn chosen(on: Word, yes: Word, no: Word) -> Word
     }
 }
 
-/// A slice of a node's word.
+// A slice of a node's word.
 fn part(words: &[Word], slice: Slice) -> Word
     requires narrow { AreNarrow words.now }
     requires lies { LiesWithin (map length words.now) slice }
@@ -32,7 +32,7 @@ fn part(words: &[Word], slice: Slice) -> Word
     cut(slice.high, slice.low, words[slice.node])
 }
 
-/// The row that a word numbers.
+// The row that a word numbers.
 fn row(rows: &[Word], address: Word) -> Word
     requires { nat address < length rows.now }
     ensures { result ≡ word_at rows.now (nat address) }
@@ -40,7 +40,7 @@ fn row(rows: &[Word], address: Word) -> Word
     rows[address.bits() as usize]
 }
 
-/// A node's word of zero inputs, over the words of the nodes before it.
+// A node's word of zero inputs, over the words of the nodes before it.
 fn still_word(words: &[Word], node: &Node) -> Word
     requires narrow { AreNarrow words.now }
     requires stands { MayStand (map length words.now) node.now }

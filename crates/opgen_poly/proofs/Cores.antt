@@ -5,11 +5,10 @@ use Rattle.std.specs.Int.{int_min, int_max}
 use Rattle.std.proofs.Math.Nat.{mul-le-mul_left, mul-le-mul_right}
 use Rattle.std.proofs.lemmas.Int.{ints, int_min_is, int_max_is}
 use Rattle.opgen_num.specs.Floors.{IsFloor}
-use Rattle.opgen_num.specs.Rounding.{IsWithinOne}
+use Rattle.opgen_num.specs.Rounding.{IsWithinOne, nearest}
 use Rattle.opgen_num.proofs.Floors.{one_floor}
 use Rattle.opgen_num.proofs.Quotients.{within_one}
 use Rattle.opgen_num.proofs.Rounded.{floor_is}
-use Rattle.opgen_num.specs.Nearest.{nearest}
 use Rattle.opgen_num.proofs.Integers.{commuted, product-sum, product-difference, product_assoc, product_order, product_cancel}
 
 pub times : (a b : ℕ) → pos a *ℤ pos b ≡ pos (a * b)

@@ -8,11 +8,10 @@ use Rattle.std.proofs.lemmas.List.Elements.{All-nil}
 use Rattle.std.proofs.lemmas.Nat.{pow_pos}
 use Rattle.opgen_num.specs.Formats.{Holds}
 use Rattle.opgen_num.specs.Rounding.{distance}
-use Rattle.opgen_num.specs.Values.{int}
+use Rattle.opgen_num.specs.Words.{int, nat}
 use Rattle.opgen_num.specs.WordLaws.{length-word, nat-word}
-use Rattle.opgen_num.specs.Words.{nat}
 use Rattle.opgen_num.proofs.Residues.{value_from_residue}
-use Rattle.opgen_design.specs.Width.{IsWidth}
+use Rattle.opgen_design.specs.Value.{IsWidth}
 use Rattle.opgen_heap.specs.Adding.{residue}
 use Rattle.opgen_heap.proofs.Residues.{residue-add}
 use Rattle.opgen_net.specs.declared.node.Node.{Node}

@@ -8,14 +8,12 @@ use Rattle.std.proofs.lemmas.List.{take_all, length-drop}
 use Rattle.std.proofs.lemmas.Nat.{pow_pos}
 use Rattle.opgen_num.specs.Floors.{IsFloor}
 use Rattle.opgen_num.specs.Formats.{Holds}
-use Rattle.opgen_num.specs.Rounding.{IsWithinOne, distance}
-use Rattle.opgen_num.specs.Values.{int, val}
-use Rattle.opgen_num.specs.Words.{nat}
+use Rattle.opgen_num.specs.Rounding.{IsWithinOne, distance, nearest}
+use Rattle.opgen_num.specs.Words.{int, val, nat}
 use Rattle.opgen_num.proofs.Integers.{product_assoc}
 use Rattle.opgen_num.proofs.RangeWidth.{count-holds}
 use Rattle.opgen_num.proofs.Residues.{value_from_residue}
 use Rattle.opgen_num.proofs.Rounded.{floor_is, floor_dropped}
-use Rattle.opgen_num.specs.Nearest.{nearest}
 use Rattle.opgen_num.proofs.NearestNumbers.{nearest-order}
 use Rattle.opgen_design.specs.Run.{AreWords}
 use Rattle.opgen_design.specs.Value.{cut}

@@ -10,14 +10,13 @@ use Rattle.std.proofs.lemmas.Nat.{pow_pos}
 use Rattle.opgen_num.specs.declared.format.Ratio.{Ratio}
 use Rattle.opgen_num.specs.Floors.{IsFloor}
 use Rattle.opgen_num.specs.Formats.{Holds}
-use Rattle.opgen_num.specs.Values.{int}
-use Rattle.opgen_num.specs.Words.{nat}
+use Rattle.opgen_num.specs.Words.{int, nat}
 use Rattle.opgen_num.proofs.Integers.{commuted}
 use Rattle.opgen_num.proofs.Residues.{value_from_residue}
 use Rattle.opgen_num.proofs.Rounded.{floor_is, floor_dropped}
 use Rattle.opgen_num.proofs.Words.{nat-below}
 use Rattle.opgen_design.specs.Run.{AreWords}
-use Rattle.opgen_design.specs.Width.{IsWidth}
+use Rattle.opgen_design.specs.Value.{IsWidth}
 use Rattle.opgen_heap.specs.Adding.{residue, with_constant}
 use Rattle.opgen_heap.specs.Contents.{Contents}
 use Rattle.opgen_heap.specs.Sum.{heap_sum}

@@ -2,8 +2,7 @@
 use Rattle.std.specs.Prelude.{ℕ, ◌≡◌, ◌+◌, ◌-◌, ◌*◌, ◌^◌, ◌<◌, [], ◌∷◌, All, drop, slice_index, ℤ, pos, ◌*ℤ◌, ◌<ℤ◌, ◌≤ℤ◌}
 use Rattle.opgen_num.specs.declared.format.Ratio.{Ratio}
 use Rattle.opgen_num.specs.Rounding.{distance}
-use Rattle.opgen_num.specs.Values.{int}
-use Rattle.opgen_num.specs.Words.{nat}
+use Rattle.opgen_num.specs.Words.{int, nat}
 use Rattle.opgen_design.specs.Run.{AreWords}
 use Rattle.opgen_net.specs.declared.net.Net.{Net}
 use Rattle.opgen_net.specs.Flow.{Inputs, input_at, flow}
@@ -37,8 +36,8 @@ halves_from p place = 3 * (degree p - place) + 1
 abbrev pub input_number : Polynomial → Inputs → ℤ → ℕ
 input_number p inputs t = nat (input_at inputs 0 p.input.width t)
 
--- Each partial value but the first, which is the last coefficient, and the last, which is the output, is less than (3 * (n - i) + 1) / 2 from the exact
--- one, at every time and for all inputs.
+-- Each partial value but the first, which is the last coefficient, and the last, which is the output, is less than
+-- (3 * (n - i) + 1) / 2 from the exact one, at every time and for all inputs.
 abbrev pub ArePartialsNear : Polynomial → Net → Type 0
 ArePartialsNear p net =
     (place : ℕ) → 0 < place → place < degree p → (inputs : Inputs) (t : ℤ) → All (AreWords (input_widths net)) inputs

@@ -4,19 +4,9 @@ ghost use Rattle.opgen_kinds.specs.Poly.{IsPoly};
 ghost use Rattle.opgen_poly.specs.Recipe.{left_out as left_out_of, heap_width as heap_width_of, kept_part as kept_part_of, added as added_of, pairs as pairs_of, rounding as rounding_of, last_word as last_word_of};
 
 use opgen_budget::drop_columns;
-use opgen_num::Word;
+use opgen_num::{Word, signed_power};
 use opgen_operator::Poly;
 use opgen_partial::{Factor, Products, sign_correction};
-
-// Two to a power.
-fn power(places: u32) -> i128
-    requires { places ≤ 70 }
-    ensures value { result ≡ pos (2 ^ places) }
-    ensures some { pos 0 ≤ℤ result }
-    ensures few { result ≤ℤ pos (2 ^ 70) }
-{
-    1 << places
-}
 
 /// How many of the lowest columns of a product of `m` by `width` bits are left out: as many as weigh at most half a unit of the
 /// lowest bit that is kept.
@@ -72,7 +62,7 @@ fn rounding(poly: &Poly, place: usize) -> i128
     ensures few { result ≤ℤ pos (2 ^ 70) }
 {
     if place == 0 {
-        power(poly.input.width + poly.guard_bits() - 1)
+        signed_power(poly.input.width + poly.guard_bits() - 1)
     } else {
         0
     }
@@ -85,7 +75,7 @@ fn shifted(coefficient: i128, width: u32) -> i128
     ensures value { result ≡ coefficient *ℤ pos (2 ^ width) }
     ensures small { unsigned_abs result ≤ 2 ^ 66 }
 {
-    coefficient * power(width)
+    coefficient * signed_power(width)
 }
 
 // Half a unit of the lowest bit that a step keeps, the coefficient above the bits that are cut off, and what rounds the output.
@@ -96,7 +86,7 @@ fn kept_part(poly: &Poly, place: usize) -> i128
     ensures small { unsigned_abs result ≤ 2 ^ 72 }
 {
     let width = poly.input.width;
-    let half = power(width - 1);
+    let half = signed_power(width - 1);
     let coefficient = shifted(poly.guarded(place), width);
     half + coefficient + rounding(poly, place)
 }
@@ -118,6 +108,6 @@ pub fn last_word(poly: &Poly) -> Word
 {
     let place = poly.coefs.len() - 1;
     let width = poly.partial_width(place);
-    let number = poly.guarded(place).rem_euclid(power(width));
+    let number = poly.guarded(place).rem_euclid(signed_power(width));
     Word::new(number.unsigned_abs(), width)
 }

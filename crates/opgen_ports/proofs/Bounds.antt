@@ -7,7 +7,7 @@ use Rattle.std.specs.Prelude.{ℤ, pos, negsuc, ◌≤ℤ◌, unsigned_abs, neg_
 use Rattle.opgen_num.proofs.BitLength.{power_order}
 use Rattle.opgen_num.proofs.RangeWidth.{count-holds, count-least}
 use Rattle.opgen_num.specs.Formats.{digit_count, range_width}
-use Rattle.opgen_ports.specs.Shifts.{places_up, places_down, up}
+use Rattle.opgen_ports.specs.Reaches.{places_up, places_down, up}
 
 pub products : (a b i j : ℕ) → a ≤ 2 ^ i → b ≤ 2 ^ j → a * b ≤ 2 ^ (i + j)
 products a b i j first second =

@@ -6,9 +6,9 @@ use Rattle.std.proofs.lemmas.Nat.{pow_pos}
 use Rattle.opgen_num.specs.Floors.{IsFloor}
 use Rattle.opgen_num.specs.Formats.{least, greatest}
 use Rattle.opgen_num.specs.Rounding.{IsGoodLinear}
-use Rattle.opgen_num.proofs.Integers.{products, product_order}
+use Rattle.opgen_num.proofs.Integers.{product_order}
 use Rattle.opgen_num.proofs.Quotients.{exact_only, within_one, within_one_only}
-use Rattle.opgen_ports.specs.Saturated.{into_range}
+use Rattle.opgen_ports.specs.Good.{into_range}
 
 -- what a number becomes, by where it lies
 pub data Lies (low high n : ℤ) : Type 0 where

@@ -5,8 +5,7 @@ use Rattle.std.proofs.lemmas.Nat.{div-add-mod', mod-mul-add}
 use Rattle.std.specs.Prelude.{slice_index, pos}
 use Rattle.opgen_num.specs.declared.format.Format.{Format}
 use Rattle.opgen_ports.specs.declared.ports.PortFormat.{PortFormat}
-use Rattle.opgen_ports.specs.PortNumbers.{IsCycle, format_at, IsHistory, number_of, recent_numbers}
-use Rattle.opgen_ports.specs.Ports.{with_rest, two_inputs}
+use Rattle.opgen_ports.specs.Ports.{IsCycle, format_at, IsHistory, number_of, recent_numbers, with_rest, two_inputs}
 
 -- of an only output
 pub only_word : (only : PortFormat) (words : List ℕ) → IsCycle (only ∷ []) words

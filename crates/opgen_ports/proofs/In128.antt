@@ -6,8 +6,8 @@ use Rattle.opgen_num.proofs.BitLength.{power_order}
 use Rattle.opgen_num.specs.declared.format.Format.{Format}
 use Rattle.opgen_ports.specs.In128.{IsIn128}
 use Rattle.opgen_ports.specs.Ranges.{IsWithin}
-use Rattle.opgen_ports.specs.Recent.{Recent, weighted_from}
-use Rattle.opgen_ports.specs.Shifts.{places_up, up, places_down, down}
+use Rattle.opgen_ports.specs.Ports.{Recent, weighted_from}
+use Rattle.opgen_ports.specs.Reaches.{places_up, up, places_down, down}
 use Rattle.opgen_ports.specs.Spans.{IsOf}
 use Rattle.opgen_ports.proofs.Bounds.{few_down, products, few_up}
 use Rattle.opgen_ports.proofs.Magnitudes.{holds_within, raised_within, product_within}

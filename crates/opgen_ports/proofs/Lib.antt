@@ -1,4 +1,5 @@
--- Lemmas on ports, limits, shifts and how far numbers go.
+-- Lemmas on ports, limits, shifts and how far numbers go, on fractions that are judged, and on the meanings of kinds.
+pub mod Totals
 pub mod Bounds
 pub mod InputPorts
 pub mod Versions
@@ -10,3 +11,7 @@ pub mod Covered
 pub mod In128
 pub mod Cycles
 pub mod Clamped
+pub mod Wholes
+pub mod Roundings
+pub mod Lawful
+pub mod Accepted

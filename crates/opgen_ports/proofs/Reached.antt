@@ -1,5 +1,5 @@
 -- How far sums over inputs go, and the ends of fractions in units of the output's last place.
-use Rattle.std.proofs.Common.{ℕ, ◌-◌, Bool, true, false, arith, ◌+◌, ◌*◌, ◌≤◌, ◌≡◌, zero, suc, List, [], ◌∷◌, fold, sum, map, ◌∙◌, ◌<◌, length, get_or, refl, ap, ◌/◌, ◌%◌, min}
+use Rattle.std.proofs.Common.{ℕ, ◌-◌, Bool, true, false, arith, ◌+◌, ◌*◌, ◌≤◌, ◌≡◌, zero, suc, List, [], ◌∷◌, map, ◌∙◌, ◌<◌, length, get_or, refl, ap, ◌/◌, ◌%◌, min, max}
 use Rattle.std.proofs.lemmas.Int.{ints}
 use Rattle.std.proofs.lemmas.Nat.{pow_pos, div-add-mod'}
 use Rattle.std.proofs.Math.Nat.{mul-le-mul, mod-lt}
@@ -7,9 +7,9 @@ use Rattle.std.specs.Int.{div_ceil}
 use Rattle.std.specs.Prelude.{ℤ, pos, neg_ℤ, ◌≤ℤ◌, negsuc, ◌*ℤ◌, ◌+ℤ◌, ◌-ℤ◌, ◌<ℤ◌}
 use Rattle.opgen_num.proofs.Integers.{product-sum, product_order}
 use Rattle.opgen_num.specs.Formats.{Holds}
-use Rattle.opgen_ports.specs.Reaches.{reach_with, above_zero, below_zero, rises, falls}
-use Rattle.opgen_ports.specs.Recent.{Recent, weighted_from}
-use Rattle.opgen_ports.specs.Shifts.{up}
+use Rattle.opgen_ports.specs.Reaches.{reach_with, above_zero, below_zero, rises, falls, up}
+use Rattle.opgen_ports.specs.Ports.{Recent, weighted_from}
+use Rattle.opgen_ports.proofs.Totals.{sum-cons}
 
 -- a number from -below to above
 abbrev pub IsWithinReach : (below above : ℕ) → ℤ → Type 0
@@ -57,15 +57,11 @@ neg-both zero d = omega (arith, ints)
 neg-both (suc n) d = omega (arith, ints)
 
 -- the sums of coefficients, one after the other
-fold-from : (a : ℕ) (ns : List ℕ) → fold (λ m n. m + n) a ns ≡ a + sum ns
-fold-from a [] = omega arith
-fold-from a (n ∷ ns) = omega (arith, fold-from (a + n) ns, fold-from (0 + n) ns)
-
 pub rises-cons : (c : ℤ) (cs : List ℤ) → rises (c ∷ cs) ≡ above_zero c + rises cs
-rises-cons c cs = fold-from (0 + above_zero c) (map above_zero cs) ∙ omega arith
+rises-cons c cs = sum-cons (above_zero c) (map above_zero cs)
 
 pub falls-cons : (c : ℤ) (cs : List ℤ) → falls (c ∷ cs) ≡ below_zero c + falls cs
-falls-cons c cs = fold-from (0 + below_zero c) (map below_zero cs) ∙ omega arith
+falls-cons c cs = sum-cons (below_zero c) (map below_zero cs)
 
 module _ (below above : ℕ) where
   pub sum_within : (ago : ℕ) (coefs : List ℤ) (x : Recent) → ((k : ℕ) → IsWithinReach below above (x k))
@@ -127,6 +123,26 @@ module _ (below above : ℕ) where
       let rise : rises (c ∷ cs) ≡ above_zero c + rises cs = rises-cons c cs in
       let fall : falls (c ∷ cs) ≡ below_zero c + falls cs = falls-cons c cs in
       rw (rise, fall, whole) (omega (arith, ints, first, rest))
+
+-- a product of two numbers
+module _ (below above under over : ℕ) where
+  pub product_span : (a b : ℤ) → IsWithinReach below above a → IsWithinReach under over b
+      → IsWithinReach (max (below * over) (above * under)) (max (above * over) (below * under)) (a *ℤ b)
+  product_span (pos m) (pos n) (low, high) (left, right) =
+      let most : m * n ≤ above * over = mul-le-mul {n₁ = m} {m₁ = n} {n₂ = above} {m₂ = over} (omega (arith, ints)) (omega (arith, ints)) in
+      (omega (arith, ints), omega (arith, ints))
+  product_span (pos m) (negsuc n) (low, high) (left, right) =
+      let most : m * (n + 1) ≤ above * under = mul-le-mul {n₁ = m} {m₁ = n + 1} {n₂ = above} {m₂ = under} (omega (arith, ints))
+      (omega (arith, ints)) in
+      (omega (arith, ints), omega (arith, ints))
+  product_span (negsuc m) (pos n) (low, high) (left, right) =
+      let most : (m + 1) * n ≤ below * over = mul-le-mul {n₁ = m + 1} {m₁ = n} {n₂ = below} {m₂ = over} (omega (arith, ints))
+      (omega (arith, ints)) in
+      (omega (arith, ints), omega (arith, ints))
+  product_span (negsuc m) (negsuc n) (low, high) (left, right) =
+      let most : (m + 1) * (n + 1) ≤ below * under = mul-le-mul {n₁ = m + 1} {m₁ = n + 1} {n₂ = below} {m₂ = under} (omega (arith, ints))
+      (omega (arith, ints)) in
+      (omega (arith, ints), omega (arith, ints))
 
 commuted : (n : ℤ) (k : ℕ) → pos k *ℤ n ≡ n *ℤ pos k
 commuted (pos n) k = omega (arith, ints)

@@ -1,6 +1,6 @@
 -- The limits of the versions.
 use Rattle.std.proofs.Common.{ℕ, ◌≤◌, ◌==◌, Bool, true, false, arith, if◌then◌else◌, ◌+◌}
-use Rattle.opgen_num.specs.declared.TheConstants.{MAX_INPUT, MAX_WIDTH}
+use Rattle.opgen_num.specs.declared.format.TheConstants.{MAX_INPUT, MAX_WIDTH}
 use Rattle.opgen_ports.specs.Limits.{most_input, most_signal}
 
 pub input_limit : (version : ℕ) → most_input version ≤ MAX_INPUT

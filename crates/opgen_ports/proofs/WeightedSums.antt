@@ -5,7 +5,7 @@ use Rattle.std.proofs.lemmas.Nat.{pow-add}
 use Rattle.std.proofs.Math.Nat.{mul-le-mul_right}
 use Rattle.std.specs.Prelude.{ℤ, pos, ◌+ℤ◌, ◌*ℤ◌, unsigned_abs}
 use Rattle.opgen_num.proofs.BitLength.{power_order}
-use Rattle.opgen_ports.specs.Recent.{Recent, weighted_from}
+use Rattle.opgen_ports.specs.Ports.{Recent, weighted_from}
 
 -- one more term of a sum
 pub weighted-step : (ago i : ℕ) (coefs : List ℤ) (x : Recent) → i < length coefs

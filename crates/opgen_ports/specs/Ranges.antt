@@ -1,7 +1,7 @@
 -- Ranges that keys of several kinds have.
-use Rattle.std.specs.Prelude.{ℕ, ◌≤◌, ◌≤ℤ◌, ℤ, pos, unsigned_abs, negsuc}
+use Rattle.std.specs.Prelude.{ℕ, ◌≤◌, ◌≤ℤ◌, ℤ, pos, unsigned_abs, negsuc, ◌<◌, All, List}
 use Rattle.opgen_num.specs.declared.format.Format.{Format}
-use Rattle.opgen_num.specs.declared.TheConstants.{MAX_INPUT}
+use Rattle.opgen_num.specs.declared.format.TheConstants.{MAX_INPUT}
 use Rattle.opgen_num.specs.Formats.{fewest_bits}
 
 -- the power of a lowest bit
@@ -19,3 +19,7 @@ pub record IsInput (f : Format) : Type 0 where
 
 abbrev pub IsWithin : (limit : ℕ) → ℤ → Type 0
 IsWithin limit n = unsigned_abs n ≤ limit
+
+-- versions 1 and 2 have lowest bits from -32 to 32 alone
+abbrev pub AreNear : (version : ℕ) → List ℤ → Type 0
+AreNear version lsbs = version < 3 → All IsNear lsbs

@@ -1,11 +1,29 @@
--- How far numbers go below and above 0: those of an input, of sums over inputs, and in units of the output's last place; and the
--- width that holds them.
+-- How far sums over inputs go below and above 0, and shifts: as factors of a fraction, up of the numerator and down of the
+-- denominator.
 use Rattle.std.specs.Int.{div_ceil}
-use Rattle.std.specs.Prelude.{ℕ, Bool, false, ◌+◌, ◌*◌, ◌^◌, ℤ, pos, neg_ℤ, unsigned_abs, ◌-◌, List, map, true, negsuc, sum, max}
+use Rattle.std.specs.Prelude.{ℕ, Bool, false, ◌+◌, ◌*◌, ◌^◌, ℤ, pos, neg_ℤ, unsigned_abs, ◌-◌, List, map, true, negsuc, sum, max, ◌%◌, ◌==◌}
 use Rattle.opgen_num.specs.declared.format.Format.{Format}
 use Rattle.opgen_num.specs.Formats.{range_width}
 use Rattle.opgen_ports.specs.declared.reach.Reach.{Reach}
-use Rattle.opgen_ports.specs.Shifts.{up, down}
+
+-- a shift as a factor of the numerator, and as one of the denominator
+abbrev pub places_up : ℤ → ℕ
+places_up (pos n) = n
+places_up (negsuc n) = 0
+
+abbrev pub places_down : ℤ → ℕ
+places_down (pos n) = 0
+places_down (negsuc n) = n + 1
+
+abbrev pub up : ℤ → ℕ
+up s = 2 ^ places_up s
+
+abbrev pub down : ℤ → ℕ
+down s = 2 ^ places_down s
+
+-- the coefficient c * 2 ^ s / d is whole
+abbrev pub is_whole_at : (den shift c : ℤ) → Bool
+is_whole_at den s c = (unsigned_abs c * up s) % (unsigned_abs den * down s) == 0
 
 -- how far the numbers of a format go below and above 0
 abbrev pub reach_with : (signed : Bool) (width : ℕ) → Reach

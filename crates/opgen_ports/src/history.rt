@@ -1,9 +1,7 @@
 //! The numbers of ports in a cycle and before it, and their sums, each times a coefficient.
 ghost use Rattle.std.specs.Prelude.{◌≡◌, ◌+◌, ◌≤◌, ◌^◌, ℤ, ◌≤ℤ◌, ◌<◌, pos, length, ◌*ℤ◌, All, unsigned_abs, false};
-ghost use Rattle.opgen_ports.specs.PortNumbers.{number_of, recent_numbers, IsHistory};
-ghost use Rattle.opgen_ports.specs.Ports.{one_input, two_inputs};
+ghost use Rattle.opgen_ports.specs.Ports.{number_of, recent_numbers, IsHistory, weighted, one_input, two_inputs};
 ghost use Rattle.opgen_ports.specs.Ranges.{IsInput, IsWithin};
-ghost use Rattle.opgen_ports.specs.Recent.{weighted};
 ghost use Rattle.opgen_ports.specs.Spans.{IsOf};
 
 use opgen_num::{Format, MAX_INPUT, MAX_WIDTH, Word};

@@ -4,7 +4,7 @@ ghost use Rattle.std.specs.List.{list_any};
 ghost use Rattle.opgen_ports.specs.OddParts.{odd_part, has_part, has_part_alone, odd_part_count};
 ghost use Rattle.opgen_ports.specs.Ranges.{IsWithin};
 
-/// What is left of a number that is divided by 2 as often as it can be.
+// What is left of a number that is divided by 2 as often as it can be.
 fn odd_part(number: u32) -> u32
     requires { 0 < number }
     ensures { result ≡ odd_part number }
@@ -12,7 +12,7 @@ fn odd_part(number: u32) -> u32
     number >> number.trailing_zeros()
 }
 
-/// Whether a number is not 0 and has this odd part, its sign aside.
+// Whether a number is not 0 and has this odd part, its sign aside.
 fn has_part(part: u32, number: i64) -> bool
     requires { IsWithin 2047 number }
     ensures { result ≡ has_part part number }
@@ -33,7 +33,7 @@ fn any_has_part(part: u32, numbers: &[i64]) -> bool
     false
 }
 
-/// Whether a number is not 0 and none of the others has its odd part.
+// Whether a number is not 0 and none of the others has its odd part.
 fn has_part_alone(number: i64, others: &[i64]) -> bool
     requires number { IsWithin 2047 number }
     requires others { All (IsWithin 2047) others.now }

@@ -1,7 +1,7 @@
 //! Tests whether values are within the ranges that keys of several kinds have.
 ghost use Rattle.std.specs.Prelude.{◌≡◌, ◌≤◌, ◌≤ℤ◌, ◌↔◌, ◌^◌, pos, All, IsTrue};
 ghost use Rattle.opgen_num.specs.Formats.{fewest_bits};
-ghost use Rattle.opgen_ports.specs.Ranges.{IsPower, IsNear, IsInput, IsWithin};
+ghost use Rattle.opgen_ports.specs.Ranges.{IsPower, IsNear, IsInput, IsWithin, AreNear};
 
 use opgen_num::{Format, MAX_INPUT};
 
@@ -17,6 +17,21 @@ pub fn is_near(lsb: i32) -> bool
     ensures { IsTrue result ↔ IsNear lsb }
 {
     -32 <= lsb && lsb <= 32
+}
+
+/// Whether a version has these lowest bits: versions 1 and 2 have those from -32 to 32 alone.
+pub fn are_near(version: u32, lsbs: &[i32]) -> bool
+    ensures { IsTrue result ↔ AreNear version lsbs.now }
+{
+    if version >= 3 {
+        return true;
+    }
+    'lsbs: for lsb in lsbs {
+        if !is_near(*lsb) {
+            return false;
+        }
+    }
+    true
 }
 
 fn fewest_bits(signed: bool) -> u32

@@ -1,12 +1,11 @@
 //! How far numbers go below and above 0: of inputs, of sums, and in units of the output's last place; the width for them.
 ghost use Rattle.std.specs.Prelude.{◌≡◌, ◌+◌, ◌*◌, ◌≤◌, ◌^◌, ℤ, neg_ℤ, ◌≤ℤ◌, pos, length, All};
 ghost use Rattle.opgen_ports.specs.Ranges.{IsInput, IsWithin};
-ghost use Rattle.opgen_ports.specs.Reaches.{reach_of, rises, falls, reach_over, reach_of_product, in_units, in_places, width_of};
-ghost use Rattle.opgen_ports.specs.Shifts.{up};
+ghost use Rattle.opgen_ports.specs.Reaches.{reach_of, rises, falls, reach_over, reach_of_product, in_units, in_places, width_of, up};
 
 use crate::MAX_SHIFT;
-use crate::shifts::{power, scaled, units};
-use opgen_num::{Format, least_width};
+use crate::shifts::{scaled, units};
+use opgen_num::{Format, least_width, power};
 
 /// How far numbers go below and above 0.
 #[derive(Clone, Copy, Debug, PartialEq, Eq)]
@@ -36,7 +35,7 @@ pub fn reach_of(format: Format) -> Reach
     }
 }
 
-/// The sum of the coefficients below 0, without its sign, and of those above 0.
+// The sum of the coefficients below 0, without its sign, and of those above 0.
 fn sides(coefs: &[i64]) -> Reach
     requires few { length coefs.now ≤ 256 }
     requires small { All (IsWithin (2 ^ 30)) coefs.now }
@@ -91,7 +90,7 @@ pub fn reach_of_product(a: Format, b: Format) -> Reach
     }
 }
 
-/// In units of the output's last place, rounded away from 0.
+// In units of the output's last place, rounded away from 0.
 fn in_units(numerator: u128, shift: i32, den: i64) -> u128
     requires numerator { numerator * up shift ≤ 2 ^ 119 }
     requires low { neg_ℤ MAX_SHIFT ≤ℤ shift }

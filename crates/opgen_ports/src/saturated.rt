@@ -1,12 +1,12 @@
 //! Whether a number is good for a fraction that is brought into the range of a format.
 ghost use Rattle.std.specs.Prelude.{◌≡◌, ◌↔◌, ◌<ℤ◌, pos, IsTrue};
 ghost use Rattle.opgen_num.specs.Formats.{IsWidthOf};
-ghost use Rattle.opgen_ports.specs.Saturated.{least_of, greatest_of, IsGoodSaturated};
+ghost use Rattle.opgen_ports.specs.Good.{least_of, greatest_of, IsGoodSaturated};
 
 use crate::shifts::raised;
 use opgen_num::{Format, Ratio, good_linear};
 
-/// The least number of a format.
+// The least number of a format.
 fn least_of(to: Format) -> i128
     requires { IsWidthOf to.signed to.width }
     ensures { result ≡ least_of to }
@@ -18,7 +18,7 @@ fn least_of(to: Format) -> i128
     }
 }
 
-/// The greatest number of a format.
+// The greatest number of a format.
 fn greatest_of(to: Format) -> i128
     requires { IsWidthOf to.signed to.width }
     ensures { result ≡ greatest_of to }

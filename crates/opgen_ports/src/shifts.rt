@@ -1,8 +1,9 @@
 //! A shift as factors of a fraction: up of the numerator, down of the denominator.
 ghost use Rattle.std.specs.Prelude.{◌≡◌, ◌*◌, ◌≤◌, ◌^◌, ℤ, ◌≤ℤ◌, ◌<◌, pos, ◌*ℤ◌, unsigned_abs};
-ghost use Rattle.opgen_ports.specs.Shifts.{places_up, places_down, up, down};
+ghost use Rattle.opgen_ports.specs.Ranges.{IsWithin};
+ghost use Rattle.opgen_ports.specs.Reaches.{places_up, places_down, up, down, is_whole_at};
 
-use opgen_num::MAX_WIDTH;
+use opgen_num::{MAX_WIDTH, power};
 
 /// By how many places a shift moves up, 0 if it moves down.
 pub fn places_up(shift: i32) -> u32
@@ -16,14 +17,6 @@ pub fn places_down(shift: i32) -> u32
     ensures { result ≡ places_down shift }
 {
     if shift < 0 { shift.unsigned_abs() } else { 0 }
-}
-
-/// Two to a power.
-pub fn power(places: u32) -> u128
-    requires { places ≤ 96 }
-    ensures { result ≡ 2 ^ places }
-{
-    1 << places
 }
 
 /// A number times two to a power.
@@ -53,4 +46,16 @@ pub fn units(den: i64, shift: i32) -> u128
     ensures positive { 0 < result }
 {
     u128::from(den.unsigned_abs()) * power(places_down(shift))
+}
+
+/// Whether a coefficient over a denominator is a whole number of units of the output's last place. A
+/// shift may be beyond the limits of its kind.
+pub fn is_whole(coef: i64, den: i64, shift: i32) -> bool
+    requires coef { IsWithin (2 ^ 30) coef }
+    requires positive { pos 1 ≤ℤ den }
+    requires small { den ≤ℤ pos (2 ^ 30) }
+    ensures { result ≡ is_whole_at den shift coef }
+{
+    let near = shift.max(-31).min(30);
+    scaled(coef.unsigned_abs().into(), near) % units(den, near) == 0
 }

@@ -1,6 +1,6 @@
 //! Tests whether rows of numbers fit the ports of an operator: one number for each port, of no more bits than the port.
 ghost use Rattle.std.specs.Prelude.{ℕ, ◌≡◌, ◌<◌, ◌%◌, ◌^◌, ◌↔◌, length, IsTrue};
-ghost use Rattle.opgen_ports.specs.PortNumbers.{format_at, IsHistory, IsCycle};
+ghost use Rattle.opgen_ports.specs.Ports.{format_at, IsHistory, IsCycle};
 
 use crate::ports::PortFormat;
 use opgen_num::Format;

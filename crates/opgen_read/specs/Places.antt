@@ -22,3 +22,8 @@ KnowsAllowed first = (q : List ℕ) (k : ℕ) → leads first q ≡ Some k → I
 abbrev pub noted_at : Option ℕ → (same : Bool) → (place : ℕ) → Option ℕ
 noted_at (Some earlier) same place = Some earlier
 noted_at None same place = if same then Some place else None
+
+-- the new map leads from the name to the place, unless the old one led somewhere from it; from all other names it leads as before
+abbrev pub IsNoted : {S : Type 0} → (old : IndexMap ArrayString ℕ S) → (name : List ℕ) → (place : ℕ)
+    → (new : IndexMap ArrayString ℕ S) → Type 0
+IsNoted old name place new = (q : List ℕ) → leads new q ≡ noted_at (leads old q) (bytes_eq q name) place

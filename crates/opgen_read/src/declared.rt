@@ -3,7 +3,7 @@
 ghost use Rattle.std.specs.Prelude.{◌≡◌, ◌≤◌, IfOk, List, ℕ, ◌++◌, ◌∷◌, [], length};
 ghost use Rattle.std.specs.Str.{bytes_eq};
 ghost use Rattle.opgen_names.specs.declared.TheConstants.{MAX_NAME_LEN};
-ghost use Rattle.opgen_read.specs.Places.{leads, noted_at};
+ghost use Rattle.opgen_read.specs.Places.{IsNoted};
 
 use arrayvec::ArrayString;
 use indexmap::IndexMap;
@@ -179,7 +179,7 @@ fn number_behind(name: &[u8]) -> Option<usize> {
 // Notes a place for a name, unless the map leads from it somewhere already.
 fn note(first: &mut IndexMap<Key, usize>, name: &str, place: usize) -> Result<(), AllocError>
     requires { length name.now ≤ MAX_NAME_LEN }
-    ensures { IfOk result (λ _. (q : List ℕ) → leads first.new q ≡ noted_at (leads first.old q) (bytes_eq q name.now) place) }
+    ensures { IfOk result (λ _. IsNoted first.old name.now place first.new) }
 {
     let key = key_of(name);
     if first.get(&key).is_some() {
@@ -197,7 +197,7 @@ fn append<T: Named + Drop>(
 ) -> Result<(), AllocError>
     requires { length (T.name_of item) ≤ MAX_NAME_LEN }
     ensures items { IfOk result (λ _. items.new ≡ items.old ++ item ∷ []) }
-    ensures noted { IfOk result (λ _. (q : List ℕ) → leads first.new q ≡ noted_at (leads first.old q) (bytes_eq q (T.name_of item)) (length items.old)) }
+    ensures noted { IfOk result (λ _. IsNoted first.old (T.name_of item) (length items.old) first.new) }
 {
     note(first, item.name(), items.len())?;
     items.push(item)?;

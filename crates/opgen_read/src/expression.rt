@@ -1,13 +1,13 @@
 //! Reads expressions by recursive descent.
 
-ghost use Rattle.std.specs.Prelude.{◌≡◌, is_some, length, map, option_map};
+ghost use Rattle.std.specs.Prelude.{◌≡◌, is_some, option_map};
 ghost use Rattle.opgen_design.specs.Plain.{plain, plain_all};
 ghost use Rattle.opgen_design.specs.Tree.{chain};
 ghost use Rattle.opgen_vhdl.specs.Grammar.{operator};
-ghost use Rattle.opgen_vhdl.specs.Reader.{eat, range_at, part_at, input_at, closed, op_at, primary_at, factor_at, operands_at, expression_at, expression, inside};
+ghost use Rattle.opgen_vhdl.specs.Reader.{eat, range_at, part_at, input_at, closed, op_at, primary_at, factor_at, expression_at, expression, inside};
 ghost use Rattle.opgen_lex.specs.Left.{left};
 ghost use Rattle.opgen_read.specs.Gives.{Gives};
-ghost use Rattle.opgen_read.specs.Names.{names_in, joined};
+ghost use Rattle.opgen_read.specs.Names.{names_in, further_at};
 
 use crate::declared::Declared;
 use crate::name::{name, signal_place};
@@ -159,7 +159,8 @@ fn further<'a>(
     operands: Vec<Expr>,
     rest: Cursor<'a>,
 ) -> Read<'a, Vec<Expr>>
-    ensures { Gives (λ x. (plain_all x.0.items, left x.1)) result (joined (map plain operands.items) (operands_at (names_in scope.entry) (inside (names_in scope.entry) depth) (length (left rest.entry)) op (left rest.entry))) }
+    ensures { Gives (λ x. (plain_all x.0.items, left x.1)) result
+        (further_at operands.items scope.entry depth op (left rest.entry)) }
 {
     let mut operands = operands;
     let mut rest = rest;

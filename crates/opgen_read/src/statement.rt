@@ -2,7 +2,7 @@
 
 ghost use Rattle.std.specs.Prelude.{◌≡◌, length, map, option_map};
 ghost use Rattle.std.specs.Char.{to_ascii_lowercase};
-ghost use Rattle.opgen_design.specs.Enabled.{is_one};
+ghost use Rattle.opgen_design.specs.Run.{is_one};
 ghost use Rattle.opgen_design.specs.Plain.{plain};
 ghost use Rattle.opgen_vhdl.specs.Reader.{row_at, other_at, rows_at, table_at, choice_at, valued_at, output_at, target_at, assignment_at, concurrent_at, clocked_at, high_at, clock, edge_at, process_at, port_high_at, enable_at, eat_all};
 ghost use Rattle.opgen_lex.specs.Left.{left};

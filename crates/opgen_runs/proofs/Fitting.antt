@@ -5,10 +5,9 @@ use Rattle.std.proofs.lemmas.List.{length-map}
 use Rattle.std.proofs.lemmas.Option.{slice_get-map, slice_get-get_or, slice_get_within}
 use Rattle.opgen_design.specs.declared.expr.Op.{Op}
 use Rattle.opgen_design.specs.Tree.{Tree, Trees, name, part, port, bits, chain, more, none}
-use Rattle.opgen_design.specs.Value.{value, word_at, combined}
-use Rattle.opgen_design.specs.Width.{IsWidth, as_width, width, width_on, chain_width, joined}
+use Rattle.opgen_design.specs.Value.{value, word_at, combined, IsWidth, as_width, width, width_on, chain_width, joined}
 use Rattle.opgen_design.proofs.WidthLaws.{PartFits, part_fits, some_before, as_width-of, width-reads, width-is_width, value-width}
-use Rattle.opgen_num.specs.declared.TheConstants.{MAX_WIDTH}
+use Rattle.opgen_num.specs.declared.format.TheConstants.{MAX_WIDTH}
 use Rattle.opgen_runs.specs.Fitting.{AreNarrow, Fits, scope_of, widths_of}
 
 pub some-of : (o : Option ℕ) → IsSome o → (w : ℕ) × (o ≡ Some w)

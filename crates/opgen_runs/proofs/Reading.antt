@@ -7,11 +7,10 @@ use Rattle.opgen_design.specs.declared.design.Dir.TheVariants.{In}
 use Rattle.opgen_design.specs.declared.design.Driver.{Driver}
 use Rattle.opgen_design.specs.declared.design.Driver.TheVariants.{Assign, Choice, Table, Register, Output}
 use Rattle.opgen_design.specs.Order.{is_register}
-use Rattle.opgen_design.specs.Reads.{AllReads, AllOperandsRead, ReadsName, SomeOperandReads}
+use Rattle.opgen_design.specs.Sound.{AllReads, AllOperandsRead, ReadsName, SomeOperandReads, Needs, IsInput, ReadsInputs, Names}
 use Rattle.opgen_design.specs.Run.{Words, scope}
 use Rattle.opgen_design.specs.declared.design.Target.{Target}
 use Rattle.opgen_design.specs.declared.design.Target.TheVariants.{Signal as signal, Port as port_of}
-use Rattle.opgen_design.specs.Sound.{Needs, IsInput, ReadsInputs, Names}
 use Rattle.opgen_design.specs.Tree.{Tree, Trees, name, part, bits, port, inverse, chain, none, more}
 use Rattle.opgen_design.specs.Value.{value, chosen, word_at}
 use Rattle.opgen_design.proofs.ValueLaws.{same_value}

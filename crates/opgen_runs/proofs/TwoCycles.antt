@@ -12,12 +12,11 @@ use Rattle.opgen_design.specs.declared.design.Dir.TheVariants.{In, Out}
 use Rattle.opgen_design.specs.declared.design.Port.{Port}
 use Rattle.opgen_design.specs.declared.design.Driver.{Driver}
 use Rattle.opgen_design.specs.declared.design.Driver.TheVariants.{Assign, Choice, Table, Register, Output}
-use Rattle.opgen_design.specs.Reads.{AllReads, AllOperandsRead, ReadsName, SomeOperandReads}
+use Rattle.opgen_design.specs.Sound.{AllReads, AllOperandsRead, ReadsName, SomeOperandReads, IsSound, target, Needs, IsDriven, HasWidth, signal_widths, ReadsInputs, SignalPasses, PortPasses, DriverPasses, at_signal, at_port, at_driver}
 use Rattle.opgen_design.specs.Run.{Words, scope, Cycle, Meets, IsTableWord, at_ports, is_in}
 use Rattle.opgen_design.specs.declared.design.Target.{Target}
 use Rattle.opgen_design.specs.declared.design.Target.TheVariants.{Signal as signal, Port as port_of}
 use Rattle.opgen_design.specs.declared.sound.Rule.TheVariants.{NotDriven, ReadsOutput}
-use Rattle.opgen_design.specs.Sound.{IsSound, target, Needs, IsDriven, HasWidth, signal_widths, ReadsInputs, SignalPasses, PortPasses, DriverPasses, at_signal, at_port, at_driver}
 use Rattle.opgen_design.specs.Tree.{Tree, Trees, name, part, bits, port, inverse, chain, none, more}
 use Rattle.opgen_design.specs.Value.{value, chosen, word_at}
 use Rattle.opgen_design.proofs.SoundLaws.{contains-at}

@@ -12,8 +12,7 @@ use Rattle.opgen_design.specs.declared.design.Driver.{Driver}
 use Rattle.opgen_design.specs.declared.design.Driver.TheVariants.{Assign, Choice, Table, Register, Output}
 use Rattle.opgen_design.specs.Run.{Words, scope}
 use Rattle.opgen_design.specs.Tree.{Tree}
-use Rattle.opgen_design.specs.Value.{value, chosen}
-use Rattle.opgen_design.specs.Width.{IsWidth, width}
+use Rattle.opgen_design.specs.Value.{value, chosen, IsWidth, width}
 use Rattle.opgen_design.specs.declared.design.Target.{Target}
 use Rattle.opgen_design.specs.declared.design.Target.TheVariants.{Signal as signal, Port as port_of}
 use Rattle.opgen_design.specs.declared.sound.Rule.TheVariants.{Width}

@@ -4,9 +4,8 @@ use Rattle.std.proofs.Math.Nat.{two-pow-succ}
 use Rattle.std.specs.Prelude.{bit_and, bit_or, bit_xor}
 use lib.Bits.{and_step, or_step, xor_step, differ}
 use Rattle.std.proofs.lemmas.Nat.{mod-pow-add}
-use Rattle.opgen_num.specs.Words.{digit, nat, word}
+use Rattle.opgen_num.specs.Words.{digit, nat, word, pairwise, sum_with, xor, majority}
 use Rattle.opgen_num.specs.WordLaws.{digit-low}
-use Rattle.opgen_num.specs.Sums.{pairwise, sum_with, xor, majority}
 use Rattle.opgen_num.proofs.Words.{digit-below, low-bit, nat-below, word-nat}
 
 -- a bit below the bits of a number

@@ -1,9 +1,8 @@
 -- Expressions over words of signals and ports, and when their widths fit.
 use Rattle.std.specs.Prelude.{ℕ, ◌≤◌, Bool, List, length, map, All, IsSome}
-use Rattle.opgen_num.specs.declared.TheConstants.{MAX_WIDTH}
+use Rattle.opgen_num.specs.declared.format.TheConstants.{MAX_WIDTH}
 use Rattle.opgen_design.specs.Tree.{Tree}
-use Rattle.opgen_design.specs.Value.{Scope, word_at}
-use Rattle.opgen_design.specs.Width.{width}
+use Rattle.opgen_design.specs.Value.{Scope, word_at, width}
 
 abbrev pub widths_of : List (List Bool) → List ℕ
 widths_of ws = map length ws

@@ -11,4 +11,5 @@ pub record IsOnlyRun (d : Design) (inputs : List (List (List Bool))) (vs : List 
 
 -- a sound design has exactly one run over inputs whose words have the widths of its input ports
 abbrev pub HasOneRun : Type 0
-HasOneRun = (d : Design) → IsSound d → (inputs : List (List (List Bool))) → All (AreWords (input_widths d)) inputs → (vs : List Words) × IsOnlyRun d inputs vs
+HasOneRun = (d : Design) → IsSound d → (inputs : List (List (List Bool))) → All (AreWords (input_widths d)) inputs
+    → (vs : List Words) × IsOnlyRun d inputs vs

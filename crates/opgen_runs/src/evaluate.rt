@@ -1,8 +1,7 @@
 //! Evaluates an expression over a word for each signal and each port.
 ghost use Rattle.std.specs.Prelude.{◌≡◌, ◌<◌, IsSome, length};
 ghost use Rattle.opgen_design.specs.Plain.{plain, plain_all};
-ghost use Rattle.opgen_design.specs.Value.{value, chain_value, word_at};
-ghost use Rattle.opgen_design.specs.Width.{chain_width};
+ghost use Rattle.opgen_design.specs.Value.{value, chain_value, word_at, chain_width};
 ghost use Rattle.opgen_runs.specs.Fitting.{AreNarrow, Fits, scope_of, widths_of};
 
 use crate::words::{combined, cut, turned};

@@ -1,20 +1,11 @@
 //! The operators of expressions as operations on words: `not`, `and`, `or`, `xor`, `&`, `+`, `-`, and slices.
-ghost use Rattle.std.specs.Prelude.{ℕ, ◌≡◌, ◌^◌, ◌+◌, ◌-◌, ◌<◌, ◌≤◌, ◌++◌, ◌&&◌, ◌||◌, Some, false, true, length, map, not};
-ghost use Rattle.opgen_num.specs.declared.TheConstants.{MAX_WIDTH};
-ghost use Rattle.opgen_num.specs.Sums.{pairwise, sum_with, xor};
-ghost use Rattle.opgen_num.specs.Words.{digit};
-ghost use Rattle.opgen_design.specs.Value.{combined, cut};
-ghost use Rattle.opgen_design.specs.Width.{joined};
+ghost use Rattle.std.specs.Prelude.{ℕ, ◌≡◌, ◌+◌, ◌-◌, ◌<◌, ◌≤◌, ◌++◌, ◌&&◌, ◌||◌, Some, false, true, length, map, not};
+ghost use Rattle.opgen_num.specs.declared.format.TheConstants.{MAX_WIDTH};
+ghost use Rattle.opgen_num.specs.Words.{pairwise, sum_with, xor, digit};
+ghost use Rattle.opgen_design.specs.Value.{combined, cut, joined};
 
 use opgen_design::Op;
-use opgen_num::Word;
-
-fn power(exponent: u32) -> u128
-    requires { exponent < 128 }
-    ensures { result ≡ 2 ^ exponent }
-{
-    1u128 << exponent
-}
+use opgen_num::{Word, power};
 
 fn digit(bit: bool) -> u128
     ensures { result ≡ digit bit }

@@ -5,8 +5,7 @@ use Rattle.std.proofs.Math.Nat.{two-pow-succ}
 use Rattle.std.proofs.Math.Seq.{take-suc}
 use Rattle.std.proofs.lemmas.List.{get_or-drop, length-drop, length-take-le}
 use Rattle.std.proofs.lemmas.Nat.{pow_pos}
-use Rattle.opgen_num.specs.Words.{digit, nat}
-use Rattle.opgen_num.specs.Sums.{pairwise}
+use Rattle.opgen_num.specs.Words.{digit, nat, pairwise}
 use Rattle.opgen_num.proofs.Cuts.{nat-append, take-below}
 use Rattle.opgen_design.specs.declared.expr.Op.TheVariants.{And, Or}
 use Rattle.opgen_design.specs.Value.{Scope, value, value_on, cut}

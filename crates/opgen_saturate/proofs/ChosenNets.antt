@@ -8,17 +8,15 @@ use Rattle.opgen_net.specs.declared.net.Output.{Output}
 use Rattle.opgen_net.specs.Flow.{Inputs, slice_flow}
 use Rattle.opgen_net.specs.Valid.{input_widths, slice_width}
 use Rattle.opgen_num.specs.declared.format.Format.{Format}
-use Rattle.opgen_num.specs.Values.{val}
+use Rattle.opgen_num.specs.Words.{val}
 use Rattle.opgen_operator.specs.declared.spec.Spec.{Spec}
 use Rattle.opgen_operator.specs.Fits.{FitsInEachMode, FitsOperator, FitsSpec, name_and_width}
 use Rattle.opgen_operator.specs.Operator.{operator_outputs, plain_output, exact_value, IsGoodOf}
-use Rattle.opgen_operator.specs.Outputs.{inputs_of, outputs_of, IsGood, IsGoodBy, IsGoodCut, IsInRange}
-use Rattle.opgen_operator.specs.PortWords.{recent_words, output_words}
+use Rattle.opgen_operator.specs.Outputs.{inputs_of, outputs_of, IsGood, IsGoodBy, IsGoodCut, IsInRange, recent_words, output_words}
 use Rattle.opgen_operator.specs.Valid.{IsValidSpec}
 use Rattle.opgen_operator.proofs.Valued.{choice, only_output, outputs_are, plain_is, plain_width, some_value, to_width, value_good, value_positive}
-use Rattle.opgen_ports.specs.PortNumbers.{format_at}
-use Rattle.opgen_ports.specs.Ports.{port}
-use Rattle.opgen_ports.specs.Saturated.{saturated, IsGoodSaturated}
+use Rattle.opgen_ports.specs.Ports.{format_at, port}
+use Rattle.opgen_ports.specs.Good.{saturated, IsGoodSaturated}
 use Rattle.opgen_saturate.specs.Chosen.{cut_by, cut_net}
 use Rattle.opgen_saturate.specs.Output.{AreOutputFormats, saturated_net, first_word, port_in}
 use Rattle.opgen_operator.proofs.Accepted.{accepted, plain_fits}

@@ -6,13 +6,12 @@ use Rattle.std.proofs.lemmas.Bool.{leb-false, leb-true}
 use Rattle.std.proofs.lemmas.Int.{ints}
 use Rattle.opgen_num.specs.declared.format.Format.{Format}
 use Rattle.opgen_num.specs.Formats.{Holds, IsWidthOf}
-use Rattle.opgen_num.specs.Values.{val}
-use Rattle.opgen_num.specs.Sums.{pairwise}
+use Rattle.opgen_num.specs.Words.{val, pairwise}
 use Rattle.opgen_num.proofs.BitLength.{power_order}
 use Rattle.opgen_design.specs.declared.expr.Op.TheVariants.{And, Or}
 use Rattle.opgen_design.specs.Tree.{Tree, inverse, chain, none, more}
 use Rattle.opgen_design.specs.Value.{Scope, value, cut, chosen}
-use Rattle.opgen_ports.specs.Saturated.{into_range, least_of, greatest_of, saturated}
+use Rattle.opgen_ports.specs.Good.{into_range, least_of, greatest_of, saturated}
 use Rattle.opgen_saturate.specs.Recipe.{is_wider, first_dropped, counting, joined, outside, least_word, greatest_word}
 use Rattle.opgen_ports.proofs.Clamped.{Lies, under, over, inside, lies}
 use Rattle.opgen_saturate.proofs.Bits.{any_of, all_of, or-value, and-value}

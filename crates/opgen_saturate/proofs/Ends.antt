@@ -6,12 +6,11 @@ use Rattle.std.proofs.lemmas.Int.{ints}
 use Rattle.std.proofs.lemmas.Nat.{pow_pos}
 use Rattle.opgen_num.specs.declared.format.Format.{Format}
 use Rattle.opgen_num.specs.Formats.{Holds, least, greatest, IsWidthOf, fewest_bits}
-use Rattle.opgen_num.specs.Values.{val}
+use Rattle.opgen_num.specs.Words.{val, nat, word}
 use Rattle.opgen_num.specs.WordLaws.{nat-word, length-word}
-use Rattle.opgen_num.specs.Words.{nat, word}
 use Rattle.opgen_num.proofs.Residues.{value_from_residue}
-use Rattle.opgen_design.specs.Width.{IsWidth}
-use Rattle.opgen_ports.specs.Saturated.{least_of, greatest_of}
+use Rattle.opgen_design.specs.Value.{IsWidth}
+use Rattle.opgen_ports.specs.Good.{least_of, greatest_of}
 use Rattle.opgen_saturate.specs.Recipe.{least_word, greatest_word}
 
 -- the number of a word of a format's width

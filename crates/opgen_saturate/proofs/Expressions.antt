@@ -7,8 +7,8 @@ use Rattle.opgen_num.specs.declared.format.Format.{Format}
 use Rattle.opgen_design.specs.declared.expr.Op.{Op}
 use Rattle.opgen_design.specs.declared.expr.Op.TheVariants.{And, Or}
 use Rattle.opgen_design.specs.Tree.{Tree, inverse, chain, none, more}
-use Rattle.opgen_design.specs.Width as wide
-use Rattle.opgen_design.specs.Width.{as_width, width, width_on, nesting, operands_nesting, in_chain, in_not}
+use Rattle.opgen_design.specs.Value as wide
+use Rattle.opgen_design.specs.Value.{as_width, width, width_on, nesting, operands_nesting, in_chain, in_not}
 use Rattle.opgen_net.specs.Valid.{FitsNodes}
 use Rattle.opgen_net.proofs.FlowLaws.{index_within}
 use Rattle.opgen_saturate.specs.Recipe.{bit_of, bits_of, joined, first_dropped, outside}

@@ -7,7 +7,7 @@ use Rattle.opgen_num.specs.Formats.{least, greatest}
 use Rattle.opgen_num.proofs.Integers.{products, product_order}
 use Rattle.opgen_num.proofs.Quotients.{within_one, within_one-bounds}
 use Rattle.opgen_ports.proofs.Clamped.{Lies, under, over, inside, lies, in_order}
-use Rattle.opgen_ports.specs.Saturated.{into_range, least_of, greatest_of, saturated}
+use Rattle.opgen_ports.specs.Good.{into_range, least_of, greatest_of, saturated}
 use Rattle.opgen_saturate.specs.Law.{SaturationKeepsGood}
 
 module _ (m : ℤ) (some : pos 0 <ℤ m) where

@@ -3,11 +3,10 @@ use Rattle.std.proofs.Common.{◌≡◌, ℕ, ◌≤◌, Bool, true, List, lengt
 use Rattle.std.specs.Prelude.{ℤ, pos, All, slice_index}
 use Rattle.opgen_num.specs.declared.format.Format.{Format}
 use Rattle.opgen_num.specs.Formats.{Holds}
-use Rattle.opgen_num.specs.Values.{val}
-use Rattle.opgen_num.specs.Words.{nat}
+use Rattle.opgen_num.specs.Words.{val, nat}
 use Rattle.opgen_num.proofs.Values.{val_holds}
 use Rattle.opgen_design.specs.Run.{AreWords}
-use Rattle.opgen_design.specs.Width.{IsWidth}
+use Rattle.opgen_design.specs.Value.{IsWidth}
 use Rattle.opgen_net.specs.declared.net.Net.{Net}
 use Rattle.opgen_net.specs.declared.word_bits.WordBit.{WordBit}
 use Rattle.opgen_net.specs.Flow.{Inputs, flow}
@@ -17,7 +16,7 @@ use Rattle.opgen_net.specs.WordRule.{IsThere}
 use Rattle.opgen_net.proofs.FlowWidths.{flow-width}
 use Rattle.opgen_net.proofs.Later.{Later, bits-later, words-later}
 use Rattle.opgen_net.proofs.WordLaws.{word-has_bits, word-found_width}
-use Rattle.opgen_ports.specs.Saturated.{least_of, greatest_of}
+use Rattle.opgen_ports.specs.Good.{least_of, greatest_of}
 use Rattle.opgen_saturate.specs.Recipe.{is_wider, resized}
 use Rattle.opgen_saturate.specs.Saturates.{AreFormats, Saturates}
 use Rattle.opgen_saturate.proofs.Ends.{value_is}

@@ -9,8 +9,7 @@ use Rattle.std.proofs.lemmas.List.{length-drop}
 use Rattle.std.proofs.lemmas.Nat.{pow-add, pow_pos}
 use Rattle.opgen_num.specs.declared.format.Format.{Format}
 use Rattle.opgen_num.specs.Formats.{Holds, least, greatest, IsWidthOf}
-use Rattle.opgen_num.specs.Values.{highest, int, val}
-use Rattle.opgen_num.specs.Words.{nat}
+use Rattle.opgen_num.specs.Words.{highest, int, val, nat}
 use Rattle.opgen_num.proofs.BitLength.{power_order, power_cancel}
 use Rattle.opgen_num.proofs.Cuts.{nat-parts, take-below}
 use Rattle.opgen_num.proofs.Values.{highest_weight}

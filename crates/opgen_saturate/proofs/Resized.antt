@@ -9,8 +9,7 @@ use Rattle.std.proofs.lemmas.List.Elements.{All-append, All-cons, All-nil}
 use Rattle.std.proofs.lemmas.Nat.{pow-add}
 use Rattle.opgen_num.specs.declared.format.Format.{Format}
 use Rattle.opgen_num.specs.Formats.{IsWidthOf, fewest_bits}
-use Rattle.opgen_num.specs.Values.{highest, int, val}
-use Rattle.opgen_num.specs.Words.{digit, nat}
+use Rattle.opgen_num.specs.Words.{highest, int, val, digit, nat}
 use Rattle.opgen_num.proofs.Cuts.{nat-parts}
 use Rattle.opgen_num.proofs.Integers.{product-difference}
 use Rattle.opgen_net.specs.declared.node.Node.{Node}

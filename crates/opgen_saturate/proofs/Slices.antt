@@ -4,10 +4,10 @@ use Rattle.std.specs.Prelude.{ℤ, All, slice_index}
 use Rattle.std.proofs.lemmas.List.Elements.{All-head, All-nil}
 use Rattle.opgen_num.specs.declared.format.Format.{Format}
 use Rattle.opgen_num.specs.Formats.{IsWidthOf}
-use Rattle.opgen_num.specs.Values.{val}
+use Rattle.opgen_num.specs.Words.{val}
 use Rattle.opgen_design.specs.declared.expr.Slice.{Slice}
 use Rattle.opgen_design.specs.Run.{AreWords}
-use Rattle.opgen_design.specs.Width.{IsWidth}
+use Rattle.opgen_design.specs.Value.{IsWidth}
 use Rattle.opgen_net.specs.declared.net.Net.{Net}
 use Rattle.opgen_net.specs.declared.net.Output.{Output}
 use Rattle.opgen_net.specs.declared.word_bits.WordBit.{WordBit}
@@ -21,7 +21,7 @@ use Rattle.opgen_net.proofs.FlowWidths.{flow-width}
 use Rattle.opgen_net.proofs.Later.{Later, later-then, bits-later, words-later}
 use Rattle.opgen_net.proofs.WordLaws.{word-has_bits, word-found_width}
 use Rattle.opgen_saturate.specs.Output.{AreOutputFormats, with_slice, saturated_output, saturated_outputs, saturated_net, first_word, port_of, port_in, SaturatesOutput}
-use Rattle.opgen_ports.specs.Saturated.{saturated}
+use Rattle.opgen_ports.specs.Good.{saturated}
 use Rattle.opgen_saturate.specs.Saturates.{AreFormats}
 use Rattle.opgen_saturate.proofs.Decision.{all-bits}
 use Rattle.opgen_saturate.proofs.Lowest.{Made}

@@ -3,7 +3,7 @@ use Rattle.std.proofs.Common.{◌≡◌, ℕ, ◌-◌, ◌<◌, ◌≤◌, cond,
 use Rattle.std.specs.Prelude.{ℤ, All, slice_index}
 use Rattle.opgen_num.specs.declared.format.Format.{Format}
 use Rattle.opgen_num.specs.Formats.{Holds}
-use Rattle.opgen_num.specs.Values.{val}
+use Rattle.opgen_num.specs.Words.{val}
 use Rattle.opgen_design.specs.Run.{AreWords}
 use Rattle.opgen_design.specs.Value.{cut, chosen}
 use Rattle.opgen_net.specs.declared.cell.Class.TheVariants.{Logic}
@@ -17,7 +17,7 @@ use Rattle.opgen_net.proofs.Appending.{flow-append_last, width-append_last}
 use Rattle.opgen_net.proofs.FlowWidths.{flow-width}
 use Rattle.opgen_net.proofs.Grown.{grown-flow, grown-width}
 use Rattle.opgen_net.proofs.Later.{Later, later-then, later-node, node_there, words-later}
-use Rattle.opgen_ports.specs.Saturated.{saturated}
+use Rattle.opgen_ports.specs.Good.{saturated}
 use Rattle.opgen_saturate.specs.Recipe.{is_wider, resized, outside, least_word, greatest_word, with_test, with_limit, with_choice, with_saturated}
 use Rattle.opgen_saturate.specs.Saturates.{AreFormats}
 use Rattle.opgen_saturate.proofs.Ends.{least_is, greatest_is}

@@ -1,10 +1,11 @@
--- The net of a specification by that of its operator: where the specification chooses a width, the output is brought into its range.
+-- The net of a specification by that of its operator: where the specification chooses a width, the output is brought into its
+-- range.
 use Rattle.std.specs.Prelude.{ℕ, Option, Some, None}
 use Rattle.opgen_net.specs.declared.net.Net.{Net}
 use Rattle.opgen_operator.specs.declared.spec.Spec.{Spec}
 use Rattle.opgen_operator.specs.Operator.{operator_outputs}
 use Rattle.opgen_operator.specs.Outputs.{outputs_of}
-use Rattle.opgen_ports.specs.PortNumbers.{format_at}
+use Rattle.opgen_ports.specs.Ports.{format_at}
 use Rattle.opgen_saturate.specs.Output.{saturated_net}
 
 abbrev pub cut_by : (width : Option ℕ) → Spec → Net → Net

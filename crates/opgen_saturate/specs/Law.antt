@@ -2,7 +2,7 @@
 use Rattle.std.specs.Prelude.{Bool, ℤ, pos, ◌<ℤ◌}
 use Rattle.opgen_num.specs.declared.format.Format.{Format}
 use Rattle.opgen_num.specs.Rounding.{IsGoodLinear}
-use Rattle.opgen_ports.specs.Saturated.{saturated, IsGoodSaturated}
+use Rattle.opgen_ports.specs.Good.{saturated, IsGoodSaturated}
 
 -- what is good for a value is good, once both are brought into the range of a format
 abbrev pub SaturationKeepsGood : Type 0

@@ -2,7 +2,7 @@
 use Rattle.std.specs.Prelude.{◌≡◌, ℕ, ℤ, Bool, All, List, [], ◌∷◌, ◌++◌, length, map}
 use Rattle.opgen_num.specs.declared.format.Format.{Format}
 use Rattle.opgen_num.specs.Formats.{IsWidthOf}
-use Rattle.opgen_num.specs.Values.{val}
+use Rattle.opgen_num.specs.Words.{val}
 use Rattle.opgen_design.specs.declared.expr.Slice.{Slice}
 use Rattle.opgen_design.specs.Run.{AreWords}
 use Rattle.opgen_design.specs.Value.{word_at}
@@ -12,7 +12,7 @@ use Rattle.opgen_net.specs.Flow.{Inputs, slice_flow}
 use Rattle.opgen_net.specs.Placed.{Placed, with_bits, whole}
 use Rattle.opgen_net.specs.Valid.{input_widths, slice_width}
 use Rattle.opgen_net.specs.WordRule.{bits_from}
-use Rattle.opgen_ports.specs.Saturated.{saturated}
+use Rattle.opgen_ports.specs.Good.{saturated}
 use Rattle.opgen_saturate.specs.Recipe.{with_saturated}
 
 -- a net has one output, which is read in one format, and is to have another

@@ -2,12 +2,12 @@
 use Rattle.std.specs.Prelude.{◌≡◌, ℕ, ℤ, All, slice_index}
 use Rattle.opgen_num.specs.declared.format.Format.{Format}
 use Rattle.opgen_num.specs.Formats.{IsWidthOf}
-use Rattle.opgen_num.specs.Values.{val}
+use Rattle.opgen_num.specs.Words.{val}
 use Rattle.opgen_design.specs.Run.{AreWords}
 use Rattle.opgen_net.specs.declared.net.Net.{Net}
 use Rattle.opgen_net.specs.Flow.{Inputs, flow}
 use Rattle.opgen_net.specs.Valid.{input_widths, widths}
-use Rattle.opgen_ports.specs.Saturated.{saturated}
+use Rattle.opgen_ports.specs.Good.{saturated}
 
 -- a node that is read in one format, and another format, both of widths of signals
 pub record AreFormats (net : Net) (node : ℕ) (format to : Format) : Type 0 where

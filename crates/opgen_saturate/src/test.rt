@@ -1,6 +1,6 @@
 //! The expression that tests whether a number lies outside the range of another format.
 ghost use Rattle.std.specs.Prelude.{◌≡◌, ◌+◌, ◌^◌, ◌<◌, ◌≤◌, IfOk, map};
-ghost use Rattle.opgen_num.specs.declared.TheConstants.{MAX_WIDTH};
+ghost use Rattle.opgen_num.specs.declared.format.TheConstants.{MAX_WIDTH};
 ghost use Rattle.opgen_design.specs.Plain.{plain};
 ghost use Rattle.opgen_saturate.specs.Recipe.{counting, is_wider, first_dropped, bit_of, bit_list, joined, outside};
 

@@ -9,7 +9,7 @@ use opgen_num::{Format, Memory};
 use std::alloc::Global;
 use std::test::Fail;
 
-/// A net of one input of six bits, node 0.
+// A net of one input of six bits, node 0.
 fn six_bits(alloc: Global) -> Result<Net, Memory>
     ensures nodes { IfOk result (λ net. net.nodes ≡ Input 0 6 ∷ []) }
     ensures valid { IfOk result IsValid }

@@ -1,6 +1,6 @@
 -- Which nodes each node of a net reads.
 use Rattle.std.specs.Prelude.{ℕ, Bool, true, false, List, [], ◌∷◌, Option, Some, None, slice_get}
-use Rattle.opgen_design.specs.Reads.{names_read}
+use Rattle.opgen_design.specs.Sound.{names_read}
 use Rattle.opgen_net.specs.declared.node.Node.{Node}
 use Rattle.opgen_net.specs.declared.node.Node.TheVariants.{Input, Constant, Cells, Choice, Table, Delay}
 

@@ -18,7 +18,7 @@ fn slot_at(slots: &[Slot], node: usize) -> Slot
     slots[node]
 }
 
-/// The later of two slots.
+// The later of two slots.
 fn later(one: Slot, other: Slot) -> Slot
     ensures { result ≡ later one other }
 {
@@ -31,7 +31,7 @@ fn later(one: Slot, other: Slot) -> Slot
     if one.time < other.time { other } else { one }
 }
 
-/// The latest slot of some nodes.
+// The latest slot of some nodes.
 fn latest(slots: &[Slot], nodes: &[usize]) -> Slot
     requires { All (λ j. j < length slots.now) nodes.now }
     ensures { result ≡ latest start slots.now nodes.now }
@@ -43,7 +43,7 @@ fn latest(slots: &[Slot], nodes: &[usize]) -> Slot
     last
 }
 
-/// The slot of cells after operands of which the latest stands here.
+// The slot of cells after operands of which the latest stands here.
 fn after(setup: u32, period: u32, delay: u32, last: Slot) -> Slot
     requires short { delay + setup ≤ period }
     requires early { last.cycle + 1 < 2 ^ 64 }
@@ -63,7 +63,7 @@ fn after(setup: u32, period: u32, delay: u32, last: Slot) -> Slot
     }
 }
 
-/// The slot of the node that comes next.
+// The slot of the node that comes next.
 fn slot_of(
     alloc: Global,
     setup: u32,
@@ -139,7 +139,7 @@ pub fn greatest_time(slots: &[Slot]) -> u32
     most
 }
 
-/// The cycle of a node, or 0 of a constant.
+// The cycle of a node, or 0 of a constant.
 fn counted_cycle(nodes: &[Node], slots: &[Slot], node: usize) -> usize
     requires slots { length slots.now ≡ length nodes.now }
     requires there { node < length nodes.now }

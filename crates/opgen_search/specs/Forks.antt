@@ -26,6 +26,12 @@ abbrev pub IsAnswered : Search → (low high : ℕ) → Found → Type 0
 IsAnswered search low high found =
     IfOk found.best (λ best. Covered (parts_of search low high) search.width (best_of best) (view found.pass))
 
+-- where two answer for neighbouring ranges of pieces, the third answers for both ranges together
+abbrev pub AnswersBoth : Search → (left right both : Found) → Type 0
+AnswersBoth search left right both =
+    (low middle high : ℕ) → low ≤ middle → middle ≤ high → IsAnswered search low middle left → IsAnswered search middle high right
+    → IsAnswered search low high both
+
 abbrev pub IsShort : Found → Type 0
 IsShort found = IfOk found.best (λ best. IfSome (best_of best) (λ set. length set < 2 ^ 31))
 

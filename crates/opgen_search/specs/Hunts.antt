@@ -2,13 +2,16 @@
 use Rattle.std.specs.Prelude.{◌≡◌, ◌⊎◌, ℕ, ◌+◌, ◌%◌, ◌^◌, ◌≤◌, ◌<◌, min, List, length, All, Contains, Option, Some, None, IfSome, IsSomeAnd}
 use Rattle.opgen_bound.specs.Views.{most}
 use Rattle.opgen_bound.specs.Passes.{view, IsPassOf}
+use Rattle.opgen_graph.specs.Reach.{Among}
 use Rattle.opgen_graph.specs.SetCost.{set_cost}
 use Rattle.opgen_graph.specs.SignedDigits.{IsDigitSet}
 use Rattle.opgen_search.specs.declared.hunt.Search.{Search}
 use Rattle.opgen_search.specs.declared.hunt.Piece.{Piece}
 use Rattle.opgen_search.specs.declared.hunt.Hunt.{Hunt}
+use Rattle.opgen_search.specs.declared.node.Node.{Node}
 use Rattle.opgen_search.specs.Space.{AreTargets, limit}
 use Rattle.opgen_search.specs.Members.{Within}
+use Rattle.opgen_search.specs.Nodes.{members_of}
 use Rattle.opgen_search.specs.Parts.{number, IsLeastFurther, IsOwn, Part}
 use Rattle.opgen_search.specs.Covered.{best_of, IsDone}
 
@@ -70,6 +73,17 @@ abbrev pub IsCovered : Piece → Hunt → (set : List ℕ) → (more : ℕ) → 
 IsCovered piece hunt set more = (other : List ℕ) → own_of piece other → Within set other → length other ≤ length set + more
     → IsSettled piece hunt other
 
+-- each set of the piece that has these members is settled
+abbrev pub AreSettled : Piece → Hunt → (set : List ℕ) → Type 0
+AreSettled piece hunt set = (other : List ℕ) → own_of piece other → Within set other → IsSettled piece hunt other
+
+-- each that has the members of a node and at most so many more, one of which is this member, made of what is placed, is settled
+abbrev pub IsTried : Piece → Hunt → Node → (more member : ℕ) → Type 0
+IsTried piece hunt node more member =
+    (other : List ℕ) → own_of piece other → Within (members_of node) other → length other ≤ length (members_of node) + more
+    → Contains other member → (Contains (members_of node) member → ⊥) → Among node.placed.items member
+    → IsSettled piece hunt other
+
 -- the least further member so far, or none
 abbrev pub IsLeastOf : (targets set : List ℕ) → (least : Option ℕ) → Type 0
 IsLeastOf targets set None = Within set targets
@@ -86,3 +100,8 @@ IsTaken targets pieces piece (Some m) = number targets m % pieces ≡ piece
 
 abbrev pub takes : Piece → (least : Option ℕ) → Type 0
 takes piece = IsTaken piece.search.now.targets.items piece.search.now.pieces piece.number
+
+-- the numbers that may be a further member are among these, but for those that, as the last one, give a set of another piece
+abbrev pub HaveChoices : Piece → (least : Option ℕ) → (more : ℕ) → List ℕ → Type 0
+HaveChoices piece least more found =
+    (x : ℕ) → IsChoice piece.search.now.limit x → (more ≤ 1 → takes piece (Some (least_with least x))) → Contains found x

@@ -2,12 +2,17 @@
 use Rattle.std.specs.Prelude.{◌≡◌, ℕ, ◌+◌, ◌≤◌, ◌<◌, List, [], ◌∷◌, ◌++◌, length, drop, nat_eq, All, Contains}
 use Rattle.std.specs.List.{IsDistinct}
 use Rattle.opgen_graph.specs.Reach.{Among, IsBuiltFrom, IsMember}
+use Rattle.opgen_search.specs.declared.node.Node.{Node}
 use Rattle.opgen_search.specs.Space.{limit}
 use Rattle.opgen_search.specs.Members.{Within}
 
 -- 1 is placed first; the others are the members
 abbrev pub members : (placed left : List ℕ) → List ℕ
 members placed left = drop 1 placed ++ left
+
+-- all members of a node, those that are placed first
+abbrev pub members_of : Node → List ℕ
+members_of node = members node.placed.items node.left.items
 
 -- the placed members stand in an order in which they can be made, and no member stands twice
 pub record IsNode (placed left : List ℕ) : Type 0 where

@@ -1,6 +1,6 @@
 //! The least set of adders for the odd parts of some numbers, and its graph.
 ghost use Rattle.std.specs.Prelude.{◌≤◌, All, IfOk};
-ghost use Rattle.opgen_num.specs.declared.TheConstants.{MAX_INPUT};
+ghost use Rattle.opgen_num.specs.declared.format.TheConstants.{MAX_INPUT};
 ghost use Rattle.opgen_ports.specs.OddParts.{odd_part_count};
 ghost use Rattle.opgen_ports.specs.Ranges.{IsWithin};
 ghost use Rattle.opgen_graph.specs.Served.{Serves};

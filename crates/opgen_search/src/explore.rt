@@ -1,11 +1,9 @@
 //! Explores the sets of one piece of the search: adds one member after another, and keeps the best complete set.
-ghost use Rattle.std.specs.Prelude.{◌≡◌, ◌⊎◌, [], ℕ, ◌+◌, ◌≤◌, ◌<◌, List, length, drop, IfOk, OnOk, IsTrue, IsFalse, Contains, IsPermutation};
+ghost use Rattle.std.specs.Prelude.{◌≡◌, ◌⊎◌, [], ◌+◌, ◌<◌, length, drop, IfOk, OnOk, IsTrue, IsFalse, IsPermutation};
 ghost use Rattle.std.specs.List.Sorted.{IsNonDecreasing};
-ghost use Rattle.opgen_graph.specs.Reach.{Among};
 ghost use Rattle.opgen_graph.specs.SetCost.{set_cost};
-ghost use Rattle.opgen_search.specs.Members.{Within};
-ghost use Rattle.opgen_search.specs.Nodes.{IsNode, IsStuck, HasRoom, members};
-ghost use Rattle.opgen_search.specs.Hunts.{IsChoice, IsPiece, IsHunt, IsSettled, IsLater, IsCovered, IsLeastOf, own_of, takes};
+ghost use Rattle.opgen_search.specs.Nodes.{IsNode, IsStuck, HasRoom, members, members_of};
+ghost use Rattle.opgen_search.specs.Hunts.{IsChoice, IsPiece, IsHunt, IsLater, IsCovered, AreSettled, IsTried, IsLeastOf, takes};
 
 use crate::hunt::{Hunt, Piece};
 use crate::node::{Node, close, has, is_worth, with_member};
@@ -35,7 +33,7 @@ fn consider(piece: &Piece, hunt: &mut Hunt, node: &Node) -> Result<(), AllocErro
     requires takes { takes piece.now node.now.least }
     ensures hunt { IsHunt piece.now hunt.new }
     ensures later { IsLater piece.now hunt.old hunt.new }
-    ensures all { OnOk result ((other : List ℕ) → own_of piece.now other → Within (members node.now.placed.items []) other → IsSettled piece.now hunt.new other) }
+    ensures all { OnOk result (AreSettled piece.now hunt.new (members node.now.placed.items [])) }
 {
     let set = set_of(piece.alloc, node.placed.as_slice())?;
     if is_better(piece, hunt, set.as_slice()) {
@@ -59,11 +57,11 @@ pub fn explore(piece: &Piece, hunt: &mut Hunt, mut node: Node, more: u32) -> Res
     requires piece { IsPiece piece.now }
     requires hunt { IsHunt piece.now hunt.old }
     requires node { IsNode node.placed.items node.left.items }
-    requires room { HasRoom piece.now.search.now.targets.items piece.now.search.now.extra (members node.placed.items node.left.items) more }
-    requires least { IsLeastOf piece.now.search.now.targets.items (members node.placed.items node.left.items) node.least }
+    requires room { HasRoom piece.now.search.now.targets.items piece.now.search.now.extra (members_of node) more }
+    requires least { IsLeastOf piece.now.search.now.targets.items (members_of node) node.least }
     ensures hunt { IsHunt piece.now hunt.new }
     ensures later { IsLater piece.now hunt.old hunt.new }
-    ensures covered { OnOk result (IsCovered piece.now hunt.new (members node.placed.items node.left.items) more) }
+    ensures covered { OnOk result (IsCovered piece.now hunt.new (members_of node) more) }
 {
     close(&mut node)?;
     if is_whole(piece, &node) {
@@ -83,12 +81,12 @@ fn try_members(piece: &Piece, hunt: &mut Hunt, node: &Node, more: u32) -> Result
     requires node { IsNode node.now.placed.items node.now.left.items }
     requires stuck { IsStuck node.now.placed.items node.now.left.items }
     requires open { (0 < length node.now.left.items) ⊎ (takes piece.now node.now.least → ⊥) }
-    requires room { HasRoom piece.now.search.now.targets.items piece.now.search.now.extra (members node.now.placed.items node.now.left.items) more }
-    requires least { IsLeastOf piece.now.search.now.targets.items (members node.now.placed.items node.now.left.items) node.now.least }
+    requires room { HasRoom piece.now.search.now.targets.items piece.now.search.now.extra (members_of node.now) more }
+    requires least { IsLeastOf piece.now.search.now.targets.items (members_of node.now) node.now.least }
     requires more { 0 < more }
     ensures hunt { IsHunt piece.now hunt.new }
     ensures later { IsLater piece.now hunt.old hunt.new }
-    ensures covered { OnOk result (IsCovered piece.now hunt.new (members node.now.placed.items node.now.left.items) more) }
+    ensures covered { OnOk result (IsCovered piece.now hunt.new (members_of node.now) more) }
 {
     look(piece, hunt);
     let width = piece.search.width;
@@ -113,14 +111,14 @@ fn try_member(
     requires hunt { IsHunt piece.now hunt.old }
     requires node { IsNode node.now.placed.items node.now.left.items }
     requires stuck { IsStuck node.now.placed.items node.now.left.items }
-    requires room { HasRoom piece.now.search.now.targets.items piece.now.search.now.extra (members node.now.placed.items node.now.left.items) more }
-    requires least { IsLeastOf piece.now.search.now.targets.items (members node.now.placed.items node.now.left.items) node.now.least }
+    requires room { HasRoom piece.now.search.now.targets.items piece.now.search.now.extra (members_of node.now) more }
+    requires least { IsLeastOf piece.now.search.now.targets.items (members_of node.now) node.now.least }
     requires more { 0 < more }
-    requires spent { spent ≡ set_cost piece.now.search.now.width (members node.now.placed.items node.now.left.items) }
+    requires spent { spent ≡ set_cost piece.now.search.now.width (members_of node.now) }
     requires member { IsChoice piece.now.search.now.limit member }
     ensures hunt { IsHunt piece.now hunt.new }
     ensures later { IsLater piece.now hunt.old hunt.new }
-    ensures all { OnOk result ((other : List ℕ) → own_of piece.now other → Within (members node.now.placed.items node.now.left.items) other → length other ≤ length (members node.now.placed.items node.now.left.items) + more → Contains other member → (Contains (members node.now.placed.items node.now.left.items) member → ⊥) → Among node.now.placed.items member → IsSettled piece.now hunt.new other) }
+    ensures all { OnOk result (IsTried piece.now hunt.new node.now more member) }
 {
     if spent + cost(&[member], piece.search.width) > hunt.known {
         return Ok(());

@@ -1,10 +1,10 @@
 //! Splits the pieces of the search between threads, and merges what they found.
-ghost use Rattle.std.specs.Prelude.{◌≡◌, ◌^◌, ◌≤◌, ◌<◌, ℕ, length, IfOk, IfSome, OnOk, IsOk};
+ghost use Rattle.std.specs.Prelude.{◌≡◌, ◌^◌, ◌<◌, length, IfOk, IfSome, OnOk, IsOk};
 ghost use Rattle.std.specs.Thread.{IsSync};
 ghost use Rattle.opgen_bound.specs.Passes.{view, IsPassOf};
 ghost use Rattle.opgen_bound.specs.Steps.{joined};
 ghost use Rattle.opgen_search.specs.Covered.{best_of, IsLesser};
-ghost use Rattle.opgen_search.specs.Forks.{IsAnswered, IsAsked, IsFound, IsShort};
+ghost use Rattle.opgen_search.specs.Forks.{AnswersBoth, IsAsked, IsFound, IsShort};
 
 use crate::gate::Gate;
 use crate::hunt::Search;
@@ -35,7 +35,7 @@ fn merge(bound: &Bound, search: &Search, left: Found, right: Found) -> Found
     ensures bound { IsPassOf bound.now result.pass }
     ensures view { view result.pass ≡ joined (view left.pass) (view right.pass) }
     ensures count { IsShort result }
-    ensures answered { (low middle high : ℕ) → low ≤ middle → middle ≤ high → IsAnswered search.now low middle left → IsAnswered search.now middle high right → IsAnswered search.now low high result }
+    ensures answered { AnswersBoth search.now left right result }
 {
     let Found {
         best: one,

@@ -2,9 +2,9 @@
 
 /// Is told when a piece of a search begins and when it has ended. It cannot change what the search answers.
 pub trait Gate {
-    /// The piece begins: it has not looked at the least cost known yet.
+    // The piece begins: it has not looked at the least cost known yet.
     fn arrive(&self, piece: u32);
-    /// The piece has ended. As it began, `first` was the least cost known.
+    // The piece has ended. As it began, `first` was the least cost known.
     fn leave(&self, piece: u32, first: u64);
 }
 

@@ -1,6 +1,6 @@
 //! Finds the least set of adders for some numbers, by all pieces of the search on several threads.
 ghost use Rattle.std.specs.Prelude.{◌≡◌, ◌≤◌, ◌<◌, length, IfOk};
-ghost use Rattle.opgen_num.specs.declared.TheConstants.{MAX_INPUT};
+ghost use Rattle.opgen_num.specs.declared.format.TheConstants.{MAX_INPUT};
 ghost use Rattle.opgen_graph.specs.Reach.{Reaches};
 ghost use Rattle.opgen_search.specs.Space as space;
 ghost use Rattle.opgen_search.specs.Space.{AreTargets};

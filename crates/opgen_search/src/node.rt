@@ -2,7 +2,7 @@
 ghost use Rattle.std.specs.Prelude.{◌≡◌, ◌++◌, ◌∷◌, [], ◌<◌, ◌≤◌, Some, IfOk, OnOk, IfNone, IfSome, IsFalse, IsTrue, length, slice_index, All, Contains, IsPermutation, ◌⊎◌};
 ghost use Rattle.opgen_graph.specs.Adders.{IsTerm};
 ghost use Rattle.opgen_graph.specs.Reach.{Among};
-ghost use Rattle.opgen_search.specs.Nodes.{IsNode, IsStuck, members};
+ghost use Rattle.opgen_search.specs.Nodes.{IsNode, IsStuck, members_of};
 ghost use Rattle.opgen_search.specs.Hunts as hunts;
 
 use crate::part::least_with;
@@ -36,7 +36,7 @@ fn next_made(placed: &[u32], left: &[u32]) -> Option<usize>
 pub fn close(node: &mut Node) -> Result<(), AllocError>
     requires { IsNode node.old.placed.items node.old.left.items }
     ensures node { OnOk result (IsNode node.new.placed.items node.new.left.items) }
-    ensures members { OnOk result (IsPermutation (members node.old.placed.items node.old.left.items) (members node.new.placed.items node.new.left.items)) }
+    ensures members { OnOk result (IsPermutation (members_of node.old) (members_of node.new)) }
     ensures stuck { OnOk result (IsStuck node.new.placed.items node.new.left.items) }
     ensures least { OnOk result (node.new.least ≡ node.old.least) }
 {

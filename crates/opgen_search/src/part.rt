@@ -1,8 +1,8 @@
 //! Which sets belong to which piece of the search, by their least member that is no target.
-ghost use Rattle.std.specs.Prelude.{◌≡◌, ◌↔◌, ◌^◌, ◌≤◌, ◌<◌, ℕ, length, All, Contains, Some, IfOk, IsTrue};
+ghost use Rattle.std.specs.Prelude.{◌≡◌, ◌↔◌, ◌^◌, ◌≤◌, ◌<◌, length, All, Some, IfOk, IsTrue};
 ghost use Rattle.opgen_search.specs.Parts as parts;
 ghost use Rattle.opgen_search.specs.Hunts as hunts;
-ghost use Rattle.opgen_search.specs.Hunts.{IsChoice, AreOdds, AreOwnOdds, IsSearch, IsPiece, takes};
+ghost use Rattle.opgen_search.specs.Hunts.{IsChoice, AreOdds, AreOwnOdds, HaveChoices, IsSearch, IsPiece, takes};
 
 use crate::hunt::{Piece, Search};
 use std::alloc::{AllocError, Global};
@@ -18,7 +18,7 @@ pub fn odds_below(alloc: Global, limit: u32) -> Result<Vec<u32>, AllocError>
     Ok(odds)
 }
 
-/// The number of a further member.
+// The number of a further member.
 fn number(targets: &[u32], member: u32) -> u32
     requires { length targets.now < 2 ^ 31 }
     ensures { result ≡ parts.number targets.now member }
@@ -76,7 +76,7 @@ pub fn is_foreign(piece: &Piece, least: Option<u32>, member: u32, more: u32) -> 
 pub fn choices<'a>(piece: &'a Piece, least: Option<u32>, more: u32) -> &'a [u32]
     requires { IsPiece piece.now }
     ensures each { All (IsChoice piece.now.search.now.limit) result.now }
-    ensures every { (x : ℕ) → IsChoice piece.now.search.now.limit x → (more ≤ 1 → takes piece.now (Some (hunts.least_with least x))) → Contains result.now x }
+    ensures every { HaveChoices piece.now least more result.now }
 {
     if more > 1 || (least.is_some() && takes_least(piece, least)) {
         return piece.search.odds.as_slice();

@@ -1,4 +1,5 @@
--- The rule of a graph of adders, which leaves one graph (after Bull and Horrocks; de Dinechin and Kumm, Application-Specific Arithmetic).
+-- The rule of a graph of adders, which leaves one graph (after Bull and Horrocks; de Dinechin and Kumm, Application-Specific
+-- Arithmetic).
 use Rattle.std.specs.Prelude.{◌≡◌, ◌⊎◌, ◌↔◌, ℕ, ◌+◌, ◌-◌, ◌==◌, ◌≤◌, ◌<◌, max, ℤ, List, [], ◌∷◌, ◌++◌, All, Contains, if◌then◌else◌}
 use Rattle.std.specs.declared.cmp.Ordering.TheVariants.{Less}
 use Rattle.std.specs.Ordering.{nat_cmp}

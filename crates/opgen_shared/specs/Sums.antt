@@ -1,4 +1,5 @@
--- The numbers that stand while a graph grows: 1 and the values of its adders. Their levels are above 0, those of other numbers are 0.
+-- The numbers that stand while a graph grows: 1 and the values of its adders. Their levels are above 0, those of other numbers
+-- are 0.
 use Rattle.std.specs.Prelude.{◌≡◌, ◌↔◌, ℕ, ◌<◌, ◌^◌, List, ◌∷◌, length, slice_index, Contains}
 use Rattle.opgen_graph.specs.declared.ranks.Adder.{Adder}
 use Rattle.opgen_graph.specs.Graphs.{values}

@@ -9,7 +9,7 @@ use Rattle.opgen_design.specs.declared.design.Port.{Port}
 use Rattle.opgen_design.specs.Run.{at_ports, is_in, is_out, input_widths, output_widths}
 use Rattle.opgen_design.specs.declared.sound.Rule.TheVariants.{Width}
 use Rattle.opgen_design.specs.Sound.{HasNumbers, IsSound, PortPasses, at_port}
-use Rattle.opgen_num.specs.declared.TheConstants.{MAX_WIDTH}
+use Rattle.opgen_num.specs.declared.format.TheConstants.{MAX_WIDTH}
 
 -- the widths of the ports of one direction, port after port
 abbrev pub widths_on : (is : Dir → Bool) → List Port → List ℕ

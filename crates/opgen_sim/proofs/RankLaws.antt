@@ -11,9 +11,8 @@ use Rattle.opgen_design.specs.declared.design.Driver.{Driver}
 use Rattle.opgen_design.specs.declared.design.Driver.TheVariants.{Assign, Choice, Table, Register, Output}
 use Rattle.opgen_design.specs.declared.expr.Expr.{Expr}
 use Rattle.opgen_design.specs.Plain.{plain, plain_all}
-use Rattle.opgen_design.specs.Reads.{ReadsName, SomeOperandReads}
+use Rattle.opgen_design.specs.Sound.{ReadsName, SomeOperandReads, target}
 use Rattle.opgen_design.specs.declared.design.Target.TheVariants.{Signal as signal}
-use Rattle.opgen_design.specs.Sound.{target}
 use Rattle.opgen_design.specs.Tree.{Tree, Trees, name, part, bits, port, inverse, chain, none, more}
 use Rattle.opgen_sim.specs.Depth.{Reads, registers_in, CountRegisters}
 use Rattle.opgen_sim.specs.Ranks.{highest, highest_of, least_rank, is_at_most, is_ranked}

@@ -3,10 +3,9 @@ use Rattle.std.specs.Prelude.{ℕ, ◌+◌, ◌≡◌, ◌≤◌, ◌⊎◌, Boo
 use Rattle.opgen_design.specs.declared.design.Design.{Design}
 use Rattle.opgen_design.specs.declared.design.Driver.{Driver}
 use Rattle.opgen_design.specs.declared.design.Driver.TheVariants.{Assign, Choice, Table, Register, Output}
-use Rattle.opgen_design.specs.Reads.{ReadsName}
+use Rattle.opgen_design.specs.Sound.{ReadsName, IsSound, target}
 use Rattle.opgen_design.specs.Run.{Words, Run, words_at_outputs}
 use Rattle.opgen_design.specs.declared.design.Target.TheVariants.{Signal as signal}
-use Rattle.opgen_design.specs.Sound.{IsSound, target}
 
 -- a driver reads a signal, in this cycle or, as a register, for the next one
 abbrev pub Reads : ℕ → Driver → Type 0

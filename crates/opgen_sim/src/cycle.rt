@@ -1,9 +1,9 @@
 //! Runs one cycle of a design over words: the drivers in order, then the next words of the registers.
 ghost use Rattle.std.specs.Prelude.{◌≡◌, length, map};
 ghost use Rattle.opgen_design.specs.Order.{IsOrderOf};
-ghost use Rattle.opgen_design.specs.Run.{Cycle, at_ports, is_in};
 ghost use Rattle.opgen_design.specs.Sound.{IsSound, signal_widths};
 ghost use Rattle.opgen_runs.specs.Evaluate.{HaveWidths};
+ghost use Rattle.opgen_sim.specs.Ready.{RunsCycle, all_words};
 ghost use Rattle.opgen_sim.specs.Tables.{AreTables};
 
 use crate::evaluate::{hand_all_on, settle};
@@ -26,9 +26,9 @@ pub fn run_cycle(
     requires sound { IsSound design.now }
     requires order { IsOrderOf design.now order.now }
     requires tables { AreTables design.now.drivers tables.now }
-    requires widths { HaveWidths design.now (record { signals = signals.old; ports = ports.old }) }
+    requires widths { HaveWidths design.now (all_words signals.old ports.old) }
     requires room { map length next.old ≡ signal_widths design.now }
-    ensures cycle { Cycle design.now signals.old (at_ports is_in design.now.ports ports.old) (record { signals = signals.new; ports = ports.new }) next.new }
+    ensures cycle { RunsCycle design.now (all_words signals.old ports.old) (all_words signals.new ports.new) next.new }
     ensures widths { map length next.new ≡ signal_widths design.now }
 {
     settle(design, order, tables, signals, ports);

@@ -4,6 +4,7 @@ ghost use Rattle.opgen_design.specs.Value.{chosen};
 ghost use Rattle.opgen_design.specs.Sound.{IsSound, signal_widths, target};
 ghost use Rattle.opgen_runs.specs.Fitting.{AreNarrow, scope_of};
 ghost use Rattle.opgen_runs.specs.Evaluate.{DriverFits, HaveWidths, IsThere, driver_word, hand_all_on, hand_on, put, settle};
+ghost use Rattle.opgen_sim.specs.Ready.{all_words};
 ghost use Rattle.opgen_sim.specs.Tables.{AreTables, HasRows, rows_of};
 
 use crate::tables::{Rows, look_up};
@@ -52,9 +53,9 @@ fn put(driver: &Driver, table: &Rows, signals: &mut [Word], ports: &mut [Word])
     requires table { HasRows (rows_of driver.now) table.now }
     requires narrow { AreNarrow signals.old }
     requires fits { DriverFits signals.old ports.old driver.now }
-    requires there { IsThere (record { signals = signals.old; ports = ports.old }) (target driver.now) }
-    ensures signals { signals.new ≡ (put driver.now (record { signals = signals.old; ports = ports.old })).signals }
-    ensures ports { ports.new ≡ (put driver.now (record { signals = signals.old; ports = ports.old })).ports }
+    requires there { IsThere (all_words signals.old ports.old) (target driver.now) }
+    ensures signals { signals.new ≡ (put driver.now (all_words signals.old ports.old)).signals }
+    ensures ports { ports.new ≡ (put driver.now (all_words signals.old ports.old)).ports }
 {
     let word = driver_word(driver, table, signals, ports);
     match driver {
@@ -87,9 +88,9 @@ pub fn settle(
     requires sound { IsSound design.now }
     requires places { (p i : ℕ) → slice_get order.now p ≡ Some i → i < length design.now.drivers }
     requires tables { AreTables design.now.drivers tables.now }
-    requires widths { HaveWidths design.now (record { signals = signals.old; ports = ports.old }) }
-    ensures signals { signals.new ≡ (settle design.now.drivers order.now (record { signals = signals.old; ports = ports.old })).signals }
-    ensures ports { ports.new ≡ (settle design.now.drivers order.now (record { signals = signals.old; ports = ports.old })).ports }
+    requires widths { HaveWidths design.now (all_words signals.old ports.old) }
+    ensures signals { signals.new ≡ (settle design.now.drivers order.now (all_words signals.old ports.old)).signals }
+    ensures ports { ports.new ≡ (settle design.now.drivers order.now (all_words signals.old ports.old)).ports }
 {
     for place in order {
         put(design.drivers.get(*place), &tables[*place], signals, ports);
@@ -107,9 +108,9 @@ fn hand_on(
     requires enable { IfSome enable (λ port. port < length ports.now) }
     requires narrow { AreNarrow signals.now }
     requires fits { DriverFits signals.now ports.now driver.now }
-    requires there { IsThere (record { signals = signals.now; ports = ports.now }) (target driver.now) }
+    requires there { IsThere (all_words signals.now ports.now) (target driver.now) }
     requires room { IsThere (record { signals = next.old; ports = ports.now }) (target driver.now) }
-    ensures { next.new ≡ hand_on enable driver.now (record { signals = signals.now; ports = ports.now }) next.old }
+    ensures { next.new ≡ hand_on enable driver.now (all_words signals.now ports.now) next.old }
 {
     if let Driver::Register { to, expr } = driver {
         let new = value(expr.expr(), signals, ports);
@@ -125,9 +126,9 @@ fn hand_on(
 /// those that they hold.
 pub fn hand_all_on(design: &Design, signals: &[Word], ports: &[Word], next: &mut [Word])
     requires sound { IsSound design.now }
-    requires widths { HaveWidths design.now (record { signals = signals.now; ports = ports.now }) }
+    requires widths { HaveWidths design.now (all_words signals.now ports.now) }
     requires room { map length next.old ≡ signal_widths design.now }
-    ensures words { next.new ≡ hand_all_on design.now.enable design.now.drivers (record { signals = signals.now; ports = ports.now }) next.old }
+    ensures words { next.new ≡ hand_all_on design.now.enable design.now.drivers (all_words signals.now ports.now) next.old }
     ensures widths { map length next.new ≡ signal_widths design.now }
 {
     for place in 0..design.drivers.len() {

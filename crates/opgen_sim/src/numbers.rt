@@ -1,7 +1,8 @@
 //! Numbers at the ports of a design.
 ghost use Rattle.std.specs.Prelude.{◌≡◌, ◌<◌, ◌^◌, ◌+◌, true, if◌then◌else◌, length, map, slice_index, slice_set};
-ghost use Rattle.opgen_num.specs.Words.{FitWidths, nat, word, words_of};
+ghost use Rattle.opgen_num.specs.Words.{FitWidths, nat, words_of};
 ghost use Rattle.opgen_design.specs.Run.{at_ports, is_in, is_out};
+ghost use Rattle.opgen_sim.specs.Numbers.{with_input};
 
 use opgen_design::{Dir, Port};
 use opgen_num::Word;
@@ -12,7 +13,7 @@ fn take_one(port: &Port, place: usize, inputs: &[u128], at: usize, words: &mut [
     requires at { is_in port.now.dir ≡ true → at < length inputs.now }
     requires fits { is_in port.now.dir ≡ true → slice_index inputs.now at < 2 ^ port.now.width }
     ensures at { result ≡ (if is_in port.now.dir then at + 1 else at) }
-    ensures words { words.new ≡ (if is_in port.now.dir then slice_set words.old place (word port.now.width (slice_index inputs.now at)) else words.old) }
+    ensures words { words.new ≡ with_input port.now place (slice_index inputs.now at) words.old }
 {
     match port.dir {
         Dir::In => {

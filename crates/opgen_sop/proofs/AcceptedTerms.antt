@@ -13,17 +13,16 @@ use Rattle.opgen_num.proofs.Integers.{product_order, commuted}
 use Rattle.opgen_num.proofs.RangeWidth.{count-holds, range_width-least}
 use Rattle.std.specs.Int.{div_ceil}
 use Rattle.opgen_ports.specs.Ranges.{IsInput}
-use Rattle.opgen_ports.specs.Reaches.{reach_with, reach_of, reach_over, above_zero, below_zero, rises, falls, in_units}
-use Rattle.opgen_ports.specs.Shifts.{places_down, down}
+use Rattle.opgen_ports.specs.Reaches.{reach_with, reach_of, reach_over, above_zero, below_zero, rises, falls, in_units, places_down, down}
 use Rattle.opgen_ports.proofs.InputPorts.{input_bit}
-use Rattle.opgen_kinds.specs.declared.sop.Sop.{Sop}
-use Rattle.opgen_kinds.specs.declared.sop.Scaled.{Scaled}
-use Rattle.opgen_kinds.specs.declared.sop.Times.{Times}
-use Rattle.opgen_kinds.specs.Sop.{Term, IsSop, IsAcceptedSop, format_of, terms_of, term_at, scaled_term, times_term, offset_term, offset_terms, total, depth, height, raised, sop_reach, sop_places, sop_format}
-use Rattle.opgen_kinds.proofs.Totals.{sum-cons}
-use Rattle.opgen_kinds.proofs.of_kind.Sop.{accepted_sop, accepted_shifts, accepted_parts}
-use Rattle.opgen_kinds.proofs.of_kind.SopTerms.{input_fits, scaled_place, times_place, offset_place, each_term}
-use Rattle.opgen_kinds.proofs.of_kind.SopSums.{greatest_above, total_order, small_shift, bits_of, up_of_down, down_of_down}
+use Rattle.opgen_terms.specs.declared.sop.Sop.{Sop}
+use Rattle.opgen_terms.specs.declared.sop.Scaled.{Scaled}
+use Rattle.opgen_terms.specs.declared.sop.Times.{Times}
+use Rattle.opgen_terms.specs.Sop.{Term, IsSop, IsAcceptedSop, format_of, terms_of, term_at, scaled_term, times_term, offset_term, offset_terms, total, depth, height, raised, sop_reach, sop_places, sop_format}
+use Rattle.opgen_ports.proofs.Totals.{sum-cons}
+use Rattle.opgen_terms.proofs.Lawful.{accepted_sop, accepted_shifts, accepted_parts}
+use Rattle.opgen_terms.proofs.EachTerm.{input_fits, scaled_place, times_place, offset_place, each_term}
+use Rattle.opgen_terms.proofs.AllTerms.{greatest_above, total_order, small_shift, bits_of, up_of_down, down_of_down}
 use Rattle.opgen_sop.specs.Small.{units, IsSmall, IsSmallScaled, IsSmallTimes, HasSmallTerms}
 
 -- the gap of one of two sums is no greater than that of the sums
@@ -83,13 +82,13 @@ positive_product zero b h k = absurd (omega (arith, h))
 positive_product (suc a) b h k = omega (arith, k)
 
 pub units-some : (s : Sop) → IsSop s → 0 < units s
-units-some s sop = positive_product (unsigned_abs s.den) (2 ^ depth s) (positive-den s.den sop.positive) (pow_pos (depth s))
+units-some s sop = positive_product (unsigned_abs s.den) (2 ^ depth s) (positive-den s.den sop.numbers.positive) (pow_pos (depth s))
 
 -- the ends of a term are in order
 ordered : (s : Sop) → IsSop s → (k : ℕ) → (term_at s k).least ≤ℤ (term_at s k).most
 ordered s sop k =
     each_term (λ (t : Term). t.least ≤ℤ t.most) s sop (λ t is. omega (arith, ints))
-    (λ t is. product_order s.den _ _ (omega (arith, ints, sop.positive)) (omega (arith, ints))) (omega (arith, ints)) k
+    (λ t is. product_order s.den _ _ (omega (arith, ints, sop.numbers.positive)) (omega (arith, ints))) (omega (arith, ints)) k
 
 module _ (s : Sop) (sop : IsSop s) where
   pub terms-count : length (terms_of s) ≡ length s.scaled + (length s.products + length (offset_terms s))
@@ -195,7 +194,7 @@ module _ (s : Sop) (accepted : IsAcceptedSop s) where
       let t = get_or s.scaled k d in
       let place : k < length (terms_of s) = omega (arith, here, terms-count s sop) in
       let is = scaled_place s k t here (slice_get-get_or s.scaled k d here) in
-      let ranged = sop.scaled k d here in
+      let ranged = sop.terms.scaled k d here in
       record {
         ranged = ranged;
         small = subst (IsSmall s) is (term-small k place);
@@ -212,7 +211,7 @@ module _ (s : Sop) (accepted : IsAcceptedSop s) where
       let place : n < length (terms_of s) = omega (arith, here, terms-count s sop) in
       let is = times_place s n t (omega arith) (omega (arith, here))
       (ap (slice_get s.products) back ∙ slice_get-get_or s.products k d here) in
-      record { ranged = sop.products k d here; small = subst (IsSmall s) is (term-small n place) }
+      record { ranged = sop.terms.products k d here; small = subst (IsSmall s) is (term-small n place) }
 
   offset-at : nat_eq (unsigned_abs s.offset) 0 ≡ false → places_down (offset_term s).shift ≤ depth s
   offset-at some =

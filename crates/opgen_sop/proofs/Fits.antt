@@ -10,8 +10,7 @@ use Rattle.std.proofs.lemmas.Nat.{pow_pos}
 use Rattle.opgen_num.specs.Floors.{IsFloor}
 use Rattle.opgen_num.specs.Formats.{Holds}
 use Rattle.opgen_num.specs.Rounding.{IsWithinOne}
-use Rattle.opgen_num.specs.Values.{val}
-use Rattle.opgen_num.specs.Words.{nat}
+use Rattle.opgen_num.specs.Words.{val, nat}
 use Rattle.opgen_num.proofs.Integers.{sum-product}
 use Rattle.opgen_num.proofs.Residues.{value_from_residue}
 use Rattle.opgen_num.proofs.Rounded.{floor_is, floor_dropped}
@@ -32,16 +31,16 @@ use Rattle.opgen_net.proofs.InputLaws.{input_at-width}
 use Rattle.opgen_net.proofs.Later.{words-grown}
 use Rattle.opgen_partial.specs.declared.pairs.Work.{Work}
 use Rattle.opgen_partial.proofs.Laws.{residue_number}
-use Rattle.opgen_kinds.specs.declared.sop.Sop.{Sop}
-use Rattle.opgen_kinds.specs.Sop.{Term, IsSop, IsAcceptedSop, AreOf, SopsHold, format_of, terms_of, offset_term, offset_terms, total, height, depth, raised, exact_sop, sop_format, sop_inexact}
-use Rattle.opgen_kinds.proofs.of_kind.Sop.{accepted_sop}
-use Rattle.opgen_kinds.proofs.of_kind.SopTerms.{input_fits}
+use Rattle.opgen_terms.specs.declared.sop.Sop.{Sop}
+use Rattle.opgen_terms.specs.Sop.{Term, IsSop, IsAcceptedSop, AreOf, SopsHold, format_of, terms_of, offset_term, offset_terms, total, height, depth, raised, exact_sop, sop_format, sop_inexact}
+use Rattle.opgen_terms.proofs.Lawful.{accepted_sop}
+use Rattle.opgen_terms.proofs.EachTerm.{input_fits}
 use Rattle.opgen_operator.specs.declared.operator.Operator.TheVariants.{Sop as sop_operator}
 use Rattle.opgen_operator.specs.Fits.{FitsOperator, FitsInEachMode}
 use Rattle.opgen_ports.specs.declared.ports.PortFormat.{PortFormat}
 use Rattle.opgen_ports.specs.Good.{IsGoodRatio}
-use Rattle.opgen_ports.specs.PortNumbers.{format_at}
-use Rattle.opgen_ports.specs.Shifts.{places_down, up, down}
+use Rattle.opgen_ports.specs.Ports.{format_at}
+use Rattle.opgen_ports.specs.Reaches.{places_down, up, down}
 use Rattle.opgen_ports.proofs.InputPorts.{input_bit}
 use Rattle.opgen_sop.specs.Recipe.{input_net, heap_width, with_offset}
 use Rattle.opgen_sop.specs.Sizes.{finer, floor, lost, offset_fraction, tables, floors, rounding, IsGuard}
@@ -108,13 +107,13 @@ module _ (s : Sop) (accepted : IsAcceptedSop s) (guard : ℕ) (is_guard : IsGuar
       Q = unsigned_abs s.den * down z
 
       den-is : (offset_fraction s guard).den ≡ pos Q
-      den-is = den-natural s.den (down z) sop.positive
+      den-is = den-natural s.den (down z) sop.numbers.positive
 
       n : ℤ
       n = s.offset *ℤ pos (up z)
 
       some : 0 < Q
-      some = positive Q (sop.positive) den-is
+      some = positive Q (sop.numbers.positive) den-is
         where
           positive : (q : ℕ) → pos 1 ≤ℤ s.den → s.den *ℤ pos (down z) ≡ pos q → 0 < q
           positive zero h e = absurd (none s.den (down z) h (pow_pos (places_down z)) e)
@@ -181,7 +180,7 @@ module _ (s : Sop) (accepted : IsAcceptedSop s) (guard : ℕ) (is_guard : IsGuar
     is-floor = floor_is (e +ℤ pos (rounding s guard)) (pos (2 ^ guard)) (omega (arith, ints, pow_pos guard))
 
     den-units : (exact_sop s x).den ≡ pos (units s)
-    den-units = den-natural s.den (2 ^ depth s) sop.positive
+    den-units = den-natural s.den (2 ^ depth s) sop.numbers.positive
 
     pub good : (mode : Bool) → (IsTrue mode → sop_inexact s ≡ None) → IsGoodRatio mode (exact_sop s x) y
     good false asked =

@@ -13,18 +13,17 @@ use Rattle.opgen_num.specs.declared.format.Ratio.{Ratio}
 use Rattle.opgen_num.specs.Formats.{range_width}
 use Rattle.opgen_num.proofs.BitLength.{power_order}
 use Rattle.opgen_num.proofs.RangeWidth.{count-least}
-use Rattle.opgen_ports.specs.Reaches.{above_zero, below_zero}
-use Rattle.opgen_ports.specs.Shifts.{places_down, up, down}
+use Rattle.opgen_ports.specs.Reaches.{above_zero, below_zero, places_down, up, down, is_whole_at}
 use Rattle.opgen_ports.proofs.Widths.{some_width}
-use Rattle.opgen_kinds.specs.declared.sop.Sop.{Sop}
-use Rattle.opgen_kinds.specs.declared.sop.Scaled.{Scaled}
-use Rattle.opgen_kinds.specs.declared.sop.Times.{Times}
-use Rattle.opgen_kinds.specs.Sum.{is_whole_at}
-use Rattle.opgen_kinds.specs.Sop.{Term, IsSop, IsAcceptedSop, format_of, terms_of, term_at, scaled_term, times_term, offset_term, offset_terms, depth, raised, sop_reach, sop_places, sop_format, sop_inexact, sop_need, sop_meaning, total_bits, rounding_bits}
-use Rattle.opgen_kinds.proofs.Accepted.{accepted_width}
-use Rattle.opgen_kinds.proofs.of_kind.Sop.{accepted_sop, accepted_parts}
-use Rattle.opgen_kinds.proofs.of_kind.SopTerms.{input_fits, scaled_place, times_place, offset_place, sized}
-use Rattle.opgen_kinds.proofs.of_kind.SopSums.{raised_small}
+use Rattle.opgen_terms.specs.declared.sop.TheConstants.{MAX_TOTAL_BITS, COUNTED_BITS}
+use Rattle.opgen_terms.specs.declared.sop.Sop.{Sop}
+use Rattle.opgen_terms.specs.declared.sop.Scaled.{Scaled}
+use Rattle.opgen_terms.specs.declared.sop.Times.{Times}
+use Rattle.opgen_terms.specs.Sop.{Term, IsSop, IsAcceptedSop, format_of, terms_of, term_at, scaled_term, times_term, offset_term, offset_terms, depth, raised, sop_reach, sop_places, sop_format, sop_inexact, sop_need, sop_meaning, total_bits, rounding_bits}
+use Rattle.opgen_ports.proofs.Accepted.{accepted_width}
+use Rattle.opgen_terms.proofs.Lawful.{accepted_sop, accepted_parts}
+use Rattle.opgen_terms.proofs.EachTerm.{input_fits, scaled_place, times_place, offset_place, sized}
+use Rattle.opgen_terms.proofs.AllTerms.{raised_small}
 use Rattle.opgen_sop.specs.Sizes.{finer, fraction, is_rounded, lost, scaled_fraction, turned_fraction, offset_fraction, tables_of, tables_in, floors_of, floors_in, rows_cut, products, tables, floors, IsGuard}
 use Rattle.opgen_sop.specs.Small.{units, IsSmallScaled, IsSmallTimes, IsSmallGuard}
 use Rattle.opgen_sop.proofs.AcceptedTerms.{terms-count, below-is, above-is, small-terms}
@@ -116,7 +115,7 @@ module _ (s : Sop) (sop : IsSop s) (none : sop_inexact s ≡ None) where
       let whole = subst (λ (u : Term). is_whole_at s.den u.shift u.factor ≡ true) is (whole-at n (omega (arith, here, terms-count s sop))) in
       let z = (times_term s t).shift in
       let m = unsigned_abs s.den in
-      let down_none = whole-shift m z (positive s.den sop.positive) (eqb-true ((m * up z) % (m * down z)) 0 whole) in
+      let down_none = whole-shift m z (positive s.den sop.numbers.positive) (eqb-true ((m * up z) % (m * down z)) 0 whole) in
       cut-none s t 0 (ap places_down (no-guard z) ∙ down_none)
     where
       positive : (d : ℤ) → pos 1 ≤ℤ d → 0 < unsigned_abs d
@@ -167,7 +166,7 @@ width-few (suc n) above k h l =
     let m : max n above < 2 ^ k = omega (arith, h, l) in
     omega (arith, count-least (max n above) k m)
 
-small-ceiling : (n d : ℕ) → n ≤ 2 ^ 112 → 2 ^ 41 ≤ d → div_ceil n d < 2 ^ 72
+small-ceiling : (n d : ℕ) → n ≤ 2 ^ MAX_TOTAL_BITS → 2 ^ 41 ≤ d → div_ceil n d < 2 ^ 72
 small-ceiling n d few wide = by (cases_lt (div_ceil n d) (2 ^ 72))
   where
     above : div_ceil n d * d < n + d
@@ -187,14 +186,14 @@ module _ (s : Sop) (accepted : IsAcceptedSop s) where
   sop : IsSop s
   sop = accepted_sop s accepted
 
-  few-bits : total_bits s ≤ 112
+  few-bits : total_bits s ≤ MAX_TOTAL_BITS
   few-bits = (accepted_parts s accepted).0
 
   -- where a place is deep, the output is narrow
   deep-narrow : 41 ≤ depth s → (sop_format s).width ≤ 74
   deep-narrow deep =
       let wide : 2 ^ 41 ≤ units s =
-      omega (arith, power_order 41 (depth s) deep, mul-le-mul_right (2 ^ depth s) (positive s.den sop.positive)) in
+      omega (arith, power_order 41 (depth s) deep, mul-le-mul_right (2 ^ depth s) (positive s.den sop.numbers.positive)) in
       let least = raised_small s (λ t. t.least) few-bits (λ k h. (sized s k sop).least) in
       let most = raised_small s (λ t. t.most) few-bits (λ k h. (sized s k sop).most) in
       let low : (sop_places s).below < 2 ^ 72 =
@@ -263,15 +262,15 @@ module _ (s : Sop) (accepted : IsAcceptedSop s) where
         all-tables s.scaled (λ k d h. small.scaled k d h),
         all-floors few s.products (λ k d h. small.products k d h),
         lost-few (offset_fraction s 10),
-        sop.few_scaled,
-        sop.few_products,
+        sop.terms.few_scaled,
+        sop.terms.few_products,
       )
 
   -- the bits of the output, and the ten below them where a term is rounded
   width-rounded : (sop_format s).width + rounding_bits s ≤ 96
   width-rounded =
       let within : sop_need s ≤ 96 = accepted_width (sop_meaning s) (sop_need s) accepted refl in
-      let fits : nat_lt 112 (total_bits s) ≡ false = le-ltb 112 (total_bits s) few-bits in
+      let fits : nat_lt MAX_TOTAL_BITS (total_bits s) ≡ false = le-ltb MAX_TOTAL_BITS (total_bits s) few-bits in
       let all : (sop_format s).width + rounding_bits s ≤ 96 = rw fits at within in
       all
 
@@ -282,5 +281,5 @@ module _ (s : Sop) (accepted : IsAcceptedSop s) where
       by None e c = omega (arith, width-rounded, no-guard-bits s sop e guard is)
       by (Some n) e (inl deep) = omega (arith, deep-narrow deep, few)
       by (Some n) e (inr flat) =
-          let bits : rounding_bits s ≡ 10 = ap (λ (o : Option ℕ). if is_none o then 0 else 10) e in
+          let bits : rounding_bits s ≡ COUNTED_BITS = ap (λ (o : Option ℕ). if is_none o then 0 else COUNTED_BITS) e in
           omega (arith, width-rounded, bits, is.least 10 (ten flat))

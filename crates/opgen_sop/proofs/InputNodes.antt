@@ -8,9 +8,9 @@ use Rattle.opgen_net.specs.Valid.{widths}
 use Rattle.opgen_net.proofs.FlowLaws.{flow_equation, stands_at}
 use Rattle.opgen_net.proofs.Grown.{grown-nodes, grown-count}
 use Rattle.opgen_ports.specs.declared.ports.PortFormat.{PortFormat}
-use Rattle.opgen_ports.specs.PortNumbers.{format_at}
-use Rattle.opgen_kinds.specs.declared.sop.Sop.{Sop}
-use Rattle.opgen_kinds.specs.Sop.{format_of}
+use Rattle.opgen_ports.specs.Ports.{format_at}
+use Rattle.opgen_terms.specs.declared.sop.Sop.{Sop}
+use Rattle.opgen_terms.specs.Sop.{format_of}
 use Rattle.opgen_partial.specs.declared.pairs.Work.{Work}
 use Rattle.opgen_sop.specs.Recipe.{input_nodes, input_net}
 use Rattle.opgen_sop.specs.Summed.{Stands}

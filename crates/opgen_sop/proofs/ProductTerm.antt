@@ -5,21 +5,21 @@ use Rattle.std.proofs.lemmas.Bool.{eqb-true}
 use Rattle.std.proofs.lemmas.Int.{ints}
 use Rattle.std.proofs.lemmas.Nat.{pow_pos}
 use Rattle.opgen_num.proofs.Integers.{product_assoc}
-use Rattle.opgen_design.specs.Width.{IsWidth}
+use Rattle.opgen_design.specs.Value.{IsWidth}
 use Rattle.opgen_heap.specs.Adding.{residue, with_constant}
 use Rattle.opgen_heap.proofs.Residues.{residue-natural, residue-then}
 use Rattle.opgen_heap.proofs.Sums.{with_constant-sum}
 use Rattle.opgen_net.specs.Flow.{flow, input_at}
 use Rattle.opgen_net.proofs.Grown.{grown-then}
 use Rattle.opgen_net.proofs.Later.{words-grown}
-use Rattle.opgen_ports.specs.Shifts.{places_up, places_down, up, down}
+use Rattle.opgen_ports.specs.Reaches.{places_up, places_down, up, down}
 use Rattle.opgen_partial.specs.declared.pairs.Work.{Work}
 use Rattle.opgen_partial.specs.declared.pairs.Placing.{Placing}
 use Rattle.opgen_partial.specs.declared.pairs.Products.{Products}
 use Rattle.opgen_partial.specs.Law.{IsFactor, AreFactors, HasPlaced, IsSumWithPlaced, placed_product}
-use Rattle.opgen_kinds.specs.declared.sop.Sop.{Sop}
-use Rattle.opgen_kinds.specs.declared.sop.Times.{Times}
-use Rattle.opgen_kinds.specs.Sop.{IsSop, format_of, times_term}
+use Rattle.opgen_terms.specs.declared.sop.Sop.{Sop}
+use Rattle.opgen_terms.specs.declared.sop.Times.{Times}
+use Rattle.opgen_terms.specs.Sop.{IsSop, format_of, times_term}
 use Rattle.opgen_sop.specs.Recipe.{input_net, heap_width}
 use Rattle.opgen_sop.specs.Sizes.{finer, factor, products, placing, turned_fraction, floor, floors_of}
 use Rattle.opgen_sop.specs.Small.{units, IsSmallTimes}
@@ -100,7 +100,7 @@ module _ (s : Sop) (guard : ℕ) (t : Times) (sop : IsSop s) (term : IsSmallTime
             width-same e = ap (λ i. (format_of s i).width) (sym (eqb-true t.a t.b e))
 
         den-is : s.den ≡ pos d
-        den-is = by s.den sop.positive
+        den-is = by s.den sop.numbers.positive
           where
             by : (z : ℤ) → pos 1 ≤ℤ z → z ≡ pos (unsigned_abs z)
             by (pos n) h = refl

@@ -16,16 +16,16 @@ use Rattle.opgen_heap.proofs.Residues.{residue-none}
 use Rattle.opgen_net.specs.Flow.{Inputs, flow}
 use Rattle.opgen_net.specs.Valid.{input_widths}
 use Rattle.opgen_net.proofs.Later.{words-grown}
-use Rattle.opgen_ports.specs.Shifts.{places_up, places_down, up, down}
+use Rattle.opgen_ports.specs.Reaches.{places_up, places_down, up, down}
 use Rattle.opgen_kcm.specs.Chunks.{chunk_count, number}
 use Rattle.opgen_kcm.specs.Entries.{in_guard_units}
 use Rattle.opgen_kcm.specs.Multiple.{HasRisen}
 use Rattle.opgen_kcm.specs.Recipe.{input_width, HasNarrowRows}
 use Rattle.opgen_kcm.proofs.Narrow.{narrow}
 use Rattle.opgen_partial.specs.declared.pairs.Work.{Work}
-use Rattle.opgen_kinds.specs.declared.sop.Sop.{Sop}
-use Rattle.opgen_kinds.specs.declared.sop.Scaled.{Scaled}
-use Rattle.opgen_kinds.specs.Sop.{IsSop, format_of, size_of, sop_format, scaled_term, height, depth}
+use Rattle.opgen_terms.specs.declared.sop.Sop.{Sop}
+use Rattle.opgen_terms.specs.declared.sop.Scaled.{Scaled}
+use Rattle.opgen_terms.specs.Sop.{IsSop, format_of, size_of, sop_format, scaled_term, height, depth}
 use Rattle.opgen_sop.specs.Recipe.{input_net, heap_width}
 use Rattle.opgen_sop.specs.Sizes.{finer, scaled_fraction, tables_of}
 use Rattle.opgen_sop.specs.Small.{units, IsSmallScaled, IsSmallGuard}
@@ -71,10 +71,10 @@ module _ (s : Sop) (guard : ℕ) (t : Scaled) (sop : IsSop s) (fits : IsSmallGua
   wide = (format_of s t.input).width
 
   pub den-is : q.den ≡ pos Q
-  den-is = den-natural s.den (down z) sop.positive
+  den-is = den-natural s.den (down z) sop.numbers.positive
 
   some-Q : 0 < Q
-  some-Q = positive_product (unsigned_abs s.den) (down z) (some-den s.den sop.positive) (pow_pos (places_down z))
+  some-Q = positive_product (unsigned_abs s.den) (down z) (some-den s.den sop.numbers.positive) (pow_pos (places_down z))
 
   num-size : unsigned_abs q.num ≡ unsigned_abs t.coefficient * up z
   num-size = unsigned_abs-mul t.coefficient (pos (up z))
@@ -97,7 +97,7 @@ module _ (s : Sop) (guard : ℕ) (t : Scaled) (sop : IsSop s) (fits : IsSmallGua
       let num : unsigned_abs q.num * 2 ^ (wide + 0 + 1) ≡ C * 2 ^ (wide + 0 + 1) * up z =
       ap (λ n. n * 2 ^ (wide + 0 + 1)) num-size ∙ omega arith in
       let below : down z ≤ 2 ^ 48 = power_order (places_down z) 48 (down-few z 48 (shift-low (scaled_term s t).shift term.small.shift.0)) in
-      let den : Q ≤ 2 ^ 30 * 2 ^ 48 = mul-le (unsigned_abs s.den) (down z) (2 ^ 30) (2 ^ 48) (den-small s.den sop.positive sop.small) below in
+      let den : Q ≤ 2 ^ 30 * 2 ^ 48 = mul-le (unsigned_abs s.den) (down z) (2 ^ 30) (2 ^ 48) (den-small s.den sop.numbers.positive sop.numbers.small) below in
       omega (arith, num, few, ap unsigned_abs den-is, den)
     where
       two-more : (k : ℕ) → 2 ^ suc k ≡ 2 * 2 ^ k

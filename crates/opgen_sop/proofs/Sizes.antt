@@ -6,11 +6,10 @@ use Rattle.std.proofs.lemmas.Int.{ints}
 use Rattle.std.proofs.lemmas.Nat.{mul-le, pow_pos}
 use Rattle.opgen_num.specs.declared.format.Format.{Format}
 use Rattle.opgen_num.proofs.BitLength.{power_order}
-use Rattle.opgen_kinds.specs.declared.sop.Sop.{Sop}
-use Rattle.opgen_kinds.specs.declared.sop.Times.{Times}
-use Rattle.opgen_kinds.specs.Sop.{Term, IsSop, size_of, format_of, times_term, height, depth}
-use Rattle.opgen_ports.specs.Reaches.{reach_with}
-use Rattle.opgen_ports.specs.Shifts.{places_up, places_down}
+use Rattle.opgen_terms.specs.declared.sop.Sop.{Sop}
+use Rattle.opgen_terms.specs.declared.sop.Times.{Times}
+use Rattle.opgen_terms.specs.Sop.{Term, IsSop, size_of, format_of, times_term, height, depth}
+use Rattle.opgen_ports.specs.Reaches.{reach_with, places_up, places_down}
 use Rattle.opgen_partial.specs.declared.pairs.Placing.{Placing}
 use Rattle.opgen_partial.specs.declared.pairs.Products.{Products}
 use Rattle.opgen_partial.specs.Recipe.{sign_correction, correction}
@@ -122,5 +121,5 @@ products-size s t sop a b =
     let A = size_of (format_of s t.a) in
     let B = size_of (format_of s t.b) in
     let both = mul-le (2 ^ (format_of s t.a).width) (2 ^ (format_of s t.b).width) (2 * A) (2 * B) (width-size (format_of s t.a) a) (width-size (format_of s t.b) b) in
-    let more = mul-le-mul_right (A * B) (positive-den s.den sop.positive) in
+    let more = mul-le-mul_right (A * B) (positive-den s.den sop.numbers.positive) in
     omega (arith, both, more)

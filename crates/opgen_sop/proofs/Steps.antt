@@ -7,10 +7,10 @@ use Rattle.std.proofs.lemmas.Nat.{pow_pos}
 use Rattle.opgen_heap.specs.Adding.{residue}
 use Rattle.opgen_heap.proofs.Residues.{residue-then, residue-natural}
 use Rattle.opgen_partial.specs.declared.pairs.Work.{Work}
-use Rattle.opgen_kinds.specs.declared.sop.Sop.{Sop}
-use Rattle.opgen_kinds.specs.declared.sop.Scaled.{Scaled}
-use Rattle.opgen_kinds.specs.declared.sop.Times.{Times}
-use Rattle.opgen_kinds.specs.Sop.{scaled_term, times_term}
+use Rattle.opgen_terms.specs.declared.sop.Sop.{Sop}
+use Rattle.opgen_terms.specs.declared.sop.Scaled.{Scaled}
+use Rattle.opgen_terms.specs.declared.sop.Times.{Times}
+use Rattle.opgen_terms.specs.Sop.{scaled_term, times_term}
 use Rattle.opgen_sop.specs.Recipe.{start, with_scaled, with_all_scaled, with_times, with_all_times, heap_width}
 use Rattle.opgen_sop.specs.Sizes.{tables_of, floors_of}
 use Rattle.opgen_sop.specs.Small.{units}

@@ -10,14 +10,14 @@ use Rattle.opgen_num.specs.Floors.{IsFloor}
 use Rattle.opgen_num.specs.Rounding.{distance}
 use Rattle.opgen_num.proofs.Integers.{product-sum, product-difference, product_assoc, product_cancel, commuted}
 use Rattle.opgen_num.proofs.Rounded.{floor_is}
-use Rattle.opgen_ports.specs.Shifts.{places_up, places_down, up, down}
+use Rattle.opgen_ports.specs.Reaches.{places_up, places_down, up, down}
 use Rattle.opgen_kcm.specs.Multiple.{IsMultiple}
 use Rattle.opgen_partial.specs.declared.pairs.Placing.{Placing}
 use Rattle.opgen_partial.specs.declared.pairs.Products.{Products}
 use Rattle.opgen_partial.specs.Law.{IsSumWithPlaced, placed_product}
 use Rattle.opgen_partial.specs.Recipe.{correction}
-use Rattle.opgen_kinds.specs.declared.sop.Sop.{Sop}
-use Rattle.opgen_kinds.specs.Sop.{Term, height, depth}
+use Rattle.opgen_terms.specs.declared.sop.Sop.{Sop}
+use Rattle.opgen_terms.specs.Sop.{Term, height, depth}
 use Rattle.opgen_sop.specs.Sizes.{finer, is_rounded, floor, lost, rows_cut}
 use Rattle.opgen_sop.specs.Small.{units}
 use Rattle.opgen_sop.specs.Summed.{IsNear}

@@ -1,7 +1,7 @@
 -- A sum of products has only one net.
 use Rattle.std.specs.Prelude.{◌≡◌}
 use Rattle.opgen_net.specs.declared.net.Net.{Net}
-use Rattle.opgen_kinds.specs.declared.sop.Sop.{Sop}
+use Rattle.opgen_terms.specs.declared.sop.Sop.{Sop}
 use Rattle.opgen_sop.specs.Recipe.{IsNetOfSop}
 
 abbrev pub HasOneNetOfSop : Type 0

@@ -1,4 +1,5 @@
--- The net of a sum of products: tables of the multiples of inputs, products of the bits of inputs, and one constant, in one bit heap,
+-- The net of a sum of products: tables of the multiples of inputs, products of the bits of inputs, and one constant, in one bit
+-- heap,
 -- with larger counters where they are asked for, and a compressor (de Dinechin and Kumm, Application-Specific Arithmetic, "Bit heaps").
 use Rattle.std.specs.Prelude.{ℕ, suc, ◌≡◌, ◌+◌, ◌-◌, ◌==◌, Bool, if◌then◌else◌, List, [], ◌∷◌, ◌++◌, map, codes, ℤ, pos, unsigned_abs}
 use Rattle.opgen_net.specs.declared.net.Net.{Net}
@@ -12,10 +13,10 @@ use Rattle.opgen_kcm.specs.Recipe.{with_rows}
 use Rattle.opgen_partial.specs.declared.pairs.Work.{Work}
 use Rattle.opgen_partial.specs.Recipe.{with_placed}
 use Rattle.opgen_ports.specs.declared.ports.PortFormat.{PortFormat}
-use Rattle.opgen_kinds.specs.declared.sop.Sop.{Sop}
-use Rattle.opgen_kinds.specs.declared.sop.Scaled.{Scaled}
-use Rattle.opgen_kinds.specs.declared.sop.Times.{Times}
-use Rattle.opgen_kinds.specs.Sop.{format_of, sop_format}
+use Rattle.opgen_terms.specs.declared.sop.Sop.{Sop}
+use Rattle.opgen_terms.specs.declared.sop.Scaled.{Scaled}
+use Rattle.opgen_terms.specs.declared.sop.Times.{Times}
+use Rattle.opgen_terms.specs.Sop.{format_of, sop_format}
 use Rattle.opgen_sop.specs.Sizes.{IsGuard, floor, scaled_fraction, products, placing, turned_fraction, offset_fraction, rounding}
 
 -- each input is a node, in order

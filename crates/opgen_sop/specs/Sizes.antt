@@ -3,11 +3,11 @@
 use Rattle.std.specs.Prelude.{ℕ, ◌+◌, ◌/◌, ◌%◌, ◌^◌, ◌<◌, ◌≤◌, ◌==◌, Bool, not, min, max, nat_eq, if◌then◌else◌, List, [], ◌∷◌, ℤ, pos, ◌+ℤ◌, ◌*ℤ◌, unsigned_abs}
 use Rattle.std.specs.Int.{int_div_euclid}
 use Rattle.opgen_num.specs.declared.format.Ratio.{Ratio}
-use Rattle.opgen_kinds.specs.declared.sop.Sop.{Sop}
-use Rattle.opgen_kinds.specs.declared.sop.Scaled.{Scaled}
-use Rattle.opgen_kinds.specs.declared.sop.Times.{Times}
-use Rattle.opgen_kinds.specs.Sop.{format_of, scaled_term, times_term, offset_term}
-use Rattle.opgen_ports.specs.Shifts.{places_up, places_down, up, down}
+use Rattle.opgen_terms.specs.declared.sop.Sop.{Sop}
+use Rattle.opgen_terms.specs.declared.sop.Scaled.{Scaled}
+use Rattle.opgen_terms.specs.declared.sop.Times.{Times}
+use Rattle.opgen_terms.specs.Sop.{format_of, scaled_term, times_term, offset_term}
+use Rattle.opgen_ports.specs.Reaches.{places_up, places_down, up, down}
 use Rattle.opgen_kcm.specs.Chunks.{chunk_count}
 use Rattle.opgen_partial.specs.declared.pairs.Factor.{Factor}
 use Rattle.opgen_partial.specs.declared.pairs.Placing.{Placing}

@@ -1,11 +1,11 @@
 -- Terms whose numbers have room in 128 bits, and whose tables are no wider than the heap: those of accepted sums.
 use Rattle.std.specs.Prelude.{ℕ, ◌+◌, ◌-◌, ◌*◌, ◌^◌, ◌≤◌, ℤ, pos, neg_ℤ, ◌≤ℤ◌, unsigned_abs, length, All, nat_eq, false, ◌≡◌}
-use Rattle.opgen_num.specs.declared.TheConstants.{MAX_WIDTH}
-use Rattle.opgen_ports.specs.Shifts.{places_down}
-use Rattle.opgen_kinds.specs.declared.sop.Sop.{Sop}
-use Rattle.opgen_kinds.specs.declared.sop.Scaled.{Scaled}
-use Rattle.opgen_kinds.specs.declared.sop.Times.{Times}
-use Rattle.opgen_kinds.specs.Sop.{Term, IsScaled, IsTimes, format_of, depth, height, sop_format, scaled_term, times_term, offset_term}
+use Rattle.opgen_num.specs.declared.format.TheConstants.{MAX_WIDTH}
+use Rattle.opgen_ports.specs.Reaches.{places_down}
+use Rattle.opgen_terms.specs.declared.sop.Sop.{Sop}
+use Rattle.opgen_terms.specs.declared.sop.Scaled.{Scaled}
+use Rattle.opgen_terms.specs.declared.sop.Times.{Times}
+use Rattle.opgen_terms.specs.Sop.{Term, IsScaled, IsTimes, format_of, depth, height, sop_format, scaled_term, times_term, offset_term}
 
 -- in how many units a unit of the output's last place is divided at the deepest place, over the denominator
 abbrev pub units : Sop → ℕ

@@ -7,12 +7,12 @@ use Rattle.opgen_heap.specs.Sum.{heap_sum}
 use Rattle.opgen_net.specs.Flow.{Inputs, flow, input_at}
 use Rattle.opgen_net.specs.Grown.{HasGrown}
 use Rattle.opgen_net.specs.Valid.{IsValid, input_widths}
-use Rattle.opgen_num.specs.Values.{val}
+use Rattle.opgen_num.specs.Words.{val}
 use Rattle.opgen_partial.specs.declared.pairs.Work.{Work}
-use Rattle.opgen_kinds.specs.declared.sop.Sop.{Sop}
-use Rattle.opgen_kinds.specs.declared.sop.Scaled.{Scaled}
-use Rattle.opgen_kinds.specs.declared.sop.Times.{Times}
-use Rattle.opgen_kinds.specs.Sop.{Term, format_of, scaled_term, times_term, offset_terms, total, height}
+use Rattle.opgen_terms.specs.declared.sop.Sop.{Sop}
+use Rattle.opgen_terms.specs.declared.sop.Scaled.{Scaled}
+use Rattle.opgen_terms.specs.declared.sop.Times.{Times}
+use Rattle.opgen_terms.specs.Sop.{Term, format_of, scaled_term, times_term, offset_terms, total, height}
 use Rattle.opgen_sop.specs.Recipe.{input_net, heap_width}
 use Rattle.opgen_sop.specs.Sizes.{tables, tables_of, tables_in, floors_of, floors_in}
 use Rattle.opgen_sop.specs.Small.{units}

@@ -1,8 +1,8 @@
 //! How many guard bits a sum of products has: the fewest for which a unit for each table and each row that loses some is less than one
 //! unit of the output.
 ghost use Rattle.std.specs.Prelude.{◌≡◌, ◌+◌, ◌*◌, ◌≤◌, ◌<◌, ◌^◌, length, All, pos, ◌<ℤ◌};
-ghost use Rattle.opgen_num.specs.declared.TheConstants.{MAX_WIDTH};
-ghost use Rattle.opgen_kinds.specs.Sop.{IsSop, IsAcceptedSop, sop_format, offset_term};
+ghost use Rattle.opgen_num.specs.declared.format.TheConstants.{MAX_WIDTH};
+ghost use Rattle.opgen_terms.specs.Sop.{IsSop, IsAcceptedSop, sop_format, offset_term};
 ghost use Rattle.opgen_sop.specs.Sizes.{lost, tables_of, floors_of, rows_cut, tables_in, floors_in, tables, floors, rounding, IsGuard};
 ghost use Rattle.opgen_sop.specs.Small.{IsSmallShift, IsSmallScaled, IsSmallTimes, IsSmallGuard, HasSmallTerms};
 

@@ -1,14 +1,14 @@
 //! The terms of a sum of products as fractions in units of its lowest guard bit.
 ghost use Rattle.std.specs.Prelude.{◌≡◌, ◌+◌, ◌*◌, ◌^◌, ◌≤◌, ◌<◌, length, ℤ, pos, neg_ℤ, ◌+ℤ◌, ◌≤ℤ◌, ◌<ℤ◌, unsigned_abs};
 ghost use Rattle.opgen_ports.specs.Ranges.{IsInput, IsWithin};
-ghost use Rattle.opgen_kinds.specs.Sop.{IsSop, IsAcceptedSop, format_of, scaled_term, times_term, offset_term};
+ghost use Rattle.opgen_terms.specs.Sop.{IsSop, IsAcceptedSop, format_of, scaled_term, times_term, offset_term};
 ghost use Rattle.opgen_sop.specs.Sizes.{finer, fraction, is_rounded, floor, lost, scaled_fraction, factor, products, placing, turned_fraction, offset_fraction};
 ghost use Rattle.opgen_sop.specs.Small.{IsSmallScaled, IsSmallTimes};
 
 use opgen_num::{Format, Ratio};
 use opgen_operator::{Scaled, Sop, Times};
 use opgen_partial::{Factor, Placing, Products, placed_correction};
-use opgen_ports::shifts::{places_down, places_up, power, raised};
+use opgen_ports::shifts::{places_down, places_up, raised};
 
 /// The format of an input.
 pub(crate) fn format_of(sop: &Sop, input: u32) -> Format

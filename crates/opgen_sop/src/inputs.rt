@@ -1,7 +1,7 @@
 //! The inputs of a sum of products as nodes, and a heap with no bit.
 ghost use Rattle.std.specs.Prelude.{◌≡◌, IfOk};
 ghost use Rattle.opgen_net.specs.Valid.{IsValid};
-ghost use Rattle.opgen_kinds.specs.Sop.{IsSop};
+ghost use Rattle.opgen_terms.specs.Sop.{IsSop};
 ghost use Rattle.opgen_sop.specs.Recipe.{input_net, heap_width, start};
 ghost use Rattle.opgen_sop.specs.Small.{IsSmallGuard};
 ghost use Rattle.opgen_sop.specs.Summed.{Stands, AreSummed};

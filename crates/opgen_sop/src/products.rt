@@ -1,6 +1,6 @@
 //! Adds the products of the bits of inputs to the bit heap of a sum of products.
 ghost use Rattle.std.specs.Prelude.{◌≡◌, [], OnOk};
-ghost use Rattle.opgen_kinds.specs.Sop.{IsSop};
+ghost use Rattle.opgen_terms.specs.Sop.{IsSop};
 ghost use Rattle.opgen_sop.specs.Recipe.{with_times, with_all_times};
 ghost use Rattle.opgen_sop.specs.Small.{IsSmallTimes, IsSmallGuard, HasSmallTerms};
 ghost use Rattle.opgen_sop.specs.Summed.{Stands, HasTimes, AreSummed};

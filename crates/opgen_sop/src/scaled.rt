@@ -1,6 +1,6 @@
 //! Adds the tables of constants times inputs to the bit heap of a sum of products.
 ghost use Rattle.std.specs.Prelude.{◌≡◌, [], OnOk};
-ghost use Rattle.opgen_kinds.specs.Sop.{IsSop};
+ghost use Rattle.opgen_terms.specs.Sop.{IsSop};
 ghost use Rattle.opgen_sop.specs.Recipe.{is_zero, with_scaled, with_all_scaled};
 ghost use Rattle.opgen_sop.specs.Small.{IsSmallScaled, IsSmallGuard, HasSmallTerms};
 ghost use Rattle.opgen_sop.specs.Summed.{Stands, HasScaled, AreSummed};

@@ -1,6 +1,6 @@
 //! Builds the net of a sum of products: inputs, tables, products of bits, a constant, the heap's compression, and the output.
 ghost use Rattle.std.specs.Prelude.{◌≡◌, ◌+◌, ◌≤◌, pos, ◌+ℤ◌, unsigned_abs, IfOk};
-ghost use Rattle.opgen_kinds.specs.Sop.{IsSop, IsAcceptedSop, sop_format};
+ghost use Rattle.opgen_terms.specs.Sop.{IsSop, IsAcceptedSop, sop_format};
 ghost use Rattle.opgen_operator.specs.declared.operator.Operator.TheVariants.{Sop as sop_operator};
 ghost use Rattle.opgen_operator.specs.Fits.{FitsInEachMode};
 ghost use Rattle.opgen_sop.specs.Recipe.{IsNetOfSop, with_offset, added, heap_width};

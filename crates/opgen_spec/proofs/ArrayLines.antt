@@ -5,22 +5,20 @@ use Rattle.std.proofs.lemmas.Int.{ints}
 use Rattle.std.specs.List.{list_all}
 use Rattle.std.specs.Option.{option_map_or}
 use Rattle.toml.specs.Data.{Data, table, Items, no_items, item, Members, as_array}
-use Rattle.opgen_kinds.specs.declared.kind.Kind.{Kind}
+use Rattle.opgen_ports.specs.declared.kind.Kind.{Kind}
 use Rattle.opgen_spec.specs.declared.fault.SpecFault.TheVariants as fault
 use Rattle.opgen_spec.specs.declared.lines.Check.TheVariants.{Missing, WrongType, Range}
 use Rattle.opgen_document.specs.declared.array.Array.{Array}
 use Rattle.opgen_document.specs.declared.array.Array.TheVariants as array
 use Rattle.opgen_document.specs.declared.key.Key.{Key}
 use Rattle.opgen_document.specs.declared.key.Key.TheVariants as key
-use Rattle.opgen_document.specs.declared.stand.Stand.{Stand}
-use Rattle.opgen_document.specs.declared.stand.Stand.TheVariants.{Needed}
-use Rattle.opgen_document.specs.declared.version.Version.{Version}
-use Rattle.opgen_document.specs.Document.{value_at, items_of, items_in, items_at, list_of, in_tables}
-use Rattle.opgen_document.specs.Fields.{AreLinesAsWritten}
+use Rattle.opgen_document.specs.declared.key.Stand.{Stand}
+use Rattle.opgen_document.specs.declared.key.Stand.TheVariants.{Needed}
+use Rattle.opgen_document.specs.declared.key.Version.{Version}
+use Rattle.opgen_document.specs.Document.{value_at, items_of, items_in, items_at, list_of, in_tables, AreLinesAsWritten, version_of}
 use Rattle.opgen_document.specs.Keys.{line_keys, array_key, shared_stand, has_to_be}
 use Rattle.opgen_document.specs.Ranges.{length_outside}
 use Rattle.opgen_document.specs.Types.{is_wrong, are_tables}
-use Rattle.opgen_document.specs.Versions.{version_of}
 use Rattle.opgen_document.proofs.Ranges.{inside}
 use Rattle.opgen_spec.specs.Faults.{found, value_outside, is_always_asked, out_of_range, outside_among, is_missing, missing_among, wrong_among, among_line, among_lines}
 use Rattle.opgen_spec.specs.Stands.{stand_in, is_needed}

@@ -3,13 +3,11 @@ use Rattle.std.proofs.Common.{◌≡◌, ◌||◌, not, Bool, true, false, Optio
 use Rattle.std.specs.Prelude.{pos}
 use Rattle.std.specs.Option.{option_map_or}
 use Rattle.toml.specs.Data.{Data, as_bool, Members}
-use Rattle.opgen_kinds.specs.declared.kind.Kind.{Kind}
+use Rattle.opgen_ports.specs.declared.kind.Kind.{Kind}
 use Rattle.opgen_operator.specs.Valid.{IsChoice}
 use Rattle.opgen_document.specs.declared.key.Key.TheVariants as key
-use Rattle.opgen_document.specs.Document.{value_at, number_at, flag_in, count_at, optional_count_at, optional_flag_at}
-use Rattle.opgen_document.specs.Fields.{IsCountIfAny, IsFlagIfAny}
+use Rattle.opgen_document.specs.Document.{value_at, number_at, flag_in, count_at, optional_count_at, optional_flag_at, IsCountIfAny, IsFlagIfAny, version_of}
 use Rattle.opgen_document.specs.Ranges.{out_width_outside}
-use Rattle.opgen_document.specs.Versions.{version_of}
 use Rattle.opgen_document.proofs.Ranges.{inside, counted}
 use Rattle.opgen_document.proofs.Values.{IsFlag, flag_stands, count_written}
 use Rattle.opgen_spec.specs.kinds.{kind_of, entry}

@@ -5,16 +5,14 @@ use Rattle.std.specs.Option.{option_map_or}
 use Rattle.std.specs.Str.{bytes_eq}
 use Rattle.std.proofs.lemmas.Slice.Eq.{bytes_eq-Decides}
 use Rattle.toml.specs.Data.{Data, string, Members, as_str}
-use Rattle.opgen_kinds.specs.declared.kind.Kind.{Kind}
+use Rattle.opgen_ports.specs.declared.kind.Kind.{Kind}
 use Rattle.opgen_document.specs.declared.key.Key.TheVariants as key
-use Rattle.opgen_document.specs.declared.version.Version.{Version}
-use Rattle.opgen_document.specs.declared.version.Version.TheVariants.{First, Second, Third}
-use Rattle.opgen_document.specs.Document.{value_at, text_in, text_at}
+use Rattle.opgen_document.specs.declared.key.Version.{Version}
+use Rattle.opgen_document.specs.declared.key.Version.TheVariants.{First, Second, Third}
+use Rattle.opgen_document.specs.Document.{value_at, text_in, text_at, counters_at, IsCompressorAsWritten, version_of, since_second}
 use Rattle.opgen_document.specs.Types.{is_wrong}
-use Rattle.opgen_document.specs.Fields.{counters_at, IsCompressorAsWritten}
 use Rattle.opgen_document.specs.Keys.{may_be}
 use Rattle.opgen_document.specs.Ranges.{compressor_outside}
-use Rattle.opgen_document.specs.Versions.{version_of, since_second}
 use Rattle.opgen_spec.specs.kinds.{kind_of, entry}
 use Rattle.opgen_spec.proofs.Fine.{AreFine, typed, own_range}
 use Rattle.opgen_spec.proofs.Known.{allowed, compressor_key}

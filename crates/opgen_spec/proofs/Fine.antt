@@ -10,14 +10,13 @@ use Rattle.opgen_document.specs.declared.array.Array.{Array}
 use Rattle.opgen_document.specs.declared.array.Array.TheVariants as array
 use Rattle.opgen_document.specs.declared.key.Key.{Key}
 use Rattle.opgen_document.specs.declared.key.Key.TheVariants as key
-use Rattle.opgen_kinds.specs.declared.kind.Kind.{Kind}
+use Rattle.opgen_ports.specs.declared.kind.Kind.{Kind}
 use Rattle.opgen_spec.specs.declared.lines.Check.{Check}
 use Rattle.opgen_spec.specs.declared.lines.Check.TheVariants.{Unknown, Missing, WrongType, Range}
 use Rattle.opgen_document.specs.Keys.{document_keys, arrays, key_name, shared_stand, has_to_be}
-use Rattle.opgen_document.specs.Document.{value_at}
-use Rattle.opgen_document.specs.declared.version.Version.{Version}
-use Rattle.opgen_document.specs.declared.version.Version.TheVariants.{First, Second, Third}
-use Rattle.opgen_document.specs.Versions.{version_of}
+use Rattle.opgen_document.specs.Document.{value_at, version_of}
+use Rattle.opgen_document.specs.declared.key.Version.{Version}
+use Rattle.opgen_document.specs.declared.key.Version.TheVariants.{First, Second, Third}
 use Rattle.opgen_spec.specs.kinds.{kind_of, entry}
 use Rattle.opgen_spec.specs.Stands.{stand_in, is_needed}
 use Rattle.opgen_document.specs.Types.{is_wrong}

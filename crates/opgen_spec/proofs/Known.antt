@@ -9,13 +9,12 @@ use Rattle.std.proofs.lemmas.Bool.{and_parts}
 use Rattle.std.proofs.lemmas.List.Folds.{Any-from_list_any}
 use Rattle.std.proofs.lemmas.Map.Lookups.{exact_bytes}
 use Rattle.toml.specs.Data.{Data, Members, no_members, member, get_member}
-use Rattle.opgen_kinds.specs.declared.kind.Kind.{Kind}
+use Rattle.opgen_ports.specs.declared.kind.Kind.{Kind}
 use Rattle.opgen_spec.specs.declared.fault.SpecFault.TheVariants as fault
 use Rattle.opgen_document.specs.declared.key.Key.{Key}
 use Rattle.opgen_document.specs.declared.key.Key.TheVariants as key
-use Rattle.opgen_document.specs.Document.{names, value_at}
+use Rattle.opgen_document.specs.Document.{names, value_at, version_of}
 use Rattle.opgen_document.specs.Keys.{document_keys, key_name, shared_stand, may_be}
-use Rattle.opgen_document.specs.Versions.{version_of}
 use Rattle.opgen_spec.specs.Stands.{may_stand, is_known}
 use Rattle.opgen_spec.specs.kinds.{kind_of, entry}
 use Rattle.opgen_spec.proofs.Fine.{AreFine, map_none, is_of_line}

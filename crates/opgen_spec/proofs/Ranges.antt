@@ -7,18 +7,15 @@ use Rattle.std.proofs.lemmas.List.Elements.{All-cons, All-nil}
 use Rattle.toml.specs.Data.{Items, Members}
 use Rattle.opgen_num.specs.Formats.{fewest_bits}
 use Rattle.opgen_ports.specs.Limits.{most_input}
-use Rattle.opgen_ports.specs.Ranges.{IsPower, IsNear, IsInput, IsWithin}
-use Rattle.opgen_kinds.specs.Versions.{AreNear}
+use Rattle.opgen_ports.specs.Ranges.{IsPower, IsNear, IsInput, IsWithin, AreNear}
 use Rattle.opgen_ports.proofs.InputPorts.{input_bit}
 use Rattle.opgen_ports.proofs.Versions.{input_limit}
 use Rattle.opgen_document.specs.declared.key.Key.{Key}
 use Rattle.opgen_document.specs.declared.key.Key.TheVariants as key
-use Rattle.opgen_document.specs.declared.version.Version.{Version}
-use Rattle.opgen_document.specs.declared.version.Version.TheVariants.{First, Second, Third}
-use Rattle.opgen_document.specs.Versions.{version_of}
-use Rattle.opgen_document.specs.Document.{list_of, number_at, flag_at, count_at, count, small}
+use Rattle.opgen_document.specs.declared.key.Version.{Version}
+use Rattle.opgen_document.specs.declared.key.Version.TheVariants.{First, Second, Third}
+use Rattle.opgen_document.specs.Document.{version_of, list_of, number_at, flag_at, count_at, count, small, format_at, unsigned_at}
 use Rattle.opgen_document.specs.Numbers.{coefficient, places_among, numerators}
-use Rattle.opgen_document.specs.Fields.{format_at, unsigned_at}
 use Rattle.opgen_document.specs.Ranges.{is_beyond, first_beyond, length_outside, array_outside, bits_outside, width_outside, near_outside, power_outside_in, power_outside, extra_outside}
 use Rattle.opgen_document.proofs.Ranges.{inside, counted, small_same}
 use Rattle.opgen_spec.proofs.Fine.{AreFine, IsFine}

@@ -4,13 +4,11 @@ use Rattle.std.specs.Prelude.{ℤ, All, IsTrue}
 use Rattle.toml.specs.Data.{Data, Members}
 use Rattle.opgen_ports.specs.Ranges.{IsWithin}
 use Rattle.opgen_document.specs.declared.key.Key.TheVariants as key
-use Rattle.opgen_document.specs.declared.version.Version.{Version}
-use Rattle.opgen_document.specs.declared.version.Version.TheVariants.{First, Second, Third}
-use Rattle.opgen_document.specs.Document.{value_at, number_in, count, count_at}
-use Rattle.opgen_document.specs.Fields.{IsSearchAsWritten}
+use Rattle.opgen_document.specs.declared.key.Version.{Version}
+use Rattle.opgen_document.specs.declared.key.Version.TheVariants.{First, Second, Third}
+use Rattle.opgen_document.specs.Document.{value_at, number_in, count, count_at, IsSearchAsWritten, version_of, needed_before_third, is_searched}
 use Rattle.opgen_document.specs.Keys.{has_to_be}
-use Rattle.opgen_document.specs.Ranges.{is_searched, constant_limit, extra_outside}
-use Rattle.opgen_document.specs.Versions.{version_of, needed_before_third}
+use Rattle.opgen_document.specs.Ranges.{constant_limit, extra_outside}
 use Rattle.opgen_spec.proofs.Fine.{IsFine}
 use Rattle.opgen_spec.proofs.Ranges.{extra_in, within_more}
 use Rattle.opgen_spec.proofs.Versions.{IsEarly}

@@ -7,11 +7,10 @@ use Rattle.toml.specs.Data.{Members}
 use Rattle.opgen_ports.specs.Limits.{IsVersion}
 use Rattle.opgen_spec.specs.declared.fault.SpecFault.TheVariants as fault
 use Rattle.opgen_document.specs.declared.key.Key.TheVariants as key
-use Rattle.opgen_document.specs.declared.version.Version.{Version}
-use Rattle.opgen_document.specs.declared.version.Version.TheVariants.{First, Second, Third}
-use Rattle.opgen_document.specs.Document.{number_at, count_at, count}
+use Rattle.opgen_document.specs.declared.key.Version.{Version}
+use Rattle.opgen_document.specs.declared.key.Version.TheVariants.{First, Second, Third}
+use Rattle.opgen_document.specs.Document.{number_at, count_at, count, version_in, version_of, since_third}
 use Rattle.opgen_document.specs.Keys.{may_be}
-use Rattle.opgen_document.specs.Versions.{version_in, version_of, since_third}
 use Rattle.opgen_spec.specs.Faults.{is_version}
 use Rattle.opgen_spec.proofs.Fine.{AreFine, passed}
 

@@ -6,8 +6,7 @@ use Rattle.toml.specs.Data.{Data, integer, boolean, Members}
 use Rattle.opgen_document.specs.declared.key.Key.{Key}
 use Rattle.opgen_document.specs.declared.key.Key.TheVariants as key
 use Rattle.opgen_document.specs.Decimals.{AreCoefficients}
-use Rattle.opgen_document.specs.Document.{value_at, number_at, flag_in, flag_at, count_at, small_at, items_at}
-use Rattle.opgen_document.specs.Fields.{format_at, unsigned_at, IsInputAsWritten, IsFlagAsWritten}
+use Rattle.opgen_document.specs.Document.{value_at, number_at, flag_in, flag_at, count_at, small_at, items_at, format_at, unsigned_at, IsInputAsWritten, IsFlagAsWritten}
 use Rattle.opgen_document.specs.Numbers.{numerators, denominator_of}
 use Rattle.opgen_document.specs.Ranges.{width_outside, near_outside, power_outside, extra_outside}
 use Rattle.opgen_document.proofs.Decimals.{coefficients_written}

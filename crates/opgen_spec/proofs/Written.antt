@@ -8,13 +8,13 @@ use Rattle.opgen_net.specs.declared.cell.Class.{Class}
 use Rattle.opgen_net.specs.declared.cell.Class.TheVariants as class
 use Rattle.opgen_document.specs.declared.array.Array.TheVariants as array
 use Rattle.opgen_document.specs.declared.key.Key.TheVariants as key
-use Rattle.opgen_kinds.specs.declared.kind.Kind.{Kind}
-use Rattle.opgen_kinds.specs.Kinds.{kind_name}
+use Rattle.opgen_ports.specs.declared.kind.Kind.{Kind}
+use Rattle.opgen_ports.specs.Meaning.{kind_name}
 use Rattle.opgen_document.specs.Keys.{line_keys}
-use Rattle.opgen_document.specs.Document.{value_at, number_at, text_at, items_at}
-use Rattle.opgen_document.specs.Versions.{version_of}
+use Rattle.opgen_document.specs.Document.{value_at, number_at, text_at, items_at, version_of}
 use Rattle.opgen_document.specs.Ranges.{outside}
-use Rattle.opgen_spec.specs.Spec.{classes, class_name, class_named, spec_with, line_of}
+use Rattle.opgen_net.specs.Classes.{classes}
+use Rattle.opgen_spec.specs.Spec.{class_name, class_named, spec_with, line_of}
 use Rattle.opgen_spec.specs.Written.{IsAsWritten, IsLineAsWritten}
 use Rattle.opgen_spec.specs.Faults.{field_fault, class_outside}
 use Rattle.opgen_spec.specs.kinds.{kinds_of, kind_of}

@@ -5,8 +5,8 @@ use Rattle.opgen_operator.specs.declared.operator.Operator.{Operator}
 use Rattle.opgen_ports.specs.Limits.{most_input}
 use Rattle.opgen_document.specs.declared.key.Key.{Key}
 use Rattle.opgen_document.specs.declared.key.Key.TheVariants as key
-use Rattle.opgen_document.specs.declared.stand.Stand.{Stand}
-use Rattle.opgen_document.specs.declared.version.Version.{Version}
+use Rattle.opgen_document.specs.declared.key.Stand.{Stand}
+use Rattle.opgen_document.specs.declared.key.Version.{Version}
 use Rattle.opgen_document.specs.Document.{count_at}
 use Rattle.opgen_document.specs.Ranges.{width_outside}
 

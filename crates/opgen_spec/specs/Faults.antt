@@ -8,7 +8,7 @@ use Rattle.opgen_spec.specs.declared.fault.SpecFault.TheVariants as fault
 use Rattle.opgen_document.specs.declared.array.Array.{Array}
 use Rattle.opgen_document.specs.declared.key.Key.{Key}
 use Rattle.opgen_document.specs.declared.key.Key.TheVariants as key
-use Rattle.opgen_kinds.specs.declared.kind.Kind.{Kind}
+use Rattle.opgen_ports.specs.declared.kind.Kind.{Kind}
 use Rattle.opgen_operator.specs.declared.spec.Spec.{Spec}
 use Rattle.opgen_ports.specs.Limits.{most_signal}
 use Rattle.opgen_operator.specs.Operator.{least_shift, most_shift, shift, inexact, need}
@@ -16,10 +16,9 @@ use Rattle.opgen_ports.specs.SpecName.{is_spec_name}
 use Rattle.opgen_spec.specs.declared.lines.Check.{Check}
 use Rattle.opgen_spec.specs.declared.lines.Check.TheVariants.{Unknown, Missing, WrongType, Range}
 use Rattle.opgen_document.specs.Keys.{document_keys, arrays, array_key, line_keys}
-use Rattle.opgen_document.specs.Document.{names, value_at, number_at, text_at, flag_at, items_at, list_of}
-use Rattle.opgen_document.specs.declared.version.Version.{Version}
-use Rattle.opgen_document.specs.declared.version.Version.TheVariants.{First, Second, Third}
-use Rattle.opgen_document.specs.Versions.{version_of}
+use Rattle.opgen_document.specs.Document.{names, value_at, number_at, text_at, flag_at, items_at, list_of, version_of}
+use Rattle.opgen_document.specs.declared.key.Version.{Version}
+use Rattle.opgen_document.specs.declared.key.Version.TheVariants.{First, Second, Third}
 use Rattle.opgen_document.specs.Types.{is_wrong}
 use Rattle.opgen_document.specs.Ranges.{outside, length_outside, bits_outside, far_outside, numerator_outside}
 use Rattle.opgen_spec.specs.kinds.{kind_of, entry}

@@ -1,12 +1,13 @@
 -- The specification that a document gives, field by field.
-use Rattle.std.specs.Prelude.{ℕ, List, [], ◌∷◌, codes, Option, find, unwrap_or}
+use Rattle.std.specs.Prelude.{ℕ, List, codes, Option, find, unwrap_or}
 use Rattle.std.specs.Str.{bytes_eq}
 use Rattle.toml.specs.Data.{Members}
 use Rattle.opgen_net.specs.declared.cell.Class.{Class}
 use Rattle.opgen_net.specs.declared.cell.Class.TheVariants as class
+use Rattle.opgen_net.specs.Classes.{classes}
 use Rattle.opgen_document.specs.declared.key.Key.TheVariants as key
-use Rattle.opgen_kinds.specs.declared.kind.Kind.{Kind}
-use Rattle.opgen_kinds.specs.declared.kind.Kind.TheVariants as kind
+use Rattle.opgen_ports.specs.declared.kind.Kind.{Kind}
+use Rattle.opgen_ports.specs.declared.kind.Kind.TheVariants as kind
 use Rattle.opgen_operator.specs.declared.spec.DelayLine.{DelayLine}
 use Rattle.opgen_operator.specs.declared.spec.Spec.{Spec}
 use Rattle.opgen_document.specs.Document.{text_at, flag_at, items_at, in_tables, count_at, optional_count_at, optional_flag_at}
@@ -20,9 +21,6 @@ class_name class.Add = codes "add"
 class_name class.Choice = codes "choice"
 class_name class.Table = codes "table"
 class_name class.Register = codes "register"
-
-unfoldable pub classes : List Class
-classes = class.Wire ∷ class.Logic ∷ class.Add ∷ class.Choice ∷ class.Table ∷ class.Register ∷ []
 
 -- the class of a name
 abbrev pub class_named : List ℕ → Option Class

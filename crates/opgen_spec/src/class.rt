@@ -5,15 +5,6 @@ ghost use Rattle.opgen_spec.specs.Spec.{class_name, class_named};
 
 use opgen_net::Class;
 
-static CLASSES: [Class; 6] = [
-    Class::Wire,
-    Class::Logic,
-    Class::Add,
-    Class::Choice,
-    Class::Table,
-    Class::Register,
-];
-
 fn class_name(class: Class) -> &'static str
     ensures { result.now ≡ class_name class }
 {
@@ -40,5 +31,5 @@ fn class_among(classes: &[Class], name: &str) -> Option<Class>
 pub(crate) fn class_named(name: &str) -> Option<Class>
     ensures { result ≡ class_named name.now }
 {
-    class_among(&CLASSES, name)
+    class_among(&Class::ALL, name)
 }

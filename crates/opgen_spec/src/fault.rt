@@ -51,14 +51,14 @@ impl fmt::Display for Place {
     }
 }
 
-/// Writes the name of an error and its number.
+// Writes the name of an error and its number.
 fn write_number<W: fmt::Write>(f: &mut fmt::Formatter<W>, name: &str, number: i64) -> fmt::Result
     ensures { WritesOnOk W.write_str_gives f.old result (name.now ++ codes " " ++ signed_decimal number) f.new }
 {
     write!(f, "{name} {number}")
 }
 
-/// Writes the name of an error and its key.
+// Writes the name of an error and its key.
 fn write_place<W: fmt::Write>(f: &mut fmt::Formatter<W>, name: &str, place: Place) -> fmt::Result
     ensures { WritesOnOk W.write_str_gives f.old result (name.now ++ codes " " ++ place_text place) f.new }
 {

@@ -13,7 +13,7 @@ use opgen_document::{Key, Version, first_wrong, value_at, version_of};
 use opgen_operator::Kind;
 use toml::Table;
 
-/// The place of the first key, in byte order, that is none of the keys.
+// The place of the first key, in byte order, that is none of the keys.
 fn first_unknown(keys: &[Key], version: Version, kind: Option<Kind>, table: &Table) -> Option<u64>
     ensures { result
         ≡ position_from (λ name. not (is_known keys.now version kind name)) 0 (names (table_view table.now)) }

@@ -2,7 +2,7 @@
 ghost use Rattle.std.specs.Prelude.{◌≡◌, find, IfOk};
 ghost use Rattle.std.specs.Str.{bytes_eq};
 ghost use Rattle.toml.specs.View.{table_view};
-ghost use Rattle.opgen_kinds.specs.Kinds.{kind_name};
+ghost use Rattle.opgen_ports.specs.Meaning.{kind_name};
 ghost use Rattle.opgen_spec.specs.Entry.{input_outside};
 ghost use Rattle.opgen_spec.specs.kinds.{kind_named, kinds_of, kind_of, entry_of};
 
@@ -66,7 +66,7 @@ fn kind_among(kinds: &[Kind], name: &str) -> Option<Kind>
     kinds.iter().copied().find(|kind| kind.name() == name)
 }
 
-/// The kind of this name.
+// The kind of this name.
 fn kind_named(version: Version, name: &str) -> Option<Kind>
     ensures { result ≡ kind_named version name.now }
 {

@@ -19,7 +19,7 @@ pub(crate) enum Check {
     Range,
 }
 
-/// The first fault among the keys of one table: of the document, or of a line.
+// The first fault among the keys of one table: of the document, or of a line.
 fn among(
     check: Check,
     keys: &[Key],
@@ -54,7 +54,7 @@ fn among_line(
     }
 }
 
-/// The first fault in the lines of an array.
+// The first fault in the lines of an array.
 fn among_lines(check: Check, keys: &[Key], document: &Table, items: &[Value]) -> Option<SpecFault>
     ensures { result ≡ among_lines check keys.now (table_view document.now) 1 (items_view items.now) }
 {
@@ -90,7 +90,7 @@ fn count_on(before: u64, n: u64) -> u64
     before.saturating_add(n)
 }
 
-/// A fault whose line counts on over those of the arrays before it, if it is an unknown key.
+// A fault whose line counts on over those of the arrays before it, if it is an unknown key.
 fn counted_on(before: u64, fault: SpecFault) -> SpecFault
     ensures { result ≡ counted_on before fault }
 {
@@ -103,7 +103,7 @@ fn counted_on(before: u64, fault: SpecFault) -> SpecFault
     }
 }
 
-/// The first fault in the lines of the arrays, one array after the other.
+// The first fault in the lines of the arrays, one array after the other.
 fn among_arrays(check: Check, document: &Table) -> Option<SpecFault>
     ensures { result ≡ among_arrays check (table_view document.now) 0 arrays }
 {

@@ -25,7 +25,7 @@ fn line_of(table: &Table) -> DelayLine
     }
 }
 
-/// Appends the delay line of an item, if it is a table.
+// Appends the delay line of an item, if it is a table.
 fn push_line(lines: &mut Items<DelayLine>, item: &Value) -> Result<(), AllocError>
     ensures { OnOk result (lines.new ≡ lines.old ++ in_table line_of (view item.now)) }
 {

@@ -15,7 +15,7 @@ use toml::Table;
 /// The most bits of an input of a sum of products.
 const MAX_INPUT: u32 = 48;
 
-/// The line's number, where its class is none.
+// The line's number, where its class is none.
 fn class_outside(line: u64, name: &str) -> Option<i64>
     requires { line < 2 ^ 63 }
     ensures { result ≡ class_outside line name.now }
@@ -27,7 +27,7 @@ fn class_outside(line: u64, name: &str) -> Option<i64>
     }
 }
 
-/// What is out of the range that the document's kind sets to a key.
+// What is out of the range that the document's kind sets to a key.
 #[tactic(auto, unfolding(crate::specs::kinds::entry))]
 fn kind_outside(table: &Table, key: Key) -> Option<i64>
     ensures { result ≡ kind_outside (table_view table.now) key }
@@ -36,7 +36,7 @@ fn kind_outside(table: &Table, key: Key) -> Option<i64>
     key_outside(kind, table, key)
 }
 
-/// What is out of range at a key of the document, or of one of its lines.
+// What is out of range at a key of the document, or of one of its lines.
 fn value_outside(document: &Table, line: u64, table: &Table, key: Key) -> Option<i64>
     requires { line < 2 ^ 63 }
     ensures { result ≡ value_outside (table_view document.now) line (table_view table.now) key }
@@ -63,15 +63,15 @@ fn value_outside(document: &Table, line: u64, table: &Table, key: Key) -> Option
     }
 }
 
-/// Whether the key is asked for its range where it is not there too: a sum of products has to have
-/// terms.
+// Whether the key is asked for its range where it is not there too: a sum of products has to have
+// terms.
 fn is_always_asked(key: Key) -> bool
     ensures { result ≡ is_always_asked key }
 {
     matches!(key, Key::Scaled)
 }
 
-/// What stands at a key and is outside its range.
+// What stands at a key and is outside its range.
 fn found(document: &Table, line: u64, table: &Table, key: Key) -> Option<i64>
     requires { line < 2 ^ 63 }
     ensures { result ≡ found (table_view document.now) line (table_view table.now) key }

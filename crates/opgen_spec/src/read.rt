@@ -44,7 +44,7 @@ fn bad_name(table: &Table) -> Option<SpecFault>
     }
 }
 
-/// Whether documents of the version have the kind.
+// Whether documents of the version have the kind.
 #[tactic(auto, unfolding(crate::specs::kinds::entry))]
 fn has_kind(version: Version, kind: Kind) -> bool
     ensures { result ≡ has_kind version kind }
@@ -64,7 +64,7 @@ fn bad_kind(table: &Table) -> Option<SpecFault>
     }
 }
 
-/// The first fault of the keys' presence and types.
+// The first fault of the keys' presence and types.
 fn form_fault(table: &Table) -> Option<SpecFault>
     ensures { result ≡ form_fault (table_view table.now) }
 {
@@ -77,7 +77,7 @@ fn form_fault(table: &Table) -> Option<SpecFault>
     check_fault(Check::WrongType, table)
 }
 
-/// The first fault of the keys' values, each by itself.
+// The first fault of the keys' values, each by itself.
 fn value_fault(table: &Table) -> Option<SpecFault>
     ensures { result ≡ value_fault (table_view table.now) }
 {

@@ -9,7 +9,7 @@ use crate::kinds::kinds_of;
 use opgen_document::{Key, Stand, Version, shared_stand};
 use opgen_operator::Kind;
 
-/// How a key stands in documents of a version and a kind.
+// How a key stands in documents of a version and a kind.
 #[tactic(auto, unfolding(crate::specs::kinds::entry))]
 fn stand_in(version: Version, kind: Kind, key: Key) -> Stand
     ensures { result ≡ stand_in version kind key }
@@ -20,7 +20,7 @@ fn stand_in(version: Version, kind: Kind, key: Key) -> Stand
     }
 }
 
-/// Whether the key may stand there. If there is no kind, every key of the version may.
+// Whether the key may stand there. If there is no kind, every key of the version may.
 fn may_stand(version: Version, kind: Option<Kind>, key: Key) -> bool
     ensures { result ≡ may_stand version kind key }
 {

@@ -7,11 +7,11 @@ use Rattle.std.proofs.Math.Seq.{take-suc}
 use Rattle.std.proofs.lemmas.Bool.{lt-ltb, or_right}
 use Rattle.std.proofs.lemmas.List.{length-replicate, append_assoc}
 use Rattle.std.proofs.lemmas.List.Elements.{All-append, All-cons, All-nil}
-use Rattle.opgen_num.specs.declared.TheConstants.{MAX_WIDTH}
+use Rattle.opgen_num.specs.declared.format.TheConstants.{MAX_WIDTH}
 use Rattle.opgen_num.specs.Words.{digit, nat}
 use Rattle.opgen_num.proofs.Words.{digit-below}
 use Rattle.opgen_design.specs.Run.{AreWords}
-use Rattle.opgen_design.specs.Width.{IsWidth}
+use Rattle.opgen_design.specs.Value.{IsWidth}
 use Rattle.opgen_net.specs.declared.net.Net.{Net}
 use Rattle.opgen_net.specs.declared.word_bits.WordBit.{WordBit}
 use Rattle.opgen_net.specs.declared.word_bits.WordBit.TheVariants.{Zero, One, Of}
@@ -21,7 +21,7 @@ use Rattle.opgen_net.specs.WordRule.{IsThere, bit_flow, bits_from}
 use Rattle.opgen_net.proofs.Grown.{grown-flow, grown-width, grown-all_there}
 use Rattle.opgen_kinds.specs.declared.single.Single.{Single}
 use Rattle.opgen_kinds.specs.Single.{root_shift, root_width}
-use Rattle.opgen_ports.specs.Shifts.{places_up}
+use Rattle.opgen_ports.specs.Reaches.{places_up}
 use Rattle.opgen_net.specs.Placed.{number_at, with_bits}
 use Rattle.opgen_digits.specs.Digit.{Known, with_difference, tried, left_of, AreOperands, HasDigit}
 use Rattle.opgen_net.proofs.BitLists.{length-bits_from, bits_from-there, zeros-there, bit-kept}

@@ -8,8 +8,7 @@ use Rattle.std.proofs.lemmas.List.{length-replicate}
 use Rattle.std.proofs.lemmas.List.Elements.{All-take}
 use Rattle.opgen_num.specs.declared.format.Format.{Format}
 use Rattle.opgen_num.specs.Rounding.{IsGoodRoot}
-use Rattle.opgen_num.specs.Values.{int, val}
-use Rattle.opgen_num.specs.Words.{nat}
+use Rattle.opgen_num.specs.Words.{int, val, nat}
 use Rattle.opgen_design.specs.Value.{word_at}
 use Rattle.opgen_net.specs.declared.net.Net.{Net}
 use Rattle.opgen_net.specs.declared.word_bits.WordBit.{WordBit}
@@ -25,9 +24,9 @@ use Rattle.opgen_ports.specs.declared.TheConstants.{MAX_SHIFT}
 use Rattle.opgen_operator.specs.Fits.{FitsOperator, FitsInEachMode, name_and_width}
 use Rattle.opgen_kinds.specs.Single.{IsAcceptedSingle, square, IsGoodSquareRoot, root_shift, root_width, root_ports, IsSingle}
 use Rattle.opgen_operator.specs.Operator.{operator_inputs}
-use Rattle.opgen_operator.specs.PortWords.{recent_words, output_words}
-use Rattle.opgen_ports.specs.Recent.{Recent}
-use Rattle.opgen_ports.specs.Shifts.{places_up, up}
+use Rattle.opgen_operator.specs.Outputs.{recent_words, output_words}
+use Rattle.opgen_ports.specs.Ports.{Recent}
+use Rattle.opgen_ports.specs.Reaches.{places_up, up}
 use Rattle.opgen_operator.proofs.Accepted.{accepted_ranges, accepted_shift}
 use Rattle.opgen_ports.proofs.InputPorts.{input_bit}
 use Rattle.opgen_net.specs.Placed.{number_at}

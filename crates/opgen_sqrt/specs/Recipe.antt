@@ -7,7 +7,7 @@ use Rattle.opgen_net.specs.declared.word_bits.WordBit.TheVariants.{Zero, One}
 use Rattle.opgen_net.specs.WordRule.{bits_from}
 use Rattle.opgen_kinds.specs.declared.single.Single.{Single}
 use Rattle.opgen_kinds.specs.Single.{root_shift, root_width}
-use Rattle.opgen_ports.specs.Shifts.{places_up}
+use Rattle.opgen_ports.specs.Reaches.{places_up}
 use Rattle.opgen_net.specs.Placed.{with_bits}
 use Rattle.opgen_digits.specs.Digit.{Known, tried}
 use Rattle.opgen_digits.specs.Results.{with_results}

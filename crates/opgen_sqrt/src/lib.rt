@@ -8,13 +8,14 @@
 #![tactic(auto)]
 
 ghost use Rattle.std.specs.Prelude.{◌≡◌, ◌+◌, ◌≤◌, [], ◌∷◌, ◌++◌, All, IfOk, OnOk, length};
-ghost use Rattle.opgen_num.specs.declared.TheConstants.{MAX_WIDTH};
+ghost use Rattle.opgen_num.specs.declared.format.TheConstants.{MAX_WIDTH};
 ghost use Rattle.opgen_net.specs.declared.word_bits.WordBit.TheVariants.{Zero, One};
 ghost use Rattle.opgen_net.specs.Valid.{IsValid, widths};
 ghost use Rattle.opgen_net.specs.WordRule.{IsThere};
 ghost use Rattle.opgen_operator.specs.declared.operator.Operator.TheVariants.{Root};
 ghost use Rattle.opgen_operator.specs.Fits.{FitsInEachMode};
 ghost use Rattle.opgen_kinds.specs.Single.{IsAcceptedSingle, root_width};
+ghost use Rattle.opgen_digits.specs.Digit.{known_in};
 ghost use Rattle.opgen_sqrt.specs.Recipe.{with_input, radicand as radicand_of, stepped, after, net_of_single};
 ghost use Rattle.opgen_sqrt.specs.Steps.{HoldsAfterEachStep};
 
@@ -97,7 +98,7 @@ fn step(
     requires known { length digits.old.known + 2 ≡ rest }
     requires there { All (IsThere (widths net.old.nodes)) (Zero ∷ (digits.old.rest ++ pair.high ∷ pair.low ∷ [])) }
     requires digits { All (IsThere (widths net.old.nodes)) digits.old.known }
-    ensures ok { OnOk result (stepped keep rest (record { net = net.old; digits = digits.old.known; rest = digits.old.rest }) pair.high pair.low ≡ record { net = net.new; digits = digits.new.known; rest = digits.new.rest }) }
+    ensures ok { OnOk result (stepped keep rest (known_in net.old digits.old) pair.high pair.low ≡ known_in net.new digits.new) }
     ensures valid { IsValid net.new }
 {
     let minuend = minuend(alloc, digits.rest.as_slice(), pair)?;
@@ -122,7 +123,7 @@ fn root(
     requires single { IsAcceptedSingle single.now }
     requires net { net.old ≡ with_input single.now }
     requires radicand { radicand.now ≡ radicand_of single.now }
-    ensures ok { IfOk result (λ d. after single.now (root_width single.now) ≡ record { net = net.new; digits = d.known; rest = d.rest }) }
+    ensures ok { IfOk result (λ d. after single.now (root_width single.now) ≡ known_in net.new d) }
     ensures valid { IfOk result (λ d. IsValid net.new) }
 {
     let mut digits = Digits {

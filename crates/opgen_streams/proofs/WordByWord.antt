@@ -5,7 +5,7 @@ use Rattle.std.specs.Simd.Lanes.{zip2, Each1}
 use Rattle.std.proofs.lemmas.List.{get_or-map}
 use Rattle.std.proofs.lemmas.Nat.Bits.{bit_at_and, bit_at_or, bit_at_xor, bit_at_not, bit_at-lt, bit_at_ones, bit_at-zero}
 use Rattle.std.proofs.lemmas.Simd.{get_or-zip2, get_or-replicate, Each1-get_or}
-use Rattle.opgen_num.specs.Sums.{xor}
+use Rattle.opgen_num.specs.Words.{xor}
 use Rattle.opgen_streams.specs.Streams.{bit_in, streams}
 use mir.Syntax.{w64}
 use mir.Val.{Fits}

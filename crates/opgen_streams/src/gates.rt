@@ -1,6 +1,6 @@
 //! Gates: one bit of each stream from bits of the same stream.
 ghost use Rattle.std.specs.Prelude.{ℕ, ◌≡◌, ◌<◌, ◌&&◌, ◌||◌, not, if◌then◌else◌};
-ghost use Rattle.opgen_num.specs.Sums.{majority, xor};
+ghost use Rattle.opgen_num.specs.Words.{majority, xor};
 ghost use Rattle.opgen_streams.specs.Streams.{bit_in, streams};
 
 use std::simd::prelude::*;

@@ -4,7 +4,7 @@ use Rattle.std.proofs.Math.Path.{fun_ext}
 use Rattle.std.proofs.lemmas.List.Sums.{sum_by-append}
 use Rattle.opgen_net.specs.declared.cell.Cell.{Cell}
 use Rattle.opgen_net.specs.declared.cell.Class.{Class}
-use Rattle.opgen_target.specs.Classes.{is_same}
+use Rattle.opgen_net.specs.Classes.{is_same}
 use Rattle.opgen_target.specs.Ledger.{empty_ledger, with_cell, width_in, width_sum, ledger_of, last_number}
 
 -- no cell leaves the ledger empty

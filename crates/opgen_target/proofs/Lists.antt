@@ -8,7 +8,7 @@ use Rattle.std.proofs.lemmas.List.Elements.{All-get_or}
 use Rattle.opgen_net.specs.declared.cell.Cell.{Cell}
 use Rattle.opgen_net.specs.declared.cell.Class.{Class}
 use Rattle.opgen_net.specs.declared.cell.Class.TheVariants.{Wire, Logic, Add, Choice, Table, Register}
-use Rattle.opgen_target.specs.Classes.{place_of}
+use Rattle.opgen_net.specs.Classes.{place_of}
 use Rattle.opgen_target.specs.Delays.{IsLine, with_line, on_line}
 use Rattle.opgen_target.specs.Ledger.{with_cell, last_number}
 use Rattle.opgen_target.specs.Tables.{AreLines, line_table, listed_ledger}

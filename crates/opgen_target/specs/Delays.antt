@@ -3,7 +3,7 @@ use Rattle.std.specs.Prelude.{ℕ, ◌+◌, ◌*◌, ◌≤◌, if◌then◌else
 use Rattle.opgen_net.specs.declared.cell.Cell.{Cell}
 use Rattle.opgen_net.specs.declared.cell.Class.{Class}
 use Rattle.opgen_net.specs.declared.cell.Class.TheVariants.{Register}
-use Rattle.opgen_target.specs.Classes.{is_same}
+use Rattle.opgen_net.specs.Classes.{is_same}
 
 -- the delay of a cell of each class and width
 abbrev pub Delays : Type 0

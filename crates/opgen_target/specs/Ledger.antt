@@ -2,7 +2,7 @@
 use Rattle.std.specs.Prelude.{ℕ, ◌+◌, min, List, sum_by, if◌then◌else◌}
 use Rattle.opgen_net.specs.declared.cell.Cell.{Cell}
 use Rattle.opgen_net.specs.declared.cell.Class.{Class}
-use Rattle.opgen_target.specs.Classes.{is_same}
+use Rattle.opgen_net.specs.Classes.{is_same}
 
 -- the number of each class
 abbrev pub Ledger : Type 0

@@ -1,5 +1,4 @@
--- Definitions of opgen_target: classes of cells, tables of delays, ledgers, and the two targets of the program.
-pub mod Classes
+-- Definitions of opgen_target: tables of delays, ledgers, and the two targets of the program.
 pub mod Delays
 pub mod Ledger
 pub mod Program

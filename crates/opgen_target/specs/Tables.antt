@@ -1,6 +1,6 @@
 -- The two kinds of target as contracts see them, and the delays that their lines and lists mean.
 use Rattle.std.specs.Prelude.{ℕ, ◌+◌, ◌-◌, ◌*◌, List, All, slice_index, slice_index_or}
-use Rattle.opgen_target.specs.Classes.{place_of}
+use Rattle.opgen_net.specs.Classes.{place_of}
 use Rattle.opgen_target.specs.Delays.{Delays, IsLine, on_line}
 use Rattle.opgen_target.specs.Ledger.{Ledger}
 

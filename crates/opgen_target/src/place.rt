@@ -1,6 +1,6 @@
 //! The place of a class of cells in the fixed order of the classes.
 ghost use Rattle.std.specs.Prelude.{◌≡◌};
-ghost use Rattle.opgen_target.specs.Classes.{place_of};
+ghost use Rattle.opgen_net.specs.Classes.{place_of};
 
 use crate::Class;
 

@@ -15,7 +15,7 @@ pub fn plain(alloc: Global) -> Result<LinearTarget, AllocError>
     Ok(LinearTarget::new(String::from_str(alloc, "plain")?, lines))
 }
 
-/// The delay of a cell of the target `fixed`, whose carries run in groups of eight bits.
+// The delay of a cell of the target `fixed`, whose carries run in groups of eight bits.
 fn fixed_delay(class: Class, width: u32) -> u32
     requires { IsTableWidth width }
     ensures { result ≡ fixed_delay class width }
@@ -30,7 +30,7 @@ fn fixed_delay(class: Class, width: u32) -> u32
     }
 }
 
-/// Appends the delays of a class, for the widths from 1 to 128.
+// Appends the delays of a class, for the widths from 1 to 128.
 fn push_delays(delays: &mut Vec<u32>, class: Class) -> Result<(), AllocError>
     ensures { IfOk result (λ _. delays.new.items ≡ delays.old.items ++ delays_of class 128) }
 {
@@ -40,7 +40,7 @@ fn push_delays(delays: &mut Vec<u32>, class: Class) -> Result<(), AllocError>
     Ok(())
 }
 
-/// The delays of each class in order.
+// The delays of each class in order.
 fn fixed_delays(alloc: Global) -> Result<Vec<u32>, AllocError>
     ensures { IfOk result (λ delays. delays.items ≡ fixed_delays) }
 {

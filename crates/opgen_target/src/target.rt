@@ -21,12 +21,12 @@ pub trait Target: Drop {
     fn name(&self) -> &str
         ensures { result.now ≡ target_name self.now };
 
-    /// The delay of a cell in picoseconds. That of a register of one bit is the setup time.
+    // The delay of a cell in picoseconds. That of a register of one bit is the setup time.
     fn delay(&self, cell: Cell) -> u32
         requires { IsTableWidth cell.width }
         ensures { result ≡ delay_of (delays self.now) cell };
 
-    /// Gives the cells of a class the delay `base + per_bit * width`, in picoseconds, and says whether it did.
+    // Gives the cells of a class the delay `base + per_bit * width`, in picoseconds, and says whether it did.
     fn retune(&mut self, class: Class, base: u32, per_bit: u32) -> bool
         requires { IsLine base per_bit }
         ensures answer { result ≡ adjustable self.old }
@@ -36,14 +36,14 @@ pub trait Target: Drop {
         ensures adjustable { adjustable self.new ≡ adjustable self.old }
         ensures ledger { ledger self.new ≡ ledger self.old };
 
-    /// Empties the ledger.
+    // Empties the ledger.
     fn clear(&mut self)
         ensures ledger { ledger self.new ≡ empty_ledger }
         ensures target_name { target_name self.new ≡ target_name self.old }
         ensures delays { delays self.new ≡ delays self.old }
         ensures adjustable { adjustable self.new ≡ adjustable self.old };
 
-    /// Adds the width of a cell to the number of its class, which ends at `u64::MAX`.
+    // Adds the width of a cell to the number of its class, which ends at `u64::MAX`.
     fn charge(&mut self, cell: Cell)
         requires { IsTableWidth cell.width }
         ensures ledger { ledger self.new ≡ with_cell cell (ledger self.old) }
@@ -51,7 +51,7 @@ pub trait Target: Drop {
         ensures delays { delays self.new ≡ delays self.old }
         ensures adjustable { adjustable self.new ≡ adjustable self.old };
 
-    /// The number of a class in the ledger.
+    // The number of a class in the ledger.
     fn charged(&self, class: Class) -> u64
         ensures { result ≡ ledger self.now class };
 }

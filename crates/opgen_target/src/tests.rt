@@ -7,15 +7,6 @@ use std::alloc::{AllocError, Global};
 use std::process::Abort;
 use std::test::Fail;
 
-static CLASSES: [Class; 6] = [
-    Class::Wire,
-    Class::Logic,
-    Class::Add,
-    Class::Choice,
-    Class::Table,
-    Class::Register,
-];
-
 fn linear(alloc: Global, name: &str, lines: [(u32, u32); 6]) -> Result<LinearTarget, AllocError>
     requires { AreLines lines }
 {
@@ -42,7 +33,7 @@ fn expect_delays(rt: &impl Abort, target: &Box<dyn Target>, rows: &[(Class, u32,
 }
 
 fn expect_ledger(rt: &impl Abort, target: &Box<dyn Target>, numbers: [u64; 6]) {
-    for (place, class) in CLASSES.iter().enumerate() {
+    for (place, class) in Class::ALL.iter().enumerate() {
         assert_eq!(rt; target.charged(*class), numbers[place], "{class:?}");
     }
 }
@@ -137,7 +128,7 @@ fn cells_are_charged(rt: HostRuntime) -> Result<(), Fail> {
 }
 
 fn expect_ends(rt: &impl Abort, target: &Box<dyn Target>, narrow: u32, wide: u32) {
-    for class in &CLASSES {
+    for class in &Class::ALL {
         expect_delays(rt, target, &[(*class, 1, narrow), (*class, 128, wide)]);
     }
 }

@@ -10,8 +10,7 @@ use Rattle.std.proofs.lemmas.List.Elements.{All-nil, All-weaker, All-contains_it
 use Rattle.opgen_num.specs.Floors.{IsFloor}
 use Rattle.opgen_num.specs.Formats.{Holds, range_width}
 use Rattle.opgen_num.specs.Rounding.{IsGoodLinear}
-use Rattle.opgen_num.specs.Values.{val}
-use Rattle.opgen_num.specs.Words.{word, nat}
+use Rattle.opgen_num.specs.Words.{val, word, nat}
 use Rattle.opgen_num.proofs.Rounded.{floor_is}
 use Rattle.opgen_design.specs.Run.{AreWords}
 use Rattle.opgen_design.specs.Value.{cut}
@@ -32,14 +31,13 @@ use Rattle.opgen_kinds.proofs.of_kind.Taps.{direct_sum}
 use Rattle.opgen_operator.specs.declared.operator.Operator.TheVariants.{Tfir}
 use Rattle.opgen_operator.specs.Fits.{FitsOperator, FitsInEachMode}
 use Rattle.opgen_operator.specs.Operator.{operator_outputs}
-use Rattle.opgen_operator.specs.PortWords.{output_words}
+use Rattle.opgen_operator.specs.Outputs.{output_words}
 use Rattle.opgen_operator.specs.Valid.{IsModeOf}
 use Rattle.opgen_operator.proofs.Accepted.{accepted_ranges}
 use Rattle.opgen_ports.specs.Good.{IsGoodRatio}
 use Rattle.opgen_ports.specs.OddParts.{odd_part}
-use Rattle.opgen_ports.specs.Reaches.{reach_of, reach_over, rises, falls, above_zero, below_zero, in_units, in_places}
-use Rattle.opgen_ports.specs.Recent.{Recent, weighted}
-use Rattle.opgen_ports.specs.Shifts.{up, down}
+use Rattle.opgen_ports.specs.Reaches.{reach_of, reach_over, rises, falls, above_zero, below_zero, in_units, in_places, up, down}
+use Rattle.opgen_ports.specs.Ports.{Recent, weighted}
 use Rattle.opgen_ports.specs.Spans.{IsOf}
 use Rattle.opgen_ports.proofs.Reached.{rises-cons, falls-cons, ceiling}
 use Rattle.opgen_ports.proofs.Widths.{some_width}

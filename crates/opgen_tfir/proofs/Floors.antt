@@ -9,9 +9,9 @@ use Rattle.opgen_num.specs.Floors.{IsFloor}
 use Rattle.opgen_num.specs.Rounding.{IsWithinOne, IsGoodLinear}
 use Rattle.opgen_num.proofs.Integers.{product-sum, product_assoc, product_cancel}
 use Rattle.opgen_num.proofs.Quotients.{within_one}
-use Rattle.opgen_kinds.specs.Sum.{first_inexact_of, is_whole_at}
-use Rattle.opgen_ports.specs.Recent.{Recent, weighted, weighted_from}
-use Rattle.opgen_ports.specs.Shifts.{up, down}
+use Rattle.opgen_kinds.specs.Sum.{first_inexact_of}
+use Rattle.opgen_ports.specs.Reaches.{is_whole_at, up, down}
+use Rattle.opgen_ports.specs.Ports.{Recent, weighted, weighted_from}
 use Rattle.opgen_ports.proofs.Reached.{neg-right}
 
 -- ---- whole multiples of a number

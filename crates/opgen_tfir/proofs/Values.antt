@@ -6,12 +6,11 @@ use Rattle.std.proofs.lemmas.Int.{ints}
 use Rattle.std.proofs.lemmas.List.Elements.{All-head, All-weaker}
 use Rattle.opgen_num.specs.declared.format.Format.{Format}
 use Rattle.opgen_num.specs.Formats.{Holds}
-use Rattle.opgen_num.specs.Values.{val}
+use Rattle.opgen_num.specs.Words.{val, nat, word}
 use Rattle.opgen_num.specs.WordLaws.{length-word, nat-word}
-use Rattle.opgen_num.specs.Words.{nat, word}
 use Rattle.opgen_num.proofs.Values.{val_holds}
 use Rattle.opgen_design.specs.Run.{AreWords}
-use Rattle.opgen_design.specs.Width.{IsWidth}
+use Rattle.opgen_design.specs.Value.{IsWidth}
 use Rattle.opgen_net.specs.declared.cell.Class.TheVariants.{Add}
 use Rattle.opgen_net.specs.declared.net.Net.{Net}
 use Rattle.opgen_net.specs.declared.node.Node.TheVariants.{Cells, Constant, Delay}
@@ -24,7 +23,7 @@ use Rattle.opgen_net.proofs.Grown.{grown-flow}
 use Rattle.opgen_net.proofs.Later.{Later, later-same, later-then, node_there, words-later}
 use Rattle.opgen_net.proofs.WordLaws.{word-has_bits}
 use Rattle.opgen_ports.specs.Ranges.{IsInput, IsWithin}
-use Rattle.opgen_ports.specs.Recent.{Recent, weighted, weighted_from}
+use Rattle.opgen_ports.specs.Ports.{Recent, weighted, weighted_from}
 use Rattle.opgen_ports.specs.Spans.{IsOf}
 use Rattle.opgen_ports.proofs.InputPorts.{input_bit}
 use Rattle.opgen_graph.specs.Placing.{HasOddPart, IsMultiple, IsNode}

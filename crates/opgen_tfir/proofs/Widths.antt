@@ -9,14 +9,13 @@ use Rattle.std.proofs.lemmas.Nat.{pow-add, pow_pos}
 use Rattle.opgen_num.specs.declared.format.Format.{Format}
 use Rattle.opgen_num.specs.Formats.{Holds}
 use Rattle.opgen_num.proofs.BitLength.{power_order}
-use Rattle.opgen_design.specs.Width.{IsWidth}
+use Rattle.opgen_design.specs.Value.{IsWidth}
 use Rattle.opgen_kinds.specs.declared.taps.Taps.{Taps}
 use Rattle.opgen_kinds.specs.Sum.{sum_shift}
 use Rattle.opgen_kinds.specs.Taps.{IsAcceptedTaps, direct, taps_format}
 use Rattle.opgen_ports.specs.Ranges.{IsInput, IsWithin}
-use Rattle.opgen_ports.specs.Reaches.{above_zero, below_zero, rises, falls, reach_of, reach_over, in_units, in_places}
-use Rattle.opgen_ports.specs.Recent.{Recent, weighted}
-use Rattle.opgen_ports.specs.Shifts.{places_down}
+use Rattle.opgen_ports.specs.Reaches.{above_zero, below_zero, rises, falls, reach_of, reach_over, in_units, in_places, places_down}
+use Rattle.opgen_ports.specs.Ports.{Recent, weighted}
 use Rattle.opgen_ports.specs.Spans.{IsOf}
 use Rattle.opgen_ports.proofs.Covered.{covered}
 use Rattle.opgen_ports.proofs.Reached.{rises-cons, falls-cons, ceiling, held-within, sum_within}

@@ -5,7 +5,7 @@ use Rattle.std.proofs.lemmas.Bool.Decides.{nat_tests}
 use Rattle.std.proofs.lemmas.Int.{ints}
 use Rattle.std.proofs.lemmas.List.{drop_more}
 use Rattle.std.proofs.lemmas.List.Elements.{All-nil, All-cons}
-use Rattle.opgen_ports.specs.Recent.{Recent, weighted_from}
+use Rattle.opgen_ports.specs.Ports.{Recent, weighted_from}
 use Rattle.opgen_tfir.specs.Recipe.{all_zero}
 
 both : (a b : Bool) → a && b ≡ true → (a ≡ true) × (b ≡ true)

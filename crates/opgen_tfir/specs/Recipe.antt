@@ -16,8 +16,7 @@ use Rattle.opgen_kinds.specs.Sum.{sum_shift}
 use Rattle.opgen_kinds.specs.Taps.{direct, taps_format}
 use Rattle.opgen_ports.specs.declared.reach.Reach.{Reach}
 use Rattle.opgen_ports.specs.Ports.{covering}
-use Rattle.opgen_ports.specs.Reaches.{reach_over}
-use Rattle.opgen_ports.specs.Shifts.{places_down}
+use Rattle.opgen_ports.specs.Reaches.{reach_over, places_down}
 use Rattle.opgen_graph.specs.declared.ranks.Graph.{Graph}
 use Rattle.opgen_graph.specs.Parts.{parts_of, with_parts}
 use Rattle.opgen_graph.specs.Recipe.{Multiples, operand, sum_of, with_input, multiples_of, with_magnitude, with_constant}

@@ -1,6 +1,7 @@
--- What each step that builds a transposed filter needs: the last tap that is not 0, widths, and a node for the odd part of each tap.
+-- What each step that builds a transposed filter needs: the last tap that is not 0, widths, and a node for the odd part of each
+-- tap.
 use Rattle.std.specs.Prelude.{◌≡◌, ℕ, ◌+◌, ◌<◌, ◌≤◌, ◌^◌, ℤ, List, length, drop, true, false, All}
-use Rattle.opgen_design.specs.Width.{IsWidth}
+use Rattle.opgen_design.specs.Value.{IsWidth}
 use Rattle.opgen_net.specs.declared.net.Net.{Net}
 use Rattle.opgen_ports.specs.Ranges.{IsInput, IsWithin}
 use Rattle.opgen_graph.specs.Placing.{IsNode, HasOddPart}

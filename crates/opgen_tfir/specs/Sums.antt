@@ -2,14 +2,13 @@
 -- ones, and half a unit of an output that leaves low bits out.
 use Rattle.std.specs.Prelude.{◌≡◌, ℕ, ℤ, pos, ◌+ℤ◌, ◌-ℤ◌, false, drop, All}
 use Rattle.opgen_num.specs.declared.format.Format.{Format}
-use Rattle.opgen_num.specs.Values.{val}
-use Rattle.opgen_num.specs.Words.{nat}
+use Rattle.opgen_num.specs.Words.{val, nat}
 use Rattle.opgen_design.specs.Run.{AreWords}
 use Rattle.opgen_net.specs.declared.net.Net.{Net}
 use Rattle.opgen_net.specs.Flow.{Inputs, input_at, flow}
 use Rattle.opgen_net.specs.Valid.{input_widths}
 use Rattle.opgen_kinds.specs.declared.taps.Taps.{Taps}
-use Rattle.opgen_ports.specs.Recent.{Recent, weighted}
+use Rattle.opgen_ports.specs.Ports.{Recent, weighted}
 use Rattle.opgen_graph.specs.declared.ranks.Graph.{Graph}
 use Rattle.opgen_graph.specs.Residues.{IsResidue}
 use Rattle.opgen_tfir.specs.Recipe.{all_zero, half_unit, low_bits, products_of, sum_width, sum_from}

@@ -1,6 +1,6 @@
 //! What the sums of a transposed filter are made of: the nodes of odd parts, half a unit, and the width of each sum.
 ghost use Rattle.std.specs.Prelude.{◌≡◌, ◌≤◌, length, All};
-ghost use Rattle.opgen_design.specs.Width.{IsWidth};
+ghost use Rattle.opgen_design.specs.Value.{IsWidth};
 ghost use Rattle.opgen_ports.specs.Ranges.{IsWithin};
 ghost use Rattle.opgen_tfir.specs.Recipe.{own_format as own_format_of, sum_width as sum_width_of};
 ghost use Rattle.opgen_tfir.specs.Steps.{HasWidths};

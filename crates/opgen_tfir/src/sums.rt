@@ -1,7 +1,7 @@
 //! The chain of sums of a transposed filter, from the last tap to the first, with a delay between neighbouring taps.
 ghost use Rattle.std.specs.Prelude.{◌≡◌, ◌≢◌, ◌+◌, ◌<◌, ◌^◌, pos, drop, false, length, get_or, All, OnOk, IfOk, slice_index};
 ghost use Rattle.opgen_design.specs.Plain.{plain};
-ghost use Rattle.opgen_design.specs.Width.{IsWidth};
+ghost use Rattle.opgen_design.specs.Value.{IsWidth};
 ghost use Rattle.opgen_net.specs.Valid.{IsValid, widths};
 ghost use Rattle.opgen_ports.specs.Ranges.{IsWithin};
 ghost use Rattle.opgen_graph.specs.Placing.{HasOddPart};

@@ -4,7 +4,8 @@ use Rattle.std.proofs.lemmas.List.{drop_more}
 use Rattle.opgen_operator.specs.declared.spec.DelayLine.{DelayLine}
 use Rattle.opgen_operator.specs.declared.spec.Spec.{Spec}
 use Rattle.opgen_target.specs.Delays.{Delays, with_line}
-use Rattle.opgen_top.specs.Answer.{unknown_target, not_adjustable}
+use Rattle.opgen_top.specs.declared.line.Line.TheVariants as printed
+use Rattle.opgen_top.specs.Answer.{refusal}
 use Rattle.opgen_top.specs.Specified.{OnLines, OnTarget}
 use Rattle.opgen_top.specs.Targets.{Device, IsTableOf, devices_of, first_of_name, takes_lines, tuned}
 
@@ -35,18 +36,21 @@ module _ {T : Type 0} (name_of : T → List ℕ) (delays_of : T → Delays) (adj
         ∙ ap (option_map (λ t. record { name = name_of t; delays = delays_of t; adjustable = adjustable_of t })) (sym found)
 
     pub none_chosen : (r : Option T) → ((t : T) → r ≡ Some t → ⊥) → r ≡ find (λ t. bytes_eq (name_of t) name) ts
-        → OnTarget (first_of_name spec.target (devices_of name_of delays_of adjustable_of ts)) spec unknown_target (λ table. ⊥)
-    none_chosen None none found = subst (λ d. OnTarget d spec unknown_target (λ table. ⊥)) (sym (chosen_from None found)) refl
+        → OnTarget (first_of_name spec.target (devices_of name_of delays_of adjustable_of ts)) spec (refusal printed.UnknownTarget)
+        (λ table. ⊥)
+    none_chosen None none found =
+        subst (λ d. OnTarget d spec (refusal printed.UnknownTarget) (λ table. ⊥)) (sym (chosen_from None found)) refl
     none_chosen (Some t) none found = absurd (none t refl)
 
     module _ (t : T) (found : Some t ≡ find (λ x. bytes_eq (name_of x) name) ts) (lines : List DelayLine)
         (are_lines : lines ≡ spec.delays) where
       pub fixed_chosen : false ≡ takes_lines (adjustable_of t) lines
-          → OnTarget (first_of_name spec.target (devices_of name_of delays_of adjustable_of ts)) spec not_adjustable (λ table. ⊥)
+          → OnTarget (first_of_name spec.target (devices_of name_of delays_of adjustable_of ts)) spec (refusal printed.NotAdjustable)
+          (λ table. ⊥)
       fixed_chosen takes =
           let takes_none : false ≡ takes_lines (adjustable_of t) spec.delays = takes ∙ ap (takes_lines (adjustable_of t)) are_lines in
-          subst (λ d. OnTarget d spec not_adjustable (λ table. ⊥)) (sym (chosen_from (Some t) found))
-          (subst (λ b. OnLines b not_adjustable ⊥) takes_none refl)
+          subst (λ d. OnTarget d spec (refusal printed.NotAdjustable) (λ table. ⊥)) (sym (chosen_from (Some t) found))
+          (subst (λ b. OnLines b (refusal printed.NotAdjustable) ⊥) takes_none refl)
 
       pub table_chosen : true ≡ takes_lines (adjustable_of t) lines → (table : Delays) → table ≡ tuned (delays_of t) lines
           → IsTableOf spec (devices_of name_of delays_of adjustable_of ts) table

@@ -14,10 +14,11 @@ use Rattle.opgen_spec.specs.Spec.{spec_of}
 use Rattle.opgen_target.specs.Delays.{Delays}
 use Rattle.opgen_vhdl.specs.DesignText.{text_of}
 use Rattle.opgen_vhdl.proofs.Walks.{one_design}
-use Rattle.opgen_top.specs.Answer.{Answer}
+use Rattle.opgen_top.specs.Answer.{Answer, status_of}
 use Rattle.opgen_top.specs.Circuit.{CircuitsServe}
 use Rattle.opgen_top.specs.Due.{IsAnswerOf, OnFetch, most_bytes}
 use Rattle.opgen_top.specs.Headline.{Headline}
+use Rattle.opgen_top.specs.Lines.{line_bytes}
 use Rattle.opgen_top.specs.Specified.{IsAnswerToSpec, IsGenerated}
 use Rattle.opgen_top.specs.Stores.{stored_all}
 use Rattle.opgen_top.specs.Targets.{Device, IsTableOf}
@@ -37,11 +38,8 @@ given_by bytes spec h = by (tree bytes) h
     by None e = absurd (cc)
     by (Some document) e = ap Some (by_fault document (fault_of document) e)
 
-abbrev status_of : Answer → ℕ
-status_of a = a.status
-
 -- an answer of status 0 was made from the specification in the file, and from the table of a target
-module _ (file : List ℕ) (enable : Bool) (devices : List Device) (files : Files) (a : Answer) (ok : a.status ≡ 0) where
+module _ (file : List ℕ) (enable : Bool) (devices : List Device) (files : Files) (a : Answer) (ok : status_of a ≡ 0) where
   record Made : Type 0 where
     bytes : List ℕ
     stands : files file ≡ Some bytes
@@ -51,7 +49,7 @@ module _ (file : List ℕ) (enable : Bool) (devices : List Device) (files : File
     of_target : IsTableOf spec devices table
     says : IsGenerated enable spec table a
 
-  not_refused : a.status ≡ 1 → ⊥
+  not_refused : status_of a ≡ 1 → ⊥
   not_refused other = omega (arith, ok, other)
 
   made_of : (bytes : List ℕ) → files file ≡ Some bytes → IsAnswerToSpec bytes devices (IsGenerated enable) a → Made
@@ -76,17 +74,17 @@ module _ (file : List ℕ) (enable : Bool) (devices : List Device) (files : File
 
   made_under : (under : Option (List ℕ)) (most : ℕ) → files file ≡ under
       → OnFetch (fetched under most) a (λ bytes. IsAnswerToSpec bytes devices (IsGenerated enable) a) → Made
-  made_under None most e is = let other : a.status ≡ 3 = ap status_of is in absurd (omega (arith, ok, other))
+  made_under None most e is = let other : status_of a ≡ 3 = ap status_of is in absurd (omega (arith, ok, other))
   made_under (Some bytes) most e is = go (nat_le (length bytes) most) is
     where
       go : (fits : Bool)
           → OnFetch (cond fits (Ok bytes) (Err fetch.TooLong)) a (λ bytes. IsAnswerToSpec bytes devices (IsGenerated enable) a) → Made
       go true h = made_of bytes e h
-      go false h = let other : a.status ≡ 9 = ap status_of h in absurd (omega (arith, ok, other))
+      go false h = let other : status_of a ≡ 9 = ap status_of h in absurd (omega (arith, ok, other))
 
 pub heading : CircuitsServe → (file : List ℕ) (workers : ℕ) (enable : Bool) (devices : List Device) (files : Files) (a : Answer)
-    (after : Option Files) (before now : Option (List ℕ)) → IsAnswerOf (Some (Generate file workers enable)) devices files a → a.status ≡ 0
-    → after ≡ Some (stored_all a.stores files) → ((held : List ℕ) → before ≡ Some held → now ≡ Some (held ++ a.line))
+    (after : Option Files) (before now : Option (List ℕ)) → IsAnswerOf (Some (Generate file workers enable)) devices files a
+    → status_of a ≡ 0 → after ≡ Some (stored_all a.stores files) → ((held : List ℕ) → before ≡ Some held → now ≡ Some (held ++ line_bytes a.line))
     → Headline file enable devices files after before now
 heading serves file workers enable devices files a after before now due ok stores line =
     let made = made_under file enable devices files a ok (files file) most_bytes refl due in
@@ -110,7 +108,7 @@ heading serves file workers enable devices files a after before now due ok store
         sound = circuit_sound spec table enable planned g.adders g.circuit;
         latency = planned.latency;
         reported = report-has_latency spec planned g.adders;
-        line = λ held tells. line held tells ∙ ap (λ (b : Answer). Some (held ++ b.line)) g.answer;
+        line = λ held tells. line held tells ∙ ap (λ (b : Answer). Some (held ++ line_bytes b.line)) g.answer;
         serves = serves spec table enable planned g.adders g.circuit;
       };
       provenance = record {

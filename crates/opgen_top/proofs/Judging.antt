@@ -10,11 +10,11 @@ use Rattle.opgen_design.specs.Run.{Cycle, RunsOn, Words, at_ports, input_widths,
 use Rattle.opgen_design.specs.Run.{words_at_outputs}
 use Rattle.opgen_operator.specs.declared.spec.Spec.{Spec}
 use Rattle.opgen_operator.specs.Outputs.{inputs_of, outputs_of}
-use Rattle.opgen_ports.specs.PortNumbers.{format_at}
+use Rattle.opgen_ports.specs.Ports.{format_at}
 use Rattle.opgen_vec.specs.Stimulus.{stimulus_cells}
 use Rattle.opgen_workload.specs.Filter.{workload_spec, workload_sum}
 use Rattle.opgen_workload.specs.Judged.{Counts, IsFilter, IsGoodCycle}
-use Rattle.opgen_top.specs.Serves.{ports_for}
+use Rattle.opgen_operator.specs.Serves.{ports_for}
 use Rattle.opgen_runs.specs.Rows.{IsRunOf, output_cells}
 use Rattle.opgen_top.specs.Workload.{RunsGood, cycles, workload_cells}
 use Rattle.opgen_sim.proofs.PortWidths.{widths_on}

@@ -1,14 +1,16 @@
--- Answers whose lines are listed.
-use Rattle.std.proofs.Common.{◌≡◌, inl, inr, ℕ, List, [], arith}
-use Rattle.opgen_top.specs.Answer.{Answer}
+-- Answers whose lines may be printed.
+use Rattle.std.proofs.Common.{◌≡◌, inl, inr, ℕ, refl, arith}
+use Rattle.opgen_top.specs.declared.line.Line.{Line}
+use Rattle.opgen_top.specs.declared.line.Line.TheVariants as printed
+use Rattle.opgen_top.specs.Answer.{Answer, refusal, status_of}
+use Rattle.opgen_top.specs.Lines.{line_status}
 use Rattle.opgen_top.specs.Prepared.{IsListed}
-use Rattle.opgen_top.specs.Printed.{IsLineOf}
-use Rattle.opgen_top.specs.Printed as printed
+use Rattle.opgen_top.specs.Printed.{IsAllowedLine}
 use Rattle.opgen_top.specs.Statuses.{ComesWithLine, Refuses}
 
 -- an answer that refuses has no store
-pub listed_refusal : (a : Answer) → IsLineOf a.status a.line → a.stores ≡ [] → IsListed a
-listed_refusal a line none = record { line = line; no_store = λ h. none }
+pub listed_refusal : (l : Line) → IsAllowedLine l → IsListed (refusal l)
+listed_refusal l allowed = record { line = allowed; no_store = λ h. refl }
 
 -- an answer of status 0 is none that refuses
 not_zero : (status : ℕ) → status ≡ 0 → Refuses status → ⊥
@@ -20,25 +22,25 @@ not_zero status e (inr (inr (inr (inr (inl f))))) = omega (arith, e, f)
 not_zero status e (inr (inr (inr (inr (inr (inl f)))))) = omega (arith, e, f)
 not_zero status e (inr (inr (inr (inr (inr (inr f)))))) = omega (arith, e, f)
 
-pub listed_success : (a : Answer) → IsLineOf a.status a.line → a.status ≡ 0 → IsListed a
-listed_success a line ok = record { line = line; no_store = λ h. absurd (not_zero a.status ok h) }
+pub listed_success : (a : Answer) → IsAllowedLine a.line → status_of a ≡ 0 → IsListed a
+listed_success a allowed ok = record { line = allowed; no_store = λ h. absurd (not_zero (status_of a) ok h) }
 
 -- a status that has a line
-pub listed_status : (status : ℕ) (line : List ℕ) → IsLineOf status line → ComesWithLine status
-listed_status status line (printed.wrote name latency allowed e said) = inl e
-listed_status status line (printed.wrote_vectors name cycles allowed e said) = inl e
-listed_status status line (printed.simulated rows e said) = inl e
-listed_status status line (printed.worked n signals latency good e said) = inl e
-listed_status status line (printed.all_good rows e said) = inl e
-listed_status status line (printed.refused fault named e said) = inr (inl e)
-listed_status status line (printed.unknown_target e said) = inr (inl e)
-listed_status status line (printed.not_adjustable e said) = inr (inl e)
-listed_status status line (printed.period_too_short need e said) = inr (inl e)
-listed_status status line (printed.too_large e said) = inr (inl e)
-listed_status status line (printed.usage e said) = inr (inr (inl e))
-listed_status status line (printed.read_fault e said) = inr (inr (inr (inl e)))
-listed_status status line (printed.vhdl_refused fault named e said) = inr (inr (inr (inr (inl e))))
-listed_status status line (printed.ports_refused e said) = inr (inr (inr (inr (inl e))))
-listed_status status line (printed.vectors_refused fault named e said) = inr (inr (inr (inr (inr (inl e)))))
-listed_status status line (printed.bad_row row e said) = inr (inr (inr (inr (inr (inr (inl e))))))
-listed_status status line (printed.too_long e said) = inr (inr (inr (inr (inr (inr (inr e))))))
+pub listed_status : (l : Line) → ComesWithLine (line_status l)
+listed_status (printed.Wrote name latency) = inl refl
+listed_status (printed.WroteVectors name cycles) = inl refl
+listed_status (printed.Simulated rows) = inl refl
+listed_status (printed.Worked n signals latency good) = inl refl
+listed_status (printed.Good rows) = inl refl
+listed_status (printed.Refused fault) = inr (inl refl)
+listed_status printed.UnknownTarget = inr (inl refl)
+listed_status printed.NotAdjustable = inr (inl refl)
+listed_status (printed.PeriodTooShort need) = inr (inl refl)
+listed_status printed.TooLarge = inr (inl refl)
+listed_status printed.Usage = inr (inr (inl refl))
+listed_status printed.ReadFault = inr (inr (inr (inl refl)))
+listed_status (printed.VhdlRefused fault) = inr (inr (inr (inr (inl refl))))
+listed_status printed.Ports = inr (inr (inr (inr (inl refl))))
+listed_status (printed.VectorsRefused fault) = inr (inr (inr (inr (inr (inl refl)))))
+listed_status (printed.BadRow row) = inr (inr (inr (inr (inr (inr (inl refl))))))
+listed_status printed.TooLong = inr (inr (inr (inr (inr (inr (inr refl))))))

@@ -1,11 +1,10 @@
 -- What holds of a circuit: its design is sound and can be written, and its ports are the specification's.
 use Rattle.std.proofs.Common.{◌≡◌, ℕ, ◌≤◌, ◌^◌, Bool, List, Some, sym, ap, ◌∙◌, subst, arith}
 use Rattle.std.specs.Prelude.{slice_get}
-use Rattle.opgen_design.specs.Run.{Words, Run}
+use Rattle.opgen_design.specs.Run.{Words, Run, counted, data_inputs}
 use Rattle.opgen_design.specs.Sound.{IsSound}
 use Rattle.opgen_net.specs.Flow.{Inputs}
 use Rattle.opgen_operator.specs.declared.spec.Spec.{Spec}
-use Rattle.opgen_pipe.specs.Counted.{counted, data_inputs}
 use Rattle.opgen_pipe.specs.declared.planning.Planned.{Planned}
 use Rattle.opgen_pipe.specs.Cells.{net_delays}
 use Rattle.opgen_pipe.specs.Copies.{signal_count}
@@ -24,7 +23,7 @@ use Rattle.opgen_vhdl.specs.DesignText.{text_of}
 use Rattle.opgen_vhdl.specs.Spelled.{Spells}
 use Rattle.opgen_write.proofs.Designs.{spells}
 use Rattle.opgen_top.specs.Circuit.{IsCircuit}
-use Rattle.opgen_top.specs.Serves.{ports_for, Serves}
+use Rattle.opgen_operator.specs.Serves.{ports_for, Serves}
 use Rattle.opgen_top.proofs.Serving.{made_ports, serves}
 
 module _ (spec : Spec) (table : Delays) (enable : Bool) (planned : Planned) (adders : List ℕ)

@@ -24,18 +24,17 @@ use Rattle.opgen_top.specs.declared.answer.Answer.{Answer as Held}
 use Rattle.opgen_top.specs.declared.answer.Refusal.{Refusal}
 use Rattle.opgen_top.specs.declared.answer.Refusal.TheVariants as refusals
 use Rattle.opgen_top.specs.declared.rows.Rows.{Rows}
-use Rattle.opgen_top.specs.Answer.{Answer, all_good, bad_row, ports_refused}
+use Rattle.opgen_top.specs.declared.line.Line.TheVariants as printed
+use Rattle.opgen_top.specs.Answer.{Answer, refusal, status_of, success}
 use Rattle.opgen_top.specs.Check.{GivesRows, IsAnswerToCheck, IsAnswerToVhdl}
 use Rattle.opgen_top.specs.Due.{most_bytes, most_simulated_bytes, OnFetch, IsAnswerOf}
-use Rattle.opgen_top.specs.Prepared.{Reads, Kept, OnAnswer, Fetches, HoldsRows, IsAnswerToDesign, IsListed, IsPrepared, OnRefusal, answer_of, refusal_of, verdict_answer}
-use Rattle.opgen_top.specs.Printed as printed
+use Rattle.opgen_top.specs.Prepared.{Reads, Kept, OnAnswer, Fetches, HoldsRows, IsAnswerToDesign, IsListed, IsPrepared, OnRefusal, answer_of, verdict_answer}
 use Rattle.opgen_top.specs.Simulate.{GivesDesign, RefusesRows, RefusesVhdl}
 use Rattle.opgen_top.specs.Specified.{OnReading}
 use Rattle.opgen_top.specs.Targets.{Device}
 use Rattle.opgen_top.proofs.Columns.{counted}
 use Rattle.opgen_top.proofs.Listed.{listed_refusal, listed_success}
 use Rattle.opgen_top.proofs.Refusing.{answers-map, refusal-map}
-use Rattle.opgen_top.proofs.PreparingSpecs.{status_of}
 use Rattle.opgen_top.proofs.SpecCases.{on_reading-map, reading_ok}
 use Rattle.opgen_top.proofs.Unfetched.{on_fetch, on_missing, on_longer, unfetched, unfetched-before}
 
@@ -84,11 +83,11 @@ design_judged spec d latency columns count cells checked a valid e fit agree is 
     })
 
 pub verdict_listed : (checked : Checked) (a : Answer) → a ≡ verdict_answer checked → IsListed a
-verdict_listed (Good judged) a e = subst IsListed (sym e) (listed_success (all_good judged) (printed.all_good judged refl refl) refl)
-verdict_listed (Bad row) a e = subst IsListed (sym e) (listed_refusal (bad_row row) (printed.bad_row row refl refl) refl)
+verdict_listed (Good judged) a e = subst IsListed (sym e) (listed_success (success (printed.Good judged) []) tt refl)
+verdict_listed (Bad row) a e = subst IsListed (sym e) (listed_refusal (printed.BadRow row) tt)
 
-pub ports_listed : IsListed ports_refused
-ports_listed = listed_refusal ports_refused (printed.ports_refused refl refl) refl
+pub ports_listed : IsListed (refusal printed.Ports)
+ports_listed = listed_refusal printed.Ports tt
 
 -- ---- from the three files
 
@@ -162,7 +161,7 @@ abbrev IsStatusOfCheck : ℕ → Type 0
 IsStatusOfCheck n = (n ≡ 0) ⊎ ((n ≡ 1) ⊎ ((n ≡ 6) ⊎ ((n ≡ 7) ⊎ (n ≡ 8))))
 
 vhdl_status : (spec : Spec) (latency : ℕ) (text rows : List ℕ) (a : Answer) → IsAnswerToVhdl spec latency text rows a
-    → IsStatusOfCheck a.status
+    → IsStatusOfCheck (status_of a)
 vhdl_status spec latency text rows a (inl h) = inr (inr (inl (ap status_of h.answer)))
 vhdl_status spec latency text rows a (inr (inl h)) = inr (inr (inr (inl (ap status_of h.refused.answer))))
 vhdl_status spec latency text rows a (inr (inr (inl h))) = inr (inr (inl (ap status_of h.answer)))
@@ -170,7 +169,7 @@ vhdl_status spec latency text rows a (inr (inr (inr (inl h)))) = inr (inr (inr (
 vhdl_status spec latency text rows a (inr (inr (inr (inr h)))) = inl (ap status_of h.answer)
 
 check_status : (r : Result Spec SpecFault) (latency : ℕ) (text rows : List ℕ) (a : Answer)
-    → OnReading r a (λ spec. IsAnswerToVhdl spec latency text rows a) → IsStatusOfCheck a.status
+    → OnReading r a (λ spec. IsAnswerToVhdl spec latency text rows a) → IsStatusOfCheck (status_of a)
 check_status (Ok spec) latency text rows a h = vhdl_status spec latency text rows a h
 check_status (Err fault) latency text rows a h = inr (inl (ap status_of h))
 
@@ -240,7 +239,8 @@ module _ (devices : List Device) (spec vhdl vectors : List ℕ) (latency : ℕ) 
         answers : (a : Answer) → IsAnswerToCheck latency bytes text rows a → IsListed a
             → IsPrepared (Some (Check spec vhdl vectors latency)) devices told before now a
         answers a is listed =
-            let (words, missing, longer) = other_status a.status (check_status (read (tree bytes)) latency text rows a is) in record {
+            let (words, missing, longer) =
+            other_status (status_of a) (check_status (read (tree bytes)) latency text rows a is) in record {
               listed = listed;
               usage = λ e. absurd (words e);
               read_counted = λ e. absurd (missing e);
@@ -253,7 +253,7 @@ module _ (devices : List Device) (spec vhdl vectors : List ℕ) (latency : ℕ) 
         pub check-prepared : (r : Result Held Refusal) → OnAnswer r (IsAnswerToCheck latency bytes text rows) → OnAnswer r IsListed
             → OnAnswer r (IsPrepared (Some (Check spec vhdl vectors latency)) devices told before now)
         check-prepared (Ok held) is listed = answers (answer_of held) is listed
-        check-prepared (Err (refusals.Line line)) is listed = answers (refusal_of line) is listed
+        check-prepared (Err (refusals.Line line)) is listed = answers (refusal line) is listed
         check-prepared (Err refusals.Memory) is listed = tt
 
 -- the counts of two fetches

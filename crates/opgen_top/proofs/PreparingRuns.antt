@@ -13,16 +13,14 @@ use Rattle.opgen_top.specs.declared.answer.Answer.{Answer as Held}
 use Rattle.opgen_top.specs.declared.answer.Refusal.{Refusal}
 use Rattle.opgen_top.specs.declared.answer.Refusal.TheVariants as refusals
 use Rattle.opgen_top.specs.declared.rows.Rows.{Rows}
-use Rattle.opgen_top.specs.Answer.{Answer, file as stored_file, simulated, success, vhdl_refused, vectors_refused}
-use Rattle.opgen_top.specs.Lines.{simulated_line}
+use Rattle.opgen_top.specs.declared.line.Line.TheVariants as printed
+use Rattle.opgen_top.specs.Answer.{Answer, file as stored_file, refusal, status_of, success}
 use Rattle.opgen_top.specs.Due.{most_simulated_bytes, OnFetch, IsAnswerOf}
-use Rattle.opgen_top.specs.Prepared.{Reads, Kept, OnAnswer, Fetches, IfRefused, HasSimulated, HoldsRows, IsListed, IsPrepared, answer_of, refusal_of}
-use Rattle.opgen_top.specs.Printed as printed
+use Rattle.opgen_top.specs.Prepared.{Reads, Kept, OnAnswer, Fetches, IfRefused, HasSimulated, HoldsRows, IsListed, IsPrepared, answer_of}
 use Rattle.opgen_top.specs.Running.{IsRunText}
 use Rattle.opgen_top.specs.Simulate.{GivesDesign, IsSimulated, RefusesRows, RefusesVhdl}
 use Rattle.opgen_top.specs.Targets.{Device}
 use Rattle.opgen_top.proofs.Listed.{listed_refusal, listed_success}
-use Rattle.opgen_top.proofs.PreparingSpecs.{status_of}
 use Rattle.opgen_top.proofs.Unfetched.{on_fetch, on_missing, on_longer, unfetched, unfetched-before}
 
 -- a fault of rows is not out of memory
@@ -38,7 +36,7 @@ vhdl_answers out text rows refusals.Memory h = tt
 pub vhdl_listed : (text : List ℕ) (refusal : Refusal) → IfRefused {X = Design} (Err refusal) (RefusesVhdl text)
     → OnAnswer (Err refusal) IsListed
 vhdl_listed text (refusals.Line line) h =
-    subst IsListed (sym h.answer) (listed_refusal (vhdl_refused h.fault) (printed.vhdl_refused h.fault h.of_text refl refl) refl)
+    subst IsListed (sym h.answer) (listed_refusal (printed.VhdlRefused h.fault) h.of_text)
 vhdl_listed text refusals.Memory h = tt
 
 -- so do vectors
@@ -50,15 +48,14 @@ rows_answer out text vectors design refusals.Memory gives h = tt
 pub rows_listed : (widths vectors : List ℕ) (refusal : Refusal) → IfRefused {X = Rows} (Err refusal) (RefusesRows widths vectors)
     → OnAnswer (Err refusal) IsListed
 rows_listed widths vectors (refusals.Line line) h =
-    subst IsListed (sym h.answer) (listed_refusal (vectors_refused h.fault)
-    (printed.vectors_refused h.fault (names_fault widths vectors (refusal_of line) h) refl refl) refl)
+    subst IsListed (sym h.answer) (listed_refusal (printed.VectorsRefused h.fault) (names_fault widths vectors (refusal line) h))
 rows_listed widths vectors refusals.Memory h = tt
 
 -- and so do rows
-pub run_made : (out : List ℕ) (design : Design) (count : ℕ) (cells : List ℕ) (a : Answer) (line name rows : List ℕ)
-    → IsRunText design count cells rows → line ≡ simulated_line count → name ≡ out → a ≡ success line (stored_file name rows ∷ [])
+pub run_made : (out : List ℕ) (design : Design) (count : ℕ) (cells : List ℕ) (a : Answer) (name rows : List ℕ)
+    → IsRunText design count cells rows → name ≡ out → a ≡ success (printed.Simulated count) (stored_file name rows ∷ [])
     → HasSimulated out design count cells a
-run_made out design count cells a line name rows run said named e = record { rows = rows; run = run; answer = rw (e, said, named) refl }
+run_made out design count cells a name rows run named e = record { rows = rows; run = run; answer = rw (e, named) refl }
 
 pub run_answers : (out text vectors : List ℕ) (a : Answer) (design : Design) (held : Rows) → GivesDesign text design
     → HoldsRows (input_widths design) vectors held → HasSimulated out design held.count held.inputs.cells.items a → IsSimulated out text vectors a
@@ -70,15 +67,16 @@ run_answers out text vectors a design held gives holds h =
       read = holds.reading;
       rows = h.rows;
       run = subst (λ n. IsRunText design n held.inputs.cells.items h.rows) holds.count h.run;
-      answer = h.answer ∙ ap (λ n. simulated out n h.rows) holds.count;
+      answer = h.answer ∙ ap (λ n. success (printed.Simulated n) (stored_file out h.rows ∷ [])) holds.count;
     })
 
 pub run_listed : (out : List ℕ) (design : Design) (count : ℕ) (cells : List ℕ) (a : Answer) → HasSimulated out design count cells a → IsListed a
 run_listed out design count cells a h =
-    subst IsListed (sym h.answer) (listed_success (simulated out count h.rows) (printed.simulated count refl refl) refl)
+    subst IsListed (sym h.answer) (listed_success (success (printed.Simulated count) (stored_file out h.rows ∷ [])) tt refl)
 
 -- the answer to both files has status 0, 6 or 7
-simulated_status : (out text rows : List ℕ) (a : Answer) → IsSimulated out text rows a → (a.status ≡ 6) ⊎ ((a.status ≡ 7) ⊎ (a.status ≡ 0))
+simulated_status : (out text rows : List ℕ) (a : Answer) → IsSimulated out text rows a
+    → (status_of a ≡ 6) ⊎ ((status_of a ≡ 7) ⊎ (status_of a ≡ 0))
 simulated_status out text rows a (inl cause) = inl (ap status_of cause.answer)
 simulated_status out text rows a (inr (inl cause)) = inr (inl (ap status_of cause.refused.answer))
 simulated_status out text rows a (inr (inr runs)) = inr (inr (ap status_of runs.answer))
@@ -151,5 +149,5 @@ module _ (devices : List Device) (vhdl vectors out : List ℕ) (told : Option Fi
       pub simulate-prepared : (r : Result Held Refusal) → OnAnswer r (IsSimulated out text rows) → OnAnswer r IsListed
           → OnAnswer r (IsPrepared (Some (Simulate vhdl vectors out)) devices told before now)
       simulate-prepared (Ok held) is listed = answers (answer_of held) is listed
-      simulate-prepared (Err (refusals.Line line)) is listed = answers (refusal_of line) is listed
+      simulate-prepared (Err (refusals.Line line)) is listed = answers (refusal line) is listed
       simulate-prepared (Err refusals.Memory) is listed = tt

@@ -1,5 +1,5 @@
 -- From what a specification gives to what the command answers to its file.
-use Rattle.std.proofs.Common.{◌≡◌, ◌⊎◌, inl, inr, ℕ, ◌≤◌, Bool, false, List, length, Option, Some, Result, Ok, Err, refl, sym, ap, ◌∙◌, subst, arith}
+use Rattle.std.proofs.Common.{◌≡◌, ◌⊎◌, inl, inr, ℕ, ◌≤◌, Bool, false, List, [], ◌∷◌, length, Option, Some, Result, Ok, Err, refl, sym, ap, ◌∙◌, subst, arith}
 use Rattle.std.specs.Prelude.{◌≢◌, IsTrue, Vec}
 use Rattle.std.specs.declared.alloc.Global.{Global}
 use Rattle.opgen_command.specs.declared.command.Command.{Command}
@@ -8,69 +8,66 @@ use Rattle.opgen_design.specs.declared.design.Design.{Design}
 use Rattle.opgen_io.specs.Fetched.{fetched}
 use Rattle.opgen_io.specs.Files.{Files}
 use Rattle.opgen_operator.specs.declared.spec.Spec.{Spec}
+use Rattle.opgen_pipe.specs.declared.planning.Planned.{Planned}
 use Rattle.opgen_ports.specs.SpecName.{is_spec_name}
-use Rattle.opgen_report.specs.Report.{report}
 use Rattle.opgen_spec.specs.declared.fault.SpecFault.{SpecFault}
 use Rattle.opgen_spec.specs.declared.fault.SpecFault.TheVariants as spec_faults
 use Rattle.opgen_document.specs.Document.{tree}
 use Rattle.opgen_spec.specs.Faults.{read, Gives}
 use Rattle.opgen_target.specs.Delays.{Delays}
-use Rattle.opgen_vhdl.specs.DesignText.{text_of}
 use Rattle.opgen_top.specs.declared.answer.Answer.{Answer as Held}
 use Rattle.opgen_top.specs.declared.answer.Refusal.{Refusal}
 use Rattle.opgen_top.specs.declared.answer.Refusal.TheVariants as refusals
 use Rattle.opgen_top.specs.declared.circuit.Circuit.{Circuit}
-use Rattle.opgen_top.specs.Answer.{Answer, refusal, wrote, wrote_vectors}
+use Rattle.opgen_top.specs.declared.line.Line.TheVariants as printed
+use Rattle.opgen_top.specs.Answer.{Answer, file, refusal, status_of, success}
 use Rattle.opgen_top.specs.Due.{most_bytes, OnFetch, IsAnswerOf}
-use Rattle.opgen_top.specs.Lines.{refused_line}
-use Rattle.opgen_top.specs.Prepared.{Reads, OnAnswer, Fetches, OnRefusal, HasRows, IsCircuitFor, IsListed, IsPrepared, answer_of, refusal_of}
-use Rattle.opgen_top.specs.Printed as printed
-use Rattle.opgen_top.specs.Specified.{IsAnswerToSpec, IsGenerated, IsVectors, OnReading, OnTable, OnTarget}
+use Rattle.opgen_top.specs.Lines.{vectors_name}
+use Rattle.opgen_top.specs.Prepared.{Reads, OnAnswer, Fetches, OnRefusal, HasRows, IsCircuitFor, IsListed, IsPrepared, answer_of}
+use Rattle.opgen_top.specs.Specified.{wrote, IsAnswerToSpec, IsGenerated, IsVectors, OnReading, OnTable, OnTarget}
 use Rattle.opgen_top.specs.Targets.{Device, IsTableOf, first_of_name}
 use Rattle.opgen_top.proofs.Listed.{listed_refusal, listed_success}
 use Rattle.opgen_top.proofs.Refusing.{answers-map, refusal-map}
 use Rattle.opgen_top.proofs.SpecCases.{cases_of_spec, on_reading-map, on_table-map, on_table_of, on_target-map, reading_ok, refusal_answers}
 use Rattle.opgen_top.proofs.Unfetched.{on_fetch, on_missing, on_longer, unfetched}
 
-abbrev pub status_of : Answer → ℕ
-status_of a = a.status
-
 -- what a fault of reading refuses
 pub read_gives : (fault : SpecFault) (r : Result Spec SpecFault) → fault ≢ spec_faults.Memory → Gives (Err fault) r → r ≡ Err fault
 read_gives spec_faults.Memory r named h = absurd (named refl)
 read_gives fault r named h = h
 
-pub fault_refused : (bytes line : List ℕ) (fault : SpecFault) → read (tree bytes) ≡ Err fault → line ≡ refused_line fault
-    → OnReading (read (tree bytes)) (refusal 1 line) (λ spec. ⊥)
-fault_refused bytes line fault e said = subst (λ r. OnReading r (refusal 1 line) (λ spec. ⊥)) (sym e) (ap (refusal 1) said)
+pub fault_refused : (bytes : List ℕ) (fault : SpecFault) → read (tree bytes) ≡ Err fault
+    → OnReading (read (tree bytes)) (refusal (printed.Refused fault)) (λ spec. ⊥)
+fault_refused bytes fault e = subst (λ r. OnReading r (refusal (printed.Refused fault)) (λ spec. ⊥)) (sym e) refl
 
-pub fault_listed : (line : List ℕ) (fault : SpecFault) → fault ≢ spec_faults.Memory → line ≡ refused_line fault → IsListed (refusal 1 line)
-fault_listed line fault named said = listed_refusal (refusal 1 line) (printed.refused fault named refl said) refl
+pub fault_listed : (fault : SpecFault) → fault ≢ spec_faults.Memory → IsListed (refusal (printed.Refused fault))
+fault_listed fault named = listed_refusal (printed.Refused fault) named
 
 -- a refusal by the bytes, by the targets and by the table is one of the specification
 pub bytes_refused : (bytes : List ℕ) (devices : List Device) (refusal : Refusal)
     → OnRefusal refusal (λ a. OnReading (read (tree bytes)) a (λ spec. ⊥))
     → OnRefusal refusal (IsAnswerToSpec bytes devices (λ spec table a. ⊥))
 bytes_refused bytes devices (refusals.Line line) h =
-    on_reading-map (read (tree bytes)) (refusal_of line) (λ spec. ⊥) _ (λ spec no. absurd no) h
+    on_reading-map (read (tree bytes)) (refusal line) (λ spec. ⊥) _ (λ spec no. absurd no) h
 bytes_refused bytes devices refusals.Memory h = tt
 
 module _ (devices : List Device) (spec : Spec) where
   pub target_refused : (refusal : Refusal) → OnRefusal refusal (λ a. OnTarget (first_of_name spec.target devices) spec a (λ table. ⊥))
       → OnRefusal refusal (λ a. OnTarget (first_of_name spec.target devices) spec a (λ table. OnTable spec table a ⊥))
-  target_refused (refusals.Line line) h = on_target-map (first_of_name spec.target devices) spec (refusal_of line) (λ table. ⊥) _
+  target_refused (refusals.Line line) h = on_target-map (first_of_name spec.target devices) spec (refusal line) (λ table. ⊥) _
       (λ table no. absurd no) h
   target_refused refusals.Memory h = tt
 
   pub plan_refused : (table : Delays) → IsTableOf spec devices table → (refusal : Refusal) → OnRefusal refusal (λ a. OnTable spec table a ⊥)
       → OnRefusal refusal (λ a. OnTarget (first_of_name spec.target devices) spec a (λ table. OnTable spec table a ⊥))
-  plan_refused table of (refusals.Line line) h = on_table_of spec devices (refusal_of line) (λ t. OnTable spec t (refusal_of line) ⊥) table of h
+  plan_refused table of (refusals.Line line) h =
+      on_table_of spec devices (refusal line) (λ t. OnTable spec t (refusal line) ⊥) table of h
   plan_refused table of refusals.Memory h = tt
 
 -- a refusal of a specification answers a command on it
 pub refused_answers : (bytes : List ℕ) (devices : List Device) (said : Spec → Delays → Answer → Type 0) (refusal : Refusal)
     → OnRefusal refusal (IsAnswerToSpec bytes devices (λ spec table a. ⊥)) → OnRefusal refusal (IsAnswerToSpec bytes devices said)
-refused_answers bytes devices said (refusals.Line line) h = refusal_answers bytes devices said (refusal_of line) h
+refused_answers bytes devices said (refusals.Line line) h = refusal_answers bytes devices said (refusal line) h
 refused_answers bytes devices said refusals.Memory h = tt
 
 -- running out of memory says nothing
@@ -79,16 +76,15 @@ want_says (refusals.Line line) said e = absurd (cc)
 want_says refusals.Memory said e = tt
 
 -- the lines of success are listed
-pub wrote_listed : (a : Answer) (name : List ℕ) (latency : ℕ) (text facts : List ℕ) → IsTrue (is_spec_name name)
-    → a ≡ wrote name latency text facts → IsListed a
-wrote_listed a name latency text facts allowed e =
-    subst IsListed (sym e) (listed_success (wrote name latency text facts) (printed.wrote name latency allowed refl refl) refl)
+pub wrote_listed : (a : Answer) (spec : Spec) (planned : Planned) (adders : List ℕ) → IsTrue (is_spec_name spec.name)
+    → a ≡ wrote spec planned adders → IsListed a
+wrote_listed a spec planned adders allowed e = subst IsListed (sym e) (listed_success (wrote spec planned adders) allowed refl)
 
 pub rows_of_listed : (a : Answer) (spec : Spec) (design : Design) (seed cycles : ℕ) → IsTrue (is_spec_name spec.name)
     → HasRows spec design seed cycles a → IsListed a
 rows_of_listed a spec design seed cycles allowed h =
-    subst IsListed (sym h.answer) (listed_success (wrote_vectors spec.name cycles h.rows)
-    (printed.wrote_vectors spec.name cycles allowed refl refl) refl)
+    subst IsListed (sym h.answer)
+    (listed_success (success (printed.WroteVectors spec.name cycles) (file (vectors_name spec.name) h.rows ∷ [])) allowed refl)
 
 -- what is said of a specification that was read, and of its circuit, answers the command
 module _ (devices : List Device) (spec : Spec) where
@@ -114,8 +110,7 @@ module _ (devices : List Device) (spec : Spec) where
         answers-map r _ _
         (λ a k. on_table_of spec devices a (λ table. OnTable spec table a (said table a)) is.table is.of_target (inr (inr (f a k)))) h
 
-    pub generated : OnAnswer r (λ a. a ≡ wrote spec.name circuit.planned.latency (text_of circuit.planned.design)
-        (report spec circuit.planned circuit.adders.items))
+    pub generated : OnAnswer r (λ a. a ≡ wrote spec circuit.planned circuit.adders.items)
         → OnAnswer r (λ a. OnTarget (first_of_name spec.target devices) spec a (λ table. OnTable spec table a (IsGenerated enable spec table a)))
     generated h = circuit_answers (IsGenerated enable spec) _
         (λ a e. record { planned = circuit.planned; adders = circuit.adders.items; circuit = is.of_table; answer = e }) h
@@ -136,10 +131,10 @@ vectors_made devices spec circuit is r seed cycles h =
 
 -- the answer to a specification has status 0 or 1
 spec_status : (bytes : List ℕ) (devices : List Device) (said : Spec → Delays → Answer → Type 0) (a : Answer)
-    → ((spec : Spec) (table : Delays) → said spec table a → a.status ≡ 0)
-    → IsAnswerToSpec bytes devices said a → (a.status ≡ 0) ⊎ (a.status ≡ 1)
+    → ((spec : Spec) (table : Delays) → said spec table a → status_of a ≡ 0)
+    → IsAnswerToSpec bytes devices said a → (status_of a ≡ 0) ⊎ (status_of a ≡ 1)
 spec_status bytes devices said a ok h =
-    cases_of_spec bytes devices said a ((a.status ≡ 0) ⊎ (a.status ≡ 1))
+    cases_of_spec bytes devices said a ((status_of a ≡ 0) ⊎ (status_of a ≡ 1))
     (λ fault reads is. inr (ap status_of is))
     (λ spec reads found is. inr (ap status_of is))
     (λ spec device reads found takes is. inr (ap status_of is))
@@ -161,8 +156,8 @@ module _ (command : Command) (said : Spec → Delays → Answer → Type 0) (spe
       (λ files is e. due files _ (on_longer (files spec) most_bytes (λ bytes. IsAnswerToSpec bytes devices said _) e)) line cause
   spec-unfetched refusals.Memory cause = tt
 
-  module _ (ok : (s : Spec) (table : Delays) (a : Answer) → said s table a → a.status ≡ 0) (bytes : List ℕ) (stands : (files : Files)
-      → told ≡ Some files → files spec ≡ Some bytes) (few : length bytes ≤ most_bytes) where
+  module _ (ok : (s : Spec) (table : Delays) (a : Answer) → said s table a → status_of a ≡ 0) (bytes : List ℕ)
+      (stands : (files : Files) → told ≡ Some files → files spec ≡ Some bytes) (few : length bytes ≤ most_bytes) where
     answers : (a : Answer) → IsAnswerToSpec bytes devices said a → IsListed a → IsPrepared (Some command) devices told before now a
     answers a is listed =
         let status = spec_status bytes devices said a (λ s table. ok s table a) is in record {
@@ -177,7 +172,7 @@ module _ (command : Command) (said : Spec → Delays → Answer → Type 0) (spe
     spec-prepared : (r : Result Held Refusal) → OnAnswer r (IsAnswerToSpec bytes devices said) → OnAnswer r IsListed
         → OnAnswer r (IsPrepared (Some command) devices told before now)
     spec-prepared (Ok held) is listed = answers (answer_of held) is listed
-    spec-prepared (Err (refusals.Line line)) is listed = answers (refusal_of line) is listed
+    spec-prepared (Err (refusals.Line line)) is listed = answers (refusal line) is listed
     spec-prepared (Err refusals.Memory) is listed = tt
 
 module _ (spec : List ℕ) (devices : List Device) (told : Option Files) (before now : Reads) where

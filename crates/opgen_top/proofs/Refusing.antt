@@ -9,8 +9,8 @@ use Rattle.opgen_top.specs.declared.answer.Refusal.{Refusal}
 use Rattle.opgen_top.specs.declared.answer.Refusal.TheVariants as refusals
 use Rattle.opgen_io.specs.Files.{Files}
 use Rattle.opgen_num.specs.declared.memory.Memory.{Memory}
-use Rattle.opgen_top.specs.Answer.{Answer}
-use Rattle.opgen_top.specs.Prepared.{Fetches, IfRefused, IsAnswerOrLine, OnAnswer, OnRefusal, Reads, answer_of, refusal_of}
+use Rattle.opgen_top.specs.Answer.{Answer, refusal}
+use Rattle.opgen_top.specs.Prepared.{Fetches, IfRefused, IsAnswerOrLine, OnAnswer, OnRefusal, Reads, answer_of}
 
 pub answer_passed : (r : Result Held Refusal) (refusal : Refusal) (said : Answer → Type 0) → IsErrAnd r (λ other. other ≡ refusal)
     → OnRefusal refusal said → OnAnswer r said
@@ -27,7 +27,7 @@ fetched_alike name most told other before now r same h = subst (λ it. Fetches n
 -- what is said of a refusal, or of an answer, may be exchanged for what follows from it
 pub refusal-map : (refusal : Refusal) (said other : Answer → Type 0) → ((a : Answer) → said a → other a) → OnRefusal refusal said
     → OnRefusal refusal other
-refusal-map (refusals.Line line) said other f h = f (refusal_of line) h
+refusal-map (refusals.Line line) said other f h = f (refusal line) h
 refusal-map refusals.Memory said other f h = tt
 
 pub answers-map : (r : Result Held Refusal) (said other : Answer → Type 0) → ((a : Answer) → said a → other a) → OnAnswer r said

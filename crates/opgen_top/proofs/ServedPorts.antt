@@ -8,10 +8,9 @@ use Rattle.opgen_design.specs.Run.{at_ports, is_in, input_widths}
 use Rattle.opgen_ports.specs.declared.ports.PortFormat.{PortFormat}
 use Rattle.opgen_operator.specs.declared.spec.Spec.{Spec}
 use Rattle.opgen_operator.specs.Operator.{IsOperator}
-use Rattle.opgen_operator.specs.Outputs.{inputs_of, outputs_of}
+use Rattle.opgen_operator.specs.Outputs.{inputs_of, outputs_of, port_of}
 use Rattle.opgen_operator.proofs.Operators.{some_input}
-use Rattle.opgen_operator.specs.DesignPorts.{port_of}
-use Rattle.opgen_top.specs.Serves.{ports_for}
+use Rattle.opgen_operator.specs.Serves.{ports_for}
 
 abbrev side : List Port → List ℕ
 side ps = at_ports is_in ps (map (λ p. p.width) ps)

@@ -7,7 +7,7 @@ use Rattle.std.proofs.lemmas.Simd.{map-map}
 use Rattle.opgen_design.specs.declared.design.Design.{Design}
 use Rattle.opgen_design.specs.declared.design.Dir.TheVariants.{In, Out}
 use Rattle.opgen_design.specs.declared.design.Port.{Port}
-use Rattle.opgen_design.specs.Run.{Words, Run, AreWords, at_ports, is_in, words_at_outputs}
+use Rattle.opgen_design.specs.Run.{Words, Run, AreWords, at_ports, is_in, words_at_outputs, enable_inputs, counted, data_inputs}
 use Rattle.opgen_net.specs.declared.net.Net.{Net}
 use Rattle.opgen_net.specs.declared.net.Output.{Output}
 use Rattle.opgen_net.specs.Flow.{Inputs, before, slice_flow}
@@ -16,9 +16,7 @@ use Rattle.opgen_net.specs.Named.{IsNamed}
 use Rattle.opgen_net.specs.Valid.{slice_width, input_widths as net_widths}
 use Rattle.opgen_operator.specs.declared.spec.Spec.{Spec}
 use Rattle.opgen_operator.specs.Fits.{FitsSpec, name_and_width}
-use Rattle.opgen_operator.specs.Outputs.{IsGood, IsInRange, inputs_of as spec_inputs, outputs_of}
-use Rattle.opgen_operator.specs.PortWords.{recent_words, output_words}
-use Rattle.opgen_pipe.specs.Counted.{enable_inputs, counted, data_inputs}
+use Rattle.opgen_operator.specs.Outputs.{IsGood, IsInRange, inputs_of as spec_inputs, outputs_of, port_of, recent_words, output_words}
 use Rattle.opgen_pipe.specs.Copies.{net_latency, signal_count}
 use Rattle.opgen_pipe.specs.Laws.{FollowsFlow}
 use Rattle.opgen_pipe.specs.Pipelined.{design_of, ports_of}
@@ -26,8 +24,7 @@ use Rattle.opgen_pipe.specs.Times.{ago}
 use Rattle.opgen_pipe.proofs.Soundness.{design_sound}
 use Rattle.opgen_schedule.specs.Schedule.{Schedule, Fits}
 use Rattle.opgen_runs.proofs.OneRun.{one-run}
-use Rattle.opgen_operator.specs.DesignPorts.{port_of}
-use Rattle.opgen_top.specs.Serves.{ports_for, Serves}
+use Rattle.opgen_operator.specs.Serves.{ports_for, Serves}
 use Rattle.opgen_top.proofs.Taken.{run_words, run_long, taken_long, taken_words, widths_after}
 
 -- so many cycles back from as many cycles on

@@ -5,7 +5,8 @@ use Rattle.opgen_spec.specs.declared.fault.SpecFault.{SpecFault}
 use Rattle.opgen_document.specs.Document.{tree}
 use Rattle.opgen_spec.specs.Faults.{read}
 use Rattle.opgen_target.specs.Delays.{Delays}
-use Rattle.opgen_top.specs.Answer.{Answer, refused, unknown_target, not_adjustable}
+use Rattle.opgen_top.specs.declared.line.Line.TheVariants as printed
+use Rattle.opgen_top.specs.Answer.{Answer, refusal}
 use Rattle.opgen_top.specs.Specified.{IsAnswerToSpec, OnLines, OnReading, OnTable, OnTarget}
 use Rattle.opgen_top.specs.Targets.{Device, IsTableOf, first_of_name, takes_lines, tuned}
 
@@ -57,9 +58,9 @@ on_table_of spec devices a said table of h =
 
 -- by the targets one of these cases holds
 module _ (devices : List Device) (spec : Spec) (a : Answer) (said : Delays → Type 0) (P : Type 0)
-    (by_unknown : first_of_name spec.target devices ≡ None → a ≡ unknown_target → P)
+    (by_unknown : first_of_name spec.target devices ≡ None → a ≡ refusal printed.UnknownTarget → P)
     (by_fixed : (device : Device) → first_of_name spec.target devices ≡ Some device → takes_lines device.adjustable spec.delays ≡ false
-    → a ≡ not_adjustable → P)
+    → a ≡ refusal printed.NotAdjustable → P)
     (by_table : (table : Delays) → IsTableOf spec devices table → said table → P) where
   of_lines : (device : Device) → first_of_name spec.target devices ≡ Some device → (b : Bool) → takes_lines device.adjustable spec.delays ≡ b
       → OnLines b a (said (tuned device.delays spec.delays)) → P
@@ -85,10 +86,11 @@ module _ (bytes : List ℕ) (devices : List Device) (said : Spec → Delays → 
       reading_ok (read (tree bytes)) a Said spec reads (on_table_of spec devices a (λ t. OnTable spec t a (said spec t a)) table of h)
 
   -- one of these cases holds
-  module _ (P : Type 0) (by_fault : (fault : SpecFault) → read (tree bytes) ≡ Err fault → a ≡ refused fault → P)
-      (by_unknown : (spec : Spec) → read (tree bytes) ≡ Ok spec → first_of_name spec.target devices ≡ None → a ≡ unknown_target → P)
+  module _ (P : Type 0) (by_fault : (fault : SpecFault) → read (tree bytes) ≡ Err fault → a ≡ refusal (printed.Refused fault) → P)
+      (by_unknown : (spec : Spec) → read (tree bytes) ≡ Ok spec → first_of_name spec.target devices ≡ None
+      → a ≡ refusal printed.UnknownTarget → P)
       (by_fixed : (spec : Spec) (device : Device) → read (tree bytes) ≡ Ok spec → first_of_name spec.target devices ≡ Some device
-      → takes_lines device.adjustable spec.delays ≡ false → a ≡ not_adjustable → P)
+      → takes_lines device.adjustable spec.delays ≡ false → a ≡ refusal printed.NotAdjustable → P)
       (by_table : (spec : Spec) (table : Delays) → read (tree bytes) ≡ Ok spec → IsTableOf spec devices table
       → OnTable spec table a (said spec table a) → P) where
     of_reading : (r : Result Spec SpecFault) → read (tree bytes) ≡ r → OnReading r a Said → P

@@ -4,10 +4,8 @@ use Rattle.std.specs.Prelude.{All}
 use Rattle.std.proofs.lemmas.List.{length-map}
 use Rattle.std.proofs.lemmas.List.Elements.{All-nil, All-cons, All-head, All-tail}
 use Rattle.opgen_design.specs.declared.design.Design.{Design}
-use Rattle.opgen_design.specs.Enabled.{marked, ones_at}
-use Rattle.opgen_design.specs.Run.{Words, RunsOn, AreWords, at_ports, is_in, input_widths}
+use Rattle.opgen_design.specs.Run.{marked, ones_at, Words, RunsOn, AreWords, at_ports, is_in, input_widths, counted, data_inputs}
 use Rattle.opgen_runs.proofs.Rows.{at_ports-map}
-use Rattle.opgen_pipe.specs.Counted.{counted, data_inputs}
 
 -- the inputs of a run have the widths of its input ports
 pub run_words : (d : Design) (now : List (List Bool)) (inputs : List (List (List Bool))) (vs : List Words) → RunsOn d now inputs vs

@@ -9,10 +9,10 @@ use Rattle.opgen_io.specs.Counts.{Rose, Stood}
 use Rattle.opgen_io.specs.Files.{Files}
 use Rattle.opgen_io.specs.declared.folder.FetchFault.TheVariants as fetch
 use Rattle.opgen_top.specs.declared.line.Line.{Line}
-use Rattle.opgen_top.specs.Answer.{Answer, read_fault, too_long}
+use Rattle.opgen_top.specs.declared.line.Line.TheVariants as printed
+use Rattle.opgen_top.specs.Answer.{Answer, refusal}
 use Rattle.opgen_top.specs.Due.{OnFetch, IsAnswerOf}
-use Rattle.opgen_top.specs.Prepared.{Reads, Kept, IsPrepared, IsUnfetched, refusal_of}
-use Rattle.opgen_top.specs.Printed as printed
+use Rattle.opgen_top.specs.Prepared.{Reads, Kept, IsPrepared, IsUnfetched}
 use Rattle.opgen_top.specs.Targets.{Device}
 use Rattle.opgen_top.proofs.Listed.{listed_refusal}
 
@@ -29,13 +29,14 @@ on_fetch under most bytes a said e few h =
     subst (λ r. OnFetch r a said) (sym whole) h
 
 -- a file that is not there
-pub on_missing : (under : Option (List ℕ)) (most : ℕ) (said : List ℕ → Type 0) → under ≡ None → OnFetch (fetched under most) read_fault said
-on_missing under most said e = subst (λ o. OnFetch (fetched o most) read_fault said) (sym e) refl
+pub on_missing : (under : Option (List ℕ)) (most : ℕ) (said : List ℕ → Type 0) → under ≡ None
+    → OnFetch (fetched under most) (refusal printed.ReadFault) said
+on_missing under most said e = subst (λ o. OnFetch (fetched o most) (refusal printed.ReadFault) said) (sym e) refl
 
 -- a file that is too long
 pub on_longer : (under : Option (List ℕ)) (most : ℕ) (said : List ℕ → Type 0) → fetched under most ≡ Err fetch.TooLong
-    → OnFetch (fetched under most) too_long said
-on_longer under most said e = subst (λ r. OnFetch r too_long said) (sym e) refl
+    → OnFetch (fetched under most) (refusal printed.TooLong) said
+on_longer under most said e = subst (λ r. OnFetch r (refusal printed.TooLong) said) (sym e) refl
 
 -- what a later fetch counts was counted since before
 rose-before : (before mid now : ℕ) → before ≤ mid → Rose mid now → Rose before now
@@ -58,14 +59,15 @@ unfetched-before name most told before mid now line kept cause = record {
 }
 
 module _ (command : Option Command) (devices : List Device) (told : Option Files) (before now : Reads) (name : List ℕ) (most : ℕ)
-    (missing_due : (files : Files) → told ≡ Some files → files name ≡ None → IsAnswerOf command devices files read_fault)
+    (missing_due : (files : Files) → told ≡ Some files → files name ≡ None
+    → IsAnswerOf command devices files (refusal printed.ReadFault))
     (longer_due : (files : Files) → told ≡ Some files → fetched (files name) most ≡ Err fetch.TooLong
-    → IsAnswerOf command devices files too_long) where
+    → IsAnswerOf command devices files (refusal printed.TooLong)) where
   unread : Rose before.faults now.faults ⊎ Rose before.lacks now.lacks
       → ((files : Files) → told ≡ Some files → Stood before.faults now.faults → files name ≡ None)
-      → IsPrepared command devices told before now read_fault
+      → IsPrepared command devices told before now (refusal printed.ReadFault)
   unread counted missing = record {
-    listed = listed_refusal read_fault (printed.read_fault refl refl) refl;
+    listed = listed_refusal printed.ReadFault tt;
     usage = λ other. absurd (omega (arith, other));
     read_counted = λ _. counted;
     long_counted = λ other. absurd (omega (arith, other));
@@ -76,19 +78,20 @@ module _ (command : Option Command) (devices : List Device) (told : Option Files
   }
 
   exceeds : Rose before.longs now.longs → ((files : Files) → told ≡ Some files → fetched (files name) most ≡ Err fetch.TooLong)
-      → IsPrepared command devices told before now too_long
+      → IsPrepared command devices told before now (refusal printed.TooLong)
   exceeds counted longer = record {
-    listed = listed_refusal too_long (printed.too_long refl refl) refl;
+    listed = listed_refusal printed.TooLong tt;
     usage = λ other. absurd (omega (arith, other));
     read_counted = λ other. absurd (omega (arith, other));
     long_counted = λ _. counted;
     due = λ files is. inr (longer_due files is (longer files is));
   }
 
-  pub unfetched : (line : Line) → IsUnfetched name most told before now line → IsPrepared command devices told before now (refusal_of line)
+  pub unfetched : (line : Line) → IsUnfetched name most told before now line
+      → IsPrepared command devices told before now (refusal line)
   unfetched line cause = elim cause.either [
-    | inl e ↦ subst (λ l. IsPrepared command devices told before now (refusal_of l)) (sym e)
+    | inl e ↦ subst (λ l. IsPrepared command devices told before now (refusal l)) (sym e)
         (unread (cause.read_counted e) (λ files is stood. cause.missing files is stood e))
-    | inr e ↦ subst (λ l. IsPrepared command devices told before now (refusal_of l)) (sym e)
+    | inr e ↦ subst (λ l. IsPrepared command devices told before now (refusal l)) (sym e)
         (exceeds (cause.long_counted e) (λ files is. cause.longer files is e))
   ]

@@ -1,5 +1,5 @@
 -- From what a number gives to what `workload` answers.
-use Rattle.std.proofs.Common.{◌≡◌, ◌⊎◌, inl, inr, ℕ, false, List, length, Option, Some, Result, Ok, Err, refl, sym, ap, subst, arith}
+use Rattle.std.proofs.Common.{◌≡◌, ◌⊎◌, inl, inr, ℕ, false, List, [], length, Option, Some, Result, Ok, Err, refl, sym, ap, subst, arith}
 use Rattle.opgen_command.specs.declared.command.Command.TheVariants.{Workload}
 use Rattle.opgen_io.specs.Files.{Files}
 use Rattle.opgen_operator.specs.declared.spec.Spec.{Spec}
@@ -9,14 +9,13 @@ use Rattle.opgen_top.specs.declared.answer.Answer.{Answer as Held}
 use Rattle.opgen_top.specs.declared.answer.Refusal.{Refusal}
 use Rattle.opgen_top.specs.declared.answer.Refusal.TheVariants as refusals
 use Rattle.opgen_top.specs.declared.circuit.Circuit.{Circuit}
-use Rattle.opgen_top.specs.Answer.{Answer, worked}
-use Rattle.opgen_top.specs.Prepared.{Reads, OnAnswer, HasWorked, IsCircuitFor, IsListed, IsPrepared, OnRefusal, answer_of, refusal_of}
-use Rattle.opgen_top.specs.Printed as printed
+use Rattle.opgen_top.specs.declared.line.Line.TheVariants as printed
+use Rattle.opgen_top.specs.Answer.{Answer, refusal, status_of, success}
+use Rattle.opgen_top.specs.Prepared.{Reads, OnAnswer, HasWorked, IsCircuitFor, IsListed, IsPrepared, OnRefusal, answer_of}
 use Rattle.opgen_top.specs.Specified.{OnTable, OnTarget}
 use Rattle.opgen_top.specs.Targets.{Device, first_of_name}
 use Rattle.opgen_top.specs.Workload.{IsAnswerToWorkload, IsWorked}
 use Rattle.opgen_top.proofs.Listed.{listed_success}
-use Rattle.opgen_top.proofs.PreparingSpecs.{status_of}
 use Rattle.opgen_top.proofs.SpecCases.{cases_of_target, on_table-map, on_table_of, on_target-map}
 
 module _ (n : ℕ) (devices : List Device) where
@@ -27,8 +26,8 @@ module _ (n : ℕ) (devices : List Device) where
       → OnRefusal refusal (IsAnswerToWorkload n devices)
   filter_refused (refusals.Line line) h =
       let spec = workload_spec n in
-      on_target-map (first_of_name spec.target devices) spec (refusal_of line) _ _
-      (λ table. on_table-map spec table (refusal_of line) ⊥ (IsWorked n table (refusal_of line)) (λ none. absurd none)) h
+      on_target-map (first_of_name spec.target devices) spec (refusal line) _ _
+      (λ table. on_table-map spec table (refusal line) ⊥ (IsWorked n table (refusal line)) (λ none. absurd none)) h
   filter_refused refusals.Memory h = tt
 
   pub spec_refused : (spec : Spec) → spec ≡ workload_spec n → (refusal : Refusal)
@@ -55,10 +54,10 @@ module _ (n : ℕ) (devices : List Device) where
       }))
 
   -- the answer to a number has status 0 or 1
-  number_status : (a : Answer) → IsAnswerToWorkload n devices a → (a.status ≡ 0) ⊎ (a.status ≡ 1)
+  number_status : (a : Answer) → IsAnswerToWorkload n devices a → (status_of a ≡ 0) ⊎ (status_of a ≡ 1)
   number_status a h =
-      cases_of_target devices (workload_spec n) a (λ table. OnTable (workload_spec n) table a (IsWorked n table a)) ((a.status ≡ 0)
-      ⊎ (a.status ≡ 1))
+      cases_of_target devices (workload_spec n) a (λ table. OnTable (workload_spec n) table a (IsWorked n table a))
+      ((status_of a ≡ 0) ⊎ (status_of a ≡ 1))
       (λ found is. inr (ap status_of is))
       (λ device found takes is. inr (ap status_of is))
       (λ table of on. elim on [
@@ -81,11 +80,10 @@ module _ (n : ℕ) (devices : List Device) where
     pub workload-prepared : (r : Result Held Refusal) → OnAnswer r (IsAnswerToWorkload n devices) → OnAnswer r IsListed
         → OnAnswer r (IsPrepared (Some (Workload n)) devices told before now)
     workload-prepared (Ok held) is listed = answers (answer_of held) is listed
-    workload-prepared (Err (refusals.Line line)) is listed = answers (refusal_of line) is listed
+    workload-prepared (Err (refusals.Line line)) is listed = answers (refusal line) is listed
     workload-prepared (Err refusals.Memory) is listed = tt
 
 pub worked_listed : (n : ℕ) (planned : Planned) (a : Answer) → HasWorked n planned a → IsListed a
 worked_listed n planned a h =
     subst IsListed (sym h.answer)
-    (listed_success (worked n (length planned.design.signals) planned.latency h.good)
-    (printed.worked n (length planned.design.signals) planned.latency h.good refl refl) refl)
+    (listed_success (success (printed.Worked n (length planned.design.signals) planned.latency h.good) []) tt refl)

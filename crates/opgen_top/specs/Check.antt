@@ -1,5 +1,5 @@
 -- What `check` answers, by the bytes of its specification, of its VHDL and of its vectors, and by its latency.
-use Rattle.std.specs.Prelude.{ℕ, ◌≡◌, ◌⊎◌, List, length, Ok}
+use Rattle.std.specs.Prelude.{ℕ, ◌≡◌, ◌⊎◌, List, [], length, Ok}
 use Rattle.std.specs.Str.Lines.{lines}
 use Rattle.opgen_check.specs.declared.checked.Checked.{Checked}
 use Rattle.opgen_check.specs.declared.checked.Checked.TheVariants.{Good, Bad}
@@ -11,7 +11,8 @@ use Rattle.opgen_operator.specs.declared.spec.Spec.{Spec}
 use Rattle.opgen_document.specs.Document.{tree}
 use Rattle.opgen_spec.specs.Faults.{read}
 use Rattle.opgen_vec.specs.Reading.{IsReading}
-use Rattle.opgen_top.specs.Answer.{Answer, all_good, bad_row, ports_refused}
+use Rattle.opgen_top.specs.declared.line.Line.TheVariants as line
+use Rattle.opgen_top.specs.Answer.{Answer, refusal, success}
 use Rattle.opgen_top.specs.Simulate.{GivesDesign, RefusesVhdl, RefusesVectors}
 use Rattle.opgen_top.specs.Specified.{OnReading}
 
@@ -26,7 +27,7 @@ pub record RefusesPorts (spec : Spec) (text vectors : List ℕ) (a : Answer) : T
   pub cells : List ℕ
   pub rows : GivesRows text vectors design cells
   pub differ : PortsAgree spec design → ⊥
-  pub answer : a ≡ ports_refused
+  pub answer : a ≡ refusal line.Ports
 
 -- they are, and this is the verdict on the design's run over the rows
 pub record IsVerdictOnVhdl (spec : Spec) (latency : ℕ) (text vectors : List ℕ) (checked : Checked) : Type 0 where
@@ -40,13 +41,13 @@ pub record IsVerdictOnVhdl (spec : Spec) (latency : ℕ) (text vectors : List �
 pub record FindsBad (spec : Spec) (latency : ℕ) (text vectors : List ℕ) (a : Answer) : Type 0 where
   pub row : ℕ
   pub verdict : IsVerdictOnVhdl spec latency text vectors (Bad row)
-  pub answer : a ≡ bad_row row
+  pub answer : a ≡ refusal (line.BadRow row)
 
 -- all rows that are judged are good, and they are so many
 pub record FindsGood (spec : Spec) (latency : ℕ) (text vectors : List ℕ) (a : Answer) : Type 0 where
   pub judged : ℕ
   pub verdict : IsVerdictOnVhdl spec latency text vectors (Good judged)
-  pub answer : a ≡ all_good judged
+  pub answer : a ≡ success (line.Good judged) []
 
 -- the answer to a specification by the bytes of the VHDL and of the vectors
 abbrev pub IsAnswerToVhdl : Spec → (latency : ℕ) (text vectors : List ℕ) → Answer → Type 0

@@ -10,7 +10,7 @@ use Rattle.opgen_pipe.specs.Planned.{IsPlanOf, slots_of}
 use Rattle.opgen_schedule.specs.Stage.{slot_at}
 use Rattle.opgen_target.specs.Delays.{Delays}
 use Rattle.opgen_top.specs.Kinds.{AreAddersOf, IsFittingNet}
-use Rattle.opgen_top.specs.Serves.{Serves}
+use Rattle.opgen_operator.specs.Serves.{Serves}
 
 -- the signals of the design that a net has for a table and a period
 abbrev pub signals_of : Delays → (period : ℕ) → Net → ℕ

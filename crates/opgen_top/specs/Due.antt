@@ -7,8 +7,10 @@ use Rattle.opgen_io.specs.Fetched.{fetched}
 use Rattle.opgen_io.specs.Files.{Files}
 use Rattle.opgen_io.specs.declared.folder.FetchFault.{FetchFault}
 use Rattle.opgen_io.specs.declared.folder.FetchFault.TheVariants as fetch
-use Rattle.opgen_top.specs.Answer.{Answer, usage, read_fault, too_long}
+use Rattle.opgen_top.specs.declared.line.Line.TheVariants as line
+use Rattle.opgen_top.specs.Answer.{Answer, refusal, status_of}
 use Rattle.opgen_top.specs.Check.{IsAnswerToCheck}
+use Rattle.opgen_top.specs.Lines.{line_bytes}
 use Rattle.opgen_top.specs.Simulate.{IsSimulated}
 use Rattle.opgen_top.specs.Specified.{IsAnswerToSpec, IsGenerated, IsVectors}
 use Rattle.opgen_top.specs.Stores.{stored_all}
@@ -26,8 +28,8 @@ most_simulated_bytes = 67108864
 -- by what fetching a file gives: what is said of its bytes, or the answer of the fault
 abbrev pub OnFetch : Result (List ℕ) FetchFault → Answer → (List ℕ → Type 0) → Type 0
 OnFetch (Ok bytes) a said = said bytes
-OnFetch (Err fetch.TooLong) a said = a ≡ too_long
-OnFetch (Err _) a said = a ≡ read_fault
+OnFetch (Err fetch.TooLong) a said = a ≡ refusal line.TooLong
+OnFetch (Err _) a said = a ≡ refusal line.ReadFault
 
 -- The answer of a command. The first file that is not fetched decides, then what the files hold.
 abbrev pub IsAnswerOfCommand : Command → List Device → Files → Answer → Type 0
@@ -45,7 +47,7 @@ IsAnswerOfCommand (Check spec vhdl vectors latency) devices files a =
     OnFetch (fetched (files vectors) most_simulated_bytes) a (λ rows. IsAnswerToCheck latency bytes text rows a)))
 
 abbrev pub IsAnswerOf : Option Command → List Device → Files → Answer → Type 0
-IsAnswerOf None devices files a = a ≡ usage
+IsAnswerOf None devices files a = a ≡ refusal line.Usage
 IsAnswerOf (Some command) devices files a = IsAnswerOfCommand command devices files a
 
 -- The answer that is due was given: the result is its status, the folder has its stores more or anew, and a sink that tells
@@ -54,6 +56,6 @@ pub record IsAnswered (command : Option Command) (devices : List Device) (files 
     (before now : Option (List ℕ)) : Type 0 where
   pub answer : Answer
   pub due : IsAnswerOf command devices files answer
-  pub status : result ≡ answer.status
+  pub status : result ≡ status_of answer
   pub stores : after ≡ Some (stored_all answer.stores files)
-  pub line : (held : List ℕ) → before ≡ Some held → now ≡ Some (held ++ answer.line)
+  pub line : (held : List ℕ) → before ≡ Some held → now ≡ Some (held ++ line_bytes answer.line)

@@ -2,10 +2,11 @@
 use Rattle.std.specs.Prelude.{ℕ, ◌≡◌, ◌⊎◌, List, Option, Some}
 use Rattle.opgen_io.specs.Bytes.{TakesPrefix}
 use Rattle.opgen_io.specs.Files.{Files}
+use Rattle.opgen_top.specs.declared.line.Line.TheVariants as line
 use Rattle.opgen_top.specs.Answer.{Answer}
 use Rattle.opgen_command.specs.declared.command.Command.{Command}
 use Rattle.opgen_top.specs.Due.{IsAnswerOf}
-use Rattle.opgen_top.specs.Lines.{read_fault_line}
+use Rattle.opgen_top.specs.Lines.{line_bytes}
 use Rattle.opgen_top.specs.Stores.{stored_all, HasFirst, HasBroken}
 use Rattle.opgen_top.specs.Targets.{Device}
 
@@ -13,7 +14,7 @@ use Rattle.opgen_top.specs.Targets.{Device}
 pub record IsUnread (counted : Type 0) (files : Files) (after : Option Files) (before now : Option (List ℕ)) : Type 0 where
   pub why : counted
   pub same : after ≡ Some files
-  pub part : TakesPrefix before read_fault_line now
+  pub part : TakesPrefix before (line_bytes line.ReadFault) now
 
 -- A fault of writing was counted: a store broke, those before it stand, and nothing was printed.
 pub record IsUnstored (counted : Type 0) (answer : Answer) (files : Files) (after : Option Files)
@@ -27,7 +28,7 @@ pub record IsUnprinted (counted : Type 0) (answer : Answer) (files : Files) (aft
     (before now : Option (List ℕ)) : Type 0 where
   pub why : counted
   pub stores : after ≡ Some (stored_all answer.stores files)
-  pub part : TakesPrefix before answer.line now
+  pub part : TakesPrefix before (line_bytes answer.line) now
 
 -- After 4, by the counts that rose: a file was not read, or the answer that is due was not stored or not printed.
 abbrev pub LeftByFault : Option Command → List Device → Files

@@ -2,7 +2,6 @@
 pub mod Targets
 pub mod AdderGraphs
 pub mod Kinds
-pub mod Serves
 pub mod Circuit
 pub mod Running
 pub mod Statuses

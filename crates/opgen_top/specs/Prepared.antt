@@ -1,5 +1,5 @@
 -- For the functions of this crate alone: an answer before its stores, or why there is none yet.
-use Rattle.std.specs.Prelude.{ℕ, ◌≡◌, ◌⊎◌, ◌≤◌, Bool, List, [], length, map, Option, Some, None, Result, Ok, Err, Vec, string_bytes}
+use Rattle.std.specs.Prelude.{ℕ, ◌≡◌, ◌⊎◌, ◌≤◌, Bool, List, [], ◌∷◌, length, map, Option, Some, None, Result, Ok, Err, Vec, string_bytes}
 use Rattle.std.specs.declared.alloc.Global.{Global}
 use Rattle.std.specs.Str.Lines.{lines}
 use Rattle.opgen_num.specs.Words.{AreRowsOfCells}
@@ -28,60 +28,27 @@ use Rattle.opgen_top.specs.declared.line.Line.{Line}
 use Rattle.opgen_top.specs.declared.line.Line.TheVariants as line
 use Rattle.opgen_top.specs.declared.rows.Rows.{Rows}
 use Rattle.opgen_top.specs.declared.circuit.Circuit.{Circuit}
-use Rattle.opgen_top.specs.Answer.{Answer, all_good, bad_row, period_too_short, ports_refused, read_fault, refusal, simulated, too_large, worked, wrote_vectors}
+use Rattle.opgen_top.specs.Answer.{Answer, file, refusal, status_of, success}
 use Rattle.opgen_top.specs.Circuit.{IsCircuit}
 use Rattle.opgen_top.specs.Due.{IsAnswerOf}
-use Rattle.opgen_top.specs.Lines.{not_adjustable_line, read_fault_line, ports_refused_line, too_large_line, too_long_line, unknown_target_line, usage_line}
-use Rattle.opgen_top.specs.Printed.{IsLineOf}
+use Rattle.opgen_top.specs.Lines.{vectors_name}
+use Rattle.opgen_top.specs.Printed.{IsAllowedLine}
 use Rattle.opgen_top.specs.Running.{IsRunText}
 use Rattle.opgen_top.specs.Statuses.{Refuses}
 use Rattle.opgen_top.specs.Stores.{Store}
 use Rattle.opgen_top.specs.Targets.{Device, IsTableOf}
 use Rattle.opgen_top.specs.Workload.{RunsGood}
 
--- the status and the text of a line
-abbrev pub line_status : Line → ℕ
-line_status line.Usage = 2
-line_status line.ReadFault = 3
-line_status line.TooLong = 9
-line_status line.UnknownTarget = 1
-line_status line.NotAdjustable = 1
-line_status line.TooLarge = 1
-line_status (line.Refused text) = 1
-line_status line.Ports = 6
-line_status (line.VhdlRefused text) = 6
-line_status (line.VectorsRefused text) = 7
-line_status (line.BadRow text) = 8
-line_status (line.Wrote text) = 0
-
-abbrev pub line_text : Line → List ℕ
-line_text line.Usage = usage_line
-line_text line.ReadFault = read_fault_line
-line_text line.TooLong = too_long_line
-line_text line.UnknownTarget = unknown_target_line
-line_text line.NotAdjustable = not_adjustable_line
-line_text line.TooLarge = too_large_line
-line_text line.Ports = ports_refused_line
-line_text (line.Refused text) = string_bytes text
-line_text (line.VhdlRefused text) = string_bytes text
-line_text (line.VectorsRefused text) = string_bytes text
-line_text (line.BadRow text) = string_bytes text
-line_text (line.Wrote text) = string_bytes text
-
 -- an answer as the program holds it
 abbrev pub store_of : NewFile → Store
 store_of file = record { name = string_bytes file.name; bytes = file.bytes.items }
 
 abbrev pub answer_of : Held → Answer
-answer_of a = record { status = line_status a.line; line = line_text a.line; stores = map store_of a.stores.items }
-
--- the answer of a refusal
-abbrev pub refusal_of : Line → Answer
-refusal_of line = refusal (line_status line) (line_text line)
+answer_of a = record { line = a.line; stores = map store_of a.stores.items }
 
 -- what is said of the answer of a refusal, unless memory ran out
 abbrev pub OnRefusal : Refusal → (Answer → Type 0) → Type 0
-OnRefusal (refusals.Line line) said = said (refusal_of line)
+OnRefusal (refusals.Line line) said = said (refusal line)
 OnRefusal refusals.Memory said = Unit {0}
 
 -- the same of an answer or a refusal
@@ -97,7 +64,7 @@ IfRefused (Err refusal) said = OnRefusal refusal said
 -- the answer, or that of the refusal; running out of memory has none
 abbrev pub IsAnswerOrLine : Result Held Refusal → Answer → Type 0
 IsAnswerOrLine (Ok held) a = a ≡ answer_of held
-IsAnswerOrLine (Err (refusals.Line line)) a = a ≡ refusal_of line
+IsAnswerOrLine (Err (refusals.Line line)) a = a ≡ refusal line
 IsAnswerOrLine (Err refusals.Memory) a = ⊥
 
 -- the circuit of a specification, for the target that it names
@@ -108,32 +75,32 @@ pub record IsCircuitFor (spec : Spec) (enable : Bool) (devices : List Device) (c
 
 -- the answer tells why a net has no plan; running out of memory has no answer
 abbrev pub TellsPlanFault : PlanFault → Answer → Type 0
-TellsPlanFault (plan.PeriodTooShort need) a = a ≡ period_too_short need
-TellsPlanFault plan.TooLarge a = a ≡ too_large
+TellsPlanFault (plan.PeriodTooShort need) a = a ≡ refusal (line.PeriodTooShort need)
+TellsPlanFault plan.TooLarge a = a ≡ refusal line.TooLarge
 TellsPlanFault plan.Memory a = ⊥
 
 -- an answer that stores the rows of a design over the stimulus of a specification
 pub record HasRows (spec : Spec) (design : Design) (seed cycles : ℕ) (a : Answer) : Type 0 where
   pub rows : List ℕ
   pub run : IsRunText design cycles (stimulus_cells spec seed cycles) rows
-  pub answer : a ≡ wrote_vectors spec.name cycles rows
+  pub answer : a ≡ success (line.WroteVectors spec.name cycles) (file (vectors_name spec.name) rows ∷ [])
 
 -- an answer that stores the rows of a design's run over rows of its inputs
 pub record HasSimulated (out : List ℕ) (design : Design) (count : ℕ) (cells : List ℕ) (a : Answer) : Type 0 where
   pub rows : List ℕ
   pub run : IsRunText design count cells rows
-  pub answer : a ≡ simulated out count rows
+  pub answer : a ≡ success (line.Simulated count) (file out rows ∷ [])
 
 -- an answer that tells of a run of the filter, and stores none
 pub record HasWorked (n : ℕ) (planned : Planned) (a : Answer) : Type 0 where
   pub good : ℕ
   pub judged : RunsGood n planned.design planned.latency good
-  pub answer : a ≡ worked n (length planned.design.signals) planned.latency good
+  pub answer : a ≡ success (line.Worked n (length planned.design.signals) planned.latency good) []
 
 -- the answer of a verdict
 abbrev pub verdict_answer : Checked → Answer
-verdict_answer (Good judged) = all_good judged
-verdict_answer (Bad row) = bad_row row
+verdict_answer (Good judged) = success (line.Good judged) []
+verdict_answer (Bad row) = refusal (line.BadRow row)
 
 -- the ports of a design are the specification's, and this is the answer of the verdict on its run over rows
 pub record HasJudged (spec : Spec) (design : Design) (latency rows : ℕ) (cells : List ℕ) (a : Answer) : Type 0 where
@@ -145,12 +112,12 @@ pub record HasJudged (spec : Spec) (design : Design) (latency rows : ℕ) (cells
 -- the ports are not those of the specification, or the rows were judged
 abbrev pub IsAnswerToDesign : Spec → Design → (latency rows : ℕ) (cells : List ℕ) → Answer → Type 0
 IsAnswerToDesign spec design latency rows cells a =
-    ((PortsAgree spec design → ⊥) × (a ≡ ports_refused)) ⊎ HasJudged spec design latency rows cells a
+    ((PortsAgree spec design → ⊥) × (a ≡ refusal line.Ports)) ⊎ HasJudged spec design latency rows cells a
 
--- an answer has a line of its status, and none that refuses has a store
+-- an answer has a line that may be printed, and none that refuses has a store
 pub record IsListed (a : Answer) : Type 0 where
-  pub line : IsLineOf a.status a.line
-  pub no_store : Refuses a.status → a.stores ≡ []
+  pub line : IsAllowedLine a.line
+  pub no_store : Refuses (status_of a) → a.stores ≡ []
 
 -- a folder's counts of failing reads
 pub record Reads : Type 0 where
@@ -172,10 +139,11 @@ pub record Kept (before now : Reads) : Type 0 where
 pub record IsPrepared (command : Option Command) (devices : List Device) (told : Option Files) (before now : Reads)
     (a : Answer) : Type 0 where
   pub listed : IsListed a
-  pub usage : a.status ≡ 2 → command ≡ None
-  pub read_counted : a.status ≡ 3 → Rose before.faults now.faults ⊎ Rose before.lacks now.lacks
-  pub long_counted : a.status ≡ 9 → Rose before.longs now.longs
-  pub due : (files : Files) → told ≡ Some files → ((a ≡ read_fault) × Rose before.faults now.faults) ⊎ IsAnswerOf command devices files a
+  pub usage : status_of a ≡ 2 → command ≡ None
+  pub read_counted : status_of a ≡ 3 → Rose before.faults now.faults ⊎ Rose before.lacks now.lacks
+  pub long_counted : status_of a ≡ 9 → Rose before.longs now.longs
+  pub due : (files : Files) → told ≡ Some files
+      → ((a ≡ refusal line.ReadFault) × Rose before.faults now.faults) ⊎ IsAnswerOf command devices files a
 
 -- the line for a file that was not fetched, and its cause
 pub record IsUnfetched (name : List ℕ) (most : ℕ) (told : Option Files) (before now : Reads) (l : Line) : Type 0 where

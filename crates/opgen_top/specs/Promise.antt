@@ -1,6 +1,6 @@
 -- What status 0 of `generate` promises of what is stored and printed, with the clock enable and without it. It mentions no
 -- recipe, net, plan or schedule.
-use Rattle.std.specs.Prelude.{ℕ, ◌≡◌, Bool, List, ◌++◌, Option, Some, option_map}
+use Rattle.std.specs.Prelude.{ℕ, ◌≡◌, Bool, List, ◌++◌, Option, Some, codes, option_map}
 use Rattle.opgen_design.specs.declared.design.Design.{Design}
 use Rattle.opgen_design.specs.Sound.{IsSound}
 use Rattle.opgen_io.specs.Files.{Files, stored}
@@ -8,9 +8,8 @@ use Rattle.opgen_operator.specs.declared.spec.Spec.{Spec}
 use Rattle.opgen_document.specs.Document.{tree}
 use Rattle.opgen_spec.specs.Spec.{spec_of}
 use Rattle.opgen_vhdl.specs.Spelled.{Spells}
-use Rattle.opgen_top.specs.Answer.{vhdl_name, report_name}
-use Rattle.opgen_top.specs.Lines.{wrote_line, latency_line, HasLine}
-use Rattle.opgen_top.specs.Serves.{Serves}
+use Rattle.opgen_operator.specs.Serves.{Serves}
+use Rattle.opgen_top.specs.Lines.{vhdl_name, report_name, wrote_line, latency_line, HasLine}
 
 pub record Promise (file : List ℕ) (enable : Bool) (files : Files) (files_after : Option Files)
     (printed_before printed_after : Option (List ℕ)) : Type 0 where
@@ -32,7 +31,8 @@ pub record Promise (file : List ℕ) (enable : Bool) (files : Files) (files_afte
   -- Fourth: a latency stands in the report, and in the line where the sink tells what it takes.
   pub latency : ℕ
   pub reported : HasLine report (latency_line latency)
-  pub line : (held : List ℕ) → printed_before ≡ Some held → printed_after ≡ Some (held ++ wrote_line spec.name latency)
+  pub line : (held : List ℕ) → printed_before ≡ Some held
+      → printed_after ≡ Some (held ++ (wrote_line spec.name latency ++ codes "\n"))
   -- Fifth: in every run the outputs are good, so many cycles after inputs in range. Cycles are those that count: with the
   -- clock enable, the ones in which it is 1.
   pub serves : Serves spec latency enable design

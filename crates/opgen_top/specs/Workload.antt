@@ -1,12 +1,13 @@
 -- What `workload` answers, by its number and by the targets.
-use Rattle.std.specs.Prelude.{ℕ, ◌≡◌, ◌-◌, false, List, length}
+use Rattle.std.specs.Prelude.{ℕ, ◌≡◌, ◌-◌, false, List, [], length}
 use Rattle.opgen_design.specs.declared.design.Design.{Design}
 use Rattle.opgen_pipe.specs.declared.planning.Planned.{Planned}
 use Rattle.opgen_target.specs.Delays.{Delays}
 use Rattle.opgen_vec.specs.Stimulus.{stimulus_cells}
 use Rattle.opgen_workload.specs.Filter.{workload_spec}
 use Rattle.opgen_workload.specs.Judged.{Counts, IsGoodCycle}
-use Rattle.opgen_top.specs.Answer.{Answer, worked}
+use Rattle.opgen_top.specs.declared.line.Line.TheVariants as line
+use Rattle.opgen_top.specs.Answer.{Answer, success}
 use Rattle.opgen_top.specs.Circuit.{IsCircuit}
 use Rattle.opgen_runs.specs.Rows.{IsRunOf}
 use Rattle.opgen_top.specs.Specified.{OnDevices, OnTable}
@@ -33,7 +34,7 @@ pub record IsWorked (n : ℕ) (table : Delays) (a : Answer) : Type 0 where
   pub circuit : IsCircuit (workload_spec n) table false planned adders
   pub good : ℕ
   pub judged : RunsGood n planned.design planned.latency good
-  pub answer : a ≡ worked n (length planned.design.signals) planned.latency good
+  pub answer : a ≡ success (line.Worked n (length planned.design.signals) planned.latency good) []
 
 -- by the targets: the refusals of a specification, or that line
 abbrev pub IsAnswerToWorkload : (n : ℕ) → List Device → Answer → Type 0

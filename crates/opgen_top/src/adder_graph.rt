@@ -33,7 +33,7 @@ fn values(alloc: Global, adders: &[Adder]) -> Result<Vec<u32>, AllocError>
     Ok(found)
 }
 
-/// The numbers of a graph, increasing, each once.
+// The numbers of a graph, increasing, each once.
 fn members(alloc: Global, adders: &[Adder]) -> Result<Vec<u32>, AllocError>
     ensures increasing { IfOk result (λ set. IsStrictlyIncreasing set.items) }
     ensures members { IfOk result (λ set. (x : ℕ) → Contains set.items x ↔ Contains (values adders.now) x) }
@@ -44,7 +44,7 @@ fn members(alloc: Global, adders: &[Adder]) -> Result<Vec<u32>, AllocError>
     Ok(set)
 }
 
-/// The graph of some numbers by the fixed rule.
+// The graph of some numbers by the fixed rule.
 fn rule_graph(alloc: Global, numbers: &[i64]) -> Result<AdderGraph, Memory>
     requires { All (IsWithin 1048575) numbers.now }
     ensures graph { IfOk result (λ made. IsRuleGraphOf numbers.now made.set.items made.graph) }

@@ -1,7 +1,7 @@
 //! What a command answers, before anything is stored.
 ghost use Rattle.std.specs.Prelude.{◌≡◌, ◌∷◌, [], IfOk, string_bytes};
 ghost use Rattle.opgen_top.specs.Answer.{file, success};
-ghost use Rattle.opgen_top.specs.Prepared.{answer_of, refusal_of, store_of};
+ghost use Rattle.opgen_top.specs.Prepared.{answer_of, store_of};
 
 use crate::line::Line;
 use opgen_num::Memory;
@@ -51,41 +51,35 @@ impl From<AllocError> for Refusal {
 /// The answer that stores one file.
 pub(crate) fn with_file(
     alloc: Global,
-    line: String,
+    line: Line,
     name: String,
     bytes: Vec<u8>,
 ) -> Result<Answer, AllocError>
-    ensures { IfOk result (λ a. answer_of a ≡ success (string_bytes line) (file (string_bytes name) bytes.items ∷ [])) }
+    ensures { IfOk result (λ a. answer_of a ≡ success line (file (string_bytes name) bytes.items ∷ [])) }
 {
     let mut stores = Vec::new(alloc);
     stores.push(NewFile { name, bytes })?;
-    Ok(Answer {
-        line: Line::Wrote(line),
-        stores,
-    })
+    Ok(Answer { line, stores })
 }
 
 /// The answer that stores two files, in this order.
 pub(crate) fn with_files(
     alloc: Global,
-    line: String,
+    line: Line,
     first: NewFile,
     second: NewFile,
 ) -> Result<Answer, AllocError>
-    ensures { IfOk result (λ a. answer_of a ≡ success (string_bytes line) (store_of first ∷ store_of second ∷ [])) }
+    ensures { IfOk result (λ a. answer_of a ≡ success line (store_of first ∷ store_of second ∷ [])) }
 {
     let mut stores = Vec::new(alloc);
     stores.push(first)?;
     stores.push(second)?;
-    Ok(Answer {
-        line: Line::Wrote(line),
-        stores,
-    })
+    Ok(Answer { line, stores })
 }
 
 /// The answer that stores none.
 pub(crate) fn without_file(alloc: Global, line: Line) -> Answer
-    ensures { answer_of result ≡ refusal_of line }
+    ensures { answer_of result ≡ success line [] }
 {
     Answer {
         line,

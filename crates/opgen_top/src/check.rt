@@ -1,13 +1,14 @@
 //! The command `check`: judges a design by a specification, over rows of its inputs.
-ghost use Rattle.std.specs.Prelude.{◌≡◌, ◌≤◌, ◌<◌, ◌^◌, IfOk, List, Some, length};
+ghost use Rattle.std.specs.Prelude.{◌≡◌, ◌≤◌, ◌<◌, ◌^◌, [], List, Some, length};
 ghost use Rattle.opgen_num.specs.Words.{AreRowsOfCells};
 ghost use Rattle.opgen_command.specs.declared.command.Command.TheVariants.{Check};
 ghost use Rattle.opgen_design.specs.Run.{input_widths};
 ghost use Rattle.opgen_design.specs.Sound.{IsSound};
 ghost use Rattle.opgen_operator.specs.Valid.{IsValidSpec};
+ghost use Rattle.opgen_top.specs.Answer.{success};
 ghost use Rattle.opgen_top.specs.Check.{IsAnswerToCheck, IsAnswerToVhdl};
 ghost use Rattle.opgen_top.specs.Due.{most_simulated_bytes};
-ghost use Rattle.opgen_top.specs.Prepared.{reads_of, refusal_of, verdict_answer, IsAnswerToDesign, IsListed, IsPrepared, OnAnswer};
+ghost use Rattle.opgen_top.specs.Prepared.{reads_of, verdict_answer, IsAnswerToDesign, IsListed, IsPrepared, OnAnswer};
 ghost use Rattle.opgen_top.specs.Targets.{Device};
 
 use crate::answer::{Answer, Refusal, without_file};
@@ -19,7 +20,7 @@ use opgen_check::{CheckFault, Checked, check_rows};
 use opgen_design::Design;
 use opgen_io::Folder;
 use opgen_spec::Spec;
-use std::alloc::{AllocError, Global};
+use std::alloc::Global;
 
 /// Fetches a specification, VHDL and vectors, and answers with the verdict on the rows, for a latency.
 pub(crate) fn check<F: Folder>(
@@ -42,7 +43,7 @@ pub(crate) fn check<F: Folder>(
     judge_document(alloc, &document, &text, &rows, latency)
 }
 
-/// Reads a specification, VHDL and vectors, and answers with the verdict.
+// Reads a specification, VHDL and vectors, and answers with the verdict.
 fn judge_document(
     alloc: Global,
     document: &[u8],
@@ -58,7 +59,7 @@ fn judge_document(
     judge_vhdl(alloc, &spec, vhdl, vectors, latency)
 }
 
-/// Reads VHDL and vectors, and answers with the verdict by a specification.
+// Reads VHDL and vectors, and answers with the verdict by a specification.
 fn judge_vhdl(
     alloc: Global,
     spec: &Spec,
@@ -76,7 +77,7 @@ fn judge_vhdl(
     judge_rows(alloc, spec, design, &rows, latency)
 }
 
-/// Runs a design over rows of its inputs, and answers with the verdict.
+// Runs a design over rows of its inputs, and answers with the verdict.
 fn judge_rows(
     alloc: Global,
     spec: &Spec,
@@ -93,17 +94,17 @@ fn judge_rows(
     ensures listed { OnAnswer result IsListed }
 {
     match check_rows(alloc, spec, design, &rows.inputs, latency) {
-        Ok(checked) => Ok(without_file(alloc, verdict_line(alloc, checked)?)),
+        Ok(checked) => Ok(without_file(alloc, verdict_line(checked))),
         Err(CheckFault::Ports) => Err(Refusal::Line(Line::Ports)),
         Err(CheckFault::Memory) => Err(Refusal::Memory),
     }
 }
 
-fn verdict_line(alloc: Global, checked: Checked) -> Result<Line, AllocError>
-    ensures { IfOk result (λ line. refusal_of line ≡ verdict_answer checked) }
+fn verdict_line(checked: Checked) -> Line
+    ensures { success result [] ≡ verdict_answer checked }
 {
     match checked {
-        Checked::Good { rows } => Ok(Line::Wrote(format!(in alloc; "good {rows}\n")?)),
-        Checked::Bad { row } => Ok(Line::BadRow(format!(in alloc; "row {row} not good\n")?)),
+        Checked::Good { rows } => Line::Good { rows },
+        Checked::Bad { row } => Line::BadRow { row },
     }
 }

@@ -1,5 +1,5 @@
 //! The circuit of a specification.
-ghost use Rattle.std.specs.Prelude.{◌≡◌, ◌≤◌, [], IfOk, Ok, string_bytes};
+ghost use Rattle.std.specs.Prelude.{◌≡◌, ◌≤◌, [], IfOk, Ok};
 ghost use Rattle.opgen_operator.specs.declared.operator.Operator.TheVariants.{Mcm, Tfir};
 ghost use Rattle.opgen_operator.specs.Fits.{FitsInEachMode};
 ghost use Rattle.opgen_kinds.specs.Several.{IsAcceptedSeveral};
@@ -7,7 +7,6 @@ ghost use Rattle.opgen_kinds.specs.Taps.{IsAcceptedTaps};
 ghost use Rattle.opgen_operator.specs.Valid.{IsValidSpec};
 ghost use Rattle.opgen_top.specs.AdderGraphs.{IsNetOfConstants, IsNetOfTaps};
 ghost use Rattle.opgen_top.specs.Kinds.{AreAddersOf, AreAddersOfOperator, IsFittingNet, IsNetOfOperator};
-ghost use Rattle.opgen_top.specs.Lines.{period_too_short_line};
 ghost use Rattle.opgen_top.specs.Prepared.{IfRefused, IsCircuitFor, IsListed, OnRefusal, TellsPlanFault};
 ghost use Rattle.opgen_top.specs.Specified.{OnDevices, OnTable};
 ghost use Rattle.opgen_top.specs.Targets.{devices_of};
@@ -23,7 +22,7 @@ use opgen_pipe::{PlanFault, Planned, plan};
 use opgen_saturate::cut_output;
 use opgen_search::Gate;
 use opgen_spec::{Operator, Several, Spec, Taps};
-use std::alloc::{AllocError, Global};
+use std::alloc::Global;
 use std::thread::Threads;
 
 /// The net of a specification, and the numbers of its adder graph, if its kind has one.
@@ -40,7 +39,7 @@ pub(crate) struct Circuit {
     pub adders: Vec<u32>,
 }
 
-/// A net with no shared numbers.
+// A net with no shared numbers.
 fn without_adders(alloc: Global, built: Result<Net, Memory>) -> Result<KindNet, Memory>
     ensures net { IfOk result (λ made. built ≡ Ok made.net) }
     ensures adders { IfOk result (λ made. made.adders.items ≡ []) }
@@ -52,7 +51,7 @@ fn without_adders(alloc: Global, built: Result<Net, Memory>) -> Result<KindNet, 
     })
 }
 
-/// The net of several constants, by their adder graph.
+// The net of several constants, by their adder graph.
 fn build_several<R: Threads + Sync, G: Gate + Sync>(
     rt: &R,
     alloc: Global,
@@ -74,7 +73,7 @@ fn build_several<R: Threads + Sync, G: Gate + Sync>(
     })
 }
 
-/// The net of a transposed filter, by the adder graph of its taps.
+// The net of a transposed filter, by the adder graph of its taps.
 fn build_transposed<R: Threads + Sync, G: Gate + Sync>(
     rt: &R,
     alloc: Global,
@@ -96,7 +95,7 @@ fn build_transposed<R: Threads + Sync, G: Gate + Sync>(
     })
 }
 
-/// The net of an operator, by its kind. A least set of adders is sought by so many workers.
+// The net of an operator, by its kind. A least set of adders is sought by so many workers.
 fn build_operator<R: Threads + Sync, G: Gate + Sync>(
     rt: &R,
     alloc: Global,
@@ -124,7 +123,7 @@ fn build_operator<R: Threads + Sync, G: Gate + Sync>(
     }
 }
 
-/// The net of a specification: that of its operator, with the output of the width that is chosen.
+// The net of a specification: that of its operator, with the output of the width that is chosen.
 fn build_net<R: Threads + Sync, G: Gate + Sync>(
     rt: &R,
     alloc: Global,
@@ -142,21 +141,12 @@ fn build_net<R: Threads + Sync, G: Gate + Sync>(
     Ok(made)
 }
 
-fn too_short_line(alloc: Global, need: u64) -> Result<String, AllocError>
-    ensures { IfOk result (λ line. string_bytes line ≡ period_too_short_line need) }
-{
-    format!(in alloc; "specification: PeriodTooShort {need}\n")
-}
-
-/// The refusal of a specification whose net has no plan.
-fn refuse_plan(alloc: Global, fault: PlanFault) -> Refusal
+// The refusal of a specification whose net has no plan.
+fn refuse_plan(fault: PlanFault) -> Refusal
     ensures { OnRefusal result (TellsPlanFault fault) }
 {
     match fault {
-        PlanFault::PeriodTooShort { need } => match too_short_line(alloc, need) {
-            Ok(line) => Refusal::Line(Line::Refused(line)),
-            Err(_) => Refusal::Memory,
-        },
+        PlanFault::PeriodTooShort { need } => Refusal::Line(Line::PeriodTooShort { need }),
         PlanFault::TooLarge => Refusal::Line(Line::TooLarge),
         PlanFault::Memory => Refusal::Memory,
     }
@@ -190,6 +180,6 @@ pub(crate) fn make_circuit<R: Threads + Sync, G: Gate + Sync>(
             planned,
             adders: built.adders,
         }),
-        Err(fault) => Err(refuse_plan(alloc, fault)),
+        Err(fault) => Err(refuse_plan(fault)),
     }
 }

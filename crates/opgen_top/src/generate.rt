@@ -1,19 +1,17 @@
 //! The command `generate`: from a specification to the VHDL of its circuit and a report.
 ghost use Rattle.std.specs.Prelude.{◌≡◌, ◌≤◌, IfOk, Some, string_bytes};
 ghost use Rattle.opgen_command.specs.declared.command.Command.TheVariants.{Generate};
-ghost use Rattle.opgen_report.specs.Report.{report};
 ghost use Rattle.opgen_operator.specs.Valid.{IsValidSpec};
-ghost use Rattle.opgen_vhdl.specs.DesignText.{text_of};
-ghost use Rattle.opgen_top.specs.Answer.{report_name, vhdl_name, wrote};
-ghost use Rattle.opgen_top.specs.Lines.{wrote_line};
+ghost use Rattle.opgen_top.specs.Lines.{report_name, vhdl_name};
 ghost use Rattle.opgen_top.specs.Prepared.{reads_of, IsListed, IsPrepared, OnAnswer};
-ghost use Rattle.opgen_top.specs.Specified.{IsAnswerToSpec, IsGenerated, OnDevices, OnTable};
+ghost use Rattle.opgen_top.specs.Specified.{wrote, IsAnswerToSpec, IsGenerated, OnDevices, OnTable};
 ghost use Rattle.opgen_top.specs.Targets.{devices_of};
 
 use crate::answer::{Answer, NewFile, Refusal, with_files};
 use crate::circuit::{Circuit, make_circuit};
 use crate::context::Context;
 use crate::fetch::{MAX_SPEC_LEN, fetch};
+use crate::line::Line;
 use crate::read::read_specification;
 use opgen_io::Folder;
 use opgen_report::report_text;
@@ -42,7 +40,7 @@ pub(crate) fn generate<R: Threads + Sync, F: Folder, G: Gate + Sync>(
     generate_document(&document, workers, enable, context)
 }
 
-/// Reads a specification, makes its circuit, and answers with the VHDL and the report.
+// Reads a specification, makes its circuit, and answers with the VHDL and the report.
 fn generate_document<R: Threads + Sync, G: Gate + Sync>(
     document: &[u8],
     workers: u32,
@@ -58,7 +56,7 @@ fn generate_document<R: Threads + Sync, G: Gate + Sync>(
     generate_circuit(&spec, workers, enable, context)
 }
 
-/// Makes the circuit of a specification, and answers with the VHDL and the report.
+// Makes the circuit of a specification, and answers with the VHDL and the report.
 fn generate_circuit<R: Threads + Sync, G: Gate + Sync>(
     spec: &Spec,
     workers: u32,
@@ -76,11 +74,10 @@ fn generate_circuit<R: Threads + Sync, G: Gate + Sync>(
     make_files(alloc, spec, &circuit)
 }
 
-/// The answer that stores the text of a circuit and the report on it.
+// The answer that stores the text of a circuit and the report on it.
 fn make_files(alloc: Global, spec: &Spec, circuit: &Circuit) -> Result<Answer, Refusal>
     requires { IsValidSpec spec.now }
-    ensures { OnAnswer result (λ a. a ≡ wrote spec.now.name circuit.now.planned.latency
-        (text_of circuit.now.planned.design) (report spec.now circuit.now.planned circuit.now.adders.items)) }
+    ensures { OnAnswer result (λ a. a ≡ wrote spec.now circuit.now.planned circuit.now.adders.items) }
 {
     let name = spec.name.as_str();
     let planned = &circuit.planned;
@@ -92,7 +89,10 @@ fn make_files(alloc: Global, spec: &Spec, circuit: &Circuit) -> Result<Answer, R
         name: report_name(alloc, name)?,
         bytes: report_text(alloc, spec, planned, &circuit.adders)?,
     };
-    let line = wrote_line(alloc, name, planned.latency)?;
+    let line = Line::Wrote {
+        name: spec.name.copy(alloc)?,
+        latency: planned.latency,
+    };
     Ok(with_files(alloc, line, vhdl, report)?)
 }
 
@@ -106,14 +106,4 @@ fn report_name(alloc: Global, name: &str) -> Result<String, AllocError>
     ensures { IfOk result (λ file. string_bytes file ≡ report_name name.now) }
 {
     format!(in alloc; "{name}.rpt")
-}
-
-fn wrote_line(alloc: Global, name: &str, latency: u32) -> Result<String, AllocError>
-    ensures { IfOk result (λ line. string_bytes line ≡ wrote_line name.now latency) }
-{
-    let mut line = String::new(alloc);
-    write!(line, "wrote {name}.vhd and ")?;
-    write!(line, "{name}.rpt, latency ")?;
-    writeln!(line, "{latency}")?;
-    Ok(line)
 }

@@ -5,10 +5,12 @@ ghost use Rattle.opgen_io.specs.Bytes.{TakesPrefix};
 ghost use Rattle.opgen_io.specs.Counts.{next_count, Rose, Stood};
 ghost use Rattle.opgen_io.specs.Files.{Files};
 ghost use Rattle.opgen_command.specs.Command.{command_of};
+ghost use Rattle.opgen_top.specs.Answer.{refusal};
 ghost use Rattle.opgen_top.specs.Due.{IsAnswered};
 ghost use Rattle.opgen_top.specs.Headline.{Headline};
 ghost use Rattle.opgen_top.specs.Left.{LeftByFault, LeftByMemory};
-ghost use Rattle.opgen_top.specs.Prepared.{answer_of, line_status, line_text, reads_of, refusal_of, IsAnswerOrLine, IsPrepared};
+ghost use Rattle.opgen_top.specs.Lines.{line_status};
+ghost use Rattle.opgen_top.specs.Prepared.{answer_of, reads_of, IsAnswerOrLine, IsPrepared};
 ghost use Rattle.opgen_top.specs.Printed.{IsOnePut, IsPrinted};
 ghost use Rattle.opgen_top.specs.Statuses.{IsDueStatus, IsSilent, IsStatus, Refuses, TellsOr};
 ghost use Rattle.opgen_top.specs.Targets.{devices_of};
@@ -125,14 +127,19 @@ pub fn run<R: Threads + Sync, F: Folder, K: Sink, G: Gate + Sync>(
         Ok(answer) => answer,
         Err(_) => return Status::OUT_OF_MEMORY,
     };
+    // The text is made before anything is stored: where memory runs out here, nothing has changed.
+    let text = match answer.line.text(alloc) {
+        Ok(text) => text,
+        Err(_) => return Status::OUT_OF_MEMORY,
+    };
     match store_all(&answer.stores, folder) {
-        Ok(()) => print_line(&answer.line, out),
+        Ok(()) => print_line(&answer.line, text.as_str(), out),
         Err(StoreFault::Failed) => Status::WRITE_FAULT,
         Err(StoreFault::Memory) => Status::OUT_OF_MEMORY,
     }
 }
 
-/// The answer to the words, before anything is stored. The folder's files stay as they are.
+// The answer to the words, before anything is stored. The folder's files stay as they are.
 fn answer_words<R: Threads + Sync, F: Folder, G: Gate + Sync>(
     words: &[String],
     folder: &mut F,
@@ -141,7 +148,7 @@ fn answer_words<R: Threads + Sync, F: Folder, G: Gate + Sync>(
     ensures told_same { F.told folder.new ≡ F.told folder.old }
     ensures write_faults_same { F.write_faults folder.new ≡ F.write_faults folder.old }
     ensures usage_due { command_of (map string_bytes words.now) ≡ None →
-        IfOk result (λ a. answer_of a ≡ refusal_of Line.Usage) }
+        IfOk result (λ a. answer_of a ≡ refusal Line.Usage) }
     ensures prepared { IfOk result (λ a. IsPrepared (command_of (map string_bytes words.now))
         (devices_of target_name delays adjustable context.entry.targets.items) (F.told folder.old)
         (reads_of F.read_faults F.lacks F.longs folder.old) (reads_of F.read_faults F.lacks F.longs folder.new)
@@ -155,7 +162,7 @@ fn answer_words<R: Threads + Sync, F: Folder, G: Gate + Sync>(
     }
 }
 
-/// The answer of a command; of a refusal, the line that says so.
+// The answer of a command; of a refusal, the line that says so.
 fn with_refusal(alloc: Global, answered: Result<Answer, Refusal>) -> Result<Answer, Memory>
     ensures { IfOk result (λ a. IsAnswerOrLine answered (answer_of a)) }
 {
@@ -166,19 +173,19 @@ fn with_refusal(alloc: Global, answered: Result<Answer, Refusal>) -> Result<Answ
     }
 }
 
-/// Prints the line, and returns the status that comes with it; where the line is refused, 4 or 5.
-fn print_line<K: Sink>(line: &Line, out: &mut K) -> Status
+// Prints the text of a line, and returns the status that comes with it; where the text is refused, 4 or 5.
+fn print_line<K: Sink>(line: &Line, text: &str, out: &mut K) -> Status
     ensures status { TellsOr (line_status line.now) (K.faults out.old) (K.faults out.new) result.0 }
     ensures listed { IsStatus result.0 }
     ensures taken { (held : List ℕ) → K.taken out.old ≡ Some held →
-        IsSilent result.0 ⊎ (K.taken out.new ≡ Some (held ++ line_text line.now)) }
-    ensures part { result.0 ≡ 4 → TakesPrefix (K.taken out.old) (line_text line.now) (K.taken out.new) }
+        IsSilent result.0 ⊎ (K.taken out.new ≡ Some (held ++ text.now)) }
+    ensures part { result.0 ≡ 4 → TakesPrefix (K.taken out.old) text.now (K.taken out.new) }
     ensures silent { Stood (K.faults out.old) (K.faults out.new) → (result.0 ≡ 4 → ⊥) }
     ensures none { result.0 ≡ 5 → K.taken out.new ≡ K.taken out.old }
     ensures tells { is_some (K.taken out.new) ≡ is_some (K.taken out.old) }
     ensures one_put { K.puts out.new ≡ next_count (K.puts out.old) }
 {
-    match out.put(line.as_str().as_bytes()) {
+    match out.put(text.as_bytes()) {
         Ok(()) => line.status(),
         Err(PutFault::Failed) => Status::WRITE_FAULT,
         Err(PutFault::Memory) => Status::OUT_OF_MEMORY,

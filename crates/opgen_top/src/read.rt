@@ -1,7 +1,7 @@
 //! Reads the bytes of a command's files, as a specification, a design or rows, or refuses them.
-ghost use Rattle.std.specs.Prelude.{◌≡◌, ◌≢◌, ◌≤◌, ◌<◌, ◌^◌, All, IfOk, IfErr, Ok, Err, length, string_bytes};
+ghost use Rattle.std.specs.Prelude.{◌≡◌, ◌≢◌, ◌≤◌, ◌<◌, ◌^◌, All, IfOk, IfErr, Ok, Err, length};
 ghost use Rattle.std.specs.Str.Lines.{lines};
-ghost use Rattle.opgen_num.specs.declared.TheConstants.{MAX_WIDTH};
+ghost use Rattle.opgen_num.specs.declared.format.TheConstants.{MAX_WIDTH};
 ghost use Rattle.opgen_design.specs.Run.{input_widths};
 ghost use Rattle.opgen_design.specs.Sound.{HasNumbers, IsSound};
 ghost use Rattle.opgen_operator.specs.Valid.{IsValidSpec};
@@ -9,7 +9,6 @@ ghost use Rattle.opgen_document.specs.Document.{tree};
 ghost use Rattle.opgen_spec.specs.Faults.{read};
 ghost use Rattle.opgen_vec.specs.Reading.{IsReading};
 ghost use Rattle.opgen_top.specs.Due.{most_simulated_bytes};
-ghost use Rattle.opgen_top.specs.Lines.{refused_line, vectors_refused_line, vhdl_refused_line};
 ghost use Rattle.opgen_top.specs.Prepared.{HoldsRows, IfRefused, IsListed};
 ghost use Rattle.opgen_top.specs.Simulate.{GivesDesign, RefusesRows, RefusesVhdl};
 ghost use Rattle.opgen_top.specs.Specified.{OnReading};
@@ -22,13 +21,7 @@ use opgen_read::{ReadFault, read_design};
 use opgen_sim::port_widths;
 use opgen_spec::{Spec, SpecFault, read_spec};
 use opgen_vec::{VecFault, Vectors, read_empty_rows, read_vectors};
-use std::alloc::{AllocError, Global};
-
-fn refused_line(alloc: Global, fault: SpecFault) -> Result<String, AllocError>
-    ensures { IfOk result (λ line. string_bytes line ≡ refused_line fault) }
-{
-    format!(in alloc; "specification: {fault}\n")
-}
+use std::alloc::Global;
 
 /// The specification that the bytes give, where it has no fault.
 pub(crate) fn read_specification(alloc: Global, bytes: &[u8]) -> Result<Spec, Refusal>
@@ -40,14 +33,8 @@ pub(crate) fn read_specification(alloc: Global, bytes: &[u8]) -> Result<Spec, Re
     match read_spec(alloc, bytes) {
         Ok(spec) => Ok(spec),
         Err(SpecFault::Memory) => Err(Refusal::Memory),
-        Err(fault) => Err(Refusal::Line(Line::Refused(refused_line(alloc, fault)?))),
+        Err(fault) => Err(Refusal::Line(Line::Refused(fault))),
     }
-}
-
-fn vhdl_refused_line(alloc: Global, fault: ReadFault) -> Result<String, AllocError>
-    ensures { IfOk result (λ line. string_bytes line ≡ vhdl_refused_line fault) }
-{
-    format!(in alloc; "vhdl: {fault}\n")
 }
 
 /// The design that the VHDL spells.
@@ -60,17 +47,11 @@ pub(crate) fn read_vhdl(alloc: Global, bytes: &[u8]) -> Result<Design, Refusal>
     match read_design(alloc, bytes) {
         Ok(design) => Ok(design),
         Err(ReadFault::Memory) => Err(Refusal::Memory),
-        Err(fault) => Err(Refusal::Line(Line::VhdlRefused(vhdl_refused_line(alloc, fault)?))),
+        Err(fault) => Err(Refusal::Line(Line::VhdlRefused(fault))),
     }
 }
 
-fn vectors_refused_line(alloc: Global, fault: VecFault) -> Result<String, AllocError>
-    ensures { IfOk result (λ line. string_bytes line ≡ vectors_refused_line fault) }
-{
-    format!(in alloc; "vectors: {fault}\n")
-}
-
-/// The rows of a file of vectors; without widths each line is empty.
+// The rows of a file of vectors; without widths each line is empty.
 fn rows_of_lines(alloc: Global, bytes: &[u8], widths: &[u32]) -> Result<Rows, VecFault>
     requires few { length widths.now < 2 ^ 32 }
     requires narrow { All (λ width. width ≤ MAX_WIDTH) widths.now }
@@ -93,7 +74,7 @@ fn rows_of_lines(alloc: Global, bytes: &[u8], widths: &[u32]) -> Result<Rows, Ve
     })
 }
 
-/// The rows that the vectors hold for inputs of these widths.
+// The rows that the vectors hold for inputs of these widths.
 fn read_rows(alloc: Global, bytes: &[u8], widths: &[u32]) -> Result<Rows, Refusal>
     requires few { length widths.now < 2 ^ 32 }
     requires narrow { All (λ width. width ≤ MAX_WIDTH) widths.now }
@@ -103,7 +84,7 @@ fn read_rows(alloc: Global, bytes: &[u8], widths: &[u32]) -> Result<Rows, Refusa
     match rows_of_lines(alloc, bytes, widths) {
         Ok(rows) => Ok(rows),
         Err(VecFault::Memory) => Err(Refusal::Memory),
-        Err(fault) => Err(Refusal::Line(Line::VectorsRefused(vectors_refused_line(alloc, fault)?))),
+        Err(fault) => Err(Refusal::Line(Line::VectorsRefused(fault))),
     }
 }
 

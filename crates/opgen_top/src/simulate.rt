@@ -1,23 +1,23 @@
 //! The command `simulate`: from VHDL and vectors to the rows of the design's run.
-ghost use Rattle.std.specs.Prelude.{◌≡◌, ◌≤◌, ◌<◌, IfOk, List, Some, length, string_bytes};
+ghost use Rattle.std.specs.Prelude.{◌≡◌, ◌≤◌, ◌<◌, IfOk, List, Some, length};
 ghost use Rattle.opgen_num.specs.Words.{AreRowsOfCells};
 ghost use Rattle.opgen_command.specs.declared.command.Command.TheVariants.{Simulate};
 ghost use Rattle.opgen_design.specs.Run.{input_widths};
 ghost use Rattle.opgen_design.specs.Sound.{IsSound};
 ghost use Rattle.opgen_top.specs.Due.{most_simulated_bytes};
-ghost use Rattle.opgen_top.specs.Lines.{simulated_line};
 ghost use Rattle.opgen_top.specs.Prepared.{answer_of, reads_of, HasSimulated, IsListed, IsPrepared, OnAnswer};
 ghost use Rattle.opgen_top.specs.Simulate.{IsSimulated};
 ghost use Rattle.opgen_top.specs.Targets.{Device};
 
 use crate::answer::{Answer, Refusal, with_file};
 use crate::fetch::{MAX_SIMULATED_LEN, fetch};
+use crate::line::Line;
 use crate::read::{read_inputs, read_vhdl};
 use crate::rows::{Rows, run_text};
 use opgen_design::Design;
 use opgen_io::Folder;
 use opgen_num::Memory;
-use std::alloc::{AllocError, Global};
+use std::alloc::Global;
 
 /// Fetches VHDL and vectors, and answers with the rows of the run, to be stored under `out`.
 pub(crate) fn simulate<F: Folder>(
@@ -38,7 +38,7 @@ pub(crate) fn simulate<F: Folder>(
     run_vhdl(alloc, &text, &rows, out)
 }
 
-/// Reads VHDL and vectors, and answers with the rows of the run.
+// Reads VHDL and vectors, and answers with the rows of the run.
 fn run_vhdl(alloc: Global, vhdl: &[u8], vectors: &[u8], out: &str) -> Result<Answer, Refusal>
     requires { length vhdl.now ≤ most_simulated_bytes }
     ensures answer { OnAnswer result (IsSimulated out.now vhdl.now vectors.now) }
@@ -49,7 +49,7 @@ fn run_vhdl(alloc: Global, vhdl: &[u8], vectors: &[u8], out: &str) -> Result<Ans
     Ok(store_run(alloc, design, &rows, out)?)
 }
 
-/// The answer that stores the rows of a design's run under `out`.
+// The answer that stores the rows of a design's run under `out`.
 fn store_run(alloc: Global, design: Design, rows: &Rows, out: &str) -> Result<Answer, Memory>
     requires sound { IsSound design }
     requires some_port { 0 < length design.ports }
@@ -58,12 +58,6 @@ fn store_run(alloc: Global, design: Design, rows: &Rows, out: &str) -> Result<An
     ensures { IfOk result (λ a. HasSimulated out.now design rows.now.count rows.now.inputs.cells.items (answer_of a)) }
 {
     let text = run_text(alloc, design, rows)?;
-    let line = simulated_line(alloc, rows.count)?;
+    let line = Line::Simulated { rows: rows.count };
     Ok(with_file(alloc, line, String::from_str(alloc, out)?, text)?)
-}
-
-fn simulated_line(alloc: Global, rows: u32) -> Result<String, AllocError>
-    ensures { IfOk result (λ line. string_bytes line ≡ simulated_line rows) }
-{
-    format!(in alloc; "simulated {rows} cycles\n")
 }

@@ -18,7 +18,7 @@ fn has_name(target: &Box<dyn Target>, name: &str) -> bool
     target.name() == name
 }
 
-/// The first target of a name. The others are dropped.
+// The first target of a name. The others are dropped.
 fn first_of_name(mut targets: Vec<Box<dyn Target>>, name: &str) -> Option<Box<dyn Target>>
     ensures { result ≡ find (λ t. bytes_eq (target_name t) name.now) targets.items }
 {
@@ -31,7 +31,7 @@ fn first_of_name(mut targets: Vec<Box<dyn Target>>, name: &str) -> Option<Box<dy
     None
 }
 
-/// Changes the table of a target by a delay line, and says whether it took it.
+// Changes the table of a target by a delay line, and says whether it took it.
 fn takes(target: &mut Box<dyn Target>, line: DelayLine) -> bool
     requires { IsDelayLine line }
     ensures takes { result ≡ adjustable target.old }
@@ -41,7 +41,7 @@ fn takes(target: &mut Box<dyn Target>, line: DelayLine) -> bool
     target.retune(line.class, line.base, line.per_bit)
 }
 
-/// Changes the table of a target by delay lines, in order, and says whether it took them.
+// Changes the table of a target by delay lines, in order, and says whether it took them.
 fn takes_all(target: &mut Box<dyn Target>, lines: &[DelayLine]) -> bool
     requires { All IsDelayLine lines.now }
     ensures takes { result ≡ takes_lines (adjustable target.old) lines.now }

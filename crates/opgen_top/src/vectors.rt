@@ -4,9 +4,8 @@ ghost use Rattle.opgen_command.specs.declared.command.Command.TheVariants.{Vecto
 ghost use Rattle.opgen_design.specs.Sound.{IsSound};
 ghost use Rattle.opgen_operator.specs.Valid.{IsValidSpec};
 ghost use Rattle.opgen_vec.specs.Stimulus.{stimulus_cells};
-ghost use Rattle.opgen_top.specs.Answer.{vectors_name};
-ghost use Rattle.opgen_top.specs.Serves.{ports_for};
-ghost use Rattle.opgen_top.specs.Lines.{wrote_vectors_line};
+ghost use Rattle.opgen_operator.specs.Serves.{ports_for};
+ghost use Rattle.opgen_top.specs.Lines.{vectors_name};
 ghost use Rattle.opgen_top.specs.Prepared.{reads_of, HasRows, IsListed, IsPrepared, OnAnswer};
 ghost use Rattle.opgen_top.specs.Running.{IsRunText};
 ghost use Rattle.opgen_top.specs.Specified.{IsAnswerToSpec, IsVectors, OnDevices, OnTable};
@@ -16,6 +15,7 @@ use crate::answer::{Answer, Refusal, with_file};
 use crate::circuit::make_circuit;
 use crate::context::Context;
 use crate::fetch::{MAX_SPEC_LEN, fetch};
+use crate::line::Line;
 use crate::read::read_specification;
 use crate::rows::{Rows, run_text};
 use opgen_design::Design;
@@ -45,7 +45,7 @@ pub(crate) fn make_vectors<R: Threads + Sync, F: Folder, G: Gate + Sync>(
     run_document(&document, seed, cycles, context)
 }
 
-/// Reads a specification, makes its circuit, and answers with the rows of its run over drawn inputs.
+// Reads a specification, makes its circuit, and answers with the rows of its run over drawn inputs.
 fn run_document<R: Threads + Sync, G: Gate + Sync>(
     document: &[u8],
     seed: u32,
@@ -60,7 +60,7 @@ fn run_document<R: Threads + Sync, G: Gate + Sync>(
     run_circuit(&spec, seed, cycles, context)
 }
 
-/// Makes the circuit of a specification, and answers with the rows of its run over drawn inputs.
+// Makes the circuit of a specification, and answers with the rows of its run over drawn inputs.
 fn run_circuit<R: Threads + Sync, G: Gate + Sync>(
     spec: &Spec,
     seed: u32,
@@ -77,7 +77,7 @@ fn run_circuit<R: Threads + Sync, G: Gate + Sync>(
     run_stimulus(alloc, spec, circuit.planned.design, seed, cycles)
 }
 
-/// The answer that stores the rows of a design over the stimulus of its specification.
+// The answer that stores the rows of a design over the stimulus of its specification.
 fn run_stimulus(
     alloc: Global,
     spec: &Spec,
@@ -91,12 +91,15 @@ fn run_stimulus(
     ensures { OnAnswer result (HasRows spec.now design seed cycles) }
 {
     let text = stimulus_text(alloc, spec, design, seed, cycles)?;
-    let name = spec.name.as_str();
-    let line = wrote_vectors_line(alloc, name, cycles)?;
-    Ok(with_file(alloc, line, vectors_name(alloc, name)?, text)?)
+    let line = Line::WroteVectors {
+        name: spec.name.copy(alloc)?,
+        cycles,
+    };
+    let name = vectors_name(alloc, spec.name.as_str())?;
+    Ok(with_file(alloc, line, name, text)?)
 }
 
-/// The text of the run of a design over the stimulus of its specification.
+// The text of the run of a design over the stimulus of its specification.
 fn stimulus_text(
     alloc: Global,
     spec: &Spec,
@@ -120,13 +123,4 @@ fn vectors_name(alloc: Global, name: &str) -> Result<String, AllocError>
     ensures { IfOk result (λ file. string_bytes file ≡ vectors_name name.now) }
 {
     format!(in alloc; "{name}.vec")
-}
-
-fn wrote_vectors_line(alloc: Global, name: &str, cycles: u32) -> Result<String, AllocError>
-    ensures { IfOk result (λ line. string_bytes line ≡ wrote_vectors_line name.now cycles) }
-{
-    let mut line = String::new(alloc);
-    write!(line, "wrote {name}.vec, ")?;
-    writeln!(line, "{cycles} cycles")?;
-    Ok(line)
 }

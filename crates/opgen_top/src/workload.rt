@@ -1,10 +1,9 @@
 //! The command `workload`: plans and runs a filter that is made from a number.
-ghost use Rattle.std.specs.Prelude.{◌≡◌, ◌≤◌, false, IfOk, string_bytes};
+ghost use Rattle.std.specs.Prelude.{◌≡◌, ◌≤◌, false};
 ghost use Rattle.opgen_design.specs.Sound.{IsSound};
 ghost use Rattle.opgen_operator.specs.Valid.{IsValidSpec};
 ghost use Rattle.opgen_workload.specs.Filter.{workload_spec};
-ghost use Rattle.opgen_top.specs.Serves.{ports_for};
-ghost use Rattle.opgen_top.specs.Lines.{worked_line};
+ghost use Rattle.opgen_operator.specs.Serves.{ports_for};
 ghost use Rattle.opgen_top.specs.Prepared.{HasWorked, IsListed, OnAnswer};
 ghost use Rattle.opgen_top.specs.Targets.{devices_of};
 ghost use Rattle.opgen_top.specs.Workload.{IsAnswerToWorkload};
@@ -19,7 +18,7 @@ use opgen_sim::run_rows;
 use opgen_spec::Spec;
 use opgen_vec::stimulus;
 use opgen_workload::{good_cycles, workload_spec};
-use std::alloc::{AllocError, Global};
+use std::alloc::Global;
 use std::thread::Threads;
 
 /// How many cycles the filter runs.
@@ -38,7 +37,7 @@ pub(crate) fn run_workload<R: Threads + Sync, G: Gate + Sync>(
     make_filter(n, &spec, context)
 }
 
-/// Makes the circuit of the filter, and answers with the line on its run.
+// Makes the circuit of the filter, and answers with the line on its run.
 fn make_filter<R: Threads + Sync, G: Gate + Sync>(
     n: u32,
     spec: &Spec,
@@ -54,7 +53,7 @@ fn make_filter<R: Threads + Sync, G: Gate + Sync>(
     run_filter(alloc, n, spec, circuit.planned)
 }
 
-/// How many cycles of the filter's run over its stimulus are good, in a line with its size.
+// How many cycles of the filter's run over its stimulus are good, in a line with its size.
 fn run_filter(alloc: Global, n: u32, spec: &Spec, planned: Planned) -> Result<Answer, Refusal>
     requires filter { spec.now ≡ workload_spec n }
     requires valid { IsValidSpec spec.now }
@@ -66,23 +65,11 @@ fn run_filter(alloc: Global, n: u32, spec: &Spec, planned: Planned) -> Result<An
     let signals = planned.design.signals.len();
     let outputs = run_rows(alloc, planned.design, CYCLES, &inputs.cells)?;
     let good = good_cycles(spec, &inputs.cells, &outputs, planned.latency);
-    let line = worked_line(alloc, n, signals, planned.latency, good)?;
-    Ok(without_file(alloc, Line::Wrote(line)))
-}
-
-fn worked_line(
-    alloc: Global,
-    n: u32,
-    signals: usize,
-    latency: u32,
-    good: u32,
-) -> Result<String, AllocError>
-    ensures { IfOk result (λ line. string_bytes line ≡ worked_line n signals latency good) }
-{
-    let mut line = String::new(alloc);
-    write!(line, "workload {n} signals ")?;
-    write!(line, "{signals} latency ")?;
-    write!(line, "{latency} good ")?;
-    writeln!(line, "{good}")?;
-    Ok(line)
+    let line = Line::Worked {
+        n,
+        signals,
+        latency: planned.latency,
+        good,
+    };
+    Ok(without_file(alloc, line))
 }

@@ -1,4 +1,5 @@
--- What a file of vectors holds: a row a line. Lines end by a line feed, which may follow a carriage return; the last line may have none.
+-- What a file of vectors holds: a row a line. Lines end by a line feed, which may follow a carriage return; the last line may
+-- have none.
 use Rattle.std.specs.Prelude.{ℕ, ◌≡◌, ◌-◌, ◌≤◌, ◌<◌, List, [], ◌∷◌, length, take, drop, slice_get, IsSomeAnd, Result, Ok, Err}
 use Rattle.std.specs.Str.{str_to_ascii_lowercase}
 use Rattle.opgen_num.specs.Words.{FitWidths}
@@ -50,4 +51,5 @@ IsReading widths lines (Err faults.Memory) = ⊥
 
 -- lines are rows of one list of cells, or have one fault
 abbrev pub HasOneReading : Type 0
-HasOneReading = (widths : List ℕ) (lines : List (List ℕ)) (a b : Result (List ℕ) VecFault) → IsReading widths lines a → IsReading widths lines b → a ≡ b
+HasOneReading = (widths : List ℕ) (lines : List (List ℕ)) (a b : Result (List ℕ) VecFault)
+    → IsReading widths lines a → IsReading widths lines b → a ≡ b

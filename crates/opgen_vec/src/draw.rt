@@ -30,7 +30,7 @@ pub fn drawn(width: u32, state: u64) -> u64
     (state as u128 >> 64u32.saturating_sub(width)) as u64
 }
 
-/// What a port is given of a state: what is drawn, but 1 for a divisor of 0.
+// What a port is given of a state: what is drawn, but 1 for a divisor of 0.
 fn given(divides: bool, port: &PortFormat, state: u64) -> u64
     ensures { result ≡ given divides port.now state }
 {
@@ -47,7 +47,7 @@ fn divides(divisor: Option<usize>, place: usize) -> bool
     }
 }
 
-/// Draws a word for each port, in order, and gives the last state.
+// Draws a word for each port, in order, and gives the last state.
 fn draw_row(
     divisor: Option<usize>,
     ports: &[PortFormat],

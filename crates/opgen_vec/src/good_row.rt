@@ -1,7 +1,7 @@
 //! A row of outputs, judged by the definition of good outputs.
 ghost use Rattle.std.specs.Prelude.{◌↔◌, IsTrue};
 ghost use Rattle.opgen_operator.specs.Outputs.{inputs_of, outputs_of};
-ghost use Rattle.opgen_ports.specs.PortNumbers.{IsCycle, IsHistory};
+ghost use Rattle.opgen_ports.specs.Ports.{IsCycle, IsHistory};
 ghost use Rattle.opgen_operator.specs.Valid.{IsValidSpec};
 ghost use Rattle.opgen_vec.specs.GoodRow.{IsGoodRow};
 

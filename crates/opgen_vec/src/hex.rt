@@ -1,7 +1,7 @@
 //! Words in hexadecimal.
 ghost use Rattle.std.specs.Prelude.{◌≡◌, ◌/◌, ◌%◌, ◌++◌, ◌≤◌, ◌<◌, ◌^◌, ◌*◌, ◌+◌, length, vec_len, vec_capacity, IfSome};
 ghost use Rattle.std.specs.Char.{digit_char};
-ghost use Rattle.opgen_num.specs.declared.TheConstants.{MAX_WIDTH};
+ghost use Rattle.opgen_num.specs.declared.format.TheConstants.{MAX_WIDTH};
 ghost use Rattle.opgen_vec.specs.Rows.{digit_count, word_text};
 ghost use Rattle.opgen_vec.specs.Digits.{hex_value, word_at};
 

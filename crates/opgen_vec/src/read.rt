@@ -2,7 +2,7 @@
 ghost use Rattle.std.specs.Prelude.{◌≡◌, ◌≤◌, ◌<◌, ◌^◌, ℕ, [], All, length, IfOk, Err};
 ghost use Rattle.std.specs.Str.Lines.{lines};
 ghost use Rattle.opgen_num.specs.Words.{AreRowsOfCells};
-ghost use Rattle.opgen_num.specs.declared.TheConstants.{MAX_WIDTH};
+ghost use Rattle.opgen_num.specs.declared.format.TheConstants.{MAX_WIDTH};
 ghost use Rattle.opgen_vec.specs.Writing.{row_count};
 ghost use Rattle.opgen_vec.specs.Reading.{AreVectors, IsFirstBadLine, AreTooMany};
 

@@ -6,10 +6,9 @@ use Rattle.std.proofs.lemmas.Bool.{cases_Bool, cases_lt, and_parts, false≢true
 use Rattle.std.proofs.lemmas.Bool.Decides.{nat_tests}
 use Rattle.std.proofs.lemmas.List.Sums.{AllPass-from_list_all, list_all-from_AllPass, prefix_len-le-length}
 use Rattle.std.proofs.Math.Seq.{take-append_seam, drop-append_seam}
-use Rattle.opgen_num.specs.declared.TheConstants.{MAX_WIDTH}
-use Rattle.opgen_vhdl.specs.Bytes.{is_white, is_word_byte, is_in_line, is_bit, is_hyphen, is_equals, is_greater, is_quote, has_single_underscores, begins}
+use Rattle.opgen_num.specs.declared.format.TheConstants.{MAX_WIDTH}
+use Rattle.opgen_vhdl.specs.Tokens.{is_white, is_word_byte, is_in_line, is_bit, is_hyphen, is_equals, is_greater, is_quote, has_single_underscores, begins, Element, gap, token, text_of, Stands, IsToken, IsWord, IsNumber, NothingStarts}
 use Rattle.opgen_vhdl.specs.Fronts.{front_of, word_front, number_front, bits_front, char_front, mark_front, FrontStands}
-use Rattle.opgen_vhdl.specs.Tokens.{Element, gap, token, text_of, Stands, IsToken, IsWord, IsNumber, NothingStarts}
 use Rattle.opgen_vhdl.specs.declared.kind.Front.{Front}
 use Rattle.opgen_vhdl.specs.declared.kind.Front.TheVariants.{Gap, Token}
 use Rattle.opgen_vhdl.specs.declared.kind.TokenKind.{TokenKind}

@@ -5,7 +5,7 @@ use Rattle.std.proofs.lemmas.List.Elements.{All-cons, All-nil}
 use Rattle.std.proofs.Math.Seq.{take-append_seam, drop-append_seam}
 use Rattle.opgen_vhdl.specs.Fronts.{FrontStands}
 use Rattle.opgen_vhdl.specs.Tokens.{Element, gap, token, text_of, IsToken, Cut, size_of, tokens_from, Tokens}
-use Rattle.opgen_vhdl.specs.Spans.{InOrder, IsWithin, spelling_of, IsSpelledIn, spelled, spellings_of}
+use Rattle.opgen_vhdl.specs.Symbols.{InOrder, IsWithin, spelling_of, IsSpelledIn, spelled, spellings_of}
 use Rattle.opgen_vhdl.specs.declared.kind.TokenKind.{TokenKind}
 use Rattle.opgen_vhdl.specs.declared.kind.Token.{Token}
 use Rattle.opgen_vhdl.proofs.FrontLemmas.{front-of_element, front_stands}

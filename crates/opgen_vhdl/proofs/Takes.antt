@@ -14,7 +14,7 @@ use Rattle.opgen_design.specs.Tree.{Tree}
 use Rattle.opgen_vhdl.specs.Symbols.{Symbol, word, number, string, mark}
 use Rattle.opgen_vhdl.specs.Grammar.{Names, place_of, IsName, IsIndex, value, max_depth, IsSignalPart, whole, slice, IsPrimary, signal as signal_part, literal, input, group, IsFactor, plain, opposite, IsExpression, single, several}
 use Rattle.opgen_vhdl.specs.Statements.{Reading, scope, with_entity, with_port, with_signal, with_driver, with_enable, with_name, with_architecture, direction, range_to_zero, end_of_piece, IsPort, port_line, IsEnd, bare, of_unit, named, of_unit_named, IsInitial, absent, written, zeros, AreRows, others, row, IsConcurrent, assignment, output, choice as conditional, table, IsClocked, clocked, IsEnable, always, enabled, at_edge, end_of_if, Takes, library_clause, use_logic, use_numeric, entity, port, last_port, end_entity, architecture, signal, begin, statement, process, process_is, register, end_if, end_enabled, end_edge, end_process, later_statement, end_without_process, end_after_process}
-use Rattle.opgen_design.specs.Enabled.{is_one}
+use Rattle.opgen_design.specs.Run.{is_one}
 use Rattle.opgen_vhdl.specs.Reader.{◌>>=◌, and_then, choice, eat, op_at, end_at, width_at, direction_at, clock, clock_port, entity_at, port_at, own_name_at, unit_end_at, heading_at, others_zero, initial_value_at, initial_at, signal_at, row_at, other_at, rows_at, table_at, high_at, choice_at, valued_at, output_at, target_at, assignment_at, concurrent_at, clocked_at, edge_at, process_at, port_high_at, enable_at, statement_at, opening_at, body_at, declarations_at, behind_if, clocked_body_at, use_clause, ports_at, takes_at}
 use Rattle.opgen_vhdl.proofs.Steps.{bind_then, choice_then, some_is, found, found_is, if_some, eat_some, eat_all_some, end_some, phrase_some, name_some, index_then, string_some, name-reads, index-reads, eat-word, no_keyword, refused-end, refused-if, refused-with, refused-vector, refused-process, refused-entity, refused-architecture}
 use Rattle.opgen_vhdl.proofs.Expressions.{closes, part-reads, expression-reads, part_some, expression-is}

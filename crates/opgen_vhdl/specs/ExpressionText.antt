@@ -5,7 +5,7 @@ use Rattle.opgen_design.specs.declared.design.Design.{Design}
 use Rattle.opgen_design.specs.declared.expr.Op.{Op}
 use Rattle.opgen_design.specs.declared.expr.Op.TheVariants.{And, Or, Xor, Cat, Plus, Minus}
 use Rattle.opgen_design.specs.Tree.{Tree, Trees, name, part, bits, port, inverse, chain, none, more}
-use Rattle.opgen_design.specs.Width.{in_chain, in_not}
+use Rattle.opgen_design.specs.Value.{in_chain, in_not}
 
 -- the name of a signal, and of a port, by its place; no text where there is none
 abbrev pub signal_name : Design → ℕ → List ℕ

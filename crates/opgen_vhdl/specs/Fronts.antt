@@ -2,9 +2,8 @@
 use Rattle.std.specs.Prelude.{ℕ, ◌+◌, ◌==◌, ◌&&◌, ◌≤◌, ◌<◌, not, List, [], ◌∷◌, Option, Some, None, length, take, drop, nat_le, if◌then◌else◌}
 use Rattle.std.specs.Char.{is_ascii_alphabetic, is_ascii_digit}
 use Rattle.std.specs.List.{prefix_len}
-use Rattle.opgen_num.specs.declared.TheConstants.{MAX_WIDTH}
-use Rattle.opgen_vhdl.specs.Bytes.{is_white, is_word_byte, is_in_line, is_bit, is_hyphen, is_equals, is_greater, is_quote, has_single_underscores, begins}
-use Rattle.opgen_vhdl.specs.Tokens.{Element, gap, token, Stands, NothingStarts}
+use Rattle.opgen_num.specs.declared.format.TheConstants.{MAX_WIDTH}
+use Rattle.opgen_vhdl.specs.Tokens.{is_white, is_word_byte, is_in_line, is_bit, is_hyphen, is_equals, is_greater, is_quote, has_single_underscores, begins, Element, gap, token, Stands, NothingStarts}
 use Rattle.opgen_vhdl.specs.declared.kind.TokenKind.TheVariants.{Word, Number, Bits, ZeroChar, LeftParen, RightParen, Semicolon, Colon, Comma, Dot, Ampersand, Plus, Minus, Equal, LessEqual, Arrow, Becomes}
 use Rattle.opgen_vhdl.specs.declared.kind.Front.{Front}
 use Rattle.opgen_vhdl.specs.declared.kind.Front.TheVariants.{Gap, Token}

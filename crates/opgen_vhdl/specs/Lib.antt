@@ -1,9 +1,7 @@
 -- Definitions of opgen_vhdl: tokens, grammar and places of the VHDL subset, the design that a text spells, and the text of a
 -- design.
-pub mod Bytes
 pub mod Tokens
 pub mod Fronts
-pub mod Spans
 pub mod ExpressionText
 pub mod DesignText
 pub mod Shaped

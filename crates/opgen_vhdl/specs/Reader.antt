@@ -2,7 +2,7 @@
 -- opgen_read cite them; the grammar itself is in Grammar and Statements.
 use Rattle.std.specs.Prelude.{ℕ, zero, suc, ◌+◌, Bool, true, false, List, [], ◌∷◌, length, replicate, codes, Option, Some, None, is_some, nat_eq, nat_lt, if◌then◌else◌}
 use Rattle.std.specs.Str.{bytes_eq}
-use Rattle.opgen_num.specs.declared.TheConstants.{MAX_WIDTH}
+use Rattle.opgen_num.specs.declared.format.TheConstants.{MAX_WIDTH}
 use Rattle.opgen_vhdl.specs.declared.kind.TokenKind.{TokenKind}
 use Rattle.opgen_vhdl.specs.declared.kind.TokenKind.TheVariants.{Word, Number, Bits, ZeroChar, LeftParen, RightParen, Semicolon, Colon, Comma, Dot, Ampersand, Plus, Minus, Equal, LessEqual, Arrow, Becomes}
 use Rattle.opgen_vhdl.specs.declared.place.Place.{Place}
@@ -15,7 +15,7 @@ use Rattle.opgen_design.specs.declared.design.Driver.{Driver}
 use Rattle.opgen_design.specs.declared.design.Driver.TheVariants.{Assign, Choice, Table, Register, Output}
 use Rattle.opgen_design.specs.declared.expr.Op.{Op}
 use Rattle.opgen_design.specs.declared.expr.Op.TheVariants as op
-use Rattle.opgen_design.specs.Enabled.{is_one}
+use Rattle.opgen_design.specs.Run.{is_one}
 use Rattle.opgen_names.specs.Names.{is_allowed_name}
 use Rattle.opgen_design.specs.Tree.{Tree, Trees, name, part, bits, port, inverse, chain, none, more}
 use Rattle.opgen_vhdl.specs.Symbols.{Symbol, word, number, string, mark}
@@ -415,7 +415,8 @@ takes_at at.UseLogic r ss = phrase_at (use_clause (codes "std_logic_1164")) ss >
 takes_at at.UseNumeric r ss = phrase_at (use_clause (codes "numeric_std")) ss >>= λ e. Some (at.Entity, r)
 takes_at at.Entity r ss = entity_at ss >>= λ n. Some (at.Ports, with_entity r n)
 takes_at at.Ports r ss = ports_at r ss
-takes_at at.EndEntity r ss = eat (word (codes "end")) ss >>= λ a. unit_end_at (codes "entity") a >>= λ n. Some (at.Architecture, with_name r r.design.name n)
+takes_at at.EndEntity r ss =
+    eat (word (codes "end")) ss >>= λ a. unit_end_at (codes "entity") a >>= λ n. Some (at.Architecture, with_name r r.design.name n)
 takes_at at.Architecture r ss = heading_at ss >>= λ h. declarations_at (with_architecture r h.0.0 h.0.1) h.1
 takes_at at.Declarations r ss = declarations_at r ss
 takes_at at.Body r ss = body_at r ss

@@ -5,7 +5,7 @@ use Rattle.opgen_design.specs.declared.design.Design.{Design}
 use Rattle.opgen_design.specs.declared.design.Driver.{Driver}
 use Rattle.opgen_design.specs.declared.design.Driver.TheVariants.{Assign, Choice, Table, Register, Output}
 use Rattle.opgen_design.specs.Tree.{Tree, Trees, name, part, inverse, chain, none, more}
-use Rattle.opgen_design.specs.Width.{nesting, max_nesting}
+use Rattle.opgen_design.specs.Value.{nesting, max_nesting}
 use Rattle.opgen_design.specs.Sound.{IsSound}
 use Rattle.opgen_design.specs.Order.{is_register}
 use Rattle.opgen_names.specs.Names.{is_allowed_name}

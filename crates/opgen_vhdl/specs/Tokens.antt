@@ -1,12 +1,46 @@
 -- The tokens of a text, as a relation between the whole text and the list (IEEE 1076-1993, clause 13, in part).
-use Rattle.std.specs.Prelude.{◌≡◌, ◌⊎◌, ℕ, ◌+◌, ◌≤◌, ◌<◌, true, false, List, [], ◌∷◌, ◌++◌, length, codes}
+use Rattle.std.specs.Prelude.{◌≡◌, ◌⊎◌, ℕ, ◌+◌, ◌≤◌, ◌<◌, true, false, List, [], ◌∷◌, ◌++◌, length, codes, ◌==◌, ◌||◌, Bool, not}
 use Rattle.std.specs.Char.{is_ascii_alphabetic, is_ascii_digit}
 use Rattle.std.specs.List.{AllPass}
-use Rattle.opgen_num.specs.declared.TheConstants.{MAX_WIDTH}
-use Rattle.opgen_vhdl.specs.Bytes.{is_white, is_word_byte, is_in_line, is_bit, is_hyphen, is_equals, is_greater, has_single_underscores, begins}
+use Rattle.opgen_num.specs.declared.format.TheConstants.{MAX_WIDTH}
 use Rattle.opgen_vhdl.specs.declared.kind.TokenKind.{TokenKind}
 use Rattle.opgen_vhdl.specs.declared.kind.TokenKind.TheVariants.{Word, Number, Bits, ZeroChar, LeftParen, RightParen, Semicolon, Colon, Comma, Dot, Ampersand, Plus, Minus, Equal, LessEqual, Arrow, Becomes}
 use Rattle.opgen_vhdl.specs.declared.kind.Token.{Token}
+pub use Rattle.opgen_names.specs.Names.{is_underscore, ends_with_underscore, has_double_underscore, has_single_underscores}
+
+-- space, tab, carriage return, line feed
+abbrev pub is_white : ℕ → Bool
+is_white b = b == 32 || b == 9 || b == 13 || b == 10
+
+-- a letter of either case, a digit or an underscore
+abbrev pub is_word_byte : ℕ → Bool
+is_word_byte b = is_ascii_alphabetic b || is_ascii_digit b || is_underscore b
+
+-- `0` or `1`
+abbrev pub is_bit : ℕ → Bool
+is_bit b = b == 48 || b == 49
+
+-- not a line feed
+abbrev pub is_in_line : ℕ → Bool
+is_in_line b = not (b == 10)
+
+abbrev pub is_hyphen : ℕ → Bool
+is_hyphen b = b == 45
+
+abbrev pub is_equals : ℕ → Bool
+is_equals b = b == 61
+
+abbrev pub is_greater : ℕ → Bool
+is_greater b = b == 62
+
+-- a double quote
+abbrev pub is_quote : ℕ → Bool
+is_quote b = b == 34
+
+-- whether there is a first byte, and it passes the test
+abbrev pub begins : (ℕ → Bool) → List ℕ → Bool
+begins p [] = false
+begins p (b ∷ _) = p b
 
 -- A word, where the rest follows it: a letter and all the letters, digits and underscores behind it. They are
 -- 64 bytes at most, no underscore is the last of them, and no two stand side by side.

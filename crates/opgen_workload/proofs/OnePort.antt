@@ -3,7 +3,7 @@ use Rattle.std.proofs.Common.{◌≡◌, ℕ, ◌%◌, ◌^◌, ◌<◌, ◌≤�
 use Rattle.std.specs.Prelude.{All}
 use Rattle.std.proofs.lemmas.List.{get_or-take, length-take-le}
 use Rattle.opgen_ports.specs.declared.ports.PortFormat.{PortFormat}
-use Rattle.opgen_ports.specs.PortNumbers.{format_at, IsHistory}
+use Rattle.opgen_ports.specs.Ports.{format_at, IsHistory}
 
 pub one_history : (ports : List PortFormat) (n : ℕ) (words : List ℕ) → length ports ≡ 1 → 0 < n → n ≤ length words
     → All (λ x. x < 2 ^ (format_at ports 0).width) words → IsHistory ports (take n words)

@@ -8,10 +8,9 @@ use Rattle.opgen_names.specs.Names.{refused_words}
 use Rattle.opgen_operator.specs.declared.operator.Operator.TheVariants.{Fir}
 use Rattle.opgen_ports.specs.declared.ports.PortFormat.{PortFormat}
 use Rattle.opgen_kinds.specs.Sum.{sum_need, sum_places, sum_reach, IsSum}
-use Rattle.opgen_kinds.specs.Versions.{AreNear}
+use Rattle.opgen_ports.specs.Ranges.{AreNear, IsNear}
 use Rattle.opgen_operator.specs.GivenNames.{is_port_name}
 use Rattle.opgen_operator.specs.Operator.{IsAcceptedBy}
-use Rattle.opgen_ports.specs.Ranges.{IsNear}
 use Rattle.opgen_ports.specs.Reaches.{rises, falls, width_of}
 use Rattle.opgen_ports.specs.SpecName.{is_spec_name, taken_names}
 use Rattle.opgen_operator.specs.Valid.{IsDelayLine, IsValidSpec}

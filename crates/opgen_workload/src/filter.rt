@@ -15,7 +15,7 @@ fn coefficient(state: u64) -> i64
     drawn(15, state) as i64 - 16384
 }
 
-/// So many coefficients, drawn from a seed.
+// So many coefficients, drawn from a seed.
 fn coefficients(alloc: Global, seed: u32, taps: u32) -> Result<Items<i64>, AllocError>
     ensures { IfOk result (λ coefs. coefs ≡ coefficients taps seed) }
 {

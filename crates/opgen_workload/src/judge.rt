@@ -1,7 +1,7 @@
 //! Counts in how many cycles of a filter's run the output is good.
 ghost use Rattle.std.specs.Prelude.{◌≤◌, ◌<◌, ◌-◌, ◌^◌, All, length};
 ghost use Rattle.opgen_operator.specs.Outputs.{inputs_of, outputs_of};
-ghost use Rattle.opgen_ports.specs.PortNumbers.{format_at};
+ghost use Rattle.opgen_ports.specs.Ports.{format_at};
 ghost use Rattle.opgen_operator.specs.Valid.{IsValidSpec};
 ghost use Rattle.opgen_workload.specs.Judged.{Counts, IsFilter, IsGoodCycle};
 

@@ -1,14 +1,14 @@
 -- The texts of ports and of signals are cut into their declarations.
 use Rattle.std.proofs.Common.{◌≡◌, ℕ, ◌+◌, ◌-◌, ◌<◌, Bool, false, List, [], ◌∷◌, ◌++◌, length, codes, decimal, Option, Some, None, IsTrue, refl, subst, arith, append_assoc, lit<}
 use Rattle.std.proofs.lemmas.Fmt.{decimal_digit}
-use Rattle.opgen_num.specs.declared.TheConstants.{MAX_WIDTH}
+use Rattle.opgen_num.specs.declared.format.TheConstants.{MAX_WIDTH}
 use Rattle.opgen_design.specs.declared.design.Dir.{Dir}
 use Rattle.opgen_design.specs.declared.design.Dir.TheVariants.{In, Out}
 use Rattle.opgen_design.specs.declared.design.Port.{Port}
 use Rattle.opgen_design.specs.declared.design.Signal.{Signal}
 use Rattle.opgen_names.specs.Names.{is_allowed_name}
-use Rattle.opgen_design.specs.Width.{IsWidth}
-use Rattle.opgen_vhdl.specs.Bytes.{is_word_byte, begins}
+use Rattle.opgen_design.specs.Value.{IsWidth}
+use Rattle.opgen_vhdl.specs.Tokens.{is_word_byte, begins}
 use Rattle.opgen_vhdl.specs.Symbols.{Symbol, word, number, string, mark}
 use Rattle.opgen_vhdl.specs.ExpressionText.{word_text, range_text}
 use Rattle.opgen_vhdl.specs.DesignText.{direction_text, port_text, initial_text, signal_text}

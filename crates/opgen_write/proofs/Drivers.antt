@@ -6,7 +6,7 @@ use Rattle.opgen_design.specs.declared.design.Driver.TheVariants.{Assign, Choice
 use Rattle.opgen_design.specs.Order.{is_register}
 use Rattle.opgen_names.specs.Names.{is_allowed_name}
 use Rattle.opgen_design.specs.Tree.{Tree}
-use Rattle.opgen_design.specs.Width.{IsWidth, nesting, max_nesting}
+use Rattle.opgen_design.specs.Value.{IsWidth, nesting, max_nesting}
 use Rattle.opgen_vhdl.specs.Symbols.{Symbol, word, string, mark}
 use Rattle.opgen_vhdl.specs.ExpressionText.{signal_name, port_name, word_text, expression_text}
 use Rattle.opgen_vhdl.specs.DesignText.{row_text, other_text, further_indent, driver_text}

@@ -9,9 +9,9 @@ use Rattle.opgen_design.specs.declared.expr.Op.TheVariants as op
 use Rattle.opgen_names.specs.Names.{is_allowed_name}
 use Rattle.opgen_design.specs.Tree as tree
 use Rattle.opgen_design.specs.Tree.{Tree, Trees}
-use Rattle.opgen_num.specs.declared.TheConstants.{MAX_WIDTH}
-use Rattle.opgen_design.specs.Width.{IsWidth, in_chain, in_not, nesting, operands_nesting}
-use Rattle.opgen_vhdl.specs.Bytes.{is_word_byte, begins}
+use Rattle.opgen_num.specs.declared.format.TheConstants.{MAX_WIDTH}
+use Rattle.opgen_design.specs.Value.{IsWidth, in_chain, in_not, nesting, operands_nesting}
+use Rattle.opgen_vhdl.specs.Tokens.{is_word_byte, begins}
 use Rattle.opgen_vhdl.specs.Symbols.{Symbol, word, number, string, mark, is_semicolon}
 use Rattle.opgen_vhdl.specs.ExpressionText.{signal_name, port_name, word_text, range_text, operator_text, within, expression_text, further_text}
 use Rattle.opgen_vhdl.specs.Shaped.{IsPart, AreTwoOrMore}

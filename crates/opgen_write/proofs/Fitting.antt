@@ -1,13 +1,12 @@
 -- The expressions of a sound, shaped design can be written.
 use Rattle.std.proofs.Common.{◌≡◌, ℕ, ◌+◌, ◌-◌, ◌<◌, ◌≤◌, ◌&&◌, nat_le, nat_lt, if◌then◌else◌, length, slice_get, Some, None, option_and_then, arith}
-use Rattle.opgen_num.specs.declared.TheConstants.{MAX_WIDTH}
+use Rattle.opgen_num.specs.declared.format.TheConstants.{MAX_WIDTH}
 use Rattle.opgen_design.specs.declared.design.Design.{Design}
 use Rattle.opgen_design.specs.declared.expr.Op.{Op}
 use Rattle.opgen_design.specs.Tree as tree
 use Rattle.opgen_design.specs.Tree.{Tree, Trees}
-use Rattle.opgen_design.specs.Reads.{AllReads, AllOperandsRead}
-use Rattle.opgen_design.specs.Width.{as_width, joined, width, chain_width, width_on}
-use Rattle.opgen_design.specs.Sound.{signal_widths, port_widths}
+use Rattle.opgen_design.specs.Sound.{AllReads, AllOperandsRead, signal_widths, port_widths}
+use Rattle.opgen_design.specs.Value.{as_width, joined, width, chain_width, width_on}
 use Rattle.opgen_design.proofs.WidthLaws.{some_before, as_width-some, part_fits}
 use Rattle.opgen_vhdl.specs.Shaped.{HasFullChains, HaveFullChains}
 use Rattle.opgen_write.proofs.Expressions.{Fits, FitAll}

@@ -2,8 +2,7 @@
 use Rattle.std.proofs.Common.{◌≡◌, ℕ, zero, suc, List, [], ◌∷◌, ◌++◌, take, drop, map, Option, Some, None, option_map, unwrap_or, refl, ap, sym, ◌∙◌, subst, take-append-drop}
 use Rattle.opgen_vhdl.specs.Fronts.{front_of, FrontStands}
 use Rattle.opgen_vhdl.specs.Tokens.{Element, gap, token, Stands, IsToken, Cut, tokens_from, Tokens}
-use Rattle.opgen_vhdl.specs.Spans.{spellings_of}
-use Rattle.opgen_vhdl.specs.Symbols.{Symbol, symbol_of, symbols}
+use Rattle.opgen_vhdl.specs.Symbols.{spellings_of, Symbol, symbol_of, symbols}
 use Rattle.opgen_vhdl.specs.declared.kind.Front.{Front}
 use Rattle.opgen_vhdl.specs.declared.kind.Front.TheVariants as front
 use Rattle.opgen_vhdl.specs.declared.kind.Token.{Token}

@@ -10,11 +10,10 @@ use Rattle.std.proofs.lemmas.List.{map-append, reverse-append, reverse-reverse}
 use Rattle.std.proofs.lemmas.List.Elements.{filter-append}
 use Rattle.std.proofs.lemmas.List.Folds.{list_all-append}
 use Rattle.std.proofs.lemmas.List.Sums.{AllPass-from_list_all}
-use Rattle.opgen_num.specs.declared.TheConstants.{MAX_WIDTH}
+use Rattle.opgen_num.specs.declared.format.TheConstants.{MAX_WIDTH}
 use Rattle.opgen_names.specs.Names.{is_allowed_name, is_name_byte, is_identifier, is_refused, starts_with_letter, has_single_underscores}
-use Rattle.opgen_design.specs.Width.{IsWidth}
-use Rattle.opgen_vhdl.specs.Bytes.{is_word_byte, is_bit, begins}
-use Rattle.opgen_vhdl.specs.Tokens.{IsWord, IsBits}
+use Rattle.opgen_design.specs.Value.{IsWidth}
+use Rattle.opgen_vhdl.specs.Tokens.{is_word_byte, is_bit, begins, IsWord, IsBits}
 use Rattle.opgen_vhdl.specs.Symbols.{Symbol, word, number, string, mark, bits_in}
 use Rattle.opgen_vhdl.specs.ExpressionText.{bits_text, word_text, range_text}
 use Rattle.opgen_vhdl.specs.Grammar.{value}

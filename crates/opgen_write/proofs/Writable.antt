@@ -3,16 +3,15 @@ use Rattle.std.proofs.Common.{◌≡◌, ℕ, ◌<◌, ◌≤◌, Bool, List, []
 use Rattle.std.specs.Prelude.{All}
 use Rattle.std.proofs.lemmas.List.{get_or-map, length-map}
 use Rattle.std.proofs.lemmas.Option.{slice_get-get_or, slice_get_within, get_or_from_slice_get}
-use Rattle.opgen_num.specs.declared.TheConstants.{MAX_WIDTH}
+use Rattle.opgen_num.specs.declared.format.TheConstants.{MAX_WIDTH}
 use Rattle.opgen_design.specs.declared.design.Design.{Design}
 use Rattle.opgen_design.specs.declared.design.Driver.{Driver}
 use Rattle.opgen_design.specs.declared.design.Driver.TheVariants.{Assign, Choice, Table, Register, Output}
 use Rattle.opgen_design.specs.Tree as tree
 use Rattle.opgen_design.specs.Tree.{Tree}
-use Rattle.opgen_design.specs.Reads.{AllReads}
-use Rattle.opgen_design.specs.Width.{IsWidth, width}
+use Rattle.opgen_design.specs.Sound.{AllReads, IsSound, IsDeclared, signal_widths, port_widths, HasWidth, WidthsAgree, PortPasses, SignalPasses, DriverPasses, at_design, at_port, at_signal, at_driver}
+use Rattle.opgen_design.specs.Value.{IsWidth, width}
 use Rattle.opgen_design.specs.declared.sound.Rule.TheVariants.{Undeclared, Width}
-use Rattle.opgen_design.specs.Sound.{IsSound, IsDeclared, signal_widths, port_widths, HasWidth, WidthsAgree, PortPasses, SignalPasses, DriverPasses, at_design, at_port, at_signal, at_driver}
 use Rattle.opgen_design.proofs.WidthLaws.{width-is_width}
 use Rattle.opgen_vhdl.specs.Shaped.{IsPart, HasFullChains, IsShapedExpression, IsShapedDriver, IsShaped, HasAllowedNames}
 use Rattle.opgen_write.proofs.Fitting.{fits}

@@ -2,7 +2,7 @@
 ghost use Rattle.std.specs.Prelude.{◌≡◌, ◌++◌, OnOk, codes, string_bytes};
 ghost use Rattle.opgen_num.specs.Words.{word};
 ghost use Rattle.opgen_design.specs.Plain.{plain, plain_all};
-ghost use Rattle.opgen_design.specs.Width.{in_chain, in_not};
+ghost use Rattle.opgen_design.specs.Value.{in_chain, in_not};
 ghost use Rattle.opgen_vhdl.specs.ExpressionText.{signal_name, port_name, bit_text, bits_text, word_text, range_text};
 ghost use Rattle.opgen_vhdl.specs.ExpressionText.{operator_text, within, expression_text, chain_text};
 

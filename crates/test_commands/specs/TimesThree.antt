@@ -7,8 +7,7 @@ use Rattle.opgen_design.specs.declared.design.Design.{Design}
 use Rattle.opgen_design.specs.declared.design.Dir.TheVariants.{In, Out}
 use Rattle.opgen_design.specs.declared.design.Driver.TheVariants.{Assign, Table, Output}
 use Rattle.opgen_design.specs.Tree.{Tree, name, part, bits, port, inverse, chain, none, more}
-use Rattle.opgen_design.specs.Value.{Scope, value}
-use Rattle.opgen_design.specs.Width.{width, nesting}
+use Rattle.opgen_design.specs.Value.{Scope, value, width, nesting}
 use Rattle.opgen_net.specs.Flow.{Inputs, flow}
 use Rattle.opgen_design.specs.Run.{Words, Cycle}
 use Rattle.opgen_pipe.specs.Pipelined.{design_of}

@@ -179,7 +179,7 @@ static COMMANDS: [Command; 6] = [
     },
 ];
 
-/// The text with its changes, each of what stands first by what is put there.
+// The text with its changes, each of what stands first by what is put there.
 fn changed(alloc: Global, text: &str, changes: &[(&str, &str)]) -> Result<String, AllocError> {
     let mut changed = String::from_str(alloc, text)?;
     for (old, new) in changes {
@@ -196,7 +196,7 @@ fn line_of(command: &Command, case: &Case) -> &'static str {
     }
 }
 
-/// Whether the folder holds the stores that stand, and else what it held before.
+// Whether the folder holds the stores that stand, and else what it held before.
 fn is_left(
     alloc: Global,
     command: &Command,
@@ -227,7 +227,7 @@ fn files(alloc: Global) -> Result<Vec<(&'static str, &'static [u8])>, AllocError
     Ok(files)
 }
 
-/// The first case of the command that is answered otherwise.
+// The first case of the command that is answered otherwise.
 fn first_of(
     rt: &(impl Threads + Sync + Alloc<A = Global>),
     command: &Command,

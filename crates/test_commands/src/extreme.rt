@@ -1,6 +1,6 @@
 //! A target of the tests' own, which tells the least or the most that a target may tell.
 ghost use Rattle.std.specs.Prelude.{◌≡◌, false, string_bytes};
-ghost use Rattle.opgen_target.specs.Classes.{place_of};
+ghost use Rattle.opgen_net.specs.Classes.{place_of};
 ghost use Rattle.opgen_target.specs.Tables.{listed_ledger};
 
 use crate::delays::plain;

@@ -11,8 +11,6 @@ mod documents;
 #[cfg(test)]
 mod extreme;
 #[cfg(test)]
-mod files;
-#[cfg(test)]
 mod kinds;
 #[cfg(test)]
 mod long;

@@ -97,7 +97,7 @@ static CASES: [Case; 7] = [
     },
 ];
 
-/// Whether the case ends with status 9 and its line, and with no store. No target is asked for.
+// Whether the case ends with status 9 and its line, and with no store. No target is asked for.
 fn is_too_long(
     rt: &(impl Threads + Sync + Alloc<A = Global>),
     case: &Case,

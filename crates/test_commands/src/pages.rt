@@ -26,7 +26,7 @@ coefficients = [-2517, 308, 4861, -3839, 9681, 16, 1767, -14241]
 denominator = 65536
 ";
 
-/// The VHDL of the filter.
+// The VHDL of the filter.
 fn filter_text(rt: &(impl Threads + Sync + Abort + Alloc<A = Global>)) -> Result<Vec<u8>, Fail> {
     let alloc = rt.alloc();
     let mut targets: Vec<Box<dyn Target>> = Vec::new(alloc);
@@ -45,7 +45,7 @@ fn read(rt: &impl Abort, alloc: Global, text: &[u8]) -> Result<Design, Fail> {
     Ok(read_design(alloc, text)?)
 }
 
-/// How many bytes a sink takes of a design's text, if its put of this number fails, and whether that is the answer.
+// How many bytes a sink takes of a design's text, if its put of this number fails, and whether that is the answer.
 fn taken(alloc: Global, design: &Design, failing: usize) -> Result<(usize, bool), AllocError> {
     let mut sink = MemorySink::new(alloc, vec![in alloc; failing as u64]?);
     let written = write_design(alloc, design, &mut sink);

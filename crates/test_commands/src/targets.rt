@@ -7,7 +7,7 @@ use std::alloc::{AllocError, Global};
 use std::test::Fail;
 use std::thread::Threads;
 
-/// `generate` on three times four bits at a period, with these targets.
+// `generate` on three times four bits at a period, with these targets.
 fn generated_with(
     rt: &(impl Threads + Sync + Alloc<A = Global>),
     period: &str,

@@ -1,6 +1,6 @@
 //! Tests of the text of a third of four bits in two stages: its design, its text again, and its run in every stream.
-ghost use Rattle.std.specs.Prelude.{◌≡◌, ◌∷◌, [], IfOk, codes, length};
-ghost use Rattle.opgen_design.specs.declared.design.Dir.TheVariants.{In, Out};
+ghost use Rattle.std.specs.Prelude.{◌≡◌, IfOk, length};
+ghost use Rattle.test_commands.specs.Third.{third_ports};
 
 use crate::texts::THIRD;
 use opgen_design::{Design, Dir, Port};
@@ -49,7 +49,7 @@ fn port(alloc: Global, name: &str, dir: Dir, width: u32) -> Result<Port, AllocEr
 }
 
 fn ports(alloc: Global) -> Result<Items<Port>, AllocError>
-    ensures { IfOk result (λ ps. ps ≡ (record { name = codes "x"; dir = In; width = 4 }) ∷ (record { name = codes "y"; dir = Out; width = 3 }) ∷ []) }
+    ensures { IfOk result (λ ps. ps ≡ third_ports) }
 {
     let mut ports = Items::new(alloc);
     ports.push(port(alloc, "x", Dir::In, 4)?)?;
@@ -57,7 +57,7 @@ fn ports(alloc: Global) -> Result<Items<Port>, AllocError>
     Ok(ports)
 }
 
-/// A bit of a word in all streams.
+// A bit of a word in all streams.
 fn bit(word: u32, value: u32) -> u64x4 {
     if word & value != 0 {
         u64x4::splat(u64::MAX)
@@ -66,9 +66,9 @@ fn bit(word: u32, value: u32) -> u64x4 {
     }
 }
 
-/// One cycle in every stream.
+// One cycle in every stream.
 fn expect_cycle(rt: &impl Abort, lanes: &mut Lanes, input: u32, output: u32)
-    requires ports { lanes.old.design.ports ≡ (record { name = codes "x"; dir = In; width = 4 }) ∷ (record { name = codes "y"; dir = Out; width = 3 }) ∷ [] }
+    requires ports { lanes.old.design.ports ≡ third_ports }
     ensures design { lanes.new.design ≡ lanes.old.design }
 {
     let inputs = [bit(input, 1), bit(input, 2), bit(input, 4), bit(input, 8)];
@@ -80,7 +80,7 @@ fn expect_cycle(rt: &impl Abort, lanes: &mut Lanes, input: u32, output: u32)
 }
 
 fn expect_run(rt: &impl Abort, alloc: Global, design: &Design) -> Result<(), Memory>
-    requires ports { design.now.ports ≡ (record { name = codes "x"; dir = In; width = 4 }) ∷ (record { name = codes "y"; dir = Out; width = 3 }) ∷ [] }
+    requires ports { design.now.ports ≡ third_ports }
     requires signals { length design.now.signals ≡ 5 }
     requires drivers { length design.now.drivers ≡ 6 }
 {

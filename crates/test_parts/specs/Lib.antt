@@ -1,1 +1,2 @@
--- Definitions of test_parts: none, because its tests use those of other crates.
+-- Definitions of test_parts: the sum of two nodes. The other definitions of its tests are those of other crates.
+pub mod Sums

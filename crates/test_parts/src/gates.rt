@@ -30,14 +30,14 @@ impl Told {
         self.left.fetch_add(1, Ordering::SeqCst);
     }
 
-    /// Whether the piece arrived once and left once, with this least cost as it began.
+    // Whether the piece arrived once and left once, with this least cost as it began.
     fn is_once(&self, first: u64) -> bool {
         self.arrived.load(Ordering::SeqCst) == 1
             && self.left.load(Ordering::SeqCst) == 1
             && self.first.load(Ordering::SeqCst) == first
     }
 
-    /// Waits until the piece has left. False where it has not within so many turns.
+    // Waits until the piece has left. False where it has not within so many turns.
     fn is_awaited(&self) -> bool {
         for _ in 0..100_000_000 {
             if self.left.load(Ordering::SeqCst) > 0 {
@@ -68,7 +68,7 @@ impl Hold {
         }
     }
 
-    /// Whether both pieces came and went once, with these least costs as they began, and the hold did not run out.
+    // Whether both pieces came and went once, with these least costs as they began, and the hold did not run out.
     fn is_kept(&self, firsts: [u64; 2]) -> bool {
         self.pieces[0].is_once(firsts[0])
             && self.pieces[1].is_once(firsts[1])

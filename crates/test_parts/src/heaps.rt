@@ -3,7 +3,7 @@ ghost use Rattle.std.specs.Prelude.{◌≡◌, ◌<◌, ◌^◌, ◌∷◌, [], 
 ghost use Rattle.opgen_net.specs.declared.node.Node.TheVariants.{Input};
 ghost use Rattle.opgen_net.specs.declared.word_bits.WordBit.TheVariants.{Of};
 ghost use Rattle.opgen_net.specs.Valid.{IsValid};
-ghost use Rattle.opgen_design.specs.Width.{IsWidth};
+ghost use Rattle.opgen_design.specs.Value.{IsWidth};
 ghost use Rattle.opgen_heap.specs.Standing.{AllThere};
 
 use crate::plans::{part, planned_plain};
@@ -18,7 +18,7 @@ use std::alloc::Global;
 use std::process::Abort;
 use std::test::Fail;
 
-/// A net of three inputs of one bit, nodes 0, 1 and 2.
+// A net of three inputs of one bit, nodes 0, 1 and 2.
 fn three_inputs(alloc: Global) -> Result<Net, Memory>
     ensures nodes { IfOk result (λ net. net.nodes ≡ Input 0 1 ∷ Input 1 1 ∷ Input 2 1 ∷ []) }
     ensures valid { IfOk result IsValid }
@@ -30,7 +30,7 @@ fn three_inputs(alloc: Global) -> Result<Net, Memory>
     Ok(net)
 }
 
-/// A heap of width 3 with a bit of each of the nodes 0, 1 and 2 in column 0.
+// A heap of width 3 with a bit of each of the nodes 0, 1 and 2 in column 0.
 fn three_bits(alloc: Global) -> Result<Heap, Memory>
     ensures { IfOk result (λ heap. heap.columns ≡ (Of 0 0 ∷ Of 1 0 ∷ Of 2 0 ∷ []) ∷ []) }
 {
@@ -41,7 +41,7 @@ fn three_bits(alloc: Global) -> Result<Heap, Memory>
     Ok(heap)
 }
 
-/// A node is cells of this class and expression, as it is printed for debugging.
+// A node is cells of this class and expression, as it is printed for debugging.
 fn expect_cells(
     rt: &impl Abort,
     alloc: Global,
@@ -105,7 +105,7 @@ fn a_constant_of_ones(rt: HostRuntime) -> Result<(), Fail> {
     Ok(())
 }
 
-/// A net of one input `x`.
+// A net of one input `x`.
 fn one_input(alloc: Global, width: u32) -> Result<Net, Memory>
     requires width { IsWidth width }
     ensures inputs { IfOk result (λ net. net.inputs ≡ (codes "x", width) ∷ []) }
@@ -118,7 +118,7 @@ fn one_input(alloc: Global, width: u32) -> Result<Net, Memory>
     Ok(net)
 }
 
-/// A heap of width 4 with seven bits of node 0 in column 0.
+// A heap of width 4 with seven bits of node 0 in column 0.
 fn seven_bits(alloc: Global) -> Result<Heap, Memory>
     ensures width { IfOk result (λ heap. heap.width ≡ 4) }
     ensures columns { IfOk result (λ heap. heap.columns ≡ (Of 0 0 ∷ Of 0 1 ∷ Of 0 2 ∷ Of 0 3 ∷ Of 0 4 ∷ Of 0 5 ∷ Of 0 6 ∷ []) ∷ []) }
@@ -134,7 +134,7 @@ fn seven_bits(alloc: Global) -> Result<Heap, Memory>
     Ok(heap)
 }
 
-/// A heap of width 4 with five bits of node 0 in column 0 and one in column 1.
+// A heap of width 4 with five bits of node 0 in column 0 and one in column 1.
 fn five_bits_and_one(alloc: Global) -> Result<Heap, Memory>
     ensures width { IfOk result (λ heap. heap.width ≡ 4) }
     ensures columns { IfOk result (λ heap. heap.columns ≡ (Of 0 0 ∷ Of 0 1 ∷ Of 0 2 ∷ Of 0 3 ∷ Of 0 4 ∷ []) ∷ (Of 0 5 ∷ []) ∷ []) }
@@ -149,7 +149,7 @@ fn five_bits_and_one(alloc: Global) -> Result<Heap, Memory>
     Ok(heap)
 }
 
-/// How many tables a net has.
+// How many tables a net has.
 fn tables(net: &Net) -> usize {
     net.nodes
         .as_slice()
@@ -158,7 +158,7 @@ fn tables(net: &Net) -> usize {
         .count()
 }
 
-/// A heap whose bits are all 1, counted together and compressed, is 7, with one table.
+// A heap whose bits are all 1, counted together and compressed, is 7, with one table.
 fn expect_seven(
     rt: &impl Abort,
     alloc: Global,

@@ -1,5 +1,5 @@
-//! Parts of the program by values of Rust: roundings, texts, tokens, streams, simulators, heaps, plans of large nets, and
-//! searches: tests alone.
+//! Parts of the program by values of Rust: roundings, texts, tokens, streams, simulators, heaps, plans of large nets,
+//! searches, and files on disk: tests alone.
 #![tactic(auto)]
 
 #[cfg(test)]
@@ -8,6 +8,8 @@ mod adders;
 mod cut;
 #[cfg(test)]
 mod digits;
+#[cfg(test)]
+mod files;
 #[cfg(test)]
 mod gates;
 #[cfg(test)]

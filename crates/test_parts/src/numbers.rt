@@ -88,7 +88,7 @@ static FORMATS: [(i128, i128, i32, Option<(bool, u32)>); 7] = [
     (i128::MIN, i128::MAX, 0, None),
 ];
 
-/// Whether a format has this sign, width and last place, or there is none.
+// Whether a format has this sign, width and last place, or there is none.
 fn is_format(found: Option<Format>, least: Option<(bool, u32)>, lsb: i32) -> bool {
     match (found, least) {
         (Some(found), Some((signed, width))) => found == Format { signed, width, lsb },

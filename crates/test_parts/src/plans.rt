@@ -1,9 +1,10 @@
 //! Plans nets of one input `x` and one output `y`, and builds adders and slices, for the tests of this crate.
-ghost use Rattle.std.specs.Prelude.{◌≡◌, ◌∷◌, ◌++◌, [], IfOk, OnOk, codes, map, length, slice_index};
-ghost use Rattle.opgen_design.specs.Tree.{chain, more, name, none};
+ghost use Rattle.std.specs.Prelude.{◌≡◌, ◌∷◌, [], IfOk, OnOk, codes, map, length, slice_index};
 ghost use Rattle.opgen_design.specs.Plain.{plain as plain_of};
 ghost use Rattle.opgen_net.specs.Valid.{IsValid, widths};
+ghost use Rattle.opgen_net.specs.Placed.{with_last};
 ghost use Rattle.opgen_pipe.specs.Pipelined.{ports_of};
+ghost use Rattle.test_parts.specs.Sums as sums;
 
 use opgen_design::{Expr, Op, Slice};
 use opgen_net::{Class, Net, Node};
@@ -62,7 +63,7 @@ pub fn part(node: usize, high: u32, low: u32) -> Slice
 }
 
 fn sum_of(alloc: Global, first: usize, second: usize) -> Result<Expr, AllocError>
-    ensures { IfOk result (λ e. plain_of e ≡ chain Op.Plus (more (name first) (more (name second) none))) }
+    ensures { IfOk result (λ e. plain_of e ≡ sums.sum_of first second) }
 {
     let mut operands = Vec::new(alloc);
     operands.push(Expr::Name(first))?;
@@ -75,7 +76,7 @@ pub fn add(alloc: Global, net: &mut Net, first: usize, second: usize) -> Result<
     requires net { IsValid net.old }
     requires first { slice_index (widths net.old.nodes) first ≡ 4 }
     requires second { slice_index (widths net.old.nodes) second ≡ 4 }
-    ensures ok { OnOk result (net.new ≡ record net.old { nodes = net.old.nodes ++ Node.Cells Class.Add 4 (chain Op.Plus (more (name first) (more (name second) none))) ∷ [] }) }
+    ensures ok { OnOk result (net.new ≡ with_last net.old (Node.Cells Class.Add 4 (sums.sum_of first second))) }
     ensures place { IfOk result (λ n. n ≡ length net.old.nodes) }
     ensures valid { IsValid net.new }
 {

@@ -51,7 +51,7 @@ fn drivers(alloc: Global) -> Result<Items<Driver>, AllocError>
     Ok(drivers)
 }
 
-/// A register that begins with 1 and is inverted in each cycle.
+// A register that begins with 1 and is inverted in each cycle.
 fn blinker(alloc: Global) -> Result<Design, AllocError>
     ensures ports { IfOk result (λ d. d.ports ≡ (record { name = codes "y"; dir = Out; width = 1 }) ∷ []) }
     ensures signals { IfOk result (λ d. length d.signals ≡ 1) }

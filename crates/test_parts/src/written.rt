@@ -6,7 +6,7 @@ use opgen_write::{VecSink, WriteFault, text, write_design};
 use std::alloc::{AllocError, Global};
 use std::test::Fail;
 
-/// A design whose input has a name of so many letters.
+// A design whose input has a name of so many letters.
 fn one_input(alloc: Global, letters: usize) -> Result<Design, AllocError> {
     let mut name = String::new(alloc);
     for _ in 0..letters {

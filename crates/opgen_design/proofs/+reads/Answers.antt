@@ -1,7 +1,7 @@
 use Rattle.std.proofs.Common.{◌≡◌, ◌++◌, ◌+◌, ℕ, sym, ap, ◌∙◌, List, take}
 use Rattle.std.proofs.lemmas.List.{append_assoc}
 use Rattle.opgen_design.proofs.UseLaws.{names-more, ports-more}
-use Rattle.opgen_design.specs.Reads.{names_read, operand_names, ports_read, operand_ports}
+use Rattle.opgen_design.specs.Sound.{names_read, operand_names, ports_read, operand_ports}
 use Rattle.opgen_design.specs.Plain.{plain, plain_all}
 use Rattle.opgen_design.proofs.+reads.Goals as goal
 

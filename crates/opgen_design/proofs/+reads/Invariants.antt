@@ -1,6 +1,6 @@
 use Rattle.std.proofs.Common.{◌≡◌, ◌++◌, take}
 use Rattle.opgen_design.specs.Plain.{plain_all}
-use Rattle.opgen_design.specs.Reads.{operand_names, operand_ports}
+use Rattle.opgen_design.specs.Sound.{operand_names, operand_ports}
 use Rattle.opgen_design.proofs.+reads.Given as goal
 
 abbrev pub invariant-reads::add_all_uses-loop-expr : goal.invariant-reads::add_all_uses-loop-expr

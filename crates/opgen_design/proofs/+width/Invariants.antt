@@ -2,7 +2,7 @@ use Rattle.std.proofs.Common.{◌≡◌, drop}
 use Rattle.std.specs.Prelude.{option_and_then}
 use Rattle.opgen_design.specs.Plain.{plain_all}
 use Rattle.opgen_design.specs.Sound.{signal_widths, port_widths}
-use Rattle.opgen_design.specs.Width.{width_on}
+use Rattle.opgen_design.specs.Value.{width_on}
 use Rattle.opgen_design.proofs.+width.Given as goal
 
 abbrev pub invariant-width::chain_width-loop-operand : goal.invariant-width::chain_width-loop-operand

@@ -1,5 +1,5 @@
 use Rattle.std.proofs.Common.{◌+◌, ◌≤◌, length, sym, ap, ◌∙◌, subst, codes}
-use Rattle.opgen_num.specs.declared.TheConstants.{MAX_WIDTH}
+use Rattle.opgen_num.specs.declared.format.TheConstants.{MAX_WIDTH}
 use Rattle.opgen_kinds.specs.Pair.{sign_bit}
 use Rattle.opgen_operator.specs.declared.operator.Operator.TheVariants.{Divide}
 use Rattle.opgen_operator.specs.Fits.{FitsInEachMode}

@@ -6,17 +6,15 @@ use Rattle.std.proofs.Math.Nat.{div-le_self, mul-le-mul, mul-le-mul_right}
 use Rattle.std.specs.Prelude.{codes, slice_index, ℤ, pos, negsuc, neg_ℤ, ◌-ℤ◌, ◌*ℤ◌, ◌≤ℤ◌, ◌<ℤ◌, int_div, int_rem, unsigned_abs, All}
 use Rattle.opgen_num.specs.Formats.{Holds, is_negative}
 use Rattle.opgen_num.specs.Rounding.{IsQuotient}
-use Rattle.opgen_num.specs.Sums.{xor}
+use Rattle.opgen_num.specs.Words.{xor}
 use Rattle.opgen_num.proofs.BitLength.{power_order}
 use Rattle.opgen_num.proofs.Integers.{difference-product}
 use Rattle.opgen_kinds.specs.declared.pair.Pair.{Pair}
-use Rattle.opgen_ports.specs.Ports.{HasWidth}
+use Rattle.opgen_ports.specs.Ports.{HasWidth, IsCycle, port}
 use Rattle.opgen_ports.specs.Good.{IsGoodRatio}
 use Rattle.opgen_kinds.specs.Pair.{quotient_ports, quotient_format, remainder_format, exact_quotient, pair_shift, over, sign_bit, IsTruncated, IsGoodQuotient, IsPair, dividend, pair_meaning}
 use Rattle.opgen_ports.specs.Limits.{most_signal}
-use Rattle.opgen_ports.specs.PortNumbers.{IsCycle}
-use Rattle.opgen_ports.specs.Ports.{port}
-use Rattle.opgen_ports.specs.Shifts.{places_up, up}
+use Rattle.opgen_ports.specs.Reaches.{places_up, up}
 use Rattle.opgen_ports.specs.Spans.{IsOf}
 use Rattle.opgen_ports.specs.In128.{IsIn128, IsRatioIn128}
 use Rattle.opgen_ports.proofs.Bounds.{few_up}
@@ -24,7 +22,7 @@ use Rattle.opgen_ports.proofs.Covered.{rounded_within}
 use Rattle.opgen_ports.proofs.Cycles.{main_word, rest_word}
 use Rattle.opgen_ports.proofs.In128.{small_in128}
 use Rattle.opgen_ports.proofs.InputPorts.{all_one, all_two, input_bit, HasBit}
-use Rattle.opgen_kinds.proofs.Lawful.{IsLawful}
+use Rattle.opgen_ports.proofs.Lawful.{IsLawful}
 use Rattle.opgen_kinds.proofs.of_kind.ProductWidths.{neg-neg}
 use Rattle.opgen_ports.proofs.Magnitudes.{number_small, raised_within, product_within, holds_within, unsigned_abs-product}
 use Rattle.opgen_ports.proofs.Reached.{neg-left, neg-right}

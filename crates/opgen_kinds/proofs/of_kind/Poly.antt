@@ -14,7 +14,7 @@ use Rattle.opgen_ports.specs.Spans.{IsOf}
 use Rattle.opgen_ports.proofs.Bounds.{products, few_units}
 use Rattle.opgen_ports.proofs.In128.{small_in128, input_small}
 use Rattle.opgen_ports.proofs.InputPorts.{all_one, input_bit, HasBit}
-use Rattle.opgen_kinds.proofs.Lawful.{IsLawful}
+use Rattle.opgen_ports.proofs.Lawful.{IsLawful}
 use Rattle.opgen_ports.proofs.Magnitudes.{unsigned_abs-product}
 use Rattle.opgen_kinds.proofs.of_kind.Results.{poly_width}
 use Rattle.opgen_kinds.proofs.of_kind.Terms.{poly_terms_small, few_powers, few_places}

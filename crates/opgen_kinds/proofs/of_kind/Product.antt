@@ -8,12 +8,12 @@ use Rattle.opgen_ports.specs.Ports.{HasWidth}
 use Rattle.opgen_ports.specs.Good.{IsGoodRatio}
 use Rattle.opgen_kinds.specs.Product.{exact_product, product_shift, product_places, product_format, product_need, product_meaning}
 use Rattle.opgen_ports.specs.Limits.{most_signal}
-use Rattle.opgen_ports.specs.Shifts.{places_down, up}
+use Rattle.opgen_ports.specs.Reaches.{places_down, up}
 use Rattle.opgen_ports.specs.Spans.{IsOf}
 use Rattle.opgen_ports.proofs.Covered.{rounded_within, covered}
 use Rattle.opgen_ports.proofs.In128.{small_in128, units_in128}
 use Rattle.opgen_ports.proofs.InputPorts.{all_one, all_two, input_bit, HasBit}
-use Rattle.opgen_kinds.proofs.Lawful.{IsLawful}
+use Rattle.opgen_ports.proofs.Lawful.{IsLawful}
 use Rattle.opgen_ports.proofs.Magnitudes.{unsigned_abs-product}
 use Rattle.opgen_kinds.proofs.of_kind.ProductWidths.{products_span, product_room}
 use Rattle.opgen_ports.proofs.Versions.{signal_limit}

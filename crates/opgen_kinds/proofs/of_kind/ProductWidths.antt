@@ -11,38 +11,19 @@ use Rattle.opgen_num.proofs.RangeWidth.{count-holds, count-least}
 use Rattle.opgen_num.specs.Formats.{digit_count, range_width, fewest_bits}
 use Rattle.opgen_kinds.specs.declared.product.Product.{Product}
 use Rattle.opgen_kinds.specs.Product.{exact_product, product_shift, product_reach, product_places, IsProduct, ProductsHaveWidth, product_format}
-use Rattle.opgen_ports.specs.Reaches.{reach_of, reach_with, in_units, width_of}
-use Rattle.opgen_ports.specs.Shifts.{places_down, up, down, places_up}
+use Rattle.opgen_ports.specs.Reaches.{reach_of, reach_with, in_units, width_of, places_down, up, down, places_up}
 use Rattle.opgen_ports.specs.Spans.{IsOf, Spans}
 use Rattle.opgen_ports.proofs.Bounds.{products}
 use Rattle.opgen_ports.proofs.Magnitudes.{product_within, holds_within}
-use Rattle.opgen_ports.proofs.Reached.{neg-left, neg-both, IsWithinReach, neg-right, held-within, within-held, low_end, high_end, least_end, greatest_end, ceiling}
+use Rattle.opgen_ports.proofs.Reached.{product_span, neg-left, neg-both, IsWithinReach, neg-right, held-within, within-held, low_end, high_end, least_end, greatest_end, ceiling}
 use Rattle.opgen_ports.proofs.Widths.{count_some}
 
 pub neg-neg : (n k : ℕ) → neg_ℤ (pos n) *ℤ neg_ℤ (pos k) ≡ pos (n * k)
 neg-neg n zero = neg-left n 0 ∙ omega (arith, ints)
 neg-neg n (suc k) = neg-both n k ∙ ap (λ j. pos (n * j)) (omega arith)
 
--- a product of two numbers
+-- the numbers whose product is the least, and the greatest
 module _ (below above under over : ℕ) where
-  pub product_span : (a b : ℤ) → IsWithinReach below above a → IsWithinReach under over b
-      → IsWithinReach (max (below * over) (above * under)) (max (above * over) (below * under)) (a *ℤ b)
-  product_span (pos m) (pos n) (low, high) (left, right) =
-      let most : m * n ≤ above * over = mul-le-mul {n₁ = m} {m₁ = n} {n₂ = above} {m₂ = over} (omega (arith, ints)) (omega (arith, ints)) in
-      (omega (arith, ints), omega (arith, ints))
-  product_span (pos m) (negsuc n) (low, high) (left, right) =
-      let most : m * (n + 1) ≤ above * under = mul-le-mul {n₁ = m} {m₁ = n + 1} {n₂ = above} {m₂ = under} (omega (arith, ints))
-      (omega (arith, ints)) in
-      (omega (arith, ints), omega (arith, ints))
-  product_span (negsuc m) (pos n) (low, high) (left, right) =
-      let most : (m + 1) * n ≤ below * over = mul-le-mul {n₁ = m + 1} {m₁ = n} {n₂ = below} {m₂ = over} (omega (arith, ints))
-      (omega (arith, ints)) in
-      (omega (arith, ints), omega (arith, ints))
-  product_span (negsuc m) (negsuc n) (low, high) (left, right) =
-      let most : (m + 1) * (n + 1) ≤ below * under = mul-le-mul {n₁ = m + 1} {m₁ = n + 1} {n₂ = below} {m₂ = under} (omega (arith, ints))
-      (omega (arith, ints)) in
-      (omega (arith, ints), omega (arith, ints))
-
   abbrev IsProductOf : ℤ → Type 0
   IsProductOf n = (x : ℤ × ℤ) × (IsWithinReach below above x.0 × IsWithinReach under over x.1) × (x.0 *ℤ x.1 ≡ n)
 

@@ -12,7 +12,7 @@ use Rattle.opgen_num.proofs.BitLength.{power_order}
 use Rattle.opgen_num.proofs.NearestNumbers.{nearest-at_most, nearest-at_least, nearest-order}
 use Rattle.opgen_num.proofs.RangeWidth.{count-least, count-holds}
 use Rattle.opgen_num.specs.Formats.{range_width}
-use Rattle.opgen_num.specs.Nearest.{nearest}
+use Rattle.opgen_num.specs.Rounding.{nearest}
 use Rattle.opgen_kinds.specs.declared.poly.Poly.{Poly as Polynomial}
 use Rattle.opgen_kinds.specs.Horner.{degree, poly_guard, result_places, guarded, low_end, high_end, all_guarded, partial_width, result_low, result_high}
 use Rattle.opgen_kinds.specs.Poly.{IsPoly, poly_format, PolynomialsHaveRoom}

@@ -11,20 +11,18 @@ use Rattle.std.specs.Prelude.{â„¤, pos, codes, slice_index, slice_get, negsuc, â
 use Rattle.opgen_num.specs.declared.format.Format.{Format}
 use Rattle.opgen_kinds.specs.declared.several.Several.{Several}
 use Rattle.opgen_ports.specs.declared.ports.PortFormat.{PortFormat}
-use Rattle.opgen_ports.specs.Ports.{HasWidth}
+use Rattle.opgen_ports.specs.Ports.{HasWidth, format_at, IsCycle, number_of, output_numbers, port}
 use Rattle.opgen_ports.specs.Good.{IsGoodRatio}
 use Rattle.opgen_ports.specs.In128.{IsRatioIn128}
 use Rattle.opgen_kinds.specs.Several.{numbered, constant_format, multiple_ports, exact_multiple, IsSeveral, several_meaning}
 use Rattle.opgen_ports.specs.Limits.{most_input, most_signal}
-use Rattle.opgen_ports.specs.PortNumbers.{format_at, IsCycle, number_of, output_numbers}
-use Rattle.opgen_ports.specs.Ports.{port}
 use Rattle.opgen_ports.specs.Ranges.{IsWithin}
 use Rattle.opgen_ports.specs.Reaches.{reach_of, reach_over}
 use Rattle.opgen_ports.specs.Spans.{IsOf}
 use Rattle.opgen_ports.proofs.Covered.{covered}
 use Rattle.opgen_ports.proofs.In128.{small_in128}
 use Rattle.opgen_ports.proofs.InputPorts.{all_one, only_within, input_bit, HasBit}
-use Rattle.opgen_kinds.proofs.Lawful.{IsLawful}
+use Rattle.opgen_ports.proofs.Lawful.{IsLawful}
 use Rattle.opgen_ports.proofs.Magnitudes.{product_within, number_small}
 use Rattle.opgen_kinds.proofs.PortWidths.{input_room}
 use Rattle.opgen_ports.proofs.Reached.{held-within, sum_within}

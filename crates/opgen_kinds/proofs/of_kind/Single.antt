@@ -10,19 +10,17 @@ use Rattle.opgen_num.proofs.BitLength.{power_order}
 use Rattle.opgen_num.specs.Rounding.{IsRoot}
 use Rattle.opgen_kinds.specs.declared.single.Single.{Single}
 use Rattle.opgen_ports.specs.declared.TheConstants.{MAX_SHIFT}
-use Rattle.opgen_ports.specs.Ports.{HasWidth}
+use Rattle.opgen_ports.specs.Ports.{HasWidth, IsCycle, port}
 use Rattle.opgen_kinds.specs.Single.{IsSingle, root_ports, root_format, rest_format, root_shift, root_width, square, RootsAreNarrow, single_meaning}
 use Rattle.opgen_ports.specs.Limits.{most_signal}
-use Rattle.opgen_ports.specs.PortNumbers.{IsCycle}
-use Rattle.opgen_ports.specs.Ports.{port}
-use Rattle.opgen_ports.specs.Shifts.{places_up}
+use Rattle.opgen_ports.specs.Reaches.{places_up}
 use Rattle.opgen_ports.specs.Spans.{IsOf}
 use Rattle.opgen_ports.proofs.Bounds.{few_up}
 use Rattle.opgen_ports.proofs.Covered.{unsigned_of}
 use Rattle.opgen_ports.proofs.Cycles.{main_word, rest_word}
 use Rattle.opgen_ports.proofs.In128.{whole_in128}
 use Rattle.opgen_ports.proofs.InputPorts.{all_one, all_two, input_bit, HasBit}
-use Rattle.opgen_kinds.proofs.Lawful.{IsLawful}
+use Rattle.opgen_ports.proofs.Lawful.{IsLawful}
 use Rattle.opgen_ports.proofs.Magnitudes.{fits_small, number_small}
 use Rattle.opgen_kinds.proofs.PortWidths.{wider}
 use Rattle.opgen_ports.proofs.Versions.{signal_limit}

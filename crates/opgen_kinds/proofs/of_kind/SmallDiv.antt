@@ -13,7 +13,7 @@ use Rattle.opgen_ports.specs.Spans.{IsOf}
 use Rattle.opgen_ports.proofs.Covered.{unsigned_of}
 use Rattle.opgen_ports.proofs.In128.{small_in128}
 use Rattle.opgen_ports.proofs.InputPorts.{all_one, all_two, input_bit, HasBit}
-use Rattle.opgen_kinds.proofs.Lawful.{IsLawful}
+use Rattle.opgen_ports.proofs.Lawful.{IsLawful}
 use Rattle.opgen_ports.proofs.Magnitudes.{number_small}
 use Rattle.opgen_kinds.proofs.PortWidths.{wider}
 use Rattle.opgen_ports.proofs.Versions.{signal_limit}

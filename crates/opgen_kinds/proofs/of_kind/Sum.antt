@@ -9,27 +9,25 @@ use Rattle.std.specs.Prelude.{ℤ, pos, ◌≤ℤ◌, negsuc, ◌*ℤ◌, unsign
 use Rattle.opgen_num.proofs.BitLength.{power_order}
 use Rattle.opgen_num.proofs.RangeWidth.{count-least}
 use Rattle.opgen_kinds.specs.declared.sum.Sum.{Sum}
-use Rattle.opgen_kinds.specs.declared.kind.Kind.{Kind}
-use Rattle.opgen_kinds.specs.declared.kind.Kind.TheVariants as kind_of
-use Rattle.opgen_kinds.specs.Accepted.{IsAcceptedIn, IsAcceptable}
+use Rattle.opgen_ports.specs.declared.kind.Kind.{Kind}
+use Rattle.opgen_ports.specs.declared.kind.Kind.TheVariants as kind_of
+use Rattle.opgen_ports.specs.Accepted.{IsAcceptedIn, IsAcceptable}
 use Rattle.opgen_ports.specs.declared.TheConstants.{MAX_SHIFT}
-use Rattle.opgen_ports.specs.Ports.{HasWidth}
+use Rattle.opgen_ports.specs.Ports.{HasWidth, Recent, weighted}
 use Rattle.opgen_ports.specs.Good.{IsGoodRatio}
 use Rattle.opgen_ports.specs.In128.{IsRatioIn128}
 use Rattle.opgen_kinds.specs.Sum.{most_sum_shift, sum_shift, HasSumRoom, IsSum, IsAcceptedSum, exact_sum, sum_reach, sum_places, sum_format, terms, guard_bits, guard_for, first_inexact, tables, IsEntrySmall, EntriesAreSmall, sum_need, sum_meaning, scale_meaning, fir_meaning}
 use Rattle.opgen_ports.specs.Limits.{most_input, most_signal}
 use Rattle.opgen_ports.specs.Ranges.{IsWithin}
-use Rattle.opgen_ports.specs.Reaches.{reach_of, in_places}
-use Rattle.opgen_ports.specs.Recent.{Recent, weighted}
-use Rattle.opgen_ports.specs.Shifts.{places_up, places_down, up, down}
+use Rattle.opgen_ports.specs.Reaches.{reach_of, in_places, places_up, places_down, up, down}
 use Rattle.opgen_ports.specs.Spans.{IsOf, Spans}
 use Rattle.opgen_ports.proofs.Bounds.{few_up, few_units, products, few_down}
 use Rattle.opgen_ports.proofs.Covered.{rounded_within, covered}
 use Rattle.opgen_ports.proofs.In128.{input_small, raised_in128, lowered_in128, weighted_small}
 use Rattle.opgen_ports.proofs.InputPorts.{only_within, all_one, input_bit, HasBit}
-use Rattle.opgen_kinds.proofs.Lawful.{IsLawful}
+use Rattle.opgen_ports.proofs.Lawful.{IsLawful}
 use Rattle.opgen_ports.proofs.Reached.{held-within, within-held, sum_within, lowest, highest_for, lowest-within, highest-within, sum_lowest, sum_highest, low_end, high_end, least_end, greatest_end}
-use Rattle.opgen_kinds.proofs.Roundings.{positive_units}
+use Rattle.opgen_ports.proofs.Roundings.{positive_units}
 use Rattle.opgen_ports.proofs.WeightedSums.{taps_bound}
 use Rattle.opgen_ports.proofs.Widths.{some_width}
 

@@ -8,21 +8,19 @@ use Rattle.std.specs.List.{position_from}
 use Rattle.std.specs.Prelude.{All, ℤ, pos, negsuc, unsigned_abs, ◌≤ℤ◌, ◌*ℤ◌}
 use Rattle.opgen_num.specs.declared.format.Ratio.{Ratio}
 use Rattle.opgen_kinds.specs.declared.taps.Taps.{Taps}
-use Rattle.opgen_kinds.specs.Sum.{IsSum, HasSumRoom, sum_shift, sum_places, is_whole_at, first_inexact_of, first_inexact}
+use Rattle.opgen_kinds.specs.Sum.{IsSum, HasSumRoom, sum_shift, sum_places, first_inexact_of, first_inexact}
+use Rattle.opgen_ports.specs.Reaches.{is_whole_at, up, down, above_zero, below_zero, rises, falls, reach_of, reach_over, in_units, in_places}
 use Rattle.opgen_kinds.specs.Taps.{IsTaps, IsAcceptedTaps, TapsHaveRoom, direct, taps_format, exact_taps, taps_meaning}
 use Rattle.opgen_ports.specs.declared.reach.Reach.{Reach}
 use Rattle.opgen_ports.specs.Good.{IsGoodRatio}
 use Rattle.opgen_ports.specs.Limits.{most_input, most_signal}
-use Rattle.opgen_ports.specs.Ports.{HasWidth, covering}
+use Rattle.opgen_ports.specs.Ports.{HasWidth, covering, Recent, weighted}
 use Rattle.opgen_ports.specs.Ranges.{IsWithin}
-use Rattle.opgen_ports.specs.Reaches.{above_zero, below_zero, rises, falls, reach_of, reach_over, in_units, in_places}
-use Rattle.opgen_ports.specs.Recent.{Recent, weighted}
-use Rattle.opgen_ports.specs.Shifts.{up, down}
 use Rattle.opgen_ports.proofs.Bounds.{few_up}
 use Rattle.opgen_ports.proofs.InputPorts.{all_one, only_within, input_bit, HasBit}
 use Rattle.opgen_ports.proofs.Reached.{rises-cons, falls-cons, ceiling}
 use Rattle.opgen_ports.proofs.Widths.{reach_within, width_by, some_width}
-use Rattle.opgen_kinds.proofs.Lawful.{IsLawful}
+use Rattle.opgen_ports.proofs.Lawful.{IsLawful}
 use Rattle.opgen_kinds.proofs.PortWidths.{input_room}
 use Rattle.opgen_kinds.proofs.of_kind.Sum.{sums_held, sum_in128}
 

@@ -1,13 +1,12 @@
 -- Quotients of a document without a fault.
 use Rattle.std.proofs.Common.{◌≡◌, false, Some, refl, ap}
-use Rattle.opgen_kinds.specs.declared.kind.Kind.TheVariants as kind
+use Rattle.opgen_ports.specs.declared.kind.Kind.TheVariants as kind
 use Rattle.opgen_ports.proofs.InputPorts.{all_two}
 use Rattle.toml.specs.Data.{Members}
 use Rattle.opgen_document.specs.declared.key.Key.TheVariants as key
 use Rattle.opgen_spec.specs.kinds.{kind_of, entry}
 use Rattle.opgen_spec.proofs.sound.Sound.{IsFew, IsSound, none_given}
-use Rattle.opgen_document.specs.Document.{flag_in, flag_at, text_at}
-use Rattle.opgen_document.specs.Versions.{version_of}
+use Rattle.opgen_document.specs.Document.{flag_in, flag_at, text_at, version_of}
 use Rattle.opgen_document.specs.Ranges.{width_outside, near_outside}
 use Rattle.opgen_spec.proofs.Fine.{AreFine, IsFine, own, typed}
 use Rattle.opgen_spec.proofs.Known.{not_there, signed_key}

@@ -1,14 +1,14 @@
 -- Products by several constants of a document without a fault.
 use Rattle.std.proofs.Common.{◌≡◌, Some, None, refl}
-use Rattle.opgen_kinds.specs.declared.kind.Kind.TheVariants as kind
+use Rattle.opgen_ports.specs.declared.kind.Kind.TheVariants as kind
 use Rattle.opgen_ports.proofs.InputPorts.{all_one}
 use Rattle.toml.specs.Data.{Members}
 use Rattle.opgen_document.specs.declared.key.Key.TheVariants as key
 use Rattle.opgen_spec.specs.kinds.{kind_of, entry}
 use Rattle.opgen_spec.proofs.sound.Sound.{IsFew, IsSound, none_given}
-use Rattle.opgen_document.specs.Document.{value_at, text_at, items_at}
+use Rattle.opgen_document.specs.Document.{value_at, text_at, items_at, is_searched}
 use Rattle.opgen_document.specs.Numbers.{numerators}
-use Rattle.opgen_document.specs.Ranges.{width_outside, power_outside, array_outside, is_searched, constant_limit}
+use Rattle.opgen_document.specs.Ranges.{width_outside, power_outside, array_outside, constant_limit}
 use Rattle.opgen_document.proofs.Decimals.{integers_written, numbers_typed}
 use Rattle.opgen_spec.proofs.Fine.{AreFine, IsFine, own, own_there, needed}
 use Rattle.opgen_spec.proofs.Ranges.{widest, width_few, input_in, power_in, one_near, array_in}

@@ -7,25 +7,23 @@ use Rattle.std.specs.Str.{bytes_eq}
 use Rattle.std.proofs.lemmas.Bool.{and_parts}
 use Rattle.std.proofs.lemmas.Int.{ints}
 use Rattle.toml.specs.Data.{Data, integer, Items, no_items, item, Members, as_integer}
-use Rattle.opgen_kinds.specs.Kinds.{kind_name}
-use Rattle.opgen_kinds.specs.declared.kind.Kind.{Kind}
-use Rattle.opgen_kinds.specs.declared.kind.Kind.TheVariants as kind
-use Rattle.opgen_kinds.specs.Sop.{IsScaled, IsTimes, IsSop}
+use Rattle.opgen_ports.specs.Meaning.{kind_name}
+use Rattle.opgen_ports.specs.declared.kind.Kind.{Kind}
+use Rattle.opgen_ports.specs.declared.kind.Kind.TheVariants as kind
+use Rattle.opgen_terms.specs.Sop.{IsScaled, IsTimes, IsSop}
 use Rattle.opgen_ports.specs.declared.ports.PortFormat.{PortFormat}
 use Rattle.opgen_ports.specs.Limits.{most_input}
 use Rattle.opgen_ports.specs.Ranges.{IsInput, IsWithin}
 use Rattle.opgen_document.specs.declared.array.Array.TheVariants as array
 use Rattle.opgen_document.specs.declared.key.Key.{Key}
 use Rattle.opgen_document.specs.declared.key.Key.TheVariants as key
-use Rattle.opgen_document.specs.declared.version.Version.{Version}
-use Rattle.opgen_document.specs.declared.version.Version.TheVariants.{First, Second, Third}
-use Rattle.opgen_document.specs.Document.{value_at, number_in, number_at, text_at, items_at, list_of, is_empty, in_tables}
-use Rattle.opgen_document.specs.Fields.{IsNumberAsWritten}
+use Rattle.opgen_document.specs.declared.key.Version.{Version}
+use Rattle.opgen_document.specs.declared.key.Version.TheVariants.{First, Second, Third}
+use Rattle.opgen_document.specs.Document.{value_at, number_in, number_at, text_at, items_at, list_of, is_empty, in_tables, IsNumberAsWritten, version_of}
 use Rattle.opgen_document.specs.Keys.{line_keys}
 use Rattle.opgen_document.specs.Numbers.{are_texts, given_denominator}
 use Rattle.opgen_document.specs.Ranges.{length_outside, power_outside, numerator_outside, denominator_outside}
 use Rattle.opgen_document.specs.Types.{is_wrong}
-use Rattle.opgen_document.specs.Versions.{version_of}
 use Rattle.opgen_document.proofs.Ranges.{inside, zero_inside, given_in}
 use Rattle.opgen_document.proofs.Values.{IsNumber, number_stands, text_stands}
 use Rattle.opgen_spec.specs.kinds.{early_kinds, kind_named, kind_of, entry}
@@ -197,19 +195,25 @@ module _ (ms : Members) (h : HasSop ms) where
       let product_count = read_length (times_of inputs) (items_at ms key.Product) products.tables in
       let (positive, small) = given_in ms h.den in
       record {
-        some = omega (arith, ints, fewest, input_count ms h.fine);
-        few = omega (arith, ints, most, input_count ms h.fine);
-        inputs = all_inputs ms h.fine (λ p. IsInput p.format) (input_in ms);
-        any = omega (arith, some_terms (items_at ms key.Scaled) (items_at ms key.Product) some, scaled_count, product_count);
-        few_scaled = omega (arith, ints, few_scaled, scaled_count);
-        scaled = lines_in (IsScaled (length ports)) (scaled_of inputs) array.Scaled ms 1 (items_at ms key.Scaled) scaled scaled_in;
-        few_products = omega (arith, few_items 16 (value_at ms key.Product) h.products, product_count);
-        products = lines_in (IsTimes (length ports)) (times_of inputs) array.Product ms 1 (items_at ms key.Product) products times_in;
-        offset = within (number_at ms key.Offset) (zero_inside (value_at ms key.Offset) (negsuc 1073741823) (pos 1073741824)
-            (omega (arith, ints)) (omega (arith, ints)) h.offset);
-        out_lsb = power_in ms key.OutLsb h.out_lsb;
-        positive = positive;
-        small = small;
+        inputs = record {
+          some = omega (arith, ints, fewest, input_count ms h.fine);
+          few = omega (arith, ints, most, input_count ms h.fine);
+          formats = all_inputs ms h.fine (λ p. IsInput p.format) (input_in ms);
+        };
+        terms = record {
+          few_scaled = omega (arith, ints, few_scaled, scaled_count);
+          few_products = omega (arith, few_items 16 (value_at ms key.Product) h.products, product_count);
+          any = omega (arith, some_terms (items_at ms key.Scaled) (items_at ms key.Product) some, scaled_count, product_count);
+          scaled = lines_in (IsScaled (length ports)) (scaled_of inputs) array.Scaled ms 1 (items_at ms key.Scaled) scaled scaled_in;
+          products = lines_in (IsTimes (length ports)) (times_of inputs) array.Product ms 1 (items_at ms key.Product) products times_in;
+        };
+        numbers = record {
+          offset = within (number_at ms key.Offset) (zero_inside (value_at ms key.Offset) (negsuc 1073741823) (pos 1073741824)
+              (omega (arith, ints)) (omega (arith, ints)) h.offset);
+          out_lsb = power_in ms key.OutLsb h.out_lsb;
+          positive = positive;
+          small = small;
+        };
       }
 
 -- numbers that may be left out

@@ -2,7 +2,7 @@
 use Rattle.std.proofs.Common.{◌≡◌, ◌≤◌, ℕ, true, List, [], Some, refl, arith}
 use Rattle.std.specs.Prelude.{IsTrue}
 use Rattle.toml.specs.Data.{Members}
-use Rattle.opgen_kinds.specs.declared.kind.Kind.{Kind}
+use Rattle.opgen_ports.specs.declared.kind.Kind.{Kind}
 use Rattle.opgen_ports.specs.declared.ports.PortFormat.{PortFormat}
 use Rattle.opgen_operator.specs.Operator.{HasInputsWithin, given_names, marks_exact, has_value, IsOperator, IsInVersion}
 use Rattle.opgen_operator.specs.Operator as operators
@@ -10,12 +10,11 @@ use Rattle.opgen_operator.specs.GivenNames.{AreGivenNames}
 use Rattle.opgen_operator.specs.Valid.{AgreesOnExact}
 use Rattle.opgen_operator.proofs.Listed.{given_by}
 use Rattle.opgen_document.specs.declared.key.Key.TheVariants as key
-use Rattle.opgen_document.specs.declared.version.Version.{Version}
-use Rattle.opgen_document.specs.declared.version.Version.TheVariants.{First, Second, Third}
-use Rattle.opgen_document.specs.Document.{text_at, flag_at, count_at}
+use Rattle.opgen_document.specs.declared.key.Version.{Version}
+use Rattle.opgen_document.specs.declared.key.Version.TheVariants.{First, Second, Third}
+use Rattle.opgen_document.specs.Document.{text_at, flag_at, count_at, since_third}
 use Rattle.opgen_document.specs.Keys.{may_be}
 use Rattle.opgen_document.specs.Ranges.{out_width_outside}
-use Rattle.opgen_document.specs.Versions.{since_third}
 use Rattle.opgen_spec.specs.kinds.{kind_of, entry, IsOperatorAsWritten}
 use Rattle.opgen_spec.proofs.Fine.{AreFine}
 use Rattle.opgen_spec.proofs.Ranges.{widest}

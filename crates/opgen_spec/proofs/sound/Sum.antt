@@ -1,16 +1,15 @@
 -- Scales and filters of a document without a fault.
 use Rattle.std.proofs.Common.{◌≡◌, ℕ, ◌⊎◌, false, [], ◌∷◌, Some, None, option_and_then, refl}
-use Rattle.opgen_kinds.specs.declared.kind.Kind.TheVariants as kind
+use Rattle.opgen_ports.specs.declared.kind.Kind.TheVariants as kind
 use Rattle.opgen_kinds.specs.Sum.{IsSum}
 use Rattle.opgen_ports.proofs.InputPorts.{all_one}
 use Rattle.toml.specs.Data.{Members}
 use Rattle.opgen_document.specs.declared.key.Key.TheVariants as key
 use Rattle.opgen_spec.specs.kinds.{kind_of, entry}
 use Rattle.opgen_spec.proofs.sound.Sound.{IsFew, IsSound, none_given, in_third}
-use Rattle.opgen_document.specs.Document.{value_at, text_at, items_at, count_at, small_at}
+use Rattle.opgen_document.specs.Document.{value_at, text_at, items_at, count_at, small_at, counters_at}
 use Rattle.opgen_document.specs.Ranges.{width_outside, power_outside, coefficients_outside, denominator_outside}
-use Rattle.opgen_document.specs.Fields.{counters_at}
-use Rattle.opgen_kinds.specs.Versions.{AreNear}
+use Rattle.opgen_ports.specs.Ranges.{AreNear}
 use Rattle.opgen_spec.specs.kinds.Sum.{sum_of, IsSumAsWritten}
 use Rattle.opgen_spec.proofs.Compressors.{IsTaken, compressor_cases, first_without, compressor_written}
 use Rattle.opgen_spec.proofs.Fine.{AreFine, IsFine, own, own_range}

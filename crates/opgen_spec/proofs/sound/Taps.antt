@@ -3,7 +3,7 @@ use Rattle.std.proofs.Common.{◌≡◌, ◌≤◌, ◌⊎◌, inl, inr, Bool, t
 use Rattle.std.specs.Prelude.{pos, All, IsTrue}
 use Rattle.std.specs.Option.{option_map_or}
 use Rattle.std.proofs.lemmas.Int.{ints}
-use Rattle.opgen_kinds.specs.declared.kind.Kind.TheVariants as kind
+use Rattle.opgen_ports.specs.declared.kind.Kind.TheVariants as kind
 use Rattle.opgen_ports.specs.OddParts.{odd_part_count}
 use Rattle.opgen_ports.specs.Ranges.{IsPower, IsWithin}
 use Rattle.opgen_ports.proofs.InputPorts.{all_one}
@@ -11,10 +11,9 @@ use Rattle.toml.specs.Data.{Data, integer, Items, Members}
 use Rattle.opgen_document.specs.declared.key.Key.TheVariants as key
 use Rattle.opgen_spec.specs.kinds.{kind_of, entry}
 use Rattle.opgen_spec.proofs.sound.Sound.{IsFew, IsSound, none_given, in_third}
-use Rattle.opgen_document.specs.Document.{value_at, text_at, items_at, small_at}
+use Rattle.opgen_document.specs.Document.{value_at, text_at, items_at, small_at, version_of, is_searched}
 use Rattle.opgen_document.specs.Numbers.{numerators}
-use Rattle.opgen_document.specs.Ranges.{width_outside, power_outside, array_outside, is_searched, constant_limit}
-use Rattle.opgen_document.specs.Versions.{version_of}
+use Rattle.opgen_document.specs.Ranges.{width_outside, power_outside, array_outside, constant_limit}
 use Rattle.opgen_spec.specs.kinds.Taps.{parts_outside, taps_outside, out_lsb_of}
 use Rattle.opgen_document.proofs.Decimals.{integers_written, numbers_typed}
 use Rattle.opgen_spec.proofs.Fine.{AreFine, IsFine, own, own_there, needed, not_late}

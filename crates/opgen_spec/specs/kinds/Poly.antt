@@ -5,15 +5,14 @@ use Rattle.opgen_kinds.specs.declared.poly.Poly.{Poly as Polynomial}
 use Rattle.opgen_operator.specs.declared.operator.Operator.TheVariants as operator
 use Rattle.opgen_document.specs.declared.key.Key.{Key}
 use Rattle.opgen_document.specs.declared.key.Key.TheVariants as key
-use Rattle.opgen_document.specs.declared.stand.Stand.{Stand}
-use Rattle.opgen_document.specs.declared.stand.Stand.TheVariants.{Absent, Optional, Needed}
+use Rattle.opgen_document.specs.declared.key.Stand.{Stand}
+use Rattle.opgen_document.specs.declared.key.Stand.TheVariants.{Absent, Optional, Needed}
 use Rattle.opgen_num.specs.declared.format.Format.{Format}
 use Rattle.opgen_document.specs.Decimals.{AreCoefficients}
-use Rattle.opgen_document.specs.Document.{value_at, number_at, items_at, count_at, small, small_at}
+use Rattle.opgen_document.specs.Document.{value_at, number_at, items_at, count_at, small, small_at, since_third}
 use Rattle.opgen_document.specs.Numbers.{numerators, denominator_of}
 use Rattle.opgen_document.specs.Ranges.{outside, width_outside, out_width_outside, coefficients_outside, denominator_outside}
-use Rattle.opgen_document.specs.declared.version.Version.{Version}
-use Rattle.opgen_document.specs.Versions.{since_third}
+use Rattle.opgen_document.specs.declared.key.Version.{Version}
 use Rattle.opgen_spec.specs.Entry.{Entry}
 
 abbrev pub stand : Version → Key → Stand

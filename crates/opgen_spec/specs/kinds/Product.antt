@@ -5,13 +5,11 @@ use Rattle.opgen_operator.specs.declared.operator.Operator.TheVariants as operat
 use Rattle.toml.specs.Data.{boolean, integer, Members}
 use Rattle.opgen_document.specs.declared.key.Key.{Key}
 use Rattle.opgen_document.specs.declared.key.Key.TheVariants as key
-use Rattle.opgen_document.specs.declared.stand.Stand.{Stand}
-use Rattle.opgen_document.specs.declared.stand.Stand.TheVariants.{Absent, Needed}
-use Rattle.opgen_document.specs.Document.{value_at, text_at, small_at}
-use Rattle.opgen_document.specs.Fields.{format_at, counters_at, IsInputAsWritten, IsCompressorAsWritten}
+use Rattle.opgen_document.specs.declared.key.Stand.{Stand}
+use Rattle.opgen_document.specs.declared.key.Stand.TheVariants.{Absent, Needed}
+use Rattle.opgen_document.specs.Document.{value_at, text_at, small_at, format_at, counters_at, IsInputAsWritten, IsCompressorAsWritten, since_second, since_third}
 use Rattle.opgen_document.specs.Ranges.{power_outside, out_width_outside, compressor_outside}
-use Rattle.opgen_document.specs.declared.version.Version.{Version}
-use Rattle.opgen_document.specs.Versions.{since_second, since_third}
+use Rattle.opgen_document.specs.declared.key.Version.{Version}
 use Rattle.opgen_spec.specs.Entry.{Entry, input_outside}
 
 abbrev pub stand : Version → Key → Stand

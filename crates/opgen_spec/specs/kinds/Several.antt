@@ -5,15 +5,13 @@ use Rattle.opgen_operator.specs.declared.operator.Operator.TheVariants as operat
 use Rattle.toml.specs.Data.{boolean, Items, Members}
 use Rattle.opgen_document.specs.declared.key.Key.{Key}
 use Rattle.opgen_document.specs.declared.key.Key.TheVariants as key
-use Rattle.opgen_document.specs.declared.stand.Stand.{Stand}
-use Rattle.opgen_document.specs.declared.stand.Stand.TheVariants.{Absent, Needed}
+use Rattle.opgen_document.specs.declared.key.Stand.{Stand}
+use Rattle.opgen_document.specs.declared.key.Stand.TheVariants.{Absent, Needed}
 use Rattle.opgen_document.specs.Decimals.{AreNumerators}
-use Rattle.opgen_document.specs.Document.{value_at, items_at, count_at}
-use Rattle.opgen_document.specs.Fields.{format_at, IsInputAsWritten, IsSearchAsWritten}
+use Rattle.opgen_document.specs.Document.{value_at, items_at, count_at, format_at, IsInputAsWritten, IsSearchAsWritten, needed_before_third, is_searched}
 use Rattle.opgen_document.specs.Numbers.{numerators}
-use Rattle.opgen_document.specs.Ranges.{power_outside, array_outside, is_searched, constant_limit, extra_outside}
-use Rattle.opgen_document.specs.declared.version.Version.{Version}
-use Rattle.opgen_document.specs.Versions.{needed_before_third}
+use Rattle.opgen_document.specs.Ranges.{power_outside, array_outside, constant_limit, extra_outside}
+use Rattle.opgen_document.specs.declared.key.Version.{Version}
 use Rattle.opgen_spec.specs.Entry.{Entry, input_outside}
 
 abbrev pub stand : Version → Key → Stand

@@ -5,12 +5,11 @@ use Rattle.opgen_operator.specs.declared.operator.Operator.TheVariants as operat
 use Rattle.toml.specs.Data.{integer, Members}
 use Rattle.opgen_document.specs.declared.key.Key.{Key}
 use Rattle.opgen_document.specs.declared.key.Key.TheVariants as key
-use Rattle.opgen_document.specs.declared.stand.Stand.{Stand}
-use Rattle.opgen_document.specs.declared.stand.Stand.TheVariants.{Absent, Needed}
-use Rattle.opgen_document.specs.Document.{value_at, number_at, flag_at, count_at}
-use Rattle.opgen_document.specs.Fields.{unsigned_at, IsInputAsWritten}
+use Rattle.opgen_document.specs.declared.key.Stand.{Stand}
+use Rattle.opgen_document.specs.declared.key.Stand.TheVariants.{Absent, Needed}
+use Rattle.opgen_document.specs.Document.{value_at, number_at, flag_at, count_at, unsigned_at, IsInputAsWritten}
 use Rattle.opgen_document.specs.Ranges.{outside, power_outside}
-use Rattle.opgen_document.specs.declared.version.Version.{Version}
+use Rattle.opgen_document.specs.declared.key.Version.{Version}
 use Rattle.opgen_spec.specs.Entry.{Entry, input_outside}
 
 abbrev pub stand : Version → Key → Stand

@@ -3,23 +3,21 @@ use Rattle.std.specs.Prelude.{◌≡◌, ◌==◌, ◌&&◌, ◌+◌, ℕ, ℤ, 
 use Rattle.std.specs.List.{position}
 use Rattle.std.specs.Option.{option_map_or}
 use Rattle.std.specs.Str.{bytes_eq}
-use Rattle.opgen_kinds.specs.declared.sop.Scaled.{Scaled}
-use Rattle.opgen_kinds.specs.declared.sop.Sop.{Sop}
-use Rattle.opgen_kinds.specs.declared.sop.Times.{Times}
+use Rattle.opgen_terms.specs.declared.sop.Scaled.{Scaled}
+use Rattle.opgen_terms.specs.declared.sop.Sop.{Sop}
+use Rattle.opgen_terms.specs.declared.sop.Times.{Times}
 use Rattle.opgen_operator.specs.declared.operator.Operator.TheVariants as operator
 use Rattle.opgen_operator.specs.GivenNames.{is_port_name}
 use Rattle.opgen_ports.specs.declared.ports.PortFormat.{PortFormat}
 use Rattle.toml.specs.Data.{Data, string, integer, boolean, table, Items, Members}
 use Rattle.opgen_document.specs.declared.key.Key.{Key}
 use Rattle.opgen_document.specs.declared.key.Key.TheVariants as key
-use Rattle.opgen_document.specs.declared.stand.Stand.{Stand}
-use Rattle.opgen_document.specs.declared.stand.Stand.TheVariants.{Absent, Optional, Needed}
-use Rattle.opgen_document.specs.Document.{value_at, number_at, text_at, flag_at, items_at, list_of, is_empty, in_tables, count, count_at, small_at}
-use Rattle.opgen_document.specs.Fields.{counters_at, AreLinesAsWritten, IsFlagAsWritten, IsNumberAsWritten, IsCompressorAsWritten}
+use Rattle.opgen_document.specs.declared.key.Stand.{Stand}
+use Rattle.opgen_document.specs.declared.key.Stand.TheVariants.{Absent, Optional, Needed}
+use Rattle.opgen_document.specs.Document.{value_at, number_at, text_at, flag_at, items_at, list_of, is_empty, in_tables, count, count_at, small_at, counters_at, AreLinesAsWritten, IsFlagAsWritten, IsNumberAsWritten, IsCompressorAsWritten, since_second, since_third}
 use Rattle.opgen_document.specs.Numbers.{given_denominator}
 use Rattle.opgen_document.specs.Ranges.{length_outside, power_outside, out_width_outside, numerator_outside, denominator_outside, compressor_outside}
-use Rattle.opgen_document.specs.declared.version.Version.{Version}
-use Rattle.opgen_document.specs.Versions.{since_second, since_third}
+use Rattle.opgen_document.specs.declared.key.Version.{Version}
 use Rattle.opgen_spec.specs.Entry.{Entry}
 
 abbrev pub stand : Version → Key → Stand

@@ -5,15 +5,13 @@ use Rattle.opgen_operator.specs.declared.operator.Operator.TheVariants as operat
 use Rattle.toml.specs.Data.{boolean, integer, Members}
 use Rattle.opgen_document.specs.declared.key.Key.{Key}
 use Rattle.opgen_document.specs.declared.key.Key.TheVariants as key
-use Rattle.opgen_document.specs.declared.stand.Stand.{Stand}
-use Rattle.opgen_document.specs.declared.stand.Stand.TheVariants.{Absent, Optional, Needed}
+use Rattle.opgen_document.specs.declared.key.Stand.{Stand}
+use Rattle.opgen_document.specs.declared.key.Stand.TheVariants.{Absent, Optional, Needed}
 use Rattle.opgen_document.specs.Decimals.{AreCoefficients}
-use Rattle.opgen_document.specs.Document.{value_at, text_at, flag_at, items_at, small_at}
-use Rattle.opgen_document.specs.Fields.{format_at, counters_at, IsInputAsWritten, IsCompressorAsWritten}
+use Rattle.opgen_document.specs.Document.{value_at, text_at, flag_at, items_at, small_at, format_at, counters_at, IsInputAsWritten, IsCompressorAsWritten, since_second, since_third}
 use Rattle.opgen_document.specs.Numbers.{numerators, denominator_of}
 use Rattle.opgen_document.specs.Ranges.{power_outside, out_width_outside, coefficients_outside, denominator_outside, compressor_outside}
-use Rattle.opgen_document.specs.declared.version.Version.{Version}
-use Rattle.opgen_document.specs.Versions.{since_second, since_third}
+use Rattle.opgen_document.specs.declared.key.Version.{Version}
 use Rattle.opgen_spec.specs.Entry.{Entry, input_outside}
 
 -- how a key stands in a document of a version

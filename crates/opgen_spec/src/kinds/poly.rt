@@ -44,7 +44,7 @@ pub(crate) fn key_outside(table: &Table, key: Key) -> Option<i64>
     }
 }
 
-/// The format of an unsigned input below 1.
+// The format of an unsigned input below 1.
 fn below_one_at(table: &Table) -> Format
     ensures { result ≡ below_one_at (table_view table.now) }
 {

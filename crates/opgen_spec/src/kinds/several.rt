@@ -26,7 +26,7 @@ pub(crate) fn stand(version: Version, key: Key) -> Stand
     }
 }
 
-/// The length of the constants, or the first of them, that is out of bounds.
+// The length of the constants, or the first of them, that is out of bounds.
 fn constants_outside(searched: bool, items: &[Value]) -> Option<i64>
     ensures { result ≡ constants_outside searched (items_view items.now) }
 {

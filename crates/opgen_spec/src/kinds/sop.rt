@@ -32,7 +32,7 @@ pub(crate) fn stand(version: Version, key: Key) -> Stand
     }
 }
 
-/// The name of an input, by its table.
+// The name of an input, by its table.
 fn name_in(input: &Value) -> &str
     ensures { result.now ≡ name_in (view input.now) }
 {
@@ -49,7 +49,7 @@ fn place_named(inputs: &[Value], name: &str) -> Option<usize>
     inputs.iter().position(|input| name_in(input) == name)
 }
 
-/// The place of the first input that has the name.
+// The place of the first input that has the name.
 fn input_named(inputs: &[Value], name: &str) -> Option<usize>
     ensures value { result ≡ input_named (items_view inputs.now) name.now }
     ensures within { IfSome result (λ place. place < length inputs.now) }
@@ -57,7 +57,7 @@ fn input_named(inputs: &[Value], name: &str) -> Option<usize>
     place_named(inputs, name)
 }
 
-/// Whether the first input of the name is that of the line.
+// Whether the first input of the name is that of the line.
 fn is_first_named(inputs: &[Value], line: u64, name: &str) -> bool
     ensures { result ≡ is_first_named (items_view inputs.now) line name.now }
 {
@@ -101,14 +101,14 @@ fn is_empty(items: &[Value]) -> bool
     items.is_empty()
 }
 
-/// Whether there is no term but perhaps an offset.
+// Whether there is no term but perhaps an offset.
 fn has_no_terms(table: &Table) -> bool
     ensures { result ≡ has_no_terms (table_view table.now) }
 {
     is_empty(items_at(table, Key::Scaled)) && is_empty(items_at(table, Key::Product))
 }
 
-/// The number of constants times inputs, if it is out of bounds, or 0 if there are no terms at all.
+// The number of constants times inputs, if it is out of bounds, or 0 if there are no terms at all.
 fn scaled_outside(table: &Table) -> Option<i64>
     ensures { result ≡ scaled_outside (table_view table.now) }
 {
@@ -136,7 +136,7 @@ pub(crate) fn key_outside(table: &Table, key: Key) -> Option<i64>
     }
 }
 
-/// The place of the input of a name.
+// The place of the input of a name.
 fn place_of(inputs: &[Value], name: &str) -> u32
     ensures { result ≡ place_of (items_view inputs.now) name.now }
 {
@@ -157,7 +157,7 @@ fn input_of(alloc: Global, table: &Table) -> Result<PortFormat, AllocError>
     })
 }
 
-/// Appends the input of an item, if it is a table.
+// Appends the input of an item, if it is a table.
 fn push_input(alloc: Global, inputs: &mut Items<PortFormat>, item: &Value) -> Result<(), AllocError>
     ensures { OnOk result (inputs.new ≡ inputs.old ++ in_table input_of (view item.now)) }
 {
@@ -186,7 +186,7 @@ fn scaled_of(inputs: &[Value], table: &Table) -> Scaled
     }
 }
 
-/// Appends the term of an item, if it is a table.
+// Appends the term of an item, if it is a table.
 fn push_scaled(inputs: &[Value], terms: &mut Items<Scaled>, item: &Value) -> Result<(), AllocError>
     ensures { OnOk result
         (terms.new ≡ terms.old ++ in_table (scaled_of (items_view inputs.now)) (view item.now)) }
@@ -197,7 +197,7 @@ fn push_scaled(inputs: &[Value], terms: &mut Items<Scaled>, item: &Value) -> Res
     Ok(())
 }
 
-/// The constants times inputs.
+// The constants times inputs.
 fn all_scaled(alloc: Global, inputs: &[Value], items: &[Value]) -> Result<Items<Scaled>, AllocError>
     ensures { IfOk result
         (λ terms. terms ≡ in_tables (scaled_of (items_view inputs.now)) (items_view items.now)) }
@@ -219,7 +219,7 @@ fn times_of(inputs: &[Value], table: &Table) -> Times
     }
 }
 
-/// Appends the product of an item, if it is a table.
+// Appends the product of an item, if it is a table.
 fn push_times(inputs: &[Value], products: &mut Items<Times>, item: &Value) -> Result<(), AllocError>
     ensures { OnOk result
         (products.new ≡ products.old ++ in_table (times_of (items_view inputs.now)) (view item.now)) }
@@ -230,7 +230,7 @@ fn push_times(inputs: &[Value], products: &mut Items<Times>, item: &Value) -> Re
     Ok(())
 }
 
-/// The products of inputs.
+// The products of inputs.
 fn all_times(alloc: Global, inputs: &[Value], items: &[Value]) -> Result<Items<Times>, AllocError>
     ensures { IfOk result
         (λ products. products ≡ in_tables (times_of (items_view inputs.now)) (items_view items.now)) }

@@ -37,7 +37,7 @@ pub(crate) fn stand(version: Version, key: Key) -> Stand
     }
 }
 
-/// How many different odd parts the numbers of an array have.
+// How many different odd parts the numbers of an array have.
 fn part_count(items: &[Value]) -> u32
     requires few { length items.now ≤ 32 }
     requires small { All (IsWithin 2047) (numerators (items_view items.now)) }
@@ -51,7 +51,7 @@ fn part_count(items: &[Value]) -> u32
     odd_part_count(&numbers[..items.len()])
 }
 
-/// The number of different odd parts, where a search does not take as many.
+// The number of different odd parts, where a search does not take as many.
 fn parts_outside(items: &[Value]) -> Option<i64>
     requires few { length items.now ≤ 32 }
     requires small { All (IsWithin 2047) (numerators (items_view items.now)) }
@@ -60,8 +60,8 @@ fn parts_outside(items: &[Value]) -> Option<i64>
     outside(0, 8, i64::from(part_count(items)))
 }
 
-/// The length of the taps, the first of them, or the number of their odd parts, that is out of
-/// bounds.
+// The length of the taps, the first of them, or the number of their odd parts, that is out of
+// bounds.
 fn taps_outside(searched: bool, items: &[Value]) -> Option<i64>
     ensures { result ≡ taps_outside searched (items_view items.now) }
 {
@@ -88,7 +88,7 @@ pub(crate) fn key_outside(table: &Table, key: Key) -> Option<i64>
     }
 }
 
-/// The power of the output's lowest bit: that of the input's if the document does not say it.
+// The power of the output's lowest bit: that of the input's if the document does not say it.
 fn out_lsb_of(table: &Table) -> i32
     ensures { result ≡ out_lsb_of (table_view table.now) }
 {

@@ -2,7 +2,7 @@ use Rattle.std.proofs.Common.{◌≡◌, drop, map}
 use Rattle.std.specs.Prelude.{◌↔◌}
 use Rattle.std.specs.List.{AllZip}
 use Rattle.opgen_check.specs.Ports.{IsSamePort}
-use Rattle.opgen_operator.specs.DesignPorts.{port_of}
+use Rattle.opgen_operator.specs.Outputs.{port_of}
 use Rattle.opgen_check.proofs.ports.are_side.Given as goal
 
 abbrev pub invariant-ports : goal.invariant-ports

@@ -6,7 +6,7 @@ use Rattle.opgen_constdiv.proofs.rows.rows.Goals as goal
 
 pub new-requires : goal.new-requires
 new-requires c =
-    omega (arith, c.from.ensures, c.row.ensures, row-below c.args.divisor c.requires.small c.addresses.address)
+    rw (c.row.ensures, c.from.ensures) (omega (arith, row-below c.args.divisor c.requires.small c.addresses.address))
 
 pub addresses-preserved : goal.addresses-preserved
 addresses-preserved c =

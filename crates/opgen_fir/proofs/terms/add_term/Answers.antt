@@ -9,7 +9,7 @@ use Rattle.opgen_heap.specs.Sum.{columns_sum}
 use Rattle.opgen_net.specs.Flow.{flow}
 use Rattle.opgen_operator.specs.declared.operator.Operator.TheVariants.{Fir}
 use Rattle.opgen_kinds.specs.Sum.{IsEntrySmall, sum_shift, guard_bits}
-use Rattle.opgen_ports.specs.Shifts.{up, down}
+use Rattle.opgen_ports.specs.Reaches.{up, down}
 use Rattle.opgen_operator.proofs.Accepted.{accepted_ranges}
 use Rattle.opgen_kcm.specs.Chunks.{chunk_count, number}
 use Rattle.opgen_kcm.specs.Entries.{in_guard_units}

@@ -1,6 +1,6 @@
 use Rattle.std.proofs.Common.{ℕ, ◌+◌, ap, ◌∙◌, arith}
 use Rattle.std.specs.Prelude.{slice_index}
-use Rattle.opgen_design.specs.Width.{IsWidth}
+use Rattle.opgen_design.specs.Value.{IsWidth}
 use Rattle.opgen_net.specs.declared.net.Net.{Net}
 use Rattle.opgen_net.specs.Valid.{widths}
 use Rattle.opgen_graph.specs.Placing.{IsNode}

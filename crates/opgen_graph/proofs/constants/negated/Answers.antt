@@ -3,7 +3,7 @@ use Rattle.opgen_num.specs.WordLaws.{length-word}
 use Rattle.opgen_num.specs.Words.{word}
 use Rattle.opgen_design.specs.Plain.{plain}
 use Rattle.opgen_design.specs.Tree.{Tree}
-use Rattle.opgen_design.specs.Width.{IsWidth}
+use Rattle.opgen_design.specs.Value.{IsWidth}
 use Rattle.opgen_net.specs.declared.net.Net.{Net}
 use Rattle.opgen_net.specs.declared.node.Node.TheVariants.{Constant}
 use Rattle.opgen_net.specs.Valid.{widths, FitsNodes}

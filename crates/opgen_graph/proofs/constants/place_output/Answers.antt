@@ -4,7 +4,7 @@ use Rattle.std.specs.Prelude.{ℤ, pos, slice_index, All}
 use Rattle.std.specs.Fmt.{decimal}
 use Rattle.std.specs.Int.{w64}
 use Rattle.opgen_num.specs.declared.format.Format.{Format}
-use Rattle.opgen_design.specs.Width.{IsWidth}
+use Rattle.opgen_design.specs.Value.{IsWidth}
 use Rattle.opgen_net.specs.declared.net.Net.{Net}
 use Rattle.opgen_net.specs.Valid.{widths}
 use Rattle.opgen_kinds.specs.declared.several.Several.{Several}

@@ -3,7 +3,7 @@ use Rattle.std.specs.Int.{w128, int_rem_euclid}
 use Rattle.std.specs.Int.RustNames.{unsigned_abs}
 use Rattle.std.proofs.lemmas.Int.{of_z-to_z, to_z-of_z, to_z_pos}
 use Rattle.std.proofs.Math.Nat.{pow-le-pow_right}
-use Rattle.opgen_num.specs.declared.TheConstants.{MAX_WIDTH}
+use Rattle.opgen_num.specs.declared.format.TheConstants.{MAX_WIDTH}
 use Rattle.opgen_heap.proofs.heap.modulo.Goals as goal
 
 pub rem_euclid-requires-clause-no_overflow : goal.rem_euclid-requires-clause-no_overflow

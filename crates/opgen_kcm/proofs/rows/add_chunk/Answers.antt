@@ -4,7 +4,7 @@ use Rattle.std.specs.Int.{w128}
 use Rattle.std.proofs.lemmas.Int.{to_z-of_z}
 use Rattle.std.proofs.lemmas.Nat.{pow_pos}
 use Rattle.opgen_heap.specs.Adding.{with_constant}
-use Rattle.opgen_num.specs.declared.TheConstants.{MAX_WIDTH}
+use Rattle.opgen_num.specs.declared.format.TheConstants.{MAX_WIDTH}
 use Rattle.opgen_kcm.specs.Entries.{all_entries, least_of, offsets, shape_of}
 use Rattle.opgen_kcm.specs.Recipe.{Terms, with_entries, HasTermsMore}
 use Rattle.opgen_kcm.specs.Multiple.{sum_at}

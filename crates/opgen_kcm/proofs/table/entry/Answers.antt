@@ -7,8 +7,11 @@ use Rattle.opgen_kcm.proofs.table.entry.Goals as goal
 
 pub times-requires : goal.times-requires
 times-requires c =
-    rw (to_z-of_z w128 c.args.digit c.ranges.digit, to_z-of_z w128 c.weight.result (record { sfits = c.weight.type_inv }), c.weight.ensures)
-    (digit-below (unsigned_abs c.args.digit) c.args.chunk.low c.args.chunk.width c.requires.digit c.requires.chunk)
+    rw (
+      to_z-of_z w128 c.args.digit c.ranges.digit,
+      to_z-of_z w128 c.signed_power.result (record { sfits = c.signed_power.type_inv }),
+      c.signed_power.ensures.value,
+    ) (digit-below (unsigned_abs c.args.digit) c.args.chunk.low c.args.chunk.width c.requires.digit c.requires.chunk)
 
 pub times-requires-2 : goal.times-requires-2
 times-requires-2 c =
@@ -22,8 +25,8 @@ times-requires-2 c =
       to_z-of_z w128 c.args.q.num (small-fits c.args.q.num small.0),
       c.times.ensures.size,
       to_z-of_z w128 c.args.digit c.ranges.digit,
-      to_z-of_z w128 c.weight.result (record { sfits = c.weight.type_inv }),
-      c.weight.ensures,
+      to_z-of_z w128 c.signed_power.result (record { sfits = c.signed_power.type_inv }),
+      c.signed_power.ensures.value,
     ) (omega (arith, most))
 
 pub nearest-requires-clause-small : goal.nearest-requires-clause-small
@@ -41,6 +44,6 @@ nearest-requires-clause-small c =
       to_z-of_z w128 c.args.q.num (small-fits c.args.q.num small.0),
       c.times.ensures.size,
       to_z-of_z w128 c.args.digit c.ranges.digit,
-      to_z-of_z w128 c.weight.result (record { sfits = c.weight.type_inv }),
-      c.weight.ensures,
+      to_z-of_z w128 c.signed_power.result (record { sfits = c.signed_power.type_inv }),
+      c.signed_power.ensures.value,
     ) most

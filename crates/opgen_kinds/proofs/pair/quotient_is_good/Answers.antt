@@ -4,12 +4,12 @@ use Rattle.std.specs.Int.{w32, w128}
 use Rattle.std.proofs.lemmas.Int.{to_z-of_z}
 use Rattle.opgen_kinds.specs.Pair.{dividend, exact_quotient, pair_shift}
 use Rattle.opgen_num.specs.declared.format.Ratio.{Ratio}
-use Rattle.opgen_ports.specs.Shifts.{places_up}
+use Rattle.opgen_ports.specs.Reaches.{places_up}
 use Rattle.opgen_ports.proofs.Bounds.{products}
 use Rattle.opgen_ports.proofs.InputPorts.{input_bit}
 use Rattle.opgen_ports.proofs.Magnitudes.{holds_within, number_fits, number_small}
 use Rattle.opgen_kinds.proofs.of_kind.Pair.{dividend_small, over_positive, quotient_word, remainder_word}
-use Rattle.opgen_kinds.proofs.Roundings.{good-along}
+use Rattle.opgen_ports.proofs.Roundings.{good-along}
 use Rattle.opgen_num.proofs.BitLength.{power_order}
 use Rattle.opgen_kinds.proofs.pair.quotient_is_good.Goals as goal
 

@@ -7,7 +7,7 @@ use Rattle.opgen_num.proofs.BitLength.{power_order}
 use Rattle.opgen_kinds.specs.Horner.{degree}
 use Rattle.opgen_ports.proofs.Bounds.{products, few_units}
 use Rattle.opgen_kinds.proofs.of_kind.Terms.{few_powers}
-use Rattle.opgen_kinds.proofs.Roundings.{positive_units}
+use Rattle.opgen_ports.proofs.Roundings.{positive_units}
 use Rattle.opgen_kinds.proofs.poly.exact_poly.Goals as goal
 
 pub raised-numerator-requires-clause-small : goal.raised-numerator-requires-clause-small

@@ -3,7 +3,7 @@ use Rattle.std.specs.Int.{w128}
 use Rattle.std.proofs.lemmas.Int.{to_z-of_z}
 use Rattle.opgen_num.specs.declared.format.Ratio.{Ratio}
 use Rattle.opgen_kinds.specs.Poly.{exact_poly}
-use Rattle.opgen_kinds.proofs.Roundings.{good-along}
+use Rattle.opgen_ports.proofs.Roundings.{good-along}
 use Rattle.opgen_kinds.proofs.poly.poly_is_good.Goals as goal
 
 pub output-y-requires-clause-bits : goal.output-y-requires-clause-bits

@@ -11,9 +11,9 @@ overflow_mul-result-2 c =
     let whole = c.args.factor * 2 ^ c.args.places in
     let fits_from : FitsSigned w128 c.from.result = search rules in
     let from : c.from.result ≡ c.args.coef = simp to_z-of_z at c.from.ensures in
-    let small : c.args.factor * c.power.result ≤ 2 ^ 64 = rw c.power.ensures c.requires.small in
+    let small : c.args.factor * c.power.result ≤ 2 ^ 64 = rw c.power.ensures.value c.requires.small in
     let factor : to_z w128 (c.args.factor * c.power.result) ≡ pos whole =
-    to_z_pos w128 _ (omega (arith, small)) ∙ ap (λ k. pos (c.args.factor * k)) c.power.ensures in
+    to_z_pos w128 _ (omega (arith, small)) ∙ ap (λ k. pos (c.args.factor * k)) c.power.ensures.value in
     let few = product_within c.args.coef (pos whole) 30 64 c.requires.coef c.requires.small in
     rw factor (simp to_z-of_z (rw from (fits_small _ (omega (arith, few)))))
 
@@ -23,9 +23,9 @@ returns-clause-value c =
     let whole = c.args.factor * 2 ^ c.args.places in
     let fits_from : FitsSigned w128 c.from.result = search rules in
     let from : c.from.result ≡ c.args.coef = simp to_z-of_z at c.from.ensures in
-    let small : c.args.factor * c.power.result ≤ 2 ^ 64 = rw c.power.ensures c.requires.small in
+    let small : c.args.factor * c.power.result ≤ 2 ^ 64 = rw c.power.ensures.value c.requires.small in
     let factor : to_z w128 (c.args.factor * c.power.result) ≡ pos whole =
-    to_z_pos w128 _ (omega (arith, small)) ∙ ap (λ k. pos (c.args.factor * k)) c.power.ensures in
+    to_z_pos w128 _ (omega (arith, small)) ∙ ap (λ k. pos (c.args.factor * k)) c.power.ensures.value in
     let few = product_within c.args.coef (pos whole) 30 64 c.requires.coef c.requires.small in
     let fits : FitsSigned w128 (c.args.coef *ℤ pos whole) = fits_small _ (omega (arith, few)) in
     rw factor (simp to_z-of_z (rw from (simp to_z-of_z refl)))

@@ -4,7 +4,7 @@ use Rattle.std.specs.Int.{w32, w128}
 use Rattle.std.proofs.lemmas.Int.{ints, to_z-of_z}
 use Rattle.std.proofs.lemmas.Nat.{pow_pos}
 use Rattle.opgen_kinds.specs.Product.{product_shift}
-use Rattle.opgen_ports.specs.Shifts.{places_up, places_down}
+use Rattle.opgen_ports.specs.Reaches.{places_up, places_down}
 use Rattle.opgen_ports.proofs.Bounds.{few_down}
 use Rattle.opgen_ports.proofs.Magnitudes.{fits_small, number_fits}
 use Rattle.opgen_kinds.proofs.of_kind.ProductWidths.{product_room, product_small}

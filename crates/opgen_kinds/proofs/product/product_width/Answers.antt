@@ -2,8 +2,7 @@ use Rattle.std.proofs.Common.{◌≡◌, ◌∙◌, ap, SFits, w32, arith}
 use Rattle.std.specs.Prelude.{pos, ◌≤ℤ◌}
 use Rattle.std.proofs.lemmas.Int.{ints, to_z-of_z}
 use Rattle.opgen_kinds.specs.Product.{product_shift, product_reach}
-use Rattle.opgen_ports.specs.Reaches.{width_of}
-use Rattle.opgen_ports.specs.Shifts.{places_up}
+use Rattle.opgen_ports.specs.Reaches.{width_of, places_up}
 use Rattle.opgen_kinds.proofs.of_kind.ProductWidths.{shifted_up-width, reach_small}
 use Rattle.opgen_kinds.proofs.product.product_width.Goals as goal
 

@@ -5,7 +5,7 @@ use Rattle.std.proofs.lemmas.Int.{ints, to_z-of_z}
 use Rattle.opgen_kinds.specs.Several.{constant_format}
 use Rattle.opgen_ports.proofs.Magnitudes.{fits_small}
 use Rattle.opgen_kinds.proofs.of_kind.Several.{multiple_width}
-use Rattle.opgen_kinds.proofs.Roundings.{good-along}
+use Rattle.opgen_ports.proofs.Roundings.{good-along}
 use Rattle.opgen_kinds.proofs.several.multiple_is_good.Goals as goal
 
 pub output-y-requires-clause-most : goal.output-y-requires-clause-most

@@ -5,7 +5,7 @@ use Rattle.std.specs.Int.{w64}
 use Rattle.std.proofs.lemmas.Int.{ints, to_z-of_z}
 use Rattle.opgen_ports.specs.Good.{IsGoodRatio}
 use Rattle.opgen_kinds.specs.Several.{exact_multiple, multiple_ports}
-use Rattle.opgen_ports.specs.PortNumbers.{output_numbers}
+use Rattle.opgen_ports.specs.Ports.{output_numbers}
 use Rattle.opgen_kinds.proofs.of_kind.Several.{multiple-count, multiple-fits, multiple-judged, each_more}
 use Rattle.opgen_kinds.proofs.several.multiples_are_good.Goals as goal
 

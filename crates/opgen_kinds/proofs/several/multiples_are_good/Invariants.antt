@@ -2,7 +2,7 @@ use Rattle.std.proofs.Common.{ℕ, ◌≡◌, ◌<◌, Some}
 use Rattle.std.specs.Prelude.{ℤ, slice_get}
 use Rattle.opgen_ports.specs.Good.{IsGoodRatio}
 use Rattle.opgen_kinds.specs.Several.{exact_multiple, multiple_ports}
-use Rattle.opgen_ports.specs.PortNumbers.{output_numbers}
+use Rattle.opgen_ports.specs.Ports.{output_numbers}
 use Rattle.opgen_kinds.proofs.several.multiples_are_good.Given as goal
 
 abbrev pub invariant-constants : goal.invariant-constants

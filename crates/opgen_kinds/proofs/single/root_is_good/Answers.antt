@@ -3,11 +3,11 @@ use Rattle.std.specs.Prelude.{pos, unsigned_abs}
 use Rattle.std.specs.Int.{w32, w128}
 use Rattle.std.proofs.lemmas.Int.{to_z-of_z}
 use Rattle.opgen_kinds.specs.Single.{square, root_shift}
-use Rattle.opgen_ports.specs.Shifts.{places_up}
+use Rattle.opgen_ports.specs.Reaches.{places_up}
 use Rattle.opgen_ports.proofs.Bounds.{few_up, products}
 use Rattle.opgen_ports.proofs.Magnitudes.{unsigned_abs-product}
 use Rattle.opgen_kinds.proofs.of_kind.Single.{root_word, square_rest_word, root_input_fits, root_bits}
-use Rattle.opgen_kinds.proofs.Roundings.{root-along, good_root-along}
+use Rattle.opgen_ports.proofs.Roundings.{root-along, good_root-along}
 use Rattle.opgen_num.proofs.BitLength.{power_order}
 use Rattle.opgen_kinds.proofs.single.root_is_good.Goals as goal
 

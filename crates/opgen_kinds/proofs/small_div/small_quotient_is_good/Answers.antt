@@ -3,8 +3,8 @@ use Rattle.std.specs.Prelude.{pos, slice_index, unsigned_abs}
 use Rattle.std.specs.Int.{w128}
 use Rattle.std.proofs.lemmas.Int.{to_z-of_z}
 use Rattle.opgen_kinds.specs.SmallDiv.{small_quotient_format, small_rest_format}
-use Rattle.opgen_ports.specs.PortNumbers.{number_of}
-use Rattle.opgen_kinds.proofs.Roundings.{good-along, quotient-along}
+use Rattle.opgen_ports.specs.Ports.{number_of}
+use Rattle.opgen_ports.proofs.Roundings.{good-along, quotient-along}
 use Rattle.opgen_kinds.proofs.small_div.small_quotient_is_good.Goals as goal
 
 pub returns-then-exact : goal.returns-then-exact

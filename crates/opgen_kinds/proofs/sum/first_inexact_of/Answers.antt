@@ -3,7 +3,7 @@ use Rattle.std.specs.Int.{w32, w64}
 use Rattle.std.specs.Prelude.{ℤ, pos, unsigned_abs}
 use Rattle.std.specs.List.{position_from}
 use Rattle.std.proofs.lemmas.Int.{ints, to_z-of_z}
-use Rattle.opgen_kinds.specs.Sum.{is_whole_at}
+use Rattle.opgen_ports.specs.Reaches.{is_whole_at}
 use Rattle.opgen_kinds.proofs.sum.first_inexact_of.Goals as goal
 
 -- one element more of a search

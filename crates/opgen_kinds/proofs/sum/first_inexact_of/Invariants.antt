@@ -1,6 +1,7 @@
 use Rattle.std.proofs.Common.{◌≡◌, not, drop}
 use Rattle.std.specs.List.{position_from}
-use Rattle.opgen_kinds.specs.Sum.{is_whole_at, first_inexact_of}
+use Rattle.opgen_kinds.specs.Sum.{first_inexact_of}
+use Rattle.opgen_ports.specs.Reaches.{is_whole_at}
 use Rattle.opgen_kinds.proofs.sum.first_inexact_of.Given as goal
 
 abbrev pub invariant-coefs : goal.invariant-coefs

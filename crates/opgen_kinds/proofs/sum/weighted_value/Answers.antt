@@ -2,12 +2,10 @@ use Rattle.std.proofs.Common.{◌≡◌, ◌+◌, ◌≤◌, ◌^◌, FitsSigned
 use Rattle.std.specs.Prelude.{pos, ◌*ℤ◌, unsigned_abs}
 use Rattle.std.specs.Int.{w32, w64, w128}
 use Rattle.std.proofs.lemmas.Int.{to_z-of_z}
-use Rattle.opgen_ports.specs.PortNumbers.{recent_numbers}
-use Rattle.opgen_ports.specs.Ports.{one_input}
-use Rattle.opgen_ports.specs.Recent.{weighted}
-use Rattle.opgen_ports.specs.Shifts.{places_up, places_down, up, down}
+use Rattle.opgen_ports.specs.Ports.{recent_numbers, weighted, one_input}
+use Rattle.opgen_ports.specs.Reaches.{places_up, places_down, up, down}
 use Rattle.opgen_ports.proofs.Bounds.{products, few_down, few_units}
-use Rattle.opgen_kinds.proofs.Roundings.{positive_units}
+use Rattle.opgen_ports.proofs.Roundings.{positive_units}
 use Rattle.opgen_num.proofs.BitLength.{power_order}
 use Rattle.opgen_kinds.proofs.sum.weighted_value.Goals as goal
 

@@ -5,8 +5,7 @@ use Rattle.opgen_design.specs.declared.expr.Expr.{Expr}
 use Rattle.opgen_design.specs.declared.expr.Op.{Op}
 use Rattle.opgen_design.specs.Plain.{plain, plain_all}
 use Rattle.opgen_design.specs.Run.{scope}
-use Rattle.opgen_design.specs.Value.{value, chain_value, value_on, combined}
-use Rattle.opgen_design.specs.Width.{IsWidth, joined, width, width_on, chain_width}
+use Rattle.opgen_design.specs.Value.{value, chain_value, value_on, combined, IsWidth, joined, width, width_on, chain_width}
 use Rattle.opgen_design.proofs.WidthLaws.{width-is_width}
 use Rattle.opgen_streams.specs.Streams.{word_in}
 use Rattle.opgen_runs.proofs.Fitting.{some-of}

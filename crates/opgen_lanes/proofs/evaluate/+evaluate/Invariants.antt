@@ -2,8 +2,7 @@ use Rattle.std.proofs.Common.{ℕ, ◌≡◌, ◌<◌, take, drop}
 use Rattle.std.specs.Prelude.{IsSome}
 use Rattle.opgen_design.specs.Plain.{plain_all}
 use Rattle.opgen_design.specs.Run.{scope}
-use Rattle.opgen_design.specs.Value.{chain_value, value_on}
-use Rattle.opgen_design.specs.Width.{IsWidth, chain_width, width_on}
+use Rattle.opgen_design.specs.Value.{chain_value, value_on, IsWidth, chain_width, width_on}
 use Rattle.opgen_streams.specs.Streams.{streams, word_in}
 use Rattle.opgen_lanes.specs.Banks.{stream_words, widths_of}
 use Rattle.opgen_lanes.proofs.evaluate.+evaluate.Given as goal

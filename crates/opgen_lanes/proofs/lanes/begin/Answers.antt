@@ -1,5 +1,5 @@
 use Rattle.std.proofs.Common.{◌≡◌, ◌≤◌, All, map, sym, ap, ◌∙◌, subst}
-use Rattle.opgen_num.specs.declared.TheConstants.{MAX_WIDTH}
+use Rattle.opgen_num.specs.declared.format.TheConstants.{MAX_WIDTH}
 use Rattle.opgen_design.specs.Run.{initial_words}
 use Rattle.opgen_design.specs.Sound.{IsSignalWide, signal_widths}
 use Rattle.opgen_runs.specs.Registers.{SameRegisters}

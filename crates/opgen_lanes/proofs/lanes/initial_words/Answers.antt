@@ -1,6 +1,6 @@
 use Rattle.std.proofs.Common.{◌≡◌, ◌<◌, ◌≤◌, ◌+◌, All, length, take, get_or, sym, ap, ◌∙◌, subst, arith}
 use Rattle.std.proofs.lemmas.List.{length-map, get_or-map}
-use Rattle.opgen_num.specs.declared.TheConstants.{MAX_WIDTH}
+use Rattle.opgen_num.specs.declared.format.TheConstants.{MAX_WIDTH}
 use Rattle.opgen_design.specs.Sound.{IsSignalWide}
 use Rattle.opgen_lanes.specs.Banks.{widths_of, words_at}
 use Rattle.opgen_lanes.proofs.Beginning.{narrow-signals, one-more, all-begun}

@@ -1,5 +1,5 @@
 use Rattle.std.proofs.Common.{ℕ, ◌≡◌, ◌<◌, ◌++◌, false, take, drop}
-use Rattle.opgen_num.specs.Sums.{sum_with}
+use Rattle.opgen_num.specs.Words.{sum_with}
 use Rattle.opgen_streams.specs.Streams.{bit_in, streams, word_in}
 use Rattle.opgen_lanes.proofs.words.add.Given as goal
 

@@ -1,6 +1,5 @@
 use Rattle.std.proofs.Common.{[], ◌&&◌, eqb, get_or, not, ap, ◌∙◌, arith}
-use Rattle.opgen_num.specs.Sums.{xor}
-use Rattle.opgen_num.specs.Words.{nat}
+use Rattle.opgen_num.specs.Words.{xor, nat}
 use Rattle.opgen_streams.specs.Streams.{bit_in, word_in}
 use Rattle.opgen_lanes.proofs.Bits.{compared}
 use Rattle.opgen_lanes.proofs.words.equal.Goals as goal

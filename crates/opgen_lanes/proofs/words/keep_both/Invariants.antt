@@ -1,5 +1,5 @@
 use Rattle.std.proofs.Common.{ℕ, ◌≡◌, ◌<◌, ◌++◌, take, drop, ◌&&◌}
-use Rattle.opgen_num.specs.Sums.{pairwise}
+use Rattle.opgen_num.specs.Words.{pairwise}
 use Rattle.opgen_streams.specs.Streams.{streams, word_in}
 use Rattle.opgen_lanes.proofs.words.keep_both.Given as goal
 

@@ -1,5 +1,5 @@
 use Rattle.std.proofs.Common.{ℕ, ◌≡◌, ◌<◌, ◌++◌, take, drop}
-use Rattle.opgen_num.specs.Sums.{pairwise, xor}
+use Rattle.opgen_num.specs.Words.{pairwise, xor}
 use Rattle.opgen_streams.specs.Streams.{streams, word_in}
 use Rattle.opgen_lanes.proofs.words.keep_different.Given as goal
 

@@ -1,6 +1,6 @@
 use Rattle.std.proofs.Common.{[], ℕ, true, map, not, drop, get_or, ap, ◌+◌, ◌∙◌, arith}
 use Rattle.std.proofs.lemmas.List.{drop_more}
-use Rattle.opgen_num.specs.Sums.{majority, sum_with, xor}
+use Rattle.opgen_num.specs.Words.{majority, sum_with, xor}
 use Rattle.opgen_streams.specs.Streams.{bit_in, word_in}
 use Rattle.opgen_lanes.proofs.Bits.{summed}
 use Rattle.opgen_lanes.proofs.words.subtract.Goals as goal

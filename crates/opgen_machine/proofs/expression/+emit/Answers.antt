@@ -3,7 +3,7 @@ use Rattle.std.specs.Prelude.{IfOk, IsSome}
 use Rattle.std.proofs.Math.ListN.{drop_of_length-le}
 use Rattle.opgen_design.specs.Tree.{Tree, bits, inverse, more, name, part, port}
 use Rattle.opgen_design.specs.Plain.{plain, plain_all}
-use Rattle.opgen_design.specs.Width.{chain_width}
+use Rattle.opgen_design.specs.Value.{chain_width}
 use Rattle.opgen_design.proofs.WidthLaws.{width-is_width}
 use Rattle.opgen_runs.proofs.Plain.{plain-bits, plain-name, plain-not, plain-part, plain-port, more-at, first-and-rest}
 use Rattle.opgen_machine.specs.Layout.{spots_of}

@@ -1,7 +1,7 @@
 use Rattle.std.proofs.Common.{◌+◌, drop, length}
 use Rattle.std.specs.Prelude.{All}
 use Rattle.opgen_design.specs.Plain.{plain, plain_all}
-use Rattle.opgen_design.specs.Width.{width}
+use Rattle.opgen_design.specs.Value.{width}
 use Rattle.opgen_machine.specs.Layout.{spots_of}
 use Rattle.opgen_machine.specs.Programs.{AreSpots, widths_of}
 use Rattle.opgen_machine.specs.Emit.{Chained, IsNarrow}

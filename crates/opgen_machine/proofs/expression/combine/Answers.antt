@@ -3,7 +3,7 @@ use Rattle.opgen_machine.specs.Programs.{AreSpots, Spots}
 use Rattle.opgen_machine.specs.Emit.{Combined, step_of, width_of}
 use Rattle.opgen_machine.proofs.Gives.{combined-of}
 use Rattle.opgen_machine.proofs.Narrow.{narrow-of, joined-wider}
-use Rattle.opgen_design.specs.Width.{joined}
+use Rattle.opgen_design.specs.Value.{joined}
 use Rattle.opgen_machine.proofs.Puts.{put-gives}
 use Rattle.opgen_machine.proofs.expression.combine.Goals as goal
 

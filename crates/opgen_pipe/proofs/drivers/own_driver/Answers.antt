@@ -1,7 +1,7 @@
 use Rattle.std.proofs.Common.{◌≡◌, ◌+◌, ◌<◌, ◌^◌, ℕ, Bool, List, [], length, map, sym, ap, ◌∙◌, subst, arith}
 use Rattle.std.proofs.lemmas.List.{length-map, get_or-map}
 use Rattle.opgen_design.specs.declared.design.Driver.TheVariants.{Assign, Choice, Table, Register}
-use Rattle.opgen_design.specs.Reads.{AllReads}
+use Rattle.opgen_design.specs.Sound.{AllReads}
 use Rattle.opgen_design.specs.Tree.{Tree, name}
 use Rattle.opgen_design.proofs.ReadLaws.{reads-weaker}
 use Rattle.opgen_design.proofs.WidthLaws.{width-reads}
@@ -114,7 +114,7 @@ returns-in-Constant c =
 pub returns-in_ok-tree-in-Cells : goal.returns-in_ok-tree-in-Cells
 returns-in_ok-tree-in-Cells c =
     ap (Assign c.args.own.signal) (c.new-in-Cells.ensures ∙ c.in_ok-tree-in-Cells.ensures
-    ∙ ap (tree_in c.args.standings.now c.args.own.cycle) c.expr.ensures)
+    ∙ ap (tree_in c.args.standings.now c.args.own.slot.cycle) c.expr.ensures)
     ∙ sym (ap (own_driver c.args.first c.args.standings.now c.args.own) c.in-Cells.is)
 
 pub returns-in-Choice : goal.returns-in-Choice

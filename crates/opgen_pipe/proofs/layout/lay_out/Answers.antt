@@ -8,7 +8,7 @@ pub lay_out_for-requires-clause-delays : goal.lay_out_for-requires-clause-delays
 lay_out_for-requires-clause-delays g c =
     let nodes = c.args.net.now.nodes in
     let table = (goal.Target-dyn g (c.args.target.now.vtable, c.args.target.now.value)).delays c.args.target.now.value in
-    ap length (c.deref-2.ensures.value ∙ c.in_ok-delays.ensures) ∙ length-map nodes (node_delay table (widths nodes))
+    ap length (c.deref.ensures.value ∙ c.in_ok-delays.ensures) ∙ length-map nodes (node_delay table (widths nodes))
 
 pub returns-clause-layout : goal.returns-clause-layout
 returns-clause-layout g c = c.lay_out_for.ensures.layout
@@ -16,4 +16,4 @@ returns-clause-layout g c = c.lay_out_for.ensures.layout
 pub returns-clause-outcome : goal.returns-clause-outcome
 returns-clause-outcome g c =
     let table = (goal.Target-dyn g (c.args.target.now.vtable, c.args.target.now.value)).delays c.args.target.now.value in
-    c.lay_out_for.ensures.outcome table (c.deref-2.ensures.value ∙ c.in_ok-delays.ensures) c.setup_time.ensures
+    c.lay_out_for.ensures.outcome table (c.deref.ensures.value ∙ c.in_ok-delays.ensures) c.setup_time.ensures

@@ -1,9 +1,9 @@
 use Rattle.std.proofs.Common.{ap, ◌∙◌, arith}
 use Rattle.std.specs.Prelude.{map}
 use Rattle.opgen_design.specs.declared.design.TheConstants.{MAX_SIGNALS}
-use Rattle.opgen_schedule.specs.Stage.{slot_at}
+use Rattle.opgen_net.specs.Classes.{classes}
 use Rattle.opgen_target.specs.Ledger.{width_sum}
-use Rattle.opgen_pipe.specs.Cells.{classes, design_cells}
+use Rattle.opgen_pipe.specs.Cells.{design_cells}
 use Rattle.opgen_pipe.specs.Copies.{net_latency, signal_count}
 use Rattle.opgen_pipe.specs.Pipelined.{design_of}
 use Rattle.opgen_pipe.proofs.Fitting.{latency-few}
@@ -19,14 +19,14 @@ pub returns-clause-outcome : goal.returns-clause-outcome
 returns-clause-outcome g c =
     let net = c.args.net.now in
     let l = c.in_ok-layout.ensures in
-    let e = l.outcome.2.slots in (
+    let e = l.outcome.2.schedule in (
       l.outcome.0,
-      omega (arith, l.outcome.1, ap (λ ps. signal_count net (slot_at ps)) e),
+      omega (arith, l.outcome.1, ap (signal_count net) e),
       record {
-        design = c.in_ok-design.ensures ∙ ap (λ ps. design_of c.args.name.now c.args.enable net (slot_at ps)) e;
-        latency = l.layout.latency ∙ ap (λ ps. net_latency net (slot_at ps)) e;
+        design = c.in_ok-design.ensures ∙ ap (design_of c.args.name.now c.args.enable net) e;
+        latency = l.layout.latency ∙ ap (net_latency net) e;
         slack = l.outcome.2.slack;
-        cells = c.in_ok-cells.ensures.cells ∙ ap (λ ps. map (width_sum (design_cells net (slot_at ps))) classes) e;
+        cells = c.in_ok-cells.ensures.cells ∙ ap (λ s. map (width_sum (design_cells net s)) classes) e;
       },
     )
 
@@ -43,4 +43,4 @@ pub returns-clause-ledger : goal.returns-clause-ledger
 returns-clause-ledger g c = λ class.
     let net = c.args.net.now in
     c.in_ok-cells.ensures.ledger class
-    ∙ ap (λ ps. width_sum (design_cells net (slot_at ps)) class) c.in_ok-layout.ensures.outcome.2.slots
+    ∙ ap (λ s. width_sum (design_cells net s) class) c.in_ok-layout.ensures.outcome.2.schedule

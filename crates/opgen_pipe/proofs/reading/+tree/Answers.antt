@@ -3,7 +3,7 @@ use Rattle.std.proofs.lemmas.List.{map_more, map_push, take_all}
 use Rattle.opgen_design.specs.declared.expr.Expr.{Expr}
 use Rattle.opgen_design.specs.declared.expr.Expr.TheFolds.{the_lemmas}
 use Rattle.opgen_design.specs.Plain.{plain, plain_all, trees_of}
-use Rattle.opgen_design.specs.Reads.{AllReads, AllOperandsRead}
+use Rattle.opgen_design.specs.Sound.{AllReads, AllOperandsRead}
 use Rattle.opgen_design.specs.Tree.{inverse, more, name}
 use Rattle.opgen_runs.proofs.Plain.{plain-bits, plain-name, plain-not, plain-part, plain-port, more-at}
 use Rattle.opgen_pipe.specs.declared.standing.Standing.{Standing}

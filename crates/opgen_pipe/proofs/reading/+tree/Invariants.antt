@@ -1,6 +1,6 @@
 use Rattle.std.proofs.Common.{◌≡◌, ◌<◌, length, take, drop, map}
 use Rattle.opgen_design.specs.Plain.{plain, plain_all}
-use Rattle.opgen_design.specs.Reads.{AllOperandsRead}
+use Rattle.opgen_design.specs.Sound.{AllOperandsRead}
 use Rattle.opgen_pipe.specs.Counts.{IsAny}
 use Rattle.opgen_pipe.specs.Reading.{tree_in}
 use Rattle.opgen_pipe.proofs.reading.+tree.Given as goal

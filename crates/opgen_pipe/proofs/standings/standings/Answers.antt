@@ -29,9 +29,9 @@ each-more f ns i n now next x l e is g =
 -- the standing of a node from its parts
 standing-from : (net : Net) (s : Schedule) (i : ℕ) (n : Node) (wide : ℕ) (fixed : Bool) (count first : ℕ)
     → wide ≡ slice_index (widths net.nodes) i → fixed ≡ is_constant n → count ≡ copies net s i → first ≡ signals_before (copies net s) i
-    → record { width = wide; constant = fixed; cycle = (s i).cycle; copies = count; signal = first } ≡ standing_of net s i n
+    → record { width = wide; constant = fixed; slot = s i; copies = count; signal = first } ≡ standing_of net s i n
 standing-from net s i n wide fixed count first e f g h =
-    let made : ℕ → Bool → ℕ → ℕ → Standing = λ w b k x. record { width = w; constant = b; cycle = (s i).cycle; copies = k; signal = x } in
+    let made : ℕ → Bool → ℕ → ℕ → Standing = λ w b k x. record { width = w; constant = b; slot = s i; copies = k; signal = x } in
     ap (λ w. made w fixed count first) e
     ∙ ap (λ b. made (slice_index (widths net.nodes) i) b count first) f
     ∙ ap (λ k. made (slice_index (widths net.nodes) i) (is_constant n) k first) g

@@ -1,7 +1,6 @@
 use Rattle.std.proofs.Common.{◌<◌, [], length, map, refl, sym, ap, ◌∙◌, subst, arith}
 use Rattle.std.specs.Prelude.{IsSome}
-use Rattle.opgen_design.specs.Value.{value, word_at}
-use Rattle.opgen_design.specs.Width.{width}
+use Rattle.opgen_design.specs.Value.{value, word_at, width}
 use Rattle.opgen_net.specs.Valid.{MayStand}
 use Rattle.opgen_num.specs.Words.{nat}
 use Rattle.opgen_runs.specs.Fitting.{scope_of}

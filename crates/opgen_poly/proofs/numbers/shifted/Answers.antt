@@ -7,19 +7,19 @@ use Rattle.opgen_poly.proofs.numbers.shifted.Goals as goal
 
 pub overflow_mul-result : goal.overflow_mul-result
 overflow_mul-result c =
-    let fits_power : FitsSigned w128 c.power.result = search rules in
+    let fits_power : FitsSigned w128 c.signed_power.result = search rules in
     let fits_coefficient : FitsSigned w128 c.args.coefficient = omega (arith, ints, c.requires.coefficient) in
     let top = product_small c.args.coefficient c.args.width c.requires.coefficient c.requires.width in
     let fits : FitsSigned w128 (c.args.coefficient *ℤ pos (2 ^ c.args.width)) = omega (arith, ints, top) in
-    simp to_z-of_z (rw c.power.ensures.value fits)
+    simp to_z-of_z (rw c.signed_power.ensures.value fits)
 
 pub returns-clause-value : goal.returns-clause-value
 returns-clause-value c =
-    let fits_power : FitsSigned w128 c.power.result = search rules in
+    let fits_power : FitsSigned w128 c.signed_power.result = search rules in
     let fits_coefficient : FitsSigned w128 c.args.coefficient = omega (arith, ints, c.requires.coefficient) in
     let top = product_small c.args.coefficient c.args.width c.requires.coefficient c.requires.width in
     let fits : FitsSigned w128 (c.args.coefficient *ℤ pos (2 ^ c.args.width)) = omega (arith, ints, top) in
-    simp to_z-of_z (rw c.power.ensures.value (simp to_z-of_z refl))
+    simp to_z-of_z (rw c.signed_power.ensures.value (simp to_z-of_z refl))
 
 pub returns-clause-small : goal.returns-clause-small
 returns-clause-small c =

@@ -1,5 +1,5 @@
 use Rattle.std.proofs.Common.{length, sym, subst}
-use Rattle.opgen_design.specs.Width.{IsWidth}
+use Rattle.opgen_design.specs.Value.{IsWidth}
 use Rattle.opgen_poly.proofs.FirstLaws.{word-width}
 use Rattle.opgen_poly.proofs.steps.first.Goals as goal
 

@@ -2,8 +2,7 @@ use Rattle.std.proofs.Common.{◌≡◌, ◌+◌, ◌<◌, ◌≤◌, ◌^◌, g
 use Rattle.std.specs.Prelude.{ℤ, pos, ◌+ℤ◌, ◌*ℤ◌, unsigned_abs}
 use Rattle.std.specs.Int.{w64, w128}
 use Rattle.std.proofs.lemmas.Int.{ints, to_z-of_z}
-use Rattle.opgen_ports.specs.PortNumbers.{recent_numbers}
-use Rattle.opgen_ports.specs.Ports.{one_input}
+use Rattle.opgen_ports.specs.Ports.{recent_numbers, one_input}
 use Rattle.opgen_num.proofs.BitLength.{power_order}
 use Rattle.opgen_ports.proofs.Magnitudes.{product_within, fits_small}
 use Rattle.opgen_ports.proofs.WeightedSums.{sum_step, bound_step, sum_small, taps_bound}

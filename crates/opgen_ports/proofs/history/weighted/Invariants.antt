@@ -1,8 +1,6 @@
 use Rattle.std.proofs.Common.{◌≡◌, ◌+◌, ◌≤◌, ◌*◌, ◌^◌, drop}
 use Rattle.std.specs.Prelude.{◌+ℤ◌, unsigned_abs}
-use Rattle.opgen_ports.specs.PortNumbers.{recent_numbers}
-use Rattle.opgen_ports.specs.Ports.{one_input}
-use Rattle.opgen_ports.specs.Recent.{weighted, weighted_from}
+use Rattle.opgen_ports.specs.Ports.{recent_numbers, weighted, weighted_from, one_input}
 use Rattle.opgen_ports.proofs.history.weighted.Given as goal
 
 abbrev pub invariant-coefs : goal.invariant-coefs

@@ -1,13 +1,13 @@
 use Rattle.std.proofs.Common.{◌≡◌, FitsSigned, arith, rules, sym, subst}
 use Rattle.std.specs.Int.{w128, int_div_euclid}
-use Rattle.std.specs.Prelude.{ℤ, ◌<ℤ◌, ◌≤ℤ◌, IsTrue, ◌↔◌}
+use Rattle.std.specs.Prelude.{◌<ℤ◌, ◌≤ℤ◌, IsTrue, ◌↔◌}
 use Rattle.std.proofs.lemmas.Int.{ints, to_z-of_z}
 use borrow.Author.Tests.{eqb-true, eq-eqb}
 use Rattle.opgen_num.proofs.Rounded.{floor_is}
 use Rattle.opgen_num.specs.Floors.{IsFloor}
 use Rattle.opgen_num.specs.Rounding.{IsGoodLinear}
 use Rattle.opgen_ports.proofs.Clamped.{in_order, good_below, good_above, into_range_within}
-use Rattle.opgen_ports.specs.Saturated.{least_of, greatest_of}
+use Rattle.opgen_ports.specs.Good.{least_of, greatest_of}
 use Rattle.opgen_ports.proofs.saturated.good_saturated.Goals as goal
 
 pub returns-then-whole-low : goal.returns-then-whole-low

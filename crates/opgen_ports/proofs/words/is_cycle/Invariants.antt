@@ -1,6 +1,6 @@
 use Rattle.std.proofs.Common.{ℕ, ◌≡◌, ◌<◌, ◌^◌}
 use Rattle.std.specs.Prelude.{slice_index}
-use Rattle.opgen_ports.specs.PortNumbers.{format_at}
+use Rattle.opgen_ports.specs.Ports.{format_at}
 use Rattle.opgen_ports.proofs.words.is_cycle.Given as goal
 
 abbrev pub invariant-words : goal.invariant-words

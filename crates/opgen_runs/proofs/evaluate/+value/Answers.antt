@@ -5,8 +5,7 @@ use Rattle.opgen_design.proofs.WidthLaws.{PartFits}
 use Rattle.opgen_design.specs.Plain.{plain, plain_all}
 use Rattle.std.specs.Prelude.{IsSome}
 use Rattle.opgen_design.specs.declared.expr.Op.{Op}
-use Rattle.opgen_design.specs.Width.{IsWidth, joined, width_on, chain_width}
-use Rattle.opgen_design.specs.Value.{value, value_on, combined, word_at}
+use Rattle.opgen_design.specs.Value.{IsWidth, joined, width_on, chain_width, value, value_on, combined, word_at}
 use Rattle.opgen_runs.specs.Fitting.{Fits, scope_of, widths_of}
 use Rattle.opgen_runs.proofs.Plain.{plain-name, plain-part, plain-port, plain-not, more-at, first-and-rest}
 use Rattle.opgen_runs.proofs.Fitting.{name-there, port-there, part-there, part-lies, narrow-at, value-is_width, Step, chain-start, chain-step}

@@ -1,8 +1,7 @@
 use Rattle.std.proofs.Common.{◌≡◌, length, drop}
 use Rattle.std.specs.Prelude.{IsSome}
 use Rattle.opgen_design.specs.Plain.{plain_all}
-use Rattle.opgen_design.specs.Value.{value_on}
-use Rattle.opgen_design.specs.Width.{IsWidth, width_on}
+use Rattle.opgen_design.specs.Value.{value_on, IsWidth, width_on}
 use Rattle.opgen_runs.specs.Fitting.{scope_of, widths_of}
 use Rattle.opgen_runs.proofs.evaluate.+value.Given as goal
 

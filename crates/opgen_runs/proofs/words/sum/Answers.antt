@@ -28,7 +28,7 @@ returns c =
     let total : c.bits.result + c.bits-2.result + c.digit.result
     ≡ nat a + nat b + digit c.args.carry = omega (arith, c.bits.ensures, c.bits-2.ensures, c.digit.ensures) in
     let w : c.width-width.result ≡ length a = c.width-width.ensures in
-    let p : c.power.result ≡ 2 ^ length a = c.power.ensures ∙ ap (λ n. 2 ^ n) w in
+    let p : c.power.result ≡ 2 ^ length a = c.power.ensures.value ∙ ap (λ n. 2 ^ n) w in
     c.new.ensures ∙ ap (λ n. word n ((c.bits.result + c.bits-2.result + c.digit.result) % c.power.result)) w
     ∙ ap (λ n. word (length a) (n % c.power.result)) total ∙ ap (λ n. word (length a) ((nat a + nat b + digit c.args.carry) % n)) p
     ∙ word-mod (length a) (nat a + nat b + digit c.args.carry) ∙ word-sum c.args.carry a b c.requires.same

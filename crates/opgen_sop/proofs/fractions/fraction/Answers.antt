@@ -4,7 +4,7 @@ use Rattle.std.specs.Int.{w32, w64, w128}
 use Rattle.std.proofs.lemmas.Int.{ints, to_z-of_z}
 use Rattle.std.proofs.lemmas.Nat.{mul-le, pow_pos}
 use Rattle.opgen_num.proofs.BitLength.{power_order}
-use Rattle.opgen_ports.specs.Shifts.{places_up, places_down}
+use Rattle.opgen_ports.specs.Reaches.{places_up, places_down}
 use Rattle.opgen_sop.proofs.Sizes.{up-few, down-few}
 use Rattle.opgen_sop.proofs.fractions.fraction.Goals as goal
 

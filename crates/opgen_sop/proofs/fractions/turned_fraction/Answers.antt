@@ -4,7 +4,7 @@ use Rattle.std.proofs.lemmas.Int.{to_z-of_z}
 use Rattle.opgen_partial.specs.declared.pairs.Placing.{Placing}
 use Rattle.opgen_partial.specs.declared.pairs.Products.{Products}
 use Rattle.opgen_partial.specs.Recipe.{correction}
-use Rattle.opgen_kinds.specs.Sop.{times_term}
+use Rattle.opgen_terms.specs.Sop.{times_term}
 use Rattle.opgen_sop.specs.Sizes.{products, placing}
 use Rattle.opgen_sop.proofs.Sizes.{correction-size, products-size, room}
 use Rattle.opgen_sop.proofs.fractions.turned_fraction.Goals as goal

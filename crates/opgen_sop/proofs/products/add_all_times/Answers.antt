@@ -1,6 +1,6 @@
 use Rattle.std.proofs.Common.{◌≡◌, ◌+◌, ◌<◌, false, [], drop, length, get_or, ap, ◌∙◌, subst, arith}
 use Rattle.std.proofs.lemmas.List.{drop_more}
-use Rattle.opgen_kinds.specs.declared.sop.Times.{Times}
+use Rattle.opgen_terms.specs.declared.sop.Times.{Times}
 use Rattle.opgen_sop.specs.Recipe.{with_times}
 use Rattle.opgen_sop.specs.Summed.{HasTimes, AreSummed}
 use Rattle.opgen_sop.proofs.Steps.{times-step, times-made}

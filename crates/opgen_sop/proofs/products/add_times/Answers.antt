@@ -1,7 +1,7 @@
 use Rattle.std.proofs.Common.{sym, ap, ◌∙◌, subst, arith}
 use Rattle.std.specs.Int.{w128}
 use Rattle.std.proofs.lemmas.Int.{to_z-of_z}
-use Rattle.opgen_design.specs.Width.{IsWidth}
+use Rattle.opgen_design.specs.Value.{IsWidth}
 use Rattle.opgen_heap.specs.Adding.{with_constant}
 use Rattle.opgen_partial.specs.declared.pairs.Products.{Products}
 use Rattle.opgen_partial.specs.Law.{AreFactors, HasPlaced}

@@ -1,7 +1,7 @@
 use Rattle.std.proofs.Common.{◌≡◌, ◌+◌, ◌<◌, drop, length, get_or, ap, ◌∙◌, subst, arith}
 use Rattle.std.specs.Prelude.{pos}
 use Rattle.std.proofs.lemmas.List.{drop_more}
-use Rattle.opgen_kinds.specs.declared.sop.Scaled.{Scaled}
+use Rattle.opgen_terms.specs.declared.sop.Scaled.{Scaled}
 use Rattle.opgen_sop.specs.Recipe.{with_scaled}
 use Rattle.opgen_sop.specs.Summed.{HasScaled, AreSummed}
 use Rattle.opgen_sop.proofs.Steps.{scaled-step, scaled-made}

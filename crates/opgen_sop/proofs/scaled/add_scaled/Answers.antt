@@ -8,9 +8,9 @@ use Rattle.opgen_ports.proofs.InputPorts.{input_bit}
 use Rattle.opgen_kcm.specs.Entries.{in_guard_units}
 use Rattle.opgen_kcm.specs.Recipe.{with_rows, input_width, HasNarrowRows}
 use Rattle.opgen_partial.specs.declared.pairs.Work.{Work}
-use Rattle.opgen_kinds.specs.declared.sop.Sop.{Sop}
-use Rattle.opgen_kinds.specs.declared.sop.Scaled.{Scaled}
-use Rattle.opgen_kinds.specs.Sop.{format_of}
+use Rattle.opgen_terms.specs.declared.sop.Sop.{Sop}
+use Rattle.opgen_terms.specs.declared.sop.Scaled.{Scaled}
+use Rattle.opgen_terms.specs.Sop.{format_of}
 use Rattle.opgen_sop.specs.Recipe.{input_net, is_zero}
 use Rattle.opgen_sop.specs.Sizes.{scaled_fraction}
 use Rattle.opgen_sop.specs.Small.{IsSmallScaled}

@@ -1,4 +1,4 @@
-use Rattle.opgen_spec.specs.Spec.{classes}
+use Rattle.opgen_net.specs.Classes.{classes}
 use Rattle.opgen_spec.proofs.class.class_named.Goals as goal
 
 pub returns : goal.returns

@@ -2,7 +2,7 @@ use Rattle.std.proofs.Common.{◌≡◌, ◌+◌, FitsSigned, sym, subst, rules,
 use Rattle.std.specs.Int.{w32}
 use Rattle.opgen_num.specs.declared.format.Format.{Format}
 use Rattle.opgen_num.proofs.BitLength.{power_order}
-use Rattle.opgen_design.specs.Width.{IsWidth}
+use Rattle.opgen_design.specs.Value.{IsWidth}
 use Rattle.opgen_tfir.specs.Recipe.{own_format as own_format_of}
 use Rattle.opgen_tfir.proofs.Widths.{own-wide}
 use Rattle.opgen_tfir.proofs.products.own_format.Goals as goal

@@ -2,7 +2,7 @@ use Rattle.std.proofs.Common.{◌≡◌, ℕ, Bool, List, length, sym, ap, ◌�
 use Rattle.std.specs.Prelude.{All, slice_index}
 use Rattle.opgen_num.specs.WordLaws.{length-word}
 use Rattle.opgen_num.specs.Words.{word}
-use Rattle.opgen_design.specs.Width.{IsWidth}
+use Rattle.opgen_design.specs.Value.{IsWidth}
 use Rattle.opgen_net.specs.declared.net.Net.{Net}
 use Rattle.opgen_net.specs.declared.node.Node.TheVariants.{Constant}
 use Rattle.opgen_net.specs.Placed.{with_last}

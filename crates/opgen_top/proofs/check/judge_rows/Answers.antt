@@ -15,13 +15,13 @@ check_rows-requires-clause-few c =
     c.requires.rows in
     omega (arith, few, c.requires.few)
 
-pub returns-in_ok-verdict_line-in-Ok-clause-answer : goal.returns-in_ok-verdict_line-in-Ok-clause-answer
-returns-in_ok-verdict_line-in-Ok-clause-answer c =
+pub returns-in-Ok-clause-answer : goal.returns-in-Ok-clause-answer
+returns-in-Ok-clause-answer c =
     let rows = c.args.rows.now in
     design_judged c.args.spec.now c.args.design c.args.latency rows.inputs.columns rows.count rows.inputs.cells.items c.in-Ok.checked _
     c.requires.valid c.requires.columns c.requires.rows c.in-Ok.ensures.agree c.in-Ok.ensures.checked
-    (c.without_file.ensures ∙ c.in_ok-verdict_line-in-Ok.ensures)
+    (c.without_file.ensures ∙ c.verdict_line.ensures)
 
-pub returns-in_ok-verdict_line-in-Ok-clause-listed : goal.returns-in_ok-verdict_line-in-Ok-clause-listed
-returns-in_ok-verdict_line-in-Ok-clause-listed c =
-    verdict_listed c.in-Ok.checked _ (c.without_file.ensures ∙ c.in_ok-verdict_line-in-Ok.ensures)
+pub returns-in-Ok-clause-listed : goal.returns-in-Ok-clause-listed
+returns-in-Ok-clause-listed c =
+    verdict_listed c.in-Ok.checked _ (c.without_file.ensures ∙ c.verdict_line.ensures)

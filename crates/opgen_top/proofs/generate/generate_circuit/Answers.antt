@@ -19,4 +19,4 @@ returns-clause-answer g c =
 
 pub returns-clause-listed : goal.returns-clause-listed
 returns-clause-listed g c =
-    answers-map c.make_files.result _ _ (λ a e. wrote_listed a c.args.spec.now.name _ _ _ c.requires.valid.name e) c.make_files.ensures
+    answers-map c.make_files.result _ _ (λ a e. wrote_listed a c.args.spec.now _ _ c.requires.valid.name e) c.make_files.ensures

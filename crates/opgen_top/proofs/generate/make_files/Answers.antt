@@ -7,7 +7,7 @@ returns c =
     let facts = c.in_ok-report_text.ensures ∙ ap (report c.args.spec.now c.args.circuit.now.planned) c.deref.ensures.value in
     rw (
       c.in_ok-with_files.ensures,
-      c.in_ok-line.ensures,
+      c.in_ok-copy.ensures,
       c.in_ok-vhdl_name.ensures,
       c.in_ok-text.ensures,
       c.in_ok-report_name.ensures,

@@ -1,4 +1,4 @@
-use Rattle.std.proofs.Common.{Some, Err, map, inl, inr, refl, ap, ◌∙◌, subst}
+use Rattle.std.proofs.Common.{Some, Err, map, ◌++◌, inl, inr, refl, ap, ◌∙◌, subst}
 use Rattle.opgen_io.specs.Counts.{Rose}
 use Rattle.opgen_top.specs.Due.{IsAnswerOf}
 use Rattle.opgen_top.specs.Prepared.{answer_of, store_of}
@@ -16,7 +16,8 @@ pub returns-in-Ok-store_all-clause-answered : goal.returns-in-Ok-store_all-claus
 returns-in-Ok-store_all-clause-answered g c files told due =
     let prepared = later_reads _ _ _ _ _ _ _ _ _ c.store_all.ensures.read_faults_same c.in-Ok.ensures.prepared in
     let said = c.print_line.ensures in
-    gives_due _ _ _ _ _ _ prepared _ _ _ _ _ _ said.status said.taken said.part
+    let text = c.as_str.ensures.value ∙ c.in-Ok-text.ensures in
+    gives_due _ _ _ _ _ _ prepared _ _ _ _ _ _ said.status _ text said.taken said.part
     (λ fs is. c.in-Ok-store_all.ensures.ok fs (c.answer_words.ensures.told_same ∙ is)
     ∙ ap (λ xs. Some (stored_all (map store_of xs) fs)) c.deref.ensures.value)
     files told due
@@ -25,7 +26,8 @@ pub returns-in-Ok-store_all-clause-missing : goal.returns-in-Ok-store_all-clause
 returns-in-Ok-store_all-clause-missing g c files told stood three =
     let prepared = later_reads _ _ _ _ _ _ _ _ _ c.store_all.ensures.read_faults_same c.in-Ok.ensures.prepared in
     let said = c.print_line.ensures in
-    gives_missing _ _ _ _ _ _ prepared _ _ _ _ _ _ said.status said.taken said.part
+    let text = c.as_str.ensures.value ∙ c.in-Ok-text.ensures in
+    gives_missing _ _ _ _ _ _ prepared _ _ _ _ _ _ said.status _ text said.taken said.part
     (λ fs is. c.in-Ok-store_all.ensures.ok fs (c.answer_words.ensures.told_same ∙ is)
     ∙ ap (λ xs. Some (stored_all (map store_of xs) fs)) c.deref.ensures.value)
     files told stood three
@@ -34,10 +36,11 @@ pub returns-in-Ok-store_all-clause-complete : goal.returns-in-Ok-store_all-claus
 returns-in-Ok-store_all-clause-complete g c files told read write put =
     let prepared = later_reads _ _ _ _ _ _ _ _ _ c.store_all.ensures.read_faults_same c.in-Ok.ensures.prepared in
     let said = c.print_line.ensures in
-    gives_all _ _ _ _ _ _ prepared _ _ _ _ _ _ said.status said.taken said.part
+    let text = c.as_str.ensures.value ∙ c.in-Ok-text.ensures in
+    gives_all _ _ _ _ _ _ prepared _ _ _ _ _ _ said.status _ text said.taken said.part
     (λ fs is. c.in-Ok-store_all.ensures.ok fs (c.answer_words.ensures.told_same ∙ is)
     ∙ ap (λ xs. Some (stored_all (map store_of xs) fs)) c.deref.ensures.value)
-    files told read put (listed_status _ _ c.in-Ok.ensures.prepared.listed.line)
+    files told read put (listed_status c.in-Ok.answer.line)
 
 -- an answer that refuses has no store
 pub returns-in-Ok-store_all-clause-unchanged : goal.returns-in-Ok-store_all-clause-unchanged
@@ -50,16 +53,18 @@ pub returns-in-Ok-store_all-clause-left_by_fault : goal.returns-in-Ok-store_all-
 returns-in-Ok-store_all-clause-left_by_fault g c files told four =
     let prepared = later_reads _ _ _ _ _ _ _ _ _ c.store_all.ensures.read_faults_same c.in-Ok.ensures.prepared in
     let said = c.print_line.ensures in
-    left_unprinted _ _ _ _ _ _ prepared _ _ _ _ _ _ said.status said.taken said.part
+    let text = c.as_str.ensures.value ∙ c.in-Ok-text.ensures in
+    left_unprinted _ _ _ _ _ _ prepared _ _ _ _ _ _ said.status _ text said.taken said.part
     (λ fs is. c.in-Ok-store_all.ensures.ok fs (c.answer_words.ensures.told_same ∙ is)
     ∙ ap (λ xs. Some (stored_all (map store_of xs) fs)) c.deref.ensures.value)
-    files _ told (listed_status _ _ c.in-Ok.ensures.prepared.listed.line) four
+    files _ told (listed_status c.in-Ok.answer.line) four
 
 pub returns-in-Ok-store_all-clause-left_by_memory : goal.returns-in-Ok-store_all-clause-left_by_memory
 returns-in-Ok-store_all-clause-left_by_memory g c files told five =
     let prepared = later_reads _ _ _ _ _ _ _ _ _ c.store_all.ensures.read_faults_same c.in-Ok.ensures.prepared in
     let said = c.print_line.ensures in
-    left_memory _ _ _ _ _ _ prepared _ _ _ _ _ _ said.status said.taken said.part
+    let text = c.as_str.ensures.value ∙ c.in-Ok-text.ensures in
+    left_memory _ _ _ _ _ _ prepared _ _ _ _ _ _ said.status _ text said.taken said.part
     (λ fs is. c.in-Ok-store_all.ensures.ok fs (c.answer_words.ensures.told_same ∙ is)
     ∙ ap (λ xs. Some (stored_all (map store_of xs) fs)) c.deref.ensures.value)
     files told
@@ -68,19 +73,21 @@ pub returns-in-Ok-store_all-clause-printed : goal.returns-in-Ok-store_all-clause
 returns-in-Ok-store_all-clause-printed g c held holds =
     let prepared = later_reads _ _ _ _ _ _ _ _ _ c.store_all.ensures.read_faults_same c.in-Ok.ensures.prepared in
     let said = c.print_line.ensures in
-    is_printed _ _ _ _ _ _ prepared _ _ _ _ _ _ said.status said.taken said.part
+    let text = c.as_str.ensures.value ∙ c.in-Ok-text.ensures in
+    is_printed _ _ _ _ _ _ prepared _ _ _ _ _ _ said.status _ text said.taken said.part
     (λ fs is. c.in-Ok-store_all.ensures.ok fs (c.answer_words.ensures.told_same ∙ is)
     ∙ ap (λ xs. Some (stored_all (map store_of xs) fs)) c.deref.ensures.value)
-    (listed_status _ _ c.in-Ok.ensures.prepared.listed.line) said.none said.silent held holds
+    (listed_status c.in-Ok.answer.line) said.none said.silent held holds
 
 pub returns-in-Ok-store_all-clause-headline : goal.returns-in-Ok-store_all-clause-headline
 returns-in-Ok-store_all-clause-headline g c file workers enable asked files told ok =
     let prepared = later_reads _ _ _ _ _ _ _ _ _ c.store_all.ensures.read_faults_same c.in-Ok.ensures.prepared in
     let said = c.print_line.ensures in
+    let text = c.as_str.ensures.value ∙ c.in-Ok-text.ensures in
     let a = answer_of c.in-Ok.answer in
     let stores = c.in-Ok-store_all.ensures.ok files (c.answer_words.ensures.told_same ∙ told)
     ∙ ap (λ xs. Some (stored_all (map store_of xs) files)) c.deref.ensures.value in
-    let due = due_now _ _ _ _ _ _ prepared _ _ _ _ _ _ said.status said.taken said.part
+    let due = due_now _ _ _ _ _ _ prepared _ _ _ _ _ _ said.status _ text said.taken said.part
     (λ fs is. c.in-Ok-store_all.ensures.ok fs (c.answer_words.ensures.told_same ∙ is)
     ∙ ap (λ xs. Some (stored_all (map store_of xs) fs)) c.deref.ensures.value)
     files told ok in
@@ -90,7 +97,7 @@ returns-in-Ok-store_all-clause-headline g c file workers enable asked files told
     (λ t. (goal.Target-dyn g (t.vtable, t.value)).adjustable t.value) targets in
     heading c.circuits_serve.ensures file workers enable devices files a _ _ _
     (subst (λ command. IsAnswerOf command devices files a) asked due.0) due.1 stores
-    (λ held holds. line_taken _ held a.line _ (inl ok) (said.taken held holds))
+    (λ held holds. line_taken _ held _ _ (inl ok) (said.taken held holds) ∙ ap (λ b. Some (held ++ b)) text)
 
 pub returns-in-Err-Failed-clause-left_by_fault : goal.returns-in-Err-Failed-clause-left_by_fault
 returns-in-Err-Failed-clause-left_by_fault g c files told four =

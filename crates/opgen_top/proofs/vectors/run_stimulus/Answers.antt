@@ -5,5 +5,5 @@ pub returns : goal.returns
 returns c = record {
   rows = c.in_ok-text.text.items;
   run = c.in_ok-text.ensures;
-  answer = rw (c.in_ok-with_file.ensures, c.in_ok-line.ensures, c.in_ok-vectors_name.ensures, c.as_str-name.ensures) refl;
+  answer = rw (c.in_ok-with_file.ensures, c.in_ok-copy.ensures, c.in_ok-name.ensures, c.as_str.ensures) refl;
 }

@@ -54,5 +54,5 @@ returns c =
       good = c.good_cycles-good.result;
       judged = runs_good c.args.n c.args.spec.now c.requires.filter design c.args.planned.latency cells outputs c.good_cycles-good.result
           c.in_ok-inputs.ensures.cells run long counted;
-      answer = rw (c.without_file.ensures, c.in_ok-line.ensures, c.len-signals.ensures) refl;
+      answer = rw (c.without_file.ensures, c.len-signals.ensures) refl;
     }

@@ -1,5 +1,5 @@
 use Rattle.std.proofs.Common.{◌≡◌, ◌<◌, ◌≤◌, ◌^◌, length, drop}
-use Rattle.opgen_num.specs.declared.TheConstants.{MAX_WIDTH}
+use Rattle.opgen_num.specs.declared.format.TheConstants.{MAX_WIDTH}
 use Rattle.opgen_vec.specs.Rows.{digit_count}
 use Rattle.opgen_vec.specs.Digits.{hex_value}
 use Rattle.opgen_vec.proofs.hex.hex_value.Given as goal

@@ -2,7 +2,7 @@ use Rattle.std.proofs.Common.{◌≤◌, length, take, ap, ◌∙◌, subst, ari
 use Rattle.std.proofs.Math.Seq.{take-append_seam}
 use Rattle.std.specs.Prelude.{All}
 use Rattle.std.proofs.lemmas.List.Elements.{All-tail}
-use Rattle.opgen_num.specs.declared.TheConstants.{MAX_WIDTH}
+use Rattle.opgen_num.specs.declared.format.TheConstants.{MAX_WIDTH}
 use Rattle.opgen_vec.proofs.Words.{first_cells}
 use Rattle.opgen_vec.proofs.row.read_row.Goals as goal
 

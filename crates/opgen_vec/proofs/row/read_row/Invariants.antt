@@ -1,6 +1,6 @@
 use Rattle.std.proofs.Common.{◌≡◌, ◌+◌, ◌-◌, ◌≤◌, length, take, drop}
 use Rattle.std.specs.Prelude.{All, vec_len, vec_capacity}
-use Rattle.opgen_num.specs.declared.TheConstants.{MAX_WIDTH}
+use Rattle.opgen_num.specs.declared.format.TheConstants.{MAX_WIDTH}
 use Rattle.opgen_vec.specs.Digits.{row_cells, spaced_cells}
 use Rattle.opgen_vec.proofs.Words.{before}
 use Rattle.opgen_vec.proofs.row.read_row.Given as goal

@@ -4,7 +4,7 @@ use Rattle.std.proofs.lemmas.Bool.{eq-eqb}
 use Rattle.std.proofs.lemmas.Option.{slice_get-get_or}
 use Rattle.opgen_design.specs.declared.expr.Op.TheVariants.{Plus}
 use Rattle.opgen_design.specs.Tree.{name, none, more, chain}
-use Rattle.opgen_design.specs.Width.{IsWidth, as_width, joined, width, width_on}
+use Rattle.opgen_design.specs.Value.{IsWidth, as_width, joined, width, width_on}
 use Rattle.opgen_design.proofs.WidthLaws.{as_width-of}
 use Rattle.opgen_net.specs.Valid.{widths, FitsNodes}
 use Rattle.opgen_net.proofs.FlowLaws.{index_within}

@@ -2,8 +2,7 @@ use Rattle.std.proofs.Common.{◌<◌, ℕ, List, length, refl, sym, subst}
 use Rattle.std.specs.Prelude.{All}
 use Rattle.opgen_design.specs.declared.design.Driver.{Driver}
 use Rattle.opgen_design.specs.declared.design.Design.{Design}
-use Rattle.opgen_design.specs.Reads.{driver_names, driver_ports}
-use Rattle.opgen_design.specs.Sound.{IsDeclared, Names, target}
+use Rattle.opgen_design.specs.Sound.{driver_names, driver_ports, IsDeclared, Names, target}
 use Rattle.opgen_design.proofs.SoundLaws.{driver-lists, lists-driver}
 use Rattle.opgen_design.proofs.design.Design.is_declared.Goals as goal
 

@@ -9,7 +9,7 @@ use Rattle.opgen_design.specs.declared.design.Port.{Port}
 use Rattle.opgen_design.specs.declared.design.Signal.{Signal}
 use Rattle.opgen_design.specs.declared.design.Driver.{Driver}
 use Rattle.opgen_design.specs.declared.design.Driver.TheVariants.{Assign, Table, Register, Output}
-use Rattle.opgen_design.specs.Width.{width}
+use Rattle.opgen_design.specs.Value.{width}
 use Rattle.opgen_design.specs.Sound.{signal_widths, port_widths, WidthsAgree}
 use Rattle.opgen_design.proofs.design.Design.widths_agree.Goals as goal
 

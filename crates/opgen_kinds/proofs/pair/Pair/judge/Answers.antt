@@ -3,8 +3,8 @@ use Rattle.std.specs.Int.{w128}
 use Rattle.std.proofs.lemmas.Int.{to_z-of_z}
 use Rattle.opgen_kinds.specs.Pair.{quotient_format, pair_meaning}
 use Rattle.opgen_kinds.proofs.of_kind.Pair.{pair_lawful}
-use Rattle.opgen_kinds.proofs.Accepted.{accepted_ranges, accepted_shift, accepted_width}
-use Rattle.opgen_kinds.proofs.Roundings.{zero_if}
+use Rattle.opgen_ports.proofs.Accepted.{accepted_ranges, accepted_shift, accepted_width}
+use Rattle.opgen_ports.proofs.Roundings.{zero_if}
 use Rattle.opgen_kinds.proofs.pair.Pair.judge.Goals as goal
 
 pub quotient_is_good-requires-clause-pair : goal.quotient_is_good-requires-clause-pair

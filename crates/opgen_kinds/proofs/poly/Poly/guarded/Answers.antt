@@ -3,7 +3,7 @@ use Rattle.std.specs.Prelude.{ℤ, pos, ◌*ℤ◌, unsigned_abs}
 use Rattle.std.specs.Int.{w64, w128}
 use Rattle.std.proofs.lemmas.Int.{ints, to_z-of_z}
 use Rattle.opgen_num.proofs.BitLength.{power_order}
-use Rattle.opgen_num.specs.Nearest.{nearest}
+use Rattle.opgen_num.specs.Rounding.{nearest}
 use Rattle.opgen_kinds.specs.Horner.{result_places, poly_guard}
 use Rattle.opgen_ports.proofs.Bounds.{products, few_units}
 use Rattle.opgen_ports.proofs.Magnitudes.{product_within}

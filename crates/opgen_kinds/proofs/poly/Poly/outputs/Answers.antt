@@ -1,5 +1,5 @@
 use Rattle.opgen_kinds.specs.Poly.{poly_meaning}
-use Rattle.opgen_kinds.proofs.Accepted.{accepted_ranges}
+use Rattle.opgen_ports.proofs.Accepted.{accepted_ranges}
 use Rattle.opgen_kinds.proofs.poly.Poly.outputs.Goals as goal
 
 pub output-requires : goal.output-requires

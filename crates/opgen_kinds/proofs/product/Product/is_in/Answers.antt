@@ -1,5 +1,5 @@
 use Rattle.std.proofs.Common.{◌≡◌, ◌∙◌, Bool, true, false, not, FitsSigned, IsTrue, ◌↔◌, ◌∷◌, [], refl, sym, of_z, to_z, rules}
-use Rattle.opgen_kinds.specs.Versions.{AreNear}
+use Rattle.opgen_ports.specs.Ranges.{AreNear}
 use Rattle.std.specs.Int.{w32}
 use Rattle.std.specs.Prelude.{ℤ}
 use Rattle.std.proofs.lemmas.Int.{to_z-of_z}

@@ -3,7 +3,7 @@ use Rattle.std.specs.Int.{w128}
 use Rattle.std.proofs.lemmas.Int.{to_z-of_z}
 use Rattle.opgen_kinds.specs.Product.{product_need, product_meaning}
 use Rattle.opgen_kinds.proofs.of_kind.Product.{product_lawful}
-use Rattle.opgen_kinds.proofs.Accepted.{accepted_ranges, accepted_shift, accepted_width}
+use Rattle.opgen_ports.proofs.Accepted.{accepted_ranges, accepted_shift, accepted_width}
 use Rattle.opgen_ports.proofs.Cycles.{only_word}
 use Rattle.opgen_kinds.proofs.product.Product.judge.Goals as goal
 

@@ -1,6 +1,6 @@
 use Rattle.std.proofs.Common.{refl, arith}
 use Rattle.opgen_kinds.specs.Product.{product_need, product_meaning}
-use Rattle.opgen_kinds.proofs.Accepted.{accepted_width}
+use Rattle.opgen_ports.proofs.Accepted.{accepted_width}
 use Rattle.opgen_kinds.proofs.product.Product.output.Goals as goal
 
 pub returns-clause-few : goal.returns-clause-few

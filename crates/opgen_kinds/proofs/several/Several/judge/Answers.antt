@@ -4,7 +4,7 @@ use Rattle.std.specs.Int.{w128}
 use Rattle.std.proofs.lemmas.Int.{to_z-of_z}
 use Rattle.opgen_num.proofs.BitLength.{power_order}
 use Rattle.opgen_kinds.specs.Several.{several_meaning}
-use Rattle.opgen_kinds.proofs.Accepted.{accepted_ranges}
+use Rattle.opgen_ports.proofs.Accepted.{accepted_ranges}
 use Rattle.opgen_ports.proofs.Magnitudes.{fits_small}
 use Rattle.opgen_kinds.proofs.several.Several.judge.Goals as goal
 

@@ -1,5 +1,5 @@
 use Rattle.opgen_kinds.specs.Several.{several_meaning}
-use Rattle.opgen_kinds.proofs.Accepted.{accepted_ranges}
+use Rattle.opgen_ports.proofs.Accepted.{accepted_ranges}
 use Rattle.opgen_kinds.proofs.several.Several.outputs.Goals as goal
 
 pub constants-requires : goal.constants-requires

@@ -3,7 +3,7 @@ use Rattle.std.specs.Int.{w128}
 use Rattle.std.proofs.lemmas.Int.{to_z-of_z}
 use Rattle.opgen_kinds.specs.Single.{single_meaning}
 use Rattle.opgen_kinds.proofs.of_kind.Single.{single_lawful}
-use Rattle.opgen_kinds.proofs.Accepted.{accepted_ranges, accepted_shift}
+use Rattle.opgen_ports.proofs.Accepted.{accepted_ranges, accepted_shift}
 use Rattle.opgen_kinds.proofs.single.Single.judge.Goals as goal
 
 pub root_is_good-requires-clause-single : goal.root_is_good-requires-clause-single

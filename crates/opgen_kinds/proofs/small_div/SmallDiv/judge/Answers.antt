@@ -2,7 +2,7 @@ use Rattle.std.proofs.Common.{FitsSigned, rules}
 use Rattle.std.specs.Int.{w128}
 use Rattle.std.proofs.lemmas.Int.{to_z-of_z}
 use Rattle.opgen_kinds.specs.SmallDiv.{small_meaning}
-use Rattle.opgen_kinds.proofs.Accepted.{accepted_ranges}
+use Rattle.opgen_ports.proofs.Accepted.{accepted_ranges}
 use Rattle.opgen_kinds.proofs.small_div.SmallDiv.judge.Goals as goal
 
 pub small_quotient_is_good-requires-clause-small : goal.small_quotient_is_good-requires-clause-small

@@ -1,5 +1,5 @@
 use Rattle.opgen_kinds.specs.SmallDiv.{small_meaning}
-use Rattle.opgen_kinds.proofs.Accepted.{accepted_ranges}
+use Rattle.opgen_ports.proofs.Accepted.{accepted_ranges}
 use Rattle.opgen_kinds.proofs.small_div.SmallDiv.outputs.Goals as goal
 
 pub remainder-requires : goal.remainder-requires

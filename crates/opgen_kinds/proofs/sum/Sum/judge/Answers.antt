@@ -1,7 +1,7 @@
 use Rattle.std.proofs.Common.{refl, arith}
 use Rattle.opgen_kinds.specs.Sum.{sum_need, fir_meaning}
 use Rattle.opgen_kinds.proofs.of_kind.Sum.{fir_lawful}
-use Rattle.opgen_kinds.proofs.Accepted.{accepted_ranges, accepted_shift, accepted_room, accepted_width}
+use Rattle.opgen_ports.proofs.Accepted.{accepted_ranges, accepted_shift, accepted_room, accepted_width}
 use Rattle.opgen_ports.proofs.Cycles.{only_word}
 use Rattle.opgen_kinds.proofs.sum.Sum.judge.Goals as goal
 

@@ -1,6 +1,6 @@
 use Rattle.opgen_kinds.specs.Sum.{fir_meaning}
 use Rattle.opgen_kinds.proofs.of_kind.Sum.{fir_lawful}
-use Rattle.opgen_kinds.proofs.Accepted.{accepted_room}
+use Rattle.opgen_ports.proofs.Accepted.{accepted_room}
 use Rattle.opgen_kinds.proofs.sum.Sum.value.Goals as goal
 
 pub exact_sum-requires-clause-room : goal.exact_sum-requires-clause-room

@@ -3,7 +3,7 @@ use Rattle.std.specs.Int.{w128}
 use Rattle.std.proofs.lemmas.Int.{to_z-of_z}
 use Rattle.opgen_num.specs.declared.format.Ratio.{Ratio}
 use Rattle.opgen_ports.proofs.Cycles.{only_word}
-use Rattle.opgen_kinds.proofs.Roundings.{good-along}
+use Rattle.opgen_ports.proofs.Roundings.{good-along}
 use Rattle.opgen_kinds.proofs.taps.Taps.judge.Goals as goal
 
 pub bounds-outputs-0 : goal.bounds-outputs-0

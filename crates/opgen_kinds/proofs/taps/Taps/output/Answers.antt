@@ -3,7 +3,7 @@ use Rattle.std.proofs.lemmas.Int.{to_z-of_z}
 use Rattle.opgen_kinds.specs.Sum.{sum_shift, sum_places}
 use Rattle.opgen_kinds.specs.Taps.{direct, taps_format, taps_meaning}
 use Rattle.opgen_ports.proofs.Bounds.{room_bound}
-use Rattle.opgen_kinds.proofs.Accepted.{accepted_ranges}
+use Rattle.opgen_ports.proofs.Accepted.{accepted_ranges}
 use Rattle.opgen_kinds.proofs.of_kind.Taps.{accepted_taps_room, taps_have_room}
 use Rattle.opgen_kinds.proofs.taps.Taps.output.Goals as goal
 

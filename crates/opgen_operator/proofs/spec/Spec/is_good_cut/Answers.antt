@@ -4,7 +4,7 @@ use Rattle.std.specs.Prelude.{IsTrue}
 use Rattle.std.proofs.lemmas.Int.{to_z-of_z}
 use Rattle.opgen_operator.specs.Operator.{exact_value}
 use Rattle.opgen_operator.specs.Outputs.{inputs_of, IsGoodCut}
-use Rattle.opgen_ports.specs.PortNumbers.{recent_numbers, number_of}
+use Rattle.opgen_ports.specs.Ports.{recent_numbers, number_of}
 use Rattle.opgen_operator.proofs.spec.Spec.is_good_cut.Goals as goal
 
 pub returns-in-Some : goal.returns-in-Some

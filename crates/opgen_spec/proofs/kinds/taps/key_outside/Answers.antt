@@ -1,8 +1,7 @@
 use Rattle.std.proofs.Common.{◌≡◌, ap, ◌∙◌}
 use Rattle.toml.specs.View.{items_view, table_view}
 use Rattle.opgen_document.specs.declared.key.Key.TheVariants as key
-use Rattle.opgen_document.specs.Document.{items_at}
-use Rattle.opgen_document.specs.Ranges.{is_searched}
+use Rattle.opgen_document.specs.Document.{items_at, is_searched}
 use Rattle.opgen_spec.specs.kinds.Taps.{taps_outside}
 use Rattle.opgen_spec.proofs.kinds.taps.key_outside.Goals as goal
 

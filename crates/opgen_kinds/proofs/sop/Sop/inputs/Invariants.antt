@@ -1,5 +1,0 @@
-use Rattle.std.proofs.Common.{◌≡◌, take}
-use Rattle.opgen_kinds.proofs.sop.Sop.inputs.Given as goal
-
-abbrev pub invariant-inputs : goal.invariant-inputs
-invariant-inputs l = l.ports.items ≡ take l.port-index l.self.inputs

@@ -1,5 +1,0 @@
-use Rattle.opgen_kinds.proofs.of_kind.Sop.{accepted_sop}
-use Rattle.opgen_kinds.proofs.sop.Sop.output.Goals as goal
-
-pub depth-requires-clause-sop : goal.depth-requires-clause-sop
-depth-requires-clause-sop c = accepted_sop c.args.self.now c.requires

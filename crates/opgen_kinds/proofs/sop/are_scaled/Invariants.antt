@@ -1,7 +1,0 @@
-use Rattle.std.proofs.Common.{ℕ, ◌<◌, get_or}
-use Rattle.opgen_kinds.specs.declared.sop.Scaled.{Scaled}
-use Rattle.opgen_kinds.specs.Sop.{IsScaled}
-use Rattle.opgen_kinds.proofs.sop.are_scaled.Given as goal
-
-abbrev pub invariant-scaled : goal.invariant-scaled
-invariant-scaled l = (k : ℕ) (d : Scaled) → k < l.term-index → IsScaled l.inputs (get_or l.scaled k d)
