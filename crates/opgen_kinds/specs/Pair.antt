@@ -5,7 +5,6 @@ use Rattle.std.specs.Prelude.{ℕ, ◌≡◌, refl, ◌≤ℤ◌, ◌<◌, Bool,
 use Rattle.opgen_num.specs.declared.format.Format.{Format}
 use Rattle.opgen_num.specs.declared.format.Ratio.{Ratio}
 use Rattle.opgen_kinds.specs.declared.pair.Pair.{Pair}
-use Rattle.opgen_ports.specs.declared.kind.Kind.TheVariants as kind_of
 use Rattle.opgen_ports.specs.declared.ports.PortFormat.{PortFormat}
 use Rattle.opgen_ports.specs.Accepted.{IsAcceptable}
 use Rattle.opgen_ports.specs.Good.{IsGoodRatio}
@@ -85,7 +84,6 @@ RemaindersHold p = IsPair p → (a b : ℤ) → IsOf p.a a → IsOf p.b b
 -- what a quotient means: its divisor is not 0
 abbrev pub pair_meaning : Pair → Meaning
 pair_meaning p = record {
-  kind = kind_of.Divide;
   IsIn = λ version. version < 3 → p.a.signed ≡ false;
   IsRanged = IsPair p;
   inputs = two_inputs p.a p.b;

@@ -4,7 +4,6 @@ use Rattle.opgen_num.specs.declared.format.Format.{Format}
 use Rattle.opgen_num.specs.declared.format.Ratio.{Ratio}
 use Rattle.opgen_num.specs.Formats.{range_width, is_negative}
 use Rattle.opgen_kinds.specs.declared.poly.Poly.{Poly as Polynomial}
-use Rattle.opgen_ports.specs.declared.kind.Kind.TheVariants as kind_of
 use Rattle.opgen_ports.specs.Accepted.{IsAcceptable}
 use Rattle.opgen_ports.specs.Good.{IsGoodRatio}
 use Rattle.opgen_ports.specs.In128.{IsRatioIn128}
@@ -47,7 +46,6 @@ exact_poly p x = record {
 -- rounded up. The result for 10 / 3 is 3, whose two bits do not hold 4.
 abbrev pub poly_meaning : Polynomial → Meaning
 poly_meaning p = record {
-  kind = kind_of.Poly;
   IsIn = λ version. version ≢ 1;
   IsRanged = IsPoly p;
   inputs = one_input p.input;

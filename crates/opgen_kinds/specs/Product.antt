@@ -3,7 +3,6 @@ use Rattle.std.specs.Prelude.{ℕ, ◌≡◌, ◌≤◌, ◌≤ℤ◌, false, So
 use Rattle.opgen_num.specs.declared.format.Format.{Format}
 use Rattle.opgen_num.specs.declared.format.Ratio.{Ratio}
 use Rattle.opgen_kinds.specs.declared.product.Product.{Product}
-use Rattle.opgen_ports.specs.declared.kind.Kind.TheVariants as kind_of
 use Rattle.opgen_ports.specs.declared.reach.Reach.{Reach}
 use Rattle.opgen_ports.specs.Accepted.{IsAcceptable}
 use Rattle.opgen_ports.specs.Good.{IsGoodRatio}
@@ -49,7 +48,6 @@ ProductsHold p = IsProduct p → (a b : ℤ) → IsOf p.a a → IsOf p.b b
 -- what a product means
 abbrev pub product_meaning : Product → Meaning
 product_meaning p = record {
-  kind = kind_of.Multiply;
   IsIn = λ version. (version ≡ 1 → p.counters ≡ false) × AreNear version (p.a.lsb ∷ p.b.lsb ∷ p.out_lsb ∷ []);
   IsRanged = IsProduct p;
   inputs = two_inputs p.a p.b;

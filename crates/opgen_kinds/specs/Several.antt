@@ -4,7 +4,6 @@ use Rattle.std.specs.Prelude.{ℕ, ◌≡◌, ◌≤◌, ◌<◌, Bool, false, I
 use Rattle.opgen_num.specs.declared.format.Format.{Format}
 use Rattle.opgen_num.specs.declared.format.Ratio.{Ratio}
 use Rattle.opgen_kinds.specs.declared.several.Several.{Several}
-use Rattle.opgen_ports.specs.declared.kind.Kind.TheVariants as kind_of
 use Rattle.opgen_ports.specs.declared.ports.PortFormat.{PortFormat}
 use Rattle.opgen_ports.specs.Accepted.{IsAcceptable}
 use Rattle.opgen_ports.specs.Good.{IsGoodRatio}
@@ -56,7 +55,6 @@ MultiplesHold m = (constant x : ℤ) → IsOf m.input x → IsOf (constant_forma
 -- what several multiples mean
 abbrev pub several_meaning : Several → Meaning
 several_meaning m = record {
-  kind = kind_of.Mcm;
   -- versions 1 and 2 have no graphs of a fixed rule
   IsIn = λ version. AreNear version (m.input.lsb ∷ []) × (version < 3 → IsTrue m.searched);
   IsRanged = IsSeveral m;

@@ -4,7 +4,6 @@ use Rattle.std.specs.Prelude.{ℕ, ◌≡◌, ◌≤◌, Bool, false, Some, None
 use Rattle.opgen_num.specs.declared.format.Format.{Format}
 use Rattle.opgen_num.specs.Rounding.{IsGoodRoot, IsRoot}
 use Rattle.opgen_kinds.specs.declared.single.Single.{Single}
-use Rattle.opgen_ports.specs.declared.kind.Kind.TheVariants as kind_of
 use Rattle.opgen_ports.specs.declared.ports.PortFormat.{PortFormat}
 use Rattle.opgen_ports.specs.Accepted.{IsAcceptedIn, IsAcceptable}
 use Rattle.opgen_ports.specs.In128.{IsIn128}
@@ -56,7 +55,6 @@ RootsHold r = IsSingle r → (x : ℤ) → IsOf r.input x
 -- what a root means
 abbrev pub single_meaning : Single → Meaning
 single_meaning r = record {
-  kind = kind_of.Root;
   IsIn = λ version. Unit {0};
   IsRanged = IsSingle r;
   inputs = one_input r.input;

@@ -5,7 +5,6 @@ use Rattle.opgen_num.specs.declared.format.Ratio.{Ratio}
 use Rattle.opgen_num.specs.Formats.{digit_count}
 use Rattle.opgen_num.specs.Rounding.{IsQuotient}
 use Rattle.opgen_kinds.specs.declared.small_div.SmallDiv.{SmallDiv}
-use Rattle.opgen_ports.specs.declared.kind.Kind.TheVariants as kind_of
 use Rattle.opgen_ports.specs.declared.ports.PortFormat.{PortFormat}
 use Rattle.opgen_ports.specs.Accepted.{IsAcceptable}
 use Rattle.opgen_ports.specs.Good.{IsGoodRatio}
@@ -49,7 +48,6 @@ SmallQuotientsHold c = IsSmallDiv c → (x : ℤ) → IsOf c.input x → (q r : 
 -- what a quotient by a small constant means
 abbrev pub small_meaning : SmallDiv → Meaning
 small_meaning c = record {
-  kind = kind_of.Constdiv;
   IsIn = λ version. (version ≢ 1) × AreNear version (c.input.lsb ∷ []);
   IsRanged = IsSmallDiv c;
   inputs = one_input c.input;

@@ -4,7 +4,6 @@ use Rattle.opgen_num.specs.declared.format.Format.{Format}
 use Rattle.opgen_num.specs.declared.format.Ratio.{Ratio}
 use Rattle.opgen_kinds.specs.declared.sum.Sum.{Sum}
 use Rattle.opgen_kinds.specs.declared.taps.Taps.{Taps}
-use Rattle.opgen_ports.specs.declared.kind.Kind.TheVariants as kind_of
 use Rattle.opgen_ports.specs.Accepted.{IsAcceptable}
 use Rattle.opgen_kinds.specs.Sum.{sum_shift, sum_format, exact_sum, first_inexact, SumsHold}
 use Rattle.opgen_ports.specs.Ranges.{AreNear, IsPower, IsInput, IsWithin}
@@ -43,7 +42,6 @@ exact_taps f x = exact_sum (direct f) x
 -- what whole taps mean: the transposed form has the exact values and the format of the direct one
 abbrev pub taps_meaning : Taps → Meaning
 taps_meaning f = record {
-  kind = kind_of.Tfir;
   -- version 2 has neither cut outputs nor graphs of a fixed rule
   IsIn = λ version. (version ≢ 1) × AreNear version (f.input.lsb ∷ []) × (version < 3 → (f.out_lsb ≡ f.input.lsb) × IsTrue f.searched);
   IsRanged = IsTaps f;

@@ -1,11 +1,10 @@
 -- In the run of a circuit over rows each row that `check` judges is good, and that is its answer.
-use Rattle.std.proofs.Common.{◌≡◌, inr, ℕ, zero, suc, ◌+◌, ◌*◌, ◌-◌, ◌<◌, ◌≤◌, Bool, true, false, List, [], ◌∷◌, length, map, drop, Option, Some, None, Ok, refl, sym, ap, ◌∙◌, subst, arith, length-append}
-use Rattle.std.specs.Prelude.{codes, slice_get}
+use Rattle.std.proofs.Common.{◌≡◌, inr, ℕ, zero, suc, ◌+◌, ◌*◌, ◌-◌, ◌<◌, ◌≤◌, Bool, false, List, [], ◌∷◌, length, map, drop, Option, Some, None, Ok, refl, sym, ap, ◌∙◌, subst, arith, length-append}
+use Rattle.std.specs.Prelude.{slice_get}
 use Rattle.std.specs.List.{AllZip}
 use Rattle.std.specs.Str.Lines.{lines}
 use Rattle.std.proofs.Math.Path.{fun_ext}
 use Rattle.std.proofs.lemmas.List.{length-map}
-use Rattle.opgen_num.specs.declared.format.Format.{Format}
 use Rattle.opgen_num.specs.Words.{AreRowsOfCells}
 use Rattle.opgen_num.proofs.RowsOfCells.{length-rows_of_cells}
 use Rattle.opgen_check.specs.declared.checked.Checked.TheVariants.{Good}
@@ -16,21 +15,15 @@ use Rattle.opgen_design.specs.declared.design.Design.{Design}
 use Rattle.opgen_design.specs.declared.design.Dir.TheVariants.{In, Out}
 use Rattle.opgen_design.specs.declared.design.Port.{Port}
 use Rattle.opgen_design.specs.Run.{initial_words, input_widths, words_at_outputs}
-use Rattle.opgen_operator.specs.declared.operator.Operator.{Operator}
-use Rattle.opgen_operator.specs.declared.operator.Operator.TheVariants.{Scale, Fir, Multiply, Divide, Root, Mcm, Constdiv, Poly, Tfir, Sop}
 use Rattle.opgen_operator.specs.declared.spec.Spec.{Spec}
 use Rattle.opgen_operator.specs.Outputs.{operator_ports, port_of, IsGood, IsInRange, chosen, chosen_ports, inputs_of, outputs_of, output_words, recent_words}
-use Rattle.opgen_kinds.specs.Pair.{quotient_format, remainder_format}
-use Rattle.opgen_kinds.specs.Several.{constant_format, numbered}
-use Rattle.opgen_kinds.specs.Single.{rest_format, root_format}
-use Rattle.opgen_kinds.specs.SmallDiv.{small_quotient_format, small_rest_format}
-use Rattle.opgen_operator.specs.Operator.{IsOperator, operator_inputs, operator_outputs}
+use Rattle.opgen_operator.specs.Operator.{operator_outputs}
 use Rattle.opgen_operator.specs.Valid.{IsValidSpec}
 use Rattle.opgen_operator.proofs.Operators.{some_input}
 use Rattle.opgen_pipe.specs.declared.planning.Planned.{Planned}
 use Rattle.opgen_pipe.proofs.Parts.{length-signals}
 use Rattle.opgen_ports.specs.declared.ports.PortFormat.{PortFormat}
-use Rattle.opgen_ports.specs.Ports.{output_numbers, recent_numbers, port, with_rest}
+use Rattle.opgen_ports.specs.Ports.{output_numbers, recent_numbers, port}
 use Rattle.opgen_read.specs.Answer.{IsWithinLimits}
 use Rattle.opgen_runs.specs.Rows.{IsRunOf, rows_words}
 use Rattle.opgen_schedule.specs.Stage.{slot_at}
@@ -48,6 +41,7 @@ use Rattle.opgen_vec.specs.Reading.{IsReading}
 use Rattle.opgen_vec.proofs.Rows.{rows-of_cells}
 use Rattle.opgen_vhdl.specs.DesignText.{text_of}
 use Rattle.opgen_laws.specs.Circuits.{CircuitsCheckGood}
+use Rattle.opgen_laws.proofs.ByKind.{few_ports}
 use Rattle.opgen_laws.proofs.OneChecked.{one_to_vhdl}
 use Rattle.opgen_laws.proofs.RowCells.{output_same, recent_same}
 use Rattle.opgen_laws.proofs.SomeRun.{some_run}
@@ -98,31 +92,6 @@ module _ (spec : Spec) (some : 1 ≤ length (inputs_of spec)) (latency : ℕ) (d
         (good (subst (IsInRange spec) (sym recent) ranged)))
 
 -- ---- the text of a circuit gives its design
-
-rest_length : (exact : Bool) (main rest : PortFormat) → length (with_rest exact main rest) ≤ 2
-rest_length true main rest = omega arith
-rest_length false main rest = omega arith
-
-numbered_length : (n : ℕ) (fs : List Format) → length (numbered n fs) ≡ length fs
-numbered_length n [] = refl
-numbered_length n (f ∷ fs) = ap suc (numbered_length (n + 1) fs)
-
-few_ports : (op : Operator) → IsOperator op → length (operator_inputs op) + length (operator_outputs op) ≤ 64
-few_ports (Scale s) is = omega arith
-few_ports (Fir s) is = omega arith
-few_ports (Multiply p) is = omega arith
-few_ports (Divide p) is =
-    omega (arith, rest_length p.exact (port (codes "q") (quotient_format p)) (port (codes "r") (remainder_format p)))
-few_ports (Root r) is = omega (arith, rest_length r.exact (port (codes "y") (root_format r)) (port (codes "r") (rest_format r)))
-few_ports (Mcm m) is =
-    let few = is.few in
-    let formats = map (constant_format m.input) m.constants in
-    omega (arith, few, numbered_length 0 formats, length-map m.constants (constant_format m.input))
-few_ports (Constdiv c) is =
-    omega (arith, rest_length c.exact (port (codes "q") (small_quotient_format c)) (port (codes "r") (small_rest_format c)))
-few_ports (Poly p) is = omega arith
-few_ports (Tfir f) is = omega arith
-few_ports (Sop s) is = let few = is.inputs.few in omega (arith, few)
 
 -- a chosen width leaves the number of ports
 chosen_length : (width : Option ℕ) (sign : Option Bool) (ports : List PortFormat) → length (chosen_ports width sign ports) ≡ length ports

@@ -1,3 +1,4 @@
+pub mod ByKind
 pub mod OneCircuit
 pub mod OneSimulated
 pub mod OneChecked

@@ -28,7 +28,8 @@ use Rattle.opgen_top.specs.Specified.{wrote, IsAnswerToSpec, IsGenerated, IsVect
 use Rattle.opgen_top.specs.Targets.{Device, first_of_name, takes_lines, tuned}
 use Rattle.opgen_top.specs.Workload.{IsWorked, RunsGood, workload_cells}
 use Rattle.opgen_top.specs.Workload.{cycles as workload_cycles}
-use Rattle.opgen_laws.proofs.OneCircuit.{OneOfEach, one_circuit, one_fitting}
+use Rattle.opgen_laws.proofs.ByKind.{OneOfEach}
+use Rattle.opgen_laws.proofs.OneCircuit.{one_circuit, one_fitting}
 use Rattle.opgen_runs.proofs.Rows.{one_outputs}
 use Rattle.opgen_laws.proofs.OneChecked.{one_to_vhdl}
 use Rattle.opgen_laws.proofs.OneSimulated.{one_text, one_simulated}

@@ -15,7 +15,8 @@ use Rattle.opgen_top.specs.Due.{IsAnswerOf, OnFetch, most_bytes, most_simulated_
 use Rattle.opgen_top.specs.Simulate.{IsSimulated}
 use Rattle.opgen_top.specs.Specified.{IsAnswerToSpec, IsGenerated, IsVectors}
 use Rattle.opgen_top.specs.Targets.{Device}
-use Rattle.opgen_laws.proofs.SomeCircuit.{NetLaws, some_generated, some_vectors, some_worked}
+use Rattle.opgen_laws.proofs.ByKind.{NetLaws}
+use Rattle.opgen_laws.proofs.SomeCircuit.{some_generated, some_vectors, some_worked}
 use Rattle.opgen_laws.proofs.SomeChecked.{some_checked}
 use Rattle.opgen_laws.proofs.SomeSimulated.{some_simulated}
 use Rattle.opgen_laws.specs.Answers.{HasSomeAnswer}

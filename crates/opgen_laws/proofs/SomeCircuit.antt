@@ -1,8 +1,5 @@
 -- That a specification or a workload has no answer is impossible: it has a circuit, or a refusal.
-use Rattle.std.proofs.Common.{◌≡◌, inl, inr, ⊎_elim, ℕ, zero, suc, ◌-◌, ◌<◌, ◌≤◌, Bool, true, false, List, [], ◌∷◌, length, map, All, Contains, Option, Some, None, Result, Ok, Err, refl, sym, subst, arith, ◌^◌}
-use Rattle.std.specs.Prelude.{ℤ, IsTrue}
-use Rattle.std.proofs.lemmas.List.Elements.{All-contains}
-use Rattle.opgen_ports.specs.Ranges.{IsWithin}
+use Rattle.std.proofs.Common.{◌≡◌, inl, inr, ⊎_elim, ℕ, zero, suc, ◌-◌, ◌<◌, ◌≤◌, Bool, true, false, List, [], ◌∷◌, length, map, Option, Some, None, Result, Ok, Err, refl, sym, subst, arith}
 use Rattle.std.specs.List.{concat}
 use Rattle.std.proofs.lemmas.Bool.{cases_lt}
 use Rattle.opgen_num.specs.Words.{AreRowsOfCells}
@@ -10,55 +7,26 @@ use Rattle.opgen_num.proofs.RowsOfCells.{length-rows_of_cells}
 use Rattle.opgen_design.specs.declared.design.Design.{Design}
 use Rattle.opgen_design.specs.declared.design.TheConstants.{MAX_SIGNALS}
 use Rattle.opgen_design.specs.Run.{input_widths, output_widths}
-use Rattle.opgen_constdiv.specs.Recipe.{net_of as net_of_small}
-use Rattle.opgen_constdiv.proofs.Fits as divisions
-use Rattle.opgen_divide.specs.Recipe.{net_of_pair}
-use Rattle.opgen_divide.proofs.Whole as quotients
-use Rattle.opgen_fir.specs.Recipe.{net_of_sum}
-use Rattle.opgen_graph.specs.declared.ranks.Graph.{Graph}
-use Rattle.opgen_graph.specs.Graphs.{values}
-use Rattle.opgen_graph.specs.Reach.{IsWideMember}
-use Rattle.opgen_graph.specs.Recipe.{net_of_graph}
-use Rattle.opgen_graph.specs.Served.{Serves as GraphServes}
-use Rattle.opgen_graph.proofs.Fits as multiples
-use Rattle.opgen_laws.proofs.SumNets.{sum-fits}
 use Rattle.opgen_part_laws.proofs.Classical.{decided}
-use Rattle.opgen_part_laws.proofs.SomeListing.{some_list}
-use Rattle.opgen_part_laws.proofs.SomeNet.{some_least_graph}
-use Rattle.opgen_laws.proofs.SopNets.{some_sop_net}
-use Rattle.opgen_laws.proofs.ProductNets.{product_net}
 use Rattle.opgen_net.specs.declared.net.Net.{Net}
 use Rattle.opgen_net.specs.Classes.{classes}
-use Rattle.opgen_operator.specs.declared.operator.Operator.{Operator}
-use Rattle.opgen_operator.specs.declared.operator.Operator.TheVariants.{Scale, Fir, Multiply, Divide, Root, Mcm, Constdiv, Poly, Tfir, Sop}
 use Rattle.opgen_operator.specs.declared.spec.Spec.{Spec}
-use Rattle.opgen_operator.specs.Fits.{FitsInEachMode}
-use Rattle.opgen_operator.specs.Held.{OutputsHold}
-use Rattle.opgen_kinds.specs.Product.{ProductsHaveWidth}
 use Rattle.opgen_operator.specs.Operator.{divisor}
 use Rattle.opgen_operator.specs.Outputs.{inputs_of}
 use Rattle.opgen_operator.specs.Valid.{IsValidSpec}
-use Rattle.opgen_operator.proofs.Accepted.{accepted_ranges}
 use Rattle.opgen_operator.proofs.Operators.{input_bits}
 use Rattle.opgen_pipe.specs.declared.planning.Planned.{Planned}
 use Rattle.opgen_pipe.specs.Cells.{design_cells, need}
 use Rattle.opgen_pipe.specs.Copies.{net_latency}
 use Rattle.opgen_pipe.specs.Pipelined.{design_of}
 use Rattle.opgen_pipe.specs.Planned.{slots_of}
-use Rattle.opgen_poly.specs.Recipe.{net_of_poly}
-use Rattle.opgen_poly.proofs.Fits as polynomials
 use Rattle.opgen_schedule.specs.Schedule.{greatest_time}
 use Rattle.opgen_schedule.specs.Stage.{slot_at}
-use Rattle.opgen_shared.specs.Rule.{RuleGraphServes, SomeRuleGraph}
 use Rattle.opgen_spec.specs.declared.fault.SpecFault.{SpecFault}
 use Rattle.opgen_document.specs.Document.{tree}
 use Rattle.opgen_spec.specs.Faults.{read}
 use Rattle.opgen_spec.proofs.Validity.{valid_read}
-use Rattle.opgen_sqrt.specs.Recipe.{net_of_single}
-use Rattle.opgen_sqrt.proofs.Whole as roots
 use Rattle.opgen_target.specs.Delays.{Delays, setup}
-use Rattle.opgen_tfir.specs.Recipe.{net_of_taps}
-use Rattle.opgen_tfir.proofs.Filters as filters
 use Rattle.opgen_target.specs.Ledger.{width_sum}
 use Rattle.opgen_vec.specs.Stimulus.{stimulus_cells}
 use Rattle.opgen_vec.specs.Writing.{rows_text}
@@ -68,83 +36,23 @@ use Rattle.opgen_workload.specs.Judged.{Counts, IsGoodCycle}
 use Rattle.opgen_workload.proofs.Valid.{workload_valid}
 use Rattle.opgen_top.specs.declared.line.Line.TheVariants as printed
 use Rattle.opgen_top.specs.Answer.{Answer, file, refusal, success}
-use Rattle.opgen_top.specs.Circuit.{CircuitsServe, IsCircuit, signals_of}
+use Rattle.opgen_top.specs.Circuit.{IsCircuit, signals_of}
 use Rattle.opgen_operator.specs.Serves.{Serves}
-use Rattle.opgen_top.specs.AdderGraphs.{IsGraphOf}
-use Rattle.opgen_top.specs.Kinds.{AreAddersOf, AreAddersOfOperator, IsFittingNet, IsNetOfOperator}
+use Rattle.opgen_top.specs.Kinds.{AreAddersOf, IsFittingNet}
 use Rattle.opgen_runs.specs.Rows.{IsRunOf, output_cells, rows_words}
 use Rattle.opgen_top.specs.Lines.{vectors_name}
 use Rattle.opgen_top.specs.Specified.{wrote, IsAnswerToSpec, IsGenerated, IsVectors, OnLines, OnReading, OnTable, OnTarget}
 use Rattle.opgen_top.specs.Targets.{Device, first_of_name, takes_lines, tuned}
 use Rattle.opgen_top.specs.Workload.{IsAnswerToWorkload, IsWorked, cycles, workload_cells}
-use Rattle.opgen_saturate.specs.Chosen.{cut_net}
-use Rattle.opgen_top.proofs.Building.{accepted_kind, accepted_scale, kind_fitting}
 use Rattle.opgen_top.proofs.ServedPorts.{served_widths}
 use Rattle.opgen_runs.proofs.Rows.{rows_words-widths}
+use Rattle.opgen_laws.proofs.ByKind.{NetLaws, of_kind}
 
 -- ---- the net and the adders
 
--- laws that the nets rest on
-pub record NetLaws : Type 0 where
-  pub hold : OutputsHold
-  pub widths : ProductsHaveWidth
-  pub serve : CircuitsServe
-  pub rules : SomeRuleGraph
-  pub rules_serve : RuleGraphServes
-
--- numbers have a graph
-some_graph : NetLaws → (searched : Bool) (numbers : List ℤ) (width extra : ℕ) → All (IsWithin 1048575) numbers
-    → (IsTrue searched → All (IsWithin 2047) numbers)
-    → ((set : List ℕ) (graph : Graph) → IsGraphOf searched numbers width extra set graph → GraphServes numbers graph → ⊥) → ⊥
-some_graph laws true numbers width extra wide small found =
-    some_least_graph numbers width extra (small refl) (λ least. found least.set least.graph least.is least.serves)
-some_graph laws false numbers width extra wide small found =
-    laws.rules numbers wide (λ adders rule.
-    let graph : Graph = record { adders = adders } in
-    let serves = (laws.rules_serve numbers graph wide rule).1 in
-    some_list (Contains (values adders)) (2 ^ 21) (λ x c. (All-contains IsWideMember (values adders) x serves.members c).2) (λ set up is.
-    found set graph (record { rule = rule; increasing = up; members = is }) serves))
-
-module _ (laws : NetLaws) (spec : Spec) (valid : IsValidSpec spec)
-    (found : (net : Net) (adders : List ℕ) → IsFittingNet spec net → AreAddersOf spec adders → ⊥) where
-  with_net : (op : Operator) (net : Net) (adders : List ℕ) → spec.op ≡ op → IsNetOfOperator op net → FitsInEachMode op net
-      → AreAddersOfOperator op adders → ⊥
-  with_net op net adders e of fits are =
-      found (cut_net spec net) adders (kind_fitting spec valid op net e of fits) (subst (λ o. AreAddersOfOperator o adders) (sym e) are)
-
-  of_kind : (op : Operator) → spec.op ≡ op → ⊥
-  of_kind (Scale s) e = with_net (Scale s) (net_of_sum s) [] e refl (sum-fits s (accepted_scale spec valid s e) laws.hold).0 refl
-  of_kind (Fir s) e = with_net (Fir s) (net_of_sum s) [] e refl (sum-fits s (accepted_kind spec valid (Fir s) e) laws.hold).1 refl
-  of_kind (Multiply p) e =
-      let made = product_net laws.widths laws.hold p (accepted_kind spec valid (Multiply p) e) in
-      with_net (Multiply p) made.0 [] e made.1 made.2 refl
-  of_kind (Divide p) e =
-      with_net (Divide p) (net_of_pair p) [] e refl (quotients.fits_modes p (accepted_kind spec valid (Divide p) e)) refl
-  of_kind (Root r) e = with_net (Root r) (net_of_single r) [] e refl (roots.fits_modes r (accepted_kind spec valid (Root r) e)) refl
-  of_kind (Mcm m) e =
-      let accepted = accepted_kind spec valid (Mcm m) e in
-      let ranges = accepted_ranges (Mcm m) accepted in
-      some_graph laws m.searched m.constants m.input.width m.extra ranges.constants (λ asked. (ranges.searched asked).constants) (
-      λ set graph is serves. with_net (Mcm m) (net_of_graph graph m) set e
-      (record { set = set; graph = graph; is = is; by = refl })
-      (multiples.fits_modes m accepted graph serves) (record { graph = graph; is = is }))
-  of_kind (Constdiv c) e =
-      with_net (Constdiv c) (net_of_small c.exact c.input.width c.divisor) [] e refl
-      (divisions.fits_modes c (accepted_kind spec valid (Constdiv c) e)) refl
-  of_kind (Poly p) e =
-      with_net (Poly p) (net_of_poly p) [] e refl (polynomials.fits_modes p (accepted_kind spec valid (Poly p) e)) refl
-  of_kind (Tfir f) e =
-      let accepted = accepted_kind spec valid (Tfir f) e in
-      let ranges = accepted_ranges (Tfir f) accepted in
-      some_graph laws f.searched f.taps f.input.width f.extra ranges.taps (λ asked. (ranges.searched asked).taps) (
-      λ set graph is serves. with_net (Tfir f) (net_of_taps f graph) set e
-      (record { set = set; graph = graph; is = is; by = refl })
-      (filters.net-fits f accepted graph serves) (record { graph = graph; is = is }))
-  of_kind (Sop s) e =
-      some_sop_net laws.hold s (accepted_kind spec valid (Sop s) e) (λ net is fits. with_net (Sop s) net [] e is fits refl)
-
-  some_fitting : ⊥
-  some_fitting = of_kind spec.op refl
+some_fitting : NetLaws → (spec : Spec) → IsValidSpec spec
+    → ((net : Net) (adders : List ℕ) → IsFittingNet spec net → AreAddersOf spec adders → ⊥) → ⊥
+some_fitting laws spec valid found = of_kind laws spec valid found spec.op refl
 
 -- ---- the circuit, or a refusal by the table
 abbrev plan_for : (spec : Spec) (enable : Bool) (net : Net) (table : Delays) → Planned

@@ -1,14 +1,14 @@
--- What holds of every operator: each kind proved it of its meaning.
-use Rattle.std.proofs.Common.{arith, ◌≤◌, length, ℕ}
-use Rattle.std.specs.Prelude.{All, ◌≤ℤ◌, neg_ℤ}
-use Rattle.opgen_ports.specs.declared.kind.Kind.TheVariants as kind_of
+-- What holds of every operator, one arm a kind: what each kind proved of its meaning, the names of its ports, and of the kinds with one
+-- output whose width may be chosen its port and its exact value.
+use Rattle.std.proofs.Common.{arith, ◌≤◌, length, ℕ, ◌≡◌, Bool, true, false, Some, [], ◌∷◌, refl, subst, List, ◌++◌, map}
+use Rattle.std.specs.Prelude.{All, ◌≤ℤ◌, neg_ℤ, zero, suc, ℤ, pos, ◌<ℤ◌, codes, nat_lt}
 use Rattle.opgen_operator.specs.declared.operator.Operator.{Operator}
 use Rattle.opgen_operator.specs.declared.operator.Operator.TheVariants.{Scale, Fir, Multiply, Divide, Root, Mcm, Constdiv, Poly, Tfir, Sop}
 use Rattle.opgen_ports.specs.declared.TheConstants.{MAX_SHIFT}
-use Rattle.opgen_ports.specs.Ports.{HasWidth}
+use Rattle.opgen_ports.specs.Ports.{HasWidth, format_at, Recent, covering, port, with_rest}
 use Rattle.opgen_ports.specs.Limits.{most_input, most_signal}
 use Rattle.opgen_operator.specs.Held.{OutputsHold}
-use Rattle.opgen_operator.specs.Operator.{meaning, operator_inputs, IsOperator, most_shift, shift, least_shift, HasInputsWithin, HasRoom, operator_outputs, IsAcceptedBy}
+use Rattle.opgen_operator.specs.Operator.{meaning, operator_inputs, IsOperator, most_shift, shift, least_shift, HasInputsWithin, HasRoom, operator_outputs, IsAcceptedBy, IsGoodOf, exact_value, has_value, plain_output, given_names}
 use Rattle.opgen_ports.proofs.InputPorts.{HasBit}
 use Rattle.opgen_ports.proofs.Lawful.{IsLawful}
 use Rattle.opgen_kinds.proofs.of_kind.Pair.{pair_lawful}
@@ -17,13 +17,34 @@ use Rattle.opgen_kinds.proofs.of_kind.Product.{product_lawful}
 use Rattle.opgen_kinds.proofs.of_kind.Several.{several_lawful}
 use Rattle.opgen_kinds.proofs.of_kind.Single.{single_lawful}
 use Rattle.opgen_kinds.proofs.of_kind.SmallDiv.{small_lawful}
-use Rattle.opgen_terms.proofs.Lawful.{sop_lawful}
+use Rattle.opgen_terms.proofs.Lawful.{sop_lawful, sop_positive}
 use Rattle.opgen_kinds.proofs.of_kind.Sum.{sum_lawful}
 use Rattle.opgen_kinds.proofs.of_kind.Taps.{taps_lawful}
+use Rattle.std.proofs.lemmas.Int.{ints}
+use Rattle.std.proofs.lemmas.Nat.{pow_pos}
+use Rattle.opgen_num.specs.declared.format.Format.{Format}
+use Rattle.opgen_num.specs.Formats.{fewest_bits, is_negative, range_width}
+use Rattle.opgen_num.proofs.RangeWidth.{range_width-least}
+use Rattle.opgen_num.specs.declared.format.Ratio.{Ratio}
+use Rattle.opgen_kinds.specs.Horner.{result_low, result_high}
+use Rattle.opgen_kinds.specs.Product.{product_shift, product_places}
+use Rattle.opgen_terms.specs.Sop.{sop_places}
+use Rattle.opgen_kinds.specs.Sum.{sum_shift, sum_places}
+use Rattle.opgen_kinds.specs.Taps.{direct}
+use Rattle.opgen_ports.proofs.Roundings.{positive_units}
+use Rattle.opgen_kinds.proofs.of_kind.Results.{results_order}
+use Rattle.opgen_ports.specs.declared.reach.Reach.{Reach}
+use Rattle.opgen_ports.specs.Good.{IsGoodRatio}
+use Rattle.opgen_ports.specs.Reaches.{places_down}
+use Rattle.std.specs.Fmt.{digits}
+use Rattle.opgen_names.specs.Names.{refused_words}
+use Rattle.opgen_operator.specs.GivenNames.{AreGivenNames}
+use Rattle.opgen_kinds.specs.Several.{numbered, constant_format}
+use Rattle.opgen_operator.proofs.Named.{AreNamed, are_good, good_named, given_named, names}
 
 pub lawful : (op : Operator) → IsLawful (meaning op)
-lawful (Scale s) = sum_lawful kind_of.Scale 1 s (omega arith)
-lawful (Fir s) = sum_lawful kind_of.Fir 256 s (omega arith)
+lawful (Scale s) = sum_lawful 1 s (omega arith)
+lawful (Fir s) = sum_lawful 256 s (omega arith)
 lawful (Multiply p) = product_lawful p
 lawful (Divide p) = pair_lawful p
 lawful (Root r) = single_lawful r
@@ -53,3 +74,161 @@ operator_wide version op is = (lawful op).wide version is
 
 pub outputs_held : OutputsHold
 outputs_held op = (lawful op).held
+
+-- ---- the names of its ports
+
+small_good : (exact : Bool) (q r : Format)
+    → are_good (codes "x" ∷ names (with_rest exact (record { name = codes "q"; format = q }) (record { name = codes "r"; format = r })))
+    ≡ true
+unfolding refused_words
+small_good true q r = refl
+small_good false q r = refl
+
+quotient_good : (exact : Bool) (q r : Format)
+    → are_good (codes "a" ∷ codes "b" ∷ names (with_rest exact (record { name = codes "q"; format = q })
+    (record { name = codes "r"; format = r }))) ≡ true
+unfolding refused_words
+quotient_good true q r = refl
+quotient_good false q r = refl
+
+numbered_good : (g : ℤ → Format) (ts : List ℤ) → length ts ≤ 8 → are_good (codes "x" ∷ names (numbered 0 (map g ts))) ≡ true
+unfolding refused_words digits
+numbered_good g [] h = refl
+numbered_good g (a ∷ []) h = refl
+numbered_good g (a ∷ b ∷ []) h = refl
+numbered_good g (a ∷ b ∷ c ∷ []) h = refl
+numbered_good g (a ∷ b ∷ c ∷ d ∷ []) h = refl
+numbered_good g (a ∷ b ∷ c ∷ d ∷ e ∷ []) h = refl
+numbered_good g (a ∷ b ∷ c ∷ d ∷ e ∷ i ∷ []) h = refl
+numbered_good g (a ∷ b ∷ c ∷ d ∷ e ∷ i ∷ j ∷ []) h = refl
+numbered_good g (a ∷ b ∷ c ∷ d ∷ e ∷ i ∷ j ∷ k ∷ []) h = refl
+numbered_good g (a ∷ b ∷ c ∷ d ∷ e ∷ i ∷ j ∷ k ∷ l ∷ ts) h = absurd (omega (arith, h))
+
+root_good : (exact : Bool) (y r : Format)
+    → are_good (codes "x" ∷ names (with_rest exact (record { name = codes "y"; format = y }) (record { name = codes "r"; format = r })))
+    ≡ true
+unfolding refused_words
+root_good true y r = refl
+root_good false y r = refl
+
+-- a design may have the names of an operator's ports
+pub names_fine : (op : Operator) (name : List ℕ) → IsOperator op → AreGivenNames name (given_names op)
+    → AreNamed (names (operator_inputs op) ++ names (operator_outputs op))
+unfolding refused_words
+names_fine (Scale s) name is given = good_named _ refl
+names_fine (Fir s) name is given = good_named _ refl
+names_fine (Multiply p) name is given = good_named _ refl
+names_fine (Divide p) name is given = good_named _ (quotient_good p.exact _ _)
+names_fine (Root r) name is given = good_named _ (root_good r.exact _ _)
+names_fine (Mcm m) name is given = good_named _ (numbered_good (constant_format m.input) m.constants is.few)
+names_fine (Constdiv c) name is given = good_named _ (small_good c.exact _ _)
+names_fine (Poly p) name is given = good_named _ refl
+names_fine (Tfir f) name is given = good_named _ refl
+names_fine (Sop s) name is given = given_named name (names s.inputs) given
+
+-- ---- the kinds with one output whose width may be chosen: its port, its exact value, and when it is good
+
+-- it is the only output, of the name y
+pub only_output : (op : Operator) → has_value op ≡ true → operator_outputs op ≡ port (codes "y") (format_at (operator_outputs op) 0) ∷ []
+only_output (Scale s) h = refl
+only_output (Fir s) h = refl
+only_output (Multiply p) h = refl
+only_output (Divide p) h = absurd cc
+only_output (Root r) h = absurd cc
+only_output (Mcm m) h = absurd cc
+only_output (Constdiv c) h = absurd cc
+only_output (Poly p) h = refl
+only_output (Tfir f) h = refl
+only_output (Sop s) h = refl
+
+inside : {A : Type 0} (a b : A) → Some a ≡ Some b → a ≡ b
+inside a b e = cc
+
+-- and its format is that of the port
+pub plain_is : (op : Operator) (f : Format) → has_value op ≡ true → plain_output op ≡ Some f → f ≡ format_at (operator_outputs op) 0
+plain_is (Scale s) f h e = cc
+plain_is (Fir s) f h e = cc
+plain_is (Multiply p) f h e = cc
+plain_is (Divide p) f h e = absurd cc
+plain_is (Root r) f h e = absurd cc
+plain_is (Mcm m) f h e = absurd cc
+plain_is (Constdiv c) f h e = absurd cc
+plain_is (Poly p) f h e = cc
+plain_is (Tfir t) f h e = cc
+plain_is (Sop s) f h e = cc
+
+-- it has an exact value
+pub some_value : (op : Operator) (inputs : (port : ℕ) → Recent) → has_value op ≡ true → (v : Ratio) × (exact_value op inputs ≡ Some v)
+some_value (Scale s) inputs h = (_, refl)
+some_value (Fir s) inputs h = (_, refl)
+some_value (Multiply p) inputs h = (_, refl)
+some_value (Divide p) inputs h = absurd cc
+some_value (Root r) inputs h = absurd cc
+some_value (Mcm m) inputs h = absurd cc
+some_value (Constdiv c) inputs h = absurd cc
+some_value (Poly p) inputs h = (_, refl)
+some_value (Tfir f) inputs h = (_, refl)
+some_value (Sop s) inputs h = (_, refl)
+
+-- what is good for the operator is good for the exact value
+pub value_good : (exact : Bool) (op : Operator) (inputs : (port : ℕ) → Recent) (outputs : (port : ℕ) → ℤ) (v : Ratio)
+    → exact_value op inputs ≡ Some v → IsGoodOf exact op inputs outputs → IsGoodRatio exact v (outputs 0)
+value_good exact (Scale s) inputs outputs v e good = subst (λ (w : Ratio). IsGoodRatio exact w (outputs 0)) (inside _ v e) good
+value_good exact (Fir s) inputs outputs v e good = subst (λ (w : Ratio). IsGoodRatio exact w (outputs 0)) (inside _ v e) good
+value_good exact (Multiply p) inputs outputs v e good = subst (λ (w : Ratio). IsGoodRatio exact w (outputs 0)) (inside _ v e) good
+value_good exact (Divide p) inputs outputs v e good = absurd cc
+value_good exact (Root r) inputs outputs v e good = absurd cc
+value_good exact (Mcm m) inputs outputs v e good = absurd cc
+value_good exact (Constdiv c) inputs outputs v e good = absurd cc
+value_good exact (Poly p) inputs outputs v e good = subst (λ (w : Ratio). IsGoodRatio exact w (outputs 0)) (inside _ v e) good
+value_good exact (Tfir f) inputs outputs v e good = subst (λ (w : Ratio). IsGoodRatio exact w (outputs 0)) (inside _ v e) good
+value_good exact (Sop s) inputs outputs v e good = subst (λ (w : Ratio). IsGoodRatio exact w (outputs 0)) (inside _ v e) good
+
+-- and that has a denominator above 0
+pub value_positive : (op : Operator) (inputs : (port : ℕ) → Recent) (v : Ratio) → IsOperator op → exact_value op inputs ≡ Some v → pos 0 <ℤ v.den
+value_positive (Scale s) inputs v is e =
+    subst (λ (w : Ratio). pos 0 <ℤ w.den) (inside _ v e) (positive_units s.den (places_down (sum_shift s)) is.positive)
+value_positive (Fir s) inputs v is e =
+    subst (λ (w : Ratio). pos 0 <ℤ w.den) (inside _ v e) (positive_units s.den (places_down (sum_shift s)) is.positive)
+value_positive (Multiply p) inputs v is e =
+    subst (λ (w : Ratio). pos 0 <ℤ w.den) (inside _ v e) (omega (arith, ints, pow_pos (places_down (product_shift p))))
+value_positive (Divide p) inputs v is e = absurd cc
+value_positive (Root r) inputs v is e = absurd cc
+value_positive (Mcm m) inputs v is e = absurd cc
+value_positive (Constdiv c) inputs v is e = absurd cc
+value_positive (Poly p) inputs v is e =
+    subst (λ (w : Ratio). pos 0 <ℤ w.den) (inside _ v e) (positive_units p.den _ is.positive)
+value_positive (Tfir f) inputs v is e =
+    subst (λ (w : Ratio). pos 0 <ℤ w.den) (inside _ v e) (positive_units (pos 1) (places_down (sum_shift (direct f))) (omega (arith, ints)))
+value_positive (Sop s) inputs v is e =
+    subst (λ (w : Ratio). pos 0 <ℤ w.den) (inside _ v e) (sop_positive s (λ input. inputs input 0) is)
+
+few_least : (signed : Bool) → fewest_bits signed ≤ 2
+few_least true = omega arith
+few_least false = omega arith
+
+-- the widths of formats that cover a range
+covering_width : (r : Reach) (lsb : ℤ) → fewest_bits (covering r lsb).signed ≤ (covering r lsb).width
+covering_width r lsb = go r.below r.above
+  where
+    go : (below above : ℕ) → fewest_bits (nat_lt 0 below) ≤ range_width (neg_ℤ (pos below)) (pos above)
+    go zero above =
+        let one : fewest_bits (nat_lt 0 0) ≡ 1 = refl in
+        omega (arith, one)
+    go (suc below) above = omega (arith, few_least (nat_lt 0 (suc below)))
+
+range_fewest : (lo hi : ℤ) → lo ≤ℤ hi → fewest_bits (is_negative lo) ≤ range_width lo hi
+range_fewest lo hi h = (range_width-least lo hi h).0.0
+
+pub fewest : (op : Operator) → IsOperator op → has_value op ≡ true
+    → fewest_bits (format_at (operator_outputs op) 0).signed ≤ (format_at (operator_outputs op) 0).width
+fewest (Scale s) is h = covering_width (sum_places s) s.out_lsb
+fewest (Fir s) is h = covering_width (sum_places s) s.out_lsb
+fewest (Multiply p) is h = covering_width (product_places p) p.out_lsb
+fewest (Divide p) is h = absurd cc
+fewest (Root r) is h = absurd cc
+fewest (Mcm m) is h = absurd cc
+fewest (Constdiv c) is h = absurd cc
+fewest (Poly p) is h = range_fewest (result_low p) (result_high p) (results_order p)
+fewest (Tfir f) is h = covering_width (sum_places (direct f)) f.out_lsb
+fewest (Sop s) is h = covering_width (sop_places s) s.out_lsb

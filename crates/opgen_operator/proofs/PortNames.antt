@@ -1,76 +1,19 @@
 -- The ports of a net that fits a specification can stand in a design: x, or a and b, or names that the document gives; then y,
 -- or q or y and r, or y0 to y7.
-use Rattle.std.proofs.Common.{◌≡◌, ℕ, ◌≤◌, true, false, Bool, Option, Some, None, List, [], ◌∷◌, ◌++◌, length, map, refl, sym, ap, subst, ◌∙◌, arith}
+use Rattle.std.proofs.Common.{◌≡◌, ℕ, Bool, Option, Some, None, List, ◌++◌, length, map, refl, sym, ap, subst, ◌∙◌, arith}
 use Rattle.std.proofs.lemmas.List.{length-map}
 use Rattle.std.proofs.lemmas.Simd.{map-map}
-use Rattle.std.specs.Fmt.{digits}
-use Rattle.std.specs.Prelude.{ℤ, codes}
-use Rattle.opgen_names.specs.Names.{refused_words}
-use Rattle.opgen_num.specs.declared.format.Format.{Format}
 use Rattle.opgen_net.specs.declared.net.Output.{Output}
 use Rattle.opgen_net.specs.Named.{port_names}
 use Rattle.opgen_net.specs.Valid.{slice_width}
-use Rattle.opgen_operator.specs.declared.operator.Operator.{Operator}
-use Rattle.opgen_operator.specs.declared.operator.Operator.TheVariants.{Scale, Fir, Multiply, Divide, Root, Mcm, Constdiv, Poly, Tfir, Sop}
 use Rattle.opgen_operator.specs.Fits.{name_and_width}
-use Rattle.opgen_operator.specs.GivenNames.{AreGivenNames}
-use Rattle.opgen_operator.specs.Operator.{operator_inputs, operator_outputs, IsOperator, given_names}
+use Rattle.opgen_operator.specs.Operator.{operator_outputs}
 use Rattle.opgen_operator.specs.Outputs.{inputs_of, outputs_of, chosen, chosen_ports}
 use Rattle.opgen_operator.specs.PortNames.{FittingNetsAreNamed}
-use Rattle.opgen_kinds.specs.Several.{numbered, constant_format}
 use Rattle.opgen_ports.specs.declared.ports.PortFormat.{PortFormat}
-use Rattle.opgen_ports.specs.Ports.{port, with_rest}
-use Rattle.opgen_operator.proofs.Named.{AreNamed, are_good, good_named, given_named, names}
-use Rattle.opgen_operator.proofs.Operators.{some_input}
-
-small_good : (exact : Bool) (q r : Format)
-    → are_good (codes "x" ∷ names (with_rest exact (record { name = codes "q"; format = q }) (record { name = codes "r"; format = r })))
-    ≡ true
-unfolding refused_words
-small_good true q r = refl
-small_good false q r = refl
-
-quotient_good : (exact : Bool) (q r : Format)
-    → are_good (codes "a" ∷ codes "b" ∷ names (with_rest exact (record { name = codes "q"; format = q })
-    (record { name = codes "r"; format = r }))) ≡ true
-unfolding refused_words
-quotient_good true q r = refl
-quotient_good false q r = refl
-
-numbered_good : (g : ℤ → Format) (ts : List ℤ) → length ts ≤ 8 → are_good (codes "x" ∷ names (numbered 0 (map g ts))) ≡ true
-unfolding refused_words digits
-numbered_good g [] h = refl
-numbered_good g (a ∷ []) h = refl
-numbered_good g (a ∷ b ∷ []) h = refl
-numbered_good g (a ∷ b ∷ c ∷ []) h = refl
-numbered_good g (a ∷ b ∷ c ∷ d ∷ []) h = refl
-numbered_good g (a ∷ b ∷ c ∷ d ∷ e ∷ []) h = refl
-numbered_good g (a ∷ b ∷ c ∷ d ∷ e ∷ i ∷ []) h = refl
-numbered_good g (a ∷ b ∷ c ∷ d ∷ e ∷ i ∷ j ∷ []) h = refl
-numbered_good g (a ∷ b ∷ c ∷ d ∷ e ∷ i ∷ j ∷ k ∷ []) h = refl
-numbered_good g (a ∷ b ∷ c ∷ d ∷ e ∷ i ∷ j ∷ k ∷ l ∷ ts) h = absurd (omega (arith, h))
-
-root_good : (exact : Bool) (y r : Format)
-    → are_good (codes "x" ∷ names (with_rest exact (record { name = codes "y"; format = y }) (record { name = codes "r"; format = r })))
-    ≡ true
-unfolding refused_words
-root_good true y r = refl
-root_good false y r = refl
-
--- a design may have the names of an operator's ports
-names_fine : (op : Operator) (name : List ℕ) → IsOperator op → AreGivenNames name (given_names op)
-    → AreNamed (names (operator_inputs op) ++ names (operator_outputs op))
-unfolding refused_words
-names_fine (Scale s) name is given = good_named _ refl
-names_fine (Fir s) name is given = good_named _ refl
-names_fine (Multiply p) name is given = good_named _ refl
-names_fine (Divide p) name is given = good_named _ (quotient_good p.exact _ _)
-names_fine (Root r) name is given = good_named _ (root_good r.exact _ _)
-names_fine (Mcm m) name is given = good_named _ (numbered_good (constant_format m.input) m.constants is.few)
-names_fine (Constdiv c) name is given = good_named _ (small_good c.exact _ _)
-names_fine (Poly p) name is given = good_named _ refl
-names_fine (Tfir f) name is given = good_named _ refl
-names_fine (Sop s) name is given = given_named name (names s.inputs) given
+use Rattle.opgen_ports.specs.Ports.{port}
+use Rattle.opgen_operator.proofs.Named.{AreNamed, names}
+use Rattle.opgen_operator.proofs.Operators.{names_fine, some_input}
 
 -- an output of a chosen width has the name of the operator's own
 chosen_names : (width : Option ℕ) (sign : Option Bool) (ports : List PortFormat) → names (chosen_ports width sign ports) ≡ names ports

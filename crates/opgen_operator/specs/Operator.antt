@@ -1,6 +1,7 @@
--- What each operator means, by its kind, and each question about it.
-use Rattle.std.specs.Prelude.{ℕ, Bool, Option, Some, None, ℤ, List, if◌then◌else◌}
-use Rattle.opgen_ports.specs.declared.kind.Kind.{Kind}
+-- The kinds and their words, what each operator means, by its kind, and each question about it.
+use Rattle.std.specs.Prelude.{ℕ, Bool, Option, Some, None, ℤ, List, codes, if◌then◌else◌}
+use Rattle.opgen_operator.specs.declared.kind.Kind.{Kind}
+use Rattle.opgen_operator.specs.declared.kind.Kind.TheVariants as kind_of
 use Rattle.opgen_operator.specs.declared.operator.Operator.{Operator}
 use Rattle.opgen_operator.specs.declared.operator.Operator.TheVariants.{Scale, Fir, Multiply, Divide, Root, Mcm, Constdiv, Poly, Tfir, Sop}
 use Rattle.opgen_ports.specs.declared.ports.PortFormat.{PortFormat}
@@ -33,7 +34,28 @@ meaning (Tfir f) = taps_meaning f
 meaning (Sop s) = sop_meaning s
 
 abbrev pub kind : Operator → Kind
-kind op = (meaning op).kind
+kind (Scale s) = kind_of.Scale
+kind (Fir s) = kind_of.Fir
+kind (Multiply p) = kind_of.Multiply
+kind (Divide p) = kind_of.Divide
+kind (Root r) = kind_of.Root
+kind (Mcm m) = kind_of.Mcm
+kind (Constdiv c) = kind_of.Constdiv
+kind (Poly p) = kind_of.Poly
+kind (Tfir f) = kind_of.Tfir
+kind (Sop s) = kind_of.Sop
+
+abbrev pub kind_name : Kind → List ℕ
+kind_name kind_of.Scale = codes "scale"
+kind_name kind_of.Fir = codes "fir"
+kind_name kind_of.Multiply = codes "multiply"
+kind_name kind_of.Divide = codes "divide"
+kind_name kind_of.Root = codes "root"
+kind_name kind_of.Mcm = codes "mcm"
+kind_name kind_of.Constdiv = codes "constdiv"
+kind_name kind_of.Poly = codes "poly"
+kind_name kind_of.Tfir = codes "tfir"
+kind_name kind_of.Sop = codes "sop"
 
 -- a version of specifications has the operator with these fields
 abbrev pub IsInVersion : (version : ℕ) → Operator → Type 0

@@ -7,6 +7,7 @@ ghost use Rattle.opgen_ports.specs.Ports.{recent_numbers, IsHistory, IsCycle};
 ghost use Rattle.opgen_operator.specs.Valid.{AgreesOnExact};
 
 use crate::given_names::are_given_names;
+use crate::kind::Kind;
 use opgen_kinds::pair::{Pair, pair_need, pair_shift};
 use opgen_kinds::poly::Poly;
 use opgen_kinds::product::{Product, product_inexact, product_need, product_shift};
@@ -16,8 +17,8 @@ use opgen_kinds::small_div::SmallDiv;
 use opgen_kinds::sum::{Sum, first_inexact, most_sum_shift, sum_need, sum_shift};
 use opgen_kinds::taps::Taps;
 use opgen_num::{Format, Ratio};
+use opgen_ports::MAX_SHIFT;
 use opgen_ports::ports::{PortFormat, are_within, is_within};
-use opgen_ports::{Kind, MAX_SHIFT};
 use opgen_terms::Sop;
 use std::alloc::{AllocError, Global};
 

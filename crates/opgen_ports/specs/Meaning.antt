@@ -1,26 +1,11 @@
--- What an operator of a kind means: the word of the kind, a record with the answer to each question about operators, which each
--- kind gives, and what is answered of the outputs of one cycle.
-use Rattle.std.specs.Prelude.{ℕ, Bool, Option, ℤ, List, codes, ◌≢◌, ◌↔◌, Some, None, pos, IsTrue}
+-- What an operator of a kind means: a record with the answer to each question about operators, which each kind gives, and what is
+-- answered of the outputs of one cycle.
+use Rattle.std.specs.Prelude.{ℕ, Bool, Option, ℤ, List, ◌≢◌, ◌↔◌, Some, None, pos, IsTrue}
 use Rattle.opgen_num.specs.declared.format.Ratio.{Ratio}
-use Rattle.opgen_ports.specs.declared.kind.Kind.{Kind}
 use Rattle.opgen_ports.specs.declared.ports.PortFormat.{PortFormat}
 use Rattle.opgen_ports.specs.Ports.{Recent, recent_numbers, output_numbers}
-use Rattle.opgen_ports.specs.declared.kind.Kind.TheVariants as kind_of
-
-abbrev pub kind_name : Kind → List ℕ
-kind_name kind_of.Scale = codes "scale"
-kind_name kind_of.Fir = codes "fir"
-kind_name kind_of.Multiply = codes "multiply"
-kind_name kind_of.Divide = codes "divide"
-kind_name kind_of.Root = codes "root"
-kind_name kind_of.Mcm = codes "mcm"
-kind_name kind_of.Constdiv = codes "constdiv"
-kind_name kind_of.Poly = codes "poly"
-kind_name kind_of.Tfir = codes "tfir"
-kind_name kind_of.Sop = codes "sop"
 
 pub record Meaning : Type 1 where
-  pub kind : Kind
   -- the version has the operator with these fields
   pub IsIn : (version : ℕ) → Type 0
   -- the fields are within the ranges of their keys

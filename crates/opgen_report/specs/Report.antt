@@ -6,9 +6,8 @@ use Rattle.opgen_num.specs.declared.format.Format.{Format}
 use Rattle.opgen_operator.specs.declared.operator.Operator.{Operator}
 use Rattle.opgen_ports.specs.declared.ports.PortFormat.{PortFormat}
 use Rattle.opgen_operator.specs.declared.spec.Spec.{Spec}
-use Rattle.opgen_operator.specs.Operator.{has_graph, kind}
+use Rattle.opgen_operator.specs.Operator.{has_graph, kind, kind_name}
 use Rattle.opgen_operator.specs.Outputs.{inputs_of, outputs_of}
-use Rattle.opgen_ports.specs.Meaning.{kind_name}
 use Rattle.opgen_pipe.specs.declared.planning.Planned.{Planned}
 
 abbrev pub mode_word : (exact : Bool) → List ℕ

@@ -14,7 +14,8 @@ use Rattle.opgen_operator.specs.Fits.{FitsInEachMode, FitsOperator, FitsSpec, na
 use Rattle.opgen_operator.specs.Operator.{operator_outputs, plain_output, exact_value, IsGoodOf}
 use Rattle.opgen_operator.specs.Outputs.{inputs_of, outputs_of, IsGood, IsGoodBy, IsGoodCut, IsInRange, recent_words, output_words}
 use Rattle.opgen_operator.specs.Valid.{IsValidSpec}
-use Rattle.opgen_operator.proofs.Valued.{choice, only_output, outputs_are, plain_is, plain_width, some_value, to_width, value_good, value_positive}
+use Rattle.opgen_operator.proofs.Operators.{only_output, plain_is, some_value, value_good, value_positive}
+use Rattle.opgen_operator.proofs.Valued.{choice, outputs_are, plain_width, to_width}
 use Rattle.opgen_ports.specs.Ports.{format_at, port}
 use Rattle.opgen_ports.specs.Good.{saturated, IsGoodSaturated}
 use Rattle.opgen_saturate.specs.Chosen.{cut_by, cut_net}

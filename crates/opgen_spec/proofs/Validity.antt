@@ -7,8 +7,8 @@ use Rattle.opgen_spec.specs.declared.fault.SpecFault.{SpecFault}
 use Rattle.opgen_spec.specs.declared.fault.SpecFault.TheVariants as fault
 use Rattle.opgen_document.specs.declared.array.Array.TheVariants as array
 use Rattle.opgen_document.specs.declared.key.Key.TheVariants as key
-use Rattle.opgen_ports.specs.declared.kind.Kind.{Kind}
-use Rattle.opgen_ports.specs.declared.kind.Kind.TheVariants as kind
+use Rattle.opgen_operator.specs.declared.kind.Kind.{Kind}
+use Rattle.opgen_operator.specs.declared.kind.Kind.TheVariants as kind
 use Rattle.opgen_operator.specs.declared.spec.Spec.{Spec}
 use Rattle.opgen_ports.specs.Limits.{most_signal}
 use Rattle.opgen_operator.specs.Operator.{least_shift, most_shift, inexact, shift}

@@ -8,8 +8,8 @@ use Rattle.opgen_net.specs.declared.cell.Class.{Class}
 use Rattle.opgen_net.specs.declared.cell.Class.TheVariants as class
 use Rattle.opgen_document.specs.declared.array.Array.TheVariants as array
 use Rattle.opgen_document.specs.declared.key.Key.TheVariants as key
-use Rattle.opgen_ports.specs.declared.kind.Kind.{Kind}
-use Rattle.opgen_ports.specs.Meaning.{kind_name}
+use Rattle.opgen_operator.specs.declared.kind.Kind.{Kind}
+use Rattle.opgen_operator.specs.Operator.{kind_name}
 use Rattle.opgen_document.specs.Keys.{line_keys}
 use Rattle.opgen_document.specs.Document.{value_at, number_at, text_at, items_at, version_of}
 use Rattle.opgen_document.specs.Ranges.{outside}

@@ -6,8 +6,8 @@ use Rattle.opgen_net.specs.declared.cell.Class.{Class}
 use Rattle.opgen_net.specs.declared.cell.Class.TheVariants as class
 use Rattle.opgen_net.specs.Classes.{classes}
 use Rattle.opgen_document.specs.declared.key.Key.TheVariants as key
-use Rattle.opgen_ports.specs.declared.kind.Kind.{Kind}
-use Rattle.opgen_ports.specs.declared.kind.Kind.TheVariants as kind
+use Rattle.opgen_operator.specs.declared.kind.Kind.{Kind}
+use Rattle.opgen_operator.specs.declared.kind.Kind.TheVariants as kind
 use Rattle.opgen_operator.specs.declared.spec.DelayLine.{DelayLine}
 use Rattle.opgen_operator.specs.declared.spec.Spec.{Spec}
 use Rattle.opgen_document.specs.Document.{text_at, flag_at, items_at, in_tables, count_at, optional_count_at, optional_flag_at}

@@ -3,7 +3,7 @@ use Rattle.std.specs.Prelude.{ℕ, Bool, ◌&&◌, List, Option, Some, None, unw
 use Rattle.std.specs.List.{list_all, list_any}
 use Rattle.std.specs.Str.{bytes_eq}
 use Rattle.opgen_document.specs.declared.key.Key.{Key}
-use Rattle.opgen_ports.specs.declared.kind.Kind.{Kind}
+use Rattle.opgen_operator.specs.declared.kind.Kind.{Kind}
 use Rattle.opgen_document.specs.declared.key.Stand.{Stand}
 use Rattle.opgen_document.specs.declared.key.Version.{Version}
 use Rattle.opgen_document.specs.Keys.{key_name, shared_stand, may_be, has_to_be}

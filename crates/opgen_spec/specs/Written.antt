@@ -5,7 +5,7 @@ use Rattle.opgen_document.specs.declared.key.Key.TheVariants as key
 use Rattle.opgen_operator.specs.declared.spec.DelayLine.{DelayLine}
 use Rattle.opgen_operator.specs.declared.spec.Spec.{Spec}
 use Rattle.opgen_operator.specs.Operator.{kind}
-use Rattle.opgen_ports.specs.Meaning.{kind_name}
+use Rattle.opgen_operator.specs.Operator.{kind_name}
 use Rattle.opgen_document.specs.Document.{value_at, items_at, IsCountIfAny, IsFlagIfAny, AreLinesAsWritten}
 use Rattle.opgen_spec.specs.Spec.{class_name}
 use Rattle.opgen_spec.specs.kinds.{IsOperatorAsWritten}

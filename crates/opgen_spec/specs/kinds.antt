@@ -2,11 +2,11 @@
 use Rattle.std.specs.Prelude.{ℕ, List, [], ◌∷◌, Option, find}
 use Rattle.std.specs.Str.{bytes_eq}
 use Rattle.toml.specs.Data.{Members}
-use Rattle.opgen_ports.specs.declared.kind.Kind.{Kind}
-use Rattle.opgen_ports.specs.declared.kind.Kind.TheVariants as kind
+use Rattle.opgen_operator.specs.declared.kind.Kind.{Kind}
+use Rattle.opgen_operator.specs.declared.kind.Kind.TheVariants as kind
 use Rattle.opgen_operator.specs.declared.operator.Operator.{Operator}
 use Rattle.opgen_operator.specs.declared.operator.Operator.TheVariants as operator
-use Rattle.opgen_ports.specs.Meaning.{kind_name}
+use Rattle.opgen_operator.specs.Operator.{kind_name}
 use Rattle.opgen_document.specs.declared.key.Key.TheVariants as key
 use Rattle.opgen_document.specs.Document.{text_at, version_of}
 use Rattle.opgen_document.specs.declared.key.Version.{Version}

@@ -2,7 +2,7 @@
 ghost use Rattle.std.specs.Prelude.{◌≡◌, find, IfOk};
 ghost use Rattle.std.specs.Str.{bytes_eq};
 ghost use Rattle.toml.specs.View.{table_view};
-ghost use Rattle.opgen_ports.specs.Meaning.{kind_name};
+ghost use Rattle.opgen_operator.specs.Operator.{kind_name};
 ghost use Rattle.opgen_spec.specs.Entry.{input_outside};
 ghost use Rattle.opgen_spec.specs.kinds.{kind_named, kinds_of, kind_of, entry_of};
 

@@ -5,7 +5,6 @@ use Rattle.std.specs.Prelude.{ℕ, ◌≤◌, ◌≤ℤ◌, ◌<◌, Bool, false
 use Rattle.opgen_num.specs.declared.format.Format.{Format}
 use Rattle.opgen_num.specs.declared.format.Ratio.{Ratio}
 use Rattle.opgen_num.specs.Formats.{digit_count}
-use Rattle.opgen_ports.specs.declared.kind.Kind.TheVariants as kind_of
 use Rattle.opgen_terms.specs.declared.sop.TheConstants.{MAX_TOTAL_BITS, COUNTED_BITS}
 use Rattle.opgen_terms.specs.declared.sop.Sop.{Sop}
 use Rattle.opgen_terms.specs.declared.sop.Scaled.{Scaled}
@@ -223,7 +222,6 @@ SopsHold s = IsSop s → (x : (input : ℕ) → ℤ) → AreOf s x
 -- what a sum of products means
 abbrev pub sop_meaning : Sop → Meaning
 sop_meaning s = record {
-  kind = kind_of.Sop;
   IsIn = λ version. 3 ≤ version;
   IsRanged = IsSop s;
   inputs = s.inputs;

@@ -7,7 +7,7 @@ use Rattle.std.proofs.lemmas.List.{append_assoc}
 use Rattle.opgen_operator.specs.declared.spec.Spec.{Spec}
 use Rattle.opgen_operator.specs.Operator.{kind}
 use Rattle.opgen_operator.specs.Outputs.{inputs_of, outputs_of}
-use Rattle.opgen_ports.specs.Meaning.{kind_name}
+use Rattle.opgen_operator.specs.Operator.{kind_name}
 use Rattle.opgen_pipe.specs.declared.planning.Planned.{Planned}
 use Rattle.opgen_report.specs.Report.{mode_word, request_text, time_text, port_line, cells_line, graph_line, report}
 use Rattle.opgen_top.specs.Lines.{HasLine, latency_line}

@@ -9,8 +9,6 @@ use Rattle.std.specs.Prelude.{ℤ, pos, ◌≤ℤ◌, negsuc, ◌*ℤ◌, unsign
 use Rattle.opgen_num.proofs.BitLength.{power_order}
 use Rattle.opgen_num.proofs.RangeWidth.{count-least}
 use Rattle.opgen_kinds.specs.declared.sum.Sum.{Sum}
-use Rattle.opgen_ports.specs.declared.kind.Kind.{Kind}
-use Rattle.opgen_ports.specs.declared.kind.Kind.TheVariants as kind_of
 use Rattle.opgen_ports.specs.Accepted.{IsAcceptedIn, IsAcceptable}
 use Rattle.opgen_ports.specs.declared.TheConstants.{MAX_SHIFT}
 use Rattle.opgen_ports.specs.Ports.{HasWidth, Recent, weighted}
@@ -165,8 +163,8 @@ entries_small s (version, by) = (
 )
 
 -- what holds of its meaning
-pub sum_lawful : (word : Kind) (most : ℕ) (s : Sum) → most ≤ 256 → IsLawful (sum_meaning word most s)
-sum_lawful word most s few = record {
+pub sum_lawful : (most : ℕ) (s : Sum) → most ≤ 256 → IsLawful (sum_meaning most s)
+sum_lawful most s few = record {
   some_input = λ is. omega arith;
   input_bits = λ is. all_one HasBit _ (input_bit s.input is.input);
   wide = λ version is. all_one (HasWidth (most_signal version)) _ (some_width (sum_places s), omega (arith, is.narrow (sum_need s) refl));
@@ -179,4 +177,4 @@ sum_lawful word most s few = record {
 }
 
 pub fir_lawful : (s : Sum) → IsLawful (fir_meaning s)
-fir_lawful s = sum_lawful kind_of.Fir 256 s (omega arith)
+fir_lawful s = sum_lawful 256 s (omega arith)

@@ -1,6 +1,6 @@
 -- What is proved of the kinds, kind by kind.
-use Rattle.opgen_ports.specs.declared.kind.Kind.{Kind}
-use Rattle.opgen_ports.specs.declared.kind.Kind.TheVariants as kind
+use Rattle.opgen_operator.specs.declared.kind.Kind.{Kind}
+use Rattle.opgen_operator.specs.declared.kind.Kind.TheVariants as kind
 use Rattle.opgen_spec.proofs.sound.Sound.{IsSound}
 use Rattle.opgen_spec.proofs.sound.Sum.{scale, fir}
 use Rattle.opgen_spec.proofs.sound.Product.{multiply}

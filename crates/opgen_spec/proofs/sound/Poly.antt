@@ -2,7 +2,7 @@
 use Rattle.std.proofs.Common.{◌≡◌, ℕ, ◌≤◌, Some, None, option_and_then, ◌==◌, Bool, true, false, if◌then◌else◌, refl, sym, subst, arith}
 use Rattle.std.specs.Prelude.{pos, negsuc, neg_ℤ, ◌≤ℤ◌}
 use Rattle.std.proofs.lemmas.Int.{ints}
-use Rattle.opgen_ports.specs.declared.kind.Kind.TheVariants as kind
+use Rattle.opgen_operator.specs.declared.kind.Kind.TheVariants as kind
 use Rattle.opgen_kinds.specs.Poly.{IsPoly}
 use Rattle.opgen_ports.specs.Ranges.{IsPower}
 use Rattle.opgen_ports.proofs.InputPorts.{all_one, some_bits}

@@ -1,6 +1,6 @@
 -- Products of a document without a fault.
 use Rattle.std.proofs.Common.{◌≡◌, ◌⊎◌, Some, None, refl}
-use Rattle.opgen_ports.specs.declared.kind.Kind.TheVariants as kind
+use Rattle.opgen_operator.specs.declared.kind.Kind.TheVariants as kind
 use Rattle.opgen_ports.proofs.InputPorts.{all_two}
 use Rattle.toml.specs.Data.{Members}
 use Rattle.opgen_document.specs.declared.key.Key.TheVariants as key

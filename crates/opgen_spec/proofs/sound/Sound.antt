@@ -2,7 +2,7 @@
 use Rattle.std.proofs.Common.{◌≡◌, ◌≤◌, ℕ, true, List, [], Some, refl, arith}
 use Rattle.std.specs.Prelude.{IsTrue}
 use Rattle.toml.specs.Data.{Members}
-use Rattle.opgen_ports.specs.declared.kind.Kind.{Kind}
+use Rattle.opgen_operator.specs.declared.kind.Kind.{Kind}
 use Rattle.opgen_ports.specs.declared.ports.PortFormat.{PortFormat}
 use Rattle.opgen_operator.specs.Operator.{HasInputsWithin, given_names, marks_exact, has_value, IsOperator, IsInVersion}
 use Rattle.opgen_operator.specs.Operator as operators

@@ -3,7 +3,7 @@ use Rattle.std.proofs.Common.{◌≡◌, ◌≤◌, ◌⊎◌, inl, inr, Bool, t
 use Rattle.std.specs.Prelude.{pos, All, IsTrue}
 use Rattle.std.specs.Option.{option_map_or}
 use Rattle.std.proofs.lemmas.Int.{ints}
-use Rattle.opgen_ports.specs.declared.kind.Kind.TheVariants as kind
+use Rattle.opgen_operator.specs.declared.kind.Kind.TheVariants as kind
 use Rattle.opgen_ports.specs.OddParts.{odd_part_count}
 use Rattle.opgen_ports.specs.Ranges.{IsPower, IsWithin}
 use Rattle.opgen_ports.proofs.InputPorts.{all_one}

@@ -1,6 +1,6 @@
 use Rattle.std.proofs.Common.{◌≡◌, ◌∙◌, ap, sym, None, Ok, unwrap_or}
 use Rattle.toml.specs.View.{table_view}
-use Rattle.opgen_ports.specs.declared.kind.Kind.TheVariants as kind
+use Rattle.opgen_operator.specs.declared.kind.Kind.TheVariants as kind
 use Rattle.opgen_document.specs.Document.{tree}
 use Rattle.opgen_spec.specs.kinds.{kind_of}
 use Rattle.opgen_spec.specs.Faults.{read, field_fault, limit_fault}

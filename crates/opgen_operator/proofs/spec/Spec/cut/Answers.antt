@@ -4,7 +4,8 @@ use Rattle.opgen_num.specs.Formats.{IsWidthOf}
 use Rattle.opgen_operator.specs.Operator.{operator_outputs, plain_output}
 use Rattle.opgen_ports.specs.Ports.{format_at}
 use Rattle.opgen_operator.proofs.Accepted.{accepted}
-use Rattle.opgen_operator.proofs.Valued.{choice, plain_width, chosen_width, plain_is}
+use Rattle.opgen_operator.proofs.Operators.{plain_is}
+use Rattle.opgen_operator.proofs.Valued.{choice, plain_width, chosen_width}
 use Rattle.opgen_operator.proofs.spec.Spec.cut.Goals as goal
 
 pub returns-clause-widths : goal.returns-clause-widths

@@ -1,6 +1,6 @@
 //! The kinds of operators.
 ghost use Rattle.std.specs.Prelude.{◌≡◌};
-ghost use Rattle.opgen_ports.specs.Meaning.{kind_name};
+ghost use Rattle.opgen_operator.specs.Operator.{kind_name};
 
 /// The kinds of operators.
 #[derive(Clone, Copy, Debug, PartialEq, Eq)]
