@@ -10,19 +10,22 @@ from pathlib import Path
 
 sys.dont_write_bytecode = True
 
-from opgenlib import answer_help, vhdl
+from opgenlib import answer_help, running, vhdl
 from opgenlib.verilog import text_of
 
 
-def main():
+def main() -> int:
     answer_help(__doc__)
     if len(sys.argv) != 2:
         sys.exit("usage: tools/verilog.py FILE.vhd")
     try:
         print(text_of(vhdl.design_of(Path(sys.argv[1]).read_text(encoding="latin-1"))), end="")
-    except (OSError, vhdl.NotRead) as fault:
+    except OSError as fault:
+        return running.told("verilog", fault)
+    except vhdl.NotRead as fault:
         sys.exit(f"verilog: {sys.argv[1]}: {fault}")
+    return 0
 
 
 if __name__ == "__main__":
-    main()
+    running.run(main)

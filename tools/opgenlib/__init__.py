@@ -4,7 +4,8 @@ This file is written so that an older Python reads it too, and says what is miss
 import sys
 
 LEAST = (3, 11)
-if sys.version_info < LEAST:
+# The module `opgen` takes the parts that are written for Python 3.8: exact, report, rows, terms and writing.
+if sys.version_info < LEAST and "opgen" not in sys.modules:
     sys.exit("opgen: Python 3.11 or later is needed here, and this is Python %d.%d" % sys.version_info[:2])
 
 

@@ -7,6 +7,7 @@ from typing import Any
 
 from . import verilog, vhdl
 from .report import Port, Report, read_report
+from .running import process
 from .writing import document
 
 
@@ -63,7 +64,7 @@ def circuit_of(table: dict[str, Any], program: Path | str) -> Circuit:
     with tempfile.TemporaryDirectory(prefix="opgen-circuit-") as name:
         folder = Path(name)
         (folder / "spec.toml").write_text(document(table))
-        done = subprocess.run([program, "generate", "spec.toml"], cwd=folder, capture_output=True, text=True)
+        done = process([program, "generate", "spec.toml"], cwd=folder)
         if done.returncode:
             raise NotGenerated(refusal(done))
         facts = read_report(next(folder.glob("*.rpt")))

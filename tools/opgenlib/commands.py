@@ -2,6 +2,8 @@
 import re
 from dataclasses import dataclass, field
 
+from .nearest import meant
+
 MOST_SPECIFICATION, MOST_TEXT = 1 << 20, 1 << 26
 # What a word is, by its name in the list of a command: the most bytes of a file that is read, none of one that is stored.
 FILES: dict[str, int | None] = {
@@ -35,6 +37,8 @@ COMMANDS: dict[str, Command] = {
 
 
 STORES = ("generate", "vectors", "simulate")
+# What bin/opgen answers itself.
+OTHERS = ("help", "install", "prove", "tool", "uninstall")
 
 
 class BadWords(Exception):
@@ -73,7 +77,8 @@ def option_of(name: str, word: str, behind: list[str], met: set[str]) -> list[st
         in_range(numbers[0], word, *NUMBERS[numbers[0]])
     if option not in command.options:
         known = ", ".join([*command.options, *(["-o"] if name in STORES else [])])
-        raise BadWords(f"{name} has no option {option}; " + (f"its options are {known}" if known else "it has none"))
+        near = meant(option, command.options)
+        raise BadWords(f"{name} has no option {option};{near} " + (f"its options are {known}" if known else "it has none"))
     if option in met:
         raise BadWords(f"option {option} is there twice")
     met.add(option)
@@ -113,7 +118,8 @@ def call_of(words: list[str]) -> Call:
         raise BadWords("no command is given")
     name, behind = words[0], list(words[1:])
     if name not in COMMANDS:
-        raise BadWords(f"there is no command {name!r}")
+        near = meant(name, [*COMMANDS, *OTHERS])
+        raise BadWords(f"there is no command {name!r}" + (f";{near}" if near else ""))
     options: list[str] = []
     found: list[str] = []
     met: set[str] = set()

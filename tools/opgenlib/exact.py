@@ -1,17 +1,25 @@
 """The exact values of an operator's outputs, by its specification alone: the sums of docs/SPECIFICATION.md, in fractions."""
+from __future__ import annotations
+
 import math
-from collections.abc import Callable, Sequence
 from fractions import Fraction
+from functools import reduce
 from operator import mul
+from typing import Callable, Iterable, List, Optional, Sequence
 
 from .report import Port
 from .terms import Term, input_ports, terms_of
 
 # The inputs of each cycle so far, in units of their last places, and a cycle: the exact values of the outputs in that cycle in
 # units of theirs, none where nothing is claimed.
-Exact = Callable[[Sequence[Sequence[int]], int], list[Fraction] | None]
+Exact = Callable[[Sequence[Sequence[int]], int], Optional[List[Fraction]]]
 # A root that is no whole number is taken to this many further bits.
 ROOT_BITS = 64
+
+
+def common_denominator(numbers: Iterable[Fraction]) -> int:
+    """The least number by which all are whole."""
+    return reduce(lambda over, number: over * number.denominator // math.gcd(over, number.denominator), numbers, 1)
 
 
 def coefficients_of(spec: dict) -> list[Fraction]:
@@ -23,7 +31,7 @@ def coefficients_of(spec: dict) -> list[Fraction]:
 
 def sum_over_taps(taps: Sequence[Fraction]) -> Exact:
     """The sum over the last inputs, those before the first being 0."""
-    over = math.lcm(*(tap.denominator for tap in taps))
+    over = common_denominator(taps)
     numerators = [int(tap * over) for tap in taps]
 
     def exact(inputs: Sequence[Sequence[int]], cycle: int) -> list[Fraction]:
@@ -78,7 +86,7 @@ def root(spec: dict) -> Exact:
 def sum_of_terms(terms: Sequence[Term], inputs: Sequence[Port]) -> Exact:
     """The sum over the terms of a cycle's inputs, each multiplied by its factor."""
     places = {port.name: at for at, port in enumerate(inputs)}
-    over = math.lcm(*(term.factor.denominator for term in terms))
+    over = common_denominator(term.factor for term in terms)
     parts = [(int(term.factor * over), [places[port.name] for port in term.inputs]) for term in terms]
 
     def exact(inputs: Sequence[Sequence[int]], cycle: int) -> list[Fraction]:
@@ -90,25 +98,25 @@ def sum_of_terms(terms: Sequence[Term], inputs: Sequence[Port]) -> Exact:
 
 def exact_of(spec: dict) -> Exact:
     """The exact values of a kind."""
-    match spec["kind"]:
-        case "scale" | "fir" | "tfir":
-            return sum_over_taps(coefficients_of(spec))
-        case "mcm":
-            return lambda inputs, cycle: [Fraction(constant * inputs[cycle][0]) for constant in spec["constants"]]
-        case "multiply":
-            weight = Fraction(2) ** (spec["lsb_a"] + spec["lsb_b"] - spec["out_lsb"])
-            return lambda inputs, cycle: [inputs[cycle][0] * inputs[cycle][1] * weight]
-        case "divide":
-            return quotient(spec, spec["lsb_a"] - spec["lsb_b"] - spec["out_lsb"], None)
-        case "constdiv":
-            return quotient(spec, 0, spec["divisor"])
-        case "root":
-            return root(spec)
-        case "poly":
-            return polynomial(spec)
-        case "sop":
-            return sum_of_terms(terms_of(spec), input_ports(spec))
-    raise KeyError(spec["kind"])
+    kind = spec["kind"]
+    if kind in ("scale", "fir", "tfir"):
+        return sum_over_taps(coefficients_of(spec))
+    if kind == "mcm":
+        return lambda inputs, cycle: [Fraction(constant * inputs[cycle][0]) for constant in spec["constants"]]
+    if kind == "multiply":
+        weight = Fraction(2) ** (spec["lsb_a"] + spec["lsb_b"] - spec["out_lsb"])
+        return lambda inputs, cycle: [inputs[cycle][0] * inputs[cycle][1] * weight]
+    if kind == "divide":
+        return quotient(spec, spec["lsb_a"] - spec["lsb_b"] - spec["out_lsb"], None)
+    if kind == "constdiv":
+        return quotient(spec, 0, spec["divisor"])
+    if kind == "root":
+        return root(spec)
+    if kind == "poly":
+        return polynomial(spec)
+    if kind == "sop":
+        return sum_of_terms(terms_of(spec), input_ports(spec))
+    raise KeyError(kind)
 
 
 def exact_values(spec: dict, outs: Sequence[Port]) -> Exact:

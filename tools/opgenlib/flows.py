@@ -15,19 +15,19 @@ filesets:
 targets:
   default:
     filesets: [rtl]
-    toplevel: {name}_wrap
+    toplevel: {name}_{what}
 {sim}"""
 
 BENCH_FILES = """  bench:
     files:
-      - {name}_bench.{ending}: {{file_type: {rtl_type}}}
+      - {name}_{bench}.{ending}: {{file_type: {rtl_type}}}
       - {name}.vec: {{file_type: user, copyto: {name}.vec}}
 """
 
 SIM = """  sim:
     default_tool: {tool}
     filesets: [rtl, bench]
-    toplevel: {name}_bench
+    toplevel: {name}_{bench}
     tools:
       {tool}:
         {options}
@@ -87,19 +87,20 @@ if __name__ == "__main__":
 '''
 
 
-def core_text(facts: Report, said: str, is_verilog: bool, has_bench: bool) -> str:
-    """A core file, CAPI 2."""
+def core_text(facts: Report, said: str, is_verilog: bool, is_stream: bool) -> str:
+    """A core file, CAPI 2, of the wrapper or the stream and its bench."""
     rtl_type, ending = ("verilogSource", "v") if is_verilog else ("vhdlSource-93", "vhd")
-    files = [f"      - {facts.name}.{ending}", f"      - {facts.name}_wrap.{ending}"]
-    if is_verilog:
+    what, bench = ("stream", "stream_bench") if is_stream else ("wrap", "bench")
+    files = [f"      - {facts.name}.{ending}", f"      - {facts.name}_{what}.{ending}"]
+    if is_verilog and not is_stream:
         files.append(f"      - {facts.name}_pkg.vh: {{is_include_file: true}}")
-    known = {"name": facts.name, "ending": ending, "rtl_type": rtl_type}
+    known = {"name": facts.name, "ending": ending, "rtl_type": rtl_type, "what": what}
     tool, options = ("icarus", "iverilog_options: [-g2001]") if is_verilog else ("ghdl", "run_options: [--ieee-asserts=disable-at-0]")
     return CORE.format(
         said=said.replace('"', "'"),
         rtl="\n".join(files),
-        bench=BENCH_FILES.format(**known) if has_bench else "",
-        sim=SIM.format(tool=tool, options=options, **known) if has_bench else "",
+        bench=BENCH_FILES.format(bench=bench, **known),
+        sim=SIM.format(tool=tool, options=options, bench=bench, **known),
         **known,
     )
 

@@ -3,7 +3,7 @@ import re
 import shutil
 import subprocess
 import tempfile
-from collections.abc import Callable, Sequence
+from collections.abc import Sequence
 from concurrent.futures import ThreadPoolExecutor
 from dataclasses import dataclass
 from pathlib import Path
@@ -11,6 +11,7 @@ from statistics import median
 
 from . import yosys
 from .report import Port
+from .running import process, show_progress
 
 # The devices that nextpnr-ice40 knows, with a package of each. Three pins do.
 PACKAGES = {
@@ -75,12 +76,14 @@ class NotPlaced(Exception):
 
 @dataclass(frozen=True)
 class Device:
-    """A device, how many seeds are tried, how many seconds each may take, and how many run at a time."""
+    """A device, how many seeds are tried, how many seconds each may take, and how many run at a time; and the tool that says on
+    standard error what each seed reached, if one does."""
 
     name: str
     seeds: int
     limit: float
     jobs: int
+    tool: str = ""
 
 
 @dataclass(frozen=True)
@@ -168,7 +171,7 @@ def log_of(netlist: Path, device: Device, seed: int, period: int) -> str | None:
     words = ["nextpnr-ice40", f"--{device.name}", "--package", PACKAGES[device.name], "--json", netlist, "--seed", str(seed)]
     words += ["--freq", f"{1e6 / period:.3f}", "--timing-allow-fail"]
     try:
-        done = subprocess.run(words, capture_output=True, text=True, errors="replace", timeout=device.limit)
+        done = process(words, device.limit)
     except subprocess.TimeoutExpired:
         return None
     said = done.stdout + done.stderr
@@ -180,7 +183,14 @@ def log_of(netlist: Path, device: Device, seed: int, period: int) -> str | None:
 
 def logs_of(netlist: Path, device: Device, period: int) -> list[str]:
     """What nextpnr prints for each seed that ends."""
-    one: Callable[[int], str | None] = lambda seed: log_of(netlist, device, seed, period)
+
+    def one(seed: int) -> str | None:
+        log = log_of(netlist, device, seed, period)
+        if device.tool:
+            reached = f"{period_of(log)} ps" if log else f"not ended within {device.limit:g} seconds"
+            show_progress(device.tool, f"{period} ps, seed {seed} of {device.seeds}: {reached}")
+        return log
+
     with ThreadPoolExecutor(device.jobs) as pool:
         ended = [log for log in pool.map(one, range(1, device.seeds + 1)) if log is not None]
     if not ended:

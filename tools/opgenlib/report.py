@@ -1,8 +1,12 @@
 """Reads a report, NAME.rpt, into values."""
+from __future__ import annotations
+
 from dataclasses import dataclass
 from fractions import Fraction
 from pathlib import Path
 
+# More than any port has.
+MOST_WIDTH = 1024
 CELLS = ("wire", "logic", "add", "choice", "table", "register")
 
 
@@ -78,7 +82,7 @@ def number_of(word: str, line: int) -> int:
     try:
         return int(word)
     except ValueError:
-        raise NotReport(line, f"{word!r} is no whole number") from None
+        raise NotReport(line, f"{word[:40]!r} is no whole number") from None
 
 
 def port_of(words: list[str], line: int) -> Port:
@@ -86,6 +90,8 @@ def port_of(words: list[str], line: int) -> Port:
     if len(words) != 5 or words[2] not in ("signed", "unsigned"):
         raise NotReport(line, "expected a name, signed or unsigned, a width and an lsb")
     width = number_of(words[3], line)
+    if width not in range(1, MOST_WIDTH + 1):
+        raise NotReport(line, f"a width is {width}; expected 1 to {MOST_WIDTH}")
     return Port(words[1], words[0] == "input", words[2] == "signed", width, number_of(words[4], line))
 
 
@@ -101,21 +107,23 @@ def report_of(text: str) -> Report:
     facts: dict = {"ports": ()}
     line = 0
     for line, words in enumerate(map(str.split, text.splitlines()), 1):
-        match words:
-            case ["input" | "output", *_]:
-                facts["ports"] += (port_of(words, line),)
-            case ["cells", *_]:
-                facts["cells"] = cells_of(words, line)
-            case ["graph", *members]:
-                facts["graph"] = tuple(number_of(word, line) for word in members)
-            case ["operator", name]:
-                facts["name"] = name
-            case ["kind" | "mode" | "target" as key, word]:
-                facts[key] = word
-            case ["period" | "latency" | "slack" | "signals" as key, word]:
-                facts[key] = number_of(word, line)
-            case _:
-                raise NotReport(line, f"{' '.join(words)!r} is no line of a report")
+        key = words[0] if words else ""
+        if key in ("input", "output"):
+            facts["ports"] += (port_of(words, line),)
+        elif key == "cells":
+            facts["cells"] = cells_of(words, line)
+        elif key == "graph":
+            facts["graph"] = tuple(number_of(word, line) for word in words[1:])
+        elif key == "operator" and len(words) == 2:
+            facts["name"] = words[1]
+        elif key in ("kind", "mode", "target") and len(words) == 2:
+            facts[key] = words[1]
+        elif key in ("period", "latency", "slack", "signals") and len(words) == 2:
+            facts[key] = number_of(words[1], line)
+            if facts[key] < 0:
+                raise NotReport(line, f"{key} is {facts[key]}, below 0")
+        else:
+            raise NotReport(line, f"{' '.join(words)!r} is no line of a report")
     try:
         return Report(**facts)
     except TypeError:

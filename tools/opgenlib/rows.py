@@ -1,11 +1,14 @@
 """Reads and writes files of vectors: rows of inputs, or of inputs and outputs, in hexadecimal; and numbers in a port's format."""
+from __future__ import annotations
+
 import re
 from collections.abc import Iterator, Sequence
 from fractions import Fraction
+from typing import List, Optional, Tuple
 
 from .report import Port
 
-Row = tuple[list[int], list[int] | None]
+Row = Tuple[List[int], Optional[List[int]]]
 
 
 class BadRow(Exception):

@@ -11,15 +11,19 @@ from typing import Any
 
 TOP = Path(__file__).resolve().parent.parent.parent
 SCHEMA = json.loads((TOP / "docs/opgen.schema.json").read_text(encoding="utf-8"))
-LINE = SCHEMA["$defs"]["line"]
 # The arrays of tables of a document, in the order in which their faults are judged, and what a table of each may have.
-TABLES = {name: SCHEMA["$defs"][name] for name in ("input", "scaled", "product")} | {"delay": LINE}
+TABLES = {name: SCHEMA["$defs"][name] for name in SCHEMA["properties"] if name in SCHEMA["$defs"]}
 KNOWN = "type const enum minimum maximum minItems maxItems maxLength pattern anyOf not if".split()
 
 
 def shown(file: str) -> str:
     """The name of a file beside the tools: in a checkout from its folder, and otherwise from the root."""
     return file if (TOP / "crates").is_dir() else str(TOP / file)
+
+
+def command(tool: str) -> str:
+    """How a tool is called: in a checkout from its folder, and otherwise by the installed program."""
+    return f"tools/{tool}" if (TOP / "crates").is_dir() else f"opgen tool {tool}"
 
 
 def same(found: Any, wanted: Any) -> bool:

@@ -6,15 +6,17 @@ from html import escape
 
 from opgenlib.drawings.block import block
 from opgenlib.drawings.chain import chain
-from opgenlib.drawings.error import error, exact_text
+from opgenlib.drawings.error import Found, error, exact_text, ulp_text
 from opgenlib.drawings.example import Example, NotDrawn, cycles
 from opgenlib.drawings.graph import adders_of, picture_of, words_of
 from opgenlib.drawings.heap import heap
 from opgenlib.drawings.profile import profile
+from opgenlib.drawings.response import factors_of, is_filter, response
 from opgenlib.drawings.schedule import Schedule
 from opgenlib.drawings.timing import timing
 from opgenlib.report import CELLS, Port, Report
 from opgenlib.rows import value_text
+from opgenlib.schema import command
 from opgenlib.svg import Picture
 from opgenlib.words import formula, format_power, is_exact, latency_text, reference
 
@@ -28,11 +30,14 @@ h2 { margin: 1.8rem 0 0.5rem; font-size: 1.2rem; border-bottom: 1px solid #ccc; 
 table { border-collapse: collapse; margin: 0.5rem 0; }
 th, td { text-align: left; vertical-align: top; padding: 0.25rem 0.8rem 0.25rem 0; border-bottom: 1px solid #ddd; }
 td.n, th.n { text-align: right; font-variant-numeric: tabular-nums; white-space: nowrap; }
+.line { font-size: 0.85rem; }
+.line th, .line td { white-space: nowrap; }
 .facts th { white-space: nowrap; font-weight: 600; color: #333; }
 .wide { overflow-x: auto; }
 figure { margin: 0.8rem 0; overflow-x: auto; break-inside: avoid; }
 figcaption { color: #444; font-size: 0.92rem; }
 figure svg { display: block; width: var(--w); max-width: 100%; height: auto; }
+.columns { columns: 15rem; }
 pre { background: #f5f6f8; border: 1px solid #ddd; padding: 0.6rem 0.8rem; overflow-x: auto; font: 0.86rem/1.4 ui-monospace, "Liberation Mono", monospace; }
 code { font-family: ui-monospace, "Liberation Mono", monospace; }
 footer { margin-top: 2rem; border-top: 1px solid #ccc; color: #555; font-size: 0.85rem; }
@@ -43,6 +48,7 @@ footer { margin-top: 2rem; border-top: 1px solid #ccc; color: #555; font-size: 0
   body { max-width: none; padding: 0; }
   figure, .wide, pre { overflow: visible; }
   figure svg { max-width: 100%; max-height: 235mm; }
+  .line { font-size: 7.5pt; }
   pre { white-space: pre-wrap; overflow-wrap: anywhere; break-inside: avoid; }
   tr, section.whole { break-inside: avoid; }
 }
@@ -76,7 +82,7 @@ MOST_DOTS = 30
 class Measured:
     """What was measured: the errors over rows, how these were chosen, and what Yosys made of the circuit, or why it did not."""
 
-    errors: list[Fraction]
+    errors: Found
     rows: str
     mapped: dict[str, dict[str, int]]
     not_mapped: str
@@ -106,14 +112,15 @@ def figure(picture: Picture, words: str) -> str:
     return f"<figure {style}>\n{picture.text_of()}<figcaption>{escape(words)}</figcaption>\n</figure>\n"
 
 
-def table(head: list[str], rows: list[list[str]], numbers: set[int]) -> str:
-    """A table, in which columns of numbers are set to the right."""
+def table(head: list[str], rows: list[list[str]], numbers: set[int], is_narrow: bool = False) -> str:
+    """A table, in which columns of numbers are set to the right; a narrow one has each row on one line."""
 
     def line(cells: list[str], kind: str) -> str:
         written = (f'<{kind}{" class=n" if at in numbers else ""}>{escape(cell)}</{kind}>' for at, cell in enumerate(cells))
         return f"<tr>{''.join(written)}</tr>\n"
 
-    return f'<div class="wide"><table>\n{line(head, "th")}{"".join(line(row, "td") for row in rows)}</table></div>\n'
+    kind = " class=line" if is_narrow else ""
+    return f'<div class="wide"><table{kind}>\n{line(head, "th")}{"".join(line(row, "td") for row in rows)}</table></div>\n'
 
 
 def section(title: str, body: str, is_whole: bool = False) -> str:
@@ -144,10 +151,13 @@ def size_text(sheet: Sheet) -> str:
 
 
 def error_text(sheet: Sheet) -> str:
-    found = sheet.measured.errors
+    found, saturated = sheet.measured.errors.errors, sheet.measured.errors.saturated
+    rows = sheet.measured.rows + (f"; {saturated} of these rows saturate and are not counted" if saturated else "")
+    if not found:
+        return f"none, {sheet.measured.rows}, each of which saturates"
     if not any(found):
-        return f"0 ulp, {sheet.measured.rows}"
-    return f"from {float(min(found)):.3f} to {float(max(found)):.3f} ulp, {sheet.measured.rows}"
+        return f"0 ulp, {rows}"
+    return f"from {ulp_text(min(found))} to {ulp_text(max(found))} ulp, {rows}"
 
 
 def summary(sheet: Sheet) -> str:
@@ -177,16 +187,29 @@ def ports(sheet: Sheet) -> str:
     head = ["port", "", "type", "number", "unit", "least value", "greatest value"]
     words = "A port's value is its number times the unit. Signed numbers are in two's complement."
     picture = figure(block(sheet.facts, sheet.has_enable), "The entity, with the bits of each port.")
-    return picture + table(head, [row[:7] for row in rows], {4, 5, 6}) + f"<p>{words}</p>\n"
+    return picture + table(head, [row[:7] for row in rows], {4, 5, 6}, is_narrow=True) + f"<p>{words}</p>\n"
 
 
 def accuracy(sheet: Sheet) -> str:
-    if any(sheet.measured.errors):
-        measured = f"The measured errors go {error_text(sheet)}, from {exact_text(sheet.spec)}."
-        picture = figure(error(sheet.example), "")
+    if any(sheet.measured.errors.errors):
+        measured = f"The measured errors go {error_text(sheet)}; they are from {exact_text(sheet.spec)}."
+        picture = figure(error(sheet.example, has_command=False), "")
     else:
         measured, picture = f"Measured: every output is equal, {sheet.measured.rows}.", ""
     return f"<p>{escape(f'Proved for all inputs in range: {bound_text(sheet)}. {measured}')}</p>\n{picture}"
+
+
+def filtered(sheet: Sheet) -> str:
+    """Of a filter its response and its coefficients."""
+    factors = factors_of(sheet.spec)
+    words = "The gain of the filter with these coefficients by frequency, before its output is rounded."
+    listed = "\n".join(f"c{at} = {value_text_of(factor)}" for at, factor in enumerate(factors))
+    return figure(response(sheet.spec), words) + f'<pre class="columns">{escape(listed)}</pre>\n'
+
+
+def value_text_of(factor: Fraction) -> str:
+    """A coefficient as a fraction and, where that is none of whole numbers, as a decimal number."""
+    return str(factor) if factor.denominator == 1 else f"{factor} = {float(factor):.9g}"
 
 
 def structures(sheet: Sheet) -> Iterator[str]:
@@ -203,7 +226,8 @@ def structures(sheet: Sheet) -> Iterator[str]:
             adders = adders_of(sheet.example)
             yield figure(picture_of(adders), words_of(adders))
         case "constdiv":
-            yield figure(chain(sheet.example), "The tables: each divides a remainder and a digit of x. The numbers are those of the first row.")
+            words = "The tables: each divides a remainder and a digit of x. The numbers are those of one of the inputs that were tried."
+            yield figure(chain(sheet.example), words)
         case "divide" | "root":
             return
 
@@ -253,7 +277,8 @@ def instance(sheet: Sheet) -> str:
 
 def use(sheet: Sheet) -> str:
     name, enable = sheet.facts.name, " --enable" if sheet.has_enable else ""
-    commands = f"opgen generate {sheet.example.path.name}{enable}    # {name}.vhd, {name}.rpt\ntools/wrap {name}    # {name}_wrap.vhd: a package, and ports of signed and unsigned\n"
+    wrap = command("wrap")
+    commands = f"opgen generate {sheet.example.path.name}{enable}    # {name}.vhd, {name}.rpt\n{wrap} {sheet.example.path.name}    # {name}_wrap.vhd: a package, and ports of signed and unsigned\n"
     return f"<pre>{escape(instance(sheet))}</pre>\n<p>{escape(latency_text(sheet.facts, sheet.has_enable))}</p>\n<pre>{escape(commands)}</pre>\n"
 
 
@@ -262,6 +287,7 @@ def page(sheet: Sheet) -> str:
     body = [
         summary(sheet),
         section("Ports and formats", ports(sheet), True),
+        section("Frequency response and coefficients", filtered(sheet)) if is_filter(sheet.spec) else "",
         section("Timing", figure(timing(sheet.facts, sheet.has_enable), "Inputs and outputs are sampled at the next rising edge. Equal colors belong together."), True),
         section("Accuracy", accuracy(sheet), True),
         section("Structure", drawn(structures(sheet))) if sheet.spec["kind"] not in ("divide", "root") else "",

@@ -6,9 +6,12 @@ as the program reads it. A path is a tuple of keys and of indices from 0: ("dela
 import re
 import tomllib
 from dataclasses import dataclass, field
+from functools import cached_property
 from pathlib import Path
 from typing import Any
 
+from .keys import table as keys
+from .keys.table import evaluated
 from .places import Lines, Place
 
 BARE = re.compile(r"[A-Za-z0-9_-]+")
@@ -23,10 +26,14 @@ DATE = rf"[0-9]{{4}}-[0-9]{{2}}-[0-9]{{2}}(?:[Tt ]{TIME}(?:[Zz]|[+-][0-9]{{2}}:[
 SCALAR = re.compile(rf"(?:true|false|{DATE}|{TIME}|{INTEGER}|{FLOAT})\Z")
 WORD = re.compile(r"[^\s,\]}#=]+(?: [0-9]{2}:[0-9:.Zz+-]*)?")
 ESCAPE = re.compile(r'\\(?:["\\bfnrte]|x[0-9A-Fa-f]{2}|u[0-9A-Fa-f]{4}|U[0-9A-Fa-f]{8})')
+LETTERS = re.compile(r"[^\"'\\\r\n]+")
 ENDED_LINE = re.compile(r"\\[ \t]*\r?\n\s*")
 # What TOML 1.0 does not have: `tomllib` refuses it, and the program takes it.
 NEWER = re.compile(r"\\[ex]")
 Path_ = tuple[str | int, ...]
+# The most parts of a path, keys and indices: no specification has more than three. Each costs its length.
+MOST_PARTS = 16
+MOST_WRITTEN = 40
 
 
 class NotToml(Exception):
@@ -35,6 +42,19 @@ class NotToml(Exception):
     def __init__(self, what: str, place: Place | None) -> None:
         super().__init__(what)
         self.what, self.place = what, place
+
+
+class TooDeep(NotToml):
+    """Keys or brackets are deeper than any specification has them, and the text is not looked at."""
+
+    def __init__(self, place: Place) -> None:
+        super().__init__(f"more than {MOST_PARTS} keys or brackets in one another", place)
+
+
+def short(text: str) -> str:
+    """What is written, on one line and not too long."""
+    line = text[: MOST_WRITTEN + 1].split("\n")[0]
+    return line if line == text and len(line) <= MOST_WRITTEN else f"{line[:MOST_WRITTEN]}.."
 
 
 @dataclass(frozen=True)
@@ -46,15 +66,27 @@ class Spot:
     written: str
 
 
+# Where a value is in a text: the offsets of its key, its begin and its end.
+Offsets = tuple[int, int, int]
+
+
 @dataclass
 class Specification:
     """A document with the places of its keys and values."""
 
     table: dict[str, Any]
-    spots: dict[Path_, Spot] = field(default_factory=dict)
+    text: str
+    offsets: dict[Path_, Offsets] = field(default_factory=dict)
+
+    @cached_property
+    def lines(self) -> Lines:
+        return Lines(self.text)
 
     def spot(self, *path: str | int) -> Spot | None:
-        return self.spots.get(path)
+        if path not in self.offsets:
+            return None
+        key, value, end = self.offsets[path]
+        return Spot(self.lines.place(key), self.lines.place(value), self.text[value:end])
 
     def key_place(self, *path: str | int) -> Place | None:
         spot = self.spot(*path)
@@ -71,7 +103,7 @@ class Scanner:
     def __init__(self, text: str) -> None:
         self.text, self.at = text, 0
         self.lines = Lines(text)
-        self.spots: dict[Path_, Spot] = {}
+        self.offsets: dict[Path_, Offsets] = {}
         self.counts: dict[Path_, int] = {}
         self.headers: set[Path_] = set()
         self.is_newer = False
@@ -141,7 +173,7 @@ class Scanner:
         return path
 
     def note(self, path: Path_, key_at: int, value_at: int) -> None:
-        self.spots[path] = Spot(self.place(key_at), self.place(value_at), self.text[value_at : self.at])
+        self.offsets[path] = (key_at, value_at, self.at)
 
     def keys(self) -> tuple[Path_, int]:
         """A key with its parts between points, and where it begins."""
@@ -151,6 +183,8 @@ class Scanner:
             self.skip(BLANK)
             if not self.took("."):
                 return path, at
+            if len(path) == MOST_PARTS:
+                raise TooDeep(self.place(at))
             self.skip(BLANK)
 
     def key(self) -> str:
@@ -167,15 +201,18 @@ class Scanner:
         if not self.took("="):
             raise self.fail(f"`=` and a value are expected behind the key {shown(path)}")
         self.skip(BLANK)
-        if path in self.spots:
-            raise self.fail(f"key {shown(path)} is there twice, first in line {self.spots[path].key.line}", at)
+        if path in self.offsets:
+            first = self.place(self.offsets[path][0])
+            raise self.fail(f"key {shown(path)} is there twice, first in line {first.line}", at)
         value_at = self.at
         self.value(path)
         self.note(path, at, value_at)
         for end in range(len(prefix) + 1, len(path)):
-            self.spots.setdefault(path[:end], Spot(self.place(at), self.place(at), ""))
+            self.offsets.setdefault(path[:end], (at, at, at))
 
     def value(self, path: Path_) -> None:
+        if len(path) > MOST_PARTS:
+            raise TooDeep(self.place())
         match self.peek():
             case "[":
                 self.array(path)
@@ -194,9 +231,9 @@ class Scanner:
         if word.lower() in ("true", "false") and word != word.lower():
             raise self.fail(f"{word} is no value of TOML; write {word.lower()}", at)
         if not SCALAR.match(word):
-            raise self.fail(f"{word} is no value of TOML; a text is written between double quotes", at)
-        if re.fullmatch(INTEGER, word) and not -(1 << 63) <= int(word, 0) < 1 << 63:
-            raise self.fail(f"{word} has more than 64 bits", at)
+            raise self.fail(f"{short(word)} is no value of TOML; a text is written between double quotes", at)
+        if re.fullmatch(INTEGER, word) and not is_of_64_bits(word):
+            raise self.fail(f"{short(word)} has more than 64 bits", at)
 
     def array(self, path: Path_) -> None:
         start, count = self.at, 0
@@ -242,7 +279,7 @@ class Scanner:
         while self.peek() != quote:
             if self.peek() in ("", "\n") or self.peek(2) == "\r\n":
                 raise self.fail(f"`{quote}` is never closed on its line", start)
-            self.letter(quote)
+            self.skip(LETTERS) or self.letter(quote)
         self.at += 1
         return self.text[start + 1 : self.at - 1]
 
@@ -251,7 +288,7 @@ class Scanner:
         while not self.took(quote * 3):
             if self.at >= len(self.text):
                 raise self.fail(f"`{quote * 3}` is never closed", start)
-            if not (quote == '"' and self.skip(ENDED_LINE)):
+            if not (quote == '"' and self.skip(ENDED_LINE)) and not self.skip(LETTERS):
                 self.letter(quote)
         while self.peek() == quote:
             self.at += 1
@@ -267,9 +304,15 @@ class Scanner:
             self.at += 1
 
 
+def is_of_64_bits(word: str) -> bool:
+    """Whether a whole number, as TOML writes it, has at most 64 bits. Decimal ones have no zeros before them."""
+    digits = word.lstrip("+-").replace("_", "")
+    return (digits[:2] in ("0x", "0o", "0b") or len(digits) <= 20) and -(1 << 63) <= int(word, 0) < 1 << 63
+
+
 def shown(path: Path_) -> str:
     """A path as it is spoken of."""
-    return ".".join(str(part) if isinstance(part, str) else f"{part + 1}" for part in path)
+    return ".".join(short(part) if isinstance(part, str) else f"{part + 1}" for part in path)
 
 
 def text_of(source: bytes) -> str:
@@ -288,7 +331,7 @@ def parse(source: bytes) -> Specification:
     scanner = Scanner(text)
     scanner.document()
     try:
-        return Specification(tomllib.loads(text), scanner.spots)
+        return Specification(tomllib.loads(text), text, scanner.offsets)
     except (tomllib.TOMLDecodeError, RecursionError) as fault:
         at = re.search(r" \(at line (\d+), column (\d+)\)", str(fault))
         if scanner.is_newer or not at:
@@ -300,33 +343,12 @@ def load(path: Path | str) -> Specification:
     return parse(Path(path).read_bytes())
 
 
-# The shift of each kind that has limits, from the input's to the output's last place, and its least and most by version.
-SHIFTS: dict[str, tuple[str, dict[int, tuple[int, int]]]] = {
-    "scale": ("lsb - out_lsb", {1: (-48, 48), 2: (-48, 32), 3: (-48, 32)}),
-    "fir": ("lsb - out_lsb", {1: (-48, 48), 2: (-48, 32), 3: (-48, 32)}),
-    "multiply": ("lsb_a + lsb_b - out_lsb", dict.fromkeys((1, 2, 3), (-48, 48))),
-    "divide": ("lsb_a - lsb_b - out_lsb", dict.fromkeys((1, 2, 3), (0, 48))),
-    "root": ("lsb - 2 out_lsb", dict.fromkeys((1, 2, 3), (0, 48))),
-    "tfir": ("lsb - out_lsb", dict.fromkeys((1, 2, 3), (-48, 0))),
-}
-
-
 def shift_of(table: dict[str, Any]) -> int | None:
-    """The shift of a document, none where its kind has none or a number is missing."""
-    formula = SHIFTS.get(table.get("kind", ""), ("", {}))[0]
-    total = 0
-    for sign, factor, key in re.findall(r"(-?) ?(\d* ?)(\w+)", formula):
-        if not isinstance(table.get(key), int):
-            return None
-        total += (-1 if sign else 1) * int(factor or 1) * table[key]
-    return total if formula else None
+    """The shift of a document, from the input's to the output's last place; none where its kind has none or a number is missing."""
+    kind = keys.read().kinds.get(table.get("kind", ""))
+    return evaluated(kind.row["shift"], table) if kind and "shift" in kind.row else None
 
 
 def is_always_exact(table: dict[str, Any]) -> bool:
     """Whether outputs are equal whatever `exact` says: sums of whole constants of which nothing is cut."""
-    return table["kind"] == "mcm" or (table["kind"] == "tfir" and not shift_of(table))
-
-
-def most_signal(version: int) -> int:
-    """The most bits of a signal."""
-    return 64 if version == 1 else 96
+    return keys.read().kinds[table["kind"]].row.get("always_exact", False) and not shift_of(table)

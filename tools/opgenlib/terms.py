@@ -1,4 +1,6 @@
 """The terms of a sum of products: what each is multiplied by, in units of the output's last place, and over which values it goes."""
+from __future__ import annotations
+
 from collections.abc import Sequence
 from dataclasses import dataclass
 from fractions import Fraction
@@ -7,11 +9,6 @@ from math import prod
 from typing import Any
 
 from .report import Port
-
-# The most bits of the greatest number of a term, with those of the number of terms.
-MOST_TOTAL = 112
-# What a sum of which a term is not whole is wider than its output.
-GUARD = 10
 
 
 def input_ports(spec: dict[str, Any]) -> list[Port]:

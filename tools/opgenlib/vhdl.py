@@ -11,10 +11,12 @@ from dataclasses import dataclass, field
 from .places import Lines, Place
 from .schema import SCHEMA
 
-SPACE = re.compile(r"(?:[ \t\r\n]+|--[^\n]*)+")
-TOKEN = re.compile(
-    r"""[A-Za-z](?:_?[A-Za-z0-9])*(?![A-Za-z0-9_])|[0-9]{1,9}(?![A-Za-z0-9_])|"[01]{1,96}"|'0'|<=|=>|:=|[();:,.&+\-=]"""
-)
+SPACE = r"(?:[ \t\r\n]+|--[^\n]*)*"
+WORD = r"[A-Za-z](?:_?[A-Za-z0-9])*(?![A-Za-z0-9_])"
+MARK = r"""[0-9]{1,9}(?![A-Za-z0-9_])|"[01]{1,96}"|'0'|<=|=>|:=|[();:,.&+\-=]"""
+# A token with the space before it, or space alone.
+TOKEN = re.compile(f"{SPACE}(?:({WORD}|{MARK})|)")
+ARCHITECTURE = re.compile(r"^[ \t]*architecture\b", re.IGNORECASE | re.MULTILINE)
 OPERATORS = {"and", "or", "xor", "&", "+", "-"}
 MOST_LETTERS, MOST_INDEX, MOST_DEPTH = 64, 95, 64
 # Names that operators give to ports, signals or architectures: no name of an operator, but a name in VHDL.
@@ -22,7 +24,7 @@ OWN_NAMES = {"rtl", "clk", "ce", "a", "b", "d", "q", "r", "x", "y"} | {f"y{k}" f
 REFUSED_NAMES = set(SCHEMA["properties"]["name"]["not"]["anyOf"][1]["enum"]) - OWN_NAMES
 
 
-@dataclass(frozen=True)
+@dataclass(frozen=True, slots=True)
 class Token:
     """A token as it is written, and the offset of its first letter."""
 
@@ -70,7 +72,7 @@ class Signal:
     at: int = -1
 
 
-@dataclass(frozen=True)
+@dataclass(frozen=True, slots=True)
 class Use:
     """A name that is used, as a port or as a signal, and its offset."""
 
@@ -79,7 +81,7 @@ class Use:
     at: int
 
 
-@dataclass
+@dataclass(slots=True)
 class Driver:
     """What drives `to`: `assign`, `register` and `output` have one expression; `choice` has its condition and two;
     `table` has its address, and then rows of address and word, of which the last address is None."""
@@ -107,17 +109,19 @@ class Design:
 
 def tokens_of(text: str) -> list[Token]:
     """The tokens of a text."""
-    tokens, at = [], 0
-    while True:
-        if space := SPACE.match(text, at):
-            at = space.end()
-        if at == len(text):
-            return tokens
-        found = TOKEN.match(text, at)
-        if not found or len(found[0]) > MOST_LETTERS and found[0][0].isalpha():
-            raise NoToken(text, at)
-        tokens.append(Token(found[0], at))
-        at = found.end()
+    tokens = []
+    end = 0
+    while found := TOKEN.match(text, end):
+        end = found.end()
+        written = found[1]
+        if written is None:
+            break
+        if len(written) > MOST_LETTERS and written[0].isalpha():
+            raise NoToken(text, found.start(1))
+        tokens.append(Token(written, found.start(1)))
+    if end < len(text):
+        raise NoToken(text, end)
+    return tokens
 
 
 class Reader:
@@ -127,6 +131,8 @@ class Reader:
         self.text = text
         self.lines = Lines(text)
         self.tokens = tokens_of(text)
+        # Of each token and of the end, in small letters.
+        self.texts = [*(token.text for token in self.tokens), END.text]
         self.number = 0
         self.uses: list[Use] = []
 
@@ -145,11 +151,11 @@ class Reader:
         return self.tokens[self.number] if self.number < len(self.tokens) else END
 
     def peek(self) -> str:
-        return self.token().text
+        return self.texts[self.number]
 
     def took(self, token: str) -> bool:
         """Whether the next token is this one, which is then taken."""
-        if self.peek() == token:
+        if self.texts[self.number] == token:
             self.number += 1
             return True
         return False
@@ -161,11 +167,11 @@ class Reader:
                 raise self.fail(f"`{word}`")
 
     def name(self) -> str:
-        token = self.token()
-        if not re.fullmatch(r"[a-z][a-z0-9_]*", token.text) or token.text in REFUSED_NAMES:
+        text = self.peek()
+        if not text[:1].isalpha() or text in REFUSED_NAMES:
             raise self.fail("a name")
         self.number += 1
-        return token.text
+        return text
 
     def bits(self) -> str:
         if not self.peek().startswith('"'):
@@ -402,8 +408,9 @@ class Reader:
 
 
 def entity_of(text: str) -> tuple[str, list[Port]]:
-    """The name and ports of the entity that a text begins with."""
-    return Reader(text).entity()
+    """The name and ports of the entity that a text begins with. What follows a line that begins with `architecture` is not read."""
+    head = ARCHITECTURE.search(text)
+    return Reader(text[: head.end()] if head else text).entity()
 
 
 def design_of(text: str) -> Design:

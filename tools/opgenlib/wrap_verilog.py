@@ -3,6 +3,7 @@ from collections.abc import Iterator
 
 from .inner import VERILOG_WORDS, free, names_for, words_for, words_of
 from .report import Port, Report
+from .sorts import Sort
 
 WRAP = """{head}
 module {name}_wrap (
@@ -14,7 +15,7 @@ module {name}_wrap (
 
 VALID = """  // One register for each cycle of the latency, beside the data: rst resets these alone.
   reg [{top}:0] {valid} = {latency}'d0;
-  assign valid_out = {valid}[{top}];
+  assign valid_out = {out};
   always @(posedge clk)
     if (rst) {valid} <= {latency}'d0;
     else{ce} {valid} <= {moved};
@@ -75,11 +76,18 @@ endmodule
 """
 
 PAUSES = """      if (cycle % 3 == 2) begin
-        ce = 1'b0;
+        {ce} = 1'b0;
 {inverted}
-        #HALF edge_of_clk;
-        ce = 1'b1;
+        #HALF;
+{silent}        edge_of_clk;
+        {ce} = 1'b1;
       end
+"""
+
+SILENT = """        if (valid_out !== 1'b0) begin
+          fault;
+          $display("  valid_out is %b in a gap behind it", valid_out);
+        end
 """
 
 RESET = """    rst = 1'b1;
@@ -118,21 +126,23 @@ def header_text(facts: Report, head: str) -> str:
     return "\n".join([head, f"`ifndef {stem}_PKG", f"`define {stem}_PKG", said, *lines, "`endif"]) + "\n"
 
 
-def ports_of(facts: Report, has_enable: bool, has_valid: bool) -> Iterator[str]:
+def ports_of(facts: Report, sort: Sort) -> Iterator[str]:
     yield "input wire clk"
-    yield from ["input wire ce"] if has_enable else []
-    yield from ["input wire rst", "input wire valid_in"] if has_valid else []
+    yield from ["input wire ce"] if sort.has_ce else []
+    yield from ["input wire rst", "input wire valid_in"] if sort.has_valid else []
     yield from (f"{'input' if port.is_input else 'output'} wire {vector(port)} {spelled(port.name)}" for port in facts.ports)
-    yield from ["output wire valid_out"] if has_valid else []
+    yield from ["output wire valid_out"] if sort.has_valid else []
 
 
-def valid_text(facts: Report, has_enable: bool, valid: str) -> str:
+def valid_text(facts: Report, sort: Sort, valid: str) -> str:
     """The registers of the valid bit."""
     if facts.latency == 0:
         return NO_VALID
     top = facts.latency - 1
     moved = f"{{{valid}[{top - 1}:0], valid_in}}" if top else "valid_in"
-    return VALID.format(top=top, latency=facts.latency, valid=valid, moved=moved, ce=" if (ce)" if has_enable else "")
+    last = f"{valid}[{top}]"
+    out, enable = (f"valid_in & {last}", "valid_in") if sort.is_gated else (last, "ce")
+    return VALID.format(top=top, latency=facts.latency, valid=valid, moved=moved, out=out, ce=f" if ({enable})" if sort.has_enable else "")
 
 
 def names_of(facts: Report, has_enable: bool, has_valid: bool) -> list[str]:
@@ -145,64 +155,74 @@ def actuals(names: list[str], sides: dict[str, str]) -> str:
     return ", ".join(f".{spelled(name)}({sides.get(name, spelled(name))})" for name in names)
 
 
-def wrap_text(facts: Report, has_enable: bool, has_valid: bool, head: str) -> str:
+def wrap_text(facts: Report, sort: Sort, head: str) -> str:
     """The wrapper."""
     taken = {"clk", "ce", "rst", "valid_in", "valid_out", *(port.name for port in facts.ports)}
     return WRAP.format(
         head=head,
         name=facts.name,
-        ports=",\n".join(f"  {port}" for port in ports_of(facts, has_enable, has_valid)),
+        ports=",\n".join(f"  {port}" for port in ports_of(facts, sort)),
         label=free("circuit", taken),
-        actuals=actuals(names_of(facts, has_enable, False), {}),
-        valid=valid_text(facts, has_enable, free("valid", taken)) if has_valid else "",
+        actuals=actuals(names_of(facts, sort.has_enable, False), {"ce": "valid_in"} if sort.is_gated else {}),
+        valid=valid_text(facts, sort, free("valid", taken)) if sort.has_valid else "",
     )
 
 
-def signals_of(facts: Report, has_enable: bool, has_valid: bool, sides: dict[str, str], words: dict[str, str]) -> Iterator[str]:
-    yield from ["reg ce = 1'b1;"] if has_enable else []
-    yield from ["reg rst = 1'b0, valid_in = 1'b0;", "wire valid_out;"] if has_valid else []
+def signals_of(facts: Report, sort: Sort, sides: dict[str, str], words: dict[str, str]) -> Iterator[str]:
+    yield from ["reg ce = 1'b1;"] if sort.has_ce else []
+    yield from ["reg rst = 1'b0, valid_in = 1'b0;", "wire valid_out;"] if sort.has_valid else []
     for port in facts.ports:
         kind, initial = ("reg", " = 0") if port.is_input else ("wire", "")
         yield f"{kind} {vector(port)} {sides[port.name]}{initial};"
         yield f"reg [{port.width - 1}:0] {words[port.name]};"
 
 
-def compares_of(facts: Report, has_valid: bool, sides: dict[str, str], words: dict[str, str]) -> Iterator[str]:
+def compares_of(facts: Report, sort: Sort, sides: dict[str, str], words: dict[str, str]) -> Iterator[str]:
     for port in facts.outputs:
         found, wanted = sides[port.name], words[port.name]
         yield f"      if (cycle >= FIRST && {found} !== {wanted}) begin"
         yield "        fault;"
         yield f'        $display("  {port.name} is %h in place of %h", {found}, {wanted});'
         yield "      end"
-    if has_valid:
+    if sort.has_valid:
         late = f"cycle >= {facts.latency} && (cycle - {facts.latency})" if facts.latency else "cycle"
-        yield f"      if (valid_out !== ({late} % 4 != 3)) begin"
+        valid = f"cycle >= {facts.latency}" if sort.is_gated else f"{late} % 4 != 3"
+        yield f"      if (valid_out !== ({valid})) begin"
         yield "        fault;"
         yield '        $display("  valid_out is %b", valid_out);'
         yield "      end"
 
 
-def bench_text(facts: Report, has_enable: bool, has_valid: bool) -> str:
+def pauses_text(sort: Sort, inverted: str) -> str:
+    """Cycles that the circuit does not take, with other inputs."""
+    if not sort.has_enable:
+        return ""
+    return PAUSES.format(ce="valid_in" if sort.is_gated else "ce", inverted=inverted, silent=SILENT if sort.is_gated else "")
+
+
+def bench_text(facts: Report, sort: Sort) -> str:
     """The test bench."""
-    taken = VERILOG_WORDS | words_of("".join((BENCH, PAUSES, RESET)), "//") | {"ce", "rst", "valid_in", "valid_out"}
+    has_valid = sort.has_valid
+    taken = VERILOG_WORDS | words_of("".join((BENCH, PAUSES, SILENT, RESET)), "//") | {"ce", "rst", "valid_in", "valid_out"}
     ports = [port.name for port in facts.ports]
     inner = names_for(ports, taken), words_for(ports, taken)
     sides, words = inner
     sets = [f"      {sides[port.name]} = {words[port.name]};" for port in facts.inputs]
-    sets += ["      valid_in = cycle % 4 != 3;"] if has_valid else []
+    sent = "1'b1" if sort.is_gated else "cycle % 4 != 3"
+    sets += [f"      valid_in = {sent};"] if has_valid else []
     inverted = "\n".join(f"        {sides[port.name]} = ~{words[port.name]};" for port in facts.inputs)
     formats = (" ".join(["%h"] * len(side)) for side in (facts.inputs, facts.outputs))
     return BENCH.format(
         name=facts.name,
         latency=facts.latency,
         half=max(facts.period // 2, 1),
-        signals="\n".join(f"  {line}" for line in signals_of(facts, has_enable, has_valid, *inner)),
-        actuals=actuals(names_of(facts, has_enable, has_valid), sides),
+        signals="\n".join(f"  {line}" for line in signals_of(facts, sort, *inner)),
+        actuals=actuals(names_of(facts, sort.has_ce, has_valid), sides),
         format=" : ".join(formats),
         words=", ".join(words[port] for port in ports),
         count=len(facts.ports),
         sets="\n".join(sets),
-        compares="\n".join(compares_of(facts, has_valid, *inner)),
-        pauses=PAUSES.format(inverted=inverted) if has_enable else "",
+        compares="\n".join(compares_of(facts, sort, *inner)),
+        pauses=pauses_text(sort, inverted),
         reset=RESET.format(latency=facts.latency) if has_valid and facts.latency else "",
     )

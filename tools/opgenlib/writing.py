@@ -1,19 +1,20 @@
 """Writes specifications in TOML."""
+from __future__ import annotations
+
 import json
 from typing import Any
 
 
 def written(value: Any) -> str:
     """A value in TOML."""
-    match value:
-        case bool():
-            return str(value).lower()
-        case str():
-            return json.dumps(value, ensure_ascii=False)
-        case list():
-            return "[" + ", ".join(map(written, value)) + "]"
-        case dict():
-            return "{" + ", ".join(f"{key} = {written(one)}" for key, one in value.items()) + "}"
+    if isinstance(value, bool):
+        return str(value).lower()
+    if isinstance(value, str):
+        return json.dumps(value, ensure_ascii=False)
+    if isinstance(value, list):
+        return "[" + ", ".join(map(written, value)) + "]"
+    if isinstance(value, dict):
+        return "{" + ", ".join(f"{key} = {written(one)}" for key, one in value.items()) + "}"
     return str(value)
 
 

@@ -1,9 +1,12 @@
 """What Yosys makes of a text of Verilog."""
+import os
 import re
 import shutil
 import subprocess
 import tempfile
 from pathlib import Path
+
+from .running import process
 
 MOST_SECONDS = 1200
 # To tables of six inputs without carry chains; and to the cells of a Xilinx series 7 device, carry chains and no DSP blocks.
@@ -28,7 +31,7 @@ def ran(verilog: str, script: str, folder: Path) -> None:
     (folder / "design.v").write_text(verilog)
     words = ["yosys", "-q", "-p", f"read_verilog design.v; {script}"]
     try:
-        done = subprocess.run(words, cwd=folder, capture_output=True, text=True, errors="replace", timeout=MOST_SECONDS)
+        done = process(words, MOST_SECONDS, cwd=folder, env=os.environ | {"TMPDIR": str(folder)})
     except subprocess.TimeoutExpired:
         raise NotMapped(f"Yosys takes over {MOST_SECONDS} seconds") from None
     if done.returncode:

@@ -46,6 +46,13 @@ lsb_b = -1
 out_lsb = 0
 """
 SCALE3 = SCALE.replace("version = 1", "version = 3")
+# What is said of a version that is not open.
+NO_VERSION_4 = (
+    "first.toml:1:11: version is 4; expected 1, 2 or 3",
+    "  1: inputs to 32 bits, signals to 64; 2: inputs to 48 bits, signals to 96, and the kinds constdiv, poly and tfir; "
+    "3: signed quotients, outputs of a chosen width, lowest bits to 64 places off, constants and taps of 20 bits without extra, "
+    "and the kind sop",
+)
 ROOT = """\
 version = 2
 name = "first"
@@ -219,7 +226,7 @@ SPECIFICATIONS = [
               "first.toml:6:10: no TOML: 9223372036854775808 has more than 64 bits"),
     generated("no UTF-8", SCALE.encode() + b"# \xff\n", "NotToml", "first.toml:12:3: no TOML: byte 0xff is no UTF-8"),
     generated("a misspelt key", SCALE.replace("width", "widht"), "UnknownKey 0 10",
-              f'first.toml:8:1: unknown key "widht" of kind scale; its keys are {KEYS}'),
+              f'first.toml:8:1: unknown key "widht" of kind scale; did you mean width? its keys are {KEYS}'),
     generated("a key of another kind", DIVIDE + "signed = false\n", "UnknownKey 0 7",
               'first.toml:12:1: unknown key "signed" of kind divide; its keys are '
               "version, name, kind, exact, target, period, width_a, lsb_a, width_b, lsb_b, out_lsb, delay",
@@ -250,17 +257,18 @@ SPECIFICATIONS = [
               'first.toml:19:1: unknown key "width" of delay line 2; its keys are class, base, per_bit'),
     generated("a key is missing", SCALE.replace("width = 4\n", ""), "MissingKey width",
               'first.toml: the key "width" of kind scale is missing',
-              "  add a line as: width = 10               # bits of x: 1 to 48, from 2 where signed"),
+              "  add a line as: width = 10               # bits of x; 1 to 48; 2 or more where signed"),
     generated("a key of a delay line is missing", DELAYS[:-len("per_bit = 1\n")], "MissingKey per_bit 2",
               'first.toml:17:1: delay line 2 has no key "per_bit"',
               "  add it as: per_bit = 0              # 0 to 10000"),
     generated("a float", SCALE.replace("10000", "2.5e3"), "WrongType period",
-              "first.toml:6:10: period is 2.5e3, a float; expected a whole number, 1 to 1000000, as 2500"),
+              "first.toml:6:10: period is 2.5e3, a float; expected a whole number of picoseconds, 1 to 1000000, as 2500"),
     generated("a text for a number", SCALE.replace("lsb = 0\nout", 'lsb = "0"\nout'), "WrongType lsb",
               'first.toml:9:7: lsb is "0", a text; expected a whole number, -32 to 32, as 0'),
     generated("a float among the coefficients", FIR.replace("[3]", "[3, 4.0]"), "WrongType coefficients",
               "first.toml:11:20: element 2 of coefficients is 4.0, a float; expected an array of whole numbers, "
-              '-1073741824 to 1073741824 or of decimal texts, as "0.25"'),
+              '-1073741824 to 1073741824 or of decimal texts, as "0.25"',
+              "  tools/rows coefficients FILE.csv writes real numbers as whole ones"),
     generated("a decimal text of twelve digits", FIR.replace("[3]", '["3.14159265358"]').replace("true", "false"), "WrongType coefficients",
               'first.toml:11:17: element 1 of coefficients is "3.14159265358", a text; expected an array of whole numbers, '
               '-1073741824 to 1073741824 or of decimal texts, as "0.25"',
@@ -298,11 +306,9 @@ SPECIFICATIONS = [
               "  take the denominator out, or write the coefficients as whole numbers"),
     generated("a text in a delay line", DELAYS.replace("base = 1\nper_bit = 1\n\n", 'base = "1"\nper_bit = 1\n\n'),
               "WrongType base 1",
-              'first.toml:14:8: base of delay line 1 is "1", a text; expected a whole number, 0 to 1000000, as 1'),
-    generated("version 4", SCALE.replace("version = 1", "version = 4"), "BadVersion 4",
-              "first.toml:1:11: version is 4; expected 1, 2 or 3",
-              "  1: inputs to 32 bits, signals to 64; 2: inputs to 48 bits, signals to 96, and further kinds; "
-              "3: signed quotients, outputs of a chosen width, constants and taps of 20 bits, sums of products"),
+              'first.toml:14:8: base of delay line 1 is "1", a text; expected a whole number of picoseconds, 0 to 1000000, as 1'),
+    generated("version 4", SCALE.replace("version = 1", "version = 4"), "BadVersion 4", *NO_VERSION_4),
+    generated("a clash of keys of version 4", SCALE.replace("version = 1", "version = 4") + 'rounding = "down"\n', "WrongType rounding", *NO_VERSION_4),
     generated("a capital in the name", SCALE.replace('"first"', '"First"'), "BadName",
               'first.toml:2:8: name is "First": it has a capital letter',
               "  expected 1 to 32 of small letters, digits and single _, a letter first, and no word of VHDL or port"),
@@ -310,11 +316,11 @@ SPECIFICATIONS = [
               'first.toml:2:8: name is "signal": a word of VHDL, or a name of a port of some operator',
               "  expected 1 to 32 of small letters, digits and single _, a letter first, and no word of VHDL or port"),
     generated("no kind", SCALE.replace('"scale"', '"Scale"'), "BadKind",
-              f'first.toml:3:8: kind is "Scale"; expected one of {KINDS}'),
+              f'first.toml:3:8: kind is "Scale"; did you mean scale? expected one of {KINDS}'),
     generated("a kind of version 2", CONSTDIV.replace("version = 2", "version = 1"), "BadKind",
               f'first.toml:3:8: kind is "constdiv"; expected one of {KINDS}', "  kind constdiv asks for version = 2"),
     generated("a large divisor", CONSTDIV.replace("= 3", "= 33"), "OutOfRange divisor 33",
-              "first.toml:9:11: divisor is 33; expected 2 to 32"),
+              "first.toml:9:11: divisor is 33; expected 2 to 32", "  divide by 3, then q by 11: the last q is that of 33"),
     generated("a divisor of a filter", FIR + "divisor = 3\n", "UnknownKey 0 1",
               f'first.toml:12:1: unknown key "divisor" of kind fir; its keys are {KEYS}',
               "  divisor is a key of constdiv: take it out, or change kind"),
@@ -339,8 +345,8 @@ SPECIFICATIONS = [
               f"  write version = 3 and take extra out: {MORE_TAPS}"),
     generated("no extra in version 2", TFIR.replace("extra = 0\n", ""), "MissingKey extra",
               'first.toml: the key "extra" of kind tfir is missing',
-              "  add a line as: extra = 2                # how many further numbers the search may add for fewer adders, 0 to 2; "
-              "in version 3 optional: a fixed rule in place of the search",
+              "  add a line as: extra = 2                # how many further numbers the search may add for fewer adders; "
+              "where absent, in version 3, a fixed rule in place of the search; 0 to 2",
               "  or write version = 3, in which it is optional"),
     generated("a wide input", SCALE.replace("width = 4", "width = 33"), "OutOfRange width 33",
               "first.toml:8:9: width is 33; expected 1 to 32", "  version = 2 takes inputs of up to 48 bits"),
@@ -642,7 +648,7 @@ VECTORS = "  opgen vectors SPEC [--seed N] [--cycles N]"
 SIMULATE = "  opgen simulate VHDL VECTORS OUT"
 CHECK = "  opgen check SPEC VHDL VECTORS LATENCY"
 WORDS = [
-    used("no such command", "genrate first.toml", "opgen: there is no command 'genrate'"),
+    used("no such command", "genrate first.toml", "opgen: there is no command 'genrate'; did you mean generate?"),
     used("no file", "generate", "opgen: too few words behind generate: found 0, expected 1, SPEC", GENERATE),
     used("a file too many", "generate first.toml out.vhd",
          "opgen: too many words behind generate: found 2, expected 1, SPEC", GENERATE),
@@ -690,7 +696,7 @@ SUMS = [
     generated("an unknown key of a product", SOP + "sign = 1\n", "UnknownKey 4 2",
               'first.toml:28:1: unknown key "sign" of table 1 of product; its keys are a, b, negative'),
     generated("an unknown key of a delay line", SOP + '[[delay]]\nclass = "add"\nbase = 1\nper_bits = 1\n', "UnknownKey 5 2",
-              'first.toml:31:1: unknown key "per_bits" of delay line 1; its keys are class, base, per_bit'),
+              'first.toml:31:1: unknown key "per_bits" of delay line 1; did you mean per_bit? its keys are class, base, per_bit'),
     generated("a table without a name", SOP.replace('name = "b"\n', ""), "MissingKey name 2",
               'first.toml:15:1: table 2 of input has no key "name"',
               '  add it as: name = "a"               # of the port: lower-case letters, digits, single _'),

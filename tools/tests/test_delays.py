@@ -87,9 +87,15 @@ class Runs(unittest.TestCase):
         self.assertEqual(run("--circuits", self.folder / "new")[0], 0)
         files = sorted((self.folder / "new").glob("*.v"))
         self.assertEqual([path.stem for path in files], sorted(probe.name for probe in TOOL.probes.all_probes()))
-        if shutil.which("iverilog"):
-            for path in files:
-                subprocess.run(["iverilog", "-g2005", "-o", self.folder / "out", path], check=True)
+
+    @unittest.skipUnless(shutil.which("iverilog"), "Icarus Verilog is not installed")
+    def test_circuits_as_verilog(self):
+        """Icarus Verilog takes each circuit."""
+        self.assertEqual(run("--circuits", self.folder / "new")[0], 0)
+        for path in sorted((self.folder / "new").glob("*.v")):
+            with self.subTest(path.name):
+                done = subprocess.run(["iverilog", "-g2005", "-o", self.folder / "out", path], capture_output=True, text=True)
+                self.assertEqual((done.returncode, done.stderr), (0, ""))
 
     def test_kept(self):
         """Periods that a file keeps are not measured again."""

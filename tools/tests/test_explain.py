@@ -10,6 +10,7 @@ from collections.abc import Iterator
 from pathlib import Path
 
 from opgenlib.explain import explain as explain_with
+from opgenlib.explain.limits import SECONDS
 from tests.faulty import CASES, JUDGED_CASES, SCALE, VHDL, Case
 
 TOP = Path(__file__).resolve().parent.parent.parent
@@ -44,7 +45,7 @@ def folder_of(files: dict[str, str | bytes]) -> Iterator[Path]:
 
 def run(words: list[str], program: Path = PROGRAM, **other) -> subprocess.CompletedProcess:
     """What bin/opgen does with these words."""
-    environment = os.environ | {"OPGEN_PROGRAM": str(program)} | other.pop("env", {})
+    environment = os.environ | {"OPGEN_PROGRAM": str(program), SECONDS: "600"} | other.pop("env", {})
     return subprocess.run([OPGEN, *words], capture_output=True, text=True, env=environment, **other)
 
 

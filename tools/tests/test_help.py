@@ -9,6 +9,7 @@ from pathlib import Path
 
 from opgenlib import schema
 from opgenlib.commands import COMMANDS
+from opgenlib.keys import completion
 
 TOP = schema.TOP
 HELP = TOP / "docs/help"
@@ -89,7 +90,7 @@ class Tools(unittest.TestCase):
         listed = run(TOP, "help").stdout.partition("\nTools,")[2].partition("\n\n")[0]
         names = re.findall(r"^  (\S+) +[A-Z]", listed, re.MULTILINE)
         tools = [path for path in (TOP / "tools").iterdir() if path.is_file() and os.access(path, os.X_OK)]
-        hidden = {"explain", "gather-crates", "package", "read-promise"}
+        hidden = set(completion.HIDDEN)
         self.assertEqual(sorted(names), sorted({path.name.removesuffix(".py") for path in tools} - hidden))
         for name in names:
             done = run(TOP, "tool", name, "--help")
@@ -127,10 +128,14 @@ class WithoutABuild(unittest.TestCase):
         last = f"\nTools, as opgen tool NAME ..; each answers --help\n\nExamples, templates and documents are in {self.folder}\n"
         for words in ((), ("help",), ("--help",), ("-h",)):
             self.answers(general + last, *words)
-        for name in [*commands(), "install", "prove"]:
+        self.answers((HELP / "keys.txt").read_text(), "help", "keys")
+        for shell in ("bash", "zsh"):
+            self.answers((TOP / f"docs/completion/opgen.{shell}").read_text(), "complete", shell)
+        for name in [*commands(), "install", "prove", "uninstall"]:
             own = (HELP / f"{name}.txt").read_text().replace("examples/times3", examples)
             for words in ((name, "--help"), ("help", name), (name, "-h"), (name, "first.toml", "--help")):
                 self.answers(own, *words)
+        self.answers((HELP / "complete.txt").read_text(), "complete", "--help")
 
     def test_version(self) -> None:
         version = re.search(r"^## ([\d.]+)", (TOP / "CHANGELOG.md").read_text(), re.MULTILINE)[1]
@@ -139,7 +144,7 @@ class WithoutABuild(unittest.TestCase):
         self.assertRegex(done.stdout, rf"^opgen {re.escape(version)}, not built here, sources [0-9a-f]{{16}}\n$")
 
     def test_too_many_words(self) -> None:
-        for words in (("prove", "it"), ("install", "one", "two"), ("install", "--unproved", "one", "two")):
+        for words in (("prove", "it"), ("install", "one", "two"), ("install", "--unproved", "one", "two"), ("uninstall", "one", "two")):
             done = run(self.folder, *words)
             self.assertEqual((done.returncode, done.stdout), (2, ""))
             self.assertTrue(done.stderr.startswith(f"opgen: too many words behind {words[0]}\n"))

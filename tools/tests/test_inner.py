@@ -3,6 +3,7 @@ import unittest
 
 from opgenlib import inner, wrap_verilog, wrap_vhdl
 from opgenlib.report import Port, Report
+from opgenlib.sorts import Sort
 
 PORTS = tuple(Port(name, name != "y", False, 2, 0) for name in ("a", "a_word", "row", "wire", "circuit", "valid", "y"))
 FACTS = Report("odd", "sop", "exact", "plain", 1000, 1, 0, PORTS, {}, 9)
@@ -26,18 +27,18 @@ class Names(unittest.TestCase):
 
     def test_texts(self) -> None:
         """Each signal of the wrapper and of the bench is declared once."""
-        text = wrap_vhdl.wrap_text(FACTS, False, True, "")
+        text = wrap_vhdl.wrap_text(FACTS, Sort(False, has_valid=True), "")
         self.assertIn("circuit_i : entity work.odd port map (clk => clk, a => a_word_i, a_word => a_word_word,", text)
         self.assertIn("signal valid_i : std_logic_vector(1 to 1)", text)
-        bench = wrap_vhdl.bench_text(FACTS, False, False)
+        bench = wrap_vhdl.bench_text(FACTS, Sort(False))
         self.assertIn("signal row_i : unsigned(1 downto 0)", bench)
         self.assertIn("row => row_i", bench)
         self.assertIn("variable a_word_i : std_logic_vector(1 downto 0);", bench)
-        verilog = wrap_verilog.wrap_text(FACTS, False, False, "")
+        verilog = wrap_verilog.wrap_text(FACTS, Sort(False), "")
         self.assertIn("input wire [1:0] \\wire ,", verilog)
         self.assertIn(".\\wire (\\wire )", verilog)
         self.assertIn("\\odd circuit_i (", verilog)
-        self.assertIn(".\\wire (wire_i)", wrap_verilog.bench_text(FACTS, False, False))
+        self.assertIn(".\\wire (wire_i)", wrap_verilog.bench_text(FACTS, Sort(False)))
 
 
 if __name__ == "__main__":

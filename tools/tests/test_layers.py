@@ -77,13 +77,13 @@ class Heads(unittest.TestCase):
         parts = (crate.purpose, crate.proved, crate.by)
         self.assertEqual(parts, ("What the crate is for, in one sentence.", "That it works. See docs/VHDL.md.", "`works`."))
         self.assertEqual(list(crate.faults(False)), [])
-        self.assertIn("\n\nThat it works. See [VHDL.md](VHDL.md).", TOOL.section(crate))
+        self.assertIn("\n\nThat it works. See [VHDL.md](VHDL.md).", TOOL.section(crate, "Base"))
 
     def test_faults(self) -> None:
         for head, is_test, words in (
             (HEAD.replace("By:", "Of:"), False, "has no paragraph"),
             (HEAD.replace("for,", "for. It is"), False, "not one sentence"),
-            (HEAD.replace("words", "words " * 30), False, "more than 125"),
+            (HEAD.replace("words", "words " * 30), False, "more than 139"),
             ("#![tactic(auto)]\n", True, "does not say"),
         ):
             faults = list(self.crate(head).faults(is_test))
@@ -91,6 +91,22 @@ class Heads(unittest.TestCase):
 
     def test_crate_of_tests(self) -> None:
         self.assertEqual(list(self.crate("//! What it tests.\n").faults(True)), [])
+
+
+class Shortened(unittest.TestCase):
+    def test_sentences(self) -> None:
+        """The first sentence, however long, then whole sentences up to the most words, and two dots where more follow."""
+        first, second, third = "One " * 29 + "two.", "Three four, as `a.b` says.", "`five` six."
+        with unittest.mock.patch.object(TOOL, "MOST_WORDS", 36):
+            self.assertEqual(TOOL.shortened(first), first)
+            self.assertEqual(TOOL.shortened(f"{first} {third}"), f"{first} {third}")
+            self.assertEqual(TOOL.shortened(f"{first} {second} {third}"), f"{first} {second} ..")
+            self.assertEqual(TOOL.shortened("Word " * 40 + "end. More."), "Word " * 40 + "end. ..")
+
+    def test_laws_are_whole(self) -> None:
+        crate = TOOL.Crate("opgen_laws", Path("lib.rt"), "Laws.", "Word " * 50 + "end. More.", "`law`")
+        self.assertIn("end. More.", TOOL.section(crate, "Laws"))
+        self.assertIn("end. ..", TOOL.section(crate, "Top"))
 
 
 if __name__ == "__main__":

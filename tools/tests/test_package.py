@@ -131,6 +131,18 @@ class Installed(unittest.TestCase):
         self.assertFalse((library / "tools/tests").exists())
         self.assertTrue((self.prefix / "share/man/man1/opgen.1").exists())
 
+    def test_module(self) -> None:
+        """The installed module is imported from its folder, and by itself where the user's own packages are under the prefix."""
+        library, base = self.prefix / "lib/opgen", self.folder / "base"
+        text = "import opgen, pathlib; print(opgen.Operator(pathlib.Path(opgen.__file__).parents[2] / 'examples/times3.toml').run([5], raw=True)[0])"
+        done = subprocess.run([sys.executable, "-c", text], capture_output=True, text=True, env=clean() | {"PYTHONPATH": str(library / "python")})
+        self.assertEqual((done.returncode, done.stdout, done.stderr), (0, "15\n", ""))
+        environment = clean() | {"PYTHONUSERBASE": str(base)}
+        words = [self.prefix / "bin/opgen", "install", "--unproved", base]
+        self.assertEqual(subprocess.run(words, capture_output=True, env=environment).returncode, 0)
+        done = subprocess.run([sys.executable, "-c", text], capture_output=True, text=True, env=environment, cwd=self.folder)
+        self.assertEqual((done.returncode, done.stdout, done.stderr), (0, "15\n", ""))
+
     def test_installed_again(self) -> None:
         """An installed program installs itself elsewhere, and over an older one, but over nothing else."""
         other = self.folder / "other place"
@@ -176,6 +188,104 @@ class Installed(unittest.TestCase):
         self.assertTrue((root / "work/first.rpt").read_text().startswith("operator first\nkind scale\n"))
         self.assertEqual(in_root(root, "/usr/bin/opgen", "--version").stdout,
                          (self.prefix / "lib/opgen/VERSION").read_text())
+
+
+class Places(unittest.TestCase):
+    """Where a program is installed, and what is removed: with a stub in place of the program, which is never run."""
+
+    def setUp(self) -> None:
+        place = tempfile.TemporaryDirectory()
+        self.addCleanup(place.cleanup)
+        self.folder = Path(place.name)
+        self.prefix = self.folder / "here"
+        self.program = self.folder / "program"
+        self.program.write_text("#!/bin/sh\nexit 9\n")
+        self.program.chmod(0o755)
+
+    def opgen(self, *words: object, top: Path = TOP, **other: str) -> tuple[int, str, str]:
+        """The status, the output and the first line on standard error."""
+        environment = clean() | {"OPGEN_PROGRAM": str(self.program), "HOME": str(self.folder / "home")} | other
+        done = subprocess.run([top / "bin/opgen", *map(str, words)], cwd=self.folder, capture_output=True, text=True, stdin=subprocess.DEVNULL,
+                              env={name: value for name, value in environment.items() if value is not None})
+        return done.returncode, done.stdout, (done.stderr.splitlines() or [""])[0]
+
+    def installed(self) -> None:
+        self.assertEqual(self.opgen("install", "--unproved", self.prefix)[::2], (0, ""))
+
+    def test_wrong_words(self) -> None:
+        """They are refused at once, with nothing proved or built."""
+        for words, said in ((["-x"], "opgen: install has no option -x; a folder of this name is ./-x"),
+                            (["--unproved", "-x"], "opgen: install has no option -x; a folder of this name is ./-x"),
+                            ([""], "opgen: the folder behind install has no name")):
+            self.assertEqual(self.opgen("install", *words, PATH="/usr/bin:/bin"), (2, "", said))
+        for home in (None, ""):
+            self.assertEqual(self.opgen("install", HOME=home), (2, "", "opgen: HOME is not set: name the folder, as opgen install /usr/local"))
+        self.assertEqual(self.opgen("uninstall", "-x")[0], 2)
+        self.assertEqual(sorted(path.name for path in self.folder.iterdir()), ["program"])
+
+    def test_a_foreign_command(self) -> None:
+        (self.prefix / "bin").mkdir(parents=True)
+        foreign = self.prefix / "bin/opgen"
+        foreign.write_text("another")
+        said = f"opgen: {foreign} is there, and is not of an installation of opgen: remove it, or name another folder"
+        self.assertEqual(self.opgen("install", "--unproved", self.prefix), (4, "", said))
+        self.assertEqual(sorted(path.name for path in self.prefix.rglob("*")), ["bin", "opgen"])
+        foreign.unlink()
+        self.installed()
+        foreign.unlink()
+        foreign.symlink_to("/bin/true")
+        self.assertEqual(self.opgen("uninstall", self.prefix)[0], 0)
+        self.assertEqual(os.readlink(foreign), "/bin/true")
+
+    def test_asked(self) -> None:
+        """On a terminal the answer counts."""
+        script = shutil.which("script")
+        if not script:
+            self.skipTest("there is no command script, which makes a terminal")
+        for answer, status, is_link in (("n", 4, False), ("y", 0, True)):
+            foreign = self.prefix / "bin/opgen"
+            foreign.parent.mkdir(parents=True, exist_ok=True)
+            foreign.write_text("another")
+            command = f"OPGEN_PROGRAM={self.program} {TOP}/bin/opgen install --unproved {self.prefix}"
+            done = subprocess.run([script, "-qec", command, "/dev/null"], input=f"{answer}\n", capture_output=True, text=True)
+            self.assertEqual((done.returncode, foreign.is_symlink()), (status, is_link), done.stdout)
+
+    def test_leftovers(self) -> None:
+        ended = subprocess.Popen(["true"])
+        ended.wait()
+        library = self.prefix / "lib"
+        for name in (f"opgen.new.{ended.pid}", f"opgen.old.{ended.pid}", f"opgen.new.{os.getpid()}", "opgen.new.kept"):
+            (library / name / "bin").mkdir(parents=True)
+        self.installed()
+        self.assertEqual(sorted(path.name for path in library.iterdir()), sorted(["opgen", "opgen.new.kept", f"opgen.new.{os.getpid()}"]))
+
+    def test_module(self) -> None:
+        """The name of the module in a user's packages goes with its installation, and no other name does."""
+        status = self.opgen("install", "--unproved", self.prefix, PYTHONUSERBASE=str(self.prefix))[0]
+        named = list(self.prefix.glob("lib/python*/site-packages/opgen.pth"))
+        self.assertEqual((status, [path.read_text() for path in named]), (0, [f"{self.prefix}/lib/opgen/python\n"]))
+        other = self.prefix / "lib/python3.0/site-packages/opgen.pth"
+        other.parent.mkdir(parents=True)
+        other.write_text("/elsewhere/python\n")
+        self.assertEqual(self.opgen("uninstall", self.prefix)[0], 0)
+        self.assertEqual((named[0].exists(), other.exists()), (False, True))
+
+    def test_uninstall(self) -> None:
+        self.installed()
+        (self.prefix / "bin/other").write_text("another")
+        status, said, _ = self.opgen("uninstall", top=self.prefix / "lib/opgen")
+        self.assertEqual(status, 0)
+        self.assertRegex(said, rf"^removed opgen .* from {re.escape(str(self.prefix))}\n$")
+        self.assertEqual([path.name for path in self.prefix.rglob("*") if not path.is_dir()], ["other"])
+        self.assertEqual(self.opgen("uninstall", self.prefix), (4, "", f"opgen: there is no installation of opgen in {self.prefix}"))
+        (self.prefix / "lib/opgen").mkdir()
+        self.assertEqual(self.opgen("uninstall", self.prefix)[0], 4)
+
+    def test_home(self) -> None:
+        self.assertEqual(self.opgen("install", "--unproved")[0], 0)
+        self.assertTrue((self.folder / "home/.local/lib/opgen/VERSION").is_file())
+        self.assertEqual(self.opgen("uninstall")[0], 0)
+        self.assertFalse((self.folder / "home/.local/lib/opgen").exists())
 
 
 if __name__ == "__main__":

@@ -1,15 +1,17 @@
 """Pictures of long runs, of many stages and of many cells; graphs as DOT; refusals."""
+import math
 import re
 import shutil
 import tempfile
 import unittest
+from fractions import Fraction
 from pathlib import Path
 
 from tests import loading
 from tests.loading import EXAMPLES
 
 from opgenlib import vhdl
-from opgenlib.drawings import adders, error, graph, parts, schedule
+from opgenlib.drawings import adders, error, graph, parts, response, schedule
 from opgenlib.drawings.example import Example
 
 TOOL = loading.tool_of("pictures")
@@ -164,17 +166,60 @@ class Pictures(unittest.TestCase):
         for words in ("test of the range", "least or greatest", "saturate", "last sum, of all columns"):
             self.assertIn(f">{words}<", out)
 
+    def test_digits_in_one_row(self):
+        """Digits that do the same are one row, with a bar for each; those that are missing are left out of its words."""
+        slots = [schedule.Slot(at, 0, 1, ("add", 8)) for at in range(5)]
+        words = ["digit 4: subtract", "digit 3: subtract", "digit 3: sign", "negate q", "digit 0: subtract"]
+        found = schedule.merged([schedule.Bar(*one) for one in zip(words, slots)])
+        self.assertEqual([(bar.words, [slot.cycle for slot in bar.slots]) for bar in found],
+                         [("digit 4..3, 0: subtract", [0, 1, 4]), ("digit 3: sign", [2]), ("negate q", [3])])
+
+    def test_error_texts(self):
+        """Three places, or as many as tell an error from one unit."""
+        for value, text in ((Fraction(1, 2), "0.500"), (Fraction(99998, 100000), "0.99998"), (Fraction(-9999996, 10**7), "-0.9999996"),
+                            (Fraction(0), "0.000"), (Fraction(-2, 3), "-0.667")):
+            self.assertEqual(error.ulp_text(value), text)
+
+    def test_response(self):
+        """The mean of two samples lets frequency 0 through, and of half the sample rate nothing; between, half the power at a quarter."""
+        half = [Fraction(1, 2)] * 2
+        self.assertAlmostEqual(response.gain_at(half, 0.0), 0.0)
+        self.assertAlmostEqual(response.gain_at(half, 0.25), 10 * math.log10(0.5))
+        self.assertEqual(response.gain_at(half, 0.5), -math.inf)
+        spec = {"kind": "fir", "coefficients": [1, 1], "denominator": 2}
+        self.assertIn("at frequency 0 0.00, at half the sample rate nothing, at most 0.00", response.response(spec).text_of())
+
+    def test_wrong_files(self):
+        """A negative latency and rows of another operator get one line with the file's name."""
+        for old, new, words in (("latency 1", "latency -1", "lowpass.rpt is no report: line 6: latency is -1, below 0"),
+                                ("signed 12 -11", "signed 0 -11", "a width is 0; expected 1 to 1024")):
+            with tempfile.TemporaryDirectory() as folder:
+                for ending in ("toml", "rpt", "out"):
+                    shutil.copy(EXAMPLES / f"lowpass.{ending}", folder)
+                report = Path(folder) / "lowpass.rpt"
+                report.write_text(report.read_text().replace(old, new, 1))
+                status, out, said = loading.run(TOOL, "error", Path(folder) / "lowpass.toml")
+            self.assertEqual((status, out, said.count("\n")), (1, "", 1))
+            self.assertIn(words, said)
+        with tempfile.TemporaryDirectory() as folder:
+            for ending in ("toml", "rpt"):
+                shutil.copy(EXAMPLES / f"lowpass.{ending}", folder)
+            shutil.copy(EXAMPLES / "duty.out", Path(folder) / "lowpass.out")
+            status, out, said = loading.run(TOOL, "error", Path(folder) / "lowpass.toml")
+        self.assertEqual((status, out), (1, ""))
+        self.assertRegex(said, r"\Apictures: .*/lowpass\.out, line 1: .*: these are no rows of lowpass\.toml\n\Z")
+
     def test_signs(self):
         """The cells that take the signs off, and put them to the results, are named beside the digits."""
         out = run("schedule", EXAMPLES / "share.toml")[1]
-        for words in ("absolute value of a", "absolute value of b", "digit 11: subtract", "digit 0: select", "whether q is below 0",
+        for words in ("absolute value of a", "absolute value of b", "digit 11..0: subtract", "digit 11..0: select", "whether q is below 0",
                       "negate q", "sign of q", "negate r", "sign of r"):
             self.assertIn(f">{words}<", out)
 
     def test_stacked(self):
         """The panels of a long schedule lie below each other, and each bar says what it is."""
         out = run("schedule", EXAMPLES / "magnitude.toml")[1]
-        for words in ("digit 7: subtract", "digit 0: select", "cycle 2", "setup time, 80 ps"):
+        for words in ("digit 7..0: subtract", "digit 7..0: select", "cycle 2", "setup time, 80 ps"):
             self.assertIn(f">{words}</text>", out)
         drawing = schedule.Schedule(Example(EXAMPLES / "duty.toml"))
         one, three = drawing.picture(drawing.panels), drawing.picture(drawing.panels * 3)

@@ -21,7 +21,7 @@ sys.argv = sys.argv[1:]
 exec(compile(open(sys.argv[0]).read(), sys.argv[0], "exec"))
 """
 # Tools that are not for designers.
-OTHERS = {"explain", "gather-crates", "read-promise"}
+OTHERS = {"explain", "gather-counts", "gather-crates", "gather-keys", "gather-lemmas", "read-promise"}
 
 
 def installed_pythons() -> list[str]:

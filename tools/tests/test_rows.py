@@ -246,6 +246,20 @@ class AsCheck(unittest.TestCase):
 
 
 class Coefficients(unittest.TestCase):
+    def test_large_numbers(self):
+        """Numbers of many digits and a bound below 1 get an answer."""
+        for text in ("1" * 5000, "0." + "1" * 5000, "1/" + "1" * 5000):
+            status, out, said = run("coefficients", text=text + "\n")
+            self.assertEqual((status, out), (1, ""))
+            self.assertIn(f"has {len(text)} letters; a number has at most 100", said)
+        self.assertEqual(run("coefficients", text="1e999\n"), (1, "", "rows: 1e999 or more is above 1073741824\n"))
+        status, _, said = run("encode", EXAMPLES / "times3.rpt", text="x\n-1e400\n")
+        self.assertEqual((status, said), (1, "rows: line 2: -1e400 or more for x is not between 0 and 15\n"))
+        for most in ("-5", "0", "x", str(2**31)):
+            status, _, said = run("coefficients", "--most", most, text="0.5\n")
+            self.assertEqual(status, 2)
+            self.assertIn(f"{most} is no whole number of 1 to 1073741824", said)
+
     def test_power(self):
         status, out, said = run("coefficients", "--power", "10", text="0.1, 0.25\n1/3\n")
         self.assertEqual((status, out), (0, "coefficients = [102, 256, 341]\ndenominator = 1024\n"))

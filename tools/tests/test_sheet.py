@@ -20,7 +20,7 @@ EACH_KIND = {
     "lowpass": "0.99951171875",
     "volume": "less than 1 ulp from the exact value; an ulp is 2^-8",
     "duty": "q = a / b, rounded down, and r = a - q b; b must not be 0",
-    "magnitude": "digit 7: subtract",
+    "magnitude": "digit 7..0: subtract",
     "transform": "y1 = 83 x",
     "weeks": "q = x / 7, rounded down, and r = x - 7 q",
     "sine": "the polynomial (not of the function that it approximates)",
@@ -87,6 +87,27 @@ class Sheets(unittest.TestCase):
         self.assertRegex(text, r"from (0\.000|-0\.333|-0\.667) to (0\.000|0\.333|0\.667) ulp, over all 16 inputs")
         self.assertIn("every output is equal, over all 16 inputs", self.sheet(EXAMPLES / "times3.toml"))
         self.assertIn("over 4096 inputs, at the ends of ranges and drawn", self.sheet(EXAMPLES / "magnitude.toml"))
+
+    def test_saturation(self) -> None:
+        """Three times 0 to 15 in four bits: from 6 on it is above 15. In a sixth of it nothing is."""
+        path = self.folder / "first.toml"
+        text = (EXAMPLES / "times3.toml").read_text().replace("version = 1", "version = 3") + "out_width = 4\nout_signed = false\n"
+        path.write_text(text)
+        self.assertIn("0 ulp, over all 16 inputs; 10 of these rows saturate and are not counted", self.sheet(path))
+        path.write_text(text.replace("[3]", "[1]\ndenominator = 6").replace("exact = true", "exact = false"))
+        self.assertNotIn("saturate", self.sheet(path).partition("Accuracy")[2].partition("Structure")[0].replace("the saturated value", ""))
+
+    def test_filters(self) -> None:
+        """A filter has its response and its coefficients before its timing, and no other operator has."""
+        for name, coefficient in (("lowpass", "c0 = "), ("halfband", "c14 = -9<")):
+            text = self.sheet(EXAMPLES / f"{name}.toml")
+            self.assertIn(coefficient, text.partition("Frequency response and coefficients")[2].partition("<h2>Timing")[0])
+        self.assertNotIn("Frequency response", self.sheet(EXAMPLES / "times3.toml"))
+
+    def test_files_that_are_there(self) -> None:
+        """No caption names a file of the folder in which the sheet was made."""
+        for name in ("lowpass", "weeks", "third"):
+            self.assertNotRegex(self.sheet(EXAMPLES / f"{name}.toml"), rf"{name}\.(in|out)\b")
 
     def test_enable(self) -> None:
         text = self.sheet(EXAMPLES / "held.toml", "--enable")

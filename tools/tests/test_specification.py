@@ -11,7 +11,8 @@ from typing import Any
 from opgenlib import schema
 from opgenlib.explain.specification import FAULTS, Explainer
 from opgenlib.places import Place
-from opgenlib.specification import SHIFTS, NotToml, parse, shift_of
+from opgenlib.keys import table
+from opgenlib.specification import NotToml, parse, shift_of
 
 
 def leaves(value: Any, path: tuple = ()) -> Iterator[tuple[tuple, Any]]:
@@ -30,9 +31,9 @@ class Places(unittest.TestCase):
             with self.subTest(path.name):
                 found = parse(path.read_bytes())
                 wanted = dict(leaves(tomllib.loads(path.read_text())))
-                self.assertEqual(set(found.spots), set(wanted))
+                self.assertEqual(set(found.offsets), set(wanted))
                 for at, value in wanted.items():
-                    written = found.spots[at].written
+                    written = found.spot(*at).written
                     if not written.startswith("[["):
                         self.assertEqual(tomllib.loads(f"v = {written}")["v"], value)
 
@@ -90,7 +91,8 @@ class Places(unittest.TestCase):
                           text, re.MULTILINE)
         found = {kind: (formula, {1: (int(low), int(high))} | dict.fromkeys((2, 3), (int(low), int(newer or high))))
                  for kind, formula, low, high, newer in rows}
-        self.assertEqual(found, SHIFTS)
+        kinds = [kind for kind in table.read().kinds.values() if "shift" in kind.row]
+        self.assertEqual(found, {kind.name: (kind.row["shift"], {one: kind.shift_ends(one) for one in (1, 2, 3)}) for kind in kinds})
 
 
 class Schema(unittest.TestCase):

@@ -12,6 +12,9 @@ from unittest import mock
 from tests import loading
 from tests.loading import EXAMPLES
 
+from opgenlib import wrap_stream
+from opgenlib.report import Port
+
 TOOL = loading.tool_of("wrap")
 
 
@@ -47,6 +50,17 @@ class Wrappers(Folder):
         self.assertIn("-- duty: q = a / b, rounded down, and r = a - q b", text)
         self.assertIn("--     width_b = 8\n", text)
         self.assertNotIn("    ce :", text)
+
+    def test_specification(self):
+        """A specification of another name than its operator's, with the files beside it or in the current folder."""
+        self.copy("duty")
+        (self.folder / "specs").mkdir()
+        (self.folder / "duty.toml").rename(self.folder / "specs/mine.toml")
+        self.assertEqual(self.run_tool("specs/mine.toml"), (0, "wrote duty_wrap.vhd\n"))
+        for ending in ("vhd", "rpt"):
+            (self.folder / f"duty.{ending}").rename(self.folder / f"specs/duty.{ending}")
+        self.assertEqual(self.run_tool("specs/mine.toml"), (0, "wrote duty_wrap.vhd\n"))
+        self.assertEqual(self.run_tool(EXAMPLES / "duty.toml"), (0, "wrote duty_wrap.vhd\n"))
 
     def test_enable(self):
         self.run_tool("--bench", EXAMPLES / "held")
@@ -103,6 +117,46 @@ class Wrappers(Folder):
         self.run_tool("--valid", "--verilog", EXAMPLES / "duty")
         self.assertIn("reg [1:0] valid = 2'd0;", (self.folder / "duty_wrap.v").read_text())
 
+    def test_valid_of_a_filter(self):
+        """Its delays take gaps too, so it is refused without an enable, which the valid bit drives."""
+        status, said = self.run_tool("--valid", EXAMPLES / "lowpass")
+        self.assertEqual((status, list(self.folder.iterdir())), (1, []))
+        self.assertIn(f"for --valid make one with an enable: opgen generate --enable {EXAMPLES / 'lowpass.toml'}", said)
+        self.copy("lowpass")
+        for old, new in (("    x : in std_logic_vector", "    ce : in std_logic_vector(0 downto 0);\n    x : in std_logic_vector"),
+                         ("if rising_edge(clk) then", 'if rising_edge(clk) then if ce = "1" then')):
+            self.change("lowpass.vhd", old, new)
+        self.change("lowpass.vhd", "    end if;\n  end process", "    end if; end if;\n  end process")
+        self.assertEqual(self.run_tool("--valid", "--bench", "lowpass")[0], 0)
+        text = (self.folder / "lowpass_wrap.vhd").read_text()
+        self.assertNotIn("ce : in std_logic;", text)
+        self.assertIn("  ce_word(0) <= valid_in;\n", text)
+        self.assertIn("  valid_out <= valid_in and valid(1);\n", text)
+        self.assertEqual(self.run_tool("--valid", "--verilog", "lowpass")[0], 0)
+        text = (self.folder / "lowpass_wrap.v").read_text()
+        self.assertIn(".ce(valid_in)", text)
+        self.assertIn("  assign valid_out = valid_in & valid[0];\n", text)
+
+    def test_stream(self):
+        """The places of ports in the words of a stream, worked out by hand, and what is refused."""
+        fields = wrap_stream.fields_of([Port("a", True, False, 12, 0), Port("b", True, True, 8, 0), Port("c", True, True, 17, 0)])
+        self.assertEqual([(field.low, field.high, field.end) for field in fields], [(0, 11, 15), (16, 23, 23), (24, 40, 47)])
+        status, said = self.run_tool("--stream", EXAMPLES / "duty")
+        self.assertEqual((status, list(self.folder.iterdir())), (1, []))
+        self.assertIn(f"has no clock enable, by which a stream stalls; make one: opgen generate --enable {EXAMPLES / 'duty.toml'}", said)
+        self.assertEqual(self.run_tool("--stream", "--valid", EXAMPLES / "held")[0], 2)
+        self.assertEqual(self.run_tool("--stream", "--core", EXAMPLES / "held"),
+                         (0, "wrote held_stream.vhd, held_stream_bench.vhd and held.core\n"))
+        core = (self.folder / "held.core").read_text()
+        for line in ("      - held_stream.vhd\n", "    toplevel: held_stream\n", "    toplevel: held_stream_bench\n"):
+            self.assertIn(line, core)
+        text = (self.folder / "held_stream.vhd").read_text()
+        for name in ("s_axis_tvalid", "s_axis_tready", "s_axis_tdata", "s_axis_tlast", "m_axis_tvalid", "m_axis_tready", "m_axis_tdata",
+                     "m_axis_tlast"):
+            self.assertEqual(text.count(f"    {name} : "), 1)
+        self.assertEqual(self.run_tool("--stream", "--verilog", "--bench", EXAMPLES / "held"),
+                         (0, "wrote held.v, held_stream.v and held_stream_bench.v\n"))
+
     def test_core(self):
         self.run_tool("--core", "--bench", EXAMPLES / "duty")
         text = (self.folder / "duty.core").read_text()
@@ -113,7 +167,8 @@ class Wrappers(Folder):
             self.run_tool("--core", *extra, EXAMPLES / "duty")
             text = (self.folder / "duty.core").read_text()
             self.assertIn("      - duty_pkg.vh: {is_include_file: true}\n    file_type: verilogSource\n", text)
-            self.assertEqual(f"default_tool: {tool}" in text, "--bench" in extra)
+            self.assertIn(f"default_tool: {tool}", text)
+            self.assertTrue((self.folder / "duty_bench.v").exists())
 
     def test_refusals(self):
         self.assertEqual(self.run_tool("missing")[0], 1)
@@ -143,12 +198,6 @@ class Handle:
 class Cocotb(Folder):
     """The test for cocotb, which is not installed here: a stand-in with the names that it uses runs it over rows."""
 
-    def test_not_installed(self):
-        with mock.patch("importlib.util.find_spec", return_value=None):
-            status, said = self.run_tool("--cocotb", EXAMPLES / "duty")
-        self.assertEqual((status, said), (0, "wrote duty_wrap.vhd\n"
-                                             "wrap: no test for cocotb is written, as that is not installed\n"))
-
     def ran(self, rows):
         """Runs the test over a circuit that has the outputs of the example's rows."""
         known = [[int(word, 16) for word in line.partition(" : ")[2].split()] for line in rows]
@@ -176,8 +225,7 @@ class Cocotb(Folder):
 
     def test_rows(self):
         shutil.copy(EXAMPLES / "duty.vec", self.folder)
-        with mock.patch("importlib.util.find_spec", return_value=True):
-            self.assertEqual(self.run_tool("--cocotb", EXAMPLES / "duty"), (0, "wrote duty_wrap.vhd and test_duty.py\n"))
+        self.assertEqual(self.run_tool("--cocotb", EXAMPLES / "duty"), (0, "wrote duty_wrap.vhd and test_duty.py\n"))
         rows = (EXAMPLES / "duty.vec").read_text().splitlines()
         self.ran(rows)
         with self.assertRaisesRegex(AssertionError, "row 5: "):

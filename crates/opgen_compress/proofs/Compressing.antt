@@ -78,7 +78,7 @@ module _ (net : Net) (columns : List Column) (width : ℕ) (valid : IsValid net)
   both-later : Later other.net both.net
   both-later =
       later-node other.net sum-node other-later.valid
-      (tt, sum-fits other.net one.place other.place width is_width kept-wide other-wide) refl
+      (refl, sum-fits other.net one.place other.place width is_width kept-wide other-wide) refl
 
   both-added : IsAdded net columns width both
   both-added = record {

@@ -14,10 +14,12 @@ use Rattle.opgen_net.specs.declared.word_bits.WordBit.{WordBit}
 use Rattle.opgen_net.specs.declared.word_bits.WordBit.TheVariants.{Zero, One, Of}
 use Rattle.opgen_design.specs.Tree.{Tree, Trees, none, more, name, part}
 use Rattle.opgen_design.specs.Value.{Scope, value, combined, cut, joined, width, width_on, nesting, in_chain}
+use Rattle.opgen_net.specs.Cells.{IsLogic}
 use Rattle.opgen_net.specs.Flow.{Inputs, flow}
 use Rattle.opgen_design.specs.Run.{AreWords}
 use Rattle.opgen_net.specs.Valid.{widths, input_widths, IsValid, FitsNodes}
 use Rattle.opgen_net.specs.WordRule.{IsThere}
+use Rattle.opgen_net.proofs.CellLaws.{ReadsOne, bit-one, one-logic, three-one, two-one}
 use Rattle.opgen_net.proofs.FlowWidths.{flow-width}
 use Rattle.opgen_net.proofs.WordLaws.{word-fits}
 use Rattle.opgen_compress.specs.Adder.{bit_tree, two, three, half_sum, half_carry, full_sum, full_carry}
@@ -95,6 +97,24 @@ module _ (ws : List ℕ) (a b : WordBit) (h : All (IsThere ws) (a ∷ b ∷ []))
   pub half_carry-fits : FitsNodes ws 1 (half_carry a b ws)
   half_carry-fits = two-fits ws And refl (bit_tree a ws) (bit_tree b ws) (bit-flat ws a first-there) (bit-flat ws b second-there)
 
+  half_sum-one : ReadsOne ws 1 2 (half_sum a b ws)
+  half_sum-one = two-one ws Xor refl 0 1 1 (bit_tree a ws) (bit_tree b ws) (bit-one ws a first-there) (bit-one ws b second-there)
+
+  pub half_carry-one : ReadsOne ws 1 2 (half_carry a b ws)
+  half_carry-one = two-one ws And refl 0 1 1 (bit_tree a ws) (bit_tree b ws) (bit-one ws a first-there) (bit-one ws b second-there)
+
+  pub half_sum-logic : IsLogic ws (half_sum a b ws)
+  half_sum-logic = one-logic ws 1 2 (half_sum a b ws) (omega arith) (omega arith) half_sum-one
+
+  pub half_sum-stands : IsLogic ws (half_sum a b ws) × FitsNodes ws 1 (half_sum a b ws)
+  half_sum-stands = (half_sum-logic, half_sum-fits)
+
+  pub half_carry-logic : IsLogic ws (half_carry a b ws)
+  half_carry-logic = one-logic ws 1 2 (half_carry a b ws) (omega arith) (omega arith) half_carry-one
+
+  pub half_carry-stands : IsLogic ws (half_carry a b ws) × FitsNodes ws 1 (half_carry a b ws)
+  half_carry-stands = (half_carry-logic, half_carry-fits)
+
   half_carry-flat : Flat ws 1 (half_carry a b ws)
   half_carry-flat = two-flat ws And refl (bit_tree a ws) (bit_tree b ws) (bit-flat ws a first-there) (bit-flat ws b second-there)
 
@@ -120,6 +140,24 @@ module _ (ws : List ℕ) (a b c : WordBit) (h : All (IsThere ws) (a ∷ b ∷ c 
       three-fits ws Or refl 1 (omega arith) (half_carry a b ws) (half_carry a c ws) (half_carry b c ws)
       (half_carry-flat ws a b (pair (IsThere ws) a b p q)) (half_carry-flat ws a c (pair (IsThere ws) a c p r))
       (half_carry-flat ws b c (pair (IsThere ws) b c q r))
+
+  pub full_sum-logic : IsLogic ws (full_sum a b c ws)
+  full_sum-logic =
+      one-logic ws 1 3 (full_sum a b c ws) (omega arith) (omega arith)
+      (three-one ws Xor refl 0 1 1 1 (bit_tree a ws) (bit_tree b ws) (bit_tree c ws) (bit-one ws a p) (bit-one ws b q) (bit-one ws c r))
+
+  pub full_carry-logic : IsLogic ws (full_carry a b c ws)
+  full_carry-logic =
+      one-logic ws 2 6 (full_carry a b c ws) (omega arith) (omega arith)
+      (three-one ws Or refl 1 2 2 2 (half_carry a b ws) (half_carry a c ws) (half_carry b c ws)
+      (half_carry-one ws a b (pair (IsThere ws) a b p q)) (half_carry-one ws a c (pair (IsThere ws) a c p r))
+      (half_carry-one ws b c (pair (IsThere ws) b c q r)))
+
+  pub full_sum-stands : IsLogic ws (full_sum a b c ws) × FitsNodes ws 1 (full_sum a b c ws)
+  full_sum-stands = (full_sum-logic, full_sum-fits)
+
+  pub full_carry-stands : IsLogic ws (full_carry a b c ws) × FitsNodes ws 1 (full_carry a b c ws)
+  full_carry-stands = (full_carry-logic, full_carry-fits)
 
 -- values
 

@@ -11,6 +11,7 @@ use Rattle.opgen_net.specs.declared.node.Node.TheVariants.{Cells}
 use Rattle.opgen_net.specs.declared.word_bits.WordBit.{WordBit}
 use Rattle.opgen_design.specs.Tree.{Tree}
 use Rattle.opgen_design.specs.Value.{value}
+use Rattle.opgen_net.specs.Cells.{IsLogic}
 use Rattle.opgen_net.specs.Flow.{Inputs}
 use Rattle.opgen_design.specs.Run.{AreWords}
 use Rattle.opgen_net.specs.Valid.{widths, input_widths, IsValid, FitsNodes}
@@ -23,7 +24,7 @@ use Rattle.opgen_net.proofs.Later.{Later, later-same, later-then, later-node, wo
 use Rattle.opgen_heap.proofs.Kept.{ones-kept, bit-kept}
 use Rattle.opgen_net.proofs.Grown.{grown-there, grown-all_there}
 use Rattle.opgen_compress.proofs.Firsts.{first_of, rest_of}
-use Rattle.opgen_compress.proofs.Operands.{scope_at, half_sum-fits, half_carry-fits, full_sum-fits, full_carry-fits, half_sum-value, half_carry-value, full_sum-value, full_carry-value, digits-two, digits-three}
+use Rattle.opgen_compress.proofs.Operands.{scope_at, half_sum-stands, half_carry-stands, full_sum-stands, full_carry-stands, half_sum-value, half_carry-value, full_sum-value, full_carry-value, digits-two, digits-three}
 
 -- the number of a column in work: its bits, and its carries at twice the weight
 abbrev pub work_sum : Work → Inputs → ℤ → ℕ
@@ -52,9 +53,13 @@ reduced-then top w v u a b = record {
 
 -- a node of one bit more
 
-logic-later : (net : Net) (e : List ℕ → Tree) → IsValid net → FitsNodes (widths net.nodes) 1 (e (widths net.nodes))
+-- an expression that may stand in a node of logic of one bit
+abbrev MayBeLogic : List ℕ → Tree → Type 0
+MayBeLogic ws e = IsLogic ws e × FitsNodes ws 1 e
+
+logic-later : (net : Net) (e : List ℕ → Tree) → IsValid net → MayBeLogic (widths net.nodes) (e (widths net.nodes))
     → Later net (with_logic net e)
-logic-later net e v fits = later-node net (Cells Logic 1 (e (widths net.nodes))) v (tt, fits) refl
+logic-later net e v stands = later-node net (Cells Logic 1 (e (widths net.nodes))) v stands refl
 
 next-there : (net : Net) (e : List ℕ → Tree) → IsThere (widths (with_logic net e).nodes) (next_bit net)
 next-there net e = omega (arith, width-append_last net.nodes (Cells Logic 1 (e (widths net.nodes))))
@@ -91,7 +96,7 @@ pub full-still_there : (net one : Net) (column : List WordBit) (a b c : WordBit)
 full-still_there net one column a b c rest v h e is =
     let P = IsThere (widths net.nodes) in
     let front = front-three P a b c rest (subst (All P) e h) in
-    let later = logic-later net (full_sum a b c) v (full_sum-fits (widths net.nodes) a b c front) in
+    let later = logic-later net (full_sum a b c) v (full_sum-stands (widths net.nodes) a b c front) in
     subst (λ (n : Net). All (IsThere (widths n.nodes)) (a ∷ b ∷ c ∷ [])) (sym is)
     (grown-all_there net (with_logic net (full_sum a b c)) later.grown (a ∷ b ∷ c ∷ []) front)
 
@@ -101,14 +106,14 @@ pub half-still_there : (net one : Net) (column : List WordBit) (a b : WordBit) (
 half-still_there net one column a b rest v h e is =
     let P = IsThere (widths net.nodes) in
     let front = front-two P a b rest (subst (All P) e h) in
-    let later = logic-later net (half_sum a b) v (half_sum-fits (widths net.nodes) a b front) in
+    let later = logic-later net (half_sum a b) v (half_sum-stands (widths net.nodes) a b front) in
     subst (λ (n : Net). All (IsThere (widths n.nodes)) (a ∷ b ∷ [])) (sym is)
     (grown-all_there net (with_logic net (half_sum a b)) later.grown (a ∷ b ∷ []) front)
 
 -- an adder of bits that were taken from the front of a column
 module _ (net : Net) (valid : IsValid net) (sum carry : List ℕ → Tree) (taken rest carries : List WordBit)
-    (sum_fits : FitsNodes (widths net.nodes) 1 (sum (widths net.nodes)))
-    (carry_fits : FitsNodes (widths (with_logic net sum).nodes) 1 (carry (widths (with_logic net sum).nodes)))
+    (sum_stands : MayBeLogic (widths net.nodes) (sum (widths net.nodes)))
+    (carry_stands : MayBeLogic (widths (with_logic net sum).nodes) (carry (widths (with_logic net sum).nodes)))
     (x y : Words → Bool)
     (is_sum : (inputs : Inputs) (t : ℤ) → All (AreWords (input_widths net)) inputs
     → value (scope_at net inputs t) (sum (widths net.nodes)) ≡ x (words_at net.nodes inputs t) ∷ [])
@@ -126,10 +131,10 @@ module _ (net : Net) (valid : IsValid net) (sum carry : List ℕ → Tree) (take
   two = with_logic one carry
 
   to_one : Later net one
-  to_one = logic-later net sum valid sum_fits
+  to_one = logic-later net sum valid sum_stands
 
   one_to_two : Later one two
-  one_to_two = logic-later one carry to_one.valid carry_fits
+  one_to_two = logic-later one carry to_one.valid carry_stands
 
   to_two : Later net two
   to_two = later-then net one two to_one one_to_two
@@ -200,11 +205,11 @@ module _ (top : Bool) (net : Net) (valid : IsValid net) (carries : List WordBit)
   full-on : (a b c : WordBit) (rest : List WordBit) → All P (a ∷ b ∷ c ∷ []) → All P rest
       → Reduced top (work (a ∷ b ∷ c ∷ rest)) (with_adder top (full_sum a b c) (full_carry a b c) net rest carries)
   full-on a b c rest h g =
-      let fits = full_sum-fits (widths net.nodes) a b c h in
+      let stands = full_sum-stands (widths net.nodes) a b c h in
       let one = with_logic net (full_sum a b c) in
-      let later : Later net one = logic-later net (full_sum a b c) valid fits in
-      adder-reduced net valid (full_sum a b c) (full_carry a b c) (a ∷ b ∷ c ∷ []) rest carries fits
-      (full_carry-fits (widths one.nodes) a b c (grown-all_there net one later.grown (a ∷ b ∷ c ∷ []) h))
+      let later : Later net one = logic-later net (full_sum a b c) valid stands in
+      adder-reduced net valid (full_sum a b c) (full_carry a b c) (a ∷ b ∷ c ∷ []) rest carries stands
+      (full_carry-stands (widths one.nodes) a b c (grown-all_there net one later.grown (a ∷ b ∷ c ∷ []) h))
       (λ words. xor (xor (bit_under words a) (bit_under words b)) (bit_under words c))
       (λ words. ((bit_under words a && bit_under words b) || (bit_under words a && bit_under words c)) ||
       (bit_under words b && bit_under words c))
@@ -216,11 +221,11 @@ module _ (top : Bool) (net : Net) (valid : IsValid net) (carries : List WordBit)
   half-on : (a b : WordBit) (rest : List WordBit) → All P (a ∷ b ∷ []) → All P rest
       → Reduced top (work (a ∷ b ∷ rest)) (with_adder top (half_sum a b) (half_carry a b) net rest carries)
   half-on a b rest h g =
-      let fits = half_sum-fits (widths net.nodes) a b h in
+      let stands = half_sum-stands (widths net.nodes) a b h in
       let one = with_logic net (half_sum a b) in
-      let later : Later net one = logic-later net (half_sum a b) valid fits in
-      adder-reduced net valid (half_sum a b) (half_carry a b) (a ∷ b ∷ []) rest carries fits
-      (half_carry-fits (widths one.nodes) a b (grown-all_there net one later.grown (a ∷ b ∷ []) h))
+      let later : Later net one = logic-later net (half_sum a b) valid stands in
+      adder-reduced net valid (half_sum a b) (half_carry a b) (a ∷ b ∷ []) rest carries stands
+      (half_carry-stands (widths one.nodes) a b (grown-all_there net one later.grown (a ∷ b ∷ []) h))
       (λ words. xor (bit_under words a) (bit_under words b))
       (λ words. bit_under words a && bit_under words b)
       (λ inputs t words. half_sum-value net net same inputs t words a b h)

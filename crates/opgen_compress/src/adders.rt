@@ -1,6 +1,7 @@
 //! Full and half adders as nodes of a net: each takes bits from one column of a heap and returns a sum bit and a carry.
 ghost use Rattle.std.specs.Prelude.{◌≡◌, ◌≤◌, ◌+◌, [], ◌∷◌, ◌++◌, length, All, IfOk, OnOk};
 ghost use Rattle.opgen_design.specs.Plain.{plain};
+ghost use Rattle.opgen_net.specs.Cells.{IsLogic};
 ghost use Rattle.opgen_net.specs.Valid.{IsValid, FitsNodes, widths};
 ghost use Rattle.opgen_net.specs.WordRule.{IsThere};
 ghost use Rattle.opgen_net.specs.Flow.{KeepsFlow};
@@ -114,6 +115,7 @@ fn full_carry(
 // Appends a node of one bit, and answers the bit.
 fn logic(net: &mut Net, expr: Expr) -> Result<WordBit, Memory>
     requires net { IsValid net.old }
+    requires logic { IsLogic (widths net.old.nodes) (plain expr) }
     requires fits { FitsNodes (widths net.old.nodes) 1 (plain expr) }
     ensures ok { OnOk result (net.new ≡ record net.old { nodes = net.old.nodes ++ Node.Cells Class.Logic 1 (plain expr) ∷ [] }) }
     ensures bit { IfOk result (λ b. b ≡ next_bit net.old) }

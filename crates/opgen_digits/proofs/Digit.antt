@@ -22,7 +22,7 @@ use Rattle.opgen_net.proofs.BitLists.{length-bits_from, bits_from-there}
 use Rattle.opgen_net.proofs.Numbers.{at-push, at-node, number-kept}
 use Rattle.opgen_digits.proofs.Differences.{sign, restored}
 use Rattle.opgen_net.proofs.Later.{Later, later-then, later-node, node_there}
-use Rattle.opgen_digits.proofs.Expressions.{difference-fits, not_negative-fits}
+use Rattle.opgen_digits.proofs.Expressions.{difference-fits, not_negative-fits, not_negative-logic}
 
 module _ (rest : ℕ) (net : Net) (a b : ℕ) (valid : IsValid net) (are : AreOperands rest net a b) where
   abbrev one : Net
@@ -49,7 +49,7 @@ module _ (rest : ℕ) (net : Net) (a b : ℕ) (valid : IsValid net) (are : AreOp
   pub one-later : Later net one
   one-later =
       later-node net (node.Cells class.Add (rest + 2) (difference_of a b)) valid
-      (tt, difference-fits (widths net.nodes) a b (rest + 2) wide are.wide_a are.wide_b) refl
+      (refl, difference-fits (widths net.nodes) a b (rest + 2) wide are.wide_a are.wide_b) refl
 
   pub one-width : slice_index (widths one.nodes) f ≡ rest + 2
   one-width = width-append_last net.nodes (node.Cells class.Add (rest + 2) (difference_of a b))
@@ -57,7 +57,7 @@ module _ (rest : ℕ) (net : Net) (a b : ℕ) (valid : IsValid net) (are : AreOp
   two-after : Later one two
   two-after =
       later-node one (node.Cells class.Logic 1 (is_not_negative rest f)) one-later.valid
-      (tt, not_negative-fits (widths one.nodes) rest f one-width) refl
+      (not_negative-logic (widths one.nodes) rest f, not_negative-fits (widths one.nodes) rest f one-width) refl
 
   pub two-later : Later net two
   two-later = later-then net one two one-later two-after

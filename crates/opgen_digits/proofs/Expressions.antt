@@ -4,10 +4,12 @@ use Rattle.std.specs.Prelude.{slice_index, slice_get, option_and_then, if◌then
 use Rattle.std.proofs.lemmas.Bool.{eq-eqb, le-leb, lt-ltb}
 use Rattle.std.proofs.lemmas.Option.{slice_get-get_or}
 use Rattle.opgen_design.specs.declared.expr.Op.TheVariants.{Minus}
-use Rattle.opgen_design.specs.Tree.{name, none, more}
+use Rattle.opgen_design.specs.Tree.{name, part, none, more}
 use Rattle.opgen_design.specs.Value.{IsWidth, as_width, joined, width, width_on}
 use Rattle.opgen_design.proofs.WidthLaws.{as_width-of}
+use Rattle.opgen_net.specs.Cells.{IsLogic}
 use Rattle.opgen_net.specs.Valid.{FitsNodes}
+use Rattle.opgen_net.proofs.CellLaws.{inverse-one, one-logic, part-one}
 use Rattle.opgen_net.proofs.FlowLaws.{index_within}
 use Rattle.opgen_net.specs.Placed.{difference_of}
 use Rattle.opgen_digits.specs.Digit.{is_not_negative}
@@ -38,3 +40,8 @@ module _ (ws : List ℕ) where
             ∙ ap as_width one;
         nests = omega arith;
       }
+
+  pub not_negative-logic : (rest f : ℕ) → IsLogic ws (is_not_negative rest f)
+  not_negative-logic rest f =
+      let top = rest + 1 in
+      one-logic ws 0 1 (is_not_negative rest f) (omega arith) (omega arith) (inverse-one ws 0 1 (part f top top) (part-one ws f top))

@@ -17,12 +17,14 @@ use Rattle.opgen_net.specs.declared.node.Node.{Node}
 use Rattle.opgen_net.specs.declared.node.Node.TheVariants.{Cells}
 use Rattle.opgen_net.specs.declared.word_bits.WordBit.{WordBit}
 use Rattle.opgen_net.specs.declared.word_bits.WordBit.TheVariants.{Zero}
+use Rattle.opgen_net.specs.Cells.{IsLogic}
 use Rattle.opgen_net.specs.Flow.{Inputs, flow}
 use Rattle.opgen_net.specs.Placed.{Placed, with_last, number_at}
 use Rattle.opgen_net.specs.Valid.{IsValid, FitsNodes, input_widths, widths}
 use Rattle.opgen_net.specs.WordRule.{IsThere, bits_from, word_flow}
 use Rattle.opgen_net.proofs.Appending.{flow-append_last, width-append_last}
 use Rattle.opgen_net.proofs.BitLists.{length-bits_from, bits_from-there, whole-flow}
+use Rattle.opgen_net.proofs.CellLaws.{one-logic, part-one, two-one}
 use Rattle.opgen_net.proofs.FlowWidths.{flow-width}
 use Rattle.opgen_net.proofs.Grown.{grown-flow, grown-width, grown-all_there}
 use Rattle.opgen_net.proofs.Later.{Later, later-node, later-same, later-then, node_there, words-later}
@@ -75,8 +77,14 @@ module _ (p : Pair) (net : Net) (digits : List WordBit) (valid : IsValid net) (i
     nests = omega arith;
   }
 
+  pub differ-logic : IsLogic (widths net.nodes) (signs_differ p)
+  differ-logic =
+      let ws = widths net.nodes in
+      one-logic ws 1 2 (signs_differ p) (omega arith) (omega arith)
+      (two-one ws Xor refl 0 1 1 (sign_of 0 p.a.width) (sign_of 1 p.b.width) (part-one ws 0 (p.a.width - 1)) (part-one ws 1 (p.b.width - 1)))
+
   q_signed-later : Later net q_signed
-  q_signed-later = later-node net q_node valid (tt, differ-fits) refl
+  q_signed-later = later-node net q_node valid (differ-logic, differ-fits) refl
 
   pub q_sign : slice_index (widths q_signed.nodes) (length net.nodes) ≡ 1
   q_sign = width-append_last net.nodes q_node
@@ -145,7 +153,7 @@ module _ (p : Pair) (net : Net) (rest : List WordBit) (valid : IsValid net) (ins
   sign_a-fits = sign-fits (widths net.nodes) 0 p.a.width ins.some_a.0 ins.a
 
   r_signed-later : Later net r_signed
-  r_signed-later = later-node net r_node valid (tt, sign_a-fits) refl
+  r_signed-later = later-node net r_node valid (refl, sign_a-fits) refl
 
   pub r_sign : slice_index (widths r_signed.nodes) (length net.nodes) ≡ 1
   r_sign = width-append_last net.nodes r_node

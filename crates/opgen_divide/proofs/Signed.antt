@@ -97,7 +97,7 @@ module _ (net : Net) (sign node m : ℕ) (valid : IsValid net) (wide : IsWidth m
       (grown-width net first first-later.grown node node_within ∙ is)
 
   second-after : Later first second
-  second-after = later-node first opposite_node first-later.valid (tt, opposite-fits) refl
+  second-after = later-node first opposite_node first-later.valid (refl, opposite-fits) refl
 
   second-later : Later net second
   second-later = later-then net first second first-later second-after
@@ -187,7 +187,7 @@ module _ (net : Net) (node m : ℕ) (valid : IsValid net) (wide : IsWidth m) (is
   highest-fits = sign-fits (widths net.nodes) node m wide.0 is
 
   highest-later : Later net signed
-  highest-later = later-node net sign_node valid (tt, highest-fits) refl
+  highest-later = later-node net sign_node valid (refl, highest-fits) refl
 
   pub highest-width : slice_index (widths signed.nodes) (length net.nodes) ≡ 1
   highest-width = width-append_last net.nodes sign_node

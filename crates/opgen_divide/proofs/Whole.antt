@@ -32,6 +32,9 @@ use Rattle.opgen_operator.specs.Outputs.{recent_words, output_words}
 use Rattle.opgen_operator.proofs.Accepted.{accepted_ranges, accepted_width}
 use Rattle.opgen_ports.specs.Ports.{Recent}
 use Rattle.opgen_ports.specs.Reaches.{places_up, up}
+use Rattle.opgen_ports.specs.Modes.{mode_of_exact}
+use Rattle.opgen_operator.proofs.EachMode.{fits_by_mark}
+use Rattle.opgen_ports.proofs.Marks.{good_by_mark}
 use Rattle.opgen_ports.proofs.InputPorts.{input_bit}
 use Rattle.opgen_net.specs.Placed.{number_at}
 use Rattle.opgen_digits.specs.Digit.{Known}
@@ -411,16 +414,19 @@ module _ (p : Pair) (have : HasWidths p) where
       (subst (λ z. IsGoodQuotient false p (with_sign s a) (with_sign d b) z second) (sym first)
       (good_of_sizes false p s d a b q held.0 held.1)))
 
-  pub fits : FitsOperator p.exact (Divide p) made
+  pub fits : FitsOperator (mode_of_exact p.exact) (Divide p) made
   fits = record {
     valid = results-valid (codes "q") final final-valid p.exact results;
     inputs = made-inputs;
     outputs = results-shown (codes "q") final final-valid no_output p.exact results ∙ same_ports p.exact refl;
-    good = λ inputs t words within range. good p.exact refl results inputs t (for_start inputs words) range;
+    good = λ inputs t words within range.
+        good_by_mark p.exact
+        (λ e. IsGoodQuotient e p (inputs_now inputs t 0 0) (inputs_now inputs t 1 0) (outputs_now p.exact inputs t 0) (outputs_now p.exact inputs t 1))
+        (good p.exact refl results inputs t (for_start inputs words) range);
   }
 
 pub fits_modes : (p : Pair) → IsAcceptedPair p → FitsInEachMode (Divide p) (net_of_pair p)
-fits_modes p is exact mode = subst (λ x. FitsOperator x (Divide p) (net_of_pair p)) mode.agrees (fits p (has_widths p is))
+fits_modes p is = fits_by_mark p.exact (Divide p) (net_of_pair p) refl (fits p (has_widths p is))
 
 pub all_steps : (p : Pair) → IsAcceptedPair p → HoldsAfterEachStep p (net_of_pair p)
 all_steps p is = steps_hold p (has_widths p is)

@@ -10,7 +10,7 @@ use Rattle.std.specs.List.{list_all}
 use Rattle.toml.specs.Data.{Data, string, Items, no_items, item, Members}
 use Rattle.opgen_document.specs.declared.decimal.Decimal.{Decimal}
 use Rattle.opgen_document.specs.declared.key.Key.TheVariants as key
-use Rattle.opgen_document.specs.Document.{value_at, number_in, number_at, items_at, count, small}
+use Rattle.opgen_document.specs.Document.{value_at, number_in, items_at, count, small}
 use Rattle.opgen_document.specs.Numbers.{are_digits, digits_from, are_parts, decimal_with, cut_at, unsigned_decimal, decimal_of, places_in, places_among, are_texts, given_denominator, denominator_of}
 use Rattle.opgen_document.specs.Ranges.{outside, denominator_outside}
 

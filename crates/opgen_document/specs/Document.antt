@@ -1,10 +1,10 @@
 -- The values at the keys of a document, a tree of TOML 1.1.
-use Rattle.std.specs.Prelude.{ℕ, ◌==◌, ◌&&◌, ◌^◌, ℤ, pos, negsuc, Bool, true, false, List, [], ◌∷◌, ◌++◌, length, Option, Some, None, option_map, if◌then◌else◌, nat_lt, int_lt, int_le, ◌≡◌, ◌⊎◌, codes, not}
+use Rattle.std.specs.Prelude.{ℕ, ◌==◌, ◌&&◌, ◌^◌, ℤ, pos, negsuc, Bool, true, false, List, [], ◌∷◌, ◌++◌, length, Option, Some, None, option_map, if◌then◌else◌, nat_le, nat_lt, int_lt, int_le, ◌≡◌, ◌⊎◌, codes}
 use Rattle.std.specs.Str.Lossy.{utf8_valid_len}
 use Rattle.toml.specs.Data.{Data, string, integer, boolean, array, table, Items, no_items, item, Members, no_members, member, get_member}
 use Rattle.toml.specs.Parse.{parse_document}
 use Rattle.opgen_document.specs.declared.key.Key.{Key}
-use Rattle.opgen_document.specs.Keys.{key_name}
+use Rattle.opgen_document.specs.Keys.{key_name, row_of}
 use Rattle.std.specs.Option.{is_some}
 use Rattle.std.specs.Str.{bytes_eq}
 use Rattle.opgen_num.specs.declared.format.Format.{Format}
@@ -12,7 +12,7 @@ use Rattle.opgen_document.specs.declared.key.Key.TheVariants as key
 use Rattle.opgen_document.specs.declared.key.Stand.{Stand}
 use Rattle.opgen_document.specs.declared.key.Stand.TheVariants.{Absent, Optional, Needed}
 use Rattle.opgen_document.specs.declared.key.Version.{Version}
-use Rattle.opgen_document.specs.declared.key.Version.TheVariants.{First, Second, Third}
+use Rattle.opgen_document.specs.declared.key.Version.TheVariants.{First, Second, Third, Fourth}
 
 -- the tree of the bytes: none where they are not UTF-8, or no document
 abbrev pub tree : List ℕ → Option Members
@@ -151,45 +151,49 @@ IsCompressorAsWritten ms true = value_at ms key.Compressor ≡ Some (string (cod
 IsCompressorAsWritten ms false =
     (value_at ms key.Compressor ≡ None) ⊎ (value_at ms key.Compressor ≡ Some (string (codes "dadda")))
 
--- each number but 1 and 2 counts as 3
+-- each number but 1, 2 and 3 counts as 4
 abbrev pub version_in : ℤ → Version
-version_in (pos n) = if n == 1 then First else (if n == 2 then Second else Third)
-version_in (negsuc n) = Third
+version_in (pos n) = if n == 1 then First else (if n == 2 then Second else (if n == 3 then Third else Fourth))
+version_in (negsuc n) = Fourth
 
 -- and so does a value that is no number, or none
 abbrev pub version_of : Members → Version
 version_of ms = version_in (number_at ms key.Version)
 
--- the keys that only the third version has
-abbrev pub is_late : Key → Bool
-is_late key.OutWidth = true
-is_late key.OutSigned = true
-is_late key.Offset = true
-is_late key.Input = true
-is_late key.Scaled = true
-is_late key.Product = true
-is_late _ = false
+abbrev pub version_number : Version → ℕ
+version_number First = 1
+version_number Second = 2
+version_number Third = 3
+version_number Fourth = 4
 
 -- whether documents that name no kind may have the key
 abbrev pub has_key : Version → Key → Bool
-has_key First k = not (is_late k)
-has_key Second k = not (is_late k)
-has_key Third k = true
+has_key version k = nat_le (version_number (row_of k).since) (version_number version)
 
 -- a key that may be left out, and that only later versions than the first have
 abbrev pub since_second : Version → Stand
 since_second First = Absent
 since_second Second = Optional
 since_second Third = Optional
+since_second Fourth = Optional
 
 -- a key that may be left out, and that only later versions than the second have
 abbrev pub since_third : Version → Stand
 since_third First = Absent
 since_third Second = Absent
 since_third Third = Optional
+since_third Fourth = Optional
 
--- a key that only the third version lets be left out
+-- a key that may be left out, and that only the fourth version has
+abbrev pub since_fourth : Version → Stand
+since_fourth First = Absent
+since_fourth Second = Absent
+since_fourth Third = Absent
+since_fourth Fourth = Optional
+
+-- a key that later versions than the second let be left out
 abbrev pub needed_before_third : Version → Stand
 needed_before_third First = Needed
 needed_before_third Second = Needed
 needed_before_third Third = Optional
+needed_before_third Fourth = Optional

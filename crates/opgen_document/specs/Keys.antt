@@ -9,56 +9,93 @@ use Rattle.opgen_document.specs.declared.key.Sort.{Sort}
 use Rattle.opgen_document.specs.declared.key.Sort.TheVariants as sort
 use Rattle.opgen_document.specs.declared.key.Stand.{Stand}
 use Rattle.opgen_document.specs.declared.key.Stand.TheVariants.{Absent, Optional, Needed}
+use Rattle.opgen_document.specs.declared.key.Version.{Version}
+use Rattle.opgen_document.specs.declared.key.Version.TheVariants.{First, Third, Fourth}
+
+-- what holds of a key in documents of every kind
+pub record Row : Type 0 where
+  -- the key as a document writes it
+  pub name : List ℕ
+  -- what its value has to be
+  pub sort : Sort
+  -- the first version whose documents may have it if they name no kind
+  pub since : Version
+  -- how it stands in the documents of all kinds, or in the lines of an array; none where each kind says it
+  pub stand : Option Stand
+
+abbrev needed : (name : List ℕ) → Sort → Row
+needed name kind_of_value = record { name = name; sort = kind_of_value; since = First; stand = Some Needed }
+
+abbrev optional : (name : List ℕ) → Sort → Row
+optional name kind_of_value = record { name = name; sort = kind_of_value; since = First; stand = Some Optional }
+
+-- a key that some kinds have
+abbrev by_kind : Version → (name : List ℕ) → Sort → Row
+by_kind since name kind_of_value = record { name = name; sort = kind_of_value; since = since; stand = None }
+
+-- the keys of a document in the order in which they are judged, and then those of the lines of its arrays
+abbrev pub row_of : Key → Row
+row_of key.Version = needed (codes "version") sort.Number
+row_of key.Name = needed (codes "name") sort.Text
+row_of key.Kind = needed (codes "kind") sort.Text
+row_of key.Exact = needed (codes "exact") sort.Flag
+row_of key.Rounding = by_kind Fourth (codes "rounding") sort.Text
+row_of key.Target = needed (codes "target") sort.Text
+row_of key.Period = needed (codes "period") sort.Number
+row_of key.Signed = by_kind First (codes "signed") sort.Flag
+row_of key.Width = by_kind First (codes "width") sort.Number
+row_of key.Lsb = by_kind First (codes "lsb") sort.Number
+row_of key.WidthA = by_kind First (codes "width_a") sort.Number
+row_of key.LsbA = by_kind First (codes "lsb_a") sort.Number
+row_of key.WidthB = by_kind First (codes "width_b") sort.Number
+row_of key.LsbB = by_kind First (codes "lsb_b") sort.Number
+row_of key.OutLsb = by_kind First (codes "out_lsb") sort.Number
+row_of key.OutWidth = by_kind Third (codes "out_width") sort.Number
+row_of key.OutSigned = by_kind Third (codes "out_signed") sort.Flag
+row_of key.Overflow = by_kind Fourth (codes "overflow") sort.Text
+row_of key.Coefficients = by_kind First (codes "coefficients") sort.Coefficients
+row_of key.Denominator = by_kind First (codes "denominator") sort.Number
+row_of key.Constants = by_kind First (codes "constants") sort.Numbers
+row_of key.Extra = by_kind First (codes "extra") sort.Number
+row_of key.Divisor = by_kind First (codes "divisor") sort.Number
+row_of key.Taps = by_kind First (codes "taps") sort.Numbers
+row_of key.Compressor = by_kind First (codes "compressor") sort.Text
+row_of key.Recurrence = by_kind Fourth (codes "recurrence") sort.Text
+row_of key.Lut = by_kind Fourth (codes "lut") sort.Number
+row_of key.Offset = by_kind Third (codes "offset") sort.Number
+row_of key.Input = by_kind Third (codes "input") sort.Tables
+row_of key.Scaled = by_kind Third (codes "scaled") sort.Tables
+row_of key.Product = by_kind Third (codes "product") sort.Tables
+row_of key.Delay = optional (codes "delay") sort.Tables
+row_of key.InputName = needed (codes "name") sort.Text
+row_of key.InputSigned = needed (codes "signed") sort.Flag
+row_of key.InputWidth = needed (codes "width") sort.Number
+row_of key.InputLsb = needed (codes "lsb") sort.Number
+row_of key.ScaledInput = needed (codes "input") sort.Text
+row_of key.Coefficient = needed (codes "coefficient") sort.Number
+row_of key.FactorA = needed (codes "a") sort.Text
+row_of key.FactorB = needed (codes "b") sort.Text
+row_of key.Negative = optional (codes "negative") sort.Flag
+row_of key.Class = needed (codes "class") sort.Text
+row_of key.Base = needed (codes "base") sort.Number
+row_of key.PerBit = needed (codes "per_bit") sort.Number
 
 abbrev pub key_name : Key → List ℕ
-key_name key.Version = codes "version"
-key_name key.Name = codes "name"
-key_name key.Kind = codes "kind"
-key_name key.Exact = codes "exact"
-key_name key.Target = codes "target"
-key_name key.Period = codes "period"
-key_name key.Signed = codes "signed"
-key_name key.Width = codes "width"
-key_name key.Lsb = codes "lsb"
-key_name key.WidthA = codes "width_a"
-key_name key.LsbA = codes "lsb_a"
-key_name key.WidthB = codes "width_b"
-key_name key.LsbB = codes "lsb_b"
-key_name key.OutLsb = codes "out_lsb"
-key_name key.OutWidth = codes "out_width"
-key_name key.OutSigned = codes "out_signed"
-key_name key.Coefficients = codes "coefficients"
-key_name key.Denominator = codes "denominator"
-key_name key.Constants = codes "constants"
-key_name key.Extra = codes "extra"
-key_name key.Divisor = codes "divisor"
-key_name key.Taps = codes "taps"
-key_name key.Compressor = codes "compressor"
-key_name key.Offset = codes "offset"
-key_name key.Input = codes "input"
-key_name key.Scaled = codes "scaled"
-key_name key.Product = codes "product"
-key_name key.Delay = codes "delay"
-key_name key.InputName = codes "name"
-key_name key.InputSigned = codes "signed"
-key_name key.InputWidth = codes "width"
-key_name key.InputLsb = codes "lsb"
-key_name key.ScaledInput = codes "input"
-key_name key.Coefficient = codes "coefficient"
-key_name key.FactorA = codes "a"
-key_name key.FactorB = codes "b"
-key_name key.Negative = codes "negative"
-key_name key.Class = codes "class"
-key_name key.Base = codes "base"
-key_name key.PerBit = codes "per_bit"
+key_name k = (row_of k).name
+
+abbrev pub sort_of : Key → Sort
+sort_of k = (row_of k).sort
+
+abbrev pub shared_stand : Key → Option Stand
+shared_stand k = (row_of k).stand
 
 -- the keys of a document, in the order in which they are judged
 unfoldable pub document_keys : List Key
 document_keys =
-    key.Version ∷ key.Name ∷ key.Kind ∷ key.Exact ∷ key.Target ∷ key.Period ∷ key.Signed ∷ key.Width ∷ key.Lsb ∷
-    key.WidthA ∷ key.LsbA ∷ key.WidthB ∷ key.LsbB ∷ key.OutLsb ∷ key.OutWidth ∷ key.OutSigned ∷ key.Coefficients ∷
-    key.Denominator ∷ key.Constants ∷ key.Extra ∷ key.Divisor ∷ key.Taps ∷ key.Compressor ∷ key.Offset ∷
-    key.Input ∷ key.Scaled ∷ key.Product ∷ key.Delay ∷ []
+    key.Version ∷ key.Name ∷ key.Kind ∷ key.Exact ∷ key.Rounding ∷ key.Target ∷ key.Period ∷ key.Signed ∷ key.Width ∷ key.Lsb ∷
+    key.WidthA ∷ key.LsbA ∷ key.WidthB ∷ key.LsbB ∷ key.OutLsb ∷ key.OutWidth ∷ key.OutSigned ∷ key.Overflow ∷ key.Coefficients ∷
+    key.Denominator ∷ key.Constants ∷ key.Extra ∷ key.Divisor ∷ key.Taps ∷ key.Compressor ∷ key.Recurrence ∷ key.Lut ∷
+    key.Offset ∷ key.Input ∷ key.Scaled ∷ key.Product ∷ key.Delay ∷ []
 
 -- the arrays of tables, in the order in which they are judged
 unfoldable pub arrays : List Array
@@ -77,72 +114,6 @@ line_keys array.Input = key.InputName ∷ key.InputSigned ∷ key.InputWidth ∷
 line_keys array.Scaled = key.ScaledInput ∷ key.Coefficient ∷ []
 line_keys array.Product = key.FactorA ∷ key.FactorB ∷ key.Negative ∷ []
 line_keys array.Delay = key.Class ∷ key.Base ∷ key.PerBit ∷ []
-
--- what the value at a key has to be
-abbrev pub sort_of : Key → Sort
-sort_of key.Name = sort.Text
-sort_of key.Kind = sort.Text
-sort_of key.Target = sort.Text
-sort_of key.Compressor = sort.Text
-sort_of key.Class = sort.Text
-sort_of key.InputName = sort.Text
-sort_of key.ScaledInput = sort.Text
-sort_of key.FactorA = sort.Text
-sort_of key.FactorB = sort.Text
-sort_of key.Exact = sort.Flag
-sort_of key.Signed = sort.Flag
-sort_of key.OutSigned = sort.Flag
-sort_of key.InputSigned = sort.Flag
-sort_of key.Negative = sort.Flag
-sort_of key.Coefficients = sort.Coefficients
-sort_of key.Constants = sort.Numbers
-sort_of key.Taps = sort.Numbers
-sort_of key.Input = sort.Tables
-sort_of key.Scaled = sort.Tables
-sort_of key.Product = sort.Tables
-sort_of key.Delay = sort.Tables
-sort_of key.Version = sort.Number
-sort_of key.Period = sort.Number
-sort_of key.Width = sort.Number
-sort_of key.Lsb = sort.Number
-sort_of key.WidthA = sort.Number
-sort_of key.LsbA = sort.Number
-sort_of key.WidthB = sort.Number
-sort_of key.LsbB = sort.Number
-sort_of key.OutLsb = sort.Number
-sort_of key.OutWidth = sort.Number
-sort_of key.Denominator = sort.Number
-sort_of key.Extra = sort.Number
-sort_of key.Divisor = sort.Number
-sort_of key.Offset = sort.Number
-sort_of key.InputWidth = sort.Number
-sort_of key.InputLsb = sort.Number
-sort_of key.Coefficient = sort.Number
-sort_of key.Base = sort.Number
-sort_of key.PerBit = sort.Number
-
--- the keys of the documents of all kinds, and of the tables of arrays
-abbrev pub shared_stand : Key → Option Stand
-shared_stand key.Version = Some Needed
-shared_stand key.Name = Some Needed
-shared_stand key.Kind = Some Needed
-shared_stand key.Exact = Some Needed
-shared_stand key.Target = Some Needed
-shared_stand key.Period = Some Needed
-shared_stand key.Delay = Some Optional
-shared_stand key.InputName = Some Needed
-shared_stand key.InputSigned = Some Needed
-shared_stand key.InputWidth = Some Needed
-shared_stand key.InputLsb = Some Needed
-shared_stand key.ScaledInput = Some Needed
-shared_stand key.Coefficient = Some Needed
-shared_stand key.FactorA = Some Needed
-shared_stand key.FactorB = Some Needed
-shared_stand key.Negative = Some Optional
-shared_stand key.Class = Some Needed
-shared_stand key.Base = Some Needed
-shared_stand key.PerBit = Some Needed
-shared_stand _ = None
 
 abbrev pub may_be : Stand → Bool
 may_be Absent = false

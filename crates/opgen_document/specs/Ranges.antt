@@ -5,10 +5,10 @@ use Rattle.std.specs.Str.{bytes_eq}
 use Rattle.toml.specs.Data.{Items, Members}
 use Rattle.opgen_document.specs.declared.key.Key.{Key}
 use Rattle.opgen_document.specs.declared.key.Key.TheVariants as key
-use Rattle.opgen_document.specs.Document.{list_of, value_at, number_at, flag_at, items_at, version_of}
+use Rattle.opgen_document.specs.Document.{list_of, number_at, text_at, flag_at, items_at, version_of}
 use Rattle.opgen_document.specs.Numbers.{numerators}
 use Rattle.opgen_document.specs.declared.key.Version.{Version}
-use Rattle.opgen_document.specs.declared.key.Version.TheVariants.{First, Second, Third}
+use Rattle.opgen_document.specs.declared.key.Version.TheVariants.{First, Second, Third, Fourth}
 
 -- the number, where it is not within the bounds
 abbrev pub outside : ℤ → ℤ → ℤ → Option ℤ
@@ -41,7 +41,7 @@ width_outside most ms k = bits_outside (flag_at ms key.Signed) most (number_at m
 abbrev pub near_outside : Members → Key → Option ℤ
 near_outside ms k = outside (negsuc 31) (pos 32) (number_at ms k)
 
--- the power of a lowest bit of the other kinds in version 3, but for polynomials
+-- the power of a lowest bit of the other kinds from version 3 on, but for polynomials
 abbrev pub far_outside : Members → Key → Option ℤ
 far_outside ms k = outside (negsuc 63) (pos 64) (number_at ms k)
 
@@ -49,6 +49,7 @@ abbrev pub power_outside_in : Version → Members → Key → Option ℤ
 power_outside_in First ms k = near_outside ms k
 power_outside_in Second ms k = near_outside ms k
 power_outside_in Third ms k = far_outside ms k
+power_outside_in Fourth ms k = far_outside ms k
 
 abbrev pub power_outside : Members → Key → Option ℤ
 power_outside ms k = power_outside_in (version_of ms) ms k
@@ -76,7 +77,32 @@ constant_limit false = 1048575
 abbrev pub extra_outside : Members → Option ℤ
 extra_outside ms = outside (pos 0) (pos 2) (number_at ms key.Extra)
 
--- a compressor's name that is neither of the two, of which its length is found
+-- a text that is neither of two words, of which its length is found
+abbrev pub word_outside : (first second : List ℕ) → List ℕ → Option ℤ
+word_outside first second text = if bytes_eq text first || bytes_eq text second then None else Some (pos (length text))
+
 abbrev pub compressor_outside : List ℕ → Option ℤ
-compressor_outside name =
-    if bytes_eq name (codes "dadda") || bytes_eq name (codes "counters") then None else Some (pos (length name))
+compressor_outside name = word_outside (codes "dadda") (codes "counters") name
+
+-- the fourth version has a third compressor
+abbrev pub compressor_outside_in : Version → List ℕ → Option ℤ
+compressor_outside_in First name = compressor_outside name
+compressor_outside_in Second name = compressor_outside name
+compressor_outside_in Third name = compressor_outside name
+compressor_outside_in Fourth name = if bytes_eq name (codes "rows") then None else compressor_outside name
+
+abbrev pub compressor_at_outside : Members → Option ℤ
+compressor_at_outside ms = compressor_outside_in (version_of ms) (text_at ms key.Compressor)
+
+abbrev pub rounding_outside : Members → Option ℤ
+rounding_outside ms = word_outside (codes "down") (codes "nearest") (text_at ms key.Rounding)
+
+abbrev pub overflow_outside : Members → Option ℤ
+overflow_outside ms = word_outside (codes "saturate") (codes "wrap") (text_at ms key.Overflow)
+
+abbrev pub recurrence_outside : Members → Option ℤ
+recurrence_outside ms = word_outside (codes "restoring") (codes "nonrestoring") (text_at ms key.Recurrence)
+
+-- the number of inputs of a device's tables
+abbrev pub lut_outside : Members → Option ℤ
+lut_outside ms = outside (pos 4) (pos 6) (number_at ms key.Lut)

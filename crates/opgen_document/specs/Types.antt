@@ -8,7 +8,7 @@ use Rattle.opgen_document.specs.declared.key.Key.TheVariants as key
 use Rattle.opgen_document.specs.declared.key.Sort.{Sort}
 use Rattle.opgen_document.specs.declared.key.Sort.TheVariants.{Number, Text, Flag, Coefficients, Numbers, Tables}
 use Rattle.opgen_document.specs.Keys.{sort_of}
-use Rattle.opgen_document.specs.Document.{list_of, value_at, items_of, items_at}
+use Rattle.opgen_document.specs.Document.{list_of, value_at, flag_at, items_of, items_at}
 use Rattle.opgen_document.specs.Numbers.{decimal_of, are_texts}
 
 abbrev pub is_decimal : Data → Bool
@@ -45,10 +45,13 @@ is_of Tables d = are_tables (items_of d) && is_some (as_array d)
 abbrev pub fits : Key → Data → Bool
 fits k d = is_of (sort_of k) d
 
--- beside decimal texts, which have their own, there may be no denominator; and no sign of the output without its width
+-- there may be no rounding beside exact outputs; beside decimal texts, which have their own, no denominator; and no sign or overflow
+-- of the output without its width
 abbrev pub clashes : Members → Key → Bool
+clashes ms key.Rounding = flag_at ms key.Exact
 clashes ms key.Denominator = are_texts (items_at ms key.Coefficients)
 clashes ms key.OutSigned = is_none (value_at ms key.OutWidth)
+clashes ms key.Overflow = is_none (value_at ms key.OutWidth)
 clashes ms _ = false
 
 abbrev pub is_wrong : Members → Key → Bool

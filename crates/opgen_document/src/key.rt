@@ -1,6 +1,8 @@
 //! The keys of a specification: their names, order and types; versions of documents, and how a key stands in one.
-ghost use Rattle.std.specs.Prelude.{◌≡◌, Some};
-ghost use Rattle.opgen_document.specs.Keys.{key_name, document_keys, sort_of};
+ghost use Rattle.std.specs.Prelude.{◌≡◌, Some, None};
+ghost use Rattle.opgen_document.specs.declared.key.Version.TheVariants.{First};
+ghost use Rattle.opgen_document.specs.declared.key.Stand.TheVariants.{Optional, Needed};
+ghost use Rattle.opgen_document.specs.Keys.{row_of, key_name, document_keys};
 
 use std::fmt;
 
@@ -10,6 +12,8 @@ pub enum Version {
     First,
     Second,
     Third,
+    /// No document of it is accepted yet.
+    Fourth,
 }
 
 /// How a key stands in a document.
@@ -28,6 +32,7 @@ pub enum Key {
     Name,
     Kind,
     Exact,
+    Rounding,
     Target,
     Period,
     Signed,
@@ -40,6 +45,7 @@ pub enum Key {
     OutLsb,
     OutWidth,
     OutSigned,
+    Overflow,
     Coefficients,
     Denominator,
     Constants,
@@ -47,6 +53,8 @@ pub enum Key {
     Divisor,
     Taps,
     Compressor,
+    Recurrence,
+    Lut,
     Offset,
     Input,
     Scaled,
@@ -82,11 +90,24 @@ pub(crate) enum Sort {
     Tables,
 }
 
-static DOCUMENT_KEYS: [Key; 28] = [
+/// What holds of a key in documents of every kind.
+#[derive(Clone, Copy)]
+pub(crate) struct Row {
+    /// The key as a document writes it.
+    pub(crate) name: &'static str,
+    pub(crate) sort: Sort,
+    /// The first version whose documents may have it if they name no kind.
+    pub(crate) since: Version,
+    /// How it stands in documents of all kinds, or in the lines of its array. None if each kind says it.
+    pub(crate) stand: Option<Stand>,
+}
+
+static DOCUMENT_KEYS: [Key; 32] = [
     Key::Version,
     Key::Name,
     Key::Kind,
     Key::Exact,
+    Key::Rounding,
     Key::Target,
     Key::Period,
     Key::Signed,
@@ -99,6 +120,7 @@ static DOCUMENT_KEYS: [Key; 28] = [
     Key::OutLsb,
     Key::OutWidth,
     Key::OutSigned,
+    Key::Overflow,
     Key::Coefficients,
     Key::Denominator,
     Key::Constants,
@@ -106,6 +128,8 @@ static DOCUMENT_KEYS: [Key; 28] = [
     Key::Divisor,
     Key::Taps,
     Key::Compressor,
+    Key::Recurrence,
+    Key::Lut,
     Key::Offset,
     Key::Input,
     Key::Scaled,
@@ -120,86 +144,112 @@ pub fn document_keys() -> &'static [Key]
     &DOCUMENT_KEYS
 }
 
+// A key that each document has to have, or each line of its array.
+fn needed(name: &'static str, sort: Sort) -> Row
+    ensures name { result.name.now ≡ name.now }
+    ensures sort { result.sort ≡ sort }
+    ensures since { result.since ≡ First }
+    ensures stand { result.stand ≡ Some Needed }
+{
+    Row {
+        name,
+        sort,
+        since: Version::First,
+        stand: Some(Stand::Needed),
+    }
+}
+
+// A key that each may have.
+fn optional(name: &'static str, sort: Sort) -> Row
+    ensures name { result.name.now ≡ name.now }
+    ensures sort { result.sort ≡ sort }
+    ensures since { result.since ≡ First }
+    ensures stand { result.stand ≡ Some Optional }
+{
+    Row {
+        name,
+        sort,
+        since: Version::First,
+        stand: Some(Stand::Optional),
+    }
+}
+
+// A key that documents of some kinds have.
+fn by_kind(since: Version, name: &'static str, sort: Sort) -> Row
+    ensures name { result.name.now ≡ name.now }
+    ensures sort { result.sort ≡ sort }
+    ensures since { result.since ≡ since }
+    ensures stand { result.stand ≡ None }
+{
+    Row {
+        name,
+        sort,
+        since,
+        stand: None,
+    }
+}
+
 impl Key {
+    // Each key in the order in which keys are judged.
+    pub(crate) fn row(self) -> Row
+        ensures name { result.name.now ≡ (row_of self).name }
+        ensures sort { result.sort ≡ (row_of self).sort }
+        ensures since { result.since ≡ (row_of self).since }
+        ensures stand { result.stand ≡ (row_of self).stand }
+    {
+        match self {
+            Key::Version => needed("version", Sort::Number),
+            Key::Name => needed("name", Sort::Text),
+            Key::Kind => needed("kind", Sort::Text),
+            Key::Exact => needed("exact", Sort::Flag),
+            Key::Rounding => by_kind(Version::Fourth, "rounding", Sort::Text),
+            Key::Target => needed("target", Sort::Text),
+            Key::Period => needed("period", Sort::Number),
+            Key::Signed => by_kind(Version::First, "signed", Sort::Flag),
+            Key::Width => by_kind(Version::First, "width", Sort::Number),
+            Key::Lsb => by_kind(Version::First, "lsb", Sort::Number),
+            Key::WidthA => by_kind(Version::First, "width_a", Sort::Number),
+            Key::LsbA => by_kind(Version::First, "lsb_a", Sort::Number),
+            Key::WidthB => by_kind(Version::First, "width_b", Sort::Number),
+            Key::LsbB => by_kind(Version::First, "lsb_b", Sort::Number),
+            Key::OutLsb => by_kind(Version::First, "out_lsb", Sort::Number),
+            Key::OutWidth => by_kind(Version::Third, "out_width", Sort::Number),
+            Key::OutSigned => by_kind(Version::Third, "out_signed", Sort::Flag),
+            Key::Overflow => by_kind(Version::Fourth, "overflow", Sort::Text),
+            Key::Coefficients => by_kind(Version::First, "coefficients", Sort::Coefficients),
+            Key::Denominator => by_kind(Version::First, "denominator", Sort::Number),
+            Key::Constants => by_kind(Version::First, "constants", Sort::Numbers),
+            Key::Extra => by_kind(Version::First, "extra", Sort::Number),
+            Key::Divisor => by_kind(Version::First, "divisor", Sort::Number),
+            Key::Taps => by_kind(Version::First, "taps", Sort::Numbers),
+            Key::Compressor => by_kind(Version::First, "compressor", Sort::Text),
+            Key::Recurrence => by_kind(Version::Fourth, "recurrence", Sort::Text),
+            Key::Lut => by_kind(Version::Fourth, "lut", Sort::Number),
+            Key::Offset => by_kind(Version::Third, "offset", Sort::Number),
+            Key::Input => by_kind(Version::Third, "input", Sort::Tables),
+            Key::Scaled => by_kind(Version::Third, "scaled", Sort::Tables),
+            Key::Product => by_kind(Version::Third, "product", Sort::Tables),
+            Key::Delay => optional("delay", Sort::Tables),
+            Key::InputName => needed("name", Sort::Text),
+            Key::InputSigned => needed("signed", Sort::Flag),
+            Key::InputWidth => needed("width", Sort::Number),
+            Key::InputLsb => needed("lsb", Sort::Number),
+            Key::ScaledInput => needed("input", Sort::Text),
+            Key::Coefficient => needed("coefficient", Sort::Number),
+            Key::FactorA => needed("a", Sort::Text),
+            Key::FactorB => needed("b", Sort::Text),
+            Key::Negative => optional("negative", Sort::Flag),
+            Key::Class => needed("class", Sort::Text),
+            Key::Base => needed("base", Sort::Number),
+            Key::PerBit => needed("per_bit", Sort::Number),
+        }
+    }
+
     /// The key as a document writes it.
     pub fn name(self) -> &'static str
         ensures { result.now ≡ key_name self }
     {
-        match self {
-            Key::Version => "version",
-            Key::Name => "name",
-            Key::Kind => "kind",
-            Key::Exact => "exact",
-            Key::Target => "target",
-            Key::Period => "period",
-            Key::Signed => "signed",
-            Key::Width => "width",
-            Key::Lsb => "lsb",
-            Key::WidthA => "width_a",
-            Key::LsbA => "lsb_a",
-            Key::WidthB => "width_b",
-            Key::LsbB => "lsb_b",
-            Key::OutLsb => "out_lsb",
-            Key::OutWidth => "out_width",
-            Key::OutSigned => "out_signed",
-            Key::Coefficients => "coefficients",
-            Key::Denominator => "denominator",
-            Key::Constants => "constants",
-            Key::Extra => "extra",
-            Key::Divisor => "divisor",
-            Key::Taps => "taps",
-            Key::Compressor => "compressor",
-            Key::Offset => "offset",
-            Key::Input => "input",
-            Key::Scaled => "scaled",
-            Key::Product => "product",
-            Key::Delay => "delay",
-            Key::InputName => "name",
-            Key::InputSigned => "signed",
-            Key::InputWidth => "width",
-            Key::InputLsb => "lsb",
-            Key::ScaledInput => "input",
-            Key::Coefficient => "coefficient",
-            Key::FactorA => "a",
-            Key::FactorB => "b",
-            Key::Negative => "negative",
-            Key::Class => "class",
-            Key::Base => "base",
-            Key::PerBit => "per_bit",
-        }
-    }
-
-    pub(crate) fn sort(self) -> Sort
-        ensures { result ≡ sort_of self }
-    {
-        match self {
-            Key::Name | Key::Kind | Key::Target | Key::Compressor | Key::Class => Sort::Text,
-            Key::InputName | Key::ScaledInput | Key::FactorA | Key::FactorB => Sort::Text,
-            Key::Exact | Key::Signed | Key::OutSigned => Sort::Flag,
-            Key::InputSigned | Key::Negative => Sort::Flag,
-            Key::Coefficients => Sort::Coefficients,
-            Key::Constants | Key::Taps => Sort::Numbers,
-            Key::Input | Key::Scaled | Key::Product | Key::Delay => Sort::Tables,
-            Key::Version
-            | Key::Period
-            | Key::Width
-            | Key::Lsb
-            | Key::WidthA
-            | Key::LsbA
-            | Key::WidthB
-            | Key::LsbB
-            | Key::OutLsb
-            | Key::OutWidth
-            | Key::Denominator
-            | Key::Extra
-            | Key::Divisor
-            | Key::Offset
-            | Key::InputWidth
-            | Key::InputLsb
-            | Key::Coefficient
-            | Key::Base
-            | Key::PerBit => Sort::Number,
-        }
+        self.row().name
     }
 }
 

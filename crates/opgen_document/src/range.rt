@@ -1,10 +1,10 @@
 //! Checks that a number, or an array and its numbers, is within bounds.
 ghost use Rattle.std.specs.Prelude.{◌≡◌};
 ghost use Rattle.toml.specs.View.{items_view, table_view};
-ghost use Rattle.opgen_document.specs.Ranges.{outside, is_beyond, first_beyond, length_outside, array_outside, bits_outside, width_outside, near_outside, far_outside, power_outside_in, power_outside, out_width_outside, coefficients_outside, numerator_outside, denominator_outside, constant_limit, extra_outside, compressor_outside};
+ghost use Rattle.opgen_document.specs.Ranges.{outside, is_beyond, first_beyond, length_outside, array_outside, bits_outside, width_outside, near_outside, far_outside, power_outside_in, power_outside, out_width_outside, coefficients_outside, numerator_outside, denominator_outside, constant_limit, extra_outside, word_outside, compressor_outside, compressor_outside_in, compressor_at_outside, rounding_outside, overflow_outside, recurrence_outside, lut_outside};
 ghost use Rattle.opgen_document.specs.Document.{is_searched};
 
-use crate::document::{flag_at, items_at, number_at, value_at};
+use crate::document::{flag_at, items_at, number_at, text_at, value_at};
 use crate::key::{Key, Version};
 use crate::number::{coefficient, places_among};
 use crate::version::version_of;
@@ -57,15 +57,69 @@ pub fn array_outside(least: u32, most: u32, limit: u64, items: &[Value]) -> Opti
     }
 }
 
-/// The length of a compressor's name, if there is none of the name.
-pub fn compressor_outside(name: &str) -> Option<i64>
-    ensures { result ≡ compressor_outside name.now }
+// The length of a text that is neither of two words.
+fn word_outside(first: &str, second: &str, text: &str) -> Option<i64>
+    ensures { result ≡ word_outside first.now second.now text.now }
 {
-    if name == "dadda" || name == "counters" {
+    if text == first || text == second {
         None
     } else {
-        Some(name.len() as i64)
+        Some(text.len() as i64)
     }
+}
+
+fn compressor_outside(name: &str) -> Option<i64>
+    ensures { result ≡ compressor_outside name.now }
+{
+    word_outside("dadda", "counters", name)
+}
+
+fn compressor_outside_in(version: Version, name: &str) -> Option<i64>
+    ensures { result ≡ compressor_outside_in version name.now }
+{
+    match version {
+        Version::First | Version::Second | Version::Third => compressor_outside(name),
+        Version::Fourth => if name == "rows" {
+            None
+        } else {
+            compressor_outside(name)
+        },
+    }
+}
+
+/// The length of a compressor's name, if the document's version has none of the name.
+pub fn compressor_at_outside(table: &Table) -> Option<i64>
+    ensures { result ≡ compressor_at_outside (table_view table.now) }
+{
+    compressor_outside_in(version_of(table), text_at(table, Key::Compressor))
+}
+
+/// The length of a text that is no way of rounding.
+pub fn rounding_outside(table: &Table) -> Option<i64>
+    ensures { result ≡ rounding_outside (table_view table.now) }
+{
+    word_outside("down", "nearest", text_at(table, Key::Rounding))
+}
+
+/// The length of a text that is no way of fitting an output into its width.
+pub fn overflow_outside(table: &Table) -> Option<i64>
+    ensures { result ≡ overflow_outside (table_view table.now) }
+{
+    word_outside("saturate", "wrap", text_at(table, Key::Overflow))
+}
+
+/// The length of a text that is no recurrence of digits.
+pub fn recurrence_outside(table: &Table) -> Option<i64>
+    ensures { result ≡ recurrence_outside (table_view table.now) }
+{
+    word_outside("restoring", "nonrestoring", text_at(table, Key::Recurrence))
+}
+
+/// The number of inputs of a device's tables, where it is out of bounds.
+pub fn lut_outside(table: &Table) -> Option<i64>
+    ensures { result ≡ lut_outside (table_view table.now) }
+{
+    outside(4, 6, number_at(table, Key::Lut))
 }
 
 /// A width, where it has too many bits, or too few: signed inputs have two or more.
@@ -90,7 +144,7 @@ pub fn near_outside(table: &Table, key: Key) -> Option<i64>
     outside(-32, 32, number_at(table, key))
 }
 
-/// The power of a lowest bit, where it is out of the bounds of version 3.
+/// The power of a lowest bit, where it is out of the bounds of versions 3 and 4.
 pub fn far_outside(table: &Table, key: Key) -> Option<i64>
     ensures { result ≡ far_outside (table_view table.now) key }
 {
@@ -102,7 +156,7 @@ fn power_outside_in(version: Version, table: &Table, key: Key) -> Option<i64>
 {
     match version {
         Version::First | Version::Second => near_outside(table, key),
-        Version::Third => far_outside(table, key),
+        Version::Third | Version::Fourth => far_outside(table, key),
     }
 }
 

@@ -1,7 +1,7 @@
 //! How a key stands in a document, whatever its kind.
 ghost use Rattle.std.specs.Prelude.{◌≡◌};
 ghost use Rattle.opgen_document.specs.Keys.{shared_stand, may_be, has_to_be};
-ghost use Rattle.opgen_document.specs.Document.{since_second, since_third, needed_before_third};
+ghost use Rattle.opgen_document.specs.Document.{since_second, since_third, since_fourth, needed_before_third};
 
 use crate::key::{Key, Stand, Version};
 
@@ -12,7 +12,7 @@ impl Stand {
     {
         match version {
             Version::First => Stand::Absent,
-            Version::Second | Version::Third => Stand::Optional,
+            Version::Second | Version::Third | Version::Fourth => Stand::Optional,
         }
     }
 
@@ -22,17 +22,27 @@ impl Stand {
     {
         match version {
             Version::First | Version::Second => Stand::Absent,
-            Version::Third => Stand::Optional,
+            Version::Third | Version::Fourth => Stand::Optional,
         }
     }
 
-    /// How a key stands that may be left out in version 3 alone.
+    /// How a key stands that may be left out and that version 4 alone has.
+    pub fn since_fourth(version: Version) -> Stand
+        ensures { result ≡ since_fourth version }
+    {
+        match version {
+            Version::First | Version::Second | Version::Third => Stand::Absent,
+            Version::Fourth => Stand::Optional,
+        }
+    }
+
+    /// How a key stands that may be left out from version 3 on.
     pub fn needed_before_third(version: Version) -> Stand
         ensures { result ≡ needed_before_third version }
     {
         match version {
             Version::First | Version::Second => Stand::Needed,
-            Version::Third => Stand::Optional,
+            Version::Third | Version::Fourth => Stand::Optional,
         }
     }
 
@@ -61,25 +71,5 @@ impl Stand {
 pub fn shared_stand(key: Key) -> Option<Stand>
     ensures { result ≡ shared_stand key }
 {
-    match key {
-        Key::Version
-        | Key::Name
-        | Key::Kind
-        | Key::Exact
-        | Key::Target
-        | Key::Period
-        | Key::InputName
-        | Key::InputSigned
-        | Key::InputWidth
-        | Key::InputLsb
-        | Key::ScaledInput
-        | Key::Coefficient
-        | Key::FactorA
-        | Key::FactorB
-        | Key::Class
-        | Key::Base
-        | Key::PerBit => Some(Stand::Needed),
-        Key::Delay | Key::Negative => Some(Stand::Optional),
-        _ => None,
-    }
+    key.row().stand
 }

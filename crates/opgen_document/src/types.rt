@@ -1,11 +1,11 @@
 //! Checks that the value at each key is of its type.
-ghost use Rattle.std.specs.Prelude.{◌≡◌, find};
+ghost use Rattle.std.specs.Prelude.{◌≡◌};
 ghost use Rattle.std.specs.List.{list_all};
 ghost use Rattle.toml.specs.View.{view, items_view, table_view};
 ghost use Rattle.opgen_document.specs.Types.{is_decimal, is_integer, is_table, are_coefficients, are_integers, are_tables, is_of, are_decimals, fits, clashes, is_wrong};
 
 use crate::decimal::decimal_of;
-use crate::document::{items_at, items_of, value_at};
+use crate::document::{flag_at, items_at, items_of, value_at};
 use crate::key::{Key, Sort};
 use crate::number::are_texts;
 use toml::{Table, Value};
@@ -78,32 +78,28 @@ fn is_of(sort: Sort, value: &Value) -> bool
 fn fits(key: Key, value: &Value) -> bool
     ensures { result ≡ fits key (view value.now) }
 {
-    is_of(key.sort(), value)
+    is_of(key.row().sort, value)
 }
 
-// Whether there is a denominator beside decimal texts, which have their own, or a sign of the output
-// without its width.
+// Whether there is a rounding beside exact outputs, a denominator beside decimal texts, which have their
+// own, or a sign or an overflow of the output without its width.
 fn clashes(table: &Table, key: Key) -> bool
     ensures { result ≡ clashes (table_view table.now) key }
 {
     match key {
+        Key::Rounding => flag_at(table, Key::Exact),
         Key::Denominator => are_texts(items_at(table, Key::Coefficients)),
-        Key::OutSigned => value_at(table, Key::OutWidth).is_none(),
+        Key::OutSigned | Key::Overflow => value_at(table, Key::OutWidth).is_none(),
         _ => false,
     }
 }
 
-fn is_wrong(table: &Table, key: Key) -> bool
+/// Whether there is a value at the key that is not of its type, or that does not go with those of other keys.
+pub fn is_wrong(table: &Table, key: Key) -> bool
     ensures { result ≡ is_wrong (table_view table.now) key }
 {
     match value_at(table, key) {
         Some(value) => !fits(key, value) || clashes(table, key),
         None => false,
     }
-}
-
-pub fn first_wrong(keys: &[Key], table: &Table) -> Option<Key>
-    ensures { result ≡ find (is_wrong (table_view table.now)) keys.now }
-{
-    keys.iter().copied().find(|key| is_wrong(table, *key))
 }

@@ -1,7 +1,7 @@
 //! The versions of documents, which differ in their keys and ranges.
 ghost use Rattle.std.specs.Prelude.{◌≡◌};
 ghost use Rattle.toml.specs.View.{table_view};
-ghost use Rattle.opgen_document.specs.Document.{version_in, version_of, is_late, has_key};
+ghost use Rattle.opgen_document.specs.Document.{version_in, version_of, version_number, has_key};
 
 use crate::document::number_at;
 use crate::key::{Key, Version};
@@ -14,8 +14,10 @@ fn version_in(found: i64) -> Version
         Version::First
     } else if found == 2 {
         Version::Second
-    } else {
+    } else if found == 3 {
         Version::Third
+    } else {
+        Version::Fourth
     }
 }
 
@@ -26,24 +28,23 @@ pub fn version_of(table: &Table) -> Version
     version_in(number_at(table, Key::Version))
 }
 
-// Whether only version 3 has the key.
-fn is_late(key: Key) -> bool
-    ensures { result ≡ is_late key }
-{
-    matches!(
-        key,
-        Key::OutWidth | Key::OutSigned | Key::Offset | Key::Input | Key::Scaled | Key::Product
-    )
-}
-
 impl Version {
+    // The number of the version.
+    fn number(self) -> u32
+        ensures { result ≡ version_number self }
+    {
+        match self {
+            Version::First => 1,
+            Version::Second => 2,
+            Version::Third => 3,
+            Version::Fourth => 4,
+        }
+    }
+
     /// Whether the version has the key, in documents of some kind.
     pub fn has_key(self, key: Key) -> bool
         ensures { result ≡ has_key self key }
     {
-        match self {
-            Version::First | Version::Second => !is_late(key),
-            Version::Third => true,
-        }
+        self.number() >= key.row().since.number()
     }
 }

@@ -34,6 +34,8 @@ use Rattle.opgen_kinds.specs.Sum.{exact_sum, first_inexact, guard_bits, sum_form
 use Rattle.opgen_operator.specs.Outputs.{recent_words}
 use Rattle.opgen_ports.specs.Ports.{one_input, Recent}
 use Rattle.opgen_ports.specs.Spans.{IsOf}
+use Rattle.opgen_ports.specs.Modes.{mode_of_exact}
+use Rattle.opgen_operator.proofs.EachMode.{asked_whole, fits_each_mode}
 use Rattle.opgen_ports.proofs.InputPorts.{input_bit}
 use Rattle.opgen_kcm.specs.Recipe.{Terms, HasTermsMore}
 use Rattle.opgen_kcm.specs.Multiple.{sum_at}
@@ -128,16 +130,16 @@ module _ (s : Sum) (ranges : IsSum 256 s) (hold : OutputsHold) (some : 1 ≤ (su
 
   good-output : (exact : Bool) → (IsTrue exact → first_inexact s ≡ None) → (inputs : Inputs) (u : ℕ)
       → All (AreWords (s.input.width ∷ [])) inputs
-      → IsGoodRatio exact (exact_sum s (recent_words (one_input s.input) inputs u 0))
+      → IsGoodRatio (mode_of_exact exact) (exact_sum s (recent_words (one_input s.input) inputs u 0))
       (val (slice_flow after.nodes inputs (above_guard s n) (pos u)) (sum_format s))
   good-output exact asked inputs u words =
       let total = sums inputs (pos u) words in
       let x = recent s inputs (pos u) in
       let each = λ (ago : ℕ). ap (λ v. val (input_at inputs 0 s.input.width v) s.input) (back-is ago (pos u)) in
       let same : x ≡ recent_words (one_input s.input) inputs u 0 = λ i ago. each ago i in
-      subst (λ (r : Recent). IsGoodRatio exact (exact_sum s r)
+      subst (λ (r : Recent). IsGoodRatio (mode_of_exact exact) (exact_sum s r)
       (val (slice_flow after.nodes inputs (above_guard s n) (pos u)) (sum_format s))) same
-      (subst (λ y. IsGoodRatio exact (exact_sum s x) y) (sym (output-value inputs (pos u) words total))
+      (subst (λ y. IsGoodRatio (mode_of_exact exact) (exact_sum s x) y) (sym (output-value inputs (pos u) words total))
       (sum-good s ranges x total.total total.summed exact asked))
 
   slice : slice_width (above_guard s n) ≡ (sum_format s).width
@@ -159,8 +161,12 @@ module _ (s : Sum) (ranges : IsSum 256 s) (hold : OutputsHold) (some : 1 ≤ (su
       → FitsInEachMode (Scale s) net × FitsInEachMode (Fir s) net
   fits-sum net made whole =
       let e = made ∙ made-is in (
-        λ exact mode. subst (FitsOperator exact (Scale s)) (sym e) (scale exact mode.whole (subst IsValid e whole)),
-        λ exact mode. subst (FitsOperator exact (Fir s)) (sym e) (fir exact mode.whole (subst IsValid e whole)),
+        fits_each_mode (Scale s) net
+            (λ exact mode. subst (FitsOperator (mode_of_exact exact) (Scale s)) (sym e)
+            (scale exact (asked_whole exact (Scale s) mode) (subst IsValid e whole))),
+        fits_each_mode (Fir s) net
+            (λ exact mode. subst (FitsOperator (mode_of_exact exact) (Fir s)) (sym e)
+            (fir exact (asked_whole exact (Fir s) mode) (subst IsValid e whole))),
       )
     where
       last : Net
@@ -170,7 +176,7 @@ module _ (s : Sum) (ranges : IsSum 256 s) (hold : OutputsHold) (some : 1 ≤ (su
         outputs = record { name = codes "y"; from = above_guard s n } ∷ [];
       }
 
-      scale : (exact : Bool) → (IsTrue exact → first_inexact s ≡ None) → IsValid last → FitsOperator exact (Scale s) last
+      scale : (exact : Bool) → (IsTrue exact → first_inexact s ≡ None) → IsValid last → FitsOperator (mode_of_exact exact) (Scale s) last
       scale exact asked v = record {
         valid = v;
         inputs = refl;
@@ -178,7 +184,7 @@ module _ (s : Sum) (ranges : IsSum 256 s) (hold : OutputsHold) (some : 1 ≤ (su
         good = λ inputs u words within range. good-output exact asked inputs u words;
       }
 
-      fir : (exact : Bool) → (IsTrue exact → first_inexact s ≡ None) → IsValid last → FitsOperator exact (Fir s) last
+      fir : (exact : Bool) → (IsTrue exact → first_inexact s ≡ None) → IsValid last → FitsOperator (mode_of_exact exact) (Fir s) last
       fir exact asked v = record {
         valid = v;
         inputs = refl;

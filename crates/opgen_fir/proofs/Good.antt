@@ -16,6 +16,8 @@ use Rattle.opgen_kinds.specs.declared.sum.Sum.{Sum}
 use Rattle.opgen_ports.specs.Good.{IsGoodRatio}
 use Rattle.opgen_kinds.specs.Sum.{exact_sum, sum_shift, terms, tables, guard_for, guard_bits, first_inexact, IsSum}
 use Rattle.opgen_ports.specs.Ports.{Recent, weighted}
+use Rattle.opgen_ports.specs.Modes.{mode_of_exact}
+use Rattle.opgen_num.specs.declared.mode.Mode.TheVariants.{Faithful}
 use Rattle.opgen_ports.specs.Reaches.{up}
 use Rattle.opgen_fir.specs.Summed.{weighted_first, units, IsNear, tables_first, IsSummed}
 use Rattle.opgen_fir.proofs.Factors.{den-units, units-some}
@@ -37,7 +39,7 @@ unrounded : (e : ℤ) → rounded 0 e ≡ e
 unrounded e =
     one_floor (pos 1) (omega (arith, ints)) (e +ℤ pos 0) (rounded 0 e) e (rounded-floor 0 e) (omega (arith, ints), omega (arith, ints))
 
-exact-good : (m : ℕ) (n y : ℤ) → 0 < m → pos m *ℤ y ≡ n → (exact : Bool) → IsGoodLinear n (pos m) y exact
+exact-good : (m : ℕ) (n y : ℤ) → 0 < m → pos m *ℤ y ≡ n → (exact : Bool) → IsGoodLinear n (pos m) y (mode_of_exact exact)
 exact-good m n y some e true = e
 exact-good m n y some e false = within_one n (pos m) y (omega (arith, ints, e, some)) (omega (arith, ints, e, some))
 
@@ -60,13 +62,13 @@ module _ (s : Sum) (sum : IsSum 256 s) (x : Recent) (e : ℤ) (summed : IsSummed
   all-tables = ap (λ (l : List ℤ). terms l * div_ceil s.input.width 6) (take_all (length s.coefs) s.coefs (omega arith))
 
   over-units : (exact : Bool)
-      → IsGoodLinear (weighted s.coefs x *ℤ pos (up (sum_shift s))) (pos (units s)) (rounded (guard_bits s) e) exact
-      → IsGoodRatio exact (exact_sum s x) (rounded (guard_bits s) e)
+      → IsGoodLinear (weighted s.coefs x *ℤ pos (up (sum_shift s))) (pos (units s)) (rounded (guard_bits s) e) (mode_of_exact exact)
+      → IsGoodRatio (mode_of_exact exact) (exact_sum s x) (rounded (guard_bits s) e)
   over-units exact h =
-      subst (λ m. IsGoodLinear (weighted s.coefs x *ℤ pos (up (sum_shift s))) m (rounded (guard_bits s) e) exact)
+      subst (λ m. IsGoodLinear (weighted s.coefs x *ℤ pos (up (sum_shift s))) m (rounded (guard_bits s) e) (mode_of_exact exact))
       (sym (den-units s (pos 0) sum)) h
 
-  whole-good : first_inexact s ≡ None → (exact : Bool) → IsGoodRatio exact (exact_sum s x) (rounded (guard_bits s) e)
+  whole-good : first_inexact s ≡ None → (exact : Bool) → IsGoodRatio (mode_of_exact exact) (exact_sum s x) (rounded (guard_bits s) e)
   whole-good none exact =
       let g : guard_bits s ≡ 0 = ap (λ i. guard_for i s) none in
       let value : rounded (guard_bits s) e ≡ e = ap (λ n. rounded n e) g ∙ unrounded e in
@@ -74,7 +76,7 @@ module _ (s : Sum) (sum : IsSum 256 s) (x : Recent) (e : ℤ) (summed : IsSummed
       (exact-good (units s) (weighted s.coefs x *ℤ pos (up (sum_shift s))) (rounded (guard_bits s) e) (units-some s sum)
       (ap (λ z. pos (units s) *ℤ z) value ∙ summed.whole g none ∙ numerator) exact)
 
-  some-good : (i : ℕ) → first_inexact s ≡ Some i → IsGoodRatio false (exact_sum s x) (rounded (guard_bits s) e)
+  some-good : (i : ℕ) → first_inexact s ≡ Some i → IsGoodRatio Faithful (exact_sum s x) (rounded (guard_bits s) e)
   some-good i found =
       let g = guard_bits s in
       let few : tables_first s (length s.coefs) < 2 ^ g =
@@ -85,11 +87,11 @@ module _ (s : Sum) (sum : IsSum 256 s) (x : Recent) (e : ℤ) (summed : IsSummed
       (near-good (units s) (tables_first s (length s.coefs)) g e (weighted s.coefs x *ℤ pos (up (sum_shift s))) (units-some s sum) few near)
 
   -- the rounded sum is good, exact where that is asked for
-  pub sum-good : (exact : Bool) → (IsTrue exact → first_inexact s ≡ None) → IsGoodRatio exact (exact_sum s x) (rounded (guard_bits s) e)
+  pub sum-good : (exact : Bool) → (IsTrue exact → first_inexact s ≡ None) → IsGoodRatio (mode_of_exact exact) (exact_sum s x) (rounded (guard_bits s) e)
   sum-good exact asked = by (first_inexact s) refl exact asked
     where
       by : (i : Option ℕ) → first_inexact s ≡ i → (exact : Bool) → (IsTrue exact → first_inexact s ≡ None)
-          → IsGoodRatio exact (exact_sum s x) (rounded (guard_bits s) e)
+          → IsGoodRatio (mode_of_exact exact) (exact_sum s x) (rounded (guard_bits s) e)
       by None none exact asked = whole-good none exact
       by (Some i) found false asked = some-good i found
       by (Some i) found true asked = whole-good (asked refl) true

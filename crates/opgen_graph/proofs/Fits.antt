@@ -10,7 +10,9 @@ use Rattle.opgen_num.specs.Rounding.{IsGoodLinear}
 use Rattle.opgen_num.specs.Words.{val}
 use Rattle.opgen_num.proofs.Quotients.{within_one}
 use Rattle.opgen_net.specs.declared.net.Net.{Net}
-use Rattle.opgen_net.specs.Flow.{flow, input_at, slice_flow}
+use Rattle.opgen_design.specs.Run.{AreWords}
+use Rattle.opgen_net.specs.Flow.{Inputs, flow, input_at, slice_flow}
+use Rattle.opgen_net.specs.Valid.{input_widths}
 use Rattle.opgen_kinds.specs.declared.several.Several.{Several}
 use Rattle.opgen_operator.specs.declared.operator.Operator.TheVariants.{Mcm}
 use Rattle.opgen_ports.specs.declared.ports.PortFormat.{PortFormat}
@@ -20,8 +22,11 @@ use Rattle.opgen_ports.specs.Reaches.{reach_over}
 use Rattle.opgen_ports.proofs.Widths.{some_width}
 use Rattle.opgen_kinds.proofs.of_kind.Several.{multiple_width}
 use Rattle.opgen_operator.specs.Fits.{FitsOperator, FitsInEachMode}
-use Rattle.opgen_kinds.specs.Several.{IsAcceptedSeveral, constant_format, numbered, multiple_ports, IsSeveral}
+use Rattle.opgen_kinds.specs.Several.{AreGoodMultiples, IsAcceptedSeveral, constant_format, numbered, multiple_ports, IsSeveral}
 use Rattle.opgen_operator.specs.Outputs.{recent_words, output_words}
+use Rattle.opgen_ports.specs.Modes.{mode_of_exact}
+use Rattle.opgen_operator.proofs.EachMode.{fits_each_mode}
+use Rattle.opgen_ports.proofs.Marks.{exact_or_faithful}
 use Rattle.opgen_ports.specs.Ports.{one_input}
 use Rattle.opgen_operator.proofs.Accepted.{accepted_ranges}
 use Rattle.opgen_graph.specs.declared.ranks.Graph.{Graph}
@@ -38,7 +43,7 @@ pub now : (t : ℕ) → pos t -ℤ pos 0 ≡ pos t
 now t = omega (arith, ints)
 
 -- the exact value is a good output
-pub exact_good : (exact : Bool) (n y : ℤ) → y ≡ n → IsGoodLinear n (pos 1) y exact
+pub exact_good : (exact : Bool) (n y : ℤ) → y ≡ n → IsGoodLinear n (pos 1) y (mode_of_exact exact)
 exact_good true n y e = omega (arith, ints, e)
 exact_good false n y e = within_one n (pos 1) y (omega (arith, ints, e)) (omega (arith, ints, e))
 
@@ -84,22 +89,32 @@ module _ (m : Several) (is : IsAcceptedSeveral m) (graph : Graph) (serves : Serv
   outputs_are : net.outputs ≡ has.made
   outputs_are = has.outputs ∙ ap (λ os. os ++ has.made) stands.later.grown.outputs
 
-  fits-operator : (exact : Bool) → FitsOperator exact (Mcm m) net
+  abbrev now_at : Inputs → ℕ → ℤ
+  now_at inputs t = recent_words (one_input m.input) inputs t 0 0
+
+  abbrev shown_at : Inputs → ℕ → (port : ℕ) → ℤ
+  shown_at inputs t = output_words (multiple_ports m) (map (λ o. slice_flow net.nodes inputs o.from (pos t)) net.outputs)
+
+  good-multiples : (exact : Bool) (inputs : Inputs) (t : ℕ) → All (AreWords (input_widths net)) inputs
+      → AreGoodMultiples (mode_of_exact exact) m.constants (now_at inputs t) (shown_at inputs t)
+  good-multiples exact inputs t words k c got =
+      let x : ℤ = now_at inputs t in
+      let input : val (flow net.nodes inputs 0 (pos t)) m.input ≡ x =
+      ap (λ w. val w m.input) (keeps.nodes.flow inputs 0 (pos t) (omega arith))
+      ∙ ap (λ u. val (input_at inputs 0 m.input.width u) m.input) (sym (now t)) in
+      let value : shown_at inputs t k ≡ x *ℤ c =
+      ap (λ os. output_words (multiple_ports m) (map (λ o. slice_flow net.nodes inputs o.from (pos t)) os) k) outputs_are
+      ∙ right-at m.input net has.made m.constants has.right 0 k c got inputs (pos t) words
+      ∙ ap (λ z. z *ℤ c) input in
+      exact_good exact (x *ℤ c) _ value
+
+  fits-operator : (exact : Bool) → FitsOperator (mode_of_exact exact) (Mcm m) net
   fits-operator exact = record {
     valid = has.keeps.valid;
     inputs = keeps.inputs;
     outputs = ap (map _) outputs_are ∙ has.ports;
-    good = λ inputs t words within range k c got.
-        let x : ℤ = recent_words (one_input m.input) inputs t 0 0 in
-        let input : val (flow net.nodes inputs 0 (pos t)) m.input ≡ x =
-        ap (λ w. val w m.input) (keeps.nodes.flow inputs 0 (pos t) (omega arith))
-        ∙ ap (λ u. val (input_at inputs 0 m.input.width u) m.input) (sym (now t)) in
-        let value : output_words (multiple_ports m) (map (λ o. slice_flow net.nodes inputs o.from (pos t)) net.outputs) k ≡ x *ℤ c =
-        ap (λ os. output_words (multiple_ports m) (map (λ o. slice_flow net.nodes inputs o.from (pos t)) os) k) outputs_are
-        ∙ right-at m.input net has.made m.constants has.right 0 k c got inputs (pos t) words
-        ∙ ap (λ z. z *ℤ c) input in
-        exact_good exact (x *ℤ c) _ value;
+    good = λ inputs t words within range. (exact_or_faithful exact, good-multiples exact inputs t words);
   }
 
   pub fits_modes : FitsInEachMode (Mcm m) net
-  fits_modes exact mode = fits-operator exact
+  fits_modes = fits_each_mode (Mcm m) net (λ exact mode. fits-operator exact)

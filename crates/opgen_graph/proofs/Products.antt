@@ -84,7 +84,7 @@ module _ (bits : ℕ) (p : Placed) (valid : IsValid p.net) (wide : IsWidth bits)
   negated-placed =
       let node = Cells Add bits (difference_of (length p.net.nodes) p.place) in
       record {
-        later = later-then p.net zeros (negated bits p).net zeros-later (later-node zeros node zeros-later.valid (tt, negated-fits) refl);
+        later = later-then p.net zeros (negated bits p).net zeros-later (later-node zeros node zeros-later.valid (refl, negated-fits) refl);
         width = width-append_last zeros.nodes node;
       }
 

@@ -1,6 +1,6 @@
 -- The nodes of an adder: its operands, their sum or difference, and the bits of that above the lowest.
 use Rattle.std.proofs.Common.{◌≡◌, ℕ, zero, suc, ◌+◌, ◌*◌, ◌^◌, ◌<◌, ◌≤◌, Bool, true, false, List, [], length, drop, Some, None, refl, sym, ap, ◌∙◌, subst, arith, ◌∷◌}
-use Rattle.std.specs.Prelude.{ℤ, pos, ◌*ℤ◌, All, slice_get, slice_index, option_and_then, nat_eq, nat_lt, if◌then◌else◌}
+use Rattle.std.specs.Prelude.{ℤ, pos, ◌*ℤ◌, All, IsTrue, slice_get, slice_index, option_and_then, nat_eq, nat_lt, if◌then◌else◌}
 use Rattle.std.proofs.lemmas.Bool.{eq-eqb}
 use Rattle.std.proofs.lemmas.List.{length-drop, take_all}
 use Rattle.std.proofs.lemmas.Option.{slice_get-get_or}
@@ -20,6 +20,7 @@ use Rattle.opgen_net.specs.declared.node.Node.{Node}
 use Rattle.opgen_net.specs.declared.node.Node.TheVariants.{Cells}
 use Rattle.opgen_net.specs.declared.word_bits.WordBit.{WordBit}
 use Rattle.opgen_net.specs.Flow.{Inputs, flow, streams_on, stream_at}
+use Rattle.opgen_net.specs.Cells.{is_sum}
 use Rattle.opgen_net.specs.Valid.{widths, input_widths, IsValid, FitsNodes}
 use Rattle.opgen_net.specs.WordRule.{IsThere, bits_from}
 use Rattle.opgen_net.proofs.Appending.{flow-append_last, width-append_last}
@@ -117,6 +118,18 @@ module _ (ws : List ℕ) where
       go true = pair-fits Minus b a bits refl w g h
       go false = pair-fits Minus a b bits refl w h g
 
+-- an adder's node is one sum of two nodes
+pub added-sum : (form : Form) (u v a b : ℕ) → IsTrue (is_sum (added form u v a b))
+added-sum A u v a b = refl
+added-sum B u v a b = refl
+added-sum C u v a b = refl
+added-sum D u v a b = refl
+added-sum E u v a b = go (nat_lt u v)
+  where
+    go : (t : Bool) → IsTrue (is_sum (if t then difference_of b a else difference_of a b))
+    go true = refl
+    go false = refl
+
 module _ (signed : Bool) (bits : ℕ) (net : Net) (a : Adder) (u v : Multiple) (valid : IsValid net) (wide : IsWidth bits)
     (node_u : IsNode net u) (node_v : IsNode net v) where
   abbrev pub first : Placed
@@ -159,7 +172,7 @@ module _ (signed : Bool) (bits : ℕ) (net : Net) (a : Adder) (u v : Multiple) (
 
   pub sum-placed : IsPlacedNode net bits third
   sum-placed = record {
-    later = later-then net second.net third.net second-later (later-node second.net node second-placed.later.valid (tt, node-fits) refl);
+    later = later-then net second.net third.net second-later (later-node second.net node second-placed.later.valid (added-sum a.step.form a.u a.v first.place second.place, node-fits) refl);
     width = width-append_last second.net.nodes node;
   }
 

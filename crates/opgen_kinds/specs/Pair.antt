@@ -4,11 +4,14 @@ use Rattle.std.proofs.lemmas.Int.{ints}
 use Rattle.std.specs.Prelude.{ℕ, ◌≡◌, refl, ◌≤ℤ◌, ◌<◌, Bool, false, Some, None, ◌+◌, ℤ, pos, negsuc, neg_ℤ, unsigned_abs, List, ◌+ℤ◌, ◌*ℤ◌, ◌≢◌, true, codes, ◌-ℤ◌, []}
 use Rattle.opgen_num.specs.declared.format.Format.{Format}
 use Rattle.opgen_num.specs.declared.format.Ratio.{Ratio}
+use Rattle.opgen_num.specs.declared.mode.Mode.TheVariants.{Faithful}
 use Rattle.opgen_kinds.specs.declared.pair.Pair.{Pair}
 use Rattle.opgen_ports.specs.declared.ports.PortFormat.{PortFormat}
+use Rattle.opgen_ports.specs.Acceptance.{Acceptance}
 use Rattle.opgen_ports.specs.Accepted.{IsAcceptable}
 use Rattle.opgen_ports.specs.Good.{IsGoodRatio}
 use Rattle.opgen_ports.specs.In128.{IsIn128, IsRatioIn128}
+use Rattle.opgen_ports.specs.Modes.{is_exact, IsExactOrFaithful}
 use Rattle.opgen_ports.specs.Meaning.{Meaning}
 use Rattle.opgen_ports.specs.Ports.{port, with_rest, two_inputs}
 use Rattle.opgen_ports.specs.Ranges.{IsNear, IsInput}
@@ -69,12 +72,12 @@ pub record IsTruncated (n b q r : ℤ) : Type 0 where
 -- the quotient of a and b, with its remainder where it is exact
 abbrev pub IsGoodQuotient : (exact : Bool) → Pair → (a b q r : ℤ) → Type 0
 IsGoodQuotient true p a b q r = IsTruncated (dividend p a) b q r
-IsGoodQuotient false p a b q r = IsGoodRatio false (exact_quotient p a b) q
+IsGoodQuotient false p a b q r = IsGoodRatio Faithful (exact_quotient p a b) q
 
 -- the format of the quotient holds every exact value, rounded down or up
 abbrev pub QuotientsHold : Pair → Type 0
 QuotientsHold p = IsPair p → pos 0 ≤ℤ pair_shift p → (a b : ℤ) → IsOf p.a a → IsOf p.b b → b ≢ pos 0
-    → (y : ℤ) → IsGoodRatio false (exact_quotient p a b) y → IsOf (quotient_format p) y
+    → (y : ℤ) → IsGoodRatio Faithful (exact_quotient p a b) y → IsOf (quotient_format p) y
 
 -- the format of the remainder holds every remainder
 abbrev pub RemaindersHold : Pair → Type 0
@@ -84,12 +87,20 @@ RemaindersHold p = IsPair p → (a b : ℤ) → IsOf p.a a → IsOf p.b b
 -- what a quotient means: its divisor is not 0
 abbrev pub pair_meaning : Pair → Meaning
 pair_meaning p = record {
-  IsIn = λ version. version < 3 → p.a.signed ≡ false;
-  IsRanged = IsPair p;
   inputs = two_inputs p.a p.b;
-  given_names = [];
   outputs = quotient_ports p.exact p;
   divisor = Some 1;
+  memory = 0;
+  value = None;
+  IsGood = λ mode inputs outputs. IsExactOrFaithful mode × IsGoodQuotient (is_exact mode) p (inputs 0 0) (inputs 1 0) (outputs 0) (outputs 1);
+}
+
+-- which quotients are accepted
+abbrev pub pair_acceptance : Pair → Acceptance
+pair_acceptance p = record {
+  IsIn = λ version. version < 3 → p.a.signed ≡ false;
+  IsRanged = IsPair p;
+  given_names = [];
   shift = pair_shift p;
   least_shift = pos 0;
   most_shift = λ version. pos 48;
@@ -98,14 +109,12 @@ pair_meaning p = record {
   HasRoom = Unit {0};
   own_mark = Some p.exact;
   IsExactIn128 = λ inputs. IsRatioIn128 (exact_quotient p (inputs 0 0) (inputs 1 0)) × IsIn128 (dividend p (inputs 0 0));
-  value = None;
-  IsGood = λ exact inputs outputs. IsGoodQuotient exact p (inputs 0 0) (inputs 1 0) (outputs 0) (outputs 1);
   FormatsHold = QuotientsHold p × RemaindersHold p;
   has_graph = false;
 }
 
 abbrev pub IsAcceptedPair : Pair → Type 0
-IsAcceptedPair p = IsAcceptable (pair_meaning p)
+IsAcceptedPair p = IsAcceptable (pair_meaning p) (pair_acceptance p)
 
 -- -7 by 2 is -3 and leaves -1; -8 by 3 is -2 and leaves -2; 5 by -4 is -1 and leaves 1; -8 by -1 is 8
 minus_seven : IsTruncated (negsuc 6) (pos 2) (negsuc 2) (negsuc 0)

@@ -4,10 +4,12 @@ use Rattle.opgen_num.specs.declared.format.Format.{Format}
 use Rattle.opgen_num.specs.declared.format.Ratio.{Ratio}
 use Rattle.opgen_num.specs.Formats.{range_width, is_negative}
 use Rattle.opgen_kinds.specs.declared.poly.Poly.{Poly as Polynomial}
+use Rattle.opgen_ports.specs.Acceptance.{Acceptance}
 use Rattle.opgen_ports.specs.Accepted.{IsAcceptable}
 use Rattle.opgen_ports.specs.Good.{IsGoodRatio}
 use Rattle.opgen_ports.specs.In128.{IsRatioIn128}
 use Rattle.opgen_kinds.specs.Horner.{degree, result_places, poly_guard, guarded, partial_width, all_guarded, result_low, result_high}
+use Rattle.opgen_ports.specs.Modes.{IsExactOrFaithful}
 use Rattle.opgen_ports.specs.Meaning.{Meaning}
 use Rattle.opgen_ports.specs.Ports.{port, one_input}
 use Rattle.opgen_ports.specs.Ranges.{IsInput, IsWithin}
@@ -46,12 +48,20 @@ exact_poly p x = record {
 -- rounded up. The result for 10 / 3 is 3, whose two bits do not hold 4.
 abbrev pub poly_meaning : Polynomial → Meaning
 poly_meaning p = record {
-  IsIn = λ version. version ≢ 1;
-  IsRanged = IsPoly p;
   inputs = one_input p.input;
-  given_names = [];
   outputs = port (codes "y") (poly_format p) ∷ [];
   divisor = None;
+  memory = 0;
+  value = Some (λ inputs. exact_poly p (inputs 0 0));
+  IsGood = λ mode inputs outputs. IsExactOrFaithful mode × IsGoodRatio mode (exact_poly p (inputs 0 0)) (outputs 0);
+}
+
+-- which polynomials are accepted
+abbrev pub poly_acceptance : Polynomial → Acceptance
+poly_acceptance p = record {
+  IsIn = λ version. version ≢ 1;
+  IsRanged = IsPoly p;
+  given_names = [];
   shift = pos 0;
   least_shift = pos 0;
   most_shift = λ version. pos 0;
@@ -60,14 +70,12 @@ poly_meaning p = record {
   HasRoom = Unit {0};
   own_mark = None;
   IsExactIn128 = λ inputs. IsRatioIn128 (exact_poly p (inputs 0 0));
-  value = Some (λ inputs. exact_poly p (inputs 0 0));
-  IsGood = λ exact inputs outputs. IsGoodRatio exact (exact_poly p (inputs 0 0)) (outputs 0);
   FormatsHold = Unit {0};
   has_graph = false;
 }
 
 abbrev pub IsAcceptedPoly : Polynomial → Type 0
-IsAcceptedPoly p = IsAcceptable (poly_meaning p)
+IsAcceptedPoly p = IsAcceptable (poly_meaning p) (poly_acceptance p)
 
 -- The numbers of a polynomial: a coefficient has 30 bits, 16 places after the point and 4 guard bits, so 50 in units of the lowest guard
 -- bit; five of them reach 2 ^ 53, and a partial value has 54 bits; a result, without the guard bits, has 50. With the 16 bits of the

@@ -2,8 +2,10 @@
 use Rattle.std.specs.Prelude.{ℕ, ◌≡◌, ◌≤◌, ◌≤ℤ◌, false, Some, None, ◌+◌, ◌^◌, ℤ, pos, neg_ℤ, [], ◌∷◌, ◌+ℤ◌, ◌*ℤ◌, codes, if◌then◌else◌, ◌-ℤ◌, int_lt}
 use Rattle.opgen_num.specs.declared.format.Format.{Format}
 use Rattle.opgen_num.specs.declared.format.Ratio.{Ratio}
+use Rattle.opgen_num.specs.declared.mode.Mode.TheVariants.{Faithful}
 use Rattle.opgen_kinds.specs.declared.product.Product.{Product}
 use Rattle.opgen_ports.specs.declared.reach.Reach.{Reach}
+use Rattle.opgen_ports.specs.Acceptance.{Acceptance}
 use Rattle.opgen_ports.specs.Accepted.{IsAcceptable}
 use Rattle.opgen_ports.specs.Good.{IsGoodRatio}
 use Rattle.opgen_ports.specs.In128.{IsRatioIn128}
@@ -43,17 +45,25 @@ exact_product p a b = record { num = (a *ℤ b) *ℤ pos (up (product_shift p));
 -- the format of the output holds every exact value, rounded down or up
 abbrev pub ProductsHold : Product → Type 0
 ProductsHold p = IsProduct p → (a b : ℤ) → IsOf p.a a → IsOf p.b b
-    → (y : ℤ) → IsGoodRatio false (exact_product p a b) y → IsOf (product_format p) y
+    → (y : ℤ) → IsGoodRatio Faithful (exact_product p a b) y → IsOf (product_format p) y
 
 -- what a product means
 abbrev pub product_meaning : Product → Meaning
 product_meaning p = record {
-  IsIn = λ version. (version ≡ 1 → p.counters ≡ false) × AreNear version (p.a.lsb ∷ p.b.lsb ∷ p.out_lsb ∷ []);
-  IsRanged = IsProduct p;
   inputs = two_inputs p.a p.b;
-  given_names = [];
   outputs = port (codes "y") (product_format p) ∷ [];
   divisor = None;
+  memory = 0;
+  value = Some (λ inputs. exact_product p (inputs 0 0) (inputs 1 0));
+  IsGood = λ mode inputs outputs. IsGoodRatio mode (exact_product p (inputs 0 0) (inputs 1 0)) (outputs 0);
+}
+
+-- which products are accepted
+abbrev pub product_acceptance : Product → Acceptance
+product_acceptance p = record {
+  IsIn = λ version. (version ≡ 1 → p.counters ≡ false) × AreNear version (p.a.lsb ∷ p.b.lsb ∷ p.out_lsb ∷ []);
+  IsRanged = IsProduct p;
+  given_names = [];
   shift = product_shift p;
   least_shift = neg_ℤ (pos 48);
   most_shift = λ version. pos 48;
@@ -62,14 +72,12 @@ product_meaning p = record {
   HasRoom = Unit {0};
   own_mark = None;
   IsExactIn128 = λ inputs. IsRatioIn128 (exact_product p (inputs 0 0) (inputs 1 0));
-  value = Some (λ inputs. exact_product p (inputs 0 0) (inputs 1 0));
-  IsGood = λ exact inputs outputs. IsGoodRatio exact (exact_product p (inputs 0 0) (inputs 1 0)) (outputs 0);
   FormatsHold = ProductsHold p;
   has_graph = false;
 }
 
 abbrev pub IsAcceptedProduct : Product → Type 0
-IsAcceptedProduct p = IsAcceptable (product_meaning p)
+IsAcceptedProduct p = IsAcceptable (product_meaning p) (product_acceptance p)
 
 -- the exact values of a product, over all numbers of its inputs
 abbrev pub ProductsReach : Type 0

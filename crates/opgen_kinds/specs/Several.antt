@@ -1,13 +1,16 @@
 -- One input times several constants.
 use Rattle.std.specs.Fmt.{decimal}
-use Rattle.std.specs.Prelude.{ℕ, ◌≡◌, ◌≤◌, ◌<◌, Bool, false, IsTrue, All, Some, None, ◌+◌, ℤ, pos, length, List, [], ◌∷◌, ◌*ℤ◌, map, true, slice_get, codes, ◌++◌}
+use Rattle.std.specs.Prelude.{ℕ, ◌≡◌, ◌≤◌, ◌<◌, false, IsTrue, All, Some, None, ◌+◌, ℤ, pos, length, List, [], ◌∷◌, ◌*ℤ◌, map, true, slice_get, codes, ◌++◌}
 use Rattle.opgen_num.specs.declared.format.Format.{Format}
 use Rattle.opgen_num.specs.declared.format.Ratio.{Ratio}
+use Rattle.opgen_num.specs.declared.mode.Mode.{Mode}
 use Rattle.opgen_kinds.specs.declared.several.Several.{Several}
 use Rattle.opgen_ports.specs.declared.ports.PortFormat.{PortFormat}
+use Rattle.opgen_ports.specs.Acceptance.{Acceptance}
 use Rattle.opgen_ports.specs.Accepted.{IsAcceptable}
 use Rattle.opgen_ports.specs.Good.{IsGoodRatio}
 use Rattle.opgen_ports.specs.In128.{IsRatioIn128}
+use Rattle.opgen_ports.specs.Modes.{IsExactOrFaithful}
 use Rattle.opgen_ports.specs.Meaning.{Meaning}
 use Rattle.opgen_ports.specs.Ranges.{AreNear, IsInput, IsWithin}
 use Rattle.opgen_ports.specs.Ports.{port, covering, one_input}
@@ -44,9 +47,9 @@ abbrev pub exact_multiple : (constant x : ℤ) → Ratio
 exact_multiple constant x = record { num = x *ℤ constant; den = pos 1 }
 
 -- output k is good for constant k
-abbrev pub AreGoodMultiples : (exact : Bool) (constants : List ℤ) (x : ℤ) (outputs : ℕ → ℤ) → Type 0
-AreGoodMultiples exact constants x outputs =
-    (k : ℕ) (t : ℤ) → slice_get constants k ≡ Some t → IsGoodRatio exact (exact_multiple t x) (outputs k)
+abbrev pub AreGoodMultiples : (mode : Mode) (constants : List ℤ) (x : ℤ) (outputs : ℕ → ℤ) → Type 0
+AreGoodMultiples mode constants x outputs =
+    (k : ℕ) (t : ℤ) → slice_get constants k ≡ Some t → IsGoodRatio mode (exact_multiple t x) (outputs k)
 
 -- the format of an output holds every multiple
 abbrev pub MultiplesHold : Several → Type 0
@@ -55,13 +58,21 @@ MultiplesHold m = (constant x : ℤ) → IsOf m.input x → IsOf (constant_forma
 -- what several multiples mean
 abbrev pub several_meaning : Several → Meaning
 several_meaning m = record {
+  inputs = one_input m.input;
+  outputs = multiple_ports m;
+  divisor = None;
+  memory = 0;
+  value = None;
+  IsGood = λ mode inputs outputs. IsExactOrFaithful mode × AreGoodMultiples mode m.constants (inputs 0 0) outputs;
+}
+
+-- which multiples are accepted
+abbrev pub several_acceptance : Several → Acceptance
+several_acceptance m = record {
   -- versions 1 and 2 have no graphs of a fixed rule
   IsIn = λ version. AreNear version (m.input.lsb ∷ []) × (version < 3 → IsTrue m.searched);
   IsRanged = IsSeveral m;
-  inputs = one_input m.input;
   given_names = [];
-  outputs = multiple_ports m;
-  divisor = None;
   shift = pos 0;
   least_shift = pos 0;
   most_shift = λ version. pos 0;
@@ -70,11 +81,9 @@ several_meaning m = record {
   HasRoom = Unit {0};
   own_mark = None;
   IsExactIn128 = λ inputs. All (λ t. IsRatioIn128 (exact_multiple t (inputs 0 0))) m.constants;
-  value = None;
-  IsGood = λ exact inputs outputs. AreGoodMultiples exact m.constants (inputs 0 0) outputs;
   FormatsHold = MultiplesHold m;
   has_graph = true;
 }
 
 abbrev pub IsAcceptedSeveral : Several → Type 0
-IsAcceptedSeveral m = IsAcceptable (several_meaning m)
+IsAcceptedSeveral m = IsAcceptable (several_meaning m) (several_acceptance m)

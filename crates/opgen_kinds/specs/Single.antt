@@ -5,9 +5,11 @@ use Rattle.opgen_num.specs.declared.format.Format.{Format}
 use Rattle.opgen_num.specs.Rounding.{IsGoodRoot, IsRoot}
 use Rattle.opgen_kinds.specs.declared.single.Single.{Single}
 use Rattle.opgen_ports.specs.declared.ports.PortFormat.{PortFormat}
+use Rattle.opgen_ports.specs.Acceptance.{Acceptance}
 use Rattle.opgen_ports.specs.Accepted.{IsAcceptedIn, IsAcceptable}
 use Rattle.opgen_ports.specs.In128.{IsIn128}
 use Rattle.opgen_ports.specs.Limits.{most_signal}
+use Rattle.opgen_ports.specs.Modes.{is_exact, IsExactOrFaithful}
 use Rattle.opgen_ports.specs.Meaning.{Meaning}
 use Rattle.opgen_ports.specs.Ports.{port, unsigned, with_rest, one_input}
 use Rattle.opgen_ports.specs.Ranges.{IsNear, IsInput}
@@ -55,12 +57,20 @@ RootsHold r = IsSingle r → (x : ℤ) → IsOf r.input x
 -- what a root means
 abbrev pub single_meaning : Single → Meaning
 single_meaning r = record {
-  IsIn = λ version. Unit {0};
-  IsRanged = IsSingle r;
   inputs = one_input r.input;
-  given_names = [];
   outputs = root_ports r.exact r;
   divisor = None;
+  memory = 0;
+  value = None;
+  IsGood = λ mode inputs outputs. IsExactOrFaithful mode × IsGoodSquareRoot (is_exact mode) r (inputs 0 0) (outputs 0) (outputs 1);
+}
+
+-- which roots are accepted
+abbrev pub single_acceptance : Single → Acceptance
+single_acceptance r = record {
+  IsIn = λ version. Unit {0};
+  IsRanged = IsSingle r;
+  given_names = [];
   shift = root_shift r;
   least_shift = pos 0;
   most_shift = λ version. pos 48;
@@ -69,15 +79,13 @@ single_meaning r = record {
   HasRoom = Unit {0};
   own_mark = Some r.exact;
   IsExactIn128 = λ inputs. IsIn128 (pos (square r (inputs 0 0)));
-  value = None;
-  IsGood = λ exact inputs outputs. IsGoodSquareRoot exact r (inputs 0 0) (outputs 0) (outputs 1);
   FormatsHold = RootsHold r;
   has_graph = false;
 }
 
 abbrev pub IsAcceptedSingle : Single → Type 0
-IsAcceptedSingle r = IsAcceptable (single_meaning r)
+IsAcceptedSingle r = IsAcceptable (single_meaning r) (single_acceptance r)
 
 -- The differences that a root takes of its remainders have three bits more than the root, and stay within each version's limit.
 abbrev pub RootsAreNarrow : Type 0
-RootsAreNarrow = (version : ℕ) (r : Single) → IsAcceptedIn version (single_meaning r) → root_width r + 3 ≤ most_signal version
+RootsAreNarrow = (version : ℕ) (r : Single) → IsAcceptedIn version (single_meaning r) (single_acceptance r) → root_width r + 3 ≤ most_signal version

@@ -2,13 +2,16 @@
 use Rattle.std.specs.Prelude.{ℕ, ◌≡◌, ◌≢◌, ◌≤◌, [], ◌∷◌, Bool, false, Some, None, ℤ, pos, unsigned_abs, ◌-◌, List, true, codes}
 use Rattle.opgen_num.specs.declared.format.Format.{Format}
 use Rattle.opgen_num.specs.declared.format.Ratio.{Ratio}
+use Rattle.opgen_num.specs.declared.mode.Mode.TheVariants.{Faithful}
 use Rattle.opgen_num.specs.Formats.{digit_count}
 use Rattle.opgen_num.specs.Rounding.{IsQuotient}
 use Rattle.opgen_kinds.specs.declared.small_div.SmallDiv.{SmallDiv}
 use Rattle.opgen_ports.specs.declared.ports.PortFormat.{PortFormat}
+use Rattle.opgen_ports.specs.Acceptance.{Acceptance}
 use Rattle.opgen_ports.specs.Accepted.{IsAcceptable}
 use Rattle.opgen_ports.specs.Good.{IsGoodRatio}
 use Rattle.opgen_ports.specs.In128.{IsRatioIn128}
+use Rattle.opgen_ports.specs.Modes.{is_exact, IsExactOrFaithful}
 use Rattle.opgen_ports.specs.Meaning.{Meaning}
 use Rattle.opgen_ports.specs.Ranges.{AreNear, IsInput}
 use Rattle.opgen_ports.specs.Ports.{port, unsigned, with_rest, one_input}
@@ -38,7 +41,7 @@ exact_small c x = record { num = x; den = pos c.divisor }
 -- the quotient of x by a small constant, with its remainder where it is exact
 abbrev pub IsGoodSmallQuotient : (exact : Bool) → SmallDiv → (x q r : ℤ) → Type 0
 IsGoodSmallQuotient true c x q r = IsQuotient (unsigned_abs x) c.divisor (unsigned_abs q) (unsigned_abs r)
-IsGoodSmallQuotient false c x q r = IsGoodRatio false (exact_small c x) q
+IsGoodSmallQuotient false c x q r = IsGoodRatio Faithful (exact_small c x) q
 
 -- the formats hold every quotient rounded down, and its remainder
 abbrev pub SmallQuotientsHold : SmallDiv → Type 0
@@ -48,12 +51,20 @@ SmallQuotientsHold c = IsSmallDiv c → (x : ℤ) → IsOf c.input x → (q r : 
 -- what a quotient by a small constant means
 abbrev pub small_meaning : SmallDiv → Meaning
 small_meaning c = record {
-  IsIn = λ version. (version ≢ 1) × AreNear version (c.input.lsb ∷ []);
-  IsRanged = IsSmallDiv c;
   inputs = one_input c.input;
-  given_names = [];
   outputs = small_ports c.exact c;
   divisor = None;
+  memory = 0;
+  value = None;
+  IsGood = λ mode inputs outputs. IsExactOrFaithful mode × IsGoodSmallQuotient (is_exact mode) c (inputs 0 0) (outputs 0) (outputs 1);
+}
+
+-- which quotients by a small constant are accepted
+abbrev pub small_acceptance : SmallDiv → Acceptance
+small_acceptance c = record {
+  IsIn = λ version. (version ≢ 1) × AreNear version (c.input.lsb ∷ []);
+  IsRanged = IsSmallDiv c;
+  given_names = [];
   shift = pos 0;
   least_shift = pos 0;
   most_shift = λ version. pos 0;
@@ -62,11 +73,9 @@ small_meaning c = record {
   HasRoom = Unit {0};
   own_mark = Some c.exact;
   IsExactIn128 = λ inputs. IsRatioIn128 (exact_small c (inputs 0 0));
-  value = None;
-  IsGood = λ exact inputs outputs. IsGoodSmallQuotient exact c (inputs 0 0) (outputs 0) (outputs 1);
   FormatsHold = SmallQuotientsHold c;
   has_graph = false;
 }
 
 abbrev pub IsAcceptedSmallDiv : SmallDiv → Type 0
-IsAcceptedSmallDiv c = IsAcceptable (small_meaning c)
+IsAcceptedSmallDiv c = IsAcceptable (small_meaning c) (small_acceptance c)

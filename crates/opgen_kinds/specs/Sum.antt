@@ -1,13 +1,14 @@
 -- Sums of the last inputs, each times a constant: multiples of one input, and filters of finite response.
 use Rattle.std.specs.Int.{div_ceil}
 use Rattle.std.specs.List.{position_from}
-use Rattle.std.specs.Prelude.{ℕ, ◌≡◌, ◌≤◌, ◌≤ℤ◌, Bool, false, All, Option, Some, None, ◌+◌, ◌*◌, ◌^◌, ◌<◌, ℤ, pos, neg_ℤ, unsigned_abs, length, List, [], ◌∷◌, ◌*ℤ◌, codes, ◌==◌, if◌then◌else◌, not, ◌-ℤ◌, count_by}
+use Rattle.std.specs.Prelude.{ℕ, ◌≡◌, ◌≤◌, ◌≤ℤ◌, Bool, false, All, Option, Some, None, ◌+◌, ◌*◌, ◌^◌, ◌<◌, ℤ, pos, neg_ℤ, unsigned_abs, length, ◌-◌, List, [], ◌∷◌, ◌*ℤ◌, codes, ◌==◌, if◌then◌else◌, not, ◌-ℤ◌, count_by}
 use Rattle.opgen_num.specs.declared.format.Format.{Format}
 use Rattle.opgen_num.specs.declared.format.Ratio.{Ratio}
+use Rattle.opgen_num.specs.declared.mode.Mode.TheVariants.{Faithful}
 use Rattle.opgen_num.specs.Formats.{digit_count}
-use Rattle.opgen_num.specs.Words.{word}
 use Rattle.opgen_kinds.specs.declared.sum.Sum.{Sum}
 use Rattle.opgen_ports.specs.declared.reach.Reach.{Reach}
+use Rattle.opgen_ports.specs.Acceptance.{Acceptance}
 use Rattle.opgen_ports.specs.Accepted.{IsAcceptable}
 use Rattle.opgen_ports.specs.Good.{IsGoodRatio}
 use Rattle.opgen_ports.specs.In128.{IsRatioIn128}
@@ -89,17 +90,25 @@ exact_sum s x = weighted_value s.coefs s.den (sum_shift s) x
 -- the format of the output holds every exact value, rounded down or up
 abbrev pub SumsHold : Sum → Type 0
 SumsHold s = IsSum 256 s → (x : Recent) → ((ago : ℕ) → IsOf s.input (x ago))
-    → (y : ℤ) → IsGoodRatio false (exact_sum s x) y → IsOf (sum_format s) y
+    → (y : ℤ) → IsGoodRatio Faithful (exact_sum s x) y → IsOf (sum_format s) y
 
--- what a sum of so many coefficients at most means
-abbrev pub sum_meaning : (most : ℕ) → Sum → Meaning
-sum_meaning most s = record {
-  IsIn = λ version. (version ≡ 1 → s.counters ≡ false) × AreNear version (s.input.lsb ∷ s.out_lsb ∷ []);
-  IsRanged = IsSum most s;
+-- what a sum means
+abbrev pub sum_meaning : Sum → Meaning
+sum_meaning s = record {
   inputs = one_input s.input;
-  given_names = [];
   outputs = port (codes "y") (sum_format s) ∷ [];
   divisor = None;
+  memory = length s.coefs - 1;
+  value = Some (λ inputs. exact_sum s (inputs 0));
+  IsGood = λ mode inputs outputs. IsGoodRatio mode (exact_sum s (inputs 0)) (outputs 0);
+}
+
+-- which sums are accepted, of so many coefficients at most
+abbrev pub sum_acceptance : (most : ℕ) → Sum → Acceptance
+sum_acceptance most s = record {
+  IsIn = λ version. (version ≡ 1 → s.counters ≡ false) × AreNear version (s.input.lsb ∷ s.out_lsb ∷ []);
+  IsRanged = IsSum most s;
+  given_names = [];
   shift = sum_shift s;
   least_shift = neg_ℤ (pos 48);
   most_shift = most_sum_shift;
@@ -108,21 +117,19 @@ sum_meaning most s = record {
   HasRoom = HasSumRoom s;
   own_mark = Some s.exact;
   IsExactIn128 = λ inputs. IsRatioIn128 (exact_sum s (inputs 0));
-  value = Some (λ inputs. exact_sum s (inputs 0));
-  IsGood = λ exact inputs outputs. IsGoodRatio exact (exact_sum s (inputs 0)) (outputs 0);
   FormatsHold = SumsHold s;
   has_graph = false;
 }
 
-abbrev pub scale_meaning : Sum → Meaning
-scale_meaning s = sum_meaning 1 s
+abbrev pub scale_acceptance : Sum → Acceptance
+scale_acceptance s = sum_acceptance 1 s
 
-abbrev pub fir_meaning : Sum → Meaning
-fir_meaning s = sum_meaning 256 s
+abbrev pub fir_acceptance : Sum → Acceptance
+fir_acceptance s = sum_acceptance 256 s
 
 -- A sum of one coefficient is accepted as a filter where it is as a multiple of its input.
 abbrev pub IsAcceptedSum : Sum → Type 0
-IsAcceptedSum s = IsAcceptable (fir_meaning s)
+IsAcceptedSum s = IsAcceptable (sum_meaning s) (fir_acceptance s)
 
 -- the exact values of a sum, over all inputs before the last cycle and in it
 abbrev pub SumsReach : Type 0

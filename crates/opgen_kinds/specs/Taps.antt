@@ -1,9 +1,10 @@
 -- Filters of whole coefficients in transposed form.
-use Rattle.std.specs.Prelude.{◌≡◌, ◌≢◌, ◌≤◌, ◌<◌, ◌+◌, All, None, Some, false, true, neg_ℤ, pos, length, [], ◌∷◌, codes, IsTrue}
+use Rattle.std.specs.Prelude.{◌≡◌, ◌≢◌, ◌≤◌, ◌<◌, ◌+◌, ◌-◌, All, None, Some, false, true, neg_ℤ, pos, length, [], ◌∷◌, codes, IsTrue}
 use Rattle.opgen_num.specs.declared.format.Format.{Format}
 use Rattle.opgen_num.specs.declared.format.Ratio.{Ratio}
 use Rattle.opgen_kinds.specs.declared.sum.Sum.{Sum}
 use Rattle.opgen_kinds.specs.declared.taps.Taps.{Taps}
+use Rattle.opgen_ports.specs.Acceptance.{Acceptance}
 use Rattle.opgen_ports.specs.Accepted.{IsAcceptable}
 use Rattle.opgen_kinds.specs.Sum.{sum_shift, sum_format, exact_sum, first_inexact, SumsHold}
 use Rattle.opgen_ports.specs.Ranges.{AreNear, IsPower, IsInput, IsWithin}
@@ -42,13 +43,21 @@ exact_taps f x = exact_sum (direct f) x
 -- what whole taps mean: the transposed form has the exact values and the format of the direct one
 abbrev pub taps_meaning : Taps → Meaning
 taps_meaning f = record {
+  inputs = one_input f.input;
+  outputs = port (codes "y") (taps_format f) ∷ [];
+  divisor = None;
+  memory = length f.taps - 1;
+  value = Some (λ inputs. exact_taps f (inputs 0));
+  IsGood = λ mode inputs outputs. IsGoodRatio mode (exact_taps f (inputs 0)) (outputs 0);
+}
+
+-- which filters are accepted
+abbrev pub taps_acceptance : Taps → Acceptance
+taps_acceptance f = record {
   -- version 2 has neither cut outputs nor graphs of a fixed rule
   IsIn = λ version. (version ≢ 1) × AreNear version (f.input.lsb ∷ []) × (version < 3 → (f.out_lsb ≡ f.input.lsb) × IsTrue f.searched);
   IsRanged = IsTaps f;
-  inputs = one_input f.input;
   given_names = [];
-  outputs = port (codes "y") (taps_format f) ∷ [];
-  divisor = None;
   shift = sum_shift (direct f);
   least_shift = neg_ℤ (pos 48);
   most_shift = λ version. pos 0;
@@ -57,14 +66,12 @@ taps_meaning f = record {
   HasRoom = Unit {0};
   own_mark = None;
   IsExactIn128 = λ inputs. IsRatioIn128 (exact_taps f (inputs 0));
-  value = Some (λ inputs. exact_taps f (inputs 0));
-  IsGood = λ exact inputs outputs. IsGoodRatio exact (exact_taps f (inputs 0)) (outputs 0);
   FormatsHold = SumsHold (direct f);
   has_graph = true;
 }
 
 abbrev pub IsAcceptedTaps : Taps → Type 0
-IsAcceptedTaps f = IsAcceptable (taps_meaning f)
+IsAcceptedTaps f = IsAcceptable (taps_meaning f) (taps_acceptance f)
 
 -- The output of an accepted filter has 29 bits more than the input at most: 20 of a tap, 8 of their number and a sign; so 77 with an input of 48.
 abbrev pub TapsHaveRoom : Type 0

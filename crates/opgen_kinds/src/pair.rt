@@ -1,17 +1,19 @@
 //! Quotients of two inputs, both signed or none: what holds of them and of their remainders.
 ghost use Rattle.std.specs.Prelude.{◌≡◌, ◌≤◌, ℤ, ◌≤ℤ◌, IfOk, pos, ◌≢◌, ◌↔◌, ◌<◌, ◌^◌, unsigned_abs, IsTrue};
+ghost use Rattle.opgen_ports.specs.Modes.{mode_of_exact};
 ghost use Rattle.opgen_ports.specs.Meaning.{IsCycleJudged};
-ghost use Rattle.opgen_kinds.specs.Pair.{quotient_format, remainder_format, sign_bit, over, IsTruncated, IsPair, IsAcceptedPair, pair_shift, IsGoodQuotient, quotient_ports, pair_meaning};
+ghost use Rattle.opgen_ports.specs.Profile.{IsProfileOf};
+ghost use Rattle.opgen_kinds.specs.Pair.{quotient_format, remainder_format, sign_bit, over, IsTruncated, IsPair, IsAcceptedPair, pair_shift, IsGoodQuotient, quotient_ports, pair_meaning, pair_acceptance};
 ghost use Rattle.opgen_ports.specs.Ports.{output_numbers, IsHistory, IsCycle, two_inputs};
 ghost use Rattle.opgen_ports.specs.Ranges.{IsNear};
 ghost use Rattle.opgen_ports.specs.Spans.{IsOf};
 
-use opgen_num::{Format, MAX_WIDTH, Ratio, good_linear};
-use opgen_ports::MAX_SHIFT;
+use opgen_num::{Format, MAX_WIDTH, Mode, Ratio, good_linear};
 use opgen_ports::history::{last_two, output};
 use opgen_ports::ports::{PortFormat, operands, with_rest};
 use opgen_ports::ranges::{is_input, is_near};
 use opgen_ports::shifts::{places_up, raised};
+use opgen_ports::{MAX_SHIFT, Profile};
 use std::alloc::{AllocError, Global};
 
 /// The dividend `a` and the divisor `b`.
@@ -63,9 +65,24 @@ impl Pair {
 
     /// Whether a version of specifications has the operator with these fields.
     pub fn is_in(&self, version: u32) -> bool
-        ensures { IsTrue result ↔ (pair_meaning self.now).IsIn version }
+        ensures { IsTrue result ↔ (pair_acceptance self.now).IsIn version }
     {
         version >= 3 || !self.a.signed
+    }
+
+    /// What is said of the operator by numbers and marks alone.
+    pub fn profile(&self) -> Profile
+        ensures { IsProfileOf (pair_meaning self.now) (pair_acceptance self.now) result }
+    {
+        Profile {
+            least_shift: 0,
+            first_most_shift: MAX_SHIFT,
+            most_shift: MAX_SHIFT,
+            divisor: Some(1),
+            has_value: false,
+            has_graph: false,
+            own_mark: Some(self.exact),
+        }
     }
 
     /// The input ports, in order.
@@ -88,7 +105,7 @@ impl Pair {
         requires accepted { IsAcceptedPair self.now }
         requires history { IsHistory (two_inputs self.now.a self.now.b) history.now }
         requires outputs { IsCycle (quotient_ports self.now.exact self.now) outputs.now }
-        ensures { IsCycleJudged (pair_meaning self.now) self.now.exact history.now outputs.now result }
+        ensures { IsCycleJudged (pair_meaning self.now) (mode_of_exact self.now.exact) history.now outputs.now result }
     {
         let (a, b) = last_two(self.a, self.b, history);
         quotient_is_good(self.exact, self, a, b, outputs)
@@ -192,6 +209,6 @@ fn quotient_is_good(exact: bool, pair: &Pair, a: i128, b: i128, outputs: &[u128]
         is_truncated(shifted, b, q, r)
     } else {
         let value = over(shifted, b);
-        good_linear(value.num, value.den, q, false)
+        good_linear(value.num, value.den, q, Mode::Faithful)
     }
 }

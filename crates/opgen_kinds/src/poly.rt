@@ -2,15 +2,18 @@
 ghost use Rattle.std.specs.Prelude.{◌≡◌, ◌*◌, ◌≤◌, ◌^◌, [], ◌∷◌, ℤ, ◌≤ℤ◌, ◌<ℤ◌, codes, IfOk, ◌<◌, pos, neg_ℤ, false, length, get_or, ◌*ℤ◌, unsigned_abs, ◌↔◌, IsTrue, drop};
 ghost use Rattle.opgen_ports.specs.Good.{IsGoodRatio};
 ghost use Rattle.opgen_ports.specs.Meaning.{IsCycleJudged};
+ghost use Rattle.opgen_ports.specs.Profile.{IsProfileOf};
 ghost use Rattle.opgen_kinds.specs.Horner.{degree, result_places, poly_guard, guarded, low_end, high_end, partial_width, all_guarded};
-ghost use Rattle.opgen_kinds.specs.Poly.{exact_poly, terms_from, poly_format, IsPoly, poly_meaning, IsAcceptedPoly};
+ghost use Rattle.opgen_kinds.specs.Poly.{exact_poly, terms_from, poly_format, IsPoly, poly_meaning, poly_acceptance, IsAcceptedPoly};
 ghost use Rattle.opgen_ports.specs.Ports.{number_of, recent_numbers, IsHistory, IsCycle, port, one_input};
 ghost use Rattle.opgen_ports.specs.Spans.{IsOf};
 
 use opgen_budget::guard;
 use opgen_list::Items;
-use opgen_num::{Format, Ratio, good_linear, least_width, nearest, power};
+use opgen_num::{Format, Mode, Ratio, good_linear, least_width, nearest, power};
+use opgen_ports::Profile;
 use opgen_ports::history::{output, recent};
+use opgen_ports::modes::is_exact_or_faithful;
 use opgen_ports::ports::{PortFormat, one};
 use opgen_ports::ranges::{are_within, is_denominator, is_input, is_length};
 use opgen_ports::shifts::raised;
@@ -125,9 +128,24 @@ impl Poly {
 
     /// Whether a version of specifications has the operator with these fields.
     pub fn is_in(&self, version: u32) -> bool
-        ensures { IsTrue result ↔ (poly_meaning self.now).IsIn version }
+        ensures { IsTrue result ↔ (poly_acceptance self.now).IsIn version }
     {
         version != 1
+    }
+
+    /// What is said of the operator by numbers and marks alone.
+    pub fn profile(&self) -> Profile
+        ensures { IsProfileOf (poly_meaning self.now) (poly_acceptance self.now) result }
+    {
+        Profile {
+            least_shift: 0,
+            first_most_shift: 0,
+            most_shift: 0,
+            divisor: None,
+            has_value: true,
+            has_graph: false,
+            own_mark: None,
+        }
     }
 
     /// The input ports, in order.
@@ -158,14 +176,14 @@ impl Poly {
     }
 
     /// Whether the outputs of the last cycle are good, or its inputs out of range.
-    pub fn judge(&self, exact: bool, history: &[u128], outputs: &[u128]) -> bool
+    pub fn judge(&self, mode: Mode, history: &[u128], outputs: &[u128]) -> bool
         requires accepted { IsAcceptedPoly self.now }
         requires history { IsHistory (one_input self.now.input) history.now }
         requires outputs { IsCycle (port (codes "y") (poly_format self.now) ∷ []) outputs.now }
-        ensures { IsCycleJudged (poly_meaning self.now) exact history.now outputs.now result }
+        ensures { IsCycleJudged (poly_meaning self.now) mode history.now outputs.now result }
     {
         let x = recent(self.input, history, 0);
-        poly_is_good(exact, self, x, outputs[0])
+        is_exact_or_faithful(mode) && poly_is_good(mode, self, x, outputs[0])
     }
 }
 
@@ -239,13 +257,13 @@ fn exact_poly(poly: &Poly, x: i128) -> Ratio
     }
 }
 
-fn poly_is_good(exact: bool, poly: &Poly, x: i128, y: u128) -> bool
+fn poly_is_good(mode: Mode, poly: &Poly, x: i128, y: u128) -> bool
     requires poly { IsPoly poly.now }
     requires x { IsOf poly.now.input x }
     requires y { y < 2 ^ (poly_format poly.now).width }
-    ensures { IsTrue result ↔ IsGoodRatio exact (exact_poly poly.now x) (number_of (poly_format poly.now) y) }
+    ensures { IsTrue result ↔ IsGoodRatio mode (exact_poly poly.now x) (number_of (poly_format poly.now) y) }
 {
     let value = exact_poly(poly, x);
     let y = output(poly.output(), y);
-    good_linear(value.num, value.den, y, exact)
+    good_linear(value.num, value.den, y, mode)
 }

@@ -2,18 +2,19 @@
 ghost use Rattle.std.specs.Prelude.{◌≡◌, ◌+◌, ◌≤◌, ◌^◌, [], ◌∷◌, ℤ, neg_ℤ, ◌≤ℤ◌, codes, IfOk, ◌<◌, pos, negsuc, ◌<ℤ◌, ◌↔◌, IsTrue};
 ghost use Rattle.opgen_ports.specs.Good.{IsGoodRatio};
 ghost use Rattle.opgen_ports.specs.Meaning.{IsCycleJudged};
-ghost use Rattle.opgen_kinds.specs.Product.{product_shift, product_format, IsProduct, IsAcceptedProduct, product_reach, product_places, product_need, exact_product, product_meaning};
+ghost use Rattle.opgen_ports.specs.Profile.{IsProfileOf};
+ghost use Rattle.opgen_kinds.specs.Product.{product_shift, product_format, IsProduct, IsAcceptedProduct, product_reach, product_places, product_need, exact_product, product_meaning, product_acceptance};
 ghost use Rattle.opgen_ports.specs.Ports.{number_of, recent_numbers, IsHistory, IsCycle, port, two_inputs};
 ghost use Rattle.opgen_ports.specs.Reaches.{width_of};
 ghost use Rattle.opgen_ports.specs.Spans.{IsOf};
 
-use opgen_num::{Format, MAX_WIDTH, Ratio, good_linear};
-use opgen_ports::MAX_SHIFT;
+use opgen_num::{Format, MAX_WIDTH, Mode, Ratio, good_linear};
 use opgen_ports::history::{last_two, output};
 use opgen_ports::ports::{PortFormat, one, operands};
 use opgen_ports::ranges::{are_near, is_input, is_power};
 use opgen_ports::reach::{Reach, in_places, reach_of_product, width_of};
 use opgen_ports::shifts::{places_down, places_up, raised};
+use opgen_ports::{MAX_SHIFT, Profile};
 use std::alloc::{AllocError, Global};
 
 #[derive(Clone, Copy, Debug, PartialEq, Eq)]
@@ -58,10 +59,25 @@ impl Product {
 
     /// Whether a version of specifications has the operator with these fields.
     pub fn is_in(&self, version: u32) -> bool
-        ensures { IsTrue result ↔ (product_meaning self.now).IsIn version }
+        ensures { IsTrue result ↔ (product_acceptance self.now).IsIn version }
     {
         (version != 1 || !self.counters)
             && are_near(version, &[self.a.lsb, self.b.lsb, self.out_lsb])
+    }
+
+    /// What is said of the operator by numbers and marks alone.
+    pub fn profile(&self) -> Profile
+        ensures { IsProfileOf (product_meaning self.now) (product_acceptance self.now) result }
+    {
+        Profile {
+            least_shift: -MAX_SHIFT,
+            first_most_shift: MAX_SHIFT,
+            most_shift: MAX_SHIFT,
+            divisor: None,
+            has_value: true,
+            has_graph: false,
+            own_mark: None,
+        }
     }
 
     /// The input ports, in order.
@@ -95,14 +111,14 @@ impl Product {
     }
 
     /// Whether the outputs of the last cycle are good, or its inputs out of range.
-    pub fn judge(&self, exact: bool, history: &[u128], outputs: &[u128]) -> bool
+    pub fn judge(&self, mode: Mode, history: &[u128], outputs: &[u128]) -> bool
         requires accepted { IsAcceptedProduct self.now }
         requires history { IsHistory (two_inputs self.now.a self.now.b) history.now }
         requires outputs { IsCycle (port (codes "y") (product_format self.now) ∷ []) outputs.now }
-        ensures { IsCycleJudged (product_meaning self.now) exact history.now outputs.now result }
+        ensures { IsCycleJudged (product_meaning self.now) mode history.now outputs.now result }
     {
         let (a, b) = last_two(self.a, self.b, history);
-        product_is_good(exact, self, a, b, outputs[0])
+        product_is_good(mode, self, a, b, outputs[0])
     }
 }
 
@@ -118,7 +134,7 @@ pub fn product_shift(product: &Product) -> i32
 /// 0 where the product is not whole for every input.
 pub fn product_inexact(product: &Product) -> Option<u32>
     requires { IsProduct product.now }
-    ensures { result ≡ (product_meaning product.now).inexact }
+    ensures { result ≡ (product_acceptance product.now).inexact }
 {
     if product_shift(product) < 0 {
         Some(0)
@@ -210,7 +226,7 @@ fn exact_product(product: &Product, a: i128, b: i128) -> Ratio
     }
 }
 
-fn product_is_good(exact: bool, product: &Product, a: i128, b: i128, y: u128) -> bool
+fn product_is_good(mode: Mode, product: &Product, a: i128, b: i128, y: u128) -> bool
     requires product { IsProduct product.now }
     requires low { neg_ℤ MAX_SHIFT ≤ℤ product_shift product.now }
     requires high { product_shift product.now ≤ℤ MAX_SHIFT }
@@ -218,10 +234,10 @@ fn product_is_good(exact: bool, product: &Product, a: i128, b: i128, y: u128) ->
     requires a { IsOf product.now.a a }
     requires b { IsOf product.now.b b }
     requires y { y < 2 ^ (product_format product.now).width }
-    ensures { IsTrue result ↔ IsGoodRatio exact (exact_product product.now a b)
+    ensures { IsTrue result ↔ IsGoodRatio mode (exact_product product.now a b)
         (number_of (product_format product.now) y) }
 {
     let value = exact_product(product, a, b);
     let y = output(product_format(product), y);
-    good_linear(value.num, value.den, y, exact)
+    good_linear(value.num, value.den, y, mode)
 }

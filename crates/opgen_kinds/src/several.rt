@@ -3,13 +3,16 @@ ghost use Rattle.std.specs.Fmt.{decimal};
 ghost use Rattle.std.specs.Prelude.{false, ◌≡◌, ◌≤◌, ◌^◌, ◌++◌, map, codes, IfOk, ◌<◌, pos, length, get_or, unsigned_abs, ◌↔◌, IsTrue};
 ghost use Rattle.opgen_ports.specs.Good.{IsGoodRatio};
 ghost use Rattle.opgen_ports.specs.Meaning.{IsCycleJudged};
-ghost use Rattle.opgen_kinds.specs.Several.{constant_format, numbered, IsSeveral, IsSearchedFor, IsAcceptedSeveral, exact_multiple, AreGoodMultiples, multiple_ports, several_meaning};
+ghost use Rattle.opgen_ports.specs.Profile.{IsProfileOf};
+ghost use Rattle.opgen_kinds.specs.Several.{constant_format, numbered, IsSeveral, IsSearchedFor, IsAcceptedSeveral, exact_multiple, AreGoodMultiples, multiple_ports, several_meaning, several_acceptance};
 ghost use Rattle.opgen_ports.specs.Ports.{number_of, output_numbers, IsHistory, IsCycle, port, one_input};
 ghost use Rattle.opgen_ports.specs.Ranges.{IsInput, IsWithin};
 
 use opgen_list::{Items, Text};
-use opgen_num::{Format, MAX_INPUT, good_linear};
+use opgen_num::{Format, MAX_INPUT, Mode, good_linear};
+use opgen_ports::Profile;
 use opgen_ports::history::{output, product, recent};
+use opgen_ports::modes::is_exact_or_faithful;
 use opgen_ports::ports::{PortFormat, covering, one};
 use opgen_ports::ranges::{are_near, are_within, is_input, is_length};
 use opgen_ports::reach::reach_over;
@@ -68,9 +71,24 @@ impl Several {
 
     /// Whether a version of specifications has the operator with these fields.
     pub fn is_in(&self, version: u32) -> bool
-        ensures { IsTrue result ↔ (several_meaning self.now).IsIn version }
+        ensures { IsTrue result ↔ (several_acceptance self.now).IsIn version }
     {
         are_near(version, &[self.input.lsb]) && (version >= 3 || self.searched)
+    }
+
+    /// What is said of the operator by numbers and marks alone.
+    pub fn profile(&self) -> Profile
+        ensures { IsProfileOf (several_meaning self.now) (several_acceptance self.now) result }
+    {
+        Profile {
+            least_shift: 0,
+            first_most_shift: 0,
+            most_shift: 0,
+            divisor: None,
+            has_value: false,
+            has_graph: true,
+            own_mark: None,
+        }
     }
 
     /// The input ports, in order.
@@ -89,14 +107,14 @@ impl Several {
     }
 
     /// Whether the outputs of the last cycle are good, or its inputs out of range.
-    pub fn judge(&self, exact: bool, history: &[u128], outputs: &[u128]) -> bool
+    pub fn judge(&self, mode: Mode, history: &[u128], outputs: &[u128]) -> bool
         requires accepted { IsAcceptedSeveral self.now }
         requires history { IsHistory (one_input self.now.input) history.now }
         requires outputs { IsCycle (multiple_ports self.now) outputs.now }
-        ensures { IsCycleJudged (several_meaning self.now) exact history.now outputs.now result }
+        ensures { IsCycleJudged (several_meaning self.now) mode history.now outputs.now result }
     {
         let x = recent(self.input, history, 0);
-        multiples_are_good(exact, self, x, outputs)
+        is_exact_or_faithful(mode) && multiples_are_good(mode, self, x, outputs)
     }
 }
 
@@ -131,28 +149,28 @@ fn constants(alloc: Global, several: &Several) -> Result<Vec<PortFormat>, AllocE
     Ok(ports)
 }
 
-fn multiple_is_good(exact: bool, input: Format, constant: i64, x: i128, y: u128) -> bool
+fn multiple_is_good(mode: Mode, input: Format, constant: i64, x: i128, y: u128) -> bool
     requires input { IsInput input }
     requires constant { IsWithin 1048575 constant }
     requires x { unsigned_abs x ≤ 2 ^ MAX_INPUT }
     requires y { y < 2 ^ (constant_format input constant).width }
-    ensures { IsTrue result ↔ IsGoodRatio exact (exact_multiple constant x)
+    ensures { IsTrue result ↔ IsGoodRatio mode (exact_multiple constant x)
         (number_of (constant_format input constant) y) }
 {
     let y = output(constant_format(input, constant), y);
-    good_linear(product(x, constant), 1, y, exact)
+    good_linear(product(x, constant), 1, y, mode)
 }
 
-fn multiples_are_good(exact: bool, several: &Several, x: i128, outputs: &[u128]) -> bool
+fn multiples_are_good(mode: Mode, several: &Several, x: i128, outputs: &[u128]) -> bool
     requires several { IsSeveral several.now }
     requires x { unsigned_abs x ≤ 2 ^ MAX_INPUT }
     requires outputs { IsCycle (multiple_ports several.now) outputs.now }
-    ensures { IsTrue result ↔ AreGoodMultiples exact several.now.constants x
+    ensures { IsTrue result ↔ AreGoodMultiples mode several.now.constants x
         (output_numbers (multiple_ports several.now) outputs.now) }
 {
     let mut place = 0;
     'constants: for constant in several.constants.as_slice() {
-        if !multiple_is_good(exact, several.input, *constant, x, outputs[place]) {
+        if !multiple_is_good(mode, several.input, *constant, x, outputs[place]) {
             return false;
         }
         place += 1;

@@ -1,15 +1,17 @@
 //! Square roots of an unsigned input: what holds of them and of their remainders.
 ghost use Rattle.std.specs.Prelude.{◌≡◌, ◌≤◌, ◌^◌, ℤ, ◌≤ℤ◌, IfOk, pos, unsigned_abs, ◌↔◌, IsTrue};
+ghost use Rattle.opgen_ports.specs.Modes.{mode_of_exact};
 ghost use Rattle.opgen_ports.specs.Meaning.{IsCycleJudged};
-ghost use Rattle.opgen_kinds.specs.Single.{root_width, root_format, rest_format, IsSingle, IsAcceptedSingle, root_shift, IsGoodSquareRoot, root_ports, single_meaning};
+ghost use Rattle.opgen_ports.specs.Profile.{IsProfileOf};
+ghost use Rattle.opgen_kinds.specs.Single.{root_width, root_format, rest_format, IsSingle, IsAcceptedSingle, root_shift, IsGoodSquareRoot, root_ports, single_meaning, single_acceptance};
 ghost use Rattle.opgen_ports.specs.Ports.{output_numbers, IsHistory, IsCycle, one_input};
 
 use opgen_num::{Format, good_root, is_root};
-use opgen_ports::MAX_SHIFT;
 use opgen_ports::history::{output, recent};
 use opgen_ports::ports::{PortFormat, one, unsigned, with_rest};
 use opgen_ports::ranges::{is_input, is_near};
 use opgen_ports::shifts::{places_up, raised};
+use opgen_ports::{MAX_SHIFT, Profile};
 use std::alloc::{AllocError, Global};
 
 #[derive(Clone, Copy, Debug, PartialEq, Eq)]
@@ -58,6 +60,21 @@ impl Single {
             && is_near(self.out_lsb)
     }
 
+    /// What is said of the operator by numbers and marks alone.
+    pub fn profile(&self) -> Profile
+        ensures { IsProfileOf (single_meaning self.now) (single_acceptance self.now) result }
+    {
+        Profile {
+            least_shift: 0,
+            first_most_shift: MAX_SHIFT,
+            most_shift: MAX_SHIFT,
+            divisor: None,
+            has_value: false,
+            has_graph: false,
+            own_mark: Some(self.exact),
+        }
+    }
+
     /// The input ports, in order.
     pub fn inputs(&self, alloc: Global) -> Result<Vec<PortFormat>, AllocError>
         ensures { IfOk result (λ ports. ports.items ≡ one_input self.now.input) }
@@ -78,7 +95,7 @@ impl Single {
         requires accepted { IsAcceptedSingle self.now }
         requires history { IsHistory (one_input self.now.input) history.now }
         requires outputs { IsCycle (root_ports self.now.exact self.now) outputs.now }
-        ensures { IsCycleJudged (single_meaning self.now) self.now.exact history.now outputs.now result }
+        ensures { IsCycleJudged (single_meaning self.now) (mode_of_exact self.now.exact) history.now outputs.now result }
     {
         let x = recent(self.input, history, 0);
         root_is_good(self.exact, self, x, outputs)

@@ -1,11 +1,14 @@
 //! Quotients of an unsigned input by a small constant: what holds of them and of their remainders.
 ghost use Rattle.std.specs.Prelude.{◌≡◌, ◌≤◌, IfOk, ◌↔◌, IsTrue};
+ghost use Rattle.opgen_ports.specs.Modes.{mode_of_exact};
 ghost use Rattle.opgen_ports.specs.Meaning.{IsCycleJudged};
-ghost use Rattle.opgen_kinds.specs.SmallDiv.{small_quotient_format, small_rest_format, IsSmallDiv, IsGoodSmallQuotient, small_ports, small_meaning, IsAcceptedSmallDiv};
+ghost use Rattle.opgen_ports.specs.Profile.{IsProfileOf};
+ghost use Rattle.opgen_kinds.specs.SmallDiv.{small_quotient_format, small_rest_format, IsSmallDiv, IsGoodSmallQuotient, small_ports, small_meaning, small_acceptance, IsAcceptedSmallDiv};
 ghost use Rattle.opgen_ports.specs.Ports.{output_numbers, IsHistory, IsCycle, one_input};
 ghost use Rattle.opgen_ports.specs.Spans.{IsOf};
 
-use opgen_num::{Format, bit_length, good_linear, is_quotient};
+use opgen_num::{Format, Mode, bit_length, good_linear, is_quotient};
+use opgen_ports::Profile;
 use opgen_ports::history::{output, recent};
 use opgen_ports::ports::{PortFormat, one, unsigned, with_rest};
 use opgen_ports::ranges::{are_near, is_input};
@@ -46,9 +49,24 @@ impl SmallDiv {
 
     /// Whether a version of specifications has the operator with these fields.
     pub fn is_in(&self, version: u32) -> bool
-        ensures { IsTrue result ↔ (small_meaning self.now).IsIn version }
+        ensures { IsTrue result ↔ (small_acceptance self.now).IsIn version }
     {
         version != 1 && are_near(version, &[self.input.lsb])
+    }
+
+    /// What is said of the operator by numbers and marks alone.
+    pub fn profile(&self) -> Profile
+        ensures { IsProfileOf (small_meaning self.now) (small_acceptance self.now) result }
+    {
+        Profile {
+            least_shift: 0,
+            first_most_shift: 0,
+            most_shift: 0,
+            divisor: None,
+            has_value: false,
+            has_graph: false,
+            own_mark: Some(self.exact),
+        }
     }
 
     /// The input ports, in order.
@@ -71,7 +89,7 @@ impl SmallDiv {
         requires accepted { IsAcceptedSmallDiv self.now }
         requires history { IsHistory (one_input self.now.input) history.now }
         requires outputs { IsCycle (small_ports self.now.exact self.now) outputs.now }
-        ensures { IsCycleJudged (small_meaning self.now) self.now.exact history.now outputs.now result }
+        ensures { IsCycleJudged (small_meaning self.now) (mode_of_exact self.now.exact) history.now outputs.now result }
     {
         let x = recent(self.input, history, 0);
         small_quotient_is_good(self.exact, self, x, outputs)
@@ -96,6 +114,6 @@ fn small_quotient_is_good(exact: bool, small: &SmallDiv, x: i128, outputs: &[u12
             r.unsigned_abs(),
         )
     } else {
-        good_linear(x, small.divisor.into(), q, false)
+        good_linear(x, small.divisor.into(), q, Mode::Faithful)
     }
 }

@@ -2,20 +2,21 @@
 ghost use Rattle.std.specs.Prelude.{◌≡◌, ◌+◌, ◌≤◌, ◌^◌, [], ◌∷◌, ℤ, neg_ℤ, ◌≤ℤ◌, codes, IfOk, ◌<◌, pos, length, negsuc, All, ◌<ℤ◌, ◌↔◌, IsTrue};
 ghost use Rattle.opgen_ports.specs.Good.{IsGoodRatio};
 ghost use Rattle.opgen_ports.specs.Meaning.{IsCycleJudged};
-ghost use Rattle.opgen_kinds.specs.Sum.{sum_shift, HasSumRoom, sum_format, IsSum, IsAcceptedSum, guard_bits, first_inexact_of, first_inexact, weighted_value, sum_reach, sum_places, terms, tables, sum_need, most_sum_shift, exact_sum, fir_meaning};
+ghost use Rattle.opgen_ports.specs.Profile.{IsProfileOf};
+ghost use Rattle.opgen_kinds.specs.Sum.{sum_shift, HasSumRoom, sum_format, IsSum, IsAcceptedSum, guard_bits, first_inexact_of, first_inexact, weighted_value, sum_reach, sum_places, terms, tables, sum_need, exact_sum, sum_meaning, fir_acceptance};
 ghost use Rattle.opgen_ports.specs.Reaches.{places_up};
 ghost use Rattle.opgen_ports.specs.Ports.{number_of, recent_numbers, IsHistory, IsCycle, port, one_input};
 ghost use Rattle.opgen_ports.specs.Ranges.{IsInput, IsWithin};
 
 use opgen_budget::guard;
 use opgen_list::Items;
-use opgen_num::{Format, MAX_WIDTH, Ratio, good_linear};
-use opgen_ports::MAX_SHIFT;
+use opgen_num::{Format, MAX_WIDTH, Mode, Ratio, good_linear};
 use opgen_ports::history::{output, weighted};
 use opgen_ports::ports::{PortFormat, covering, one};
 use opgen_ports::ranges::{are_near, are_within, is_denominator, is_input, is_length, is_power};
 use opgen_ports::reach::{Reach, in_places, reach_over, width_of};
 use opgen_ports::shifts::{is_whole, places_down, places_up, raised};
+use opgen_ports::{MAX_SHIFT, Profile};
 use std::alloc::{AllocError, Global};
 
 /// A sum of the last inputs times `coefs`, over the common denominator `den`.
@@ -74,9 +75,24 @@ impl Sum {
 
     /// Whether a version of specifications has the operator with these fields.
     pub fn is_in(&self, version: u32) -> bool
-        ensures { IsTrue result ↔ (fir_meaning self.now).IsIn version }
+        ensures { IsTrue result ↔ (fir_acceptance self.now).IsIn version }
     {
         (version != 1 || !self.counters) && are_near(version, &[self.input.lsb, self.out_lsb])
+    }
+
+    /// What is said of the operator by numbers and marks alone.
+    pub fn profile(&self) -> Profile
+        ensures { IsProfileOf (sum_meaning self.now) (fir_acceptance self.now) result }
+    {
+        Profile {
+            least_shift: -MAX_SHIFT,
+            first_most_shift: MAX_SHIFT,
+            most_shift: 32,
+            divisor: None,
+            has_value: true,
+            has_graph: false,
+            own_mark: Some(self.exact),
+        }
     }
 
     /// The input ports, in order.
@@ -107,13 +123,13 @@ impl Sum {
     }
 
     /// Whether the outputs of the last cycle are good, or its inputs out of range.
-    pub fn judge(&self, exact: bool, history: &[u128], outputs: &[u128]) -> bool
+    pub fn judge(&self, mode: Mode, history: &[u128], outputs: &[u128]) -> bool
         requires accepted { IsAcceptedSum self.now }
         requires history { IsHistory (one_input self.now.input) history.now }
         requires outputs { IsCycle (port (codes "y") (sum_format self.now) ∷ []) outputs.now }
-        ensures { IsCycleJudged (fir_meaning self.now) exact history.now outputs.now result }
+        ensures { IsCycleJudged (sum_meaning self.now) mode history.now outputs.now result }
     {
-        sum_is_good(exact, self, history, outputs[0])
+        sum_is_good(mode, self, history, outputs[0])
     }
 }
 
@@ -124,12 +140,6 @@ pub fn sum_shift(sum: &Sum) -> i32
     ensures high { result ≤ℤ pos 128 }
 {
     sum.input.lsb - sum.out_lsb
-}
-
-pub fn most_sum_shift(version: u32) -> i32
-    ensures { result ≡ most_sum_shift version }
-{
-    if version == 1 { MAX_SHIFT } else { 32 }
 }
 
 /// The place of the first coefficient that is not a whole number of units.
@@ -275,7 +285,7 @@ fn exact_sum(sum: &Sum, history: &[u128]) -> Ratio
     )
 }
 
-fn sum_is_good(exact: bool, sum: &Sum, history: &[u128], y: u128) -> bool
+fn sum_is_good(mode: Mode, sum: &Sum, history: &[u128], y: u128) -> bool
     requires sum { IsSum 256 sum.now }
     requires low { neg_ℤ MAX_SHIFT ≤ℤ sum_shift sum.now }
     requires high { sum_shift sum.now ≤ℤ MAX_SHIFT }
@@ -283,10 +293,10 @@ fn sum_is_good(exact: bool, sum: &Sum, history: &[u128], y: u128) -> bool
     requires narrow { (sum_format sum.now).width ≤ MAX_WIDTH }
     requires history { IsHistory (one_input sum.now.input) history.now }
     requires y { y < 2 ^ (sum_format sum.now).width }
-    ensures { IsTrue result ↔ IsGoodRatio exact
+    ensures { IsTrue result ↔ IsGoodRatio mode
         (exact_sum sum.now (recent_numbers (one_input sum.now.input) history.now 0))
         (number_of (sum_format sum.now) y) }
 {
     let value = exact_sum(sum, history);
-    good_linear(value.num, value.den, output(sum_format(sum), y), exact)
+    good_linear(value.num, value.den, output(sum_format(sum), y), mode)
 }

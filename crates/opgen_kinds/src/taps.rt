@@ -2,18 +2,19 @@
 ghost use Rattle.std.specs.Prelude.{false, ◌≡◌, ◌≤◌, ◌^◌, [], ◌∷◌, ℤ, neg_ℤ, ◌≤ℤ◌, ◌<ℤ◌, pos, codes, IfOk, ◌<◌, ◌↔◌, IsTrue};
 ghost use Rattle.opgen_ports.specs.Good.{IsGoodRatio};
 ghost use Rattle.opgen_ports.specs.Meaning.{IsCycleJudged};
+ghost use Rattle.opgen_ports.specs.Profile.{IsProfileOf};
 ghost use Rattle.opgen_kinds.specs.Sum.{sum_shift, first_inexact};
-ghost use Rattle.opgen_kinds.specs.Taps.{direct, taps_format, IsTaps, AreSearchedFor, exact_taps, taps_meaning, IsAcceptedTaps};
+ghost use Rattle.opgen_kinds.specs.Taps.{direct, taps_format, IsTaps, AreSearchedFor, exact_taps, taps_meaning, taps_acceptance, IsAcceptedTaps};
 ghost use Rattle.opgen_ports.specs.Ports.{number_of, recent_numbers, IsHistory, IsCycle, port, one_input};
 
 use crate::sum::{first_inexact_of, weighted_value};
 use opgen_list::Items;
-use opgen_num::{Format, Ratio, good_linear};
+use opgen_num::{Format, Mode, Ratio, good_linear};
 use opgen_ports::history::output;
-use opgen_ports::odd_part_count;
 use opgen_ports::ports::{PortFormat, covering, one};
 use opgen_ports::ranges::{are_near, are_within, is_input, is_length, is_power};
 use opgen_ports::reach::{in_places, reach_over};
+use opgen_ports::{MAX_SHIFT, Profile, odd_part_count};
 use std::alloc::{AllocError, Global};
 
 /// The sum of the last inputs times `taps`.
@@ -91,11 +92,26 @@ impl Taps {
 
     /// Whether a version of specifications has the operator with these fields.
     pub fn is_in(&self, version: u32) -> bool
-        ensures { IsTrue result ↔ (taps_meaning self.now).IsIn version }
+        ensures { IsTrue result ↔ (taps_acceptance self.now).IsIn version }
     {
         version != 1
             && are_near(version, &[self.input.lsb])
             && (version >= 3 || (self.out_lsb == self.input.lsb && self.searched))
+    }
+
+    /// What is said of the operator by numbers and marks alone.
+    pub fn profile(&self) -> Profile
+        ensures { IsProfileOf (taps_meaning self.now) (taps_acceptance self.now) result }
+    {
+        Profile {
+            least_shift: -MAX_SHIFT,
+            first_most_shift: 0,
+            most_shift: 0,
+            divisor: None,
+            has_value: true,
+            has_graph: true,
+            own_mark: None,
+        }
     }
 
     /// The input ports, in order.
@@ -126,18 +142,18 @@ impl Taps {
     }
 
     /// Whether the outputs of the last cycle are good, or its inputs out of range.
-    pub fn judge(&self, exact: bool, history: &[u128], outputs: &[u128]) -> bool
+    pub fn judge(&self, mode: Mode, history: &[u128], outputs: &[u128]) -> bool
         requires accepted { IsAcceptedTaps self.now }
         requires history { IsHistory (one_input self.now.input) history.now }
         requires outputs { IsCycle (port (codes "y") (taps_format self.now) ∷ []) outputs.now }
-        ensures { IsCycleJudged (taps_meaning self.now) exact history.now outputs.now result }
+        ensures { IsCycleJudged (taps_meaning self.now) mode history.now outputs.now result }
     {
         let value = self.value(history);
         good_linear(
             value.num,
             value.den,
             output(self.output(), outputs[0]),
-            exact,
+            mode,
         )
     }
 }

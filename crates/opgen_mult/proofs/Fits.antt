@@ -16,6 +16,7 @@ use Rattle.opgen_ports.specs.Good.{IsGoodRatio}
 use Rattle.opgen_operator.specs.Held.{OutputsHold}
 use Rattle.opgen_kinds.specs.Product.{IsAcceptedProduct, exact_product, product_shift, product_format, IsProduct}
 use Rattle.opgen_operator.specs.Operator.{inexact}
+use Rattle.opgen_ports.specs.Modes.{mode_of_exact}
 use Rattle.opgen_ports.specs.Reaches.{places_up, places_down}
 use Rattle.opgen_operator.proofs.Accepted.{accepted_ranges}
 use Rattle.opgen_partial.proofs.Laws.{IsRounded}
@@ -31,15 +32,15 @@ good_at : (below zeros : ℕ) (exact : Bool) (product : ℤ) (sum : List Bool) (
     → ((product -ℤ pos left_out) +ℤ pos (rounding below)) +ℤ (pos (2 ^ length sum) *ℤ k) ≡ pos (nat sum)
     → ((y : ℤ) → IsWithinOne (product *ℤ pos (2 ^ zeros)) (pos (2 ^ below)) y → Holds format.signed format.width y)
     → IsGoodLinear (product *ℤ pos (2 ^ zeros)) (pos (2 ^ below))
-    (val (cut (below + format.width - 1) below (replicate zeros false ++ sum)) format) exact
+    (val (cut (below + format.width - 1) below (replicate zeros false ++ sum)) format) (mode_of_exact exact)
 good_at zero zeros exact product sum format left_out k whole one wide some little number holds =
     let y = product *ℤ pos (2 ^ zeros) in
     let near : IsWithinOne y (pos 1) y = omega (arith, ints) in
     let plain : product +ℤ (pos (2 ^ length sum) *ℤ k) ≡ pos (nat sum) = omega (arith, ints, number, little) in
     let is = above_zeros product sum format zeros k (omega (arith, wide)) some plain (holds y near) in
-    subst (λ v. IsGoodLinear y (pos 1) v exact) (sym is) (good exact)
+    subst (λ v. IsGoodLinear y (pos 1) v (mode_of_exact exact)) (sym is) (good exact)
   where
-    good : (e : Bool) → IsGoodLinear (product *ℤ pos (2 ^ zeros)) (pos 1) (product *ℤ pos (2 ^ zeros)) e
+    good : (e : Bool) → IsGoodLinear (product *ℤ pos (2 ^ zeros)) (pos 1) (product *ℤ pos (2 ^ zeros)) (mode_of_exact e)
     good true = omega (arith, ints)
     good false = omega (arith, ints)
 good_at (suc below) (suc zeros) exact product sum format left_out k whole one wide some little number holds =
@@ -79,7 +80,7 @@ module _ (p : Product) (accepted : IsAcceptedProduct p) (fit : Layout p) (hold :
   pub output_is_good : (exact : Bool) → (exact ≡ true → bits_below p ≡ 0) → (a b sum : List Bool)
       → length a ≡ p.a.width → length b ≡ p.b.width → length sum ≡ heap_width p
       → IsRounded (pairs p left) a b (heap_width p) (pos (rounding (bits_below p))) (nat sum)
-      → IsGoodRatio exact (exact_product p (val a p.a) (val b p.b))
+      → IsGoodRatio (mode_of_exact exact) (exact_product p (val a p.a) (val b p.b))
       (val (cut (bits_below p + (product_format p).width - 1) (bits_below p) (replicate (zeros_below p) false ++ sum)) (product_format p))
   output_is_good exact whole a b sum wide_a wide_b wide is =
       good_at (bits_below p) (zeros_below p) exact P sum (product_format p) is.missing is.turns whole (one_way (product_shift p))

@@ -1,6 +1,6 @@
 -- The net of a product, by the nets that lead to it: its output is good at every time.
 use Rattle.std.proofs.Common.{◌≡◌, ℕ, zero, suc, ◌+◌, ◌-◌, ◌%◌, ◌^◌, Bool, true, List, [], ◌∷◌, ◌++◌, length, map, codes, refl, sym, ap, ◌∙◌, subst, arith}
-use Rattle.std.specs.Prelude.{ℤ, pos, ◌+ℤ◌, ◌-ℤ◌, All, slice_index}
+use Rattle.std.specs.Prelude.{ℤ, pos, ◌+ℤ◌, ◌-ℤ◌, All, IsTrue, None, slice_index}
 use Rattle.std.proofs.Math.Nat.{zero-mod}
 use Rattle.std.proofs.lemmas.Int.{ints}
 use Rattle.opgen_num.specs.Words.{val, nat}
@@ -21,6 +21,9 @@ use Rattle.opgen_net.proofs.FlowWidths.{flow-width}
 use Rattle.opgen_kinds.specs.declared.product.Product.{Product}
 use Rattle.opgen_operator.specs.declared.operator.Operator.TheVariants.{Multiply}
 use Rattle.opgen_operator.specs.Fits.{FitsOperator, FitsInEachMode}
+use Rattle.opgen_ports.specs.Modes.{mode_of_exact}
+use Rattle.opgen_operator.proofs.EachMode.{asked_whole, fits_each_mode}
+use Rattle.opgen_operator.specs.Operator.{inexact}
 use Rattle.opgen_ports.specs.Good.{IsGoodRatio}
 use Rattle.opgen_operator.specs.Held.{OutputsHold}
 use Rattle.opgen_kinds.specs.Product.{IsAcceptedProduct, exact_product, product_format}
@@ -62,10 +65,10 @@ module _ (p : Product) (accepted : IsAcceptedProduct p) (fit : Layout p) (hold :
 
   -- the output's word is a good product of the inputs' words
   good_flow : (exact : Bool) → (exact ≡ true → bits_below p ≡ 0) → (ins : Inputs) (t : ℤ) → AreInputs p ins
-      → IsGoodRatio exact (exact_product p (val (first_word p ins t) p.a) (val (second_word p ins t) p.b))
+      → IsGoodRatio (mode_of_exact exact) (exact_product p (val (first_word p ins t) p.a) (val (second_word p ins t) p.b))
       (val (slice_flow three.nodes ins (output_of node (bits_below p) W).from t) (product_format p))
   good_flow exact whole ins t words =
-      subst (λ v. IsGoodRatio exact (exact_product p (val a p.a) (val b p.b)) (val (kept_bits v) (product_format p)))
+      subst (λ v. IsGoodRatio (mode_of_exact exact) (exact_product p (val a p.a) (val b p.b)) (val (kept_bits v) (product_format p)))
       (sym (above ins t (of_ports two (grown.inputs ∙ has.grown.inputs) ins words)))
       (output_is_good p accepted fit hold left cut_is exact whole a b sum long_a long_b long number)
     where
@@ -107,12 +110,12 @@ module _ (p : Product) (accepted : IsAcceptedProduct p) (fit : Layout p) (hold :
   -- the first of some outputs of a net, by inputs that are good for it
   abbrev Good : (exact : Bool) (now : ℤ) (t : ℕ) (ins : Inputs) (ns : List Node) (os : List Output) → Type 0
   Good exact now t ins ns os =
-      IsGoodRatio exact (exact_product p (val (input_at ins 0 p.a.width now) p.a) (val (input_at ins 1 p.b.width now) p.b))
+      IsGoodRatio (mode_of_exact exact) (exact_product p (val (input_at ins 0 p.a.width now) p.a) (val (input_at ins 1 p.b.width now) p.b))
       (val (word_at (map (λ o. slice_flow ns ins o.from (pos t)) os) 0) (product_format p))
 
   pub net_fits : (net : Net) → net ≡ record three { outputs = three.outputs ++ output_of node (bits_below p) W ∷ [] }
       → three.inputs ≡ two.inputs → three.outputs ≡ two.outputs → IsValid net → FitsInEachMode (Multiply p) net
-  net_fits net is same_inputs same_outputs valid exact mode = fits
+  net_fits net is same_inputs same_outputs valid = fits_each_mode (Multiply p) net (λ exact mode. fits exact (asked_whole exact (Multiply p) mode))
     where
       o : Output
       o = output_of node (bits_below p) W
@@ -126,18 +129,15 @@ module _ (p : Product) (accepted : IsAcceptedProduct p) (fit : Layout p) (hold :
       wide_output : slice_width o.from ≡ W
       wide_output = omega (arith, fit.output)
 
-      whole : exact ≡ true → bits_below p ≡ 0
-      whole e = exact_whole p (mode.whole e)
-
-      fits : FitsOperator exact (Multiply p) net
-      fits = record {
+      fits : (exact : Bool) → (IsTrue exact → inexact (Multiply p) ≡ None) → FitsOperator (mode_of_exact exact) (Multiply p) net
+      fits exact asked = record {
         valid = valid;
         inputs = ports;
         outputs = ap (λ os. map (λ (o : Output). (o.name, slice_width o.from)) os) outputs ∙ ap (λ k. (codes "y", k) ∷ []) wide_output;
         good = λ ins t words less ranges.
             let now : pos t ≡ pos t -ℤ pos 0 = omega (arith, ints) in
             let of_inputs : AreInputs p ins = subst (λ (is : List (List ℕ × ℕ)). All (AreWords (map (λ i. i.1) is)) ins) ports words in
-            let base : Good exact (pos t) t ins three.nodes (o ∷ []) = good_flow exact whole ins (pos t) of_inputs in
+            let base : Good exact (pos t) t ins three.nodes (o ∷ []) = good_flow exact (λ e. exact_whole p (asked e)) ins (pos t) of_inputs in
             let nodes : three.nodes ≡ net.nodes = sym (ap (λ (n : Net). n.nodes) is) in
             let at_now = subst (λ u. Good exact u t ins three.nodes (o ∷ [])) now base in
             subst (λ os. Good exact (pos t -ℤ pos 0) t ins net.nodes os) (sym outputs)

@@ -1,5 +1,5 @@
 -- Nets that have grown out of others.
-use Rattle.std.proofs.Common.{◌≡◌, ℕ, ◌+◌, ◌<◌, ◌≤◌, Bool, true, false, if◌then◌else◌, List, [], ◌∷◌, ◌++◌, length, map, Some, refl, sym, ap, subst, arith}
+use Rattle.std.proofs.Common.{◌≡◌, ℕ, ◌<◌, ◌≤◌, Bool, true, false, if◌then◌else◌, List, [], ◌∷◌, ◌++◌, length, map, Some, refl, sym, ap, subst, arith}
 use Rattle.std.specs.Prelude.{All, slice_index}
 use Rattle.std.proofs.lemmas.List.{append-nil}
 use Rattle.opgen_design.specs.declared.expr.Slice.{Slice}
@@ -18,6 +18,7 @@ use Rattle.opgen_net.specs.Grown.{HasGrown}
 use Rattle.opgen_net.specs.Made.{slice_tree}
 use Rattle.opgen_net.specs.Valid.{widths, input_widths, MayStand, input_nodes, IsValid, FitsNodes}
 use Rattle.opgen_net.specs.WordRule.{IsThere, runs, word_tree, is_whole, Found, with_node, with_runs, with_word}
+use Rattle.opgen_net.proofs.CellLaws.{slice_tree-wire, word-wire}
 use Rattle.opgen_net.proofs.Appending.{valid-append}
 use Rattle.opgen_net.proofs.FlowLaws.{index_within, length-widths}
 use Rattle.opgen_net.proofs.Grown.{grown-same, grown-then, grown-more}
@@ -67,15 +68,15 @@ module _ (net : Net) (valid : IsValid net) where
   part-later : (count : ℕ) (s : Slice) → FitsNodes ws count (slice_tree ws s) → (c : Bool)
       → Later net (record net { nodes = (part_found count s c).nodes })
   part-later count s fits true = later-same net valid
-  part-later count s fits false = later-node net (Cells Wire count (slice_tree ws s)) valid (tt, fits) refl
+  part-later count s fits false = later-node net (Cells Wire count (slice_tree ws s)) valid (slice_tree-wire ws s, fits) refl
 
   runs-later : (count : ℕ) (rs : List Piece) → FitsNodes ws count (word_tree ws rs)
       → Later net (record net { nodes = (with_runs net.nodes count rs).nodes })
-  runs-later count [] fits = later-node net (Cells Wire count (word_tree ws [])) valid (tt, fits) refl
+  runs-later count [] fits = later-node net (Cells Wire count (word_tree ws [])) valid (word-wire ws [], fits) refl
   runs-later count (Bits w ∷ []) fits = later-node net (Constant w) valid (constant-width w count fits.has_width) refl
   runs-later count (Part s ∷ []) fits = part-later count s fits (is_whole ws s)
-  runs-later count (Bits w ∷ q ∷ rs) fits = later-node net (Cells Wire count (word_tree ws (Bits w ∷ q ∷ rs))) valid (tt, fits) refl
-  runs-later count (Part s ∷ q ∷ rs) fits = later-node net (Cells Wire count (word_tree ws (Part s ∷ q ∷ rs))) valid (tt, fits) refl
+  runs-later count (Bits w ∷ q ∷ rs) fits = later-node net (Cells Wire count (word_tree ws (Bits w ∷ q ∷ rs))) valid (word-wire ws (Bits w ∷ q ∷ rs), fits) refl
+  runs-later count (Part s ∷ q ∷ rs) fits = later-node net (Cells Wire count (word_tree ws (Part s ∷ q ∷ rs))) valid (word-wire ws (Part s ∷ q ∷ rs), fits) refl
 
   pub bits-later : (given : List WordBit) → IsWidth (length given) → All (IsThere ws) given
       → Later net (record net { nodes = (with_word net.nodes given).nodes })

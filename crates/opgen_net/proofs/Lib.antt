@@ -3,6 +3,7 @@ pub mod FlowLaws
 pub mod InputLaws
 pub mod FlowWidths
 pub mod FlowBefore
+pub mod CellLaws
 pub mod Standing
 pub mod WordRuns
 pub mod WordLaws

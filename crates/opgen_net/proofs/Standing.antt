@@ -8,6 +8,7 @@ use Rattle.opgen_net.specs.declared.node.Node.{Node}
 use Rattle.opgen_net.specs.declared.node.Node.TheVariants.{Input, Constant, Cells, Choice, Table, Delay}
 use Rattle.opgen_net.specs.Valid.{node_width, widths, LiesWithin, MayStand, AllMayStand}
 use Rattle.opgen_design.proofs.WidthLaws.{width-kept}
+use Rattle.opgen_net.proofs.CellLaws.{class-kept}
 use Rattle.opgen_net.proofs.FlowLaws.{index_within, stands_at}
 
 get-kept : (ws more : List ℕ) (i w : ℕ) → slice_get ws i ≡ Some w → slice_get (ws ++ more) i ≡ Some w
@@ -26,7 +27,7 @@ module _ (ws more : List ℕ) where
   stand-kept (Input place w) h = h
   stand-kept (Constant w) h = h
   stand-kept (Cells class w e) h =
-      (h.0, record { has_width = width-kept ws [] (ws ++ more) [] (get-kept ws more) (λ i v r. r) e w h.1.has_width; nests = h.1.nests })
+      (class-kept ws more (get-kept ws more) class e w h.1.has_width h.0, record { has_width = width-kept ws [] (ws ++ more) [] (get-kept ws more) (λ i v r. r) e w h.1.has_width; nests = h.1.nests })
   stand-kept (Choice on one other) h = record {
     one_bit = index-kept on 0 (omega (arith, h.one_bit)) ∙ h.one_bit;
     one_lies = lies-kept one h.one_lies;

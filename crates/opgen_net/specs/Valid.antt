@@ -1,7 +1,7 @@
--- Valid nets: each node reads only earlier nodes, the widths of its operands agree, and each output is within its node.
+-- Valid nets: each node reads only earlier nodes, the widths of its operands agree, cells are what their class says, and each output
+-- is within its node.
 use Rattle.std.specs.Prelude.{◌≡◌, ℕ, ◌+◌, ◌-◌, ◌^◌, ◌<◌, ◌≤◌, Bool, true, false, List, [], ◌∷◌, ◌++◌, length, map, slice_index, slice_index_or, Some, All}
-use Rattle.opgen_net.specs.declared.cell.Class.{Class}
-use Rattle.opgen_net.specs.declared.cell.Class.TheVariants as class
+use Rattle.opgen_net.specs.Cells.{IsOfClass}
 use Rattle.opgen_design.specs.declared.expr.Slice.{Slice}
 use Rattle.opgen_net.specs.declared.node.Node.{Node}
 use Rattle.opgen_net.specs.declared.node.Node.TheVariants.{Input, Constant, Cells, Choice, Table, Delay}
@@ -33,13 +33,6 @@ widths nodes = widths_on [] nodes
 abbrev pub LiesWithin : List ℕ → Slice → Type 0
 LiesWithin ws s = (s.low ≤ s.high) × (s.high < slice_index ws s.node)
 
--- the classes that expressions are made of
-abbrev pub IsOfExpressions : Class → Type 0
-IsOfExpressions class.Wire = Unit {0}
-IsOfExpressions class.Logic = Unit {0}
-IsOfExpressions class.Add = Unit {0}
-IsOfExpressions _ = ⊥
-
 -- an expression of a width over nodes of these widths: it reads no port, and its parentheses nest at most so deep
 pub record FitsNodes (ws : List ℕ) (w : ℕ) (e : Tree) : Type 0 where
   pub has_width : width ws [] e ≡ Some w
@@ -62,7 +55,7 @@ pub record FitsTable (ws : List ℕ) (address : ℕ) (rows : List (List Bool)) :
 abbrev pub MayStand : List ℕ → Node → Type 0
 MayStand ws (Input port w) = IsWidth w
 MayStand ws (Constant w) = IsWidth (length w)
-MayStand ws (Cells class w e) = IsOfExpressions class × FitsNodes ws w e
+MayStand ws (Cells class w e) = IsOfClass ws class e × FitsNodes ws w e
 MayStand ws (Choice on one other) = FitsChoice ws on one other
 MayStand ws (Table address rows) = FitsTable ws address rows
 MayStand ws (Delay of) = of < length ws

@@ -2,7 +2,8 @@
 ghost use Rattle.std.specs.Prelude.{◌≡◌, ◌<◌, ◌++◌, [], ◌∷◌, length, slice_index, IfOk, OnOk, OnErr};
 ghost use Rattle.opgen_net.specs.Flow.{KeepsFlow};
 ghost use Rattle.opgen_design.specs.Plain.{plain};
-ghost use Rattle.opgen_net.specs.Valid.{IsValid, IsOfExpressions, FitsNodes, FitsChoice, FitsTable, LiesWithin, MayStand, input_nodes, widths};
+ghost use Rattle.opgen_net.specs.Cells.{IsOfClass};
+ghost use Rattle.opgen_net.specs.Valid.{IsValid, FitsNodes, FitsChoice, FitsTable, LiesWithin, MayStand, input_nodes, widths};
 ghost use Rattle.opgen_design.specs.Value.{IsWidth};
 ghost use Rattle.opgen_net.specs.Placed.{with_port};
 
@@ -81,7 +82,7 @@ impl Net {
     /// Appends an expression over the nodes that are there, made of cells of one class, and answers its number.
     pub fn cells(&mut self, class: Class, width: u32, expr: Expr) -> Result<usize, Memory>
         requires net { IsValid self.old }
-        requires class { IsOfExpressions class }
+        requires class { IsOfClass (widths self.old.nodes) class (plain expr) }
         requires fits { FitsNodes (widths self.old.nodes) width (plain expr) }
         ensures ok { OnOk result (self.new ≡ record self.old { nodes = self.old.nodes ++ Node.Cells class width (plain expr) ∷ [] }) }
         ensures place { IfOk result (λ n. n ≡ length self.old.nodes) }

@@ -8,21 +8,13 @@ use Rattle.std.proofs.lemmas.Nat.{div-add-mod', pow-add, pow_pos}
 use Rattle.opgen_num.specs.declared.format.Format.{Format}
 use Rattle.opgen_num.specs.Floors.{IsFloor, IsCeiling}
 use Rattle.opgen_num.specs.Formats.{Holds}
-use Rattle.opgen_num.specs.Rounding.{IsWithinOne}
+use Rattle.opgen_num.specs.Rounding.{IsWithinOne, IsNearest}
 use Rattle.opgen_num.specs.Words.{val, nat}
 use Rattle.opgen_num.proofs.Cuts.{nat-drop}
 use Rattle.opgen_num.proofs.Floors.{one_floor}
-use Rattle.opgen_num.proofs.Integers.{products, product-sum, product_assoc}
+use Rattle.opgen_num.proofs.Integers.{commuted, products, product-difference, product-sum, product_assoc}
 use Rattle.opgen_num.proofs.Quotients.{quotient_and_rest, within_one-bounds}
 use Rattle.opgen_num.proofs.Residues.{value_from_residue}
-
-commuted : (a b : ℤ) → a *ℤ b ≡ b *ℤ a
-commuted a b = omega (arith, ints)
-
-product-difference : (m a b : ℤ) → m *ℤ (a -ℤ b) ≡ (m *ℤ a) -ℤ (m *ℤ b)
-product-difference m a b =
-    let whole : a -ℤ b +ℤ b ≡ a = omega (arith, ints) in
-    omega (arith, ints, product-sum m (a -ℤ b) b, ap (λ z. m *ℤ z) whole)
 
 -- a fraction has a floor, the quotient of Euclid, and a ceiling
 rest_bounds : (n m : ℤ) → pos 0 <ℤ m → (pos 0 ≤ℤ int_rem_euclid n m) × (int_rem_euclid n m <ℤ m)
@@ -115,3 +107,25 @@ floor_dropped low high w n k y len e is =
     (omega (arith, ints, mod-lt (nat w) (pow_pos low))) in
     let same = one_floor (pos P) (omega (arith, ints, pow_pos low)) n y (pos q -ℤ (pos (2 ^ high) *ℤ k)) is floor in
     omega (arith, ints, same, ap pos (nat-drop low w))
+
+-- the floor and the nearest number of a fraction, by its quotient and rest
+module _ (n m q r : ℤ) (positive : pos 0 <ℤ m) (whole : ((q *ℤ m) +ℤ r) ≡ n) (low : pos 0 ≤ℤ r) (high : r <ℤ m) where
+  pub quotient_is_floor : IsFloor n m q
+  quotient_is_floor =
+      (omega (arith, products, whole, low, commuted q m), omega (arith, products, whole, high, commuted q m))
+
+  pub nearest_above : (m -ℤ r) ≤ℤ r → IsNearest n m (q +ℤ pos 1)
+  nearest_above half =
+      let same = product_assoc (pos 2) m (q +ℤ pos 1) in
+      let more = product_assoc (pos 2) m ((q +ℤ pos 1) +ℤ pos 1) in (
+        omega (arith, products, whole, half, same, commuted q m),
+        omega (arith, products, whole, high, more, commuted q m),
+      )
+
+  pub nearest_below : r <ℤ (m -ℤ r) → IsNearest n m q
+  nearest_below half =
+      let same = product_assoc (pos 2) m q in
+      let more = product_assoc (pos 2) m (q +ℤ pos 1) in (
+        omega (arith, products, whole, low, same, commuted q m, positive),
+        omega (arith, products, whole, half, more, commuted q m),
+      )

@@ -1,7 +1,10 @@
--- When a whole number is a good rounding of a fraction or a root: exact, or faithful, which is less than one unit away
--- (de Dinechin and Kumm, Application-Specific Arithmetic).
-use Rattle.std.specs.Prelude.{◌≡◌, ℕ, ◌+◌, ◌-◌, ◌*◌, ◌<◌, ◌≤◌, ◌⊎◌, Bool, true, false, ℤ, pos, ◌-ℤ◌, ◌*ℤ◌, ◌<ℤ◌, unsigned_abs, ◌+ℤ◌}
+-- When a whole number is good for a fraction or a root: exact, faithful, which is less than one unit away, or rounded down or to the
+-- nearest (de Dinechin and Kumm, Application-Specific Arithmetic).
+use Rattle.std.specs.Prelude.{◌≡◌, ℕ, ◌+◌, ◌-◌, ◌*◌, ◌<◌, ◌≤◌, ◌⊎◌, ℤ, pos, ◌-ℤ◌, ◌*ℤ◌, ◌<ℤ◌, unsigned_abs, ◌+ℤ◌}
 use Rattle.std.specs.Int.{int_div_euclid}
+use Rattle.opgen_num.specs.declared.mode.Mode.{Mode}
+use Rattle.opgen_num.specs.declared.mode.Mode.TheVariants.{Exact, Faithful, Down, Nearest}
+use Rattle.opgen_num.specs.Floors.{IsFloor}
 
 abbrev pub distance : ℤ → ℤ → ℕ
 distance a b = unsigned_abs (a -ℤ b)
@@ -14,9 +17,16 @@ IsWithinOne n m y = pos (distance (m *ℤ y) n) <ℤ m
 abbrev pub IsExact : (n m y : ℤ) → Type 0
 IsExact n m y = m *ℤ y ≡ n
 
-abbrev pub IsGoodLinear : (n m y : ℤ) (exact : Bool) → Type 0
-IsGoodLinear n m y true = IsExact n m y
-IsGoodLinear n m y false = IsWithinOne n m y
+-- y is the floor of n / m + 1/2
+abbrev pub IsNearest : (n m y : ℤ) → Type 0
+IsNearest n m y = IsFloor ((pos 2 *ℤ n) +ℤ m) (pos 2 *ℤ m) y
+
+-- y is good for n / m, in a mode
+abbrev pub IsGoodLinear : (n m y : ℤ) (mode : Mode) → Type 0
+IsGoodLinear n m y Exact = IsExact n m y
+IsGoodLinear n m y Faithful = IsWithinOne n m y
+IsGoodLinear n m y Down = IsFloor n m y
+IsGoodLinear n m y Nearest = IsNearest n m y
 
 -- y is less than one away from the square root of n
 abbrev pub IsGoodRoot : (n y : ℕ) → Type 0

@@ -3,20 +3,23 @@
 //!
 //! Proved: The value of a `Word` is below 2 to the power of its width. Formats, and the least width that holds two numbers,
 //! are computed as defined, and so is the whole number nearest to a fraction. For all numbers of 128 bits: whether a rounded
-//! fraction or root is good, and whether a quotient or a root with its remainder is exact.
+//! fraction is good in a mode, whether a rounded root is, and whether a quotient or a root with its remainder is exact.
+//! Powers of two, and how many bits a number has.
 //!
 //! By: the invariant of `Word`; `Format::new`, `cover`, `least_width`, `nearest`; `good_linear`, `good_root`, `is_quotient`,
-//! `is_root`.
+//! `is_root`; `power`, `signed_power`, `bit_length`.
 #![tactic(auto)]
 
 mod format;
 mod memory;
+mod mode;
 mod number;
 mod rounding;
 mod word;
 
 pub use format::{Format, FormatFault, MAX_INPUT, MAX_LSB, MAX_WIDTH, Ratio, cover, least_width};
 pub use memory::Memory;
+pub use mode::Mode;
 pub use number::{bit_length, power, signed_power};
 pub use rounding::{good_linear, good_root, is_quotient, is_root, nearest};
 pub use word::Word;

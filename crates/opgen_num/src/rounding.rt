@@ -1,7 +1,10 @@
 //! Rounds a fraction to the nearest whole number, and tests whether a number is a good rounding of a fraction, quotient or square
 //! root, without products that could overflow.
-ghost use Rattle.std.specs.Prelude.{◌≡◌, ◌↔◌, IsTrue, ◌+◌, ◌*◌, ◌<◌, ◌^◌, pos, ◌<ℤ◌, ◌≤ℤ◌, ◌*ℤ◌, ◌+ℤ◌, unsigned_abs};
-ghost use Rattle.opgen_num.specs.Rounding.{nearest, IsExact, IsGoodLinear, IsGoodRoot, IsQuotient, IsRoot, IsWithinOne};
+ghost use Rattle.std.specs.Prelude.{◌≡◌, true, false, ◌↔◌, IsTrue, ◌+◌, ◌*◌, ◌<◌, ◌^◌, pos, ◌<ℤ◌, ◌≤ℤ◌, ◌*ℤ◌, ◌+ℤ◌, ◌-ℤ◌, unsigned_abs};
+ghost use Rattle.opgen_num.specs.Floors.{IsFloor};
+ghost use Rattle.opgen_num.specs.Rounding.{nearest, IsExact, IsGoodLinear, IsGoodRoot, IsNearest, IsQuotient, IsRoot, IsWithinOne};
+
+use crate::mode::Mode;
 
 /// The whole number that is nearest to `n / m`, the greater of two.
 pub fn nearest(n: i128, m: i128) -> i128
@@ -13,17 +16,19 @@ pub fn nearest(n: i128, m: i128) -> i128
     (2 * n + m).div_euclid(2 * m)
 }
 
-/// Whether `y` is a good rounding of `n / m`: equal to it, or else less than one away from it.
+/// Whether `y` is good for `n / m` in a mode: equal to it, less than one away from it, its floor, or the
+/// floor of half a unit more.
 ///
 /// No product is formed, so that no value of the arguments is too great.
-pub fn good_linear(n: i128, m: i128, y: i128, exact: bool) -> bool
+pub fn good_linear(n: i128, m: i128, y: i128, mode: Mode) -> bool
     requires { pos 0 <ℤ m }
-    ensures { IsTrue result ↔ IsGoodLinear n m y exact }
+    ensures { IsTrue result ↔ IsGoodLinear n m y mode }
 {
-    if exact {
-        is_exact(n, m, y)
-    } else {
-        is_within_one(n, m, y)
+    match mode {
+        Mode::Exact => is_exact(n, m, y),
+        Mode::Faithful => is_within_one(n, m, y),
+        Mode::Down => is_floor(n, m, y),
+        Mode::Nearest => is_nearest(n, m, y),
     }
 }
 
@@ -67,6 +72,36 @@ fn is_within_one(n: i128, m: i128, y: i128) -> bool
 {
     let (quotient, rest) = quotient(n, m);
     y == quotient || (rest > 0 && y == quotient + 1)
+}
+
+fn is_floor(n: i128, m: i128, y: i128) -> bool
+    requires { pos 0 <ℤ m }
+    ensures { IsTrue result ↔ IsFloor n m y }
+{
+    let (quotient, _rest) = quotient(n, m);
+    y == quotient
+}
+
+fn is_nearest(n: i128, m: i128, y: i128) -> bool
+    requires { pos 0 <ℤ m }
+    ensures { IsTrue result ↔ IsNearest n m y }
+{
+    let (quotient, rest) = quotient(n, m);
+    if is_half(rest, m) {
+        y == quotient + 1
+    } else {
+        y == quotient
+    }
+}
+
+// Whether the rest of a division by `m` is half of it or more.
+fn is_half(rest: i128, m: i128) -> bool
+    requires low { pos 0 ≤ℤ rest }
+    requires high { rest <ℤ m }
+    ensures half { result ≡ true → (m -ℤ rest) ≤ℤ rest }
+    ensures less { result ≡ false → rest <ℤ (m -ℤ rest) }
+{
+    m - rest <= rest
 }
 
 // The greatest whole number that is not above `n / m`, and the rest.

@@ -4,5 +4,6 @@ pub mod Named
 pub mod Operators
 pub mod Accepted
 pub mod Valued
+pub mod EachMode
 pub mod Specs
 pub mod PortNames

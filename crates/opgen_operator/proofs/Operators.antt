@@ -7,8 +7,8 @@ use Rattle.opgen_operator.specs.declared.operator.Operator.TheVariants.{Scale, F
 use Rattle.opgen_ports.specs.declared.TheConstants.{MAX_SHIFT}
 use Rattle.opgen_ports.specs.Ports.{HasWidth, format_at, Recent, covering, port, with_rest}
 use Rattle.opgen_ports.specs.Limits.{most_input, most_signal}
-use Rattle.opgen_operator.specs.Held.{OutputsHold}
-use Rattle.opgen_operator.specs.Operator.{meaning, operator_inputs, IsOperator, most_shift, shift, least_shift, HasInputsWithin, HasRoom, operator_outputs, IsAcceptedBy, IsGoodOf, exact_value, has_value, plain_output, given_names}
+use Rattle.opgen_operator.specs.Held.{OutputsHold, OutputsRecall}
+use Rattle.opgen_operator.specs.Operator.{meaning, acceptance, operator_inputs, IsOperator, most_shift, shift, least_shift, HasInputsWithin, HasRoom, operator_outputs, IsAcceptedBy, IsGoodOf, exact_value, has_value, plain_output, given_names}
 use Rattle.opgen_ports.proofs.InputPorts.{HasBit}
 use Rattle.opgen_ports.proofs.Lawful.{IsLawful}
 use Rattle.opgen_kinds.proofs.of_kind.Pair.{pair_lawful}
@@ -23,6 +23,7 @@ use Rattle.opgen_kinds.proofs.of_kind.Taps.{taps_lawful}
 use Rattle.std.proofs.lemmas.Int.{ints}
 use Rattle.std.proofs.lemmas.Nat.{pow_pos}
 use Rattle.opgen_num.specs.declared.format.Format.{Format}
+use Rattle.opgen_num.specs.declared.mode.Mode.{Mode}
 use Rattle.opgen_num.specs.Formats.{fewest_bits, is_negative, range_width}
 use Rattle.opgen_num.proofs.RangeWidth.{range_width-least}
 use Rattle.opgen_num.specs.declared.format.Ratio.{Ratio}
@@ -42,7 +43,7 @@ use Rattle.opgen_operator.specs.GivenNames.{AreGivenNames}
 use Rattle.opgen_kinds.specs.Several.{numbered, constant_format}
 use Rattle.opgen_operator.proofs.Named.{AreNamed, are_good, good_named, given_named, names}
 
-pub lawful : (op : Operator) → IsLawful (meaning op)
+pub lawful : (op : Operator) → IsLawful (meaning op) (acceptance op)
 lawful (Scale s) = sum_lawful 1 s (omega arith)
 lawful (Fir s) = sum_lawful 256 s (omega arith)
 lawful (Multiply p) = product_lawful p
@@ -71,6 +72,10 @@ room version op few high = (lawful op).room version few high
 
 pub operator_wide : (version : ℕ) (op : Operator) → IsAcceptedBy version op → All (HasWidth (most_signal version)) (operator_outputs op)
 operator_wide version op is = (lawful op).wide version is
+
+-- good outputs depend on the last cycles alone
+pub outputs_recall : OutputsRecall
+outputs_recall op = (lawful op).recalls
 
 pub outputs_held : OutputsHold
 outputs_held op = (lawful op).held
@@ -171,18 +176,18 @@ some_value (Tfir f) inputs h = (_, refl)
 some_value (Sop s) inputs h = (_, refl)
 
 -- what is good for the operator is good for the exact value
-pub value_good : (exact : Bool) (op : Operator) (inputs : (port : ℕ) → Recent) (outputs : (port : ℕ) → ℤ) (v : Ratio)
-    → exact_value op inputs ≡ Some v → IsGoodOf exact op inputs outputs → IsGoodRatio exact v (outputs 0)
-value_good exact (Scale s) inputs outputs v e good = subst (λ (w : Ratio). IsGoodRatio exact w (outputs 0)) (inside _ v e) good
-value_good exact (Fir s) inputs outputs v e good = subst (λ (w : Ratio). IsGoodRatio exact w (outputs 0)) (inside _ v e) good
-value_good exact (Multiply p) inputs outputs v e good = subst (λ (w : Ratio). IsGoodRatio exact w (outputs 0)) (inside _ v e) good
-value_good exact (Divide p) inputs outputs v e good = absurd cc
-value_good exact (Root r) inputs outputs v e good = absurd cc
-value_good exact (Mcm m) inputs outputs v e good = absurd cc
-value_good exact (Constdiv c) inputs outputs v e good = absurd cc
-value_good exact (Poly p) inputs outputs v e good = subst (λ (w : Ratio). IsGoodRatio exact w (outputs 0)) (inside _ v e) good
-value_good exact (Tfir f) inputs outputs v e good = subst (λ (w : Ratio). IsGoodRatio exact w (outputs 0)) (inside _ v e) good
-value_good exact (Sop s) inputs outputs v e good = subst (λ (w : Ratio). IsGoodRatio exact w (outputs 0)) (inside _ v e) good
+pub value_good : (mode : Mode) (op : Operator) (inputs : (port : ℕ) → Recent) (outputs : (port : ℕ) → ℤ) (v : Ratio)
+    → exact_value op inputs ≡ Some v → IsGoodOf mode op inputs outputs → IsGoodRatio mode v (outputs 0)
+value_good mode (Scale s) inputs outputs v e good = subst (λ (w : Ratio). IsGoodRatio mode w (outputs 0)) (inside _ v e) good
+value_good mode (Fir s) inputs outputs v e good = subst (λ (w : Ratio). IsGoodRatio mode w (outputs 0)) (inside _ v e) good
+value_good mode (Multiply p) inputs outputs v e good = subst (λ (w : Ratio). IsGoodRatio mode w (outputs 0)) (inside _ v e) good
+value_good mode (Divide p) inputs outputs v e good = absurd cc
+value_good mode (Root r) inputs outputs v e good = absurd cc
+value_good mode (Mcm m) inputs outputs v e good = absurd cc
+value_good mode (Constdiv c) inputs outputs v e good = absurd cc
+value_good mode (Poly p) inputs outputs v e good = subst (λ (w : Ratio). IsGoodRatio mode w (outputs 0)) (inside _ v e) good.1
+value_good mode (Tfir f) inputs outputs v e good = subst (λ (w : Ratio). IsGoodRatio mode w (outputs 0)) (inside _ v e) good
+value_good mode (Sop s) inputs outputs v e good = subst (λ (w : Ratio). IsGoodRatio mode w (outputs 0)) (inside _ v e) good
 
 -- and that has a denominator above 0
 pub value_positive : (op : Operator) (inputs : (port : ℕ) → Recent) (v : Ratio) → IsOperator op → exact_value op inputs ≡ Some v → pos 0 <ℤ v.den

@@ -1,9 +1,10 @@
 -- When a net fits an operator or a specification: it is valid, has the operator's ports, and its outputs are good in each cycle.
-use Rattle.std.specs.Prelude.{ℕ, ℤ, ◌≡◌, Bool, All, ◌<◌, pos, length, List, map}
+use Rattle.std.specs.Prelude.{ℕ, ℤ, ◌≡◌, All, ◌<◌, pos, length, List, map}
 use Rattle.opgen_design.specs.Run.{AreWords}
 use Rattle.opgen_net.specs.declared.net.Net.{Net}
 use Rattle.opgen_net.specs.Flow.{Inputs, slice_flow}
 use Rattle.opgen_net.specs.Valid.{IsValid, slice_width, input_widths}
+use Rattle.opgen_num.specs.declared.mode.Mode.{Mode}
 use Rattle.opgen_operator.specs.declared.operator.Operator.{Operator}
 use Rattle.opgen_ports.specs.declared.ports.PortFormat.{PortFormat}
 use Rattle.opgen_operator.specs.declared.spec.Spec.{Spec}
@@ -27,8 +28,8 @@ pub record FitsPorts (ins outs : List PortFormat) (IsIn : (inputs : (port : ℕ)
       (output_words outs (map (λ o. slice_flow net.nodes inputs o.from (pos t)) net.outputs))
 
 -- the ports and the good outputs of an operator
-abbrev pub FitsOperator : (exact : Bool) → Operator → Net → Type 0
-FitsOperator exact op net = FitsPorts (operator_inputs op) (operator_outputs op) (IsInRangeOf op) (IsGoodOf exact op) net
+abbrev pub FitsOperator : (mode : Mode) → Operator → Net → Type 0
+FitsOperator mode op net = FitsPorts (operator_inputs op) (operator_outputs op) (IsInRangeOf op) (IsGoodOf mode op) net
 
 -- and those of a specification
 abbrev pub FitsSpec : Spec → Net → Type 0
@@ -36,4 +37,4 @@ FitsSpec spec net = FitsPorts (inputs_of spec) (outputs_of spec) (IsInRange spec
 
 -- What a builder of nets promises: its net fits the operator in each of its modes. A valid specification asks for one of them.
 abbrev pub FitsInEachMode : Operator → Net → Type 0
-FitsInEachMode op net = (exact : Bool) → IsModeOf exact op → FitsOperator exact op net
+FitsInEachMode op net = (mode : Mode) → IsModeOf mode op → FitsOperator mode op net

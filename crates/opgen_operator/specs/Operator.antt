@@ -1,29 +1,32 @@
--- The kinds and their words, what each operator means, by its kind, and each question about it.
+-- The kinds and their words; what each operator means and what decides whether it is accepted, by its kind; and each question
+-- about it.
 use Rattle.std.specs.Prelude.{ℕ, Bool, Option, Some, None, ℤ, List, codes, if◌then◌else◌}
 use Rattle.opgen_operator.specs.declared.kind.Kind.{Kind}
 use Rattle.opgen_operator.specs.declared.kind.Kind.TheVariants as kind_of
 use Rattle.opgen_operator.specs.declared.operator.Operator.{Operator}
 use Rattle.opgen_operator.specs.declared.operator.Operator.TheVariants.{Scale, Fir, Multiply, Divide, Root, Mcm, Constdiv, Poly, Tfir, Sop}
 use Rattle.opgen_ports.specs.declared.ports.PortFormat.{PortFormat}
+use Rattle.opgen_ports.specs.Acceptance.{Acceptance}
 use Rattle.opgen_ports.specs.Accepted.{is_marked, IsAcceptedIn, IsAcceptable}
 use Rattle.opgen_ports.specs.Meaning.{IsNonzeroAt, Meaning}
-use Rattle.opgen_kinds.specs.Pair.{pair_meaning}
-use Rattle.opgen_kinds.specs.Poly.{poly_meaning}
-use Rattle.opgen_kinds.specs.Product.{product_meaning}
-use Rattle.opgen_kinds.specs.Several.{several_meaning}
-use Rattle.opgen_kinds.specs.Single.{single_meaning}
-use Rattle.opgen_kinds.specs.SmallDiv.{small_meaning}
-use Rattle.opgen_terms.specs.Sop.{sop_meaning}
-use Rattle.opgen_kinds.specs.Sum.{scale_meaning, fir_meaning}
-use Rattle.opgen_kinds.specs.Taps.{taps_meaning}
+use Rattle.opgen_kinds.specs.Pair.{pair_meaning, pair_acceptance}
+use Rattle.opgen_kinds.specs.Poly.{poly_meaning, poly_acceptance}
+use Rattle.opgen_kinds.specs.Product.{product_meaning, product_acceptance}
+use Rattle.opgen_kinds.specs.Several.{several_meaning, several_acceptance}
+use Rattle.opgen_kinds.specs.Single.{single_meaning, single_acceptance}
+use Rattle.opgen_kinds.specs.SmallDiv.{small_meaning, small_acceptance}
+use Rattle.opgen_terms.specs.Sop.{sop_meaning, sop_acceptance}
+use Rattle.opgen_kinds.specs.Sum.{sum_meaning, scale_acceptance, fir_acceptance}
+use Rattle.opgen_kinds.specs.Taps.{taps_meaning, taps_acceptance}
 use Rattle.opgen_ports.specs.Ports.{AreWithin, format_at, Recent}
 use Rattle.opgen_num.specs.declared.format.Format.{Format}
 use Rattle.opgen_num.specs.declared.format.Ratio.{Ratio}
+use Rattle.opgen_num.specs.declared.mode.Mode.{Mode}
 use Rattle.std.specs.Option.{is_some, option_map}
 
 abbrev pub meaning : Operator → Meaning
-meaning (Scale s) = scale_meaning s
-meaning (Fir s) = fir_meaning s
+meaning (Scale s) = sum_meaning s
+meaning (Fir s) = sum_meaning s
 meaning (Multiply p) = product_meaning p
 meaning (Divide p) = pair_meaning p
 meaning (Root r) = single_meaning r
@@ -32,6 +35,18 @@ meaning (Constdiv c) = small_meaning c
 meaning (Poly p) = poly_meaning p
 meaning (Tfir f) = taps_meaning f
 meaning (Sop s) = sop_meaning s
+
+abbrev pub acceptance : Operator → Acceptance
+acceptance (Scale s) = scale_acceptance s
+acceptance (Fir s) = fir_acceptance s
+acceptance (Multiply p) = product_acceptance p
+acceptance (Divide p) = pair_acceptance p
+acceptance (Root r) = single_acceptance r
+acceptance (Mcm m) = several_acceptance m
+acceptance (Constdiv c) = small_acceptance c
+acceptance (Poly p) = poly_acceptance p
+acceptance (Tfir f) = taps_acceptance f
+acceptance (Sop s) = sop_acceptance s
 
 abbrev pub kind : Operator → Kind
 kind (Scale s) = kind_of.Scale
@@ -59,11 +74,11 @@ kind_name kind_of.Sop = codes "sop"
 
 -- a version of specifications has the operator with these fields
 abbrev pub IsInVersion : (version : ℕ) → Operator → Type 0
-IsInVersion version op = (meaning op).IsIn version
+IsInVersion version op = (acceptance op).IsIn version
 
 -- the fields are within the ranges of their keys
 abbrev pub IsOperator : Operator → Type 0
-IsOperator op = (meaning op).IsRanged
+IsOperator op = (acceptance op).IsRanged
 
 abbrev pub operator_inputs : Operator → List PortFormat
 operator_inputs op = (meaning op).inputs
@@ -73,32 +88,36 @@ operator_outputs op = (meaning op).outputs
 
 -- the names of the inputs, where the document gives them
 abbrev pub given_names : Operator → List (List ℕ)
-given_names op = (meaning op).given_names
+given_names op = (acceptance op).given_names
 
 -- the place of the input port that must not be 0, where there is one
 abbrev pub divisor : Operator → Option ℕ
 divisor op = (meaning op).divisor
 
+-- how many cycles before the last one good outputs depend on
+abbrev pub memory : Operator → ℕ
+memory op = (meaning op).memory
+
 abbrev pub shift : Operator → ℤ
-shift op = (meaning op).shift
+shift op = (acceptance op).shift
 
 abbrev pub least_shift : Operator → ℤ
-least_shift op = (meaning op).least_shift
+least_shift op = (acceptance op).least_shift
 
 abbrev pub most_shift : (version : ℕ) → Operator → ℤ
-most_shift version op = (meaning op).most_shift version
+most_shift version op = (acceptance op).most_shift version
 
 abbrev pub inexact : Operator → Option ℕ
-inexact op = (meaning op).inexact
+inexact op = (acceptance op).inexact
 
 abbrev pub need : Operator → Option ℕ
-need op = (meaning op).need
+need op = (acceptance op).need
 
 abbrev pub HasRoom : Operator → Type 0
-HasRoom op = (meaning op).HasRoom
+HasRoom op = (acceptance op).HasRoom
 
 abbrev pub own_mark : Operator → Option Bool
-own_mark op = (meaning op).own_mark
+own_mark op = (acceptance op).own_mark
 
 abbrev pub marks_exact : Operator → Bool
 marks_exact op = is_marked (own_mark op)
@@ -107,16 +126,16 @@ abbrev pub HasInputsWithin : (most : ℕ) → Operator → Type 0
 HasInputsWithin most op = AreWithin most (meaning op).inputs
 
 abbrev pub IsAcceptedBy : (version : ℕ) → Operator → Type 0
-IsAcceptedBy version op = IsAcceptedIn version (meaning op)
+IsAcceptedBy version op = IsAcceptedIn version (meaning op) (acceptance op)
 
 abbrev pub IsAccepted : Operator → Type 0
-IsAccepted op = IsAcceptable (meaning op)
+IsAccepted op = IsAcceptable (meaning op) (acceptance op)
 
 abbrev pub IsExactIn128 : Operator → (inputs : (port : ℕ) → Recent) → Type 0
-IsExactIn128 op inputs = (meaning op).IsExactIn128 inputs
+IsExactIn128 op inputs = (acceptance op).IsExactIn128 inputs
 
-abbrev pub IsGoodOf : (exact : Bool) → Operator → (inputs : (port : ℕ) → Recent) (outputs : (port : ℕ) → ℤ) → Type 0
-IsGoodOf exact op inputs outputs = (meaning op).IsGood exact inputs outputs
+abbrev pub IsGoodOf : (mode : Mode) → Operator → (inputs : (port : ℕ) → Recent) (outputs : (port : ℕ) → ℤ) → Type 0
+IsGoodOf mode op inputs outputs = (meaning op).IsGood mode inputs outputs
 
 -- the exact value of the only output `y`, of the kinds whose output may have a chosen width
 abbrev pub exact_value : Operator → (inputs : (port : ℕ) → Recent) → Option Ratio
@@ -135,4 +154,4 @@ IsInRangeOf op inputs = IsNonzeroAt (divisor op) inputs
 
 -- the net is made of an adder graph
 abbrev pub has_graph : Operator → Bool
-has_graph op = (meaning op).has_graph
+has_graph op = (acceptance op).has_graph

@@ -1,26 +1,34 @@
 -- Valid specifications: their fields are within the ranges of their keys and the limits of their version.
 use Rattle.std.specs.Prelude.{ℕ, ◌≡◌, ◌≤◌, Bool, true, IsTrue, All, Option, Some, None, length}
+use Rattle.opgen_num.specs.declared.mode.Mode.{Mode}
 use Rattle.opgen_operator.specs.declared.operator.Operator.{Operator}
 use Rattle.opgen_operator.specs.declared.spec.DelayLine.{DelayLine}
 use Rattle.opgen_operator.specs.declared.spec.Spec.{Spec}
 use Rattle.opgen_ports.specs.Limits.{IsVersion}
+use Rattle.opgen_ports.specs.Modes.{is_exact, IsExactOrFaithful}
+use Rattle.opgen_operator.specs.Outputs.{mode_of}
 use Rattle.opgen_operator.specs.Operator.{IsInVersion, given_names, inexact, own_mark, IsAcceptedBy, has_value}
 use Rattle.opgen_operator.specs.GivenNames.{AreGivenNames}
 use Rattle.opgen_ports.specs.SpecName.{is_spec_name}
 
--- the operator's own mark of exact outputs, where it has one, is that of the specification
-abbrev pub AgreesWith : Bool → Option Bool → Type 0
-AgreesWith exact (Some mark) = mark ≡ exact
-AgreesWith exact None = Unit {0}
+-- the operator's own mark of exact outputs, where it has one, is that of the mode
+abbrev pub AgreesWith : Mode → Option Bool → Type 0
+AgreesWith mode (Some mark) = mark ≡ is_exact mode
+AgreesWith mode None = Unit {0}
 
-abbrev pub AgreesOnExact : Bool → Operator → Type 0
-AgreesOnExact exact op = AgreesWith exact (own_mark op)
+abbrev pub AgreesOnExact : Mode → Operator → Type 0
+AgreesOnExact mode op = AgreesWith mode (own_mark op)
 
--- The mode of the outputs, exact or faithful, is one that may be asked of the operator.
-pub record IsModeOf (exact : Bool) (op : Operator) : Type 0 where
-  pub agrees : AgreesOnExact exact op
+-- no operator is built yet whose outputs are rounded down or to the nearest
+abbrev pub IsBuilt : Mode → Type 0
+IsBuilt mode = IsExactOrFaithful mode
+
+-- The mode of the outputs is one that may be asked of the operator.
+pub record IsModeOf (mode : Mode) (op : Operator) : Type 0 where
+  pub built : IsBuilt mode
+  pub agrees : AgreesOnExact mode op
   -- exact outputs are asked for only where the exact values are whole
-  pub whole : IsTrue exact → inexact op ≡ None
+  pub whole : IsTrue (is_exact mode) → inexact op ≡ None
 
 abbrev pub IsDelayLine : DelayLine → Type 0
 IsDelayLine line = (line.base ≤ 1000000) × (line.per_bit ≤ 10000)
@@ -36,7 +44,7 @@ pub record IsValidSpec (spec : Spec) : Type 0 where
   pub op : IsAcceptedBy spec.version spec.op
   pub has : IsInVersion spec.version spec.op
   pub names : AreGivenNames spec.name (given_names spec.op)
-  pub mode : IsModeOf spec.exact spec.op
+  pub mode : IsModeOf (mode_of spec) spec.op
   pub output : IsChoice spec.version spec.op spec.out_width spec.out_signed
   pub target : (1 ≤ length spec.target) × (length spec.target ≤ 32)
   pub period : (1 ≤ spec.period) × (spec.period ≤ 1000000)

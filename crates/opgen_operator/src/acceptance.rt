@@ -1,9 +1,12 @@
-//! Tests whether a version of specifications accepts an operator.
+//! Tests whether a version of specifications accepts an operator, and whether outputs in a mode may be asked of it.
 ghost use Rattle.std.specs.Prelude.{ℕ, ◌≡◌, ◌≤◌, ◌↔◌, ◌≤ℤ◌, Some, None, IsTrue};
 ghost use Rattle.opgen_operator.specs.Operator.{shift, least_shift, most_shift, need, inexact, HasInputsWithin, IsOperator, IsAcceptedBy, IsInVersion};
+ghost use Rattle.opgen_operator.specs.Valid.{AgreesWith, IsModeOf};
 ghost use Rattle.opgen_ports.specs.Limits.{most_input, most_signal};
 
 use crate::operator::Operator;
+use opgen_num::Mode;
+use opgen_ports::modes::{is_exact, is_exact_or_faithful};
 use opgen_ports::{most_input, most_signal};
 
 impl Operator {
@@ -25,12 +28,20 @@ impl Operator {
         self.is_accepted_in(version) && self.is_in(version)
     }
 
-    /// Whether the exact values are whole, if exact outputs are asked for.
-    pub(crate) fn is_whole(&self, exact: bool) -> bool
+    // Whether the exact values are whole, if exact outputs are asked for.
+    fn is_whole(&self, exact: bool) -> bool
         requires { IsOperator self.now }
         ensures { IsTrue result ↔ (IsTrue exact → inexact self.now ≡ None) }
     {
         !exact || self.inexact().is_none()
+    }
+
+    /// Whether outputs in the mode may be asked of the operator.
+    pub(crate) fn has_mode(&self, mode: Mode) -> bool
+        requires { IsOperator self.now }
+        ensures { IsTrue result ↔ IsModeOf mode self.now }
+    {
+        is_exact_or_faithful(mode) && agrees(mode, self.own_mark()) && self.is_whole(is_exact(mode))
     }
 
     // Whether the shift is within the limits of the kind.
@@ -55,5 +66,15 @@ impl Operator {
             Some(bits) => bits <= most_signal(version),
             None => true,
         }
+    }
+}
+
+// Whether the operator's own mark of exact outputs, if it has one, is that of the mode.
+fn agrees(mode: Mode, mark: Option<bool>) -> bool
+    ensures { IsTrue result ↔ AgreesWith mode mark }
+{
+    match mark {
+        Some(mark) => mark == is_exact(mode),
+        None => true,
     }
 }

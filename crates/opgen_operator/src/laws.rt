@@ -1,6 +1,6 @@
-//! Laws of specifications: which values output formats hold, and that widths, shifts and exact values are bounded.
+//! Laws of specifications: which values output formats hold, on which cycles good outputs depend, and that widths, shifts and exact values are bounded.
 ghost use Rattle.opgen_operator.specs.Bounded.{InputsAreWide};
-ghost use Rattle.opgen_operator.specs.Held.{OutputsHold};
+ghost use Rattle.opgen_operator.specs.Held.{OutputsHold, OutputsRecall};
 ghost use Rattle.opgen_kinds.specs.Product.{ProductsHaveWidth};
 ghost use Rattle.opgen_kinds.specs.Sum.{EntriesAreSmall};
 
@@ -8,6 +8,12 @@ ghost use Rattle.opgen_kinds.specs.Sum.{EntriesAreSmall};
 /// remainders, and roots and quotients by small constants rounded down.
 pub fn outputs_hold()
     ensures { OutputsHold }
+{}
+
+/// Good outputs depend on the inputs of the last cycle and of as many before it as the operator's kind says alone: of
+/// filters one less than there are coefficients or taps, of all others none.
+pub fn outputs_recall()
+    ensures { OutputsRecall }
 {}
 
 /// Each input port of a valid specification has 1 to 32 bits in version 1, and 1 to 48 in later versions.

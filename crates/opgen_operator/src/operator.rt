@@ -1,10 +1,11 @@
 //! Operators: their kinds, and each question about them.
 ghost use Rattle.std.specs.Prelude.{◌≡◌, ◌↔◌, ℤ, pos, neg_ℤ, ◌≤ℤ◌, ◌<ℤ◌, IfOk, IfSome, IsTrue};
 ghost use Rattle.opgen_ports.specs.Meaning.{IsCycleJudged};
+ghost use Rattle.opgen_ports.specs.Profile.{IsProfileOf};
 ghost use Rattle.opgen_operator.specs.GivenNames.{AreGivenNames};
-ghost use Rattle.opgen_operator.specs.Operator.{shift, given_names, HasRoom, operator_inputs, operator_outputs, IsOperator, inexact, need, least_shift, most_shift, kind, meaning, divisor, has_graph, own_mark, IsAccepted, IsInVersion, HasInputsWithin, plain_output, exact_value, has_value};
+ghost use Rattle.opgen_operator.specs.Operator.{shift, given_names, HasRoom, operator_inputs, operator_outputs, IsOperator, inexact, need, least_shift, most_shift, kind, meaning, acceptance, divisor, has_graph, own_mark, IsAccepted, IsInVersion, HasInputsWithin, plain_output, exact_value, has_value};
 ghost use Rattle.opgen_ports.specs.Ports.{recent_numbers, IsHistory, IsCycle};
-ghost use Rattle.opgen_operator.specs.Valid.{AgreesOnExact};
+ghost use Rattle.opgen_operator.specs.Valid.{IsModeOf};
 
 use crate::given_names::are_given_names;
 use crate::kind::Kind;
@@ -14,11 +15,11 @@ use opgen_kinds::product::{Product, product_inexact, product_need, product_shift
 use opgen_kinds::several::Several;
 use opgen_kinds::single::{Single, root_shift};
 use opgen_kinds::small_div::SmallDiv;
-use opgen_kinds::sum::{Sum, first_inexact, most_sum_shift, sum_need, sum_shift};
+use opgen_kinds::sum::{Sum, first_inexact, sum_need, sum_shift};
 use opgen_kinds::taps::Taps;
-use opgen_num::{Format, Ratio};
-use opgen_ports::MAX_SHIFT;
+use opgen_num::{Format, Mode, Ratio};
 use opgen_ports::ports::{PortFormat, are_within, is_within};
+use opgen_ports::{MAX_SHIFT, Profile};
 use opgen_terms::Sop;
 use std::alloc::{AllocError, Global};
 
@@ -117,50 +118,64 @@ impl Operator {
         }
     }
 
+    // What is said of the operator by numbers and marks alone.
+    fn profile(&self) -> Profile
+        ensures { IsProfileOf (meaning self.now) (acceptance self.now) result }
+    {
+        match self {
+            Self::Scale(sum) => sum.profile(),
+            Self::Fir(sum) => sum.profile(),
+            Self::Multiply(product) => product.profile(),
+            Self::Divide(pair) => pair.profile(),
+            Self::Root(single) => single.profile(),
+            Self::Mcm(several) => several.profile(),
+            Self::Constdiv(small) => small.profile(),
+            Self::Poly(poly) => poly.profile(),
+            Self::Tfir(taps) => taps.profile(),
+            Self::Sop(sop) => sop.profile(),
+        }
+    }
+
     /// The least shift of an operator of this kind.
     pub fn least_shift(&self) -> i32
         ensures { result ≡ least_shift self.now }
     {
-        match self {
-            Self::Scale(_) | Self::Fir(_) | Self::Multiply(_) => -MAX_SHIFT,
-            Self::Tfir(_) | Self::Sop(_) => -MAX_SHIFT,
-            Self::Divide(_) | Self::Root(_) | Self::Mcm(_) => 0,
-            Self::Constdiv(_) | Self::Poly(_) => 0,
-        }
+        self.profile().least_shift
     }
 
     /// The greatest shift of an operator of this kind in a version of specifications.
     pub fn most_shift(&self, version: u32) -> i32
         ensures { result ≡ most_shift version self.now }
     {
-        match self {
-            Self::Scale(_) | Self::Fir(_) => most_sum_shift(version),
-            Self::Multiply(_) | Self::Divide(_) | Self::Root(_) | Self::Sop(_) => MAX_SHIFT,
-            Self::Mcm(_) | Self::Constdiv(_) | Self::Poly(_) | Self::Tfir(_) => 0,
-        }
+        self.profile().most_shift_in(version)
     }
 
     /// The place of the input port that must not be 0, if there is one.
     pub fn divisor(&self) -> Option<usize>
         ensures { result ≡ divisor self.now }
     {
-        match self {
-            Self::Divide(_) => Some(1),
-            Self::Scale(_) | Self::Fir(_) | Self::Multiply(_) | Self::Root(_) => None,
-            Self::Mcm(_) | Self::Constdiv(_) | Self::Poly(_) | Self::Tfir(_) => None,
-            Self::Sop(_) => None,
-        }
+        self.profile().divisor
     }
 
     /// Whether the net is made of an adder graph.
     pub fn has_graph(&self) -> bool
         ensures { result ≡ has_graph self.now }
     {
-        match self {
-            Self::Mcm(_) | Self::Tfir(_) => true,
-            Self::Scale(_) | Self::Fir(_) | Self::Multiply(_) | Self::Divide(_) => false,
-            Self::Root(_) | Self::Constdiv(_) | Self::Poly(_) | Self::Sop(_) => false,
-        }
+        self.profile().has_graph
+    }
+
+    /// Whether the output has a width that may be chosen: that of the kinds with one output `y`.
+    pub fn has_value(&self) -> bool
+        ensures { result ≡ has_value self.now }
+    {
+        self.profile().has_value
+    }
+
+    /// The operator's own mark of exact outputs, if it has one.
+    pub(crate) fn own_mark(&self) -> Option<bool>
+        ensures { result ≡ own_mark self.now }
+    {
+        self.profile().own_mark
     }
 
     /// Whether the fields are within the ranges of their keys.
@@ -209,21 +224,6 @@ impl Operator {
             Self::Scale(_) | Self::Fir(_) | Self::Multiply(_) | Self::Divide(_) => true,
             Self::Root(_) | Self::Mcm(_) | Self::Constdiv(_) | Self::Poly(_) | Self::Tfir(_) =>
                 true,
-        }
-    }
-
-    /// The operator's own mark of exact outputs, if it has one.
-    pub(crate) fn own_mark(&self) -> Option<bool>
-        ensures { result ≡ own_mark self.now }
-    {
-        match self {
-            Self::Scale(sum) => Some(sum.exact),
-            Self::Fir(sum) => Some(sum.exact),
-            Self::Divide(pair) => Some(pair.exact),
-            Self::Root(single) => Some(single.exact),
-            Self::Constdiv(small) => Some(small.exact),
-            Self::Sop(sop) => Some(sop.exact),
-            Self::Multiply(_) | Self::Mcm(_) | Self::Poly(_) | Self::Tfir(_) => None,
         }
     }
 
@@ -316,36 +316,25 @@ impl Operator {
         }
     }
 
-    /// Whether the output has a width that may be chosen: that of the kinds with one output `y`.
-    pub fn has_value(&self) -> bool
-        ensures { result ≡ has_value self.now }
-    {
-        match self {
-            Self::Scale(_) | Self::Fir(_) | Self::Multiply(_) => true,
-            Self::Poly(_) | Self::Tfir(_) | Self::Sop(_) => true,
-            Self::Divide(_) | Self::Root(_) | Self::Mcm(_) | Self::Constdiv(_) => false,
-        }
-    }
-
     /// Whether the outputs of the last cycle are good, or its inputs out of range.
-    pub(crate) fn judge(&self, exact: bool, history: &[u128], outputs: &[u128]) -> bool
+    pub(crate) fn judge(&self, mode: Mode, history: &[u128], outputs: &[u128]) -> bool
         requires accepted { IsAccepted self.now }
-        requires agrees { AgreesOnExact exact self.now }
+        requires mode { IsModeOf mode self.now }
         requires history { IsHistory (operator_inputs self.now) history.now }
         requires outputs { IsCycle (operator_outputs self.now) outputs.now }
-        ensures { IsCycleJudged (meaning self.now) exact history.now outputs.now result }
+        ensures { IsCycleJudged (meaning self.now) mode history.now outputs.now result }
     {
         match self {
-            Self::Scale(sum) => sum.judge(exact, history, outputs),
-            Self::Fir(sum) => sum.judge(exact, history, outputs),
-            Self::Multiply(product) => product.judge(exact, history, outputs),
+            Self::Scale(sum) => sum.judge(mode, history, outputs),
+            Self::Fir(sum) => sum.judge(mode, history, outputs),
+            Self::Multiply(product) => product.judge(mode, history, outputs),
             Self::Divide(pair) => pair.judge(history, outputs),
             Self::Root(single) => single.judge(history, outputs),
-            Self::Mcm(several) => several.judge(exact, history, outputs),
+            Self::Mcm(several) => several.judge(mode, history, outputs),
             Self::Constdiv(small) => small.judge(history, outputs),
-            Self::Poly(poly) => poly.judge(exact, history, outputs),
-            Self::Tfir(taps) => taps.judge(exact, history, outputs),
-            Self::Sop(sop) => sop.judge(exact, history, outputs),
+            Self::Poly(poly) => poly.judge(mode, history, outputs),
+            Self::Tfir(taps) => taps.judge(mode, history, outputs),
+            Self::Sop(sop) => sop.judge(mode, history, outputs),
         }
     }
 }

@@ -3,16 +3,17 @@ ghost use Rattle.std.specs.Prelude.{◌≡◌, ◌≤◌, ◌<◌, ◌^◌, Some
 ghost use Rattle.opgen_num.specs.Formats.{IsWidthOf};
 ghost use Rattle.opgen_operator.specs.GivenNames.{AreGivenNames};
 ghost use Rattle.opgen_operator.specs.Operator.{plain_output, exact_value, given_names};
-ghost use Rattle.opgen_operator.specs.Outputs.{inputs_of, outputs_of, IsGood, IsGoodCut, IsInRange};
+ghost use Rattle.opgen_operator.specs.Outputs.{inputs_of, outputs_of, mode_of, IsGood, IsGoodCut, IsInRange};
 ghost use Rattle.opgen_ports.specs.Ports.{port, number_of, recent_numbers, output_numbers, IsHistory, IsCycle};
 ghost use Rattle.opgen_ports.specs.SpecName.{is_spec_name};
-ghost use Rattle.opgen_operator.specs.Valid.{AgreesWith, IsChoice, IsDelayLine, IsValidSpec};
+ghost use Rattle.opgen_operator.specs.Valid.{IsChoice, IsDelayLine, IsValidSpec};
 
 use crate::operator::Operator;
 use opgen_list::{Items, Text};
 use opgen_net::Class;
-use opgen_num::{Format, MAX_WIDTH, Memory};
+use opgen_num::{Format, MAX_WIDTH, Memory, Mode};
 use opgen_ports::history::output;
+use opgen_ports::modes::mode_of_exact;
 use opgen_ports::ports::{PortFormat, one};
 use opgen_ports::ranges::is_length;
 use opgen_ports::saturated::good_saturated;
@@ -74,13 +75,19 @@ impl Spec {
         is_version(self.version)
             && self.has_names()
             && self.op.is_of(self.version)
-            && agrees(self.exact, self.op.own_mark())
+            && self.op.has_mode(self.mode())
             && is_length(1, 32, self.target.as_str().len())
             && is_period(self.period)
             && self.delays.len() <= 16
             && are_delay_lines(self.delays.as_slice())
-            && self.op.is_whole(self.exact)
             && self.is_choice()
+    }
+
+    /// The mode of the outputs: exact or faithful.
+    pub fn mode(&self) -> Mode
+        ensures { result ≡ mode_of self.now }
+    {
+        mode_of_exact(self.exact)
     }
 
     // Whether the specification and its inputs may have their names.
@@ -154,7 +161,7 @@ impl Spec {
     {
         match self.cut() {
             Some(cut) => self.is_good_cut(cut.to, history, outputs[0]),
-            None => self.op.judge(self.exact, history, outputs),
+            None => self.op.judge(self.mode(), history, outputs),
         }
     }
 
@@ -164,23 +171,13 @@ impl Spec {
         requires to { IsWidthOf to.signed to.width }
         requires history { IsHistory (inputs_of self.now) history.now }
         requires y { y < 2 ^ to.width }
-        ensures { IsTrue result ↔ IsGoodCut self.now.exact to
+        ensures { IsTrue result ↔ IsGoodCut (mode_of self.now) to
             (exact_value self.now.op (recent_numbers (inputs_of self.now) history.now)) (number_of to y) }
     {
         match self.op.value(history) {
-            Some(value) => good_saturated(value, to, output(to, y), self.exact),
+            Some(value) => good_saturated(value, to, output(to, y), self.mode()),
             None => false,
         }
-    }
-}
-
-// Whether the operator's own mark of exact outputs, if it has one, is that of the specification.
-fn agrees(exact: bool, mark: Option<bool>) -> bool
-    ensures { IsTrue result ↔ AgreesWith exact mark }
-{
-    match mark {
-        Some(mark) => mark == exact,
-        None => true,
     }
 }
 

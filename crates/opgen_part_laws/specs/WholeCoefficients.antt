@@ -1,6 +1,7 @@
 -- Operators of whole coefficients, which are several constants and transposed filters: their outputs have the least formats
 -- of their exact values, rounded down or up, and a transposed filter means what the direct filter of the same coefficients means.
 use Rattle.std.specs.Prelude.{ℕ, ℤ, pos, ◌≡◌, ◌≤◌, ◌<ℤ◌, ◌*ℤ◌, false, true, Some, slice_get}
+use Rattle.opgen_num.specs.declared.mode.Mode.TheVariants.{Faithful}
 use Rattle.opgen_num.specs.declared.format.Format.{Format}
 use Rattle.opgen_num.specs.Formats.{Holds, fewest_bits}
 use Rattle.opgen_kinds.specs.declared.several.Several.{Several}
@@ -31,7 +32,7 @@ MultiplesAreLeast = (m : Several) (k : ℕ) (constant : ℤ) → slice_get m.con
 
 -- an output of a transposed filter that is less than one unit from the exact value
 abbrev pub IsFaithful : Taps → Recent → ℤ → Type 0
-IsFaithful f x y = ((ago : ℕ) → IsOf f.input (x ago)) × IsGoodRatio false (exact_taps f x) y
+IsFaithful f x y = ((ago : ℕ) → IsOf f.input (x ago)) × IsGoodRatio Faithful (exact_taps f x) y
 
 -- It has the least format of its faithful outputs, over all inputs before the last cycle and in it. Where the last place is that
 -- of the input, these are the sums.

@@ -20,6 +20,7 @@ use Rattle.opgen_net.specs.declared.node.Node.{Node}
 use Rattle.opgen_net.specs.declared.node.Node.TheVariants.{Cells}
 use Rattle.opgen_net.specs.declared.word_bits.WordBit.{WordBit}
 use Rattle.opgen_net.specs.declared.word_bits.WordBit.TheVariants.{Of}
+use Rattle.opgen_net.specs.Cells.{IsLogic}
 use Rattle.opgen_net.specs.Flow.{Inputs, flow}
 use Rattle.opgen_net.specs.Grown.{HasGrown}
 use Rattle.opgen_net.specs.Placed.{with_last}
@@ -37,7 +38,7 @@ use Rattle.opgen_partial.specs.declared.pairs.Work.{Work}
 use Rattle.opgen_partial.specs.Law.{IsFactor, AreFactors, IsPlaced, words_at}
 use Rattle.opgen_partial.specs.Recipe.{partial_product, has_one_sign, is_sign, is_single, is_bit, is_made, is_turned, column, with_bits_of, with_product, with_row, with_rows}
 use Rattle.opgen_partial.proofs.Kept.{kept}
-use Rattle.opgen_partial.proofs.Operands.{and-left, and-right, single-is, twice, product-fits, product-value}
+use Rattle.opgen_partial.proofs.Operands.{and-left, and-right, single-is, twice, product-fits, product-logic, product-value}
 use Rattle.opgen_partial.proofs.PartialSums.{at, piece}
 
 -- a bit more leaves no more columns than the heap is wide
@@ -178,12 +179,17 @@ module _ (p : Products) (f : Placing) (placed : IsPlaced p f) (start : Work) (va
         product-fits p f placed i j low high (widths w.net.nodes) factor-a.width
         (factor-later p.b start.net w.net h.grown factors.second).width
 
+    logic : IsLogic (widths w.net.nodes) (partial_product p f i j)
+    logic =
+        product-logic p f placed i j low high (widths w.net.nodes) factor-a.width
+        (factor-later p.b start.net w.net h.grown factors.second).width
+
     as-cells : HasSum (record { net = with_last w.net cells; heap = with_bit w.heap (Of (length w.net.nodes) 0) (column f i j) })
         (λ a b. total a b + bit_product a b i j)
     as-cells =
         let larger = with_last w.net cells in
         let wide : slice_index (widths larger.nodes) (length w.net.nodes) ≡ 1 = width-append_last w.net.nodes cells in
-        added larger (grown-more w.net (cells ∷ [])) (valid-append w.net cells h.valid (tt, fits) refl) (Of (length w.net.nodes) 0)
+        added larger (grown-more w.net (cells ∷ [])) (valid-append w.net cells h.valid (logic, fits) refl) (Of (length w.net.nodes) 0)
         (omega (arith, wide))
         (λ ins t words.
         let a = grown-flow start.net w.net h.grown ins p.a.node t first-there in

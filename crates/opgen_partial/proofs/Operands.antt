@@ -8,7 +8,9 @@ use Rattle.std.proofs.lemmas.Option.{slice_get-get_or}
 use Rattle.opgen_design.specs.declared.expr.Op.TheVariants.{And}
 use Rattle.opgen_design.specs.Tree.{Tree, name, part, inverse, more, none}
 use Rattle.opgen_design.specs.Value.{Scope, cut, combined, value, as_width, joined, width, width_on, in_chain, in_not, nesting}
+use Rattle.opgen_net.specs.Cells.{IsLogic}
 use Rattle.opgen_net.specs.Valid.{FitsNodes}
+use Rattle.opgen_net.proofs.CellLaws.{ReadsOne, inverse-one, name-one, one-logic, part-one, two-one}
 use Rattle.opgen_net.proofs.FlowLaws.{index_within}
 use Rattle.opgen_partial.specs.declared.pairs.Factor.{Factor}
 use Rattle.opgen_partial.specs.declared.pairs.Placing.{Placing}
@@ -48,6 +50,13 @@ module _ (ws : List ℕ) (f : Factor) (i : ℕ) (wide : slice_index ws f.node �
           ∙ ap (λ c. if c && nat_lt i f.width then as_width (i + 1 - i) else None) (le-leb i i (omega arith))
           ∙ ap (λ c. if c then as_width (i + 1 - i) else None) (lt-ltb i f.width within)
           ∙ ap as_width count
+
+bit-reads : (ws : List ℕ) (f : Factor) (i : ℕ) → slice_index ws f.node ≡ f.width → ReadsOne ws 0 1 (bit_of f i)
+bit-reads ws f i wide = by (eqb f.width 1) (eqb-true f.width 1)
+  where
+    by : (c : Bool) → (c ≡ true → f.width ≡ 1) → ReadsOne ws 0 1 (either c f.node i)
+    by true one = name-one ws f.node (wide ∙ one refl)
+    by false one = part-one ws f.node i
 
 bit-nests : (f : Factor) (i : ℕ) → (in_chain (bit_of f i) ≡ 0) × (nesting (bit_of f i) ≡ 0) × (in_not (bit_of f i) ≡ 0)
 bit-nests f i = by (eqb f.width 1)
@@ -112,6 +121,19 @@ module _ (p : Products) (f : Placing) (placed : IsPlaced p f) (i j : ℕ) (low :
         by : (c s : Bool) → FitsNodes ws 1 (if c then inverse (chosen s) else chosen s)
         by true s = record { has_width = pair-width s; nests = omega (arith, flat s, turned-flat s) }
         by false s = record { has_width = pair-width s; nests = omega (arith, flat s) }
+
+    -- and is logic of two bits
+    pub product-logic : IsLogic ws (partial_product p f i j)
+    product-logic = by (is_turned p f i j) (is_single f i j)
+      where
+        one : (s : Bool) → ReadsOne ws 1 2 (chosen s)
+        one true = let h = bit-reads ws p.a i a in
+            record { bitwise = h.bitwise; shallow = omega (arith, h.shallow); read = h.read; is = h.is; few = omega (arith, h.few) }
+        one false = two-one ws And refl 0 1 1 (bit_of p.a i) (bit_of p.b j) (bit-reads ws p.a i a) (bit-reads ws p.b j b)
+
+        by : (c s : Bool) → IsLogic ws (if c then inverse (chosen s) else chosen s)
+        by true s = one-logic ws 1 2 (inverse (chosen s)) (omega arith) (omega arith) (inverse-one ws 1 2 (chosen s) (one s))
+        by false s = one-logic ws 1 2 (chosen s) (omega arith) (omega arith) (one s)
 
   module _ (s : Scope) (a : length (s.names p.a.node) ≡ p.a.width) (b : length (s.names p.b.node) ≡ p.b.width) where
     both-value : value s (both p i j) ≡ (at (s.names p.a.node) i && at (s.names p.b.node) j) ∷ []

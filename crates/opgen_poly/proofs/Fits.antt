@@ -11,6 +11,9 @@ use Rattle.opgen_net.specs.Valid.{slice_width}
 use Rattle.opgen_kinds.specs.declared.poly.Poly.{Poly as Polynomial}
 use Rattle.opgen_operator.specs.declared.operator.Operator.TheVariants.{Poly}
 use Rattle.opgen_operator.specs.Fits.{FitsOperator, FitsInEachMode}
+use Rattle.opgen_num.specs.declared.mode.Mode.TheVariants.{Faithful}
+use Rattle.opgen_ports.specs.Modes.{mode_of_exact}
+use Rattle.opgen_operator.proofs.EachMode.{fits_each_mode}
 use Rattle.opgen_ports.specs.Good.{IsGoodRatio}
 use Rattle.opgen_kinds.specs.Poly.{IsAcceptedPoly, exact_poly, poly_format, IsPoly}
 use Rattle.opgen_operator.proofs.Accepted.{accepted_ranges, poly_faithful}
@@ -40,7 +43,7 @@ module _ (p : Polynomial) (fits : IsPoly p) where
       ap (λ u. val (input_at ins 0 p.input.width u) p.input) (now t)
       ∙ unsigned (input_at ins 0 p.input.width (pos t)) p.input fits.unsigned
 
-  pub net-fits : FitsOperator false (Poly p) (net_of_poly p)
+  pub net-fits : FitsOperator Faithful (Poly p) (net_of_poly p)
   net-fits = record {
     valid = made-valid p fits;
     inputs = made-inputs p fits;
@@ -49,12 +52,16 @@ module _ (p : Polynomial) (fits : IsPoly p) where
     good = λ ins t words less ranges.
         let inside = words-for p fits ins words in
         let value : shown ins t (output p fits ∷ []) ≡ out p fits ins (pos t) inside = output-value p fits ins (pos t) inside in
-        let all : shown ins t (net_of_poly p).outputs ≡ out p fits ins (pos t) inside = ap (shown ins t) (made-outputs p fits) ∙ value in
-        subst (λ z. IsGoodRatio false (exact_poly p z) (shown ins t (net_of_poly p).outputs)) (sym (input-now ins t))
-        (subst (λ z. IsGoodRatio false (exact_poly p (pos (input_number p ins (pos t)))) z) (sym all)
-        (output-near p fits ins (pos t) inside));
+        let all : shown ins t (net_of_poly p).outputs ≡ out p fits ins (pos t) inside = ap (shown ins t) (made-outputs p fits) ∙ value in (
+          tt,
+          subst (λ z. IsGoodRatio Faithful (exact_poly p z) (shown ins t (net_of_poly p).outputs)) (sym (input-now ins t))
+              (subst (λ z. IsGoodRatio Faithful (exact_poly p (pos (input_number p ins (pos t)))) z) (sym all)
+              (output-near p fits ins (pos t) inside)),
+        );
   }
 
 pub fits_modes : (p : Polynomial) → IsAcceptedPoly p → FitsInEachMode (Poly p) (net_of_poly p)
-fits_modes p is exact mode =
-    subst (λ x. FitsOperator x (Poly p) (net_of_poly p)) (sym (poly_faithful exact p mode)) (net-fits p (accepted p is))
+fits_modes p is =
+    fits_each_mode (Poly p) (net_of_poly p)
+    (λ exact mode. subst (λ x. FitsOperator (mode_of_exact x) (Poly p) (net_of_poly p)) (sym (poly_faithful exact p mode))
+    (net-fits p (accepted p is)))

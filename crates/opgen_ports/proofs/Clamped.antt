@@ -5,9 +5,13 @@ use Rattle.std.proofs.lemmas.Int.{ints, by_lt_z}
 use Rattle.std.proofs.lemmas.Nat.{pow_pos}
 use Rattle.opgen_num.specs.Floors.{IsFloor}
 use Rattle.opgen_num.specs.Formats.{least, greatest}
-use Rattle.opgen_num.specs.Rounding.{IsGoodLinear}
+use Rattle.opgen_num.specs.declared.mode.Mode.{Mode}
+use Rattle.opgen_num.specs.declared.mode.Mode.TheVariants.{Exact, Faithful, Down, Nearest}
+use Rattle.opgen_num.specs.Rounding.{IsGoodLinear, IsNearest}
+use Rattle.opgen_num.proofs.Floors.{one_floor}
 use Rattle.opgen_num.proofs.Integers.{product_order}
 use Rattle.opgen_num.proofs.Quotients.{exact_only, within_one, within_one_only}
+use Rattle.opgen_num.proofs.Rounded.{quotient_is_floor, nearest_below}
 use Rattle.opgen_ports.specs.Good.{into_range}
 
 -- what a number becomes, by where it lies
@@ -26,15 +30,21 @@ in_order false width = omega (arith, ints, pow_pos width)
 in_order true width = omega (arith, ints, pow_pos (width - 1))
 
 -- a whole number is good for itself alone
-pub good_of_whole : (exact : Bool) (m z y : ℤ) → pos 0 <ℤ m → IsGoodLinear (m *ℤ z) m y exact ↔ y ≡ z
-good_of_whole true m z y h = (
+pub good_of_whole : (mode : Mode) (m z y : ℤ) → pos 0 <ℤ m → IsGoodLinear (m *ℤ z) m y mode ↔ y ≡ z
+good_of_whole Exact m z y h = (
   (λ g. (exact_only (m *ℤ z) m z (pos 0) h (omega (arith, ints)) (omega (arith, ints)) h y g).0),
   λ e. ap (λ k. m *ℤ k) e,
 )
-good_of_whole false m z y h = (
+good_of_whole Faithful m z y h = (
   (λ g. (within_one_only (m *ℤ z) m z (pos 0) h (omega (arith, ints)) (omega (arith, ints)) h y g).2 refl),
   λ e. within_one (m *ℤ z) m y (omega (arith, ints, ap (λ k. m *ℤ k) e)) (omega (arith, ints, ap (λ k. m *ℤ k) e)),
 )
+good_of_whole Down m z y h =
+    let floor : IsFloor (m *ℤ z) m z = quotient_is_floor (m *ℤ z) m z (pos 0) h (omega (arith, ints)) (omega (arith, ints)) h in
+    (λ g. one_floor m h (m *ℤ z) y z g floor, λ e. subst (λ k. IsFloor (m *ℤ z) m k) (sym e) floor)
+good_of_whole Nearest m z y h =
+    let nearest : IsNearest (m *ℤ z) m z = nearest_below (m *ℤ z) m z (pos 0) h (omega (arith, ints)) (omega (arith, ints)) h (omega (arith, ints, h)) in
+    (λ g. one_floor (pos 2 *ℤ m) (omega (arith, ints, h)) _ y z g nearest, λ e. subst (λ k. IsNearest (m *ℤ z) m k) (sym e) nearest)
 
 module _ (m low high n q : ℤ) (some : pos 0 <ℤ m) (some_range : low ≤ℤ high) (floor : IsFloor n m q) where
   order : (a b : ℤ) → a ≤ℤ b → (m *ℤ a) ≤ℤ (m *ℤ b)
@@ -57,13 +67,13 @@ module _ (m low high n q : ℤ) (some : pos 0 <ℤ m) (some_range : low ≤ℤ h
   floor_within h k (over l g e) = absurd (omega (arith, ints, floor.1, order (q +ℤ pos 1) high (omega (arith, ints))))
   floor_within h k (inside l g e) = e
 
-  pub good_below : (exact : Bool) (y : ℤ) → q <ℤ low → IsGoodLinear (into_range (m *ℤ low) (m *ℤ high) n) m y exact ↔ y ≡ low
-  good_below exact y h =
-      subst (λ z. IsGoodLinear z m y exact ↔ y ≡ low) (sym (floor_below h (lies (m *ℤ low) (m *ℤ high) n))) (good_of_whole exact m low y some)
+  pub good_below : (mode : Mode) (y : ℤ) → q <ℤ low → IsGoodLinear (into_range (m *ℤ low) (m *ℤ high) n) m y mode ↔ y ≡ low
+  good_below mode y h =
+      subst (λ z. IsGoodLinear z m y mode ↔ y ≡ low) (sym (floor_below h (lies (m *ℤ low) (m *ℤ high) n))) (good_of_whole mode m low y some)
 
-  pub good_above : (exact : Bool) (y : ℤ) → high ≤ℤ q → IsGoodLinear (into_range (m *ℤ low) (m *ℤ high) n) m y exact ↔ y ≡ high
-  good_above exact y h =
-      subst (λ z. IsGoodLinear z m y exact ↔ y ≡ high) (sym (floor_above h (lies (m *ℤ low) (m *ℤ high) n))) (good_of_whole exact m high y some)
+  pub good_above : (mode : Mode) (y : ℤ) → high ≤ℤ q → IsGoodLinear (into_range (m *ℤ low) (m *ℤ high) n) m y mode ↔ y ≡ high
+  good_above mode y h =
+      subst (λ z. IsGoodLinear z m y mode ↔ y ≡ high) (sym (floor_above h (lies (m *ℤ low) (m *ℤ high) n))) (good_of_whole mode m high y some)
 
   pub into_range_within : low ≤ℤ q → q <ℤ high → into_range (m *ℤ low) (m *ℤ high) n ≡ n
   into_range_within h k = floor_within h k (lies (m *ℤ low) (m *ℤ high) n)

@@ -1,4 +1,4 @@
--- Lemmas on ports, limits, shifts and how far numbers go, on fractions that are judged, and on the meanings of kinds.
+-- Lemmas on modes, ports, limits, shifts and how far numbers go, on fractions that are judged, and on the meanings of kinds.
 pub mod Totals
 pub mod Bounds
 pub mod InputPorts
@@ -13,5 +13,7 @@ pub mod Cycles
 pub mod Clamped
 pub mod Wholes
 pub mod Roundings
+pub mod Marks
+pub mod OneGood
 pub mod Lawful
 pub mod Accepted

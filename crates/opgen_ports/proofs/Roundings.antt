@@ -3,12 +3,13 @@ use Rattle.std.proofs.Common.{◌≡◌, ◌↔◌, Bool, IsTrue, ℕ, ◌^◌, 
 use Rattle.std.proofs.lemmas.Int.{ints}
 use Rattle.std.proofs.lemmas.Nat.{pow_pos}
 use Rattle.std.specs.Prelude.{ℤ, pos, negsuc, ◌*ℤ◌, ◌<ℤ◌, ◌≤ℤ◌}
+use Rattle.opgen_num.specs.declared.mode.Mode.{Mode}
 use Rattle.opgen_num.specs.Rounding.{IsGoodLinear, IsQuotient, IsRoot, IsGoodRoot}
 use Rattle.opgen_ports.proofs.Bounds.{some_product}
 
-pub good-along : (b exact : Bool) (n n' m m' y y' : ℤ) → n ≡ n' → m ≡ m' → y ≡ y' → (IsTrue b ↔ IsGoodLinear n m y exact)
-    → IsTrue b ↔ IsGoodLinear n' m' y' exact
-good-along b exact n n' m m' y y' num den out h = rw (num, den, out) at h
+pub good-along : (b : Bool) (mode : Mode) (n n' m m' y y' : ℤ) → n ≡ n' → m ≡ m' → y ≡ y' → (IsTrue b ↔ IsGoodLinear n m y mode)
+    → IsTrue b ↔ IsGoodLinear n' m' y' mode
+good-along b mode n n' m m' y y' num den out h = rw (num, den, out) at h
 
 pub positive_units : (d : ℤ) (k : ℕ) → pos 1 ≤ℤ d → pos 0 <ℤ (d *ℤ pos (2 ^ k))
 positive_units (pos d) k h = omega (arith, ints, some_product d (2 ^ k) (omega (arith, ints)) (pow_pos k))

@@ -1,5 +1,5 @@
 -- Sums of inputs times coefficients.
-use Rattle.std.proofs.Common.{◌≡◌, ℕ, ◌+◌, ◌<◌, List, length, get_or, drop, ap, ◌∙◌, sym, add-one, drop-cons, arith, ◌*◌, ◌≤◌, ◌^◌}
+use Rattle.std.proofs.Common.{◌≡◌, ℕ, ◌+◌, ◌<◌, List, [], ◌∷◌, refl, ap₂, length, get_or, drop, ap, ◌∙◌, sym, add-one, drop-cons, arith, ◌*◌, ◌≤◌, ◌^◌}
 use Rattle.std.proofs.lemmas.Int.{ints}
 use Rattle.std.proofs.lemmas.Nat.{pow-add}
 use Rattle.std.proofs.Math.Nat.{mul-le-mul_right}
@@ -13,6 +13,13 @@ pub weighted-step : (ago i : ℕ) (coefs : List ℤ) (x : Recent) → i < length
 weighted-step ago i coefs x h =
     ap (λ cs. weighted_from ago cs x) (drop-cons coefs i (pos 0) h)
     ∙ ap (λ k. (x ago *ℤ get_or coefs i (pos 0)) +ℤ weighted_from (ago + 1) (drop k coefs) x) (sym (add-one i))
+
+-- a sum depends on as many inputs as it has terms
+pub weighted-same : (ago : ℕ) (coefs : List ℤ) (x y : Recent) → ((k : ℕ) → k < ago + length coefs → x k ≡ y k)
+    → weighted_from ago coefs x ≡ weighted_from ago coefs y
+weighted-same ago [] x y same = refl
+weighted-same ago (c ∷ cs) x y same =
+    ap₂ (λ a b. (a *ℤ c) +ℤ b) (same ago (omega arith)) (weighted-same (ago + 1) cs x y (λ k h. same k (omega (arith, h))))
 
 pub sum_step : (total term whole : ℤ) (ago i : ℕ) (coefs : List ℤ) (x : Recent) → i < length coefs → term ≡ x ago *ℤ get_or coefs i (pos 0)
     → (total +ℤ weighted_from ago (drop i coefs) x) ≡ whole → ((total +ℤ term) +ℤ weighted_from (ago + 1) (drop (i + 1) coefs) x) ≡ whole

@@ -1,14 +1,14 @@
--- When an output is a good rounding of a fraction: faithful, which is less than one unit in the last place from the exact value,
--- or exact (de Dinechin and Kumm, Application-Specific Arithmetic).
+-- When an output is good for a fraction, in a mode.
 use Rattle.std.specs.Prelude.{Bool, ℤ, ◌≡◌, refl, true, false, pos, negsuc, ◌*ℤ◌, int_lt, if◌then◌else◌}
 use Rattle.opgen_num.specs.declared.format.Ratio.{Ratio}
+use Rattle.opgen_num.specs.declared.mode.Mode.{Mode}
 use Rattle.opgen_num.specs.Rounding.{IsGoodLinear}
 use Rattle.opgen_num.specs.declared.format.Format.{Format}
 use Rattle.opgen_num.specs.Formats.{least, greatest}
 
--- y is a good rounding of a fraction
-abbrev pub IsGoodRatio : (exact : Bool) → Ratio → (y : ℤ) → Type 0
-IsGoodRatio exact ratio y = IsGoodLinear ratio.num ratio.den y exact
+-- y is good for a fraction
+abbrev pub IsGoodRatio : (mode : Mode) → Ratio → (y : ℤ) → Type 0
+IsGoodRatio mode ratio y = IsGoodLinear ratio.num ratio.den y mode
 
 -- the number of the range from low to high that is nearest to n
 abbrev pub into_range : (low high n : ℤ) → ℤ
@@ -25,8 +25,8 @@ abbrev pub saturated : (to : Format) → ℤ → ℤ
 saturated to n = into_range (least_of to) (greatest_of to) n
 
 -- y is good for n / m, m above 0, once that is brought into the range of a format
-abbrev pub IsGoodSaturated : (exact : Bool) → (to : Format) → (n m y : ℤ) → Type 0
-IsGoodSaturated exact to n m y = IsGoodLinear (into_range (m *ℤ least_of to) (m *ℤ greatest_of to) n) m y exact
+abbrev pub IsGoodSaturated : (mode : Mode) → (to : Format) → (n m y : ℤ) → Type 0
+IsGoodSaturated mode to n m y = IsGoodLinear (into_range (m *ℤ least_of to) (m *ℤ greatest_of to) n) m y mode
 
 -- 24 is above what 4 bits hold, -6 below what any unsigned format holds, and 3 times -8 below what 4 signed bits hold
 abbrev bits_of : (signed : Bool) → Format

@@ -4,7 +4,7 @@ ghost use Rattle.opgen_num.specs.Formats.{IsWidthOf};
 ghost use Rattle.opgen_ports.specs.Good.{least_of, greatest_of, IsGoodSaturated};
 
 use crate::shifts::raised;
-use opgen_num::{Format, Ratio, good_linear};
+use opgen_num::{Format, Mode, Ratio, good_linear};
 
 // The least number of a format.
 fn least_of(to: Format) -> i128
@@ -30,14 +30,13 @@ fn greatest_of(to: Format) -> i128
     }
 }
 
-/// Whether `y` is a good rounding of a fraction that is first brought into the range of a format:
-/// equal to it, or else less than one away from it.
+/// Whether `y` is good, in a mode, for a fraction that is first brought into the range of a format.
 ///
 /// No product is formed, so that no value of the arguments is too great.
-pub fn good_saturated(value: Ratio, to: Format, y: i128, exact: bool) -> bool
+pub fn good_saturated(value: Ratio, to: Format, y: i128, mode: Mode) -> bool
     requires den { pos 0 <ℤ value.den }
     requires to { IsWidthOf to.signed to.width }
-    ensures { IsTrue result ↔ IsGoodSaturated exact to value.num value.den y }
+    ensures { IsTrue result ↔ IsGoodSaturated mode to value.num value.den y }
 {
     let low = least_of(to);
     let high = greatest_of(to);
@@ -47,6 +46,6 @@ pub fn good_saturated(value: Ratio, to: Format, y: i128, exact: bool) -> bool
     } else if whole >= high {
         y == high
     } else {
-        good_linear(value.num, value.den, y, exact)
+        good_linear(value.num, value.den, y, mode)
     }
 }

@@ -1,5 +1,5 @@
 -- The bits of a word, joined by one operator, and what they say of its number.
-use Rattle.std.proofs.Common.{◌≡◌, ℕ, zero, suc, ◌+◌, ◌-◌, ◌*◌, ◌^◌, ◌<◌, ◌≤◌, Bool, true, false, List, [], ◌∷◌, ◌++◌, length, take, drop, ◌&&◌, ◌||◌, refl, sym, ap, ◌∙◌, arith}
+use Rattle.std.proofs.Common.{◌≡◌, ℕ, zero, suc, ◌+◌, ◌-◌, ◌*◌, ◌^◌, ◌<◌, ◌≤◌, Bool, true, false, List, [], ◌∷◌, ◌++◌, length, map, take, drop, not, ◌&&◌, ◌||◌, if◌then◌else◌, refl, sym, ap, ◌∙◌, arith}
 use Rattle.std.specs.Prelude.{slice_index_or}
 use Rattle.std.proofs.Math.Nat.{two-pow-succ}
 use Rattle.std.proofs.Math.Seq.{take-suc}
@@ -8,8 +8,10 @@ use Rattle.std.proofs.lemmas.Nat.{pow_pos}
 use Rattle.opgen_num.specs.Words.{digit, nat, pairwise}
 use Rattle.opgen_num.proofs.Cuts.{nat-append, take-below}
 use Rattle.opgen_design.specs.declared.expr.Op.TheVariants.{And, Or}
+use Rattle.opgen_design.specs.Plain.{trees_of}
+use Rattle.opgen_design.specs.Tree.{Tree, chain}
 use Rattle.opgen_design.specs.Value.{Scope, value, value_on, cut}
-use Rattle.opgen_saturate.specs.Recipe.{bits_of, joined}
+use Rattle.opgen_saturate.specs.Recipe.{bit_of, operands, joined, differs}
 
 -- one bit of a word
 pub one_bit : (w : List Bool) (p : ℕ) → p < length w → cut p p w ≡ slice_index_or w p false ∷ []
@@ -20,14 +22,21 @@ one_bit w p h = let e : p + 1 - p ≡ suc zero = omega arith in ap (λ n. take n
     first (b ∷ w) zero h = refl
     first (b ∷ w) (suc p) h = first w p (omega (arith, h))
 
--- one of so many bits from a place up, and all of them
+-- one of so many truths from a place up, and all of them
+abbrev pub any_at : (holds : ℕ → Bool) → (low count : ℕ) → Bool
+any_at holds low zero = false
+any_at holds low (suc k) = holds (low + k) || any_at holds low k
+
+abbrev pub all_at : (holds : ℕ → Bool) → (low count : ℕ) → Bool
+all_at holds low zero = true
+all_at holds low (suc k) = holds (low + k) && all_at holds low k
+
+-- the bits of a word
 abbrev pub any_of : (w : List Bool) (low count : ℕ) → Bool
-any_of w low zero = false
-any_of w low (suc k) = slice_index_or w (low + k) false || any_of w low k
+any_of w low count = any_at (λ p. slice_index_or w p false) low count
 
 abbrev pub all_of : (w : List Bool) (low count : ℕ) → Bool
-all_of w low zero = true
-all_of w low (suc k) = slice_index_or w (low + k) false && all_of w low k
+all_of w low count = all_at (λ p. slice_index_or w p false) low count
 
 module _ (w : List Bool) (low : ℕ) where
   abbrev pub part_number : ℕ → ℕ
@@ -70,56 +79,84 @@ module _ (w : List Bool) (low : ℕ) where
       go false r p e =
           (λ f. absurd (cc), λ f. omega (arith, e, take-below k (drop low w), two-pow-succ k, pow_pos k))
 
-or_or : (a b r : Bool) → (a || b) || r ≡ a || (b || r)
+pub or_or : (a b r : Bool) → (a || b) || r ≡ a || (b || r)
 or_or true b r = refl
 or_or false b r = refl
 
-or_none : (a : Bool) → a || false ≡ a
+pub or_none : (a : Bool) → a || false ≡ a
 or_none true = refl
 or_none false = refl
 
-and_and : (a b r : Bool) → (a && b) && r ≡ a && (b && r)
+pub and_and : (a b r : Bool) → (a && b) && r ≡ a && (b && r)
 and_and true b r = refl
 and_and false b r = refl
 
-and_none : (a : Bool) → a && true ≡ a
+pub and_none : (a : Bool) → a && true ≡ a
 and_none true = refl
 and_none false = refl
 
--- the values of bits that are joined
+-- the values of operands of one bit that are joined
+module _ (s : Scope) (operand : ℕ → Tree) (holds : ℕ → Bool) (low : ℕ) where
+  -- so many operands from the place up have one bit each
+  abbrev pub AreOne : ℕ → Type 0
+  AreOne count = (p : ℕ) → low ≤ p → p < low + count → value s (operand p) ≡ holds p ∷ []
+
+  on_or : (k : ℕ) (a : Bool) → AreOne k → value_on s Or (a ∷ []) (trees_of (operands operand low k)) ≡ (a || any_at holds low k) ∷ []
+  on_or zero a one = ap (λ c. c ∷ []) (sym (or_none a))
+  on_or (suc k) a one =
+      let b = holds (low + k) in
+      ap (λ v. value_on s Or (pairwise ◌||◌ (a ∷ []) v) (trees_of (operands operand low k))) (one (low + k) (omega arith) (omega arith))
+      ∙ on_or k (a || b) (λ p h l. one p h (omega (arith, l)))
+      ∙ ap (λ c. c ∷ []) (or_or a b (any_at holds low k))
+
+  pub chain_or : (k : ℕ) → AreOne (suc k) → value s (chain Or (trees_of (operands operand low (suc k)))) ≡ any_at holds low (suc k) ∷ []
+  chain_or k one =
+      ap (λ v. value_on s Or v (trees_of (operands operand low k))) (one (low + k) (omega arith) (omega arith))
+      ∙ on_or k (holds (low + k)) (λ p h l. one p h (omega (arith, l)))
+
+  on_and : (k : ℕ) (a : Bool) → AreOne k → value_on s And (a ∷ []) (trees_of (operands operand low k)) ≡ (a && all_at holds low k) ∷ []
+  on_and zero a one = ap (λ c. c ∷ []) (sym (and_none a))
+  on_and (suc k) a one =
+      let b = holds (low + k) in
+      ap (λ v. value_on s And (pairwise ◌&&◌ (a ∷ []) v) (trees_of (operands operand low k))) (one (low + k) (omega arith) (omega arith))
+      ∙ on_and k (a && b) (λ p h l. one p h (omega (arith, l)))
+      ∙ ap (λ c. c ∷ []) (and_and a b (all_at holds low k))
+
+  chain_and : (k : ℕ) → AreOne (suc k) → value s (chain And (trees_of (operands operand low (suc k)))) ≡ all_at holds low (suc k) ∷ []
+  chain_and k one =
+      ap (λ v. value_on s And v (trees_of (operands operand low k))) (one (low + k) (omega arith) (omega arith))
+      ∙ on_and k (holds (low + k)) (λ p h l. one p h (omega (arith, l)))
+
+-- one of so many bits of a node, or all of them
+abbrev pub differ : (both : Bool) → (w : List Bool) → (low count : ℕ) → Bool
+differ both w low count = if both then any_of w low count && not (all_of w low count) else any_of w low count
+
 module _ (s : Scope) (n low : ℕ) where
   abbrev w : List Bool
   w = s.names n
 
-  at_start : slice_index_or w low false ≡ slice_index_or w (low + 0) false
-  at_start = let e : low ≡ low + 0 = omega arith in ap (λ p. slice_index_or w p false) e
+  abbrev bit : ℕ → Bool
+  bit p = slice_index_or w p false
 
-  on_or : (k : ℕ) (a : Bool) → low + k ≤ length w → value_on s Or (a ∷ []) (bits_of n low k) ≡ (a || any_of w low k) ∷ []
-  on_or zero a h = ap (λ c. c ∷ []) (sym (or_none a))
-  on_or (suc k) a h =
-      let b = slice_index_or w (low + k) false in
-      ap (λ v. value_on s Or (pairwise ◌||◌ (a ∷ []) v) (bits_of n low k)) (one_bit w (low + k) (omega (arith, h)))
-      ∙ on_or k (a || b) (omega (arith, h))
-      ∙ ap (λ c. c ∷ []) (or_or a b (any_of w low k))
+  at_start : bit low ≡ bit (low + 0)
+  at_start = let e : low ≡ low + 0 = omega arith in ap bit e
 
-  pub or-value : (count : ℕ) → 1 ≤ count → low + count ≤ length w → value s (joined Or n low count) ≡ any_of w low count ∷ []
+  ones : (count : ℕ) → low + count ≤ length w → AreOne s (bit_of n) bit low count
+  ones count h p lower upper = one_bit w p (omega (arith, upper, h))
+
+  or-value : (count : ℕ) → 1 ≤ count → low + count ≤ length w → value s (joined Or n low count) ≡ any_of w low count ∷ []
   or-value zero some h = absurd (omega (arith, some))
-  or-value (suc zero) some h = one_bit w low (omega (arith, h)) ∙ ap (λ c. c ∷ []) (at_start ∙ sym (or_none (slice_index_or w (low + 0) false)))
-  or-value (suc (suc k)) some h =
-      ap (λ v. value_on s Or v (bits_of n low (suc k))) (one_bit w (low + suc k) (omega (arith, h)))
-      ∙ on_or (suc k) (slice_index_or w (low + suc k) false) (omega (arith, h))
+  or-value (suc zero) some h = one_bit w low (omega (arith, h)) ∙ ap (λ c. c ∷ []) (at_start ∙ sym (or_none (bit (low + 0))))
+  or-value (suc (suc k)) some h = chain_or s (bit_of n) bit low (suc k) (ones (suc (suc k)) h)
 
-  on_and : (k : ℕ) (a : Bool) → low + k ≤ length w → value_on s And (a ∷ []) (bits_of n low k) ≡ (a && all_of w low k) ∷ []
-  on_and zero a h = ap (λ c. c ∷ []) (sym (and_none a))
-  on_and (suc k) a h =
-      let b = slice_index_or w (low + k) false in
-      ap (λ v. value_on s And (pairwise ◌&&◌ (a ∷ []) v) (bits_of n low k)) (one_bit w (low + k) (omega (arith, h)))
-      ∙ on_and k (a && b) (omega (arith, h))
-      ∙ ap (λ c. c ∷ []) (and_and a b (all_of w low k))
-
-  pub and-value : (count : ℕ) → 1 ≤ count → low + count ≤ length w → value s (joined And n low count) ≡ all_of w low count ∷ []
+  and-value : (count : ℕ) → 1 ≤ count → low + count ≤ length w → value s (joined And n low count) ≡ all_of w low count ∷ []
   and-value zero some h = absurd (omega (arith, some))
-  and-value (suc zero) some h = one_bit w low (omega (arith, h)) ∙ ap (λ c. c ∷ []) (at_start ∙ sym (and_none (slice_index_or w (low + 0) false)))
-  and-value (suc (suc k)) some h =
-      ap (λ v. value_on s And v (bits_of n low (suc k))) (one_bit w (low + suc k) (omega (arith, h)))
-      ∙ on_and (suc k) (slice_index_or w (low + suc k) false) (omega (arith, h))
+  and-value (suc zero) some h = one_bit w low (omega (arith, h)) ∙ ap (λ c. c ∷ []) (at_start ∙ sym (and_none (bit (low + 0))))
+  and-value (suc (suc k)) some h = chain_and s (bit_of n) bit low (suc k) (ones (suc (suc k)) h)
+
+  pub differs-value : (both : Bool) (count : ℕ) → 1 ≤ count → low + count ≤ length w
+      → value s (differs both n low count) ≡ differ both w low count ∷ []
+  differs-value false count some h = or-value count some h
+  differs-value true count some h =
+      ap (λ v. pairwise ◌&&◌ v (map not (value s (joined And n low count)))) (or-value count some h)
+      ∙ ap (λ v. pairwise ◌&&◌ (any_of w low count ∷ []) (map not v)) (and-value count some h)

@@ -12,7 +12,7 @@ use Rattle.opgen_num.specs.Words.{val}
 use Rattle.opgen_operator.specs.declared.spec.Spec.{Spec}
 use Rattle.opgen_operator.specs.Fits.{FitsInEachMode, FitsOperator, FitsSpec, name_and_width}
 use Rattle.opgen_operator.specs.Operator.{operator_outputs, plain_output, exact_value, IsGoodOf}
-use Rattle.opgen_operator.specs.Outputs.{inputs_of, outputs_of, IsGood, IsGoodBy, IsGoodCut, IsInRange, recent_words, output_words}
+use Rattle.opgen_operator.specs.Outputs.{inputs_of, outputs_of, IsGood, IsGoodBy, IsGoodCut, IsInRange, mode_of, recent_words, output_words}
 use Rattle.opgen_operator.specs.Valid.{IsValidSpec}
 use Rattle.opgen_operator.proofs.Operators.{only_output, plain_is, some_value, value_good, value_positive}
 use Rattle.opgen_operator.proofs.Valued.{choice, outputs_are, plain_width, to_width}
@@ -46,7 +46,7 @@ one_output name width (o ∷ []) e =
       other = λ to. ap (λ (n : List ℕ). one_port n to.width) same_name;
     }
 
-module _ (spec : Spec) (net : Net) (valid : IsValidSpec spec) (fits : FitsOperator spec.exact spec.op net)
+module _ (spec : Spec) (net : Net) (valid : IsValidSpec spec) (fits : FitsOperator (mode_of spec) spec.op net)
     (width : ℕ) (is : spec.out_width ≡ Some width) where
   abbrev pub from : Format
   from = format_at (operator_outputs spec.op) 0
@@ -80,15 +80,15 @@ module _ (spec : Spec) (net : Net) (valid : IsValidSpec spec) (fits : FitsOperat
       let plain = output_words (operator_outputs spec.op) (map (λ o. slice_flow net.nodes inputs o.from (pos t)) net.outputs) in
       let before : All (AreWords (input_widths net)) inputs =
       subst (λ is. All (AreWords (map (λ (i : List ℕ × ℕ). i.1) is)) inputs) all.saturates.inputs words in
-      let good : IsGoodOf spec.exact spec.op ins plain = fits.good inputs t before below in_range in
+      let good : IsGoodOf (mode_of spec) spec.op ins plain = fits.good inputs t before below in_range in
       let (v, value) = some_value spec.op ins (choice spec valid width is).1 in
-      let rated = value_good spec.exact spec.op ins plain v value good in
+      let rated = value_good (mode_of spec) spec.op ins plain v value good in
       let some = value_positive spec.op ins v valid.op.ranges value in
-      let kept : IsGoodSaturated spec.exact to v.num v.den (saturated to (plain 0)) = keeps_good spec.exact to v.num v.den (plain 0) some rated in
+      let kept : IsGoodSaturated (mode_of spec) to v.num v.den (saturated to (plain 0)) = keeps_good (mode_of spec) to v.num v.den (plain 0) some rated in
       let y = val (first_word made inputs (pos t)) to in
       let number : y ≡ saturated to (plain 0) = all.saturates.number inputs (pos t) before in
-      let cut : IsGoodCut spec.exact to (Some v) y = subst (λ n. IsGoodSaturated spec.exact to v.num v.den n) (sym number) kept in
-      let judged : IsGoodCut spec.exact to (exact_value spec.op ins) y = subst (λ o. IsGoodCut spec.exact to o y) (sym value) cut in
+      let cut : IsGoodCut (mode_of spec) to (Some v) y = subst (λ n. IsGoodSaturated (mode_of spec) to v.num v.den n) (sym number) kept in
+      let judged : IsGoodCut (mode_of spec) to (exact_value spec.op ins) y = subst (λ o. IsGoodCut (mode_of spec) to o y) (sym value) cut in
       subst (λ w. IsGoodBy w spec ins (output_words (outputs_of spec) (map (λ o. slice_flow made.nodes inputs o.from (pos t)) made.outputs)))
       (sym is) judged
 
@@ -117,7 +117,7 @@ module _ (spec : Spec) (net : Net) (valid : IsValidSpec spec) (each : FitsInEach
       go (Some width) is =
           subst (λ f. AreOutputFormats net f to) (from_same width is)
           (subst (λ f. AreOutputFormats net (format_at (operator_outputs spec.op) 0) f) to_same
-          (formats spec net valid (each spec.exact valid.mode) width is))
+          (formats spec net valid (each (mode_of spec) valid.mode) width is))
 
   pub cut_fits_by : FitsSpec spec (saturated_net from to net)
   cut_fits_by = go spec.out_width refl
@@ -127,14 +127,14 @@ module _ (spec : Spec) (net : Net) (valid : IsValidSpec spec) (each : FitsInEach
       go (Some width) is =
           subst (λ f. FitsSpec spec (saturated_net f to net)) (from_same width is)
           (subst (λ f. FitsSpec spec (saturated_net (format_at (operator_outputs spec.op) 0) f net)) to_same
-          (saturated_fits spec net valid (each spec.exact valid.mode) width is))
+          (saturated_fits spec net valid (each (mode_of spec) valid.mode) width is))
 
 -- in either case
 pub cut_fits : (spec : Spec) (net : Net) → IsValidSpec spec → FitsInEachMode spec.op net → FitsSpec spec (cut_net spec net)
 cut_fits spec net valid each = go spec.out_width refl
   where
-    fits : FitsOperator spec.exact spec.op net
-    fits = each spec.exact valid.mode
+    fits : FitsOperator (mode_of spec) spec.op net
+    fits = each (mode_of spec) valid.mode
 
     go : (width : Option ℕ) → spec.out_width ≡ width → FitsSpec spec (cut_by width spec net)
     go None is = plain_fits spec net is fits

@@ -1,21 +1,18 @@
--- The test as a node, and the choice that it makes.
-use Rattle.std.proofs.Common.{◌≡◌, ℕ, ◌+◌, ◌-◌, ◌<◌, ◌≤◌, min, cond, Bool, true, false, List, [], ◌∷◌, length, map, take, not, ◌&&◌, if◌then◌else◌, nat_le, refl, sym, ap, ◌∙◌, arith}
+-- The bits that are dropped, and the choice that the test makes.
+use Rattle.std.proofs.Common.{◌≡◌, ℕ, ◌+◌, ◌-◌, ◌<◌, ◌≤◌, min, cond, Bool, true, false, List, [], ◌∷◌, length, take, ◌&&◌, if◌then◌else◌, nat_le, refl, sym, ap, ◌∙◌, arith}
 use Rattle.std.specs.Prelude.{ℤ, ◌<ℤ◌, ◌≤ℤ◌}
 use Rattle.std.proofs.Math.Seq.{take-length}
 use Rattle.std.proofs.lemmas.Bool.{leb-false, leb-true}
 use Rattle.std.proofs.lemmas.Int.{ints}
 use Rattle.opgen_num.specs.declared.format.Format.{Format}
 use Rattle.opgen_num.specs.Formats.{Holds, IsWidthOf}
-use Rattle.opgen_num.specs.Words.{val, pairwise}
+use Rattle.opgen_num.specs.Words.{val}
 use Rattle.opgen_num.proofs.BitLength.{power_order}
-use Rattle.opgen_design.specs.declared.expr.Op.TheVariants.{And, Or}
-use Rattle.opgen_design.specs.Tree.{Tree, inverse, chain, none, more}
-use Rattle.opgen_design.specs.Value.{Scope, value, cut, chosen}
+use Rattle.opgen_design.specs.Value.{cut, chosen}
 use Rattle.opgen_ports.specs.Good.{into_range, least_of, greatest_of, saturated}
-use Rattle.opgen_saturate.specs.Recipe.{is_wider, first_dropped, counting, joined, outside, least_word, greatest_word}
+use Rattle.opgen_saturate.specs.Recipe.{is_wider, first_dropped, counting, least_word, greatest_word}
 use Rattle.opgen_ports.proofs.Clamped.{Lies, under, over, inside, lies}
-use Rattle.opgen_saturate.proofs.Bits.{any_of, all_of, or-value, and-value}
-use Rattle.opgen_saturate.proofs.Outside.{is_outside, Tells}
+use Rattle.opgen_saturate.proofs.Outside.{Tells}
 use Rattle.opgen_saturate.proofs.Resized.{some_bits}
 
 -- where the other format does not hold every number, there are bits to drop
@@ -28,38 +25,6 @@ dropped-within format to some = go format.signed (some_bits format.signed format
         → (if signed then min (counting to) (format.width - 1) else counting to) < format.width
     go true few h = omega (arith, few)
     go false few h = leb-false format.width (counting to) h
-
-module _ (s : Scope) (n : ℕ) (format to : Format) (within : first_dropped format to < format.width)
-    (long : length (s.names n) ≡ format.width) where
-  abbrev low : ℕ
-  low = first_dropped format to
-
-  abbrev count : ℕ
-  count = format.width - low
-
-  abbrev any : Bool
-  any = any_of (s.names n) low count
-
-  abbrev all : Bool
-  all = all_of (s.names n) low count
-
-  abbrev both : Tree
-  both = chain And (more (joined Or n low count) (more (inverse (joined And n low count)) none))
-
-  or-is : value s (joined Or n low count) ≡ any ∷ []
-  or-is = or-value s n low count (omega (arith, within)) (omega (arith, within, long))
-
-  and-is : value s (joined And n low count) ≡ all ∷ []
-  and-is = and-value s n low count (omega (arith, within)) (omega (arith, within, long))
-
-  tested : (c : Bool) → value s (if c then both else joined Or n low count) ≡ (if c then any && not all else any) ∷ []
-  tested true =
-      ap (λ v. pairwise ◌&&◌ v (map not (value s (joined And n low count)))) or-is
-      ∙ ap (λ v. pairwise ◌&&◌ (any ∷ []) (map not v)) and-is
-  tested false = or-is
-
-  pub outside-value : value s (outside n format to) ≡ is_outside (s.names n) format to ∷ []
-  outside-value = tested (format.signed && to.signed)
 
 -- a number of the range stays
 pub stays : (low high n : ℤ) → low ≤ℤ n → n ≤ℤ high → into_range low high n ≡ n

@@ -95,7 +95,7 @@ module _ (net : Net) (node : ℕ) (format to : Format) (valid : IsValid net) (ar
   sign-fits = omega (arith, are.wide, few)
 
   one-later : Later net one
-  one-later = later-node net sign_node valid (tt, bit-fits (widths net.nodes) node (w - 1) sign-fits) refl
+  one-later = later-node net sign_node valid (refl, bit-fits (widths net.nodes) node (w - 1) sign-fits) refl
 
   two-after : Later one two
   two-after = later-node one least_node one-later.valid (subst IsWidth (sym least-length) to-wide) refl

@@ -15,14 +15,13 @@ use Rattle.opgen_num.proofs.Cuts.{nat-parts, take-below}
 use Rattle.opgen_num.proofs.Values.{highest_weight}
 use Rattle.opgen_num.proofs.Words.{nat-below}
 use Rattle.opgen_saturate.specs.Recipe.{is_wider, first_dropped, counting}
-use Rattle.opgen_saturate.proofs.Bits.{any_of, all_of, any-number, all-number, part_number}
+use Rattle.opgen_saturate.proofs.Bits.{any_of, all_of, differ, any-number, all-number, part_number}
 
 -- the test, by the bits of a word
 abbrev pub is_outside : List Bool → (format to : Format) → Bool
 is_outside v format to =
     let low = first_dropped format to in
-    let count = format.width - low in
-    if format.signed && to.signed then any_of v low count && not (all_of v low count) else any_of v low count
+    differ (format.signed && to.signed) v low (format.width - low)
 
 -- the highest bit, by its place
 pub highest-at : (v : List Bool) → 1 ≤ length v → highest v ≡ slice_index_or v (length v - 1) false

@@ -1,32 +1,31 @@
 -- The nodes of the step: they stand in a valid net, and the last has the number that is brought into the range.
-use Rattle.std.proofs.Common.{◌≡◌, ℕ, ◌-◌, ◌<◌, ◌≤◌, cond, Bool, true, false, List, [], ◌∷◌, length, length-append, if◌then◌else◌, refl, sym, ap, ◌∙◌, subst, arith}
+use Rattle.std.proofs.Common.{◌≡◌, ℕ, ◌-◌, ◌<◌, ◌≤◌, cond, Bool, true, false, List, [], ◌∷◌, length, if◌then◌else◌, refl, sym, ap, ◌∙◌, subst, arith}
 use Rattle.std.specs.Prelude.{ℤ, All, slice_index}
 use Rattle.opgen_num.specs.declared.format.Format.{Format}
 use Rattle.opgen_num.specs.Formats.{Holds}
 use Rattle.opgen_num.specs.Words.{val}
 use Rattle.opgen_design.specs.Run.{AreWords}
 use Rattle.opgen_design.specs.Value.{cut, chosen}
-use Rattle.opgen_net.specs.declared.cell.Class.TheVariants.{Logic}
 use Rattle.opgen_net.specs.declared.net.Net.{Net}
 use Rattle.opgen_net.specs.declared.node.Node.{Node}
-use Rattle.opgen_net.specs.declared.node.Node.TheVariants.{Cells, Choice}
-use Rattle.opgen_net.specs.Flow.{Inputs, flow, streams_on, stream_at}
+use Rattle.opgen_net.specs.declared.node.Node.TheVariants.{Choice}
+use Rattle.opgen_net.specs.Flow.{Inputs, flow}
 use Rattle.opgen_net.specs.Placed.{Placed, with_bits, with_last, whole}
-use Rattle.opgen_net.specs.Valid.{IsValid, FitsNodes, FitsChoice, input_widths, widths}
+use Rattle.opgen_net.specs.Valid.{IsValid, FitsChoice, input_widths, widths}
 use Rattle.opgen_net.proofs.Appending.{flow-append_last, width-append_last}
 use Rattle.opgen_net.proofs.FlowWidths.{flow-width}
 use Rattle.opgen_net.proofs.Grown.{grown-flow, grown-width}
 use Rattle.opgen_net.proofs.Later.{Later, later-then, later-node, node_there, words-later}
 use Rattle.opgen_ports.specs.Good.{saturated}
-use Rattle.opgen_saturate.specs.Recipe.{is_wider, resized, outside, least_word, greatest_word, with_test, with_limit, with_choice, with_saturated}
+use Rattle.opgen_saturate.specs.Recipe.{is_wider, resized, least_word, greatest_word, last_place, with_test, with_limit, with_choice, with_saturated}
 use Rattle.opgen_saturate.specs.Saturates.{AreFormats}
 use Rattle.opgen_saturate.proofs.Ends.{least_is, greatest_is}
-use Rattle.opgen_saturate.proofs.Expressions.{outside-fits}
 use Rattle.opgen_ports.proofs.Clamped.{in_order}
 use Rattle.opgen_saturate.proofs.Limit.{HasLimit, has_limit}
 use Rattle.opgen_saturate.proofs.Outside.{is_outside, is_below_zero, tells}
 use Rattle.opgen_saturate.proofs.Resized.{some_bits}
-use Rattle.opgen_saturate.proofs.Decision.{dropped-within, outside-value, all-bits, decided}
+use Rattle.opgen_saturate.proofs.Decision.{all-bits, decided}
+use Rattle.opgen_saturate.proofs.Tested.{tested-later, tested-some, test-wide, test-tells}
 use Rattle.opgen_saturate.proofs.Lowest.{Made, low-later, low-width, low-long, low-number, wider}
 
 -- where it is not
@@ -38,11 +37,11 @@ module _ (net : Net) (node : ℕ) (format to : Format) (valid : IsValid net) (ar
   abbrev n : ℕ
   n = length net.nodes
 
-  abbrev test_node : Node
-  test_node = Cells Logic 1 (outside node format to)
-
   abbrev tested : Net
   tested = with_test node format to net
+
+  abbrev q : ℕ
+  q = last_place tested
 
   some : 1 ≤ m
   some = some_bits to.signed m are.to_width.0
@@ -53,31 +52,28 @@ module _ (net : Net) (node : ℕ) (format to : Format) (valid : IsValid net) (ar
   node-there : node < n
   node-there = node_there net node format.width few are.wide
 
-  pub test-fits : FitsNodes (widths net.nodes) 1 (outside node format to)
-  test-fits = outside-fits (widths net.nodes) node format to (dropped-within format to are.from_width narrow) are.wide
-
-  pub tested-later : Later net tested
-  tested-later = later-node net test_node valid (tt, test-fits) refl
+  later : Later net tested
+  later = tested-later net node format to valid are narrow
 
   -- the node stands in a net that has grown
   still : (other : Net) → Later net other → AreFormats other node format to
-  still other later = record {
+  still other after = record {
     from_width = are.from_width;
     to_width = are.to_width;
-    wide = grown-width net other later.grown node node-there ∙ are.wide;
+    wide = grown-width net other after.grown node node-there ∙ are.wide;
   }
 
   pub tested-are : AreFormats tested node format to
-  tested-are = still tested tested-later
+  tested-are = still tested later
 
   abbrev limit : Placed
   limit = with_limit node format to tested
 
   limited : HasLimit tested node format to limit
-  limited = has_limit tested node format to tested-later.valid tested-are
+  limited = has_limit tested node format to later.valid tested-are
 
   pub limit-later : Later net limit.net
-  limit-later = later-then net tested limit.net tested-later limited.later
+  limit-later = later-then net tested limit.net later limited.later
 
   pub limit-are : AreFormats limit.net node format to
   limit-are = still limit.net limit-later
@@ -94,14 +90,14 @@ module _ (net : Net) (node : ℕ) (format to : Format) (valid : IsValid net) (ar
   since-test : Later tested low.net
   since-test = later-then tested limit.net low.net limited.later low-after
 
-  n-there : n < length tested.nodes
-  n-there = omega (arith, length-append net.nodes (test_node ∷ []))
+  q-there : q < length tested.nodes
+  q-there = omega (arith, tested-some net node format to valid are narrow)
 
   limit-there : limit.place < length limit.net.nodes
   limit-there = node_there limit.net limit.place m some limited.width
 
-  test-width : slice_index (widths low.net.nodes) n ≡ 1
-  test-width = grown-width tested low.net since-test.grown n n-there ∙ width-append_last net.nodes test_node
+  test-width : slice_index (widths low.net.nodes) q ≡ 1
+  test-width = grown-width tested low.net since-test.grown q q-there ∙ test-wide net node format to valid are narrow
 
   limit-width : slice_index (widths low.net.nodes) limit.place ≡ m
   limit-width = grown-width limit.net low.net low-after.grown limit.place limit-there ∙ limited.width
@@ -110,9 +106,9 @@ module _ (net : Net) (node : ℕ) (format to : Format) (valid : IsValid net) (ar
   own-width = low-width limit.net node format to limit-later.valid limit-are
 
   abbrev last : Node
-  last = Choice n (whole m limit.place) (whole m low.place)
+  last = Choice q (whole m limit.place) (whole m low.place)
 
-  pub last-fits : FitsChoice (widths low.net.nodes) n (whole m limit.place) (whole m low.place)
+  pub last-fits : FitsChoice (widths low.net.nodes) q (whole m limit.place) (whole m low.place)
   last-fits = record {
     one_bit = test-width;
     one_lies = (omega arith, omega (arith, limit-width, some));
@@ -142,21 +138,19 @@ module _ (net : Net) (node : ℕ) (format to : Format) (valid : IsValid net) (ar
     abbrev low_word : List Bool
     low_word = flow low.net.nodes inputs low.place t
 
-    test-word : flow low.net.nodes inputs n t ≡ test ∷ []
+    test-word : flow low.net.nodes inputs q t ≡ test ∷ []
     test-word =
-        grown-flow tested low.net since-test.grown inputs n t n-there
-        ∙ flow-append_last net.nodes test_node inputs t
-        ∙ outside-value (record { names = λ k. stream_at (streams_on inputs [] net.nodes) k t; ports = λ k. [] }) node format to
-        (dropped-within format to are.from_width narrow) v-long
+        grown-flow tested low.net since-test.grown inputs q t q-there
+        ∙ test-tells net node format to valid are narrow inputs t words
 
     kept : (other : Net) → Later net other → flow other.nodes inputs node t ≡ v
-    kept other later = grown-flow net other later.grown inputs node t node-there
+    kept other after = grown-flow net other after.grown inputs node t node-there
 
     limit-word : flow low.net.nodes inputs limit.place t ≡ limit_word
     limit-word =
         grown-flow limit.net low.net low-after.grown inputs limit.place t limit-there
-        ∙ limited.word inputs t (words-later net tested tested-later inputs words)
-        ∙ ap (λ x. cond (is_below_zero x format) (least_word to) (greatest_word to)) (kept tested tested-later)
+        ∙ limited.word inputs t (words-later net tested later inputs words)
+        ∙ ap (λ x. cond (is_below_zero x format) (least_word to) (greatest_word to)) (kept tested later)
 
     limit-long : length limit_word ≡ m
     limit-long =

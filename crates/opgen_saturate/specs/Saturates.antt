@@ -1,5 +1,5 @@
 -- When a node has at every time the number of another node, brought into the range of another format.
-use Rattle.std.specs.Prelude.{◌≡◌, ℕ, ℤ, All, slice_index}
+use Rattle.std.specs.Prelude.{◌≡◌, ◌<◌, ◌≤◌, ℕ, ℤ, All, List, length, slice_index}
 use Rattle.opgen_num.specs.declared.format.Format.{Format}
 use Rattle.opgen_num.specs.Formats.{IsWidthOf}
 use Rattle.opgen_num.specs.Words.{val}
@@ -22,3 +22,7 @@ pub record Saturates (before : Net) (node : ℕ) (format to : Format) (after : N
   pub number :
       (inputs : Inputs) (t : ℤ) → All (AreWords (input_widths before)) inputs
       → val (flow after.nodes inputs place t) to ≡ saturated to (val (flow before.nodes inputs node t) format)
+
+-- the nodes from a place on have one bit each
+abbrev pub AreBits : (ws : List ℕ) → (first : ℕ) → Type 0
+AreBits ws first = (n : ℕ) → first ≤ n → n < length ws → slice_index ws n ≡ 1

@@ -8,7 +8,8 @@ ghost use Rattle.opgen_net.specs.Valid.{IsValid};
 ghost use Rattle.opgen_saturate.specs.Recipe.{is_wider, resized, least_word, greatest_word, with_limit, with_choice, with_saturated};
 ghost use Rattle.opgen_saturate.specs.Saturates.{AreFormats, Saturates};
 
-use crate::test::{bit, counting, is_wider, outside};
+use crate::test::{bit, counting, is_wider};
+use crate::tree::test;
 use opgen_list::Items;
 use opgen_net::{Class, Net, Slice, WordBit, push_bits};
 use opgen_num::{Format, Memory, Word};
@@ -113,7 +114,7 @@ fn choose(
     ensures place { IfOk result (λ n. n ≡ (with_choice node format to net.old).place) }
     ensures valid { IsValid net.new }
 {
-    let test = net.cells(Class::Logic, 1, outside(alloc, node, format, to)?)?;
+    let test = test(alloc, net, node, format, to)?;
     let limit = limit(net, node, format, to)?;
     let bits = resized(alloc, node, format, to.width)?;
     let low = net.word(bits.as_slice())?;
@@ -146,7 +147,9 @@ fn append(
 ///
 /// Where the other format holds every number, that is the node's bits with copies of its sign above
 /// them, or zeros. Elsewhere the bits that are dropped are tested, and where they say that the number
-/// lies outside the least or the greatest number is chosen. If memory runs out, the net is valid.
+/// lies outside the least or the greatest number is chosen. The test of n bits is a tree of cells that
+/// read at most six bits each, at most one deeper than the logarithm of n to base 6, rounded up. If
+/// memory runs out, the net is valid.
 pub fn saturate(
     alloc: Global,
     net: &mut Net,

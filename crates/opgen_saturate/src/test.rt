@@ -1,8 +1,8 @@
-//! The expression that tests whether a number lies outside the range of another format.
+//! The expressions that test whether a number lies outside the range of another format.
 ghost use Rattle.std.specs.Prelude.{◌≡◌, ◌+◌, ◌^◌, ◌<◌, ◌≤◌, IfOk, map};
-ghost use Rattle.opgen_num.specs.declared.format.TheConstants.{MAX_WIDTH};
 ghost use Rattle.opgen_design.specs.Plain.{plain};
-ghost use Rattle.opgen_saturate.specs.Recipe.{counting, is_wider, first_dropped, bit_of, bit_list, joined, outside};
+ghost use Rattle.opgen_design.specs.Tree.{name};
+ghost use Rattle.opgen_saturate.specs.Recipe.{counting, is_wider, first_dropped, bit_of, bit_list, joined, differs, any_node};
 
 use opgen_net::{Expr, Op, Slice};
 use opgen_num::Format;
@@ -28,8 +28,8 @@ pub fn is_wider(format: Format, to: Format) -> bool
     }
 }
 
-// The lowest of the bits that have to be 0, or all equal.
-fn first_dropped(format: Format, to: Format) -> u32
+/// The lowest of the bits that have to be 0, or all equal.
+pub fn first_dropped(format: Format, to: Format) -> u32
     requires from { 1 ≤ format.width }
     requires to { 1 ≤ to.width }
     ensures { result ≡ first_dropped format to }
@@ -79,23 +79,46 @@ fn joined(alloc: Global, op: Op, node: usize, low: u32, count: u32) -> Result<Ex
     Ok(Expr::Chain(op, operands))
 }
 
-/// Whether the number of a node lies outside: one of the bits that are dropped is 1, and not all are
-/// if both formats are signed. The sign is tested even where no bit is dropped.
-pub fn outside(alloc: Global, node: usize, format: Format, to: Format) -> Result<Expr, AllocError>
-    requires from { format.width ≤ MAX_WIDTH }
-    requires to { 1 ≤ to.width }
-    requires within { first_dropped format to < format.width }
-    ensures { IfOk result (λ e. plain e ≡ outside node format to) }
+/// Whether one of so many bits of a node is 1, and not all are if `both` formats are signed.
+pub fn differs(
+    alloc: Global,
+    both: bool,
+    node: usize,
+    low: u32,
+    count: u32,
+) -> Result<Expr, AllocError>
+    requires some { 1 ≤ count }
+    requires few { low + count < 2 ^ 32 }
+    ensures { IfOk result (λ e. plain e ≡ differs both node low count) }
 {
-    let low = first_dropped(format, to);
-    let count = format.width - low;
     let any = joined(alloc, Op::Or, node, low, count)?;
-    if !(format.signed && to.signed) {
+    if !both {
         return Ok(any);
     }
     let all = joined(alloc, Op::And, node, low, count)?;
-    let mut both = Vec::new(alloc);
-    both.push(any)?;
-    both.push(Expr::Not(Box::new(alloc, all)?))?;
-    Ok(Expr::Chain(Op::And, both))
+    let mut two = Vec::new(alloc);
+    two.push(any)?;
+    two.push(Expr::Not(Box::new(alloc, all)?))?;
+    Ok(Expr::Chain(Op::And, two))
+}
+
+// All bits of a node.
+fn all_of(node: usize) -> Expr
+    ensures { plain result ≡ name node }
+{
+    Expr::Name(node)
+}
+
+/// Whether one of so many nodes of one bit is 1, from a place up.
+pub fn any_node(alloc: Global, first: usize, count: usize) -> Result<Expr, AllocError>
+    requires { first + count < 2 ^ 64 }
+    ensures { IfOk result (λ e. plain e ≡ any_node first count) }
+{
+    let mut found = Vec::new(alloc);
+    let mut left = count;
+    'nodes: while left > 0 {
+        left -= 1;
+        found.push(all_of(first + left))?;
+    }
+    Ok(Expr::Chain(Op::Or, found))
 }

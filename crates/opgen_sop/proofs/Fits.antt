@@ -41,6 +41,8 @@ use Rattle.opgen_ports.specs.declared.ports.PortFormat.{PortFormat}
 use Rattle.opgen_ports.specs.Good.{IsGoodRatio}
 use Rattle.opgen_ports.specs.Ports.{format_at}
 use Rattle.opgen_ports.specs.Reaches.{places_down, up, down}
+use Rattle.opgen_ports.specs.Modes.{mode_of_exact}
+use Rattle.opgen_operator.proofs.EachMode.{asked_whole, fits_each_mode}
 use Rattle.opgen_ports.proofs.InputPorts.{input_bit}
 use Rattle.opgen_sop.specs.Recipe.{input_net, heap_width, with_offset}
 use Rattle.opgen_sop.specs.Sizes.{finer, floor, lost, offset_fraction, tables, floors, rounding, IsGuard}
@@ -182,7 +184,7 @@ module _ (s : Sop) (accepted : IsAcceptedSop s) (guard : ℕ) (is_guard : IsGuar
     den-units : (exact_sop s x).den ≡ pos (units s)
     den-units = den-natural s.den (2 ^ depth s) sop.numbers.positive
 
-    pub good : (mode : Bool) → (IsTrue mode → sop_inexact s ≡ None) → IsGoodRatio mode (exact_sop s x) y
+    pub good : (mark : Bool) → (IsTrue mark → sop_inexact s ≡ None) → IsGoodRatio (mode_of_exact mark) (exact_sop s x) y
     good false asked =
         subst (λ d. IsWithinOne N d y) (sym den-units)
         (rounded (units s) (2 ^ guard) (tables s guard) (floors s guard) (rounding s guard) N e y (units-some s sop) (pow_pos guard)
@@ -250,10 +252,10 @@ module _ (s : Sop) (accepted : IsAcceptedSop s) (hold : SopsHold s) (guard : ℕ
     long = flow-width after valid inputs (words-grown (input_net s) after whole-grown inputs words) n u ∙ wide
 
     -- the output's word has the value of the rounded sum
-    good-output : (mode : Bool) → (IsTrue mode → sop_inexact s ≡ None)
-        → IsGoodRatio mode (exact_sop s x) (val (slice_flow after.nodes inputs from.from u) (sop_format s))
-    good-output mode asked =
-        subst (λ v. IsGoodRatio mode (exact_sop s x) v) (sym value) (sums mode asked)
+    good-output : (mark : Bool) → (IsTrue mark → sop_inexact s ≡ None)
+        → IsGoodRatio (mode_of_exact mark) (exact_sop s x) (val (slice_flow after.nodes inputs from.from u) (sop_format s))
+    good-output mark asked =
+        subst (λ v. IsGoodRatio (mode_of_exact mark) (exact_sop s x) v) (sym value) (sums mark asked)
       where
         h : IsSummed s guard x [] [] (sum_at w inputs u)
         h = summed inputs u words
@@ -276,7 +278,7 @@ module _ (s : Sop) (accepted : IsAcceptedSop s) (hold : SopsHold s) (guard : ℕ
         Y : ℤ
         Y = y s accepted guard is_guard fit x h.number h.sum h.rounded h.cut h.near h.numbers same_rounded same_cut
 
-        sums : (mode : Bool) → (IsTrue mode → sop_inexact s ≡ None) → IsGoodRatio mode (exact_sop s x) Y
+        sums : (mark : Bool) → (IsTrue mark → sop_inexact s ≡ None) → IsGoodRatio (mode_of_exact mark) (exact_sop s x) Y
         sums = good s accepted guard is_guard fit x h.number h.sum h.rounded h.cut h.near h.numbers same_rounded same_cut
 
         total-is : nat (flow after.nodes inputs n u) ≡ residue ((h.sum +ℤ K) +ℤ R) M
@@ -336,7 +338,9 @@ module _ (s : Sop) (accepted : IsAcceptedSop s) (hold : SopsHold s) (guard : ℕ
   slice = omega (arith, fit.some)
 
   pub fits-sop : (net : Net) → net ≡ record after { outputs = after.outputs ++ from ∷ [] } → IsValid net → FitsInEachMode (sop_operator s) net
-  fits-sop net made whole mode asked = subst (FitsOperator mode (sop_operator s)) (sym is-last) fits
+  fits-sop net made whole =
+      fits_each_mode (sop_operator s) net
+      (λ mark mode. subst (FitsOperator (mode_of_exact mark) (sop_operator s)) (sym is-last) (fits mark (asked_whole mark (sop_operator s) mode)))
     where
       last : Net
       last = record { inputs = (input_net s).inputs; nodes = after.nodes; outputs = from ∷ [] }
@@ -347,14 +351,14 @@ module _ (s : Sop) (accepted : IsAcceptedSop s) (hold : SopsHold s) (guard : ℕ
           ∙ ap (λ (is : List (List ℕ × ℕ)). record { inputs = is; nodes = after.nodes; outputs = after.outputs ++ from ∷ [] }) whole-grown.inputs
           ∙ ap (λ (os : List Output). record { inputs = (input_net s).inputs; nodes = after.nodes; outputs = os ++ from ∷ [] }) whole-grown.outputs
 
-      fits : FitsOperator mode (sop_operator s) last
-      fits = record {
+      fits : (mark : Bool) → (IsTrue mark → sop_inexact s ≡ None) → FitsOperator (mode_of_exact mark) (sop_operator s) last
+      fits mark asked = record {
         valid = subst IsValid is-last whole;
         inputs = refl;
         outputs = ap (λ w. (codes "y", w) ∷ []) slice;
         good = λ inputs u words within range.
             let now : pos u ≡ pos u -ℤ pos 0 = omega (arith, ints) in
-            subst (λ t. IsGoodRatio mode (exact_sop s (λ i. val (input_at inputs i (format_of s i).width t) (format_of s i)))
+            subst (λ t. IsGoodRatio (mode_of_exact mark) (exact_sop s (λ i. val (input_at inputs i (format_of s i).width t) (format_of s i)))
             (val (slice_flow after.nodes inputs from.from (pos u)) (sop_format s))) now
-            (good-output inputs (pos u) words mode asked.whole);
+            (good-output inputs (pos u) words mark asked);
       }

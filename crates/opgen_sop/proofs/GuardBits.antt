@@ -19,7 +19,7 @@ use Rattle.opgen_terms.specs.declared.sop.TheConstants.{MAX_TOTAL_BITS, COUNTED_
 use Rattle.opgen_terms.specs.declared.sop.Sop.{Sop}
 use Rattle.opgen_terms.specs.declared.sop.Scaled.{Scaled}
 use Rattle.opgen_terms.specs.declared.sop.Times.{Times}
-use Rattle.opgen_terms.specs.Sop.{Term, IsSop, IsAcceptedSop, format_of, terms_of, term_at, scaled_term, times_term, offset_term, offset_terms, depth, raised, sop_reach, sop_places, sop_format, sop_inexact, sop_need, sop_meaning, total_bits, rounding_bits}
+use Rattle.opgen_terms.specs.Sop.{Term, IsSop, IsAcceptedSop, format_of, terms_of, term_at, scaled_term, times_term, offset_term, offset_terms, depth, raised, sop_reach, sop_places, sop_format, sop_inexact, sop_need, sop_meaning, sop_acceptance, total_bits, rounding_bits}
 use Rattle.opgen_ports.proofs.Accepted.{accepted_width}
 use Rattle.opgen_terms.proofs.Lawful.{accepted_sop, accepted_parts}
 use Rattle.opgen_terms.proofs.EachTerm.{input_fits, scaled_place, times_place, offset_place, sized}
@@ -269,7 +269,7 @@ module _ (s : Sop) (accepted : IsAcceptedSop s) where
   -- the bits of the output, and the ten below them where a term is rounded
   width-rounded : (sop_format s).width + rounding_bits s ≤ 96
   width-rounded =
-      let within : sop_need s ≤ 96 = accepted_width (sop_meaning s) (sop_need s) accepted refl in
+      let within : sop_need s ≤ 96 = accepted_width (sop_meaning s) (sop_acceptance s) (sop_need s) accepted refl in
       let fits : nat_lt MAX_TOTAL_BITS (total_bits s) ≡ false = le-ltb MAX_TOTAL_BITS (total_bits s) few-bits in
       let all : (sop_format s).width + rounding_bits s ≤ 96 = rw fits at within in
       all

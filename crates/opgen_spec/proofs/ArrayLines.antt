@@ -4,6 +4,7 @@ use Rattle.std.specs.Prelude.{All, pos}
 use Rattle.std.proofs.lemmas.Int.{ints}
 use Rattle.std.specs.List.{list_all}
 use Rattle.std.specs.Option.{option_map_or}
+use Rattle.std.proofs.lemmas.Bool.{or_parts}
 use Rattle.toml.specs.Data.{Data, table, Items, no_items, item, Members, as_array}
 use Rattle.opgen_operator.specs.declared.kind.Kind.{Kind}
 use Rattle.opgen_spec.specs.declared.fault.SpecFault.TheVariants as fault
@@ -20,7 +21,7 @@ use Rattle.opgen_document.specs.Keys.{line_keys, array_key, shared_stand, has_to
 use Rattle.opgen_document.specs.Ranges.{length_outside}
 use Rattle.opgen_document.specs.Types.{is_wrong, are_tables}
 use Rattle.opgen_document.proofs.Ranges.{inside}
-use Rattle.opgen_spec.specs.Faults.{found, value_outside, is_always_asked, out_of_range, outside_among, is_missing, missing_among, wrong_among, among_line, among_lines}
+use Rattle.opgen_spec.specs.Faults.{found, value_outside, is_always_asked, out_of_range, outside_among, is_missing, missing_among, kind_clashes, is_wrong_in, wrong_among, among_line, among_lines}
 use Rattle.opgen_spec.specs.Stands.{stand_in, is_needed}
 use Rattle.opgen_spec.specs.kinds.{kind_of, kinds_of, entry}
 use Rattle.opgen_spec.proofs.Fine.{AreFine, IsFine, find_none, first_none, map_none, asked_there, stands, there_inside, typed}
@@ -29,7 +30,7 @@ use Rattle.opgen_spec.proofs.Reading.{or_none}
 -- each check finds nothing in a line
 pub record IsFineLine (array : Array) (doc : Members) (n : ℕ) (ms : Members) : Type 0 where
   pub missing : missing_among (line_keys array) doc n ms ≡ None
-  pub wrong : wrong_among (line_keys array) n ms ≡ None
+  pub wrong : wrong_among (line_keys array) doc n ms ≡ None
   pub range : outside_among (line_keys array) doc n ms ≡ None
 
 -- a key at a place among those of the array
@@ -51,8 +52,9 @@ needed version None k h = all (kinds_of version)
 module _ (array : Array) (doc : Members) (n : ℕ) (ms : Members) (f : IsFineLine array doc n ms) (i : ℕ) (k : Key) (a : IsAmong array i k) where
   pub line_typed : is_wrong ms k ≡ false
   line_typed =
-      subst (λ k. is_wrong ms k ≡ false) a.is (find_none (is_wrong ms) (line_keys array) i key.Class
-      (map_none (λ k. fault.WrongType k n) (find (is_wrong ms) (line_keys array)) f.wrong) a.below)
+      (or_parts (is_wrong ms k) (is_some (value_at ms k) && kind_clashes doc k) (subst (λ k. is_wrong_in doc ms k ≡ false) a.is
+      (find_none (is_wrong_in doc ms) (line_keys array) i key.Class
+      (map_none (λ k. fault.WrongType k n) (find (is_wrong_in doc ms) (line_keys array)) f.wrong) a.below))).0
 
   line_there : shared_stand k ≡ Some Needed → is_none (value_at ms k) ≡ false
   line_there h =

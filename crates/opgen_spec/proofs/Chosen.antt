@@ -13,14 +13,14 @@ use Rattle.opgen_document.proofs.Values.{IsFlag, flag_stands, count_written}
 use Rattle.opgen_spec.specs.kinds.{kind_of, entry}
 use Rattle.opgen_spec.proofs.Fine.{AreFine, IsFine, typed, there_inside, own_range}
 use Rattle.opgen_spec.proofs.Known.{allowed, width_key}
-use Rattle.opgen_spec.proofs.Versions.{third_is_three}
+use Rattle.opgen_spec.proofs.Versions.{third_is_three, not_fourth}
 use Rattle.opgen_spec.proofs.sound.Sound.{IsChosen}
 use Rattle.opgen_spec.proofs.sound.All.{sound}
 
 -- a width that is there
 chosen : (ms : Members) (one : Kind) → AreFine ms → kind_of ms ≡ Some one → (d : Data) → value_at ms key.OutWidth ≡ Some d
     → IsChosen one (version_of ms)
-chosen ms one f e d some = (sound one).chosen (version_of ms) (allowed ms one key.OutWidth f e width_key refl (ap is_some some))
+chosen ms one f e d some = (sound one).chosen (version_of ms) (not_fourth ms f) (allowed ms one key.OutWidth f e width_key refl (ap is_some some))
 
 width_fine : (ms : Members) (one : Kind) → AreFine ms → kind_of ms ≡ Some one → (d : Data) → value_at ms key.OutWidth ≡ Some d
     → IsFine ms key.OutWidth (out_width_outside ms)

@@ -8,14 +8,15 @@ use Rattle.toml.specs.Data.{Data, string, Members, as_str}
 use Rattle.opgen_operator.specs.declared.kind.Kind.{Kind}
 use Rattle.opgen_document.specs.declared.key.Key.TheVariants as key
 use Rattle.opgen_document.specs.declared.key.Version.{Version}
-use Rattle.opgen_document.specs.declared.key.Version.TheVariants.{First, Second, Third}
+use Rattle.opgen_document.specs.declared.key.Version.TheVariants.{First, Second, Third, Fourth}
 use Rattle.opgen_document.specs.Document.{value_at, text_in, text_at, counters_at, IsCompressorAsWritten, version_of, since_second}
 use Rattle.opgen_document.specs.Types.{is_wrong}
 use Rattle.opgen_document.specs.Keys.{may_be}
-use Rattle.opgen_document.specs.Ranges.{compressor_outside}
+use Rattle.opgen_document.specs.Ranges.{compressor_outside, compressor_outside_in, compressor_at_outside}
 use Rattle.opgen_spec.specs.kinds.{kind_of, entry}
 use Rattle.opgen_spec.proofs.Fine.{AreFine, typed, own_range}
 use Rattle.opgen_spec.proofs.Known.{allowed, compressor_key}
+use Rattle.opgen_spec.proofs.Versions.{not_fourth}
 
 -- a compressor that is there
 pub record IsTaken (ms : Members) : Type 0 where
@@ -26,12 +27,20 @@ pub record IsTaken (ms : Members) : Type 0 where
 -- a kind has the key in later versions alone, and its range is that of compressors
 pub record IsLater (one : Kind) : Type 0 where
   pub stands : (version : Version) → (entry one).stand version key.Compressor ≡ since_second version
-  pub range : (ms : Members) → (entry one).key_outside ms key.Compressor ≡ compressor_outside (text_at ms key.Compressor)
+  pub range : (ms : Members) → (entry one).key_outside ms key.Compressor ≡ compressor_at_outside ms
 
 not_first : (version : Version) → may_be (since_second version) ≡ true → version ≡ First → ⊥
 not_first First may is = cc
 not_first Second may is = cc
 not_first Third may is = cc
+not_first Fourth may is = cc
+
+-- the versions that are open have two compressors
+two_open : (version : Version) (name : List ℕ) → (version ≡ Fourth → ⊥) → compressor_outside_in version name ≡ compressor_outside name
+two_open First name closed = refl
+two_open Second name closed = refl
+two_open Third name closed = refl
+two_open Fourth name closed = absurd (closed refl)
 
 taken : (ms : Members) (one : Kind) → AreFine ms → kind_of ms ≡ Some one → IsLater one
     → is_some (value_at ms key.Compressor) ≡ true → IsTaken ms
@@ -40,7 +49,8 @@ taken ms one f e is there =
     record {
       later = not_first (version_of ms) (ap may_be (sym (is.stands (version_of ms))) ∙ may);
       typed = typed ms key.Compressor f refl;
-      ranged = ap (λ x. option_and_then (λ _. x) (value_at ms key.Compressor)) (sym (is.range ms)) ∙ own_range ms one key.Compressor f e refl;
+      ranged = ap (λ x. option_and_then (λ _. x) (value_at ms key.Compressor))
+          (sym (is.range ms ∙ two_open (version_of ms) (text_at ms key.Compressor) (not_fourth ms f))) ∙ own_range ms one key.Compressor f e refl;
     }
 
 pub compressor_cases : (ms : Members) (one : Kind) → AreFine ms → kind_of ms ≡ Some one → IsLater one

@@ -3,6 +3,7 @@ use Rattle.std.proofs.Common.{◌≡◌, ℕ, zero, suc, ◌<◌, ◌&&◌, posi
 use Rattle.std.specs.Prelude.{ℤ}
 use Rattle.std.specs.Option.{option_map_or}
 use Rattle.std.specs.Str.{bytes_eq}
+use Rattle.std.proofs.lemmas.Bool.{or_parts}
 use Rattle.toml.specs.Data.{Data, Members}
 use Rattle.opgen_spec.specs.declared.fault.SpecFault.{SpecFault}
 use Rattle.opgen_spec.specs.declared.fault.SpecFault.TheVariants as fault
@@ -16,11 +17,11 @@ use Rattle.opgen_spec.specs.declared.lines.Check.TheVariants.{Unknown, Missing, 
 use Rattle.opgen_document.specs.Keys.{document_keys, arrays, key_name, shared_stand, has_to_be}
 use Rattle.opgen_document.specs.Document.{value_at, version_of}
 use Rattle.opgen_document.specs.declared.key.Version.{Version}
-use Rattle.opgen_document.specs.declared.key.Version.TheVariants.{First, Second, Third}
+use Rattle.opgen_document.specs.declared.key.Version.TheVariants.{First, Second, Third, Fourth}
 use Rattle.opgen_spec.specs.kinds.{kind_of, entry}
 use Rattle.opgen_spec.specs.Stands.{stand_in, is_needed}
 use Rattle.opgen_document.specs.Types.{is_wrong}
-use Rattle.opgen_spec.specs.Faults.{first_of, check_fault, found, kind_outside, value_outside, is_always_asked, out_of_range, outside_among, is_missing, unknown_among, missing_among, wrong_among, among_keys, among_array, line_count, count_on, counted_on, among_arrays, bad_version, bad_name, has_kind, bad_kind, form_fault, value_fault, field_fault}
+use Rattle.opgen_spec.specs.Faults.{first_of, check_fault, found, kind_outside, value_outside, is_always_asked, out_of_range, outside_among, is_missing, unknown_among, missing_among, kind_clashes, is_wrong_in, wrong_among, among_keys, among_array, line_count, count_on, counted_on, among_arrays, bad_version, bad_name, has_kind, bad_kind, form_fault, value_fault, field_fault}
 use Rattle.opgen_spec.proofs.Reading.{or_none}
 
 pub map_none : {A B : Type 0} (f : A → B) (o : Option A) → option_map f o ≡ None → o ≡ None
@@ -50,7 +51,7 @@ first_none f (k ∷ ks) (suc i) d h lt = first_none f ks i d (or_none (f k) (fir
 pub record AreFine (ms : Members) : Type 0 where
   pub unknown : unknown_among document_keys ms 0 ms ≡ None
   pub missing : missing_among document_keys ms 0 ms ≡ None
-  pub wrong : wrong_among document_keys 0 ms ≡ None
+  pub wrong : wrong_among document_keys ms 0 ms ≡ None
   pub version : bad_version ms ≡ None
   pub name : bad_name ms ≡ None
   pub kind : bad_kind ms ≡ None
@@ -152,8 +153,9 @@ not_missing ms k f h =
 pub typed : (ms : Members) (k : Key) → AreFine ms → is_of_line k ≡ false → is_wrong ms k ≡ false
 typed ms k f h =
     let (lt, same) = listed k h in
-    subst (λ k. is_wrong ms k ≡ false) same (find_none (is_wrong ms) document_keys (place k) key.Version
-    (map_none (λ k. fault.WrongType k 0) (find (is_wrong ms) document_keys) f.wrong) lt)
+    (or_parts (is_wrong ms k) (is_some (value_at ms k) && kind_clashes ms k) (subst (λ k. is_wrong_in ms ms k ≡ false) same
+    (find_none (is_wrong_in ms ms) document_keys (place k) key.Version
+    (map_none (λ k. fault.WrongType k 0) (find (is_wrong_in ms ms) document_keys) f.wrong) lt))).0
 
 pub not_found : (ms : Members) (k : Key) → AreFine ms → is_of_line k ≡ false → found ms 0 ms k ≡ None
 not_found ms k f h =
@@ -271,6 +273,7 @@ not_in_first : (version : Version) (one : Kind) → version ≡ First → (entry
 not_in_first First one is none h = let no : false ≡ true = sym none ∙ h in cc
 not_in_first Second one is none h = cc
 not_in_first Third one is none h = cc
+not_in_first Fourth one is none h = cc
 
 pub not_late : (ms : Members) (one : Kind) → AreFine ms → kind_of ms ≡ Some one → (entry one).first ≡ false → version_of ms ≡ First → ⊥
 not_late ms one f e none first =

@@ -14,3 +14,4 @@ mod sound
 mod Chosen
 pub mod Validity
 mod Written
+pub mod Readings

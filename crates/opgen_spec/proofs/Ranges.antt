@@ -13,7 +13,7 @@ use Rattle.opgen_ports.proofs.Versions.{input_limit}
 use Rattle.opgen_document.specs.declared.key.Key.{Key}
 use Rattle.opgen_document.specs.declared.key.Key.TheVariants as key
 use Rattle.opgen_document.specs.declared.key.Version.{Version}
-use Rattle.opgen_document.specs.declared.key.Version.TheVariants.{First, Second, Third}
+use Rattle.opgen_document.specs.declared.key.Version.TheVariants.{First, Second, Third, Fourth}
 use Rattle.opgen_document.specs.Document.{version_of, list_of, number_at, flag_at, count_at, count, small, format_at, unsigned_at}
 use Rattle.opgen_document.specs.Numbers.{coefficient, places_among, numerators}
 use Rattle.opgen_document.specs.Ranges.{is_beyond, first_beyond, length_outside, array_outside, bits_outside, width_outside, near_outside, power_outside_in, power_outside, extra_outside}
@@ -49,18 +49,20 @@ power_bounds ms k h = by (version_of ms) h.within
     by First none = wider (number_at ms k) (inside (negsuc 31) (pos 32) (number_at ms k) none)
     by Second none = wider (number_at ms k) (inside (negsuc 31) (pos 32) (number_at ms k) none)
     by Third none = inside (negsuc 63) (pos 64) (number_at ms k) none
+    by Fourth none = inside (negsuc 63) (pos 64) (number_at ms k) none
 
 pub power_in : (ms : Members) (k : Key) → IsFine ms k (power_outside ms k) → IsPower (small (number_at ms k))
 power_in ms k h = power_small (number_at ms k) (power_bounds ms k h)
 
 -- those of the first two versions
-pub power_near : (ms : Members) (k : Key) → IsEarly ms → IsFine ms k (power_outside ms k) → IsNear (small (number_at ms k))
-power_near ms k is_early h = near_small (number_at ms k) (by (version_of ms) refl h.within)
+pub power_near : (ms : Members) (k : Key) → IsEarly (version_of ms) → IsFine ms k (power_outside ms k) → IsNear (small (number_at ms k))
+power_near ms k is_early h = near_small (number_at ms k) (by (version_of ms) is_early h.within)
   where
-    by : (version : Version) → version_of ms ≡ version → power_outside_in version ms k ≡ None → IsNear (number_at ms k)
-    by First is none = inside (negsuc 31) (pos 32) (number_at ms k) none
-    by Second is none = inside (negsuc 31) (pos 32) (number_at ms k) none
-    by Third is none = absurd (is_early is)
+    by : (version : Version) → IsEarly version → power_outside_in version ms k ≡ None → IsNear (number_at ms k)
+    by First is_early none = inside (negsuc 31) (pos 32) (number_at ms k) none
+    by Second is_early none = inside (negsuc 31) (pos 32) (number_at ms k) none
+    by Third is_early none = absurd is_early
+    by Fourth is_early none = absurd is_early
 
 -- lowest bits as a version has them
 pub one_near : (ms : Members) (k : Key) → AreFine ms → IsFine ms k (power_outside ms k)

@@ -5,7 +5,7 @@ use Rattle.toml.specs.Data.{Data, Members}
 use Rattle.opgen_ports.specs.Ranges.{IsWithin}
 use Rattle.opgen_document.specs.declared.key.Key.TheVariants as key
 use Rattle.opgen_document.specs.declared.key.Version.{Version}
-use Rattle.opgen_document.specs.declared.key.Version.TheVariants.{First, Second, Third}
+use Rattle.opgen_document.specs.declared.key.Version.TheVariants.{First, Second, Third, Fourth}
 use Rattle.opgen_document.specs.Document.{value_at, number_in, count, count_at, IsSearchAsWritten, version_of, needed_before_third, is_searched}
 use Rattle.opgen_document.specs.Keys.{has_to_be}
 use Rattle.opgen_document.specs.Ranges.{constant_limit, extra_outside}
@@ -44,12 +44,13 @@ search_written ms h = by (value_at ms key.Extra) refl
     by (Some d) some = extra_written ms (h (ap is_none some))
 
 -- versions 1 and 2 need the key
-needs : (version : Version) → (version ≡ Third → ⊥) → has_to_be (needed_before_third version) ≡ true
+needs : (version : Version) → IsEarly version → has_to_be (needed_before_third version) ≡ true
 needs First is_early = refl
 needs Second is_early = refl
-needs Third is_early = absurd (is_early refl)
+needs Third is_early = absurd is_early
+needs Fourth is_early = absurd is_early
 
-pub early_search : (ms : Members) → IsEarly ms
+pub early_search : (ms : Members) → IsEarly (version_of ms)
     → (has_to_be (needed_before_third (version_of ms)) ≡ true → is_none (value_at ms key.Extra) ≡ false) → IsTrue (is_searched ms)
 early_search ms is_early needed = some (value_at ms key.Extra) (needed (needs (version_of ms) is_early))
 

@@ -12,6 +12,7 @@ use Rattle.opgen_operator.specs.declared.kind.Kind.TheVariants as kind
 use Rattle.opgen_operator.specs.declared.spec.Spec.{Spec}
 use Rattle.opgen_ports.specs.Limits.{most_signal}
 use Rattle.opgen_operator.specs.Operator.{least_shift, most_shift, inexact, shift}
+use Rattle.opgen_operator.proofs.EachMode.{mode_by_mark}
 use Rattle.opgen_ports.specs.SpecName.{is_spec_name}
 use Rattle.opgen_operator.specs.Valid.{IsDelayLine, IsValidSpec}
 use Rattle.opgen_document.specs.Keys.{line_keys}
@@ -90,7 +91,7 @@ valid_in ms one f e h =
       };
       has = s.has ms f e;
       names = s.names ms f e;
-      mode = record { agrees = s.agrees ms; whole = asked_exact spec exact };
+      mode = mode_by_mark spec.exact spec.op (s.agrees ms) (asked_exact spec exact);
       output = choice ms one f e;
       target = (omega (arith, ints), omega (arith, ints));
       period = counted (number_at ms key.Period) 1 1000000 time_least time_most (omega arith);
@@ -111,16 +112,24 @@ valid_members ms none clear = by (kind_of ms) refl
         valid_in ms one (fine ms none) e (subst (λ k. limit_fault (spec_with (unwrap_or k kind.Scale) ms) ≡ None) e clear)
     by None e = absurd (no_kind ms (fine ms none).kind e)
 
-valid_of : (ms : Members) (spec : Spec) → read (Some ms) ≡ Ok spec → IsValidSpec spec
-valid_of ms spec reads = by (field_fault ms) refl (limit_fault (spec_of ms)) refl
+-- a document without a fault, and the specification that its keys give
+pub record IsClear (ms : Members) (spec : Spec) : Type 0 where
+  pub none : field_fault ms ≡ None
+  pub within : limit_fault (spec_of ms) ≡ None
+  pub same : spec_of ms ≡ spec
+
+pub clear_of : (ms : Members) (spec : Spec) → read (Some ms) ≡ Ok spec → IsClear ms spec
+clear_of ms spec reads = by (field_fault ms) refl (limit_fault (spec_of ms)) refl
   where
-    by : (f : Option SpecFault) → field_fault ms ≡ f → (l : Option SpecFault) → limit_fault (spec_of ms) ≡ l → IsValidSpec spec
+    by : (f : Option SpecFault) → field_fault ms ≡ f → (l : Option SpecFault) → limit_fault (spec_of ms) ≡ l → IsClear ms spec
     by (Some fault) e l d = let both = sym (field_first ms fault e) ∙ reads in let no : ⊥ = cc in absurd no
     by None e (Some fault) d = let both = sym (limit_first ms fault e d) ∙ reads in let no : ⊥ = cc in absurd no
     by None e None d =
         let both = sym (none_first ms e d) ∙ reads in
-        let same : spec_of ms ≡ spec = cc in
-        subst IsValidSpec same (valid_members ms e d)
+        record { none = e; within = d; same = cc }
+
+valid_of : (ms : Members) (spec : Spec) → read (Some ms) ≡ Ok spec → IsValidSpec spec
+valid_of ms spec reads = let c = clear_of ms spec reads in subst IsValidSpec c.same (valid_members ms c.none c.within)
 
 pub valid_read : (o : Option Members) (spec : Spec) → read o ≡ Ok spec → IsValidSpec spec
 valid_read None spec reads = let no : ⊥ = cc in absurd no

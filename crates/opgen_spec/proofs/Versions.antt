@@ -1,5 +1,5 @@
 -- The versions of documents without a fault, and what each has.
-use Rattle.std.proofs.Common.{◌≡◌, ℕ, ◌<◌, ◌==◌, ◌||◌, ◌⊎◌, inl, inr, Bool, true, false, refl, sym, ◌∙◌, arith}
+use Rattle.std.proofs.Common.{◌≡◌, ℕ, ◌<◌, ◌==◌, ◌||◌, ◌⊎◌, inl, inr, Bool, true, false, refl, sym, subst, ◌∙◌, arith}
 use Rattle.std.specs.Prelude.{ℤ, pos, negsuc, ◌≤ℤ◌}
 use borrow.Author.Tests.{eqb-true}
 use Rattle.std.proofs.lemmas.Int.{ints}
@@ -8,7 +8,7 @@ use Rattle.opgen_ports.specs.Limits.{IsVersion}
 use Rattle.opgen_spec.specs.declared.fault.SpecFault.TheVariants as fault
 use Rattle.opgen_document.specs.declared.key.Key.TheVariants as key
 use Rattle.opgen_document.specs.declared.key.Version.{Version}
-use Rattle.opgen_document.specs.declared.key.Version.TheVariants.{First, Second, Third}
+use Rattle.opgen_document.specs.declared.key.Version.TheVariants.{First, Second, Third, Fourth}
 use Rattle.opgen_document.specs.Document.{number_at, count_at, count, version_in, version_of, since_third}
 use Rattle.opgen_document.specs.Keys.{may_be}
 use Rattle.opgen_spec.specs.Faults.{is_version}
@@ -80,14 +80,32 @@ bounds ms f = by (which ms f)
     by (inr (inl h)) = rw h.written (omega (arith, ints), omega (arith, ints))
     by (inr (inr h)) = rw h.written (omega (arith, ints), omega (arith, ints))
 
--- a document whose number is below 3 is of one of the first two versions
-abbrev pub IsEarly : Members → Type 0
-IsEarly ms = version_of ms ≡ Third → ⊥
+-- the fourth version has no number
+pub not_fourth : (ms : Members) → AreFine ms → version_of ms ≡ Fourth → ⊥
+not_fourth ms f is = by (which ms f)
+  where
+    by : IsOne (number_at ms key.Version) → ⊥
+    by (inl h) = let no : First ≡ Fourth = sym h.is_version ∙ is in cc
+    by (inr (inl h)) = let no : Second ≡ Fourth = sym h.is_version ∙ is in cc
+    by (inr (inr h)) = let no : Third ≡ Fourth = sym h.is_version ∙ is in cc
 
-pub early : (ms : Members) → AreFine ms → count_at ms key.Version < 3 → IsEarly ms
-early ms f below is = let three = third_is_three ms f is in absurd (omega (arith, below, three))
+-- the first two versions, which are those of documents whose number is below 3
+abbrev pub IsEarly : Version → Type 0
+IsEarly First = Unit {0}
+IsEarly Second = Unit {0}
+IsEarly Third = ⊥
+IsEarly Fourth = ⊥
 
-pub not_in_early : (version : Version) → (version ≡ Third → ⊥) → may_be (since_third version) ≡ false
+pub early : (ms : Members) → AreFine ms → count_at ms key.Version < 3 → IsEarly (version_of ms)
+early ms f below = by (which ms f)
+  where
+    by : IsOne (number_at ms key.Version) → IsEarly (version_of ms)
+    by (inl h) = subst IsEarly (sym h.is_version) tt
+    by (inr (inl h)) = subst IsEarly (sym h.is_version) tt
+    by (inr (inr h)) = let three : count_at ms key.Version ≡ 3 = h.is_number in absurd (omega (arith, below, three))
+
+pub not_in_early : (version : Version) → IsEarly version → may_be (since_third version) ≡ false
 not_in_early First is_early = refl
 not_in_early Second is_early = refl
-not_in_early Third is_early = absurd (is_early refl)
+not_in_early Third is_early = absurd is_early
+not_in_early Fourth is_early = absurd is_early

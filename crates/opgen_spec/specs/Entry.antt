@@ -18,6 +18,8 @@ pub record Entry : Type 0 where
   pub stand : Version → Key → Stand
   -- what stands at a key and is out of range
   pub key_outside : Members → Key → Option ℤ
+  -- a key at which nothing may stand beside the values of others
+  pub clashes : Members → Key → Bool
   -- the operator that the values of the keys give
   pub make : Members → Operator
 

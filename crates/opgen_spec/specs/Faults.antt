@@ -18,7 +18,7 @@ use Rattle.opgen_spec.specs.declared.lines.Check.TheVariants.{Unknown, Missing, 
 use Rattle.opgen_document.specs.Keys.{document_keys, arrays, array_key, line_keys}
 use Rattle.opgen_document.specs.Document.{names, value_at, number_at, text_at, flag_at, items_at, list_of, version_of}
 use Rattle.opgen_document.specs.declared.key.Version.{Version}
-use Rattle.opgen_document.specs.declared.key.Version.TheVariants.{First, Second, Third}
+use Rattle.opgen_document.specs.declared.key.Version.TheVariants.{First, Second, Third, Fourth}
 use Rattle.opgen_document.specs.Types.{is_wrong}
 use Rattle.opgen_document.specs.Ranges.{outside, length_outside, bits_outside, far_outside, numerator_outside}
 use Rattle.opgen_spec.specs.kinds.{kind_of, entry}
@@ -45,9 +45,17 @@ is_missing doc ms k = is_needed (version_of doc) (kind_of doc) k && is_none (val
 abbrev pub missing_among : List Key → (doc : Members) → ℕ → Members → Option SpecFault
 missing_among ks doc line ms = option_map (λ k. fault.MissingKey k line) (find (is_missing doc ms) ks)
 
--- Wrong type: the first of the keys whose value is not of its type, or that stands without a key that it needs.
-abbrev pub wrong_among : List Key → ℕ → Members → Option SpecFault
-wrong_among ks line ms = option_map (λ k. fault.WrongType k line) (find (is_wrong ms) ks)
+-- Wrong type: the first of the keys whose value is not of its type, or does not go with those of others.
+
+-- beside the values of the document, its kind lets nothing stand at the key
+abbrev pub kind_clashes : Members → Key → Bool
+kind_clashes doc k = option_map_or (λ one. (entry one).clashes doc k) (kind_of doc) false
+
+abbrev pub is_wrong_in : (doc : Members) → Members → Key → Bool
+is_wrong_in doc ms k = is_wrong ms k || (is_some (value_at ms k) && kind_clashes doc k)
+
+abbrev pub wrong_among : List Key → (doc : Members) → ℕ → Members → Option SpecFault
+wrong_among ks doc line ms = option_map (λ k. fault.WrongType k line) (find (is_wrong_in doc ms) ks)
 
 -- Out of range: the first of the keys with a number, a length or an element outside its bounds, which is what was found.
 
@@ -94,7 +102,7 @@ outside_among ks doc line ms = first_of (map (λ k. out_of_range line k (found d
 abbrev pub among : Check → List Key → (doc : Members) → ℕ → Members → Option SpecFault
 among Unknown ks doc line ms = unknown_among ks doc line ms
 among Missing ks doc line ms = missing_among ks doc line ms
-among WrongType ks doc line ms = wrong_among ks line ms
+among WrongType ks doc line ms = wrong_among ks doc line ms
 among Range ks doc line ms = outside_among ks doc line ms
 
 abbrev pub among_keys : Check → Members → Option SpecFault
@@ -151,6 +159,7 @@ abbrev pub has_kind : Version → Kind → Bool
 has_kind First one = (entry one).first
 has_kind Second one = true
 has_kind Third one = true
+has_kind Fourth one = true
 
 -- no kind is named, or one that the version does not have
 abbrev pub bad_kind : Members → Option SpecFault

@@ -10,7 +10,7 @@ use Rattle.opgen_operator.specs.Operator.{kind_name}
 use Rattle.opgen_document.specs.declared.key.Key.TheVariants as key
 use Rattle.opgen_document.specs.Document.{text_at, version_of}
 use Rattle.opgen_document.specs.declared.key.Version.{Version}
-use Rattle.opgen_document.specs.declared.key.Version.TheVariants.{First, Second, Third}
+use Rattle.opgen_document.specs.declared.key.Version.TheVariants.{First, Second, Third, Fourth}
 use Rattle.opgen_spec.specs.Entry.{Entry}
 pub mod Sum
 pub mod Product
@@ -31,7 +31,7 @@ use Rattle.opgen_spec.specs.kinds.Poly.{poly, IsPolyAsWritten}
 use Rattle.opgen_spec.specs.kinds.Taps.{tfir, IsTapsAsWritten}
 use Rattle.opgen_spec.specs.kinds.Sop.{sop, IsSopAsWritten}
 
--- the kinds that documents of versions 1 and 2 can name, and those of version 3
+-- the kinds that documents of versions 1 and 2 can name, and those of later versions
 unfoldable pub early_kinds : List Kind
 early_kinds =
     kind.Scale ∷ kind.Fir ∷ kind.Multiply ∷ kind.Divide ∷ kind.Root ∷ kind.Mcm ∷ kind.Constdiv ∷ kind.Poly ∷ kind.Tfir ∷ []
@@ -44,6 +44,7 @@ abbrev pub kinds_of : Version → List Kind
 kinds_of First = early_kinds
 kinds_of Second = early_kinds
 kinds_of Third = kinds
+kinds_of Fourth = kinds
 
 -- the kind of a name
 abbrev pub kind_named : Version → List ℕ → Option Kind

@@ -4,12 +4,12 @@ ghost use Rattle.std.specs.List.{position_from};
 ghost use Rattle.toml.specs.View.{table_view};
 ghost use Rattle.opgen_document.specs.Document.{names};
 ghost use Rattle.opgen_spec.specs.Stands.{is_known};
-ghost use Rattle.opgen_spec.specs.Faults.{unknown_among, is_missing, missing_among, wrong_among};
+ghost use Rattle.opgen_spec.specs.Faults.{unknown_among, is_missing, missing_among, kind_clashes, is_wrong_in, wrong_among};
 
 use crate::fault::SpecFault;
-use crate::kinds::kind_of;
+use crate::kinds::{clashes, kind_of};
 use crate::stand::{is_known, is_needed};
-use opgen_document::{Key, Version, first_wrong, value_at, version_of};
+use opgen_document::{Key, Version, is_wrong, value_at, version_of};
 use opgen_operator::Kind;
 use toml::Table;
 
@@ -68,10 +68,40 @@ pub(crate) fn missing_among(
     Some(SpecFault::MissingKey { key, line })
 }
 
-/// The first of the keys whose value is not of its type.
-pub(crate) fn wrong_among(keys: &[Key], line: u64, table: &Table) -> Option<SpecFault>
-    ensures { result ≡ wrong_among keys.now line (table_view table.now) }
+// Whether the document's kind lets nothing stand at the key, beside the values of the document.
+#[tactic(auto, unfolding(crate::specs::kinds::entry))]
+fn kind_clashes(document: &Table, key: Key) -> bool
+    ensures { result ≡ kind_clashes (table_view document.now) key }
 {
-    let key = first_wrong(keys, table)?;
+    match kind_of(document) {
+        Some(kind) => clashes(kind, document, key),
+        None => false,
+    }
+}
+
+fn is_wrong_in(document: &Table, table: &Table, key: Key) -> bool
+    ensures { result ≡ is_wrong_in (table_view document.now) (table_view table.now) key }
+{
+    is_wrong(table, key) || (value_at(table, key).is_some() && kind_clashes(document, key))
+}
+
+fn first_wrong(keys: &[Key], document: &Table, table: &Table) -> Option<Key>
+    ensures { result ≡ find (is_wrong_in (table_view document.now) (table_view table.now)) keys.now }
+{
+    keys.iter()
+        .copied()
+        .find(|key| is_wrong_in(document, table, *key))
+}
+
+/// The first of the keys whose value is not of its type, or does not go with those of others.
+pub(crate) fn wrong_among(
+    keys: &[Key],
+    document: &Table,
+    line: u64,
+    table: &Table,
+) -> Option<SpecFault>
+    ensures { result ≡ wrong_among keys.now (table_view document.now) line (table_view table.now) }
+{
+    let key = first_wrong(keys, document, table)?;
     Some(SpecFault::WrongType { key, line })
 }

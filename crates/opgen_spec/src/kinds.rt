@@ -35,7 +35,7 @@ static EARLY_KINDS: [Kind; 9] = [
     Kind::Tfir,
 ];
 
-/// The kinds of version 3.
+/// The kinds of versions 3 and 4.
 static KINDS: [Kind; 10] = [
     Kind::Scale,
     Kind::Fir,
@@ -57,6 +57,7 @@ pub(crate) fn kinds_of(version: Version) -> &'static [Kind]
         Version::First => &EARLY_KINDS,
         Version::Second => &EARLY_KINDS,
         Version::Third => &KINDS,
+        Version::Fourth => &KINDS,
     }
 }
 
@@ -138,6 +139,24 @@ pub(crate) fn key_outside(kind: Kind, table: &Table, key: Key) -> Option<i64>
         Kind::Poly => poly::key_outside(table, key),
         Kind::Tfir => taps::key_outside(table, key),
         Kind::Sop => sop::key_outside(table, key),
+    }
+}
+
+/// Whether a kind lets nothing stand at the key, beside the values of others.
+pub(crate) fn clashes(kind: Kind, table: &Table, key: Key) -> bool
+    ensures { result ≡ (entry_of kind).clashes (table_view table.now) key }
+{
+    match kind {
+        Kind::Divide => pair::clashes(table, key),
+        Kind::Scale
+        | Kind::Fir
+        | Kind::Multiply
+        | Kind::Root
+        | Kind::Mcm
+        | Kind::Constdiv
+        | Kind::Poly
+        | Kind::Tfir
+        | Kind::Sop => false,
     }
 }
 

@@ -33,7 +33,7 @@ fn among(
     match check {
         Check::Unknown => unknown_among(keys, document, line, table),
         Check::Missing => missing_among(keys, document, line, table),
-        Check::WrongType => wrong_among(keys, line, table),
+        Check::WrongType => wrong_among(keys, document, line, table),
         Check::Range => outside_among(keys, document, line, table),
     }
 }

@@ -51,7 +51,7 @@ fn has_kind(version: Version, kind: Kind) -> bool
 {
     match version {
         Version::First => is_first_kind(kind),
-        Version::Second | Version::Third => true,
+        Version::Second | Version::Third | Version::Fourth => true,
     }
 }
 

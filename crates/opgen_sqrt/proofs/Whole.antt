@@ -28,6 +28,9 @@ use Rattle.opgen_operator.specs.Outputs.{recent_words, output_words}
 use Rattle.opgen_ports.specs.Ports.{Recent}
 use Rattle.opgen_ports.specs.Reaches.{places_up, up}
 use Rattle.opgen_operator.proofs.Accepted.{accepted_ranges, accepted_shift}
+use Rattle.opgen_ports.specs.Modes.{mode_of_exact}
+use Rattle.opgen_operator.proofs.EachMode.{fits_by_mark}
+use Rattle.opgen_ports.proofs.Marks.{good_by_mark}
 use Rattle.opgen_ports.proofs.InputPorts.{input_bit}
 use Rattle.opgen_net.specs.Placed.{number_at}
 use Rattle.opgen_digits.specs.Digit.{Known}
@@ -207,18 +210,21 @@ module _ (r : Single) (have : HasWidths r) (some_root : 1 ≤ root_width r) wher
       subst (λ z. IsGoodRoot (square r z) (unsigned_abs (outputs_now false inputs t 0))) (sym (input_now signed inputs t))
       (subst (λ z. IsGoodRoot (input_number inputs (pos t) * up (root_shift r)) (unsigned_abs z)) (sym y) (near _ _ held.0 held.1))
 
-  pub fits : r.input.signed ≡ false → FitsOperator r.exact (Root r) made
+  pub fits : r.input.signed ≡ false → FitsOperator (mode_of_exact r.exact) (Root r) made
   fits signed = record {
     valid = results-valid (codes "y") last at_last.later.valid r.exact results;
     inputs = made-inputs;
     outputs = results-shown (codes "y") last at_last.later.valid no_output r.exact results ∙ same_ports r.exact refl;
-    good = λ inputs t words within range. good r.exact refl results signed inputs t (for_inputs inputs words);
+    good = λ inputs t words within range.
+        good_by_mark r.exact
+        (λ e. IsGoodSquareRoot e r (inputs_now inputs t 0 0) (outputs_now r.exact inputs t 0) (outputs_now r.exact inputs t 1))
+        (good r.exact refl results signed inputs t (for_inputs inputs words));
   }
 
 pub fits_modes : (r : Single) → IsAcceptedSingle r → FitsInEachMode (Root r) (net_of_single r)
-fits_modes r is exact mode =
+fits_modes r is =
     let ranges : IsSingle r = accepted_ranges (Root r) is in
-    subst (λ x. FitsOperator x (Root r) (net_of_single r)) mode.agrees (fits r (has_widths r is) (root_bits r is).0 ranges.unsigned)
+    fits_by_mark r.exact (Root r) (net_of_single r) refl (fits r (has_widths r is) (root_bits r is).0 ranges.unsigned)
 
 pub all_steps : (r : Single) → IsAcceptedSingle r → HoldsAfterEachStep r (net_of_single r)
 all_steps r is = steps_hold r (has_widths r is) (root_bits r is).0

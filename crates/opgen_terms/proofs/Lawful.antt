@@ -1,14 +1,19 @@
 -- What holds of sums of products: the format holds them, and they are within their limits.
-use Rattle.std.proofs.Common.{ℕ, ◌≡◌, ◌+◌, ◌*◌, ◌^◌, ◌<◌, ◌≤◌, true, false, get_or, refl, nat_lt, ⊎_elim, arith}
+use Rattle.std.proofs.Common.{ℕ, ◌≡◌, ◌+◌, ◌*◌, ◌^◌, ◌<◌, ◌≤◌, Bool, true, false, List, [], ◌∷◌, ◌++◌, map, if◌then◌else◌, get_or, refl, ap₂, subst, nat_lt, ⊎_elim, arith}
 use Rattle.std.proofs.lemmas.Bool.{cases_lt, lt-ltb, le-ltb}
 use Rattle.std.proofs.lemmas.Int.{ints}
 use Rattle.std.proofs.lemmas.Nat.{pow_pos}
 use Rattle.std.proofs.Math.Nat.{mul-le-mul}
-use Rattle.std.specs.Prelude.{ℤ, pos, negsuc, neg_ℤ, ◌≤ℤ◌, ◌<ℤ◌, ◌*ℤ◌}
+use Rattle.std.specs.Prelude.{ℤ, pos, negsuc, neg_ℤ, ◌≤ℤ◌, ◌<ℤ◌, ◌+ℤ◌, ◌*ℤ◌, nat_eq, unsigned_abs}
+use Rattle.opgen_num.specs.declared.mode.Mode.{Mode}
+use Rattle.opgen_num.specs.Rounding.{IsGoodLinear}
 use Rattle.opgen_num.proofs.Integers.{product_order, commuted}
 use Rattle.opgen_terms.specs.declared.sop.TheConstants.{MAX_TOTAL_BITS}
 use Rattle.opgen_terms.specs.declared.sop.Sop.{Sop}
-use Rattle.opgen_terms.specs.Sop.{IsSop, IsAcceptedSop, HasSmallShift, AreOf, SopsHold, Term, terms_of, term_at, offset_term, depth, height, raised, exact_sop, sop_reach, sop_places, total_bits, rounding_bits, sop_need, sop_meaning}
+use Rattle.opgen_terms.specs.declared.sop.Scaled.{Scaled}
+use Rattle.opgen_terms.specs.declared.sop.Times.{Times}
+use Rattle.opgen_terms.specs.Sop.{total, offset_terms, times_term, scaled_term, signed_if, IsSop, IsAcceptedSop, HasSmallShift, AreOf, SopsHold, Term, terms_of, term_at, offset_term, depth, height, raised, exact_sop, sop_reach, sop_places, total_bits, rounding_bits, sop_need, sop_meaning, sop_acceptance}
+use Rattle.opgen_ports.specs.Good.{IsGoodRatio}
 use Rattle.opgen_ports.specs.In128.{IsRatioIn128}
 use Rattle.opgen_ports.specs.Limits.{most_signal}
 use Rattle.opgen_ports.specs.Ports.{HasWidth}
@@ -91,8 +96,37 @@ sop_in128 s x is shift few of =
     let den = raised_within s.den 30 (depth s) 48 (few_units (2 ^ 30) s.den is.numbers.positive is.numbers.small) (depth_few s shift) in
     (small_in128 (exact_sop s x).num (omega (arith, num)), small_in128 (s.den *ℤ pos (2 ^ depth s)) (omega (arith, den)))
 
+-- the sum of the terms depends on the inputs of the last cycle alone
+module _ (s : Sop) (x y : (input : ℕ) → ℤ) (same : (input : ℕ) → x input ≡ y input) where
+  abbrev raised_number : (z : (input : ℕ) → ℤ) → Term → ℤ
+  raised_number z t = t.number z *ℤ pos (2 ^ height s t)
+
+  same_offset : total (raised_number x) (offset_terms s) ≡ total (raised_number y) (offset_terms s)
+  same_offset = go (nat_eq (unsigned_abs s.offset) 0)
+    where
+      go : (none : Bool)
+          → total (raised_number x) (if none then [] else offset_term s ∷ []) ≡ total (raised_number y) (if none then [] else offset_term s ∷ [])
+      go true = refl
+      go false = refl
+
+  same_products : (ts : List Times) → total (raised_number x) (map (times_term s) ts ++ offset_terms s)
+      ≡ total (raised_number y) (map (times_term s) ts ++ offset_terms s)
+  same_products [] = same_offset
+  same_products (t ∷ ts) =
+      ap₂ (λ a rest. ((s.den *ℤ signed_if t.negative a) *ℤ pos (2 ^ height s (times_term s t))) +ℤ rest)
+      (ap₂ (λ a b. a *ℤ b) (same t.a) (same t.b)) (same_products ts)
+
+  same_terms : (ts : List Scaled) → total (raised_number x) (map (scaled_term s) ts ++ (map (times_term s) s.products ++ offset_terms s))
+      ≡ total (raised_number y) (map (scaled_term s) ts ++ (map (times_term s) s.products ++ offset_terms s))
+  same_terms [] = same_products s.products
+  same_terms (t ∷ ts) =
+      ap₂ (λ a rest. ((a *ℤ t.coefficient) *ℤ pos (2 ^ height s (scaled_term s t))) +ℤ rest) (same t.input) (same_terms ts)
+
+  pub same_good : (mode : Mode) (n : ℤ) → IsGoodRatio mode (exact_sop s x) n → IsGoodRatio mode (exact_sop s y) n
+  same_good mode n good = subst (λ sum. IsGoodLinear sum (s.den *ℤ pos (2 ^ depth s)) n mode) (same_terms s.scaled) good
+
 -- what holds of its meaning
-pub sop_lawful : (s : Sop) → IsLawful (sop_meaning s)
+pub sop_lawful : (s : Sop) → IsLawful (sop_meaning s) (sop_acceptance s)
 sop_lawful s = record {
   some_input = λ is. is.inputs.some;
   input_bits = λ is k p here. input_bit (get_or s.inputs k p).format (is.inputs.formats k p here);
@@ -106,17 +140,19 @@ sop_lawful s = record {
   in128 = λ version is inputs of.
       let parts = need_parts s (most_signal version) (omega (arith, (signal_limit version).1)) (is.narrow (sop_need s) refl) in
       sop_in128 s (λ input. inputs input 0) is.ranges is.fine parts.0 (λ input here. of input 0 here);
+  recalls = λ mode inputs others outputs same good.
+      same_good s (λ input. inputs input 0) (λ input. others input 0) (λ input. same input 0 (omega arith)) mode (outputs 0) good;
 }
 
 -- what holds of an accepted one
 pub accepted_shifts : (s : Sop) → IsAcceptedSop s → HasSmallShift s
-accepted_shifts s is = accepted_shift (sop_meaning s) (sop_lawful s) is
+accepted_shifts s is = accepted_shift (sop_meaning s) (sop_acceptance s) (sop_lawful s) is
 
 pub accepted_parts : (s : Sop) → IsAcceptedSop s → (total_bits s ≤ MAX_TOTAL_BITS) × (width_of (sop_places s) ≤ 96)
-accepted_parts s is = need_parts s 96 (omega arith) (accepted_width (sop_meaning s) (sop_need s) is refl)
+accepted_parts s is = need_parts s 96 (omega arith) (accepted_width (sop_meaning s) (sop_acceptance s) (sop_need s) is refl)
 
 pub accepted_sop : (s : Sop) → IsAcceptedSop s → IsSop s
-accepted_sop s is = accepted_ranges (sop_meaning s) is
+accepted_sop s is = accepted_ranges (sop_meaning s) (sop_acceptance s) is
 
 -- the denominator of the exact value
 pub sop_positive : (s : Sop) (x : (input : ℕ) → ℤ) → IsSop s → pos 0 <ℤ (exact_sop s x).den

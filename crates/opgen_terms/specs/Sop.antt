@@ -4,12 +4,14 @@ use Rattle.std.specs.Option.{unwrap_or}
 use Rattle.std.specs.Prelude.{ℕ, ◌≤◌, ◌≤ℤ◌, ◌<◌, Bool, false, All, Option, Some, None, ◌+◌, ◌*◌, ◌^◌, ℤ, pos, neg_ℤ, unsigned_abs, length, List, [], ◌∷◌, ◌++◌, map, ◌*ℤ◌, ◌+ℤ◌, ◌-ℤ◌, codes, ◌&&◌, if◌then◌else◌, not, nat_eq, nat_lt, max, find, is_none, int_le, get_or}
 use Rattle.opgen_num.specs.declared.format.Format.{Format}
 use Rattle.opgen_num.specs.declared.format.Ratio.{Ratio}
+use Rattle.opgen_num.specs.declared.mode.Mode.TheVariants.{Faithful}
 use Rattle.opgen_num.specs.Formats.{digit_count}
 use Rattle.opgen_terms.specs.declared.sop.TheConstants.{MAX_TOTAL_BITS, COUNTED_BITS}
 use Rattle.opgen_terms.specs.declared.sop.Sop.{Sop}
 use Rattle.opgen_terms.specs.declared.sop.Scaled.{Scaled}
 use Rattle.opgen_terms.specs.declared.sop.Times.{Times}
 use Rattle.opgen_terms.specs.declared.terms.Term.{Term as PlainTerm}
+use Rattle.opgen_ports.specs.Acceptance.{Acceptance}
 use Rattle.opgen_ports.specs.Accepted.{IsAcceptable}
 use Rattle.opgen_ports.specs.Meaning.{Meaning}
 use Rattle.opgen_ports.specs.Reaches.{is_whole_at, places_up, places_down, reach_of, reach_over, reach_of_product, above_zero, below_zero, in_places, width_of}
@@ -217,17 +219,25 @@ AreOf s x = (input : ℕ) → input < length s.inputs → IsOf (format_of s inpu
 -- the format of the output holds every exact value, rounded down or up
 abbrev pub SopsHold : Sop → Type 0
 SopsHold s = IsSop s → (x : (input : ℕ) → ℤ) → AreOf s x
-    → (y : ℤ) → IsGoodRatio false (exact_sop s x) y → IsOf (sop_format s) y
+    → (y : ℤ) → IsGoodRatio Faithful (exact_sop s x) y → IsOf (sop_format s) y
 
 -- what a sum of products means
 abbrev pub sop_meaning : Sop → Meaning
 sop_meaning s = record {
-  IsIn = λ version. 3 ≤ version;
-  IsRanged = IsSop s;
   inputs = s.inputs;
-  given_names = map (λ (p : PortFormat). p.name) s.inputs;
   outputs = port (codes "y") (sop_format s) ∷ [];
   divisor = None;
+  memory = 0;
+  value = Some (λ inputs. exact_sop s (λ input. inputs input 0));
+  IsGood = λ mode inputs outputs. IsGoodRatio mode (exact_sop s (λ input. inputs input 0)) (outputs 0);
+}
+
+-- which sums of products are accepted
+abbrev pub sop_acceptance : Sop → Acceptance
+sop_acceptance s = record {
+  IsIn = λ version. 3 ≤ version;
+  IsRanged = IsSop s;
+  given_names = map (λ (p : PortFormat). p.name) s.inputs;
   shift = sop_shift s;
   least_shift = neg_ℤ (pos 48);
   most_shift = λ version. pos 48;
@@ -236,11 +246,9 @@ sop_meaning s = record {
   HasRoom = Unit {0};
   own_mark = Some s.exact;
   IsExactIn128 = λ inputs. IsRatioIn128 (exact_sop s (λ input. inputs input 0));
-  value = Some (λ inputs. exact_sop s (λ input. inputs input 0));
-  IsGood = λ exact inputs outputs. IsGoodRatio exact (exact_sop s (λ input. inputs input 0)) (outputs 0);
   FormatsHold = SopsHold s;
   has_graph = false;
 }
 
 abbrev pub IsAcceptedSop : Sop → Type 0
-IsAcceptedSop s = IsAcceptable (sop_meaning s)
+IsAcceptedSop s = IsAcceptable (sop_meaning s) (sop_acceptance s)

@@ -1,20 +1,21 @@
 //! Sums of products: their ranges, formats, exact values, and when outputs are good.
 ghost use Rattle.std.specs.Prelude.{◌≡◌, ◌≤◌, ◌^◌, [], ◌∷◌, ℤ, neg_ℤ, ◌≤ℤ◌, ◌<ℤ◌, pos, codes, IfOk, ◌↔◌, IsTrue, All, unsigned_abs};
 ghost use Rattle.opgen_ports.specs.Meaning.{IsCycleJudged};
-ghost use Rattle.opgen_terms.specs.Sop.{IsSop, IsScaled, IsTimes, IsAcceptedSop, HasSmallShift, HasInputs, HasTerms, HasNumbers, Term, is_small_shift, sop_shift, sop_inexact, sop_need, sop_format, sop_places, depth, total_bits, raised, last_numbers, exact_sop, sop_meaning};
+ghost use Rattle.opgen_ports.specs.Profile.{IsProfileOf};
+ghost use Rattle.opgen_terms.specs.Sop.{IsSop, IsScaled, IsTimes, IsAcceptedSop, HasSmallShift, HasInputs, HasTerms, HasNumbers, Term, is_small_shift, sop_shift, sop_inexact, sop_need, sop_format, sop_places, depth, total_bits, raised, last_numbers, exact_sop, sop_meaning, sop_acceptance};
 ghost use Rattle.opgen_ports.specs.Ports.{recent_numbers, IsHistory, IsCycle, port, AreWithin};
 ghost use Rattle.opgen_ports.specs.Ranges.{IsInput};
 ghost use Rattle.opgen_ports.specs.Reaches.{below_zero, above_zero};
 
 use crate::terms::{count, depth, height, number, term_at, total_bits};
 use opgen_list::Items;
-use opgen_num::{Format, MAX_WIDTH, Ratio, good_linear};
-use opgen_ports::MAX_SHIFT;
+use opgen_num::{Format, MAX_WIDTH, Mode, Ratio, good_linear};
 use opgen_ports::history::output;
 use opgen_ports::ports::{PortFormat, covering, one};
 use opgen_ports::ranges::{is_denominator, is_input, is_length, is_power};
 use opgen_ports::reach::{Reach, in_places, width_of};
 use opgen_ports::shifts::{is_whole, raised};
+use opgen_ports::{MAX_SHIFT, Profile};
 use std::alloc::{AllocError, Global};
 
 /// The most bits that the sum of all terms may have, in units of the lowest place. Up to here 128 bits
@@ -139,9 +140,24 @@ impl Sop {
 
     /// Whether a version of specifications has the operator with these fields.
     pub fn is_in(&self, version: u32) -> bool
-        ensures { IsTrue result ↔ (sop_meaning self.now).IsIn version }
+        ensures { IsTrue result ↔ (sop_acceptance self.now).IsIn version }
     {
         version >= 3
+    }
+
+    /// What is said of the operator by numbers and marks alone.
+    pub fn profile(&self) -> Profile
+        ensures { IsProfileOf (sop_meaning self.now) (sop_acceptance self.now) result }
+    {
+        Profile {
+            least_shift: -MAX_SHIFT,
+            first_most_shift: MAX_SHIFT,
+            most_shift: MAX_SHIFT,
+            divisor: None,
+            has_value: true,
+            has_graph: false,
+            own_mark: Some(self.exact),
+        }
     }
 
     /// The input ports, in order.
@@ -183,15 +199,15 @@ impl Sop {
     }
 
     /// Whether the outputs of the last cycle are good, or its inputs out of range.
-    pub fn judge(&self, exact: bool, history: &[u128], outputs: &[u128]) -> bool
+    pub fn judge(&self, mode: Mode, history: &[u128], outputs: &[u128]) -> bool
         requires accepted { IsAcceptedSop self.now }
         requires history { IsHistory self.now.inputs history.now }
         requires outputs { IsCycle (port (codes "y") (sop_format self.now) ∷ []) outputs.now }
-        ensures { IsCycleJudged (sop_meaning self.now) exact history.now outputs.now result }
+        ensures { IsCycleJudged (sop_meaning self.now) mode history.now outputs.now result }
     {
         let value = self.value(history);
         let y = output(self.output(), outputs[0]);
-        good_linear(value.num, value.den, y, exact)
+        good_linear(value.num, value.den, y, mode)
     }
 }
 

@@ -1,6 +1,6 @@
 -- The nodes of the sums: the net grows by them, and each has the width of its sum.
 use Rattle.std.proofs.Common.{◌≡◌, ◌≢◌, ℕ, zero, suc, ◌<◌, Bool, true, false, List, [], ◌∷◌, length, drop, refl, sym, ap, ◌∙◌, subst, arith}
-use Rattle.std.specs.Prelude.{ℤ, pos, negsuc, All, slice_index, nat_eq, if◌then◌else◌}
+use Rattle.std.specs.Prelude.{ℤ, pos, negsuc, All, IsTrue, slice_index, nat_eq, if◌then◌else◌}
 use Rattle.std.proofs.lemmas.Bool.{eqb-true}
 use Rattle.std.proofs.lemmas.List.Elements.{All-head, All-tail, All-weaker}
 use Rattle.opgen_num.specs.WordLaws.{length-word}
@@ -11,6 +11,7 @@ use Rattle.opgen_net.specs.declared.cell.Class.TheVariants.{Add}
 use Rattle.opgen_net.specs.declared.net.Net.{Net}
 use Rattle.opgen_net.specs.declared.node.Node.TheVariants.{Cells, Constant, Delay}
 use Rattle.opgen_net.specs.Placed.{Placed, with_bits}
+use Rattle.opgen_net.specs.Cells.{is_sum}
 use Rattle.opgen_net.specs.Valid.{IsValid, widths, FitsNodes}
 use Rattle.opgen_net.proofs.Appending.{width-append_last}
 use Rattle.opgen_net.proofs.FlowLaws.{length-widths}
@@ -34,6 +35,10 @@ pub result-fits : (ws : List ℕ) (negative : Bool) (a b bits : ℕ) → IsWidth
     → FitsNodes ws bits (result negative a b)
 result-fits ws false a b bits wide h g = pair-fits ws Plus a b bits refl wide h g
 result-fits ws true a b bits wide h g = pair-fits ws Minus a b bits refl wide h g
+
+pub result-sum : (negative : Bool) (a b : ℕ) → IsTrue (is_sum (result negative a b))
+result-sum false a b = refl
+result-sum true a b = refl
 
 pub delayed-placed : (bits : ℕ) (sum : Placed) → IsValid sum.net → IsWidth bits → slice_index (widths sum.net.nodes) sum.place ≡ bits
     → IsPlacedNode sum.net bits (delayed sum)
@@ -75,7 +80,7 @@ module _ (p : Products) (bits : ℕ) (wide : IsWidth bits) where
         let node = Cells Add bits (result negative d.place m.place) in
         let fits = result-fits (widths m.net.nodes) negative d.place m.place bits wide (node-kept_width m made) made.width in
         record {
-          later = later-then d.net m.net (joined negative bits d.place m).net made.later (later-node m.net node made.later.valid (tt, fits) refl);
+          later = later-then d.net m.net (joined negative bits d.place m).net made.later (later-node m.net node made.later.valid (result-sum negative d.place m.place, fits) refl);
           width = width-append_last m.net.nodes node;
         }
 

@@ -40,6 +40,8 @@ use Rattle.opgen_ports.specs.Reaches.{reach_of, reach_over, rises, falls, above_
 use Rattle.opgen_ports.specs.Ports.{Recent, weighted}
 use Rattle.opgen_ports.specs.Spans.{IsOf}
 use Rattle.opgen_ports.proofs.Reached.{rises-cons, falls-cons, ceiling}
+use Rattle.opgen_ports.specs.Modes.{mode_of_exact}
+use Rattle.opgen_operator.proofs.EachMode.{fits_each_mode}
 use Rattle.opgen_ports.proofs.Widths.{some_width}
 use Rattle.opgen_graph.specs.declared.ranks.Graph.{Graph}
 use Rattle.opgen_graph.specs.Parts.{parts_of}
@@ -81,22 +83,22 @@ module _ (f : Taps) (accepted : IsAcceptedTaps f) where
   one-up (pos (suc n)) h = absurd (omega (arith, ints, h))
   one-up (negsuc n) h = omega arith
 
-  good-ratio : (exact : Bool) (x : Recent) (q : ℤ) → IsGoodLinear (weighted f.taps x) (pos (2 ^ low_bits f)) q exact
-      → IsGoodRatio exact (exact_taps f x) q
+  good-ratio : (exact : Bool) (x : Recent) (q : ℤ) → IsGoodLinear (weighted f.taps x) (pos (2 ^ low_bits f)) q (mode_of_exact exact)
+      → IsGoodRatio (mode_of_exact exact) (exact_taps f x) q
   good-ratio exact x q good =
       let top : weighted f.taps x ≡ weighted f.taps x *ℤ pos (up (sum_shift (direct f))) =
       omega (arith, ints, ap (λ n. weighted f.taps x *ℤ pos n) (one-up (sum_shift (direct f)) not-up)) in
       let bottom : pos (2 ^ low_bits f) ≡ pos 1 *ℤ pos (down (sum_shift (direct f))) = omega (arith, ints) in
-      subst (λ n. IsGoodLinear n (pos 1 *ℤ pos (down (sum_shift (direct f)))) q exact) top
-      (subst (λ d. IsGoodLinear (weighted f.taps x) d q exact) bottom good)
+      subst (λ n. IsGoodLinear n (pos 1 *ℤ pos (down (sum_shift (direct f)))) q (mode_of_exact exact)) top
+      (subst (λ d. IsGoodLinear (weighted f.taps x) d q (mode_of_exact exact)) bottom good)
 
   -- an accepted mode asks for exact outputs only where the sum is whole
-  asked-whole : (exact : Bool) → IsModeOf exact (Tfir f) → (x : Recent) → exact ≡ true → IsMultipleOf (2 ^ low_bits f) (weighted f.taps x)
+  asked-whole : (exact : Bool) → IsModeOf (mode_of_exact exact) (Tfir f) → (x : Recent) → exact ≡ true → IsMultipleOf (2 ^ low_bits f) (weighted f.taps x)
   asked-whole true mode x e = sum-whole (sum_shift (direct f)) f.taps x not-up (mode.whole refl)
   asked-whole false mode x e = absurd (cc)
 
-  pub good-floor : (exact : Bool) → IsModeOf exact (Tfir f) → (x : Recent) (q : ℤ)
-      → IsFloor (weighted f.taps x +ℤ pos (half_unit (low_bits f))) (pos (2 ^ low_bits f)) q → IsGoodRatio exact (exact_taps f x) q
+  pub good-floor : (exact : Bool) → IsModeOf (mode_of_exact exact) (Tfir f) → (x : Recent) (q : ℤ)
+      → IsFloor (weighted f.taps x +ℤ pos (half_unit (low_bits f))) (pos (2 ^ low_bits f)) q → IsGoodRatio (mode_of_exact exact) (exact_taps f x) q
   good-floor exact mode x q floor =
       good-ratio exact x q
       (floor-good (weighted f.taps x) q (2 ^ low_bits f) (half_unit (low_bits f)) (pow_pos (low_bits f)) (half-within (low_bits f)) floor
@@ -190,14 +192,14 @@ module _ (f : Taps) (accepted : IsAcceptedTaps f) (e : all_zero f.taps ≡ true)
       ∙ settled (taps_format f) 1 (word 1 0) (pos 0) (omega arith) (zeros-has 1)
       (subst (λ n. Holds (taps_format f).signed n (pos 0)) zero-width held)
 
-  pub zero-fits : (exact : Bool) → IsModeOf exact (Tfir f) → FitsOperator exact (Tfir f) zero-net
+  pub zero-fits : (exact : Bool) → IsModeOf (mode_of_exact exact) (Tfir f) → FitsOperator (mode_of_exact exact) (Tfir f) zero-net
   zero-fits exact mode = record {
     valid = valid-output zeros.net zero-output zero-later.valid
         (omega arith, omega (arith, width-append_last (with_input f.input).nodes (Constant (word 1 0))));
     inputs = refl;
     outputs = ap (λ n. (codes "y", n) ∷ []) (sym zero-width);
     good = λ inputs t words within range.
-        subst (IsGoodRatio exact (exact_taps f (recent f.input inputs (pos t)))) (sym (zero-value inputs (pos t) words))
+        subst (IsGoodRatio (mode_of_exact exact) (exact_taps f (recent f.input inputs (pos t)))) (sym (zero-value inputs (pos t) words))
         (good-floor f accepted exact mode (recent f.input inputs (pos t)) (pos 0) (zero-floor (recent f.input inputs (pos t))));
   }
 
@@ -364,7 +366,7 @@ module _ (f : Taps) (accepted : IsAcceptedTaps f) (graph : Graph) (serves : Serv
     slice-is =
         let one = some_width (in_places (reach_over f.input f.taps) (sum_shift (direct f)) (pos 1)) in omega (arith, one)
 
-    some-fits : (exact : Bool) → IsModeOf exact (Tfir f) → FitsOperator exact (Tfir f) net
+    some-fits : (exact : Bool) → IsModeOf (mode_of_exact exact) (Tfir f) → FitsOperator (mode_of_exact exact) (Tfir f) net
     some-fits exact mode = record {
       valid = some-valid;
       inputs = from-input.grown.inputs;
@@ -375,20 +377,20 @@ module _ (f : Taps) (accepted : IsAcceptedTaps f) (graph : Graph) (serves : Serv
           ap (λ (os : List Output). output_words (operator_outputs (Tfir f)) (map (λ o. slice_flow net.nodes inputs o.from (pos t)) os) 0)
           some-outputs
           ∙ value inputs (pos t) words in
-          subst (IsGoodRatio exact (exact_taps f (recent f.input inputs (pos t)))) (sym is)
+          subst (IsGoodRatio (mode_of_exact exact) (exact_taps f (recent f.input inputs (pos t)))) (sym is)
           (good-floor f accepted exact mode (recent f.input inputs (pos t)) (q inputs (pos t) words) (floor inputs (pos t) words));
     }
 
   -- ---- both
 
   pub net-fits : FitsInEachMode (Tfir f) (net_of_taps f graph)
-  net-fits exact mode = go (all_zero f.taps) refl
+  net-fits = fits_each_mode (Tfir f) (net_of_taps f graph) (λ exact mode. go exact mode (all_zero f.taps) refl)
     where
-      go : (b : Bool) → all_zero f.taps ≡ b
-          → FitsOperator exact (Tfir f)
+      go : (exact : Bool) → IsModeOf (mode_of_exact exact) (Tfir f) → (b : Bool) → all_zero f.taps ≡ b
+          → FitsOperator (mode_of_exact exact) (Tfir f)
           (if b then with_result 0 1 (zero_sum f.input) else with_result (low_bits f) (taps_format f).width (whole_sum f graph))
-      go true e = zero-fits f accepted e exact mode
-      go false e = some-fits e exact mode
+      go exact mode true e = zero-fits f accepted e exact mode
+      go exact mode false e = some-fits e exact mode
 
   pub net-sums : HasSums f graph (net_of_taps f graph)
   net-sums = go (all_zero f.taps) refl

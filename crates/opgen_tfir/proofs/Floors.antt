@@ -12,6 +12,7 @@ use Rattle.opgen_num.proofs.Quotients.{within_one}
 use Rattle.opgen_kinds.specs.Sum.{first_inexact_of}
 use Rattle.opgen_ports.specs.Reaches.{is_whole_at, up, down}
 use Rattle.opgen_ports.specs.Ports.{Recent, weighted, weighted_from}
+use Rattle.opgen_ports.specs.Modes.{mode_of_exact}
 use Rattle.opgen_ports.proofs.Reached.{neg-right}
 
 -- ---- whole multiples of a number
@@ -38,7 +39,7 @@ module _ (z q : ℤ) (m h : ℕ) (some : 0 < m) (less : h < m) (floor : IsFloor 
       let same : q ≡ t = omega (arith, ints, low, high) in
       ap (λ y. pos m *ℤ y) same ∙ e.is
 
-  pub floor-good : (exact : Bool) → (exact ≡ true → IsMultipleOf m z) → IsGoodLinear z (pos m) q exact
+  pub floor-good : (exact : Bool) → (exact ≡ true → IsMultipleOf m z) → IsGoodLinear z (pos m) q (mode_of_exact exact)
   floor-good true whole = floor-exact (whole refl)
   floor-good false whole = floor-near
 

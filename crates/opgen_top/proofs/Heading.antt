@@ -1,6 +1,6 @@
 -- The answer of `generate` carries the headline.
 use Rattle.std.proofs.Common.{◌≡◌, inl, inr, ℕ, Bool, true, false, cond, List, ◌++◌, length, Option, Some, None, Ok, Err, refl, ap, ◌∙◌, arith}
-use Rattle.std.specs.Prelude.{nat_le, option_map}
+use Rattle.std.specs.Prelude.{nat_le}
 use Rattle.opgen_command.specs.declared.command.Command.TheVariants.{Generate}
 use Rattle.opgen_io.specs.Fetched.{fetched}
 use Rattle.opgen_io.specs.Files.{Files}
@@ -8,9 +8,8 @@ use Rattle.opgen_io.specs.declared.folder.FetchFault.TheVariants as fetch
 use Rattle.opgen_operator.specs.declared.spec.Spec.{Spec}
 use Rattle.opgen_report.specs.Report.{report}
 use Rattle.opgen_document.specs.Document.{tree}
-use Rattle.opgen_spec.specs.declared.fault.SpecFault.{SpecFault}
-use Rattle.opgen_spec.specs.Faults.{fault_of, spec_or_fault, read}
-use Rattle.opgen_spec.specs.Spec.{spec_of}
+use Rattle.opgen_spec.specs.Faults.{read}
+use Rattle.opgen_spec.proofs.Readings.{read_from}
 use Rattle.opgen_target.specs.Delays.{Delays}
 use Rattle.opgen_vhdl.specs.DesignText.{text_of}
 use Rattle.opgen_vhdl.proofs.Walks.{one_design}
@@ -25,18 +24,6 @@ use Rattle.opgen_top.specs.Targets.{Device, IsTableOf}
 use Rattle.opgen_top.proofs.Planning.{circuit_in_time, circuit_is_least, circuit_sound, circuit_spells}
 use Rattle.opgen_top.proofs.Reported.{report-has_latency}
 use Rattle.opgen_top.proofs.SpecCases.{cases_of_spec}
-
--- a specification that is read is the one that the keys of a document give
-given_by : (bytes : List ℕ) (spec : Spec) → read (tree bytes) ≡ Ok spec → option_map spec_of (tree bytes) ≡ Some spec
-given_by bytes spec h = by (tree bytes) h
-  where
-    by_fault : (document : _) (fault : Option SpecFault) → spec_or_fault document fault ≡ Ok spec → spec_of document ≡ spec
-    by_fault document None e = cc
-    by_fault document (Some fault) e = absurd (cc)
-
-    by : (found : _) → read found ≡ Ok spec → option_map spec_of found ≡ Some spec
-    by None e = absurd (cc)
-    by (Some document) e = ap Some (by_fault document (fault_of document) e)
 
 -- an answer of status 0 was made from the specification in the file, and from the table of a target
 module _ (file : List ℕ) (enable : Bool) (devices : List Device) (files : Files) (a : Answer) (ok : status_of a ≡ 0) where
@@ -92,12 +79,16 @@ heading serves file workers enable devices files a after before now due ok store
     let table = made.table in
     let g = made.says in
     let planned = g.planned in
+    let from = read_from (tree made.bytes) spec made.reads in
     let spelled = circuit_spells spec table enable planned g.adders g.circuit in record {
       promise = record {
         bytes = made.bytes;
         stands = made.stands;
         spec = spec;
-        given = given_by made.bytes spec made.reads;
+        document = from.document;
+        parsed = from.parsed;
+        written = from.written;
+        valid = from.valid;
         vhdl = text_of planned.design;
         report = report spec planned g.adders;
         stores = stores ∙ ap (λ (b : Answer). Some (stored_all b.stores files)) g.answer;
@@ -122,6 +113,7 @@ heading serves file workers enable devices files a after before now due ok store
         latency_is = refl;
         vhdl_is = refl;
         report_is = refl;
+        cells = g.circuit.fitting.fits.valid;
         in_time = circuit_in_time spec table enable planned g.adders g.circuit;
         least = circuit_is_least spec table enable planned g.adders g.circuit;
       };

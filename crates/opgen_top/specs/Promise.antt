@@ -1,23 +1,28 @@
 -- What status 0 of `generate` promises of what is stored and printed, with the clock enable and without it. It mentions no
 -- recipe, net, plan or schedule.
-use Rattle.std.specs.Prelude.{ℕ, ◌≡◌, Bool, List, ◌++◌, Option, Some, codes, option_map}
+use Rattle.std.specs.Prelude.{ℕ, ◌≡◌, Bool, List, ◌++◌, Option, Some, codes}
+use Rattle.toml.specs.Data.{Members}
 use Rattle.opgen_design.specs.declared.design.Design.{Design}
 use Rattle.opgen_design.specs.Sound.{IsSound}
 use Rattle.opgen_io.specs.Files.{Files, stored}
 use Rattle.opgen_operator.specs.declared.spec.Spec.{Spec}
+use Rattle.opgen_operator.specs.Valid.{IsValidSpec}
 use Rattle.opgen_document.specs.Document.{tree}
-use Rattle.opgen_spec.specs.Spec.{spec_of}
+use Rattle.opgen_spec.specs.Written.{IsAsWritten}
 use Rattle.opgen_vhdl.specs.Spelled.{Spells}
 use Rattle.opgen_operator.specs.Serves.{Serves}
 use Rattle.opgen_top.specs.Lines.{vhdl_name, report_name, wrote_line, latency_line, HasLine}
 
 pub record Promise (file : List ℕ) (enable : Bool) (files : Files) (files_after : Option Files)
     (printed_before printed_after : Option (List ℕ)) : Type 0 where
-  -- First: the file holds a document of TOML, and the keys of the document give a specification.
+  -- First: the file holds a document of TOML. The specification has in each field what the document writes there, and is valid.
   pub bytes : List ℕ
   pub stands : files file ≡ Some bytes
+  pub document : Members
+  pub parsed : tree bytes ≡ Some document
   pub spec : Spec
-  pub given : option_map spec_of (tree bytes) ≡ Some spec
+  pub written : IsAsWritten document spec
+  pub valid : IsValidSpec spec
   -- Second: the folder has two files more, or anew, named after the specification: VHDL and a report.
   pub vhdl : List ℕ
   pub report : List ℕ

@@ -1,6 +1,7 @@
 -- How the stored circuit was made, its timing, and its texts byte for byte.
 use Rattle.std.specs.Prelude.{ℕ, ◌≡◌, Bool, List, Ok}
 use Rattle.opgen_design.specs.declared.design.Design.{Design}
+use Rattle.opgen_net.specs.Valid.{IsValid}
 use Rattle.opgen_operator.specs.declared.spec.Spec.{Spec}
 use Rattle.opgen_pipe.specs.declared.planning.Planned.{Planned}
 use Rattle.opgen_pipe.specs.Planned.{slots_of}
@@ -30,8 +31,9 @@ pub record Provenance (enable : Bool) (devices : List Device) (bytes : List ℕ)
   -- Second: the texts are those of the design and of the circuit, to the byte.
   pub vhdl_is : vhdl ≡ text_of design
   pub report_is : report_bytes ≡ report spec planned adders
-  -- Third: under that table no path of the circuit exceeds the period: each path of cells within a cycle ends the setup before
-  -- the end of the cycle.
+  -- Third: the cells of the circuit's net are what their classes say, and under that table no path of them exceeds the period:
+  -- each path of cells within a cycle ends the setup before the end of the cycle.
+  pub cells : IsValid circuit.net
   pub in_time : IsInTime spec.name enable circuit.net table spec.period (slot_at (slots_of table spec.period circuit.net)) planned
   -- Fourth: no schedule of the circuit's net that fits the period has a smaller latency.
   pub least : IsLeastLatency table spec.period circuit.net latency

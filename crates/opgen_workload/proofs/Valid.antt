@@ -90,7 +90,7 @@ module _ (n : ℕ) (some : 1 ≤ n) (few : n ≤ 32) where
       apart = All-nil (λ n. n ≢ codes "workload");
       differ = λ i j d before below. absurd (omega (arith, below));
     };
-    mode = record { agrees = refl; whole = λ bad. let no_mark : false ≡ true = bad in cc };
+    mode = record { built = tt; agrees = refl; whole = λ bad. let no_mark : false ≡ true = bad in cc };
     output = refl;
     target = (omega arith, omega arith);
     period = (omega arith, omega arith);

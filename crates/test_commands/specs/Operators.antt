@@ -7,6 +7,7 @@ use Rattle.opgen_kinds.specs.declared.single.Single.{Single}
 use Rattle.opgen_kinds.specs.declared.small_div.SmallDiv.{SmallDiv}
 use Rattle.opgen_kinds.specs.declared.sum.Sum.{Sum}
 use Rattle.opgen_kinds.specs.declared.taps.Taps.{Taps}
+use Rattle.opgen_num.specs.declared.mode.Mode.TheVariants.{Faithful}
 use Rattle.opgen_ports.specs.Good.{IsGoodRatio}
 use Rattle.opgen_kinds.specs.Horner.{poly_guard}
 use Rattle.opgen_kinds.specs.Pair.{IsGoodQuotient, quotient_ports}
@@ -84,9 +85,9 @@ pub record Operators : Type 0 where
   pub third_format : sum_format third ≡ unsigned 3 (pos 0)
   pub third_guard : guard_bits third ≡ 1
   pub third_value : exact_sum third (λ ago. pos 4) ≡ record { num = pos 4; den = pos 3 }
-  pub third_floor : IsGoodRatio false (exact_sum third (λ ago. pos 4)) (pos 1)
-  pub third_ceiling : IsGoodRatio false (exact_sum third (λ ago. pos 4)) (pos 2)
-  pub third_above : IsGoodRatio false (exact_sum third (λ ago. pos 4)) (pos 3) → ⊥
+  pub third_floor : IsGoodRatio Faithful (exact_sum third (λ ago. pos 4)) (pos 1)
+  pub third_ceiling : IsGoodRatio Faithful (exact_sum third (λ ago. pos 4)) (pos 2)
+  pub third_above : IsGoodRatio Faithful (exact_sum third (λ ago. pos 4)) (pos 3) → ⊥
   -- 10, 20 and -3, the last of them 253 as a word: 10 + 40 - 3 is 47; 10 alone has zeros before it
   pub smooth_value : exact_sum smooth (recent_numbers (one_input signed_bits) (10 ∷ 20 ∷ 253 ∷ []) 0) ≡ record { num = pos 47; den = pos 4 }
   pub smooth_start : exact_sum smooth (recent_numbers (one_input signed_bits) (10 ∷ []) 0) ≡ record { num = pos 10; den = pos 4 }
@@ -117,13 +118,13 @@ pub record Operators : Type 0 where
   pub halves_guard : poly_guard halves ≡ 3
   pub halves_format : poly_format halves ≡ unsigned 3 (negsuc 1)
   pub halves_value : exact_poly halves (pos 3) ≡ record { num = pos 84; den = pos 32 }
-  pub halves_good : IsGoodRatio false (exact_poly halves (pos 3)) (pos 2)
-  pub halves_above : IsGoodRatio false (exact_poly halves (pos 3)) (pos 4) → ⊥
+  pub halves_good : IsGoodRatio Faithful (exact_poly halves (pos 3)) (pos 2)
+  pub halves_above : IsGoodRatio Faithful (exact_poly halves (pos 3)) (pos 4) → ⊥
   -- 7, -1 and 1, the last of them first: 7 - 2 - 3 is 2; the sums go from -45 to 45
   pub taps_format_is : taps_format three_taps ≡ record { signed = true; width = 7; lsb = pos 0 }
   pub taps_value : exact_taps three_taps (recent_numbers (one_input three_taps.input) (1 ∷ 15 ∷ 7 ∷ []) 0) ≡ record { num = pos 2; den = pos 1 }
   -- 0, 7 and -1, the last of them first: 14 + 3 is 17, in steps of four 17 / 4; the sums go from -12 to 12
   pub cut_format : taps_format cut_taps ≡ record { signed = true; width = 5; lsb = pos 2 }
   pub cut_value : exact_taps cut_taps (recent_numbers (one_input cut_taps.input) (15 ∷ 7 ∷ 0 ∷ []) 0) ≡ record { num = pos 17; den = pos 4 }
-  pub cut_good : IsGoodRatio false (exact_taps cut_taps (recent_numbers (one_input cut_taps.input) (15 ∷ 7 ∷ 0 ∷ []) 0)) (pos 5)
-  pub cut_below : IsGoodRatio false (exact_taps cut_taps (recent_numbers (one_input cut_taps.input) (15 ∷ 7 ∷ 0 ∷ []) 0)) (pos 3) → ⊥
+  pub cut_good : IsGoodRatio Faithful (exact_taps cut_taps (recent_numbers (one_input cut_taps.input) (15 ∷ 7 ∷ 0 ∷ []) 0)) (pos 5)
+  pub cut_below : IsGoodRatio Faithful (exact_taps cut_taps (recent_numbers (one_input cut_taps.input) (15 ∷ 7 ∷ 0 ∷ []) 0)) (pos 3) → ⊥

@@ -1,26 +1,36 @@
 //! Tests of good roundings, quotients and roots at the limits of 128 bits, and of the least format that holds two numbers.
 use opgen_num::{
-    Format, FormatFault, cover, good_linear, good_root, is_quotient, is_root, least_width,
+    Format, FormatFault, Mode, cover, good_linear, good_root, is_quotient, is_root, least_width,
 };
 
-/// A numerator, a denominator, a rounding of the fraction, whether it has to be exact, and whether it is good.
-static FRACTIONS: [(i128, i128, i128, bool, bool); 9] = [
-    (7, 2, 4, false, true),
-    (6, 2, 4, false, false),
-    (i128::MAX, 1, i128::MAX, true, true),
-    (i128::MAX, i128::MAX, i128::MAX, false, false),
-    (i128::MIN, i128::MAX, 0, false, false),
-    (i128::MIN, i128::MAX, -1, false, true),
-    (i128::MIN, i128::MAX, -2, false, true),
-    (i128::MIN, i128::MAX, -3, false, false),
-    (i128::MIN, i128::MAX, -1, true, false),
+/// A numerator, a denominator, a number, a mode, and whether the number is good for the fraction in the mode.
+static FRACTIONS: [(i128, i128, i128, Mode, bool); 19] = [
+    (7, 2, 4, Mode::Faithful, true),
+    (6, 2, 4, Mode::Faithful, false),
+    (i128::MAX, 1, i128::MAX, Mode::Exact, true),
+    (i128::MAX, i128::MAX, i128::MAX, Mode::Faithful, false),
+    (i128::MIN, i128::MAX, 0, Mode::Faithful, false),
+    (i128::MIN, i128::MAX, -1, Mode::Faithful, true),
+    (i128::MIN, i128::MAX, -2, Mode::Faithful, true),
+    (i128::MIN, i128::MAX, -3, Mode::Faithful, false),
+    (i128::MIN, i128::MAX, -1, Mode::Exact, false),
+    (-3, 2, -2, Mode::Down, true),
+    (-3, 2, -1, Mode::Down, false),
+    (-3, 2, -1, Mode::Nearest, true),
+    (-3, 2, -2, Mode::Nearest, false),
+    (3, 2, 2, Mode::Nearest, true),
+    (29, 2, 15, Mode::Nearest, true),
+    (29, 2, 14, Mode::Down, true),
+    (i128::MIN, i128::MAX, -2, Mode::Down, true),
+    (i128::MIN, i128::MAX, -1, Mode::Nearest, true),
+    (i128::MAX, 1, i128::MAX, Mode::Nearest, true),
 ];
 
 #[test]
 fn fractions(rt: HostRuntime) {
-    for (n, m, y, exact, good) in &FRACTIONS {
+    for (n, m, y, mode, good) in &FRACTIONS {
         assert!(rt; *m > 0);
-        assert_eq!(rt; good_linear(*n, *m, *y, *exact), *good, "{n} {m} {y}");
+        assert_eq!(rt; good_linear(*n, *m, *y, *mode), *good, "{n} {m} {y}");
     }
 }
 

@@ -1,11 +1,12 @@
 """The error of each output of a run: what it lies above the exact value, in units of its last place."""
 from collections.abc import Iterator
+from dataclasses import dataclass
 from fractions import Fraction
 
 from opgenlib.drawings.example import Example, NotDrawn
-from opgenlib.exact import exact_values
+from opgenlib.exact import exact_of, exact_values
 from opgenlib.operators import Row
-from opgenlib.rows import read_rows, unit_count
+from opgenlib.rows import BadRow, read_rows, unit_count
 from opgenlib.svg import LETTER, Picture
 from opgenlib.words import reference
 
@@ -13,37 +14,69 @@ MOST_BARS = 340
 WIDTH, HEIGHT, LEFT, RIGHT, TOP = 760, 356, 52, 12, 34
 
 
+def checked_rows(example: Example, found: Iterator[Row]) -> Iterator[Row]:
+    """The rows of a run, which have to be of the operator."""
+    try:
+        yield from found
+    except BadRow as fault:
+        raise NotDrawn(f"{example.beside('.out')}, {fault}: these are no rows of {example.path.name}") from None
+
+
 def counted_rows(example: Example) -> Iterator[Row]:
     """The inputs and the outputs of each cycle that counts: with a clock enable, those in which it is 1."""
     facts, text = example.report, example.rows()
     has_enable = len(text.partition(" :")[0].split()) == len(facts.inputs) + 1
     ins = [1] * has_enable + [port.width for port in facts.inputs]
-    for entered, left in read_rows(text, ins, [port.width for port in facts.outputs]):
+    for entered, left in checked_rows(example, read_rows(text, ins, [port.width for port in facts.outputs])):
         if left is None:
             raise NotDrawn(f"{example.beside('.out')} has rows without outputs: store it by `opgen simulate`")
         if not has_enable or entered[0]:
             yield tuple(map(unit_count, entered[has_enable:], facts.inputs)), tuple(map(unit_count, left, facts.outputs))
 
 
-def errors_of(example: Example) -> Iterator[list[Fraction]]:
-    """For each cycle from the latency on the errors of its outputs, none where nothing is claimed of them."""
+@dataclass(frozen=True)
+class Found:
+    """The greatest error of each cycle of which something is claimed and that does not saturate, and how many cycles do."""
+
+    errors: list[Fraction]
+    saturated: int
+
+    @property
+    def count_text(self) -> str:
+        """Over how many rows the errors are, where some saturate."""
+        return f"{len(self.errors)} of {len(self.errors) + self.saturated} rows, those that do not saturate" if self.saturated else ""
+
+
+def errors_of(example: Example) -> Iterator[tuple[list[Fraction], bool]]:
+    """For each cycle from the latency on the errors of its outputs, none where nothing is claimed of them, and whether it saturates."""
     rows, latency = list(counted_rows(example)), example.report.latency
-    exact = exact_values(example.spec, example.report.outputs)
+    exact, unlimited = exact_values(example.spec, example.report.outputs), exact_of(example.spec)
     inputs = [entered for entered, _ in rows]
     for cycle in range(latency, len(rows)):
         wanted = exact(inputs, cycle - latency)
-        yield [] if wanted is None else [found - value for found, value in zip(rows[cycle][1], wanted)]
+        saturates = "out_width" in example.spec and wanted != unlimited(inputs, cycle - latency)
+        yield [] if wanted is None else [found - value for found, value in zip(rows[cycle][1], wanted)], saturates
+
+
+def measured(example: Example) -> Found:
+    """The errors of a run, each of which has to be below one unit."""
+    rows = [(max(errors, key=abs), saturates) for errors, saturates in errors_of(example) if errors]
+    if not rows:
+        raise NotDrawn(f"{example.beside('.out')} has no row from the latency on")
+    worst = next((at for at, (error, _) in enumerate(rows) if abs(error) >= 1), None)
+    if worst is not None:
+        raise NotDrawn(f"output {worst} is off by {float(rows[worst][0]):.3g} units: are these rows of this specification?")
+    return Found([error for error, saturates in rows if not saturates], sum(saturates for _, saturates in rows))
 
 
 def found_errors(example: Example) -> list[Fraction]:
-    """The greatest error of each cycle of which something is claimed."""
-    found = [max(errors, key=abs) for errors in errors_of(example) if errors]
-    if not found:
-        raise NotDrawn(f"{example.beside('.out')} has no row from the latency on")
-    worst = next((at for at, error in enumerate(found) if abs(error) >= 1), None)
-    if worst is not None:
-        raise NotDrawn(f"output {worst} is off by {float(found[worst]):.3g} units: are these rows of this specification?")
-    return found
+    """The greatest error of each cycle of which something is claimed and that does not saturate."""
+    return measured(example).errors
+
+
+def ulp_text(value: Fraction) -> str:
+    """An error below one unit with three places, or as many as tell it from one unit."""
+    return next(text for places in range(3, 40) if abs(Fraction(text := f"{float(value):.{places}f}")) < 1)
 
 
 def spans(found: list[Fraction]) -> list[tuple[float, float]]:
@@ -80,13 +113,18 @@ def draw_axis(picture: Picture, middle: float, unit: float) -> None:
         picture.text(LEFT - 6, y + 4, name, "end")
 
 
-def error(example: Example) -> Picture:
-    name, found = example.spec["name"], found_errors(example)
+def error(example: Example, has_command: bool = True) -> Picture:
+    """The errors of a run, below them the command that stored its rows, if they are there to stay."""
+    name, run = example.spec["name"], measured(example)
+    found = run.errors
+    if not found:
+        raise NotDrawn("every row saturates, so that there is no error to draw")
     bars, each = spans(found), -(-len(found) // MOST_BARS)
     command = f"opgen simulate {name}.vhd {name}.in {name}.out"
     picture = Picture(max(WIDTH, LETTER * len(command) + 16), HEIGHT)
     what = "Error of each output" if each == 1 else f"Least and greatest error of each {each} outputs"
-    picture.text(8, 16, f"{what}, from {exact_text(example.spec)}")
+    rows = f", over {run.count_text}" if run.saturated else ""
+    picture.text(8, 16, f"{what}, from {exact_text(example.spec)}{rows}")
     step, unit = (WIDTH - LEFT - RIGHT) / len(bars), (HEIGHT - TOP - 72) / 2
     middle = TOP + unit
     draw_axis(picture, middle, unit)
@@ -95,7 +133,8 @@ def error(example: Example) -> Picture:
         picture.rect(LEFT + place * step, middle - greatest * unit, max(step * 0.7, 1), high, "steelblue")
     picture.text((LEFT + WIDTH - RIGHT) / 2, HEIGHT - 50, f"cycle, from the latency on ({len(found)} cycles)", "middle")
     weight = example.report.outputs[0].lsb
-    ends = f"From {float(min(found)):.3f} to {float(max(found)):.3f} ulp; an ulp is 2^{weight}, the output's last place"
+    ends = f"From {ulp_text(min(found))} to {ulp_text(max(found))} ulp; an ulp is 2^{weight}, the output's last place"
     picture.text(8, HEIGHT - 28, f"{ends}. Dashed: the proved bound.")
-    picture.text(8, HEIGHT - 8, command)
+    if has_command:
+        picture.text(8, HEIGHT - 8, command)
     return picture

@@ -1,4 +1,5 @@
 """The schedule of a circuit: its cells in their cycles, and the registers between."""
+import re
 from collections.abc import Callable
 from dataclasses import dataclass
 
@@ -18,6 +19,10 @@ MOST_CELLS, MOST_ROWS, MOST_CYCLES = 60, 44, 8
 WIDE, LEAST_WIDE, ROW, TOP, BELOW = 790, 400, 18, 52, 34
 
 
+# The words of a digit's cell.
+DIGIT = re.compile(r"digit (\d+): (.*)")
+
+
 @dataclass(frozen=True)
 class Slot:
     """Where a node is: its cycle, when it starts and ends, and its cell; none of an input or a delay."""
@@ -30,10 +35,15 @@ class Slot:
 
 @dataclass(frozen=True)
 class Bar:
-    """A row of the drawing: one node, or several of the same cell at the same time."""
+    """A row of the drawing: one node, or several of the same cell at the same time; of digits that do the same, those of each."""
 
     words: str
     slot: Slot
+    others: tuple[Slot, ...] = ()
+
+    @property
+    def slots(self) -> tuple[Slot, ...]:
+        return (self.slot, *self.others)
 
 
 def delays(spec: dict) -> Callable[[str, int], int]:
@@ -114,17 +124,46 @@ def bars_of(slots: dict[str, Slot], parts: dict[str, Part]) -> list[Bar]:
     return sorted(bars, key=lambda bar: (bar.slot.cycle, bar.slot.start, bar.slot.end))
 
 
+def ranges_text(numbers: list[int]) -> str:
+    """Numbers as ranges from the greatest down: `29..20, 17`."""
+    found: list[list[int]] = []
+    for number in sorted(numbers, reverse=True):
+        if found and found[-1][1] == number + 1:
+            found[-1][1] = number
+        else:
+            found.append([number, number])
+    return ", ".join(f"{first}..{last}" if first != last else str(first) for first, last in found)
+
+
+def merged(bars: list[Bar]) -> list[Bar]:
+    """The bars in their order, but digits that do the same in one row: `digit 29..0: subtract`."""
+    rows: dict[str, list[Bar]] = {}
+    for bar in bars:
+        digit = DIGIT.fullmatch(bar.words)
+        rows.setdefault(digit[2] if digit else bar.words, []).append(bar)
+    found = []
+    for what, row in rows.items():
+        digits = [int(digit[1]) for bar in row if (digit := DIGIT.fullmatch(bar.words))]
+        words = f"digit {ranges_text(digits)}: {what}" if digits else what
+        if len(digits) == len(row):
+            found.append(Bar(words, row[0].slot, tuple(bar.slot for bar in row[1:])))
+        else:
+            found += row
+    return found
+
+
 def panels_of(bars: list[Bar], latency: int) -> list[tuple[range, list[Bar]]]:
     """The cycles and the bars of each panel: one for a few cycles, else several of some cycles and some bars each."""
     panels: list[tuple[range, list[Bar]]] = []
     count = -(-(latency + 1) // MOST_CYCLES)
     ends = [(latency + 1) * at // count for at in range(count + 1)]
     for first, end in zip(ends, ends[1:]):
-        inside = [bar for bar in bars if bar.slot.cycle in range(first, end)]
+        inside = merged([bar for bar in bars if bar.slot.cycle in range(first, end)])
         parts = -(-len(inside) // MOST_ROWS)
         for at in range(parts):
             part = inside[len(inside) * at // parts : len(inside) * (at + 1) // parts]
-            seen = range(first, end) if parts == 1 else range(part[0].slot.cycle, part[-1].slot.cycle + 1)
+            inner = [slot.cycle for bar in part for slot in bar.slots]
+            seen = range(first, end) if parts == 1 else range(min(inner), max(inner) + 1)
             panels.append((seen, part))
     return panels or [(range(latency + 1), [])]
 
@@ -178,9 +217,10 @@ def draw_guides(picture: Picture, axis: Axis, bars: list[Bar]) -> None:
 
 def draw_bars(picture: Picture, axis: Axis, bars: list[Bar]) -> None:
     for row, bar in enumerate(bars):
-        slot, y = bar.slot, axis.top + row * ROW
-        x = axis.x(slot.cycle, slot.start)
-        picture.rect(x, y + 3, max(axis.x(slot.cycle, slot.end) - x, 1), ROW - 5, COLORS[slot.cell[0]])
+        y = axis.top + row * ROW
+        for slot in bar.slots:
+            x = axis.x(slot.cycle, slot.start)
+            picture.rect(x, y + 3, max(axis.x(slot.cycle, slot.end) - x, 1), ROW - 5, COLORS[slot.cell[0]])
         picture.text(axis.left - 8, y + ROW - 5, bar.words, "end")
 
 

@@ -16,6 +16,8 @@ def of_line(call: Call, line: str, run: Runner | None) -> list[str]:
     match what:
         case "specification" if "SPEC" in call.words:
             return specification.explain(call.words["SPEC"], fault)
+        case "vhdl" if vhdl.is_verilog(call.words["VHDL"]):
+            return vhdl.explain_verilog(call.command, call.words["VHDL"])
         case "vhdl" if fault == ["Ports"]:
             return vhdl.explain_ports(call.words["VHDL"], call.words["SPEC"])
         case "vhdl":

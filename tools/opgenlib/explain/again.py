@@ -6,6 +6,7 @@ from collections.abc import Callable
 from pathlib import Path
 
 from ..commands import FILES, Call
+from ..running import process
 
 MOST_SECONDS = 60
 # What runs the program: the command, its words and its options to the status, what is printed, and what is stored as OUT.
@@ -20,14 +21,13 @@ def runner_of(program: str) -> Runner:
 
     def run(command: str, words: list[str], options: list[str]) -> tuple[int, str, str]:
         with tempfile.TemporaryDirectory(prefix="opgen-explain-") as folder:
-            streams = {"stdin": subprocess.DEVNULL, "stdout": subprocess.PIPE, "stderr": subprocess.DEVNULL}
             try:
                 called = [os.path.abspath(program), command, *options, "--", *words]
-                done = subprocess.run(called, cwd=folder, timeout=MOST_SECONDS, **streams)
+                done = process(called, MOST_SECONDS, cwd=folder)
             except subprocess.TimeoutExpired:
                 return TOO_LONG, "", ""
             stored = Path(folder) / STORED
-            return done.returncode, done.stdout.decode(), stored.read_text() if stored.exists() else ""
+            return done.returncode, done.stdout, stored.read_text() if stored.exists() else ""
 
     return run
 

@@ -1,6 +1,7 @@
 """Explains why a file cannot be read or written, is too long, or takes too much memory."""
 import os
 import resource
+import select
 import stat
 from pathlib import Path
 
@@ -25,7 +26,8 @@ def cannot_open(file: str) -> str:
 def read_fault(call: Call) -> list[str]:
     for _, file in call.inputs:
         if why := cannot_open(file):
-            return [f"cannot open {file}: {why}"]
+            hint = "; - is no standard input here: write /dev/stdin" if file == "-" else ""
+            return [f"cannot open {file}: {why}{hint}"]
     names = ", ".join(file for _, file in call.inputs)
     return [f"cannot read {names}: each can be opened now; try again"]
 
@@ -72,8 +74,19 @@ def cannot_write(file: str) -> str:
         return "the disk is read only"
     if os.statvfs(folder).f_bavail == 0:
         return "the disk is full"
+    if why := no_free_name(path):
+        return why
     limit = resource.getrlimit(resource.RLIMIT_FSIZE)[0]
     return f"files are limited to {limit:,} bytes (ulimit -f)" if limit != resource.RLIM_INFINITY else ""
+
+
+def no_free_name(path: Path) -> str:
+    """Whether each name that a store gives its new file is taken, as by runs that were killed; nothing where one is free."""
+    target = Path(os.path.realpath(path))
+    new = "." + target.name.encode()[:240].decode(errors="ignore") + ".opgen-"
+    if all(os.path.lexists(target.with_name(f"{new}{number}")) for number in range(1, 101)):
+        return f"its new file has no free name: remove {new}1 to {new}100 in {target.parent}, which killed runs have left"
+    return ""
 
 
 def write_fault(call: Call) -> list[str]:
@@ -89,12 +102,21 @@ def write_fault(call: Call) -> list[str]:
     return [f"cannot write {' or '.join([*names, 'the line'])}: {said}"]
 
 
+def is_left_pipe() -> bool:
+    """Whether standard output is a pipe that nothing reads any more."""
+    poll = select.poll()
+    poll.register(1, 0)
+    return any(event & select.POLLERR for _, event in poll.poll(0))
+
+
 def output_fault() -> str:
     """Why the line cannot be written."""
     try:
         found = os.fstat(1)
     except OSError:
         return "cannot write the line: standard output is closed"
+    if stat.S_ISFIFO(found.st_mode) and is_left_pipe():
+        return "cannot write the line: what reads standard output has closed the pipe"
     if stat.S_ISCHR(found.st_mode) and found.st_rdev == os.makedev(1, 7):
         return "cannot write the line: standard output is /dev/full"
     if stat.S_ISREG(found.st_mode) and os.fstatvfs(1).f_bavail == 0:

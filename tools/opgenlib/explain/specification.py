@@ -6,24 +6,33 @@ from pathlib import Path
 from typing import Any
 
 from .. import schema
+from ..keys import table as keys
+from ..keys.phrases import ends, versions_text
+from ..nearest import meant
 from ..places import Place
-from ..specification import SHIFTS, NotToml, Specification, load, most_signal, shift_of
-from ..terms import MOST_TOTAL, Term, terms_of, total_bits
+from ..specification import NotToml, Specification, TooDeep, load, shift_of, short
+from ..terms import Term, terms_of, total_bits
+from .instead import instead_of_divisor, instead_of_kind
 
-MOST_WRITTEN = 40
-NAME_RULE = "1 to 32 of small letters, digits and single _, a letter first"
+NAME_RULE = f"{ends(keys.read().keys['name'].ranges[0]['bytes'])} of small letters, digits and single _, a letter first"
 # Of a decimal text.
 MOST_DIGITS = 9
+# Periods below are likely to be meant in nanoseconds.
+MOST_NS = 100
+# No longer text is taken for a number.
+MOST_LETTERS = 1000
+# The units of keys that are times.
+UNITS = {key.name: key.row["unit"] for key in keys.read().all_keys if key.row.get("unit") == "picoseconds"}
+# What a key is called elsewhere, of which no operator has any.
+NO_KEYS = {
+    "reset": "no operator has a reset: its registers begin with the words of inputs of 0, and none depends on itself",
+    "enable": "a clock enable is an option: opgen generate SPEC --enable",
+}
 TYPES = {bool: "a truth value", int: "a whole number", float: "a float", str: "a text", list: "an array", dict: "a table"}
 
 
 def type_name(value: Any) -> str:
     return TYPES.get(type(value), "a date or time")
-
-
-def short(text: str) -> str:
-    line = text.split("\n")[0]
-    return line if line == text and len(line) <= MOST_WRITTEN else f"{line[:MOST_WRITTEN]}.."
 
 
 def line_name(array: str, line: int) -> str:
@@ -41,6 +50,7 @@ class Explainer:
 
     def __init__(self, file: str, specification: Specification) -> None:
         self.file, self.spec, self.table = file, specification, specification.table
+        self.keys = keys.read()
 
     def at(self, place: Place | None) -> str:
         """The file, with the place if that is known."""
@@ -98,8 +108,11 @@ class Explainer:
         place = self.spec.key_place(key)
         known = [one for one in schema.keys_of(self.table) if one != key]
         its = "its keys" if self.of_kind else "the keys"
-        yield f'{self.at(place)}: unknown key "{key}"{self.of_kind}; {its} are {", ".join(known)}'
-        if later := next((table["version"] for table in self.newer() if key in schema.keys_of(table)), None):
+        near = "" if key in NO_KEYS or key in schema.SCHEMA["properties"] else meant(key, known)
+        yield f'{self.at(place)}: unknown key "{short(key)}"{self.of_kind};{near} {its} are {", ".join(known)}'
+        if key in NO_KEYS:
+            yield f"  {NO_KEYS[key]}"
+        elif later := next((table["version"] for table in self.newer() if key in schema.keys_of(table)), None):
             yield f"  {key} is a key of version {later}: take it out, or write version = {later}"
         elif others := schema.kinds_with(key):
             yield f"  {key} is a key of {', '.join(others)}: take it out, or change kind"
@@ -108,8 +121,9 @@ class Explainer:
         """An unknown key of a table of an array, both by their places from 0."""
         key = sorted(self.table[array][line], key=str.encode)[at]
         place = self.spec.key_place(array, line, key)
-        known = ", ".join(schema.TABLES[array]["properties"])
-        return f'{self.at(place)}: unknown key "{key}" of {line_name(array, line + 1)}; its keys are {known}'
+        known = list(schema.TABLES[array]["properties"])
+        found = f'unknown key "{short(key)}" of {line_name(array, line + 1)}'
+        return f"{self.at(place)}: {found};{meant(key, known)} its keys are {', '.join(known)}"
 
     def missing_key(self, key: str, line: int = 0) -> Iterator[str]:
         if line:
@@ -136,7 +150,16 @@ class Explainer:
         except (OSError, NotToml):
             return ""
 
+    def is_of_closed(self, key: str) -> bool:
+        """Whether a key of the document is judged by the closed version alone."""
+        kind, found = self.table.get("kind"), self.keys.keys.get(key)
+        is_kind = isinstance(kind, str) and kind in self.keys.kinds
+        return not self.is_version() and (found is None or is_kind and found.use(kind, self.version) is None)
+
     def wrong_type(self, key: str, line: int = 0) -> Iterator[str]:
+        if not line and self.is_of_closed(key):
+            yield from self.bad_version(self.table["version"])
+            return
         path, rules = self.path(key, line), self.rules(key, line)
         value = self.line_table(key, line)[key]
         if key == "denominator" and type(value) is int:
@@ -145,7 +168,7 @@ class Explainer:
             return
         if key == "out_signed" and type(value) is bool:
             yield f"{self.at(self.spec.key_place(*path))}: out_signed is there without out_width"
-            yield "  write out_width too, 2 to 96, or take out_signed out"
+            yield f"  write out_width too, {schema.bounds(schema.rules_of('out_width', self.table))}, or take out_signed out"
             return
         expected = schema.expected(rules)
         if isinstance(value, list) and (index := self.wrong_element(value, rules)) is not None:
@@ -156,9 +179,14 @@ class Explainer:
             hint = self.instead(value, rules, self.written(*path))
         written = self.written(*path)
         found = f"{written}, {type_name(value)}" if written else type_name(value)
+        if key in UNITS:
+            expected = expected.replace("number", f"number of {UNITS[key]}", 1)
         yield f"{self.at(self.spec.value_place(*path))}: {name} is {found}; expected {expected}{hint}"
         if key == "coefficients" and isinstance(value, str):
             yield from decimal_fault(value)
+        if key in ("coefficients", "taps", "constants") and isinstance(value, float):
+            option = "" if key == "coefficients" else f" --key {key}"
+            yield f"  {schema.command('rows')} coefficients{option} FILE.csv writes real numbers as whole ones"
 
     def wrong_element(self, items: list, rules: dict) -> int | None:
         """The first element that is not of the form which the first has, or of none."""
@@ -186,7 +214,7 @@ class Explainer:
     def bad_version(self, found: int) -> Iterator[str]:
         expected = schema.expected(schema.SCHEMA["properties"]["version"])
         yield f"{self.at(self.spec.value_place('version'))}: version is {found}; expected {expected}"
-        yield f"  {schema.SCHEMA['properties']['version']['description']}"
+        yield f"  {versions_text(self.keys)}"
 
     def bad_name(self) -> Iterator[str]:
         name = self.table["name"]
@@ -198,9 +226,14 @@ class Explainer:
     def bad_kind(self) -> Iterator[str]:
         kinds = schema.rules_of("kind", self.table).get("enum", schema.kinds())
         kind = self.table["kind"]
-        yield f"{self.at(self.spec.value_place('kind'))}: kind is {self.written('kind')}; expected one of {', '.join(kinds)}"
-        if first := next((table["version"] for table in self.newer() if kind in schema.rules_of("kind", table)["enum"]), None):
+        first = next((table["version"] for table in self.newer() if kind in schema.rules_of("kind", table)["enum"]), None)
+        near = meant(kind, schema.kinds()) if not first else ""
+        found = f"kind is {self.written('kind')}"
+        yield f"{self.at(self.spec.value_place('kind'))}: {found};{near} expected one of {', '.join(kinds)}"
+        if first:
             yield f"  kind {kind} asks for version = {first}"
+        elif instead := instead_of_kind(kind):
+            yield f"  {instead}"
 
     def out_of_range(self, key: str, *numbers: int) -> Iterator[str]:
         line, found = numbers if len(numbers) == 2 else (0, numbers[0])
@@ -221,9 +254,13 @@ class Explainer:
             yield from self.text_out_of_range(name, value, rules, found, spot)
             return
         expected = schema.bounds(rules)
-        yield f"{self.at(spot)}: {name} is {found}" + (f"; expected {expected}{self.later_bounds(key, expected)}" if expected else "")
+        unit = f" {UNITS[key]}" if key in UNITS else ""
+        wanted = f"; expected {expected}{unit}{self.later_bounds(key, expected)}" if expected else ""
+        yield f"{self.at(spot)}: {name} is {found}{wanted}"
         if not line and is_lsb(key):
             yield from way_round(self.table)
+        if key == "divisor" and (instead := instead_of_divisor(found, rules["maximum"])):
+            yield f"  {instead}"
         if "maximum" in rules and key.startswith("width") and self.version == 1 and found > rules["maximum"]:
             most = schema.rules_of(key, self.table | {"version": 2})["maximum"]
             if found <= most:
@@ -244,8 +281,9 @@ class Explainer:
         length = len(value.encode())
         if words:
             yield f'{self.at(place)}: {name} is "{short(value)}"; expected one of {words}'
-        if length == found and length not in range(1, 33):
-            yield f"{'  ' if words else self.at(place) + ': '}{name} has {length} bytes; expected 1 to 32"
+        least, most = self.keys.keys["target"].limits(None, self.version, {}).bytes
+        if length == found and not least <= length <= most:
+            yield f"{'  ' if words else self.at(place) + ': '}{name} has {length} bytes; expected {least} to {most}"
 
     def port_out_of_range(self, key: str, line: int, name: str) -> Iterator[str]:
         """A name of an input that is refused, or a name that no input has."""
@@ -282,7 +320,8 @@ class Explainer:
                 yield from self.without_search(key, items)
                 return
         if key == "taps" and found == len(odd_parts(items)):
-            yield f"{self.at(place)}: taps have {found} different odd parts; expected at most 8"
+            most = self.keys.keys[key].limits(self.table.get("kind"), self.version, self.table).odd_parts
+            yield f"{self.at(place)}: taps have {found} different odd parts; expected at most {most}"
             yield from self.without_search(key, items)
             return
         yield f"{self.at(place)}: {key} is out of range: {found}"
@@ -365,8 +404,10 @@ class Explainer:
     def term_coarse(self, shift: int) -> Iterator[str]:
         """The first term of a sum of products that is too far from the output's last place."""
         term = next(term for term in terms_of(self.table) if term.shift == shift)
-        formula = {"scaled": "lsb - out_lsb", "product": "lsb of a + lsb of b - out_lsb", "offset": "-out_lsb"}[term.key]
-        yield f"{self.at(self.term_place(term))}: {formula} is {shift} for the term {term.words}; expected -48 to 48"
+        sop = self.keys.kinds["sop"]
+        formula = re.sub(r"lsb_([ab])", r"lsb of \1", sop.row["term_shift"][term.key])
+        least, most = sop.shift_ends(self.version, "term_shifts")
+        yield f"{self.at(self.term_place(term))}: {formula} is {shift} for the term {term.words}; expected {least} to {most}"
         yield f"  {'raise' if shift > 0 else 'lower'} out_lsb, now {self.table['out_lsb']}, or bring the lsb of the inputs nearer to it"
 
     def coarse(self, shift: int) -> Iterator[str]:
@@ -374,31 +415,34 @@ class Explainer:
             yield from self.term_coarse(shift)
             return
         place = self.spec.value_place("out_lsb")
-        formula, limits = SHIFTS.get(self.table.get("kind", ""), ("", {}))
+        kind = self.keys.kinds.get(self.table.get("kind", ""))
         if shift_of(self.table) != shift or not self.is_version():
             yield f"{self.at(place)}: the places of input and output are too far apart: the shift is {shift}"
             return
-        least, most = limits[self.version]
+        least, most = kind.shift_ends(self.version)
         now = self.table["out_lsb"]
-        yield f"{self.at(place)}: {formula} is {shift}; expected {least} to {most}{self.for_kind}"
+        yield f"{self.at(place)}: {kind.row['shift']} is {shift}; expected {least} to {most}{self.for_kind}"
         yield f"  {'raise' if shift > most else 'lower'} out_lsb, now {now}, or bring the lsb of the input nearer to it"
 
     def too_wide(self, need: int) -> Iterator[str]:
-        if self.table.get("kind") == "sop" and need > MOST_TOTAL and need == total_bits(self.table):
-            yield f"{self.file}: a term and its places would need {need} bits; expected at most {MOST_TOTAL}"
+        most_total = self.keys.kinds["sop"].row["most_total"]
+        if self.table.get("kind") == "sop" and need > most_total and need == total_bits(self.table):
+            yield f"{self.file}: a term and its places would need {need} bits; expected at most {most_total}"
             yield "  fewer bits of input, lowest bits nearer to each other, or smaller coefficients"
             return
-        most = most_signal(self.version)
+        most = self.keys.most_signal(self.version)
         yield f"{self.file}: a signal would need {need} bits; expected at most {most} in version {self.version}"
         parts = "terms" if self.table.get("kind") == "sop" else "coefficients"
         ways = f"fewer bits of input, fewer {parts}, or a higher out_lsb"
-        more = f"version = 2, which has {most_signal(2)}; or " if self.version == 1 and need <= most_signal(2) else ""
+        wider = next((one for one in self.keys.versions if one > self.version and need <= self.keys.most_signal(one) > most), None)
+        more = f"version = {wider}, which has {self.keys.most_signal(wider)}; or " if wider else ""
         yield f"  {more}{ways}"
 
     def unknown_target(self) -> Iterator[str]:
         place = self.spec.value_place("target")
         targets = schema.SCHEMA["properties"]["target"]["enum"]
-        yield f"{self.at(place)}: target is {self.written('target')}; expected one of {', '.join(targets)}"
+        found = f"target is {self.written('target')};{meant(self.table['target'], targets)}"
+        yield f"{self.at(place)}: {found} expected one of {', '.join(targets)}"
         lines = schema.shown("templates/delay.toml")
         yield f'  for a device write target = "plain" and its delays as [[delay]] lines, as {lines} has them'
 
@@ -410,7 +454,8 @@ class Explainer:
     def period_too_short(self, need: int) -> Iterator[str]:
         place, period = self.spec.value_place("period"), self.table["period"]
         yield f"{self.at(place)}: period {period} is too short: the slowest cell and the setup time need {need} ps"
-        yield f"  write period = {need} or more, or make the operator narrower"
+        ns = f" (in picoseconds: {period} ns is period = {period}000)" if period < MOST_NS else ""
+        yield f"  write period = {need} or more{ns}, or make the operator narrower"
 
     def too_large(self) -> Iterator[str]:
         yield f"{self.file}: the design would have more than 65,536 signals"
@@ -446,7 +491,7 @@ def way_round(table: dict[str, Any]) -> Iterator[str]:
 
 def decimal_fault(text: str) -> Iterator[str]:
     """Which limit of decimal texts a text breaks, and how the number is written within them."""
-    if not re.fullmatch(r"[+-]?([0-9]+\.?[0-9]*|\.[0-9]+)([eE][+-]?[0-9]{1,3})?", text):
+    if len(text) > MOST_LETTERS or not re.fullmatch(r"[+-]?([0-9]+\.?[0-9]*|\.[0-9]+)([eE][+-]?[0-9]{1,3})?", text):
         yield "  a decimal text is an optional -, digits, and optionally a point and digits"
         return
     digits = sum(map(str.isdigit, re.split("[eE]", text)[0]))
@@ -515,6 +560,8 @@ def why_bad(name: str, rule: dict, others: str) -> str:
 def explain_not_toml(file: str, path: Path) -> list[str]:
     try:
         load(path)
+    except TooDeep as fault:
+        return [f"{file}:{fault.place}: no TOML, or {fault.what}"]
     except NotToml as fault:
         where = f"{file}:{fault.place}" if fault.place else file
         if fault.what:
@@ -550,6 +597,8 @@ def explain(file: str, fault: list[str]) -> list[str]:
     fields = [int(word) if re.fullmatch(r"-?[0-9]+", word) else word for word in fault[1:]]
     try:
         specification = load(path)
+    except TooDeep as fault:
+        return [f"{file}:{fault.place}: {fault.what}"]
     except NotToml:
         return [f"{file}: no closer look, as Python reads TOML 1.0 and this document has what TOML 1.1 alone has"]
     return list(FAULTS[fault[0]](Explainer(file, specification), *fields))

@@ -1,17 +1,22 @@
 """Explains the faults of VHDL: which piece, token, port, signal or statement is meant, and what to write instead."""
 import re
-from collections.abc import Callable, Iterator
+from collections import deque
+from collections.abc import Callable, Iterable, Iterator
 from pathlib import Path
 
-from .. import report
+from .. import report, schema
 from ..operators import NoOperator, ports_of
-from ..schema import shown
 from ..specification import NotToml, load
 from ..vhdl import END, OPERATORS, Design, Driver, NoToken, NotRead, Port, Reader, Token, Use, entity_of, width_in
 
-MANUAL = f'{shown("docs/MANUAL.md")}, "Write VHDL for simulate"'
+MANUAL = f'{schema.shown("docs/MANUAL.md")}, "Write VHDL for simulate"'
 MOST_BYTES = 8 << 20  # beyond, a text takes this reader too long
 MOST_WRITTEN = 30
+# What Verilog begins with, behind comments and directives, within the first bytes of a file.
+VERILOG = re.compile(rb"(?:\s+|//[^\n]*\n|/\*.*?\*/|`[^\n]*\n)*(?:module|package|interface)\s+\w+\s*[(#;]", re.DOTALL)
+MOST_HEAD = 1 << 16
+# Names of a way, or widths of operands, that are shown.
+MOST_LISTED = 8
 
 # What to write in place of what the subset does not have, by its word.
 INSTEAD = {
@@ -74,6 +79,15 @@ NO_TOKEN: list[tuple[str, str]] = [
 def short(text: str) -> str:
     text = " ".join(text.split())
     return text if len(text) <= MOST_WRITTEN else f"{text[:MOST_WRITTEN]}.."
+
+
+def listed(items: Iterable, mark: str = ", ") -> str:
+    """Items with a mark between them, of many the first and the last ones."""
+    words = [short(str(item)) for item in items]
+    if len(words) > MOST_LISTED:
+        half = MOST_LISTED // 2
+        words = [*words[:half], f"({len(words) - 2 * half:,} more)", *words[-half:]]
+    return mark.join(words)
 
 
 class Explainer:
@@ -250,6 +264,8 @@ class Unsound:
         self.at, self.design = explainer.at, design
         self.ports = {port.name: port for port in reversed(design.ports)}
         self.signals = {signal.name: signal for signal in reversed(design.signals)}
+        self.port_widths = {name: port.width for name, port in self.ports.items()}
+        self.signal_widths = {name: signal.width for name, signal in self.signals.items()}
 
     def explain(self, rule: int, item: int) -> Iterator[str]:
         if item == 0:
@@ -318,8 +334,7 @@ class Unsound:
         yield f"{self.at(declared.at)}: {bits}, and its initial value {found}; write as many"
 
     def width(self, expr: tuple) -> int | None:
-        signals = {name: signal.width for name, signal in self.signals.items()}
-        return width_in(expr, signals, {name: port.width for name, port in self.ports.items()})
+        return width_in(expr, self.signal_widths, self.port_widths)
 
     def mismatch(self, expr: tuple) -> str:
         """Which operands of an expression disagree, or which slice is outside."""
@@ -333,7 +348,7 @@ class Unsound:
                     return inner
                 widths = [self.width(operand) for operand in operands]
                 if operator != "&" and len(set(widths)) > 1:
-                    return f"the operands of `{operator}` have {', '.join(map(str, widths))} bits; expected one width"
+                    return f"the operands of `{operator}` have {listed(widths)} bits; expected one width"
         return ""
 
     def widths(self, driver: Driver) -> Iterator[str]:
@@ -383,8 +398,8 @@ class Unsound:
 
     def cyclic(self, driver: Driver) -> Iterator[str]:
         way = self.way_back(driver.to)
-        through = f": {' <- '.join(way)}" if way else ""
-        yield f"{self.at(driver.at)}: `{driver.to}` depends on itself without a register between{through}"
+        through = f": {listed(way, ' <- ')}" if way else ""
+        yield f"{self.at(driver.at)}: `{short(driver.to)}` depends on itself without a register between{through}"
         yield "  put a register into the loop"
 
     def way_back(self, start: str) -> list[str]:
@@ -393,16 +408,21 @@ class Unsound:
         for driver in self.design.drivers:
             if driver.kind not in ("register", "output"):
                 reads[driver.to] = [use.name for use in driver.uses if not use.is_port]
-        ways, met = [[start]], set()
-        while ways:
-            way = ways.pop(0)
-            for name in reads.get(way[-1], []):
-                if name == start:
-                    return [*way, start]
+        # The name by which each name was met first.
+        met: dict[str, str] = {}
+        ways = deque([start])
+        while ways and start not in met:
+            reader = ways.popleft()
+            for name in reads.get(reader, []):
                 if name not in met:
-                    met.add(name)
-                    ways.append([*way, name])
-        return []
+                    met[name] = reader
+                    ways.append(name)
+        if start not in met:
+            return []
+        way = [start]
+        while len(way) == 1 or way[-1] != start:
+            way.append(met[way[-1]])
+        return way[::-1]
 
     def output_read(self, driver: Driver) -> Iterator[str]:
         for use in driver.uses:
@@ -443,6 +463,23 @@ FAULTS: dict[str, Callable[..., Iterator[str]]] = {
     "TooLarge": Explainer.too_large,
     "Unsound": Explainer.unsound,
 }
+
+
+def is_verilog(file: str) -> bool:
+    """Whether a file is Verilog: by its name, or by what it begins with."""
+    if Path(file).suffix.lower() in (".v", ".sv", ".vh", ".svh"):
+        return True
+    with open(file, "rb") as opened:
+        return bool(VERILOG.match(opened.read(MOST_HEAD)))
+
+
+def explain_verilog(command: str, file: str) -> list[str]:
+    """That a file is Verilog, and what judges it."""
+    rows = "let its simulator write rows `inputs : outputs`"
+    return [
+        f"{file}: this is Verilog, and `{command}` reads VHDL ({MANUAL})",
+        f"  {rows}, one for each cycle, which {schema.command('rows')} judge SPEC ROWS --latency L judges",
+    ]
 
 
 def explain(file: str, fault: list[str]) -> list[str]:

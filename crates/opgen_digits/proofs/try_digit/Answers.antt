@@ -1,14 +1,16 @@
-use Rattle.std.proofs.Common.{◌≡◌, ◌+◌, ℕ, length, sym, ap, ◌∙◌, subst, arith}
+use Rattle.std.proofs.Common.{◌≡◌, ◌+◌, ℕ, length, refl, sym, ap, ◌∙◌, subst, arith}
 use Rattle.opgen_design.specs.declared.expr.Slice.{Slice}
 use Rattle.opgen_design.specs.Tree.{Tree}
 use Rattle.opgen_net.specs.declared.cell.Class.TheVariants as class
 use Rattle.opgen_net.specs.declared.net.Net.{Net}
 use Rattle.opgen_net.specs.declared.node.Node.TheVariants as node
+use Rattle.std.specs.Prelude.{IsTrue}
+use Rattle.opgen_net.specs.Cells.{IsLogic, is_sum}
 use Rattle.opgen_net.specs.Valid.{FitsNodes, FitsChoice, widths}
 use Rattle.opgen_net.specs.Placed.{with_last}
 use Rattle.opgen_digits.specs.Digit.{is_not_negative, lowest, with_difference, with_digit, digit_place}
 use Rattle.opgen_digits.proofs.Digit.{one-width, choice-fits}
-use Rattle.opgen_digits.proofs.Expressions.{difference-fits, not_negative-fits}
+use Rattle.opgen_digits.proofs.Expressions.{difference-fits, not_negative-fits, not_negative-logic}
 use Rattle.opgen_digits.proofs.try_digit.Goals as goal
 
 pub cells-requires-clause-fits : goal.cells-requires-clause-fits
@@ -35,6 +37,14 @@ cells-requires-2-clause-fits c =
     subst (FitsNodes (widths c.cells.new.self.nodes) 1) (sym c.in_ok-not_negative.ensures)
     (subst (λ (n : ℕ). FitsNodes (widths c.cells.new.self.nodes) 1 (is_not_negative rest n)) place
     (subst (λ (n : Net). FitsNodes (widths n.nodes) 1 (is_not_negative rest (length net.nodes))) (sym one) fits))
+
+pub cells-requires-clause-class : goal.cells-requires-clause-class
+cells-requires-clause-class c = subst (λ e. IsTrue (is_sum e)) (sym c.in_ok-difference.ensures) refl
+
+pub cells-requires-2-clause-class : goal.cells-requires-2-clause-class
+cells-requires-2-clause-class c =
+    subst (IsLogic (widths c.cells.new.self.nodes)) (sym c.in_ok-not_negative.ensures)
+    (not_negative-logic (widths c.cells.new.self.nodes) c.args.trial.rest c.in_ok-difference-2.difference)
 
 pub choice-requires-clause-fits : goal.choice-requires-clause-fits
 choice-requires-clause-fits c =

@@ -4,6 +4,7 @@ use Rattle.std.proofs.lemmas.Int.{ints, quot-rem, rem_below}
 use Rattle.std.proofs.lemmas.Nat.{pow-add, pow_pos}
 use Rattle.std.proofs.Math.Nat.{div-le_self, mul-le-mul, mul-le-mul_right}
 use Rattle.std.specs.Prelude.{codes, slice_index, ℤ, pos, negsuc, neg_ℤ, ◌-ℤ◌, ◌*ℤ◌, ◌≤ℤ◌, ◌<ℤ◌, int_div, int_rem, unsigned_abs, All}
+use Rattle.opgen_num.specs.declared.mode.Mode.TheVariants.{Faithful}
 use Rattle.opgen_num.specs.Formats.{Holds, is_negative}
 use Rattle.opgen_num.specs.Rounding.{IsQuotient}
 use Rattle.opgen_num.specs.Words.{xor}
@@ -12,7 +13,8 @@ use Rattle.opgen_num.proofs.Integers.{difference-product}
 use Rattle.opgen_kinds.specs.declared.pair.Pair.{Pair}
 use Rattle.opgen_ports.specs.Ports.{HasWidth, IsCycle, port}
 use Rattle.opgen_ports.specs.Good.{IsGoodRatio}
-use Rattle.opgen_kinds.specs.Pair.{quotient_ports, quotient_format, remainder_format, exact_quotient, pair_shift, over, sign_bit, IsTruncated, IsGoodQuotient, IsPair, dividend, pair_meaning}
+use Rattle.opgen_kinds.specs.Pair.{quotient_ports, quotient_format, remainder_format, exact_quotient, pair_shift, over, sign_bit, IsTruncated, IsGoodQuotient, IsPair, dividend, pair_meaning, pair_acceptance}
+use Rattle.opgen_ports.specs.Modes.{is_exact, IsExactOrFaithful}
 use Rattle.opgen_ports.specs.Limits.{most_signal}
 use Rattle.opgen_ports.specs.Reaches.{places_up, up}
 use Rattle.opgen_ports.specs.Spans.{IsOf}
@@ -65,7 +67,7 @@ pub truncated_naturals : (n b q r : ℕ) → IsQuotient n b q r → IsTruncated 
 truncated_naturals n b q r h = truncated_signed false false n b q r h
 
 -- a quotient rounded towards 0 is less than one away
-pub truncated_near : (n b q r : ℤ) → IsTruncated n b q r → IsGoodRatio false (over n b) q
+pub truncated_near : (n b q r : ℤ) → IsTruncated n b q r → IsGoodRatio Faithful (over n b) q
 truncated_near n (pos d) q r t = omega (arith, ints, t.whole, t.smaller)
 truncated_near n (negsuc d) q r t = omega (arith, ints, t.whole, t.smaller)
 
@@ -178,7 +180,7 @@ over_within n (negsuc d) bound some few =
     (omega (arith, ints, few, neg-right (d + 1) bound), omega (arith, ints, few))
 
 -- a signed quotient is no greater than the size of its dividend, and the least dividend has 2 ^ (w - 1)
-signed_held : (w s : ℕ) (a b y : ℤ) → 1 ≤ w → Holds true w a → b ≢ pos 0 → IsGoodRatio false (over (a *ℤ pos (2 ^ s)) b) y
+signed_held : (w s : ℕ) (a b y : ℤ) → 1 ≤ w → Holds true w a → b ≢ pos 0 → IsGoodRatio Faithful (over (a *ℤ pos (2 ^ s)) b) y
     → Holds true (w + s + 1) y
 signed_held w s a b y bit (low, high) some good =
     let half = 2 ^ (w - 1) in
@@ -193,7 +195,7 @@ signed_held w s a b y bit (low, high) some good =
     (omega (arith, ints, least, power), omega (arith, ints, greatest, power, one))
 
 -- an unsigned quotient is no greater than its dividend
-unsigned_held : (w v s : ℕ) (a b y : ℤ) → Holds false w a → Holds false v b → b ≢ pos 0 → IsGoodRatio false (over (a *ℤ pos (2 ^ s)) b) y
+unsigned_held : (w v s : ℕ) (a b y : ℤ) → Holds false w a → Holds false v b → b ≢ pos 0 → IsGoodRatio Faithful (over (a *ℤ pos (2 ^ s)) b) y
     → Holds false (w + s + 0) y
 unsigned_held w v s (pos n) (pos zero) y of_a of_b some good = absurd (some refl)
 unsigned_held w v s (pos n) (pos (suc d)) y (_, small) of_b some good =
@@ -210,7 +212,7 @@ unsigned_held w v s (negsuc n) b y (low, _) of_b some good = absurd (omega (arit
 unsigned_held w v s (pos n) (negsuc d) y of_a (low, _) some good = absurd (omega (arith, ints, low))
 
 pub quotients_held : (p : Pair) → IsPair p → (a b : ℤ) → IsOf p.a a → IsOf p.b b → b ≢ pos 0 → (y : ℤ)
-    → IsGoodRatio false (exact_quotient p a b) y → IsOf (quotient_format p) y
+    → IsGoodRatio Faithful (exact_quotient p a b) y → IsOf (quotient_format p) y
 quotients_held p fits a b of_a of_b some y good =
     go p.a.signed p.b.signed fits.alike (input_bit p.a fits.a) of_a of_b good
   where
@@ -218,7 +220,7 @@ quotients_held p fits a b of_a of_b some y good =
     s = places_up (pair_shift p)
 
     go : (signed other : Bool) → signed ≡ other → 1 ≤ p.a.width → Holds signed p.a.width a → Holds other p.b.width b
-        → IsGoodRatio false (over (a *ℤ pos (2 ^ s)) b) y → Holds signed (p.a.width + s + sign_bit signed) y
+        → IsGoodRatio Faithful (over (a *ℤ pos (2 ^ s)) b) y → Holds signed (p.a.width + s + sign_bit signed) y
     go true true e bit of_a of_b good = signed_held p.a.width s a b y bit of_a some good
     go false false e bit of_a of_b good = unsigned_held p.a.width p.b.width s a b y of_a of_b some good
     go true false e bit of_a of_b good = cc
@@ -262,7 +264,7 @@ over_in128 n (pos d) small few less = (small, small_in128 (pos d) less)
 over_in128 n (negsuc d) small few less = (small_in128 (neg_ℤ n) (omega (arith, ints, few)), small_in128 (pos (d + 1)) (omega (arith, less)))
 
 -- what holds of its meaning
-pub pair_lawful : (p : Pair) → IsLawful (pair_meaning p)
+pub pair_lawful : (p : Pair) → IsLawful (pair_meaning p) (pair_acceptance p)
 pair_lawful p = record {
   some_input = λ is. omega arith;
   input_bits = λ is. all_two HasBit _ _ (input_bit p.a is.a) (input_bit p.b is.b);
@@ -279,4 +281,7 @@ pair_lawful p = record {
       (few_up 48 (pair_shift p) is.fine.1) in
       let whole = small_in128 (dividend p (inputs 0 0)) (omega (arith, size)) in
       (over_in128 (dividend p (inputs 0 0)) (inputs 1 0) whole (omega (arith, size)) (omega (arith, b)), whole);
+  recalls = λ mode inputs others outputs same good.
+      subst (λ b. IsExactOrFaithful mode × IsGoodQuotient (is_exact mode) p (others 0 0) b (outputs 0) (outputs 1)) (same 1 0 (omega arith))
+      (subst (λ a. IsExactOrFaithful mode × IsGoodQuotient (is_exact mode) p a (inputs 1 0) (outputs 0) (outputs 1)) (same 0 0 (omega arith)) good);
 }

@@ -1,5 +1,5 @@
 -- What holds of polynomials: they are within their limits.
-use Rattle.std.proofs.Common.{◌*◌, ◌^◌, arith}
+use Rattle.std.proofs.Common.{◌*◌, ◌^◌, arith, subst}
 use Rattle.std.proofs.lemmas.Int.{ints}
 use Rattle.std.proofs.Math.Nat.{mul-le-mul}
 use Rattle.std.specs.Prelude.{ℤ, pos, ◌*ℤ◌, unsigned_abs}
@@ -8,7 +8,9 @@ use Rattle.opgen_kinds.specs.declared.poly.Poly.{Poly as Polynomial}
 use Rattle.opgen_ports.specs.Ports.{HasWidth}
 use Rattle.opgen_ports.specs.In128.{IsRatioIn128}
 use Rattle.opgen_kinds.specs.Horner.{degree, result_places}
-use Rattle.opgen_kinds.specs.Poly.{terms_from, exact_poly, IsPoly, poly_meaning}
+use Rattle.opgen_kinds.specs.Poly.{terms_from, exact_poly, IsPoly, poly_meaning, poly_acceptance}
+use Rattle.opgen_ports.specs.Modes.{IsExactOrFaithful}
+use Rattle.opgen_ports.specs.Good.{IsGoodRatio}
 use Rattle.opgen_ports.specs.Limits.{most_signal}
 use Rattle.opgen_ports.specs.Spans.{IsOf}
 use Rattle.opgen_ports.proofs.Bounds.{products, few_units}
@@ -41,7 +43,7 @@ poly_in128 p x fits of =
     )
 
 -- what holds of its meaning
-pub poly_lawful : (p : Polynomial) → IsLawful (poly_meaning p)
+pub poly_lawful : (p : Polynomial) → IsLawful (poly_meaning p) (poly_acceptance p)
 poly_lawful p = record {
   some_input = λ is. omega arith;
   input_bits = λ is. all_one HasBit _ (input_bit p.input is.input);
@@ -53,4 +55,6 @@ poly_lawful p = record {
   room = λ version within high. tt;
   held = tt;
   in128 = λ version is inputs of. poly_in128 p (inputs 0 0) is.ranges (of 0 0 (omega arith));
+  recalls = λ mode inputs others outputs same good.
+      subst (λ x. IsExactOrFaithful mode × IsGoodRatio mode (exact_poly p x) (outputs 0)) (same 0 0 (omega arith)) good;
 }

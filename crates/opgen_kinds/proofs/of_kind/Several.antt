@@ -9,12 +9,14 @@ use Rattle.std.proofs.Math.Nat.{mul-le-mul_left, mul-le-mul_right}
 use Rattle.std.specs.Fmt.{decimal}
 use Rattle.std.specs.Prelude.{ℤ, pos, codes, slice_index, slice_get, negsuc, ◌*ℤ◌, unsigned_abs, All}
 use Rattle.opgen_num.specs.declared.format.Format.{Format}
+use Rattle.opgen_num.specs.declared.mode.Mode.{Mode}
 use Rattle.opgen_kinds.specs.declared.several.Several.{Several}
 use Rattle.opgen_ports.specs.declared.ports.PortFormat.{PortFormat}
 use Rattle.opgen_ports.specs.Ports.{HasWidth, format_at, IsCycle, number_of, output_numbers, port}
 use Rattle.opgen_ports.specs.Good.{IsGoodRatio}
 use Rattle.opgen_ports.specs.In128.{IsRatioIn128}
-use Rattle.opgen_kinds.specs.Several.{numbered, constant_format, multiple_ports, exact_multiple, IsSeveral, several_meaning}
+use Rattle.opgen_kinds.specs.Several.{numbered, constant_format, multiple_ports, exact_multiple, AreGoodMultiples, IsSeveral, several_meaning, several_acceptance}
+use Rattle.opgen_ports.specs.Modes.{IsExactOrFaithful}
 use Rattle.opgen_ports.specs.Limits.{most_input, most_signal}
 use Rattle.opgen_ports.specs.Ranges.{IsWithin}
 use Rattle.opgen_ports.specs.Reaches.{reach_of, reach_over}
@@ -69,12 +71,12 @@ pub multiple-number : (m : Several) (outputs : List ℕ) (k : ℕ) (d : ℤ) →
 multiple-number m outputs k d below = ap (λ f. number_of f (slice_index outputs k)) (multiple-format m k d below)
 
 -- what judges the number judges the output
-pub multiple-judged : (m : Several) (outputs : List ℕ) (k : ℕ) (d : ℤ) (exact good : Bool) (x : ℤ) → k < length m.constants
-    → (IsTrue good ↔ IsGoodRatio exact (exact_multiple (get_or m.constants k d) x)
+pub multiple-judged : (m : Several) (outputs : List ℕ) (k : ℕ) (d : ℤ) (mode : Mode) (good : Bool) (x : ℤ) → k < length m.constants
+    → (IsTrue good ↔ IsGoodRatio mode (exact_multiple (get_or m.constants k d) x)
     (number_of (constant_format m.input (get_or m.constants k d)) (slice_index outputs k)))
-    → IsTrue good ↔ IsGoodRatio exact (exact_multiple (get_or m.constants k d) x) (output_numbers (multiple_ports m) outputs k)
-multiple-judged m outputs k d exact good x below h =
-    subst (λ (y : ℤ). IsTrue good ↔ IsGoodRatio exact (exact_multiple (get_or m.constants k d) x) y)
+    → IsTrue good ↔ IsGoodRatio mode (exact_multiple (get_or m.constants k d) x) (output_numbers (multiple_ports m) outputs k)
+multiple-judged m outputs k d mode good x below h =
+    subst (λ (y : ℤ). IsTrue good ↔ IsGoodRatio mode (exact_multiple (get_or m.constants k d) x) y)
     (sym (multiple-number m outputs k d below)) h
 
 -- one element more of a list
@@ -145,7 +147,7 @@ multiples_wide version m fits few =
     ))
 
 -- what holds of its meaning
-pub several_lawful : (m : Several) → IsLawful (several_meaning m)
+pub several_lawful : (m : Several) → IsLawful (several_meaning m) (several_acceptance m)
 several_lawful m = record {
   some_input = λ is. omega arith;
   input_bits = λ is. all_one HasBit _ (input_bit m.input is.input);
@@ -157,4 +159,6 @@ several_lawful m = record {
   in128 = λ version is inputs of.
       let x = number_small m.input (inputs 0 0) is.ranges.input (of 0 0 (omega arith)) in
       λ k t below. multiple_in128 (get_or m.constants k t) (inputs 0 0) (is.ranges.constants k t below) x;
+  recalls = λ mode inputs others outputs same good.
+      subst (λ x. IsExactOrFaithful mode × AreGoodMultiples mode m.constants x outputs) (same 0 0 (omega arith)) good;
 }

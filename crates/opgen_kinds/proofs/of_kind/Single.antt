@@ -1,5 +1,5 @@
 -- What holds of roots: their words, formats, port names and widths.
-use Rattle.std.proofs.Common.{◌^◌, ◌≤◌, FitsSigned, arith, ℕ, ◌<◌, Bool, List, length, ◌≡◌, true, ◌+◌, ◌*◌, ⊎_elim, false}
+use Rattle.std.proofs.Common.{◌^◌, ◌≤◌, FitsSigned, arith, ℕ, ◌<◌, Bool, List, length, ◌≡◌, true, ◌+◌, ◌*◌, ⊎_elim, false, subst}
 use Rattle.std.proofs.lemmas.Bool.{cases_lt}
 use Rattle.std.proofs.lemmas.Int.{ints}
 use Rattle.std.proofs.lemmas.Nat.{pow-add, pow_pos}
@@ -11,7 +11,8 @@ use Rattle.opgen_num.specs.Rounding.{IsRoot}
 use Rattle.opgen_kinds.specs.declared.single.Single.{Single}
 use Rattle.opgen_ports.specs.declared.TheConstants.{MAX_SHIFT}
 use Rattle.opgen_ports.specs.Ports.{HasWidth, IsCycle, port}
-use Rattle.opgen_kinds.specs.Single.{IsSingle, root_ports, root_format, rest_format, root_shift, root_width, square, RootsAreNarrow, single_meaning}
+use Rattle.opgen_kinds.specs.Single.{IsSingle, root_ports, root_format, rest_format, root_shift, root_width, square, IsGoodSquareRoot, RootsAreNarrow, single_meaning, single_acceptance}
+use Rattle.opgen_ports.specs.Modes.{is_exact, IsExactOrFaithful}
 use Rattle.opgen_ports.specs.Limits.{most_signal}
 use Rattle.opgen_ports.specs.Reaches.{places_up}
 use Rattle.opgen_ports.specs.Spans.{IsOf}
@@ -79,7 +80,7 @@ roots_narrow version r is =
     omega (arith, few, (signal_limit version).0)
 
 -- what holds of its meaning
-pub single_lawful : (r : Single) → IsLawful (single_meaning r)
+pub single_lawful : (r : Single) → IsLawful (single_meaning r) (single_acceptance r)
 single_lawful r = record {
   some_input = λ is. omega arith;
   input_bits = λ is. all_one HasBit _ (input_bit r.input is.input);
@@ -92,4 +93,6 @@ single_lawful r = record {
   in128 = λ version is inputs of.
       let x = number_small r.input (inputs 0 0) is.ranges.input (of 0 0 (omega arith)) in
       whole_in128 (unsigned_abs (inputs 0 0)) (root_shift r) x is.fine.1;
+  recalls = λ mode inputs others outputs same good.
+      subst (λ x. IsExactOrFaithful mode × IsGoodSquareRoot (is_exact mode) r x (outputs 0) (outputs 1)) (same 0 0 (omega arith)) good;
 }

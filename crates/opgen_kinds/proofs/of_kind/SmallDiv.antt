@@ -1,5 +1,5 @@
 -- What holds of quotients by small constants: their formats, port names and widths.
-use Rattle.std.proofs.Common.{◌-◌, ◌≤◌, arith, ℕ, ◌*◌, Bool, true, false}
+use Rattle.std.proofs.Common.{◌-◌, ◌≤◌, arith, ℕ, ◌*◌, Bool, true, false, subst}
 use Rattle.std.proofs.lemmas.Int.{ints}
 use Rattle.std.proofs.Math.Nat.{mul-le-mul_left}
 use Rattle.std.specs.Prelude.{ℤ, pos, unsigned_abs, All}
@@ -7,7 +7,8 @@ use Rattle.opgen_num.proofs.RangeWidth.{count-least, count-holds}
 use Rattle.opgen_num.specs.Rounding.{IsQuotient}
 use Rattle.opgen_kinds.specs.declared.small_div.SmallDiv.{SmallDiv}
 use Rattle.opgen_ports.specs.Ports.{HasWidth}
-use Rattle.opgen_kinds.specs.SmallDiv.{small_rest_format, IsSmallDiv, small_quotient_format, small_ports, small_meaning}
+use Rattle.opgen_kinds.specs.SmallDiv.{small_rest_format, IsSmallDiv, small_quotient_format, small_ports, IsGoodSmallQuotient, small_meaning, small_acceptance}
+use Rattle.opgen_ports.specs.Modes.{is_exact, IsExactOrFaithful}
 use Rattle.opgen_ports.specs.Limits.{most_signal}
 use Rattle.opgen_ports.specs.Spans.{IsOf}
 use Rattle.opgen_ports.proofs.Covered.{unsigned_of}
@@ -43,7 +44,7 @@ smalls_wide false c fits =
     all_one (HasWidth 64) _ (input_bit c.input fits.input, omega (arith, fits.input.most))
 
 -- what holds of its meaning
-pub small_lawful : (c : SmallDiv) → IsLawful (small_meaning c)
+pub small_lawful : (c : SmallDiv) → IsLawful (small_meaning c) (small_acceptance c)
 small_lawful c = record {
   some_input = λ is. omega arith;
   input_bits = λ is. all_one HasBit _ (input_bit c.input is.input);
@@ -57,4 +58,6 @@ small_lawful c = record {
         small_in128 (inputs 0 0) (omega (arith, x)),
         small_in128 (pos c.divisor) (omega (arith, is.ranges.most)),
       );
+  recalls = λ mode inputs others outputs same good.
+      subst (λ x. IsExactOrFaithful mode × IsGoodSmallQuotient (is_exact mode) c x (outputs 0) (outputs 1)) (same 0 0 (omega arith)) good;
 }

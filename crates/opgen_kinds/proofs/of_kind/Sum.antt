@@ -1,20 +1,23 @@
 -- What holds of sums: their limits, ranges, formats, and what stands in 128 bits.
-use Rattle.std.proofs.Common.{ℕ, ◌==◌, Bool, true, false, arith, if◌then◌else◌, ◌+◌, ◌≤◌, ◌*◌, ◌<◌, get_or, ap, ◌^◌, length, List, not, Option, Some, None, refl}
+use Rattle.std.proofs.Common.{ℕ, ◌==◌, Bool, true, false, arith, if◌then◌else◌, ◌+◌, ◌≤◌, ◌*◌, ◌<◌, get_or, ap, ◌^◌, length, List, not, Option, Some, None, refl, ◌≡◌, ◌-◌, subst}
 use Rattle.std.proofs.lemmas.Int.{ints}
 use Rattle.std.proofs.lemmas.List.Sums.{count_by-le-length}
 use Rattle.std.proofs.lemmas.Nat.{pow_pos}
 use Rattle.std.proofs.Math.Nat.{mul-le-mul}
 use Rattle.std.specs.Int.{div_ceil}
 use Rattle.std.specs.Prelude.{ℤ, pos, ◌≤ℤ◌, negsuc, ◌*ℤ◌, unsigned_abs}
+use Rattle.opgen_num.specs.declared.mode.Mode.TheVariants.{Faithful}
 use Rattle.opgen_num.proofs.BitLength.{power_order}
 use Rattle.opgen_num.proofs.RangeWidth.{count-least}
+use Rattle.opgen_num.specs.declared.mode.Mode.{Mode}
+use Rattle.opgen_num.specs.Rounding.{IsGoodLinear}
 use Rattle.opgen_kinds.specs.declared.sum.Sum.{Sum}
 use Rattle.opgen_ports.specs.Accepted.{IsAcceptedIn, IsAcceptable}
 use Rattle.opgen_ports.specs.declared.TheConstants.{MAX_SHIFT}
 use Rattle.opgen_ports.specs.Ports.{HasWidth, Recent, weighted}
 use Rattle.opgen_ports.specs.Good.{IsGoodRatio}
 use Rattle.opgen_ports.specs.In128.{IsRatioIn128}
-use Rattle.opgen_kinds.specs.Sum.{most_sum_shift, sum_shift, HasSumRoom, IsSum, IsAcceptedSum, exact_sum, sum_reach, sum_places, sum_format, terms, guard_bits, guard_for, first_inexact, tables, IsEntrySmall, EntriesAreSmall, sum_need, sum_meaning, scale_meaning, fir_meaning}
+use Rattle.opgen_kinds.specs.Sum.{most_sum_shift, sum_shift, HasSumRoom, IsSum, IsAcceptedSum, exact_sum, sum_reach, sum_places, sum_format, terms, guard_bits, guard_for, first_inexact, tables, IsEntrySmall, EntriesAreSmall, sum_need, sum_meaning, sum_acceptance, scale_acceptance, fir_acceptance}
 use Rattle.opgen_ports.specs.Limits.{most_input, most_signal}
 use Rattle.opgen_ports.specs.Ranges.{IsWithin}
 use Rattle.opgen_ports.specs.Reaches.{reach_of, in_places, places_up, places_down, up, down}
@@ -26,7 +29,7 @@ use Rattle.opgen_ports.proofs.InputPorts.{only_within, all_one, input_bit, HasBi
 use Rattle.opgen_ports.proofs.Lawful.{IsLawful}
 use Rattle.opgen_ports.proofs.Reached.{held-within, within-held, sum_within, lowest, highest_for, lowest-within, highest-within, sum_lowest, sum_highest, low_end, high_end, least_end, greatest_end}
 use Rattle.opgen_ports.proofs.Roundings.{positive_units}
-use Rattle.opgen_ports.proofs.WeightedSums.{taps_bound}
+use Rattle.opgen_ports.proofs.WeightedSums.{taps_bound, weighted-same}
 use Rattle.opgen_ports.proofs.Widths.{some_width}
 
 pub sum_shift_limit : (version : ℕ) (s : ℤ) → s ≤ℤ most_sum_shift version → s ≤ℤ MAX_SHIFT
@@ -56,7 +59,8 @@ single_sum s is = record {
   small = is.small;
 }
 
-one_more : (version : ℕ) (s : Sum) → IsAcceptedIn version (scale_meaning s) → IsAcceptedIn version (fir_meaning s)
+one_more : (version : ℕ) (s : Sum) → IsAcceptedIn version (sum_meaning s) (scale_acceptance s)
+    → IsAcceptedIn version (sum_meaning s) (fir_acceptance s)
 one_more version s by = record {
   ranges = single_sum s by.ranges;
   inputs = by.inputs;
@@ -65,7 +69,7 @@ one_more version s by = record {
   whole = λ asked. by.whole asked;
 }
 
-pub multiple_accepted : (s : Sum) → IsAcceptable (scale_meaning s) → IsAcceptedSum s
+pub multiple_accepted : (s : Sum) → IsAcceptable (sum_meaning s) (scale_acceptance s) → IsAcceptedSum s
 multiple_accepted s (version, by) = (version, one_more version s by)
 
 pub sums_span : (s : Sum) → IsSum 256 s → Spans Recent (λ x. (ago : ℕ) → IsOf s.input (x ago)) (exact_sum s) (sum_places s)
@@ -104,7 +108,7 @@ sums_span s fits = go s.den fits.positive
         }
     go (negsuc d) h = absurd (omega (arith, ints))
 
-pub sums_held : (s : Sum) → IsSum 256 s → (x : Recent) → ((ago : ℕ) → IsOf s.input (x ago)) → (y : ℤ) → IsGoodRatio false (exact_sum s x) y
+pub sums_held : (s : Sum) → IsSum 256 s → (x : Recent) → ((ago : ℕ) → IsOf s.input (x ago)) → (y : ℤ) → IsGoodRatio Faithful (exact_sum s x) y
     → IsOf (sum_format s) y
 sums_held s fits x of y good =
     let span = sums_span s fits in
@@ -162,8 +166,14 @@ entries_small s (version, by) = (
       (sum_room version s (only_within _ s.input by.inputs) by.fine.1),
 )
 
+-- the exact value depends on as many inputs as there are coefficients
+pub sum_recalls : (s : Sum) (mode : Mode) (x y : Recent) (n : ℤ) → ((ago : ℕ) → ago ≤ length s.coefs - 1 → x ago ≡ y ago)
+    → IsGoodRatio mode (exact_sum s x) n → IsGoodRatio mode (exact_sum s y) n
+sum_recalls s mode x y n same good = subst (λ total. IsGoodLinear (total *ℤ pos (up (sum_shift s))) (s.den *ℤ pos (down (sum_shift s))) n mode)
+    (weighted-same 0 s.coefs x y (λ ago here. same ago (omega (arith, here)))) good
+
 -- what holds of its meaning
-pub sum_lawful : (most : ℕ) (s : Sum) → most ≤ 256 → IsLawful (sum_meaning most s)
+pub sum_lawful : (most : ℕ) (s : Sum) → most ≤ 256 → IsLawful (sum_meaning s) (sum_acceptance most s)
 sum_lawful most s few = record {
   some_input = λ is. omega arith;
   input_bits = λ is. all_one HasBit _ (input_bit s.input is.input);
@@ -174,7 +184,8 @@ sum_lawful most s few = record {
   held = sums_held s;
   in128 = λ version is inputs of. sum_in128 most s (inputs 0) few is.ranges is.fine.0
       (sum_room version s (only_within _ s.input is.inputs) is.fine.1) (λ ago. of 0 ago (omega arith));
+  recalls = λ mode inputs others outputs same good. sum_recalls s mode (inputs 0) (others 0) (outputs 0) (same 0) good;
 }
 
-pub fir_lawful : (s : Sum) → IsLawful (fir_meaning s)
+pub fir_lawful : (s : Sum) → IsLawful (sum_meaning s) (fir_acceptance s)
 fir_lawful s = sum_lawful 256 s (omega arith)

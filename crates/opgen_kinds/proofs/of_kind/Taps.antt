@@ -1,5 +1,5 @@
 -- What holds of filters of whole coefficients: each is a direct sum over 1; its format, width and exact values.
-use Rattle.std.proofs.Common.{◌^◌, arith, ◌≡◌, ◌+◌, ℕ, zero, suc, ◌*◌, ◌≤◌, ◌%◌, ◌==◌, ◌↔◌, Bool, true, not, List, [], ◌∷◌, length, ◌<◌, None, refl, eq-eqb, ap, ap₂, ◌∙◌, sym, subst}
+use Rattle.std.proofs.Common.{◌^◌, arith, ◌≡◌, ◌+◌, ℕ, zero, suc, ◌*◌, ◌≤◌, ◌%◌, ◌==◌, ◌↔◌, true, not, List, [], ◌∷◌, length, ◌<◌, None, refl, eq-eqb, ap, ap₂, ◌∙◌, sym, subst}
 use Rattle.std.proofs.lemmas.Int.{ints}
 use Rattle.std.proofs.lemmas.Nat.{pow-add, pow_pos}
 use Rattle.std.proofs.Math.Nat.{mul-le-mul_left, mul-le-mul_right}
@@ -7,10 +7,11 @@ use Rattle.std.specs.Int.{div_ceil}
 use Rattle.std.specs.List.{position_from}
 use Rattle.std.specs.Prelude.{All, ℤ, pos, negsuc, unsigned_abs, ◌≤ℤ◌, ◌*ℤ◌}
 use Rattle.opgen_num.specs.declared.format.Ratio.{Ratio}
+use Rattle.opgen_num.specs.declared.mode.Mode.{Mode}
 use Rattle.opgen_kinds.specs.declared.taps.Taps.{Taps}
 use Rattle.opgen_kinds.specs.Sum.{IsSum, HasSumRoom, sum_shift, sum_places, first_inexact_of, first_inexact}
 use Rattle.opgen_ports.specs.Reaches.{is_whole_at, up, down, above_zero, below_zero, rises, falls, reach_of, reach_over, in_units, in_places}
-use Rattle.opgen_kinds.specs.Taps.{IsTaps, IsAcceptedTaps, TapsHaveRoom, direct, taps_format, exact_taps, taps_meaning}
+use Rattle.opgen_kinds.specs.Taps.{IsTaps, IsAcceptedTaps, TapsHaveRoom, direct, taps_format, exact_taps, taps_meaning, taps_acceptance}
 use Rattle.opgen_ports.specs.declared.reach.Reach.{Reach}
 use Rattle.opgen_ports.specs.Good.{IsGoodRatio}
 use Rattle.opgen_ports.specs.Limits.{most_input, most_signal}
@@ -22,7 +23,7 @@ use Rattle.opgen_ports.proofs.Reached.{rises-cons, falls-cons, ceiling}
 use Rattle.opgen_ports.proofs.Widths.{reach_within, width_by, some_width}
 use Rattle.opgen_ports.proofs.Lawful.{IsLawful}
 use Rattle.opgen_kinds.proofs.PortWidths.{input_room}
-use Rattle.opgen_kinds.proofs.of_kind.Sum.{sums_held, sum_in128}
+use Rattle.opgen_kinds.proofs.of_kind.Sum.{sums_held, sum_in128, sum_recalls}
 
 -- taps are coefficients
 pub wide_taps : (f : Taps) → IsTaps f → All (IsWithin (2 ^ 30)) f.taps
@@ -149,18 +150,18 @@ module _ (f : Taps) (same : f.out_lsb ≡ f.input.lsb) where
       ap {B = Ratio} (λ s. record { num = weighted f.taps x *ℤ pos (up s); den = pos 1 *ℤ pos (down s) }) same_shift
       ∙ ap {B = Ratio} (λ n. record { num = n; den = pos 1 }) (times_one (weighted f.taps x))
 
-  pub same_good : (exact : Bool) (x : Recent) (y : ℤ)
-      → IsGoodRatio exact (exact_taps f x) y ↔ IsGoodRatio exact (record { num = weighted f.taps x; den = pos 1 }) y
-  same_good exact x y = (
-    λ good. subst (λ (r : Ratio). IsGoodRatio exact r y) (same_value x) good,
-    λ good. subst (λ (r : Ratio). IsGoodRatio exact r y) (sym (same_value x)) good,
+  pub same_good : (mode : Mode) (x : Recent) (y : ℤ)
+      → IsGoodRatio mode (exact_taps f x) y ↔ IsGoodRatio mode (record { num = weighted f.taps x; den = pos 1 }) y
+  same_good mode x y = (
+    λ good. subst (λ (r : Ratio). IsGoodRatio mode r y) (same_value x) good,
+    λ good. subst (λ (r : Ratio). IsGoodRatio mode r y) (sym (same_value x)) good,
   )
 
   pub same_whole : first_inexact (direct f) ≡ None
   same_whole = ap (λ s. first_inexact_of (pos 1) s f.taps) same_shift ∙ all_whole 0 f.taps
 
 -- what holds of its meaning
-pub taps_lawful : (f : Taps) → IsLawful (taps_meaning f)
+pub taps_lawful : (f : Taps) → IsLawful (taps_meaning f) (taps_acceptance f)
 taps_lawful f = record {
   some_input = λ is. omega arith;
   input_bits = λ is. all_one HasBit _ (input_bit f.input is.input);
@@ -179,4 +180,5 @@ taps_lawful f = record {
   held = sums_held (direct f);
   in128 = λ version is inputs of. sum_in128 256 (direct f) (inputs 0) (omega arith) (direct_sum f is.ranges) is.fine.0
       (taps_room f is.ranges is.fine.1) (λ ago. of 0 ago (omega arith));
+  recalls = λ mode inputs others outputs same good. sum_recalls (direct f) mode (inputs 0) (others 0) (outputs 0) (same 0) good;
 }

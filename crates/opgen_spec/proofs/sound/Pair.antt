@@ -1,12 +1,16 @@
 -- Quotients of a document without a fault.
-use Rattle.std.proofs.Common.{◌≡◌, false, Some, refl, ap}
+use Rattle.std.proofs.Common.{sym, ◌≡◌, true, false, Some, refl, ap}
 use Rattle.opgen_operator.specs.declared.kind.Kind.TheVariants as kind
+use Rattle.opgen_ports.proofs.Marks.{is_exact-of}
 use Rattle.opgen_ports.proofs.InputPorts.{all_two}
 use Rattle.toml.specs.Data.{Members}
 use Rattle.opgen_document.specs.declared.key.Key.TheVariants as key
 use Rattle.opgen_spec.specs.kinds.{kind_of, entry}
 use Rattle.opgen_spec.proofs.sound.Sound.{IsFew, IsSound, none_given}
-use Rattle.opgen_document.specs.Document.{flag_in, flag_at, text_at, version_of}
+use Rattle.opgen_document.specs.declared.key.Version.{Version}
+use Rattle.opgen_document.specs.declared.key.Version.TheVariants.{First, Second, Third, Fourth}
+use Rattle.opgen_document.specs.Document.{flag_in, flag_at, text_at, version_of, since_fourth}
+use Rattle.opgen_document.specs.Keys.{may_be}
 use Rattle.opgen_document.specs.Ranges.{width_outside, near_outside}
 use Rattle.opgen_spec.proofs.Fine.{AreFine, IsFine, own, typed}
 use Rattle.opgen_spec.proofs.Known.{not_there, signed_key}
@@ -32,9 +36,16 @@ keys ms f e = record {
 }
 
 -- the first two versions have no signed quotients
-no_sign : (ms : Members) → AreFine ms → kind_of ms ≡ Some kind.Divide → IsEarly ms → flag_at ms key.Signed ≡ false
+no_sign : (ms : Members) → AreFine ms → kind_of ms ≡ Some kind.Divide → IsEarly (version_of ms) → flag_at ms key.Signed ≡ false
 unfolding entry
 no_sign ms f e is_early = ap flag_in (not_there ms kind.Divide key.Signed f e signed_key refl (not_in_early (version_of ms) is_early))
+
+-- the width of a quotient is chosen in the fourth version alone, which is closed
+not_chosen : (version : Version) → (version ≡ Fourth → ⊥) → may_be (since_fourth version) ≡ true → ⊥
+not_chosen First closed may = cc
+not_chosen Second closed may = cc
+not_chosen Third closed may = cc
+not_chosen Fourth closed may = closed refl
 
 pub divide : IsSound kind.Divide
 unfolding entry
@@ -55,9 +66,9 @@ divide = record {
     b = input_written ms key.WidthB key.LsbB h.width_b h.width_b.typed (near_written ms key.LsbB h.lsb_b h.lsb_b.typed);
     out_lsb = near_written ms key.OutLsb h.out_lsb h.out_lsb.typed;
   };
-  agrees = λ ms. refl;
+  agrees = λ ms. sym (is_exact-of (flag_at ms key.Exact));
   marked = λ ms asked. asked;
   has = λ ms f e below. no_sign ms f e (early ms f below);
   names = λ ms f e. none_given (text_at ms key.Name);
-  chosen = λ version may. cc;
+  chosen = λ version closed may. absurd (not_chosen version closed may);
 }

@@ -101,5 +101,5 @@ poly = record {
   marked = λ ms asked. cc;
   has = λ ms f e is. not_late ms kind.Poly f e refl (one_is_first ms f is);
   names = λ ms f e. none_given (text_at ms key.Name);
-  chosen = λ version may. record { third = in_third version may; value = λ ms. refl; range = λ ms. refl };
+  chosen = λ version closed may. record { third = in_third version closed may; value = λ ms. refl; range = λ ms. refl };
 }

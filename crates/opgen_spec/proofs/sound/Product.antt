@@ -60,5 +60,5 @@ multiply = record {
     three_near ms key.LsbA key.LsbB key.OutLsb f h.lsb_a h.lsb_b h.out_lsb,
   );
   names = λ ms f e. none_given (text_at ms key.Name);
-  chosen = λ version may. record { third = in_third version may; value = λ ms. refl; range = λ ms. refl };
+  chosen = λ version closed may. record { third = in_third version closed may; value = λ ms. refl; range = λ ms. refl };
 }

@@ -64,5 +64,5 @@ mcm = record {
     λ below. early_search ms (early ms f below) (needed ms kind.Mcm key.Extra f e refl),
   );
   names = λ ms f e. none_given (text_at ms key.Name);
-  chosen = λ version may. cc;
+  chosen = λ version closed may. cc;
 }

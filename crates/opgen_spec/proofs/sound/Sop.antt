@@ -1,5 +1,5 @@
 -- Sums of products of a document without a fault.
-use Rattle.std.proofs.Common.{◌≡◌, ℕ, ◌+◌, ◌≤◌, ◌&&◌, ◌||◌, ◌⊎◌, inl, inr, not, Bool, true, false, cond, List, [], ◌∷◌, length, Option, Some, None, is_some, option_and_then, find, refl, ap, sym, ◌∙◌, arith, lit<, if◌then◌else◌}
+use Rattle.std.proofs.Common.{◌≡◌, ℕ, ◌+◌, ◌≤◌, ◌&&◌, ◌||◌, ◌⊎◌, inl, inr, not, Bool, true, false, cond, List, [], ◌∷◌, length, Option, Some, None, is_some, option_and_then, find, refl, ap, sym, subst, ◌∙◌, arith, lit<, if◌then◌else◌}
 use Rattle.std.specs.Prelude.{ℤ, pos, negsuc, ◌≤ℤ◌}
 use Rattle.std.specs.List.{list_all}
 use Rattle.std.specs.Option.{option_map_or}
@@ -13,13 +13,14 @@ use Rattle.opgen_operator.specs.declared.kind.Kind.TheVariants as kind
 use Rattle.opgen_terms.specs.Sop.{IsScaled, IsTimes, IsSop}
 use Rattle.opgen_ports.specs.declared.ports.PortFormat.{PortFormat}
 use Rattle.opgen_ports.specs.Limits.{most_input}
+use Rattle.opgen_ports.proofs.Marks.{is_exact-of}
 use Rattle.opgen_ports.specs.Ranges.{IsInput, IsWithin}
 use Rattle.opgen_document.specs.declared.array.Array.TheVariants as array
 use Rattle.opgen_document.specs.declared.key.Key.{Key}
 use Rattle.opgen_document.specs.declared.key.Key.TheVariants as key
 use Rattle.opgen_document.specs.declared.key.Version.{Version}
-use Rattle.opgen_document.specs.declared.key.Version.TheVariants.{First, Second, Third}
-use Rattle.opgen_document.specs.Document.{value_at, number_in, number_at, text_at, items_at, list_of, is_empty, in_tables, IsNumberAsWritten, version_of}
+use Rattle.opgen_document.specs.declared.key.Version.TheVariants.{First, Second, Third, Fourth}
+use Rattle.opgen_document.specs.Document.{value_at, number_in, number_at, text_at, flag_at, items_at, list_of, is_empty, in_tables, IsNumberAsWritten, version_of}
 use Rattle.opgen_document.specs.Keys.{line_keys}
 use Rattle.opgen_document.specs.Numbers.{are_texts, given_denominator}
 use Rattle.opgen_document.specs.Ranges.{length_outside, power_outside, numerator_outside, denominator_outside}
@@ -27,14 +28,14 @@ use Rattle.opgen_document.specs.Types.{is_wrong}
 use Rattle.opgen_document.proofs.Ranges.{inside, zero_inside, given_in}
 use Rattle.opgen_document.proofs.Values.{IsNumber, number_stands, text_stands}
 use Rattle.opgen_spec.specs.kinds.{early_kinds, kind_named, kind_of, entry}
-use Rattle.opgen_spec.specs.kinds.Sop.{has_no_terms, scaled_outside, input_of, scaled_of, times_of, sop_of, factor_outside, IsInputAsWritten, IsScaledAsWritten, IsTimesAsWritten}
+use Rattle.opgen_spec.specs.kinds.Sop.{most_inputs, most_products, has_no_terms, scaled_outside, input_of, scaled_of, times_of, sop_of, factor_outside, IsInputAsWritten, IsScaledAsWritten, IsTimesAsWritten}
 use Rattle.opgen_spec.specs.Faults.{kind_outside}
 use Rattle.opgen_spec.proofs.ArrayLines.{IsFineLine, IsAmong, line_fine, line_typed, all_fine, lines_written, lines_in, read_length, few_items}
 use Rattle.opgen_spec.proofs.Compressors.{IsTaken, compressor_cases, compressor_written}
 use Rattle.opgen_spec.proofs.Fine.{AreFine, IsFine, own, own_range, typed, not_found}
 use Rattle.opgen_spec.proofs.InputLines.{narrow, input_in, input_written, input_count, all_inputs, input_names, IsFactor, factor}
 use Rattle.opgen_spec.proofs.Ranges.{widest, power_in}
-use Rattle.opgen_spec.proofs.Versions.{third_is_three}
+use Rattle.opgen_spec.proofs.Versions.{third_is_three, not_fourth}
 use Rattle.opgen_spec.proofs.Writing.{power_written, optional_flag_written}
 use Rattle.opgen_spec.proofs.sound.Sound.{IsFew, IsSound, in_third}
 
@@ -60,13 +61,14 @@ none_early : list_all (λ one. not (is_sop one)) early_kinds ≡ true
 unfolding early_kinds
 none_early = refl
 
-third : (ms : Members) → kind_of ms ≡ Some kind.Sop → version_of ms ≡ Third
-third ms e = by (version_of ms) refl e
+third : (ms : Members) → AreFine ms → kind_of ms ≡ Some kind.Sop → version_of ms ≡ Third
+third ms f e = by (version_of ms) refl e
   where
     by : (version : Version) → version_of ms ≡ version → kind_named version (text_at ms key.Kind) ≡ Some kind.Sop → version_of ms ≡ Third
     by First is e = absurd (not_named (λ one. bytes_eq (kind_name one) (text_at ms key.Kind)) early_kinds none_early e)
     by Second is e = absurd (not_named (λ one. bytes_eq (kind_name one) (text_at ms key.Kind)) early_kinds none_early e)
     by Third is e = is
+    by Fourth is e = absurd (not_fourth ms f is)
 
 record HasSop (ms : Members) : Type 0 where
   fine : AreFine ms
@@ -90,10 +92,12 @@ keys ms f e = record {
   out_lsb = own ms kind.Sop key.OutLsb f e refl refl;
   den = own_range ms kind.Sop key.Denominator f e refl;
   offset = own_range ms kind.Sop key.Offset f e refl;
-  inputs = own ms kind.Sop key.Input f e refl refl;
+  inputs = subst (λ version. IsFine ms key.Input (length_outside 1 (most_inputs version) (items_at ms key.Input))) (third ms f e)
+      (own ms kind.Sop key.Input f e refl refl);
   scaled = ap (option_and_then (λ one. (entry one).key_outside ms key.Scaled)) (sym e)
       ∙ always (is_some (value_at ms key.Scaled)) (kind_outside ms key.Scaled) (not_found ms key.Scaled f refl);
-  products = own_range ms kind.Sop key.Product f e refl;
+  products = subst (λ version. option_and_then (λ _. length_outside 0 (most_products version) (items_at ms key.Product)) (value_at ms key.Product)
+      ≡ None) (third ms f e) (own_range ms kind.Sop key.Product f e refl);
   compressor = compressor_cases ms kind.Sop f e (record { stands = λ version. refl; range = λ ms. refl });
 }
 
@@ -243,7 +247,7 @@ sop = record {
   kind_is = λ ms. refl;
   ranges = λ ms f e. sop_in ms (keys ms f e);
   inputs = λ ms f e.
-      let three = third_is_three ms f (third ms e) in
+      let three = third_is_three ms f (third ms f e) in
       let most : widest ms ≡ 48 = ap most_input three in
       all_inputs ms f (IsFew ms) (λ n line fine. omega (arith, narrow ms n line fine, most));
   written = λ ms f e. let h = keys ms f e in record {
@@ -257,9 +261,9 @@ sop = record {
     out_lsb = power_written ms key.OutLsb h.out_lsb h.out_lsb.typed;
     compressor = compressor_written ms h.compressor;
   };
-  agrees = λ ms. refl;
+  agrees = λ ms. sym (is_exact-of (flag_at ms key.Exact));
   marked = λ ms asked. asked;
-  has = λ ms f e. let three = third_is_three ms f (third ms e) in omega (arith, three);
+  has = λ ms f e. let three = third_is_three ms f (third ms f e) in omega (arith, three);
   names = λ ms f e. input_names ms f;
-  chosen = λ version may. record { third = in_third version may; value = λ ms. refl; range = λ ms. refl };
+  chosen = λ version closed may. record { third = in_third version closed may; value = λ ms. refl; range = λ ms. refl };
 }

@@ -3,6 +3,7 @@ use Rattle.std.proofs.Common.{◌≡◌, ◌≤◌, ℕ, true, List, [], Some, r
 use Rattle.std.specs.Prelude.{IsTrue}
 use Rattle.toml.specs.Data.{Members}
 use Rattle.opgen_operator.specs.declared.kind.Kind.{Kind}
+use Rattle.opgen_ports.specs.Modes.{mode_of_exact}
 use Rattle.opgen_ports.specs.declared.ports.PortFormat.{PortFormat}
 use Rattle.opgen_operator.specs.Operator.{HasInputsWithin, given_names, marks_exact, has_value, IsOperator, IsInVersion}
 use Rattle.opgen_operator.specs.Operator as operators
@@ -11,7 +12,7 @@ use Rattle.opgen_operator.specs.Valid.{AgreesOnExact}
 use Rattle.opgen_operator.proofs.Listed.{given_by}
 use Rattle.opgen_document.specs.declared.key.Key.TheVariants as key
 use Rattle.opgen_document.specs.declared.key.Version.{Version}
-use Rattle.opgen_document.specs.declared.key.Version.TheVariants.{First, Second, Third}
+use Rattle.opgen_document.specs.declared.key.Version.TheVariants.{First, Second, Third, Fourth}
 use Rattle.opgen_document.specs.Document.{text_at, flag_at, count_at, since_third}
 use Rattle.opgen_document.specs.Keys.{may_be}
 use Rattle.opgen_document.specs.Ranges.{out_width_outside}
@@ -29,10 +30,12 @@ pub record IsChosen (one : Kind) (version : Version) : Type 0 where
   pub value : (ms : Members) → has_value ((entry one).make ms) ≡ true
   pub range : (ms : Members) → (entry one).key_outside ms key.OutWidth ≡ out_width_outside ms
 
-pub in_third : (version : Version) → may_be (since_third version) ≡ true → version ≡ Third
-in_third First may = cc
-in_third Second may = cc
-in_third Third may = refl
+-- the fourth version is closed
+pub in_third : (version : Version) → (version ≡ Fourth → ⊥) → may_be (since_third version) ≡ true → version ≡ Third
+in_third First closed may = cc
+in_third Second closed may = cc
+in_third Third closed may = refl
+in_third Fourth closed may = absurd (closed refl)
 
 -- a kind whose inputs are not named by the document
 pub none_given : (name : List ℕ) → AreGivenNames name []
@@ -48,10 +51,10 @@ pub record IsSound (one : Kind) : Type 0 where
   pub inputs : (ms : Members) → AreFine ms → kind_of ms ≡ Some one → HasInputsWithin (widest ms) ((entry one).make ms)
   pub written : (ms : Members) → AreFine ms → kind_of ms ≡ Some one → IsOperatorAsWritten ms ((entry one).make ms)
   -- its mark of exact outputs is that of the document, and its version has it with these fields
-  pub agrees : (ms : Members) → AgreesOnExact (flag_at ms key.Exact) ((entry one).make ms)
+  pub agrees : (ms : Members) → AgreesOnExact (mode_of_exact (flag_at ms key.Exact)) ((entry one).make ms)
   pub marked : (ms : Members) → IsTrue (marks_exact ((entry one).make ms)) → IsTrue (flag_at ms key.Exact)
   pub has : (ms : Members) → AreFine ms → kind_of ms ≡ Some one → IsInVersion (count_at ms key.Version) ((entry one).make ms)
   -- the names that the document gives to its inputs are such names
   pub names : (ms : Members) → AreFine ms → kind_of ms ≡ Some one → AreGivenNames (text_at ms key.Name) (given_names ((entry one).make ms))
   -- where it has the key for the width of its output, that width may be chosen
-  pub chosen : (version : Version) → may_be ((entry one).stand version key.OutWidth) ≡ true → IsChosen one version
+  pub chosen : (version : Version) → (version ≡ Fourth → ⊥) → may_be ((entry one).stand version key.OutWidth) ≡ true → IsChosen one version

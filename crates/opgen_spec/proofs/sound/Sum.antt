@@ -1,5 +1,5 @@
 -- Scales and filters of a document without a fault.
-use Rattle.std.proofs.Common.{◌≡◌, ℕ, ◌⊎◌, false, [], ◌∷◌, Some, None, option_and_then, refl}
+use Rattle.std.proofs.Common.{sym, ◌≡◌, ℕ, ◌⊎◌, false, [], ◌∷◌, Some, None, option_and_then, refl}
 use Rattle.opgen_operator.specs.declared.kind.Kind.TheVariants as kind
 use Rattle.opgen_kinds.specs.Sum.{IsSum}
 use Rattle.opgen_ports.proofs.InputPorts.{all_one}
@@ -7,8 +7,9 @@ use Rattle.toml.specs.Data.{Members}
 use Rattle.opgen_document.specs.declared.key.Key.TheVariants as key
 use Rattle.opgen_spec.specs.kinds.{kind_of, entry}
 use Rattle.opgen_spec.proofs.sound.Sound.{IsFew, IsSound, none_given, in_third}
-use Rattle.opgen_document.specs.Document.{value_at, text_at, items_at, count_at, small_at, counters_at}
+use Rattle.opgen_document.specs.Document.{value_at, text_at, items_at, flag_at, count_at, small_at, counters_at}
 use Rattle.opgen_document.specs.Ranges.{width_outside, power_outside, coefficients_outside, denominator_outside}
+use Rattle.opgen_ports.proofs.Marks.{is_exact-of}
 use Rattle.opgen_ports.specs.Ranges.{AreNear}
 use Rattle.opgen_spec.specs.kinds.Sum.{sum_of, IsSumAsWritten}
 use Rattle.opgen_spec.proofs.Compressors.{IsTaken, compressor_cases, first_without, compressor_written}
@@ -93,11 +94,11 @@ scale = record {
   ranges = λ ms f e. sum_in 1 ms (scale_keys ms f e);
   inputs = λ ms f e. all_one (IsFew ms) _ (width_few ms key.Width (scale_keys ms f e).width);
   written = λ ms f e. sum_written 1 ms (scale_keys ms f e);
-  agrees = λ ms. refl;
+  agrees = λ ms. sym (is_exact-of (flag_at ms key.Exact));
   marked = λ ms asked. asked;
   has = λ ms f e. sum_has 1 ms (scale_keys ms f e);
   names = λ ms f e. none_given (text_at ms key.Name);
-  chosen = λ version may. record { third = in_third version may; value = λ ms. refl; range = λ ms. refl };
+  chosen = λ version closed may. record { third = in_third version closed may; value = λ ms. refl; range = λ ms. refl };
 }
 
 pub fir : IsSound kind.Fir
@@ -107,9 +108,9 @@ fir = record {
   ranges = λ ms f e. sum_in 256 ms (fir_keys ms f e);
   inputs = λ ms f e. all_one (IsFew ms) _ (width_few ms key.Width (fir_keys ms f e).width);
   written = λ ms f e. sum_written 256 ms (fir_keys ms f e);
-  agrees = λ ms. refl;
+  agrees = λ ms. sym (is_exact-of (flag_at ms key.Exact));
   marked = λ ms asked. asked;
   has = λ ms f e. sum_has 256 ms (fir_keys ms f e);
   names = λ ms f e. none_given (text_at ms key.Name);
-  chosen = λ version may. record { third = in_third version may; value = λ ms. refl; range = λ ms. refl };
+  chosen = λ version closed may. record { third = in_third version closed may; value = λ ms. refl; range = λ ms. refl };
 }

@@ -65,7 +65,7 @@ out_lsb_written ms h = by (value_at ms key.OutLsb) refl
         inl (power_written ms key.OutLsb fine fine.typed)
 
 -- the first two versions do not have the key for it
-same_lsb : (ms : Members) → AreFine ms → kind_of ms ≡ Some kind.Tfir → IsEarly ms → out_lsb_of ms ≡ small_at ms key.Lsb
+same_lsb : (ms : Members) → AreFine ms → kind_of ms ≡ Some kind.Tfir → IsEarly (version_of ms) → out_lsb_of ms ≡ small_at ms key.Lsb
 unfolding entry
 same_lsb ms f e is_early =
     ap (λ o. option_map_or (λ _. small_at ms key.OutLsb) o (small_at ms key.Lsb))
@@ -144,5 +144,5 @@ tfir = record {
     ),
   );
   names = λ ms f e. none_given (text_at ms key.Name);
-  chosen = λ version may. record { third = in_third version may; value = λ ms. refl; range = λ ms. refl };
+  chosen = λ version closed may. record { third = in_third version closed may; value = λ ms. refl; range = λ ms. refl };
 }

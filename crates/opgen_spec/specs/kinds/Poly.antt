@@ -9,9 +9,9 @@ use Rattle.opgen_document.specs.declared.key.Stand.{Stand}
 use Rattle.opgen_document.specs.declared.key.Stand.TheVariants.{Absent, Optional, Needed}
 use Rattle.opgen_num.specs.declared.format.Format.{Format}
 use Rattle.opgen_document.specs.Decimals.{AreCoefficients}
-use Rattle.opgen_document.specs.Document.{value_at, number_at, items_at, count_at, small, small_at, since_third}
+use Rattle.opgen_document.specs.Document.{value_at, number_at, items_at, count_at, small, small_at, since_third, since_fourth}
 use Rattle.opgen_document.specs.Numbers.{numerators, denominator_of}
-use Rattle.opgen_document.specs.Ranges.{outside, width_outside, out_width_outside, coefficients_outside, denominator_outside}
+use Rattle.opgen_document.specs.Ranges.{outside, width_outside, out_width_outside, coefficients_outside, denominator_outside, overflow_outside, compressor_at_outside}
 use Rattle.opgen_document.specs.declared.key.Version.{Version}
 use Rattle.opgen_spec.specs.Entry.{Entry}
 
@@ -20,8 +20,10 @@ stand version key.Width = Needed
 stand version key.OutLsb = Needed
 stand version key.OutWidth = since_third version
 stand version key.OutSigned = since_third version
+stand version key.Overflow = since_fourth version
 stand version key.Coefficients = Needed
 stand version key.Denominator = Optional
+stand version key.Compressor = since_fourth version
 stand version _ = Absent
 
 -- the limits of the input's width and of the output's lowest bit are a polynomial's own
@@ -31,6 +33,8 @@ key_outside ms key.OutLsb = outside (negsuc 15) (pos 0) (number_at ms key.OutLsb
 key_outside ms key.OutWidth = out_width_outside ms
 key_outside ms key.Coefficients = coefficients_outside 2 5 ms
 key_outside ms key.Denominator = denominator_outside ms
+key_outside ms key.Overflow = overflow_outside ms
+key_outside ms key.Compressor = compressor_at_outside ms
 key_outside ms _ = None
 
 -- the format of an unsigned input below 1: the power of its lowest bit is its width, below 0
@@ -54,4 +58,4 @@ pub record IsPolyAsWritten (ms : Members) (p : Polynomial) : Type 0 where
   pub coefs : AreCoefficients ms p.coefs p.den
 
 abbrev pub poly : Entry
-poly = record { first = false; stand = stand; key_outside = key_outside; make = λ ms. operator.Poly (poly_of ms) }
+poly = record { first = false; stand = stand; key_outside = key_outside; clashes = λ ms k. false; make = λ ms. operator.Poly (poly_of ms) }

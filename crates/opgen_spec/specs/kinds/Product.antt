@@ -1,5 +1,5 @@
 -- A product of two inputs.
-use Rattle.std.specs.Prelude.{◌≡◌, ℤ, true, Option, Some, None}
+use Rattle.std.specs.Prelude.{◌≡◌, ℤ, true, false, Option, Some, None}
 use Rattle.opgen_kinds.specs.declared.product.Product.{Product}
 use Rattle.opgen_operator.specs.declared.operator.Operator.TheVariants as operator
 use Rattle.toml.specs.Data.{boolean, integer, Members}
@@ -7,12 +7,13 @@ use Rattle.opgen_document.specs.declared.key.Key.{Key}
 use Rattle.opgen_document.specs.declared.key.Key.TheVariants as key
 use Rattle.opgen_document.specs.declared.key.Stand.{Stand}
 use Rattle.opgen_document.specs.declared.key.Stand.TheVariants.{Absent, Needed}
-use Rattle.opgen_document.specs.Document.{value_at, text_at, small_at, format_at, counters_at, IsInputAsWritten, IsCompressorAsWritten, since_second, since_third}
-use Rattle.opgen_document.specs.Ranges.{power_outside, out_width_outside, compressor_outside}
+use Rattle.opgen_document.specs.Document.{value_at, small_at, format_at, counters_at, IsInputAsWritten, IsCompressorAsWritten, since_second, since_third, since_fourth}
+use Rattle.opgen_document.specs.Ranges.{power_outside, out_width_outside, rounding_outside, overflow_outside, compressor_at_outside}
 use Rattle.opgen_document.specs.declared.key.Version.{Version}
 use Rattle.opgen_spec.specs.Entry.{Entry, input_outside}
 
 abbrev pub stand : Version → Key → Stand
+stand version key.Rounding = since_fourth version
 stand version key.Signed = Needed
 stand version key.WidthA = Needed
 stand version key.LsbA = Needed
@@ -21,17 +22,20 @@ stand version key.LsbB = Needed
 stand version key.OutLsb = Needed
 stand version key.OutWidth = since_third version
 stand version key.OutSigned = since_third version
+stand version key.Overflow = since_fourth version
 stand version key.Compressor = since_second version
 stand version _ = Absent
 
 abbrev pub key_outside : Members → Key → Option ℤ
+key_outside ms key.Rounding = rounding_outside ms
 key_outside ms key.WidthA = input_outside ms key.WidthA
 key_outside ms key.LsbA = power_outside ms key.LsbA
 key_outside ms key.WidthB = input_outside ms key.WidthB
 key_outside ms key.LsbB = power_outside ms key.LsbB
 key_outside ms key.OutLsb = power_outside ms key.OutLsb
 key_outside ms key.OutWidth = out_width_outside ms
-key_outside ms key.Compressor = compressor_outside (text_at ms key.Compressor)
+key_outside ms key.Compressor = compressor_at_outside ms
+key_outside ms key.Overflow = overflow_outside ms
 key_outside ms _ = None
 
 abbrev pub product_of : Members → Product
@@ -50,4 +54,4 @@ pub record IsProductAsWritten (ms : Members) (p : Product) : Type 0 where
   pub compressor : IsCompressorAsWritten ms p.counters
 
 abbrev pub multiply : Entry
-multiply = record { first = true; stand = stand; key_outside = key_outside; make = λ ms. operator.Multiply (product_of ms) }
+multiply = record { first = true; stand = stand; key_outside = key_outside; clashes = λ ms k. false; make = λ ms. operator.Multiply (product_of ms) }

@@ -1,5 +1,5 @@
 -- Products of an input by several constants.
-use Rattle.std.specs.Prelude.{◌≡◌, Bool, ℤ, true, Option, Some, None}
+use Rattle.std.specs.Prelude.{◌≡◌, Bool, ℤ, true, false, Option, Some, None}
 use Rattle.opgen_kinds.specs.declared.several.Several.{Several}
 use Rattle.opgen_operator.specs.declared.operator.Operator.TheVariants as operator
 use Rattle.toml.specs.Data.{boolean, Items, Members}
@@ -48,4 +48,4 @@ pub record IsSeveralAsWritten (ms : Members) (m : Several) : Type 0 where
   pub search : IsSearchAsWritten ms m.searched m.extra
 
 abbrev pub mcm : Entry
-mcm = record { first = true; stand = stand; key_outside = key_outside; make = λ ms. operator.Mcm (several_of ms) }
+mcm = record { first = true; stand = stand; key_outside = key_outside; clashes = λ ms k. false; make = λ ms. operator.Mcm (several_of ms) }

@@ -1,5 +1,5 @@
 -- A square root of an input without a sign.
-use Rattle.std.specs.Prelude.{◌≡◌, ℤ, true, Option, Some, None}
+use Rattle.std.specs.Prelude.{◌≡◌, ℤ, true, false, Option, Some, None}
 use Rattle.opgen_kinds.specs.declared.single.Single.{Single}
 use Rattle.opgen_operator.specs.declared.operator.Operator.TheVariants as operator
 use Rattle.toml.specs.Data.{integer, Members}
@@ -36,4 +36,4 @@ pub record IsSingleAsWritten (ms : Members) (r : Single) : Type 0 where
   pub out_lsb : value_at ms key.OutLsb ≡ Some (integer r.out_lsb)
 
 abbrev pub root : Entry
-root = record { first = true; stand = stand; key_outside = key_outside; make = λ ms. operator.Root (single_of ms) }
+root = record { first = true; stand = stand; key_outside = key_outside; clashes = λ ms k. false; make = λ ms. operator.Root (single_of ms) }

@@ -36,4 +36,10 @@ pub record IsSmallDivAsWritten (ms : Members) (c : SmallDiv) : Type 0 where
   pub divisor : value_at ms key.Divisor ≡ Some (integer (pos c.divisor))
 
 abbrev pub constdiv : Entry
-constdiv = record { first = false; stand = stand; key_outside = key_outside; make = λ ms. operator.Constdiv (small_div_of ms) }
+constdiv = record {
+  first = false;
+  stand = stand;
+  key_outside = key_outside;
+  clashes = λ ms k. false;
+  make = λ ms. operator.Constdiv (small_div_of ms);
+}

@@ -10,19 +10,21 @@ use Rattle.opgen_document.specs.declared.key.Key.TheVariants as key
 use Rattle.opgen_document.specs.declared.key.Stand.{Stand}
 use Rattle.opgen_document.specs.declared.key.Stand.TheVariants.{Absent, Needed}
 use Rattle.opgen_document.specs.Decimals.{AreNumerators}
-use Rattle.opgen_document.specs.Document.{value_at, items_at, count_at, small_at, format_at, IsInputAsWritten, IsSearchAsWritten, since_third, needed_before_third, is_searched}
+use Rattle.opgen_document.specs.Document.{value_at, items_at, count_at, small_at, format_at, IsInputAsWritten, IsSearchAsWritten, since_third, since_fourth, needed_before_third, is_searched}
 use Rattle.opgen_document.specs.Numbers.{numerators}
-use Rattle.opgen_document.specs.Ranges.{outside, array_outside, power_outside, out_width_outside, constant_limit, extra_outside}
+use Rattle.opgen_document.specs.Ranges.{outside, array_outside, power_outside, out_width_outside, constant_limit, extra_outside, rounding_outside, overflow_outside}
 use Rattle.opgen_document.specs.declared.key.Version.{Version}
 use Rattle.opgen_spec.specs.Entry.{Entry, input_outside}
 
 abbrev pub stand : Version → Key → Stand
+stand version key.Rounding = since_fourth version
 stand version key.Signed = Needed
 stand version key.Width = Needed
 stand version key.Lsb = Needed
 stand version key.OutLsb = since_third version
 stand version key.OutWidth = since_third version
 stand version key.OutSigned = since_third version
+stand version key.Overflow = since_fourth version
 stand version key.Taps = Needed
 stand version key.Extra = needed_before_third version
 stand version _ = Absent
@@ -37,12 +39,14 @@ taps_outside true items = option_or (array_outside 1 32 (constant_limit true) it
 taps_outside false items = array_outside 1 256 (constant_limit false) items
 
 abbrev pub key_outside : Members → Key → Option ℤ
+key_outside ms key.Rounding = rounding_outside ms
 key_outside ms key.Width = input_outside ms key.Width
 key_outside ms key.Lsb = power_outside ms key.Lsb
 key_outside ms key.OutLsb = power_outside ms key.OutLsb
 key_outside ms key.OutWidth = out_width_outside ms
 key_outside ms key.Taps = taps_outside (is_searched ms) (items_at ms key.Taps)
 key_outside ms key.Extra = extra_outside ms
+key_outside ms key.Overflow = overflow_outside ms
 key_outside ms _ = None
 
 -- the power of the output's lowest bit: that of the input's where the document does not say it
@@ -66,4 +70,4 @@ pub record IsTapsAsWritten (ms : Members) (f : Taps) : Type 0 where
   pub search : IsSearchAsWritten ms f.searched f.extra
 
 abbrev pub tfir : Entry
-tfir = record { first = false; stand = stand; key_outside = key_outside; make = λ ms. operator.Tfir (taps_of ms) }
+tfir = record { first = false; stand = stand; key_outside = key_outside; clashes = λ ms k. false; make = λ ms. operator.Tfir (taps_of ms) }

@@ -1,10 +1,13 @@
 //! What a document says of a quotient of two inputs, both signed or none: its keys, their ranges, and the operator.
 ghost use Rattle.std.specs.Prelude.{◌≡◌};
 ghost use Rattle.toml.specs.View.{table_view};
-ghost use Rattle.opgen_spec.specs.kinds.Pair.{stand, key_outside, pair_of};
+ghost use Rattle.opgen_spec.specs.kinds.Pair.{stand, key_outside, clashes, pair_of};
 
 use crate::kinds::input_outside;
-use opgen_document::{Key, Stand, Version, flag_at, format_at, near_outside, small_at};
+use opgen_document::{
+    Key, Stand, Version, flag_at, format_at, near_outside, out_width_outside, overflow_outside,
+    recurrence_outside, small_at,
+};
 use opgen_operator::Pair;
 use toml::Table;
 
@@ -18,6 +21,9 @@ pub(crate) fn stand(version: Version, key: Key) -> Stand
     match key {
         Key::WidthA | Key::LsbA | Key::WidthB | Key::LsbB | Key::OutLsb => Stand::Needed,
         Key::Signed => Stand::since_third(version),
+        Key::OutWidth | Key::OutSigned | Key::Overflow | Key::Recurrence => {
+            Stand::since_fourth(version)
+        }
         _ => Stand::Absent,
     }
 }
@@ -29,7 +35,20 @@ pub(crate) fn key_outside(table: &Table, key: Key) -> Option<i64>
     match key {
         Key::WidthA | Key::WidthB => input_outside(table, key),
         Key::LsbA | Key::LsbB | Key::OutLsb => near_outside(table, key),
+        Key::OutWidth => out_width_outside(table),
+        Key::Overflow => overflow_outside(table),
+        Key::Recurrence => recurrence_outside(table),
         _ => None,
+    }
+}
+
+/// Whether the width of the output of an exact quotient is chosen.
+pub(crate) fn clashes(table: &Table, key: Key) -> bool
+    ensures { result ≡ clashes (table_view table.now) key }
+{
+    match key {
+        Key::OutWidth => flag_at(table, Key::Exact),
+        _ => false,
     }
 }
 

@@ -4,8 +4,9 @@ ghost use Rattle.toml.specs.View.{table_view};
 ghost use Rattle.opgen_spec.specs.kinds.Poly.{stand, key_outside, below_one_at, poly_of};
 
 use opgen_document::{
-    Key, Stand, Version, coefficients_outside, count_at, denominator_of, denominator_outside,
-    items_at, number_at, numerators, out_width_outside, outside, small, small_at, width_outside,
+    Key, Stand, Version, coefficients_outside, compressor_at_outside, count_at, denominator_of,
+    denominator_outside, items_at, number_at, numerators, out_width_outside, outside,
+    overflow_outside, small, small_at, width_outside,
 };
 use opgen_num::Format;
 use opgen_operator::Poly;
@@ -26,6 +27,7 @@ pub(crate) fn stand(version: Version, key: Key) -> Stand
         Key::Width | Key::OutLsb | Key::Coefficients => Stand::Needed,
         Key::OutWidth | Key::OutSigned => Stand::since_third(version),
         Key::Denominator => Stand::Optional,
+        Key::Overflow | Key::Compressor => Stand::since_fourth(version),
         _ => Stand::Absent,
     }
 }
@@ -40,6 +42,8 @@ pub(crate) fn key_outside(table: &Table, key: Key) -> Option<i64>
         Key::OutWidth => out_width_outside(table),
         Key::Coefficients => coefficients_outside(2, 5, table),
         Key::Denominator => denominator_outside(table),
+        Key::Overflow => overflow_outside(table),
+        Key::Compressor => compressor_at_outside(table),
         _ => None,
     }
 }

@@ -5,8 +5,8 @@ ghost use Rattle.opgen_spec.specs.kinds.Product.{stand, key_outside, product_of}
 
 use crate::kinds::input_outside;
 use opgen_document::{
-    Key, Stand, Version, compressor_outside, counters_at, format_at, out_width_outside,
-    power_outside, small_at, text_at,
+    Key, Stand, Version, compressor_at_outside, counters_at, format_at, out_width_outside,
+    overflow_outside, power_outside, rounding_outside, small_at,
 };
 use opgen_operator::Product;
 use toml::Table;
@@ -23,6 +23,7 @@ pub(crate) fn stand(version: Version, key: Key) -> Stand
             Stand::Needed,
         Key::OutWidth | Key::OutSigned => Stand::since_third(version),
         Key::Compressor => Stand::since_second(version),
+        Key::Rounding | Key::Overflow => Stand::since_fourth(version),
         _ => Stand::Absent,
     }
 }
@@ -35,7 +36,9 @@ pub(crate) fn key_outside(table: &Table, key: Key) -> Option<i64>
         Key::WidthA | Key::WidthB => input_outside(table, key),
         Key::LsbA | Key::LsbB | Key::OutLsb => power_outside(table, key),
         Key::OutWidth => out_width_outside(table),
-        Key::Compressor => compressor_outside(text_at(table, key)),
+        Key::Compressor => compressor_at_outside(table),
+        Key::Rounding => rounding_outside(table),
+        Key::Overflow => overflow_outside(table),
         _ => None,
     }
 }

@@ -3,12 +3,13 @@ ghost use Rattle.std.specs.Prelude.{◌≡◌, ◌<◌, ◌^◌, ◌++◌, posit
 ghost use Rattle.toml.specs.View.{view, items_view, table_view};
 ghost use Rattle.std.specs.Str.{bytes_eq};
 ghost use Rattle.opgen_document.specs.Document.{is_empty, in_table, in_tables};
-ghost use Rattle.opgen_spec.specs.kinds.Sop.{stand, key_outside, name_in, input_named, is_first_named, name_outside, factor_outside, has_no_terms, scaled_outside, place_of, input_of, scaled_of, times_of, sop_of};
+ghost use Rattle.opgen_spec.specs.kinds.Sop.{stand, most_inputs, most_products, key_outside, name_in, input_named, is_first_named, name_outside, factor_outside, has_no_terms, scaled_outside, place_of, input_of, scaled_of, times_of, sop_of};
 
 use opgen_document::{
-    Key, Stand, Version, compressor_outside, count, count_at, counters_at, denominator_outside,
-    flag_at, given_denominator, items_at, length_outside, number_at, numerator_outside,
-    out_width_outside, power_outside, small_at, text_at,
+    Key, Stand, Version, compressor_at_outside, count, count_at, counters_at, denominator_outside,
+    flag_at, given_denominator, items_at, length_outside, lut_outside, number_at,
+    numerator_outside, out_width_outside, overflow_outside, power_outside, rounding_outside,
+    small_at, text_at, version_of,
 };
 use opgen_list::{Items, Text};
 use opgen_num::Format;
@@ -28,6 +29,7 @@ pub(crate) fn stand(version: Version, key: Key) -> Stand
         Key::Denominator | Key::Offset | Key::Scaled | Key::Product => Stand::Optional,
         Key::OutWidth | Key::OutSigned => Stand::since_third(version),
         Key::Compressor => Stand::since_second(version),
+        Key::Rounding | Key::Overflow | Key::Lut => Stand::since_fourth(version),
         _ => Stand::Absent,
     }
 }
@@ -119,6 +121,26 @@ fn scaled_outside(table: &Table) -> Option<i64>
     }
 }
 
+// How many inputs the documents of a version may have.
+fn most_inputs(version: Version) -> u32
+    ensures { result ≡ most_inputs version }
+{
+    match version {
+        Version::First | Version::Second | Version::Third => 16,
+        Version::Fourth => 48,
+    }
+}
+
+// How many products they may have.
+fn most_products(version: Version) -> u32
+    ensures { result ≡ most_products version }
+{
+    match version {
+        Version::First | Version::Second | Version::Third => 16,
+        Version::Fourth => 32,
+    }
+}
+
 /// What stands at one of these keys and is out of its range.
 pub(crate) fn key_outside(table: &Table, key: Key) -> Option<i64>
     ensures { result ≡ key_outside (table_view table.now) key }
@@ -127,11 +149,16 @@ pub(crate) fn key_outside(table: &Table, key: Key) -> Option<i64>
         Key::OutLsb => power_outside(table, key),
         Key::OutWidth => out_width_outside(table),
         Key::Denominator => denominator_outside(table),
-        Key::Compressor => compressor_outside(text_at(table, key)),
+        Key::Compressor => compressor_at_outside(table),
         Key::Offset => numerator_outside(table, key),
-        Key::Input => length_outside(1, 16, items_at(table, key)),
+        Key::Input => length_outside(1, most_inputs(version_of(table)), items_at(table, key)),
         Key::Scaled => scaled_outside(table),
-        Key::Product => length_outside(0, 16, items_at(table, key)),
+        Key::Product => {
+            length_outside(0, most_products(version_of(table)), items_at(table, key))
+        }
+        Key::Rounding => rounding_outside(table),
+        Key::Overflow => overflow_outside(table),
+        Key::Lut => lut_outside(table),
         _ => None,
     }
 }

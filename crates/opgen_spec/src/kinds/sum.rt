@@ -5,9 +5,9 @@ ghost use Rattle.opgen_spec.specs.kinds.Sum.{stand, key_outside, sum_of};
 
 use crate::kinds::input_outside;
 use opgen_document::{
-    Key, Stand, Version, coefficients_outside, compressor_outside, counters_at, denominator_of,
-    denominator_outside, flag_at, format_at, items_at, numerators, out_width_outside,
-    power_outside, small_at, text_at,
+    Key, Stand, Version, coefficients_outside, compressor_at_outside, counters_at, denominator_of,
+    denominator_outside, flag_at, format_at, items_at, lut_outside, numerators, out_width_outside,
+    overflow_outside, power_outside, rounding_outside, small_at,
 };
 use opgen_operator::Sum;
 use std::alloc::{AllocError, Global};
@@ -25,6 +25,7 @@ pub(crate) fn stand(version: Version, key: Key) -> Stand
         Key::Denominator => Stand::Optional,
         Key::OutWidth | Key::OutSigned => Stand::since_third(version),
         Key::Compressor => Stand::since_second(version),
+        Key::Rounding | Key::Overflow | Key::Lut => Stand::since_fourth(version),
         _ => Stand::Absent,
     }
 }
@@ -40,7 +41,10 @@ pub(crate) fn key_outside(most: u32, table: &Table, key: Key) -> Option<i64>
         Key::OutWidth => out_width_outside(table),
         Key::Coefficients => coefficients_outside(1, most, table),
         Key::Denominator => denominator_outside(table),
-        Key::Compressor => compressor_outside(text_at(table, key)),
+        Key::Compressor => compressor_at_outside(table),
+        Key::Rounding => rounding_outside(table),
+        Key::Overflow => overflow_outside(table),
+        Key::Lut => lut_outside(table),
         _ => None,
     }
 }

@@ -9,8 +9,8 @@ ghost use Rattle.opgen_document.specs.Numbers.{numerators};
 use crate::kinds::input_outside;
 use opgen_document::{
     Key, Stand, Version, array_outside, coefficient, constant_limit, count_at, extra_outside,
-    format_at, is_searched, items_at, numerators, out_width_outside, outside, places_among,
-    power_outside, small_at, value_at,
+    format_at, is_searched, items_at, numerators, out_width_outside, outside, overflow_outside,
+    places_among, power_outside, rounding_outside, small_at, value_at,
 };
 use opgen_operator::{Taps, odd_part_count};
 use std::alloc::{AllocError, Global};
@@ -33,6 +33,7 @@ pub(crate) fn stand(version: Version, key: Key) -> Stand
         Key::Signed | Key::Width | Key::Lsb | Key::Taps => Stand::Needed,
         Key::Extra => Stand::needed_before_third(version),
         Key::OutLsb | Key::OutWidth | Key::OutSigned => Stand::since_third(version),
+        Key::Rounding | Key::Overflow => Stand::since_fourth(version),
         _ => Stand::Absent,
     }
 }
@@ -84,6 +85,8 @@ pub(crate) fn key_outside(table: &Table, key: Key) -> Option<i64>
         Key::OutWidth => out_width_outside(table),
         Key::Taps => taps_outside(is_searched(table), items_at(table, key)),
         Key::Extra => extra_outside(table),
+        Key::Rounding => rounding_outside(table),
+        Key::Overflow => overflow_outside(table),
         _ => None,
     }
 }

@@ -1,10 +1,11 @@
-use Rattle.std.proofs.Common.{◌≡◌, ◌<◌, List, [], ◌∷◌, ◌++◌, length, sym, ap, ◌∙◌, subst, arith, rules}
-use Rattle.std.specs.Prelude.{All, slice_index}
+use Rattle.std.proofs.Common.{◌≡◌, ◌<◌, List, [], ◌∷◌, ◌++◌, length, refl, sym, ap, ◌∙◌, subst, arith, rules}
+use Rattle.std.specs.Prelude.{All, IsTrue, slice_index}
 use Rattle.opgen_net.specs.declared.net.Net.{Net}
 use Rattle.opgen_net.specs.declared.node.Node.TheVariants.{Cells}
 use Rattle.opgen_net.specs.declared.cell.Class.TheVariants.{Add}
 use Rattle.opgen_net.specs.declared.word_bits.WordBit.{WordBit}
 use Rattle.opgen_design.specs.Plain.{plain}
+use Rattle.opgen_net.specs.Cells.{is_sum}
 use Rattle.opgen_net.specs.Valid.{widths, FitsNodes}
 use Rattle.opgen_net.specs.WordRule.{IsThere, HasBits, with_word}
 use Rattle.opgen_net.specs.Grown.{HasGrown}
@@ -114,3 +115,6 @@ returns-clause-grown c =
     let last = grown-more two_words (Cells Add c.args.width (plain c.in_ok-sum_of.field-0) ∷ []) in
     grown-then net two_words c.cells.new.self (grown-then net one two_words later.grown after.grown)
     (subst (HasGrown two_words) (sym c.in_ok-sum.ensures.ok) last)
+
+pub cells-requires-clause-class : goal.cells-requires-clause-class
+cells-requires-clause-class c = subst (λ e. IsTrue (is_sum e)) (sym c.in_ok-sum_of.ensures) refl

@@ -5,12 +5,19 @@ use Rattle.opgen_net.specs.declared.cell.Class.TheVariants.{Logic}
 use Rattle.opgen_net.specs.declared.net.Net.{Net}
 use Rattle.opgen_net.specs.declared.node.Node.TheVariants.{Cells}
 use Rattle.opgen_net.specs.declared.word_bits.WordBit.TheVariants.{Zero}
+use Rattle.opgen_net.specs.Cells.{IsLogic}
 use Rattle.opgen_net.specs.Placed.{with_last}
 use Rattle.opgen_net.specs.Valid.{widths}
 use Rattle.opgen_net.specs.WordRule.{IsThere}
 use Rattle.opgen_divide.specs.Recipe.{signs_differ}
-use Rattle.opgen_divide.proofs.Finished.{q_there, q_sign}
+use Rattle.opgen_divide.proofs.Finished.{differ-logic, q_there, q_sign}
 use Rattle.opgen_divide.proofs.results.signed_quotient.Goals as goal
+
+pub cells-requires-clause-class : goal.cells-requires-clause-class
+cells-requires-clause-class c =
+    let r = c.requires in
+    subst (IsLogic (widths c.args.net.now.nodes)) (sym c.in_ok-signs_differ.ensures)
+    (differ-logic c.args.pair.now c.args.net.now c.args.digits.now r.net r.inputs r.few r.there)
 
 pub signed_bits-requires-clause-there : goal.signed_bits-requires-clause-there
 signed_bits-requires-clause-there c =

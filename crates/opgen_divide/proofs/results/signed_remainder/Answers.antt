@@ -1,15 +1,19 @@
-use Rattle.std.proofs.Common.{◌≡◌, ℕ, sym, ap, ◌∙◌, subst}
-use Rattle.std.specs.Prelude.{All, slice_index}
+use Rattle.std.proofs.Common.{◌≡◌, ℕ, refl, sym, ap, ◌∙◌, subst}
+use Rattle.std.specs.Prelude.{All, IsTrue, slice_index}
 use Rattle.opgen_design.specs.Tree.{Tree}
 use Rattle.opgen_net.specs.declared.cell.Class.TheVariants.{Wire}
 use Rattle.opgen_net.specs.declared.net.Net.{Net}
 use Rattle.opgen_net.specs.declared.node.Node.TheVariants.{Cells}
+use Rattle.opgen_net.specs.Cells.{is_wire}
 use Rattle.opgen_net.specs.Placed.{with_last}
 use Rattle.opgen_net.specs.Valid.{widths}
 use Rattle.opgen_net.specs.WordRule.{IsThere}
 use Rattle.opgen_divide.specs.Sign.{sign_of}
 use Rattle.opgen_divide.proofs.Finished.{r_there, r_sign}
 use Rattle.opgen_divide.proofs.results.signed_remainder.Goals as goal
+
+pub cells-requires-clause-class : goal.cells-requires-clause-class
+cells-requires-clause-class c = subst (λ e. IsTrue (is_wire e)) (sym c.sign_of.ensures) refl
 
 pub signed_bits-requires-clause-there : goal.signed_bits-requires-clause-there
 signed_bits-requires-clause-there c =

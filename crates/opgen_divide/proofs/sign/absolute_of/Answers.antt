@@ -1,9 +1,10 @@
-use Rattle.std.proofs.Common.{◌≡◌, ℕ, length, sym, ap, ◌∙◌, subst}
-use Rattle.std.specs.Prelude.{slice_index}
+use Rattle.std.proofs.Common.{◌≡◌, ℕ, length, refl, sym, ap, ◌∙◌, subst}
+use Rattle.std.specs.Prelude.{IsTrue, slice_index}
 use Rattle.opgen_design.specs.Tree.{Tree}
 use Rattle.opgen_net.specs.declared.cell.Class.TheVariants.{Wire}
 use Rattle.opgen_net.specs.declared.net.Net.{Net}
 use Rattle.opgen_net.specs.declared.node.Node.TheVariants.{Cells}
+use Rattle.opgen_net.specs.Cells.{is_wire}
 use Rattle.opgen_net.specs.Placed.{with_last}
 use Rattle.opgen_net.specs.Valid.{FitsNodes, widths}
 use Rattle.opgen_divide.specs.Sign.{with_highest, with_sign, with_absolute, HasAbsolute}
@@ -15,6 +16,9 @@ cells-requires-clause-fits c =
     let net = c.args.net.now in
     subst (FitsNodes (widths net.nodes) 1) (sym c.sign_of.ensures)
     (highest-fits net c.args.node c.args.width c.requires.net c.requires.width c.requires.node)
+
+pub cells-requires-clause-class : goal.cells-requires-clause-class
+cells-requires-clause-class c = subst (λ e. IsTrue (is_wire e)) (sym c.sign_of.ensures) refl
 
 pub with_sign-requires-clause-sign : goal.with_sign-requires-clause-sign
 with_sign-requires-clause-sign c =

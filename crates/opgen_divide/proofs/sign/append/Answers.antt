@@ -1,4 +1,5 @@
-use Rattle.std.proofs.Common.{◌≡◌, ℕ, ◌+◌, List, Bool, length, sym, ap, ◌∙◌, subst}
+use Rattle.std.proofs.Common.{◌≡◌, ℕ, ◌+◌, List, Bool, length, refl, sym, ap, ◌∙◌, subst}
+use Rattle.std.specs.Prelude.{IsTrue}
 use Rattle.opgen_num.specs.WordLaws.{length-word}
 use Rattle.opgen_num.specs.Words.{word}
 use Rattle.opgen_design.specs.declared.expr.Slice.{Slice}
@@ -8,6 +9,7 @@ use Rattle.opgen_design.specs.Value.{IsWidth}
 use Rattle.opgen_net.specs.declared.cell.Class.TheVariants.{Add}
 use Rattle.opgen_net.specs.declared.net.Net.{Net}
 use Rattle.opgen_net.specs.declared.node.Node.TheVariants.{Constant, Cells}
+use Rattle.opgen_net.specs.Cells.{is_sum}
 use Rattle.opgen_net.specs.Placed.{difference_of, whole, with_last}
 use Rattle.opgen_net.specs.Valid.{FitsNodes, FitsChoice, widths}
 use Rattle.opgen_divide.specs.Sign.{with_opposite}
@@ -30,6 +32,9 @@ cells-requires-clause-fits c =
     subst (λ (n : Net). FitsNodes (widths n.nodes) m (plain c.in_ok-opposite.field-0)) (sym to)
     (subst (λ (e : Tree). FitsNodes (widths zeros.nodes) m e) (sym tree)
     (opposite-fits net c.args.sign node m c.requires.net c.requires.width c.requires.sign c.requires.node))
+
+pub cells-requires-clause-class : goal.cells-requires-clause-class
+cells-requires-clause-class c = subst (λ e. IsTrue (is_sum e)) (sym c.in_ok-opposite.ensures) refl
 
 pub choice-requires-clause-fits : goal.choice-requires-clause-fits
 choice-requires-clause-fits c =

@@ -2,13 +2,15 @@ use Rattle.std.proofs.Common.{◌≡◌, ℕ, sym, ap, ◌∙◌, subst}
 use Rattle.opgen_design.specs.Plain.{plain}
 use Rattle.opgen_design.specs.Tree.{Tree}
 use Rattle.opgen_net.specs.declared.net.Net.{Net}
+use Rattle.std.specs.Prelude.{IsTrue}
+use Rattle.opgen_net.specs.Cells.{is_sum}
 use Rattle.opgen_net.specs.Valid.{widths, FitsNodes}
 use Rattle.opgen_net.specs.Placed.{with_bits}
 use Rattle.opgen_graph.specs.declared.multiples.Multiple.{Multiple}
 use Rattle.opgen_graph.specs.Placing.{IsNode}
 use Rattle.opgen_graph.specs.Recipe.{multiple_of, operand, added}
 use Rattle.opgen_graph.proofs.Standing.{multiple_of-all}
-use Rattle.opgen_graph.proofs.Sums.{first, second, v-kept, node-fits}
+use Rattle.opgen_graph.proofs.Sums.{added-sum, first, second, v-kept, node-fits}
 use Rattle.opgen_graph.proofs.adders.sum.Goals as goal
 
 pub operand-requires-clause-node : goal.operand-requires-clause-node
@@ -65,3 +67,8 @@ cells-requires-clause-fits c =
     subst (λ (n : Net). FitsNodes (widths n.nodes) a.width (plain c.in_ok-added.field-0)) (sym to_two)
     (subst (λ (e : Tree). FitsNodes (widths two.net.nodes) a.width e) (sym tree)
     (node-fits a.signed a.width a.net.now a.adder u v c.requires.net c.requires.width node_u node_v))
+
+pub cells-requires-clause-class : goal.cells-requires-clause-class
+cells-requires-clause-class c =
+    let a = c.args.adder in
+    subst (λ e. IsTrue (is_sum e)) (sym c.in_ok-added.ensures) (added-sum a.step.form a.u a.v c.in_ok-a.a c.in_ok-b.b)

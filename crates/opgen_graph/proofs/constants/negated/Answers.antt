@@ -1,4 +1,5 @@
-use Rattle.std.proofs.Common.{◌≡◌, ℕ, length, sym, ap, ◌∙◌, subst}
+use Rattle.std.proofs.Common.{◌≡◌, ℕ, length, refl, sym, ap, ◌∙◌, subst}
+use Rattle.std.specs.Prelude.{IsTrue}
 use Rattle.opgen_num.specs.WordLaws.{length-word}
 use Rattle.opgen_num.specs.Words.{word}
 use Rattle.opgen_design.specs.Plain.{plain}
@@ -7,12 +8,16 @@ use Rattle.opgen_design.specs.Value.{IsWidth}
 use Rattle.opgen_net.specs.declared.net.Net.{Net}
 use Rattle.opgen_net.specs.declared.node.Node.TheVariants.{Constant}
 use Rattle.opgen_net.specs.Valid.{widths, FitsNodes}
+use Rattle.opgen_net.specs.Cells.{is_sum}
 use Rattle.opgen_net.specs.Placed.{Placed, difference_of, with_last}
 use Rattle.opgen_graph.proofs.Products.{negated-fits}
 use Rattle.opgen_graph.proofs.constants.negated.Goals as goal
 
 pub constant-requires-clause-width : goal.constant-requires-clause-width
 constant-requires-clause-width c = subst IsWidth (sym (ap length c.new.ensures ∙ length-word c.args.width 0)) c.requires.width
+
+pub cells-requires-clause-class : goal.cells-requires-clause-class
+cells-requires-clause-class c = subst (λ e. IsTrue (is_sum e)) (sym c.in_ok-chain.ensures) refl
 
 pub cells-requires-clause-fits : goal.cells-requires-clause-fits
 cells-requires-clause-fits c =

@@ -1,9 +1,10 @@
-use Rattle.std.proofs.Common.{◌≡◌, ◌≢◌, ◌+◌, ◌^◌, FitsSigned, of_z, rules, arith, ap, false}
+use Rattle.std.proofs.Common.{◌≡◌, ◌≢◌, ◌+◌, ◌^◌, FitsSigned, of_z, rules, arith, ap}
 use Rattle.std.specs.Prelude.{pos, unsigned_abs}
 use Rattle.std.specs.Int.{w32, w128}
 use Rattle.std.proofs.lemmas.Int.{to_z-of_z}
 use Rattle.opgen_kinds.specs.Pair.{dividend, exact_quotient, pair_shift}
 use Rattle.opgen_num.specs.declared.format.Ratio.{Ratio}
+use Rattle.opgen_num.specs.declared.mode.Mode.TheVariants.{Faithful}
 use Rattle.opgen_ports.specs.Reaches.{places_up}
 use Rattle.opgen_ports.proofs.Bounds.{products}
 use Rattle.opgen_ports.proofs.InputPorts.{input_bit}
@@ -123,5 +124,5 @@ returns-else-exact-clause-in_range c =
     let shifted : c.raised-shifted.result ≡ dividend p c.args.a = rw raised_up at simp to_z-of_z at c.raised-shifted.ensures.value in
     let value : c.over-value.result ≡ exact_quotient p c.args.a c.args.b = rw shifted at simp to_z-of_z at c.over-value.ensures in
     let q = rw c.quotient_format.ensures at c.output-q.ensures in
-    λ _. rw c.if-exact.false (good-along c.good_linear.result false c.over-value.result.num _ c.over-value.result.den _ c.output-q.result _
+    λ _. rw c.if-exact.false (good-along c.good_linear.result Faithful c.over-value.result.num _ c.over-value.result.den _ c.output-q.result _
     (ap (λ (v : Ratio). v.num) value) (ap (λ (v : Ratio). v.den) value) q (simp to_z-of_z at c.good_linear.ensures))

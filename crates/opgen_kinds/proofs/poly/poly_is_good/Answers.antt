@@ -22,5 +22,5 @@ returns c =
     let fits_x = c.ranges.x in
     let value : c.exact_poly-value.result ≡ exact_poly c.args.poly.now c.args.x = simp to_z-of_z at c.exact_poly-value.ensures.value in
     let out = rw c.output.ensures.value at c.output-y.ensures in
-    good-along c.good_linear.result c.args.exact c.exact_poly-value.result.num _ c.exact_poly-value.result.den _ c.output-y.result _
+    good-along c.good_linear.result c.args.mode c.exact_poly-value.result.num _ c.exact_poly-value.result.den _ c.output-y.result _
     (ap (λ (v : Ratio). v.num) value) (ap (λ (v : Ratio). v.den) value) out (simp to_z-of_z at c.good_linear.ensures)

@@ -32,5 +32,5 @@ returns c =
     let fits_b : FitsSigned w128 c.args.b = number_fits p.b _ c.requires.product.b c.requires.b in
     let value : c.exact_product-value.result ≡ exact_product p c.args.a c.args.b = simp to_z-of_z at c.exact_product-value.ensures.value in
     let out = rw c.product_format.ensures at c.output-y.ensures in
-    good-along c.good_linear.result c.args.exact c.exact_product-value.result.num _ c.exact_product-value.result.den _ c.output-y.result _
+    good-along c.good_linear.result c.args.mode c.exact_product-value.result.num _ c.exact_product-value.result.den _ c.output-y.result _
     (ap (λ (v : Ratio). v.num) value) (ap (λ (v : Ratio). v.den) value) out (simp to_z-of_z at c.good_linear.ensures)

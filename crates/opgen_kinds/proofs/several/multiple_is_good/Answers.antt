@@ -23,5 +23,5 @@ returns c =
     let format : c.constant_format.result ≡ constant_format c.args.input c.args.constant = simp to_z-of_z at c.constant_format.ensures in
     let num = simp to_z-of_z at c.product.ensures in
     let out = rw format at c.output-y.ensures in
-    good-along c.good_linear.result c.args.exact c.product.result _ (pos 1) (pos 1) c.output-y.result _ num refl out
+    good-along c.good_linear.result c.args.mode c.product.result _ (pos 1) (pos 1) c.output-y.result _ num refl out
     (simp to_z-of_z at c.good_linear.ensures)

@@ -35,7 +35,7 @@ returns-then-not-multiple_is_good c =
     let small : unsigned_abs (get_or m.constants i (pos 0)) ≤ 1048575 = c.requires.several.constants i (pos 0) here in
     let fits_constant : FitsSigned w64 (get_or m.constants i (pos 0)) = omega (arith, ints) in
     let fits_x = c.ranges.x in
-    let judged = multiple-judged m c.args.outputs.now i (pos 0) c.args.exact false c.args.x here
+    let judged = multiple-judged m c.args.outputs.now i (pos 0) c.args.mode false c.args.x here
     (simp to_z-of_z at rw (same, c.constants.invariant.place) at c.if-not-multiple_is_good.ensures) in
     (λ (none : IsTrue false). cc, λ all. judged.1 (all i (get_or m.constants i (pos 0)) (slice_get-get_or m.constants i (pos 0) here)))
 
@@ -48,11 +48,11 @@ constants-preserved c =
     let small : unsigned_abs (get_or m.constants i (pos 0)) ≤ 1048575 = c.requires.several.constants i (pos 0) here in
     let fits_constant : FitsSigned w64 (get_or m.constants i (pos 0)) = omega (arith, ints) in
     let fits_x = c.ranges.x in
-    let judged = multiple-judged m c.args.outputs.now i (pos 0) c.args.exact true c.args.x here
+    let judged = multiple-judged m c.args.outputs.now i (pos 0) c.args.mode true c.args.x here
     (simp to_z-of_z at rw (same, c.constants.invariant.place) at c.if-not-multiple_is_good.ensures) in
     record {
       place = omega (arith, c.constants.invariant.place);
-      good = simp to_z-of_z (each_more (λ (k : ℕ) (t : ℤ). IsGoodRatio c.args.exact (exact_multiple t c.args.x) (output_numbers
+      good = simp to_z-of_z (each_more (λ (k : ℕ) (t : ℤ). IsGoodRatio c.args.mode (exact_multiple t c.args.x) (output_numbers
           (multiple_ports m) c.args.outputs.now k)) m.constants i
           (simp to_z-of_z at c.constants.invariant.good) (judged.0 refl));
     }

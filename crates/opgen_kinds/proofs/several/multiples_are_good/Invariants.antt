@@ -9,5 +9,5 @@ abbrev pub invariant-constants : goal.invariant-constants
 invariant-constants l = record {
   place : l.place ≡ l.constant-index;
   good : (k : ℕ) (t : ℤ) → k < l.constant-index → slice_get l.several.constants k ≡ Some t
-      → IsGoodRatio l.exact (exact_multiple t l.x) (output_numbers (multiple_ports l.several) l.outputs k);
+      → IsGoodRatio l.mode (exact_multiple t l.x) (output_numbers (multiple_ports l.several) l.outputs k);
 }

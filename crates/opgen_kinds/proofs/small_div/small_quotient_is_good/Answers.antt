@@ -1,7 +1,8 @@
-use Rattle.std.proofs.Common.{◌≡◌, ◌∙◌, FitsSigned, rules, ap, refl, false}
+use Rattle.std.proofs.Common.{◌≡◌, ◌∙◌, FitsSigned, rules, ap, refl}
 use Rattle.std.specs.Prelude.{pos, slice_index, unsigned_abs}
 use Rattle.std.specs.Int.{w128}
 use Rattle.std.proofs.lemmas.Int.{to_z-of_z}
+use Rattle.opgen_num.specs.declared.mode.Mode.TheVariants.{Faithful}
 use Rattle.opgen_kinds.specs.SmallDiv.{small_quotient_format, small_rest_format}
 use Rattle.opgen_ports.specs.Ports.{number_of}
 use Rattle.opgen_ports.proofs.Roundings.{good-along, quotient-along}
@@ -32,6 +33,6 @@ returns-else-exact c =
     let fits_q : FitsSigned w128 c.output-q.result = search rules in
     let main : c.output-q.result ≡ number_of (small_quotient_format small) (slice_index outputs 0) =
     rw c.quotient.ensures at c.output-q.ensures in
-    rw c.if-exact.false (good-along c.good_linear.result false c.args.x c.args.x c.into-else-exact.result (pos small.divisor)
+    rw c.if-exact.false (good-along c.good_linear.result Faithful c.args.x c.args.x c.into-else-exact.result (pos small.divisor)
     c.output-q.result (number_of (small_quotient_format small) (slice_index outputs 0)) refl c.into-else-exact.ensures main
     (simp to_z-of_z at c.good_linear.ensures))

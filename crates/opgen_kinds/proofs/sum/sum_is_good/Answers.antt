@@ -24,5 +24,5 @@ returns c =
     let num = ap (λ (r : Ratio). r.num) c.exact_sum-value.ensures.value in
     let den = ap (λ (r : Ratio). r.den) c.exact_sum-value.ensures.value in
     let out = rw c.sum_format.ensures at c.output.ensures in
-    good-along c.good_linear.result c.args.exact c.exact_sum-value.result.num _ c.exact_sum-value.result.den _ c.output.result _ num den out
+    good-along c.good_linear.result c.args.mode c.exact_sum-value.result.num _ c.exact_sum-value.result.den _ c.output.result _ num den out
     (simp to_z-of_z at c.good_linear.ensures)

@@ -23,7 +23,7 @@ returns-then-whole-low c =
     let floor : IsFloor c.args.value.num m q = subst (λ k. IsFloor c.args.value.num m k) (sym whole) (floor_is c.args.value.num m c.requires.den) in
     let less : q <ℤ least_of c.args.to = omega (arith, ints, c.least_of-low.ensures, c.if-whole-low.true) in
     let (only, good) = good_below m (least_of c.args.to) (greatest_of c.args.to) c.args.value.num q
-    c.requires.den (in_order c.args.to.signed c.args.to.width) floor c.args.exact c.args.y less in
+    c.requires.den (in_order c.args.to.signed c.args.to.width) floor c.args.mode c.args.y less in
     (λ t. good (omega (arith, ints, eqb-true, eq-eqb, t, c.least_of-low.ensures)), λ g. omega (arith, ints, eqb-true, eq-eqb, only g, c.least_of-low.ensures))
 
 pub returns-then-whole-high : goal.returns-then-whole-high
@@ -39,7 +39,7 @@ returns-then-whole-high c =
     let floor : IsFloor c.args.value.num m q = subst (λ k. IsFloor c.args.value.num m k) (sym whole) (floor_is c.args.value.num m c.requires.den) in
     let above : greatest_of c.args.to ≤ℤ q = omega (arith, ints, c.greatest_of-high.ensures, c.if-whole-high.true) in
     let (only, good) = good_above m (least_of c.args.to) (greatest_of c.args.to) c.args.value.num q
-    c.requires.den (in_order c.args.to.signed c.args.to.width) floor c.args.exact c.args.y above in
+    c.requires.den (in_order c.args.to.signed c.args.to.width) floor c.args.mode c.args.y above in
     (λ t. good (omega (arith, ints, eqb-true, eq-eqb, t, c.greatest_of-high.ensures)), λ g. omega (arith, ints, eqb-true, eq-eqb, only g, c.greatest_of-high.ensures))
 
 pub returns-else-whole-high : goal.returns-else-whole-high
@@ -58,5 +58,5 @@ returns-else-whole-high c =
     let high : q <ℤ greatest_of c.args.to = omega (arith, ints, c.greatest_of-high.ensures, c.if-whole-high.false) in
     let same = into_range_within m (least_of c.args.to) (greatest_of c.args.to) c.args.value.num q
     c.requires.den (in_order c.args.to.signed c.args.to.width) floor low high in
-    let good : IsTrue c.good_linear.result ↔ IsGoodLinear c.args.value.num m c.args.y c.args.exact = simp to_z-of_z at c.good_linear.ensures in
-    subst (λ k. IsTrue c.good_linear.result ↔ IsGoodLinear k m c.args.y c.args.exact) (sym same) good
+    let good : IsTrue c.good_linear.result ↔ IsGoodLinear c.args.value.num m c.args.y c.args.mode = simp to_z-of_z at c.good_linear.ensures in
+    subst (λ k. IsTrue c.good_linear.result ↔ IsGoodLinear k m c.args.y c.args.mode) (sym same) good

@@ -2,12 +2,13 @@ use Rattle.std.proofs.Common.{◌≡◌, Some, None, sym, subst, ◌∙◌}
 use Rattle.std.specs.Prelude.{OnOk}
 use Rattle.std.proofs.lemmas.Result.{IfOk-weaker}
 use Rattle.opgen_operator.specs.Fits.{FitsSpec}
+use Rattle.opgen_operator.specs.Outputs.{mode_of}
 use Rattle.opgen_operator.proofs.Accepted.{plain_fits}
 use Rattle.opgen_saturate.proofs.ChosenNets.{cut_formats, cut_fits_by}
 use Rattle.opgen_saturate.proofs.cut.cut_output.Goals as goal
 
 pub saturate_output-requires-clause-net : goal.saturate_output-requires-clause-net
-saturate_output-requires-clause-net c = (c.requires.fits c.args.spec.now.exact c.requires.valid.mode).valid
+saturate_output-requires-clause-net c = (c.requires.fits (mode_of c.args.spec.now) c.requires.valid.mode).valid
 
 pub saturate_output-requires-clause-formats : goal.saturate_output-requires-clause-formats
 saturate_output-requires-clause-formats c =
@@ -24,7 +25,7 @@ returns-in-Some-clause-fits c =
 
 pub returns-in-None-clause-fits : goal.returns-in-None-clause-fits
 returns-in-None-clause-fits c =
-    plain_fits c.args.spec.now c.args.net.now (c.cut.ensures.none.0 c.in-None.is) (c.requires.fits c.args.spec.now.exact c.requires.valid.mode)
+    plain_fits c.args.spec.now c.args.net.now (c.cut.ensures.none.0 c.in-None.is) (c.requires.fits (mode_of c.args.spec.now) c.requires.valid.mode)
 
 pub returns-in-None-clause-valid : goal.returns-in-None-clause-valid
-returns-in-None-clause-valid c = (c.requires.fits c.args.spec.now.exact c.requires.valid.mode).valid
+returns-in-None-clause-valid c = (c.requires.fits (mode_of c.args.spec.now) c.requires.valid.mode).valid

@@ -1,26 +1,17 @@
 use Rattle.std.proofs.Common.{◌≡◌, ℕ, List, length, sym, ap, ◌∙◌, subst, rules}
 use Rattle.std.specs.Prelude.{All}
 use Rattle.opgen_design.specs.declared.expr.Slice.{Slice}
-use Rattle.opgen_design.specs.Tree.{Tree}
 use Rattle.opgen_design.specs.Value.{IsWidth}
-use Rattle.opgen_net.specs.declared.cell.Class.TheVariants.{Logic}
 use Rattle.opgen_net.specs.declared.net.Net.{Net}
-use Rattle.opgen_net.specs.declared.node.Node.TheVariants.{Cells}
 use Rattle.opgen_net.specs.declared.word_bits.WordBit.{WordBit}
-use Rattle.opgen_net.specs.Placed.{with_bits, with_last, whole}
-use Rattle.opgen_net.specs.Valid.{FitsNodes, FitsChoice, widths}
+use Rattle.opgen_net.specs.Placed.{with_bits, whole}
+use Rattle.opgen_net.specs.Valid.{FitsChoice, widths}
 use Rattle.opgen_net.specs.WordRule.{IsThere}
-use Rattle.opgen_saturate.specs.Recipe.{resized, with_test, with_limit}
+use Rattle.opgen_saturate.specs.Recipe.{resized, last_place, with_test, with_limit}
 use Rattle.opgen_saturate.specs.Saturates.{AreFormats}
 use Rattle.opgen_saturate.proofs.Lowest.{wide, there}
-use Rattle.opgen_saturate.proofs.Whole.{test-fits, tested-are, limit-later, limit-are, last-fits}
+use Rattle.opgen_saturate.proofs.Whole.{tested-are, limit-later, limit-are, last-fits}
 use Rattle.opgen_saturate.proofs.step.choose.Goals as goal
-
-pub cells-requires-clause-fits : goal.cells-requires-clause-fits
-cells-requires-clause-fits c =
-    let net = c.args.net.now in
-    subst (FitsNodes (widths net.nodes) 1) (sym c.in_ok-outside.ensures)
-    (test-fits net c.args.node c.args.format c.args.to c.requires.net c.requires.formats c.requires.narrow)
 
 pub limit-requires-clause-formats : goal.limit-requires-clause-formats
 limit-requires-clause-formats c =
@@ -28,8 +19,7 @@ limit-requires-clause-formats c =
     let node = c.args.node in
     let format = c.args.format in
     let to = c.args.to in
-    let one : c.cells.new.self ≡ with_test node format to net =
-    c.in_ok-test.ensures.ok ∙ ap (λ (e : Tree). with_last net (Cells Logic 1 e)) c.in_ok-outside.ensures in
+    let one : c.test.new.net ≡ with_test node format to net = c.in_ok-test.ensures.ok in
     subst (λ (n : Net). AreFormats n node format to) (sym one)
     (tested-are net node format to c.requires.net c.requires.formats c.requires.narrow)
 
@@ -54,8 +44,7 @@ word-requires-clause-there c =
     let before = with_limit node format to (with_test node format to net) in
     let given = resized node format to.width in
     let bits : c.as_slice.result.now ≡ given = search rules in
-    let one : c.cells.new.self ≡ with_test node format to net =
-    c.in_ok-test.ensures.ok ∙ ap (λ (e : Tree). with_last net (Cells Logic 1 e)) c.in_ok-outside.ensures in
+    let one : c.test.new.net ≡ with_test node format to net = c.in_ok-test.ensures.ok in
     let two : c.limit.new.net ≡ before.net =
     c.in_ok-limit.ensures.ok ∙ ap (λ (n : Net). (with_limit node format to n).net) one in
     subst (All (IsThere (widths c.limit.new.net.nodes))) (sym bits)
@@ -70,13 +59,12 @@ choice-requires-clause-fits c =
     let format = c.args.format in
     let to = c.args.to in
     let m = to.width in
-    let n = length net.nodes in
+    let q = last_place (with_test node format to net) in
     let before = with_limit node format to (with_test node format to net) in
     let given = resized node format m in
     let low = with_bits before.net given in
     let bits : c.as_slice.result.now ≡ given = search rules in
-    let one : c.cells.new.self ≡ with_test node format to net =
-    c.in_ok-test.ensures.ok ∙ ap (λ (e : Tree). with_last net (Cells Logic 1 e)) c.in_ok-outside.ensures in
+    let one : c.test.new.net ≡ with_test node format to net = c.in_ok-test.ensures.ok in
     let two : c.limit.new.net ≡ before.net =
     c.in_ok-limit.ensures.ok ∙ ap (λ (o : Net). (with_limit node format to o).net) one in
     let limit : c.in_ok-limit.limit ≡ before.place =
@@ -95,4 +83,4 @@ choice-requires-clause-fits c =
     subst (λ (s : Slice). FitsChoice (widths c.word.new.self.nodes) c.in_ok-test.test c.whole.result s) (sym second)
     (subst (λ (s : Slice). FitsChoice (widths c.word.new.self.nodes) c.in_ok-test.test s (whole m low.place)) (sym first)
     (subst (λ (k : ℕ). FitsChoice (widths c.word.new.self.nodes) k (whole m before.place) (whole m low.place)) (sym c.in_ok-test.ensures.place)
-    (subst (λ (o : Net). FitsChoice (widths o.nodes) n (whole m before.place) (whole m low.place)) (sym three) fits)))
+    (subst (λ (o : Net). FitsChoice (widths o.nodes) q (whole m before.place) (whole m low.place)) (sym three) fits)))

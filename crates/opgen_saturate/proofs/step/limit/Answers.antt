@@ -1,4 +1,4 @@
-use Rattle.std.proofs.Common.{◌≡◌, ℕ, ◌+◌, ◌-◌, ◌^◌, if◌then◌else◌, List, Bool, length, sym, ap, ◌∙◌, subst}
+use Rattle.std.proofs.Common.{◌≡◌, ℕ, ◌+◌, ◌-◌, ◌^◌, if◌then◌else◌, List, Bool, length, refl, sym, ap, ◌∙◌, subst}
 use Rattle.opgen_design.specs.declared.expr.Slice.{Slice}
 use Rattle.opgen_design.specs.Tree.{Tree}
 use Rattle.opgen_design.specs.Value.{IsWidth}
@@ -6,6 +6,7 @@ use Rattle.opgen_num.specs.declared.format.Format.{Format}
 use Rattle.opgen_net.specs.declared.cell.Class.TheVariants.{Wire}
 use Rattle.opgen_net.specs.declared.net.Net.{Net}
 use Rattle.opgen_net.specs.declared.node.Node.TheVariants.{Constant, Cells}
+use Rattle.opgen_net.specs.Cells.{IsOfClass}
 use Rattle.opgen_net.specs.Placed.{with_last, whole}
 use Rattle.opgen_net.specs.Valid.{FitsNodes, FitsChoice, widths}
 use Rattle.opgen_saturate.specs.Recipe.{with_sign, with_ends, least_word, greatest_word, counting}
@@ -31,6 +32,11 @@ constant-requires-2-clause-width c =
 pub constant-requires-3-clause-width : goal.constant-requires-3-clause-width
 constant-requires-3-clause-width c =
     greatest-wide c.args.to c.requires.formats.to_width c.greatest_word-2.result c.greatest_word-2.ensures
+
+pub cells-requires-clause-class : goal.cells-requires-clause-class
+cells-requires-clause-class c =
+    let net = c.args.net.now in
+    subst (IsOfClass (widths net.nodes) Wire) (sym c.bit.ensures) refl
 
 pub cells-requires-clause-fits : goal.cells-requires-clause-fits
 cells-requires-clause-fits c =

@@ -13,3 +13,7 @@ returns-in-Second c = rw c.in-Second.is refl
 pub returns-in-Third : goal.returns-in-Third
 unfolding kinds
 returns-in-Third c = rw c.in-Third.is refl
+
+pub returns-in-Fourth : goal.returns-in-Fourth
+unfolding kinds
+returns-in-Fourth c = rw c.in-Fourth.is refl

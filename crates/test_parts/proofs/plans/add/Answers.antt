@@ -1,11 +1,12 @@
 use Rattle.std.proofs.Common.{◌≡◌, ℕ, Bool, List, [], Some, None, refl, sym, ap, ◌∙◌, subst, arith}
-use Rattle.std.specs.Prelude.{slice_index, slice_get, option_and_then, if◌then◌else◌}
+use Rattle.std.specs.Prelude.{IsTrue, slice_index, slice_get, option_and_then, if◌then◌else◌}
 use Rattle.std.proofs.lemmas.Bool.{eq-eqb}
 use Rattle.std.proofs.lemmas.Option.{slice_get-get_or}
 use Rattle.opgen_design.specs.declared.expr.Op.TheVariants.{Plus}
 use Rattle.opgen_design.specs.Tree.{name, none, more, chain}
 use Rattle.opgen_design.specs.Value.{IsWidth, as_width, joined, width, width_on}
 use Rattle.opgen_design.proofs.WidthLaws.{as_width-of}
+use Rattle.opgen_net.specs.Cells.{is_sum}
 use Rattle.opgen_net.specs.Valid.{widths, FitsNodes}
 use Rattle.opgen_net.proofs.FlowLaws.{index_within}
 use Rattle.test_parts.proofs.plans.add.Goals as goal
@@ -31,3 +32,6 @@ pub cells-requires-clause-fits : goal.cells-requires-clause-fits
 cells-requires-clause-fits c =
     let ws = widths c.args.net.now.nodes in
     subst (FitsNodes ws 4) (sym c.in_ok-sum_of.ensures) (sum-fits ws c.args.first c.args.second c.requires.first c.requires.second)
+
+pub cells-requires-clause-class : goal.cells-requires-clause-class
+cells-requires-clause-class c = subst (λ e. IsTrue (is_sum e)) (sym c.in_ok-sum_of.ensures) refl

@@ -1,7 +1,7 @@
 use Rattle.std.proofs.Common.{FitsSigned, refl, rules, arith}
 use Rattle.std.specs.Int.{w128}
 use Rattle.std.proofs.lemmas.Int.{to_z-of_z}
-use Rattle.opgen_kinds.specs.Product.{product_need, product_meaning}
+use Rattle.opgen_kinds.specs.Product.{product_need, product_meaning, product_acceptance}
 use Rattle.opgen_kinds.proofs.of_kind.Product.{product_lawful}
 use Rattle.opgen_ports.proofs.Accepted.{accepted_ranges, accepted_shift, accepted_width}
 use Rattle.opgen_ports.proofs.Cycles.{only_word}
@@ -11,18 +11,18 @@ pub bounds-outputs-0 : goal.bounds-outputs-0
 bounds-outputs-0 c = (only_word _ c.args.outputs.now c.requires.outputs).0
 
 pub product_is_good-requires-clause-product : goal.product_is_good-requires-clause-product
-product_is_good-requires-clause-product c = accepted_ranges (product_meaning c.args.self.now) c.requires.accepted
+product_is_good-requires-clause-product c = accepted_ranges (product_meaning c.args.self.now) (product_acceptance c.args.self.now) c.requires.accepted
 
 pub product_is_good-requires-clause-low : goal.product_is_good-requires-clause-low
-product_is_good-requires-clause-low c = (accepted_shift (product_meaning c.args.self.now) (product_lawful c.args.self.now) c.requires.accepted).0
+product_is_good-requires-clause-low c = (accepted_shift (product_meaning c.args.self.now) (product_acceptance c.args.self.now) (product_lawful c.args.self.now) c.requires.accepted).0
 
 pub product_is_good-requires-clause-high : goal.product_is_good-requires-clause-high
-product_is_good-requires-clause-high c = (accepted_shift (product_meaning c.args.self.now) (product_lawful c.args.self.now) c.requires.accepted).1
+product_is_good-requires-clause-high c = (accepted_shift (product_meaning c.args.self.now) (product_acceptance c.args.self.now) (product_lawful c.args.self.now) c.requires.accepted).1
 
 pub product_is_good-requires-clause-narrow : goal.product_is_good-requires-clause-narrow
 product_is_good-requires-clause-narrow c =
     let p = c.args.self.now in
-    omega (arith, accepted_width (product_meaning p) (product_need p) c.requires.accepted refl)
+    omega (arith, accepted_width (product_meaning p) (product_acceptance p) (product_need p) c.requires.accepted refl)
 
 pub product_is_good-requires-clause-a : goal.product_is_good-requires-clause-a
 product_is_good-requires-clause-a c =

@@ -17,6 +17,6 @@ returns c =
     let num = ap (λ (r : Ratio). r.num) c.value-value.ensures.value in
     let den = ap (λ (r : Ratio). r.den) c.value-value.ensures.value in
     let out = rw c.output.ensures.value at c.output-2.ensures in
-    let good = good-along c.good_linear.result c.args.exact c.value-value.result.num _ c.value-value.result.den _ c.output-2.result _ num den out
+    let good = good-along c.good_linear.result c.args.mode c.value-value.result.num _ c.value-value.result.den _ c.output-2.result _ num den out
     (simp to_z-of_z at c.good_linear.ensures) in
     record { in_range = λ _. good; out_of_range = λ out. absurd (out tt) }

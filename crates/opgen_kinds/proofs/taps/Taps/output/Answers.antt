@@ -1,7 +1,7 @@
 use Rattle.std.proofs.Common.{◌≡◌, FitsSigned, SFits, w32, rules, arith}
 use Rattle.std.proofs.lemmas.Int.{to_z-of_z}
 use Rattle.opgen_kinds.specs.Sum.{sum_shift, sum_places}
-use Rattle.opgen_kinds.specs.Taps.{direct, taps_format, taps_meaning}
+use Rattle.opgen_kinds.specs.Taps.{direct, taps_format, taps_meaning, taps_acceptance}
 use Rattle.opgen_ports.proofs.Bounds.{room_bound}
 use Rattle.opgen_ports.proofs.Accepted.{accepted_ranges}
 use Rattle.opgen_kinds.proofs.of_kind.Taps.{accepted_taps_room, taps_have_room}
@@ -29,4 +29,4 @@ returns-clause-few c =
     let placed : c.in_places.result ≡ sum_places (direct f) =
     rw c.as_slice.ensures at rw (c.reach_over-reach.ensures.value, c.shift.ensures) at simp to_z-of_z at c.in_places.ensures.value in
     let same : c.covering.result ≡ taps_format f = rw placed at simp to_z-of_z at c.covering.ensures in
-    rw same (omega (arith, taps_have_room f c.requires, (accepted_ranges (taps_meaning f) c.requires).input.most))
+    rw same (omega (arith, taps_have_room f c.requires, (accepted_ranges (taps_meaning f) (taps_acceptance f) c.requires).input.most))

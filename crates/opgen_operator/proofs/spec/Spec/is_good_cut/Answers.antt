@@ -3,7 +3,7 @@ use Rattle.std.specs.Int.{w128}
 use Rattle.std.specs.Prelude.{IsTrue}
 use Rattle.std.proofs.lemmas.Int.{to_z-of_z}
 use Rattle.opgen_operator.specs.Operator.{exact_value}
-use Rattle.opgen_operator.specs.Outputs.{inputs_of, IsGoodCut}
+use Rattle.opgen_operator.specs.Outputs.{mode_of, inputs_of, IsGoodCut}
 use Rattle.opgen_ports.specs.Ports.{recent_numbers, number_of}
 use Rattle.opgen_operator.proofs.spec.Spec.is_good_cut.Goals as goal
 
@@ -14,7 +14,7 @@ returns-in-Some c =
     let fits_num : FitsSigned w128 c.in-Some.value.num = search rules in
     let fits_den : FitsSigned w128 c.in-Some.value.den = search rules in
     let fits_y : FitsSigned w128 c.output.result = search rules in
-    let good : IsTrue c.good_saturated.result ↔ IsGoodCut spec.exact c.args.to (Some c.in-Some.value) c.output.result =
-    simp to_z-of_z at c.good_saturated.ensures in
-    subst (λ o. IsTrue c.good_saturated.result ↔ IsGoodCut spec.exact c.args.to o (number_of c.args.to c.args.y)) (sym is)
-    (subst (λ y. IsTrue c.good_saturated.result ↔ IsGoodCut spec.exact c.args.to (Some c.in-Some.value) y) c.output.ensures good)
+    let good : IsTrue c.good_saturated.result ↔ IsGoodCut (mode_of spec) c.args.to (Some c.in-Some.value) c.output.result =
+    rw c.mode.ensures at simp to_z-of_z at c.good_saturated.ensures in
+    subst (λ o. IsTrue c.good_saturated.result ↔ IsGoodCut (mode_of spec) c.args.to o (number_of c.args.to c.args.y)) (sym is)
+    (subst (λ y. IsTrue c.good_saturated.result ↔ IsGoodCut (mode_of spec) c.args.to (Some c.in-Some.value) y) c.output.ensures good)

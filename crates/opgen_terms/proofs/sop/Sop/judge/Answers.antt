@@ -14,7 +14,7 @@ returns c =
     let fits_output : FitsSigned w128 c.output-y.result = search rules in
     let value : c.value-value.result ≡ exact_sop s (last_numbers s c.args.history.now) = c.value-value.ensures.value in
     let out = rw c.output.ensures.value at c.output-y.ensures in record {
-      in_range = λ _. good-along c.good_linear.result c.args.exact c.value-value.result.num _ c.value-value.result.den _ c.output-y.result _
+      in_range = λ _. good-along c.good_linear.result c.args.mode c.value-value.result.num _ c.value-value.result.den _ c.output-y.result _
           (ap (λ (v : Ratio). v.num) value) (ap (λ (v : Ratio). v.den) value) out (simp to_z-of_z at c.good_linear.ensures);
       out_of_range = λ out. absurd (out tt);
     }
