@@ -1,6 +1,7 @@
 """Circuits that the program generates in a folder of their own, as Verilog."""
 import subprocess
 import tempfile
+from collections.abc import Sequence
 from dataclasses import dataclass, replace
 from pathlib import Path
 from typing import Any
@@ -35,21 +36,23 @@ def waiting(name: str, width: int, cycles: int) -> tuple[list[str], str]:
     return lines, f"{name}_{cycles}" if cycles else name
 
 
-def joined(first: Circuit, second: Circuit) -> Circuit:
-    """Two circuits of the same name and inputs as one, with outputs `y` and `z`: the earlier one waits for the later."""
-    name, inputs, latency = first.facts.name, first.facts.inputs, max(first.facts.latency, second.facts.latency)
-    outputs = [replace(one.facts.outputs[0], name=letter) for one, letter in ((first, "y"), (second, "z"))]
-    sides = [f"input {vector(port)} {port.name}" for port in inputs] + [f"output {vector(port)} {port.name}" for port in outputs]
-    lines = [f"module {name}(input clk, {', '.join(sides)});"]
+def joined(parts: Sequence[Circuit]) -> Circuit:
+    """Circuits of the same name and inputs as one, with outputs `y`, `z` and `v`: earlier ones wait for the latest."""
+    if len(parts) == 1:
+        return parts[0]
+    first, latency = parts[0].facts, max(part.facts.latency for part in parts)
+    outputs = [replace(part.facts.outputs[0], name=letter) for part, letter in zip(parts, "yzv")]
+    sides = [f"input {vector(port)} {port.name}" for port in first.inputs] + [f"output {vector(port)} {port.name}" for port in outputs]
+    lines = [f"module {first.name}(input clk, {', '.join(sides)});"]
     text = ""
-    for circuit, output in zip((first, second), outputs):
-        own = f"{name}_{output.name}"
-        text += circuit.text.replace(f"module \\{name} (", f"module {own}(")
-        places = ", ".join(f".{port.name}({port.name})" for port in inputs)
+    for circuit, output in zip(parts, outputs):
+        own = f"{first.name}_{output.name}"
+        text += circuit.text.replace(f"module \\{first.name} (", f"module {own}(")
+        places = ", ".join(f".{port.name}({port.name})" for port in first.inputs)
         held, last = waiting(f"{output.name}_0", output.width, latency - circuit.facts.latency)
         lines += [f"  wire {vector(output)} {output.name}_0;", f"  {own} circuit_{output.name}(.clk(clk), {places}, .y({output.name}_0));"]
         lines += [*held, f"  assign {output.name} = {last};"]
-    facts = replace(first.facts, ports=(*inputs, *outputs), latency=latency)
+    facts = replace(first, ports=(*first.inputs, *outputs), latency=latency)
     return Circuit(facts, text + "\n".join([*lines, "endmodule"]) + "\n")
 
 

@@ -50,14 +50,14 @@ class Limits(unittest.TestCase):
 
     def test_size_of_the_stack(self) -> None:
         def limit() -> None:
-            resource.setrlimit(resource.RLIMIT_STACK, (16 << 10, 16 << 10))
+            resource.setrlimit(resource.RLIMIT_STACK, (1 << 20, 1 << 20))
             resource.setrlimit(resource.RLIMIT_CORE, (0, 0))
 
         with folder_of({}) as folder:
             program = stub(folder, "kill -s SEGV $$")
             done = run(["generate"], program=program, preexec_fn=limit)
             self.assertEqual((done.returncode, done.stdout), (-signal.SIGSEGV, ""))
-            said = "opgen: signal 11 ended the program, whose stack may have 16 KB at most: write ulimit -s 8192 before\n"
+            said = "opgen: signal 11 ended the program, whose stack may have 1024 KB at most: write ulimit -s 8192 before\n"
             self.assertIn(said, done.stderr)
             done = run(["generate"], program=program)
             self.assertEqual((done.returncode, done.stdout), (-signal.SIGSEGV, ""))
