@@ -37,6 +37,16 @@ def chain_of(count: int, last: str) -> str:
     return f"{HEAD}{signals}begin\n{drivers}  y <= std_logic_vector(s0);\nend architecture;\n"
 
 
+# Runs a tool, and prints a line if Python then takes down what it has read.
+TAKEN_DOWN = """
+import atexit, os, runpy, sys
+sys.argv = sys.argv[1:]
+sys.path.insert(0, os.path.dirname(sys.argv[0]))
+atexit.register(print, "taken down")
+runpy.run_path(sys.argv[0], run_name="__main__")
+"""
+
+
 class Limited(unittest.TestCase):
     """What tools/explain takes over hostile files."""
 
@@ -77,6 +87,14 @@ class Limited(unittest.TestCase):
         ):
             with self.subTest(name):
                 self.assertRegex(self.generated(text, line)[0], rf"first\.toml:{place}: |{limits.NO_CLOSER_LOOK}")
+
+    def test_nothing_is_taken_down_after_the_explanation(self) -> None:
+        with folder_of({"first.toml": SCALE + "more = 1\n"}) as folder:
+            program = stub(folder, "echo 'specification: UnknownKey 0 4'; exit 1")
+            done = subprocess.run([sys.executable, "-E", "-s", "-c", TAKEN_DOWN, TOP / "tools/explain", "1", program,
+                                   "generate", "first.toml"], capture_output=True, text=True, check=True)
+        self.assertIn('unknown key "more"', done.stderr)
+        self.assertEqual(done.stdout, "")
 
     def test_many_headers(self) -> None:
         self.generated(SCALE + "".join(f"[h{number}]\n" for number in range(100_000)), "UnknownKey 0 2")

@@ -7,8 +7,8 @@ from collections.abc import Iterable
 from types import FrameType
 
 MOST_SECONDS = 2
-# The timer ends a little before, so that the line is printed in time.
-SPARED = 0.2
+# The timer ends before, so that what was read is given up and the line is printed in time.
+SPARED = 0.5
 # In the environment, other seconds: for tests beside other work, in which a process waits longer for a processor.
 SECONDS = "OPGEN_EXPLAIN_SECONDS"
 MOST_MEMORY = 256 << 20
@@ -39,6 +39,11 @@ def begin() -> None:
     lowered(resource.RLIMIT_CPU, seconds)
     signal.signal(signal.SIGALRM, end)
     signal.setitimer(signal.ITIMER_REAL, seconds - SPARED)
+
+
+def stop() -> None:
+    """Stops the timer, so that what is said is printed."""
+    signal.setitimer(signal.ITIMER_REAL, 0)
 
 
 def visible(text: str) -> str:
