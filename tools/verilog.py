@@ -6,9 +6,11 @@
 Ports, signals and registers keep their names and initial values. A table is a `case` with a `default`.
 """
 import sys
-from pathlib import Path
 
 sys.dont_write_bytecode = True
+
+import opgenlib.quiet  # before all that takes time to load
+from pathlib import Path
 
 from opgenlib import answer_help, running, vhdl
 from opgenlib.verilog import text_of

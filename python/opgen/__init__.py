@@ -6,8 +6,8 @@
 
 Numbers come back as numpy arrays where numpy is installed, and as lists elsewhere. Python 3.8 or later.
 """
-from .calls import Error, NotGood, Rejected
+from .calls import Error, NotGood, Program, Rejected
 from .documents import rounded
 from .operators import Operator
 
-__all__ = ["Error", "NotGood", "Operator", "Rejected", "rounded"]
+__all__ = ["Error", "NotGood", "Operator", "Program", "Rejected", "rounded"]

@@ -1,14 +1,17 @@
-"""Calls of bin/opgen, and what it says where it does not do what was asked."""
+"""Calls of opgen, from Python and from the tools, and what it says where it does not do what was asked."""
 from __future__ import annotations
 
-import importlib.util
+import os
 import re
-import subprocess
-import sys
+from dataclasses import dataclass
 from pathlib import Path
 
-# The checkout or the installation that this module is part of.
-TOP = Path(__file__).resolve().parent.parent.parent
+from .shared import TOP
+
+from opgenlib.running import process
+
+# Before what is wrong with a specification.
+OF_SPECIFICATION = "specification: "
 
 
 class Error(Exception):
@@ -17,6 +20,16 @@ class Error(Exception):
     def __init__(self, status: int, line: str, explanation: str) -> None:
         super().__init__("\n".join(filter(None, [line, explanation])) or f"opgen ended with status {status}")
         self.status, self.line, self.explanation = status, line, explanation
+
+    @property
+    def cause(self) -> str:
+        """The line without `specification: ` before it, or the status of a call that printed none."""
+        return self.line[len(OF_SPECIFICATION) :] if self.line.startswith(OF_SPECIFICATION) else self.line or f"status {self.status}"
+
+    @property
+    def summary(self) -> str:
+        """The line and the first of those that explain it, on one line."""
+        return ": ".join(filter(None, [self.line, *self.explanation.splitlines()[:1]])) or self.cause
 
 
 class Rejected(Error):
@@ -34,23 +47,20 @@ class NotGood(Error):
 KINDS = {1: Rejected, 6: Rejected, 7: Rejected, 8: NotGood, 9: Rejected}
 
 
-def call(*words: str, folder: Path | None = None) -> str:
-    """The line that the program prints over these words, run in a folder, or in the current one."""
-    done = subprocess.run([str(TOP / "bin/opgen"), *words], cwd=folder, stdin=subprocess.DEVNULL, stdout=subprocess.PIPE,
-                          stderr=subprocess.PIPE, encoding="utf-8", errors="replace")
-    if done.returncode:
-        raise KINDS.get(done.returncode, Error)(done.returncode, done.stdout.strip(), done.stderr.strip())
-    return done.stdout.strip()
+@dataclass(frozen=True)
+class Program:
+    """What answers: the program that bin/opgen takes, or another one. Each call is one of bin/opgen, which takes the lock of the folder
+    that it stores into and explains what it rejects. The call ends with all that it started if an exception breaks it off, as Ctrl-C."""
+
+    path: Path | None = None
+
+    def call(self, *words: str, folder: Path | None = None) -> str:
+        """The line that is printed over these words, run in a folder, or in the current one; an error for a status other than 0."""
+        known = {**os.environ, "OPGEN_PROGRAM": str(self.path)} if self.path else None
+        done = process([TOP / "bin/opgen", *words], cwd=folder, env=known)
+        if done.returncode:
+            raise KINDS.get(done.returncode, Error)(done.returncode, done.stdout.strip(), done.stderr.strip())
+        return done.stdout.strip()
 
 
-def share_tools() -> None:
-    """Makes tools/opgenlib the package `opgenlib`, without the rest of tools/ among the modules."""
-    if "opgenlib" not in sys.modules:
-        place = TOP / "tools/opgenlib"
-        found = importlib.util.spec_from_file_location("opgenlib", place / "__init__.py", submodule_search_locations=[str(place)])
-        assert found and found.loader
-        sys.modules["opgenlib"] = importlib.util.module_from_spec(found)
-        found.loader.exec_module(sys.modules["opgenlib"])
-
-
-share_tools()
+call = Program().call

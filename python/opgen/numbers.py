@@ -4,17 +4,24 @@ from __future__ import annotations
 import math
 import operator
 from fractions import Fraction
+from functools import lru_cache
 from typing import TYPE_CHECKING, Any, Sequence
 
 if TYPE_CHECKING:
     from opgenlib.report import Port
 
-try:
-    import numpy
-except ImportError:
-    numpy = None
 # The most bits of a number of an array of numpy; wider ones are objects.
 WIDEST = 63
+
+
+@lru_cache(maxsize=None)
+def numpy() -> Any:
+    """numpy, or None where it is not installed."""
+    try:
+        import numpy as found
+    except ImportError:
+        return None
+    return found
 
 
 def plain(value: Any) -> Any:
@@ -46,6 +53,7 @@ def units_of(values: Sequence[Any], port: Port, raw: bool, saturate: bool) -> li
 def column(units: Sequence[int], port: Port, raw: bool) -> Any:
     """Units as an array, or as a list where numpy is not there: raw, or the values that they stand for."""
     found = list(units) if raw else [math.ldexp(number, port.lsb) for number in units]
-    if numpy is None:
+    arrays = numpy()
+    if arrays is None:
         return found
-    return numpy.array(found, dtype=float if not raw else numpy.int64 if port.width <= WIDEST else object)
+    return arrays.array(found, dtype=float if not raw else arrays.int64 if port.width <= WIDEST else object)

@@ -1,19 +1,16 @@
 """Circuits that the program generates in a folder of their own, as Verilog."""
-import subprocess
 import tempfile
 from collections.abc import Sequence
 from dataclasses import dataclass, replace
 from pathlib import Path
 from typing import Any
 
+from opgen import Program
+
 from . import verilog, vhdl
 from .report import Port, Report, read_report
-from .running import process
+from .storing import store
 from .writing import document
-
-
-class NotGenerated(Exception):
-    """What the program says of a specification that it refuses."""
 
 
 @dataclass(frozen=True)
@@ -56,19 +53,18 @@ def joined(parts: Sequence[Circuit]) -> Circuit:
     return Circuit(facts, text + "\n".join([*lines, "endmodule"]) + "\n")
 
 
-def refusal(done: subprocess.CompletedProcess) -> str:
-    """What a run without files says, on one line."""
-    line = (done.stdout.strip().splitlines() or [""])[0].removeprefix("specification: ")
-    return line or f"status {done.returncode}"
+def generated(table: dict[str, Any], program: Program, folder: Path) -> Path:
+    """Has the circuit of a specification made in a folder: the specification there."""
+    spec = folder / "spec.toml"
+    store(spec, document(table))
+    program.call("generate", spec.name, folder=folder)
+    return spec
 
 
-def circuit_of(table: dict[str, Any], program: Path | str) -> Circuit:
-    """The circuit of a specification."""
+def circuit_of(table: dict[str, Any], program: Program) -> Circuit:
+    """The circuit of a specification. One that the program rejects raises `opgen.Rejected`."""
     with tempfile.TemporaryDirectory(prefix="opgen-circuit-") as name:
         folder = Path(name)
-        (folder / "spec.toml").write_text(document(table))
-        done = process([program, "generate", "spec.toml"], cwd=folder)
-        if done.returncode:
-            raise NotGenerated(refusal(done))
+        generated(table, program, folder)
         facts = read_report(next(folder.glob("*.rpt")))
         return Circuit(facts, verilog.text_of(vhdl.design_of((folder / f"{facts.name}.vhd").read_text())))

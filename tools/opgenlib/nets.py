@@ -2,16 +2,16 @@
 import tempfile
 from dataclasses import dataclass, field
 from pathlib import Path
-from subprocess import run
 from typing import Any
 
-from . import circuits
+from opgen import Program
+
+from .circuits import generated
 from .drawings.adders import read_place
 from .drawings.example import Example
 from .drawings.parts import RANGE_TEST, parts_of
 from .drawings.schedule import cell_of, checked_schedule, delays
 from .vhdl import names_in
-from .writing import document
 
 
 @dataclass
@@ -75,12 +75,7 @@ def order_of(name: str) -> tuple[int, str]:
     return (int(node[1:]), "") if node[1:].isdigit() else (1 << 30, name)
 
 
-def net_for(table: dict[str, Any], program: Path | str) -> Net:
-    """The net of the circuit of a specification."""
+def net_for(table: dict[str, Any], program: Program) -> Net:
+    """The net of the circuit of a specification. One that the program rejects raises `opgen.Rejected`."""
     with tempfile.TemporaryDirectory(prefix="opgen-net-") as name:
-        folder = Path(name)
-        (folder / "spec.toml").write_text(document(table))
-        done = run([program, "generate", "spec.toml"], cwd=folder, capture_output=True, text=True)
-        if done.returncode:
-            raise circuits.NotGenerated(circuits.refusal(done))
-        return net_of(Example(folder / "spec.toml"))
+        return net_of(Example(generated(table, program, Path(name))))

@@ -111,7 +111,7 @@ def is_installed() -> bool:
 
 def versions() -> str:
     """The tools that measure."""
-    said = subprocess.run(["nextpnr-ice40", "--version"], capture_output=True, text=True)
+    said = process(["nextpnr-ice40", "--version"])
     found = re.search(r"Version ([^\s)]+)", said.stdout + said.stderr)
     return f"{yosys.version()}, nextpnr-ice40 {found[1] if found else 'of an unknown version'}"
 

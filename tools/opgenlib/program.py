@@ -1,9 +1,15 @@
-"""The program that a script runs: the one that bin/opgen runs, proved or not, built where that is due, or another."""
+"""The program that a script runs: the one that bin/opgen runs, proved or not, built where that is due, or another. Tools call it by the
+module `opgen`: `program_of().call(..)`, with the lock of the folder that is stored into, and errors as exceptions."""
 import argparse
 import os
-import subprocess
 from functools import cache
 from pathlib import Path
+
+from opgen import Error, Program, Rejected
+
+from .running import process
+
+__all__ = ["Error", "NoProgram", "Program", "Rejected", "add_option", "built", "program_of"]
 
 TOP = Path(__file__).resolve().parent.parent.parent
 
@@ -12,20 +18,37 @@ class NoProgram(Exception):
     """Where no program is, or that none was built."""
 
 
-def add_option(words: argparse.ArgumentParser) -> None:
-    """Adds the option that names the program."""
+def add_option(words: argparse.ArgumentParser, *names: str) -> None:
+    """Adds the option that names the program, and further names of it."""
     told = "another program than the one that bin/opgen runs, which is built where that is due"
-    words.add_argument("--bin", metavar="PATH", type=Path, help=told)
+    words.add_argument("--bin", *names, metavar="PATH", type=Path, help=told)
+
+
+def taken_by(front: Path) -> Path:
+    """The program that a bin/opgen takes."""
+    done = process([front, "--program"], stderr=None)
+    if done.returncode:
+        raise NoProgram("bin/opgen has built no program")
+    return Path(done.stdout.removesuffix("\n"))
+
+
+def is_front(path: Path) -> bool:
+    """Whether this is the bin/opgen of a checkout or an installation, and no program."""
+    top = path.resolve().parent.parent
+    return path.resolve() == top / "bin/opgen" and (top / "docs/help/opgen.txt").is_file()
 
 
 @cache
 def built(path: Path | None = None) -> Path:
-    """The program there, or that of bin/opgen, which is built first where that is due."""
-    if path is None:
-        done = subprocess.run([TOP / "bin/opgen", "--program"], stdout=subprocess.PIPE, text=True)
-        if done.returncode:
-            raise NoProgram("bin/opgen has built no program")
-        path = Path(done.stdout.removesuffix("\n"))
+    """The file of the program there, or of that of bin/opgen, which is built first where that is due: for scripts that test or measure
+    the program itself."""
+    if path is None or is_front(path):
+        path = taken_by(path or TOP / "bin/opgen")
     if not (path.is_file() and os.access(path, os.X_OK)):
         raise NoProgram(f"{path} is no program")
     return path.resolve()
+
+
+def program_of(path: Path | None = None) -> Program:
+    """The same program as a tool calls it."""
+    return Program(built(path))

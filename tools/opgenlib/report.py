@@ -136,6 +136,7 @@ def read_report(path: Path) -> Report:
     try:
         return report_of(path.read_text())
     except NotReport as fault:
-        raise NotReport(fault.line, f"{path} is no report: {fault}") from None
+        fault.args = (f"{path} is no report: {fault}",)
+        raise
     except UnicodeDecodeError:
         raise NotReport(1, f"{path} is no text") from None

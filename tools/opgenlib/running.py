@@ -1,5 +1,8 @@
-"""Runs a tool so that it ends cleanly: after a signal without a trace, with its temporary files gone and the processes that it
-started ended, and with status 1 where its output cannot be written."""
+"""Runs processes so that they end with what started them, and a tool so that it ends cleanly: after a signal without a trace, with
+its temporary files gone and the processes that it started ended, and with status 1 where its output cannot be written."""
+from __future__ import annotations
+
+import errno
 import os
 import signal
 import subprocess
@@ -8,9 +11,12 @@ from collections.abc import Callable, Sequence
 from types import FrameType
 from typing import Any, NoReturn
 
+# What may be wrong with a standard output.
+OF_OUTPUT = (errno.EPIPE, errno.EBADF, errno.EFBIG, errno.ENOSPC, errno.EDQUOT, errno.EIO)
 SIGNALS = (signal.SIGHUP, signal.SIGINT, signal.SIGTERM)
-# The processes that run, each the first of its group, and the signal that ends this tool, once it has come.
+# The processes that run, each the first of its group, how many are being started, and the signal that ends this tool, once it has come.
 started: set[subprocess.Popen] = set()
+starting: list[None] = []
 came: list[int] = []
 
 
@@ -26,21 +32,33 @@ def end_group(process: subprocess.Popen) -> None:
         pass
 
 
-def end(number: int, _frame: FrameType | None) -> NoReturn:
+def end(number: int, _frame: FrameType | None) -> None:
     """Ends this tool once: what it does then, as removing its temporary files, is not broken by a second signal."""
     came.append(number)
     for other in SIGNALS:
         signal.signal(other, signal.SIG_IGN)
     for process in list(started):
         end_group(process)
-    raise Ended
+    if not starting:
+        raise Ended
+
+
+def begun(words: Sequence[str | os.PathLike], how: dict[str, Any]) -> subprocess.Popen:
+    """Starts a process as the first of a group. A signal that comes meanwhile ends this tool once the process is known."""
+    starting.append(None)
+    try:
+        one = subprocess.Popen(words, encoding="utf-8", errors="replace", start_new_session=True, **how)
+        started.add(one)
+        return one
+    finally:
+        starting.pop()
 
 
 def process(words: Sequence[str | os.PathLike], timeout: float | None = None, **how: Any) -> subprocess.CompletedProcess:
-    """Runs a process, whose outputs are captured as texts; it ends with this tool, or after so many seconds by `TimeoutExpired`."""
+    """Runs a process, whose outputs are captured as texts unless they are sent elsewhere. It ends with those that it started if this
+    call ends by an exception, as after a signal, and after so many seconds by `TimeoutExpired`."""
     streams = {"stdin": subprocess.DEVNULL, "stdout": subprocess.PIPE, "stderr": subprocess.PIPE}
-    with subprocess.Popen(words, text=True, errors="replace", start_new_session=True, **streams, **how) as one:
-        started.add(one)
+    with begun(words, {**streams, **how}) as one:
         try:
             if came:
                 raise Ended
@@ -56,11 +74,16 @@ def process(words: Sequence[str | os.PathLike], timeout: float | None = None, **
 
 
 def told(tool: str, fault: OSError) -> int:
-    """Says which file failed, with status 1. A fault without a file is one of the output, which `run` reports."""
-    if fault.filename is None:
+    """Says which file failed, with status 1. A fault of the output, which has no file, is reported by `run`."""
+    if is_of_output(fault):
         raise fault
-    print(f"{tool}: {fault.filename}: {fault.strerror}", file=sys.stderr)
+    print(": ".join(map(str, filter(None, [tool, fault.filename, fault.strerror]))), file=sys.stderr)
     return 1
+
+
+def is_of_output(fault: OSError) -> bool:
+    """Whether a fault may be one of the standard output: files that tools write have their names in it."""
+    return fault.filename is None and fault.errno in OF_OUTPUT
 
 
 def show_progress(tool: str, said: str) -> None:
@@ -101,7 +124,7 @@ def checked_status(main: Callable[[], int]) -> int:
         sys.stdout.flush()
         return status
     except OSError as fault:
-        if fault.filename is not None:
+        if not is_of_output(fault):
             raise
         drop_output()
         if not isinstance(fault, BrokenPipeError):

@@ -160,6 +160,12 @@ def error_text(sheet: Sheet) -> str:
     return f"from {ulp_text(min(found))} to {ulp_text(max(found))} ulp, {rows}"
 
 
+def recovery_cycle(facts: Report, spec: dict) -> int:
+    """The cycle from which on outputs are good whatever the registers hold in cycle 0: the latency, and of a filter its taps less one."""
+    taps = {"fir": "coefficients", "tfir": "taps"}.get(facts.kind)
+    return facts.latency + (len(spec[taps]) - 1 if taps else 0)
+
+
 def summary(sheet: Sheet) -> str:
     facts = sheet.facts
     rows = [
@@ -167,6 +173,7 @@ def summary(sheet: Sheet) -> str:
         ("Error bound, proved", bound_text(sheet)),
         ("Error, measured", error_text(sheet)),
         ("Latency", f"{cycles(facts.latency)}; a new input in every cycle"),
+        ("Recovery, proved", f"outputs are good from cycle {recovery_cycle(facts, sheet.spec)} on, whatever the registers hold in cycle 0"),
         ("Clock", f"{facts.period} ps, {1e6 / facts.period:.4g} MHz, slack {facts.slack} ps, by the table of delays {facts.target}"),
         ("Clock enable", "ce, one bit" if sheet.has_enable else "none"),
         ("Size", size_text(sheet)),

@@ -10,6 +10,7 @@ from dataclasses import dataclass, replace
 from pathlib import Path
 
 from .running import process
+from .storing import store
 
 MOST_SECONDS = 1200
 # To tables of six inputs without carry chains; and to the cells of a Xilinx series 7 device, carry chains and no DSP blocks.
@@ -42,7 +43,7 @@ def is_installed() -> bool:
 
 def ran(verilog: str, script: str, folder: Path, seconds: int = MOST_SECONDS) -> None:
     """Runs Yosys in the folder, for at most so many seconds."""
-    (folder / "design.v").write_text(verilog)
+    store(folder / "design.v", verilog)
     words = ["yosys", "-q", "-p", f"read_verilog design.v; {script}"]
     try:
         done = process(words, seconds, cwd=folder, env=os.environ | {"TMPDIR": str(folder)})
@@ -82,7 +83,7 @@ def in_chains(verilog: str, top: str) -> dict[str, int]:
 def in_ice40(verilog: str, top: str, around: tuple[str, str], is_retimed: bool, folder: Path) -> dict[str, int]:
     """The cells of an iCE40 device by type, of a text inside of a module, which is a name and a text; the netlist is left in the
     folder as `around.json`. If asked, Yosys moves the registers of the text."""
-    (folder / "around.v").write_text(around[1])
+    store(folder / "around.v", around[1])
     ran(verilog, ICE40.format(top=top, more=" -retime" if is_retimed else "") + AROUND.format(file="around", around=around[0]), folder)
     return cells_of((folder / "around.cells").read_text())
 
@@ -93,7 +94,7 @@ def each_in_ice40(texts: dict[str, str], around: tuple[str, dict[str, str]], fol
     verilog = "\n".join([*texts.values(), f"module all_of_them;\n{instances}\nendmodule\n"])
     script = ICE40.format(top="all_of_them", more=" -noflatten") + "design -save mapped; "
     for name, text in around[1].items():
-        (folder / f"{name}.v").write_text(text)
+        store(folder / f"{name}.v", text)
         script += "design -load mapped; " + AROUND.format(file=name, around=around[0])
     ran(verilog, script, folder)
 
@@ -156,9 +157,9 @@ def sizes(texts: list[str], top: str, device: str) -> list[Size]:
     with tempfile.TemporaryDirectory(prefix="opgen-yosys-") as name:
         folder = Path(name)
         for file, text in zip(files, texts):
-            (folder / f"{file}.v").write_text(text)
+            store(folder / f"{file}.v", text)
         instances = "\n".join(f"  (* keep *) {file} {file}_ ();" for file in files)
-        (folder / f"{ALL}.v").write_text(f"module {ALL};\n{instances}\nendmodule\n")
+        store(folder / f"{ALL}.v", f"module {ALL};\n{instances}\nendmodule\n")
         script = "".join(READ.format(file=file, top=top) for file in files) + "design -reset; "
         script += "".join(TAKE.format(file=file) for file in files)
         script += f"read_verilog {ALL}.v; {DEVICES[device].format(top=ALL)}; write_json all.json; "
@@ -175,4 +176,4 @@ def sizes(texts: list[str], top: str, device: str) -> list[Size]:
 
 def version() -> str:
     """The line by which Yosys names itself."""
-    return " ".join(subprocess.run(["yosys", "-V"], capture_output=True, text=True).stdout.split()[:2])
+    return " ".join(process(["yosys", "-V"]).stdout.split()[:2])

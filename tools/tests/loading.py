@@ -1,7 +1,9 @@
 """Loads a tool as a module and runs it in this process, as a shell would."""
 import contextlib
 import io
+import os
 import sys
+import time
 from importlib.machinery import SourceFileLoader
 from importlib.util import module_from_spec, spec_from_loader
 from pathlib import Path
@@ -42,3 +44,24 @@ def run(tool: ModuleType, *words: object, text: str = "") -> tuple[int, str, str
         except SystemExit as end:
             status = end.code or 0
     return status, out.getvalue(), said.getvalue()
+
+
+def is_zombie(pid: int) -> bool:
+    """Whether a process has ended and nothing has waited for it, as in a container without an init."""
+    try:
+        return "\nState:\tZ" in Path(f"/proc/{pid}/status").read_text()
+    except OSError:
+        return False
+
+
+def has_ended(pid: int) -> bool:
+    """Whether a process ends within some seconds, or has."""
+    for _ in range(500):
+        try:
+            os.kill(pid, 0)
+        except ProcessLookupError:
+            return True
+        if is_zombie(pid):
+            return True
+        time.sleep(0.01)
+    return False

@@ -77,7 +77,7 @@ class Heads(unittest.TestCase):
         parts = (crate.purpose, crate.proved, crate.by)
         self.assertEqual(parts, ("What the crate is for, in one sentence.", "That it works. See docs/VHDL.md.", "`works`."))
         self.assertEqual(list(crate.faults(False)), [])
-        self.assertIn("\n\nThat it works. See [VHDL.md](VHDL.md).", TOOL.section(crate, "Base"))
+        self.assertEqual(TOOL.linked(crate.proved), "That it works. See [VHDL.md](VHDL.md).")
 
     def test_faults(self) -> None:
         for head, is_test, words in (
@@ -93,20 +93,21 @@ class Heads(unittest.TestCase):
         self.assertEqual(list(self.crate("//! What it tests.\n").faults(True)), [])
 
 
-class Shortened(unittest.TestCase):
-    def test_sentences(self) -> None:
-        """The first sentence, however long, then whole sentences up to the most words, and two dots where more follow."""
-        first, second, third = "One " * 29 + "two.", "Three four, as `a.b` says.", "`five` six."
-        with unittest.mock.patch.object(TOOL, "MOST_WORDS", 36):
-            self.assertEqual(TOOL.shortened(first), first)
-            self.assertEqual(TOOL.shortened(f"{first} {third}"), f"{first} {third}")
-            self.assertEqual(TOOL.shortened(f"{first} {second} {third}"), f"{first} {second} ..")
-            self.assertEqual(TOOL.shortened("Word " * 40 + "end. More."), "Word " * 40 + "end. ..")
+class Page(unittest.TestCase):
+    def test_shortened(self) -> None:
+        for whole, short in (
+            ("Parts: what they are.", "Parts: what they are."), ("The parts of circuits: what; and when.", "The parts of circuits."),
+            ("Parts: what each is for; and when.", "Parts: what each is for."), ("One two three four.", "One two three four."),
+        ):
+            self.assertEqual(TOOL.shortened(whole), short)
 
-    def test_laws_are_whole(self) -> None:
-        crate = TOOL.Crate("opgen_laws", Path("lib.rt"), "Laws.", "Word " * 50 + "end. More.", "`law`")
-        self.assertIn("end. More.", TOOL.section(crate, "Laws"))
-        self.assertIn("end. ..", TOOL.section(crate, "Top"))
+    def test_parts(self) -> None:
+        """A list for each layer, without what is proved."""
+        crate = TOOL.Crate("opgen_a", Path("lib.rt"), "What it is for.", "Word. More.", "`law`")
+        text = TOOL.page({"Top": [crate], "Laws": [crate], "Tests": [crate]})
+        self.assertEqual(text.count("- `opgen_a`: What it is for.\n"), 3)
+        self.assertNotIn("Word. More.", text)
+        self.assertEqual(text.count("claim nothing"), 1)
 
 
 if __name__ == "__main__":

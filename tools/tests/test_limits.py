@@ -12,6 +12,7 @@ import unittest
 from opgenlib.explain import limits
 from opgenlib.explain import explain as explain_with
 from tests.faulty import CONSTDIV, FIR, SCALE, VHDL
+from tests.loading import has_ended
 from tests.test_explain import NO_PROGRAM, OPGEN, PROGRAM, TOP, folder_of, run, stub
 
 # What the begin of Python may add to the two seconds of a processor.
@@ -112,8 +113,7 @@ class Limited(unittest.TestCase):
             program = stub(folder, f"echo $$ >{folder}/again; exec sleep 1000")
             done = subprocess.run([TOP / "tools/explain", "1", program, "generate", "first.toml"], capture_output=True, text=True)
             self.assertEqual((done.returncode, done.stderr), (0, f"opgen: {limits.NO_CLOSER_LOOK}\n"))
-            with self.assertRaises(ProcessLookupError):
-                os.kill(int((folder / "again").read_text()), 0)
+            self.assertTrue(has_ended(int((folder / "again").read_text())))
 
 
 class Shown(unittest.TestCase):
@@ -149,14 +149,13 @@ class Ends(unittest.TestCase):
                 text = f"[ -e {folder}/once ] || {{ touch {folder}/once; exit 1; }}\necho $$ >{again}.new; mv {again}.new {again}; exec sleep 1000"
                 started = subprocess.Popen([OPGEN, "generate", "first.toml"], stdout=subprocess.PIPE, stderr=subprocess.PIPE, text=True,
                                            preexec_fn=lambda: signal.signal(number, signal.SIG_DFL),
-                                           env=os.environ | {"OPGEN_PROGRAM": str(stub(folder, text)), "TMPDIR": str(folder)})
+                                           env=os.environ | {"OPGEN_PROGRAM": str(stub(folder, text)), "TMPDIR": str(folder), limits.SECONDS: "600"})
                 while not again.exists() and started.poll() is None:
                     time.sleep(0.01)
                 started.send_signal(number)
                 _, said = started.communicate(timeout=120)
                 self.assertEqual((started.returncode, said), (-number, ""))
-                with self.assertRaises(ProcessLookupError):
-                    os.kill(int(again.read_text()), 0)
+                self.assertTrue(has_ended(int(again.read_text())))
                 self.assertEqual([path.name for path in folder.glob("opgen-explain-*")], [])
 
 

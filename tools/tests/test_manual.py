@@ -5,6 +5,7 @@ import subprocess
 import tempfile
 import unittest
 from pathlib import Path
+from unittest import mock
 
 from opgenlib.explain.limits import SECONDS
 from tests.loading import module_of
@@ -106,6 +107,24 @@ class Commands(unittest.TestCase):
         self.assertEqual(self.tool.why_left_out(steps[2], True, set()), "it has a word to be replaced")
         self.assertEqual(self.tool.why_left_out(steps[1], False, {"One"}), "there is no numpy")
         self.assertEqual(self.tool.why_left_out(steps[3], False, {"One"}), "")
+
+    def test_a_python_with_numpy(self) -> None:
+        """The first that imports numpy is python3 for the blocks; without one they are left out."""
+        with tempfile.TemporaryDirectory() as name:
+            folder = Path(name)
+            for place, status in (("without", 1), ("with", 0)):
+                (folder / place).mkdir()
+                (folder / place / "python3").write_text(f"#!/bin/sh\nexit {status}\n")
+                (folder / place / "python3").chmod(0o755)
+            system = self.tool.SYSTEM
+            for path, of_system, found in (("with", "without", "with"), ("without", "with", "with"), ("without", "without", "")):
+                self.tool.SYSTEM = str(folder / of_system / "python3")
+                with mock.patch.dict(os.environ, {"PATH": str(folder / path)}):
+                    self.assertEqual(self.tool.with_numpy(), str(folder / found / "python3") if found else "")
+            self.tool.SYSTEM = system
+            self.tool.fresh(folder / "fresh", str(folder / "with/python3"))
+            block = next(self.tool.blocks_of(SAMPLE))
+            self.assertEqual(self.tool.fault_of(self.tool.Step(block, "python3 none", None), folder / "fresh"), "")
 
     def test_faults(self) -> None:
         block = next(self.tool.blocks_of(SAMPLE))

@@ -12,6 +12,7 @@ import xml.etree.ElementTree
 from fractions import Fraction
 from pathlib import Path
 
+from opgenlib.explain.limits import SECONDS
 from tests.loading import run, tool_of
 from tests.test_explain import NO_PROGRAM, PROGRAM, TOP
 from tests.test_python import installed_pythons
@@ -28,7 +29,7 @@ THIRD = {"version": 1, "name": "third", "kind": "scale", "exact": False, "target
 THREE_TAPS = THIRD | {"name": "three_taps", "kind": "fir", "exact": True, "signed": True, "width": 6, "lsb": -2, "out_lsb": -2,
                       "period": 1200, "coefficients": [1, 2, 3], "denominator": 1}
 # What is written for an older Python.
-OLDER = [*sorted((TOP / "python/opgen").glob("*.py")), *(TOP / f"tools/opgenlib/{name}.py" for name in ("__init__", "exact", "report", "rows", "terms", "writing"))]
+OLDER = [*sorted((TOP / "python/opgen").glob("*.py")), *(TOP / f"tools/opgenlib/{name}.py" for name in ("__init__", "exact", "report", "rows", "running", "terms", "writing"))]
 SCRIPT = """
 import sys
 sys.path.append({folder!r})
@@ -83,7 +84,7 @@ class Texts(unittest.TestCase):
     def test_older_modules(self) -> None:
         """What an older Python reads of the tools takes no part of them that needs a newer one."""
         texts = {path.stem: path.read_text() for path in OLDER if path.parent.name == "opgenlib"}
-        self.assertEqual(len(texts), 6)
+        self.assertEqual(len(texts), 7)
         for name, text in texts.items():
             taken = {node.module for node in ast.walk(ast.parse(text)) if isinstance(node, ast.ImportFrom) and node.level}
             self.assertEqual(taken - texts.keys(), set(), name)
@@ -91,6 +92,11 @@ class Texts(unittest.TestCase):
 
 @unittest.skipUnless(PROGRAM.exists(), NO_PROGRAM)
 class Runs(unittest.TestCase):
+    def setUp(self) -> None:
+        patched = unittest.mock.patch.dict(os.environ, {SECONDS: "600"})
+        patched.start()
+        self.addCleanup(patched.stop)
+
     def test_pythons(self) -> None:
         for python in [sys.executable, "/usr/bin/python3", *installed_pythons()]:
             with self.subTest(python):

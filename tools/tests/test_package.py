@@ -64,7 +64,8 @@ class Installed(unittest.TestCase):
         cls.tar = next(cls.folder.glob("*.tar.gz"))
         cls.deb = next(cls.folder.glob("*.deb"))
         with tarfile.open(cls.tar) as packed:
-            packed.extractall(cls.folder / "unpacked", filter="fully_trusted")
+            # Python 3.11.3 and older have no filters.
+            packed.extractall(cls.folder / "unpacked", **({"filter": "fully_trusted"} if hasattr(tarfile, "fully_trusted_filter") else {}))
         cls.prefix = cls.folder / "unpacked" / cls.tar.name.removesuffix(".tar.gz")
 
     @classmethod

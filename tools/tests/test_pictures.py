@@ -191,7 +191,7 @@ class Pictures(unittest.TestCase):
 
     def test_wrong_files(self):
         """A negative latency and rows of another operator get one line with the file's name."""
-        for old, new, words in (("latency 1", "latency -1", "lowpass.rpt is no report: line 6: latency is -1, below 0"),
+        for old, new, words in (("latency 1", "latency -1", "/lowpass.rpt is no report: line 6: latency is -1, below 0"),
                                 ("signed 12 -11", "signed 0 -11", "a width is 0; expected 1 to 1024")):
             with tempfile.TemporaryDirectory() as folder:
                 for ending in ("toml", "rpt", "out"):
@@ -199,7 +199,7 @@ class Pictures(unittest.TestCase):
                 report = Path(folder) / "lowpass.rpt"
                 report.write_text(report.read_text().replace(old, new, 1))
                 status, out, said = loading.run(TOOL, "error", Path(folder) / "lowpass.toml")
-            self.assertEqual((status, out, said.count("\n")), (1, "", 1))
+            self.assertEqual((status, out, said.count("\n"), said.count("line ")), (1, "", 1, 1))
             self.assertIn(words, said)
         with tempfile.TemporaryDirectory() as folder:
             for ending in ("toml", "rpt"):
@@ -272,6 +272,20 @@ class Pictures(unittest.TestCase):
             shutil.copy(EXAMPLES / f"weeks.{ending}", self.folder)
         status, out, _ = run("chain", self.folder / "weeks.toml")
         self.assertEqual((status, "the first row" in out, ">r</text>" in out), (0, False, True))
+
+    def test_chain_of_other_rows(self):
+        """Rows of another operator, of inputs alone and of no row get one line with the file's name; an empty run is none."""
+        for ending in ("toml", "vhd", "rpt"):
+            shutil.copy(EXAMPLES / f"weeks.{ending}", self.folder)
+        for rows, words in ((EXAMPLES.joinpath("duty.out").read_text(), "these are no rows of weeks.toml"), ("8eac\n", "rows without outputs"),
+                            (" : 0000 0\n", "these are no rows of weeks.toml"), ("zzzz : 0000 0\n", "these are no rows of weeks.toml")):
+            (self.folder / "weeks.out").write_text(rows)
+            status, out, said = run("chain", self.folder / "weeks.toml")
+            self.assertEqual((status, out, said.count("\n")), (1, "", 1), said)
+            self.assertIn("weeks.out", said)
+            self.assertIn(words, said)
+        (self.folder / "weeks.out").write_text("")
+        self.assertEqual(run("chain", self.folder / "weeks.toml")[0], 0)
 
     def test_graph_of_a_filter(self):
         drawing = run("graph", EXAMPLES / "halfband.toml")[1]

@@ -1,5 +1,6 @@
 """Placed circuits: logs of nextpnr, texts around a circuit, rows, words; and one small circuit where nextpnr is installed."""
 import shutil
+import subprocess
 import tempfile
 import unittest
 from pathlib import Path
@@ -71,7 +72,7 @@ class Texts(unittest.TestCase):
             hand = "module one(input clk, input [2:0] a, output [1:0] y);\n  assign y = a[2:1];\nendmodule\n"
             around = TOOL.placing.between("one_pipelined", PORTS, TOOL.placing.PLAIN_CELLS)
             path.write_text(hand + TOOL.placing.pipelined("one", PORTS, 2) + around)
-            TOOL.circuits.subprocess.run(["iverilog", "-g2005", "-o", Path(name) / "out", path], check=True)
+            subprocess.run(["iverilog", "-g2005", "-o", Path(name) / "out", path], check=True)
 
 
 class Rows(unittest.TestCase):

@@ -48,7 +48,8 @@ class Steps(unittest.TestCase):
         for name in ("top/.ci", "top/bin", "top/bench", "top/crates/opgen/out", "top/crates/opgen/src", "path"):
             (self.folder / name).mkdir(parents=True)
         self.top = self.folder / "top"
-        shutil.copytree(TOP / "tools/opgenlib", self.top / "tools/opgenlib", ignore=shutil.ignore_patterns("__pycache__"))
+        for name in ("tools/opgenlib", "python"):
+            shutil.copytree(TOP / name, self.top / name, ignore=shutil.ignore_patterns("__pycache__"))
         for name in (".ci/quick", ".ci/run", "bin/made-from", "bin/digest-sources"):
             shutil.copy(TOP / name, self.top / name)
         for name in ("crates/opgen/src/main.rt", "crates.txt", "HANDLES", "../KIT-ID"):

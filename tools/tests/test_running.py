@@ -13,7 +13,7 @@ from unittest import mock
 
 from opgenlib import running, storing
 from tests import loading
-from tests.loading import EXAMPLES, TOOLS
+from tests.loading import EXAMPLES, TOOLS, has_ended
 
 OPGEN = TOOLS.parent / "bin/opgen"
 
@@ -112,9 +112,27 @@ class Outputs(Folder):
         self.assertEqual(self.status("$TOOLS/wrap -o none $EXAMPLES/duty")[1].partition(":")[2].split(": ")[0], " none/duty_wrap.vhd")
         self.assertEqual((self.names(), (self.folder / "old.svg").read_text()), (["old.svg"], "old"))
 
+    def test_temporary_files(self) -> None:
+        """Without a place for temporary files, and where one cannot be written, that is said and not that the output failed."""
+        status, said = self.status("ulimit -f 0; trap '' XFSZ; $TOOLS/sheet $EXAMPLES/times3.toml -o new.html")
+        self.assertEqual((status, said[:46]), (1, "sheet: No usable temporary directory found in "))
+        (self.folder / "ghdl").write_text("#!/bin/sh\nexit 1\n")
+        (self.folder / "ghdl").chmod(0o755)
+        status, said = self.status("ulimit -f 1; trap '' XFSZ; PATH=$PWD:$PATH $TOOLS/judge $EXAMPLES/duty.vhd $EXAMPLES/duty.vec")
+        self.assertEqual(status, 2)
+        self.assertRegex(said, r"\Ajudge: \S+/bench\.vhd: File too large\n\Z")
+        self.assertEqual(self.names(), ["ghdl"])
+
     def test_sheet_leaves_the_old_one(self) -> None:
         (self.folder / "old.html").write_text("old")
-        with mock.patch("os.replace", side_effect=OSError(28, "No space left on device")):
+        replace = os.replace
+
+        def fail(name: str, place: Path) -> None:
+            if str(place).endswith("old.html"):
+                raise OSError(28, "No space left on device")
+            replace(name, place)
+
+        with mock.patch("os.replace", side_effect=fail):
             words = ["--no-yosys", EXAMPLES / "times3.toml", "-o", self.folder / "old.html"]
             status, out, said = loading.run(loading.tool_of("sheet"), *words)
         self.assertEqual((status, out, said), (1, "", f"sheet: {self.folder}/old.html: No space left on device\n"))
@@ -151,7 +169,7 @@ class Ends(Folder):
                 pids = [int(path.read_text()) for path in self.folder.glob("*.pid")]
                 self.assertEqual(len(pids), 2)
                 for pid in pids:
-                    self.assertRaises(ProcessLookupError, os.kill, pid, 0) if not is_zombie(pid) else None
+                    self.assertTrue(has_ended(pid))
 
     def test_temporary_folder(self) -> None:
         """A sheet that is ended while the program runs leaves nothing."""
@@ -168,12 +186,30 @@ class Ends(Folder):
         self.assertEqual(list((self.folder / "temporary").iterdir()), [])
 
 
-def is_zombie(pid: int) -> bool:
-    """Whether a process has ended and nothing has waited for it, as in a container without an init."""
-    try:
-        return "\nState:\tZ" in Path(f"/proc/{pid}/status").read_text()
-    except OSError:
-        return False
+class Quiet(Folder):
+    """Ctrl-C while a tool is still being loaded."""
+
+    def test_loading(self) -> None:
+        (self.folder / "argparse.py").write_text("import os, signal\nos.kill(os.getpid(), signal.SIGINT)\nraise SystemExit('a trace')\n")
+        for tool in ("pictures", "place", "report", "rows", "sheet", "sweep", "wrap", "delays"):
+            done = subprocess.run([TOOLS / tool, "--help"], capture_output=True, text=True, env=os.environ | {"PYTHONPATH": str(self.folder)},
+                                  preexec_fn=lambda: signal.signal(signal.SIGINT, signal.SIG_DFL))
+            self.assertEqual((done.returncode, done.stdout, done.stderr), (-signal.SIGINT, "", ""), tool)
+
+    def test_a_module(self) -> None:
+        """A script elsewhere that takes a tool as a module is interrupted as any other, and so removes its temporary files."""
+        text = f"import sys; sys.path.insert(0, {str(TOOLS)!r}); import signal, verilog; print(signal.getsignal(2) is signal.default_int_handler)"
+        (self.folder / "script.py").write_text(text)
+        done = subprocess.run([sys.executable, self.folder / "script.py"], capture_output=True, text=True,
+                              preexec_fn=lambda: signal.signal(signal.SIGINT, signal.SIG_DFL))
+        self.assertEqual((done.stdout, done.stderr), ("True\n", ""))
+
+    def test_ignored(self) -> None:
+        """A signal that the caller ignores stays so."""
+        (self.folder / "argparse.py").write_text("import os, signal\nos.kill(os.getpid(), signal.SIGINT)\nraise SystemExit('goes on')\n")
+        done = subprocess.run([TOOLS / "rows", "--help"], capture_output=True, text=True, env=os.environ | {"PYTHONPATH": str(self.folder)},
+                              preexec_fn=lambda: signal.signal(signal.SIGINT, signal.SIG_IGN))
+        self.assertEqual((done.returncode, done.stderr), (1, "goes on\n"))
 
 
 class Progress(Folder):

@@ -12,6 +12,7 @@ from tests.loading import EXAMPLES
 
 from opgenlib.drawings.timing import Timing
 from opgenlib.report import read_report
+from opgenlib.sheet import recovery_cycle
 
 TOOL = loading.tool_of("sheet")
 # An example of each kind, and of each a fact that was worked out by hand.
@@ -52,6 +53,21 @@ class Reader(HTMLParser):
 
     def handle_endtag(self, tag: str) -> None:
         assert self.open.pop() == tag, tag
+
+
+class Recovery(unittest.TestCase):
+    """Whatever the registers hold, outputs are good from the latency on, and of a filter after its taps less one more."""
+
+    def cycle_of(self, name: str, spec: dict) -> int:
+        return recovery_cycle(read_report(EXAMPLES / f"{name}.rpt"), spec)
+
+    def test_a_quotient_remembers_nothing(self) -> None:
+        self.assertEqual(self.cycle_of("duty", {}), read_report(EXAMPLES / "duty.rpt").latency)
+
+    def test_filters_remember_their_taps_less_one(self) -> None:
+        direct, transposed = read_report(EXAMPLES / "lowpass.rpt"), read_report(EXAMPLES / "halfband.rpt")
+        self.assertEqual(recovery_cycle(direct, {"coefficients": [1] * 16}), direct.latency + 15)
+        self.assertEqual(recovery_cycle(transposed, {"taps": [1] * 15}), transposed.latency + 14)
 
 
 class Sheets(unittest.TestCase):

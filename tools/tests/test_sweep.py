@@ -128,7 +128,7 @@ class Runs(unittest.TestCase):
     @unittest.skipUnless(TOOL.placing.is_installed(), "nextpnr-ice40 is not installed")
     def test_placed(self):
         words = ("period=10000,20000", "--place", "hx8k", "--seeds", "1", "--best", "latency,reached", "--csv", "--no-yosys")
-        status, out, _ = self.run_tool(EXAMPLES / "times3.toml", *words, "--opgen", TOOL.TOP / "bin/opgen")
+        status, out, _ = self.run_tool(EXAMPLES / "times3.toml", *words, "--bin", loading.TOOLS.parent / "bin/opgen")
         rows = [line.split(",") for line in out.splitlines()]
         self.assertEqual((status, rows[0][-3:]), (0, ["reached", "cells", "best"]))
         self.assertTrue(all(500 < int(row[-3]) < 10_000 and 6 <= int(row[-2]) <= 12 for row in rows[1:]), rows)

@@ -1,7 +1,7 @@
 -- The weight of the lowest columns of a product.
 use Rattle.std.proofs.Common.{◌≡◌, ℕ, zero, suc, ◌+◌, ◌-◌, ◌*◌, ◌^◌, ◌<◌, ◌≤◌, inl, inr, ⊎_elim, ap, ◌∙◌, cond, eqb, ltb, lt-ltb, le-ltb, ne_eqb, eq-eqb, arith}
 use Rattle.std.proofs.lemmas.Bool.{cases_lt, cases_order}
-use Rattle.std.proofs.Math.Nat.{pow-le-pow_right}
+use Rattle.opgen_num.proofs.BitLength.{power_order}
 use Rattle.opgen_budget.specs.Columns.{bits_in_column, weight_below}
 use Rattle.opgen_budget.proofs.Sums.{sum-zero, sum-same, pairs-same, pairs-plus, pairs-times}
 
@@ -57,9 +57,6 @@ cut_is_greatest m n k most h more g =
     absurd (omega (arith, weight_below-order m n (suc k) (more - suc k), ap (weight_below m n) e, h, g)))
     (λ (l : more ≤ k). l)
     (cases_lt k more)
-
-pub power_order : (i j : ℕ) → i ≤ j → 2 ^ i ≤ 2 ^ j
-power_order i j h = pow-le-pow_right (omega arith) h
 
 -- so few columns that their weight has a place in 64 bits
 pub few_columns : (k w p : ℕ) → 2 ^ k ≤ w + 1 → w ≤ 2 ^ (p - 1) → p ≤ 64 → k ≤ 63

@@ -7,17 +7,11 @@ use Rattle.opgen_components.specs.declared.walk.Mark.{Mark}
 use Rattle.opgen_components.specs.declared.walk.Mark.TheVariants.{New}
 use Rattle.opgen_components.specs.Walk.{mark_of, marked}
 
-contains-tail : (x : ℕ) (xs : List ℕ) (t : ℕ) → Contains xs t → Contains (x ∷ xs) t
-contains-tail x xs t c = (c.0 + 1, omega (arith, c.1), rw add-one c.2)
-
-contains-head : (x : ℕ) (xs : List ℕ) → Contains (x ∷ xs) x
-contains-head x xs = (0, omega arith, refl)
-
 pub marked-out : (ms : List Mark) (ns : List ℕ) (m : Mark) (t : ℕ) → (Contains ns t → ⊥) → mark_of (marked ms ns m) t ≡ mark_of ms t
 marked-out ms [] m t h = refl
 marked-out ms (n ∷ ns) m t h =
-    let other : t ≢ n = λ e. h (subst (λ x. Contains (x ∷ ns) t) e (contains-head t ns)) in
-    marked-out (set ms n m) ns m t (λ c. h (contains-tail n ns t c)) ∙ get_or-set_other ms n t m New other
+    let other : t ≢ n = λ e. h (subst (λ x. Contains (x ∷ ns) t) e (0, omega arith, refl)) in
+    marked-out (set ms n m) ns m t (λ c. h (c.0 + 1, omega (arith, c.1), rw add-one c.2)) ∙ get_or-set_other ms n t m New other
 
 pub marked-again : (ms : List Mark) (ns : List ℕ) (m : Mark) (t : ℕ) → mark_of ms t ≡ m → t < length ms → mark_of (marked ms ns m) t ≡ m
 marked-again ms [] m t h l = h

@@ -24,7 +24,7 @@ use Rattle.opgen_net.proofs.Appending.{width-append_last}
 use Rattle.opgen_net.proofs.Grown.{grown-width}
 use Rattle.opgen_net.proofs.Later.{Later, bits-later, later-node, later-then}
 use Rattle.opgen_net.proofs.WordLaws.{word-found_width, word-has_bits}
-use Rattle.opgen_compress.proofs.Heaps.{IsHeap}
+use Rattle.opgen_heap.proofs.Heaps.{IsHeap}
 
 -- a node of a width that has the sum of columns over the net before
 record IsAdded (net : Net) (columns : List Column) (width : ℕ) (p : Placed) : Type 0 where

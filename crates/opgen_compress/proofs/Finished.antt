@@ -1,10 +1,9 @@
 -- The two rows that are left, and their sum.
 use Rattle.std.proofs.Common.{◌≡◌, ℕ, zero, suc, ◌+◌, ◌*◌, ◌%◌, ◌^◌, ◌<◌, ◌≤◌, Bool, true, false, List, [], ◌∷◌, ◌++◌, length, map, reverse, Some, refl, sym, ap, ◌∙◌, subst, arith}
-use Rattle.std.specs.Prelude.{ℤ, All, slice_index, slice_index_or, slice_get, option_and_then, None, if◌then◌else◌}
+use Rattle.std.specs.Prelude.{ℤ, All, slice_index, slice_index_or, option_and_then, None, if◌then◌else◌}
 use Rattle.std.proofs.Math.Nat.{add-mul-mod_self_left, mod-eq_of_lt}
-use Rattle.std.proofs.lemmas.List.{append-nil, length-map, length-reverse, map-append, reverse-append}
+use Rattle.std.proofs.lemmas.List.{length-map, length-reverse, map-append, reverse-append}
 use Rattle.std.proofs.lemmas.List.Elements.{All-cons, All-nil, All-push}
-use Rattle.std.proofs.lemmas.Option.{slice_get-get_or}
 use Rattle.std.proofs.lemmas.Bool.{eq-eqb}
 use Rattle.opgen_num.proofs.Carries.{sum-carry}
 use Rattle.opgen_num.specs.Words.{digit, nat, word, sum_with}
@@ -12,40 +11,36 @@ use Rattle.opgen_num.specs.WordLaws.{nat-word, length-word}
 use Rattle.opgen_num.proofs.Words.{nat-below}
 use Rattle.opgen_heap.specs.Contents.{Contents}
 use Rattle.opgen_heap.specs.Sum.{Words, bit_under, ones, columns_sum}
-use Rattle.opgen_net.specs.declared.cell.Class.TheVariants.{Wire, Add}
+use Rattle.opgen_net.specs.declared.cell.Class.TheVariants.{Add}
 use Rattle.opgen_design.specs.declared.expr.Op.TheVariants.{Plus}
 use Rattle.opgen_net.specs.declared.net.Net.{Net}
 use Rattle.opgen_net.specs.declared.node.Node.{Node}
-use Rattle.opgen_net.specs.declared.node.Node.TheVariants.{Constant, Cells}
+use Rattle.opgen_net.specs.declared.node.Node.TheVariants.{Cells}
 use Rattle.opgen_net.specs.declared.word_bits.WordBit.{WordBit}
 use Rattle.opgen_net.specs.declared.word_bits.WordBit.TheVariants.{Zero, One, Of}
-use Rattle.opgen_net.specs.declared.word_bits.Piece.{Piece}
-use Rattle.opgen_net.specs.declared.word_bits.Piece.TheVariants.{Bits, Part}
 use Rattle.opgen_design.specs.Tree.{name, none, more}
 use Rattle.opgen_net.specs.Flow.{Inputs, flow}
 use Rattle.opgen_net.specs.Grown.{HasGrown}
-use Rattle.opgen_net.specs.Made.{slice_tree}
 use Rattle.opgen_net.specs.Valid.{widths, IsValid, FitsNodes}
-use Rattle.opgen_design.specs.Value.{IsWidth, as_width, joined, width, width_on}
-use Rattle.opgen_net.specs.WordRule.{IsThere, HasBits, bit_flow, word_flow, runs, is_whole, word_tree, with_node, with_runs, with_word}
+use Rattle.opgen_design.specs.Value.{IsWidth, joined, width, width_on}
+use Rattle.opgen_net.specs.WordRule.{IsThere, HasBits, bit_flow, word_flow, with_word}
 use Rattle.opgen_net.proofs.Appending.{flow-append_last}
-use Rattle.opgen_net.proofs.Grown.{grown-more, grown-flow}
+use Rattle.opgen_net.proofs.Grown.{grown-flow}
 use Rattle.opgen_net.proofs.FlowLaws.{index_within, length-widths}
-use Rattle.opgen_design.proofs.WidthLaws.{length-sum_with, as_width-of}
+use Rattle.opgen_design.proofs.WidthLaws.{length-sum_with}
 use Rattle.opgen_compress.specs.Adder.{two}
 use Rattle.opgen_compress.specs.Recipe.{Column, State, all_columns, heights_below, lowered, row, fullest}
 use Rattle.opgen_heap.specs.Standing.{AllThere}
 use Rattle.opgen_compress.specs.Kept.{words_at, IsSumOfColumns, IsSumOf}
 use Rattle.opgen_compress.proofs.Ones.{with_ones-sum, with_ones-length, with_ones-there}
 use Rattle.opgen_compress.proofs.Passed.{Passed, all-passed}
-use Rattle.opgen_net.proofs.Later.{Later, words-later}
+use Rattle.opgen_net.proofs.Later.{Later, word-grown, words-later, word-nodes}
+use Rattle.opgen_net.proofs.WordLaws.{name-width}
+use Rattle.opgen_net.proofs.BitLists.{reverse-cons}
 use Rattle.opgen_heap.proofs.Kept.{bit-kept}
 use Rattle.opgen_compress.proofs.Firsts.{first_of, rest_of, first_column, rest_columns}
 
 -- lists in reverse
-
-reverse-cons : {A : Type 0} (x : A) (xs : List A) → reverse (x ∷ xs) ≡ reverse xs ++ x ∷ []
-reverse-cons x xs = reverse-append (x ∷ []) xs
 
 reverse-map_reverse : {A B : Type 0} (f : A → B) (xs : List A) → reverse (map f (reverse xs)) ≡ map f xs
 reverse-map_reverse f [] = refl
@@ -151,33 +146,14 @@ sum-number width a b h g =
 
 -- a word more
 
--- what a word's runs leave are the nodes before, and further ones
-word-nodes : (ns : List Node) (count : ℕ) (rs : List Piece) → (more : List Node) × ((with_runs ns count rs).nodes ≡ ns ++ more)
-word-nodes ns count [] = (Cells Wire count (word_tree (widths ns) []) ∷ [], refl)
-word-nodes ns count (Bits w ∷ []) = (Constant w ∷ [], refl)
-word-nodes ns count (Part s ∷ []) =
-    elim (is_whole (widths ns) s) as (
-    λ c. (more : List Node) × ((if c then record { nodes = ns; place = s.node } else with_node ns (Cells Wire count (slice_tree (widths ns)
-    s))).nodes ≡ ns ++ more)
-    ) [ true ↦ ([], sym (append-nil ns)) | false ↦ (Cells Wire count (slice_tree (widths ns) s) ∷ [], refl) ]
-word-nodes ns count (Bits w ∷ q ∷ rs) = (Cells Wire count (word_tree (widths ns) (Bits w ∷ q ∷ rs)) ∷ [], refl)
-word-nodes ns count (Part s ∷ q ∷ rs) = (Cells Wire count (word_tree (widths ns) (Part s ∷ q ∷ rs)) ∷ [], refl)
-
 pub word-later : (net new : Net) (bits : List WordBit) → new ≡ record net { nodes = (with_word net.nodes bits).nodes } → IsValid new
     → Later net new
-word-later net new bits e v =
-    let w = word-nodes net.nodes (length bits) (runs bits) in
-    record { valid = v; grown = subst (HasGrown net) (sym (e ∙ ap (λ ns. record net { nodes = ns }) w.1)) (grown-more net w.0) }
+word-later net new bits e v = record { valid = v; grown = subst (HasGrown net) (sym e) (word-grown net bits) }
 
 -- the sum of two nodes of one width
 
 pub node-there : (net : Net) (n width : ℕ) → IsWidth width → slice_index (widths net.nodes) n ≡ width → n < length net.nodes
 node-there net n width w h = omega (arith, index_within (widths net.nodes) n 0 (omega (arith, h, w.0)), length-widths net.nodes)
-
-name-width : (ws : List ℕ) (n v : ℕ) → IsWidth v → slice_index ws n ≡ v → width ws [] (name n) ≡ Some v
-name-width ws n v w h =
-    let there : slice_get ws n ≡ Some v = slice_get-get_or ws n 0 (index_within ws n 0 (omega (arith, h, w.0))) ∙ ap Some h in
-    ap (option_and_then as_width) there ∙ as_width-of v w
 
 pub sum-fits : (net : Net) (a b width : ℕ) → IsWidth width → slice_index (widths net.nodes) a ≡ width → slice_index (widths net.nodes) b
     ≡ width

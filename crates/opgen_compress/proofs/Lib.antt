@@ -5,5 +5,4 @@ mod Heights
 mod Passed
 mod Ones
 mod Finished
-pub mod Heaps
 pub mod Compressing

@@ -1,9 +1,7 @@
 -- The expressions of adders: their width, how deep they nest, and what they give.
-use Rattle.std.proofs.Common.{◌≡◌, ℕ, suc, ◌+◌, ◌-◌, ◌*◌, ◌<◌, ◌≤◌, Bool, true, false, nat_eq, ◌&&◌, ◌||◌, List, [], ◌∷◌, length, take, drop, Some, refl, sym, ap, ◌∙◌, arith}
+use Rattle.std.proofs.Common.{◌≡◌, ℕ, ◌+◌, ◌*◌, ◌≤◌, Bool, true, false, nat_eq, ◌&&◌, ◌||◌, List, [], ◌∷◌, length, Some, refl, sym, ap, ◌∙◌, arith}
 use Rattle.std.specs.Prelude.{ℤ, All, slice_index, slice_index_or, option_and_then, if◌then◌else◌}
-use Rattle.std.proofs.Math.Seq.{take-suc}
 use Rattle.std.proofs.lemmas.Bool.{eqb-true, and_parts}
-use Rattle.std.proofs.lemmas.List.{length-drop, get_or-drop}
 use Rattle.std.proofs.lemmas.List.Elements.{All-cons, All-nil}
 use Rattle.opgen_num.specs.Words.{digit, xor}
 use Rattle.opgen_heap.specs.Sum.{bit_under}
@@ -13,7 +11,7 @@ use Rattle.opgen_net.specs.declared.net.Net.{Net}
 use Rattle.opgen_net.specs.declared.word_bits.WordBit.{WordBit}
 use Rattle.opgen_net.specs.declared.word_bits.WordBit.TheVariants.{Zero, One, Of}
 use Rattle.opgen_design.specs.Tree.{Tree, Trees, none, more, name, part}
-use Rattle.opgen_design.specs.Value.{Scope, value, combined, cut, joined, width, width_on, nesting, in_chain}
+use Rattle.opgen_design.specs.Value.{Scope, value, combined, joined, width, width_on, nesting, in_chain}
 use Rattle.opgen_net.specs.Cells.{IsLogic}
 use Rattle.opgen_net.specs.Flow.{Inputs, flow}
 use Rattle.opgen_design.specs.Run.{AreWords}
@@ -21,7 +19,7 @@ use Rattle.opgen_net.specs.Valid.{widths, input_widths, IsValid, FitsNodes}
 use Rattle.opgen_net.specs.WordRule.{IsThere}
 use Rattle.opgen_net.proofs.CellLaws.{ReadsOne, bit-one, one-logic, three-one, two-one}
 use Rattle.opgen_net.proofs.FlowWidths.{flow-width}
-use Rattle.opgen_net.proofs.WordLaws.{word-fits}
+use Rattle.opgen_net.proofs.WordLaws.{word-fits, cut-one}
 use Rattle.opgen_compress.specs.Adder.{bit_tree, two, three, half_sum, half_carry, full_sum, full_carry}
 use Rattle.opgen_compress.specs.Kept.{words_at}
 use Rattle.opgen_net.proofs.Later.{Later}
@@ -160,14 +158,6 @@ module _ (ws : List ℕ) (a b c : WordBit) (h : All (IsThere ws) (a ∷ b ∷ c 
   full_carry-stands = (full_carry-logic, full_carry-fits)
 
 -- values
-
-cut-one : (w : List Bool) (index : ℕ) → index < length w → cut index index w ≡ slice_index_or w index false ∷ []
-cut-one w index h =
-    let e : index + 1 - index ≡ suc 0 = omega arith in
-    let k : index + 0 ≡ index = omega arith in
-    ap (λ n. take n (drop index w)) e
-    ∙ take-suc (drop index w) 0 false (omega (arith, h, length-drop index w))
-    ∙ ap (λ x. x ∷ []) (get_or-drop index w 0 false ∙ ap (λ i. slice_index_or w i false) k)
 
 single : (w : List Bool) (index : ℕ) → index ≡ 0 → length w ≡ 1 → w ≡ slice_index_or w index false ∷ []
 single [] index z h = absurd (omega (arith, h))

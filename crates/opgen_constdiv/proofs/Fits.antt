@@ -1,10 +1,11 @@
 -- The net fits the operator.
-use Rattle.std.proofs.Common.{◌≡◌, ℕ, Bool, true, false, List, map, refl, sym, ap, ◌∙◌, subst, arith}
-use Rattle.std.specs.Prelude.{ℤ, pos, ◌-ℤ◌, if◌then◌else◌}
-use Rattle.std.proofs.lemmas.Int.{ints}
-use Rattle.opgen_num.specs.declared.format.Format.{Format}
+use Rattle.std.proofs.Common.{◌≡◌, ℕ, Bool, true, false, map, refl, sym, ap, ◌∙◌, subst}
+use Rattle.std.specs.Prelude.{ℤ, pos}
 use Rattle.opgen_num.specs.Rounding.{IsWithinOne}
-use Rattle.opgen_num.specs.Words.{int, val, nat}
+use Rattle.opgen_num.specs.Words.{val, nat}
+use Rattle.opgen_num.proofs.Integers.{less-zero}
+use Rattle.opgen_num.proofs.Values.{val-unsigned}
+use Rattle.opgen_num.proofs.Quotients.{quotient_near}
 use Rattle.opgen_net.specs.Flow.{Inputs, input_at}
 use Rattle.opgen_net.specs.Placed.{number_at}
 use Rattle.opgen_kinds.specs.declared.small_div.SmallDiv.{SmallDiv}
@@ -17,13 +18,14 @@ use Rattle.opgen_ports.specs.Ports.{Recent}
 use Rattle.opgen_operator.proofs.Accepted.{accepted_ranges}
 use Rattle.opgen_ports.specs.Modes.{mode_of_exact}
 use Rattle.opgen_operator.proofs.EachMode.{fits_by_mark}
+use Rattle.opgen_operator.proofs.Shown.{one_shown, two_shown}
 use Rattle.opgen_ports.proofs.Marks.{good_by_mark}
 use Rattle.opgen_ports.proofs.InputPorts.{input_bit}
 use Rattle.opgen_constdiv.specs.Rows.{IsSmall}
 use Rattle.opgen_constdiv.specs.Recipe.{digit_number, Divided, after, net_of}
 use Rattle.opgen_constdiv.specs.Steps.{IsInput}
 use Rattle.opgen_constdiv.proofs.Division.{base, AreFor}
-use Rattle.opgen_constdiv.proofs.Whole.{near, results-valid, made-inputs, for_inputs, divided-right, output_ports, outputs-shown, result_words, quotient-word, rest-word}
+use Rattle.opgen_constdiv.proofs.Whole.{results-valid, made-inputs, made-passes, for_inputs, divided-right, output_ports, outputs-shown, result_words, quotient-word, rest-word}
 
 pub accepted : (s : SmallDiv) → IsAcceptedSmallDiv s → IsSmallDiv s
 accepted s is = accepted_ranges (Constdiv s) is
@@ -35,12 +37,6 @@ pub has_divisor : (s : SmallDiv) → IsSmallDiv s → IsSmall s.divisor
 has_divisor s is = record { some = is.least; few = is.most }
 
 -- unsigned words, in the last cycle
-
-unsigned : (v : List Bool) (f : Format) → f.signed ≡ false → val v f ≡ pos (nat v)
-unsigned v f e = ap (λ (c : Bool). if c then int v else pos (nat v)) e
-
-now : (t : ℕ) → pos t -ℤ pos 0 ≡ pos t
-now t = omega (arith, ints)
 
 module _ (s : SmallDiv) (is : IsSmallDiv s) where
   abbrev w : ℕ
@@ -66,7 +62,7 @@ module _ (s : SmallDiv) (is : IsSmallDiv s) where
 
   input_now : (inputs : Inputs) (t : ℕ) → inputs_now inputs t 0 0 ≡ pos (input_number inputs t)
   input_now inputs t =
-      ap (λ u. val (input_at inputs 0 w u) s.input) (now t) ∙ unsigned (input_at inputs 0 w (pos t)) s.input is.unsigned
+      ap (λ u. val (input_at inputs 0 w u) s.input) (less-zero t) ∙ val-unsigned (input_at inputs 0 w (pos t)) s.input is.unsigned
 
   same_ports : (exact : Bool) → output_ports w c input small exact ≡ map name_and_width (small_ports exact s)
   same_ports true = refl
@@ -81,23 +77,20 @@ module _ (s : SmallDiv) (is : IsSmallDiv s) where
       let q = ap pos (quotient-word w c input small true inputs (pos t) words) in
       let r = ap pos (rest-word w c input small inputs (pos t) words) in
       let held = divided-right w c input small inputs (pos t) words in
-      subst (λ z. IsGoodSmallQuotient true s z (outputs_now true inputs t 0) (outputs_now true inputs t 1)) (sym (input_now inputs t))
-      (subst (λ z. IsGoodSmallQuotient true s (pos (input_number inputs t)) z (outputs_now true inputs t 1)) (sym q)
-      (subst (λ z. IsGoodSmallQuotient true s (pos (input_number inputs t)) (pos (number_at last.net.nodes inputs (pos t) last.quotient)) z)
-      (sym r) held))
+      two_shown (IsGoodSmallQuotient true s) (input_now inputs t) q r held
   good false inputs t words =
       let q = ap pos (quotient-word w c input small false inputs (pos t) words) in
       let held = divided-right w c input small inputs (pos t) words in
-      subst (λ z. IsWithinOne z (pos c) (outputs_now false inputs t 0)) (sym (input_now inputs t))
-      (subst (λ z. IsWithinOne (pos (input_number inputs t)) (pos c) z) (sym q)
-      (near (input_number inputs t) c (number_at last.net.nodes inputs (pos t) last.quotient)
-      (number_at last.net.nodes inputs (pos t) last.rest) held))
+      one_shown (λ x y. IsWithinOne x (pos c) y) (input_now inputs t) q
+      (quotient_near (input_number inputs t) c (number_at last.net.nodes inputs (pos t) last.quotient)
+      (number_at last.net.nodes inputs (pos t) last.rest) held)
 
   pub fits : FitsOperator (mode_of_exact s.exact) (Constdiv s) (net_of s.exact w c)
   fits = record {
     valid = results-valid w c input small s.exact;
     inputs = made-inputs w c input small s.exact;
     outputs = outputs-shown w c input small s.exact ∙ same_ports s.exact;
+    delays = made-passes w c input small s.exact;
     good = λ inputs t words within range.
         good_by_mark s.exact
         (λ e. IsGoodSmallQuotient e s (inputs_now inputs t 0 0) (outputs_now s.exact inputs t 0) (outputs_now s.exact inputs t 1))
@@ -105,4 +98,4 @@ module _ (s : SmallDiv) (is : IsSmallDiv s) where
   }
 
 pub fits_modes : (s : SmallDiv) → IsAcceptedSmallDiv s → FitsInEachMode (Constdiv s) (net_of s.exact s.input.width s.divisor)
-fits_modes s is = fits_by_mark s.exact (Constdiv s) (net_of s.exact s.input.width s.divisor) refl (fits s (accepted s is))
+fits_modes s is = fits_by_mark (mode_of_exact s.exact) (Constdiv s) (net_of s.exact s.input.width s.divisor) refl (fits s (accepted s is))

@@ -1,31 +1,33 @@
 -- The net of a division by a small constant: it is valid, its digits are right, and its outputs are good.
-use Rattle.std.proofs.Common.{◌≡◌, ℕ, zero, suc, ◌+◌, ◌-◌, ◌*◌, ◌^◌, ◌<◌, ◌≤◌, Bool, true, false, List, [], ◌∷◌, ◌++◌, length, map, take, drop, replicate, sym, ap, ◌∙◌, subst, arith, codes}
-use Rattle.std.specs.Prelude.{ℤ, pos, All, slice_index}
+use Rattle.std.proofs.Common.{◌≡◌, ℕ, zero, suc, ◌+◌, ◌-◌, ◌*◌, ◌^◌, ◌<◌, ◌≤◌, Bool, true, false, List, [], ◌∷◌, ◌++◌, length, map, take, drop, replicate, refl, sym, ap, ◌∙◌, subst, arith, codes}
+use Rattle.std.specs.Prelude.{ℤ, All, slice_index}
 use Rattle.std.proofs.Math.Nat.{mul-le-mul_left}
 use Rattle.std.proofs.Math.Seq.{take-length}
-use Rattle.std.proofs.lemmas.Int.{ints}
 use Rattle.std.proofs.lemmas.List.{length-drop, take-append-drop}
 use Rattle.std.proofs.lemmas.List.Elements.{All-drop, All-take}
-use Rattle.opgen_num.specs.Rounding.{IsQuotient, IsWithinOne}
+use Rattle.opgen_num.specs.Rounding.{IsQuotient}
 use Rattle.opgen_num.specs.Words.{nat}
 use Rattle.opgen_num.proofs.Words.{nat-below}
 use Rattle.opgen_design.specs.Run.{AreWords}
 use Rattle.opgen_design.specs.Value.{word_at, cut, IsWidth}
-use Rattle.opgen_digits.proofs.Outputs.{whole-width, made-later, output-valid, output-keeps, output-number}
+use Rattle.opgen_digits.proofs.Outputs.{made-later, output-valid, output-keeps, output-number}
 use Rattle.opgen_net.specs.declared.net.Net.{Net}
 use Rattle.opgen_net.specs.declared.net.Output.{Output}
 use Rattle.opgen_net.specs.declared.word_bits.WordBit.{WordBit}
 use Rattle.opgen_net.specs.declared.word_bits.WordBit.TheVariants.{Zero}
+use Rattle.opgen_net.specs.Delays.{delay_count, PassesAtMost}
 use Rattle.opgen_net.specs.Flow.{Inputs, flow, slice_flow, input_at, KeepsFlow}
 use Rattle.opgen_net.specs.Placed.{number_at, with_bits, whole}
 use Rattle.opgen_net.specs.Valid.{widths, input_widths, slice_width, IsValid, LiesWithin}
 use Rattle.opgen_net.specs.WordRule.{IsThere, bits_from}
 use Rattle.opgen_net.proofs.Appending.{valid-output}
 use Rattle.opgen_net.proofs.BitLists.{bits_from-flow}
+use Rattle.opgen_net.proofs.Delays.{passes-count}
 use Rattle.opgen_net.proofs.FlowWidths.{flow-width}
-use Rattle.opgen_net.proofs.Grown.{flow-then, grown-flow, grown-width, grown-count}
+use Rattle.opgen_net.proofs.Grown.{grown-keeps, grown-width}
 use Rattle.opgen_net.proofs.Later.{Later, node_there, words-later}
 use Rattle.opgen_net.proofs.Numbers.{at-append, at-zeros, at-node, number-kept}
+use Rattle.opgen_net.proofs.Standing.{whole-width}
 use Rattle.opgen_constdiv.specs.Rows.{IsSmall, rest_width, digit_width}
 use Rattle.opgen_constdiv.specs.Recipe.{digit_number, dividend, Divided, after, with_quotient, with_results, net_of}
 use Rattle.opgen_constdiv.specs.Steps.{IsInput, HoldsAfterEachDigit}
@@ -51,10 +53,6 @@ quotient-least : (x c q r : ℕ) → 1 ≤ c → IsQuotient x c q r → q ≤ x
 quotient-least x c q r some h =
     let more : q * 1 ≤ q * c = mul-le-mul_left q some in
     omega (arith, h.0, more)
-
--- a quotient rounded down is less than one away
-pub near : (x c q r : ℕ) → IsQuotient x c q r → IsWithinOne (pos x) (pos c) (pos q)
-near x c q r h = omega (arith, ints, h.0, h.1)
 
 module _ (w c : ℕ) (input : IsInput w) (small : IsSmall c) where
   abbrev count : ℕ
@@ -103,6 +101,10 @@ module _ (w c : ℕ) (input : IsInput w) (small : IsSmall c) where
   placed-later : Later last.net (with_bits last.net lowest).net
   placed-later = made-later last.net at_last.later.valid lowest lowest-wide lowest-there
 
+  no-delays : delay_count one.nodes ≤ 0
+  no-delays =
+      let none : delay_count start.nodes ≡ 0 = refl in omega (arith, placed-later.grown.delays, at_last.later.grown.delays, none)
+
   -- the last table
   pub table-wide : slice_index (widths last.net.nodes) last.table ≡ 6
   table-wide = (at_last.last some-digit).0
@@ -134,6 +136,11 @@ module _ (w c : ℕ) (input : IsInput w) (small : IsSmall c) where
   made-inputs true = at_last.later.grown.inputs
   made-inputs false = at_last.later.grown.inputs
 
+  -- no node is a delay
+  pub made-passes : (exact : Bool) → PassesAtMost 0 (net_of exact w c).nodes
+  made-passes true = passes-count 0 one.nodes no-delays
+  made-passes false = passes-count 0 one.nodes no-delays
+
   pub for_inputs : (exact : Bool) (inputs : Inputs) → Are (net_of exact w c) inputs → Are start inputs
   for_inputs exact inputs words = subst (λ is. Are (record (net_of exact w c) { inputs = is }) inputs) (made-inputs exact) words
 
@@ -144,8 +151,7 @@ module _ (w c : ℕ) (input : IsInput w) (small : IsSmall c) where
       let all : k + (count - k) ≡ count = omega (arith, h) in
       let later : Later old last.net = subst (λ m. Later old (after w c m).net) all
       (later-by w c input small k (count - k) (omega (arith, h))) in
-      flow-then old.nodes last.net.nodes (net_of exact w c).nodes (grown-count old last.net later.grown)
-      (grown-flow old last.net later.grown) (results-keep exact)
+      grown-keeps old last.net later.grown (net_of exact w c).nodes (results-keep exact)
 
   pub digits_hold : (exact : Bool) → HoldsAfterEachDigit w c (net_of exact w c)
   digits_hold exact k h inputs t words =

@@ -4,4 +4,5 @@ pub mod Recoding
 pub mod Existence
 pub mod Sums
 pub mod Filling
+pub mod Members
 pub mod StepUp

@@ -8,20 +8,7 @@ use Rattle.opgen_csd.specs.Partials.{cuts, partials}
 use Rattle.opgen_csd.specs.Laws.{IsPartialSum}
 use Rattle.opgen_csd.proofs.Canonical.{digit_cases}
 use Rattle.opgen_csd.proofs.Sums.{value-snoc}
-
--- ---- membership by cases
-here : (x : ℕ) (xs : List ℕ) → Contains (x ∷ xs) x
-here x xs = (0, omega arith, refl)
-
-there : (x y : ℕ) (xs : List ℕ) → Contains xs y → Contains (x ∷ xs) y
-there x y xs c = (suc c.0, omega (arith, c.1), c.2)
-
-of_cons : (x y : ℕ) (xs : List ℕ) → Contains (x ∷ xs) y → (x ≡ y) ⊎ Contains xs y
-of_cons x y xs (zero, lt, e) = inl e
-of_cons x y xs (suc k, lt, e) = inr (k, omega (arith, lt), e)
-
-of_nil : (y : ℕ) → Contains [] y → ⊥
-of_nil y c = omega (arith, c.1)
+use Rattle.opgen_csd.proofs.Members.{here, there, of_cons, of_nil}
 
 -- ---- the same sums, from a sum of the digits below a place
 abbrev pub next : ℤ → ℕ → ℤ → ℤ

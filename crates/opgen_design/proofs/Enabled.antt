@@ -4,7 +4,7 @@ use Rattle.std.specs.Prelude.{All}
 use Rattle.opgen_design.specs.declared.design.Design.{Design}
 use Rattle.opgen_design.specs.declared.design.Driver.{Driver}
 use Rattle.opgen_design.specs.declared.design.Driver.TheVariants.{Assign, Choice, Table, Register, Output}
-use Rattle.opgen_design.specs.Run.{without_enable, marked, is_one, ones_at, EnabledCyclesAreRuns, IsNoRegister, AnyCyclesAreRuns, Words, scope, Meets, Cycle, RunsOn, initial_words}
+use Rattle.opgen_design.specs.Run.{without_enable, marked, is_one, ones_at, EnabledCyclesAreRuns, IsNoRegister, AnyCyclesAreRuns, Words, scope, Meets, Cycle, RunsOn}
 use Rattle.opgen_design.specs.Value.{word_at, value, chosen}
 
 -- the words that registers hold are the same
@@ -114,7 +114,7 @@ module _ (d : Design) (port : ℕ) (is : d.enable ≡ Some port) where
       one-cycle now given inputs v vs r.0 r.1 (enabled-on r.0 inputs vs r.2) (is_one (word_at v.ports port)) refl
 
 pub enabled-cycles : EnabledCyclesAreRuns
-enabled-cycles d port inputs vs is r = enabled-on d port is (initial_words d.signals) inputs vs r
+enabled-cycles d port start inputs vs is r = enabled-on d port is start inputs vs r
 
 -- without registers a cycle says nothing of the words before it and after it
 free : (enable : Option ℕ) (now later : List (List Bool)) (v : Words) (next after : List (List Bool)) (k : Driver) → IsNoRegister k
@@ -149,4 +149,4 @@ module _ (d : Design) (none : All IsNoRegister d.drivers) where
   any-on (false ∷ marks) now later (given ∷ inputs) (v ∷ vs) r = any-on marks r.0 later inputs vs r.2
 
 pub any-cycles : AnyCyclesAreRuns
-any-cycles d inputs vs marks none r = any-on d none marks (initial_words d.signals) (initial_words d.signals) inputs vs r
+any-cycles d start inputs vs marks none r = any-on d none marks start start inputs vs r

@@ -1,9 +1,9 @@
 -- The needs of signals as a graph, and what its components say of a design.
-use Rattle.std.proofs.Common.{◌≡◌, ℕ, ◌<◌, List, [], ◌++◌, length, get_or, Option, Some, None, IsTrue, refl, sym, ap, ◌∙◌, subst, inl, inr, arith}
+use Rattle.std.proofs.Common.{◌≡◌, ℕ, ◌<◌, List, [], length, get_or, Option, Some, None, IsTrue, refl, sym, ap, ◌∙◌, subst, inl, inr, arith}
 use Rattle.std.specs.Prelude.{Contains}
 use Rattle.std.proofs.lemmas.Bool.{cases_lt}
 use Rattle.std.proofs.lemmas.List.{get_or_past}
-use Rattle.std.proofs.lemmas.List.Elements.{All-contains, Contains-append_left, Contains-append_right, Contains-append_cases}
+use Rattle.std.proofs.lemmas.List.Elements.{All-contains}
 use Rattle.opgen_components.specs.declared.Component.{Component}
 use Rattle.opgen_components.specs.Graph.{Graph, IsGraph, Path, links_of, AreComponents, component_of}
 use Rattle.opgen_components.specs.Graph as graph
@@ -11,51 +11,26 @@ use Rattle.opgen_components.proofs.Laws.{smaller}
 use Rattle.opgen_design.specs.declared.design.Design.{Design}
 use Rattle.opgen_design.specs.declared.design.Driver.{Driver}
 use Rattle.opgen_design.specs.declared.design.Driver.TheVariants.{Assign, Choice, Table, Register, Output}
-use Rattle.opgen_design.specs.Sound.{driver_names, names_read, target, Needs, Names, IsRegisterOf, IsOffCycles, IsOrdered, DependsOn, at_once, through, Holds}
+use Rattle.opgen_design.specs.Sound.{driver_names, expressions_read, target, Needs, Names, IsRegisterOf, IsOffCycles, IsOrdered, DependsOn, at_once, through, Holds}
 use Rattle.opgen_design.specs.Order.{is_register}
 use Rattle.opgen_design.specs.Rules.{AreFirstDrivers, AreNeeds, AreGroups, IsRegisterAt, IsRegisterIn, slot, needs_of, needs_if, needs_at}
 use Rattle.opgen_design.specs.declared.design.Target.TheVariants.{Signal as signal}
 use Rattle.opgen_design.specs.declared.sound.Rule.TheVariants.{Undeclared, DrivenTwice}
-use Rattle.opgen_design.proofs.UseLaws.{reads-contains, contains-reads}
+use Rattle.opgen_design.proofs.UseLaws.{some-contains, contains-some}
 use Rattle.opgen_design.proofs.SoundLaws.{at-contains, declared-in, is-signal, first-at, driver-lists}
 
 pub needs-contains : (r : ℕ) (k : Driver) → Needs r k → Contains (needs_of k) r
-needs-contains r (Assign to e) h = reads-contains r e h
-needs-contains r (Choice to on one other) h =
-    elim h [
-      | inl a ↦ Contains-append_left (names_read on ++ names_read one) (names_read other) r
-          (Contains-append_left (names_read on) (names_read one) r (reads-contains r on a))
-      | inr b ↦ elim b [
-        | inl a ↦ Contains-append_left (names_read on ++ names_read one) (names_read other) r
-            (Contains-append_right (names_read on) (names_read one) r (reads-contains r one a))
-        | inr a ↦ Contains-append_right (names_read on ++ names_read one) (names_read other) r (reads-contains r other a)
-      ]
-    ]
-needs-contains r (Table to on rows other) h = reads-contains r on h
 needs-contains r (Register to e) h = absurd h
-needs-contains r (Output place e) h = reads-contains r e h
+needs-contains r k h = some-contains r (expressions_read k) h
 
 pub contains-needs : (r : ℕ) (k : Driver) → Contains (needs_of k) r → Needs r k
-contains-needs r (Assign to e) h = contains-reads r e h
-contains-needs r (Choice to on one other) h =
-    elim (Contains-append_cases (names_read on ++ names_read one) (names_read other) r h) [
-      | inl a ↦ elim (Contains-append_cases (names_read on) (names_read one) r a) [
-        | inl b ↦ inl (contains-reads r on b)
-        | inr b ↦ inr (inl (contains-reads r one b))
-      ]
-      | inr a ↦ inr (inr (contains-reads r other a))
-    ]
-contains-needs r (Table to on rows other) h = contains-reads r on h
 contains-needs r (Register to e) h = absurd (omega (arith, h.1))
-contains-needs r (Output place e) h = contains-reads r e h
+contains-needs r k h = contains-some r (expressions_read k) h
 
 -- a need is a name that is read
 needs-names : (r : ℕ) (k : Driver) → Contains (needs_of k) r → Contains (driver_names k) r
-needs-names r (Assign to e) h = h
-needs-names r (Choice to on one other) h = h
-needs-names r (Table to on rows other) h = h
 needs-names r (Register to e) h = absurd (omega (arith, h.1))
-needs-names r (Output place e) h = h
+needs-names r k h = h
 
 register-of : (k : Driver) (s : ℕ) → IsRegisterOf s k → (target k ≡ signal s) × IsTrue (is_register k)
 register-of (Assign to e) s h = absurd h

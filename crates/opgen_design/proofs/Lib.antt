@@ -4,9 +4,10 @@ pub mod ReadLaws
 pub mod UseLaws
 pub mod FirstFailing
 pub mod SoundLaws
-mod RuleOrder
+pub mod RuleOrder
 pub mod GroupLaws
 pub mod NameWalk
 pub mod OrderLaws
 pub mod EnableLaws
 mod Enabled
+pub mod WithoutEnable

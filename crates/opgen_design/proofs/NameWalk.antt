@@ -45,7 +45,7 @@ module _ (names : List (List ℕ)) (i : ℕ) (within : i < length names) (name :
       before-more (IsNew names) names i (get_or names i []) at
       (record { not_clock = λ e. clock (is ∙ e); not_before = λ j l e. before j l (e ∙ sym is) }) holds
 
-some-item : {X : Type 0} (xs : List X) (n : ℕ) → n < length xs → (x : X) × (slice_get xs n ≡ Some x)
+pub some-item : {X : Type 0} (xs : List X) (n : ℕ) → n < length xs → (x : X) × (slice_get xs n ≡ Some x)
 some-item [] n l = absurd (omega (arith, l))
 some-item (x ∷ xs) zero l = (x, refl)
 some-item (x ∷ xs) (suc n) l = some-item xs n (omega (arith, l))

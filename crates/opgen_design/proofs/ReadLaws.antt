@@ -27,6 +27,6 @@ module _ (P Q : ℕ → Type 0) (r : ℕ) where
     holds_of_read (inverse t) h e = holds_of_read t h e
     holds_of_read (chain op ts) h e = holds_of_operand ts h e
 
-    holds_of_operand : (ts : Trees) → AllOperandsRead P Q ts → SomeOperandReads r ts → P r
+    pub holds_of_operand : (ts : Trees) → AllOperandsRead P Q ts → SomeOperandReads r ts → P r
     holds_of_operand none h e = absurd e
     holds_of_operand (more t ts) h e = elim e [ inl a ↦ holds_of_read t h.0 a | inr b ↦ holds_of_operand ts h.1 b ]

@@ -36,7 +36,7 @@ rule-number NoInitial = refl
 rule-number ChoiceTwice = refl
 rule-number BadEnable = refl
 
-same-rule : (r q : Rule) → rule_number r ≡ rule_number q → r ≡ q
+pub same-rule : (r q : Rule) → rule_number r ≡ rule_number q → r ≡ q
 same-rule r q e = sym (rule-number r) ∙ ap rule_of e ∙ rule-number q
 
 -- each rule of a smaller number holds

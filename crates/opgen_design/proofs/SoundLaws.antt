@@ -1,22 +1,20 @@
 -- What the walks of the rules find.
-use Rattle.std.proofs.Common.{◌≡◌, ◌≢◌, ℕ, ◌+◌, ◌<◌, ◌↔◌, List, ◌++◌, length, get_or, set, Option, Some, None, Result, IfErr, refl, sym, ap, ◌∙◌, subst, inl, inr, arith}
+use Rattle.std.proofs.Common.{◌≡◌, ◌≢◌, ℕ, ◌+◌, ◌<◌, ◌↔◌, List, length, get_or, set, Option, Some, None, Result, IfErr, refl, sym, ap, ◌∙◌, subst, inl, inr, arith}
 use Rattle.std.specs.Prelude.{slice_get, Contains, All}
 use Rattle.std.proofs.lemmas.Bool.{cases_eq, cases_order}
 use Rattle.std.proofs.lemmas.List.{get_or-set_same, get_or-set_other, length-set}
-use Rattle.std.proofs.lemmas.List.Elements.{All-append}
 use Rattle.std.proofs.lemmas.Option.{slice_get_within, slice_get-get_or, get_or_from_slice_get}
 use Rattle.opgen_design.specs.declared.design.Design.{Design}
 use Rattle.opgen_design.specs.declared.design.Driver.{Driver}
-use Rattle.opgen_design.specs.declared.design.Driver.TheVariants.{Assign, Choice, Table, Register, Output}
 use Rattle.opgen_design.specs.declared.sound.SoundFault.{SoundFault}
-use Rattle.opgen_design.specs.Sound.{driver_names, driver_ports, names_read, ports_read, rule_number, target, DriverReads, Names, IsDeclared, IsInput, IsOnlyDriver, IsDriven, Place, at_design, at_port, at_signal, at_driver, item, Holds, PassesAt, DesignPasses, PortPasses, SignalPasses, DriverPasses}
+use Rattle.opgen_design.specs.Sound.{driver_names, driver_ports, expressions_read, rule_number, target, DriverReads, Names, IsDeclared, IsInput, IsOnlyDriver, IsDriven, Place, at_design, at_port, at_signal, at_driver, item, Holds, PassesAt, DesignPasses, PortPasses, SignalPasses, DriverPasses}
 use Rattle.opgen_design.specs.Rules.{IsFirstFailing, IsFaultAt, PortsPass, SignalsPass, DriversPass, AreFirstDrivers, IsDrivenAt, slot, slot_of, noted, noted_at, fault_at}
 use Rattle.opgen_design.specs.declared.design.Target.{Target}
 use Rattle.opgen_design.specs.declared.design.Target.TheVariants.{Signal as signal, Port as port_of}
 use Rattle.opgen_design.specs.declared.sound.Rule.{Rule}
 use Rattle.opgen_design.specs.declared.sound.Rule.TheVariants.{Undeclared, DrivenTwice}
 use Rattle.opgen_design.proofs.FirstFailing.{of-item}
-use Rattle.opgen_design.proofs.UseLaws.{reads-lists, lists-reads, all-front, all-back}
+use Rattle.opgen_design.proofs.UseLaws.{operands-lists, lists-operands}
 
 -- a rule that holds everywhere, and the fault of one that does not
 module _ (d : Design) (r : Rule) where
@@ -203,28 +201,7 @@ module _ (d : Design) (declared : Holds d Undeclared) (firsts : List (Option ℕ
 -- what a driver reads, on the lists
 module _ (P Q : ℕ → Type 0) where
   pub driver-lists : (k : Driver) → DriverReads P Q k → All P (driver_names k) × All Q (driver_ports k)
-  driver-lists (Assign to e) h = reads-lists P Q e h
-  driver-lists (Choice to on one other) h =
-      let a = reads-lists P Q on h.0 in
-      let b = reads-lists P Q one h.1 in
-      let c = reads-lists P Q other h.2 in (
-        All-append P (names_read on ++ names_read one) (names_read other) (All-append P (names_read on) (names_read one) a.0 b.0) c.0,
-        All-append Q (ports_read on ++ ports_read one) (ports_read other) (All-append Q (ports_read on) (ports_read one) a.1 b.1) c.1,
-      )
-  driver-lists (Table to on rows other) h = reads-lists P Q on h
-  driver-lists (Register to e) h = reads-lists P Q e h
-  driver-lists (Output place e) h = reads-lists P Q e h
+  driver-lists k h = operands-lists P Q (expressions_read k) h
 
   pub lists-driver : (k : Driver) → All P (driver_names k) → All Q (driver_ports k) → DriverReads P Q k
-  lists-driver (Assign to e) h g = lists-reads P Q e h g
-  lists-driver (Choice to on one other) h g =
-      let a = all-front P (names_read on ++ names_read one) (names_read other) h in
-      let b = all-front Q (ports_read on ++ ports_read one) (ports_read other) g in (
-        lists-reads P Q on (all-front P (names_read on) (names_read one) a) (all-front Q (ports_read on) (ports_read one) b),
-        lists-reads P Q one (all-back P (names_read on) (names_read one) a) (all-back Q (ports_read on) (ports_read one) b),
-        lists-reads P Q other (all-back P (names_read on ++ names_read one) (names_read other) h)
-            (all-back Q (ports_read on ++ ports_read one) (ports_read other) g),
-      )
-  lists-driver (Table to on rows other) h g = lists-reads P Q on h g
-  lists-driver (Register to e) h g = lists-reads P Q e h g
-  lists-driver (Output place e) h g = lists-reads P Q e h g
+  lists-driver k h g = lists-operands P Q (expressions_read k) h g

@@ -50,7 +50,7 @@ module _ (P Q : ℕ → Type 0) where
     reads-lists (inverse t) h = reads-lists t h
     reads-lists (chain op ts) h = operands-lists ts h
 
-    operands-lists : (ts : Trees) → AllOperandsRead P Q ts → All P (operand_names ts) × All Q (operand_ports ts)
+    pub operands-lists : (ts : Trees) → AllOperandsRead P Q ts → All P (operand_names ts) × All Q (operand_ports ts)
     operands-lists none h = (All-nil P, All-nil Q)
     operands-lists (more t ts) h =
         let a = reads-lists t h.0 in
@@ -74,7 +74,7 @@ module _ (P Q : ℕ → Type 0) where
     lists-reads (inverse t) h k = lists-reads t h k
     lists-reads (chain op ts) h k = lists-operands ts h k
 
-    lists-operands : (ts : Trees) → All P (operand_names ts) → All Q (operand_ports ts) → AllOperandsRead P Q ts
+    pub lists-operands : (ts : Trees) → All P (operand_names ts) → All Q (operand_ports ts) → AllOperandsRead P Q ts
     lists-operands none h k = tt
     lists-operands (more t ts) h k = (
       lists-reads t (all-front P (names_read t) (operand_names ts) h) (all-front Q (ports_read t) (operand_ports ts) k),
@@ -90,14 +90,14 @@ mutual
   reads-contains r (inverse t) h = reads-contains r t h
   reads-contains r (chain op ts) h = some-contains r ts h
 
-  some-contains : (r : ℕ) (ts : Trees) → SomeOperandReads r ts → Contains (operand_names ts) r
+  pub some-contains : (r : ℕ) (ts : Trees) → SomeOperandReads r ts → Contains (operand_names ts) r
   some-contains r none h = absurd h
   some-contains r (more t ts) h = elim h [
     | inl a ↦ Contains-append_left (names_read t) (operand_names ts) r (reads-contains r t a)
     | inr b ↦ Contains-append_right (names_read t) (operand_names ts) r (some-contains r ts b)
   ]
 
-one_contains : (n r : ℕ) → Contains (n ∷ []) r → n ≡ r
+pub one_contains : (n r : ℕ) → Contains (n ∷ []) r → n ≡ r
 one_contains n r (zero, l, e) = e
 one_contains n r (suc k, l, e) = absurd (omega (arith, l))
 
@@ -110,7 +110,7 @@ mutual
   contains-reads r (inverse t) h = contains-reads r t h
   contains-reads r (chain op ts) h = contains-some r ts h
 
-  contains-some : (r : ℕ) (ts : Trees) → Contains (operand_names ts) r → SomeOperandReads r ts
+  pub contains-some : (r : ℕ) (ts : Trees) → Contains (operand_names ts) r → SomeOperandReads r ts
   contains-some r none h = absurd (omega (arith, h.1))
   contains-some r (more t ts) h = elim (Contains-append_cases (names_read t) (operand_names ts) r h) [
     | inl a ↦ inl (contains-reads r t a)

@@ -1,9 +1,9 @@
--- Two scopes that agree on what an expression reads give it one value.
-use Rattle.std.proofs.Common.{◌≡◌, ℕ, Bool, List, map, refl, ap, ◌∙◌}
+-- Two scopes that agree on what an expression reads give it one value; how wide what is chosen is.
+use Rattle.std.proofs.Common.{◌≡◌, ℕ, Bool, List, map, refl, ap, ◌∙◌, true, false, [], ◌∷◌, length}
 use Rattle.std.specs.Prelude.{not}
 use Rattle.opgen_design.specs.declared.expr.Op.{Op}
 use Rattle.opgen_design.specs.Tree.{Tree, Trees, name, part, bits, port, inverse, chain, none, more}
-use Rattle.opgen_design.specs.Value.{Scope, value, chain_value, value_on, cut, combined}
+use Rattle.opgen_design.specs.Value.{Scope, value, chain_value, value_on, cut, combined, chosen}
 use Rattle.opgen_design.specs.Sound.{AllReads, AllOperandsRead}
 
 module _ (P Q : ℕ → Type 0) (s r : Scope) (names : (n : ℕ) → P n → s.names n ≡ r.names n)
@@ -25,3 +25,10 @@ module _ (P Q : ℕ → Type 0) (s r : Scope) (names : (n : ℕ) → P n → s.n
     same_on op w none h = refl
     same_on op w (more t ts) h =
         ap (λ v. value_on s op (combined op w v) ts) (same_value t h.0) ∙ same_on op (combined op w (value r t)) ts h.1
+
+-- the word that is chosen
+pub length-chosen : (c a b : List Bool) (w : ℕ) → length a ≡ w → length b ≡ w → length (chosen c a b) ≡ w
+length-chosen [] a b w h k = k
+length-chosen (true ∷ []) a b w h k = h
+length-chosen (true ∷ d ∷ c) a b w h k = k
+length-chosen (false ∷ c) a b w h k = k

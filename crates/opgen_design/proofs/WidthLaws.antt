@@ -1,9 +1,9 @@
 -- What the width of an expression says of it: what it reads, that it stays over longer lists, and how long its value is.
 use Rattle.std.proofs.Common.{◌≡◌, ℕ, ◌+◌, ◌-◌, ◌<◌, ◌≤◌, Bool, true, false, List, [], ◌∷◌, length, map, drop, Option, Some, None, refl, ap, ◌∙◌, subst, arith}
-use Rattle.std.specs.Prelude.{not, ◌&&◌, ◌||◌, slice_get, option_and_then, nat_le, nat_lt, nat_eq, if◌then◌else◌}
+use Rattle.std.specs.Prelude.{not, ◌&&◌, ◌||◌, slice_get, option_and_then, nat_le, nat_lt, nat_eq, if◌then◌else◌, IsSome}
 use Rattle.std.proofs.lemmas.Bool.{cond-true, and_from, le-leb, ltb-true, leb-true, eqb-true, and_parts}
 use Rattle.std.proofs.lemmas.List.{length-append, length-drop, length-map, length-take-le}
-use Rattle.std.proofs.lemmas.Option.{slice_get_within}
+use Rattle.std.proofs.lemmas.Option.{slice_get_within, cond_some}
 use Rattle.opgen_num.specs.declared.format.TheConstants.{MAX_WIDTH}
 use Rattle.opgen_num.specs.Words.{xor, majority, pairwise, sum_with}
 use Rattle.opgen_design.specs.declared.expr.Op.{Op}
@@ -25,11 +25,6 @@ length-sum_with k (x ∷ a) (y ∷ b) h = omega (arith, length-sum_with (majorit
 pub length-cut : (high low : ℕ) (v : List Bool) → low ≤ high → high < length v → length (cut high low v) ≡ high + 1 - low
 length-cut high low v l m = length-take-le (high + 1 - low) (drop low v) (omega (arith, length-drop low v, l, m))
 
--- a condition that gave a width held
-some_if : (b : Bool) (x w : ℕ) → (if b then Some x else None) ≡ Some w → (b ≡ true) × (x ≡ w)
-some_if true x w h = (refl, cc)
-some_if false x w h = absurd (cc)
-
 -- a step that gave a width had one before
 pub some_before : (o : Option ℕ) (f : ℕ → Option ℕ) (w : ℕ) → option_and_then f o ≡ Some w → (x : ℕ) × (o ≡ Some x) × (f x ≡ Some w)
 some_before None f w h = absurd (cc)
@@ -37,7 +32,7 @@ some_before (Some x) f w h = (x, refl, h)
 
 pub as_width-some : (x w : ℕ) → as_width x ≡ Some w → (x ≡ w) × IsWidth w
 as_width-some x w h =
-    let a = some_if (nat_le 1 x && nat_le x MAX_WIDTH) x w h in
+    let a = cond_some (nat_le 1 x && nat_le x MAX_WIDTH) x w h in
     let b = and_parts (nat_le 1 x) (nat_le x MAX_WIDTH) a.0 in
     (a.1, (omega (arith, leb-true 1 x b.0, a.1), omega (arith, leb-true x MAX_WIDTH b.1, a.1)))
 
@@ -45,11 +40,16 @@ pub as_width-of : (w : ℕ) → IsWidth w → as_width w ≡ Some w
 as_width-of w h = cond-true (nat_le 1 w && nat_le w MAX_WIDTH) (Some w) None
     (and_from (nat_le 1 w) (nat_le w MAX_WIDTH) (le-leb 1 w h.0) (le-leb w MAX_WIDTH h.1))
 
-equal_widths : (a b w : ℕ) → (if nat_eq a b then Some a else None) ≡ Some w → (a ≡ b) × (a ≡ w)
-equal_widths a b w h = let s = some_if (nat_eq a b) a w h in (eqb-true a b s.0, s.1)
+-- a width that is there
+pub some_width : (o : Option ℕ) → IsSome o → (w : ℕ) × (o ≡ Some w)
+some_width None h = absurd (cc)
+some_width (Some w) h = (w, refl)
+
+pub equal_widths : (a b w : ℕ) → (if nat_eq a b then Some a else None) ≡ Some w → (a ≡ b) × (a ≡ w)
+equal_widths a b w h = let s = cond_some (nat_eq a b) a w h in (eqb-true a b s.0, s.1)
 
 -- two operands of widths that join, of which the first is the width of a signal
-joined-is_width : (op : Op) (a b w : ℕ) → IsWidth a → joined op a b ≡ Some w → IsWidth w
+pub joined-is_width : (op : Op) (a b w : ℕ) → IsWidth a → joined op a b ≡ Some w → IsWidth w
 joined-is_width And a b w h e = subst IsWidth (equal_widths a b w e).1 h
 joined-is_width Or a b w h e = subst IsWidth (equal_widths a b w e).1 h
 joined-is_width Xor a b w h e = subst IsWidth (equal_widths a b w e).1 h

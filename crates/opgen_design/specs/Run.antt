@@ -107,10 +107,12 @@ is_one _ = false
 abbrev pub ones_at : ℕ → List Words → List Bool
 ones_at port vs = map (λ v. is_one (word_at v.ports port)) vs
 
--- Of a run, the cycles in which the enable's word is 1, in their order, are a run of the design without the enable.
+-- Of a run, whatever words the registers hold at its start, the cycles in which the enable's word is 1, in their order, are a run of the
+-- design without the enable.
 abbrev pub EnabledCyclesAreRuns : Type 0
-EnabledCyclesAreRuns = (d : Design) (port : ℕ) (inputs : List (List (List Bool))) (vs : List Words) → d.enable ≡ Some port → Run d inputs vs
-    → Run (without_enable d) (marked (ones_at port vs) inputs) (marked (ones_at port vs) vs)
+EnabledCyclesAreRuns = (d : Design) (port : ℕ) (start : List (List Bool)) (inputs : List (List (List Bool))) (vs : List Words)
+    → d.enable ≡ Some port → RunsOn d start inputs vs
+    → RunsOn (without_enable d) start (marked (ones_at port vs) inputs) (marked (ones_at port vs) vs)
 
 abbrev pub IsNoRegister : Driver → Type 0
 IsNoRegister (Register to e) = ⊥
@@ -118,8 +120,8 @@ IsNoRegister _ = Unit {0}
 
 -- Of a run of a design without registers, any cycles, in their order, are a run of it.
 abbrev pub AnyCyclesAreRuns : Type 0
-AnyCyclesAreRuns = (d : Design) (inputs : List (List (List Bool))) (vs : List Words) (marks : List Bool)
-    → All IsNoRegister d.drivers → Run d inputs vs → Run d (marked marks inputs) (marked marks vs)
+AnyCyclesAreRuns = (d : Design) (start : List (List Bool)) (inputs : List (List (List Bool))) (vs : List Words) (marks : List Bool)
+    → All IsNoRegister d.drivers → RunsOn d start inputs vs → RunsOn d start (marked marks inputs) (marked marks vs)
 
 -- the inputs before those of the operator, each a name and a width: the clock enable, where it is asked for
 abbrev pub enable_inputs : Bool → List (List ℕ × ℕ)

@@ -71,19 +71,19 @@ abbrev mutual
   operand_ports none = []
   operand_ports (more t ts) = ports_read t ++ operand_ports ts
 
+-- the expressions that a driver reads, in order
+abbrev pub expressions_read : Driver → Trees
+expressions_read (Assign to e) = more e none
+expressions_read (Choice to on one other) = more on (more one (more other none))
+expressions_read (Table to on rows other) = more on none
+expressions_read (Register to e) = more e none
+expressions_read (Output place e) = more e none
+
 abbrev pub driver_names : Driver → List ℕ
-driver_names (Assign to e) = names_read e
-driver_names (Choice to on one other) = (names_read on ++ names_read one) ++ names_read other
-driver_names (Table to on rows other) = names_read on
-driver_names (Register to e) = names_read e
-driver_names (Output place e) = names_read e
+driver_names k = operand_names (expressions_read k)
 
 abbrev pub driver_ports : Driver → List ℕ
-driver_ports (Assign to e) = ports_read e
-driver_ports (Choice to on one other) = (ports_read on ++ ports_read one) ++ ports_read other
-driver_ports (Table to on rows other) = ports_read on
-driver_ports (Register to e) = ports_read e
-driver_ports (Output place e) = ports_read e
+driver_ports k = operand_ports (expressions_read k)
 
 -- the rules have numbers in the order in which they are tried
 abbrev pub rule_number : Rule → ℕ
@@ -108,19 +108,16 @@ target (Output place e) = port_of place
 
 -- P holds of each signal that a driver reads, and Q of each port
 abbrev pub DriverReads : (ℕ → Type 0) → (ℕ → Type 0) → Driver → Type 0
-DriverReads P Q (Assign to e) = AllReads P Q e
-DriverReads P Q (Choice to on one other) = AllReads P Q on × AllReads P Q one × AllReads P Q other
-DriverReads P Q (Table to on rows other) = AllReads P Q on
-DriverReads P Q (Register to e) = AllReads P Q e
-DriverReads P Q (Output place e) = AllReads P Q e
+DriverReads P Q k = AllOperandsRead P Q (expressions_read k)
+
+-- a driver reads a signal, in this cycle or, as a register, for the next one
+abbrev pub Reads : ℕ → Driver → Type 0
+Reads r k = SomeOperandReads r (expressions_read k)
 
 -- a driver's word of a cycle needs a signal's word of that cycle; a register's needs none
 abbrev pub Needs : ℕ → Driver → Type 0
-Needs r (Assign to e) = ReadsName r e
-Needs r (Choice to on one other) = ReadsName r on ⊎ (ReadsName r one ⊎ ReadsName r other)
-Needs r (Table to on rows other) = ReadsName r on
 Needs r (Register to e) = ⊥
-Needs r (Output place e) = ReadsName r e
+Needs r k = Reads r k
 
 -- rule 1: each number in a driver names a signal or a port, and the enable names a port
 abbrev pub Names : Design → Target → Type 0

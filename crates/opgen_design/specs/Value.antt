@@ -64,10 +64,6 @@ abbrev mutual
   operands_nesting none = 0
   operands_nesting (more t ts) = max (in_chain t + nesting t) (operands_nesting ts)
 
--- so deep may the parentheses round operands nest
-abbrev pub max_nesting : ℕ
-max_nesting = 64
-
 -- the word at a place of a list; no bits past its end
 abbrev pub word_at : List (List Bool) → ℕ → List Bool
 word_at ws n = slice_index_or ws n []

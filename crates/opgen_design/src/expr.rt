@@ -1,6 +1,9 @@
 //! Expressions over bits as types: signals, slices, constants, input ports, `not`, and chains of one operator.
 use opgen_num::Word;
 
+/// The most parentheses round operands that are open at one place of an expression's text.
+pub const MAX_NESTING: u32 = 64;
+
 /// The bits `high` down to `low` of a node, or of a signal in a design.
 #[derive(Clone, Copy, Debug, PartialEq, Eq)]
 pub struct Slice {

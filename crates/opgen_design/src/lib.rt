@@ -22,6 +22,6 @@ mod targets;
 mod width;
 
 pub use design::{Design, Dir, Driver, MAX_SIGNALS, Port, Signal, Target};
-pub use expr::{Expr, Op, Slice};
+pub use expr::{Expr, MAX_NESTING, Op, Slice};
 pub use formula::Formula;
 pub use sound::{Rule, SoundFault};

@@ -5,25 +5,20 @@ use Rattle.std.proofs.lemmas.Bool.{eq-eqb, le-leb, lt-ltb}
 use Rattle.std.proofs.lemmas.Option.{slice_get-get_or}
 use Rattle.opgen_design.specs.declared.expr.Op.TheVariants.{Minus}
 use Rattle.opgen_design.specs.Tree.{name, part, none, more}
-use Rattle.opgen_design.specs.Value.{IsWidth, as_width, joined, width, width_on}
-use Rattle.opgen_design.proofs.WidthLaws.{as_width-of}
+use Rattle.opgen_design.specs.Value.{IsWidth, as_width, joined, width_on}
 use Rattle.opgen_net.specs.Cells.{IsLogic}
 use Rattle.opgen_net.specs.Valid.{FitsNodes}
 use Rattle.opgen_net.proofs.CellLaws.{inverse-one, one-logic, part-one}
 use Rattle.opgen_net.proofs.FlowLaws.{index_within}
 use Rattle.opgen_net.specs.Placed.{difference_of}
+use Rattle.opgen_net.proofs.WordLaws.{name-width}
 use Rattle.opgen_digits.specs.Digit.{is_not_negative}
 
 module _ (ws : List ℕ) where
-  name-width : (n v : ℕ) → IsWidth v → slice_index ws n ≡ v → width ws [] (name n) ≡ Some v
-  name-width n v w h =
-      let there : slice_get ws n ≡ Some v = slice_get-get_or ws n 0 (index_within ws n 0 (omega (arith, h, w.0))) ∙ ap Some h in
-      ap (option_and_then as_width) there ∙ as_width-of v w
-
   pub difference-fits : (a b v : ℕ) → IsWidth v → slice_index ws a ≡ v → slice_index ws b ≡ v → FitsNodes ws v (difference_of a b)
   difference-fits a b v w h g = record {
-    has_width = ap (option_and_then (λ u. width_on ws [] Minus u (more (name b) none))) (name-width a v w h)
-        ∙ ap (option_and_then (λ u. option_and_then (λ x. Some x) (joined Minus v u))) (name-width b v w g)
+    has_width = ap (option_and_then (λ u. width_on ws [] Minus u (more (name b) none))) (name-width ws a v w h)
+        ∙ ap (option_and_then (λ u. option_and_then (λ x. Some x) (joined Minus v u))) (name-width ws b v w g)
         ∙ ap (λ (c : Bool). option_and_then (λ x. Some x) (if c then Some v else None)) (eq-eqb v v refl);
     nests = omega arith;
   }

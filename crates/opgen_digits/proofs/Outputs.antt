@@ -7,8 +7,9 @@ use Rattle.opgen_design.specs.Run.{AreWords}
 use Rattle.opgen_design.specs.Value.{IsWidth}
 use Rattle.opgen_net.specs.declared.net.Net.{Net}
 use Rattle.opgen_net.specs.declared.word_bits.WordBit.{WordBit}
+use Rattle.opgen_net.specs.Delays.{delay_count}
 use Rattle.opgen_net.specs.Flow.{Inputs, flow, slice_flow, KeepsFlow}
-use Rattle.opgen_net.specs.Valid.{widths, input_widths, slice_width, IsValid, LiesWithin}
+use Rattle.opgen_net.specs.Valid.{widths, input_widths, IsValid, LiesWithin}
 use Rattle.opgen_net.specs.WordRule.{IsThere}
 use Rattle.opgen_net.proofs.Appending.{valid-output}
 use Rattle.opgen_net.proofs.FlowWidths.{flow-width}
@@ -16,9 +17,6 @@ use Rattle.opgen_net.proofs.Grown.{grown-flow, grown-count, grown-all_there}
 use Rattle.opgen_net.proofs.WordLaws.{word-has_bits, word-found_width}
 use Rattle.opgen_net.specs.Placed.{number_at, with_bits, whole, with_output}
 use Rattle.opgen_net.proofs.Later.{Later, bits-later}
-
-pub whole-width : (width place : ℕ) → 1 ≤ width → slice_width (whole width place) ≡ width
-whole-width width place some = omega (arith, some)
 
 module _ (net : Net) (valid : IsValid net) (given : List WordBit) (wide : IsWidth (length given))
     (there : All (IsThere (widths net.nodes)) given) where
@@ -46,6 +44,9 @@ module _ (net : Net) (valid : IsValid net) (given : List WordBit) (wide : IsWidt
 
   pub output-keeps : (name : List ℕ) → KeepsFlow net.nodes (with_output name net given).nodes
   output-keeps name = grown-flow net made made-later.grown
+
+  pub output-delays : (name : List ℕ) → delay_count (with_output name net given).nodes ≡ delay_count net.nodes
+  output-delays name = made-later.grown.delays
 
   pub output-count : (name : List ℕ) → length net.nodes ≤ length (with_output name net given).nodes
   output-count name = grown-count net made made-later.grown

@@ -6,6 +6,7 @@ use Rattle.opgen_design.specs.Run.{AreWords}
 use Rattle.opgen_design.specs.Value.{word_at, cut, IsWidth}
 use Rattle.opgen_net.specs.declared.net.Net.{Net}
 use Rattle.opgen_net.specs.declared.net.Output.{Output}
+use Rattle.opgen_net.specs.Delays.{delay_count}
 use Rattle.opgen_net.specs.Flow.{Inputs, slice_flow, KeepsFlow}
 use Rattle.opgen_net.specs.Valid.{widths, input_widths, slice_width, IsValid}
 use Rattle.opgen_net.specs.WordRule.{IsThere}
@@ -15,7 +16,8 @@ use Rattle.opgen_digits.specs.Digit.{Known}
 use Rattle.opgen_digits.specs.Results.{AreResults, with_results}
 use Rattle.opgen_net.proofs.Numbers.{number-kept}
 use Rattle.opgen_net.proofs.Later.{node_there}
-use Rattle.opgen_digits.proofs.Outputs.{whole-width, made-width, output-valid, output-keeps, output-count, output-there, output-number}
+use Rattle.opgen_net.proofs.Standing.{whole-width}
+use Rattle.opgen_digits.proofs.Outputs.{made-width, output-valid, output-keeps, output-count, output-there, output-number, output-delays}
 
 abbrev pub shown : Output → List ℕ × ℕ
 shown o = (o.name, slice_width o.from)
@@ -76,6 +78,15 @@ module _ (name : List ℕ) (known : Known) (valid : IsValid known.net) where
   pub results-keep : (exact : Bool) → AreResults exact known → KeepsFlow known.net.nodes (with_results exact name known).nodes
   results-keep true are = both-keep are.width are.digits (are.rest_width refl) are.rest
   results-keep false are = one-keeps are.width are.digits
+
+  -- and no node more is a delay
+  pub results-delays : (exact : Bool) → AreResults exact known
+      → delay_count (with_results exact name known).nodes ≡ delay_count known.net.nodes
+  results-delays true are =
+      let there = still_there are.width are.digits (are.rest_width refl) are.rest in
+      output-delays (one are.width are.digits) (one-valid are.width are.digits) known.rest (are.rest_width refl) there (codes "r")
+      ∙ output-delays known.net valid known.digits are.width are.digits name
+  results-delays false are = output-delays known.net valid known.digits are.width are.digits name
 
   -- they are the only outputs
   module _ (no_output : known.net.outputs ≡ []) where

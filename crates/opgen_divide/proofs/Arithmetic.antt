@@ -1,12 +1,10 @@
 -- A step of a division on numbers, and what a quotient with a remainder is to a fraction.
 use Rattle.std.proofs.Common.{◌≡◌, ℕ, ◌+◌, ◌-◌, ◌*◌, ◌%◌, ◌^◌, ◌<◌, ◌≤◌, Bool, true, false, refl, ap, ◌∙◌, subst, arith, inl, inr, nat_le}
-use Rattle.std.specs.Prelude.{pos, if◌then◌else◌}
+use Rattle.std.specs.Prelude.{if◌then◌else◌}
 use Rattle.std.proofs.Math.Nat.{mod-eq_of_lt}
 use Rattle.std.proofs.lemmas.Bool.{cases_lt, le-leb, lt-leb}
-use Rattle.std.proofs.lemmas.Int.{ints}
-use Rattle.opgen_num.specs.Rounding.{IsQuotient, IsWithinOne}
+use Rattle.opgen_num.specs.Rounding.{IsQuotient}
 use Rattle.opgen_num.specs.Words.{digit}
-use Rattle.opgen_num.proofs.Quotients.{within_one}
 use Rattle.opgen_digits.specs.Digit.{left_of}
 use Rattle.opgen_divide.specs.Steps.{IsDivided}
 
@@ -36,10 +34,6 @@ module _ (w n b q r d a : ℕ) (h : IsQuotient n b q r) (low : d < 2) (small : b
 
   pub next_digit : IsQuotient (2 * n + d) b next (left_of a b % 2 ^ w)
   next_digit = elim (cases_lt a b) [ inl l ↦ less l | inr l ↦ more l ]
-
--- a quotient with its remainder is less than one from the fraction
-pub near : (n b q r : ℕ) → IsQuotient n b q r → IsWithinOne (pos n) (pos b) (pos q)
-near n b q r h = within_one (pos n) (pos b) (pos q) (omega (arith, ints, h.0, h.1)) (omega (arith, ints, h.0, h.1))
 
 -- a division of the same numbers
 pub same_quotient : (n b q r m c y s : ℕ) → n ≡ m → b ≡ c → q ≡ y → r ≡ s → IsQuotient n b q r → IsQuotient m c y s

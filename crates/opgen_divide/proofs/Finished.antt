@@ -6,6 +6,7 @@ use Rattle.std.proofs.lemmas.List.Elements.{All-cons, All-nil}
 use Rattle.opgen_num.specs.declared.format.TheConstants.{MAX_WIDTH}
 use Rattle.opgen_num.specs.declared.format.Format.{Format}
 use Rattle.opgen_num.specs.Words.{xor, pairwise, highest, int, val, nat}
+use Rattle.opgen_num.proofs.Values.{val-unsigned}
 use Rattle.opgen_design.specs.declared.expr.Op.TheVariants.{Xor}
 use Rattle.opgen_design.specs.Run.{AreWords}
 use Rattle.opgen_design.specs.Tree.{more, none}
@@ -44,9 +45,6 @@ use Rattle.opgen_divide.proofs.Signed.{sign-width, sign-fits, signed-later, sign
 
 pub val-signed : (v : List Bool) (f : Format) → f.signed ≡ true → val v f ≡ int v
 val-signed v f e = ap (λ (c : Bool). if c then int v else pos (nat v)) e
-
-pub val-unsigned : (v : List Bool) (f : Format) → f.signed ≡ false → val v f ≡ pos (nat v)
-val-unsigned v f e = ap (λ (c : Bool). if c then int v else pos (nat v)) e
 
 by_sign : (s : Bool) (n : ℕ) → signed_by s n ≡ with_sign s n
 by_sign true n = refl

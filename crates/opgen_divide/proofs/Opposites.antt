@@ -1,7 +1,6 @@
 -- A word taken off zeros, and what it is in two's complement.
 use Rattle.std.proofs.Common.{◌≡◌, ℕ, zero, suc, ◌+◌, ◌-◌, ◌*◌, ◌^◌, ◌<◌, ◌≤◌, Bool, true, false, List, [], ◌∷◌, length, map, take, drop, cond, refl, sym, ap, ◌∙◌, subst, arith, not}
 use Rattle.std.specs.Prelude.{pos, ◌-ℤ◌, unsigned_abs}
-use Rattle.std.proofs.Math.Seq.{take-length}
 use Rattle.std.proofs.lemmas.Int.{ints}
 use Rattle.std.proofs.lemmas.List.{length-map}
 use Rattle.std.proofs.lemmas.Nat.{pow_pos}
@@ -13,10 +12,6 @@ use Rattle.opgen_num.proofs.Words.{nat-below}
 use Rattle.opgen_design.specs.Value.{cut, chosen}
 use Rattle.opgen_design.proofs.WidthLaws.{length-sum_with}
 use Rattle.opgen_divide.specs.Sign.{signed_by}
-
--- the bits of a word of so many
-pub all-bits : (v : List Bool) (m : ℕ) → 1 ≤ m → length v ≡ m → cut (m - 1) 0 v ≡ v
-all-bits v m some e = let long : m - 1 + 1 - 0 ≡ length v = omega (arith, some, e) in ap (λ n. take n v) long ∙ take-length v
 
 -- the highest bit of a word
 drop-last : (n : ℕ) (v : List Bool) → length v ≡ suc n → drop n v ≡ highest v ∷ []

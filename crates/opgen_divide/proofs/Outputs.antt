@@ -1,9 +1,7 @@
 -- The words of the outputs of a valid net have the widths of its outputs, and a word is settled by its width and its number.
-use Rattle.std.proofs.Common.{◌≡◌, ℕ, Bool, List, [], ◌∷◌, length, map, refl, sym, ap, ◌∙◌, arith}
+use Rattle.std.proofs.Common.{◌≡◌, ℕ, List, [], ◌∷◌, length, map, refl, sym, ap, ◌∙◌, arith}
 use Rattle.std.specs.Prelude.{ℤ, All, slice_index}
 use Rattle.std.proofs.lemmas.List.Elements.{All-head, All-tail}
-use Rattle.opgen_num.specs.Words.{nat, word}
-use Rattle.opgen_num.proofs.Words.{word-nat}
 use Rattle.opgen_design.specs.Run.{AreWords}
 use Rattle.opgen_design.specs.Value.{word_at}
 use Rattle.opgen_design.proofs.WidthLaws.{length-cut}
@@ -14,9 +12,6 @@ use Rattle.opgen_net.specs.Valid.{IsValid, LiesWithin, input_widths, slice_width
 use Rattle.opgen_net.proofs.FlowWidths.{flow-width}
 use Rattle.opgen_net.proofs.InputLaws.{width-at}
 use Rattle.opgen_digits.proofs.Results.{shown, result_words}
-
-pub same-word : (v w : List Bool) → length v ≡ length w → nat v ≡ nat w → v ≡ w
-same-word v w e f = sym (word-nat v) ∙ ap (λ n. word n (nat v)) e ∙ ap (word (length w)) f ∙ word-nat w
 
 module _ (net : Net) (valid : IsValid net) (inputs : Inputs) (t : ℤ) (words : All (AreWords (input_widths net)) inputs) where
   slices-wide : (os : List Output) → All (λ o. LiesWithin (widths net.nodes) o.from) os

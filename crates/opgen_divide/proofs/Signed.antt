@@ -21,10 +21,11 @@ use Rattle.opgen_net.proofs.FlowLaws.{index_within}
 use Rattle.opgen_net.proofs.FlowWidths.{flow-width}
 use Rattle.opgen_net.proofs.Grown.{grown-flow, grown-width}
 use Rattle.opgen_net.proofs.Later.{Later, later-node, later-then, node_there, words-later}
+use Rattle.opgen_net.proofs.WordLaws.{all-bits}
 use Rattle.opgen_digits.proofs.Expressions.{difference-fits}
 use Rattle.opgen_digits.proofs.Outputs.{made-later, made-width, made-number}
 use Rattle.opgen_divide.specs.Sign.{sign_of, with_opposite, with_sign, with_highest, with_absolute, with_signed, signed_by, HasSign, HasAbsolute}
-use Rattle.opgen_divide.proofs.Opposites.{all-bits, top-bit, one-bit, picked, opposite, signed-int, absolute-number}
+use Rattle.opgen_divide.proofs.Opposites.{top-bit, one-bit, picked, opposite, signed-int, absolute-number}
 
 -- the highest bit of a node
 

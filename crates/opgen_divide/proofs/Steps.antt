@@ -32,7 +32,7 @@ use Rattle.opgen_net.proofs.Later.{Later, later-same, later-then, node_there, wo
 use Rattle.opgen_digits.proofs.Outputs.{made-later, made-width, made-number}
 use Rattle.opgen_divide.specs.Recipe.{with_magnitudes, numerator, digit_count, with_divisor, minuend, stepped, keeps, after}
 use Rattle.opgen_divide.specs.Steps.{IsDivided}
-use Rattle.opgen_divide.proofs.Absolutes.{HasWidths, AreFor, AreMagnitudes, are_magnitudes}
+use Rattle.opgen_divide.proofs.Absolutes.{HasWidths, AreFor, are_magnitudes}
 use Rattle.opgen_divide.proofs.Arithmetic.{next_digit, same_quotient, kept_rest, is_divided}
 
 -- a word of the bits of a minuend, beside a divisor of its width
@@ -62,9 +62,6 @@ module _ (p : Pair) (have : HasWidths p) where
   abbrev b_node : ℕ
   b_node = (with_magnitudes p).divisor
 
-  are : AreMagnitudes p have (with_magnitudes p)
-  are = are_magnitudes p have
-
   -- at a time: the divisor, and the bits of the numerator that are taken
   abbrev pub divisor_at : Inputs → ℤ → ℕ
   divisor_at inputs t = nat (flow base.nodes inputs b_node t)
@@ -73,16 +70,16 @@ module _ (p : Pair) (have : HasWidths p) where
   taken_at k inputs t = number_at base.nodes inputs t (take k (numerator p))
 
   pub base-valid : IsValid base
-  base-valid = are.later.valid
+  base-valid = (are_magnitudes p have).later.valid
 
   divisor-length : (inputs : Inputs) (t : ℤ) → AreFor p have base inputs → length (flow base.nodes inputs b_node t) ≡ w
-  divisor-length inputs t words = flow-width base base-valid inputs words b_node t ∙ are.divisor
+  divisor-length inputs t words = flow-width base base-valid inputs words b_node t ∙ (are_magnitudes p have).divisor
 
   pub dividend-there : a_node < length base.nodes
-  dividend-there = node_there base a_node p.a.width have.some_a are.dividend
+  dividend-there = node_there base a_node p.a.width have.some_a (are_magnitudes p have).dividend
 
   pub divisor-there : b_node < length base.nodes
-  divisor-there = node_there base b_node w have.some_b are.divisor
+  divisor-there = node_there base b_node w have.some_b (are_magnitudes p have).divisor
 
   abbrev bits : List WordBit
   bits = Zero ∷ Zero ∷ bits_from b_node 0 w
@@ -96,7 +93,7 @@ module _ (p : Pair) (have : HasWidths p) where
   pub bits-there : All (IsThere (widths base.nodes)) bits
   bits-there =
       let P = IsThere (widths base.nodes) in
-      let low = bits_from-there (widths base.nodes) b_node 0 w (omega (arith, are.divisor)) in
+      let low = bits_from-there (widths base.nodes) b_node 0 w (omega (arith, (are_magnitudes p have).divisor)) in
       All-cons P Zero (Zero ∷ bits_from b_node 0 w) tt (All-cons P Zero (bits_from b_node 0 w) tt low)
 
   abbrev first : Net
@@ -134,7 +131,7 @@ module _ (p : Pair) (have : HasWidths p) where
       let s = places_up (pair_shift p) in
       let ws = widths base.nodes in
       All-append (IsThere ws) (bits_from a_node 0 p.a.width) (replicate s Zero)
-      (bits_from-there ws a_node 0 p.a.width (omega (arith, are.dividend)))
+      (bits_from-there ws a_node 0 p.a.width (omega (arith, (are_magnitudes p have).dividend)))
       (zeros-there ws s)
 
   -- what is left after a step that is not the last is kept

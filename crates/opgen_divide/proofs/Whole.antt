@@ -11,17 +11,20 @@ use Rattle.opgen_num.specs.declared.format.TheConstants.{MAX_WIDTH}
 use Rattle.opgen_num.specs.declared.format.Format.{Format}
 use Rattle.opgen_num.specs.Words.{xor, highest, int, val, nat}
 use Rattle.opgen_num.proofs.Values.{int_holds}
-use Rattle.opgen_num.proofs.Words.{nat-below}
+use Rattle.opgen_num.proofs.Words.{nat-below, same-word}
+use Rattle.opgen_num.proofs.Integers.{less-zero}
 use Rattle.opgen_design.specs.Value.{word_at}
 use Rattle.opgen_net.specs.declared.net.Net.{Net}
 use Rattle.opgen_net.specs.declared.word_bits.WordBit.{WordBit}
 use Rattle.opgen_net.specs.declared.word_bits.WordBit.TheVariants.{Zero}
+use Rattle.opgen_net.specs.Delays.{delay_count}
 use Rattle.opgen_net.specs.Flow.{Inputs, flow, input_at, KeepsFlow}
 use Rattle.opgen_net.specs.Valid.{IsValid, widths}
 use Rattle.opgen_net.specs.WordRule.{IsThere, bits_from, word_flow}
 use Rattle.opgen_net.proofs.BitLists.{length-word_flow}
+use Rattle.opgen_net.proofs.Delays.{passes-count}
 use Rattle.opgen_net.proofs.FlowWidths.{flow-width}
-use Rattle.opgen_net.proofs.Grown.{flow-then, grown-flow, grown-count}
+use Rattle.opgen_net.proofs.Grown.{grown-flow, grown-keeps}
 use Rattle.opgen_kinds.specs.declared.pair.Pair.{Pair}
 use Rattle.opgen_kinds.specs.Pair.{IsAcceptedPair, IsGoodQuotient, pair_shift, quotient_ports, quotient_format, remainder_format, sign_bit, IsPair}
 use Rattle.opgen_kinds.proofs.of_kind.Pair.{with_sign, good_of_sizes}
@@ -34,6 +37,7 @@ use Rattle.opgen_ports.specs.Ports.{Recent}
 use Rattle.opgen_ports.specs.Reaches.{places_up, up}
 use Rattle.opgen_ports.specs.Modes.{mode_of_exact}
 use Rattle.opgen_operator.proofs.EachMode.{fits_by_mark}
+use Rattle.opgen_operator.proofs.Shown.{one_shown, two_shown}
 use Rattle.opgen_ports.proofs.Marks.{good_by_mark}
 use Rattle.opgen_ports.proofs.InputPorts.{input_bit}
 use Rattle.opgen_net.specs.Placed.{number_at}
@@ -41,14 +45,14 @@ use Rattle.opgen_digits.specs.Digit.{Known}
 use Rattle.opgen_digits.specs.Results.{AreResults, with_results}
 use Rattle.opgen_net.proofs.Numbers.{at-append, at-zeros, at-node, number-kept}
 use Rattle.opgen_net.proofs.Later.{Later, later-then, words-later}
-use Rattle.opgen_digits.proofs.Results.{shown, result_ports, result_words, results-inputs, results-valid, results-keep, results-shown, results-digits, results-rest}
+use Rattle.opgen_digits.proofs.Results.{shown, result_ports, result_words, results-inputs, results-valid, results-keep, results-delays, results-shown, results-digits, results-rest}
 use Rattle.opgen_divide.specs.Inputs.{HasInputs}
 use Rattle.opgen_divide.specs.Recipe.{with_magnitudes, numerator, digit_count, keeps, after, with_signs, net_of_pair}
 use Rattle.opgen_divide.specs.Steps.{IsDivided, DividesSizes, HoldsAfterEachStep}
-use Rattle.opgen_divide.proofs.Absolutes.{HasWidths, start, start-inputs, start-valid, AreFor, AreMagnitudes, are_magnitudes, size}
+use Rattle.opgen_divide.proofs.Absolutes.{HasWidths, start, start-inputs, start-valid, AreFor, are_magnitudes, size}
 use Rattle.opgen_divide.proofs.Arithmetic.{same_division, some_rest, kept_rest}
 use Rattle.opgen_divide.proofs.Finished.{IsFinished, is_finished, still-inputs}
-use Rattle.opgen_divide.proofs.Outputs.{same-word, output-wide}
+use Rattle.opgen_divide.proofs.Outputs.{output-wide}
 use Rattle.opgen_divide.proofs.Steps.{base, divisor_at, Stands, stands, later-by, base-valid, dividend-there, divisor-there, numerator-length, numerator-there}
 
 -- accepted pairs
@@ -94,9 +98,6 @@ some_size true zero z e f = absurd (f e)
 some_size false zero z e f = absurd (f e)
 some_size s (suc n) z e f = omega arith
 
-now : (t : ℕ) → pos t -ℤ pos 0 ≡ pos t
-now t = omega (arith, ints)
-
 module _ (p : Pair) (have : HasWidths p) where
   abbrev count : ℕ
   count = digit_count p
@@ -121,11 +122,8 @@ module _ (p : Pair) (have : HasWidths p) where
     rest = at_last.rest;
   }
 
-  magnitudes : AreMagnitudes p have (with_magnitudes p)
-  magnitudes = are_magnitudes p have
-
   start-last : Later (start p have) last.net
-  start-last = later-then (start p have) (base p have) last.net magnitudes.later at_last.later
+  start-last = later-then (start p have) (base p have) last.net (are_magnitudes p have).later at_last.later
 
   pub last-inputs : HasInputs p last.net
   last-inputs = still-inputs p (start p have) last.net start-last (start-inputs p have)
@@ -156,36 +154,27 @@ module _ (p : Pair) (have : HasWidths p) where
 
   -- the nodes before the results keep their words
   last-keeps : KeepsFlow last.net.nodes made.nodes
-  last-keeps =
-      let grown = finished.later.grown in
-      flow-then last.net.nodes final.net.nodes made.nodes (grown-count last.net final.net grown) (grown-flow last.net final.net grown)
-      (results-keep (codes "q") final final-valid p.exact results)
+  last-keeps = grown-keeps last.net final.net finished.later.grown made.nodes (results-keep (codes "q") final final-valid p.exact results)
 
   step-keeps : (k : ℕ) → k ≤ count → KeepsFlow (after p k).net.nodes made.nodes
   step-keeps k h =
       let old = (after p k).net in
       let sum : k + (count - k) ≡ count = omega (arith, h) in
       let later : Later old last.net = subst (λ m. Later old (after p m).net) sum (later-by p have k (count - k) (omega (arith, h))) in
-      flow-then old.nodes last.net.nodes made.nodes (grown-count old last.net later.grown) (grown-flow old last.net later.grown) last-keeps
+      grown-keeps old last.net later.grown made.nodes last-keeps
 
   base-keeps : KeepsFlow (base p have).nodes made.nodes
-  base-keeps =
-      let old = base p have in
-      let grown = at_last.later.grown in
-      flow-then old.nodes last.net.nodes made.nodes (grown-count old last.net grown) (grown-flow old last.net grown) last-keeps
+  base-keeps = grown-keeps (base p have) last.net at_last.later.grown made.nodes last-keeps
 
   start-keeps : KeepsFlow (start p have).nodes made.nodes
-  start-keeps =
-      let old = start p have in
-      let grown = magnitudes.later.grown in
-      flow-then old.nodes (base p have).nodes made.nodes (grown-count old (base p have) grown) (grown-flow old (base p have) grown) base-keeps
+  start-keeps = grown-keeps (start p have) (base p have) (are_magnitudes p have).later.grown made.nodes base-keeps
 
   -- the words of the inputs
   for_start : (inputs : Inputs) → AreFor p have made inputs → AreFor p have (start p have) inputs
   for_start inputs words = subst (λ is. AreFor p have (record made { inputs = is }) inputs) made-inputs words
 
   for_base : (inputs : Inputs) → AreFor p have (start p have) inputs → AreFor p have (base p have) inputs
-  for_base inputs words = words-later (start p have) (base p have) magnitudes.later inputs words
+  for_base inputs words = words-later (start p have) (base p have) (are_magnitudes p have).later inputs words
 
   pub sizes_hold : DividesSizes p made
   sizes_hold inputs t words =
@@ -193,10 +182,10 @@ module _ (p : Pair) (have : HasWidths p) where
       let a = (with_magnitudes p).dividend in
       let b = (with_magnitudes p).divisor in (
         ap nat (base-keeps inputs a t (dividend-there p have))
-            ∙ magnitudes.dividend-number inputs t for
+            ∙ (are_magnitudes p have).dividend-number inputs t for
             ∙ ap (λ v. size v p.a) (sym (start-keeps inputs 0 t (omega arith))),
         ap nat (base-keeps inputs b t (divisor-there p have))
-            ∙ magnitudes.divisor-number inputs t for
+            ∙ (are_magnitudes p have).divisor-number inputs t for
             ∙ ap (λ v. size v p.b) (sym (start-keeps inputs 1 t (omega arith))),
       )
 
@@ -234,9 +223,9 @@ module _ (p : Pair) (have : HasWidths p) where
       let all : take count (numerator p) ≡ numerator p =
       ap (λ m. take m (numerator p)) (sym (numerator-length p have)) ∙ take-length (numerator p) in
       let wide : length (flow nodes inputs node t) ≡ p.a.width =
-      flow-width (base p have) (base-valid p have) inputs (for_base inputs words) node t ∙ magnitudes.dividend in
+      flow-width (base p have) (base-valid p have) inputs (for_base inputs words) node t ∙ (are_magnitudes p have).dividend in
       let a : number_at nodes inputs t high ≡ size (first_at inputs t) p.a =
-      at-node nodes inputs t node p.a.width wide ∙ magnitudes.dividend-number inputs t words in
+      at-node nodes inputs t node p.a.width wide ∙ (are_magnitudes p have).dividend-number inputs t words in
       let long : 2 ^ length zeros * number_at nodes inputs t high ≡ 2 ^ s * size (first_at inputs t) p.a =
       ap (λ m. 2 ^ m * number_at nodes inputs t high) (length-replicate s Zero) ∙ ap (λ m. 2 ^ s * m) a in
       ap (number_at nodes inputs t) all ∙ at-append nodes inputs t high zeros ∙ omega (arith, at-zeros nodes inputs t s, long)
@@ -292,7 +281,7 @@ module _ (p : Pair) (have : HasWidths p) where
 
     divided : 0 < B → IsDivided (keeps p count) (A * up (pair_shift p)) B quotient_at rest_at
     divided some =
-        let b = magnitudes.divisor-number inputs t words in
+        let b = (are_magnitudes p have).divisor-number inputs t words in
         same_division (keeps p count) _ _ _ _ _ _ _ _ (numerator-number inputs t words) b refl refl
         (at_last.right inputs t (for_base inputs words) (omega (arith, some, b)))
 
@@ -365,12 +354,12 @@ module _ (p : Pair) (have : HasWidths p) where
   first-now : (inputs : Inputs) (t : ℕ) → inputs_now inputs t 0 0
       ≡ with_sign (p.a.signed && highest (first_at inputs (pos t))) (size (first_at inputs (pos t)) p.a)
   first-now inputs t =
-      ap (λ u. val (first_at inputs u) p.a) (now t) ∙ by_size (first_at inputs (pos t)) p.a
+      ap (λ u. val (first_at inputs u) p.a) (less-zero t) ∙ by_size (first_at inputs (pos t)) p.a
 
   second-now : (inputs : Inputs) (t : ℕ) → inputs_now inputs t 1 0
       ≡ with_sign (p.b.signed && highest (second_at inputs (pos t))) (size (second_at inputs (pos t)) p.b)
   second-now inputs t =
-      ap (λ u. val (second_at inputs u) p.b) (now t) ∙ by_size (second_at inputs (pos t)) p.b
+      ap (λ u. val (second_at inputs u) p.b) (less-zero t) ∙ by_size (second_at inputs (pos t)) p.b
 
   abbrev outputs_now : (exact : Bool) → Inputs → ℕ → (port : ℕ) → ℤ
   outputs_now exact inputs t = output_words (quotient_ports exact p) (result_words (with_results exact (codes "q") final) inputs (pos t))
@@ -393,11 +382,7 @@ module _ (p : Pair) (have : HasWidths p) where
       let second = rest-value inputs u words e are held.1 in
       subst (λ z. IsGoodQuotient true p z (inputs_now inputs t 1 0) (outputs_now true inputs t 0) (outputs_now true inputs t 1))
       (sym (first-now inputs t))
-      (subst (λ z. IsGoodQuotient true p (with_sign s a) z (outputs_now true inputs t 0) (outputs_now true inputs t 1))
-      (sym (second-now inputs t))
-      (subst (λ z. IsGoodQuotient true p (with_sign s a) (with_sign d b) z (outputs_now true inputs t 1)) (sym first)
-      (subst (λ z. IsGoodQuotient true p (with_sign s a) (with_sign d b) (with_sign (xor s d) q) z) (sym second)
-      (good_of_sizes true p s d a b q r held))))
+      (two_shown (IsGoodQuotient true p (with_sign s a)) (second-now inputs t) first second (good_of_sizes true p s d a b q r held))
   good false e are inputs t words range =
       let u = pos t in
       let s = S inputs u words in
@@ -410,15 +395,18 @@ module _ (p : Pair) (have : HasWidths p) where
       let first = quotient-value inputs u words false e are in
       let second = outputs_now false inputs t 1 in
       subst (λ z. IsGoodQuotient false p z (inputs_now inputs t 1 0) (outputs_now false inputs t 0) second) (sym (first-now inputs t))
-      (subst (λ z. IsGoodQuotient false p (with_sign s a) z (outputs_now false inputs t 0) second) (sym (second-now inputs t))
-      (subst (λ z. IsGoodQuotient false p (with_sign s a) (with_sign d b) z second) (sym first)
-      (good_of_sizes false p s d a b q held.0 held.1)))
+      (one_shown (λ z y. IsGoodQuotient false p (with_sign s a) z y second) (second-now inputs t) first
+      (good_of_sizes false p s d a b q held.0 held.1))
 
   pub fits : FitsOperator (mode_of_exact p.exact) (Divide p) made
   fits = record {
     valid = results-valid (codes "q") final final-valid p.exact results;
     inputs = made-inputs;
     outputs = results-shown (codes "q") final final-valid no_output p.exact results ∙ same_ports p.exact refl;
+    delays =
+        let none : delay_count (start p have).nodes ≡ 0 = refl in
+        passes-count 0 made.nodes
+        (omega (arith, results-delays (codes "q") final final-valid p.exact results, finished.later.grown.delays, start-last.grown.delays, none));
     good = λ inputs t words within range.
         good_by_mark p.exact
         (λ e. IsGoodQuotient e p (inputs_now inputs t 0 0) (inputs_now inputs t 1 0) (outputs_now p.exact inputs t 0) (outputs_now p.exact inputs t 1))
@@ -426,7 +414,7 @@ module _ (p : Pair) (have : HasWidths p) where
   }
 
 pub fits_modes : (p : Pair) → IsAcceptedPair p → FitsInEachMode (Divide p) (net_of_pair p)
-fits_modes p is = fits_by_mark p.exact (Divide p) (net_of_pair p) refl (fits p (has_widths p is))
+fits_modes p is = fits_by_mark (mode_of_exact p.exact) (Divide p) (net_of_pair p) refl (fits p (has_widths p is))
 
 pub all_steps : (p : Pair) → IsAcceptedPair p → HoldsAfterEachStep p (net_of_pair p)
 all_steps p is = steps_hold p (has_widths p is)

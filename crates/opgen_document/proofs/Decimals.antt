@@ -6,11 +6,12 @@ use Rattle.std.specs.List.{list_all}
 use Rattle.std.specs.Option.{option_map_or}
 use borrow.Author.Tests.{eqb-true}
 use Rattle.std.proofs.Math.Nat.{pow-succ'}
-use Rattle.std.proofs.lemmas.Bool.{and_parts, leb-true, cases_lt}
+use Rattle.std.proofs.lemmas.Bool.{and_parts, leb-true, cases_lt, or_cases}
 use Rattle.std.proofs.lemmas.Int.{ints}
 use Rattle.std.proofs.lemmas.List.{append-nil, drop_more, length-append, length-drop, take-append-drop}
 use Rattle.std.proofs.lemmas.List.Quantifiers.{position-Some}
 use Rattle.std.proofs.lemmas.Nat.{pow-add}
+use Rattle.opgen_num.proofs.DecimalDigits.{digit_bounds}
 use Rattle.toml.specs.Data.{Data, string, integer, Items, no_items, item, Members, as_integer, as_array}
 use Rattle.opgen_document.specs.declared.decimal.Decimal.{Decimal}
 use Rattle.opgen_document.specs.declared.key.Key.TheVariants as key
@@ -18,7 +19,6 @@ use Rattle.opgen_document.specs.Decimals.{IsDigit, number, sign, signed, after_p
 use Rattle.opgen_document.specs.Document.{list_of, value_at, number_in, number_at, items_of, items_in, items_at}
 use Rattle.opgen_document.specs.Types.{are_integers, are_decimals, are_coefficients}
 use Rattle.opgen_document.specs.Numbers.{are_digits, digits_from, are_parts, decimal_with, cut_at, unsigned_decimal, decimal_of, scaled, numerator, places_in, places_among, coefficient, numerators, are_texts, denominator_of}
-use Rattle.opgen_document.proofs.Digits.{digit_bounds}
 
 -- digits that are read one by one, by their places
 read-number : (n : ℕ) (ds : List ℕ) → digits_from n ds ≡ n * 10 ^ length ds + number ds
@@ -207,10 +207,6 @@ pub integers_written : (items : Items) → are_integers items ≡ true → AreNu
 integers_written items h = subst (λ (p : ℕ). AreNumerators 0 items (map (coefficient p) (list_of items))) (sym (no_places items h))
     (integers_numerators items h)
 
-either : (a b : Bool) → (a || b) ≡ true → (a ≡ true) ⊎ (b ≡ true)
-either true b h = inl refl
-either false b h = inr h
-
 numbers_written : (items : Items) → are_coefficients items ≡ true → AreNumerators (places_among items) items (numerators items)
     × HasPlaces (places_among items) items
 numbers_written items h =
@@ -221,7 +217,7 @@ numbers_written items h =
       subst (λ (p : ℕ). HasPlaces p items) none (none_asked items all),
     ))
     (λ (all : are_decimals items ≡ true). (texts_numerators (places_among items) items all (omega arith), texts_places items all))
-    (either (are_integers items) (are_decimals items) h)
+    (or_cases (are_integers items) (are_decimals items) h)
 
 decimals_are : (items : Items) → (AreDecimals items → are_texts items ≡ true) × (¬ AreDecimals items → are_texts items ≡ false)
 decimals_are no_items = (λ h. absurd h, λ h. refl)

@@ -1,33 +1,14 @@
 -- Reading digits one by one.
-use Rattle.std.proofs.Common.{◌≡◌, ℕ, suc, ◌+◌, ◌*◌, ◌-◌, ◌^◌, ◌≤◌, ◌<◌, Bool, true, false, nat_le, List, length, drop, get_or, ap, sym, ◌∙◌, arith, refl}
+use Rattle.std.proofs.Common.{◌≡◌, ℕ, suc, ◌+◌, ◌*◌, ◌-◌, ◌^◌, ◌≤◌, ◌<◌, List, length, drop, get_or, ap, sym, ◌∙◌, arith}
 use Rattle.std.proofs.Math.Seq.{drop-cons}
 use Rattle.std.proofs.Math.Nat.{pow-succ', one-le-pow, pow-le-pow_right, mul-le-mul_left, mul-le-mul_right}
-use Rattle.std.proofs.lemmas.Bool.{and_parts, leb-true}
 use Rattle.std.proofs.lemmas.Nat.{pow-add}
-use Rattle.std.proofs.lemmas.List.Folds.{list_all_at}
-use Rattle.std.specs.Char.{is_ascii_digit}
-use Rattle.std.specs.List.{list_all}
 use Rattle.opgen_document.specs.Numbers.{digits_from}
 
 -- what is read up to a place, and how far what is left can lead
 pub record IsReadSoFar (digits : List ℕ) (start number index : ℕ) : Type 0 where
   pub value : digits_from number (drop index digits) ≡ digits_from start digits
   pub bound : (number + 1) * 10 ^ (length digits - index) ≤ (start + 1) * 10 ^ length digits
-
-pub digit_bounds : (b : ℕ) → is_ascii_digit b ≡ true → (48 ≤ b) × (b ≤ 57)
-digit_bounds b h =
-    let (low, high) = and_parts (nat_le 48 b) (nat_le b 57) h in
-    (leb-true 48 b low, leb-true b 57 high)
-
-by_cases : (b : Bool) → (b ≡ false → ⊥) → b ≡ true
-by_cases true h = refl
-by_cases false h = absurd (h refl)
-
-pub digit_at : (digits : List ℕ) (i : ℕ) → list_all is_ascii_digit digits ≡ true → i < length digits → (48 ≤ get_or digits i 0)
-    × (get_or digits i 0 ≤ 57)
-digit_at digits i all lt =
-    digit_bounds (get_or digits i 0) (by_cases (is_ascii_digit (get_or digits i 0)) (λ no_digit. let none = list_all_at is_ascii_digit
-    digits i 0 lt no_digit in cc))
 
 entry_of : (n digit p q : ℕ) → digit ≤ 9 → q ≡ 10 * p → (n * 10 + digit + 1) * p ≤ (n + 1) * q
 entry_of n digit p q h e =

@@ -8,6 +8,10 @@ use Rattle.opgen_document.specs.Keys.{key_name, row_of}
 use Rattle.std.specs.Option.{is_some}
 use Rattle.std.specs.Str.{bytes_eq}
 use Rattle.opgen_num.specs.declared.format.Format.{Format}
+use Rattle.opgen_num.specs.declared.mode.Rounding.{Rounding}
+use Rattle.opgen_num.specs.declared.mode.Rounding.TheVariants.{Down, Nearest}
+use Rattle.opgen_num.specs.declared.mode.Overflow.{Overflow}
+use Rattle.opgen_num.specs.declared.mode.Overflow.TheVariants.{Saturate, Wrap}
 use Rattle.opgen_document.specs.declared.key.Key.TheVariants as key
 use Rattle.opgen_document.specs.declared.key.Stand.{Stand}
 use Rattle.opgen_document.specs.declared.key.Stand.TheVariants.{Absent, Optional, Needed}
@@ -115,6 +119,17 @@ is_searched ms = is_some (value_at ms key.Extra)
 abbrev pub counters_at : Members → Bool
 counters_at ms = bytes_eq (text_at ms key.Compressor) (codes "counters")
 
+-- how outputs are rounded, where the document chooses it
+abbrev pub rounding_named : List ℕ → Option Rounding
+rounding_named name = if bytes_eq name (codes "down") then Some Down else if bytes_eq name (codes "nearest") then Some Nearest else None
+
+abbrev pub rounding_at : Members → Option Rounding
+rounding_at ms = rounding_named (text_at ms key.Rounding)
+
+-- what becomes of a value out of the range of a chosen width
+abbrev pub overflow_at : Members → Overflow
+overflow_at ms = if bytes_eq (text_at ms key.Overflow) (codes "wrap") then Wrap else Saturate
+
 pub record IsInputAsWritten (ms : Members) (width lsb : Key) (f : Format) : Type 0 where
   pub width_written : value_at ms width ≡ Some (integer (pos f.width))
   pub lsb_written : value_at ms lsb ≡ Some (integer f.lsb)
@@ -150,6 +165,19 @@ abbrev pub IsCompressorAsWritten : (ms : Members) (counters : Bool) → Type 0
 IsCompressorAsWritten ms true = value_at ms key.Compressor ≡ Some (string (codes "counters"))
 IsCompressorAsWritten ms false =
     (value_at ms key.Compressor ≡ None) ⊎ (value_at ms key.Compressor ≡ Some (string (codes "dadda")))
+
+-- a rounding is chosen by its word
+abbrev pub rounding_name : Rounding → List ℕ
+rounding_name Down = codes "down"
+rounding_name Nearest = codes "nearest"
+
+abbrev pub IsRoundingAsWritten : (ms : Members) → Option Rounding → Type 0
+IsRoundingAsWritten ms rounding = value_at ms key.Rounding ≡ option_map (λ r. string (rounding_name r)) rounding
+
+-- values wrap where the document says so by the word, and saturate by no word or the other one
+abbrev pub IsOverflowAsWritten : (ms : Members) → Overflow → Type 0
+IsOverflowAsWritten ms Wrap = value_at ms key.Overflow ≡ Some (string (codes "wrap"))
+IsOverflowAsWritten ms Saturate = (value_at ms key.Overflow ≡ None) ⊎ (value_at ms key.Overflow ≡ Some (string (codes "saturate")))
 
 -- each number but 1, 2 and 3 counts as 4
 abbrev pub version_in : ℤ → Version

@@ -1,8 +1,10 @@
 -- What stands at a key and is out of its range: a number or a length that is not within bounds, or an element beyond a limit.
-use Rattle.std.specs.Prelude.{ℕ, ◌^◌, ◌&&◌, ◌||◌, Bool, true, false, List, length, codes, ℤ, pos, negsuc, int_le, unsigned_abs, Option, Some, None, find, if◌then◌else◌, nat_lt}
+use Rattle.std.specs.Prelude.{ℕ, ◌&&◌, ◌||◌, Bool, true, false, List, length, codes, ℤ, pos, neg_ℤ, int_le, unsigned_abs, Option, Some, None, find, if◌then◌else◌, nat_lt}
 use Rattle.std.specs.Option.{option_or}
 use Rattle.std.specs.Str.{bytes_eq}
 use Rattle.toml.specs.Data.{Items, Members}
+use Rattle.opgen_num.specs.declared.limits.TheConstants.{MAX_CONSTANT, MAX_DENOMINATOR, MAX_NEAR_LSB, MAX_NUMERATOR, MAX_SEARCHED_CONSTANT}
+use Rattle.opgen_num.specs.declared.format.TheConstants.{MAX_LSB, MAX_WIDTH}
 use Rattle.opgen_document.specs.declared.key.Key.{Key}
 use Rattle.opgen_document.specs.declared.key.Key.TheVariants as key
 use Rattle.opgen_document.specs.Document.{list_of, number_at, text_at, flag_at, items_at, version_of}
@@ -39,11 +41,11 @@ width_outside most ms k = bits_outside (flag_at ms key.Signed) most (number_at m
 
 -- the power of a lowest bit: of quotients and roots in each version, and of the other kinds in versions 1 and 2
 abbrev pub near_outside : Members → Key → Option ℤ
-near_outside ms k = outside (negsuc 31) (pos 32) (number_at ms k)
+near_outside ms k = outside (neg_ℤ MAX_NEAR_LSB) MAX_NEAR_LSB (number_at ms k)
 
 -- the power of a lowest bit of the other kinds from version 3 on, but for polynomials
 abbrev pub far_outside : Members → Key → Option ℤ
-far_outside ms k = outside (negsuc 63) (pos 64) (number_at ms k)
+far_outside ms k = outside (neg_ℤ MAX_LSB) MAX_LSB (number_at ms k)
 
 abbrev pub power_outside_in : Version → Members → Key → Option ℤ
 power_outside_in First ms k = near_outside ms k
@@ -56,22 +58,22 @@ power_outside ms k = power_outside_in (version_of ms) ms k
 
 -- the width of an output that is chosen
 abbrev pub out_width_outside : Members → Option ℤ
-out_width_outside ms = outside (pos 2) (pos 96) (number_at ms key.OutWidth)
+out_width_outside ms = outside (pos 2) (pos MAX_WIDTH) (number_at ms key.OutWidth)
 
 abbrev pub coefficients_outside : (least most : ℕ) → Members → Option ℤ
-coefficients_outside least most ms = array_outside least most (2 ^ 30) (items_at ms key.Coefficients)
+coefficients_outside least most ms = array_outside least most MAX_NUMERATOR (items_at ms key.Coefficients)
 
 -- a whole number over the denominator
 abbrev pub numerator_outside : Members → Key → Option ℤ
-numerator_outside ms k = outside (negsuc 1073741823) (pos 1073741824) (number_at ms k)
+numerator_outside ms k = outside (neg_ℤ (pos MAX_NUMERATOR)) (pos MAX_NUMERATOR) (number_at ms k)
 
 abbrev pub denominator_outside : Members → Option ℤ
-denominator_outside ms = outside (pos 1) (pos (2 ^ 30)) (number_at ms key.Denominator)
+denominator_outside ms = outside (pos 1) MAX_DENOMINATOR (number_at ms key.Denominator)
 
 -- the greatest constant or tap of a graph that is searched for, and of one that a fixed rule makes
 abbrev pub constant_limit : (searched : Bool) → ℕ
-constant_limit true = 2047
-constant_limit false = 1048575
+constant_limit true = MAX_SEARCHED_CONSTANT
+constant_limit false = MAX_CONSTANT
 
 -- the adders that a graph may have beyond the least number
 abbrev pub extra_outside : Members → Option ℤ

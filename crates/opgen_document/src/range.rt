@@ -8,10 +8,11 @@ use crate::document::{flag_at, items_at, number_at, text_at, value_at};
 use crate::key::{Key, Version};
 use crate::number::{coefficient, places_among};
 use crate::version::version_of;
+use opgen_num::{
+    MAX_CONSTANT, MAX_DENOMINATOR, MAX_LSB, MAX_NEAR_LSB, MAX_NUMERATOR, MAX_SEARCHED_CONSTANT,
+    MAX_WIDTH,
+};
 use toml::{Table, Value};
-
-/// The greatest numerator of a coefficient, without its sign.
-const MAX_NUMERATOR: u64 = 1 << 30;
 
 /// The number, where it is not within the bounds.
 pub fn outside(low: i64, high: i64, n: i64) -> Option<i64>
@@ -141,14 +142,16 @@ pub fn width_outside(most: u32, table: &Table, key: Key) -> Option<i64>
 pub fn near_outside(table: &Table, key: Key) -> Option<i64>
     ensures { result ≡ near_outside (table_view table.now) key }
 {
-    outside(-32, 32, number_at(table, key))
+    let most = i64::from(MAX_NEAR_LSB);
+    outside(-most, most, number_at(table, key))
 }
 
 /// The power of a lowest bit, where it is out of the bounds of versions 3 and 4.
 pub fn far_outside(table: &Table, key: Key) -> Option<i64>
     ensures { result ≡ far_outside (table_view table.now) key }
 {
-    outside(-64, 64, number_at(table, key))
+    let most = i64::from(MAX_LSB);
+    outside(-most, most, number_at(table, key))
 }
 
 fn power_outside_in(version: Version, table: &Table, key: Key) -> Option<i64>
@@ -171,7 +174,7 @@ pub fn power_outside(table: &Table, key: Key) -> Option<i64>
 pub fn out_width_outside(table: &Table) -> Option<i64>
     ensures { result ≡ out_width_outside (table_view table.now) }
 {
-    outside(2, 96, number_at(table, Key::OutWidth))
+    outside(2, i64::from(MAX_WIDTH), number_at(table, Key::OutWidth))
 }
 
 pub fn coefficients_outside(least: u32, most: u32, table: &Table) -> Option<i64>
@@ -185,13 +188,14 @@ pub fn coefficients_outside(least: u32, most: u32, table: &Table) -> Option<i64>
 pub fn numerator_outside(table: &Table, key: Key) -> Option<i64>
     ensures { result ≡ numerator_outside (table_view table.now) key }
 {
-    outside(-(1 << 30), 1 << 30, number_at(table, key))
+    let most = MAX_NUMERATOR as i64;
+    outside(-most, most, number_at(table, key))
 }
 
 pub fn denominator_outside(table: &Table) -> Option<i64>
     ensures { result ≡ denominator_outside (table_view table.now) }
 {
-    outside(1, 1 << 30, number_at(table, Key::Denominator))
+    outside(1, MAX_DENOMINATOR, number_at(table, Key::Denominator))
 }
 
 /// Whether the graph with the fewest adders is searched for. Otherwise a fixed rule makes it.
@@ -205,7 +209,11 @@ pub fn is_searched(table: &Table) -> bool
 pub fn constant_limit(searched: bool) -> u64
     ensures { result ≡ constant_limit searched }
 {
-    if searched { 2047 } else { 1_048_575 }
+    if searched {
+        MAX_SEARCHED_CONSTANT
+    } else {
+        MAX_CONSTANT
+    }
 }
 
 /// The number of further adders of a graph, where it is out of bounds.

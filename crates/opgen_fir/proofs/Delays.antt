@@ -1,13 +1,15 @@
--- The input and its delays: their widths and words, and the taps of the coefficients that are not 0.
+-- The input and its delays: their number, widths and words, and the taps of the coefficients that are not 0.
 use Rattle.std.proofs.Common.{◌≡◌, ℕ, zero, suc, ◌-◌, ◌<◌, ◌≤◌, inl, inr, Bool, true, false, List, [], ◌∷◌, length, length-append, get_or, refl, sym, ap, ◌∙◌, arith}
 use Rattle.std.specs.Prelude.{ℤ, pos, negsuc, ◌-ℤ◌, slice_index, if◌then◌else◌}
 use Rattle.std.proofs.lemmas.Bool.{cases_lt}
 use Rattle.std.proofs.lemmas.Int.{ints}
 use Rattle.opgen_net.specs.declared.node.Node.{Node}
 use Rattle.opgen_net.specs.declared.node.Node.TheVariants.{Input, Delay}
+use Rattle.opgen_net.specs.Delays.{delay_count}
 use Rattle.opgen_net.specs.Flow.{Inputs, before, input_at, flow}
 use Rattle.opgen_net.specs.Valid.{widths}
 use Rattle.opgen_net.proofs.Appending.{flow-append_before, flow-append_last, width-append_before, width-append_last}
+use Rattle.opgen_net.proofs.Delays.{delay_count-append}
 use Rattle.opgen_fir.specs.Recipe.{is_zero, taps_within, delays}
 use Rattle.opgen_fir.specs.Summed.{back}
 
@@ -26,6 +28,10 @@ line width count = Input 0 width ∷ delays count
 pub length-line : (width count : ℕ) → length (line width count) ≡ suc count
 length-line width zero = refl
 length-line width (suc k) = omega (arith, length-append (line width k) (Delay k ∷ []), length-line width k)
+
+delays-count : (count : ℕ) → delay_count (delays count) ≡ count
+delays-count zero = refl
+delays-count (suc k) = omega (arith, delay_count-append (delays k) (Delay k ∷ []), delays-count k)
 
 pub line-width : (width count k : ℕ) → k ≤ count → slice_index (widths (line width count)) k ≡ width
 line-width width zero zero h = refl
@@ -69,6 +75,20 @@ tap_within (suc m) k coefs h some = by (λ l. tap_within m k coefs l some) (is_z
           let same : is_zero (get_or coefs k (pos 0)) ≡ true = ap (λ i. is_zero (get_or coefs i (pos 0))) at ∙ e in
           cc
     ]
+
+-- no more taps than coefficients
+taps-few : (most : ℕ) (coefs : List ℤ) → taps_within most coefs ≤ most
+taps-few zero coefs = omega arith
+taps-few (suc m) coefs = by (taps-few m coefs) (is_zero (get_or coefs m (pos 0)))
+  where
+    by : taps_within m coefs ≤ m → (b : Bool) → (if b then taps_within m coefs else suc m) ≤ suc m
+    by fewer true = omega (arith, fewer)
+    by fewer false = omega arith
+
+-- the input is delayed by a cycle less than there are coefficients at most
+pub delays-few : (coefs : List ℤ) → delay_count (delays (taps_within (length coefs) coefs - 1)) ≤ length coefs - 1
+delays-few coefs =
+    omega (arith, delays-count (taps_within (length coefs) coefs - 1), taps-few (length coefs) coefs)
 
 -- fewer taps where the last coefficient is 0
 pub taps-step : (k : ℕ) (coefs : List ℤ) → 0 < k → is_zero (get_or coefs (k - 1) (pos 0)) ≡ true

@@ -1,16 +1,18 @@
 -- The coefficients of a sum in units of the output's last place.
-use Rattle.std.proofs.Common.{◌≡◌, ℕ, zero, suc, ◌+◌, ◌*◌, ◌/◌, ◌%◌, ◌^◌, ◌<◌, ◌≤◌, Bool, true, false, List, [], ◌∷◌, length, get_or, not, cond, FitsSigned, refl, sym, ap, ◌∙◌, arith}
-use Rattle.std.specs.Prelude.{ℤ, pos, negsuc, neg_ℤ, ◌*ℤ◌, ◌≤ℤ◌, unsigned_abs, Some, None, ◌==◌}
-use Rattle.std.specs.List.{position_from}
-use Rattle.std.proofs.lemmas.Bool.{eqb-true}
+use Rattle.std.proofs.Common.{◌≡◌, ℕ, zero, suc, ◌*◌, ◌/◌, ◌%◌, ◌^◌, ◌<◌, ◌≤◌, true, false, length, get_or, not, FitsSigned, sym, ap, ◌∙◌, arith}
+use Rattle.std.specs.Prelude.{ℤ, pos, negsuc, neg_ℤ, ◌*ℤ◌, ◌≤ℤ◌, unsigned_abs, None, ◌==◌}
+use Rattle.std.proofs.lemmas.Bool.{eqb-true, not-false}
 use Rattle.std.proofs.lemmas.Int.{ints, unsigned_abs-mul, fits_signed_from_abs}
 use Rattle.std.proofs.lemmas.List.Elements.{All-get_or}
 use Rattle.std.specs.Int.{w64}
 use Rattle.std.proofs.lemmas.Nat.{div-add-mod', pow_pos}
+use Rattle.std.proofs.Math.Nat.{mul-pos}
+use Rattle.opgen_num.proofs.Lists.{none-passes}
 use Rattle.opgen_kinds.specs.declared.sum.Sum.{Sum}
 use Rattle.opgen_kinds.specs.Sum.{sum_shift, is_whole, first_inexact, IsSum}
 use Rattle.opgen_ports.specs.Ranges.{IsWithin}
 use Rattle.opgen_ports.specs.Reaches.{up, down}
+use Rattle.opgen_ports.proofs.Reached.{neg-left}
 use Rattle.opgen_fir.specs.Recipe.{is_zero, factor}
 use Rattle.opgen_fir.specs.Summed.{units}
 
@@ -22,21 +24,13 @@ den-units s c sum = scaled s.den (down (sum_shift s)) sum.positive
     scaled (pos d) v h = omega (arith, ints)
     scaled (negsuc d) v h = absurd (omega (arith, ints, h))
 
-positive_product : (a b : ℕ) → 0 < a → 0 < b → 0 < a * b
-positive_product zero b h k = absurd (omega (arith, h))
-positive_product (suc a) b h k = omega (arith, k)
-
 pub units-some : (s : Sum) → IsSum 256 s → 0 < units s
-units-some s sum = positive_product (unsigned_abs s.den) (down (sum_shift s)) (omega (arith, ints, sum.positive)) (pow_pos _)
+units-some s sum = mul-pos {m = unsigned_abs s.den} {n = down (sum_shift s)} (omega (arith, ints, sum.positive)) (pow_pos _)
 
 -- a whole coefficient is a whole number of units
 pub record Whole (c : ℤ) (u m : ℕ) : Type 0 where
   pub times : ℤ
   pub is : times *ℤ pos m ≡ c *ℤ pos u
-
-negated : (q m : ℕ) → neg_ℤ (pos q) *ℤ pos m ≡ neg_ℤ (pos (q * m))
-negated zero m = omega (arith, ints)
-negated (suc q) m = omega (arith, ints)
 
 whole-times : (c : ℤ) (u m : ℕ) → (unsigned_abs c * u) % m ≡ 0 → Whole c u m
 whole-times (pos a) u m h = record { times = pos (a * u / m); is = omega (arith, ints, div-add-mod' (a * u) m, h) }
@@ -45,25 +39,7 @@ whole-times (negsuc a) u m h =
     let rest : suc a * u % m ≡ 0 = h in
     let whole : q * m ≡ suc a * u = omega (arith, div-add-mod' (suc a * u) m, rest) in
     let less : negsuc a *ℤ pos u ≡ neg_ℤ (pos (suc a * u)) = omega (arith, ints) in
-    record { times = neg_ℤ (pos q); is = negated q m ∙ ap (λ n. neg_ℤ (pos n)) whole ∙ sym less }
-
-none-passes : (p : ℤ → Bool) (i : ℕ) (cs : List ℤ) (k : ℕ) → position_from p i cs ≡ None → k < length cs → p (get_or cs k (pos 0)) ≡ false
-none-passes p i [] k e h = absurd (omega (arith, h))
-none-passes p i (c ∷ cs) zero e h = by (p c) e
-  where
-    by : (b : Bool) → cond b (Some i) (position_from p (i + 1) cs) ≡ None → b ≡ false
-    by true g = cc
-    by false g = refl
-none-passes p i (c ∷ cs) (suc k) e h = by (λ g. none-passes p (i + 1) cs k g (omega (arith, h))) (p c) e
-  where
-    by : (position_from p (i + 1) cs ≡ None → p (get_or cs k (pos 0)) ≡ false) → (b : Bool)
-        → cond b (Some i) (position_from p (i + 1) cs) ≡ None → p (get_or cs k (pos 0)) ≡ false
-    by later true g = cc
-    by later false g = later g
-
-not-false : (b : Bool) → not b ≡ false → b ≡ true
-not-false true e = refl
-not-false false e = cc
+    record { times = neg_ℤ (pos q); is = neg-left q m ∙ ap (λ n. neg_ℤ (pos n)) whole ∙ sym less }
 
 -- where no coefficient is inexact
 pub all-whole : (s : Sum) → first_inexact s ≡ None → (k : ℕ) → k < length s.coefs

@@ -18,10 +18,12 @@ use Rattle.opgen_heap.specs.Sum.{heap_sum}
 use Rattle.opgen_heap.proofs.Sums.{with_constant-sum}
 use Rattle.opgen_net.specs.declared.net.Net.{Net}
 use Rattle.opgen_net.specs.declared.net.Output.{Output}
+use Rattle.opgen_net.specs.Delays.{PassesAtMost}
 use Rattle.opgen_net.specs.Flow.{Inputs, flow, slice_flow, input_at}
 use Rattle.opgen_net.specs.Grown.{HasGrown}
 use Rattle.opgen_net.specs.Valid.{IsValid, widths, input_widths, slice_width}
 use Rattle.opgen_net.proofs.FlowWidths.{flow-width}
+use Rattle.opgen_net.proofs.Grown.{grown-few, grown-then}
 use Rattle.opgen_net.proofs.InputLaws.{input_at-width}
 use Rattle.opgen_design.specs.Run.{AreWords}
 use Rattle.opgen_compress.specs.Kept.{IsSumOf}
@@ -36,13 +38,14 @@ use Rattle.opgen_ports.specs.Ports.{one_input, Recent}
 use Rattle.opgen_ports.specs.Spans.{IsOf}
 use Rattle.opgen_ports.specs.Modes.{mode_of_exact}
 use Rattle.opgen_operator.proofs.EachMode.{asked_whole, fits_each_mode}
+use Rattle.opgen_operator.proofs.Shown.{one_shown}
 use Rattle.opgen_ports.proofs.InputPorts.{input_bit}
 use Rattle.opgen_kcm.specs.Recipe.{Terms, HasTermsMore}
 use Rattle.opgen_kcm.specs.Multiple.{sum_at}
 use Rattle.opgen_heap.proofs.Residues.{residue-then}
 use Rattle.opgen_fir.specs.Recipe.{tapped, no_terms, with_half, sum_width, above_guard, with_output}
 use Rattle.opgen_fir.specs.Summed.{back, recent, HasSum}
-use Rattle.opgen_fir.proofs.Delays.{back-is}
+use Rattle.opgen_fir.proofs.Delays.{back-is, delays-few}
 use Rattle.opgen_fir.proofs.Good.{half_of, rounded, rounded-floor, sum-good}
 
 -- what is left of a number is the number less a multiple of the divisor
@@ -137,10 +140,8 @@ module _ (s : Sum) (ranges : IsSum 256 s) (hold : OutputsHold) (some : 1 ≤ (su
       let x = recent s inputs (pos u) in
       let each = λ (ago : ℕ). ap (λ v. val (input_at inputs 0 s.input.width v) s.input) (back-is ago (pos u)) in
       let same : x ≡ recent_words (one_input s.input) inputs u 0 = λ i ago. each ago i in
-      subst (λ (r : Recent). IsGoodRatio (mode_of_exact exact) (exact_sum s r)
-      (val (slice_flow after.nodes inputs (above_guard s n) (pos u)) (sum_format s))) same
-      (subst (λ y. IsGoodRatio (mode_of_exact exact) (exact_sum s x) y) (sym (output-value inputs (pos u) words total))
-      (sum-good s ranges x total.total total.summed exact asked))
+      one_shown (λ (r : Recent) y. IsGoodRatio (mode_of_exact exact) (exact_sum s r) y) (sym same) (output-value inputs (pos u) words total)
+      (sum-good s ranges x total.total total.summed exact asked)
 
   slice : slice_width (above_guard s n) ≡ (sum_format s).width
   slice = omega (arith, some)
@@ -169,6 +170,10 @@ module _ (s : Sum) (ranges : IsSum 256 s) (hold : OutputsHold) (some : 1 ≤ (su
             (fir exact (asked_whole exact (Fir s) mode) (subst IsValid e whole))),
       )
     where
+      few : PassesAtMost (length s.coefs - 1) after.nodes
+      few =
+          grown-few (tapped s) after (grown-then (tapped s) t.net after more.net grown) (length s.coefs - 1) (delays-few s.coefs)
+
       last : Net
       last = record {
         inputs = (codes "x", s.input.width) ∷ [];
@@ -181,6 +186,7 @@ module _ (s : Sum) (ranges : IsSum 256 s) (hold : OutputsHold) (some : 1 ≤ (su
         valid = v;
         inputs = refl;
         outputs = ap (λ w. (codes "y", w) ∷ []) slice;
+        delays = few;
         good = λ inputs u words within range. good-output exact asked inputs u words;
       }
 
@@ -189,5 +195,6 @@ module _ (s : Sum) (ranges : IsSum 256 s) (hold : OutputsHold) (some : 1 ≤ (su
         valid = v;
         inputs = refl;
         outputs = ap (λ w. (codes "y", w) ∷ []) slice;
+        delays = few;
         good = λ inputs u words within range. good-output exact asked inputs u words;
       }

@@ -1,9 +1,10 @@
-pub mod Rounds
-pub mod Delays
-pub mod WeightedSums
-pub mod Factors
-pub mod Summed
-pub mod Narrow
-pub mod Good
-pub mod Fits
-pub mod Steps
+mod Rounds
+mod Delays
+mod WeightedSums
+mod Factors
+mod Summed
+mod Narrow
+mod Good
+mod Fits
+mod Steps
+pub mod Whole

@@ -1,18 +1,19 @@
 -- No table of a sum is wider than the sum: the range of the output has room for the whole range of each term.
-use Rattle.std.proofs.Common.{◌≡◌, ℕ, zero, suc, ◌+◌, ◌-◌, ◌*◌, ◌^◌, ◌<◌, ◌≤◌, Bool, true, false, List, [], ◌∷◌, length, get_or, sym, ap, ◌∙◌, arith}
-use Rattle.std.specs.Prelude.{ℤ, pos, negsuc, neg_ℤ, ◌*ℤ◌, unsigned_abs, map, sum}
-use Rattle.std.proofs.Math.Nat.{two-pow-succ, mul-le-mul_left}
+use Rattle.std.proofs.Common.{◌≡◌, ℕ, zero, suc, ◌+◌, ◌-◌, ◌*◌, ◌^◌, ◌<◌, ◌≤◌, List, [], ◌∷◌, length, get_or, sym, ap, ◌∙◌, arith}
+use Rattle.std.specs.Prelude.{ℤ, pos, ◌*ℤ◌, unsigned_abs, map, sum}
+use Rattle.std.proofs.Math.Nat.{mul-le-mul_left}
 use Rattle.std.proofs.lemmas.Grind.{div_ceil_times}
-use Rattle.std.proofs.lemmas.Int.{ints, unsigned_abs-mul}
+use Rattle.std.proofs.lemmas.Int.{unsigned_abs-mul}
 use Rattle.std.proofs.lemmas.Nat.{pow-add, pow_pos}
 use Rattle.opgen_num.specs.declared.format.TheConstants.{MAX_WIDTH}
-use Rattle.opgen_num.specs.Formats.{range_width}
-use Rattle.opgen_num.proofs.RangeWidth.{range_width-least}
+use Rattle.opgen_num.proofs.RangeWidth.{width-span}
+use Rattle.opgen_num.proofs.Integers.{one_more}
+use Rattle.opgen_num.proofs.Lists.{sum-cons}
 use Rattle.opgen_kinds.specs.declared.sum.Sum.{Sum}
 use Rattle.opgen_kinds.specs.Sum.{sum_shift, sum_reach, sum_places, guard_bits, sum_format, IsSum}
-use Rattle.opgen_ports.specs.Reaches.{reach_with, reach_of, above_zero, below_zero, rises, falls, up}
+use Rattle.opgen_ports.specs.Reaches.{reach_of, above_zero, below_zero, rises, falls, up}
 use Rattle.opgen_ports.proofs.InputPorts.{input_bit}
-use Rattle.opgen_ports.proofs.Totals.{sum-cons}
+use Rattle.opgen_ports.proofs.Reached.{abs-parts, reach-span}
 use Rattle.opgen_kcm.specs.Entries.{in_guard_units}
 use Rattle.opgen_kcm.specs.Recipe.{HasNarrowRows}
 use Rattle.opgen_kcm.proofs.Narrow.{narrow}
@@ -21,17 +22,6 @@ use Rattle.opgen_fir.specs.Summed.{units}
 use Rattle.opgen_fir.proofs.Factors.{den-units, units-some}
 
 -- the range of the output
-
-reach-span : (signed : Bool) (width : ℕ) → 1 ≤ width → (reach_with signed width).below + (reach_with signed width).above + 1 ≡ 2 ^ width
-reach-span true zero h = absurd (omega (arith, h))
-reach-span true (suc w) h =
-    let e : suc w - 1 ≡ w = omega arith in
-    omega (arith, two-pow-succ w, ap (λ n. 2 ^ n) e, pow_pos w)
-reach-span false w h = omega (arith, pow_pos w)
-
-abs-parts : (c : ℤ) → above_zero c + below_zero c ≡ unsigned_abs c
-abs-parts (pos n) = omega arith
-abs-parts (negsuc n) = omega arith
 
 coef-within : (cs : List ℤ) (k : ℕ) → k < length cs → unsigned_abs (get_or cs k (pos 0)) ≤ rises cs + falls cs
 coef-within [] k h = absurd (omega (arith, h))
@@ -44,19 +34,6 @@ coef-within (c ∷ cs) (suc k) h =
     let down : falls (c ∷ cs) ≡ below_zero c + falls cs = sum-cons (below_zero c) (map below_zero cs) in
     omega (arith, up, down, coef-within cs k (omega (arith, h)))
 
-half : (w : ℕ) → 2 ≤ w → 2 ^ w ≡ 2 ^ (w - 1) + 2 ^ (w - 1)
-half zero h = absurd (omega (arith, h))
-half (suc v) h = let e : suc v - 1 ≡ v = omega arith in omega (arith, two-pow-succ v, ap (λ n. 2 ^ n) e)
-
-width-span : (below above : ℕ) → below + above < 2 ^ range_width (neg_ℤ (pos below)) (pos above)
-width-span zero above =
-    let h = (range_width-least (pos 0) (pos above) (omega (arith, ints))).0 in
-    omega (arith, ints, h.2.1, pow_pos (range_width (pos 0) (pos above)))
-width-span (suc n) above =
-    let h = (range_width-least (negsuc n) (pos above) (omega (arith, ints))).0 in
-    let w = range_width (negsuc n) (pos above) in
-    omega (arith, ints, h.1.0, h.2.1, half w h.0, pow_pos (w - 1))
-
 units-span : (s : Sum) → IsSum 256 s → (k : ℕ) → k < length s.coefs
     → unsigned_abs (get_or s.coefs k (pos 0)) * up (sum_shift s) * ((reach_of s.input).below + (reach_of s.input).above)
     ≤ units s * ((sum_places s).below + (sum_places s).above)
@@ -68,10 +45,6 @@ units-span s sum k h =
     let high = (div_ceil_times ((sum_reach s).above * u) (units s) (units-some s sum)).0 in
     let some = mul-le-mul_left (u * (r.below + r.above)) (coef-within s.coefs k h) in
     omega (arith, low, high, some)
-
-one_more : (a b : ℕ) → 0 < b → a * (b - 1) + a ≡ a * b
-one_more a zero h = absurd (omega (arith, h))
-one_more a (suc b) h = let e : suc b - 1 ≡ b = omega arith in omega (arith, ap (λ n. a * n) e)
 
 -- the rows of each coefficient are no wider than the sum
 pub narrow-terms : (s : Sum) → IsSum 256 s → (k : ℕ) → k < length s.coefs → sum_width s ≤ MAX_WIDTH

@@ -1,10 +1,10 @@
 -- The first form, and then the least shift, that makes a number of two others.
-use Rattle.std.proofs.Common.{◌≡◌, ◌⊎◌, inl, inr, ⊎_elim, ℕ, zero, suc, ◌+◌, ◌-◌, ◌*◌, ◌^◌, ◌≤◌, ◌<◌, ◌%◌, refl, sym, arith}
+use Rattle.std.proofs.Common.{◌≡◌, ◌⊎◌, inl, inr, ⊎_elim, ℕ, zero, suc, ◌+◌, ◌-◌, ◌*◌, ◌^◌, ◌≤◌, ◌<◌, ◌%◌, refl, sym, arith, ap, ◌∙◌}
 use Rattle.std.specs.Int.{abs_diff}
 use Rattle.std.proofs.lemmas.Bool.{cases_lt}
 use Rattle.opgen_graph.specs.declared.forms.Form.{Form}
 use Rattle.opgen_graph.specs.declared.forms.Form.TheVariants.{A, B, C, D, E}
-use Rattle.opgen_graph.specs.Adders.{Makes, Comb, IsNotAfter, IsFirstStep}
+use Rattle.opgen_graph.specs.Adders.{Makes, Comb, IsNotAfter, IsFirstStep, place}
 use Rattle.opgen_graph.proofs.Powers.{twice}
 
 -- no shift makes one number of another
@@ -96,3 +96,21 @@ module _ (u v f : ℕ) where
   no_step a b c d e (C, j, l, m) = not_c c j m
   no_step a b c d e (D, j, l, m) = d j (sym m)
   no_step a b c d e (E, j, l, m) = e j (difference (2 ^ j * f) m)
+
+-- the form at a place
+abbrev form_at : ℕ → Form
+form_at zero = A
+form_at (suc zero) = B
+form_at (suc (suc zero)) = C
+form_at (suc (suc (suc zero))) = D
+form_at (suc (suc (suc (suc n)))) = E
+
+form_back : (f : Form) → form_at (place f) ≡ f
+form_back A = refl
+form_back B = refl
+form_back C = refl
+form_back D = refl
+form_back E = refl
+
+pub same_form : (f g : Form) → place f ≡ place g → f ≡ g
+same_form f g e = sym (form_back f) ∙ ap form_at e ∙ form_back g

@@ -1,6 +1,6 @@
 -- The net of several constants fits the operator.
-use Rattle.std.proofs.Common.{◌≡◌, ℕ, Bool, true, false, ◌+◌, List, [], ◌∷◌, ◌++◌, map, codes, sym, ap, ◌∙◌, arith}
-use Rattle.std.specs.Prelude.{ℤ, pos, ◌-ℤ◌, ◌*ℤ◌, All}
+use Rattle.std.proofs.Common.{◌≡◌, ℕ, Bool, true, false, ◌+◌, List, [], ◌∷◌, ◌++◌, map, codes, refl, sym, ap, ◌∙◌, arith}
+use Rattle.std.specs.Prelude.{ℤ, pos, ◌*ℤ◌, All}
 use Rattle.std.proofs.lemmas.Int.{ints}
 use Rattle.std.proofs.lemmas.List.Elements.{All-nil, All-cons, All-head, All-tail}
 use Rattle.std.specs.Fmt.{decimal}
@@ -9,10 +9,13 @@ use Rattle.opgen_num.specs.declared.format.Format.{Format}
 use Rattle.opgen_num.specs.Rounding.{IsGoodLinear}
 use Rattle.opgen_num.specs.Words.{val}
 use Rattle.opgen_num.proofs.Quotients.{within_one}
+use Rattle.opgen_num.proofs.Integers.{less-zero}
 use Rattle.opgen_net.specs.declared.net.Net.{Net}
 use Rattle.opgen_design.specs.Run.{AreWords}
+use Rattle.opgen_net.specs.Delays.{delay_count}
 use Rattle.opgen_net.specs.Flow.{Inputs, flow, input_at, slice_flow}
 use Rattle.opgen_net.specs.Valid.{input_widths}
+use Rattle.opgen_net.proofs.Delays.{passes-count}
 use Rattle.opgen_kinds.specs.declared.several.Several.{Several}
 use Rattle.opgen_operator.specs.declared.operator.Operator.TheVariants.{Mcm}
 use Rattle.opgen_ports.specs.declared.ports.PortFormat.{PortFormat}
@@ -39,9 +42,6 @@ use Rattle.opgen_graph.proofs.Products.{Ready}
 use Rattle.opgen_graph.proofs.ServedNets as served
 use Rattle.opgen_graph.proofs.Standing.{Stands}
 
-pub now : (t : ℕ) → pos t -ℤ pos 0 ≡ pos t
-now t = omega (arith, ints)
-
 -- the exact value is a good output
 pub exact_good : (exact : Bool) (n y : ℤ) → y ≡ n → IsGoodLinear n (pos 1) y (mode_of_exact exact)
 exact_good true n y e = omega (arith, ints, e)
@@ -58,7 +58,7 @@ ports-wide input is k (t ∷ ts) small =
     (ports-wide input is (k + 1) ts (All-tail (IsWithin 1048575) t ts small))
 
 module _ (m : Several) (is : IsAcceptedSeveral m) (graph : Graph) (serves : Serves m.constants graph) where
-  ranges : IsSeveral m
+  pub ranges : IsSeveral m
   ranges = accepted_ranges (Mcm m) is
 
   pub are_adders : AreAdders m.input graph.adders
@@ -101,7 +101,7 @@ module _ (m : Several) (is : IsAcceptedSeveral m) (graph : Graph) (serves : Serv
       let x : ℤ = now_at inputs t in
       let input : val (flow net.nodes inputs 0 (pos t)) m.input ≡ x =
       ap (λ w. val w m.input) (keeps.nodes.flow inputs 0 (pos t) (omega arith))
-      ∙ ap (λ u. val (input_at inputs 0 m.input.width u) m.input) (sym (now t)) in
+      ∙ ap (λ u. val (input_at inputs 0 m.input.width u) m.input) (sym (less-zero t)) in
       let value : shown_at inputs t k ≡ x *ℤ c =
       ap (λ os. output_words (multiple_ports m) (map (λ o. slice_flow net.nodes inputs o.from (pos t)) os) k) outputs_are
       ∙ right-at m.input net has.made m.constants has.right 0 k c got inputs (pos t) words
@@ -113,6 +113,9 @@ module _ (m : Several) (is : IsAcceptedSeveral m) (graph : Graph) (serves : Serv
     valid = has.keeps.valid;
     inputs = keeps.inputs;
     outputs = ap (map _) outputs_are ∙ has.ports;
+    delays =
+        let none : delay_count (with_input m.input).nodes ≡ 0 = refl in
+        passes-count 0 net.nodes (omega (arith, has.delays, stands.later.grown.delays, none));
     good = λ inputs t words within range. (exact_or_faithful exact, good-multiples exact inputs t words);
   }
 

@@ -1,24 +1,10 @@
 -- Membership in lists of numbers.
-use Rattle.std.proofs.Common.{◌≡◌, ◌≢◌, ◌⊎◌, inl, inr, ⊎_elim, ℕ, zero, suc, List, [], ◌∷◌, ◌++◌, get_or, All, Contains, refl, sym, subst, ◌∙◌, arith}
+use Rattle.std.proofs.Common.{◌≡◌, ◌≢◌, ◌⊎◌, inl, inr, ⊎_elim, ℕ, List, [], ◌∷◌, ◌++◌, get_or, All, Contains, sym, subst, ◌∙◌}
 use Rattle.std.proofs.lemmas.Grind.{get_or_default_zero}
 use Rattle.std.proofs.lemmas.Bool.{cases_eq}
 use Rattle.std.proofs.lemmas.List.Elements.{All-weaker, All-contains_itself, Contains-append_left, Contains-append_right, Contains-append_cases}
-
-pub here : (x : ℕ) (xs : List ℕ) → Contains (x ∷ xs) x
-here x xs = (0, omega arith, refl)
-
-pub there : (x y : ℕ) (xs : List ℕ) → Contains xs y → Contains (x ∷ xs) y
-there x y xs c = (suc c.0, omega (arith, c.1), c.2)
-
-pub of_cons : (x y : ℕ) (xs : List ℕ) → Contains (x ∷ xs) y → (x ≡ y) ⊎ Contains xs y
-of_cons x y xs (zero, lt, e) = inl e
-of_cons x y xs (suc k, lt, e) = inr (k, omega (arith, lt), e)
-
-pub of_nil : (y : ℕ) → Contains [] y → ⊥
-of_nil y c = omega (arith, c.1)
-
-pub of_one : (x y : ℕ) → Contains (x ∷ []) y → x ≡ y
-of_one x y c = ⊎_elim (λ (e : x ≡ y). e) (λ (k : Contains [] y). absurd (of_nil y k)) (of_cons x y [] c)
+pub use Rattle.opgen_csd.proofs.Members.{here, there, of_cons, of_nil}
+pub use Rattle.opgen_design.proofs.UseLaws.{one_contains as of_one}
 
 -- the number at an index
 pub read : (xs : List ℕ) (x : ℕ) → (c : Contains xs x) → get_or xs c.0 0 ≡ x

@@ -1,5 +1,5 @@
 -- The outputs of the constants, one after another.
-use Rattle.std.proofs.Common.{◌≡◌, ℕ, zero, suc, ◌+◌, ◌-◌, ◌<◌, Bool, List, [], ◌∷◌, ◌++◌, length, map, take, Some, append_assoc, refl, sym, ap, ◌∙◌, arith, codes, ◌≤◌}
+use Rattle.std.proofs.Common.{◌≡◌, ℕ, zero, suc, ◌+◌, ◌-◌, ◌<◌, Bool, List, [], ◌∷◌, ◌++◌, length, map, take, Some, append_assoc, refl, sym, ap, ◌∙◌, arith, codes}
 use Rattle.std.specs.Prelude.{ℤ, pos, negsuc, ◌*ℤ◌, slice_get, All}
 use Rattle.std.specs.Fmt.{decimal}
 use Rattle.std.proofs.Math.Seq.{take-length}
@@ -12,6 +12,7 @@ use Rattle.opgen_design.specs.Run.{AreWords}
 use Rattle.opgen_design.specs.Value.{word_at, cut, IsWidth}
 use Rattle.opgen_net.specs.declared.net.Net.{Net}
 use Rattle.opgen_net.specs.declared.net.Output.{Output}
+use Rattle.opgen_net.specs.Delays.{delay_count}
 use Rattle.opgen_net.specs.Flow.{Inputs, flow, slice_flow}
 use Rattle.opgen_net.specs.Valid.{IsValid, LiesWithin, slice_width, input_widths, widths}
 use Rattle.opgen_net.proofs.Appending.{valid-output}
@@ -23,14 +24,12 @@ use Rattle.opgen_kinds.specs.Several.{constant_format, numbered}
 use Rattle.opgen_ports.specs.Ranges.{IsWithin}
 use Rattle.opgen_net.specs.Placed.{Placed, whole}
 use Rattle.opgen_net.proofs.Later.{node_there, words-later}
+use Rattle.opgen_net.proofs.Standing.{whole-width}
 use Rattle.opgen_graph.specs.Placing.{IsNode, HasOddPart, HasInput, IsMultiple}
 use Rattle.opgen_graph.specs.Recipe.{Multiples, with_constant, with_output, with_outputs}
 use Rattle.opgen_graph.proofs.Kept.{Keeps, keeps-later, keeps-then, words-back, input_there, input-kept, node-kept, multiple-kept}
 use Rattle.opgen_graph.proofs.Products.{Ready, ready_nodes, constant-placed, constant-value}
 use Rattle.opgen_graph.proofs.Sums.{IsPlacedNode}
-
-whole-width : (bits place : ℕ) → 1 ≤ bits → slice_width (whole bits place) ≡ bits
-whole-width bits place some = omega (arith, some)
 
 abbrev pub shown : Output → List ℕ × ℕ
 shown o = (o.name, slice_width o.from)
@@ -97,6 +96,9 @@ module _ (input : Format) (k : ℕ) (b : Multiples) (t : ℤ) (odd : HasOddPart 
           nodes = record { widths = λ n h. refl; flow = λ inputs n time h. refl };
         }
 
+    pub next-delays : delay_count next.net.nodes ≡ delay_count b.net.nodes
+    next-delays = node-placed.later.grown.delays
+
     pub next-nodes : All (IsNode next.net) b.known
     next-nodes = All-weaker (IsNode b.net) (IsNode next.net) (node-kept b.net next.net next-keeps) b.known nodes
 
@@ -141,6 +143,7 @@ AreRight input net _ _ = ⊥
 
 pub record HasOutputs (input : Format) (b : Multiples) (k : ℕ) (ts : List ℤ) (net : Net) : Type 0 where
   pub keeps : Keeps b.net net
+  pub delays : delay_count net.nodes ≡ delay_count b.net.nodes
   pub made : List Output
   pub outputs : net.outputs ≡ b.net.outputs ++ made
   pub ports : map shown made ≡ map name_and_width (numbered k (map (constant_format input) ts))
@@ -151,6 +154,7 @@ pub all-outputs : (input : Format) (k : ℕ) (b : Multiples) (ts : List ℤ) →
     → All (HasWidth MAX_WIDTH) (numbered k (map (constant_format input) ts)) → HasOutputs input b k ts (with_outputs input k b ts)
 all-outputs input k b [] ready small odd wide = record {
   keeps = keeps-same b.net ready.valid;
+  delays = refl;
   made = [];
   outputs = sym (append-nil b.net.outputs);
   ports = refl;
@@ -174,6 +178,7 @@ all-outputs input k b (t ∷ ts) ready small odd wide =
     (All-tail (HasWidth MAX_WIDTH) port later wide) in
     record {
       keeps = keeps-then b.net next.net net keeps rest.keeps;
+      delays = rest.delays ∙ next-delays input k b t odd_t fits ready.valid (ready_nodes input b ready);
       made = o ∷ rest.made;
       outputs = rest.outputs
           ∙ ap (λ (os : List Output). (os ++ o ∷ []) ++ rest.made) (constant-outputs input.signed format.width b t)

@@ -7,7 +7,7 @@ use Rattle.std.specs.Ordering.{nat_cmp}
 use lib.Dec.{eqb}
 use Rattle.std.specs.List.{list_any}
 use Rattle.std.proofs.Math.Nat.{two-pow-succ}
-use Rattle.std.proofs.lemmas.Bool.{cases_lt, eqb-true, eqb-false}
+use Rattle.std.proofs.lemmas.Bool.{cases_lt, eqb-true, eqb-false, and_parts}
 use Rattle.std.proofs.lemmas.Bool.Decides.{nat_tests}
 use Rattle.std.proofs.lemmas.Map.Keys.{IsStrictlyIncreasing-dedup}
 use Rattle.std.proofs.lemmas.List.Kept.{Contains-from_dedup, Contains-dedup_nat}
@@ -25,10 +25,6 @@ use Rattle.opgen_graph.proofs.TargetLists.{parts_product, part_odd, part_most, s
 
 not_zero : (t : ℤ) → unsigned_abs t ≢ 0 → t ≢ pos 0
 not_zero t h e = h (ap unsigned_abs e)
-
-and_parts : (a b : Bool) → a && b ≡ true → (a ≡ true) × (b ≡ true)
-and_parts true b h = (refl, h)
-and_parts false b h = absurd (cc)
 
 or_cases : (a b : Bool) → (a || b) ≡ true → (P : Type 0) → (a ≡ true → P) → (b ≡ true → P) → P
 or_cases true b h P f g = f refl

@@ -1,5 +1,6 @@
 -- The set of the signed digits' partial sums.
 use Rattle.std.proofs.Common.{◌≡◌, ◌⊎◌, ◌↔◌, inl, inr, ⊎_elim, ℕ, zero, suc, ◌+◌, ◌%◌, ◌^◌, ◌≤◌, ◌<◌, List, [], ◌∷◌, ◌++◌, length, take, get_or, All, Contains, ℤ, pos, refl, sym, ap, subst, ◌∙◌, arith, add-one}
+use Rattle.std.specs.Prelude.{slice_index}
 use Rattle.std.specs.List.{dedup}
 use Rattle.std.specs.List.Sorted.{IsStrictlyIncreasing, IsPermutation, IsSorted}
 use Rattle.std.specs.Ordering.{nat_cmp}
@@ -20,6 +21,7 @@ use Rattle.opgen_graph.specs.Adders.{Comb}
 use Rattle.opgen_graph.specs.Reach.{IsBuiltFrom, IsMember, Reaches}
 use Rattle.opgen_graph.specs.SignedDigits.{IsTarget, IsPartialOf, IsDigitSet}
 use Rattle.opgen_graph.proofs.Members.{here, there, of_cons, of_nil, of_one, Within, all_of}
+use Rattle.opgen_graph.specs.Targets.{AreTargetsOf}
 
 -- ---- a number one step above a smaller one
 comb_of : (i y x : ℕ) → 1 ≤ i → (2 ^ i + y ≡ x) ⊎ (2 ^ i ≡ x + y) → Comb 1 y x
@@ -41,6 +43,14 @@ suc_climbs (x ∷ y ∷ ys) h =
 
 pub climbs : (xs : List ℕ) → IsStrictlyIncreasing xs → Climbs xs
 climbs xs h = suc_climbs xs (λ k lt. subst (λ n. get_or xs k 0 < get_or xs n 0) (add-one k) (h k (omega (arith, lt))))
+
+pub climbs_increasing : (xs : List ℕ) → Climbs xs → IsStrictlyIncreasing xs
+climbs_increasing [] h k lt = absurd (omega (arith, lt))
+climbs_increasing (x ∷ []) h k lt = absurd (omega (arith, lt))
+climbs_increasing (x ∷ y ∷ ys) h zero lt = h.0 y (here y ys)
+climbs_increasing (x ∷ y ∷ ys) h (suc k) lt =
+    let next : suc (k + 1) ≡ suc k + 1 = omega arith in
+    subst (λ n. slice_index (y ∷ ys) k < slice_index (x ∷ y ∷ ys) n) next (climbs_increasing (y ∷ ys) h.1 k (omega (arith, lt)))
 
 -- lists that climb and have the same members are the same
 pub same_climbs : (xs ys : List ℕ) → Climbs xs → Climbs ys → Within xs ys → Within ys xs → xs ≡ ys
@@ -167,3 +177,9 @@ digit_set targets set sorted n le covers perm up = record {
         λ o. Contains-dedup_nat sorted x (Contains-permutation set sorted x perm (known.1 o)),
       );
 }
+
+-- the numbers that a graph has to make are one list
+pub one_targets : (constants : List ℤ) (xs ys : List ℕ) → AreTargetsOf constants xs → AreTargetsOf constants ys → xs ≡ ys
+one_targets constants xs ys a b =
+    same_climbs xs ys (climbs xs a.increasing) (climbs ys b.increasing) (λ x c. (b.members x).1 ((a.members x).0 c))
+    (λ x c. (a.members x).1 ((b.members x).0 c))

@@ -1,9 +1,8 @@
 -- The nodes of an adder: its operands, their sum or difference, and the bits of that above the lowest.
 use Rattle.std.proofs.Common.{◌≡◌, ℕ, zero, suc, ◌+◌, ◌*◌, ◌^◌, ◌<◌, ◌≤◌, Bool, true, false, List, [], length, drop, Some, None, refl, sym, ap, ◌∙◌, subst, arith, ◌∷◌}
-use Rattle.std.specs.Prelude.{ℤ, pos, ◌*ℤ◌, All, IsTrue, slice_get, slice_index, option_and_then, nat_eq, nat_lt, if◌then◌else◌}
+use Rattle.std.specs.Prelude.{ℤ, pos, ◌*ℤ◌, All, IsTrue, slice_index, option_and_then, nat_eq, nat_lt, if◌then◌else◌}
 use Rattle.std.proofs.lemmas.Bool.{eq-eqb}
 use Rattle.std.proofs.lemmas.List.{length-drop, take_all}
-use Rattle.std.proofs.lemmas.Option.{slice_get-get_or}
 use Rattle.opgen_num.specs.declared.format.TheConstants.{MAX_WIDTH}
 use Rattle.opgen_num.specs.declared.format.Format.{Format}
 use Rattle.opgen_num.specs.Words.{val, nat}
@@ -12,8 +11,7 @@ use Rattle.opgen_design.specs.declared.expr.Op.TheVariants.{Plus, Minus}
 use Rattle.opgen_design.specs.Plain.{trees_of}
 use Rattle.opgen_design.specs.Run.{AreWords}
 use Rattle.opgen_design.specs.Tree.{name, chain, none, more}
-use Rattle.opgen_design.specs.Value.{Scope, IsWidth, as_width, joined, width, width_on}
-use Rattle.opgen_design.proofs.WidthLaws.{as_width-of}
+use Rattle.opgen_design.specs.Value.{Scope, IsWidth, joined, width, width_on}
 use Rattle.opgen_net.specs.declared.cell.Class.TheVariants.{Add}
 use Rattle.opgen_net.specs.declared.net.Net.{Net}
 use Rattle.opgen_net.specs.declared.node.Node.{Node}
@@ -24,13 +22,12 @@ use Rattle.opgen_net.specs.Cells.{is_sum}
 use Rattle.opgen_net.specs.Valid.{widths, input_widths, IsValid, FitsNodes}
 use Rattle.opgen_net.specs.WordRule.{IsThere, bits_from}
 use Rattle.opgen_net.proofs.Appending.{flow-append_last, width-append_last}
-use Rattle.opgen_net.proofs.FlowLaws.{index_within}
 use Rattle.opgen_net.proofs.FlowWidths.{flow-width}
 use Rattle.opgen_net.proofs.Grown.{grown-flow, grown-width}
 use Rattle.opgen_net.specs.Placed.{Placed, with_bits, difference_of}
 use Rattle.opgen_net.proofs.Later.{Later, later-same, later-then, later-node, words-later, node_there, bits-later}
 use Rattle.opgen_net.proofs.BitLists.{length-bits_from, bits_from-there, bits_from-flow}
-use Rattle.opgen_net.proofs.WordLaws.{word-has_bits, word-found_width}
+use Rattle.opgen_net.proofs.WordLaws.{word-has_bits, word-found_width, name-width}
 use Rattle.opgen_graph.specs.declared.forms.Form.{Form}
 use Rattle.opgen_graph.specs.declared.forms.Form.TheVariants.{A, B, C, D, E}
 use Rattle.opgen_graph.specs.declared.multiples.Multiple.{Multiple}
@@ -91,16 +88,11 @@ operand-has format zeros bits net m valid wide of inputs t words =
 -- sums
 
 module _ (ws : List ℕ) where
-  name-width : (n v : ℕ) → IsWidth v → slice_index ws n ≡ v → width ws [] (name n) ≡ Some v
-  name-width n v w h =
-      let there : slice_get ws n ≡ Some v = slice_get-get_or ws n 0 (index_within ws n 0 (omega (arith, h, w.0))) ∙ ap Some h in
-      ap (option_and_then as_width) there ∙ as_width-of v w
-
   pub pair-fits : (op : Op) (a b v : ℕ) → joined op v v ≡ (if nat_eq v v then Some v else None) → IsWidth v
       → slice_index ws a ≡ v → slice_index ws b ≡ v → FitsNodes ws v (chain op (trees_of (name a ∷ name b ∷ [])))
   pair-fits op a b v j w h g = record {
-    has_width = ap (option_and_then (λ u. width_on ws [] op u (more (name b) none))) (name-width a v w h)
-        ∙ ap (option_and_then (λ u. option_and_then (λ x. Some x) (joined op v u))) (name-width b v w g)
+    has_width = ap (option_and_then (λ u. width_on ws [] op u (more (name b) none))) (name-width ws a v w h)
+        ∙ ap (option_and_then (λ u. option_and_then (λ x. Some x) (joined op v u))) (name-width ws b v w g)
         ∙ ap (option_and_then (λ x. Some x)) j
         ∙ ap (λ (c : Bool). option_and_then (λ x. Some x) (if c then Some v else None)) (eq-eqb v v refl);
     nests = omega arith;

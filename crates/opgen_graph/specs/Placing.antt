@@ -1,6 +1,7 @@
 -- What the steps that build the net of several constants need: nodes that are exact multiples of the input, and sums narrow enough
 -- for a signal.
 use Rattle.std.specs.Prelude.{◌≡◌, ◌≢◌, ℕ, ◌+◌, ◌≤◌, ◌<◌, ℤ, pos, ◌*ℤ◌, unsigned_abs, List, [], ◌∷◌, map, slice_index, All, Contains}
+use Rattle.opgen_num.specs.declared.limits.TheConstants.{MAX_CONSTANT}
 use Rattle.opgen_num.specs.declared.format.TheConstants.{MAX_INPUT, MAX_WIDTH}
 use Rattle.opgen_num.specs.declared.format.Format.{Format}
 use Rattle.opgen_num.specs.Words.{val}
@@ -55,10 +56,10 @@ pub record AreAdders (input : Format) (adders : List Adder) : Type 0 where
   pub members : All IsWideMember (values adders)
   pub wired : IsWired (1 ∷ []) adders
 
--- a number of 1 to 1048575 whose odd part a multiple has
+-- a number from 1 to the greatest constant whose odd part a multiple has
 pub record IsPart (known : List Multiple) (part : ℕ) : Type 0 where
   pub some : 0 < part
-  pub small : part ≤ 1048575
+  pub small : part ≤ MAX_CONSTANT
   pub made : Contains (factors known) (odd_part part)
 
 -- the multiple by the odd part of a constant, unless that is 0

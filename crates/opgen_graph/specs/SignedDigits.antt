@@ -1,14 +1,14 @@
 -- The set of adders that the signed digits of the constants give.
 use Rattle.std.specs.Prelude.{◌≡◌, ◌↔◌, ℕ, ◌≤◌, ◌<◌, ◌%◌, ℤ, pos, List, All, Contains}
 use Rattle.std.specs.List.Sorted.{IsStrictlyIncreasing}
+use Rattle.opgen_num.specs.declared.limits.TheConstants.{MAX_SEARCHED_CONSTANT}
 use Rattle.opgen_csd.specs.Digits.{IsCanonical, value_of}
 use Rattle.opgen_csd.specs.Partials.{partials}
-use Rattle.opgen_graph.specs.declared.TheConstants.{MAX_TARGET}
 use Rattle.opgen_graph.specs.Reach.{Reaches}
 
 -- an odd number above 1, up to the greatest constant
 abbrev pub IsTarget : ℕ → Type 0
-IsTarget t = (t % 2 ≡ 1) × (1 < t) × (t ≤ MAX_TARGET)
+IsTarget t = (t % 2 ≡ 1) × (1 < t) × (t ≤ MAX_SEARCHED_CONSTANT)
 
 -- x is a partial sum of the signed digits of t
 abbrev pub IsPartialOf : (t x : ℕ) → Type 0

@@ -1,5 +1,6 @@
 //! Builds the output of each constant from the multiple of its odd part: shifted, and negated if the constant is negative.
 ghost use Rattle.std.specs.Prelude.{◌≡◌, ◌<◌, ℤ, pos, length, slice_index, get_or, unsigned_abs, All, Contains, IfOk, OnOk};
+ghost use Rattle.opgen_num.specs.declared.limits.TheConstants.{MAX_CONSTANT};
 ghost use Rattle.opgen_design.specs.Value.{IsWidth};
 ghost use Rattle.opgen_net.specs.Valid.{IsValid, widths};
 ghost use Rattle.opgen_kinds.specs.Several.{IsAcceptedSeveral};
@@ -63,7 +64,7 @@ pub fn constant_node(
     requires net { IsValid net.old }
     requires width { IsWidth width }
     requires nodes { All (IsNode net.old) known.now }
-    requires small { IsWithin 1048575 constant }
+    requires small { IsWithin MAX_CONSTANT constant }
     requires odd { HasOddPart known.now constant }
     ensures ok { OnOk result (net.new ≡ (with_constant signed width (multiples_in net.old known.now) constant).net) }
     ensures place { IfOk result (λ n. n ≡ (with_constant signed width (multiples_in net.old known.now) constant).place) }

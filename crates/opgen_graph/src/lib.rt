@@ -37,6 +37,3 @@ pub use net::{graph_net, input_net};
 pub use odd_parts::targets;
 pub use part_nodes::{parts, place_parts};
 pub use ranks::{Adder, Graph, reach};
-
-/// The greatest constant.
-pub const MAX_TARGET: u32 = 2047;

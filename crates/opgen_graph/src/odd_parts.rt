@@ -1,5 +1,6 @@
 //! The odd parts above 1 of the constants: the numbers that an adder graph has to make.
 ghost use Rattle.std.specs.Prelude.{◌↔◌, ℕ, ◌≤◌, length, All, Contains, IfOk, IfSome, IfNone};
+ghost use Rattle.opgen_num.specs.declared.limits.TheConstants.{MAX_SEARCHED_CONSTANT};
 ghost use Rattle.opgen_ports.specs.OddParts.{odd_part_count};
 ghost use Rattle.opgen_ports.specs.Ranges.{IsWithin};
 ghost use Rattle.opgen_graph.specs.SignedDigits.{IsTarget};
@@ -10,7 +11,7 @@ use std::alloc::{AllocError, Global};
 
 // The odd part of a constant, without its sign, if it is above 1.
 fn target(constant: i64) -> Option<u32>
-    requires { IsWithin 2047 constant }
+    requires { IsWithin MAX_SEARCHED_CONSTANT constant }
     ensures some { IfSome result (HasTarget constant) }
     ensures none { IfNone result ((x : ℕ) → HasTarget constant x → ⊥) }
 {
@@ -24,7 +25,7 @@ fn target(constant: i64) -> Option<u32>
 
 // The odd parts above 1 of the constants, in their order.
 fn odd_parts(alloc: Global, constants: &[i64]) -> Result<Vec<u32>, AllocError>
-    requires { All (IsWithin 2047) constants.now }
+    requires { All (IsWithin MAX_SEARCHED_CONSTANT) constants.now }
     ensures parts { IfOk result (λ found. (x : ℕ) → Contains found.items x ↔ IsTargetOf constants.now x) }
     ensures few { IfOk result (λ found. length found.items ≤ length constants.now) }
 {
@@ -40,7 +41,7 @@ fn odd_parts(alloc: Global, constants: &[i64]) -> Result<Vec<u32>, AllocError>
 /// The numbers that an adder graph has to make for some constants: the odd parts above 1 of those
 /// that are not 0, without their signs, increasing, each once.
 pub fn targets(alloc: Global, constants: &[i64]) -> Result<Vec<u32>, Memory>
-    requires { All (IsWithin 2047) constants.now }
+    requires { All (IsWithin MAX_SEARCHED_CONSTANT) constants.now }
     ensures targets { IfOk result (λ found. AreTargetsOf constants.now found.items) }
     ensures each { IfOk result (λ found. All IsTarget found.items) }
     ensures few { IfOk result (λ found. length found.items ≤ odd_part_count constants.now) }

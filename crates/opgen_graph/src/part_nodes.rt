@@ -1,5 +1,6 @@
 //! The odd parts of some numbers, and a node of the net for each of them.
 ghost use Rattle.std.specs.Prelude.{◌≡◌, ◌↔◌, ℕ, ◌≤◌, pos, [], All, Contains, IfOk, IfSome, IfNone};
+ghost use Rattle.opgen_num.specs.declared.limits.TheConstants.{MAX_CONSTANT};
 ghost use Rattle.opgen_design.specs.Value.{IsWidth};
 ghost use Rattle.opgen_net.specs.Valid.{IsValid};
 ghost use Rattle.opgen_ports.specs.Ranges.{IsInput, IsWithin};
@@ -18,7 +19,7 @@ use std::alloc::{AllocError, Global};
 
 // The odd part of a number, its sign aside, unless the number is 0.
 fn part(number: i64) -> Option<u32>
-    requires { IsWithin 1048575 number }
+    requires { IsWithin MAX_CONSTANT number }
     ensures some { IfSome result (λ x. HasPart x number) }
     ensures none { IfNone result (number ≡ pos 0) }
 {
@@ -31,7 +32,7 @@ fn part(number: i64) -> Option<u32>
 
 // The odd parts of the numbers that are not 0, in their order.
 fn parts_in_order(alloc: Global, numbers: &[i64]) -> Result<Vec<u32>, AllocError>
-    requires { All (IsWithin 1048575) numbers.now }
+    requires { All (IsWithin MAX_CONSTANT) numbers.now }
     ensures { IfOk result (λ found. (x : ℕ) → Contains found.items x ↔ IsPartOf numbers.now x) }
 {
     let mut found = Vec::new(alloc);
@@ -45,7 +46,7 @@ fn parts_in_order(alloc: Global, numbers: &[i64]) -> Result<Vec<u32>, AllocError
 
 /// The odd parts of numbers, their signs aside, increasing, each once. That of a power of two is 1.
 pub fn parts(alloc: Global, numbers: &[i64]) -> Result<Vec<u32>, Memory>
-    requires { All (IsWithin 1048575) numbers.now }
+    requires { All (IsWithin MAX_CONSTANT) numbers.now }
     ensures { IfOk result (λ found. found.items ≡ parts_of numbers.now) }
 {
     let mut found = parts_in_order(alloc, numbers)?;
@@ -57,7 +58,7 @@ pub fn parts(alloc: Global, numbers: &[i64]) -> Result<Vec<u32>, Memory>
 // The width that the input times a number needs.
 fn width_of_part(input: Format, part: u32) -> u32
     requires input { IsInput input }
-    requires small { part ≤ 1048575 }
+    requires small { part ≤ MAX_CONSTANT }
     ensures value { result ≡ part_width input part }
     ensures wide { IsWidth result }
 {

@@ -4,3 +4,4 @@ pub mod Sums
 pub mod Columns
 pub mod Standing
 pub mod Kept
+pub mod Heaps

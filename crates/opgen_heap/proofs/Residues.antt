@@ -56,3 +56,8 @@ residue-sum x z m h =
     let e : (pos x +ℤ z) +ℤ pos (l.k * m) ≡ pos (x + l.n) = omega (arith, ints, l.is) in
     residue-is (pos x +ℤ z) m l.k (x + l.n) h e
     ∙ sym (ap (λ r. (x + r) % m) (residue-is z m l.k l.n h l.is) ∙ add-mod-mod x l.n m)
+
+pub residue-below : (z : ℤ) (m : ℕ) → 0 < m → residue z m < m
+residue-below z m some =
+    let same : z +ℤ pos 0 ≡ z = omega (arith, ints) in
+    omega (arith, residue-add z 0 m some, ap (λ y. residue y m) same)

@@ -6,6 +6,7 @@ use Rattle.std.proofs.lemmas.Nat.{pow-add}
 use Rattle.std.proofs.lemmas.Int.{ints}
 use Rattle.std.proofs.lemmas.Bool.{le-leb, lt-leb}
 use Rattle.std.proofs.lemmas.List.{length-drop, length-take-le, take_all}
+use Rattle.std.proofs.Math.Bool.{and-false, and-true}
 use Rattle.opgen_num.specs.Words.{nat, highest}
 use Rattle.opgen_num.proofs.Cuts.{nat-append, nat-parts}
 use Rattle.opgen_num.proofs.Integers.{product-difference}
@@ -45,14 +46,6 @@ value_of width signed zero x = pos 0
 value_of width signed (suc k) x =
     let c = chunk_at width signed k in
     value_of width signed k x +ℤ (digit_of c (chunk_word c x) *ℤ pos (2 ^ c.low))
-
-and-false : (b : Bool) → (b && false) ≡ false
-and-false true = refl
-and-false false = refl
-
-and-true : (b : Bool) → (b && true) ≡ b
-and-true true = refl
-and-true false = refl
 
 module _ (width : ℕ) (signed : Bool) (x : List Bool) (long : length x ≡ width) where
   -- a chunk that is not the last

@@ -70,7 +70,7 @@ module _ (old : Terms) (valid : IsValid old.net) (input : ℕ) (c : Chunk) (with
         let address = with_word old.net.nodes (bits_from input c.low c.width) in
         let one : Net = record old.net { nodes = address.nodes } in
         grown-then old.net one (with_rows_in (shape_of ns) input c ns old).net
-        (word-grown old.net (bits_from input c.low c.width)) (grown-more one (Table address.place (rows_in (shape_of ns) ns) ∷ []))
+        (word-grown old.net (bits_from input c.low c.width)) (grown-more one (Table address.place (rows_in (shape_of ns) ns) ∷ []) refl)
 
     rows-more : HasTermsMore old (with_rows_in (shape_of ns) input c ns old)
     rows-more =

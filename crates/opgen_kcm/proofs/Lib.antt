@@ -5,3 +5,4 @@ pub mod Entries
 pub mod Shapes
 pub mod Kept
 pub mod Narrow
+pub mod Tables

@@ -11,7 +11,7 @@ use Rattle.opgen_num.specs.declared.format.TheConstants.{MAX_WIDTH}
 use Rattle.opgen_num.specs.Formats.{digit_count}
 use Rattle.opgen_num.specs.Words.{nat, word}
 use Rattle.opgen_num.specs.WordLaws.{length-word, nat-word}
-use Rattle.opgen_num.proofs.RangeWidth.{count-holds, count-least}
+use Rattle.opgen_num.proofs.RangeWidth.{count-holds, count-least, digits-some}
 use Rattle.opgen_net.specs.Valid.{FitsTable}
 use Rattle.opgen_kcm.specs.Entries.{greatest_of, divides_all, zeros_within, zeros_of, shape_of, rows_in}
 
@@ -78,13 +78,6 @@ quotient-some n m h d = by (n / m) (div-add-mod' n m)
     by : (q : ℕ) → q * m + n % m ≡ n → 1 ≤ q
     by zero e = absurd (omega (arith, e, h, d))
     by (suc q) e = omega arith
-
-pub digits-some : (n : ℕ) → 1 ≤ n → 1 ≤ digit_count n
-digits-some n h = by (digit_count n) (count-holds n)
-  where
-    by : (d : ℕ) → n < 2 ^ d → 1 ≤ d
-    by zero l = absurd (omega (arith, l, h))
-    by (suc d) l = omega arith
 
 module _ (ns : List ℕ) where
   -- each row has room in the width of the rows

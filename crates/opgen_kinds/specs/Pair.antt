@@ -1,7 +1,8 @@
 -- Quotients of two inputs, both signed or none, with their remainders where they are exact.
 use Rattle.std.proofs.Common.{arith}
 use Rattle.std.proofs.lemmas.Int.{ints}
-use Rattle.std.specs.Prelude.{ℕ, ◌≡◌, refl, ◌≤ℤ◌, ◌<◌, Bool, false, Some, None, ◌+◌, ℤ, pos, negsuc, neg_ℤ, unsigned_abs, List, ◌+ℤ◌, ◌*ℤ◌, ◌≢◌, true, codes, ◌-ℤ◌, []}
+use Rattle.std.specs.Prelude.{ℕ, ◌≡◌, refl, ◌≤ℤ◌, ◌<◌, Bool, IsTrue, false, Some, None, ◌+◌, ℤ, pos, negsuc, neg_ℤ, unsigned_abs, List, ◌+ℤ◌, ◌*ℤ◌, ◌≢◌, true, codes, ◌-ℤ◌, [], Option}
+use Rattle.opgen_ports.specs.declared.TheConstants.{MAX_SHIFT}
 use Rattle.opgen_num.specs.declared.format.Format.{Format}
 use Rattle.opgen_num.specs.declared.format.Ratio.{Ratio}
 use Rattle.opgen_num.specs.declared.mode.Mode.TheVariants.{Faithful}
@@ -11,12 +12,17 @@ use Rattle.opgen_ports.specs.Acceptance.{Acceptance}
 use Rattle.opgen_ports.specs.Accepted.{IsAcceptable}
 use Rattle.opgen_ports.specs.Good.{IsGoodRatio}
 use Rattle.opgen_ports.specs.In128.{IsIn128, IsRatioIn128}
-use Rattle.opgen_ports.specs.Modes.{is_exact, IsExactOrFaithful}
+use Rattle.opgen_ports.specs.Modes.{is_exact, mode_of_exact, IsExactOrFaithful}
 use Rattle.opgen_ports.specs.Meaning.{Meaning}
-use Rattle.opgen_ports.specs.Ports.{port, with_rest, two_inputs}
+use Rattle.opgen_ports.specs.Ports.{port, with_rest, two_inputs, Recent}
 use Rattle.opgen_ports.specs.Ranges.{IsNear, IsInput}
+use Rattle.opgen_ports.specs.Recipes.{is_restoring}
 use Rattle.opgen_ports.specs.Reaches.{places_up, up}
 use Rattle.opgen_ports.specs.Spans.{IsOf}
+
+-- no net is built yet of quotients without restoring
+abbrev pub IsBuiltPair : Pair → Type 0
+IsBuiltPair p = IsTrue (is_restoring p.recurrence)
 
 pub record IsPair (p : Pair) : Type 0 where
   pub a : IsInput p.a
@@ -25,6 +31,7 @@ pub record IsPair (p : Pair) : Type 0 where
   pub a_lsb : IsNear p.a.lsb
   pub b_lsb : IsNear p.b.lsb
   pub out_lsb : IsNear p.out_lsb
+  pub built : IsBuiltPair p
 
 -- the power of two that brings the exact value into units of the quotient's last place
 abbrev pub pair_shift : Pair → ℤ
@@ -62,6 +69,11 @@ dividend p a = a *ℤ pos (up (pair_shift p))
 abbrev pub exact_quotient : Pair → (a b : ℤ) → Ratio
 exact_quotient p a b = over (dividend p a) b
 
+-- the exact value of the only output of a faithful quotient; an exact one has its remainder besides
+abbrev pub quotient_value : (exact : Bool) → Pair → Option ((inputs : (port : ℕ) → Recent) → Ratio)
+quotient_value true p = None
+quotient_value false p = Some (λ inputs. exact_quotient p (inputs 0 0) (inputs 1 0))
+
 -- q is n / b rounded towards 0, and r is the remainder: the equation holds, the remainder is smaller than the divisor, and it is
 -- 0 or has the sign of the dividend (ISO/IEC 9899:2018, 6.5.5)
 pub record IsTruncated (n b q r : ℤ) : Type 0 where
@@ -91,7 +103,7 @@ pair_meaning p = record {
   outputs = quotient_ports p.exact p;
   divisor = Some 1;
   memory = 0;
-  value = None;
+  value = quotient_value p.exact p;
   IsGood = λ mode inputs outputs. IsExactOrFaithful mode × IsGoodQuotient (is_exact mode) p (inputs 0 0) (inputs 1 0) (outputs 0) (outputs 1);
 }
 
@@ -103,11 +115,11 @@ pair_acceptance p = record {
   given_names = [];
   shift = pair_shift p;
   least_shift = pos 0;
-  most_shift = λ version. pos 48;
+  most_shift = λ version. MAX_SHIFT;
   inexact = None;
   need = Some (quotient_format p).width;
   HasRoom = Unit {0};
-  own_mark = Some p.exact;
+  own_mark = Some (mode_of_exact p.exact);
   IsExactIn128 = λ inputs. IsRatioIn128 (exact_quotient p (inputs 0 0) (inputs 1 0)) × IsIn128 (dividend p (inputs 0 0));
   FormatsHold = QuotientsHold p × RemaindersHold p;
   has_graph = false;

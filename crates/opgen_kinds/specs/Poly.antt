@@ -1,5 +1,6 @@
 -- Polynomials of an unsigned input below 1.
-use Rattle.std.specs.Prelude.{ℕ, ◌≡◌, ◌≢◌, ◌≤◌, ◌≤ℤ◌, false, All, Some, None, ◌+◌, ◌*◌, ◌^◌, ℤ, pos, neg_ℤ, unsigned_abs, length, drop, ◌-◌, List, [], ◌∷◌, ◌+ℤ◌, ◌*ℤ◌, negsuc, codes}
+use Rattle.std.specs.Prelude.{ℕ, ◌≡◌, ◌≢◌, ◌≤◌, ◌≤ℤ◌, IsTrue, false, All, Some, None, ◌+◌, ◌*◌, ◌^◌, ℤ, pos, neg_ℤ, unsigned_abs, length, drop, ◌-◌, List, [], ◌∷◌, ◌+ℤ◌, ◌*ℤ◌, negsuc, codes}
+use Rattle.opgen_num.specs.declared.limits.TheConstants.{MAX_DENOMINATOR, MAX_NUMERATOR}
 use Rattle.opgen_num.specs.declared.format.Format.{Format}
 use Rattle.opgen_num.specs.declared.format.Ratio.{Ratio}
 use Rattle.opgen_num.specs.Formats.{range_width, is_negative}
@@ -13,6 +14,11 @@ use Rattle.opgen_ports.specs.Modes.{IsExactOrFaithful}
 use Rattle.opgen_ports.specs.Meaning.{Meaning}
 use Rattle.opgen_ports.specs.Ports.{port, one_input}
 use Rattle.opgen_ports.specs.Ranges.{IsInput, IsWithin}
+use Rattle.opgen_ports.specs.Recipes.{is_dadda}
+
+-- no net of polynomials is built yet of larger counters or of rows
+abbrev pub IsBuiltPoly : Polynomial → Type 0
+IsBuiltPoly p = IsTrue (is_dadda p.compressor)
 
 -- the input is below 1
 pub record IsPoly (p : Polynomial) : Type 0 where
@@ -23,9 +29,10 @@ pub record IsPoly (p : Polynomial) : Type 0 where
   pub out_lsb : (negsuc 15 ≤ℤ p.out_lsb) × (p.out_lsb ≤ℤ pos 0)
   pub some : 2 ≤ length p.coefs
   pub few : length p.coefs ≤ 5
-  pub coefs : All (IsWithin (2 ^ 30)) p.coefs
+  pub coefs : All (IsWithin MAX_NUMERATOR) p.coefs
   pub positive : pos 1 ≤ℤ p.den
-  pub small : p.den ≤ℤ pos (2 ^ 30)
+  pub small : p.den ≤ℤ MAX_DENOMINATOR
+  pub built : IsBuiltPoly p
 
 -- the least format that holds the least and the greatest result of a polynomial
 abbrev pub poly_format : Polynomial → Format

@@ -1,6 +1,7 @@
 -- One input times several constants.
 use Rattle.std.specs.Fmt.{decimal}
 use Rattle.std.specs.Prelude.{ℕ, ◌≡◌, ◌≤◌, ◌<◌, false, IsTrue, All, Some, None, ◌+◌, ℤ, pos, length, List, [], ◌∷◌, ◌*ℤ◌, map, true, slice_get, codes, ◌++◌}
+use Rattle.opgen_num.specs.declared.limits.TheConstants.{MAX_CONSTANT, MAX_SEARCHED_CONSTANT}
 use Rattle.opgen_num.specs.declared.format.Format.{Format}
 use Rattle.opgen_num.specs.declared.format.Ratio.{Ratio}
 use Rattle.opgen_num.specs.declared.mode.Mode.{Mode}
@@ -13,22 +14,28 @@ use Rattle.opgen_ports.specs.In128.{IsRatioIn128}
 use Rattle.opgen_ports.specs.Modes.{IsExactOrFaithful}
 use Rattle.opgen_ports.specs.Meaning.{Meaning}
 use Rattle.opgen_ports.specs.Ranges.{AreNear, IsInput, IsWithin}
+use Rattle.opgen_ports.specs.Recipes.{is_third}
 use Rattle.opgen_ports.specs.Ports.{port, covering, one_input}
 use Rattle.opgen_ports.specs.Reaches.{reach_over}
 use Rattle.opgen_ports.specs.Spans.{IsOf}
 
 -- what the search for the fewest adders takes
 pub record IsSearchedFor (m : Several) : Type 0 where
-  pub constants : All (IsWithin 2047) m.constants
+  pub constants : All (IsWithin MAX_SEARCHED_CONSTANT) m.constants
   pub extra : m.extra ≤ 2
+
+-- no net is built yet of several constants as in version 4
+abbrev pub IsBuiltSeveral : Several → Type 0
+IsBuiltSeveral m = IsTrue (is_third m.recipe)
 
 pub record IsSeveral (m : Several) : Type 0 where
   pub input : IsInput m.input
   pub some : 1 ≤ length m.constants
   pub few : length m.constants ≤ 8
-  pub constants : All (IsWithin 1048575) m.constants
+  pub constants : All (IsWithin MAX_CONSTANT) m.constants
   pub searched : IsTrue m.searched → IsSearchedFor m
   pub rest : m.searched ≡ false → m.extra ≡ 0
+  pub built : IsBuiltSeveral m
 
 -- the format of an input times a constant
 abbrev pub constant_format : Format → ℤ → Format

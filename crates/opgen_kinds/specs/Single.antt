@@ -1,6 +1,7 @@
 -- Square roots of an unsigned input, with their remainders where they are exact.
 use Rattle.std.specs.Int.{div_ceil}
 use Rattle.std.specs.Prelude.{ℕ, ◌≡◌, ◌≤◌, Bool, false, Some, None, ◌+◌, ◌*◌, ℤ, pos, unsigned_abs, List, ◌*ℤ◌, true, codes, ◌-ℤ◌, []}
+use Rattle.opgen_ports.specs.declared.TheConstants.{MAX_SHIFT}
 use Rattle.opgen_num.specs.declared.format.Format.{Format}
 use Rattle.opgen_num.specs.Rounding.{IsGoodRoot, IsRoot}
 use Rattle.opgen_kinds.specs.declared.single.Single.{Single}
@@ -9,7 +10,7 @@ use Rattle.opgen_ports.specs.Acceptance.{Acceptance}
 use Rattle.opgen_ports.specs.Accepted.{IsAcceptedIn, IsAcceptable}
 use Rattle.opgen_ports.specs.In128.{IsIn128}
 use Rattle.opgen_ports.specs.Limits.{most_signal}
-use Rattle.opgen_ports.specs.Modes.{is_exact, IsExactOrFaithful}
+use Rattle.opgen_ports.specs.Modes.{is_exact, mode_of_exact, IsExactOrFaithful}
 use Rattle.opgen_ports.specs.Meaning.{Meaning}
 use Rattle.opgen_ports.specs.Ports.{port, unsigned, with_rest, one_input}
 use Rattle.opgen_ports.specs.Ranges.{IsNear, IsInput}
@@ -73,11 +74,11 @@ single_acceptance r = record {
   given_names = [];
   shift = root_shift r;
   least_shift = pos 0;
-  most_shift = λ version. pos 48;
+  most_shift = λ version. MAX_SHIFT;
   inexact = None;
   need = None;
   HasRoom = Unit {0};
-  own_mark = Some r.exact;
+  own_mark = Some (mode_of_exact r.exact);
   IsExactIn128 = λ inputs. IsIn128 (pos (square r (inputs 0 0)));
   FormatsHold = RootsHold r;
   has_graph = false;

@@ -1,5 +1,6 @@
 -- Quotients of an unsigned input by a small constant, with their remainders where they are exact.
 use Rattle.std.specs.Prelude.{ℕ, ◌≡◌, ◌≢◌, ◌≤◌, [], ◌∷◌, Bool, false, Some, None, ℤ, pos, unsigned_abs, ◌-◌, List, true, codes}
+use Rattle.opgen_num.specs.declared.limits.TheConstants.{MAX_DIVISOR}
 use Rattle.opgen_num.specs.declared.format.Format.{Format}
 use Rattle.opgen_num.specs.declared.format.Ratio.{Ratio}
 use Rattle.opgen_num.specs.declared.mode.Mode.TheVariants.{Faithful}
@@ -11,7 +12,7 @@ use Rattle.opgen_ports.specs.Acceptance.{Acceptance}
 use Rattle.opgen_ports.specs.Accepted.{IsAcceptable}
 use Rattle.opgen_ports.specs.Good.{IsGoodRatio}
 use Rattle.opgen_ports.specs.In128.{IsRatioIn128}
-use Rattle.opgen_ports.specs.Modes.{is_exact, IsExactOrFaithful}
+use Rattle.opgen_ports.specs.Modes.{is_exact, mode_of_exact, IsExactOrFaithful}
 use Rattle.opgen_ports.specs.Meaning.{Meaning}
 use Rattle.opgen_ports.specs.Ranges.{AreNear, IsInput}
 use Rattle.opgen_ports.specs.Ports.{port, unsigned, with_rest, one_input}
@@ -21,7 +22,7 @@ pub record IsSmallDiv (c : SmallDiv) : Type 0 where
   pub input : IsInput c.input
   pub unsigned : c.input.signed ≡ false
   pub least : 2 ≤ c.divisor
-  pub most : c.divisor ≤ 32
+  pub most : c.divisor ≤ MAX_DIVISOR
 
 -- a quotient by a small divisor has the format of the input, and the remainder holds the greatest one
 abbrev pub small_quotient_format : SmallDiv → Format
@@ -71,7 +72,7 @@ small_acceptance c = record {
   inexact = None;
   need = None;
   HasRoom = Unit {0};
-  own_mark = Some c.exact;
+  own_mark = Some (mode_of_exact c.exact);
   IsExactIn128 = λ inputs. IsRatioIn128 (exact_small c (inputs 0 0));
   FormatsHold = SmallQuotientsHold c;
   has_graph = false;

@@ -1,7 +1,9 @@
 -- Sums of the last inputs, each times a constant: multiples of one input, and filters of finite response.
 use Rattle.std.specs.Int.{div_ceil}
 use Rattle.std.specs.List.{position_from}
-use Rattle.std.specs.Prelude.{ℕ, ◌≡◌, ◌≤◌, ◌≤ℤ◌, Bool, false, All, Option, Some, None, ◌+◌, ◌*◌, ◌^◌, ◌<◌, ℤ, pos, neg_ℤ, unsigned_abs, length, ◌-◌, List, [], ◌∷◌, ◌*ℤ◌, codes, ◌==◌, if◌then◌else◌, not, ◌-ℤ◌, count_by}
+use Rattle.std.specs.Prelude.{ℕ, ◌≡◌, ◌≤◌, ◌≤ℤ◌, Bool, IsTrue, false, All, Option, Some, None, ◌+◌, ◌*◌, ◌^◌, ◌<◌, ℤ, pos, neg_ℤ, unsigned_abs, length, ◌-◌, List, [], ◌∷◌, ◌*ℤ◌, codes, ◌==◌, if◌then◌else◌, not, ◌-ℤ◌, count_by}
+use Rattle.opgen_num.specs.declared.limits.TheConstants.{MAX_DENOMINATOR, MAX_NUMERATOR, MAX_TAPS}
+use Rattle.opgen_ports.specs.declared.TheConstants.{MAX_SHIFT}
 use Rattle.opgen_num.specs.declared.format.Format.{Format}
 use Rattle.opgen_num.specs.declared.format.Ratio.{Ratio}
 use Rattle.opgen_num.specs.declared.mode.Mode.TheVariants.{Faithful}
@@ -13,19 +15,26 @@ use Rattle.opgen_ports.specs.Accepted.{IsAcceptable}
 use Rattle.opgen_ports.specs.Good.{IsGoodRatio}
 use Rattle.opgen_ports.specs.In128.{IsRatioIn128}
 use Rattle.opgen_ports.specs.Meaning.{Meaning}
+use Rattle.opgen_ports.specs.Modes.{IsExactOrFaithful}
+use Rattle.opgen_ports.specs.Recipes.{has_counters, is_of_bits}
 use Rattle.opgen_ports.specs.Ranges.{AreNear, IsPower, IsInput, IsWithin}
 use Rattle.opgen_ports.specs.Ports.{port, covering, one_input, Recent, weighted}
 use Rattle.opgen_ports.specs.Reaches.{reach_over, in_places, width_of, places_up, up, down, is_whole_at}
 use Rattle.opgen_ports.specs.Spans.{IsOf, Spans}
+
+-- no net is built yet of sums that are rounded down or to the nearest, of rows, or for tables of other than six inputs
+abbrev pub IsBuiltSum : Sum → Type 0
+IsBuiltSum s = IsExactOrFaithful s.mode × IsTrue (is_of_bits s.compressor) × (s.lut ≡ 6)
 
 pub record IsSum (most : ℕ) (s : Sum) : Type 0 where
   pub input : IsInput s.input
   pub out_lsb : IsPower s.out_lsb
   pub some : 1 ≤ length s.coefs
   pub few : length s.coefs ≤ most
-  pub coefs : All (IsWithin (2 ^ 30)) s.coefs
+  pub coefs : All (IsWithin MAX_NUMERATOR) s.coefs
   pub positive : pos 1 ≤ℤ s.den
-  pub small : s.den ≤ℤ pos (2 ^ 30)
+  pub small : s.den ≤ℤ MAX_DENOMINATOR
+  pub built : IsBuiltSum s
 
 -- the power of two that brings the exact value into units of the output's last place
 abbrev pub sum_shift : Sum → ℤ
@@ -33,7 +42,7 @@ sum_shift s = s.input.lsb -ℤ s.out_lsb
 
 -- the greatest shift of a sum
 abbrev pub most_sum_shift : (version : ℕ) → ℤ
-most_sum_shift version = if version == 1 then pos 48 else pos 32
+most_sum_shift version = if version == 1 then MAX_SHIFT else pos 32
 
 -- a coefficient is whole in units of the output's last place
 abbrev pub is_whole : Sum → ℤ → Bool
@@ -89,7 +98,7 @@ exact_sum s x = weighted_value s.coefs s.den (sum_shift s) x
 
 -- the format of the output holds every exact value, rounded down or up
 abbrev pub SumsHold : Sum → Type 0
-SumsHold s = IsSum 256 s → (x : Recent) → ((ago : ℕ) → IsOf s.input (x ago))
+SumsHold s = IsSum MAX_TAPS s → (x : Recent) → ((ago : ℕ) → IsOf s.input (x ago))
     → (y : ℤ) → IsGoodRatio Faithful (exact_sum s x) y → IsOf (sum_format s) y
 
 -- what a sum means
@@ -106,16 +115,16 @@ sum_meaning s = record {
 -- which sums are accepted, of so many coefficients at most
 abbrev pub sum_acceptance : (most : ℕ) → Sum → Acceptance
 sum_acceptance most s = record {
-  IsIn = λ version. (version ≡ 1 → s.counters ≡ false) × AreNear version (s.input.lsb ∷ s.out_lsb ∷ []);
+  IsIn = λ version. (version ≡ 1 → has_counters s.compressor ≡ false) × AreNear version (s.input.lsb ∷ s.out_lsb ∷ []);
   IsRanged = IsSum most s;
   given_names = [];
   shift = sum_shift s;
-  least_shift = neg_ℤ (pos 48);
+  least_shift = neg_ℤ MAX_SHIFT;
   most_shift = most_sum_shift;
   inexact = first_inexact s;
   need = Some (sum_need s);
   HasRoom = HasSumRoom s;
-  own_mark = Some s.exact;
+  own_mark = Some s.mode;
   IsExactIn128 = λ inputs. IsRatioIn128 (exact_sum s (inputs 0));
   FormatsHold = SumsHold s;
   has_graph = false;
@@ -125,7 +134,7 @@ abbrev pub scale_acceptance : Sum → Acceptance
 scale_acceptance s = sum_acceptance 1 s
 
 abbrev pub fir_acceptance : Sum → Acceptance
-fir_acceptance s = sum_acceptance 256 s
+fir_acceptance s = sum_acceptance MAX_TAPS s
 
 -- A sum of one coefficient is accepted as a filter where it is as a multiple of its input.
 abbrev pub IsAcceptedSum : Sum → Type 0
@@ -133,7 +142,7 @@ IsAcceptedSum s = IsAcceptable (sum_meaning s) (fir_acceptance s)
 
 -- the exact values of a sum, over all inputs before the last cycle and in it
 abbrev pub SumsReach : Type 0
-SumsReach = (s : Sum) → IsSum 256 s → Spans Recent (λ x. (ago : ℕ) → IsOf s.input (x ago)) (exact_sum s) (sum_places s)
+SumsReach = (s : Sum) → IsSum MAX_TAPS s → Spans Recent (λ x. (ago : ℕ) → IsOf s.input (x ago)) (exact_sum s) (sum_places s)
 
 -- A table of a sum has the numbers of some bits of its input, times one coefficient, in units of the output's last place with the
 -- guard bits below it: a numerator of 122 bits, since a coefficient has 30, the input and a shift up have 80, and there are 12

@@ -1,7 +1,11 @@
 -- Filters of whole coefficients in transposed form.
 use Rattle.std.specs.Prelude.{◌≡◌, ◌≢◌, ◌≤◌, ◌<◌, ◌+◌, ◌-◌, All, None, Some, false, true, neg_ℤ, pos, length, [], ◌∷◌, codes, IsTrue}
+use Rattle.opgen_num.specs.declared.limits.TheConstants.{MAX_CONSTANT, MAX_SEARCHED_CONSTANT, MAX_SEARCHED_TAPS, MAX_TAPS}
+use Rattle.opgen_ports.specs.declared.TheConstants.{MAX_SHIFT}
 use Rattle.opgen_num.specs.declared.format.Format.{Format}
 use Rattle.opgen_num.specs.declared.format.Ratio.{Ratio}
+use Rattle.opgen_num.specs.declared.mode.Mode.TheVariants.{Faithful}
+use Rattle.opgen_ports.specs.declared.recipes.Compressor.TheVariants.{Dadda}
 use Rattle.opgen_kinds.specs.declared.sum.Sum.{Sum}
 use Rattle.opgen_kinds.specs.declared.taps.Taps.{Taps}
 use Rattle.opgen_ports.specs.Acceptance.{Acceptance}
@@ -11,28 +15,35 @@ use Rattle.opgen_ports.specs.Ranges.{AreNear, IsPower, IsInput, IsWithin}
 use Rattle.opgen_ports.specs.Good.{IsGoodRatio}
 use Rattle.opgen_ports.specs.In128.{IsRatioIn128}
 use Rattle.opgen_ports.specs.Meaning.{Meaning}
+use Rattle.opgen_ports.specs.Modes.{is_faithful}
 use Rattle.opgen_ports.specs.OddParts.{odd_part_count}
 use Rattle.opgen_ports.specs.Ports.{port, one_input, Recent}
+use Rattle.opgen_ports.specs.Recipes.{is_third}
 
 -- what the search for the fewest adders takes
 pub record AreSearchedFor (f : Taps) : Type 0 where
-  pub few : length f.taps ≤ 32
-  pub taps : All (IsWithin 2047) f.taps
+  pub few : length f.taps ≤ MAX_SEARCHED_TAPS
+  pub taps : All (IsWithin MAX_SEARCHED_CONSTANT) f.taps
   pub parts : odd_part_count f.taps ≤ 8
   pub extra : f.extra ≤ 2
+
+-- no net is built yet of filters that depends on the mode, or as in version 4
+abbrev pub IsBuiltTaps : Taps → Type 0
+IsBuiltTaps f = IsTrue (is_faithful f.mode) × IsTrue (is_third f.recipe)
 
 pub record IsTaps (f : Taps) : Type 0 where
   pub input : IsInput f.input
   pub out_lsb : IsPower f.out_lsb
   pub some : 1 ≤ length f.taps
-  pub few : length f.taps ≤ 256
-  pub taps : All (IsWithin 1048575) f.taps
+  pub few : length f.taps ≤ MAX_TAPS
+  pub taps : All (IsWithin MAX_CONSTANT) f.taps
   pub searched : IsTrue f.searched → AreSearchedFor f
   pub rest : f.searched ≡ false → f.extra ≡ 0
+  pub built : IsBuiltTaps f
 
 -- the direct form: the same sum of the last inputs, over 1
 abbrev pub direct : Taps → Sum
-direct f = record { input = f.input; out_lsb = f.out_lsb; coefs = f.taps; den = pos 1; exact = false; counters = false }
+direct f = record { input = f.input; out_lsb = f.out_lsb; coefs = f.taps; den = pos 1; mode = Faithful; compressor = Dadda; lut = 6 }
 
 abbrev pub taps_format : Taps → Format
 taps_format f = sum_format (direct f)
@@ -59,7 +70,7 @@ taps_acceptance f = record {
   IsRanged = IsTaps f;
   given_names = [];
   shift = sum_shift (direct f);
-  least_shift = neg_ℤ (pos 48);
+  least_shift = neg_ℤ MAX_SHIFT;
   most_shift = λ version. pos 0;
   inexact = first_inexact (direct f);
   need = None;

@@ -3,7 +3,7 @@
 //!
 //! Proved: Whether the fields are within the ranges of their keys, and whether a version of specifications has them.
 //! The ports and formats. The shift, the first coefficient that is not whole, the width of the widest signal.
-//! The exact value of the kinds with one output whose width may be chosen. Whether the outputs of a cycle are good,
+//! The exact value of the kinds with one output of one value. Whether the outputs of a cycle are good,
 //! exactly by the definition. What is said of an operator by numbers and marks alone.
 //!
 //! By: the methods of `Sum`, `Product`, `Pair`, `Single`, `Several`, `SmallDiv`, `Poly`, `Taps`.

@@ -4,19 +4,19 @@ ghost use Rattle.opgen_ports.specs.Good.{IsGoodRatio};
 ghost use Rattle.opgen_ports.specs.Meaning.{IsCycleJudged};
 ghost use Rattle.opgen_ports.specs.Profile.{IsProfileOf};
 ghost use Rattle.opgen_kinds.specs.Horner.{degree, result_places, poly_guard, guarded, low_end, high_end, partial_width, all_guarded};
-ghost use Rattle.opgen_kinds.specs.Poly.{exact_poly, terms_from, poly_format, IsPoly, poly_meaning, poly_acceptance, IsAcceptedPoly};
+ghost use Rattle.opgen_kinds.specs.Poly.{exact_poly, terms_from, poly_format, IsPoly, IsBuiltPoly, poly_meaning, poly_acceptance, IsAcceptedPoly};
 ghost use Rattle.opgen_ports.specs.Ports.{number_of, recent_numbers, IsHistory, IsCycle, port, one_input};
 ghost use Rattle.opgen_ports.specs.Spans.{IsOf};
 
 use opgen_budget::guard;
 use opgen_list::Items;
-use opgen_num::{Format, Mode, Ratio, good_linear, least_width, nearest, power};
-use opgen_ports::Profile;
+use opgen_num::{Format, MAX_NUMERATOR, Mode, Ratio, good_linear, least_width, nearest, power};
 use opgen_ports::history::{output, recent};
 use opgen_ports::modes::is_exact_or_faithful;
 use opgen_ports::ports::{PortFormat, one};
 use opgen_ports::ranges::{are_within, is_denominator, is_input, is_length};
 use opgen_ports::shifts::raised;
+use opgen_ports::{Compressor, Profile};
 use std::alloc::{AllocError, Global};
 
 /// The sum of `coefs` times powers of an unsigned input below 1, the constant one first, over the
@@ -27,6 +27,8 @@ pub struct Poly {
     pub out_lsb: i32,
     pub coefs: Items<i64>,
     pub den: i64,
+    /// How what is added up is brought to one word.
+    pub compressor: Compressor,
 }
 
 /// The least and the greatest of some values.
@@ -122,8 +124,16 @@ impl Poly {
             && -16 <= self.out_lsb
             && self.out_lsb <= 0
             && is_length(2, 5, self.coefs.len())
-            && are_within(1 << 30, self.coefs.as_slice())
+            && are_within(MAX_NUMERATOR, self.coefs.as_slice())
             && is_denominator(self.den)
+            && self.is_built()
+    }
+
+    // Whether a net of a polynomial with these fields is built yet.
+    fn is_built(&self) -> bool
+        ensures { IsTrue result ↔ IsBuiltPoly self.now }
+    {
+        self.compressor.is_dadda()
     }
 
     /// Whether a version of specifications has the operator with these fields.
@@ -214,7 +224,7 @@ fn result_places(poly: &Poly) -> u32
 
 // A coefficient times a power of the input, over the common denominator.
 fn poly_term(coef: i64, factor: u128, places: u32) -> i128
-    requires coef { unsigned_abs coef ≤ 2 ^ 30 }
+    requires coef { unsigned_abs coef ≤ MAX_NUMERATOR }
     requires small { factor * 2 ^ places ≤ 2 ^ 64 }
     requires few { places ≤ 64 }
     ensures value { result ≡ coef *ℤ pos (factor * 2 ^ places) }

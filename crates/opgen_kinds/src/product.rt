@@ -3,18 +3,19 @@ ghost use Rattle.std.specs.Prelude.{◌≡◌, ◌+◌, ◌≤◌, ◌^◌, [], 
 ghost use Rattle.opgen_ports.specs.Good.{IsGoodRatio};
 ghost use Rattle.opgen_ports.specs.Meaning.{IsCycleJudged};
 ghost use Rattle.opgen_ports.specs.Profile.{IsProfileOf};
-ghost use Rattle.opgen_kinds.specs.Product.{product_shift, product_format, IsProduct, IsAcceptedProduct, product_reach, product_places, product_need, exact_product, product_meaning, product_acceptance};
+ghost use Rattle.opgen_kinds.specs.Product.{product_shift, product_format, IsProduct, IsBuiltProduct, IsAcceptedProduct, product_reach, product_places, product_need, exact_product, product_meaning, product_acceptance};
 ghost use Rattle.opgen_ports.specs.Ports.{number_of, recent_numbers, IsHistory, IsCycle, port, two_inputs};
 ghost use Rattle.opgen_ports.specs.Reaches.{width_of};
 ghost use Rattle.opgen_ports.specs.Spans.{IsOf};
 
 use opgen_num::{Format, MAX_WIDTH, Mode, Ratio, good_linear};
 use opgen_ports::history::{last_two, output};
+use opgen_ports::modes::is_faithful;
 use opgen_ports::ports::{PortFormat, one, operands};
 use opgen_ports::ranges::{are_near, is_input, is_power};
 use opgen_ports::reach::{Reach, in_places, reach_of_product, width_of};
 use opgen_ports::shifts::{places_down, places_up, raised};
-use opgen_ports::{MAX_SHIFT, Profile};
+use opgen_ports::{Compressor, MAX_SHIFT, Profile, Recipe};
 use std::alloc::{AllocError, Global};
 
 #[derive(Clone, Copy, Debug, PartialEq, Eq)]
@@ -22,8 +23,11 @@ pub struct Product {
     pub a: Format,
     pub b: Format,
     pub out_lsb: i32,
-    /// Whether larger counters go before the compression of the heap.
-    pub counters: bool,
+    /// How what is added up is brought to one word.
+    pub compressor: Compressor,
+    /// How the output is rounded from its exact value, where the net depends on it; if not, faithful.
+    pub mode: Mode,
+    pub recipe: Recipe,
 }
 
 impl Product {
@@ -55,13 +59,21 @@ impl Product {
             && is_input(self.b)
             && self.a.signed == self.b.signed
             && is_power(self.out_lsb)
+            && self.is_built()
+    }
+
+    // Whether a net of a product with these fields is built yet.
+    fn is_built(&self) -> bool
+        ensures { IsTrue result ↔ IsBuiltProduct self.now }
+    {
+        is_faithful(self.mode) && self.compressor.is_of_bits() && self.recipe.is_third()
     }
 
     /// Whether a version of specifications has the operator with these fields.
     pub fn is_in(&self, version: u32) -> bool
         ensures { IsTrue result ↔ (product_acceptance self.now).IsIn version }
     {
-        (version != 1 || !self.counters)
+        (version != 1 || !self.compressor.has_counters())
             && are_near(version, &[self.a.lsb, self.b.lsb, self.out_lsb])
     }
 

@@ -4,18 +4,18 @@ ghost use Rattle.std.specs.Prelude.{false, ◌≡◌, ◌≤◌, ◌^◌, ◌++�
 ghost use Rattle.opgen_ports.specs.Good.{IsGoodRatio};
 ghost use Rattle.opgen_ports.specs.Meaning.{IsCycleJudged};
 ghost use Rattle.opgen_ports.specs.Profile.{IsProfileOf};
-ghost use Rattle.opgen_kinds.specs.Several.{constant_format, numbered, IsSeveral, IsSearchedFor, IsAcceptedSeveral, exact_multiple, AreGoodMultiples, multiple_ports, several_meaning, several_acceptance};
+ghost use Rattle.opgen_kinds.specs.Several.{constant_format, numbered, IsSeveral, IsBuiltSeveral, IsSearchedFor, IsAcceptedSeveral, exact_multiple, AreGoodMultiples, multiple_ports, several_meaning, several_acceptance};
 ghost use Rattle.opgen_ports.specs.Ports.{number_of, output_numbers, IsHistory, IsCycle, port, one_input};
 ghost use Rattle.opgen_ports.specs.Ranges.{IsInput, IsWithin};
 
 use opgen_list::{Items, Text};
-use opgen_num::{Format, MAX_INPUT, Mode, good_linear};
-use opgen_ports::Profile;
+use opgen_num::{Format, MAX_CONSTANT, MAX_INPUT, MAX_SEARCHED_CONSTANT, Mode, good_linear};
 use opgen_ports::history::{output, product, recent};
 use opgen_ports::modes::is_exact_or_faithful;
 use opgen_ports::ports::{PortFormat, covering, one};
 use opgen_ports::ranges::{are_near, are_within, is_input, is_length};
 use opgen_ports::reach::reach_over;
+use opgen_ports::{Profile, Recipe};
 use std::alloc::{AllocError, Global};
 
 #[derive(Drop)]
@@ -27,6 +27,7 @@ pub struct Several {
     pub searched: bool,
     /// How many odd numbers beside those of the constants a graph that is searched for may make.
     pub extra: u32,
+    pub recipe: Recipe,
 }
 
 impl Several {
@@ -47,8 +48,16 @@ impl Several {
     {
         is_input(self.input)
             && is_length(1, 8, self.constants.len())
-            && are_within(1_048_575, self.constants.as_slice())
+            && are_within(MAX_CONSTANT, self.constants.as_slice())
             && self.has_limits()
+            && self.is_built()
+    }
+
+    // Whether a net of several constants with these fields is built yet.
+    fn is_built(&self) -> bool
+        ensures { IsTrue result ↔ IsBuiltSeveral self.now }
+    {
+        self.recipe.is_third()
     }
 
     // Whether the search takes the constants, or there is none.
@@ -66,7 +75,7 @@ impl Several {
     fn is_searched_for(&self) -> bool
         ensures { IsTrue result ↔ IsSearchedFor self.now }
     {
-        are_within(2047, self.constants.as_slice()) && self.extra <= 2
+        are_within(MAX_SEARCHED_CONSTANT, self.constants.as_slice()) && self.extra <= 2
     }
 
     /// Whether a version of specifications has the operator with these fields.
@@ -120,7 +129,7 @@ impl Several {
 
 fn constant_format(input: Format, constant: i64) -> Format
     requires input { IsInput input }
-    requires constant { IsWithin 1048575 constant }
+    requires constant { IsWithin MAX_CONSTANT constant }
     ensures { result ≡ constant_format input constant }
 {
     covering(reach_over(input, &[constant]), input.lsb)
@@ -151,7 +160,7 @@ fn constants(alloc: Global, several: &Several) -> Result<Vec<PortFormat>, AllocE
 
 fn multiple_is_good(mode: Mode, input: Format, constant: i64, x: i128, y: u128) -> bool
     requires input { IsInput input }
-    requires constant { IsWithin 1048575 constant }
+    requires constant { IsWithin MAX_CONSTANT constant }
     requires x { unsigned_abs x ≤ 2 ^ MAX_INPUT }
     requires y { y < 2 ^ (constant_format input constant).width }
     ensures { IsTrue result ↔ IsGoodRatio mode (exact_multiple constant x)

@@ -8,6 +8,7 @@ ghost use Rattle.opgen_ports.specs.Ports.{output_numbers, IsHistory, IsCycle, on
 
 use opgen_num::{Format, good_root, is_root};
 use opgen_ports::history::{output, recent};
+use opgen_ports::modes::mode_of_exact;
 use opgen_ports::ports::{PortFormat, one, unsigned, with_rest};
 use opgen_ports::ranges::{is_input, is_near};
 use opgen_ports::shifts::{places_up, raised};
@@ -71,7 +72,7 @@ impl Single {
             divisor: None,
             has_value: false,
             has_graph: false,
-            own_mark: Some(self.exact),
+            own_mark: Some(mode_of_exact(self.exact)),
         }
     }
 

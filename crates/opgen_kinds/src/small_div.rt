@@ -7,9 +7,10 @@ ghost use Rattle.opgen_kinds.specs.SmallDiv.{small_quotient_format, small_rest_f
 ghost use Rattle.opgen_ports.specs.Ports.{output_numbers, IsHistory, IsCycle, one_input};
 ghost use Rattle.opgen_ports.specs.Spans.{IsOf};
 
-use opgen_num::{Format, Mode, bit_length, good_linear, is_quotient};
+use opgen_num::{Format, MAX_DIVISOR, Mode, bit_length, good_linear, is_quotient};
 use opgen_ports::Profile;
 use opgen_ports::history::{output, recent};
+use opgen_ports::modes::mode_of_exact;
 use opgen_ports::ports::{PortFormat, one, unsigned, with_rest};
 use opgen_ports::ranges::{are_near, is_input};
 use std::alloc::{AllocError, Global};
@@ -44,7 +45,10 @@ impl SmallDiv {
     pub fn is_ranged(&self) -> bool
         ensures { IsTrue result ↔ IsSmallDiv self.now }
     {
-        is_input(self.input) && !self.input.signed && 2 <= self.divisor && self.divisor <= 32
+        is_input(self.input)
+            && !self.input.signed
+            && 2 <= self.divisor
+            && self.divisor <= MAX_DIVISOR
     }
 
     /// Whether a version of specifications has the operator with these fields.
@@ -65,7 +69,7 @@ impl SmallDiv {
             divisor: None,
             has_value: false,
             has_graph: false,
-            own_mark: Some(self.exact),
+            own_mark: Some(mode_of_exact(self.exact)),
         }
     }
 

@@ -3,20 +3,23 @@ ghost use Rattle.std.specs.Prelude.{◌≡◌, ◌+◌, ◌≤◌, ◌^◌, [], 
 ghost use Rattle.opgen_ports.specs.Good.{IsGoodRatio};
 ghost use Rattle.opgen_ports.specs.Meaning.{IsCycleJudged};
 ghost use Rattle.opgen_ports.specs.Profile.{IsProfileOf};
-ghost use Rattle.opgen_kinds.specs.Sum.{sum_shift, HasSumRoom, sum_format, IsSum, IsAcceptedSum, guard_bits, first_inexact_of, first_inexact, weighted_value, sum_reach, sum_places, terms, tables, sum_need, exact_sum, sum_meaning, fir_acceptance};
+ghost use Rattle.opgen_kinds.specs.Sum.{sum_shift, HasSumRoom, sum_format, IsSum, IsBuiltSum, IsAcceptedSum, guard_bits, first_inexact_of, first_inexact, weighted_value, sum_reach, sum_places, terms, tables, sum_need, exact_sum, sum_meaning, fir_acceptance};
 ghost use Rattle.opgen_ports.specs.Reaches.{places_up};
 ghost use Rattle.opgen_ports.specs.Ports.{number_of, recent_numbers, IsHistory, IsCycle, port, one_input};
 ghost use Rattle.opgen_ports.specs.Ranges.{IsInput, IsWithin};
 
 use opgen_budget::guard;
 use opgen_list::Items;
-use opgen_num::{Format, MAX_WIDTH, Mode, Ratio, good_linear};
+use opgen_num::{
+    Format, MAX_DENOMINATOR, MAX_NUMERATOR, MAX_TAPS, MAX_WIDTH, Mode, Ratio, good_linear,
+};
 use opgen_ports::history::{output, weighted};
+use opgen_ports::modes::is_exact_or_faithful;
 use opgen_ports::ports::{PortFormat, covering, one};
 use opgen_ports::ranges::{are_near, are_within, is_denominator, is_input, is_length, is_power};
 use opgen_ports::reach::{Reach, in_places, reach_over, width_of};
 use opgen_ports::shifts::{is_whole, places_down, places_up, raised};
-use opgen_ports::{MAX_SHIFT, Profile};
+use opgen_ports::{Compressor, MAX_SHIFT, Profile};
 use std::alloc::{AllocError, Global};
 
 /// A sum of the last inputs times `coefs`, over the common denominator `den`.
@@ -26,9 +29,12 @@ pub struct Sum {
     pub out_lsb: i32,
     pub coefs: Items<i64>,
     pub den: i64,
-    pub exact: bool,
-    /// Whether larger counters go before the compression of the heap.
-    pub counters: bool,
+    /// How the output is rounded from its exact value.
+    pub mode: Mode,
+    /// How what is added up is brought to one word.
+    pub compressor: Compressor,
+    /// How many inputs the tables of the device have.
+    pub lut: u32,
 }
 
 impl Sum {
@@ -69,15 +75,24 @@ impl Sum {
         is_input(self.input)
             && is_power(self.out_lsb)
             && is_length(1, most, self.coefs.len())
-            && are_within(1 << 30, self.coefs.as_slice())
+            && are_within(MAX_NUMERATOR, self.coefs.as_slice())
             && is_denominator(self.den)
+            && self.is_built()
+    }
+
+    // Whether a net of a sum with these fields is built yet.
+    fn is_built(&self) -> bool
+        ensures { IsTrue result ↔ IsBuiltSum self.now }
+    {
+        is_exact_or_faithful(self.mode) && self.compressor.is_of_bits() && self.lut == 6
     }
 
     /// Whether a version of specifications has the operator with these fields.
     pub fn is_in(&self, version: u32) -> bool
         ensures { IsTrue result ↔ (fir_acceptance self.now).IsIn version }
     {
-        (version != 1 || !self.counters) && are_near(version, &[self.input.lsb, self.out_lsb])
+        (version != 1 || !self.compressor.has_counters())
+            && are_near(version, &[self.input.lsb, self.out_lsb])
     }
 
     /// What is said of the operator by numbers and marks alone.
@@ -91,7 +106,7 @@ impl Sum {
             divisor: None,
             has_value: true,
             has_graph: false,
-            own_mark: Some(self.exact),
+            own_mark: Some(self.mode),
         }
     }
 
@@ -134,7 +149,7 @@ impl Sum {
 }
 
 pub fn sum_shift(sum: &Sum) -> i32
-    requires { IsSum 256 sum.now }
+    requires { IsSum MAX_TAPS sum.now }
     ensures value { result ≡ sum_shift sum.now }
     ensures low { negsuc 127 ≤ℤ result }
     ensures high { result ≤ℤ pos 128 }
@@ -144,10 +159,10 @@ pub fn sum_shift(sum: &Sum) -> i32
 
 /// The place of the first coefficient that is not a whole number of units.
 pub fn first_inexact_of(coefs: &[i64], den: i64, shift: i32) -> Option<u32>
-    requires few { length coefs.now ≤ 256 }
-    requires coefs { All (IsWithin (2 ^ 30)) coefs.now }
+    requires few { length coefs.now ≤ MAX_TAPS }
+    requires coefs { All (IsWithin MAX_NUMERATOR) coefs.now }
     requires positive { pos 1 ≤ℤ den }
-    requires small { den ≤ℤ pos (2 ^ 30) }
+    requires small { den ≤ℤ MAX_DENOMINATOR }
     ensures { result ≡ first_inexact_of den shift coefs.now }
 {
     let mut index = 0;
@@ -162,7 +177,7 @@ pub fn first_inexact_of(coefs: &[i64], den: i64, shift: i32) -> Option<u32>
 
 /// The place of the first coefficient of a sum that is not a whole number of units.
 pub fn first_inexact(sum: &Sum) -> Option<u32>
-    requires { IsSum 256 sum.now }
+    requires { IsSum MAX_TAPS sum.now }
     ensures { result ≡ first_inexact sum.now }
 {
     first_inexact_of(sum.coefs.as_slice(), sum.den, sum_shift(sum))
@@ -170,7 +185,7 @@ pub fn first_inexact(sum: &Sum) -> Option<u32>
 
 // How far a sum goes, over its denominator.
 fn sum_reach(sum: &Sum) -> Reach
-    requires { IsSum 256 sum.now }
+    requires { IsSum MAX_TAPS sum.now }
     ensures value { result ≡ sum_reach sum.now }
     ensures below { result.below ≤ 2 ^ (sum.now.input.width + 39) }
     ensures above { result.above ≤ 2 ^ (sum.now.input.width + 39) }
@@ -180,7 +195,7 @@ fn sum_reach(sum: &Sum) -> Reach
 
 /// How far a sum goes in units of the output's last place.
 pub fn sum_places(sum: &Sum) -> Reach
-    requires sum { IsSum 256 sum.now }
+    requires sum { IsSum MAX_TAPS sum.now }
     requires low { neg_ℤ MAX_SHIFT ≤ℤ sum_shift sum.now }
     requires high { sum_shift sum.now ≤ℤ MAX_SHIFT }
     requires room { HasSumRoom sum.now }
@@ -193,9 +208,9 @@ pub fn sum_places(sum: &Sum) -> Reach
 
 // How many coefficients are not 0.
 fn terms(coefs: &[i64]) -> u32
-    requires { length coefs.now ≤ 256 }
+    requires { length coefs.now ≤ MAX_TAPS }
     ensures value { result ≡ terms coefs.now }
-    ensures bound { result ≤ 256 }
+    ensures bound { result ≤ MAX_TAPS }
 {
     let mut count = 0;
     'coefs: for coef in coefs {
@@ -208,7 +223,7 @@ fn terms(coefs: &[i64]) -> u32
 
 // How many tables round.
 fn tables(sum: &Sum) -> u32
-    requires { IsSum 256 sum.now }
+    requires { IsSum MAX_TAPS sum.now }
     ensures value { result ≡ tables sum.now }
     ensures bound { result ≤ 2048 }
 {
@@ -216,7 +231,7 @@ fn tables(sum: &Sum) -> u32
 }
 
 fn guard_bits(sum: &Sum) -> u32
-    requires { IsSum 256 sum.now }
+    requires { IsSum MAX_TAPS sum.now }
     ensures value { result ≡ guard_bits sum.now }
     ensures bound { result ≤ 12 }
 {
@@ -228,7 +243,7 @@ fn guard_bits(sum: &Sum) -> u32
 
 /// The width of the widest signal of a sum.
 pub fn sum_need(sum: &Sum) -> u32
-    requires sum { IsSum 256 sum.now }
+    requires sum { IsSum MAX_TAPS sum.now }
     requires low { neg_ℤ MAX_SHIFT ≤ℤ sum_shift sum.now }
     requires high { sum_shift sum.now ≤ℤ MAX_SHIFT }
     requires room { HasSumRoom sum.now }
@@ -238,7 +253,7 @@ pub fn sum_need(sum: &Sum) -> u32
 }
 
 fn sum_format(sum: &Sum) -> Format
-    requires sum { IsSum 256 sum.now }
+    requires sum { IsSum MAX_TAPS sum.now }
     requires low { neg_ℤ MAX_SHIFT ≤ℤ sum_shift sum.now }
     requires high { sum_shift sum.now ≤ℤ MAX_SHIFT }
     requires room { HasSumRoom sum.now }
@@ -250,10 +265,10 @@ fn sum_format(sum: &Sum) -> Format
 /// The sum of the last inputs times coefficients, in units of the output's last place.
 pub fn weighted_value(input: Format, coefs: &[i64], den: i64, shift: i32, history: &[u128]) -> Ratio
     requires input { IsInput input }
-    requires few { length coefs.now ≤ 256 }
-    requires coefs { All (IsWithin (2 ^ 30)) coefs.now }
+    requires few { length coefs.now ≤ MAX_TAPS }
+    requires coefs { All (IsWithin MAX_NUMERATOR) coefs.now }
     requires positive { pos 1 ≤ℤ den }
-    requires small { den ≤ℤ pos (2 ^ 30) }
+    requires small { den ≤ℤ MAX_DENOMINATOR }
     requires low { neg_ℤ MAX_SHIFT ≤ℤ shift }
     requires room { input.width + places_up shift ≤ 80 }
     requires history { IsHistory (one_input input) history.now }
@@ -268,7 +283,7 @@ pub fn weighted_value(input: Format, coefs: &[i64], den: i64, shift: i32, histor
 }
 
 fn exact_sum(sum: &Sum, history: &[u128]) -> Ratio
-    requires sum { IsSum 256 sum.now }
+    requires sum { IsSum MAX_TAPS sum.now }
     requires low { neg_ℤ MAX_SHIFT ≤ℤ sum_shift sum.now }
     requires high { sum_shift sum.now ≤ℤ MAX_SHIFT }
     requires room { HasSumRoom sum.now }
@@ -286,7 +301,7 @@ fn exact_sum(sum: &Sum, history: &[u128]) -> Ratio
 }
 
 fn sum_is_good(mode: Mode, sum: &Sum, history: &[u128], y: u128) -> bool
-    requires sum { IsSum 256 sum.now }
+    requires sum { IsSum MAX_TAPS sum.now }
     requires low { neg_ℤ MAX_SHIFT ≤ℤ sum_shift sum.now }
     requires high { sum_shift sum.now ≤ℤ MAX_SHIFT }
     requires room { HasSumRoom sum.now }

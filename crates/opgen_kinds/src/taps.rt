@@ -4,17 +4,21 @@ ghost use Rattle.opgen_ports.specs.Good.{IsGoodRatio};
 ghost use Rattle.opgen_ports.specs.Meaning.{IsCycleJudged};
 ghost use Rattle.opgen_ports.specs.Profile.{IsProfileOf};
 ghost use Rattle.opgen_kinds.specs.Sum.{sum_shift, first_inexact};
-ghost use Rattle.opgen_kinds.specs.Taps.{direct, taps_format, IsTaps, AreSearchedFor, exact_taps, taps_meaning, taps_acceptance, IsAcceptedTaps};
+ghost use Rattle.opgen_kinds.specs.Taps.{direct, taps_format, IsTaps, IsBuiltTaps, AreSearchedFor, exact_taps, taps_meaning, taps_acceptance, IsAcceptedTaps};
 ghost use Rattle.opgen_ports.specs.Ports.{number_of, recent_numbers, IsHistory, IsCycle, port, one_input};
 
 use crate::sum::{first_inexact_of, weighted_value};
 use opgen_list::Items;
-use opgen_num::{Format, Mode, Ratio, good_linear};
+use opgen_num::{
+    Format, MAX_CONSTANT, MAX_SEARCHED_CONSTANT, MAX_SEARCHED_TAPS, MAX_TAPS, Mode, Ratio,
+    good_linear,
+};
 use opgen_ports::history::output;
+use opgen_ports::modes::is_faithful;
 use opgen_ports::ports::{PortFormat, covering, one};
 use opgen_ports::ranges::{are_near, are_within, is_input, is_length, is_power};
 use opgen_ports::reach::{in_places, reach_over};
-use opgen_ports::{MAX_SHIFT, Profile, odd_part_count};
+use opgen_ports::{MAX_SHIFT, Profile, Recipe, odd_part_count};
 use std::alloc::{AllocError, Global};
 
 /// The sum of the last inputs times `taps`.
@@ -28,6 +32,9 @@ pub struct Taps {
     pub searched: bool,
     /// How many odd numbers beside those of the taps a graph that is searched for may make.
     pub extra: u32,
+    /// How the output is rounded from its exact value, where the net depends on it; if not, faithful.
+    pub mode: Mode,
+    pub recipe: Recipe,
 }
 
 impl Taps {
@@ -64,9 +71,17 @@ impl Taps {
     {
         is_input(self.input)
             && is_power(self.out_lsb)
-            && is_length(1, 256, self.taps.len())
-            && are_within(1_048_575, self.taps.as_slice())
+            && is_length(1, MAX_TAPS as usize, self.taps.len())
+            && are_within(MAX_CONSTANT, self.taps.as_slice())
             && self.has_limits()
+            && self.is_built()
+    }
+
+    // Whether a net of a filter with these fields is built yet.
+    fn is_built(&self) -> bool
+        ensures { IsTrue result ↔ IsBuiltTaps self.now }
+    {
+        is_faithful(self.mode) && self.recipe.is_third()
     }
 
     // Whether the search takes the taps, or there is none.
@@ -84,8 +99,8 @@ impl Taps {
     fn are_searched_for(&self) -> bool
         ensures { IsTrue result ↔ AreSearchedFor self.now }
     {
-        self.taps.len() <= 32
-            && are_within(2047, self.taps.as_slice())
+        self.taps.len() <= MAX_SEARCHED_TAPS as usize
+            && are_within(MAX_SEARCHED_CONSTANT, self.taps.as_slice())
             && odd_part_count(self.taps.as_slice()) <= 8
             && self.extra <= 2
     }

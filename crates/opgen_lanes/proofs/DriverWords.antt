@@ -3,6 +3,7 @@ use Rattle.std.proofs.Common.{◌≡◌, ℕ, zero, suc, ◌<◌, ◌≤◌, Boo
 use Rattle.std.specs.Prelude.{IsSome, slice_get}
 use Rattle.std.proofs.lemmas.List.{length-map, get_or-map}
 use Rattle.std.proofs.Math.Seq.{take-nil}
+use Rattle.opgen_streams.proofs.Rows.{length-words_in}
 use Rattle.opgen_num.specs.declared.format.TheConstants.{MAX_WIDTH}
 use Rattle.opgen_design.specs.declared.design.Design.{Design}
 use Rattle.opgen_design.specs.declared.design.Driver.{Driver}
@@ -13,7 +14,7 @@ use Rattle.opgen_design.specs.declared.design.Target.TheVariants.{Signal as sign
 use Rattle.opgen_design.specs.Sound.{IsSound, HasWidth, WidthsAgree, target, signal_widths, port_widths}
 use Rattle.opgen_design.specs.Tree.{Tree}
 use Rattle.opgen_design.specs.Value.{chosen, width}
-use Rattle.opgen_runs.proofs.Fitting.{some-of}
+use Rattle.opgen_design.proofs.WidthLaws.{some_width}
 use Rattle.opgen_runs.proofs.Widths.{declared-there, narrow, width_of, word-length}
 use Rattle.opgen_runs.specs.Evaluate.{HaveWidths, IsThere, driver_word}
 use Rattle.opgen_streams.specs.Streams.{bit_in, word_in}
@@ -21,7 +22,7 @@ use Rattle.opgen_lanes.specs.declared.bank.Bank.{Bank}
 use Rattle.opgen_lanes.specs.Banks.{stream_words, width_at, widths_of}
 use Rattle.opgen_lanes.specs.Ready.{AreBanksOf}
 use Rattle.opgen_lanes.proofs.Fits.{narrow-of}
-use Rattle.opgen_lanes.proofs.Places.{words-length, words-widths}
+use Rattle.opgen_lanes.proofs.Places.{words-widths}
 
 -- a choice by a bit
 chosen-bit : (b : Bool) (first second : List Bool) → (if b then first else second) ≡ chosen (b ∷ []) first second
@@ -37,13 +38,13 @@ pub signal-there : (signals ports : Bank) (t : Target) (s : ℕ) → t ≡ signa
     → s < length signals.places.items
 signal-there signals ports t s e h =
     let l : s < length (stream_words signals ports 0).signals = subst (IsThere (stream_words signals ports 0)) e h in
-    omega (arith, l, words-length (widths_of signals) signals.vectors.items 0, length-map signals.places.items (λ p. p.width))
+    omega (arith, l, length-words_in (widths_of signals) signals.vectors.items 0, length-map signals.places.items (λ p. p.width))
 
 pub port-there : (signals ports : Bank) (t : Target) (p : ℕ) → t ≡ port_of p → IsThere (stream_words signals ports 0) t
     → p < length ports.places.items
 port-there signals ports t p e h =
     let l : p < length (stream_words signals ports 0).ports = subst (IsThere (stream_words signals ports 0)) e h in
-    omega (arith, l, words-length (widths_of ports) ports.vectors.items 0, length-map ports.places.items (λ p. p.width))
+    omega (arith, l, length-words_in (widths_of ports) ports.vectors.items 0, length-map ports.places.items (λ p. p.width))
 
 -- expressions of a design over its banks
 module _ (d : Design) (signals ports : Bank) (h : AreBanksOf d signals ports) where
@@ -57,7 +58,7 @@ module _ (d : Design) (signals ports : Bank) (h : AreBanksOf d signals ports) wh
   pub has-some : (e f : Tree) → e ≡ f → IsSome (width (signal_widths d) (port_widths d) f)
       → IsSome (width (widths_of signals) (widths_of ports) e)
   has-some e f is k =
-      let w = some-of (width (signal_widths d) (port_widths d) f) k in
+      let w = some_width (width (signal_widths d) (port_widths d) f) k in
       subst IsSome (sym (has-width e f w.0 is w.1)) refl
 
   pub fits-width : (e f : Tree) (w : ℕ) → e ≡ f → HasWidth d f w → IsSome (width (widths_of signals) (widths_of ports) e)

@@ -1,15 +1,12 @@
 -- What the width of an expression says of what it reads.
-use Rattle.std.proofs.Common.{◌≡◌, ℕ, ◌+◌, ◌-◌, ◌<◌, ◌≤◌, Bool, List, length, get_or, Option, Some, None, sym, ap, ◌∙◌, subst, refl, [], arith}
+use Rattle.std.proofs.Common.{◌≡◌, ℕ, ◌+◌, ◌-◌, ◌<◌, ◌≤◌, Bool, List, length, get_or, Option, Some, None, sym, ap, ◌∙◌, subst, refl, arith}
 use Rattle.std.specs.Prelude.{IsSome, slice_get, ◌&&◌, nat_le, nat_lt, option_and_then, if◌then◌else◌}
 use Rattle.std.proofs.lemmas.Option.{slice_get_within, get_or_from_slice_get}
 use Rattle.opgen_num.specs.declared.format.TheConstants.{MAX_WIDTH}
-use Rattle.opgen_num.specs.Words.{word}
-use Rattle.opgen_num.specs.WordLaws.{length-word}
 use Rattle.opgen_design.specs.declared.expr.Op.{Op}
 use Rattle.opgen_design.specs.Tree.{Tree, Trees, name, part, bits, port, more, none}
-use Rattle.opgen_design.specs.Value.{IsWidth, as_width, width, width_on, chain_width, joined}
-use Rattle.opgen_design.proofs.WidthLaws.{part_fits, some_before, as_width-some, width-is_width}
-use Rattle.opgen_runs.proofs.Fitting.{some-of, pair-is_width}
+use Rattle.opgen_design.specs.Value.{as_width, width, width_on, chain_width, joined}
+use Rattle.opgen_design.proofs.WidthLaws.{part_fits, some_before, as_width-some, width-is_width, some_width}
 
 -- the width that is read, of a signal or a port
 pub record IsRead (widths : List ℕ) (n : ℕ) (whole : Option ℕ) : Type 0 where
@@ -20,7 +17,7 @@ pub record IsRead (widths : List ℕ) (n : ℕ) (whole : Option ℕ) : Type 0 wh
 is-read : (widths : List ℕ) (n : ℕ) → IsSome (option_and_then as_width (slice_get widths n))
     → IsRead widths n (option_and_then as_width (slice_get widths n))
 is-read widths n h =
-    let w = some-of (option_and_then as_width (slice_get widths n)) h in
+    let w = some_width (option_and_then as_width (slice_get widths n)) h in
     let a = some_before (slice_get widths n) as_width w.0 w.1 in
     let b = as_width-some a.0 w.0 a.2 in
     let e : get_or widths n 0 ≡ w.0 = get_or_from_slice_get widths n a.0 0 a.1 ∙ b.0 in
@@ -46,7 +43,7 @@ module _ (ns ps : List ℕ) where
 
   pub part-read : (e : Tree) (n high low : ℕ) → e ≡ part n high low → IsSome (width ns ps e) → IsPart n high low
   part-read e n high low is h =
-      let w = some-of (width ns ps (part n high low)) (subst (λ t. IsSome (width ns ps t)) is h) in
+      let w = some_width (width ns ps (part n high low)) (subst (λ t. IsSome (width ns ps t)) is h) in
       let a = some_before (slice_get ns n) (λ v. if nat_le low high && nat_lt high v then as_width (high + 1 - low) else None) w.0 w.1 in
       let p = part_fits high low a.0 w.0 a.2 in
       record {
@@ -58,7 +55,7 @@ module _ (ns ps : List ℕ) where
 
   pub bits-narrow : (e : Tree) (w : List Bool) → e ≡ bits w → IsSome (width ns ps e) → length w ≤ MAX_WIDTH
   bits-narrow e w is h =
-      let v = some-of (width ns ps (bits w)) (subst (λ t. IsSome (width ns ps t)) is h) in
+      let v = some_width (width ns ps (bits w)) (subst (λ t. IsSome (width ns ps t)) is h) in
       let a = as_width-some (length w) v.0 v.1 in
       omega (arith, a.0, a.1.1)
 
@@ -73,7 +70,7 @@ module _ (ns ps : List ℕ) where
   pub chain-start : (op : Op) (t : Tree) (ts : Trees) → IsSome (chain_width ns ps op (more t ts)) → Start op t ts
   chain-start op t none h = absurd (cc)
   chain-start op t (more u ts) h =
-      let w = some-of (chain_width ns ps op (more t (more u ts))) h in
+      let w = some_width (chain_width ns ps op (more t (more u ts))) h in
       let a = some_before (width ns ps t) (λ x. width_on ns ps op x (more u ts)) w.0 w.1 in
       record {
         fits = subst IsSome (sym a.1) refl;
@@ -88,7 +85,7 @@ module _ (ns ps : List ℕ) where
 
   pub chain-next : (op : Op) (v : ℕ) (t : Tree) (ts : Trees) → IsSome (width_on ns ps op v (more t ts)) → Next op v t ts
   chain-next op v t ts h =
-      let w = some-of (width_on ns ps op v (more t ts)) h in
+      let w = some_width (width_on ns ps op v (more t ts)) h in
       let a = some_before (width ns ps t) (λ x. option_and_then (λ u. width_on ns ps op u ts) (joined op v x)) w.0 w.1 in
       let b = some_before (joined op v a.0) (λ u. width_on ns ps op u ts) w.0 a.2 in
       record {
@@ -98,15 +95,6 @@ module _ (ns ps : List ℕ) where
         rest = λ x u e f. ap (option_and_then (λ y. option_and_then (λ u. width_on ns ps op u ts) (joined op v y))) e
             ∙ ap (option_and_then (λ u. width_on ns ps op u ts)) f;
       }
-
--- two operands together have the width of a signal
-pub both-is_width : (op : Op) (a b w : ℕ) → IsWidth a → IsWidth b → joined op a b ≡ Some w → IsWidth w
-both-is_width op a b w h k e =
-    pair-is_width [] [] op (word a 0) (word b 0) w (subst IsWidth (sym (length-word a 0)) h) (subst IsWidth (sym (length-word b 0)) k)
-    (ap (λ n. joined op n (length (word b 0))) (length-word a 0) ∙ ap (joined op a) (length-word b 0) ∙ e)
-
-pub same-width : {a b : ℕ} → Some a ≡ Some b → a ≡ b
-same-width e = cc
 
 pub within : (ns ps : List ℕ) (e : Tree) (w : ℕ) (xs : List (List ℕ)) → width ns ps e ≡ Some w → MAX_WIDTH ≤ length xs → w ≤ length xs
 within ns ps e w xs h l = omega (arith, narrow-of ns ps e w h, l)

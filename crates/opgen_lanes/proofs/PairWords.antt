@@ -2,6 +2,7 @@
 use Rattle.std.proofs.Common.{◌≡◌, ℕ, ◌+◌, ◌*◌, ◌/◌, ◌%◌, ◌<◌, Bool, true, false, not, ◌&&◌, ◌||◌, if◌then◌else◌, List, [], ◌∷◌, ◌++◌, length, take, drop, get_or, append_assoc, refl, sym, ap, ◌∙◌, arith}
 use Rattle.std.specs.Prelude.{slice_set}
 use Rattle.std.proofs.lemmas.List.{drop_more, drop-set-lt, get_or-map, length-map, map-append, take_more_set}
+use Rattle.std.proofs.Math.Bool.{or-false}
 use Rattle.opgen_num.specs.Words.{digit, nat}
 use Rattle.opgen_num.proofs.Words.{digit-below}
 use Rattle.opgen_streams.specs.Streams.{bit_in, word_in}
@@ -47,10 +48,6 @@ module _ (w : List Bool) (place n : ℕ) (l : place < length w) (e : n ≡ nat (
   pub next-left : n / 2 ≡ nat (drop (place + 1) w)
   next-left = omega (arith, left-is, digit-below (get_or w place false))
 
-no-more : (b : Bool) → b || false ≡ b
-no-more true = refl
-no-more false = refl
-
 zero-bit : (b : Bool) (w : List Bool) → nat (b ∷ w) ≡ 0 → b ≡ false
 zero-bit false w e = refl
 zero-bit true w e = absurd (omega (arith, e))
@@ -58,7 +55,7 @@ zero-bit true w e = absurd (omega (arith, e))
 next-bit : (here low bit old a b : Bool) (xs ys olds first second out : List Bool) → first ≡ a ∷ xs → second ≡ b ∷ ys → out ≡ old ∷ olds
     → bit ≡ old || (here && (if low then b else a)) → (here ≡ true → nat out ≡ 0)
     → bit ∷ (if here then (if low then ys else xs) else olds) ≡ (if here then (if low then second else first) else out)
-next-bit false low bit old a b xs ys olds first second out e f g h z = ap (λ c. c ∷ olds) (h ∙ no-more old) ∙ sym g
+next-bit false low bit old a b xs ys olds first second out e f g h z = ap (λ c. c ∷ olds) (h ∙ or-false old) ∙ sym g
 next-bit true false bit old a b xs ys olds first second out e f g h z =
     ap (λ c. c ∷ xs) (h ∙ ap (λ o. o || a) (zero-bit old olds (sym (ap nat g) ∙ z refl))) ∙ sym e
 next-bit true true bit old a b xs ys olds first second out e f g h z =

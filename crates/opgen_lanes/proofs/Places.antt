@@ -2,17 +2,13 @@
 use Rattle.std.proofs.Common.{◌≡◌, ℕ, zero, suc, ◌+◌, ◌*◌, ◌<◌, ◌≤◌, List, [], ◌∷◌, ◌++◌, length, map, take, drop, get_or, sum, refl, sym, ap, ◌∙◌, All, arith}
 use Rattle.std.specs.Prelude.{slice_set}
 use Rattle.std.proofs.lemmas.List.{take_at, drop_at, length-map, length-take-le, take-append-le, drop-append-le, drop-drop, length-append, length-drop, drop-take, take-take, append-nil}
-use Rattle.std.proofs.lemmas.List.Sums.{sum_by-cons}
 use Rattle.std.proofs.Math.ListN.{drop_of_length-le}
 use Rattle.opgen_num.specs.declared.format.TheConstants.{MAX_WIDTH}
+use Rattle.opgen_num.proofs.Lists.{sum-cons}
 use Rattle.opgen_streams.specs.Streams.{bit_in, word_in, words_in}
 use Rattle.opgen_lanes.specs.declared.bank.Bank.{Bank}
 use Rattle.opgen_lanes.specs.declared.bank.Place.{Place}
 use Rattle.opgen_lanes.specs.Banks.{IsBank, places_from, widths_of, words_at}
-
--- the sum of a list with one more at its front
-pub sum-cons : (w : ℕ) (ws : List ℕ) → sum (w ∷ ws) ≡ w + sum ws
-sum-cons w ws = sum_by-cons (λ x. x) w ws
 
 pub length-places : (start : ℕ) (ws : List ℕ) → length (places_from start ws) ≡ length ws
 length-places start [] = refl
@@ -38,10 +34,6 @@ word-there (w ∷ ws) vs zero k l = refl
 word-there (w ∷ ws) vs (suc i) k l = word-there ws (drop w vs) i k (omega (arith, l))
     ∙ ap (λ xs. word_in (take (get_or ws i 0) xs) k)
     (drop-drop (sum (take i ws)) w vs ∙ ap (λ n. drop n vs) (sym (sum-cons w (take i ws))))
-
-pub words-length : (ws : List ℕ) (vs : List (List ℕ)) (k : ℕ) → length (words_in ws vs k) ≡ length ws
-words-length [] vs k = refl
-words-length (w ∷ ws) vs k = ap suc (words-length ws (drop w vs) k)
 
 -- where the word at a place of a bank stands
 pub record Stands (bank : Bank) (at : ℕ) (p : Place) : Type 0 where

@@ -3,11 +3,12 @@ use Rattle.std.proofs.Common.{◌≡◌, ℕ, ◌+◌, ◌-◌, ◌<◌, ◌≤�
 use Rattle.std.specs.Prelude.{slice_set}
 use Rattle.std.proofs.Math.ListN.{drop_of_length-le}
 use Rattle.std.proofs.lemmas.List.{append_assoc, append-nil, take_all, drop_more, take_more, take_more_set, take_at, drop_at, drop-drop, take-take, drop-take, length-map, length-take-le, get_or-map}
+use Rattle.opgen_num.proofs.Lists.{sum-cons}
 use Rattle.opgen_design.specs.declared.design.Dir.{Dir}
 use Rattle.opgen_design.specs.declared.design.Port.{Port}
 use Rattle.opgen_design.specs.Run.{at_ports}
 use Rattle.opgen_streams.specs.Streams.{streams, word_in, words_in}
-use Rattle.opgen_lanes.proofs.Places.{put_in, length-put_in, sum-cons}
+use Rattle.opgen_lanes.proofs.Places.{put_in, length-put_in}
 
 -- the port at the front of those that are left
 pub ports-split : {X : Type 0} (is : Dir → Bool) (ps : List Port) (xs : List X) (i : ℕ) (p : Port) (x : X) → i < length ps

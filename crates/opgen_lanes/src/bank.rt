@@ -7,6 +7,7 @@ ghost use Rattle.opgen_lanes.specs.Banks.{HasWords, IsBank, widths_of, words_at}
 ghost use Rattle.opgen_lanes.specs.Words.{HaveWord};
 
 use opgen_design::{Port, Signal};
+use opgen_num::MAX_WIDTH;
 use std::alloc::{AllocError, Global};
 use std::simd::prelude::*;
 
@@ -32,10 +33,10 @@ pub struct Banks {
 }
 
 /// Room for one word.
-pub fn room() -> [u64x4; 96]
+pub fn room() -> [u64x4; MAX_WIDTH as usize]
     ensures { length result ≡ MAX_WIDTH }
 {
-    [u64x4::splat(0); 96]
+    [u64x4::splat(0); MAX_WIDTH as usize]
 }
 
 /// The widths of signals.

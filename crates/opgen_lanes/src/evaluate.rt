@@ -1,11 +1,11 @@
 //! The values of expressions in each stream.
-ghost use Rattle.std.specs.Prelude.{ℕ, ◌+◌, ◌-◌, ◌≡◌, ◌<◌, ◌≤◌, IfSome, IsSome, Some, length, slice_index, take};
+ghost use Rattle.std.specs.Prelude.{◌+◌, ◌-◌, ◌≡◌, ◌<◌, ◌≤◌, IfSome, IsSome, Some, length, slice_index, take};
 ghost use Rattle.opgen_num.specs.declared.format.TheConstants.{MAX_WIDTH};
 ghost use Rattle.opgen_design.specs.Plain.{plain, plain_all};
 ghost use Rattle.opgen_design.specs.Run.{scope};
-ghost use Rattle.opgen_design.specs.Value.{chain_value, combined, cut, word_at, IsWidth, chain_width, joined};
-ghost use Rattle.opgen_streams.specs.Streams.{word_in};
+ghost use Rattle.opgen_design.specs.Value.{chain_value, cut, word_at, chain_width};
 ghost use Rattle.opgen_lanes.specs.Banks.{IsBank, stream_words, value_in, width_in, widths_of, words_at};
+ghost use Rattle.opgen_lanes.specs.Chains.{CanTakeIn, IsTakenIn};
 ghost use Rattle.opgen_lanes.specs.Words.{HaveWord};
 
 use crate::bank::{Bank, room};
@@ -151,15 +151,8 @@ fn take_in(
     before: usize,
     spare: &mut [u64x4],
 ) -> usize
-    requires signals { IsBank signals.now }
-    requires ports { IsBank ports.now }
-    requires operand { IsSome (width_in signals.now ports.now (plain operand.now)) }
-    requires fits { (a : ℕ) → width_in signals.now ports.now (plain operand.now) ≡ Some a → (w : ℕ) × (joined op before a ≡ Some w) }
-    requires before { IsWidth before }
-    requires room { MAX_WIDTH ≤ length out.old }
-    ensures width { (a : ℕ) → width_in signals.now ports.now (plain operand.now) ≡ Some a → joined op before a ≡ Some result }
-    ensures value { let added = value_in signals.now ports.now (plain operand.now) in
-        HaveWord (take result out.new) (λ k. combined op (word_in (take before out.old) k) (added k)) }
+    requires { CanTakeIn signals.now ports.now op (plain operand.now) before out.old }
+    ensures { IsTakenIn signals.now ports.now op (plain operand.now) before result out.old out.new }
 {
     match in_place(operand, signals, ports) {
         Some(word) => combine(op, out, before, word),
@@ -178,15 +171,8 @@ fn take_in_nested(
     before: usize,
     spare: &mut [u64x4],
 ) -> usize
-    requires signals { IsBank signals.now }
-    requires ports { IsBank ports.now }
-    requires operand { IsSome (width_in signals.now ports.now (plain operand.now)) }
-    requires fits { (a : ℕ) → width_in signals.now ports.now (plain operand.now) ≡ Some a → (w : ℕ) × (joined op before a ≡ Some w) }
-    requires before { IsWidth before }
-    requires room { MAX_WIDTH ≤ length out.old }
-    ensures width { (a : ℕ) → width_in signals.now ports.now (plain operand.now) ≡ Some a → joined op before a ≡ Some result }
-    ensures value { let added = value_in signals.now ports.now (plain operand.now) in
-        HaveWord (take result out.new) (λ k. combined op (word_in (take before out.old) k) (added k)) }
+    requires { CanTakeIn signals.now ports.now op (plain operand.now) before out.old }
+    ensures { IsTakenIn signals.now ports.now op (plain operand.now) before result out.old out.new }
 {
     if spare.len() < MAX_WIDTH as usize {
         return take_in_apart(op, operand, signals, ports, out, before);
@@ -205,15 +191,8 @@ fn take_in_apart(
     out: &mut [u64x4],
     before: usize,
 ) -> usize
-    requires signals { IsBank signals.now }
-    requires ports { IsBank ports.now }
-    requires operand { IsSome (width_in signals.now ports.now (plain operand.now)) }
-    requires fits { (a : ℕ) → width_in signals.now ports.now (plain operand.now) ≡ Some a → (w : ℕ) × (joined op before a ≡ Some w) }
-    requires before { IsWidth before }
-    requires room { MAX_WIDTH ≤ length out.old }
-    ensures width { (a : ℕ) → width_in signals.now ports.now (plain operand.now) ≡ Some a → joined op before a ≡ Some result }
-    ensures value { let added = value_in signals.now ports.now (plain operand.now) in
-        HaveWord (take result out.new) (λ k. combined op (word_in (take before out.old) k) (added k)) }
+    requires { CanTakeIn signals.now ports.now op (plain operand.now) before out.old }
+    ensures { IsTakenIn signals.now ports.now op (plain operand.now) before result out.old out.new }
 {
     let mut second = room();
     let added = evaluate(operand, signals, ports, &mut second, &mut []);

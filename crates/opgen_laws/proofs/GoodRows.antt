@@ -1,5 +1,5 @@
 -- In the run of a circuit over rows each row that `check` judges is good, and that is its answer.
-use Rattle.std.proofs.Common.{◌≡◌, inr, ℕ, zero, suc, ◌+◌, ◌*◌, ◌-◌, ◌<◌, ◌≤◌, Bool, false, List, [], ◌∷◌, length, map, drop, Option, Some, None, Ok, refl, sym, ap, ◌∙◌, subst, arith, length-append}
+use Rattle.std.proofs.Common.{◌≡◌, inr, ℕ, zero, suc, ◌+◌, ◌*◌, ◌-◌, ◌≤◌, Bool, false, List, [], ◌∷◌, length, map, drop, Option, Some, None, Ok, refl, sym, ap, ◌∙◌, subst, arith, length-append}
 use Rattle.std.specs.Prelude.{slice_get}
 use Rattle.std.specs.List.{AllZip}
 use Rattle.std.specs.Str.Lines.{lines}
@@ -15,6 +15,7 @@ use Rattle.opgen_design.specs.declared.design.Design.{Design}
 use Rattle.opgen_design.specs.declared.design.Dir.TheVariants.{In, Out}
 use Rattle.opgen_design.specs.declared.design.Port.{Port}
 use Rattle.opgen_design.specs.Run.{initial_words, input_widths, words_at_outputs}
+use Rattle.opgen_design.proofs.NameWalk.{some-item}
 use Rattle.opgen_operator.specs.declared.spec.Spec.{Spec}
 use Rattle.opgen_operator.specs.Outputs.{operator_ports, port_of, IsGood, IsInRange, chosen, chosen_ports, inputs_of, outputs_of, output_words, recent_words}
 use Rattle.opgen_operator.specs.Operator.{operator_outputs}
@@ -46,11 +47,6 @@ use Rattle.opgen_laws.proofs.OneChecked.{one_to_vhdl}
 use Rattle.opgen_laws.proofs.RowCells.{output_same, recent_same}
 use Rattle.opgen_laws.proofs.SomeRun.{some_run}
 
-there : {X : Type 0} (xs : List X) (i : ℕ) → i < length xs → (x : X) × (slice_get xs i ≡ Some x)
-there [] i lt = absurd (omega (arith, lt))
-there (x ∷ xs) zero lt = (x, refl)
-there (x ∷ xs) (suc i) lt = there xs i (omega (arith, lt))
-
 length-rows : (widths : List ℕ) (rows : ℕ) (cells : List ℕ) → length (rows_words widths rows cells) ≡ rows
 length-rows widths zero cells = refl
 length-rows widths (suc rows) cells = ap suc (length-rows widths rows (drop (length widths) cells))
@@ -78,7 +74,7 @@ module _ (spec : Spec) (some : 1 ≤ length (inputs_of spec)) (latency : ℕ) (d
         let inputs = rows_words (input_widths d) rows cells in
         let start = initial_words d.signals in
         let count : length run.words ≡ rows = run_long d start inputs run.words run.runs ∙ length-rows (input_widths d) rows cells in
-        let (v, at) = there run.words row (omega (arith, count, before)) in
+        let (v, at) = some-item run.words row (omega (arith, count, before)) in
         let place : t + latency ≡ row = omega (arith, from) in
         let good = serves.good inputs run.words run.runs t v (ap (slice_get run.words) place ∙ at) in
         let recent : recent_words (inputs_of spec) inputs t ≡ recent_numbers (inputs_of spec) (rows_up_to (length (inputs_of spec)) t cells) =
@@ -126,9 +122,9 @@ module _ (spec : Spec) (valid : IsValidSpec spec) (table : Delays) (planned : Pl
 
   gives : GivesDesign (text_of d) d
   gives = record {
-    spelled = circuit_spells spec table false planned adders circuit;
+    spelled = circuit_spells spec valid table false planned adders circuit;
     within = within;
-    sound = circuit_sound spec table false planned adders circuit;
+    sound = circuit_sound spec valid table false planned adders circuit;
   }
 
   module _ (vectors cells : List ℕ) (reads : IsReading (input_widths d) (lines vectors) (Ok cells)) where
@@ -165,4 +161,4 @@ module _ (spec : Spec) (valid : IsValidSpec spec) (table : Delays) (planned : Pl
 -- where every circuit serves, every circuit is checked good
 pub circuits_good : CircuitsServe → CircuitsCheckGood
 circuits_good serve spec valid table planned adders circuit vectors cells reads a is =
-    answer spec valid table planned adders circuit (serve spec table false planned adders circuit) vectors cells reads a is
+    answer spec valid table planned adders circuit (serve spec valid table false planned adders circuit) vectors cells reads a is

@@ -17,6 +17,7 @@ use Rattle.opgen_vec.proofs.Draws.{rows_fit}
 use Rattle.opgen_workload.specs.Filter.{workload_spec, workload_sum}
 use Rattle.opgen_workload.specs.Judged.{IsGoodCycle}
 use Rattle.opgen_workload.proofs.Counting.{all_count, one_count}
+use Rattle.opgen_workload.proofs.Valid.{workload_valid}
 use Rattle.opgen_top.specs.Answer.{Answer}
 use Rattle.opgen_top.specs.Circuit.{CircuitsServe}
 use Rattle.opgen_operator.specs.Serves.{Serves}
@@ -72,8 +73,8 @@ module _ (n : ℕ) (table : Delays) (a : Answer) (w : IsWorked n table a)
 
 -- where every circuit serves, every workload is good
 pub workloads_good : CircuitsServe → WorkloadsAreGood
-workloads_good serve n table a w =
+workloads_good serve n some few table a w =
     let most = cycles - w.planned.latency in
     let P = IsGoodCycle (workload_spec n) (workload_cells n) w.judged.outputs w.planned.latency in
-    let all = good n table a w (serve (workload_spec n) table false w.planned w.adders w.circuit) in
+    let all = good n table a w (serve (workload_spec n) (workload_valid n some few) table false w.planned w.adders w.circuit) in
     one_count P most w.good most w.judged.counted (all_count P most all)

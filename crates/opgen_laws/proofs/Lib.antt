@@ -12,10 +12,6 @@ pub mod Counting
 pub mod Numbering
 pub mod FirstPlaces
 pub mod Verdict
-pub mod SumTables
-pub mod SumNets
-pub mod ProductNets
-pub mod SopNets
 pub mod CommandRanges
 pub mod SomeRun
 pub mod SomeCircuit
@@ -23,3 +19,5 @@ pub mod SomeReading
 pub mod SomeSimulated
 pub mod SomeChecked
 pub mod SomeAnswer
+pub mod ProductNets
+pub mod SopNets

@@ -7,7 +7,7 @@ use Rattle.opgen_pipe.specs.declared.planning.Planned.{Planned}
 use Rattle.opgen_pipe.specs.Planned.{IsPlanOf}
 use Rattle.opgen_saturate.specs.Chosen.{cut_net}
 use Rattle.opgen_target.specs.Delays.{Delays}
-use Rattle.opgen_top.specs.Kinds.{AreAddersOf, IsFittingNet}
+use Rattle.opgen_top.specs.Kinds.{AreAddersOf}
 use Rattle.opgen_laws.specs.Circuits.{HasOneCircuit, HasOneNet}
 use Rattle.opgen_laws.proofs.ByKind.{OneOfEach, one_adders_of, one_of_operator}
 
@@ -17,9 +17,6 @@ module _ (one : OneOfEach) where
 
   pub one_net : HasOneNet
   one_net spec a b h k = h.cut ∙ ap (cut_net spec) (one_of_operator one spec.op h.own k.own h.by_kind k.by_kind) ∙ sym k.cut
-
-  pub one_fitting : (spec : Spec) (a b : Net) → IsFittingNet spec a → IsFittingNet spec b → a ≡ b
-  one_fitting spec a b h k = one_net spec a b h.of_kind k.of_kind
 
 -- plans of the same parts are the same
 abbrev plan_with : (design : Design) (latency slack : ℕ) (cells : List ℕ) → Planned
@@ -36,6 +33,6 @@ one_plan name enable net table period p q h k =
 
 pub one_circuit : OneOfEach → HasOneCircuit
 one_circuit one spec table enable p q a b h k =
-    let same = one_fitting one spec h.net k.net h.fitting k.fitting in
+    let same = one_net one spec h.net k.net h.of_spec k.of_spec in
     let plan = subst (λ n. IsPlanOf spec.name enable n table spec.period p) same h.plan in
     (one_plan spec.name enable k.net table spec.period p q plan k.plan, one_adders one spec a b h.are_adders k.are_adders)

@@ -1,14 +1,14 @@
 -- Runs over rows of cells: the words at the ports in a cycle stand for the numbers of its row.
-use Rattle.std.proofs.Common.{◌≡◌, inl, inr, ℕ, zero, suc, ◌+◌, ◌-◌, ◌*◌, ◌<◌, ◌≤◌, Bool, true, false, if◌then◌else◌, List, [], ◌∷◌, length, map, take, drop, replicate, Some, refl, sym, ap, ◌∙◌, subst, arith}
+use Rattle.std.proofs.Common.{◌≡◌, inl, inr, ℕ, zero, suc, ◌+◌, ◌-◌, ◌*◌, ◌<◌, ◌≤◌, Bool, true, false, List, [], ◌∷◌, length, map, take, drop, Some, refl, sym, ap, ◌∙◌, subst, arith}
 use Rattle.std.specs.Prelude.{slice_get, slice_index, nat_le, pos, negsuc, ◌-ℤ◌}
 use Rattle.std.specs.List.{concat}
 use Rattle.std.proofs.Math.Nat.{mul-le-mul_right}
 use Rattle.std.proofs.lemmas.Bool.{cases_lt, le-leb, lt-leb}
 use Rattle.std.proofs.lemmas.Int.{ints}
 use Rattle.std.proofs.lemmas.List.{drop-drop, drop_at, get_or-drop, get_or-take, length-drop, length-map, length-take-le, take_at}
-use Rattle.opgen_num.specs.declared.format.Format.{Format}
-use Rattle.opgen_num.specs.Words.{highest, int, val, nat, word, words_of}
+use Rattle.opgen_num.specs.Words.{val, nat, word, words_of}
 use Rattle.opgen_num.proofs.Words.{word-nat}
+use Rattle.opgen_num.proofs.Values.{val-zeros}
 use Rattle.opgen_design.specs.declared.design.Design.{Design}
 use Rattle.opgen_design.specs.Run.{Words, Cycle, RunsOn, at_ports, is_out, output_widths, words_at_outputs}
 use Rattle.opgen_design.specs.Value.{word_at}
@@ -18,26 +18,6 @@ use Rattle.opgen_ports.specs.declared.ports.PortFormat.{PortFormat}
 use Rattle.opgen_ports.specs.Ports.{format_at, number_of, output_numbers, recent_numbers}
 use Rattle.opgen_runs.specs.Rows.{output_cells, rows_words}
 use Rattle.opgen_runs.proofs.Rows.{at_ports-map}
-
--- a word of zeros stands for 0
-nat-zeros : (k : ℕ) → nat (replicate k false) ≡ 0
-nat-zeros zero = refl
-nat-zeros (suc k) = omega (arith, nat-zeros k)
-
-highest-zeros : (k : ℕ) → highest (replicate k false) ≡ false
-highest-zeros zero = refl
-highest-zeros (suc zero) = refl
-highest-zeros (suc (suc k)) = highest-zeros (suc k)
-
-int-zeros : (k : ℕ) → int (replicate k false) ≡ pos 0
-int-zeros k = rw (nat-zeros k, highest-zeros k) refl
-
-val-zeros : (f : Format) (k : ℕ) → val (replicate k false) f ≡ pos 0
-val-zeros f k = by f.signed
-  where
-    by : (signed : Bool) → (if signed then int (replicate k false) else pos (nat (replicate k false))) ≡ pos 0
-    by true = int-zeros k
-    by false = ap pos (nat-zeros k)
 
 abbrev pub widths_of : List PortFormat → List ℕ
 widths_of ports = map (λ p. p.format.width) ports

@@ -38,7 +38,7 @@ use Rattle.opgen_top.specs.declared.line.Line.TheVariants as printed
 use Rattle.opgen_top.specs.Answer.{Answer, file, refusal, success}
 use Rattle.opgen_top.specs.Circuit.{IsCircuit, signals_of}
 use Rattle.opgen_operator.specs.Serves.{Serves}
-use Rattle.opgen_top.specs.Kinds.{AreAddersOf, IsFittingNet}
+use Rattle.opgen_top.specs.Kinds.{AreAddersOf, IsNetOf}
 use Rattle.opgen_runs.specs.Rows.{IsRunOf, output_cells, rows_words}
 use Rattle.opgen_top.specs.Lines.{vectors_name}
 use Rattle.opgen_top.specs.Specified.{wrote, IsAnswerToSpec, IsGenerated, IsVectors, OnLines, OnReading, OnTable, OnTarget}
@@ -50,9 +50,8 @@ use Rattle.opgen_laws.proofs.ByKind.{NetLaws, of_kind}
 
 -- ---- the net and the adders
 
-some_fitting : NetLaws → (spec : Spec) → IsValidSpec spec
-    → ((net : Net) (adders : List ℕ) → IsFittingNet spec net → AreAddersOf spec adders → ⊥) → ⊥
-some_fitting laws spec valid found = of_kind laws spec valid found spec.op refl
+some_net : NetLaws → (spec : Spec) → IsValidSpec spec → ((net : Net) (adders : List ℕ) → IsNetOf spec net → AreAddersOf spec adders → ⊥) → ⊥
+some_net laws spec valid found = of_kind laws spec valid found spec.op refl
 
 -- ---- the circuit, or a refusal by the table
 abbrev plan_for : (spec : Spec) (enable : Bool) (net : Net) (table : Delays) → Planned
@@ -66,20 +65,20 @@ plan_for spec enable net table = record {
 module _ (laws : NetLaws) (spec : Spec) (valid : IsValidSpec spec) (table : Delays) (enable : Bool) (said : Answer → Type 0)
     (made : (planned : Planned) (adders : List ℕ) → IsCircuit spec table enable planned adders → ((a : Answer) → said a → ⊥) → ⊥)
     (found : (a : Answer) → OnTable spec table a (said a) → ⊥) where
-  on_net : (net : Net) (adders : List ℕ) → IsFittingNet spec net → AreAddersOf spec adders → ⊥
-  on_net net adders fitting are =
+  on_net : (net : Net) (adders : List ℕ) → IsNetOf spec net → AreAddersOf spec adders → ⊥
+  on_net net adders of_spec are =
       ⊎_elim
       (λ (short : spec.period < need table net).
       found (refusal (printed.PeriodTooShort (need table net)))
-      (inl (record { net = net; fitting = fitting; short = short; answer = refl })))
+      (inl (record { net = net; of_spec = of_spec; short = short; answer = refl })))
       (λ (long : need table net ≤ spec.period). ⊎_elim
       (λ (many : MAX_SIGNALS < signals_of table spec.period net).
       found (refusal printed.TooLarge)
-      (inr (inl (record { net = net; fitting = fitting; long_enough = long; many_signals = many; answer = refl }))))
+      (inr (inl (record { net = net; of_spec = of_spec; long_enough = long; many_signals = many; answer = refl }))))
       (λ (few : signals_of table spec.period net ≤ MAX_SIGNALS).
       made (plan_for spec enable net table) adders (record {
         net = net;
-        fitting = fitting;
+        of_spec = of_spec;
         are_adders = are;
         long_enough = long;
         few_signals = few;
@@ -89,7 +88,7 @@ module _ (laws : NetLaws) (spec : Spec) (valid : IsValidSpec spec) (table : Dela
       (cases_lt spec.period (need table net))
 
   some_table : ⊥
-  some_table = some_fitting laws spec valid on_net
+  some_table = some_net laws spec valid on_net
 
 -- ---- the run of a circuit
 some_run : (spec : Spec) → IsValidSpec spec → (latency : ℕ) (d : Design) → Serves spec latency false d → (seed count : ℕ)
@@ -158,7 +157,7 @@ module _ (laws : NetLaws) where
       λ spec valid table. some_table laws spec valid table false (IsVectors seed count spec table) (
       λ planned adders circuit made.
       let d = planned.design in
-      let ran = some_run spec valid planned.latency d (laws.serve spec table false planned adders circuit) seed count in
+      let ran = some_run spec valid planned.latency d (laws.serve spec valid table false planned adders circuit) seed count in
       let rows = rows_text (input_widths d) (output_widths d) count (stimulus_cells spec seed count) ran.0 in
       made (success (printed.WroteVectors spec.name count) (file (vectors_name spec.name) rows ∷ [])) (record {
         planned = planned;
@@ -177,7 +176,7 @@ module _ (laws : NetLaws) where
       λ table. some_table laws spec valid table false (IsWorked n table) (
       λ planned adders circuit made.
       let d = planned.design in
-      let ran = some_run spec valid planned.latency d (laws.serve spec table false planned adders circuit) n cycles in
+      let ran = some_run spec valid planned.latency d (laws.serve spec valid table false planned adders circuit) n cycles in
       some_count (IsGoodCycle spec (workload_cells n) ran.0 planned.latency) (cycles - planned.latency) (
       λ good counts. made (success (printed.Worked n (length d.signals) planned.latency good) []) (record {
         planned = planned;

@@ -6,6 +6,7 @@ use Rattle.opgen_design.specs.Rules.{FailsFirst}
 use Rattle.opgen_design.specs.declared.sound.Rule.{Rule}
 use Rattle.opgen_design.specs.declared.sound.Rule.TheVariants.{Undeclared, DeclaredTwice, Width, DrivenTwice, NotDriven, Cyclic, ReadsOutput, NoInitial, ChoiceTwice, BadEnable}
 use Rattle.opgen_design.specs.Sound.{rule_number, Holds}
+use Rattle.opgen_design.proofs.RuleOrder.{same-rule}
 use Rattle.opgen_laws.specs.Verdict.{IsSoundOrFails, EachIsSoundOrFails}
 use Rattle.opgen_laws.proofs.FirstPlaces.{judged}
 use Rattle.opgen_laws.proofs.Numbering.{ordered}
@@ -30,9 +31,6 @@ of_number NoInitial = refl
 of_number ChoiceTwice = refl
 of_number BadEnable = refl
 
-one_rule : (x y : Rule) → rule_number x ≡ rule_number y → x ≡ y
-one_rule x y e = sym (of_number x) ∙ ap rule_of e ∙ of_number y
-
 from_one : (r : Rule) → rule_number r < 1 → ⊥
 from_one r l =
     let e : rule_number r ≡ 0 = omega (arith, l) in
@@ -48,7 +46,7 @@ module _ (d : Design) (neither : IsSoundOrFails d → ⊥) where
   by_rule : (r : Rule) → HoldBefore d (rule_number r) → (HoldBefore d (suc (rule_number r)) → ⊥) → ⊥
   by_rule r earlier later = judged d r (λ (v : Holds d r ⊎ ((number : ℕ) × FailsFirst d r number)). elim v [
     | inl h ↦ later (λ q l. elim (cases_eq (rule_number q) (rule_number r)) [
-      | inl e ↦ subst (Holds d) (sym (one_rule q r e)) h
+      | inl e ↦ subst (Holds d) (sym (same-rule q r e)) h
       | inr e ↦ earlier q (omega (arith, l, e))
     ])
     | inr f ↦

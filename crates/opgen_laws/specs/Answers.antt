@@ -1,7 +1,6 @@
 -- How many correct answers there are: at most one, not none, and the same for every number of workers.
-use Rattle.std.specs.Prelude.{ℕ, ◌≡◌, Bool, List, Option, Some}
+use Rattle.std.specs.Prelude.{ℕ, ◌≡◌, Bool, List, Some}
 use Rattle.opgen_command.specs.Command.{command_of}
-use Rattle.opgen_command.specs.declared.command.Command.{Command}
 use Rattle.opgen_command.specs.declared.command.Command.TheVariants.{Generate}
 use Rattle.opgen_io.specs.Files.{Files}
 use Rattle.opgen_top.specs.Answer.{Answer}
@@ -10,8 +9,8 @@ use Rattle.opgen_top.specs.Targets.{Device}
 
 -- the words, the targets and the files leave at most one answer
 abbrev pub HasOneAnswer : Type 0
-HasOneAnswer = (command : Option Command) (devices : List Device) (files : Files) (a b : Answer)
-    → IsAnswerOf command devices files a → IsAnswerOf command devices files b → a ≡ b
+HasOneAnswer = (words : List (List ℕ)) (devices : List Device) (files : Files) (a b : Answer)
+    → IsAnswerOf (command_of words) devices files a → IsAnswerOf (command_of words) devices files b → a ≡ b
 
 -- the answer to `generate` with one number of workers is the answer with every other
 abbrev pub IsForAllWorkers : Type 0

@@ -25,9 +25,9 @@ abbrev pub HasOneCircuit : Type 0
 HasOneCircuit = (spec : Spec) (table : Delays) (enable : Bool) (p q : Planned) (a b : List ℕ)
     → IsCircuit spec table enable p a → IsCircuit spec table enable q b → (p ≡ q) × (a ≡ b)
 
--- every circuit is sound
+-- every circuit of a valid specification is sound
 abbrev pub CircuitsAreSound : Type 0
-CircuitsAreSound = (spec : Spec) (table : Delays) (enable : Bool) (planned : Planned) (adders : List ℕ)
+CircuitsAreSound = (spec : Spec) → IsValidSpec spec → (table : Delays) (enable : Bool) (planned : Planned) (adders : List ℕ)
     → IsCircuit spec table enable planned adders → IsSound planned.design
 
 -- `check` of the text of a circuit, at its latency: whatever rows it is given, each row that is judged is good

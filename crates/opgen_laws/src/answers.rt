@@ -4,9 +4,8 @@ ghost use Rattle.opgen_laws.specs.Causes.{AnswersHaveCauses, RefusalsAreDue};
 ghost use Rattle.opgen_laws.specs.Lines.{LinesAreFixed};
 ghost use Rattle.opgen_laws.specs.Workloads.{WorkloadsAreGood};
 
-use opgen_operator::{outputs_hold, products_have_width};
 use opgen_part_laws::{one_adder_set, one_least_graph, one_net_of_product, one_net_of_sop};
-use opgen_shared::{one_rule_graph, rule_graph_serves, some_rule_graph};
+use opgen_shared::{one_rule_graph, some_rule_graph};
 use opgen_top::circuits_serve;
 
 /// The words, the targets and the files leave at most one answer: its status, its line and its stores.
@@ -25,10 +24,7 @@ pub fn one_answer()
 pub fn some_answer()
     ensures { HasSomeAnswer }
 {
-    outputs_hold();
-    products_have_width();
     some_rule_graph();
-    rule_graph_serves();
     circuits_serve();
 }
 

@@ -27,7 +27,7 @@ pub fn one_circuit()
     one_rule_graph();
 }
 
-/// Each circuit is sound.
+/// Each circuit of a valid specification is sound.
 pub fn circuits_are_sound()
     ensures { CircuitsAreSound }
 {}

@@ -4,8 +4,9 @@
 //! classical proof). It is the same for every number of workers. Each status says what the words, the files and the targets
 //! are, and each cause for which a specification is rejected, or `check` rejects, makes that rejection the correct answer.
 //! The statuses 2, 3 and 9 have one line each. A specification has at most one net, and at most one circuit for a table of
-//! delays; each circuit is sound, and `check` finds each row of it that it judges good. Every cycle of a workload from the
-//! latency on is good. A design is sound or has a first rule that fails (a classical proof: which of the two is not said).
+//! delays; if it is valid, its circuit is sound, and `check` finds each row of it that it judges good. Every cycle of a workload
+//! from the latency on is good. A design is sound or has a first rule that fails (a classical proof: which of the two is not
+//! said).
 //!
 //! By: the laws `one_answer`, `some_answer`, `any_workers`, `answers_have_causes`, `refusals_are_due`, `lines_are_fixed`,
 //! `one_net`, `one_circuit`, `circuits_are_sound`, `circuits_check_good`, `workloads_are_good`, `has_verdict`.

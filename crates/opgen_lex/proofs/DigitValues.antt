@@ -1,24 +1,13 @@
 -- Digits read one by one.
 use Rattle.std.specs.Prelude.{if◌then◌else◌}
-use Rattle.std.proofs.Common.{◌≡◌, ℕ, suc, ◌+◌, ◌*◌, ◌-◌, ◌≤◌, ◌<◌, true, nat_le, nat_lt, List, [], ◌∷◌, length, drop, get_or, Some, None, refl, ap, ◌∙◌, arith, drop-cons}
-use Rattle.std.proofs.lemmas.Bool.{and_parts, leb-true, lt-ltb, le-ltb, true_from_ne_false}
-use Rattle.std.proofs.lemmas.List.Folds.{list_all_at}
+use Rattle.std.proofs.Common.{◌≡◌, ℕ, suc, ◌+◌, ◌*◌, ◌-◌, ◌≤◌, ◌<◌, true, nat_lt, List, [], ◌∷◌, length, drop, get_or, Some, None, refl, ap, ◌∙◌, arith, drop-cons}
+use Rattle.std.proofs.lemmas.Bool.{lt-ltb, le-ltb}
 use Rattle.std.specs.Char.{is_ascii_digit, digit_value}
 use Rattle.std.specs.Str.Parse.{digits_value_after}
 use Rattle.std.specs.List.{list_all}
 use Rattle.opgen_num.specs.declared.format.TheConstants.{MAX_WIDTH}
+use Rattle.opgen_num.proofs.DecimalDigits.{digit_at}
 use Rattle.opgen_vhdl.specs.Grammar.{value}
-
-digit_bounds : (b : ℕ) → is_ascii_digit b ≡ true → (48 ≤ b) × (b ≤ 57)
-digit_bounds b h =
-    let (low, high) = and_parts (nat_le 48 b) (nat_le b 57) h in
-    (leb-true 48 b low, leb-true b 57 high)
-
-pub digit_at : (digits : List ℕ) (i : ℕ) → list_all is_ascii_digit digits ≡ true → i < length digits → (48 ≤ get_or digits i 0)
-    × (get_or digits i 0 ≤ 57)
-digit_at digits i all lt =
-    digit_bounds (get_or digits i 0) (true_from_ne_false (is_ascii_digit (get_or digits i 0)) (λ no_digit. let none = list_all_at
-    is_ascii_digit digits i 0 lt no_digit in cc))
 
 digit_is : (b : ℕ) → 48 ≤ b → b ≤ 57 → digit_value b ≡ b - 48
 digit_is b low high = rw (le-ltb b 48 low, lt-ltb b 58 (omega (arith, high))) refl

@@ -4,6 +4,7 @@ use Rattle.std.proofs.Common.{◌≡◌, ℕ, suc, ◌+◌, ◌<◌, ◌≤◌, 
 use Rattle.std.specs.List.{prefix_len}
 use Rattle.std.proofs.lemmas.Bool.{cases_Bool, eqb-true}
 use Rattle.std.proofs.lemmas.List.{drop_all}
+use Rattle.std.proofs.Math.Bool.{and-false, and-true}
 use Rattle.opgen_vhdl.specs.Tokens.{is_word_byte, is_underscore, has_single_underscores}
 use Rattle.opgen_vhdl.specs.Fronts.{word_front}
 use Rattle.opgen_vhdl.specs.declared.kind.Front.{Front}
@@ -36,14 +37,6 @@ single-other b [] true h = rw h refl
 single-other b (d ∷ w) true h = rw h refl
 single-other b [] false h = rw h refl
 single-other b (d ∷ w) false h = rw h refl
-
-and-false : (a : Bool) → (a && false) ≡ false
-and-false true = refl
-and-false false = refl
-
-and-true : (a : Bool) → (a && true) ≡ a
-and-true true = refl
-and-true false = refl
 
 single_word-suc : (single : Bool) (n : ℕ) → option_map suc (single_word single n) ≡ single_word single (suc n)
 single_word-suc true n = refl

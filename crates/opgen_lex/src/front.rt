@@ -6,10 +6,9 @@ ghost use Rattle.std.specs.List.{prefix_len};
 ghost use Rattle.opgen_vhdl.specs.Tokens.{is_white, is_word_byte, is_bit, is_in_line, is_underscore, has_single_underscores, begins};
 ghost use Rattle.opgen_vhdl.specs.Fronts.{front_of, word_front, number_front, bits_front, char_front, hyphen_front, mark_front, FrontStands};
 
+use opgen_names::MAX_NAME_LEN;
 use opgen_num::MAX_WIDTH;
 use opgen_vhdl::{Front, TokenKind};
-
-const MAX_WORD_LEN: usize = 64;
 
 const MAX_DIGITS: usize = 9;
 
@@ -113,7 +112,7 @@ fn word_front(bytes: &[u8]) -> Option<Front>
     ensures { result ≡ word_front bytes.now }
 {
     let len = word_len(bytes)?;
-    if len <= MAX_WORD_LEN {
+    if len <= MAX_NAME_LEN {
         Some(Front::Token(TokenKind::Word, len))
     } else {
         None

@@ -11,10 +11,9 @@ use Rattle.opgen_design.specs.declared.design.Driver.{Driver}
 use Rattle.opgen_design.specs.declared.design.Driver.TheVariants.{Assign, Choice, Table, Register, Output}
 use Rattle.opgen_design.specs.declared.design.Signal.{Signal}
 use Rattle.opgen_design.specs.Run.{initial_words, input_widths}
-use Rattle.opgen_design.specs.declared.sound.Rule.TheVariants.{Width}
-use Rattle.opgen_design.specs.Sound.{IsSound, IsSignalWide, SignalPasses, at_signal, signal_widths}
+use Rattle.opgen_design.specs.Sound.{IsSound, IsSignalWide, signal_widths}
 use Rattle.opgen_runs.specs.Registers.{SameRegisters}
-use Rattle.opgen_runs.proofs.Starts.{start, starts-registers}
+use Rattle.opgen_runs.proofs.Starts.{start, starts-registers, wide-at}
 use Rattle.opgen_machine.specs.Laid.{AreLaid, Grown, HasRoom, IsFlat, IsLaid}
 use Rattle.opgen_machine.specs.Layout.{rest_of, start_number, start_of}
 use Rattle.opgen_machine.specs.Machines.{IsState, registers}
@@ -65,9 +64,6 @@ starts-words (s ∷ ss) xs f =
     ∙ ap (λ l. start s ∷ l) (starts-words ss xs (λ j q e. f (suc j) q e))
 
 module _ (d : Design) (sound : IsSound d) (flat : IsFlat d) where
-  wide : (i : ℕ) (s : Signal) → slice_get d.signals i ≡ Some s → IsSignalWide s
-  wide i s e = subst (λ o. IfSome o (SignalPasses d Width i)) e (sound.widths (at_signal i))
-
   pub length-start : length (start_of d) ≡ rest_of d + 1
   length-start = omega (
     arith,
@@ -96,7 +92,7 @@ module _ (d : Design) (sound : IsSound d) (flat : IsFlat d) where
       let n : length ws ≡ length d.signals = length-map d.signals (λ s. s.width) in
       let fits : FitFirst ws m = λ i j.
       subst (λ x. x < 2 ^ get_or ws i 0) (sym (grown.kept i (omega (arith, j, n, length-start)) ∙ front i (omega (arith, j, n))))
-      (starts-below d.signals wide i (omega (arith, j, n))) in
+      (starts-below d.signals (wide-at d sound) i (omega (arith, j, n))) in
       record {
         count = l;
         fit = (fit-first m ws fits, ports-zero d flat m (λ i a b. grown.kept i (omega (arith, b, length-start)) ∙ behind i a b));
@@ -110,7 +106,7 @@ module _ (d : Design) (sound : IsSound d) (flat : IsFlat d) where
       let same : registers d m ≡ map start d.signals =
       words-kept ws m (start_of d) (omega (arith, n, length-start, grown.longer)) (omega (arith, n, length-start))
       (λ i j. grown.kept i (omega (arith, j, n, length-start)))
-      ∙ starts-words d.signals (replicate (length (input_widths d) + 1) 0) wide in
+      ∙ starts-words d.signals (replicate (length (input_widths d) + 1) 0) (wide-at d sound) in
       subst (λ now. SameRegisters d now (initial_words d.signals)) (sym same) (starts-registers d sound)
 
 -- more numbers behind

@@ -1,7 +1,8 @@
 -- What the steps of a driver leave.
-use Rattle.std.proofs.Common.{◌≡◌, ℕ, zero, suc, ◌+◌, ◌<◌, ◌≤◌, ◌^◌, Bool, true, false, if◌then◌else◌, List, [], ◌∷◌, length, get_or, Option, Some, Result, Ok, Err, refl, sym, ap, ◌∙◌, subst, arith}
+use Rattle.std.proofs.Common.{◌≡◌, ℕ, zero, suc, ◌+◌, ◌<◌, ◌≤◌, ◌^◌, Bool, true, false, List, [], ◌∷◌, length, get_or, Some, Result, Ok, Err, refl, sym, ap, ◌∙◌, subst, arith}
 use Rattle.std.specs.Prelude.{All, IfOk, IfSome, ◌==◌, nat_eq, unwrap_or}
 use Rattle.std.proofs.lemmas.Bool.{eqb-true}
+use Rattle.std.proofs.lemmas.Option.{same_Some}
 use Rattle.opgen_num.specs.Words.{nat}
 use Rattle.opgen_num.proofs.Words.{nat-below}
 use Rattle.opgen_design.specs.declared.design.Driver.{Driver}
@@ -13,6 +14,7 @@ use Rattle.opgen_design.specs.Tree.{Tree, bits}
 use Rattle.opgen_design.specs.Value.{IsWidth}
 use Rattle.opgen_design.proofs.WidthLaws.{as_width-of}
 use Rattle.opgen_runs.specs.Evaluate.{driver_word}
+use Rattle.opgen_runs.proofs.Widths.{found-length}
 use Rattle.opgen_runs.specs.Tables.{Row, row_word}
 use Rattle.opgen_machine.specs.declared.step.Step.{Step}
 use Rattle.opgen_machine.specs.declared.step.Spot.{Spot}
@@ -23,13 +25,10 @@ use Rattle.opgen_machine.proofs.Gives.{extends-trans, fit-back, gives-along, see
 use Rattle.opgen_machine.specs.Laid.{HasRoom}
 use Rattle.opgen_machine.specs.Settles.{Agrees, AgreesTable, HasNarrow, Leaves, Left, chosen_over, width_at}
 
-some-one : (a b : ℕ) → Some a ≡ Some b → a ≡ b
-some-one a b h = cc
-
 -- the width of an emitted expression is the one that it was said to have
 pub has-size : (base : ℕ) (spots : Spots) (e : Tree) (before after : List Step) (s : Spot) (w : ℕ) → Emitted base spots e before after s
     → HasNarrow spots e w → s.width ≡ w
-has-size base spots e before after s w h n = some-one s.width w (sym h.width ∙ n.0)
+has-size base spots e before after s w h n = same_Some s.width w (sym h.width ∙ n.0)
 
 pub is-narrow : (spots : Spots) (e : Tree) (w : ℕ) → HasNarrow spots e w → IsNarrow (width_over spots e)
 is-narrow spots e w h = subst IsNarrow (sym h.0) h.1
@@ -53,7 +52,7 @@ leaves-of low base spots k from f before after s w same h = record {
 -- expressions of one width are emitted with one
 pub same-size : (spots : Spots) (a b : Tree) (u v : ℕ) → width_over spots a ≡ Some u → width_over spots b ≡ Some v
     → width_over spots b ≡ width_over spots a → u ≡ v
-same-size spots a b u v h k e = some-one u v (sym h ∙ sym e ∙ k)
+same-size spots a b u v h k e = same_Some u v (sym h ∙ sym e ∙ k)
 
 -- an expression given as code has the width of its plain data
 pub plain-narrow : (spots : Spots) (e t : Tree) → e ≡ t → IsNarrow (width_over spots t) → IsNarrow (width_over spots e)
@@ -84,15 +83,10 @@ module _ (base : ℕ) (spots : Spots) (before : List Step) (are : AreSpots (base
       }
 
 -- the words of a table have one width
-one-long : (b : Bool) (word other : List Bool) (found : Option (List Bool)) (w : ℕ) → length word ≡ w → length (unwrap_or found other) ≡ w
-    → length (unwrap_or (if b then Some word else found) other) ≡ w
-one-long true word other found w h k = h
-one-long false word other found w h k = k
-
 table-long : (rows : List Row) (other : List Bool) (n w : ℕ) → All (λ r. length r.1 ≡ w) rows → length other ≡ w
     → length (unwrap_or (row_word rows n) other) ≡ w
 table-long [] other n w h k = k
-table-long (r ∷ rows) other n w h k = one-long (nat_eq (nat r.0) n) r.1 other (row_word rows n) w (h 0 r (omega arith))
+table-long (r ∷ rows) other n w h k = found-length (nat_eq (nat r.0) n) r.1 other (row_word rows n) w (h 0 r (omega arith))
     (table-long rows other n w (λ i x l. h (suc i) x (omega (arith, l))) k)
 
 pub first-address : (spots : Spots) (on : Tree) (r : Row) (rows : List Row) (other : List Bool) (w : ℕ)
@@ -106,7 +100,7 @@ no-rows low base spots on other from before after s h is = record {
   extends = h.extends;
   fine = h.fine;
   there = h.gives.there;
-  width = some-one s.width (length other) (sym h.width ∙ as_width-of (length other) is);
+  width = same_Some s.width (length other) (sym h.width ∙ as_width-of (length other) is);
   word = λ m e laid fit. h.gives.word m e fit;
 }
 

@@ -11,8 +11,7 @@ use Rattle.opgen_num.proofs.Cuts.{nat-cut}
 use Rattle.opgen_design.specs.declared.expr.Op.{Op}
 use Rattle.opgen_design.specs.Tree.{Tree, Trees, name, part, bits, port, inverse, chain, none, more}
 use Rattle.opgen_design.specs.Value.{word_at, combined, IsWidth, as_width, joined, width_on, chain_width}
-use Rattle.opgen_design.proofs.WidthLaws.{as_width-some, some_before, part_fits, PartFits, length-cut, width-is_width}
-use Rattle.opgen_runs.proofs.Fitting.{some-of}
+use Rattle.opgen_design.proofs.WidthLaws.{as_width-some, some_before, part_fits, PartFits, length-cut, width-is_width, some_width}
 use Rattle.opgen_machine.specs.declared.step.Step.{Step}
 use Rattle.opgen_machine.specs.declared.step.Step.TheVariants.{Constant, Turn, Part}
 use Rattle.opgen_machine.specs.declared.step.Spot.{Spot}
@@ -48,7 +47,7 @@ spot-word spots n l m fit =
 pub at-spots : (spots : List Spot) (n : ℕ) → IsSome (option_and_then as_width (slice_get (widths_of spots) n)) → (w : ℕ)
     × (option_and_then as_width (slice_get (widths_of spots) n) ≡ Some w) × (slice_get (widths_of spots) n ≡ Some w)
 at-spots spots n some =
-    let w = some-of (option_and_then as_width (slice_get (widths_of spots) n)) some in
+    let w = some_width (option_and_then as_width (slice_get (widths_of spots) n)) some in
     let a = some_before (slice_get (widths_of spots) n) as_width w.0 w.1 in
     (w.0, w.1, a.1 ∙ ap Some (as_width-some a.0 w.0 a.2).0)
 
@@ -86,7 +85,7 @@ module _ (base : ℕ) (spots : Spots) (steps : List Step) (fine : AreFine base s
   pub part-lies : (n high low : ℕ) → IsSome (width_over spots (part n high low)) → (x : ℕ) × (v : ℕ)
       × (slice_get (widths_of spots.signals) n ≡ Some x) × PartFits high low x v × (width_over spots (part n high low) ≡ Some v)
   part-lies n high low some =
-      let w = some-of (width_over spots (part n high low)) some in
+      let w = some_width (width_over spots (part n high low)) some in
       let a = some_before (slice_get (widths_of spots.signals) n)
       (λ x. if nat_le low high && nat_lt high x then as_width (high + 1 - low) else None) w.0 w.1 in
       (a.0, w.0, a.1, part_fits high low a.0 w.0 a.2, w.1)
@@ -152,7 +151,7 @@ module _ (base : ℕ) (spots : Spots) (steps : List Step) (fine : AreFine base s
   pub emitted-bits : (x : List Bool) → IsSome (width_over spots (bits x))
       → Emitted base spots (bits x) steps (steps ++ Constant (nat x) ∷ []) (record { place = base + length steps; width = length x })
   emitted-bits x some =
-      let u = some-of (width_over spots (bits x)) some in
+      let u = some_width (width_over spots (bits x)) some in
       let s = as_width-some (length x) u.0 u.1 in
       record {
         extends = (Constant (nat x) ∷ [], refl);

@@ -20,8 +20,8 @@ use Rattle.opgen_design.specs.Tree.{Tree, port}
 use Rattle.opgen_design.specs.Value.{IsWidth, as_width, width}
 use Rattle.opgen_design.proofs.SoundLaws.{declared-at}
 use Rattle.opgen_design.proofs.WidthLaws.{as_width-of}
+use Rattle.opgen_design.proofs.NameWalk.{some-item}
 use Rattle.opgen_runs.specs.Evaluate.{HaveWidths}
-use Rattle.opgen_runs.proofs.Reading.{there-some}
 use Rattle.opgen_runs.proofs.Widths.{agree-at}
 use Rattle.opgen_machine.specs.declared.step.Spot.{Spot}
 use Rattle.opgen_machine.specs.Programs.{AreBelow, AreSpots, Fit, Spots, seen, widths_of, word_of}
@@ -200,7 +200,7 @@ module _ (d : Design) where
 
       signal-wide : (to : ℕ) → to < length d.signals → IsWidth (get_or (signal_widths d) to 0)
       signal-wide to l =
-          let s = there-some d.signals to l in
+          let s = some-item d.signals to l in
           let a : slice_get (signal_widths d) to ≡ Some s.0.width = slice_get-map (λ (x : Signal). x.width) d.signals to
           ∙ ap (option_map (λ (x : Signal). x.width)) s.1 in
           let b : slice_get (signal_widths d) to ≡ Some (get_or (signal_widths d) to 0) = slice_get-get_or (signal_widths d) to 0
@@ -281,7 +281,7 @@ module _ (d : Design) where
           by : (o : Option ℕ) → d.enable ≡ o → IfSome o (λ p. p < length d.ports) → IfSome o (λ p. HasNarrow spots (port p) 1)
           by None e l = tt
           by (Some p) e l =
-              let q = there-some d.ports p l in
+              let q = some-item d.ports p l in
               let fits = subst (λ o. IfSome o (PortPasses d BadEnable p)) q.1 (sound.enable (at_port p)) e in
               let a : slice_get (port_widths d) p ≡ Some 1 = slice_get-map (λ (x : Port). x.width) d.ports p
               ∙ ap (option_map (λ (x : Port). x.width)) q.1 ∙ ap Some fits.1 in

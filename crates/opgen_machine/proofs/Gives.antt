@@ -10,7 +10,8 @@ use Rattle.opgen_design.specs.declared.expr.Op.{Op}
 use Rattle.opgen_design.specs.declared.expr.Op.TheVariants.{And, Or, Xor, Cat, Plus, Minus}
 use Rattle.opgen_design.specs.Run.{Words}
 use Rattle.opgen_design.specs.Value.{chosen, combined, IsWidth, joined}
-use Rattle.opgen_design.proofs.WidthLaws.{as_width-some}
+use Rattle.opgen_design.proofs.WidthLaws.{as_width-some, equal_widths}
+use Rattle.opgen_design.proofs.ValueLaws.{length-chosen}
 use Rattle.opgen_runs.proofs.Fitting.{pair-value}
 use Rattle.opgen_machine.specs.declared.step.Step.{Step}
 use Rattle.opgen_machine.specs.declared.step.Step.TheVariants.{Copy, Choose, Look}
@@ -19,7 +20,7 @@ use Rattle.opgen_machine.specs.Steps.{act, Reads, AreFine, exec}
 use Rattle.opgen_machine.specs.Programs.{Holds, Gives, Spots, Fit, AllFit, AreBelow, AreSpots, word_of, seen}
 use Rattle.opgen_machine.specs.Emit.{Extends, IsNarrow, Chosen, Copied, Looked, Combined, step_of, width_of}
 use Rattle.opgen_machine.proofs.Exec.{exec-append, exec-at, exec-length, exec-kept, exec-last, fine-append}
-use Rattle.opgen_machine.proofs.Narrow.{narrow-of, equal-widths}
+use Rattle.opgen_machine.proofs.Narrow.{narrow-of}
 use Rattle.opgen_machine.proofs.Numbers.{nat-and, nat-or, nat-xor, nat-add, nat-subtract, nat-join}
 
 -- the words of spots are those of the numbers there
@@ -166,20 +167,20 @@ module _ (m : List ℕ) (a b : Spot) (v w : List Bool) (h : Holds m a v) (k : Ho
   same e = h.width ∙ e ∙ sym k.width
 
   pub step-combined : (op : Op) (u : ℕ) → joined op a.width b.width ≡ Some u → u ≤ 64 → act (step_of op a b) m ≡ nat (combined op v w)
-  step-combined And u j n = on-numbers bit_and ∙ sym (nat-and v w (same (equal-widths a.width b.width u j).0))
-  step-combined Or u j n = on-numbers bit_or ∙ sym (nat-or v w (same (equal-widths a.width b.width u j).0))
-  step-combined Xor u j n = on-numbers bit_xor ∙ sym (nat-xor v w (same (equal-widths a.width b.width u j).0))
+  step-combined And u j n = on-numbers bit_and ∙ sym (nat-and v w (same (equal_widths a.width b.width u j).0))
+  step-combined Or u j n = on-numbers bit_or ∙ sym (nat-or v w (same (equal_widths a.width b.width u j).0))
+  step-combined Xor u j n = on-numbers bit_xor ∙ sym (nat-xor v w (same (equal_widths a.width b.width u j).0))
   step-combined Cat u j n =
       let s = as_width-some (a.width + b.width) u j in
       let l : length v + length w ≤ 64 = omega (arith, s.0, n, h.width, k.width) in
       on-numbers (λ x y. bit_or (x * 2 ^ b.width % 2 ^ 64) y) ∙ ap (λ n. bit_or (nat v * 2 ^ n % 2 ^ 64) (nat w)) (sym k.width)
       ∙ sym (nat-join v w l)
   step-combined Plus u j n =
-      let s = equal-widths a.width b.width u j in
+      let s = equal_widths a.width b.width u j in
       on-numbers (λ x y. bit_and ((x + y) % 2 ^ 64) (2 ^ a.width - 1))
       ∙ sym (nat-add v w a.width h.width (k.width ∙ sym s.0) (omega (arith, s.1, n)))
   step-combined Minus u j n =
-      let s = equal-widths a.width b.width u j in
+      let s = equal_widths a.width b.width u j in
       on-numbers (λ x y. bit_and ((x + (2 ^ 64 - y)) % 2 ^ 64) (2 ^ a.width - 1))
       ∙ sym (nat-subtract v w a.width h.width (k.width ∙ sym s.0) (omega (arith, s.1, n)))
 
@@ -191,12 +192,6 @@ choice-number (true ∷ []) a b x y n e l p q = ap (λ k. if nat_eq k 1 then x e
 choice-number (false ∷ []) a b x y n e l p q = ap (λ k. if nat_eq k 1 then x else y) e ∙ q
 choice-number (c ∷ d ∷ v) a b x y n e l p q = absurd (omega (arith, l))
 
-choice-width : (v a b : List Bool) (w : ℕ) → length a ≡ w → length b ≡ w → length (chosen v a b) ≡ w
-choice-width [] a b w p q = q
-choice-width (true ∷ []) a b w p q = p
-choice-width (true ∷ d ∷ v) a b w p q = q
-choice-width (false ∷ v) a b w p q = q
-
 reads-of : (n : ℕ) (op : Op) (a b : Spot) (u : ℕ) → a.place < n → b.place < n → IsWidth a.width → joined op a.width b.width ≡ Some u
     → u ≤ 64 → Reads n (step_of op a b)
 reads-of n And a b u h k w j l = (h, k)
@@ -207,12 +202,12 @@ reads-of n Plus a b u h k w j l = (h, k)
 reads-of n Minus a b u h k w j l = (h, k)
 
 width-joined : (op : Op) (a b u : ℕ) → joined op a b ≡ Some u → width_of op a b ≡ u
-width-joined And a b u j = (equal-widths a b u j).1
-width-joined Or a b u j = (equal-widths a b u j).1
-width-joined Xor a b u j = (equal-widths a b u j).1
+width-joined And a b u j = (equal_widths a b u j).1
+width-joined Or a b u j = (equal_widths a b u j).1
+width-joined Xor a b u j = (equal_widths a b u j).1
 width-joined Cat a b u j = (as_width-some (a + b) u j).0
-width-joined Plus a b u j = (equal-widths a b u j).1
-width-joined Minus a b u j = (equal-widths a b u j).1
+width-joined Plus a b u j = (equal_widths a b u j).1
+width-joined Minus a b u j = (equal_widths a b u j).1
 
 long : (op : Op) (x y : List Bool) (a b u : ℕ) → length x ≡ a → length y ≡ b → IsWidth a → IsWidth b → joined op a b ≡ Some u
     → length (combined op x y) ≡ u
@@ -261,7 +256,7 @@ module _ (base : ℕ) (spots : Spots) (steps : List Step) (fine : AreFine base s
         let v = seen (exec steps m) spots in (
           choice-number (f v) (g v) (h v) (get_or (exec steps m) one.place 0) (get_or (exec steps m) other.place 0)
               (get_or (exec steps m) on.place 0) x.number (x.width ∙ bit) y.number z.number,
-          choice-width (f v) (g v) (h v) one.width y.width (z.width ∙ sym equal),
+          length-chosen (f v) (g v) (h v) one.width y.width (z.width ∙ sym equal),
         ));
   }
 

@@ -1,19 +1,15 @@
 -- Widths of at most 64 bits: what an expression of such a width is made of has such widths.
-use Rattle.std.proofs.Common.{◌≡◌, ℕ, ◌+◌, ◌-◌, ◌<◌, ◌≤◌, Bool, true, false, if◌then◌else◌, List, [], ◌∷◌, length, take, drop, get_or, Option, Some, None, refl, sym, ap, ◌∙◌, subst, arith}
-use Rattle.std.specs.Prelude.{All, IsSome, nat_eq, option_and_then}
-use Rattle.std.proofs.lemmas.Bool.{eqb-true}
+use Rattle.std.proofs.Common.{◌≡◌, ℕ, ◌+◌, ◌-◌, ◌<◌, ◌≤◌, List, [], ◌∷◌, length, take, drop, get_or, Option, Some, None, refl, sym, ap, ◌∙◌, subst, arith}
+use Rattle.std.specs.Prelude.{All, IsSome, option_and_then}
 use Rattle.std.proofs.lemmas.List.Elements.{All-cons}
-use Rattle.opgen_num.specs.Words.{word}
-use Rattle.opgen_num.specs.WordLaws.{length-word}
 use Rattle.opgen_design.specs.declared.expr.Expr.{Expr}
 use Rattle.opgen_design.specs.declared.expr.Op.{Op}
 use Rattle.opgen_design.specs.declared.expr.Op.TheVariants.{And, Or, Xor, Cat, Plus, Minus}
 use Rattle.opgen_design.specs.Tree.{Tree, Trees, none, more}
 use Rattle.opgen_design.specs.Plain.{plain, plain_all}
-use Rattle.opgen_design.specs.Value.{IsWidth, joined, width, chain_width, width_on}
-use Rattle.opgen_design.proofs.WidthLaws.{some_before, as_width-some}
+use Rattle.opgen_design.specs.Value.{joined, width, chain_width, width_on}
+use Rattle.opgen_design.proofs.WidthLaws.{some_before, as_width-some, equal_widths}
 use Rattle.opgen_runs.proofs.Plain.{more-at, first-and-rest}
-use Rattle.opgen_runs.proofs.Fitting.{pair-is_width}
 use Rattle.opgen_machine.specs.Emit.{IsNarrow}
 
 pub narrow-some : (o : Option ℕ) → IsNarrow o → IsSome o
@@ -27,21 +23,14 @@ narrow-of (Some w) h = (w, refl, h)
 pub is-narrow : (o : Option ℕ) (w : ℕ) → o ≡ Some w → w ≤ 64 → IsNarrow o
 is-narrow o w e h = subst IsNarrow (sym e) h
 
-if-some : (b : Bool) (x w : ℕ) → (if b then Some x else None) ≡ Some w → (b ≡ true) × (x ≡ w)
-if-some true x w h = (refl, cc)
-if-some false x w h = absurd (cc)
-
-pub equal-widths : (a b w : ℕ) → (if nat_eq a b then Some a else None) ≡ Some w → (a ≡ b) × (a ≡ w)
-equal-widths a b w h = let s = if-some (nat_eq a b) a w h in (eqb-true a b s.0, s.1)
-
 -- neither operand is wider than both together
 pub joined-wider : (op : Op) (a b w : ℕ) → joined op a b ≡ Some w → (a ≤ w) × (b ≤ w)
-joined-wider And a b w e = let s = equal-widths a b w e in (omega (arith, s.1), omega (arith, s.0, s.1))
-joined-wider Or a b w e = let s = equal-widths a b w e in (omega (arith, s.1), omega (arith, s.0, s.1))
-joined-wider Xor a b w e = let s = equal-widths a b w e in (omega (arith, s.1), omega (arith, s.0, s.1))
+joined-wider And a b w e = let s = equal_widths a b w e in (omega (arith, s.1), omega (arith, s.0, s.1))
+joined-wider Or a b w e = let s = equal_widths a b w e in (omega (arith, s.1), omega (arith, s.0, s.1))
+joined-wider Xor a b w e = let s = equal_widths a b w e in (omega (arith, s.1), omega (arith, s.0, s.1))
 joined-wider Cat a b w e = let s = as_width-some (a + b) w e in (omega (arith, s.0), omega (arith, s.0))
-joined-wider Plus a b w e = let s = equal-widths a b w e in (omega (arith, s.1), omega (arith, s.0, s.1))
-joined-wider Minus a b w e = let s = equal-widths a b w e in (omega (arith, s.1), omega (arith, s.0, s.1))
+joined-wider Plus a b w e = let s = equal_widths a b w e in (omega (arith, s.1), omega (arith, s.0, s.1))
+joined-wider Minus a b w e = let s = equal_widths a b w e in (omega (arith, s.1), omega (arith, s.0, s.1))
 
 module _ (ns ps : List ℕ) (op : Op) where
   -- the next operand of a chain
@@ -99,11 +88,3 @@ module _ (ns ps : List ℕ) (op : Op) where
       → IsNarrow (width_on ns ps op w (plain_all (drop i xs))) → width ns ps (plain x) ≡ Some v → IsNarrow (joined op w v)
   chain-join w v xs i x l e h k =
       join-narrow w v (plain x) (plain_all (drop (i + 1) xs)) (subst (λ ts. IsNarrow (width_on ns ps op w ts)) (more-at xs i x l e) h) k
-
--- two operands of widths of signals join to one
-pub joined-is_width : (op : Op) (a b w : ℕ) → IsWidth a → IsWidth b → joined op a b ≡ Some w → IsWidth w
-joined-is_width op a b w h k e =
-    let x = length-word a 0 in
-    let y = length-word b 0 in
-    pair-is_width [] [] op (word a 0) (word b 0) w (subst IsWidth (sym x) h) (subst IsWidth (sym y) k)
-    (ap (λ n. joined op n (length (word b 0))) x ∙ ap (joined op a) y ∙ e)

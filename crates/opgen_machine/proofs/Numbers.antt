@@ -1,13 +1,14 @@
 -- The numbers of operations on words.
-use Rattle.std.proofs.Common.{◌≡◌, ℕ, ◌+◌, ◌-◌, ◌*◌, ◌%◌, ◌^◌, ◌<◌, ◌≤◌, Bool, true, false, List, [], ◌∷◌, ◌++◌, length, map, refl, sym, ap, ◌∙◌, subst, arith, pow-add}
+use Rattle.std.proofs.Common.{◌≡◌, ℕ, ◌+◌, ◌-◌, ◌*◌, ◌%◌, ◌^◌, ◌<◌, ◌≤◌, Bool, true, false, List, ◌++◌, length, map, sym, ap, ◌∙◌, subst, arith, pow-add}
 use Rattle.std.specs.Prelude.{not, ◌&&◌, ◌||◌, bit_and, bit_or, bit_xor}
-use Rattle.std.proofs.Math.Nat.{two-pow-succ, add-mul-mod_self_left, pow-le-pow_right}
+use Rattle.std.proofs.Math.Nat.{add-mul-mod_self_left, pow-le-pow_right}
 use Rattle.std.proofs.Math.Pow.{mod-mod-pow}
 use Rattle.std.proofs.lemmas.Nat.{and_mask, or_lt, xor_lt, or_shifted, shl_whole, pow_pos}
 use Rattle.std.specs.Int.Bits.{and_lt}
 use Rattle.std.proofs.lemmas.List.{length-map}
 use Rattle.opgen_num.specs.Words.{digit, nat, word, xor, pairwise, sum_with}
 use Rattle.opgen_num.specs.WordLaws.{nat-word}
+use Rattle.opgen_num.proofs.Carries.{nat-not}
 use Rattle.opgen_num.proofs.Words.{nat-below}
 use Rattle.opgen_num.proofs.Cuts.{nat-append}
 use Rattle.opgen_runs.proofs.WordOps.{word-and, word-or, word-xor, word-sum, word-mod}
@@ -39,12 +40,6 @@ nat-or a b h = number-whole (length a) (bit_or (nat a) (nat b)) (pairwise ◌||�
 pub nat-xor : (a b : List Bool) → length a ≡ length b → nat (pairwise xor a b) ≡ bit_xor (nat a) (nat b)
 nat-xor a b h = number-whole (length a) (bit_xor (nat a) (nat b)) (pairwise xor a b)
     (xor_lt (length a) (nat a) (nat b) (nat-below a) (subst (λ n. nat b < 2 ^ n) (sym h) (nat-below b))) (word-xor a b h)
-
--- the number of the turned bits
-pub nat-not : (a : List Bool) → nat (map not a) + nat a + 1 ≡ 2 ^ length a
-nat-not [] = refl
-nat-not (true ∷ a) = omega (arith, nat-not a, two-pow-succ (length a))
-nat-not (false ∷ a) = omega (arith, nat-not a, two-pow-succ (length a))
 
 pub nat-turn : (a : List Bool) (w : ℕ) → length a ≡ w → w ≤ 64 → nat (map not a) ≡ ((2 ^ w - 1) + (2 ^ 64 - nat a)) % 2 ^ 64
 nat-turn a w e h =

@@ -5,14 +5,12 @@ use Rattle.opgen_num.specs.Words.{val}
 use Rattle.opgen_net.specs.declared.net.Net.{Net}
 use Rattle.opgen_net.specs.Flow.{slice_flow}
 use Rattle.opgen_kinds.specs.declared.several.Several.{Several}
-use Rattle.opgen_operator.specs.declared.operator.Operator.TheVariants.{Mcm}
-use Rattle.opgen_kinds.specs.Several.{IsAcceptedSeveral, multiple_ports, IsSeveral}
+use Rattle.opgen_kinds.specs.Several.{IsAcceptedSeveral, multiple_ports}
 use Rattle.opgen_operator.specs.Outputs.{output_words}
-use Rattle.opgen_operator.proofs.Accepted.{accepted_ranges}
 use Rattle.opgen_graph.specs.declared.ranks.Graph.{Graph}
 use Rattle.opgen_graph.specs.Recipe.{with_input, Multiples, multiples_of, net_of_graph}
 use Rattle.opgen_graph.specs.Served.{Serves}
-use Rattle.opgen_graph.proofs.Fits.{ports-wide, ready, odd_parts}
+use Rattle.opgen_graph.proofs.Fits.{ports-wide, ready, odd_parts, ranges}
 use Rattle.opgen_graph.proofs.Kept.{Keeps, keeps-later, keeps-then}
 use Rattle.opgen_graph.proofs.Outputs.{HasOutputs, all-outputs, right-at}
 use Rattle.opgen_graph.proofs.ServedNets.{stands}
@@ -26,15 +24,12 @@ module _ (m : Several) (is : IsAcceptedSeveral m) (graph : Graph) (serves : Serv
   abbrev net : Net
   net = net_of_graph graph m
 
-  ranges : IsSeveral m
-  ranges = accepted_ranges (Mcm m) is
-
   has : HasOutputs m.input before 0 m.constants net
-  has = all-outputs m.input 0 before m.constants (ready m is graph serves) ranges.constants (odd_parts m is graph serves)
-      (ports-wide m.input ranges.input 0 m.constants ranges.constants)
+  has = all-outputs m.input 0 before m.constants (ready m is graph serves) (ranges m is graph serves).constants (odd_parts m is graph serves)
+      (ports-wide m.input (ranges m is graph serves).input 0 m.constants (ranges m is graph serves).constants)
 
   grown : Stands m.input before
-  grown = stands m.input ranges.input m.constants ranges.constants graph serves
+  grown = stands m.input (ranges m is graph serves).input m.constants (ranges m is graph serves).constants graph serves
 
   keeps : Keeps (with_input m.input) net
   keeps = keeps-then (with_input m.input) before.net net (keeps-later (with_input m.input) before.net grown.later) has.keeps

@@ -17,7 +17,8 @@ use Rattle.opgen_operator.specs.Held.{OutputsHold}
 use Rattle.opgen_kinds.specs.Product.{IsAcceptedProduct, exact_product, product_shift, product_format, IsProduct}
 use Rattle.opgen_operator.specs.Operator.{inexact}
 use Rattle.opgen_ports.specs.Modes.{mode_of_exact}
-use Rattle.opgen_ports.specs.Reaches.{places_up, places_down}
+use Rattle.opgen_ports.specs.Reaches.{places_down}
+use Rattle.opgen_ports.proofs.Bounds.{one_way}
 use Rattle.opgen_operator.proofs.Accepted.{accepted_ranges}
 use Rattle.opgen_partial.proofs.Laws.{IsRounded}
 use Rattle.opgen_mult.specs.Recipe.{IsLeftOut, bits_below, zeros_below, heap_width, pairs, rounding}
@@ -59,10 +60,6 @@ little m n zero left h = omega (arith, ap (weight_below m n) h, weight_below-zer
 little m n (suc below) left h =
     let e : suc below - 1 ≡ below = omega arith in
     omega (arith, h.1, ap (λ k. 2 ^ k) e)
-
-one_way : (s : ℤ) → 1 ≤ places_down s → places_up s ≡ 0
-one_way (pos k) h = absurd (omega (arith, h))
-one_way (negsuc k) h = refl
 
 abbrev zero_if : Bool → Option ℕ
 zero_if c = if c then Some 0 else None

@@ -1,7 +1,8 @@
 mod Faithful
-pub mod InputWords
-pub mod HeapWidth
+mod InputWords
+mod HeapWidth
 mod Rounding
-pub mod AboveZeros
+mod AboveZeros
 mod Fits
-pub mod NetFits
+mod NetFits
+pub mod Whole

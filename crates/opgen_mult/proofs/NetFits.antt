@@ -1,6 +1,6 @@
 -- The net of a product, by the nets that lead to it: its output is good at every time.
 use Rattle.std.proofs.Common.{◌≡◌, ℕ, zero, suc, ◌+◌, ◌-◌, ◌%◌, ◌^◌, Bool, true, List, [], ◌∷◌, ◌++◌, length, map, codes, refl, sym, ap, ◌∙◌, subst, arith}
-use Rattle.std.specs.Prelude.{ℤ, pos, ◌+ℤ◌, ◌-ℤ◌, All, IsTrue, None, slice_index}
+use Rattle.std.specs.Prelude.{ℤ, pos, ◌+ℤ◌, ◌-ℤ◌, All, IsTrue, None, replicate, slice_index}
 use Rattle.std.proofs.Math.Nat.{zero-mod}
 use Rattle.std.proofs.lemmas.Int.{ints}
 use Rattle.opgen_num.specs.Words.{val, nat}
@@ -14,10 +14,15 @@ use Rattle.opgen_heap.specs.Sum.{Words, heap_sum}
 use Rattle.opgen_net.specs.declared.net.Net.{Net}
 use Rattle.opgen_net.specs.declared.net.Output.{Output}
 use Rattle.opgen_net.specs.declared.node.Node.{Node}
+use Rattle.opgen_net.specs.declared.word_bits.WordBit.TheVariants.{Zero}
+use Rattle.opgen_net.specs.Delays.{delay_count}
 use Rattle.opgen_net.specs.Flow.{Inputs, input_at, flow, slice_flow}
 use Rattle.opgen_net.specs.Grown.{HasGrown}
 use Rattle.opgen_net.specs.Valid.{IsValid, widths, slice_width, input_widths}
+use Rattle.opgen_net.specs.WordRule.{bits_from}
+use Rattle.opgen_net.proofs.Delays.{passes-count}
 use Rattle.opgen_net.proofs.FlowWidths.{flow-width}
+use Rattle.opgen_net.proofs.Later.{word-grown}
 use Rattle.opgen_kinds.specs.declared.product.Product.{Product}
 use Rattle.opgen_operator.specs.declared.operator.Operator.TheVariants.{Multiply}
 use Rattle.opgen_operator.specs.Fits.{FitsOperator, FitsInEachMode}
@@ -36,7 +41,7 @@ use Rattle.opgen_mult.proofs.Fits.{exact_whole, output_is_good}
 use Rattle.opgen_mult.proofs.InputWords.{AreInputs, first_word, second_word, first-length, second-length}
 use Rattle.opgen_mult.proofs.HeapWidth.{Layout}
 
--- a word more changes no port
+-- a word more changes no port, and is no delay
 
 pub zeros-inputs : (width zeros : ℕ) (s : Placed) → (above_zeros width zeros s).net.inputs ≡ s.net.inputs
 zeros-inputs width zero s = refl
@@ -45,6 +50,10 @@ zeros-inputs width (suc z) s = refl
 pub zeros-outputs : (width zeros : ℕ) (s : Placed) → (above_zeros width zeros s).net.outputs ≡ s.net.outputs
 zeros-outputs width zero s = refl
 zeros-outputs width (suc z) s = refl
+
+pub zeros-delays : (width zeros : ℕ) (s : Placed) → delay_count (above_zeros width zeros s).net.nodes ≡ delay_count s.net.nodes
+zeros-delays width zero s = refl
+zeros-delays width (suc z) s = (word-grown s.net (bits_from s.place 0 width ++ replicate (suc z) Zero)).delays
 
 abbrev pub output_of : (node low width : ℕ) → Output
 output_of node low width = record { name = codes "y"; from = record { node = node; high = low + width - 1; low = low } }
@@ -114,8 +123,10 @@ module _ (p : Product) (accepted : IsAcceptedProduct p) (fit : Layout p) (hold :
       (val (word_at (map (λ o. slice_flow ns ins o.from (pos t)) os) 0) (product_format p))
 
   pub net_fits : (net : Net) → net ≡ record three { outputs = three.outputs ++ output_of node (bits_below p) W ∷ [] }
-      → three.inputs ≡ two.inputs → three.outputs ≡ two.outputs → IsValid net → FitsInEachMode (Multiply p) net
-  net_fits net is same_inputs same_outputs valid = fits_each_mode (Multiply p) net (λ exact mode. fits exact (asked_whole exact (Multiply p) mode))
+      → three.inputs ≡ two.inputs → three.outputs ≡ two.outputs → delay_count three.nodes ≡ delay_count two.nodes → IsValid net
+      → FitsInEachMode (Multiply p) net
+  net_fits net is same_inputs same_outputs same_delays valid =
+      fits_each_mode (Multiply p) net (λ exact mode. fits exact (asked_whole exact (Multiply p) mode))
     where
       o : Output
       o = output_of node (bits_below p) W
@@ -134,6 +145,10 @@ module _ (p : Product) (accepted : IsAcceptedProduct p) (fit : Layout p) (hold :
         valid = valid;
         inputs = ports;
         outputs = ap (λ os. map (λ (o : Output). (o.name, slice_width o.from)) os) outputs ∙ ap (λ k. (codes "y", k) ∷ []) wide_output;
+        delays =
+            let none : delay_count (inputs p).net.nodes ≡ 0 = refl in
+            let nodes : delay_count net.nodes ≡ delay_count three.nodes = ap (λ (n : Net). delay_count n.nodes) is in
+            passes-count 0 net.nodes (omega (arith, nodes, same_delays, grown.delays, has.grown.delays, none));
         good = λ ins t words less ranges.
             let now : pos t ≡ pos t -ℤ pos 0 = omega (arith, ints) in
             let of_inputs : AreInputs p ins = subst (λ (is : List (List ℕ × ℕ)). All (AreWords (map (λ i. i.1) is)) ins) ports words in

@@ -1,5 +1,5 @@
 -- The output of a product, by the sum of its heap.
-use Rattle.std.proofs.Common.{◌≡◌, ℕ, zero, suc, ◌+◌, ◌-◌, ◌*◌, ◌^◌, ◌≤◌, Bool, false, List, ◌++◌, length, length-append, drop, replicate, pow-add, refl, sym, ap, ◌∙◌, subst, arith}
+use Rattle.std.proofs.Common.{◌≡◌, ℕ, suc, ◌+◌, ◌-◌, ◌*◌, ◌^◌, ◌≤◌, Bool, false, List, ◌++◌, length, length-append, drop, replicate, pow-add, sym, ap, ◌∙◌, subst, arith}
 use Rattle.std.specs.Prelude.{ℤ, pos, ◌+ℤ◌, ◌-ℤ◌, ◌*ℤ◌}
 use Rattle.std.specs.Int.{int_div_euclid}
 use Rattle.std.proofs.Math.Nat.{two-pow-succ}
@@ -15,12 +15,9 @@ use Rattle.opgen_num.proofs.Cuts.{nat-append}
 use Rattle.opgen_num.proofs.Integers.{commuted, product-sum, product_assoc}
 use Rattle.opgen_num.proofs.Residues.{value_from_residue}
 use Rattle.opgen_num.proofs.Rounded.{floor_is, floor_dropped}
+use Rattle.opgen_num.proofs.Words.{nat-zeros}
 use Rattle.opgen_design.specs.Value.{cut}
 use Rattle.opgen_mult.proofs.Faithful.{cut_is_near}
-
-nat-zeros : (k : ℕ) → nat (replicate k false) ≡ 0
-nat-zeros zero = refl
-nat-zeros (suc k) = omega (arith, nat-zeros k)
 
 -- shifted down: the bits from a place up
 module _ (product : ℤ) (sum : List Bool) (format : Format) (below left_out : ℕ) (k : ℤ)

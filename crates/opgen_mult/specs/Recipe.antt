@@ -10,6 +10,7 @@ use Rattle.opgen_net.specs.WordRule.{bits_from}
 use Rattle.opgen_heap.specs.Adding.{with_constant}
 use Rattle.opgen_compress.specs.Recipe.{compressed}
 use Rattle.opgen_gpc.specs.Recipe.{Counting, counted_if}
+use Rattle.opgen_ports.specs.Recipes.{has_counters}
 use Rattle.opgen_kinds.specs.declared.product.Product.{Product}
 use Rattle.opgen_kinds.specs.Product.{product_shift, product_format}
 use Rattle.opgen_ports.specs.Reaches.{places_up, places_down}
@@ -69,7 +70,7 @@ constant p = sign_correction p.a.signed p.b.signed p.a.width p.b.width +ℤ pos 
 
 -- the partial products and the constant, after larger counters where they are asked for
 abbrev pub counted_product : Product → (left_out : ℕ) → Counting
-counted_product p left_out = let w = products p left_out in counted_if p.counters w.net (with_constant w.heap (constant p))
+counted_product p left_out = let w = products p left_out in counted_if (has_counters p.compressor) w.net (with_constant w.heap (constant p))
 
 abbrev pub summed : Product → (left_out : ℕ) → Placed
 summed p left_out = let c = counted_product p left_out in compressed c.net c.heap

@@ -13,7 +13,7 @@ use opgen_design::Slice;
 use opgen_gpc::count_if;
 use opgen_net::Net;
 use opgen_num::Memory;
-use opgen_operator::{Product, outputs_hold, products_have_width};
+use opgen_operator::{Product, products_have_width};
 use opgen_partial::Work;
 use std::alloc::Global;
 
@@ -27,13 +27,12 @@ pub fn build(alloc: Global, product: &Product) -> Result<Net, Memory>
     ensures net { IfOk result (IsNetOfProduct product.now) }
     ensures fits { IfOk result (FitsInEachMode (Multiply product.now)) }
 {
-    // The output is as wide as the heap and the zeros below it, and has room for every product, rounded down or up.
+    // The output is as wide as the heap and the zeros below it.
     products_have_width();
-    outputs_hold();
     let cut = cut_of(product);
     let Work { mut net, mut heap } = products(alloc, product, cut.columns)?;
     heap.add_constant(constant(product, cut));
-    let counted = count_if(alloc, product.counters, heap, &mut net)?;
+    let counted = count_if(alloc, product.compressor.has_counters(), heap, &mut net)?;
     let sum = compress(alloc, counted, &mut net)?;
     let node = above_zeros(
         alloc,

@@ -1,1 +1,2 @@
 mod Underscores
+pub mod LowerCase

@@ -1,6 +1,6 @@
 -- Where the underscores of a name stand, by the tests of specs/Names.antt and by the parts that the text is made of.
-use Rattle.std.proofs.Common.{◌≡◌, ℕ, List, [], ◌∷◌, ◌++◌, Bool, true, false, ◌&&◌, ◌||◌, ◌⊎◌, inl, inr, refl, ap, ◌∙◌}
-use Rattle.std.proofs.lemmas.Bool.{and_parts, eqb-true}
+use Rattle.std.proofs.Common.{◌≡◌, ℕ, List, [], ◌∷◌, ◌++◌, true, ◌&&◌, inl, inr, refl, ap, ◌∙◌}
+use Rattle.std.proofs.lemmas.Bool.{and_parts, eqb-true, or_cases}
 use Rattle.std.proofs.Math.Bool.{or-true}
 use Rattle.std.specs.Str.Iter.{HasSubslice}
 use Rattle.opgen_names.specs.Names.{is_underscore, ends_with_underscore, has_double_underscore}
@@ -31,10 +31,6 @@ double-append (c ∷ d ∷ a) b = rw (double-append (d ∷ a) b) (or-true (is_un
 pub double_joined : (name : List ℕ) → HasSubslice name (95 ∷ 95 ∷ []) → has_double_underscore name ≡ true
 double_joined name (a, b, same) = ap has_double_underscore same ∙ double-append a b
 
-either_part : (a b : Bool) → (a || b) ≡ true → (a ≡ true) ⊎ (b ≡ true)
-either_part true b h = inl refl
-either_part false b h = inr h
-
 double_here : (c d : ℕ) (cs : List ℕ) → (is_underscore c && is_underscore d) ≡ true → HasSubslice (c ∷ d ∷ cs) (95 ∷ 95 ∷ [])
 double_here c d cs h =
     let (first, second) = and_parts (is_underscore c) (is_underscore d) h in
@@ -46,7 +42,7 @@ pub double_split : (name : List ℕ) → has_double_underscore name ≡ true →
 double_split [] h = cc
 double_split (c ∷ []) h = cc
 double_split (c ∷ d ∷ cs) h =
-    elim (either_part _ _ h) [
+    elim (or_cases _ _ h) [
       | inl here ↦ double_here c d cs here
       | inr later ↦ let (a, b, same) = double_split (d ∷ cs) later in (c ∷ a, b, ap (λ xs. c ∷ xs) same)
     ]

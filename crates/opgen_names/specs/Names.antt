@@ -3,6 +3,7 @@ use Rattle.std.specs.Prelude.{ℕ, ◌==◌, ◌&&◌, ◌||◌, Bool, false, no
 use Rattle.std.specs.Char.{is_ascii_lowercase, is_ascii_digit}
 use Rattle.std.specs.List.{list_all, list_any}
 use Rattle.std.specs.Str.{bytes_eq}
+use Rattle.opgen_names.specs.declared.TheConstants.{MAX_NAME_LEN}
 
 -- The words that serve as no name: words that VHDL keeps for itself, and names of the packages of IEEE 1164
 -- and IEEE 1076.3 that every written text uses. The list is a choice of this project.
@@ -64,4 +65,4 @@ is_identifier name = starts_with_letter name && list_all is_name_byte name && ha
 
 -- a name: an identifier of at most 64 bytes that is no refused word
 abbrev pub is_allowed_name : List ℕ → Bool
-is_allowed_name name = nat_le (length name) 64 && is_identifier name && not (is_refused name)
+is_allowed_name name = nat_le (length name) MAX_NAME_LEN && is_identifier name && not (is_refused name)

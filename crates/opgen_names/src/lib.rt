@@ -184,7 +184,7 @@ fn is_identifier(name: &str) -> bool
 /// Whether a text is a name of the VHDL subset, written in lower case.
 pub fn is_allowed_name(name: &str) -> bool
     ensures value { result ≡ is_allowed_name name.now }
-    ensures length { IsTrue result → (1 ≤ length name.now) × (length name.now ≤ 64) }
+    ensures length { IsTrue result → (1 ≤ length name.now) × (length name.now ≤ MAX_NAME_LEN) }
 {
     name.len() <= MAX_NAME_LEN && is_identifier(name) && !is_refused(name)
 }

@@ -12,7 +12,7 @@ use Rattle.opgen_net.specs.Valid.{widths}
 use Rattle.opgen_net.specs.WordRule.{IsThere, bits_from, bit_flow, word_flow}
 use Rattle.opgen_net.proofs.FlowLaws.{index_within, length-widths}
 
-reverse-cons : {A : Type 0} (x : A) (xs : List A) → reverse (x ∷ xs) ≡ reverse xs ++ x ∷ []
+pub reverse-cons : {A : Type 0} (x : A) (xs : List A) → reverse (x ∷ xs) ≡ reverse xs ++ x ∷ []
 reverse-cons x xs = reverse-append (x ∷ []) xs
 
 pub length-bits_from : (node low count : ℕ) → length (bits_from node low count) ≡ count

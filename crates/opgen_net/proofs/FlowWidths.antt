@@ -1,5 +1,5 @@
 -- The widths of a net's nodes are widths of signals, and each node's word has its node's width.
-use Rattle.std.proofs.Common.{inl, inr, ◌≡◌, ℕ, suc, ◌^◌, ◌<◌, Bool, true, false, List, [], ◌∷◌, ◌++◌, length, length-append, Some, refl, sym, ap, ◌∙◌, subst, arith}
+use Rattle.std.proofs.Common.{inl, inr, ◌≡◌, ℕ, suc, ◌^◌, ◌<◌, List, [], ◌∷◌, ◌++◌, length, length-append, Some, refl, sym, ap, ◌∙◌, subst, arith}
 use Rattle.std.specs.Prelude.{ℤ, slice_get, slice_index, All}
 use Rattle.std.proofs.lemmas.Bool.{cases_order}
 use Rattle.std.proofs.lemmas.List.{get_or_append_left, get_or_at, get_or_past}
@@ -10,11 +10,12 @@ use Rattle.opgen_design.specs.declared.expr.Slice.{Slice}
 use Rattle.opgen_net.specs.declared.node.Node.{Node}
 use Rattle.opgen_net.specs.declared.node.Node.TheVariants.{Input, Constant, Cells, Choice, Table, Delay}
 use Rattle.opgen_net.specs.declared.net.Net.{Net}
-use Rattle.opgen_design.specs.Value.{chosen, IsWidth}
+use Rattle.opgen_design.specs.Value.{IsWidth}
 use Rattle.opgen_net.specs.Flow.{Stream, before, Inputs, input_at, stream_at, part_at, stream_of, streams_on, flow}
 use Rattle.opgen_design.specs.Run.{AreWords}
 use Rattle.opgen_net.specs.Valid.{slice_width, node_width, widths_on, widths, LiesWithin, MayStand, AllMayStand, input_widths, IsValid}
 use Rattle.opgen_design.proofs.WidthLaws.{length-cut, value-width, width-is_width}
+use Rattle.opgen_design.proofs.ValueLaws.{length-chosen}
 use Rattle.opgen_net.proofs.FlowLaws.{lies_within, length-widths}
 use Rattle.opgen_net.proofs.InputLaws.{input-width, input_at-width}
 
@@ -51,12 +52,6 @@ are_widths_on ws (n ∷ ns) a h =
 
 pub are_widths : (nodes : List Node) → AllMayStand [] nodes → (i : ℕ) → i < length nodes → IsWidth (slice_index (widths nodes) i)
 are_widths nodes h i l = are_widths_on [] nodes (λ k m. absurd (omega (arith, m))) h i (omega (arith, l, length-widths nodes))
-
-length-chosen : (c a b : List Bool) (w : ℕ) → length a ≡ w → length b ≡ w → length (chosen c a b) ≡ w
-length-chosen [] a b w h k = k
-length-chosen (true ∷ []) a b w h k = h
-length-chosen (true ∷ d ∷ c) a b w h k = k
-length-chosen (false ∷ c) a b w h k = k
 
 -- streams whose words have these widths at all times
 record Have (ss : List Stream) (ws : List ℕ) : Type 0 where

@@ -7,11 +7,13 @@ use Rattle.opgen_net.specs.declared.net.Net.{Net}
 use Rattle.opgen_net.specs.declared.node.Node.{Node}
 use Rattle.opgen_net.specs.declared.word_bits.WordBit.{WordBit}
 use Rattle.opgen_net.specs.declared.word_bits.WordBit.TheVariants.{Zero, One, Of}
+use Rattle.opgen_net.specs.Delays.{delay_count, PassesAtMost}
 use Rattle.opgen_net.specs.Flow.{KeepsFlow}
 use Rattle.opgen_net.specs.Grown.{HasGrown, GrownNetsKeepNodes}
 use Rattle.opgen_net.specs.Valid.{widths}
 use Rattle.opgen_net.specs.WordRule.{IsThere}
 use Rattle.opgen_net.proofs.Appending.{flow-append_before, width-append_before}
+use Rattle.opgen_net.proofs.Delays.{delay_count-append, passes-count, passes-more}
 use Rattle.opgen_net.proofs.FlowLaws.{index_within, length-widths}
 
 pub flow-then : (a b c : List Node) → length a ≤ length b → KeepsFlow a b → KeepsFlow b c → KeepsFlow a c
@@ -45,6 +47,10 @@ module _ (old new : Net) (grown : HasGrown old new) where
   pub grown-flow : KeepsFlow old.nodes new.nodes
   grown-flow = subst (KeepsFlow old.nodes) grown-nodes (flow-more old.nodes (drop (length old.nodes) new.nodes))
 
+  -- what keeps the words of the new net keeps those of the old one
+  pub grown-keeps : (made : List Node) → KeepsFlow new.nodes made → KeepsFlow old.nodes made
+  grown-keeps made keeps = flow-then old.nodes new.nodes made grown-count grown-flow keeps
+
   pub grown-width : (n : ℕ) → n < length old.nodes → slice_index (widths new.nodes) n ≡ slice_index (widths old.nodes) n
   grown-width = subst (KeepsWidths old.nodes) grown-nodes (widths-more old.nodes (drop (length old.nodes) new.nodes))
 
@@ -58,14 +64,31 @@ module _ (old new : Net) (grown : HasGrown old new) where
   pub grown-all_there : (bs : List WordBit) → All (IsThere (widths old.nodes)) bs → All (IsThere (widths new.nodes)) bs
   grown-all_there bs h = λ k d l. grown-there (slice_index_or bs k d) (h k d l)
 
+-- no way through a net that has grown passes more delays than before, nor more than the net before had
+module _ (old new : Net) (grown : HasGrown old new) (most : ℕ) where
+  pub grown-passes : PassesAtMost most old.nodes → PassesAtMost most new.nodes
+  grown-passes h =
+      let more = drop (length old.nodes) new.nodes in
+      let same : old.nodes ++ more ≡ new.nodes = grown-nodes old new grown in
+      let none : delay_count more ≡ 0 = omega (arith, grown.delays, ap delay_count same, delay_count-append old.nodes more) in
+      subst (PassesAtMost most) same (passes-more most old.nodes more none h)
+
+  pub grown-few : delay_count old.nodes ≤ most → PassesAtMost most new.nodes
+  grown-few few = passes-count most new.nodes (omega (arith, few, grown.delays))
+
 pub grown_nets_keep : GrownNetsKeepNodes
 grown_nets_keep old new grown = record { widths = grown-width old new grown; flow = grown-flow old new grown }
 
-pub grown-more : (net : Net) (more : List Node) → HasGrown net (record net { nodes = net.nodes ++ more })
-grown-more net more = record { inputs = refl; outputs = refl; nodes = take-append_seam net.nodes more }
+pub grown-more : (net : Net) (more : List Node) → delay_count more ≡ 0 → HasGrown net (record net { nodes = net.nodes ++ more })
+grown-more net more none = record {
+  inputs = refl;
+  outputs = refl;
+  nodes = take-append_seam net.nodes more;
+  delays = omega (arith, none, delay_count-append net.nodes more);
+}
 
 pub grown-same : (net : Net) → HasGrown net net
-grown-same net = record { inputs = refl; outputs = refl; nodes = take-length net.nodes }
+grown-same net = record { inputs = refl; outputs = refl; nodes = take-length net.nodes; delays = refl }
 
 pub grown-then : (a b c : Net) → HasGrown a b → HasGrown b c → HasGrown a c
 grown-then a b c p q = record {
@@ -77,4 +100,5 @@ grown-then a b c p q = record {
       let all : c.nodes ≡ a.nodes ++ (more ++ rest) =
       sym (grown-nodes b c q) ∙ ap (λ ns. ns ++ rest) (sym (grown-nodes a b p)) ∙ append_assoc a.nodes more rest in
       ap (take (length a.nodes)) all ∙ take-append_seam a.nodes (more ++ rest);
+  delays = q.delays ∙ p.delays;
 }

@@ -9,10 +9,11 @@ use Rattle.opgen_design.proofs.WidthLaws.{as_width-some}
 use Rattle.opgen_net.specs.declared.cell.Class.TheVariants.{Wire}
 use Rattle.opgen_net.specs.declared.net.Net.{Net}
 use Rattle.opgen_net.specs.declared.node.Node.{Node}
-use Rattle.opgen_net.specs.declared.node.Node.TheVariants.{Constant, Cells}
+use Rattle.opgen_net.specs.declared.node.Node.TheVariants.{Input, Constant, Cells, Choice, Table, Delay}
 use Rattle.opgen_net.specs.declared.word_bits.WordBit.{WordBit}
 use Rattle.opgen_net.specs.declared.word_bits.Piece.{Piece}
 use Rattle.opgen_net.specs.declared.word_bits.Piece.TheVariants.{Bits, Part}
+use Rattle.opgen_net.specs.Delays.{delay_count}
 use Rattle.opgen_net.specs.Flow.{Inputs}
 use Rattle.opgen_net.specs.Grown.{HasGrown}
 use Rattle.opgen_net.specs.Made.{slice_tree}
@@ -45,9 +46,34 @@ pub words-later : (old new : Net) → Later old new → (inputs : Inputs) → Al
     → All (AreWords (input_widths new)) inputs
 words-later old new later = words-grown old new later.grown
 
-pub later-node : (net : Net) (n : Node) → IsValid net → MayStand (widths net.nodes) n → input_nodes (n ∷ []) ≡ []
+-- a node that is no input and no delay
+abbrev pub is_inner : Node → Bool
+is_inner (Input port w) = false
+is_inner (Delay of) = false
+is_inner _ = true
+
+inner-no_input : (n : Node) → is_inner n ≡ true → input_nodes (n ∷ []) ≡ []
+inner-no_input (Input port w) h = absurd (cc)
+inner-no_input (Constant w) h = refl
+inner-no_input (Cells class w e) h = refl
+inner-no_input (Choice on one other) h = refl
+inner-no_input (Table address rows) h = refl
+inner-no_input (Delay of) h = refl
+
+inner-no_delay : (n : Node) → is_inner n ≡ true → delay_count (n ∷ []) ≡ 0
+inner-no_delay (Input port w) h = refl
+inner-no_delay (Constant w) h = refl
+inner-no_delay (Cells class w e) h = refl
+inner-no_delay (Choice on one other) h = refl
+inner-no_delay (Table address rows) h = refl
+inner-no_delay (Delay of) h = absurd (cc)
+
+pub later-node : (net : Net) (n : Node) → IsValid net → MayStand (widths net.nodes) n → is_inner n ≡ true
     → Later net (record net { nodes = net.nodes ++ n ∷ [] })
-later-node net n v stands no_input = record { valid = valid-append net n v stands no_input; grown = grown-more net (n ∷ []) }
+later-node net n v stands inner = record {
+  valid = valid-append net n v stands (inner-no_input n inner);
+  grown = grown-more net (n ∷ []) (inner-no_delay n inner);
+}
 
 pub node_there : (net : Net) (n width : ℕ) → 1 ≤ width → slice_index (widths net.nodes) n ≡ width → n < length net.nodes
 node_there net n width some h = omega (arith, index_within (widths net.nodes) n 0 (omega (arith, h, some)), length-widths net.nodes)
@@ -82,19 +108,21 @@ module _ (net : Net) (valid : IsValid net) where
       → Later net (record net { nodes = (with_word net.nodes given).nodes })
   bits-later given wide there = runs-later (length given) (runs given) (word-fits ws given wide there)
 
--- what a word's runs leave are the nodes before, and further ones
-word-nodes : (ns : List Node) (count : ℕ) (rs : List Piece) → (more : List Node) × ((with_runs ns count rs).nodes ≡ ns ++ more)
-word-nodes ns count [] = (Cells Wire count (word_tree (widths ns) []) ∷ [], refl)
-word-nodes ns count (Bits w ∷ []) = (Constant w ∷ [], refl)
+-- what a word's runs leave are the nodes before, and further ones, which are no delays
+pub word-nodes : (ns : List Node) (count : ℕ) (rs : List Piece)
+    → (more : List Node) × ((with_runs ns count rs).nodes ≡ ns ++ more) × (delay_count more ≡ 0)
+word-nodes ns count [] = (Cells Wire count (word_tree (widths ns) []) ∷ [], refl, refl)
+word-nodes ns count (Bits w ∷ []) = (Constant w ∷ [], refl, refl)
 word-nodes ns count (Part s ∷ []) =
     elim (is_whole (widths ns) s) as (
     λ c. (more : List Node) ×
     ((if c then record { nodes = ns; place = s.node } else with_node ns (Cells Wire count (slice_tree (widths ns) s))).nodes ≡ ns ++ more)
-    ) [ true ↦ ([], sym (append-nil ns)) | false ↦ (Cells Wire count (slice_tree (widths ns) s) ∷ [], refl) ]
-word-nodes ns count (Bits w ∷ q ∷ rs) = (Cells Wire count (word_tree (widths ns) (Bits w ∷ q ∷ rs)) ∷ [], refl)
-word-nodes ns count (Part s ∷ q ∷ rs) = (Cells Wire count (word_tree (widths ns) (Part s ∷ q ∷ rs)) ∷ [], refl)
+    × (delay_count more ≡ 0)
+    ) [ true ↦ ([], sym (append-nil ns), refl) | false ↦ (Cells Wire count (slice_tree (widths ns) s) ∷ [], refl, refl) ]
+word-nodes ns count (Bits w ∷ q ∷ rs) = (Cells Wire count (word_tree (widths ns) (Bits w ∷ q ∷ rs)) ∷ [], refl, refl)
+word-nodes ns count (Part s ∷ q ∷ rs) = (Cells Wire count (word_tree (widths ns) (Part s ∷ q ∷ rs)) ∷ [], refl, refl)
 
 pub word-grown : (net : Net) (bits : List WordBit) → HasGrown net (record net { nodes = (with_word net.nodes bits).nodes })
 word-grown net bits =
     let w = word-nodes net.nodes (length bits) (runs bits) in
-    subst (HasGrown net) (sym (ap (λ ns. record net { nodes = ns }) w.1)) (grown-more net w.0)
+    subst (HasGrown net) (sym (ap (λ ns. record net { nodes = ns }) w.1)) (grown-more net w.0 w.2)

@@ -1,4 +1,5 @@
 pub mod Appending
+pub mod Delays
 pub mod FlowLaws
 pub mod InputLaws
 pub mod FlowWidths

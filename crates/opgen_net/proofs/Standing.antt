@@ -1,15 +1,16 @@
 -- What may stand after some nodes stands as well beside those after it; so each node of a net stands over the widths of the whole net.
-use Rattle.std.proofs.Common.{◌≡◌, length-append, ◌^◌, ℕ, zero, suc, ◌<◌, List, [], ◌∷◌, ◌++◌, Some, refl, sym, ap, ◌∙◌, subst, arith}
+use Rattle.std.proofs.Common.{◌≡◌, length-append, ◌^◌, ℕ, zero, suc, ◌<◌, List, [], ◌∷◌, ◌++◌, Some, refl, sym, ap, ◌∙◌, subst, arith, ◌≤◌}
 use Rattle.std.specs.Prelude.{slice_get, slice_index, slice_index_or, All}
 use Rattle.std.proofs.lemmas.Option.{slice_get-get_or}
 use Rattle.std.proofs.lemmas.List.{get_or_append_left, get_or_at}
 use Rattle.opgen_design.specs.declared.expr.Slice.{Slice}
 use Rattle.opgen_net.specs.declared.node.Node.{Node}
 use Rattle.opgen_net.specs.declared.node.Node.TheVariants.{Input, Constant, Cells, Choice, Table, Delay}
-use Rattle.opgen_net.specs.Valid.{node_width, widths, LiesWithin, MayStand, AllMayStand}
+use Rattle.opgen_net.specs.Valid.{node_width, widths, LiesWithin, MayStand, AllMayStand, slice_width}
 use Rattle.opgen_design.proofs.WidthLaws.{width-kept}
 use Rattle.opgen_net.proofs.CellLaws.{class-kept}
 use Rattle.opgen_net.proofs.FlowLaws.{index_within, stands_at}
+use Rattle.opgen_net.specs.Placed.{whole}
 
 get-kept : (ws more : List ℕ) (i w : ℕ) → slice_get ws i ≡ Some w → slice_get (ws ++ more) i ≡ Some w
 get-kept [] more i w h = absurd (cc)
@@ -69,3 +70,7 @@ width_at nodes a i n h =
 
 pub all_stand : (nodes : List Node) → AllMayStand [] nodes → All (MayStand (widths nodes)) nodes
 all_stand nodes a k d l = may_stand nodes a k (slice_index_or nodes k d) (slice_get-get_or nodes k d l)
+
+-- the width of a slice that is a whole word
+pub whole-width : (width place : ℕ) → 1 ≤ width → slice_width (whole width place) ≡ width
+whole-width width place some = omega (arith, some)

@@ -21,6 +21,7 @@ use Rattle.opgen_design.specs.Plain.{trees_of}
 use Rattle.opgen_design.specs.Value.{Scope, cut, value, value_on, IsWidth, as_width, width, width_on, in_chain, nesting, operands_nesting}
 use Rattle.opgen_net.specs.Flow.{Inputs, flow}
 use Rattle.opgen_design.specs.Run.{AreWords}
+use Rattle.opgen_design.proofs.WidthLaws.{as_width-of}
 use Rattle.opgen_net.specs.Valid.{slice_width, widths, LiesWithin, FitsNodes, input_widths, IsValid}
 use Rattle.opgen_net.specs.Made.{slice_tree}
 use Rattle.opgen_net.specs.WordRule.{IsThere, bit_flow, HasBits, alone, RunIsThere, over, above, runs, run_tree, word_tree, is_whole, Found, with_node, with_runs, with_word}
@@ -40,13 +41,23 @@ cut-next w high low l h =
     ∙ take-suc (drop low w) k false (omega (arith, l, h, length-drop low w))
     ∙ ap (λ x. take k (drop low w) ++ x ∷ []) (get_or-drop low w k false ∙ ap (λ i. slice_index_or w i false) p)
 
-cut-one : (w : List Bool) (index : ℕ) → index < length w → cut index index w ≡ slice_index_or w index false ∷ []
+pub cut-one : (w : List Bool) (index : ℕ) → index < length w → cut index index w ≡ slice_index_or w index false ∷ []
 cut-one w index h =
     let e : index + 1 - index ≡ suc 0 = omega arith in
     let p : index + 0 ≡ index = omega arith in
     ap (λ n. take n (drop index w)) e
     ∙ take-suc (drop index w) 0 false (omega (arith, h, length-drop index w))
     ∙ ap (λ x. x ∷ []) (get_or-drop index w 0 false ∙ ap (λ i. slice_index_or w i false) p)
+
+-- all bits of a word of so many
+pub all-bits : (v : List Bool) (m : ℕ) → 1 ≤ m → length v ≡ m → cut (m - 1) 0 v ≡ v
+all-bits v m some e = let long : m - 1 + 1 - 0 ≡ length v = omega (arith, some, e) in ap (λ n. take n v) long ∙ take-length v
+
+-- the width of a name
+pub name-width : (ws : List ℕ) (n v : ℕ) → IsWidth v → slice_index ws n ≡ v → width ws [] (name n) ≡ Some v
+name-width ws n v w h =
+    let there : slice_get ws n ≡ Some v = slice_get-get_or ws n 0 (index_within ws n 0 (omega (arith, h, w.0))) ∙ ap Some h in
+    ap (option_and_then as_width) there ∙ as_width-of v w
 
 cut-whole : (w : List Bool) (high low : ℕ) → low ≡ 0 → high + 1 ≡ length w → cut high low w ≡ w
 cut-whole w high low z h =

@@ -1,7 +1,7 @@
 -- What the cells of an expression are, by their class: wires, logic in which each bit reads at most six bits, or one sum.
-use Rattle.std.specs.Prelude.{ℕ, zero, suc, ◌+◌, ◌-◌, ◌≤◌, max, Bool, true, false, ◌&&◌, IsTrue, All, Contains, List, [], ◌∷◌, ◌++◌, length, map, slice_index}
+use Rattle.std.specs.Prelude.{ℕ, zero, suc, ◌+◌, ◌-◌, ◌≤◌, ◌≡◌, refl, max, Bool, true, false, ◌&&◌, IsTrue, All, Contains, List, [], ◌∷◌, ◌++◌, length, map, slice_index}
 use Rattle.opgen_design.specs.declared.expr.Op.{Op}
-use Rattle.opgen_design.specs.declared.expr.Op.TheVariants.{Cat, Plus, Minus}
+use Rattle.opgen_design.specs.declared.expr.Op.TheVariants.{And, Or, Xor, Cat, Plus, Minus}
 use Rattle.opgen_design.specs.Tree.{Tree, Trees, name, part, bits, port, inverse, chain, none, more}
 use Rattle.opgen_net.specs.declared.cell.Class.{Class}
 use Rattle.opgen_net.specs.declared.cell.Class.TheVariants as class
@@ -116,3 +116,39 @@ IsOfClass ws class.Wire e = IsTrue (is_wire e)
 IsOfClass ws class.Logic e = IsLogic ws e
 IsOfClass ws class.Add e = IsTrue (is_sum e)
 IsOfClass ws _ e = ⊥
+
+-- the majority of three bits is two chains deep, and its bit reads three bits
+abbrev majority : Tree
+majority =
+    chain Or (more (chain And (more (name 0) (more (name 1) none))) (more (chain And (more (name 0) (more (name 2) none)))
+    (more (chain And (more (name 1) (more (name 2) none))) none)))
+
+majority_levels : levels majority ≡ 2
+majority_levels = refl
+
+majority_reads : reads (1 ∷ 1 ∷ 1 ∷ []) majority ≡ ((0, 0) ∷ (1, 0) ∷ (0, 0) ∷ (2, 0) ∷ (1, 0) ∷ (2, 0) ∷ []) ∷ []
+majority_reads = refl
+
+-- two words, the first above the second, inverted: no level, and each bit reads one
+abbrev inverted : Tree
+inverted = inverse (chain Cat (more (name 0) (more (part 1 3 2) none)))
+
+inverted_levels : levels inverted ≡ 0
+inverted_levels = refl
+
+inverted_reads : reads (1 ∷ 4 ∷ []) inverted ≡ ((1, 2) ∷ []) ∷ ((1, 3) ∷ []) ∷ ((0, 0) ∷ []) ∷ []
+inverted_reads = refl
+
+-- a sum of two words is no wire and no logic; a sum of three is no sum of one `+`
+sum_no_wire : is_wire (chain Plus (more (name 0) (more (name 1) none))) ≡ false
+sum_no_wire = refl
+
+sum_no_logic : is_bitwise (inverse (chain Plus (more (name 0) (more (name 1) none)))) ≡ false
+sum_no_logic = refl
+
+three_no_sum : is_sum (chain Plus (more (name 0) (more (name 1) (more (name 2) none)))) ≡ false
+three_no_sum = refl
+
+-- a sum with an inverted operand is none: its operands are no wires
+inverted_no_sum : is_sum (chain Plus (more (name 0) (more (inverse (name 1)) none))) ≡ false
+inverted_no_sum = refl

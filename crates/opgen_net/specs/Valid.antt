@@ -1,13 +1,14 @@
 -- Valid nets: each node reads only earlier nodes, the widths of its operands agree, cells are what their class says, and each output
 -- is within its node.
 use Rattle.std.specs.Prelude.{◌≡◌, ℕ, ◌+◌, ◌-◌, ◌^◌, ◌<◌, ◌≤◌, Bool, true, false, List, [], ◌∷◌, ◌++◌, length, map, slice_index, slice_index_or, Some, All}
+use Rattle.opgen_design.specs.declared.expr.TheConstants.{MAX_NESTING}
 use Rattle.opgen_net.specs.Cells.{IsOfClass}
 use Rattle.opgen_design.specs.declared.expr.Slice.{Slice}
 use Rattle.opgen_net.specs.declared.node.Node.{Node}
 use Rattle.opgen_net.specs.declared.node.Node.TheVariants.{Input, Constant, Cells, Choice, Table, Delay}
 use Rattle.opgen_net.specs.declared.net.Net.{Net}
 use Rattle.opgen_design.specs.Tree.{Tree}
-use Rattle.opgen_design.specs.Value.{IsWidth, width, nesting, max_nesting}
+use Rattle.opgen_design.specs.Value.{IsWidth, width, nesting}
 
 abbrev pub slice_width : Slice → ℕ
 slice_width s = s.high + 1 - s.low
@@ -36,7 +37,7 @@ LiesWithin ws s = (s.low ≤ s.high) × (s.high < slice_index ws s.node)
 -- an expression of a width over nodes of these widths: it reads no port, and its parentheses nest at most so deep
 pub record FitsNodes (ws : List ℕ) (w : ℕ) (e : Tree) : Type 0 where
   pub has_width : width ws [] e ≡ Some w
-  pub nests : nesting e ≤ max_nesting
+  pub nests : nesting e ≤ MAX_NESTING
 
 pub record FitsChoice (ws : List ℕ) (on : ℕ) (one other : Slice) : Type 0 where
   pub one_bit : slice_index ws on ≡ 1

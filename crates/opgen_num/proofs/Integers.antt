@@ -1,8 +1,9 @@
--- Products of whole numbers below and above zero, for `omega`, which takes each product as an atom.
-use Rattle.std.proofs.Common.{◌≡◌, ℕ, ◌+◌, ◌*◌, ap, ◌∙◌, arith}
-use Rattle.std.specs.Prelude.{ℤ, pos, negsuc, ◌+ℤ◌, ◌-ℤ◌, ◌*ℤ◌, ◌<ℤ◌, ◌≤ℤ◌}
+-- Whole numbers below and above zero, and products of them, for `omega`, which takes each product as an atom.
+use Rattle.std.proofs.Common.{◌≡◌, ℕ, ◌+◌, ◌*◌, ap, ◌∙◌, arith, zero, suc, ◌-◌, ◌<◌, true}
+use Rattle.std.specs.Prelude.{ℤ, pos, negsuc, ◌+ℤ◌, ◌-ℤ◌, ◌*ℤ◌, ◌<ℤ◌, ◌≤ℤ◌, unsigned_abs, ◌==◌}
 use Rattle.std.proofs.Math.Nat.{mul-le-mul_left}
 use Rattle.std.proofs.lemmas.Int.{ints, by_lt_z}
+use Rattle.std.proofs.lemmas.Bool.{eqb-true}
 use borrow.Author.Differences.{up, down, sum_is_lem, product_is, same_in}
 
 -- the distributive law, in the form that `products` takes: an integer z is read as `up z - down z`
@@ -56,3 +57,20 @@ product_order (negsuc m) a b g h = absurd (omega (arith, ints))
 -- and a strict order of the products is one of the other factors
 pub product_cancel : (m a b : ℤ) → pos 0 ≤ℤ m → (m *ℤ a) <ℤ (m *ℤ b) → a <ℤ b
 product_cancel m a b g h = by_lt_z a b (λ k. k) (λ k. absurd (omega (arith, ints, product_order m b a g k)))
+
+-- a time, less none
+pub less-zero : (t : ℕ) → pos t -ℤ pos 0 ≡ pos t
+less-zero t = omega (arith, ints)
+
+-- what has no size is 0
+pub zero_from_abs : (z : ℤ) → unsigned_abs z ≡ 0 → z ≡ pos 0
+zero_from_abs (pos n) e = ap pos e
+zero_from_abs (negsuc n) e = absurd (omega (arith, e))
+
+pub zero-is : (z : ℤ) → (unsigned_abs z == 0) ≡ true → z ≡ pos 0
+zero-is z e = zero_from_abs z (eqb-true (unsigned_abs z) 0 e)
+
+-- a multiple of one less, and once more
+pub one_more : (a b : ℕ) → 0 < b → a * (b - 1) + a ≡ a * b
+one_more a zero h = absurd (omega (arith, h))
+one_more a (suc b) h = let e : suc b - 1 ≡ b = omega arith in omega (arith, ap (λ n. a * n) e)

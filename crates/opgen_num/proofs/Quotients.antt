@@ -1,11 +1,11 @@
 -- A whole number that is, or is less than one away from, a fraction, by the quotient and the rest of the fraction.
-use Rattle.std.proofs.Common.{◌≡◌, ◌*◌, ◌≤◌, ap, arith}
+use Rattle.std.proofs.Common.{◌≡◌, ◌*◌, ◌≤◌, ap, arith, ℕ}
 use Rattle.std.specs.Prelude.{ℤ, pos, negsuc, ◌+ℤ◌, ◌*ℤ◌, ◌<ℤ◌, ◌≤ℤ◌, FitsSigned}
 use Rattle.std.specs.Int.{int_div_euclid, int_rem_euclid, w128}
 use Rattle.std.proofs.Math.Nat.{mul-le-mul_left}
 use Rattle.std.proofs.lemmas.Int.{ints}
 use Rattle.std.proofs.lemmas.Nat.{div-add-mod'}
-use Rattle.opgen_num.specs.Rounding.{IsWithinOne, IsExact}
+use Rattle.opgen_num.specs.Rounding.{IsWithinOne, IsExact, IsQuotient}
 use Rattle.opgen_num.proofs.Integers.{products, product_cancel}
 
 pub quotient_and_rest : (n m : ℤ) → pos 0 <ℤ m → ((int_div_euclid n m *ℤ m) +ℤ int_rem_euclid n m) ≡ n
@@ -56,3 +56,7 @@ next_fits n (pos m) (pos q) r whole low high f g =
     omega (arith, ints)
 next_fits n m (negsuc q) r whole low high f g = omega (arith, ints)
 next_fits n (negsuc m) (pos q) r whole low high f g = absurd (omega (arith, ints))
+
+-- a quotient rounded down is less than one away
+pub quotient_near : (x c q r : ℕ) → IsQuotient x c q r → IsWithinOne (pos x) (pos c) (pos q)
+quotient_near x c q r h = omega (arith, ints, h.0, h.1)

@@ -1,12 +1,12 @@
 -- The numbers that words stand for.
-use Rattle.std.proofs.Common.{◌≡◌, ℕ, suc, ◌+◌, ◌-◌, ◌*◌, ◌^◌, ◌<◌, ◌≤◌, Bool, true, false, List, [], ◌∷◌, length, cond, ap, arith}
+use Rattle.std.proofs.Common.{◌≡◌, ℕ, suc, ◌+◌, ◌-◌, ◌*◌, ◌^◌, ◌<◌, ◌≤◌, Bool, true, false, List, [], ◌∷◌, length, cond, ap, arith, replicate, ◌∙◌}
 use Rattle.std.specs.Prelude.{ℤ, pos, ◌-ℤ◌, ◌<ℤ◌, ◌≤ℤ◌}
 use Rattle.std.proofs.Math.Nat.{two-pow-succ}
 use Rattle.std.proofs.lemmas.Int.{ints}
 use Rattle.opgen_num.specs.declared.format.Format.{Format}
 use Rattle.opgen_num.specs.Words.{digit, nat, highest, int, val}
 use Rattle.opgen_num.specs.Formats.{Holds}
-use Rattle.opgen_num.proofs.Words.{digit-below, nat-below}
+use Rattle.opgen_num.proofs.Words.{digit-below, nat-below, nat-zeros, highest-zeros}
 
 -- the number of a word has the weight of the highest bit where that is 1, and is below it where it is 0
 pub highest_weight : (b : Bool) (w : List Bool) → (cond (highest (b ∷ w)) (2 ^ length w) 0 ≤ nat (b ∷ w))
@@ -62,3 +62,18 @@ val_holds w format h = go format.signed
     go : (signed : Bool) → Holds signed (length w) (cond signed (int w) (pos (nat w)))
     go true = int_holds w h
     go false = (omega (arith, ints), omega (arith, ints, nat-below w))
+
+-- the number of a word without a sign
+pub val-unsigned : (w : List Bool) (format : Format) → format.signed ≡ false → val w format ≡ pos (nat w)
+val-unsigned w format e = ap (λ (signed : Bool). cond signed (int w) (pos (nat w))) e
+
+-- the number of a word of zeros
+pub val-zeros : (format : Format) (k : ℕ) → val (replicate k false) format ≡ pos 0
+val-zeros format k = go (replicate k false) format.signed (nat-zeros k) (highest-zeros k)
+  where
+    go : (w : List Bool) (signed : Bool) → nat w ≡ 0 → highest w ≡ false
+        → cond signed (pos (nat w) -ℤ pos (cond (highest w) (2 ^ length w) 0)) (pos (nat w)) ≡ pos 0
+    go w false e h = ap pos e
+    go w true e h =
+        ap (λ n. pos n -ℤ pos (cond (highest w) (2 ^ length w) 0)) e
+        ∙ ap (λ (b : Bool). pos 0 -ℤ pos (cond b (2 ^ length w) 0)) h

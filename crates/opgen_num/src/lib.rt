@@ -11,6 +11,7 @@
 #![tactic(auto)]
 
 mod format;
+mod limits;
 mod memory;
 mod mode;
 mod number;
@@ -18,8 +19,12 @@ mod rounding;
 mod word;
 
 pub use format::{Format, FormatFault, MAX_INPUT, MAX_LSB, MAX_WIDTH, Ratio, cover, least_width};
+pub use limits::{
+    MAX_CONSTANT, MAX_DENOMINATOR, MAX_DIVISOR, MAX_NEAR_LSB, MAX_NUMERATOR, MAX_SCALED,
+    MAX_SEARCHED_CONSTANT, MAX_SEARCHED_TAPS, MAX_TAPS,
+};
 pub use memory::Memory;
-pub use mode::Mode;
+pub use mode::{Mode, Overflow, Rounding};
 pub use number::{bit_length, power, signed_power};
 pub use rounding::{good_linear, good_root, is_quotient, is_root, nearest};
 pub use word::Word;

@@ -1,5 +1,6 @@
 //! The bit length of a number, and powers of two.
 ghost use Rattle.std.specs.Prelude.{ℕ, ◌<◌, ◌≤◌, ◌^◌, ◌≡◌, pos, ◌≤ℤ◌};
+ghost use Rattle.opgen_num.specs.declared.format.TheConstants.{MAX_WIDTH};
 
 /// The number of binary digits of a whole number, none for 0.
 pub fn bit_length(n: u128) -> u32
@@ -20,10 +21,10 @@ pub fn power(places: u32) -> u128
 
 /// Two to a power, as a number that may be subtracted.
 pub fn signed_power(places: u32) -> i128
-    requires { places ≤ 96 }
+    requires { places ≤ MAX_WIDTH }
     ensures value { result ≡ pos (2 ^ places) }
     ensures some { pos 0 ≤ℤ result }
-    ensures few { result ≤ℤ pos (2 ^ 96) }
+    ensures few { result ≤ℤ pos (2 ^ MAX_WIDTH) }
 {
     power(places) as i128
 }

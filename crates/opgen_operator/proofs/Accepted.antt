@@ -60,6 +60,7 @@ plain_fits spec net none fits =
       valid = fits.valid;
       inputs = fits.inputs;
       outputs = fits.outputs ∙ sym (ap (map name_and_width) same);
+      delays = fits.delays;
       good = λ inputs t words below in_range.
           let ins = recent_words (inputs_of spec) inputs t in
           let found = map (λ o. slice_flow net.nodes inputs o.from (pos t)) net.outputs in

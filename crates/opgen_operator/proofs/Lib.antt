@@ -7,3 +7,4 @@ pub mod Valued
 pub mod EachMode
 pub mod Specs
 pub mod PortNames
+pub mod Shown

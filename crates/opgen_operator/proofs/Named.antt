@@ -1,6 +1,6 @@
 -- Names that the ports of a design may have.
 use Rattle.std.proofs.Common.{ℕ, not, ◌&&◌, Bool, List, bytes_eq, true, [], ◌∷◌, ◌++◌, ◌≡◌, false, refl, sym, ◌∙◌, zero, suc, ◌<◌, length, get_or, arith, map}
-use Rattle.std.proofs.lemmas.Bool.{and_parts, or_parts}
+use Rattle.std.proofs.lemmas.Bool.{and_parts, or_parts, not-true}
 use Rattle.std.proofs.lemmas.List.Elements.{All-nil, All-cons, All-weaker, All-append}
 use Rattle.std.proofs.lemmas.List.Quantifiers.{all_pairs_push}
 use Rattle.std.proofs.lemmas.Slice.Eq.{bytes_eq-Decides}
@@ -22,10 +22,6 @@ differ (n ∷ ns) = not (list_any (λ m. bytes_eq n m) ns) && differ ns
 abbrev pub are_good : List (List ℕ) → Bool
 are_good ns = list_all is_allowed_name ns && (list_all is_free ns && differ ns)
 
-falsified : (b : Bool) → not b ≡ true → b ≡ false
-falsified true h = cc
-falsified false h = refl
-
 not_equal : (a b : List ℕ) → bytes_eq a b ≡ false → a ≢ b
 not_equal a b h e = let same = (bytes_eq-Decides a b).1 e in let both : true ≡ false = sym same ∙ h in cc
 
@@ -33,9 +29,9 @@ free : (n : List ℕ) → is_free n ≡ true → IsFree n
 free n h =
     let (clock, rest) = and_parts (not (bytes_eq n (codes "clk"))) (not (bytes_eq n (codes "ce")) && not (begins_as_signal n)) h in
     let (enable, signal) = and_parts (not (bytes_eq n (codes "ce"))) (not (begins_as_signal n)) rest in record {
-      no_clock = not_equal n (codes "clk") (falsified (bytes_eq n (codes "clk")) clock);
-      no_enable = not_equal n (codes "ce") (falsified (bytes_eq n (codes "ce")) enable);
-      no_signal = λ begins. let both : true ≡ false = sym begins ∙ falsified (begins_as_signal n) signal in cc;
+      no_clock = not_equal n (codes "clk") (not-true (bytes_eq n (codes "clk")) clock);
+      no_enable = not_equal n (codes "ce") (not-true (bytes_eq n (codes "ce")) enable);
+      no_signal = λ begins. let both : true ≡ false = sym begins ∙ not-true (begins_as_signal n) signal in cc;
     }
 
 all_of : (test : List ℕ → Bool) (P : List ℕ → Type 0) → ((n : List ℕ) → test n ≡ true → P n) → (ns : List (List ℕ))
@@ -54,7 +50,7 @@ pairs : (ns : List (List ℕ)) → differ ns ≡ true → AllPairs (λ a b. a �
 pairs [] h i j d l k = absurd (omega (arith, k))
 pairs (n ∷ ns) h i zero d l k = absurd (omega (arith, l))
 pairs (n ∷ ns) h zero (suc j) d l k =
-    none_of n ns (falsified (list_any (λ m. bytes_eq n m) ns) (and_parts (not (list_any (λ m. bytes_eq n m) ns)) (differ ns) h).0) j d
+    none_of n ns (not-true (list_any (λ m. bytes_eq n m) ns) (and_parts (not (list_any (λ m. bytes_eq n m) ns)) (differ ns) h).0) j d
     (omega (arith, k))
 pairs (n ∷ ns) h (suc i) (suc j) d l k = pairs ns (and_parts (not (list_any (λ m. bytes_eq n m) ns)) (differ ns) h).1 i j d
     (omega (arith, l)) (omega (arith, k))
@@ -85,7 +81,7 @@ untaken : (n : List ℕ) → not (is_one_of taken_names n) ≡ true → (n ≢ c
 unfolding taken_names
 untaken n h =
     let same = λ (word : List ℕ). bytes_eq word n in
-    let (_, from_clk) = or_parts (same (codes "rtl")) (list_any same (codes "clk" ∷ codes "ce" ∷ codes "y" ∷ [])) (falsified _ h) in
+    let (_, from_clk) = or_parts (same (codes "rtl")) (list_any same (codes "clk" ∷ codes "ce" ∷ codes "y" ∷ [])) (not-true _ h) in
     let (clk, from_ce) = or_parts (same (codes "clk")) (list_any same (codes "ce" ∷ codes "y" ∷ [])) from_clk in
     let (ce, from_y) = or_parts (same (codes "ce")) (list_any same (codes "y" ∷ [])) from_ce in
     let (y, _) = or_parts (same (codes "y")) (list_any same []) from_y in (
@@ -106,7 +102,7 @@ given_is n h =
       free = record {
         no_clock = clk;
         no_enable = ce;
-        no_signal = λ begins. let both : true ≡ false = sym begins ∙ falsified (begins_as_signal n) signal in cc;
+        no_signal = λ begins. let both : true ≡ false = sym begins ∙ not-true (begins_as_signal n) signal in cc;
       };
       no_output = y;
     }

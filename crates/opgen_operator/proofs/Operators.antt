@@ -1,17 +1,19 @@
 -- What holds of every operator, one arm a kind: what each kind proved of its meaning, the names of its ports, and of the kinds with one
 -- output whose width may be chosen its port and its exact value.
 use Rattle.std.proofs.Common.{arith, ◌≤◌, length, ℕ, ◌≡◌, Bool, true, false, Some, [], ◌∷◌, refl, subst, List, ◌++◌, map}
-use Rattle.std.specs.Prelude.{All, ◌≤ℤ◌, neg_ℤ, zero, suc, ℤ, pos, ◌<ℤ◌, codes, nat_lt}
+use Rattle.std.specs.Prelude.{All, ◌≢◌, ◌≤ℤ◌, neg_ℤ, zero, suc, ℤ, pos, ◌<ℤ◌, codes, nat_lt}
 use Rattle.opgen_operator.specs.declared.operator.Operator.{Operator}
 use Rattle.opgen_operator.specs.declared.operator.Operator.TheVariants.{Scale, Fir, Multiply, Divide, Root, Mcm, Constdiv, Poly, Tfir, Sop}
 use Rattle.opgen_ports.specs.declared.TheConstants.{MAX_SHIFT}
 use Rattle.opgen_ports.specs.Ports.{HasWidth, format_at, Recent, covering, port, with_rest}
 use Rattle.opgen_ports.specs.Limits.{most_input, most_signal}
 use Rattle.opgen_operator.specs.Held.{OutputsHold, OutputsRecall}
-use Rattle.opgen_operator.specs.Operator.{meaning, acceptance, operator_inputs, IsOperator, most_shift, shift, least_shift, HasInputsWithin, HasRoom, operator_outputs, IsAcceptedBy, IsGoodOf, exact_value, has_value, plain_output, given_names}
+use Rattle.opgen_operator.specs.Operator.{meaning, acceptance, operator_inputs, IsOperator, most_shift, shift, least_shift, HasInputsWithin, HasRoom, operator_outputs, IsAcceptedBy, IsGoodOf, IsInRangeOf, exact_value, may_be_cut, plain_output, given_names}
 use Rattle.opgen_ports.proofs.InputPorts.{HasBit}
 use Rattle.opgen_ports.proofs.Lawful.{IsLawful}
-use Rattle.opgen_kinds.proofs.of_kind.Pair.{pair_lawful}
+use Rattle.opgen_kinds.specs.declared.pair.Pair.{Pair}
+use Rattle.opgen_kinds.specs.Pair.{dividend, quotient_value}
+use Rattle.opgen_kinds.proofs.of_kind.Pair.{over_positive, pair_lawful}
 use Rattle.opgen_kinds.proofs.of_kind.Poly.{poly_lawful}
 use Rattle.opgen_kinds.proofs.of_kind.Product.{product_lawful}
 use Rattle.opgen_kinds.proofs.of_kind.Several.{several_lawful}
@@ -24,6 +26,10 @@ use Rattle.std.proofs.lemmas.Int.{ints}
 use Rattle.std.proofs.lemmas.Nat.{pow_pos}
 use Rattle.opgen_num.specs.declared.format.Format.{Format}
 use Rattle.opgen_num.specs.declared.mode.Mode.{Mode}
+use Rattle.opgen_num.specs.declared.mode.Mode.TheVariants.{Exact, Faithful, Down, Nearest}
+use Rattle.opgen_operator.specs.Valid.{AgreesOnExact}
+use Rattle.opgen_ports.specs.Modes.{mode_of_exact}
+use Rattle.std.specs.Option.{option_map}
 use Rattle.opgen_num.specs.Formats.{fewest_bits, is_negative, range_width}
 use Rattle.opgen_num.proofs.RangeWidth.{range_width-least}
 use Rattle.opgen_num.specs.declared.format.Ratio.{Ratio}
@@ -38,6 +44,7 @@ use Rattle.opgen_ports.specs.declared.reach.Reach.{Reach}
 use Rattle.opgen_ports.specs.Good.{IsGoodRatio}
 use Rattle.opgen_ports.specs.Reaches.{places_down}
 use Rattle.std.specs.Fmt.{digits}
+use Rattle.std.proofs.lemmas.Option.{same_Some}
 use Rattle.opgen_names.specs.Names.{refused_words}
 use Rattle.opgen_operator.specs.GivenNames.{AreGivenNames}
 use Rattle.opgen_kinds.specs.Several.{numbered, constant_format}
@@ -134,7 +141,7 @@ names_fine (Sop s) name is given = given_named name (names s.inputs) given
 -- ---- the kinds with one output whose width may be chosen: its port, its exact value, and when it is good
 
 -- it is the only output, of the name y
-pub only_output : (op : Operator) → has_value op ≡ true → operator_outputs op ≡ port (codes "y") (format_at (operator_outputs op) 0) ∷ []
+pub only_output : (op : Operator) → may_be_cut op ≡ true → operator_outputs op ≡ port (codes "y") (format_at (operator_outputs op) 0) ∷ []
 only_output (Scale s) h = refl
 only_output (Fir s) h = refl
 only_output (Multiply p) h = refl
@@ -146,11 +153,8 @@ only_output (Poly p) h = refl
 only_output (Tfir f) h = refl
 only_output (Sop s) h = refl
 
-inside : {A : Type 0} (a b : A) → Some a ≡ Some b → a ≡ b
-inside a b e = cc
-
 -- and its format is that of the port
-pub plain_is : (op : Operator) (f : Format) → has_value op ≡ true → plain_output op ≡ Some f → f ≡ format_at (operator_outputs op) 0
+pub plain_is : (op : Operator) (f : Format) → may_be_cut op ≡ true → plain_output op ≡ Some f → f ≡ format_at (operator_outputs op) 0
 plain_is (Scale s) f h e = cc
 plain_is (Fir s) f h e = cc
 plain_is (Multiply p) f h e = cc
@@ -163,7 +167,7 @@ plain_is (Tfir t) f h e = cc
 plain_is (Sop s) f h e = cc
 
 -- it has an exact value
-pub some_value : (op : Operator) (inputs : (port : ℕ) → Recent) → has_value op ≡ true → (v : Ratio) × (exact_value op inputs ≡ Some v)
+pub some_value : (op : Operator) (inputs : (port : ℕ) → Recent) → may_be_cut op ≡ true → (v : Ratio) × (exact_value op inputs ≡ Some v)
 some_value (Scale s) inputs h = (_, refl)
 some_value (Fir s) inputs h = (_, refl)
 some_value (Multiply p) inputs h = (_, refl)
@@ -175,38 +179,53 @@ some_value (Poly p) inputs h = (_, refl)
 some_value (Tfir f) inputs h = (_, refl)
 some_value (Sop s) inputs h = (_, refl)
 
+quotient_rated : (exact : Bool) (mode : Mode) (p : Pair) (inputs : (port : ℕ) → Recent) (outputs : (port : ℕ) → ℤ) (v : Ratio)
+    → mode_of_exact exact ≡ mode → option_map (λ value. value inputs) (quotient_value exact p) ≡ Some v
+    → IsGoodOf mode (Divide p) inputs outputs → IsGoodRatio mode v (outputs 0)
+quotient_rated true mode p inputs outputs v own e good = absurd cc
+quotient_rated false Exact p inputs outputs v own e good = absurd cc
+quotient_rated false Faithful p inputs outputs v own e good = subst (λ (w : Ratio). IsGoodRatio Faithful w (outputs 0)) (same_Some _ v e) good.1
+quotient_rated false Down p inputs outputs v own e good = absurd cc
+quotient_rated false Nearest p inputs outputs v own e good = absurd cc
+
 -- what is good for the operator is good for the exact value
 pub value_good : (mode : Mode) (op : Operator) (inputs : (port : ℕ) → Recent) (outputs : (port : ℕ) → ℤ) (v : Ratio)
-    → exact_value op inputs ≡ Some v → IsGoodOf mode op inputs outputs → IsGoodRatio mode v (outputs 0)
-value_good mode (Scale s) inputs outputs v e good = subst (λ (w : Ratio). IsGoodRatio mode w (outputs 0)) (inside _ v e) good
-value_good mode (Fir s) inputs outputs v e good = subst (λ (w : Ratio). IsGoodRatio mode w (outputs 0)) (inside _ v e) good
-value_good mode (Multiply p) inputs outputs v e good = subst (λ (w : Ratio). IsGoodRatio mode w (outputs 0)) (inside _ v e) good
-value_good mode (Divide p) inputs outputs v e good = absurd cc
-value_good mode (Root r) inputs outputs v e good = absurd cc
-value_good mode (Mcm m) inputs outputs v e good = absurd cc
-value_good mode (Constdiv c) inputs outputs v e good = absurd cc
-value_good mode (Poly p) inputs outputs v e good = subst (λ (w : Ratio). IsGoodRatio mode w (outputs 0)) (inside _ v e) good.1
-value_good mode (Tfir f) inputs outputs v e good = subst (λ (w : Ratio). IsGoodRatio mode w (outputs 0)) (inside _ v e) good
-value_good mode (Sop s) inputs outputs v e good = subst (λ (w : Ratio). IsGoodRatio mode w (outputs 0)) (inside _ v e) good
+    → AgreesOnExact mode op → exact_value op inputs ≡ Some v → IsGoodOf mode op inputs outputs → IsGoodRatio mode v (outputs 0)
+value_good mode (Scale s) inputs outputs v own e good = subst (λ (w : Ratio). IsGoodRatio mode w (outputs 0)) (same_Some _ v e) good
+value_good mode (Fir s) inputs outputs v own e good = subst (λ (w : Ratio). IsGoodRatio mode w (outputs 0)) (same_Some _ v e) good
+value_good mode (Multiply p) inputs outputs v own e good = subst (λ (w : Ratio). IsGoodRatio mode w (outputs 0)) (same_Some _ v e) good
+value_good mode (Divide p) inputs outputs v own e good = quotient_rated p.exact mode p inputs outputs v own e good
+value_good mode (Root r) inputs outputs v own e good = absurd cc
+value_good mode (Mcm m) inputs outputs v own e good = absurd cc
+value_good mode (Constdiv c) inputs outputs v own e good = absurd cc
+value_good mode (Poly p) inputs outputs v own e good = subst (λ (w : Ratio). IsGoodRatio mode w (outputs 0)) (same_Some _ v e) good.1
+value_good mode (Tfir f) inputs outputs v own e good = subst (λ (w : Ratio). IsGoodRatio mode w (outputs 0)) (same_Some _ v e) good
+value_good mode (Sop s) inputs outputs v own e good = subst (λ (w : Ratio). IsGoodRatio mode w (outputs 0)) (same_Some _ v e) good
+
+quotient_positive : (exact : Bool) (p : Pair) (inputs : (port : ℕ) → Recent) (v : Ratio) → inputs 1 0 ≢ pos 0
+    → option_map (λ value. value inputs) (quotient_value exact p) ≡ Some v → pos 0 <ℤ v.den
+quotient_positive true p inputs v some e = absurd cc
+quotient_positive false p inputs v some e =
+    subst (λ (w : Ratio). pos 0 <ℤ w.den) (same_Some _ v e) (over_positive (dividend p (inputs 0 0)) (inputs 1 0) some)
 
 -- and that has a denominator above 0
-pub value_positive : (op : Operator) (inputs : (port : ℕ) → Recent) (v : Ratio) → IsOperator op → exact_value op inputs ≡ Some v → pos 0 <ℤ v.den
-value_positive (Scale s) inputs v is e =
-    subst (λ (w : Ratio). pos 0 <ℤ w.den) (inside _ v e) (positive_units s.den (places_down (sum_shift s)) is.positive)
-value_positive (Fir s) inputs v is e =
-    subst (λ (w : Ratio). pos 0 <ℤ w.den) (inside _ v e) (positive_units s.den (places_down (sum_shift s)) is.positive)
-value_positive (Multiply p) inputs v is e =
-    subst (λ (w : Ratio). pos 0 <ℤ w.den) (inside _ v e) (omega (arith, ints, pow_pos (places_down (product_shift p))))
-value_positive (Divide p) inputs v is e = absurd cc
-value_positive (Root r) inputs v is e = absurd cc
-value_positive (Mcm m) inputs v is e = absurd cc
-value_positive (Constdiv c) inputs v is e = absurd cc
-value_positive (Poly p) inputs v is e =
-    subst (λ (w : Ratio). pos 0 <ℤ w.den) (inside _ v e) (positive_units p.den _ is.positive)
-value_positive (Tfir f) inputs v is e =
-    subst (λ (w : Ratio). pos 0 <ℤ w.den) (inside _ v e) (positive_units (pos 1) (places_down (sum_shift (direct f))) (omega (arith, ints)))
-value_positive (Sop s) inputs v is e =
-    subst (λ (w : Ratio). pos 0 <ℤ w.den) (inside _ v e) (sop_positive s (λ input. inputs input 0) is)
+pub value_positive : (op : Operator) (inputs : (port : ℕ) → Recent) (v : Ratio) → IsOperator op → IsInRangeOf op inputs → exact_value op inputs ≡ Some v → pos 0 <ℤ v.den
+value_positive (Scale s) inputs v is range e =
+    subst (λ (w : Ratio). pos 0 <ℤ w.den) (same_Some _ v e) (positive_units s.den (places_down (sum_shift s)) is.positive)
+value_positive (Fir s) inputs v is range e =
+    subst (λ (w : Ratio). pos 0 <ℤ w.den) (same_Some _ v e) (positive_units s.den (places_down (sum_shift s)) is.positive)
+value_positive (Multiply p) inputs v is range e =
+    subst (λ (w : Ratio). pos 0 <ℤ w.den) (same_Some _ v e) (omega (arith, ints, pow_pos (places_down (product_shift p))))
+value_positive (Divide p) inputs v is range e = quotient_positive p.exact p inputs v range e
+value_positive (Root r) inputs v is range e = absurd cc
+value_positive (Mcm m) inputs v is range e = absurd cc
+value_positive (Constdiv c) inputs v is range e = absurd cc
+value_positive (Poly p) inputs v is range e =
+    subst (λ (w : Ratio). pos 0 <ℤ w.den) (same_Some _ v e) (positive_units p.den _ is.positive)
+value_positive (Tfir f) inputs v is range e =
+    subst (λ (w : Ratio). pos 0 <ℤ w.den) (same_Some _ v e) (positive_units (pos 1) (places_down (sum_shift (direct f))) (omega (arith, ints)))
+value_positive (Sop s) inputs v is range e =
+    subst (λ (w : Ratio). pos 0 <ℤ w.den) (same_Some _ v e) (sop_positive s (λ input. inputs input 0) is)
 
 few_least : (signed : Bool) → fewest_bits signed ≤ 2
 few_least true = omega arith
@@ -225,7 +244,7 @@ covering_width r lsb = go r.below r.above
 range_fewest : (lo hi : ℤ) → lo ≤ℤ hi → fewest_bits (is_negative lo) ≤ range_width lo hi
 range_fewest lo hi h = (range_width-least lo hi h).0.0
 
-pub fewest : (op : Operator) → IsOperator op → has_value op ≡ true
+pub fewest : (op : Operator) → IsOperator op → may_be_cut op ≡ true
     → fewest_bits (format_at (operator_outputs op) 0).signed ≤ (format_at (operator_outputs op) 0).width
 fewest (Scale s) is h = covering_width (sum_places s) s.out_lsb
 fewest (Fir s) is h = covering_width (sum_places s) s.out_lsb

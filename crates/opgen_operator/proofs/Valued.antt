@@ -4,7 +4,7 @@ use Rattle.std.specs.Prelude.{ℕ, codes, All}
 use Rattle.opgen_num.specs.declared.format.TheConstants.{MAX_WIDTH}
 use Rattle.opgen_num.specs.Formats.{IsWidthOf}
 use Rattle.opgen_operator.specs.declared.operator.Operator.{Operator}
-use Rattle.opgen_operator.specs.Operator.{operator_outputs, IsAccepted, has_value}
+use Rattle.opgen_operator.specs.Operator.{operator_outputs, IsAccepted, may_be_cut}
 use Rattle.std.specs.Option.{unwrap_or}
 use Rattle.opgen_operator.specs.declared.spec.Spec.{Spec}
 use Rattle.opgen_operator.specs.Outputs.{outputs_of, chosen, chosen_ports}
@@ -16,7 +16,7 @@ use Rattle.opgen_ports.specs.Ports.{format_at, port, HasWidth}
 use Rattle.opgen_operator.proofs.Operators.{only_output, fewest}
 
 -- the output has the width of a signal
-pub plain_width : (op : Operator) → IsAccepted op → has_value op ≡ true
+pub plain_width : (op : Operator) → IsAccepted op → may_be_cut op ≡ true
     → IsWidthOf (format_at (operator_outputs op) 0).signed (format_at (operator_outputs op) 0).width
 plain_width op is h =
     let wide : All (HasWidth MAX_WIDTH) (port (codes "y") (format_at (operator_outputs op) 0) ∷ []) =

@@ -29,7 +29,7 @@ OutputsAreWide = (spec : Spec) → IsValidSpec spec → All (HasWidth (most_sign
 abbrev pub IsFromTo : (low high n : ℤ) → Type 0
 IsFromTo low high n = (low ≤ℤ n) × (n ≤ℤ high)
 
--- the shift is within the limits of the kind in the version, which are from -48 to 48
+-- the shift is within the limits of the kind in the version, which are within those of all versions
 pub record IsShiftSmall (version : ℕ) (op : Operator) : Type 0 where
   pub within : IsFromTo (least_shift op) (most_shift version op) (shift op)
   pub small : IsFromTo (neg_ℤ MAX_SHIFT) MAX_SHIFT (shift op)

@@ -1,7 +1,8 @@
--- The names that a document gives to the inputs.
-use Rattle.std.specs.Prelude.{ℕ, ◌≢◌, ◌&&◌, Bool, not, List, [], ◌∷◌, length, codes, nat_le, All, IsTrue}
+-- The names that a document gives to the inputs, and which words of a later VHDL it may give to itself.
+use Rattle.std.specs.Prelude.{ℕ, ◌≢◌, ◌&&◌, ◌||◌, Bool, not, List, [], ◌∷◌, length, codes, nat_le, nat_lt, All, IsTrue}
 use Rattle.std.specs.List.{list_any, AllPairs}
 use Rattle.std.specs.Str.{bytes_eq}
+use Rattle.opgen_operator.specs.declared.given_names.TheConstants.{MAX_PORT_NAME_LEN}
 use Rattle.opgen_names.specs.Names.{is_allowed_name}
 use Rattle.opgen_net.specs.Named.{begins_as_signal}
 
@@ -20,10 +21,14 @@ taken_names = codes "rtl" ∷ codes "clk" ∷ codes "ce" ∷ codes "y" ∷ []
 abbrev pub is_one_of : List (List ℕ) → (name : List ℕ) → Bool
 is_one_of words name = list_any (λ word. bytes_eq word name) words
 
+-- in documents of version 4 the name of a specification is none of the later words either
+abbrev pub is_name_in : (version : ℕ) → (name : List ℕ) → Bool
+is_name_in version name = nat_lt version 4 || not (is_one_of later_words name)
+
 -- A name of the VHDL subset in lower case, of at most 32 bytes, that no word of VHDL and no other name of a written text is.
 abbrev pub is_port_name : List ℕ → Bool
 is_port_name name =
-    nat_le (length name) 32 && is_allowed_name name && not (is_one_of later_words name) && not (is_one_of taken_names name)
+    nat_le (length name) MAX_PORT_NAME_LEN && is_allowed_name name && not (is_one_of later_words name) && not (is_one_of taken_names name)
     && not (begins_as_signal name)
 
 -- Each is such a name and not the name of the specification, and no two are the same.

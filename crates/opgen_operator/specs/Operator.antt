@@ -1,14 +1,15 @@
 -- The kinds and their words; what each operator means and what decides whether it is accepted, by its kind; and each question
 -- about it.
-use Rattle.std.specs.Prelude.{ℕ, Bool, Option, Some, None, ℤ, List, codes, if◌then◌else◌}
+use Rattle.std.specs.Prelude.{ℕ, Bool, Option, Some, None, ℤ, List, codes, if◌then◌else◌, is_none, ◌&&◌}
 use Rattle.opgen_operator.specs.declared.kind.Kind.{Kind}
 use Rattle.opgen_operator.specs.declared.kind.Kind.TheVariants as kind_of
 use Rattle.opgen_operator.specs.declared.operator.Operator.{Operator}
 use Rattle.opgen_operator.specs.declared.operator.Operator.TheVariants.{Scale, Fir, Multiply, Divide, Root, Mcm, Constdiv, Poly, Tfir, Sop}
 use Rattle.opgen_ports.specs.declared.ports.PortFormat.{PortFormat}
 use Rattle.opgen_ports.specs.Acceptance.{Acceptance}
-use Rattle.opgen_ports.specs.Accepted.{is_marked, IsAcceptedIn, IsAcceptable}
+use Rattle.opgen_ports.specs.Accepted.{IsAcceptedIn, IsAcceptable}
 use Rattle.opgen_ports.specs.Meaning.{IsNonzeroAt, Meaning}
+use Rattle.opgen_ports.specs.Modes.{is_marked}
 use Rattle.opgen_kinds.specs.Pair.{pair_meaning, pair_acceptance}
 use Rattle.opgen_kinds.specs.Poly.{poly_meaning, poly_acceptance}
 use Rattle.opgen_kinds.specs.Product.{product_meaning, product_acceptance}
@@ -116,7 +117,8 @@ need op = (acceptance op).need
 abbrev pub HasRoom : Operator → Type 0
 HasRoom op = (acceptance op).HasRoom
 
-abbrev pub own_mark : Operator → Option Bool
+-- the operator's own mode of outputs, where it has one
+abbrev pub own_mark : Operator → Option Mode
 own_mark op = (acceptance op).own_mark
 
 abbrev pub marks_exact : Operator → Bool
@@ -137,16 +139,20 @@ IsExactIn128 op inputs = (acceptance op).IsExactIn128 inputs
 abbrev pub IsGoodOf : (mode : Mode) → Operator → (inputs : (port : ℕ) → Recent) (outputs : (port : ℕ) → ℤ) → Type 0
 IsGoodOf mode op inputs outputs = (meaning op).IsGood mode inputs outputs
 
--- the exact value of the only output `y`, of the kinds whose output may have a chosen width
+-- the exact value of the only output, of the kinds and modes that have one output of one value
 abbrev pub exact_value : Operator → (inputs : (port : ℕ) → Recent) → Option Ratio
 exact_value op inputs = option_map (λ value. value inputs) (meaning op).value
 
 abbrev pub has_value : Operator → Bool
 has_value op = is_some (meaning op).value
 
--- the format of that output
+-- Versions 1 to 3 let no quotient have a chosen width: of the others the output of a value is named `y`.
+abbrev pub may_be_cut : Operator → Bool
+may_be_cut op = is_none (divisor op) && has_value op
+
+-- the format of an output whose width may be chosen
 abbrev pub plain_output : Operator → Option Format
-plain_output op = if has_value op then Some (format_at (operator_outputs op) 0) else None
+plain_output op = if may_be_cut op then Some (format_at (operator_outputs op) 0) else None
 
 -- the last divisor is not 0; no other input is out of range
 abbrev pub IsInRangeOf : Operator → (inputs : (port : ℕ) → Recent) → Type 0

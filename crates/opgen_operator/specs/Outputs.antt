@@ -5,12 +5,13 @@ use Rattle.std.specs.Prelude.{ℕ, Bool, Option, Some, None, ℤ, List, map, ◌
 use Rattle.opgen_num.specs.declared.format.Format.{Format}
 use Rattle.opgen_num.specs.declared.format.Ratio.{Ratio}
 use Rattle.opgen_num.specs.declared.mode.Mode.{Mode}
+use Rattle.opgen_num.specs.declared.mode.Overflow.{Overflow}
 use Rattle.opgen_operator.specs.declared.spec.Spec.{Spec}
 use Rattle.opgen_operator.specs.Operator.{operator_inputs, operator_outputs, IsInRangeOf, IsGoodOf, exact_value}
 use Rattle.opgen_ports.specs.declared.ports.PortFormat.{PortFormat}
 use Rattle.opgen_ports.specs.Ports.{format_at, Recent, port}
-use Rattle.opgen_ports.specs.Good.{IsGoodSaturated}
-use Rattle.opgen_ports.specs.Modes.{mode_of_exact}
+use Rattle.opgen_ports.specs.Good.{IsGoodChosen}
+use Rattle.opgen_ports.specs.Modes.{mode_by}
 use Rattle.opgen_design.specs.declared.design.Dir.{Dir}
 use Rattle.opgen_design.specs.declared.design.Dir.TheVariants.{In, Out}
 use Rattle.opgen_design.specs.declared.design.Port.{Port}
@@ -32,20 +33,21 @@ chosen_ports (Some width) sign ports = map (λ p. port p.name (chosen width sign
 abbrev pub outputs_of : Spec → List PortFormat
 outputs_of spec = chosen_ports spec.out_width spec.out_signed (operator_outputs spec.op)
 
--- y is good for a value that is first brought into the range of a format (saturation)
-abbrev pub IsGoodCut : (mode : Mode) → Format → Option Ratio → (y : ℤ) → Type 0
-IsGoodCut mode to (Some value) y = IsGoodSaturated mode to value.num value.den y
-IsGoodCut mode to None y = ⊥
+-- y, of a chosen format, is good for a value that an output of the operator's own format has
+abbrev pub IsGoodCut : Overflow → (mode : Mode) → (own to : Format) → Option Ratio → (y : ℤ) → Type 0
+IsGoodCut overflow mode own to (Some value) y = IsGoodChosen overflow mode own to value.num value.den y
+IsGoodCut overflow mode own to None y = ⊥
 
 -- the mode of the outputs
 abbrev pub mode_of : Spec → Mode
-mode_of spec = mode_of_exact spec.exact
+mode_of spec = mode_by spec.rounding spec.exact
 
 -- the outputs are good as those of the operator, or as one whose width is chosen
 abbrev pub IsGoodBy : (width : Option ℕ) → Spec → (inputs : (port : ℕ) → Recent) (outputs : (port : ℕ) → ℤ) → Type 0
 IsGoodBy None spec inputs outputs = IsGoodOf (mode_of spec) spec.op inputs outputs
 IsGoodBy (Some width) spec inputs outputs =
-    IsGoodCut (mode_of spec) (format_at (outputs_of spec) 0) (exact_value spec.op inputs) (outputs 0)
+    IsGoodCut spec.overflow (mode_of spec) (format_at (operator_outputs spec.op) 0) (format_at (outputs_of spec) 0)
+    (exact_value spec.op inputs) (outputs 0)
 
 abbrev pub IsGood : Spec → (inputs : (port : ℕ) → Recent) (outputs : (port : ℕ) → ℤ) → Type 0
 IsGood spec inputs outputs = IsGoodBy spec.out_width spec inputs outputs

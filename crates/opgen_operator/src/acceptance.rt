@@ -6,7 +6,7 @@ ghost use Rattle.opgen_ports.specs.Limits.{most_input, most_signal};
 
 use crate::operator::Operator;
 use opgen_num::Mode;
-use opgen_ports::modes::{is_exact, is_exact_or_faithful};
+use opgen_ports::modes::{is_exact, is_exact_or_faithful, is_marked};
 use opgen_ports::{most_input, most_signal};
 
 impl Operator {
@@ -18,7 +18,7 @@ impl Operator {
             && self.has_inputs_within(most_input(version))
             && self.is_fine(version)
             && self.is_narrow(version)
-            && self.is_whole(self.own_mark().unwrap_or(false))
+            && self.is_whole(is_marked(self.own_mark()))
     }
 
     /// Whether a version of specifications has the operator and accepts it.
@@ -69,12 +69,12 @@ impl Operator {
     }
 }
 
-// Whether the operator's own mark of exact outputs, if it has one, is that of the mode.
-fn agrees(mode: Mode, mark: Option<bool>) -> bool
+// Whether the operator's own mode, if it has one, is that of the outputs.
+fn agrees(mode: Mode, mark: Option<Mode>) -> bool
     ensures { IsTrue result ↔ AgreesWith mode mark }
 {
     match mark {
-        Some(mark) => mark == is_exact(mode),
+        Some(mark) => mark == mode,
         None => true,
     }
 }

@@ -1,10 +1,10 @@
-//! Which names a document may give to the inputs.
+//! Which names a document may give to the inputs, and which words of a later VHDL it may give to itself.
 
 ghost use Rattle.std.specs.Prelude.{◌≡◌, ◌≤◌, ◌≢◌, ◌↔◌, All, IsTrue, length, map};
 ghost use Rattle.std.specs.List.{AllPairs};
 ghost use Rattle.opgen_names.specs.Names.{is_allowed_name};
 ghost use Rattle.opgen_net.specs.Named.{begins_as_signal};
-ghost use Rattle.opgen_operator.specs.GivenNames.{is_one_of, later_words, taken_names, is_port_name, AreGivenNames};
+ghost use Rattle.opgen_operator.specs.GivenNames.{is_one_of, later_words, taken_names, is_name_in, is_port_name, AreGivenNames};
 
 use opgen_names::is_allowed_name;
 use opgen_ports::ports::PortFormat;
@@ -39,6 +39,13 @@ fn is_later_word(name: &str) -> bool
     ensures { result ≡ is_one_of later_words name.now }
 {
     LATER.contains(&name)
+}
+
+/// Whether documents of the version may have the name, which in version 4 is no word of a later VHDL.
+pub fn is_name_in(version: u32, name: &str) -> bool
+    ensures { result ≡ is_name_in version name.now }
+{
+    version < 4 || !is_later_word(name)
 }
 
 fn is_taken(name: &str) -> bool

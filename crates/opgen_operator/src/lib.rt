@@ -5,7 +5,8 @@
 //! that of the output whose width it chooses. The mode of its outputs. Whether the outputs of a cycle are good, exactly by
 //! the definition; they depend on as many of the last cycles alone as the kind of operator says. The shift; the input port
 //! that must not be 0; the first coefficient that is not whole; the width that a version limits, if it may be over the
-//! limit; whether the net is made of an adder graph; whether the output's width may be chosen.
+//! limit; whether the net is made of an adder graph; whether there is one output of one value, and whether its
+//! width may be chosen.
 //! The width of an output of sums and products is made for their least and greatest exact value. The operators' own
 //! formats hold sums, products and quotients rounded down or up, multiples, remainders, and roots and quotients by
 //! small constants rounded down; nothing of this kind is proved of polynomials. Of every valid specification, by its
@@ -14,8 +15,8 @@
 //! a specification has ports that a design may have.
 //!
 //! By: `Kind::name`; `Spec::is_valid`, `mode`, `inputs`, `outputs`, `cut`, `good`; `Operator::shift`, `divisor`, `inexact`,
-//! `need`, `least_shift`, `most_shift`, `has_graph`, `has_value`; the laws `outputs_hold`, `outputs_recall`, `inputs_are_wide`,
-//! `entries_are_small`, `products_have_width`; of `opgen_part_laws` the laws `valid_are_accepted`, `outputs_are_wide`,
+//! `need`, `least_shift`, `most_shift`, `has_graph`, `has_value`, `may_be_cut`; the laws `outputs_hold`, `outputs_recall`,
+//! `inputs_are_wide`, `entries_are_small`, `products_have_width`; of `opgen_part_laws` the laws `valid_are_accepted`, `outputs_are_wide`,
 //! `sums_reach`, `products_reach`, `limits_are_within`, `shifts_are_small`, `exact_values_are_in_128`,
 //! `accepted_have_room`, `roots_are_narrow`, `fitting_nets_are_named`.
 #![tactic(auto)]
@@ -27,7 +28,7 @@ mod laws;
 mod operator;
 mod spec;
 
-pub use given_names::{MAX_PORT_NAME_LEN, is_port_name};
+pub use given_names::{MAX_PORT_NAME_LEN, is_name_in, is_port_name};
 pub use kind::Kind;
 pub use laws::{
     entries_are_small, inputs_are_wide, outputs_hold, outputs_recall, products_have_width,

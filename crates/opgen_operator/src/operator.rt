@@ -3,7 +3,7 @@ ghost use Rattle.std.specs.Prelude.{◌≡◌, ◌↔◌, ℤ, pos, neg_ℤ, ◌
 ghost use Rattle.opgen_ports.specs.Meaning.{IsCycleJudged};
 ghost use Rattle.opgen_ports.specs.Profile.{IsProfileOf};
 ghost use Rattle.opgen_operator.specs.GivenNames.{AreGivenNames};
-ghost use Rattle.opgen_operator.specs.Operator.{shift, given_names, HasRoom, operator_inputs, operator_outputs, IsOperator, inexact, need, least_shift, most_shift, kind, meaning, acceptance, divisor, has_graph, own_mark, IsAccepted, IsInVersion, HasInputsWithin, plain_output, exact_value, has_value};
+ghost use Rattle.opgen_operator.specs.Operator.{shift, given_names, HasRoom, operator_inputs, operator_outputs, IsOperator, inexact, need, least_shift, most_shift, kind, meaning, acceptance, divisor, has_graph, own_mark, IsAccepted, IsInVersion, HasInputsWithin, plain_output, exact_value, has_value, may_be_cut, IsInRangeOf};
 ghost use Rattle.opgen_ports.specs.Ports.{recent_numbers, IsHistory, IsCycle};
 ghost use Rattle.opgen_operator.specs.Valid.{IsModeOf};
 
@@ -17,7 +17,7 @@ use opgen_kinds::single::{Single, root_shift};
 use opgen_kinds::small_div::SmallDiv;
 use opgen_kinds::sum::{Sum, first_inexact, sum_need, sum_shift};
 use opgen_kinds::taps::Taps;
-use opgen_num::{Format, Mode, Ratio};
+use opgen_num::{Format, MAX_TAPS, Mode, Ratio};
 use opgen_ports::ports::{PortFormat, are_within, is_within};
 use opgen_ports::{MAX_SHIFT, Profile};
 use opgen_terms::Sop;
@@ -164,15 +164,22 @@ impl Operator {
         self.profile().has_graph
     }
 
-    /// Whether the output has a width that may be chosen: that of the kinds with one output `y`.
+    /// Whether the operator has one output of one exact value.
     pub fn has_value(&self) -> bool
         ensures { result ≡ has_value self.now }
     {
         self.profile().has_value
     }
 
-    /// The operator's own mark of exact outputs, if it has one.
-    pub(crate) fn own_mark(&self) -> Option<bool>
+    /// Whether the output has a width that may be chosen in version 3: that of the kinds with one output `y`.
+    pub fn may_be_cut(&self) -> bool
+        ensures { result ≡ may_be_cut self.now }
+    {
+        self.divisor().is_none() && self.has_value()
+    }
+
+    /// The operator's own mode of outputs, if it has one.
+    pub(crate) fn own_mark(&self) -> Option<Mode>
         ensures { result ≡ own_mark self.now }
     {
         self.profile().own_mark
@@ -184,7 +191,7 @@ impl Operator {
     {
         match self {
             Self::Scale(sum) => sum.is_ranged(1),
-            Self::Fir(sum) => sum.is_ranged(256),
+            Self::Fir(sum) => sum.is_ranged(MAX_TAPS as usize),
             Self::Multiply(product) => product.is_ranged(),
             Self::Divide(pair) => pair.is_ranged(),
             Self::Root(single) => single.is_ranged(),
@@ -298,12 +305,27 @@ impl Operator {
         }
     }
 
-    /// The exact value of that output, in units of its last place.
+    /// Whether the inputs of the last cycle are in range: a divisor is not 0.
+    pub(crate) fn is_in_range(&self, history: &[u128]) -> bool
+        requires accepted { IsAccepted self.now }
+        requires history { IsHistory (operator_inputs self.now) history.now }
+        ensures { IsTrue result ↔ IsInRangeOf self.now (recent_numbers (operator_inputs self.now) history.now) }
+    {
+        match self {
+            Self::Divide(pair) => pair.is_in_range(history),
+            Self::Scale(_) | Self::Fir(_) | Self::Multiply(_) | Self::Root(_) | Self::Mcm(_) =>
+                true,
+            Self::Constdiv(_) | Self::Poly(_) | Self::Tfir(_) | Self::Sop(_) => true,
+        }
+    }
+
+    /// The exact value of the output, in units of its last place, if there is one output of one value.
     pub(crate) fn value(&self, history: &[u128]) -> Option<Ratio>
         requires accepted { IsAccepted self.now }
         requires history { IsHistory (operator_inputs self.now) history.now }
         ensures value { result ≡ exact_value self.now (recent_numbers (operator_inputs self.now) history.now) }
-        ensures positive { IfSome result (λ value. pos 0 <ℤ value.den) }
+        ensures positive { IsInRangeOf self.now (recent_numbers (operator_inputs self.now) history.now) →
+            IfSome result (λ value. pos 0 <ℤ value.den) }
     {
         match self {
             Self::Scale(sum) => Some(sum.value(history)),
@@ -312,7 +334,8 @@ impl Operator {
             Self::Poly(poly) => Some(poly.value(history)),
             Self::Tfir(taps) => Some(taps.value(history)),
             Self::Sop(sop) => Some(sop.value(history)),
-            Self::Divide(_) | Self::Root(_) | Self::Mcm(_) | Self::Constdiv(_) => None,
+            Self::Divide(pair) => pair.value(history),
+            Self::Root(_) | Self::Mcm(_) | Self::Constdiv(_) => None,
         }
     }
 

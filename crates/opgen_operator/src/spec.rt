@@ -1,23 +1,24 @@
 //! Specifications as types: operator, output, target, period and delay lines; their ports, and when outputs are good.
-ghost use Rattle.std.specs.Prelude.{◌≡◌, ◌≤◌, ◌<◌, ◌^◌, Some, None, [], ◌∷◌, codes, IfOk, IfSome, ◌↔◌, All, IsTrue};
+ghost use Rattle.std.specs.Prelude.{◌≡◌, ◌≤◌, ◌<◌, ◌^◌, Some, None, [], ◌∷◌, codes, length, IfOk, IfSome, ◌↔◌, All, IsTrue};
 ghost use Rattle.opgen_num.specs.Formats.{IsWidthOf};
-ghost use Rattle.opgen_operator.specs.GivenNames.{AreGivenNames};
-ghost use Rattle.opgen_operator.specs.Operator.{plain_output, exact_value, given_names};
+ghost use Rattle.opgen_operator.specs.GivenNames.{is_name_in, AreGivenNames};
+ghost use Rattle.opgen_operator.specs.Operator.{operator_outputs, plain_output, exact_value, given_names, IsOperator};
 ghost use Rattle.opgen_operator.specs.Outputs.{inputs_of, outputs_of, mode_of, IsGood, IsGoodCut, IsInRange};
-ghost use Rattle.opgen_ports.specs.Ports.{port, number_of, recent_numbers, output_numbers, IsHistory, IsCycle};
+ghost use Rattle.opgen_ports.specs.Ports.{format_at, port, number_of, recent_numbers, output_numbers, IsHistory, IsCycle};
 ghost use Rattle.opgen_ports.specs.SpecName.{is_spec_name};
-ghost use Rattle.opgen_operator.specs.Valid.{IsChoice, IsDelayLine, IsValidSpec};
+ghost use Rattle.opgen_operator.specs.Valid.{IsBuiltOverflow, IsChoice, IsDelayLine, IsInexactIf, IsModeOf, IsValidSpec};
 
+use crate::given_names::is_name_in;
 use crate::operator::Operator;
 use opgen_list::{Items, Text};
 use opgen_net::Class;
-use opgen_num::{Format, MAX_WIDTH, Memory, Mode};
+use opgen_num::{Format, MAX_WIDTH, Memory, Mode, Overflow, Rounding};
 use opgen_ports::history::output;
-use opgen_ports::modes::mode_of_exact;
+use opgen_ports::modes::mode_by;
 use opgen_ports::ports::{PortFormat, one};
 use opgen_ports::ranges::is_length;
 use opgen_ports::saturated::good_saturated;
-use opgen_ports::{is_spec_name, is_version};
+use opgen_ports::{MAX_TARGET_NAME_LEN, is_spec_name, is_version};
 use std::alloc::Global;
 
 /// What is to be built: an operator, and for which target.
@@ -30,11 +31,14 @@ pub struct Spec {
     /// Whether the outputs equal the exact values, quotients rounded towards 0 and roots down, with a
     /// remainder; if not, they lie less than one unit in the last place from them.
     pub exact: bool,
-    /// The width of the output `y` in bits, if it is chosen: the exact value is then first brought into
-    /// the range of the output's format.
+    /// How the outputs are rounded from the exact values, if it is said; they are then not exact.
+    pub rounding: Option<Rounding>,
+    /// The width of the output `y` in bits, if it is chosen.
     pub out_width: Option<u32>,
     /// Whether that output is signed, if it is chosen; if not, it has the sign of the operator's own.
     pub out_signed: Option<bool>,
+    /// What becomes of a value that is out of the range of that output.
+    pub overflow: Overflow,
     pub target: Text,
     /// The clock's period in picoseconds.
     pub period: u32,
@@ -75,26 +79,50 @@ impl Spec {
         is_version(self.version)
             && self.has_names()
             && self.op.is_of(self.version)
+            && self.has_outputs()
+            && self.has_target()
+    }
+
+    // Whether such outputs may be asked of the operator.
+    fn has_outputs(&self) -> bool
+        requires { IsOperator self.now.op }
+        ensures { IsTrue result ↔ (IsInexactIf self.now.rounding self.now.exact × IsModeOf (mode_of self.now) self.now.op
+            × IsChoice self.now.version self.now.op self.now.out_width self.now.out_signed
+            × IsBuiltOverflow self.now.overflow) }
+    {
+        is_inexact_if(self.rounding, self.exact)
             && self.op.has_mode(self.mode())
-            && is_length(1, 32, self.target.as_str().len())
+            && self.is_choice()
+            && is_built_overflow(self.overflow)
+    }
+
+    // Whether the target, the period and the delays are within their ranges.
+    fn has_target(&self) -> bool
+        ensures { IsTrue result ↔ (((1 ≤ length self.now.target) × (length self.now.target ≤ MAX_TARGET_NAME_LEN))
+            × ((1 ≤ self.now.period) × (self.now.period ≤ 1000000))
+            × (length self.now.delays ≤ 16) × All IsDelayLine self.now.delays) }
+    {
+        is_length(1, MAX_TARGET_NAME_LEN, self.target.as_str().len())
             && is_period(self.period)
             && self.delays.len() <= 16
             && are_delay_lines(self.delays.as_slice())
-            && self.is_choice()
     }
 
-    /// The mode of the outputs: exact or faithful.
+    /// The mode of the outputs: how they are rounded.
     pub fn mode(&self) -> Mode
         ensures { result ≡ mode_of self.now }
     {
-        mode_of_exact(self.exact)
+        mode_by(self.rounding, self.exact)
     }
 
     // Whether the specification and its inputs may have their names.
     fn has_names(&self) -> bool
-        ensures { IsTrue result ↔ (IsTrue (is_spec_name self.now.name) × AreGivenNames self.now.name (given_names self.now.op)) }
+        ensures { IsTrue result ↔ (IsTrue (is_spec_name self.now.name)
+            × IsTrue (is_name_in self.now.version self.now.name)
+            × AreGivenNames self.now.name (given_names self.now.op)) }
     {
-        is_spec_name(self.name.as_str()) && self.op.is_named(self.name.as_str())
+        let name = self.name.as_str();
+        is_spec_name(name) && is_name_in(self.version, name) && self.op.is_named(name)
     }
 
     // Whether the width and the sign of the output may be chosen so.
@@ -103,7 +131,7 @@ impl Spec {
     {
         match self.out_width {
             Some(width) => {
-                self.version == 3 && self.op.has_value() && 2 <= width && width <= MAX_WIDTH
+                self.version == 3 && self.op.may_be_cut() && 2 <= width && width <= MAX_WIDTH
             }
             None => self.out_signed.is_none(),
         }
@@ -160,24 +188,48 @@ impl Spec {
         ensures out_of_range { ¬ IsInRange self.now (recent_numbers (inputs_of self.now) history.now) → IsTrue result }
     {
         match self.cut() {
-            Some(cut) => self.is_good_cut(cut.to, history, outputs[0]),
+            Some(cut) => {
+                !self.op.is_in_range(history) || self.is_good_cut(cut.to, history, outputs[0])
+            }
             None => self.op.judge(self.mode(), history, outputs),
         }
     }
 
-    // Whether an output is good for the exact value, brought into the range of its format.
+    // Whether an output of a chosen format is good for the exact value, brought into the range of the format.
     fn is_good_cut(&self, to: Format, history: &[u128], y: u128) -> bool
         requires valid { IsValidSpec self.now }
         requires to { IsWidthOf to.signed to.width }
         requires history { IsHistory (inputs_of self.now) history.now }
+        requires in_range { IsInRange self.now (recent_numbers (inputs_of self.now) history.now) }
         requires y { y < 2 ^ to.width }
-        ensures { IsTrue result ↔ IsGoodCut (mode_of self.now) to
+        ensures { IsTrue result ↔ IsGoodCut self.now.overflow (mode_of self.now)
+            (format_at (operator_outputs self.now.op) 0) to
             (exact_value self.now.op (recent_numbers (inputs_of self.now) history.now)) (number_of to y) }
     {
         match self.op.value(history) {
             Some(value) => good_saturated(value, to, output(to, y), self.mode()),
             None => false,
         }
+    }
+}
+
+// Whether exact outputs are not asked for where a rounding is chosen.
+fn is_inexact_if(rounding: Option<Rounding>, exact: bool) -> bool
+    ensures { IsTrue result ↔ IsInexactIf rounding exact }
+{
+    match rounding {
+        Some(_) => !exact,
+        None => true,
+    }
+}
+
+// Whether outputs are built for which this becomes of values out of range.
+fn is_built_overflow(overflow: Overflow) -> bool
+    ensures { IsTrue result ↔ IsBuiltOverflow overflow }
+{
+    match overflow {
+        Overflow::Saturate => true,
+        Overflow::Wrap => false,
     }
 }
 

@@ -1,17 +1,12 @@
 -- The set of adders and the net of several constants.
-use Rattle.std.proofs.Common.{◌≡◌, ℕ, List, ℤ, sym, ap, subst, ◌∙◌}
+use Rattle.std.proofs.Common.{◌≡◌, sym, ap, subst, ◌∙◌}
 use Rattle.opgen_graph.specs.Graphs.{IsRanks}
-use Rattle.opgen_graph.specs.Targets.{AreTargetsOf}
 use Rattle.opgen_graph.specs.Recipe.{net_of_graph}
+use Rattle.opgen_graph.proofs.SignedSets.{one_targets}
 use Rattle.opgen_part_laws.proofs.OneGraph.{one_graph}
 use Rattle.opgen_search.specs.Least.{IsLeast}
 use Rattle.opgen_search.specs.Recipe.{OneAdderSet, OneLeastGraph, OneNet}
 use Rattle.opgen_search.proofs.Order.{neither_before}
-use Rattle.opgen_search.proofs.Sets.{same_set}
-
-one_targets : (constants : List ℤ) (xs ys : List ℕ) → AreTargetsOf constants xs → AreTargetsOf constants ys → xs ≡ ys
-one_targets constants xs ys a b = same_set xs ys a.increasing b.increasing (λ x c. (b.members x).1 ((a.members x).0 c))
-    (λ x c. (a.members x).1 ((b.members x).0 c))
 
 pub one_set : OneAdderSet
 one_set numbers width extra set other a b =

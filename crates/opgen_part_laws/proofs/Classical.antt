@@ -1,13 +1,6 @@
 -- Where the goal is ⊥, a proposition may be decided, and a number that has a property may be taken as the least that has it.
-use Rattle.std.proofs.Common.{ℕ, zero, suc, ◌<◌, ◌⊎◌, inl, inr, arith}
+use Rattle.std.proofs.Common.{◌⊎◌, inl, inr}
+pub use Rattle.opgen_num.proofs.Orders.{least}
 
 pub decided : {P : Type 0} → (P ⊎ (P → ⊥) → ⊥) → ⊥
 decided k = k (inr (λ p. k (inl p)))
-
--- the property has no number below another, if it has no least one
-none_below : (P : ℕ → Type 0) → ((m : ℕ) → P m → ((k : ℕ) → k < m → P k → ⊥) → ⊥) → (n m : ℕ) → m < n → P m → ⊥
-none_below P no_least zero m l p = omega (arith, l)
-none_below P no_least (suc n) m l p = no_least m p (λ k below q. none_below P no_least n k (omega (arith, l, below)) q)
-
-pub least : {P : ℕ → Type 0} (n : ℕ) → P n → ((m : ℕ) → P m → ((k : ℕ) → k < m → P k → ⊥) → ⊥) → ⊥
-least {P = P} n p no_least = none_below P no_least (suc n) n (omega arith) p

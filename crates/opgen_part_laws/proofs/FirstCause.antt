@@ -1,11 +1,13 @@
 -- A text has one first cause against it at most, and none where it spells a sound design within the limits.
 use Rattle.std.specs.Prelude.{IfSome, slice_get}
-use Rattle.std.proofs.Common.{◌≡◌, ◌≢◌, inl, inr, ℕ, ◌<◌, true, false, List, [], ◌∷◌, length, Option, Some, None, refl, ap, sym, ◌∙◌, subst, arith}
+use Rattle.std.proofs.Common.{◌≡◌, ◌≢◌, inl, inr, ℕ, ◌<◌, true, false, List, length, Option, Some, None, refl, ap, sym, ◌∙◌, subst, arith}
 use Rattle.std.proofs.lemmas.Bool.{cases_order}
 use Rattle.opgen_design.specs.declared.design.Design.{Design}
 use Rattle.opgen_design.specs.declared.sound.Rule.{Rule}
 use Rattle.opgen_design.specs.declared.sound.Rule.TheVariants.{Undeclared, DeclaredTwice, Width, DrivenTwice, NotDriven, Cyclic, ReadsOutput, NoInitial, ChoiceTwice, BadEnable}
 use Rattle.opgen_design.specs.Sound.{rule_number, Holds, at_design, at_port, at_signal, at_driver, DependsOn, at_once, through, IsOrderedBy, IsOrdered, IsSound, IsFirstUnsound}
+use Rattle.opgen_design.proofs.WithoutEnable.{if-each}
+use Rattle.opgen_design.proofs.RuleOrder.{same-rule}
 use Rattle.opgen_vhdl.specs.declared.kind.Token.{Token}
 use Rattle.opgen_vhdl.specs.Tokens.{Tokens, LexicalAt}
 use Rattle.opgen_vhdl.specs.Statements.{Reading}
@@ -25,29 +27,6 @@ no_tokens bytes ts n s t =
 one_offset : (bytes : List ℕ) (m n : ℕ) → LexicalAt bytes m → LexicalAt bytes n → m ≡ n
 one_offset bytes m n s t = sym s.place ∙ ap size_of (one_cut s.elements t.elements bytes s.rest t.rest s.cut t.cut s.nothing t.nothing).0
     ∙ t.place
-
--- rules by number
-abbrev rules : List Rule
-rules = Undeclared ∷ Undeclared ∷ DeclaredTwice ∷ Width ∷ DrivenTwice ∷ NotDriven ∷ Cyclic ∷ ReadsOutput ∷ NoInitial ∷ ChoiceTwice ∷
-    BadEnable ∷ []
-
-there : (r : Rule) → slice_get rules (rule_number r) ≡ Some r
-there Undeclared = refl
-there DeclaredTwice = refl
-there Width = refl
-there DrivenTwice = refl
-there NotDriven = refl
-there Cyclic = refl
-there ReadsOutput = refl
-there NoInitial = refl
-there ChoiceTwice = refl
-there BadEnable = refl
-
-some_is : {A : Type 0} {a b : A} → Some a ≡ Some b → a ≡ b
-some_is e = cc
-
-one_rule : (x y : Rule) → rule_number x ≡ rule_number y → x ≡ y
-one_rule x y e = some_is (sym (there x) ∙ ap (slice_get rules) e ∙ there y)
 
 no_later : (d : Design) (x y : Rule) (i j : ℕ) → IsFirstUnsound d x i → IsFirstUnsound d y j → rule_number x < rule_number y → ⊥
 no_later d x y i j f g h = f.fails.2 (g.earlier_rules x h f.fails.0)
@@ -73,7 +52,7 @@ one_failure r m i n j (inl f) (inr g) = let bad : false ≡ true = sym f.0 ∙ g
 one_failure r m i n j (inr f) (inl g) = let bad : false ≡ true = sym g.0 ∙ f.0 in cc
 one_failure r m i n j (inr f) (inr g) =
     let number = same_rule r.design f.1 g.1 i j f.3 g.3 in
-    let same = one_rule f.1 g.1 number in
+    let same = same-rule f.1 g.1 number in
     (sym f.2 ∙ number ∙ g.2, same_item r.design g.1 i j (subst (λ x. IsFirstUnsound r.design x i) same f.3) g.3)
 
 fail_at : (bytes : List ℕ) (q r : Reading) (m i n j : ℕ) → Statements bytes q → Statements bytes r → FailsAt q m i → FailsAt r n j
@@ -114,15 +93,11 @@ falls d number o s r (through {q = q} f g) = omega (arith, falls d number o s q 
 itself : (d : Design) (number : ℕ → ℕ) (s : ℕ) → IsOrderedBy number d.drivers → DependsOn d s s → ⊥
 itself d number s o f = omega (arith, falls d number o s s f)
 
-if_some : {A : Type 0} (o : Option A) (P : A → Type 0) → ((x : A) → P x) → IfSome o P
-if_some None P h = tt
-if_some (Some x) P h = h x
-
 off_cycles : (d : Design) → IsOrdered d → Holds d Cyclic
 off_cycles d o at_design = tt
-off_cycles d o (at_port i) = if_some (slice_get d.ports i) _ (λ x. tt)
-off_cycles d o (at_signal i) = if_some (slice_get d.signals i) _ (λ x. tt)
-off_cycles d o (at_driver i) = if_some (slice_get d.drivers i) _ (λ k s e f. itself d o.0 s o.1 f)
+off_cycles d o (at_port i) = if-each (slice_get d.ports i) _ (λ x. tt)
+off_cycles d o (at_signal i) = if-each (slice_get d.signals i) _ (λ x. tt)
+off_cycles d o (at_driver i) = if-each (slice_get d.drivers i) _ (λ k s e f. itself d o.0 s o.1 f)
 
 all_hold : (d : Design) → IsSound d → (r : Rule) → Holds d r
 all_hold d s Undeclared = s.declared

@@ -9,7 +9,6 @@ pub mod RestingMultiples
 pub mod OneGraph
 pub mod FirstCause
 pub mod OneReadingOfRows
-pub mod OutputDepth
 pub mod OneProductNet
 pub mod OneSopNet
 mod WholeCoefficients

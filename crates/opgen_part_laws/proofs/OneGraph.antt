@@ -1,31 +1,14 @@
 -- A set has one graph by ranks.
-use Rattle.std.proofs.Common.{◌≡◌, ◌≢◌, ◌⊎◌, inl, inr, ℕ, zero, suc, ◌≤◌, ◌<◌, List, [], ◌∷◌, ◌++◌, refl, sym, ap, subst, ◌∙◌, arith}
+use Rattle.std.proofs.Common.{◌≡◌, ◌≢◌, ◌⊎◌, inl, inr, ℕ, ◌≤◌, ◌<◌, List, [], ◌∷◌, ◌++◌, refl, sym, ap, subst, ◌∙◌, arith}
 use Rattle.opgen_graph.specs.declared.forms.Form.{Form}
-use Rattle.opgen_graph.specs.declared.forms.Form.TheVariants.{A, B, C, D, E}
 use Rattle.opgen_graph.specs.declared.forms.Step.{Step}
 use Rattle.opgen_graph.specs.declared.ranks.Adder.{Adder}
-use Rattle.opgen_graph.specs.Adders.{Comb, place, IsNotAfter, IsFirstStep}
+use Rattle.opgen_graph.specs.Adders.{Comb, IsNotAfter, IsFirstStep}
 use Rattle.opgen_graph.specs.Reach.{Among}
 use Rattle.opgen_graph.specs.Graphs.{IsFirstAdder, Round, over, made, stays, Rounds, done, round, IsRanks, values}
+use Rattle.opgen_graph.proofs.FirstSteps.{same_form}
 
 -- ---- one first step
-abbrev form_at : ℕ → Form
-form_at zero = A
-form_at (suc zero) = B
-form_at (suc (suc zero)) = C
-form_at (suc (suc (suc zero))) = D
-form_at (suc (suc (suc (suc n)))) = E
-
-form_back : (f : Form) → form_at (place f) ≡ f
-form_back A = refl
-form_back B = refl
-form_back C = refl
-form_back D = refl
-form_back E = refl
-
-same_form : (f g : Form) → place f ≡ place g → f ≡ g
-same_form f g e = sym (form_back f) ∙ ap form_at e ∙ form_back g
-
 same_step : (s t : Step) → s.form ≡ t.form → s.shift ≡ t.shift → s ≡ t
 same_step s t e d =
     let make : Form → ℕ → Step = λ f n. record { form = f; shift = n } in

@@ -7,6 +7,7 @@ use Rattle.std.specs.Cmp.{nat_cmp_is}
 use Rattle.std.specs.Cmp.Lexicographic.{slice_cmp}
 use Rattle.std.proofs.lemmas.Bool.{cases_lt, cases_order}
 use Rattle.std.proofs.lemmas.List.Elements.{All-contains}
+use Rattle.opgen_num.proofs.Orders.{least}
 use Rattle.opgen_csd.specs.Partials.{partials}
 use Rattle.opgen_ports.specs.Ranges.{IsWithin}
 use Rattle.opgen_graph.specs.SetCost.{set_cost}
@@ -14,13 +15,14 @@ use Rattle.opgen_graph.specs.SignedDigits.{IsTarget, IsPartialOf, IsDigitSet}
 use Rattle.opgen_graph.specs.Targets.{IsTargetOf, AreTargetsOf}
 use Rattle.opgen_graph.proofs.Members.{read}
 use Rattle.opgen_graph.proofs.SignedSets.{partials_small}
-use Rattle.opgen_graph.proofs.TargetLists.{has_target, each_target}
+use Rattle.opgen_graph.proofs.TargetLists.{has_target}
 use Rattle.opgen_search.specs.Least.{order, IsBefore, IsLeast}
 use Rattle.opgen_search.specs.Recipe.{IsAdderSetOf}
 use Rattle.opgen_search.specs.Space.{AreTargets, InSpace}
 use Rattle.opgen_search.proofs.Closing.{one_digit_set}
 use Rattle.opgen_search.proofs.Order.{cost_before}
-use Rattle.opgen_part_laws.proofs.Classical.{decided, least}
+use Rattle.opgen_search.proofs.Serving.{targets_of}
+use Rattle.opgen_part_laws.proofs.Classical.{decided}
 use Rattle.opgen_part_laws.proofs.SomeListing.{some_list}
 
 -- ---- the targets, and the partial sums of their digits
@@ -119,10 +121,6 @@ some_least targets width extra are found =
           first other (space, same) (same_cost width other m (same ∙ sym is.1) earlier))
           (cases_lt (set_cost width other) n);
     }))))
-
--- the targets of an adder set are targets
-pub targets_of : (numbers : List ℤ) → All (IsWithin 2047) numbers → (targets : List ℕ) → AreTargetsOf numbers targets → AreTargets targets
-targets_of numbers small targets are = record { increasing = are.increasing; each = each_target numbers targets small are }
 
 -- and so of some numbers
 pub some_adder_set : (numbers : List ℤ) (width extra : ℕ) → All (IsWithin 2047) numbers

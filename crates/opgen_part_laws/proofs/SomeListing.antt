@@ -1,19 +1,10 @@
 -- That the numbers below a bound that have a property make no increasing list is impossible.
 use Rattle.std.proofs.Common.{◌≡◌, ◌↔◌, inl, inr, ⊎_elim, ℕ, zero, suc, ◌+◌, ◌<◌, ◌≤◌, List, [], ◌∷◌, Contains, subst, arith}
-use Rattle.std.specs.Prelude.{slice_index}
 use Rattle.std.specs.List.Sorted.{IsStrictlyIncreasing}
 use Rattle.std.proofs.lemmas.Bool.{cases_lt}
 use Rattle.opgen_graph.proofs.Members.{here, there, of_cons, of_nil}
-use Rattle.opgen_graph.proofs.SignedSets.{Climbs}
+use Rattle.opgen_graph.proofs.SignedSets.{Climbs, climbs_increasing}
 use Rattle.opgen_part_laws.proofs.Classical.{decided}
-
-climbs_increasing : (xs : List ℕ) → Climbs xs → IsStrictlyIncreasing xs
-climbs_increasing [] h k lt = absurd (omega (arith, lt))
-climbs_increasing (x ∷ []) h k lt = absurd (omega (arith, lt))
-climbs_increasing (x ∷ y ∷ ys) h zero lt = h.0 y (here y ys)
-climbs_increasing (x ∷ y ∷ ys) h (suc k) lt =
-    let next : suc (k + 1) ≡ suc k + 1 = omega arith in
-    subst (λ n. slice_index (y ∷ ys) k < slice_index (x ∷ y ∷ ys) n) next (climbs_increasing (y ∷ ys) h.1 k (omega (arith, lt)))
 
 -- the numbers from one on, so many, that have the property
 abbrev Lists : (P : ℕ → Type 0) (low count : ℕ) → List ℕ → Type 0

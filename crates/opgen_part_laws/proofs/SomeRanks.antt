@@ -2,6 +2,7 @@
 use Rattle.std.proofs.Common.{◌≡◌, inl, inr, ⊎_elim, ℕ, zero, suc, ◌<◌, ◌≤◌, List, [], ◌∷◌, ◌++◌, length, Contains, refl, sym, subst, arith}
 use Rattle.std.proofs.lemmas.Bool.{cases_lt}
 use Rattle.std.proofs.lemmas.List.Sorted.{IsPermutation-refl}
+use Rattle.opgen_num.proofs.Orders.{least}
 use Rattle.opgen_graph.specs.declared.forms.Form.{Form}
 use Rattle.opgen_graph.specs.declared.forms.Step.{Step}
 use Rattle.opgen_graph.specs.declared.ranks.Adder.{Adder}
@@ -9,7 +10,7 @@ use Rattle.opgen_graph.specs.Adders.{Makes, Comb, place, IsFirstStep}
 use Rattle.opgen_graph.specs.Reach.{Among, Reachable}
 use Rattle.opgen_graph.specs.Graphs.{IsFirstAdder, Round, over, made, stays, done, IsRanks, values}
 use Rattle.opgen_graph.proofs.Reaching.{Ranking, ranking_none, ranking_more, unreachable, shorter}
-use Rattle.opgen_part_laws.proofs.Classical.{decided, least}
+use Rattle.opgen_part_laws.proofs.Classical.{decided}
 
 -- ---- the first step
 abbrev MadeAt : (u v f n : ℕ) → Type 0

@@ -1,6 +1,6 @@
 //! Laws of runs: a design has one run, its steps are runs, outputs look no further back than the depth, and rows have one verdict.
 ghost use Rattle.opgen_runs.specs.OneRun.{HasOneRun};
-ghost use Rattle.opgen_sim.specs.Depth.{OutputsDependOnDepth};
+ghost use Rattle.opgen_design.specs.Depth.{OutputsDependOnDepth};
 ghost use Rattle.opgen_sim.specs.Runs.{StepsAreRuns};
 ghost use Rattle.opgen_check.specs.Verdict.{HasOneVerdict};
 
@@ -9,8 +9,8 @@ pub fn one_run()
     ensures { HasOneRun }
 {}
 
-/// In a sound design of a depth, cycles with the same inputs, in them and in as many cycles before as the depth, have the same
-/// outputs: in one run or in two, wherever they are.
+/// In a sound design cycles with the same inputs, in them and in as many cycles before as its outputs look back, have the same
+/// outputs: in one run or in two, wherever they are, and whatever words the registers hold at the start.
 pub fn outputs_depend_on_depth()
     ensures { OutputsDependOnDepth }
 {}

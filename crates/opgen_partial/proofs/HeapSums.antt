@@ -2,7 +2,7 @@
 use Rattle.std.proofs.Common.{◌≡◌, ℕ, zero, suc, ◌+◌, ◌*◌, ◌%◌, ◌^◌, ◌<◌, ◌≤◌, Bool, true, false, not, ◌&&◌, ltb, cond, List, [], ◌∷◌, length, refl, sym, ap, ◌∙◌, subst, if◌then◌else◌, arith}
 use Rattle.std.specs.Prelude.{ℤ, All, nat_lt, slice_index, slice_index_or}
 use Rattle.std.proofs.Math.Nat.{mod-add-mod}
-use Rattle.std.proofs.lemmas.Bool.{ltb-true}
+use Rattle.std.proofs.lemmas.Bool.{ltb-true, not-true}
 use Rattle.opgen_num.specs.Words.{xor, digit}
 use Rattle.opgen_heap.specs.Contents.{Contents}
 use Rattle.opgen_heap.specs.Sum.{bit_under, columns_sum, heap_sum}
@@ -59,10 +59,6 @@ bit-constant heap b weight = by (nat_lt weight heap.width)
     by : (c : Bool) → (if c then record heap { columns = with_bit_at heap.columns weight b } else heap).constant ≡ heap.constant
     by true = refl
     by false = refl
-
-not-true : (b : Bool) → not b ≡ true → b ≡ false
-not-true true e = cc
-not-true false e = refl
 
 xor-self : (b : Bool) → xor b b ≡ false
 xor-self true = refl
@@ -189,7 +185,7 @@ module _ (p : Products) (f : Placing) (placed : IsPlaced p f) (start : Work) (va
     as-cells =
         let larger = with_last w.net cells in
         let wide : slice_index (widths larger.nodes) (length w.net.nodes) ≡ 1 = width-append_last w.net.nodes cells in
-        added larger (grown-more w.net (cells ∷ [])) (valid-append w.net cells h.valid (logic, fits) refl) (Of (length w.net.nodes) 0)
+        added larger (grown-more w.net (cells ∷ []) refl) (valid-append w.net cells h.valid (logic, fits) refl) (Of (length w.net.nodes) 0)
         (omega (arith, wide))
         (λ ins t words.
         let a = grown-flow start.net w.net h.grown ins p.a.node t first-there in

@@ -8,7 +8,7 @@ use Rattle.opgen_net.specs.declared.net.Net.{Net}
 use Rattle.opgen_design.specs.declared.design.Design.{Design}
 use Rattle.opgen_design.specs.declared.design.Driver.{Driver}
 use Rattle.opgen_design.specs.declared.design.Driver.TheVariants.{Assign, Choice, Table, Register, Output}
-use Rattle.opgen_design.specs.Run.{without_enable, marked, ones_at, IsNoRegister, EnabledCyclesAreRuns, AnyCyclesAreRuns, Words, Run}
+use Rattle.opgen_design.specs.Run.{without_enable, marked, ones_at, IsNoRegister, EnabledCyclesAreRuns, AnyCyclesAreRuns, Words, RunsOn, initial_words, counted}
 use Rattle.opgen_design.specs.Order.{is_register}
 use Rattle.opgen_schedule.specs.Schedule.{Schedule}
 use Rattle.opgen_pipe.specs.Pipelined.{all_of, node_signals, ports_of, drivers_of, enable_of, design_of}
@@ -40,22 +40,30 @@ module _ (enabled : EnabledCyclesAreRuns) (any : AnyCyclesAreRuns) (called : Lis
   }
 
   -- of the design with the enable's port
-  counted-run : (inputs : List (List (List Bool))) (vs : List Words) → Run (design_of called true net s) inputs vs
-      → Run (without_enable (design_of called true net s)) (marked (ones_at 0 vs) inputs) (marked (ones_at 0 vs) vs)
-  counted-run inputs vs r = by (list_any is_register (drivers_of true net s)) refl
+  counted-run : (start : List (List Bool)) (inputs : List (List (List Bool))) (vs : List Words) → RunsOn (design_of called true net s) start inputs vs
+      → RunsOn (without_enable (design_of called true net s)) start (marked (ones_at 0 vs) inputs) (marked (ones_at 0 vs) vs)
+  counted-run start inputs vs r = by (list_any is_register (drivers_of true net s)) refl
     where
       by : (b : Bool) → list_any is_register (drivers_of true net s) ≡ b
-          → Run (without_enable (design_of called true net s)) (marked (ones_at 0 vs) inputs) (marked (ones_at 0 vs) vs)
+          → RunsOn (without_enable (design_of called true net s)) start (marked (ones_at 0 vs) inputs) (marked (ones_at 0 vs) vs)
       by true e =
           let f : enable_of true (drivers_of true net s) ≡ Some 0 = ap (λ b. if b then Some 0 else None) e in
-          enabled (design_of called true net s) 0 inputs vs f r
+          enabled (design_of called true net s) 0 start inputs vs f r
       by false e =
           let f : enable_of true (drivers_of true net s) ≡ None = ap (λ b. if b then Some 0 else None) e in
-          any (with None) inputs vs (ones_at 0 vs) (no_registers (drivers_of true net s) e) (subst (λ x. Run (with x) inputs vs) f r)
+          any (with None) start inputs vs (ones_at 0 vs) (no_registers (drivers_of true net s) e)
+          (subst (λ x. RunsOn (with x) start inputs vs) f r)
+
+-- the cycles that count are a run of the design without its enable, from the same words of the registers
+pub counted-runs : EnabledCyclesAreRuns → AnyCyclesAreRuns → (called : List ℕ) (enable : Bool) (net : Net) (s : Schedule)
+    (start : List (List Bool)) (inputs : List (List (List Bool))) (vs : List Words) → RunsOn (design_of called enable net s) start inputs vs
+    → RunsOn (without_enable (design_of called enable net s)) start (counted enable vs inputs) (counted enable vs vs)
+counted-runs enabled any called true net s start inputs vs r = counted-run enabled any called net s start inputs vs r
+counted-runs enabled any called false net s start inputs vs r = r
 
 pub follows-flow : EnabledCyclesAreRuns → AnyCyclesAreRuns → RunFollowsFlow
 follows-flow enabled any called true net delays setup period s valid fits inputs vs r u v h =
     run-follows called true net s delays setup period valid fits (marked (ones_at 0 vs) inputs) (marked (ones_at 0 vs) vs)
-    (counted-run enabled any called net s inputs vs r) u v h
+    (counted-run enabled any called net s (initial_words (design_of called true net s).signals) inputs vs r) u v h
 follows-flow enabled any called false net delays setup period s valid fits inputs vs r u v h =
     run-follows called false net s delays setup period valid fits inputs vs r u v h

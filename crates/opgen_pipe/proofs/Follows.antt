@@ -62,7 +62,7 @@ cells-read ws P class w e h a =
     (width-reads ws [] e w h.1.has_width) in
     lists-reads P NoPorts e a (reads-lists (λ j. j < length ws) NoPorts e r).1
 
-chosen_same : (a b c x y z : List Bool) → a ≡ x → b ≡ y → c ≡ z → chosen a b c ≡ chosen x y z
+pub chosen_same : (a b c x y z : List Bool) → a ≡ x → b ≡ y → c ≡ z → chosen a b c ≡ chosen x y z
 chosen_same a b c x y z h i j = ap (λ n. chosen n b c) h ∙ ap (λ n. chosen x n c) i ∙ ap (λ n. chosen x y n) j
 
 -- the net's inputs among those of the design

@@ -10,6 +10,8 @@ pub mod Counted
 pub mod SoundParts
 pub mod SoundWidths
 pub mod SoundDrivers
+mod DelayReads
+pub mod Depths
 pub mod SoundNames
 pub mod Soundness
 pub mod There

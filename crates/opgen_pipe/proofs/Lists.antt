@@ -4,7 +4,6 @@ use Rattle.std.specs.Prelude.{◌⊎◌, Contains, cond, filter, slice_get}
 use Rattle.std.specs.List.{range_with_len}
 use Rattle.std.proofs.lemmas.Bool.{cases_Bool}
 use Rattle.std.proofs.lemmas.List.Elements.{All-contains, All-filter, All-contains_itself}
-use Rattle.std.proofs.lemmas.Option.{get_or_from_slice_get, slice_get_within}
 use Rattle.opgen_net.specs.declared.node.Node.{Node}
 use Rattle.opgen_net.specs.Made.{each_node}
 
@@ -39,9 +38,6 @@ pub get-range : (a n k : ℕ) → k < n → slice_get (range_with_len a n) k ≡
 get-range a zero k h = absurd (omega (arith, h))
 get-range a (suc n) zero h = let e : a ≡ a + 0 = omega arith in ap Some e
 get-range a (suc n) (suc k) h = let e : a + 1 + k ≡ a + suc k = omega arith in get-range (a + 1) n k (omega (arith, h)) ∙ ap Some e
-
-pub Contains-get : {X : Type 0} (xs : List X) (i : ℕ) (x : X) → slice_get xs i ≡ Some x → Contains xs x
-Contains-get xs i x h = (i, slice_get_within xs i x h, get_or_from_slice_get xs i x x h)
 
 -- a value of each node by its number
 pub length-each : {X : Type 0} (f : ℕ → Node → X) (k : ℕ) (ns : List Node) → length (each_node f k ns) ≡ length ns

@@ -19,12 +19,13 @@ use Rattle.opgen_design.specs.declared.design.Signal.{Signal}
 use Rattle.opgen_design.specs.Order.{is_register}
 use Rattle.opgen_schedule.specs.Schedule.{Schedule}
 use Rattle.opgen_design.specs.Run.{enable_inputs}
+use Rattle.opgen_design.proofs.SoundLaws.{at-contains}
 use Rattle.opgen_pipe.specs.declared.standing.Standing.{Standing}
 use Rattle.opgen_pipe.specs.Copies.{copies, net_latency, signal_of, signal_count}
 use Rattle.opgen_pipe.specs.Standings.{standing_of, standings, standing_at}
 use Rattle.opgen_pipe.specs.Reading.{slice_in}
 use Rattle.opgen_pipe.specs.Pipelined.{zero_word, all_of, own_signal, copy_signal, node_signals, own_driver, copy_register, node_drivers, output_drivers, ports_of, drivers_of}
-use Rattle.opgen_pipe.proofs.Lists.{get-left, get-right, get-append, get-map, get-mapped, get-range, Contains-get, Contains-filter, from_filter}
+use Rattle.opgen_pipe.proofs.Lists.{get-left, get-right, get-append, get-map, get-mapped, get-range, Contains-filter, from_filter}
 use Rattle.opgen_pipe.proofs.Blocks.{block, length-all, origin}
 use Rattle.opgen_pipe.proofs.Copied.{standing-is}
 
@@ -175,21 +176,21 @@ module _ (net : Net) (s : Schedule) where
 
     pub has_own_driver : (i : ℕ) (n : Node) → slice_get net.nodes i ≡ Some n
         → Contains (drivers_of enable net s) (own_driver (length (enable_inputs enable)) (standings net s) (standing_of net s i n) n)
-    has_own_driver i n h = among_nodes _ (Contains-get nodes (signal_of net s i 0) _ (driver-own i n h))
+    has_own_driver i n h = among_nodes _ (at-contains nodes (signal_of net s i 0) _ (driver-own i n h))
 
     pub has_copy_register : (i k : ℕ) (n : Node) → slice_get net.nodes i ≡ Some n → k < copies net s i
         → Contains (drivers_of enable net s) (copy_register (standing_of net s i n) k)
     has_copy_register i k n h l =
         let e : 0 + k ≡ k = omega arith in
         subst (λ j. Contains (drivers_of enable net s) (copy_register (standing_of net s i n) j)) e
-        (among_nodes _ (Contains-get nodes (signal_of net s i (suc k)) _ (driver-copy i n h k l)))
+        (among_nodes _ (at-contains nodes (signal_of net s i (suc k)) _ (driver-copy i n h k l)))
 
     pub has_output_driver : (j : ℕ) (o : net_output.Output) → slice_get net.outputs j ≡ Some o
         → Contains (drivers_of enable net s) (Output (length (enable_inputs enable) + length net.inputs + j) (slice_in (standings net s)
         (net_latency net s) o.from))
     has_output_driver j o h =
         Contains-append_right (filter (λ k. not (is_register k)) nodes ++ filter is_register nodes) outs _
-        (Contains-get outs j _ (get-outputs (standings net s) (net_latency net s) (length (enable_inputs enable) + length net.inputs)
+        (at-contains outs j _ (get-outputs (standings net s) (net_latency net s) (length (enable_inputs enable) + length net.inputs)
         net.outputs j o h))
 
     module _ (P : ℕ → Driver → Type 0)

@@ -4,6 +4,7 @@ use Rattle.std.specs.Prelude.{if◌then◌else◌, All, IsSome}
 use Rattle.std.specs.List.{list_any}
 use Rattle.std.proofs.lemmas.Bool.{not-true}
 use Rattle.std.proofs.lemmas.List.Elements.{All-nil, All-cons, All-head, All-tail, All-contains_itself, filter-append}
+use Rattle.opgen_num.proofs.Lists.{kept}
 use Rattle.opgen_design.specs.declared.design.Driver.{Driver}
 use Rattle.opgen_design.specs.declared.design.Driver.TheVariants as driver
 use Rattle.opgen_design.specs.declared.expr.Op.{Op}
@@ -145,15 +146,6 @@ module _ {X : Type 0} (p : X → Bool) where
   filter_none : (P : X → Type 0) (xs : List X) → ((x : X) → P x → p x ≡ false) → All P xs → filter p xs ≡ []
   filter_none P [] f h = refl
   filter_none P (x ∷ xs) f h = rw (f x (All-head P x xs h)) (filter_none P xs f (All-tail P x xs h))
-
-  -- what is kept has what holds of all, and passes
-  kept : (P R : X → Type 0) → ((x : X) → p x ≡ true → P x → R x) → (xs : List X) → All P xs → All R (filter p xs)
-  kept P R f [] h = All-nil R
-  kept P R f (x ∷ xs) h = by (p x) refl (kept P R f xs (All-tail P x xs h))
-    where
-      by : (b : Bool) → p x ≡ b → All R (filter p xs) → All R (filter p (x ∷ xs))
-      by true e rest = rw e (All-cons R x (filter p xs) (f x e (All-head P x xs h)) rest)
-      by false e rest = rw e rest
 
 abbrev IsPlain : Driver → Type 0
 IsPlain k = (is_register k ≡ false) × (is_output k ≡ false)

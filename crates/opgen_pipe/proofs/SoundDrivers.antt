@@ -16,24 +16,25 @@ use Rattle.opgen_design.specs.declared.design.Design.{Design}
 use Rattle.opgen_design.specs.declared.design.Dir.TheVariants.{In, Out}
 use Rattle.opgen_design.specs.declared.design.Driver.{Driver}
 use Rattle.opgen_design.specs.declared.design.Driver.TheVariants as driver
-use Rattle.opgen_design.specs.Sound.{AllReads, Names, target, DriverReads, Needs, IsEnableDeclared, IsDeclared, IsInput, IsDriven, IsOrdered, ReadsInputs, IsRegisterOf, HasInitial, AddressesDiffer, IsFitForEnable, Holds}
+use Rattle.opgen_design.specs.Sound.{AllReads, Names, target, expressions_read, DriverReads, Needs, IsEnableDeclared, IsDeclared, IsInput, IsDriven, IsOrdered, ReadsInputs, IsRegisterOf, HasInitial, AddressesDiffer, IsFitForEnable, Holds}
 use Rattle.opgen_net.specs.Valid.{widths, IsValid}
 use Rattle.opgen_net.specs.Made.{addressed, output_port}
 use Rattle.opgen_design.specs.Order.{is_register}
 use Rattle.opgen_design.specs.declared.design.Target.TheVariants.{Signal as signal, Port as port_of}
 use Rattle.opgen_design.specs.declared.sound.Rule.TheVariants.{Undeclared, DrivenTwice, NotDriven, ReadsOutput, NoInitial, ChoiceTwice, BadEnable}
-use Rattle.opgen_design.proofs.ReadLaws.{reads-weaker, holds_of_read}
+use Rattle.opgen_design.proofs.ReadLaws.{reads-weaker, holds_of_operand}
 use Rattle.opgen_net.proofs.InputLaws.{input-width}
 use Rattle.opgen_net.proofs.Standing.{may_stand}
 use Rattle.opgen_schedule.specs.Reads.{reads_of}
 use Rattle.opgen_schedule.specs.Schedule.{Schedule, Fits}
 use Rattle.opgen_design.specs.Run.{enable_inputs}
+use Rattle.opgen_design.proofs.SoundLaws.{at-contains}
 use Rattle.opgen_pipe.specs.declared.standing.Standing.{Standing}
 use Rattle.opgen_pipe.specs.Copies.{copies, net_latency, signals_before, signal_of}
 use Rattle.opgen_pipe.specs.Standings.{standing_of, standings, standing_at}
 use Rattle.opgen_pipe.specs.Reading.{read_in, slice_in}
 use Rattle.opgen_pipe.specs.Pipelined.{zero_word, initial_of, all_of, node_signals, own_driver, copy_register, node_drivers, output_drivers, ports_of, drivers_of, design_of}
-use Rattle.opgen_pipe.proofs.Lists.{get-map, Contains-get, from_filter}
+use Rattle.opgen_pipe.proofs.Lists.{get-map, from_filter}
 use Rattle.opgen_pipe.proofs.Blocks.{before-within}
 use Rattle.opgen_pipe.proofs.Copied.{standing-is, node_there, ReadIn, copy_of_read, reads_in, output_reads_in}
 use Rattle.opgen_pipe.proofs.Parts.{length-signals, by_signal, has_own_driver, has_copy_register, has_output_driver, by_place, by_driver, length-ports, port-in, port-output, by_port}
@@ -44,27 +45,11 @@ use Rattle.opgen_pipe.proofs.SoundParts.{holds}
 
 -- what a driver reads and needs
 
-driver-weaker : (P Q R S : ℕ → Type 0) → ((n : ℕ) → P n → R n) → ((n : ℕ) → Q n → S n) → (k : Driver) → DriverReads P Q k
-    → DriverReads R S k
-driver-weaker P Q R S f g (driver.Assign to e) h = reads-weaker P Q R S f g e h
-driver-weaker P Q R S f g (driver.Choice to on one other) h =
-    (reads-weaker P Q R S f g on h.0, reads-weaker P Q R S f g one h.1, reads-weaker P Q R S f g other h.2)
-driver-weaker P Q R S f g (driver.Table to on rows other) h = reads-weaker P Q R S f g on h
-driver-weaker P Q R S f g (driver.Register to e) h = reads-weaker P Q R S f g e h
-driver-weaker P Q R S f g (driver.Output place e) h = reads-weaker P Q R S f g e h
-
 needs_read : (P Q : ℕ → Type 0) (r : ℕ) (k : Driver) → DriverReads P Q k → Needs r k → P r
-needs_read P Q r (driver.Assign to e) h n = holds_of_read P Q r e h n
-needs_read P Q r (driver.Choice to on one other) h n =
-    elim n [
-      | inl a ↦ holds_of_read P Q r on h.0 a
-      | inr b ↦ elim b [ inl x ↦ holds_of_read P Q r one h.1 x | inr y ↦ holds_of_read P Q r other h.2 y ]
-    ]
-needs_read P Q r (driver.Table to on rows other) h n = holds_of_read P Q r on h n
 needs_read P Q r (driver.Register to e) h n = absurd n
-needs_read P Q r (driver.Output place e) h n = holds_of_read P Q r e h n
+needs_read P Q r k h n = holds_of_operand P Q r (expressions_read k) h n
 
-target-own : (first : ℕ) (ps : List Standing) (o : Standing) (n : Node) → target (own_driver first ps o n) ≡ signal o.signal
+pub target-own : (first : ℕ) (ps : List Standing) (o : Standing) (n : Node) → target (own_driver first ps o n) ≡ signal o.signal
 target-own first ps o (Input place w) = refl
 target-own first ps o (Constant w) = refl
 target-own first ps o (Cells class w e) = refl
@@ -225,44 +210,56 @@ module _ (called : List ℕ) (enable : Bool) (net : Net) (s : Schedule) (delays 
   abbrev ps : List Standing
   ps = standings net s
 
-  -- what the own driver of a node reads
+  -- what the own driver of a node reads, by what holds where the node's operands are read
+  pub own_operands : (P Q : ℕ → Type 0) (i : ℕ) (n : Node) → slice_get net.nodes i ≡ Some n
+      → All (λ j. P (read_in (standings net s) (s i).cycle j)) (reads_of n)
+      → ((p : ℕ) → p < length net.inputs → Q (length (enable_inputs enable) + p))
+      → DriverReads P Q (own_driver (length (enable_inputs enable)) (standings net s) (standing_of net s i n) n)
+  own_operands P Q i (Input place w) h a g = let x = get-map (λ y. y.1) net.inputs place w (input-width net valid i place w h) in (
+    g place (slice_get_within net.inputs place x.0 x.1),
+    tt,
+  )
+  own_operands P Q i (Constant w) h a g = (tt, tt)
+  own_operands P Q i (Cells class w e) h a g = (
+    tree-reads (standings net s) (s i).cycle P Q e
+        (
+        reads-weaker (λ j. P (read_in (standings net s) (s i).cycle j)) NoPorts (λ j. P (read_in (standings net s) (s i).cycle j)) Q
+        (λ j p. p) (λ p q. absurd q) e
+        (cells-read (widths net.nodes) (λ j. P (read_in (standings net s) (s i).cycle j)) class w e
+        (may_stand net.nodes valid.nodes i (Cells class w e) h) a)
+        ),
+    tt,
+  )
+  own_operands P Q i (Choice on one other) h a g =
+      let R : ℕ → Type 0 = λ j. P (read_in (standings net s) (s i).cycle j) in
+      let b = All-tail R on (one.node ∷ other.node ∷ []) a in (
+        All-head R on (one.node ∷ other.node ∷ []) a,
+        (
+          part-reads (standings net s) (s i).cycle P Q one.node one.high one.low (All-head R one.node (other.node ∷ []) b),
+          (
+            part-reads (standings net s) (s i).cycle P Q other.node other.high other.low
+                (All-head R other.node [] (All-tail R one.node (other.node ∷ []) b)),
+            tt,
+          ),
+        ),
+      )
+  own_operands P Q i (Table address rows) h a g = (All-head (λ j. P (read_in (standings net s) (s i).cycle j)) address [] a, tt)
+  own_operands P Q i (Delay of) h a g = (All-head (λ j. P (read_in (standings net s) (s i).cycle j)) of [] a, tt)
+
+  -- and by what holds of each copy of the nodes before it
   own_reads : (P Q : ℕ → Type 0) (i : ℕ) (n : Node) → slice_get net.nodes i ≡ Some n
       → ((j k : ℕ) → j < i → k ≤ copies net s j → P (signal_of net s j k))
       → ((p : ℕ) → p < length net.inputs → Q (length (enable_inputs enable) + p))
       → DriverReads P Q (own_driver (length (enable_inputs enable)) (standings net s) (standing_of net s i n) n)
-  own_reads P Q i n h f g = by n h (operands n h)
-    where
-      operands : (n : Node) → slice_get net.nodes i ≡ Some n → All (λ j. P (read_in (standings net s) (s i).cycle j)) (reads_of n)
-      operands n h =
-          let l = slice_get_within net.nodes i n h in
-          All-weaker (λ j. (j < i) × ReadIn net s (s i).cycle j) (λ j. P (read_in (standings net s) (s i).cycle j))
-          (λ j q. let x = copy_of_read net s (s i).cycle j (omega (arith, l, q.0)) q.1 in subst P (sym x.is) (f j x.copy q.0 x.within))
-          (reads_of n)
-          (reads_in net s delays setup period valid fits i n h)
-
-      by : (n : Node) → slice_get net.nodes i ≡ Some n → All (λ j. P (read_in (standings net s) (s i).cycle j)) (reads_of n)
-          → DriverReads P Q (own_driver (length (enable_inputs enable)) (standings net s) (standing_of net s i n) n)
-      by (Input place w) h a = let x = get-map (λ y. y.1) net.inputs place w (input-width net valid i place w h) in g place
-          (slice_get_within net.inputs place x.0 x.1)
-      by (Constant w) h a = tt
-      by (Cells class w e) h a =
-          tree-reads (standings net s) (s i).cycle P Q e
-          (
-          reads-weaker (λ j. P (read_in (standings net s) (s i).cycle j)) NoPorts (λ j. P (read_in (standings net s) (s i).cycle j)) Q
-          (λ j p. p) (λ p q. absurd q) e
-          (cells-read (widths net.nodes) (λ j. P (read_in (standings net s) (s i).cycle j)) class w e
-          (may_stand net.nodes valid.nodes i (Cells class w e) h) a)
-          )
-      by (Choice on one other) h a =
-          let R : ℕ → Type 0 = λ j. P (read_in (standings net s) (s i).cycle j) in
-          let b = All-tail R on (one.node ∷ other.node ∷ []) a in (
-            All-head R on (one.node ∷ other.node ∷ []) a,
-            part-reads (standings net s) (s i).cycle P Q one.node one.high one.low (All-head R one.node (other.node ∷ []) b),
-            part-reads (standings net s) (s i).cycle P Q other.node other.high other.low
-                (All-head R other.node [] (All-tail R one.node (other.node ∷ []) b)),
-          )
-      by (Table address rows) h a = All-head (λ j. P (read_in (standings net s) (s i).cycle j)) address [] a
-      by (Delay of) h a = All-head (λ j. P (read_in (standings net s) (s i).cycle j)) of [] a
+  own_reads P Q i n h f g =
+      let l = slice_get_within net.nodes i n h in
+      own_operands P Q i n h
+      (
+      All-weaker (λ j. (j < i) × ReadIn net s (s i).cycle j) (λ j. P (read_in (standings net s) (s i).cycle j))
+      (λ j q. let x = copy_of_read net s (s i).cycle j (omega (arith, l, q.0)) q.1 in subst P (sym x.is) (f j x.copy q.0 x.within))
+      (reads_of n)
+      (reads_in net s delays setup period valid fits i n h)
+      ) g
 
   output_reads : (P Q : ℕ → Type 0) (j : ℕ) (o : net_output.Output) → slice_get net.outputs j ≡ Some o
       → ((j k : ℕ) → j < length net.nodes → k ≤ copies net s j → P (signal_of net s j k))
@@ -279,7 +276,7 @@ module _ (called : List ℕ) (enable : Bool) (net : Net) (s : Schedule) (delays 
       → ((j : ℕ) (o : net_output.Output) → slice_get net.outputs j ≡ Some o
       → P (driver.Output (length (enable_inputs enable) + length net.inputs + j) (slice_in (standings net s) (net_latency net s) o.from)))
       → (i : ℕ) (k : Driver) → slice_get (drivers_of enable net s) i ≡ Some k → P k
-  by_item P f g q i k h = by_driver net s enable P f g q k (Contains-get (drivers_of enable net s) i k h)
+  by_item P f g q i k h = by_driver net s enable P f g q k (at-contains (drivers_of enable net s) i k h)
 
   -- rule 1
   enable_declared : IsEnableDeclared (design_of called enable net s)
@@ -311,7 +308,7 @@ module _ (called : List ℕ) (enable : Bool) (net : Net) (s : Schedule) (delays 
       let l = slice_get_within net.nodes i n h in
       record {
         target = omega (arith, signal_there net s i (suc k) l (omega (arith, q)));
-        reads = signal_there net s i k l (omega (arith, q));
+        reads = (signal_there net s i k l (omega (arith, q)), tt);
       }
 
   declared_output : (j : ℕ) (o : net_output.Output) → slice_get net.outputs j ≡ Some o
@@ -319,8 +316,11 @@ module _ (called : List ℕ) (enable : Bool) (net : Net) (s : Schedule) (delays 
       (driver.Output (length (enable_inputs enable) + length net.inputs + j) (slice_in (standings net s) (net_latency net s) o.from))
   declared_output j o h = record {
     target = omega (arith, slice_get_within net.outputs j o h, length-ports enable net);
-    reads = output_reads (λ r. r < length (design_of called enable net s).signals)
-        (λ p. p < length (design_of called enable net s).ports) j o h (λ j k m q. signal_there net s j k m q);
+    reads = (
+      output_reads (λ r. r < length (design_of called enable net s).signals)
+          (λ p. p < length (design_of called enable net s).ports) j o h (λ j k m q. signal_there net s j k m q),
+      tt,
+    );
   }
 
   pub all_declared : Holds (design_of called enable net s) Undeclared
@@ -348,7 +348,7 @@ module _ (called : List ℕ) (enable : Bool) (net : Net) (s : Schedule) (delays 
       holds (design_of called enable net s) DrivenTwice tt (λ i p h. tt) (λ i x h. tt) (
       λ i k h. record {
         not_before = λ j m l g. distinct_places (drivers_of enable net s) (distinct net s enable) j i m k l g h;
-        no_input = no_input k (Contains-get (drivers_of enable net s) i k h);
+        no_input = no_input k (at-contains (drivers_of enable net s) i k h);
       }
       )
 
@@ -418,8 +418,8 @@ module _ (called : List ℕ) (enable : Bool) (net : Net) (s : Schedule) (delays 
       holds (design_of called enable net s) ReadsOutput tt (λ i p h. tt) (λ i x h. tt) (
       by_item (ReadsInputs (design_of called enable net s))
       (λ i n h. own_reads (λ r. Unit {0}) Q i n h (λ j k l q. tt) input_at)
-      (λ i k n h l. tt)
-      (λ j o h. output_reads (λ r. Unit {0}) Q j o h (λ j k l q. tt))
+      (λ i k n h l. (tt, tt))
+      (λ j o h. (output_reads (λ r. Unit {0}) Q j o h (λ j k l q. tt), tt))
       )
 
   -- rule 8

@@ -23,6 +23,7 @@ use Rattle.opgen_net.specs.Made.{addressed, input_port, output_port}
 use Rattle.opgen_design.specs.declared.sound.Rule.TheVariants.{Width}
 use Rattle.opgen_design.specs.Sound.{signal_widths, port_widths, HasWidth, WidthsAgree, IsSignalWide, Holds}
 use Rattle.opgen_design.proofs.WidthLaws.{as_width-of}
+use Rattle.opgen_design.proofs.SoundLaws.{at-contains}
 use Rattle.opgen_net.proofs.FlowLaws.{lies_within, length-widths}
 use Rattle.opgen_net.proofs.InputLaws.{input-width, input_node}
 use Rattle.opgen_net.proofs.FlowWidths.{are_widths, slice-is_width, flow-width}
@@ -34,7 +35,7 @@ use Rattle.opgen_pipe.specs.Copies.{copies, net_latency, signals_before}
 use Rattle.opgen_pipe.specs.Standings.{standing_of, standings, standing_at}
 use Rattle.opgen_pipe.specs.Reading.{read_in, slice_in}
 use Rattle.opgen_pipe.specs.Pipelined.{zero_word, initial_of, own_driver, copy_register, ports_of, drivers_of, design_of}
-use Rattle.opgen_pipe.proofs.Lists.{get-right, get-append, get-map, get-mapped, Contains-get}
+use Rattle.opgen_pipe.proofs.Lists.{get-right, get-append, get-map, get-mapped}
 use Rattle.opgen_pipe.proofs.Copied.{standing-is, node_there, ReadIn, copy_of_read, reads_in, output_reads_in}
 use Rattle.opgen_pipe.proofs.Parts.{signal_width, by_signal, by_driver, by_port, port-in, port-output}
 use Rattle.opgen_pipe.proofs.TableWords.{length-addressed, get-addressed}
@@ -276,4 +277,4 @@ module _ (called : List ℕ) (enable : Bool) (net : Net) (s : Schedule) (delays 
       (by_signal net s (λ i x. IsSignalWide x) (λ i n h. (node_wide i n h, initial_width i n))
       (λ i k n h l. (node_wide i n h, zero_width i)))
       (λ i k h. by_driver net s enable (WidthsAgree (design_of called enable net s)) node_agrees copy_agrees output_agrees k
-      (Contains-get (drivers_of enable net s) i k h))
+      (at-contains (drivers_of enable net s) i k h))

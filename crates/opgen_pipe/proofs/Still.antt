@@ -1,6 +1,6 @@
 -- The words of zero inputs, each over those before it.
-use Rattle.std.proofs.Common.{◌≡◌, ◌^◌, ℕ, zero, suc, ◌+◌, ◌<◌, ◌≤◌, Bool, false, List, [], ◌∷◌, ◌++◌, length, map, take, get_or, Some, refl, sym, ap, ◌∙◌, subst, arith}
-use Rattle.std.specs.Prelude.{negsuc, replicate, All, slice_get, slice_index}
+use Rattle.std.proofs.Common.{◌≡◌, ◌^◌, ℕ, ◌+◌, ◌<◌, ◌≤◌, Bool, List, [], ◌∷◌, ◌++◌, length, map, take, get_or, Some, refl, sym, ap, ◌∙◌, subst, arith}
+use Rattle.std.specs.Prelude.{negsuc, All, slice_get, slice_index}
 use Rattle.std.proofs.lemmas.List.{length-map, take-map, get_or-take, take_more, take_all, ext_get_or}
 use Rattle.std.proofs.Math.Seq.{take-append_seam}
 use Rattle.std.proofs.lemmas.List.Elements.{All-nil, All-head, All-tail, All-take}
@@ -9,7 +9,7 @@ use Rattle.opgen_num.specs.declared.format.TheConstants.{MAX_WIDTH}
 use Rattle.opgen_num.specs.Words.{nat, word}
 use Rattle.opgen_num.proofs.Words.{nat-below}
 use Rattle.opgen_design.specs.Run.{AreWords}
-use Rattle.opgen_design.specs.Value.{word_at, cut, chosen}
+use Rattle.opgen_design.specs.Value.{word_at, cut}
 use Rattle.opgen_design.proofs.ValueLaws.{same_value}
 use Rattle.opgen_net.specs.declared.net.Net.{Net}
 use Rattle.opgen_net.specs.declared.node.Node.{Node}
@@ -26,19 +26,12 @@ use Rattle.opgen_schedule.proofs.Reading.{reads-before}
 use Rattle.opgen_pipe.specs.Pipelined.{zero_word}
 use Rattle.opgen_pipe.specs.Zeros.{still_word, zero_words}
 use Rattle.opgen_net.proofs.Standing.{may_stand}
-use Rattle.opgen_pipe.proofs.Follows.{cells-read}
+use Rattle.opgen_pipe.proofs.Follows.{cells-read, chosen_same}
 use Rattle.opgen_pipe.proofs.Lists.{length-each, get-each}
-
-pub word-zero : (w : ℕ) → word w 0 ≡ replicate w false
-word-zero zero = refl
-word-zero (suc w) = ap (λ v. false ∷ v) (word-zero w)
 
 -- an item that was read is the word there
 pub read-word : (words : List (List Bool)) (i : ℕ) (x : List Bool) → i < length words → x ≡ get_or words i x → x ≡ word_at words i
 read-word words i x l e = sym (get_or_from_slice_get words i x [] (slice_get_read words (length words) i x refl l e))
-
-pub chosen_same : (a b c x y z : List Bool) → a ≡ x → b ≡ y → c ≡ z → chosen a b c ≡ chosen x y z
-chosen_same a b c x y z h i j = ap (λ n. chosen n b c) h ∙ ap (λ n. chosen x n c) i ∙ ap (λ n. chosen x y n) j
 
 -- the row that a word numbers is there
 pub row-there : (words rows : List (List Bool)) (address : ℕ) (w : List Bool) → FitsTable (map length words) address rows → w

@@ -1,10 +1,12 @@
 -- Laws of the design of every valid net at every schedule that fits a period.
 use Rattle.std.specs.Prelude.{ℕ, ◌≡◌, ◌^◌, ◌<◌, ◌≤◌, ◌+◌, Bool, List, length, map, slice_get, Some, All}
-use Rattle.opgen_design.specs.Run.{AreWords, Words, Run, words_at_outputs, input_widths, counted, data_inputs}
+use Rattle.opgen_design.specs.Run.{AreWords, Words, Run, words_at_outputs, input_widths, counted, data_inputs, without_enable}
+use Rattle.opgen_design.specs.Depth.{LooksBack}
 use Rattle.opgen_design.specs.Sound.{IsSound}
 use Rattle.opgen_design.specs.Value.{word_at}
 use Rattle.opgen_net.specs.declared.net.Net.{Net}
 use Rattle.opgen_net.specs.declared.node.Node.TheVariants.{Constant}
+use Rattle.opgen_net.specs.Delays.{PassesAtMost}
 use Rattle.opgen_net.specs.Flow.{Inputs, flow, slice_flow}
 use Rattle.opgen_net.specs.Named.{IsNamed}
 use Rattle.opgen_net.specs.Valid.{IsValid}
@@ -37,6 +39,12 @@ abbrev pub DesignIsWritable : Type 0
 DesignIsWritable = (name : List ℕ) (enable : Bool) (net : Net) (delays : List ℕ) (setup period : ℕ) (s : Schedule) → IsValid net
     → IsNamed name net
     → Fits net.nodes delays setup period s → signal_count net s ≤ 2 ^ 64 → IsWritable (design_of name enable net s)
+
+-- its outputs look back at most so many cycles as the latency has, and as the net's ways pass delays
+abbrev pub DesignLooksBack : Type 0
+DesignLooksBack = (name : List ℕ) (enable : Bool) (net : Net) (delays : List ℕ) (setup period : ℕ) (s : Schedule) → IsValid net
+    → Fits net.nodes delays setup period s → (most : ℕ) → PassesAtMost most net.nodes
+    → LooksBack (without_enable (design_of name enable net s)) (net_latency net s + most)
 
 -- in a cycle each copy of a node has the node's word of so many cycles before as it stands later, constants have theirs, and each output its slice's of the latency before
 pub record FollowsFlow (name : List ℕ) (enable : Bool) (net : Net) (s : Schedule) (inputs : Inputs) (u : ℕ) (v : Words) : Type 0 where

@@ -1,7 +1,7 @@
 //! The word of each node when all inputs are zero, with which its registers begin.
 ghost use Rattle.std.specs.Prelude.{◌≡◌, ◌<◌, [], length, map, IfOk};
 ghost use Rattle.opgen_num.specs.Words.{nat};
-ghost use Rattle.opgen_design.specs.Value.{chosen, cut, word_at};
+ghost use Rattle.opgen_design.specs.Value.{cut, word_at};
 ghost use Rattle.opgen_net.specs.Valid.{IsValid, LiesWithin, MayStand};
 ghost use Rattle.opgen_runs.specs.Fitting.{AreNarrow};
 ghost use Rattle.opgen_pipe.specs.Zeros.{still_word, zero_words};
@@ -9,19 +9,8 @@ ghost use Rattle.opgen_pipe.specs.Zeros.{still_word, zero_words};
 use opgen_design::Slice;
 use opgen_net::{Net, Node};
 use opgen_num::Word;
-use opgen_runs::{cut, value};
+use opgen_runs::{chosen, cut, value};
 use std::alloc::{AllocError, Global};
-
-// The first word where the condition is the bit 1, and else the second.
-fn chosen(on: Word, yes: Word, no: Word) -> Word
-    ensures { result ≡ chosen on yes no }
-{
-    if on.width() == 1 && on.bits() == 1 {
-        yes
-    } else {
-        no
-    }
-}
 
 // A slice of a node's word.
 fn part(words: &[Word], slice: Slice) -> Word

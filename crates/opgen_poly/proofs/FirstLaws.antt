@@ -13,7 +13,7 @@ use Rattle.opgen_num.specs.WordLaws.{length-word, nat-word}
 use Rattle.opgen_num.proofs.Residues.{value_from_residue}
 use Rattle.opgen_design.specs.Value.{IsWidth}
 use Rattle.opgen_heap.specs.Adding.{residue}
-use Rattle.opgen_heap.proofs.Residues.{residue-add}
+use Rattle.opgen_heap.proofs.Residues.{residue-below}
 use Rattle.opgen_net.specs.declared.node.Node.{Node}
 use Rattle.opgen_net.specs.declared.node.Node.TheVariants.{Constant}
 use Rattle.opgen_net.specs.Flow.{Inputs, flow}
@@ -34,11 +34,6 @@ use Rattle.opgen_poly.proofs.Values.{den_of, scale_of, at_most, coefficient_near
 nothing : (l : List ℤ) → length l ≡ 0 → l ≡ []
 nothing [] h = refl
 nothing (z ∷ l) h = absurd (omega (arith, h))
-
-residue-below : (z : ℤ) (m : ℕ) → 0 < m → residue z m < m
-residue-below z m some =
-    let same : z +ℤ pos 0 ≡ z = omega (arith, ints) in
-    omega (arith, residue-add z 0 m some, ap (λ y. residue y m) same)
 
 module _ (p : Polynomial) (fits : IsPoly p) where
   abbrev n : ℕ
@@ -139,7 +134,7 @@ module _ (p : Polynomial) (fits : IsPoly p) where
   pub first-partial : IsPartial p n (first p)
   first-partial = record {
     valid = valid-append (with_input p) node input-valid word-width refl;
-    grown = grown-more (with_input p) (node ∷ []);
+    grown = grown-more (with_input p) (node ∷ []) refl;
     wide = width-append_last (with_input p).nodes node ∙ word-long;
     low = λ ins t words. omega (arith, ints, first-value ins t, low-is);
     high = λ ins t words. omega (arith, ints, first-value ins t, high-is);

@@ -1,9 +1,7 @@
 -- The net of a polynomial fits the operator.
-use Rattle.std.proofs.Common.{◌≡◌, ℕ, Bool, false, List, [], ◌∷◌, map, codes, sym, ap, ◌∙◌, subst, arith}
-use Rattle.std.specs.Prelude.{ℤ, pos, ◌-ℤ◌, if◌then◌else◌}
-use Rattle.std.proofs.lemmas.Int.{ints}
-use Rattle.opgen_num.specs.declared.format.Format.{Format}
-use Rattle.opgen_num.specs.Words.{int, val, nat}
+use Rattle.std.proofs.Common.{◌≡◌, ℕ, List, [], ◌∷◌, map, codes, sym, ap, ◌∙◌, subst}
+use Rattle.std.specs.Prelude.{ℤ, pos, ◌-ℤ◌}
+use Rattle.opgen_num.specs.Words.{val}
 use Rattle.opgen_design.specs.Value.{word_at}
 use Rattle.opgen_net.specs.declared.net.Output.{Output}
 use Rattle.opgen_net.specs.Flow.{Inputs, input_at, slice_flow}
@@ -12,23 +10,20 @@ use Rattle.opgen_kinds.specs.declared.poly.Poly.{Poly as Polynomial}
 use Rattle.opgen_operator.specs.declared.operator.Operator.TheVariants.{Poly}
 use Rattle.opgen_operator.specs.Fits.{FitsOperator, FitsInEachMode}
 use Rattle.opgen_num.specs.declared.mode.Mode.TheVariants.{Faithful}
+use Rattle.opgen_num.proofs.Integers.{less-zero}
+use Rattle.opgen_num.proofs.Values.{val-unsigned}
 use Rattle.opgen_ports.specs.Modes.{mode_of_exact}
 use Rattle.opgen_operator.proofs.EachMode.{fits_each_mode}
+use Rattle.opgen_operator.proofs.Shown.{one_shown}
 use Rattle.opgen_ports.specs.Good.{IsGoodRatio}
 use Rattle.opgen_kinds.specs.Poly.{IsAcceptedPoly, exact_poly, poly_format, IsPoly}
 use Rattle.opgen_operator.proofs.Accepted.{accepted_ranges, poly_faithful}
 use Rattle.opgen_poly.specs.Near.{input_number}
 use Rattle.opgen_poly.specs.Recipe.{net_of_poly}
-use Rattle.opgen_poly.proofs.Runs.{output, out, made-inputs, made-outputs, made-valid, output-wide, output-value, output-near, words-for}
+use Rattle.opgen_poly.proofs.Runs.{output, out, made-inputs, made-outputs, made-passes, made-valid, output-wide, output-value, output-near, words-for}
 
 pub accepted : (p : Polynomial) → IsAcceptedPoly p → IsPoly p
 accepted p is = accepted_ranges (Poly p) is
-
-unsigned : (v : List Bool) (f : Format) → f.signed ≡ false → val v f ≡ pos (nat v)
-unsigned v f e = ap (λ (c : Bool). if c then int v else pos (nat v)) e
-
-now : (t : ℕ) → pos t -ℤ pos 0 ≡ pos t
-now t = omega (arith, ints)
 
 module _ (p : Polynomial) (fits : IsPoly p) where
   -- of the first of some outputs
@@ -40,8 +35,8 @@ module _ (p : Polynomial) (fits : IsPoly p) where
 
   input-now : (ins : Inputs) (t : ℕ) → entered ins t ≡ pos (input_number p ins (pos t))
   input-now ins t =
-      ap (λ u. val (input_at ins 0 p.input.width u) p.input) (now t)
-      ∙ unsigned (input_at ins 0 p.input.width (pos t)) p.input fits.unsigned
+      ap (λ u. val (input_at ins 0 p.input.width u) p.input) (less-zero t)
+      ∙ val-unsigned (input_at ins 0 p.input.width (pos t)) p.input fits.unsigned
 
   pub net-fits : FitsOperator Faithful (Poly p) (net_of_poly p)
   net-fits = record {
@@ -49,14 +44,13 @@ module _ (p : Polynomial) (fits : IsPoly p) where
     inputs = made-inputs p fits;
     outputs = ap (λ os. map (λ (o : Output). (o.name, slice_width o.from)) os) (made-outputs p fits)
         ∙ ap (λ k. (codes "y", k) ∷ []) (output-wide p fits);
+    delays = made-passes p fits;
     good = λ ins t words less ranges.
         let inside = words-for p fits ins words in
         let value : shown ins t (output p fits ∷ []) ≡ out p fits ins (pos t) inside = output-value p fits ins (pos t) inside in
         let all : shown ins t (net_of_poly p).outputs ≡ out p fits ins (pos t) inside = ap (shown ins t) (made-outputs p fits) ∙ value in (
           tt,
-          subst (λ z. IsGoodRatio Faithful (exact_poly p z) (shown ins t (net_of_poly p).outputs)) (sym (input-now ins t))
-              (subst (λ z. IsGoodRatio Faithful (exact_poly p (pos (input_number p ins (pos t)))) z) (sym all)
-              (output-near p fits ins (pos t) inside)),
+          one_shown (λ x y. IsGoodRatio Faithful (exact_poly p x) y) (input-now ins t) all (output-near p fits ins (pos t) inside),
         );
   }
 

@@ -23,7 +23,7 @@ use Rattle.opgen_heap.specs.Sum.{heap_sum}
 use Rattle.opgen_heap.proofs.Sums.{with_constant-sum}
 use Rattle.opgen_compress.specs.Recipe.{compressed}
 use Rattle.opgen_compress.proofs.Compressing.{IsCompressed, compressed-is}
-use Rattle.opgen_compress.proofs.Heaps.{IsHeap, constant-heap}
+use Rattle.opgen_heap.proofs.Heaps.{IsHeap, constant-heap}
 use Rattle.opgen_net.specs.declared.net.Net.{Net}
 use Rattle.opgen_net.specs.declared.word_bits.WordBit.{WordBit}
 use Rattle.opgen_net.specs.Flow.{Inputs, input_at, flow}

@@ -1,5 +1,5 @@
 -- Bounds of products and widths.
-use Rattle.std.proofs.Common.{◌≡◌, ℕ, ◌+◌, ◌*◌, ◌^◌, ◌≤◌, arith, ◌<◌, suc, ap, ◌/◌, ◌%◌, min, zero, max}
+use Rattle.std.proofs.Common.{◌≡◌, ℕ, ◌+◌, ◌*◌, ◌^◌, ◌≤◌, arith, ◌<◌, suc, ap, ◌/◌, ◌%◌, min, zero, max, refl}
 use Rattle.std.proofs.lemmas.Int.{ints}
 use Rattle.std.proofs.lemmas.Nat.{pow-add}
 use Rattle.std.proofs.Math.Nat.{mul-le-mul_left, mul-le-mul_right, two-pow-succ, div-le_self}
@@ -28,6 +28,11 @@ few_up k (negsuc n) h = omega arith
 pub few_down : (k : ℕ) (s : ℤ) → negsuc k ≤ℤ s → places_down s ≤ k + 1
 few_down k (pos n) h = omega arith
 few_down k (negsuc n) h = omega (arith, ints)
+
+-- a shift is one way
+pub one_way : (s : ℤ) → 1 ≤ places_down s → places_up s ≡ 0
+one_way (pos n) h = absurd (omega (arith, h))
+one_way (negsuc n) h = refl
 
 pub some_units : (den : ℤ) → pos 1 ≤ℤ den → 1 ≤ unsigned_abs den
 some_units (pos n) h = omega (arith, ints)

@@ -1,5 +1,4 @@
 -- Lemmas on modes, ports, limits, shifts and how far numbers go, on fractions that are judged, and on the meanings of kinds.
-pub mod Totals
 pub mod Bounds
 pub mod InputPorts
 pub mod Versions

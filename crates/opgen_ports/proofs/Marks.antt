@@ -1,8 +1,9 @@
--- Modes of outputs that are exact or faithful, and numbers that are good in modes.
+-- Modes of outputs that are exact or faithful, numbers that are good in modes, and compressors of bits.
 use Rattle.std.proofs.Common.{◌≡◌, ◌↔◌, Bool, true, false, IsTrue, refl}
 use Rattle.opgen_num.specs.declared.mode.Mode.{Mode}
 use Rattle.opgen_num.specs.declared.mode.Mode.TheVariants.{Exact, Faithful, Down, Nearest}
 use Rattle.opgen_ports.specs.Modes.{is_exact, mode_of_exact, IsExactOrFaithful}
+use Rattle.opgen_ports.specs.Recipes.{compressor_of, has_counters, is_of_bits}
 
 pub is_exact-of : (exact : Bool) → is_exact (mode_of_exact exact) ≡ exact
 is_exact-of true = refl
@@ -12,14 +13,13 @@ pub exact_or_faithful : (exact : Bool) → IsExactOrFaithful (mode_of_exact exac
 exact_or_faithful true = tt
 exact_or_faithful false = tt
 
--- the mode is the one of its mark
-pub mode_of_mark : (mode : Mode) (mark : Bool) → IsExactOrFaithful mode → mark ≡ is_exact mode → mode_of_exact mark ≡ mode
-mode_of_mark Exact true is e = refl
-mode_of_mark Exact false is e = cc
-mode_of_mark Faithful true is e = cc
-mode_of_mark Faithful false is e = refl
-mode_of_mark Down mark is e = absurd is
-mode_of_mark Nearest mark is e = absurd is
+pub has_counters-of : (counters : Bool) → has_counters (compressor_of counters) ≡ counters
+has_counters-of true = refl
+has_counters-of false = refl
+
+pub of_bits : (counters : Bool) → IsTrue (is_of_bits (compressor_of counters))
+of_bits true = refl
+of_bits false = refl
 
 -- What is so where a mark is exact is good in the mode of the mark, of the kinds that have no other modes.
 module _ (exact : Bool) (IsSo : Bool → Type 0) where

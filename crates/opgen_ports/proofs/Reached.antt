@@ -1,15 +1,15 @@
 -- How far sums over inputs go, and the ends of fractions in units of the output's last place.
-use Rattle.std.proofs.Common.{ℕ, ◌-◌, Bool, true, false, arith, ◌+◌, ◌*◌, ◌≤◌, ◌≡◌, zero, suc, List, [], ◌∷◌, map, ◌∙◌, ◌<◌, length, get_or, refl, ap, ◌/◌, ◌%◌, min, max}
+use Rattle.std.proofs.Common.{ℕ, ◌-◌, Bool, true, false, arith, ◌+◌, ◌*◌, ◌≤◌, ◌≡◌, zero, suc, List, [], ◌∷◌, map, ◌∙◌, ◌<◌, length, get_or, refl, ap, ◌/◌, ◌%◌, min, max, ◌^◌}
 use Rattle.std.proofs.lemmas.Int.{ints}
 use Rattle.std.proofs.lemmas.Nat.{pow_pos, div-add-mod'}
-use Rattle.std.proofs.Math.Nat.{mul-le-mul, mod-lt}
+use Rattle.std.proofs.Math.Nat.{mul-le-mul, mod-lt, two-pow-succ, mul-le-mul_right}
 use Rattle.std.specs.Int.{div_ceil}
-use Rattle.std.specs.Prelude.{ℤ, pos, neg_ℤ, ◌≤ℤ◌, negsuc, ◌*ℤ◌, ◌+ℤ◌, ◌-ℤ◌, ◌<ℤ◌}
+use Rattle.std.specs.Prelude.{ℤ, pos, neg_ℤ, ◌≤ℤ◌, negsuc, ◌*ℤ◌, ◌+ℤ◌, ◌-ℤ◌, ◌<ℤ◌, unsigned_abs}
 use Rattle.opgen_num.proofs.Integers.{product-sum, product_order}
 use Rattle.opgen_num.specs.Formats.{Holds}
-use Rattle.opgen_ports.specs.Reaches.{reach_with, above_zero, below_zero, rises, falls, up}
+use Rattle.opgen_num.proofs.Lists.{sum-cons}
+use Rattle.opgen_ports.specs.Reaches.{reach_with, above_zero, below_zero, rises, falls, up, in_units}
 use Rattle.opgen_ports.specs.Ports.{Recent, weighted_from}
-use Rattle.opgen_ports.proofs.Totals.{sum-cons}
 
 -- a number from -below to above
 abbrev pub IsWithinReach : (below above : ℕ) → ℤ → Type 0
@@ -24,6 +24,27 @@ pub within-held : (signed : Bool) (width : ℕ) (n : ℤ) → IsWithinReach (rea
     → Holds signed width n
 within-held false width n (low, high) = (omega (arith, ints), omega (arith, ints, pow_pos width))
 within-held true width n (low, high) = (omega (arith, ints), omega (arith, ints, pow_pos (width - 1)))
+
+-- how far the numbers of a format go, below zero and above it
+pub reach-span : (signed : Bool) (width : ℕ) → 1 ≤ width → (reach_with signed width).below + (reach_with signed width).above + 1 ≡ 2 ^ width
+reach-span true zero h = absurd (omega (arith, h))
+reach-span true (suc w) h =
+    let e : suc w - 1 ≡ w = omega arith in
+    omega (arith, two-pow-succ w, ap (λ n. 2 ^ n) e, pow_pos w)
+reach-span false w h = omega (arith, pow_pos w)
+
+-- the parts of a number below zero and above it
+pub abs-parts : (z : ℤ) → above_zero z + below_zero z ≡ unsigned_abs z
+abs-parts (pos n) = omega arith
+abs-parts (negsuc n) = omega arith
+
+pub parts-below : (z : ℤ) → neg_ℤ (pos (below_zero z)) ≤ℤ z
+parts-below (pos n) = omega (arith, ints)
+parts-below (negsuc n) = omega (arith, ints)
+
+pub parts-above : (z : ℤ) → z ≤ℤ pos (above_zero z)
+parts-above (pos n) = omega (arith, ints)
+parts-above (negsuc n) = omega (arith, ints)
 
 -- a number times a coefficient
 term : (y c : ℤ) (below above : ℕ) → IsWithinReach below above y
@@ -195,3 +216,21 @@ module _ (n : ℤ) (below above scale d : ℕ) (some : 0 < d) where
         neg-right d 1,
         product-sum (pos d) (pos (div_ceil (above * scale) d)) (neg_ℤ (pos 1)),
       )
+
+-- a number that is not shifted up is no greater in units of the output's last place
+pub lowered_units : (n : ℕ) (s : ℤ) → s ≤ℤ pos 0 → in_units n s (pos 1) ≤ n
+lowered_units n (pos zero) high =
+    let (_, close) = ceiling (n * 1) 1 (omega arith) in
+    omega (arith, close)
+lowered_units n (pos (suc k)) high = absurd (omega (arith, ints))
+lowered_units n (negsuc k) high =
+    let d = 1 * 2 ^ (k + 1) in
+    let (_, close) = ceiling (n * 1) d (omega (arith, pow_pos (k + 1))) in
+    below (div_ceil (n * 1) d) d (omega (arith, pow_pos (k + 1))) (omega (arith, close))
+  where
+    below : (c d : ℕ) → 1 ≤ d → d * c < n + d → c ≤ n
+    below zero d some close = omega arith
+    below (suc c) zero some close = absurd (omega (arith, some))
+    below (suc c) (suc d) some close =
+        let least : 1 * c ≤ suc d * c = mul-le-mul_right c (omega arith) in
+        omega (arith, close, least)

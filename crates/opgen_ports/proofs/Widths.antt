@@ -3,7 +3,7 @@ use Rattle.std.proofs.Common.{ℕ, zero, suc, ◌≤◌, arith, ◌+◌, ◌^◌
 use Rattle.std.specs.Prelude.{pos, neg_ℤ}
 use Rattle.opgen_num.proofs.BitLength.{power_order}
 use Rattle.opgen_num.proofs.RangeWidth.{count-least}
-use Rattle.opgen_num.specs.Formats.{range_width, digit_count}
+use Rattle.opgen_num.specs.Formats.{range_width}
 use Rattle.opgen_ports.specs.declared.reach.Reach.{Reach}
 use Rattle.opgen_ports.specs.Reaches.{width_of, reach_with}
 
@@ -40,8 +40,3 @@ reach_within true width =
 pub width_by : (below above k : ℕ) → 1 ≤ k → below < 2 ^ k → above < 2 ^ k → range_width (neg_ℤ (pos below)) (pos above) ≤ k + 1
 width_by zero above k some low high = omega (arith, count-least above k high)
 width_by (suc a) above k some low high = omega (arith, count-least (max a above) k (omega arith), some)
-
--- the remainder of a small divisor
-pub count_some : (n : ℕ) → 1 ≤ n → 1 ≤ digit_count n
-count_some zero h = absurd (omega (arith, h))
-count_some (suc n) h = omega arith

@@ -1,6 +1,7 @@
 -- What decides whether an operator of a kind is accepted, beside what it means: a record which each kind gives. No good output
 -- depends on it.
 use Rattle.std.specs.Prelude.{ℕ, Bool, Option, ℤ, List}
+use Rattle.opgen_num.specs.declared.mode.Mode.{Mode}
 use Rattle.opgen_ports.specs.Ports.{Recent}
 
 pub record Acceptance : Type 1 where
@@ -23,8 +24,8 @@ pub record Acceptance : Type 1 where
   pub need : Option ℕ
   -- the range of the exact values is computed in 128 bits
   pub HasRoom : Type 0
-  -- the operator's own mark of exact outputs, where it has one
-  pub own_mark : Option Bool
+  -- the operator's own mode of outputs, where it has one
+  pub own_mark : Option Mode
   -- The exact values, with their shift, by the numbers of the input ports, have 128 bits: fractions, of a quotient also the
   -- dividend, and of a root the square.
   pub IsExactIn128 : (inputs : (port : ℕ) → Recent) → Type 0

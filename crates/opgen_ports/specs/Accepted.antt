@@ -1,14 +1,11 @@
 -- Operators that can be built, by what they mean and what their kinds accept: those whose fields, shift, widths and widest signal
 -- are within the limits of one version of specifications.
-use Rattle.std.specs.Prelude.{ℕ, ◌≡◌, ◌≤◌, ◌≤ℤ◌, Bool, false, IsTrue, Option, Some, None}
-use Rattle.std.specs.Option.{unwrap_or}
+use Rattle.std.specs.Prelude.{ℕ, ◌≡◌, ◌≤◌, ◌≤ℤ◌, IsTrue, Some, None}
 use Rattle.opgen_ports.specs.Acceptance.{Acceptance}
 use Rattle.opgen_ports.specs.Limits.{most_input, most_signal}
 use Rattle.opgen_ports.specs.Meaning.{Meaning}
+use Rattle.opgen_ports.specs.Modes.{is_marked}
 use Rattle.opgen_ports.specs.Ports.{AreWithin}
-
-abbrev pub is_marked : Option Bool → Bool
-is_marked mark = unwrap_or mark false
 
 pub record IsAcceptedIn (version : ℕ) (m : Meaning) (a : Acceptance) : Type 0 where
   -- the fields are within the ranges of their keys

@@ -1,5 +1,5 @@
 -- Definitions of opgen_ports: ports and their numbers, ranges and limits, shifts, how far numbers go, odd parts, good roundings,
--- names, modes; what a kind means, and which operators are accepted.
+-- names, modes, recipes; what a kind means, and which operators are accepted.
 pub mod SpecName
 pub mod OddParts
 pub mod Ranges
@@ -7,6 +7,7 @@ pub mod Reaches
 pub mod Ports
 pub mod Limits
 pub mod Modes
+pub mod Recipes
 pub mod Good
 pub mod Spans
 pub mod In128

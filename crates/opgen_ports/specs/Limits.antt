@@ -1,5 +1,6 @@
 -- The limits that each version of specifications sets to inputs and signals.
 use Rattle.std.specs.Prelude.{ℕ, ◌≡◌, ◌⊎◌, ◌==◌, if◌then◌else◌}
+use Rattle.opgen_num.specs.declared.format.TheConstants.{MAX_INPUT, MAX_WIDTH}
 
 -- there are three versions
 abbrev pub IsVersion : ℕ → Type 0
@@ -10,8 +11,8 @@ IsVersion version = (version ≡ 1) ⊎ ((version ≡ 2) ⊎ (version ≡ 3))
 
 -- the most bits of an input
 abbrev pub most_input : (version : ℕ) → ℕ
-most_input version = if version == 1 then 32 else 48
+most_input version = if version == 1 then 32 else MAX_INPUT
 
 -- the most bits of a signal, guard bits and shift included
 abbrev pub most_signal : (version : ℕ) → ℕ
-most_signal version = if version == 1 then 64 else 96
+most_signal version = if version == 1 then 64 else MAX_WIDTH

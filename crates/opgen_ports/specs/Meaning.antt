@@ -13,7 +13,7 @@ pub record Meaning : Type 1 where
   pub divisor : Option ℕ
   -- Good outputs depend on the inputs of the last cycle and of so many cycles before it alone.
   pub memory : ℕ
-  -- Of the kinds with one output `y` whose width may be chosen: its exact value as a fraction, by the numbers of the input ports.
+  -- Of the kinds and modes with one output of one value: this exact value as a fraction, by the numbers of the input ports.
   pub value : Option ((inputs : (port : ℕ) → Recent) → Ratio)
   -- In a mode, by the numbers of the input ports in the last cycle and before it, and those of the output ports. Of kinds that
   -- have no outputs rounded down or to the nearest nothing is good in these modes.

@@ -1,16 +1,17 @@
 -- Ranges that keys of several kinds have.
-use Rattle.std.specs.Prelude.{ℕ, ◌≤◌, ◌≤ℤ◌, ℤ, pos, unsigned_abs, negsuc, ◌<◌, All, List}
+use Rattle.std.specs.Prelude.{ℕ, ◌≤◌, ◌≤ℤ◌, ℤ, unsigned_abs, neg_ℤ, ◌<◌, All, List}
+use Rattle.opgen_num.specs.declared.limits.TheConstants.{MAX_NEAR_LSB}
 use Rattle.opgen_num.specs.declared.format.Format.{Format}
-use Rattle.opgen_num.specs.declared.format.TheConstants.{MAX_INPUT}
+use Rattle.opgen_num.specs.declared.format.TheConstants.{MAX_INPUT, MAX_LSB}
 use Rattle.opgen_num.specs.Formats.{fewest_bits}
 
 -- the power of a lowest bit
 abbrev pub IsPower : ℤ → Type 0
-IsPower lsb = (negsuc 63 ≤ℤ lsb) × (lsb ≤ℤ pos 64)
+IsPower lsb = (neg_ℤ MAX_LSB ≤ℤ lsb) × (lsb ≤ℤ MAX_LSB)
 
 -- the power of a lowest bit of the kinds and versions that have fewer
 abbrev pub IsNear : ℤ → Type 0
-IsNear lsb = (negsuc 31 ≤ℤ lsb) × (lsb ≤ℤ pos 32)
+IsNear lsb = (neg_ℤ MAX_NEAR_LSB ≤ℤ lsb) × (lsb ≤ℤ MAX_NEAR_LSB)
 
 pub record IsInput (f : Format) : Type 0 where
   pub fewest : fewest_bits f.signed ≤ f.width

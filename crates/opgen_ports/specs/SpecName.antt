@@ -3,6 +3,7 @@ use Rattle.std.specs.Prelude.{ℕ, ◌==◌, ◌&&◌, Bool, false, not, List, [
 use Rattle.std.specs.Char.{is_ascii_digit}
 use Rattle.std.specs.List.{list_all, list_any}
 use Rattle.std.specs.Str.{bytes_eq}
+use Rattle.opgen_ports.specs.declared.spec_name.TheConstants.{MAX_SPEC_NAME_LEN}
 use Rattle.opgen_names.specs.Names.{is_allowed_name}
 
 -- What a written design names itself: its architecture, the clock, its enable and the ports.
@@ -23,4 +24,4 @@ is_signal_name (c ∷ digits) = c == 115 && nat_lt 0 (length digits) && list_all
 -- A specification's name: a name of the VHDL subset in lower case, of at most 32 bytes, that is none of the taken names and not
 -- `s` with digits alone after it.
 abbrev pub is_spec_name : List ℕ → Bool
-is_spec_name name = nat_le (length name) 32 && is_allowed_name name && not (is_taken name) && not (is_signal_name name)
+is_spec_name name = nat_le (length name) MAX_SPEC_NAME_LEN && is_allowed_name name && not (is_taken name) && not (is_signal_name name)

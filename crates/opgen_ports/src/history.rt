@@ -4,7 +4,7 @@ ghost use Rattle.opgen_ports.specs.Ports.{number_of, recent_numbers, IsHistory, 
 ghost use Rattle.opgen_ports.specs.Ranges.{IsInput, IsWithin};
 ghost use Rattle.opgen_ports.specs.Spans.{IsOf};
 
-use opgen_num::{Format, MAX_INPUT, MAX_WIDTH, Word};
+use opgen_num::{Format, MAX_INPUT, MAX_NUMERATOR, MAX_TAPS, MAX_WIDTH, Word};
 
 /// The number of an input's word.
 pub fn input(format: Format, bits: u128) -> i128
@@ -61,8 +61,8 @@ pub fn last_two(a: Format, b: Format, history: &[u128]) -> (i128, i128)
 /// The last inputs, each times its coefficient.
 pub fn weighted(format: Format, coefs: &[i64], history: &[u128]) -> i128
     requires format { IsInput format }
-    requires few { length coefs.now ≤ 256 }
-    requires small { All (IsWithin (2 ^ 30)) coefs.now }
+    requires few { length coefs.now ≤ MAX_TAPS }
+    requires small { All (IsWithin MAX_NUMERATOR) coefs.now }
     requires history { IsHistory (one_input format) history.now }
     ensures value { result ≡ weighted coefs.now (recent_numbers (one_input format) history.now 0) }
     ensures bound { unsigned_abs result ≤ 2 ^ (format.width + 38) }
@@ -79,7 +79,7 @@ pub fn weighted(format: Format, coefs: &[i64], history: &[u128]) -> i128
 /// An input times a coefficient.
 pub fn product(n: i128, coef: i64) -> i128
     requires input { unsigned_abs n ≤ 2 ^ MAX_INPUT }
-    requires coef { unsigned_abs coef ≤ 2 ^ 30 }
+    requires coef { unsigned_abs coef ≤ MAX_NUMERATOR }
     ensures { result ≡ n *ℤ coef }
 {
     n * i128::from(coef)

@@ -2,6 +2,8 @@
 ghost use Rattle.std.specs.Prelude.{◌≡◌};
 ghost use Rattle.opgen_ports.specs.Profile.{most_shift_in};
 
+use opgen_num::Mode;
+
 /// What is said of an operator by numbers and marks alone.
 #[derive(Clone, Copy, Debug, PartialEq, Eq)]
 pub struct Profile {
@@ -13,12 +15,12 @@ pub struct Profile {
     pub most_shift: i32,
     /// The place of the input port that must not be 0, if there is one.
     pub divisor: Option<usize>,
-    /// Whether the output has a width that may be chosen: that of the kinds with one output `y`.
+    /// Whether there is one output of one exact value.
     pub has_value: bool,
     /// Whether the net is made of an adder graph.
     pub has_graph: bool,
-    /// The operator's own mark of exact outputs, if it has one.
-    pub own_mark: Option<bool>,
+    /// The operator's own mode of outputs, if it has one.
+    pub own_mark: Option<Mode>,
 }
 
 impl Profile {

@@ -3,20 +3,20 @@ ghost use Rattle.std.specs.Prelude.{◌≡◌, ◌≤◌, ◌≤ℤ◌, ◌↔�
 ghost use Rattle.opgen_num.specs.Formats.{fewest_bits};
 ghost use Rattle.opgen_ports.specs.Ranges.{IsPower, IsNear, IsInput, IsWithin, AreNear};
 
-use opgen_num::{Format, MAX_INPUT};
+use opgen_num::{Format, MAX_DENOMINATOR, MAX_INPUT, MAX_LSB, MAX_NEAR_LSB};
 
 /// Whether a lowest bit may have this power: -64 to 64.
 pub fn is_power(lsb: i32) -> bool
     ensures { IsTrue result ↔ IsPower lsb }
 {
-    -64 <= lsb && lsb <= 64
+    -MAX_LSB <= lsb && lsb <= MAX_LSB
 }
 
 /// Whether a lowest bit may have this power in the kinds and versions that have fewer: -32 to 32.
 pub fn is_near(lsb: i32) -> bool
     ensures { IsTrue result ↔ IsNear lsb }
 {
-    -32 <= lsb && lsb <= 32
+    -MAX_NEAR_LSB <= lsb && lsb <= MAX_NEAR_LSB
 }
 
 /// Whether a version has these lowest bits: versions 1 and 2 have those from -32 to 32 alone.
@@ -56,9 +56,9 @@ pub fn is_length(least: usize, most: usize, length: usize) -> bool
 
 /// Whether a number can be a common denominator: 1 to 2^30.
 pub fn is_denominator(den: i64) -> bool
-    ensures { IsTrue result ↔ ((pos 1 ≤ℤ den) × (den ≤ℤ pos (2 ^ 30))) }
+    ensures { IsTrue result ↔ ((pos 1 ≤ℤ den) × (den ≤ℤ MAX_DENOMINATOR)) }
 {
-    1 <= den && den <= 1 << 30
+    1 <= den && den <= MAX_DENOMINATOR
 }
 
 /// Whether each number is at most so far from 0.

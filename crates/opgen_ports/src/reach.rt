@@ -1,5 +1,6 @@
 //! How far numbers go below and above 0: of inputs, of sums, and in units of the output's last place; the width for them.
 ghost use Rattle.std.specs.Prelude.{◌≡◌, ◌+◌, ◌*◌, ◌≤◌, ◌^◌, ℤ, neg_ℤ, ◌≤ℤ◌, pos, length, All};
+ghost use Rattle.opgen_num.specs.declared.limits.TheConstants.{MAX_DENOMINATOR, MAX_NUMERATOR, MAX_TAPS};
 ghost use Rattle.opgen_ports.specs.Ranges.{IsInput, IsWithin};
 ghost use Rattle.opgen_ports.specs.Reaches.{reach_of, rises, falls, reach_over, reach_of_product, in_units, in_places, width_of, up};
 
@@ -37,8 +38,8 @@ pub fn reach_of(format: Format) -> Reach
 
 // The sum of the coefficients below 0, without its sign, and of those above 0.
 fn sides(coefs: &[i64]) -> Reach
-    requires few { length coefs.now ≤ 256 }
-    requires small { All (IsWithin (2 ^ 30)) coefs.now }
+    requires few { length coefs.now ≤ MAX_TAPS }
+    requires small { All (IsWithin MAX_NUMERATOR) coefs.now }
     ensures falls { result.below ≡ falls coefs.now }
     ensures rises { result.above ≡ rises coefs.now }
     ensures below { result.below ≤ 2 ^ 38 }
@@ -60,8 +61,8 @@ fn sides(coefs: &[i64]) -> Reach
 /// How far a sum of inputs times coefficients goes.
 pub fn reach_over(input: Format, coefs: &[i64]) -> Reach
     requires input { IsInput input }
-    requires few { length coefs.now ≤ 256 }
-    requires small { All (IsWithin (2 ^ 30)) coefs.now }
+    requires few { length coefs.now ≤ MAX_TAPS }
+    requires small { All (IsWithin MAX_NUMERATOR) coefs.now }
     ensures value { result ≡ reach_over input coefs.now }
     ensures below { result.below ≤ 2 ^ (input.width + 39) }
     ensures above { result.above ≤ 2 ^ (input.width + 39) }
@@ -96,7 +97,7 @@ fn in_units(numerator: u128, shift: i32, den: i64) -> u128
     requires low { neg_ℤ MAX_SHIFT ≤ℤ shift }
     requires high { shift ≤ℤ MAX_SHIFT }
     requires positive { pos 1 ≤ℤ den }
-    requires small { den ≤ℤ pos (2 ^ 30) }
+    requires small { den ≤ℤ MAX_DENOMINATOR }
     ensures value { result ≡ in_units numerator shift den }
     ensures bound { result ≤ 2 ^ 120 }
 {
@@ -110,7 +111,7 @@ pub fn in_places(reach: Reach, shift: i32, den: i64) -> Reach
     requires low { neg_ℤ MAX_SHIFT ≤ℤ shift }
     requires high { shift ≤ℤ MAX_SHIFT }
     requires positive { pos 1 ≤ℤ den }
-    requires small { den ≤ℤ pos (2 ^ 30) }
+    requires small { den ≤ℤ MAX_DENOMINATOR }
     ensures value { result ≡ in_places reach shift den }
     ensures below { result.below ≤ 2 ^ 120 }
     ensures above { result.above ≤ 2 ^ 120 }

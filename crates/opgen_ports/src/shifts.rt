@@ -3,7 +3,7 @@ ghost use Rattle.std.specs.Prelude.{◌≡◌, ◌*◌, ◌≤◌, ◌^◌, ℤ,
 ghost use Rattle.opgen_ports.specs.Ranges.{IsWithin};
 ghost use Rattle.opgen_ports.specs.Reaches.{places_up, places_down, up, down, is_whole_at};
 
-use opgen_num::{MAX_WIDTH, power};
+use opgen_num::{MAX_DENOMINATOR, MAX_NUMERATOR, MAX_WIDTH, power};
 
 /// By how many places a shift moves up, 0 if it moves down.
 pub fn places_up(shift: i32) -> u32
@@ -31,7 +31,7 @@ pub fn raised(n: i128, places: u32) -> i128
 /// The numerator in units of the output's last place, over `units`.
 pub fn scaled(numerator: u128, shift: i32) -> u128
     requires small { numerator * up shift ≤ 2 ^ 120 }
-    requires few { places_up shift ≤ 96 }
+    requires few { places_up shift ≤ MAX_WIDTH }
     ensures { result ≡ numerator * up shift }
 {
     numerator * power(places_up(shift))
@@ -40,7 +40,7 @@ pub fn scaled(numerator: u128, shift: i32) -> u128
 /// The denominator in units of the output's last place.
 pub fn units(den: i64, shift: i32) -> u128
     requires positive { pos 1 ≤ℤ den }
-    requires small { den ≤ℤ pos (2 ^ 30) }
+    requires small { den ≤ℤ MAX_DENOMINATOR }
     requires few { places_down shift ≤ 64 }
     ensures value { result ≡ unsigned_abs den * down shift }
     ensures positive { 0 < result }
@@ -51,9 +51,9 @@ pub fn units(den: i64, shift: i32) -> u128
 /// Whether a coefficient over a denominator is a whole number of units of the output's last place. A
 /// shift may be beyond the limits of its kind.
 pub fn is_whole(coef: i64, den: i64, shift: i32) -> bool
-    requires coef { IsWithin (2 ^ 30) coef }
+    requires coef { IsWithin MAX_NUMERATOR coef }
     requires positive { pos 1 ≤ℤ den }
-    requires small { den ≤ℤ pos (2 ^ 30) }
+    requires small { den ≤ℤ MAX_DENOMINATOR }
     ensures { result ≡ is_whole_at den shift coef }
 {
     let near = shift.max(-31).min(30);

@@ -2,12 +2,12 @@
 use Rattle.std.specs.Str.{IsUtf8}
 use Rattle.std.specs.List.{list_all}
 use Rattle.std.specs.Char.{is_ascii_lowercase, is_ascii_digit, to_ascii_lowercase}
-use Rattle.std.proofs.Common.{◌≡◌, inl, inr, ℕ, zero, suc, ◌<◌, ◌≤◌, ◌&&◌, ◌||◌, true, false, nat_le, List, [], ◌∷◌, length, map, refl, arith}
+use Rattle.std.proofs.Common.{◌≡◌, inl, inr, ℕ, zero, suc, ◌<◌, ◌≤◌, ◌&&◌, ◌||◌, true, false, nat_le, List, [], ◌∷◌, length, map, arith}
 use Rattle.std.proofs.lemmas.Bool.{and_parts, or_cases, leb-true, eqb-true, false_from_ne_true}
 use Rattle.std.proofs.lemmas.Str.{IsUtf8-from_ascii}
-use Rattle.std.proofs.lemmas.Str.Ascii.{lowercase_is}
 use Rattle.std.specs.Prelude.{slice_index}
 use Rattle.opgen_names.specs.Names.{is_allowed_name, is_name_byte, is_identifier, starts_with_letter, has_single_underscores, is_underscore}
+use Rattle.opgen_names.proofs.LowerCase.{lower-all}
 
 byte-below : (b : ℕ) → is_name_byte b ≡ true → b < 128
 byte-below b h = elim (or_cases (is_ascii_lowercase b || is_ascii_digit b) (is_underscore b) h) [
@@ -39,23 +39,6 @@ allowed-short bs h =
 -- what is no UTF-8 is no name
 pub no_name : (bs : List ℕ) → (IsUtf8 bs → ⊥) → is_allowed_name bs ≡ false
 no_name bs h = false_from_ne_true (is_allowed_name bs) (λ n. h (IsUtf8-from_ascii bs (all-below bs (name-ascii bs n))))
-
-lower-byte : (b : ℕ) → is_name_byte b ≡ true → to_ascii_lowercase b ≡ b
-lower-byte b h = elim (or_cases (is_ascii_lowercase b || is_ascii_digit b) (is_underscore b) h) [
-  | inl k ↦ elim (or_cases (is_ascii_lowercase b) (is_ascii_digit b) k) [
-    | inl l ↦ let (low, high) = and_parts (nat_le 97 b) (nat_le b 122) l in (lowercase_is b).2 (omega (arith, leb-true 97 b low))
-    | inr l ↦ let (low, high) = and_parts (nat_le 48 b) (nat_le b 57) l in (lowercase_is b).1 (omega (arith, leb-true b 57 high))
-  ]
-  | inr k ↦ (lowercase_is b).2 (omega (arith, eqb-true b 95 k))
-]
-
-lower-all : (bs : List ℕ) → list_all is_name_byte bs ≡ true → map to_ascii_lowercase bs ≡ bs
-lower-all [] h = refl
-lower-all (b ∷ bs) h =
-    let (here, more) = and_parts (is_name_byte b) (list_all is_name_byte bs) h in
-    let first : to_ascii_lowercase b ≡ b = lower-byte b here in
-    let others : map to_ascii_lowercase bs ≡ bs = lower-all bs more in
-    cc
 
 -- an allowed name is its own lower case
 pub allowed-lower : (bs : List ℕ) → is_allowed_name bs ≡ true → map to_ascii_lowercase bs ≡ bs

@@ -2,12 +2,13 @@
 use Rattle.std.specs.Prelude.{if◌then◌else◌}
 use Rattle.std.specs.Char.{to_ascii_lowercase}
 use Rattle.std.proofs.Common.{◌≡◌, ℕ, Bool, true, false, List, ◌∷◌, map, Some, None, refl, ap, sym, subst, ◌∙◌}
+use Rattle.std.proofs.lemmas.Option.{same_Some}
 use Rattle.opgen_names.specs.Names.{is_allowed_name}
 use Rattle.opgen_vhdl.specs.declared.kind.TokenKind.{TokenKind}
 use Rattle.opgen_vhdl.specs.declared.kind.TokenKind.TheVariants.{Word, Number, Bits, ZeroChar, LeftParen, RightParen, Semicolon, Colon, Comma, Dot, Ampersand, Plus, Minus, Equal, LessEqual, Arrow, Becomes}
 use Rattle.opgen_vhdl.specs.Symbols.{Symbol, symbol_of}
 use Rattle.opgen_vhdl.specs.Reader.{name_at, same_kind}
-use Rattle.opgen_vhdl.proofs.Steps.{found, some_is}
+use Rattle.opgen_vhdl.proofs.Steps.{found}
 use Rattle.opgen_read.proofs.AllowedNames.{allowed-lower}
 
 pub name_first : (k : TokenKind) (text : List ℕ) (rest : List Symbol) → name_at (symbol_of (k, text) ∷ rest)
@@ -33,7 +34,7 @@ name_first Becomes text rest = refl
 
 choose_some : {A R : Type 0} (b : Bool) (m n : A) (rest : R) → Some n ≡ (if b then Some m else None) → (if b then found m rest else None)
     ≡ found n rest
-choose_some true m n rest e = ap (λ x. found x rest) (some_is (sym e))
+choose_some true m n rest e = ap (λ x. found x rest) (same_Some _ _ (sym e))
 choose_some false m n rest e = cc
 
 choose_none : {A R : Type 0} (b : Bool) (m : A) (rest : R) → None ≡ (if b then Some m else None) → (if b then found m rest else None) ≡ None

@@ -2,7 +2,6 @@ pub mod FirstName
 pub mod FirstPlaces
 pub mod AllowedNames
 pub mod Operands
-pub mod Zeros
 pub mod TableRows
 pub mod Reaching
 pub mod WholeTexts

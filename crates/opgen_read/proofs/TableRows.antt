@@ -1,10 +1,11 @@
 -- Rows of a table read one after the other.
-use Rattle.std.proofs.Common.{◌≡◌, ℕ, zero, suc, ◌≤◌, Bool, List, [], ◌∷◌, ◌++◌, length, Option, Some, None, refl, ap, sym, ◌∙◌, append_assoc, arith}
+use Rattle.std.proofs.Common.{◌≡◌, ℕ, zero, suc, Bool, List, [], ◌∷◌, ◌++◌, length, Option, Some, None, refl, ap, sym, ◌∙◌, append_assoc, arith}
 use Rattle.std.proofs.lemmas.List.{append-nil}
 use Rattle.opgen_vhdl.specs.Symbols.{Symbol}
 use Rattle.opgen_vhdl.specs.Reader.{◌>>=◌, and_then, choice, row_at, other_at, rows_at}
 use Rattle.opgen_vhdl.proofs.Steps.{found}
 use Rattle.opgen_vhdl.proofs.Takes.{row-shorter, enough_rows}
+use Rattle.opgen_vhdl.proofs.Expressions.{shorter}
 use Rattle.opgen_read.specs.Rows.{with_rows}
 
 abbrev Row : Type 0
@@ -16,10 +17,6 @@ unfolding and_then
 one_more front r None = refl
 one_more front r (Some x) = ap (λ u. found u x.1) (sym (append_assoc front (r ∷ []) x.0))
 
-pred : (n m : ℕ) → suc n ≤ m → (k : ℕ) × (m ≡ suc k) × (n ≤ k)
-pred n zero h = absurd (omega arith)
-pred n (suc k) h = (k, refl, omega arith)
-
 step_by : (k : ℕ) (front : List Row) (ss : List Symbol) (r : Row) (rest : List Symbol) → row_at ss ≡ found r rest
     → with_rows front (rows_at (suc k) ss) ≡ with_rows (front ++ r ∷ []) (rows_at k rest)
 unfolding rows_at choice
@@ -28,7 +25,7 @@ step_by k front ss r rest e = rw e (one_more front r (rows_at k rest))
 pub rows-step : (front : List Row) (ss : List Symbol) (r : Row) (rest : List Symbol) → row_at ss ≡ found r rest
     → with_rows front (rows_at (length ss) ss) ≡ with_rows (front ++ r ∷ []) (rows_at (length rest) rest)
 rows-step front ss r rest e =
-    let (k, m, fits) = pred (length rest) (length ss) (row-shorter ss r rest e) in
+    let (k, m, fits) = shorter (length rest) (length ss) (row-shorter ss r rest e) in
     ap (λ n. with_rows front (rows_at n ss)) m ∙ step_by k front ss r rest e
     ∙ ap (with_rows (front ++ r ∷ [])) (enough_rows k (length rest) rest fits (omega arith))
 

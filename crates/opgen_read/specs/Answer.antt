@@ -1,6 +1,7 @@
 -- What reading a text returns: the design that it spells, or the first error and how it prints.
 use Rattle.std.specs.Prelude.{◌≡◌, ◌⊎◌, ℕ, ◌≤◌, true, false, List, ◌++◌, codes, length}
 use Rattle.std.specs.Fmt.{decimal}
+use Rattle.opgen_read.specs.declared.read.TheConstants.{MAX_PORTS}
 use Rattle.opgen_design.specs.declared.design.Design.{Design}
 use Rattle.opgen_design.specs.declared.design.TheConstants.{MAX_SIGNALS}
 use Rattle.opgen_design.specs.declared.sound.Rule.{Rule}
@@ -11,10 +12,10 @@ use Rattle.opgen_vhdl.specs.Spelled.{Statements, SyntaxAt}
 use Rattle.opgen_read.specs.declared.fault.ReadFault.{ReadFault}
 use Rattle.opgen_read.specs.declared.fault.ReadFault.TheVariants.{Lexical, Syntax, TooLarge, Unsound, Memory}
 
--- at most 65,536 signals and 64 ports
+-- no more signals and ports than a design that is read may have
 pub record IsWithinLimits (d : Design) : Type 0 where
   pub signals : length d.signals ≤ MAX_SIGNALS
-  pub ports : length d.ports ≤ 64
+  pub ports : length d.ports ≤ MAX_PORTS
 
 -- Names that do not agree are item 0 of rule 1, as is an enable that names no port; where they agree, it is the first rule that fails.
 abbrev pub FailsAt : Reading → (rule item : ℕ) → Type 0

@@ -13,15 +13,12 @@ use crate::expression::{Scope, expression, part};
 use crate::name::{name, signal_place};
 use crate::refusal::Refusal;
 use crate::required::{mark, word};
-use opgen_design::{Driver, Expr, Formula};
+use opgen_design::{Driver, Expr, Formula, MAX_NESTING};
 use opgen_lex::Cursor;
 use opgen_list::{Items, Text};
 use opgen_num::Word;
 use opgen_vhdl::TokenKind;
 use std::alloc::Global;
-
-// How deep parentheses may nest.
-const MAX_DEPTH: u32 = 64;
 
 // A row of a table, its address first, and what is left behind its comma.
 #[tactic(auto, unfolding(opgen_vhdl::specs::Reader::row_at, opgen_vhdl::specs::Reader::and_then))]
@@ -121,7 +118,7 @@ fn choice(
 {
     let (on, rest) = part(alloc, scope, rest)?;
     let rest = high(rest, "else")?;
-    let (no, rest) = expression(alloc, scope, MAX_DEPTH, rest)?;
+    let (no, rest) = expression(alloc, scope, MAX_NESTING, rest)?;
     match rest.end() {
         None => Err(Refusal::Refused),
         Some(_end) => Ok(Driver::Choice {
@@ -138,7 +135,7 @@ fn choice(
 fn valued(alloc: Global, scope: Scope<'_>, to: usize, rest: Cursor<'_>) -> Result<Driver, Refusal>
     ensures { Gives (λ x. x) result (valued_at (names_in scope.entry) to (left rest.entry)) }
 {
-    let (value, rest) = expression(alloc, scope, MAX_DEPTH, rest)?;
+    let (value, rest) = expression(alloc, scope, MAX_NESTING, rest)?;
     match rest.word("when") {
         Some(rest) => choice(alloc, scope, to, value, rest),
         None => match rest.end() {
@@ -157,7 +154,7 @@ fn output(alloc: Global, scope: Scope<'_>, port: usize, rest: Cursor<'_>) -> Res
     ensures { Gives (λ x. x) result (output_at (names_in scope.entry) port (left rest.entry)) }
 {
     let rest = mark(rest, TokenKind::LeftParen)?;
-    let (value, rest) = expression(alloc, scope, MAX_DEPTH, rest)?;
+    let (value, rest) = expression(alloc, scope, MAX_NESTING, rest)?;
     let rest = mark(rest, TokenKind::RightParen)?;
     match rest.end() {
         None => Err(Refusal::Refused),
@@ -211,7 +208,7 @@ pub fn clocked(alloc: Global, scope: Scope<'_>, piece: Cursor<'_>) -> Result<Dri
 {
     let (to, rest) = signal_place(alloc, scope, piece)?;
     let rest = mark(rest, TokenKind::LessEqual)?;
-    let (value, rest) = expression(alloc, scope, MAX_DEPTH, rest)?;
+    let (value, rest) = expression(alloc, scope, MAX_NESTING, rest)?;
     match rest.end() {
         None => Err(Refusal::Refused),
         Some(_end) => Ok(Driver::Register {

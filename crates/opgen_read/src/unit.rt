@@ -138,7 +138,6 @@ fn others_zero(rest: Cursor<'_>) -> Option<Cursor<'_>>
 }
 
 // The word of zeros of a width.
-#[tactic(auto, using(crate::proofs::Zeros::word_of_zeros))]
 fn zeros(width: u32) -> Word
     ensures { result ≡ replicate width false }
 {

@@ -4,8 +4,8 @@ use Rattle.std.specs.Prelude.{◌≢◌, IfSome, nat_eq, slice_get, unwrap_or}
 use Rattle.std.proofs.lemmas.Bool.{cond-true, cond-false, eqb-true, eqb-false}
 use Rattle.std.proofs.lemmas.List.{length-map}
 use Rattle.std.proofs.lemmas.Option.{slice_get-get_or, slice_get_within, get_or_from_slice_get}
-use Rattle.opgen_num.specs.Words.{nat, word}
-use Rattle.opgen_num.proofs.Words.{word-nat}
+use Rattle.opgen_num.specs.Words.{nat}
+use Rattle.opgen_num.proofs.Words.{same-word}
 use Rattle.opgen_design.specs.declared.design.Design.{Design}
 use Rattle.opgen_design.specs.declared.design.Dir.{Dir}
 use Rattle.opgen_design.specs.declared.design.Dir.TheVariants.{In, Out}
@@ -22,9 +22,6 @@ use Rattle.opgen_runs.specs.Tables.{Row, row_word}
 use Rattle.opgen_runs.proofs.Widths.{agree-at, declared-there, long, settle-widths}
 use Rattle.opgen_runs.proofs.Equations.{stands, register-kept, input-kept, targets-differ}
 use Rattle.opgen_runs.proofs.Registers.{handed}
-
-pub same-word : (a b : List Bool) → length a ≡ length b → nat a ≡ nat b → a ≡ b
-same-word a b l e = sym (word-nat a) ∙ ap (word (length a)) e ∙ ap (λ n. word n (nat b)) l ∙ word-nat b
 
 nat_eq-false : (b : Bool) (m n : ℕ) → nat_eq m n ≡ b → (m ≡ n → ⊥) → nat_eq m n ≡ false
 nat_eq-false true m n e f = absurd (f (eqb-true m n e))

@@ -6,13 +6,11 @@ use Rattle.std.proofs.lemmas.Option.{slice_get-map, slice_get-get_or, slice_get_
 use Rattle.opgen_design.specs.declared.expr.Op.{Op}
 use Rattle.opgen_design.specs.Tree.{Tree, Trees, name, part, port, bits, chain, more, none}
 use Rattle.opgen_design.specs.Value.{value, word_at, combined, IsWidth, as_width, width, width_on, chain_width, joined}
-use Rattle.opgen_design.proofs.WidthLaws.{PartFits, part_fits, some_before, as_width-of, width-reads, width-is_width, value-width}
+use Rattle.opgen_design.proofs.WidthLaws.{PartFits, part_fits, some_before, as_width-of, width-reads, width-is_width, value-width, some_width}
 use Rattle.opgen_num.specs.declared.format.TheConstants.{MAX_WIDTH}
+use Rattle.opgen_num.specs.Words.{word}
+use Rattle.opgen_num.specs.WordLaws.{length-word}
 use Rattle.opgen_runs.specs.Fitting.{AreNarrow, Fits, scope_of, widths_of}
-
-pub some-of : (o : Option ℕ) → IsSome o → (w : ℕ) × (o ≡ Some w)
-some-of None h = absurd (cc)
-some-of (Some w) h = (w, refl)
 
 is_some : (o : Option ℕ) (w : ℕ) → o ≡ Some w → IsSome o
 is_some o w h = subst IsSome (sym h) refl
@@ -37,21 +35,21 @@ module _ (names ports : List (List Bool)) where
       sym g
 
   pub name-there : (e : Tree) (n : ℕ) → e ≡ name n → Fits names ports e → n < length names
-  name-there e n is h = let w = some-of (width ns ps (name n)) (subst (Fits names ports) is h) in omega
+  name-there e n is h = let w = some_width (width ns ps (name n)) (subst (Fits names ports) is h) in omega
       (arith, width-reads ns ps (name n) w.0 w.1, length-map names length)
 
   pub port-there : (e : Tree) (n : ℕ) → e ≡ port n → Fits names ports e → n < length ports
-  port-there e n is h = let w = some-of (width ns ps (port n)) (subst (Fits names ports) is h) in omega
+  port-there e n is h = let w = some_width (width ns ps (port n)) (subst (Fits names ports) is h) in omega
       (arith, width-reads ns ps (port n) w.0 w.1, length-map ports length)
 
   pub part-there : (e : Tree) (n high low : ℕ) → e ≡ part n high low → Fits names ports e → n < length names
-  part-there e n high low is h = let w = some-of (width ns ps (part n high low)) (subst (Fits names ports) is h) in omega
+  part-there e n high low is h = let w = some_width (width ns ps (part n high low)) (subst (Fits names ports) is h) in omega
       (arith, width-reads ns ps (part n high low) w.0 w.1, length-map names length)
 
   pub part-lies : (e : Tree) (n high low : ℕ) → e ≡ part n high low → Fits names ports e → (v : ℕ)
       × PartFits high low (length (word_at names n)) v
   part-lies e n high low is h =
-      let w = some-of (width ns ps (part n high low)) (subst (Fits names ports) is h) in
+      let w = some_width (width ns ps (part n high low)) (subst (Fits names ports) is h) in
       let a = some_before (slice_get ns n) (λ v. if nat_le low high && nat_lt high v then as_width (high + 1 - low) else None) w.0 w.1 in
       (w.0, subst (λ x. PartFits high low x w.0) (sym (word-width names n a.0 a.1)) (part_fits high low a.0 w.0 a.2))
 
@@ -63,7 +61,7 @@ module _ (names ports : List (List Bool)) where
   value-fits e w h = value-width ns ps (scope_of names ports) (word-width names) (word-width ports) e w h
 
   pub value-is_width : (e : Tree) → Fits names ports e → IsWidth (length (value (scope_of names ports) e))
-  value-is_width e h = let w = some-of (width ns ps e) h in subst IsWidth (sym (value-fits e w.0 w.1)) (width-is_width ns ps e w.0 w.1)
+  value-is_width e h = let w = some_width (width ns ps e) h in subst IsWidth (sym (value-fits e w.0 w.1)) (width-is_width ns ps e w.0 w.1)
 
   -- two words as a chain of literals
   pair-width : (op : Op) (x y : List Bool) (u : ℕ) → IsWidth (length x) → IsWidth (length y) → joined op (length x) (length y) ≡ Some u
@@ -86,7 +84,7 @@ module _ (names ports : List (List Bool)) where
       × IsSome (width_on ns ps op (length (value (scope_of names ports) t)) ts)
   chain-start op t none h = absurd (cc)
   chain-start op t (more u ts) h =
-      let w = some-of (chain_width ns ps op (more t (more u ts))) h in
+      let w = some_width (chain_width ns ps op (more t (more u ts))) h in
       let a = some_before (width ns ps t) (λ x. width_on ns ps op x (more u ts)) w.0 w.1 in (
         is_some (width ns ps t) a.0 a.1,
         subst (λ x. IsSome (width_on ns ps op x (more u ts))) (sym (value-fits t a.0 a.1))
@@ -103,7 +101,7 @@ module _ (names ports : List (List Bool)) where
   pub chain-step : (op : Op) (x : List Bool) (t : Tree) (ts : Trees) → IsWidth (length x)
       → IsSome (width_on ns ps op (length x) (more t ts)) → Step op x t ts
   chain-step op x t ts k h =
-      let w = some-of (width_on ns ps op (length x) (more t ts)) h in
+      let w = some_width (width_on ns ps op (length x) (more t ts)) h in
       let a = some_before (width ns ps t) (λ v. option_and_then (λ u. width_on ns ps op u ts) (joined op (length x) v)) w.0 w.1 in
       let b = some_before (joined op (length x) a.0) (λ u. width_on ns ps op u ts) w.0 a.2 in
       let v = value (scope_of names ports) t in

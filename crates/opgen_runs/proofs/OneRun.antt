@@ -8,7 +8,7 @@ use Rattle.opgen_design.specs.Value.{value, word_at}
 use Rattle.opgen_runs.specs.Registers.{SameRegisters}
 use Rattle.opgen_runs.specs.OneRun.{HasOneRun}
 use Rattle.opgen_runs.proofs.HasRun.{a-run}
-use Rattle.opgen_runs.proofs.TwoCycles.{signal-one, words-one, meets-v, meets-u}
+use Rattle.opgen_runs.proofs.TwoCycles.{signal-one, words-one, meets}
 
 module _ (d : Design) (sound : IsSound d) (now others given : List (List Bool)) (registers : SameRegisters d now others) (v u : Words)
     (next after : List (List Bool)) (h : Cycle d now given v next) (k : Cycle d others given u after) where
@@ -24,15 +24,15 @@ module _ (d : Design) (sound : IsSound d) (now others given : List (List Bool)) 
   signals-one : (r : ℕ) → word_at v.signals r ≡ word_at u.signals r
   signals-one r = signals-below (suc (sound.ordered.0 r)) r (omega arith)
 
-  same-words : v ≡ u
-  same-words = words-one d sound now others given v u next after h k signals-one
+  pub words-same : v ≡ u
+  words-same = words-one d sound now others given v u next after h k signals-one
 
   pub next-one : SameRegisters d next after
   next-one i to e g =
-      (meets-v d sound now others given v u next after h k i (Register to e) g).1
-      ∙ ap (λ y. moved d.enable y (value (scope y) e) (word_at now to)) same-words
+      (meets h i (Register to e) g).1
+      ∙ ap (λ y. moved d.enable y (value (scope y) e) (word_at now to)) words-same
       ∙ ap (moved d.enable u (value (scope u) e)) (registers i to e g)
-      ∙ sym (meets-u d sound now others given v u next after h k i (Register to e) g).1
+      ∙ sym (meets k i (Register to e) g).1
 
 pub runs-one : (d : Design) → IsSound d → (inputs : List (List (List Bool))) (now others : List (List Bool)) → SameRegisters d now others
     → (vs us : List Words) → RunsOn d now inputs vs → RunsOn d others inputs us → vs ≡ us
@@ -42,7 +42,7 @@ runs-one d sound [] now others same (v ∷ vs) us h k = absurd h
 runs-one d sound (g ∷ gs) now others same [] us h k = absurd h
 runs-one d sound (g ∷ gs) now others same (v ∷ vs) [] h k = absurd k
 runs-one d sound (g ∷ gs) now others same (v ∷ vs) (u ∷ us) h k =
-    ap (λ x. x ∷ vs) (same-words d sound now others g same v u h.0 k.0 h.1 k.1)
+    ap (λ x. x ∷ vs) (words-same d sound now others g same v u h.0 k.0 h.1 k.1)
     ∙ ap (λ xs. u ∷ xs) (runs-one d sound gs h.0 k.0 (next-one d sound now others g same v u h.0 k.0 h.1 k.1) vs us h.2 k.2)
 
 pub one-run : HasOneRun

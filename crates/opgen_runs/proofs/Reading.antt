@@ -1,5 +1,5 @@
 -- A driver's word over words that agree where it reads.
-use Rattle.std.proofs.Common.{◌≡◌, ℕ, zero, suc, ◌<◌, Bool, false, List, [], ◌∷◌, length, Some, refl, ap, ◌∙◌, subst, inl, inr, arith}
+use Rattle.std.proofs.Common.{◌≡◌, ℕ, ◌<◌, Bool, false, List, [], length, refl, ap, ◌∙◌, subst, inl, inr}
 use Rattle.std.specs.Prelude.{IfSome, slice_get}
 use Rattle.std.proofs.lemmas.List.{get_or-set_other}
 use Rattle.opgen_design.specs.declared.design.Design.{Design}
@@ -14,6 +14,7 @@ use Rattle.opgen_design.specs.declared.design.Target.TheVariants.{Signal as sign
 use Rattle.opgen_design.specs.Tree.{Tree, Trees, name, part, bits, port, inverse, chain, none, more}
 use Rattle.opgen_design.specs.Value.{value, chosen, word_at}
 use Rattle.opgen_design.proofs.ValueLaws.{same_value}
+use Rattle.opgen_design.proofs.NameWalk.{some-item}
 use Rattle.opgen_runs.specs.Evaluate.{driver_word, table_word, put_at}
 
 module _ (P Q : ℕ → Type 0) (r : ℕ) where
@@ -35,16 +36,11 @@ abbrev pub at : Target → Words → List Bool
 at (signal s) v = word_at v.signals s
 at (port_of p) v = word_at v.ports p
 
-pub there-some : {X : Type 0} (xs : List X) (i : ℕ) → i < length xs → (x : X) × (slice_get xs i ≡ Some x)
-there-some [] i l = absurd (omega (arith, l))
-there-some (x ∷ xs) zero l = (x, refl)
-there-some (x ∷ xs) (suc i) l = there-some xs i (omega (arith, l))
-
 abbrev Reads : Design → ℕ → Type 0
 Reads d p = IfSome (slice_get d.ports p) (λ q. q.dir ≡ In)
 
 is-input : (d : Design) (p : ℕ) → p < length d.ports → Reads d p → IsInput d (port_of p)
-is-input d p l h = let q = there-some d.ports p l in (q.0, q.1, subst (λ o. IfSome o (λ q. q.dir ≡ In)) q.1 h)
+is-input d p l h = let q = some-item d.ports p l in (q.0, q.1, subst (λ o. IfSome o (λ q. q.dir ≡ In)) q.1 h)
 
 module _ (d : Design) (w : List Bool) (v : Words) where
   tree-same : (t : Target) (e : Tree) → AllReads (λ s. Unit {0}) (Reads d) e → ((s : ℕ) → t ≡ signal s → ReadsName s e → ⊥)
@@ -59,12 +55,12 @@ module _ (d : Design) (w : List Bool) (v : Words) where
   -- a word put where a driver reads nothing leaves the driver's word
   pub driver-same : (t : Target) (k : Driver) → ReadsInputs d k → is_register k ≡ false → ((s : ℕ) → t ≡ signal s → Needs s k → ⊥)
       → (IsInput d t → ⊥) → Names d t → driver_word (scope (put_at t w v)) k ≡ driver_word (scope v) k
-  driver-same t (Assign to e) h r f g n = tree-same t e h f g n
+  driver-same t (Assign to e) h r f g n = tree-same t e h.0 (λ s e k. f s e (inl k)) g n
   driver-same t (Choice to on one other) h r f g n =
       let new = scope (put_at t w v) in
       ap (λ x. chosen x (value new one) (value new other)) (tree-same t on h.0 (λ s e k. f s e (inl k)) g n)
-      ∙ ap (λ x. chosen (value (scope v) on) x (value new other)) (tree-same t one h.1 (λ s e k. f s e (inr (inl k))) g n)
-      ∙ ap (chosen (value (scope v) on) (value (scope v) one)) (tree-same t other h.2 (λ s e k. f s e (inr (inr k))) g n)
-  driver-same t (Table to on rows other) h r f g n = ap (table_word rows other) (tree-same t on h f g n)
+      ∙ ap (λ x. chosen (value (scope v) on) x (value new other)) (tree-same t one h.1.0 (λ s e k. f s e (inr (inl k))) g n)
+      ∙ ap (chosen (value (scope v) on) (value (scope v) one)) (tree-same t other h.1.1.0 (λ s e k. f s e (inr (inr (inl k)))) g n)
+  driver-same t (Table to on rows other) h r f g n = ap (table_word rows other) (tree-same t on h.0 (λ s e k. f s e (inl k)) g n)
   driver-same t (Register to e) h r f g n = absurd (cc)
-  driver-same t (Output place e) h r f g n = tree-same t e h f g n
+  driver-same t (Output place e) h r f g n = tree-same t e h.0 (λ s e k. f s e (inl k)) g n

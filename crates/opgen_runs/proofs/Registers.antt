@@ -12,8 +12,9 @@ use Rattle.opgen_design.specs.declared.design.Target.TheVariants.{Signal as sign
 use Rattle.opgen_design.specs.Sound.{IsSound, WidthsAgree, target, signal_widths, at_design}
 use Rattle.opgen_design.specs.Tree.{Tree}
 use Rattle.opgen_design.specs.Value.{value, word_at}
+use Rattle.opgen_design.proofs.ValueLaws.{length-chosen}
 use Rattle.opgen_runs.specs.Evaluate.{HaveWidths, hand_on, hand_all_on}
-use Rattle.opgen_runs.proofs.Widths.{chosen-length, word-length}
+use Rattle.opgen_runs.proofs.Widths.{word-length}
 
 module _ (enable : Option ℕ) where
   -- what a register holds next
@@ -55,7 +56,7 @@ module _ (enable : Option ℕ) where
 moved-length : (enable : Option ℕ) (v : Words) (new held : List Bool) (w : ℕ) → length new ≡ w → length held ≡ w
     → length (moved enable v new held) ≡ w
 moved-length None v new held w h k = h
-moved-length (Some port) v new held w h k = chosen-length (word_at v.ports port) new held w h k
+moved-length (Some port) v new held w h k = length-chosen (word_at v.ports port) new held w h k
 
 -- the widths stay
 module _ (d : Design) (sound : IsSound d) (v : Words) (h : HaveWidths d v) where

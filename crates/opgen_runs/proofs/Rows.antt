@@ -1,23 +1,24 @@
 -- Runs over rows of numbers: a sound design has one, and each step of a simulator is its next row.
-use Rattle.std.proofs.Common.{◌≡◌, ℕ, zero, suc, ◌+◌, ◌*◌, ◌^◌, ◌<◌, ◌≤◌, Bool, true, false, cond, List, [], ◌∷◌, ◌++◌, length, map, take, drop, refl, sym, ap, ◌∙◌, subst, arith, append-nil}
+use Rattle.std.proofs.Common.{◌≡◌, ℕ, zero, suc, ◌+◌, ◌*◌, ◌≤◌, Bool, true, false, cond, List, [], ◌∷◌, ◌++◌, length, map, take, drop, refl, sym, ap, ◌∙◌, subst, arith, append-nil}
 use Rattle.std.specs.Prelude.{All}
 use Rattle.std.specs.List.{concat}
 use Rattle.std.proofs.Math.ListN.{drop_of_length-le}
-use Rattle.std.proofs.lemmas.List.{length-take-le, length-drop, take_all, take_at, drop_at}
+use Rattle.std.proofs.lemmas.List.{length-map, length-take-le, length-drop, take_all, take_at, drop_at}
 use Rattle.std.proofs.lemmas.List.Elements.{All-nil, All-cons}
 use Rattle.opgen_num.specs.WordLaws.{length-word}
 use Rattle.opgen_num.specs.Words.{nat, FitWidths, words_of}
-use Rattle.opgen_num.proofs.Cuts.{take-below}
+use Rattle.opgen_num.proofs.Words.{nat-below}
 use Rattle.opgen_design.specs.declared.design.Design.{Design}
 use Rattle.opgen_design.specs.declared.design.Dir.{Dir}
 use Rattle.opgen_design.specs.declared.design.Port.{Port}
-use Rattle.opgen_design.specs.Run.{Words, Cycle, RunsOn, AreWords, at_ports, is_out, initial_words, input_widths, words_at_outputs}
+use Rattle.opgen_design.specs.Run.{Words, Cycle, RunsOn, AreWords, at_ports, is_out, initial_words, input_widths, output_widths, words_at_outputs}
 use Rattle.opgen_design.specs.Sound.{IsSound, port_widths}
 use Rattle.opgen_runs.specs.Registers.{SameRegisters}
 use Rattle.opgen_runs.specs.Rows.{IsRunOf, RunsRows, output_cells, rows_words}
 use Rattle.opgen_runs.specs.Step.{IsStep}
 use Rattle.opgen_runs.proofs.HasRun.{a-run, run-kept}
 use Rattle.opgen_runs.proofs.OneRun.{runs-one, next-one}
+use Rattle.opgen_runs.proofs.Starts.{at_ports-length}
 
 -- what is made of the items at ports of a direction stands at them
 module _ {X Y : Type 0} (f : X → Y) (is : Dir → Bool) where
@@ -72,8 +73,13 @@ rows-kept d now others rows inputs outputs same run = record {
   outputs_are = run.outputs_are;
 }
 
-pub nat-below : (w : List Bool) → nat w < 2 ^ length w
-nat-below w = subst (λ v. nat v < 2 ^ length w) (take_all (length w) w (omega arith)) (take-below (length w) w)
+-- a number for each output port
+pub length-cells : (d : Design) (now given next : List (List Bool)) (v : Words) → Cycle d now given v next
+    → length (output_cells d v) ≡ length (output_widths d)
+length-cells d now given next v cycle =
+    let widths = map (λ p. p.width) d.ports in
+    let ports : length v.ports ≡ length widths = sym (length-map v.ports length) ∙ ap length cycle.port_widths in
+    length-map (words_at_outputs d v) nat ∙ at_ports-length is_out d.ports v.ports widths ports
 
 nats-fit : (ws : List (List Bool)) → FitWidths (map length ws) (map nat ws)
 nats-fit [] = tt

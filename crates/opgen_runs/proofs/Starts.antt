@@ -18,7 +18,7 @@ use Rattle.opgen_runs.specs.Registers.{SameRegisters}
 abbrev pub start : Signal → List Bool
 start s = unwrap_or s.initial (word s.width 0)
 
-start-length : (o : Option (List Bool)) (w : ℕ) → IfSome o (λ x. length x ≡ w) → length (unwrap_or o (word w 0)) ≡ w
+pub start-length : (o : Option (List Bool)) (w : ℕ) → IfSome o (λ x. length x ≡ w) → length (unwrap_or o (word w 0)) ≡ w
 start-length None w h = length-word w 0
 start-length (Some x) w h = h
 
@@ -45,8 +45,11 @@ same-start (s ∷ ss) zero h = same-unwrap s.initial (word s.width 0) [] (h s re
 same-start (s ∷ ss) (suc i) h = same-start ss i h
 
 module _ (d : Design) (sound : IsSound d) where
+  pub wide-at : (i : ℕ) (s : Signal) → slice_get d.signals i ≡ Some s → IsSignalWide s
+  wide-at i s e = subst (λ o. IfSome o (SignalPasses d Width i)) e (sound.widths (at_signal i))
+
   pub starts-widths : map length (map start d.signals) ≡ signal_widths d
-  starts-widths = starts d.signals (λ i s e. subst (λ o. IfSome o (SignalPasses d Width i)) e (sound.widths (at_signal i)))
+  starts-widths = starts d.signals wide-at
 
   pub starts-registers : SameRegisters d (map start d.signals) (initial_words d.signals)
   starts-registers i to e g = same-start d.signals to

@@ -6,6 +6,7 @@ use Rattle.std.proofs.lemmas.List.Elements.{All-cons}
 use Rattle.std.proofs.lemmas.List.{length-map, ext_get_or}
 use Rattle.std.proofs.lemmas.Option.{slice_get_within, get_or_from_slice_get}
 use Rattle.opgen_num.specs.Words.{nat}
+use Rattle.opgen_num.proofs.Words.{same-word}
 use Rattle.opgen_design.specs.declared.design.Design.{Design}
 use Rattle.opgen_design.specs.declared.design.Dir.{Dir}
 use Rattle.opgen_design.specs.declared.design.Dir.TheVariants.{In, Out}
@@ -21,10 +22,10 @@ use Rattle.opgen_design.specs.Tree.{Tree, Trees, name, part, bits, port, inverse
 use Rattle.opgen_design.specs.Value.{value, chosen, word_at}
 use Rattle.opgen_design.proofs.SoundLaws.{contains-at}
 use Rattle.opgen_design.proofs.ValueLaws.{same_value}
+use Rattle.opgen_design.proofs.NameWalk.{some-item}
 use Rattle.opgen_runs.specs.Evaluate.{HaveWidths, table_word}
-use Rattle.opgen_runs.proofs.Cycles.{same-word, at-first, past-first}
+use Rattle.opgen_runs.proofs.Cycles.{at-first, past-first}
 use Rattle.opgen_runs.proofs.Widths.{agree-at, long, words-eq}
-use Rattle.opgen_runs.proofs.Reading.{there-some}
 
 module _ (P Q R : ℕ → Type 0) where
   mutual
@@ -68,7 +69,7 @@ cons-tail : (b : Dir) (x y : List Bool) (xs ys : List (List Bool)) → (if is_in
 cons-tail In x y xs ys h = cc
 cons-tail Out x y xs ys h = h
 
-same-inputs : (ps : List Port) (xs ys : List (List Bool)) → length xs ≡ length ps → length ys ≡ length ps → at_ports is_in ps xs
+pub same-inputs : (ps : List Port) (xs ys : List (List Bool)) → length xs ≡ length ps → length ys ≡ length ps → at_ports is_in ps xs
     ≡ at_ports is_in ps ys → (i : ℕ) (q : Port) → slice_get ps i ≡ Some q → q.dir ≡ In → get_or xs i [] ≡ get_or ys i []
 same-inputs [] xs ys l m h i q e f = absurd (cc)
 same-inputs (p ∷ ps) [] ys l m h i q e f = absurd (omega (arith, l))
@@ -83,28 +84,29 @@ past [] i l = refl
 past (x ∷ xs) zero l = absurd (omega (arith, l))
 past (x ∷ xs) (suc i) l = past xs i (omega (arith, l))
 
+-- a word for each signal and each port, in each cycle
+signals-many : {d : Design} {now given next : List (List Bool)} {v : Words} → Cycle d now given v next → length v.signals ≡ length d.signals
+signals-many {d} {v = v} h = sym (length-map v.signals length) ∙ ap length h.signal_widths ∙ length-map d.signals (λ p. p.width)
+
+ports-many : {d : Design} {now given next : List (List Bool)} {v : Words} → Cycle d now given v next → length v.ports ≡ length d.ports
+ports-many {d} {v = v} h = sym (length-map v.ports length) ∙ ap length h.port_widths ∙ length-map d.ports (λ p. p.width)
+
+-- the equation of a driver in a cycle
+pub meets : {d : Design} {now given next : List (List Bool)} {v : Words} → Cycle d now given v next → (i : ℕ) (x : Driver)
+    → slice_get d.drivers i ≡ Some x → Meets d.enable now v next x
+meets {d} {now} {next = next} {v = v} h i x e = subst (Meets d.enable now v next) (get_or_from_slice_get d.drivers i x x e)
+    (h.equations i x (slice_get_within d.drivers i x e))
+
 abbrev pub IsInputAt : Design → ℕ → Type 0
 IsInputAt d p = IfSome (slice_get d.ports p) (λ q. q.dir ≡ In)
 
 module _ (d : Design) (sound : IsSound d) (now others given : List (List Bool)) (v u : Words) (next after : List (List Bool))
     (h : Cycle d now given v next) (k : Cycle d others given u after) where
-  v-signals : length v.signals ≡ length d.signals
-  v-signals = sym (length-map v.signals length) ∙ ap length h.signal_widths ∙ length-map d.signals (λ p. p.width)
-
-  u-signals : length u.signals ≡ length d.signals
-  u-signals = sym (length-map u.signals length) ∙ ap length k.signal_widths ∙ length-map d.signals (λ p. p.width)
-
-  v-ports : length v.ports ≡ length d.ports
-  v-ports = sym (length-map v.ports length) ∙ ap length h.port_widths ∙ length-map d.ports (λ p. p.width)
-
-  u-ports : length u.ports ≡ length d.ports
-  u-ports = sym (length-map u.ports length) ∙ ap length k.port_widths ∙ length-map d.ports (λ p. p.width)
-
   same-port : (p : ℕ) → IsInputAt d p → word_at v.ports p ≡ word_at u.ports p
   same-port p r = elim (cases_lt p (length d.ports)) [
-    | inl l ↦ let q = there-some d.ports p l in same-inputs d.ports v.ports u.ports v-ports u-ports (h.inputs ∙ sym k.inputs) p q.0 q.1
+    | inl l ↦ let q = some-item d.ports p l in same-inputs d.ports v.ports u.ports (ports-many h) (ports-many k) (h.inputs ∙ sym k.inputs) p q.0 q.1
         (subst (λ o. IfSome o (λ q. q.dir ≡ In)) q.1 r)
-    | inr l ↦ past v.ports p (omega (arith, l, v-ports)) ∙ sym (past u.ports p (omega (arith, l, u-ports)))
+    | inr l ↦ past v.ports p (omega (arith, l, ports-many h)) ∙ sym (past u.ports p (omega (arith, l, ports-many k)))
   ]
 
   -- an expression over signals that agree
@@ -126,12 +128,12 @@ module _ (d : Design) (sound : IsSound d) (now others given : List (List Bool)) 
       ≡ Some x → ReadsInputs d x → ((r : ℕ) → Needs r x → P r)
       → ((to : ℕ) (e : Tree) → x ≡ Register to e → word_at now to ≡ word_at others to)
       → Meets d.enable now v next x → Meets d.enable others u after x → At (target x)
-  driver-one P below (Assign to e) i g a f held m w = m ∙ tree-one P below e a f ∙ sym w
+  driver-one P below (Assign to e) i g a f held m w = m ∙ tree-one P below e a.0 (λ r z. f r (inl z)) ∙ sym w
   driver-one P below (Choice to on one other) i g a f held m w =
       m
       ∙ ap (λ x. chosen x (value (scope v) one) (value (scope v) other)) (tree-one P below on a.0 (λ r z. f r (inl z)))
-      ∙ ap (λ x. chosen (value (scope u) on) x (value (scope v) other)) (tree-one P below one a.1 (λ r z. f r (inr (inl z))))
-      ∙ ap (chosen (value (scope u) on) (value (scope u) one)) (tree-one P below other a.2 (λ r z. f r (inr (inr z))))
+      ∙ ap (λ x. chosen (value (scope u) on) x (value (scope v) other)) (tree-one P below one a.1.0 (λ r z. f r (inr (inl z))))
+      ∙ ap (chosen (value (scope u) on) (value (scope u) one)) (tree-one P below other a.1.1.0 (λ r z. f r (inr (inr (inl z)))))
       ∙ sym w
   driver-one P below (Table to on rows other) i g a f held m w =
       let z = agree-at d sound i (Table to on rows other) g in
@@ -140,22 +142,14 @@ module _ (d : Design) (sound : IsSound d) (now others given : List (List Bool)) 
       (get_or_from_slice_get rows j q q e) (z.0 j q (slice_get_within rows j q e))).0 in
       table-is rows other (value (scope v) on) (word_at v.signals to)
       (lens v (record { signals = h.signal_widths; ports = h.port_widths }) on rows wide) m
-      ∙ ap (table_word rows other) (tree-one P below on a f)
+      ∙ ap (table_word rows other) (tree-one P below on a.0 (λ r z. f r (inl z)))
       ∙ sym (table-is rows other (value (scope u) on) (word_at u.signals to)
       (lens u (record { signals = k.signal_widths; ports = k.port_widths }) on rows wide) w)
   driver-one P below (Register to e) i g a f held m w = m.0 ∙ held to e refl ∙ sym w.0
-  driver-one P below (Output place e) i g a f held m w = m ∙ tree-one P below e a f ∙ sym w
+  driver-one P below (Output place e) i g a f held m w = m ∙ tree-one P below e a.0 (λ r z. f r (inl z)) ∙ sym w
 
   pub reads-inputs : (i : ℕ) (x : Driver) → slice_get d.drivers i ≡ Some x → ReadsInputs d x
   reads-inputs i x e = subst (λ o. IfSome o (DriverPasses d ReadsOutput i)) e (sound.reads_inputs (at_driver i))
-
-  pub meets-v : (i : ℕ) (x : Driver) → slice_get d.drivers i ≡ Some x → Meets d.enable now v next x
-  meets-v i x e = subst (Meets d.enable now v next) (get_or_from_slice_get d.drivers i x x e)
-      (h.equations i x (slice_get_within d.drivers i x e))
-
-  pub meets-u : (i : ℕ) (x : Driver) → slice_get d.drivers i ≡ Some x → Meets d.enable others u after x
-  meets-u i x e = subst (Meets d.enable others u after) (get_or_from_slice_get d.drivers i x x e)
-      (k.equations i x (slice_get_within d.drivers i x e))
 
   at-driver : (P : ℕ → Type 0) → ((r : ℕ) → P r → word_at v.signals r ≡ word_at u.signals r) → (t : Target) → IsDriven d t
       → ((x : Driver) → Contains d.drivers x → target x ≡ t → (r : ℕ) → Needs r x → P r)
@@ -165,7 +159,7 @@ module _ (d : Design) (sound : IsSound d) (now others given : List (List Bool)) 
       let register : (to : ℕ) (e : Tree) → y.0 ≡ Register to e → word_at now to ≡ word_at others to
       = λ to e is. held c.0 to e (c.1 ∙ ap Some is) (sym y.2 ∙ ap target is) in
       subst At y.2 (driver-one P below y.0 c.0 c.1 (reads-inputs c.0 y.0 c.1) (f y.0 y.1 y.2) register
-      (meets-v c.0 y.0 c.1) (meets-u c.0 y.0 c.1))
+      (meets h c.0 y.0 c.1) (meets k c.0 y.0 c.1))
 
   -- a signal over signals that agree, if a register of it held the same word
   pub signal-one : (P : ℕ → Type 0) → ((r : ℕ) → P r → word_at v.signals r ≡ word_at u.signals r) → (s : ℕ)
@@ -174,32 +168,37 @@ module _ (d : Design) (sound : IsSound d) (now others given : List (List Bool)) 
       → word_at v.signals s ≡ word_at u.signals s
   signal-one P below s f held = elim (cases_lt s (length d.signals)) [
     | inl m ↦
-        let x = there-some d.signals s m in
+        let x = some-item d.signals s m in
         at-driver P below (signal s) (subst (λ o. IfSome o (SignalPasses d NotDriven s)) x.1 (sound.driven (at_signal s))) f
         (λ i to e g t.
         let is : to ≡ s = cc in
         subst (λ n. word_at now n ≡ word_at others n) (sym is)
         (held i e (subst (λ n. slice_get d.drivers i ≡ Some (Register n e)) is g)))
-    | inr m ↦ past v.signals s (omega (arith, m, v-signals)) ∙ sym (past u.signals s (omega (arith, m, u-signals)))
+    | inr m ↦ past v.signals s (omega (arith, m, signals-many h)) ∙ sym (past u.signals s (omega (arith, m, signals-many k)))
   ]
 
-  module _ (signals-one : (r : ℕ) → word_at v.signals r ≡ word_at u.signals r) where
-    ports-one : (p : ℕ) → word_at v.ports p ≡ word_at u.ports p
-    ports-one p = elim (cases_lt p (length d.ports)) [
-      | inl l ↦ let q = there-some d.ports p l in by-dir q.0.dir p q.0 q.1 refl
-      | inr l ↦ past v.ports p (omega (arith, l, v-ports)) ∙ sym (past u.ports p (omega (arith, l, u-ports)))
+  -- the ports over signals that agree, if the outputs read no others
+  module _ (P : ℕ → Type 0) (agree : (r : ℕ) → P r → word_at v.signals r ≡ word_at u.signals r)
+      (reads : (p : ℕ) (x : Driver) → Contains d.drivers x → target x ≡ port_of p → (r : ℕ) → Needs r x → P r) where
+    port-one : (p : ℕ) → word_at v.ports p ≡ word_at u.ports p
+    port-one p = elim (cases_lt p (length d.ports)) [
+      | inl l ↦ let q = some-item d.ports p l in by-dir q.0.dir p q.0 q.1 refl
+      | inr l ↦ past v.ports p (omega (arith, l, ports-many h)) ∙ sym (past u.ports p (omega (arith, l, ports-many k)))
     ]
       where
         by-dir : (b : Dir) (p : ℕ) (q : Port) → slice_get d.ports p ≡ Some q → q.dir ≡ b → word_at v.ports p ≡ word_at u.ports p
         by-dir In p q g e = same-port p (subst (λ o. IfSome o (λ q. q.dir ≡ In)) (sym g) e)
         by-dir Out p q g e =
-            at-driver (λ r. Unit {0}) (λ r z. signals-one r) (port_of p)
-            (subst (λ o. IfSome o (PortPasses d NotDriven p)) g (sound.driven (at_port p)) e) (λ x c t r z. tt)
+            at-driver P agree (port_of p) (subst (λ o. IfSome o (PortPasses d NotDriven p)) g (sound.driven (at_port p)) e) (reads p)
             (λ i to e g t. absurd (cc))
 
+    pub ports-one : v.ports ≡ u.ports
+    ports-one = ext_get_or [] v.ports u.ports (ports-many h ∙ sym (ports-many k)) (λ i l. port-one i)
+
+  module _ (signals-one : (r : ℕ) → word_at v.signals r ≡ word_at u.signals r) where
     -- with all signals all words agree
     pub words-one : v ≡ u
     words-one =
         words-eq v.signals v.ports u
-        (ext_get_or [] v.signals u.signals (v-signals ∙ sym u-signals) (λ i l. signals-one i))
-        (ext_get_or [] v.ports u.ports (v-ports ∙ sym u-ports) (λ i l. ports-one i))
+        (ext_get_or [] v.signals u.signals (signals-many h ∙ sym (signals-many k)) (λ i l. signals-one i))
+        (ports-one (λ r. Unit {0}) (λ r z. signals-one r) (λ p x c t r z. tt))

@@ -12,12 +12,13 @@ use Rattle.opgen_design.specs.declared.design.Driver.{Driver}
 use Rattle.opgen_design.specs.declared.design.Driver.TheVariants.{Assign, Choice, Table, Register, Output}
 use Rattle.opgen_design.specs.Run.{Words, scope}
 use Rattle.opgen_design.specs.Tree.{Tree}
-use Rattle.opgen_design.specs.Value.{value, chosen, IsWidth, width}
+use Rattle.opgen_design.specs.Value.{value, IsWidth, width}
 use Rattle.opgen_design.specs.declared.design.Target.{Target}
 use Rattle.opgen_design.specs.declared.design.Target.TheVariants.{Signal as signal, Port as port_of}
 use Rattle.opgen_design.specs.declared.sound.Rule.TheVariants.{Width}
 use Rattle.opgen_design.specs.Sound.{IsSound, target, Names, HasWidth, WidthsAgree, SignalPasses, DriverPasses, signal_widths, port_widths, at_signal, at_driver}
 use Rattle.opgen_design.proofs.SoundLaws.{declared-at}
+use Rattle.opgen_design.proofs.ValueLaws.{length-chosen}
 use Rattle.opgen_runs.specs.Fitting.{AreNarrow, Fits}
 use Rattle.opgen_runs.specs.Evaluate.{DriverFits, HaveWidths, IsThere, driver_word, table_word, put_at, put, put_option, settle}
 use Rattle.opgen_runs.specs.Tables.{row_word}
@@ -27,13 +28,7 @@ pub words-eq : (signals ports : List (List Bool)) (v : Words) → signals ≡ v.
     → record { signals = signals; ports = ports } ≡ v
 words-eq signals ports v e f = ap (λ s. record { signals = s; ports = ports }) e ∙ ap (λ p. record { signals = v.signals; ports = p }) f
 
-pub chosen-length : (on one other : List Bool) (w : ℕ) → length one ≡ w → length other ≡ w → length (chosen on one other) ≡ w
-chosen-length [] one other w h k = k
-chosen-length (true ∷ []) one other w h k = h
-chosen-length (true ∷ x ∷ xs) one other w h k = k
-chosen-length (false ∷ xs) one other w h k = k
-
-found-length : (b : Bool) (word other : List Bool) (found : Option (List Bool)) (w : ℕ) → length word ≡ w → length (unwrap_or found other)
+pub found-length : (b : Bool) (word other : List Bool) (found : Option (List Bool)) (w : ℕ) → length word ≡ w → length (unwrap_or found other)
     ≡ w → length (unwrap_or (if b then Some word else found) other) ≡ w
 found-length true word other found w h k = h
 found-length false word other found w h k = k
@@ -95,7 +90,7 @@ module _ (d : Design) (sound : IsSound d) where
 
     pub word-length : (k : Driver) → WidthsAgree d k → length (driver_word (scope v) k) ≡ width_of (target k)
     word-length (Assign to e) a = long e (slice_index (signal_widths d) to) a
-    word-length (Choice to on one other) a = chosen-length (value (scope v) on) (value (scope v) one) (value (scope v) other)
+    word-length (Choice to on one other) a = length-chosen (value (scope v) on) (value (scope v) one) (value (scope v) other)
         (slice_index (signal_widths d) to) (long one (slice_index (signal_widths d) to) a.1)
         (long other (slice_index (signal_widths d) to) a.2)
     word-length (Table to on rows other) a = table-length rows other (value (scope v) on) (slice_index (signal_widths d) to)

@@ -4,7 +4,7 @@
 //! each list of inputs of its ports' widths. An order in which the drivers of a sound design are evaluated; the answer
 //! for a design of 2^32 or more ports, signals and drivers together is out of memory.
 //!
-//! By: `value`, `cut`, `evaluation_order`; the law `one_run` of `opgen_part_laws`.
+//! By: `value`, `cut`, `chosen`, `evaluation_order`; the law `one_run` of `opgen_part_laws`.
 #![tactic(auto)]
 
 mod evaluate;
@@ -13,4 +13,4 @@ mod words;
 
 pub use evaluate::value;
 pub use order::evaluation_order;
-pub use words::cut;
+pub use words::{chosen, cut};

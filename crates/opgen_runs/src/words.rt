@@ -2,7 +2,7 @@
 ghost use Rattle.std.specs.Prelude.{ℕ, ◌≡◌, ◌+◌, ◌-◌, ◌<◌, ◌≤◌, ◌++◌, ◌&&◌, ◌||◌, Some, false, true, length, map, not};
 ghost use Rattle.opgen_num.specs.declared.format.TheConstants.{MAX_WIDTH};
 ghost use Rattle.opgen_num.specs.Words.{pairwise, sum_with, xor, digit};
-ghost use Rattle.opgen_design.specs.Value.{combined, cut, joined};
+ghost use Rattle.opgen_design.specs.Value.{chosen, combined, cut, joined};
 
 use opgen_design::Op;
 use opgen_num::{Word, power};
@@ -41,6 +41,17 @@ fn different(first: Word, second: Word) -> Word
     ensures { result ≡ pairwise xor first second }
 {
     Word::new(first.bits() ^ second.bits(), first.width())
+}
+
+/// The first word where the condition is the bit 1, and else the second.
+pub fn chosen(on: Word, first: Word, second: Word) -> Word
+    ensures { result ≡ chosen on first second }
+{
+    if on.width() == 1 && on.bits() == 1 {
+        first
+    } else {
+        second
+    }
 }
 
 // The first stands highest.

@@ -1,26 +1,19 @@
 -- The bits of a word, joined by one operator, and what they say of its number.
-use Rattle.std.proofs.Common.{◌≡◌, ℕ, zero, suc, ◌+◌, ◌-◌, ◌*◌, ◌^◌, ◌<◌, ◌≤◌, Bool, true, false, List, [], ◌∷◌, ◌++◌, length, map, take, drop, not, ◌&&◌, ◌||◌, if◌then◌else◌, refl, sym, ap, ◌∙◌, arith}
+use Rattle.std.proofs.Common.{◌≡◌, ℕ, zero, suc, ◌+◌, ◌*◌, ◌^◌, ◌<◌, ◌≤◌, Bool, true, false, List, [], ◌∷◌, ◌++◌, length, map, take, drop, not, ◌&&◌, ◌||◌, if◌then◌else◌, refl, sym, ap, ◌∙◌, arith}
 use Rattle.std.specs.Prelude.{slice_index_or}
 use Rattle.std.proofs.Math.Nat.{two-pow-succ}
 use Rattle.std.proofs.Math.Seq.{take-suc}
 use Rattle.std.proofs.lemmas.List.{get_or-drop, length-drop, length-take-le}
 use Rattle.std.proofs.lemmas.Nat.{pow_pos}
+use Rattle.std.proofs.Math.Bool.{or-false}
+use Rattle.opgen_net.proofs.WordLaws.{cut-one}
 use Rattle.opgen_num.specs.Words.{digit, nat, pairwise}
 use Rattle.opgen_num.proofs.Cuts.{nat-append, take-below}
 use Rattle.opgen_design.specs.declared.expr.Op.TheVariants.{And, Or}
 use Rattle.opgen_design.specs.Plain.{trees_of}
 use Rattle.opgen_design.specs.Tree.{Tree, chain}
-use Rattle.opgen_design.specs.Value.{Scope, value, value_on, cut}
+use Rattle.opgen_design.specs.Value.{Scope, value, value_on}
 use Rattle.opgen_saturate.specs.Recipe.{bit_of, operands, joined, differs}
-
--- one bit of a word
-pub one_bit : (w : List Bool) (p : ℕ) → p < length w → cut p p w ≡ slice_index_or w p false ∷ []
-one_bit w p h = let e : p + 1 - p ≡ suc zero = omega arith in ap (λ n. take n (drop p w)) e ∙ first w p h
-  where
-    first : (w : List Bool) (p : ℕ) → p < length w → take (suc zero) (drop p w) ≡ slice_index_or w p false ∷ []
-    first [] p h = absurd (omega (arith, h))
-    first (b ∷ w) zero h = refl
-    first (b ∷ w) (suc p) h = first w p (omega (arith, h))
 
 -- one of so many truths from a place up, and all of them
 abbrev pub any_at : (holds : ℕ → Bool) → (low count : ℕ) → Bool
@@ -83,10 +76,6 @@ pub or_or : (a b r : Bool) → (a || b) || r ≡ a || (b || r)
 or_or true b r = refl
 or_or false b r = refl
 
-pub or_none : (a : Bool) → a || false ≡ a
-or_none true = refl
-or_none false = refl
-
 pub and_and : (a b r : Bool) → (a && b) && r ≡ a && (b && r)
 and_and true b r = refl
 and_and false b r = refl
@@ -102,7 +91,7 @@ module _ (s : Scope) (operand : ℕ → Tree) (holds : ℕ → Bool) (low : ℕ)
   AreOne count = (p : ℕ) → low ≤ p → p < low + count → value s (operand p) ≡ holds p ∷ []
 
   on_or : (k : ℕ) (a : Bool) → AreOne k → value_on s Or (a ∷ []) (trees_of (operands operand low k)) ≡ (a || any_at holds low k) ∷ []
-  on_or zero a one = ap (λ c. c ∷ []) (sym (or_none a))
+  on_or zero a one = ap (λ c. c ∷ []) (sym (or-false a))
   on_or (suc k) a one =
       let b = holds (low + k) in
       ap (λ v. value_on s Or (pairwise ◌||◌ (a ∷ []) v) (trees_of (operands operand low k))) (one (low + k) (omega arith) (omega arith))
@@ -142,16 +131,16 @@ module _ (s : Scope) (n low : ℕ) where
   at_start = let e : low ≡ low + 0 = omega arith in ap bit e
 
   ones : (count : ℕ) → low + count ≤ length w → AreOne s (bit_of n) bit low count
-  ones count h p lower upper = one_bit w p (omega (arith, upper, h))
+  ones count h p lower upper = cut-one w p (omega (arith, upper, h))
 
   or-value : (count : ℕ) → 1 ≤ count → low + count ≤ length w → value s (joined Or n low count) ≡ any_of w low count ∷ []
   or-value zero some h = absurd (omega (arith, some))
-  or-value (suc zero) some h = one_bit w low (omega (arith, h)) ∙ ap (λ c. c ∷ []) (at_start ∙ sym (or_none (bit (low + 0))))
+  or-value (suc zero) some h = cut-one w low (omega (arith, h)) ∙ ap (λ c. c ∷ []) (at_start ∙ sym (or-false (bit (low + 0))))
   or-value (suc (suc k)) some h = chain_or s (bit_of n) bit low (suc k) (ones (suc (suc k)) h)
 
   and-value : (count : ℕ) → 1 ≤ count → low + count ≤ length w → value s (joined And n low count) ≡ all_of w low count ∷ []
   and-value zero some h = absurd (omega (arith, some))
-  and-value (suc zero) some h = one_bit w low (omega (arith, h)) ∙ ap (λ c. c ∷ []) (at_start ∙ sym (and_none (bit (low + 0))))
+  and-value (suc zero) some h = cut-one w low (omega (arith, h)) ∙ ap (λ c. c ∷ []) (at_start ∙ sym (and_none (bit (low + 0))))
   and-value (suc (suc k)) some h = chain_and s (bit_of n) bit low (suc k) (ones (suc (suc k)) h)
 
   pub differs-value : (both : Bool) (count : ℕ) → 1 ≤ count → low + count ≤ length w

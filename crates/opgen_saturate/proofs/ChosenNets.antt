@@ -8,10 +8,11 @@ use Rattle.opgen_net.specs.declared.net.Output.{Output}
 use Rattle.opgen_net.specs.Flow.{Inputs, slice_flow}
 use Rattle.opgen_net.specs.Valid.{input_widths, slice_width}
 use Rattle.opgen_num.specs.declared.format.Format.{Format}
+use Rattle.opgen_num.specs.declared.mode.Overflow.TheVariants.{Saturate}
 use Rattle.opgen_num.specs.Words.{val}
 use Rattle.opgen_operator.specs.declared.spec.Spec.{Spec}
 use Rattle.opgen_operator.specs.Fits.{FitsInEachMode, FitsOperator, FitsSpec, name_and_width}
-use Rattle.opgen_operator.specs.Operator.{operator_outputs, plain_output, exact_value, IsGoodOf}
+use Rattle.opgen_operator.specs.Operator.{operator_outputs, memory, plain_output, exact_value, IsGoodOf}
 use Rattle.opgen_operator.specs.Outputs.{inputs_of, outputs_of, IsGood, IsGoodBy, IsGoodCut, IsInRange, mode_of, recent_words, output_words}
 use Rattle.opgen_operator.specs.Valid.{IsValidSpec}
 use Rattle.opgen_operator.proofs.Operators.{only_output, plain_is, some_value, value_good, value_positive}
@@ -82,21 +83,26 @@ module _ (spec : Spec) (net : Net) (valid : IsValidSpec spec) (fits : FitsOperat
       subst (λ is. All (AreWords (map (λ (i : List ℕ × ℕ). i.1) is)) inputs) all.saturates.inputs words in
       let good : IsGoodOf (mode_of spec) spec.op ins plain = fits.good inputs t before below in_range in
       let (v, value) = some_value spec.op ins (choice spec valid width is).1 in
-      let rated = value_good (mode_of spec) spec.op ins plain v value good in
-      let some = value_positive spec.op ins v valid.op.ranges value in
+      let rated = value_good (mode_of spec) spec.op ins plain v valid.mode.agrees value good in
+      let some = value_positive spec.op ins v valid.op.ranges in_range value in
       let kept : IsGoodSaturated (mode_of spec) to v.num v.den (saturated to (plain 0)) = keeps_good (mode_of spec) to v.num v.den (plain 0) some rated in
       let y = val (first_word made inputs (pos t)) to in
       let number : y ≡ saturated to (plain 0) = all.saturates.number inputs (pos t) before in
-      let cut : IsGoodCut (mode_of spec) to (Some v) y = subst (λ n. IsGoodSaturated (mode_of spec) to v.num v.den n) (sym number) kept in
-      let judged : IsGoodCut (mode_of spec) to (exact_value spec.op ins) y = subst (λ o. IsGoodCut (mode_of spec) to o y) (sym value) cut in
+      let cut : IsGoodCut Saturate (mode_of spec) from to (Some v) y =
+      subst (λ n. IsGoodSaturated (mode_of spec) to v.num v.den n) (sym number) kept in
+      let judged : IsGoodCut Saturate (mode_of spec) from to (exact_value spec.op ins) y =
+      subst (λ o. IsGoodCut Saturate (mode_of spec) from to o y) (sym value) cut in
+      let chosen : IsGoodCut spec.overflow (mode_of spec) from to (exact_value spec.op ins) y =
+      subst (λ o. IsGoodCut o (mode_of spec) from to (exact_value spec.op ins) y) (sym valid.overflow) judged in
       subst (λ w. IsGoodBy w spec ins (output_words (outputs_of spec) (map (λ o. slice_flow made.nodes inputs o.from (pos t)) made.outputs)))
-      (sym is) judged
+      (sym is) chosen
 
   pub saturated_fits : FitsSpec spec made
   saturated_fits = record {
     valid = all.valid;
     inputs = all.saturates.inputs ∙ fits.inputs;
     outputs = all.saturates.outputs ∙ alone.other to ∙ sym (ap (map name_and_width) (outputs_are spec valid width is));
+    delays = all.passes (memory spec.op) fits.delays;
     good = cut_good;
   }
 

@@ -1,19 +1,18 @@
 -- The bits that are dropped, and the choice that the test makes.
-use Rattle.std.proofs.Common.{◌≡◌, ℕ, ◌+◌, ◌-◌, ◌<◌, ◌≤◌, min, cond, Bool, true, false, List, [], ◌∷◌, length, take, ◌&&◌, if◌then◌else◌, nat_le, refl, sym, ap, ◌∙◌, arith}
+use Rattle.std.proofs.Common.{◌≡◌, ℕ, ◌-◌, ◌<◌, ◌≤◌, min, cond, Bool, true, false, List, [], ◌∷◌, ◌&&◌, if◌then◌else◌, nat_le, refl, sym, ◌∙◌, arith}
 use Rattle.std.specs.Prelude.{ℤ, ◌<ℤ◌, ◌≤ℤ◌}
-use Rattle.std.proofs.Math.Seq.{take-length}
 use Rattle.std.proofs.lemmas.Bool.{leb-false, leb-true}
 use Rattle.std.proofs.lemmas.Int.{ints}
 use Rattle.opgen_num.specs.declared.format.Format.{Format}
 use Rattle.opgen_num.specs.Formats.{Holds, IsWidthOf}
 use Rattle.opgen_num.specs.Words.{val}
 use Rattle.opgen_num.proofs.BitLength.{power_order}
-use Rattle.opgen_design.specs.Value.{cut, chosen}
+use Rattle.opgen_design.specs.Value.{chosen}
 use Rattle.opgen_ports.specs.Good.{into_range, least_of, greatest_of, saturated}
 use Rattle.opgen_saturate.specs.Recipe.{is_wider, first_dropped, counting, least_word, greatest_word}
 use Rattle.opgen_ports.proofs.Clamped.{Lies, under, over, inside, lies}
+use Rattle.opgen_ports.proofs.InputPorts.{some_bits}
 use Rattle.opgen_saturate.proofs.Outside.{Tells}
-use Rattle.opgen_saturate.proofs.Resized.{some_bits}
 
 -- where the other format does not hold every number, there are bits to drop
 pub dropped-within : (format to : Format) → IsWidthOf format.signed format.width → is_wider format to ≡ false
@@ -50,10 +49,6 @@ becomes_greatest low high n some f = go (lies low high n)
     go (under h e) = absurd (omega (arith, ints, h, f, some))
     go (over k h e) = e
     go (inside k h e) = absurd (omega (arith, ints, h, f))
-
--- the bits of a word of so many
-pub all-bits : (v : List Bool) (m : ℕ) → 1 ≤ m → length v ≡ m → cut (m - 1) 0 v ≡ v
-all-bits v m some e = let long : m - 1 + 1 - 0 ≡ length v = omega (arith, some, e) in ap (λ n. take n v) long ∙ take-length v
 
 -- what is chosen by the test and the sign is the number brought into the range
 module _ (to : Format) (n : ℤ) (some : least_of to ≤ℤ greatest_of to) (least-is : val (least_word to) to ≡ least_of to)

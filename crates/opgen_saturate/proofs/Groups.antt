@@ -1,8 +1,9 @@
 -- What groups of bits say together of all their bits.
 use Rattle.std.proofs.Common.{◌≡◌, ℕ, zero, suc, ◌+◌, ◌-◌, ◌≤◌, ◌<◌, Bool, true, false, List, not, ◌&&◌, ◌||◌, refl, sym, ap, ◌∙◌, arith}
 use Rattle.std.specs.Prelude.{slice_index_or}
+use Rattle.std.proofs.Math.Bool.{or-false}
 use Rattle.opgen_saturate.specs.Recipe.{stride, followed, joins, share}
-use Rattle.opgen_saturate.proofs.Bits.{any_at, all_at, any_of, all_of, differ, or_none, and_none, or_or, and_and}
+use Rattle.opgen_saturate.proofs.Bits.{any_at, all_at, any_of, all_of, differ, and_none, or_or, and_and}
 
 module _ (holds : ℕ → Bool) where
   pub any-split : (low a b n : ℕ) → n ≡ a + b → any_at holds low n ≡ any_at holds (low + a) b || any_at holds low a
@@ -24,7 +25,7 @@ module _ (holds : ℕ → Bool) where
       ∙ sym (and_and (holds ((low + a) + b)) (all_at holds (low + a) b) (all_at holds low a))
 
   pub any-one : (low : ℕ) → any_at holds low (suc zero) ≡ holds low
-  any-one low = let e : low + zero ≡ low = omega arith in or_none (holds (low + zero)) ∙ ap holds e
+  any-one low = let e : low + zero ≡ low = omega arith in or-false (holds (low + zero)) ∙ ap holds e
 
   all-one : (low : ℕ) → all_at holds low (suc zero) ≡ holds low
   all-one low = let e : low + zero ≡ low = omega arith in and_none (holds (low + zero)) ∙ ap holds e

@@ -1,6 +1,7 @@
 -- The node of the least or the greatest number.
 use Rattle.std.proofs.Common.{◌≡◌, ℕ, ◌+◌, ◌-◌, ◌^◌, ◌<◌, ◌≤◌, cond, Bool, true, false, List, [], ◌∷◌, length, length-append, ◌&&◌, if◌then◌else◌, refl, sym, ap, ◌∙◌, subst, arith}
 use Rattle.std.specs.Prelude.{ℤ, All, slice_index, slice_index_or}
+use Rattle.opgen_ports.proofs.InputPorts.{some_bits}
 use Rattle.opgen_num.specs.declared.format.Format.{Format}
 use Rattle.opgen_num.specs.Words.{highest}
 use Rattle.opgen_num.specs.WordLaws.{length-word}
@@ -17,13 +18,11 @@ use Rattle.opgen_net.proofs.Appending.{flow-append_last, width-append_last}
 use Rattle.opgen_net.proofs.FlowWidths.{flow-width}
 use Rattle.opgen_net.proofs.Grown.{grown-flow, grown-width}
 use Rattle.opgen_net.proofs.Later.{Later, later-then, later-node}
+use Rattle.opgen_net.proofs.WordLaws.{cut-one, all-bits}
 use Rattle.opgen_saturate.specs.Recipe.{bit_of, least_word, greatest_word, counting, with_sign, with_ends, with_limit}
 use Rattle.opgen_saturate.specs.Saturates.{AreFormats}
-use Rattle.opgen_saturate.proofs.Bits.{one_bit}
 use Rattle.opgen_saturate.proofs.Expressions.{bit-fits}
 use Rattle.opgen_saturate.proofs.Outside.{is_below_zero, highest-at}
-use Rattle.opgen_saturate.proofs.Resized.{some_bits}
-use Rattle.opgen_saturate.proofs.Decision.{all-bits}
 
 -- a net that has grown by a node that has at every time the number that a value outside becomes
 pub record HasLimit (net : Net) (node : ℕ) (format to : Format) (limit : Placed) : Type 0 where
@@ -152,7 +151,7 @@ module _ (net : Net) (node : ℕ) (format to : Format) (valid : IsValid net) (ar
     sign-word =
         grown-flow one three (later-then one two three two-after three-after).grown inputs n t (omega (arith, at_one))
         ∙ flow-append_last net.nodes sign_node inputs t
-        ∙ one_bit v (w - 1) (omega (arith, long, few))
+        ∙ cut-one v (w - 1) (omega (arith, long, few))
         ∙ ap (λ k. slice_index_or v (k - 1) false ∷ []) (sym long)
         ∙ ap (λ b. b ∷ []) (sym (highest-at v (omega (arith, long, few))))
 

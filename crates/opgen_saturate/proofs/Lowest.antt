@@ -17,10 +17,11 @@ use Rattle.opgen_net.proofs.FlowWidths.{flow-width}
 use Rattle.opgen_net.proofs.Later.{Later, bits-later, words-later}
 use Rattle.opgen_net.proofs.WordLaws.{word-has_bits, word-found_width}
 use Rattle.opgen_ports.specs.Good.{least_of, greatest_of}
+use Rattle.opgen_ports.proofs.InputPorts.{some_bits}
 use Rattle.opgen_saturate.specs.Recipe.{is_wider, resized}
 use Rattle.opgen_saturate.specs.Saturates.{AreFormats, Saturates}
 use Rattle.opgen_saturate.proofs.Ends.{value_is}
-use Rattle.opgen_saturate.proofs.Resized.{some_bits, resized-length, resized-there, residue}
+use Rattle.opgen_saturate.proofs.Resized.{resized-length, resized-there, residue}
 use Rattle.opgen_saturate.proofs.Decision.{stays, wider-holds}
 
 -- a valid net that has grown by such a node

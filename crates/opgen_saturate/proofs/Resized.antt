@@ -7,8 +7,9 @@ use Rattle.std.proofs.lemmas.Int.{ints}
 use Rattle.std.proofs.lemmas.List.{length-replicate}
 use Rattle.std.proofs.lemmas.List.Elements.{All-append, All-cons, All-nil}
 use Rattle.std.proofs.lemmas.Nat.{pow-add}
+use Rattle.opgen_ports.proofs.InputPorts.{some_bits}
 use Rattle.opgen_num.specs.declared.format.Format.{Format}
-use Rattle.opgen_num.specs.Formats.{IsWidthOf, fewest_bits}
+use Rattle.opgen_num.specs.Formats.{IsWidthOf}
 use Rattle.opgen_num.specs.Words.{highest, int, val, digit, nat}
 use Rattle.opgen_num.proofs.Cuts.{nat-parts}
 use Rattle.opgen_num.proofs.Integers.{product-difference}
@@ -22,10 +23,6 @@ use Rattle.opgen_net.proofs.BitLists.{length-bits_from, bits_from-there, bits_fr
 use Rattle.opgen_net.proofs.Numbers.{at-append, at-node}
 use Rattle.opgen_saturate.specs.Recipe.{fill, resized}
 use Rattle.opgen_saturate.proofs.Outside.{highest-at, is_below_zero}
-
-pub some_bits : (signed : Bool) (w : ℕ) → fewest_bits signed ≤ w → 1 ≤ w
-some_bits false w h = h
-some_bits true w h = omega (arith, h)
 
 -- they stand in the net, and there are so many
 

@@ -11,6 +11,7 @@ use Rattle.opgen_design.specs.Value.{IsWidth}
 use Rattle.opgen_net.specs.declared.net.Net.{Net}
 use Rattle.opgen_net.specs.declared.net.Output.{Output}
 use Rattle.opgen_net.specs.declared.word_bits.WordBit.{WordBit}
+use Rattle.opgen_net.specs.Delays.{PassesAtMost}
 use Rattle.opgen_net.specs.Flow.{Inputs, flow, slice_flow}
 use Rattle.opgen_net.specs.Placed.{Placed, with_bits, whole}
 use Rattle.opgen_net.specs.Valid.{IsValid, LiesWithin, input_widths, slice_width, widths}
@@ -18,14 +19,14 @@ use Rattle.opgen_net.specs.WordRule.{IsThere, bits_from}
 use Rattle.opgen_net.proofs.Appending.{valid-output}
 use Rattle.opgen_net.proofs.BitLists.{length-bits_from, bits_from-there, bits_from-flow}
 use Rattle.opgen_net.proofs.FlowWidths.{flow-width}
+use Rattle.opgen_net.proofs.Grown.{grown-passes}
 use Rattle.opgen_net.proofs.Later.{Later, later-then, bits-later, words-later}
-use Rattle.opgen_net.proofs.WordLaws.{word-has_bits, word-found_width}
+use Rattle.opgen_net.proofs.WordLaws.{word-has_bits, word-found_width, all-bits}
 use Rattle.opgen_saturate.specs.Output.{AreOutputFormats, with_slice, saturated_output, saturated_outputs, saturated_net, first_word, port_of, port_in, SaturatesOutput}
 use Rattle.opgen_ports.specs.Good.{saturated}
+use Rattle.opgen_ports.proofs.InputPorts.{some_bits}
 use Rattle.opgen_saturate.specs.Saturates.{AreFormats}
-use Rattle.opgen_saturate.proofs.Decision.{all-bits}
 use Rattle.opgen_saturate.proofs.Lowest.{Made}
-use Rattle.opgen_saturate.proofs.Resized.{some_bits}
 use Rattle.opgen_saturate.proofs.Whole.{all_made}
 
 module _ (net : Net) (from : Slice) (format to : Format) (valid : IsValid net) (lies : LiesWithin (widths net.nodes) from)
@@ -117,6 +118,9 @@ module _ (net : Net) (o : Output) (format to : Format) (valid : IsValid net) (li
       valid-output step.net (record { name = o.name; from = whole to.width step.place }) later.valid
       (slice-lies base o.from format to (bare-valid net valid) lies wide from_width to_width)
 
+  pub shown-passes : (most : ℕ) → PassesAtMost most net.nodes → PassesAtMost most shown.nodes
+  shown-passes = grown-passes base step.net later.grown
+
   outputs-are : shown.outputs ≡ record { name = o.name; from = whole to.width step.place } ∷ []
   outputs-are = ap (λ os. os ++ record { name = o.name; from = whole to.width step.place } ∷ []) later.grown.outputs
 
@@ -138,6 +142,7 @@ module _ (net : Net) (o : Output) (format to : Format) (valid : IsValid net) (li
 -- a net with one output
 pub record IsSaturated (net : Net) (format to : Format) (made : Net) : Type 0 where
   pub valid : IsValid made
+  pub passes : (most : ℕ) → PassesAtMost most net.nodes → PassesAtMost most made.nodes
   pub saturates : SaturatesOutput net format to made
 
 pub net_saturated : (net : Net) (format to : Format) → IsValid net → AreOutputFormats net format to
@@ -153,5 +158,6 @@ net_saturated net format to valid are = go net.outputs refl are.one are.wide val
         let within = All-head (λ p. LiesWithin (widths net.nodes) p.from) o [] lies in
         record {
           valid = shown-valid net o format to valid within width are.from_width are.to_width;
+          passes = shown-passes net o format to valid within width are.from_width are.to_width;
           saturates = shown-saturates net o format to valid within width are.from_width are.to_width e;
         }

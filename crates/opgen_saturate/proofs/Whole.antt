@@ -16,15 +16,16 @@ use Rattle.opgen_net.proofs.Appending.{flow-append_last, width-append_last}
 use Rattle.opgen_net.proofs.FlowWidths.{flow-width}
 use Rattle.opgen_net.proofs.Grown.{grown-flow, grown-width}
 use Rattle.opgen_net.proofs.Later.{Later, later-then, later-node, node_there, words-later}
+use Rattle.opgen_net.proofs.WordLaws.{all-bits}
 use Rattle.opgen_ports.specs.Good.{saturated}
 use Rattle.opgen_saturate.specs.Recipe.{is_wider, resized, least_word, greatest_word, last_place, with_test, with_limit, with_choice, with_saturated}
 use Rattle.opgen_saturate.specs.Saturates.{AreFormats}
 use Rattle.opgen_saturate.proofs.Ends.{least_is, greatest_is}
 use Rattle.opgen_ports.proofs.Clamped.{in_order}
+use Rattle.opgen_ports.proofs.InputPorts.{some_bits}
 use Rattle.opgen_saturate.proofs.Limit.{HasLimit, has_limit}
 use Rattle.opgen_saturate.proofs.Outside.{is_outside, is_below_zero, tells}
-use Rattle.opgen_saturate.proofs.Resized.{some_bits}
-use Rattle.opgen_saturate.proofs.Decision.{all-bits, decided}
+use Rattle.opgen_saturate.proofs.Decision.{decided}
 use Rattle.opgen_saturate.proofs.Tested.{tested-later, tested-some, test-wide, test-tells}
 use Rattle.opgen_saturate.proofs.Lowest.{Made, low-later, low-width, low-long, low-number, wider}
 

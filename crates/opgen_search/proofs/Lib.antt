@@ -10,3 +10,4 @@ pub mod Closing
 pub mod Hunting
 pub mod Forking
 pub mod Ending
+pub mod Serving

@@ -7,6 +7,7 @@ use Rattle.std.proofs.lemmas.Map.Lookups.{exact_bytes}
 use Rattle.std.specs.Cmp.{IsTotalOrder, nat_cmp_total, then_total, on_total}
 use Rattle.std.specs.Cmp.Lexicographic.{nat_list_cmp_total}
 use Rattle.std.proofs.lemmas.Bool.Decides.{nat_tests}
+use Rattle.opgen_num.proofs.Orders.{not_before}
 use Rattle.opgen_graph.specs.SetCost.{set_cost}
 use Rattle.opgen_search.specs.Least.{order, IsBefore}
 use Rattle.opgen_search.specs.Covered.{IsNotBefore}
@@ -18,13 +19,8 @@ order_total width = then_total (on_total (set_cost width) nat_cmp_total) nat_lis
 pub before_trans : (width : ℕ) (F G H : List ℕ) → IsBefore width F G → IsBefore width G H → IsBefore width F H
 before_trans width F G H = (order_total width).trans F G H
 
-same : (r : Ordering) → r ≡ ordering_reverse r → r ≡ Less → ⊥
-same Less e h = cc
-same Equal e h = cc
-same Greater e h = cc
-
 pub before_irrefl : (width : ℕ) (F : List ℕ) → IsBefore width F F → ⊥
-before_irrefl width F h = same (order width F F) ((order_total width).antisymm F F) h
+before_irrefl width F h = not_before (order width F F) ((order_total width).antisymm F F) h
 
 pub before_cheaper : (width : ℕ) (F G : List ℕ) → set_cost width F < set_cost width G → IsBefore width F G
 unfolding order

@@ -1,5 +1,6 @@
 -- The least set of adders for the odd parts of some numbers, its graph, and the net of several constants by that graph.
 use Rattle.std.specs.Prelude.{◌≡◌, ℕ, ℤ, List, All}
+use Rattle.opgen_num.specs.declared.limits.TheConstants.{MAX_SEARCHED_CONSTANT}
 use Rattle.opgen_net.specs.declared.net.Net.{Net}
 use Rattle.opgen_kinds.specs.declared.several.Several.{Several}
 use Rattle.opgen_operator.specs.declared.operator.Operator.TheVariants.{Mcm}
@@ -49,9 +50,9 @@ pub record HasLeastGraph (numbers : List ℤ) (width extra : ℕ) : Type 0 where
   pub is : IsLeastGraphOf numbers width extra set graph
   pub serves : Serves numbers graph
 
--- that numbers from -2047 to 2047 have none is impossible
+-- that numbers within the limit of a search have none is impossible
 abbrev pub SomeLeastGraph : Type 0
-SomeLeastGraph = (numbers : List ℤ) (width extra : ℕ) → All (IsWithin 2047) numbers → (HasLeastGraph numbers width extra → ⊥) → ⊥
+SomeLeastGraph = (numbers : List ℤ) (width extra : ℕ) → All (IsWithin MAX_SEARCHED_CONSTANT) numbers → (HasLeastGraph numbers width extra → ⊥) → ⊥
 
 -- a net by the graph of the least set, which fits
 pub record HasNet (several : Several) : Type 0 where

@@ -1,5 +1,6 @@
 //! The least set of adders for the odd parts of some numbers, and its graph.
 ghost use Rattle.std.specs.Prelude.{◌≤◌, All, IfOk};
+ghost use Rattle.opgen_num.specs.declared.limits.TheConstants.{MAX_SEARCHED_CONSTANT};
 ghost use Rattle.opgen_num.specs.declared.format.TheConstants.{MAX_INPUT};
 ghost use Rattle.opgen_ports.specs.OddParts.{odd_part_count};
 ghost use Rattle.opgen_ports.specs.Ranges.{IsWithin};
@@ -33,7 +34,7 @@ pub fn least_graph<R: Threads + Sync, G: Gate + Sync>(
     workers: u32,
     gate: &G,
 ) -> Result<LeastGraph, Memory>
-    requires numbers { All (IsWithin 2047) numbers.now }
+    requires numbers { All (IsWithin MAX_SEARCHED_CONSTANT) numbers.now }
     requires few { odd_part_count numbers.now ≤ 8 }
     requires width { (1 ≤ width) × (width ≤ MAX_INPUT) }
     requires extra { extra ≤ 2 }

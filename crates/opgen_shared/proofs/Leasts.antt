@@ -5,15 +5,8 @@ use Rattle.std.specs.Ordering.{ordering_then, nat_cmp}
 use Rattle.std.specs.Cmp.{nat_cmp_is}
 use Rattle.std.specs.Cmp.Lexicographic.{slice_cmp}
 use Rattle.std.proofs.lemmas.Bool.{cases_order}
+use Rattle.opgen_num.proofs.Orders.{least}
 use Rattle.opgen_shared.specs.Rule.{IsRankedBefore}
-
--- ---- numbers
-none_below : (P : ℕ → Type 0) → ((m : ℕ) → P m → ((k : ℕ) → k < m → P k → ⊥) → ⊥) → (n m : ℕ) → m < n → P m → ⊥
-none_below P no_least zero m l p = omega (arith, l)
-none_below P no_least (suc n) m l p = no_least m p (λ k lower q. none_below P no_least n k (omega (arith, l, lower)) q)
-
-least_number : (P : ℕ → Type 0) (n : ℕ) → P n → ((m : ℕ) → P m → ((k : ℕ) → k < m → P k → ⊥) → ⊥) → ⊥
-least_number P n p no_least = none_below P no_least (suc n) n (omega arith) p
 
 -- ---- ranks
 none_before : (r : List ℕ) → IsRankedBefore r [] → ⊥
@@ -49,6 +42,6 @@ least_rank zero S sized [] is found = found [] is (λ t other less. none_before 
 least_rank zero S sized (x ∷ xs) is found = let some = sized (x ∷ xs) is in omega (arith, some)
 least_rank (suc size) S sized [] is found = let some = sized [] is in omega (arith, some)
 least_rank (suc size) S sized (x ∷ xs) is found =
-    least_number (λ y. (ys : List ℕ) × S (y ∷ ys)) x (xs, is) (
+    least {P = λ y. (ys : List ℕ) × S (y ∷ ys)} x (xs, is) (
     λ y has lower. least_rank size (λ ys. S (y ∷ ys)) (λ ys h. let more = sized (y ∷ ys) h in omega (arith, more)) has.0 has.1 (
     λ m h first. found (y ∷ m) h (no_less S (λ e. let some = sized [] e in omega (arith, some)) y lower m first)))

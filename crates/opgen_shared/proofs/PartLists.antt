@@ -1,23 +1,14 @@
 -- The odd parts above 1 of numbers stand in an increasing list.
-use Rattle.std.proofs.Common.{◌≡◌, ◌≢◌, ◌⊎◌, ◌↔◌, inl, inr, ⊎_elim, ℕ, zero, suc, ◌+◌, ◌<◌, ◌≤◌, List, [], ◌∷◌, Contains, refl, subst, sym, arith}
-use Rattle.std.specs.Prelude.{ℤ, pos, negsuc, slice_index, unsigned_abs}
-use Rattle.std.specs.List.Sorted.{IsStrictlyIncreasing}
+use Rattle.std.proofs.Common.{◌≡◌, ◌≢◌, ◌⊎◌, ◌↔◌, inl, inr, ⊎_elim, ℕ, zero, suc, ◌<◌, ◌≤◌, List, [], ◌∷◌, Contains, refl, subst, sym, arith}
+use Rattle.std.specs.Prelude.{ℤ, pos, negsuc, unsigned_abs}
 use Rattle.std.proofs.lemmas.Bool.{cases_lt, cases_order}
 use Rattle.std.proofs.lemmas.Int.{ints}
 use Rattle.std.proofs.lemmas.List.Elements.{Contains-append_left, Contains-append_right, Contains-append_cases}
 use Rattle.opgen_ports.specs.OddParts.{odd_part}
 use Rattle.opgen_graph.specs.Targets.{HasTarget, IsTargetOf, AreTargetsOf}
 use Rattle.opgen_graph.proofs.Members.{here, there, of_cons, of_nil, of_one}
-use Rattle.opgen_graph.proofs.SignedSets.{Climbs}
+use Rattle.opgen_graph.proofs.SignedSets.{Climbs, climbs_increasing}
 use Rattle.opgen_graph.proofs.TargetLists.{one_constant}
-
-climbs_increasing : (xs : List ℕ) → Climbs xs → IsStrictlyIncreasing xs
-climbs_increasing [] h k lt = absurd (omega (arith, lt))
-climbs_increasing (x ∷ []) h k lt = absurd (omega (arith, lt))
-climbs_increasing (x ∷ y ∷ ys) h zero lt = h.0 y (here y ys)
-climbs_increasing (x ∷ y ∷ ys) h (suc k) lt =
-    let next : suc (k + 1) ≡ suc k + 1 = omega arith in
-    subst (λ n. slice_index (y ∷ ys) k < slice_index (x ∷ y ∷ ys) n) next (climbs_increasing (y ∷ ys) h.1 k (omega (arith, lt)))
 
 -- ---- one number more in an increasing list
 record Inserted (x : ℕ) (xs : List ℕ) : Type 0 where

@@ -6,22 +6,18 @@ use Rattle.std.specs.Ordering.{ordering_reverse, nat_cmp}
 use Rattle.std.specs.Cmp.Lexicographic.{slice_cmp, nat_list_cmp_total}
 use Rattle.std.proofs.lemmas.Bool.Decides.{nat_tests}
 use Rattle.std.proofs.lemmas.Map.Lookups.{exact_bytes}
+use Rattle.opgen_num.proofs.Orders.{not_before}
 use Rattle.opgen_graph.specs.declared.forms.Form.{Form}
-use Rattle.opgen_graph.specs.declared.forms.Form.TheVariants.{A, B, C, D, E}
 use Rattle.opgen_graph.specs.declared.ranks.Adder.{Adder}
 use Rattle.opgen_graph.specs.Adders.{place}
+use Rattle.opgen_graph.proofs.FirstSteps.{same_form}
 use Rattle.opgen_shared.specs.declared.candidates.Candidate.{Candidate}
 use Rattle.opgen_shared.specs.Rule.{IsRankedBefore, IsBest, IsBefore, rank, heavier, higher}
 use Rattle.opgen_shared.specs.Steps.{IsNotAfter, IsLeastOf}
 
 -- ---- lists of numbers
-lists_irrefl : (r : Ordering) → r ≡ ordering_reverse r → r ≡ Less → ⊥
-lists_irrefl Less e h = cc
-lists_irrefl Equal e h = cc
-lists_irrefl Greater e h = cc
-
 pub ranked_irrefl : (r : List ℕ) → IsRankedBefore r r → ⊥
-ranked_irrefl r h = lists_irrefl (slice_cmp nat_cmp r r) (nat_list_cmp_total.antisymm r r) h
+ranked_irrefl r h = not_before (slice_cmp nat_cmp r r) (nat_list_cmp_total.antisymm r r) h
 
 not_after : (r s t : List ℕ) → (IsRankedBefore s r → ⊥) → (IsRankedBefore t s → ⊥) → IsRankedBefore t r → ⊥
 not_after r s t n m b = from (slice_cmp nat_cmp s t) refl
@@ -80,23 +76,6 @@ quickest done a b quick light heavy before =
     (subst (λ q. IsRankedBefore ((higher done a - 2) ∷ heavier done a ∷ tail a) (q ∷ heavier done b ∷ tail b)) quick before))
 
 -- ---- one best step
-abbrev form_at : ℕ → Form
-form_at zero = A
-form_at (suc zero) = B
-form_at (suc (suc zero)) = C
-form_at (suc (suc (suc zero))) = D
-form_at (suc (suc (suc (suc n)))) = E
-
-form_back : (f : Form) → form_at (place f) ≡ f
-form_back A = refl
-form_back B = refl
-form_back C = refl
-form_back D = refl
-form_back E = refl
-
-same_form : (f g : Form) → place f ≡ place g → f ≡ g
-same_form f g e = sym (form_back f) ∙ ap form_at e ∙ form_back g
-
 pub same_adder : (a b : Adder) → a.value ≡ b.value → a.u ≡ b.u → a.v ≡ b.v → a.step.shift ≡ b.step.shift → a.step.form ≡ b.step.form → a ≡ b
 same_adder a b e u v s f =
     let make : ℕ → ℕ → ℕ → ℕ → Form → Adder = λ w x y i g. record { value = w; u = x; v = y; step = record { form = g; shift = i } } in

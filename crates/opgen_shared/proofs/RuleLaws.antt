@@ -1,9 +1,7 @@
 -- Numbers have one graph by the rule.
 use Rattle.std.proofs.Common.{◌≡◌, ℕ, List, [], ◌∷◌, ◌++◌, Contains, refl, sym, ap, subst, ◌∙◌}
-use Rattle.std.specs.Prelude.{ℤ}
 use Rattle.opgen_graph.specs.declared.ranks.Adder.{Adder}
-use Rattle.opgen_graph.specs.Targets.{AreTargetsOf}
-use Rattle.opgen_graph.proofs.SignedSets.{climbs, same_climbs}
+use Rattle.opgen_graph.proofs.SignedSets.{one_targets}
 use Rattle.opgen_shared.specs.Rule.{IsBest, Grows, stands, made, GrowsBy, over, next, OneRuleGraph, PartsAloneCount}
 use Rattle.opgen_shared.specs.Sums.{placed_by}
 use Rattle.opgen_shared.proofs.Ranking.{one_best}
@@ -74,15 +72,10 @@ grows_more done _ mid number after (next {first = first} {numbers = numbers} h m
     next h (grows_more first numbers mid number after more g)
 
 -- ---- one graph
-one_parts : (numbers : List ℤ) (xs ys : List ℕ) → AreTargetsOf numbers xs → AreTargetsOf numbers ys → xs ≡ ys
-one_parts numbers xs ys a b =
-    same_climbs xs ys (climbs xs a.increasing) (climbs ys b.increasing) (λ x c. (b.members x).1 ((a.members x).0 c))
-    (λ x c. (a.members x).1 ((b.members x).0 c))
-
 pub one_rule_graph : OneRuleGraph
 one_rule_graph numbers adders others a b =
     same_growths [] b.parts adders others
-    (subst (λ parts. GrowsBy [] parts adders) (one_parts numbers a.parts b.parts a.are_parts b.are_parts) a.grows) b.grows
+    (subst (λ parts. GrowsBy [] parts adders) (one_targets numbers a.parts b.parts a.are_parts b.are_parts) a.grows) b.grows
 
 pub parts_alone_count : PartsAloneCount
 parts_alone_count numbers others adders same a = record {

@@ -4,6 +4,7 @@ use Rattle.std.specs.Prelude.{◌≡◌, ◌⊎◌, ◌↔◌, ℕ, ◌+◌, ◌
 use Rattle.std.specs.declared.cmp.Ordering.TheVariants.{Less}
 use Rattle.std.specs.Ordering.{nat_cmp}
 use Rattle.std.specs.Cmp.Lexicographic.{slice_cmp}
+use Rattle.opgen_num.specs.declared.limits.TheConstants.{MAX_CONSTANT}
 use Rattle.opgen_graph.specs.declared.ranks.Adder.{Adder}
 use Rattle.opgen_graph.specs.declared.ranks.Graph.{Graph}
 use Rattle.opgen_graph.specs.Adders.{Makes, place}
@@ -83,11 +84,11 @@ pub record IsRuleGraph (numbers : List ℤ) (adders : List Adder) : Type 0 where
 -- ---- laws
 -- that numbers of 20 bits have no graph by the rule is impossible
 abbrev pub SomeRuleGraph : Type 0
-SomeRuleGraph = (numbers : List ℤ) → All (IsWithin 1048575) numbers → ((adders : List Adder) → IsRuleGraph numbers adders → ⊥) → ⊥
+SomeRuleGraph = (numbers : List ℤ) → All (IsWithin MAX_CONSTANT) numbers → ((adders : List Adder) → IsRuleGraph numbers adders → ⊥) → ⊥
 
 -- each one is a shared graph, and has the odd parts above 1 of the numbers
 abbrev pub RuleGraphServes : Type 0
-RuleGraphServes = (numbers : List ℤ) (graph : Graph) → All (IsWithin 1048575) numbers → IsRuleGraph numbers graph.adders
+RuleGraphServes = (numbers : List ℤ) (graph : Graph) → All (IsWithin MAX_CONSTANT) numbers → IsRuleGraph numbers graph.adders
     → IsSharedGraph graph.adders × Serves numbers graph
 
 -- numbers have no two

@@ -1,5 +1,6 @@
 //! The graph of many numbers: their odd parts in increasing order, each by its best steps.
 ghost use Rattle.std.specs.Prelude.{ℕ, ◌+◌, ◌≤◌, [], length, All, Contains, IfOk, OnOk};
+ghost use Rattle.opgen_num.specs.declared.limits.TheConstants.{MAX_CONSTANT};
 ghost use Rattle.opgen_ports.specs.Ranges.{IsWithin};
 ghost use Rattle.opgen_graph.specs.Reach.{IsWide};
 ghost use Rattle.opgen_graph.specs.Served.{Serves};
@@ -44,7 +45,7 @@ fn make(sums: &mut Sums, number: u32, weight: u32) -> Result<(), AllocError>
 /// of the two shifted, and the rest is made first in the same way. The adder is no deeper than two, or least deeper; of such
 /// adders it is the one whose rest has the fewest digits, then the shallowest, and then the least by its own numbers.
 pub fn shared_graph(alloc: Global, numbers: &[i64]) -> Result<Graph, Memory>
-    requires { All (IsWithin 1048575) numbers.now }
+    requires { All (IsWithin MAX_CONSTANT) numbers.now }
     ensures rule { IfOk result (λ graph. IsRuleGraph numbers.now graph.adders) }
     ensures graph { IfOk result (λ graph. IsSharedGraph graph.adders) }
     ensures serves { IfOk result (Serves numbers.now) }

@@ -22,6 +22,3 @@ mod weights;
 
 pub use graph::shared_graph;
 pub use laws::{one_rule_graph, parts_alone_count, rule_graph_serves, some_rule_graph};
-
-/// The greatest number.
-pub const MAX_NUMBER: u32 = 1048575;

@@ -1,5 +1,6 @@
 //! The odd parts above 1 of the numbers: what a graph has to hold.
 ghost use Rattle.std.specs.Prelude.{◌≡◌, ◌↔◌, ℕ, ◌*◌, ◌^◌, ◌%◌, ◌<◌, All, Contains, IfOk, IfSome, IfNone};
+ghost use Rattle.opgen_num.specs.declared.limits.TheConstants.{MAX_CONSTANT};
 ghost use Rattle.opgen_ports.specs.Ranges.{IsWithin};
 ghost use Rattle.opgen_graph.specs.Targets.{AreTargetsOf, HasTarget, IsTargetOf};
 ghost use Rattle.opgen_graph.specs.Reach.{IsWideMember};
@@ -18,7 +19,7 @@ pub(crate) fn split_odd(n: u32) -> (u32, u32)
 
 // The odd part of a number, without its sign, if it is above 1.
 fn part(number: i64) -> Option<u32>
-    requires { IsWithin 1048575 number }
+    requires { IsWithin MAX_CONSTANT number }
     ensures some { IfSome result (HasTarget number) }
     ensures none { IfNone result ((x : ℕ) → HasTarget number x → ⊥) }
 {
@@ -32,7 +33,7 @@ fn part(number: i64) -> Option<u32>
 
 // The odd parts above 1 of the numbers, in their order.
 fn parts_in_order(alloc: Global, numbers: &[i64]) -> Result<Vec<u32>, AllocError>
-    requires { All (IsWithin 1048575) numbers.now }
+    requires { All (IsWithin MAX_CONSTANT) numbers.now }
     ensures { IfOk result (λ found. (x : ℕ) → Contains found.items x ↔ IsTargetOf numbers.now x) }
 {
     let mut found = Vec::new(alloc);
@@ -46,7 +47,7 @@ fn parts_in_order(alloc: Global, numbers: &[i64]) -> Result<Vec<u32>, AllocError
 
 // The odd parts above 1 of the numbers, increasing, each once.
 pub(crate) fn odd_parts(alloc: Global, numbers: &[i64]) -> Result<Vec<u32>, AllocError>
-    requires { All (IsWithin 1048575) numbers.now }
+    requires { All (IsWithin MAX_CONSTANT) numbers.now }
     ensures parts { IfOk result (λ found. AreTargetsOf numbers.now found.items) }
     ensures each { IfOk result (λ found. All IsWideMember found.items) }
 {

@@ -1,18 +1,18 @@
 -- Two cycles over the same inputs: where the registers up to a rank agree, so do the signals up to it, and the next words of the registers one rank further.
-use Rattle.std.proofs.Common.{◌≡◌, ℕ, zero, suc, ◌<◌, ◌≤◌, Bool, List, [], ◌∷◌, Some, None, refl, sym, ap, ◌∙◌, arith}
-use Rattle.std.specs.Prelude.{slice_get}
+use Rattle.std.proofs.Common.{◌≡◌, ℕ, zero, suc, ◌<◌, ◌≤◌, Bool, List, Some, None, refl, sym, ap, ◌∙◌, arith, inl}
+use Rattle.std.specs.Prelude.{Contains, slice_get}
 use Rattle.opgen_design.specs.declared.design.Design.{Design}
 use Rattle.opgen_design.specs.declared.design.Driver.{Driver}
-use Rattle.opgen_design.specs.declared.design.Driver.TheVariants.{Assign, Choice, Table, Register, Output}
+use Rattle.opgen_design.specs.declared.design.Driver.TheVariants.{Register}
 use Rattle.opgen_design.specs.Run.{Words, scope, moved, Cycle}
-use Rattle.opgen_design.specs.Sound.{IsSound, Needs}
+use Rattle.opgen_design.specs.Sound.{IsSound, Needs, target, Reads}
+use Rattle.opgen_design.specs.declared.design.Target.TheVariants.{Port as port_of}
 use Rattle.opgen_design.specs.Tree.{Tree}
 use Rattle.opgen_design.specs.Value.{value, word_at}
 use Rattle.opgen_design.proofs.SoundLaws.{at-contains}
 use Rattle.opgen_runs.specs.Registers.{SameRegisters}
-use Rattle.opgen_runs.proofs.OneRun.{runs-one}
-use Rattle.opgen_runs.proofs.TwoCycles.{signal-one, tree-one, reads-inputs, meets-v, meets-u}
-use Rattle.opgen_sim.specs.Depth.{Reads, CountRegisters}
+use Rattle.opgen_runs.proofs.TwoCycles.{ports-one, signal-one, tree-one, reads-inputs, meets}
+use Rattle.opgen_design.specs.Depth.{CountRegisters}
 
 -- two lists have the same words at the registers up to a rank
 abbrev pub SameUpTo : Design → (rank : ℕ → ℕ) → (j : ℕ) → (now others : List (List Bool)) → Type 0
@@ -21,11 +21,8 @@ SameUpTo d rank j now others = (i to : ℕ) (e : Tree) → slice_get d.drivers i
 
 -- what a driver needs in a cycle it reads
 needs-reads : (k : Driver) (r : ℕ) → Needs r k → Reads r k
-needs-reads (Assign to e) r n = n
-needs-reads (Choice to on one other) r n = n
-needs-reads (Table to on rows other) r n = n
 needs-reads (Register to e) r n = absurd n
-needs-reads (Output place e) r n = n
+needs-reads k r n = n
 
 module _ (d : Design) (sound : IsSound d) (now others given : List (List Bool)) (v u : Words) (next after : List (List Bool))
     (h : Cycle d now given v next) (k : Cycle d others given u after) where
@@ -52,19 +49,19 @@ module _ (d : Design) (sound : IsSound d) (now others given : List (List Bool)) 
         let c = at-contains d.drivers i (Register to e) g in
         let new : value (scope v) e ≡ value (scope u) e
         = tree-one d sound now others given v u next after h k (λ r. rank r ≤ j) signals-same e
-        (reads-inputs d sound now others given v u next after h k i (Register to e) g)
-        (λ r z. omega (arith, l, ranks.reads to r (Register to e) c refl z)) in
-        (meets-v d sound now others given v u next after h k i (Register to e) g).1
+        (reads-inputs d sound now others given v u next after h k i (Register to e) g).0
+        (λ r z. omega (arith, l, ranks.reads to r (Register to e) c refl (inl z))) in
+        (meets h i (Register to e) g).1
         ∙ ap (λ o. moved o v (value (scope v) e) (word_at now to)) free
         ∙ new
         ∙ ap (λ o. moved o u (value (scope u) e) (word_at others to)) (sym free)
-        ∙ sym (meets-u d sound now others given v u next after h k i (Register to e) g).1
+        ∙ sym (meets k i (Register to e) g).1
 
-  -- with the same registers all words are the same
-  pub words-same : SameRegisters d now others → v ≡ u
-  words-same same =
-      let both : v ∷ [] ≡ u ∷ []
-      = runs-one d sound (given ∷ []) now others same (v ∷ []) (u ∷ []) (next, h, tt) (after, k, tt) in cc
+    -- the ports, where the outputs read no signals of a higher rank
+    pub ports-same : ((p r : ℕ) (x : Driver) → Contains d.drivers x → target x ≡ port_of p → Reads r x → rank r ≤ j) → v.ports ≡ u.ports
+    ports-same shown =
+        ports-one d sound now others given v u next after h k (λ r. rank r ≤ j) signals-same
+        (λ p x c t r z. shown p r x c t (needs-reads x r z))
 
 module _ (d : Design) (rank : ℕ → ℕ) (ranks : CountRegisters d rank) (now others : List (List Bool)) where
   -- no register has rank 0

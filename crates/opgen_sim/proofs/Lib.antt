@@ -1,9 +1,10 @@
 pub mod Cycles
 mod RankLaws
+pub mod OutputDepth
 pub mod TableLaws
 pub mod Ports
 pub mod Runs
 pub mod PortWidths
-mod RunRows
+pub mod RunRows
 mod RowRuns
 mod Progress

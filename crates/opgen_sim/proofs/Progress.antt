@@ -8,10 +8,10 @@ use Rattle.opgen_num.specs.Words.{nat, words_of}
 use Rattle.opgen_design.specs.declared.design.Design.{Design}
 use Rattle.opgen_design.specs.Run.{Cycle, initial_words, input_widths, output_widths}
 use Rattle.opgen_design.specs.Sound.{IsSound, signal_widths}
-use Rattle.opgen_sim.proofs.Cycles.{SameUpTo, next-same, words-same, same-from-zero, same-registers}
-use Rattle.opgen_sim.specs.Depth.{HasDepth}
+use Rattle.opgen_sim.proofs.Cycles.{SameUpTo, next-same, same-from-zero, same-registers}
+use Rattle.opgen_design.specs.Depth.{HasDepth}
 use Rattle.opgen_lanes.specs.Steps.{Running, AreNew, IsStepIn}
-use Rattle.opgen_runs.proofs.OneRun.{next-one}
+use Rattle.opgen_runs.proofs.OneRun.{next-one, words-same}
 use Rattle.opgen_runs.specs.Registers.{SameRegisters}
 use Rattle.opgen_runs.specs.Rows.{output_cells, IsRunOf}
 use Rattle.opgen_streams.specs.Rows.{row_at, row_in}
@@ -108,8 +108,8 @@ module _ (d : Design) (sound : IsSound d) (rows depth apart row : ℕ) (cells : 
       let t = row + k * apart in
       let step = steps k few in
       let same : step.words ≡ p.run.words t
-      = words-same d sound (held_in d held k) (p.run.state t) (row_words t) step.words (p.run.words t) (held_in d next k) (p.run.state (suc t))
-      (of_stream k few l) (p.run.cycle t l) (same_now k few counts (omega (arith, l))) in
+      = words-same d sound (held_in d held k) (p.run.state t) (row_words t) (same_now k few counts (omega (arith, l))) step.words
+      (p.run.words t) (held_in d next k) (p.run.state (suc t)) (of_stream k few l) (p.run.cycle t l) in
       ap (map nat) step.outputs_are ∙ ap (output_cells d) same
 
   first_next : row + 1 ≤ rows → SameRegisters d (held_in d next 0) (p.run.state (row + 1))

@@ -8,13 +8,12 @@ use Rattle.std.proofs.lemmas.List.Recursion.{max_push}
 use Rattle.std.proofs.lemmas.List.Sums.{AllPass-from_list_all}
 use Rattle.opgen_design.specs.declared.design.Design.{Design}
 use Rattle.opgen_design.specs.declared.design.Driver.{Driver}
-use Rattle.opgen_design.specs.declared.design.Driver.TheVariants.{Assign, Choice, Table, Register, Output}
 use Rattle.opgen_design.specs.declared.expr.Expr.{Expr}
 use Rattle.opgen_design.specs.Plain.{plain, plain_all}
-use Rattle.opgen_design.specs.Sound.{ReadsName, SomeOperandReads, target}
+use Rattle.opgen_design.specs.Sound.{ReadsName, SomeOperandReads, Reads, expressions_read, target}
 use Rattle.opgen_design.specs.declared.design.Target.TheVariants.{Signal as signal}
 use Rattle.opgen_design.specs.Tree.{Tree, Trees, name, part, bits, port, inverse, chain, none, more}
-use Rattle.opgen_sim.specs.Depth.{Reads, registers_in, CountRegisters}
+use Rattle.opgen_design.specs.Depth.{registers_in, CountRegisters}
 use Rattle.opgen_sim.specs.Ranks.{highest, highest_of, least_rank, is_at_most, is_ranked}
 
 module _ (rank : ℕ → ℕ) where
@@ -43,24 +42,10 @@ module _ (rank : ℕ → ℕ) where
     ]
 
   read-least : (k : Driver) (r : ℕ) → Reads r k → rank r + registers_in k ≤ least_rank rank k
-  read-least (Assign to e) r z = omega (arith, read-highest e r z)
-  read-least (Choice to on one other) r z = elim z [
-    | inl a ↦ omega (arith, read-highest on r a)
-    | inr b ↦ elim b [
-      | inl x ↦ omega (arith, read-highest one r x)
-      | inr y ↦ omega (arith, read-highest other r y)
-    ]
-  ]
-  read-least (Table to on rows other) r z = omega (arith, read-highest on r z)
-  read-least (Register to e) r z = omega (arith, read-highest e r z)
-  read-least (Output place e) r z = omega (arith, read-highest e r z)
+  read-least k r z = omega (arith, operand-highest (expressions_read k) r z)
 
   register-least : (k : Driver) → registers_in k ≤ least_rank rank k
-  register-least (Assign to e) = omega arith
-  register-least (Choice to on one other) = omega arith
-  register-least (Table to on rows other) = omega arith
-  register-least (Register to e) = omega arith
-  register-least (Output place e) = omega arith
+  register-least k = omega arith
 
   least-rank : (k : Driver) (s : ℕ) → is_ranked rank k ≡ true → target k ≡ signal s → least_rank rank k ≤ rank s
   least-rank k s h t = leb-true _ _ (subst (λ x. is_at_most (least_rank rank k) rank x ≡ true) t h)

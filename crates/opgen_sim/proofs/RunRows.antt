@@ -1,13 +1,11 @@
 -- Runs over rows, a cycle at a time.
-use Rattle.std.proofs.Common.{◌≡◌, ℕ, zero, suc, ◌-◌, ◌<◌, Bool, List, [], ◌∷◌, ◌++◌, length, map, take, drop, refl, sym, ap, ◌∙◌, subst, arith, append_assoc, append-nil}
-use Rattle.std.proofs.lemmas.List.{length-map}
-use Rattle.opgen_num.specs.Words.{nat, words_of}
+use Rattle.std.proofs.Common.{◌≡◌, ℕ, zero, suc, ◌-◌, ◌<◌, Bool, List, [], ◌∷◌, ◌++◌, length, take, drop, refl, sym, ap, ◌∙◌, subst, arith, append_assoc, append-nil}
+use Rattle.opgen_num.specs.Words.{words_of}
 use Rattle.opgen_design.specs.declared.design.Design.{Design}
-use Rattle.opgen_design.specs.Run.{Words, Cycle, is_out, initial_words, input_widths, output_widths, words_at_outputs}
+use Rattle.opgen_design.specs.Run.{Words, Cycle, initial_words, input_widths, output_widths}
 use Rattle.opgen_sim.specs.Sims.{Simulator, IsNew}
 use Rattle.opgen_runs.specs.Step.{IsStep}
-use Rattle.opgen_runs.proofs.Rows.{rows-kept}
-use Rattle.opgen_runs.proofs.Starts.{at_ports-length}
+use Rattle.opgen_runs.proofs.Rows.{length-cells, rows-kept}
 use Rattle.opgen_runs.specs.Rows.{output_cells, RunsRows, IsRunOf}
 
 no_rows : (d : Design) (now : List (List Bool)) (inputs : List ℕ) → RunsRows d now 0 inputs []
@@ -55,13 +53,6 @@ one_step d e all given now next left inputs cells row numbers new so_far some sa
 pub run_start : (d : Design) (s : Simulator) (rows : ℕ) (inputs : List ℕ) → IsNew d s → HasRun d rows inputs s.registers rows inputs []
 run_start d s rows inputs new outputs run =
     rows-kept d s.registers (initial_words d.signals) rows inputs outputs new.registers run
-
-pub length-cells : (d : Design) (now given next : List (List Bool)) (v : Words) → Cycle d now given v next
-    → length (output_cells d v) ≡ length (output_widths d)
-length-cells d now given next v cycle =
-    let widths = map (λ p. p.width) d.ports in
-    let ports : length v.ports ≡ length widths = sym (length-map v.ports length) ∙ ap length cycle.port_widths in
-    length-map (words_at_outputs d v) nat ∙ at_ports-length is_out d.ports v.ports widths ports
 
 -- a step gives a number for each output port
 pub length-step : (d e : Design) (now next : List (List Bool)) (row numbers : List ℕ) → e ≡ d → IsStep e now row next numbers

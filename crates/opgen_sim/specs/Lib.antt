@@ -1,6 +1,5 @@
 -- Definitions of opgen_sim: a new simulator, what runs a design, its tables by address, its cycles, numbers and rows of them at its
--- ports, ranks that count registers, the depth of a design, and the law on what its outputs depend on.
-pub mod Depth
+-- ports, and ranks that count registers.
 pub mod Ranks
 pub mod Tables
 pub mod Ready

@@ -1,11 +1,11 @@
 -- What a driver asks of the rank of its signal.
 use Rattle.std.specs.Prelude.{ℕ, ◌+◌, max, Bool, true, nat_le}
 use Rattle.opgen_design.specs.declared.design.Driver.{Driver}
-use Rattle.opgen_design.specs.declared.design.Driver.TheVariants.{Assign, Choice, Table, Register, Output}
 use Rattle.opgen_design.specs.declared.design.Target.{Target}
 use Rattle.opgen_design.specs.declared.design.Target.TheVariants.{Signal as signal, Port as port_of}
-use Rattle.opgen_design.specs.Sound.{target}
+use Rattle.opgen_design.specs.Sound.{expressions_read, target}
 use Rattle.opgen_design.specs.Tree.{Tree, Trees, name, part, bits, port, inverse, chain, none, more}
+use Rattle.opgen_design.specs.Depth.{registers_in}
 
 abbrev mutual
   -- the highest rank of the signals that an expression reads, and 0 if it reads none
@@ -23,11 +23,7 @@ abbrev mutual
 
 -- the least rank that is allowed at what a driver drives
 abbrev pub least_rank : (rank : ℕ → ℕ) → Driver → ℕ
-least_rank rank (Assign to e) = highest rank e
-least_rank rank (Choice to on one other) = max (highest rank on) (max (highest rank one) (highest rank other))
-least_rank rank (Table to on rows other) = highest rank on
-least_rank rank (Register to e) = highest rank e + 1
-least_rank rank (Output place e) = highest rank e
+least_rank rank k = highest_of rank (expressions_read k) + registers_in k
 
 -- whether a number is at most the rank of a signal; a port has none
 abbrev pub is_at_most : ℕ → (rank : ℕ → ℕ) → Target → Bool

@@ -4,7 +4,7 @@ use Rattle.opgen_design.specs.declared.design.Design.{Design}
 use Rattle.opgen_design.specs.declared.design.Dir.{Dir}
 use Rattle.opgen_design.specs.declared.design.Dir.TheVariants.{In, Out}
 use Rattle.opgen_design.specs.Run.{is_in, is_out, input_widths, output_widths}
-use Rattle.opgen_sim.specs.Depth.{HasDepth}
+use Rattle.opgen_design.specs.Depth.{HasDepth}
 use Rattle.opgen_sim.specs.declared.widths.Widths.{Widths}
 
 -- whether a port has a direction

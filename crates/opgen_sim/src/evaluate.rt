@@ -10,18 +10,7 @@ ghost use Rattle.opgen_sim.specs.Tables.{AreTables, HasRows, rows_of};
 use crate::tables::{Rows, look_up};
 use opgen_design::{Design, Driver};
 use opgen_num::Word;
-use opgen_runs::value;
-
-// The first word where the condition is the bit 1, and else the second.
-fn chosen(on: Word, one: Word, other: Word) -> Word
-    ensures { result ≡ chosen on one other }
-{
-    if on.width() == 1 && on.bits() == 1 {
-        one
-    } else {
-        other
-    }
-}
+use opgen_runs::{chosen, value};
 
 // What the driver's right side says over words.
 fn driver_word(driver: &Driver, table: &Rows, signals: &[Word], ports: &[Word]) -> Word

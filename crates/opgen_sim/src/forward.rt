@@ -2,7 +2,7 @@
 ghost use Rattle.std.specs.Prelude.{ℕ, ◌≡◌, ◌≤◌, IfOk, IfSome, None, slice_index};
 ghost use Rattle.std.specs.List.{list_all};
 ghost use Rattle.opgen_design.specs.Sound.{HasNumbers, IsSound};
-ghost use Rattle.opgen_sim.specs.Depth.{HasDepth};
+ghost use Rattle.opgen_design.specs.Depth.{HasDepth};
 ghost use Rattle.opgen_sim.specs.Ranks.{is_ranked};
 
 use crate::ranks::{is_ranked, least_rank};

@@ -1,25 +1,27 @@
 -- The terms of an accepted sum have room, and their tables are no wider than the heap.
-use Rattle.std.proofs.Common.{◌≡◌, ℕ, zero, suc, ◌+◌, ◌-◌, ◌*◌, ◌^◌, ◌<◌, ◌≤◌, Bool, true, false, if◌then◌else◌, List, [], ◌∷◌, ◌++◌, length, length-append, map, get_or, pow-add, ap, ◌∙◌, subst, arith}
-use Rattle.std.specs.Prelude.{ℤ, pos, negsuc, neg_ℤ, ◌-ℤ◌, ◌*ℤ◌, ◌≤ℤ◌, unsigned_abs, nat_eq, slice_get}
-use Rattle.std.proofs.Math.Nat.{two-pow-succ, mul-le-mul_left, mul-le-mul_right}
+use Rattle.std.proofs.Common.{◌≡◌, ℕ, zero, suc, ◌+◌, ◌-◌, ◌*◌, ◌^◌, ◌<◌, ◌≤◌, Bool, false, if◌then◌else◌, List, [], ◌∷◌, ◌++◌, length, length-append, map, get_or, pow-add, ap, ◌∙◌, subst, arith}
+use Rattle.std.specs.Prelude.{ℤ, pos, neg_ℤ, ◌-ℤ◌, ◌*ℤ◌, ◌≤ℤ◌, unsigned_abs, nat_eq, slice_get}
+use Rattle.std.proofs.Math.Nat.{mul-le-mul_left, mul-le-mul_right, mul-pos}
 use Rattle.std.proofs.lemmas.Grind.{div_ceil_times}
 use Rattle.std.proofs.lemmas.Int.{ints}
 use Rattle.std.proofs.lemmas.List.{length-map}
 use Rattle.std.proofs.lemmas.Nat.{pow_pos}
 use Rattle.std.proofs.lemmas.Option.{slice_get-get_or}
-use Rattle.opgen_num.specs.Formats.{digit_count, range_width}
+use Rattle.opgen_num.specs.Formats.{digit_count}
 use Rattle.opgen_num.proofs.BitLength.{power_order}
 use Rattle.opgen_num.proofs.Integers.{product_order, commuted}
-use Rattle.opgen_num.proofs.RangeWidth.{count-holds, range_width-least}
+use Rattle.opgen_num.proofs.RangeWidth.{count-holds, digits-some, width-span}
+use Rattle.opgen_num.proofs.Lists.{sum-cons}
 use Rattle.std.specs.Int.{div_ceil}
 use Rattle.opgen_ports.specs.Ranges.{IsInput}
-use Rattle.opgen_ports.specs.Reaches.{reach_with, reach_of, reach_over, above_zero, below_zero, rises, falls, in_units, places_down, down}
+use Rattle.opgen_ports.specs.Reaches.{reach_of, reach_over, above_zero, below_zero, rises, falls, in_units, places_down, down}
 use Rattle.opgen_ports.proofs.InputPorts.{input_bit}
+use Rattle.opgen_ports.proofs.Reached.{abs-parts, reach-span, parts-above, parts-below}
+use Rattle.opgen_ports.proofs.Bounds.{some_units}
 use Rattle.opgen_terms.specs.declared.sop.Sop.{Sop}
 use Rattle.opgen_terms.specs.declared.sop.Scaled.{Scaled}
 use Rattle.opgen_terms.specs.declared.sop.Times.{Times}
 use Rattle.opgen_terms.specs.Sop.{Term, IsSop, IsAcceptedSop, format_of, terms_of, term_at, scaled_term, times_term, offset_term, offset_terms, total, depth, height, raised, sop_reach, sop_places, sop_format}
-use Rattle.opgen_ports.proofs.Totals.{sum-cons}
 use Rattle.opgen_terms.proofs.Lawful.{accepted_sop, accepted_shifts, accepted_parts}
 use Rattle.opgen_terms.proofs.EachTerm.{input_fits, scaled_place, times_place, offset_place, each_term}
 use Rattle.opgen_terms.proofs.AllTerms.{greatest_above, total_order, small_shift, bits_of, up_of_down, down_of_down}
@@ -34,55 +36,8 @@ gap-within f g (t ∷ ts) d zero each h =
 gap-within f g (t ∷ ts) d (suc k) each h =
     omega (arith, ints, each 0 (omega arith), gap-within f g ts d k (λ i here. each (suc i) (omega (arith, here))) (omega (arith, h)))
 
-abs-parts : (c : ℤ) → above_zero c + below_zero c ≡ unsigned_abs c
-abs-parts (pos n) = omega arith
-abs-parts (negsuc n) = omega arith
-
-reach-span : (signed : Bool) (width : ℕ) → 1 ≤ width → (reach_with signed width).below + (reach_with signed width).above + 1 ≡ 2 ^ width
-reach-span true zero h = absurd (omega (arith, h))
-reach-span true (suc w) h =
-    let e : suc w - 1 ≡ w = omega arith in
-    omega (arith, two-pow-succ w, ap (λ n. 2 ^ n) e, pow_pos w)
-reach-span false w h = omega (arith, pow_pos w)
-
-half : (w : ℕ) → 2 ≤ w → 2 ^ w ≡ 2 ^ (w - 1) + 2 ^ (w - 1)
-half zero h = absurd (omega (arith, h))
-half (suc v) h = let e : suc v - 1 ≡ v = omega arith in omega (arith, two-pow-succ v, ap (λ n. 2 ^ n) e)
-
-width-span : (below above : ℕ) → below + above < 2 ^ range_width (neg_ℤ (pos below)) (pos above)
-width-span zero above =
-    let h = (range_width-least (pos 0) (pos above) (omega (arith, ints))).0 in
-    omega (arith, ints, h.2.1, pow_pos (range_width (pos 0) (pos above)))
-width-span (suc n) above =
-    let h = (range_width-least (negsuc n) (pos above) (omega (arith, ints))).0 in
-    let w = range_width (negsuc n) (pos above) in
-    omega (arith, ints, h.1.0, h.2.1, half w h.0, pow_pos (w - 1))
-
-some-digits : (n : ℕ) → 1 ≤ n → 1 ≤ digit_count n
-some-digits n h = by (digit_count n) (count-holds n)
-  where
-    by : (d : ℕ) → n < 2 ^ d → 1 ≤ d
-    by zero l = absurd (omega (arith, l, h))
-    by (suc d) l = omega arith
-
-parts-above : (z : ℤ) → z ≤ℤ pos (above_zero z)
-parts-above (pos n) = omega (arith, ints)
-parts-above (negsuc n) = omega (arith, ints)
-
-parts-below : (z : ℤ) → neg_ℤ (pos (below_zero z)) ≤ℤ z
-parts-below (pos n) = omega (arith, ints)
-parts-below (negsuc n) = omega (arith, ints)
-
-positive-den : (d : ℤ) → pos 1 ≤ℤ d → 0 < unsigned_abs d
-positive-den (pos n) h = omega (arith, ints, h)
-positive-den (negsuc n) h = absurd (omega (arith, ints, h))
-
-positive_product : (a b : ℕ) → 0 < a → 0 < b → 0 < a * b
-positive_product zero b h k = absurd (omega (arith, h))
-positive_product (suc a) b h k = omega (arith, k)
-
 pub units-some : (s : Sop) → IsSop s → 0 < units s
-units-some s sop = positive_product (unsigned_abs s.den) (2 ^ depth s) (positive-den s.den sop.numbers.positive) (pow_pos (depth s))
+units-some s sop = mul-pos {m = unsigned_abs s.den} {n = 2 ^ depth s} (some_units s.den sop.numbers.positive) (pow_pos (depth s))
 
 -- the ends of a term are in order
 ordered : (s : Sop) → IsSop s → (k : ℕ) → (term_at s k).least ≤ℤ (term_at s k).most
@@ -170,9 +125,6 @@ scaled-narrow s t n input h =
     apart a (suc b) h = omega (arith, ints)
 
 module _ (s : Sop) (accepted : IsAcceptedSop s) where
-  sop : IsSop s
-  sop = accepted_sop s accepted
-
   pub term-small : (k : ℕ) → k < length (terms_of s) → IsSmall s (term_at s k)
   term-small k here = record {
     shift = small_shift s k (accepted_shifts s accepted) here;
@@ -181,7 +133,7 @@ module _ (s : Sop) (accepted : IsAcceptedSop s) where
         let t = term_at s k in
         let few = (accepted_parts s accepted).0 in
         let most = greatest_above (bits_of s) (terms_of s) k (offset_term s) here in
-        let one = some-digits (length (terms_of s)) (omega (arith, here)) in
+        let one = digits-some (length (terms_of s)) (omega (arith, here)) in
         let power : 2 ^ (digit_count t.size + height s t) ≤ 2 ^ 111 =
         power_order (digit_count t.size + height s t) 111 (omega (arith, few, most, one)) in
         let below : t.size ≤ 2 ^ digit_count t.size = omega (arith, count-holds t.size) in
@@ -192,15 +144,15 @@ module _ (s : Sop) (accepted : IsAcceptedSop s) where
   scaled-at : (k : ℕ) (d : Scaled) → k < length s.scaled → IsSmallScaled s (get_or s.scaled k d)
   scaled-at k d here =
       let t = get_or s.scaled k d in
-      let place : k < length (terms_of s) = omega (arith, here, terms-count s sop) in
+      let place : k < length (terms_of s) = omega (arith, here, terms-count s (accepted_sop s accepted)) in
       let is = scaled_place s k t here (slice_get-get_or s.scaled k d here) in
-      let ranged = sop.terms.scaled k d here in
+      let ranged = (accepted_sop s accepted).terms.scaled k d here in
       record {
         ranged = ranged;
         small = subst (IsSmall s) is (term-small k place);
-        narrow = scaled-narrow s t (units s * (2 ^ (sop_format s).width - 1)) (input_fits s t.input sop ranged.input)
+        narrow = scaled-narrow s t (units s * (2 ^ (sop_format s).width - 1)) (input_fits s t.input (accepted_sop s accepted) ranged.input)
             (subst (λ (u : Term). ((u.most *ℤ pos (2 ^ height s u)) -ℤ (u.least *ℤ pos (2 ^ height s u)))
-            ≤ℤ pos (units s * (2 ^ (sop_format s).width - 1))) is (term-gap s sop k place));
+            ≤ℤ pos (units s * (2 ^ (sop_format s).width - 1))) is (term-gap s (accepted_sop s accepted) k place));
       }
 
   times-at : (k : ℕ) (d : Times) → k < length s.products → IsSmallTimes s (get_or s.products k d)
@@ -208,16 +160,16 @@ module _ (s : Sop) (accepted : IsAcceptedSop s) where
       let t = get_or s.products k d in
       let n = length s.scaled + k in
       let back : n - length s.scaled ≡ k = omega arith in
-      let place : n < length (terms_of s) = omega (arith, here, terms-count s sop) in
+      let place : n < length (terms_of s) = omega (arith, here, terms-count s (accepted_sop s accepted)) in
       let is = times_place s n t (omega arith) (omega (arith, here))
       (ap (slice_get s.products) back ∙ slice_get-get_or s.products k d here) in
-      record { ranged = sop.terms.products k d here; small = subst (IsSmall s) is (term-small n place) }
+      record { ranged = (accepted_sop s accepted).terms.products k d here; small = subst (IsSmall s) is (term-small n place) }
 
   offset-at : nat_eq (unsigned_abs s.offset) 0 ≡ false → places_down (offset_term s).shift ≤ depth s
   offset-at some =
       let n = length s.scaled + length s.products in
       let one : length (offset_terms s) ≡ 1 = ap (λ (b : Bool). length (if b then [] else offset_term s ∷ [])) some in
-      let place : n < length (terms_of s) = omega (arith, one, terms-count s sop) in
+      let place : n < length (terms_of s) = omega (arith, one, terms-count s (accepted_sop s accepted)) in
       let is = offset_place s n (omega arith) (omega arith) in
       subst (λ (t : Term). places_down t.shift ≤ depth s) is (term-small n place).deep
 

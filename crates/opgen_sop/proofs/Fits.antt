@@ -11,7 +11,7 @@ use Rattle.opgen_num.specs.Floors.{IsFloor}
 use Rattle.opgen_num.specs.Formats.{Holds}
 use Rattle.opgen_num.specs.Rounding.{IsWithinOne}
 use Rattle.opgen_num.specs.Words.{val, nat}
-use Rattle.opgen_num.proofs.Integers.{sum-product}
+use Rattle.opgen_num.proofs.Integers.{sum-product, zero_from_abs}
 use Rattle.opgen_num.proofs.Residues.{value_from_residue}
 use Rattle.opgen_num.proofs.Rounded.{floor_is, floor_dropped}
 use Rattle.opgen_num.proofs.Values.{val_holds}
@@ -26,7 +26,7 @@ use Rattle.opgen_net.specs.Flow.{Inputs, flow, slice_flow, input_at}
 use Rattle.opgen_net.specs.Grown.{HasGrown}
 use Rattle.opgen_net.specs.Valid.{IsValid, widths, input_widths, slice_width}
 use Rattle.opgen_net.proofs.FlowWidths.{flow-width}
-use Rattle.opgen_net.proofs.Grown.{grown-then}
+use Rattle.opgen_net.proofs.Grown.{grown-few, grown-then}
 use Rattle.opgen_net.proofs.InputLaws.{input_at-width}
 use Rattle.opgen_net.proofs.Later.{words-grown}
 use Rattle.opgen_partial.specs.declared.pairs.Work.{Work}
@@ -50,6 +50,7 @@ use Rattle.opgen_sop.specs.Small.{units, IsSmallGuard}
 use Rattle.opgen_sop.specs.Summed.{numbers, share, IsNear, IsSummed, AreSummed, Stands, sum_at}
 use Rattle.opgen_sop.proofs.AcceptedTerms.{units-some, small-terms}
 use Rattle.opgen_sop.proofs.GuardBits.{nothing-lost, no-guard-bits}
+use Rattle.opgen_sop.proofs.InputNodes.{nodes-delays}
 use Rattle.opgen_sop.proofs.Nearness.{near-none, near-sum, rounded, exact}
 use Rattle.opgen_sop.proofs.ScaledTerm.{den-natural}
 use Rattle.opgen_sop.proofs.TermSums.{floor-near, moved-near}
@@ -59,10 +60,6 @@ total-times : (f : Term → ℤ) (g : ℤ) (ts : List Term) → total (λ t. f t
 total-times f g [] = omega (arith, ints)
 total-times f g (t ∷ ts) =
     ap (λ z. (f t *ℤ g) +ℤ z) (total-times f g ts) ∙ sym (sum-product (f t) (total f ts) g)
-
-zero-of : (z : ℤ) → unsigned_abs z ≡ 0 → z ≡ pos 0
-zero-of (pos n) h = ap pos h
-zero-of (negsuc n) h = absurd (omega (arith, h))
 
 zero-floor : (k : ℤ) (q : ℕ) → 0 < q → (pos q *ℤ k) ≤ℤ pos 0 → pos 0 ≤ℤ (pos q *ℤ k) → k ≡ pos 0
 zero-floor (pos zero) q h l g = refl
@@ -138,7 +135,7 @@ module _ (s : Sop) (accepted : IsAcceptedSop s) (guard : ℕ) (is_guard : IsGuar
           → IsNear (units s) (total (share s guard x) (if b then [] else offset_term s ∷ [])) (floor (offset_fraction s guard)) 0
           (lost (offset_fraction s guard))
       by true e =
-          let none : s.offset ≡ pos 0 = zero-of s.offset (eqb-true (unsigned_abs s.offset) 0 e) in
+          let none : s.offset ≡ pos 0 = zero_from_abs s.offset (eqb-true (unsigned_abs s.offset) 0 e) in
           let first : pos 0 *ℤ pos (up z) ≡ pos 0 = omega (arith, ints) in
           let no : n ≡ pos 0 = ap (λ o. o *ℤ pos (up z)) none ∙ first in
           let unrounded : lost (offset_fraction s guard) ≡ 0 =
@@ -356,6 +353,7 @@ module _ (s : Sop) (accepted : IsAcceptedSop s) (hold : SopsHold s) (guard : ℕ
         valid = subst IsValid is-last whole;
         inputs = refl;
         outputs = ap (λ w. (codes "y", w) ∷ []) slice;
+        delays = grown-few (input_net s) after whole-grown 0 (omega (arith, nodes-delays 0 s.inputs));
         good = λ inputs u words within range.
             let now : pos u ≡ pos u -ℤ pos 0 = omega (arith, ints) in
             subst (λ t. IsGoodRatio (mode_of_exact mark) (exact_sop s (λ i. val (input_at inputs i (format_of s i).width t) (format_of s i)))

@@ -1,20 +1,18 @@
 -- The guard bits of an accepted sum: none where every term is whole, and never so many that the heap is too wide.
-use Rattle.std.proofs.Common.{◌≡◌, ℕ, zero, suc, ◌+◌, ◌-◌, ◌*◌, ◌%◌, ◌^◌, ◌<◌, ◌≤◌, ◌⊎◌, inl, inr, Bool, true, false, not, cond, if◌then◌else◌, List, [], ◌∷◌, length, get_or, max, refl, ap, ◌∙◌, subst, arith}
+use Rattle.std.proofs.Common.{◌≡◌, ℕ, zero, suc, ◌+◌, ◌-◌, ◌*◌, ◌%◌, ◌^◌, ◌<◌, ◌≤◌, ◌⊎◌, inl, inr, Bool, true, false, not, cond, if◌then◌else◌, List, [], ◌∷◌, length, get_or, refl, ap, ◌∙◌, subst, arith}
 use Rattle.std.specs.Prelude.{ℤ, pos, negsuc, neg_ℤ, ◌+ℤ◌, ◌*ℤ◌, ◌≤ℤ◌, unsigned_abs, Option, Some, None, nat_eq, nat_lt, is_none, slice_get, ◌==◌}
 use Rattle.std.specs.Int.{div_ceil}
 use Rattle.std.specs.List.{position_from}
 use Rattle.std.proofs.Math.Nat.{mod-eq_of_lt, mul-le-mul_left, mul-le-mul_right}
-use Rattle.std.proofs.lemmas.Bool.{cases_lt, eqb-true, le-ltb}
+use Rattle.std.proofs.lemmas.Bool.{cases_lt, eqb-true, le-ltb, not-false}
 use Rattle.std.proofs.lemmas.Grind.{div_ceil_times}
 use Rattle.std.proofs.lemmas.Int.{ints, unsigned_abs-mul}
 use Rattle.std.proofs.Math.Nat.{zero-mod}
 use Rattle.std.proofs.lemmas.Option.{slice_get-get_or}
 use Rattle.opgen_num.specs.declared.format.Ratio.{Ratio}
-use Rattle.opgen_num.specs.Formats.{range_width}
 use Rattle.opgen_num.proofs.BitLength.{power_order}
-use Rattle.opgen_num.proofs.RangeWidth.{count-least}
 use Rattle.opgen_ports.specs.Reaches.{above_zero, below_zero, places_down, up, down, is_whole_at}
-use Rattle.opgen_ports.proofs.Widths.{some_width}
+use Rattle.opgen_ports.proofs.Widths.{some_width, width_within}
 use Rattle.opgen_terms.specs.declared.sop.TheConstants.{MAX_TOTAL_BITS, COUNTED_BITS}
 use Rattle.opgen_terms.specs.declared.sop.Sop.{Sop}
 use Rattle.opgen_terms.specs.declared.sop.Scaled.{Scaled}
@@ -54,10 +52,6 @@ no-guard z = omega (arith, ints)
 
 lost-none : (q : Ratio) → is_rounded q ≡ false → lost q ≡ 0
 lost-none q e = ap (λ (b : Bool). if b then 1 else 0) e
-
-not-false : (b : Bool) → not b ≡ false → b ≡ true
-not-false true e = refl
-not-false false e = cc
 
 whole-shift : (d : ℕ) (z : ℤ) → 0 < d → (d * up z) % (d * down z) ≡ 0 → places_down z ≡ 0
 whole-shift d (pos n) some e = refl
@@ -160,12 +154,6 @@ module _ (s : Sop) (sop : IsSop s) (none : sop_inexact s ≡ None) where
 
 -- the width
 
-width-few : (below above k : ℕ) → below < 2 ^ k → above < 2 ^ k → range_width (neg_ℤ (pos below)) (pos above) ≤ k + 2
-width-few zero above k h l = omega (arith, count-least above k l)
-width-few (suc n) above k h l =
-    let m : max n above < 2 ^ k = omega (arith, h, l) in
-    omega (arith, count-least (max n above) k m)
-
 small-ceiling : (n d : ℕ) → n ≤ 2 ^ MAX_TOTAL_BITS → 2 ^ 41 ≤ d → div_ceil n d < 2 ^ 72
 small-ceiling n d few wide = by (cases_lt (div_ceil n d) (2 ^ 72))
   where
@@ -183,9 +171,6 @@ ends (pos n) = (omega arith, omega arith)
 ends (negsuc n) = (omega arith, omega arith)
 
 module _ (s : Sop) (accepted : IsAcceptedSop s) where
-  sop : IsSop s
-  sop = accepted_sop s accepted
-
   few-bits : total_bits s ≤ MAX_TOTAL_BITS
   few-bits = (accepted_parts s accepted).0
 
@@ -193,14 +178,22 @@ module _ (s : Sop) (accepted : IsAcceptedSop s) where
   deep-narrow : 41 ≤ depth s → (sop_format s).width ≤ 74
   deep-narrow deep =
       let wide : 2 ^ 41 ≤ units s =
-      omega (arith, power_order 41 (depth s) deep, mul-le-mul_right (2 ^ depth s) (positive s.den sop.numbers.positive)) in
-      let least = raised_small s (λ t. t.least) few-bits (λ k h. (sized s k sop).least) in
-      let most = raised_small s (λ t. t.most) few-bits (λ k h. (sized s k sop).most) in
+      omega (arith, power_order 41 (depth s) deep, mul-le-mul_right (2 ^ depth s) (positive s.den (accepted_sop s accepted).numbers.positive)) in
+      let least = raised_small s (λ t. t.least) few-bits (λ k h. (sized s k (accepted_sop s accepted)).least) in
+      let most = raised_small s (λ t. t.most) few-bits (λ k h. (sized s k (accepted_sop s accepted)).most) in
       let low : (sop_places s).below < 2 ^ 72 =
-      omega (arith, below-is s sop, small-ceiling (sop_reach s).below (units s) (omega (arith, least, (ends (raised s (λ t. t.least))).1)) wide) in
+      omega (
+        arith,
+        below-is s (accepted_sop s accepted),
+        small-ceiling (sop_reach s).below (units s) (omega (arith, least, (ends (raised s (λ t. t.least))).1)) wide,
+      ) in
       let high : (sop_places s).above < 2 ^ 72 =
-      omega (arith, above-is s sop, small-ceiling (sop_reach s).above (units s) (omega (arith, most, (ends (raised s (λ t. t.most))).0)) wide) in
-      omega (arith, width-few (sop_places s).below (sop_places s).above 72 low high)
+      omega (
+        arith,
+        above-is s (accepted_sop s accepted),
+        small-ceiling (sop_reach s).above (units s) (omega (arith, most, (ends (raised s (λ t. t.most))).0)) wide,
+      ) in
+      omega (arith, width_within (sop_places s).below (sop_places s).above 72 low high)
     where
       positive : (d : ℤ) → pos 1 ≤ℤ d → 1 ≤ unsigned_abs d
       positive (pos n) h = omega (arith, ints, h)
@@ -237,7 +230,7 @@ module _ (s : Sop) (accepted : IsAcceptedSop s) where
   tables-few t is = by (is_rounded (scaled_fraction s 10 t))
     where
       most : (format_of s t.input).width ≤ 48
-      most = omega (arith, (input_fits s t.input sop is.ranged.input).most)
+      most = omega (arith, (input_fits s t.input (accepted_sop s accepted) is.ranged.input).most)
 
       by : (b : Bool) → (if b then div_ceil (format_of s t.input).width 6 else 0) ≤ 8
       by true = omega (arith, most)
@@ -262,8 +255,8 @@ module _ (s : Sop) (accepted : IsAcceptedSop s) where
         all-tables s.scaled (λ k d h. small.scaled k d h),
         all-floors few s.products (λ k d h. small.products k d h),
         lost-few (offset_fraction s 10),
-        sop.terms.few_scaled,
-        sop.terms.few_products,
+        (accepted_sop s accepted).terms.few_scaled,
+        (accepted_sop s accepted).terms.few_products,
       )
 
   -- the bits of the output, and the ten below them where a term is rounded
@@ -278,7 +271,7 @@ module _ (s : Sop) (accepted : IsAcceptedSop s) where
   small-guard guard is few = record { few = few; some = some_width (sop_places s); narrow = by (sop_inexact s) refl (cases_lt 40 (depth s)) }
     where
       by : (o : Option ℕ) → sop_inexact s ≡ o → (40 < depth s ⊎ depth s ≤ 40) → (sop_format s).width + guard ≤ 96
-      by None e c = omega (arith, width-rounded, no-guard-bits s sop e guard is)
+      by None e c = omega (arith, width-rounded, no-guard-bits s (accepted_sop s accepted) e guard is)
       by (Some n) e (inl deep) = omega (arith, deep-narrow deep, few)
       by (Some n) e (inr flat) =
           let bits : rounding_bits s ≡ COUNTED_BITS = ap (λ (o : Option ℕ). if is_none o then 0 else COUNTED_BITS) e in

@@ -1,8 +1,9 @@
--- The inputs of a sum of products as nodes of its net: their formats, widths and words.
+-- The inputs of a sum of products as nodes of its net: their formats, widths and words. None is a delay.
 use Rattle.std.proofs.Common.{◌≡◌, ℕ, zero, suc, ◌+◌, ◌<◌, List, [], ◌∷◌, ◌++◌, length, drop, Some, slice_index_or, refl, sym, ap, ◌∙◌, arith}
 use Rattle.std.specs.Prelude.{ℤ, slice_get, slice_index}
 use Rattle.opgen_net.specs.declared.node.Node.{Node}
 use Rattle.opgen_net.specs.declared.node.Node.TheVariants.{Input}
+use Rattle.opgen_net.specs.Delays.{delay_count}
 use Rattle.opgen_net.specs.Flow.{Inputs, flow, input_at}
 use Rattle.opgen_net.specs.Valid.{widths}
 use Rattle.opgen_net.proofs.FlowLaws.{flow_equation, stands_at}
@@ -31,6 +32,10 @@ node-there first (p ∷ ps) (suc k) h =
 pub length-nodes : (first : ℕ) (ps : List PortFormat) → length (input_nodes first ps) ≡ length ps
 length-nodes first [] = refl
 length-nodes first (p ∷ ps) = omega (arith, length-nodes (suc first) ps)
+
+pub nodes-delays : (first : ℕ) (ps : List PortFormat) → delay_count (input_nodes first ps) ≡ 0
+nodes-delays first [] = refl
+nodes-delays first (p ∷ ps) = nodes-delays (suc first) ps
 
 module _ (s : Sop) (guard : ℕ) (w : Work) (stands : Stands s guard w) (i : ℕ) (within : i < length s.inputs) where
   is-input : slice_get w.net.nodes i ≡ Some (Input i (format_of s i).width)

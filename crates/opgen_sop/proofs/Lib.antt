@@ -1,11 +1,12 @@
 mod Nearness
 mod CutRows
-pub mod InputNodes
+mod InputNodes
 mod Sizes
 mod TermSums
-pub mod ScaledTerm
-pub mod ProductTerm
-pub mod Steps
-pub mod AcceptedTerms
-pub mod GuardBits
-pub mod Fits
+mod ScaledTerm
+mod ProductTerm
+mod Steps
+mod AcceptedTerms
+mod GuardBits
+mod Fits
+pub mod Whole

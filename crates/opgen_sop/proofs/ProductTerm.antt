@@ -1,5 +1,5 @@
 -- A product of two inputs: its factors are nodes of the net, and what its bits and its constant add to the heap.
-use Rattle.std.proofs.Common.{◌≡◌, ℕ, ◌+◌, ◌*◌, ◌^◌, ◌<◌, ◌≤◌, Bool, true, List, refl, sym, ap, ◌∙◌, subst, arith}
+use Rattle.std.proofs.Common.{◌≡◌, ℕ, ◌+◌, ◌*◌, ◌^◌, ◌<◌, Bool, true, List, refl, sym, ap, ◌∙◌, subst, arith}
 use Rattle.std.specs.Prelude.{ℤ, pos, negsuc, ◌+ℤ◌, ◌*ℤ◌, ◌≤ℤ◌, unsigned_abs, length}
 use Rattle.std.proofs.lemmas.Bool.{eqb-true}
 use Rattle.std.proofs.lemmas.Int.{ints}
@@ -12,7 +12,8 @@ use Rattle.opgen_heap.proofs.Sums.{with_constant-sum}
 use Rattle.opgen_net.specs.Flow.{flow, input_at}
 use Rattle.opgen_net.proofs.Grown.{grown-then}
 use Rattle.opgen_net.proofs.Later.{words-grown}
-use Rattle.opgen_ports.specs.Reaches.{places_up, places_down, up, down}
+use Rattle.opgen_ports.specs.Reaches.{up, down}
+use Rattle.opgen_ports.proofs.Bounds.{one_way}
 use Rattle.opgen_partial.specs.declared.pairs.Work.{Work}
 use Rattle.opgen_partial.specs.declared.pairs.Placing.{Placing}
 use Rattle.opgen_partial.specs.declared.pairs.Products.{Products}
@@ -27,10 +28,6 @@ use Rattle.opgen_sop.specs.Summed.{numbers, share, IsNear, HasTimes, Stands, sum
 use Rattle.opgen_sop.proofs.InputNodes.{input-wide, input-flow}
 use Rattle.opgen_sop.proofs.Nearness.{near-times}
 use Rattle.opgen_sop.proofs.TermSums.{placed-near, moved-near}
-
-one-way : (z : ℤ) → 1 ≤ places_down z → places_up z ≡ 0
-one-way (pos n) h = absurd (omega (arith, h))
-one-way (negsuc n) h = refl
 
 module _ (s : Sop) (guard : ℕ) (t : Times) (sop : IsSop s) (term : IsSmallTimes s t) where
   abbrev p : Products
@@ -93,7 +90,7 @@ module _ (s : Sop) (guard : ℕ) (t : Times) (sop : IsSop s) (term : IsSmallTime
 
         plain : IsNear (2 ^ f.lowered) (P *ℤ pos (2 ^ f.raised)) (pos at.by +ℤ K) 0 (floors_of s guard t)
         plain =
-            placed-near p f width-same refl (one-way z) x y old.heap.width
+            placed-near p f width-same refl (one_way z) x y old.heap.width
             (sum_at old inputs u) (sum_at mid inputs u) at
           where
             width-same : f.square ≡ true → p.b.width ≡ p.a.width

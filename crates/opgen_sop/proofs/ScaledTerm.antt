@@ -1,14 +1,13 @@
 -- A constant times an input: its tables have room, and what they add to the heap.
-use Rattle.std.proofs.Common.{◌≡◌, ℕ, zero, suc, ◌+◌, ◌-◌, ◌*◌, ◌^◌, ◌<◌, ◌≤◌, true, false, pow-add, sym, ap, ◌∙◌, subst, arith}
+use Rattle.std.proofs.Common.{◌≡◌, ℕ, zero, suc, ◌+◌, ◌-◌, ◌*◌, ◌^◌, ◌<◌, ◌≤◌, false, pow-add, sym, ap, ◌∙◌, subst, arith}
 use Rattle.std.specs.Prelude.{ℤ, pos, negsuc, ◌+ℤ◌, ◌*ℤ◌, ◌≤ℤ◌, ◌==◌, unsigned_abs, All}
-use Rattle.std.proofs.Math.Nat.{mul-le-mul_left, le_of_mul-le-mul_left}
-use Rattle.std.proofs.lemmas.Bool.{eqb-true}
+use Rattle.std.proofs.Math.Nat.{mul-le-mul_left, le_of_mul-le-mul_left, mul-pos}
 use Rattle.std.proofs.lemmas.Int.{ints, unsigned_abs-mul}
 use Rattle.std.proofs.lemmas.Nat.{mul-le, pow_pos}
 use Rattle.opgen_num.specs.declared.format.Format.{Format}
 use Rattle.opgen_num.specs.declared.format.Ratio.{Ratio}
 use Rattle.opgen_num.proofs.BitLength.{power_order}
-use Rattle.opgen_num.proofs.Integers.{product_assoc}
+use Rattle.opgen_num.proofs.Integers.{product_assoc, one_more}
 use Rattle.opgen_design.specs.Run.{AreWords}
 use Rattle.opgen_heap.specs.Adding.{residue}
 use Rattle.opgen_heap.specs.Sum.{columns_sum}
@@ -17,6 +16,7 @@ use Rattle.opgen_net.specs.Flow.{Inputs, flow}
 use Rattle.opgen_net.specs.Valid.{input_widths}
 use Rattle.opgen_net.proofs.Later.{words-grown}
 use Rattle.opgen_ports.specs.Reaches.{places_up, places_down, up, down}
+use Rattle.opgen_ports.proofs.Bounds.{some_units}
 use Rattle.opgen_kcm.specs.Chunks.{chunk_count, number}
 use Rattle.opgen_kcm.specs.Entries.{in_guard_units}
 use Rattle.opgen_kcm.specs.Multiple.{HasRisen}
@@ -33,29 +33,11 @@ use Rattle.opgen_sop.specs.Summed.{numbers, share, IsNear, HasScaled, Stands, su
 use Rattle.opgen_sop.proofs.InputNodes.{input-wide, input-flow}
 use Rattle.opgen_sop.proofs.Sizes.{down-few, width-size, room}
 use Rattle.opgen_sop.proofs.TermSums.{multiple-near, powers, moved-near}
+pub use Rattle.opgen_num.proofs.Integers.{zero-is}
 
 pub den-natural : (d : ℤ) (u : ℕ) → pos 1 ≤ℤ d → d *ℤ pos u ≡ pos (unsigned_abs d * u)
 den-natural (pos d) u h = omega (arith, ints)
 den-natural (negsuc d) u h = absurd (omega (arith, ints, h))
-
-some-den : (d : ℤ) → pos 1 ≤ℤ d → 0 < unsigned_abs d
-some-den (pos d) h = omega (arith, ints, h)
-some-den (negsuc d) h = absurd (omega (arith, ints, h))
-
-positive_product : (a b : ℕ) → 0 < a → 0 < b → 0 < a * b
-positive_product zero b h k = absurd (omega (arith, h))
-positive_product (suc a) b h k = omega (arith, k)
-
-one_more : (a b : ℕ) → 0 < b → a * (b - 1) + a ≡ a * b
-one_more a zero h = absurd (omega (arith, h))
-one_more a (suc b) h = let e : suc b - 1 ≡ b = omega arith in omega (arith, ap (λ n. a * n) e)
-
-pub zero-is : (c : ℤ) → (unsigned_abs c == 0) ≡ true → c ≡ pos 0
-zero-is c e = by c (eqb-true (unsigned_abs c) 0 e)
-  where
-    by : (z : ℤ) → unsigned_abs z ≡ 0 → z ≡ pos 0
-    by (pos n) h = ap pos h
-    by (negsuc n) h = absurd (omega (arith, h))
 
 module _ (s : Sop) (guard : ℕ) (t : Scaled) (sop : IsSop s) (fits : IsSmallGuard s guard) (term : IsSmallScaled s t) where
   abbrev q : Ratio
@@ -74,7 +56,7 @@ module _ (s : Sop) (guard : ℕ) (t : Scaled) (sop : IsSop s) (fits : IsSmallGua
   den-is = den-natural s.den (down z) sop.numbers.positive
 
   some-Q : 0 < Q
-  some-Q = positive_product (unsigned_abs s.den) (down z) (some-den s.den sop.numbers.positive) (pow_pos (places_down z))
+  some-Q = mul-pos {m = unsigned_abs s.den} {n = down z} (some_units s.den sop.numbers.positive) (pow_pos (places_down z))
 
   num-size : unsigned_abs q.num ≡ unsigned_abs t.coefficient * up z
   num-size = unsigned_abs-mul t.coefficient (pos (up z))

@@ -10,15 +10,12 @@ use Rattle.opgen_terms.specs.declared.sop.Sop.{Sop}
 use Rattle.opgen_terms.specs.declared.sop.Times.{Times}
 use Rattle.opgen_terms.specs.Sop.{Term, IsSop, size_of, format_of, times_term, height, depth}
 use Rattle.opgen_ports.specs.Reaches.{reach_with, places_up, places_down}
+use Rattle.opgen_ports.proofs.Bounds.{some_units}
 use Rattle.opgen_partial.specs.declared.pairs.Placing.{Placing}
 use Rattle.opgen_partial.specs.declared.pairs.Products.{Products}
 use Rattle.opgen_partial.specs.Recipe.{sign_correction, correction}
 use Rattle.opgen_sop.specs.Sizes.{finer}
 use Rattle.opgen_sop.specs.Small.{IsSmall}
-
-pub up-few : (s : ℤ) (most : ℕ) → s ≤ℤ pos most → places_up s ≤ most
-up-few (pos n) most h = omega (arith, ints, h)
-up-few (negsuc n) most h = omega arith
 
 pub down-few : (s : ℤ) (most : ℕ) → neg_ℤ (pos most) ≤ℤ s → places_down s ≤ most
 down-few (pos n) most h = omega arith
@@ -111,15 +108,11 @@ room s t guard n k small h bound few =
     let times : n * R ≤ 8 * t.size * (H * 2 ^ 11) = mul-le n R (8 * t.size) (H * 2 ^ 11) (omega (arith, bound, eight)) raised in
     omega (arith, times, small.size)
 
-positive-den : (d : ℤ) → pos 1 ≤ℤ d → 1 ≤ unsigned_abs d
-positive-den (pos n) h = omega (arith, ints, h)
-positive-den (negsuc n) h = absurd (omega (arith, ints, h))
-
 pub products-size : (s : Sop) (t : Times) → IsSop s → 1 ≤ (format_of s t.a).width → 1 ≤ (format_of s t.b).width
     → 2 ^ (format_of s t.a).width * 2 ^ (format_of s t.b).width ≤ 4 * (times_term s t).size
 products-size s t sop a b =
     let A = size_of (format_of s t.a) in
     let B = size_of (format_of s t.b) in
     let both = mul-le (2 ^ (format_of s t.a).width) (2 ^ (format_of s t.b).width) (2 * A) (2 * B) (width-size (format_of s t.a) a) (width-size (format_of s t.b) b) in
-    let more = mul-le-mul_right (A * B) (positive-den s.den sop.numbers.positive) in
+    let more = mul-le-mul_right (A * B) (some_units s.den sop.numbers.positive) in
     omega (arith, both, more)

@@ -2,7 +2,7 @@
 use Rattle.std.proofs.Common.{◌≡◌, ℕ, zero, suc, ◌+◌, ◌*◌, ◌/◌, ◌%◌, ◌^◌, ◌<◌, ◌≤◌, Bool, true, false, not, if◌then◌else◌, List, pow-add, refl, sym, ap, ◌∙◌, subst, arith}
 use Rattle.std.specs.Prelude.{ℤ, pos, negsuc, neg_ℤ, ◌+ℤ◌, ◌-ℤ◌, ◌*ℤ◌, ◌≤ℤ◌, ◌<ℤ◌, ◌==◌, unsigned_abs}
 use Rattle.std.specs.Int.{int_div_euclid}
-use Rattle.std.proofs.lemmas.Bool.{eqb-true}
+use Rattle.std.proofs.lemmas.Bool.{eqb-true, not-false}
 use Rattle.std.proofs.lemmas.Int.{ints}
 use Rattle.std.proofs.lemmas.Nat.{div-add-mod', pow_pos}
 use Rattle.opgen_num.specs.declared.format.Ratio.{Ratio}
@@ -11,6 +11,7 @@ use Rattle.opgen_num.specs.Rounding.{distance}
 use Rattle.opgen_num.proofs.Integers.{product-sum, product-difference, product_assoc, product_cancel, commuted}
 use Rattle.opgen_num.proofs.Rounded.{floor_is}
 use Rattle.opgen_ports.specs.Reaches.{places_up, places_down, up, down}
+use Rattle.opgen_ports.proofs.Reached.{neg-left}
 use Rattle.opgen_kcm.specs.Multiple.{IsMultiple}
 use Rattle.opgen_partial.specs.declared.pairs.Placing.{Placing}
 use Rattle.opgen_partial.specs.declared.pairs.Products.{Products}
@@ -26,10 +27,6 @@ use Rattle.opgen_sop.proofs.Nearness.{near-times, near-cancel}
 
 -- a fraction that is not rounded is whole
 
-negated : (q m : ℕ) → neg_ℤ (pos q) *ℤ pos m ≡ neg_ℤ (pos (q * m))
-negated zero m = omega (arith, ints)
-negated (suc q) m = omega (arith, ints)
-
 pub record Whole (n : ℤ) (m : ℕ) : Type 0 where
   pub times : ℤ
   pub is : times *ℤ pos m ≡ n
@@ -40,11 +37,7 @@ whole-times (negsuc a) m h =
     let q = suc a / m in
     let whole : q * m ≡ suc a = omega (arith, div-add-mod' (suc a) m, h) in
     let less : negsuc a ≡ neg_ℤ (pos (suc a)) = omega (arith, ints) in
-    record { times = neg_ℤ (pos q); is = negated q m ∙ ap (λ n. neg_ℤ (pos n)) whole ∙ sym less }
-
-not-false : (b : Bool) → not b ≡ false → b ≡ true
-not-false true e = refl
-not-false false e = cc
+    record { times = neg_ℤ (pos q); is = neg-left q m ∙ ap (λ n. neg_ℤ (pos n)) whole ∙ sym less }
 
 pub is-whole : (n : ℤ) (m : ℕ) → not (unsigned_abs n % m == 0) ≡ false → Whole n m
 is-whole n m e = whole-times n m (eqb-true (unsigned_abs n % m) 0 (not-false (unsigned_abs n % m == 0) e))

@@ -9,6 +9,7 @@ use Rattle.opgen_net.specs.Placed.{Placed}
 use Rattle.opgen_heap.specs.Adding.{with_constant}
 use Rattle.opgen_compress.specs.Recipe.{compressed}
 use Rattle.opgen_gpc.specs.Recipe.{Counting, counted_if}
+use Rattle.opgen_ports.specs.Recipes.{has_counters}
 use Rattle.opgen_kcm.specs.Recipe.{with_rows}
 use Rattle.opgen_partial.specs.declared.pairs.Work.{Work}
 use Rattle.opgen_partial.specs.Recipe.{with_placed}
@@ -73,7 +74,7 @@ abbrev pub added : Sop → (guard : ℕ) → Work
 added s guard = with_offset s guard (with_all_times s guard s.products (with_all_scaled s guard s.scaled (start s guard)))
 
 abbrev pub counted : Sop → (guard : ℕ) → Counting
-counted s guard = let w = added s guard in counted_if s.counters w.net w.heap
+counted s guard = let w = added s guard in counted_if (has_counters s.compressor) w.net w.heap
 
 abbrev pub summed : Sop → (guard : ℕ) → Placed
 summed s guard = let c = counted s guard in compressed c.net c.heap

@@ -1,5 +1,6 @@
 -- Terms whose numbers have room in 128 bits, and whose tables are no wider than the heap: those of accepted sums.
-use Rattle.std.specs.Prelude.{ℕ, ◌+◌, ◌-◌, ◌*◌, ◌^◌, ◌≤◌, ℤ, pos, neg_ℤ, ◌≤ℤ◌, unsigned_abs, length, All, nat_eq, false, ◌≡◌}
+use Rattle.std.specs.Prelude.{ℕ, ◌+◌, ◌-◌, ◌*◌, ◌^◌, ◌≤◌, ℤ, neg_ℤ, ◌≤ℤ◌, unsigned_abs, length, All, nat_eq, false, ◌≡◌}
+use Rattle.opgen_ports.specs.declared.TheConstants.{MAX_SHIFT}
 use Rattle.opgen_num.specs.declared.format.TheConstants.{MAX_WIDTH}
 use Rattle.opgen_ports.specs.Reaches.{places_down}
 use Rattle.opgen_terms.specs.declared.sop.Sop.{Sop}
@@ -12,7 +13,7 @@ abbrev pub units : Sop → ℕ
 units s = unsigned_abs s.den * 2 ^ depth s
 
 abbrev pub IsSmallShift : ℤ → Type 0
-IsSmallShift shift = (neg_ℤ (pos 48) ≤ℤ shift) × (shift ≤ℤ pos 48)
+IsSmallShift shift = (neg_ℤ MAX_SHIFT ≤ℤ shift) × (shift ≤ℤ MAX_SHIFT)
 
 pub record IsSmall (s : Sop) (t : Term) : Type 0 where
   pub shift : IsSmallShift t.shift

@@ -1,5 +1,6 @@
 //! The terms of a sum of products as fractions in units of its lowest guard bit.
 ghost use Rattle.std.specs.Prelude.{◌≡◌, ◌+◌, ◌*◌, ◌^◌, ◌≤◌, ◌<◌, length, ℤ, pos, neg_ℤ, ◌+ℤ◌, ◌≤ℤ◌, ◌<ℤ◌, unsigned_abs};
+ghost use Rattle.opgen_num.specs.declared.limits.TheConstants.{MAX_DENOMINATOR, MAX_NUMERATOR};
 ghost use Rattle.opgen_ports.specs.Ranges.{IsInput, IsWithin};
 ghost use Rattle.opgen_terms.specs.Sop.{IsSop, IsAcceptedSop, format_of, scaled_term, times_term, offset_term};
 ghost use Rattle.opgen_sop.specs.Sizes.{finer, fraction, is_rounded, floor, lost, scaled_fraction, factor, products, placing, turned_fraction, offset_fraction};
@@ -46,10 +47,10 @@ fn finer(shift: i32, guard: u32) -> i32
 // A number over a denominator, at a shift.
 fn fraction(den: i64, shift: i32, number: i64) -> Ratio
     requires positive { pos 1 ≤ℤ den }
-    requires small { den ≤ℤ pos (2 ^ 30) }
+    requires small { den ≤ℤ MAX_DENOMINATOR }
     requires low { neg_ℤ (pos 64) ≤ℤ shift }
     requires high { shift ≤ℤ pos 75 }
-    requires number { IsWithin (2 ^ 30) number }
+    requires number { IsWithin MAX_NUMERATOR number }
     ensures value { result ≡ fraction den shift number }
     ensures positive { pos 0 <ℤ result.den }
 {

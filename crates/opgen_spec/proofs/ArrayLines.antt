@@ -22,10 +22,10 @@ use Rattle.opgen_document.specs.Ranges.{length_outside}
 use Rattle.opgen_document.specs.Types.{is_wrong, are_tables}
 use Rattle.opgen_document.proofs.Ranges.{inside}
 use Rattle.opgen_spec.specs.Faults.{found, value_outside, is_always_asked, out_of_range, outside_among, is_missing, missing_among, kind_clashes, is_wrong_in, wrong_among, among_line, among_lines}
-use Rattle.opgen_spec.specs.Stands.{stand_in, is_needed}
-use Rattle.opgen_spec.specs.kinds.{kind_of, kinds_of, entry}
+use Rattle.opgen_entries.specs.Stands.{stand_in, is_needed}
+use Rattle.opgen_entries.specs.kinds.{kind_of, kinds_of, entry}
 use Rattle.opgen_spec.proofs.Fine.{AreFine, IsFine, find_none, first_none, map_none, asked_there, stands, there_inside, typed}
-use Rattle.opgen_spec.proofs.Reading.{or_none}
+use Rattle.opgen_entries.proofs.Arrays.{or_none}
 
 -- each check finds nothing in a line
 pub record IsFineLine (array : Array) (doc : Members) (n : ℕ) (ms : Members) : Type 0 where

@@ -10,7 +10,7 @@ use Rattle.opgen_document.specs.Document.{value_at, number_at, flag_in, count_at
 use Rattle.opgen_document.specs.Ranges.{out_width_outside}
 use Rattle.opgen_document.proofs.Ranges.{inside, counted}
 use Rattle.opgen_document.proofs.Values.{IsFlag, flag_stands, count_written}
-use Rattle.opgen_spec.specs.kinds.{kind_of, entry}
+use Rattle.opgen_entries.specs.kinds.{kind_of, entry}
 use Rattle.opgen_spec.proofs.Fine.{AreFine, IsFine, typed, there_inside, own_range}
 use Rattle.opgen_spec.proofs.Known.{allowed, width_key}
 use Rattle.opgen_spec.proofs.Versions.{third_is_three, not_fourth}

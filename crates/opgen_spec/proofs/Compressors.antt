@@ -1,6 +1,6 @@
 -- The compressor of a document without a fault: it has none, or one of the two, in another version than the first.
 use Rattle.std.proofs.Common.{◌≡◌, ℕ, ◌||◌, ◌⊎◌, ⊎_elim, inl, inr, not, Bool, true, false, List, length, Option, Some, None, is_some, option_and_then, subst, refl, ap, sym, ◌∙◌, if◌then◌else◌}
-use Rattle.std.specs.Prelude.{pos, codes}
+use Rattle.std.specs.Prelude.{pos, codes, IsTrue}
 use Rattle.std.specs.Option.{option_map_or}
 use Rattle.std.specs.Str.{bytes_eq}
 use Rattle.std.proofs.lemmas.Slice.Eq.{bytes_eq-Decides}
@@ -13,7 +13,9 @@ use Rattle.opgen_document.specs.Document.{value_at, text_in, text_at, counters_a
 use Rattle.opgen_document.specs.Types.{is_wrong}
 use Rattle.opgen_document.specs.Keys.{may_be}
 use Rattle.opgen_document.specs.Ranges.{compressor_outside, compressor_outside_in, compressor_at_outside}
-use Rattle.opgen_spec.specs.kinds.{kind_of, entry}
+use Rattle.opgen_ports.specs.Recipes.{compressor_of, has_counters, is_of_bits}
+use Rattle.opgen_ports.proofs.Marks.{has_counters-of, of_bits}
+use Rattle.opgen_entries.specs.kinds.{kind_of, entry}
 use Rattle.opgen_spec.proofs.Fine.{AreFine, typed, own_range}
 use Rattle.opgen_spec.proofs.Known.{allowed, compressor_key}
 use Rattle.opgen_spec.proofs.Versions.{not_fourth}
@@ -65,8 +67,9 @@ without : (ms : Members) → value_at ms key.Compressor ≡ None → counters_at
 without ms none = ap (λ o. bytes_eq (text_in o) (codes "counters")) none
 
 pub first_without : (ms : Members) → (value_at ms key.Compressor ≡ None) ⊎ IsTaken ms → version_of ms ≡ First
-    → counters_at ms ≡ false
-first_without ms cases first = ⊎_elim (without ms) (λ (t : IsTaken ms). absurd (t.later first)) cases
+    → has_counters (compressor_of (counters_at ms)) ≡ false
+first_without ms cases first =
+    has_counters-of (counters_at ms) ∙ ⊎_elim (without ms) (λ (t : IsTaken ms). absurd (t.later first)) cases
 
 two_names : (text : List ℕ) → compressor_outside text ≡ None → bytes_eq text (codes "counters") ≡ false → text ≡ codes "dadda"
 two_names text h other = go (bytes_eq text (codes "dadda")) refl (bytes_eq text (codes "counters")) other h
@@ -77,8 +80,8 @@ two_names text h other = go (bytes_eq text (codes "dadda")) refl (bytes_eq text 
     go false is false other h = cc
     go false is true other h = cc
 
-pub compressor_written : (ms : Members) → (value_at ms key.Compressor ≡ None) ⊎ IsTaken ms → IsCompressorAsWritten ms (counters_at ms)
-compressor_written ms cases =
+counters_written : (ms : Members) → (value_at ms key.Compressor ≡ None) ⊎ IsTaken ms → IsCompressorAsWritten ms (counters_at ms)
+counters_written ms cases =
     ⊎_elim (λ (none : value_at ms key.Compressor ≡ None). subst (IsCompressorAsWritten ms) (sym (without ms none)) (inl none))
     (λ (t : IsTaken ms). there (value_at ms key.Compressor) refl t.typed t.ranged) cases
   where
@@ -95,3 +98,8 @@ compressor_written ms cases =
         subst (IsCompressorAsWritten ms) (sym (ap (λ o. bytes_eq (text_in o) (codes "counters")) is))
         (named text is ranged (bytes_eq text (codes "counters")) refl)
     there (Some _) is typed ranged = cc
+
+pub compressor_written : (ms : Members) → (value_at ms key.Compressor ≡ None) ⊎ IsTaken ms
+    → IsTrue (is_of_bits (compressor_of (counters_at ms))) × IsCompressorAsWritten ms (has_counters (compressor_of (counters_at ms)))
+compressor_written ms cases =
+    (of_bits (counters_at ms), subst (IsCompressorAsWritten ms) (sym (has_counters-of (counters_at ms))) (counters_written ms cases))

@@ -18,11 +18,11 @@ use Rattle.opgen_document.specs.Keys.{document_keys, arrays, key_name, shared_st
 use Rattle.opgen_document.specs.Document.{value_at, version_of}
 use Rattle.opgen_document.specs.declared.key.Version.{Version}
 use Rattle.opgen_document.specs.declared.key.Version.TheVariants.{First, Second, Third, Fourth}
-use Rattle.opgen_spec.specs.kinds.{kind_of, entry}
-use Rattle.opgen_spec.specs.Stands.{stand_in, is_needed}
+use Rattle.opgen_entries.specs.kinds.{kind_of, entry}
+use Rattle.opgen_entries.specs.Stands.{stand_in, is_needed}
 use Rattle.opgen_document.specs.Types.{is_wrong}
 use Rattle.opgen_spec.specs.Faults.{first_of, check_fault, found, kind_outside, value_outside, is_always_asked, out_of_range, outside_among, is_missing, unknown_among, missing_among, kind_clashes, is_wrong_in, wrong_among, among_keys, among_array, line_count, count_on, counted_on, among_arrays, bad_version, bad_name, has_kind, bad_kind, form_fault, value_fault, field_fault}
-use Rattle.opgen_spec.proofs.Reading.{or_none}
+use Rattle.opgen_entries.proofs.Arrays.{or_none}
 
 pub map_none : {A B : Type 0} (f : A → B) (o : Option A) → option_map f o ≡ None → o ≡ None
 map_none f (Some x) h = cc

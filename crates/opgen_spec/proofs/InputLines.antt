@@ -22,7 +22,7 @@ use Rattle.opgen_document.specs.Keys.{line_keys}
 use Rattle.opgen_document.specs.Ranges.{length_outside}
 use Rattle.opgen_document.proofs.Ranges.{inside}
 use Rattle.opgen_document.proofs.Values.{text_stands, flag_stands, count_written, small_written}
-use Rattle.opgen_spec.specs.kinds.Sop.{name_in, input_named, is_first_named, place_of, input_of, IsInputAsWritten}
+use Rattle.opgen_entries.specs.kinds.Sop.{name_in, input_named, is_first_named, place_of, input_of, IsInputAsWritten}
 use Rattle.opgen_spec.proofs.ArrayLines.{IsFineLine, IsAmong, IsLineAt, line_fine, all_fine, line_at, lines_in, read_length}
 use Rattle.opgen_spec.proofs.Fine.{AreFine, IsFine}
 use Rattle.opgen_spec.proofs.Ranges.{bits_in, bits_bounds, power_small}

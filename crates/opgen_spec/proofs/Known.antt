@@ -5,7 +5,7 @@ use Rattle.std.proofs.lemmas.List.Sums.{AllPass-from_list_all}
 use Rattle.std.specs.Ordering.{nat_cmp, match_ordering}
 use Rattle.std.specs.Cmp.Lexicographic.{slice_cmp}
 use Rattle.std.specs.Str.{bytes_eq}
-use Rattle.std.proofs.lemmas.Bool.{and_parts}
+use Rattle.std.proofs.lemmas.Bool.{and_parts, not-true}
 use Rattle.std.proofs.lemmas.List.Folds.{Any-from_list_any}
 use Rattle.std.proofs.lemmas.Map.Lookups.{exact_bytes}
 use Rattle.toml.specs.Data.{Data, Members, no_members, member, get_member}
@@ -15,8 +15,8 @@ use Rattle.opgen_document.specs.declared.key.Key.{Key}
 use Rattle.opgen_document.specs.declared.key.Key.TheVariants as key
 use Rattle.opgen_document.specs.Document.{names, value_at, version_of}
 use Rattle.opgen_document.specs.Keys.{document_keys, key_name, shared_stand, may_be}
-use Rattle.opgen_spec.specs.Stands.{may_stand, is_known}
-use Rattle.opgen_spec.specs.kinds.{kind_of, entry}
+use Rattle.opgen_entries.specs.Stands.{may_stand, is_known}
+use Rattle.opgen_entries.specs.kinds.{kind_of, entry}
 use Rattle.opgen_spec.proofs.Fine.{AreFine, map_none, is_of_line}
 
 -- a name that is there passes a test that no name fails
@@ -52,6 +52,14 @@ pub width_key : IsOnly key.OutWidth
 width_key key.OutWidth own h = refl
 width_key _ own h = cc
 
+pub rounding_key : IsOnly key.Rounding
+rounding_key key.Rounding own h = refl
+rounding_key _ own h = cc
+
+pub overflow_key : IsOnly key.Overflow
+overflow_key key.Overflow own h = refl
+overflow_key _ own h = cc
+
 pub out_lsb_key : IsOnly key.OutLsb
 out_lsb_key key.OutLsb own h = refl
 out_lsb_key _ own h = cc
@@ -61,13 +69,9 @@ own_keys : list_all (λ k. not (is_of_line k)) document_keys ≡ true
 unfolding document_keys
 own_keys = refl
 
-is_own : (b : Bool) → not b ≡ true → b ≡ false
-is_own true h = cc
-is_own false h = refl
-
 own_at : (i : ℕ) (other : Key) → i < length document_keys → get_or document_keys i other ≡ other → is_of_line other ≡ false
 own_at i other lt at =
-    subst (λ k. is_of_line k ≡ false) at (is_own (is_of_line (get_or document_keys i other))
+    subst (λ k. is_of_line k ≡ false) at (not-true (is_of_line (get_or document_keys i other))
     (AllPass-from_list_all (λ k. not (is_of_line k)) document_keys own_keys i other lt))
 
 -- a key that is there may be there

@@ -1,6 +1,4 @@
 mod Reading
-mod InputNames
-mod Filled
 mod Fine
 mod ArrayLines
 mod Versions
@@ -12,6 +10,7 @@ mod InputLines
 mod Searches
 mod sound
 mod Chosen
+mod Fourth
 pub mod Validity
 mod Written
 pub mod Readings

@@ -1,10 +1,9 @@
--- Numbers and arrays that are not out of range, and the fields that they give.
-use Rattle.std.proofs.Common.{◌≡◌, ℕ, zero, suc, ◌≤◌, ◌<◌, ◌^◌, Bool, true, false, cond, List, [], ◌∷◌, length, get_or, Some, None, find, nat_lt, ap, ◌∙◌, sym, arith, refl, subst}
-use Rattle.std.specs.Prelude.{ℤ, pos, negsuc, ◌≤ℤ◌, unsigned_abs, All}
+-- Numbers that are not out of range, and the fields that they give.
+use Rattle.std.proofs.Common.{◌≡◌, ℕ, ◌≤◌, ◌<◌, ◌^◌, Bool, true, false, List, [], ◌∷◌, None, arith, subst}
+use Rattle.std.specs.Prelude.{ℤ, pos, negsuc, ◌≤ℤ◌, All}
 use Rattle.std.proofs.lemmas.Int.{ints}
-use Rattle.std.proofs.lemmas.List.{length-map}
 use Rattle.std.proofs.lemmas.List.Elements.{All-cons, All-nil}
-use Rattle.toml.specs.Data.{Items, Members}
+use Rattle.toml.specs.Data.{Members}
 use Rattle.opgen_num.specs.Formats.{fewest_bits}
 use Rattle.opgen_ports.specs.Limits.{most_input}
 use Rattle.opgen_ports.specs.Ranges.{IsPower, IsNear, IsInput, IsWithin, AreNear}
@@ -14,12 +13,10 @@ use Rattle.opgen_document.specs.declared.key.Key.{Key}
 use Rattle.opgen_document.specs.declared.key.Key.TheVariants as key
 use Rattle.opgen_document.specs.declared.key.Version.{Version}
 use Rattle.opgen_document.specs.declared.key.Version.TheVariants.{First, Second, Third, Fourth}
-use Rattle.opgen_document.specs.Document.{version_of, list_of, number_at, flag_at, count_at, count, small, format_at, unsigned_at}
-use Rattle.opgen_document.specs.Numbers.{coefficient, places_among, numerators}
-use Rattle.opgen_document.specs.Ranges.{is_beyond, first_beyond, length_outside, array_outside, bits_outside, width_outside, near_outside, power_outside_in, power_outside, extra_outside}
+use Rattle.opgen_document.specs.Document.{version_of, number_at, flag_at, count_at, count, small, format_at, unsigned_at}
+use Rattle.opgen_document.specs.Ranges.{bits_outside, width_outside, near_outside, power_outside_in, power_outside, extra_outside}
 use Rattle.opgen_document.proofs.Ranges.{inside, counted, small_same}
 use Rattle.opgen_spec.proofs.Fine.{AreFine, IsFine}
-use Rattle.opgen_spec.proofs.Reading.{or_none}
 use Rattle.opgen_spec.proofs.Versions.{IsEarly, early}
 
 -- a number within bounds stays within them in 32 bits
@@ -131,39 +128,6 @@ pub extra_in : (ms : Members) → IsFine ms key.Extra (extra_outside ms) → cou
 extra_in ms h =
     let (least, most) = inside (pos 0) (pos 2) (number_at ms key.Extra) h.within in
     (counted (number_at ms key.Extra) 0 2 least most (omega arith)).1
-
-not_below : (a b : ℕ) → nat_lt a b ≡ false → b ≤ a
-not_below a b h = grind arith
-
--- numbers of which none is beyond a limit
-none_beyond : (limit : ℕ) (ns : List ℤ) → find (is_beyond limit) ns ≡ None → All (IsWithin limit) ns
-none_beyond limit [] h k d lt = absurd (omega arith)
-none_beyond limit (n ∷ ns) h k d lt = go (is_beyond limit n) refl k (λ j none below. none_beyond limit ns none j d below) lt
-  where
-    go : (b : Bool) → is_beyond limit n ≡ b → (k : ℕ)
-        → ((j : ℕ) → find (is_beyond limit) ns ≡ None → j < length ns → IsWithin limit (get_or ns j d)) → k < length (n ∷ ns)
-        → IsWithin limit (get_or (n ∷ ns) k d)
-    go true e k later lt =
-        let some : Some n ≡ None = ap (λ b. cond b (Some n) (find (is_beyond limit) ns)) (sym e) ∙ h in
-        cc
-    go false e zero later lt = not_below limit (unsigned_abs n) e
-    go false e (suc k) later lt = later k (ap (λ b. cond b (Some n) (find (is_beyond limit) ns)) (sym e) ∙ h) (omega arith)
-
-pub record IsArray (least most limit : ℕ) (items : Items) : Type 0 where
-  pub some : least ≤ length (numerators items)
-  pub few : length (numerators items) ≤ most
-  pub each : All (IsWithin limit) (numerators items)
-
-pub array_in : (least most limit : ℕ) (items : Items) → array_outside least most limit items ≡ None → IsArray least most limit items
-array_in least most limit items h =
-    let (lengths, numbers) = or_none (length_outside least most items) (first_beyond limit items) h in
-    let (fewest, greatest) = inside (pos least) (pos most) (pos (length (list_of items))) lengths in
-    let same = length-map (list_of items) (coefficient (places_among items)) in
-    record {
-      some = omega (arith, ints, same);
-      few = omega (arith, ints, same);
-      each = none_beyond limit (numerators items) numbers;
-    }
 
 -- numbers within a limit are within a greater one
 pub within_more : (limit greater : ℕ) (ns : List ℤ) → limit ≤ greater → All (IsWithin limit) ns → All (IsWithin greater) ns

@@ -37,7 +37,3 @@ none_first ms none h = ap (spec_or_fault ms) (parts ms ∙ ap (λ o. option_or o
 pub gives_fault : (f : SpecFault) (answer : Result Spec SpecFault) → answer ≡ Err f → Gives (Err f) answer
 gives_fault fault.Memory answer h = tt
 gives_fault _ answer h = h
-
-pub or_none : {A : Type 0} (x y : Option A) → option_or x y ≡ None → (x ≡ None) × (y ≡ None)
-or_none (Some a) y h = cc
-or_none None y h = (refl, h)

@@ -9,7 +9,7 @@ use Rattle.opgen_operator.specs.Valid.{IsValidSpec}
 use Rattle.opgen_spec.specs.Faults.{field_fault, read}
 use Rattle.opgen_spec.specs.Spec.{spec_with, spec_of}
 use Rattle.opgen_spec.specs.Written.{IsAsWritten}
-use Rattle.opgen_spec.specs.kinds.{kind_of}
+use Rattle.opgen_entries.specs.kinds.{kind_of}
 use Rattle.opgen_spec.proofs.Fine.{fine, no_kind}
 use Rattle.opgen_spec.proofs.Validity.{clear_of, valid_read}
 use Rattle.opgen_spec.proofs.Written.{written}

@@ -1,6 +1,7 @@
 -- A document without a fault gives a valid specification.
 use Rattle.std.proofs.Common.{◌≡◌, ℕ, ◌≤◌, Bool, true, false, [], ◌∷◌, length, Option, Some, None, Ok, subst, option_map, option_and_then, nat_lt, refl, ap, sym, ◌∙◌, arith, lit<, if◌then◌else◌}
 use Rattle.std.specs.Prelude.{pos, IsTrue, unwrap_or}
+use Rattle.std.proofs.lemmas.Bool.{and_parts}
 use Rattle.std.proofs.lemmas.Int.{ints}
 use Rattle.toml.specs.Data.{Members}
 use Rattle.opgen_spec.specs.declared.fault.SpecFault.{SpecFault}
@@ -13,28 +14,32 @@ use Rattle.opgen_operator.specs.declared.spec.Spec.{Spec}
 use Rattle.opgen_ports.specs.Limits.{most_signal}
 use Rattle.opgen_operator.specs.Operator.{least_shift, most_shift, inexact, shift}
 use Rattle.opgen_operator.proofs.EachMode.{mode_by_mark}
+use Rattle.opgen_operator.specs.GivenNames.{is_name_in}
 use Rattle.opgen_ports.specs.SpecName.{is_spec_name}
-use Rattle.opgen_operator.specs.Valid.{IsDelayLine, IsValidSpec}
+use Rattle.opgen_ports.specs.Modes.{mode_by}
+use Rattle.opgen_operator.specs.Valid.{IsDelayLine, IsInexactIf, IsModeOf, IsValidSpec}
 use Rattle.opgen_document.specs.Keys.{line_keys}
-use Rattle.opgen_document.specs.Document.{value_at, number_at, text_at, items_at}
-use Rattle.opgen_spec.specs.kinds.{kind_of}
+use Rattle.opgen_document.specs.Document.{value_at, number_at, count_at, text_at, items_at}
+use Rattle.opgen_entries.specs.kinds.{kind_of}
 use Rattle.opgen_document.specs.Ranges.{outside}
 use Rattle.opgen_spec.specs.Spec.{line_of, spec_of, spec_with}
-use Rattle.opgen_spec.specs.Faults.{first_of, not_exact, coarse, over_limit, too_wide, field_fault, limit_fault, read}
-use Rattle.opgen_spec.proofs.Reading.{or_none, field_first, limit_first, none_first}
+use Rattle.opgen_spec.specs.Faults.{first_of, not_exact, coarse, over_limit, too_wide, field_fault, limit_fault, is_name_of, read}
+use Rattle.opgen_entries.proofs.Arrays.{or_none}
+use Rattle.opgen_spec.proofs.Reading.{field_first, limit_first, none_first}
 use Rattle.opgen_spec.proofs.Fine.{AreFine, fine, passed, no_kind, map_none, present, ranged, there_inside}
 use Rattle.opgen_spec.proofs.ArrayLines.{IsFineLine, IsAmong, line_fine, all_fine, lines_in, read_length, few_items}
 use Rattle.opgen_document.proofs.Ranges.{inside, counted}
 use Rattle.opgen_spec.proofs.Chosen.{choice}
+use Rattle.opgen_spec.proofs.Fourth.{no_rounding, saturates}
 use Rattle.opgen_spec.proofs.Versions as versions
 use Rattle.opgen_spec.proofs.sound.All.{sound}
 
 -- delay lines
-base_among : IsAmong array.Delay 1 key.Base
+pub base_among : IsAmong array.Delay 1 key.Base
 unfolding line_keys
 base_among = record { below = lit< tt; is = refl }
 
-bit_among : IsAmong array.Delay 2 key.PerBit
+pub bit_among : IsAmong array.Delay 2 key.PerBit
 unfolding line_keys
 bit_among = record { below = lit< tt; is = refl }
 
@@ -75,11 +80,14 @@ valid_in ms one f e h =
     let (text_least, text_most) = inside (pos 1) (pos 32) (pos (length (text_at ms key.Target))) text in
     let time = there_inside (value_at ms key.Period) (outside (pos 1) (pos 1000000) (number_at ms key.Period))
     (present ms one key.Period f e refl refl) (ranged ms key.Period f refl) in
+    let named = and_parts (is_spec_name (text_at ms key.Name)) (is_name_in (count_at ms key.Version) (text_at ms key.Name))
+    (passed (is_name_of (count_at ms key.Version) (text_at ms key.Name)) fault.BadName f.name) in
     let delays = all_fine array.Delay ms f in
     let (time_least, time_most) = inside (pos 1) (pos 1000000) (number_at ms key.Period) time in
     record {
       version = versions.counted ms f;
-      name = passed (is_spec_name (text_at ms key.Name)) fault.BadName f.name;
+      name = named.0;
+      word = named.1;
       op = record {
         ranges = s.ranges ms f e;
         inputs = s.inputs ms f e;
@@ -91,8 +99,11 @@ valid_in ms one f e h =
       };
       has = s.has ms f e;
       names = s.names ms f e;
-      mode = mode_by_mark spec.exact spec.op (s.agrees ms) (asked_exact spec exact);
+      rounding = subst (λ rounding. IsInexactIf rounding spec.exact) (sym (no_rounding ms one f e)) tt;
+      mode = subst (λ rounding. IsModeOf (mode_by rounding spec.exact) spec.op) (sym (no_rounding ms one f e))
+          (mode_by_mark spec.exact spec.op (s.agrees ms) (asked_exact spec exact));
       output = choice ms one f e;
+      overflow = saturates ms one f e;
       target = (omega (arith, ints), omega (arith, ints));
       period = counted (number_at ms key.Period) 1 1000000 time_least time_most (omega arith);
       few_lines = omega (

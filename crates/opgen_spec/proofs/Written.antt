@@ -17,14 +17,16 @@ use Rattle.opgen_net.specs.Classes.{classes}
 use Rattle.opgen_spec.specs.Spec.{class_name, class_named, spec_with, line_of}
 use Rattle.opgen_spec.specs.Written.{IsAsWritten, IsLineAsWritten}
 use Rattle.opgen_spec.specs.Faults.{field_fault, class_outside}
-use Rattle.opgen_spec.specs.kinds.{kinds_of, kind_of}
+use Rattle.opgen_entries.specs.kinds.{kinds_of, kind_of}
 use Rattle.opgen_spec.proofs.Fine.{fine, typed, ranged, present, there_inside}
 use Rattle.opgen_spec.proofs.ArrayLines.{IsFineLine, IsAmong, line_fine, all_fine, lines_written}
 use Rattle.opgen_document.proofs.Ranges.{inside}
 use Rattle.opgen_spec.proofs.Versions.{bounds}
 use Rattle.opgen_spec.proofs.Chosen.{width_written, sign_written}
+use Rattle.opgen_spec.proofs.Fourth.{rounding_written, overflow_written}
 use Rattle.opgen_document.proofs.Values.{text_stands, flag_stands, count_written}
 use Rattle.opgen_spec.proofs.sound.All.{sound}
+use Rattle.opgen_spec.proofs.Validity.{base_among, bit_among}
 
 -- a kind that is found by a name has that name
 kind_found : (text : List ℕ) (ks : List Kind) (one : Kind) → find (λ k. bytes_eq (kind_name k) text) ks ≡ Some one → text ≡ kind_name one
@@ -66,14 +68,6 @@ class_among : IsAmong array.Delay 0 key.Class
 unfolding line_keys
 class_among = record { below = lit< tt; is = refl }
 
-base_among : IsAmong array.Delay 1 key.Base
-unfolding line_keys
-base_among = record { below = lit< tt; is = refl }
-
-bit_among : IsAmong array.Delay 2 key.PerBit
-unfolding line_keys
-bit_among = record { below = lit< tt; is = refl }
-
 line_written : (doc : Members) (n : ℕ) (ms : Members) → IsFineLine array.Delay doc n ms → IsLineAsWritten ms (line_of ms)
 line_written doc n ms f =
     let class_fine = line_fine array.Delay doc n ms f 0 key.Class class_among refl in
@@ -103,8 +97,10 @@ written ms one h e =
       kind_written = text_stands (value_at ms key.Kind) (present ms one key.Kind f e refl refl) (typed ms key.Kind f refl)
           ∙ ap (λ text. Some (string text)) (kind_found (text_at ms key.Kind) (kinds_of (version_of ms)) one e ∙ ap kind_name (sym (s.kind_is ms)));
       exact = flag_stands (value_at ms key.Exact) (present ms one key.Exact f e refl refl) (typed ms key.Exact f refl);
+      rounding = rounding_written ms one f e;
       out_width = width_written ms one f e;
       out_signed = sign_written ms f;
+      overflow = overflow_written ms one f e;
       target = text_stands (value_at ms key.Target) (present ms one key.Target f e refl refl) (typed ms key.Target f refl);
       period = count_written (value_at ms key.Period) 1 1000000 time_there (typed ms key.Period f refl)
           (inside (pos 1) (pos 1000000) (number_at ms key.Period) time) (omega arith);

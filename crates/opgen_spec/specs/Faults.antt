@@ -3,6 +3,8 @@ use Rattle.std.specs.Prelude.{◌≡◌, ℕ, ◌+◌, ◌==◌, ◌&&◌, ◌||
 use Rattle.std.specs.List.{position_from}
 use Rattle.std.specs.Option.{option_or, option_map_or}
 use Rattle.toml.specs.Data.{Data, table, Items, no_items, item, Members}
+use Rattle.opgen_ports.specs.declared.TheConstants.{MAX_TARGET_NAME_LEN}
+use Rattle.opgen_num.specs.declared.format.TheConstants.{MAX_INPUT}
 use Rattle.opgen_spec.specs.declared.fault.SpecFault.{SpecFault}
 use Rattle.opgen_spec.specs.declared.fault.SpecFault.TheVariants as fault
 use Rattle.opgen_document.specs.declared.array.Array.{Array}
@@ -12,18 +14,19 @@ use Rattle.opgen_operator.specs.declared.kind.Kind.{Kind}
 use Rattle.opgen_operator.specs.declared.spec.Spec.{Spec}
 use Rattle.opgen_ports.specs.Limits.{most_signal}
 use Rattle.opgen_operator.specs.Operator.{least_shift, most_shift, shift, inexact, need}
+use Rattle.opgen_operator.specs.GivenNames.{is_name_in}
 use Rattle.opgen_ports.specs.SpecName.{is_spec_name}
 use Rattle.opgen_spec.specs.declared.lines.Check.{Check}
 use Rattle.opgen_spec.specs.declared.lines.Check.TheVariants.{Unknown, Missing, WrongType, Range}
 use Rattle.opgen_document.specs.Keys.{document_keys, arrays, array_key, line_keys}
-use Rattle.opgen_document.specs.Document.{names, value_at, number_at, text_at, flag_at, items_at, list_of, version_of}
+use Rattle.opgen_document.specs.Document.{names, value_at, number_at, count_at, text_at, flag_at, items_at, list_of, version_of}
 use Rattle.opgen_document.specs.declared.key.Version.{Version}
 use Rattle.opgen_document.specs.declared.key.Version.TheVariants.{First, Second, Third, Fourth}
 use Rattle.opgen_document.specs.Types.{is_wrong}
 use Rattle.opgen_document.specs.Ranges.{outside, length_outside, bits_outside, far_outside, numerator_outside}
-use Rattle.opgen_spec.specs.kinds.{kind_of, entry}
-use Rattle.opgen_spec.specs.kinds.Sop.{name_outside, factor_outside}
-use Rattle.opgen_spec.specs.Stands.{is_known, is_needed}
+use Rattle.opgen_entries.specs.kinds.{kind_of, entry}
+use Rattle.opgen_entries.specs.kinds.Sop.{name_outside, factor_outside}
+use Rattle.opgen_entries.specs.Stands.{is_known, is_needed}
 use Rattle.opgen_spec.specs.Spec.{class_named, spec_of}
 
 -- the first of some faults
@@ -69,11 +72,11 @@ kind_outside ms k = option_and_then (λ one. (entry one).key_outside ms k) (kind
 
 -- the keys of all kinds and those of lines, and then the other keys
 abbrev pub value_outside : (doc : Members) → ℕ → Members → Key → Option ℤ
-value_outside doc line ms key.Target = outside (pos 1) (pos 32) (pos (length (text_at ms key.Target)))
+value_outside doc line ms key.Target = outside (pos 1) (pos MAX_TARGET_NAME_LEN) (pos (length (text_at ms key.Target)))
 value_outside doc line ms key.Period = outside (pos 1) (pos 1000000) (number_at ms key.Period)
 value_outside doc line ms key.Delay = length_outside 0 16 (items_at ms key.Delay)
 value_outside doc line ms key.InputName = name_outside doc line (text_at ms key.InputName)
-value_outside doc line ms key.InputWidth = bits_outside (flag_at ms key.InputSigned) 48 (number_at ms key.InputWidth)
+value_outside doc line ms key.InputWidth = bits_outside (flag_at ms key.InputSigned) MAX_INPUT (number_at ms key.InputWidth)
 value_outside doc line ms key.InputLsb = far_outside ms key.InputLsb
 value_outside doc line ms key.ScaledInput = factor_outside doc line ms key.ScaledInput
 value_outside doc line ms key.Coefficient = numerator_outside ms key.Coefficient
@@ -151,8 +154,12 @@ is_version (negsuc n) = false
 abbrev pub bad_version : Members → Option SpecFault
 bad_version ms = if is_version (number_at ms key.Version) then None else Some (fault.BadVersion (number_at ms key.Version))
 
+-- whether a specification of the version may have the name
+abbrev pub is_name_of : (version : ℕ) → (name : List ℕ) → Bool
+is_name_of version name = is_spec_name name && is_name_in version name
+
 abbrev pub bad_name : Members → Option SpecFault
-bad_name ms = if is_spec_name (text_at ms key.Name) then None else Some fault.BadName
+bad_name ms = if is_name_of (count_at ms key.Version) (text_at ms key.Name) then None else Some fault.BadName
 
 -- whether the version has the kind
 abbrev pub has_kind : Version → Kind → Bool

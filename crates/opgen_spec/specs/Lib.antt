@@ -1,7 +1,4 @@
--- Definitions of opgen_spec: the kinds of a document, its first error, and the specification that it gives.
-pub mod Entry
-pub mod kinds
-pub mod Stands
+-- Definitions of opgen_spec: the first error of a document, and the specification that it gives.
 pub mod Spec
 pub mod Faults
 pub mod Texts

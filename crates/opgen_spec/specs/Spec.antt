@@ -10,8 +10,8 @@ use Rattle.opgen_operator.specs.declared.kind.Kind.{Kind}
 use Rattle.opgen_operator.specs.declared.kind.Kind.TheVariants as kind
 use Rattle.opgen_operator.specs.declared.spec.DelayLine.{DelayLine}
 use Rattle.opgen_operator.specs.declared.spec.Spec.{Spec}
-use Rattle.opgen_document.specs.Document.{text_at, flag_at, items_at, in_tables, count_at, optional_count_at, optional_flag_at}
-use Rattle.opgen_spec.specs.kinds.{kind_of, entry}
+use Rattle.opgen_document.specs.Document.{text_at, flag_at, items_at, in_tables, count_at, optional_count_at, optional_flag_at, rounding_at, overflow_at}
+use Rattle.opgen_entries.specs.kinds.{kind_of, entry}
 
 -- the classes of delay lines, by their names
 abbrev pub class_name : Class → List ℕ
@@ -40,8 +40,10 @@ spec_with one ms = record {
   name = text_at ms key.Name;
   op = (entry one).make ms;
   exact = flag_at ms key.Exact;
+  rounding = rounding_at ms;
   out_width = optional_count_at ms key.OutWidth;
   out_signed = optional_flag_at ms key.OutSigned;
+  overflow = overflow_at ms;
   target = text_at ms key.Target;
   period = count_at ms key.Period;
   delays = in_tables line_of (items_at ms key.Delay);

@@ -3,13 +3,12 @@ ghost use Rattle.std.specs.Prelude.{◌≡◌, find, not};
 ghost use Rattle.std.specs.List.{position_from};
 ghost use Rattle.toml.specs.View.{table_view};
 ghost use Rattle.opgen_document.specs.Document.{names};
-ghost use Rattle.opgen_spec.specs.Stands.{is_known};
+ghost use Rattle.opgen_entries.specs.Stands.{is_known};
 ghost use Rattle.opgen_spec.specs.Faults.{unknown_among, is_missing, missing_among, kind_clashes, is_wrong_in, wrong_among};
 
 use crate::fault::SpecFault;
-use crate::kinds::{clashes, kind_of};
-use crate::stand::{is_known, is_needed};
 use opgen_document::{Key, Version, is_wrong, value_at, version_of};
+use opgen_entries::{clashes, is_known, is_needed, kind_of};
 use opgen_operator::Kind;
 use toml::Table;
 
@@ -69,7 +68,7 @@ pub(crate) fn missing_among(
 }
 
 // Whether the document's kind lets nothing stand at the key, beside the values of the document.
-#[tactic(auto, unfolding(crate::specs::kinds::entry))]
+#[tactic(auto, unfolding(opgen_entries::specs::kinds::entry))]
 fn kind_clashes(document: &Table, key: Key) -> bool
     ensures { result ≡ kind_clashes (table_view document.now) key }
 {

@@ -9,13 +9,11 @@
 mod class;
 mod fault;
 mod form;
-mod kinds;
 mod limits;
 mod lines;
 mod make;
 mod range;
 mod read;
-mod stand;
 
 pub use fault::SpecFault;
 pub use opgen_document::Key;

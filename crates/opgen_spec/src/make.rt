@@ -5,10 +5,11 @@ ghost use Rattle.opgen_document.specs.Document.{text_at, items_at, in_table, in_
 ghost use Rattle.opgen_spec.specs.Spec.{line_of, spec_with};
 
 use crate::class::class_named;
-use crate::kinds::operator_of;
 use opgen_document::{
-    Key, count_at, flag_at, items_at, optional_count_at, optional_flag_at, text_at,
+    Key, count_at, flag_at, items_at, optional_count_at, optional_flag_at, overflow_at,
+    rounding_at, text_at,
 };
+use opgen_entries::operator_of;
 use opgen_list::{Items, Text};
 use opgen_net::Class;
 use opgen_operator::{DelayLine, Kind, Spec};
@@ -79,8 +80,10 @@ pub(crate) fn spec_with(alloc: Global, kind: Kind, table: &Table) -> Result<Spec
         name: texts.name,
         op,
         exact: flag_at(table, Key::Exact),
+        rounding: rounding_at(table),
         out_width: optional_count_at(table, Key::OutWidth),
         out_signed: optional_flag_at(table, Key::OutSigned),
+        overflow: overflow_at(table),
         target: texts.target,
         period: count_at(table, Key::Period),
         delays: texts.delays,

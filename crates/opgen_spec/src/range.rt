@@ -5,15 +5,14 @@ ghost use Rattle.opgen_spec.specs.Faults.{class_outside, kind_outside, value_out
 
 use crate::class::class_named;
 use crate::fault::SpecFault;
-use crate::kinds::{factor_outside, key_outside, kind_of, name_outside};
 use opgen_document::{
     Key, bits_outside, far_outside, flag_at, items_at, length_outside, number_at,
     numerator_outside, outside, text_at, value_at,
 };
+use opgen_entries::{factor_outside, key_outside, kind_of, name_outside};
+use opgen_num::MAX_INPUT;
+use opgen_ports::MAX_TARGET_NAME_LEN;
 use toml::Table;
-
-/// The most bits of an input of a sum of products.
-const MAX_INPUT: u32 = 48;
 
 // The line's number, where its class is none.
 fn class_outside(line: u64, name: &str) -> Option<i64>
@@ -28,7 +27,7 @@ fn class_outside(line: u64, name: &str) -> Option<i64>
 }
 
 // What is out of the range that the document's kind sets to a key.
-#[tactic(auto, unfolding(crate::specs::kinds::entry))]
+#[tactic(auto, unfolding(opgen_entries::specs::kinds::entry))]
 fn kind_outside(table: &Table, key: Key) -> Option<i64>
     ensures { result ≡ kind_outside (table_view table.now) key }
 {
@@ -42,7 +41,11 @@ fn value_outside(document: &Table, line: u64, table: &Table, key: Key) -> Option
     ensures { result ≡ value_outside (table_view document.now) line (table_view table.now) key }
 {
     match key {
-        Key::Target => outside(1, 32, text_at(table, key).len() as i64),
+        Key::Target => outside(
+            1,
+            MAX_TARGET_NAME_LEN as i64,
+            text_at(table, key).len() as i64,
+        ),
         Key::Period => outside(1, 1_000_000, number_at(table, key)),
         Key::Delay => length_outside(0, 16, items_at(table, key)),
         Key::InputName => name_outside(document, line, text_at(table, key)),

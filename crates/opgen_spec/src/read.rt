@@ -7,12 +7,12 @@ ghost use Rattle.opgen_operator.specs.Valid.{IsValidSpec};
 ghost use Rattle.opgen_spec.specs.Written.{IsAsWritten};
 
 use crate::fault::SpecFault;
-use crate::kinds::{is_first_kind, kind_of};
 use crate::limits::limit_fault;
 use crate::lines::{Check, check_fault};
 use crate::make::spec_with;
-use opgen_document::{Key, Version, number_at, parse, text_at, version_of};
-use opgen_operator::{Kind, Spec, is_spec_name};
+use opgen_document::{Key, Version, count_at, number_at, parse, text_at, version_of};
+use opgen_entries::{is_first_kind, kind_of};
+use opgen_operator::{Kind, Spec, is_name_in, is_spec_name};
 use std::alloc::Global;
 use toml::Table;
 
@@ -37,7 +37,8 @@ fn bad_version(table: &Table) -> Option<SpecFault>
 fn bad_name(table: &Table) -> Option<SpecFault>
     ensures { result ≡ bad_name (table_view table.now) }
 {
-    if is_spec_name(text_at(table, Key::Name)) {
+    let name = text_at(table, Key::Name);
+    if is_spec_name(name) && is_name_in(count_at(table, Key::Version), name) {
         None
     } else {
         Some(SpecFault::BadName)
@@ -45,7 +46,7 @@ fn bad_name(table: &Table) -> Option<SpecFault>
 }
 
 // Whether documents of the version have the kind.
-#[tactic(auto, unfolding(crate::specs::kinds::entry))]
+#[tactic(auto, unfolding(opgen_entries::specs::kinds::entry))]
 fn has_kind(version: Version, kind: Kind) -> bool
     ensures { result ≡ has_kind version kind }
 {

@@ -1,23 +1,26 @@
 -- The net of an accepted single: it is valid, its steps are right, and its outputs are good.
 use Rattle.std.proofs.Common.{◌≡◌, ℕ, ◌+◌, ◌-◌, ◌*◌, ◌%◌, ◌^◌, ◌≤◌, Bool, true, false, List, [], ◌++◌, length, map, take, replicate, refl, sym, ap, ◌∙◌, subst, arith, nat_lt, codes}
-use Rattle.std.specs.Prelude.{ℤ, pos, negsuc, ◌-ℤ◌, ◌≤ℤ◌, unsigned_abs, if◌then◌else◌}
+use Rattle.std.specs.Prelude.{ℤ, pos, negsuc, ◌≤ℤ◌, unsigned_abs}
 use Rattle.std.proofs.Math.Seq.{take-length}
 use Rattle.std.proofs.lemmas.Bool.{or_left}
 use Rattle.std.proofs.lemmas.Int.{ints}
 use Rattle.std.proofs.lemmas.List.{length-replicate}
 use Rattle.std.proofs.lemmas.List.Elements.{All-take}
-use Rattle.opgen_num.specs.declared.format.Format.{Format}
 use Rattle.opgen_num.specs.Rounding.{IsGoodRoot}
-use Rattle.opgen_num.specs.Words.{int, val, nat}
+use Rattle.opgen_num.specs.Words.{val, nat}
+use Rattle.opgen_num.proofs.Integers.{less-zero}
+use Rattle.opgen_num.proofs.Values.{val-unsigned}
 use Rattle.opgen_design.specs.Value.{word_at}
 use Rattle.opgen_net.specs.declared.net.Net.{Net}
 use Rattle.opgen_net.specs.declared.word_bits.WordBit.{WordBit}
 use Rattle.opgen_net.specs.declared.word_bits.WordBit.TheVariants.{Zero}
+use Rattle.opgen_net.specs.Delays.{delay_count}
 use Rattle.opgen_net.specs.Flow.{Inputs, flow, input_at, KeepsFlow}
 use Rattle.opgen_net.specs.Valid.{widths}
 use Rattle.opgen_net.specs.WordRule.{IsThere, bits_from}
+use Rattle.opgen_net.proofs.Delays.{passes-count}
 use Rattle.opgen_net.proofs.FlowWidths.{flow-width}
-use Rattle.opgen_net.proofs.Grown.{flow-then, grown-flow, grown-count}
+use Rattle.opgen_net.proofs.Grown.{grown-keeps}
 use Rattle.opgen_kinds.specs.declared.single.Single.{Single}
 use Rattle.opgen_operator.specs.declared.operator.Operator.TheVariants.{Root}
 use Rattle.opgen_ports.specs.declared.TheConstants.{MAX_SHIFT}
@@ -30,6 +33,7 @@ use Rattle.opgen_ports.specs.Reaches.{places_up, up}
 use Rattle.opgen_operator.proofs.Accepted.{accepted_ranges, accepted_shift}
 use Rattle.opgen_ports.specs.Modes.{mode_of_exact}
 use Rattle.opgen_operator.proofs.EachMode.{fits_by_mark}
+use Rattle.opgen_operator.proofs.Shown.{one_shown, two_shown}
 use Rattle.opgen_ports.proofs.Marks.{good_by_mark}
 use Rattle.opgen_ports.proofs.InputPorts.{input_bit}
 use Rattle.opgen_net.specs.Placed.{number_at}
@@ -37,7 +41,7 @@ use Rattle.opgen_digits.specs.Digit.{Known}
 use Rattle.opgen_digits.specs.Results.{AreResults, with_results}
 use Rattle.opgen_net.proofs.Numbers.{at-append, at-zeros, at-node, number-kept}
 use Rattle.opgen_net.proofs.Later.{Later, words-later}
-use Rattle.opgen_digits.proofs.Results.{result_ports, result_words, results-inputs, results-valid, results-keep, results-shown, results-digits, results-rest}
+use Rattle.opgen_digits.proofs.Results.{result_ports, result_words, results-inputs, results-valid, results-keep, results-delays, results-shown, results-digits, results-rest}
 use Rattle.opgen_sqrt.specs.Recipe.{shifted_width, radicand, keeps, after, net_of_single}
 use Rattle.opgen_sqrt.specs.Steps.{IsRooted, HoldsAfterEachStep}
 use Rattle.opgen_sqrt.proofs.Arithmetic.{near, same_rooting, some_rest, kept_rest}
@@ -62,12 +66,6 @@ has_widths r is =
     record { some = input_bit r.input ranges.input; few_x = omega (arith, ranges.input.most); few = omega (arith, (root_bits r is).1) }
 
 -- unsigned words, in the last cycle
-
-unsigned : (v : List Bool) (f : Format) → f.signed ≡ false → val v f ≡ pos (nat v)
-unsigned v f e = ap (λ (c : Bool). if c then int v else pos (nat v)) e
-
-now : (t : ℕ) → pos t -ℤ pos 0 ≡ pos t
-now t = omega (arith, ints)
 
 module _ (r : Single) (have : HasWidths r) (some_root : 1 ≤ root_width r) where
   abbrev count : ℕ
@@ -96,21 +94,20 @@ module _ (r : Single) (have : HasWidths r) (some_root : 1 ≤ root_width r) wher
   pub made-inputs : made.inputs ≡ (base r have).inputs
   made-inputs = results-inputs r.exact (codes "y") last ∙ at_last.later.grown.inputs
 
+  -- the nodes before the results keep their words
+  last-keeps : KeepsFlow last.net.nodes made.nodes
+  last-keeps = results-keep (codes "y") last at_last.later.valid r.exact results
+
   -- the nodes after a step keep their words
   step-keeps : (k : ℕ) → k ≤ count → KeepsFlow (after r k).net.nodes made.nodes
   step-keeps k h =
       let old = (after r k).net in
       let sum : k + (count - k) ≡ count = omega (arith, h) in
       let later : Later old last.net = subst (λ m. Later old (after r m).net) sum (later-by r have k (count - k) (omega (arith, h))) in
-      flow-then old.nodes last.net.nodes made.nodes (grown-count old last.net later.grown) (grown-flow old last.net later.grown)
-      (results-keep (codes "y") last at_last.later.valid r.exact results)
+      grown-keeps old last.net later.grown made.nodes last-keeps
 
   inputs-keep : KeepsFlow (base r have).nodes made.nodes
-  inputs-keep =
-      let old = base r have in
-      let grown = at_last.later.grown in
-      flow-then old.nodes last.net.nodes made.nodes (grown-count old last.net grown) (grown-flow old last.net grown)
-      (results-keep (codes "y") last at_last.later.valid r.exact results)
+  inputs-keep = grown-keeps (base r have) last.net at_last.later.grown made.nodes last-keeps
 
   for_inputs : (inputs : Inputs) → AreFor r have made inputs → AreFor r have (base r have) inputs
   for_inputs inputs words = subst (λ is. AreFor r have (record made { inputs = is }) inputs) made-inputs words
@@ -136,7 +133,7 @@ module _ (r : Single) (have : HasWidths r) (some_root : 1 ≤ root_width r) wher
 
   input_now : r.input.signed ≡ false → (inputs : Inputs) (t : ℕ) → inputs_now inputs t 0 0 ≡ pos (input_number inputs (pos t))
   input_now signed inputs t =
-      ap (λ u. val (input_at inputs 0 r.input.width u) r.input) (now t) ∙ unsigned (input_at inputs 0 r.input.width (pos t)) r.input signed
+      ap (λ u. val (input_at inputs 0 r.input.width u) r.input) (less-zero t) ∙ val-unsigned (input_at inputs 0 r.input.width (pos t)) r.input signed
 
   radicand-number : (inputs : Inputs) (t : ℤ) → AreFor r have (base r have) inputs
       → number_at (base r have).nodes inputs t (take (2 * count) (radicand r)) ≡ input_number inputs t * up (root_shift r)
@@ -201,20 +198,21 @@ module _ (r : Single) (have : HasWidths r) (some_root : 1 ≤ root_width r) wher
       let y = ap pos (digits-number inputs (pos t) words true are) in
       let rest = ap pos (rest-number inputs (pos t) words are) in
       let held = kept_rest (keeps r count) _ _ _ (or_left r.exact (nat_lt count count) e) (rooted inputs (pos t) words) in
-      subst (λ z. IsGoodSquareRoot true r z (outputs_now true inputs t 0) (outputs_now true inputs t 1)) (sym (input_now signed inputs t))
-      (subst (λ z. IsGoodSquareRoot true r (pos (input_number inputs (pos t))) z (outputs_now true inputs t 1)) (sym y)
-      (subst (λ z. IsGoodSquareRoot true r (pos (input_number inputs (pos t))) (pos (root_at inputs (pos t) words)) z) (sym rest) held))
+      two_shown (IsGoodSquareRoot true r) (input_now signed inputs t) y rest held
   good false e are signed inputs t words =
       let y = ap pos (digits-number inputs (pos t) words false are) in
       let held = some_rest (keeps r count) _ _ _ (rooted inputs (pos t) words) in
-      subst (λ z. IsGoodRoot (square r z) (unsigned_abs (outputs_now false inputs t 0))) (sym (input_now signed inputs t))
-      (subst (λ z. IsGoodRoot (input_number inputs (pos t) * up (root_shift r)) (unsigned_abs z)) (sym y) (near _ _ held.0 held.1))
+      one_shown (λ x z. IsGoodRoot (square r x) (unsigned_abs z)) (input_now signed inputs t) y (near _ _ held.0 held.1)
 
   pub fits : r.input.signed ≡ false → FitsOperator (mode_of_exact r.exact) (Root r) made
   fits signed = record {
     valid = results-valid (codes "y") last at_last.later.valid r.exact results;
     inputs = made-inputs;
     outputs = results-shown (codes "y") last at_last.later.valid no_output r.exact results ∙ same_ports r.exact refl;
+    delays =
+        let none : delay_count (base r have).nodes ≡ 0 = refl in
+        passes-count 0 made.nodes
+        (omega (arith, results-delays (codes "y") last at_last.later.valid r.exact results, at_last.later.grown.delays, none));
     good = λ inputs t words within range.
         good_by_mark r.exact
         (λ e. IsGoodSquareRoot e r (inputs_now inputs t 0 0) (outputs_now r.exact inputs t 0) (outputs_now r.exact inputs t 1))
@@ -224,7 +222,7 @@ module _ (r : Single) (have : HasWidths r) (some_root : 1 ≤ root_width r) wher
 pub fits_modes : (r : Single) → IsAcceptedSingle r → FitsInEachMode (Root r) (net_of_single r)
 fits_modes r is =
     let ranges : IsSingle r = accepted_ranges (Root r) is in
-    fits_by_mark r.exact (Root r) (net_of_single r) refl (fits r (has_widths r is) (root_bits r is).0 ranges.unsigned)
+    fits_by_mark (mode_of_exact r.exact) (Root r) (net_of_single r) refl (fits r (has_widths r is) (root_bits r is).0 ranges.unsigned)
 
 pub all_steps : (r : Single) → IsAcceptedSingle r → HoldsAfterEachStep r (net_of_single r)
 all_steps r is = steps_hold r (has_widths r is) (root_bits r is).0

@@ -79,7 +79,7 @@ rows_kept columns count first apart old new all kept row none =
     ∙ sym (cell_at columns row old i here))
 
 -- the row in a stream
-length-words_in : (widths : List ℕ) (lanes : List (List ℕ)) (k : ℕ) → length (words_in widths lanes k) ≡ length widths
+pub length-words_in : (widths : List ℕ) (lanes : List (List ℕ)) (k : ℕ) → length (words_in widths lanes k) ≡ length widths
 length-words_in [] lanes k = refl
 length-words_in (width ∷ widths) lanes k = ap suc (length-words_in widths (drop width lanes) k)
 

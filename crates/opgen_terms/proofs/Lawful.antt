@@ -17,13 +17,13 @@ use Rattle.opgen_ports.specs.Good.{IsGoodRatio}
 use Rattle.opgen_ports.specs.In128.{IsRatioIn128}
 use Rattle.opgen_ports.specs.Limits.{most_signal}
 use Rattle.opgen_ports.specs.Ports.{HasWidth}
-use Rattle.opgen_ports.specs.Reaches.{above_zero, below_zero, in_units, width_of}
+use Rattle.opgen_ports.specs.Reaches.{in_units, width_of}
 use Rattle.opgen_ports.proofs.Bounds.{few_units}
 use Rattle.opgen_ports.proofs.Covered.{rounded_within, covered}
 use Rattle.opgen_ports.proofs.In128.{small_in128}
 use Rattle.opgen_ports.proofs.InputPorts.{all_one, input_bit}
 use Rattle.opgen_ports.proofs.Magnitudes.{raised_within}
-use Rattle.opgen_ports.proofs.Reached.{IsWithinReach, low_end, high_end}
+use Rattle.opgen_ports.proofs.Reached.{IsWithinReach, low_end, high_end, parts-above, parts-below}
 use Rattle.opgen_ports.proofs.Versions.{signal_limit}
 use Rattle.opgen_ports.proofs.Widths.{some_width}
 use Rattle.opgen_ports.proofs.Accepted.{accepted_ranges, accepted_shift, accepted_width}
@@ -43,19 +43,11 @@ raised_order s f g each =
         let step = product_order (pos (2 ^ h)) a b (omega (arith, ints)) order in
         omega (arith, ints, step, commuted a (pos (2 ^ h)), commuted b (pos (2 ^ h)))
 
-below_end : (n : ℤ) → neg_ℤ (pos (below_zero n)) ≤ℤ n
-below_end (pos n) = omega (arith, ints)
-below_end (negsuc n) = omega (arith, ints)
-
-above_end : (n : ℤ) → n ≤ℤ pos (above_zero n)
-above_end (pos n) = omega (arith, ints)
-above_end (negsuc n) = omega (arith, ints)
-
 reached : (s : Sop) (x : (input : ℕ) → ℤ) → IsSop s → AreOf s x → IsWithinReach (sop_reach s).below (sop_reach s).above (exact_sop s x).num
 reached s x is of =
     let low = raised_order s (λ t. t.least) (λ t. t.number x) (λ place. (between s x place is of).0) in
     let high = raised_order s (λ t. t.number x) (λ t. t.most) (λ place. (between s x place is of).1) in
-    (omega (arith, ints, low, below_end (raised s (λ t. t.least))), omega (arith, ints, high, above_end (raised s (λ t. t.most))))
+    (omega (arith, ints, low, parts-below (raised s (λ t. t.least))), omega (arith, ints, high, parts-above (raised s (λ t. t.most))))
 
 -- in units of the output's last place
 ends_hold : (den n : ℤ) (places below above : ℕ) → pos 1 ≤ℤ den → IsWithinReach below above n

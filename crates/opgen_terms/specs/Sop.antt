@@ -1,7 +1,9 @@
 -- Sums of products: constants times inputs, products of two inputs, and an offset, over one denominator, each at its power of two.
 use Rattle.std.specs.List.{position_from}
 use Rattle.std.specs.Option.{unwrap_or}
-use Rattle.std.specs.Prelude.{ℕ, ◌≤◌, ◌≤ℤ◌, ◌<◌, Bool, false, All, Option, Some, None, ◌+◌, ◌*◌, ◌^◌, ℤ, pos, neg_ℤ, unsigned_abs, length, List, [], ◌∷◌, ◌++◌, map, ◌*ℤ◌, ◌+ℤ◌, ◌-ℤ◌, codes, ◌&&◌, if◌then◌else◌, not, nat_eq, nat_lt, max, find, is_none, int_le, get_or}
+use Rattle.std.specs.Prelude.{ℕ, ◌≡◌, ◌≤◌, ◌≤ℤ◌, ◌<◌, Bool, IsTrue, false, All, Option, Some, None, ◌+◌, ◌*◌, ◌^◌, ℤ, pos, neg_ℤ, unsigned_abs, length, List, [], ◌∷◌, ◌++◌, map, ◌*ℤ◌, ◌+ℤ◌, ◌-ℤ◌, codes, ◌&&◌, if◌then◌else◌, not, nat_eq, nat_lt, max, find, is_none, int_le, get_or}
+use Rattle.opgen_num.specs.declared.limits.TheConstants.{MAX_DENOMINATOR, MAX_NUMERATOR, MAX_SCALED}
+use Rattle.opgen_ports.specs.declared.TheConstants.{MAX_SHIFT}
 use Rattle.opgen_num.specs.declared.format.Format.{Format}
 use Rattle.opgen_num.specs.declared.format.Ratio.{Ratio}
 use Rattle.opgen_num.specs.declared.mode.Mode.TheVariants.{Faithful}
@@ -14,6 +16,8 @@ use Rattle.opgen_terms.specs.declared.terms.Term.{Term as PlainTerm}
 use Rattle.opgen_ports.specs.Acceptance.{Acceptance}
 use Rattle.opgen_ports.specs.Accepted.{IsAcceptable}
 use Rattle.opgen_ports.specs.Meaning.{Meaning}
+use Rattle.opgen_ports.specs.Modes.{IsExactOrFaithful}
+use Rattle.opgen_ports.specs.Recipes.{is_of_bits}
 use Rattle.opgen_ports.specs.Reaches.{is_whole_at, places_up, places_down, reach_of, reach_over, reach_of_product, above_zero, below_zero, in_places, width_of}
 use Rattle.opgen_ports.specs.declared.ports.PortFormat.{PortFormat}
 use Rattle.opgen_ports.specs.declared.reach.Reach.{Reach}
@@ -25,7 +29,7 @@ use Rattle.opgen_ports.specs.Spans.{IsOf}
 
 pub record IsScaled (inputs : ℕ) (t : Scaled) : Type 0 where
   pub input : t.input < inputs
-  pub coefficient : IsWithin (2 ^ 30) t.coefficient
+  pub coefficient : IsWithin MAX_NUMERATOR t.coefficient
 
 pub record IsTimes (inputs : ℕ) (t : Times) : Type 0 where
   pub a : t.a < inputs
@@ -37,22 +41,27 @@ pub record HasInputs (s : Sop) : Type 0 where
   pub formats : All (λ (p : PortFormat). IsInput p.format) s.inputs
 
 pub record HasTerms (s : Sop) : Type 0 where
-  pub few_scaled : length s.scaled ≤ 64
+  pub few_scaled : length s.scaled ≤ MAX_SCALED
   pub few_products : length s.products ≤ 16
   pub any : 1 ≤ length s.scaled + length s.products
   pub scaled : All (IsScaled (length s.inputs)) s.scaled
   pub products : All (IsTimes (length s.inputs)) s.products
 
 pub record HasNumbers (s : Sop) : Type 0 where
-  pub offset : IsWithin (2 ^ 30) s.offset
+  pub offset : IsWithin MAX_NUMERATOR s.offset
   pub out_lsb : IsPower s.out_lsb
   pub positive : pos 1 ≤ℤ s.den
-  pub small : s.den ≤ℤ pos (2 ^ 30)
+  pub small : s.den ≤ℤ MAX_DENOMINATOR
+
+-- no net is built yet of sums that are rounded down or to the nearest, of rows, or for tables of other than six inputs
+abbrev pub IsBuiltSop : Sop → Type 0
+IsBuiltSop s = IsExactOrFaithful s.mode × IsTrue (is_of_bits s.compressor) × (s.lut ≡ 6)
 
 pub record IsSop (s : Sop) : Type 0 where
   pub inputs : HasInputs s
   pub terms : HasTerms s
   pub numbers : HasNumbers s
+  pub built : IsBuiltSop s
 
 -- A term of the sum: `number x` units of 2 ^ shift over the denominator, for the numbers x of the inputs.
 pub record Term : Type 0 where
@@ -185,7 +194,7 @@ sop_inexact s = position_from (λ t. not (is_whole_at s.den t.shift t.factor)) 0
 
 -- the first shift of a term that is not from -48 to 48
 abbrev pub is_small_shift : ℤ → Bool
-is_small_shift shift = int_le (neg_ℤ (pos 48)) shift && int_le shift (pos 48)
+is_small_shift shift = int_le (neg_ℤ MAX_SHIFT) shift && int_le shift MAX_SHIFT
 
 abbrev pub sop_shift : Sop → ℤ
 sop_shift s = unwrap_or (find (λ shift. not (is_small_shift shift)) (map (λ t. t.shift) (terms_of s))) (pos 0)
@@ -206,7 +215,7 @@ sop_need s = if nat_lt MAX_TOTAL_BITS (total_bits s) then total_bits s else widt
 
 -- each shift is from -48 to 48
 abbrev pub HasSmallShift : Sop → Type 0
-HasSmallShift s = (neg_ℤ (pos 48) ≤ℤ sop_shift s) × (sop_shift s ≤ℤ pos 48)
+HasSmallShift s = (neg_ℤ MAX_SHIFT ≤ℤ sop_shift s) × (sop_shift s ≤ℤ MAX_SHIFT)
 
 -- the numbers of the inputs in the last cycle
 abbrev pub last_numbers : Sop → (history : List ℕ) → (input : ℕ) → ℤ
@@ -239,12 +248,12 @@ sop_acceptance s = record {
   IsRanged = IsSop s;
   given_names = map (λ (p : PortFormat). p.name) s.inputs;
   shift = sop_shift s;
-  least_shift = neg_ℤ (pos 48);
-  most_shift = λ version. pos 48;
+  least_shift = neg_ℤ MAX_SHIFT;
+  most_shift = λ version. MAX_SHIFT;
   inexact = sop_inexact s;
   need = Some (sop_need s);
   HasRoom = Unit {0};
-  own_mark = Some s.exact;
+  own_mark = Some s.mode;
   IsExactIn128 = λ inputs. IsRatioIn128 (exact_sop s (λ input. inputs input 0));
   FormatsHold = SopsHold s;
   has_graph = false;

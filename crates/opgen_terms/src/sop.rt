@@ -2,20 +2,21 @@
 ghost use Rattle.std.specs.Prelude.{◌≡◌, ◌≤◌, ◌^◌, [], ◌∷◌, ℤ, neg_ℤ, ◌≤ℤ◌, ◌<ℤ◌, pos, codes, IfOk, ◌↔◌, IsTrue, All, unsigned_abs};
 ghost use Rattle.opgen_ports.specs.Meaning.{IsCycleJudged};
 ghost use Rattle.opgen_ports.specs.Profile.{IsProfileOf};
-ghost use Rattle.opgen_terms.specs.Sop.{IsSop, IsScaled, IsTimes, IsAcceptedSop, HasSmallShift, HasInputs, HasTerms, HasNumbers, Term, is_small_shift, sop_shift, sop_inexact, sop_need, sop_format, sop_places, depth, total_bits, raised, last_numbers, exact_sop, sop_meaning, sop_acceptance};
+ghost use Rattle.opgen_terms.specs.Sop.{IsSop, IsScaled, IsTimes, IsBuiltSop, IsAcceptedSop, HasSmallShift, HasInputs, HasTerms, HasNumbers, Term, is_small_shift, sop_shift, sop_inexact, sop_need, sop_format, sop_places, depth, total_bits, raised, last_numbers, exact_sop, sop_meaning, sop_acceptance};
 ghost use Rattle.opgen_ports.specs.Ports.{recent_numbers, IsHistory, IsCycle, port, AreWithin};
 ghost use Rattle.opgen_ports.specs.Ranges.{IsInput};
 ghost use Rattle.opgen_ports.specs.Reaches.{below_zero, above_zero};
 
 use crate::terms::{count, depth, height, number, term_at, total_bits};
 use opgen_list::Items;
-use opgen_num::{Format, MAX_WIDTH, Mode, Ratio, good_linear};
+use opgen_num::{Format, MAX_NUMERATOR, MAX_SCALED, MAX_WIDTH, Mode, Ratio, good_linear};
 use opgen_ports::history::output;
+use opgen_ports::modes::is_exact_or_faithful;
 use opgen_ports::ports::{PortFormat, covering, one};
 use opgen_ports::ranges::{is_denominator, is_input, is_length, is_power};
 use opgen_ports::reach::{Reach, in_places, width_of};
 use opgen_ports::shifts::{is_whole, raised};
-use opgen_ports::{MAX_SHIFT, Profile};
+use opgen_ports::{Compressor, MAX_SHIFT, Profile};
 use std::alloc::{AllocError, Global};
 
 /// The most bits that the sum of all terms may have, in units of the lowest place. Up to here 128 bits
@@ -54,9 +55,12 @@ pub struct Sop {
     /// The denominator of the coefficients and of the offset.
     pub den: i64,
     pub out_lsb: i32,
-    pub exact: bool,
-    /// Whether larger counters go before the compression of the heap.
-    pub counters: bool,
+    /// How the output is rounded from its exact value.
+    pub mode: Mode,
+    /// How what is added up is brought to one word.
+    pub compressor: Compressor,
+    /// How many inputs the tables of the device have.
+    pub lut: u32,
 }
 
 impl Sop {
@@ -123,7 +127,14 @@ impl Sop {
     pub fn is_ranged(&self) -> bool
         ensures { IsTrue result ↔ IsSop self.now }
     {
-        has_inputs(self) && has_terms(self) && has_numbers(self)
+        has_inputs(self) && has_terms(self) && has_numbers(self) && self.is_built()
+    }
+
+    // Whether a net of a sum of products with these fields is built yet.
+    fn is_built(&self) -> bool
+        ensures { IsTrue result ↔ IsBuiltSop self.now }
+    {
+        is_exact_or_faithful(self.mode) && self.compressor.is_of_bits() && self.lut == 6
     }
 
     /// Whether each input has so many bits at most.
@@ -156,7 +167,7 @@ impl Sop {
             divisor: None,
             has_value: true,
             has_graph: false,
-            own_mark: Some(self.exact),
+            own_mark: Some(self.mode),
         }
     }
 
@@ -214,7 +225,7 @@ impl Sop {
 fn is_small_shift(shift: i32) -> bool
     ensures { result ≡ is_small_shift shift }
 {
-    -48 <= shift && shift <= 48
+    -MAX_SHIFT <= shift && shift <= MAX_SHIFT
 }
 
 fn are_inputs(ports: &[PortFormat]) -> bool
@@ -232,7 +243,7 @@ fn are_scaled(inputs: usize, scaled: &[Scaled]) -> bool
     ensures { IsTrue result ↔ All (IsScaled inputs) scaled.now }
 {
     'scaled: for term in scaled {
-        if term.input as usize >= inputs || term.coefficient.unsigned_abs() > 1 << 30 {
+        if term.input as usize >= inputs || term.coefficient.unsigned_abs() > MAX_NUMERATOR {
             return false;
         }
     }
@@ -261,7 +272,7 @@ fn has_inputs(sop: &Sop) -> bool
 fn has_numbers(sop: &Sop) -> bool
     ensures { IsTrue result ↔ HasNumbers sop.now }
 {
-    sop.offset.unsigned_abs() <= 1 << 30 && is_power(sop.out_lsb) && is_denominator(sop.den)
+    sop.offset.unsigned_abs() <= MAX_NUMERATOR && is_power(sop.out_lsb) && is_denominator(sop.den)
 }
 
 // Whether the number of terms, their coefficients and the places of their inputs are within their ranges.
@@ -271,7 +282,7 @@ fn has_terms(sop: &Sop) -> bool
     let inputs = sop.inputs.len();
     let scaled = sop.scaled.as_slice();
     let products = sop.products.as_slice();
-    scaled.len() <= 64
+    scaled.len() <= MAX_SCALED as usize
         && products.len() <= 16
         && 1 <= scaled.len() + products.len()
         && are_scaled(inputs, scaled)

@@ -8,7 +8,7 @@ ghost use Rattle.opgen_ports.specs.Reaches.{reach_of_product, places_up};
 ghost use Rattle.opgen_ports.specs.Spans.{IsOf};
 
 use crate::sop::{Scaled, Sop, Times};
-use opgen_num::{Format, bit_length};
+use opgen_num::{Format, MAX_NUMERATOR, bit_length};
 use opgen_ports::history::{input as number_of, product};
 use opgen_ports::reach::{Reach, reach_of, reach_of_product, reach_over};
 use opgen_ports::shifts::{places_down, places_up};
@@ -72,7 +72,7 @@ fn over(den: i64, number: i128) -> i128
 
 // The size of a number times the factor of its term.
 fn size_with(factor: i64, size: u128) -> u128
-    requires factor { unsigned_abs factor ≤ 2 ^ 30 }
+    requires factor { unsigned_abs factor ≤ MAX_NUMERATOR }
     requires size { size ≤ 2 ^ 96 }
     ensures { result ≡ unsigned_abs factor * size }
 {

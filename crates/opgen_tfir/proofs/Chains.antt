@@ -1,5 +1,5 @@
 -- The nodes of the sums: the net grows by them, and each has the width of its sum.
-use Rattle.std.proofs.Common.{◌≡◌, ◌≢◌, ℕ, zero, suc, ◌<◌, Bool, true, false, List, [], ◌∷◌, length, drop, refl, sym, ap, ◌∙◌, subst, arith}
+use Rattle.std.proofs.Common.{◌≡◌, ◌≢◌, ℕ, zero, suc, ◌+◌, ◌-◌, ◌<◌, ◌≤◌, Bool, true, false, List, [], ◌∷◌, length, length-append, drop, refl, sym, ap, ◌∙◌, subst, arith}
 use Rattle.std.specs.Prelude.{ℤ, pos, negsuc, All, IsTrue, slice_index, nat_eq, if◌then◌else◌}
 use Rattle.std.proofs.lemmas.Bool.{eqb-true}
 use Rattle.std.proofs.lemmas.List.Elements.{All-head, All-tail, All-weaker}
@@ -12,8 +12,10 @@ use Rattle.opgen_net.specs.declared.net.Net.{Net}
 use Rattle.opgen_net.specs.declared.node.Node.TheVariants.{Cells, Constant, Delay}
 use Rattle.opgen_net.specs.Placed.{Placed, with_bits}
 use Rattle.opgen_net.specs.Cells.{is_sum}
+use Rattle.opgen_net.specs.Delays.{delay_count}
 use Rattle.opgen_net.specs.Valid.{IsValid, widths, FitsNodes}
-use Rattle.opgen_net.proofs.Appending.{width-append_last}
+use Rattle.opgen_net.proofs.Appending.{flow-append_before, valid-append, width-append_before, width-append_last}
+use Rattle.opgen_net.proofs.Delays.{delay_count-append}
 use Rattle.opgen_net.proofs.FlowLaws.{length-widths}
 use Rattle.opgen_net.proofs.Grown.{grown-width}
 use Rattle.opgen_net.proofs.Later.{Later, later-node, later-same, later-then, node_there}
@@ -21,7 +23,7 @@ use Rattle.opgen_ports.specs.Ranges.{IsWithin}
 use Rattle.opgen_graph.specs.declared.multiples.Multiple.{Multiple}
 use Rattle.opgen_graph.specs.Placing.{IsNode, HasOddPart}
 use Rattle.opgen_graph.specs.Recipe.{Multiples, operand, with_magnitude, with_constant}
-use Rattle.opgen_graph.proofs.Kept.{keeps-later, node-kept}
+use Rattle.opgen_graph.proofs.Kept.{Keeps, keeps-later, keeps-then, node-kept}
 use Rattle.opgen_graph.proofs.Products.{magnitude-placed, negated-placed}
 use Rattle.opgen_graph.proofs.Sums.{IsPlacedNode, pair-fits, operand-placed}
 use Rattle.opgen_tfir.specs.declared.products.Products.{Products}
@@ -40,13 +42,36 @@ pub result-sum : (negative : Bool) (a b : ℕ) → IsTrue (is_sum (result negati
 result-sum false a b = refl
 result-sum true a b = refl
 
+-- a net that keeps the nodes and the outputs of another, and may have delays and other nodes more, of which one has so many bits
+pub record IsChainNode (old : Net) (bits : ℕ) (p : Placed) : Type 0 where
+  pub keeps : Keeps old p.net
+  pub outputs : p.net.outputs ≡ old.outputs
+  pub width : slice_index (widths p.net.nodes) p.place ≡ bits
+
+-- and so is one without delays more
+placed-in_chain : (old : Net) (bits : ℕ) (p : Placed) → IsPlacedNode old bits p → IsChainNode old bits p
+placed-in_chain old bits p placed = record {
+  keeps = keeps-later old p.net placed.later;
+  outputs = placed.later.grown.outputs;
+  width = placed.width;
+}
+
 pub delayed-placed : (bits : ℕ) (sum : Placed) → IsValid sum.net → IsWidth bits → slice_index (widths sum.net.nodes) sum.place ≡ bits
-    → IsPlacedNode sum.net bits (delayed sum)
+    → IsChainNode sum.net bits (delayed sum)
 delayed-placed bits sum valid wide width =
     let there : sum.place < length (widths sum.net.nodes) =
     omega (arith, node_there sum.net sum.place bits wide.0 width, length-widths sum.net.nodes) in
     record {
-      later = later-node sum.net (Delay sum.place) valid there refl;
+      keeps = record {
+        valid = valid-append sum.net (Delay sum.place) valid there refl;
+        inputs = refl;
+        count = omega (arith, length-append sum.net.nodes (Delay sum.place ∷ []));
+        nodes = record {
+          widths = width-append_before sum.net.nodes (Delay sum.place);
+          flow = flow-append_before sum.net.nodes (Delay sum.place);
+        };
+      };
+      outputs = refl;
       width = width-append_last sum.net.nodes (Delay sum.place) ∙ width;
     }
 
@@ -138,6 +163,10 @@ module _ (p : Products) (bits : ℕ) (wide : IsWidth bits) where
 
 -- ---- all sums
 
+some-tap : (ts : List ℤ) → all_zero ts ≡ false → 1 ≤ length ts
+some-tap [] some = absurd (cc)
+some-tap (t ∷ ts) some = omega arith
+
 -- where a later tap is not 0 the sum from it on stands, and else the first product
 pub taps-more : (p : Products) (net : Net) (t : ℤ) (ts : List ℤ) → all_zero ts ≡ false
     → with_taps p net (t ∷ ts) ≡ with_tap p t ts (with_taps p net ts)
@@ -160,72 +189,103 @@ pub width-at : (p : Products) → HasWidths p → (ts : List ℤ) → AreTaps p 
 width-at p has ts are = sum-wide p has ts are.few are.small
 
 module _ (p : Products) (has : HasWidths p) (net : Net) (valid : IsValid net) (nodes : All (IsNode net) p.parts) where
-  pub nodes-later : (new : Net) → Later net new → All (IsNode new) p.parts
-  nodes-later new later = All-weaker (IsNode net) (IsNode new) (node-kept net new (keeps-later net new later)) p.parts nodes
+  pub nodes-kept : (new : Net) → Keeps net new → All (IsNode new) p.parts
+  nodes-kept new keeps = All-weaker (IsNode net) (IsNode new) (node-kept net new keeps) p.parts nodes
+
+  -- the product of the last tap that is not 0
+  last-placed : (t : ℤ) (ts : List ℤ) → AreTaps p (t ∷ ts) → all_zero (t ∷ ts) ≡ false → all_zero ts ≡ true
+      → IsPlacedNode net (sum_width p (t ∷ ts)) (first_product p (sum_width p (t ∷ ts)) net t)
+  last-placed t ts are some e =
+      first-placed p (sum_width p (t ∷ ts)) (width-at p has (t ∷ ts) are) net valid nodes t (first-some t ts some e)
+      (All-head (HasOddPart p.parts) t ts are.odd)
 
   -- a tap more
-  module _ (t : ℤ) (ts : List ℤ) (are : AreTaps p (t ∷ ts)) (sum : Placed) (made : IsPlacedNode net (sum_width p ts) sum) where
+  module _ (t : ℤ) (ts : List ℤ) (are : AreTaps p (t ∷ ts)) (sum : Placed) (made : IsChainNode net (sum_width p ts) sum) where
     abbrev pub late : Placed
     late = delayed sum
 
     abbrev pub wider : Placed
     wider = widened (own_format p ts).signed (sum_width p ts) (sum_width p (t ∷ ts)) late
 
-    pub late-placed : IsPlacedNode sum.net (sum_width p ts) late
-    late-placed = delayed-placed (sum_width p ts) sum made.later.valid (width-at p has ts (taps-tail p t ts are)) made.width
+    pub late-placed : IsChainNode sum.net (sum_width p ts) late
+    late-placed = delayed-placed (sum_width p ts) sum made.keeps.valid (width-at p has ts (taps-tail p t ts are)) made.width
 
     pub wider-placed : IsPlacedNode late.net (sum_width p (t ∷ ts)) wider
     wider-placed =
-        widened-placed (own_format p ts).signed (sum_width p ts) (sum_width p (t ∷ ts)) late late-placed.later.valid
+        widened-placed (own_format p ts).signed (sum_width p ts) (sum_width p (t ∷ ts)) late late-placed.keeps.valid
         (width-at p has ts (taps-tail p t ts are)) (width-at p has (t ∷ ts) are) late-placed.width
 
-    pub late-later : Later net late.net
-    late-later = later-then net sum.net late.net made.later late-placed.later
+    pub late-keeps : Keeps net late.net
+    late-keeps = keeps-then net sum.net late.net made.keeps late-placed.keeps
 
-    pub wider-later : Later net wider.net
-    wider-later = later-then net late.net wider.net late-later wider-placed.later
+    pub wider-keeps : Keeps net wider.net
+    wider-keeps = keeps-then net late.net wider.net late-keeps (keeps-later late.net wider.net wider-placed.later)
 
     pub wider-nodes : All (IsNode wider.net) p.parts
-    wider-nodes = nodes-later wider.net wider-later
+    wider-nodes = nodes-kept wider.net wider-keeps
 
     tap-of : IsPlacedNode wider.net (sum_width p (t ∷ ts)) (with_tap p t ts sum)
     tap-of =
         product-placed p (sum_width p (t ∷ ts)) (width-at p has (t ∷ ts) are) wider wider-placed.later.valid wider-placed.width
         wider-nodes t (All-head (HasOddPart p.parts) t ts are.odd)
 
-    pub tap-later : Later sum.net (with_tap p t ts sum).net
-    tap-later =
-        later-then sum.net wider.net (with_tap p t ts sum).net
-        (later-then sum.net late.net wider.net late-placed.later wider-placed.later) tap-of.later
+    since-late : Later late.net (with_tap p t ts sum).net
+    since-late = later-then late.net wider.net (with_tap p t ts sum).net wider-placed.later tap-of.later
 
-    pub tap-placed : IsPlacedNode net (sum_width p (t ∷ ts)) (with_tap p t ts sum)
+    pub tap-keeps : Keeps sum.net (with_tap p t ts sum).net
+    tap-keeps =
+        keeps-then sum.net late.net (with_tap p t ts sum).net late-placed.keeps
+        (keeps-later late.net (with_tap p t ts sum).net since-late)
+
+    pub tap-placed : IsChainNode net (sum_width p (t ∷ ts)) (with_tap p t ts sum)
     tap-placed = record {
-      later = later-then net sum.net (with_tap p t ts sum).net made.later tap-later;
+      keeps = keeps-then net sum.net (with_tap p t ts sum).net made.keeps tap-keeps;
+      outputs = since-late.grown.outputs ∙ made.outputs;
       width = tap-of.width;
     }
 
-  pub taps-placed : (ts : List ℤ) → AreTaps p ts → all_zero ts ≡ false → IsPlacedNode net (sum_width p ts) (with_taps p net ts)
+    -- a delay more
+    tap-delays : delay_count (with_tap p t ts sum).net.nodes ≡ delay_count sum.net.nodes + 1
+    tap-delays = since-late.grown.delays ∙ delay_count-append sum.net.nodes (Delay sum.place ∷ [])
+
+  pub taps-placed : (ts : List ℤ) → AreTaps p ts → all_zero ts ≡ false → IsChainNode net (sum_width p ts) (with_taps p net ts)
   taps-placed [] are some = absurd (cc)
   taps-placed (t ∷ ts) are some =
       go (all_zero ts) refl (λ e. taps-placed ts (taps-tail p t ts are) e)
     where
-      go : (c : Bool) → all_zero ts ≡ c → (all_zero ts ≡ false → IsPlacedNode net (sum_width p ts) (with_taps p net ts))
-          → IsPlacedNode net (sum_width p (t ∷ ts))
+      go : (c : Bool) → all_zero ts ≡ c → (all_zero ts ≡ false → IsChainNode net (sum_width p ts) (with_taps p net ts))
+          → IsChainNode net (sum_width p (t ∷ ts))
           (if c then first_product p (sum_width p (t ∷ ts)) net t else with_tap p t ts (with_taps p net ts))
       go true e rest =
-          first-placed p (sum_width p (t ∷ ts)) (width-at p has (t ∷ ts) are) net valid nodes t (first-some t ts some e)
-          (All-head (HasOddPart p.parts) t ts are.odd)
+          placed-in_chain net (sum_width p (t ∷ ts)) (first_product p (sum_width p (t ∷ ts)) net t) (last-placed t ts are some e)
       go false e rest = tap-placed t ts are (with_taps p net ts) (rest e)
 
+  -- the net has a delay between neighbouring taps at most
+  pub taps-delays : (ts : List ℤ) → AreTaps p ts → all_zero ts ≡ false
+      → delay_count (with_taps p net ts).net.nodes ≤ delay_count net.nodes + (length ts - 1)
+  taps-delays [] are some = absurd (cc)
+  taps-delays (t ∷ ts) are some =
+      go (all_zero ts) refl (λ e. taps-delays ts (taps-tail p t ts are) e)
+    where
+      go : (c : Bool) → all_zero ts ≡ c
+          → (all_zero ts ≡ false → delay_count (with_taps p net ts).net.nodes ≤ delay_count net.nodes + (length ts - 1))
+          → delay_count (if c then first_product p (sum_width p (t ∷ ts)) net t else with_tap p t ts (with_taps p net ts)).net.nodes
+          ≤ delay_count net.nodes + (length (t ∷ ts) - 1)
+      go true e rest = omega (arith, (last-placed t ts are some e).later.grown.delays)
+      go false e rest =
+          let before = taps-placed ts (taps-tail p t ts are) e in
+          omega (arith, rest e, tap-delays t ts are (with_taps p net ts) before, some-tap ts e)
+
   -- the net goes on growing from tap to tap
-  pub taps-later : (ts : List ℤ) (k : ℕ) → AreTaps p ts → all_zero (drop k ts) ≡ false
-      → Later (with_taps p net (drop k ts)).net (with_taps p net ts).net
-  taps-later ts zero are some = later-same (with_taps p net ts).net (taps-placed ts are some).later.valid
-  taps-later [] (suc k) are some = absurd (cc)
-  taps-later (t ∷ ts) (suc k) are some =
+  pub taps-keep : (ts : List ℤ) (k : ℕ) → AreTaps p ts → all_zero (drop k ts) ≡ false
+      → Keeps (with_taps p net (drop k ts)).net (with_taps p net ts).net
+  taps-keep ts zero are some =
+      let z = (with_taps p net ts).net in keeps-later z z (later-same z (taps-placed ts are some).keeps.valid)
+  taps-keep [] (suc k) are some = absurd (cc)
+  taps-keep (t ∷ ts) (suc k) are some =
       let rest = drop-some ts k some in
       let before = taps-placed ts (taps-tail p t ts are) rest in
-      let more = subst (λ (q : Placed). Later (with_taps p net ts).net q.net) (sym (taps-more p net t ts rest))
-      (tap-later t ts are (with_taps p net ts) before) in
-      later-then (with_taps p net (drop k ts)).net (with_taps p net ts).net (with_taps p net (t ∷ ts)).net
-      (taps-later ts k (taps-tail p t ts are) some) more
+      let more = subst (λ (q : Placed). Keeps (with_taps p net ts).net q.net) (sym (taps-more p net t ts rest))
+      (tap-keeps t ts are (with_taps p net ts) before) in
+      keeps-then (with_taps p net (drop k ts)).net (with_taps p net ts).net (with_taps p net (t ∷ ts)).net
+      (taps-keep ts k (taps-tail p t ts are) some) more

@@ -17,12 +17,13 @@ use Rattle.opgen_design.specs.Value.{cut}
 use Rattle.opgen_net.specs.declared.net.Net.{Net}
 use Rattle.opgen_net.specs.declared.net.Output.{Output}
 use Rattle.opgen_net.specs.declared.node.Node.TheVariants.{Constant}
+use Rattle.opgen_net.specs.Delays.{delay_count}
 use Rattle.opgen_net.specs.Flow.{Inputs, flow, slice_flow}
 use Rattle.opgen_net.specs.Placed.{Placed}
 use Rattle.opgen_net.specs.Valid.{IsValid, LiesWithin, input_widths, slice_width, widths}
 use Rattle.opgen_net.proofs.Appending.{flow-append_last, valid-output, width-append_last}
-use Rattle.opgen_net.proofs.Grown.{grown-flow}
-use Rattle.opgen_net.proofs.Later.{Later, later-node, later-same, later-then, node_there, words-later}
+use Rattle.opgen_net.proofs.Delays.{passes-count}
+use Rattle.opgen_net.proofs.Later.{Later, later-node, later-same, later-then, node_there}
 use Rattle.opgen_kinds.specs.declared.taps.Taps.{Taps}
 use Rattle.opgen_kinds.specs.Sum.{sum_shift}
 use Rattle.opgen_kinds.specs.Taps.{IsAcceptedTaps, direct, taps_format, exact_taps, IsTaps}
@@ -49,7 +50,7 @@ use Rattle.opgen_graph.specs.Placing.{factors, AreAdders, IsNode, IsPart, HasOdd
 use Rattle.opgen_graph.specs.Recipe.{Multiples, with_input, multiples_of}
 use Rattle.opgen_graph.specs.Residues.{IsResidue}
 use Rattle.opgen_graph.specs.Served.{Serves}
-use Rattle.opgen_graph.proofs.Kept.{keeps-later, words-back}
+use Rattle.opgen_graph.proofs.Kept.{Keeps, keeps-later, keeps-then, words-back, words-kept}
 use Rattle.opgen_graph.proofs.Members.{all_of}
 use Rattle.opgen_graph.proofs.PartLists.{part-within, part-listed, listed-part, odd_itself}
 use Rattle.opgen_graph.proofs.PartNodes.{all-made}
@@ -61,7 +62,7 @@ use Rattle.opgen_tfir.specs.declared.products.Products.{Products}
 use Rattle.opgen_tfir.specs.Recipe.{all_zero, low_bits, half_unit, own_format, sum_width, with_multiples, products_of, sum_from, whole_sum, with_result, zero_sum, net_of_taps}
 use Rattle.opgen_tfir.specs.Steps.{HasProducts, AreTaps}
 use Rattle.opgen_tfir.specs.Sums.{recent, HasSums}
-use Rattle.opgen_tfir.proofs.Chains.{width-at, taps-placed, taps-later, widened-placed}
+use Rattle.opgen_tfir.proofs.Chains.{IsChainNode, width-at, taps-delays, taps-keep, taps-placed, widened-placed}
 use Rattle.opgen_tfir.proofs.Floors.{IsMultipleOf, floor-good, sum-whole}
 use Rattle.opgen_tfir.proofs.Steps.{taps-drop}
 use Rattle.opgen_tfir.proofs.Values.{input-held, taps-has, widened-has}
@@ -198,6 +199,7 @@ module _ (f : Taps) (accepted : IsAcceptedTaps f) (e : all_zero f.taps ≡ true)
         (omega arith, omega (arith, width-append_last (with_input f.input).nodes (Constant (word 1 0))));
     inputs = refl;
     outputs = ap (λ n. (codes "y", n) ∷ []) (sym zero-width);
+    delays = passes-count (length f.taps - 1) zero-net.nodes (omega arith);
     good = λ inputs t words within range.
         subst (IsGoodRatio (mode_of_exact exact) (exact_taps f (recent f.input inputs (pos t)))) (sym (zero-value inputs (pos t) words))
         (good-floor f accepted exact mode (recent f.input inputs (pos t)) (pos 0) (zero-floor (recent f.input inputs (pos t))));
@@ -275,16 +277,19 @@ module _ (f : Taps) (accepted : IsAcceptedTaps f) (graph : Graph) (serves : Serv
     abbrev pub whole : Placed
     whole = whole_sum f graph
 
-    pub sum-placed : IsPlacedNode made.net (sum_width p f.taps) sum
+    pub sum-placed : IsChainNode made.net (sum_width p f.taps) sum
     sum-placed = taps-placed p products.widths made.net start.ready.valid nodes f.taps are_taps some
 
     pub whole-placed : IsPlacedNode sum.net p.width whole
     whole-placed =
-        widened-placed (own_format p f.taps).signed (sum_width p f.taps) p.width sum sum-placed.later.valid
+        widened-placed (own_format p f.taps).signed (sum_width p f.taps) p.width sum sum-placed.keeps.valid
         (width-at p products.widths f.taps are_taps) products.widths.wide sum-placed.width
 
-    pub whole-later : Later made.net whole.net
-    whole-later = later-then made.net sum.net whole.net sum-placed.later whole-placed.later
+    from-sum : Keeps sum.net whole.net
+    from-sum = keeps-later sum.net whole.net whole-placed.later
+
+    pub whole-keeps : Keeps made.net whole.net
+    whole-keeps = keeps-then made.net sum.net whole.net sum-placed.keeps from-sum
 
     whole-has : (inputs : Inputs) (t : ℤ) → All (AreWords (input_widths made.net)) inputs
         → Has p.width (weighted f.taps (recent f.input inputs t) +ℤ pos p.half) (flow whole.net.nodes inputs whole.place t)
@@ -292,9 +297,9 @@ module _ (f : Taps) (accepted : IsAcceptedTaps f) (graph : Graph) (serves : Serv
         let x = recent f.input inputs t in
         let h = taps-has p products.widths made.net start.later start.ready f.taps are_taps some inputs t words in
         let of = λ (k : ℕ). input-held f.input ranges.input made.net start.later inputs words (t -ℤ pos k) in
-        widened-has (of_width p f.taps) p.width sum sum-placed.later.valid
+        widened-has (of_width p f.taps) p.width sum sum-placed.keeps.valid
         (width-at p products.widths f.taps are_taps) products.widths.wide inputs t
-        (words-later made.net sum.net sum-placed.later inputs words) (weighted f.taps x +ℤ pos p.half) h
+        (words-kept made.net sum.net sum-placed.keeps inputs words) (weighted f.taps x +ℤ pos p.half) h
         (whole-holds p f.taps x of)
 
     abbrev pub output : Output
@@ -312,14 +317,29 @@ module _ (f : Taps) (accepted : IsAcceptedTaps f) (graph : Graph) (serves : Serv
     some-valid : IsValid net
     some-valid = valid-output whole.net output whole-placed.later.valid output-lies
 
-    from-input : Later (with_input f.input) whole.net
-    from-input = later-then (with_input f.input) made.net whole.net start.later whole-later
+    from-input : Keeps (with_input f.input) whole.net
+    from-input = keeps-then (with_input f.input) made.net whole.net (keeps-later (with_input f.input) made.net start.later) whole-keeps
+
+    whole-outputs : whole.net.outputs ≡ []
+    whole-outputs = whole-placed.later.grown.outputs ∙ sum-placed.outputs ∙ start.later.grown.outputs
+
+    -- the net has as many delays as taps less one at most
+    whole-delays : delay_count whole.net.nodes ≤ length f.taps - 1
+    whole-delays =
+        let none : delay_count (with_input f.input).nodes ≡ 0 = refl in
+        omega (
+          arith,
+          whole-placed.later.grown.delays,
+          taps-delays p products.widths made.net start.ready.valid nodes f.taps are_taps some,
+          start.later.grown.delays,
+          none,
+        )
 
     some-outputs : net.outputs ≡ output ∷ []
-    some-outputs = ap (λ (os : List Output). os ++ output ∷ []) from-input.grown.outputs
+    some-outputs = ap (λ (os : List Output). os ++ output ∷ []) whole-outputs
 
     for_made : (inputs : Inputs) → All (AreWords (input_widths net)) inputs → All (AreWords (input_widths made.net)) inputs
-    for_made inputs words = words-back made.net whole.net (keeps-later made.net whole.net whole-later) inputs words
+    for_made inputs words = words-back made.net whole.net whole-keeps inputs words
 
     some-sums : HasSums f graph net
     some-sums k later_some inputs t words =
@@ -328,11 +348,11 @@ module _ (f : Taps) (accepted : IsAcceptedTaps f) (graph : Graph) (serves : Serv
         let are = taps-drop p f.taps k are_taps in
         let h = taps-has p products.widths made.net start.later start.ready ts are later_some inputs t (for_made inputs words) in
         let answers = taps-placed p products.widths made.net start.ready.valid nodes ts are later_some in
-        let on = later-then z.net sum.net whole.net
-        (taps-later p products.widths made.net start.ready.valid nodes f.taps k are_taps later_some) whole-placed.later in
+        let on = keeps-then z.net sum.net whole.net
+        (taps-keep p products.widths made.net start.ready.valid nodes f.taps k are_taps later_some) from-sum in
         let there = node_there z.net z.place (sum_width p ts) (width-at p products.widths ts are).0 answers.width in
         subst (λ w. IsResidue (sum_width p ts) (weighted ts (recent f.input inputs t) +ℤ pos p.half) (nat w))
-        (sym (grown-flow z.net whole.net on.grown inputs z.place t there)) h.residue
+        (sym (on.nodes.flow inputs z.place t there)) h.residue
 
     -- the output is the sum with half a unit, rounded down
     module _ (inputs : Inputs) (t : ℤ) (words : All (AreWords (input_widths net)) inputs) where
@@ -369,8 +389,9 @@ module _ (f : Taps) (accepted : IsAcceptedTaps f) (graph : Graph) (serves : Serv
     some-fits : (exact : Bool) → IsModeOf (mode_of_exact exact) (Tfir f) → FitsOperator (mode_of_exact exact) (Tfir f) net
     some-fits exact mode = record {
       valid = some-valid;
-      inputs = from-input.grown.inputs;
+      inputs = from-input.inputs;
       outputs = ap (map _) some-outputs ∙ ap (λ n. (codes "y", n) ∷ []) slice-is;
+      delays = passes-count (length f.taps - 1) net.nodes whole-delays;
       good = λ inputs t words within range.
           let is : output_words (operator_outputs (Tfir f)) (map (λ o. slice_flow net.nodes inputs o.from (pos t)) net.outputs) 0
           ≡ q inputs (pos t) words =
@@ -383,8 +404,8 @@ module _ (f : Taps) (accepted : IsAcceptedTaps f) (graph : Graph) (serves : Serv
 
   -- ---- both
 
-  pub net-fits : FitsInEachMode (Tfir f) (net_of_taps f graph)
-  net-fits = fits_each_mode (Tfir f) (net_of_taps f graph) (λ exact mode. go exact mode (all_zero f.taps) refl)
+  pub fits_modes : FitsInEachMode (Tfir f) (net_of_taps f graph)
+  fits_modes = fits_each_mode (Tfir f) (net_of_taps f graph) (λ exact mode. go exact mode (all_zero f.taps) refl)
     where
       go : (exact : Bool) → IsModeOf (mode_of_exact exact) (Tfir f) → (b : Bool) → all_zero f.taps ≡ b
           → FitsOperator (mode_of_exact exact) (Tfir f)

@@ -1,14 +1,14 @@
 -- The whole sum with half a unit, rounded down in units of the output: less than one unit from the sum, and the sum where that is whole.
-use Rattle.std.proofs.Common.{◌≡◌, ℕ, zero, suc, ◌+◌, ◌*◌, ◌/◌, ◌%◌, ◌<◌, Bool, true, false, not, cond, List, [], ◌∷◌, length, get_or, Some, None, refl, sym, ap, ◌∙◌, arith}
-use Rattle.std.specs.List.{position_from}
+use Rattle.std.proofs.Common.{◌≡◌, ℕ, zero, suc, ◌+◌, ◌*◌, ◌/◌, ◌%◌, ◌<◌, Bool, true, false, not, List, [], ◌∷◌, length, get_or, None, refl, sym, ap, ◌∙◌, arith}
 use Rattle.std.specs.Prelude.{ℤ, pos, negsuc, neg_ℤ, ◌+ℤ◌, ◌*ℤ◌, ◌<ℤ◌, ◌≤ℤ◌, unsigned_abs}
-use Rattle.std.proofs.lemmas.Bool.{eqb-true}
+use Rattle.std.proofs.lemmas.Bool.{eqb-true, not-false}
 use Rattle.std.proofs.lemmas.Int.{ints}
 use Rattle.std.proofs.lemmas.Nat.{div-add-mod', pow_pos}
 use Rattle.opgen_num.specs.Floors.{IsFloor}
 use Rattle.opgen_num.specs.Rounding.{IsWithinOne, IsGoodLinear}
 use Rattle.opgen_num.proofs.Integers.{product-sum, product_assoc, product_cancel}
 use Rattle.opgen_num.proofs.Quotients.{within_one}
+use Rattle.opgen_num.proofs.Lists.{none-passes}
 use Rattle.opgen_kinds.specs.Sum.{first_inexact_of}
 use Rattle.opgen_ports.specs.Reaches.{is_whole_at, up, down}
 use Rattle.opgen_ports.specs.Ports.{Recent, weighted, weighted_from}
@@ -52,24 +52,6 @@ whole-tap (negsuc a) m some h =
     let rest : suc a % m ≡ 0 = h in
     let whole : m * q ≡ suc a = omega (arith, div-add-mod' (suc a) m, rest) in
     record { times = neg_ℤ (pos q); is = neg-right m q ∙ ap (λ n. neg_ℤ (pos n)) whole ∙ omega (arith, ints) }
-
-none-passes : (p : ℤ → Bool) (i : ℕ) (cs : List ℤ) (k : ℕ) → position_from p i cs ≡ None → k < length cs → p (get_or cs k (pos 0)) ≡ false
-none-passes p i [] k e h = absurd (omega (arith, h))
-none-passes p i (c ∷ cs) zero e h = by (p c) e
-  where
-    by : (b : Bool) → cond b (Some i) (position_from p (i + 1) cs) ≡ None → b ≡ false
-    by true g = cc
-    by false g = refl
-none-passes p i (c ∷ cs) (suc k) e h = by (λ g. none-passes p (i + 1) cs k g (omega (arith, h))) (p c) e
-  where
-    by : (position_from p (i + 1) cs ≡ None → p (get_or cs k (pos 0)) ≡ false) → (b : Bool)
-        → cond b (Some i) (position_from p (i + 1) cs) ≡ None → p (get_or cs k (pos 0)) ≡ false
-    by later true g = cc
-    by later false g = later g
-
-not-false : (b : Bool) → not b ≡ false → b ≡ true
-not-false true e = refl
-not-false false e = cc
 
 -- a sum of multiples is a multiple
 weighted-whole : (m : ℕ) (ago : ℕ) (ts : List ℤ) (x : Recent) → ((k : ℕ) → k < length ts → IsMultipleOf m (get_or ts k (pos 0)))

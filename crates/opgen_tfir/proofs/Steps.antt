@@ -9,11 +9,11 @@ use Rattle.opgen_net.specs.Valid.{IsValid, widths}
 use Rattle.opgen_net.proofs.Later.{later-same, node_there}
 use Rattle.opgen_ports.specs.Ranges.{IsWithin}
 use Rattle.opgen_graph.specs.Placing.{HasOddPart}
-use Rattle.opgen_graph.proofs.Sums.{IsPlacedNode}
+use Rattle.opgen_graph.proofs.Kept.{keeps-later}
 use Rattle.opgen_tfir.specs.declared.products.Products.{Products}
 use Rattle.opgen_tfir.specs.Recipe.{all_zero, own_format, sum_width, widened, delayed, with_product, with_tap, with_taps}
 use Rattle.opgen_tfir.specs.Steps.{HasProducts, IsLast, AreTaps}
-use Rattle.opgen_tfir.proofs.Chains.{width-at, nodes-later, late, late-placed, wider, wider-placed, wider-nodes, taps-placed, taps-more}
+use Rattle.opgen_tfir.proofs.Chains.{IsChainNode, width-at, nodes-kept, late, late-placed, wider, wider-placed, wider-nodes, taps-placed, taps-more}
 
 pub taps-drop : (p : Products) (taps : List ℤ) (k : ℕ) → AreTaps p taps → AreTaps p (drop k taps)
 taps-drop p taps k are = record {
@@ -58,13 +58,13 @@ module _ (p : Products) (net : Net) (valid : IsValid net) (has : HasProducts net
   pub are-at : AreTaps p (tap ∷ rest)
   are-at = subst (AreTaps p) list-at (taps-drop p taps k are)
 
-  pub made : IsPlacedNode net (sum_width p rest) old_sum
-  made = record { later = later-same net valid; width = width }
+  pub made : IsChainNode net (sum_width p rest) old_sum
+  made = record { keeps = keeps-later net net (later-same net valid); outputs = refl; width = width }
 
   pub there : place < length net.nodes
   there = node_there net place (sum_width p rest) (width-at p has.widths rest (taps-drop p taps (k + 1) are)).0 width
 
-  pub late-at : IsPlacedNode net (sum_width p rest) (late p has.widths net valid has.nodes tap rest are-at old_sum made)
+  pub late-at : IsChainNode net (sum_width p rest) (late p has.widths net valid has.nodes tap rest are-at old_sum made)
   late-at = late-placed p has.widths net valid has.nodes tap rest are-at old_sum made
 
   abbrev pub wider-sum : Placed
@@ -101,13 +101,13 @@ module _ (p : Products) (net : Net) (valid : IsValid net) (has : HasProducts net
       let next : k - 1 + 1 ≡ k = omega (arith, low) in
       subst (λ n. all_zero (drop n taps) ≡ false) next (is.some (k - 1) (omega (arith, low, high)))
 
-  pub sum-placed : IsPlacedNode net (sum_width p (drop k taps)) sum
+  pub sum-placed : IsChainNode net (sum_width p (drop k taps)) sum
   sum-placed = taps-placed p has.widths net valid has.nodes (drop k taps) (taps-drop p taps k are) some_later
 
   pub products-now : HasProducts sum.net p
   products-now = record {
     widths = has.widths;
-    nodes = nodes-later p has.widths net valid has.nodes sum.net sum-placed.later;
+    nodes = nodes-kept p has.widths net valid has.nodes sum.net sum-placed.keeps;
   }
 
   pub next-sum : with_tap p (get_or taps (k - 1) (pos 0)) (drop (k - 1 + 1) taps) sum ≡ with_taps p net (drop (k - 1) taps)

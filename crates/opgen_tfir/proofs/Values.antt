@@ -20,7 +20,7 @@ use Rattle.opgen_net.specs.Valid.{IsValid, input_widths}
 use Rattle.opgen_net.proofs.Appending.{flow-append_last}
 use Rattle.opgen_net.proofs.FlowWidths.{flow-width}
 use Rattle.opgen_net.proofs.Grown.{grown-flow}
-use Rattle.opgen_net.proofs.Later.{Later, later-same, later-then, node_there, words-later}
+use Rattle.opgen_net.proofs.Later.{Later, later-same, node_there, words-later}
 use Rattle.opgen_net.proofs.WordLaws.{word-has_bits}
 use Rattle.opgen_ports.specs.Ranges.{IsInput, IsWithin}
 use Rattle.opgen_ports.specs.Ports.{Recent, weighted, weighted_from}
@@ -29,7 +29,7 @@ use Rattle.opgen_ports.proofs.InputPorts.{input_bit}
 use Rattle.opgen_graph.specs.Placing.{HasOddPart, IsMultiple, IsNode}
 use Rattle.opgen_graph.specs.Recipe.{Multiples, operand, with_input, with_magnitude, with_constant}
 use Rattle.opgen_graph.specs.Residues.{IsResidue}
-use Rattle.opgen_graph.proofs.Kept.{keeps-later, input-kept, multiple-kept, words-back}
+use Rattle.opgen_graph.proofs.Kept.{Keeps, keeps-later, keeps-then, input-kept, multiple-kept, words-back, words-kept}
 use Rattle.opgen_graph.proofs.Operands.{operand-residue}
 use Rattle.opgen_graph.proofs.Products.{Ready, ready_nodes, magnitude-placed, magnitude-has, negated-has}
 use Rattle.opgen_graph.proofs.Residues.{Has, has, settled, sum-has, difference-has}
@@ -39,7 +39,7 @@ use Rattle.opgen_tfir.specs.declared.products.Products.{Products}
 use Rattle.opgen_tfir.specs.Recipe.{all_zero, own_format, sum_width, widened, result, joined, with_product, with_half, first_product, delayed, with_tap, with_taps}
 use Rattle.opgen_tfir.specs.Steps.{HasWidths, AreTaps}
 use Rattle.opgen_tfir.specs.Sums.{recent}
-use Rattle.opgen_tfir.proofs.Chains.{as_multiple, is-node, half-placed, taps-tail, width-at, late-placed, wider-placed, late-later, wider-later, taps-placed}
+use Rattle.opgen_tfir.proofs.Chains.{as_multiple, is-node, half-placed, taps-tail, width-at, late-placed, wider-placed, late-keeps, wider-keeps, taps-placed}
 use Rattle.opgen_tfir.proofs.Widths.{half-fits, of_width, sum-holds}
 use Rattle.opgen_tfir.proofs.Zeros.{first-some, zeros-weighted, weighted-later}
 
@@ -176,12 +176,11 @@ module _ (p : Products) (bits : ℕ) (wide : IsWidth bits) where
         (negated-has bits m made.later.valid wide made.width (x *ℤ pos (suc n)) inputs t
         (magnitude-has p.input b ready bits wide (suc n) (omega arith) (small_number (negsuc n) small) part inputs t words))
 
-pub ready-later : (p : Products) (old new : Net) → Later old new → Ready p.input (record { net = old; known = p.parts })
+pub ready-kept : (p : Products) (old new : Net) → Keeps old new → Ready p.input (record { net = old; known = p.parts })
     → Ready p.input (record { net = new; known = p.parts })
-ready-later p old new later ready =
-    let keeps = keeps-later old new later in
+ready-kept p old new keeps ready =
     record {
-      valid = later.valid;
+      valid = keeps.valid;
       has_input = input-kept p.input old new keeps ready.has_input;
       each = All-weaker (IsMultiple p.input old) (IsMultiple p.input new) (multiple-kept p.input old new keeps ready.has_input) p.parts ready.each;
     }
@@ -229,7 +228,7 @@ module _ (p : Products) (bits : ℕ) (wide : IsWidth bits) (fits : p.half < 2 ^ 
       go false other =
           let h = with_half p bits net in
           let placed = half-placed p bits wide net ready.valid nodes in
-          let later = ready-later p net h.net placed.later ready in
+          let later = ready-kept p net h.net (keeps-later net h.net placed.later) ready in
           let same : val (flow h.net.nodes inputs 0 t) p.input ≡ x =
           ap (λ w. val w p.input) (grown-flow net h.net placed.later.grown inputs 0 t
           (node_there net 0 p.input.width ready.has_input.some ready.has_input.width)) in
@@ -247,11 +246,11 @@ module _ (p : Products) (widths-of : HasWidths p) (net : Net) (from : Later (wit
   nodes : All (IsNode net) p.parts
   nodes = ready_nodes p.input start ready
 
-  input-now : (new : Net) → Later net new → (inputs : Inputs) (t : ℤ)
+  input-now : (new : Net) → Keeps net new → (inputs : Inputs) (t : ℤ)
       → val (flow new.nodes inputs 0 t) p.input ≡ recent p.input inputs t 0
-  input-now new later inputs t =
-      ap (λ w. val w p.input)
-      (grown-flow (with_input p.input) new (later-then (with_input p.input) net new from later).grown inputs 0 t (omega arith))
+  input-now new keeps inputs t =
+      let input = with_input p.input in
+      ap (λ w. val w p.input) ((keeps-then input net new (keeps-later input net from) keeps).nodes.flow inputs 0 t (omega arith))
       ∙ ap (λ u. val (input_at inputs 0 p.input.width u) p.input) (sym (same-time t))
 
   pub taps-has : (ts : List ℤ) → AreTaps p ts → all_zero ts ≡ false
@@ -291,7 +290,7 @@ module _ (p : Products) (widths-of : HasWidths p) (net : Net) (from : Later (wit
           (if e then first_product p (sum_width p (c ∷ ts)) net c else with_tap p c ts (with_taps p net ts)).place t)
       go true e rest =
           has bits _ _ _
-          (ap (λ v. (v *ℤ c) +ℤ pos p.half) (input-now net (later-same net ready.valid) inputs t)
+          (ap (λ v. (v *ℤ c) +ℤ pos p.half) (input-now net (keeps-later net net (later-same net ready.valid)) inputs t)
           ∙ with_none (r 0 *ℤ c) (weighted_from 1 ts r) (pos p.half) (zeros-weighted ts 1 r e))
           (first-has p bits wide (half-fits p widths-of (c ∷ ts) are.few are.small) net ready inputs t words c
           (first-some c ts some e) small odd)
@@ -300,9 +299,9 @@ module _ (p : Products) (widths-of : HasWidths p) (net : Net) (from : Later (wit
           let made = taps-placed p widths-of net ready.valid nodes ts (taps-tail p c ts are) e in
           let late = delayed z in
           let of_late = late-placed p widths-of net ready.valid nodes c ts are z made in
-          let far = late-later p widths-of net ready.valid nodes c ts are z made in
+          let far = late-keeps p widths-of net ready.valid nodes c ts are z made in
           let of_wider = wider-placed p widths-of net ready.valid nodes c ts are z made in
-          let later = wider-later p widths-of net ready.valid nodes c ts are z made in
+          let keeps = wider-keeps p widths-of net ready.valid nodes c ts are z made in
           let wider = widened (own_format p ts).signed (sum_width p ts) bits late in
           let ago = recent p.input inputs (before t) in
           let w = weighted ts ago +ℤ pos p.half in
@@ -310,14 +309,14 @@ module _ (p : Products) (widths-of : HasWidths p) (net : Net) (from : Later (wit
           subst (Has (sum_width p ts) w) (sym (flow-append_last z.net.nodes (Delay z.place) inputs t)) (rest e) in
           let held = λ (k : ℕ). input-held p.input widths-of.input net from inputs words (before t -ℤ pos k) in
           let g : Has bits w (flow wider.net.nodes inputs wider.place t) =
-          widened-has (of_width p ts) bits late of_late.later.valid (width-at p widths-of ts (taps-tail p c ts are)) wide inputs t
-          (words-later net late.net far inputs words) w h (sum-holds p ts (c ∷ ts) ago held) in
+          widened-has (of_width p ts) bits late of_late.keeps.valid (width-at p widths-of ts (taps-tail p c ts are)) wide inputs t
+          (words-kept net late.net far inputs words) w h (sum-holds p ts (c ∷ ts) ago held) in
           let moved : weighted ts ago ≡ weighted_from 1 ts r =
           weighted-later ts 0 r ago (λ k. ap (λ u. val (input_at inputs 0 p.input.width u) p.input) (before-is t k)) in
           has bits _ _ _
-          (ap (λ v. w +ℤ (v *ℤ c)) (input-now wider.net later inputs t)
+          (ap (λ v. w +ℤ (v *ℤ c)) (input-now wider.net keeps inputs t)
           ∙ ap (λ v. (v +ℤ pos p.half) +ℤ (r 0 *ℤ c)) moved
           ∙ moved_on (weighted_from 1 ts r) (r 0 *ℤ c) (pos p.half))
-          (product-has p bits wide wider (ready-later p net wider.net later ready) inputs t
-          (words-later net wider.net later inputs words) c w small odd
+          (product-has p bits wide wider (ready-kept p net wider.net keeps ready) inputs t
+          (words-kept net wider.net keeps inputs words) c w small odd
           (node_there wider.net wider.place bits wide.0 of_wider.width) g)

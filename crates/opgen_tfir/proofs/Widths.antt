@@ -14,11 +14,11 @@ use Rattle.opgen_kinds.specs.declared.taps.Taps.{Taps}
 use Rattle.opgen_kinds.specs.Sum.{sum_shift}
 use Rattle.opgen_kinds.specs.Taps.{IsAcceptedTaps, direct, taps_format}
 use Rattle.opgen_ports.specs.Ranges.{IsInput, IsWithin}
-use Rattle.opgen_ports.specs.Reaches.{above_zero, below_zero, rises, falls, reach_of, reach_over, in_units, in_places, places_down}
+use Rattle.opgen_ports.specs.Reaches.{rises, falls, reach_of, reach_over, in_units, in_places, places_down}
 use Rattle.opgen_ports.specs.Ports.{Recent, weighted}
 use Rattle.opgen_ports.specs.Spans.{IsOf}
 use Rattle.opgen_ports.proofs.Covered.{covered}
-use Rattle.opgen_ports.proofs.Reached.{rises-cons, falls-cons, ceiling, held-within, sum_within}
+use Rattle.opgen_ports.proofs.Reached.{rises-cons, falls-cons, ceiling, held-within, sum_within, abs-parts}
 use Rattle.opgen_ports.proofs.Widths.{narrow_reach, width_by, some_width}
 use Rattle.opgen_graph.specs.declared.ranks.Graph.{Graph}
 use Rattle.opgen_tfir.specs.declared.products.Products.{Products}
@@ -27,16 +27,12 @@ use Rattle.opgen_tfir.specs.Steps.{HasWidths}
 
 -- ---- how far sums of whole taps go
 
-signs_within : (t : ℤ) → above_zero t + below_zero t ≡ unsigned_abs t
-signs_within (pos n) = omega arith
-signs_within (negsuc n) = omega arith
-
 taps_within : (ts : List ℤ) → All (IsWithin 1048575) ts → rises ts + falls ts ≤ length ts * 1048575
 taps_within [] few = omega arith
 taps_within (t ∷ ts) few =
     let first : unsigned_abs t ≤ 1048575 = few zero t (omega arith) in
     let rest = taps_within ts (λ k d h. few (suc k) d (omega arith)) in
-    omega (arith, rises-cons t ts, falls-cons t ts, signs_within t, first, rest)
+    omega (arith, rises-cons t ts, falls-cons t ts, abs-parts t, first, rest)
 
 weighed : (r f below above : ℕ) → r + f ≤ 268435200 → below ≤ 2 ^ 48 → above ≤ 2 ^ 48 → r * below + f * above < 2 ^ 76
 weighed r f below above few low high =

@@ -1,34 +1,26 @@
 -- Taps that are 0, and what they add.
 use Rattle.std.proofs.Common.{◌≡◌, ◌≢◌, ℕ, zero, suc, ◌+◌, ◌<◌, ◌≤◌, Bool, true, false, ◌&&◌, List, [], ◌∷◌, length, drop, get_or, refl, sym, ap, ◌∙◌, arith}
-use Rattle.std.specs.Prelude.{ℤ, pos, negsuc, ◌+ℤ◌, ◌*ℤ◌, unsigned_abs, ◌==◌, All}
-use Rattle.std.proofs.lemmas.Bool.Decides.{nat_tests}
+use Rattle.std.specs.Prelude.{ℤ, pos, ◌+ℤ◌, ◌*ℤ◌, unsigned_abs, ◌==◌, All}
 use Rattle.std.proofs.lemmas.Int.{ints}
 use Rattle.std.proofs.lemmas.List.{drop_more}
 use Rattle.std.proofs.lemmas.List.Elements.{All-nil, All-cons}
+use Rattle.std.proofs.lemmas.Bool.{and_parts}
+use Rattle.opgen_num.proofs.Integers.{zero-is}
 use Rattle.opgen_ports.specs.Ports.{Recent, weighted_from}
 use Rattle.opgen_tfir.specs.Recipe.{all_zero}
-
-both : (a b : Bool) → a && b ≡ true → (a ≡ true) × (b ≡ true)
-both true b h = (refl, h)
-both false b h = absurd (cc)
-
-zero_number : (t : ℤ) → (unsigned_abs t == 0) ≡ true → t ≡ pos 0
-zero_number (pos zero) h = refl
-zero_number (pos (suc n)) h = let no : false ≡ true = grind (arith, nat_tests, h) in absurd (cc)
-zero_number (negsuc n) h = let no : false ≡ true = grind (arith, nat_tests, h) in absurd (cc)
 
 pub all-zeros : (ts : List ℤ) → all_zero ts ≡ true → All (λ t. t ≡ pos 0) ts
 all-zeros [] h = All-nil (λ t. t ≡ pos 0)
 all-zeros (t ∷ ts) h =
-    let (first, rest) = both (unsigned_abs t == 0) (all_zero ts) h in
-    All-cons (λ t. t ≡ pos 0) t ts (zero_number t first) (all-zeros ts rest)
+    let (first, rest) = and_parts (unsigned_abs t == 0) (all_zero ts) h in
+    All-cons (λ t. t ≡ pos 0) t ts (zero-is t first) (all-zeros ts rest)
 
 -- they add nothing
 pub zeros-weighted : (ts : List ℤ) (ago : ℕ) (x : Recent) → all_zero ts ≡ true → weighted_from ago ts x ≡ pos 0
 zeros-weighted [] ago x h = refl
 zeros-weighted (t ∷ ts) ago x h =
-    let (first, rest) = both (unsigned_abs t == 0) (all_zero ts) h in
-    ap (λ c. (x ago *ℤ c) +ℤ weighted_from (ago + 1) ts x) (zero_number t first)
+    let (first, rest) = and_parts (unsigned_abs t == 0) (all_zero ts) h in
+    ap (λ c. (x ago *ℤ c) +ℤ weighted_from (ago + 1) ts x) (zero-is t first)
     ∙ ap (λ z. (x ago *ℤ pos 0) +ℤ z) (zeros-weighted ts (ago + 1) x rest)
     ∙ none (x ago)
   where

@@ -1,6 +1,7 @@
 -- What each step that builds a transposed filter needs: the last tap that is not 0, widths, and a node for the odd part of each
 -- tap.
 use Rattle.std.specs.Prelude.{◌≡◌, ℕ, ◌+◌, ◌<◌, ◌≤◌, ◌^◌, ℤ, List, length, drop, true, false, All}
+use Rattle.opgen_num.specs.declared.limits.TheConstants.{MAX_CONSTANT, MAX_TAPS}
 use Rattle.opgen_design.specs.Value.{IsWidth}
 use Rattle.opgen_net.specs.declared.net.Net.{Net}
 use Rattle.opgen_ports.specs.Ranges.{IsInput, IsWithin}
@@ -28,6 +29,6 @@ pub record HasProducts (net : Net) (p : Products) : Type 0 where
 
 -- taps whose odd parts have nodes
 pub record AreTaps (p : Products) (taps : List ℤ) : Type 0 where
-  pub few : length taps ≤ 256
-  pub small : All (IsWithin 1048575) taps
+  pub few : length taps ≤ MAX_TAPS
+  pub small : All (IsWithin MAX_CONSTANT) taps
   pub odd : All (HasOddPart p.parts) taps

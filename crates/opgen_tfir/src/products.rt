@@ -1,5 +1,6 @@
 //! What the sums of a transposed filter are made of: the nodes of odd parts, half a unit, and the width of each sum.
 ghost use Rattle.std.specs.Prelude.{◌≡◌, ◌≤◌, length, All};
+ghost use Rattle.opgen_num.specs.declared.limits.TheConstants.{MAX_CONSTANT, MAX_TAPS};
 ghost use Rattle.opgen_design.specs.Value.{IsWidth};
 ghost use Rattle.opgen_ports.specs.Ranges.{IsWithin};
 ghost use Rattle.opgen_tfir.specs.Recipe.{own_format as own_format_of, sum_width as sum_width_of};
@@ -28,8 +29,8 @@ pub struct Products {
 /// The format that the range of the sum of some taps needs, with half a unit in it.
 pub(crate) fn own_format(products: &Products, taps: &[i64]) -> Format
     requires widths { HasWidths products.now }
-    requires few { length taps.now ≤ 256 }
-    requires small { All (IsWithin 1048575) taps.now }
+    requires few { length taps.now ≤ MAX_TAPS }
+    requires small { All (IsWithin MAX_CONSTANT) taps.now }
     ensures value { result ≡ own_format_of products.now taps.now }
     ensures wide { IsWidth result.width }
 {
@@ -44,8 +45,8 @@ pub(crate) fn own_format(products: &Products, taps: &[i64]) -> Format
 /// The width of the sum from a tap on.
 pub(crate) fn sum_width(products: &Products, taps: &[i64]) -> u32
     requires widths { HasWidths products.now }
-    requires few { length taps.now ≤ 256 }
-    requires small { All (IsWithin 1048575) taps.now }
+    requires few { length taps.now ≤ MAX_TAPS }
+    requires small { All (IsWithin MAX_CONSTANT) taps.now }
     ensures value { result ≡ sum_width_of products.now taps.now }
     ensures wide { IsWidth result }
 {

@@ -1,5 +1,6 @@
 //! The chain of sums of a transposed filter, from the last tap to the first, with a delay between neighbouring taps.
 ghost use Rattle.std.specs.Prelude.{◌≡◌, ◌≢◌, ◌+◌, ◌<◌, ◌^◌, pos, drop, false, length, get_or, All, OnOk, IfOk, slice_index};
+ghost use Rattle.opgen_num.specs.declared.limits.TheConstants.{MAX_CONSTANT};
 ghost use Rattle.opgen_design.specs.Plain.{plain};
 ghost use Rattle.opgen_design.specs.Value.{IsWidth};
 ghost use Rattle.opgen_net.specs.Valid.{IsValid, widths};
@@ -29,7 +30,7 @@ pub(crate) fn all_zero(taps: &[i64]) -> bool
 // The place of the last tap that is not 0, or the first place where all are 0.
 fn last_tap(taps: &[i64]) -> usize
     requires some { 0 < length taps.now }
-    requires small { All (IsWithin 1048575) taps.now }
+    requires small { All (IsWithin MAX_CONSTANT) taps.now }
     ensures { IsLast taps.now result }
 {
     let mut last = taps.len() - 1;
@@ -110,7 +111,7 @@ fn add_product(
     requires net { IsValid net.old }
     requires products { HasProducts net.old products.now }
     requires width { IsWidth width }
-    requires small { IsWithin 1048575 tap }
+    requires small { IsWithin MAX_CONSTANT tap }
     requires odd { HasOddPart products.now.parts tap }
     requires node { slice_index (widths net.old.nodes) node ≡ width }
     ensures ok { OnOk result (net.new ≡ (with_product products.now width tap (record { net = net.old; place = node })).net) }
@@ -139,7 +140,7 @@ fn first_product(
     requires products { HasProducts net.old products.now }
     requires width { IsWidth width }
     requires half { products.now.half < 2 ^ width }
-    requires small { IsWithin 1048575 tap }
+    requires small { IsWithin MAX_CONSTANT tap }
     requires odd { HasOddPart products.now.parts tap }
     ensures ok { OnOk result (net.new ≡ (first_product_of products.now width net.old tap).net) }
     ensures place { IfOk result (λ n. n ≡ (first_product_of products.now width net.old tap).place) }

@@ -1,5 +1,5 @@
 -- The net of a kind is one of the specification.
-use Rattle.std.proofs.Common.{◌≡◌, Result, Ok, Err, refl, sym, subst}
+use Rattle.std.proofs.Common.{◌≡◌, Result, Ok, Err, sym, subst}
 use Rattle.std.specs.Prelude.{IfOk}
 use Rattle.std.proofs.lemmas.Result.{IfOk-at_ok}
 use Rattle.opgen_num.specs.declared.memory.Memory.{Memory}
@@ -13,11 +13,8 @@ use Rattle.opgen_kinds.specs.Sum.{IsAcceptedSum}
 use Rattle.opgen_operator.specs.Operator.{IsAccepted}
 use Rattle.opgen_operator.specs.Valid.{IsValidSpec}
 use Rattle.opgen_operator.proofs.Accepted.{valid_accepted}
-use Rattle.opgen_saturate.proofs.ChosenNets.{cut_fits}
-use Rattle.opgen_saturate.specs.Chosen.{cut_net}
 use Rattle.opgen_top.specs.declared.circuit.KindNet.{KindNet}
-use Rattle.opgen_top.specs.Kinds.{AreAddersOf, AreAddersOfOperator, IsFittingNet, IsNetOfOperator}
-use Rattle.opgen_top.proofs.Naming.{fitting}
+use Rattle.opgen_top.specs.Kinds.{AreAddersOf, AreAddersOfOperator, IsNetOfOperator}
 
 module _ (spec : Spec) (valid : IsValidSpec spec) where
   pub accepted_kind : (op : Operator) → spec.op ≡ op → IsAccepted op
@@ -25,14 +22,6 @@ module _ (spec : Spec) (valid : IsValidSpec spec) where
 
   pub accepted_scale : (sum : Sum) → spec.op ≡ Scale sum → IsAcceptedSum sum
   accepted_scale sum e = valid_accepted.multiples sum (accepted_kind (Scale sum) e)
-
-  -- the net of a kind, with the output of the width that is chosen, is one of the specification
-  pub kind_fitting : (op : Operator) (net : Net) → spec.op ≡ op → IsNetOfOperator op net → FitsInEachMode op net
-      → IsFittingNet spec (cut_net spec net)
-  kind_fitting op net e of fits =
-      fitting spec (cut_net spec net) valid
-      (record { own = net; by_kind = subst (λ o. IsNetOfOperator o net) (sym e) of; cut = refl })
-      (cut_fits spec net valid (subst (λ o. FitsInEachMode o net) (sym e) fits))
 
   -- the net that was built is one of the operator's kind
   pub made_net : (op : Operator) (r : Result KindNet Memory) → spec.op ≡ op → IfOk r (λ made. IsNetOfOperator op made.net)

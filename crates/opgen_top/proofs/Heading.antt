@@ -14,14 +14,14 @@ use Rattle.opgen_target.specs.Delays.{Delays}
 use Rattle.opgen_vhdl.specs.DesignText.{text_of}
 use Rattle.opgen_vhdl.proofs.Walks.{one_design}
 use Rattle.opgen_top.specs.Answer.{Answer, status_of}
-use Rattle.opgen_top.specs.Circuit.{CircuitsServe}
+use Rattle.opgen_top.specs.Circuit.{CircuitsRecover, CircuitsServe}
 use Rattle.opgen_top.specs.Due.{IsAnswerOf, OnFetch, most_bytes}
 use Rattle.opgen_top.specs.Headline.{Headline}
 use Rattle.opgen_top.specs.Lines.{line_bytes}
 use Rattle.opgen_top.specs.Specified.{IsAnswerToSpec, IsGenerated}
 use Rattle.opgen_top.specs.Stores.{stored_all}
 use Rattle.opgen_top.specs.Targets.{Device, IsTableOf}
-use Rattle.opgen_top.proofs.Planning.{circuit_in_time, circuit_is_least, circuit_sound, circuit_spells}
+use Rattle.opgen_top.proofs.Planning.{circuit_in_time, circuit_is_least, circuit_sound, circuit_spells, fitting}
 use Rattle.opgen_top.proofs.Reported.{report-has_latency}
 use Rattle.opgen_top.proofs.SpecCases.{cases_of_spec}
 
@@ -69,18 +69,18 @@ module _ (file : List ℕ) (enable : Bool) (devices : List Device) (files : File
       go true h = made_of bytes e h
       go false h = let other : status_of a ≡ 9 = ap status_of h in absurd (omega (arith, ok, other))
 
-pub heading : CircuitsServe → (file : List ℕ) (workers : ℕ) (enable : Bool) (devices : List Device) (files : Files) (a : Answer)
+pub heading : CircuitsServe → CircuitsRecover → (file : List ℕ) (workers : ℕ) (enable : Bool) (devices : List Device) (files : Files) (a : Answer)
     (after : Option Files) (before now : Option (List ℕ)) → IsAnswerOf (Some (Generate file workers enable)) devices files a
     → status_of a ≡ 0 → after ≡ Some (stored_all a.stores files) → ((held : List ℕ) → before ≡ Some held → now ≡ Some (held ++ line_bytes a.line))
     → Headline file enable devices files after before now
-heading serves file workers enable devices files a after before now due ok stores line =
+heading serves recovers file workers enable devices files a after before now due ok stores line =
     let made = made_under file enable devices files a ok (files file) most_bytes refl due in
     let spec = made.spec in
     let table = made.table in
     let g = made.says in
     let planned = g.planned in
     let from = read_from (tree made.bytes) spec made.reads in
-    let spelled = circuit_spells spec table enable planned g.adders g.circuit in record {
+    let spelled = circuit_spells spec from.valid table enable planned g.adders g.circuit in record {
       promise = record {
         bytes = made.bytes;
         stands = made.stands;
@@ -96,11 +96,12 @@ heading serves file workers enable devices files a after before now due ok store
         called = ap (λ d. d.name) g.circuit.plan.design;
         spelled = spelled;
         no_other = λ other s. one_design (text_of planned.design) other planned.design s spelled;
-        sound = circuit_sound spec table enable planned g.adders g.circuit;
+        sound = circuit_sound spec from.valid table enable planned g.adders g.circuit;
         latency = planned.latency;
         reported = report-has_latency spec planned g.adders;
         line = λ held tells. line held tells ∙ ap (λ (b : Answer). Some (held ++ line_bytes b.line)) g.answer;
-        serves = serves spec table enable planned g.adders g.circuit;
+        serves = serves spec from.valid table enable planned g.adders g.circuit;
+        recovers = recovers spec from.valid table enable planned g.adders g.circuit;
       };
       provenance = record {
         accepted = made.reads;
@@ -113,8 +114,8 @@ heading serves file workers enable devices files a after before now due ok store
         latency_is = refl;
         vhdl_is = refl;
         report_is = refl;
-        cells = g.circuit.fitting.fits.valid;
-        in_time = circuit_in_time spec table enable planned g.adders g.circuit;
-        least = circuit_is_least spec table enable planned g.adders g.circuit;
+        cells = (fitting spec from.valid table enable planned g.adders g.circuit).fits.valid;
+        in_time = circuit_in_time spec from.valid table enable planned g.adders g.circuit;
+        least = circuit_is_least spec from.valid table enable planned g.adders g.circuit;
       };
     }

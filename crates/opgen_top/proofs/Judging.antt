@@ -5,6 +5,7 @@ use Rattle.std.specs.List.{concat}
 use Rattle.std.proofs.lemmas.List.Elements.{All-nil, All-cons, All-append}
 use Rattle.opgen_num.proofs.RowsOfCells.{length-rows_of_cells}
 use Rattle.opgen_num.specs.Words.{nat, AreRowsOfCells}
+use Rattle.opgen_num.proofs.Words.{nat-below}
 use Rattle.opgen_design.specs.declared.design.Design.{Design}
 use Rattle.opgen_design.specs.Run.{Cycle, RunsOn, Words, at_ports, input_widths, output_widths, is_in, is_out}
 use Rattle.opgen_design.specs.Run.{words_at_outputs}
@@ -20,7 +21,7 @@ use Rattle.opgen_top.specs.Workload.{RunsGood, cycles, workload_cells}
 use Rattle.opgen_sim.proofs.PortWidths.{widths_on}
 use Rattle.opgen_top.proofs.RunRows.{length-run}
 use Rattle.opgen_top.proofs.ServedPorts.{served_widths}
-use Rattle.opgen_runs.proofs.Rows.{at_ports-map, nat-below}
+use Rattle.opgen_runs.proofs.Rows.{at_ports-map}
 
 abbrev IsBelow : (width : ℕ) → ℕ → Type 0
 IsBelow width n = n < 2 ^ width

@@ -1,7 +1,9 @@
 pub mod Taken
 pub mod Serving
+pub mod Recovering
 pub mod Planning
 pub mod Naming
+mod NetsFit
 mod AdderValues
 pub mod Building
 pub mod Parts

@@ -1,24 +1,16 @@
 -- Runs over rows: how many numbers they have, and their text.
-use Rattle.std.proofs.Common.{◌≡◌, ℕ, zero, suc, ◌+◌, ◌*◌, ◌<◌, Bool, List, [], ◌∷◌, length, map, take, drop, sym, ap, ◌∙◌, arith, length-append}
+use Rattle.std.proofs.Common.{◌≡◌, ℕ, zero, suc, ◌+◌, ◌*◌, ◌<◌, Bool, List, [], ◌∷◌, length, map, take, drop, ap, ◌∙◌, arith, length-append}
 use Rattle.std.specs.List.{concat}
-use Rattle.std.proofs.lemmas.List.{length-map}
 use Rattle.opgen_num.proofs.RowsOfCells.{length-rows_of_cells}
-use Rattle.opgen_num.specs.Words.{nat, AreRowsOfCells, words_of}
+use Rattle.opgen_num.specs.Words.{AreRowsOfCells, words_of}
 use Rattle.opgen_design.specs.declared.design.Design.{Design}
-use Rattle.opgen_design.specs.Run.{Words, Cycle, RunsOn, is_out, initial_words, input_widths, output_widths, words_at_outputs}
-use Rattle.opgen_runs.proofs.Starts.{at_ports-length}
+use Rattle.opgen_design.specs.Run.{Words, RunsOn, initial_words, input_widths, output_widths}
+use Rattle.opgen_runs.proofs.Rows.{length-cells}
 use Rattle.opgen_vec.specs.Writing.{row_count_of, rows_text}
 use Rattle.opgen_runs.specs.Rows.{output_cells, IsRunOf, rows_words}
 use Rattle.opgen_top.specs.Running.{IsRunText}
 use Rattle.opgen_sim.proofs.PortWidths.{sides}
 use Rattle.opgen_top.proofs.Columns.{all_rows}
-
-length-cells : (d : Design) (now given next : List (List Bool)) (v : Words) → Cycle d now given v next
-    → length (output_cells d v) ≡ length (output_widths d)
-length-cells d now given next v cycle =
-    let widths = map (λ p. p.width) d.ports in
-    let ports : length v.ports ≡ length widths = sym (length-map v.ports length) ∙ ap length cycle.port_widths in
-    length-map (words_at_outputs d v) nat ∙ at_ports-length is_out d.ports v.ports widths ports
 
 length-outputs : (d : Design) (now : List (List Bool)) (rows : ℕ) (inputs : List ℕ) (vs : List Words)
     → RunsOn d now (rows_words (input_widths d) rows inputs) vs

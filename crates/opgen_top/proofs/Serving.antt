@@ -10,7 +10,7 @@ use Rattle.opgen_design.specs.declared.design.Port.{Port}
 use Rattle.opgen_design.specs.Run.{Words, Run, AreWords, at_ports, is_in, words_at_outputs, enable_inputs, counted, data_inputs}
 use Rattle.opgen_net.specs.declared.net.Net.{Net}
 use Rattle.opgen_net.specs.declared.net.Output.{Output}
-use Rattle.opgen_net.specs.Flow.{Inputs, before, slice_flow}
+use Rattle.opgen_net.specs.Flow.{Inputs, slice_flow}
 use Rattle.opgen_net.specs.Made.{input_port, output_port}
 use Rattle.opgen_net.specs.Named.{IsNamed}
 use Rattle.opgen_net.specs.Valid.{slice_width, input_widths as net_widths}
@@ -22,21 +22,17 @@ use Rattle.opgen_pipe.specs.Laws.{FollowsFlow}
 use Rattle.opgen_pipe.specs.Pipelined.{design_of, ports_of}
 use Rattle.opgen_pipe.specs.Times.{ago}
 use Rattle.opgen_pipe.proofs.Soundness.{design_sound}
+use Rattle.opgen_pipe.proofs.Follows.{ago-next}
 use Rattle.opgen_schedule.specs.Schedule.{Schedule, Fits}
 use Rattle.opgen_runs.proofs.OneRun.{one-run}
 use Rattle.opgen_operator.specs.Serves.{ports_for, Serves}
 use Rattle.opgen_top.proofs.Taken.{run_words, run_long, taken_long, taken_words, widths_after}
 
--- so many cycles back from as many cycles on
-ago_next : (u k : ℕ) → ago (suc u) (suc k) ≡ ago u k
-ago_next u zero = refl
-ago_next u (suc k) = ap before (ago_next u k)
-
 ago_back : (t l : ℕ) → ago (t + l) l ≡ pos t
 ago_back t zero = let e : t + 0 ≡ t = omega arith in ap pos e
 ago_back t (suc l) =
     let e : t + suc l ≡ suc (t + l) = omega arith in
-    ap (λ u. ago u (suc l)) e ∙ ago_next (t + l) l ∙ ago_back t l
+    ap (λ u. ago u (suc l)) e ∙ ago-next (t + l) l ∙ ago_back t l
 
 widths_in : (is : List (List ℕ × ℕ)) (os : List Output)
     → at_ports is_in (map input_port is ++ map output_port os) (map (λ p. p.width) (map input_port is ++ map output_port os))

@@ -5,11 +5,9 @@ use Rattle.opgen_divide.specs.Recipe.{net_of_pair}
 use Rattle.opgen_fir.specs.Recipe.{net_of_sum}
 use Rattle.opgen_mult.specs.Recipe.{IsNetOfProduct}
 use Rattle.opgen_net.specs.declared.net.Net.{Net}
-use Rattle.opgen_net.specs.Named.{IsNamed}
 use Rattle.opgen_operator.specs.declared.operator.Operator.{Operator}
 use Rattle.opgen_operator.specs.declared.operator.Operator.TheVariants.{Scale, Fir, Multiply, Divide, Root, Mcm, Constdiv, Poly, Tfir, Sop}
 use Rattle.opgen_operator.specs.declared.spec.Spec.{Spec}
-use Rattle.opgen_operator.specs.Fits.{FitsSpec}
 use Rattle.opgen_poly.specs.Recipe.{net_of_poly}
 use Rattle.opgen_saturate.specs.Chosen.{cut_net}
 use Rattle.opgen_sop.specs.Recipe.{IsNetOfSop}
@@ -29,7 +27,7 @@ IsNetOfOperator (Poly poly) net = net ≡ net_of_poly poly
 IsNetOfOperator (Tfir taps) net = IsNetOfTaps taps net
 IsNetOfOperator (Sop sop) net = IsNetOfSop sop net
 
--- that of its operator, with the output of the width that is chosen
+-- The net of a specification: that of its operator, with the output of the width that is chosen.
 pub record IsNetOf (spec : Spec) (net : Net) : Type 0 where
   pub own : Net
   pub by_kind : IsNetOfOperator spec.op own
@@ -50,9 +48,3 @@ AreAddersOfOperator (Sop sop) adders = adders ≡ []
 
 abbrev pub AreAddersOf : Spec → List ℕ → Type 0
 AreAddersOf spec adders = AreAddersOfOperator spec.op adders
-
--- The net of a specification: that of its kind, with its output in the range that is chosen. It fits the specification, and its ports are named as a design asks.
-pub record IsFittingNet (spec : Spec) (net : Net) : Type 0 where
-  pub of_kind : IsNetOf spec net
-  pub fits : FitsSpec spec net
-  pub named : IsNamed spec.name net

@@ -1,5 +1,5 @@
 -- What status 0 of `generate` promises of what is stored and printed, with the clock enable and without it. It mentions no
--- recipe, net, plan or schedule.
+-- net, plan or schedule, and of recipes only that the width of a polynomial's output is by Horner's rule.
 use Rattle.std.specs.Prelude.{ℕ, ◌≡◌, Bool, List, ◌++◌, Option, Some, codes}
 use Rattle.toml.specs.Data.{Members}
 use Rattle.opgen_design.specs.declared.design.Design.{Design}
@@ -10,7 +10,7 @@ use Rattle.opgen_operator.specs.Valid.{IsValidSpec}
 use Rattle.opgen_document.specs.Document.{tree}
 use Rattle.opgen_spec.specs.Written.{IsAsWritten}
 use Rattle.opgen_vhdl.specs.Spelled.{Spells}
-use Rattle.opgen_operator.specs.Serves.{Serves}
+use Rattle.opgen_operator.specs.Serves.{Recovers, Serves}
 use Rattle.opgen_top.specs.Lines.{vhdl_name, report_name, wrote_line, latency_line, HasLine}
 
 pub record Promise (file : List ℕ) (enable : Bool) (files : Files) (files_after : Option Files)
@@ -41,3 +41,6 @@ pub record Promise (file : List ℕ) (enable : Bool) (files : Files) (files_afte
   -- Fifth: in every run the outputs are good, so many cycles after inputs in range. Cycles are those that count: with the
   -- clock enable, the ones in which it is 1.
   pub serves : Serves spec latency enable design
+  -- Sixth: whatever words the registers hold at the start of a run, the outputs are good from so many cycles on as the latency has and
+  -- the operator remembers.
+  pub recovers : Recovers spec latency enable design

@@ -15,7 +15,7 @@ use Rattle.opgen_vec.specs.Stimulus.{stimulus_cells}
 use Rattle.opgen_top.specs.declared.line.Line.TheVariants as line
 use Rattle.opgen_top.specs.Answer.{Answer, file, refusal, success}
 use Rattle.opgen_top.specs.Circuit.{IsCircuit, signals_of}
-use Rattle.opgen_top.specs.Kinds.{IsFittingNet}
+use Rattle.opgen_top.specs.Kinds.{IsNetOf}
 use Rattle.opgen_top.specs.Lines.{report_name, vectors_name, vhdl_name}
 use Rattle.opgen_top.specs.Running.{IsRunText}
 use Rattle.opgen_top.specs.Targets.{Device, first_of_name, takes_lines, tuned}
@@ -46,14 +46,14 @@ pub record IsVectors (seed cycles : ℕ) (spec : Spec) (table : Delays) (a : Ans
 -- the period is too short for the net, which has a longer need
 pub record IsTooShort (spec : Spec) (table : Delays) (a : Answer) : Type 0 where
   pub net : Net
-  pub fitting : IsFittingNet spec net
+  pub of_spec : IsNetOf spec net
   pub short : spec.period < need table net
   pub answer : a ≡ refusal (line.PeriodTooShort (need table net))
 
 -- the period is long enough, and the design too large
 pub record IsTooLarge (spec : Spec) (table : Delays) (a : Answer) : Type 0 where
   pub net : Net
-  pub fitting : IsFittingNet spec net
+  pub of_spec : IsNetOf spec net
   pub long_enough : need table net ≤ spec.period
   pub many_signals : MAX_SIGNALS < signals_of table spec.period net
   pub answer : a ≡ refusal line.TooLarge

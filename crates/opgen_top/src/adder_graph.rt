@@ -1,6 +1,7 @@
 //! The adder graph of several constants or of taps: that of the least set, which is searched for, or that of a fixed rule.
 ghost use Rattle.std.specs.Prelude.{◌≡◌, ◌↔◌, ℕ, ◌≤◌, All, Contains, IfOk};
 ghost use Rattle.std.specs.List.Sorted.{IsStrictlyIncreasing};
+ghost use Rattle.opgen_num.specs.declared.limits.TheConstants.{MAX_CONSTANT};
 ghost use Rattle.opgen_graph.specs.Graphs.{values};
 ghost use Rattle.opgen_graph.specs.Served.{Serves};
 ghost use Rattle.opgen_kinds.specs.Several.{IsAcceptedSeveral};
@@ -46,7 +47,7 @@ fn members(alloc: Global, adders: &[Adder]) -> Result<Vec<u32>, AllocError>
 
 // The graph of some numbers by the fixed rule.
 fn rule_graph(alloc: Global, numbers: &[i64]) -> Result<AdderGraph, Memory>
-    requires { All (IsWithin 1048575) numbers.now }
+    requires { All (IsWithin MAX_CONSTANT) numbers.now }
     ensures graph { IfOk result (λ made. IsRuleGraphOf numbers.now made.set.items made.graph) }
     ensures serves { IfOk result (λ made. Serves numbers.now made.graph) }
 {

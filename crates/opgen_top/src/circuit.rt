@@ -1,12 +1,13 @@
 //! The circuit of a specification.
 ghost use Rattle.std.specs.Prelude.{◌≡◌, ◌≤◌, [], IfOk, Ok};
 ghost use Rattle.opgen_operator.specs.declared.operator.Operator.TheVariants.{Mcm, Tfir};
-ghost use Rattle.opgen_operator.specs.Fits.{FitsInEachMode};
+ghost use Rattle.opgen_net.specs.Named.{IsNamed};
+ghost use Rattle.opgen_operator.specs.Fits.{FitsInEachMode, FitsSpec};
 ghost use Rattle.opgen_kinds.specs.Several.{IsAcceptedSeveral};
 ghost use Rattle.opgen_kinds.specs.Taps.{IsAcceptedTaps};
 ghost use Rattle.opgen_operator.specs.Valid.{IsValidSpec};
 ghost use Rattle.opgen_top.specs.AdderGraphs.{IsNetOfConstants, IsNetOfTaps};
-ghost use Rattle.opgen_top.specs.Kinds.{AreAddersOf, AreAddersOfOperator, IsFittingNet, IsNetOfOperator};
+ghost use Rattle.opgen_top.specs.Kinds.{AreAddersOf, AreAddersOfOperator, IsNetOf, IsNetOfOperator};
 ghost use Rattle.opgen_top.specs.Prepared.{IfRefused, IsCircuitFor, IsListed, OnRefusal, TellsPlanFault};
 ghost use Rattle.opgen_top.specs.Specified.{OnDevices, OnTable};
 ghost use Rattle.opgen_top.specs.Targets.{devices_of};
@@ -133,7 +134,9 @@ fn build_net<R: Threads + Sync, G: Gate + Sync>(
 ) -> Result<KindNet, Memory>
     requires valid { IsValidSpec spec.now }
     requires workers { (1 ≤ workers) × (workers ≤ 32) }
-    ensures net { IfOk result (λ made. IsFittingNet spec.now made.net) }
+    ensures net { IfOk result (λ made. IsNetOf spec.now made.net) }
+    ensures fits { IfOk result (λ made. FitsSpec spec.now made.net) }
+    ensures named { IfOk result (λ made. IsNamed spec.now.name made.net) }
     ensures adders { IfOk result (λ made. AreAddersOf spec.now made.adders.items) }
 {
     let mut made = build_operator(rt, alloc, spec, workers, gate)?;

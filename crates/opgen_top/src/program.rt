@@ -18,7 +18,7 @@ ghost use Rattle.opgen_top.specs.Targets.{devices_of};
 use crate::answer::{Answer, Refusal, without_file};
 use crate::context::Context;
 use crate::dispatch::answer_command;
-use crate::laws::circuits_serve;
+use crate::laws::{circuits_recover, circuits_serve};
 use crate::line::Line;
 use crate::status::Status;
 use crate::store_all::store_all;
@@ -115,8 +115,9 @@ pub fn run<R: Threads + Sync, F: Folder, K: Sink, G: Gate + Sync>(
         Headline file enable (devices_of target_name delays adjustable targets.items) files
         (F.told folder.new) (K.taken out.old) (K.taken out.new) }
 {
-    // The headline says what the law says of the circuit.
+    // The headline says what the laws say of the circuit.
     circuits_serve();
+    circuits_recover();
     let context = Context {
         rt,
         alloc,

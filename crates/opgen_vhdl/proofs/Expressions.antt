@@ -1,6 +1,7 @@
 -- An expression of the grammar is read, and what is read as an expression is one.
 use Rattle.std.specs.Prelude.{is_some}
 use Rattle.std.proofs.Common.{◌≡◌, inl, inr, ℕ, zero, suc, ◌≤◌, Bool, true, false, cond, List, [], ◌∷◌, codes, length, Option, Some, None, refl, ap, sym, ◌∙◌, arith}
+use Rattle.std.proofs.lemmas.Option.{same_Some}
 use Rattle.opgen_vhdl.specs.declared.kind.TokenKind.TheVariants.{LeftParen, RightParen}
 use Rattle.opgen_design.specs.declared.expr.Op.{Op}
 use Rattle.opgen_design.specs.declared.expr.Op.TheVariants as op
@@ -8,7 +9,7 @@ use Rattle.opgen_design.specs.Tree.{Tree, Trees, name, part, bits, port, inverse
 use Rattle.opgen_vhdl.specs.Symbols.{Symbol, word, number, mark}
 use Rattle.opgen_vhdl.specs.Grammar.{Names, place_of, IsIndex, value, operator, IsSignalPart, whole, slice, IsPrimary, signal, literal, input, group, IsFactor, plain, opposite, AreOperands, done, next, IsExpression, single, several}
 use Rattle.opgen_vhdl.specs.Reader.{◌>>=◌, and_then, choice, eat, range_at, part_at, input_at, closed, op_at, primary_at, factor_at, operands_at, expression_at, inside}
-use Rattle.opgen_vhdl.proofs.Steps.{bind_then, choice_then, some_is, found, found_is, cases_option, eat_some, name_some, index_then, string_some, name-reads, index-reads, no_keyword, refused-not, refused-unsigned}
+use Rattle.opgen_vhdl.proofs.Steps.{bind_then, choice_then, found, found_is, cases_option, eat_some, name_some, index_then, string_some, name-reads, index-reads, no_keyword, refused-not, refused-unsigned}
 
 operator-open : (o : Op) (ss : List Symbol) → eat (mark LeftParen) (operator o ∷ ss) ≡ None
 operator-open op.And ss = refl
@@ -55,7 +56,7 @@ opened (Some a) h = (a, refl)
 
 this_operator : (p o : Op) (ss : List Symbol) → is_some (eat (operator p) ss) ≡ true → Some p ≡ Some o → (rest : List Symbol)
     × (eat (operator o) ss ≡ Some rest)
-this_operator p o ss h e = let (rest, r) = opened (eat (operator p) ss) h in (rest, ap (λ q. eat (operator q) ss) (sym (some_is e)) ∙ r)
+this_operator p o ss h e = let (rest, r) = opened (eat (operator p) ss) h in (rest, ap (λ q. eat (operator q) ss) (sym (same_Some _ _ e)) ∙ r)
 
 -- the operator that was found stands at the front
 operator_some : (ss : List Symbol) (o : Op) → op_at ss ≡ Some o → (rest : List Symbol) × (eat (operator o) ss ≡ Some rest)
@@ -65,7 +66,7 @@ operator_some ss o e =
     (λ e. if_test _ _ _ _ _ e (this_operator op.Xor o ss) (λ e. if_test _ _ _ _ _ e (this_operator op.Cat o ss)
     (λ e. if_test _ _ _ _ _ e (this_operator op.Plus o ss) (λ e. if_test _ _ _ _ _ e (this_operator op.Minus o ss) (λ e. cc))))))
 
-shorter : (n m : ℕ) → suc n ≤ m → (k : ℕ) × (m ≡ suc k) × (n ≤ k)
+pub shorter : (n m : ℕ) → suc n ≤ m → (k : ℕ) × (m ≡ suc k) × (n ≤ k)
 shorter n zero h = absurd (omega arith)
 shorter n (suc k) h = (k, refl, omega arith)
 

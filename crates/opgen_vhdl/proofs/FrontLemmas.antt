@@ -2,7 +2,7 @@
 use Rattle.std.proofs.Common.{◌≡◌, ℕ, suc, zero, ◌+◌, ◌≤◌, ◌<◌, ◌==◌, ◌&&◌, Bool, true, false, not, cond, nat_le, List, [], ◌∷◌, ◌++◌, length, take, drop, Option, Some, None, refl, ap, sym, ◌∙◌, arith, inl, inr, append_assoc, append-nil, get_or, length-append, length-take-le}
 use Rattle.std.specs.Char.{is_ascii_alphabetic, is_ascii_digit}
 use Rattle.std.specs.List.{list_all, prefix_len}
-use Rattle.std.proofs.lemmas.Bool.{cases_Bool, cases_lt, and_parts, false≢true}
+use Rattle.std.proofs.lemmas.Bool.{cases_Bool, cases_lt, and_parts, false≢true, not-true, leb-true}
 use Rattle.std.proofs.lemmas.Bool.Decides.{nat_tests}
 use Rattle.std.proofs.lemmas.List.Sums.{AllPass-from_list_all, list_all-from_AllPass, prefix_len-le-length}
 use Rattle.std.proofs.Math.Seq.{take-append_seam, drop-append_seam}
@@ -33,13 +33,6 @@ letter-word_byte b h = rw h refl
 
 same : (b c : ℕ) → (b == c) ≡ true → b ≡ c
 same b c h = grind (arith, nat_tests)
-
-below : (n m : ℕ) → nat_le n m ≡ true → n ≤ m
-below n m h = grind (arith, nat_tests)
-
-not_true : (b : Bool) → not b ≡ true → b ≡ false
-not_true true h = sym h
-not_true false h = refl
 
 -- the longest prefix whose bytes pass a test
 
@@ -187,7 +180,7 @@ word-found bs h =
         letter = begins-take is_ascii_alphabetic n bs some ∙ h;
         bytes = AllPass-from_list_all is_word_byte (take n bs) (prefix_passes is_word_byte bs);
         single = single;
-        short = rw (length-take-le n bs within) (below n 64 short);
+        short = rw (length-take-le n bs within) (leb-true n 64 short);
         stops = prefix_stops is_word_byte bs;
       },
     ))
@@ -204,9 +197,9 @@ number-found bs h =
       within,
       record {
         some = rw (length-take-le n bs within) some;
-        short = rw (length-take-le n bs within) (below n 9 short);
+        short = rw (length-take-le n bs within) (leb-true n 9 short);
         bytes = AllPass-from_list_all is_ascii_digit (take n bs) (prefix_passes is_ascii_digit bs);
-        stops = not_true _ stops;
+        stops = not-true _ stops;
       },
     ))
     (λ _. tt)
@@ -268,7 +261,7 @@ bits-found bs =
     choose (34 ∷ bs) (nat_le 1 n && nat_le n MAX_WIDTH && begins is_quote (drop n bs)) (Some (Token Bits (n + 2))) None
     (λ t. let (length_right, quote) = and_parts (nat_le 1 n && nat_le n MAX_WIDTH) (begins is_quote (drop n bs)) t in
     let (some, short) = and_parts (nat_le 1 n) (nat_le n MAX_WIDTH) length_right in
-    bits_at n (n + 2) bs (omega arith) (below 1 n some) (below n MAX_WIDTH short) (prefix_len-le-length is_bit bs)
+    bits_at n (n + 2) bs (omega arith) (leb-true 1 n some) (leb-true n MAX_WIDTH short) (prefix_len-le-length is_bit bs)
     (prefix_passes is_bit bs) quote)
     (λ _. tt)
 

@@ -4,6 +4,7 @@ use Rattle.std.specs.Str.{bytes_eq}
 use Rattle.std.proofs.Common.{◌≡◌, ◌⊎◌, inl, inr, ℕ, Bool, true, false, cond, nat_lt, List, [], ◌∷◌, ◌++◌, codes, Option, Some, None, refl, ap, sym, ◌∙◌}
 use Rattle.std.proofs.lemmas.Bool.{ltb-true, lt-ltb, eqb-true, false_from_ne_true}
 use Rattle.std.proofs.lemmas.Slice.Eq.{bytes_eq-Decides}
+use Rattle.std.proofs.lemmas.Option.{same_Some}
 use Rattle.opgen_num.specs.declared.format.TheConstants.{MAX_WIDTH}
 use Rattle.opgen_vhdl.specs.declared.kind.TokenKind.{TokenKind}
 use Rattle.opgen_vhdl.specs.declared.kind.TokenKind.TheVariants.{Word, Number, Bits, ZeroChar, LeftParen, RightParen, Semicolon, Colon, Comma, Dot, Ampersand, Plus, Minus, Equal, LessEqual, Arrow, Becomes}
@@ -31,9 +32,6 @@ chosen (Some a) x f y e = inr (a, refl, e)
 pub choice_then : {A B G : Type 0} (o : Option A) (x : B) (f : A → B) (y : B) → choice o x f ≡ y → (o ≡ None → x ≡ y → G)
     → ((a : A) → o ≡ Some a → f a ≡ y → G) → G
 choice_then o x f y e none some = elim (chosen o x f y e) [ inl h ↦ none h.0 h.1 | inr h ↦ some h.0 h.1 h.2 ]
-
-pub some_is : {A : Type 0} {a b : A} → Some a ≡ Some b → a ≡ b
-some_is e = cc
 
 abbrev pub found : {A B : Type 0} → A → B → Option (A × B)
 found a b = Some (a, b)
@@ -82,7 +80,7 @@ there Arrow = refl
 there Becomes = refl
 
 pub same_kind-true : (a b : TokenKind) → same_kind a b ≡ true → a ≡ b
-same_kind-true a b h = some_is (sym (there a) ∙ ap (slice_get kinds) (eqb-true (rank a) (rank b) h) ∙ there b)
+same_kind-true a b h = same_Some _ _ (sym (there a) ∙ ap (slice_get kinds) (eqb-true (rank a) (rank b) h) ∙ there b)
 
 pub same_symbol-true : (a b : Symbol) → same_symbol a b ≡ true → a ≡ b
 same_symbol-true (word a) (word b) h = ap word ((bytes_eq-Decides a b).0 h)
@@ -107,10 +105,10 @@ pub eat_some : (s : Symbol) (ss rest : List Symbol) → eat s ss ≡ Some rest �
 eat_some s [] rest e = cc
 eat_some s (t ∷ ss) rest e =
     let (h, r) = if_some (same_symbol s t) (Some ss) rest e in
-    ap (λ u. u ∷ ss) (sym (same_symbol-true s t h)) ∙ ap (λ u. s ∷ u) (some_is r)
+    ap (λ u. u ∷ ss) (sym (same_symbol-true s t h)) ∙ ap (λ u. s ∷ u) (same_Some _ _ r)
 
 pub eat_all_some : (ps ss rest : List Symbol) → eat_all ps ss ≡ Some rest → ss ≡ ps ++ rest
-eat_all_some [] ss rest e = some_is e
+eat_all_some [] ss rest e = same_Some _ _ e
 eat_all_some (p ∷ ps) ss rest e =
     let (a, e1, f1) = bind_some _ _ _ e in
     eat_some p ss a e1 ∙ ap (λ u. p ∷ u) (eat_all_some ps a rest f1)

@@ -1,6 +1,8 @@
 -- A place takes a piece exactly where reading finds what the piece says.
 use Rattle.std.specs.Prelude.{◌+◌}
 use Rattle.std.proofs.Common.{◌≡◌, ℕ, zero, suc, ◌≤◌, Bool, true, false, List, [], ◌∷◌, codes, length, Option, Some, None, refl, ap, sym, ◌∙◌, arith}
+use Rattle.opgen_design.specs.declared.expr.TheConstants.{MAX_NESTING}
+use Rattle.std.proofs.lemmas.Option.{same_Some}
 use Rattle.opgen_vhdl.specs.declared.kind.TokenKind.TheVariants.{LeftParen, RightParen, Colon, Comma, Equal, LessEqual, Becomes}
 use Rattle.opgen_vhdl.specs.declared.place.Place.{Place}
 use Rattle.opgen_vhdl.specs.declared.place.Place.TheVariants as at
@@ -12,11 +14,11 @@ use Rattle.opgen_design.specs.declared.design.Driver.{Driver}
 use Rattle.opgen_names.specs.Names.{is_allowed_name}
 use Rattle.opgen_design.specs.Tree.{Tree}
 use Rattle.opgen_vhdl.specs.Symbols.{Symbol, word, number, string, mark}
-use Rattle.opgen_vhdl.specs.Grammar.{Names, place_of, IsName, IsIndex, value, max_depth, IsSignalPart, whole, slice, IsPrimary, signal as signal_part, literal, input, group, IsFactor, plain, opposite, IsExpression, single, several}
+use Rattle.opgen_vhdl.specs.Grammar.{Names, place_of, IsName, IsIndex, value, IsSignalPart, whole, slice, IsPrimary, signal as signal_part, literal, input, group, IsFactor, plain, opposite, IsExpression, single, several}
 use Rattle.opgen_vhdl.specs.Statements.{Reading, scope, with_entity, with_port, with_signal, with_driver, with_enable, with_name, with_architecture, direction, range_to_zero, end_of_piece, IsPort, port_line, IsEnd, bare, of_unit, named, of_unit_named, IsInitial, absent, written, zeros, AreRows, others, row, IsConcurrent, assignment, output, choice as conditional, table, IsClocked, clocked, IsEnable, always, enabled, at_edge, end_of_if, Takes, library_clause, use_logic, use_numeric, entity, port, last_port, end_entity, architecture, signal, begin, statement, process, process_is, register, end_if, end_enabled, end_edge, end_process, later_statement, end_without_process, end_after_process}
 use Rattle.opgen_design.specs.Run.{is_one}
 use Rattle.opgen_vhdl.specs.Reader.{◌>>=◌, and_then, choice, eat, op_at, end_at, width_at, direction_at, clock, clock_port, entity_at, port_at, own_name_at, unit_end_at, heading_at, others_zero, initial_value_at, initial_at, signal_at, row_at, other_at, rows_at, table_at, high_at, choice_at, valued_at, output_at, target_at, assignment_at, concurrent_at, clocked_at, edge_at, process_at, port_high_at, enable_at, statement_at, opening_at, body_at, declarations_at, behind_if, clocked_body_at, use_clause, ports_at, takes_at}
-use Rattle.opgen_vhdl.proofs.Steps.{bind_then, choice_then, some_is, found, found_is, if_some, eat_some, eat_all_some, end_some, phrase_some, name_some, index_then, string_some, name-reads, index-reads, eat-word, no_keyword, refused-end, refused-if, refused-with, refused-vector, refused-process, refused-entity, refused-architecture}
+use Rattle.opgen_vhdl.proofs.Steps.{bind_then, choice_then, found, found_is, if_some, eat_some, eat_all_some, end_some, phrase_some, name_some, index_then, string_some, name-reads, index-reads, eat-word, no_keyword, refused-end, refused-if, refused-with, refused-vector, refused-process, refused-entity, refused-architecture}
 use Rattle.opgen_vhdl.proofs.Expressions.{closes, part-reads, expression-reads, part_some, expression-is}
 
 -- what follows an expression is no operator
@@ -226,11 +228,11 @@ unfolding own_name_at
 own_name_then ss n e without with_own = choice_then _ _ _ _ e
     (λ h k.
     bind_then _ _ _ k (λ a e1 f1.
-    without (sym (some_is f1)) (end_some ss a e1)))
+    without (sym (same_Some _ _ f1)) (end_some ss a e1)))
     (λ m h k.
     bind_then _ _ _ k (λ a e1 f1.
     let (s1, o) = name_some ss m.0 m.1 h in
-    with_own m.0 (sym (some_is f1)) (s1 ∙ ap (λ u. word m.0 ∷ u) (end_some m.1 a e1)) o))
+    with_own m.0 (sym (same_Some _ _ f1)) (s1 ∙ ap (λ u. word m.0 ∷ u) (end_some m.1 a e1)) o))
 
 unit_end_some : (unit : List ℕ) (ss : List Symbol) (n : Option (List ℕ)) → unit_end_at unit ss ≡ Some n
     → IsEnd unit n (word (codes "end") ∷ ss)
@@ -249,22 +251,22 @@ initial_value_some width ss w e = choice_then _ _ _ _ e
     bind_then _ _ _ k (λ v e1 f1.
     bind_then _ _ _ f1 (λ a e2 f2.
     let s1 = string_some ss v.0 v.1 e1 in
-    rw (← some_is f2, s1, end_some v.1 a e2) written)))
+    rw (← same_Some _ _ f2, s1, end_some v.1 a e2) written)))
     (λ a h k.
     bind_then _ _ _ k (λ b e1 f1.
     let s0 = eat_some (mark LeftParen) ss a h in
     let s1 = phrase_some others_zero a b e1 in
-    rw (← some_is f1, s0, s1) zeros))
+    rw (← same_Some _ _ f1, s0, s1) zeros))
 
 initial_some : (width : ℕ) (ss : List Symbol) (w : Option (List Bool)) → initial_at width ss ≡ Some w → IsInitial width w ss
 unfolding initial_at
 initial_some width ss w e = choice_then _ _ _ _ e
     (λ h k.
     bind_then _ _ _ k (λ a e1 f1.
-    rw (← some_is f1, end_some ss a e1) absent))
+    rw (← same_Some _ _ f1, end_some ss a e1) absent))
     (λ a h k.
     bind_then _ _ _ k (λ v e1 f1.
-    rw (← some_is f1, eat_some (mark Becomes) ss a h) (initial_value_some width a v e1)))
+    rw (← same_Some _ _ f1, eat_some (mark Becomes) ss a h) (initial_value_some width a v e1)))
 
 signal_some : (r : Reading) (ss : List Symbol) (s : Signal) → signal_at ss ≡ Some s
     → Takes at.Declarations r ss at.Declarations (with_signal r s)
@@ -280,7 +282,7 @@ signal_some r ss s e =
     let (s2, m) = name_some a n.0 n.1 e2 in
     let s3 = eat_some (mark Colon) n.1 b e3 in
     let s4 = eat_some (word (codes "unsigned")) b c e4 in
-    width_then c w.0 w.1 e5 (λ high s5 h v. rw (← some_is f6, s1, s2, s3, s4, s5, v) (signal m h (rw v at (initial_some w.0 w.1 i
+    width_then c w.0 w.1 e5 (λ high s5 h v. rw (← same_Some _ _ f6, s1, s2, s3, s4, s5, v) (signal m h (rw v at (initial_some w.0 w.1 i
     e6))))))))))
 
 rows_some : (n : ℕ) (ss : List Symbol) (rows : List (List Bool × List Bool)) (other : List Bool) → rows_at n ss ≡ found rows other
@@ -298,7 +300,7 @@ rows_some (suc n) ss rows other e = choice_then _ _ _ _ e
     let s1 = string_some ss w.0 w.1 g1 in
     let s2 = eat_some (word (codes "when")) w.1 a g2 in
     let s3 = eat_some (word (codes "others")) a b g3 in
-    rw (← k1, ← k2, ← some_is h4, s1, s2, s3, end_some b c g4) others))))))
+    rw (← k1, ← k2, ← same_Some _ _ h4, s1, s2, s3, end_some b c g4) others))))))
     (λ x h k.
     bind_then _ _ _ k (λ more e2 f2.
     bind_then _ _ _ h (λ w g1 h1.
@@ -366,7 +368,7 @@ table_some names ss k e =
     let s2 = eat_some (word (codes "select")) on.1 a e2 in
     let (s3, m) = name_some a n.0 n.1 e3 in
     let s4 = eat_some (mark LessEqual) n.1 b e4 in
-    rw (← some_is f5) (table (rw (s2, s3, s4) at p) m (rows_some (length b) b rows.0 rows.1 e5)))))))
+    rw (← same_Some _ _ f5) (table (rw (s2, s3, s4) at p) m (rows_some (length b) b rows.0 rows.1 e5)))))))
 
 one_is : (w : List Bool) → is_one w ≡ true → w ≡ true ∷ []
 one_is [] e = cc
@@ -388,7 +390,7 @@ high_some next ss rest e =
     cc))
 
 choice_some : (names : Names) (n : List ℕ) (one : Tree) (rs ss : List Symbol) (k : Driver) → IsName n
-    → IsExpression names max_depth one rs (word (codes "when") ∷ ss) →
+    → IsExpression names MAX_NESTING one rs (word (codes "when") ∷ ss) →
     choice_at names (place_of names.signals n) one ss ≡ Some k → IsConcurrent names k (word n ∷ mark LessEqual ∷ rs)
 unfolding choice_at
 choice_some names n one rs ss k m x e =
@@ -398,19 +400,19 @@ choice_some names n one rs ss k m x e =
     bind_then _ _ _ f3 (λ c e4 f4.
     let p = part_some names ss on.0 on.1 e1 in
     let s2 = high_some (codes "else") on.1 b e2 in
-    let y = expression-is names max_depth other.0 b other.1 e3 in
-    rw (← some_is f4) (conditional m x (rw s2 at p) (rw (end_some other.1 c e4) at y))))))
+    let y = expression-is names MAX_NESTING other.0 b other.1 e3 in
+    rw (← same_Some _ _ f4) (conditional m x (rw s2 at p) (rw (end_some other.1 c e4) at y))))))
 
 valued_some : (names : Names) (n : List ℕ) (ss : List Symbol) (k : Driver) → IsName n → valued_at names (place_of names.signals n) ss
     ≡ Some k → IsConcurrent names k (word n ∷ mark LessEqual ∷ ss)
 unfolding valued_at
 valued_some names n ss k m e =
     bind_then _ _ _ e (λ x e1 f1.
-    let y = expression-is names max_depth x.0 ss x.1 e1 in
+    let y = expression-is names MAX_NESTING x.0 ss x.1 e1 in
     choice_then _ _ _ _ f1
     (λ h g.
     bind_then _ _ _ g (λ a e2 f2.
-    rw (← some_is f2) (assignment m (rw (end_some x.1 a e2) at y))))
+    rw (← same_Some _ _ f2) (assignment m (rw (end_some x.1 a e2) at y))))
     (λ a h g. choice_some names n x.0 ss a k m (rw (eat_some (word (codes "when")) x.1 a h) at y) g))
 
 output_some : (names : Names) (n : List ℕ) (ss : List Symbol) (k : Driver) → IsName n → output_at names (place_of names.ports n) ss ≡ Some k
@@ -421,11 +423,11 @@ output_some names n ss k m e =
     bind_then _ _ _ f1 (λ x e2 f2.
     bind_then _ _ _ f2 (λ b e3 f3.
     bind_then _ _ _ f3 (λ c e4 f4.
-    let y = expression-is names max_depth x.0 a x.1 e2 in
+    let y = expression-is names MAX_NESTING x.0 a x.1 e2 in
     let s1 = eat_some (mark LeftParen) ss a e1 in
     let s3 = eat_some (mark RightParen) x.1 b e3 in
     let s4 = end_some b c e4 in
-    rw (← some_is f4, s1) (output m (rw (s3, s4) at y))))))
+    rw (← same_Some _ _ f4, s1) (output m (rw (s3, s4) at y))))))
 
 target_then : {G : Type 0} (ss : List Symbol) (n : List ℕ) (rest : List Symbol) → target_at ss ≡ found n rest
     → (ss ≡ word n ∷ mark LessEqual ∷ rest → IsName n → G) → G
@@ -455,8 +457,8 @@ clocked_some names ss k e =
     bind_then _ _ _ e (λ n e1 f1.
     bind_then _ _ _ f1 (λ x e2 f2.
     bind_then _ _ _ f2 (λ a e3 f3.
-    let y = expression-is names max_depth x.0 n.1 x.1 e2 in
-    target_then ss n.0 n.1 e1 (λ s m. rw (← some_is f3, s) (clocked m (rw (end_some x.1 a e3) at y))))))
+    let y = expression-is names MAX_NESTING x.0 n.1 x.1 e2 in
+    target_then ss n.0 n.1 e1 (λ s m. rw (← same_Some _ _ f3, s) (clocked m (rw (end_some x.1 a e3) at y))))))
 
 edge_some : (ss rest : List Symbol) → edge_at ss ≡ Some rest → ss ≡ at_edge rest
 unfolding edge_at
@@ -572,7 +574,7 @@ entity_some r ss n e =
     let s1 = eat_some (word (codes "entity")) ss a e1 in
     let (s2, o) = name_some a m.0 m.1 e2 in
     let s3 = phrase_some clock_port m.1 b e3 in
-    rw (← some_is f3, s1, s2, s3) (entity o))))
+    rw (← same_Some _ _ f3, s1, s2, s3) (entity o))))
 
 ports_some : (r : Reading) (ss : List Symbol) (q : Place) (r2 : Reading) → ports_at r ss ≡ found q r2 → Takes at.Ports r ss q r2
 unfolding ports_at

@@ -3,6 +3,7 @@ use Rattle.std.specs.Prelude.{if◌then◌else◌, ◌≢◌}
 use Rattle.std.proofs.Common.{◌≡◌, ◌⊎◌, inl, inr, ℕ, suc, ◌+◌, Bool, true, false, List, [], ◌∷◌, ◌++◌, length, take, drop, Option, Some, None, refl, ap, sym, ◌∙◌, arith, append_assoc}
 use Rattle.std.proofs.lemmas.Bool.{cases_Bool}
 use Rattle.std.proofs.lemmas.Grind.{common_steps}
+use Rattle.std.proofs.lemmas.Option.{same_Some}
 use Rattle.opgen_design.specs.declared.design.Design.{Design}
 use Rattle.opgen_vhdl.specs.declared.kind.Token.{Token}
 use Rattle.opgen_vhdl.specs.declared.place.Place.{Place}
@@ -12,7 +13,7 @@ use Rattle.opgen_vhdl.specs.Symbols.{Symbol, symbols, pieces, is_semicolon}
 use Rattle.opgen_vhdl.specs.Statements.{Reading, nothing, Takes, Follows, stay, onward, Stops}
 use Rattle.opgen_vhdl.specs.Spelled.{Statements, Spells, StopsAt, SyntaxAt}
 use Rattle.opgen_vhdl.specs.Reader.{◌>>=◌, and_then, choice, Step, takes_at}
-use Rattle.opgen_vhdl.proofs.Steps.{some_is, found, found_is, cases_option}
+use Rattle.opgen_vhdl.proofs.Steps.{found, found_is, cases_option}
 use Rattle.opgen_vhdl.proofs.Takes.{takes-reads, takes-is}
 use Rattle.opgen_vhdl.proofs.CutLemmas as cuts
 
@@ -132,7 +133,7 @@ one_list bytes q r f g =
 pub one_fault : (bytes : List ℕ) (j k : ℕ) → SyntaxAt bytes j → SyntaxAt bytes k → j ≡ k
 one_fault bytes j k f g =
     let same = same_tokens bytes f.tokens g.tokens f.cut g.cut in
-    some_is (sym (syntax-fault bytes j f) ∙ ap (λ ts. fault_at Library nothing (pieces (symbols bytes ts))) same ∙ syntax-fault bytes k g)
+    same_Some _ _ (sym (syntax-fault bytes j f) ∙ ap (λ ts. fault_at Library nothing (pieces (symbols bytes ts))) same ∙ syntax-fault bytes k g)
 
 pub not_both : (bytes : List ℕ) (r : Reading) (k : ℕ) → Statements bytes r → SyntaxAt bytes k → ⊥
 not_both bytes r k f g =

@@ -2,6 +2,7 @@
 use Rattle.std.specs.Prelude.{ℕ, ◌+◌, ◌==◌, ◌&&◌, ◌≤◌, ◌<◌, not, List, [], ◌∷◌, Option, Some, None, length, take, drop, nat_le, if◌then◌else◌}
 use Rattle.std.specs.Char.{is_ascii_alphabetic, is_ascii_digit}
 use Rattle.std.specs.List.{prefix_len}
+use Rattle.opgen_names.specs.declared.TheConstants.{MAX_NAME_LEN}
 use Rattle.opgen_num.specs.declared.format.TheConstants.{MAX_WIDTH}
 use Rattle.opgen_vhdl.specs.Tokens.{is_white, is_word_byte, is_in_line, is_bit, is_hyphen, is_equals, is_greater, is_quote, has_single_underscores, begins, Element, gap, token, Stands, NothingStarts}
 use Rattle.opgen_vhdl.specs.declared.kind.TokenKind.TheVariants.{Word, Number, Bits, ZeroChar, LeftParen, RightParen, Semicolon, Colon, Comma, Dot, Ampersand, Plus, Minus, Equal, LessEqual, Arrow, Becomes}
@@ -12,7 +13,7 @@ use Rattle.opgen_vhdl.specs.declared.kind.Front.TheVariants.{Gap, Token}
 abbrev pub word_front : List ℕ → Option Front
 word_front bytes =
     let n = prefix_len is_word_byte bytes in
-    if nat_le n 64 && has_single_underscores (take n bytes) then Some (Token Word n) else None
+    if nat_le n MAX_NAME_LEN && has_single_underscores (take n bytes) then Some (Token Word n) else None
 
 -- the number that these bytes begin with, where their first is a digit
 abbrev pub number_front : List ℕ → Option Front

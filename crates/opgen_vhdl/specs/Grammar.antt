@@ -21,7 +21,7 @@ pub record Names : Type 0 where
 abbrev pub place_of : List (List ℕ) → List ℕ → ℕ
 place_of names n = position_or_len (bytes_eq n) names
 
--- an identifier of at most 64 bytes that is no refused name
+-- an identifier that is short enough and no refused name
 abbrev pub IsName : List ℕ → Type 0
 IsName n = IsTrue (is_allowed_name n)
 
@@ -32,10 +32,6 @@ value digits = digits_value 10 digits
 -- digits of the number of a bit of a signal
 abbrev pub IsIndex : List ℕ → Type 0
 IsIndex digits = value digits < MAX_WIDTH
-
--- how deep parentheses round expressions may nest; those of a range and of `unsigned` are not counted
-abbrev pub max_depth : ℕ
-max_depth = 64
 
 -- how an operator is written
 abbrev pub operator : Op → Symbol

@@ -2,6 +2,7 @@
 -- opgen_read cite them; the grammar itself is in Grammar and Statements.
 use Rattle.std.specs.Prelude.{ℕ, zero, suc, ◌+◌, Bool, true, false, List, [], ◌∷◌, length, replicate, codes, Option, Some, None, is_some, nat_eq, nat_lt, if◌then◌else◌}
 use Rattle.std.specs.Str.{bytes_eq}
+use Rattle.opgen_design.specs.declared.expr.TheConstants.{MAX_NESTING}
 use Rattle.opgen_num.specs.declared.format.TheConstants.{MAX_WIDTH}
 use Rattle.opgen_vhdl.specs.declared.kind.TokenKind.{TokenKind}
 use Rattle.opgen_vhdl.specs.declared.kind.TokenKind.TheVariants.{Word, Number, Bits, ZeroChar, LeftParen, RightParen, Semicolon, Colon, Comma, Dot, Ampersand, Plus, Minus, Equal, LessEqual, Arrow, Becomes}
@@ -19,7 +20,7 @@ use Rattle.opgen_design.specs.Run.{is_one}
 use Rattle.opgen_names.specs.Names.{is_allowed_name}
 use Rattle.opgen_design.specs.Tree.{Tree, Trees, name, part, bits, port, inverse, chain, none, more}
 use Rattle.opgen_vhdl.specs.Symbols.{Symbol, word, number, string, mark}
-use Rattle.opgen_vhdl.specs.Grammar.{Names, place_of, value, max_depth, operator}
+use Rattle.opgen_vhdl.specs.Grammar.{Names, place_of, value, operator}
 use Rattle.opgen_vhdl.specs.Statements.{Reading, scope, with_entity, with_port, with_signal, with_driver, with_enable, with_name, with_architecture}
 
 unfoldable pub and_then : {A B : Type 0} → Option A → (A → Option B) → Option B
@@ -299,13 +300,13 @@ unfoldable pub choice_at : Names → ℕ → Tree → List Symbol → Option Dri
 choice_at names to one ss = do
   on ← part_at names ss
   a ← high_at (codes "else") on.1
-  other ← expression names max_depth a
+  other ← expression names MAX_NESTING a
   e ← end_at other.1
   Some (Choice to on.0 one other.0)
 
 -- an assignment to a signal, behind `<=`
 unfoldable pub valued_at : Names → ℕ → List Symbol → Option Driver
-valued_at names to ss = expression names max_depth ss >>= λ x. choice (eat (word (codes "when")) x.1)
+valued_at names to ss = expression names MAX_NESTING ss >>= λ x. choice (eat (word (codes "when")) x.1)
     (end_at x.1 >>= λ e. Some (Assign to x.0))
     (λ rest. choice_at names to x.0 rest)
 
@@ -313,7 +314,7 @@ valued_at names to ss = expression names max_depth ss >>= λ x. choice (eat (wor
 unfoldable pub output_at : Names → ℕ → List Symbol → Option Driver
 output_at names to ss = do
   a ← eat (mark LeftParen) ss
-  x ← expression names max_depth a
+  x ← expression names MAX_NESTING a
   b ← eat (mark RightParen) x.1
   e ← end_at b
   Some (Output to x.0)
@@ -336,7 +337,7 @@ concurrent_at names ss = choice (eat (word (codes "with")) ss) (assignment_at na
 unfoldable pub clocked_at : Names → List Symbol → Option Driver
 clocked_at names ss = do
   n ← target_at ss
-  x ← expression names max_depth n.1
+  x ← expression names MAX_NESTING n.1
   e ← end_at x.1
   Some (Register (place_of names.signals n.0) x.0)
 

@@ -1,11 +1,12 @@
 -- Designs whose text is in the VHDL subset.
 use Rattle.std.specs.Prelude.{◌≡◌, ◌≤◌, ◌++◌, length, filter, All, IsTrue, IsSome}
 use Rattle.std.specs.List.{list_any}
+use Rattle.opgen_design.specs.declared.expr.TheConstants.{MAX_NESTING}
 use Rattle.opgen_design.specs.declared.design.Design.{Design}
 use Rattle.opgen_design.specs.declared.design.Driver.{Driver}
 use Rattle.opgen_design.specs.declared.design.Driver.TheVariants.{Assign, Choice, Table, Register, Output}
 use Rattle.opgen_design.specs.Tree.{Tree, Trees, name, part, inverse, chain, none, more}
-use Rattle.opgen_design.specs.Value.{nesting, max_nesting}
+use Rattle.opgen_design.specs.Value.{nesting}
 use Rattle.opgen_design.specs.Sound.{IsSound}
 use Rattle.opgen_design.specs.Order.{is_register}
 use Rattle.opgen_names.specs.Names.{is_allowed_name}
@@ -35,7 +36,7 @@ abbrev mutual
 -- the text of an expression has the subset's form: each operand of `not` and of a chain is one, and parentheses nest at most so deep
 pub record IsShapedExpression (e : Tree) : Type 0 where
   pub chains : HasFullChains e
-  pub nests : nesting e ≤ max_nesting
+  pub nests : nesting e ≤ MAX_NESTING
 
 abbrev pub IsShapedDriver : Driver → Type 0
 IsShapedDriver (Assign to e) = IsShapedExpression e

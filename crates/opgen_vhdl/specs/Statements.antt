@@ -2,6 +2,7 @@
 -- one entity and its architecture (IEEE 1076-1993, 1.1, 1.2, 4.3.1.2, 8.4, 8.7, 9.2, 9.5, 10.4 and 11.2).
 use Rattle.std.specs.Prelude.{◌≡◌, ◌≢◌, ℕ, ◌+◌, ◌&&◌, Bool, true, false, List, [], ◌∷◌, ◌++◌, map, replicate, codes, Option, Some, None}
 use Rattle.std.specs.Str.{bytes_eq}
+use Rattle.opgen_design.specs.declared.expr.TheConstants.{MAX_NESTING}
 use Rattle.opgen_vhdl.specs.declared.kind.TokenKind.TheVariants.{ZeroChar, LeftParen, RightParen, Semicolon, Colon, Comma, Dot, Equal, LessEqual, Arrow, Becomes}
 use Rattle.opgen_vhdl.specs.declared.place.Place.{Place}
 use Rattle.opgen_vhdl.specs.declared.place.Place.TheVariants as at
@@ -14,7 +15,7 @@ use Rattle.opgen_design.specs.declared.design.Driver.{Driver}
 use Rattle.opgen_design.specs.declared.design.Driver.TheVariants.{Assign, Choice, Table, Register, Output}
 use Rattle.opgen_design.specs.Tree.{Tree}
 use Rattle.opgen_vhdl.specs.Symbols.{Symbol, word, number, string, mark}
-use Rattle.opgen_vhdl.specs.Grammar.{Names, place_of, IsName, IsIndex, value, max_depth, IsSignalPart, IsExpression}
+use Rattle.opgen_vhdl.specs.Grammar.{Names, place_of, IsName, IsIndex, value, IsSignalPart, IsExpression}
 
 -- What was read so far: a design, the architecture's name, and whether the names that have to agree do.
 pub record Reading : Type 0 where
@@ -97,15 +98,15 @@ pub data AreRows : List (List Bool × List Bool) → List Bool → List Symbol �
 
 -- a statement outside the process
 pub data IsConcurrent (names : Names) : Driver → List Symbol → Type 0 where
-  assignment : {n : List ℕ} {t : Tree} {ss : List Symbol} → IsName n → IsExpression names max_depth t ss end_of_piece →
+  assignment : {n : List ℕ} {t : Tree} {ss : List Symbol} → IsName n → IsExpression names MAX_NESTING t ss end_of_piece →
       IsConcurrent names (Assign (place_of names.signals n) t) (word n ∷ mark LessEqual ∷ ss)
-  output : {n : List ℕ} {t : Tree} {ss : List Symbol} → IsName n → IsExpression names max_depth t ss (mark RightParen ∷ end_of_piece) →
+  output : {n : List ℕ} {t : Tree} {ss : List Symbol} → IsName n → IsExpression names MAX_NESTING t ss (mark RightParen ∷ end_of_piece) →
       IsConcurrent names (Output (place_of names.ports n) t)
       (word n ∷ mark LessEqual ∷ word (codes "std_logic_vector") ∷ mark LeftParen ∷ ss)
   choice : {n : List ℕ} {on one other : Tree} {ss ps rs : List Symbol} → IsName n →
-      IsExpression names max_depth one ss (word (codes "when") ∷ ps) →
+      IsExpression names MAX_NESTING one ss (word (codes "when") ∷ ps) →
       IsSignalPart names on ps (mark Equal ∷ string (true ∷ []) ∷ word (codes "else") ∷ rs) →
-      IsExpression names max_depth other rs end_of_piece →
+      IsExpression names MAX_NESTING other rs end_of_piece →
       IsConcurrent names (Choice (place_of names.signals n) on one other) (word n ∷ mark LessEqual ∷ ss)
   table : {n : List ℕ} {on : Tree} {rows : List (List Bool × List Bool)} {other : List Bool} {ps rs : List Symbol} →
       IsSignalPart names on ps (word (codes "select") ∷ word n ∷ mark LessEqual ∷ rs) → IsName n → AreRows rows other rs →
@@ -113,7 +114,7 @@ pub data IsConcurrent (names : Names) : Driver → List Symbol → Type 0 where
 
 -- an assignment within the process
 pub data IsClocked (names : Names) : Driver → List Symbol → Type 0 where
-  clocked : {n : List ℕ} {t : Tree} {ss : List Symbol} → IsName n → IsExpression names max_depth t ss end_of_piece →
+  clocked : {n : List ℕ} {t : Tree} {ss : List Symbol} → IsName n → IsExpression names MAX_NESTING t ss end_of_piece →
       IsClocked names (Register (place_of names.signals n) t) (word n ∷ mark LessEqual ∷ ss)
 
 -- the `if` round the assignments of a process that has an enable, which is the port that the name stands for; or nothing

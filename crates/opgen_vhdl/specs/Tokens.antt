@@ -2,6 +2,7 @@
 use Rattle.std.specs.Prelude.{◌≡◌, ◌⊎◌, ℕ, ◌+◌, ◌≤◌, ◌<◌, true, false, List, [], ◌∷◌, ◌++◌, length, codes, ◌==◌, ◌||◌, Bool, not}
 use Rattle.std.specs.Char.{is_ascii_alphabetic, is_ascii_digit}
 use Rattle.std.specs.List.{AllPass}
+use Rattle.opgen_names.specs.declared.TheConstants.{MAX_NAME_LEN}
 use Rattle.opgen_num.specs.declared.format.TheConstants.{MAX_WIDTH}
 use Rattle.opgen_vhdl.specs.declared.kind.TokenKind.{TokenKind}
 use Rattle.opgen_vhdl.specs.declared.kind.TokenKind.TheVariants.{Word, Number, Bits, ZeroChar, LeftParen, RightParen, Semicolon, Colon, Comma, Dot, Ampersand, Plus, Minus, Equal, LessEqual, Arrow, Becomes}
@@ -43,12 +44,12 @@ begins p [] = false
 begins p (b ∷ _) = p b
 
 -- A word, where the rest follows it: a letter and all the letters, digits and underscores behind it. They are
--- 64 bytes at most, no underscore is the last of them, and no two stand side by side.
+-- no more bytes than a name may have, no underscore is the last of them, and no two stand side by side.
 pub record IsWord (text rest : List ℕ) : Type 0 where
   pub letter : begins is_ascii_alphabetic text ≡ true
   pub bytes : AllPass is_word_byte text
   pub single : has_single_underscores text ≡ true
-  pub short : length text ≤ 64
+  pub short : length text ≤ MAX_NAME_LEN
   pub stops : begins is_word_byte rest ≡ false
 
 -- A number, where the rest follows it: one to nine digits, with no digit, letter or underscore behind them.

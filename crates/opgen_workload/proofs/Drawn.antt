@@ -3,9 +3,9 @@ use Rattle.std.proofs.Common.{◌≡◌, ℕ, zero, suc, ◌+◌, ◌*◌, ◌^�
 use Rattle.std.specs.Prelude.{ℤ, pos, negsuc, unsigned_abs, All}
 use Rattle.std.proofs.lemmas.Int.{ints}
 use Rattle.std.proofs.lemmas.List.Elements.{All-nil, All-cons, All-head, All-tail}
+use Rattle.opgen_num.proofs.Lists.{sum-cons}
 use Rattle.opgen_ports.specs.Ranges.{IsWithin}
 use Rattle.opgen_ports.specs.Reaches.{above_zero, below_zero, rises, falls}
-use Rattle.opgen_ports.proofs.Totals.{sum-cons}
 use Rattle.opgen_vec.specs.Stimulus.{drawn, next}
 use Rattle.opgen_workload.specs.Filter.{coefficient, coefficients}
 

@@ -1,7 +1,6 @@
 -- The filter of a number is a valid specification.
-use Rattle.std.proofs.Common.{◌≡◌, ℕ, ◌+◌, ◌*◌, ◌-◌, ◌/◌, ◌%◌, ◌^◌, ◌≤◌, ◌<◌, min, true, false, List, length, Some, refl, inl, arith}
+use Rattle.std.proofs.Common.{◌≡◌, ℕ, ◌+◌, ◌*◌, ◌-◌, ◌^◌, ◌≤◌, true, false, List, length, Some, refl, inl, arith}
 use Rattle.std.specs.Prelude.{IsTrue, ◌≢◌, codes, ℤ, negsuc, [], ◌∷◌}
-use Rattle.std.proofs.Math.Nat.{div-le_self}
 use Rattle.std.proofs.lemmas.Int.{ints}
 use Rattle.std.proofs.lemmas.List.Elements.{All-nil, All-cons}
 use Rattle.opgen_names.specs.Names.{refused_words}
@@ -17,11 +16,9 @@ use Rattle.opgen_operator.specs.Valid.{IsDelayLine, IsValidSpec}
 use Rattle.opgen_ports.proofs.InputPorts.{all_one}
 use Rattle.opgen_kinds.proofs.of_kind.Sum.{guard_small}
 use Rattle.opgen_ports.proofs.Widths.{width_within}
+use Rattle.opgen_ports.proofs.Bounds.{rounded}
 use Rattle.opgen_workload.specs.Filter.{coefficients, workload_spec, workload_sum}
 use Rattle.opgen_workload.proofs.Drawn.{coefficients-length, coefficients-within, wider, rises-within, falls-within}
-
-rounded : (x y : ℕ) → 0 < y → x / y + min 1 (x % y) ≤ x + 1
-rounded x y h = omega (arith, div-le_self x y)
 
 name_allowed : IsTrue (is_spec_name (codes "workload"))
 unfolding refused_words taken_names
@@ -48,6 +45,7 @@ module _ (n : ℕ) (some : 1 ≤ n) (few : n ≤ 32) where
     coefs = wider taps (coefficients-within (8 * n) n);
     positive = omega (arith, ints);
     small = omega (arith, ints);
+    built = (tt, refl, refl);
   }
 
   -- the widest signal is far within the limit
@@ -83,6 +81,7 @@ module _ (n : ℕ) (some : 1 ≤ n) (few : n ≤ 32) where
   workload_valid = record {
     version = inl refl;
     name = name_allowed;
+    word = refl;
     op = accepted;
     has = (λ _. refl, near);
     names = record {
@@ -90,8 +89,10 @@ module _ (n : ℕ) (some : 1 ≤ n) (few : n ≤ 32) where
       apart = All-nil (λ n. n ≢ codes "workload");
       differ = λ i j d before below. absurd (omega (arith, below));
     };
+    rounding = tt;
     mode = record { built = tt; agrees = refl; whole = λ bad. let no_mark : false ≡ true = bad in cc };
     output = refl;
+    overflow = refl;
     target = (omega arith, omega arith);
     period = (omega arith, omega arith);
     few_lines = omega arith;

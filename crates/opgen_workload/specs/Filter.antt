@@ -1,6 +1,9 @@
 -- The filter that `workload` makes from a number.
 use Rattle.std.specs.Prelude.{ℕ, zero, suc, ◌*◌, true, false, None, List, [], ◌∷◌, codes, ℤ, pos, negsuc, ◌-ℤ◌}
 use Rattle.opgen_kinds.specs.declared.sum.Sum.{Sum}
+use Rattle.opgen_num.specs.declared.mode.Mode.TheVariants.{Faithful}
+use Rattle.opgen_ports.specs.declared.recipes.Compressor.TheVariants.{Dadda}
+use Rattle.opgen_num.specs.declared.mode.Overflow.TheVariants.{Saturate}
 use Rattle.opgen_operator.specs.declared.operator.Operator.TheVariants.{Fir}
 use Rattle.opgen_operator.specs.declared.spec.Spec.{Spec}
 use Rattle.opgen_vec.specs.Stimulus.{drawn, next}
@@ -21,8 +24,9 @@ workload_sum n = record {
   out_lsb = negsuc 10;
   coefs = coefficients (8 * n) n;
   den = pos 65536;
-  exact = false;
-  counters = false;
+  mode = Faithful;
+  compressor = Dadda;
+  lut = 6;
 }
 
 abbrev pub workload_spec : (n : ℕ) → Spec
@@ -31,8 +35,10 @@ workload_spec n = record {
   name = codes "workload";
   op = Fir (workload_sum n);
   exact = false;
+  rounding = None;
   out_width = None;
   out_signed = None;
+  overflow = Saturate;
   target = codes "plain";
   period = 4000;
   delays = [];

@@ -4,8 +4,9 @@ ghost use Rattle.opgen_operator.specs.Valid.{IsValidSpec};
 ghost use Rattle.opgen_workload.specs.Filter.{coefficient, coefficients, workload_spec, workload_sum};
 
 use opgen_list::{Items, Text};
-use opgen_num::{Format, Memory};
+use opgen_num::{Format, Memory, Mode, Overflow};
 use opgen_operator::{Operator, Spec, Sum};
+use opgen_ports::Compressor;
 use opgen_vec::{drawn, next};
 use std::alloc::{AllocError, Global};
 
@@ -43,8 +44,9 @@ fn workload_sum(alloc: Global, n: u32) -> Result<Sum, AllocError>
         out_lsb: -11,
         coefs: coefficients(alloc, n, 8 * n)?,
         den: 65_536,
-        exact: false,
-        counters: false,
+        mode: Mode::Faithful,
+        compressor: Compressor::Dadda,
+        lut: 6,
     })
 }
 
@@ -59,8 +61,10 @@ pub fn workload_spec(alloc: Global, n: u32) -> Result<Spec, Memory>
         name: Text::from_str(alloc, "workload")?,
         op: Operator::Fir(workload_sum(alloc, n)?),
         exact: false,
+        rounding: None,
         out_width: None,
         out_signed: None,
+        overflow: Overflow::Saturate,
         target: Text::from_str(alloc, "plain")?,
         period: 4000,
         delays: Items::new(alloc),

@@ -3,8 +3,7 @@ use Rattle.std.proofs.Common.{◌≡◌, ℕ, ◌<◌, Bool, true, false, not, i
 use Rattle.std.specs.Prelude.{All}
 use Rattle.std.specs.List.{list_any}
 use Rattle.std.specs.Str.{bytes_eq}
-use Rattle.std.proofs.lemmas.Bool.{cases_Bool, and_parts}
-use Rattle.std.proofs.lemmas.List.Elements.{All-cons, All-nil}
+use Rattle.std.proofs.lemmas.Bool.{cases_Bool, and_parts, not-true}
 use Rattle.opgen_design.specs.declared.design.Design.{Design}
 use Rattle.opgen_design.specs.declared.design.Driver.{Driver}
 use Rattle.opgen_design.specs.declared.design.Driver.TheVariants.{Assign, Choice, Table, Register, Output}
@@ -20,16 +19,7 @@ use Rattle.opgen_write.proofs.Lexing.{Lexes, lexes_found, lexes_end}
 use Rattle.opgen_write.proofs.Words.{lexes_name}
 use Rattle.opgen_write.proofs.Expressions.{AreWithin, within-append, AreFound}
 use Rattle.opgen_write.proofs.Drivers.{WritesPiece, DriverFits, concurrent_written, register_written}
-use Rattle.opgen_write.proofs.Leading.{Leads, leads_on, leads_last, each_leads, all_first, all_rest, not_true}
-
--- what passes the test, and all that it has from passing it
-pub kept : {X : Type 0} (p : X → Bool) (P Q : X → Type 0) → ((x : X) → p x ≡ true → P x → Q x) → (xs : List X) → All P xs
-    → All Q (filter p xs)
-kept p P Q f [] all = All-nil Q
-kept p P Q f (x ∷ xs) all = elim (cases_Bool (p x)) [
-  | inl passes ↦ rw passes (All-cons Q x (filter p xs) (f x passes (all_first P x xs all)) (kept p P Q f xs (all_rest P x xs all)))
-  | inr fails ↦ rw fails (kept p P Q f xs (all_rest P x xs all))
-]
+use Rattle.opgen_write.proofs.Leading.{Leads, leads_on, leads_last, each_leads, all_first, all_rest}
 
 abbrev pub is_some : {X : Type 0} → List X → Bool
 is_some [] = false
@@ -43,7 +33,7 @@ some_passes p (x ∷ xs) = elim (cases_Bool (p x)) [
 ]
 
 pub neither-no_register : (k : Driver) → is_neither k ≡ true → is_register k ≡ false
-neither-no_register k h = not_true (is_register k) (and_parts (not (is_register k)) (not (is_output k)) h).0
+neither-no_register k h = not-true (is_register k) (and_parts (not (is_register k)) (not (is_output k)) h).0
 
 pub output-no_register : (k : Driver) → is_output k ≡ true → is_register k ≡ false
 output-no_register (Assign s e) h = refl

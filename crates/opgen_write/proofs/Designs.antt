@@ -3,6 +3,7 @@ use Rattle.std.proofs.Common.{◌≡◌, ℕ, ◌≤◌, true, false, List, [], 
 use Rattle.std.specs.Prelude.{All}
 use Rattle.std.specs.Str.{bytes_eq}
 use Rattle.std.proofs.lemmas.Slice.Eq.{bytes_eq-Decides}
+use Rattle.opgen_num.proofs.Lists.{kept}
 use Rattle.opgen_design.specs.declared.design.Design.{Design}
 use Rattle.opgen_design.specs.declared.design.Driver.{Driver}
 use Rattle.opgen_design.specs.declared.design.Port.{Port}
@@ -23,7 +24,7 @@ use Rattle.opgen_write.proofs.Places.{are_found}
 use Rattle.opgen_write.proofs.Drivers.{DriverFits}
 use Rattle.opgen_write.proofs.Leading.{Leads, leads_on, leads_behind, each_leads, all_first, all_rest, leads_spell}
 use Rattle.opgen_write.proofs.Declarations.{PortFits, port_behind, port_text-behind, port_symbols, lexes_port, port_is, SignalFits, Declares, signal_written}
-use Rattle.opgen_write.proofs.Bodies.{kept, some_passes, neither-no_register, output-no_register, in_body, process_of, process_text-of, body_leads}
+use Rattle.opgen_write.proofs.Bodies.{some_passes, neither-no_register, output-no_register, in_body, process_of, process_text-of, body_leads}
 use Rattle.opgen_write.proofs.Writable.{all_ports, all_signals, all_drivers, enable_fits}
 
 rtl_allowed : IsTrue (is_allowed_name (codes "rtl"))

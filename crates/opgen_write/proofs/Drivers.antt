@@ -1,17 +1,18 @@
 -- The text of each driver is cut into one piece of symbols, which is its statement in the grammar.
 use Rattle.std.proofs.Common.{◌≡◌, ℕ, ◌<◌, ◌≤◌, Bool, true, false, List, [], ◌∷◌, ◌++◌, length, flat_map, codes, Option, Some, None, IsTrue, refl, ap, ◌∙◌, subst, append_assoc, true≢false}
+use Rattle.opgen_design.specs.declared.expr.TheConstants.{MAX_NESTING}
 use Rattle.opgen_design.specs.declared.design.Design.{Design}
 use Rattle.opgen_design.specs.declared.design.Driver.{Driver}
 use Rattle.opgen_design.specs.declared.design.Driver.TheVariants.{Assign, Choice, Table, Register, Output}
 use Rattle.opgen_design.specs.Order.{is_register}
 use Rattle.opgen_names.specs.Names.{is_allowed_name}
 use Rattle.opgen_design.specs.Tree.{Tree}
-use Rattle.opgen_design.specs.Value.{IsWidth, nesting, max_nesting}
+use Rattle.opgen_design.specs.Value.{IsWidth, nesting}
 use Rattle.opgen_vhdl.specs.Symbols.{Symbol, word, string, mark}
 use Rattle.opgen_vhdl.specs.ExpressionText.{signal_name, port_name, word_text, expression_text}
 use Rattle.opgen_vhdl.specs.DesignText.{row_text, other_text, further_indent, driver_text}
 use Rattle.opgen_vhdl.specs.Shaped.{IsPart}
-use Rattle.opgen_vhdl.specs.Grammar.{max_depth, IsExpression}
+use Rattle.opgen_vhdl.specs.Grammar.{IsExpression}
 use Rattle.opgen_vhdl.specs.Statements.{names_of, end_of_piece, AreRows, others, row, IsConcurrent, assignment, output, choice, table, IsClocked, clocked}
 use Rattle.opgen_vhdl.specs.declared.kind.TokenKind.TheVariants.{LeftParen, RightParen, Semicolon, Comma, Equal, LessEqual}
 use Rattle.opgen_write.proofs.Lexing.{Lexes, lexes_found}
@@ -28,7 +29,7 @@ pub record WritesPiece (P : List Symbol → Type 0) (text : List ℕ) : Type 0 w
 -- an expression that fits and nests no deeper than the grammar allows
 pub record FitsWhole (d : Design) (e : Tree) : Type 0 where
   pub fits : Fits d e
-  pub nests : nesting e ≤ max_nesting
+  pub nests : nesting e ≤ MAX_NESTING
 
 -- the addresses and words of rows can be written
 abbrev pub AreShort : List (List Bool × List Bool) → Type 0
@@ -108,12 +109,12 @@ rows_written (r ∷ rows) other rs s =
     }
 
 module _ (d : Design) (found : AreFound d) where
-  abbrev whole_written : (e : Tree) → FitsWhole d e → Writes (IsExpression (names_of d) max_depth e) (expression_text d e)
-  whole_written e f = expression_written d found e max_depth f.fits f.nests
+  abbrev whole_written : (e : Tree) → FitsWhole d e → Writes (IsExpression (names_of d) MAX_NESTING e) (expression_text d e)
+  whole_written e f = expression_written d found e MAX_NESTING f.fits f.nests
 
   -- an assignment behind its indent, and the `;` behind it
   assigned : (s : ℕ) (e : Tree) (rest : List ℕ) (ks : List Symbol) → s < length d.signals
-      → (w : Writes (IsExpression (names_of d) max_depth e) (expression_text d e)) → Lexes rest ks
+      → (w : Writes (IsExpression (names_of d) MAX_NESTING e) (expression_text d e)) → Lexes rest ks
       → Lexes (signal_name d s ++ (codes " <= " ++ (expression_text d e ++ (codes ";\n" ++ rest))))
       (word (signal_name d s) ∷ mark LessEqual ∷ (w.symbols ++ mark Semicolon ∷ ks))
   assigned s e rest ks h w l = lexes_target (signal_name d s) _ _ (found.signals s h).allowed

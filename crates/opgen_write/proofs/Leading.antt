@@ -1,8 +1,8 @@
 -- From a place on, a text leads to the end of the table of places.
-use Rattle.std.proofs.Common.{◌≡◌, Bool, true, false, not, ℕ, suc, List, [], ◌∷◌, ◌++◌, flat_map, refl, ap, sym, ◌∙◌, subst, arith, append_assoc, append-nil}
+use Rattle.std.proofs.Common.{◌≡◌, true, not, ℕ, suc, List, [], ◌∷◌, ◌++◌, flat_map, refl, ap, sym, ◌∙◌, subst, arith, append_assoc, append-nil}
 use Rattle.std.specs.Prelude.{All}
 use Rattle.std.specs.List.{list_all}
-use Rattle.std.proofs.lemmas.Bool.{and_parts}
+use Rattle.std.proofs.lemmas.Bool.{and_parts, not-true}
 use Rattle.opgen_vhdl.specs.Symbols.{Symbol, mark, is_semicolon, pieces}
 use Rattle.opgen_vhdl.specs.Statements.{Reading, nothing, end_of_piece, Takes, Follows, stay, onward}
 use Rattle.opgen_vhdl.specs.Spelled.{Spells}
@@ -13,17 +13,13 @@ use Rattle.opgen_write.proofs.Lexing.{Lexes, lexes_tokens}
 use Rattle.opgen_write.proofs.Expressions.{AreWithin}
 use Rattle.opgen_write.proofs.Drivers.{WritesPiece}
 
-pub not_true : (b : Bool) → not b ≡ true → b ≡ false
-not_true true h = sym h
-not_true false h = refl
-
 -- symbols that end no piece stand in front of the first piece
 pieces-within : (ss ks first : List Symbol) (more : List (List Symbol)) → AreWithin ss → pieces ks ≡ first ∷ more
     → pieces (ss ++ ks) ≡ (ss ++ first) ∷ more
 pieces-within [] ks first more h e = e
 pieces-within (s ∷ ss) ks first more h e =
     let (here, later) = and_parts (not (is_semicolon s)) (list_all (λ s. not (is_semicolon s)) ss) h in
-    rw (not_true (is_semicolon s) here, pieces-within ss ks first more later e) refl
+    rw (not-true (is_semicolon s) here, pieces-within ss ks first more later e) refl
 
 -- The text is cut into pieces that lead from a place to the end, where q was read. The first of them stands apart.
 pub record Leads (p : Place) (r : Reading) (bytes : List ℕ) (q : Reading) : Type 0 where

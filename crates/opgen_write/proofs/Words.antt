@@ -1,9 +1,9 @@
 -- Names, numbers and bit strings are cut into one token each.
-use Rattle.std.proofs.Common.{◌≡◌, ℕ, ◌<◌, ◌≤◌, ◌==◌, ◌&&◌, Bool, true, false, not, nat_le, List, [], ◌∷◌, ◌++◌, length, map, reverse, filter, codes, decimal, IsTrue, refl, ap, sym, ◌∙◌, subst, arith, append_assoc, append-nil, length-append}
+use Rattle.std.proofs.Common.{◌≡◌, ℕ, ◌<◌, ◌==◌, ◌&&◌, Bool, true, false, not, nat_le, List, [], ◌∷◌, ◌++◌, length, map, reverse, filter, codes, decimal, IsTrue, refl, ap, sym, ◌∙◌, subst, arith, append_assoc, append-nil, length-append}
 use Rattle.std.specs.Char.{is_ascii_alphabetic, is_ascii_lowercase, is_ascii_digit, to_ascii_lowercase, digit_value}
 use Rattle.std.specs.List.{list_all}
 use Rattle.std.specs.Str.Parse.{AllDigits}
-use Rattle.std.proofs.lemmas.Bool.{and_parts}
+use Rattle.std.proofs.lemmas.Bool.{and_parts, leb-true}
 use Rattle.std.proofs.lemmas.Bool.Decides.{nat_tests}
 use Rattle.std.proofs.lemmas.Fmt.{decimal_is_IsNumeral, length-decimal-le}
 use Rattle.std.proofs.lemmas.List.{map-append, reverse-append, reverse-reverse}
@@ -12,6 +12,7 @@ use Rattle.std.proofs.lemmas.List.Folds.{list_all-append}
 use Rattle.std.proofs.lemmas.List.Sums.{AllPass-from_list_all}
 use Rattle.opgen_num.specs.declared.format.TheConstants.{MAX_WIDTH}
 use Rattle.opgen_names.specs.Names.{is_allowed_name, is_name_byte, is_identifier, is_refused, starts_with_letter, has_single_underscores}
+use Rattle.opgen_names.proofs.LowerCase.{lower-all}
 use Rattle.opgen_design.specs.Value.{IsWidth}
 use Rattle.opgen_vhdl.specs.Tokens.{is_word_byte, is_bit, begins, IsWord, IsBits}
 use Rattle.opgen_vhdl.specs.Symbols.{Symbol, word, number, string, mark, bits_in}
@@ -28,9 +29,6 @@ letter c h = grind (arith, nat_tests)
 name_byte : (c : ℕ) → is_name_byte c ≡ true → is_word_byte c ≡ true
 name_byte c h = grind (arith, nat_tests)
 
-name_byte-lowercase : (c : ℕ) → is_name_byte c ≡ true → to_ascii_lowercase c ≡ c
-name_byte-lowercase c h = grind (arith, nat_tests)
-
 begins_letter : (n : List ℕ) → starts_with_letter n ≡ true → begins is_ascii_alphabetic n ≡ true
 begins_letter [] h = h
 begins_letter (c ∷ cs) h = letter c h
@@ -40,15 +38,6 @@ name_bytes [] h = refl
 name_bytes (c ∷ cs) h =
     let (here, more) = and_parts (is_name_byte c) (list_all is_name_byte cs) h in
     rw (name_byte c here, name_bytes cs more) refl
-
-name_lowercase : (n : List ℕ) → list_all is_name_byte n ≡ true → map to_ascii_lowercase n ≡ n
-name_lowercase [] h = refl
-name_lowercase (c ∷ cs) h =
-    let (here, more) = and_parts (is_name_byte c) (list_all is_name_byte cs) h in
-    rw (name_byte-lowercase c here, name_lowercase cs more) refl
-
-below : (n m : ℕ) → nat_le n m ≡ true → n ≤ m
-below n m h = grind (arith, nat_tests)
 
 module _ (n rest : List ℕ) (allowed : IsTrue (is_allowed_name n)) (stops : begins is_word_byte rest ≡ false) where
   short_and_identifier : (nat_le (length n) 64 && is_identifier n) ≡ true
@@ -71,13 +60,13 @@ module _ (n rest : List ℕ) (allowed : IsTrue (is_allowed_name n)) (stops : beg
     letter = begins_letter n (and_parts (starts_with_letter n) (list_all is_name_byte n) first_and_bytes).0;
     bytes = AllPass-from_list_all is_word_byte n (name_bytes n bytes);
     single = (and_parts (starts_with_letter n && list_all is_name_byte n) (has_single_underscores n) identifier).1;
-    short = below (length n) 64 short;
+    short = leb-true (length n) 64 short;
     stops = stops;
   }
 
   -- an allowed name is a word, and the same in lower case
   pub lexes_name : (ks : List Symbol) → Lexes rest ks → Lexes (n ++ rest) (word n ∷ ks)
-  lexes_name ks l = subst (λ u. Lexes (n ++ rest) (word u ∷ ks)) (name_lowercase n bytes) (lexes_token Word n rest ks name_is_word l)
+  lexes_name ks l = subst (λ u. Lexes (n ++ rest) (word u ∷ ks)) (lower-all n bytes) (lexes_token Word n rest ks name_is_word l)
 
 -- a word in lower case, before a rest that begins with no word byte
 pub lexes_keyword : (n rest : List ℕ) (ks : List Symbol) → begins is_ascii_alphabetic n ≡ true → list_all is_word_byte n ≡ true
@@ -89,7 +78,7 @@ lexes_keyword n rest ks letter bytes single short lowercase stops l =
       letter = letter;
       bytes = AllPass-from_list_all is_word_byte n bytes;
       single = single;
-      short = below (length n) 64 short;
+      short = leb-true (length n) 64 short;
       stops = stops;
     } in
     subst (λ u. Lexes (n ++ rest) (word u ∷ ks)) lowercase (lexes_token Word n rest ks is_word l)

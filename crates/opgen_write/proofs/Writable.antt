@@ -1,5 +1,5 @@
 -- The ports, signals and drivers of a sound, shaped design under allowed names can be written.
-use Rattle.std.proofs.Common.{◌≡◌, ℕ, ◌<◌, ◌≤◌, Bool, List, [], ◌∷◌, length, get_or, Option, Some, None, IfSome, IsSome, slice_get, slice_index, refl, sym, subst, arith}
+use Rattle.std.proofs.Common.{◌≡◌, ℕ, ◌<◌, ◌≤◌, Bool, List, [], ◌∷◌, length, get_or, Option, Some, None, IfSome, slice_get, slice_index, sym, subst, arith}
 use Rattle.std.specs.Prelude.{All}
 use Rattle.std.proofs.lemmas.List.{get_or-map, length-map}
 use Rattle.std.proofs.lemmas.Option.{slice_get-get_or, slice_get_within, get_or_from_slice_get}
@@ -12,7 +12,7 @@ use Rattle.opgen_design.specs.Tree.{Tree}
 use Rattle.opgen_design.specs.Sound.{AllReads, IsSound, IsDeclared, signal_widths, port_widths, HasWidth, WidthsAgree, PortPasses, SignalPasses, DriverPasses, at_design, at_port, at_signal, at_driver}
 use Rattle.opgen_design.specs.Value.{IsWidth, width}
 use Rattle.opgen_design.specs.declared.sound.Rule.TheVariants.{Undeclared, Width}
-use Rattle.opgen_design.proofs.WidthLaws.{width-is_width}
+use Rattle.opgen_design.proofs.WidthLaws.{width-is_width, some_width}
 use Rattle.opgen_vhdl.specs.Shaped.{IsPart, HasFullChains, IsShapedExpression, IsShapedDriver, IsShaped, HasAllowedNames}
 use Rattle.opgen_write.proofs.Fitting.{fits}
 use Rattle.opgen_write.proofs.Drivers.{AreShort, FitsWhole, DriverFits}
@@ -23,10 +23,6 @@ use Rattle.opgen_write.proofs.Places.{no_signal}
 initial_fits : (initial : Option (List Bool)) (w : ℕ) → IsWidth w → IfSome initial (λ v. length v ≡ w) → InitialFits initial
 initial_fits None w wide h = tt
 initial_fits (Some v) w wide h = (omega (arith, h, wide.0), omega (arith, h, wide.1))
-
-some_of : (o : Option ℕ) → IsSome o → (w : ℕ) × (o ≡ Some w)
-some_of None h = absurd cc
-some_of (Some w) h = (w, refl)
 
 part_chains : (t : Tree) → IsPart t → HasFullChains t
 part_chains (tree.name s) h = tt
@@ -76,25 +72,25 @@ module _ (d : Design) (s : IsSound d) (shape : IsShaped d) (names : HasAllowedNa
       )
 
   driver_fits : (k : Driver) → IsDeclared d k → WidthsAgree d k → IsShapedDriver k → DriverFits d k
-  driver_fits (Assign to e) declared w shaped = (declared.target, expression_fits e _ shaped declared.reads w)
+  driver_fits (Assign to e) declared w shaped = (declared.target, expression_fits e _ shaped declared.reads.0 w)
   driver_fits (Choice to on one other) declared w shaped = (
     declared.target,
     shaped.0,
     fits d short on 1 declared.reads.0 (part_chains on shaped.0) w.0,
-    expression_fits one _ shaped.1 declared.reads.1 w.1,
-    expression_fits other _ shaped.2 declared.reads.2 w.2,
+    expression_fits one _ shaped.1 declared.reads.1.0 w.1,
+    expression_fits other _ shaped.2 declared.reads.1.1.0 w.2,
   )
   driver_fits (Table to on rows other) declared w shaped =
-      let on_width = some_of (width (signal_widths d) (port_widths d) on) w.1 in
+      let on_width = some_width (width (signal_widths d) (port_widths d) on) w.1 in
       let wide = width_wide to declared.target in (
         declared.target,
         shaped,
-        fits d short on on_width.0 declared.reads (part_chains on shaped) on_width.1,
+        fits d short on on_width.0 declared.reads.0 (part_chains on shaped) on_width.1,
         rows_short to on rows declared.target w.0,
         (omega (arith, w.2, wide.0), omega (arith, w.2, wide.1)),
       )
-  driver_fits (Register to e) declared w shaped = (declared.target, expression_fits e _ shaped declared.reads w)
-  driver_fits (Output p e) declared w shaped = (declared.target, expression_fits e _ shaped declared.reads w)
+  driver_fits (Register to e) declared w shaped = (declared.target, expression_fits e _ shaped declared.reads.0 w)
+  driver_fits (Output p e) declared w shaped = (declared.target, expression_fits e _ shaped declared.reads.0 w)
 
   pub all_drivers : All (DriverFits d) d.drivers
   all_drivers = λ k e b.

@@ -8,6 +8,9 @@ use Rattle.opgen_kinds.specs.declared.small_div.SmallDiv.{SmallDiv}
 use Rattle.opgen_kinds.specs.declared.sum.Sum.{Sum}
 use Rattle.opgen_kinds.specs.declared.taps.Taps.{Taps}
 use Rattle.opgen_num.specs.declared.mode.Mode.TheVariants.{Faithful}
+use Rattle.opgen_ports.specs.declared.recipes.Compressor.TheVariants.{Dadda}
+use Rattle.opgen_ports.specs.declared.recipes.Recipe.TheVariants as recipes
+use Rattle.opgen_ports.specs.declared.recipes.Recurrence.TheVariants.{Restoring}
 use Rattle.opgen_ports.specs.Good.{IsGoodRatio}
 use Rattle.opgen_kinds.specs.Horner.{poly_guard}
 use Rattle.opgen_kinds.specs.Pair.{IsGoodQuotient, quotient_ports}
@@ -27,12 +30,12 @@ signed_bits = record { signed = true; width = 8; lsb = pos 0 }
 
 -- a third of four unsigned bits
 abbrev pub third : Sum
-third = record { input = unsigned 4 (pos 0); out_lsb = pos 0; coefs = pos 1 ∷ []; den = pos 3; exact = false; counters = false }
+third = record { input = unsigned 4 (pos 0); out_lsb = pos 0; coefs = pos 1 ∷ []; den = pos 3; mode = Faithful; compressor = Dadda; lut = 6 }
 
 -- a quarter, a half and a quarter of three samples
 abbrev pub smooth : Sum
 smooth =
-    record { input = signed_bits; out_lsb = pos 0; coefs = pos 1 ∷ pos 2 ∷ pos 1 ∷ []; den = pos 4; exact = false; counters = false }
+    record { input = signed_bits; out_lsb = pos 0; coefs = pos 1 ∷ pos 2 ∷ pos 1 ∷ []; den = pos 4; mode = Faithful; compressor = Dadda; lut = 6 }
 
 -- two signed numbers of two bits
 abbrev pub square : Product
@@ -40,11 +43,13 @@ square = record {
   a = record { signed = true; width = 2; lsb = pos 0 };
   b = record { signed = true; width = 2; lsb = pos 0 };
   out_lsb = pos 0;
-  counters = false;
+  compressor = Dadda;
+  mode = Faithful;
+  recipe = recipes.Third;
 }
 
 abbrev pub quotient : Pair
-quotient = record { a = unsigned 7 (pos 0); b = unsigned 3 (pos 0); out_lsb = pos 0; exact = true }
+quotient = record { a = unsigned 7 (pos 0); b = unsigned 3 (pos 0); out_lsb = pos 0; exact = true; recurrence = Restoring }
 
 abbrev pub root : Single
 root = record { input = unsigned 8 (pos 0); out_lsb = pos 0; exact = true }
@@ -55,7 +60,7 @@ seventh = record { input = unsigned 7 (pos 0); divisor = 7; exact = true }
 
 -- half of x and half of its square, for x of two bits below 1, in quarters
 abbrev pub halves : Polynomial
-halves = record { input = unsigned 2 (negsuc 1); out_lsb = negsuc 1; coefs = pos 0 ∷ pos 1 ∷ pos 1 ∷ []; den = pos 2 }
+halves = record { input = unsigned 2 (negsuc 1); out_lsb = negsuc 1; coefs = pos 0 ∷ pos 1 ∷ pos 1 ∷ []; den = pos 2; compressor = Dadda }
 
 -- three whole taps
 abbrev pub three_taps : Taps
@@ -65,6 +70,8 @@ three_taps = record {
   taps = pos 1 ∷ pos 2 ∷ negsuc 2 ∷ [];
   searched = true;
   extra = 0;
+  mode = Faithful;
+  recipe = recipes.Third;
 }
 
 -- the same in steps of four
@@ -78,6 +85,7 @@ signed_quotient = record {
   b = record { signed = true; width = 3; lsb = pos 0 };
   out_lsb = pos 0;
   exact = true;
+  recurrence = Restoring;
 }
 
 pub record Operators : Type 0 where

@@ -3,6 +3,7 @@ use opgen_list::Items;
 use opgen_mcm::build;
 use opgen_num::Format;
 use opgen_operator::Several;
+use opgen_ports::Recipe;
 use opgen_search::{OpenGate, least_graph, least_set};
 use std::test::Fail;
 
@@ -37,6 +38,7 @@ fn forty_five(rt: HostRuntime) -> Result<(), Fail> {
         constants,
         searched: true,
         extra: 1,
+        recipe: Recipe::Third,
     };
     let numbers = several.constants.as_slice();
     let found = least_graph(&rt, rt.alloc(), numbers, 4, 1, 2, &OpenGate)?;

@@ -5,6 +5,7 @@ from dataclasses import dataclass
 from opgenlib import vhdl
 from opgenlib.drawings.example import Example
 from opgenlib.drawings.adders import read_place
+from opgenlib.drawings.error import counted_rows
 from opgenlib.drawings.schedule import Slot, checked_schedule, delays
 from opgenlib.svg import LETTER, Picture
 
@@ -44,10 +45,10 @@ def links_of(design: vhdl.Design, slots: dict[str, Slot], width: int) -> Iterato
 def first_input(example: Example) -> int | None:
     """The input of the first row, none where no run is there."""
     try:
-        row = example.rows().partition("\n")[0]
+        row = next(counted_rows(example), None)
     except FileNotFoundError:
         return None
-    return int(row.partition(" :")[0].split()[-1], 16) if row else None
+    return row[0][0] if row else None
 
 
 def steps_of(links: list[Link], rest_width: int, number: int) -> Iterator[tuple[int, int, int]]:

@@ -1,5 +1,5 @@
 -- What holds of quotients: those rounded towards 0, and their words, formats, port names and widths.
-use Rattle.std.proofs.Common.{ℕ, ◌^◌, ◌<◌, Bool, List, length, ◌≡◌, true, ◌≢◌, zero, suc, ◌+◌, ◌-◌, ◌*◌, ◌%◌, ◌≤◌, false, refl, sym, ap, ◌∙◌, subst, arith}
+use Rattle.std.proofs.Common.{ℕ, ◌^◌, ◌<◌, Bool, not, is_some, List, length, ◌≡◌, true, ◌≢◌, zero, suc, ◌+◌, ◌-◌, ◌*◌, ◌%◌, ◌≤◌, false, refl, sym, ap, ◌∙◌, subst, arith}
 use Rattle.std.proofs.lemmas.Int.{ints, quot-rem, rem_below}
 use Rattle.std.proofs.lemmas.Nat.{pow-add, pow_pos}
 use Rattle.std.proofs.Math.Nat.{div-le_self, mul-le-mul, mul-le-mul_right}
@@ -9,11 +9,11 @@ use Rattle.opgen_num.specs.Formats.{Holds, is_negative}
 use Rattle.opgen_num.specs.Rounding.{IsQuotient}
 use Rattle.opgen_num.specs.Words.{xor}
 use Rattle.opgen_num.proofs.BitLength.{power_order}
-use Rattle.opgen_num.proofs.Integers.{difference-product}
+use Rattle.opgen_num.proofs.Integers.{difference-product, zero_from_abs}
 use Rattle.opgen_kinds.specs.declared.pair.Pair.{Pair}
 use Rattle.opgen_ports.specs.Ports.{HasWidth, IsCycle, port}
 use Rattle.opgen_ports.specs.Good.{IsGoodRatio}
-use Rattle.opgen_kinds.specs.Pair.{quotient_ports, quotient_format, remainder_format, exact_quotient, pair_shift, over, sign_bit, IsTruncated, IsGoodQuotient, IsPair, dividend, pair_meaning, pair_acceptance}
+use Rattle.opgen_kinds.specs.Pair.{quotient_ports, quotient_format, remainder_format, exact_quotient, quotient_value, pair_shift, over, sign_bit, IsTruncated, IsGoodQuotient, IsPair, dividend, pair_meaning, pair_acceptance}
 use Rattle.opgen_ports.specs.Modes.{is_exact, IsExactOrFaithful}
 use Rattle.opgen_ports.specs.Limits.{most_signal}
 use Rattle.opgen_ports.specs.Reaches.{places_up, up}
@@ -116,14 +116,11 @@ no_multiple : (d b : ℕ) → d * b < b → d ≡ 0
 no_multiple zero b h = refl
 no_multiple (suc d) b h = absurd (omega (arith, h))
 
-no_size : (z : ℤ) → unsigned_abs z ≡ 0 → z ≡ pos 0
-no_size (pos n) e = ap pos e
-no_size (negsuc n) e = absurd (omega (arith, e))
-
 rest_of_zero : (b q r : ℤ) → IsTruncated (pos 0) b q r → r ≡ pos 0
 rest_of_zero b q r t =
     let size : unsigned_abs (q *ℤ b) ≡ unsigned_abs r = omega (arith, ints, t.whole) in
-    let none : q ≡ pos 0 = no_size q (no_multiple (unsigned_abs q) (unsigned_abs b) (omega (arith, size, unsigned_abs-product q b, t.smaller))) in
+    let none : q ≡ pos 0 =
+    zero_from_abs q (no_multiple (unsigned_abs q) (unsigned_abs b) (omega (arith, size, unsigned_abs-product q b, t.smaller))) in
     omega (arith, ints, t.whole, ap (λ z. z *ℤ b) none)
 
 -- two remainders have one sign
@@ -143,7 +140,7 @@ pub truncated_only : (n b q r p l : ℤ) → IsTruncated n b q r → IsTruncated
 truncated_only n b q r p l t u =
     let between : (l -ℤ r) ≡ (q -ℤ p) *ℤ b = omega (arith, ints, difference-product q p b, t.whole, u.whole) in
     let size : unsigned_abs (l -ℤ r) ≡ unsigned_abs (q -ℤ p) * unsigned_abs b = ap unsigned_abs between ∙ unsigned_abs-product (q -ℤ p) b in
-    let none = no_size (q -ℤ p) (no_multiple (unsigned_abs (q -ℤ p)) (unsigned_abs b) (omega (arith, size, gap n b q r p l t u))) in
+    let none = zero_from_abs (q -ℤ p) (no_multiple (unsigned_abs (q -ℤ p)) (unsigned_abs b) (omega (arith, size, gap n b q r p l t u))) in
     let same : q ≡ p = omega (arith, ints, none) in
     (same, omega (arith, ints, t.whole, u.whole, ap (λ z. z *ℤ b) same))
 
@@ -262,6 +259,11 @@ quotients_wide most false p far fits few = all_one (HasWidth most) _ (omega (ari
 over_in128 : (n b : ℤ) → IsIn128 n → unsigned_abs n ≤ 2 ^ 126 → unsigned_abs b ≤ 2 ^ 126 → IsRatioIn128 (over n b)
 over_in128 n (pos d) small few less = (small, small_in128 (pos d) less)
 over_in128 n (negsuc d) small few less = (small_in128 (neg_ℤ n) (omega (arith, ints, few)), small_in128 (pos (d + 1)) (omega (arith, less)))
+
+-- a quotient has one value where it is faithful
+pub valued : (exact : Bool) (p : Pair) → not exact ≡ is_some (quotient_value exact p)
+valued true p = refl
+valued false p = refl
 
 -- what holds of its meaning
 pub pair_lawful : (p : Pair) → IsLawful (pair_meaning p) (pair_acceptance p)

@@ -7,7 +7,7 @@ use Rattle.std.proofs.Math.Nat.{mul-le-mul, mul-le-mul_right, mul-le-mul_left}
 use Rattle.std.specs.Int.{div_ceil}
 use Rattle.std.specs.Prelude.{pos, neg_ℤ, ◌*ℤ◌, ℤ, negsuc, ◌≤ℤ◌, unsigned_abs}
 use Rattle.opgen_num.proofs.BitLength.{power_cancel, power_order}
-use Rattle.opgen_num.proofs.RangeWidth.{count-holds, count-least}
+use Rattle.opgen_num.proofs.RangeWidth.{count-holds, count-least, digits-some}
 use Rattle.opgen_num.specs.Formats.{digit_count, range_width, fewest_bits}
 use Rattle.opgen_kinds.specs.declared.product.Product.{Product}
 use Rattle.opgen_kinds.specs.Product.{exact_product, product_shift, product_reach, product_places, IsProduct, ProductsHaveWidth, product_format}
@@ -15,39 +15,33 @@ use Rattle.opgen_ports.specs.Reaches.{reach_of, reach_with, in_units, width_of, 
 use Rattle.opgen_ports.specs.Spans.{IsOf, Spans}
 use Rattle.opgen_ports.proofs.Bounds.{products}
 use Rattle.opgen_ports.proofs.Magnitudes.{product_within, holds_within}
-use Rattle.opgen_ports.proofs.Reached.{product_span, neg-left, neg-both, IsWithinReach, neg-right, held-within, within-held, low_end, high_end, least_end, greatest_end, ceiling}
-use Rattle.opgen_ports.proofs.Widths.{count_some}
+use Rattle.opgen_ports.proofs.Reached.{product_span, neg-left, neg-both, IsWithinReach, neg-right, held-within, within-held, low_end, high_end, least_end, greatest_end, ceiling, lowered_units}
 
 pub neg-neg : (n k : ℕ) → neg_ℤ (pos n) *ℤ neg_ℤ (pos k) ≡ pos (n * k)
 neg-neg n zero = neg-left n 0 ∙ omega (arith, ints)
 neg-neg n (suc k) = neg-both n k ∙ ap (λ j. pos (n * j)) (omega arith)
+
+-- the ends of a range are in it
+lower_end : (below above : ℕ) → IsWithinReach below above (neg_ℤ (pos below))
+lower_end below above = (omega (arith, ints), omega (arith, ints))
+
+upper_end : (below above : ℕ) → IsWithinReach below above (pos above)
+upper_end below above = (omega (arith, ints), omega (arith, ints))
 
 -- the numbers whose product is the least, and the greatest
 module _ (below above under over : ℕ) where
   abbrev IsProductOf : ℤ → Type 0
   IsProductOf n = (x : ℤ × ℤ) × (IsWithinReach below above x.0 × IsWithinReach under over x.1) × (x.0 *ℤ x.1 ≡ n)
 
-  bottom : IsWithinReach below above (neg_ℤ (pos below))
-  bottom = (omega (arith, ints), omega (arith, ints))
-
-  top : IsWithinReach below above (pos above)
-  top = (omega (arith, ints), omega (arith, ints))
-
-  left_end : IsWithinReach under over (neg_ℤ (pos under))
-  left_end = (omega (arith, ints), omega (arith, ints))
-
-  right_end : IsWithinReach under over (pos over)
-  right_end = (omega (arith, ints), omega (arith, ints))
-
   pub product_lowest : IsProductOf (neg_ℤ (pos (max (below * over) (above * under))))
   product_lowest =
       ⊎_elim
       (λ (lt : below * over < above * under).
       let most : max (below * over) (above * under) ≡ above * under = omega arith in
-      ((pos above, neg_ℤ (pos under)), (top, left_end), neg-right above under ∙ ap (λ n. neg_ℤ (pos n)) (sym most)))
+      ((pos above, neg_ℤ (pos under)), (upper_end below above, lower_end under over), neg-right above under ∙ ap (λ n. neg_ℤ (pos n)) (sym most)))
       (λ (ge : above * under ≤ below * over).
       let most : max (below * over) (above * under) ≡ below * over = omega arith in
-      ((neg_ℤ (pos below), pos over), (bottom, right_end), neg-left below over ∙ ap (λ n. neg_ℤ (pos n)) (sym most)))
+      ((neg_ℤ (pos below), pos over), (lower_end below above, upper_end under over), neg-left below over ∙ ap (λ n. neg_ℤ (pos n)) (sym most)))
       (cases_lt (below * over) (above * under))
 
   pub product_highest : IsProductOf (pos (max (above * over) (below * under)))
@@ -55,10 +49,10 @@ module _ (below above under over : ℕ) where
       ⊎_elim
       (λ (lt : above * over < below * under).
       let most : max (above * over) (below * under) ≡ below * under = omega arith in
-      ((neg_ℤ (pos below), neg_ℤ (pos under)), (bottom, left_end), neg-neg below under ∙ ap pos (sym most)))
+      ((neg_ℤ (pos below), neg_ℤ (pos under)), (lower_end below above, lower_end under over), neg-neg below under ∙ ap pos (sym most)))
       (λ (ge : below * under ≤ above * over).
       let most : max (above * over) (below * under) ≡ above * over = omega arith in
-      ((pos above, pos over), (top, right_end), ap pos (sym most)))
+      ((pos above, pos over), (upper_end below above, upper_end under over), ap pos (sym most)))
       (cases_lt (above * over) (below * under))
 
 unit : (n : ℕ) → 1 * n ≡ n
@@ -103,10 +97,10 @@ shifted-count n s some =
 
 -- the width of a range that goes at least as far above 0 as below
 upper-width : (below above : ℕ) → 1 ≤ above → below ≤ above → range_width (neg_ℤ (pos below)) (pos above) ≡ digit_count above + min 1 below
-upper-width zero above some far = omega (arith, count_some above some)
+upper-width zero above some far = omega (arith, digits-some above some)
 upper-width (suc b) above some far =
     let most : max b above ≡ above = omega (arith, far) in
-    rw most (omega (arith, count_some above some))
+    rw most (omega (arith, digits-some above some))
 
 shifted-sign : (n s : ℕ) → min 1 (n * 2 ^ s) ≡ min 1 n
 shifted-sign zero s = omega arith
@@ -197,22 +191,6 @@ raised-units : (n k : ℕ) → in_units n (pos k) (pos 1) ≡ n * 2 ^ k
 raised-units n k =
     let (low, high) = ceiling (n * 2 ^ k) 1 (omega arith) in
     omega (arith, low, high)
-
--- and one that is not
-lowered_units : (n : ℕ) (s : ℤ) → s ≤ℤ pos 0 → in_units n s (pos 1) ≤ n
-lowered_units n (pos zero) h = omega (arith, raised-units n 0)
-lowered_units n (pos (suc k)) h = absurd (omega (arith, ints))
-lowered_units n (negsuc k) h =
-    let d = 1 * 2 ^ (k + 1) in
-    let (_, high) = ceiling (n * 1) d (omega (arith, pow_pos (k + 1))) in
-    let c = div_ceil (n * 1) d in
-    below n c d (omega (arith, pow_pos (k + 1))) (omega (arith, high))
-  where
-    below : (n c d : ℕ) → 1 ≤ d → d * c < n + d → c ≤ n
-    below n zero d some h = omega arith
-    below n (suc c) d some h =
-        let one : 1 * c ≤ d * c = mul-le-mul_right c some in
-        omega (arith, h, one)
 
 units-sign : (n : ℕ) (s : ℤ) → nat_lt 0 (in_units n s (pos 1)) ≡ nat_lt 0 n
 units-sign n s =

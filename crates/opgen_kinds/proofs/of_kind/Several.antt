@@ -30,7 +30,7 @@ use Rattle.opgen_kinds.proofs.PortWidths.{input_room}
 use Rattle.opgen_ports.proofs.Reached.{held-within, sum_within}
 use Rattle.opgen_ports.proofs.Widths.{width_by, reach_within, some_width}
 
-length-numbered : (n : ℕ) (fs : List Format) → length (numbered n fs) ≡ length fs
+pub length-numbered : (n : ℕ) (fs : List Format) → length (numbered n fs) ≡ length fs
 length-numbered n [] = refl
 length-numbered n (f ∷ fs) = ap suc (length-numbered (n + 1) fs)
 

@@ -3,7 +3,7 @@ use Rattle.std.proofs.Common.{◌-◌, ◌≤◌, arith, ℕ, ◌*◌, Bool, tru
 use Rattle.std.proofs.lemmas.Int.{ints}
 use Rattle.std.proofs.Math.Nat.{mul-le-mul_left}
 use Rattle.std.specs.Prelude.{ℤ, pos, unsigned_abs, All}
-use Rattle.opgen_num.proofs.RangeWidth.{count-least, count-holds}
+use Rattle.opgen_num.proofs.RangeWidth.{count-least, count-holds, digits-some}
 use Rattle.opgen_num.specs.Rounding.{IsQuotient}
 use Rattle.opgen_kinds.specs.declared.small_div.SmallDiv.{SmallDiv}
 use Rattle.opgen_ports.specs.Ports.{HasWidth}
@@ -18,11 +18,10 @@ use Rattle.opgen_ports.proofs.Lawful.{IsLawful}
 use Rattle.opgen_ports.proofs.Magnitudes.{number_small}
 use Rattle.opgen_kinds.proofs.PortWidths.{wider}
 use Rattle.opgen_ports.proofs.Versions.{signal_limit}
-use Rattle.opgen_ports.proofs.Widths.{count_some}
 
 pub small_rest_width : (c : SmallDiv) → IsSmallDiv c → (1 ≤ (small_rest_format c).width) × ((small_rest_format c).width ≤ 5)
 small_rest_width c fits = (
-  count_some (c.divisor - 1) (omega (arith, fits.least)),
+  digits-some (c.divisor - 1) (omega (arith, fits.least)),
   count-least (c.divisor - 1) 5 (omega (arith, fits.most)),
 )
 

@@ -57,6 +57,7 @@ single_sum s is = record {
   coefs = is.coefs;
   positive = is.positive;
   small = is.small;
+  built = is.built;
 }
 
 one_more : (version : ℕ) (s : Sum) → IsAcceptedIn version (sum_meaning s) (scale_acceptance s)

@@ -3,14 +3,13 @@ use Rattle.std.proofs.Common.{◌^◌, arith, ◌≡◌, ◌+◌, ℕ, zero, suc
 use Rattle.std.proofs.lemmas.Int.{ints}
 use Rattle.std.proofs.lemmas.Nat.{pow-add, pow_pos}
 use Rattle.std.proofs.Math.Nat.{mul-le-mul_left, mul-le-mul_right}
-use Rattle.std.specs.Int.{div_ceil}
 use Rattle.std.specs.List.{position_from}
 use Rattle.std.specs.Prelude.{All, ℤ, pos, negsuc, unsigned_abs, ◌≤ℤ◌, ◌*ℤ◌}
 use Rattle.opgen_num.specs.declared.format.Ratio.{Ratio}
 use Rattle.opgen_num.specs.declared.mode.Mode.{Mode}
 use Rattle.opgen_kinds.specs.declared.taps.Taps.{Taps}
 use Rattle.opgen_kinds.specs.Sum.{IsSum, HasSumRoom, sum_shift, sum_places, first_inexact_of, first_inexact}
-use Rattle.opgen_ports.specs.Reaches.{is_whole_at, up, down, above_zero, below_zero, rises, falls, reach_of, reach_over, in_units, in_places}
+use Rattle.opgen_ports.specs.Reaches.{is_whole_at, up, down, rises, falls, reach_of, reach_over, in_units, in_places}
 use Rattle.opgen_kinds.specs.Taps.{IsTaps, IsAcceptedTaps, TapsHaveRoom, direct, taps_format, exact_taps, taps_meaning, taps_acceptance}
 use Rattle.opgen_ports.specs.declared.reach.Reach.{Reach}
 use Rattle.opgen_ports.specs.Good.{IsGoodRatio}
@@ -19,7 +18,7 @@ use Rattle.opgen_ports.specs.Ports.{HasWidth, covering, Recent, weighted}
 use Rattle.opgen_ports.specs.Ranges.{IsWithin}
 use Rattle.opgen_ports.proofs.Bounds.{few_up}
 use Rattle.opgen_ports.proofs.InputPorts.{all_one, only_within, input_bit, HasBit}
-use Rattle.opgen_ports.proofs.Reached.{rises-cons, falls-cons, ceiling}
+use Rattle.opgen_ports.proofs.Reached.{rises-cons, falls-cons, ceiling, abs-parts, lowered_units}
 use Rattle.opgen_ports.proofs.Widths.{reach_within, width_by, some_width}
 use Rattle.opgen_ports.proofs.Lawful.{IsLawful}
 use Rattle.opgen_kinds.proofs.PortWidths.{input_room}
@@ -39,23 +38,19 @@ direct_sum f fits = record {
   coefs = wide_taps f fits;
   positive = omega (arith, ints);
   small = omega (arith, ints);
+  built = (tt, refl, refl);
 }
 
 -- that is not shifted up
 pub taps_room : (f : Taps) → IsTaps f → sum_shift (direct f) ≤ℤ pos 0 → HasSumRoom (direct f)
 taps_room f fits high = omega (arith, few_up 0 (sum_shift (direct f)) high, fits.input.most)
 
--- how far whole taps go
-signs_within : (t : ℤ) → above_zero t + below_zero t ≡ unsigned_abs t
-signs_within (pos n) = omega arith
-signs_within (negsuc n) = omega arith
-
 taps_within : (most : ℕ) (ts : List ℤ) → All (IsWithin most) ts → rises ts + falls ts ≤ length ts * most
 taps_within most [] few = omega arith
 taps_within most (t ∷ ts) few =
     let first : unsigned_abs t ≤ most = few zero t (omega arith) in
     let rest = taps_within most ts (λ k d h. few (suc k) d (omega arith)) in
-    omega (arith, rises-cons t ts, falls-cons t ts, signs_within t, first, rest)
+    omega (arith, rises-cons t ts, falls-cons t ts, abs-parts t, first, rest)
 
 weighed : (r f below above w : ℕ) → r + f ≤ 268435200 → below ≤ 2 ^ w → above ≤ 2 ^ w → r * below + f * above < 2 ^ (w + 28)
 weighed r f below above w few low high =
@@ -75,24 +70,6 @@ taps_reach f fits =
       weighed (rises f.taps) (falls f.taps) (reach_of f.input).above (reach_of f.input).below w (omega (arith, few, total)) above below,
     )
 
--- a number that is not shifted up is no greater in units of the output's last place
-lowered : (n : ℕ) (s : ℤ) → s ≤ℤ pos 0 → in_units n s (pos 1) ≤ n
-lowered n (pos zero) high =
-    let (_, close) = ceiling (n * 1) 1 (omega arith) in
-    omega (arith, close)
-lowered n (pos (suc k)) high = absurd (omega (arith, ints))
-lowered n (negsuc k) high =
-    let d = 1 * 2 ^ (k + 1) in
-    let (_, close) = ceiling (n * 1) d (omega (arith, pow_pos (k + 1))) in
-    below (div_ceil (n * 1) d) d (omega (arith, pow_pos (k + 1))) (omega (arith, close))
-  where
-    below : (c d : ℕ) → 1 ≤ d → d * c < n + d → c ≤ n
-    below zero d some close = omega arith
-    below (suc c) zero some close = absurd (omega (arith, some))
-    below (suc c) (suc d) some close =
-        let least : 1 * c ≤ suc d * c = mul-le-mul_right c (omega arith) in
-        omega (arith, close, least)
-
 pub taps_width : (f : Taps) → IsTaps f → sum_shift (direct f) ≤ℤ pos 0 → (taps_format f).width ≤ f.input.width + 29
 taps_width f fits high =
     let s = sum_shift (direct f) in
@@ -102,7 +79,7 @@ taps_width f fits high =
     omega (
       arith,
       width_by (in_units reach.below s (pos 1)) (in_units reach.above s (pos 1)) (w + 28) (omega arith)
-          (omega (arith, below, lowered reach.below s high)) (omega (arith, above, lowered reach.above s high)),
+          (omega (arith, below, lowered_units reach.below s high)) (omega (arith, above, lowered_units reach.above s high)),
     )
 
 pub taps_have_room : TapsHaveRoom

@@ -1,11 +1,11 @@
 -- Quotients of a document without a fault.
-use Rattle.std.proofs.Common.{sym, ◌≡◌, true, false, Some, refl, ap}
+use Rattle.std.proofs.Common.{◌∙◌, sym, ◌≡◌, true, false, Some, refl, ap}
 use Rattle.opgen_operator.specs.declared.kind.Kind.TheVariants as kind
 use Rattle.opgen_ports.proofs.Marks.{is_exact-of}
 use Rattle.opgen_ports.proofs.InputPorts.{all_two}
 use Rattle.toml.specs.Data.{Members}
 use Rattle.opgen_document.specs.declared.key.Key.TheVariants as key
-use Rattle.opgen_spec.specs.kinds.{kind_of, entry}
+use Rattle.opgen_entries.specs.kinds.{kind_of, entry}
 use Rattle.opgen_spec.proofs.sound.Sound.{IsFew, IsSound, none_given}
 use Rattle.opgen_document.specs.declared.key.Version.{Version}
 use Rattle.opgen_document.specs.declared.key.Version.TheVariants.{First, Second, Third, Fourth}
@@ -58,6 +58,7 @@ divide = record {
     a_lsb = near_in ms key.LsbA h.lsb_a;
     b_lsb = near_in ms key.LsbB h.lsb_b;
     out_lsb = near_in ms key.OutLsb h.out_lsb;
+    built = refl;
   };
   inputs = λ ms f e. all_two (IsFew ms) _ _ (width_few ms key.WidthA (keys ms f e).width_a) (width_few ms key.WidthB (keys ms f e).width_b);
   written = λ ms f e. let h = keys ms f e in record {
@@ -66,8 +67,8 @@ divide = record {
     b = input_written ms key.WidthB key.LsbB h.width_b h.width_b.typed (near_written ms key.LsbB h.lsb_b h.lsb_b.typed);
     out_lsb = near_written ms key.OutLsb h.out_lsb h.out_lsb.typed;
   };
-  agrees = λ ms. sym (is_exact-of (flag_at ms key.Exact));
-  marked = λ ms asked. asked;
+  agrees = λ ms. refl;
+  marked = λ ms asked. sym (is_exact-of (flag_at ms key.Exact)) ∙ asked;
   has = λ ms f e below. no_sign ms f e (early ms f below);
   names = λ ms f e. none_given (text_at ms key.Name);
   chosen = λ version closed may. absurd (not_chosen version closed may);

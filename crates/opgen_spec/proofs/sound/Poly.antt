@@ -8,14 +8,15 @@ use Rattle.opgen_ports.specs.Ranges.{IsPower}
 use Rattle.opgen_ports.proofs.InputPorts.{all_one, some_bits}
 use Rattle.toml.specs.Data.{Members}
 use Rattle.opgen_document.specs.declared.key.Key.TheVariants as key
-use Rattle.opgen_spec.specs.kinds.{kind_of, entry}
+use Rattle.opgen_entries.specs.kinds.{kind_of, entry}
 use Rattle.opgen_spec.proofs.sound.Sound.{IsFew, IsSound, none_given, in_third}
 use Rattle.opgen_document.specs.Document.{value_at, text_at, number_at, flag_at, count_at, items_at, small}
 use Rattle.opgen_document.specs.Ranges.{outside, width_outside, coefficients_outside, denominator_outside}
-use Rattle.opgen_spec.specs.kinds.Poly.{poly_of}
+use Rattle.opgen_entries.specs.kinds.Poly.{poly_of}
 use Rattle.opgen_spec.proofs.Fine.{AreFine, IsFine, own, own_range, not_late}
 use Rattle.opgen_document.proofs.Ranges.{inside, small_same, denominator_in}
-use Rattle.opgen_spec.proofs.Ranges.{widest, width_in, array_in}
+use Rattle.opgen_entries.proofs.Arrays.{array_in}
+use Rattle.opgen_spec.proofs.Ranges.{widest, width_in}
 use Rattle.opgen_document.proofs.Values.{small_written}
 use Rattle.opgen_spec.proofs.Versions.{one_is_first}
 use Rattle.opgen_spec.proofs.Writing.{width_written, coefs_written}
@@ -79,6 +80,7 @@ poly_in ms h =
       coefs = array.each;
       positive = positive;
       small = small;
+      built = refl;
     }
 
 pub poly : IsSound kind.Poly

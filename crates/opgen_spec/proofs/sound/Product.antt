@@ -2,11 +2,12 @@
 use Rattle.std.proofs.Common.{◌≡◌, ◌⊎◌, Some, None, refl}
 use Rattle.opgen_operator.specs.declared.kind.Kind.TheVariants as kind
 use Rattle.opgen_ports.proofs.InputPorts.{all_two}
+use Rattle.opgen_ports.proofs.Marks.{of_bits}
 use Rattle.toml.specs.Data.{Members}
 use Rattle.opgen_document.specs.declared.key.Key.TheVariants as key
-use Rattle.opgen_spec.specs.kinds.{kind_of, entry}
+use Rattle.opgen_entries.specs.kinds.{kind_of, entry}
 use Rattle.opgen_spec.proofs.sound.Sound.{IsFew, IsSound, none_given, in_third}
-use Rattle.opgen_document.specs.Document.{value_at, text_at}
+use Rattle.opgen_document.specs.Document.{value_at, text_at, counters_at}
 use Rattle.opgen_document.specs.Ranges.{width_outside, power_outside}
 use Rattle.opgen_spec.proofs.Compressors.{IsTaken, compressor_cases, first_without, compressor_written}
 use Rattle.opgen_spec.proofs.Fine.{AreFine, IsFine, own}
@@ -44,6 +45,7 @@ multiply = record {
     b = input_in ms key.WidthB key.LsbB h.width_b (power_in ms key.LsbB h.lsb_b);
     alike = refl;
     out_lsb = power_in ms key.OutLsb h.out_lsb;
+    built = (refl, of_bits (counters_at ms), refl);
   };
   inputs = λ ms f e. all_two (IsFew ms) _ _ (width_few ms key.WidthA (keys ms f e).width_a) (width_few ms key.WidthB (keys ms f e).width_b);
   written = λ ms f e. let h = keys ms f e in record {

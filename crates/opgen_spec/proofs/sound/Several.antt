@@ -4,14 +4,15 @@ use Rattle.opgen_operator.specs.declared.kind.Kind.TheVariants as kind
 use Rattle.opgen_ports.proofs.InputPorts.{all_one}
 use Rattle.toml.specs.Data.{Members}
 use Rattle.opgen_document.specs.declared.key.Key.TheVariants as key
-use Rattle.opgen_spec.specs.kinds.{kind_of, entry}
+use Rattle.opgen_entries.specs.kinds.{kind_of, entry}
 use Rattle.opgen_spec.proofs.sound.Sound.{IsFew, IsSound, none_given}
 use Rattle.opgen_document.specs.Document.{value_at, text_at, items_at, is_searched}
 use Rattle.opgen_document.specs.Numbers.{numerators}
 use Rattle.opgen_document.specs.Ranges.{width_outside, power_outside, array_outside, constant_limit}
 use Rattle.opgen_document.proofs.Decimals.{integers_written, numbers_typed}
 use Rattle.opgen_spec.proofs.Fine.{AreFine, IsFine, own, own_there, needed}
-use Rattle.opgen_spec.proofs.Ranges.{widest, width_few, input_in, power_in, one_near, array_in}
+use Rattle.opgen_entries.proofs.Arrays.{array_in}
+use Rattle.opgen_spec.proofs.Ranges.{widest, width_few, input_in, power_in, one_near}
 use Rattle.opgen_spec.proofs.Searches.{IsExtra, extra_few, no_extra, search_written, early_search, in_limit, in_search}
 use Rattle.opgen_spec.proofs.Versions.{early}
 use Rattle.opgen_spec.proofs.Writing.{input_written, power_written, signed_written}
@@ -49,6 +50,7 @@ mcm = record {
         constants = in_limit searched constants array.each;
         searched = λ asked. record { constants = in_search searched constants asked array.each; extra = extra_few ms h.extra asked };
         rest = no_extra ms;
+        built = refl;
       };
   inputs = λ ms f e. all_one (IsFew ms) _ (width_few ms key.Width (keys ms f e).width);
   written = λ ms f e. let h = keys ms f e in record {

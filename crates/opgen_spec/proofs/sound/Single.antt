@@ -1,12 +1,12 @@
 -- Square roots of a document without a fault.
-use Rattle.std.proofs.Common.{sym, ◌≡◌, Some, refl}
+use Rattle.std.proofs.Common.{◌∙◌, sym, ◌≡◌, Some, refl}
 use Rattle.opgen_operator.specs.declared.kind.Kind.TheVariants as kind
 use Rattle.opgen_ports.proofs.Marks.{is_exact-of}
 use Rattle.opgen_ports.proofs.InputPorts.{all_one}
 use Rattle.toml.specs.Data.{Members}
 use Rattle.opgen_document.specs.declared.key.Key.TheVariants as key
 use Rattle.opgen_document.specs.Document.{text_at, flag_at}
-use Rattle.opgen_spec.specs.kinds.{kind_of, entry}
+use Rattle.opgen_entries.specs.kinds.{kind_of, entry}
 use Rattle.opgen_spec.proofs.sound.Sound.{IsFew, IsSound, none_given}
 use Rattle.opgen_document.specs.Ranges.{width_outside, near_outside}
 use Rattle.opgen_spec.proofs.Fine.{AreFine, IsFine, own}
@@ -42,8 +42,8 @@ root = record {
         (input_written ms key.Width key.Lsb h.width h.width.typed (near_written ms key.Lsb h.lsb h.lsb.typed));
     out_lsb = near_written ms key.OutLsb h.out_lsb h.out_lsb.typed;
   };
-  agrees = λ ms. sym (is_exact-of (flag_at ms key.Exact));
-  marked = λ ms asked. asked;
+  agrees = λ ms. refl;
+  marked = λ ms asked. sym (is_exact-of (flag_at ms key.Exact)) ∙ asked;
   has = λ ms f e. tt;
   names = λ ms f e. none_given (text_at ms key.Name);
   chosen = λ version closed may. cc;

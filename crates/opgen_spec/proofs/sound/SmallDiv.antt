@@ -1,12 +1,12 @@
 -- Quotients by a small constant of a document without a fault.
-use Rattle.std.proofs.Common.{sym, ◌≡◌, Some, refl, arith}
+use Rattle.std.proofs.Common.{◌∙◌, sym, ◌≡◌, Some, refl, arith}
 use Rattle.std.specs.Prelude.{pos}
 use Rattle.opgen_operator.specs.declared.kind.Kind.TheVariants as kind
 use Rattle.opgen_ports.proofs.Marks.{is_exact-of}
 use Rattle.opgen_ports.proofs.InputPorts.{all_one}
 use Rattle.toml.specs.Data.{Members}
 use Rattle.opgen_document.specs.declared.key.Key.TheVariants as key
-use Rattle.opgen_spec.specs.kinds.{kind_of, entry}
+use Rattle.opgen_entries.specs.kinds.{kind_of, entry}
 use Rattle.opgen_spec.proofs.sound.Sound.{IsFew, IsSound, none_given}
 use Rattle.opgen_document.specs.Document.{value_at, text_at, number_at, flag_at}
 use Rattle.opgen_document.specs.Ranges.{outside, width_outside, power_outside}
@@ -51,8 +51,8 @@ constdiv = record {
     divisor = count_written (value_at ms key.Divisor) 2 32 h.divisor.there h.divisor.typed
         (inside (pos 2) (pos 32) (number_at ms key.Divisor) h.divisor.within) (omega arith);
   };
-  agrees = λ ms. sym (is_exact-of (flag_at ms key.Exact));
-  marked = λ ms asked. asked;
+  agrees = λ ms. refl;
+  marked = λ ms asked. sym (is_exact-of (flag_at ms key.Exact)) ∙ asked;
   has = λ ms f e. (
     λ is. not_late ms kind.Constdiv f e refl (one_is_first ms f is),
     one_near ms key.Lsb f (keys ms f e).lsb,

@@ -13,22 +13,22 @@ use Rattle.opgen_operator.specs.declared.kind.Kind.TheVariants as kind
 use Rattle.opgen_terms.specs.Sop.{IsScaled, IsTimes, IsSop}
 use Rattle.opgen_ports.specs.declared.ports.PortFormat.{PortFormat}
 use Rattle.opgen_ports.specs.Limits.{most_input}
-use Rattle.opgen_ports.proofs.Marks.{is_exact-of}
+use Rattle.opgen_ports.proofs.Marks.{is_exact-of, exact_or_faithful, of_bits}
 use Rattle.opgen_ports.specs.Ranges.{IsInput, IsWithin}
 use Rattle.opgen_document.specs.declared.array.Array.TheVariants as array
 use Rattle.opgen_document.specs.declared.key.Key.{Key}
 use Rattle.opgen_document.specs.declared.key.Key.TheVariants as key
 use Rattle.opgen_document.specs.declared.key.Version.{Version}
 use Rattle.opgen_document.specs.declared.key.Version.TheVariants.{First, Second, Third, Fourth}
-use Rattle.opgen_document.specs.Document.{value_at, number_in, number_at, text_at, flag_at, items_at, list_of, is_empty, in_tables, IsNumberAsWritten, version_of}
+use Rattle.opgen_document.specs.Document.{value_at, number_in, number_at, text_at, flag_at, counters_at, items_at, list_of, is_empty, in_tables, IsNumberAsWritten, version_of}
 use Rattle.opgen_document.specs.Keys.{line_keys}
 use Rattle.opgen_document.specs.Numbers.{are_texts, given_denominator}
 use Rattle.opgen_document.specs.Ranges.{length_outside, power_outside, numerator_outside, denominator_outside}
 use Rattle.opgen_document.specs.Types.{is_wrong}
 use Rattle.opgen_document.proofs.Ranges.{inside, zero_inside, given_in}
 use Rattle.opgen_document.proofs.Values.{IsNumber, number_stands, text_stands}
-use Rattle.opgen_spec.specs.kinds.{early_kinds, kind_named, kind_of, entry}
-use Rattle.opgen_spec.specs.kinds.Sop.{most_inputs, most_products, has_no_terms, scaled_outside, input_of, scaled_of, times_of, sop_of, factor_outside, IsInputAsWritten, IsScaledAsWritten, IsTimesAsWritten}
+use Rattle.opgen_entries.specs.kinds.{early_kinds, kind_named, kind_of, entry}
+use Rattle.opgen_entries.specs.kinds.Sop.{most_inputs, most_products, has_no_terms, scaled_outside, input_of, scaled_of, times_of, sop_of, factor_outside, IsInputAsWritten, IsScaledAsWritten, IsTimesAsWritten}
 use Rattle.opgen_spec.specs.Faults.{kind_outside}
 use Rattle.opgen_spec.proofs.ArrayLines.{IsFineLine, IsAmong, line_fine, line_typed, all_fine, lines_written, lines_in, read_length, few_items}
 use Rattle.opgen_spec.proofs.Compressors.{IsTaken, compressor_cases, compressor_written}
@@ -218,6 +218,7 @@ module _ (ms : Members) (h : HasSop ms) where
           positive = positive;
           small = small;
         };
+        built = (exact_or_faithful (flag_at ms key.Exact), of_bits (counters_at ms), refl);
       }
 
 -- numbers that may be left out
@@ -261,8 +262,8 @@ sop = record {
     out_lsb = power_written ms key.OutLsb h.out_lsb h.out_lsb.typed;
     compressor = compressor_written ms h.compressor;
   };
-  agrees = λ ms. sym (is_exact-of (flag_at ms key.Exact));
-  marked = λ ms asked. asked;
+  agrees = λ ms. refl;
+  marked = λ ms asked. sym (is_exact-of (flag_at ms key.Exact)) ∙ asked;
   has = λ ms f e. let three = third_is_three ms f (third ms f e) in omega (arith, three);
   names = λ ms f e. input_names ms f;
   chosen = λ version closed may. record { third = in_third version closed may; value = λ ms. refl; range = λ ms. refl };

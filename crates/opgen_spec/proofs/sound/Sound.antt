@@ -5,7 +5,7 @@ use Rattle.toml.specs.Data.{Members}
 use Rattle.opgen_operator.specs.declared.kind.Kind.{Kind}
 use Rattle.opgen_ports.specs.Modes.{mode_of_exact}
 use Rattle.opgen_ports.specs.declared.ports.PortFormat.{PortFormat}
-use Rattle.opgen_operator.specs.Operator.{HasInputsWithin, given_names, marks_exact, has_value, IsOperator, IsInVersion}
+use Rattle.opgen_operator.specs.Operator.{HasInputsWithin, given_names, marks_exact, may_be_cut, IsOperator, IsInVersion}
 use Rattle.opgen_operator.specs.Operator as operators
 use Rattle.opgen_operator.specs.GivenNames.{AreGivenNames}
 use Rattle.opgen_operator.specs.Valid.{AgreesOnExact}
@@ -16,7 +16,7 @@ use Rattle.opgen_document.specs.declared.key.Version.TheVariants.{First, Second,
 use Rattle.opgen_document.specs.Document.{text_at, flag_at, count_at, since_third}
 use Rattle.opgen_document.specs.Keys.{may_be}
 use Rattle.opgen_document.specs.Ranges.{out_width_outside}
-use Rattle.opgen_spec.specs.kinds.{kind_of, entry, IsOperatorAsWritten}
+use Rattle.opgen_entries.specs.kinds.{kind_of, entry, IsOperatorAsWritten}
 use Rattle.opgen_spec.proofs.Fine.{AreFine}
 use Rattle.opgen_spec.proofs.Ranges.{widest}
 
@@ -27,7 +27,7 @@ IsFew ms p = p.format.width ≤ widest ms
 -- a kind whose output may have a chosen width in a version
 pub record IsChosen (one : Kind) (version : Version) : Type 0 where
   pub third : version ≡ Third
-  pub value : (ms : Members) → has_value ((entry one).make ms) ≡ true
+  pub value : (ms : Members) → may_be_cut ((entry one).make ms) ≡ true
   pub range : (ms : Members) → (entry one).key_outside ms key.OutWidth ≡ out_width_outside ms
 
 -- the fourth version is closed

@@ -1,21 +1,23 @@
 -- Scales and filters of a document without a fault.
-use Rattle.std.proofs.Common.{sym, ◌≡◌, ℕ, ◌⊎◌, false, [], ◌∷◌, Some, None, option_and_then, refl}
+use Rattle.std.proofs.Common.{◌∙◌, sym, ◌≡◌, ℕ, ◌⊎◌, false, [], ◌∷◌, Some, None, option_and_then, refl}
 use Rattle.opgen_operator.specs.declared.kind.Kind.TheVariants as kind
 use Rattle.opgen_kinds.specs.Sum.{IsSum}
 use Rattle.opgen_ports.proofs.InputPorts.{all_one}
 use Rattle.toml.specs.Data.{Members}
 use Rattle.opgen_document.specs.declared.key.Key.TheVariants as key
-use Rattle.opgen_spec.specs.kinds.{kind_of, entry}
+use Rattle.opgen_entries.specs.kinds.{kind_of, entry}
 use Rattle.opgen_spec.proofs.sound.Sound.{IsFew, IsSound, none_given, in_third}
 use Rattle.opgen_document.specs.Document.{value_at, text_at, items_at, flag_at, count_at, small_at, counters_at}
 use Rattle.opgen_document.specs.Ranges.{width_outside, power_outside, coefficients_outside, denominator_outside}
-use Rattle.opgen_ports.proofs.Marks.{is_exact-of}
+use Rattle.opgen_ports.proofs.Marks.{is_exact-of, exact_or_faithful, of_bits}
+use Rattle.opgen_ports.specs.Recipes.{compressor_of, has_counters}
 use Rattle.opgen_ports.specs.Ranges.{AreNear}
-use Rattle.opgen_spec.specs.kinds.Sum.{sum_of, IsSumAsWritten}
+use Rattle.opgen_entries.specs.kinds.Sum.{sum_of, IsSumAsWritten}
 use Rattle.opgen_spec.proofs.Compressors.{IsTaken, compressor_cases, first_without, compressor_written}
 use Rattle.opgen_spec.proofs.Fine.{AreFine, IsFine, own, own_range}
 use Rattle.opgen_document.proofs.Ranges.{denominator_in}
-use Rattle.opgen_spec.proofs.Ranges.{widest, width_few, input_in, power_in, two_near, array_in}
+use Rattle.opgen_entries.proofs.Arrays.{array_in}
+use Rattle.opgen_spec.proofs.Ranges.{widest, width_few, input_in, power_in, two_near}
 use Rattle.opgen_spec.proofs.Versions.{one_is_first}
 use Rattle.opgen_spec.proofs.Writing.{input_written, power_written, signed_written, coefs_written}
 
@@ -42,6 +44,7 @@ sum_in most ms h =
       coefs = array.each;
       positive = positive;
       small = small;
+      built = (exact_or_faithful (flag_at ms key.Exact), of_bits (counters_at ms), refl);
     }
 
 sum_written : (most : ℕ) (ms : Members) → HasSum most ms → IsSumAsWritten ms (sum_of ms)
@@ -54,7 +57,7 @@ sum_written most ms h = record {
 }
 
 -- version 1 has no larger counters, and the first two versions have lowest bits from -32 to 32
-sum_has : (most : ℕ) (ms : Members) → HasSum most ms → (count_at ms key.Version ≡ 1 → counters_at ms ≡ false)
+sum_has : (most : ℕ) (ms : Members) → HasSum most ms → (count_at ms key.Version ≡ 1 → has_counters (compressor_of (counters_at ms)) ≡ false)
     × AreNear (count_at ms key.Version) (small_at ms key.Lsb ∷ small_at ms key.OutLsb ∷ [])
 sum_has most ms h = (
   λ is. first_without ms h.compressor (one_is_first ms h.fine is),
@@ -94,8 +97,8 @@ scale = record {
   ranges = λ ms f e. sum_in 1 ms (scale_keys ms f e);
   inputs = λ ms f e. all_one (IsFew ms) _ (width_few ms key.Width (scale_keys ms f e).width);
   written = λ ms f e. sum_written 1 ms (scale_keys ms f e);
-  agrees = λ ms. sym (is_exact-of (flag_at ms key.Exact));
-  marked = λ ms asked. asked;
+  agrees = λ ms. refl;
+  marked = λ ms asked. sym (is_exact-of (flag_at ms key.Exact)) ∙ asked;
   has = λ ms f e. sum_has 1 ms (scale_keys ms f e);
   names = λ ms f e. none_given (text_at ms key.Name);
   chosen = λ version closed may. record { third = in_third version closed may; value = λ ms. refl; range = λ ms. refl };
@@ -108,8 +111,8 @@ fir = record {
   ranges = λ ms f e. sum_in 256 ms (fir_keys ms f e);
   inputs = λ ms f e. all_one (IsFew ms) _ (width_few ms key.Width (fir_keys ms f e).width);
   written = λ ms f e. sum_written 256 ms (fir_keys ms f e);
-  agrees = λ ms. sym (is_exact-of (flag_at ms key.Exact));
-  marked = λ ms asked. asked;
+  agrees = λ ms. refl;
+  marked = λ ms asked. sym (is_exact-of (flag_at ms key.Exact)) ∙ asked;
   has = λ ms f e. sum_has 256 ms (fir_keys ms f e);
   names = λ ms f e. none_given (text_at ms key.Name);
   chosen = λ version closed may. record { third = in_third version closed may; value = λ ms. refl; range = λ ms. refl };

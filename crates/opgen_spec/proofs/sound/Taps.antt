@@ -9,18 +9,18 @@ use Rattle.opgen_ports.specs.Ranges.{IsPower, IsWithin}
 use Rattle.opgen_ports.proofs.InputPorts.{all_one}
 use Rattle.toml.specs.Data.{Data, integer, Items, Members}
 use Rattle.opgen_document.specs.declared.key.Key.TheVariants as key
-use Rattle.opgen_spec.specs.kinds.{kind_of, entry}
+use Rattle.opgen_entries.specs.kinds.{kind_of, entry}
 use Rattle.opgen_spec.proofs.sound.Sound.{IsFew, IsSound, none_given, in_third}
 use Rattle.opgen_document.specs.Document.{value_at, text_at, items_at, small_at, version_of, is_searched}
 use Rattle.opgen_document.specs.Numbers.{numerators}
 use Rattle.opgen_document.specs.Ranges.{width_outside, power_outside, array_outside, constant_limit}
-use Rattle.opgen_spec.specs.kinds.Taps.{parts_outside, taps_outside, out_lsb_of}
+use Rattle.opgen_entries.specs.kinds.Taps.{parts_outside, taps_outside, out_lsb_of}
 use Rattle.opgen_document.proofs.Decimals.{integers_written, numbers_typed}
 use Rattle.opgen_spec.proofs.Fine.{AreFine, IsFine, own, own_there, needed, not_late}
 use Rattle.opgen_spec.proofs.Known.{not_there, out_lsb_key}
 use Rattle.opgen_document.proofs.Ranges.{inside}
-use Rattle.opgen_spec.proofs.Ranges.{widest, width_few, input_in, power_in, one_near, array_in, within_more}
-use Rattle.opgen_spec.proofs.Reading.{or_none}
+use Rattle.opgen_spec.proofs.Ranges.{widest, width_few, input_in, power_in, one_near, within_more}
+use Rattle.opgen_entries.proofs.Arrays.{or_none, array_in}
 use Rattle.opgen_spec.proofs.Searches.{IsExtra, extra_few, no_extra, search_written, early_search}
 use Rattle.opgen_spec.proofs.Versions.{IsEarly, early, one_is_first, not_in_early}
 use Rattle.opgen_spec.proofs.Writing.{input_written, power_written, signed_written}
@@ -124,6 +124,7 @@ tfir = record {
           extra = extra_few ms h.extra asked;
         };
         rest = no_extra ms;
+        built = (refl, refl);
       };
   inputs = λ ms f e. all_one (IsFew ms) _ (width_few ms key.Width (keys ms f e).width);
   written = λ ms f e. let h = keys ms f e in record {

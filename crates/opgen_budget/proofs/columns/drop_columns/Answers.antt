@@ -1,7 +1,8 @@
 use Rattle.std.proofs.Common.{◌≡◌, ℕ, suc, ◌+◌, ◌-◌, ◌*◌, ◌%◌, ◌^◌, ◌≤◌, ap, ◌∙◌, arith}
 use Rattle.std.proofs.Math.Nat.{mul-le-mul, two-pow-succ, mul-le-mul_right}
+use Rattle.opgen_num.proofs.BitLength.{power_order}
 use Rattle.opgen_budget.specs.Columns.{bits_in_column, weight_below}
-use Rattle.opgen_budget.proofs.Weights.{weight_below-suc, weight_below-zero, cut_is_greatest, power_order, few_columns}
+use Rattle.opgen_budget.proofs.Weights.{weight_below-suc, weight_below-zero, cut_is_greatest, few_columns}
 use Rattle.opgen_budget.proofs.columns.drop_columns.Goals as goal
 
 half : (p : ℕ) → p ≤ 64 → 1 * 2 ^ (p - 1) % 340282366920938463463374607431768211456 ≡ 2 ^ (p - 1)

@@ -112,7 +112,7 @@ returns-clause-grown c =
     let later : Later net one = word-later net one (row 0 columns) grown c.word.ensures.valid in
     let grown_2 = c.in_ok-b.ensures.ok ∙ ap (λ (b : List WordBit). record one { nodes = (with_word one.nodes b).nodes }) bits_2 in
     let after : Later one two_words = word-later one two_words (row 1 columns) grown_2 c.word-2.ensures.valid in
-    let last = grown-more two_words (Cells Add c.args.width (plain c.in_ok-sum_of.field-0) ∷ []) in
+    let last = grown-more two_words (Cells Add c.args.width (plain c.in_ok-sum_of.field-0) ∷ []) refl in
     grown-then net two_words c.cells.new.self (grown-then net one two_words later.grown after.grown)
     (subst (HasGrown two_words) (sym c.in_ok-sum.ensures.ok) last)
 

@@ -2,16 +2,13 @@ use Rattle.std.proofs.Common.{◌≡◌, ◌≢◌, ◌↔◌, ◌<◌, Bool, Is
 use Rattle.std.specs.List.{AllPairs}
 use Rattle.std.proofs.lemmas.List.{get_or-map, length-map, take_all}
 use Rattle.std.proofs.lemmas.Option.{slice_get_within, slice_get-get_or, get_or_from_slice_get}
-use Rattle.opgen_num.specs.Words.{nat, word}
-use Rattle.opgen_num.proofs.Words.{word-nat}
+use Rattle.opgen_num.specs.Words.{nat}
+use Rattle.opgen_num.proofs.Words.{same-word}
 use Rattle.opgen_design.specs.Rules.{DifferentAddresses}
 use Rattle.opgen_design.proofs.rules.addresses_differ.Goals as goal
 
 abbrev Row : Type 0
 Row = List Bool × List Bool
-
-same-word : (a b : List Bool) → length a ≡ length b → nat a ≡ nat b → a ≡ b
-same-word a b l n = sym (word-nat a) ∙ ap (λ w. word w (nat a)) l ∙ ap (word (length b)) n ∙ word-nat b
 
 module _ (rows : List Row) (lengths : AllPairs (λ r q. length r.0 ≡ length q.0) rows) where
   pairs-differ : AllPairs (λ x y. x ≢ y) (map (λ r. nat r.0) rows) → DifferentAddresses rows

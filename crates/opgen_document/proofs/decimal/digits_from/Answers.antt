@@ -1,5 +1,6 @@
 use Rattle.std.proofs.Common.{arith}
-use Rattle.opgen_document.proofs.Digits.{digit_at, read_more, small}
+use Rattle.opgen_num.proofs.DecimalDigits.{digit_at}
+use Rattle.opgen_document.proofs.Digits.{read_more, small}
 use Rattle.opgen_document.proofs.decimal.digits_from.Goals as goal
 
 pub overflow_mul-number : goal.overflow_mul-number

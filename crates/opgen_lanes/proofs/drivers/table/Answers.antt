@@ -1,14 +1,15 @@
 use Rattle.std.proofs.Common.{◌≡◌, length, drop, sym, ap, ◌∙◌, arith}
 use Rattle.std.proofs.lemmas.List.{length-take-le, take_at}
+use Rattle.std.proofs.lemmas.Option.{same_Some}
 use Rattle.opgen_streams.specs.Streams.{word_in}
 use Rattle.opgen_design.specs.Plain.{plain}
 use Rattle.opgen_runs.specs.Evaluate.{table_word}
 use Rattle.opgen_lanes.specs.Banks.{widths_of}
-use Rattle.opgen_lanes.proofs.Fits.{narrow-of, same-width}
+use Rattle.opgen_lanes.proofs.Fits.{narrow-of}
 use Rattle.opgen_lanes.proofs.drivers.table.Goals as goal
 
 pub look_up-requires-clause-addresses : goal.look_up-requires-clause-addresses
-look_up-requires-clause-addresses c = λ k d l. same-width (sym (c.requires.addresses k d l) ∙ c.lend-address.ensures.width)
+look_up-requires-clause-addresses c = λ k d l. same_Some _ _ (sym (c.requires.addresses k d l) ∙ c.lend-address.ensures.width)
 
 pub look_up-requires-clause-narrow_address : goal.look_up-requires-clause-narrow_address
 look_up-requires-clause-narrow_address c = narrow-of (widths_of c.args.banks.now.signals) (widths_of c.args.banks.now.ports) (plain c.args.on.now)

@@ -1,17 +1,17 @@
 use Rattle.std.proofs.Common.{◌≡◌, ◌<◌, ◌+◌, ◌-◌, ℕ, List, length, map, take, drop, get_or, not, Some, sym, ap, ◌∙◌, subst, arith}
 use Rattle.std.specs.Prelude.{IsSome}
 use Rattle.std.proofs.lemmas.List.{length-map, length-take-le, take_at}
+use Rattle.std.proofs.lemmas.Option.{same_Some}
 use Rattle.opgen_design.specs.declared.expr.Expr.{Expr}
 use Rattle.opgen_design.specs.declared.expr.Op.{Op}
 use Rattle.opgen_design.specs.Plain.{plain, plain_all}
 use Rattle.opgen_design.specs.Run.{scope}
 use Rattle.opgen_design.specs.Value.{value, chain_value, value_on, combined, IsWidth, joined, width, width_on, chain_width}
-use Rattle.opgen_design.proofs.WidthLaws.{width-is_width}
+use Rattle.opgen_design.proofs.WidthLaws.{joined-is_width, width-is_width, some_width}
 use Rattle.opgen_streams.specs.Streams.{word_in}
-use Rattle.opgen_runs.proofs.Fitting.{some-of}
 use Rattle.opgen_runs.proofs.Plain.{plain-name, plain-part, plain-port, plain-not, plain-bits, more-at, first-and-rest}
 use Rattle.opgen_lanes.specs.Banks.{stream_words, widths_of}
-use Rattle.opgen_lanes.proofs.Fits.{name-read, port-read, part-read, bits-narrow, narrow-of, Next, chain-start, chain-next, both-is_width, same-width, within}
+use Rattle.opgen_lanes.proofs.Fits.{name-read, port-read, part-read, bits-narrow, narrow-of, Next, chain-start, chain-next, within}
 use Rattle.opgen_lanes.proofs.evaluate.+evaluate.Goals as goal
 
 pub evaluate-word-requires-clause-at : goal.evaluate-word-requires-clause-at
@@ -144,7 +144,7 @@ evaluate_chain-loop-operand-preserved t c =
     let ts = plain_all (drop (i + 1) xs) in
     let old = c.loop-operand.invariant in
     let n = next ns ps op c.loop-operand.width xs i x c.loop-operand-test.true c.operand-item.is old.fits in
-    let a = some-of (width ns ps (plain x)) n.fits in
+    let a = some_width (width ns ps (plain x)) n.fits in
     let j = c.take_in-width.ensures.width a.0 a.1 in
     let more = more-at xs i x c.loop-operand-test.true c.operand-item.is in
     let step : width_on ns ps op c.loop-operand.width (plain_all (drop i xs)) ≡ width_on ns ps op c.take_in-width.result ts =
@@ -157,8 +157,7 @@ evaluate_chain-loop-operand-preserved t c =
           ∙ old.value k h;
       fits = subst IsSome step old.fits;
       whole = sym step ∙ old.whole;
-      width = both-is_width op c.loop-operand.width a.0 c.take_in-width.result old.width
-          (width-is_width ns ps (plain x) a.0 a.1) j;
+      width = joined-is_width op c.loop-operand.width a.0 c.take_in-width.result old.width j;
     }
 
 pub take_in-combine-requires-clause-fits : goal.take_in-combine-requires-clause-fits
@@ -168,15 +167,15 @@ pub take_in-combine-requires-clause-second : goal.take_in-combine-requires-claus
 take_in-combine-requires-clause-second t c = width-is_width (widths_of c.args.signals.now) (widths_of c.args.ports.now)
     (plain c.args.operand.now) (length c.in-Some.word.now) c.in-Some.ensures.width
 
-pub take_in-returns-in-Some-clause-width : goal.take_in-returns-in-Some-clause-width
-take_in-returns-in-Some-clause-width t c = λ a e.
-    subst (λ n. joined c.args.op c.args.before n ≡ Some c.combine.result) (same-width (sym c.in-Some.ensures.width ∙ e))
-    c.combine.ensures.width
-
-pub take_in-returns-in-Some-clause-value : goal.take_in-returns-in-Some-clause-value
-take_in-returns-in-Some-clause-value t c = λ k h.
-    c.combine.ensures.word k h
-    ∙ ap (combined c.args.op (word_in (take c.args.before c.args.out.now) k)) (c.in-Some.ensures.value k h)
+pub take_in-returns-in-Some : goal.take_in-returns-in-Some
+take_in-returns-in-Some t c = record {
+  width = λ a e.
+      subst (λ n. joined c.args.op c.args.before n ≡ Some c.combine.result) (same_Some _ _ (sym c.in-Some.ensures.width ∙ e))
+      c.combine.ensures.width;
+  value = λ k h.
+      c.combine.ensures.word k h
+      ∙ ap (combined c.args.op (word_in (take c.args.before c.args.out.now) k)) (c.in-Some.ensures.value k h);
+}
 
 pub take_in_nested-slice_bounds-combine-end : goal.take_in_nested-slice_bounds-combine-end
 take_in_nested-slice_bounds-combine-end t c = within (widths_of c.args.signals.now) (widths_of c.args.ports.now) (plain c.args.operand.now)

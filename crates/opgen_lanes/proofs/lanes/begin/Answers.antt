@@ -3,9 +3,9 @@ use Rattle.opgen_num.specs.declared.format.TheConstants.{MAX_WIDTH}
 use Rattle.opgen_design.specs.Run.{initial_words}
 use Rattle.opgen_design.specs.Sound.{IsSignalWide, signal_widths}
 use Rattle.opgen_runs.specs.Registers.{SameRegisters}
-use Rattle.opgen_runs.proofs.Starts.{starts-registers}
+use Rattle.opgen_runs.proofs.Starts.{start, starts-registers}
 use Rattle.opgen_streams.specs.Streams.{words_in}
-use Rattle.opgen_lanes.proofs.Beginning.{initial, signals-wide, ports-narrow}
+use Rattle.opgen_lanes.proofs.Beginning.{signals-wide, ports-narrow}
 use Rattle.opgen_lanes.proofs.lanes.begin.Goals as goal
 
 pub initial_words-requires-clause-wide : goal.initial_words-requires-clause-wide
@@ -45,8 +45,8 @@ pub returns-clause-registers : goal.returns-clause-registers
 returns-clause-registers c = λ k h.
     let d = c.args.design.now in
     let bank = c.in_ok-signals.signals in
-    let e : words_in (signal_widths d) bank.vectors.items k ≡ map initial d.signals =
+    let e : words_in (signal_widths d) bank.vectors.items k ≡ map start d.signals =
     ap (λ ws. words_in ws bank.vectors.items k) (sym (c.in_ok-signals.ensures.widths ∙ ap (map (λ s. s.width)) c.as_slice.ensures))
     ∙ c.in_ok-signals.ensures.words k h
-    ∙ ap (map initial) c.as_slice.ensures in
+    ∙ ap (map start) c.as_slice.ensures in
     subst (λ ws. SameRegisters d ws (initial_words d.signals)) (sym e) (starts-registers d c.requires)

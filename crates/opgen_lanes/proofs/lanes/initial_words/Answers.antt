@@ -1,10 +1,10 @@
 use Rattle.std.proofs.Common.{◌≡◌, ◌<◌, ◌≤◌, ◌+◌, All, length, take, get_or, sym, ap, ◌∙◌, subst, arith}
 use Rattle.std.proofs.lemmas.List.{length-map, get_or-map}
+use Rattle.opgen_streams.proofs.Rows.{length-words_in}
 use Rattle.opgen_num.specs.declared.format.TheConstants.{MAX_WIDTH}
 use Rattle.opgen_design.specs.Sound.{IsSignalWide}
 use Rattle.opgen_lanes.specs.Banks.{widths_of, words_at}
 use Rattle.opgen_lanes.proofs.Beginning.{narrow-signals, one-more, all-begun}
-use Rattle.opgen_lanes.proofs.Places.{words-length}
 use Rattle.opgen_lanes.proofs.lanes.initial_words.Goals as goal
 
 pub new-requires-clause-narrow : goal.new-requires-clause-narrow
@@ -48,7 +48,7 @@ loop-place-preserved c =
           let there : i < length (words_at bank k) = omega (
             arith,
             m,
-            words-length (widths_of bank) bank.vectors.items k,
+            length-words_in (widths_of bank) bank.vectors.items k,
             ap length c.loop-place.invariant.widths,
             length-map ss (λ s. s.width),
           ) in
@@ -62,7 +62,7 @@ returns-clause-words c = λ k h.
     let bank = c.loop-place.bank in
     let n : length (words_at bank k) ≡ length ss = omega (
       arith,
-      words-length (widths_of bank) bank.vectors.items k,
+      length-words_in (widths_of bank) bank.vectors.items k,
       ap length c.loop-place.invariant.widths,
       length-map ss (λ s. s.width),
     ) in

@@ -1,9 +1,10 @@
 use Rattle.std.proofs.Common.{◌≡◌, ◌++◌, length, take, drop, get_or, sym, ap, ◌∙◌, arith}
 use Rattle.std.specs.Prelude.{slice_set}
 use Rattle.std.proofs.lemmas.List.{length-take-le, take_at}
+use Rattle.opgen_runs.proofs.Starts.{start}
 use Rattle.opgen_streams.specs.Streams.{word_in}
 use Rattle.opgen_lanes.specs.Banks.{widths_of, words_at}
-use Rattle.opgen_lanes.proofs.Beginning.{initial, initial-narrow}
+use Rattle.opgen_lanes.proofs.Beginning.{initial-narrow}
 use Rattle.opgen_lanes.proofs.lanes.put_initial.Goals as goal
 
 pub slice_bounds-vectors-end : goal.slice_bounds-vectors-end
@@ -37,7 +38,7 @@ returns-clause-words c = λ k h.
     let l = length-take-le w vectors (omega (arith, n.same, n.narrow, c.width.ensures, c.room-vectors.ensures)) in
     let long : length c.write.new.vectors ≡ w = c.write.auto.vectors ∙ l in
     let here : get_or (widths_of bank) c.args.place 0 ≡ w = c.requires.width ∙ sym n.same ∙ sym c.width.ensures in
-    let is : word_in (take (get_or (widths_of bank) c.args.place 0) (c.write.new.vectors ++ drop w vectors)) k ≡ initial s =
+    let is : word_in (take (get_or (widths_of bank) c.args.place 0) (c.write.new.vectors ++ drop w vectors)) k ≡ start s =
     ap (λ j. word_in (take j (c.write.new.vectors ++ drop w vectors)) k) here
     ∙ ap (λ xs. word_in xs k) (take_at c.write.new.vectors (drop w vectors) w long)
     ∙ c.write.ensures k h

@@ -1,10 +1,10 @@
 use Rattle.std.proofs.Common.{◌≡◌, ◌+◌, ℕ, ◌∷◌, [], ◌++◌, if◌then◌else◌, length, map, take, drop, get_or, refl, sum, sym, ap, ◌∙◌, subst, arith}
 use Rattle.std.proofs.Math.ListN.{drop_of_length-le}
 use Rattle.std.proofs.lemmas.List.{length-map}
+use Rattle.opgen_streams.proofs.Rows.{length-words_in}
 use Rattle.opgen_design.specs.Run.{at_ports, is_out}
 use Rattle.opgen_streams.specs.Streams.{words_in}
 use Rattle.opgen_lanes.specs.Banks.{widths_of, words_at}
-use Rattle.opgen_lanes.proofs.Places.{words-length}
 use Rattle.opgen_lanes.proofs.PortWords.{Given, given-step, all-taken, widths-split, width-here, ports-more}
 use Rattle.opgen_lanes.proofs.ports.give_outputs.Goals as goal
 
@@ -38,7 +38,7 @@ loop-place-preserved c =
       same = λ k h.
           let n : length ps ≡ length (words_at bank k) = omega (
             arith,
-            words-length (widths_of bank) bank.vectors.items k,
+            length-words_in (widths_of bank) bank.vectors.items k,
             ap length c.requires.widths,
             length-map ps (λ p. p.width),
           ) in
@@ -56,7 +56,7 @@ returns-clause-words c = λ k h.
     let bank = c.args.bank.now in
     let n : length ps ≡ length (words_at bank k) = omega (
       arith,
-      words-length (widths_of bank) bank.vectors.items k,
+      length-words_in (widths_of bank) bank.vectors.items k,
       ap length c.requires.widths,
       length-map ps (λ p. p.width),
     ) in

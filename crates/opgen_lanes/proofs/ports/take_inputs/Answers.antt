@@ -1,9 +1,9 @@
 use Rattle.std.proofs.Common.{◌≡◌, ◌+◌, ℕ, ◌∷◌, [], ◌++◌, if◌then◌else◌, length, map, take, drop, refl, sym, ap, ◌∙◌, subst, arith}
 use Rattle.std.proofs.lemmas.List.{length-map}
+use Rattle.opgen_streams.proofs.Rows.{length-words_in}
 use Rattle.opgen_design.specs.Run.{at_ports, is_in}
 use Rattle.opgen_streams.specs.Streams.{word_in, words_in}
 use Rattle.opgen_lanes.specs.Banks.{widths_of, words_at}
-use Rattle.opgen_lanes.proofs.Places.{words-length}
 use Rattle.opgen_lanes.proofs.PortWords.{Taken, taken-room, taken-step, taken-all, widths-split, ports-set}
 use Rattle.opgen_lanes.proofs.ports.take_inputs.Goals as goal
 
@@ -43,7 +43,7 @@ loop-place-preserved c =
         whole = λ k h.
             let n : length ps ≡ length (words_at bank k) = omega (
               arith,
-              words-length (widths_of bank) bank.vectors.items k,
+              length-words_in (widths_of bank) bank.vectors.items k,
               ap length c.loop-place.invariant.widths,
               length-map ps (λ p. p.width),
             ) in
@@ -63,7 +63,7 @@ returns-clause-inputs c = λ k h.
     let bank = c.loop-place.bank in
     let n : length ps ≡ length (words_at bank k) = omega (
       arith,
-      words-length (widths_of bank) bank.vectors.items k,
+      length-words_in (widths_of bank) bank.vectors.items k,
       ap length c.loop-place.invariant.widths,
       length-map ps (λ p. p.width),
     ) in

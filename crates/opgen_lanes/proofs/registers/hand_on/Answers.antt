@@ -1,6 +1,7 @@
 use Rattle.std.proofs.Common.{◌≡◌, ◌++◌, ◌≤◌, Some, length, take, drop, get_or, sym, ap, ◌∙◌, subst, arith}
 use Rattle.std.specs.Prelude.{slice_set}
 use Rattle.std.proofs.lemmas.List.{length-take-le, length-append, length-drop, take_at}
+use Rattle.std.proofs.lemmas.Option.{same_Some}
 use Rattle.opgen_design.specs.declared.design.Driver.TheVariants.{Register}
 use Rattle.opgen_design.specs.Plain.{plain}
 use Rattle.opgen_design.specs.Run.{moved, scope}
@@ -11,7 +12,7 @@ use Rattle.opgen_runs.proofs.Widths.{agree-at}
 use Rattle.opgen_streams.specs.Streams.{word_in}
 use Rattle.opgen_lanes.specs.Banks.{stream_words, width_at, widths_of, words_at}
 use Rattle.opgen_lanes.proofs.DriverWords.{has-width, fits-width, signal-there, target-narrow, there-at}
-use Rattle.opgen_lanes.proofs.Fits.{same-width, within}
+use Rattle.opgen_lanes.proofs.Fits.{within}
 use Rattle.opgen_lanes.proofs.RegisterWords.{enable-bit, enable-place}
 use Rattle.opgen_lanes.proofs.registers.hand_on.Goals as goal
 
@@ -51,7 +52,7 @@ moved-requires-clause-width c =
     let e = plain c.expr.result.now in
     let w = c.evaluate-width.result in
     let a = subst (WidthsAgree d) c.in-Register.is (agree-at d c.requires.sound c.args.place c.get.result.now c.get.ensures) in
-    let n : w ≡ get_or (signal_widths d) c.in-Register.to 0 = same-width (sym c.evaluate-width.ensures.width
+    let n : w ≡ get_or (signal_widths d) c.in-Register.to 0 = same_Some _ _ (sym c.evaluate-width.ensures.width
     ∙ has-width d s p c.requires.banks e c.in-Register.expr (get_or (signal_widths d) c.in-Register.to 0) c.expr.ensures a) in
     length-take-le w c.evaluate-width.new.out (within (widths_of s) (widths_of p) e w c.evaluate-width.new.out c.evaluate-width.ensures.width
     (omega (arith, c.evaluate-width.auto.out, c.requires.room)))
@@ -104,7 +105,7 @@ returns-in-Register-clause-words c = λ driver g k h.
     let l = within (widths_of s) (widths_of p) e w out c.evaluate-width.ensures.width
     (omega (arith, c.evaluate-width.auto.out, c.requires.room)) in
     let a = subst (WidthsAgree d) c.in-Register.is (agree-at d c.requires.sound c.args.place c.get.result.now c.get.ensures) in
-    let n : w ≡ get_or (signal_widths d) to 0 = same-width (sym c.evaluate-width.ensures.width
+    let n : w ≡ get_or (signal_widths d) to 0 = same_Some _ _ (sym c.evaluate-width.ensures.width
     ∙ has-width d s p c.requires.banks e c.in-Register.expr (get_or (signal_widths d) to 0) c.expr.ensures a) in
     let m : get_or (widths_of c.args.next.now) to 0 ≡ w = ap (λ ws. get_or ws to 0) c.requires.next.signal_widths ∙ sym n in
     let long : length c.moved.new.new ≡ w = c.moved.auto.new ∙ length-take-le w out l in

@@ -4,7 +4,7 @@ use Rattle.std.proofs.Math.ListN.{drop_of_length-le}
 use Rattle.opgen_design.specs.Tree.{Tree, bits, inverse, more, name, part, port}
 use Rattle.opgen_design.specs.Plain.{plain, plain_all}
 use Rattle.opgen_design.specs.Value.{chain_width}
-use Rattle.opgen_design.proofs.WidthLaws.{width-is_width}
+use Rattle.opgen_design.proofs.WidthLaws.{joined-is_width, width-is_width}
 use Rattle.opgen_runs.proofs.Plain.{plain-bits, plain-name, plain-not, plain-part, plain-port, more-at, first-and-rest}
 use Rattle.opgen_machine.specs.Layout.{spots_of}
 use Rattle.opgen_machine.specs.declared.step.Step.{Step}
@@ -14,7 +14,7 @@ use Rattle.opgen_machine.specs.Programs.{Spots, widths_of}
 use Rattle.opgen_machine.specs.Emit.{Emitted, Chained, IsNarrow, width_over}
 use Rattle.opgen_machine.proofs.Emitted.{emitted-not, chained-first, chained-more, chained-last}
 use Rattle.opgen_machine.proofs.Gives.{spots-along, there-along}
-use Rattle.opgen_machine.proofs.Narrow.{narrow-of, narrow-some, chain-first, chain-rest, chain-join, joined-is_width}
+use Rattle.opgen_machine.proofs.Narrow.{narrow-of, narrow-some, chain-first, chain-rest, chain-join}
 use Rattle.opgen_machine.proofs.Puts.{put-gives}
 use Rattle.opgen_machine.proofs.expression.+emit.Goals as goal
 
@@ -167,8 +167,6 @@ emit_chain-loop-operand-preserved t c =
     let i = c.loop-operand.operand-index in
     let x = c.operand-item.result in
     let ts = plain_all (drop (i + 1) xs) in
-    let is = width-is_width (widths_of spots.signals) (widths_of spots.ports) (plain x) second.width
-    c.in_ok-second-in-len1-up.ensures.width in
     let two = c.emit-in-loop-operand.new.steps.items in
     let are = spots-along base spots mid two c.loop-operand.invariant.are c.in_ok-second-in-len1-up.ensures.extends in
     let together = c.in_ok-spot-in-len1-up-2.ensures spots are in
@@ -179,7 +177,7 @@ emit_chain-loop-operand-preserved t c =
           (subst (Chained base spots op all before mid acc) (more-at xs i x c.loop-operand-test.true c.operand-item.is)
           c.loop-operand.invariant.chained)
           c.in_ok-second-in-len1-up.ensures together
-          (joined-is_width op acc.width second.width last.width c.loop-operand.invariant.chained.is_width is together.width);
+          (joined-is_width op acc.width second.width last.width c.loop-operand.invariant.chained.is_width together.width);
       narrow = c.loop-operand.invariant.narrow;
       are = spots-along base spots two c.combine.new.steps.items are together.extends;
     }

@@ -1,27 +1,22 @@
-use Rattle.std.proofs.Common.{◌≡◌, ◌^◌, [], ◌∷◌, ◌++◌, ap, ◌∙◌, sym, subst, arith}
-use Rattle.std.specs.Prelude.{pos, ◌+ℤ◌}
+use Rattle.std.proofs.Common.{◌≡◌, [], ◌∷◌, ◌++◌, ap, ◌∙◌, sym, subst, arith}
 use Rattle.std.specs.Int.{w128}
 use Rattle.std.proofs.lemmas.Int.{to_z-of_z}
 use Rattle.opgen_num.specs.declared.format.Format.{Format}
-use Rattle.opgen_num.specs.Words.{nat}
-use Rattle.opgen_compress.specs.Kept.{IsSumOf}
 use Rattle.opgen_compress.specs.Recipe.{compressed}
 use Rattle.opgen_gpc.specs.Recipe.{Counting, counted_if}
-use Rattle.opgen_gpc.proofs.Counting.{sum-before}
-use Rattle.opgen_net.specs.Flow.{flow}
+use Rattle.opgen_ports.specs.Recipes.{has_counters}
+use Rattle.opgen_net.specs.Delays.{delay_count}
 use Rattle.opgen_net.specs.Placed.{Placed}
-use Rattle.opgen_net.proofs.Grown.{grown-then}
-use Rattle.opgen_heap.specs.Adding.{residue, with_constant}
+use Rattle.opgen_heap.specs.Adding.{with_constant}
 use Rattle.opgen_heap.specs.Contents.{Contents}
 use Rattle.opgen_heap.specs.Standing.{AllThere}
-use Rattle.opgen_heap.specs.Sum.{Words, heap_sum}
 use Rattle.opgen_net.specs.declared.net.Net.{Net}
 use Rattle.opgen_kinds.specs.Product.{product_format}
 use Rattle.opgen_partial.specs.declared.pairs.Work.{Work}
 use Rattle.opgen_mult.specs.Recipe.{bits_below, zeros_below, heap_width, constant, counted_product, summed, above_zeros, shifted}
-use Rattle.opgen_mult.specs.Shifted.{IsAboveZeros}
-use Rattle.opgen_mult.proofs.NetFits.{output_of, zeros-inputs, zeros-outputs, net_fits}
+use Rattle.opgen_mult.proofs.NetFits.{output_of, zeros-delays}
 use Rattle.opgen_mult.proofs.HeapWidth.{layout}
+use Rattle.opgen_mult.proofs.Whole.{fits_modes}
 use Rattle.opgen_mult.proofs.multiplier.build.Goals as goal
 
 pub count_if-requires-clause-there : goal.count_if-requires-clause-there
@@ -59,10 +54,11 @@ returns-clause-net c =
     let u : Counting = record { net = c.count_if.new.net; heap = c.in_ok-counted.counted } in
     let counted : u ≡ counted_product p left =
     ap (λ n. record { net = n; heap = u.heap }) c.in_ok-counted.ensures.ok
-    ∙ ap (λ h. record { net = (counted_if p.counters w.net c.add_constant.new.self).net; heap = h }) c.in_ok-counted.ensures.heap
-    ∙ ap (counted_if p.counters w.net) c.add_constant.ensures.value
-    ∙ ap (λ z. counted_if p.counters w.net (with_constant w.heap z)) constant_is
-    ∙ ap (λ (v : Work). counted_if p.counters v.net (with_constant v.heap (constant p))) c.in_ok-net.ensures.ok in
+    ∙ ap (λ h. record { net = (counted_if c.has_counters.result w.net c.add_constant.new.self).net; heap = h }) c.in_ok-counted.ensures.heap
+    ∙ ap (λ b. counted_if b w.net c.add_constant.new.self) c.has_counters.ensures
+    ∙ ap (counted_if (has_counters p.compressor) w.net) c.add_constant.ensures.value
+    ∙ ap (λ z. counted_if (has_counters p.compressor) w.net (with_constant w.heap z)) constant_is
+    ∙ ap (λ (v : Work). counted_if (has_counters p.compressor) v.net (with_constant v.heap (constant p))) c.in_ok-net.ensures.ok in
     let s : Placed = record { net = c.compress.new.net; place = c.in_ok-sum.sum } in
     let sum : s ≡ summed p left =
     ap (λ n. record { net = n; place = s.place }) c.in_ok-sum.ensures.ok
@@ -85,37 +81,4 @@ returns-clause-net c =
     }
 
 pub returns-clause-fits : goal.returns-clause-fits
-returns-clause-fits c =
-    let p = c.args.product.now in
-    let left = c.cut_of-cut.result.columns in
-    let fit = layout c.products_have_width.ensures p c.requires in
-    let w = c.in_ok-net.field-0 in
-    let has = c.in_ok-net.ensures.products in
-    let heap = c.add_constant.new.self in
-    let two = c.compress.new.net in
-    let three = c.above_zeros.new.net in
-    let place = c.in_ok-sum.sum in
-    let node = c.in_ok-node.node in
-    let constant_is = to_z-of_z w128 c.constant.result (record { sfits = c.constant.type_inv }) ∙ c.constant.ensures in
-    let added : (words : Words) → heap_sum words heap ≡ residue (pos (heap_sum words w.heap) +ℤ constant p) (2 ^ w.heap.width) =
-    λ words. c.add_constant.ensures.sum words ∙ ap (λ z. residue (pos (heap_sum words w.heap) +ℤ z) (2 ^ w.heap.width)) constant_is in
-    let wide = c.in_ok-sum.ensures.width
-    ∙ c.in_ok-counted.ensures.width
-    ∙ ap (λ (h : Contents). h.width) c.add_constant.ensures.value
-    ∙ has.width in
-    let counted = c.in_ok-counted.ensures in
-    let sums : IsSumOf w.net heap two.nodes place =
-    sum-before w.net heap c.count_if.new.net c.in_ok-counted.counted counted.grown counted.sum (λ ins t. nat (flow two.nodes ins place t))
-    c.in_ok-sum.ensures.sum in
-    let grown = grown-then w.net c.count_if.new.net two counted.grown c.in_ok-sum.ensures.grown in
-    let above = subst (λ z. IsAboveZeros two place z three.nodes node) c.zeros_below.ensures.value c.in_ok-node.ensures.shifted in
-    let s : Placed = record { net = two; place = place } in
-    let ports = ap (λ (n : Net). n.inputs) c.in_ok-node.ensures.ok ∙ zeros-inputs c.heap_width.result c.zeros_below.result s in
-    let outs = ap (λ (n : Net). n.outputs) c.in_ok-node.ensures.ok ∙ zeros-outputs c.heap_width.result c.zeros_below.result s in
-    let is : c.output-2.new.self ≡ record three { outputs = three.outputs ++ output_of node (bits_below p) (product_format p).width ∷ [] } =
-    c.in_ok-output.ensures.ok
-    ∙ ap (λ low. record three { outputs = three.outputs ++ output_of node low c.output.result.width ∷ [] }) c.bits_below-low.ensures.value
-    ∙ ap (λ (f : Format). record three { outputs = three.outputs ++ output_of node (bits_below p) f.width ∷ [] }) c.output.ensures.value in
-    net_fits p c.requires fit c.outputs_hold.ensures left c.cut_of-cut.ensures.columns w has heap added
-    two place sums c.in_ok-sum.ensures.valid grown wide three node above c.output-2.new.self is ports
-    outs c.output-2.ensures.valid
+returns-clause-fits c = fits_modes c.args.product.now c.requires c.output-2.new.self (returns-clause-net c)

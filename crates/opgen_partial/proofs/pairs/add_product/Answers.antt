@@ -1,4 +1,4 @@
-use Rattle.std.proofs.Common.{[], ◌∷◌, Result, Ok, Err, OnOk, sym, subst}
+use Rattle.std.proofs.Common.{[], ◌∷◌, Result, Ok, Err, OnOk, refl, sym, subst}
 use Rattle.opgen_net.specs.declared.cell.Class.TheVariants.{Logic}
 use Rattle.opgen_design.specs.Plain.{plain}
 use Rattle.opgen_net.specs.declared.node.Node.TheVariants.{Cells}
@@ -33,7 +33,7 @@ pub returns-clause-factors : goal.returns-clause-factors
 returns-clause-factors c =
     let p = c.args.products.now in
     let net = c.args.work.now.net in
-    let grown = grown-more net (Cells Logic 1 (plain c.in_ok-expr.expr) ∷ []) in
+    let grown = grown-more net (Cells Logic 1 (plain c.in_ok-expr.expr) ∷ []) refl in
     let factors : AreFactors p (with_last net (Cells Logic 1 (plain c.in_ok-expr.expr))) = record {
       first = factor-later p.a net (with_last net (Cells Logic 1 (plain c.in_ok-expr.expr))) grown c.requires.factors.first;
       second = factor-later p.b net (with_last net (Cells Logic 1 (plain c.in_ok-expr.expr))) grown c.requires.factors.second;

@@ -3,11 +3,13 @@ use Rattle.std.specs.Prelude.{IsSome}
 use Rattle.opgen_design.specs.Value.{value, word_at, width}
 use Rattle.opgen_net.specs.Valid.{MayStand}
 use Rattle.opgen_num.specs.Words.{nat}
+use Rattle.opgen_num.proofs.Words.{word-zeros}
 use Rattle.opgen_runs.specs.Fitting.{scope_of}
 use Rattle.opgen_net.proofs.FlowLaws.{index_within}
 use Rattle.opgen_pipe.specs.Zeros.{still_word}
-use Rattle.opgen_pipe.proofs.Still.{word-zero, read-word, chosen_same, row-there, node-there}
+use Rattle.opgen_pipe.proofs.Still.{read-word, row-there, node-there}
 use Rattle.opgen_pipe.proofs.zeros.still_word.Goals as goal
+use Rattle.opgen_pipe.proofs.Follows.{chosen_same}
 
 pub row-requires : goal.row-requires
 row-requires c =
@@ -20,7 +22,7 @@ row-requires c =
     )
 
 pub returns-in-Input : goal.returns-in-Input
-returns-in-Input c = c.new.ensures ∙ word-zero c.in-Input.width ∙ sym (ap (still_word c.args.words.now) c.in-Input.is)
+returns-in-Input c = c.new.ensures ∙ word-zeros c.in-Input.width ∙ sym (ap (still_word c.args.words.now) c.in-Input.is)
 
 pub returns-in-Choice : goal.returns-in-Choice
 returns-in-Choice c =

@@ -5,7 +5,8 @@ use Rattle.std.proofs.lemmas.Int.{ints, to_z-of_z}
 use Rattle.std.proofs.lemmas.Nat.{mul-le, pow_pos}
 use Rattle.opgen_num.proofs.BitLength.{power_order}
 use Rattle.opgen_ports.specs.Reaches.{places_up, places_down}
-use Rattle.opgen_sop.proofs.Sizes.{up-few, down-few}
+use Rattle.opgen_ports.proofs.Bounds.{few_up}
+use Rattle.opgen_sop.proofs.Sizes.{down-few}
 use Rattle.opgen_sop.proofs.fractions.fraction.Goals as goal
 
 small : (n p : ℕ) (k : ℕ) → n ≤ 2 ^ 30 → p ≤ 75 → k ≡ p → n * 2 ^ k ≤ 2 ^ 126
@@ -28,7 +29,7 @@ pub raised-requires-clause-small : goal.raised-requires-clause-small
 raised-requires-clause-small c =
     let number = to_z-of_z w128 c.into.result (record { sfits = c.into.type_inv }) ∙ c.into.ensures ∙ to_z-of_z w64 c.args.number c.ranges.number in
     let shift = to_z-of_z w32 c.args.shift c.ranges.shift in
-    let few = up-few c.args.shift 75 c.requires.high in
+    let few = few_up 75 c.args.shift c.requires.high in
     rw number (small (unsigned_abs c.args.number) (places_up c.args.shift) c.places_up.result c.requires.number few
     (c.places_up.ensures ∙ ap places_up shift))
 

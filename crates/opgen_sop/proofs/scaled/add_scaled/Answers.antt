@@ -3,6 +3,7 @@ use Rattle.std.specs.Int.{w64}
 use Rattle.std.proofs.lemmas.Int.{to_z-of_z, fits_signed_from_abs}
 use Rattle.opgen_num.specs.declared.format.Format.{Format}
 use Rattle.opgen_num.specs.declared.format.Ratio.{Ratio}
+use Rattle.opgen_num.proofs.Integers.{zero-is}
 use Rattle.opgen_net.proofs.Grown.{grown-then}
 use Rattle.opgen_ports.proofs.InputPorts.{input_bit}
 use Rattle.opgen_kcm.specs.Entries.{in_guard_units}
@@ -15,7 +16,7 @@ use Rattle.opgen_sop.specs.Recipe.{input_net, is_zero}
 use Rattle.opgen_sop.specs.Sizes.{scaled_fraction}
 use Rattle.opgen_sop.specs.Small.{IsSmallScaled}
 use Rattle.opgen_sop.proofs.InputNodes.{input-there, input-wide}
-use Rattle.opgen_sop.proofs.ScaledTerm.{zero-is, num-some, rows-room, rows-narrow, scaled-sum, none-sum}
+use Rattle.opgen_sop.proofs.ScaledTerm.{num-some, rows-room, rows-narrow, scaled-sum, none-sum}
 use Rattle.opgen_sop.proofs.scaled.add_scaled.Goals as goal
 
 same-coefficient : (s : Sop) (t : Scaled) → IsSmallScaled s t → to_z w64 (of_z w64 t.coefficient) ≡ t.coefficient

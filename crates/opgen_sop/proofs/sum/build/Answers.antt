@@ -1,22 +1,16 @@
 use Rattle.std.proofs.Common.{◌≡◌, ◌+◌, ◌-◌, ◌++◌, [], ◌∷◌, ap, ◌∙◌, sym, subst}
 use Rattle.std.specs.Prelude.{codes}
 use Rattle.opgen_num.specs.declared.format.Format.{Format}
-use Rattle.opgen_num.specs.Words.{nat}
 use Rattle.opgen_heap.specs.Standing.{AllThere}
-use Rattle.opgen_compress.specs.Kept.{IsSumOf}
 use Rattle.opgen_compress.specs.Recipe.{compressed}
 use Rattle.opgen_gpc.specs.Recipe.{Counting, counted_if}
-use Rattle.opgen_gpc.proofs.Counting.{sum-before}
-use Rattle.opgen_net.specs.Flow.{flow}
-use Rattle.opgen_net.specs.Grown.{HasGrown}
+use Rattle.opgen_ports.specs.Recipes.{has_counters}
 use Rattle.opgen_net.specs.Placed.{Placed}
-use Rattle.opgen_net.proofs.Grown.{grown-then}
 use Rattle.opgen_partial.specs.declared.pairs.Work.{Work}
-use Rattle.opgen_operator.specs.declared.operator.Operator.TheVariants.{Sop as sop_operator}
 use Rattle.opgen_sop.specs.Recipe.{with_all_scaled, with_all_times, with_offset, added, counted, summed, heap_width}
 use Rattle.opgen_sop.proofs.AcceptedTerms.{small-terms}
-use Rattle.opgen_sop.proofs.Fits.{fits-sop}
 use Rattle.opgen_sop.proofs.GuardBits.{small-guard}
+use Rattle.opgen_sop.proofs.Whole.{fits_modes}
 use Rattle.opgen_sop.proofs.sum.build.Goals as goal
 
 pub guard_bits-guard-requires-clause-terms : goal.guard_bits-guard-requires-clause-terms
@@ -53,8 +47,9 @@ returns-clause-net c =
     let u : Counting = record { net = c.count_if.new.net; heap = c.in_ok-counted.counted } in
     let counted_is : u ≡ counted s g =
     ap (λ n. record { net = n; heap = u.heap }) c.in_ok-counted.ensures.ok
-    ∙ ap (λ h. record { net = (counted_if s.counters w.net w.heap).net; heap = h }) c.in_ok-counted.ensures.heap
-    ∙ ap (λ (w : Work). counted_if s.counters w.net w.heap) all in
+    ∙ ap (λ h. record { net = (counted_if c.has_counters.result w.net w.heap).net; heap = h }) c.in_ok-counted.ensures.heap
+    ∙ ap (λ b. counted_if b w.net w.heap) c.has_counters.ensures
+    ∙ ap (λ (w : Work). counted_if (has_counters s.compressor) w.net w.heap) all in
     let p : Placed = record { net = c.compress.new.net; place = c.in_ok-node.node } in
     let sum_is : p ≡ summed s g =
     ap (λ n. record { net = n; place = p.place }) c.in_ok-node.ensures.ok
@@ -73,29 +68,4 @@ returns-clause-net c =
     }
 
 pub returns-clause-fits : goal.returns-clause-fits
-returns-clause-fits c =
-    let s = c.args.sop.now in
-    let g = c.guard_bits-guard.result in
-    let fit = small-guard s c.requires g c.guard_bits-guard.ensures.least c.guard_bits-guard.ensures.few in
-    let before = c.add_all_times.new.work in
-    let w = c.add_offset.new.work in
-    let stands = c.in_ok-add_all_times.ensures.stands in
-    let counted = c.in_ok-counted.ensures in
-    let after = c.compress.new.net in
-    let node = c.in_ok-node.node in
-    let sums : IsSumOf w.net w.heap after.nodes node =
-    sum-before w.net w.heap c.count_if.new.net c.in_ok-counted.counted counted.grown counted.sum (λ ins t. nat (flow after.nodes ins node t))
-    c.in_ok-node.ensures.sum in
-    let grown = grown-then w.net c.count_if.new.net after counted.grown c.in_ok-node.ensures.grown in
-    let same = c.add_offset.ensures in
-    let wide = c.in_ok-node.ensures.width ∙ counted.width ∙ ap (λ (w : Work). w.heap.width) same ∙ stands.width in
-    fits-sop s c.requires (c.outputs_hold.ensures (sop_operator s)) g c.guard_bits-guard.ensures.least fit before stands
-    c.in_ok-add_all_times.ensures.summed after node
-    (subst (λ (v : Work). IsSumOf v.net v.heap after.nodes node) same sums) wide
-    (subst (λ (v : Work). HasGrown v.net after) same grown) c.in_ok-node.ensures.valid
-    c.output-2.new.self
-    (c.in_ok-output.ensures.ok
-    ∙ ap (λ (f : Format). record after {
-      outputs = after.outputs ++ record { name = codes "y"; from = record { node = node; high = f.width + g - 1; low = g } } ∷ [];
-    }) c.output.ensures.value)
-    c.output-2.ensures.valid
+returns-clause-fits c = fits_modes c.args.sop.now c.requires c.output-2.new.self (returns-clause-net c)

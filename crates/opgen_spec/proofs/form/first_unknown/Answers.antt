@@ -1,7 +1,7 @@
 use Rattle.std.proofs.Common.{◌≡◌, map, not, string_bytes, rules, ◌∙◌, ap}
 use Rattle.std.specs.List.{position_from}
 use Rattle.std.specs.Map.{keys_of}
-use Rattle.opgen_spec.specs.Stands.{is_known}
+use Rattle.opgen_entries.specs.Stands.{is_known}
 use Rattle.opgen_document.proofs.Trees.{names-view}
 use Rattle.opgen_spec.proofs.form.first_unknown.Goals as goal
 

@@ -2,7 +2,7 @@ use Rattle.std.proofs.Common.{◌≡◌, ◌+◌, map, length, not, string_bytes
 use Rattle.std.specs.BTreeMap.{btree_map_len}
 use Rattle.std.specs.List.{position_from}
 use Rattle.toml.specs.View.{table_view}
-use Rattle.opgen_spec.specs.Stands.{is_known}
+use Rattle.opgen_entries.specs.Stands.{is_known}
 use Rattle.opgen_document.specs.Document.{names}
 use Rattle.opgen_spec.proofs.form.first_unknown.Given as goal
 

@@ -4,7 +4,7 @@ use Rattle.toml.specs.View.{table_view}
 use Rattle.opgen_document.specs.declared.key.Key.{Key}
 use Rattle.opgen_document.specs.declared.key.Key.TheVariants as key
 use Rattle.opgen_spec.specs.Faults.{value_outside}
-use Rattle.opgen_spec.specs.kinds.Sop.{factor_outside}
+use Rattle.opgen_entries.specs.kinds.Sop.{factor_outside}
 use Rattle.opgen_spec.proofs.range.value_outside.Goals as goal
 
 -- the three keys whose values are names of inputs

@@ -2,7 +2,7 @@ use Rattle.std.proofs.Common.{◌≡◌, ◌∙◌, ap, sym, None, Ok, unwrap_or
 use Rattle.toml.specs.View.{table_view}
 use Rattle.opgen_operator.specs.declared.kind.Kind.TheVariants as kind
 use Rattle.opgen_document.specs.Document.{tree}
-use Rattle.opgen_spec.specs.kinds.{kind_of}
+use Rattle.opgen_entries.specs.kinds.{kind_of}
 use Rattle.opgen_spec.specs.Faults.{read, field_fault, limit_fault}
 use Rattle.opgen_spec.specs.Spec.{spec_with, spec_of}
 use Rattle.opgen_spec.proofs.Reading.{field_first, limit_first, none_first, gives_fault}

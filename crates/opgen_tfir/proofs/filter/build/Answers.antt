@@ -13,7 +13,7 @@ use Rattle.opgen_tfir.specs.declared.products.Products.{Products}
 use Rattle.opgen_tfir.specs.Recipe.{all_zero as all_zero_of, low_bits as low_of, own_format, sum_width, widened, with_taps, with_multiples, products_of, whole_sum, with_result, zero_sum, net_of_taps}
 use Rattle.opgen_tfir.specs.Steps.{HasProducts, AreTaps}
 use Rattle.opgen_tfir.specs.Sums.{HasSums}
-use Rattle.opgen_tfir.proofs.Filters.{products, are_taps, output-lies, net-sums, net-fits}
+use Rattle.opgen_tfir.proofs.Filters.{products, are_taps, output-lies, net-sums, fits_modes}
 use Rattle.opgen_tfir.proofs.filter.build.Goals as goal
 
 -- where all taps are 0
@@ -29,7 +29,7 @@ returns-then-all_zero-clause-fits c =
     let f = c.args.taps.now in
     let graph = c.args.graph.now in
     let net : c.output.new.self ≡ net_of_taps f graph = search rules in
-    subst (FitsInEachMode (Tfir f)) (sym net) (net-fits f c.requires.taps graph c.requires.graph)
+    subst (FitsInEachMode (Tfir f)) (sym net) (fits_modes f c.requires.taps graph c.requires.graph)
 
 -- where one is not
 pub place_sum-requires-clause-products : goal.place_sum-requires-clause-products
@@ -113,4 +113,4 @@ pub returns-clause-fits : goal.returns-clause-fits
 returns-clause-fits c =
     let f = c.args.taps.now in
     let graph = c.args.graph.now in
-    subst (FitsInEachMode (Tfir f)) (sym (made c)) (net-fits f c.requires.taps graph c.requires.graph)
+    subst (FitsInEachMode (Tfir f)) (sym (made c)) (fits_modes f c.requires.taps graph c.requires.graph)

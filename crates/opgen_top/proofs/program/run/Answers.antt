@@ -95,7 +95,7 @@ returns-in-Ok-store_all-clause-headline g c file workers enable asked files told
     let devices = devices_of (λ t. (goal.Target-dyn g (t.vtable, t.value)).target_name t.value)
     (λ t. (goal.Target-dyn g (t.vtable, t.value)).delays t.value)
     (λ t. (goal.Target-dyn g (t.vtable, t.value)).adjustable t.value) targets in
-    heading c.circuits_serve.ensures file workers enable devices files a _ _ _
+    heading c.circuits_serve.ensures c.circuits_recover.ensures file workers enable devices files a _ _ _
     (subst (λ command. IsAnswerOf command devices files a) asked due.0) due.1 stores
     (λ held holds. line_taken _ held _ _ (inl ok) (said.taken held holds) ∙ ap (λ b. Some (held ++ b)) text)
 

@@ -7,11 +7,11 @@ use Rattle.opgen_top.proofs.vectors.run_circuit.Goals as goal
 
 pub run_stimulus-requires-clause-sound : goal.run_stimulus-requires-clause-sound
 run_stimulus-requires-clause-sound g c = let is = c.in_ok-circuit.ensures.circuit in
-    circuit_sound c.args.spec.now is.table false c.in_ok-circuit.circuit.planned _ is.of_table
+    circuit_sound c.args.spec.now c.requires is.table false c.in_ok-circuit.circuit.planned _ is.of_table
 
 pub run_stimulus-requires-clause-ports : goal.run_stimulus-requires-clause-ports
 run_stimulus-requires-clause-ports g c = let is = c.in_ok-circuit.ensures.circuit in
-    circuit_ports c.args.spec.now is.table false c.in_ok-circuit.circuit.planned _ is.of_table
+    circuit_ports c.args.spec.now c.requires is.table false c.in_ok-circuit.circuit.planned _ is.of_table
 
 pub returns-in_err-circuit-clause-answer : goal.returns-in_err-circuit-clause-answer
 returns-in_err-circuit-clause-answer g c =

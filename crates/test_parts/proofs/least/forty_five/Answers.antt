@@ -1,4 +1,4 @@
-use Rattle.std.proofs.Common.{◌≡◌, ◌≤◌, ℕ, true, false, [], ◌∷◌, ◌++◌, sym, ap, ◌∙◌, subst, arith}
+use Rattle.std.proofs.Common.{◌≡◌, ◌≤◌, ℕ, true, false, [], ◌∷◌, ◌++◌, refl, sym, ap, ◌∙◌, subst, arith}
 use Rattle.std.specs.Prelude.{ℤ, pos, List, Some, None, IsTrue, All}
 use Rattle.std.proofs.lemmas.Int.{ints}
 use Rattle.std.proofs.lemmas.List.Elements.{All-cons, All-nil}
@@ -7,6 +7,7 @@ use Rattle.opgen_operator.specs.declared.operator.Operator.TheVariants.{Mcm}
 use Rattle.opgen_ports.specs.declared.ports.PortFormat.{PortFormat}
 use Rattle.opgen_kinds.specs.Several.{IsAcceptedSeveral}
 use Rattle.opgen_operator.specs.Operator.{inexact, need}
+use Rattle.opgen_ports.specs.declared.recipes.Recipe.TheVariants.{Third}
 use Rattle.opgen_ports.specs.OddParts.{odd_part_count}
 use Rattle.opgen_ports.specs.Ranges.{IsWithin}
 use Rattle.opgen_ports.proofs.InputPorts.{all_one}
@@ -14,7 +15,13 @@ use Rattle.opgen_graph.proofs.PartLists.{count-within}
 use Rattle.test_parts.proofs.least.forty_five.Goals as goal
 
 abbrev by : List ℤ → Several
-by constants = record { input = record { signed = false; width = 4; lsb = pos 0 }; constants = constants; searched = true; extra = 1 }
+by constants = record {
+  input = record { signed = false; width = 4; lsb = pos 0 };
+  constants = constants;
+  searched = true;
+  extra = 1;
+  recipe = Third;
+}
 
 not_asked : IsTrue false → inexact (Mcm (by (pos 45 ∷ []))) ≡ None
 not_asked h = let clash : false ≡ true = h in let wrong : ⊥ = cc in absurd wrong
@@ -36,6 +43,7 @@ accepted = (
         extra = omega arith;
       };
       rest = λ e. let clash : true ≡ false = e in let wrong : ⊥ = cc in absurd wrong;
+      built = refl;
     };
     inputs = all_one (λ (p : PortFormat). p.format.width ≤ 32) _ (omega arith);
     fine = (omega (arith, ints), omega (arith, ints));

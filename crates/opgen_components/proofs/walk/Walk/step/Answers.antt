@@ -4,6 +4,7 @@ use Rattle.std.proofs.lemmas.Bool.{cases_eq}
 use Rattle.std.proofs.lemmas.List.{get_or_read, length-set}
 use Rattle.std.proofs.lemmas.List.Elements.{Contains-get_or}
 use Rattle.std.proofs.lemmas.Option.{slice_get-get_or}
+use Rattle.std.proofs.lemmas.Result.{on_ok_weaker}
 use Rattle.opgen_components.specs.declared.walk.Walk.{Walk}
 use Rattle.opgen_components.specs.Graph.{graph_of, links_of, IsGraph}
 use Rattle.opgen_components.specs.Walk.{IsWalk, IsWalkOf, IsTop, KeepsMet, Follows, Finished, Closed, mark_of, link_at, left, work}
@@ -117,10 +118,6 @@ module _ {Z : Type 0} (vs : List (Vec ℕ Z)) (old now : Walk) (o n k : ℕ) (li
     left-ok (Ok x) h k = left-by (get_or old.bounds.items (length old.bounds.items - 1) 0) refl h k
     left-ok (Err e) h k = tt
 
-on-ok : {T E : Type 0} (r : Result T E) (P Q : Type 0) → OnOk r P → (P → Q) → OnOk r Q
-on-ok (Ok x) P Q h f = f h
-on-ok (Err e) P Q h f = tt
-
 pub index-node-requires : goal.index-node-requires
 index-node-requires c =
     omega (
@@ -214,12 +211,11 @@ returns-else-at-links-clause-walk c =
     c.index-node.ensures in
     let h = next-of c.args.graph.now c.args.self.now c.args.place c.index-node.result.now c.index-at.result.now c.links_of-links.result.now
     n c.index-at.ensures c.links_of-links.ensures in
-    on-ok c.leave.result _ _
-    (left-ok c.args.graph.now c.args.self.now c.leave.new.self c.args.place c.index-node.result.now c.index-at.result.now
+    let left = left-ok c.args.graph.now c.args.self.now c.leave.new.self c.args.place c.index-node.result.now c.index-at.result.now
     c.links_of-links.result.now c.requires.graph c.requires.walk c.requires.top n h
     c.if-at-links.false c.is_cycle-cyclic.result c.is_cycle-cyclic.ensures.turns c.is_cycle-cyclic.ensures.ends c.leave.result
-    c.leave.ensures.closes c.leave.ensures.goes_on)
-    (λ l. l.walk)
+    c.leave.ensures.closes c.leave.ensures.goes_on in
+    on_ok_weaker c.leave.result (λ l. l.walk) left
 
 pub returns-else-at-links-clause-kept : goal.returns-else-at-links-clause-kept
 returns-else-at-links-clause-kept c =
@@ -227,12 +223,11 @@ returns-else-at-links-clause-kept c =
     c.index-node.ensures in
     let h = next-of c.args.graph.now c.args.self.now c.args.place c.index-node.result.now c.index-at.result.now c.links_of-links.result.now
     n c.index-at.ensures c.links_of-links.ensures in
-    on-ok c.leave.result _ _
-    (left-ok c.args.graph.now c.args.self.now c.leave.new.self c.args.place c.index-node.result.now c.index-at.result.now
+    let left = left-ok c.args.graph.now c.args.self.now c.leave.new.self c.args.place c.index-node.result.now c.index-at.result.now
     c.links_of-links.result.now c.requires.graph c.requires.walk c.requires.top n h
     c.if-at-links.false c.is_cycle-cyclic.result c.is_cycle-cyclic.ensures.turns c.is_cycle-cyclic.ensures.ends c.leave.result
-    c.leave.ensures.closes c.leave.ensures.goes_on)
-    (λ l. l.kept)
+    c.leave.ensures.closes c.leave.ensures.goes_on in
+    on_ok_weaker c.leave.result (λ l. l.kept) left
 
 pub returns-else-at-links-clause-less : goal.returns-else-at-links-clause-less
 returns-else-at-links-clause-less c =
@@ -240,9 +235,8 @@ returns-else-at-links-clause-less c =
     c.index-node.ensures in
     let h = next-of c.args.graph.now c.args.self.now c.args.place c.index-node.result.now c.index-at.result.now c.links_of-links.result.now
     n c.index-at.ensures c.links_of-links.ensures in
-    on-ok c.leave.result _ _
-    (left-ok c.args.graph.now c.args.self.now c.leave.new.self c.args.place c.index-node.result.now c.index-at.result.now
+    let left = left-ok c.args.graph.now c.args.self.now c.leave.new.self c.args.place c.index-node.result.now c.index-at.result.now
     c.links_of-links.result.now c.requires.graph c.requires.walk c.requires.top n h
     c.if-at-links.false c.is_cycle-cyclic.result c.is_cycle-cyclic.ensures.turns c.is_cycle-cyclic.ensures.ends c.leave.result
-    c.leave.ensures.closes c.leave.ensures.goes_on)
-    (λ l. l.less)
+    c.leave.ensures.closes c.leave.ensures.goes_on in
+    on_ok_weaker c.leave.result (λ l. l.less) left

@@ -1,9 +1,0 @@
-use Rattle.std.proofs.Common.{◌≡◌, ◌++◌, drop}
-use Rattle.toml.specs.View.{items_view}
-use Rattle.opgen_document.specs.Document.{in_tables}
-use Rattle.opgen_spec.specs.kinds.Sop.{scaled_of}
-use Rattle.opgen_spec.proofs.kinds.sop.all_scaled.Given as goal
-
-abbrev pub invariant-items : goal.invariant-items
-invariant-items l =
-    l.terms ++ in_tables (scaled_of (items_view l.inputs)) (items_view (drop l.item-index l.items)) ≡ in_tables (scaled_of (items_view l.inputs)) (items_view l.items)
