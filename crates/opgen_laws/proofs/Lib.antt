@@ -6,7 +6,10 @@ pub mod OneAnswer
 pub mod Caused
 pub mod FixedLines
 pub mod RowCells
+pub mod CheckedRows
 pub mod GoodRows
+pub mod Recalling
+pub mod Certified
 pub mod GoodWorkloads
 pub mod Counting
 pub mod Numbering

@@ -12,3 +12,5 @@ pub mod OneReadingOfRows
 pub mod OneProductNet
 pub mod OneSopNet
 mod WholeCoefficients
+pub mod Aligning
+pub mod OneRow
