@@ -69,7 +69,7 @@ def add(net: Net, one: Row, other: Row, width: int) -> Row:
     least += low.word.least >> below
     greatest += (low.word.greatest >> below) + (high.pending is not None)
     places = min(width - start, width_of(least, greatest))
-    found = ranged(summed(net, low, high, places, "-" if minus else "+"), least, greatest, places)
+    found = whole_word(summed(net, low, high, places, "-" if minus else "+"), places, least < 0)
     if below:
         tree = joined(cut(found, 0, found.width), cut(low.word, 0, below))
         found = Word(net.wire(tree), found.least << below, (found.greatest + 1 << below) - 1)
@@ -91,11 +91,9 @@ def beside(net: Net, low: Row, high: Row) -> Row:
     return Row(Word(net.wire(tree), high.word.least << below, (high.word.greatest + 1 << below) - 1), low.column)
 
 
-def ranged(node: int, least: int, greatest: int, places: int) -> Word:
-    """The word of a sum; where it has no room it is one in two's complement of these places."""
-    if width_of(least, greatest) > places:
-        return Word(node, -(1 << places - 1), (1 << places - 1) - 1)
-    return Word(node, least, greatest)
+def whole_word(node: int, places: int, is_signed: bool) -> Word:
+    """A word of so many bits that may be any number: the range of a sum is not kept."""
+    return Word(node, -(1 << places - 1), (1 << places - 1) - 1) if is_signed else Word(node, 0, (1 << places) - 1)
 
 
 def summed(net: Net, low: Row, high: Row, places: int, sign: str) -> int:
@@ -153,7 +151,7 @@ def by_top(rows: list[Row]) -> list[Row]:
 
 def in_neighbours(net: Net, rows: list[Row], width: int) -> Row:
     """Level by level, each row and the next."""
-    left = by_top(rows)
+    left = list(rows)
     while len(left) > 1:
         pairs = [add(net, *left[at : at + 2], width) for at in range(0, len(left) - 1, 2)]
         left = pairs + left[len(left) - len(left) % 2 :]
@@ -161,8 +159,8 @@ def in_neighbours(net: Net, rows: list[Row], width: int) -> Row:
 
 
 def in_halves(net: Net, rows: list[Row], width: int) -> Row:
-    """The lower half and the upper half of the rows by their highest places, each in the same way, no deeper than a balanced tree.
-    Rows for which that depth has room in a line are added so: then each sum but the first takes a row in that no other sum made."""
+    """The first half and the other half of the rows, each in the same way, no deeper than a balanced tree. Rows for which that depth has
+    room in a line are added so: then each sum but the first takes a row in that no other sum made."""
 
     def of(some: list[Row], depth: int) -> Row:
         if len(some) <= depth + 1:
@@ -170,7 +168,12 @@ def in_halves(net: Net, rows: list[Row], width: int) -> Row:
         half = (len(some) + 1) // 2
         return add(net, of(some[:half], depth - 1), of(some[half:], depth - 1), width)
 
-    return of(by_top(rows), depth_of(len(rows)))
+    return of(rows, depth_of(len(rows)))
+
+
+def by_tops(net: Net, rows: list[Row], width: int) -> Row:
+    """In halves, by their highest places."""
+    return in_halves(net, by_top(rows), width)
 
 
 def in_even_halves(net: Net, rows: list[Row], width: int) -> Row:
@@ -182,7 +185,7 @@ def in_even_halves(net: Net, rows: list[Row], width: int) -> Row:
         half = (len(some) + 1) // 2
         return add(net, of(some[:half]), of(some[half:]), width)
 
-    return of(by_top(rows))
+    return of(rows)
 
 
 def depth_of(count: int) -> int:
@@ -191,10 +194,9 @@ def depth_of(count: int) -> int:
 
 
 def in_line(net: Net, rows: list[Row], width: int) -> Row:
-    """One after the other, in the order of their highest places."""
-    ordered = by_top(rows)
-    total = ordered[0]
-    for row in ordered[1:]:
+    """One after the other."""
+    total = rows[0]
+    for row in rows[1:]:
         total = add(net, total, row, width)
     return total
 
@@ -220,7 +222,7 @@ def places_of(one: Row, other: Row) -> int:
 
 
 ORDERS: dict[str, Callable[[Net, list[Row], int], Row]] = {
-    "neighbours": in_neighbours, "halves": in_halves, "even": in_even_halves, "line": in_line, "cheapest": in_cheapest}
+    "neighbours": in_neighbours, "halves": in_halves, "tops": by_tops, "even": in_even_halves, "line": in_line, "cheapest": in_cheapest}
 
 
 def spared(net: Net, rows: list[Row]) -> list[Row]:
@@ -232,12 +234,35 @@ def spared(net: Net, rows: list[Row]) -> list[Row]:
         return rows
     first = rows[lowest[0]]
     alone = Row(Word(net.wire(first.pending), 0, 1), least)
-    return [alone, replace(first, pending=None), *(row for at, row in enumerate(rows) if at != lowest[0])]
+    return [*rows[: lowest[0]], alone, replace(first, pending=None), *rows[lowest[0] + 1 :]]
 
 
-def total(net: Net, rows: list[Row], width: int, order: str) -> Word:
-    """The sum of rows modulo 2^width, from column 0 up."""
-    row = ORDERS[order](net, spared(net, rows), width)
+def constant_row(net: Net, number: int) -> Row:
+    """A number above 0 as a row."""
+    column = (number & -number).bit_length() - 1
+    number >>= column
+    return Row(Word(net.wire(bits_of(number, width_of(number, number))), number, number), column)
+
+
+def with_constant(net: Net, rows: list[Row], constant: int) -> list[Row]:
+    """Rows and a number, which is 0 or more: its bits are above the last of the rows that end highest below it; if none does they are a
+    row by themselves."""
+    if not constant:
+        return rows
+    alone = constant_row(net, constant)
+    below = [at for at, row in enumerate(rows) if row.word.least >= 0 and not row.is_negative and row.top <= alone.column]
+    if not below:
+        return [*rows, alone]
+    at = max(below, key=lambda at: (rows[at].top, at))
+    word, high = rows[at].word, constant >> rows[at].top
+    tree = joined(bits_of(high, width_of(0, high)), cut(word, 0, word.width))
+    wide = Word(net.wire(tree), 0, (high + 1 << word.width) - 1)
+    return [*rows[:at], replace(rows[at], word=wide), *rows[at + 1 :]]
+
+
+def total(net: Net, rows: list[Row], width: int, order: str, constant: int = 0) -> Word:
+    """The sum of rows and a constant modulo 2^width, from column 0 up."""
+    row = ORDERS[order](net, spared(net, with_constant(net, rows, constant % (1 << width))), width)
     assert row.pending is None
     if row.is_negative:
         row = add(net, Row(Word(net.wire(bits_of(0, 1)), 0, 0), row.column), row, width)

@@ -16,12 +16,10 @@ from .words import Word, cut, input_word
 
 @dataclass(frozen=True)
 class Form:
-    """A form of the recipe: the digits, how their bits are written, the order of sums, the inputs of a table, how constants are
-    multiplied (by `tables`, on a `graph`, by `differences`, or of a filter on a graph before a `chain` of registers), and whether
-    words on a graph lose places."""
+    """A form of the recipe: the digits, the order of sums, the inputs of a table, how constants are multiplied (by `tables`, on a
+    `graph`, by `differences`, or of a filter on a graph before a `chain` of registers), and whether words on a graph lose places."""
 
     recoding: str = "booth"
-    style: str = "direct"
     order: str = "halves"
     lut: int = 6
     constants: str = "tables"
@@ -55,21 +53,22 @@ def net_of(circuit: Circuit, form: Form) -> Net:
     return net
 
 
-def summed(net: Net, rows: list[Row], width: int, form: Form) -> Word:
-    return total(net, rows, width, form.order)
+def summed(net: Net, rows: list[Row], width: int, form: Form, constant: int = 0) -> Word:
+    return total(net, rows, width, form.order, constant)
 
 
-def products_of(net: Net, words: Words, terms: Sequence[tuple[str, str, bool]], form: Form) -> list[Row]:
-    """The rows of products, each of two inputs and with its sign."""
-    return [row for a, b, is_negative in terms for row in product_rows(net, words[a], words[b], form.recoding, is_negative, form.style)]
+def products_of(net: Net, words: Words, terms: Sequence[tuple[str, str, bool]], width: int, form: Form) -> tuple[list[Row], int]:
+    """The rows of products modulo 2^width, each of two inputs and with its sign, and their constant."""
+    found = [product_rows(net, words[a], words[b], width, form.recoding, is_negative) for a, b, is_negative in terms]
+    return [row for rows, _ in found for row in rows], sum(constant for _, constant in found)
 
 
 def product(widths: tuple[int, int], is_signed: bool, dropped: int = 0) -> Circuit:
     width = sum(widths)
 
     def build(net: Net, words: Words, form: Form) -> Outputs:
-        rows = products_of(net, words, [("a", "b", False)], form)
-        return {"y": (summed(net, cut_rows(net, rows, dropped) if dropped else rows, width, form), dropped)}
+        rows, constant = products_of(net, words, [("a", "b", False)], width, form)
+        return {"y": (summed(net, cut_rows(net, rows, dropped) if dropped else rows, width, form, constant), dropped)}
 
     inputs = tuple((name, each, is_signed) for name, each in zip("ab", widths))
     return Circuit(inputs, (("y", width - dropped, is_signed),), build, lambda rows: [Fraction(rows[-1][0] * rows[-1][1], 1 << dropped)])
@@ -79,7 +78,7 @@ def squares(names: str, width: int, is_signed: bool) -> Circuit:
     """The sum of the squares of inputs."""
 
     def build(net: Net, words: Words, form: Form) -> Outputs:
-        rows = [row for name in names for row in square_rows(net, words[name], False, form.lut)]
+        rows = [row for name in names for row in square_rows(net, words[name], 2 * width, False, form.lut)]
         return {"y": (summed(net, rows, 2 * width, form), 0)}
 
     inputs = tuple((name, width, is_signed) for name in names)
@@ -91,8 +90,8 @@ def dot(pairs: int, width: int = 8) -> Circuit:
     out = 2 * width + (pairs - 1).bit_length()
 
     def build(net: Net, words: Words, form: Form) -> Outputs:
-        rows = products_of(net, words, [(a, b, False) for a, b in zip(names[::2], names[1::2])], form)
-        return {"y": (summed(net, rows, out, form), 0)}
+        rows, constant = products_of(net, words, [(a, b, False) for a, b in zip(names[::2], names[1::2])], out, form)
+        return {"y": (summed(net, rows, out, form, constant), 0)}
 
     def exact(rows: list[list[int]]) -> list[Fraction]:
         return [Fraction(sum(a * b for a, b in zip(rows[-1][::2], rows[-1][1::2])))]
@@ -102,8 +101,8 @@ def dot(pairs: int, width: int = 8) -> Circuit:
 
 def mac(width: int = 16) -> Circuit:
     def build(net: Net, words: Words, form: Form) -> Outputs:
-        rows = products_of(net, words, [("a", "b", False)], form)
-        return {"y": (summed(net, [*rows, Row(words["c"], 0)], 2 * width + 1, form), 0)}
+        rows, constant = products_of(net, words, [("a", "b", False)], 2 * width + 1, form)
+        return {"y": (summed(net, [*rows, Row(words["c"], 0)], 2 * width + 1, form, constant), 0)}
 
     inputs = (("a", width, False), ("b", width, False), ("c", 2 * width, False))
     return Circuit(inputs, (("y", 2 * width + 1, False),), build, lambda rows: [Fraction(rows[-1][0] * rows[-1][1] + rows[-1][2])])
@@ -113,8 +112,8 @@ def complex_product(width: int = 16, dropped: int = 16) -> Circuit:
     def build(net: Net, words: Words, form: Form) -> Outputs:
         found = {}
         for name, terms in (("y", (("a", "c", False), ("b", "d", True))), ("z", (("a", "d", False), ("b", "c", False)))):
-            rows = products_of(net, words, terms, form)
-            found[name] = (summed(net, cut_rows(net, rows, dropped), 2 * width + 1, form), dropped)
+            rows, constant = products_of(net, words, terms, 2 * width + 1, form)
+            found[name] = (summed(net, cut_rows(net, rows, dropped), 2 * width + 1, form, constant), dropped)
         return found
 
     def exact(rows: list[list[int]]) -> list[Fraction]:

@@ -9,6 +9,7 @@ The lowest digit is one bit, 0 or 1, where that makes no row more: then one row 
 """
 from __future__ import annotations
 
+from collections.abc import Callable
 from dataclasses import dataclass
 
 from .adding import ONE, Row
@@ -161,52 +162,97 @@ def whole(net: Net, tree: tuple) -> tuple:
     return bit(net.logic(tree), 0)
 
 
-def row_of(net: Net, word: Word, digit: Digit, is_negative: bool, style: str) -> Row:
-    """The row of a digit, or its negative, of a product."""
-    pending = pending_of(net, digit, is_negative)
-    numbers = []
-    for value in digit.values:
-        times = -value if is_negative else value
-        corners = [times * word.least, times * word.greatest]
-        numbers += [corner - 1 for corner in corners] if pending is not None and times <= 0 else corners
-        numbers += corners if not times else []
-    least, greatest = min(numbers), max(numbers)
-    width = width_of(least, greatest)
-    once = cut(word, 0, width)
-    twice = joined(cut(word, 0, width - 1), ZERO) if width > 1 else ZERO
+def multiple_of(digit: Digit, number: int, is_negative: bool, is_filled: bool) -> tuple[int, bool]:
+    """The size of a digit whose bits are these three, and whether its row is a complement; of a Booth digit 0 only if `is_filled`."""
+    top, middle, low = number >> 2 & 1, number >> 1 & 1, number & 1
     if digit.is_offset:
-        tree = chosen(offset_terms(digit, once, twice, is_negative), width)
-    elif style != "direct" and len(digit.values) > 3:
-        tree = controlled(net, digit, once, twice, is_negative, width, style)
-    else:
-        tree = chosen(booth_terms(digit, once, twice, is_negative, pending is not None), width)
-    return Row(Word(net.logic(tree), least, greatest), digit.place, pending)
+        value = 2 * top + middle - 1
+        return abs(value), bool(top) if is_negative else value < 0
+    return abs(middle + low - 2 * top), bool(top) != is_negative and is_filled
 
 
-def controlled(net: Net, digit: Digit, once: tuple, twice: tuple, is_negative: bool, width: int, style: str) -> tuple:
-    """The same by two bits of the digit that are nodes: whether its size is 1, and whether it is 2; by `sized` the multiple of that size
-    is a node too."""
-    one = whole(net, ("chain", "xor", [digit.middle, digit.low]))
-    two = whole(net, chosen([([digit.top, inverse(digit.middle), inverse(digit.low)], ONE), ([inverse(digit.top), digit.middle, digit.low], ONE)], 1))
-    sign = copies(digit.top, width)
-    terms = [("chain", "and", [copies(one, width), once]), ("chain", "and", [copies(two, width), twice])]
-    sign = inverse(sign) if is_negative else sign
-    if style == "sized":
-        return ("chain", "xor", [("name", name_of(net.logic(("chain", "or", terms)))), sign])
-    return ("chain", "xor", [*terms, sign])
+def square_multiple(digit: Digit, number: int, is_negative: bool) -> tuple[int, bool]:
+    """The same for a row of a square."""
+    size, is_complement = multiple_of(digit, number, False, True)
+    return size, (is_complement and size > 0) != is_negative
 
 
-def product_rows(net: Net, a: Word, b: Word, recoding: str = "booth", is_negative: bool = False, style: str = "direct") -> list[Row]:
-    """The rows of a product: of the word with fewer digits, each times the other word; those of the second if they are as many."""
+def top_of_row(net: Net, word: Word, digit: Digit, multiple: Callable[[int], tuple[int, bool]], place: int, units: int, width: int) -> Word:
+    """The places of a row from `place` on, as many as asked for, with so many units of it added: a table that reads the bits of the
+    digit and the highest two of the word."""
+    size = min(2, word.width)
+    signals = [tree for tree in dict.fromkeys((digit.top, digit.middle, digit.low)) if constant(tree) is None]
+    rows = []
+    for number in range(1 << len(signals) + size):
+        values = {tree: number >> size + at & 1 for at, tree in enumerate(reversed(signals))}
+        bits = [values.get(tree, constant(tree)) for tree in (digit.top, digit.middle, digit.low)]
+        factor, is_complement = multiple(4 * bits[0] + 2 * bits[1] + bits[2])
+        high = number & (1 << size) - 1
+        high -= (high >> size - 1 << size) if word.is_signed else 0
+        found = factor * high >> place - word.width + size
+        rows.append((~found if is_complement else found) + units & (1 << width) - 1)
+    greatest = max(rows)
+    if greatest == min(rows):
+        return Word(net.wire(bits_of(greatest, width_of(0, greatest))), 0, greatest)
+    made = net.table(joined(*signals, cut(word, word.width - size, word.width)), rows, width_of(0, greatest))
+    return Word(made, 0, greatest)
+
+
+def row_of(net: Net, word: Word, digit: Digit, is_negative: bool, place: int, units: int, room: int) -> Row:
+    """The row of a digit, or its negative, of a product, with so many units of a place added, so that it is no number below 0: bits of
+    logic below the place, and a table from there on. Places from `room` on are left out."""
+    pending = pending_of(net, digit, is_negative)
+    low = min(place, room)
+    below = None
+    if low:
+        once, twice = cut(word, 0, low), joined(cut(word, 0, low - 1), ZERO)
+        if digit.is_offset:
+            tree = chosen(offset_terms(digit, once, twice, is_negative), low)
+        else:
+            tree = chosen(booth_terms(digit, once, twice, is_negative, pending is not None), low)
+        below = ("name", name_of(net.logic(tree)))
+    if room <= place:
+        return Row(Word(net.wire(below), 0, (1 << low) - 1), digit.place, pending)
+
+    def multiple(number: int) -> tuple[int, bool]:
+        return multiple_of(digit, number, is_negative, pending is not None)
+
+    return Row(topped(net, top_of_row(net, word, digit, multiple, place, units, min(3, room - place)), below), digit.place, pending)
+
+
+def topped(net: Net, top: Word, below: tuple | None) -> Word:
+    """The word of a top and of wires below it."""
+    if below is None:
+        return top
+    places = net.width(below)
+    return Word(net.wire(joined(cut(top, 0, top.width), below)), 0, (1 << top.width + places) - 1)
+
+
+def product_rows(net: Net, a: Word, b: Word, width: int, recoding: str = "booth", is_negative: bool = False) -> tuple[list[Row], int]:
+    """The rows of a product modulo 2^width, and a constant that belongs to them: of the word with fewer digits, each times the other
+    word; of the second if they are as many.
+
+    Each row has 3 units of a place added so that it is no number below 0, the first one 1 more; a first one of a single bit only 1
+    unit of the next one's. As each row is two columns above the one before, all that is added is one power of two. The unit is what
+    the row's sign weighs; of offset digits and a word without sign, a quarter of it.
+    """
     rows_of = {"booth": booth, "offset": offset}[recoding]
-    first, second = len(booth(net, a)), len(booth(net, b))
-    if first < second:
+    if len(booth(net, a)) < len(booth(net, b)):
         a, b = b, a
-    return [row_of(net, a, digit, is_negative, style) for digit in rows_of(net, b)]
+    digits = rows_of(net, b)
+    is_single = len(digits) > 1 and digits[1].place == digits[0].place + 1
+    place = a.width + (not a.is_signed) - 2 * (not a.is_signed and any(digit.is_offset for digit in digits) and not is_negative)
+    rows = []
+    for at, digit in enumerate(digits):
+        units = 3 if at else 2 if is_single else 4
+        rows.append(row_of(net, a, digit, is_negative, place, units, width - digit.place))
+    return rows, -1 << digits[-1].place + place + 2
 
 
-def square_rows(net: Net, word: Word, is_negative: bool = False, lut: int = 6) -> list[Row]:
-    """The rows of a word times itself, or of its negative: each digit times what is above it, twice, and the digit's square below.
+def square_rows(net: Net, word: Word, width: int, is_negative: bool = False, lut: int = 6) -> list[Row]:
+    """The rows of a word times itself, or of its negative, modulo 2^width: each digit times what is above it, twice, and the digit's
+    square below. What is added to them so that they are no numbers below 0, as to those of a product, is taken off in the last one, a
+    table.
 
     With U the bits above a digit's two and t its top bit, all digits above it are U + t. So where t is 1 the digit times these is
     its size times the complement of U. The highest digit, of `lut` bits at most, is squared by a table.
@@ -215,7 +261,8 @@ def square_rows(net: Net, word: Word, is_negative: bool = False, lut: int = 6) -
     while word.width - last + (last > 0) > lut:
         rows.append(square_row(net, word, digit_at(word, last), is_negative))
         last += 2
-    return [*rows, square_of_top(net, word, last, is_negative)]
+    added = 1 << word.width + 2 - word.is_signed + 2 * len(rows) if rows else 0
+    return [*rows, square_of_top(net, word, last, is_negative, -added, width)]
 
 
 def digit_at(word: Word, place: int) -> Digit:
@@ -227,18 +274,17 @@ def digit_at(word: Word, place: int) -> Digit:
 def square_row(net: Net, word: Word, digit: Digit, is_negative: bool) -> Row:
     """A digit times what is above it, and its square."""
     above = high_part(net, word, digit.place + 2)
-    least, greatest = min(2 * above.least, -2 * above.greatest - 2), max(2 * above.greatest, -2 * above.least - 2)
-    width = width_of(least, greatest)
-    once, twice = cut(above, 0, width), joined(cut(above, 0, width - 1), digit.top)
-    times = chosen(booth_terms(digit, once, twice, False, False), width)
-    one = chosen([(bits, ONE) for bits, _ in sized(digit, 1)], 1)
-    two = chosen([(bits, ONE) for bits, _ in sized(digit, 2)], 1)
-    high, four, unit = (name_of(net.logic(inverse(tree) if is_negative else tree)) for tree in (times, two, one))
-    node = net.wire(joined(("name", high), ("name", four), bits_of(-is_negative, 1), ("name", unit)))
-    least, greatest = least << 3, (greatest << 3) + 5
-    if is_negative:
-        least, greatest = -greatest - 1, -least - 1
-    return Row(Word(node, least, greatest), 2 * digit.place, ONE if is_negative else None)
+    place = above.width + (not above.is_signed)
+
+    def multiple(number: int) -> tuple[int, bool]:
+        return square_multiple(digit, number, is_negative)
+
+    top = top_of_row(net, above, digit, multiple, place, 3 + (not digit.place), 3)
+    twice = joined(cut(above, 0, place - 1), digit.top)
+    trees = [chosen(booth_terms(digit, cut(above, 0, place), twice, False, False), place)] if place else []
+    trees += [chosen([(bits, ONE) for bits, _ in sized(digit, size)], 1) for size in (2, 1)]
+    *times, four, unit = (("name", name_of(net.logic(inverse(tree) if is_negative else tree))) for tree in trees)
+    return Row(topped(net, top, joined(*times, four, bits_of(-is_negative, 1), unit)), 2 * digit.place, ONE if is_negative else None)
 
 
 def sized(digit: Digit, size: int) -> list[tuple[list[tuple], tuple]]:
@@ -254,14 +300,14 @@ def number_of_size(bits: list[tuple], digit: Digit) -> int:
     return abs(-2 * top + middle + low)
 
 
-def square_of_top(net: Net, word: Word, place: int, is_negative: bool) -> Row:
-    """The square of the highest digit, which is the bits from a place up and the bit below, by a table."""
-    low = max(place - 1, 0)
+def square_of_top(net: Net, word: Word, place: int, is_negative: bool, constant: int, width: int) -> Row:
+    """The square of the highest digit, which is the bits from a place up and the bit below, and a constant by a table."""
+    low, room = max(place - 1, 0), width - 2 * place
     size = word.width - low
     rows = []
     for number in range(1 << size):
         value = number - (1 << size) if word.is_signed and number >> size - 1 else number
         digit = (value >> 1) + (value & 1) if place else value
-        rows.append(-digit * digit if is_negative else digit * digit)
-    made = net.table(cut(word, low, word.width), rows, width_of(min(rows), max(rows)))
-    return Row(Word(made, min(rows), max(rows)), 2 * place)
+        rows.append((-digit * digit if is_negative else digit * digit) + (constant >> 2 * place) & (1 << room) - 1)
+    made = net.table(cut(word, low, word.width), rows, width_of(0, max(rows)))
+    return Row(Word(made, 0, max(rows)), 2 * place)

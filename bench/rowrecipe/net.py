@@ -26,11 +26,13 @@ class Node:
 
 @dataclass
 class Net:
-    """A net, which grows node by node. An expression may be of one node's bits alone where that costs nothing."""
+    """A net, which grows node by node. An expression may be of one node's bits alone where that costs nothing. `wires` keeps what the
+    bits of nodes of wires are."""
 
     nodes: list[Node] = field(default_factory=list)
     outputs: list[tuple[str, int]] = field(default_factory=list)
     known: dict[tuple, int] = field(default_factory=dict)
+    wires: dict[int, list[Source]] = field(default_factory=dict)
 
     def put(self, node: Node) -> int:
         """A node, once where it is asked for again."""
@@ -187,7 +189,9 @@ def bit_of(net: Net, node: int, at: int) -> Source:
     """A bit of a node, through wires."""
     if net.nodes[node].kind != "wire":
         return node, at
-    return sources(net, net.nodes[node].tree)[at]
+    if node not in net.wires:
+        net.wires[node] = sources(net, net.nodes[node].tree)
+    return net.wires[node][at]
 
 
 class Machine:

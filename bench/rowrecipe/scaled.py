@@ -7,7 +7,7 @@ from fractions import Fraction
 
 from byhand.filters import Adder, adders_by, graph_of, odd_part
 
-from .adding import ONE, ORDERS, Row, add
+from .adding import ONE, ORDERS, Row, add, constant_row
 from .net import Net
 from .words import Word, bits_of, cut, high_part, joined, width_of
 
@@ -200,16 +200,8 @@ def halved(net: Net, rows: list[Row], places: int, constant: int) -> list[Row]:
         half = cut(row.word, places - 1 - row.column, places - row.column)
         high = Row(high_part(net, row.word, places - row.column), places, half)
         return [each for each in rows if each.column >= places] + [high]
-    return [*rows, *constant_rows(net, constant + (1 << places - 1))]
-
-
-def constant_rows(net: Net, constant: int) -> list[Row]:
-    """A constant as a row."""
-    if not constant:
-        return []
-    column = (constant & -constant).bit_length() - 1
-    number = constant >> column
-    return [Row(Word(net.wire(bits_of(number, width_of(number, number))), number, number), column)]
+    constant += 1 << places - 1
+    return [*rows, constant_row(net, constant)] if constant else rows
 
 
 def by_graph(net: Net, terms: Terms, offset: Fraction, order: str, is_cut: bool, width: int) -> tuple[list[Row], int]:

@@ -1,4 +1,4 @@
-"""Rows of inputs: at the ends of ranges and around them, and drawn as docs/COMMANDS.md says."""
+"""Rows of inputs: all of them, those at the ends of ranges and around them, and those drawn as docs/COMMANDS.md says."""
 import itertools
 import math
 from collections.abc import Iterator, Sequence
@@ -10,6 +10,11 @@ from .rows import unit_count
 
 # Up to so many combinations of ends of all inputs are taken, and of more the pairs.
 MOST_COMBINATIONS = 20_000
+
+
+def every_row(widths: Sequence[int]) -> Iterator[Numbers]:
+    """Each row of words of inputs of these widths, in bits, once; the last input changes first."""
+    return itertools.product(*(range(1 << width) for width in widths))
 
 
 def is_divisor(operator: Operator, port: Port) -> bool:

@@ -4,12 +4,16 @@ import argparse
 import os
 from functools import cache
 from pathlib import Path
+from typing import TYPE_CHECKING, Any
 
 from opgen import Error, Program, Rejected
 
 from .running import process
 
-__all__ = ["Error", "NoProgram", "Program", "Rejected", "add_option", "built", "program_of"]
+if TYPE_CHECKING:
+    from .report import Port
+
+__all__ = ["Error", "NoProgram", "Program", "Rejected", "add_option", "built", "ports_by", "program_of"]
 
 TOP = Path(__file__).resolve().parent.parent.parent
 
@@ -52,3 +56,18 @@ def built(path: Path | None = None) -> Path:
 def program_of(path: Path | None = None) -> Program:
     """The same program as a tool calls it."""
     return Program(built(path))
+
+
+def ports_by(program: Program, table: dict[str, Any]) -> "tuple[Port, ...]":
+    """The ports of a specification, by a program that makes its circuit. Of a document of which it makes none: `NoPorts`. Only here is
+    the schema read, which a folder with the program alone has not."""
+    from .asking import NoPorts, ports_of
+
+    def generate(spec: Path) -> str:
+        try:
+            program.call("generate", spec.name, folder=spec.parent)
+        except Rejected as fault:
+            raise NoPorts(f"the specification is refused: {fault.cause}") from None
+        return next(spec.parent.glob("*.rpt")).read_text()
+
+    return ports_of(table, generate)

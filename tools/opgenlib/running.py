@@ -87,8 +87,9 @@ def is_of_output(fault: OSError) -> bool:
 
 
 def show_progress(tool: str, said: str) -> None:
-    """A line on standard error that says where long work is."""
-    print(f"{tool}: {said}", file=sys.stderr, flush=True)
+    """A line on standard error that says where long work is, whole beside those of other threads."""
+    sys.stderr.write(f"{tool}: {said}\n")
+    sys.stderr.flush()
 
 
 def open_outputs() -> None:

@@ -14,6 +14,7 @@ from opgenlib.drawings.profile import profile
 from opgenlib.drawings.response import factors_of, is_filter, response
 from opgenlib.drawings.schedule import Schedule
 from opgenlib.drawings.timing import timing
+from opgenlib.operators import memory_of
 from opgenlib.report import CELLS, Port, Report
 from opgenlib.rows import value_text
 from opgenlib.schema import command
@@ -162,8 +163,7 @@ def error_text(sheet: Sheet) -> str:
 
 def recovery_cycle(facts: Report, spec: dict) -> int:
     """The cycle from which on outputs are good whatever the registers hold in cycle 0: the latency, and of a filter its taps less one."""
-    taps = {"fir": "coefficients", "tfir": "taps"}.get(facts.kind)
-    return facts.latency + (len(spec[taps]) - 1 if taps else 0)
+    return facts.latency + memory_of(spec) - 1
 
 
 def summary(sheet: Sheet) -> str:

@@ -1,4 +1,4 @@
-"""The terms of a sum of products: what each is multiplied by, in units of the output's last place, and over which values it goes."""
+"""The terms of a sum of products: what each is multiplied by, in units of the output's last place."""
 from __future__ import annotations
 
 from collections.abc import Sequence
@@ -42,21 +42,6 @@ class Term:
         return self.factor.denominator == 1
 
     @property
-    def is_square(self) -> bool:
-        return len(self.inputs) == 2 and self.inputs[0] == self.inputs[1]
-
-    @property
-    def ends(self) -> tuple[Fraction, Fraction]:
-        """The least and the greatest value."""
-        if self.is_square:
-            found = [Fraction(0), self.factor * size_of(self.inputs[0]) ** 2]
-        else:
-            found = [self.factor]
-            for port in self.inputs:
-                found = [value * end for value in found for end in (port.least, port.greatest)]
-        return min(found), max(found)
-
-    @property
     def words(self) -> str:
         """The term without its sign, as `3/4 * x` or `a * b`."""
         names = [port.name for port in self.inputs]
@@ -81,12 +66,6 @@ def terms_of(spec: dict[str, Any]) -> list[Term]:
         pair = ports[one["a"]], ports[one["b"]]
         found.append(Term("product", line, -1 if one.get("negative", False) else 1, 1, pair[0].lsb + pair[1].lsb - out, pair))
     return found + ([Term("offset", 0, offset, over, -out, ())] if offset else [])
-
-
-def range_of(terms: Sequence[Term]) -> tuple[Fraction, Fraction]:
-    """The least and the greatest sum, each term by itself."""
-    ends = [term.ends for term in terms]
-    return sum((low for low, _ in ends), Fraction(0)), sum((high for _, high in ends), Fraction(0))
 
 
 def total_bits(spec: dict[str, Any]) -> int:

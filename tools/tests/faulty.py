@@ -176,6 +176,8 @@ class Case:
     status: int
     line: str
     explained: list[str]
+    # The report of the specification, by which the program is asked for its ports.
+    report: str = ""
 
 
 def generated(name: str, text: str | bytes, line: str, *explained: str) -> Case:
@@ -556,12 +558,25 @@ ROWS = [
 ]
 JUDGED = VHDL.replace("(9 downto 0)", "(3 downto 0)")
 TIMES_ONE = SCALE.replace("[3]", "[1]")
+REPORT = """\
+operator first
+kind scale
+mode exact
+target plain
+period 1000000
+latency 0
+slack 999900
+input x unsigned 4 0
+output y unsigned 4 0
+cells wire 0 logic 0 add 0 choice 0 table 4 register 0
+signals 2
+"""
 
 
 def judged(name: str, text: str, latency: int, status: int, line: str, *explained: str) -> Case:
     """A design beside a specification of 1 times four bits, over four rows."""
     files = {"first.toml": TIMES_ONE, "my.vhd": text, "my.vec": "1\n2\n3\n4\n"}
-    return Case(name, files, ["check", "first.toml", "my.vhd", "my.vec", str(latency)], status, line, list(explained))
+    return Case(name, files, ["check", "first.toml", "my.vhd", "my.vec", str(latency)], status, line, list(explained), REPORT)
 
 
 EXPECTED = "  expected, in this order: x : in std_logic_vector(3 downto 0), y : out std_logic_vector(3 downto 0)"

@@ -200,6 +200,7 @@ class Terminated(unittest.TestCase):
             of_program = ["--bin", folder / "path/program"]
             self.ended(folder, TOOLS / "sheet", EXAMPLES / "times3.toml", *of_program)
             self.ended(folder, TOOLS / "place", EXAMPLES / "times3.toml", *of_program)
+            self.ended(folder, TOOLS / "rows", "draw", EXAMPLES / "times3.toml", *of_program)
             self.ended(folder, TOOLS / "sweep", EXAMPLES / "times3.toml", "width=4,5", "--jobs", "1", *of_program)
             self.ended(folder, TOOLS / "delays", "--device", "hx8k", name="yosys")
             self.ended(folder, TOOLS / "judge", EXAMPLES / "duty.vhd", EXAMPLES / "duty.vec", name="ghdl")

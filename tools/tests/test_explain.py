@@ -10,7 +10,8 @@ from collections.abc import Iterator
 from pathlib import Path
 
 from opgenlib.explain import explain as explain_with
-from opgenlib.explain.limits import SECONDS
+from opgenlib.explain.again import Runner
+from opgenlib.explain.limits import SECONDS, TooLong
 from tests.faulty import CASES, JUDGED_CASES, SCALE, VHDL, Case
 from tests.loading import has_ended
 
@@ -26,6 +27,11 @@ NO_PYTHON = "opgen: Python 3.11 or later would explain this, and there is no pyt
 def explain(words: list[str], status: int, line: str | None) -> list[str]:
     """What is explained where the program is not run again."""
     return explain_with(words, status, None, line)
+
+
+def report_by(report: str) -> Runner | None:
+    """What runs a program that makes a circuit with this report, and does nothing else; none without a report."""
+    return (lambda command, *_: (0, "", report) if command == "generate" else (5, "", "")) if report else None
 
 
 @contextlib.contextmanager
@@ -74,7 +80,7 @@ class Explained(unittest.TestCase):
     def test_cases(self) -> None:
         for case in CASES:
             with self.subTest(case.name), folder_of(case.files):
-                self.assertEqual(explain(case.words, case.status, case.line), case.explained)
+                self.assertEqual(explain_with(case.words, case.status, report_by(case.report), case.line), case.explained)
 
     def test_at_most_three_lines(self) -> None:
         for case in CASES:
@@ -133,6 +139,16 @@ class NotGuessed(unittest.TestCase):
         with folder_of({"first.toml": SCALE}):
             self.assertEqual(explain(["generate", "first.toml"], 1, "specification: NotToml"),
                              ["first.toml: no TOML document as opgen reads it"])
+
+    def test_ports_that_are_not_known(self) -> None:
+        """Without the program, and where it makes no circuit or takes too long, which port differs is not said."""
+        def late(*_: object) -> tuple[int, str, str]:
+            raise TooLong
+
+        for how in (None, late, lambda *_: (1, "specification: TooLarge\n", "")):
+            with folder_of({"first.toml": SCALE, "my.vhd": VHDL}):
+                said = explain_with(["check", "first.toml", "my.vhd", "my.vec", "1"], 6, how, "vhdl: Ports")
+            self.assertEqual(said, ["my.vhd: its ports are not those of first.toml, in names, directions, widths or order"])
 
     def test_newer_toml(self) -> None:
         newer = 'delay = [{class = "add", base = 1,\nper_bit = 1}]\n'

@@ -1,13 +1,22 @@
-"""Ports and good outputs by exact fractions agree with the examples, and with the verdicts that cases/judged has."""
+"""The ports of reports hold the good outputs by exact fractions, which agree with the verdicts that cases/judged has."""
 import tomllib
 import unittest
+from collections.abc import Sequence
+from dataclasses import replace
 from fractions import Fraction
+from functools import cache
+from typing import Any
 
-from opgenlib import drawing, operators, rows, specification, words
-from opgenlib.report import read_report
+from opgenlib import asking, drawing, operators, program, rows, specification, words
+from opgenlib.operators import Operator
+from opgenlib.report import Port, read_report
+from opgenlib.writing import document
 from tests.loading import EXAMPLES, module_of
+from tests.test_explain import NO_PROGRAM, PROGRAM
 
 JUDGED = module_of(EXAMPLES.parent / ".ci/judged")
+# The kinds whose outputs are no wider than their values need.
+LEAST = ("scale", "fir", "tfir", "multiply", "mcm", "sop")
 
 
 COMMON = {"version": 3, "name": "worked", "exact": True, "target": "plain", "period": 1000000}
@@ -33,45 +42,101 @@ def numbers(text, ports):
     return tuple(rows.unit_count(int(word, 16), port) for word, port in zip(text.split(), ports, strict=True))
 
 
-class Ports(unittest.TestCase):
+@cache
+def asked(text: str) -> tuple[Port, ...]:
+    """The ports of a document, by the program's report."""
+    return program.ports_by(program.program_of(PROGRAM), tomllib.loads(text))
+
+
+def ports_of(spec: dict[str, Any]) -> tuple[Port, ...]:
+    return asked(document(spec))
+
+
+def operator_of(spec: dict[str, Any]) -> Operator:
+    return operators.operator_of(spec, ports_of(spec))
+
+
+def fits(port: Port, number: int) -> bool:
+    return port.least <= number <= port.greatest
+
+
+def good_at_ends(operator: Operator) -> list[Sequence[Sequence[int]]]:
+    """The good outputs for each row of inputs at the ends of their ranges of which something is claimed."""
+    entered = list(drawing.end_rows(operator))
+    found = (operator.good(entered, at) for at in range(len(entered)))
+    return [good for good in found if good is not None]
+
+
+class Held(unittest.TestCase):
+    """Whether ports hold the exact values of their operator, by its values at the ends of its inputs' ranges."""
+
+    def check_held(self, operator: Operator) -> None:
+        """Each row has good outputs that the ports hold."""
+        for good in good_at_ends(operator):
+            self.assertTrue(any(all(map(fits, operator.outputs, numbers)) for numbers in good), operator.spec)
+
+    def check_least(self, operator: Operator) -> None:
+        """The ports hold all good outputs, and with a bit less or another sign they would not."""
+        good = [numbers for row in good_at_ends(operator) for numbers in row]
+        for port, column in zip(operator.outputs, zip(*good), strict=True):
+            self.assertTrue(all(fits(port, number) for number in column), operator.spec)
+            self.assertEqual(port.is_signed, min(column) < 0, operator.spec)
+            narrower = replace(port, width=port.width - 1)
+            if narrower.width > port.is_signed:
+                self.assertFalse(all(fits(narrower, number) for number in column), operator.spec)
+
+    def ports(self, spec: dict[str, Any]) -> tuple[Port, ...]:
+        """The ports of a specification, which have to hold its values."""
+        operator = operator_of(spec)
+        self.check_held(operator)
+        if spec["kind"] in LEAST and "out_width" not in spec:
+            self.check_least(operator)
+        return operator.ports
+
+
+@unittest.skipUnless(PROGRAM.exists(), NO_PROGRAM)
+class Ports(Held):
     def test_examples(self):
+        """Whatever target and period are, the ports are those of the report."""
         for path in sorted(EXAMPLES.glob("*.rpt")):
             spec = specification.load(path.with_suffix(".toml")).table
-            self.assertEqual(tuple(operators.ports_of(spec)), read_report(path).ports, path.name)
+            self.assertEqual(self.ports(spec), read_report(path).ports, path.name)
 
     def test_a_constant_of_nothing(self):
         """A sum that is always 0 has one bit, and one that is below 0 two or more."""
         spec = specification.load(EXAMPLES / "times3.toml").table
         for coefficient, is_signed, width in ((0, False, 1), (-1, True, 5), (3, False, 6)):
-            y = operators.ports_of(spec | {"coefficients": [coefficient]})[-1]
+            y = self.ports(spec | {"coefficients": [coefficient]})[-1]
             self.assertEqual((y.is_signed, y.width), (is_signed, width))
 
     def test_a_polynomial(self):
         """The numbers of docs/SPECIFICATION.md: 1/2 x + 1/2 x^2 with out_lsb -2 has three bits."""
         spec = {"version": 2, "name": "half", "kind": "poly", "exact": False, "target": "plain", "period": 1000, "width": 4,
                 "out_lsb": -2, "coefficients": [0, 1, 1], "denominator": 2}
-        self.assertEqual(operators.polynomial_range(spec), (0, 4))
-        self.assertEqual(operators.ports_of(spec)[-1].width, 3)
+        y = self.ports(spec)[-1]
+        self.assertEqual((y.is_signed, y.width), (False, 3))
+        # At 15/16 it is 465/512, in quarters 465/128: below 4, and above 3, which two bits would hold.
+        self.assertEqual(operator_of(spec).exact([(15,)], 0), [Fraction(465, 128)])
 
     def test_signed_quotients(self):
         """The quotient has a bit more, since -8 by -1 is 8, and one for each place of the shift; the remainder is as wide as the divisor."""
         for shift in (0, 2):
-            _, _, q, r = operators.ports_of(QUOTIENT | {"out_lsb": -shift})
+            _, _, q, r = self.ports(QUOTIENT | {"out_lsb": -shift})
             self.assertEqual([(q.is_signed, q.width, q.lsb), (r.is_signed, r.width, r.lsb)], [(True, 5 + shift, -shift), (True, 3, -shift)])
-        self.assertEqual(len(operators.ports_of(QUOTIENT | {"exact": False})), 3)
+        self.assertEqual(len(self.ports(QUOTIENT | {"exact": False})), 3)
 
     def test_sums(self):
         """Ranges of terms add up; those of a square begin at 0."""
         pairs = {"real": [{"a": "a", "b": "c"}, {"a": "b", "b": "d", "negative": True}], "imaginary": [{"a": "a", "b": "d"}, {"a": "b", "b": "c"}]}
         spec = SUM | {"input": inputs("a b c d", True, 4)}
         for part, width in (("real", 8), ("imaginary", 9)):
-            y = operators.ports_of(spec | {"product": pairs[part]})[-1]
+            y = self.ports(spec | {"product": pairs[part]})[-1]
             self.assertEqual((y.is_signed, y.width), (True, width))
         square = SUM | {"out_lsb": -6, "offset": -1, "input": inputs("v", True, 4, -3), "product": [{"a": "v", "b": "v"}]}
-        self.assertEqual([(port.name, port.width, port.is_signed) for port in operators.ports_of(square)], [("v", 4, True), ("y", 7, True)])
-        y = operators.ports_of(square | {"offset": -64, "out_lsb": 0, "exact": False})[-1]
+        self.assertEqual([(port.name, port.width, port.is_signed) for port in self.ports(square)], [("v", 4, True), ("y", 7, True)])
+        y = self.ports(square | {"offset": -64, "out_lsb": 0, "exact": False})[-1]
         self.assertEqual((y.is_signed, y.width), (True, 7))
-        y = operators.ports_of(square | {"offset": 1})[-1]
+        y = self.ports(square | {"offset": 1})[-1]
         self.assertEqual((y.is_signed, y.width), (False, 8))
 
     def test_ends_of_many_inputs(self):
@@ -79,7 +144,7 @@ class Ports(unittest.TestCase):
         for names, count in (("a b c d", 7**4), (" ".join(f"p{at}" for at in range(16)), 2 * 120 * 7**2)):
             first, *others = inputs(names, True, 4)
             spec = SUM | {"input": [first, *others], "product": [{"a": first["name"], "b": others[-1]["name"]}]}
-            found = list(drawing.end_rows(operators.operator_of(spec)))
+            found = list(drawing.end_rows(operator_of(spec)))
             self.assertEqual(len(found), count)
             self.assertEqual({(row[0], row[-1]) for row in found}, {(left, right) for left in drawn_ends() for right in drawn_ends()})
 
@@ -91,11 +156,11 @@ class Ports(unittest.TestCase):
         square = SUM | {"out_lsb": -6, "offset": -1, "input": inputs("v", True, 4, -3), "product": [{"a": "v", "b": "v"}]}
         for spec, entered, good in ((real, "8 7 7 7", ["97"]), (real, "8 8 8 7", ["78"]), (real, "1 2 3 4", ["fb"]), (luma, "ff ff ff", ["ff"]),
                                     (luma, "ff 00 00", ["4c", "4d"]), (luma, "01 02 03", ["01", "02"]), (square, "8", ["00"]), (square, "4", ["50"])):
-            operator = operators.operator_of(spec)
+            operator = operator_of(spec)
             found = operator.good([numbers(entered, operator.inputs)], 0)
             self.assertEqual([rows.row_text([rows.word_in(one[0], operator.outputs[0])], [operator.outputs[0].width]) for one in found], good)
-        with self.assertRaises(operators.NoOperator):
-            operators.operator_of(real | {"product": [{"a": "a", "b": "e"}]})
+        with self.assertRaises(asking.NoPorts):
+            operator_of(real | {"product": [{"a": "a", "b": "e"}]})
         self.assertEqual(words.formula(real), "y = a * c - b * d")
         self.assertEqual(words.formula(square), "y = v * v - 1")
         self.assertEqual(words.formula(luma), "y = 299/1000 * red + 587/1000 * green + 114/1000 * blue")
@@ -105,37 +170,38 @@ class Ports(unittest.TestCase):
         for more, sign, width in (({}, False, 6), ({"out_width": 4}, False, 4), ({"out_width": 4, "out_signed": True}, True, 4),
                                   ({"out_width": 96, "signed": True}, True, 96),
                                   ({"out_width": 2, "signed": True, "out_signed": False}, False, 2)):
-            y = operators.ports_of(SCALE | more)[-1]
+            y = self.ports(SCALE | more)[-1]
             self.assertEqual((y.is_signed, y.width, y.lsb), (sign, width, 0))
 
     def test_cut_filters(self):
         """Each place that is cut is a bit less; values are rounded to the side away from 0."""
         for out_lsb, width in ((0, 9), (1, 8), (2, 7), (3, 6), (7, 3)):
-            y = operators.ports_of(FILTER | {"out_lsb": out_lsb, "exact": False})[-1]
+            y = self.ports(FILTER | {"out_lsb": out_lsb, "exact": False})[-1]
             self.assertEqual((y.is_signed, y.width, y.lsb), (True, width, out_lsb))
-        self.assertEqual(operators.ports_of(FILTER)[-1].lsb, 0)
+        self.assertEqual(self.ports(FILTER)[-1].lsb, 0)
 
     def test_without_a_search(self):
         """Without `extra` there are more numbers, and larger ones; the widest outputs have 69 and 77 bits."""
-        self.assertEqual([(y.is_signed, y.width) for y in operators.ports_of(CONSTANTS)[1:]], [(True, 16), (True, 7), (False, 1)])
+        self.assertEqual([(y.is_signed, y.width) for y in self.ports(CONSTANTS)[1:]], [(True, 16), (True, 7), (False, 1)])
         widest = {"signed": False, "width": 48}
-        self.assertEqual(operators.ports_of(CONSTANTS | widest | {"constants": [-1048575]})[-1].width, 69)
+        self.assertEqual(self.ports(CONSTANTS | widest | {"constants": [-1048575]})[-1].width, 69)
         many = {key: value for key, value in FILTER.items() if key != "extra"} | widest | {"taps": [-1048575] * 256}
-        self.assertEqual(operators.ports_of(many)[-1].width, 77)
+        self.assertEqual(self.ports(many)[-1].width, 77)
 
     def test_refusals(self):
         without = {key: value for key, value in FILTER.items() if key != "extra"}
         for spec in ({"version": 1}, CONSTANTS | {"extra": 0}, CONSTANTS | {"constants": [1048576]}, CONSTANTS | {"version": 2},
                      without | {"taps": [1] * 257}, FILTER | {"taps": [1] * 33}, without | {"taps": [-1048576]}, without | {"version": 2}):
-            with self.assertRaises(operators.NoOperator):
-                operators.operator_of(spec)
+            with self.assertRaises(asking.NoPorts):
+                operator_of(spec)
 
 
+@unittest.skipUnless(PROGRAM.exists(), NO_PROGRAM)
 class Worked(unittest.TestCase):
     """Rows that were worked out by hand."""
 
     def check(self, spec, rows_of):
-        operator = operators.operator_of(spec)
+        operator = operator_of(spec)
         for row in rows_of:
             entered, outs = row.split(" : ")
             good = operator.good([numbers(entered, operator.inputs)], 0)
@@ -144,7 +210,7 @@ class Worked(unittest.TestCase):
     def test_signed_quotients(self):
         self.check(QUOTIENT, ("9 2 : 1d 7", "7 6 : 1d 1", "8 7 : 08 0", "8 3 : 1e 6", "5 4 : 1f 1", "f 3 : 00 7"))
         self.check(QUOTIENT | {"exact": False}, ("9 2 : 1c or 1d", "8 7 : 08", "f 3 : 1f or 00"))
-        self.assertIsNone(operators.operator_of(QUOTIENT).good([(-8, 0)], 0))
+        self.assertIsNone(operator_of(QUOTIENT).good([(-8, 0)], 0))
 
     def test_constants_without_a_search(self):
         self.check(CONSTANTS, ("1 : 0801 7b 0", "8 : bff8 28 0"))
@@ -164,7 +230,7 @@ class Worked(unittest.TestCase):
 
     def check_in_turn(self, spec, rows_of):
         """The rows of successive cycles, the first of them cycle 0."""
-        operator = operators.operator_of(spec)
+        operator = operator_of(spec)
         parts = [row.split(" : ") for row in rows_of]
         inputs = [numbers(entered, operator.inputs) for entered, _ in parts]
         for at, (_, outs) in enumerate(parts):
@@ -178,12 +244,12 @@ class Worked(unittest.TestCase):
         faithful = cut | {"exact": False, "taps": [1, 2, -3]}
         self.check_in_turn(faithful, ("1 : 00 or 01", "f : 00 or 01", "7 : 00 or 01", "0 : 04 or 05"))
         self.check_in_turn(faithful | {"out_width": 3}, ("1 : 0 or 1", "f : 0 or 1", "7 : 0 or 1", "0 : 3"))
-        self.assertFalse(operators.operator_of(faithful).is_exact)
-        self.assertTrue(operators.operator_of(faithful | {"out_lsb": 0}).is_exact)
+        self.assertFalse(operator_of(faithful).is_exact)
+        self.assertTrue(operator_of(faithful | {"out_lsb": 0}).is_exact)
 
     def test_draws(self):
         """A divisor that is drawn as 0 becomes 1, and the ends of a signed one are those of its range and those about 0."""
-        operator = operators.operator_of(QUOTIENT)
+        operator = operator_of(QUOTIENT)
         self.assertEqual(drawing.ends_of(operator, operator.inputs[1]), [-4, -3, -2, -1, 1, 2, 3])
         self.assertEqual(drawing.ends_of(operator, operator.inputs[0]), [-8, -7, -1, 0, 1, 6, 7])
         self.assertEqual({row[1] for row in drawing.drawn_rows(operator, 1, 500)}, {-4, -3, -2, -1, 1, 2, 3})
@@ -196,12 +262,18 @@ class Worked(unittest.TestCase):
         self.assertEqual(words.formula(FILTER | {"taps": [5]}), "y = x * 5")
 
 
-class Good(unittest.TestCase):
+@unittest.skipUnless(PROGRAM.exists(), NO_PROGRAM)
+class Good(Held):
+    def test_ports(self):
+        """The ports of each specification there, which are at the limits of all versions, hold its good outputs."""
+        for group in JUDGED.groups_of(JUDGED.TABLE):
+            self.ports(tomllib.loads(group.document))
+
     def test_judged(self):
         """Each line of cases/judged/rows.txt."""
         lines = 0
         for group in JUDGED.groups_of(JUDGED.TABLE):
-            operator = operators.operator_of(tomllib.loads(group.document))
+            operator = operator_of(tomllib.loads(group.document))
             for line in group.lines:
                 entered = [(numbers(row, operator.inputs), ()) for row in line.rows]
                 entered[-1] = (entered[-1][0], numbers(" ".join(line.outputs), operator.outputs))
@@ -213,7 +285,7 @@ class Good(unittest.TestCase):
     def test_exact_values(self):
         """A good output is less than one from the exact value, in each line of cases/judged/rows.txt."""
         for group in JUDGED.groups_of(JUDGED.TABLE):
-            operator = operators.operator_of(tomllib.loads(group.document))
+            operator = operator_of(tomllib.loads(group.document))
             for line in group.lines:
                 entered = [numbers(row, operator.inputs) for row in line.rows]
                 for good in operator.good(entered, len(entered) - 1) or []:

@@ -6,6 +6,7 @@ import unittest
 from tests import loading
 
 BENCH = loading.tool_of("../bench/registers")
+CHECK = loading.tool_of("../bench/example-registers")
 Net = BENCH.Net
 
 
@@ -54,8 +55,31 @@ class Registers(unittest.TestCase):
         for cycles in (BENCH.least(net), BENCH.backward(net, 1), BENCH.cones(net, 1)):
             self.assertEqual(BENCH.bits_of(net, cycles, 1), 11)
 
+    def test_moved_together(self):
+        """Both outputs of a full adder are read a cycle later. With both in the earlier cycle two bits wait in place of three; the first
+        of them alone saves nothing there."""
+        net = Net(widths=[1, 1, 1, 1, 1, 1, 1, 4], delays=[0, 0, 0, 0, 4, 4, 10, 6], inputs={0, 1, 2, 3}, outputs={7}, room=10,
+                  reads=[[], [], [], [], [0, 1, 2], [0, 1, 2], [3], [4, 5, 6]])
+        self.assertEqual(BENCH.latest(net, 1), [0, 0, 0, 0, 1, 1, 0, 1])
+        for rule, cycle, bits in ((BENCH.forward, 1, 4), (BENCH.together, 0, 3), (BENCH.few, 0, 3)):
+            cycles = rule(net, 1)
+            self.assertEqual((cycles[4], cycles[5], BENCH.bits_of(net, cycles, 1)), (cycle, cycle, bits), rule.__name__)
+
+    def test_known_numbers(self):
+        """What a row has is not measured again; a net that is not the row's is refused."""
+        net = Net(widths=[8, 1, 8, 8], delays=[0, 4, 10, 10], reads=[[], [0], [0], [2]], inputs={0}, outputs={1, 3}, room=10)
+        row = BENCH.measured(net, {"nodes": 4, "least": 7})
+        self.assertEqual((row["least"], row["one_pass"], row["few"]), (7, 9, 9))
+        with self.assertRaisesRegex(AssertionError, "not that of the row"):
+            BENCH.measured(net, {"nodes": 5})
+
+    def test_faults(self):
+        """Of version 4 the bits are those of the rule, before it those of one pass; the rule has 115 hundredths of the least at most."""
+        for found, faults in (((4, 23, 30, 23, 20), 0), ((4, 30, 30, 23, 20), 1), ((3, 30, 30, 23, 20), 0), ((3, 23, 30, 24, 20), 2)):
+            self.assertEqual(len(list(CHECK.Found("a", *found).faults())), faults, found)
+
     def test_small_nets(self):
-        """Of drawn nets the least number is that of a search; each rule fits, and the chosen one is between it and one pass."""
+        """Of drawn nets the least number is that of a search; each rule fits, and some are between it and one pass."""
         draw, tried = random.Random(3), 0
         while tried < 25:
             net = drawn(draw)
@@ -72,7 +96,7 @@ class Registers(unittest.TestCase):
                     self.assertTrue(BENCH.fits(net, cycles, latency), name)
                     bits = BENCH.bits_of(net, cycles, latency)
                     self.assertGreaterEqual(bits, fewest, name)
-                    if name in ("backward", "cones", "tidied", "simple", "chosen"):
+                    if name in ("backward", "few", "cones", "tidied", "simple", "sets"):
                         self.assertLessEqual(bits, BENCH.bits_of(net, one, latency), name)
 
 

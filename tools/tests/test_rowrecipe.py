@@ -107,8 +107,12 @@ class Nodes(unittest.TestCase):
         self.assertRaises(AssertionError, made.logic, ("chain", "and", bits))
         self.assertRaises(AssertionError, made.sum_of, ("not", bits[0]), bits[1])
         word = words.Word(node, 0, 255)
-        for row in digits.product_rows(made, word, word):
-            self.assertTrue(all(len(bits) <= 5 for bits in net.reads(made.nodes[row.word.node].tree, made.width)))
+        digits.product_rows(made, word, word, 16)
+        for each in made.nodes:
+            if each.kind == "logic":
+                self.assertTrue(all(len(bits) <= 5 for bits in net.reads(each.tree, made.width)))
+            elif each.kind == "table":
+                self.assertLessEqual(len(each.rows), 32)
 
     def test_cost(self):
         """A sum of two words of three bits is a cell for each place."""

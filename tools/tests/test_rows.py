@@ -19,9 +19,10 @@ SAMPLE = Port("x", True, True, 12, -11)
 TOOL = loading.tool_of("rows")
 
 
-def run(*words, text=""):
+def run(command, *words, text=""):
     """The status, the output and the error line of the tool."""
-    return loading.run(TOOL, *words, text=text)
+    of_program = ("--bin", PROGRAM) if command in ("draw", "judge") else ()
+    return loading.run(TOOL, command, *of_program, *words, text=text)
 
 
 class Lines(unittest.TestCase):
@@ -113,6 +114,7 @@ class Decoding(unittest.TestCase):
                     self.assertEqual(back.read_text(), path.with_suffix(".in").read_text(), path.name)
 
 
+@unittest.skipUnless(PROGRAM.exists(), NO_PROGRAM)
 class Drawing(unittest.TestCase):
     def drawn(self, name, *words):
         status, out, said = run("draw", EXAMPLES / f"{name}.toml", *words)
@@ -143,6 +145,15 @@ class Drawing(unittest.TestCase):
         self.assertNotIn("00", {line.split()[1] for line in rows_of_share})
         self.assertLess({"20", "21", "3f", "01", "1e", "1f"}, {line.split()[1] for line in rows_of_share[:40]})
 
+    def test_all(self):
+        """Each word of the inputs once, then as many rows as are asked for."""
+        self.assertEqual(self.drawn("times3", "--all", "1"), [*"0123456789abcdef", "0"])
+        found = self.drawn("product", "--all", "2")
+        self.assertEqual((len(found), len(set(found[:-2])), found[:2], found[-3:]), (2050, 2048, ["00 00", "00 01"], ["3f 1f", "00 00", "00 00"]))
+        status, _, said = run("draw", EXAMPLES / "duty.toml", "--all", "2")
+        self.assertEqual((status, said), (1, "rows: inputs of 20 bits have 2^20 rows; `simulate` takes 100000\n"))
+        self.assertEqual(run("draw", EXAMPLES / "times3.toml", "--all", "0", "--ends")[0], 2)
+
     def test_a_filter(self):
         """The greatest and the least sum of a half-band filter of 12 signed bits: 2047 or -2048 by the sign of each tap."""
         taps = tomllib.loads((EXAMPLES / "halfband.toml").read_text())["taps"]
@@ -160,7 +171,21 @@ class Drawing(unittest.TestCase):
         self.assertIn("times3.vhd:1:", said)
         self.assertEqual(run("draw", EXAMPLES / "times3.toml", "--ends", "--cycles", "100000")[0], 1)
 
+    def test_specifications_without_ports(self):
+        """What the schema and what the program refuses, and no program; a target may be any."""
+        text = (EXAMPLES / "times3.toml").read_text()
+        with tempfile.TemporaryDirectory() as folder:
+            spec = Path(folder) / "other.toml"
+            for old, new, said in (("width = 4", "width = 33", "the specification is refused: document.width is 33, above 32"),
+                                   ("out_lsb = 0", "out_lsb = 1", "the specification is refused: NotExact 0")):
+                spec.write_text(text.replace(f"\n{old}", f"\n{new}"))
+                self.assertEqual(run("draw", spec), (1, "", f"rows: {spec}: {said}\n"))
+            spec.write_text(text.replace('"plain"', '"mine"').replace("10000", "1"))
+            self.assertEqual(run("draw", spec, "--ends", "--cycles", "0")[1], "0\n1\ne\nf\n")
+            self.assertEqual(run("draw", spec, "--bin", folder), (1, "", f"rows: {folder} is no program\n"))
 
+
+@unittest.skipUnless(PROGRAM.exists(), NO_PROGRAM)
 class Judging(unittest.TestCase):
     def test_good(self):
         status, out, said = run("judge", EXAMPLES / "third.toml", EXAMPLES / "third.out", "--latency", "1")

@@ -107,8 +107,8 @@ class Outputs(Folder):
         full = "ulimit -f 0; trap '' XFSZ;"
         status, said = self.status(f"{full} $TOOLS/pictures schedule $EXAMPLES/magnitude.toml -o old.svg")
         self.assertEqual((status, said), (1, "pictures: old.svg: File too large\n"))
-        status, said = self.status(f"{full} $TOOLS/rows draw $EXAMPLES/times3.toml -o new.in")
-        self.assertEqual((status, said), (1, "rows: new.in: File too large\n"))
+        status, said = self.status(f"{full} $TOOLS/rows decode $EXAMPLES/times3.rpt $EXAMPLES/times3.out -o new.csv")
+        self.assertEqual((status, said), (1, "rows: new.csv: File too large\n"))
         self.assertEqual(self.status("$TOOLS/wrap -o none $EXAMPLES/duty")[1].partition(":")[2].split(": ")[0], " none/duty_wrap.vhd")
         self.assertEqual((self.names(), (self.folder / "old.svg").read_text()), (["old.svg"], "old"))
 
@@ -116,6 +116,8 @@ class Outputs(Folder):
         """Without a place for temporary files, and where one cannot be written, that is said and not that the output failed."""
         status, said = self.status("ulimit -f 0; trap '' XFSZ; $TOOLS/sheet $EXAMPLES/times3.toml -o new.html")
         self.assertEqual((status, said[:46]), (1, "sheet: No usable temporary directory found in "))
+        status, said = self.status("ulimit -f 0; trap '' XFSZ; $TOOLS/rows draw $EXAMPLES/times3.toml -o new.in")
+        self.assertEqual((status, said[:45]), (1, "rows: No usable temporary directory found in "))
         (self.folder / "ghdl").write_text("#!/bin/sh\nexit 1\n")
         (self.folder / "ghdl").chmod(0o755)
         status, said = self.status("ulimit -f 1; trap '' XFSZ; PATH=$PWD:$PATH $TOOLS/judge $EXAMPLES/duty.vhd $EXAMPLES/duty.vec")

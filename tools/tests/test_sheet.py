@@ -62,12 +62,12 @@ class Recovery(unittest.TestCase):
         return recovery_cycle(read_report(EXAMPLES / f"{name}.rpt"), spec)
 
     def test_a_quotient_remembers_nothing(self) -> None:
-        self.assertEqual(self.cycle_of("duty", {}), read_report(EXAMPLES / "duty.rpt").latency)
+        self.assertEqual(self.cycle_of("duty", {"kind": "divide"}), read_report(EXAMPLES / "duty.rpt").latency)
 
     def test_filters_remember_their_taps_less_one(self) -> None:
         direct, transposed = read_report(EXAMPLES / "lowpass.rpt"), read_report(EXAMPLES / "halfband.rpt")
-        self.assertEqual(recovery_cycle(direct, {"coefficients": [1] * 16}), direct.latency + 15)
-        self.assertEqual(recovery_cycle(transposed, {"taps": [1] * 15}), transposed.latency + 14)
+        self.assertEqual(recovery_cycle(direct, {"kind": "fir", "coefficients": [1] * 16}), direct.latency + 15)
+        self.assertEqual(recovery_cycle(transposed, {"kind": "tfir", "taps": [1] * 15}), transposed.latency + 14)
 
 
 class Sheets(unittest.TestCase):

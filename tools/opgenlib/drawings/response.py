@@ -4,6 +4,7 @@ import math
 from fractions import Fraction
 from typing import Any
 
+from opgenlib.operators import memory_of
 from opgenlib.svg import Picture
 
 WIDTH, HEIGHT, LEFT, RIGHT, TOP, BOTTOM = 760, 320, 60, 16, 34, 56
@@ -22,7 +23,7 @@ def factors_of(spec: dict[str, Any]) -> list[Fraction]:
 
 def is_filter(spec: dict[str, Any]) -> bool:
     """Whether outputs depend on earlier inputs."""
-    return spec["kind"] in ("fir", "tfir") and len(factors_of(spec)) > 1
+    return memory_of(spec) > 1
 
 
 def gain_at(factors: list[Fraction], frequency: float) -> float:

@@ -1,8 +1,9 @@
 """Says in words what a status and a line of the program mean, with the places in the files."""
+import os
 import re
 
 from ..commands import BadWords, Call, call_of
-from . import again, files, judged, rows, specification, vhdl, words
+from . import again, certified, files, judged, rows, specification, vhdl, words
 from .again import Runner
 
 # The statuses after which the program printed a line that names a refusal.
@@ -19,7 +20,7 @@ def of_line(call: Call, line: str, run: Runner | None) -> list[str]:
         case "vhdl" if vhdl.is_verilog(call.words["VHDL"]):
             return vhdl.explain_verilog(call.command, call.words["VHDL"])
         case "vhdl" if fault == ["Ports"]:
-            return vhdl.explain_ports(call.words["VHDL"], call.words["SPEC"])
+            return vhdl.explain_ports(call.words["VHDL"], call.words["SPEC"], run)
         case "vhdl":
             return vhdl.explain(call.words["VHDL"], fault)
         case "vectors":
@@ -38,8 +39,8 @@ def of_call(call: Call, line: str, run: Runner | None) -> list[str]:
 
 
 def explain(said: list[str], status: int, run: Runner | None, line: str | None = None) -> list[str]:
-    """The explanation of a status other than 0, in some lines, none where nothing sure can be said. `said` are the words that
-    the program was given, and `line` is what it printed, which is found by running it again where it is not given."""
+    """The explanation of a status, in some lines, none where nothing sure can be said. `said` are the words that the program was given,
+    and `line` is what it printed, which is found by running it again where it is not given. Of status 0 it is what good rows show."""
     if status == 2:
         return words.explain(said)
     try:
@@ -47,6 +48,8 @@ def explain(said: list[str], status: int, run: Runner | None, line: str | None =
     except BadWords:
         return []
     match status:
+        case 0:
+            return certified.explain(call, os.environ.get(certified.SEEN, ""))
         case 3:
             return files.read_fault(call)
         case 4:

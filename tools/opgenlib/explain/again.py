@@ -4,12 +4,15 @@ import subprocess
 import tempfile
 from collections.abc import Callable
 from pathlib import Path
+from typing import Any
 
+from ..asking import NoPorts, ports_of
 from ..commands import FILES, Call
+from ..report import Port
 from ..running import process
 
 MOST_SECONDS = 60
-# What runs the program: the command, its words and its options to the status, what is printed, and what is stored as OUT.
+# What runs the program: the command, its words and its options to the status, what is printed, and what is stored as OUT or as report.
 Runner = Callable[[str, list[str], list[str]], tuple[int, str, str]]
 STORED = "stored"
 # In place of a status where the program took too long.
@@ -26,10 +29,22 @@ def runner_of(program: str) -> Runner:
                 done = process(called, MOST_SECONDS, cwd=folder)
             except subprocess.TimeoutExpired:
                 return TOO_LONG, "", ""
-            stored = Path(folder) / STORED
-            return done.returncode, done.stdout, stored.read_text() if stored.exists() else ""
+            stored = [*Path(folder).glob(STORED), *Path(folder).glob("*.rpt")]
+            return done.returncode, done.stdout, stored[0].read_text() if stored else ""
 
     return run
+
+
+def ports_by(run: Runner | None, table: dict[str, Any]) -> tuple[Port, ...]:
+    """The ports of a specification, by the program that makes its circuit. Where it makes none, or cannot be run: `NoPorts`."""
+
+    def generate(spec: Path) -> str:
+        status, line, report = run("generate", [str(spec)], []) if run else (TOO_LONG, "", "")
+        if status:
+            raise NoPorts(line.strip())
+        return report
+
+    return ports_of(table, generate)
 
 
 def is_readable(call: Call) -> bool:

@@ -3,10 +3,11 @@ import os
 from collections.abc import Sequence
 from itertools import islice
 
-from .. import evidence, operators, rows, specification
+from .. import evidence, rows, specification
+from ..asking import NoPorts
 from ..commands import Call
-from ..operators import Operator, Row
-from .again import STORED, Runner, is_readable
+from ..operators import Operator, Row, operator_of
+from .again import STORED, Runner, is_readable, ports_by
 
 MOST_BYTES = 8 << 20
 # The rows that latencies are looked for by, and the latencies that `check` is asked about.
@@ -45,11 +46,14 @@ def explain(call: Call, row: int, run: Runner | None) -> list[str]:
     file, latency = call.words["VECTORS"], int(call.words["LATENCY"])
     said = f"{file}:{row + 1}: the outputs of row {row} are not good for the inputs up to row {row - latency}, {latency} before"
     try:
-        operator = operators.operator_of(specification.load(call.words["SPEC"]).table)
-        found = rows_of(call, operator, run, max(row + 1, MOST_ROWS)) if run else []
+        if run is None:
+            raise NotFound
+        spec = specification.load(call.words["SPEC"]).table
+        operator = operator_of(spec, ports_by(run, spec))
+        found = rows_of(call, operator, run, max(row + 1, MOST_ROWS))
         if next(operator.bad_rows(found, latency), None) != row:
             raise NotFound
-    except (NotFound, operators.NoOperator, specification.NotToml):
+    except (NotFound, NoPorts, specification.NotToml):
         return [said, "  look at the latency in the report, and at the row's outputs"]
     seen = [f"  {line}" for line in evidence.evidence(operator, found, row, latency)]
     return [said, *seen, *latency_lines(call, operator, found[:MOST_ROWS], run)]

@@ -1,13 +1,15 @@
 """Explains the faults of VHDL: which piece, token, port, signal or statement is meant, and what to write instead."""
 import re
 from collections import deque
-from collections.abc import Callable, Iterable, Iterator
+from collections.abc import Callable, Iterable, Iterator, Sequence
 from pathlib import Path
 
 from .. import report, schema
-from ..operators import NoOperator, ports_of
+from ..asking import NoPorts
 from ..specification import NotToml, load
 from ..vhdl import END, OPERATORS, Design, Driver, NoToken, NotRead, Port, Reader, Token, Use, entity_of, width_in
+from .again import Runner, ports_by
+from .limits import TooLong
 
 MANUAL = f'{schema.shown("docs/MANUAL.md")}, "Write VHDL for simulate"'
 MOST_BYTES = 8 << 20  # beyond, a text takes this reader too long
@@ -164,12 +166,12 @@ class Explainer:
             return
         yield from Unsound(self, design).explain(rule, item)
 
-    def ports(self, wanted: list[report.Port]) -> Iterator[str]:
+    def ports(self, wanted: Sequence[report.Port]) -> Iterator[str]:
         """Which port is not that of a specification."""
         yield self.port_fault(entity_of(self.text)[1], wanted)
         yield f"  expected, in this order: {', '.join(map(declared, wanted))}"
 
-    def port_fault(self, found: list[Port], wanted: list[report.Port]) -> str:
+    def port_fault(self, found: list[Port], wanted: Sequence[report.Port]) -> str:
         """The first port that is too much, missing, of another sort, or out of its order."""
         names = [port.name for port in found]
         known = {port.name: port for port in wanted}
@@ -491,11 +493,11 @@ def explain(file: str, fault: list[str]) -> list[str]:
     return list(FAULTS[fault[0]](Explainer(file, text), *map(int, fault[1:])))
 
 
-def explain_ports(file: str, spec: str) -> list[str]:
-    """Which port differs from those of a specification."""
+def explain_ports(file: str, spec: str, run: Runner | None) -> list[str]:
+    """Which port differs from those of a specification, which the program is asked for."""
     try:
-        wanted = ports_of(load(spec).table)
-    except (NoOperator, NotToml):
+        wanted = ports_by(run, load(spec).table)
+    except (NoPorts, NotToml, TooLong):
         return [f"{file}: its ports are not those of {spec}, in names, directions, widths or order"]
     return list(Explainer(file, Path(file).read_bytes().decode("latin-1")).ports(wanted))
 

@@ -1,0 +1,10 @@
+mod Widths
+mod Classes
+mod Words
+mod Numbers
+mod Recurrences
+mod Made
+mod Steps
+mod Stands
+mod Finished
+mod Divided
